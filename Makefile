@@ -1,0 +1,23 @@
+# `make demo` lists the boxes of the first test vector, `make demo IN=stream.mp4` those of another file.
+# `make test` proves everything from nothing and runs every test. Both need Rattle's toolchain alone.
+IN ?= crates/fmp4/stdin
+
+.PHONY: demo build test refusals bench
+
+demo: build
+	@crates/fmp4/out/fmp4 boxes < "$(IN)"
+
+build:
+	@mkdir -p crates/fmp4/out
+	@cd crates/fmp4 && rt run -- boxes < stdin > /dev/null 2> out/build.log || { cat out/build.log >&2; exit 1; }
+
+test:
+	@rt ci
+
+# Runs the program with each of its allocations refused in turn.
+refusals:
+	@scripts/refused_allocations
+
+# Lists a stream of 1 GiB beside `cat`.
+bench: build
+	@bench/large_boxes

@@ -1,0 +1,11 @@
+use Rattle.std.proofs.Common.{rules, refl}
+use Rattle.fmp4.specs.Words.{settings_of}
+use Rattle.fmp4.proofs.program.command.settings_from.Goals as goal
+
+pub returns-in_err-copy-clause-value : goal.returns-in_err-copy-clause-value
+unfolding settings_of
+returns-in_err-copy-clause-value c = rw (← c.in_err-copy.ensures.value) (search rules)
+
+pub returns-clause-value : goal.returns-clause-value
+unfolding settings_of
+returns-clause-value c = rw (← c.in_ok-copy.ensures.value) refl

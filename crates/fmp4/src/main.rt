@@ -1,0 +1,24 @@
+//! Lists the boxes at the top of an MP4 stream (ISO/IEC 14496-12), which is read from standard input.
+#![tactic(auto)]
+
+mod program;
+#[cfg(test)]
+mod tests;
+
+use mp4_stream::{FromRead, IntoWrite};
+use program::run;
+use std::env;
+use std::process::ExitCode;
+
+fn main(rt: HostRuntime) -> ExitCode {
+    let Ok(all) = env::args(&rt) else {
+        return ExitCode::from(4);
+    };
+    let Ok(words) = all.collect::<Vec<String>>(rt.alloc()) else {
+        return ExitCode::from(4);
+    };
+    let mut r = FromRead::new(rt.stdin());
+    let mut w = IntoWrite::new(rt.stdout());
+    let mut fault_w = IntoWrite::new(rt.stderr());
+    ExitCode::from(run(rt.alloc(), words, &mut r, &mut w, &mut fault_w))
+}

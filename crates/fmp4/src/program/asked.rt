@@ -1,0 +1,15 @@
+//! The requests that a command line can make.
+
+/// The numbers that every command takes.
+#[derive(Clone, Copy, Debug, PartialEq, Eq)]
+pub struct Settings {
+    /// The size of the buffer that bytes are copied through, in bytes.
+    pub copy: u32,
+}
+
+/// A command, with the numbers that came with it.
+#[derive(Clone, Copy, Debug, PartialEq, Eq)]
+pub enum Invocation {
+    /// List the boxes of the stream.
+    Boxes(Settings),
+}

@@ -1,0 +1,46 @@
+//! The lines on the fault writer.
+
+ghost use Rattle.std.specs.Prelude.{◌≡◌, ◌+◌, ◌≤◌, ◌++◌, codes, length};
+ghost use Rattle.std.specs.Fmt.{decimal};
+ghost use Rattle.fmp4.specs.Lines.{fault_text, kind_text, line};
+
+use mp4_stream::{Fault, FourCc, Line};
+
+/// The line of a fault, as `fmp4: 1 Truncated in mdat at 460`.
+pub fn fault_line(fault: &Fault) -> Line
+    ensures { result ≡ line (fault_text fault.now) }
+{
+    let mut line = Line::new();
+    line.push_bytes(b"fmp4: ");
+    line.push_decimal(u64::from(fault.rule.number()));
+    line.push_bytes(b" ");
+    line.push_bytes(fault.rule.name().as_bytes());
+    line.push_bytes(b" in ");
+    push_kind(&mut line, fault.kind);
+    line.push_bytes(b" at ");
+    line.push_decimal(fault.offset);
+    line.push_bytes(b"\n");
+    line
+}
+
+/// The line of a failed read, as `fmp4: read failed at 470`.
+pub fn read_line(at: u64) -> Line
+    ensures { result ≡ line (codes "read failed at " ++ decimal at) }
+{
+    let mut line = Line::new();
+    line.push_bytes(b"fmp4: read failed at ");
+    line.push_decimal(at);
+    line.push_bytes(b"\n");
+    line
+}
+
+fn push_kind(line: &mut Line, kind: Option<FourCc>)
+    requires { length line.old + 6 ≤ 96 }
+    ensures text { line.new ≡ line.old ++ kind_text kind }
+    ensures len { length line.new ≤ length line.old + 6 }
+{
+    match kind {
+        Some(kind) => line.push_bytes(&kind.shown()),
+        None => line.push_bytes(b"(none)"),
+    }
+}

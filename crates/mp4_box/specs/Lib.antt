@@ -1,0 +1,5 @@
+pub mod Headers
+pub mod Shown
+pub mod Rules
+pub mod Streams
+pub mod Ends

@@ -1,0 +1,18 @@
+//! std's readers and writers as the ends of a stream.
+
+mod from_read;
+mod into_write;
+
+pub use from_read::FromRead;
+pub use into_write::IntoWrite;
+
+/// How an end stands.
+#[derive(Clone, Copy, Debug, PartialEq, Eq)]
+pub enum State {
+    /// It goes on.
+    Open,
+    /// Its stream has ended.
+    Ended,
+    /// It has failed.
+    Broken,
+}

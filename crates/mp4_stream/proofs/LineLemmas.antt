@@ -1,0 +1,24 @@
+-- The lengths of numbers in decimal and of bytes in hexadecimal.
+use Rattle.std.proofs.Common.{◌≡◌, ◌∙◌, ◌+◌, ◌*◌, ◌/◌, ◌%◌, ◌<◌, ◌≤◌, ◌^◌, ℕ, List, [], ◌∷◌, ◌++◌, length, ap, length-append, arith, refl, take, get_or}
+use Rattle.std.proofs.lemmas.List.{take_more}
+use Rattle.std.specs.Fmt.{decimal}
+use Rattle.std.proofs.lemmas.Fmt.{decimal_digit, decimal_step}
+use Rattle.mp4_stream.specs.Hex.{hex_bytes, hex_digit}
+
+pub length-decimal_digit : (n : ℕ) → n < 10 → length (decimal n) ≡ 1
+length-decimal_digit n low = ap length (decimal_digit n low)
+
+pub length-decimal_step : (n : ℕ) → 10 ≤ n → n < 2 ^ 64 → length (decimal n) ≡ length (decimal (n / 10)) + 1
+length-decimal_step n high fits = ap length (decimal_step n high fits) ∙ length-append _ _
+
+pub hex_bytes-append : (xs ys : List ℕ) → hex_bytes (xs ++ ys) ≡ hex_bytes xs ++ hex_bytes ys
+hex_bytes-append [] ys = refl
+hex_bytes-append (x ∷ xs) ys = ap (λ l. hex_digit (x / 16) ∷ hex_digit (x % 16) ∷ l) (hex_bytes-append xs ys)
+
+pub length-hex_bytes : (xs : List ℕ) → length (hex_bytes xs) ≡ 2 * length xs
+length-hex_bytes [] = refl
+length-hex_bytes (x ∷ xs) = omega (arith, length-hex_bytes xs)
+
+pub hex_bytes-take_more : (i : ℕ) (xs : List ℕ) → i < length xs
+    → hex_bytes (take (i + 1) xs) ≡ hex_bytes (take i xs) ++ hex_digit (get_or xs i 0 / 16) ∷ hex_digit (get_or xs i 0 % 16) ∷ []
+hex_bytes-take_more i xs here = ap hex_bytes (take_more xs i 0 here) ∙ hex_bytes-append (take i xs) (get_or xs i 0 ∷ [])

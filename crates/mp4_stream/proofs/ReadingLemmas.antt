@@ -1,0 +1,51 @@
+-- How a reading goes on behind its front, whatever the items are.
+use Rattle.std.proofs.Common.{◌≡◌, ℕ, zero, suc, ◌≤◌, List, [], ◌∷◌, length, ap, sym, refl, arith, append_assoc}
+use Rattle.mp4_stream.specs.Readings.{Reading, nothing, Front, Last, Whole, after, after_text, then_read, read_at_most, read_all}
+
+-- what follows a whole item is at most so long
+abbrev pub Below : {C : Type 0} → Front C → ℕ → Type 0
+Below (Last r) n = Unit {0}
+Below (Whole text next rest) n = length rest ≤ n
+
+-- no bytes come to nothing, and a whole item takes a byte at least
+pub record IsItemwise {C : Type 0} (front : C → List ℕ → Front C) : Type 0 where
+  pub empty : (c : C) → front c [] ≡ Last nothing
+  pub shorter : (c : C) (b : ℕ) (bytes : List ℕ) → Below (front c (b ∷ bytes)) (length bytes)
+
+pub Below-more : {C : Type 0} (f : Front C) (m n : ℕ) → m ≤ n → Below f m → Below f n
+Below-more (Last r) m n p h = tt
+Below-more (Whole text next rest) m n p h = omega arith
+
+pub Below-text : {C : Type 0} (text : List ℕ) (f : Front C) (n : ℕ) → Below f n → Below (after_text text f) n
+Below-text text (Last r) n h = tt
+Below-text text (Whole more next rest) n h = h
+
+then_read-same : {C : Type 0} (r s : C → List ℕ → Reading) (k : ℕ) (same : (next : C) (rest : List ℕ) → length rest ≤ k → r next rest ≡ s next rest)
+    (f : Front C) → Below f k → then_read r f ≡ then_read s f
+then_read-same r s k same (Last x) b = refl
+then_read-same r s k same (Whole text next rest) b = ap (after text) (same next rest b)
+
+pub then_read-text : {C : Type 0} (r : C → List ℕ → Reading) (text : List ℕ) (f : Front C) → then_read r (after_text text f) ≡ after text (then_read r f)
+then_read-text r text (Last x) = refl
+then_read-text r text (Whole more next rest) = ap (λ t. record { text = t; ending = (r next rest).ending }) (append_assoc text more (r next rest).text)
+
+module _ {C : Type 0} (front : C → List ℕ → Front C) (items : IsItemwise front) where
+  -- a reading needs no more turns than it has bytes
+  read_at_most-same : (n m : ℕ) (c : C) (bytes : List ℕ) → length bytes ≤ n → length bytes ≤ m → read_at_most front n c bytes ≡ read_at_most front m c bytes
+  read_at_most-same zero zero c bytes h k = refl
+  read_at_most-same zero (suc m) c [] h k = sym (rw (items.empty c) refl)
+  read_at_most-same zero (suc m) c (b ∷ bytes) h k = absurd (omega arith)
+  read_at_most-same (suc n) zero c [] h k = rw (items.empty c) refl
+  read_at_most-same (suc n) zero c (b ∷ bytes) h k = absurd (omega arith)
+  read_at_most-same (suc n) (suc m) c [] h k = rw (items.empty c) refl
+  read_at_most-same (suc n) (suc m) c (b ∷ bytes) h k =
+      then_read-same (λ x y. read_at_most front n x y) (λ x y. read_at_most front m x y) (length bytes)
+      (λ next rest q. read_at_most-same n m next rest (omega arith) (omega arith)) (front c (b ∷ bytes)) (items.shorter c b bytes)
+
+  -- the item at the front, and then the rest
+  pub read_all-front : (c : C) (bytes : List ℕ) → read_all front c bytes ≡ then_read (read_all front) (front c bytes)
+  unfolding read_all
+  read_all-front c [] = sym (rw (items.empty c) refl)
+  read_all-front c (b ∷ bytes) =
+      then_read-same (λ x y. read_at_most front (length bytes) x y) (read_all front) (length bytes)
+      (λ next rest q. read_at_most-same (length bytes) (length rest) next rest q (omega arith)) (front c (b ∷ bytes)) (items.shorter c b bytes)

@@ -1,0 +1,22 @@
+use Rattle.std.proofs.Common.{arith}
+use Rattle.std.proofs.lemmas.Result.{err_from_is_err_and}
+use Rattle.std.proofs.lemmas.List.{take_rest, length-drop}
+use Rattle.mp4_stream.proofs.AnswerLemmas.{GoesOn-take_more, StopsAt-take_more}
+use Rattle.mp4_stream.proofs.machine.Machine.take_all.Goals as goal
+
+pub returns-in_err-at-clause-err : goal.returns-in_err-at-clause-err
+returns-in_err-at-clause-err g c =
+    let p = err_from_is_err_and c.from_residual.result c.from_residual.ensures.1 in
+    let stops = simp take_rest at c.in_err-at.ensures.err in
+    rw (p.1, p.2) (StopsAt-take_more _ _ c.loop-at.at c.args.piece.now c.in_err-at.field-0.0 c.loop-at.invariant.goes_on stops)
+
+pub loop-at-preserved : goal.loop-at-preserved
+loop-at-preserved g c =
+    let goes = simp take_rest at c.in_ok-at.ensures.ok in
+    let taken = simp take_rest at c.in_ok-at.ensures.taken in
+    record {
+      within = omega (arith, taken, length-drop c.loop-at.at c.args.piece.now);
+      goes_on = GoesOn-take_more c.loop-at.at c.in_ok-at.field-0 c.args.piece.now c.loop-at.invariant.goes_on goes;
+      place = c.in_ok-at.ensures.place;
+      reached = omega (arith, c.in_ok-at.ensures.reached);
+    }

@@ -1,0 +1,82 @@
+-- The boxes at the top of a stream, each by its header alone.
+use Rattle.std.specs.Prelude.{ℕ, ◌+◌, ◌-◌, ◌^◌, List, [], ◌∷◌, length, drop, nat_lt, if◌then◌else◌, Option, Some}
+use Rattle.mp4_box.specs.declared.headers.FourCc.{FourCc}
+use Rattle.mp4_box.specs.declared.headers.Header.{Header}
+use Rattle.mp4_box.specs.declared.headers.Size.{Size}
+use Rattle.mp4_box.specs.declared.headers.Size.TheVariants.{Exact, ToEnd}
+use Rattle.mp4_box.specs.declared.headers.Step.{Step}
+use Rattle.mp4_box.specs.declared.headers.Step.TheVariants as steps
+use Rattle.mp4_box.specs.declared.refusal.Fault.{Fault}
+use Rattle.mp4_box.specs.declared.refusal.Rule.{Rule}
+use Rattle.mp4_box.specs.declared.refusal.Rule.TheVariants.{Truncated, BadSize, StreamTooLong}
+use Rattle.mp4_box.specs.Headers.{header_at, kind_of}
+use Rattle.mp4_stream.specs.Listing.{box_line}
+use Rattle.mp4_stream.specs.Readings.{Refused, CutOff, Reading, nothing, Front, Last, Whole, after_text, read_all, fault_in, early_in}
+
+-- no stream is followed further than this
+abbrev pub longest : ℕ
+longest = 2 ^ 62
+
+abbrev pub fault : Rule → Option FourCc → ℕ → Fault
+fault rule kind at = record { rule = rule; kind = kind; offset = at }
+
+abbrev pub refused : Rule → Option FourCc → ℕ → Reading
+refused rule kind at = record { text = []; ending = Refused (fault rule kind at) }
+
+abbrev pub cut_off : Rule → Option FourCc → ℕ → Reading
+cut_off rule kind at = record { text = []; ending = CutOff (fault rule kind at) }
+
+-- a box at `at` that ends at `next`, of which `left` bytes are to come
+abbrev pub sized_body : ℕ → FourCc → ℕ → ℕ → List ℕ → Front ℕ
+sized_body at kind next left bytes =
+    if nat_lt (length bytes) left then Last (cut_off Truncated (Some kind) at)
+    else Whole [] next (drop left bytes)
+
+-- a box at `at` that goes to the end of the stream, of which at most `left` bytes may come
+abbrev pub open_body : ℕ → FourCc → ℕ → List ℕ → Front ℕ
+open_body at kind left bytes =
+    if nat_lt left (length bytes) then Last (refused StreamTooLong (Some kind) at)
+    else Last nothing
+
+-- a box at `at` by the size that it states, behind its header
+abbrev pub body : ℕ → Header → Size → List ℕ → Front ℕ
+body at h (Exact s) bytes = sized_body at h.kind (at + s) (s - h.header_len) bytes
+body at h ToEnd bytes = open_body at h.kind (longest - (at + h.header_len)) bytes
+
+-- where a box at `at` ends at the least
+abbrev pub least_end : ℕ → Header → Size → ℕ
+least_end at h (Exact s) = at + s
+least_end at h ToEnd = at + h.header_len
+
+-- a box at `at` with this header, and the bytes behind it
+abbrev pub box : ℕ → Header → List ℕ → Front ℕ
+box at h bytes =
+    if nat_lt longest (least_end at h h.size) then Last (refused StreamTooLong (Some h.kind) at)
+    else after_text (box_line at h) (body at h h.size bytes)
+
+-- some bytes at `at`, by what they come to as a header
+abbrev pub front_by : ℕ → List ℕ → Step → Front ℕ
+front_by at bytes steps.More = Last (cut_off Truncated (kind_of bytes) at)
+front_by at bytes steps.BadSize = Last (refused BadSize (kind_of bytes) at)
+front_by at bytes (steps.Whole h) = box at h (drop h.header_len bytes)
+
+-- the box at the front of the bytes from the offset `at` on
+unfoldable pub front : ℕ → List ℕ → Front ℕ
+front at [] = Last nothing
+front at (b ∷ bytes) = front_by at (b ∷ bytes) (header_at (b ∷ bytes))
+
+-- what the bytes from the offset `at` on come to
+abbrev pub reading : ℕ → List ℕ → Reading
+reading at bytes = read_all front at bytes
+
+-- the lines of a stream's boxes, up to its first fault
+abbrev pub listing : List ℕ → List ℕ
+listing b = (reading 0 b).text
+
+-- the first fault of a stream
+abbrev pub first_fault : List ℕ → Option Fault
+first_fault b = fault_in (reading 0 b).ending
+
+-- the fault of every stream that begins so
+abbrev pub early_fault : List ℕ → Option Fault
+early_fault b = early_in (reading 0 b).ending

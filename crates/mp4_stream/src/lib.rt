@@ -1,0 +1,24 @@
+//! What a stream of boxes comes to, and the engine that reads it as it comes.
+//!
+//! - [`top`]: [`top_boxes`], which lists the boxes at the top of a stream;
+//! - [`machine`]: what is fed the stream piece by piece, and where it stands in it;
+//! - [`listing`]: the line of a box;
+//! - [`line`]: a line under construction, and [`block`]: bytes on their way to a sink;
+//! - [`laws`]: what the definitions of `specs/` imply.
+//!
+//! The definitions: `specs/Readings.antt` (a stream read item by item), `specs/Boxes.antt` (its top-level
+//! boxes), `specs/Listing.antt` (their lines), `specs/Answers.antt` (what a run answers and writes).
+#![tactic(auto)]
+
+mod block;
+pub mod laws;
+pub mod line;
+mod listing;
+mod machine;
+pub mod top;
+
+pub use line::Line;
+pub use mp4_box::{
+    Failed, Fault, FourCc, FromRead, IntoWrite, Rule, Sink, Source, ends, vectors, write_all,
+};
+pub use top::{Stop, top_boxes};
