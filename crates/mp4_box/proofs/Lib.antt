@@ -1,2 +1,8 @@
 pub mod HeaderLemmas
 pub mod StreamLemmas
+pub mod TreeLemmas
+pub mod GrammarLemmas
+pub mod OrderLemmas
+pub mod RunLemmas
+pub mod PathLemmas
+pub mod FlagLemmas

@@ -44,13 +44,15 @@ pub record Head (h : Header) (x : List ℕ) : Type 0 where
 abbrev pub BeginsWith : Header → List ℕ → Type 0
 BeginsWith h x = (n : ℕ) × Head h (take n x)
 
--- the bytes x are one whole box of stated size with this header
-pub record IsBox (h : Header) (x : List ℕ) : Type 0 where
+-- the bytes x are one whole box of stated size with this header and this payload
+pub record IsBox (h : Header) (payload x : List ℕ) : Type 0 where
   pub head : List ℕ
-  pub payload : List ℕ
   pub spelled : Head h head
   pub whole : x ≡ head ++ payload
   pub size : h.size ≡ Exact (length x)
+
+abbrev pub IsWhole : List ℕ → Type 0
+IsWhole x = (h : Header) × (payload : List ℕ) × IsBox h payload x
 
 -- ---- how it is read
 
@@ -96,6 +98,12 @@ abbrev pub result_of : Step → Result Header Rule
 result_of More = Err rules.Truncated
 result_of (Whole h) = Ok h
 result_of BadSize = Err rules.BadSize
+
+-- a fact of the header, where it is whole
+abbrev pub IfWhole : Step → (Header → Type 0) → Type 0
+IfWhole More P = Unit {0}
+IfWhole (Whole h) P = P h
+IfWhole BadSize P = Unit {0}
 
 -- a stated size has room for the header
 abbrev pub HasRoom : Size → ℕ → Type 0

@@ -1,7 +1,7 @@
 //! The header of a box (ISO/IEC 14496-12, 4.2).
 
 ghost use Rattle.std.specs.Prelude.{◌≡◌, ◌+◌, ◌<◌, ◌≤◌, ◌↔◌, ◌⊎◌, ℕ, length, map, take, Ok, Err, IfOk, IfErr};
-ghost use Rattle.mp4_box.specs.Headers.{BeginsWith, HasRoom, has_user, header_at, need, result_of};
+ghost use Rattle.mp4_box.specs.Headers.{BeginsWith, HasRoom, IfWhole, has_user, header_at, need, result_of};
 ghost use Rattle.mp4_box.specs.Shown.{shown_byte};
 ghost use Rattle.mp4_box.specs.declared.headers.Header.{Header};
 ghost use Rattle.mp4_box.specs.declared.headers.Step.TheVariants.{Whole};
@@ -89,7 +89,9 @@ fn need_of(bytes: &[u8]) -> usize
 /// What these first bytes of a box come to.
 #[tactic(auto, unfolding(crate::specs::Headers::header_at))]
 pub(crate) fn read_header(bytes: &[u8]) -> Step
-    ensures { result ≡ header_at bytes.now }
+    ensures exact { result ≡ header_at bytes.now }
+    ensures room { IfWhole result (λ h. HasRoom h.size h.header_len) }
+    ensures within { IfWhole result (λ h. (8 ≤ h.header_len) × (h.header_len ≤ length bytes.now)) }
 {
     let header_len = need_of(bytes);
     if bytes.len() < header_len {

@@ -39,7 +39,8 @@ impl HeaderReader {
         requires { length self.old < need self.old }
         ensures bytes { self.new ≡ self.old ++ byte ∷ [] }
         ensures whole { (h : Header) → (result ≡ Whole h) ↔ Head h self.new }
-        ensures bad_size { (result ≡ BadSize) ↔ ((length self.new ≡ need self.new) × ((h : Header) → Head h self.new → ⊥)) }
+        ensures bad_size { (result ≡ BadSize) ↔
+            ((length self.new ≡ need self.new) × ((h : Header) → Head h self.new → ⊥)) }
         ensures more { (result ≡ More) ↔ (length self.new < need self.new) }
 
         // The same, computed.
@@ -73,7 +74,8 @@ impl HeaderReader {
 fn step_for(bytes: &[u8]) -> Step
     requires { length bytes.now ≤ need bytes.now }
     ensures whole { (h : Header) → (result ≡ Whole h) ↔ Head h bytes.now }
-    ensures bad_size { (result ≡ BadSize) ↔ ((length bytes.now ≡ need bytes.now) × ((h : Header) → Head h bytes.now → ⊥)) }
+    ensures bad_size { (result ≡ BadSize) ↔ ((length bytes.now ≡ need bytes.now) ×
+        ((h : Header) → Head h bytes.now → ⊥)) }
     ensures more { (result ≡ More) ↔ (length bytes.now < need bytes.now) }
     ensures computed { result ≡ header_at bytes.now }
 {

@@ -32,10 +32,13 @@ pub trait Source {
         ensures bytes { ReadConsumes (remaining self.old) (remaining self.new) result into.new }
 
         // What is to be told of failures and of the end is told by the answer.
-        ensures failed_ok { OnOk result ((has_failed self.old ≡ false) × (has_failed self.new ≡ false)) }
+        ensures failed_ok { OnOk result ((has_failed self.old ≡ false) ×
+            (has_failed self.new ≡ false)) }
         ensures failed_err { OnErr result (has_failed self.new ≡ true) }
-        ensures ended { IfOk result (λ n. (has_ended self.old ≡ true → n ≡ 0) × (has_ended self.new ≡ eqb n 0)) }
-        ensures ended_err { OnErr result ((has_ended self.old ≡ false) × (has_ended self.new ≡ false)) };
+        ensures ended { IfOk result (λ n. (has_ended self.old ≡ true → n ≡ 0) ×
+            (has_ended self.new ≡ eqb n 0)) }
+        ensures ended_err { OnErr result ((has_ended self.old ≡ false) ×
+            (has_ended self.new ≡ false)) };
 
     /// Whether some call has answered `Failed`.
     fn failed(&self) -> bool
@@ -63,7 +66,8 @@ pub trait Sink {
         requires { 0 < length from.now }
         ensures bound { IfOk result (λ n. (0 < n) × (n ≤ length from.now)) }
         ensures bytes { WriteAppends (contents self.old) (contents self.new) result from.now }
-        ensures failed_ok { OnOk result ((has_failed self.old ≡ false) × (has_failed self.new ≡ false)) }
+        ensures failed_ok { OnOk result ((has_failed self.old ≡ false) ×
+            (has_failed self.new ≡ false)) }
         ensures failed_err { OnErr result (has_failed self.new ≡ true) };
 
     /// Sends on what was taken.
@@ -73,7 +77,8 @@ pub trait Sink {
     /// `Failed`; from then on each call answers so.
     fn flush(&mut self) -> Result<(), Failed>
         ensures bytes { Keeps (contents self.old) (contents self.new) }
-        ensures failed_ok { OnOk result ((has_failed self.old ≡ false) × (has_failed self.new ≡ false)) }
+        ensures failed_ok { OnOk result ((has_failed self.old ≡ false) ×
+            (has_failed self.new ≡ false)) }
         ensures failed_err { OnErr result (has_failed self.new ≡ true) };
 
     /// Whether some call has answered `Failed`.

@@ -25,26 +25,26 @@ after-after : (s t : List ℕ) (r : Reading) → after s (after t r) ≡ after (
 after-after s t r = ap (λ l. record { text = l; ending = r.ending }) (sym (append_assoc s t r.text))
 
 -- a whole box
-pub reading-box : (at : ℕ) (h : Header) (x later : List ℕ) → IsBox h x → at + length x ≤ longest
+pub reading-box : (at : ℕ) (h : Header) (payload x later : List ℕ) → IsBox h payload x → at + length x ≤ longest
     → reading at (x ++ later) ≡ after (box_line at h) (reading (at + length x) later)
-reading-box at h x later is near =
-    let len : length x ≡ length is.head + length is.payload = ap length is.whole ∙ length-append is.head is.payload in
-    let rest : length x - h.header_len ≡ length is.payload = omega (arith, len, is.spelled.header_len) in
-    let enough = nat_lt_false (length (is.payload ++ later)) (length is.payload) (omega (arith, length-append is.payload later)) in
-    ap (reading at) (ap (λ l. l ++ later) is.whole ∙ append_assoc is.head is.payload later)
-    ∙ reading-headed at h (Exact (length x)) is.head (is.payload ++ later) is.spelled is.size near
-    ∙ ap (λ n. after (box_line at h) (then_read reading (sized_body at h.kind (at + length x) n (is.payload ++ later)))) rest
-    ∙ rw (enough, drop-append_seam is.payload later) refl
+reading-box at h payload x later is near =
+    let len : length x ≡ length is.head + length payload = ap length is.whole ∙ length-append is.head payload in
+    let rest : length x - h.header_len ≡ length payload = omega (arith, len, is.spelled.header_len) in
+    let enough = nat_lt_false (length (payload ++ later)) (length payload) (omega (arith, length-append payload later)) in
+    ap (reading at) (ap (λ l. l ++ later) is.whole ∙ append_assoc is.head payload later)
+    ∙ reading-headed at h (Exact (length x)) is.head (payload ++ later) is.spelled is.size near
+    ∙ ap (λ n. after (box_line at h) (then_read reading (sized_body at h.kind (at + length x) n (payload ++ later)))) rest
+    ∙ rw (enough, drop-append_seam payload later) refl
 
 pub reading-boxes : (hs : List Header) (at : ℕ) (b later : List ℕ) → AreBoxes hs b → at + length b ≤ longest
     → reading at (b ++ later) ≡ after (lines_from at hs) (reading (at + length b) later)
 reading-boxes [] at b later e near = rw e (ap (λ n. reading n later) (omega arith))
-reading-boxes (h ∷ hs) at b later (x, rest, e, is, more) near =
+reading-boxes (h ∷ hs) at b later (payload, x, rest, e, is, more) near =
     let len : length b ≡ length x + length rest = ap length e ∙ length-append x rest in
     let next : at + size_in h.size ≡ at + length x = ap (λ s. at + size_in s) is.size in
     let sum : at + length x + length rest ≡ at + length b = omega arith in
     ap (reading at) (ap (λ l. l ++ later) e ∙ append_assoc x rest later)
-    ∙ reading-box at h x (rest ++ later) is (omega arith)
+    ∙ reading-box at h payload x (rest ++ later) is (omega arith)
     ∙ ap (after (box_line at h)) (reading-boxes hs (at + length x) rest later more (omega arith))
     ∙ after-after (box_line at h) (lines_from (at + length x) hs) (reading (at + length x + length rest) later)
     ∙ ap (λ n. after (box_line at h ++ lines_from n hs) (reading (at + length x + length rest) later)) (sym next)

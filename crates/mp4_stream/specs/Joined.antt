@@ -9,7 +9,7 @@ use Rattle.mp4_stream.specs.Listing.{box_line}
 -- the bytes b are the join of boxes with these headers
 abbrev pub AreBoxes : List Header → List ℕ → Type 0
 AreBoxes [] b = b ≡ []
-AreBoxes (h ∷ hs) b = (x : List ℕ) × (rest : List ℕ) × (b ≡ x ++ rest) × IsBox h x × AreBoxes hs rest
+AreBoxes (h ∷ hs) b = (payload : List ℕ) × (x : List ℕ) × (rest : List ℕ) × (b ≡ x ++ rest) × IsBox h payload x × AreBoxes hs rest
 
 abbrev pub size_in : Size → ℕ
 size_in (Exact s) = s

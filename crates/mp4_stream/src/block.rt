@@ -36,7 +36,8 @@ impl Block {
 
     /// Sends all that waits.
     pub(crate) fn send<W: Sink>(&mut self, w: &mut W) -> Result<(), Failed>
-        ensures ok { OnOk result (Passes (W.contents w.old) (W.contents w.new) self.old self.new []) }
+        ensures ok { OnOk result (Passes (W.contents w.old) (W.contents w.new) self.old self.new
+            []) }
         ensures empty { OnOk result (self.new ≡ []) }
         ensures err { OnErr result (AppendsFront (W.contents w.old) (W.contents w.new) self.old) }
         ensures failed { OnErr result (W.has_failed w.new ≡ true) }
@@ -48,8 +49,10 @@ impl Block {
 
     /// Puts these bytes behind those that wait. Where they don't fit, what waits is sent first.
     pub(crate) fn put<W: Sink>(&mut self, w: &mut W, bytes: &[u8]) -> Result<(), Failed>
-        ensures ok { OnOk result (Passes (W.contents w.old) (W.contents w.new) self.old self.new bytes.now) }
-        ensures err { OnErr result (AppendsFront (W.contents w.old) (W.contents w.new) (self.old ++ bytes.now)) }
+        ensures ok { OnOk result (Passes (W.contents w.old) (W.contents w.new) self.old self.new
+            bytes.now) }
+        ensures err { OnErr result (AppendsFront (W.contents w.old) (W.contents w.new)
+            (self.old ++ bytes.now)) }
         ensures failed { OnErr result (W.has_failed w.new ≡ true) }
     {
         match self.waiting.try_extend_from_slice(bytes) {
@@ -59,8 +62,10 @@ impl Block {
     }
 
     fn send_and_put<W: Sink>(&mut self, w: &mut W, bytes: &[u8]) -> Result<(), Failed>
-        ensures ok { OnOk result (Passes (W.contents w.old) (W.contents w.new) self.old self.new bytes.now) }
-        ensures err { OnErr result (AppendsFront (W.contents w.old) (W.contents w.new) (self.old ++ bytes.now)) }
+        ensures ok { OnOk result (Passes (W.contents w.old) (W.contents w.new) self.old self.new
+            bytes.now) }
+        ensures err { OnErr result (AppendsFront (W.contents w.old) (W.contents w.new)
+            (self.old ++ bytes.now)) }
         ensures failed { OnErr result (W.has_failed w.new ≡ true) }
     {
         match self.send(w) {

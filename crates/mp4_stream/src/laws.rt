@@ -14,25 +14,30 @@ ghost use Rattle.mp4_stream.specs.Readings.{after, nothing};
 
 /// Whole boxes are listed, one line each, and the bytes behind them are read as if they came first.
 pub fn whole_boxes()
-    ensures { (hs : List Header) (at : ℕ) (b later : List ℕ) → AreBoxes hs b → at + length b ≤ longest
-        → reading at (b ++ later) ≡ after (lines_from at hs) (reading (at + length b) later) }
+    ensures { (hs : List Header) (at : ℕ) (b later : List ℕ) → AreBoxes hs b → at + length b ≤
+        longest → reading at (b ++ later) ≡ after (lines_from at hs)
+        (reading (at + length b) later) }
 {}
 
 /// Where no header begins the rest: nothing is left, or too few bytes for a header, or a size without room.
 pub fn rest_without_header()
     ensures none { (at : ℕ) → reading at [] ≡ nothing }
-    ensures cut { (at : ℕ) (y : List ℕ) → 0 < length y → length y < need y → reading at y ≡ cut_off Truncated (kind_of y) at }
-    ensures bad { (at : ℕ) (y : List ℕ) → IsBytes y → need y ≤ length y → ((h : Header) → BeginsWith h y → ⊥) → reading at y ≡ refused BadSize (kind_of y) at }
+    ensures cut { (at : ℕ) (y : List ℕ) → 0 < length y → length y < need y → reading at y ≡ cut_off
+        Truncated (kind_of y) at }
+    ensures bad { (at : ℕ) (y : List ℕ) → IsBytes y → need y ≤ length y →
+        ((h : Header) → BeginsWith h y → ⊥) → reading at y ≡ refused BadSize (kind_of y) at }
 {}
 
 /// Where a header x begins the rest, and the box that it states isn't whole, or has no stated size.
 pub fn rest_with_header()
-    ensures too_long { (at : ℕ) (h : Header) (x y : List ℕ) → Head h x → longest < least_end at h h.size
-        → reading at (x ++ y) ≡ refused StreamTooLong (Some h.kind) at }
-    ensures cut { (at s : ℕ) (h : Header) (x y : List ℕ) → Head h x → h.size ≡ Exact s → at + s ≤ longest → length (x ++ y) < s
-        → reading at (x ++ y) ≡ after (box_line at h) (cut_off Truncated (Some h.kind) at) }
-    ensures to_end { (at : ℕ) (h : Header) (x y : List ℕ) → Head h x → h.size ≡ ToEnd → at + length (x ++ y) ≤ longest
-        → reading at (x ++ y) ≡ after (box_line at h) nothing }
-    ensures to_end_too_long { (at : ℕ) (h : Header) (x y : List ℕ) → Head h x → h.size ≡ ToEnd → at + length x ≤ longest → longest < at + length (x ++ y)
-        → reading at (x ++ y) ≡ after (box_line at h) (refused StreamTooLong (Some h.kind) at) }
+    ensures too_long { (at : ℕ) (h : Header) (x y : List ℕ) → Head h x → longest < least_end at h
+        h.size → reading at (x ++ y) ≡ refused StreamTooLong (Some h.kind) at }
+    ensures cut { (at s : ℕ) (h : Header) (x y : List ℕ) → Head h x → h.size ≡ Exact s → at + s ≤
+        longest → length (x ++ y) < s → reading at (x ++ y) ≡ after (box_line at h)
+        (cut_off Truncated (Some h.kind) at) }
+    ensures to_end { (at : ℕ) (h : Header) (x y : List ℕ) → Head h x → h.size ≡ ToEnd → at + length
+        (x ++ y) ≤ longest → reading at (x ++ y) ≡ after (box_line at h) nothing }
+    ensures to_end_too_long { (at : ℕ) (h : Header) (x y : List ℕ) → Head h x → h.size ≡ ToEnd → at
+        + length x ≤ longest → longest < at + length (x ++ y) → reading at (x ++ y) ≡ after
+        (box_line at h) (refused StreamTooLong (Some h.kind) at) }
 {}

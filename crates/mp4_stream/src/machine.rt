@@ -70,8 +70,10 @@ impl Machine {
 
     /// Takes the next piece of the stream, and writes all that it determines.
     pub(crate) fn feed<W: Sink>(&mut self, piece: &[u8], w: &mut W) -> Result<(), Stop>
-        ensures ok { OnOk result (GoesOn (W.contents w.old) (W.contents w.new) [] [] (reading_from self.old) piece.now (reading_from self.new)) }
-        ensures err { IfErr result (λ e. StopsAt (W.contents w.old) (W.contents w.new) [] [] (reading_from self.old) piece.now e) }
+        ensures ok { OnOk result (GoesOn (W.contents w.old) (W.contents w.new) [] []
+            (reading_from self.old) piece.now (reading_from self.new)) }
+        ensures err { IfErr result (λ e. StopsAt (W.contents w.old) (W.contents w.new) [] []
+            (reading_from self.old) piece.now e) }
         ensures failed { IsErrOf result Stop.Write → W.has_failed w.new ≡ true }
         ensures place { IsPlace self.new }
         ensures reached { OnOk result (reached self.new ≡ reached self.old + length piece.now) }
@@ -94,8 +96,10 @@ impl Machine {
 
     /// Takes all of a piece.
     fn take_all<W: Sink>(&mut self, piece: &[u8], out: &mut Block, w: &mut W) -> Result<(), Stop>
-        ensures ok { OnOk result (GoesOn (W.contents w.old) (W.contents w.new) out.old out.new (reading_from self.old) piece.now (reading_from self.new)) }
-        ensures err { IfErr result (λ e. StopsAt (W.contents w.old) (W.contents w.new) out.old out.new (reading_from self.old) piece.now e) }
+        ensures ok { OnOk result (GoesOn (W.contents w.old) (W.contents w.new) out.old out.new
+            (reading_from self.old) piece.now (reading_from self.new)) }
+        ensures err { IfErr result (λ e. StopsAt (W.contents w.old) (W.contents w.new) out.old
+            out.new (reading_from self.old) piece.now e) }
         ensures failed { IsErrOf result Stop.Write → W.has_failed w.new ≡ true }
         ensures place { IsPlace self.new }
         ensures reached { OnOk result (reached self.new ≡ reached self.old + length piece.now) }
@@ -117,8 +121,10 @@ impl Machine {
     ) -> Result<usize, Stop>
         requires { 0 < length piece.now }
         ensures taken { IfOk result (λ n. (0 < n) × (n ≤ length piece.now)) }
-        ensures ok { IfOk result (λ n. GoesOn (W.contents w.old) (W.contents w.new) out.old out.new (reading_from self.old) (take n piece.now) (reading_from self.new)) }
-        ensures err { IfErr result (λ e. StopsAt (W.contents w.old) (W.contents w.new) out.old out.new (reading_from self.old) piece.now e) }
+        ensures ok { IfOk result (λ n. GoesOn (W.contents w.old) (W.contents w.new) out.old out.new
+            (reading_from self.old) (take n piece.now) (reading_from self.new)) }
+        ensures err { IfErr result (λ e. StopsAt (W.contents w.old) (W.contents w.new) out.old
+            out.new (reading_from self.old) piece.now e) }
         ensures failed { IsErrOf result Stop.Write → W.has_failed w.new ≡ true }
         ensures place { IsPlace self.new }
         ensures reached { IfOk result (λ n. reached self.new ≡ reached self.old + n) }
@@ -186,8 +192,10 @@ fn take_byte<W: Sink>(
     w: &mut W,
 ) -> Result<Phase, Stop>
     requires { IsPlace (InHeader at held.old) }
-    ensures ok { IfOk result (λ p. GoesOn (W.contents w.old) (W.contents w.new) out.old out.new (reading_from (InHeader at held.old)) (byte ∷ []) (reading_from (place_of held.new p))) }
-    ensures err { IfErr result (λ e. (more : List ℕ) → StopsAt (W.contents w.old) (W.contents w.new) out.old out.new (reading_from (InHeader at held.old)) (byte ∷ more) e) }
+    ensures ok { IfOk result (λ p. GoesOn (W.contents w.old) (W.contents w.new) out.old out.new
+        (reading_from (InHeader at held.old)) (byte ∷ []) (reading_from (place_of held.new p))) }
+    ensures err { IfErr result (λ e. (more : List ℕ) → StopsAt (W.contents w.old) (W.contents w.new)
+        out.old out.new (reading_from (InHeader at held.old)) (byte ∷ more) e) }
     ensures failed { IsErrOf result Stop.Write → W.has_failed w.new ≡ true }
     ensures phase { IfOk result (λ p. IsPhase held.new p) }
     ensures spent { OnErr result (held.new ≡ []) }
@@ -223,8 +231,10 @@ fn begin<W: Sink>(at: u64, header: &Header, out: &mut Block, w: &mut W) -> Resul
     requires at { at ≤ longest }
     requires len { (8 ≤ header.now.header_len) × (header.now.header_len ≤ 32) }
     requires room { HasRoom header.now.size header.now.header_len }
-    ensures ok { IfOk result (λ p. GoesOn (W.contents w.old) (W.contents w.new) out.old out.new (λ later. then_read reading (box at header.now later)) [] (reading_from (place_of [] p))) }
-    ensures err { IfErr result (λ e. (more : List ℕ) → StopsAt (W.contents w.old) (W.contents w.new) out.old out.new (λ later. then_read reading (box at header.now later)) more e) }
+    ensures ok { IfOk result (λ p. GoesOn (W.contents w.old) (W.contents w.new) out.old out.new
+        (λ later. then_read reading (box at header.now later)) [] (reading_from (place_of [] p))) }
+    ensures err { IfErr result (λ e. (more : List ℕ) → StopsAt (W.contents w.old) (W.contents w.new)
+        out.old out.new (λ later. then_read reading (box at header.now later)) more e) }
     ensures failed { IsErrOf result Stop.Write → W.has_failed w.new ≡ true }
     ensures phase { IfOk result (λ p. IsPhase [] p) }
     ensures reached { IfOk result (λ p. reached (place_of [] p) ≡ at + header.now.header_len) }
@@ -246,7 +256,8 @@ fn phase_behind(at: u64, header: &Header) -> Option<Phase>
     requires room { HasRoom header.now.size header.now.header_len }
     ensures none { IfNone result (longest < least_end at header.now header.now.size) }
     ensures some { IfSome result (λ p. least_end at header.now header.now.size ≤ longest) }
-    ensures brings { IfSome result (λ p. (later : List ℕ) → then_read reading (body at header.now header.now.size later) ≡ reading_from (place_of [] p) later) }
+    ensures brings { IfSome result (λ p. (later : List ℕ) → then_read reading
+        (body at header.now header.now.size later) ≡ reading_from (place_of [] p) later) }
     ensures phase { IfSome result (λ p. IsPhase [] p) }
     ensures reached { IfSome result (λ p. reached (place_of [] p) ≡ at + header.now.header_len) }
 {
@@ -262,7 +273,9 @@ fn sized_phase(at: u64, kind: FourCc, size: u64, header_len: u64) -> Option<Phas
     requires room { header_len ≤ size }
     ensures none { IfNone result (longest < at + size) }
     ensures some { IfSome result (λ p. at + size ≤ longest) }
-    ensures brings { IfSome result (λ p. (later : List ℕ) → then_read reading (sized_body at kind (at + size) (size - header_len) later) ≡ reading_from (place_of [] p) later) }
+    ensures brings { IfSome result (λ p. (later : List ℕ) → then_read reading
+        (sized_body at kind (at + size) (size - header_len) later) ≡ reading_from (place_of [] p)
+        later) }
     ensures phase { IfSome result (λ p. IsPhase [] p) }
     ensures reached { IfSome result (λ p. reached (place_of [] p) ≡ at + header_len) }
 {
@@ -286,7 +299,9 @@ fn open_phase(at: u64, kind: FourCc, header_len: u64) -> Option<Phase>
     requires at { at ≤ longest }
     ensures none { IfNone result (longest < at + header_len) }
     ensures some { IfSome result (λ p. at + header_len ≤ longest) }
-    ensures brings { IfSome result (λ p. (later : List ℕ) → then_read reading (open_body at kind (longest - (at + header_len)) later) ≡ reading_from (place_of [] p) later) }
+    ensures brings { IfSome result (λ p. (later : List ℕ) → then_read reading
+        (open_body at kind (longest - (at + header_len)) later) ≡ reading_from (place_of [] p)
+        later) }
     ensures phase { IfSome result (λ p. IsPhase [] p) }
     ensures reached { IfSome result (λ p. reached (place_of [] p) ≡ at + header_len) }
 {
@@ -305,7 +320,8 @@ fn pass(at: u64, kind: FourCc, next: u64, left: u64, piece: &[u8]) -> (usize, Ph
     requires some { 0 < length piece.now }
     requires place { IsPlace (InBody at kind next left) }
     ensures taken { (0 < result.0) × (result.0 ≤ length piece.now) }
-    ensures brings { (later : List ℕ) → reading_from (InBody at kind next left) (take result.0 piece.now ++ later) ≡ reading_from (place_of [] result.1) later }
+    ensures brings { (later : List ℕ) → reading_from (InBody at kind next left)
+        (take result.0 piece.now ++ later) ≡ reading_from (place_of [] result.1) later }
     ensures phase { IsPhase [] result.1 }
     ensures reached { reached (place_of [] result.1) ≡ (next - left) + result.0 }
 {
@@ -327,11 +343,14 @@ fn pass(at: u64, kind: FourCc, next: u64, left: u64, piece: &[u8]) -> (usize, Ph
 /// Passes over a piece of the body of the box at `at`, which goes to the end of the stream: what comes next.
 fn pass_open(at: u64, kind: FourCc, left: u64, piece: &[u8]) -> Result<Phase, Stop>
     requires { IsPlace (InOpenBody at kind left) }
-    ensures brings { IfOk result (λ p. (later : List ℕ) → reading_from (InOpenBody at kind left) (piece.now ++ later) ≡ reading_from (place_of [] p) later) }
+    ensures brings { IfOk result (λ p. (later : List ℕ) → reading_from (InOpenBody at kind left)
+        (piece.now ++ later) ≡ reading_from (place_of [] p) later) }
     ensures phase { IfOk result (λ p. IsPhase [] p) }
-    ensures reached { IfOk result (λ p. reached (place_of [] p) ≡ (longest - left) + length piece.now) }
+    ensures reached { IfOk result (λ p. reached (place_of [] p) ≡ (longest - left) + length
+        piece.now) }
     ensures stops { IfErr result (λ e. e ≡ Stop.Stream (fault StreamTooLong (Some kind) at)) }
-    ensures err { OnErr result ((later : List ℕ) → reading_from (InOpenBody at kind left) (piece.now ++ later) ≡ refused StreamTooLong (Some kind) at) }
+    ensures err { OnErr result ((later : List ℕ) → reading_from (InOpenBody at kind left)
+        (piece.now ++ later) ≡ refused StreamTooLong (Some kind) at) }
 {
     if piece.len() as u64 > left {
         return Err(refused(Rule::StreamTooLong, Some(kind), at));

@@ -32,7 +32,8 @@ pub fn top_boxes<R: Source, W: Sink>(r: &mut R, w: &mut W, copy: &mut [u8]) -> R
     requires { 0 < length copy.old }
 
     // Of the bytes that were read: the answer, and what was written.
-    ensures listed { (b : List ℕ) × Consumes (R.remaining r.old) (R.remaining r.new) b × Lists (W.contents w.old) (W.contents w.new) b (R.has_ended r.new) result }
+    ensures listed { (b : List ℕ) × Consumes (R.remaining r.old) (R.remaining r.new) b × Lists
+        (W.contents w.old) (W.contents w.new) b (R.has_ended r.new) result }
 
     // No end is said to have failed that has not.
     ensures read { IfErr result (λ e. is_read e ≡ true → R.has_failed r.new ≡ true) }

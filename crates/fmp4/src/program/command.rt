@@ -30,7 +30,8 @@ fn number_in(text: &str, least: u64, most: u64) -> Option<u64>
 }
 
 fn entered_text<'b>(matches: &ArgMatches<'b>, id: &str) -> Option<&'b str>
-    ensures { option_map (λ text. text.now) result ≡ first_of id.now (rows_of (found_of matches.now)) }
+    ensures { option_map (λ text. text.now) result ≡ first_of id.now
+        (rows_of (found_of matches.now)) }
 {
     matches.get_str(id)
 }
@@ -113,8 +114,8 @@ pub fn read_words(alloc: Global, words: &[String]) -> Result<Invocation, NoComma
     ensures ranges { IfOk result (λ asked. IsAllowed (carried_settings asked)) }
 
     // Nothing is said of the words where the memory ran out.
-    ensures err { IfErr result (λ why. why ≡ NoCommand.BadWords
-        → command_of (map string_bytes words.now) ≡ None) }
+    ensures err { IfErr result (λ why. why ≡ NoCommand.BadWords → command_of
+        (map string_bytes words.now) ≡ None) }
 {
     let Ok(command) = program_command(alloc) else {
         return Err(NoCommand::Memory);

@@ -6,31 +6,32 @@ use super::asked::Invocation;
 
 /// Worked examples, which show what the definition of a command line comes to.
 pub fn worked_words()
-    ensures usual_copy { command_of (codes "fmp4" ∷ codes "boxes" ∷ [])
-        ≡ Some (Invocation.Boxes (record { copy = 65536 })) }
-    ensures least_copy { command_of (codes "fmp4" ∷ codes "boxes" ∷ codes "--copy" ∷ codes "4096" ∷ [])
-        ≡ Some (Invocation.Boxes (record { copy = 4096 })) }
-    ensures signed_copy { command_of (codes "fmp4" ∷ codes "boxes" ∷ codes "--copy" ∷ codes "+65536" ∷ [])
-        ≡ Some (Invocation.Boxes (record { copy = 65536 })) }
+    ensures usual_copy { command_of (codes "fmp4" ∷ codes "boxes" ∷ []) ≡ Some
+        (Invocation.Boxes (record { copy = 65536 })) }
+    ensures least_copy { command_of (codes "fmp4" ∷ codes "boxes" ∷ codes "--copy" ∷ codes "4096" ∷
+        []) ≡ Some (Invocation.Boxes (record { copy = 4096 })) }
+    ensures signed_copy { command_of (codes "fmp4" ∷ codes "boxes" ∷ codes "--copy" ∷ codes "+65536"
+        ∷ []) ≡ Some (Invocation.Boxes (record { copy = 65536 })) }
 
-    ensures copy_too_small { command_of (codes "fmp4" ∷ codes "boxes" ∷ codes "--copy" ∷ codes "4095" ∷ [])
-        ≡ None }
-    ensures copy_too_large { command_of (codes "fmp4" ∷ codes "boxes" ∷ codes "--copy" ∷ codes "1048577" ∷ [])
-        ≡ None }
+    ensures copy_too_small { command_of (codes "fmp4" ∷ codes "boxes" ∷ codes "--copy" ∷ codes
+        "4095" ∷ []) ≡ None }
+    ensures copy_too_large { command_of (codes "fmp4" ∷ codes "boxes" ∷ codes "--copy" ∷ codes
+        "1048577" ∷ []) ≡ None }
 
     ensures no_command { command_of (codes "fmp4" ∷ []) ≡ None }
     ensures other_command { command_of (codes "fmp4" ∷ codes "samples" ∷ []) ≡ None }
-    ensures other_option { command_of (codes "fmp4" ∷ codes "boxes" ∷ codes "--max-held" ∷ codes "5" ∷ [])
-        ≡ None }
+    ensures other_option { command_of (codes "fmp4" ∷ codes "boxes" ∷ codes "--max-held" ∷ codes "5"
+        ∷ []) ≡ None }
     ensures help { command_of (codes "fmp4" ∷ codes "--help" ∷ []) ≡ None }
 {}
 
 /// For every size of the copy buffer, in decimal digits: the words ask for one that is in the
 /// range, and any other gives no command. The program may be called anything.
 pub fn every_copy_size()
-    ensures inside { (program : List ℕ) → (copy : ℕ) → 4096 ≤ copy → copy ≤ 1048576
-        → command_of (program ∷ codes "boxes" ∷ codes "--copy" ∷ decimal copy ∷ [])
-        ≡ Some (Invocation.Boxes (record { copy = copy })) }
-    ensures outside { (program : List ℕ) → (copy : ℕ) → copy < 2 ^ 64 → (copy < 4096) ⊎ (1048576 < copy)
-        → command_of (program ∷ codes "boxes" ∷ codes "--copy" ∷ decimal copy ∷ []) ≡ None }
+    ensures inside { (program : List ℕ) → (copy : ℕ) → 4096 ≤ copy → copy ≤ 1048576 → command_of
+        (program ∷ codes "boxes" ∷ codes "--copy" ∷ decimal copy ∷ []) ≡ Some
+        (Invocation.Boxes (record { copy = copy })) }
+    ensures outside { (program : List ℕ) → (copy : ℕ) → copy < 2 ^ 64 → (copy < 4096) ⊎
+        (1048576 < copy) → command_of (program ∷ codes "boxes" ∷ codes "--copy" ∷ decimal copy ∷ [])
+        ≡ None }
 {}

@@ -24,11 +24,14 @@ pub fn run<R: Source, W: Sink, F: Sink>(
     w: &mut W,
     fault_w: &mut F,
 ) -> u8
-    ensures { ((result ≡ 4) × (r.new ≡ r.old) × (w.new ≡ w.old) × Tells (F.contents fault_w.old) (F.contents fault_w.new) (F.has_failed fault_w.new) (line (codes "out of memory")))
-        ⊎ MatchOption (command_of (map string_bytes words.items))
-        ((result ≡ 1) × (r.new ≡ r.old) × (w.new ≡ w.old) × Tells (F.contents fault_w.old) (F.contents fault_w.new) (F.has_failed fault_w.new) (line (codes "bad command line")))
-        (λ asked. ListsBoxes (R.remaining r.old) (R.remaining r.new) (W.contents w.old) (W.contents w.new) (F.contents fault_w.old) (F.contents fault_w.new)
-        (R.has_ended r.new) (R.has_failed r.new) (W.has_failed w.new) (F.has_failed fault_w.new) result) }
+    ensures { ((result ≡ 4) × (r.new ≡ r.old) × (w.new ≡ w.old) × Tells (F.contents fault_w.old)
+        (F.contents fault_w.new) (F.has_failed fault_w.new) (line (codes "out of memory"))) ⊎
+        MatchOption (command_of (map string_bytes words.items))
+        ((result ≡ 1) × (r.new ≡ r.old) × (w.new ≡ w.old) × Tells (F.contents fault_w.old)
+        (F.contents fault_w.new) (F.has_failed fault_w.new) (line (codes "bad command line")))
+        (λ asked. ListsBoxes (R.remaining r.old) (R.remaining r.new) (W.contents w.old)
+        (W.contents w.new) (F.contents fault_w.old) (F.contents fault_w.new) (R.has_ended r.new)
+        (R.has_failed r.new) (W.has_failed w.new) (F.has_failed fault_w.new) result) }
 {
     let asked = match read_words(alloc, words.as_slice()) {
         Ok(asked) => asked,
@@ -61,7 +64,8 @@ fn copy_buffer(alloc: Global, len: u32) -> Result<Vec<u8>, AllocError>
 /// Lists the boxes of the stream, and flushes the listing.
 fn list_boxes<R: Source, W: Sink>(r: &mut R, w: &mut W, copy: &mut [u8]) -> Result<(), Stop>
     requires { 0 < length copy.old }
-    ensures listed { (b : List ℕ) × Consumes (R.remaining r.old) (R.remaining r.new) b × Lists (W.contents w.old) (W.contents w.new) b (R.has_ended r.new) result }
+    ensures listed { (b : List ℕ) × Consumes (R.remaining r.old) (R.remaining r.new) b × Lists
+        (W.contents w.old) (W.contents w.new) b (R.has_ended r.new) result }
     ensures fails { FailsBy result (R.has_failed r.new) (W.has_failed w.new) }
 {
     match top_boxes(r, w, copy) {
@@ -85,13 +89,15 @@ fn status_for(answer: &Result<(), Stop>) -> u8
 
 /// Writes a line. Where its writer fails, there is no one to tell.
 fn tell<F: Sink>(fault_w: &mut F, text: &[u8])
-    ensures { Tells (F.contents fault_w.old) (F.contents fault_w.new) (F.has_failed fault_w.new) text.now }
+    ensures { Tells (F.contents fault_w.old) (F.contents fault_w.new) (F.has_failed fault_w.new)
+        text.now }
 {
     let _ = write_all(fault_w, text);
 }
 
 fn tell_answer<F: Sink>(fault_w: &mut F, answer: &Result<(), Stop>)
-    ensures { TellsOf (F.contents fault_w.old) (F.contents fault_w.new) (F.has_failed fault_w.new) answer.now }
+    ensures { TellsOf (F.contents fault_w.old) (F.contents fault_w.new) (F.has_failed fault_w.new)
+        answer.now }
 {
     match answer {
         Ok(()) => {}

@@ -58,18 +58,25 @@ impl<'a> Source for FromSlice<'a> {
 
         // Those of every source.
         ensures bound { ReadsAtMost result into.new }
-        ensures bytes { ReadConsumes (left_in self.old.state (Some self.old.left)) (left_in self.new.state (Some self.new.left)) result into.new }
-        ensures failed_ok { OnOk result ((state_failed self.old.state ≡ false) × (state_failed self.new.state ≡ false)) }
+        ensures bytes { ReadConsumes (left_in self.old.state (Some self.old.left))
+            (left_in self.new.state (Some self.new.left)) result into.new }
+        ensures failed_ok { OnOk result ((state_failed self.old.state ≡ false) ×
+            (state_failed self.new.state ≡ false)) }
         ensures failed_err { OnErr result (state_failed self.new.state ≡ true) }
-        ensures ended { IfOk result (λ n. (state_ended self.old.state ≡ true → n ≡ 0) × (state_ended self.new.state ≡ eqb n 0)) }
-        ensures ended_err { OnErr result ((state_ended self.old.state ≡ false) × (state_ended self.new.state ≡ false)) }
+        ensures ended { IfOk result (λ n. (state_ended self.old.state ≡ true → n ≡ 0) ×
+            (state_ended self.new.state ≡ eqb n 0)) }
+        ensures ended_err { OnErr result ((state_ended self.old.state ≡ false) ×
+            (state_ended self.new.state ≡ false)) }
 
         // How many, when it fails, and how it stands afterwards.
-        ensures count { IfOk result (λ n. self.old.state ≡ Open → n ≡ min (min (length self.old.left) self.old.step) (length into.old)) }
+        ensures count { IfOk result (λ n. self.old.state ≡ Open → n ≡ min
+            (min (length self.old.left) self.old.step) (length into.old)) }
         ensures step { IfOk result (λ n. n ≤ self.old.step) }
-        ensures fails { OnErr result ((self.old.state ≡ Broken) ⊎ ((self.old.left ≡ []) × (self.old.fails ≡ true))) }
+        ensures fails { OnErr result ((self.old.state ≡ Broken) ⊎
+            ((self.old.left ≡ []) × (self.old.fails ≡ true))) }
         ensures ends { IfOk result (λ n. n ≡ 0 → self.old.state ≡ Open → self.old.fails ≡ false) }
-        ensures after { IfOk result (λ n. self.new ≡ record self.old { left = drop n self.old.left; state = if n == 0 then Ended else Open }) }
+        ensures after { IfOk result (λ n. self.new ≡ record self.old
+            { left = drop n self.old.left; state = if n == 0 then Ended else Open }) }
         ensures after_err { OnErr result (self.new ≡ record self.old { state = Broken }) }
     {
         match self.state {

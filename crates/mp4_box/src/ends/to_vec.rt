@@ -33,7 +33,8 @@ impl ToVec {
     /// unless it `flushes`.
     pub fn new(alloc: Global, room: usize, step: usize, flushes: bool) -> Result<ToVec, AllocError>
         requires { 0 < step }
-        ensures { IfOk result (λ v. v ≡ record { taken = []; room = room; step = step; flushes = flushes; broken = false }) }
+        ensures { IfOk result (λ v. v ≡ record
+            { taken = []; room = room; step = step; flushes = flushes; broken = false }) }
     {
         Ok(ToVec {
             taken: Vec::with_capacity(alloc, room)?,
@@ -67,9 +68,12 @@ impl Sink for ToVec {
         ensures failed_err { OnErr result (self.new.broken ≡ true) }
 
         // How many, when it fails, and how it stands afterwards.
-        ensures count { IfOk result (λ n. n ≡ min (min (length from.now) self.old.step) (self.old.room - length self.old.taken)) }
-        ensures fails { OnErr result ((self.old.broken ≡ true) ⊎ (self.old.room ≤ length self.old.taken)) }
-        ensures after { IfOk result (λ n. self.new ≡ record self.old { taken = self.old.taken ++ take n from.now }) }
+        ensures count { IfOk result (λ n. n ≡ min (min (length from.now) self.old.step)
+            (self.old.room - length self.old.taken)) }
+        ensures fails { OnErr result ((self.old.broken ≡ true) ⊎
+            (self.old.room ≤ length self.old.taken)) }
+        ensures after { IfOk result (λ n. self.new ≡ record self.old
+            { taken = self.old.taken ++ take n from.now }) }
         ensures after_err { OnErr result (self.new ≡ record self.old { broken = true }) }
     {
         if self.broken {

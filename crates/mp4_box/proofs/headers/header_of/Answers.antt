@@ -4,7 +4,7 @@ use Rattle.mp4_box.proofs.HeaderLemmas.{header-begins, header-truncated, header-
 use Rattle.mp4_box.proofs.headers.header_of.Goals as goal
 
 same : (c : goal.After-result_for) → c.result_for.result ≡ result_of (header_at c.args.bytes.now)
-same c = c.result_for.ensures ∙ ap result_of c.read_header.ensures
+same c = c.result_for.ensures ∙ ap result_of c.read_header.ensures.exact
 
 pub returns-clause-whole : goal.returns-clause-whole
 returns-clause-whole c h = rw (same c) (header-begins c.args.bytes.now h (λ i. omega (arith, c.type_inv.bytes i)))

@@ -1,0 +1,176 @@
+//! The tree of a held box (ISO/IEC 14496-12, 4.2).
+
+ghost use Rattle.std.specs.Prelude.{◌≡◌, ◌+◌, ◌-◌, ◌^◌, ◌<◌, ◌≤◌, length, Some, IfErr, IsOk, IsTrue, ◌↔◌, OnOk, IfSome, option_map};
+ghost use Rattle.std.specs.Option.{option_or};
+ghost use Rattle.mp4_box.specs.Headers.{IsWhole};
+ghost use Rattle.mp4_box.specs.Trees.{bad_below, bad_size, box_at, box_len, deep_below, first, is_container, too_deep, tree_faults, verdict, view};
+ghost use Rattle.mp4_box.specs.Grammar.{IsTree};
+ghost use Rattle.mp4_box.specs.Order.{IsLeast};
+
+use crate::box_ref::BoxRef;
+use crate::fields::array_at;
+use crate::headers::{FourCc, Size, Step, read_header};
+use crate::refusal::{Fault, Rule};
+
+/// A box at the top may have so many levels, its own among them.
+const LEVELS: u8 = 8;
+
+/// The box of stated size at the front of the bytes, which begin at `offset`; none where they haven't all of
+/// one.
+#[tactic(auto, unfolding(crate::specs::Trees::box_at))]
+pub(crate) fn first_box<'a>(bytes: &'a [u8], offset: u64) -> Option<BoxRef<'a>>
+    requires { offset + length bytes.now < 2 ^ 63 }
+    ensures exact { option_map view result ≡ box_at offset bytes.now }
+    ensures within { IfSome result (λ b. (8 ≤ box_len (view b)) ×
+        (box_len (view b) ≤ length bytes.now)) }
+    ensures offset { IfSome result (λ b. b.offset ≡ offset) }
+{
+    let Step::Whole(header) = read_header(bytes) else {
+        return None;
+    };
+    let Size::Exact(size) = header.size else {
+        return None;
+    };
+    if size > bytes.len() as u64 {
+        return None;
+    }
+    let payload = &bytes[header.header_len as usize..size as usize];
+    Some(BoxRef {
+        header,
+        offset,
+        payload,
+    })
+}
+
+/// Whether boxes of this type hold boxes.
+#[tactic(auto, unfolding(crate::specs::Trees::is_container))]
+pub fn holds_boxes(kind: FourCc) -> bool
+    ensures { result ≡ is_container kind.0 }
+{
+    let kind = kind.0.as_slice();
+    kind == b"moov".as_slice()
+        || kind == b"trak".as_slice()
+        || kind == b"edts".as_slice()
+        || kind == b"mdia".as_slice()
+        || kind == b"minf".as_slice()
+        || kind == b"dinf".as_slice()
+        || kind == b"stbl".as_slice()
+        || kind == b"mvex".as_slice()
+        || kind == b"moof".as_slice()
+        || kind == b"traf".as_slice()
+}
+
+fn bad_box(bytes: &[u8], offset: u64) -> Fault
+    ensures { result ≡ bad_size offset bytes.now }
+{
+    let kind = if bytes.len() < 8 {
+        None
+    } else {
+        Some(FourCc(array_at::<4>(bytes, 4)))
+    };
+    Fault {
+        rule: Rule::BadSize,
+        kind,
+        offset,
+    }
+}
+
+fn deep_box(this: &BoxRef) -> Fault
+    ensures { result ≡ too_deep (view this.now) }
+{
+    Fault {
+        rule: Rule::Depth,
+        kind: Some(this.header.kind),
+        offset: this.offset,
+    }
+}
+
+/// What is at fault below a box, `levels` levels down: the first rest in which no box stands. A box that
+/// stands too deep is kept in `deep`.
+fn check_below(this: &BoxRef, levels: u8, deep: &mut Option<Fault>) -> Result<(), Fault>
+    ensures exact { result ≡ verdict (bad_below levels (view this.now)) }
+    ensures deep { OnOk result (deep.new ≡ option_or deep.old
+        (first (deep_below levels (view this.now)))) }
+{
+    if levels == 0 {
+        if deep.is_none() {
+            *deep = Some(deep_box(this));
+        }
+        return Ok(());
+    }
+    if !holds_boxes(this.header.kind) {
+        return Ok(());
+    }
+    let mut rest = this.payload;
+    let mut offset = this.offset + this.header.header_len;
+    while !rest.is_empty() {
+        let Some(child) = first_box(rest, offset) else {
+            return Err(bad_box(rest, offset));
+        };
+        if let Err(fault) = check_below(&child, levels - 1, deep) {
+            return Err(fault);
+        }
+        let len = child.header.header_len as usize + child.payload.len();
+        let (_, others) = rest.split_at(len);
+        rest = others;
+        offset += len as u64;
+    }
+    Ok(())
+}
+
+/// Whether the bytes are one whole box of stated size.
+pub fn is_box(bytes: &[u8]) -> bool
+    requires { length bytes.now < 2 ^ 63 }
+    ensures { IsTrue result ↔ IsWhole bytes.now }
+{
+    match first_box(bytes, 0) {
+        Some(this) => this.header.header_len as usize + this.payload.len() == bytes.len(),
+        None => false,
+    }
+}
+
+/// The box that the bytes are, which begin at `offset`.
+pub fn whole_box<'a>(bytes: &'a [u8], offset: u64) -> BoxRef<'a>
+    requires whole { IsWhole bytes.now }
+    requires room { offset + length bytes.now ≤ 2 ^ 62 }
+    ensures { box_at offset bytes.now ≡ Some (view result) }
+{
+    match first_box(bytes, offset) {
+        Some(this) => this,
+        None => unreachable!(),
+    }
+}
+
+/// Checks the tree of a whole box of stated size, which begins at `offset`.
+///
+/// # Errors
+///
+/// `BadSize` for the first rest of a container in which no whole box stands: it names the type that stands
+/// there, where that has come. Else `Depth` for the first box nine levels down.
+pub fn check_tree(bytes: &[u8], offset: u64) -> Result<(), Fault>
+    requires whole { IsWhole bytes.now }
+    requires room { offset + length bytes.now ≤ 2 ^ 62 }
+    ensures good { IsOk result ↔ IsTree 8 bytes.now }
+    ensures fault { result ≡ verdict (tree_faults offset bytes.now) }
+    ensures least { IfErr result (λ f. IsLeast f (tree_faults offset bytes.now)) }
+{
+    find_fault(bytes, offset)
+}
+
+/// The first fault of the tree of the box that the bytes begin with.
+fn find_fault(bytes: &[u8], offset: u64) -> Result<(), Fault>
+    requires { offset + length bytes.now ≤ 2 ^ 62 }
+    ensures { result ≡ verdict (tree_faults offset bytes.now) }
+{
+    let Some(this) = first_box(bytes, offset) else {
+        return Ok(());
+    };
+    let mut deep = None;
+    if let Err(fault) = check_below(&this, LEVELS, &mut deep) {
+        return Err(fault);
+    }
+    match deep {
+        Some(fault) => Err(fault),
+        None => Ok(()),
+    }
+}
