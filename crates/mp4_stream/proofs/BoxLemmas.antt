@@ -61,7 +61,7 @@ front_by-below at b bytes (steps.Whole h) e =
     Below-more (box at h (drop h.header_len (b ∷ bytes))) (length (drop h.header_len (b ∷ bytes))) (length bytes)
     (omega (arith, length-drop h.header_len (b ∷ bytes), w.1, need-least (b ∷ bytes))) (box-below at h (drop h.header_len (b ∷ bytes)))
 
-front-items : IsItemwise front
+pub front-items : IsItemwise front
 unfolding front
 front-items = record {
   empty = λ at. refl;
@@ -72,12 +72,12 @@ front-items = record {
 pub reading-front : (at : ℕ) (bytes : List ℕ) → reading at bytes ≡ then_read reading (front at bytes)
 reading-front at bytes = read_all-front front front-items at bytes
 
-front-some : (at : ℕ) (x : List ℕ) → 0 < length x → front at x ≡ front_by at x (header_at x)
+pub front-some : (at : ℕ) (x : List ℕ) → 0 < length x → front at x ≡ front_by at x (header_at x)
 unfolding front
 front-some at [] h = absurd (omega arith)
 front-some at (b ∷ x) h = refl
 
-front-none : (at : ℕ) → front at [] ≡ Last nothing
+pub front-none : (at : ℕ) → front at [] ≡ Last nothing
 unfolding front
 front-none at = refl
 
@@ -89,7 +89,7 @@ reading-by at x s some e = reading-front at x ∙ ap (then_read reading) (front-
 
 -- ---- a header
 
-kind_of-append : (x y : List ℕ) → 8 ≤ length x → kind_of (x ++ y) ≡ kind_of x
+pub kind_of-append : (x y : List ℕ) → 8 ≤ length x → kind_of (x ++ y) ≡ kind_of x
 kind_of-append x y eight =
     let behind : drop 4 (x ++ y) ≡ drop 4 x ++ y = drop-append-le 4 x y (omega arith) in
     let kind : kind_field (x ++ y) ≡ kind_field x = ap (take 4) behind ∙ take-append-le 4 (drop 4 x) y (omega (arith, length-drop 4 x)) in

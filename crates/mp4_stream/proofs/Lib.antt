@@ -6,3 +6,5 @@ pub mod AnswerLemmas
 pub mod PlaceLemmas
 pub mod RunLemmas
 pub mod JoinLemmas
+pub mod GrowthLemmas
+pub mod BoxGrowthLemmas

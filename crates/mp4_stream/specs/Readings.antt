@@ -1,5 +1,5 @@
 -- A stream that is read item by item, whatever its items are.
-use Rattle.std.specs.Prelude.{ℕ, zero, suc, List, [], ◌++◌, length, Option, None, Some}
+use Rattle.std.specs.Prelude.{◌≡◌, ℕ, zero, suc, List, [], ◌++◌, length, Option, None, Some}
 use Rattle.mp4_box.specs.declared.refusal.Fault.{Fault}
 
 -- how the reading of some bytes ends
@@ -57,3 +57,12 @@ read_at_most front (suc n) c bytes = then_read (λ next rest. read_at_most front
 -- front after front: each whole item takes a byte at least
 unfoldable pub read_all : {C : Type 0} → (C → List ℕ → Front C) → C → List ℕ → Reading
 read_all front c bytes = read_at_most front (length bytes) c bytes
+
+-- xs is a front of ys
+abbrev pub IsFront : List ℕ → List ℕ → Type 0
+IsFront xs ys = (rest : List ℕ) × (xs ++ rest ≡ ys)
+
+-- what more bytes change of a reading: they may add to its text, and to a fault that is decided they add nothing
+pub record GrowsTo (r s : Reading) : Type 0 where
+  pub text : IsFront r.text s.text
+  pub early : (f : Fault) → early_in r.ending ≡ Some f → s ≡ r

@@ -10,7 +10,7 @@ ghost use Rattle.mp4_box.specs.declared.refusal.Rule.TheVariants.{BadSize, Strea
 ghost use Rattle.mp4_stream.specs.Boxes.{cut_off, least_end, longest, reading, refused};
 ghost use Rattle.mp4_stream.specs.Joined.{AreBoxes, lines_from};
 ghost use Rattle.mp4_stream.specs.Listing.{box_line};
-ghost use Rattle.mp4_stream.specs.Readings.{after, nothing};
+ghost use Rattle.mp4_stream.specs.Readings.{GrowsTo, after, nothing};
 
 /// Whole boxes are listed, one line each, and the bytes behind them are read as if they came first.
 pub fn whole_boxes()
@@ -40,4 +40,10 @@ pub fn rest_with_header()
     ensures to_end_too_long { (at : ℕ) (h : Header) (x y : List ℕ) → Head h x → h.size ≡ ToEnd → at
         + length x ≤ longest → longest < at + length (x ++ y) → reading at (x ++ y) ≡ after
         (box_line at h) (refused StreamTooLong (Some h.kind) at) }
+{}
+
+/// What more bytes write begins with what fewer write, and a fault that these decide is that of every stream
+/// that begins with them.
+pub fn more_bytes()
+    ensures { (at : ℕ) (b later : List ℕ) → GrowsTo (reading at b) (reading at (b ++ later)) }
 {}
