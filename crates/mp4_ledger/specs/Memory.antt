@@ -1,0 +1,43 @@
+-- What is seen of a ledger, and of the memory that is claimed from it.
+use Rattle.std.specs.Prelude.{ℕ, ◌+◌, ◌-◌, ◌*◌, List, ◌++◌, length, take, drop, replicate, max, Option, Some, None}
+
+-- how many bytes may be out, how many are, and the most that were since the last mark
+pub record Account : Type 0 where
+  pub limit : ℕ
+  pub live : ℕ
+  pub peak : ℕ
+
+-- bytes, and for how many of them there is room
+pub record Bytes : Type 0 where
+  pub bytes : List ℕ
+  pub cap : ℕ
+
+-- rows of eight numbers, and for how many of them there is room
+pub record Rows : Type 0 where
+  pub rows : List (List ℕ)
+  pub cap : ℕ
+
+-- an account after a claim of n bytes
+abbrev pub claimed : Account → ℕ → Account
+claimed a n = record a { live = a.live + n; peak = max a.peak (a.live + n) }
+
+-- an account after n bytes were given back
+abbrev pub given_back : Account → ℕ → Account
+given_back a n = record a { live = a.live - n }
+
+-- xs cut to the length n, or filled up to it with zeros
+abbrev pub fitted : List ℕ → ℕ → List ℕ
+fitted xs n = take n xs ++ replicate (n - length xs) 0
+
+-- what stands in the place of xs once w was written there: it is w where the lengths are equal
+abbrev pub over : {X : Type 0} → List X → List X → List X
+over xs w = take (length xs) (w ++ drop (length w) xs)
+
+-- what a buffer and a table have out, where there is one
+abbrev pub bytes_out : Option Bytes → ℕ
+bytes_out None = 0
+bytes_out (Some b) = b.cap
+
+abbrev pub rows_out : Option Rows → ℕ
+rows_out None = 0
+rows_out (Some t) = 64 * t.cap

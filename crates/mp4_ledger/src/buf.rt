@@ -1,0 +1,96 @@
+//! Bytes in claimed memory.
+
+ghost use Rattle.std.specs.Prelude.{◌≡◌, ◌+◌, ◌≤◌, ◌↔◌, [], ◌++◌, length, take, IsTrue};
+ghost use Rattle.std.specs.Borrow.{sem};
+ghost use Rattle.mp4_ledger.specs.Lending.{LendsBytes};
+ghost use Rattle.mp4_ledger.specs.Memory.{fitted};
+
+use std::marker::Model;
+
+/// A buffer whose room is claimed. It must be given back to its ledger, and can't be dropped.
+pub struct Buf {
+    pub(crate) bytes: Vec<u8>,
+    pub(crate) cap: usize,
+}
+
+// A contract sees the bytes, and for how many there is room.
+impl Model for Buf {
+    ghost use Rattle.std.specs.Prelude.{◌≤◌, length, vec_capacity};
+    ghost use Rattle.mp4_ledger.specs.Memory.{Bytes};
+
+    ghost Value = { Bytes };
+
+    ghost view = { λ b. record { bytes = b.bytes.items; cap = b.cap } };
+
+    ghost invariant = { λ b. (length b.bytes.items ≤ b.cap) × (b.cap ≤ vec_capacity b.bytes) };
+}
+
+impl Buf {
+    /// How many bytes it has.
+    pub fn len(&self) -> usize
+        ensures len { result ≡ length self.now.bytes }
+        ensures within { length self.now.bytes ≤ self.now.cap }
+    {
+        self.bytes.len()
+    }
+
+    /// Whether it has none.
+    pub fn is_empty(&self) -> bool
+        ensures { IsTrue result ↔ (self.now.bytes ≡ []) }
+    {
+        self.bytes.is_empty()
+    }
+
+    /// For how many bytes its room was claimed.
+    pub fn cap(&self) -> usize
+        ensures { result ≡ self.now.cap }
+    {
+        self.cap
+    }
+
+    /// Its bytes.
+    pub fn bytes(&self) -> &[u8]
+        ensures { result.now ≡ self.now.bytes }
+    {
+        self.bytes.as_slice()
+    }
+
+    /// Appends bytes for which there is room.
+    pub fn push_slice(&mut self, more: &[u8])
+        requires { length self.old.bytes + length more.now ≤ self.old.cap }
+        ensures { self.new ≡ record self.old { bytes = self.old.bytes ++ more.now } }
+    {
+        match self.bytes.extend_from_slice(more) {
+            Ok(()) => {}
+            Err(_) => unreachable!(),
+        }
+    }
+
+    /// Cuts it, or fills it with zeros, to the length `n`, and lends its bytes.
+    pub fn room_mut(&mut self, n: usize) -> &mut [u8]
+        requires { n ≤ self.old.cap }
+        ensures* writes_back { sem 𝓛 (LendsBytes self.entry result) }
+        ensures value { result.now ≡ fitted self.old.bytes n }
+        ensures len { length result.now ≡ n }
+    {
+        match self.bytes.resize(n, 0) {
+            Ok(()) => {}
+            Err(_) => unreachable!(),
+        }
+        self.bytes.as_mut_slice()
+    }
+
+    /// Keeps the first `n` bytes, or all where there are fewer.
+    pub fn shorten(&mut self, n: usize)
+        ensures { self.new ≡ record self.old { bytes = take n self.old.bytes } }
+    {
+        self.bytes.truncate(n);
+    }
+
+    /// Forgets its bytes, and keeps its room.
+    pub fn clear(&mut self)
+        ensures { self.new ≡ record self.old { bytes = [] } }
+    {
+        self.bytes.clear();
+    }
+}

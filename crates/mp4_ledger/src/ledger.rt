@@ -1,0 +1,164 @@
+//! What is claimed, and how much may be.
+
+ghost use Rattle.std.specs.Prelude.{◌≡◌, ◌+◌, ◌-◌, ◌*◌, ◌<◌, ◌≤◌, ◌↔◌, [], OnOk, OnErr, IfOk, IsErrOf};
+ghost use Rattle.mp4_ledger.specs.Memory.{claimed, given_back};
+
+use crate::buf::Buf;
+use crate::rows::Rows64;
+use std::alloc::Global;
+use std::marker::Model;
+
+/// Why a claim was refused.
+#[derive(Clone, Copy, Debug, PartialEq, Eq)]
+pub enum Refused {
+    /// What is out and the claim would pass the limit.
+    OverLimit,
+    /// The allocator gave no memory.
+    Memory,
+}
+
+/// Counts the bytes that are claimed.
+#[derive(Drop)]
+pub struct Ledger {
+    alloc: Global,
+    limit: u64,
+    live: u64,
+    peak: u64,
+}
+
+// A contract sees the account.
+impl Model for Ledger {
+    ghost use Rattle.std.specs.Prelude.{◌≤◌};
+    ghost use Rattle.mp4_ledger.specs.Memory.{Account};
+
+    ghost Value = { Account };
+
+    ghost view = { λ l. record { limit = l.limit; live = l.live; peak = l.peak } };
+
+    ghost invariant = { λ l. (l.live ≤ l.limit) × (l.live ≤ l.peak) };
+}
+
+impl Ledger {
+    /// A ledger of which nothing is out, and of which at most `limit` bytes may be.
+    pub fn new(alloc: Global, limit: u64) -> Ledger
+        ensures { result ≡ record { limit = limit; live = 0; peak = 0 } }
+    {
+        Ledger {
+            alloc,
+            limit,
+            live: 0,
+            peak: 0,
+        }
+    }
+
+    /// How many bytes are out.
+    pub fn live(&self) -> u64
+        ensures live { result ≡ self.now.live }
+        ensures within { self.now.live ≤ self.now.limit }
+    {
+        self.live
+    }
+
+    /// The most bytes that were out since the ledger was made, or last marked.
+    pub fn peak(&self) -> u64
+        ensures peak { result ≡ self.now.peak }
+        ensures most { self.now.live ≤ self.now.peak }
+    {
+        self.peak
+    }
+
+    /// How many bytes may be out.
+    pub fn limit(&self) -> u64
+        ensures limit { result ≡ self.now.limit }
+        ensures within { self.now.live ≤ self.now.limit }
+    {
+        self.limit
+    }
+
+    /// Forgets the peak so far: it counts from what is out now.
+    pub fn mark(&mut self)
+        ensures { self.new ≡ record self.old { peak = self.old.live } }
+    {
+        self.peak = self.live;
+    }
+
+    /// Claims an empty buffer with room for so many bytes.
+    ///
+    /// # Errors
+    ///
+    /// `OverLimit` exactly where the claim passes the limit; else `Memory` where the allocator has none.
+    /// Nothing is claimed then.
+    pub fn buf(&mut self, cap: u64) -> Result<Buf, Refused>
+        ensures empty { IfOk result (λ b. b ≡ record { bytes = []; cap = cap }) }
+        ensures ok { OnOk result (self.new ≡ claimed self.old cap) }
+        ensures over_limit { IsErrOf result Refused.OverLimit ↔ (self.old.limit < self.old.live + cap) }
+        ensures err { OnErr result (self.new ≡ self.old) }
+        ensures within { self.new.live ≤ self.new.limit }
+    {
+        if cap > self.limit - self.live {
+            return Err(Refused::OverLimit);
+        }
+        let Ok(bytes) = Vec::with_capacity(self.alloc, cap as usize) else {
+            return Err(Refused::Memory);
+        };
+        self.count(cap);
+        Ok(Buf {
+            bytes,
+            cap: cap as usize,
+        })
+    }
+
+    /// Claims an empty table with room for so many rows, of 64 bytes each.
+    ///
+    /// # Errors
+    ///
+    /// `OverLimit` exactly where the claim passes the limit; else `Memory` where the allocator has none.
+    /// Nothing is claimed then.
+    pub fn rows(&mut self, n: u64) -> Result<Rows64, Refused>
+        ensures empty { IfOk result (λ t. t ≡ record { rows = []; cap = n }) }
+        ensures ok { OnOk result (self.new ≡ claimed self.old (64 * n)) }
+        ensures over_limit { IsErrOf result Refused.OverLimit ↔ (self.old.limit < self.old.live + 64 * n) }
+        ensures err { OnErr result (self.new ≡ self.old) }
+        ensures within { self.new.live ≤ self.new.limit }
+    {
+        let room = self.limit - self.live;
+        if n > room / 64 {
+            return Err(Refused::OverLimit);
+        }
+        let Ok(rows) = Vec::with_capacity(self.alloc, n as usize) else {
+            return Err(Refused::Memory);
+        };
+        self.count(64 * n);
+        Ok(Rows64 {
+            rows,
+            cap: n as usize,
+        })
+    }
+
+    /// Counts bytes that are claimed, for which there is room.
+    fn count(&mut self, claim: u64)
+        requires { self.old.live + claim ≤ self.old.limit }
+        ensures { self.new ≡ claimed self.old claim }
+    {
+        self.live += claim;
+        self.peak = self.peak.max(self.live);
+    }
+
+    /// Takes a buffer back.
+    pub fn back(&mut self, buf: Buf)
+        requires { buf.cap ≤ self.old.live }
+        ensures { self.new ≡ given_back self.old buf.cap }
+    {
+        let Buf { bytes: _, cap } = buf;
+        self.live -= cap as u64;
+    }
+
+    /// Takes a table back.
+    pub fn back_rows(&mut self, rows: Rows64)
+        requires { 64 * rows.cap ≤ self.old.live }
+        ensures { self.new ≡ given_back self.old (64 * rows.cap) }
+    {
+        let Rows64 { rows: _, cap } = rows;
+        self.live -= 64 * cap as u64;
+    }
+}

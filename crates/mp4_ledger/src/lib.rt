@@ -1,0 +1,17 @@
+//! Counted memory: buffers and tables that are claimed from a ledger, which has a limit, and are given back to it.
+//!
+//! - [`Ledger`] counts what is out, refuses what would pass its limit, and keeps the most that was out;
+//! - [`Buf`] is a buffer of bytes, and [`Rows64`] a table of rows of eight numbers.
+//!
+//! A claim can't be dropped: what has one out must give it back, on every way out.
+#![tactic(auto)]
+
+mod buf;
+mod ledger;
+mod rows;
+#[cfg(test)]
+mod tests;
+
+pub use buf::Buf;
+pub use ledger::{Ledger, Refused};
+pub use rows::Rows64;

@@ -1,0 +1,81 @@
+//! Rows of eight numbers in claimed memory.
+
+ghost use Rattle.std.specs.Prelude.{◌≡◌, ◌<◌, ◌≤◌, ◌↔◌, [], ◌∷◌, ◌++◌, length, IsTrue, slice_set, slice_index_or};
+ghost use Rattle.std.specs.Borrow.{sem};
+ghost use Rattle.mp4_ledger.specs.Lending.{LendsRows};
+
+use std::marker::Model;
+
+/// A table whose room is claimed, 64 bytes a row. It must be given back to its ledger, and can't be dropped.
+pub struct Rows64 {
+    pub(crate) rows: Vec<[u64; 8]>,
+    pub(crate) cap: usize,
+}
+
+// A contract sees the rows, and for how many there is room.
+impl Model for Rows64 {
+    ghost use Rattle.std.specs.Prelude.{◌≡◌, ◌≤◌, length, vec_capacity};
+    ghost use Rattle.mp4_ledger.specs.Memory.{Rows};
+
+    ghost Value = { Rows };
+
+    ghost view = { λ t. record { rows = t.rows.items; cap = t.cap } };
+
+    ghost invariant = { λ t. (length t.rows.items ≤ t.cap) × (vec_capacity t.rows ≡ t.cap) };
+}
+
+impl Rows64 {
+    /// How many rows it has.
+    pub fn len(&self) -> usize
+        ensures len { result ≡ length self.now.rows }
+        ensures within { length self.now.rows ≤ self.now.cap }
+    {
+        self.rows.len()
+    }
+
+    /// Whether it has none.
+    pub fn is_empty(&self) -> bool
+        ensures { IsTrue result ↔ (self.now.rows ≡ []) }
+    {
+        self.rows.is_empty()
+    }
+
+    /// For how many rows its room was claimed.
+    pub fn cap(&self) -> usize
+        ensures { result ≡ self.now.cap }
+    {
+        self.cap
+    }
+
+    /// Appends a row for which there is room.
+    pub fn push(&mut self, row: [u64; 8])
+        requires { length self.old.rows < self.old.cap }
+        ensures { self.new ≡ record self.old { rows = self.old.rows ++ row ∷ [] } }
+    {
+        self.rows.push_reserved(row);
+    }
+
+    /// The row at this index.
+    pub fn get(&self, i: usize) -> [u64; 8]
+        requires { i < length self.now.rows }
+        ensures { result ≡ slice_index_or self.now.rows i result }
+    {
+        self.rows[i]
+    }
+
+    /// Puts another row at this index.
+    pub fn set(&mut self, i: usize, row: [u64; 8])
+        requires { i < length self.old.rows }
+        ensures { self.new ≡ record self.old { rows = slice_set self.old.rows i row } }
+    {
+        self.rows[i] = row;
+    }
+
+    /// Lends all rows.
+    pub fn all_mut(&mut self) -> &mut [[u64; 8]]
+        ensures* writes_back { sem 𝓛 (LendsRows self.entry result) }
+        ensures value { result.now ≡ self.old.rows }
+    {
+        self.rows.as_mut_slice()
+    }
+}
