@@ -91,7 +91,8 @@ impl Ledger {
     pub fn buf(&mut self, cap: u64) -> Result<Buf, Refused>
         ensures empty { IfOk result (λ b. b ≡ record { bytes = []; cap = cap }) }
         ensures ok { OnOk result (self.new ≡ claimed self.old cap) }
-        ensures over_limit { IsErrOf result Refused.OverLimit ↔ (self.old.limit < self.old.live + cap) }
+        ensures over_limit { IsErrOf result Refused.OverLimit ↔
+            (self.old.limit < self.old.live + cap) }
         ensures err { OnErr result (self.new ≡ self.old) }
         ensures within { self.new.live ≤ self.new.limit }
     {
@@ -117,7 +118,8 @@ impl Ledger {
     pub fn rows(&mut self, n: u64) -> Result<Rows64, Refused>
         ensures empty { IfOk result (λ t. t ≡ record { rows = []; cap = n }) }
         ensures ok { OnOk result (self.new ≡ claimed self.old (64 * n)) }
-        ensures over_limit { IsErrOf result Refused.OverLimit ↔ (self.old.limit < self.old.live + 64 * n) }
+        ensures over_limit { IsErrOf result Refused.OverLimit ↔
+            (self.old.limit < self.old.live + 64 * n) }
         ensures err { OnErr result (self.new ≡ self.old) }
         ensures within { self.new.live ≤ self.new.limit }
     {

@@ -24,7 +24,8 @@ impl Model for Holder {
 impl Holder {
     /// Claims a buffer of so many bytes and a table of so many rows, or nothing.
     fn claim(ledger: &mut Ledger, cap: u64, rows: u64) -> Result<Holder, Refused>
-        ensures ok { IfOk result (λ h. (h ≡ cap + 64 * rows) × (ledger.new.live ≡ ledger.old.live + h)) }
+        ensures ok { IfOk result (λ h. (h ≡ cap + 64 * rows) ×
+            (ledger.new.live ≡ ledger.old.live + h)) }
         ensures err { OnErr result (ledger.new.live ≡ ledger.old.live) }
     {
         let buf = match ledger.buf(cap) {
@@ -153,6 +154,8 @@ fn claims_at_the_ends(rt: HostRuntime) {
     assert_eq!(rt; rows_refused(&mut none, 1), Some(Refused::OverLimit));
     // No machine has so much: within the limit it is the allocator that refuses, and nothing is claimed.
     let mut all = Ledger::new(rt.alloc(), u64::MAX);
+    assert_eq!(rt; buf_refused(&mut all, 1 << 62), Some(Refused::Memory));
+    assert_eq!(rt; rows_refused(&mut all, 1 << 56), Some(Refused::Memory));
     assert_eq!(rt; buf_refused(&mut all, u64::MAX), Some(Refused::Memory));
     assert_eq!(rt; rows_refused(&mut all, 1 << 57), Some(Refused::Memory));
     assert_eq!(rt; (all.live(), all.peak()), (0, 0));

@@ -1,6 +1,7 @@
 pub mod ReadingLemmas
 pub mod BlockLemmas
 pub mod LineLemmas
+pub mod ListingLemmas
 pub mod BoxLemmas
 pub mod AnswerLemmas
 pub mod PlaceLemmas

@@ -1,6 +1,6 @@
 -- The lengths of numbers in decimal and of bytes in hexadecimal.
-use Rattle.std.proofs.Common.{◌≡◌, ◌∙◌, ◌+◌, ◌*◌, ◌/◌, ◌%◌, ◌<◌, ◌≤◌, ◌^◌, ℕ, List, [], ◌∷◌, ◌++◌, length, ap, length-append, arith, refl, take, get_or}
-use Rattle.std.proofs.lemmas.List.{take_more}
+use Rattle.std.proofs.Common.{◌≡◌, ◌∙◌, ◌+◌, ◌*◌, ◌/◌, ◌%◌, ◌<◌, ◌≤◌, ◌^◌, ℕ, List, [], ◌∷◌, ◌++◌, length, ap, length-append, arith, refl, take, get_or, replicate}
+use Rattle.std.proofs.lemmas.List.{take_more, take-replicate}
 use Rattle.std.specs.Fmt.{decimal}
 use Rattle.std.proofs.lemmas.Fmt.{decimal_digit, decimal_step}
 use Rattle.mp4_stream.specs.Hex.{hex_bytes, hex_digit}
@@ -22,3 +22,6 @@ length-hex_bytes (x ∷ xs) = omega (arith, length-hex_bytes xs)
 pub hex_bytes-take_more : (i : ℕ) (xs : List ℕ) → i < length xs
     → hex_bytes (take (i + 1) xs) ≡ hex_bytes (take i xs) ++ hex_digit (get_or xs i 0 / 16) ∷ hex_digit (get_or xs i 0 % 16) ∷ []
 hex_bytes-take_more i xs here = ap hex_bytes (take_more xs i 0 here) ∙ hex_bytes-append (take i xs) (get_or xs i 0 ∷ [])
+
+pub spaces : (level : ℕ) → level ≤ 7 → take {A = ℕ} (2 * level) (replicate 14 32) ≡ replicate (2 * level) 32
+spaces level low = take-replicate (2 * level) 14 32 (omega arith)

@@ -1,5 +1,6 @@
 pub mod Hex
 pub mod Listing
+pub mod Holding
 pub mod Readings
 pub mod Boxes
 pub mod Joined

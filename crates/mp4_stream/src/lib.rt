@@ -2,7 +2,8 @@
 //!
 //! - [`top`]: [`top_boxes`], which lists the boxes at the top of a stream;
 //! - [`machine`]: what is fed the stream piece by piece, and where it stands in it;
-//! - [`listing`]: the line of a box;
+//! - [`listing`]: the line of a box, and those of a tree of boxes;
+//! - [`held`]: a moov or moof in claimed memory, which no run holds yet;
 //! - [`line`]: a line under construction, and [`block`]: bytes on their way to a sink;
 //! - [`laws`]: what the definitions of `specs/` imply.
 //!
@@ -11,6 +12,7 @@
 #![tactic(auto)]
 
 mod block;
+mod held;
 pub mod laws;
 pub mod line;
 mod listing;

@@ -8,10 +8,10 @@ ghost use Rattle.mp4_stream.specs.Hex.{hex_bytes, hex_digit};
 use arrayvec::ArrayVec;
 use std::marker::Model;
 
-/// A line of at most 96 bytes.
+/// A line of at most 112 bytes.
 #[derive(Drop)]
 pub struct Line {
-    text: ArrayVec<u8, 96>,
+    text: ArrayVec<u8, 112>,
 }
 
 impl Model for Line {
@@ -39,7 +39,7 @@ impl Line {
 
     /// Puts these bytes behind what stands in the line.
     pub fn push_bytes(&mut self, bytes: &[u8])
-        requires { length self.old + length bytes.now ≤ 96 }
+        requires { length self.old + length bytes.now ≤ 112 }
         ensures text { self.new ≡ self.old ++ bytes.now }
         ensures len { length self.new ≡ length self.old + length bytes.now }
     {
@@ -51,7 +51,7 @@ impl Line {
 
     /// Puts the number behind what stands in the line, in decimal: 20 digits at most.
     pub fn push_decimal(&mut self, number: u64)
-        requires { length self.old + 20 ≤ 96 }
+        requires { length self.old + 20 ≤ 112 }
         ensures text { self.new ≡ self.old ++ decimal number }
         ensures len { length self.new ≤ length self.old + 20 }
     {
@@ -60,7 +60,7 @@ impl Line {
 
     /// Puts the bytes behind what stands in the line, in hexadecimal: two digits each, in lower case.
     pub fn push_hex(&mut self, bytes: &[u8])
-        requires { length self.old + 2 * length bytes.now ≤ 96 }
+        requires { length self.old + 2 * length bytes.now ≤ 112 }
         ensures text { self.new ≡ self.old ++ hex_bytes bytes.now }
         ensures len { length self.new ≡ length self.old + 2 * length bytes.now }
     {
@@ -69,8 +69,8 @@ impl Line {
 }
 
 /// Puts the number behind the text, in decimal.
-fn push_digits(text: &mut ArrayVec<u8, 96>, number: u64)
-    requires { array_vec_len text.old + length (decimal number) ≤ 96 }
+fn push_digits(text: &mut ArrayVec<u8, 112>, number: u64)
+    requires { array_vec_len text.old + length (decimal number) ≤ 112 }
     ensures items { text.new.items ≡ text.old.items ++ decimal number }
     ensures len { array_vec_len text.new ≡ array_vec_len text.old + length (decimal number) }
 {
@@ -83,8 +83,8 @@ fn push_digits(text: &mut ArrayVec<u8, 96>, number: u64)
 }
 
 /// Puts the bytes behind the text, in hexadecimal.
-fn push_hex_digits(text: &mut ArrayVec<u8, 96>, bytes: &[u8])
-    requires { array_vec_len text.old + 2 * length bytes.now ≤ 96 }
+fn push_hex_digits(text: &mut ArrayVec<u8, 112>, bytes: &[u8])
+    requires { array_vec_len text.old + 2 * length bytes.now ≤ 112 }
     ensures items { text.new.items ≡ text.old.items ++ hex_bytes bytes.now }
     ensures len { array_vec_len text.new ≡ array_vec_len text.old + 2 * length bytes.now }
 {

@@ -1,29 +1,89 @@
-//! The line of a box.
+//! The lines of boxes.
 
-ghost use Rattle.std.specs.Prelude.{◌≡◌, ◌+◌, ◌≤◌, ◌++◌, length};
-ghost use Rattle.mp4_stream.specs.Listing.{box_line, size_text, user_text};
+ghost use Rattle.std.specs.Prelude.{◌≡◌, ◌+◌, ◌≤◌, ◌++◌, length, true, OnErr, OnOk};
+ghost use Rattle.mp4_box.specs.Streams.{AppendsFront};
+ghost use Rattle.mp4_box.specs.Trees.{view};
+ghost use Rattle.mp4_stream.specs.Blocks.{Passes};
+ghost use Rattle.mp4_stream.specs.Listing.{box_line, line_below, size_text, tree_lines, user_text};
 
+use crate::block::Block;
 use crate::line::Line;
-use mp4_box::{Header, Size};
+use mp4_box::{BoxRef, Failed, Header, Sink, Size, Walk, holds_boxes};
 
 /// The line of the box with this header that begins at `at`.
-#[tactic(auto, unfolding(crate::specs::Listing::box_line))]
 pub(crate) fn line_of(at: u64, header: &Header) -> Line
     ensures { result ≡ box_line at header.now }
 {
     let mut line = Line::new();
-    line.push_bytes(&header.kind.shown());
-    line.push_bytes(b" ");
-    push_size(&mut line, header.size);
-    line.push_bytes(b" @");
-    line.push_decimal(at);
-    push_user(&mut line, header.user);
-    line.push_bytes(b"\n");
+    push_box(&mut line, at, header);
     line
 }
 
+/// Spaces for the lowest level.
+const INDENT: [u8; 14] = *b"              ";
+
+/// The line of a box that stands so many levels below the top.
+#[tactic(auto, using(crate::proofs::LineLemmas::spaces))]
+fn line_at_level(this: &BoxRef, level: u8) -> Line
+    requires { level ≤ 7 }
+    ensures { result ≡ line_below level (view this.now) }
+{
+    let mut line = Line::new();
+    line.push_bytes(&INDENT[..2 * level as usize]);
+    push_box(&mut line, this.offset, &this.header);
+    line
+}
+
+#[tactic(auto, unfolding(crate::specs::Listing::box_line))]
+fn push_box(line: &mut Line, at: u64, header: &Header)
+    requires { length line.old ≤ 14 }
+    ensures { line.new ≡ line.old ++ box_line at header.now }
+{
+    line.push_bytes(&header.kind.shown());
+    line.push_bytes(b" ");
+    push_size(line, header.size);
+    line.push_bytes(b" @");
+    line.push_decimal(at);
+    push_user(line, header.user);
+    line.push_bytes(b"\n");
+}
+
+/// Puts the lines of a box, which stands so many levels below the top, and of the boxes below it: as far as `levels` go.
+pub(crate) fn put_tree<W: Sink>(
+    this: &BoxRef<'_>,
+    levels: u8,
+    level: u8,
+    out: &mut Block,
+    w: &mut W,
+) -> Result<(), Failed>
+    requires { levels + level ≤ 7 }
+    ensures ok { OnOk result (Passes (W.contents w.old) (W.contents w.new) out.old out.new
+        (tree_lines levels level (view this.now))) }
+    ensures err { OnErr result (AppendsFront (W.contents w.old) (W.contents w.new)
+        (out.old ++ tree_lines levels level (view this.now))) }
+    ensures failed { OnErr result (W.has_failed w.new ≡ true) }
+{
+    match out.put(w, line_at_level(this, level).bytes()) {
+        Ok(()) => {}
+        Err(Failed) => return Err(Failed),
+    }
+    if levels == 0 {
+        return Ok(());
+    }
+    if !holds_boxes(this.header.kind) {
+        return Ok(());
+    }
+    for child in Walk::of(this) {
+        match put_tree(&child, levels - 1, level + 1, out, w) {
+            Ok(()) => {}
+            Err(Failed) => return Err(Failed),
+        }
+    }
+    Ok(())
+}
+
 fn push_size(line: &mut Line, size: Size)
-    requires { length line.old + 20 ≤ 96 }
+    requires { length line.old + 20 ≤ 112 }
     ensures text { line.new ≡ line.old ++ size_text size }
     ensures len { length line.new ≤ length line.old + 20 }
 {
@@ -35,7 +95,7 @@ fn push_size(line: &mut Line, size: Size)
 
 /// A user type stands behind a space.
 fn push_user(line: &mut Line, user: Option<[u8; 16]>)
-    requires { length line.old + 33 ≤ 96 }
+    requires { length line.old + 33 ≤ 112 }
     ensures text { line.new ≡ line.old ++ user_text user }
     ensures len { length line.new ≤ length line.old + 33 }
 {

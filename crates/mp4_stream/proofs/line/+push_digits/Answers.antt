@@ -7,7 +7,7 @@ use Rattle.mp4_stream.proofs.line.+push_digits.Goals as goal
 pub push-requires : goal.push-requires
 push-requires t c =
     let one = length-decimal_digit c.args.number (omega arith) in
-    let room : array_vec_len c.args.text.now < 96 = omega arith in
+    let room : array_vec_len c.args.text.now < 112 = omega arith in
     (lit< tt, room)
 
 pub returns-then-number-lt10-clause-items : goal.returns-then-number-lt10-clause-items
@@ -24,7 +24,7 @@ push_digits-requires t c =
 pub push-requires-2 : goal.push-requires-2
 push-requires-2 t c =
     let more = length-decimal_step c.args.number (omega arith) (search rules) in
-    let room : array_vec_len c.push_digits.new.text < 96 = omega arith in
+    let room : array_vec_len c.push_digits.new.text < 112 = omega arith in
     (lit< tt, room)
 
 pub returns-clause-items : goal.returns-clause-items

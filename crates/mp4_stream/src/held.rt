@@ -1,0 +1,128 @@
+//! A box that is held while it comes.
+
+ghost use Rattle.std.specs.Prelude.{◌≡◌, ◌+◌, ◌-◌, ◌^◌, ◌<◌, ◌≤◌, ◌↔◌, ◌++◌, length, take, min, true, false, Some, Ok, IfOk, IfErr, OnErr, OnOk, IsErrOf, IsTrue};
+ghost use Rattle.mp4_box.specs.Headers.{IsWhole};
+ghost use Rattle.mp4_box.specs.Streams.{AppendsFront};
+ghost use Rattle.mp4_box.specs.Trees.{tree_faults, verdict};
+ghost use Rattle.mp4_ledger.specs.Memory.{claimed, given_back};
+ghost use Rattle.mp4_stream.specs.Blocks.{Passes};
+ghost use Rattle.mp4_stream.specs.Holding.{held_lines, most_held};
+
+use crate::block::Block;
+use crate::listing::put_tree;
+use mp4_box::{Failed, Fault, FourCc, Sink, check_tree, whole_box};
+use mp4_ledger::{Buf, Ledger, Refused};
+use std::marker::Model;
+
+/// A moov or moof in claimed memory. It must be given back.
+pub(crate) struct Held {
+    at: u64,
+    buf: Buf,
+}
+
+// A contract sees the box that is to come, and what came of it.
+impl Model for Held {
+    ghost use Rattle.std.specs.Prelude.{◌≡◌, ◌+◌, ◌^◌, ◌≤◌, length};
+    ghost use Rattle.mp4_stream.specs.Holding.{Holding};
+
+    ghost Value = { Holding };
+
+    ghost view = { λ h. record { at = h.at; size = h.buf.cap; bytes = h.buf.bytes } };
+
+    ghost invariant = { λ h. (h.at + h.buf.cap ≤ 2 ^ 62) × (length h.buf.bytes ≤ h.buf.cap) };
+}
+
+/// The most bytes that a box of this type may have to be held; none for a type that isn't.
+#[tactic(auto, unfolding(crate::specs::Holding::most_held))]
+pub(crate) fn held_limit(kind: FourCc) -> Option<u64>
+    ensures { result ≡ most_held kind.0 }
+{
+    let kind = kind.0.as_slice();
+    if kind == b"moov".as_slice() {
+        return Some(16_777_216);
+    }
+    if kind == b"moof".as_slice() {
+        return Some(67_108_864);
+    }
+    None
+}
+
+impl Held {
+    /// Claims room for a box of `size` bytes at `at`, of which the header came.
+    ///
+    /// # Errors
+    ///
+    /// As the ledger refuses the claim: nothing is claimed then.
+    pub(crate) fn claim(
+        ledger: &mut Ledger,
+        at: u64,
+        size: u64,
+        header: &[u8],
+    ) -> Result<Held, Refused>
+        requires room { length header.now ≤ size }
+        requires end { at + size ≤ 2 ^ 62 }
+        ensures held { IfOk result (λ h. h ≡ record { at = at; size = size; bytes = header.now }) }
+        ensures ok { OnOk result (ledger.new ≡ claimed ledger.old size) }
+        ensures over_limit { IsErrOf result Refused.OverLimit ↔
+            (ledger.old.limit < ledger.old.live + size) }
+        ensures err { OnErr result (ledger.new ≡ ledger.old) }
+        ensures within { ledger.new.live ≤ ledger.new.limit }
+    {
+        match ledger.buf(size) {
+            Ok(buf) => {
+                let mut buf = buf;
+                buf.push_slice(header);
+                Ok(Held { at, buf })
+            }
+            Err(refused) => Err(refused),
+        }
+    }
+
+    /// Takes what belongs to the box from the front of a piece: how many bytes.
+    pub(crate) fn take(&mut self, piece: &[u8]) -> usize
+        ensures taken { result ≡ min (self.old.size - length self.old.bytes) (length piece.now) }
+        ensures held { self.new ≡ record self.old
+            { bytes = self.old.bytes ++ take result piece.now } }
+    {
+        let left = self.buf.cap() - self.buf.len();
+        let taken = left.min(piece.len());
+        self.buf.push_slice(&piece[..taken]);
+        taken
+    }
+
+    /// Whether all of the box came.
+    pub(crate) fn is_whole(&self) -> bool
+        ensures { IsTrue result ↔ (length self.now.bytes ≡ self.now.size) }
+    {
+        self.buf.len() == self.buf.cap()
+    }
+
+    /// What is at fault in the tree of the box, all of which came.
+    pub(crate) fn check(&self) -> Result<(), Fault>
+        requires { IsWhole self.now.bytes }
+        ensures { result ≡ verdict (tree_faults self.now.at self.now.bytes) }
+    {
+        check_tree(self.buf.bytes(), self.at)
+    }
+
+    /// Puts the lines of the box, all of which came, and of those below it.
+    pub(crate) fn list<W: Sink>(&self, out: &mut Block, w: &mut W) -> Result<(), Failed>
+        requires { IsWhole self.now.bytes }
+        ensures ok { OnOk result (Passes (W.contents w.old) (W.contents w.new) out.old out.new
+            (held_lines self.now.at self.now.bytes)) }
+        ensures err { OnErr result (AppendsFront (W.contents w.old) (W.contents w.new)
+            (out.old ++ held_lines self.now.at self.now.bytes)) }
+        ensures failed { OnErr result (W.has_failed w.new ≡ true) }
+    {
+        put_tree(&whole_box(self.buf.bytes(), self.at), 7, 0, out, w)
+    }
+
+    /// Gives its room back.
+    pub(crate) fn back(self, ledger: &mut Ledger)
+        requires { self.size ≤ ledger.old.live }
+        ensures { ledger.new ≡ given_back ledger.old self.size }
+    {
+        let Held { at: _, buf } = self;
+        ledger.back(buf);
+    }
+}
