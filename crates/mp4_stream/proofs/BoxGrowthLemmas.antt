@@ -13,13 +13,13 @@ use Rattle.mp4_box.specs.declared.refusal.Rule.TheVariants.{BadSize}
 use Rattle.mp4_box.specs.Headers.{need, header_at}
 use Rattle.mp4_box.proofs.HeaderLemmas.{header_at-append, whole_is, bad_is, need-least}
 use Rattle.mp4_stream.specs.Listing.{box_line}
-use Rattle.mp4_stream.specs.Readings.{Reading, Ending, Sound, Refused, CutOff, Front, Last, Whole, after, after_text, IsFront}
+use Rattle.mp4_stream.specs.Readings.{Reading, Ending, Sound, Refused, CutOff, Front, Last, Whole, Told, both, says, after, after_told, TellsMore}
 use Rattle.mp4_stream.specs.Boxes.{longest, refused, sized_body, open_body, body, least_end, box, front_by, front}
 use Rattle.mp4_stream.proofs.BoxLemmas.{nat_lt_true, nat_lt_false, front-some, front-none, kind_of-append}
-use Rattle.mp4_stream.proofs.GrowthLemmas.{text_of, LastGrows, FrontGrows, IsFront-nil, IsFront-behind}
+use Rattle.mp4_stream.proofs.GrowthLemmas.{told_of, LastGrows, FrontGrows, TellsMore-silent, TellsMore-behind}
 
 sized-grows : (at : ℕ) (kind : FourCc) (next left : ℕ) (b x : List ℕ) (t : Bool) → nat_lt (length b) left ≡ t → FrontGrows x (sized_body at kind next left b) (sized_body at kind next left (b ++ x))
-sized-grows at kind next left b x true e = rw e (IsFront-nil _)
+sized-grows at kind next left b x true e = rw e (TellsMore-silent _)
 sized-grows at kind next left b x false e =
     let enough : left ≤ length b = ltb-false _ _ e in
     rw (e, nat_lt_false (length (b ++ x)) left (omega (arith, length-append b x)), drop-append-le left b x enough) refl
@@ -28,32 +28,32 @@ open-grows : (at : ℕ) (kind : FourCc) (left : ℕ) (b x : List ℕ) (t : Bool)
 open-grows at kind left b x true e =
     let far : left < length b = ltb-true _ _ e in
     rw (e, nat_lt_true left (length (b ++ x)) (omega (arith, length-append b x))) refl
-open-grows at kind left b x false e = rw e (IsFront-nil _)
+open-grows at kind left b x false e = rw e (TellsMore-silent _)
 
 body-grows : (at : ℕ) (h : Header) (size : Size) (b x : List ℕ) → FrontGrows x (body at h size b) (body at h size (b ++ x))
 body-grows at h (Exact s) b x = sized-grows at h.kind (at + s) (s - h.header_len) b x (nat_lt (length b) (s - h.header_len)) refl
 body-grows at h ToEnd b x = open-grows at h.kind (longest - (at + h.header_len)) b x (nat_lt (longest - (at + h.header_len)) (length b)) refl
 
--- a line before the front
-text-grows : (line : List ℕ) (x : List ℕ) (f g : Front ℕ) → FrontGrows x f g → FrontGrows x (after_text line f) (after_text line g)
-text-grows line x (Whole text next rest) g h = ap (after_text line) h
-text-grows line x (Last r) g h = last r r.ending refl h
+-- something is told before the front
+told-grows : (t : Told) (x : List ℕ) (f g : Front ℕ) → FrontGrows x f g → FrontGrows x (after_told t f) (after_told t g)
+told-grows t x (Whole told next rest) g h = ap (after_told t) h
+told-grows t x (Last r) g h = last r r.ending refl h
   where
-    behind : (r : Reading) (g : Front ℕ) → IsFront r.text (text_of g) → IsFront (line ++ r.text) (text_of (after_text line g))
-    behind r (Last s) h = IsFront-behind line r.text s.text h
-    behind r (Whole text next rest) h = IsFront-behind line r.text text h
+    behind : (r : Reading) (g : Front ℕ) → TellsMore r.told (told_of g) → TellsMore (both t r.told) (told_of (after_told t g))
+    behind r (Last s) h = TellsMore-behind t r.told s.told h
+    behind r (Whole told next rest) h = TellsMore-behind t r.told told h
 
-    last : (r : Reading) (e : Ending) → r.ending ≡ e → LastGrows r e g → LastGrows (after line r) e (after_text line g)
-    last r (Refused f) e h = ap (after_text line) h
+    last : (r : Reading) (e : Ending) → r.ending ≡ e → LastGrows r e g → LastGrows (after t r) e (after_told t g)
+    last r (Refused f) e h = ap (after_told t) h
     last r Sound e h = behind r g h
     last r (CutOff f) e h = behind r g h
 
 box-grows : (at : ℕ) (h : Header) (b x : List ℕ) (t : Bool) → nat_lt longest (least_end at h h.size) ≡ t → FrontGrows x (box at h b) (box at h (b ++ x))
 box-grows at h b x true e = rw e refl
-box-grows at h b x false e = rw e (text-grows (box_line at h) x (body at h h.size b) (body at h h.size (b ++ x)) (body-grows at h h.size b x))
+box-grows at h b x false e = rw e (told-grows (says (box_line at h)) x (body at h h.size b) (body at h h.size (b ++ x)) (body-grows at h h.size b x))
 
 front_by-grows : (at : ℕ) (b x : List ℕ) (s : Step) → header_at b ≡ s → FrontGrows x (front_by at b s) (front at (b ++ x))
-front_by-grows at b x steps.More e = IsFront-nil _
+front_by-grows at b x steps.More e = TellsMore-silent _
 front_by-grows at b x steps.BadSize e =
     let whole : need b ≤ length b = bad_is b e in
     let some : 0 < length (b ++ x) = omega (arith, length-append b x, need-least b) in
@@ -66,5 +66,5 @@ front_by-grows at b x (steps.Whole h) e =
     subst (FrontGrows x (box at h (drop h.header_len b))) (sym same) (box-grows at h (drop h.header_len b) x (nat_lt longest (least_end at h h.size)) refl)
 
 pub front-grows : (at : ℕ) (b x : List ℕ) → FrontGrows x (front at b) (front at (b ++ x))
-front-grows at [] x = subst (λ v. FrontGrows x v (front at x)) (sym (front-none at)) (IsFront-nil _)
+front-grows at [] x = subst (λ v. FrontGrows x v (front at x)) (sym (front-none at)) (TellsMore-silent _)
 front-grows at (a ∷ b) x = subst (λ v. FrontGrows x v (front at ((a ∷ b) ++ x))) (sym (front-some at (a ∷ b) (omega arith))) (front_by-grows at (a ∷ b) x (header_at (a ∷ b)) refl)

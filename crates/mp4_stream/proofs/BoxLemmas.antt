@@ -14,10 +14,10 @@ use Rattle.mp4_box.specs.declared.refusal.Rule.TheVariants.{Truncated, BadSize, 
 use Rattle.mp4_box.specs.Headers.{need, header_at, kind_of, kind_field}
 use Rattle.mp4_box.proofs.HeaderLemmas.{header_at-append, whole_is, need-least, is_cut}
 use Rattle.mp4_stream.specs.Listing.{box_line}
-use Rattle.mp4_stream.specs.Readings.{nothing, Last, Whole, after, after_text, then_read, fault_in}
+use Rattle.mp4_stream.specs.Readings.{nothing, Last, Whole, after, after_told, silent, says, then_read, fault_in}
 use Rattle.mp4_stream.specs.Boxes.{longest, fault, refused, cut_off, sized_body, open_body, body, least_end, box, front_by, front, reading}
 use Rattle.mp4_stream.specs.Places.{Place, InHeader, InBody, InOpenBody, reading_from, IsPlace}
-use Rattle.mp4_stream.proofs.ReadingLemmas.{Below, Below-more, Below-text, IsItemwise, read_all-front, then_read-text}
+use Rattle.mp4_stream.proofs.ReadingLemmas.{Below, Below-more, Below-told, IsItemwise, read_all-front, then_read-told}
 
 pub nat_lt_true : (m n : ℕ) → m < n → nat_lt m n ≡ true
 nat_lt_true m n h = grind (arith, nat_tests)
@@ -32,7 +32,7 @@ some_bytes (x ∷ xs) f = omega arith
 -- ---- the boxes are items
 
 sized-below : (at : ℕ) (kind : FourCc) (next left : ℕ) (bytes : List ℕ) → Below (sized_body at kind next left bytes) (length bytes)
-sized-below at kind next left bytes = elim (nat_lt (length bytes) left) as (λ v. Below (if v then Last (cut_off Truncated (Some kind) at) else Whole [] next (drop left bytes)) (length bytes)) [
+sized-below at kind next left bytes = elim (nat_lt (length bytes) left) as (λ v. Below (if v then Last (cut_off Truncated (Some kind) at) else Whole silent next (drop left bytes)) (length bytes)) [
   | true ↦ tt
   | false ↦ omega (arith, length-drop left bytes)
 ]
@@ -48,9 +48,9 @@ body-below at h (Exact s) bytes = sized-below at h.kind (at + s) (s - h.header_l
 body-below at h ToEnd bytes = open-below at h.kind (longest - (at + h.header_len)) bytes (length bytes)
 
 box-below : (at : ℕ) (h : Header) (bytes : List ℕ) → Below (box at h bytes) (length bytes)
-box-below at h bytes = elim (nat_lt longest (least_end at h h.size)) as (λ v. Below (if v then Last (refused StreamTooLong (Some h.kind) at) else after_text (box_line at h) (body at h h.size bytes)) (length bytes)) [
+box-below at h bytes = elim (nat_lt longest (least_end at h h.size)) as (λ v. Below (if v then Last (refused StreamTooLong (Some h.kind) at) else after_told (says (box_line at h)) (body at h h.size bytes)) (length bytes)) [
   | true ↦ tt
-  | false ↦ Below-text (box_line at h) (body at h h.size bytes) (length bytes) (body-below at h h.size bytes)
+  | false ↦ Below-told (says (box_line at h)) (body at h h.size bytes) (length bytes) (body-below at h h.size bytes)
 ]
 
 front_by-below : (at b : ℕ) (bytes : List ℕ) (s : Step) → header_at (b ∷ bytes) ≡ s → Below (front_by at (b ∷ bytes) s) (length bytes)
@@ -120,8 +120,8 @@ pub reading-too_long : (at : ℕ) (h : Header) (later : List ℕ) → longest < 
 reading-too_long at h later far = rw (nat_lt_true longest (least_end at h h.size) far) refl
 
 pub reading-begun : (at : ℕ) (h : Header) (later : List ℕ) → least_end at h h.size ≤ longest
-    → then_read reading (box at h later) ≡ after (box_line at h) (then_read reading (body at h h.size later))
-reading-begun at h later near = rw (nat_lt_false longest (least_end at h h.size) near) (then_read-text reading (box_line at h) (body at h h.size later))
+    → then_read reading (box at h later) ≡ after (says (box_line at h)) (then_read reading (body at h h.size later))
+reading-begun at h later near = rw (nat_lt_false longest (least_end at h h.size) near) (then_read-told reading (says (box_line at h)) (body at h h.size later))
 
 -- ---- the end of the stream
 
@@ -132,11 +132,11 @@ pub ending-none : (at : ℕ) (held : List ℕ) → held ≡ [] → fault_in (rea
 ending-none at held e = ap (λ l. fault_in (reading_from (InHeader at l) []).ending) e ∙ ap (λ r. fault_in r.ending) (reading-none at)
 
 -- no place has text that waits
-text-held : (at : ℕ) (held : List ℕ) → length held < need held → (reading at held).text ≡ []
-text-held at [] short = ap (λ r. r.text) (reading-none at)
-text-held at (b ∷ held) short = ap (λ r. r.text) (reading-more at (b ∷ held) (omega arith) short)
+text-held : (at : ℕ) (held : List ℕ) → length held < need held → (reading at held).told.text ≡ []
+text-held at [] short = ap (λ r. r.told.text) (reading-none at)
+text-held at (b ∷ held) short = ap (λ r. r.told.text) (reading-more at (b ∷ held) (omega arith) short)
 
-pub text-none : (p : Place) → IsPlace p → (reading_from p []).text ≡ []
-text-none (InHeader at held) h = ap (λ l. (reading at l).text) (append-nil held) ∙ text-held at held h.0
+pub text-none : (p : Place) → IsPlace p → (reading_from p []).told.text ≡ []
+text-none (InHeader at held) h = ap (λ l. (reading at l).told.text) (append-nil held) ∙ text-held at held h.0
 text-none (InBody at kind next left) h = rw (nat_lt_true 0 left h.0) refl
 text-none (InOpenBody at kind left) h = rw (nat_lt_false left 0 (omega arith)) refl

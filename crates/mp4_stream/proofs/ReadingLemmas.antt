@@ -1,6 +1,6 @@
 -- How a reading goes on behind its front, whatever the items are.
-use Rattle.std.proofs.Common.{◌≡◌, ℕ, zero, suc, ◌≤◌, List, [], ◌∷◌, length, ap, sym, refl, arith, append_assoc}
-use Rattle.mp4_stream.specs.Readings.{Reading, nothing, Front, Last, Whole, after, after_text, then_read, read_at_most, read_all}
+use Rattle.std.proofs.Common.{◌≡◌, ℕ, zero, suc, ◌≤◌, List, [], ◌∷◌, ◌++◌, length, max, ap, sym, ◌∙◌, refl, arith, append_assoc}
+use Rattle.mp4_stream.specs.Readings.{Reading, Told, silent, both, nothing, Front, Last, Whole, after, after_told, then_read, read_at_most, read_all}
 
 -- what follows a whole item is at most so long
 abbrev pub Below : {C : Type 0} → Front C → ℕ → Type 0
@@ -16,18 +16,41 @@ pub Below-more : {C : Type 0} (f : Front C) (m n : ℕ) → m ≤ n → Below f 
 Below-more (Last r) m n p h = tt
 Below-more (Whole text next rest) m n p h = omega arith
 
-pub Below-text : {C : Type 0} (text : List ℕ) (f : Front C) (n : ℕ) → Below f n → Below (after_text text f) n
-Below-text text (Last r) n h = tt
-Below-text text (Whole more next rest) n h = h
+pub Below-told : {C : Type 0} (told : Told) (f : Front C) (n : ℕ) → Below f n → Below (after_told told f) n
+Below-told told (Last r) n h = tt
+Below-told told (Whole more next rest) n h = h
+
+-- ---- what is told
+
+pub max_first : (a b : ℕ) → a ≤ max a b
+max_first a b = omega arith
+
+pub max_more : (a b c : ℕ) → b ≤ c → max a b ≤ max a c
+max_more a b c h = omega arith
+
+max_assoc : (a b c : ℕ) → max (max a b) c ≡ max a (max b c)
+max_assoc a b c = omega arith
+
+pub after-silent : (r : Reading) → after silent r ≡ r
+after-silent r = ap (λ n. record { told = record { text = r.told.text; most = n }; ending = r.ending }) (max_none r.told.most)
+  where
+    max_none : (n : ℕ) → max 0 n ≡ n
+    max_none n = omega arith
+
+both-assoc : (s t u : Told) → both (both s t) u ≡ both s (both t u)
+both-assoc s t u = ap (λ l. record { text = l; most = max (max s.most t.most) u.most }) (append_assoc s.text t.text u.text) ∙ ap (λ n. record { text = s.text ++ (t.text ++ u.text); most = n }) (max_assoc s.most t.most u.most)
+
+pub after-both : (s t : Told) (r : Reading) → after s (after t r) ≡ after (both s t) r
+after-both s t r = ap (λ u. record { told = u; ending = r.ending }) (sym (both-assoc s t r.told))
 
 then_read-same : {C : Type 0} (r s : C → List ℕ → Reading) (k : ℕ) (same : (next : C) (rest : List ℕ) → length rest ≤ k → r next rest ≡ s next rest)
     (f : Front C) → Below f k → then_read r f ≡ then_read s f
 then_read-same r s k same (Last x) b = refl
 then_read-same r s k same (Whole text next rest) b = ap (after text) (same next rest b)
 
-pub then_read-text : {C : Type 0} (r : C → List ℕ → Reading) (text : List ℕ) (f : Front C) → then_read r (after_text text f) ≡ after text (then_read r f)
-then_read-text r text (Last x) = refl
-then_read-text r text (Whole more next rest) = ap (λ t. record { text = t; ending = (r next rest).ending }) (append_assoc text more (r next rest).text)
+pub then_read-told : {C : Type 0} (r : C → List ℕ → Reading) (told : Told) (f : Front C) → then_read r (after_told told f) ≡ after told (then_read r f)
+then_read-told r told (Last x) = refl
+then_read-told r told (Whole more next rest) = sym (after-both told more (r next rest))
 
 module _ {C : Type 0} (front : C → List ℕ → Front C) (items : IsItemwise front) where
   -- a reading needs no more turns than it has bytes

@@ -12,7 +12,7 @@ use Rattle.mp4_stream.proofs.BlockLemmas.{Appends-passed}
 use Rattle.mp4_stream.proofs.BoxLemmas.{text-none}
 
 -- a run that goes on
-pub run-reading : {a b : Option (List ℕ)} {bs : List ℕ} (p : Place) (g : GoesOn a b [] [] (reading_from (InHeader 0 [])) bs (reading_from p)) → reading 0 bs ≡ after g.text (reading_from p [])
+pub run-reading : {a b : Option (List ℕ)} {bs : List ℕ} (p : Place) (g : GoesOn a b [] [] (reading_from (InHeader 0 [])) bs (reading_from p)) → reading 0 bs ≡ after g.brought (reading_from p [])
 run-reading {bs = bs} p g = ap (reading 0) (sym (append-nil bs)) ∙ g.rest []
 
 pub run-fault : {a b : Option (List ℕ)} {bs : List ℕ} (p : Place) → GoesOn a b [] [] (reading_from (InHeader 0 [])) bs (reading_from p) → first_fault bs ≡ fault_in (reading_from p []).ending
@@ -20,14 +20,14 @@ run-fault p g = ap (λ r. fault_in r.ending) (run-reading p g)
 
 pub run-text : {a b : Option (List ℕ)} {bs : List ℕ} (p : Place) → GoesOn a b [] [] (reading_from (InHeader 0 [])) bs (reading_from p) → IsPlace p → Appends a b (listing bs)
 run-text {a = a} {b = b} p g h =
-    subst (Appends a b) (sym (ap (λ r. r.text) (run-reading p g) ∙ ap (λ l. g.text ++ l) (text-none p h) ∙ append-nil g.text)) (Appends-passed g.passes refl refl)
+    subst (Appends a b) (sym (ap (λ r. r.told.text) (run-reading p g) ∙ ap (λ l. g.brought.text ++ l) (text-none p h) ∙ append-nil g.brought.text)) (Appends-passed g.passes refl refl)
 
 -- a run that stops
 pub run-stops : (a b : Option (List ℕ)) (bs : List ℕ) (ended : Bool) (e : Stop) → StopsAt a b [] [] (reading_from (InHeader 0 [])) bs e → ListsUntil a b bs ended e
 run-stops a b bs ended (Stream f) g =
     let is = ap (reading 0) (sym (append-nil bs)) ∙ g.rest [] in (
       ap (λ r. fault_in r.ending) is,
-      subst (Appends a b) (sym (ap (λ r. r.text) is)) (Appends-passed g.passes refl refl),
+      subst (Appends a b) (sym (ap (λ r. r.told.text) is)) (Appends-passed g.passes refl refl),
       λ none. let some : early_fault bs ≡ Some f = ap (λ r. early_in r.ending) is in absurd cc,
     )
 run-stops a b bs ended (Read at) g = absurd g

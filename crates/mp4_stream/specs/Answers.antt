@@ -5,7 +5,7 @@ use Rattle.mp4_box.specs.Streams.{AppendsFront}
 use Rattle.mp4_stream.specs.Blocks.{Passes}
 use Rattle.mp4_box.specs.declared.refusal.Fault.{Fault}
 use Rattle.mp4_stream.specs.Boxes.{listing, first_fault, early_fault}
-use Rattle.mp4_stream.specs.Readings.{Reading, Refused, after}
+use Rattle.mp4_stream.specs.Readings.{Reading, Told, Refused, after}
 use Rattle.mp4_stream.specs.declared.top.Stop.{Stop}
 use Rattle.mp4_stream.specs.declared.top.Stop.TheVariants.{Stream, Read, Write}
 
@@ -15,23 +15,23 @@ use Rattle.mp4_stream.specs.declared.top.Stop.TheVariants.{Stream, Read, Write}
 abbrev pub Brings : Type 0
 Brings = List ℕ → Reading
 
--- a piece brought some text, and the bytes behind it bring the rest
+-- a piece brought something, and the bytes behind it bring the rest
 pub record GoesOn (told told' : Option (List ℕ)) (waiting waiting' : List ℕ) (old : Brings) (piece : List ℕ) (new : Brings) : Type 0 where
-  pub text : List ℕ
-  pub passes : Passes told told' waiting waiting' text
-  pub rest : (later : List ℕ) → old (piece ++ later) ≡ after text (new later)
+  pub brought : Told
+  pub passes : Passes told told' waiting waiting' brought.text
+  pub rest : (later : List ℕ) → old (piece ++ later) ≡ after brought (new later)
 
--- a piece brought some text and then a fault, whatever comes behind it
+-- a piece brought something and then a fault, whatever comes behind it
 pub record Refuses (told told' : Option (List ℕ)) (waiting waiting' : List ℕ) (old : Brings) (piece : List ℕ) (f : Fault) : Type 0 where
-  pub text : List ℕ
-  pub passes : Passes told told' waiting waiting' text
-  pub rest : (later : List ℕ) → old (piece ++ later) ≡ record { text = text; ending = Refused f }
+  pub brought : Told
+  pub passes : Passes told told' waiting waiting' brought.text
+  pub rest : (later : List ℕ) → old (piece ++ later) ≡ record { told = brought; ending = Refused f }
 
 -- a reader that stops at a piece has met a fault, or a write has failed
 abbrev pub StopsAt : Option (List ℕ) → Option (List ℕ) → List ℕ → List ℕ → Brings → List ℕ → Stop → Type 0
 StopsAt told told' waiting waiting' old piece (Stream f) = Refuses told told' waiting waiting' old piece f
 StopsAt told told' waiting waiting' old piece (Read at) = ⊥
-StopsAt told told' waiting waiting' old piece Write = (later : List ℕ) → AppendsFront told told' (waiting ++ (old (piece ++ later)).text)
+StopsAt told told' waiting waiting' old piece Write = (later : List ℕ) → AppendsFront told told' (waiting ++ (old (piece ++ later)).told.text)
 
 -- ---- a run
 

@@ -11,7 +11,7 @@ use Rattle.mp4_box.specs.declared.refusal.Rule.{Rule}
 use Rattle.mp4_box.specs.declared.refusal.Rule.TheVariants.{Truncated, BadSize, StreamTooLong}
 use Rattle.mp4_box.specs.Headers.{header_at, kind_of}
 use Rattle.mp4_stream.specs.Listing.{box_line}
-use Rattle.mp4_stream.specs.Readings.{Refused, CutOff, Reading, nothing, Front, Last, Whole, after_text, read_all, fault_in, early_in}
+use Rattle.mp4_stream.specs.Readings.{Refused, CutOff, Reading, nothing, Front, Last, Whole, after_told, silent, says, read_all, fault_in, early_in}
 
 -- no stream is followed further than this
 abbrev pub longest : ℕ
@@ -21,16 +21,16 @@ abbrev pub fault : Rule → Option FourCc → ℕ → Fault
 fault rule kind at = record { rule = rule; kind = kind; offset = at }
 
 abbrev pub refused : Rule → Option FourCc → ℕ → Reading
-refused rule kind at = record { text = []; ending = Refused (fault rule kind at) }
+refused rule kind at = record { told = silent; ending = Refused (fault rule kind at) }
 
 abbrev pub cut_off : Rule → Option FourCc → ℕ → Reading
-cut_off rule kind at = record { text = []; ending = CutOff (fault rule kind at) }
+cut_off rule kind at = record { told = silent; ending = CutOff (fault rule kind at) }
 
 -- a box at `at` that ends at `next`, of which `left` bytes are to come
 abbrev pub sized_body : ℕ → FourCc → ℕ → ℕ → List ℕ → Front ℕ
 sized_body at kind next left bytes =
     if nat_lt (length bytes) left then Last (cut_off Truncated (Some kind) at)
-    else Whole [] next (drop left bytes)
+    else Whole silent next (drop left bytes)
 
 -- a box at `at` that goes to the end of the stream, of which at most `left` bytes may come
 abbrev pub open_body : ℕ → FourCc → ℕ → List ℕ → Front ℕ
@@ -52,7 +52,7 @@ least_end at h ToEnd = at + h.header_len
 abbrev pub box : ℕ → Header → List ℕ → Front ℕ
 box at h bytes =
     if nat_lt longest (least_end at h h.size) then Last (refused StreamTooLong (Some h.kind) at)
-    else after_text (box_line at h) (body at h h.size bytes)
+    else after_told (says (box_line at h)) (body at h h.size bytes)
 
 -- some bytes at `at`, by what they come to as a header
 abbrev pub front_by : ℕ → List ℕ → Step → Front ℕ
@@ -71,7 +71,7 @@ reading at bytes = read_all front at bytes
 
 -- the lines of a stream's boxes, up to its first fault
 abbrev pub listing : List ℕ → List ℕ
-listing b = (reading 0 b).text
+listing b = (reading 0 b).told.text
 
 -- the first fault of a stream
 abbrev pub first_fault : List ℕ → Option Fault

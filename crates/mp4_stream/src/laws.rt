@@ -10,12 +10,12 @@ ghost use Rattle.mp4_box.specs.declared.refusal.Rule.TheVariants.{BadSize, Strea
 ghost use Rattle.mp4_stream.specs.Boxes.{cut_off, least_end, longest, reading, refused};
 ghost use Rattle.mp4_stream.specs.Joined.{AreBoxes, lines_from};
 ghost use Rattle.mp4_stream.specs.Listing.{box_line};
-ghost use Rattle.mp4_stream.specs.Readings.{GrowsTo, after, nothing};
+ghost use Rattle.mp4_stream.specs.Readings.{GrowsTo, after, nothing, says};
 
 /// Whole boxes are listed, one line each, and the bytes behind them are read as if they came first.
 pub fn whole_boxes()
     ensures { (hs : List Header) (at : ℕ) (b later : List ℕ) → AreBoxes hs b → at + length b ≤
-        longest → reading at (b ++ later) ≡ after (lines_from at hs)
+        longest → reading at (b ++ later) ≡ after (says (lines_from at hs))
         (reading (at + length b) later) }
 {}
 
@@ -33,13 +33,13 @@ pub fn rest_with_header()
     ensures too_long { (at : ℕ) (h : Header) (x y : List ℕ) → Head h x → longest < least_end at h
         h.size → reading at (x ++ y) ≡ refused StreamTooLong (Some h.kind) at }
     ensures cut { (at s : ℕ) (h : Header) (x y : List ℕ) → Head h x → h.size ≡ Exact s → at + s ≤
-        longest → length (x ++ y) < s → reading at (x ++ y) ≡ after (box_line at h)
+        longest → length (x ++ y) < s → reading at (x ++ y) ≡ after (says (box_line at h))
         (cut_off Truncated (Some h.kind) at) }
     ensures to_end { (at : ℕ) (h : Header) (x y : List ℕ) → Head h x → h.size ≡ ToEnd → at + length
-        (x ++ y) ≤ longest → reading at (x ++ y) ≡ after (box_line at h) nothing }
+        (x ++ y) ≤ longest → reading at (x ++ y) ≡ after (says (box_line at h)) nothing }
     ensures to_end_too_long { (at : ℕ) (h : Header) (x y : List ℕ) → Head h x → h.size ≡ ToEnd → at
         + length x ≤ longest → longest < at + length (x ++ y) → reading at (x ++ y) ≡ after
-        (box_line at h) (refused StreamTooLong (Some h.kind) at) }
+        (says (box_line at h)) (refused StreamTooLong (Some h.kind) at) }
 {}
 
 /// What more bytes write begins with what fewer write, and a fault that these decide is that of every stream
