@@ -14,7 +14,7 @@ use Rattle.fmp4.specs.declared.program.asked.Invocation.TheVariants.{Boxes}
 
 -- the request for boxes that a number in its range makes
 abbrev asked_of : Option ℕ → Option Invocation
-asked_of number = option_map Boxes (option_map (λ copy. record { copy = copy }) number)
+asked_of number = option_map Boxes (option_map (λ copy. record { copy = copy; max_held = 536870912 }) number)
 
 -- a value that begins with a digit is no option, so it is the value of `--copy`
 command_of-digit : (program : Text) (digit : ℕ) (rest : Text) → digit < 10
@@ -62,7 +62,7 @@ value_of-decimal number fits =
     rw (without_leading_plus-decimal number fits) ((reads.0, rw reads.1 fits), sym reads.1)
 
 pub command_of-inside : (program : Text) (copy : ℕ) → 4096 ≤ copy → copy ≤ 1048576
-    → command_of (program ∷ codes "boxes" ∷ codes "--copy" ∷ decimal copy ∷ []) ≡ Some (Boxes (record { copy = copy }))
+    → command_of (program ∷ codes "boxes" ∷ codes "--copy" ∷ decimal copy ∷ []) ≡ Some (Boxes (record { copy = copy; max_held = 536870912 }))
 command_of-inside program copy low high =
     let fits : copy < 2 ^ 64 = omega arith in
     let reads = value_of-decimal copy fits in

@@ -6,7 +6,7 @@ use Rattle.mp4_box.specs.Shown.{shown_byte}
 use Rattle.mp4_box.specs.declared.headers.FourCc.{FourCc}
 use Rattle.mp4_box.specs.declared.refusal.Fault.{Fault}
 use Rattle.mp4_stream.specs.declared.top.Stop.{Stop}
-use Rattle.mp4_stream.specs.declared.top.Stop.TheVariants.{Stream, Read, Write}
+use Rattle.mp4_stream.specs.declared.top.Stop.TheVariants.{Stream, Read, Write, OverLimit, Memory}
 
 -- a line of the program
 abbrev pub line : List ℕ → List ℕ
@@ -24,3 +24,5 @@ abbrev pub stop_text : Stop → List ℕ
 stop_text (Stream f) = fault_text f
 stop_text (Read at) = codes "read failed at " ++ decimal at
 stop_text Write = codes "write failed"
+stop_text OverLimit = codes "over the limit"
+stop_text Memory = codes "out of memory"

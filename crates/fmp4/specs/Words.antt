@@ -1,5 +1,5 @@
 -- What a command line asks for.
-use Rattle.std.specs.Prelude.{◌≤◌, ◌==◌, ℕ, List, Option, Some, None, codes, option_map, option_and_then, if◌then◌else◌, length}
+use Rattle.std.specs.Prelude.{◌≤◌, ◌==◌, ◌^◌, ℕ, List, Option, Some, None, codes, option_map, option_and_then, if◌then◌else◌, length}
 use Rattle.std.specs.Option.{option_map_or}
 use Rattle.std.specs.Str.{bytes_eq}
 use Rattle.std.specs.Str.Parse.{digits_value, without_leading_plus}
@@ -18,7 +18,7 @@ valued_rule name = record (new_rule name) { long = Some name; action = Some Set 
 
 -- a command that takes the settings' options
 abbrev pub settings_app : Text → App
-settings_app name = with_rule (new_app name) (valued_rule (codes "copy"))
+settings_app name = with_rule (with_rule (new_app name) (valued_rule (codes "copy"))) (valued_rule (codes "max-held"))
 
 -- the whole command line; only a proof that computes it unfolds it
 unfoldable pub program_app : App
@@ -37,14 +37,17 @@ number_or usual least most id rows = option_map_or (number_in least most) (first
 
 -- ---- what is asked for
 
--- each setting lies in its range; the size is in bytes
+-- each setting lies in its range; both are in bytes
 pub record IsAllowed (settings : Settings) : Type 0 where
   pub copy_low : 4096 ≤ settings.copy
   pub copy_high : settings.copy ≤ 1048576
+  pub held_low : 1 ≤ settings.max_held
+  pub held_high : settings.max_held ≤ 2 ^ 62
 
 -- the settings that the options give
 unfoldable pub settings_of : List Row → Option Settings
-settings_of rows = option_map (λ copy. record { copy = copy }) (number_or 65536 4096 1048576 (codes "copy") rows)
+settings_of rows =
+    option_and_then (λ copy. option_map (λ most. record { copy = copy; max_held = most }) (number_or 536870912 1 (2 ^ 62) (codes "max-held") rows)) (number_or 65536 4096 1048576 (codes "copy") rows)
 
 -- the command of that name, with what its options give
 unfoldable pub invocation_of : Text → List Row → Option Invocation

@@ -1,4 +1,4 @@
-//! Lists the boxes at the top of an MP4 stream (ISO/IEC 14496-12), which is read from standard input.
+//! Lists the boxes of an MP4 stream (ISO/IEC 14496-12), which is read from standard input.
 #![tactic(auto)]
 
 mod program;

@@ -50,6 +50,13 @@ impl HeaderReader {
         step_for(self.bytes.as_slice())
     }
 
+    /// The bytes that came.
+    pub fn bytes(&self) -> &[u8]
+        ensures { result.now ≡ self.now }
+    {
+        self.bytes.as_slice()
+    }
+
     /// Whether no byte has come.
     pub fn is_empty(&self) -> bool
         ensures { IsTrue result ↔ (self.now ≡ []) }

@@ -1,8 +1,8 @@
 -- What more bytes change of the box at the front.
-use Rattle.std.proofs.Common.{◌≡◌, ◌∙◌, ℕ, ◌+◌, ◌-◌, ◌<◌, ◌≤◌, List, [], ◌∷◌, ◌++◌, length, drop, Bool, true, false, ap, sym, refl, arith, length-append, subst}
+use Rattle.std.proofs.Common.{◌≡◌, ◌∙◌, ℕ, ◌+◌, ◌-◌, ◌<◌, ◌≤◌, List, [], ◌∷◌, ◌++◌, length, take, drop, Option, None, Some, append_assoc, Bool, true, false, ap, sym, refl, arith, length-append, subst}
 use Rattle.std.specs.Prelude.{nat_lt}
 use Rattle.std.proofs.lemmas.Bool.{ltb-true, ltb-false}
-use Rattle.std.proofs.lemmas.List.{drop-append-le}
+use Rattle.std.proofs.lemmas.List.{take-append-le, drop-append-le}
 use Rattle.mp4_box.specs.declared.headers.FourCc.{FourCc}
 use Rattle.mp4_box.specs.declared.headers.Header.{Header}
 use Rattle.mp4_box.specs.declared.headers.Size.{Size}
@@ -12,9 +12,12 @@ use Rattle.mp4_box.specs.declared.headers.Step.TheVariants as steps
 use Rattle.mp4_box.specs.declared.refusal.Rule.TheVariants.{BadSize}
 use Rattle.mp4_box.specs.Headers.{need, header_at}
 use Rattle.mp4_box.proofs.HeaderLemmas.{header_at-append, whole_is, bad_is, need-least}
+use Rattle.mp4_box.specs.declared.refusal.Fault.{Fault}
+use Rattle.mp4_box.specs.Trees.{tree_faults}
+use Rattle.mp4_stream.specs.Holding.{most_held}
 use Rattle.mp4_stream.specs.Listing.{box_line}
-use Rattle.mp4_stream.specs.Readings.{Reading, Ending, Sound, Refused, CutOff, Front, Last, Whole, Told, both, says, after, after_told, TellsMore}
-use Rattle.mp4_stream.specs.Boxes.{longest, refused, sized_body, open_body, body, least_end, box, front_by, front}
+use Rattle.mp4_stream.specs.Readings.{Reading, Ending, Sound, Refused, CutOff, Front, Last, Whole, Told, both, says, holds, after, after_told, TellsMore}
+use Rattle.mp4_stream.specs.Boxes.{longest, refused, sized_body, open_body, body, held_box, held_body, holding, box_by, least_end, box, front_by, front}
 use Rattle.mp4_stream.proofs.BoxLemmas.{nat_lt_true, nat_lt_false, front-some, front-none, kind_of-append}
 use Rattle.mp4_stream.proofs.GrowthLemmas.{told_of, LastGrows, FrontGrows, TellsMore-silent, TellsMore-behind}
 
@@ -48,9 +51,33 @@ told-grows t x (Last r) g h = last r r.ending refl h
     last r Sound e h = behind r g h
     last r (CutOff f) e h = behind r g h
 
-box-grows : (at : ℕ) (h : Header) (b x : List ℕ) (t : Bool) → nat_lt longest (least_end at h h.size) ≡ t → FrontGrows x (box at h b) (box at h (b ++ x))
-box-grows at h b x true e = rw e refl
-box-grows at h b x false e = rw e (told-grows (says (box_line at h)) x (body at h h.size b) (body at h h.size (b ++ x)) (body-grows at h h.size b x))
+held_box-grows : (at next : ℕ) (y rest x : List ℕ) (fs : List Fault) → FrontGrows x (held_box at next y rest fs) (held_box at next y (rest ++ x) fs)
+held_box-grows at next y rest x [] = refl
+held_box-grows at next y rest x (f ∷ fs) = refl
+
+held-grows : (at : ℕ) (kind : FourCc) (size : ℕ) (b x : List ℕ) (t : Bool) → nat_lt (length b) size ≡ t → FrontGrows x (held_body at kind size b) (held_body at kind size (b ++ x))
+held-grows at kind size b x true e = rw e (TellsMore-silent _)
+held-grows at kind size b x false e =
+    let enough : size ≤ length b = ltb-false _ _ e in
+    rw (e, nat_lt_false (length (b ++ x)) size (omega (arith, length-append b x)), take-append-le size b x enough, drop-append-le size b x enough)
+    (held_box-grows at (at + size) (take size b) (drop size b) x (tree_faults at (take size b)))
+
+holding-grows : (at : ℕ) (h : Header) (limit s : ℕ) (b x : List ℕ) (t : Bool) → nat_lt limit s ≡ t → FrontGrows x (holding at h limit b (Exact s)) (holding at h limit (b ++ x) (Exact s))
+holding-grows at h limit s b x true e = rw e refl
+holding-grows at h limit s b x false e = rw e (told-grows (holds s) x (held_body at h.kind s b) (held_body at h.kind s (b ++ x)) (held-grows at h.kind s b x (nat_lt (length b) s) refl))
+
+holding-grows_by : (at : ℕ) (h : Header) (limit : ℕ) (b x : List ℕ) (size : Size) → FrontGrows x (holding at h limit b size) (holding at h limit (b ++ x) size)
+holding-grows_by at h limit b x (Exact s) = holding-grows at h limit s b x (nat_lt limit s) refl
+holding-grows_by at h limit b x ToEnd = refl
+
+box_by-grows : (at : ℕ) (h : Header) (y b x : List ℕ) (most : Option ℕ) → FrontGrows x (box_by at h y b most) (box_by at h y (b ++ x) most)
+box_by-grows at h y b x None = told-grows (says (box_line at h)) x (body at h h.size b) (body at h h.size (b ++ x)) (body-grows at h h.size b x)
+box_by-grows at h y b x (Some limit) =
+    subst (λ l. FrontGrows x (holding at h limit (y ++ b) h.size) (holding at h limit l h.size)) (append_assoc y b x) (holding-grows_by at h limit (y ++ b) x h.size)
+
+box-grows : (at : ℕ) (h : Header) (y b x : List ℕ) (t : Bool) → nat_lt longest (least_end at h h.size) ≡ t → FrontGrows x (box at h y b) (box at h y (b ++ x))
+box-grows at h y b x true e = rw e refl
+box-grows at h y b x false e = rw e (box_by-grows at h y b x (most_held h.kind.0))
 
 front_by-grows : (at : ℕ) (b x : List ℕ) (s : Step) → header_at b ≡ s → FrontGrows x (front_by at b s) (front at (b ++ x))
 front_by-grows at b x steps.More e = TellsMore-silent _
@@ -62,8 +89,9 @@ front_by-grows at b x (steps.Whole h) e =
     let w = whole_is b h e in
     let some : 0 < length (b ++ x) = omega (arith, length-append b x, need-least b, w.0) in
     let behind : drop h.header_len (b ++ x) ≡ drop h.header_len b ++ x = drop-append-le h.header_len b x (omega (arith, w.0, w.1)) in
-    let same : front at (b ++ x) ≡ box at h (drop h.header_len b ++ x) = front-some at (b ++ x) some ∙ ap (front_by at (b ++ x)) (header_at-append b x w.0 ∙ e) ∙ ap (box at h) behind in
-    subst (FrontGrows x (box at h (drop h.header_len b))) (sym same) (box-grows at h (drop h.header_len b) x (nat_lt longest (least_end at h h.size)) refl)
+    let head : take h.header_len (b ++ x) ≡ take h.header_len b = take-append-le h.header_len b x (omega (arith, w.0, w.1)) in
+    let same : front at (b ++ x) ≡ box at h (take h.header_len b) (drop h.header_len b ++ x) = front-some at (b ++ x) some ∙ ap (front_by at (b ++ x)) (header_at-append b x w.0 ∙ e) ∙ ap (λ l. box at h l (drop h.header_len (b ++ x))) head ∙ ap (box at h (take h.header_len b)) behind in
+    subst (FrontGrows x (box at h (take h.header_len b) (drop h.header_len b))) (sym same) (box-grows at h (take h.header_len b) (drop h.header_len b) x (nat_lt longest (least_end at h h.size)) refl)
 
 pub front-grows : (at : ℕ) (b x : List ℕ) → FrontGrows x (front at b) (front at (b ++ x))
 front-grows at [] x = subst (λ v. FrontGrows x v (front at x)) (sym (front-none at)) (TellsMore-silent _)

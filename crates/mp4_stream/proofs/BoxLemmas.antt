@@ -1,6 +1,6 @@
 -- How the reading of top-level boxes goes on.
-use Rattle.std.proofs.Common.{◌≡◌, ℕ, ◌+◌, ◌-◌, ◌<◌, ◌≤◌, List, [], ◌∷◌, ◌++◌, length, take, drop, true, false, Some, None, ap, ◌∙◌, refl, arith, append-nil, length-append, length-drop}
-use Rattle.std.proofs.Math.Seq.{drop-append_seam}
+use Rattle.std.proofs.Common.{◌≡◌, ℕ, ◌+◌, ◌-◌, ◌<◌, ◌≤◌, List, [], ◌∷◌, ◌++◌, length, take, drop, true, false, Option, Some, None, ap, sym, ◌∙◌, refl, arith, append-nil, length-append, length-drop, length-take}
+use Rattle.std.proofs.Math.Seq.{take-append_seam, drop-append_seam}
 use Rattle.std.proofs.lemmas.Bool.Decides.{nat_tests}
 use Rattle.std.proofs.lemmas.List.{take-append-le, drop-append-le}
 use Rattle.std.specs.Prelude.{nat_lt, if◌then◌else◌}
@@ -10,13 +10,17 @@ use Rattle.mp4_box.specs.declared.headers.Size.{Size}
 use Rattle.mp4_box.specs.declared.headers.Size.TheVariants.{Exact, ToEnd}
 use Rattle.mp4_box.specs.declared.headers.Step.{Step}
 use Rattle.mp4_box.specs.declared.headers.Step.TheVariants as steps
-use Rattle.mp4_box.specs.declared.refusal.Rule.TheVariants.{Truncated, BadSize, StreamTooLong}
-use Rattle.mp4_box.specs.Headers.{need, header_at, kind_of, kind_field}
-use Rattle.mp4_box.proofs.HeaderLemmas.{header_at-append, whole_is, need-least, is_cut}
+use Rattle.mp4_box.specs.declared.refusal.Rule.TheVariants.{Truncated, BadSize, TooLarge, StreamTooLong}
+use Rattle.mp4_box.specs.Headers.{need, header_at, kind_of, kind_field, HasRoom}
+use Rattle.mp4_box.proofs.HeaderLemmas.{header_at-append, header-room, whole_is, need-least, is_cut}
+use Rattle.mp4_box.specs.declared.refusal.Fault.{Fault}
+use Rattle.mp4_box.specs.Trees.{tree_faults}
+use Rattle.mp4_stream.specs.Holding.{held_lines, most_held}
 use Rattle.mp4_stream.specs.Listing.{box_line}
-use Rattle.mp4_stream.specs.Readings.{nothing, Last, Whole, after, after_told, silent, says, then_read, fault_in}
-use Rattle.mp4_stream.specs.Boxes.{longest, fault, refused, cut_off, sized_body, open_body, body, least_end, box, front_by, front, reading}
-use Rattle.mp4_stream.specs.Places.{Place, InHeader, InBody, InOpenBody, reading_from, IsPlace}
+use Rattle.mp4_stream.specs.Readings.{nothing, Last, Whole, after, after_told, silent, says, holds, Refused, then_read, fault_in}
+use Rattle.mp4_stream.specs.Boxes.{longest, fault, refused, cut_off, sized_body, open_body, body, held_box, held_body, holding, box_by, least_end, box, front_by, front, reading}
+use Rattle.mp4_stream.specs.Places.{Place, InHeader, InBody, InHeld, InOpenBody, IsPlace, standing}
+use Rattle.mp4_stream.specs.Answers.{reading_from}
 use Rattle.mp4_stream.proofs.ReadingLemmas.{Below, Below-more, Below-told, IsItemwise, read_all-front, then_read-told}
 
 pub nat_lt_true : (m n : ℕ) → m < n → nat_lt m n ≡ true
@@ -47,19 +51,47 @@ body-below : (at : ℕ) (h : Header) (size : Size) (bytes : List ℕ) → Below 
 body-below at h (Exact s) bytes = sized-below at h.kind (at + s) (s - h.header_len) bytes
 body-below at h ToEnd bytes = open-below at h.kind (longest - (at + h.header_len)) bytes (length bytes)
 
-box-below : (at : ℕ) (h : Header) (bytes : List ℕ) → Below (box at h bytes) (length bytes)
-box-below at h bytes = elim (nat_lt longest (least_end at h h.size)) as (λ v. Below (if v then Last (refused StreamTooLong (Some h.kind) at) else after_told (says (box_line at h)) (body at h h.size bytes)) (length bytes)) [
+held_box-below : (at next : ℕ) (x rest : List ℕ) (fs : List Fault) (n : ℕ) → length rest ≤ n → Below (held_box at next x rest fs) n
+held_box-below at next x rest [] n h = h
+held_box-below at next x rest (f ∷ fs) n h = tt
+
+held-below : (at : ℕ) (kind : FourCc) (size : ℕ) (bytes : List ℕ) (n : ℕ) → length bytes ≤ n + size → Below (held_body at kind size bytes) n
+held-below at kind size bytes n h = elim (nat_lt (length bytes) size) as (λ v. Below (if v then Last (cut_off Truncated (Some kind) at) else held_box at (at + size) (take size bytes) (drop size bytes) (tree_faults at (take size bytes))) n) [
   | true ↦ tt
-  | false ↦ Below-told (says (box_line at h)) (body at h h.size bytes) (length bytes) (body-below at h h.size bytes)
+  | false ↦ held_box-below at (at + size) (take size bytes) (drop size bytes) (tree_faults at (take size bytes)) n (omega (arith, length-drop size bytes))
 ]
+
+holding-below : (at : ℕ) (h : Header) (limit : ℕ) (x bytes : List ℕ) (size : Size) → HasRoom size (length x) → Below (holding at h limit (x ++ bytes) size) (length bytes)
+holding-below at h limit x bytes (Exact s) room = elim (nat_lt limit s) as (λ v. Below (if v then Last (refused TooLarge (Some h.kind) at) else after_told (holds s) (held_body at h.kind s (x ++ bytes))) (length bytes)) [
+  | true ↦ tt
+  | false ↦ Below-told (holds s) (held_body at h.kind s (x ++ bytes)) (length bytes) (held-below at h.kind s (x ++ bytes) (length bytes) (omega (arith, length-append x bytes)))
+]
+holding-below at h limit x bytes ToEnd room = tt
+
+box_by-below : (at : ℕ) (h : Header) (x bytes : List ℕ) (most : Option ℕ) → HasRoom h.size (length x) → Below (box_by at h x bytes most) (length bytes)
+box_by-below at h x bytes None room = Below-told (says (box_line at h)) (body at h h.size bytes) (length bytes) (body-below at h h.size bytes)
+box_by-below at h x bytes (Some limit) room = holding-below at h limit x bytes h.size room
+
+box-below : (at : ℕ) (h : Header) (x bytes : List ℕ) → HasRoom h.size (length x) → Below (box at h x bytes) (length bytes)
+box-below at h x bytes room = elim (nat_lt longest (least_end at h h.size)) as (λ v. Below (if v then Last (refused StreamTooLong (Some h.kind) at) else box_by at h x bytes (most_held h.kind.0)) (length bytes)) [
+  | true ↦ tt
+  | false ↦ box_by-below at h x bytes (most_held h.kind.0) room
+]
+
+-- a header has room in the box that it begins
+pub head-room : (x : List ℕ) (h : Header) → header_at x ≡ steps.Whole h → HasRoom h.size (length (take h.header_len x))
+head-room x h e =
+    let w = whole_is x h e in
+    let len : length (take h.header_len x) ≡ h.header_len = omega (arith, length-take h.header_len x, w.0, w.1) in
+    rw len (rw e at (header-room x))
 
 front_by-below : (at b : ℕ) (bytes : List ℕ) (s : Step) → header_at (b ∷ bytes) ≡ s → Below (front_by at (b ∷ bytes) s) (length bytes)
 front_by-below at b bytes steps.More e = tt
 front_by-below at b bytes steps.BadSize e = tt
 front_by-below at b bytes (steps.Whole h) e =
     let w = whole_is (b ∷ bytes) h e in
-    Below-more (box at h (drop h.header_len (b ∷ bytes))) (length (drop h.header_len (b ∷ bytes))) (length bytes)
-    (omega (arith, length-drop h.header_len (b ∷ bytes), w.1, need-least (b ∷ bytes))) (box-below at h (drop h.header_len (b ∷ bytes)))
+    Below-more (box at h (take h.header_len (b ∷ bytes)) (drop h.header_len (b ∷ bytes))) (length (drop h.header_len (b ∷ bytes))) (length bytes)
+    (omega (arith, length-drop h.header_len (b ∷ bytes), w.1, need-least (b ∷ bytes))) (box-below at h (take h.header_len (b ∷ bytes)) (drop h.header_len (b ∷ bytes)) (head-room (b ∷ bytes) h e))
 
 pub front-items : IsItemwise front
 unfolding front
@@ -101,11 +133,12 @@ reading-header at x later s len e =
     let long : 0 < length (x ++ later) = omega (arith, need-least x, length-append x later) in
     reading-by at (x ++ later) s long (header_at-append x later (omega arith) ∙ e)
 
-pub reading-whole : (at : ℕ) (x later : List ℕ) (h : Header) → length x ≡ need x → header_at x ≡ steps.Whole h → reading at (x ++ later) ≡ then_read reading (box at h later)
+pub reading-whole : (at : ℕ) (x later : List ℕ) (h : Header) → length x ≡ need x → header_at x ≡ steps.Whole h → reading at (x ++ later) ≡ then_read reading (box at h x later)
 reading-whole at x later h len e =
     let w = whole_is x h e in
     let same : h.header_len ≡ length x = omega (arith, w.1) in
-    reading-header at x later (steps.Whole h) len e ∙ ap (λ l. then_read reading (box at h l)) (ap (λ n. drop n (x ++ later)) same ∙ drop-append_seam x later)
+    reading-header at x later (steps.Whole h) len e ∙ ap (λ l. then_read reading (box at h l (drop h.header_len (x ++ later)))) (ap (λ n. take n (x ++ later)) same ∙ take-append_seam x later)
+    ∙ ap (λ l. then_read reading (box at h x l)) (ap (λ n. drop n (x ++ later)) same ∙ drop-append_seam x later)
 
 pub reading-bad : (at : ℕ) (x later : List ℕ) → length x ≡ need x → header_at x ≡ steps.BadSize → reading at (x ++ later) ≡ refused BadSize (kind_of x) at
 reading-bad at x later len e =
@@ -116,27 +149,56 @@ reading-more at x some short = reading-by at x steps.More some (is_cut x short)
 
 -- ---- behind a header
 
-pub reading-too_long : (at : ℕ) (h : Header) (later : List ℕ) → longest < least_end at h h.size → then_read reading (box at h later) ≡ refused StreamTooLong (Some h.kind) at
-reading-too_long at h later far = rw (nat_lt_true longest (least_end at h h.size) far) refl
+pub reading-too_long : (at : ℕ) (h : Header) (x later : List ℕ) → longest < least_end at h h.size → then_read reading (box at h x later) ≡ refused StreamTooLong (Some h.kind) at
+reading-too_long at h x later far = rw (nat_lt_true longest (least_end at h h.size) far) refl
 
-pub reading-begun : (at : ℕ) (h : Header) (later : List ℕ) → least_end at h h.size ≤ longest
-    → then_read reading (box at h later) ≡ after (says (box_line at h)) (then_read reading (body at h h.size later))
-reading-begun at h later near = rw (nat_lt_false longest (least_end at h h.size) near) (then_read-told reading (says (box_line at h)) (body at h h.size later))
+pub reading-begun : (at : ℕ) (h : Header) (x later : List ℕ) → least_end at h h.size ≤ longest → most_held h.kind.0 ≡ None
+    → then_read reading (box at h x later) ≡ after (says (box_line at h)) (then_read reading (body at h h.size later))
+reading-begun at h x later near loose = rw (nat_lt_false longest (least_end at h h.size) near, loose) (then_read-told reading (says (box_line at h)) (body at h h.size later))
+
+-- a box that is held
+pub reading-too_large : (at : ℕ) (h : Header) (x later : List ℕ) (limit s : ℕ) → at + s ≤ longest → most_held h.kind.0 ≡ Some limit → h.size ≡ Exact s → limit < s
+    → then_read reading (box at h x later) ≡ refused TooLarge (Some h.kind) at
+reading-too_large at h x later limit s near held size large = rw (size, nat_lt_false longest (at + s) near, held, nat_lt_true limit s large) refl
+
+pub reading-held_to_end : (at : ℕ) (h : Header) (x later : List ℕ) (limit : ℕ) → at + h.header_len ≤ longest → most_held h.kind.0 ≡ Some limit → h.size ≡ ToEnd
+    → then_read reading (box at h x later) ≡ refused TooLarge (Some h.kind) at
+reading-held_to_end at h x later limit near held size = rw (size, nat_lt_false longest (at + h.header_len) near, held) refl
+
+pub reading-holds : (at : ℕ) (h : Header) (x later : List ℕ) (limit s : ℕ) → at + s ≤ longest → most_held h.kind.0 ≡ Some limit → h.size ≡ Exact s → s ≤ limit
+    → then_read reading (box at h x later) ≡ after (holds s) (then_read reading (held_body at h.kind s (x ++ later)))
+reading-holds at h x later limit s near held size fits =
+    rw (size, nat_lt_false longest (at + s) near, held, nat_lt_false limit s fits) (then_read-told reading (holds s) (held_body at h.kind s (x ++ later)))
+
+-- all of a held box came
+pub reading-good : (at : ℕ) (kind : FourCc) (size : ℕ) (x later : List ℕ) → length x ≡ size → tree_faults at x ≡ []
+    → then_read reading (held_body at kind size (x ++ later)) ≡ after (says (held_lines at x)) (reading (at + size) later)
+reading-good at kind size x later len good =
+    let front : take size (x ++ later) ≡ x = ap (λ n. take n (x ++ later)) (sym len) ∙ take-append_seam x later in
+    let behind : drop size (x ++ later) ≡ later = ap (λ n. drop n (x ++ later)) (sym len) ∙ drop-append_seam x later in
+    rw (nat_lt_false (length (x ++ later)) size (omega (arith, length-append x later)), front, behind, good) refl
+
+pub reading-bad_tree : (at : ℕ) (kind : FourCc) (size : ℕ) (x later : List ℕ) (f : Fault) (fs : List Fault) → length x ≡ size → tree_faults at x ≡ f ∷ fs
+    → then_read reading (held_body at kind size (x ++ later)) ≡ record { told = silent; ending = Refused f }
+reading-bad_tree at kind size x later f fs len bad =
+    let front : take size (x ++ later) ≡ x = ap (λ n. take n (x ++ later)) (sym len) ∙ take-append_seam x later in
+    rw (nat_lt_false (length (x ++ later)) size (omega (arith, length-append x later)), front, bad) refl
 
 -- ---- the end of the stream
 
-pub ending-held : (at : ℕ) (held : List ℕ) → 0 < length held → length held < need held → fault_in (reading_from (InHeader at held) []).ending ≡ Some (fault Truncated (kind_of held) at)
+pub ending-held : (at : ℕ) (held : List ℕ) → 0 < length held → length held < need held → fault_in (reading_from (standing (InHeader at held)) []).ending ≡ Some (fault Truncated (kind_of held) at)
 ending-held at held some short = ap (λ r. fault_in r.ending) (ap (reading at) (append-nil held) ∙ reading-more at held some short)
 
-pub ending-none : (at : ℕ) (held : List ℕ) → held ≡ [] → fault_in (reading_from (InHeader at held) []).ending ≡ None
-ending-none at held e = ap (λ l. fault_in (reading_from (InHeader at l) []).ending) e ∙ ap (λ r. fault_in r.ending) (reading-none at)
+pub ending-none : (at : ℕ) (held : List ℕ) → held ≡ [] → fault_in (reading_from (standing (InHeader at held)) []).ending ≡ None
+ending-none at held e = ap (λ l. fault_in (reading_from (standing (InHeader at l)) []).ending) e ∙ ap (λ r. fault_in r.ending) (reading-none at)
 
--- no place has text that waits
-text-held : (at : ℕ) (held : List ℕ) → length held < need held → (reading at held).told.text ≡ []
-text-held at [] short = ap (λ r. r.told.text) (reading-none at)
-text-held at (b ∷ held) short = ap (λ r. r.told.text) (reading-more at (b ∷ held) (omega arith) short)
+-- at no place the end of the stream tells anything
+silent-held : (at : ℕ) (held : List ℕ) → length held < need held → (reading at held).told ≡ silent
+silent-held at [] short = ap (λ r. r.told) (reading-none at)
+silent-held at (b ∷ held) short = ap (λ r. r.told) (reading-more at (b ∷ held) (omega arith) short)
 
-pub text-none : (p : Place) → IsPlace p → (reading_from p []).told.text ≡ []
-text-none (InHeader at held) h = ap (λ l. (reading at l).told.text) (append-nil held) ∙ text-held at held h.0
-text-none (InBody at kind next left) h = rw (nat_lt_true 0 left h.0) refl
-text-none (InOpenBody at kind left) h = rw (nat_lt_false left 0 (omega arith)) refl
+pub silent-end : (p : Place) → IsPlace p → (reading_from (standing p) []).told ≡ silent
+silent-end (InHeader at held) h = ap (λ l. (reading at l).told) (append-nil held) ∙ silent-held at held h.0
+silent-end (InBody at kind next left) h = rw (nat_lt_true 0 left h.0) refl
+silent-end (InHeld at kind size held) h = rw (nat_lt_true (length (held ++ [])) size (omega (arith, length-append held [], h.0))) refl
+silent-end (InOpenBody at kind left) h = rw (nat_lt_false left 0 (omega arith)) refl

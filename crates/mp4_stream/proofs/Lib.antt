@@ -2,6 +2,8 @@ pub mod ReadingLemmas
 pub mod BlockLemmas
 pub mod LineLemmas
 pub mod ListingLemmas
+pub mod AccountLemmas
+pub mod HoldingLemmas
 pub mod BoxLemmas
 pub mod AnswerLemmas
 pub mod PlaceLemmas

@@ -1,42 +1,70 @@
 -- What a reader of boxes brings by its place.
-use Rattle.std.proofs.Common.{◌≡◌, ℕ, ◌+◌, ◌^◌, ◌<◌, ◌≤◌, List, [], ◌∷◌, ◌++◌, length, Option, Some, ap, sym, ◌∙◌, arith, append_assoc, subst}
+use Rattle.std.proofs.Common.{◌≡◌, ℕ, ◌+◌, ◌^◌, ◌<◌, ◌≤◌, List, [], ◌∷◌, ◌++◌, length, Option, Some, None, ap, sym, refl, ◌∙◌, arith, append_assoc, append-nil, length-append, subst}
 use Rattle.mp4_box.specs.declared.headers.FourCc.{FourCc}
 use Rattle.mp4_box.specs.declared.headers.Header.{Header}
+use Rattle.mp4_box.specs.declared.headers.Size.TheVariants.{Exact, ToEnd}
 use Rattle.mp4_box.specs.declared.headers.Step.TheVariants as steps
-use Rattle.mp4_box.specs.declared.refusal.Rule.TheVariants.{BadSize, StreamTooLong}
+use Rattle.mp4_box.specs.declared.refusal.Fault.{Fault}
+use Rattle.mp4_box.specs.declared.refusal.Rule.TheVariants.{BadSize, StreamTooLong, TooLarge}
 use Rattle.mp4_box.specs.Headers.{need, header_at, kind_of}
 use Rattle.mp4_box.specs.Streams.{AppendsFront}
+use Rattle.mp4_box.specs.Trees.{tree_faults}
 use Rattle.mp4_box.proofs.HeaderLemmas.{whole_is, bad_is, need_more, need-most}
 use Rattle.mp4_box.proofs.StreamLemmas.{AppendsFront-longer}
+use Rattle.mp4_ledger.specs.Memory.{Account, claimed, given_back}
+use Rattle.mp4_stream.specs.Accounts.{Counts, Spends}
 use Rattle.mp4_stream.specs.Blocks.{Passes}
+use Rattle.mp4_stream.specs.Holding.{held_lines, most_held}
 use Rattle.mp4_stream.specs.Listing.{box_line}
-use Rattle.mp4_stream.specs.Readings.{then_read, silent, says, after}
-use Rattle.mp4_stream.specs.Boxes.{longest, fault, refused, least_end, body, box, reading}
-use Rattle.mp4_stream.specs.Places.{Place, InHeader, InBody, InOpenBody, reading_from, reached, IsPlace}
-use Rattle.mp4_stream.specs.Answers.{Brings, GoesOn, Refuses, StopsAt}
+use Rattle.mp4_stream.specs.Readings.{Reading, Told, then_read, silent, says, holds, after}
+use Rattle.mp4_stream.specs.Boxes.{longest, fault, refused, least_end, body, held_body, reading}
+use Rattle.mp4_stream.specs.Places.{Place, InHeader, InBody, InHeld, InOpenBody, IsPlace, begun_of, from_of, brings_of, own_of, place_by, standing}
+use Rattle.mp4_stream.specs.declared.machine.Phase.{Phase}
+use Rattle.mp4_stream.specs.declared.machine.Phase.TheVariants as phases
+use Rattle.mp4_stream.specs.Answers.{Standing, reached, reading_from, GoesOn, Refuses, IsClaim, Starves, FailsIn, StopsAt}
 use Rattle.mp4_stream.specs.declared.top.Stop.{Stop}
-use Rattle.mp4_stream.specs.declared.top.Stop.TheVariants.{Stream, Read, Write}
+use Rattle.mp4_stream.specs.declared.top.Stop.TheVariants.{OverLimit, Memory}
+use Rattle.mp4_stream.proofs.AccountLemmas.{Counts-none, Counts-claim, Counts-back, Spends-more, Spends-counts}
+use Rattle.mp4_stream.proofs.AnswerLemmas.{GoesOn-more, StopsAt-more}
 use Rattle.mp4_stream.proofs.ReadingLemmas.{after-silent}
 use Rattle.mp4_stream.proofs.BlockLemmas.{Passes-none}
-use Rattle.mp4_stream.proofs.BoxLemmas.{reading-whole, reading-bad, reading-begun, reading-too_long}
+use Rattle.mp4_stream.proofs.BoxLemmas.{reading-whole, reading-bad, reading-begun, reading-too_long, reading-too_large, reading-held_to_end, reading-holds, reading-good, reading-bad_tree}
 
-pub reached-most : (p : Place) → IsPlace p → reached p ≤ 2 ^ 62 + 31
+pub reached-most : (p : Place) → IsPlace p → reached (standing p) ≤ 2 ^ 62 + 31
 reached-most (InHeader at held) h = omega (arith, h.0, h.1, need-most held)
 reached-most (InBody at kind next left) h = omega arith
+reached-most (InHeld at kind size held) h = omega (arith, h.0, h.1)
 reached-most (InOpenBody at kind left) h = omega arith
+
+-- no byte of a header came
+pub begun-none : (p : Phase) → begun_of (place_by [] p) ≡ []
+begun-none (phases.Header at) = refl
+begun-none (phases.Body at kind next left) = refl
+begun-none (phases.OpenBody at kind left) = refl
+
+-- what isn't held is not claimed
+pub own-none : (head : List ℕ) (p : Phase) → own_of (place_by head p) ≡ 0
+own-none head (phases.Header at) = refl
+own-none head (phases.Body at kind next left) = refl
+own-none head (phases.OpenBody at kind left) = refl
 
 -- ---- a byte of a header
 
-reading-byte : (at : ℕ) (held : List ℕ) (byte : ℕ) (new later : List ℕ) → new ≡ held ++ byte ∷ [] → reading at (held ++ (byte ∷ later)) ≡ reading at (new ++ later)
-reading-byte at held byte new later e = ap (reading at) (sym (append_assoc held (byte ∷ []) later) ∙ ap (λ l. l ++ later) (sym e))
-
-pub GoesOn-byte : (a : Option (List ℕ)) (w : List ℕ) (at : ℕ) (held : List ℕ) (byte : ℕ) (new : List ℕ) → new ≡ held ++ byte ∷ []
-    → GoesOn a a w w (reading_from (InHeader at held)) (byte ∷ []) (reading_from (InHeader at new))
-GoesOn-byte a w at held byte new e = record { brought = silent; passes = Passes-none a w; rest = λ later. reading-byte at held byte new later e ∙ sym (after-silent (reading at (new ++ later))) }
+pub GoesOn-byte : (t : Option (List ℕ)) (w : List ℕ) (a : Account) (at : ℕ) (held : List ℕ) (byte : ℕ) (new : List ℕ) → new ≡ held ++ byte ∷ []
+    → GoesOn t t w w a a (standing (InHeader at held)) (byte ∷ []) (standing (InHeader at new))
+GoesOn-byte t w a at held byte new e = record {
+  brought = silent;
+  passes = Passes-none t w;
+  counts = Counts-none a 0;
+  done = [];
+  cut = sym e;
+  from = omega arith;
+  rest = λ later. sym (after-silent (reading at later));
+}
 
 -- the last byte of a header
 
-whole-len : (held : List ℕ) (byte : ℕ) (new : List ℕ) (h : Header) → length held < need held → new ≡ held ++ byte ∷ [] → header_at new ≡ steps.Whole h → length new ≡ need new
+pub whole-len : (held : List ℕ) (byte : ℕ) (new : List ℕ) (h : Header) → length held < need held → new ≡ held ++ byte ∷ [] → header_at new ≡ steps.Whole h → length new ≡ need new
 whole-len held byte new h short e is =
     let most : length new ≤ need new = rw e (need_more held byte short) in
     omega (arith, most, (whole_is new h is).0)
@@ -46,55 +74,154 @@ bad-len held byte new short e is =
     let most : length new ≤ need new = rw e (need_more held byte short) in
     omega (arith, most, bad_is new is)
 
-pub Refuses-bad : (a : Option (List ℕ)) (w : List ℕ) (at : ℕ) (held : List ℕ) (byte : ℕ) (new more : List ℕ) → length held < need held → new ≡ held ++ byte ∷ [] → header_at new ≡ steps.BadSize
-    → Refuses a a w w (reading_from (InHeader at held)) (byte ∷ more) (fault BadSize (kind_of new) at)
-Refuses-bad a w at held byte new more short e is = record {
+pub Refuses-bad : (t : Option (List ℕ)) (w : List ℕ) (a : Account) (at : ℕ) (held : List ℕ) (byte : ℕ) (new more : List ℕ) → length held < need held → new ≡ held ++ byte ∷ [] → header_at new ≡ steps.BadSize
+    → Refuses t t w w a a (standing (InHeader at held)) (byte ∷ more) 0 (fault BadSize (kind_of new) at)
+Refuses-bad t w a at held byte new more short e is = record {
   brought = silent;
-  passes = Passes-none a w;
-  rest = λ later. reading-byte at held byte new (more ++ later) e ∙ reading-bad at new (more ++ later) (bad-len held byte new short e is) is;
+  passes = Passes-none t w;
+  counts = Counts-none a 0;
+  rest = λ later. ap (reading at) (sym (append_assoc held (byte ∷ []) (more ++ later)) ∙ ap (λ l. l ++ (more ++ later)) (sym e)) ∙ reading-bad at new (more ++ later) (bad-len held byte new short e is) is;
 }
 
-module _ (a b : Option (List ℕ)) (w v : List ℕ) (at : ℕ) (held : List ℕ) (byte : ℕ) (new : List ℕ) (h : Header)
-    (short : length held < need held) (e : new ≡ held ++ byte ∷ []) (is : header_at new ≡ steps.Whole h) where
-  reading-last : (later : List ℕ) → reading at (held ++ (byte ∷ later)) ≡ then_read reading (box at h later)
-  reading-last later = reading-byte at held byte new later e ∙ reading-whole at new later h (whole-len held byte new h short e is) is
+module _ (t u : Option (List ℕ)) (w v : List ℕ) (a b : Account) (at : ℕ) (held : List ℕ) (byte : ℕ) (new : List ℕ) (e : new ≡ held ++ byte ∷ []) where
+  pub GoesOn-last : (q : Standing) → GoesOn t u w v a b (standing (InHeader at new)) [] q → GoesOn t u w v a b (standing (InHeader at held)) (byte ∷ []) q
+  GoesOn-last q g = GoesOn-more {p = standing (InHeader at held)} (omega arith) (GoesOn-byte t w a at held byte new e) [] q g
 
-  pub GoesOn-last : (q : Brings) → GoesOn a b w v (λ later. then_read reading (box at h later)) [] q → GoesOn a b w v (reading_from (InHeader at held)) (byte ∷ []) q
-  GoesOn-last q g = record { brought = g.brought; passes = g.passes; rest = λ later. reading-last later ∙ g.rest later }
+  pub StopsAt-last : (more : List ℕ) (own : ℕ) (s : Stop) → StopsAt t u w v a b (standing (InHeader at new)) more own s → StopsAt t u w v a b (standing (InHeader at held)) (byte ∷ more) own s
+  StopsAt-last more own s g = StopsAt-more {p = standing (InHeader at held)} (omega arith) (GoesOn-byte t w a at held byte new e) u v b more own s g
 
-  pub StopsAt-last : (more : List ℕ) (s : Stop) → StopsAt a b w v (λ later. then_read reading (box at h later)) more s → StopsAt a b w v (reading_from (InHeader at held)) (byte ∷ more) s
-  StopsAt-last more (Stream f) g = record { brought = g.brought; passes = g.passes; rest = λ later. reading-last (more ++ later) ∙ g.rest later }
-  StopsAt-last more (Read n) g = g
-  StopsAt-last more Write g = λ later. subst (λ r. AppendsFront a b (w ++ r.told.text)) (sym (reading-last (more ++ later))) (g later)
+-- a write failed in what is told first
+FailsIn-told : (t u : Option (List ℕ)) (w : List ℕ) (a b : Account) (o own : ℕ) (told : Told) (rest r : Reading) → r ≡ after told rest → AppendsFront t u (w ++ told.text) → Spends a b o own 0 → FailsIn t u w a b o own r
+FailsIn-told t u w a b o own told rest r e p q = (
+  AppendsFront-longer t u (w ++ told.text) rest.told.text (w ++ r.told.text) p (ap (λ s. w ++ s.told.text) e ∙ sym (append_assoc w told.text rest.told.text)),
+  Spends-more a b o own 0 r.told.most (omega arith) q,
+)
 
--- a box that goes past the longest stream
-pub Refuses-far : (a : Option (List ℕ)) (w : List ℕ) (at : ℕ) (h : Header) (more : List ℕ) → longest < least_end at h h.size
-    → Refuses a a w w (λ later. then_read reading (box at h later)) more (fault StreamTooLong (Some h.kind) at)
-Refuses-far a w at h more far = record { brought = silent; passes = Passes-none a w; rest = λ later. reading-too_long at h (more ++ later) far }
+-- ---- behind the header x of a box
 
--- the line of a box was written
-pub GoesOn-line : (a b : Option (List ℕ)) (w v : List ℕ) (at : ℕ) (h : Header) (line : List ℕ) (q : Brings) → line ≡ box_line at h → least_end at h h.size ≤ longest
-    → ((later : List ℕ) → then_read reading (body at h h.size later) ≡ q later) → Passes a b w v line → GoesOn a b w v (λ later. then_read reading (box at h later)) [] q
-GoesOn-line a b w v at h line q e near brings p = record {
-  brought = says (box_line at h);
-  passes = subst (Passes a b w v) e p;
-  rest = λ later. reading-begun at h later near ∙ ap (after (says (box_line at h))) (brings later);
-}
+module _ (t : Option (List ℕ)) (w : List ℕ) (a : Account) (at : ℕ) (h : Header) (x : List ℕ) (len : length x ≡ need x) (is : header_at x ≡ steps.Whole h) where
+  -- the box goes past the longest stream
+  pub Refuses-far : (more : List ℕ) → longest < least_end at h h.size → Refuses t t w w a a (standing (InHeader at x)) more 0 (fault StreamTooLong (Some h.kind) at)
+  Refuses-far more far = record { brought = silent; passes = Passes-none t w; counts = Counts-none a 0; rest = λ later. reading-whole at x (more ++ later) h len is ∙ reading-too_long at h x (more ++ later) far }
 
--- the line of a box can't be written
-pub front-line : (a b : Option (List ℕ)) (w : List ℕ) (at : ℕ) (h : Header) (later : List ℕ) → least_end at h h.size ≤ longest
-    → AppendsFront a b (w ++ box_line at h) → AppendsFront a b (w ++ (then_read reading (box at h later)).told.text)
-front-line a b w at h later near p =
-    let rest = (then_read reading (body at h h.size later)).told.text in
-    AppendsFront-longer a b (w ++ box_line at h) rest (w ++ (then_read reading (box at h later)).told.text) p
-    (ap (λ r. w ++ r.told.text) (reading-begun at h later near) ∙ sym (append_assoc w (box_line at h) rest))
+  -- its line was written
+  pub GoesOn-line : (u : Option (List ℕ)) (v line : List ℕ) (p : Place) → line ≡ box_line at h → least_end at h h.size ≤ longest → most_held h.kind.0 ≡ None → own_of p ≡ 0 → begun_of p ≡ [] → from_of p ≡ at + h.header_len
+      → ((later : List ℕ) → then_read reading (body at h h.size later) ≡ brings_of p later) → Passes t u w v line → GoesOn t u w v a a (standing (InHeader at x)) [] (standing p)
+  GoesOn-line u v line p e near loose none empty place brings q = record {
+    brought = says (box_line at h);
+    passes = subst (Passes t u w v) e q;
+    counts = rw none (Counts-none a 0);
+    done = x;
+    cut = ap (λ l. x ++ l) (sym empty);
+    from = omega (arith, place, (whole_is x h is).1, len);
+    rest = λ later. reading-whole at x later h len is ∙ reading-begun at h x later near loose ∙ ap (after (says (box_line at h))) (brings later);
+  }
+
+  -- its line can't be written
+  pub FailsIn-line : (u : Option (List ℕ)) (later : List ℕ) → least_end at h h.size ≤ longest → most_held h.kind.0 ≡ None
+      → AppendsFront t u (w ++ box_line at h) → FailsIn t u w a a 0 0 (reading_from (standing (InHeader at x)) later)
+  FailsIn-line u later near loose p = FailsIn-told t u w a a 0 0 (says (box_line at h)) (then_read reading (body at h h.size later)) (reading_from (standing (InHeader at x)) later)
+      (reading-whole at x later h len is ∙ reading-begun at h x later near loose) p (Spends-counts a a 0 0 0 (Counts-none a 0))
+
+  -- it is to be held, and has no size or one that is too large
+  pub Refuses-large : (more : List ℕ) (limit s : ℕ) → at + s ≤ longest → most_held h.kind.0 ≡ Some limit → h.size ≡ Exact s → limit < s → Refuses t t w w a a (standing (InHeader at x)) more 0 (fault TooLarge (Some h.kind) at)
+  Refuses-large more limit s near held size large = record {
+    brought = silent;
+    passes = Passes-none t w;
+    counts = Counts-none a 0;
+    rest = λ later. reading-whole at x (more ++ later) h len is ∙ reading-too_large at h x (more ++ later) limit s near held size large;
+  }
+
+  pub Refuses-open : (more : List ℕ) (limit : ℕ) → at + h.header_len ≤ longest → most_held h.kind.0 ≡ Some limit → h.size ≡ ToEnd → Refuses t t w w a a (standing (InHeader at x)) more 0 (fault TooLarge (Some h.kind) at)
+  Refuses-open more limit near held size = record {
+    brought = silent;
+    passes = Passes-none t w;
+    counts = Counts-none a 0;
+    rest = λ later. reading-whole at x (more ++ later) h len is ∙ reading-held_to_end at h x (more ++ later) limit near held size;
+  }
+
+  module _ (limit s : ℕ) (near : at + s ≤ longest) (held : most_held h.kind.0 ≡ Some limit) (size : h.size ≡ Exact s) (fits : s ≤ limit) where
+    -- room for it was claimed
+    pub GoesOn-claim : 0 < s → GoesOn t t w w a (claimed a s) (standing (InHeader at x)) [] (standing (InHeld at h.kind s x))
+    GoesOn-claim some = record {
+      brought = holds s;
+      passes = Passes-none t w;
+      counts = Counts-claim a s some;
+      done = x;
+      cut = refl;
+      from = refl;
+      rest = λ later. reading-whole at x later h len is ∙ reading-holds at h x later limit s near held size fits;
+    }
+
+    -- and it was not
+    Starves-claim : (more : List ℕ) → Starves t t w w a a (standing (InHeader at x)) more
+    Starves-claim more =
+        let place : at ≡ at + 0 = omega arith in
+        let claim : IsClaim at x s = record { header = h; limit = limit; spelled = is; whole = len; held = held; sized = size; fits = fits; near = near } in
+        record {
+          brought = silent;
+          passes = Passes-none t w;
+          counts = Counts-none a 0;
+          done = [];
+          head = x;
+          behind = more;
+          cut = refl;
+          size = s;
+          claim = subst (λ n. IsClaim n x s) place claim;
+          rest = λ later. sym (after-silent (reading at later)) ∙ ap (λ n. after silent (reading n later)) place;
+        }
+
+    pub StopsAt-over : (more : List ℕ) → a.limit < a.live + s → StopsAt t t w w a a (standing (InHeader at x)) more 0 OverLimit
+    unfolding Starves-claim
+    StopsAt-over more over = (refl, (Starves-claim more, over))
+
+    pub StopsAt-want : (more : List ℕ) → a.live + s ≤ a.limit → StopsAt t t w w a a (standing (InHeader at x)) more 0 Memory
+    unfolding Starves-claim
+    StopsAt-want more within = (refl, (Starves-claim more, within))
 
 -- ---- bytes of a body
 
-pub GoesOn-passed : (a : Option (List ℕ)) (w : List ℕ) (p q : Brings) (x : List ℕ) → ((later : List ℕ) → p (x ++ later) ≡ q later) → GoesOn a a w w p x q
-GoesOn-passed a w p q x f = record { brought = silent; passes = Passes-none a w; rest = λ later. f later ∙ sym (after-silent (q later)) }
+pub GoesOn-passed : (t : Option (List ℕ)) (w : List ℕ) (a : Account) (p q : Place) (x : List ℕ) → own_of p ≡ own_of q → begun_of p ≡ [] → begun_of q ≡ [] → from_of q ≡ from_of p + length x
+    → ((later : List ℕ) → brings_of p (x ++ later) ≡ brings_of q later) → GoesOn t t w w a a (standing p) x (standing q)
+GoesOn-passed t w a p q x e none none' place f = record {
+  brought = silent;
+  passes = Passes-none t w;
+  counts = subst (λ n. Counts a a (own_of p) n 0) e (Counts-none a (own_of p));
+  done = x;
+  cut = ap (λ l. l ++ x) none ∙ sym (append-nil x) ∙ ap (λ l. x ++ l) (sym none');
+  from = place;
+  rest = λ later. f later ∙ sym (after-silent (brings_of q later));
+}
 
-pub Refuses-passed : (a : Option (List ℕ)) (w : List ℕ) (at left : ℕ) (kind : FourCc) (x : List ℕ)
-    → ((later : List ℕ) → reading_from (InOpenBody at kind left) (x ++ later) ≡ refused StreamTooLong (Some kind) at)
-    → Refuses a a w w (reading_from (InOpenBody at kind left)) x (fault StreamTooLong (Some kind) at)
-Refuses-passed a w at left kind x f = record { brought = silent; passes = Passes-none a w; rest = f }
+pub Refuses-passed : (t : Option (List ℕ)) (w : List ℕ) (a : Account) (at left : ℕ) (kind : FourCc) (x : List ℕ)
+    → ((later : List ℕ) → brings_of (InOpenBody at kind left) (x ++ later) ≡ refused StreamTooLong (Some kind) at)
+    → Refuses t t w w a a (standing (InOpenBody at kind left)) x 0 (fault StreamTooLong (Some kind) at)
+Refuses-passed t w a at left kind x f = record { brought = silent; passes = Passes-none t w; counts = Counts-none a 0; rest = f }
+
+-- ---- a box that is held
+
+-- more of it came
+pub GoesOn-held : (t : Option (List ℕ)) (w : List ℕ) (a : Account) (at : ℕ) (kind : FourCc) (size : ℕ) (held x : List ℕ) → GoesOn t t w w a a (standing (InHeld at kind size held)) x (standing (InHeld at kind size (held ++ x)))
+GoesOn-held t w a at kind size held x =
+    GoesOn-passed t w a (InHeld at kind size held) (InHeld at kind size (held ++ x)) x refl refl refl (omega (arith, length-append held x)) (λ later. ap (λ l. then_read reading (held_body at kind size l)) (sym (append_assoc held x later)))
+
+module _ (t : Option (List ℕ)) (w : List ℕ) (a : Account) (at : ℕ) (kind : FourCc) (size : ℕ) (x : List ℕ) (low : size ≤ a.live) (len : length x ≡ size) where
+  -- all of it came, its tree is good, and it was listed and given back
+  pub GoesOn-good : (u : Option (List ℕ)) (v : List ℕ) → tree_faults at x ≡ [] → Passes t u w v (held_lines at x)
+      → GoesOn t u w v a (given_back a size) (standing (InHeld at kind size x)) [] (standing (InHeader (at + size) []))
+  GoesOn-good u v good p = record {
+    brought = says (held_lines at x);
+    passes = p;
+    counts = Counts-back a size low;
+    done = [];
+    cut = refl;
+    from = omega (arith, len);
+    rest = λ later. reading-good at kind size x later len good;
+  }
+
+  pub FailsIn-good : (u : Option (List ℕ)) (later : List ℕ) → tree_faults at x ≡ [] → AppendsFront t u (w ++ held_lines at x) → FailsIn t u w a (given_back a size) size 0 (reading_from (standing (InHeld at kind size x)) later)
+  FailsIn-good u later good p = FailsIn-told t u w a (given_back a size) size 0 (says (held_lines at x)) (reading (at + size) later) (reading_from (standing (InHeld at kind size x)) later)
+      (reading-good at kind size x later len good) p (Spends-counts a (given_back a size) size 0 0 (Counts-back a size low))
+
+  pub Refuses-tree : (more : List ℕ) (f : Fault) (fs : List Fault) → tree_faults at x ≡ f ∷ fs → Refuses t t w w a (given_back a size) (standing (InHeld at kind size x)) more 0 f
+  Refuses-tree more f fs bad = record { brought = silent; passes = Passes-none t w; counts = Counts-back a size low; rest = λ later. reading-bad_tree at kind size x (more ++ later) f fs len bad }

@@ -1,5 +1,5 @@
 -- How a reading goes on behind its front, whatever the items are.
-use Rattle.std.proofs.Common.{◌≡◌, ℕ, zero, suc, ◌≤◌, List, [], ◌∷◌, ◌++◌, length, max, ap, sym, ◌∙◌, refl, arith, append_assoc}
+use Rattle.std.proofs.Common.{◌≡◌, ℕ, zero, suc, ◌≤◌, List, [], ◌∷◌, ◌++◌, length, max, ap, sym, ◌∙◌, refl, arith, append_assoc, append-nil}
 use Rattle.mp4_stream.specs.Readings.{Reading, Told, silent, both, nothing, Front, Last, Whole, after, after_told, then_read, read_at_most, read_all}
 
 -- what follows a whole item is at most so long
@@ -30,6 +30,12 @@ max_more a b c h = omega arith
 
 max_assoc : (a b c : ℕ) → max (max a b) c ≡ max a (max b c)
 max_assoc a b c = omega arith
+
+pub both-silent : (t : Told) → both t silent ≡ t
+both-silent t = ap (λ l. record { text = l; most = max t.most 0 }) (append-nil t.text) ∙ ap (λ n. record { text = t.text; most = n }) (max_none t.most)
+  where
+    max_none : (n : ℕ) → max n 0 ≡ n
+    max_none n = omega arith
 
 pub after-silent : (r : Reading) → after silent r ≡ r
 after-silent r = ap (λ n. record { told = record { text = r.told.text; most = n }; ending = r.ending }) (max_none r.told.most)

@@ -1,5 +1,5 @@
--- The boxes at the top of a stream, each by its header alone.
-use Rattle.std.specs.Prelude.{ℕ, ◌+◌, ◌-◌, ◌^◌, List, [], ◌∷◌, length, drop, nat_lt, if◌then◌else◌, Option, Some}
+-- The boxes of a stream: those at the top by their headers alone, and a moov or moof with the boxes below it.
+use Rattle.std.specs.Prelude.{ℕ, ◌+◌, ◌-◌, ◌^◌, List, [], ◌∷◌, ◌++◌, length, take, drop, nat_lt, if◌then◌else◌, Option, Some, None}
 use Rattle.mp4_box.specs.declared.headers.FourCc.{FourCc}
 use Rattle.mp4_box.specs.declared.headers.Header.{Header}
 use Rattle.mp4_box.specs.declared.headers.Size.{Size}
@@ -8,10 +8,12 @@ use Rattle.mp4_box.specs.declared.headers.Step.{Step}
 use Rattle.mp4_box.specs.declared.headers.Step.TheVariants as steps
 use Rattle.mp4_box.specs.declared.refusal.Fault.{Fault}
 use Rattle.mp4_box.specs.declared.refusal.Rule.{Rule}
-use Rattle.mp4_box.specs.declared.refusal.Rule.TheVariants.{Truncated, BadSize, StreamTooLong}
+use Rattle.mp4_box.specs.declared.refusal.Rule.TheVariants.{Truncated, BadSize, TooLarge, StreamTooLong}
 use Rattle.mp4_box.specs.Headers.{header_at, kind_of}
+use Rattle.mp4_box.specs.Trees.{tree_faults}
+use Rattle.mp4_stream.specs.Holding.{held_lines, most_held}
 use Rattle.mp4_stream.specs.Listing.{box_line}
-use Rattle.mp4_stream.specs.Readings.{Refused, CutOff, Reading, nothing, Front, Last, Whole, after_told, silent, says, read_all, fault_in, early_in}
+use Rattle.mp4_stream.specs.Readings.{Refused, CutOff, Reading, nothing, Front, Last, Whole, after_told, silent, says, holds, read_all, fault_in, early_in}
 
 -- no stream is followed further than this
 abbrev pub longest : ℕ
@@ -48,17 +50,40 @@ abbrev pub least_end : ℕ → Header → Size → ℕ
 least_end at h (Exact s) = at + s
 least_end at h ToEnd = at + h.header_len
 
--- a box at `at` with this header, and the bytes behind it
-abbrev pub box : ℕ → Header → List ℕ → Front ℕ
-box at h bytes =
+-- a box x at `at` that was held, what is at fault in its tree, and the bytes behind it
+abbrev pub held_box : ℕ → ℕ → List ℕ → List ℕ → List Fault → Front ℕ
+held_box at next x rest [] = Whole (says (held_lines at x)) next rest
+held_box at next x rest (f ∷ fs) = Last (record { told = silent; ending = Refused f })
+
+-- a box at `at` of `size` bytes that is held: the bytes are its own, and those behind it
+abbrev pub held_body : ℕ → FourCc → ℕ → List ℕ → Front ℕ
+held_body at kind size bytes =
+    if nat_lt (length bytes) size then Last (cut_off Truncated (Some kind) at)
+    else held_box at (at + size) (take size bytes) (drop size bytes) (tree_faults at (take size bytes))
+
+-- a box at `at` that is to be held, and may have so many bytes
+abbrev pub holding : ℕ → Header → ℕ → List ℕ → Size → Front ℕ
+holding at h limit bytes (Exact s) =
+    if nat_lt limit s then Last (refused TooLarge (Some h.kind) at)
+    else after_told (holds s) (held_body at h.kind s bytes)
+holding at h limit bytes ToEnd = Last (refused TooLarge (Some h.kind) at)
+
+-- a box at `at` with the header x, and the bytes behind it, by the most bytes that it may have where it is held
+abbrev pub box_by : ℕ → Header → List ℕ → List ℕ → Option ℕ → Front ℕ
+box_by at h x bytes None = after_told (says (box_line at h)) (body at h h.size bytes)
+box_by at h x bytes (Some limit) = holding at h limit (x ++ bytes) h.size
+
+-- a box at `at` with the header x, and the bytes behind it
+abbrev pub box : ℕ → Header → List ℕ → List ℕ → Front ℕ
+box at h x bytes =
     if nat_lt longest (least_end at h h.size) then Last (refused StreamTooLong (Some h.kind) at)
-    else after_told (says (box_line at h)) (body at h h.size bytes)
+    else box_by at h x bytes (most_held h.kind.0)
 
 -- some bytes at `at`, by what they come to as a header
 abbrev pub front_by : ℕ → List ℕ → Step → Front ℕ
 front_by at bytes steps.More = Last (cut_off Truncated (kind_of bytes) at)
 front_by at bytes steps.BadSize = Last (refused BadSize (kind_of bytes) at)
-front_by at bytes (steps.Whole h) = box at h (drop h.header_len bytes)
+front_by at bytes (steps.Whole h) = box at h (take h.header_len bytes) (drop h.header_len bytes)
 
 -- the box at the front of the bytes from the offset `at` on
 unfoldable pub front : ℕ → List ℕ → Front ℕ
@@ -72,6 +97,10 @@ reading at bytes = read_all front at bytes
 -- the lines of a stream's boxes, up to its first fault
 abbrev pub listing : List ℕ → List ℕ
 listing b = (reading 0 b).told.text
+
+-- the most bytes that one box of a stream is to have held, up to the first fault
+abbrev pub most : List ℕ → ℕ
+most b = (reading 0 b).told.most
 
 -- the first fault of a stream
 abbrev pub first_fault : List ℕ → Option Fault

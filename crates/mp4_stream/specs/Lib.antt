@@ -1,6 +1,7 @@
 pub mod Hex
 pub mod Listing
 pub mod Holding
+pub mod Accounts
 pub mod Readings
 pub mod Boxes
 pub mod Joined

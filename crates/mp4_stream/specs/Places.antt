@@ -1,46 +1,87 @@
 -- Where a reader of top-level boxes stands in a stream.
-use Rattle.std.specs.Prelude.{◌≡◌, ℕ, ◌+◌, ◌-◌, ◌<◌, ◌≤◌, List, [], ◌++◌, length}
+use Rattle.std.specs.Prelude.{◌≡◌, ℕ, ◌+◌, ◌-◌, ◌<◌, ◌≤◌, List, [], ◌++◌, length, Option, Some, None}
 use Rattle.mp4_box.specs.declared.headers.FourCc.{FourCc}
-use Rattle.mp4_box.specs.Headers.{need}
+use Rattle.mp4_box.specs.declared.headers.Header.{Header}
+use Rattle.mp4_box.specs.declared.headers.Size.TheVariants.{Exact}
+use Rattle.mp4_box.specs.declared.headers.Step.TheVariants as steps
+use Rattle.mp4_box.specs.Headers.{header_at, need}
 use Rattle.mp4_stream.specs.declared.machine.Phase.{Phase}
 use Rattle.mp4_stream.specs.declared.machine.Phase.TheVariants as phases
 use Rattle.mp4_stream.specs.Readings.{Reading, then_read}
-use Rattle.mp4_stream.specs.Boxes.{longest, sized_body, open_body, reading}
+use Rattle.mp4_stream.specs.Holding.{Holding}
+use Rattle.mp4_stream.specs.Answers.{Standing}
+use Rattle.mp4_stream.specs.Boxes.{longest, sized_body, held_body, open_body, reading}
 
 pub data Place : Type 0 where
   -- in the header of the box at an offset: the bytes of it that came
   InHeader : (at : ℕ) (held : List ℕ) → Place
   -- in a box of this type at an offset, which ends at `next`: so many bytes are left of it
   InBody : (at : ℕ) (kind : FourCc) (next left : ℕ) → Place
+  -- in a box of this type and size at an offset that is held: the bytes of it that came
+  InHeld : (at : ℕ) (kind : FourCc) (size : ℕ) (held : List ℕ) → Place
   -- in a box of this type at an offset, which goes to the end of the stream: at most so many bytes may come
   InOpenBody : (at : ℕ) (kind : FourCc) (left : ℕ) → Place
 
--- what the bytes to come bring
-abbrev pub reading_from : Place → List ℕ → Reading
-reading_from (InHeader at held) later = reading at (held ++ later)
-reading_from (InBody at kind next left) later = then_read reading (sized_body at kind next left later)
-reading_from (InOpenBody at kind left) later = then_read reading (open_body at kind left later)
+-- the bytes that came of a header that isn't whole
+abbrev pub begun_of : Place → List ℕ
+begun_of (InHeader at held) = held
+begun_of (InBody at kind next left) = []
+begun_of (InHeld at kind size held) = []
+begun_of (InOpenBody at kind left) = []
 
--- the offset of the next byte
-abbrev pub reached : Place → ℕ
-reached (InHeader at held) = at + length held
-reached (InBody at kind next left) = next - left
-reached (InOpenBody at kind left) = longest - left
+-- the offset of the first of them, or else of the next byte
+abbrev pub from_of : Place → ℕ
+from_of (InHeader at held) = at
+from_of (InBody at kind next left) = next - left
+from_of (InHeld at kind size held) = at + length held
+from_of (InOpenBody at kind left) = longest - left
+
+-- what the bytes from there on bring
+abbrev pub brings_of : Place → List ℕ → Reading
+brings_of (InHeader at held) bytes = reading at bytes
+brings_of (InBody at kind next left) bytes = then_read reading (sized_body at kind next left bytes)
+brings_of (InHeld at kind size held) bytes = then_read reading (held_body at kind size (held ++ bytes))
+brings_of (InOpenBody at kind left) bytes = then_read reading (open_body at kind left bytes)
+
+-- the bytes begin with the header of a box of this size
+abbrev pub Begins : ℕ → List ℕ → Type 0
+Begins size x = (h : Header) × (header_at x ≡ steps.Whole h) × (h.size ≡ Exact size)
 
 -- no place is past the longest stream but in a header that ends there
 abbrev pub IsPlace : Place → Type 0
 IsPlace (InHeader at held) = (length held < need held) × (at ≤ longest)
 IsPlace (InBody at kind next left) = (0 < left) × (left ≤ next) × (next ≤ longest)
+IsPlace (InHeld at kind size held) = (length held < size) × (at + size ≤ longest) × Begins size held
 IsPlace (InOpenBody at kind left) = left ≤ longest
 
--- the place of a reader in this phase to which these bytes of a header came
-abbrev pub place_of : List ℕ → Phase → Place
-place_of held (phases.Header at) = InHeader at held
-place_of held (phases.Body at kind next left) = InBody at kind next left
-place_of held (phases.OpenBody at kind left) = InOpenBody at kind left
+-- how many bytes a reader has claimed where it stands
+abbrev pub own_of : Place → ℕ
+own_of (InHeader at held) = 0
+own_of (InBody at kind next left) = 0
+own_of (InHeld at kind size held) = size
+own_of (InOpenBody at kind left) = 0
 
--- a reader holds bytes of a header in a header only
+abbrev pub standing : Place → Standing
+standing p = record { from = from_of p; begun = begun_of p; brings = brings_of p; own = own_of p }
+
+-- the place of a reader in this phase to which these bytes of a header came
+abbrev pub place_by : List ℕ → Phase → Place
+place_by head (phases.Header at) = InHeader at head
+place_by head (phases.Body at kind next left) = InBody at kind next left
+place_by head (phases.OpenBody at kind left) = InOpenBody at kind left
+
+-- a box that is held comes first
+abbrev pub place_of : List ℕ → Phase → Option Holding → Place
+place_of head phase None = place_by head phase
+place_of head phase (Some h) = InHeld h.at h.kind h.size h.bytes
+
+-- a reader has bytes of a header in a header only
 abbrev pub IsPhase : List ℕ → Phase → Type 0
-IsPhase held (phases.Header at) = IsPlace (InHeader at held)
-IsPhase held (phases.Body at kind next left) = (held ≡ []) × IsPlace (InBody at kind next left)
-IsPhase held (phases.OpenBody at kind left) = (held ≡ []) × IsPlace (InOpenBody at kind left)
+IsPhase head (phases.Header at) = IsPlace (InHeader at head)
+IsPhase head (phases.Body at kind next left) = (head ≡ []) × IsPlace (InBody at kind next left)
+IsPhase head (phases.OpenBody at kind left) = (head ≡ []) × IsPlace (InOpenBody at kind left)
+
+-- while a box is held the reader waits for the next header, which stands behind it
+abbrev pub IsReader : List ℕ → Phase → Option Holding → Type 0
+IsReader head phase None = IsPhase head phase
+IsReader head phase (Some h) = (head ≡ []) × (phase ≡ phases.Header (h.at + h.size)) × IsPlace (InHeld h.at h.kind h.size h.bytes)

@@ -35,6 +35,10 @@ silent = record { text = []; most = 0 }
 abbrev pub says : List ℕ → Told
 says text = record { text = text; most = 0 }
 
+-- so many bytes of a box are held
+abbrev pub holds : ℕ → Told
+holds n = record { text = []; most = n }
+
 abbrev pub both : Told → Told → Told
 both s t = record { text = s.text ++ t.text; most = max s.most t.most }
 

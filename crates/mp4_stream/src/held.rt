@@ -1,22 +1,23 @@
 //! A box that is held while it comes.
 
 ghost use Rattle.std.specs.Prelude.{◌≡◌, ◌+◌, ◌-◌, ◌^◌, ◌<◌, ◌≤◌, ◌↔◌, ◌++◌, length, take, min, true, false, Some, Ok, IfOk, IfErr, OnErr, OnOk, IsErrOf, IsTrue};
-ghost use Rattle.mp4_box.specs.Headers.{IsWhole};
 ghost use Rattle.mp4_box.specs.Streams.{AppendsFront};
-ghost use Rattle.mp4_box.specs.Trees.{tree_faults, verdict};
+ghost use Rattle.mp4_box.specs.Trees.{box_at, tree_faults, verdict, view};
 ghost use Rattle.mp4_ledger.specs.Memory.{claimed, given_back};
 ghost use Rattle.mp4_stream.specs.Blocks.{Passes};
 ghost use Rattle.mp4_stream.specs.Holding.{held_lines, most_held};
+ghost use Rattle.mp4_stream.specs.Places.{Begins};
 
 use crate::block::Block;
 use crate::listing::put_tree;
-use mp4_box::{Failed, Fault, FourCc, Sink, check_tree, whole_box};
+use mp4_box::{BoxRef, Failed, Fault, FourCc, Sink, check_tree, whole_box};
 use mp4_ledger::{Buf, Ledger, Refused};
 use std::marker::Model;
 
 /// A moov or moof in claimed memory. It must be given back.
 pub(crate) struct Held {
     at: u64,
+    kind: FourCc,
     buf: Buf,
 }
 
@@ -27,7 +28,7 @@ impl Model for Held {
 
     ghost Value = { Holding };
 
-    ghost view = { λ h. record { at = h.at; size = h.buf.cap; bytes = h.buf.bytes } };
+    ghost view = { λ h. record { at = h.at; kind = h.kind; size = h.buf.cap; bytes = h.buf.bytes } };
 
     ghost invariant = { λ h. (h.at + h.buf.cap ≤ 2 ^ 62) × (length h.buf.bytes ≤ h.buf.cap) };
 }
@@ -56,12 +57,13 @@ impl Held {
     pub(crate) fn claim(
         ledger: &mut Ledger,
         at: u64,
+        kind: FourCc,
         size: u64,
         header: &[u8],
     ) -> Result<Held, Refused>
         requires room { length header.now ≤ size }
         requires end { at + size ≤ 2 ^ 62 }
-        ensures held { IfOk result (λ h. h ≡ record { at = at; size = size; bytes = header.now }) }
+        ensures held { IfOk result (λ h. h ≡ record { at = at; kind = kind; size = size; bytes = header.now }) }
         ensures ok { OnOk result (ledger.new ≡ claimed ledger.old size) }
         ensures over_limit { IsErrOf result Refused.OverLimit ↔
             (ledger.old.limit < ledger.old.live + size) }
@@ -72,7 +74,7 @@ impl Held {
             Ok(buf) => {
                 let mut buf = buf;
                 buf.push_slice(header);
-                Ok(Held { at, buf })
+                Ok(Held { at, kind, buf })
             }
             Err(refused) => Err(refused),
         }
@@ -97,24 +99,34 @@ impl Held {
         self.buf.len() == self.buf.cap()
     }
 
+    /// Its type, and the offset of its first byte.
+    pub(crate) fn place(&self) -> (FourCc, u64)
+        ensures { result ≡ (self.now.kind, self.now.at) }
+    {
+        (self.kind, self.at)
+    }
+
     /// What is at fault in the tree of the box, all of which came.
     pub(crate) fn check(&self) -> Result<(), Fault>
-        requires { IsWhole self.now.bytes }
+        requires begins { Begins self.now.size self.now.bytes }
+        requires whole { length self.now.bytes ≡ self.now.size }
         ensures { result ≡ verdict (tree_faults self.now.at self.now.bytes) }
     {
-        check_tree(self.buf.bytes(), self.at)
+        check_whole(self.buf.bytes(), self.at)
     }
 
     /// Puts the lines of the box, all of which came, and of those below it.
     pub(crate) fn list<W: Sink>(&self, out: &mut Block, w: &mut W) -> Result<(), Failed>
-        requires { IsWhole self.now.bytes }
+        requires begins { Begins self.now.size self.now.bytes }
+        requires whole { length self.now.bytes ≡ self.now.size }
         ensures ok { OnOk result (Passes (W.contents w.old) (W.contents w.new) out.old out.new
             (held_lines self.now.at self.now.bytes)) }
         ensures err { OnErr result (AppendsFront (W.contents w.old) (W.contents w.new)
             (out.old ++ held_lines self.now.at self.now.bytes)) }
         ensures failed { OnErr result (W.has_failed w.new ≡ true) }
     {
-        put_tree(&whole_box(self.buf.bytes(), self.at), 7, 0, out, w)
+        let this = whole_held(self.buf.bytes(), self.at);
+        put_tree(&this, 7, 0, out, w)
     }
 
     /// Gives its room back.
@@ -122,7 +134,29 @@ impl Held {
         requires { self.size ≤ ledger.old.live }
         ensures { ledger.new ≡ given_back ledger.old self.size }
     {
-        let Held { at: _, buf } = self;
+        let Held {
+            at: _,
+            kind: _,
+            buf,
+        } = self;
         ledger.back(buf);
     }
+}
+
+/// What is at fault in the tree of the box that the bytes are.
+fn check_whole(bytes: &[u8], at: u64) -> Result<(), Fault>
+    requires begins { Begins (length bytes.now) bytes.now }
+    requires room { at + length bytes.now ≤ 2 ^ 62 }
+    ensures { result ≡ verdict (tree_faults at bytes.now) }
+{
+    check_tree(bytes, at)
+}
+
+/// The box that the bytes are.
+fn whole_held<'a>(bytes: &'a [u8], at: u64) -> BoxRef<'a>
+    requires begins { Begins (length bytes.now) bytes.now }
+    requires room { at + length bytes.now ≤ 2 ^ 62 }
+    ensures { box_at at bytes.now ≡ Some (view result) }
+{
+    whole_box(bytes, at)
 }

@@ -2,21 +2,24 @@
 //! a join of whole boxes and then nothing, a box to the end of the stream, or bytes that begin no whole box:
 //! the first law reads past the join, the others tell what the rest comes to.
 
-ghost use Rattle.std.specs.Prelude.{◌≡◌, ◌+◌, ◌-◌, ◌<◌, ◌≤◌, ◌++◌, List, ℕ, [], length, Some};
-ghost use Rattle.mp4_box.specs.Headers.{BeginsWith, Head, IsBytes, kind_of, need};
+ghost use Rattle.std.specs.Prelude.{◌≡◌, ◌+◌, ◌-◌, ◌<◌, ◌≤◌, ◌++◌, ◌∷◌, List, ℕ, [], length, None, Some};
+ghost use Rattle.mp4_box.specs.Headers.{BeginsWith, Head, IsBox, IsBytes, kind_of, need};
+ghost use Rattle.mp4_box.specs.Trees.{tree_faults};
 ghost use Rattle.mp4_box.specs.declared.headers.Header.{Header};
 ghost use Rattle.mp4_box.specs.declared.headers.Size.TheVariants.{Exact, ToEnd};
-ghost use Rattle.mp4_box.specs.declared.refusal.Rule.TheVariants.{BadSize, StreamTooLong, Truncated};
+ghost use Rattle.mp4_box.specs.declared.refusal.Fault.{Fault};
+ghost use Rattle.mp4_box.specs.declared.refusal.Rule.TheVariants.{BadSize, StreamTooLong, TooLarge, Truncated};
 ghost use Rattle.mp4_stream.specs.Boxes.{cut_off, least_end, longest, reading, refused};
-ghost use Rattle.mp4_stream.specs.Joined.{AreBoxes, lines_from};
+ghost use Rattle.mp4_stream.specs.Holding.{most_held};
+ghost use Rattle.mp4_stream.specs.Joined.{AreBoxes, Item, joined, told_from};
 ghost use Rattle.mp4_stream.specs.Listing.{box_line};
-ghost use Rattle.mp4_stream.specs.Readings.{GrowsTo, after, nothing, says};
+ghost use Rattle.mp4_stream.specs.Readings.{GrowsTo, Refused, after, holds, nothing, says, silent};
 
-/// Whole boxes are listed, one line each, and the bytes behind them are read as if they came first.
+/// Whole boxes that break no rule are told one after the other, a moov or moof by its tree and each other
+/// by its line, and the bytes behind them are read as if they came first.
 pub fn whole_boxes()
-    ensures { (hs : List Header) (at : ℕ) (b later : List ℕ) → AreBoxes hs b → at + length b ≤
-        longest → reading at (b ++ later) ≡ after (says (lines_from at hs))
-        (reading (at + length b) later) }
+    ensures { (bs : List Item) (at : ℕ) (later : List ℕ) → AreBoxes at bs → at + length (joined bs) ≤ longest →
+        reading at (joined bs ++ later) ≡ after (told_from at bs) (reading (at + length (joined bs)) later) }
 {}
 
 /// Where no header begins the rest: nothing is left, or too few bytes for a header, or a size without room.
@@ -32,14 +35,30 @@ pub fn rest_without_header()
 pub fn rest_with_header()
     ensures too_long { (at : ℕ) (h : Header) (x y : List ℕ) → Head h x → longest < least_end at h
         h.size → reading at (x ++ y) ≡ refused StreamTooLong (Some h.kind) at }
-    ensures cut { (at s : ℕ) (h : Header) (x y : List ℕ) → Head h x → h.size ≡ Exact s → at + s ≤
-        longest → length (x ++ y) < s → reading at (x ++ y) ≡ after (says (box_line at h))
+    ensures cut { (at s : ℕ) (h : Header) (x y : List ℕ) → Head h x → most_held h.kind.0 ≡ None → h.size ≡ Exact s →
+        at + s ≤ longest → length (x ++ y) < s → reading at (x ++ y) ≡ after (says (box_line at h))
         (cut_off Truncated (Some h.kind) at) }
-    ensures to_end { (at : ℕ) (h : Header) (x y : List ℕ) → Head h x → h.size ≡ ToEnd → at + length
-        (x ++ y) ≤ longest → reading at (x ++ y) ≡ after (says (box_line at h)) nothing }
-    ensures to_end_too_long { (at : ℕ) (h : Header) (x y : List ℕ) → Head h x → h.size ≡ ToEnd → at
-        + length x ≤ longest → longest < at + length (x ++ y) → reading at (x ++ y) ≡ after
+    ensures to_end { (at : ℕ) (h : Header) (x y : List ℕ) → Head h x → most_held h.kind.0 ≡ None → h.size ≡ ToEnd →
+        at + length (x ++ y) ≤ longest → reading at (x ++ y) ≡ after (says (box_line at h)) nothing }
+    ensures to_end_too_long { (at : ℕ) (h : Header) (x y : List ℕ) → Head h x → most_held h.kind.0 ≡ None →
+        h.size ≡ ToEnd → at + length x ≤ longest → longest < at + length (x ++ y) → reading at (x ++ y) ≡ after
         (says (box_line at h)) (refused StreamTooLong (Some h.kind) at) }
+{}
+
+/// Where the header x of a moov or moof begins the rest: it is too large to be held, isn't whole, or has a fault
+/// in its tree.
+pub fn rest_that_is_held()
+    ensures too_large { (at limit s : ℕ) (h : Header) (x y : List ℕ) → Head h x → most_held h.kind.0 ≡ Some limit →
+        h.size ≡ Exact s → at + s ≤ longest → limit < s → reading at (x ++ y) ≡ refused TooLarge (Some h.kind) at }
+    ensures to_end { (at limit : ℕ) (h : Header) (x y : List ℕ) → Head h x → most_held h.kind.0 ≡ Some limit →
+        h.size ≡ ToEnd → at + length x ≤ longest → reading at (x ++ y) ≡ refused TooLarge (Some h.kind) at }
+    ensures cut { (at limit s : ℕ) (h : Header) (x y : List ℕ) → Head h x → most_held h.kind.0 ≡ Some limit →
+        h.size ≡ Exact s → at + s ≤ longest → s ≤ limit → length (x ++ y) < s →
+        reading at (x ++ y) ≡ after (holds s) (cut_off Truncated (Some h.kind) at) }
+    ensures bad_tree { (at limit : ℕ) (h : Header) (payload x y : List ℕ) (f : Fault) (fs : List Fault) →
+        IsBox h payload x → most_held h.kind.0 ≡ Some limit → at + length x ≤ longest → length x ≤ limit →
+        tree_faults at x ≡ f ∷ fs →
+        reading at (x ++ y) ≡ after (holds (length x)) (record { told = silent; ending = Refused f }) }
 {}
 
 /// What more bytes write begins with what fewer write, and a fault that these decide is that of every stream

@@ -1,14 +1,14 @@
 //! What a stream of boxes comes to, and the engine that reads it as it comes.
 //!
-//! - [`top`]: [`top_boxes`], which lists the boxes at the top of a stream;
+//! - [`top`]: [`boxes`], which lists the boxes of a stream;
 //! - [`machine`]: what is fed the stream piece by piece, and where it stands in it;
 //! - [`listing`]: the line of a box, and those of a tree of boxes;
-//! - [`held`]: a moov or moof in claimed memory, which no run holds yet;
+//! - [`held`]: a moov or moof in claimed memory;
 //! - [`line`]: a line under construction, and [`block`]: bytes on their way to a sink;
 //! - [`laws`]: what the definitions of `specs/` imply.
 //!
-//! The definitions: `specs/Readings.antt` (a stream read item by item), `specs/Boxes.antt` (its top-level
-//! boxes), `specs/Listing.antt` (their lines), `specs/Answers.antt` (what a run answers and writes).
+//! The definitions: `specs/Readings.antt` (a stream read item by item), `specs/Boxes.antt` (its boxes),
+//! `specs/Listing.antt` (their lines), `specs/Answers.antt` (what a run answers, writes and claims).
 #![tactic(auto)]
 
 mod block;
@@ -23,4 +23,5 @@ pub use line::Line;
 pub use mp4_box::{
     Failed, Fault, FourCc, FromRead, IntoWrite, Rule, Sink, Source, ends, vectors, write_all,
 };
-pub use top::{Stop, top_boxes};
+pub use mp4_ledger::Ledger;
+pub use top::{Stop, Totals, boxes};

@@ -3,8 +3,10 @@
 /// The numbers that every command takes.
 #[derive(Clone, Copy, Debug, PartialEq, Eq)]
 pub struct Settings {
-    /// The size of the buffer that bytes are copied through, in bytes.
+    /// The size of the buffer that bytes are read into, in bytes.
     pub copy: u32,
+    /// The most memory that may be claimed at once, in bytes.
+    pub max_held: u64,
 }
 
 /// A command, with the numbers that came with it.

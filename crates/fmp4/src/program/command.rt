@@ -54,7 +54,11 @@ fn settings_from(matches: &ArgMatches<'_>) -> Option<Settings>
     ensures ranges { IfSome result IsAllowed }
 {
     let copy = number_or(matches, "copy", 65536, 4096, 1048576)?;
-    Some(Settings { copy: copy as u32 })
+    let max_held = number_or(matches, "max-held", 536870912, 1, 1 << 62)?;
+    Some(Settings {
+        copy: copy as u32,
+        max_held,
+    })
 }
 
 fn invocation_from(name: &str, matches: &ArgMatches<'_>) -> Option<Invocation>
@@ -89,7 +93,9 @@ fn settings_command<'a>(alloc: Global, name: &'a str) -> Result<Command<'a>, All
     ensures app { IfOk result (λ command. app_of command ≡ settings_app name.entry.now) }
     ensures local { IfOk result (λ command. (out-Command command).has_globals ≡ false) }
 {
-    Command::new(alloc, name).arg(valued_option(alloc, "copy"))
+    Command::new(alloc, name)
+        .arg(valued_option(alloc, "copy"))?
+        .arg(valued_option(alloc, "max-held"))
 }
 
 fn program_command<'a>(alloc: Global) -> Result<Command<'a>, AllocError>

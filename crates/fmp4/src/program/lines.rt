@@ -2,12 +2,35 @@
 
 ghost use Rattle.std.specs.Prelude.{◌≡◌, ◌+◌, ◌≤◌, ◌++◌, codes, length};
 ghost use Rattle.std.specs.Fmt.{decimal};
-ghost use Rattle.fmp4.specs.Lines.{fault_text, kind_text, line};
+ghost use Rattle.fmp4.specs.Lines.{fault_text, kind_text, line, stop_text};
 
-use mp4_stream::{Fault, FourCc, Line};
+use mp4_stream::{Fault, FourCc, Line, Stop};
+
+/// The line of what stopped a run.
+pub fn stop_line(stop: &Stop) -> Line
+    ensures { result ≡ line (stop_text stop.now) }
+{
+    match stop {
+        Stop::Stream(fault) => fault_line(fault),
+        Stop::Read { at } => read_line(*at),
+        Stop::Write => plain_line(b"fmp4: write failed\n"),
+        Stop::OverLimit => plain_line(b"fmp4: over the limit\n"),
+        Stop::Memory => plain_line(b"fmp4: out of memory\n"),
+    }
+}
+
+/// A line of this text.
+fn plain_line(text: &[u8]) -> Line
+    requires { length text.now ≤ 96 }
+    ensures { result ≡ text.now }
+{
+    let mut line = Line::new();
+    line.push_bytes(text);
+    line
+}
 
 /// The line of a fault, as `fmp4: 1 Truncated in mdat at 460`.
-pub fn fault_line(fault: &Fault) -> Line
+fn fault_line(fault: &Fault) -> Line
     ensures { result ≡ line (fault_text fault.now) }
 {
     let mut line = Line::new();
@@ -24,7 +47,7 @@ pub fn fault_line(fault: &Fault) -> Line
 }
 
 /// The line of a failed read, as `fmp4: read failed at 470`.
-pub fn read_line(at: u64) -> Line
+fn read_line(at: u64) -> Line
     ensures { result ≡ line (codes "read failed at " ++ decimal at) }
 {
     let mut line = Line::new();

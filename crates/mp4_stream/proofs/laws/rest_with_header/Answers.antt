@@ -6,8 +6,8 @@ use Rattle.mp4_stream.proofs.laws.rest_with_header.Goals as goal
 
 pub returns : goal.returns
 returns c = record {
-  too_long = λ at h x y p far. reading-whole at x y h (head-need h x p) (head-whole h x p) ∙ reading-too_long at h y far;
-  cut = λ at s h x y p e near short. reading-cut at s h x y p e near short;
-  to_end = λ at h x y p e near. reading-open at h x y p e near;
-  to_end_too_long = λ at h x y p e near far. reading-open_long at h x y p e near far;
+  too_long = λ at h x y p far. reading-whole at x y h (head-need h x p) (head-whole h x p) ∙ reading-too_long at h x y far;
+  cut = λ at s h x y p loose e near short. reading-cut at s h x y p loose e near short;
+  to_end = λ at h x y p loose e near. reading-open at h x y p loose e near;
+  to_end_too_long = λ at h x y p loose e near far. reading-open_long at h x y p loose e near far;
 }

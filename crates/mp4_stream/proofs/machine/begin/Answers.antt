@@ -1,15 +1,19 @@
-use Rattle.std.proofs.Common.{◌++◌, ◌∙◌, []}
-use Rattle.mp4_stream.specs.Places.{place_of, reading_from}
-use Rattle.mp4_stream.proofs.PlaceLemmas.{front-line, Refuses-far, GoesOn-line}
+use Rattle.std.proofs.Common.{◌++◌, ◌∙◌, [], sym}
+use Rattle.mp4_stream.specs.Places.{place_by}
+use Rattle.mp4_stream.proofs.PlaceLemmas.{Refuses-far, GoesOn-line, FailsIn-line, begun-none, own-none}
 use Rattle.mp4_stream.proofs.machine.begin.Goals as goal
 
-pub returns-in-Err-clause-err : goal.returns-in-Err-clause-err
-returns-in-Err-clause-err g c = λ more later.
-    front-line _ _ c.args.out.now c.args.at c.args.header.now (more ++ later) c.in-Some.ensures.some (rw (← c.line_of.ensures, ← c.bytes.ensures) c.in-Err.ensures.err)
-
 pub returns-in-None-clause-err : goal.returns-in-None-clause-err
-returns-in-None-clause-err g c = λ more. rw c.refused.ensures (Refuses-far _ c.args.out.now c.args.at c.args.header.now more c.in-None.ensures.none)
+returns-in-None-clause-err g c = λ more.
+    rw c.refused.ensures (Refuses-far _ c.args.out.now c.args.ledger.now c.args.at c.args.header.now c.args.head.now c.requires.len c.requires.is more c.in-None.ensures.none)
 
 pub returns-in-Ok-clause-ok : goal.returns-in-Ok-clause-ok
 returns-in-Ok-clause-ok g c =
-    GoesOn-line _ _ c.args.out.now c.put.new.self c.args.at c.args.header.now c.bytes.result.now (reading_from (place_of [] c.in-Some.phase)) (c.bytes.ensures ∙ c.line_of.ensures) c.in-Some.ensures.some c.in-Some.ensures.brings c.in-Ok.ensures.ok
+    let next = c.in-Some.ensures in
+    GoesOn-line _ c.args.out.now c.args.ledger.now c.args.at c.args.header.now c.args.head.now c.requires.len c.requires.is _ c.put.new.self c.bytes.result.now (place_by [] c.in-Some.phase) (c.bytes.ensures ∙ c.line_of.ensures)
+    next.some (sym c.held_limit.ensures ∙ c.in-None-held_limit.is) (own-none [] c.in-Some.phase) (begun-none c.in-Some.phase) next.reached next.brings c.in-Ok.ensures.ok
+
+pub returns-in-Err-clause-err : goal.returns-in-Err-clause-err
+returns-in-Err-clause-err g c = λ more later.
+    let failed = rw (c.bytes.ensures, c.line_of.ensures) at c.in-Err.ensures.err in
+    FailsIn-line _ c.args.out.now c.args.ledger.now c.args.at c.args.header.now c.args.head.now c.requires.len c.requires.is _ (more ++ later) c.in-Some.ensures.some (sym c.held_limit.ensures ∙ c.in-None-held_limit.is) failed

@@ -38,3 +38,23 @@ returns-clause-other_option c = refl
 pub returns-clause-help : goal.returns-clause-help
 unfolding clap_on_literals program_app command_of invocation_of settings_of number_or number_in
 returns-clause-help c = refl
+
+pub returns-clause-least_held : goal.returns-clause-least_held
+unfolding clap_on_literals program_app command_of invocation_of settings_of number_or number_in
+returns-clause-least_held c = refl
+
+pub returns-clause-greatest_held : goal.returns-clause-greatest_held
+unfolding clap_on_literals program_app command_of invocation_of settings_of number_or number_in
+returns-clause-greatest_held c = refl
+
+pub returns-clause-both_options : goal.returns-clause-both_options
+unfolding clap_on_literals program_app command_of invocation_of settings_of number_or number_in
+returns-clause-both_options c = refl
+
+pub returns-clause-held_too_small : goal.returns-clause-held_too_small
+unfolding clap_on_literals program_app command_of invocation_of settings_of number_or number_in
+returns-clause-held_too_small c = refl
+
+pub returns-clause-held_too_large : goal.returns-clause-held_too_large
+unfolding clap_on_literals program_app command_of invocation_of settings_of number_or number_in
+returns-clause-held_too_large c = refl

@@ -1,7 +1,7 @@
 use Rattle.std.proofs.Common.{arith, rules}
 use Rattle.std.proofs.lemmas.Result.{err_from_is_err_and}
 use Rattle.std.proofs.lemmas.List.{take_rest, length-drop}
-use Rattle.mp4_stream.specs.Places.{reading_from}
+use Rattle.mp4_stream.specs.Places.{standing}
 use Rattle.mp4_stream.proofs.AnswerLemmas.{GoesOn-none, GoesOn-take_more, StopsAt-take_more}
 use Rattle.mp4_stream.proofs.machine.Machine.take_all.Goals as goal
 
@@ -9,14 +9,14 @@ pub returns-in_err-at-clause-err : goal.returns-in_err-at-clause-err
 returns-in_err-at-clause-err g c =
     let p = err_from_is_err_and c.from_residual.result c.from_residual.ensures.1 in
     let stops = simp take_rest at c.in_err-at.ensures.err in
-    rw (p.1, p.2) (StopsAt-take_more _ _ c.loop-at.at c.args.piece.now c.in_err-at.field-0.0 c.loop-at.invariant.goes_on stops)
+    rw (p.1, p.2) (StopsAt-take_more c.requires.own c.loop-at.at c.args.piece.now c.loop-at.invariant.goes_on _ _ _ _ c.in_err-at.field-0.0 stops)
 
 pub loop-at-init : goal.loop-at-init
 loop-at-init g c = record {
   within = omega arith;
-  goes_on = GoesOn-none _ c.args.out.now (reading_from c.args.self.now);
+  goes_on = GoesOn-none _ c.args.out.now c.args.ledger.now (standing c.args.self.now);
+  own = c.requires.own;
   place = search rules;
-  reached = omega arith;
 }
 
 pub loop-at-preserved : goal.loop-at-preserved
@@ -25,7 +25,7 @@ loop-at-preserved g c =
     let taken = simp take_rest at c.in_ok-at.ensures.taken in
     record {
       within = omega (arith, taken, length-drop c.loop-at.at c.args.piece.now);
-      goes_on = GoesOn-take_more c.loop-at.at c.in_ok-at.field-0 c.args.piece.now c.loop-at.invariant.goes_on goes;
+      goes_on = GoesOn-take_more c.requires.own c.loop-at.at c.args.piece.now c.loop-at.invariant.goes_on c.in_ok-at.field-0 _ goes;
+      own = c.in_ok-at.ensures.own;
       place = c.in_ok-at.ensures.place;
-      reached = omega (arith, c.in_ok-at.ensures.reached);
     }

@@ -1,16 +1,16 @@
 use Rattle.std.proofs.Common.{◌≡◌, ◌≤◌, ◌+◌, ◌-◌, ◌^◌, List, ℕ, length, []}
 use Rattle.std.specs.Io.KnownBytes.{Consumes}
-use Rattle.mp4_stream.specs.Places.{reached, reading_from, IsPlace, InHeader}
+use Rattle.mp4_stream.specs.Places.{InHeader, IsPlace, own_of, standing}
 use Rattle.mp4_stream.specs.Answers.{GoesOn}
-use Rattle.mp4_stream.proofs.top.top_boxes.Given as goal
+use Rattle.mp4_stream.proofs.top.read_on.Given as goal
 
 abbrev pub invariant-loop-machine : goal.invariant-loop-machine
 invariant-loop-machine g l =
     (b : List ℕ) × record {
       read : Consumes (g.R.Source.remaining l.initial.r) (g.R.Source.remaining l.r) b;
-      goes_on : GoesOn (g.W.Sink.contents l.initial.w) (g.W.Sink.contents l.w) [] [] (reading_from (InHeader 0 [])) b (reading_from l.machine);
+      goes_on : GoesOn (g.W.Sink.contents l.initial.w) (g.W.Sink.contents l.w) [] [] l.initial.ledger l.ledger (standing (InHeader 0 [])) b (standing l.machine);
+      own : own_of l.machine ≤ l.ledger.live;
       place : IsPlace l.machine;
-      reached : reached l.machine ≡ l.total;
       total : l.total ≡ length b;
       bound : l.total ≤ 2 ^ 62 + 31;
     }

@@ -1,0 +1,37 @@
+-- When all of a held box came, its bytes are one whole box.
+use Rattle.std.proofs.Common.{◌≡◌, ◌∙◌, ℕ, ◌-◌, List, [], ◌∷◌, ◌++◌, length, drop, length-take, length-drop, Some, Result, Ok, Err, ap, sym, refl, arith}
+use Rattle.std.specs.Prelude.{slice_range}
+use Rattle.mp4_box.specs.declared.headers.Header.{Header}
+use Rattle.mp4_box.specs.declared.headers.Size.TheVariants.{Exact}
+use Rattle.mp4_box.specs.declared.headers.Step.TheVariants as steps
+use Rattle.mp4_box.specs.Headers.{header_at, IsBytes, IsWhole}
+use Rattle.mp4_box.specs.Trees.{Box, box_at, box_by, verdict}
+use Rattle.mp4_box.specs.declared.refusal.Fault.{Fault}
+use Rattle.mp4_box.proofs.HeaderLemmas.{whole_is, header_at-append}
+use Rattle.mp4_box.proofs.GrammarLemmas.{is_whole}
+use Rattle.mp4_stream.specs.Places.{Begins}
+use Rattle.mp4_stream.proofs.BoxLemmas.{nat_lt_false}
+
+found : (x : List ℕ) (h : Header) → header_at x ≡ steps.Whole h → h.size ≡ Exact (length x) → box_at 0 x ≡ Some (record { header = h; offset = 0; payload = slice_range x h.header_len (length x) })
+unfolding box_at
+found x h e size = ap (box_by 0 x) e ∙ rw (size, nat_lt_false (length x) (length x) (omega arith)) refl
+
+pub begins_whole : (size : ℕ) (x : List ℕ) → IsBytes x → Begins size x → length x ≡ size → IsWhole x
+begins_whole size x fits (h, e, exact) len =
+    let w = whole_is x h e in
+    let box : Box = record { header = h; offset = 0; payload = slice_range x h.header_len (length x) } in
+    let rest : length (slice_range x h.header_len (length x)) ≡ length x - h.header_len = length-take (length x - h.header_len) (drop h.header_len x) ∙ omega (arith, length-drop h.header_len x) in
+    is_whole x box fits (found x h e (exact ∙ ap Exact (sym len))) (omega (arith, w.0, w.1, rest))
+
+-- more of the box came
+pub begins_more : (size : ℕ) (x y : List ℕ) → Begins size x → Begins size (x ++ y)
+begins_more size x y (h, e, exact) = (h, header_at-append x y (whole_is x h e).0 ∙ e, exact)
+
+-- what a verdict says of the faults
+pub verdict_good : {l : List Fault} {r : Result (Unit {0}) Fault} {u : Unit {0}} → r ≡ verdict l → r ≡ Ok u → l ≡ []
+verdict_good {l = []} e f = refl
+verdict_good {l = x ∷ l} e f = absurd cc
+
+pub verdict_bad : {l : List Fault} {r : Result (Unit {0}) Fault} {x : Fault} → r ≡ verdict l → r ≡ Err x → (fs : List Fault) × (l ≡ x ∷ fs)
+verdict_bad {l = []} e f = absurd cc
+verdict_bad {l = y ∷ l} e f = (l, cc)

@@ -1,0 +1,8 @@
+use Rattle.mp4_stream.specs.Places.{InHeld, standing}
+use Rattle.mp4_stream.proofs.AnswerLemmas.{GoesOn-none}
+use Rattle.mp4_stream.proofs.machine.settle_whole.Goals as goal
+
+pub returns-then-not-is_whole-clause-ok : goal.returns-then-not-is_whole-clause-ok
+returns-then-not-is_whole-clause-ok g c =
+    let held = c.args.held in
+    GoesOn-none _ c.args.out.now c.args.ledger.now (standing (InHeld held.at held.kind held.size held.bytes))

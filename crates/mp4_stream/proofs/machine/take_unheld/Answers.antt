@@ -1,0 +1,41 @@
+use Rattle.std.proofs.Common.{◌≡◌, ◌∷◌, [], ℕ, List, drop, take, get_or, length, length-take-le, ◌<◌, arith, rules, refl, sym, subst}
+use Rattle.std.proofs.Math.Seq.{take-length}
+use Rattle.mp4_stream.specs.Answers.{StopsAt}
+use Rattle.mp4_stream.specs.Places.{InHeader, InBody, InOpenBody, place_by, standing}
+use Rattle.mp4_stream.proofs.PlaceLemmas.{GoesOn-passed, Refuses-passed, begun-none, own-none}
+use Rattle.mp4_stream.proofs.machine.take_unheld.Goals as goal
+
+first_of_piece : (piece : List ℕ) → 0 < length piece → get_or piece 0 0 ∷ drop 1 piece ≡ piece
+first_of_piece [] h = absurd (omega arith)
+first_of_piece (b ∷ piece) h = search rules
+
+pub returns-in-Err-clause-err : goal.returns-in-Err-clause-err
+returns-in-Err-clause-err g c =
+    rw c.in-Header.is
+    (subst (λ l. StopsAt (g.W.Sink.contents c.args.w.now) (g.W.Sink.contents c.take_byte.new.w) c.args.out.now c.take_byte.new.out c.args.ledger.now c.take_byte.new.ledger (standing (InHeader c.in-Header.at c.args.head.now)) l 0 c.in-Err.stop)
+    (first_of_piece c.args.piece.now c.requires.some) (c.in-Err.ensures.err (drop 1 c.args.piece.now)))
+
+pub returns-in-Body-clause-ok : goal.returns-in-Body-clause-ok
+returns-in-Body-clause-ok g c =
+    let phase = rw c.in-Body.is at c.requires.phase in
+    let n = c.pass-taken.result.0 in
+    let next = c.pass-taken.result.1 in
+    let passed = c.pass-taken.ensures in
+    let len = length-take-le n c.args.piece.now passed.taken.1 in
+    rw (c.in-Body.is, phase.0)
+    (GoesOn-passed _ c.args.out.now c.args.ledger.now (InBody c.in-Body.at c.in-Body.kind c.in-Body.next c.in-Body.left) (place_by [] next) (take n c.args.piece.now)
+    (sym (own-none [] next)) refl (begun-none next) (omega (arith, passed.reached, len)) passed.brings)
+
+pub returns-in-Ok-pass_open-clause-ok : goal.returns-in-Ok-pass_open-clause-ok
+returns-in-Ok-pass_open-clause-ok g c =
+    let phase = rw c.in-OpenBody.is at c.requires.phase in
+    let next = c.in-Ok-pass_open.phase in
+    let passed = c.in-Ok-pass_open.ensures in
+    rw (c.in-OpenBody.is, phase.0, take-length c.args.piece.now)
+    (GoesOn-passed _ c.args.out.now c.args.ledger.now (InOpenBody c.in-OpenBody.at c.in-OpenBody.kind c.in-OpenBody.left) (place_by [] next) c.args.piece.now
+    (sym (own-none [] next)) refl (begun-none next) passed.reached passed.brings)
+
+pub returns-in-Err-pass_open-clause-err : goal.returns-in-Err-pass_open-clause-err
+returns-in-Err-pass_open-clause-err g c =
+    rw (c.in-OpenBody.is, c.in-Err-pass_open.ensures.stops)
+    (Refuses-passed _ c.args.out.now c.args.ledger.now c.in-OpenBody.at c.in-OpenBody.left c.in-OpenBody.kind c.args.piece.now c.in-Err-pass_open.ensures.err)
