@@ -452,7 +452,7 @@ not_more_nor_whole BadSize m w = refl
 
 -- of a slice that begins with a header
 
-result-whole : (s : Step) (h : Header) → result_of s ≡ Ok h → s ≡ Whole h
+pub result-whole : (s : Step) (h : Header) → result_of s ≡ Ok h → s ≡ Whole h
 result-whole More h e = absurd cc
 result-whole (Whole k) h e = cc
 result-whole BadSize h e = absurd cc

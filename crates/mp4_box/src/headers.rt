@@ -71,7 +71,7 @@ fn has_user_type(bytes: &[u8]) -> bool
     requires { 8 ≤ length bytes.now }
     ensures { result ≡ has_user bytes.now }
 {
-    &bytes[4..8] == b"uuid".as_slice()
+    array_at::<4>(bytes, 4) == *b"uuid"
 }
 
 /// How many bytes the header has that begins with these.

@@ -47,17 +47,19 @@ pub(crate) fn first_box<'a>(bytes: &'a [u8], offset: u64) -> Option<BoxRef<'a>>
 pub fn holds_boxes(kind: FourCc) -> bool
     ensures { result ≡ is_container kind.0 }
 {
-    let kind = kind.0.as_slice();
-    kind == b"moov".as_slice()
-        || kind == b"trak".as_slice()
-        || kind == b"edts".as_slice()
-        || kind == b"mdia".as_slice()
-        || kind == b"minf".as_slice()
-        || kind == b"dinf".as_slice()
-        || kind == b"stbl".as_slice()
-        || kind == b"mvex".as_slice()
-        || kind == b"moof".as_slice()
-        || kind == b"traf".as_slice()
+    match &kind.0 {
+        b"moov"
+        | b"trak"
+        | b"edts"
+        | b"mdia"
+        | b"minf"
+        | b"dinf"
+        | b"stbl"
+        | b"mvex"
+        | b"moof"
+        | b"traf" => true,
+        _ => false,
+    }
 }
 
 fn bad_box(bytes: &[u8], offset: u64) -> Fault

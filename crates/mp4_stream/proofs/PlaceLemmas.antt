@@ -1,5 +1,5 @@
 -- What a reader of boxes brings by its place.
-use Rattle.std.proofs.Common.{◌≡◌, ℕ, ◌+◌, ◌^◌, ◌<◌, ◌≤◌, List, [], ◌∷◌, ◌++◌, length, Option, Some, None, ap, sym, refl, ◌∙◌, arith, append_assoc, append-nil, length-append, subst}
+use Rattle.std.proofs.Common.{◌≡◌, ℕ, ◌+◌, ◌^◌, ◌<◌, ◌≤◌, List, [], ◌∷◌, ◌++◌, length, Option, Some, None, ap, sym, refl, ◌∙◌, arith, append_assoc, append-nil, length-append, take, drop, take-append-drop, length-take-le, subst}
 use Rattle.mp4_box.specs.declared.headers.FourCc.{FourCc}
 use Rattle.mp4_box.specs.declared.headers.Header.{Header}
 use Rattle.mp4_box.specs.declared.headers.Size.TheVariants.{Exact, ToEnd}
@@ -9,7 +9,7 @@ use Rattle.mp4_box.specs.declared.refusal.Rule.TheVariants.{BadSize, StreamTooLo
 use Rattle.mp4_box.specs.Headers.{need, header_at, kind_of}
 use Rattle.mp4_box.specs.Streams.{AppendsFront}
 use Rattle.mp4_box.specs.Trees.{tree_faults}
-use Rattle.mp4_box.proofs.HeaderLemmas.{whole_is, bad_is, need_more, need-most}
+use Rattle.mp4_box.proofs.HeaderLemmas.{whole_is, bad_is, need_more, need-append, need-least, need-most, header_at-append}
 use Rattle.mp4_box.proofs.StreamLemmas.{AppendsFront-longer}
 use Rattle.mp4_ledger.specs.Memory.{Account, claimed, given_back}
 use Rattle.mp4_stream.specs.Accounts.{Counts, Spends}
@@ -225,3 +225,28 @@ module _ (t : Option (List ℕ)) (w : List ℕ) (a : Account) (at : ℕ) (kind :
 
   pub Refuses-tree : (more : List ℕ) (f : Fault) (fs : List Fault) → tree_faults at x ≡ f ∷ fs → Refuses t t w w a (given_back a size) (standing (InHeld at kind size x)) more 0 f
   Refuses-tree more f fs bad = record { brought = silent; passes = Passes-none t w; counts = Counts-back a size low; rest = λ later. reading-bad_tree at kind size x (more ++ later) f fs len bad }
+
+-- ---- a header that stands in a piece
+
+-- a header at the front of some bytes, by itself
+pub front-len : (x : List ℕ) (h : Header) → header_at x ≡ steps.Whole h → length (take h.header_len x) ≡ need (take h.header_len x)
+front-len x h is =
+    let w = whole_is x h is in
+    let len : length (take h.header_len x) ≡ h.header_len = length-take-le h.header_len x (omega (arith, w.0, w.1)) in
+    let same : need x ≡ need (take h.header_len x) = ap need (sym (take-append-drop h.header_len x)) ∙ need-append (take h.header_len x) (drop h.header_len x) (omega (arith, len, w.1, need-least x)) in
+    len ∙ w.1 ∙ same
+
+pub front-is : (x : List ℕ) (h : Header) → header_at x ≡ steps.Whole h → header_at (take h.header_len x) ≡ steps.Whole h
+front-is x h is =
+    let whole : need (take h.header_len x) ≤ length (take h.header_len x) = omega (arith, front-len x h is) in
+    sym (header_at-append (take h.header_len x) (drop h.header_len x) whole) ∙ ap header_at (take-append-drop h.header_len x) ∙ is
+
+module _ (t u : Option (List ℕ)) (w v : List ℕ) (a b : Account) (at : ℕ) (x : List ℕ) where
+  GoesOn-bytes : GoesOn t t w w a a (standing (InHeader at [])) x (standing (InHeader at x))
+  GoesOn-bytes = record { brought = silent; passes = Passes-none t w; counts = Counts-none a 0; done = []; cut = refl; from = omega arith; rest = λ later. sym (after-silent (reading at later)) }
+
+  pub GoesOn-header : (q : Standing) → GoesOn t u w v a b (standing (InHeader at x)) [] q → GoesOn t u w v a b (standing (InHeader at [])) x q
+  GoesOn-header q g = subst (λ l. GoesOn t u w v a b (standing (InHeader at [])) l q) (append-nil x) (GoesOn-more {p = standing (InHeader at [])} (omega arith) GoesOn-bytes [] q g)
+
+  pub StopsAt-header : (more : List ℕ) (own : ℕ) (s : Stop) → StopsAt t u w v a b (standing (InHeader at x)) more own s → StopsAt t u w v a b (standing (InHeader at [])) (x ++ more) own s
+  StopsAt-header more own s g = StopsAt-more {p = standing (InHeader at [])} (omega arith) GoesOn-bytes u v b more own s g

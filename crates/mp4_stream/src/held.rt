@@ -38,14 +38,11 @@ impl Model for Held {
 pub(crate) fn held_limit(kind: FourCc) -> Option<u64>
     ensures { result ≡ most_held kind.0 }
 {
-    let kind = kind.0.as_slice();
-    if kind == b"moov".as_slice() {
-        return Some(16_777_216);
+    match &kind.0 {
+        b"moov" => Some(16_777_216),
+        b"moof" => Some(67_108_864),
+        _ => None,
     }
-    if kind == b"moof".as_slice() {
-        return Some(67_108_864);
-    }
-    None
 }
 
 impl Held {

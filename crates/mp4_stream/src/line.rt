@@ -3,7 +3,7 @@
 ghost use Rattle.std.specs.Prelude.{◌≡◌, ◌+◌, ◌*◌, ◌<◌, ◌≤◌, ◌++◌, [], length, List, ℕ};
 ghost use Rattle.arrayvec.specs.ArrayVec.{array_vec_len};
 ghost use Rattle.std.specs.Fmt.{decimal};
-ghost use Rattle.mp4_stream.specs.Hex.{hex_bytes, hex_digit};
+ghost use Rattle.mp4_stream.specs.Hex.{hex_bytes, hex_digit, pair};
 
 use arrayvec::ArrayVec;
 use std::marker::Model;
@@ -78,8 +78,23 @@ fn push_digits(text: &mut ArrayVec<u8, 112>, number: u64)
         text.push(b'0' + number as u8);
         return;
     }
-    push_digits(text, number / 10);
-    text.push(b'0' + (number % 10) as u8);
+    if number < 100 {
+        push_pair(text, number as u8);
+        return;
+    }
+    push_digits(text, number / 100);
+    push_pair(text, (number % 100) as u8);
+}
+
+/// Puts a number below 100 behind the text, as two digits.
+fn push_pair(text: &mut ArrayVec<u8, 112>, number: u8)
+    requires room { array_vec_len text.old + 2 ≤ 112 }
+    requires small { number < 100 }
+    ensures items { text.new.items ≡ text.old.items ++ pair number }
+    ensures len { array_vec_len text.new ≡ array_vec_len text.old + 2 }
+{
+    text.push(b'0' + number / 10);
+    text.push(b'0' + number % 10);
 }
 
 /// Puts the bytes behind the text, in hexadecimal.

@@ -16,7 +16,7 @@ use crate::block::Block;
 use crate::held::{Held, held_limit};
 use crate::listing::line_of;
 use crate::top::Stop;
-use mp4_box::{Failed, Fault, FourCc, Header, HeaderReader, Rule, Sink, Size, Step};
+use mp4_box::{Failed, Fault, FourCc, Header, HeaderReader, Rule, Sink, Size, Step, header_of};
 use mp4_ledger::{Ledger, Refused};
 use std::marker::Model;
 use std::mem::replace;
@@ -288,8 +288,8 @@ fn take_unheld<W: Sink>(
     ensures spent { OnErr result (IsPhase head.new phase) }
 {
     match phase {
-        Phase::Header { at } => match take_byte(at, head, piece[0], ledger, out, w) {
-            Ok((phase, held)) => Ok((1, phase, held)),
+        Phase::Header { at } => match take_header(at, head, piece, ledger, out, w) {
+            Ok(taken) => Ok(taken),
             Err(stop) => Err(stop),
         },
         Phase::Body {
@@ -305,6 +305,44 @@ fn take_unheld<W: Sink>(
             Ok(phase) => Ok((piece.len(), phase, None)),
             Err(stop) => Err(stop),
         },
+    }
+}
+
+/// Takes the header of the box at `at`, where all of it stands in the piece, or else a byte of it: how many bytes, what
+/// comes next, and the box where it is held.
+fn take_header<W: Sink>(
+    at: u64,
+    head: &mut HeaderReader,
+    piece: &[u8],
+    ledger: &mut Ledger,
+    out: &mut Block,
+    w: &mut W,
+) -> Result<(usize, Phase, Option<Held>), Stop>
+    requires some { 0 < length piece.now }
+    requires place { IsPlace (InHeader at head.old) }
+    ensures taken { IfOk result (λ r. (0 < r.0) × (r.0 ≤ length piece.now)) }
+    ensures ok { IfOk result (λ r. GoesOn (W.contents w.old) (W.contents w.new) out.old out.new
+        ledger.old ledger.new (standing (InHeader at head.old)) (take r.0 piece.now)
+        (standing (place_of head.new r.1 r.2))) }
+    ensures err { IfErr result (λ e. StopsAt (W.contents w.old) (W.contents w.new) out.old out.new
+        ledger.old ledger.new (standing (InHeader at head.old)) piece.now 0 e) }
+    ensures own { IfOk result (λ r. own_of (place_of head.new r.1 r.2) ≤ ledger.new.live) }
+    ensures failed { IsErrOf result Stop.Write → W.has_failed w.new ≡ true }
+    ensures reader { IfOk result (λ r. IsReader head.new r.1 r.2) }
+    ensures spent { OnErr result (head.new ≡ []) }
+{
+    if head.is_empty() {
+        if let Ok(header) = header_of(piece) {
+            let len = header.header_len as usize;
+            return match begin(at, &header, &piece[..len], ledger, out, w) {
+                Ok((phase, held)) => Ok((len, phase, held)),
+                Err(stop) => Err(stop),
+            };
+        }
+    }
+    match take_byte(at, head, piece[0], ledger, out, w) {
+        Ok((phase, held)) => Ok((1, phase, held)),
+        Err(stop) => Err(stop),
     }
 }
 

@@ -1,19 +1,11 @@
-use Rattle.std.proofs.Common.{◌≡◌, ◌∷◌, [], ℕ, List, drop, take, get_or, length, length-take-le, ◌<◌, arith, rules, refl, sym, subst}
+use Rattle.std.proofs.Common.{[], take, length-take-le, arith, refl, sym}
 use Rattle.std.proofs.Math.Seq.{take-length}
-use Rattle.mp4_stream.specs.Answers.{StopsAt}
-use Rattle.mp4_stream.specs.Places.{InHeader, InBody, InOpenBody, place_by, standing}
+use Rattle.mp4_stream.specs.Places.{InBody, InOpenBody, place_by}
 use Rattle.mp4_stream.proofs.PlaceLemmas.{GoesOn-passed, Refuses-passed, begun-none, own-none}
 use Rattle.mp4_stream.proofs.machine.take_unheld.Goals as goal
 
-first_of_piece : (piece : List ℕ) → 0 < length piece → get_or piece 0 0 ∷ drop 1 piece ≡ piece
-first_of_piece [] h = absurd (omega arith)
-first_of_piece (b ∷ piece) h = search rules
-
 pub returns-in-Err-clause-err : goal.returns-in-Err-clause-err
-returns-in-Err-clause-err g c =
-    rw c.in-Header.is
-    (subst (λ l. StopsAt (g.W.Sink.contents c.args.w.now) (g.W.Sink.contents c.take_byte.new.w) c.args.out.now c.take_byte.new.out c.args.ledger.now c.take_byte.new.ledger (standing (InHeader c.in-Header.at c.args.head.now)) l 0 c.in-Err.stop)
-    (first_of_piece c.args.piece.now c.requires.some) (c.in-Err.ensures.err (drop 1 c.args.piece.now)))
+returns-in-Err-clause-err g c = rw c.in-Header.is c.in-Err.ensures.err
 
 pub returns-in-Body-clause-ok : goal.returns-in-Body-clause-ok
 returns-in-Body-clause-ok g c =
