@@ -22,6 +22,7 @@ use Rattle.mp4_stream.specs.Boxes.{longest, fault, refused, cut_off, sized_body,
 use Rattle.mp4_stream.specs.Places.{Place, InHeader, InBody, InHeld, InOpenBody, IsPlace, standing}
 use Rattle.mp4_stream.specs.Answers.{reading_from}
 use Rattle.mp4_stream.proofs.ReadingLemmas.{Below, Below-more, Below-told, IsItemwise, read_all-front, then_read-told}
+use Rattle.mp4_stream.specs.declared.machine.Command.TheVariants.{Boxes}
 
 pub nat_lt_true : (m n : ℕ) → m < n → nat_lt m n ≡ true
 nat_lt_true m n h = grind (arith, nat_tests)
@@ -186,18 +187,18 @@ reading-bad_tree at kind size x later f fs len bad =
 
 -- ---- the end of the stream
 
-pub ending-held : (at : ℕ) (held : List ℕ) → 0 < length held → length held < need held → fault_in (reading_from (standing (InHeader at held)) []).ending ≡ Some (fault Truncated (kind_of held) at)
+pub ending-held : (at : ℕ) (held : List ℕ) → 0 < length held → length held < need held → fault_in (reading_from (standing Boxes (InHeader at held)) []).ending ≡ Some (fault Truncated (kind_of held) at)
 ending-held at held some short = ap (λ r. fault_in r.ending) (ap (reading at) (append-nil held) ∙ reading-more at held some short)
 
-pub ending-none : (at : ℕ) (held : List ℕ) → held ≡ [] → fault_in (reading_from (standing (InHeader at held)) []).ending ≡ None
-ending-none at held e = ap (λ l. fault_in (reading_from (standing (InHeader at l)) []).ending) e ∙ ap (λ r. fault_in r.ending) (reading-none at)
+pub ending-none : (at : ℕ) (held : List ℕ) → held ≡ [] → fault_in (reading_from (standing Boxes (InHeader at held)) []).ending ≡ None
+ending-none at held e = ap (λ l. fault_in (reading_from (standing Boxes (InHeader at l)) []).ending) e ∙ ap (λ r. fault_in r.ending) (reading-none at)
 
 -- at no place the end of the stream tells anything
 silent-held : (at : ℕ) (held : List ℕ) → length held < need held → (reading at held).told ≡ silent
 silent-held at [] short = ap (λ r. r.told) (reading-none at)
 silent-held at (b ∷ held) short = ap (λ r. r.told) (reading-more at (b ∷ held) (omega arith) short)
 
-pub silent-end : (p : Place) → IsPlace p → (reading_from (standing p) []).told ≡ silent
+pub silent-end : (p : Place) → IsPlace p → (reading_from (standing Boxes p) []).told ≡ silent
 silent-end (InHeader at held) h = ap (λ l. (reading at l).told) (append-nil held) ∙ silent-held at held h.0
 silent-end (InBody at kind next left) h = rw (nat_lt_true 0 left h.0) refl
 silent-end (InHeld at kind size held) h = rw (nat_lt_true (length (held ++ [])) size (omega (arith, length-append held [], h.0))) refl

@@ -29,12 +29,18 @@ use Rattle.mp4_stream.proofs.AnswerLemmas.{GoesOn-more, StopsAt-more}
 use Rattle.mp4_stream.proofs.ReadingLemmas.{after-silent}
 use Rattle.mp4_stream.proofs.BlockLemmas.{Passes-none}
 use Rattle.mp4_stream.proofs.BoxLemmas.{reading-whole, reading-bad, reading-begun, reading-too_long, reading-too_large, reading-held_to_end, reading-holds, reading-good, reading-bad_tree}
+use Rattle.mp4_stream.specs.declared.machine.Command.{Command}
+use Rattle.mp4_stream.specs.declared.machine.Command.TheVariants.{Boxes}
 
-pub reached-most : (p : Place) → IsPlace p → reached (standing p) ≤ 2 ^ 62 + 31
+pub reached-most : (p : Place) → IsPlace p → reached (standing Boxes p) ≤ 2 ^ 62 + 31
 reached-most (InHeader at held) h = omega (arith, h.0, h.1, need-most held)
 reached-most (InBody at kind next left) h = omega arith
 reached-most (InHeld at kind size held) h = omega (arith, h.0, h.1)
 reached-most (InOpenBody at kind left) h = omega arith
+
+-- there is one command
+pub only-boxes : (command : Command) → command ≡ Boxes
+only-boxes Boxes = refl
 
 -- no byte of a header came
 pub begun-none : (p : Phase) → begun_of (place_by [] p) ≡ []
@@ -51,7 +57,7 @@ own-none head (phases.OpenBody at kind left) = refl
 -- ---- a byte of a header
 
 pub GoesOn-byte : (t : Option (List ℕ)) (w : List ℕ) (a : Account) (at : ℕ) (held : List ℕ) (byte : ℕ) (new : List ℕ) → new ≡ held ++ byte ∷ []
-    → GoesOn t t w w a a (standing (InHeader at held)) (byte ∷ []) (standing (InHeader at new))
+    → GoesOn t t w w a a (standing Boxes (InHeader at held)) (byte ∷ []) (standing Boxes (InHeader at new))
 GoesOn-byte t w a at held byte new e = record {
   brought = silent;
   passes = Passes-none t w;
@@ -75,7 +81,7 @@ bad-len held byte new short e is =
     omega (arith, most, bad_is new is)
 
 pub Refuses-bad : (t : Option (List ℕ)) (w : List ℕ) (a : Account) (at : ℕ) (held : List ℕ) (byte : ℕ) (new more : List ℕ) → length held < need held → new ≡ held ++ byte ∷ [] → header_at new ≡ steps.BadSize
-    → Refuses t t w w a a (standing (InHeader at held)) (byte ∷ more) 0 (fault BadSize (kind_of new) at)
+    → Refuses t t w w a a (standing Boxes (InHeader at held)) (byte ∷ more) 0 (fault BadSize (kind_of new) at)
 Refuses-bad t w a at held byte new more short e is = record {
   brought = silent;
   passes = Passes-none t w;
@@ -84,11 +90,11 @@ Refuses-bad t w a at held byte new more short e is = record {
 }
 
 module _ (t u : Option (List ℕ)) (w v : List ℕ) (a b : Account) (at : ℕ) (held : List ℕ) (byte : ℕ) (new : List ℕ) (e : new ≡ held ++ byte ∷ []) where
-  pub GoesOn-last : (q : Standing) → GoesOn t u w v a b (standing (InHeader at new)) [] q → GoesOn t u w v a b (standing (InHeader at held)) (byte ∷ []) q
-  GoesOn-last q g = GoesOn-more {p = standing (InHeader at held)} (omega arith) (GoesOn-byte t w a at held byte new e) [] q g
+  pub GoesOn-last : (q : Standing) → GoesOn t u w v a b (standing Boxes (InHeader at new)) [] q → GoesOn t u w v a b (standing Boxes (InHeader at held)) (byte ∷ []) q
+  GoesOn-last q g = GoesOn-more {p = standing Boxes (InHeader at held)} (omega arith) (GoesOn-byte t w a at held byte new e) [] q g
 
-  pub StopsAt-last : (more : List ℕ) (own : ℕ) (s : Stop) → StopsAt t u w v a b (standing (InHeader at new)) more own s → StopsAt t u w v a b (standing (InHeader at held)) (byte ∷ more) own s
-  StopsAt-last more own s g = StopsAt-more {p = standing (InHeader at held)} (omega arith) (GoesOn-byte t w a at held byte new e) u v b more own s g
+  pub StopsAt-last : (more : List ℕ) (own : ℕ) (s : Stop) → StopsAt t u w v a b (standing Boxes (InHeader at new)) more own s → StopsAt t u w v a b (standing Boxes (InHeader at held)) (byte ∷ more) own s
+  StopsAt-last more own s g = StopsAt-more {p = standing Boxes (InHeader at held)} (omega arith) (GoesOn-byte t w a at held byte new e) u v b more own s g
 
 -- a write failed in what is told first
 FailsIn-told : (t u : Option (List ℕ)) (w : List ℕ) (a b : Account) (o own : ℕ) (told : Told) (rest r : Reading) → r ≡ after told rest → AppendsFront t u (w ++ told.text) → Spends a b o own 0 → FailsIn t u w a b o own r
@@ -101,12 +107,12 @@ FailsIn-told t u w a b o own told rest r e p q = (
 
 module _ (t : Option (List ℕ)) (w : List ℕ) (a : Account) (at : ℕ) (h : Header) (x : List ℕ) (len : length x ≡ need x) (is : header_at x ≡ steps.Whole h) where
   -- the box goes past the longest stream
-  pub Refuses-far : (more : List ℕ) → longest < least_end at h h.size → Refuses t t w w a a (standing (InHeader at x)) more 0 (fault StreamTooLong (Some h.kind) at)
+  pub Refuses-far : (more : List ℕ) → longest < least_end at h h.size → Refuses t t w w a a (standing Boxes (InHeader at x)) more 0 (fault StreamTooLong (Some h.kind) at)
   Refuses-far more far = record { brought = silent; passes = Passes-none t w; counts = Counts-none a 0; rest = λ later. reading-whole at x (more ++ later) h len is ∙ reading-too_long at h x (more ++ later) far }
 
   -- its line was written
   pub GoesOn-line : (u : Option (List ℕ)) (v line : List ℕ) (p : Place) → line ≡ box_line at h → least_end at h h.size ≤ longest → most_held h.kind.0 ≡ None → own_of p ≡ 0 → begun_of p ≡ [] → from_of p ≡ at + h.header_len
-      → ((later : List ℕ) → then_read reading (body at h h.size later) ≡ brings_of p later) → Passes t u w v line → GoesOn t u w v a a (standing (InHeader at x)) [] (standing p)
+      → ((later : List ℕ) → then_read reading (body at h h.size later) ≡ brings_of Boxes p later) → Passes t u w v line → GoesOn t u w v a a (standing Boxes (InHeader at x)) [] (standing Boxes p)
   GoesOn-line u v line p e near loose none empty place brings q = record {
     brought = says (box_line at h);
     passes = subst (Passes t u w v) e q;
@@ -119,12 +125,12 @@ module _ (t : Option (List ℕ)) (w : List ℕ) (a : Account) (at : ℕ) (h : He
 
   -- its line can't be written
   pub FailsIn-line : (u : Option (List ℕ)) (later : List ℕ) → least_end at h h.size ≤ longest → most_held h.kind.0 ≡ None
-      → AppendsFront t u (w ++ box_line at h) → FailsIn t u w a a 0 0 (reading_from (standing (InHeader at x)) later)
-  FailsIn-line u later near loose p = FailsIn-told t u w a a 0 0 (says (box_line at h)) (then_read reading (body at h h.size later)) (reading_from (standing (InHeader at x)) later)
+      → AppendsFront t u (w ++ box_line at h) → FailsIn t u w a a 0 0 (reading_from (standing Boxes (InHeader at x)) later)
+  FailsIn-line u later near loose p = FailsIn-told t u w a a 0 0 (says (box_line at h)) (then_read reading (body at h h.size later)) (reading_from (standing Boxes (InHeader at x)) later)
       (reading-whole at x later h len is ∙ reading-begun at h x later near loose) p (Spends-counts a a 0 0 0 (Counts-none a 0))
 
   -- it is to be held, and has no size or one that is too large
-  pub Refuses-large : (more : List ℕ) (limit s : ℕ) → at + s ≤ longest → most_held h.kind.0 ≡ Some limit → h.size ≡ Exact s → limit < s → Refuses t t w w a a (standing (InHeader at x)) more 0 (fault TooLarge (Some h.kind) at)
+  pub Refuses-large : (more : List ℕ) (limit s : ℕ) → at + s ≤ longest → most_held h.kind.0 ≡ Some limit → h.size ≡ Exact s → limit < s → Refuses t t w w a a (standing Boxes (InHeader at x)) more 0 (fault TooLarge (Some h.kind) at)
   Refuses-large more limit s near held size large = record {
     brought = silent;
     passes = Passes-none t w;
@@ -132,7 +138,7 @@ module _ (t : Option (List ℕ)) (w : List ℕ) (a : Account) (at : ℕ) (h : He
     rest = λ later. reading-whole at x (more ++ later) h len is ∙ reading-too_large at h x (more ++ later) limit s near held size large;
   }
 
-  pub Refuses-open : (more : List ℕ) (limit : ℕ) → at + h.header_len ≤ longest → most_held h.kind.0 ≡ Some limit → h.size ≡ ToEnd → Refuses t t w w a a (standing (InHeader at x)) more 0 (fault TooLarge (Some h.kind) at)
+  pub Refuses-open : (more : List ℕ) (limit : ℕ) → at + h.header_len ≤ longest → most_held h.kind.0 ≡ Some limit → h.size ≡ ToEnd → Refuses t t w w a a (standing Boxes (InHeader at x)) more 0 (fault TooLarge (Some h.kind) at)
   Refuses-open more limit near held size = record {
     brought = silent;
     passes = Passes-none t w;
@@ -142,7 +148,7 @@ module _ (t : Option (List ℕ)) (w : List ℕ) (a : Account) (at : ℕ) (h : He
 
   module _ (limit s : ℕ) (near : at + s ≤ longest) (held : most_held h.kind.0 ≡ Some limit) (size : h.size ≡ Exact s) (fits : s ≤ limit) where
     -- room for it was claimed
-    pub GoesOn-claim : 0 < s → GoesOn t t w w a (claimed a s) (standing (InHeader at x)) [] (standing (InHeld at h.kind s x))
+    pub GoesOn-claim : 0 < s → GoesOn t t w w a (claimed a s) (standing Boxes (InHeader at x)) [] (standing Boxes (InHeld at h.kind s x))
     GoesOn-claim some = record {
       brought = holds s;
       passes = Passes-none t w;
@@ -154,7 +160,7 @@ module _ (t : Option (List ℕ)) (w : List ℕ) (a : Account) (at : ℕ) (h : He
     }
 
     -- and it was not
-    Starves-claim : (more : List ℕ) → Starves t t w w a a (standing (InHeader at x)) more
+    Starves-claim : (more : List ℕ) → Starves t t w w a a (standing Boxes (InHeader at x)) more
     Starves-claim more =
         let place : at ≡ at + 0 = omega arith in
         let claim : IsClaim at x s = record { header = h; limit = limit; spelled = is; whole = len; held = held; sized = size; fits = fits; near = near } in
@@ -171,18 +177,18 @@ module _ (t : Option (List ℕ)) (w : List ℕ) (a : Account) (at : ℕ) (h : He
           rest = λ later. sym (after-silent (reading at later)) ∙ ap (λ n. after silent (reading n later)) place;
         }
 
-    pub StopsAt-over : (more : List ℕ) → a.limit < a.live + s → StopsAt t t w w a a (standing (InHeader at x)) more 0 OverLimit
+    pub StopsAt-over : (more : List ℕ) → a.limit < a.live + s → StopsAt t t w w a a (standing Boxes (InHeader at x)) more 0 OverLimit
     unfolding Starves-claim
     StopsAt-over more over = (refl, (Starves-claim more, over))
 
-    pub StopsAt-want : (more : List ℕ) → a.live + s ≤ a.limit → StopsAt t t w w a a (standing (InHeader at x)) more 0 Memory
+    pub StopsAt-want : (more : List ℕ) → a.live + s ≤ a.limit → StopsAt t t w w a a (standing Boxes (InHeader at x)) more 0 Memory
     unfolding Starves-claim
     StopsAt-want more within = (refl, (Starves-claim more, within))
 
 -- ---- bytes of a body
 
 pub GoesOn-passed : (t : Option (List ℕ)) (w : List ℕ) (a : Account) (p q : Place) (x : List ℕ) → own_of p ≡ own_of q → begun_of p ≡ [] → begun_of q ≡ [] → from_of q ≡ from_of p + length x
-    → ((later : List ℕ) → brings_of p (x ++ later) ≡ brings_of q later) → GoesOn t t w w a a (standing p) x (standing q)
+    → ((later : List ℕ) → brings_of Boxes p (x ++ later) ≡ brings_of Boxes q later) → GoesOn t t w w a a (standing Boxes p) x (standing Boxes q)
 GoesOn-passed t w a p q x e none none' place f = record {
   brought = silent;
   passes = Passes-none t w;
@@ -190,25 +196,25 @@ GoesOn-passed t w a p q x e none none' place f = record {
   done = x;
   cut = ap (λ l. l ++ x) none ∙ sym (append-nil x) ∙ ap (λ l. x ++ l) (sym none');
   from = place;
-  rest = λ later. f later ∙ sym (after-silent (brings_of q later));
+  rest = λ later. f later ∙ sym (after-silent (brings_of Boxes q later));
 }
 
 pub Refuses-passed : (t : Option (List ℕ)) (w : List ℕ) (a : Account) (at left : ℕ) (kind : FourCc) (x : List ℕ)
-    → ((later : List ℕ) → brings_of (InOpenBody at kind left) (x ++ later) ≡ refused StreamTooLong (Some kind) at)
-    → Refuses t t w w a a (standing (InOpenBody at kind left)) x 0 (fault StreamTooLong (Some kind) at)
+    → ((later : List ℕ) → brings_of Boxes (InOpenBody at kind left) (x ++ later) ≡ refused StreamTooLong (Some kind) at)
+    → Refuses t t w w a a (standing Boxes (InOpenBody at kind left)) x 0 (fault StreamTooLong (Some kind) at)
 Refuses-passed t w a at left kind x f = record { brought = silent; passes = Passes-none t w; counts = Counts-none a 0; rest = f }
 
 -- ---- a box that is held
 
 -- more of it came
-pub GoesOn-held : (t : Option (List ℕ)) (w : List ℕ) (a : Account) (at : ℕ) (kind : FourCc) (size : ℕ) (held x : List ℕ) → GoesOn t t w w a a (standing (InHeld at kind size held)) x (standing (InHeld at kind size (held ++ x)))
+pub GoesOn-held : (t : Option (List ℕ)) (w : List ℕ) (a : Account) (at : ℕ) (kind : FourCc) (size : ℕ) (held x : List ℕ) → GoesOn t t w w a a (standing Boxes (InHeld at kind size held)) x (standing Boxes (InHeld at kind size (held ++ x)))
 GoesOn-held t w a at kind size held x =
     GoesOn-passed t w a (InHeld at kind size held) (InHeld at kind size (held ++ x)) x refl refl refl (omega (arith, length-append held x)) (λ later. ap (λ l. then_read reading (held_body at kind size l)) (sym (append_assoc held x later)))
 
 module _ (t : Option (List ℕ)) (w : List ℕ) (a : Account) (at : ℕ) (kind : FourCc) (size : ℕ) (x : List ℕ) (low : size ≤ a.live) (len : length x ≡ size) where
   -- all of it came, its tree is good, and it was listed and given back
   pub GoesOn-good : (u : Option (List ℕ)) (v : List ℕ) → tree_faults at x ≡ [] → Passes t u w v (held_lines at x)
-      → GoesOn t u w v a (given_back a size) (standing (InHeld at kind size x)) [] (standing (InHeader (at + size) []))
+      → GoesOn t u w v a (given_back a size) (standing Boxes (InHeld at kind size x)) [] (standing Boxes (InHeader (at + size) []))
   GoesOn-good u v good p = record {
     brought = says (held_lines at x);
     passes = p;
@@ -219,11 +225,11 @@ module _ (t : Option (List ℕ)) (w : List ℕ) (a : Account) (at : ℕ) (kind :
     rest = λ later. reading-good at kind size x later len good;
   }
 
-  pub FailsIn-good : (u : Option (List ℕ)) (later : List ℕ) → tree_faults at x ≡ [] → AppendsFront t u (w ++ held_lines at x) → FailsIn t u w a (given_back a size) size 0 (reading_from (standing (InHeld at kind size x)) later)
-  FailsIn-good u later good p = FailsIn-told t u w a (given_back a size) size 0 (says (held_lines at x)) (reading (at + size) later) (reading_from (standing (InHeld at kind size x)) later)
+  pub FailsIn-good : (u : Option (List ℕ)) (later : List ℕ) → tree_faults at x ≡ [] → AppendsFront t u (w ++ held_lines at x) → FailsIn t u w a (given_back a size) size 0 (reading_from (standing Boxes (InHeld at kind size x)) later)
+  FailsIn-good u later good p = FailsIn-told t u w a (given_back a size) size 0 (says (held_lines at x)) (reading (at + size) later) (reading_from (standing Boxes (InHeld at kind size x)) later)
       (reading-good at kind size x later len good) p (Spends-counts a (given_back a size) size 0 0 (Counts-back a size low))
 
-  pub Refuses-tree : (more : List ℕ) (f : Fault) (fs : List Fault) → tree_faults at x ≡ f ∷ fs → Refuses t t w w a (given_back a size) (standing (InHeld at kind size x)) more 0 f
+  pub Refuses-tree : (more : List ℕ) (f : Fault) (fs : List Fault) → tree_faults at x ≡ f ∷ fs → Refuses t t w w a (given_back a size) (standing Boxes (InHeld at kind size x)) more 0 f
   Refuses-tree more f fs bad = record { brought = silent; passes = Passes-none t w; counts = Counts-back a size low; rest = λ later. reading-bad_tree at kind size x (more ++ later) f fs len bad }
 
 -- ---- a header that stands in a piece
@@ -242,11 +248,11 @@ front-is x h is =
     sym (header_at-append (take h.header_len x) (drop h.header_len x) whole) ∙ ap header_at (take-append-drop h.header_len x) ∙ is
 
 module _ (t u : Option (List ℕ)) (w v : List ℕ) (a b : Account) (at : ℕ) (x : List ℕ) where
-  GoesOn-bytes : GoesOn t t w w a a (standing (InHeader at [])) x (standing (InHeader at x))
+  GoesOn-bytes : GoesOn t t w w a a (standing Boxes (InHeader at [])) x (standing Boxes (InHeader at x))
   GoesOn-bytes = record { brought = silent; passes = Passes-none t w; counts = Counts-none a 0; done = []; cut = refl; from = omega arith; rest = λ later. sym (after-silent (reading at later)) }
 
-  pub GoesOn-header : (q : Standing) → GoesOn t u w v a b (standing (InHeader at x)) [] q → GoesOn t u w v a b (standing (InHeader at [])) x q
-  GoesOn-header q g = subst (λ l. GoesOn t u w v a b (standing (InHeader at [])) l q) (append-nil x) (GoesOn-more {p = standing (InHeader at [])} (omega arith) GoesOn-bytes [] q g)
+  pub GoesOn-header : (q : Standing) → GoesOn t u w v a b (standing Boxes (InHeader at x)) [] q → GoesOn t u w v a b (standing Boxes (InHeader at [])) x q
+  GoesOn-header q g = subst (λ l. GoesOn t u w v a b (standing Boxes (InHeader at [])) l q) (append-nil x) (GoesOn-more {p = standing Boxes (InHeader at [])} (omega arith) GoesOn-bytes [] q g)
 
-  pub StopsAt-header : (more : List ℕ) (own : ℕ) (s : Stop) → StopsAt t u w v a b (standing (InHeader at x)) more own s → StopsAt t u w v a b (standing (InHeader at [])) (x ++ more) own s
-  StopsAt-header more own s g = StopsAt-more {p = standing (InHeader at [])} (omega arith) GoesOn-bytes u v b more own s g
+  pub StopsAt-header : (more : List ℕ) (own : ℕ) (s : Stop) → StopsAt t u w v a b (standing Boxes (InHeader at x)) more own s → StopsAt t u w v a b (standing Boxes (InHeader at [])) (x ++ more) own s
+  StopsAt-header more own s g = StopsAt-more {p = standing Boxes (InHeader at [])} (omega arith) GoesOn-bytes u v b more own s g

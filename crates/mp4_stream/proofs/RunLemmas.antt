@@ -15,13 +15,14 @@ use Rattle.mp4_stream.proofs.BlockLemmas.{Appends-passed}
 use Rattle.mp4_stream.proofs.AccountLemmas.{Spends-more, Spends-counts}
 use Rattle.mp4_stream.proofs.ReadingLemmas.{both-silent}
 use Rattle.mp4_stream.proofs.BoxLemmas.{silent-end, reading-none, reading-whole, reading-holds}
+use Rattle.mp4_stream.specs.declared.machine.Command.TheVariants.{Boxes}
 
-module _ {a b : Option (List ℕ)} {k l : Account} {bs : List ℕ} (p : Place) (g : GoesOn a b [] [] k l (standing (InHeader 0 [])) bs (standing p)) where
+module _ {a b : Option (List ℕ)} {k l : Account} {bs : List ℕ} (p : Place) (g : GoesOn a b [] [] k l (standing Boxes (InHeader 0 [])) bs (standing Boxes p)) where
   -- a run that goes on
-  pub run-reading : reading 0 bs ≡ after g.brought (reading_from (standing p) [])
+  pub run-reading : reading 0 bs ≡ after g.brought (reading_from (standing Boxes p) [])
   run-reading = ap (reading 0) (g.cut ∙ ap (λ l. g.done ++ l) (sym (append-nil (begun_of p)))) ∙ g.rest (begun_of p ++ [])
 
-  pub run-fault : first_fault bs ≡ fault_in (reading_from (standing p) []).ending
+  pub run-fault : first_fault bs ≡ fault_in (reading_from (standing Boxes p) []).ending
   run-fault = ap (λ r. fault_in r.ending) run-reading
 
   run-told : IsPlace p → (reading 0 bs).told ≡ g.brought
@@ -46,7 +47,7 @@ peak-most k l own (suc m) e c = omega (arith, c.peak, e)
 
 -- ---- a run that stops
 
-module _ (a b : Option (List ℕ)) (k l : Account) (bs : List ℕ) (h : Starves a b [] [] k l (standing (InHeader 0 [])) bs) where
+module _ (a b : Option (List ℕ)) (k l : Account) (bs : List ℕ) (h : Starves a b [] [] k l (standing Boxes (InHeader 0 [])) bs) where
   at_is : 0 + length h.done ≡ length h.done
   at_is = omega arith
 
@@ -87,7 +88,7 @@ module _ (a b : Option (List ℕ)) (k l : Account) (bs : List ℕ) (h : Starves 
   spends_is : Spends k l 0 0 (most bs)
   spends_is = Spends-more k l 0 0 h.brought.most (most bs) (omega (arith, most_is)) (Spends-counts k l 0 0 h.brought.most h.counts)
 
-pub run-stops : (a b : Option (List ℕ)) (k l : Account) (bs : List ℕ) (ended : Bool) (own : ℕ) (e : Stop) → StopsAt a b [] [] k l (standing (InHeader 0 [])) bs own e → ListsUntil a b k.live k.limit bs ended e
+pub run-stops : (a b : Option (List ℕ)) (k l : Account) (bs : List ℕ) (ended : Bool) (own : ℕ) (e : Stop) → StopsAt a b [] [] k l (standing Boxes (InHeader 0 [])) bs own e → ListsUntil a b k.live k.limit bs ended e
 unfolding starves_at
 run-stops a b k l bs ended own (Stream f) g =
     let is = ap (reading 0) (sym (append-nil bs)) ∙ g.rest [] in (
@@ -100,7 +101,7 @@ run-stops a b k l bs ended own Write g = subst (λ l. AppendsFront a b (listing 
 run-stops a b k l bs ended own OverLimit (none, (h, far)) = inr (starves_at a b k l bs h, omega (arith, far, live_is a b k l bs h, h.counts.limit))
 run-stops a b k l bs ended own Memory (none, (h, near)) = inr (starves_at a b k l bs h, omega (arith, near, live_is a b k l bs h, h.counts.limit))
 
-pub run-peaks : (a b : Option (List ℕ)) (k l : Account) (bs : List ℕ) (own : ℕ) (e : Stop) → k.peak ≡ k.live → StopsAt a b [] [] k l (standing (InHeader 0 [])) bs own e → PeaksUntil k.live bs l.peak e
+pub run-peaks : (a b : Option (List ℕ)) (k l : Account) (bs : List ℕ) (own : ℕ) (e : Stop) → k.peak ≡ k.live → StopsAt a b [] [] k l (standing Boxes (InHeader 0 [])) bs own e → PeaksUntil k.live bs l.peak e
 run-peaks a b k l bs own (Stream f) marked g =
     let is : (reading 0 bs).told.most ≡ g.brought.most = ap (λ r. r.told.most) (ap (reading 0) (sym (append-nil bs)) ∙ g.rest []) in
     peak-exact k l own (most bs) marked (subst (Counts k l 0 own) (sym is) g.counts)
@@ -109,11 +110,11 @@ run-peaks a b k l bs own Write marked g = peak-most k l own (most bs) marked (su
 run-peaks a b k l bs own OverLimit marked (none, (h, far)) = peak-most k l 0 (most bs) marked (spends_is a b k l bs h)
 run-peaks a b k l bs own Memory marked (none, (h, near)) = peak-most k l 0 (most bs) marked (spends_is a b k l bs h)
 
-pub run-peak : {a b : Option (List ℕ)} {k l : Account} {bs : List ℕ} (p : Place) → GoesOn a b [] [] k l (standing (InHeader 0 [])) bs (standing p) → IsPlace p → k.peak ≡ k.live → l.peak ≡ k.live + most bs
+pub run-peak : {a b : Option (List ℕ)} {k l : Account} {bs : List ℕ} (p : Place) → GoesOn a b [] [] k l (standing Boxes (InHeader 0 [])) bs (standing Boxes p) → IsPlace p → k.peak ≡ k.live → l.peak ≡ k.live + most bs
 run-peak {k = k} {l = l} {bs = bs} p g h marked = peak-exact k l (own_of p) (most bs) marked (run-counts p g h)
 
 -- what a run that stops still has
-pub run-left : (a b : Option (List ℕ)) (k l : Account) (bs : List ℕ) (own : ℕ) (e : Stop) → StopsAt a b [] [] k l (standing (InHeader 0 [])) bs own e → (l.live ≡ k.live + own) × (l.limit ≡ k.limit)
+pub run-left : (a b : Option (List ℕ)) (k l : Account) (bs : List ℕ) (own : ℕ) (e : Stop) → StopsAt a b [] [] k l (standing Boxes (InHeader 0 [])) bs own e → (l.live ≡ k.live + own) × (l.limit ≡ k.limit)
 run-left a b k l bs own (Stream f) g = (omega (arith, g.counts.live), g.counts.limit)
 run-left a b k l bs own (Read at) g = absurd g
 run-left a b k l bs own Write g = let spent = (g []).1 in (omega (arith, spent.live), spent.limit)

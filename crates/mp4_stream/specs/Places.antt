@@ -5,6 +5,8 @@ use Rattle.mp4_box.specs.declared.headers.Header.{Header}
 use Rattle.mp4_box.specs.declared.headers.Size.TheVariants.{Exact}
 use Rattle.mp4_box.specs.declared.headers.Step.TheVariants as steps
 use Rattle.mp4_box.specs.Headers.{header_at, need}
+use Rattle.mp4_stream.specs.declared.machine.Command.{Command}
+use Rattle.mp4_stream.specs.declared.machine.Command.TheVariants.{Boxes}
 use Rattle.mp4_stream.specs.declared.machine.Phase.{Phase}
 use Rattle.mp4_stream.specs.declared.machine.Phase.TheVariants as phases
 use Rattle.mp4_stream.specs.Readings.{Reading, then_read}
@@ -36,12 +38,16 @@ from_of (InBody at kind next left) = next - left
 from_of (InHeld at kind size held) = at + length held
 from_of (InOpenBody at kind left) = longest - left
 
+-- what the bytes from an offset on bring, by the command that runs
+abbrev pub reading_by : Command → ℕ → List ℕ → Reading
+reading_by Boxes at bytes = reading at bytes
+
 -- what the bytes from there on bring
-abbrev pub brings_of : Place → List ℕ → Reading
-brings_of (InHeader at held) bytes = reading at bytes
-brings_of (InBody at kind next left) bytes = then_read reading (sized_body at kind next left bytes)
-brings_of (InHeld at kind size held) bytes = then_read reading (held_body at kind size (held ++ bytes))
-brings_of (InOpenBody at kind left) bytes = then_read reading (open_body at kind left bytes)
+abbrev pub brings_of : Command → Place → List ℕ → Reading
+brings_of command (InHeader at held) bytes = reading_by command at bytes
+brings_of command (InBody at kind next left) bytes = then_read (reading_by command) (sized_body at kind next left bytes)
+brings_of Boxes (InHeld at kind size held) bytes = then_read reading (held_body at kind size (held ++ bytes))
+brings_of command (InOpenBody at kind left) bytes = then_read (reading_by command) (open_body at kind left bytes)
 
 -- the bytes begin with the header of a box of this size
 abbrev pub Begins : ℕ → List ℕ → Type 0
@@ -61,8 +67,16 @@ own_of (InBody at kind next left) = 0
 own_of (InHeld at kind size held) = size
 own_of (InOpenBody at kind left) = 0
 
-abbrev pub standing : Place → Standing
-standing p = record { from = from_of p; begun = begun_of p; brings = brings_of p; own = own_of p }
+abbrev pub standing : Command → Place → Standing
+standing command p = record { from = from_of p; begun = begun_of p; brings = brings_of command p; own = own_of p }
+
+-- a reader at work: the command that runs, and the place
+pub record Seat : Type 0 where
+  pub command : Command
+  pub place : Place
+
+abbrev pub standing_at : Seat → Standing
+standing_at s = standing s.command s.place
 
 -- the place of a reader in this phase to which these bytes of a header came
 abbrev pub place_by : List ℕ → Phase → Place

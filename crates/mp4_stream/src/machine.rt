@@ -8,7 +8,8 @@ ghost use Rattle.mp4_ledger.specs.Memory.{given_back};
 ghost use Rattle.mp4_stream.specs.Answers.{GoesOn, StopsAt, reading_from};
 ghost use Rattle.mp4_stream.specs.Boxes.{body, fault, least_end, longest, open_body, reading, refused, sized_body};
 ghost use Rattle.mp4_stream.specs.Holding.{most_held};
-ghost use Rattle.mp4_stream.specs.Places.{Begins, InHeader, InBody, InHeld, InOpenBody, IsPhase, IsPlace, IsReader, brings_of, from_of, own_of, place_by, place_of, standing};
+ghost use Rattle.mp4_stream.specs.Places.{Begins, InHeader, InBody, InHeld, InOpenBody, IsPhase, IsPlace, IsReader, brings_of, from_of, own_of, place_by, place_of, standing, standing_at};
+ghost use Rattle.mp4_stream.specs.declared.machine.Command.TheVariants.{Boxes};
 ghost use Rattle.mp4_stream.specs.Readings.{fault_in, then_read};
 ghost use Rattle.mp4_stream.specs.declared.machine.Phase.TheVariants as phases;
 
@@ -23,6 +24,13 @@ use std::mem::replace;
 
 /// No stream is followed further than this many bytes.
 const LONGEST: u64 = 1 << 62;
+
+/// What a reader makes of a stream.
+#[derive(Clone, Copy)]
+pub(crate) enum Command {
+    /// It lists the boxes.
+    Boxes,
+}
 
 /// What a reader takes next. `at` is the offset of the box that it is in.
 #[derive(Clone, Copy)]
@@ -49,28 +57,30 @@ enum Phase {
 /// A reader of boxes. While it holds a box its phase is that behind the box. What it has claimed must be given
 /// back.
 pub(crate) struct Machine {
+    command: Command,
     phase: Phase,
     head: HeaderReader,
     held: Option<Held>,
 }
 
-// A contract sees where it stands.
+// A contract sees the command, and where it stands.
 impl Model for Machine {
-    ghost use Rattle.mp4_stream.specs.Places.{Place, IsReader, place_of};
+    ghost use Rattle.mp4_stream.specs.Places.{Seat, IsReader, place_of};
 
-    ghost Value = { Place };
+    ghost Value = { Seat };
 
-    ghost view = { λ m. place_of m.head m.phase m.held };
+    ghost view = { λ m. record { command = m.command; place = place_of m.head m.phase m.held } };
 
     ghost invariant = { λ m. IsReader m.head m.phase m.held };
 }
 
 impl Machine {
     /// A reader to which no byte has come.
-    pub(crate) fn new() -> Self
-        ensures { result ≡ InHeader 0 [] }
+    pub(crate) fn new(command: Command) -> Self
+        ensures { result ≡ record { command = command; place = InHeader 0 [] } }
     {
         Machine {
+            command,
             phase: Phase::Header { at: 0 },
             head: HeaderReader::new(),
             held: None,
@@ -84,14 +94,15 @@ impl Machine {
         piece: &[u8],
         w: &mut W,
     ) -> Result<(), Stop>
-        requires own { own_of self.old ≤ ledger.old.live }
+        requires own { own_of self.old.place ≤ ledger.old.live }
         ensures ok { OnOk result (GoesOn (W.contents w.old) (W.contents w.new) [] [] ledger.old
-            ledger.new (standing self.old) piece.now (standing self.new)) }
+            ledger.new (standing_at self.old) piece.now (standing_at self.new)) }
         ensures err { IfErr result (λ e. StopsAt (W.contents w.old) (W.contents w.new) [] []
-            ledger.old ledger.new (standing self.old) piece.now (own_of self.new) e) }
-        ensures own { own_of self.new ≤ ledger.new.live }
+            ledger.old ledger.new (standing_at self.old) piece.now (own_of self.new.place) e) }
+        ensures own { own_of self.new.place ≤ ledger.new.live }
         ensures failed { IsErrOf result Stop.Write → W.has_failed w.new ≡ true }
-        ensures place { IsPlace self.new }
+        ensures place { IsPlace self.new.place }
+        ensures command { self.new.command ≡ self.old.command }
     {
         let mut out = Block::new();
         match self.take_all(ledger, piece, &mut out, w) {
@@ -125,14 +136,15 @@ impl Machine {
         out: &mut Block,
         w: &mut W,
     ) -> Result<(), Stop>
-        requires own { own_of self.old ≤ ledger.old.live }
+        requires own { own_of self.old.place ≤ ledger.old.live }
         ensures ok { OnOk result (GoesOn (W.contents w.old) (W.contents w.new) out.old out.new
-            ledger.old ledger.new (standing self.old) piece.now (standing self.new)) }
+            ledger.old ledger.new (standing_at self.old) piece.now (standing_at self.new)) }
         ensures err { IfErr result (λ e. StopsAt (W.contents w.old) (W.contents w.new) out.old
-            out.new ledger.old ledger.new (standing self.old) piece.now (own_of self.new) e) }
-        ensures own { own_of self.new ≤ ledger.new.live }
+            out.new ledger.old ledger.new (standing_at self.old) piece.now (own_of self.new.place) e) }
+        ensures own { own_of self.new.place ≤ ledger.new.live }
         ensures failed { IsErrOf result Stop.Write → W.has_failed w.new ≡ true }
-        ensures place { IsPlace self.new }
+        ensures place { IsPlace self.new.place }
+        ensures command { self.new.command ≡ self.old.command }
     {
         let _ = &self.phase;
         let mut at = 0;
@@ -142,7 +154,7 @@ impl Machine {
         Ok(())
     }
 
-    /// Takes some bytes from the front of a piece: how many.
+    /// Takes some bytes from the front of a piece, as its command asks: how many.
     fn take_some<W: Sink>(
         &mut self,
         ledger: &mut Ledger,
@@ -151,15 +163,45 @@ impl Machine {
         w: &mut W,
     ) -> Result<usize, Stop>
         requires some { 0 < length piece.now }
-        requires own { own_of self.old ≤ ledger.old.live }
+        requires own { own_of self.old.place ≤ ledger.old.live }
         ensures taken { IfOk result (λ n. (0 < n) × (n ≤ length piece.now)) }
         ensures ok { IfOk result (λ n. GoesOn (W.contents w.old) (W.contents w.new) out.old out.new
-            ledger.old ledger.new (standing self.old) (take n piece.now) (standing self.new)) }
+            ledger.old ledger.new (standing_at self.old) (take n piece.now) (standing_at self.new)) }
         ensures err { IfErr result (λ e. StopsAt (W.contents w.old) (W.contents w.new) out.old
-            out.new ledger.old ledger.new (standing self.old) piece.now (own_of self.new) e) }
-        ensures own { own_of self.new ≤ ledger.new.live }
+            out.new ledger.old ledger.new (standing_at self.old) piece.now (own_of self.new.place) e) }
+        ensures own { own_of self.new.place ≤ ledger.new.live }
         ensures failed { IsErrOf result Stop.Write → W.has_failed w.new ≡ true }
-        ensures place { IsPlace self.new }
+        ensures place { IsPlace self.new.place }
+        ensures command { self.new.command ≡ self.old.command }
+    {
+        match self.command {
+            Command::Boxes => match self.take_boxes(ledger, piece, out, w) {
+                Ok(taken) => Ok(taken),
+                Err(stop) => Err(stop),
+            },
+        }
+    }
+
+    /// Takes some bytes from the front of a piece of which the boxes are listed: how many.
+    fn take_boxes<W: Sink>(
+        &mut self,
+        ledger: &mut Ledger,
+        piece: &[u8],
+        out: &mut Block,
+        w: &mut W,
+    ) -> Result<usize, Stop>
+        requires some { 0 < length piece.now }
+        requires boxes { self.old.command ≡ Boxes }
+        requires own { own_of self.old.place ≤ ledger.old.live }
+        ensures taken { IfOk result (λ n. (0 < n) × (n ≤ length piece.now)) }
+        ensures ok { IfOk result (λ n. GoesOn (W.contents w.old) (W.contents w.new) out.old out.new
+            ledger.old ledger.new (standing_at self.old) (take n piece.now) (standing_at self.new)) }
+        ensures err { IfErr result (λ e. StopsAt (W.contents w.old) (W.contents w.new) out.old
+            out.new ledger.old ledger.new (standing_at self.old) piece.now (own_of self.new.place) e) }
+        ensures own { own_of self.new.place ≤ ledger.new.live }
+        ensures failed { IsErrOf result Stop.Write → W.has_failed w.new ≡ true }
+        ensures place { IsPlace self.new.place }
+        ensures command { self.new.command ≡ self.old.command }
     {
         match self.held.take() {
             Some(held) => match take_held(held, ledger, piece, out, w) {
@@ -182,8 +224,8 @@ impl Machine {
 
     /// What the end of the stream means here.
     pub(crate) fn finish(&self) -> Result<(), Fault>
-        ensures ok { OnOk result (fault_in (reading_from (standing self.now) []).ending ≡ None) }
-        ensures err { IfErr result (λ f. fault_in (reading_from (standing self.now) []).ending ≡
+        ensures ok { OnOk result (fault_in (reading_from (standing_at self.now) []).ending ≡ None) }
+        ensures err { IfErr result (λ f. fault_in (reading_from (standing_at self.now) []).ending ≡
             Some f) }
     {
         match &self.held {
@@ -197,10 +239,11 @@ impl Machine {
 
     /// Gives back what it has claimed.
     pub(crate) fn give_up(self, ledger: &mut Ledger)
-        requires { own_of self ≤ ledger.old.live }
-        ensures { ledger.new ≡ given_back ledger.old (own_of self) }
+        requires { own_of self.place ≤ ledger.old.live }
+        ensures { ledger.new ≡ given_back ledger.old (own_of self.place) }
     {
         let Machine {
+            command: _,
             phase: _,
             head: _,
             held,
@@ -225,9 +268,9 @@ fn put(place: &mut Option<Held>, held: Option<Held>)
 /// What the end of the stream means where no box is held.
 fn end_of(phase: Phase, head: &HeaderReader) -> Result<(), Fault>
     requires { IsPhase head.now phase }
-    ensures ok { OnOk result (fault_in (reading_from (standing (place_by head.now phase)) []).ending
+    ensures ok { OnOk result (fault_in (reading_from (standing Boxes (place_by head.now phase)) []).ending
         ≡ None) }
-    ensures err { IfErr result (λ f. fault_in (reading_from (standing (place_by head.now phase))
+    ensures err { IfErr result (λ f. fault_in (reading_from (standing Boxes (place_by head.now phase))
         []).ending ≡ Some f) }
 {
     match phase {
@@ -278,10 +321,10 @@ fn take_unheld<W: Sink>(
     requires phase { IsPhase head.old phase }
     ensures taken { IfOk result (λ r. (0 < r.0) × (r.0 ≤ length piece.now)) }
     ensures ok { IfOk result (λ r. GoesOn (W.contents w.old) (W.contents w.new) out.old out.new
-        ledger.old ledger.new (standing (place_by head.old phase)) (take r.0 piece.now)
-        (standing (place_of head.new r.1 r.2))) }
+        ledger.old ledger.new (standing Boxes (place_by head.old phase)) (take r.0 piece.now)
+        (standing Boxes (place_of head.new r.1 r.2))) }
     ensures err { IfErr result (λ e. StopsAt (W.contents w.old) (W.contents w.new) out.old out.new
-        ledger.old ledger.new (standing (place_by head.old phase)) piece.now 0 e) }
+        ledger.old ledger.new (standing Boxes (place_by head.old phase)) piece.now 0 e) }
     ensures own { IfOk result (λ r. own_of (place_of head.new r.1 r.2) ≤ ledger.new.live) }
     ensures failed { IsErrOf result Stop.Write → W.has_failed w.new ≡ true }
     ensures reader { IfOk result (λ r. IsReader head.new r.1 r.2) }
@@ -322,10 +365,10 @@ fn take_header<W: Sink>(
     requires place { IsPlace (InHeader at head.old) }
     ensures taken { IfOk result (λ r. (0 < r.0) × (r.0 ≤ length piece.now)) }
     ensures ok { IfOk result (λ r. GoesOn (W.contents w.old) (W.contents w.new) out.old out.new
-        ledger.old ledger.new (standing (InHeader at head.old)) (take r.0 piece.now)
-        (standing (place_of head.new r.1 r.2))) }
+        ledger.old ledger.new (standing Boxes (InHeader at head.old)) (take r.0 piece.now)
+        (standing Boxes (place_of head.new r.1 r.2))) }
     ensures err { IfErr result (λ e. StopsAt (W.contents w.old) (W.contents w.new) out.old out.new
-        ledger.old ledger.new (standing (InHeader at head.old)) piece.now 0 e) }
+        ledger.old ledger.new (standing Boxes (InHeader at head.old)) piece.now 0 e) }
     ensures own { IfOk result (λ r. own_of (place_of head.new r.1 r.2) ≤ ledger.new.live) }
     ensures failed { IsErrOf result Stop.Write → W.has_failed w.new ≡ true }
     ensures reader { IfOk result (λ r. IsReader head.new r.1 r.2) }
@@ -357,9 +400,9 @@ fn take_byte<W: Sink>(
 ) -> Result<(Phase, Option<Held>), Stop>
     requires { IsPlace (InHeader at head.old) }
     ensures ok { IfOk result (λ p. GoesOn (W.contents w.old) (W.contents w.new) out.old out.new
-        ledger.old ledger.new (standing (InHeader at head.old)) (byte ∷ []) (standing (place_of head.new p.0 p.1))) }
+        ledger.old ledger.new (standing Boxes (InHeader at head.old)) (byte ∷ []) (standing Boxes (place_of head.new p.0 p.1))) }
     ensures err { IfErr result (λ e. (more : List ℕ) → StopsAt (W.contents w.old) (W.contents w.new)
-        out.old out.new ledger.old ledger.new (standing (InHeader at head.old)) (byte ∷ more) 0 e) }
+        out.old out.new ledger.old ledger.new (standing Boxes (InHeader at head.old)) (byte ∷ more) 0 e) }
     ensures own { IfOk result (λ p. own_of (place_of head.new p.0 p.1) ≤ ledger.new.live) }
     ensures failed { IsErrOf result Stop.Write → W.has_failed w.new ≡ true }
     ensures reader { IfOk result (λ p. IsReader head.new p.0 p.1) }
@@ -395,9 +438,9 @@ fn begin<W: Sink>(
     requires len { length head.now ≡ need head.now }
     requires is { header_at head.now ≡ steps.Whole header.now }
     ensures ok { IfOk result (λ p. GoesOn (W.contents w.old) (W.contents w.new) out.old out.new
-        ledger.old ledger.new (standing (InHeader at head.now)) [] (standing (place_of [] p.0 p.1))) }
+        ledger.old ledger.new (standing Boxes (InHeader at head.now)) [] (standing Boxes (place_of [] p.0 p.1))) }
     ensures err { IfErr result (λ e. (more : List ℕ) → StopsAt (W.contents w.old) (W.contents w.new)
-        out.old out.new ledger.old ledger.new (standing (InHeader at head.now)) more 0 e) }
+        out.old out.new ledger.old ledger.new (standing Boxes (InHeader at head.now)) more 0 e) }
     ensures own { IfOk result (λ p. own_of (place_of [] p.0 p.1) ≤ ledger.new.live) }
     ensures failed { IsErrOf result Stop.Write → W.has_failed w.new ≡ true }
     ensures reader { IfOk result (λ p. IsReader [] p.0 p.1) }
@@ -432,9 +475,9 @@ fn begin_held<W: Sink>(
     requires end { least_end at header.now header.now.size ≤ longest }
     requires held { most_held header.now.kind.0 ≡ Some limit }
     ensures ok { IfOk result (λ p. GoesOn (W.contents w.old) (W.contents w.new) out.old out.new
-        ledger.old ledger.new (standing (InHeader at head.now)) [] (standing (place_of [] p.0 p.1))) }
+        ledger.old ledger.new (standing Boxes (InHeader at head.now)) [] (standing Boxes (place_of [] p.0 p.1))) }
     ensures err { IfErr result (λ e. (more : List ℕ) → StopsAt (W.contents w.old) (W.contents w.new)
-        out.old out.new ledger.old ledger.new (standing (InHeader at head.now)) more 0 e) }
+        out.old out.new ledger.old ledger.new (standing Boxes (InHeader at head.now)) more 0 e) }
     ensures own { IfOk result (λ p. own_of (place_of [] p.0 p.1) ≤ ledger.new.live) }
     ensures failed { IsErrOf result Stop.Write → W.has_failed w.new ≡ true }
     ensures reader { IfOk result (λ p. IsReader [] p.0 p.1) }
@@ -469,10 +512,10 @@ fn take_held<W: Sink>(
     requires own { held.size ≤ ledger.old.live }
     ensures taken { IfOk result (λ r. (0 < r.0) × (r.0 ≤ length piece.now)) }
     ensures ok { IfOk result (λ r. GoesOn (W.contents w.old) (W.contents w.new) out.old out.new
-        ledger.old ledger.new (standing (InHeld held.at held.kind held.size held.bytes))
-        (take r.0 piece.now) (standing (place_of [] (phases.Header (held.at + held.size)) r.1))) }
+        ledger.old ledger.new (standing Boxes (InHeld held.at held.kind held.size held.bytes))
+        (take r.0 piece.now) (standing Boxes (place_of [] (phases.Header (held.at + held.size)) r.1))) }
     ensures err { IfErr result (λ e. StopsAt (W.contents w.old) (W.contents w.new) out.old out.new
-        ledger.old ledger.new (standing (InHeld held.at held.kind held.size held.bytes)) piece.now 0
+        ledger.old ledger.new (standing Boxes (InHeld held.at held.kind held.size held.bytes)) piece.now 0
         e) }
     ensures own { IfOk result (λ r. own_of (place_of [] (phases.Header (held.at + held.size)) r.1) ≤
         ledger.new.live) }
@@ -497,11 +540,11 @@ fn settle_whole<W: Sink>(
     requires begins { Begins held.size held.bytes }
     requires own { held.size ≤ ledger.old.live }
     ensures ok { IfOk result (λ r. GoesOn (W.contents w.old) (W.contents w.new) out.old out.new
-        ledger.old ledger.new (standing (InHeld held.at held.kind held.size held.bytes)) []
-        (standing (place_of [] (phases.Header (held.at + held.size)) r))) }
+        ledger.old ledger.new (standing Boxes (InHeld held.at held.kind held.size held.bytes)) []
+        (standing Boxes (place_of [] (phases.Header (held.at + held.size)) r))) }
     ensures err { IfErr result (λ e. (more : List ℕ) → StopsAt (W.contents w.old) (W.contents w.new)
         out.old out.new ledger.old ledger.new
-        (standing (InHeld held.at held.kind held.size held.bytes)) more 0 e) }
+        (standing Boxes (InHeld held.at held.kind held.size held.bytes)) more 0 e) }
     ensures own { IfOk result (λ r. own_of (place_of [] (phases.Header (held.at + held.size)) r) ≤
         ledger.new.live) }
     ensures failed { IsErrOf result Stop.Write → W.has_failed w.new ≡ true }
@@ -522,11 +565,11 @@ fn settle<W: Sink>(held: Held, ledger: &mut Ledger, out: &mut Block, w: &mut W) 
     requires whole { length held.bytes ≡ held.size }
     requires own { held.size ≤ ledger.old.live }
     ensures ok { OnOk result (GoesOn (W.contents w.old) (W.contents w.new) out.old out.new
-        ledger.old ledger.new (standing (InHeld held.at held.kind held.size held.bytes)) []
-        (standing (InHeader (held.at + held.size) []))) }
+        ledger.old ledger.new (standing Boxes (InHeld held.at held.kind held.size held.bytes)) []
+        (standing Boxes (InHeader (held.at + held.size) []))) }
     ensures err { IfErr result (λ e. (more : List ℕ) → StopsAt (W.contents w.old) (W.contents w.new)
         out.old out.new ledger.old ledger.new
-        (standing (InHeld held.at held.kind held.size held.bytes)) more 0 e) }
+        (standing Boxes (InHeld held.at held.kind held.size held.bytes)) more 0 e) }
     ensures failed { IsErrOf result Stop.Write → W.has_failed w.new ≡ true }
     ensures next { held.at + held.size ≤ longest }
 {
@@ -553,7 +596,7 @@ fn phase_behind(at: u64, header: &Header) -> Option<Phase>
     ensures none { IfNone result (longest < least_end at header.now header.now.size) }
     ensures some { IfSome result (λ p. least_end at header.now header.now.size ≤ longest) }
     ensures brings { IfSome result (λ p. (later : List ℕ) → then_read reading
-        (body at header.now header.now.size later) ≡ brings_of (place_by [] p) later) }
+        (body at header.now header.now.size later) ≡ brings_of Boxes (place_by [] p) later) }
     ensures phase { IfSome result (λ p. IsPhase [] p) }
     ensures reached { IfSome result (λ p. from_of (place_by [] p) ≡ at + header.now.header_len) }
 {
@@ -570,7 +613,7 @@ fn sized_phase(at: u64, kind: FourCc, size: u64, header_len: u64) -> Option<Phas
     ensures none { IfNone result (longest < at + size) }
     ensures some { IfSome result (λ p. at + size ≤ longest) }
     ensures brings { IfSome result (λ p. (later : List ℕ) → then_read reading
-        (sized_body at kind (at + size) (size - header_len) later) ≡ brings_of (place_by [] p)
+        (sized_body at kind (at + size) (size - header_len) later) ≡ brings_of Boxes (place_by [] p)
         later) }
     ensures phase { IfSome result (λ p. IsPhase [] p) }
     ensures reached { IfSome result (λ p. from_of (place_by [] p) ≡ at + header_len) }
@@ -596,7 +639,7 @@ fn open_phase(at: u64, kind: FourCc, header_len: u64) -> Option<Phase>
     ensures none { IfNone result (longest < at + header_len) }
     ensures some { IfSome result (λ p. at + header_len ≤ longest) }
     ensures brings { IfSome result (λ p. (later : List ℕ) → then_read reading
-        (open_body at kind (longest - (at + header_len)) later) ≡ brings_of (place_by [] p)
+        (open_body at kind (longest - (at + header_len)) later) ≡ brings_of Boxes (place_by [] p)
         later) }
     ensures phase { IfSome result (λ p. IsPhase [] p) }
     ensures reached { IfSome result (λ p. from_of (place_by [] p) ≡ at + header_len) }
@@ -616,8 +659,8 @@ fn pass(at: u64, kind: FourCc, next: u64, left: u64, piece: &[u8]) -> (usize, Ph
     requires some { 0 < length piece.now }
     requires place { IsPlace (InBody at kind next left) }
     ensures taken { (0 < result.0) × (result.0 ≤ length piece.now) }
-    ensures brings { (later : List ℕ) → brings_of (InBody at kind next left)
-        (take result.0 piece.now ++ later) ≡ brings_of (place_by [] result.1) later }
+    ensures brings { (later : List ℕ) → brings_of Boxes (InBody at kind next left)
+        (take result.0 piece.now ++ later) ≡ brings_of Boxes (place_by [] result.1) later }
     ensures phase { IsPhase [] result.1 }
     ensures reached { from_of (place_by [] result.1) ≡ (next - left) + result.0 }
 {
@@ -639,13 +682,13 @@ fn pass(at: u64, kind: FourCc, next: u64, left: u64, piece: &[u8]) -> (usize, Ph
 /// Passes over a piece of the body of the box at `at`, which goes to the end of the stream: what comes next.
 fn pass_open(at: u64, kind: FourCc, left: u64, piece: &[u8]) -> Result<Phase, Stop>
     requires { IsPlace (InOpenBody at kind left) }
-    ensures brings { IfOk result (λ p. (later : List ℕ) → brings_of (InOpenBody at kind left)
-        (piece.now ++ later) ≡ brings_of (place_by [] p) later) }
+    ensures brings { IfOk result (λ p. (later : List ℕ) → brings_of Boxes (InOpenBody at kind left)
+        (piece.now ++ later) ≡ brings_of Boxes (place_by [] p) later) }
     ensures phase { IfOk result (λ p. IsPhase [] p) }
     ensures reached { IfOk result (λ p. from_of (place_by [] p) ≡ (longest - left) + length
         piece.now) }
     ensures stops { IfErr result (λ e. e ≡ Stop.Stream (fault StreamTooLong (Some kind) at)) }
-    ensures err { OnErr result ((later : List ℕ) → brings_of (InOpenBody at kind left)
+    ensures err { OnErr result ((later : List ℕ) → brings_of Boxes (InOpenBody at kind left)
         (piece.now ++ later) ≡ refused StreamTooLong (Some kind) at) }
 {
     if piece.len() as u64 > left {

@@ -3,9 +3,10 @@
 ghost use Rattle.std.specs.Prelude.{◌≡◌, ℕ, ◌+◌, ◌<◌, ◌≤◌, List, [], length, true, IfErr, IsErrOf};
 ghost use Rattle.std.specs.Io.KnownBytes.{Consumes};
 ghost use Rattle.mp4_stream.specs.Answers.{Lists, Peaks, is_read};
-ghost use Rattle.mp4_stream.specs.Places.{InHeader, IsPlace, own_of};
+ghost use Rattle.mp4_stream.specs.Places.{InHeader, own_of};
+ghost use Rattle.mp4_stream.specs.declared.machine.Command.TheVariants.{Boxes};
 
-use crate::machine::Machine;
+use crate::machine::{Command, Machine};
 use mp4_box::{Failed, Fault, Sink, Source};
 use mp4_ledger::{Ledger, Refused};
 
@@ -141,7 +142,7 @@ fn run<R: Source, W: Sink>(
     ensures read { IfErr result (λ e. is_read e ≡ true → R.has_failed r.new ≡ true) }
     ensures write { IsErrOf result Stop.Write → W.has_failed w.new ≡ true }
 {
-    let mut machine = Machine::new();
+    let mut machine = Machine::new(Command::Boxes);
     let answer = read_on(r, w, ledger, copy, &mut machine);
     machine.give_up(ledger);
     answer
@@ -157,11 +158,11 @@ fn read_on<R: Source, W: Sink>(
 ) -> Result<(), Stop>
     requires some { 0 < length copy.old }
     requires marked { ledger.old.peak ≡ ledger.old.live }
-    requires begins { machine.old ≡ InHeader 0 [] }
+    requires begins { machine.old ≡ record { command = Boxes; place = InHeader 0 [] } }
     ensures listed { (b : List ℕ) × Consumes (R.remaining r.old) (R.remaining r.new) b × Lists
         (W.contents w.old) (W.contents w.new) ledger.old.live ledger.old.limit b
         (R.has_ended r.new) result × Peaks ledger.old.live b ledger.new.peak result }
-    ensures live { ledger.new.live ≡ ledger.old.live + own_of machine.new }
+    ensures live { ledger.new.live ≡ ledger.old.live + own_of machine.new.place }
     ensures limit { ledger.new.limit ≡ ledger.old.limit }
     ensures read { IfErr result (λ e. is_read e ≡ true → R.has_failed r.new ≡ true) }
     ensures write { IsErrOf result Stop.Write → W.has_failed w.new ≡ true }

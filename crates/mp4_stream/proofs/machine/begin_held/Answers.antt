@@ -8,6 +8,7 @@ use Rattle.mp4_stream.proofs.AccountLemmas.{within_limit}
 use Rattle.mp4_stream.proofs.AnswerLemmas.{GoesOn-more, StopsAt-more}
 use Rattle.mp4_stream.proofs.PlaceLemmas.{Refuses-open, Refuses-large, GoesOn-claim, StopsAt-over, StopsAt-want}
 use Rattle.mp4_stream.proofs.machine.begin_held.Goals as goal
+use Rattle.mp4_stream.specs.declared.machine.Command.TheVariants.{Boxes}
 
 pub returns-in_default-clause-err : goal.returns-in_default-clause-err
 returns-in_default-clause-err g c = λ more.
@@ -48,7 +49,7 @@ returns-in-Ok-settle_whole-clause-ok g c =
     let some : 0 < c.in-Exact.size = omega (arith, room, (whole_is c.args.head.now c.args.header.now c.requires.is).1, need-least c.args.head.now) in
     let claim = GoesOn-claim _ c.args.out.now c.args.ledger.now c.args.at c.args.header.now c.args.head.now c.requires.len c.requires.is c.args.limit c.in-Exact.size end c.requires.held c.in-Exact.is c.if-size-limit.false some in
     let settled = rw (c.in-Ok.ensures.held, c.in-Ok.ensures.ok) at c.in-Ok-settle_whole.ensures.ok in
-    GoesOn-more {p = standing (InHeader c.args.at c.args.head.now)} (omega arith) claim [] (standing (place_of [] (phases.Header (c.args.at + c.in-Exact.size)) c.in-Ok-settle_whole.held)) settled
+    GoesOn-more {p = standing Boxes (InHeader c.args.at c.args.head.now)} (omega arith) claim [] (standing Boxes (place_of [] (phases.Header (c.args.at + c.in-Exact.size)) c.in-Ok-settle_whole.held)) settled
 
 pub returns-in-Err-clause-err : goal.returns-in-Err-clause-err
 returns-in-Err-clause-err g c = λ more.
@@ -57,4 +58,4 @@ returns-in-Err-clause-err g c = λ more.
     let some : 0 < c.in-Exact.size = omega (arith, room, (whole_is c.args.head.now c.args.header.now c.requires.is).1, need-least c.args.head.now) in
     let claim = GoesOn-claim _ c.args.out.now c.args.ledger.now c.args.at c.args.header.now c.args.head.now c.requires.len c.requires.is c.args.limit c.in-Exact.size end c.requires.held c.in-Exact.is c.if-size-limit.false some in
     let stops = rw (c.in-Ok.ensures.held, c.in-Ok.ensures.ok) at c.in-Err.ensures.err more in
-    StopsAt-more {p = standing (InHeader c.args.at c.args.head.now)} (omega arith) claim _ _ _ more 0 c.in-Err.stop stops
+    StopsAt-more {p = standing Boxes (InHeader c.args.at c.args.head.now)} (omega arith) claim _ _ _ more 0 c.in-Err.stop stops

@@ -1,8 +1,9 @@
 use Rattle.mp4_stream.specs.Places.{InHeld, standing}
 use Rattle.mp4_stream.proofs.AnswerLemmas.{GoesOn-none}
 use Rattle.mp4_stream.proofs.machine.settle_whole.Goals as goal
+use Rattle.mp4_stream.specs.declared.machine.Command.TheVariants.{Boxes}
 
 pub returns-then-not-is_whole-clause-ok : goal.returns-then-not-is_whole-clause-ok
 returns-then-not-is_whole-clause-ok g c =
     let held = c.args.held in
-    GoesOn-none _ c.args.out.now c.args.ledger.now (standing (InHeld held.at held.kind held.size held.bytes))
+    GoesOn-none _ c.args.out.now c.args.ledger.now (standing Boxes (InHeld held.at held.kind held.size held.bytes))

@@ -4,6 +4,7 @@ use Rattle.mp4_stream.specs.Answers.{StopsAt}
 use Rattle.mp4_stream.specs.Places.{InHeader, standing}
 use Rattle.mp4_stream.proofs.PlaceLemmas.{GoesOn-byte, StopsAt-last, Refuses-bad}
 use Rattle.mp4_stream.proofs.machine.take_byte.Goals as goal
+use Rattle.mp4_stream.specs.declared.machine.Command.TheVariants.{Boxes}
 
 pub returns-in-More-clause-ok : goal.returns-in-More-clause-ok
 returns-in-More-clause-ok g c = GoesOn-byte _ _ c.args.ledger.now c.args.at c.args.head.now c.args.byte c.feed.new.self c.feed.ensures.bytes
@@ -21,6 +22,6 @@ returns-in-Whole-clause-err g c =
     let b = c.begin-begun.new.ledger in
     let last = StopsAt-last told told' c.args.out.now c.begin-begun.new.out a b c.args.at c.args.head.now c.args.byte c.feed.new.self c.feed.ensures.bytes in
     IfErr-weaker _
-    (λ e. (more : List ℕ) → StopsAt told told' c.args.out.now c.begin-begun.new.out a b (standing (InHeader c.args.at c.feed.new.self)) more 0 e)
-    (λ e. (more : List ℕ) → StopsAt told told' c.args.out.now c.begin-begun.new.out a b (standing (InHeader c.args.at c.args.head.now)) (c.args.byte ∷ more) 0 e)
+    (λ e. (more : List ℕ) → StopsAt told told' c.args.out.now c.begin-begun.new.out a b (standing Boxes (InHeader c.args.at c.feed.new.self)) more 0 e)
+    (λ e. (more : List ℕ) → StopsAt told told' c.args.out.now c.begin-begun.new.out a b (standing Boxes (InHeader c.args.at c.args.head.now)) (c.args.byte ∷ more) 0 e)
     (λ e h more. last more 0 e (h more)) (rw c.bytes.ensures at c.begin-begun.ensures.err)

@@ -5,6 +5,7 @@ use Rattle.mp4_stream.specs.Answers.{StopsAt}
 use Rattle.mp4_stream.specs.Places.{InHeader, standing}
 use Rattle.mp4_stream.proofs.PlaceLemmas.{front-len, front-is, StopsAt-header}
 use Rattle.mp4_stream.proofs.machine.take_header.Goals as goal
+use Rattle.mp4_stream.specs.declared.machine.Command.TheVariants.{Boxes}
 
 first_of_piece : (piece : List ℕ) → 0 < length piece → get_or piece 0 0 ∷ drop 1 piece ≡ piece
 first_of_piece [] h = absurd (omega arith)
@@ -28,10 +29,10 @@ returns-in-Err-clause-err g c =
     let piece = c.args.piece.now in
     let stops = StopsAt-header _ _ c.args.out.now c.begin.new.out c.args.ledger.now c.begin.new.ledger c.args.at (take n piece) (drop n piece) 0 c.in-Err.stop (c.in-Err.ensures.err (drop n piece)) in
     rw (c.if-is_empty.ensures.0 refl)
-    (subst (λ l. StopsAt (g.W.Sink.contents c.args.w.now) (g.W.Sink.contents c.begin.new.w) c.args.out.now c.begin.new.out c.args.ledger.now c.begin.new.ledger (standing (InHeader c.args.at [])) l 0 c.in-Err.stop)
+    (subst (λ l. StopsAt (g.W.Sink.contents c.args.w.now) (g.W.Sink.contents c.begin.new.w) c.args.out.now c.begin.new.out c.args.ledger.now c.begin.new.ledger (standing Boxes (InHeader c.args.at [])) l 0 c.in-Err.stop)
     (take-append-drop n piece) stops)
 
 pub returns-in-Err-take_byte-clause-err : goal.returns-in-Err-take_byte-clause-err
 returns-in-Err-take_byte-clause-err g c =
-    subst (λ l. StopsAt (g.W.Sink.contents c.args.w.now) (g.W.Sink.contents c.take_byte.new.w) c.args.out.now c.take_byte.new.out c.args.ledger.now c.take_byte.new.ledger (standing (InHeader c.args.at c.args.head.now)) l 0 c.in-Err-take_byte.stop)
+    subst (λ l. StopsAt (g.W.Sink.contents c.args.w.now) (g.W.Sink.contents c.take_byte.new.w) c.args.out.now c.take_byte.new.out c.args.ledger.now c.take_byte.new.ledger (standing Boxes (InHeader c.args.at c.args.head.now)) l 0 c.in-Err-take_byte.stop)
     (first_of_piece c.args.piece.now c.requires.some) (c.in-Err-take_byte.ensures.err (drop 1 c.args.piece.now))

@@ -1,7 +1,7 @@
-use Rattle.std.proofs.Common.{arith, rules}
+use Rattle.std.proofs.Common.{arith, rules, refl, ◌∙◌}
 use Rattle.std.proofs.lemmas.Result.{err_from_is_err_and}
 use Rattle.std.proofs.lemmas.List.{take_rest, length-drop}
-use Rattle.mp4_stream.specs.Places.{standing}
+use Rattle.mp4_stream.specs.Places.{standing_at}
 use Rattle.mp4_stream.proofs.AnswerLemmas.{GoesOn-none, GoesOn-take_more, StopsAt-take_more}
 use Rattle.mp4_stream.proofs.machine.Machine.take_all.Goals as goal
 
@@ -14,9 +14,10 @@ returns-in_err-at-clause-err g c =
 pub loop-at-init : goal.loop-at-init
 loop-at-init g c = record {
   within = omega arith;
-  goes_on = GoesOn-none _ c.args.out.now c.args.ledger.now (standing c.args.self.now);
+  goes_on = GoesOn-none _ c.args.out.now c.args.ledger.now (standing_at c.args.self.now);
   own = c.requires.own;
   place = search rules;
+  command = refl;
 }
 
 pub loop-at-preserved : goal.loop-at-preserved
@@ -28,4 +29,5 @@ loop-at-preserved g c =
       goes_on = GoesOn-take_more c.requires.own c.loop-at.at c.args.piece.now c.loop-at.invariant.goes_on c.in_ok-at.field-0 _ goes;
       own = c.in_ok-at.ensures.own;
       place = c.in_ok-at.ensures.place;
+      command = c.in_ok-at.ensures.command ∙ c.loop-at.invariant.command;
     }
