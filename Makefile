@@ -18,6 +18,7 @@ test:
 refusals:
 	@scripts/refused_allocations
 
-# Lists a stream of 1 GiB beside `cat`.
+# Lists a stream of 1 GiB beside `cat`, and one of small fragments beside a plain Rust program.
 bench: build
 	@bench/large_boxes
+	@bench/small_fragments
