@@ -19,8 +19,8 @@ use Rattle.mp4_stream.specs.Listing.{box_line}
 use Rattle.mp4_stream.specs.Readings.{Reading, Told, then_read, silent, says, holds, after}
 use Rattle.mp4_stream.specs.Boxes.{longest, fault, refused, least_end, body, held_body, reading}
 use Rattle.mp4_stream.specs.Places.{Place, InHeader, InBody, InHeld, InOpenBody, IsPlace, begun_of, from_of, brings_of, own_of, place_by, standing}
-use Rattle.mp4_stream.specs.declared.machine.Phase.{Phase}
-use Rattle.mp4_stream.specs.declared.machine.Phase.TheVariants as phases
+use Rattle.mp4_stream.specs.declared.phase.Phase.{Phase}
+use Rattle.mp4_stream.specs.declared.phase.Phase.TheVariants as phases
 use Rattle.mp4_stream.specs.Answers.{Standing, reached, reading_from, GoesOn, Refuses, IsClaim, Starves, FailsIn, StopsAt}
 use Rattle.mp4_stream.specs.declared.top.Stop.{Stop}
 use Rattle.mp4_stream.specs.declared.top.Stop.TheVariants.{OverLimit, Memory}

@@ -7,8 +7,8 @@ use Rattle.mp4_box.specs.declared.headers.Step.TheVariants as steps
 use Rattle.mp4_box.specs.Headers.{header_at, need}
 use Rattle.mp4_stream.specs.declared.machine.Command.{Command}
 use Rattle.mp4_stream.specs.declared.machine.Command.TheVariants.{Boxes}
-use Rattle.mp4_stream.specs.declared.machine.Phase.{Phase}
-use Rattle.mp4_stream.specs.declared.machine.Phase.TheVariants as phases
+use Rattle.mp4_stream.specs.declared.phase.Phase.{Phase}
+use Rattle.mp4_stream.specs.declared.phase.Phase.TheVariants as phases
 use Rattle.mp4_stream.specs.Readings.{Reading, then_read}
 use Rattle.mp4_stream.specs.Holding.{Holding}
 use Rattle.mp4_stream.specs.Answers.{Standing}

@@ -1,7 +1,8 @@
 //! What a stream of boxes comes to, and the engine that reads it as it comes.
 //!
 //! - [`top`]: [`boxes`], which lists the boxes of a stream;
-//! - [`machine`]: what is fed the stream piece by piece, and where it stands in it;
+//! - [`machine`]: what is fed the stream piece by piece, [`intake`]: how it takes headers and boxes that are held, and
+//!   [`phase`]: where it stands in the stream;
 //! - [`listing`]: the line of a box, and those of a tree of boxes;
 //! - [`held`]: a moov or moof in claimed memory;
 //! - [`line`]: a line under construction, and [`block`]: bytes on their way to a sink;
@@ -13,10 +14,12 @@
 
 mod block;
 mod held;
+mod intake;
 pub mod laws;
 pub mod line;
 mod listing;
 mod machine;
+mod phase;
 pub mod top;
 
 pub use line::Line;

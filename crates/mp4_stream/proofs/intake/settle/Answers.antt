@@ -1,7 +1,7 @@
 use Rattle.std.proofs.Common.{◌++◌}
 use Rattle.mp4_stream.proofs.HoldingLemmas.{verdict_good, verdict_bad}
 use Rattle.mp4_stream.proofs.PlaceLemmas.{GoesOn-good, FailsIn-good, Refuses-tree}
-use Rattle.mp4_stream.proofs.machine.settle.Goals as goal
+use Rattle.mp4_stream.proofs.intake.settle.Goals as goal
 
 pub returns-in-Err-clause-err : goal.returns-in-Err-clause-err
 returns-in-Err-clause-err g c = λ more.

@@ -1,7 +1,7 @@
 use Rattle.std.proofs.Common.{◌++◌, ◌∙◌, [], sym}
 use Rattle.mp4_stream.specs.Places.{place_by}
 use Rattle.mp4_stream.proofs.PlaceLemmas.{Refuses-far, GoesOn-line, FailsIn-line, begun-none, own-none}
-use Rattle.mp4_stream.proofs.machine.begin.Goals as goal
+use Rattle.mp4_stream.proofs.intake.begin.Goals as goal
 
 pub returns-in-None-clause-err : goal.returns-in-None-clause-err
 returns-in-None-clause-err g c = λ more.

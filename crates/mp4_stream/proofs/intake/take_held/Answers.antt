@@ -2,7 +2,7 @@ use Rattle.std.proofs.Common.{take, drop}
 use Rattle.mp4_stream.proofs.AnswerLemmas.{StopsAt-take_more}
 use Rattle.mp4_stream.proofs.HoldingLemmas.{begins_more}
 use Rattle.mp4_stream.proofs.PlaceLemmas.{GoesOn-held}
-use Rattle.mp4_stream.proofs.machine.take_held.Goals as goal
+use Rattle.mp4_stream.proofs.intake.take_held.Goals as goal
 
 pub settle_whole-requires-clause-begins : goal.settle_whole-requires-clause-begins
 settle_whole-requires-clause-begins g c =

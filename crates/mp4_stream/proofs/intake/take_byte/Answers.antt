@@ -3,7 +3,7 @@ use Rattle.std.proofs.lemmas.Result.{IfErr-weaker}
 use Rattle.mp4_stream.specs.Answers.{StopsAt}
 use Rattle.mp4_stream.specs.Places.{InHeader, standing}
 use Rattle.mp4_stream.proofs.PlaceLemmas.{GoesOn-byte, StopsAt-last, Refuses-bad}
-use Rattle.mp4_stream.proofs.machine.take_byte.Goals as goal
+use Rattle.mp4_stream.proofs.intake.take_byte.Goals as goal
 use Rattle.mp4_stream.specs.declared.machine.Command.TheVariants.{Boxes}
 
 pub returns-in-More-clause-ok : goal.returns-in-More-clause-ok

@@ -2,7 +2,7 @@ use Rattle.std.proofs.Common.{[], take, length-take-le, arith, refl, sym}
 use Rattle.std.proofs.Math.Seq.{take-length}
 use Rattle.mp4_stream.specs.Places.{InBody, InOpenBody, place_by}
 use Rattle.mp4_stream.proofs.PlaceLemmas.{GoesOn-passed, Refuses-passed, begun-none, own-none}
-use Rattle.mp4_stream.proofs.machine.take_unheld.Goals as goal
+use Rattle.mp4_stream.proofs.intake.take_unheld.Goals as goal
 
 pub returns-in-Err-clause-err : goal.returns-in-Err-clause-err
 returns-in-Err-clause-err g c = rw c.in-Header.is c.in-Err.ensures.err

@@ -4,7 +4,7 @@ use Rattle.mp4_box.proofs.HeaderLemmas.{result-whole, whole_is, need-least, need
 use Rattle.mp4_stream.specs.Answers.{StopsAt}
 use Rattle.mp4_stream.specs.Places.{InHeader, standing}
 use Rattle.mp4_stream.proofs.PlaceLemmas.{front-len, front-is, StopsAt-header}
-use Rattle.mp4_stream.proofs.machine.take_header.Goals as goal
+use Rattle.mp4_stream.proofs.intake.take_header.Goals as goal
 use Rattle.mp4_stream.specs.declared.machine.Command.TheVariants.{Boxes}
 
 first_of_piece : (piece : List ℕ) → 0 < length piece → get_or piece 0 0 ∷ drop 1 piece ≡ piece

@@ -1,6 +1,6 @@
 use Rattle.mp4_stream.specs.Places.{InHeld, standing}
 use Rattle.mp4_stream.proofs.AnswerLemmas.{GoesOn-none}
-use Rattle.mp4_stream.proofs.machine.settle_whole.Goals as goal
+use Rattle.mp4_stream.proofs.intake.settle_whole.Goals as goal
 use Rattle.mp4_stream.specs.declared.machine.Command.TheVariants.{Boxes}
 
 pub returns-then-not-is_whole-clause-ok : goal.returns-then-not-is_whole-clause-ok

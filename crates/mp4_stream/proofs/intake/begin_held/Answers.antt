@@ -3,11 +3,11 @@ use Rattle.mp4_box.specs.Headers.{HasRoom}
 use Rattle.mp4_box.proofs.HeaderLemmas.{whole_is, need-least}
 use Rattle.mp4_stream.specs.Boxes.{least_end, longest}
 use Rattle.mp4_stream.specs.Places.{InHeader, place_of, standing}
-use Rattle.mp4_stream.specs.declared.machine.Phase.TheVariants as phases
+use Rattle.mp4_stream.specs.declared.phase.Phase.TheVariants as phases
 use Rattle.mp4_stream.proofs.AccountLemmas.{within_limit}
 use Rattle.mp4_stream.proofs.AnswerLemmas.{GoesOn-more, StopsAt-more}
 use Rattle.mp4_stream.proofs.PlaceLemmas.{Refuses-open, Refuses-large, GoesOn-claim, StopsAt-over, StopsAt-want}
-use Rattle.mp4_stream.proofs.machine.begin_held.Goals as goal
+use Rattle.mp4_stream.proofs.intake.begin_held.Goals as goal
 use Rattle.mp4_stream.specs.declared.machine.Command.TheVariants.{Boxes}
 
 pub returns-in_default-clause-err : goal.returns-in_default-clause-err

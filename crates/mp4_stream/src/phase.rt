@@ -1,0 +1,161 @@
+//! Where a reader stands in a stream between boxes that are held, and how it passes over bodies.
+
+ghost use Rattle.std.specs.Prelude.{◌≡◌, ℕ, ◌+◌, ◌-◌, ◌<◌, ◌≤◌, [], ◌++◌, List, length, take, None, Some, Ok, IfNone, IfSome, IfOk, IfErr, OnErr};
+ghost use Rattle.mp4_box.specs.Headers.{HasRoom};
+ghost use Rattle.mp4_box.specs.declared.refusal.Rule.TheVariants.{StreamTooLong};
+ghost use Rattle.mp4_stream.specs.Boxes.{body, fault, least_end, longest, open_body, reading, refused, sized_body};
+ghost use Rattle.mp4_stream.specs.Places.{InBody, InOpenBody, IsPhase, IsPlace, brings_of, from_of, place_by};
+ghost use Rattle.mp4_stream.specs.declared.machine.Command.TheVariants.{Boxes};
+ghost use Rattle.mp4_stream.specs.Readings.{then_read};
+
+use crate::top::Stop;
+use mp4_box::{Fault, FourCc, Header, Rule, Size};
+
+/// No stream is followed further than this many bytes.
+pub(crate) const LONGEST: u64 = 1 << 62;
+
+/// What a reader takes next. `at` is the offset of the box that it is in.
+#[derive(Clone, Copy)]
+pub(crate) enum Phase {
+    /// A byte of the box's header.
+    Header {
+        at: u64,
+    },
+    /// Bytes of the box's body, of which some are left; the next box begins at `next`.
+    Body {
+        at: u64,
+        kind: FourCc,
+        next: u64,
+        left: u64,
+    },
+    /// Bytes of a body that goes to the end of the stream, and may have so many.
+    OpenBody {
+        at: u64,
+        kind: FourCc,
+        left: u64,
+    },
+}
+
+/// A refusal of the box at `at`.
+pub(crate) fn refused(rule: Rule, kind: Option<FourCc>, at: u64) -> Stop
+    ensures { result ≡ Stop.Stream (fault rule kind at) }
+{
+    Stop::Stream(Fault {
+        rule,
+        kind,
+        offset: at,
+    })
+}
+
+/// What comes behind the header of the box at `at`; nothing where the box goes past the longest stream.
+pub(crate) fn phase_behind(at: u64, header: &Header) -> Option<Phase>
+    requires at { at ≤ longest }
+    requires len { (8 ≤ header.now.header_len) × (header.now.header_len ≤ 32) }
+    requires room { HasRoom header.now.size header.now.header_len }
+    ensures none { IfNone result (longest < least_end at header.now header.now.size) }
+    ensures some { IfSome result (λ p. least_end at header.now header.now.size ≤ longest) }
+    ensures brings { IfSome result (λ p. (later : List ℕ) → then_read reading
+        (body at header.now header.now.size later) ≡ brings_of Boxes (place_by [] p) later) }
+    ensures phase { IfSome result (λ p. IsPhase [] p) }
+    ensures reached { IfSome result (λ p. from_of (place_by [] p) ≡ at + header.now.header_len) }
+{
+    match header.size {
+        Size::Exact(size) => sized_phase(at, header.kind, size, header.header_len),
+        Size::ToEnd => open_phase(at, header.kind, header.header_len),
+    }
+}
+
+/// What comes behind the header, of this length, of a box of this size.
+pub(crate) fn sized_phase(at: u64, kind: FourCc, size: u64, header_len: u64) -> Option<Phase>
+    requires at { at ≤ longest }
+    requires room { header_len ≤ size }
+    ensures none { IfNone result (longest < at + size) }
+    ensures some { IfSome result (λ p. at + size ≤ longest) }
+    ensures brings { IfSome result (λ p. (later : List ℕ) → then_read reading
+        (sized_body at kind (at + size) (size - header_len) later) ≡ brings_of Boxes (place_by [] p)
+        later) }
+    ensures phase { IfSome result (λ p. IsPhase [] p) }
+    ensures reached { IfSome result (λ p. from_of (place_by [] p) ≡ at + header_len) }
+{
+    if size > LONGEST - at {
+        return None;
+    }
+    let next = at + size;
+    if size == header_len {
+        return Some(Phase::Header { at: next });
+    }
+    Some(Phase::Body {
+        at,
+        kind,
+        next,
+        left: size - header_len,
+    })
+}
+
+/// What comes behind the header, of this length, of a box that goes to the end of the stream.
+pub(crate) fn open_phase(at: u64, kind: FourCc, header_len: u64) -> Option<Phase>
+    requires at { at ≤ longest }
+    ensures none { IfNone result (longest < at + header_len) }
+    ensures some { IfSome result (λ p. at + header_len ≤ longest) }
+    ensures brings { IfSome result (λ p. (later : List ℕ) → then_read reading
+        (open_body at kind (longest - (at + header_len)) later) ≡ brings_of Boxes (place_by [] p)
+        later) }
+    ensures phase { IfSome result (λ p. IsPhase [] p) }
+    ensures reached { IfSome result (λ p. from_of (place_by [] p) ≡ at + header_len) }
+{
+    if header_len > LONGEST - at {
+        return None;
+    }
+    Some(Phase::OpenBody {
+        at,
+        kind,
+        left: LONGEST - (at + header_len),
+    })
+}
+
+/// Passes over bytes of the body of the box at `at`: how many, and what comes next.
+pub(crate) fn pass(at: u64, kind: FourCc, next: u64, left: u64, piece: &[u8]) -> (usize, Phase)
+    requires some { 0 < length piece.now }
+    requires place { IsPlace (InBody at kind next left) }
+    ensures taken { (0 < result.0) × (result.0 ≤ length piece.now) }
+    ensures brings { (later : List ℕ) → brings_of Boxes (InBody at kind next left)
+        (take result.0 piece.now ++ later) ≡ brings_of Boxes (place_by [] result.1) later }
+    ensures phase { IsPhase [] result.1 }
+    ensures reached { from_of (place_by [] result.1) ≡ (next - left) + result.0 }
+{
+    let taken = left.min(piece.len() as u64) as usize;
+    let left = left - taken as u64;
+    let phase = if left == 0 {
+        Phase::Header { at: next }
+    } else {
+        Phase::Body {
+            at,
+            kind,
+            next,
+            left,
+        }
+    };
+    (taken, phase)
+}
+
+/// Passes over a piece of the body of the box at `at`, which goes to the end of the stream: what comes next.
+pub(crate) fn pass_open(at: u64, kind: FourCc, left: u64, piece: &[u8]) -> Result<Phase, Stop>
+    requires { IsPlace (InOpenBody at kind left) }
+    ensures brings { IfOk result (λ p. (later : List ℕ) → brings_of Boxes (InOpenBody at kind left)
+        (piece.now ++ later) ≡ brings_of Boxes (place_by [] p) later) }
+    ensures phase { IfOk result (λ p. IsPhase [] p) }
+    ensures reached { IfOk result (λ p. from_of (place_by [] p) ≡ (longest - left) + length
+        piece.now) }
+    ensures stops { IfErr result (λ e. e ≡ Stop.Stream (fault StreamTooLong (Some kind) at)) }
+    ensures err { OnErr result ((later : List ℕ) → brings_of Boxes (InOpenBody at kind left)
+        (piece.now ++ later) ≡ refused StreamTooLong (Some kind) at) }
+{
+    if piece.len() as u64 > left {
+        return Err(refused(Rule::StreamTooLong, Some(kind), at));
+    }
+    Ok(Phase::OpenBody {
+        at,
+        kind,
+        left: left - piece.len() as u64,
+    })
+}
