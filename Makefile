@@ -15,7 +15,7 @@ test:
 	@rt ci
 
 # Runs the program with each of its allocations refused in turn.
-refusals:
+refusals: build
 	@scripts/refused_allocations
 
 # Lists a stream of 1 GiB beside `cat`, and one of small fragments beside a plain Rust program.
