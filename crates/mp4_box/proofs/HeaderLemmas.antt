@@ -1,10 +1,9 @@
 -- What is spelled as a header is read as it, and what is read as a header is spelled so.
-use Rattle.std.proofs.Common.{◌≡◌, ℕ, ◌+◌, ◌-◌, ◌^◌, ◌<◌, ◌≤◌, ◌==◌, ◌⊎◌, Bool, true, false, cond, ltb, List, [], ◌∷◌, ◌++◌, length, take, drop, Option, Some, None, Ok, Err, refl, sym, ap, subst, ◌∙◌, append_assoc, arith, inl, inr, eq-eqb}
-use Rattle.std.specs.Prelude.{IfOk, IfErr}
+use Rattle.std.proofs.Common.{◌≡◌, ℕ, ◌+◌, ◌-◌, ◌^◌, ◌<◌, ◌≤◌, ◌==◌, ◌⊎◌, Bool, true, false, cond, ltb, List, [], ◌∷◌, ◌++◌, length, take, drop, Option, Some, None, refl, sym, ap, subst, ◌∙◌, append_assoc, arith, inl, inr, eq-eqb}
 use Rattle.std.specs.Str.{bytes_eq}
 use Rattle.std.proofs.lemmas.Bool.{cases_lt, ltb-false, le-ltb, lt-ltb, cond-true, cond-false, false≢true}
 use Rattle.std.proofs.lemmas.Bool.Decides.{nat_tests, Decides-eqb}
-use Rattle.std.proofs.lemmas.List.{take_at, drop_at, take-append-drop, take-append-le, drop-append-le, length-append, length-take, length-drop, drop-drop, get_or-drop, get_or-take, take_all, append-nil, get_or_past, nil_from_length}
+use Rattle.std.proofs.lemmas.List.{take_at, drop_at, take-append-le, drop-append-le, length-append, length-take, length-drop, drop-drop, get_or-drop, get_or-take, get_or_past}
 use Rattle.std.proofs.lemmas.Slice.Eq.{bytes_eq-Decides}
 use Rattle.std.proofs.lemmas.Nat.{be_bytes_4, be_bytes_8}
 use Rattle.std.proofs.Math.Seq.{take-add}
@@ -15,8 +14,7 @@ use Rattle.mp4_box.specs.declared.headers.Size.{Size}
 use Rattle.mp4_box.specs.declared.headers.Size.TheVariants.{Exact, ToEnd}
 use Rattle.mp4_box.specs.declared.headers.Step.{Step}
 use Rattle.mp4_box.specs.declared.headers.Step.TheVariants.{More, Whole, BadSize}
-use Rattle.mp4_box.specs.declared.refusal.Rule.TheVariants as rules
-use Rattle.mp4_box.specs.Headers.{IsBytes, uuid, HasUser, HasRoom, user_bytes, Spells, Head, BeginsWith, size_field, kind_field, has_user, is_long, need, user_field, stated_size, with_size, header_at, result_of}
+use Rattle.mp4_box.specs.Headers.{IsBytes, uuid, HasUser, HasRoom, user_bytes, Spells, Head, size_field, kind_field, has_user, is_long, need, user_field, stated_size, with_size, header_at}
 
 abbrev pub mk : List ℕ → Option (List ℕ) → Size → ℕ → Header
 mk kind user size n = record { kind = record { 0 = kind }; user = user; size = size; header_len = n }
@@ -238,7 +236,7 @@ cond_or : (b : Bool) (a : Header) (r : Step) (h : Header) → cond b (Whole a) r
 cond_or true a r h p = inl (refl, cc)
 cond_or false a r h p = inr (refl, p)
 
-whole_one : (h k : Header) → ◌≡◌ {A = Step} (Whole h) (Whole k) → h ≡ k
+pub whole_one : (h k : Header) → ◌≡◌ {A = Step} (Whole h) (Whole k) → h ≡ k
 whole_one h k e = cc
 
 -- the bytes of the numbers that stand in front
@@ -432,7 +430,7 @@ unfolding header_at
 bad_is x e = grind (arith, nat_tests)
 
 -- what the header states has room for it
-room_of : (x : List ℕ) (h : Header) → header_at x ≡ Whole h → HasRoom h.size h.header_len
+pub room_of : (x : List ℕ) (h : Header) → header_at x ≡ Whole h → HasRoom h.size h.header_len
 unfolding header_at
 room_of x h e =
     let one = cond_more (ltb (length x) (need x)) _ h e in
@@ -442,93 +440,3 @@ room_of x h e =
           let good = cond_bad (ltb (stated_size x) (need x)) _ h z.1 in
           subst (λ (k : Header). HasRoom k.size k.header_len) (whole_one _ _ good.1) (ltb-false _ _ good.0)
     ]
-
--- ---- what is answered
-
-not_more_nor_whole : (s : Step) → (s ≡ More → ⊥) → ((h : Header) → s ≡ Whole h → ⊥) → s ≡ BadSize
-not_more_nor_whole More m w = absurd (m refl)
-not_more_nor_whole (Whole h) m w = absurd (w h refl)
-not_more_nor_whole BadSize m w = refl
-
--- of a slice that begins with a header
-
-pub result-whole : (s : Step) (h : Header) → result_of s ≡ Ok h → s ≡ Whole h
-result-whole More h e = absurd cc
-result-whole (Whole k) h e = cc
-result-whole BadSize h e = absurd cc
-
-result-more : (s : Step) → result_of s ≡ Err rules.Truncated → s ≡ More
-result-more More e = refl
-result-more (Whole k) e = absurd cc
-result-more BadSize e = absurd cc
-
-pub header-begins : (x : List ℕ) (h : Header) → IsBytes x → (result_of (header_at x) ≡ Ok h → BeginsWith h x) × (BeginsWith h x → result_of (header_at x) ≡ Ok h)
-header-begins x h fits = (
-  λ e. (h.header_len, read_is x h fits (result-whole (header_at x) h e)),
-  λ p. ap result_of (ap header_at (sym (take-append-drop p.0 x)) ∙ read_again h (take p.0 x) (drop p.0 x) p.1),
-)
-
-pub header-truncated : (x : List ℕ) → (result_of (header_at x) ≡ Err rules.Truncated → length x < need x) × (length x < need x → result_of (header_at x) ≡ Err rules.Truncated)
-header-truncated x = (λ e. cut_is x (result-more (header_at x) e), λ h. ap result_of (is_cut x h))
-
-result-err : (s : Step) → IfErr (result_of s) (λ rule. (rule ≡ rules.Truncated) ⊎ (rule ≡ rules.BadSize))
-result-err More = inl refl
-result-err (Whole h) = tt
-result-err BadSize = inr refl
-
-pub header-err : (x : List ℕ) → IfErr (result_of (header_at x)) (λ rule. (rule ≡ rules.Truncated) ⊎ (rule ≡ rules.BadSize))
-header-err x = result-err (header_at x)
-
-result-ok : (s : Step) (P : Header → Type 0) → ((h : Header) → s ≡ Whole h → P h) → IfOk (result_of s) P
-result-ok More P f = tt
-result-ok (Whole h) P f = f h refl
-result-ok BadSize P f = tt
-
-pub header-within : (x : List ℕ) → IfOk (result_of (header_at x)) (λ h. (8 ≤ h.header_len) × (h.header_len ≤ length x))
-header-within x = result-ok (header_at x) (λ h. (8 ≤ h.header_len) × (h.header_len ≤ length x))
-    (λ h e. let w = whole_is x h e in (omega (arith, w.1, need-least x), omega (arith, w.0, w.1)))
-
-pub header-room : (x : List ℕ) → IfOk (result_of (header_at x)) (λ h. HasRoom h.size h.header_len)
-header-room x = result-ok (header_at x) (λ h. HasRoom h.size h.header_len) (λ h e. room_of x h e)
-
--- of bytes that are no more than were needed
-
-pub step-whole : (x : List ℕ) (h : Header) → IsBytes x → length x ≤ need x → (header_at x ≡ Whole h → Head h x) × (Head h x → header_at x ≡ Whole h)
-step-whole x h fits most = (
-  λ e.
-      let w = whole_is x h e in
-      subst (Head h) (take_all h.header_len x (omega (arith, w.0, w.1))) (read_is x h fits e),
-  λ p. ap header_at (sym (append-nil x)) ∙ read_again h x [] p,
-)
-
-pub step-more : (x : List ℕ) → (header_at x ≡ More → length x < need x) × (length x < need x → header_at x ≡ More)
-step-more x = (λ e. cut_is x e, λ h. is_cut x h)
-
-pub step-bad : (x : List ℕ) → IsBytes x → length x ≤ need x → (header_at x ≡ BadSize → (length x ≡ need x) × ((h : Header) → Head h x → ⊥)) × ((length x ≡ need x) × ((h : Header) → Head h x → ⊥) → header_at x ≡ BadSize)
-step-bad x fits most = (
-  λ e. (omega (arith, most, bad_is x e), λ h p. let w = (step-whole x h fits most).1 p in absurd cc),
-  λ p. not_more_nor_whole (header_at x) (λ m. absurd (omega (arith, cut_is x m, p.0)))
-      (λ h e. p.1 h ((step-whole x h fits most).0 e)),
-)
-
--- of all bytes of a header
-
-pub head-whole : (h : Header) (x : List ℕ) → Head h x → header_at x ≡ Whole h
-head-whole h x p = ap header_at (sym (append-nil x)) ∙ read_again h x [] p
-
-pub head-need : (h : Header) (x : List ℕ) → Head h x → length x ≡ need x
-head-need h x p =
-    let w = whole_is x h (head-whole h x p) in
-    omega (arith, w.1, p.header_len)
-
--- of bytes that no header begins
-pub header-none : (x : List ℕ) → IsBytes x → need x ≤ length x → ((h : Header) → BeginsWith h x → ⊥) → header_at x ≡ BadSize
-header-none x fits whole none = not_more_nor_whole (header_at x) (λ m. absurd (omega (arith, cut_is x m))) (λ h e. none h (h.header_len, read_is x h fits e))
-
--- ---- laws
-
-pub heads_along : (h k : Header) (x more : List ℕ) → Head h x → Head k (x ++ more) → (more ≡ []) × (h ≡ k)
-heads_along h k x more p q =
-    let same : h ≡ k = whole_one h k (sym (read_again h x more p) ∙ (ap header_at (sym (append-nil (x ++ more))) ∙ read_again k (x ++ more) [] q)) in
-    let lens : h.header_len ≡ k.header_len = ap (λ (a : Header). a.header_len) same in
-    (nil_from_length more (omega (arith, p.header_len, q.header_len, lens, length-append x more)), same)

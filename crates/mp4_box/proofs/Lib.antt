@@ -1,4 +1,5 @@
 pub mod HeaderLemmas
+pub mod HeaderAnswers
 pub mod StreamLemmas
 pub mod TreeLemmas
 pub mod GrammarLemmas

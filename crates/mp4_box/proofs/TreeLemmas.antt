@@ -1,8 +1,9 @@
 -- The boxes of a payload, one step at a time.
 use Rattle.std.proofs.Common.{◌≡◌, ℕ, zero, suc, ◌+◌, ◌-◌, ◌<◌, ◌≤◌, ◌==◌, true, false, List, [], ◌∷◌, ◌++◌, length, drop, Option, Some, None, Ok, Err, refl, sym, ap, ◌∙◌, arith}
 use Rattle.std.specs.Option.{option_or, is_some}
+use Rattle.mp4_box.specs.declared.refusal.Rule.TheVariants.{Depth}
 use Rattle.mp4_box.specs.declared.refusal.Fault.{Fault}
-use Rattle.mp4_box.specs.Trees.{Box, box_len, box_at, after, over, is_container, bad_rest, no_rest, bad_below, deep_below, payload_offset, first, verdict, too_deep, bad_size, boxes}
+use Rattle.mp4_box.specs.Trees.{Box, box_len, box_at, after, over, is_container, bad_rest, no_rest, bad_below, deep_below, payload_offset, first_of, verdict, fault_at, bad_size, boxes}
 
 -- bytes that are passed over
 pub over-skip : {R : Type 0} (f : Box → List R) (g : ℕ → List ℕ → List R) (x : List ℕ) (k o : ℕ) → over f g x k o ≡ over f g (drop k x) 0 (o + k)
@@ -63,7 +64,7 @@ pub verdict-err : (fs gs : List Fault) (f : Fault) → verdict fs ≡ Err f → 
 verdict-err [] gs f e = absurd cc
 verdict-err (h ∷ fs) gs f e = e
 
-pub first-append : (fs gs : List Fault) → first (fs ++ gs) ≡ option_or (first fs) (first gs)
+pub first-append : {A : Type 0} (fs gs : List A) → first_of (fs ++ gs) ≡ option_or (first_of fs) (first_of gs)
 first-append [] gs = refl
 first-append (f ∷ fs) gs = refl
 
@@ -76,7 +77,7 @@ unfolding bad_below
 bad-zero zero b e = refl
 bad-zero (suc n) b e = absurd (omega arith)
 
-pub deep-zero : (n : ℕ) (b : Box) → n ≡ 0 → deep_below n b ≡ too_deep b ∷ []
+pub deep-zero : (n : ℕ) (b : Box) → n ≡ 0 → deep_below n b ≡ fault_at Depth b ∷ []
 unfolding deep_below
 deep-zero zero b e = refl
 deep-zero (suc n) b e = absurd (omega arith)
@@ -88,13 +89,13 @@ pub bad-past : (n o : ℕ) (x : List ℕ) (b : Box) (all : List Fault) → box_a
 bad-past n o x b all e low high ok so =
     sym (over-box (bad_below n) bad_rest x o b e (omega arith) high ∙ ap (λ (fs : List Fault). fs ++ over (bad_below n) bad_rest (drop (box_len b) x) 0 (o + box_len b)) (verdict-ok _ ok)) ∙ so
 
-pub deep-past : (n o : ℕ) (x : List ℕ) (b : Box) (d e : Option Fault) (all : Option Fault) → box_at o x ≡ Some b → 8 ≤ box_len b → box_len b ≤ length x → e ≡ option_or d (first (deep_below n b)) → option_or d (first (over (deep_below n) no_rest x 0 o)) ≡ all
-    → option_or e (first (over (deep_below n) no_rest (drop (box_len b) x) 0 (o + box_len b))) ≡ all
+pub deep-past : (n o : ℕ) (x : List ℕ) (b : Box) (d e : Option Fault) (all : Option Fault) → box_at o x ≡ Some b → 8 ≤ box_len b → box_len b ≤ length x → e ≡ option_or d (first_of (deep_below n b)) → option_or d (first_of (over (deep_below n) no_rest x 0 o)) ≡ all
+    → option_or e (first_of (over (deep_below n) no_rest (drop (box_len b) x) 0 (o + box_len b))) ≡ all
 deep-past n o x b d e all at low high step so =
     let rest = over (deep_below n) no_rest (drop (box_len b) x) 0 (o + box_len b) in
-    ap (λ (z : Option Fault). option_or z (first rest)) step
-    ∙ (sym (or-assoc d (first (deep_below n b)) (first rest))
-    ∙ (ap (option_or d) (sym (first-append (deep_below n b) rest) ∙ ap first (sym (over-box (deep_below n) no_rest x o b at (omega arith) high))) ∙ so))
+    ap (λ (z : Option Fault). option_or z (first_of rest)) step
+    ∙ (sym (or-assoc d (first_of (deep_below n b)) (first_of rest))
+    ∙ (ap (option_or d) (sym (first-append (deep_below n b) rest) ∙ ap first_of (sym (over-box (deep_below n) no_rest x o b at (omega arith) high))) ∙ so))
 
 -- a child at fault
 pub bad-child : (n o : ℕ) (x : List ℕ) (b : Box) (f : Fault) (all : List Fault) → box_at o x ≡ Some b → 8 ≤ box_len b → box_len b ≤ length x → verdict (bad_below n b) ≡ Err f → over (bad_below n) bad_rest x 0 o ≡ all → verdict all ≡ Err f
@@ -105,8 +106,8 @@ bad-child n o x b f all e low high bad so =
 pub bad-stop : (n o : ℕ) (x : List ℕ) (all : List Fault) → box_at o x ≡ None → 0 < length x → over (bad_below n) bad_rest x 0 o ≡ all → verdict all ≡ Err (bad_size o x)
 bad-stop n o x all e h so = ap verdict (sym so ∙ over-none (bad_below n) bad_rest x o e h)
 
-pub none-first : (d : Option Fault) (n : ℕ) (b : Box) (f : Fault) → is_some d ≡ false → n ≡ 0 → f ≡ too_deep b → Some f ≡ option_or d (first (deep_below n b))
-none-first None n b f e z h = ap Some h ∙ sym (ap first (deep-zero n b z))
+pub none-first : (d : Option Fault) (n : ℕ) (b : Box) (f : Fault) → is_some d ≡ false → n ≡ 0 → f ≡ fault_at Depth b → Some f ≡ option_or d (first_of (deep_below n b))
+none-first None n b f e z h = ap Some h ∙ sym (ap first_of (deep-zero n b z))
 none-first (Some g) n b f e z h = absurd cc
 
 pub or-none : (d : Option Fault) → option_or d None ≡ d

@@ -8,6 +8,7 @@ use Rattle.mp4_box.specs.declared.headers.Size.TheVariants.{Exact, ToEnd}
 use Rattle.mp4_box.specs.declared.headers.Step.{Step}
 use Rattle.mp4_box.specs.declared.headers.Step.TheVariants as steps
 use Rattle.mp4_box.specs.declared.refusal.Fault.{Fault}
+use Rattle.mp4_box.specs.declared.refusal.Rule.{Rule}
 use Rattle.mp4_box.specs.declared.refusal.Rule.TheVariants.{BadSize, Depth}
 use Rattle.mp4_box.specs.declared.box_ref.BoxRef.{BoxRef}
 use Rattle.mp4_box.specs.Headers.{header_at, kind_of}
@@ -74,8 +75,9 @@ children b = boxes (payload_offset b) b.payload
 abbrev pub bad_size : ℕ → List ℕ → Fault
 bad_size o y = record { rule = BadSize; kind = kind_of y; offset = o }
 
-abbrev pub too_deep : Box → Fault
-too_deep b = record { rule = Depth; kind = Some b.header.kind; offset = b.offset }
+-- a box that breaks a rule
+abbrev pub fault_at : Rule → Box → Fault
+fault_at rule b = record { rule = rule; kind = Some b.header.kind; offset = b.offset }
 
 -- what a rest in which no box stands adds
 abbrev pub bad_rest : ℕ → List ℕ → List Fault
@@ -91,12 +93,13 @@ bad_below (suc levels) b = if is_container b.header.kind.0 then over (bad_below 
 
 -- each box so many levels below the box, in order
 unfoldable pub deep_below : ℕ → Box → List Fault
-deep_below zero b = too_deep b ∷ []
+deep_below zero b = fault_at Depth b ∷ []
 deep_below (suc levels) b = if is_container b.header.kind.0 then over (deep_below levels) no_rest b.payload 0 (payload_offset b) else []
 
-abbrev pub first : List Fault → Option Fault
-first [] = None
-first (f ∷ fs) = Some f
+-- the first of a list
+abbrev pub first_of : {A : Type 0} → List A → Option A
+first_of [] = None
+first_of (x ∷ xs) = Some x
 
 abbrev pub verdict : List Fault → Result (Unit {0}) Fault
 verdict [] = Ok tt

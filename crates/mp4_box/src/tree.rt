@@ -3,7 +3,7 @@
 ghost use Rattle.std.specs.Prelude.{◌≡◌, ◌+◌, ◌-◌, ◌^◌, ◌<◌, ◌≤◌, length, Some, IfErr, IsOk, IsTrue, ◌↔◌, OnOk, IfSome, option_map};
 ghost use Rattle.std.specs.Option.{option_or};
 ghost use Rattle.mp4_box.specs.Headers.{IsWhole};
-ghost use Rattle.mp4_box.specs.Trees.{bad_below, bad_size, box_at, box_len, deep_below, first, is_container, too_deep, tree_faults, verdict, view};
+ghost use Rattle.mp4_box.specs.Trees.{bad_below, bad_size, box_at, box_len, deep_below, fault_at, first_of, is_container, tree_faults, verdict, view};
 ghost use Rattle.mp4_box.specs.Grammar.{IsTree};
 ghost use Rattle.mp4_box.specs.Order.{IsLeast};
 
@@ -77,13 +77,16 @@ fn bad_box(bytes: &[u8], offset: u64) -> Fault
     }
 }
 
-fn deep_box(this: &BoxRef) -> Fault
-    ensures { result ≡ too_deep (view this.now) }
-{
-    Fault {
-        rule: Rule::Depth,
-        kind: Some(this.header.kind),
-        offset: this.offset,
+impl<'a> BoxRef<'a> {
+    /// The fault of this box where it breaks the rule.
+    pub fn fault(&self, rule: Rule) -> Fault
+        ensures { result ≡ fault_at rule (view self.now) }
+    {
+        Fault {
+            rule,
+            kind: Some(self.header.kind),
+            offset: self.offset,
+        }
     }
 }
 
@@ -92,11 +95,11 @@ fn deep_box(this: &BoxRef) -> Fault
 fn check_below(this: &BoxRef, levels: u8, deep: &mut Option<Fault>) -> Result<(), Fault>
     ensures exact { result ≡ verdict (bad_below levels (view this.now)) }
     ensures deep { OnOk result (deep.new ≡ option_or deep.old
-        (first (deep_below levels (view this.now)))) }
+        (first_of (deep_below levels (view this.now)))) }
 {
     if levels == 0 {
         if deep.is_none() {
-            *deep = Some(deep_box(this));
+            *deep = Some(this.fault(Rule::Depth));
         }
         return Ok(());
     }

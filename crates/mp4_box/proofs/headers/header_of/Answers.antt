@@ -1,6 +1,6 @@
 use Rattle.std.proofs.Common.{◌≡◌, ◌∙◌, ap, arith}
 use Rattle.mp4_box.specs.Headers.{header_at, result_of}
-use Rattle.mp4_box.proofs.HeaderLemmas.{header-begins, header-truncated, header-err, header-within, header-room}
+use Rattle.mp4_box.proofs.HeaderAnswers.{header-begins, header-truncated, header-err, header-within, header-room}
 use Rattle.mp4_box.proofs.headers.header_of.Goals as goal
 
 same : (c : goal.After-result_for) → c.result_for.result ≡ result_of (header_at c.args.bytes.now)

@@ -1,4 +1,4 @@
-use Rattle.mp4_box.proofs.HeaderLemmas.{heads_along}
+use Rattle.mp4_box.proofs.HeaderAnswers.{heads_along}
 use Rattle.mp4_box.proofs.laws.no_prefix.Goals as goal
 
 pub returns : goal.returns

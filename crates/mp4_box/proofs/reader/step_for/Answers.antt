@@ -1,5 +1,5 @@
 use Rattle.std.proofs.Common.{arith}
-use Rattle.mp4_box.proofs.HeaderLemmas.{step-whole, step-bad, step-more}
+use Rattle.mp4_box.proofs.HeaderAnswers.{step-whole, step-bad, step-more}
 use Rattle.mp4_box.proofs.reader.step_for.Goals as goal
 
 pub returns-clause-whole : goal.returns-clause-whole

@@ -1,6 +1,6 @@
 use Rattle.std.proofs.Common.{◌≡◌, ◌∙◌, ◌+◌, ◌-◌, ℕ, List, length, drop, Err, sym, ap, arith}
 use Rattle.std.specs.Option.{option_or}
-use Rattle.mp4_box.specs.Trees.{view, box_len, over, bad_rest, no_rest, bad_below, deep_below, first, verdict}
+use Rattle.mp4_box.specs.Trees.{view, box_len, over, bad_rest, no_rest, bad_below, deep_below, first_of, verdict}
 use Rattle.mp4_box.specs.declared.refusal.Fault.{Fault}
 use Rattle.std.proofs.lemmas.Bool.Decides.{Decides-eqb}
 use Rattle.mp4_box.proofs.TreeLemmas.{bad-zero, bad-leaf, deep-leaf, bad-step, deep-step, bad-past, deep-past, bad-child, bad-stop, over-end, none-first, or-none, not_empty}
@@ -10,7 +10,7 @@ pub returns-then-is_none-clause-exact : goal.returns-then-is_none-clause-exact
 returns-then-is_none-clause-exact t c = sym (ap verdict (bad-zero c.args.levels (view c.args.this.now) c.if-levels-eq0.true))
 
 pub returns-then-is_none-clause-deep : goal.returns-then-is_none-clause-deep
-returns-then-is_none-clause-deep t c = none-first c.args.deep.now c.args.levels (view c.args.this.now) c.deep_box.result c.if-is_none.ensures c.if-levels-eq0.true c.deep_box.ensures
+returns-then-is_none-clause-deep t c = none-first c.args.deep.now c.args.levels (view c.args.this.now) c.fault.result c.if-is_none.ensures c.if-levels-eq0.true c.fault.ensures
 
 pub returns-else-is_none-clause-exact : goal.returns-else-is_none-clause-exact
 returns-else-is_none-clause-exact t c = sym (ap verdict (bad-zero c.args.levels (view c.args.this.now) c.if-levels-eq0.true))
@@ -20,7 +20,7 @@ returns-then-not-holds_boxes-clause-exact t c = sym (ap verdict (bad-leaf c.args
 
 pub returns-then-not-holds_boxes-clause-deep : goal.returns-then-not-holds_boxes-clause-deep
 returns-then-not-holds_boxes-clause-deep t c =
-    sym (ap (λ (fs : List Fault). option_or c.args.deep.now (first fs)) (deep-leaf c.args.levels (view c.args.this.now) (omega arith) (sym c.holds_boxes.ensures ∙ c.if-not-holds_boxes.true)) ∙ or-none c.args.deep.now)
+    sym (ap (λ (fs : List Fault). option_or c.args.deep.now (first_of fs)) (deep-leaf c.args.levels (view c.args.this.now) (omega arith) (sym c.holds_boxes.ensures ∙ c.if-not-holds_boxes.true)) ∙ or-none c.args.deep.now)
 
 pub loop-rest-init : goal.loop-rest-init
 loop-rest-init t c =
@@ -29,7 +29,7 @@ loop-rest-init t c =
       below = omega arith;
       room = omega arith;
       bad = sym (bad-step c.args.levels (view c.args.this.now) (omega arith) yes);
-      deep = ap (λ (fs : List Fault). option_or c.args.deep.now (first fs)) (sym (deep-step c.args.levels (view c.args.this.now) (omega arith) yes));
+      deep = ap (λ (fs : List Fault). option_or c.args.deep.now (first_of fs)) (sym (deep-step c.args.levels (view c.args.this.now) (omega arith) yes));
     }
 
 pub returns-in_default-clause-exact : goal.returns-in_default-clause-exact
@@ -53,8 +53,8 @@ loop-rest-preserved t c =
       below = c.loop-rest.invariant.below;
       room = omega (arith, c.split_at.ensures.back_len, c.loop-rest.invariant.room);
       bad = ap (λ (y : List ℕ). over (bad_below n) bad_rest y 0 (o + box_len b)) back ∙ bad-past n o x b (bad_below c.args.levels (view c.args.this.now)) (sym child.exact) child.within.0 child.within.1 (sym c.in_default-check_below.ensures.exact) c.loop-rest.invariant.bad;
-      deep = ap (λ (y : List ℕ). option_or c.check_below.new.deep (first (over (deep_below n) no_rest y 0 (o + box_len b)))) back
-          ∙ deep-past n o x b c.loop-rest.deep c.check_below.new.deep (option_or c.args.deep.now (first (deep_below c.args.levels (view c.args.this.now)))) (sym child.exact) child.within.0 child.within.1 c.in_default-check_below.ensures.deep c.loop-rest.invariant.deep;
+      deep = ap (λ (y : List ℕ). option_or c.check_below.new.deep (first_of (over (deep_below n) no_rest y 0 (o + box_len b)))) back
+          ∙ deep-past n o x b c.loop-rest.deep c.check_below.new.deep (option_or c.args.deep.now (first_of (deep_below c.args.levels (view c.args.this.now)))) (sym child.exact) child.within.0 child.within.1 c.in_default-check_below.ensures.deep c.loop-rest.invariant.deep;
     }
 
 pub returns-clause-exact : goal.returns-clause-exact
@@ -65,4 +65,4 @@ returns-clause-exact t c =
 pub returns-clause-deep : goal.returns-clause-deep
 returns-clause-deep t c =
     let none : length c.loop-rest.rest.now ≡ 0 = (Decides-eqb (length c.loop-rest.rest.now) 0).0 (sym c.loop-rest-test.ensures) in
-    sym (or-none c.loop-rest.deep) ∙ (ap (λ (fs : List Fault). option_or c.loop-rest.deep (first fs)) (sym (over-end (deep_below (c.args.levels - 1)) no_rest c.loop-rest.rest.now c.loop-rest.offset none)) ∙ c.loop-rest.invariant.deep)
+    sym (or-none c.loop-rest.deep) ∙ (ap (λ (fs : List Fault). option_or c.loop-rest.deep (first_of fs)) (sym (over-end (deep_below (c.args.levels - 1)) no_rest c.loop-rest.rest.now c.loop-rest.offset none)) ∙ c.loop-rest.invariant.deep)
