@@ -13,7 +13,8 @@ ghost use Rattle.mp4_stream.specs.declared.phase.Phase.TheVariants as phases;
 
 use crate::block::Block;
 use crate::held::{Held, held_limit};
-use crate::listing::line_of;
+use crate::line::Line;
+use crate::listing::push_box;
 use crate::phase::{Phase, pass, pass_open, phase_behind, refused};
 use crate::top::Stop;
 use mp4_box::{Failed, Header, HeaderReader, Rule, Sink, Size, Step, header_of};
@@ -163,10 +164,14 @@ fn begin<W: Sink>(
     };
     match held_limit(header.kind) {
         Some(limit) => begin_held(at, header, limit, head, ledger, out, w),
-        None => match out.put(w, line_of(at, header).bytes()) {
-            Ok(()) => Ok((phase, None)),
-            Err(Failed) => Err(Stop::Write),
-        },
+        None => {
+            let mut line = Line::new();
+            push_box(&mut line, at, header);
+            match out.put(w, line.bytes()) {
+                Ok(()) => Ok((phase, None)),
+                Err(Failed) => Err(Stop::Write),
+            }
+        }
     }
 }
 

@@ -8,8 +8,11 @@
 //! - [`line`]: a line under construction, and [`block`]: bytes on their way to a sink;
 //! - [`laws`]: what the definitions of `specs/` imply.
 //!
-//! The definitions: `specs/Readings.antt` (a stream read item by item), `specs/Boxes.antt` (its boxes),
-//! `specs/Listing.antt` (their lines), `specs/Answers.antt` (what a run answers, writes and claims).
+//! The definitions: `specs/Readings.antt` (a stream read item by item), `specs/Boxes.antt` (its boxes) with
+//! `specs/Holding.antt` (those that are held), `specs/Listing.antt` (their lines) with `specs/Hex.antt` (digits),
+//! `specs/Joined.antt` (whole boxes one after the other, of which the laws speak), `specs/Answers.antt` (what a run
+//! answers, writes and claims). How it is worked out: `specs/Places.antt` (where a reader stands), `specs/Accounts.antt`
+//! (what it claims and gives back), `specs/Blocks.antt` (what goes by way of a block).
 #![tactic(auto)]
 
 mod block;

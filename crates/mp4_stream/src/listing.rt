@@ -1,6 +1,6 @@
 //! The lines of boxes.
 
-ghost use Rattle.std.specs.Prelude.{◌≡◌, ◌+◌, ◌≤◌, ◌++◌, length, true, OnErr, OnOk};
+ghost use Rattle.std.specs.Prelude.{◌≡◌, ◌+◌, ◌≤◌, ◌++◌, [], length, true, OnErr, OnOk};
 ghost use Rattle.mp4_box.specs.Streams.{AppendsFront};
 ghost use Rattle.mp4_box.specs.Trees.{view};
 ghost use Rattle.mp4_stream.specs.Blocks.{Passes};
@@ -10,32 +10,23 @@ use crate::block::Block;
 use crate::line::Line;
 use mp4_box::{BoxRef, Failed, Header, Sink, Size, Walk, holds_boxes};
 
-/// The line of the box with this header that begins at `at`.
-pub(crate) fn line_of(at: u64, header: &Header) -> Line
-    ensures { result ≡ box_line at header.now }
-{
-    let mut line = Line::new();
-    push_box(&mut line, at, header);
-    line
-}
-
 /// Spaces for the lowest level.
 const INDENT: [u8; 14] = *b"              ";
 
-/// The line of a box that stands so many levels below the top.
+/// Puts the line of a box that stands so many levels below the top in an empty line.
 #[tactic(auto, using(crate::proofs::LineLemmas::spaces))]
-fn line_at_level(this: &BoxRef, level: u8) -> Line
-    requires { level ≤ 7 }
-    ensures { result ≡ line_below level (view this.now) }
+fn push_line(line: &mut Line, this: &BoxRef, level: u8)
+    requires level { level ≤ 7 }
+    requires empty { line.old ≡ [] }
+    ensures { line.new ≡ line_below level (view this.now) }
 {
-    let mut line = Line::new();
     line.push_bytes(&INDENT[..2 * level as usize]);
-    push_box(&mut line, this.offset, &this.header);
-    line
+    push_box(line, this.offset, &this.header);
 }
 
+/// Puts the line of the box with this header that begins at `at` behind its indent.
 #[tactic(auto, unfolding(crate::specs::Listing::box_line))]
-fn push_box(line: &mut Line, at: u64, header: &Header)
+pub(crate) fn push_box(line: &mut Line, at: u64, header: &Header)
     requires { length line.old ≤ 14 }
     ensures { line.new ≡ line.old ++ box_line at header.now }
 {
@@ -63,7 +54,9 @@ pub(crate) fn put_tree<W: Sink>(
         (out.old ++ tree_lines levels level (view this.now))) }
     ensures failed { OnErr result (W.has_failed w.new ≡ true) }
 {
-    match out.put(w, line_at_level(this, level).bytes()) {
+    let mut line = Line::new();
+    push_line(&mut line, this, level);
+    match out.put(w, line.bytes()) {
         Ok(()) => {}
         Err(Failed) => return Err(Failed),
     }

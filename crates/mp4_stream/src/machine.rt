@@ -59,14 +59,17 @@ impl Machine {
         }
     }
 
-    /// Takes the next piece of the stream, and writes all that it determines.
+    /// Takes the next piece of the stream, and writes all that it determines. The lines are gathered in `out`, in
+    /// which nothing waits between two pieces.
     pub(crate) fn feed<W: Sink>(
         &mut self,
         ledger: &mut Ledger,
         piece: &[u8],
+        out: &mut Block,
         w: &mut W,
     ) -> Result<(), Stop>
         requires own { own_of self.old.place ≤ ledger.old.live }
+        requires empty { out.old ≡ [] }
         ensures ok { OnOk result (GoesOn (W.contents w.old) (W.contents w.new) [] [] ledger.old
             ledger.new (standing_at self.old) piece.now (standing_at self.new)) }
         ensures err { IfErr result (λ e. StopsAt (W.contents w.old) (W.contents w.new) [] []
@@ -75,9 +78,9 @@ impl Machine {
         ensures failed { IsErrOf result Stop.Write → W.has_failed w.new ≡ true }
         ensures place { IsPlace self.new.place }
         ensures command { self.new.command ≡ self.old.command }
+        ensures empty { OnOk result (out.new ≡ []) }
     {
-        let mut out = Block::new();
-        match self.take_all(ledger, piece, &mut out, w) {
+        match self.take_all(ledger, piece, out, w) {
             Ok(()) => match out.send(w) {
                 Ok(()) => Ok(()),
                 Err(Failed) => Err(Stop::Write),

@@ -6,6 +6,7 @@ ghost use Rattle.mp4_stream.specs.Answers.{Lists, Peaks, is_read};
 ghost use Rattle.mp4_stream.specs.Places.{InHeader, own_of};
 ghost use Rattle.mp4_stream.specs.declared.machine.Command.TheVariants.{Boxes};
 
+use crate::block::Block;
 use crate::machine::{Command, Machine};
 use mp4_box::{Failed, Fault, Sink, Source};
 use mp4_ledger::{Ledger, Refused};
@@ -167,6 +168,7 @@ fn read_on<R: Source, W: Sink>(
     ensures read { IfErr result (λ e. is_read e ≡ true → R.has_failed r.new ≡ true) }
     ensures write { IsErrOf result Stop.Write → W.has_failed w.new ≡ true }
 {
+    let mut out = Block::new();
     let mut total: u64 = 0;
     loop {
         let n = match r.read(copy) {
@@ -179,7 +181,7 @@ fn read_on<R: Source, W: Sink>(
             Ok(n) => n,
             Err(Failed) => return Err(Stop::Read { at: total }),
         };
-        machine.feed(ledger, &copy[..n], w)?;
+        machine.feed(ledger, &copy[..n], &mut out, w)?;
         total += n as u64;
     }
 }

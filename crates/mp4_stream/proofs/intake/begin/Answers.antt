@@ -10,10 +10,10 @@ returns-in-None-clause-err g c = λ more.
 pub returns-in-Ok-clause-ok : goal.returns-in-Ok-clause-ok
 returns-in-Ok-clause-ok g c =
     let next = c.in-Some.ensures in
-    GoesOn-line _ c.args.out.now c.args.ledger.now c.args.at c.args.header.now c.args.head.now c.requires.len c.requires.is _ c.put.new.self c.bytes.result.now (place_by [] c.in-Some.phase) (c.bytes.ensures ∙ c.line_of.ensures)
+    GoesOn-line _ c.args.out.now c.args.ledger.now c.args.at c.args.header.now c.args.head.now c.requires.len c.requires.is _ c.put.new.self c.bytes.result.now (place_by [] c.in-Some.phase) (c.bytes.ensures ∙ (rw c.new-line.ensures at c.push_box.ensures))
     next.some (sym c.held_limit.ensures ∙ c.in-None-held_limit.is) (own-none [] c.in-Some.phase) (begun-none c.in-Some.phase) next.reached next.brings c.in-Ok.ensures.ok
 
 pub returns-in-Err-clause-err : goal.returns-in-Err-clause-err
 returns-in-Err-clause-err g c = λ more later.
-    let failed = rw (c.bytes.ensures, c.line_of.ensures) at c.in-Err.ensures.err in
+    let failed = rw (c.bytes.ensures, c.push_box.ensures, c.new-line.ensures) at c.in-Err.ensures.err in
     FailsIn-line _ c.args.out.now c.args.ledger.now c.args.at c.args.header.now c.args.head.now c.requires.len c.requires.is _ (more ++ later) c.in-Some.ensures.some (sym c.held_limit.ensures ∙ c.in-None-held_limit.is) failed

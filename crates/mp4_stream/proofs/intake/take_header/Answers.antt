@@ -1,6 +1,7 @@
 use Rattle.std.proofs.Common.{◌≡◌, ◌∷◌, ◌<◌, [], ℕ, List, drop, take, get_or, length, take-append-drop, arith, rules, refl, sym, subst}
 use Rattle.mp4_box.specs.Headers.{header_at}
-use Rattle.mp4_box.proofs.HeaderLemmas.{result-whole, whole_is, need-least, need-most}
+use Rattle.mp4_box.proofs.HeaderLemmas.{whole_is, need-least, need-most}
+use Rattle.mp4_box.proofs.HeaderAnswers.{result-whole}
 use Rattle.mp4_stream.specs.Answers.{StopsAt}
 use Rattle.mp4_stream.specs.Places.{InHeader, standing}
 use Rattle.mp4_stream.proofs.PlaceLemmas.{front-len, front-is, StopsAt-header}

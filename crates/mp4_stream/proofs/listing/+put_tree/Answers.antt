@@ -11,23 +11,23 @@ pub returns-in-Err-clause-err : goal.returns-in-Err-clause-err
 returns-in-Err-clause-err g t c =
     let b = view c.args.this.now in
     let begin = lines-begin c.args.levels c.args.level b in
-    let line : c.bytes.result.now ≡ line_below c.args.level b = c.bytes.ensures ∙ c.line_at_level.ensures in
+    let line : c.bytes.result.now ≡ line_below c.args.level b = c.bytes.ensures ∙ c.push_line.ensures in
     AppendsFront-lines (g.W.Sink.contents c.args.w.now) (g.W.Sink.contents c.put.new.w) c.args.out.now c.bytes.result.now begin.0 (tree_lines c.args.levels c.args.level b) (ap (λ (l : List ℕ). l ++ begin.0) line ∙ begin.1) c.in-Err.ensures.err
 
 pub returns-then-levels-eq0-clause-ok : goal.returns-then-levels-eq0-clause-ok
 returns-then-levels-eq0-clause-ok g t c =
-    subst (Passes (g.W.Sink.contents c.args.w.now) (g.W.Sink.contents c.put.new.w) c.args.out.now c.put.new.self) (c.bytes.ensures ∙ c.line_at_level.ensures ∙ sym (lines-zero c.args.levels c.args.level (view c.args.this.now) c.if-levels-eq0.true)) c.in-Ok.ensures.ok
+    subst (Passes (g.W.Sink.contents c.args.w.now) (g.W.Sink.contents c.put.new.w) c.args.out.now c.put.new.self) (c.bytes.ensures ∙ c.push_line.ensures ∙ sym (lines-zero c.args.levels c.args.level (view c.args.this.now) c.if-levels-eq0.true)) c.in-Ok.ensures.ok
 
 pub returns-then-not-holds_boxes-clause-ok : goal.returns-then-not-holds_boxes-clause-ok
 returns-then-not-holds_boxes-clause-ok g t c =
-    subst (Passes (g.W.Sink.contents c.args.w.now) (g.W.Sink.contents c.put.new.w) c.args.out.now c.put.new.self) (c.bytes.ensures ∙ c.line_at_level.ensures ∙ sym (lines-leaf c.args.levels c.args.level (view c.args.this.now) (sym c.holds_boxes.ensures ∙ c.if-not-holds_boxes.true))) c.in-Ok.ensures.ok
+    subst (Passes (g.W.Sink.contents c.args.w.now) (g.W.Sink.contents c.put.new.w) c.args.out.now c.put.new.self) (c.bytes.ensures ∙ c.push_line.ensures ∙ sym (lines-leaf c.args.levels c.args.level (view c.args.this.now) (sym c.holds_boxes.ensures ∙ c.if-not-holds_boxes.true))) c.in-Ok.ensures.ok
 
 pub loop-child-init : goal.loop-child-init
 loop-child-init g t c =
     let b = view c.args.this.now in
     let all = lines-step c.args.levels c.args.level b (omega arith) (sym c.holds_boxes.ensures ∙ c.if-not-holds_boxes.false) in
     let children = c.into_iter-child-iterator.ensures.into_iter_gives ∙ c.of-child-items.ensures.children in
-    let line : c.bytes.result.now ≡ line_below c.args.level b = c.bytes.ensures ∙ c.line_at_level.ensures in
+    let line : c.bytes.result.now ≡ line_below c.args.level b = c.bytes.ensures ∙ c.push_line.ensures in
     let lines : List Box → List ℕ = flat_map (tree_lines (c.args.levels - 1) (c.args.level + 1)) in
     record {
       below = omega arith;

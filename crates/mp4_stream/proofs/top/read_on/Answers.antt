@@ -18,6 +18,7 @@ loop-machine-init g c =
         own = rw begins (omega arith);
         place = rw begins (search rules);
         command = rw begins refl;
+        empty = search rules;
         total = refl;
         bound = omega arith;
       },
@@ -83,6 +84,7 @@ loop-machine-preserved g c =
         own = fed.own;
         place = fed.place;
         command = fed.command ∙ i.command;
+        empty = fed.empty;
         total = omega (arith, i.total, length-append b got);
         bound = omega (arith, i.total, far, length-append b got, reached-most c.feed.new.self.place fed.place);
       },

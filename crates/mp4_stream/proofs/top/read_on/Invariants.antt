@@ -13,6 +13,7 @@ invariant-loop-machine g l =
       own : own_of l.machine.place ≤ l.ledger.live;
       place : IsPlace l.machine.place;
       command : l.machine.command ≡ Boxes;
+      empty : l.out ≡ [];
       total : l.total ≡ length b;
       bound : l.total ≤ 2 ^ 62 + 31;
     }
