@@ -2,7 +2,7 @@
 # `make test` proves everything from nothing and runs every test. Both need Rattle's toolchain alone.
 IN ?= crates/fmp4/stdin
 
-.PHONY: demo build test refusals bench
+.PHONY: demo build moov_tracks test refusals manual bench
 
 demo: build
 	@crates/fmp4/out/fmp4 boxes < "$(IN)"
@@ -11,6 +11,10 @@ build:
 	@mkdir -p crates/fmp4/out
 	@cd crates/fmp4 && rt run -- boxes < stdin > /dev/null 2> out/build.log || { cat out/build.log >&2; exit 1; }
 
+moov_tracks:
+	@mkdir -p crates/moov_tracks/out
+	@cd crates/moov_tracks && rt run < stdin > /dev/null 2> out/build.log || { cat out/build.log >&2; exit 1; }
+
 test:
 	@rt ci
 
@@ -18,7 +22,13 @@ test:
 refusals: build
 	@scripts/refused_allocations
 
-# Lists a stream of 1 GiB beside `cat`, and one of small fragments beside a plain Rust program.
-bench: build
+# Formats the manual page and looks whether all is there.
+manual:
+	@scripts/check_manual
+
+# Lists a stream of 1 GiB beside `cat`, and one of small fragments beside a plain Rust program, and the tracks of moovs of
+# 16 MiB.
+bench: build moov_tracks
 	@bench/large_boxes
 	@bench/small_fragments
+	@bench/many_tracks

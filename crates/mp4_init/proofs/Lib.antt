@@ -1,0 +1,7 @@
+pub mod Noting
+pub mod Summing
+pub mod Answering
+pub mod Seeking
+pub mod Listing
+pub mod Telling
+pub mod SizeLemmas

@@ -1,0 +1,19 @@
+use Rattle.std.proofs.Common.{◌≡◌, ◌+◌, ◌++◌, length}
+use Rattle.std.specs.Prelude.{map}
+use Rattle.mp4_box.specs.Trees.{view}
+use Rattle.mp4_box.specs.Paths.{of_kind}
+use Rattle.mp4_init.specs.Kinds.{trak}
+use Rattle.mp4_init.specs.Rows.{track_of_row}
+use Rattle.mp4_init.specs.Tracks.{track_of, tracks_of}
+use Rattle.mp4_init.specs.declared.slots.TheConstants.{SLOTS}
+use Rattle.mp4_init.specs.Summaries.{summaries_in}
+use Rattle.mp4_init.proofs.build.list_of.Given as goal
+
+-- the tracks so far, and those of the traks that are left
+abbrev pub invariant-loop-trak : goal.invariant-loop-trak
+invariant-loop-trak l = record {
+  tracks : map track_of_row l.rows.rows ++ map (track_of (view l.moov)) (of_kind trak l.trak-iterator) ≡ tracks_of (view l.moov);
+  room : length l.rows.rows + length (of_kind trak l.trak-iterator) ≡ l.rows.cap;
+  told : l.slots.summaries ≡ summaries_in SLOTS (view l.moov) l.slots.index.nodes;
+  cap : l.rows.cap ≡ length (tracks_of (view l.moov));
+}

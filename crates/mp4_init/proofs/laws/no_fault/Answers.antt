@@ -1,0 +1,5 @@
+use Rattle.mp4_init.proofs.Answering.{nothing_at_fault}
+use Rattle.mp4_init.proofs.laws.no_fault.Goals as goal
+
+pub returns : goal.returns
+returns c o x e = nothing_at_fault o x e

@@ -1,0 +1,8 @@
+pub mod Kinds
+pub mod Fields
+pub mod Rules
+pub mod Tracks
+pub mod Seeking
+pub mod Summaries
+pub mod Rows
+pub mod Answers

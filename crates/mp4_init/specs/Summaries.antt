@@ -1,0 +1,53 @@
+-- What a moov says of one track_ID, gathered box by box.
+use Rattle.std.specs.Prelude.{ℕ, List, [], ◌∷◌, Option, Some, None, replicate, slice_set, slice_index_or, ◌==◌, ◌-◌, ◌^◌, nat_lt, if◌then◌else◌}
+use Rattle.mp4_box.specs.Trees.{Box}
+use Rattle.mp4_box.specs.Paths.{at_path}
+use Rattle.mp4_init.specs.declared.seek.Node.{Node}
+use Rattle.mp4_init.specs.Seeking.{sought, no_node}
+use Rattle.mp4_init.specs.declared.summary.Summary.{Summary}
+use Rattle.mp4_init.specs.declared.summary.Source.{Source}
+use Rattle.mp4_init.specs.declared.summary.Source.TheVariants.{Tkhd, Trex}
+use Rattle.mp4_init.specs.Kinds.{to_tkhd, to_trex}
+use Rattle.mp4_init.specs.Fields.{tkhd_id, trex_id}
+use Rattle.mp4_init.specs.Tracks.{defaults_of}
+
+-- before any box was seen
+abbrev pub nothing : Summary
+nothing = record { first = 2 ^ 64 - 1; trexes = 0; defaults = record { desc = 0; duration = 0; size = 0; flags = 0 } }
+
+abbrev pub id_by : Source → Box → ℕ
+id_by Tkhd b = tkhd_id b
+id_by Trex b = trex_id b
+
+-- with one more box of the track_ID: the least offset of its tkhds; none, one or more of its trexes, and the defaults of the first
+abbrev pub told : Source → Summary → Box → Summary
+told Tkhd s b = record s { first = if nat_lt b.offset s.first then b.offset else s.first }
+told Trex s b = if s.trexes == 0 then record s { trexes = 1; defaults = defaults_of (Some b) } else record s { trexes = 2 }
+
+-- with all of these boxes that have the track_ID
+unfoldable pub gathered : Source → ℕ → Summary → List Box → Summary
+gathered source id s [] = s
+gathered source id s (b ∷ bs) = gathered source id (if id_by source b == id then told source s b else s) bs
+
+-- what the moov says of the track_ID
+unfoldable pub summary_in : Box → ℕ → Summary
+summary_in moov id = gathered Trex id (gathered Tkhd id nothing (at_path to_tkhd moov)) (at_path to_trex moov)
+
+-- ---- of many track_IDs at once
+
+-- a box is told to the node of its track_ID, where there is one
+abbrev pub told_at : Source → Box → List Summary → Option ℕ → List Summary
+told_at source b xs None = xs
+told_at source b xs (Some k) = slice_set xs k (told source (slice_index_or xs k nothing) b)
+
+unfoldable pub all_told : Source → List Node → List Summary → List Box → List Summary
+all_told source nodes xs [] = xs
+all_told source nodes xs (b ∷ bs) = all_told source nodes (told_at source b xs (sought nodes (id_by source b))) bs
+
+-- the summaries of n nodes: all boxes of the moov are told to them
+unfoldable pub summaries_in : ℕ → Box → List Node → List Summary
+summaries_in n moov nodes = all_told Trex nodes (all_told Tkhd nodes (replicate n nothing) (at_path to_tkhd moov)) (at_path to_trex moov)
+
+-- the track_ID of the first node
+abbrev pub root_id : List Node → ℕ
+root_id nodes = (slice_index_or nodes 0 no_node).id

@@ -1,0 +1,28 @@
+//! What the definitions of a moov's rules and tracks imply.
+
+ghost use Rattle.std.specs.Prelude.{◌≡◌, ◌*◌, ◌≤◌, ℕ, List, [], length, Some, None};
+ghost use Rattle.std.specs.List.{AllByRecursion};
+ghost use Rattle.mp4_box.specs.Headers.{IsBytes};
+ghost use Rattle.mp4_box.specs.Paths.{of_kind};
+ghost use Rattle.mp4_box.specs.Trees.{Box, box_at, children};
+ghost use Rattle.mp4_init.specs.Answers.{moov_fault, moov_faults, moov_tracks};
+ghost use Rattle.mp4_init.specs.Kinds.{trak};
+ghost use Rattle.mp4_init.specs.Rules.{trexes_of};
+ghost use Rattle.mp4_init.specs.Tracks.{id_of};
+
+/// A moov has no fault only where nothing is at fault with it, as far as it is looked at.
+pub fn no_fault()
+    ensures { (o : ℕ) (x : List ℕ) → moov_fault o x ≡ None → moov_faults o x ≡ [] }
+{}
+
+/// The table of a moov without a fault takes no more bytes than the moov.
+pub fn table_is_small()
+    ensures { (o : ℕ) (x : List ℕ) → IsBytes x → moov_fault o x ≡ None →
+        64 * length (moov_tracks o x) ≤ length x }
+{}
+
+/// In a moov without a fault just one trex has the track_ID of each trak, so that its defaults are the track's.
+pub fn each_has_one_trex()
+    ensures { (o : ℕ) (x : List ℕ) (moov : Box) → box_at o x ≡ Some moov → moov_fault o x ≡ None →
+        AllByRecursion (λ t. length (trexes_of moov (id_of t)) ≡ 1) (of_kind trak (children moov)) }
+{}

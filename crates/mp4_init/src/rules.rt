@@ -1,0 +1,127 @@
+//! The rules of a moov: which boxes are checked for what.
+
+ghost use Rattle.std.specs.Prelude.{◌≡◌, ◌<◌, Option};
+ghost use Rattle.mp4_box.specs.Trees.{view};
+ghost use Rattle.mp4_box.specs.Order.{least_from, least};
+ghost use Rattle.mp4_box.specs.Paths.{along};
+ghost use Rattle.mp4_init.specs.Answers.{content_fault, form_faults, value_faults};
+ghost use Rattle.mp4_init.specs.Rules.{below_stbl, field_faults, is_known, known, number_faults, sample_faults, track_faults};
+ghost use Rattle.mp4_init.specs.Summaries.{summaries_in};
+
+use crate::checks::{Layout, NoSamples, One};
+use crate::fields::number_behind_times;
+use crate::kinds::{
+    CO64, MDHD, MDIA, MINF, MVEX, STBL, STCO, STSC, STSD, STSZ, STTS, STZ2, TKHD, TRAK, TREX,
+};
+use crate::slots::{SLOTS, Slots};
+use mp4_box::{BoxRef, Check, Fault, FourCc, Rule, Walk, note, note_along};
+
+/// Boxes that are missing, or stand a second time.
+#[tactic(auto, using(crate::proofs::Noting::least_from_append), unfolding(crate::specs::Rules::number_faults))]
+fn note_numbers(moov: &BoxRef<'_>, best: &mut Option<Fault>)
+    ensures { best.new ≡ least_from best.old (number_faults (view moov.now)) }
+{
+    note_along(&One(MVEX), &[], moov, best);
+    note_along(&One(TKHD), &[TRAK], moov, best);
+    note_along(&One(MDIA), &[TRAK], moov, best);
+    note_along(&One(MDHD), &[TRAK, MDIA], moov, best);
+    note_along(&One(MINF), &[TRAK, MDIA], moov, best);
+    note_along(&One(STBL), &[TRAK, MDIA, MINF], moov, best);
+    note_along(&One(STSD), &[TRAK, MDIA, MINF, STBL], moov, best);
+}
+
+/// Checks the boxes of a type that stand in the stbl of a track.
+fn note_in_stbl<C: Check>(check: &C, kind: FourCc, moov: &BoxRef<'_>, best: &mut Option<Fault>)
+    ensures { best.new ≡ least_from best.old (along (C.faults check.now) (below_stbl kind.0)
+        (view moov.now)) }
+{
+    note_along(check, &[TRAK, MDIA, MINF, STBL, kind], moov, best);
+}
+
+/// Boxes whose version or length is wrong.
+#[tactic(auto, using(crate::proofs::Noting::least_from_append), unfolding(crate::specs::Rules::field_faults))]
+fn note_fields(moov: &BoxRef<'_>, best: &mut Option<Fault>)
+    ensures { best.new ≡ least_from best.old (field_faults (view moov.now)) }
+{
+    note_along(&Layout::Versioned(84, 96), &[TRAK, TKHD], moov, best);
+    note_along(&Layout::Versioned(24, 36), &[TRAK, MDIA, MDHD], moov, best);
+    note_in_stbl(&Layout::Entries, STSD, moov, best);
+    note_in_stbl(&Layout::AtLeast(8), STTS, moov, best);
+    note_in_stbl(&Layout::AtLeast(8), STSC, moov, best);
+    note_in_stbl(&Layout::AtLeast(8), STCO, moov, best);
+    note_in_stbl(&Layout::AtLeast(8), CO64, moov, best);
+    note_in_stbl(&Layout::AtLeast(12), STSZ, moov, best);
+    note_in_stbl(&Layout::AtLeast(12), STZ2, moov, best);
+    note_along(&Layout::Exactly(24), &[MVEX, TREX], moov, best);
+}
+
+/// Tables that tell of samples.
+#[tactic(auto, using(crate::proofs::Noting::least_from_append), unfolding(crate::specs::Rules::sample_faults))]
+fn note_samples(moov: &BoxRef<'_>, best: &mut Option<Fault>)
+    ensures { best.new ≡ least_from best.old (sample_faults (view moov.now)) }
+{
+    note_in_stbl(&NoSamples(4), STTS, moov, best);
+    note_in_stbl(&NoSamples(4), STSC, moov, best);
+    note_in_stbl(&NoSamples(4), STCO, moov, best);
+    note_in_stbl(&NoSamples(4), CO64, moov, best);
+    note_in_stbl(&NoSamples(8), STSZ, moov, best);
+    note_in_stbl(&NoSamples(8), STZ2, moov, best);
+}
+
+/// Whether no tkhd before this one has its track_ID, and just one trex has it.
+fn is_known_in<const N: usize>(moov: &BoxRef<'_>, tkhd: &BoxRef<'_>, slots: &mut Slots<N>) -> bool
+    requires some { 0 < N }
+    requires told { slots.old.summaries ≡ summaries_in N (view moov.now) slots.old.index.nodes }
+    ensures known { result ≡ is_known (view moov.now) (view tkhd.now) }
+    ensures told { slots.new.summaries ≡ summaries_in N (view moov.now) slots.new.index.nodes }
+{
+    let summary = slots.summary(moov, tkhd.offset, number_behind_times(tkhd));
+    if summary.first < tkhd.offset {
+        return false;
+    }
+    summary.trexes == 1
+}
+
+/// Notes the tkhds on a path below a box of the moov whose track_ID a tkhd before has, or that haven't just one trex.
+#[tactic(auto, using(mp4_box::proofs::PathLemmas::along_end, mp4_box::proofs::PathLemmas::along_more, mp4_box::proofs::PathLemmas::along_first), unfolding(mp4_box::specs::Order::least_from))]
+fn note_tracks<'a, const N: usize>(
+    moov: &BoxRef<'a>,
+    path: &[FourCc],
+    this: &BoxRef<'a>,
+    slots: &mut Slots<N>,
+    best: &mut Option<Fault>,
+)
+    requires some { 0 < N }
+    requires told { slots.old.summaries ≡ summaries_in N (view moov.now) slots.old.index.nodes }
+    ensures best { best.new ≡ least_from best.old
+        (along (known (view moov.now)) path.now (view this.now)) }
+    ensures told { slots.new.summaries ≡ summaries_in N (view moov.now) slots.new.index.nodes }
+{
+    let Some((kind, rest)) = path.split_first() else {
+        if !is_known_in(moov, this, slots) {
+            note(best, this.fault(Rule::UnknownTrack));
+        }
+        return;
+    };
+    for child in Walk::of(this) {
+        if child.header.kind.0.as_slice() == kind.0.as_slice() {
+            note_tracks(moov, rest, &child, slots, best);
+        }
+    }
+}
+
+/// The fault of the content of a moov whose tree is good.
+#[tactic(auto, using(crate::proofs::Noting::least_from_append), unfolding(crate::specs::Answers::content_fault, crate::specs::Answers::form_faults, crate::specs::Answers::value_faults, crate::specs::Rules::track_faults))]
+pub(crate) fn content_fault_of(moov: &BoxRef<'_>) -> Option<Fault>
+    ensures { result ≡ content_fault (view moov.now) }
+{
+    let mut best = None;
+    note_numbers(moov, &mut best);
+    note_fields(moov, &mut best);
+    if best.is_none() {
+        note_samples(moov, &mut best);
+        let mut slots = Slots::<SLOTS>::new(moov);
+        note_tracks(moov, &[TRAK, TKHD], moov, &mut slots, &mut best);
+    }
+    best
+}

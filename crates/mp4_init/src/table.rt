@@ -1,0 +1,193 @@
+//! A table of tracks in claimed memory.
+
+ghost use Rattle.std.specs.Prelude.{◌≡◌, ◌+◌, ◌*◌, ◌<◌, ◌≤◌, ◌==◌, ◌↔◌, [], ◌++◌, ◌∷◌, length, map, slice_index_or, IsTrue};
+ghost use Rattle.std.specs.List.{position};
+ghost use Rattle.mp4_ledger.specs.Memory.{given_back};
+ghost use Rattle.mp4_init.specs.Rows.{node_of_row, track_of_row, with_next};
+ghost use Rattle.mp4_init.specs.Seeking.{IsIndexed};
+
+use crate::row::{ended_row, linked_row, node_for, row_for, track_for};
+use crate::seek::{Node, Nodes, free_link, seek};
+use mp4_ledger::{Ledger, Rows64};
+use std::marker::Model;
+
+/// What a moov says of a track, and where its last fragment ended. Times are ticks of the track's timescale.
+#[derive(Clone, Copy, Debug, PartialEq, Eq)]
+pub struct Track {
+    /// track_ID (ISO/IEC 14496-12, 8.3.2).
+    pub id: u32,
+    /// How many ticks a second has (8.4.2).
+    pub timescale: u32,
+    /// How many sample entries it has (8.5.2).
+    pub entries: u32,
+    /// The index of the sample entry of a fragment's samples, where the fragment tells none (8.8.3).
+    pub desc: u32,
+    /// The duration of a sample, where its fragment tells none (8.8.3).
+    pub duration: u32,
+    /// The size of a sample in bytes, where its fragment tells none (8.8.3).
+    pub size: u32,
+    /// The flags of a sample, where its fragment tells none (8.8.3).
+    pub flags: u32,
+    /// The decode time at which the last of its fragments ended, 0 before the first.
+    pub next: u64,
+}
+
+/// The tracks of a moov, in claimed memory, 64 bytes for each. It must be given back to its ledger, and can't be
+/// dropped.
+pub struct TrackList {
+    rows: Rows64,
+    // Whether a search finds each track by its node. Where it doesn't, all are looked at.
+    is_indexed: bool,
+}
+
+// A contract sees the tracks, in the order of their traks.
+impl Model for TrackList {
+    ghost use Rattle.std.specs.Prelude.{◌≡◌, List, map, length, IsTrue};
+    ghost use Rattle.mp4_init.specs.declared.table.Track.{Track};
+    ghost use Rattle.mp4_init.specs.Rows.{node_of_row, track_of_row};
+    ghost use Rattle.mp4_init.specs.Seeking.{IsIndexed};
+
+    ghost Value = { List Track };
+
+    ghost view = { λ l. map track_of_row l.rows.rows };
+
+    ghost invariant = { λ l. (length l.rows.rows ≡ l.rows.cap) ×
+        (IsTrue l.is_indexed → IsIndexed (map node_of_row l.rows.rows)) };
+}
+
+impl TrackList {
+    /// How many tracks it has.
+    pub fn len(&self) -> usize
+        ensures { result ≡ length self.now }
+    {
+        self.rows.len()
+    }
+
+    /// Whether it has none.
+    pub fn is_empty(&self) -> bool
+        ensures { IsTrue result ↔ (self.now ≡ []) }
+    {
+        self.len() == 0
+    }
+
+    /// The track at this index.
+    #[tactic(auto, using(crate::proofs::Listing::row_at))]
+    pub fn at(&self, i: usize) -> Track
+        requires { i < length self.now }
+        ensures { result ≡ slice_index_or self.now i result }
+    {
+        track_for(self.rows.get(i))
+    }
+
+    /// The list of the tracks in the rows.
+    pub(crate) fn of(rows: Rows64) -> TrackList
+        requires { length rows.rows ≡ rows.cap }
+        ensures { result ≡ map track_of_row rows.rows }
+    {
+        let is_indexed = is_indexed(&rows);
+        TrackList { rows, is_indexed }
+    }
+
+    /// The index of the track with this track_ID; none where no track has it. A search asks at most one track for each
+    /// bit of a track_ID, and one more.
+    pub fn find(&self, id: u32) -> Option<usize>
+        ensures { result ≡ position (λ t. t.id == id) self.now }
+    {
+        if self.is_indexed {
+            return seek(&self.rows, id);
+        }
+        self.scan(id)
+    }
+
+    /// The same, by a look at each track.
+    fn scan(&self, id: u32) -> Option<usize>
+        ensures { result ≡ position (λ t. t.id == id) self.now }
+    {
+        let mut i = 0;
+        while i < self.len() {
+            if self.at(i).id == id {
+                return Some(i);
+            }
+            i += 1;
+        }
+        None
+    }
+
+    /// Sets where the last fragment of the track at this index ended.
+    #[tactic(auto, using(crate::proofs::Listing::length_with_next))]
+    pub fn set_next(&mut self, i: usize, next: u64)
+        requires { i < length self.old }
+        ensures next { self.new ≡ with_next i next self.old }
+        ensures len { length self.new ≡ length self.old }
+    {
+        let row = ended_row(self.rows.get(i), next);
+        self.rows.set(i, row);
+    }
+
+    /// Gives its claim back.
+    pub fn back(self, ledger: &mut Ledger)
+        requires { 64 * length self ≤ ledger.old.live }
+        ensures { ledger.new ≡ given_back ledger.old (64 * length self) }
+    {
+        let TrackList {
+            rows,
+            is_indexed: _,
+        } = self;
+        ledger.back_rows(rows);
+    }
+}
+
+impl Nodes for Rows64 {
+    ghost nodes = { λ t. map node_of_row t.rows };
+
+    #[tactic(auto, using(crate::proofs::Listing::node_at, crate::proofs::Listing::node_past))]
+    fn node(&self, at: usize) -> Option<Node> {
+        if at < self.len() {
+            Some(node_for(self.get(at)))
+        } else {
+            None
+        }
+    }
+}
+
+/// Whether a search finds the track of each row.
+fn is_indexed(rows: &Rows64) -> bool
+    ensures { IsTrue result → IsIndexed (map node_of_row rows.now.rows) }
+{
+    let mut i = 0;
+    while i < rows.len() {
+        let Some(at) = seek(rows, node_for(rows.get(i)).id) else {
+            return false;
+        };
+        if at != i {
+            return false;
+        }
+        i += 1;
+    }
+    true
+}
+
+/// Links the node of the last row, so that a search finds it.
+fn link_last(rows: &mut Rows64, id: u32)
+    ensures tracks { map track_of_row rows.new.rows ≡ map track_of_row rows.old.rows }
+    ensures len { length rows.new.rows ≡ length rows.old.rows }
+    ensures cap { rows.new.cap ≡ rows.old.cap }
+{
+    let last = rows.len().saturating_sub(1);
+    if let Some(link) = free_link(rows, id) {
+        let row = linked_row(rows.get(link.at), link.is_odd, last);
+        rows.set(link.at, row);
+    }
+}
+
+/// Appends a track for which there is room.
+#[tactic(auto, using(crate::proofs::Listing::one_more))]
+pub(crate) fn push_track(rows: &mut Rows64, track: Track)
+    requires { length rows.old.rows < rows.old.cap }
+    ensures tracks { map track_of_row rows.new.rows ≡ map track_of_row rows.old.rows ++ track ∷ [] }
+    ensures len { length rows.new.rows ≡ length rows.old.rows + 1 }
+    ensures cap { rows.new.cap ≡ rows.old.cap }
+{
+    rows.push(row_for(track));
+    link_last(rows, track.id);
+}
