@@ -28,8 +28,6 @@ mod seek;
 mod slots;
 mod summary;
 mod table;
-#[cfg(test)]
-mod tests;
 
 pub use moov::{InitStop, tracks};
 pub use table::{Track, TrackList};

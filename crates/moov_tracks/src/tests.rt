@@ -1,10 +1,10 @@
-//! Worked moovs: what no clause says is which bytes are which track or fault.
+//! Worked moovs, by the library: what no clause says is which bytes are which track or fault.
 
 ghost use Rattle.std.specs.Prelude.{◌*◌, ◌≤◌, length, IfSome};
 
-use crate::{InitStop, Track, TrackList, tracks};
 use mp4_box::vectors::{V1, V2};
 use mp4_box::{Fault, FourCc, Rule, is_box, u32_at};
+use mp4_init::{InitStop, Track, TrackList, tracks};
 use mp4_ledger::{Ledger, Refused};
 use std::test::Fail;
 
