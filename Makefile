@@ -18,8 +18,8 @@ moov_tracks:
 test:
 	@rt ci
 
-# Runs the program with each of its allocations refused in turn.
-refusals: build
+# Runs the programs with each of their allocations refused in turn.
+refusals: build moov_tracks
 	@scripts/refused_allocations
 
 # Formats the manual page and looks whether all is there.
