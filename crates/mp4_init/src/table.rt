@@ -88,8 +88,8 @@ impl TrackList {
         TrackList { rows, is_indexed }
     }
 
-    /// The index of the track with this track_ID; none where no track has it. A search asks at most one track for each
-    /// bit of a track_ID, and one more.
+    /// The index of the track with this track_ID; none where no track has it. It asks at most 33 tracks, or all where
+    /// the search by bits doesn't lead to each.
     pub fn find(&self, id: u32) -> Option<usize>
         ensures { result ≡ position (λ t. t.id == id) self.now }
     {
