@@ -11,17 +11,17 @@ use Rattle.mp4_box.specs.Streams.{AppendsFront}
 use Rattle.mp4_box.specs.Trees.{tree_faults}
 use Rattle.mp4_box.proofs.HeaderLemmas.{whole_is, bad_is, need_more, need-append, need-least, need-most, header_at-append}
 use Rattle.mp4_box.proofs.StreamLemmas.{AppendsFront-longer}
-use Rattle.mp4_ledger.specs.Memory.{Account, claimed, given_back}
+use Rattle.mp4_ledger.specs.Memory.{claimed, given_back}
 use Rattle.mp4_stream.specs.Accounts.{Counts, Spends}
 use Rattle.mp4_stream.specs.Blocks.{Passes}
 use Rattle.mp4_stream.specs.Holding.{held_lines, most_held}
 use Rattle.mp4_stream.specs.Listing.{box_line}
 use Rattle.mp4_stream.specs.Readings.{Reading, Told, then_read, silent, says, holds, after}
 use Rattle.mp4_stream.specs.Boxes.{longest, fault, refused, least_end, body, held_body, reading}
-use Rattle.mp4_stream.specs.Places.{Place, InHeader, InBody, InHeld, InOpenBody, IsPlace, begun_of, from_of, brings_of, own_of, place_by, standing}
+use Rattle.mp4_stream.specs.Places.{Place, InHeader, InBody, InHeld, InOpenBody, IsPlace, kept_of, from_of, reads_of, claim_of, place_by, standing}
 use Rattle.mp4_stream.specs.declared.phase.Phase.{Phase}
 use Rattle.mp4_stream.specs.declared.phase.Phase.TheVariants as phases
-use Rattle.mp4_stream.specs.Answers.{Standing, reached, reading_from, GoesOn, Refuses, IsClaim, Starves, FailsIn, StopsAt}
+use Rattle.mp4_stream.specs.Answers.{Outside, outside, Standing, reached, reading_from, GoesOn, Refuses, IsClaim, Starves, FailsIn, StopsAt}
 use Rattle.mp4_stream.specs.declared.top.Stop.{Stop}
 use Rattle.mp4_stream.specs.declared.top.Stop.TheVariants.{OverLimit, Memory}
 use Rattle.mp4_stream.proofs.AccountLemmas.{Counts-none, Counts-claim, Counts-back, Spends-more, Spends-counts}
@@ -43,26 +43,26 @@ pub only-boxes : (command : Command) → command ≡ Boxes
 only-boxes Boxes = refl
 
 -- no byte of a header came
-pub begun-none : (p : Phase) → begun_of (place_by [] p) ≡ []
-begun-none (phases.Header at) = refl
-begun-none (phases.Body at kind next left) = refl
-begun-none (phases.OpenBody at kind left) = refl
+pub kept-none : (p : Phase) → kept_of (place_by [] p) ≡ []
+kept-none (phases.Header at) = refl
+kept-none (phases.Body at kind next left) = refl
+kept-none (phases.OpenBody at kind left) = refl
 
 -- what isn't held is not claimed
-pub own-none : (head : List ℕ) (p : Phase) → own_of (place_by head p) ≡ 0
-own-none head (phases.Header at) = refl
-own-none head (phases.Body at kind next left) = refl
-own-none head (phases.OpenBody at kind left) = refl
+pub claim-none : (head : List ℕ) (p : Phase) → claim_of (place_by head p) ≡ 0
+claim-none head (phases.Header at) = refl
+claim-none head (phases.Body at kind next left) = refl
+claim-none head (phases.OpenBody at kind left) = refl
 
 -- ---- a byte of a header
 
-pub GoesOn-byte : (t : Option (List ℕ)) (w : List ℕ) (a : Account) (at : ℕ) (held : List ℕ) (byte : ℕ) (new : List ℕ) → new ≡ held ++ byte ∷ []
-    → GoesOn t t w w a a (standing Boxes (InHeader at held)) (byte ∷ []) (standing Boxes (InHeader at new))
-GoesOn-byte t w a at held byte new e = record {
+pub GoesOn-byte : (o : Outside) (at : ℕ) (held : List ℕ) (byte : ℕ) (new : List ℕ) → new ≡ held ++ byte ∷ []
+    → GoesOn o o (standing Boxes (InHeader at held)) (byte ∷ []) (standing Boxes (InHeader at new))
+GoesOn-byte o at held byte new e = record {
   brought = silent;
-  passes = Passes-none t w;
-  counts = Counts-none a 0;
-  done = [];
+  passes = Passes-none o.written o.waiting;
+  counts = Counts-none o.account 0;
+  past = [];
   cut = sym e;
   from = omega arith;
   rest = λ later. sym (after-silent (reading at later));
@@ -80,44 +80,44 @@ bad-len held byte new short e is =
     let most : length new ≤ need new = rw e (need_more held byte short) in
     omega (arith, most, bad_is new is)
 
-pub Refuses-bad : (t : Option (List ℕ)) (w : List ℕ) (a : Account) (at : ℕ) (held : List ℕ) (byte : ℕ) (new more : List ℕ) → length held < need held → new ≡ held ++ byte ∷ [] → header_at new ≡ steps.BadSize
-    → Refuses t t w w a a (standing Boxes (InHeader at held)) (byte ∷ more) 0 (fault BadSize (kind_of new) at)
-Refuses-bad t w a at held byte new more short e is = record {
+pub Refuses-bad : (o : Outside) (at : ℕ) (held : List ℕ) (byte : ℕ) (new more : List ℕ) → length held < need held → new ≡ held ++ byte ∷ [] → header_at new ≡ steps.BadSize
+    → Refuses o o (standing Boxes (InHeader at held)) (byte ∷ more) 0 (fault BadSize (kind_of new) at)
+Refuses-bad o at held byte new more short e is = record {
   brought = silent;
-  passes = Passes-none t w;
-  counts = Counts-none a 0;
+  passes = Passes-none o.written o.waiting;
+  counts = Counts-none o.account 0;
   rest = λ later. ap (reading at) (sym (append_assoc held (byte ∷ []) (more ++ later)) ∙ ap (λ l. l ++ (more ++ later)) (sym e)) ∙ reading-bad at new (more ++ later) (bad-len held byte new short e is) is;
 }
 
-module _ (t u : Option (List ℕ)) (w v : List ℕ) (a b : Account) (at : ℕ) (held : List ℕ) (byte : ℕ) (new : List ℕ) (e : new ≡ held ++ byte ∷ []) where
-  pub GoesOn-last : (q : Standing) → GoesOn t u w v a b (standing Boxes (InHeader at new)) [] q → GoesOn t u w v a b (standing Boxes (InHeader at held)) (byte ∷ []) q
-  GoesOn-last q g = GoesOn-more {p = standing Boxes (InHeader at held)} (omega arith) (GoesOn-byte t w a at held byte new e) [] q g
+module _ (o o' : Outside) (at : ℕ) (held : List ℕ) (byte : ℕ) (new : List ℕ) (e : new ≡ held ++ byte ∷ []) where
+  pub GoesOn-last : (q : Standing) → GoesOn o o' (standing Boxes (InHeader at new)) [] q → GoesOn o o' (standing Boxes (InHeader at held)) (byte ∷ []) q
+  GoesOn-last q g = GoesOn-more {p = standing Boxes (InHeader at held)} (omega arith) (GoesOn-byte o at held byte new e) [] q g
 
-  pub StopsAt-last : (more : List ℕ) (own : ℕ) (s : Stop) → StopsAt t u w v a b (standing Boxes (InHeader at new)) more own s → StopsAt t u w v a b (standing Boxes (InHeader at held)) (byte ∷ more) own s
-  StopsAt-last more own s g = StopsAt-more {p = standing Boxes (InHeader at held)} (omega arith) (GoesOn-byte t w a at held byte new e) u v b more own s g
+  pub StopsAt-last : (more : List ℕ) (claim : ℕ) (s : Stop) → StopsAt o o' (standing Boxes (InHeader at new)) more claim s → StopsAt o o' (standing Boxes (InHeader at held)) (byte ∷ more) claim s
+  StopsAt-last more claim s g = StopsAt-more {p = standing Boxes (InHeader at held)} (omega arith) (GoesOn-byte o at held byte new e) o' more claim s g
 
 -- a write failed in what is told first
-FailsIn-told : (t u : Option (List ℕ)) (w : List ℕ) (a b : Account) (o own : ℕ) (told : Told) (rest r : Reading) → r ≡ after told rest → AppendsFront t u (w ++ told.text) → Spends a b o own 0 → FailsIn t u w a b o own r
-FailsIn-told t u w a b o own told rest r e p q = (
-  AppendsFront-longer t u (w ++ told.text) rest.told.text (w ++ r.told.text) p (ap (λ s. w ++ s.told.text) e ∙ sym (append_assoc w told.text rest.told.text)),
-  Spends-more a b o own 0 r.told.most (omega arith) q,
+FailsIn-told : (o o' : Outside) (c claim : ℕ) (told : Told) (rest r : Reading) → r ≡ after told rest → AppendsFront o.written o'.written (o.waiting ++ told.text) → Spends o.account o'.account c claim 0 → FailsIn o o' c claim r
+FailsIn-told o o' c claim told rest r e p q = (
+  AppendsFront-longer o.written o'.written (o.waiting ++ told.text) rest.told.text (o.waiting ++ r.told.text) p (ap (λ s. o.waiting ++ s.told.text) e ∙ sym (append_assoc o.waiting told.text rest.told.text)),
+  Spends-more o.account o'.account c claim 0 r.told.most (omega arith) q,
 )
 
 -- ---- behind the header x of a box
 
-module _ (t : Option (List ℕ)) (w : List ℕ) (a : Account) (at : ℕ) (h : Header) (x : List ℕ) (len : length x ≡ need x) (is : header_at x ≡ steps.Whole h) where
+module _ (o : Outside) (at : ℕ) (h : Header) (x : List ℕ) (len : length x ≡ need x) (is : header_at x ≡ steps.Whole h) where
   -- the box goes past the longest stream
-  pub Refuses-far : (more : List ℕ) → longest < least_end at h h.size → Refuses t t w w a a (standing Boxes (InHeader at x)) more 0 (fault StreamTooLong (Some h.kind) at)
-  Refuses-far more far = record { brought = silent; passes = Passes-none t w; counts = Counts-none a 0; rest = λ later. reading-whole at x (more ++ later) h len is ∙ reading-too_long at h x (more ++ later) far }
+  pub Refuses-far : (more : List ℕ) → longest < least_end at h h.size → Refuses o o (standing Boxes (InHeader at x)) more 0 (fault StreamTooLong (Some h.kind) at)
+  Refuses-far more far = record { brought = silent; passes = Passes-none o.written o.waiting; counts = Counts-none o.account 0; rest = λ later. reading-whole at x (more ++ later) h len is ∙ reading-too_long at h x (more ++ later) far }
 
   -- its line was written
-  pub GoesOn-line : (u : Option (List ℕ)) (v line : List ℕ) (p : Place) → line ≡ box_line at h → least_end at h h.size ≤ longest → most_held h.kind.0 ≡ None → own_of p ≡ 0 → begun_of p ≡ [] → from_of p ≡ at + h.header_len
-      → ((later : List ℕ) → then_read reading (body at h h.size later) ≡ brings_of Boxes p later) → Passes t u w v line → GoesOn t u w v a a (standing Boxes (InHeader at x)) [] (standing Boxes p)
+  pub GoesOn-line : (u : Option (List ℕ)) (v line : List ℕ) (p : Place) → line ≡ box_line at h → least_end at h h.size ≤ longest → most_held h.kind.0 ≡ None → claim_of p ≡ 0 → kept_of p ≡ [] → from_of p ≡ at + h.header_len
+      → ((later : List ℕ) → then_read reading (body at h h.size later) ≡ reads_of Boxes p later) → Passes o.written u o.waiting v line → GoesOn o (outside u v o.account) (standing Boxes (InHeader at x)) [] (standing Boxes p)
   GoesOn-line u v line p e near loose none empty place brings q = record {
     brought = says (box_line at h);
-    passes = subst (Passes t u w v) e q;
-    counts = rw none (Counts-none a 0);
-    done = x;
+    passes = subst (Passes o.written u o.waiting v) e q;
+    counts = rw none (Counts-none o.account 0);
+    past = x;
     cut = ap (λ l. x ++ l) (sym empty);
     from = omega (arith, place, (whole_is x h is).1, len);
     rest = λ later. reading-whole at x later h len is ∙ reading-begun at h x later near loose ∙ ap (after (says (box_line at h))) (brings later);
@@ -125,50 +125,50 @@ module _ (t : Option (List ℕ)) (w : List ℕ) (a : Account) (at : ℕ) (h : He
 
   -- its line can't be written
   pub FailsIn-line : (u : Option (List ℕ)) (later : List ℕ) → least_end at h h.size ≤ longest → most_held h.kind.0 ≡ None
-      → AppendsFront t u (w ++ box_line at h) → FailsIn t u w a a 0 0 (reading_from (standing Boxes (InHeader at x)) later)
-  FailsIn-line u later near loose p = FailsIn-told t u w a a 0 0 (says (box_line at h)) (then_read reading (body at h h.size later)) (reading_from (standing Boxes (InHeader at x)) later)
-      (reading-whole at x later h len is ∙ reading-begun at h x later near loose) p (Spends-counts a a 0 0 0 (Counts-none a 0))
+      → AppendsFront o.written u (o.waiting ++ box_line at h) → FailsIn o (outside u [] o.account) 0 0 (reading_from (standing Boxes (InHeader at x)) later)
+  FailsIn-line u later near loose p = FailsIn-told o (outside u [] o.account) 0 0 (says (box_line at h)) (then_read reading (body at h h.size later)) (reading_from (standing Boxes (InHeader at x)) later)
+      (reading-whole at x later h len is ∙ reading-begun at h x later near loose) p (Spends-counts o.account o.account 0 0 0 (Counts-none o.account 0))
 
   -- it is to be held, and has no size or one that is too large
-  pub Refuses-large : (more : List ℕ) (limit s : ℕ) → at + s ≤ longest → most_held h.kind.0 ≡ Some limit → h.size ≡ Exact s → limit < s → Refuses t t w w a a (standing Boxes (InHeader at x)) more 0 (fault TooLarge (Some h.kind) at)
+  pub Refuses-large : (more : List ℕ) (limit s : ℕ) → at + s ≤ longest → most_held h.kind.0 ≡ Some limit → h.size ≡ Exact s → limit < s → Refuses o o (standing Boxes (InHeader at x)) more 0 (fault TooLarge (Some h.kind) at)
   Refuses-large more limit s near held size large = record {
     brought = silent;
-    passes = Passes-none t w;
-    counts = Counts-none a 0;
+    passes = Passes-none o.written o.waiting;
+    counts = Counts-none o.account 0;
     rest = λ later. reading-whole at x (more ++ later) h len is ∙ reading-too_large at h x (more ++ later) limit s near held size large;
   }
 
-  pub Refuses-open : (more : List ℕ) (limit : ℕ) → at + h.header_len ≤ longest → most_held h.kind.0 ≡ Some limit → h.size ≡ ToEnd → Refuses t t w w a a (standing Boxes (InHeader at x)) more 0 (fault TooLarge (Some h.kind) at)
+  pub Refuses-open : (more : List ℕ) (limit : ℕ) → at + h.header_len ≤ longest → most_held h.kind.0 ≡ Some limit → h.size ≡ ToEnd → Refuses o o (standing Boxes (InHeader at x)) more 0 (fault TooLarge (Some h.kind) at)
   Refuses-open more limit near held size = record {
     brought = silent;
-    passes = Passes-none t w;
-    counts = Counts-none a 0;
+    passes = Passes-none o.written o.waiting;
+    counts = Counts-none o.account 0;
     rest = λ later. reading-whole at x (more ++ later) h len is ∙ reading-held_to_end at h x (more ++ later) limit near held size;
   }
 
   module _ (limit s : ℕ) (near : at + s ≤ longest) (held : most_held h.kind.0 ≡ Some limit) (size : h.size ≡ Exact s) (fits : s ≤ limit) where
     -- room for it was claimed
-    pub GoesOn-claim : 0 < s → GoesOn t t w w a (claimed a s) (standing Boxes (InHeader at x)) [] (standing Boxes (InHeld at h.kind s x))
+    pub GoesOn-claim : 0 < s → GoesOn o (outside o.written o.waiting (claimed o.account s)) (standing Boxes (InHeader at x)) [] (standing Boxes (InHeld at h.kind s x))
     GoesOn-claim some = record {
       brought = holds s;
-      passes = Passes-none t w;
-      counts = Counts-claim a s some;
-      done = x;
+      passes = Passes-none o.written o.waiting;
+      counts = Counts-claim o.account s some;
+      past = x;
       cut = refl;
       from = refl;
       rest = λ later. reading-whole at x later h len is ∙ reading-holds at h x later limit s near held size fits;
     }
 
     -- and it was not
-    Starves-claim : (more : List ℕ) → Starves t t w w a a (standing Boxes (InHeader at x)) more
+    Starves-claim : (more : List ℕ) → Starves o o (standing Boxes (InHeader at x)) more
     Starves-claim more =
         let place : at ≡ at + 0 = omega arith in
         let claim : IsClaim at x s = record { header = h; limit = limit; spelled = is; whole = len; held = held; sized = size; fits = fits; near = near } in
         record {
           brought = silent;
-          passes = Passes-none t w;
-          counts = Counts-none a 0;
-          done = [];
+          passes = Passes-none o.written o.waiting;
+          counts = Counts-none o.account 0;
+          past = [];
           head = x;
           behind = more;
           cut = refl;
@@ -177,60 +177,60 @@ module _ (t : Option (List ℕ)) (w : List ℕ) (a : Account) (at : ℕ) (h : He
           rest = λ later. sym (after-silent (reading at later)) ∙ ap (λ n. after silent (reading n later)) place;
         }
 
-    pub StopsAt-over : (more : List ℕ) → a.limit < a.live + s → StopsAt t t w w a a (standing Boxes (InHeader at x)) more 0 OverLimit
+    pub StopsAt-over : (more : List ℕ) → o.account.limit < o.account.live + s → StopsAt o o (standing Boxes (InHeader at x)) more 0 OverLimit
     unfolding Starves-claim
     StopsAt-over more over = (refl, (Starves-claim more, over))
 
-    pub StopsAt-want : (more : List ℕ) → a.live + s ≤ a.limit → StopsAt t t w w a a (standing Boxes (InHeader at x)) more 0 Memory
+    pub StopsAt-want : (more : List ℕ) → o.account.live + s ≤ o.account.limit → StopsAt o o (standing Boxes (InHeader at x)) more 0 Memory
     unfolding Starves-claim
     StopsAt-want more within = (refl, (Starves-claim more, within))
 
 -- ---- bytes of a body
 
-pub GoesOn-passed : (t : Option (List ℕ)) (w : List ℕ) (a : Account) (p q : Place) (x : List ℕ) → own_of p ≡ own_of q → begun_of p ≡ [] → begun_of q ≡ [] → from_of q ≡ from_of p + length x
-    → ((later : List ℕ) → brings_of Boxes p (x ++ later) ≡ brings_of Boxes q later) → GoesOn t t w w a a (standing Boxes p) x (standing Boxes q)
-GoesOn-passed t w a p q x e none none' place f = record {
+pub GoesOn-passed : (o : Outside) (p q : Place) (x : List ℕ) → claim_of p ≡ claim_of q → kept_of p ≡ [] → kept_of q ≡ [] → from_of q ≡ from_of p + length x
+    → ((later : List ℕ) → reads_of Boxes p (x ++ later) ≡ reads_of Boxes q later) → GoesOn o o (standing Boxes p) x (standing Boxes q)
+GoesOn-passed o p q x e none none' place f = record {
   brought = silent;
-  passes = Passes-none t w;
-  counts = subst (λ n. Counts a a (own_of p) n 0) e (Counts-none a (own_of p));
-  done = x;
+  passes = Passes-none o.written o.waiting;
+  counts = subst (λ n. Counts o.account o.account (claim_of p) n 0) e (Counts-none o.account (claim_of p));
+  past = x;
   cut = ap (λ l. l ++ x) none ∙ sym (append-nil x) ∙ ap (λ l. x ++ l) (sym none');
   from = place;
-  rest = λ later. f later ∙ sym (after-silent (brings_of Boxes q later));
+  rest = λ later. f later ∙ sym (after-silent (reads_of Boxes q later));
 }
 
-pub Refuses-passed : (t : Option (List ℕ)) (w : List ℕ) (a : Account) (at left : ℕ) (kind : FourCc) (x : List ℕ)
-    → ((later : List ℕ) → brings_of Boxes (InOpenBody at kind left) (x ++ later) ≡ refused StreamTooLong (Some kind) at)
-    → Refuses t t w w a a (standing Boxes (InOpenBody at kind left)) x 0 (fault StreamTooLong (Some kind) at)
-Refuses-passed t w a at left kind x f = record { brought = silent; passes = Passes-none t w; counts = Counts-none a 0; rest = f }
+pub Refuses-passed : (o : Outside) (at left : ℕ) (kind : FourCc) (x : List ℕ)
+    → ((later : List ℕ) → reads_of Boxes (InOpenBody at kind left) (x ++ later) ≡ refused StreamTooLong (Some kind) at)
+    → Refuses o o (standing Boxes (InOpenBody at kind left)) x 0 (fault StreamTooLong (Some kind) at)
+Refuses-passed o at left kind x f = record { brought = silent; passes = Passes-none o.written o.waiting; counts = Counts-none o.account 0; rest = f }
 
 -- ---- a box that is held
 
 -- more of it came
-pub GoesOn-held : (t : Option (List ℕ)) (w : List ℕ) (a : Account) (at : ℕ) (kind : FourCc) (size : ℕ) (held x : List ℕ) → GoesOn t t w w a a (standing Boxes (InHeld at kind size held)) x (standing Boxes (InHeld at kind size (held ++ x)))
-GoesOn-held t w a at kind size held x =
-    GoesOn-passed t w a (InHeld at kind size held) (InHeld at kind size (held ++ x)) x refl refl refl (omega (arith, length-append held x)) (λ later. ap (λ l. then_read reading (held_body at kind size l)) (sym (append_assoc held x later)))
+pub GoesOn-held : (o : Outside) (at : ℕ) (kind : FourCc) (size : ℕ) (held x : List ℕ) → GoesOn o o (standing Boxes (InHeld at kind size held)) x (standing Boxes (InHeld at kind size (held ++ x)))
+GoesOn-held o at kind size held x =
+    GoesOn-passed o (InHeld at kind size held) (InHeld at kind size (held ++ x)) x refl refl refl (omega (arith, length-append held x)) (λ later. ap (λ l. then_read reading (held_body at kind size l)) (sym (append_assoc held x later)))
 
-module _ (t : Option (List ℕ)) (w : List ℕ) (a : Account) (at : ℕ) (kind : FourCc) (size : ℕ) (x : List ℕ) (low : size ≤ a.live) (len : length x ≡ size) where
+module _ (o : Outside) (at : ℕ) (kind : FourCc) (size : ℕ) (x : List ℕ) (low : size ≤ o.account.live) (len : length x ≡ size) where
   -- all of it came, its tree is good, and it was listed and given back
-  pub GoesOn-good : (u : Option (List ℕ)) (v : List ℕ) → tree_faults at x ≡ [] → Passes t u w v (held_lines at x)
-      → GoesOn t u w v a (given_back a size) (standing Boxes (InHeld at kind size x)) [] (standing Boxes (InHeader (at + size) []))
+  pub GoesOn-good : (u : Option (List ℕ)) (v : List ℕ) → tree_faults at x ≡ [] → Passes o.written u o.waiting v (held_lines at x)
+      → GoesOn o (outside u v (given_back o.account size)) (standing Boxes (InHeld at kind size x)) [] (standing Boxes (InHeader (at + size) []))
   GoesOn-good u v good p = record {
     brought = says (held_lines at x);
     passes = p;
-    counts = Counts-back a size low;
-    done = [];
+    counts = Counts-back o.account size low;
+    past = [];
     cut = refl;
     from = omega (arith, len);
     rest = λ later. reading-good at kind size x later len good;
   }
 
-  pub FailsIn-good : (u : Option (List ℕ)) (later : List ℕ) → tree_faults at x ≡ [] → AppendsFront t u (w ++ held_lines at x) → FailsIn t u w a (given_back a size) size 0 (reading_from (standing Boxes (InHeld at kind size x)) later)
-  FailsIn-good u later good p = FailsIn-told t u w a (given_back a size) size 0 (says (held_lines at x)) (reading (at + size) later) (reading_from (standing Boxes (InHeld at kind size x)) later)
-      (reading-good at kind size x later len good) p (Spends-counts a (given_back a size) size 0 0 (Counts-back a size low))
+  pub FailsIn-good : (u : Option (List ℕ)) (later : List ℕ) → tree_faults at x ≡ [] → AppendsFront o.written u (o.waiting ++ held_lines at x) → FailsIn o (outside u [] (given_back o.account size)) size 0 (reading_from (standing Boxes (InHeld at kind size x)) later)
+  FailsIn-good u later good p = FailsIn-told o (outside u [] (given_back o.account size)) size 0 (says (held_lines at x)) (reading (at + size) later) (reading_from (standing Boxes (InHeld at kind size x)) later)
+      (reading-good at kind size x later len good) p (Spends-counts o.account (given_back o.account size) size 0 0 (Counts-back o.account size low))
 
-  pub Refuses-tree : (more : List ℕ) (f : Fault) (fs : List Fault) → tree_faults at x ≡ f ∷ fs → Refuses t t w w a (given_back a size) (standing Boxes (InHeld at kind size x)) more 0 f
-  Refuses-tree more f fs bad = record { brought = silent; passes = Passes-none t w; counts = Counts-back a size low; rest = λ later. reading-bad_tree at kind size x (more ++ later) f fs len bad }
+  pub Refuses-tree : (more : List ℕ) (f : Fault) (fs : List Fault) → tree_faults at x ≡ f ∷ fs → Refuses o (outside o.written o.waiting (given_back o.account size)) (standing Boxes (InHeld at kind size x)) more 0 f
+  Refuses-tree more f fs bad = record { brought = silent; passes = Passes-none o.written o.waiting; counts = Counts-back o.account size low; rest = λ later. reading-bad_tree at kind size x (more ++ later) f fs len bad }
 
 -- ---- a header that stands in a piece
 
@@ -247,12 +247,12 @@ front-is x h is =
     let whole : need (take h.header_len x) ≤ length (take h.header_len x) = omega (arith, front-len x h is) in
     sym (header_at-append (take h.header_len x) (drop h.header_len x) whole) ∙ ap header_at (take-append-drop h.header_len x) ∙ is
 
-module _ (t u : Option (List ℕ)) (w v : List ℕ) (a b : Account) (at : ℕ) (x : List ℕ) where
-  GoesOn-bytes : GoesOn t t w w a a (standing Boxes (InHeader at [])) x (standing Boxes (InHeader at x))
-  GoesOn-bytes = record { brought = silent; passes = Passes-none t w; counts = Counts-none a 0; done = []; cut = refl; from = omega arith; rest = λ later. sym (after-silent (reading at later)) }
+module _ (o o' : Outside) (at : ℕ) (x : List ℕ) where
+  GoesOn-bytes : GoesOn o o (standing Boxes (InHeader at [])) x (standing Boxes (InHeader at x))
+  GoesOn-bytes = record { brought = silent; passes = Passes-none o.written o.waiting; counts = Counts-none o.account 0; past = []; cut = refl; from = omega arith; rest = λ later. sym (after-silent (reading at later)) }
 
-  pub GoesOn-header : (q : Standing) → GoesOn t u w v a b (standing Boxes (InHeader at x)) [] q → GoesOn t u w v a b (standing Boxes (InHeader at [])) x q
-  GoesOn-header q g = subst (λ l. GoesOn t u w v a b (standing Boxes (InHeader at [])) l q) (append-nil x) (GoesOn-more {p = standing Boxes (InHeader at [])} (omega arith) GoesOn-bytes [] q g)
+  pub GoesOn-header : (q : Standing) → GoesOn o o' (standing Boxes (InHeader at x)) [] q → GoesOn o o' (standing Boxes (InHeader at [])) x q
+  GoesOn-header q g = subst (λ l. GoesOn o o' (standing Boxes (InHeader at [])) l q) (append-nil x) (GoesOn-more {p = standing Boxes (InHeader at [])} (omega arith) GoesOn-bytes [] q g)
 
-  pub StopsAt-header : (more : List ℕ) (own : ℕ) (s : Stop) → StopsAt t u w v a b (standing Boxes (InHeader at x)) more own s → StopsAt t u w v a b (standing Boxes (InHeader at [])) (x ++ more) own s
-  StopsAt-header more own s g = StopsAt-more {p = standing Boxes (InHeader at [])} (omega arith) GoesOn-bytes u v b more own s g
+  pub StopsAt-header : (more : List ℕ) (claim : ℕ) (s : Stop) → StopsAt o o' (standing Boxes (InHeader at x)) more claim s → StopsAt o o' (standing Boxes (InHeader at [])) (x ++ more) claim s
+  StopsAt-header more claim s g = StopsAt-more {p = standing Boxes (InHeader at [])} (omega arith) GoesOn-bytes o' more claim s g

@@ -18,36 +18,45 @@ use Rattle.mp4_stream.specs.declared.top.Stop.TheVariants.{Stream, Read, Write, 
 
 -- ---- a piece
 
--- where a reader stands: an offset in the stream, the bytes that came from there on and can't be told apart yet, what the bytes from there on bring, by themselves, and how many bytes it has claimed
+-- what is outside a reader: what its writer was given, the bytes that wait to be sent, and the account of its ledger
+pub record Outside : Type 0 where
+  pub written : Option (List ℕ)
+  pub waiting : List ℕ
+  pub account : Account
+
+abbrev pub outside : Option (List ℕ) → List ℕ → Account → Outside
+outside written waiting account = record { written = written; waiting = waiting; account = account }
+
+-- where a reader stands: an offset in the stream, the bytes from there on that came and aren't a whole header yet, what the bytes from there on come to, by themselves, and how many bytes it has claimed
 pub record Standing : Type 0 where
   pub from : ℕ
-  pub begun : List ℕ
-  pub brings : List ℕ → Reading
-  pub own : ℕ
+  pub kept : List ℕ
+  pub reads : List ℕ → Reading
+  pub claim : ℕ
 
 -- the offset of the next byte
 abbrev pub reached : Standing → ℕ
-reached p = p.from + length p.begun
+reached p = p.from + length p.kept
 
--- what the bytes to come bring
+-- what the bytes to come come to
 abbrev pub reading_from : Standing → List ℕ → Reading
-reading_from p later = p.brings (p.begun ++ later)
+reading_from p later = p.reads (p.kept ++ later)
 
--- a piece brought something: with some of its bytes the reader is done, and those behind them bring the rest
-pub record GoesOn (told told' : Option (List ℕ)) (waiting waiting' : List ℕ) (a a' : Account) (old : Standing) (piece : List ℕ) (new : Standing) : Type 0 where
+-- a piece brought something: the reader is past some of its bytes, and those behind them come to the rest
+pub record GoesOn (o o' : Outside) (old : Standing) (piece : List ℕ) (new : Standing) : Type 0 where
   pub brought : Told
-  pub passes : Passes told told' waiting waiting' brought.text
-  pub counts : Counts a a' old.own new.own brought.most
-  pub done : List ℕ
-  pub cut : old.begun ++ piece ≡ done ++ new.begun
-  pub from : new.from ≡ old.from + length done
-  pub rest : (later : List ℕ) → old.brings (done ++ later) ≡ after brought (new.brings later)
+  pub passes : Passes o.written o'.written o.waiting o'.waiting brought.text
+  pub counts : Counts o.account o'.account old.claim new.claim brought.most
+  pub past : List ℕ
+  pub cut : old.kept ++ piece ≡ past ++ new.kept
+  pub from : new.from ≡ old.from + length past
+  pub rest : (later : List ℕ) → old.reads (past ++ later) ≡ after brought (new.reads later)
 
--- a piece brought something and then a fault, whatever comes behind it; the reader still has `own` bytes
-pub record Refuses (told told' : Option (List ℕ)) (waiting waiting' : List ℕ) (a a' : Account) (old : Standing) (piece : List ℕ) (own : ℕ) (f : Fault) : Type 0 where
+-- a piece brought something and then a fault, whatever comes behind it; the reader has claimed `claim` bytes then
+pub record Refuses (o o' : Outside) (old : Standing) (piece : List ℕ) (claim : ℕ) (f : Fault) : Type 0 where
   pub brought : Told
-  pub passes : Passes told told' waiting waiting' brought.text
-  pub counts : Counts a a' old.own own brought.most
+  pub passes : Passes o.written o'.written o.waiting o'.waiting brought.text
+  pub counts : Counts o.account o'.account old.claim claim brought.most
   pub rest : (later : List ℕ) → reading_from old (piece ++ later) ≡ record { told = brought; ending = Refused f }
 
 -- the bytes are the header of a box at an offset that is to be held
@@ -62,29 +71,29 @@ pub record IsClaim (at : ℕ) (head : List ℕ) (size : ℕ) : Type 0 where
   pub near : at + size ≤ longest
 
 -- a piece brought something, and then came the header of a box whose claim is refused
-pub record Starves (told told' : Option (List ℕ)) (waiting waiting' : List ℕ) (a a' : Account) (old : Standing) (piece : List ℕ) : Type 0 where
+pub record Starves (o o' : Outside) (old : Standing) (piece : List ℕ) : Type 0 where
   pub brought : Told
-  pub passes : Passes told told' waiting waiting' brought.text
-  pub counts : Counts a a' old.own 0 brought.most
-  pub done : List ℕ
+  pub passes : Passes o.written o'.written o.waiting o'.waiting brought.text
+  pub counts : Counts o.account o'.account old.claim 0 brought.most
+  pub past : List ℕ
   pub head : List ℕ
   pub behind : List ℕ
-  pub cut : old.begun ++ piece ≡ done ++ (head ++ behind)
+  pub cut : old.kept ++ piece ≡ past ++ (head ++ behind)
   pub size : ℕ
-  pub claim : IsClaim (old.from + length done) head size
-  pub rest : (later : List ℕ) → old.brings (done ++ later) ≡ after brought (reading (old.from + length done) later)
+  pub claim : IsClaim (old.from + length past) head size
+  pub rest : (later : List ℕ) → old.reads (past ++ later) ≡ after brought (reading (old.from + length past) later)
 
 -- a write failed before all that a reading tells was written
-abbrev pub FailsIn : Option (List ℕ) → Option (List ℕ) → List ℕ → Account → Account → ℕ → ℕ → Reading → Type 0
-FailsIn told told' waiting a a' own own' r = AppendsFront told told' (waiting ++ r.told.text) × Spends a a' own own' r.told.most
+abbrev pub FailsIn : Outside → Outside → (claim claim' : ℕ) → Reading → Type 0
+FailsIn o o' claim claim' r = AppendsFront o.written o'.written (o.waiting ++ r.told.text) × Spends o.account o'.account claim claim' r.told.most
 
--- a reader that stops at a piece has met a fault, a write has failed, or a claim was refused; it still has `own` bytes
-abbrev pub StopsAt : Option (List ℕ) → Option (List ℕ) → List ℕ → List ℕ → Account → Account → Standing → List ℕ → ℕ → Stop → Type 0
-StopsAt told told' waiting waiting' a a' old piece own (Stream f) = Refuses told told' waiting waiting' a a' old piece own f
-StopsAt told told' waiting waiting' a a' old piece own (Read at) = ⊥
-StopsAt told told' waiting waiting' a a' old piece own Write = (later : List ℕ) → FailsIn told told' waiting a a' old.own own (reading_from old (piece ++ later))
-StopsAt told told' waiting waiting' a a' old piece own OverLimit = (own ≡ 0) × ((s : Starves told told' waiting waiting' a a' old piece) × (a'.limit < a'.live + s.size))
-StopsAt told told' waiting waiting' a a' old piece own Memory = (own ≡ 0) × ((s : Starves told told' waiting waiting' a a' old piece) × (a'.live + s.size ≤ a'.limit))
+-- a reader that stops at a piece has met a fault, a write has failed, or a claim was refused; it has claimed `claim` bytes then
+abbrev pub StopsAt : Outside → Outside → Standing → List ℕ → (claim : ℕ) → Stop → Type 0
+StopsAt o o' old piece claim (Stream f) = Refuses o o' old piece claim f
+StopsAt o o' old piece claim (Read at) = ⊥
+StopsAt o o' old piece claim Write = (later : List ℕ) → FailsIn o o' old.claim claim (reading_from old (piece ++ later))
+StopsAt o o' old piece claim OverLimit = (claim ≡ 0) × ((s : Starves o o' old piece) × (o'.account.limit < o'.account.live + s.size))
+StopsAt o o' old piece claim Memory = (claim ≡ 0) × ((s : Starves o o' old piece) × (o'.account.live + s.size ≤ o'.account.limit))
 
 -- ---- a run
 

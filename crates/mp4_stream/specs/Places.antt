@@ -25,11 +25,11 @@ pub data Place : Type 0 where
   InOpenBody : (at : ℕ) (kind : FourCc) (left : ℕ) → Place
 
 -- the bytes that came of a header that isn't whole
-abbrev pub begun_of : Place → List ℕ
-begun_of (InHeader at held) = held
-begun_of (InBody at kind next left) = []
-begun_of (InHeld at kind size held) = []
-begun_of (InOpenBody at kind left) = []
+abbrev pub kept_of : Place → List ℕ
+kept_of (InHeader at held) = held
+kept_of (InBody at kind next left) = []
+kept_of (InHeld at kind size held) = []
+kept_of (InOpenBody at kind left) = []
 
 -- the offset of the first of them, or else of the next byte
 abbrev pub from_of : Place → ℕ
@@ -38,16 +38,16 @@ from_of (InBody at kind next left) = next - left
 from_of (InHeld at kind size held) = at + length held
 from_of (InOpenBody at kind left) = longest - left
 
--- what the bytes from an offset on bring, by the command that runs
+-- what the bytes from an offset on come to, by the command that runs
 abbrev pub reading_by : Command → ℕ → List ℕ → Reading
 reading_by Boxes at bytes = reading at bytes
 
--- what the bytes from there on bring
-abbrev pub brings_of : Command → Place → List ℕ → Reading
-brings_of command (InHeader at held) bytes = reading_by command at bytes
-brings_of command (InBody at kind next left) bytes = then_read (reading_by command) (sized_body at kind next left bytes)
-brings_of Boxes (InHeld at kind size held) bytes = then_read reading (held_body at kind size (held ++ bytes))
-brings_of command (InOpenBody at kind left) bytes = then_read (reading_by command) (open_body at kind left bytes)
+-- what the bytes from there on come to
+abbrev pub reads_of : Command → Place → List ℕ → Reading
+reads_of command (InHeader at held) bytes = reading_by command at bytes
+reads_of command (InBody at kind next left) bytes = then_read (reading_by command) (sized_body at kind next left bytes)
+reads_of Boxes (InHeld at kind size held) bytes = then_read reading (held_body at kind size (held ++ bytes))
+reads_of command (InOpenBody at kind left) bytes = then_read (reading_by command) (open_body at kind left bytes)
 
 -- the bytes begin with the header of a box of this size
 abbrev pub Begins : ℕ → List ℕ → Type 0
@@ -61,14 +61,14 @@ IsPlace (InHeld at kind size held) = (length held < size) × (at + size ≤ long
 IsPlace (InOpenBody at kind left) = left ≤ longest
 
 -- how many bytes a reader has claimed where it stands
-abbrev pub own_of : Place → ℕ
-own_of (InHeader at held) = 0
-own_of (InBody at kind next left) = 0
-own_of (InHeld at kind size held) = size
-own_of (InOpenBody at kind left) = 0
+abbrev pub claim_of : Place → ℕ
+claim_of (InHeader at held) = 0
+claim_of (InBody at kind next left) = 0
+claim_of (InHeld at kind size held) = size
+claim_of (InOpenBody at kind left) = 0
 
 abbrev pub standing : Command → Place → Standing
-standing command p = record { from = from_of p; begun = begun_of p; brings = brings_of command p; own = own_of p }
+standing command p = record { from = from_of p; kept = kept_of p; reads = reads_of command p; claim = claim_of p }
 
 -- a reader at work: the command that runs, and the place
 pub record Seat : Type 0 where

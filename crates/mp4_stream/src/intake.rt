@@ -4,10 +4,10 @@ ghost use Rattle.std.specs.Prelude.{◌≡◌, ℕ, ◌+◌, ◌-◌, ◌<◌, �
 ghost use Rattle.mp4_box.specs.Headers.{HasRoom, header_at, need};
 ghost use Rattle.mp4_box.specs.declared.headers.Step.TheVariants as steps;
 ghost use Rattle.mp4_box.specs.declared.refusal.Rule.TheVariants.{StreamTooLong};
-ghost use Rattle.mp4_stream.specs.Answers.{GoesOn, StopsAt};
+ghost use Rattle.mp4_stream.specs.Answers.{GoesOn, StopsAt, outside};
 ghost use Rattle.mp4_stream.specs.Boxes.{fault, least_end, longest, refused};
 ghost use Rattle.mp4_stream.specs.Holding.{most_held};
-ghost use Rattle.mp4_stream.specs.Places.{Begins, InHeader, InHeld, IsPhase, IsPlace, IsReader, own_of, place_by, place_of, standing};
+ghost use Rattle.mp4_stream.specs.Places.{Begins, InHeader, InHeld, IsPhase, IsPlace, IsReader, claim_of, place_by, place_of, standing};
 ghost use Rattle.mp4_stream.specs.declared.machine.Command.TheVariants.{Boxes};
 ghost use Rattle.mp4_stream.specs.declared.phase.Phase.TheVariants as phases;
 
@@ -33,12 +33,10 @@ pub(crate) fn take_unheld<W: Sink>(
     requires some { 0 < length piece.now }
     requires phase { IsPhase head.old phase }
     ensures taken { IfOk result (λ r. (0 < r.0) × (r.0 ≤ length piece.now)) }
-    ensures ok { IfOk result (λ r. GoesOn (W.contents w.old) (W.contents w.new) out.old out.new
-        ledger.old ledger.new (standing Boxes (place_by head.old phase)) (take r.0 piece.now)
+    ensures ok { IfOk result (λ r. GoesOn (outside (W.contents w.old) out.old ledger.old) (outside (W.contents w.new) out.new ledger.new) (standing Boxes (place_by head.old phase)) (take r.0 piece.now)
         (standing Boxes (place_of head.new r.1 r.2))) }
-    ensures err { IfErr result (λ e. StopsAt (W.contents w.old) (W.contents w.new) out.old out.new
-        ledger.old ledger.new (standing Boxes (place_by head.old phase)) piece.now 0 e) }
-    ensures own { IfOk result (λ r. own_of (place_of head.new r.1 r.2) ≤ ledger.new.live) }
+    ensures err { IfErr result (λ e. StopsAt (outside (W.contents w.old) out.old ledger.old) (outside (W.contents w.new) out.new ledger.new) (standing Boxes (place_by head.old phase)) piece.now 0 e) }
+    ensures claim { IfOk result (λ r. claim_of (place_of head.new r.1 r.2) ≤ ledger.new.live) }
     ensures failed { IsErrOf result Stop.Write → W.has_failed w.new ≡ true }
     ensures reader { IfOk result (λ r. IsReader head.new r.1 r.2) }
     ensures spent { OnErr result (IsPhase head.new phase) }
@@ -77,12 +75,10 @@ fn take_header<W: Sink>(
     requires some { 0 < length piece.now }
     requires place { IsPlace (InHeader at head.old) }
     ensures taken { IfOk result (λ r. (0 < r.0) × (r.0 ≤ length piece.now)) }
-    ensures ok { IfOk result (λ r. GoesOn (W.contents w.old) (W.contents w.new) out.old out.new
-        ledger.old ledger.new (standing Boxes (InHeader at head.old)) (take r.0 piece.now)
+    ensures ok { IfOk result (λ r. GoesOn (outside (W.contents w.old) out.old ledger.old) (outside (W.contents w.new) out.new ledger.new) (standing Boxes (InHeader at head.old)) (take r.0 piece.now)
         (standing Boxes (place_of head.new r.1 r.2))) }
-    ensures err { IfErr result (λ e. StopsAt (W.contents w.old) (W.contents w.new) out.old out.new
-        ledger.old ledger.new (standing Boxes (InHeader at head.old)) piece.now 0 e) }
-    ensures own { IfOk result (λ r. own_of (place_of head.new r.1 r.2) ≤ ledger.new.live) }
+    ensures err { IfErr result (λ e. StopsAt (outside (W.contents w.old) out.old ledger.old) (outside (W.contents w.new) out.new ledger.new) (standing Boxes (InHeader at head.old)) piece.now 0 e) }
+    ensures claim { IfOk result (λ r. claim_of (place_of head.new r.1 r.2) ≤ ledger.new.live) }
     ensures failed { IsErrOf result Stop.Write → W.has_failed w.new ≡ true }
     ensures reader { IfOk result (λ r. IsReader head.new r.1 r.2) }
     ensures spent { OnErr result (head.new ≡ []) }
@@ -112,11 +108,9 @@ fn take_byte<W: Sink>(
     w: &mut W,
 ) -> Result<(Phase, Option<Held>), Stop>
     requires { IsPlace (InHeader at head.old) }
-    ensures ok { IfOk result (λ p. GoesOn (W.contents w.old) (W.contents w.new) out.old out.new
-        ledger.old ledger.new (standing Boxes (InHeader at head.old)) (byte ∷ []) (standing Boxes (place_of head.new p.0 p.1))) }
-    ensures err { IfErr result (λ e. (more : List ℕ) → StopsAt (W.contents w.old) (W.contents w.new)
-        out.old out.new ledger.old ledger.new (standing Boxes (InHeader at head.old)) (byte ∷ more) 0 e) }
-    ensures own { IfOk result (λ p. own_of (place_of head.new p.0 p.1) ≤ ledger.new.live) }
+    ensures ok { IfOk result (λ p. GoesOn (outside (W.contents w.old) out.old ledger.old) (outside (W.contents w.new) out.new ledger.new) (standing Boxes (InHeader at head.old)) (byte ∷ []) (standing Boxes (place_of head.new p.0 p.1))) }
+    ensures err { IfErr result (λ e. (more : List ℕ) → StopsAt (outside (W.contents w.old) out.old ledger.old) (outside (W.contents w.new) out.new ledger.new) (standing Boxes (InHeader at head.old)) (byte ∷ more) 0 e) }
+    ensures claim { IfOk result (λ p. claim_of (place_of head.new p.0 p.1) ≤ ledger.new.live) }
     ensures failed { IsErrOf result Stop.Write → W.has_failed w.new ≡ true }
     ensures reader { IfOk result (λ p. IsReader head.new p.0 p.1) }
     ensures spent { OnErr result (head.new ≡ []) }
@@ -150,11 +144,9 @@ fn begin<W: Sink>(
     requires room { HasRoom header.now.size header.now.header_len }
     requires len { length head.now ≡ need head.now }
     requires is { header_at head.now ≡ steps.Whole header.now }
-    ensures ok { IfOk result (λ p. GoesOn (W.contents w.old) (W.contents w.new) out.old out.new
-        ledger.old ledger.new (standing Boxes (InHeader at head.now)) [] (standing Boxes (place_of [] p.0 p.1))) }
-    ensures err { IfErr result (λ e. (more : List ℕ) → StopsAt (W.contents w.old) (W.contents w.new)
-        out.old out.new ledger.old ledger.new (standing Boxes (InHeader at head.now)) more 0 e) }
-    ensures own { IfOk result (λ p. own_of (place_of [] p.0 p.1) ≤ ledger.new.live) }
+    ensures ok { IfOk result (λ p. GoesOn (outside (W.contents w.old) out.old ledger.old) (outside (W.contents w.new) out.new ledger.new) (standing Boxes (InHeader at head.now)) [] (standing Boxes (place_of [] p.0 p.1))) }
+    ensures err { IfErr result (λ e. (more : List ℕ) → StopsAt (outside (W.contents w.old) out.old ledger.old) (outside (W.contents w.new) out.new ledger.new) (standing Boxes (InHeader at head.now)) more 0 e) }
+    ensures claim { IfOk result (λ p. claim_of (place_of [] p.0 p.1) ≤ ledger.new.live) }
     ensures failed { IsErrOf result Stop.Write → W.has_failed w.new ≡ true }
     ensures reader { IfOk result (λ p. IsReader [] p.0 p.1) }
 {
@@ -191,11 +183,9 @@ fn begin_held<W: Sink>(
     requires is { header_at head.now ≡ steps.Whole header.now }
     requires end { least_end at header.now header.now.size ≤ longest }
     requires held { most_held header.now.kind.0 ≡ Some limit }
-    ensures ok { IfOk result (λ p. GoesOn (W.contents w.old) (W.contents w.new) out.old out.new
-        ledger.old ledger.new (standing Boxes (InHeader at head.now)) [] (standing Boxes (place_of [] p.0 p.1))) }
-    ensures err { IfErr result (λ e. (more : List ℕ) → StopsAt (W.contents w.old) (W.contents w.new)
-        out.old out.new ledger.old ledger.new (standing Boxes (InHeader at head.now)) more 0 e) }
-    ensures own { IfOk result (λ p. own_of (place_of [] p.0 p.1) ≤ ledger.new.live) }
+    ensures ok { IfOk result (λ p. GoesOn (outside (W.contents w.old) out.old ledger.old) (outside (W.contents w.new) out.new ledger.new) (standing Boxes (InHeader at head.now)) [] (standing Boxes (place_of [] p.0 p.1))) }
+    ensures err { IfErr result (λ e. (more : List ℕ) → StopsAt (outside (W.contents w.old) out.old ledger.old) (outside (W.contents w.new) out.new ledger.new) (standing Boxes (InHeader at head.now)) more 0 e) }
+    ensures claim { IfOk result (λ p. claim_of (place_of [] p.0 p.1) ≤ ledger.new.live) }
     ensures failed { IsErrOf result Stop.Write → W.has_failed w.new ≡ true }
     ensures reader { IfOk result (λ p. IsReader [] p.0 p.1) }
 {
@@ -226,15 +216,13 @@ pub(crate) fn take_held<W: Sink>(
 ) -> Result<(usize, Option<Held>), Stop>
     requires some { 0 < length piece.now }
     requires place { IsPlace (InHeld held.at held.kind held.size held.bytes) }
-    requires own { held.size ≤ ledger.old.live }
+    requires claim { held.size ≤ ledger.old.live }
     ensures taken { IfOk result (λ r. (0 < r.0) × (r.0 ≤ length piece.now)) }
-    ensures ok { IfOk result (λ r. GoesOn (W.contents w.old) (W.contents w.new) out.old out.new
-        ledger.old ledger.new (standing Boxes (InHeld held.at held.kind held.size held.bytes))
+    ensures ok { IfOk result (λ r. GoesOn (outside (W.contents w.old) out.old ledger.old) (outside (W.contents w.new) out.new ledger.new) (standing Boxes (InHeld held.at held.kind held.size held.bytes))
         (take r.0 piece.now) (standing Boxes (place_of [] (phases.Header (held.at + held.size)) r.1))) }
-    ensures err { IfErr result (λ e. StopsAt (W.contents w.old) (W.contents w.new) out.old out.new
-        ledger.old ledger.new (standing Boxes (InHeld held.at held.kind held.size held.bytes)) piece.now 0
+    ensures err { IfErr result (λ e. StopsAt (outside (W.contents w.old) out.old ledger.old) (outside (W.contents w.new) out.new ledger.new) (standing Boxes (InHeld held.at held.kind held.size held.bytes)) piece.now 0
         e) }
-    ensures own { IfOk result (λ r. own_of (place_of [] (phases.Header (held.at + held.size)) r.1) ≤
+    ensures claim { IfOk result (λ r. claim_of (place_of [] (phases.Header (held.at + held.size)) r.1) ≤
         ledger.new.live) }
     ensures failed { IsErrOf result Stop.Write → W.has_failed w.new ≡ true }
     ensures reader { IfOk result (λ r. IsReader [] (phases.Header (held.at + held.size)) r.1) }
@@ -255,14 +243,12 @@ fn settle_whole<W: Sink>(
     w: &mut W,
 ) -> Result<Option<Held>, Stop>
     requires begins { Begins held.size held.bytes }
-    requires own { held.size ≤ ledger.old.live }
-    ensures ok { IfOk result (λ r. GoesOn (W.contents w.old) (W.contents w.new) out.old out.new
-        ledger.old ledger.new (standing Boxes (InHeld held.at held.kind held.size held.bytes)) []
+    requires claim { held.size ≤ ledger.old.live }
+    ensures ok { IfOk result (λ r. GoesOn (outside (W.contents w.old) out.old ledger.old) (outside (W.contents w.new) out.new ledger.new) (standing Boxes (InHeld held.at held.kind held.size held.bytes)) []
         (standing Boxes (place_of [] (phases.Header (held.at + held.size)) r))) }
-    ensures err { IfErr result (λ e. (more : List ℕ) → StopsAt (W.contents w.old) (W.contents w.new)
-        out.old out.new ledger.old ledger.new
+    ensures err { IfErr result (λ e. (more : List ℕ) → StopsAt (outside (W.contents w.old) out.old ledger.old) (outside (W.contents w.new) out.new ledger.new)
         (standing Boxes (InHeld held.at held.kind held.size held.bytes)) more 0 e) }
-    ensures own { IfOk result (λ r. own_of (place_of [] (phases.Header (held.at + held.size)) r) ≤
+    ensures claim { IfOk result (λ r. claim_of (place_of [] (phases.Header (held.at + held.size)) r) ≤
         ledger.new.live) }
     ensures failed { IsErrOf result Stop.Write → W.has_failed w.new ≡ true }
     ensures reader { IfOk result (λ r. IsReader [] (phases.Header (held.at + held.size)) r) }
@@ -280,12 +266,10 @@ fn settle_whole<W: Sink>(
 fn settle<W: Sink>(held: Held, ledger: &mut Ledger, out: &mut Block, w: &mut W) -> Result<(), Stop>
     requires begins { Begins held.size held.bytes }
     requires whole { length held.bytes ≡ held.size }
-    requires own { held.size ≤ ledger.old.live }
-    ensures ok { OnOk result (GoesOn (W.contents w.old) (W.contents w.new) out.old out.new
-        ledger.old ledger.new (standing Boxes (InHeld held.at held.kind held.size held.bytes)) []
+    requires claim { held.size ≤ ledger.old.live }
+    ensures ok { OnOk result (GoesOn (outside (W.contents w.old) out.old ledger.old) (outside (W.contents w.new) out.new ledger.new) (standing Boxes (InHeld held.at held.kind held.size held.bytes)) []
         (standing Boxes (InHeader (held.at + held.size) []))) }
-    ensures err { IfErr result (λ e. (more : List ℕ) → StopsAt (W.contents w.old) (W.contents w.new)
-        out.old out.new ledger.old ledger.new
+    ensures err { IfErr result (λ e. (more : List ℕ) → StopsAt (outside (W.contents w.old) out.old ledger.old) (outside (W.contents w.new) out.new ledger.new)
         (standing Boxes (InHeld held.at held.kind held.size held.bytes)) more 0 e) }
     ensures failed { IsErrOf result Stop.Write → W.has_failed w.new ≡ true }
     ensures next { held.at + held.size ≤ longest }

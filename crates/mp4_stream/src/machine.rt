@@ -3,9 +3,9 @@
 ghost use Rattle.std.specs.Prelude.{◌≡◌, ◌+◌, ◌-◌, ◌<◌, ◌≤◌, [], length, take, None, Some, Ok, IfOk, IfErr, OnOk, IsErrOf, true};
 ghost use Rattle.mp4_box.specs.declared.refusal.Rule.TheVariants.{Truncated};
 ghost use Rattle.mp4_ledger.specs.Memory.{given_back};
-ghost use Rattle.mp4_stream.specs.Answers.{GoesOn, StopsAt, reading_from};
+ghost use Rattle.mp4_stream.specs.Answers.{GoesOn, StopsAt, outside, reading_from};
 ghost use Rattle.mp4_stream.specs.Boxes.{fault};
-ghost use Rattle.mp4_stream.specs.Places.{InHeader, IsPhase, IsPlace, IsReader, own_of, place_by, place_of, standing, standing_at};
+ghost use Rattle.mp4_stream.specs.Places.{InHeader, IsPhase, IsPlace, IsReader, claim_of, place_by, place_of, standing, standing_at};
 ghost use Rattle.mp4_stream.specs.declared.machine.Command.TheVariants.{Boxes};
 ghost use Rattle.mp4_stream.specs.Readings.{fault_in};
 
@@ -68,13 +68,11 @@ impl Machine {
         out: &mut Block,
         w: &mut W,
     ) -> Result<(), Stop>
-        requires own { own_of self.old.place ≤ ledger.old.live }
+        requires claim { claim_of self.old.place ≤ ledger.old.live }
         requires empty { out.old ≡ [] }
-        ensures ok { OnOk result (GoesOn (W.contents w.old) (W.contents w.new) [] [] ledger.old
-            ledger.new (standing_at self.old) piece.now (standing_at self.new)) }
-        ensures err { IfErr result (λ e. StopsAt (W.contents w.old) (W.contents w.new) [] []
-            ledger.old ledger.new (standing_at self.old) piece.now (own_of self.new.place) e) }
-        ensures own { own_of self.new.place ≤ ledger.new.live }
+        ensures ok { OnOk result (GoesOn (outside (W.contents w.old) [] ledger.old) (outside (W.contents w.new) [] ledger.new) (standing_at self.old) piece.now (standing_at self.new)) }
+        ensures err { IfErr result (λ e. StopsAt (outside (W.contents w.old) [] ledger.old) (outside (W.contents w.new) [] ledger.new) (standing_at self.old) piece.now (claim_of self.new.place) e) }
+        ensures claim { claim_of self.new.place ≤ ledger.new.live }
         ensures failed { IsErrOf result Stop.Write → W.has_failed w.new ≡ true }
         ensures place { IsPlace self.new.place }
         ensures command { self.new.command ≡ self.old.command }
@@ -111,12 +109,10 @@ impl Machine {
         out: &mut Block,
         w: &mut W,
     ) -> Result<(), Stop>
-        requires own { own_of self.old.place ≤ ledger.old.live }
-        ensures ok { OnOk result (GoesOn (W.contents w.old) (W.contents w.new) out.old out.new
-            ledger.old ledger.new (standing_at self.old) piece.now (standing_at self.new)) }
-        ensures err { IfErr result (λ e. StopsAt (W.contents w.old) (W.contents w.new) out.old
-            out.new ledger.old ledger.new (standing_at self.old) piece.now (own_of self.new.place) e) }
-        ensures own { own_of self.new.place ≤ ledger.new.live }
+        requires claim { claim_of self.old.place ≤ ledger.old.live }
+        ensures ok { OnOk result (GoesOn (outside (W.contents w.old) out.old ledger.old) (outside (W.contents w.new) out.new ledger.new) (standing_at self.old) piece.now (standing_at self.new)) }
+        ensures err { IfErr result (λ e. StopsAt (outside (W.contents w.old) out.old ledger.old) (outside (W.contents w.new) out.new ledger.new) (standing_at self.old) piece.now (claim_of self.new.place) e) }
+        ensures claim { claim_of self.new.place ≤ ledger.new.live }
         ensures failed { IsErrOf result Stop.Write → W.has_failed w.new ≡ true }
         ensures place { IsPlace self.new.place }
         ensures command { self.new.command ≡ self.old.command }
@@ -138,13 +134,11 @@ impl Machine {
         w: &mut W,
     ) -> Result<usize, Stop>
         requires some { 0 < length piece.now }
-        requires own { own_of self.old.place ≤ ledger.old.live }
+        requires claim { claim_of self.old.place ≤ ledger.old.live }
         ensures taken { IfOk result (λ n. (0 < n) × (n ≤ length piece.now)) }
-        ensures ok { IfOk result (λ n. GoesOn (W.contents w.old) (W.contents w.new) out.old out.new
-            ledger.old ledger.new (standing_at self.old) (take n piece.now) (standing_at self.new)) }
-        ensures err { IfErr result (λ e. StopsAt (W.contents w.old) (W.contents w.new) out.old
-            out.new ledger.old ledger.new (standing_at self.old) piece.now (own_of self.new.place) e) }
-        ensures own { own_of self.new.place ≤ ledger.new.live }
+        ensures ok { IfOk result (λ n. GoesOn (outside (W.contents w.old) out.old ledger.old) (outside (W.contents w.new) out.new ledger.new) (standing_at self.old) (take n piece.now) (standing_at self.new)) }
+        ensures err { IfErr result (λ e. StopsAt (outside (W.contents w.old) out.old ledger.old) (outside (W.contents w.new) out.new ledger.new) (standing_at self.old) piece.now (claim_of self.new.place) e) }
+        ensures claim { claim_of self.new.place ≤ ledger.new.live }
         ensures failed { IsErrOf result Stop.Write → W.has_failed w.new ≡ true }
         ensures place { IsPlace self.new.place }
         ensures command { self.new.command ≡ self.old.command }
@@ -167,13 +161,11 @@ impl Machine {
     ) -> Result<usize, Stop>
         requires some { 0 < length piece.now }
         requires boxes { self.old.command ≡ Boxes }
-        requires own { own_of self.old.place ≤ ledger.old.live }
+        requires claim { claim_of self.old.place ≤ ledger.old.live }
         ensures taken { IfOk result (λ n. (0 < n) × (n ≤ length piece.now)) }
-        ensures ok { IfOk result (λ n. GoesOn (W.contents w.old) (W.contents w.new) out.old out.new
-            ledger.old ledger.new (standing_at self.old) (take n piece.now) (standing_at self.new)) }
-        ensures err { IfErr result (λ e. StopsAt (W.contents w.old) (W.contents w.new) out.old
-            out.new ledger.old ledger.new (standing_at self.old) piece.now (own_of self.new.place) e) }
-        ensures own { own_of self.new.place ≤ ledger.new.live }
+        ensures ok { IfOk result (λ n. GoesOn (outside (W.contents w.old) out.old ledger.old) (outside (W.contents w.new) out.new ledger.new) (standing_at self.old) (take n piece.now) (standing_at self.new)) }
+        ensures err { IfErr result (λ e. StopsAt (outside (W.contents w.old) out.old ledger.old) (outside (W.contents w.new) out.new ledger.new) (standing_at self.old) piece.now (claim_of self.new.place) e) }
+        ensures claim { claim_of self.new.place ≤ ledger.new.live }
         ensures failed { IsErrOf result Stop.Write → W.has_failed w.new ≡ true }
         ensures place { IsPlace self.new.place }
         ensures command { self.new.command ≡ self.old.command }
@@ -214,8 +206,8 @@ impl Machine {
 
     /// Gives back what it has claimed.
     pub(crate) fn give_up(self, ledger: &mut Ledger)
-        requires { own_of self.place ≤ ledger.old.live }
-        ensures { ledger.new ≡ given_back ledger.old (own_of self.place) }
+        requires { claim_of self.place ≤ ledger.old.live }
+        ensures { ledger.new ≡ given_back ledger.old (claim_of self.place) }
     {
         let Machine {
             command: _,

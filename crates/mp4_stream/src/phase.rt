@@ -4,7 +4,7 @@ ghost use Rattle.std.specs.Prelude.{◌≡◌, ℕ, ◌+◌, ◌-◌, ◌<◌, �
 ghost use Rattle.mp4_box.specs.Headers.{HasRoom};
 ghost use Rattle.mp4_box.specs.declared.refusal.Rule.TheVariants.{StreamTooLong};
 ghost use Rattle.mp4_stream.specs.Boxes.{body, fault, least_end, longest, open_body, reading, refused, sized_body};
-ghost use Rattle.mp4_stream.specs.Places.{InBody, InOpenBody, IsPhase, IsPlace, brings_of, from_of, place_by};
+ghost use Rattle.mp4_stream.specs.Places.{InBody, InOpenBody, IsPhase, IsPlace, from_of, place_by, reads_of};
 ghost use Rattle.mp4_stream.specs.declared.machine.Command.TheVariants.{Boxes};
 ghost use Rattle.mp4_stream.specs.Readings.{then_read};
 
@@ -54,8 +54,8 @@ pub(crate) fn phase_behind(at: u64, header: &Header) -> Option<Phase>
     requires room { HasRoom header.now.size header.now.header_len }
     ensures none { IfNone result (longest < least_end at header.now header.now.size) }
     ensures some { IfSome result (λ p. least_end at header.now header.now.size ≤ longest) }
-    ensures brings { IfSome result (λ p. (later : List ℕ) → then_read reading
-        (body at header.now header.now.size later) ≡ brings_of Boxes (place_by [] p) later) }
+    ensures reads { IfSome result (λ p. (later : List ℕ) → then_read reading
+        (body at header.now header.now.size later) ≡ reads_of Boxes (place_by [] p) later) }
     ensures phase { IfSome result (λ p. IsPhase [] p) }
     ensures reached { IfSome result (λ p. from_of (place_by [] p) ≡ at + header.now.header_len) }
 {
@@ -71,8 +71,8 @@ pub(crate) fn sized_phase(at: u64, kind: FourCc, size: u64, header_len: u64) -> 
     requires room { header_len ≤ size }
     ensures none { IfNone result (longest < at + size) }
     ensures some { IfSome result (λ p. at + size ≤ longest) }
-    ensures brings { IfSome result (λ p. (later : List ℕ) → then_read reading
-        (sized_body at kind (at + size) (size - header_len) later) ≡ brings_of Boxes (place_by [] p)
+    ensures reads { IfSome result (λ p. (later : List ℕ) → then_read reading
+        (sized_body at kind (at + size) (size - header_len) later) ≡ reads_of Boxes (place_by [] p)
         later) }
     ensures phase { IfSome result (λ p. IsPhase [] p) }
     ensures reached { IfSome result (λ p. from_of (place_by [] p) ≡ at + header_len) }
@@ -97,8 +97,8 @@ pub(crate) fn open_phase(at: u64, kind: FourCc, header_len: u64) -> Option<Phase
     requires at { at ≤ longest }
     ensures none { IfNone result (longest < at + header_len) }
     ensures some { IfSome result (λ p. at + header_len ≤ longest) }
-    ensures brings { IfSome result (λ p. (later : List ℕ) → then_read reading
-        (open_body at kind (longest - (at + header_len)) later) ≡ brings_of Boxes (place_by [] p)
+    ensures reads { IfSome result (λ p. (later : List ℕ) → then_read reading
+        (open_body at kind (longest - (at + header_len)) later) ≡ reads_of Boxes (place_by [] p)
         later) }
     ensures phase { IfSome result (λ p. IsPhase [] p) }
     ensures reached { IfSome result (λ p. from_of (place_by [] p) ≡ at + header_len) }
@@ -118,8 +118,8 @@ pub(crate) fn pass(at: u64, kind: FourCc, next: u64, left: u64, piece: &[u8]) ->
     requires some { 0 < length piece.now }
     requires place { IsPlace (InBody at kind next left) }
     ensures taken { (0 < result.0) × (result.0 ≤ length piece.now) }
-    ensures brings { (later : List ℕ) → brings_of Boxes (InBody at kind next left)
-        (take result.0 piece.now ++ later) ≡ brings_of Boxes (place_by [] result.1) later }
+    ensures reads { (later : List ℕ) → reads_of Boxes (InBody at kind next left)
+        (take result.0 piece.now ++ later) ≡ reads_of Boxes (place_by [] result.1) later }
     ensures phase { IsPhase [] result.1 }
     ensures reached { from_of (place_by [] result.1) ≡ (next - left) + result.0 }
 {
@@ -141,13 +141,13 @@ pub(crate) fn pass(at: u64, kind: FourCc, next: u64, left: u64, piece: &[u8]) ->
 /// Passes over a piece of the body of the box at `at`, which goes to the end of the stream: what comes next.
 pub(crate) fn pass_open(at: u64, kind: FourCc, left: u64, piece: &[u8]) -> Result<Phase, Stop>
     requires { IsPlace (InOpenBody at kind left) }
-    ensures brings { IfOk result (λ p. (later : List ℕ) → brings_of Boxes (InOpenBody at kind left)
-        (piece.now ++ later) ≡ brings_of Boxes (place_by [] p) later) }
+    ensures reads { IfOk result (λ p. (later : List ℕ) → reads_of Boxes (InOpenBody at kind left)
+        (piece.now ++ later) ≡ reads_of Boxes (place_by [] p) later) }
     ensures phase { IfOk result (λ p. IsPhase [] p) }
     ensures reached { IfOk result (λ p. from_of (place_by [] p) ≡ (longest - left) + length
         piece.now) }
     ensures stops { IfErr result (λ e. e ≡ Stop.Stream (fault StreamTooLong (Some kind) at)) }
-    ensures err { OnErr result ((later : List ℕ) → brings_of Boxes (InOpenBody at kind left)
+    ensures err { OnErr result ((later : List ℕ) → reads_of Boxes (InOpenBody at kind left)
         (piece.now ++ later) ≡ refused StreamTooLong (Some kind) at) }
 {
     if piece.len() as u64 > left {

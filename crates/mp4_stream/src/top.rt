@@ -3,7 +3,7 @@
 ghost use Rattle.std.specs.Prelude.{◌≡◌, ℕ, ◌+◌, ◌<◌, ◌≤◌, List, [], length, true, IfErr, IsErrOf};
 ghost use Rattle.std.specs.Io.KnownBytes.{Consumes};
 ghost use Rattle.mp4_stream.specs.Answers.{Lists, Peaks, is_read};
-ghost use Rattle.mp4_stream.specs.Places.{InHeader, own_of};
+ghost use Rattle.mp4_stream.specs.Places.{InHeader, claim_of};
 ghost use Rattle.mp4_stream.specs.declared.machine.Command.TheVariants.{Boxes};
 
 use crate::block::Block;
@@ -163,7 +163,7 @@ fn read_on<R: Source, W: Sink>(
     ensures listed { (b : List ℕ) × Consumes (R.remaining r.old) (R.remaining r.new) b × Lists
         (W.contents w.old) (W.contents w.new) ledger.old.live ledger.old.limit b
         (R.has_ended r.new) result × Peaks ledger.old.live b ledger.new.peak result }
-    ensures live { ledger.new.live ≡ ledger.old.live + own_of machine.new.place }
+    ensures live { ledger.new.live ≡ ledger.old.live + claim_of machine.new.place }
     ensures limit { ledger.new.limit ≡ ledger.old.limit }
     ensures read { IfErr result (λ e. is_read e ≡ true → R.has_failed r.new ≡ true) }
     ensures write { IsErrOf result Stop.Write → W.has_failed w.new ≡ true }

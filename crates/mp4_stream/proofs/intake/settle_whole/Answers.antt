@@ -6,4 +6,4 @@ use Rattle.mp4_stream.specs.declared.machine.Command.TheVariants.{Boxes}
 pub returns-then-not-is_whole-clause-ok : goal.returns-then-not-is_whole-clause-ok
 returns-then-not-is_whole-clause-ok g c =
     let held = c.args.held in
-    GoesOn-none _ c.args.out.now c.args.ledger.now (standing Boxes (InHeld held.at held.kind held.size held.bytes))
+    GoesOn-none _ (standing Boxes (InHeld held.at held.kind held.size held.bytes))

@@ -2,7 +2,7 @@ use Rattle.std.proofs.Common.{◌≡◌, ◌∷◌, ◌<◌, [], ℕ, List, drop
 use Rattle.mp4_box.specs.Headers.{header_at}
 use Rattle.mp4_box.proofs.HeaderLemmas.{whole_is, need-least, need-most}
 use Rattle.mp4_box.proofs.HeaderAnswers.{result-whole}
-use Rattle.mp4_stream.specs.Answers.{StopsAt}
+use Rattle.mp4_stream.specs.Answers.{StopsAt, outside}
 use Rattle.mp4_stream.specs.Places.{InHeader, standing}
 use Rattle.mp4_stream.proofs.PlaceLemmas.{front-len, front-is, StopsAt-header}
 use Rattle.mp4_stream.proofs.intake.take_header.Goals as goal
@@ -28,12 +28,12 @@ pub returns-in-Err-clause-err : goal.returns-in-Err-clause-err
 returns-in-Err-clause-err g c =
     let n = c.in-Ok.header.header_len in
     let piece = c.args.piece.now in
-    let stops = StopsAt-header _ _ c.args.out.now c.begin.new.out c.args.ledger.now c.begin.new.ledger c.args.at (take n piece) (drop n piece) 0 c.in-Err.stop (c.in-Err.ensures.err (drop n piece)) in
+    let stops = StopsAt-header _ _ c.args.at (take n piece) (drop n piece) 0 c.in-Err.stop (c.in-Err.ensures.err (drop n piece)) in
     rw (c.if-is_empty.ensures.0 refl)
-    (subst (λ l. StopsAt (g.W.Sink.contents c.args.w.now) (g.W.Sink.contents c.begin.new.w) c.args.out.now c.begin.new.out c.args.ledger.now c.begin.new.ledger (standing Boxes (InHeader c.args.at [])) l 0 c.in-Err.stop)
+    (subst (λ l. StopsAt (outside (g.W.Sink.contents c.args.w.now) c.args.out.now c.args.ledger.now) (outside (g.W.Sink.contents c.begin.new.w) c.begin.new.out c.begin.new.ledger) (standing Boxes (InHeader c.args.at [])) l 0 c.in-Err.stop)
     (take-append-drop n piece) stops)
 
 pub returns-in-Err-take_byte-clause-err : goal.returns-in-Err-take_byte-clause-err
 returns-in-Err-take_byte-clause-err g c =
-    subst (λ l. StopsAt (g.W.Sink.contents c.args.w.now) (g.W.Sink.contents c.take_byte.new.w) c.args.out.now c.take_byte.new.out c.args.ledger.now c.take_byte.new.ledger (standing Boxes (InHeader c.args.at c.args.head.now)) l 0 c.in-Err-take_byte.stop)
+    subst (λ l. StopsAt (outside (g.W.Sink.contents c.args.w.now) c.args.out.now c.args.ledger.now) (outside (g.W.Sink.contents c.take_byte.new.w) c.take_byte.new.out c.take_byte.new.ledger) (standing Boxes (InHeader c.args.at c.args.head.now)) l 0 c.in-Err-take_byte.stop)
     (first_of_piece c.args.piece.now c.requires.some) (c.in-Err-take_byte.ensures.err (drop 1 c.args.piece.now))

@@ -13,6 +13,6 @@ pub returns-in-Err-clause-err : goal.returns-in-Err-clause-err
 returns-in-Err-clause-err g c =
     let held = c.args.held in
     let n = c.take-taken.result in
-    let goes = GoesOn-held _ c.args.out.now c.args.ledger.now held.at held.kind held.size held.bytes (take n c.args.piece.now) in
+    let goes = GoesOn-held _ held.at held.kind held.size held.bytes (take n c.args.piece.now) in
     let stops = rw c.take-taken.ensures.held at c.in-Err.ensures.err (drop n c.args.piece.now) in
-    StopsAt-take_more c.requires.own n c.args.piece.now goes _ _ _ 0 c.in-Err.stop stops
+    StopsAt-take_more c.requires.claim n c.args.piece.now goes _ 0 c.in-Err.stop stops

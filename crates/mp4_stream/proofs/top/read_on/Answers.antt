@@ -14,8 +14,8 @@ loop-machine-init g c =
       [],
       record {
         read = Consumes-nil _;
-        goes_on = rw begins (GoesOn-none _ [] c.args.ledger.now (standing Boxes (InHeader 0 [])));
-        own = rw begins (omega arith);
+        goes_on = rw begins (GoesOn-none _ (standing Boxes (InHeader 0 [])));
+        claim = rw begins (omega arith);
         place = rw begins (search rules);
         command = rw begins refl;
         empty = search rules;
@@ -50,7 +50,7 @@ returns-in_err-feed-clause-listed g c =
     let p = err_from_is_err_and c.from_residual.result c.from_residual.ensures.1 in
     let got = take c.in-Ok.n c.read.new.into in
     let stop = c.in_err-feed.field-0.0 in
-    let stops = StopsAt-more {p = standing Boxes (InHeader 0 [])} (omega arith) i.goes_on _ [] _ got _ stop c.in_err-feed.ensures.err in (
+    let stops = StopsAt-more {p = standing Boxes (InHeader 0 [])} (omega arith) i.goes_on _ got _ stop c.in_err-feed.ensures.err in (
       b ++ got,
       Consumes-trans _ _ _ _ _ i.read c.in-Ok.ensures.bytes.0,
       rw (p.1, p.2) (run-stops _ _ _ _ _ _ _ stop stops),
@@ -60,13 +60,13 @@ returns-in_err-feed-clause-listed g c =
 pub returns-in_err-feed-clause-live : goal.returns-in_err-feed-clause-live
 returns-in_err-feed-clause-live g c =
     let (b, i) = c.loop-machine.invariant in
-    let stops = StopsAt-more {p = standing Boxes (InHeader 0 [])} (omega arith) i.goes_on _ [] _ (take c.in-Ok.n c.read.new.into) _ c.in_err-feed.field-0.0 c.in_err-feed.ensures.err in
+    let stops = StopsAt-more {p = standing Boxes (InHeader 0 [])} (omega arith) i.goes_on _ (take c.in-Ok.n c.read.new.into) _ c.in_err-feed.field-0.0 c.in_err-feed.ensures.err in
     (run-left _ _ _ _ _ _ _ stops).0
 
 pub returns-in_err-feed-clause-limit : goal.returns-in_err-feed-clause-limit
 returns-in_err-feed-clause-limit g c =
     let (b, i) = c.loop-machine.invariant in
-    let stops = StopsAt-more {p = standing Boxes (InHeader 0 [])} (omega arith) i.goes_on _ [] _ (take c.in-Ok.n c.read.new.into) _ c.in_err-feed.field-0.0 c.in_err-feed.ensures.err in
+    let stops = StopsAt-more {p = standing Boxes (InHeader 0 [])} (omega arith) i.goes_on _ (take c.in-Ok.n c.read.new.into) _ c.in_err-feed.field-0.0 c.in_err-feed.ensures.err in
     (run-left _ _ _ _ _ _ _ stops).1
 
 pub loop-machine-preserved : goal.loop-machine-preserved
@@ -81,7 +81,7 @@ loop-machine-preserved g c =
       record {
         read = Consumes-trans _ _ _ _ _ i.read c.in-Ok.ensures.bytes.0;
         goes_on = goes;
-        own = fed.own;
+        claim = fed.claim;
         place = fed.place;
         command = fed.command ∙ i.command;
         empty = fed.empty;

@@ -1,7 +1,7 @@
 use Rattle.std.proofs.Common.{◌≡◌, ◌≤◌, ◌+◌, ◌-◌, ◌^◌, List, ℕ, length, []}
 use Rattle.std.specs.Io.KnownBytes.{Consumes}
-use Rattle.mp4_stream.specs.Places.{InHeader, IsPlace, own_of, standing, standing_at}
-use Rattle.mp4_stream.specs.Answers.{GoesOn}
+use Rattle.mp4_stream.specs.Places.{InHeader, IsPlace, claim_of, standing, standing_at}
+use Rattle.mp4_stream.specs.Answers.{GoesOn, outside}
 use Rattle.mp4_stream.proofs.top.read_on.Given as goal
 use Rattle.mp4_stream.specs.declared.machine.Command.TheVariants.{Boxes}
 
@@ -9,8 +9,8 @@ abbrev pub invariant-loop-machine : goal.invariant-loop-machine
 invariant-loop-machine g l =
     (b : List ℕ) × record {
       read : Consumes (g.R.Source.remaining l.initial.r) (g.R.Source.remaining l.r) b;
-      goes_on : GoesOn (g.W.Sink.contents l.initial.w) (g.W.Sink.contents l.w) [] [] l.initial.ledger l.ledger (standing Boxes (InHeader 0 [])) b (standing_at l.machine);
-      own : own_of l.machine.place ≤ l.ledger.live;
+      goes_on : GoesOn (outside (g.W.Sink.contents l.initial.w) [] l.initial.ledger) (outside (g.W.Sink.contents l.w) [] l.ledger) (standing Boxes (InHeader 0 [])) b (standing_at l.machine);
+      claim : claim_of l.machine.place ≤ l.ledger.live;
       place : IsPlace l.machine.place;
       command : l.machine.command ≡ Boxes;
       empty : l.out ≡ [];

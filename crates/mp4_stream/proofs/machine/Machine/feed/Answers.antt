@@ -10,7 +10,7 @@ returns-in-Ok-send-clause-ok g c =
 pub returns-in-Err-clause-err : goal.returns-in-Err-clause-err
 returns-in-Err-clause-err g c =
     let goes = rw c.requires.empty at c.in-Ok.ensures.ok in
-    GoesOn-unsent _ c.requires.own goes c.in-Err.ensures.err
+    GoesOn-unsent _ c.requires.claim goes c.in-Err.ensures.err
 
 pub returns-in-Ok-send-2-clause-err : goal.returns-in-Ok-send-2-clause-err
 returns-in-Ok-send-2-clause-err g c =
