@@ -1,7 +1,7 @@
 -- What a run of the program does.
 use Rattle.std.specs.Prelude.{◌≡◌, ℕ, Bool, true, false, List, Option, Result, Ok, Err}
 use Rattle.std.specs.Io.KnownBytes.{Appends, Consumes, Keeps}
-use Rattle.mp4_box.specs.Streams.{AppendsFront}
+use Rattle.mp4_ends.specs.Streams.{AppendsFront}
 use Rattle.mp4_stream.specs.Answers.{Lists}
 use Rattle.mp4_stream.specs.declared.top.Stop.{Stop}
 use Rattle.mp4_stream.specs.declared.top.Stop.TheVariants.{Stream, Read, Write, OverLimit, Memory}

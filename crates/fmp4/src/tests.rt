@@ -1,6 +1,6 @@
 //! Runs over memory. What is expected is counted by hand.
 
-ghost use Rattle.std.specs.Prelude.{◌<◌};
+ghost use Rattle.std.specs.Prelude.{◌≡◌, ◌<◌};
 
 mod ends;
 mod listings;
@@ -40,12 +40,12 @@ const MOOF: &str = "moof 96 @364
 
 const MDAT: &str = "mdat 23 @460\n";
 
-fn words_of(alloc: Global, line: &str) -> Result<Vec<String>, AllocError> {
-    let mut words = Vec::new(alloc);
-    for word in line.split(' ') {
-        words.push(String::from_str(alloc, word)?)?;
+fn words_of(alloc: Global, words: &[&str]) -> Result<Vec<String>, AllocError> {
+    let mut all = Vec::new(alloc);
+    for word in words {
+        all.push(String::from_str(alloc, word)?)?;
     }
-    Ok(words)
+    Ok(all)
 }
 
 fn joined(alloc: Global, parts: &[&[u8]]) -> Result<Vec<u8>, AllocError> {
@@ -64,34 +64,64 @@ fn listing_of(alloc: Global, lines: &[&str]) -> Result<Vec<u8>, AllocError> {
     Ok(listing)
 }
 
-/// Lists the boxes of these bytes by reads and writes of at most `step` bytes.
-fn check_listing(
+/// What the program is given to read from, by so many bytes a read, and to write to.
+#[derive(Clone, Copy)]
+struct Given<'a> {
+    input: &'a [u8],
+    fails: bool,
+    step: usize,
+    room: usize,
+    fault_room: usize,
+    flushes: bool,
+}
+
+impl<'a> Given<'a> {
+    /// With ample room, and no failures.
+    fn ample(input: &'a [u8], step: usize) -> Self
+        ensures { result.step ≡ step }
+    {
+        Given {
+            input,
+            fails: false,
+            step,
+            room: 8192,
+            fault_room: 100,
+            flushes: true,
+        }
+    }
+}
+
+/// Runs the program: its status, its listing and its line of a fault must be these.
+fn check_run(
     rt: &impl Abort,
     alloc: Global,
-    words: &str,
-    input: &[u8],
-    step: usize,
+    words: &[&str],
+    given: Given<'_>,
     status: u8,
     listing: &[u8],
-    fault: &str,
+    fault: &[u8],
 ) -> Result<(), Fail>
-    requires { 0 < step }
+    requires { 0 < given.step }
 {
-    let mut r = FromSlice::new(input, step, false);
-    let mut w = ToVec::new(alloc, 8192, step, true)?;
-    let mut fault_w = ToVec::new(alloc, 100, step, true)?;
+    let mut r = FromSlice::new(given.input, given.step, given.fails);
+    let mut w = ToVec::new(alloc, given.room, given.step, given.flushes)?;
+    let mut fault_w = ToVec::new(alloc, given.fault_room, given.step, true)?;
     let got = run(alloc, words_of(alloc, words)?, &mut r, &mut w, &mut fault_w);
-    assert_eq!(rt; got, status, "by {step}");
-    assert_eq!(rt; w.bytes(), listing, "by {step}");
-    assert_eq!(rt; fault_w.bytes(), fault.as_bytes(), "by {step}");
+    let told = (got, w.bytes(), fault_w.bytes());
+    assert_eq!(rt;
+        told,
+        (status, listing, fault),
+        "{words:?}, room for {}",
+        given.room
+    );
     Ok(())
 }
 
-/// The same by reads of one byte, of seven, and of many.
+/// The boxes of these bytes are listed by reads of one byte, of seven, and of many.
 fn check_words(
     rt: &impl Abort,
     alloc: Global,
-    words: &str,
+    words: &[&str],
     parts: &[&[u8]],
     status: u8,
     lines: &[&str],
@@ -99,9 +129,34 @@ fn check_words(
 ) -> Result<(), Fail> {
     let input = joined(alloc, parts)?;
     let listing = listing_of(alloc, lines)?;
-    check_listing(rt, alloc, words, &input, 1, status, &listing, fault)?;
-    check_listing(rt, alloc, words, &input, 7, status, &listing, fault)?;
-    check_listing(rt, alloc, words, &input, 4096, status, &listing, fault)
+    let fault = fault.as_bytes();
+    check_run(
+        rt,
+        alloc,
+        words,
+        Given::ample(&input, 1),
+        status,
+        &listing,
+        fault,
+    )?;
+    check_run(
+        rt,
+        alloc,
+        words,
+        Given::ample(&input, 7),
+        status,
+        &listing,
+        fault,
+    )?;
+    check_run(
+        rt,
+        alloc,
+        words,
+        Given::ample(&input, 4096),
+        status,
+        &listing,
+        fault,
+    )
 }
 
 fn check_rows(
@@ -112,5 +167,5 @@ fn check_rows(
     lines: &[&str],
     fault: &str,
 ) -> Result<(), Fail> {
-    check_words(rt, alloc, "fmp4 boxes", parts, status, lines, fault)
+    check_words(rt, alloc, &["fmp4", "boxes"], parts, status, lines, fault)
 }

@@ -4,9 +4,6 @@
 
 ghost use Rattle.std.specs.Prelude.{◌*◌, ◌≤◌, length};
 
-#[cfg(test)]
-mod tests;
-
 use mp4_box::is_box;
 use mp4_init::{InitStop, TrackList, tracks};
 use mp4_ledger::{Ledger, Refused};

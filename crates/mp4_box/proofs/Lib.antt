@@ -1,9 +1,7 @@
 pub mod HeaderLemmas
 pub mod HeaderAnswers
-pub mod StreamLemmas
 pub mod TreeLemmas
 pub mod GrammarLemmas
 pub mod OrderLemmas
 pub mod RunLemmas
 pub mod PathLemmas
-pub mod FlagLemmas

@@ -1,10 +1,7 @@
 pub mod Headers
 pub mod Shown
 pub mod Rules
-pub mod Streams
-pub mod Ends
 pub mod Trees
 pub mod Grammar
 pub mod Order
 pub mod Paths
-pub mod Flags

@@ -1,47 +1,35 @@
 //! The boxes of an MP4 stream (ISO/IEC 14496-12): how their headers are written and read, the tree of a box that
-//! is held, the fields of payloads, the rules that a stream can break, and the two ends of a stream.
+//! is held, the fields of payloads, and the rules that a stream can break.
 //!
 //! - [`headers`]: the header of a box, in all its forms, and [`header_of`], which reads it from a slice;
 //! - [`reader`]: [`HeaderReader`], which reads it byte by byte;
 //! - [`tree`]: [`check_tree`], which checks the tree of a held box, and [`BoxRef`] and [`Walk`], by which one goes
 //!   over it;
-//! - [`fields`]: the numbers in a payload, and [`flags`]: the flag words of tfhd and trun;
+//! - [`fields`]: the numbers in a payload;
 //! - [`refusal`]: the rules, and the [`Fault`] of a stream that breaks one;
 //! - [`paths`]: checks of the boxes on a path, of which [`note`] keeps the fault that is told;
-//! - [`streams`]: [`Source`] and [`Sink`], which the bytes come from and go to;
-//! - [`adapters`]: std's readers and writers as such ends;
-//! - [`ends`]: ends in memory, for tests;
 //! - [`vectors`]: three small streams, for tests;
 //! - [`laws`]: what the definitions of `specs/` imply.
 #![tactic(auto)]
 
-pub mod adapters;
 mod box_ref;
-pub mod ends;
 pub mod fields;
-pub mod flags;
 pub mod headers;
 pub mod laws;
 mod order;
 pub mod paths;
 pub mod reader;
 pub mod refusal;
-pub mod streams;
-#[cfg(test)]
-mod tests;
 pub mod tree;
 pub mod vectors;
 mod walk;
 
-pub use adapters::{FromRead, IntoWrite};
 pub use box_ref::BoxRef;
 pub use fields::{full, i32_at, u32_at, u64_at};
-pub use flags::{TfhdFlags, TrunFlags};
 pub use headers::{FourCc, Header, Size, Step, header_of};
 pub use order::note;
 pub use paths::{Check, note_along};
 pub use reader::HeaderReader;
 pub use refusal::{Fault, Rule};
-pub use streams::{Failed, Sink, Source, write_all};
 pub use tree::{check_tree, holds_boxes, is_box, whole_box};
 pub use walk::Walk;

@@ -9,8 +9,6 @@
 mod buf;
 mod ledger;
 mod rows;
-#[cfg(test)]
-mod tests;
 
 pub use buf::Buf;
 pub use ledger::{Ledger, Refused};

@@ -1,9 +1,9 @@
 -- How what a piece brings and what the next brings is what both bring.
 use Rattle.std.proofs.Common.{◌≡◌, ℕ, ◌+◌, ◌≤◌, List, [], ◌++◌, take, drop, Option, ap, sym, ◌∙◌, refl, length, arith, append_assoc, append-nil, length-append, subst, take-append-drop}
 use Rattle.std.proofs.Math.Seq.{take-add}
-use Rattle.mp4_box.specs.Streams.{AppendsFront}
+use Rattle.mp4_ends.specs.Streams.{AppendsFront}
 use Rattle.mp4_box.specs.declared.refusal.Fault.{Fault}
-use Rattle.mp4_box.proofs.StreamLemmas.{AppendsFront-longer}
+use Rattle.mp4_ends.proofs.StreamLemmas.{AppendsFront-longer}
 use Rattle.mp4_ledger.specs.Memory.{Account}
 use Rattle.mp4_stream.specs.Accounts.{Counts}
 use Rattle.mp4_stream.specs.Boxes.{reading}

@@ -2,8 +2,8 @@
 use Rattle.std.proofs.Common.{◌≡◌, ℕ, List, [], ◌++◌, Option, sym, ap, ◌∙◌, append_assoc, append-nil, refl, subst}
 use Rattle.std.proofs.KnownBytes.{Appends-nil, Appends-trans}
 use Rattle.std.specs.Io.KnownBytes.{Appends}
-use Rattle.mp4_box.specs.Streams.{AppendsFront}
-use Rattle.mp4_box.proofs.StreamLemmas.{AppendsFront-more, AppendsFront-longer}
+use Rattle.mp4_ends.specs.Streams.{AppendsFront}
+use Rattle.mp4_ends.proofs.StreamLemmas.{AppendsFront-more, AppendsFront-longer}
 use Rattle.mp4_stream.specs.Blocks.{Passes}
 
 -- nothing was sent

@@ -7,10 +7,10 @@ use Rattle.mp4_box.specs.declared.headers.Step.TheVariants as steps
 use Rattle.mp4_box.specs.declared.refusal.Fault.{Fault}
 use Rattle.mp4_box.specs.declared.refusal.Rule.TheVariants.{BadSize, StreamTooLong, TooLarge}
 use Rattle.mp4_box.specs.Headers.{need, header_at, kind_of}
-use Rattle.mp4_box.specs.Streams.{AppendsFront}
+use Rattle.mp4_ends.specs.Streams.{AppendsFront}
 use Rattle.mp4_box.specs.Trees.{tree_faults}
 use Rattle.mp4_box.proofs.HeaderLemmas.{whole_is, bad_is, need_more, need-append, need-least, need-most, header_at-append}
-use Rattle.mp4_box.proofs.StreamLemmas.{AppendsFront-longer}
+use Rattle.mp4_ends.proofs.StreamLemmas.{AppendsFront-longer}
 use Rattle.mp4_ledger.specs.Memory.{claimed, given_back}
 use Rattle.mp4_stream.specs.Accounts.{Counts, Spends}
 use Rattle.mp4_stream.specs.Blocks.{Passes}

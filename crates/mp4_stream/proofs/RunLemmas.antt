@@ -1,8 +1,7 @@
 -- What a reader has brought of a stream from its first byte on.
-use Rattle.std.proofs.Common.{◌≡◌, ℕ, zero, suc, ◌+◌, ◌≤◌, List, [], ◌++◌, length, take, max, Bool, Option, Some, inr, ap, sym, ◌∙◌, refl, arith, append-nil, subst}
-use Rattle.std.specs.Io.KnownBytes.{Appends, Consumes}
-use Rattle.std.proofs.KnownBytes.{Consumes-trans}
-use Rattle.mp4_box.specs.Streams.{AppendsFront}
+use Rattle.std.proofs.Common.{◌≡◌, ℕ, zero, suc, ◌+◌, ◌≤◌, List, [], ◌++◌, length, max, Bool, Option, Some, inr, ap, sym, ◌∙◌, refl, arith, append-nil, subst}
+use Rattle.std.specs.Io.KnownBytes.{Appends}
+use Rattle.mp4_ends.specs.Streams.{AppendsFront}
 use Rattle.mp4_ledger.specs.Memory.{Account}
 use Rattle.mp4_stream.specs.Accounts.{Counts, Spends}
 use Rattle.mp4_stream.specs.Readings.{fault_in, early_in, after, both, then_read}
@@ -120,9 +119,3 @@ run-left a b k l bs claim (Read at) g = absurd g
 run-left a b k l bs claim Write g = let spent = (g []).1 in (omega (arith, spent.live), spent.limit)
 run-left a b k l bs claim OverLimit (none, (h, far)) = (omega (arith, none, h.counts.live), h.counts.limit)
 run-left a b k l bs claim Memory (none, (h, near)) = (omega (arith, none, h.counts.live), h.counts.limit)
-
--- some bytes were read, and then none
-pub Consumes-then_none : (a b c : Option (List ℕ)) (bs ys : List ℕ) (n : ℕ) → Consumes a b bs → Consumes b c (take n ys) → n ≡ 0 → Consumes a c bs
-Consumes-then_none a b c bs ys n p q e =
-    let none : take n ys ≡ [] = rw e refl in
-    subst (Consumes a c) (ap (λ l. bs ++ l) none ∙ append-nil bs) (Consumes-trans a b c bs (take n ys) p q)

@@ -1,7 +1,7 @@
 -- What a reader that is fed a stream piece by piece brings, and what a run answers and writes.
 use Rattle.std.specs.Prelude.{◌≡◌, ◌⊎◌, ℕ, ◌+◌, ◌<◌, ◌≤◌, List, [], ◌++◌, length, Bool, true, false, Option, None, Some, Result, Ok, Err}
 use Rattle.std.specs.Io.KnownBytes.{Appends}
-use Rattle.mp4_box.specs.Streams.{AppendsFront}
+use Rattle.mp4_ends.specs.Streams.{AppendsFront}
 use Rattle.mp4_stream.specs.Blocks.{Passes}
 use Rattle.mp4_box.specs.declared.refusal.Fault.{Fault}
 use Rattle.mp4_box.specs.declared.headers.Header.{Header}

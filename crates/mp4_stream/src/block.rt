@@ -1,11 +1,11 @@
 //! Bytes on their way to a sink.
 
 ghost use Rattle.std.specs.Prelude.{◌≡◌, ℕ, List, ◌+◌, ◌<◌, ◌≤◌, [], ◌++◌, length, true, OnOk, OnErr};
-ghost use Rattle.mp4_box.specs.Streams.{AppendsFront};
+ghost use Rattle.mp4_ends.specs.Streams.{AppendsFront};
 ghost use Rattle.mp4_stream.specs.Blocks.{Passes};
 
 use arrayvec::ArrayVec;
-use mp4_box::{Failed, Sink, write_all};
+use mp4_ends::{Failed, Sink, write_all};
 use std::marker::Model;
 
 /// From so many bytes on a slice is sent by itself and not gathered.

@@ -1,7 +1,7 @@
 //! A box that is held while it comes.
 
 ghost use Rattle.std.specs.Prelude.{◌≡◌, ◌+◌, ◌-◌, ◌^◌, ◌<◌, ◌≤◌, ◌↔◌, ◌++◌, length, take, min, true, false, Some, Ok, IfOk, IfErr, OnErr, OnOk, IsErrOf, IsTrue};
-ghost use Rattle.mp4_box.specs.Streams.{AppendsFront};
+ghost use Rattle.mp4_ends.specs.Streams.{AppendsFront};
 ghost use Rattle.mp4_box.specs.Trees.{box_at, tree_faults, verdict, view};
 ghost use Rattle.mp4_ledger.specs.Memory.{claimed, given_back};
 ghost use Rattle.mp4_stream.specs.Blocks.{Passes};
@@ -10,7 +10,8 @@ ghost use Rattle.mp4_stream.specs.Places.{Begins};
 
 use crate::block::Block;
 use crate::listing::put_tree;
-use mp4_box::{BoxRef, Failed, Fault, FourCc, Sink, check_tree, whole_box};
+use mp4_box::{BoxRef, Fault, FourCc, check_tree, whole_box};
+use mp4_ends::{Failed, Sink};
 use mp4_ledger::{Buf, Ledger, Refused};
 use std::marker::Model;
 

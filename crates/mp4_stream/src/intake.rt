@@ -17,7 +17,8 @@ use crate::line::Line;
 use crate::listing::push_box;
 use crate::phase::{Phase, pass, pass_open, phase_behind, refused};
 use crate::top::Stop;
-use mp4_box::{Failed, Header, HeaderReader, Rule, Sink, Size, Step, header_of};
+use mp4_box::{Header, HeaderReader, Rule, Size, Step, header_of};
+use mp4_ends::{Failed, Sink};
 use mp4_ledger::{Ledger, Refused};
 
 /// Takes some bytes from the front of a piece, while no box is held: how many, what comes next, and the box where

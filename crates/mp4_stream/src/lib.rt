@@ -26,8 +26,7 @@ mod phase;
 pub mod top;
 
 pub use line::Line;
-pub use mp4_box::{
-    Failed, Fault, FourCc, FromRead, IntoWrite, Rule, Sink, Source, ends, vectors, write_all,
-};
+pub use mp4_box::{Fault, FourCc, Rule, vectors};
+pub use mp4_ends::{Failed, FromRead, IntoWrite, Sink, Source, ends, write_all};
 pub use mp4_ledger::Ledger;
 pub use top::{Stop, Totals, boxes};

@@ -1,14 +1,15 @@
 //! The lines of boxes.
 
 ghost use Rattle.std.specs.Prelude.{◌≡◌, ◌+◌, ◌≤◌, ◌++◌, [], length, true, OnErr, OnOk};
-ghost use Rattle.mp4_box.specs.Streams.{AppendsFront};
+ghost use Rattle.mp4_ends.specs.Streams.{AppendsFront};
 ghost use Rattle.mp4_box.specs.Trees.{view};
 ghost use Rattle.mp4_stream.specs.Blocks.{Passes};
 ghost use Rattle.mp4_stream.specs.Listing.{box_line, line_below, size_text, tree_lines, user_text};
 
 use crate::block::Block;
 use crate::line::Line;
-use mp4_box::{BoxRef, Failed, Header, Sink, Size, Walk, holds_boxes};
+use mp4_box::{BoxRef, Header, Size, Walk, holds_boxes};
+use mp4_ends::{Failed, Sink};
 
 /// Spaces for the lowest level.
 const INDENT: [u8; 14] = *b"              ";

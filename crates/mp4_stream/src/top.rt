@@ -8,7 +8,8 @@ ghost use Rattle.mp4_stream.specs.declared.machine.Command.TheVariants.{Boxes};
 
 use crate::block::Block;
 use crate::machine::{Command, Machine};
-use mp4_box::{Failed, Fault, Sink, Source};
+use mp4_box::Fault;
+use mp4_ends::{Failed, Sink, Source};
 use mp4_ledger::{Ledger, Refused};
 
 /// Why a run stopped.

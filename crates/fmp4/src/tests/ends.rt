@@ -1,8 +1,6 @@
 //! Readers and writers that fail.
 
-use super::{FTYP, MDAT, MOOF, MOOV, listing_of, words_of};
-use crate::program::run;
-use mp4_stream::ends::{FromSlice, ToVec};
+use super::{FTYP, Given, MDAT, MOOF, MOOV, check_run, listing_of};
 use mp4_stream::vectors::V1;
 use std::alloc::Global;
 use std::io::Write;
@@ -20,16 +18,15 @@ fn check_failing(
     listing: &[u8],
     fault: &[u8],
 ) -> Result<(), Fail> {
-    let v1 = V1.as_slice();
-    let mut r = FromSlice::new(&v1[..given.min(483)], 7, true);
-    let mut w = ToVec::new(alloc, room, 7, true)?;
-    let mut fault_w = ToVec::new(alloc, fault_room, 7, true)?;
-    let words = words_of(alloc, "fmp4 boxes")?;
-    let got = run(alloc, words, &mut r, &mut w, &mut fault_w);
-    assert_eq!(rt; got, 3, "{given} {room} {fault_room}");
-    assert_eq!(rt; w.bytes(), listing, "{given} {room} {fault_room}");
-    assert_eq!(rt; fault_w.bytes(), fault, "{given} {room} {fault_room}");
-    Ok(())
+    let given = Given {
+        input: &V1.as_slice()[..given.min(483)],
+        fails: true,
+        step: 7,
+        room,
+        fault_room,
+        flushes: true,
+    };
+    check_run(rt, alloc, &["fmp4", "boxes"], given, 3, listing, fault)
 }
 
 #[test]
@@ -85,19 +82,11 @@ fn failing_writers(rt: HostRuntime) -> Result<(), Fail> {
 #[test]
 fn a_flush_that_fails(rt: HostRuntime) -> Result<(), Fail> {
     let alloc = rt.alloc();
-    let mut r = FromSlice::new(V1.as_slice(), 7, false);
-    let mut w = ToVec::new(alloc, 1000, 7, false)?;
-    let mut fault_w = ToVec::new(alloc, 100, 7, true)?;
-    let got = run(
-        alloc,
-        words_of(alloc, "fmp4 boxes")?,
-        &mut r,
-        &mut w,
-        &mut fault_w,
-    );
-    assert_eq!(rt; got, 3);
     let listing = listing_of(alloc, &[FTYP, MOOV, MOOF, MDAT])?;
-    assert_eq!(rt; w.bytes(), listing.as_slice());
-    assert_eq!(rt; fault_w.bytes(), b"fmp4: write failed\n".as_slice());
-    Ok(())
+    let given = Given {
+        flushes: false,
+        ..Given::ample(V1.as_slice(), 7)
+    };
+    let fault = b"fmp4: write failed\n";
+    check_run(&rt, alloc, &["fmp4", "boxes"], given, 3, &listing, fault)
 }

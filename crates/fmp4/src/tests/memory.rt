@@ -18,7 +18,7 @@ fn limits(rt: HostRuntime) -> Result<(), Fail> {
     check_words(
         &rt,
         rt.alloc(),
-        "fmp4 boxes --max-held 65880",
+        &["fmp4", "boxes", "--max-held", "65880"],
         &v1,
         0,
         &all,
@@ -27,7 +27,7 @@ fn limits(rt: HostRuntime) -> Result<(), Fail> {
     check_words(
         &rt,
         rt.alloc(),
-        "fmp4 boxes --max-held 65879",
+        &["fmp4", "boxes", "--max-held", "65879"],
         &v1,
         4,
         &[FTYP],
@@ -36,7 +36,7 @@ fn limits(rt: HostRuntime) -> Result<(), Fail> {
     check_words(
         &rt,
         rt.alloc(),
-        "fmp4 boxes --max-held 65535",
+        &["fmp4", "boxes", "--max-held", "65535"],
         &v1,
         4,
         &[],
@@ -47,7 +47,7 @@ fn limits(rt: HostRuntime) -> Result<(), Fail> {
     check_words(
         &rt,
         rt.alloc(),
-        "fmp4 boxes --max-held 65880",
+        &["fmp4", "boxes", "--max-held", "65880"],
         &moof,
         4,
         &[FTYP, MOOV],

@@ -4,7 +4,8 @@ use Rattle.std.proofs.lemmas.Result.{err_from_is_err_and}
 use Rattle.mp4_stream.specs.Places.{InHeader, standing}
 use Rattle.mp4_stream.proofs.AnswerLemmas.{GoesOn-none, GoesOn-more, StopsAt-more, reached-more}
 use Rattle.mp4_stream.proofs.PlaceLemmas.{reached-most}
-use Rattle.mp4_stream.proofs.RunLemmas.{run-fault, run-text, run-peak, run-stops, run-peaks, run-left, Consumes-then_none}
+use Rattle.mp4_stream.proofs.RunLemmas.{run-fault, run-text, run-peak, run-stops, run-peaks, run-left}
+use Rattle.mp4_ends.proofs.StreamLemmas.{Consumes-then_none}
 use Rattle.mp4_stream.proofs.top.read_on.Goals as goal
 use Rattle.mp4_stream.specs.declared.machine.Command.TheVariants.{Boxes}
 

@@ -1,0 +1,19 @@
+//! Tests of the libraries, in a crate above them, so that each library is proved once: worked numbers, and what no clause
+//! can say.
+//!
+//! - [`claims`]: that claims succeed where memory is ample;
+//! - [`ends`]: what an adapter makes of std's errors;
+//! - [`boxes`]: worked headers, fields and trees, and [`flags`]: worked flag words;
+//! - [`moovs`]: worked moovs.
+#![tactic(auto)]
+
+#[cfg(test)]
+mod boxes;
+#[cfg(test)]
+mod claims;
+#[cfg(test)]
+mod ends;
+#[cfg(test)]
+mod flags;
+#[cfg(test)]
+mod moovs;

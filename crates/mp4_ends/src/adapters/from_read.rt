@@ -1,0 +1,82 @@
+//! A reader of std.
+
+ghost use Rattle.std.specs.Prelude.{◌≡◌, Ok, IfOk, IsErr, OnErr};
+ghost use Rattle.mp4_ends.specs.Ends.{left_in, state_ended, state_failed};
+ghost use Rattle.mp4_ends.specs.declared.adapters.State.TheVariants.{Open};
+
+use super::State;
+use crate::streams::{Failed, Source};
+use std::io;
+use std::marker::Model;
+
+/// A reader of std as a source. Each of its errors, an interrupted read too, is a failure.
+#[derive(Drop)]
+pub struct FromRead<R> {
+    inner: R,
+    state: State,
+}
+
+impl<R> Model for FromRead<R> {
+    ghost use Rattle.mp4_ends.specs.Ends.{Adapted};
+
+    ghost Value = { Adapted R };
+
+    ghost view = { λ s. record { inner = s.inner; state = s.state } };
+}
+
+impl<R: io::Read> FromRead<R> {
+    /// A source that has neither ended nor failed, over this reader.
+    pub fn new(inner: R) -> Self
+        ensures { result ≡ record { inner = inner; state = Open } }
+    {
+        FromRead {
+            inner,
+            state: State::Open,
+        }
+    }
+}
+
+impl<R: io::Read> Source for FromRead<R> {
+    ghost remaining = { λ s. left_in s.state (R.remaining s.inner) };
+
+    ghost has_failed = { λ s. state_failed s.state };
+
+    ghost has_ended = { λ s. state_ended s.state };
+
+    fn read(&mut self, into: &mut [u8]) -> Result<usize, Failed> {
+        match self.state {
+            State::Broken => Err(Failed),
+            State::Ended => Ok(0),
+            State::Open => match read_answer(self.inner.read(into)) {
+                Ok(0) => {
+                    self.state = State::Ended;
+                    Ok(0)
+                }
+                Ok(n) => Ok(n),
+                Err(Failed) => {
+                    self.state = State::Broken;
+                    Err(Failed)
+                }
+            },
+        }
+    }
+
+    fn failed(&self) -> bool {
+        matches!(self.state, State::Broken)
+    }
+
+    fn ended(&self) -> bool {
+        matches!(self.state, State::Ended)
+    }
+}
+
+/// What a read of std's comes to: each of its errors is a failure.
+fn read_answer(answer: io::Result<usize>) -> Result<usize, Failed>
+    ensures ok { IfOk answer (λ n. result ≡ Ok n) }
+    ensures err { OnErr answer (IsErr result) }
+{
+    match answer {
+        Ok(n) => Ok(n),
+        Err(_) => Err(Failed),
+    }
+}

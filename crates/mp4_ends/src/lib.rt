@@ -1,0 +1,13 @@
+//! The two ends of a stream: what its bytes are read from, and what bytes are written to. They know nothing of boxes.
+//!
+//! - [`streams`]: [`Source`] and [`Sink`], with what each tells of its failures, and [`write_all`];
+//! - [`adapters`]: std's readers and writers as such ends;
+//! - [`ends`]: ends in memory, for tests.
+#![tactic(auto)]
+
+pub mod adapters;
+pub mod ends;
+pub mod streams;
+
+pub use adapters::{FromRead, IntoWrite};
+pub use streams::{Failed, Sink, Source, write_all};
