@@ -1,4 +1,4 @@
-use Rattle.std.proofs.Common.{refl}
+use Rattle.std.proofs.Common.{refl, rules}
 use Rattle.fmp4.proofs.program.lines.fault_line.Goals as goal
 
 pub returns : goal.returns
