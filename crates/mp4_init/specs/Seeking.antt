@@ -1,27 +1,62 @@
--- How a track_ID is sought among nodes: from the first node on, each of another track_ID leads on by the next bit of the one that is sought, the lowest first.
-use Rattle.std.specs.Prelude.{ℕ, zero, suc, List, Option, Some, None, ◌==◌, ◌/◌, ◌%◌, ◌≡◌, ◌<◌, if◌then◌else◌, length, slice_get, slice_index_or}
+-- How a track_ID is sought among nodes: from the first on, each of another track_ID leads on by the next bit of the one that is sought, the lowest first.
+use Rattle.std.specs.Prelude.{ℕ, Bool, true, false, List, [], ◌∷◌, Option, Some, None, ⊤, ◌==◌, ◌+◌, ◌/◌, ◌%◌, ◌≡◌, ◌<◌, if◌then◌else◌}
+use Rattle.std.specs.List.{position}
+use Rattle.mp4_init.specs.declared.seek.Ending.{Ending}
+use Rattle.mp4_init.specs.declared.seek.Ending.TheVariants.{Found, Behind, Unasked}
+use Rattle.mp4_init.specs.declared.seek.Link.{Link}
 use Rattle.mp4_init.specs.declared.seek.Node.{Node}
 
--- from the node that stands at a place: it is the one, or leads on; where none stands the search ends
-abbrev pub from_node : ℕ → ℕ → Option Node → (Node → Option ℕ) → Option ℕ
-from_node id at None go = None
-from_node id at (Some n) go = if n.id == id then Some at else go n
+abbrev pub link_of : Bool → Node → ℕ
+link_of true n = n.odd
+link_of false n = n.even
 
-abbrev pub link_of : ℕ → Node → ℕ
-link_of bit n = if bit == 0 then n.even else n.odd
+abbrev pub with_link : Bool → ℕ → Node → Node
+with_link true to n = record n { odd = to }
+with_link false to n = record n { even = to }
 
--- the place of the node of this track_ID, sought from a place on by so many bits
-unfoldable pub sought_from : ℕ → List Node → ℕ → ℕ → ℕ → Option ℕ
-sought_from zero nodes id bits at = None
-sought_from (suc turns) nodes id bits at = from_node id at (slice_get nodes at) (λ n. sought_from turns nodes id (bits / 2) (link_of (bits % 2) n))
+-- where a search goes on from a node, by the lowest of these bits
+abbrev pub next_by : ℕ → Node → ℕ
+next_by bits n = link_of (bits % 2 == 1) n
 
--- a track_ID has 32 bits, so that at most 33 nodes are asked
-unfoldable pub sought : List Node → ℕ → Option ℕ
-sought nodes id = sought_from 33 nodes id id 0
+-- the link by which it goes on from the node at a place
+abbrev pub link_at : ℕ → ℕ → Link
+link_at at bits = record { at = at; is_odd = bits % 2 == 1 }
+
+-- a search that goes on ends as it ended before where no more node is asked
+abbrev pub or_before : Ending → Ending → Ending
+or_before early (Found k) = Found k
+or_before early (Behind link) = Behind link
+or_before early Unasked = early
+
+-- the nodes are gone over in order, from the one at place `here` on; the next that is asked is the one at place `at`, where it is one of them
+unfoldable pub ending_from : List Node → ℕ → ℕ → ℕ → ℕ → Ending
+ending_from [] here at id bits = Unasked
+ending_from (n ∷ ns) here at id bits =
+    if here == at
+    then (if n.id == id then Found here else or_before (Behind (link_at here bits)) (ending_from ns (here + 1) (next_by bits n) id (bits / 2)))
+    else ending_from ns (here + 1) at id bits
+
+-- the search begins at the first, with all bits of the track_ID
+abbrev pub ending : List Node → ℕ → Ending
+ending nodes id = ending_from nodes 0 0 id id
+
+abbrev pub found_at : Ending → Option ℕ
+found_at (Found k) = Some k
+found_at (Behind link) = None
+found_at Unasked = None
+
+-- the place of the node of this track_ID
+abbrev pub sought : List Node → ℕ → Option ℕ
+sought nodes id = found_at (ending nodes id)
+
+abbrev pub EndsWithin : ℕ → Ending → Type 0
+EndsWithin n (Found k) = k < n
+EndsWithin n (Behind link) = link.at < n
+EndsWithin n Unasked = ⊤
 
 abbrev pub no_node : Node
 no_node = record { id = 0; even = 0; odd = 0 }
 
--- each node is found by its track_ID
+-- a search for a track_ID finds the first node that has it
 pub record IsIndexed (nodes : List Node) : Type 0 where
-  pub each : (k : ℕ) → k < length nodes → sought nodes (slice_index_or nodes k no_node).id ≡ Some k
+  pub each : (id : ℕ) → sought nodes id ≡ position (λ n. n.id == id) nodes

@@ -2,6 +2,7 @@
 
 ghost use Rattle.std.specs.Prelude.{◌≡◌, slice_index};
 ghost use Rattle.mp4_init.specs.Rows.{lower, node_of_row, track_of_row, upper};
+ghost use Rattle.mp4_init.specs.Seeking.{with_link};
 
 use crate::seek::{NOWHERE, Node};
 use crate::table::Track;
@@ -73,9 +74,10 @@ pub(crate) fn node_for(row: [u64; 8]) -> Node
 }
 
 /// The row of the same track, whose node leads to another place.
-#[tactic(auto, unfolding(crate::specs::Rows::track_of_row))]
+#[tactic(auto, unfolding(crate::specs::Rows::track_of_row, crate::specs::Rows::node_of_row))]
 pub(crate) fn linked_row(row: [u64; 8], is_odd: bool, to: usize) -> [u64; 8]
-    ensures { track_of_row result ≡ track_of_row row }
+    ensures track { track_of_row result ≡ track_of_row row }
+    ensures node { node_of_row result ≡ with_link is_odd to (node_of_row row) }
 {
     let to = to as u64;
     let (even, odd) = if is_odd { (row[5], to) } else { (to, row[6]) };

@@ -1,10 +1,11 @@
-//! Seeking a track_ID among nodes, in as many steps as it has bits at most.
+//! Seeking a track_ID among nodes by its bits.
 
-ghost use Rattle.std.specs.Prelude.{◌≡◌, ◌<◌, ◌%◌, List, length, slice_get, IfSome};
+ghost use Rattle.std.specs.Prelude.{◌≡◌, ◌<◌, List, length, slice_get, IfSome};
 ghost use Rattle.mp4_init.specs.declared.seek.Node.{Node};
-ghost use Rattle.mp4_init.specs.Seeking.{link_of, sought};
+ghost use Rattle.mp4_init.specs.Seeking.{ending, link_of, sought, EndsWithin};
 
-/// A track_ID, and where to go on from here for another: by the next bit of that, the lowest first.
+/// A track_ID, and where to go on from here for another: by the next bit of that, the lowest first. A node leads only
+/// ahead: any other place is none.
 #[derive(Clone, Copy)]
 pub struct Node {
     pub id: u32,
@@ -12,8 +13,26 @@ pub struct Node {
     pub odd: usize,
 }
 
-/// No node stands at such a place.
-pub(crate) const NOWHERE: usize = usize::MAX;
+/// No place: to the first node none leads.
+pub(crate) const NOWHERE: usize = 0;
+
+/// One of the two links of a node.
+#[derive(Clone, Copy)]
+pub(crate) struct Link {
+    pub(crate) at: usize,
+    pub(crate) is_odd: bool,
+}
+
+/// Where a search ends.
+#[derive(Clone, Copy)]
+pub(crate) enum Ending {
+    /// At the node of the track_ID.
+    Found(usize),
+    /// Behind the last node that was asked, by the link that leads to none.
+    Behind(Link),
+    /// No node was asked.
+    Unasked,
+}
 
 /// What holds nodes. The search begins at the first.
 pub trait Nodes {
@@ -24,62 +43,46 @@ pub trait Nodes {
         ensures { result ≡ slice_get (nodes self.now) at };
 }
 
-/// Where a node leads to by the lowest of these bits.
-fn next_of(node: Node, bits: u32) -> usize
-    ensures { result ≡ link_of (bits % 2) node }
+/// Where a link of a node leads to.
+fn next_of(node: Node, is_odd: bool) -> usize
+    ensures { result ≡ link_of is_odd node }
 {
-    if bits % 2 == 0 { node.even } else { node.odd }
+    if is_odd { node.odd } else { node.even }
+}
+
+/// Where the search for a track_ID ends.
+pub(crate) fn search<N: Nodes>(nodes: &N, id: u32) -> Ending
+    ensures ending { result ≡ ending (N.nodes nodes.now) id }
+    ensures within { EndsWithin (length (N.nodes nodes.now)) result }
+{
+    let mut ending = Ending::Unasked;
+    let mut at = 0;
+    let mut bits = id;
+    loop {
+        let Some(node) = nodes.node(at) else {
+            return ending;
+        };
+        if node.id == id {
+            return Ending::Found(at);
+        }
+        let is_odd = bits % 2 == 1;
+        ending = Ending::Behind(Link { at, is_odd });
+        let next = next_of(node, is_odd);
+        if next <= at {
+            return ending;
+        }
+        at = next;
+        bits /= 2;
+    }
 }
 
 /// The place of the node of this track_ID.
-#[tactic(auto, using(crate::proofs::Seeking::asked_none, crate::proofs::Seeking::within), unfolding(crate::specs::Seeking::sought))]
 pub(crate) fn seek<N: Nodes>(nodes: &N, id: u32) -> Option<usize>
     ensures place { result ≡ sought (N.nodes nodes.now) id }
     ensures within { IfSome result (λ at. at < length (N.nodes nodes.now)) }
 {
-    let mut at = 0;
-    let mut bits = id;
-    let mut turns = 33u32;
-    while turns > 0 {
-        let Some(node) = nodes.node(at) else {
-            return None;
-        };
-        if node.id == id {
-            return Some(at);
-        }
-        at = next_of(node, bits);
-        bits /= 2;
-        turns -= 1;
+    match search(nodes, id) {
+        Ending::Found(at) => Some(at),
+        Ending::Behind(_) | Ending::Unasked => None,
     }
-    None
-}
-
-/// A place at which a node can be linked to.
-#[derive(Clone, Copy)]
-pub(crate) struct Link {
-    pub(crate) at: usize,
-    pub(crate) is_odd: bool,
-}
-
-/// The link by which a new node of this track_ID is found; none where one has it already.
-#[tactic(auto, using(crate::proofs::Seeking::within))]
-pub(crate) fn free_link<N: Nodes>(nodes: &N, id: u32) -> Option<Link>
-    ensures { IfSome result (λ link. link.at < length (N.nodes nodes.now)) }
-{
-    let mut link = None;
-    let mut at = 0;
-    let mut bits = id;
-    for _turn in 0..33u32 {
-        let Some(node) = nodes.node(at) else {
-            return link;
-        };
-        if node.id == id {
-            return None;
-        }
-        let is_odd = bits % 2 != 0;
-        link = Some(Link { at, is_odd });
-        at = next_of(node, bits);
-        bits /= 2;
-    }
-    None
 }

@@ -8,7 +8,7 @@ ghost use Rattle.mp4_init.specs.Summaries.{all_told, id_by, root_id, summaries_i
 
 use crate::fields::number_behind_times;
 use crate::kinds::{MVEX, TKHD, TRAK, TREX};
-use crate::seek::{NOWHERE, Node, Nodes, free_link, seek};
+use crate::seek::{Ending, NOWHERE, Node, Nodes, search, seek};
 use crate::summary::{NOTHING, Source, Summary, id_in, tell};
 use mp4_box::{BoxRef, FourCc, Walk};
 
@@ -36,7 +36,7 @@ impl<const N: usize> Index<N> {
         if *used >= N {
             return;
         }
-        if let Some(link) = free_link(self, id) {
+        if let Ending::Behind(link) = search(self, id) {
             let mut node = self.nodes[link.at];
             if link.is_odd {
                 node.odd = *used;

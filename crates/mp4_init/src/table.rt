@@ -7,7 +7,7 @@ ghost use Rattle.mp4_init.specs.Rows.{node_of_row, track_of_row, with_next};
 ghost use Rattle.mp4_init.specs.Seeking.{IsIndexed};
 
 use crate::row::{ended_row, linked_row, node_for, row_for, track_for};
-use crate::seek::{Node, Nodes, free_link, seek};
+use crate::seek::{Ending, Node, Nodes, search, seek};
 use mp4_ledger::{Ledger, Rows64};
 use std::marker::Model;
 
@@ -36,13 +36,11 @@ pub struct Track {
 /// dropped.
 pub struct TrackList {
     rows: Rows64,
-    // Whether a search finds each track by its node. Where it doesn't, all are looked at.
-    is_indexed: bool,
 }
 
 // A contract sees the tracks, in the order of their traks.
 impl Model for TrackList {
-    ghost use Rattle.std.specs.Prelude.{◌≡◌, List, map, length, IsTrue};
+    ghost use Rattle.std.specs.Prelude.{◌≡◌, List, map, length};
     ghost use Rattle.mp4_init.specs.declared.table.Track.{Track};
     ghost use Rattle.mp4_init.specs.Rows.{node_of_row, track_of_row};
     ghost use Rattle.mp4_init.specs.Seeking.{IsIndexed};
@@ -52,7 +50,7 @@ impl Model for TrackList {
     ghost view = { λ l. map track_of_row l.rows.rows };
 
     ghost invariant = { λ l. (length l.rows.rows ≡ l.rows.cap) ×
-        (IsTrue l.is_indexed → IsIndexed (map node_of_row l.rows.rows)) };
+        IsIndexed (map node_of_row l.rows.rows) };
 }
 
 impl TrackList {
@@ -81,36 +79,19 @@ impl TrackList {
 
     /// The list of the tracks in the rows.
     pub(crate) fn of(rows: Rows64) -> TrackList
-        requires { length rows.rows ≡ rows.cap }
+        requires full { length rows.rows ≡ rows.cap }
+        requires indexed { IsIndexed (map node_of_row rows.rows) }
         ensures { result ≡ map track_of_row rows.rows }
     {
-        let is_indexed = is_indexed(&rows);
-        TrackList { rows, is_indexed }
+        TrackList { rows }
     }
 
-    /// The index of the track with this track_ID; none where no track has it. It asks at most 33 tracks, or all where
-    /// the search by bits doesn't lead to each.
+    /// The index of the track with this track_ID; none where no track has it. It asks one track for each of the 32 bits of
+    /// a track_ID at most, and one more.
     pub fn find(&self, id: u32) -> Option<usize>
         ensures { result ≡ position (λ t. t.id == id) self.now }
     {
-        if self.is_indexed {
-            return seek(&self.rows, id);
-        }
-        self.scan(id)
-    }
-
-    /// The same, by a look at each track.
-    fn scan(&self, id: u32) -> Option<usize>
-        ensures { result ≡ position (λ t. t.id == id) self.now }
-    {
-        let mut i = 0;
-        while i < self.len() {
-            if self.at(i).id == id {
-                return Some(i);
-            }
-            i += 1;
-        }
-        None
+        seek(&self.rows, id)
     }
 
     /// Sets where the last fragment of the track at this index ended.
@@ -129,10 +110,7 @@ impl TrackList {
         requires { 64 * length self ≤ ledger.old.live }
         ensures { ledger.new ≡ given_back ledger.old (64 * length self) }
     {
-        let TrackList {
-            rows,
-            is_indexed: _,
-        } = self;
+        let TrackList { rows } = self;
         ledger.back_rows(rows);
     }
 }
@@ -150,44 +128,20 @@ impl Nodes for Rows64 {
     }
 }
 
-/// Whether a search finds the track of each row.
-fn is_indexed(rows: &Rows64) -> bool
-    ensures { IsTrue result → IsIndexed (map node_of_row rows.now.rows) }
-{
-    let mut i = 0;
-    while i < rows.len() {
-        let Some(at) = seek(rows, node_for(rows.get(i)).id) else {
-            return false;
-        };
-        if at != i {
-            return false;
-        }
-        i += 1;
-    }
-    true
-}
-
-/// Links the node of the last row, so that a search finds it.
-fn link_last(rows: &mut Rows64, id: u32)
-    ensures tracks { map track_of_row rows.new.rows ≡ map track_of_row rows.old.rows }
-    ensures len { length rows.new.rows ≡ length rows.old.rows }
-    ensures cap { rows.new.cap ≡ rows.old.cap }
-{
-    let last = rows.len().saturating_sub(1);
-    if let Some(link) = free_link(rows, id) {
-        let row = linked_row(rows.get(link.at), link.is_odd, last);
-        rows.set(link.at, row);
-    }
-}
-
-/// Appends a track for which there is room.
-#[tactic(auto, using(crate::proofs::Listing::one_more))]
+/// Appends a track for which there is room, and links its node, so that a search finds it.
 pub(crate) fn push_track(rows: &mut Rows64, track: Track)
-    requires { length rows.old.rows < rows.old.cap }
+    requires room { length rows.old.rows < rows.old.cap }
+    requires indexed { IsIndexed (map node_of_row rows.old.rows) }
     ensures tracks { map track_of_row rows.new.rows ≡ map track_of_row rows.old.rows ++ track ∷ [] }
+    ensures indexed { IsIndexed (map node_of_row rows.new.rows) }
     ensures len { length rows.new.rows ≡ length rows.old.rows + 1 }
     ensures cap { rows.new.cap ≡ rows.old.cap }
 {
+    let ending = search(rows, track.id);
+    let last = rows.len();
     rows.push(row_for(track));
-    link_last(rows, track.id);
+    if let Ending::Behind(link) = ending {
+        let row = linked_row(rows.get(link.at), link.is_odd, last);
+        rows.set(link.at, row);
+    }
 }

@@ -1,11 +1,12 @@
-use Rattle.std.proofs.Common.{rules, subst, sym, ◌<◌, ◌≡◌, ◌∙◌, ap, List, ℕ, length, arith}
+use Rattle.std.proofs.Common.{rules, subst, sym, ◌≡◌, ◌∙◌, ap, List, ℕ, length, arith}
 use Rattle.std.specs.Prelude.{map}
 use Rattle.std.proofs.lemmas.List.{length-map}
 use Rattle.mp4_ledger.specs.Memory.{Rows}
 use Rattle.mp4_init.specs.declared.seek.Node.{Node}
 use Rattle.mp4_init.specs.Seeking.{IsIndexed}
 use Rattle.mp4_init.specs.Rows.{track_of_row, node_of_row, with_next}
-use Rattle.mp4_init.proofs.Listing.{set_row, same_nodes}
+use Rattle.std.proofs.Math.Seq.{map-set_same}
+use Rattle.mp4_init.proofs.Listing.{set_row}
 use Rattle.mp4_init.proofs.table.TrackList.set_next.Goals as goal
 
 pub returns-clause-next : goal.returns-clause-next
@@ -19,8 +20,7 @@ returns-clause-next c =
 pub invariant_of-self : goal.invariant_of-self
 invariant_of-self c =
     let rows = c.self.inside.rows.rows in
-    let within : c.args.i < length rows = omega (arith, c.requires, length-map rows track_of_row, ap length c.self.view_is) in
     let nodes : map node_of_row c.set.new.self.rows ≡ map node_of_row rows =
     ap (λ (t : Rows). map node_of_row t.rows) c.set.ensures
-    ∙ same_nodes rows c.args.i c.ended_row-row.result c.get.result within (c.ended_row-row.ensures.node ∙ ap node_of_row c.get.ensures) in
-    (search rules, λ t. subst (λ (ns : List Node). IsIndexed ns) (sym nodes) (c.self.invariant.1 t))
+    ∙ map-set_same node_of_row rows c.args.i c.ended_row-row.result c.get.result (c.ended_row-row.ensures.node ∙ ap node_of_row c.get.ensures) in
+    (search rules, subst (λ (ns : List Node). IsIndexed ns) (sym nodes) c.self.invariant.1)
