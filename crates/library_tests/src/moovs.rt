@@ -1,6 +1,6 @@
 //! Worked moovs: what no clause says is which of their bytes are which track or fault.
 //!
-//! - [`faults`]: moovs with a byte changed, or with more bytes, and what is at fault then;
+//! - [`faults`]: moovs with some bytes changed, or with more bytes, and what is at fault then;
 //! - [`lists`]: the tracks of moovs, and the table that they take.
 
 mod faults;

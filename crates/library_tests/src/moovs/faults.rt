@@ -1,39 +1,49 @@
 //! What is at fault with a moov.
 
-use super::{Told, check, fault, grown, told};
+use super::{Told, fault, grown, told};
 use mp4_box::Rule;
 use mp4_box::vectors::{V1, V2};
 use std::alloc::Global;
 use std::process::Abort;
 use std::test::Fail;
 
-/// V1's moov with one byte changed.
+/// A moov that begins at 20, with other bytes at these offsets.
+fn changed(alloc: Global, moov: &[u8], changes: &[(usize, u8)]) -> Result<Vec<u8>, Fail> {
+    let mut bytes = moov.to_vec(alloc)?;
+    for (at, byte) in changes {
+        let at = *at;
+        if at < 20 || at - 20 >= bytes.len() {
+            return Err("no such byte".into());
+        }
+        bytes.as_mut_slice()[at - 20] = *byte;
+    }
+    Ok(bytes)
+}
+
+/// What a moov comes to with each of these changes.
 fn check_changed(
     rt: &impl Abort,
     alloc: Global,
-    at: usize,
-    byte: u8,
-    expected: Told,
+    moov: &[u8],
+    rows: &[(&[(usize, u8)], Told)],
 ) -> Result<(), Fail> {
-    let mut bytes = *V1;
-    if at < 483 {
-        bytes[at] = byte;
+    for (changes, expected) in rows {
+        let bytes = changed(alloc, moov, changes)?;
+        assert_eq!(rt; told(alloc, bytes.as_slice()), *expected, "{changes:?}");
     }
-    assert_eq!(rt; told(alloc, &bytes[20..364]), expected, "{byte} at {at}");
     Ok(())
 }
 
-/// V1's moov with more bytes.
+/// What V1's moov comes to with more bytes at an offset, in boxes that grow by them.
 fn check_more(
     rt: &impl Abort,
     alloc: Global,
-    at: usize,
-    more: &[u8],
-    parents: &[usize],
-    expected: Told,
+    rows: &[(usize, &[u8], &[usize], Told)],
 ) -> Result<(), Fail> {
-    let moov = grown(alloc, &V1.as_slice()[20..364], at, more, parents)?;
-    assert_eq!(rt; told(alloc, moov.as_slice()), expected, "{more:?} at {at}");
+    for (at, more, parents, expected) in rows {
+        let moov = grown(alloc, &V1.as_slice()[20..364], *at, more, parents)?;
+        assert_eq!(rt; told(alloc, moov.as_slice()), *expected, "{more:?} at {at}");
+    }
     Ok(())
 }
 
@@ -42,269 +52,183 @@ const TABLES: &[usize] = &[20, 136, 236, 276, 284];
 
 #[test]
 fn boxes_are_missing(rt: HostRuntime) -> Result<(), Fail> {
-    let mut bytes = *V1;
-    bytes[328..332].copy_from_slice(b"free");
-    check(
-        &rt,
-        rt.alloc(),
-        &bytes[20..364],
-        fault(Rule::Missing, b"moov", 20),
-    )?;
+    // Each is missing in its parent, with one letter of its type changed. Without a trex the track is not known.
     // A version that isn't known comes after what is missing, wherever that stands.
-    bytes[152] = 2;
-    check(
-        &rt,
-        rt.alloc(),
-        &bytes[20..364],
-        fault(Rule::Missing, b"moov", 20),
-    )?;
-    // Each is missing in its parent, with one letter of its type changed.
-    check_changed(&rt, rt.alloc(), 148, 0, fault(Rule::Missing, b"trak", 136))?;
-    check_changed(&rt, rt.alloc(), 240, 0, fault(Rule::Missing, b"trak", 136))?;
-    check_changed(&rt, rt.alloc(), 248, 0, fault(Rule::Missing, b"mdia", 236))?;
-    check_changed(&rt, rt.alloc(), 280, 0, fault(Rule::Missing, b"mdia", 236))?;
-    check_changed(&rt, rt.alloc(), 288, 0, fault(Rule::Missing, b"minf", 276))?;
-    check_changed(&rt, rt.alloc(), 296, 0, fault(Rule::Missing, b"stbl", 284))?;
-    // Without a trex the track is not known.
     check_changed(
         &rt,
         rt.alloc(),
-        336,
-        0,
-        fault(Rule::UnknownTrack, b"tkhd", 144),
-    )?;
-    Ok(())
+        &V1.as_slice()[20..364],
+        &[
+            (&[(328, 0)], fault(Rule::Missing, b"moov", 20)),
+            (&[(328, 0), (152, 2)], fault(Rule::Missing, b"moov", 20)),
+            (&[(148, 0)], fault(Rule::Missing, b"trak", 136)),
+            (&[(240, 0)], fault(Rule::Missing, b"trak", 136)),
+            (&[(248, 0)], fault(Rule::Missing, b"mdia", 236)),
+            (&[(280, 0)], fault(Rule::Missing, b"mdia", 236)),
+            (&[(288, 0)], fault(Rule::Missing, b"minf", 276)),
+            (&[(296, 0)], fault(Rule::Missing, b"stbl", 284)),
+            (&[(336, 0)], fault(Rule::UnknownTrack, b"tkhd", 144)),
+        ],
+    )
 }
 
 #[test]
 fn boxes_stand_twice(rt: HostRuntime) -> Result<(), Fail> {
     let v1 = V1.as_slice();
-    check_more(
-        &rt,
-        rt.alloc(),
-        364,
-        &v1[324..364],
-        &[20],
-        fault(Rule::Twice, b"mvex", 364),
-    )?;
-    check_more(
-        &rt,
-        rt.alloc(),
-        236,
-        &v1[144..236],
-        &[20, 136],
-        fault(Rule::Twice, b"tkhd", 236),
-    )?;
-    check_more(
-        &rt,
-        rt.alloc(),
-        276,
-        &v1[244..276],
-        &[20, 136, 236],
-        fault(Rule::Twice, b"mdhd", 276),
-    )?;
-    check_more(
-        &rt,
-        rt.alloc(),
-        324,
-        &v1[276..324],
-        &[20, 136, 236],
-        fault(Rule::Twice, b"minf", 324),
-    )?;
-    check_more(
-        &rt,
-        rt.alloc(),
-        324,
-        &v1[292..324],
-        TABLES,
-        fault(Rule::Twice, b"stsd", 324),
-    )?;
     // A tkhd in another place is looked at by no rule but those of the tree.
-    check_more(&rt, rt.alloc(), 324, b"\0\0\0\x08tkhd", TABLES, Some(Ok(1)))?;
-    Ok(())
+    check_more(
+        &rt,
+        rt.alloc(),
+        &[
+            (364, &v1[324..364], &[20], fault(Rule::Twice, b"mvex", 364)),
+            (
+                236,
+                &v1[144..236],
+                &[20, 136],
+                fault(Rule::Twice, b"tkhd", 236),
+            ),
+            (
+                276,
+                &v1[244..276],
+                &[20, 136, 236],
+                fault(Rule::Twice, b"mdhd", 276),
+            ),
+            (
+                324,
+                &v1[276..324],
+                &[20, 136, 236],
+                fault(Rule::Twice, b"minf", 324),
+            ),
+            (324, &v1[292..324], TABLES, fault(Rule::Twice, b"stsd", 324)),
+            (324, b"\0\0\0\x08tkhd", TABLES, Some(Ok(1))),
+        ],
+    )
 }
 
 #[test]
-fn versions_and_lengths(rt: HostRuntime) -> Result<(), Fail> {
-    check_changed(&rt, rt.alloc(), 152, 2, fault(Rule::Version, b"tkhd", 144))?;
+fn versions(rt: HostRuntime) -> Result<(), Fail> {
+    // Version 1 is longer. The versions of an stsd and of a trex aren't looked at.
     check_changed(
         &rt,
         rt.alloc(),
-        252,
-        255,
-        fault(Rule::Version, b"mdhd", 244),
-    )?;
-    // Version 1 is longer.
-    check_changed(
-        &rt,
-        rt.alloc(),
-        152,
-        1,
-        fault(Rule::FieldLength, b"tkhd", 144),
-    )?;
-    // The versions of an stsd and of a trex aren't looked at.
-    check_changed(&rt, rt.alloc(), 300, 2, Some(Ok(1)))?;
-    check_changed(&rt, rt.alloc(), 340, 2, Some(Ok(1)))?;
-    check_more(
-        &rt,
-        rt.alloc(),
-        364,
-        b"\0",
-        &[20, 324, 332],
-        fault(Rule::FieldLength, b"trex", 332),
-    )?;
-    check_more(
-        &rt,
-        rt.alloc(),
-        324,
-        b"\0\0\0\x0fstts\0\0\0\0\0\0\0",
-        TABLES,
-        fault(Rule::FieldLength, b"stts", 324),
-    )?;
-    check_more(
-        &rt,
-        rt.alloc(),
-        324,
-        b"\0\0\0\x10stsz\0\0\0\0\0\0\0\0",
-        TABLES,
-        fault(Rule::FieldLength, b"stsz", 324),
+        &V1.as_slice()[20..364],
+        &[
+            (&[(152, 2)], fault(Rule::Version, b"tkhd", 144)),
+            (&[(252, 255)], fault(Rule::Version, b"mdhd", 244)),
+            (&[(152, 1)], fault(Rule::FieldLength, b"tkhd", 144)),
+            (&[(300, 2)], Some(Ok(1))),
+            (&[(340, 2)], Some(Ok(1))),
+        ],
     )?;
     // Of two boxes that break one rule the one that begins first is named; a bad size comes before both.
-    let mut bytes = *V2;
-    bytes[252] = 2;
-    bytes[340] = 2;
-    check(
+    check_changed(
         &rt,
         rt.alloc(),
-        &bytes[20..584],
-        fault(Rule::Version, b"mdhd", 244),
-    )?;
-    bytes[555] = 33;
-    check(
+        &V2.as_slice()[20..584],
+        &[
+            (&[(252, 2), (340, 2)], fault(Rule::Version, b"mdhd", 244)),
+            (
+                &[(252, 2), (340, 2), (555, 33)],
+                fault(Rule::BadSize, b"trex", 552),
+            ),
+        ],
+    )
+}
+
+#[test]
+fn lengths(rt: HostRuntime) -> Result<(), Fail> {
+    let stts = b"\0\0\0\x0fstts\0\0\0\0\0\0\0";
+    let stsz = b"\0\0\0\x10stsz\0\0\0\0\0\0\0\0";
+    check_more(
         &rt,
         rt.alloc(),
-        &bytes[20..584],
-        fault(Rule::BadSize, b"trex", 552),
-    )?;
-    Ok(())
+        &[
+            (
+                364,
+                b"\0",
+                &[20, 324, 332],
+                fault(Rule::FieldLength, b"trex", 332),
+            ),
+            (324, stts, TABLES, fault(Rule::FieldLength, b"stts", 324)),
+            (324, stsz, TABLES, fault(Rule::FieldLength, b"stsz", 324)),
+        ],
+    )
 }
 
 #[test]
 fn sample_entries(rt: HostRuntime) -> Result<(), Fail> {
-    // More are counted than stand there, or fewer.
-    let mut bytes = *V1;
-    bytes[307] = 2;
-    check(
-        &rt,
-        rt.alloc(),
-        &bytes[20..364],
-        fault(Rule::FieldLength, b"stsd", 292),
-    )?;
-    bytes[304..308].copy_from_slice(b"\xff\xff\xff\xff");
-    check(
-        &rt,
-        rt.alloc(),
-        &bytes[20..364],
-        fault(Rule::FieldLength, b"stsd", 292),
-    )?;
-    check_changed(&rt, rt.alloc(), 307, 0, Some(Ok(1)))?;
-    // The entry has no room for its header, runs to the end, passes the end, or has a payload of seven bytes.
+    let all = &[(304, 255), (305, 255), (306, 255), (307, 255)];
+    // More are counted than stand there, or fewer. Then the entry has no room for its header, runs to the end, passes
+    // the end, or has a payload of seven bytes.
     check_changed(
         &rt,
         rt.alloc(),
-        311,
-        7,
-        fault(Rule::FieldLength, b"stsd", 292),
-    )?;
-    check_changed(
-        &rt,
-        rt.alloc(),
-        311,
-        0,
-        fault(Rule::FieldLength, b"stsd", 292),
-    )?;
-    check_changed(
-        &rt,
-        rt.alloc(),
-        311,
-        17,
-        fault(Rule::FieldLength, b"stsd", 292),
-    )?;
-    check_changed(
-        &rt,
-        rt.alloc(),
-        311,
-        15,
-        fault(Rule::FieldLength, b"stsd", 292),
-    )?;
-    Ok(())
+        &V1.as_slice()[20..364],
+        &[
+            (&[(307, 2)], fault(Rule::FieldLength, b"stsd", 292)),
+            (all, fault(Rule::FieldLength, b"stsd", 292)),
+            (&[(307, 0)], Some(Ok(1))),
+            (&[(311, 7)], fault(Rule::FieldLength, b"stsd", 292)),
+            (&[(311, 0)], fault(Rule::FieldLength, b"stsd", 292)),
+            (&[(311, 17)], fault(Rule::FieldLength, b"stsd", 292)),
+            (&[(311, 15)], fault(Rule::FieldLength, b"stsd", 292)),
+        ],
+    )
 }
 
 #[test]
 fn tables_of_samples(rt: HostRuntime) -> Result<(), Fail> {
-    let one = b"\0\0\0\x10stts\0\0\0\0\0\0\0\x01";
-    check_more(
-        &rt,
-        rt.alloc(),
-        324,
-        one,
-        TABLES,
-        fault(Rule::SamplesInMoov, b"stts", 324),
-    )?;
-    let none = b"\0\0\0\x10stco\0\0\0\0\0\0\0\0";
-    check_more(&rt, rt.alloc(), 324, none, TABLES, Some(Ok(1)))?;
+    let stts = b"\0\0\0\x10stts\0\0\0\0\0\0\0\x01";
+    let stco = b"\0\0\0\x10stco\0\0\0\0\0\0\0\0";
     // The count of these two stands behind another field.
-    let one = b"\0\0\0\x14stsz\0\0\0\0\0\0\0\0\0\0\0\x01";
+    let stsz = b"\0\0\0\x14stsz\0\0\0\0\0\0\0\0\0\0\0\x01";
+    let stz2 = b"\0\0\0\x14stz2\0\0\0\0\0\0\0\x08\0\0\0\0";
     check_more(
         &rt,
         rt.alloc(),
-        324,
-        one,
-        TABLES,
-        fault(Rule::SamplesInMoov, b"stsz", 324),
-    )?;
-    let none = b"\0\0\0\x14stz2\0\0\0\0\0\0\0\x08\0\0\0\0";
-    check_more(&rt, rt.alloc(), 324, none, TABLES, Some(Ok(1)))?;
-    Ok(())
+        &[
+            (324, stts, TABLES, fault(Rule::SamplesInMoov, b"stts", 324)),
+            (324, stco, TABLES, Some(Ok(1))),
+            (324, stsz, TABLES, fault(Rule::SamplesInMoov, b"stsz", 324)),
+            (324, stz2, TABLES, Some(Ok(1))),
+        ],
+    )
 }
 
 #[test]
 fn track_ids(rt: HostRuntime) -> Result<(), Fail> {
     let v1 = V1.as_slice();
+    // Values are looked at after the boxes.
     check_changed(
         &rt,
         rt.alloc(),
-        347,
-        2,
-        fault(Rule::UnknownTrack, b"tkhd", 144),
+        &v1[20..364],
+        &[
+            (&[(347, 2)], fault(Rule::UnknownTrack, b"tkhd", 144)),
+            (
+                &[(347, 2), (307, 2)],
+                fault(Rule::FieldLength, b"stsd", 292),
+            ),
+        ],
     )?;
-    let mut bytes = *V2;
-    bytes[355] = 1;
-    check(
+    check_changed(
         &rt,
         rt.alloc(),
-        &bytes[20..584],
-        fault(Rule::UnknownTrack, b"tkhd", 332),
+        &V2.as_slice()[20..584],
+        &[(&[(355, 1)], fault(Rule::UnknownTrack, b"tkhd", 332))],
     )?;
+    let other = b"\0\0\0\x20trex\0\0\0\0\0\0\0\x09\0\0\0\x01\0\0\0\0\0\0\0\0\0\0\0\0";
     check_more(
         &rt,
         rt.alloc(),
-        364,
-        &v1[332..364],
-        &[20, 324],
-        fault(Rule::UnknownTrack, b"tkhd", 144),
-    )?;
-    let other = b"\0\0\0\x20trex\0\0\0\0\0\0\0\x09\0\0\0\x01\0\0\0\0\0\0\0\0\0\0\0\0";
-    check_more(&rt, rt.alloc(), 364, other, &[20, 324], Some(Ok(1)))?;
-    // Values are looked at after the boxes.
-    let mut bytes = *V1;
-    bytes[347] = 2;
-    bytes[307] = 2;
-    check(
-        &rt,
-        rt.alloc(),
-        &bytes[20..364],
-        fault(Rule::FieldLength, b"stsd", 292),
-    )?;
-    Ok(())
+        &[
+            (
+                364,
+                &v1[332..364],
+                &[20, 324],
+                fault(Rule::UnknownTrack, b"tkhd", 144),
+            ),
+            (364, other, &[20, 324], Some(Ok(1))),
+        ],
+    )
 }
