@@ -1,12 +1,11 @@
 //! Lists the boxes of an MP4 stream (ISO/IEC 14496-12), which is read from standard input.
 #![tactic(auto)]
 
-mod program;
 #[cfg(test)]
 mod tests;
 
+use fmp4_program::run;
 use mp4_stream::{FromRead, IntoWrite};
-use program::run;
 use std::env;
 use std::process::ExitCode;
 

@@ -7,7 +7,7 @@ mod listings;
 mod memory;
 mod words;
 
-use crate::program::run;
+use fmp4_program::run;
 use mp4_stream::ends::{FromSlice, ToVec};
 use std::alloc::{AllocError, Global};
 use std::process::Abort;

@@ -15,13 +15,13 @@ use std::test::Fail;
 #[test]
 fn fields(rt: HostRuntime) {
     let bytes = b"\x01\x00\x0f\x01\xff\xff\xfe\x00\x7f\xff\xff\xff".as_slice();
-    assert_eq!(rt; full(bytes), Some((1, 0x000f01)));
-    assert_eq!(rt; full(&bytes[..4]), Some((1, 0x000f01)));
-    assert_eq!(rt; full(&bytes[..3]), None);
-    assert_eq!(rt; u32_at(bytes, 4), 0xfffffe00);
-    assert_eq!(rt; i32_at(bytes, 4), -512);
-    assert_eq!(rt; i32_at(bytes, 8), 2147483647);
-    assert_eq!(rt; u64_at(bytes, 4), 0xfffffe007fffffff);
+    let heads = (full(bytes), full(&bytes[..4]), full(&bytes[..3]));
+    assert_eq!(rt; heads, (Some((1, 0x000f01)), Some((1, 0x000f01)), None));
+    assert_eq!(rt;
+        (u32_at(bytes, 4), u64_at(bytes, 4)),
+        (0xfffffe00, 0xfffffe007fffffff)
+    );
+    assert_eq!(rt; (i32_at(bytes, 4), i32_at(bytes, 8)), (-512, 2147483647));
 }
 
 #[test]
@@ -33,9 +33,12 @@ fn headers(rt: HostRuntime) {
         header_len: 16,
     };
     let long = b"\0\0\0\x01mdat\0\0\0\x01\0\0\0\x08\x05\x06".as_slice();
-    assert_eq!(rt; header_of(long), Ok(header));
-    assert_eq!(rt; header_of(&long[..15]), Err(Rule::Truncated));
-    assert_eq!(rt; header_of(b"\0\0\0\x07free"), Err(Rule::BadSize));
+    let short = header_of(b"\0\0\0\x07free");
+    assert_eq!(rt;
+        (header_of(long), header_of(&long[..15])),
+        (Ok(header), Err(Rule::Truncated))
+    );
+    assert_eq!(rt; short, Err(Rule::BadSize));
     assert_eq!(rt; FourCc(*b"f\x7fe\x1f").shown(), *b"f?e?");
     assert_eq!(rt;
         (Rule::RunPlace.number(), Rule::RunPlace.name()),

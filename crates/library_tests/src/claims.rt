@@ -122,61 +122,81 @@ fn claims_of_a_limit_of_100(rt: HostRuntime) {
     assert_eq!(rt; (ledger.live(), ledger.peak()), (0, 40));
 }
 
-/// A buffer of so many bytes is refused so; or where it isn't, it is given back.
-fn check_buf(
-    rt: &impl Abort,
-    ledger: &mut Ledger,
-    cap: u64,
-    expected: Option<Refused>,
-) -> Result<(), Fail> {
-    let refused = match ledger.buf(cap) {
-        Ok(buf) => {
-            ledger.back(buf);
-            None
-        }
-        Err(refused) => Some(refused),
-    };
-    assert_eq!(rt; refused, expected, "{cap} bytes");
-    Ok(())
+/// A buffer of so many bytes, or a table of so many rows.
+#[derive(Clone, Copy, Debug)]
+enum Claim {
+    Bytes(u64),
+    Rows(u64),
 }
 
-fn check_rows(
+/// Why a claim is refused. What isn't refused is given back.
+fn refused(ledger: &mut Ledger, claim: Claim) -> Option<Refused> {
+    match claim {
+        Claim::Bytes(cap) => match ledger.buf(cap) {
+            Ok(buf) => {
+                ledger.back(buf);
+                None
+            }
+            Err(refused) => Some(refused),
+        },
+        Claim::Rows(n) => match ledger.rows(n) {
+            Ok(rows) => {
+                ledger.back_rows(rows);
+                None
+            }
+            Err(refused) => Some(refused),
+        },
+    }
+}
+
+/// Why each of these claims is refused under a limit.
+fn check_claims(
     rt: &impl Abort,
     ledger: &mut Ledger,
-    n: u64,
-    expected: Option<Refused>,
+    rows: &[(Claim, Option<Refused>)],
 ) -> Result<(), Fail> {
-    let refused = match ledger.rows(n) {
-        Ok(rows) => {
-            ledger.back_rows(rows);
-            None
-        }
-        Err(refused) => Some(refused),
-    };
-    assert_eq!(rt; refused, expected, "{n} rows");
+    for (claim, expected) in rows {
+        assert_eq!(rt; refused(ledger, *claim), *expected, "{claim:?}");
+    }
     Ok(())
 }
 
 #[test]
 fn claims_at_the_ends(rt: HostRuntime) -> Result<(), Fail> {
-    let mut none = Ledger::new(rt.alloc(), 0);
-    check_buf(&rt, &mut none, 0, None)?;
-    check_rows(&rt, &mut none, 0, None)?;
-    check_buf(&rt, &mut none, 1, Some(Refused::OverLimit))?;
-    check_rows(&rt, &mut none, 1, Some(Refused::OverLimit))?;
-    // No machine has so much: within the limit it is the allocator that refuses, and nothing is claimed.
+    check_claims(
+        &rt,
+        &mut Ledger::new(rt.alloc(), 0),
+        &[
+            (Claim::Bytes(0), None),
+            (Claim::Rows(0), None),
+            (Claim::Bytes(1), Some(Refused::OverLimit)),
+            (Claim::Rows(1), Some(Refused::OverLimit)),
+        ],
+    )?;
+    // No machine has so much: within the limit it is the allocator that refuses. 2^58 rows take 2^64 bytes, which
+    // passes every limit. Nothing is claimed.
     let mut all = Ledger::new(rt.alloc(), u64::MAX);
-    check_buf(&rt, &mut all, 1 << 62, Some(Refused::Memory))?;
-    check_rows(&rt, &mut all, 1 << 56, Some(Refused::Memory))?;
-    check_buf(&rt, &mut all, u64::MAX, Some(Refused::Memory))?;
-    check_rows(&rt, &mut all, 1 << 57, Some(Refused::Memory))?;
+    check_claims(
+        &rt,
+        &mut all,
+        &[
+            (Claim::Bytes(1 << 62), Some(Refused::Memory)),
+            (Claim::Rows(1 << 56), Some(Refused::Memory)),
+            (Claim::Bytes(u64::MAX), Some(Refused::Memory)),
+            (Claim::Rows(1 << 57), Some(Refused::Memory)),
+            (Claim::Rows(1 << 58), Some(Refused::OverLimit)),
+            (Claim::Rows(u64::MAX), Some(Refused::OverLimit)),
+        ],
+    )?;
     assert_eq!(rt; (all.live(), all.peak()), (0, 0));
-    // 2^58 rows take 2^64 bytes, which passes every limit.
-    check_rows(&rt, &mut all, 1 << 58, Some(Refused::OverLimit))?;
-    check_rows(&rt, &mut all, u64::MAX, Some(Refused::OverLimit))?;
-    let mut less = Ledger::new(rt.alloc(), u64::MAX - 1);
-    check_buf(&rt, &mut less, u64::MAX, Some(Refused::OverLimit))?;
-    check_rows(&rt, &mut less, 1 << 58, Some(Refused::OverLimit))
+    check_claims(
+        &rt,
+        &mut Ledger::new(rt.alloc(), u64::MAX - 1),
+        &[
+            (Claim::Bytes(u64::MAX), Some(Refused::OverLimit)),
+            (Claim::Rows(1 << 58), Some(Refused::OverLimit)),
+        ],
+    )
 }
 
 #[test]

@@ -27,41 +27,43 @@ impl io::Write for Interrupted {
 fn an_interrupted_read_is_a_failure(rt: HostRuntime) {
     let mut r = FromRead::new(Interrupted);
     let mut into = [0; 4];
-    assert_eq!(rt; (r.failed(), r.ended()), (false, false));
-    assert_eq!(rt; r.read(&mut into), Err(Failed));
-    assert_eq!(rt; (r.failed(), r.ended()), (true, false));
-    assert_eq!(rt; r.read(&mut into), Err(Failed));
+    let new = (r.failed(), r.ended());
+    let first = r.read(&mut into);
+    let then = (r.failed(), r.ended());
+    let second = r.read(&mut into);
+    assert_eq!(rt; (new, then), ((false, false), (true, false)));
+    assert_eq!(rt; (first, second), (Err(Failed), Err(Failed)));
 }
 
 #[test]
 fn a_reader_gives_its_bytes_and_ends(rt: HostRuntime) {
     let mut r = FromRead::new(b"abc".as_slice());
     let mut into = [0; 4];
-    assert_eq!(rt; r.read(&mut into), Ok(3));
+    let first = (r.read(&mut into), r.failed(), r.ended());
+    let second = (r.read(&mut into), r.failed(), r.ended());
+    assert_eq!(rt;
+        (first, second),
+        ((Ok(3), false, false), (Ok(0), false, true))
+    );
     assert_eq!(rt; into, *b"abc\0");
-    assert_eq!(rt; (r.failed(), r.ended()), (false, false));
-    assert_eq!(rt; r.read(&mut into), Ok(0));
-    assert_eq!(rt; (r.failed(), r.ended()), (false, true));
 }
 
 #[test]
 fn an_interrupted_write_is_a_failure(rt: HostRuntime) {
     let mut w = IntoWrite::new(Interrupted);
-    assert_eq!(rt; w.write(b"abc"), Err(Failed));
-    assert_eq!(rt; w.failed(), true);
+    let write = (w.write(b"abc"), w.failed());
     let mut w = IntoWrite::new(Interrupted);
-    assert_eq!(rt; w.flush(), Err(Failed));
-    assert_eq!(rt; w.failed(), true);
+    let flush = (w.flush(), w.failed());
+    assert_eq!(rt; (write, flush), ((Err(Failed), true), (Err(Failed), true)));
 }
 
 #[test]
 fn a_writer_takes_bytes_until_it_takes_none(rt: HostRuntime) {
     let mut taken = [0; 4];
     let mut w = IntoWrite::new(taken.as_mut_slice());
-    assert_eq!(rt; write_all(&mut w, b"abc"), Ok(()));
-    assert_eq!(rt; w.flush(), Ok(()));
-    assert_eq!(rt; w.write(b"de"), Ok(1));
-    assert_eq!(rt; w.failed(), false);
-    assert_eq!(rt; w.write(b"e"), Err(Failed));
-    assert_eq!(rt; w.failed(), true);
+    let first = (write_all(&mut w, b"abc"), w.flush(), w.failed());
+    let second = (w.write(b"de"), w.failed());
+    let third = (w.write(b"e"), w.failed());
+    assert_eq!(rt; first, (Ok(()), Ok(()), false));
+    assert_eq!(rt; (second, third), ((Ok(1), false), (Err(Failed), true)));
 }

@@ -1,6 +1,6 @@
 //! Worked moovs: what no clause says is which of their bytes are which track or fault.
 //!
-//! - [`faults`]: moovs with some bytes changed, or with more bytes, and what is at fault then;
+//! - [`faults`]: moovs with a byte changed, or with more bytes, and what is at fault then;
 //! - [`lists`]: the tracks of moovs, and the table that they take.
 
 mod faults;
@@ -41,6 +41,13 @@ fn check(rt: &impl Abort, alloc: Global, moov: &[u8], expected: Told) -> Result<
     Ok(())
 }
 
+fn push_all(bytes: &mut Vec<u8>, parts: &[&[u8]]) -> Result<(), Fail> {
+    for part in parts {
+        bytes.extend_from_slice(part)?;
+    }
+    Ok(())
+}
+
 /// A moov that begins at 20, with more bytes at this offset, and the boxes at the other offsets grown by them.
 fn grown(
     alloc: Global,
@@ -53,9 +60,7 @@ fn grown(
         return Err("no such moov".into());
     }
     let mut bytes = Vec::new(alloc);
-    bytes.extend_from_slice(&moov[..at - 20])?;
-    bytes.extend_from_slice(more)?;
-    bytes.extend_from_slice(&moov[at - 20..])?;
+    push_all(&mut bytes, &[&moov[..at - 20], more, &moov[at - 20..]])?;
     for parent in parents {
         let begin = *parent;
         if begin < 20 || begin > 1000 || bytes.len() < begin {

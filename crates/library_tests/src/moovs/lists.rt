@@ -2,7 +2,7 @@
 
 ghost use Rattle.std.specs.Prelude.{◌*◌, ◌≤◌, length, IfSome};
 
-use super::{check, fault, grown};
+use super::{check, fault, grown, push_all};
 use mp4_box::vectors::{V1, V2};
 use mp4_box::{Rule, is_box};
 use mp4_init::{InitStop, Track, TrackList, tracks};
@@ -137,13 +137,15 @@ fn the_longer_layouts(rt: HostRuntime) -> Result<(), Fail> {
 
 /// The smallest trak of a track_ID.
 fn push_trak(bytes: &mut Vec<u8>, id: u32) -> Result<(), Fail> {
-    bytes.extend_from_slice(b"\0\0\0\xactrak\0\0\0\x5ctkhd\0\0\0\0\0\0\0\0\0\0\0\0")?;
-    bytes.extend_from_slice(&id.to_be_bytes())?;
-    bytes.extend_from_slice(&[0; 68])?;
-    bytes.extend_from_slice(b"\0\0\0\x48mdia\0\0\0\x20mdhd")?;
-    bytes.extend_from_slice(&[0; 24])?;
-    bytes.extend_from_slice(b"\0\0\0\x20minf\0\0\0\x18stbl\0\0\0\x10stsd\0\0\0\0\0\0\0\0")?;
-    Ok(())
+    let parts: &[&[u8]] = &[
+        b"\0\0\0\xactrak\0\0\0\x5ctkhd\0\0\0\0\0\0\0\0\0\0\0\0",
+        &id.to_be_bytes(),
+        &[0; 68],
+        b"\0\0\0\x48mdia\0\0\0\x20mdhd",
+        &[0; 24],
+        b"\0\0\0\x20minf\0\0\0\x18stbl\0\0\0\x10stsd\0\0\0\0\0\0\0\0",
+    ];
+    push_all(bytes, parts)
 }
 
 /// A moov of so many of the smallest traks, each with its trex, the trexes from last to first.

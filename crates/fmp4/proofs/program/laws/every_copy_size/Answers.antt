@@ -1,8 +1,0 @@
-use Rattle.fmp4.proofs.CopySizes.{command_of-inside, command_of-outside}
-use Rattle.fmp4.proofs.program.laws.every_copy_size.Goals as goal
-
-pub returns-clause-inside : goal.returns-clause-inside
-returns-clause-inside c = command_of-inside
-
-pub returns-clause-outside : goal.returns-clause-outside
-returns-clause-outside c = command_of-outside

@@ -1,4 +1,0 @@
-use Rattle.fmp4.proofs.program.lines.stop_line.Goals as goal
-
-pub returns-in-OverLimit : goal.returns-in-OverLimit
-returns-in-OverLimit c = rw c.in-OverLimit.is c.plain_line-in-OverLimit.ensures

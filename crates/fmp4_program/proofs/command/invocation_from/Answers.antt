@@ -1,0 +1,22 @@
+use Rattle.std.proofs.Common.{◌≡◌, rules, refl, codes, true, false}
+use Rattle.std.specs.Str.{bytes_eq}
+use Rattle.fmp4_program.specs.Words.{invocation_of}
+use Rattle.fmp4_program.proofs.command.invocation_from.Goals as goal
+
+pub returns-in_err-settings_from-clause-value : goal.returns-in_err-settings_from-clause-value
+unfolding invocation_of
+returns-in_err-settings_from-clause-value c =
+    let is_boxes : bytes_eq c.args.name.now (codes "boxes") ≡ true = search rules in
+    rw (is_boxes, ← c.in_err-settings_from.ensures.value) (search rules)
+
+pub returns-then-eq-clause-value : goal.returns-then-eq-clause-value
+unfolding invocation_of
+returns-then-eq-clause-value c =
+    let is_boxes : bytes_eq c.args.name.now (codes "boxes") ≡ true = search rules in
+    rw (is_boxes, ← c.in_ok-settings_from.ensures.value) refl
+
+pub returns-clause-value : goal.returns-clause-value
+unfolding invocation_of
+returns-clause-value c =
+    let not_boxes : bytes_eq c.args.name.now (codes "boxes") ≡ false = search rules in
+    rw not_boxes refl

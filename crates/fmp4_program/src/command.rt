@@ -1,0 +1,136 @@
+//! The command line, as words.
+ghost use Rattle.std.specs.Prelude.{◌≡◌, ◌≤◌, ◌↔◌, false, option_and_then, option_map, Some, None, IfOk, IfErr, IfSome, codes, map, string_bytes};
+ghost use Rattle.clap.specs.Words.{app_of, first_of, found_of, kind_of, rows_of, rule_of, subcommand_rows_of};
+ghost use Rattle.clap.specs.declared.builder.command.Command.TheViews.{out-Command};
+ghost use Rattle.fmp4_program.specs.Words.{IsAllowed, carried_settings, command_of, invocation_of, number_in, number_or, program_app, settings_app, settings_of, valued_rule};
+
+use crate::asked::{Invocation, Settings};
+use clap::error::ErrorKind;
+use clap::{Arg, ArgAction, ArgMatches, Command, Error};
+use std::alloc::{AllocError, Global};
+
+/// Why there is no command to carry out.
+#[derive(Clone, Copy, Debug, PartialEq, Eq)]
+pub enum NoCommand {
+    /// The words ask for nothing that this program does; a call for help is among these.
+    BadWords,
+    /// The memory ran out before the words were understood.
+    Memory,
+}
+
+fn number_in(text: &str, least: u64, most: u64) -> Option<u64>
+    ensures value { result ≡ number_in least most text.now }
+    ensures low { IfSome result (λ number. least ≤ number) }
+    ensures high { IfSome result (λ number. number ≤ most) }
+{
+    match text.parse::<u64>() {
+        Ok(number) if least <= number && number <= most => Some(number),
+        _ => None,
+    }
+}
+
+fn entered_text<'b>(matches: &ArgMatches<'b>, id: &str) -> Option<&'b str>
+    ensures { option_map (λ text. text.now) result ≡ first_of id.now
+        (rows_of (found_of matches.now)) }
+{
+    matches.get_str(id)
+}
+
+fn number_or(matches: &ArgMatches<'_>, id: &str, usual: u64, least: u64, most: u64) -> Option<u64>
+    requires low { least ≤ usual }
+    requires high { usual ≤ most }
+    ensures value { result ≡ number_or usual least most id.now (rows_of (found_of matches.now)) }
+    ensures low { IfSome result (λ number. least ≤ number) }
+    ensures high { IfSome result (λ number. number ≤ most) }
+{
+    match entered_text(matches, id) {
+        Some(text) => number_in(text, least, most),
+        None => Some(usual),
+    }
+}
+
+fn settings_from(matches: &ArgMatches<'_>) -> Option<Settings>
+    ensures value { result ≡ settings_of (rows_of (found_of matches.now)) }
+    ensures ranges { IfSome result IsAllowed }
+{
+    let copy = number_or(matches, "copy", 65536, 4096, 1048576)?;
+    let max_held = number_or(matches, "max-held", 536870912, 1, 1 << 62)?;
+    Some(Settings {
+        copy: copy as u32,
+        max_held,
+    })
+}
+
+fn invocation_from(name: &str, matches: &ArgMatches<'_>) -> Option<Invocation>
+    ensures value { result ≡ invocation_of name.now (rows_of (found_of matches.now)) }
+    ensures ranges { IfSome result (λ asked. IsAllowed (carried_settings asked)) }
+{
+    if name == "boxes" {
+        return Some(Invocation::Boxes(settings_from(matches)?));
+    }
+    None
+}
+
+fn chosen_invocation(matches: &ArgMatches<'_>) -> Option<Invocation>
+    ensures value { result ≡ option_and_then (λ entered. invocation_of entered.0 entered.1)
+        (subcommand_rows_of matches.now) }
+    ensures ranges { IfSome result (λ asked. IsAllowed (carried_settings asked)) }
+{
+    match matches.subcommand() {
+        Some(entered) => invocation_from(entered.0, entered.1),
+        None => None,
+    }
+}
+
+fn valued_option<'a>(alloc: Global, name: &'a str) -> Arg<'a>
+    ensures rule { rule_of result ≡ valued_rule name.entry.now }
+    ensures local { result.global ≡ false }
+{
+    Arg::new(alloc, name).long(name).action(ArgAction::Set)
+}
+
+fn settings_command<'a>(alloc: Global, name: &'a str) -> Result<Command<'a>, AllocError>
+    ensures app { IfOk result (λ command. app_of command ≡ settings_app name.entry.now) }
+    ensures local { IfOk result (λ command. (out-Command command).has_globals ≡ false) }
+{
+    Command::new(alloc, name)
+        .arg(valued_option(alloc, "copy"))?
+        .arg(valued_option(alloc, "max-held"))
+}
+
+fn program_command<'a>(alloc: Global) -> Result<Command<'a>, AllocError>
+    ensures { IfOk result (λ command. app_of command ≡ program_app) }
+{
+    let boxes = settings_command(alloc, "boxes")?;
+    Command::new(alloc, "fmp4").subcommand(boxes)
+}
+
+fn no_command_by(error: &Error) -> NoCommand
+    ensures { (result ≡ NoCommand.Memory) ↔ (kind_of error.now ≡ ErrorKind.OutOfMemory) }
+{
+    match error.kind() {
+        ErrorKind::OutOfMemory => NoCommand::Memory,
+        _ => NoCommand::BadWords,
+    }
+}
+
+/// Reads what the words ask for. The first word is the name that the program was started by.
+pub fn read_words(alloc: Global, words: &[String]) -> Result<Invocation, NoCommand>
+    ensures ok { IfOk result (λ asked. command_of (map string_bytes words.now) ≡ Some asked) }
+    ensures ranges { IfOk result (λ asked. IsAllowed (carried_settings asked)) }
+
+    // Nothing is said of the words where the memory ran out.
+    ensures err { IfErr result (λ why. why ≡ NoCommand.BadWords → command_of
+        (map string_bytes words.now) ≡ None) }
+{
+    let Ok(command) = program_command(alloc) else {
+        return Err(NoCommand::Memory);
+    };
+    match command.try_get_matches_from(words) {
+        Ok(matches) => match chosen_invocation(&matches) {
+            Some(asked) => Ok(asked),
+            None => Err(NoCommand::BadWords),
+        },
+        Err(error) => Err(no_command_by(&error)),
+    }
+}

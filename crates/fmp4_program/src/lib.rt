@@ -1,0 +1,18 @@
+//! The program over any reader and writers.
+//!
+//! - [`runs`]: [`run`], which does what the words of the command line ask;
+//! - [`asked`]: what they can ask for, and [`command`]: how they are read;
+//! - [`lines`]: the lines on the fault writer;
+//! - [`laws`]: what some command lines ask for.
+//!
+//! The definitions: `specs/Words.antt` (the command line), `specs/Lines.antt` (the lines of faults), `specs/Runs.antt` (what a run
+//! does).
+#![tactic(auto)]
+
+mod asked;
+mod command;
+pub mod laws;
+mod lines;
+mod runs;
+
+pub use runs::run;

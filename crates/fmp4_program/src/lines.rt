@@ -1,0 +1,69 @@
+//! The lines on the fault writer.
+
+ghost use Rattle.std.specs.Prelude.{◌≡◌, ◌+◌, ◌≤◌, ◌++◌, codes, length};
+ghost use Rattle.std.specs.Fmt.{decimal};
+ghost use Rattle.fmp4_program.specs.Lines.{fault_text, kind_text, line, stop_text};
+
+use mp4_stream::{Fault, FourCc, Line, Stop};
+
+/// The line of what stopped a run.
+pub fn stop_line(stop: &Stop) -> Line
+    ensures { result ≡ line (stop_text stop.now) }
+{
+    match stop {
+        Stop::Stream(fault) => fault_line(fault),
+        Stop::Read { at } => read_line(*at),
+        Stop::Write => plain_line(b"fmp4: write failed\n"),
+        Stop::OverLimit => plain_line(b"fmp4: over the limit\n"),
+        Stop::Memory => plain_line(b"fmp4: out of memory\n"),
+    }
+}
+
+/// A line of this text.
+fn plain_line(text: &[u8]) -> Line
+    requires { length text.now ≤ 96 }
+    ensures { result ≡ text.now }
+{
+    let mut line = Line::new();
+    line.push_bytes(text);
+    line
+}
+
+/// The line of a fault, as `fmp4: 1 Truncated in mdat at 460`.
+fn fault_line(fault: &Fault) -> Line
+    ensures { result ≡ line (fault_text fault.now) }
+{
+    let mut line = Line::new();
+    line.push_bytes(b"fmp4: ");
+    line.push_decimal(u64::from(fault.rule.number()));
+    line.push_bytes(b" ");
+    line.push_bytes(fault.rule.name().as_bytes());
+    line.push_bytes(b" in ");
+    push_kind(&mut line, fault.kind);
+    line.push_bytes(b" at ");
+    line.push_decimal(fault.offset);
+    line.push_bytes(b"\n");
+    line
+}
+
+/// The line of a failed read, as `fmp4: read failed at 470`.
+fn read_line(at: u64) -> Line
+    ensures { result ≡ line (codes "read failed at " ++ decimal at) }
+{
+    let mut line = Line::new();
+    line.push_bytes(b"fmp4: read failed at ");
+    line.push_decimal(at);
+    line.push_bytes(b"\n");
+    line
+}
+
+fn push_kind(line: &mut Line, kind: Option<FourCc>)
+    requires { length line.old + 6 ≤ 96 }
+    ensures text { line.new ≡ line.old ++ kind_text kind }
+    ensures len { length line.new ≤ length line.old + 6 }
+{
+    match kind {
+        Some(kind) => line.push_bytes(&kind.shown()),
+        None => line.push_bytes(b"(none)"),
+    }
+}

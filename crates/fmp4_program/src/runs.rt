@@ -1,0 +1,103 @@
+//! A run of the program.
+
+ghost use Rattle.std.specs.Prelude.{◌≡◌, ◌≤◌, ◌⊎◌, ℕ, List, codes, map, string_bytes, MatchOption};
+ghost use Rattle.std.specs.Io.KnownBytes.{Consumes};
+ghost use Rattle.mp4_stream.specs.Answers.{Lists};
+ghost use Rattle.fmp4_program.specs.Words.{carried_settings, command_of};
+ghost use Rattle.fmp4_program.specs.Lines.{line};
+ghost use Rattle.fmp4_program.specs.Runs.{FailsBy, ListsBoxes, Tells, TellsOf, status_of};
+
+use crate::asked::Invocation;
+use crate::command::{NoCommand, read_words};
+use crate::lines::stop_line;
+use mp4_stream::{Ledger, Sink, Source, Stop, Totals, boxes, write_all};
+use std::alloc::Global;
+
+/// Runs the command that the words name, the first of which is the program's name. Bytes are read from `r`,
+/// what the command writes goes to `w`, and one line on what stopped it to `fault_w`. The result is the exit
+/// status: 0 after a success, 1 for words that are no command line, 2 for a stream with a fault, 3 for an end
+/// that failed, 4 for want of memory or where more would have to be claimed than may be.
+pub fn run<R: Source, W: Sink, F: Sink>(
+    alloc: Global,
+    words: Vec<String>,
+    r: &mut R,
+    w: &mut W,
+    fault_w: &mut F,
+) -> u8
+    ensures { ((result ≡ 4) × (r.new ≡ r.old) × (w.new ≡ w.old) × Tells (F.contents fault_w.old)
+        (F.contents fault_w.new) (F.has_failed fault_w.new) (line (codes "out of memory"))) ⊎
+        MatchOption (command_of (map string_bytes words.items))
+        ((result ≡ 1) × (r.new ≡ r.old) × (w.new ≡ w.old) × Tells (F.contents fault_w.old)
+        (F.contents fault_w.new) (F.has_failed fault_w.new) (line (codes "bad command line")))
+        (λ asked. ListsBoxes (carried_settings asked) (R.remaining r.old) (R.remaining r.new) (W.contents w.old)
+        (W.contents w.new) (F.contents fault_w.old) (F.contents fault_w.new) (R.has_ended r.new)
+        (R.has_failed r.new) (W.has_failed w.new) (F.has_failed fault_w.new) result) }
+{
+    let asked = match read_words(alloc, words.as_slice()) {
+        Ok(asked) => asked,
+        Err(NoCommand::BadWords) => {
+            tell(fault_w, b"fmp4: bad command line\n");
+            return 1;
+        }
+        Err(NoCommand::Memory) => {
+            tell(fault_w, b"fmp4: out of memory\n");
+            return 4;
+        }
+    };
+    let Invocation::Boxes(settings) = asked;
+    let mut ledger = Ledger::new(alloc, settings.max_held);
+    let answer = list_boxes(r, w, &mut ledger, settings.copy);
+    tell_answer(fault_w, &answer);
+    status_for(&answer)
+}
+
+/// Lists the boxes of the stream, and flushes the listing.
+fn list_boxes<R: Source, W: Sink>(
+    r: &mut R,
+    w: &mut W,
+    ledger: &mut Ledger,
+    copy: u32,
+) -> Result<(), Stop>
+    requires copy { (4096 ≤ copy) × (copy ≤ 1048576) }
+    requires idle { ledger.old.live ≡ 0 }
+    ensures listed { (b : List ℕ) × Consumes (R.remaining r.old) (R.remaining r.new) b × Lists
+        (W.contents w.old) (W.contents w.new) copy ledger.old.limit b (R.has_ended r.new) result }
+    ensures fails { FailsBy result (R.has_failed r.new) (W.has_failed w.new) }
+{
+    match boxes(r, w, ledger, copy, &mut Totals::new()) {
+        Ok(()) => match w.flush() {
+            Ok(()) => Ok(()),
+            Err(_) => Err(Stop::Write),
+        },
+        Err(stop) => Err(stop),
+    }
+}
+
+fn status_for(answer: &Result<(), Stop>) -> u8
+    ensures { result ≡ status_of answer.now }
+{
+    match answer {
+        Ok(()) => 0,
+        Err(Stop::Stream(_)) => 2,
+        Err(Stop::Read { .. }) | Err(Stop::Write) => 3,
+        Err(Stop::OverLimit) | Err(Stop::Memory) => 4,
+    }
+}
+
+/// Writes a line. Where its writer fails, there is no one to tell.
+fn tell<F: Sink>(fault_w: &mut F, text: &[u8])
+    ensures { Tells (F.contents fault_w.old) (F.contents fault_w.new) (F.has_failed fault_w.new)
+        text.now }
+{
+    let _ = write_all(fault_w, text);
+}
+
+fn tell_answer<F: Sink>(fault_w: &mut F, answer: &Result<(), Stop>)
+    ensures { TellsOf (F.contents fault_w.old) (F.contents fault_w.new) (F.has_failed fault_w.new)
+        answer.now }
+{
+    match answer {
+        Ok(()) => {}
+        Err(stop) => tell(fault_w, stop_line(stop).bytes()),
+    }
+}
