@@ -115,6 +115,7 @@ leads false to n = refl
 shifted : (n : Node) (ns : List Node) (here to : ℕ) (l : Link) → here + 1 ≤ l.at → relinked (n ∷ ns) (l.at - here) l.is_odd to ≡ n ∷ relinked ns (l.at - (here + 1)) l.is_odd to
 shifted n ns here to l far = let more : l.at - here ≡ suc (l.at - (here + 1)) = omega (arith, far) in rw more refl
 
+-- with the link where it ended set to a place, the search finds the new node there
 abbrev Reaches : List Node → ℕ → ℕ → ℕ → ℕ → Link → Node → ℕ → Type 0
 Reaches ns here at id bits l x to = ending_from (relinked ns (l.at - here) l.is_odd to ++ x ∷ []) here at id bits ≡ Found to
 
@@ -149,6 +150,7 @@ reaches (n ∷ ns) here at id bits to l x there same e =
         (goes_on (with_link (bits % 2 == 1) to n) (ns ++ x ∷ []) here at id bits here_is (λ e. other (sym (id_kept (bits % 2 == 1) to n) ∙ e))
         ∙ rw (leads (bits % 2 == 1) to n) (ap (or_before (Behind (link_at here bits))) (waits ns (here + 1) to id (bits / 2) x (omega (arith, there)) same))))
 
+-- with that link set, each search for another track_ID finds what it found
 abbrev Unmoved : List Node → ℕ → Link → Node → ℕ → ℕ → Type 0
 Unmoved ns here l x to y = (at b : ℕ) → found_at (ending_from (relinked ns (l.at - here) l.is_odd to ++ x ∷ []) here at y b) ≡ found_at (ending_from ns here at y b)
 

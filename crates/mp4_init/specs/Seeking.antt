@@ -6,10 +6,12 @@ use Rattle.mp4_init.specs.declared.seek.Ending.TheVariants.{Found, Behind, Unask
 use Rattle.mp4_init.specs.declared.seek.Link.{Link}
 use Rattle.mp4_init.specs.declared.seek.Node.{Node}
 
+-- where the odd link of a node leads to, or the even one
 abbrev pub link_of : Bool → Node → ℕ
 link_of true n = n.odd
 link_of false n = n.even
 
+-- the node whose odd link, or even one, leads to this place
 abbrev pub with_link : Bool → ℕ → Node → Node
 with_link true to n = record n { odd = to }
 with_link false to n = record n { even = to }
@@ -40,6 +42,7 @@ ending_from (n ∷ ns) here at id bits =
 abbrev pub ending : List Node → ℕ → Ending
 ending nodes id = ending_from nodes 0 0 id id
 
+-- the place of the node that was found
 abbrev pub found_at : Ending → Option ℕ
 found_at (Found k) = Some k
 found_at (Behind link) = None
@@ -49,11 +52,13 @@ found_at Unasked = None
 abbrev pub sought : List Node → ℕ → Option ℕ
 sought nodes id = found_at (ending nodes id)
 
+-- it ends at one of the first n nodes, or asks none
 abbrev pub EndsWithin : ℕ → Ending → Type 0
 EndsWithin n (Found k) = k < n
 EndsWithin n (Behind link) = link.at < n
 EndsWithin n Unasked = ⊤
 
+-- what stands for a node where there is none
 abbrev pub no_node : Node
 no_node = record { id = 0; even = 0; odd = 0 }
 
