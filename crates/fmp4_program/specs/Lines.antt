@@ -4,7 +4,7 @@ use Rattle.std.specs.Fmt.{decimal}
 use Rattle.mp4_box.specs.Rules.{number_of, name_of}
 use Rattle.mp4_box.specs.Shown.{shown_byte}
 use Rattle.mp4_box.specs.declared.headers.FourCc.{FourCc}
-use Rattle.mp4_box.specs.declared.refusal.Fault.{Fault}
+use Rattle.mp4_box.specs.declared.rules.Fault.{Fault}
 use Rattle.mp4_stream.specs.declared.top.Stop.{Stop}
 use Rattle.mp4_stream.specs.declared.top.Stop.TheVariants.{Stream, Read, Write, OverLimit, Memory}
 

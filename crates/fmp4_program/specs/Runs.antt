@@ -1,7 +1,7 @@
 -- What a run of the program does.
 use Rattle.std.specs.Prelude.{◌≡◌, ℕ, Bool, true, false, List, Option, Result, Ok, Err}
 use Rattle.std.specs.Io.KnownBytes.{Appends, Consumes, Keeps}
-use Rattle.mp4_ends.specs.Streams.{AppendsFront}
+use Rattle.mp4_ends.specs.Streams.{AppendsPrefix}
 use Rattle.mp4_stream.specs.Answers.{Lists}
 use Rattle.mp4_stream.specs.declared.top.Stop.{Stop}
 use Rattle.mp4_stream.specs.declared.top.Stop.TheVariants.{Stream, Read, Write, OverLimit, Memory}
@@ -19,7 +19,7 @@ status_of (Err Memory) = 4
 
 -- a line was written, where its writer doesn't fail, and else a front of it
 pub record Tells (told told' : Option (List ℕ)) (failed : Bool) (text : List ℕ) : Type 0 where
-  pub front : AppendsFront told told' text
+  pub front : AppendsPrefix told told' text
   pub whole : failed ≡ false → Appends told told' text
 
 -- what is told of an answer: nothing of a success

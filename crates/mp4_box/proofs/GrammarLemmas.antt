@@ -8,7 +8,7 @@ use Rattle.std.proofs.Math.Seq.{take-add}
 use Rattle.mp4_box.specs.declared.headers.Header.{Header}
 use Rattle.mp4_box.specs.declared.headers.Size.{Size}
 use Rattle.mp4_box.specs.declared.headers.Size.TheVariants.{Exact, ToEnd}
-use Rattle.mp4_box.specs.declared.refusal.Fault.{Fault}
+use Rattle.mp4_box.specs.declared.rules.Fault.{Fault}
 use Rattle.mp4_box.specs.Headers.{IsBytes, Spells, user_bytes, header_at, HasRoom}
 use Rattle.mp4_box.specs.Trees.{Box, box_len, box_at, box_by, sized_box, over, is_container, bad_rest, no_rest, bad_below, deep_below, payload_offset, verdict, boxes, tree_faults, faults_of}
 use Rattle.mp4_box.specs.declared.headers.Step.{Step}

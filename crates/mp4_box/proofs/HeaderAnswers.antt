@@ -5,7 +5,7 @@ use Rattle.std.proofs.lemmas.List.{take-append-drop, length-append, take_all, ap
 use Rattle.mp4_box.specs.declared.headers.Header.{Header}
 use Rattle.mp4_box.specs.declared.headers.Step.{Step}
 use Rattle.mp4_box.specs.declared.headers.Step.TheVariants.{More, Whole, BadSize}
-use Rattle.mp4_box.specs.declared.refusal.Rule.TheVariants as rules
+use Rattle.mp4_box.specs.declared.rules.Rule.TheVariants as rules
 use Rattle.mp4_box.specs.Headers.{IsBytes, HasRoom, Head, BeginsWith, need, header_at, result_of}
 use Rattle.mp4_box.proofs.HeaderLemmas.{read_is, read_again, whole_is, cut_is, is_cut, bad_is, room_of, whole_one, need-least}
 

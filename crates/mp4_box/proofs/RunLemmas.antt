@@ -3,9 +3,9 @@ use Rattle.std.proofs.Common.{◌≡◌, ◌∙◌, ◌+◌, ◌-◌, ◌<◌, �
 use Rattle.std.specs.Prelude.{IfErr}
 use Rattle.std.specs.List.{AllByRecursion}
 use Rattle.std.proofs.lemmas.Bool.Decides.{nat_tests}
-use Rattle.mp4_box.specs.declared.refusal.Fault.{Fault}
-use Rattle.mp4_box.specs.declared.refusal.Rule.{Rule}
-use Rattle.mp4_box.specs.declared.refusal.Rule.TheVariants.{BadSize, Depth}
+use Rattle.mp4_box.specs.declared.rules.Fault.{Fault}
+use Rattle.mp4_box.specs.declared.rules.Rule.{Rule}
+use Rattle.mp4_box.specs.declared.rules.Rule.TheVariants.{BadSize, Depth}
 use Rattle.mp4_box.specs.Headers.{IsBytes}
 use Rattle.mp4_box.specs.Rules.{number_of}
 use Rattle.mp4_box.specs.Order.{comes_first, IsIn, IsLeast}

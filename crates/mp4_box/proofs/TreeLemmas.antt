@@ -1,8 +1,8 @@
 -- The boxes of a payload, one step at a time.
 use Rattle.std.proofs.Common.{◌≡◌, ℕ, zero, suc, ◌+◌, ◌-◌, ◌<◌, ◌≤◌, ◌==◌, true, false, List, [], ◌∷◌, ◌++◌, length, drop, Option, Some, None, Ok, Err, refl, sym, ap, ◌∙◌, arith}
 use Rattle.std.specs.Option.{option_or, is_some}
-use Rattle.mp4_box.specs.declared.refusal.Rule.TheVariants.{Depth}
-use Rattle.mp4_box.specs.declared.refusal.Fault.{Fault}
+use Rattle.mp4_box.specs.declared.rules.Rule.TheVariants.{Depth}
+use Rattle.mp4_box.specs.declared.rules.Fault.{Fault}
 use Rattle.mp4_box.specs.Trees.{Box, box_len, box_at, after, over, is_container, bad_rest, no_rest, bad_below, deep_below, payload_offset, first_of, verdict, fault_at, bad_size, boxes}
 
 -- bytes that are passed over

@@ -8,8 +8,8 @@ use Rattle.mp4_box.specs.declared.headers.Size.{Size}
 use Rattle.mp4_box.specs.declared.headers.Size.TheVariants.{Exact, ToEnd}
 use Rattle.mp4_box.specs.declared.headers.Step.{Step}
 use Rattle.mp4_box.specs.declared.headers.Step.TheVariants.{More, Whole, BadSize}
-use Rattle.mp4_box.specs.declared.refusal.Rule.{Rule}
-use Rattle.mp4_box.specs.declared.refusal.Rule.TheVariants as rules
+use Rattle.mp4_box.specs.declared.rules.Rule.{Rule}
+use Rattle.mp4_box.specs.declared.rules.Rule.TheVariants as rules
 
 -- ---- how a header is written
 

@@ -1,7 +1,7 @@
 -- The numbers and the names of the rules.
 use Rattle.std.specs.Prelude.{ℕ, List, codes}
-use Rattle.mp4_box.specs.declared.refusal.Rule.{Rule}
-use Rattle.mp4_box.specs.declared.refusal.Rule.TheVariants.{Truncated, BadSize, NoMoov, SecondMoov, StrayMdat, MdatMissing, TooLarge, Depth, Missing, Twice, Version, FieldLength, SamplesInMoov, Unsupported, BaseNotMoof, EmptyDuration, FlagsConflict, UnknownTrack, EntryIndex, TooManySamples, TimeRange, RunPlace, IndexRange, SequenceEnd, StreamTooLong}
+use Rattle.mp4_box.specs.declared.rules.Rule.{Rule}
+use Rattle.mp4_box.specs.declared.rules.Rule.TheVariants.{Truncated, BadSize, NoMoov, SecondMoov, StrayMdat, MdatMissing, TooLarge, Depth, Missing, Twice, Version, FieldLength, SamplesInMoov, Unsupported, BaseNotMoof, EmptyDuration, FlagsConflict, UnknownTrack, EntryIndex, TooManySamples, TimeRange, RunPlace, IndexRange, SequenceEnd, StreamTooLong}
 
 abbrev pub number_of : Rule → ℕ
 number_of Truncated = 1

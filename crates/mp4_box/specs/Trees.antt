@@ -7,9 +7,9 @@ use Rattle.mp4_box.specs.declared.headers.Size.{Size}
 use Rattle.mp4_box.specs.declared.headers.Size.TheVariants.{Exact, ToEnd}
 use Rattle.mp4_box.specs.declared.headers.Step.{Step}
 use Rattle.mp4_box.specs.declared.headers.Step.TheVariants as steps
-use Rattle.mp4_box.specs.declared.refusal.Fault.{Fault}
-use Rattle.mp4_box.specs.declared.refusal.Rule.{Rule}
-use Rattle.mp4_box.specs.declared.refusal.Rule.TheVariants.{BadSize, Depth}
+use Rattle.mp4_box.specs.declared.rules.Fault.{Fault}
+use Rattle.mp4_box.specs.declared.rules.Rule.{Rule}
+use Rattle.mp4_box.specs.declared.rules.Rule.TheVariants.{BadSize, Depth}
 use Rattle.mp4_box.specs.declared.box_ref.BoxRef.{BoxRef}
 use Rattle.mp4_box.specs.Headers.{header_at, kind_of}
 

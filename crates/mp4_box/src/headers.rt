@@ -5,10 +5,10 @@ ghost use Rattle.mp4_box.specs.Headers.{BeginsWith, HasRoom, IfWhole, has_user, 
 ghost use Rattle.mp4_box.specs.Shown.{shown_byte};
 ghost use Rattle.mp4_box.specs.declared.headers.Header.{Header};
 ghost use Rattle.mp4_box.specs.declared.headers.Step.TheVariants.{Whole};
-ghost use Rattle.mp4_box.specs.declared.refusal.Rule.TheVariants.{Truncated, BadSize};
+ghost use Rattle.mp4_box.specs.declared.rules.Rule.TheVariants.{Truncated, BadSize};
 
 use crate::fields::{array_at, u32_at, u64_at};
-use crate::refusal::Rule;
+use crate::rules::Rule;
 
 /// The type of a box: four bytes, mostly letters.
 #[derive(Clone, Copy, Debug, PartialEq, Eq)]

@@ -2,7 +2,7 @@
 
 ghost use Rattle.std.specs.Prelude.{◌≡◌, ◌⊎◌, ◌+◌, ◌<◌, ◌++◌, List, ℕ, [], length, Some, None};
 ghost use Rattle.mp4_box.specs.Order.{IsLeast, least};
-ghost use Rattle.mp4_box.specs.declared.refusal.Fault.{Fault};
+ghost use Rattle.mp4_box.specs.declared.rules.Fault.{Fault};
 ghost use Rattle.std.specs.List.{concat, flat_map, AllByRecursion};
 ghost use Rattle.mp4_box.specs.declared.headers.Header.{Header};
 ghost use Rattle.mp4_box.specs.Headers.{Head, IsBytes, IsWhole};

@@ -6,7 +6,7 @@
 //! - [`tree`]: [`check_tree`], which checks the tree of a held box, and [`BoxRef`] and [`Walk`], by which one goes
 //!   over it;
 //! - [`fields`]: the numbers in a payload;
-//! - [`refusal`]: the rules, and the [`Fault`] of a stream that breaks one;
+//! - [`rules`]: the rules, and the [`Fault`] of a stream that breaks one;
 //! - [`paths`]: checks of the boxes on a path, of which [`note`] keeps the fault that is told;
 //! - [`vectors`]: three small streams, for tests;
 //! - [`laws`]: what the definitions of `specs/` imply.
@@ -19,7 +19,7 @@ pub mod laws;
 mod order;
 pub mod paths;
 pub mod reader;
-pub mod refusal;
+pub mod rules;
 pub mod tree;
 pub mod vectors;
 mod walk;
@@ -30,6 +30,6 @@ pub use headers::{FourCc, Header, Size, Step, header_of};
 pub use order::note;
 pub use paths::{Check, note_along};
 pub use reader::HeaderReader;
-pub use refusal::{Fault, Rule};
+pub use rules::{Fault, Rule};
 pub use tree::{check_tree, holds_boxes, is_box, whole_box};
 pub use walk::Walk;

@@ -3,7 +3,7 @@
 ghost use Rattle.std.specs.Prelude.{◌≡◌};
 ghost use Rattle.mp4_box.specs.Order.{comes_first, noted};
 
-use crate::refusal::Fault;
+use crate::rules::Fault;
 
 /// Whether the first fault is told and not the second.
 #[tactic(auto, unfolding(crate::specs::Order::comes_first))]

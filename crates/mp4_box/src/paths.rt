@@ -1,14 +1,14 @@
 //! Checks of the boxes on a path.
 
 ghost use Rattle.std.specs.Prelude.{◌≡◌, List};
-ghost use Rattle.mp4_box.specs.declared.refusal.Fault.{Fault};
+ghost use Rattle.mp4_box.specs.declared.rules.Fault.{Fault};
 ghost use Rattle.mp4_box.specs.Order.{least_from};
 ghost use Rattle.mp4_box.specs.Paths.{along};
 ghost use Rattle.mp4_box.specs.Trees.{Box, view};
 
 use crate::box_ref::BoxRef;
 use crate::headers::FourCc;
-use crate::refusal::Fault;
+use crate::rules::Fault;
 use crate::walk::Walk;
 
 /// What is asked of a box.

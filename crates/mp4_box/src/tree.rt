@@ -10,7 +10,7 @@ ghost use Rattle.mp4_box.specs.Order.{IsLeast};
 use crate::box_ref::BoxRef;
 use crate::fields::array_at;
 use crate::headers::{FourCc, Size, Step, read_header};
-use crate::refusal::{Fault, Rule};
+use crate::rules::{Fault, Rule};
 
 /// A box at the top may have so many levels, its own among them.
 const LEVELS: u8 = 8;

@@ -4,7 +4,7 @@ use Rattle.std.proofs.Math.Seq.{take-add}
 use Rattle.std.proofs.KnownBytes.{Appends-trans, Consumes-trans}
 use Rattle.std.specs.Io.KnownBytes.{Appends, Keeps, Consumes}
 use Rattle.std.specs.Prelude.{None, Some}
-use Rattle.mp4_ends.specs.Streams.{AppendsFront}
+use Rattle.mp4_ends.specs.Streams.{AppendsPrefix}
 
 -- what grew, and then stayed, grew
 pub Appends-kept : (a b c : Option (List ℕ)) (bs : List ℕ) → Appends a b bs → Keeps b c → Appends a c bs
@@ -19,18 +19,18 @@ pub Appends-take_more : (a b c : Option (List ℕ)) (i n : ℕ) (xs : List ℕ)
 Appends-take_more a b c i n xs p q = subst (Appends a c) (sym (take-add i n xs)) (Appends-trans a b c _ _ p q)
 
 -- the first i of xs were taken, and then no more
-pub AppendsFront-take_kept : (a b c : Option (List ℕ)) (i : ℕ) (xs : List ℕ)
-    → Appends a b (take i xs) → Keeps b c → AppendsFront a c xs
-AppendsFront-take_kept a b c i xs p q = (take i xs, drop i xs, Appends-kept a b c (take i xs) p q, sym (take-append-drop i xs))
+pub AppendsPrefix-take_kept : (a b c : Option (List ℕ)) (i : ℕ) (xs : List ℕ)
+    → Appends a b (take i xs) → Keeps b c → AppendsPrefix a c xs
+AppendsPrefix-take_kept a b c i xs p q = (take i xs, drop i xs, Appends-kept a b c (take i xs) p q, sym (take-append-drop i xs))
 
 -- all of the first bytes were taken, and a front of the next
-pub AppendsFront-more : (a b c : Option (List ℕ)) (bs cs : List ℕ) → Appends a b bs → AppendsFront b c cs → AppendsFront a c (bs ++ cs)
-AppendsFront-more a b c bs cs p (front, rest, q, e) =
+pub AppendsPrefix-more : (a b c : Option (List ℕ)) (bs cs : List ℕ) → Appends a b bs → AppendsPrefix b c cs → AppendsPrefix a c (bs ++ cs)
+AppendsPrefix-more a b c bs cs p (front, rest, q, e) =
     (bs ++ front, rest, Appends-trans a b c bs front p q, ap (λ l. bs ++ l) e ∙ sym (append_assoc bs front rest))
 
 -- a front of some bytes is one of the bytes with more after them
-pub AppendsFront-longer : (a b : Option (List ℕ)) (bs cs all : List ℕ) → AppendsFront a b bs → all ≡ bs ++ cs → AppendsFront a b all
-AppendsFront-longer a b bs cs all (front, rest, p, e) f =
+pub AppendsPrefix-longer : (a b : Option (List ℕ)) (bs cs all : List ℕ) → AppendsPrefix a b bs → all ≡ bs ++ cs → AppendsPrefix a b all
+AppendsPrefix-longer a b bs cs all (front, rest, p, e) f =
     (front, rest ++ cs, p, f ∙ ap (λ l. l ++ cs) e ∙ append_assoc front rest cs)
 
 -- some bytes were read, and then no more

@@ -3,7 +3,7 @@
 ghost use Rattle.std.specs.Prelude.{◌≡◌, ℕ, ◌<◌, ◌≤◌, List, length, Option, None, Bool, true, false, IfOk, OnOk, OnErr, eqb};
 ghost use Rattle.std.specs.Io.{ReadsAtMost};
 ghost use Rattle.std.specs.Io.KnownBytes.{ReadConsumes, WriteAppends, Keeps, Appends};
-ghost use Rattle.mp4_ends.specs.Streams.{AppendsFront};
+ghost use Rattle.mp4_ends.specs.Streams.{AppendsPrefix};
 
 /// An end has failed: it answers so from then on.
 #[derive(Clone, Copy, Debug, PartialEq, Eq)]
@@ -93,7 +93,7 @@ pub trait Sink {
 /// `Failed`, with a front of the bytes written.
 pub fn write_all<W: Sink>(w: &mut W, from: &[u8]) -> Result<(), Failed>
     ensures ok { OnOk result (Appends (W.contents w.old) (W.contents w.new) from.now) }
-    ensures front { OnErr result (AppendsFront (W.contents w.old) (W.contents w.new) from.now) }
+    ensures front { OnErr result (AppendsPrefix (W.contents w.old) (W.contents w.new) from.now) }
     ensures failed { OnErr result (W.has_failed w.new ≡ true) }
     ensures kept { OnOk result (W.has_failed w.new ≡ W.has_failed w.old) }
 {

@@ -1,7 +1,7 @@
 -- The fault of a moov, and the list of what is at fault with it.
 use Rattle.std.proofs.Common.{◌≡◌, ◌∙◌, ℕ, List, [], ◌∷◌, Option, Some, None, Result, Ok, Err, refl, sym, ap, subst}
 use Rattle.std.specs.Option.{option_or}
-use Rattle.mp4_box.specs.declared.refusal.Fault.{Fault}
+use Rattle.mp4_box.specs.declared.rules.Fault.{Fault}
 use Rattle.mp4_box.specs.Order.{least, IsIn, IsLeast}
 use Rattle.mp4_box.specs.Trees.{Box, box_at, tree_faults, verdict}
 use Rattle.mp4_box.proofs.OrderLemmas.{least-is, least-none}

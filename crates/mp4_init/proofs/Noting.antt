@@ -1,9 +1,9 @@
 -- The best fault of a list, part by part.
 use Rattle.std.proofs.Common.{◌≡◌, refl, true, List, [], ◌∷◌, ◌++◌, length, Option}
-use Rattle.mp4_box.specs.declared.refusal.Fault.{Fault}
+use Rattle.mp4_box.specs.declared.rules.Fault.{Fault}
 use Rattle.mp4_box.specs.Order.{least_from, noted}
 use Rattle.mp4_box.specs.declared.headers.FourCc.{FourCc}
-use Rattle.mp4_box.specs.declared.refusal.Rule.TheVariants.{Twice}
+use Rattle.mp4_box.specs.declared.rules.Rule.TheVariants.{Twice}
 use Rattle.mp4_box.specs.Trees.{Box, fault_at}
 use Rattle.mp4_box.specs.Paths.{along, of_kind}
 use Rattle.std.specs.Str.{bytes_eq}

@@ -7,8 +7,8 @@ use Rattle.std.proofs.lemmas.Bool.Decides.{nat_tests}
 use Rattle.std.proofs.lemmas.List.{length-map}
 use Rattle.std.proofs.lemmas.Grind.{flat_map-append}
 use Rattle.mp4_box.specs.declared.headers.FourCc.{FourCc}
-use Rattle.mp4_box.specs.declared.refusal.Fault.{Fault}
-use Rattle.mp4_box.specs.declared.refusal.Rule.TheVariants.{Version, FieldLength, UnknownTrack}
+use Rattle.mp4_box.specs.declared.rules.Fault.{Fault}
+use Rattle.mp4_box.specs.declared.rules.Rule.TheVariants.{Version, FieldLength, UnknownTrack}
 use Rattle.mp4_box.specs.Headers.{IsBytes}
 use Rattle.mp4_box.specs.Order.{least}
 use Rattle.mp4_box.specs.Paths.{of_kind, at_path, along}

@@ -1,7 +1,7 @@
 -- What a moov comes to: its tracks, or its fault.
 use Rattle.std.specs.Prelude.{ℕ, List, [], ◌∷◌, ◌++◌, Option, Some, None, Result, Ok, Err}
 use Rattle.std.specs.Option.{option_or}
-use Rattle.mp4_box.specs.declared.refusal.Fault.{Fault}
+use Rattle.mp4_box.specs.declared.rules.Fault.{Fault}
 use Rattle.mp4_box.specs.Order.{least}
 use Rattle.mp4_box.specs.Trees.{Box, box_at, tree_faults, verdict}
 use Rattle.mp4_init.specs.declared.table.Track.{Track}

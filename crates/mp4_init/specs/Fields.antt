@@ -1,8 +1,8 @@
 -- The payloads of the boxes that are read in a moov: their lengths and their fields (ISO/IEC 14496-12, 8.3.2, 8.4.2, 8.5.2, 8.8.3).
 use Rattle.std.specs.Prelude.{ℕ, Bool, true, false, List, [], ◌∷◌, Option, Some, None, ◌==◌, ◌+◌, ◌-◌, nat_lt, if◌then◌else◌, length, drop, slice_index}
 use Rattle.byteorder.specs.Endian.{big_number}
-use Rattle.mp4_box.specs.declared.refusal.Rule.{Rule}
-use Rattle.mp4_box.specs.declared.refusal.Rule.TheVariants.{Version, FieldLength}
+use Rattle.mp4_box.specs.declared.rules.Rule.{Rule}
+use Rattle.mp4_box.specs.declared.rules.Rule.TheVariants.{Version, FieldLength}
 use Rattle.mp4_box.specs.Trees.{Box, boxes, payload_offset}
 use Rattle.mp4_init.specs.declared.checks.Layout.{Layout}
 use Rattle.mp4_init.specs.declared.checks.Layout.TheVariants.{Versioned, Exactly, AtLeast, Entries}

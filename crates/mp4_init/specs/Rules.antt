@@ -1,8 +1,8 @@
 -- The rules of a moov, each with the boxes that it speaks of (ISO/IEC 14496-12, 8.2.1 to 8.8.3).
 use Rattle.std.specs.Prelude.{ℕ, Bool, false, List, [], ◌∷◌, ◌++◌, ◌==◌, codes, nat_lt, if◌then◌else◌, length, map, filter, option_map, option_to_list}
 use Rattle.mp4_box.specs.declared.headers.FourCc.{FourCc}
-use Rattle.mp4_box.specs.declared.refusal.Fault.{Fault}
-use Rattle.mp4_box.specs.declared.refusal.Rule.TheVariants.{Missing, Twice, SamplesInMoov, UnknownTrack}
+use Rattle.mp4_box.specs.declared.rules.Fault.{Fault}
+use Rattle.mp4_box.specs.declared.rules.Rule.TheVariants.{Missing, Twice, SamplesInMoov, UnknownTrack}
 use Rattle.mp4_box.specs.Trees.{Box, children, fault_at}
 use Rattle.mp4_box.specs.Paths.{of_kind, at_path, along}
 use Rattle.mp4_init.specs.declared.checks.Layout.{Layout}

@@ -2,7 +2,7 @@
 
 ghost use Rattle.std.specs.Prelude.{◌≡◌, ◌+◌, ◌*◌, ◌^◌, ◌<◌, ◌≤◌, ◌↔◌, length, Some, None, Err, IfOk, OnErr};
 ghost use Rattle.mp4_ledger.specs.Memory.{claimed};
-ghost use Rattle.mp4_box.specs.declared.refusal.Fault.{Fault};
+ghost use Rattle.mp4_box.specs.declared.rules.Fault.{Fault};
 ghost use Rattle.mp4_box.specs.Headers.{IsWhole};
 ghost use Rattle.mp4_box.specs.Order.{IsLeast};
 ghost use Rattle.mp4_init.specs.Answers.{moov_fault, moov_faults, moov_tracks};

@@ -1,9 +1,9 @@
 -- How what a piece brings and what the next brings is what both bring.
 use Rattle.std.proofs.Common.{◌≡◌, ℕ, ◌+◌, ◌≤◌, List, [], ◌++◌, take, drop, Option, ap, sym, ◌∙◌, refl, length, arith, append_assoc, append-nil, length-append, subst, take-append-drop}
 use Rattle.std.proofs.Math.Seq.{take-add}
-use Rattle.mp4_ends.specs.Streams.{AppendsFront}
-use Rattle.mp4_box.specs.declared.refusal.Fault.{Fault}
-use Rattle.mp4_ends.proofs.StreamLemmas.{AppendsFront-longer}
+use Rattle.mp4_ends.specs.Streams.{AppendsPrefix}
+use Rattle.mp4_box.specs.declared.rules.Fault.{Fault}
+use Rattle.mp4_ends.proofs.StreamLemmas.{AppendsPrefix-longer}
 use Rattle.mp4_ledger.specs.Memory.{Account}
 use Rattle.mp4_stream.specs.Accounts.{Counts}
 use Rattle.mp4_stream.specs.Boxes.{reading}
@@ -14,7 +14,7 @@ use Rattle.mp4_stream.specs.Answers.{Outside, outside, Standing, reached, readin
 use Rattle.mp4_stream.specs.declared.top.Stop.{Stop}
 use Rattle.mp4_stream.specs.declared.top.Stop.TheVariants.{Stream, Read, Write, OverLimit, Memory}
 use Rattle.mp4_stream.proofs.ReadingLemmas.{after-both, after-silent, both-silent, max_first}
-use Rattle.mp4_stream.proofs.BlockLemmas.{Passes-none, Passes-more, AppendsFront-passed, Passes-sent_on}
+use Rattle.mp4_stream.proofs.BlockLemmas.{Passes-none, Passes-more, AppendsPrefix-passed, Passes-sent_on}
 
 -- nothing came
 pub GoesOn-none : (o : Outside) (p : Standing) → GoesOn o o p [] p
@@ -79,7 +79,7 @@ module _ {o o' : Outside} {p q : Standing} {xs : List ℕ} (low : p.claim ≤ o.
 
   FailsIn-more : (o'' : Outside) (claim : ℕ) (r : Reading) → FailsIn o' o'' q.claim claim r → FailsIn o o'' p.claim claim (after g.brought r)
   FailsIn-more o'' claim r h = (
-    AppendsFront-passed o''.written r.told.text g.passes h.0,
+    AppendsPrefix-passed o''.written r.told.text g.passes h.0,
     Spends-after o.account o'.account o''.account p.claim q.claim claim g.brought.most r.told.most low g.counts h.1,
   )
 
@@ -124,13 +124,13 @@ module _ {o : Outside} {t u : Option (List ℕ)} {v x : List ℕ} {a : Account} 
   Memory-sent (none, (g, near)) h = (none, (Starves-sent g h, near))
 
 -- and where it can't be sent, a front of what was to be written was
-front-unsent : {a b : Option (List ℕ)} {w v t : List ℕ} (c : Option (List ℕ)) (whole : List ℕ) → Passes a b w v t → AppendsFront b c v → (more : List ℕ) → whole ≡ t ++ more → AppendsFront a c (w ++ whole)
+front-unsent : {a b : Option (List ℕ)} {w v t : List ℕ} (c : Option (List ℕ)) (whole : List ℕ) → Passes a b w v t → AppendsPrefix b c v → (more : List ℕ) → whole ≡ t ++ more → AppendsPrefix a c (w ++ whole)
 front-unsent {a = a} {w = w} {v = v} {t = t} c whole p s more e =
-    subst (λ l. AppendsFront a c (w ++ l)) (sym e) (AppendsFront-passed c more p (AppendsFront-longer _ c v more (v ++ more) s refl))
+    subst (λ l. AppendsPrefix a c (w ++ l)) (sym e) (AppendsPrefix-passed c more p (AppendsPrefix-longer _ c v more (v ++ more) s refl))
 
 module _ {o : Outside} {t : Option (List ℕ)} {v : List ℕ} {a : Account} (u : Option (List ℕ)) where
   -- something was told, and more is; what it came to is known
-  fails-unsent : (c claim : ℕ) (told more : Told) (r : Reading) → r.told ≡ both told more → Passes o.written t o.waiting v told.text → Counts o.account a c claim told.most → AppendsFront t u v
+  fails-unsent : (c claim : ℕ) (told more : Told) (r : Reading) → r.told ≡ both told more → Passes o.written t o.waiting v told.text → Counts o.account a c claim told.most → AppendsPrefix t u v
       → FailsIn o (outside u [] a) c claim r
   fails-unsent c claim told more r e p counts f = (
     front-unsent u r.told.text p f more.text (ap (λ s. s.text) e),
@@ -138,12 +138,12 @@ module _ {o : Outside} {t : Option (List ℕ)} {v : List ℕ} {a : Account} (u :
   )
 
   module _ {p : Standing} {xs : List ℕ} where
-    pub GoesOn-unsent : {q : Standing} → p.claim ≤ o.account.live → GoesOn o (outside t v a) p xs q → AppendsFront t u v
+    pub GoesOn-unsent : {q : Standing} → p.claim ≤ o.account.live → GoesOn o (outside t v a) p xs q → AppendsPrefix t u v
         → (later : List ℕ) → FailsIn o (outside u [] a) p.claim q.claim (reading_from p (xs ++ later))
     GoesOn-unsent {q = q} low g f later =
         fails-unsent p.claim q.claim g.brought (reading_from q later).told (reading_from p (xs ++ later)) (ap (λ r. r.told) (rest-both low g later)) g.passes g.counts f
 
-    pub Refuses-unsent : {claim : ℕ} {f : Fault} → Refuses o (outside t v a) p xs claim f → AppendsFront t u v
+    pub Refuses-unsent : {claim : ℕ} {f : Fault} → Refuses o (outside t v a) p xs claim f → AppendsPrefix t u v
         → (later : List ℕ) → FailsIn o (outside u [] a) p.claim claim (reading_from p (xs ++ later))
     Refuses-unsent {claim = claim} g f later = fails-unsent p.claim claim g.brought silent (reading_from p (xs ++ later)) (ap (λ r. r.told) (g.rest later) ∙ sym (both-silent g.brought)) g.passes g.counts f
 
@@ -154,7 +154,7 @@ module _ {o : Outside} {t : Option (List ℕ)} {v : List ℕ} {a : Account} (u :
         let all = sym (append_assoc p.kept xs later) ∙ ap (λ l. l ++ later) g.cut ∙ append_assoc g.past (g.head ++ g.behind) later ∙ ap (λ l. g.past ++ l) (append_assoc g.head g.behind later) in
         ap p.reads all ∙ g.rest (g.head ++ (g.behind ++ later))
 
-    pub Starved-unsent : {claim : ℕ} → claim ≡ 0 → Starves o (outside t v a) p xs → AppendsFront t u v
+    pub Starved-unsent : {claim : ℕ} → claim ≡ 0 → Starves o (outside t v a) p xs → AppendsPrefix t u v
         → (later : List ℕ) → FailsIn o (outside u [] a) p.claim claim (reading_from p (xs ++ later))
     Starved-unsent {claim = claim} none g f later =
         fails-unsent p.claim claim g.brought (reading (p.from + length g.past) (g.head ++ (g.behind ++ later))).told (reading_from p (xs ++ later)) (ap (λ r. r.told) (starved-rest g later)) g.passes

@@ -2,8 +2,8 @@
 use Rattle.std.proofs.Common.{◌≡◌, ℕ, List, [], ◌++◌, Option, sym, ap, ◌∙◌, append_assoc, append-nil, refl, subst}
 use Rattle.std.proofs.KnownBytes.{Appends-nil, Appends-trans}
 use Rattle.std.specs.Io.KnownBytes.{Appends}
-use Rattle.mp4_ends.specs.Streams.{AppendsFront}
-use Rattle.mp4_ends.proofs.StreamLemmas.{AppendsFront-more, AppendsFront-longer}
+use Rattle.mp4_ends.specs.Streams.{AppendsPrefix}
+use Rattle.mp4_ends.proofs.StreamLemmas.{AppendsPrefix-more, AppendsPrefix-longer}
 use Rattle.mp4_stream.specs.Blocks.{Passes}
 
 -- nothing was sent
@@ -29,9 +29,9 @@ Passes-more {a = a} {b = b} {c = c} {x = x} {y = y} {z = z} {s = s} {t = t} p q 
 }
 
 -- some text passed, and of the next a front of what was to be sent
-pub AppendsFront-passed : {a b : Option (List ℕ)} (c : Option (List ℕ)) {x y s : List ℕ} (t : List ℕ) → Passes a b x y s → AppendsFront b c (y ++ t) → AppendsFront a c (x ++ (s ++ t))
-AppendsFront-passed {a = a} {b = b} c {x = x} {y = y} {s = s} t p q =
-    subst (AppendsFront a c) (sym (sym (append_assoc x s t) ∙ ap (λ l. l ++ t) p.all ∙ append_assoc p.sent y t)) (AppendsFront-more a b c p.sent (y ++ t) p.written q)
+pub AppendsPrefix-passed : {a b : Option (List ℕ)} (c : Option (List ℕ)) {x y s : List ℕ} (t : List ℕ) → Passes a b x y s → AppendsPrefix b c (y ++ t) → AppendsPrefix a c (x ++ (s ++ t))
+AppendsPrefix-passed {a = a} {b = b} c {x = x} {y = y} {s = s} t p q =
+    subst (AppendsPrefix a c) (sym (sym (append_assoc x s t) ∙ ap (λ l. l ++ t) p.all ∙ append_assoc p.sent y t)) (AppendsPrefix-more a b c p.sent (y ++ t) p.written q)
 
 -- what began and ended with nothing that waits was written
 pub Appends-passed : {a b : Option (List ℕ)} {x y s : List ℕ} → Passes a b x y s → x ≡ [] → y ≡ [] → Appends a b s
@@ -44,11 +44,11 @@ Passes-sent_through {a = a} {b = b} {c = c} {x = x} {y = y} t p e q =
     Passes-more p (subst (λ l. Passes b c l l t) (sym e) (Passes-through b c t q))
 
 -- what waits is a front of what was to be sent
-pub AppendsFront-waiting : (a b : Option (List ℕ)) (x t : List ℕ) → AppendsFront a b x → AppendsFront a b (x ++ t)
-AppendsFront-waiting a b x t p = AppendsFront-longer a b x t (x ++ t) p refl
+pub AppendsPrefix-waiting : (a b : Option (List ℕ)) (x t : List ℕ) → AppendsPrefix a b x → AppendsPrefix a b (x ++ t)
+AppendsPrefix-waiting a b x t p = AppendsPrefix-longer a b x t (x ++ t) p refl
 
-pub AppendsFront-sent_through : {a b : Option (List ℕ)} (c : Option (List ℕ)) {x y : List ℕ} (t : List ℕ) → Passes a b x y [] → y ≡ [] → AppendsFront b c t → AppendsFront a c (x ++ t)
-AppendsFront-sent_through {b = b} c t p e q = AppendsFront-passed c t p (subst (λ l. AppendsFront b c (l ++ t)) (sym e) q)
+pub AppendsPrefix-sent_through : {a b : Option (List ℕ)} (c : Option (List ℕ)) {x y : List ℕ} (t : List ℕ) → Passes a b x y [] → y ≡ [] → AppendsPrefix b c t → AppendsPrefix a c (x ++ t)
+AppendsPrefix-sent_through {b = b} c t p e q = AppendsPrefix-passed c t p (subst (λ l. AppendsPrefix b c (l ++ t)) (sym e) q)
 
 -- all that waited was sent, and the text waits
 pub Passes-sent_gathered : {a b : Option (List ℕ)} {x y : List ℕ} (z t : List ℕ) → Passes a b x y [] → z ≡ y ++ t → Passes a b x z t

@@ -9,10 +9,10 @@ use Rattle.mp4_box.specs.declared.headers.Size.{Size}
 use Rattle.mp4_box.specs.declared.headers.Size.TheVariants.{Exact, ToEnd}
 use Rattle.mp4_box.specs.declared.headers.Step.{Step}
 use Rattle.mp4_box.specs.declared.headers.Step.TheVariants as steps
-use Rattle.mp4_box.specs.declared.refusal.Rule.TheVariants.{BadSize}
+use Rattle.mp4_box.specs.declared.rules.Rule.TheVariants.{BadSize}
 use Rattle.mp4_box.specs.Headers.{need, header_at}
 use Rattle.mp4_box.proofs.HeaderLemmas.{header_at-append, whole_is, bad_is, need-least}
-use Rattle.mp4_box.specs.declared.refusal.Fault.{Fault}
+use Rattle.mp4_box.specs.declared.rules.Fault.{Fault}
 use Rattle.mp4_box.specs.Trees.{tree_faults}
 use Rattle.mp4_stream.specs.Holding.{most_held}
 use Rattle.mp4_stream.specs.Listing.{box_line}

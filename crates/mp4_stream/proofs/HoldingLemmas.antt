@@ -6,7 +6,7 @@ use Rattle.mp4_box.specs.declared.headers.Size.TheVariants.{Exact}
 use Rattle.mp4_box.specs.declared.headers.Step.TheVariants as steps
 use Rattle.mp4_box.specs.Headers.{header_at, IsBytes, IsWhole}
 use Rattle.mp4_box.specs.Trees.{Box, box_at, box_by, verdict}
-use Rattle.mp4_box.specs.declared.refusal.Fault.{Fault}
+use Rattle.mp4_box.specs.declared.rules.Fault.{Fault}
 use Rattle.mp4_box.proofs.HeaderLemmas.{whole_is, header_at-append}
 use Rattle.mp4_box.proofs.GrammarLemmas.{is_whole}
 use Rattle.mp4_stream.specs.Places.{Begins}

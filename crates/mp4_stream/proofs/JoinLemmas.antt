@@ -5,14 +5,14 @@ use Rattle.mp4_box.specs.declared.headers.Header.{Header}
 use Rattle.mp4_box.specs.declared.headers.Size.{Size}
 use Rattle.mp4_box.specs.declared.headers.Size.TheVariants.{Exact, ToEnd}
 use Rattle.mp4_box.specs.declared.headers.Step.TheVariants as steps
-use Rattle.mp4_box.specs.declared.refusal.Rule.TheVariants.{Truncated, BadSize, StreamTooLong}
+use Rattle.mp4_box.specs.declared.rules.Rule.TheVariants.{Truncated, BadSize, StreamTooLong}
 use Rattle.mp4_box.specs.Headers.{Head, IsBox, IsBytes, BeginsWith, need, kind_of}
 use Rattle.mp4_box.proofs.HeaderLemmas.{need-least}
 use Rattle.mp4_box.proofs.HeaderAnswers.{head-whole, head-need, header-none}
 use Rattle.mp4_stream.specs.Listing.{box_line}
 use Rattle.mp4_stream.specs.Readings.{Refused, silent, after, says, holds, nothing, then_read}
 use Rattle.mp4_stream.specs.Boxes.{longest, refused, cut_off, sized_body, held_body, body, least_end, box, reading}
-use Rattle.mp4_box.specs.declared.refusal.Fault.{Fault}
+use Rattle.mp4_box.specs.declared.rules.Fault.{Fault}
 use Rattle.mp4_box.specs.Trees.{tree_faults}
 use Rattle.mp4_stream.specs.Holding.{held_lines, most_held}
 use Rattle.mp4_stream.specs.Joined.{Item, MayStand, AreBoxes, joined, told_by, told_from}

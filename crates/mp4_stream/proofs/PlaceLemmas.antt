@@ -4,13 +4,13 @@ use Rattle.mp4_box.specs.declared.headers.FourCc.{FourCc}
 use Rattle.mp4_box.specs.declared.headers.Header.{Header}
 use Rattle.mp4_box.specs.declared.headers.Size.TheVariants.{Exact, ToEnd}
 use Rattle.mp4_box.specs.declared.headers.Step.TheVariants as steps
-use Rattle.mp4_box.specs.declared.refusal.Fault.{Fault}
-use Rattle.mp4_box.specs.declared.refusal.Rule.TheVariants.{BadSize, StreamTooLong, TooLarge}
+use Rattle.mp4_box.specs.declared.rules.Fault.{Fault}
+use Rattle.mp4_box.specs.declared.rules.Rule.TheVariants.{BadSize, StreamTooLong, TooLarge}
 use Rattle.mp4_box.specs.Headers.{need, header_at, kind_of}
-use Rattle.mp4_ends.specs.Streams.{AppendsFront}
+use Rattle.mp4_ends.specs.Streams.{AppendsPrefix}
 use Rattle.mp4_box.specs.Trees.{tree_faults}
 use Rattle.mp4_box.proofs.HeaderLemmas.{whole_is, bad_is, need_more, need-append, need-least, need-most, header_at-append}
-use Rattle.mp4_ends.proofs.StreamLemmas.{AppendsFront-longer}
+use Rattle.mp4_ends.proofs.StreamLemmas.{AppendsPrefix-longer}
 use Rattle.mp4_ledger.specs.Memory.{claimed, given_back}
 use Rattle.mp4_stream.specs.Accounts.{Counts, Spends}
 use Rattle.mp4_stream.specs.Blocks.{Passes}
@@ -97,9 +97,9 @@ module _ (o o' : Outside) (at : ℕ) (held : List ℕ) (byte : ℕ) (new : List 
   StopsAt-last more claim s g = StopsAt-more {p = standing Boxes (InHeader at held)} (omega arith) (GoesOn-byte o at held byte new e) o' more claim s g
 
 -- a write failed in what is told first
-FailsIn-told : (o o' : Outside) (c claim : ℕ) (told : Told) (rest r : Reading) → r ≡ after told rest → AppendsFront o.written o'.written (o.waiting ++ told.text) → Spends o.account o'.account c claim 0 → FailsIn o o' c claim r
+FailsIn-told : (o o' : Outside) (c claim : ℕ) (told : Told) (rest r : Reading) → r ≡ after told rest → AppendsPrefix o.written o'.written (o.waiting ++ told.text) → Spends o.account o'.account c claim 0 → FailsIn o o' c claim r
 FailsIn-told o o' c claim told rest r e p q = (
-  AppendsFront-longer o.written o'.written (o.waiting ++ told.text) rest.told.text (o.waiting ++ r.told.text) p (ap (λ s. o.waiting ++ s.told.text) e ∙ sym (append_assoc o.waiting told.text rest.told.text)),
+  AppendsPrefix-longer o.written o'.written (o.waiting ++ told.text) rest.told.text (o.waiting ++ r.told.text) p (ap (λ s. o.waiting ++ s.told.text) e ∙ sym (append_assoc o.waiting told.text rest.told.text)),
   Spends-more o.account o'.account c claim 0 r.told.most (omega arith) q,
 )
 
@@ -125,7 +125,7 @@ module _ (o : Outside) (at : ℕ) (h : Header) (x : List ℕ) (len : length x �
 
   -- its line can't be written
   pub FailsIn-line : (u : Option (List ℕ)) (later : List ℕ) → least_end at h h.size ≤ longest → most_held h.kind.0 ≡ None
-      → AppendsFront o.written u (o.waiting ++ box_line at h) → FailsIn o (outside u [] o.account) 0 0 (reading_from (standing Boxes (InHeader at x)) later)
+      → AppendsPrefix o.written u (o.waiting ++ box_line at h) → FailsIn o (outside u [] o.account) 0 0 (reading_from (standing Boxes (InHeader at x)) later)
   FailsIn-line u later near loose p = FailsIn-told o (outside u [] o.account) 0 0 (says (box_line at h)) (then_read reading (body at h h.size later)) (reading_from (standing Boxes (InHeader at x)) later)
       (reading-whole at x later h len is ∙ reading-begun at h x later near loose) p (Spends-counts o.account o.account 0 0 0 (Counts-none o.account 0))
 
@@ -225,7 +225,7 @@ module _ (o : Outside) (at : ℕ) (kind : FourCc) (size : ℕ) (x : List ℕ) (l
     rest = λ later. reading-good at kind size x later len good;
   }
 
-  pub FailsIn-good : (u : Option (List ℕ)) (later : List ℕ) → tree_faults at x ≡ [] → AppendsFront o.written u (o.waiting ++ held_lines at x) → FailsIn o (outside u [] (given_back o.account size)) size 0 (reading_from (standing Boxes (InHeld at kind size x)) later)
+  pub FailsIn-good : (u : Option (List ℕ)) (later : List ℕ) → tree_faults at x ≡ [] → AppendsPrefix o.written u (o.waiting ++ held_lines at x) → FailsIn o (outside u [] (given_back o.account size)) size 0 (reading_from (standing Boxes (InHeld at kind size x)) later)
   FailsIn-good u later good p = FailsIn-told o (outside u [] (given_back o.account size)) size 0 (says (held_lines at x)) (reading (at + size) later) (reading_from (standing Boxes (InHeld at kind size x)) later)
       (reading-good at kind size x later len good) p (Spends-counts o.account (given_back o.account size) size 0 0 (Counts-back o.account size low))
 

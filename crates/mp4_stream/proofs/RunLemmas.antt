@@ -1,7 +1,7 @@
 -- What a reader has brought of a stream from its first byte on.
 use Rattle.std.proofs.Common.{◌≡◌, ℕ, zero, suc, ◌+◌, ◌≤◌, List, [], ◌++◌, length, max, Bool, Option, Some, inr, ap, sym, ◌∙◌, refl, arith, append-nil, subst}
 use Rattle.std.specs.Io.KnownBytes.{Appends}
-use Rattle.mp4_ends.specs.Streams.{AppendsFront}
+use Rattle.mp4_ends.specs.Streams.{AppendsPrefix}
 use Rattle.mp4_ledger.specs.Memory.{Account}
 use Rattle.mp4_stream.specs.Accounts.{Counts, Spends}
 use Rattle.mp4_stream.specs.Readings.{fault_in, early_in, after, both, then_read}
@@ -96,7 +96,7 @@ run-stops a b k l bs ended claim (Stream f) g =
       λ none. let some : early_fault bs ≡ Some f = ap (λ r. early_in r.ending) is in absurd cc,
     )
 run-stops a b k l bs ended claim (Read at) g = absurd g
-run-stops a b k l bs ended claim Write g = subst (λ l. AppendsFront a b (listing l)) (append-nil bs) (g []).0
+run-stops a b k l bs ended claim Write g = subst (λ l. AppendsPrefix a b (listing l)) (append-nil bs) (g []).0
 run-stops a b k l bs ended claim OverLimit (none, (h, far)) = inr (starves_at a b k l bs h, omega (arith, far, live_is a b k l bs h, h.counts.limit))
 run-stops a b k l bs ended claim Memory (none, (h, near)) = inr (starves_at a b k l bs h, omega (arith, near, live_is a b k l bs h, h.counts.limit))
 

@@ -1,9 +1,9 @@
 -- What a reader that is fed a stream piece by piece brings, and what a run answers and writes.
 use Rattle.std.specs.Prelude.{◌≡◌, ◌⊎◌, ℕ, ◌+◌, ◌<◌, ◌≤◌, List, [], ◌++◌, length, Bool, true, false, Option, None, Some, Result, Ok, Err}
 use Rattle.std.specs.Io.KnownBytes.{Appends}
-use Rattle.mp4_ends.specs.Streams.{AppendsFront}
+use Rattle.mp4_ends.specs.Streams.{AppendsPrefix}
 use Rattle.mp4_stream.specs.Blocks.{Passes}
-use Rattle.mp4_box.specs.declared.refusal.Fault.{Fault}
+use Rattle.mp4_box.specs.declared.rules.Fault.{Fault}
 use Rattle.mp4_box.specs.declared.headers.Header.{Header}
 use Rattle.mp4_box.specs.declared.headers.Size.TheVariants.{Exact}
 use Rattle.mp4_box.specs.declared.headers.Step.TheVariants as steps
@@ -85,7 +85,7 @@ pub record Starves (o o' : Outside) (old : Standing) (piece : List ℕ) : Type 0
 
 -- a write failed before all that a reading tells was written
 abbrev pub FailsIn : Outside → Outside → (claim claim' : ℕ) → Reading → Type 0
-FailsIn o o' claim claim' r = AppendsFront o.written o'.written (o.waiting ++ r.told.text) × Spends o.account o'.account claim claim' r.told.most
+FailsIn o o' claim claim' r = AppendsPrefix o.written o'.written (o.waiting ++ r.told.text) × Spends o.account o'.account claim claim' r.told.most
 
 -- a reader that stops at a piece has met a fault, a write has failed, or a claim was refused; it has claimed `claim` bytes then
 abbrev pub StopsAt : Outside → Outside → Standing → List ℕ → (claim : ℕ) → Stop → Type 0
@@ -117,7 +117,7 @@ IsIdle told told' b = (b ≡ []) × Appends told told' []
 abbrev pub ListsUntil : Option (List ℕ) → Option (List ℕ) → (copy limit : ℕ) → List ℕ → Bool → Stop → Type 0
 ListsUntil told told' copy limit b ended (Stream f) = (first_fault b ≡ Some f) × Appends told told' (listing b) × (early_fault b ≡ None → ended ≡ true)
 ListsUntil told told' copy limit b ended (Read at) = (at ≡ length b) × Appends told told' (listing b)
-ListsUntil told told' copy limit b ended Write = AppendsFront told told' (listing b)
+ListsUntil told told' copy limit b ended Write = AppendsPrefix told told' (listing b)
 ListsUntil told told' copy limit b ended OverLimit = (IsIdle told told' b × (limit < copy)) ⊎ ((s : StarvesAt told told' b) × (limit < copy + s.size))
 ListsUntil told told' copy limit b ended Memory = (IsIdle told told' b × (copy ≤ limit)) ⊎ ((s : StarvesAt told told' b) × (copy + s.size ≤ limit))
 

@@ -1,6 +1,6 @@
 -- A stream that is read item by item, whatever its items are.
 use Rattle.std.specs.Prelude.{◌≡◌, ℕ, zero, suc, ◌≤◌, List, [], ◌++◌, length, max, Option, None, Some}
-use Rattle.mp4_box.specs.declared.refusal.Fault.{Fault}
+use Rattle.mp4_box.specs.declared.rules.Fault.{Fault}
 
 -- how the reading of some bytes ends
 pub data Ending : Type 0 where

@@ -1,7 +1,7 @@
 //! Bytes on their way to a sink.
 
 ghost use Rattle.std.specs.Prelude.{◌≡◌, ℕ, List, ◌+◌, ◌<◌, ◌≤◌, [], ◌++◌, length, true, OnOk, OnErr};
-ghost use Rattle.mp4_ends.specs.Streams.{AppendsFront};
+ghost use Rattle.mp4_ends.specs.Streams.{AppendsPrefix};
 ghost use Rattle.mp4_stream.specs.Blocks.{Passes};
 
 use arrayvec::ArrayVec;
@@ -39,7 +39,7 @@ impl Block {
         ensures ok { OnOk result (Passes (W.contents w.old) (W.contents w.new) self.old self.new
             []) }
         ensures empty { OnOk result (self.new ≡ []) }
-        ensures err { OnErr result (AppendsFront (W.contents w.old) (W.contents w.new) self.old) }
+        ensures err { OnErr result (AppendsPrefix (W.contents w.old) (W.contents w.new) self.old) }
         ensures failed { OnErr result (W.has_failed w.new ≡ true) }
     {
         write_all(w, self.waiting.as_slice())?;
@@ -51,7 +51,7 @@ impl Block {
     pub(crate) fn put<W: Sink>(&mut self, w: &mut W, bytes: &[u8]) -> Result<(), Failed>
         ensures ok { OnOk result (Passes (W.contents w.old) (W.contents w.new) self.old self.new
             bytes.now) }
-        ensures err { OnErr result (AppendsFront (W.contents w.old) (W.contents w.new)
+        ensures err { OnErr result (AppendsPrefix (W.contents w.old) (W.contents w.new)
             (self.old ++ bytes.now)) }
         ensures failed { OnErr result (W.has_failed w.new ≡ true) }
     {
@@ -64,7 +64,7 @@ impl Block {
     fn send_and_put<W: Sink>(&mut self, w: &mut W, bytes: &[u8]) -> Result<(), Failed>
         ensures ok { OnOk result (Passes (W.contents w.old) (W.contents w.new) self.old self.new
             bytes.now) }
-        ensures err { OnErr result (AppendsFront (W.contents w.old) (W.contents w.new)
+        ensures err { OnErr result (AppendsPrefix (W.contents w.old) (W.contents w.new)
             (self.old ++ bytes.now)) }
         ensures failed { OnErr result (W.has_failed w.new ≡ true) }
     {

@@ -1,7 +1,7 @@
 //! A box that is held while it comes.
 
 ghost use Rattle.std.specs.Prelude.{◌≡◌, ◌+◌, ◌-◌, ◌^◌, ◌<◌, ◌≤◌, ◌↔◌, ◌++◌, length, take, min, true, false, Some, Ok, IfOk, IfErr, OnErr, OnOk, IsErrOf, IsTrue};
-ghost use Rattle.mp4_ends.specs.Streams.{AppendsFront};
+ghost use Rattle.mp4_ends.specs.Streams.{AppendsPrefix};
 ghost use Rattle.mp4_box.specs.Trees.{box_at, tree_faults, verdict, view};
 ghost use Rattle.mp4_ledger.specs.Memory.{claimed, given_back};
 ghost use Rattle.mp4_stream.specs.Blocks.{Passes};
@@ -119,7 +119,7 @@ impl Held {
         requires whole { length self.now.bytes ≡ self.now.size }
         ensures ok { OnOk result (Passes (W.contents w.old) (W.contents w.new) out.old out.new
             (held_lines self.now.at self.now.bytes)) }
-        ensures err { OnErr result (AppendsFront (W.contents w.old) (W.contents w.new)
+        ensures err { OnErr result (AppendsPrefix (W.contents w.old) (W.contents w.new)
             (out.old ++ held_lines self.now.at self.now.bytes)) }
         ensures failed { OnErr result (W.has_failed w.new ≡ true) }
     {

@@ -3,7 +3,7 @@
 ghost use Rattle.std.specs.Prelude.{◌≡◌, ℕ, ◌+◌, ◌-◌, ◌<◌, ◌≤◌, ◌∷◌, [], List, length, take, None, Some, Ok, IfOk, IfErr, OnOk, OnErr, IsErrOf, true};
 ghost use Rattle.mp4_box.specs.Headers.{HasRoom, header_at, need};
 ghost use Rattle.mp4_box.specs.declared.headers.Step.TheVariants as steps;
-ghost use Rattle.mp4_box.specs.declared.refusal.Rule.TheVariants.{StreamTooLong};
+ghost use Rattle.mp4_box.specs.declared.rules.Rule.TheVariants.{StreamTooLong};
 ghost use Rattle.mp4_stream.specs.Answers.{GoesOn, StopsAt, outside};
 ghost use Rattle.mp4_stream.specs.Boxes.{fault, least_end, longest, refused};
 ghost use Rattle.mp4_stream.specs.Holding.{most_held};

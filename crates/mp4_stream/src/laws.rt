@@ -7,8 +7,8 @@ ghost use Rattle.mp4_box.specs.Headers.{BeginsWith, Head, IsBox, IsBytes, kind_o
 ghost use Rattle.mp4_box.specs.Trees.{tree_faults};
 ghost use Rattle.mp4_box.specs.declared.headers.Header.{Header};
 ghost use Rattle.mp4_box.specs.declared.headers.Size.TheVariants.{Exact, ToEnd};
-ghost use Rattle.mp4_box.specs.declared.refusal.Fault.{Fault};
-ghost use Rattle.mp4_box.specs.declared.refusal.Rule.TheVariants.{BadSize, StreamTooLong, TooLarge, Truncated};
+ghost use Rattle.mp4_box.specs.declared.rules.Fault.{Fault};
+ghost use Rattle.mp4_box.specs.declared.rules.Rule.TheVariants.{BadSize, StreamTooLong, TooLarge, Truncated};
 ghost use Rattle.mp4_stream.specs.Boxes.{cut_off, least_end, longest, reading, refused};
 ghost use Rattle.mp4_stream.specs.Holding.{most_held};
 ghost use Rattle.mp4_stream.specs.Joined.{AreBoxes, Item, joined, told_from};

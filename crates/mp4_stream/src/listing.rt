@@ -1,7 +1,7 @@
 //! The lines of boxes.
 
 ghost use Rattle.std.specs.Prelude.{◌≡◌, ◌+◌, ◌≤◌, ◌++◌, [], length, true, OnErr, OnOk};
-ghost use Rattle.mp4_ends.specs.Streams.{AppendsFront};
+ghost use Rattle.mp4_ends.specs.Streams.{AppendsPrefix};
 ghost use Rattle.mp4_box.specs.Trees.{view};
 ghost use Rattle.mp4_stream.specs.Blocks.{Passes};
 ghost use Rattle.mp4_stream.specs.Listing.{box_line, line_below, size_text, tree_lines, user_text};
@@ -51,7 +51,7 @@ pub(crate) fn put_tree<W: Sink>(
     requires { levels + level ≤ 7 }
     ensures ok { OnOk result (Passes (W.contents w.old) (W.contents w.new) out.old out.new
         (tree_lines levels level (view this.now))) }
-    ensures err { OnErr result (AppendsFront (W.contents w.old) (W.contents w.new)
+    ensures err { OnErr result (AppendsPrefix (W.contents w.old) (W.contents w.new)
         (out.old ++ tree_lines levels level (view this.now))) }
     ensures failed { OnErr result (W.has_failed w.new ≡ true) }
 {

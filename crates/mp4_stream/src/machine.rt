@@ -1,7 +1,7 @@
 //! A reader of the boxes of a stream, which is fed the stream as it comes.
 
 ghost use Rattle.std.specs.Prelude.{◌≡◌, ◌+◌, ◌-◌, ◌<◌, ◌≤◌, [], length, take, None, Some, Ok, IfOk, IfErr, OnOk, IsErrOf, true};
-ghost use Rattle.mp4_box.specs.declared.refusal.Rule.TheVariants.{Truncated};
+ghost use Rattle.mp4_box.specs.declared.rules.Rule.TheVariants.{Truncated};
 ghost use Rattle.mp4_ledger.specs.Memory.{given_back};
 ghost use Rattle.mp4_stream.specs.Answers.{GoesOn, StopsAt, outside, reading_from};
 ghost use Rattle.mp4_stream.specs.Boxes.{fault};

@@ -2,7 +2,7 @@
 
 ghost use Rattle.std.specs.Prelude.{◌≡◌, ℕ, ◌+◌, ◌-◌, ◌<◌, ◌≤◌, [], ◌++◌, List, length, take, None, Some, Ok, IfNone, IfSome, IfOk, IfErr, OnErr};
 ghost use Rattle.mp4_box.specs.Headers.{HasRoom};
-ghost use Rattle.mp4_box.specs.declared.refusal.Rule.TheVariants.{StreamTooLong};
+ghost use Rattle.mp4_box.specs.declared.rules.Rule.TheVariants.{StreamTooLong};
 ghost use Rattle.mp4_stream.specs.Boxes.{body, fault, least_end, longest, open_body, reading, refused, sized_body};
 ghost use Rattle.mp4_stream.specs.Places.{InBody, InOpenBody, IsPhase, IsPlace, from_of, place_by, reads_of};
 ghost use Rattle.mp4_stream.specs.declared.machine.Command.TheVariants.{Boxes};

@@ -1,7 +1,7 @@
 use Rattle.std.proofs.Common.{◌≡◌, ◌∙◌, ◌+◌, ◌-◌, ℕ, List, length, drop, Err, sym, ap, arith}
 use Rattle.std.specs.Option.{option_or}
 use Rattle.mp4_box.specs.Trees.{view, box_len, over, bad_rest, no_rest, bad_below, deep_below, first_of, verdict}
-use Rattle.mp4_box.specs.declared.refusal.Fault.{Fault}
+use Rattle.mp4_box.specs.declared.rules.Fault.{Fault}
 use Rattle.std.proofs.lemmas.Bool.Decides.{Decides-eqb}
 use Rattle.mp4_box.proofs.TreeLemmas.{bad-zero, bad-leaf, deep-leaf, bad-step, deep-step, bad-past, deep-past, bad-child, bad-stop, over-end, none-first, or-none, not_empty}
 use Rattle.mp4_box.proofs.tree.+check_below.Goals as goal

@@ -1,7 +1,7 @@
 use Rattle.std.proofs.Common.{◌≡◌, cond}
 use Rattle.std.specs.Prelude.{map}
 use Rattle.mp4_box.specs.Trees.{view, fault_at}
-use Rattle.mp4_box.specs.declared.refusal.Rule.TheVariants.{Twice}
+use Rattle.mp4_box.specs.declared.rules.Rule.TheVariants.{Twice}
 use Rattle.mp4_box.specs.Order.{least_from}
 use Rattle.mp4_box.specs.Paths.{of_kind}
 use Rattle.mp4_init.specs.Rules.{alone, one}

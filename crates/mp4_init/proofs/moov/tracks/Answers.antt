@@ -1,5 +1,5 @@
 use Rattle.std.proofs.Common.{refl, rules, subst}
-use Rattle.mp4_box.specs.declared.refusal.Fault.{Fault}
+use Rattle.mp4_box.specs.declared.rules.Fault.{Fault}
 use Rattle.mp4_box.specs.Order.{IsLeast}
 use Rattle.mp4_box.specs.Trees.{view}
 use Rattle.mp4_init.specs.Answers.{moov_faults}

@@ -1,6 +1,6 @@
 use Rattle.std.proofs.Common.{refl, ◌∙◌, sym}
 use Rattle.mp4_box.specs.Trees.{view, fault_at}
-use Rattle.mp4_box.specs.declared.refusal.Rule.TheVariants.{UnknownTrack}
+use Rattle.mp4_box.specs.declared.rules.Rule.TheVariants.{UnknownTrack}
 use Rattle.mp4_init.specs.Rules.{known}
 use Rattle.mp4_init.proofs.Noting.{end-noted}
 use Rattle.mp4_init.proofs.rules.+note_tracks.Goals as goal

@@ -3,8 +3,8 @@ use Rattle.std.specs.List.{flat_map}
 use Rattle.mp4_box.specs.Trees.{Box, view}
 use Rattle.mp4_stream.specs.Blocks.{Passes}
 use Rattle.mp4_stream.specs.Listing.{line_below, tree_lines}
-use Rattle.mp4_stream.proofs.BlockLemmas.{Passes-more, AppendsFront-passed}
-use Rattle.mp4_stream.proofs.ListingLemmas.{lines-zero, lines-leaf, lines-step, lines-begin, lines-child, AppendsFront-lines}
+use Rattle.mp4_stream.proofs.BlockLemmas.{Passes-more, AppendsPrefix-passed}
+use Rattle.mp4_stream.proofs.ListingLemmas.{lines-zero, lines-leaf, lines-step, lines-begin, lines-child, AppendsPrefix-lines}
 use Rattle.mp4_stream.proofs.listing.+put_tree.Goals as goal
 
 pub returns-in-Err-clause-err : goal.returns-in-Err-clause-err
@@ -12,7 +12,7 @@ returns-in-Err-clause-err g t c =
     let b = view c.args.this.now in
     let begin = lines-begin c.args.levels c.args.level b in
     let line : c.bytes.result.now ≡ line_below c.args.level b = c.bytes.ensures ∙ c.push_line.ensures in
-    AppendsFront-lines (g.W.Sink.contents c.args.w.now) (g.W.Sink.contents c.put.new.w) c.args.out.now c.bytes.result.now begin.0 (tree_lines c.args.levels c.args.level b) (ap (λ (l : List ℕ). l ++ begin.0) line ∙ begin.1) c.in-Err.ensures.err
+    AppendsPrefix-lines (g.W.Sink.contents c.args.w.now) (g.W.Sink.contents c.put.new.w) c.args.out.now c.bytes.result.now begin.0 (tree_lines c.args.levels c.args.level b) (ap (λ (l : List ℕ). l ++ begin.0) line ∙ begin.1) c.in-Err.ensures.err
 
 pub returns-then-levels-eq0-clause-ok : goal.returns-then-levels-eq0-clause-ok
 returns-then-levels-eq0-clause-ok g t c =
@@ -57,6 +57,6 @@ returns-in-Err-put_tree-clause-err g t c =
     let text = c.loop-child.invariant.text in
     let all = tree_lines c.args.levels c.args.level (view c.args.this.now) in
     let put = c.in-Err-put_tree.ensures.err in
-    AppendsFront-lines (g.W.Sink.contents c.args.w.now) (g.W.Sink.contents c.put_tree.new.w) c.args.out.now (text ++ tree_lines n l b) (flat_map (tree_lines n l) c.next.new.self) all
+    AppendsPrefix-lines (g.W.Sink.contents c.args.w.now) (g.W.Sink.contents c.put_tree.new.w) c.args.out.now (text ++ tree_lines n l b) (flat_map (tree_lines n l) c.next.new.self) all
     (lines-child n l b c.next.new.self text all (ap (λ (bs : List Box). text ++ flat_map (tree_lines n l) bs) (sym c.in-Some.ensures.steps) ∙ c.loop-child.invariant.left))
-    (AppendsFront-passed (g.W.Sink.contents c.put_tree.new.w) (tree_lines n l b) c.loop-child.invariant.passes put)
+    (AppendsPrefix-passed (g.W.Sink.contents c.put_tree.new.w) (tree_lines n l b) c.loop-child.invariant.passes put)
