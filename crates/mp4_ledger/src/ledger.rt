@@ -35,7 +35,7 @@ impl Model for Ledger {
 
     ghost view = { λ l. record { limit = l.limit; live = l.live; peak = l.peak } };
 
-    ghost invariant = { λ l. (l.live ≤ l.limit) × (l.live ≤ l.peak) };
+    ghost invariant = { λ l. (l.live ≤ l.limit) × (l.live ≤ l.peak) × (l.peak ≤ l.limit) };
 }
 
 impl Ledger {
@@ -63,6 +63,7 @@ impl Ledger {
     pub fn peak(&self) -> u64
         ensures peak { result ≡ self.now.peak }
         ensures most { self.now.live ≤ self.now.peak }
+        ensures within { self.now.peak ≤ self.now.limit }
     {
         self.peak
     }

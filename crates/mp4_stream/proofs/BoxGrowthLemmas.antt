@@ -16,40 +16,28 @@ use Rattle.mp4_box.specs.declared.rules.Fault.{Fault}
 use Rattle.mp4_box.specs.Trees.{tree_faults}
 use Rattle.mp4_stream.specs.Holding.{most_held}
 use Rattle.mp4_stream.specs.Listing.{box_line}
-use Rattle.mp4_stream.specs.Readings.{Reading, Ending, Sound, Refused, CutOff, Front, Last, Whole, Told, both, says, holds, after, after_told, TellsMore}
-use Rattle.mp4_stream.specs.Boxes.{longest, refused, sized_body, open_body, body, held_box, held_body, holding, box_by, least_end, box, front_by, front}
-use Rattle.mp4_stream.proofs.BoxLemmas.{nat_lt_true, nat_lt_false, front-some, front-none, kind_of-append}
-use Rattle.mp4_stream.proofs.GrowthLemmas.{told_of, LastGrows, FrontGrows, TellsMore-silent, TellsMore-behind}
+use Rattle.mp4_reading.specs.Readings.{Reading, Outcome, Sound, Faulty, CutOff, Front, Last, Whole, Told, both, says, asks_for, after, after_told, TellsMore}
+use Rattle.mp4_reading.specs.Bodies.{longest, told_body, told_open}
+use Rattle.mp4_stream.specs.Boxes.{refused, passed, body, held_box, held_body, holding, box_by, least_end, box, front_by, front}
+use Rattle.mp4_stream.proofs.BoxLemmas.{front-some, front-none, kind_of-append}
+use Rattle.mp4_reading.proofs.BodyLemmas.{nat_lt_true, nat_lt_false}
+use Rattle.mp4_reading.proofs.ReadingGrowthLemmas.{told_of, LastGrows, FrontGrows, TellsMore-silent, TellsMore-behind, told-grows}
 
-sized-grows : (at : ℕ) (kind : FourCc) (next left : ℕ) (b x : List ℕ) (t : Bool) → nat_lt (length b) left ≡ t → FrontGrows x (sized_body at kind next left b) (sized_body at kind next left (b ++ x))
+sized-grows : (at : ℕ) (kind : FourCc) (next left : ℕ) (b x : List ℕ) (t : Bool) → nat_lt (length b) left ≡ t → FrontGrows x (told_body passed at kind next left b) (told_body passed at kind next left (b ++ x))
 sized-grows at kind next left b x true e = rw e (TellsMore-silent _)
 sized-grows at kind next left b x false e =
     let enough : left ≤ length b = ltb-false _ _ e in
     rw (e, nat_lt_false (length (b ++ x)) left (omega (arith, length-append b x)), drop-append-le left b x enough) refl
 
-open-grows : (at : ℕ) (kind : FourCc) (left : ℕ) (b x : List ℕ) (t : Bool) → nat_lt left (length b) ≡ t → FrontGrows x (open_body at kind left b) (open_body at kind left (b ++ x))
+open-grows : (at : ℕ) (kind : FourCc) (left : ℕ) (b x : List ℕ) (t : Bool) → nat_lt left (length b) ≡ t → FrontGrows {C = ℕ} x (told_open passed at kind 0 left b) (told_open passed at kind 0 left (b ++ x))
 open-grows at kind left b x true e =
     let far : left < length b = ltb-true _ _ e in
     rw (e, nat_lt_true left (length (b ++ x)) (omega (arith, length-append b x))) refl
-open-grows at kind left b x false e = rw e (TellsMore-silent _)
+open-grows at kind left b x false e = rw (e, nat_lt_false (length b) 0 (omega arith)) (TellsMore-silent _)
 
-body-grows : (at : ℕ) (h : Header) (size : Size) (b x : List ℕ) → FrontGrows x (body at h size b) (body at h size (b ++ x))
+pub body-grows : (at : ℕ) (h : Header) (size : Size) (b x : List ℕ) → FrontGrows x (body at h size b) (body at h size (b ++ x))
 body-grows at h (Exact s) b x = sized-grows at h.kind (at + s) (s - h.header_len) b x (nat_lt (length b) (s - h.header_len)) refl
 body-grows at h ToEnd b x = open-grows at h.kind (longest - (at + h.header_len)) b x (nat_lt (longest - (at + h.header_len)) (length b)) refl
-
--- something is told before the front
-told-grows : (t : Told) (x : List ℕ) (f g : Front ℕ) → FrontGrows x f g → FrontGrows x (after_told t f) (after_told t g)
-told-grows t x (Whole told next rest) g h = ap (after_told t) h
-told-grows t x (Last r) g h = last r r.ending refl h
-  where
-    behind : (r : Reading) (g : Front ℕ) → TellsMore r.told (told_of g) → TellsMore (both t r.told) (told_of (after_told t g))
-    behind r (Last s) h = TellsMore-behind t r.told s.told h
-    behind r (Whole told next rest) h = TellsMore-behind t r.told told h
-
-    last : (r : Reading) (e : Ending) → r.ending ≡ e → LastGrows r e g → LastGrows (after t r) e (after_told t g)
-    last r (Refused f) e h = ap (after_told t) h
-    last r Sound e h = behind r g h
-    last r (CutOff f) e h = behind r g h
 
 held_box-grows : (at next : ℕ) (y rest x : List ℕ) (fs : List Fault) → FrontGrows x (held_box at next y rest fs) (held_box at next y (rest ++ x) fs)
 held_box-grows at next y rest x [] = refl
@@ -64,7 +52,7 @@ held-grows at kind size b x false e =
 
 holding-grows : (at : ℕ) (h : Header) (limit s : ℕ) (b x : List ℕ) (t : Bool) → nat_lt limit s ≡ t → FrontGrows x (holding at h limit b (Exact s)) (holding at h limit (b ++ x) (Exact s))
 holding-grows at h limit s b x true e = rw e refl
-holding-grows at h limit s b x false e = rw e (told-grows (holds s) x (held_body at h.kind s b) (held_body at h.kind s (b ++ x)) (held-grows at h.kind s b x (nat_lt (length b) s) refl))
+holding-grows at h limit s b x false e = rw e (told-grows (asks_for at s) x (held_body at h.kind s b) (held_body at h.kind s (b ++ x)) (held-grows at h.kind s b x (nat_lt (length b) s) refl))
 
 holding-grows_by : (at : ℕ) (h : Header) (limit : ℕ) (b x : List ℕ) (size : Size) → FrontGrows x (holding at h limit b size) (holding at h limit (b ++ x) size)
 holding-grows_by at h limit b x (Exact s) = holding-grows at h limit s b x (nat_lt limit s) refl

@@ -18,18 +18,13 @@ use Rattle.mp4_box.specs.declared.rules.Fault.{Fault}
 use Rattle.mp4_box.specs.Trees.{tree_faults}
 use Rattle.mp4_stream.specs.Holding.{held_lines, most_held}
 use Rattle.mp4_stream.specs.Listing.{box_line}
-use Rattle.mp4_stream.specs.Readings.{nothing, Last, Whole, after, after_told, silent, says, holds, Refused, then_read, fault_in}
-use Rattle.mp4_stream.specs.Boxes.{longest, fault, refused, cut_off, sized_body, open_body, body, held_box, held_body, holding, box_by, least_end, box, front_by, front, reading}
+use Rattle.mp4_reading.specs.Readings.{nothing, Last, Whole, after, after_told, silent, says, asks_for, Faulty, then_read, fault_in, early_in}
+use Rattle.mp4_reading.specs.Bodies.{longest, fault, told_body, told_open}
+use Rattle.mp4_stream.specs.Boxes.{refused, cut_off, passed, body, held_box, held_body, holding, box_by, least_end, box, front_by, front, reading}
 use Rattle.mp4_stream.specs.Places.{Place, InHeader, InBody, InHeld, InOpenBody, IsPlace, standing}
-use Rattle.mp4_stream.specs.Answers.{reading_from}
-use Rattle.mp4_stream.proofs.ReadingLemmas.{Below, Below-more, Below-told, IsItemwise, read_all-front, then_read-told}
-use Rattle.mp4_stream.specs.declared.machine.Command.TheVariants.{Boxes}
-
-pub nat_lt_true : (m n : ℕ) → m < n → nat_lt m n ≡ true
-nat_lt_true m n h = grind (arith, nat_tests)
-
-pub nat_lt_false : (m n : ℕ) → n ≤ m → nat_lt m n ≡ false
-nat_lt_false m n h = grind (arith, nat_tests)
+use Rattle.mp4_reading.specs.Pieces.{IsQuiet}
+use Rattle.mp4_reading.proofs.ReadingLemmas.{Below, Below-more, Below-told, IsItemwise, read_all-front, then_read-told}
+use Rattle.mp4_reading.proofs.BodyLemmas.{nat_lt_true, nat_lt_false, body-none, open-none}
 
 pub some_bytes : (xs : List ℕ) → (xs ≡ [] → ⊥) → 0 < length xs
 some_bytes [] f = absurd (f refl)
@@ -37,19 +32,22 @@ some_bytes (x ∷ xs) f = omega arith
 
 -- ---- the boxes are items
 
-sized-below : (at : ℕ) (kind : FourCc) (next left : ℕ) (bytes : List ℕ) → Below (sized_body at kind next left bytes) (length bytes)
+sized-below : (at : ℕ) (kind : FourCc) (next left : ℕ) (bytes : List ℕ) → Below (told_body passed at kind next left bytes) (length bytes)
 sized-below at kind next left bytes = elim (nat_lt (length bytes) left) as (λ v. Below (if v then Last (cut_off Truncated (Some kind) at) else Whole silent next (drop left bytes)) (length bytes)) [
   | true ↦ tt
   | false ↦ omega (arith, length-drop left bytes)
 ]
 
-open-below : (at : ℕ) (kind : FourCc) (left : ℕ) (bytes : List ℕ) (n : ℕ) → Below (open_body at kind left bytes) n
-open-below at kind left bytes n = elim (nat_lt left (length bytes)) as (λ v. Below {C = ℕ} (if v then Last (refused StreamTooLong (Some kind) at) else Last nothing) n) [
+open-below : (at : ℕ) (kind : FourCc) (left : ℕ) (bytes : List ℕ) (n : ℕ) → Below {C = ℕ} (told_open passed at kind 0 left bytes) n
+open-below at kind left bytes n = elim (nat_lt left (length bytes)) as (λ v. Below {C = ℕ} (if v then Last (refused StreamTooLong (Some kind) at) else if nat_lt (length bytes) 0 then Last (cut_off Truncated (Some kind) at) else Last nothing) n) [
   | true ↦ tt
-  | false ↦ tt
+  | false ↦ elim (nat_lt (length bytes) 0) as (λ v. Below {C = ℕ} (if v then Last (cut_off Truncated (Some kind) at) else Last nothing) n) [
+    | true ↦ tt
+    | false ↦ tt
+  ]
 ]
 
-body-below : (at : ℕ) (h : Header) (size : Size) (bytes : List ℕ) → Below (body at h size bytes) (length bytes)
+pub body-below : (at : ℕ) (h : Header) (size : Size) (bytes : List ℕ) → Below (body at h size bytes) (length bytes)
 body-below at h (Exact s) bytes = sized-below at h.kind (at + s) (s - h.header_len) bytes
 body-below at h ToEnd bytes = open-below at h.kind (longest - (at + h.header_len)) bytes (length bytes)
 
@@ -57,16 +55,16 @@ held_box-below : (at next : ℕ) (x rest : List ℕ) (fs : List Fault) (n : ℕ)
 held_box-below at next x rest [] n h = h
 held_box-below at next x rest (f ∷ fs) n h = tt
 
-held-below : (at : ℕ) (kind : FourCc) (size : ℕ) (bytes : List ℕ) (n : ℕ) → length bytes ≤ n + size → Below (held_body at kind size bytes) n
+pub held-below : (at : ℕ) (kind : FourCc) (size : ℕ) (bytes : List ℕ) (n : ℕ) → length bytes ≤ n + size → Below (held_body at kind size bytes) n
 held-below at kind size bytes n h = elim (nat_lt (length bytes) size) as (λ v. Below (if v then Last (cut_off Truncated (Some kind) at) else held_box at (at + size) (take size bytes) (drop size bytes) (tree_faults at (take size bytes))) n) [
   | true ↦ tt
   | false ↦ held_box-below at (at + size) (take size bytes) (drop size bytes) (tree_faults at (take size bytes)) n (omega (arith, length-drop size bytes))
 ]
 
 holding-below : (at : ℕ) (h : Header) (limit : ℕ) (x bytes : List ℕ) (size : Size) → HasRoom size (length x) → Below (holding at h limit (x ++ bytes) size) (length bytes)
-holding-below at h limit x bytes (Exact s) room = elim (nat_lt limit s) as (λ v. Below (if v then Last (refused TooLarge (Some h.kind) at) else after_told (holds s) (held_body at h.kind s (x ++ bytes))) (length bytes)) [
+holding-below at h limit x bytes (Exact s) room = elim (nat_lt limit s) as (λ v. Below (if v then Last (refused TooLarge (Some h.kind) at) else after_told (asks_for at s) (held_body at h.kind s (x ++ bytes))) (length bytes)) [
   | true ↦ tt
-  | false ↦ Below-told (holds s) (held_body at h.kind s (x ++ bytes)) (length bytes) (held-below at h.kind s (x ++ bytes) (length bytes) (omega (arith, length-append x bytes)))
+  | false ↦ Below-told (asks_for at s) (held_body at h.kind s (x ++ bytes)) (length bytes) (held-below at h.kind s (x ++ bytes) (length bytes) (omega (arith, length-append x bytes)))
 ]
 holding-below at h limit x bytes ToEnd room = tt
 
@@ -168,9 +166,9 @@ pub reading-held_to_end : (at : ℕ) (h : Header) (x later : List ℕ) (limit : 
 reading-held_to_end at h x later limit near held size = rw (size, nat_lt_false longest (at + h.header_len) near, held) refl
 
 pub reading-holds : (at : ℕ) (h : Header) (x later : List ℕ) (limit s : ℕ) → at + s ≤ longest → most_held h.kind.0 ≡ Some limit → h.size ≡ Exact s → s ≤ limit
-    → then_read reading (box at h x later) ≡ after (holds s) (then_read reading (held_body at h.kind s (x ++ later)))
+    → then_read reading (box at h x later) ≡ after (asks_for at s) (then_read reading (held_body at h.kind s (x ++ later)))
 reading-holds at h x later limit s near held size fits =
-    rw (size, nat_lt_false longest (at + s) near, held, nat_lt_false limit s fits) (then_read-told reading (holds s) (held_body at h.kind s (x ++ later)))
+    rw (size, nat_lt_false longest (at + s) near, held, nat_lt_false limit s fits) (then_read-told reading (asks_for at s) (held_body at h.kind s (x ++ later)))
 
 -- all of a held box came
 pub reading-good : (at : ℕ) (kind : FourCc) (size : ℕ) (x later : List ℕ) → length x ≡ size → tree_faults at x ≡ []
@@ -181,26 +179,33 @@ reading-good at kind size x later len good =
     rw (nat_lt_false (length (x ++ later)) size (omega (arith, length-append x later)), front, behind, good) refl
 
 pub reading-bad_tree : (at : ℕ) (kind : FourCc) (size : ℕ) (x later : List ℕ) (f : Fault) (fs : List Fault) → length x ≡ size → tree_faults at x ≡ f ∷ fs
-    → then_read reading (held_body at kind size (x ++ later)) ≡ record { told = silent; ending = Refused f }
+    → then_read reading (held_body at kind size (x ++ later)) ≡ record { told = silent; outcome = Faulty f }
 reading-bad_tree at kind size x later f fs len bad =
     let front : take size (x ++ later) ≡ x = ap (λ n. take n (x ++ later)) (sym len) ∙ take-append_seam x later in
     rw (nat_lt_false (length (x ++ later)) size (omega (arith, length-append x later)), front, bad) refl
 
 -- ---- the end of the stream
 
-pub ending-held : (at : ℕ) (held : List ℕ) → 0 < length held → length held < need held → fault_in (reading_from (standing Boxes (InHeader at held)) []).ending ≡ Some (fault Truncated (kind_of held) at)
-ending-held at held some short = ap (λ r. fault_in r.ending) (ap (reading at) (append-nil held) ∙ reading-more at held some short)
+pub end-held : (at : ℕ) (held : List ℕ) → 0 < length held → length held < need held → fault_in ((standing (InHeader at held)).reads []).outcome ≡ Some (fault Truncated (kind_of held) at)
+end-held at held some short = ap (λ r. fault_in r.outcome) (ap (reading at) (append-nil held) ∙ reading-more at held some short)
 
-pub ending-none : (at : ℕ) (held : List ℕ) → held ≡ [] → fault_in (reading_from (standing Boxes (InHeader at held)) []).ending ≡ None
-ending-none at held e = ap (λ l. fault_in (reading_from (standing Boxes (InHeader at l)) []).ending) e ∙ ap (λ r. fault_in r.ending) (reading-none at)
+pub end-none : (at : ℕ) (held : List ℕ) → held ≡ [] → fault_in ((standing (InHeader at held)).reads []).outcome ≡ None
+end-none at held e = ap (λ l. fault_in ((standing (InHeader at l)).reads []).outcome) e ∙ ap (λ r. fault_in r.outcome) (reading-none at)
 
--- at no place the end of the stream tells anything
-silent-held : (at : ℕ) (held : List ℕ) → length held < need held → (reading at held).told ≡ silent
-silent-held at [] short = ap (λ r. r.told) (reading-none at)
-silent-held at (b ∷ held) short = ap (λ r. r.told) (reading-more at (b ∷ held) (omega arith) short)
+-- at no place the end of the stream tells anything, and no fault is decided
+quiet-held : (at : ℕ) (held : List ℕ) → length held < need held → ((reading at held).told ≡ silent) × (early_in (reading at held).outcome ≡ None)
+quiet-held at [] short = (ap (λ r. r.told) (reading-none at), ap (λ r. early_in r.outcome) (reading-none at))
+quiet-held at (b ∷ held) short =
+    let cut = reading-more at (b ∷ held) (omega arith) short in (ap (λ r. r.told) cut, ap (λ r. early_in r.outcome) cut)
 
-pub silent-end : (p : Place) → IsPlace p → (reading_from (standing Boxes p) []).told ≡ silent
-silent-end (InHeader at held) h = ap (λ l. (reading at l).told) (append-nil held) ∙ silent-held at held h.0
-silent-end (InBody at kind next left) h = rw (nat_lt_true 0 left h.0) refl
-silent-end (InHeld at kind size held) h = rw (nat_lt_true (length (held ++ [])) size (omega (arith, length-append held [], h.0))) refl
-silent-end (InOpenBody at kind left) h = rw (nat_lt_false left 0 (omega arith)) refl
+pub place-quiet : (p : Place) → IsPlace p → IsQuiet (standing p)
+place-quiet (InHeader at held) h =
+    let quiet = quiet-held at held h.0 in
+    let same = append-nil held in
+    record { told = ap (λ l. (reading at l).told) same ∙ quiet.0; early = ap (λ l. early_in (reading at l).outcome) same ∙ quiet.1 }
+place-quiet (InBody at kind next left) h =
+    let none = body-none reading at kind next passed left h.0 in record { told = ap (λ r. r.told) none; early = ap (λ r. early_in r.outcome) none }
+place-quiet (InHeld at kind size held) h =
+    let short = nat_lt_true (length (held ++ [])) size (omega (arith, length-append held [], h.0)) in record { told = rw short refl; early = rw short refl }
+place-quiet (InOpenBody at kind left) h =
+    let none = open-none reading at kind 0 passed left in record { told = ap (λ r. r.told) none; early = ap (λ r. early_in r.outcome) none }

@@ -10,7 +10,7 @@ use Rattle.mp4_box.specs.declared.rules.Fault.{Fault}
 use Rattle.mp4_box.proofs.HeaderLemmas.{whole_is, header_at-append}
 use Rattle.mp4_box.proofs.GrammarLemmas.{is_whole}
 use Rattle.mp4_stream.specs.Places.{Begins}
-use Rattle.mp4_stream.proofs.BoxLemmas.{nat_lt_false}
+use Rattle.mp4_reading.proofs.BodyLemmas.{nat_lt_false}
 
 found : (x : List ℕ) (h : Header) → header_at x ≡ steps.Whole h → h.size ≡ Exact (length x) → box_at 0 x ≡ Some (record { header = h; offset = 0; payload = slice_range x h.header_len (length x) })
 unfolding box_at

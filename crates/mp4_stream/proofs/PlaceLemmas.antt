@@ -1,5 +1,5 @@
--- What a reader of boxes brings by its place.
-use Rattle.std.proofs.Common.{◌≡◌, ℕ, ◌+◌, ◌^◌, ◌<◌, ◌≤◌, List, [], ◌∷◌, ◌++◌, length, Option, Some, None, ap, sym, refl, ◌∙◌, arith, append_assoc, append-nil, length-append, take, drop, take-append-drop, length-take-le, subst}
+-- What a machine that lists boxes brings by its place.
+use Rattle.std.proofs.Common.{◌≡◌, ℕ, ◌+◌, ◌-◌, ◌^◌, ◌<◌, ◌≤◌, List, [], ◌∷◌, ◌++◌, length, Option, Some, None, ap, sym, refl, ◌∙◌, arith, append_assoc, append-nil, length-append, take, drop, take-append-drop, length-take-le, subst}
 use Rattle.mp4_box.specs.declared.headers.FourCc.{FourCc}
 use Rattle.mp4_box.specs.declared.headers.Header.{Header}
 use Rattle.mp4_box.specs.declared.headers.Size.TheVariants.{Exact, ToEnd}
@@ -7,46 +7,38 @@ use Rattle.mp4_box.specs.declared.headers.Step.TheVariants as steps
 use Rattle.mp4_box.specs.declared.rules.Fault.{Fault}
 use Rattle.mp4_box.specs.declared.rules.Rule.TheVariants.{BadSize, StreamTooLong, TooLarge}
 use Rattle.mp4_box.specs.Headers.{need, header_at, kind_of}
-use Rattle.mp4_ends.specs.Streams.{AppendsPrefix}
 use Rattle.mp4_box.specs.Trees.{tree_faults}
 use Rattle.mp4_box.proofs.HeaderLemmas.{whole_is, bad_is, need_more, need-append, need-least, need-most, header_at-append}
+use Rattle.mp4_ends.specs.Streams.{AppendsPrefix}
 use Rattle.mp4_ends.proofs.StreamLemmas.{AppendsPrefix-longer}
 use Rattle.mp4_ledger.specs.Memory.{claimed, given_back}
-use Rattle.mp4_stream.specs.Accounts.{Counts, Spends}
-use Rattle.mp4_stream.specs.Blocks.{Passes}
+use Rattle.mp4_ledger.specs.declared.ledger.Refused.{Refused}
+use Rattle.mp4_ledger.specs.declared.ledger.Refused.TheVariants as refusals
+use Rattle.mp4_reading.specs.Accounts.{Counts, Spends}
+use Rattle.mp4_reading.specs.Blocks.{Passes}
+use Rattle.mp4_reading.specs.Bodies.{longest, fault}
+use Rattle.mp4_reading.specs.Pieces.{Outside, Standing, Moves, GoesOn, Refuses, Starves, Loses, StopsAt, refusal_of}
+use Rattle.mp4_reading.specs.Readings.{Faulty, Reading, Told, then_read, silent, says, asks_for, most_of, after}
+use Rattle.mp4_reading.specs.declared.stop.Stop.{Stop}
+use Rattle.mp4_reading.specs.declared.stop.Stop.TheVariants.{OverLimit, Memory}
+use Rattle.mp4_reading.proofs.AccountLemmas.{Counts-none, Counts-claim, Counts-back, Spends-more, Spends-counts}
+use Rattle.mp4_reading.proofs.BlockLemmas.{Passes-none}
+use Rattle.mp4_reading.proofs.PieceLemmas.{sent_to, claimed_from, back_to, Moves-none, Moves-claim, GoesOn-silent, GoesOn-more, StopsAt-more}
+use Rattle.mp4_reading.proofs.ReadingLemmas.{after-silent}
+use Rattle.mp4_reading.proofs.ReadingAskLemmas.{plus-none}
+use Rattle.mp4_stream.specs.Boxes.{refused, least_end, body, held_body, reading}
 use Rattle.mp4_stream.specs.Holding.{held_lines, most_held}
 use Rattle.mp4_stream.specs.Listing.{box_line}
-use Rattle.mp4_stream.specs.Readings.{Reading, Told, then_read, silent, says, holds, after}
-use Rattle.mp4_stream.specs.Boxes.{longest, fault, refused, least_end, body, held_body, reading}
-use Rattle.mp4_stream.specs.Places.{Place, InHeader, InBody, InHeld, InOpenBody, IsPlace, kept_of, from_of, reads_of, claim_of, place_by, standing}
+use Rattle.mp4_stream.specs.Places.{Place, InHeader, InBody, InHeld, InOpenBody, IsPlace, reached_of, reads_at, claim_of, place_by, standing}
 use Rattle.mp4_stream.specs.declared.phase.Phase.{Phase}
 use Rattle.mp4_stream.specs.declared.phase.Phase.TheVariants as phases
-use Rattle.mp4_stream.specs.Answers.{Outside, outside, Standing, reached, reading_from, GoesOn, Refuses, IsClaim, Starves, FailsIn, StopsAt}
-use Rattle.mp4_stream.specs.declared.top.Stop.{Stop}
-use Rattle.mp4_stream.specs.declared.top.Stop.TheVariants.{OverLimit, Memory}
-use Rattle.mp4_stream.proofs.AccountLemmas.{Counts-none, Counts-claim, Counts-back, Spends-more, Spends-counts}
-use Rattle.mp4_stream.proofs.AnswerLemmas.{GoesOn-more, StopsAt-more}
-use Rattle.mp4_stream.proofs.ReadingLemmas.{after-silent}
-use Rattle.mp4_stream.proofs.BlockLemmas.{Passes-none}
 use Rattle.mp4_stream.proofs.BoxLemmas.{reading-whole, reading-bad, reading-begun, reading-too_long, reading-too_large, reading-held_to_end, reading-holds, reading-good, reading-bad_tree}
-use Rattle.mp4_stream.specs.declared.machine.Command.{Command}
-use Rattle.mp4_stream.specs.declared.machine.Command.TheVariants.{Boxes}
 
-pub reached-most : (p : Place) → IsPlace p → reached (standing Boxes p) ≤ 2 ^ 62 + 31
+pub reached-most : (p : Place) → IsPlace p → reached_of p ≤ 2 ^ 62 + 31
 reached-most (InHeader at held) h = omega (arith, h.0, h.1, need-most held)
 reached-most (InBody at kind next left) h = omega arith
 reached-most (InHeld at kind size held) h = omega (arith, h.0, h.1)
 reached-most (InOpenBody at kind left) h = omega arith
-
--- there is one command
-pub only-boxes : (command : Command) → command ≡ Boxes
-only-boxes Boxes = refl
-
--- no byte of a header came
-pub kept-none : (p : Phase) → kept_of (place_by [] p) ≡ []
-kept-none (phases.Header at) = refl
-kept-none (phases.Body at kind next left) = refl
-kept-none (phases.OpenBody at kind left) = refl
 
 -- what isn't held is not claimed
 pub claim-none : (head : List ℕ) (p : Phase) → claim_of (place_by head p) ≡ 0
@@ -54,19 +46,14 @@ claim-none head (phases.Header at) = refl
 claim-none head (phases.Body at kind next left) = refl
 claim-none head (phases.OpenBody at kind left) = refl
 
--- ---- a byte of a header
+-- ---- bytes of which nothing is told yet
 
+-- a byte of a header
 pub GoesOn-byte : (o : Outside) (at : ℕ) (held : List ℕ) (byte : ℕ) (new : List ℕ) → new ≡ held ++ byte ∷ []
-    → GoesOn o o (standing Boxes (InHeader at held)) (byte ∷ []) (standing Boxes (InHeader at new))
-GoesOn-byte o at held byte new e = record {
-  brought = silent;
-  passes = Passes-none o.written o.waiting;
-  counts = Counts-none o.account 0;
-  past = [];
-  cut = sym e;
-  from = omega arith;
-  rest = λ later. sym (after-silent (reading at later));
-}
+    → GoesOn o o (standing (InHeader at held)) (byte ∷ []) (standing (InHeader at new))
+GoesOn-byte o at held byte new e =
+    GoesOn-silent o (standing (InHeader at held)) (standing (InHeader at new)) (byte ∷ []) refl (omega (arith, ap length e, length-append held (byte ∷ [])))
+    (λ later. ap (reading at) (sym (append_assoc held (byte ∷ []) later) ∙ ap (λ l. l ++ later) (sym e)))
 
 -- the last byte of a header
 
@@ -75,162 +62,138 @@ whole-len held byte new h short e is =
     let most : length new ≤ need new = rw e (need_more held byte short) in
     omega (arith, most, (whole_is new h is).0)
 
-bad-len : (held : List ℕ) (byte : ℕ) (new : List ℕ) → length held < need held → new ≡ held ++ byte ∷ [] → header_at new ≡ steps.BadSize → length new ≡ need new
+pub bad-len : (held : List ℕ) (byte : ℕ) (new : List ℕ) → length held < need held → new ≡ held ++ byte ∷ [] → header_at new ≡ steps.BadSize → length new ≡ need new
 bad-len held byte new short e is =
     let most : length new ≤ need new = rw e (need_more held byte short) in
     omega (arith, most, bad_is new is)
 
+-- whatever comes behind, a place reads a fault
+pub Refuses-there : (o : Outside) (p : Standing) (more : List ℕ) (f : Fault) → ((later : List ℕ) → p.reads later ≡ record { told = silent; outcome = Faulty f }) → p.claim ≡ 0 → Refuses o o p more f
+Refuses-there o p more f r none = record { brought = silent; moves = subst (λ n. Moves o o n 0 silent) (sym none) (Moves-none o 0); rest = λ later. r (more ++ later) }
+
 pub Refuses-bad : (o : Outside) (at : ℕ) (held : List ℕ) (byte : ℕ) (new more : List ℕ) → length held < need held → new ≡ held ++ byte ∷ [] → header_at new ≡ steps.BadSize
-    → Refuses o o (standing Boxes (InHeader at held)) (byte ∷ more) 0 (fault BadSize (kind_of new) at)
+    → Refuses o o (standing (InHeader at held)) (byte ∷ more) (fault BadSize (kind_of new) at)
 Refuses-bad o at held byte new more short e is = record {
   brought = silent;
-  passes = Passes-none o.written o.waiting;
-  counts = Counts-none o.account 0;
+  moves = Moves-none o 0;
   rest = λ later. ap (reading at) (sym (append_assoc held (byte ∷ []) (more ++ later)) ∙ ap (λ l. l ++ (more ++ later)) (sym e)) ∙ reading-bad at new (more ++ later) (bad-len held byte new short e is) is;
 }
 
 module _ (o o' : Outside) (at : ℕ) (held : List ℕ) (byte : ℕ) (new : List ℕ) (e : new ≡ held ++ byte ∷ []) where
-  pub GoesOn-last : (q : Standing) → GoesOn o o' (standing Boxes (InHeader at new)) [] q → GoesOn o o' (standing Boxes (InHeader at held)) (byte ∷ []) q
-  GoesOn-last q g = GoesOn-more {p = standing Boxes (InHeader at held)} (omega arith) (GoesOn-byte o at held byte new e) [] q g
+  pub GoesOn-last : (q : Standing) → GoesOn o o' (standing (InHeader at new)) [] q → GoesOn o o' (standing (InHeader at held)) (byte ∷ []) q
+  GoesOn-last q g = GoesOn-more {p = standing (InHeader at held)} (omega arith) (GoesOn-byte o at held byte new e) [] q g
 
-  pub StopsAt-last : (more : List ℕ) (claim : ℕ) (s : Stop) → StopsAt o o' (standing Boxes (InHeader at new)) more claim s → StopsAt o o' (standing Boxes (InHeader at held)) (byte ∷ more) claim s
-  StopsAt-last more claim s g = StopsAt-more {p = standing Boxes (InHeader at held)} (omega arith) (GoesOn-byte o at held byte new e) o' more claim s g
+  pub StopsAt-last : (more : List ℕ) (s : Stop) → StopsAt o o' (standing (InHeader at new)) more s → StopsAt o o' (standing (InHeader at held)) (byte ∷ more) s
+  StopsAt-last more s g = StopsAt-more {p = standing (InHeader at held)} (omega arith) (GoesOn-byte o at held byte new e) o' more s g
 
 -- a write failed in what is told first
-FailsIn-told : (o o' : Outside) (c claim : ℕ) (told : Told) (rest r : Reading) → r ≡ after told rest → AppendsPrefix o.written o'.written (o.waiting ++ told.text) → Spends o.account o'.account c claim 0 → FailsIn o o' c claim r
-FailsIn-told o o' c claim told rest r e p q = (
-  AppendsPrefix-longer o.written o'.written (o.waiting ++ told.text) rest.told.text (o.waiting ++ r.told.text) p (ap (λ s. o.waiting ++ s.told.text) e ∙ sym (append_assoc o.waiting told.text rest.told.text)),
-  Spends-more o.account o'.account c claim 0 r.told.most (omega arith) q,
-)
+Loses-told : (o o' : Outside) (own : ℕ) (told : Told) (rest r : Reading) → r ≡ after told rest → AppendsPrefix o.written o'.written (o.waiting ++ told.text) → Spends o.account o'.account own 0 0 → Loses o o' own r
+Loses-told o o' own told rest r e p q = record {
+  text = AppendsPrefix-longer o.written o'.written (o.waiting ++ told.text) rest.told.text (o.waiting ++ r.told.text) p (ap (λ s. o.waiting ++ s.told.text) e ∙ sym (append_assoc o.waiting told.text rest.told.text));
+  spends = Spends-more o.account o'.account own 0 0 (most_of r.told) (omega arith) q;
+}
 
 -- ---- behind the header x of a box
 
 module _ (o : Outside) (at : ℕ) (h : Header) (x : List ℕ) (len : length x ≡ need x) (is : header_at x ≡ steps.Whole h) where
   -- the box goes past the longest stream
-  pub Refuses-far : (more : List ℕ) → longest < least_end at h h.size → Refuses o o (standing Boxes (InHeader at x)) more 0 (fault StreamTooLong (Some h.kind) at)
-  Refuses-far more far = record { brought = silent; passes = Passes-none o.written o.waiting; counts = Counts-none o.account 0; rest = λ later. reading-whole at x (more ++ later) h len is ∙ reading-too_long at h x (more ++ later) far }
+  pub Refuses-far : (more : List ℕ) → longest < least_end at h h.size → Refuses o o (standing (InHeader at x)) more (fault StreamTooLong (Some h.kind) at)
+  Refuses-far more far = Refuses-there o (standing (InHeader at x)) more (fault StreamTooLong (Some h.kind) at) (λ later. reading-whole at x later h len is ∙ reading-too_long at h x later far) refl
 
   -- its line was written
-  pub GoesOn-line : (u : Option (List ℕ)) (v line : List ℕ) (p : Place) → line ≡ box_line at h → least_end at h h.size ≤ longest → most_held h.kind.0 ≡ None → claim_of p ≡ 0 → kept_of p ≡ [] → from_of p ≡ at + h.header_len
-      → ((later : List ℕ) → then_read reading (body at h h.size later) ≡ reads_of Boxes p later) → Passes o.written u o.waiting v line → GoesOn o (outside u v o.account) (standing Boxes (InHeader at x)) [] (standing Boxes p)
-  GoesOn-line u v line p e near loose none empty place brings q = record {
+  pub GoesOn-line : (u : Option (List ℕ)) (v line : List ℕ) (p : Place) → line ≡ box_line at h → least_end at h h.size ≤ longest → most_held h.kind.0 ≡ None → claim_of p ≡ 0 → reached_of p ≡ at + h.header_len
+      → ((later : List ℕ) → then_read reading (body at h h.size later) ≡ reads_at p later) → Passes o.written u o.waiting v line → GoesOn o (sent_to o u v) (standing (InHeader at x)) [] (standing p)
+  GoesOn-line u v line p e near loose none place brings q = record {
     brought = says (box_line at h);
-    passes = subst (Passes o.written u o.waiting v) e q;
-    counts = rw none (Counts-none o.account 0);
-    past = x;
-    cut = ap (λ l. x ++ l) (sym empty);
-    from = omega (arith, place, (whole_is x h is).1, len);
+    moves = record { passes = subst (Passes o.written u o.waiting v) e q; counts = rw none (Counts-none o.account 0); tallied = sym (plus-none o.tally) };
+    reached = omega (arith, place, (whole_is x h is).1, len);
     rest = λ later. reading-whole at x later h len is ∙ reading-begun at h x later near loose ∙ ap (after (says (box_line at h))) (brings later);
   }
 
   -- its line can't be written
-  pub FailsIn-line : (u : Option (List ℕ)) (later : List ℕ) → least_end at h h.size ≤ longest → most_held h.kind.0 ≡ None
-      → AppendsPrefix o.written u (o.waiting ++ box_line at h) → FailsIn o (outside u [] o.account) 0 0 (reading_from (standing Boxes (InHeader at x)) later)
-  FailsIn-line u later near loose p = FailsIn-told o (outside u [] o.account) 0 0 (says (box_line at h)) (then_read reading (body at h h.size later)) (reading_from (standing Boxes (InHeader at x)) later)
+  pub Loses-line : (u : Option (List ℕ)) (v later : List ℕ) → least_end at h h.size ≤ longest → most_held h.kind.0 ≡ None
+      → AppendsPrefix o.written u (o.waiting ++ box_line at h) → Loses o (sent_to o u v) 0 (reading at (x ++ later))
+  Loses-line u v later near loose p = Loses-told o (sent_to o u v) 0 (says (box_line at h)) (then_read reading (body at h h.size later)) (reading at (x ++ later))
       (reading-whole at x later h len is ∙ reading-begun at h x later near loose) p (Spends-counts o.account o.account 0 0 0 (Counts-none o.account 0))
 
   -- it is to be held, and has no size or one that is too large
-  pub Refuses-large : (more : List ℕ) (limit s : ℕ) → at + s ≤ longest → most_held h.kind.0 ≡ Some limit → h.size ≡ Exact s → limit < s → Refuses o o (standing Boxes (InHeader at x)) more 0 (fault TooLarge (Some h.kind) at)
-  Refuses-large more limit s near held size large = record {
-    brought = silent;
-    passes = Passes-none o.written o.waiting;
-    counts = Counts-none o.account 0;
-    rest = λ later. reading-whole at x (more ++ later) h len is ∙ reading-too_large at h x (more ++ later) limit s near held size large;
-  }
+  pub Refuses-large : (more : List ℕ) (limit s : ℕ) → at + s ≤ longest → most_held h.kind.0 ≡ Some limit → h.size ≡ Exact s → limit < s → Refuses o o (standing (InHeader at x)) more (fault TooLarge (Some h.kind) at)
+  Refuses-large more limit s near held size large =
+      Refuses-there o (standing (InHeader at x)) more (fault TooLarge (Some h.kind) at) (λ later. reading-whole at x later h len is ∙ reading-too_large at h x later limit s near held size large) refl
 
-  pub Refuses-open : (more : List ℕ) (limit : ℕ) → at + h.header_len ≤ longest → most_held h.kind.0 ≡ Some limit → h.size ≡ ToEnd → Refuses o o (standing Boxes (InHeader at x)) more 0 (fault TooLarge (Some h.kind) at)
-  Refuses-open more limit near held size = record {
-    brought = silent;
-    passes = Passes-none o.written o.waiting;
-    counts = Counts-none o.account 0;
-    rest = λ later. reading-whole at x (more ++ later) h len is ∙ reading-held_to_end at h x (more ++ later) limit near held size;
-  }
+  pub Refuses-open : (more : List ℕ) (limit : ℕ) → at + h.header_len ≤ longest → most_held h.kind.0 ≡ Some limit → h.size ≡ ToEnd → Refuses o o (standing (InHeader at x)) more (fault TooLarge (Some h.kind) at)
+  Refuses-open more limit near held size =
+      Refuses-there o (standing (InHeader at x)) more (fault TooLarge (Some h.kind) at) (λ later. reading-whole at x later h len is ∙ reading-held_to_end at h x later limit near held size) refl
 
   module _ (limit s : ℕ) (near : at + s ≤ longest) (held : most_held h.kind.0 ≡ Some limit) (size : h.size ≡ Exact s) (fits : s ≤ limit) where
     -- room for it was claimed
-    pub GoesOn-claim : 0 < s → GoesOn o (outside o.written o.waiting (claimed o.account s)) (standing Boxes (InHeader at x)) [] (standing Boxes (InHeld at h.kind s x))
+    pub GoesOn-claim : 0 < s → GoesOn o (claimed_from o s) (standing (InHeader at x)) [] (standing (InHeld at h.kind s x))
     GoesOn-claim some = record {
-      brought = holds s;
-      passes = Passes-none o.written o.waiting;
-      counts = Counts-claim o.account s some;
-      past = x;
-      cut = refl;
-      from = refl;
+      brought = asks_for at s;
+      moves = subst (λ n. Moves o (claimed_from o s) 0 n (asks_for at n)) (omega arith) (Moves-claim o 0 s at (omega arith) (omega arith));
+      reached = omega arith;
       rest = λ later. reading-whole at x later h len is ∙ reading-holds at h x later limit s near held size fits;
     }
 
     -- and it was not
-    Starves-claim : (more : List ℕ) → Starves o o (standing Boxes (InHeader at x)) more
-    Starves-claim more =
-        let place : at ≡ at + 0 = omega arith in
-        let claim : IsClaim at x s = record { header = h; limit = limit; spelled = is; whole = len; held = held; sized = size; fits = fits; near = near } in
-        record {
-          brought = silent;
-          passes = Passes-none o.written o.waiting;
-          counts = Counts-none o.account 0;
-          past = [];
-          head = x;
-          behind = more;
-          cut = refl;
-          size = s;
-          claim = subst (λ n. IsClaim n x s) place claim;
-          rest = λ later. sym (after-silent (reading at later)) ∙ ap (λ n. after silent (reading n later)) place;
-        }
+    Starves-claim : (more : List ℕ) → Starves o o (standing (InHeader at x)) more
+    Starves-claim more = record {
+      brought = silent;
+      moves = Moves-none o 0;
+      at = at;
+      sum = s;
+      behind = λ later. then_read reading (held_body at h.kind s (x ++ (more ++ later)));
+      rest = λ later. reading-whole at x (more ++ later) h len is ∙ reading-holds at h x (more ++ later) limit s near held size fits ∙ sym (after-silent _);
+    }
 
-    pub StopsAt-over : (more : List ℕ) → o.account.limit < o.account.live + s → StopsAt o o (standing Boxes (InHeader at x)) more 0 OverLimit
+    pub StopsAt-refused : (more : List ℕ) (r : Refused) → (r ≡ refusals.OverLimit → o.account.limit < o.account.live + s) → (r ≡ refusals.Memory → o.account.live + s ≤ o.account.limit) → StopsAt o o (standing (InHeader at x)) more (refusal_of r)
     unfolding Starves-claim
-    StopsAt-over more over = (refl, (Starves-claim more, over))
-
-    pub StopsAt-want : (more : List ℕ) → o.account.live + s ≤ o.account.limit → StopsAt o o (standing Boxes (InHeader at x)) more 0 Memory
-    unfolding Starves-claim
-    StopsAt-want more within = (refl, (Starves-claim more, within))
+    StopsAt-refused more refusals.OverLimit over within = (Starves-claim more, omega (arith, over refl))
+    StopsAt-refused more refusals.Memory over within = (Starves-claim more, omega (arith, within refl))
 
 -- ---- bytes of a body
 
-pub GoesOn-passed : (o : Outside) (p q : Place) (x : List ℕ) → claim_of p ≡ claim_of q → kept_of p ≡ [] → kept_of q ≡ [] → from_of q ≡ from_of p + length x
-    → ((later : List ℕ) → reads_of Boxes p (x ++ later) ≡ reads_of Boxes q later) → GoesOn o o (standing Boxes p) x (standing Boxes q)
-GoesOn-passed o p q x e none none' place f = record {
-  brought = silent;
-  passes = Passes-none o.written o.waiting;
-  counts = subst (λ n. Counts o.account o.account (claim_of p) n 0) e (Counts-none o.account (claim_of p));
-  past = x;
-  cut = ap (λ l. l ++ x) none ∙ sym (append-nil x) ∙ ap (λ l. x ++ l) (sym none');
-  from = place;
-  rest = λ later. f later ∙ sym (after-silent (reads_of Boxes q later));
-}
+pub GoesOn-passed : (o : Outside) (p q : Place) (x : List ℕ) → claim_of p ≡ claim_of q → reached_of q ≡ reached_of p + length x
+    → ((later : List ℕ) → reads_at p (x ++ later) ≡ reads_at q later) → GoesOn o o (standing p) x (standing q)
+GoesOn-passed o p q x e place f = GoesOn-silent o (standing p) (standing q) x (sym e) place f
 
-pub Refuses-passed : (o : Outside) (at left : ℕ) (kind : FourCc) (x : List ℕ)
-    → ((later : List ℕ) → reads_of Boxes (InOpenBody at kind left) (x ++ later) ≡ refused StreamTooLong (Some kind) at)
-    → Refuses o o (standing Boxes (InOpenBody at kind left)) x 0 (fault StreamTooLong (Some kind) at)
-Refuses-passed o at left kind x f = record { brought = silent; passes = Passes-none o.written o.waiting; counts = Counts-none o.account 0; rest = f }
+pub Refuses-passed : (o : Outside) (at left : ℕ) (kind : FourCc) (x more : List ℕ)
+    → ((later : List ℕ) → reads_at (InOpenBody at kind left) (x ++ later) ≡ refused StreamTooLong (Some kind) at)
+    → Refuses o o (standing (InOpenBody at kind left)) (x ++ more) (fault StreamTooLong (Some kind) at)
+Refuses-passed o at left kind x more f = record {
+  brought = silent;
+  moves = Moves-none o 0;
+  rest = λ later. ap (reads_at (InOpenBody at kind left)) (append_assoc x more later) ∙ f (more ++ later);
+}
 
 -- ---- a box that is held
 
 -- more of it came
-pub GoesOn-held : (o : Outside) (at : ℕ) (kind : FourCc) (size : ℕ) (held x : List ℕ) → GoesOn o o (standing Boxes (InHeld at kind size held)) x (standing Boxes (InHeld at kind size (held ++ x)))
+pub GoesOn-held : (o : Outside) (at : ℕ) (kind : FourCc) (size : ℕ) (held x : List ℕ) → GoesOn o o (standing (InHeld at kind size held)) x (standing (InHeld at kind size (held ++ x)))
 GoesOn-held o at kind size held x =
-    GoesOn-passed o (InHeld at kind size held) (InHeld at kind size (held ++ x)) x refl refl refl (omega (arith, length-append held x)) (λ later. ap (λ l. then_read reading (held_body at kind size l)) (sym (append_assoc held x later)))
+    GoesOn-passed o (InHeld at kind size held) (InHeld at kind size (held ++ x)) x refl (omega (arith, length-append held x)) (λ later. ap (λ l. then_read reading (held_body at kind size l)) (sym (append_assoc held x later)))
 
 module _ (o : Outside) (at : ℕ) (kind : FourCc) (size : ℕ) (x : List ℕ) (low : size ≤ o.account.live) (len : length x ≡ size) where
   -- all of it came, its tree is good, and it was listed and given back
   pub GoesOn-good : (u : Option (List ℕ)) (v : List ℕ) → tree_faults at x ≡ [] → Passes o.written u o.waiting v (held_lines at x)
-      → GoesOn o (outside u v (given_back o.account size)) (standing Boxes (InHeld at kind size x)) [] (standing Boxes (InHeader (at + size) []))
+      → GoesOn o (sent_to (back_to o size) u v) (standing (InHeld at kind size x)) [] (standing (InHeader (at + size) []))
   GoesOn-good u v good p = record {
     brought = says (held_lines at x);
-    passes = p;
-    counts = Counts-back o.account size low;
-    past = [];
-    cut = refl;
-    from = omega (arith, len);
+    moves = record { passes = p; counts = subst (λ n. Counts o.account (given_back o.account size) size n 0) (omega arith) (Counts-back o.account size size (omega arith) low); tallied = sym (plus-none o.tally) };
+    reached = omega (arith, len);
     rest = λ later. reading-good at kind size x later len good;
   }
 
-  pub FailsIn-good : (u : Option (List ℕ)) (later : List ℕ) → tree_faults at x ≡ [] → AppendsPrefix o.written u (o.waiting ++ held_lines at x) → FailsIn o (outside u [] (given_back o.account size)) size 0 (reading_from (standing Boxes (InHeld at kind size x)) later)
-  FailsIn-good u later good p = FailsIn-told o (outside u [] (given_back o.account size)) size 0 (says (held_lines at x)) (reading (at + size) later) (reading_from (standing Boxes (InHeld at kind size x)) later)
-      (reading-good at kind size x later len good) p (Spends-counts o.account (given_back o.account size) size 0 0 (Counts-back o.account size low))
+  pub Loses-good : (u : Option (List ℕ)) (v later : List ℕ) → tree_faults at x ≡ [] → AppendsPrefix o.written u (o.waiting ++ held_lines at x) → Loses o (sent_to (back_to o size) u v) size (then_read reading (held_body at kind size (x ++ later)))
+  Loses-good u v later good p = Loses-told o (sent_to (back_to o size) u v) size (says (held_lines at x)) (reading (at + size) later) (then_read reading (held_body at kind size (x ++ later)))
+      (reading-good at kind size x later len good) p (Spends-counts o.account (given_back o.account size) size 0 0 (subst (λ n. Counts o.account (given_back o.account size) size n 0) (omega arith) (Counts-back o.account size size (omega arith) low)))
 
-  pub Refuses-tree : (more : List ℕ) (f : Fault) (fs : List Fault) → tree_faults at x ≡ f ∷ fs → Refuses o (outside o.written o.waiting (given_back o.account size)) (standing Boxes (InHeld at kind size x)) more 0 f
-  Refuses-tree more f fs bad = record { brought = silent; passes = Passes-none o.written o.waiting; counts = Counts-back o.account size low; rest = λ later. reading-bad_tree at kind size x (more ++ later) f fs len bad }
+  pub Refuses-tree : (more : List ℕ) (f : Fault) (fs : List Fault) → tree_faults at x ≡ f ∷ fs → Refuses o (back_to o size) (standing (InHeld at kind size x)) more f
+  Refuses-tree more f fs bad = record {
+    brought = silent;
+    moves = record { passes = Passes-none o.written o.waiting; counts = subst (λ n. Counts o.account (given_back o.account size) size n 0) (omega arith) (Counts-back o.account size size (omega arith) low); tallied = sym (plus-none o.tally) };
+    rest = λ later. reading-bad_tree at kind size x (more ++ later) f fs len bad;
+  }
 
 -- ---- a header that stands in a piece
 
@@ -248,11 +211,11 @@ front-is x h is =
     sym (header_at-append (take h.header_len x) (drop h.header_len x) whole) ∙ ap header_at (take-append-drop h.header_len x) ∙ is
 
 module _ (o o' : Outside) (at : ℕ) (x : List ℕ) where
-  GoesOn-bytes : GoesOn o o (standing Boxes (InHeader at [])) x (standing Boxes (InHeader at x))
-  GoesOn-bytes = record { brought = silent; passes = Passes-none o.written o.waiting; counts = Counts-none o.account 0; past = []; cut = refl; from = omega arith; rest = λ later. sym (after-silent (reading at later)) }
+  GoesOn-bytes : GoesOn o o (standing (InHeader at [])) x (standing (InHeader at x))
+  GoesOn-bytes = GoesOn-silent o (standing (InHeader at [])) (standing (InHeader at x)) x refl (omega arith) (λ later. refl)
 
-  pub GoesOn-header : (q : Standing) → GoesOn o o' (standing Boxes (InHeader at x)) [] q → GoesOn o o' (standing Boxes (InHeader at [])) x q
-  GoesOn-header q g = subst (λ l. GoesOn o o' (standing Boxes (InHeader at [])) l q) (append-nil x) (GoesOn-more {p = standing Boxes (InHeader at [])} (omega arith) GoesOn-bytes [] q g)
+  pub GoesOn-header : (q : Standing) → GoesOn o o' (standing (InHeader at x)) [] q → GoesOn o o' (standing (InHeader at [])) x q
+  GoesOn-header q g = subst (λ l. GoesOn o o' (standing (InHeader at [])) l q) (append-nil x) (GoesOn-more {p = standing (InHeader at [])} (omega arith) GoesOn-bytes [] q g)
 
-  pub StopsAt-header : (more : List ℕ) (claim : ℕ) (s : Stop) → StopsAt o o' (standing Boxes (InHeader at x)) more claim s → StopsAt o o' (standing Boxes (InHeader at [])) (x ++ more) claim s
-  StopsAt-header more claim s g = StopsAt-more {p = standing Boxes (InHeader at [])} (omega arith) GoesOn-bytes o' more claim s g
+  pub StopsAt-header : (more : List ℕ) (s : Stop) → StopsAt o o' (standing (InHeader at x)) more s → StopsAt o o' (standing (InHeader at [])) (x ++ more) s
+  StopsAt-header more s g = StopsAt-more {p = standing (InHeader at [])} (omega arith) GoesOn-bytes o' more s g

@@ -1,5 +1,5 @@
 -- The boxes of a stream: those at the top by their headers alone, and a moov or moof with the boxes below it.
-use Rattle.std.specs.Prelude.{ℕ, ◌+◌, ◌-◌, ◌^◌, List, [], ◌∷◌, ◌++◌, length, take, drop, nat_lt, if◌then◌else◌, Option, Some, None}
+use Rattle.std.specs.Prelude.{ℕ, ◌+◌, ◌-◌, List, [], ◌∷◌, ◌++◌, length, take, drop, nat_lt, if◌then◌else◌, Option, Some, None}
 use Rattle.mp4_box.specs.declared.headers.FourCc.{FourCc}
 use Rattle.mp4_box.specs.declared.headers.Header.{Header}
 use Rattle.mp4_box.specs.declared.headers.Size.{Size}
@@ -13,37 +13,23 @@ use Rattle.mp4_box.specs.Headers.{header_at, kind_of}
 use Rattle.mp4_box.specs.Trees.{tree_faults}
 use Rattle.mp4_stream.specs.Holding.{held_lines, most_held}
 use Rattle.mp4_stream.specs.Listing.{box_line}
-use Rattle.mp4_stream.specs.Readings.{Refused, CutOff, Reading, nothing, Front, Last, Whole, after_told, silent, says, holds, read_all, fault_in, early_in}
-
--- no stream is followed further than this
-abbrev pub longest : ℕ
-longest = 2 ^ 62
-
-abbrev pub fault : Rule → Option FourCc → ℕ → Fault
-fault rule kind at = record { rule = rule; kind = kind; offset = at }
+use Rattle.mp4_reading.specs.Bodies.{longest, fault, told_body, told_open}
+use Rattle.mp4_reading.specs.Readings.{Told, Faulty, CutOff, Reading, nothing, Front, Last, Whole, after_told, silent, says, asks_for, read_all}
 
 abbrev pub refused : Rule → Option FourCc → ℕ → Reading
-refused rule kind at = record { told = silent; ending = Refused (fault rule kind at) }
+refused rule kind at = record { told = silent; outcome = Faulty (fault rule kind at) }
 
 abbrev pub cut_off : Rule → Option FourCc → ℕ → Reading
-cut_off rule kind at = record { told = silent; ending = CutOff (fault rule kind at) }
+cut_off rule kind at = record { told = silent; outcome = CutOff (fault rule kind at) }
 
--- a box at `at` that ends at `next`, of which `left` bytes are to come
-abbrev pub sized_body : ℕ → FourCc → ℕ → ℕ → List ℕ → Front ℕ
-sized_body at kind next left bytes =
-    if nat_lt (length bytes) left then Last (cut_off Truncated (Some kind) at)
-    else Whole silent next (drop left bytes)
-
--- a box at `at` that goes to the end of the stream, of which at most `left` bytes may come
-abbrev pub open_body : ℕ → FourCc → ℕ → List ℕ → Front ℕ
-open_body at kind left bytes =
-    if nat_lt left (length bytes) then Last (refused StreamTooLong (Some kind) at)
-    else Last nothing
+-- nothing is told of a body that is passed over
+abbrev pub passed : List ℕ → Told
+passed bytes = silent
 
 -- a box at `at` by the size that it states, behind its header
 abbrev pub body : ℕ → Header → Size → List ℕ → Front ℕ
-body at h (Exact s) bytes = sized_body at h.kind (at + s) (s - h.header_len) bytes
-body at h ToEnd bytes = open_body at h.kind (longest - (at + h.header_len)) bytes
+body at h (Exact s) bytes = told_body passed at h.kind (at + s) (s - h.header_len) bytes
+body at h ToEnd bytes = told_open passed at h.kind 0 (longest - (at + h.header_len)) bytes
 
 -- where a box at `at` ends at the least
 abbrev pub least_end : ℕ → Header → Size → ℕ
@@ -53,7 +39,7 @@ least_end at h ToEnd = at + h.header_len
 -- a box x at `at` that was held, what is at fault in its tree, and the bytes behind it
 abbrev pub held_box : ℕ → ℕ → List ℕ → List ℕ → List Fault → Front ℕ
 held_box at next x rest [] = Whole (says (held_lines at x)) next rest
-held_box at next x rest (f ∷ fs) = Last (record { told = silent; ending = Refused f })
+held_box at next x rest (f ∷ fs) = Last (record { told = silent; outcome = Faulty f })
 
 -- a box at `at` of `size` bytes that is held: the bytes are its own, and those behind it
 abbrev pub held_body : ℕ → FourCc → ℕ → List ℕ → Front ℕ
@@ -65,7 +51,7 @@ held_body at kind size bytes =
 abbrev pub holding : ℕ → Header → ℕ → List ℕ → Size → Front ℕ
 holding at h limit bytes (Exact s) =
     if nat_lt limit s then Last (refused TooLarge (Some h.kind) at)
-    else after_told (holds s) (held_body at h.kind s bytes)
+    else after_told (asks_for at s) (held_body at h.kind s bytes)
 holding at h limit bytes ToEnd = Last (refused TooLarge (Some h.kind) at)
 
 -- a box at `at` with the header x, and the bytes behind it, by the most bytes that it may have where it is held
@@ -79,7 +65,7 @@ box at h x bytes =
     if nat_lt longest (least_end at h h.size) then Last (refused StreamTooLong (Some h.kind) at)
     else box_by at h x bytes (most_held h.kind.0)
 
--- some bytes at `at`, by what they come to as a header
+-- some bytes at `at`, by what they are as a header
 abbrev pub front_by : ℕ → List ℕ → Step → Front ℕ
 front_by at bytes steps.More = Last (cut_off Truncated (kind_of bytes) at)
 front_by at bytes steps.BadSize = Last (refused BadSize (kind_of bytes) at)
@@ -90,22 +76,10 @@ unfoldable pub front : ℕ → List ℕ → Front ℕ
 front at [] = Last nothing
 front at (b ∷ bytes) = front_by at (b ∷ bytes) (header_at (b ∷ bytes))
 
--- what the bytes from the offset `at` on come to
+-- what the bytes from the offset `at` on are read as
 abbrev pub reading : ℕ → List ℕ → Reading
 reading at bytes = read_all front at bytes
 
 -- the lines of a stream's boxes, up to its first fault
 abbrev pub listing : List ℕ → List ℕ
 listing b = (reading 0 b).told.text
-
--- the most bytes that one box of a stream is to have held, up to the first fault
-abbrev pub most : List ℕ → ℕ
-most b = (reading 0 b).told.most
-
--- the first fault of a stream
-abbrev pub first_fault : List ℕ → Option Fault
-first_fault b = fault_in (reading 0 b).ending
-
--- the fault of every stream that begins so
-abbrev pub early_fault : List ℕ → Option Fault
-early_fault b = early_in (reading 0 b).ending

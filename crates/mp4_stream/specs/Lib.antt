@@ -1,10 +1,5 @@
-pub mod Hex
 pub mod Listing
 pub mod Holding
-pub mod Accounts
-pub mod Readings
 pub mod Boxes
 pub mod Joined
-pub mod Blocks
 pub mod Places
-pub mod Answers

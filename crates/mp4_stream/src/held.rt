@@ -4,15 +4,15 @@ ghost use Rattle.std.specs.Prelude.{◌≡◌, ◌+◌, ◌-◌, ◌^◌, ◌<�
 ghost use Rattle.mp4_ends.specs.Streams.{AppendsPrefix};
 ghost use Rattle.mp4_box.specs.Trees.{box_at, tree_faults, verdict, view};
 ghost use Rattle.mp4_ledger.specs.Memory.{claimed, given_back};
-ghost use Rattle.mp4_stream.specs.Blocks.{Passes};
+ghost use Rattle.mp4_reading.specs.Blocks.{Passes};
 ghost use Rattle.mp4_stream.specs.Holding.{held_lines, most_held};
 ghost use Rattle.mp4_stream.specs.Places.{Begins};
 
-use crate::block::Block;
 use crate::listing::put_tree;
 use mp4_box::{BoxRef, Fault, FourCc, check_tree, whole_box};
 use mp4_ends::{Failed, Sink};
 use mp4_ledger::{Buf, Ledger, Refused};
+use mp4_reading::Block;
 use std::marker::Model;
 
 /// A moov or moof in claimed memory. It must be given back.
@@ -97,11 +97,18 @@ impl Held {
         self.buf.len() == self.buf.cap()
     }
 
-    /// Its type, and the offset of its first byte.
-    pub(crate) fn place(&self) -> (FourCc, u64)
-        ensures { result ≡ (self.now.kind, self.now.at) }
+    /// Its type.
+    pub(crate) fn kind(&self) -> FourCc
+        ensures { result ≡ self.now.kind }
     {
-        (self.kind, self.at)
+        self.kind
+    }
+
+    /// The offset of its first byte.
+    pub(crate) fn offset(&self) -> u64
+        ensures { result ≡ self.now.at }
+    {
+        self.at
     }
 
     /// What is at fault in the tree of the box, all of which came.

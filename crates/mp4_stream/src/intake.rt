@@ -1,70 +1,101 @@
-//! The boxes at the top of a stream: their headers, and those that are held.
+//! How headers are taken, and boxes that are held.
 
-ghost use Rattle.std.specs.Prelude.{◌≡◌, ℕ, ◌+◌, ◌-◌, ◌<◌, ◌≤◌, ◌∷◌, [], List, length, take, None, Some, Ok, IfOk, IfErr, OnOk, OnErr, IsErrOf, true};
+ghost use Rattle.std.specs.Prelude.{◌≡◌, ◌+◌, ◌-◌, ◌<◌, ◌≤◌, ◌∷◌, [], length, take, None, Some, IfOk, OnErr};
 ghost use Rattle.mp4_box.specs.Headers.{HasRoom, header_at, need};
 ghost use Rattle.mp4_box.specs.declared.headers.Step.TheVariants as steps;
-ghost use Rattle.mp4_box.specs.declared.rules.Rule.TheVariants.{StreamTooLong};
-ghost use Rattle.mp4_stream.specs.Answers.{GoesOn, StopsAt, outside};
-ghost use Rattle.mp4_stream.specs.Boxes.{fault, least_end, longest, refused};
+ghost use Rattle.mp4_reading.specs.Bodies.{longest};
+ghost use Rattle.mp4_reading.specs.Pieces.{Takes};
+ghost use Rattle.mp4_stream.specs.Boxes.{least_end};
 ghost use Rattle.mp4_stream.specs.Holding.{most_held};
-ghost use Rattle.mp4_stream.specs.Places.{Begins, InHeader, InHeld, IsPhase, IsPlace, IsReader, claim_of, place_by, place_of, standing};
-ghost use Rattle.mp4_stream.specs.declared.machine.Command.TheVariants.{Boxes};
+ghost use Rattle.mp4_stream.specs.Places.{Begins, InHeader, InHeld, IsMachine, IsPhase, IsPlace, claim_of, outside, place_by, place_of, standing};
 ghost use Rattle.mp4_stream.specs.declared.phase.Phase.TheVariants as phases;
 
-use crate::block::Block;
 use crate::held::{Held, held_limit};
-use crate::line::Line;
 use crate::listing::push_box;
 use crate::phase::{Phase, pass, pass_open, phase_behind, refused};
-use crate::top::Stop;
 use mp4_box::{Header, HeaderReader, Rule, Size, Step, header_of};
 use mp4_ends::{Failed, Sink};
-use mp4_ledger::{Ledger, Refused};
+use mp4_ledger::Ledger;
+use mp4_lines::Line;
+use mp4_reading::{Block, Stop};
 
-/// Takes some bytes from the front of a piece, while no box is held: how many, what comes next, and the box where
-/// one is held.
+/// What was taken of a piece.
+pub(crate) struct Taken {
+    /// How many bytes.
+    pub(crate) count: usize,
+    /// What comes next; behind the box that is held, where one is.
+    pub(crate) phase: Phase,
+    /// The box that is held, of which more is to come.
+    pub(crate) held: Option<Held>,
+}
+
+/// What comes behind a header.
+struct Begun {
+    /// What comes next; behind the box that is held, where one is.
+    phase: Phase,
+    /// The box that is held, of which more is to come.
+    held: Option<Held>,
+}
+
+/// Bytes that were taken of a box that is held.
+pub(crate) struct Kept {
+    /// How many.
+    pub(crate) count: usize,
+    /// The box, where more of it is to come.
+    pub(crate) held: Option<Held>,
+}
+
+/// Takes some bytes from the front of a piece, while no box is held.
 pub(crate) fn take_unheld<W: Sink>(
     phase: Phase,
     head: &mut HeaderReader,
-    ledger: &mut Ledger,
     piece: &[u8],
+    ledger: &mut Ledger,
     out: &mut Block,
     w: &mut W,
-) -> Result<(usize, Phase, Option<Held>), Stop>
+) -> Result<Taken, Stop>
     requires some { 0 < length piece.now }
     requires phase { IsPhase head.old phase }
-    ensures taken { IfOk result (λ r. (0 < r.0) × (r.0 ≤ length piece.now)) }
-    ensures ok { IfOk result (λ r. GoesOn (outside (W.contents w.old) out.old ledger.old) (outside (W.contents w.new) out.new ledger.new) (standing Boxes (place_by head.old phase)) (take r.0 piece.now)
-        (standing Boxes (place_of head.new r.1 r.2))) }
-    ensures err { IfErr result (λ e. StopsAt (outside (W.contents w.old) out.old ledger.old) (outside (W.contents w.new) out.new ledger.new) (standing Boxes (place_by head.old phase)) piece.now 0 e) }
-    ensures claim { IfOk result (λ r. claim_of (place_of head.new r.1 r.2) ≤ ledger.new.live) }
-    ensures failed { IsErrOf result Stop.Write → W.has_failed w.new ≡ true }
-    ensures reader { IfOk result (λ r. IsReader head.new r.1 r.2) }
+    ensures takes { Takes (record {
+      before = outside (W.contents w.old) out.old ledger.old;
+      behind = outside (W.contents w.new) out.new ledger.new;
+      failed = W.has_failed w.new;
+    })
+        (standing (place_by head.old phase)) piece.now (λ t. take t.count piece.now)
+        (λ t. standing (place_of head.new t.phase t.held)) result }
+    ensures taken { IfOk result (λ t. (0 < t.count) × (t.count ≤ length piece.now)) }
+    ensures claim { IfOk result (λ t. claim_of (place_of head.new t.phase t.held) ≤
+        ledger.new.live) }
+    ensures machine { IfOk result (λ t. IsMachine head.new t.phase t.held) }
     ensures spent { OnErr result (IsPhase head.new phase) }
 {
     match phase {
-        Phase::Header { at } => match take_header(at, head, piece, ledger, out, w) {
-            Ok(taken) => Ok(taken),
-            Err(stop) => Err(stop),
-        },
+        Phase::Header { at } => take_header(at, head, piece, ledger, out, w),
         Phase::Body {
             at,
             kind,
             next,
             left,
         } => {
-            let (taken, phase) = pass(at, kind, next, left, piece);
-            Ok((taken, phase, None))
+            let passed = pass(at, kind, next, left, piece);
+            Ok(Taken {
+                count: passed.count,
+                phase: passed.phase,
+                held: None,
+            })
         }
         Phase::OpenBody { at, kind, left } => match pass_open(at, kind, left, piece) {
-            Ok(phase) => Ok((piece.len(), phase, None)),
+            Ok(phase) => Ok(Taken {
+                count: piece.len(),
+                phase,
+                held: None,
+            }),
             Err(stop) => Err(stop),
         },
     }
 }
 
-/// Takes the header of the box at `at`, where all of it stands in the piece, or else a byte of it: how many bytes, what
-/// comes next, and the box where it is held.
+/// Takes the header of the box at `at`, where all of it is in the piece, or else a byte of it.
 fn take_header<W: Sink>(
     at: u64,
     head: &mut HeaderReader,
@@ -72,34 +103,42 @@ fn take_header<W: Sink>(
     ledger: &mut Ledger,
     out: &mut Block,
     w: &mut W,
-) -> Result<(usize, Phase, Option<Held>), Stop>
+) -> Result<Taken, Stop>
     requires some { 0 < length piece.now }
     requires place { IsPlace (InHeader at head.old) }
-    ensures taken { IfOk result (λ r. (0 < r.0) × (r.0 ≤ length piece.now)) }
-    ensures ok { IfOk result (λ r. GoesOn (outside (W.contents w.old) out.old ledger.old) (outside (W.contents w.new) out.new ledger.new) (standing Boxes (InHeader at head.old)) (take r.0 piece.now)
-        (standing Boxes (place_of head.new r.1 r.2))) }
-    ensures err { IfErr result (λ e. StopsAt (outside (W.contents w.old) out.old ledger.old) (outside (W.contents w.new) out.new ledger.new) (standing Boxes (InHeader at head.old)) piece.now 0 e) }
-    ensures claim { IfOk result (λ r. claim_of (place_of head.new r.1 r.2) ≤ ledger.new.live) }
-    ensures failed { IsErrOf result Stop.Write → W.has_failed w.new ≡ true }
-    ensures reader { IfOk result (λ r. IsReader head.new r.1 r.2) }
+    ensures takes { Takes (record {
+      before = outside (W.contents w.old) out.old ledger.old;
+      behind = outside (W.contents w.new) out.new ledger.new;
+      failed = W.has_failed w.new;
+    })
+        (standing (InHeader at head.old)) piece.now (λ t. take t.count piece.now)
+        (λ t. standing (place_of head.new t.phase t.held)) result }
+    ensures taken { IfOk result (λ t. (0 < t.count) × (t.count ≤ length piece.now)) }
+    ensures claim { IfOk result (λ t. claim_of (place_of head.new t.phase t.held) ≤
+        ledger.new.live) }
+    ensures machine { IfOk result (λ t. IsMachine head.new t.phase t.held) }
     ensures spent { OnErr result (head.new ≡ []) }
 {
     if head.is_empty() {
         if let Ok(header) = header_of(piece) {
-            let len = header.header_len as usize;
-            return match begin(at, &header, &piece[..len], ledger, out, w) {
-                Ok((phase, held)) => Ok((len, phase, held)),
+            let count = header.header_len as usize;
+            return match begin(at, &header, &piece[..count], ledger, out, w) {
+                Ok(Begun { phase, held }) => Ok(Taken { count, phase, held }),
                 Err(stop) => Err(stop),
             };
         }
     }
     match take_byte(at, head, piece[0], ledger, out, w) {
-        Ok((phase, held)) => Ok((1, phase, held)),
+        Ok(Begun { phase, held }) => Ok(Taken {
+            count: 1,
+            phase,
+            held,
+        }),
         Err(stop) => Err(stop),
     }
 }
 
-/// Takes a byte of the header of the box at `at`: what comes next, and the box where it is held.
+/// Takes a byte of the header of the box at `at`.
 fn take_byte<W: Sink>(
     at: u64,
     head: &mut HeaderReader,
@@ -107,17 +146,25 @@ fn take_byte<W: Sink>(
     ledger: &mut Ledger,
     out: &mut Block,
     w: &mut W,
-) -> Result<(Phase, Option<Held>), Stop>
-    requires { IsPlace (InHeader at head.old) }
-    ensures ok { IfOk result (λ p. GoesOn (outside (W.contents w.old) out.old ledger.old) (outside (W.contents w.new) out.new ledger.new) (standing Boxes (InHeader at head.old)) (byte ∷ []) (standing Boxes (place_of head.new p.0 p.1))) }
-    ensures err { IfErr result (λ e. (more : List ℕ) → StopsAt (outside (W.contents w.old) out.old ledger.old) (outside (W.contents w.new) out.new ledger.new) (standing Boxes (InHeader at head.old)) (byte ∷ more) 0 e) }
-    ensures claim { IfOk result (λ p. claim_of (place_of head.new p.0 p.1) ≤ ledger.new.live) }
-    ensures failed { IsErrOf result Stop.Write → W.has_failed w.new ≡ true }
-    ensures reader { IfOk result (λ p. IsReader head.new p.0 p.1) }
+) -> Result<Begun, Stop>
+    requires place { IsPlace (InHeader at head.old) }
+    ensures takes { Takes (record {
+      before = outside (W.contents w.old) out.old ledger.old;
+      behind = outside (W.contents w.new) out.new ledger.new;
+      failed = W.has_failed w.new;
+    })
+        (standing (InHeader at head.old)) (byte ∷ []) (λ _. byte ∷ [])
+        (λ b. standing (place_of head.new b.phase b.held)) result }
+    ensures claim { IfOk result (λ b. claim_of (place_of head.new b.phase b.held) ≤
+        ledger.new.live) }
+    ensures machine { IfOk result (λ b. IsMachine head.new b.phase b.held) }
     ensures spent { OnErr result (head.new ≡ []) }
 {
     match head.feed(byte) {
-        Step::More => Ok((Phase::Header { at }, None)),
+        Step::More => Ok(Begun {
+            phase: Phase::Header { at },
+            held: None,
+        }),
         Step::BadSize => {
             let kind = head.kind();
             *head = HeaderReader::new();
@@ -131,7 +178,7 @@ fn take_byte<W: Sink>(
     }
 }
 
-/// The header of the box at `at` is whole, and has these bytes: what comes next, and the box where it is held.
+/// Goes on behind the header of the box at `at`, which is whole and has these bytes: writes its line, or holds it.
 fn begin<W: Sink>(
     at: u64,
     header: &Header,
@@ -139,17 +186,21 @@ fn begin<W: Sink>(
     ledger: &mut Ledger,
     out: &mut Block,
     w: &mut W,
-) -> Result<(Phase, Option<Held>), Stop>
+) -> Result<Begun, Stop>
     requires at { at ≤ longest }
     requires header_len { (8 ≤ header.now.header_len) × (header.now.header_len ≤ 32) }
     requires room { HasRoom header.now.size header.now.header_len }
     requires len { length head.now ≡ need head.now }
     requires is { header_at head.now ≡ steps.Whole header.now }
-    ensures ok { IfOk result (λ p. GoesOn (outside (W.contents w.old) out.old ledger.old) (outside (W.contents w.new) out.new ledger.new) (standing Boxes (InHeader at head.now)) [] (standing Boxes (place_of [] p.0 p.1))) }
-    ensures err { IfErr result (λ e. (more : List ℕ) → StopsAt (outside (W.contents w.old) out.old ledger.old) (outside (W.contents w.new) out.new ledger.new) (standing Boxes (InHeader at head.now)) more 0 e) }
-    ensures claim { IfOk result (λ p. claim_of (place_of [] p.0 p.1) ≤ ledger.new.live) }
-    ensures failed { IsErrOf result Stop.Write → W.has_failed w.new ≡ true }
-    ensures reader { IfOk result (λ p. IsReader [] p.0 p.1) }
+    ensures takes { Takes (record {
+      before = outside (W.contents w.old) out.old ledger.old;
+      behind = outside (W.contents w.new) out.new ledger.new;
+      failed = W.has_failed w.new;
+    })
+        (standing (InHeader at head.now)) [] (λ _. [])
+        (λ b. standing (place_of [] b.phase b.held)) result }
+    ensures claim { IfOk result (λ b. claim_of (place_of [] b.phase b.held) ≤ ledger.new.live) }
+    ensures machine { IfOk result (λ b. IsMachine [] b.phase b.held) }
 {
     let phase = match phase_behind(at, header) {
         Some(phase) => phase,
@@ -161,15 +212,14 @@ fn begin<W: Sink>(
             let mut line = Line::new();
             push_box(&mut line, at, header);
             match out.put(w, line.bytes()) {
-                Ok(()) => Ok((phase, None)),
+                Ok(()) => Ok(Begun { phase, held: None }),
                 Err(Failed) => Err(Stop::Write),
             }
         }
     }
 }
 
-/// A box at `at` of which the header came, and that is to be held: what comes next, and the box where more of
-/// it is to come.
+/// Holds the box at `at`, of which the header came.
 fn begin_held<W: Sink>(
     at: u64,
     header: &Header,
@@ -178,17 +228,21 @@ fn begin_held<W: Sink>(
     ledger: &mut Ledger,
     out: &mut Block,
     w: &mut W,
-) -> Result<(Phase, Option<Held>), Stop>
+) -> Result<Begun, Stop>
     requires room { HasRoom header.now.size header.now.header_len }
     requires len { length head.now ≡ need head.now }
     requires is { header_at head.now ≡ steps.Whole header.now }
     requires end { least_end at header.now header.now.size ≤ longest }
     requires held { most_held header.now.kind.0 ≡ Some limit }
-    ensures ok { IfOk result (λ p. GoesOn (outside (W.contents w.old) out.old ledger.old) (outside (W.contents w.new) out.new ledger.new) (standing Boxes (InHeader at head.now)) [] (standing Boxes (place_of [] p.0 p.1))) }
-    ensures err { IfErr result (λ e. (more : List ℕ) → StopsAt (outside (W.contents w.old) out.old ledger.old) (outside (W.contents w.new) out.new ledger.new) (standing Boxes (InHeader at head.now)) more 0 e) }
-    ensures claim { IfOk result (λ p. claim_of (place_of [] p.0 p.1) ≤ ledger.new.live) }
-    ensures failed { IsErrOf result Stop.Write → W.has_failed w.new ≡ true }
-    ensures reader { IfOk result (λ p. IsReader [] p.0 p.1) }
+    ensures takes { Takes (record {
+      before = outside (W.contents w.old) out.old ledger.old;
+      behind = outside (W.contents w.new) out.new ledger.new;
+      failed = W.has_failed w.new;
+    })
+        (standing (InHeader at head.now)) [] (λ _. [])
+        (λ b. standing (place_of [] b.phase b.held)) result }
+    ensures claim { IfOk result (λ b. claim_of (place_of [] b.phase b.held) ≤ ledger.new.live) }
+    ensures machine { IfOk result (λ b. IsMachine [] b.phase b.held) }
 {
     let Size::Exact(size) = header.size else {
         return Err(refused(Rule::TooLarge, Some(header.kind), at));
@@ -198,46 +252,52 @@ fn begin_held<W: Sink>(
     }
     let held = match Held::claim(ledger, at, header.kind, size, head) {
         Ok(held) => held,
-        Err(Refused::OverLimit) => return Err(Stop::OverLimit),
-        Err(Refused::Memory) => return Err(Stop::Memory),
+        Err(refused) => return Err(Stop::of_refusal(refused)),
     };
-    match settle_whole(held, ledger, out, w) {
-        Ok(held) => Ok((Phase::Header { at: at + size }, held)),
+    match settle(held, ledger, out, w) {
+        Ok(held) => Ok(Begun {
+            phase: Phase::Header { at: at + size },
+            held,
+        }),
         Err(stop) => Err(stop),
     }
 }
 
-/// Takes bytes of a box that is held: how many, and the box where more of it is to come.
+/// Takes bytes of a box that is held.
 pub(crate) fn take_held<W: Sink>(
     held: Held,
-    ledger: &mut Ledger,
     piece: &[u8],
+    ledger: &mut Ledger,
     out: &mut Block,
     w: &mut W,
-) -> Result<(usize, Option<Held>), Stop>
+) -> Result<Kept, Stop>
     requires some { 0 < length piece.now }
     requires place { IsPlace (InHeld held.at held.kind held.size held.bytes) }
     requires claim { held.size ≤ ledger.old.live }
-    ensures taken { IfOk result (λ r. (0 < r.0) × (r.0 ≤ length piece.now)) }
-    ensures ok { IfOk result (λ r. GoesOn (outside (W.contents w.old) out.old ledger.old) (outside (W.contents w.new) out.new ledger.new) (standing Boxes (InHeld held.at held.kind held.size held.bytes))
-        (take r.0 piece.now) (standing Boxes (place_of [] (phases.Header (held.at + held.size)) r.1))) }
-    ensures err { IfErr result (λ e. StopsAt (outside (W.contents w.old) out.old ledger.old) (outside (W.contents w.new) out.new ledger.new) (standing Boxes (InHeld held.at held.kind held.size held.bytes)) piece.now 0
-        e) }
-    ensures claim { IfOk result (λ r. claim_of (place_of [] (phases.Header (held.at + held.size)) r.1) ≤
-        ledger.new.live) }
-    ensures failed { IsErrOf result Stop.Write → W.has_failed w.new ≡ true }
-    ensures reader { IfOk result (λ r. IsReader [] (phases.Header (held.at + held.size)) r.1) }
+    ensures takes { Takes (record {
+      before = outside (W.contents w.old) out.old ledger.old;
+      behind = outside (W.contents w.new) out.new ledger.new;
+      failed = W.has_failed w.new;
+    })
+        (standing (InHeld held.at held.kind held.size held.bytes)) piece.now
+        (λ k. take k.count piece.now)
+        (λ k. standing (place_of [] (phases.Header (held.at + held.size)) k.held)) result }
+    ensures taken { IfOk result (λ k. (0 < k.count) × (k.count ≤ length piece.now)) }
+    ensures claim { IfOk result (λ k. claim_of
+        (place_of [] (phases.Header (held.at + held.size)) k.held) ≤ ledger.new.live) }
+    ensures machine { IfOk result (λ k. IsMachine [] (phases.Header (held.at + held.size))
+        k.held) }
 {
     let mut held = held;
-    let taken = held.take(piece);
-    match settle_whole(held, ledger, out, w) {
-        Ok(held) => Ok((taken, held)),
+    let count = held.take(piece);
+    match settle(held, ledger, out, w) {
+        Ok(held) => Ok(Kept { count, held }),
         Err(stop) => Err(stop),
     }
 }
 
-/// Settles a box that is held where all of it came: the box, where more of it is to come.
-fn settle_whole<W: Sink>(
+/// Checks a box that is held, lists it and gives it back, where all of it came: the box, where more of it is to come.
+fn settle<W: Sink>(
     held: Held,
     ledger: &mut Ledger,
     out: &mut Block,
@@ -245,36 +305,20 @@ fn settle_whole<W: Sink>(
 ) -> Result<Option<Held>, Stop>
     requires begins { Begins held.size held.bytes }
     requires claim { held.size ≤ ledger.old.live }
-    ensures ok { IfOk result (λ r. GoesOn (outside (W.contents w.old) out.old ledger.old) (outside (W.contents w.new) out.new ledger.new) (standing Boxes (InHeld held.at held.kind held.size held.bytes)) []
-        (standing Boxes (place_of [] (phases.Header (held.at + held.size)) r))) }
-    ensures err { IfErr result (λ e. (more : List ℕ) → StopsAt (outside (W.contents w.old) out.old ledger.old) (outside (W.contents w.new) out.new ledger.new)
-        (standing Boxes (InHeld held.at held.kind held.size held.bytes)) more 0 e) }
-    ensures claim { IfOk result (λ r. claim_of (place_of [] (phases.Header (held.at + held.size)) r) ≤
-        ledger.new.live) }
-    ensures failed { IsErrOf result Stop.Write → W.has_failed w.new ≡ true }
-    ensures reader { IfOk result (λ r. IsReader [] (phases.Header (held.at + held.size)) r) }
+    ensures takes { Takes (record {
+      before = outside (W.contents w.old) out.old ledger.old;
+      behind = outside (W.contents w.new) out.new ledger.new;
+      failed = W.has_failed w.new;
+    })
+        (standing (InHeld held.at held.kind held.size held.bytes)) [] (λ _. [])
+        (λ h. standing (place_of [] (phases.Header (held.at + held.size)) h)) result }
+    ensures claim { IfOk result (λ h. claim_of
+        (place_of [] (phases.Header (held.at + held.size)) h) ≤ ledger.new.live) }
+    ensures machine { IfOk result (λ h. IsMachine [] (phases.Header (held.at + held.size)) h) }
 {
     if !held.is_whole() {
         return Ok(Some(held));
     }
-    match settle(held, ledger, out, w) {
-        Ok(()) => Ok(None),
-        Err(stop) => Err(stop),
-    }
-}
-
-/// Checks a box that is held, all of which came, lists it and gives it back.
-fn settle<W: Sink>(held: Held, ledger: &mut Ledger, out: &mut Block, w: &mut W) -> Result<(), Stop>
-    requires begins { Begins held.size held.bytes }
-    requires whole { length held.bytes ≡ held.size }
-    requires claim { held.size ≤ ledger.old.live }
-    ensures ok { OnOk result (GoesOn (outside (W.contents w.old) out.old ledger.old) (outside (W.contents w.new) out.new ledger.new) (standing Boxes (InHeld held.at held.kind held.size held.bytes)) []
-        (standing Boxes (InHeader (held.at + held.size) []))) }
-    ensures err { IfErr result (λ e. (more : List ℕ) → StopsAt (outside (W.contents w.old) out.old ledger.old) (outside (W.contents w.new) out.new ledger.new)
-        (standing Boxes (InHeld held.at held.kind held.size held.bytes)) more 0 e) }
-    ensures failed { IsErrOf result Stop.Write → W.has_failed w.new ≡ true }
-    ensures next { held.at + held.size ≤ longest }
-{
     match held.check() {
         Ok(()) => {}
         Err(fault) => {
@@ -285,7 +329,7 @@ fn settle<W: Sink>(held: Held, ledger: &mut Ledger, out: &mut Block, w: &mut W) 
     let listed = held.list(out, w);
     held.back(ledger);
     match listed {
-        Ok(()) => Ok(()),
+        Ok(()) => Ok(None),
         Err(Failed) => Err(Stop::Write),
     }
 }

@@ -2,18 +2,19 @@
 //! a join of whole boxes and then nothing, a box to the end of the stream, or bytes that begin no whole box:
 //! the first law reads past the join, the others tell what the rest comes to.
 
-ghost use Rattle.std.specs.Prelude.{◌≡◌, ◌+◌, ◌-◌, ◌<◌, ◌≤◌, ◌++◌, ◌∷◌, List, ℕ, [], length, None, Some};
+ghost use Rattle.std.specs.Prelude.{◌≡◌, ◌+◌, ◌-◌, ◌<◌, ◌≤◌, ◌++◌, ◌∷◌, List, ℕ, [], length, take, None, Some};
 ghost use Rattle.mp4_box.specs.Headers.{BeginsWith, Head, IsBox, IsBytes, kind_of, need};
 ghost use Rattle.mp4_box.specs.Trees.{tree_faults};
 ghost use Rattle.mp4_box.specs.declared.headers.Header.{Header};
 ghost use Rattle.mp4_box.specs.declared.headers.Size.TheVariants.{Exact, ToEnd};
 ghost use Rattle.mp4_box.specs.declared.rules.Fault.{Fault};
 ghost use Rattle.mp4_box.specs.declared.rules.Rule.TheVariants.{BadSize, StreamTooLong, TooLarge, Truncated};
-ghost use Rattle.mp4_stream.specs.Boxes.{cut_off, least_end, longest, reading, refused};
+ghost use Rattle.mp4_reading.specs.Bodies.{longest};
+ghost use Rattle.mp4_stream.specs.Boxes.{cut_off, least_end, listing, reading, refused};
 ghost use Rattle.mp4_stream.specs.Holding.{most_held};
 ghost use Rattle.mp4_stream.specs.Joined.{AreBoxes, Item, joined, told_from};
 ghost use Rattle.mp4_stream.specs.Listing.{box_line};
-ghost use Rattle.mp4_stream.specs.Readings.{GrowsTo, Refused, after, holds, nothing, says, silent};
+ghost use Rattle.mp4_reading.specs.Readings.{Ask, GrowsTo, Faulty, after, asks_for, nothing, says, silent};
 
 /// Whole boxes that break no rule are told one after the other, a moov or moof by its tree and each other
 /// by its line, and the bytes behind them are read as if they came first.
@@ -54,15 +55,21 @@ pub fn rest_that_is_held()
         h.size ≡ ToEnd → at + length x ≤ longest → reading at (x ++ y) ≡ refused TooLarge (Some h.kind) at }
     ensures cut { (at limit s : ℕ) (h : Header) (x y : List ℕ) → Head h x → most_held h.kind.0 ≡ Some limit →
         h.size ≡ Exact s → at + s ≤ longest → s ≤ limit → length (x ++ y) < s →
-        reading at (x ++ y) ≡ after (holds s) (cut_off Truncated (Some h.kind) at) }
+        reading at (x ++ y) ≡ after (asks_for at s) (cut_off Truncated (Some h.kind) at) }
     ensures bad_tree { (at limit : ℕ) (h : Header) (payload x y : List ℕ) (f : Fault) (fs : List Fault) →
         IsBox h payload x → most_held h.kind.0 ≡ Some limit → at + length x ≤ longest → length x ≤ limit →
         tree_faults at x ≡ f ∷ fs →
-        reading at (x ++ y) ≡ after (holds (length x)) (record { told = silent; ending = Refused f }) }
+        reading at (x ++ y) ≡ after (asks_for at (length x)) (record { told = silent; outcome = Faulty f }) }
 {}
 
 /// What more bytes write begins with what fewer write, and a fault that these decide is that of every stream
 /// that begins with them.
 pub fn more_bytes()
     ensures { (at : ℕ) (b later : List ℕ) → GrowsTo (reading at b) (reading at (b ++ later)) }
+{}
+
+/// Where a box asks for memory, the lines before are exactly those of the bytes before it.
+pub fn lines_before()
+    ensures { (b : List ℕ) (before : List Ask) (a : Ask) (behind : List Ask) → (reading 0 b).told.asks ≡ before ++ a ∷ behind →
+        take a.behind (listing b) ≡ listing (take a.at b) }
 {}

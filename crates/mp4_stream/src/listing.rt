@@ -3,19 +3,19 @@
 ghost use Rattle.std.specs.Prelude.{◌≡◌, ◌+◌, ◌≤◌, ◌++◌, [], length, true, OnErr, OnOk};
 ghost use Rattle.mp4_ends.specs.Streams.{AppendsPrefix};
 ghost use Rattle.mp4_box.specs.Trees.{view};
-ghost use Rattle.mp4_stream.specs.Blocks.{Passes};
+ghost use Rattle.mp4_reading.specs.Blocks.{Passes};
 ghost use Rattle.mp4_stream.specs.Listing.{box_line, line_below, size_text, tree_lines, user_text};
 
-use crate::block::Block;
-use crate::line::Line;
 use mp4_box::{BoxRef, Header, Size, Walk, holds_boxes};
 use mp4_ends::{Failed, Sink};
+use mp4_lines::{DECIMAL_DIGITS, LINE_CAPACITY, Line};
+use mp4_reading::Block;
 
 /// Spaces for the lowest level.
 const INDENT: [u8; 14] = *b"              ";
 
 /// Puts the line of a box that stands so many levels below the top in an empty line.
-#[tactic(auto, using(crate::proofs::LineLemmas::spaces))]
+#[tactic(auto, using(crate::proofs::ListingLemmas::spaces))]
 fn push_line(line: &mut Line, this: &BoxRef, level: u8)
     requires level { level ≤ 7 }
     requires empty { line.old ≡ [] }
@@ -77,9 +77,9 @@ pub(crate) fn put_tree<W: Sink>(
 }
 
 fn push_size(line: &mut Line, size: Size)
-    requires { length line.old + 20 ≤ 112 }
+    requires { length line.old + DECIMAL_DIGITS ≤ LINE_CAPACITY }
     ensures text { line.new ≡ line.old ++ size_text size }
-    ensures len { length line.new ≤ length line.old + 20 }
+    ensures len { length line.new ≤ length line.old + DECIMAL_DIGITS }
 {
     match size {
         Size::Exact(size) => line.push_decimal(size),
@@ -89,7 +89,7 @@ fn push_size(line: &mut Line, size: Size)
 
 /// A user type stands behind a space.
 fn push_user(line: &mut Line, user: Option<[u8; 16]>)
-    requires { length line.old + 33 ≤ 112 }
+    requires { length line.old + 33 ≤ LINE_CAPACITY }
     ensures text { line.new ≡ line.old ++ user_text user }
     ensures len { length line.new ≤ length line.old + 33 }
 {

@@ -1,104 +1,88 @@
-//! A reader of the boxes of a stream, which is fed the stream as it comes.
+//! A machine that lists the boxes of a stream, which it is fed as it comes.
 
-ghost use Rattle.std.specs.Prelude.{◌≡◌, ◌+◌, ◌-◌, ◌<◌, ◌≤◌, [], length, take, None, Some, Ok, IfOk, IfErr, OnOk, IsErrOf, true};
+ghost use Rattle.std.specs.Prelude.{◌≡◌, ◌+◌, ◌-◌, ◌<◌, ◌≤◌, ◌↔◌, [], length, take, None, Some, IfOk, IfErr, OnOk, OnErr, IsErrOf, IsTrue};
 ghost use Rattle.mp4_box.specs.declared.rules.Rule.TheVariants.{Truncated};
 ghost use Rattle.mp4_ledger.specs.Memory.{given_back};
-ghost use Rattle.mp4_stream.specs.Answers.{GoesOn, StopsAt, outside, reading_from};
-ghost use Rattle.mp4_stream.specs.Boxes.{fault};
-ghost use Rattle.mp4_stream.specs.Places.{InHeader, IsPhase, IsPlace, IsReader, claim_of, place_by, place_of, standing, standing_at};
-ghost use Rattle.mp4_stream.specs.declared.machine.Command.TheVariants.{Boxes};
-ghost use Rattle.mp4_stream.specs.Readings.{fault_in};
+ghost use Rattle.mp4_reading.specs.Bodies.{fault};
+ghost use Rattle.mp4_reading.specs.Pieces.{Takes};
+ghost use Rattle.mp4_reading.specs.Readings.{fault_in};
+ghost use Rattle.mp4_stream.specs.Places.{InHeader, IsPhase, IsPlace, claim_of, outside, place_by, standing};
 
-use crate::block::Block;
 use crate::held::Held;
-use crate::intake::{take_held, take_unheld};
+use crate::intake::{Kept, Taken, take_held, take_unheld};
 use crate::phase::Phase;
-use crate::top::Stop;
 use mp4_box::{Fault, FourCc, HeaderReader, Rule};
 use mp4_ends::{Failed, Sink};
 use mp4_ledger::Ledger;
+use mp4_reading::{Block, Stop};
 use std::marker::Model;
 use std::mem::replace;
 
-/// What a reader makes of a stream.
-#[derive(Clone, Copy)]
-pub(crate) enum Command {
-    /// It lists the boxes.
-    Boxes,
-}
-
-/// A reader of boxes. While it holds a box its phase is that behind the box. What it has claimed must be given
-/// back.
+/// A machine that lists boxes. While it holds a box its phase is the one behind that box. What it has claimed must be
+/// given back.
 pub(crate) struct Machine {
-    command: Command,
     phase: Phase,
     head: HeaderReader,
     held: Option<Held>,
+    out: Block,
 }
 
-// A contract sees the command, and where it stands.
+// A contract sees where it is, and the bytes that wait to be sent.
 impl Model for Machine {
-    ghost use Rattle.mp4_stream.specs.Places.{Seat, IsReader, place_of};
+    ghost use Rattle.mp4_stream.specs.Places.{State, IsMachine, place_of};
 
-    ghost Value = { Seat };
+    ghost Value = { State };
 
-    ghost view = { λ m. record { command = m.command; place = place_of m.head m.phase m.held } };
+    ghost view = { λ m. record { place = place_of m.head m.phase m.held; waiting = m.out } };
 
-    ghost invariant = { λ m. IsReader m.head m.phase m.held };
+    ghost invariant = { λ m. IsMachine m.head m.phase m.held };
 }
 
 impl Machine {
-    /// A reader to which no byte has come.
-    pub(crate) fn new(command: Command) -> Self
-        ensures { result ≡ record { command = command; place = InHeader 0 [] } }
+    /// A machine to which no byte has come.
+    pub(crate) fn new() -> Self
+        ensures { result ≡ record { place = InHeader 0 []; waiting = [] } }
     {
         Machine {
-            command,
             phase: Phase::Header { at: 0 },
             head: HeaderReader::new(),
             held: None,
+            out: Block::new(),
         }
     }
 
-    /// Takes the next piece of the stream, and writes all that it determines. The lines are gathered in `out`, in
-    /// which nothing waits between two pieces.
+    /// Takes the next piece of the stream, and writes all that it determines: nothing waits between two pieces.
     pub(crate) fn feed<W: Sink>(
         &mut self,
         ledger: &mut Ledger,
         piece: &[u8],
-        out: &mut Block,
         w: &mut W,
     ) -> Result<(), Stop>
         requires claim { claim_of self.old.place ≤ ledger.old.live }
-        requires empty { out.old ≡ [] }
-        ensures ok { OnOk result (GoesOn (outside (W.contents w.old) [] ledger.old) (outside (W.contents w.new) [] ledger.new) (standing_at self.old) piece.now (standing_at self.new)) }
-        ensures err { IfErr result (λ e. StopsAt (outside (W.contents w.old) [] ledger.old) (outside (W.contents w.new) [] ledger.new) (standing_at self.old) piece.now (claim_of self.new.place) e) }
+        requires empty { self.old.waiting ≡ [] }
+        ensures takes { Takes (record {
+          before = outside (W.contents w.old) [] ledger.old;
+          behind = outside (W.contents w.new) [] ledger.new;
+          failed = W.has_failed w.new;
+        })
+            (standing self.old.place) piece.now (λ _. piece.now) (λ _. standing self.new.place)
+            result }
         ensures claim { claim_of self.new.place ≤ ledger.new.live }
-        ensures failed { IsErrOf result Stop.Write → W.has_failed w.new ≡ true }
         ensures place { IsPlace self.new.place }
-        ensures command { self.new.command ≡ self.old.command }
-        ensures empty { OnOk result (out.new ≡ []) }
+        ensures empty { OnOk result (self.new.waiting ≡ []) }
+        ensures spent { OnErr result (claim_of self.new.place ≡ 0) }
     {
-        match self.take_all(ledger, piece, out, w) {
-            Ok(()) => match out.send(w) {
-                Ok(()) => Ok(()),
-                Err(Failed) => Err(Stop::Write),
-            },
-            Err(Stop::Stream(fault)) => match out.send(w) {
-                Ok(()) => Err(Stop::Stream(fault)),
-                Err(Failed) => Err(Stop::Write),
-            },
-            Err(Stop::OverLimit) => match out.send(w) {
-                Ok(()) => Err(Stop::OverLimit),
-                Err(Failed) => Err(Stop::Write),
-            },
-            Err(Stop::Memory) => match out.send(w) {
-                Ok(()) => Err(Stop::Memory),
-                Err(Failed) => Err(Stop::Write),
-            },
-            // What waits can't be sent any more.
-            Err(Stop::Write) => Err(Stop::Write),
-            Err(Stop::Read { at }) => Err(Stop::Read { at }),
+        let answer = self.take_all(ledger, piece, w);
+        // After a failed write what waits can't be sent any more.
+        if is_lost(&answer) {
+            return answer;
+        }
+        match self.out.send(w) {
+            Ok(()) => answer,
+            Err(Failed) => {
+                self.give_back(ledger);
+                Err(Stop::Write)
+            }
         }
     }
 
@@ -107,83 +91,63 @@ impl Machine {
         &mut self,
         ledger: &mut Ledger,
         piece: &[u8],
-        out: &mut Block,
         w: &mut W,
     ) -> Result<(), Stop>
         requires claim { claim_of self.old.place ≤ ledger.old.live }
-        ensures ok { OnOk result (GoesOn (outside (W.contents w.old) out.old ledger.old) (outside (W.contents w.new) out.new ledger.new) (standing_at self.old) piece.now (standing_at self.new)) }
-        ensures err { IfErr result (λ e. StopsAt (outside (W.contents w.old) out.old ledger.old) (outside (W.contents w.new) out.new ledger.new) (standing_at self.old) piece.now (claim_of self.new.place) e) }
+        ensures takes { Takes (record {
+          before = outside (W.contents w.old) self.old.waiting ledger.old;
+          behind = outside (W.contents w.new) self.new.waiting ledger.new;
+          failed = W.has_failed w.new;
+        }) (standing self.old.place) piece.now (λ _. piece.now)
+            (λ _. standing self.new.place) result }
         ensures claim { claim_of self.new.place ≤ ledger.new.live }
-        ensures failed { IsErrOf result Stop.Write → W.has_failed w.new ≡ true }
         ensures place { IsPlace self.new.place }
-        ensures command { self.new.command ≡ self.old.command }
+        ensures spent { OnErr result (claim_of self.new.place ≡ 0) }
     {
         let _ = &self.phase;
         let mut at = 0;
         while at < piece.len() {
-            at += self.take_some(ledger, &piece[at..], out, w)?;
+            match self.take_some(ledger, &piece[at..], w) {
+                Ok(count) => at += count,
+                Err(stop) => return Err(stop),
+            }
         }
         Ok(())
     }
 
-    /// Takes some bytes from the front of a piece, as its command asks: how many.
+    /// Takes some bytes from the front of a piece: how many.
     fn take_some<W: Sink>(
         &mut self,
         ledger: &mut Ledger,
         piece: &[u8],
-        out: &mut Block,
         w: &mut W,
     ) -> Result<usize, Stop>
         requires some { 0 < length piece.now }
         requires claim { claim_of self.old.place ≤ ledger.old.live }
+        ensures takes { Takes (record {
+          before = outside (W.contents w.old) self.old.waiting ledger.old;
+          behind = outside (W.contents w.new) self.new.waiting ledger.new;
+          failed = W.has_failed w.new;
+        }) (standing self.old.place) piece.now
+            (λ n. take n piece.now) (λ _. standing self.new.place) result }
         ensures taken { IfOk result (λ n. (0 < n) × (n ≤ length piece.now)) }
-        ensures ok { IfOk result (λ n. GoesOn (outside (W.contents w.old) out.old ledger.old) (outside (W.contents w.new) out.new ledger.new) (standing_at self.old) (take n piece.now) (standing_at self.new)) }
-        ensures err { IfErr result (λ e. StopsAt (outside (W.contents w.old) out.old ledger.old) (outside (W.contents w.new) out.new ledger.new) (standing_at self.old) piece.now (claim_of self.new.place) e) }
         ensures claim { claim_of self.new.place ≤ ledger.new.live }
-        ensures failed { IsErrOf result Stop.Write → W.has_failed w.new ≡ true }
         ensures place { IsPlace self.new.place }
-        ensures command { self.new.command ≡ self.old.command }
-    {
-        match self.command {
-            Command::Boxes => match self.take_boxes(ledger, piece, out, w) {
-                Ok(taken) => Ok(taken),
-                Err(stop) => Err(stop),
-            },
-        }
-    }
-
-    /// Takes some bytes from the front of a piece of which the boxes are listed: how many.
-    fn take_boxes<W: Sink>(
-        &mut self,
-        ledger: &mut Ledger,
-        piece: &[u8],
-        out: &mut Block,
-        w: &mut W,
-    ) -> Result<usize, Stop>
-        requires some { 0 < length piece.now }
-        requires boxes { self.old.command ≡ Boxes }
-        requires claim { claim_of self.old.place ≤ ledger.old.live }
-        ensures taken { IfOk result (λ n. (0 < n) × (n ≤ length piece.now)) }
-        ensures ok { IfOk result (λ n. GoesOn (outside (W.contents w.old) out.old ledger.old) (outside (W.contents w.new) out.new ledger.new) (standing_at self.old) (take n piece.now) (standing_at self.new)) }
-        ensures err { IfErr result (λ e. StopsAt (outside (W.contents w.old) out.old ledger.old) (outside (W.contents w.new) out.new ledger.new) (standing_at self.old) piece.now (claim_of self.new.place) e) }
-        ensures claim { claim_of self.new.place ≤ ledger.new.live }
-        ensures failed { IsErrOf result Stop.Write → W.has_failed w.new ≡ true }
-        ensures place { IsPlace self.new.place }
-        ensures command { self.new.command ≡ self.old.command }
+        ensures spent { OnErr result (claim_of self.new.place ≡ 0) }
     {
         match self.held.take() {
-            Some(held) => match take_held(held, ledger, piece, out, w) {
-                Ok((taken, held)) => {
+            Some(held) => match take_held(held, piece, ledger, &mut self.out, w) {
+                Ok(Kept { count, held }) => {
                     put(&mut self.held, held);
-                    Ok(taken)
+                    Ok(count)
                 }
                 Err(stop) => Err(stop),
             },
-            None => match take_unheld(self.phase, &mut self.head, ledger, piece, out, w) {
-                Ok((taken, phase, held)) => {
+            None => match take_unheld(self.phase, &mut self.head, piece, ledger, &mut self.out, w) {
+                Ok(Taken { count, phase, held }) => {
                     self.phase = phase;
                     put(&mut self.held, held);
-                    Ok(taken)
+                    Ok(count)
                 }
                 Err(stop) => Err(stop),
             },
@@ -192,29 +156,39 @@ impl Machine {
 
     /// What the end of the stream means here.
     pub(crate) fn finish(&self) -> Result<(), Fault>
-        ensures ok { OnOk result (fault_in (reading_from (standing_at self.now) []).ending ≡ None) }
-        ensures err { IfErr result (λ f. fault_in (reading_from (standing_at self.now) []).ending ≡
+        ensures ok { OnOk result
+            (fault_in ((standing self.now.place).reads []).outcome ≡ None) }
+        ensures err { IfErr result (λ f. fault_in ((standing self.now.place).reads []).outcome ≡
             Some f) }
     {
         match &self.held {
-            Some(held) => {
-                let (kind, at) = held.place();
-                Err(truncated(Some(kind), at))
-            }
+            Some(held) => Err(truncated(Some(held.kind()), held.offset())),
             None => end_of(self.phase, &self.head),
         }
     }
 
-    /// Gives back what it has claimed.
+    /// Gives back what is claimed for the box that is held.
+    fn give_back(&mut self, ledger: &mut Ledger)
+        requires { claim_of self.old.place ≤ ledger.old.live }
+        ensures back { ledger.new ≡ given_back ledger.old (claim_of self.old.place) }
+        ensures spent { claim_of self.new.place ≡ 0 }
+        ensures place { IsPlace self.new.place }
+    {
+        if let Some(held) = self.held.take() {
+            held.back(ledger);
+        }
+    }
+
+    /// Gives back all that is claimed.
     pub(crate) fn give_up(self, ledger: &mut Ledger)
         requires { claim_of self.place ≤ ledger.old.live }
         ensures { ledger.new ≡ given_back ledger.old (claim_of self.place) }
     {
         let Machine {
-            command: _,
             phase: _,
             head: _,
             held,
+            out: _,
         } = self;
         if let Some(held) = held {
             held.back(ledger);
@@ -222,7 +196,14 @@ impl Machine {
     }
 }
 
-/// Puts a box, or none, in a place in which none is.
+/// Whether a write failed.
+fn is_lost(answer: &Result<(), Stop>) -> bool
+    ensures { IsTrue result ↔ IsErrOf answer.now Stop.Write }
+{
+    matches!(answer, Err(Stop::Write))
+}
+
+/// Puts a box, or none, where none is.
 fn put(place: &mut Option<Held>, held: Option<Held>)
     requires { place.old ≡ None }
     ensures { place.new ≡ held }
@@ -236,10 +217,10 @@ fn put(place: &mut Option<Held>, held: Option<Held>)
 /// What the end of the stream means where no box is held.
 fn end_of(phase: Phase, head: &HeaderReader) -> Result<(), Fault>
     requires { IsPhase head.now phase }
-    ensures ok { OnOk result (fault_in (reading_from (standing Boxes (place_by head.now phase)) []).ending
-        ≡ None) }
-    ensures err { IfErr result (λ f. fault_in (reading_from (standing Boxes (place_by head.now phase))
-        []).ending ≡ Some f) }
+    ensures ok { OnOk result
+        (fault_in ((standing (place_by head.now phase)).reads []).outcome ≡ None) }
+    ensures err { IfErr result (λ f. fault_in
+        ((standing (place_by head.now phase)).reads []).outcome ≡ Some f) }
 {
     match phase {
         Phase::Header { at } => {

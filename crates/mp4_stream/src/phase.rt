@@ -1,20 +1,20 @@
-//! Where a reader stands in a stream between boxes that are held, and how it passes over bodies.
+//! Where a machine is in a stream between boxes that are held, and how it passes over bodies.
 
 ghost use Rattle.std.specs.Prelude.{◌≡◌, ℕ, ◌+◌, ◌-◌, ◌<◌, ◌≤◌, [], ◌++◌, List, length, take, None, Some, Ok, IfNone, IfSome, IfOk, IfErr, OnErr};
 ghost use Rattle.mp4_box.specs.Headers.{HasRoom};
 ghost use Rattle.mp4_box.specs.declared.rules.Rule.TheVariants.{StreamTooLong};
-ghost use Rattle.mp4_stream.specs.Boxes.{body, fault, least_end, longest, open_body, reading, refused, sized_body};
-ghost use Rattle.mp4_stream.specs.Places.{InBody, InOpenBody, IsPhase, IsPlace, from_of, place_by, reads_of};
-ghost use Rattle.mp4_stream.specs.declared.machine.Command.TheVariants.{Boxes};
-ghost use Rattle.mp4_stream.specs.Readings.{then_read};
+ghost use Rattle.mp4_reading.specs.Bodies.{fault, longest, told_body, told_open};
+ghost use Rattle.mp4_reading.specs.Readings.{then_read};
+ghost use Rattle.mp4_stream.specs.Boxes.{body, least_end, passed, reading, refused};
+ghost use Rattle.mp4_stream.specs.Places.{InBody, InOpenBody, IsPhase, IsPlace, place_by, reached_of, reads_at};
 
-use crate::top::Stop;
 use mp4_box::{Fault, FourCc, Header, Rule, Size};
+use mp4_reading::Stop;
 
 /// No stream is followed further than this many bytes.
 pub(crate) const LONGEST: u64 = 1 << 62;
 
-/// What a reader takes next. `at` is the offset of the box that it is in.
+/// What a machine takes next. `at` is the offset of the box that it is in.
 #[derive(Clone, Copy)]
 pub(crate) enum Phase {
     /// A byte of the box's header.
@@ -55,9 +55,9 @@ pub(crate) fn phase_behind(at: u64, header: &Header) -> Option<Phase>
     ensures none { IfNone result (longest < least_end at header.now header.now.size) }
     ensures some { IfSome result (λ p. least_end at header.now header.now.size ≤ longest) }
     ensures reads { IfSome result (λ p. (later : List ℕ) → then_read reading
-        (body at header.now header.now.size later) ≡ reads_of Boxes (place_by [] p) later) }
+        (body at header.now header.now.size later) ≡ reads_at (place_by [] p) later) }
     ensures phase { IfSome result (λ p. IsPhase [] p) }
-    ensures reached { IfSome result (λ p. from_of (place_by [] p) ≡ at + header.now.header_len) }
+    ensures reached { IfSome result (λ p. reached_of (place_by [] p) ≡ at + header.now.header_len) }
 {
     match header.size {
         Size::Exact(size) => sized_phase(at, header.kind, size, header.header_len),
@@ -72,10 +72,10 @@ pub(crate) fn sized_phase(at: u64, kind: FourCc, size: u64, header_len: u64) -> 
     ensures none { IfNone result (longest < at + size) }
     ensures some { IfSome result (λ p. at + size ≤ longest) }
     ensures reads { IfSome result (λ p. (later : List ℕ) → then_read reading
-        (sized_body at kind (at + size) (size - header_len) later) ≡ reads_of Boxes (place_by [] p)
+        (told_body passed at kind (at + size) (size - header_len) later) ≡ reads_at (place_by [] p)
         later) }
     ensures phase { IfSome result (λ p. IsPhase [] p) }
-    ensures reached { IfSome result (λ p. from_of (place_by [] p) ≡ at + header_len) }
+    ensures reached { IfSome result (λ p. reached_of (place_by [] p) ≡ at + header_len) }
 {
     if size > LONGEST - at {
         return None;
@@ -98,10 +98,10 @@ pub(crate) fn open_phase(at: u64, kind: FourCc, header_len: u64) -> Option<Phase
     ensures none { IfNone result (longest < at + header_len) }
     ensures some { IfSome result (λ p. at + header_len ≤ longest) }
     ensures reads { IfSome result (λ p. (later : List ℕ) → then_read reading
-        (open_body at kind (longest - (at + header_len)) later) ≡ reads_of Boxes (place_by [] p)
+        (told_open passed at kind 0 (longest - (at + header_len)) later) ≡ reads_at (place_by [] p)
         later) }
     ensures phase { IfSome result (λ p. IsPhase [] p) }
-    ensures reached { IfSome result (λ p. from_of (place_by [] p) ≡ at + header_len) }
+    ensures reached { IfSome result (λ p. reached_of (place_by [] p) ≡ at + header_len) }
 {
     if header_len > LONGEST - at {
         return None;
@@ -113,18 +113,27 @@ pub(crate) fn open_phase(at: u64, kind: FourCc, header_len: u64) -> Option<Phase
     })
 }
 
-/// Passes over bytes of the body of the box at `at`: how many, and what comes next.
-pub(crate) fn pass(at: u64, kind: FourCc, next: u64, left: u64, piece: &[u8]) -> (usize, Phase)
+/// Bytes of a body that were passed over.
+#[derive(Clone, Copy)]
+pub(crate) struct Passed {
+    /// How many.
+    pub(crate) count: usize,
+    /// What comes next.
+    pub(crate) phase: Phase,
+}
+
+/// Passes over bytes of the body of the box at `at`.
+pub(crate) fn pass(at: u64, kind: FourCc, next: u64, left: u64, piece: &[u8]) -> Passed
     requires some { 0 < length piece.now }
     requires place { IsPlace (InBody at kind next left) }
-    ensures taken { (0 < result.0) × (result.0 ≤ length piece.now) }
-    ensures reads { (later : List ℕ) → reads_of Boxes (InBody at kind next left)
-        (take result.0 piece.now ++ later) ≡ reads_of Boxes (place_by [] result.1) later }
-    ensures phase { IsPhase [] result.1 }
-    ensures reached { from_of (place_by [] result.1) ≡ (next - left) + result.0 }
+    ensures taken { (0 < result.count) × (result.count ≤ length piece.now) }
+    ensures reads { (later : List ℕ) → reads_at (InBody at kind next left)
+        (take result.count piece.now ++ later) ≡ reads_at (place_by [] result.phase) later }
+    ensures phase { IsPhase [] result.phase }
+    ensures reached { reached_of (place_by [] result.phase) ≡ (next - left) + result.count }
 {
-    let taken = left.min(piece.len() as u64) as usize;
-    let left = left - taken as u64;
+    let count = left.min(piece.len() as u64) as usize;
+    let left = left - count as u64;
     let phase = if left == 0 {
         Phase::Header { at: next }
     } else {
@@ -135,19 +144,19 @@ pub(crate) fn pass(at: u64, kind: FourCc, next: u64, left: u64, piece: &[u8]) ->
             left,
         }
     };
-    (taken, phase)
+    Passed { count, phase }
 }
 
 /// Passes over a piece of the body of the box at `at`, which goes to the end of the stream: what comes next.
 pub(crate) fn pass_open(at: u64, kind: FourCc, left: u64, piece: &[u8]) -> Result<Phase, Stop>
     requires { IsPlace (InOpenBody at kind left) }
-    ensures reads { IfOk result (λ p. (later : List ℕ) → reads_of Boxes (InOpenBody at kind left)
-        (piece.now ++ later) ≡ reads_of Boxes (place_by [] p) later) }
+    ensures reads { IfOk result (λ p. (later : List ℕ) → reads_at (InOpenBody at kind left)
+        (piece.now ++ later) ≡ reads_at (place_by [] p) later) }
     ensures phase { IfOk result (λ p. IsPhase [] p) }
-    ensures reached { IfOk result (λ p. from_of (place_by [] p) ≡ (longest - left) + length
+    ensures reached { IfOk result (λ p. reached_of (place_by [] p) ≡ (longest - left) + length
         piece.now) }
     ensures stops { IfErr result (λ e. e ≡ Stop.Stream (fault StreamTooLong (Some kind) at)) }
-    ensures err { OnErr result ((later : List ℕ) → reads_of Boxes (InOpenBody at kind left)
+    ensures err { OnErr result ((later : List ℕ) → reads_at (InOpenBody at kind left)
         (piece.now ++ later) ≡ refused StreamTooLong (Some kind) at) }
 {
     if piece.len() as u64 > left {

@@ -1,20 +1,30 @@
-use Rattle.std.proofs.Common.{◌++◌}
+use Rattle.std.proofs.Common.{◌++◌, arith, rules}
+use Rattle.mp4_reading.proofs.PieceLemmas.{GoesOn-none, Takes-ok, Takes-err}
+use Rattle.mp4_stream.specs.Places.{InHeld, outside, standing}
 use Rattle.mp4_stream.proofs.HoldingLemmas.{verdict_good, verdict_bad}
-use Rattle.mp4_stream.proofs.PlaceLemmas.{GoesOn-good, FailsIn-good, Refuses-tree}
+use Rattle.mp4_stream.proofs.PlaceLemmas.{GoesOn-good, Loses-good, Refuses-tree}
 use Rattle.mp4_stream.proofs.intake.settle.Goals as goal
 
-pub returns-in-Err-clause-err : goal.returns-in-Err-clause-err
-returns-in-Err-clause-err g c = λ more.
+pub returns-then-not-is_whole-clause-takes : goal.returns-then-not-is_whole-clause-takes
+returns-then-not-is_whole-clause-takes g c =
     let held = c.args.held in
+    Takes-ok (GoesOn-none _ (standing (InHeld held.at held.kind held.size held.bytes)))
+
+pub returns-in-Err-clause-takes : goal.returns-in-Err-clause-takes
+returns-in-Err-clause-takes g c =
+    let held = c.args.held in
+    let whole = c.if-not-is_whole.false in
     let (fs, bad) = verdict_bad c.check.ensures c.in-Err.is in
-    rw c.back.ensures (Refuses-tree _ held.at held.kind held.size held.bytes c.requires.claim c.requires.whole more c.in-Err.fault fs bad)
+    Takes-err (λ more. rw c.back.ensures (Refuses-tree _ held.at held.kind held.size held.bytes c.requires.claim (search rules) more c.in-Err.fault fs bad)) (λ e. absurd cc)
 
-pub returns-in-Ok-listed-clause-ok : goal.returns-in-Ok-listed-clause-ok
-returns-in-Ok-listed-clause-ok g c =
+pub returns-in-Ok-listed-clause-takes : goal.returns-in-Ok-listed-clause-takes
+returns-in-Ok-listed-clause-takes g c =
     let held = c.args.held in
-    rw c.back-2.ensures (GoesOn-good _ held.at held.kind held.size held.bytes c.requires.claim c.requires.whole _ c.list-listed.new.out (verdict_good c.check.ensures c.in-Ok.is) c.in-Ok-listed.ensures.ok)
+    Takes-ok (rw c.back-2.ensures (GoesOn-good _ held.at held.kind held.size held.bytes c.requires.claim (search rules) _ c.list-listed.new.out (verdict_good c.check.ensures c.in-Ok.is) c.in-Ok-listed.ensures.ok))
 
-pub returns-in-Err-listed-clause-err : goal.returns-in-Err-listed-clause-err
-returns-in-Err-listed-clause-err g c = λ more later.
+pub returns-in-Err-listed-clause-takes : goal.returns-in-Err-listed-clause-takes
+returns-in-Err-listed-clause-takes g c =
     let held = c.args.held in
-    rw c.back-2.ensures (FailsIn-good _ held.at held.kind held.size held.bytes c.requires.claim c.requires.whole _ (more ++ later) (verdict_good c.check.ensures c.in-Ok.is) c.in-Err-listed.ensures.err)
+    Takes-err (λ more later.
+    rw c.back-2.ensures (Loses-good (outside (g.W.Sink.contents c.args.w.now) c.args.out.now c.args.ledger.now) held.at held.kind held.size held.bytes c.requires.claim (search rules) _ _ (more ++ later) (verdict_good c.check.ensures c.in-Ok.is) c.in-Err-listed.ensures.err))
+    (λ e. c.in-Err-listed.ensures.failed)

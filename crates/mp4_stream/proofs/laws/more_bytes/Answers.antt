@@ -1,6 +1,6 @@
 use Rattle.mp4_stream.specs.Boxes.{front}
 use Rattle.mp4_stream.proofs.BoxLemmas.{front-items}
-use Rattle.mp4_stream.proofs.GrowthLemmas.{reading_grows}
+use Rattle.mp4_reading.proofs.ReadingGrowthLemmas.{reading_grows}
 use Rattle.mp4_stream.proofs.BoxGrowthLemmas.{front-grows}
 use Rattle.mp4_stream.proofs.laws.more_bytes.Goals as goal
 

@@ -1,9 +1,9 @@
 use Rattle.std.proofs.Common.{◌≡◌, ◌∙◌, ◌+◌, ◌-◌, ◌++◌, List, ℕ, sym, ap, arith, subst}
 use Rattle.std.specs.List.{flat_map}
 use Rattle.mp4_box.specs.Trees.{Box, view}
-use Rattle.mp4_stream.specs.Blocks.{Passes}
+use Rattle.mp4_reading.specs.Blocks.{Passes}
 use Rattle.mp4_stream.specs.Listing.{line_below, tree_lines}
-use Rattle.mp4_stream.proofs.BlockLemmas.{Passes-more, AppendsPrefix-passed}
+use Rattle.mp4_reading.proofs.BlockLemmas.{Passes-more, AppendsPrefix-passed}
 use Rattle.mp4_stream.proofs.ListingLemmas.{lines-zero, lines-leaf, lines-step, lines-begin, lines-child, AppendsPrefix-lines}
 use Rattle.mp4_stream.proofs.listing.+put_tree.Goals as goal
 

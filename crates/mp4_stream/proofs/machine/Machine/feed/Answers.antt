@@ -1,49 +1,25 @@
-use Rattle.mp4_stream.proofs.AnswerLemmas.{GoesOn-sent, GoesOn-unsent, Refuses-sent, Refuses-unsent, OverLimit-sent, Memory-sent, Starved-unsent}
+use Rattle.std.proofs.Common.{◌≡◌, ◌++◌, [], Err, Ok, refl, sym, arith}
+use Rattle.std.proofs.lemmas.Bool.{false≢true}
+use Rattle.mp4_reading.proofs.PieceLemmas.{Loses-waiting, Takes-err, Takes-sent, Takes-unsent}
+use Rattle.mp4_stream.specs.Places.{standing}
 use Rattle.mp4_stream.proofs.machine.Machine.feed.Goals as goal
 
-pub returns-in-Ok-send-clause-ok : goal.returns-in-Ok-send-clause-ok
-returns-in-Ok-send-clause-ok g c =
-    let goes = rw c.requires.empty at c.in-Ok.ensures.ok in
-    let sent = rw c.in-Ok-send.ensures.empty at c.in-Ok-send.ensures.ok in
-    GoesOn-sent goes sent
+pub returns-then-is_lost-clause-takes : goal.returns-then-is_lost-clause-takes
+returns-then-is_lost-clause-takes g c =
+    let lost = c.if-is_lost.ensures.0 refl in
+    let taken = rw (c.requires.empty, lost) at c.take_all-answer.ensures.takes in
+    rw lost (Takes-err (λ more. Loses-waiting _ _ [] (standing c.args.self.now.place) (c.args.piece.now ++ more) (taken.err more)) (λ e. taken.failed refl))
 
-pub returns-in-Err-clause-err : goal.returns-in-Err-clause-err
-returns-in-Err-clause-err g c =
-    let goes = rw c.requires.empty at c.in-Ok.ensures.ok in
-    GoesOn-unsent _ c.requires.claim goes c.in-Err.ensures.err
+pub returns-in-Ok-clause-takes : goal.returns-in-Ok-clause-takes
+returns-in-Ok-clause-takes g c =
+    let taken = rw (c.requires.empty, ← c.self.view_is) at c.take_all-answer.ensures.takes in
+    let sent = rw c.in-Ok.ensures.empty at c.in-Ok.ensures.ok in
+    Takes-sent c.take_all-answer.result _ [] _ (λ e. false≢true (c.if-is_lost.ensures.1 e)) taken sent
 
-pub returns-in-Ok-send-2-clause-err : goal.returns-in-Ok-send-2-clause-err
-returns-in-Ok-send-2-clause-err g c =
-    let stops = rw (c.requires.empty, c.in-Err-Stream.field-0-is) at c.in-Err-Stream.ensures.err in
-    let sent = rw c.in-Ok-send-2.ensures.empty at c.in-Ok-send-2.ensures.ok in
-    Refuses-sent stops sent
-
-pub returns-in-Err-send-clause-err : goal.returns-in-Err-send-clause-err
-returns-in-Err-send-clause-err g c =
-    let stops = rw (c.requires.empty, c.in-Err-Stream.field-0-is) at c.in-Err-Stream.ensures.err in
-    Refuses-unsent _ stops c.in-Err-send.ensures.err
-
-pub returns-in-Ok-send-3-clause-err : goal.returns-in-Ok-send-3-clause-err
-returns-in-Ok-send-3-clause-err g c =
-    let stops = rw (c.requires.empty, c.in-Err-OverLimit.field-0-is) at c.in-Err-OverLimit.ensures.err in
-    let sent = rw c.in-Ok-send-3.ensures.empty at c.in-Ok-send-3.ensures.ok in
-    OverLimit-sent stops sent
-
-pub returns-in-Err-send-2-clause-err : goal.returns-in-Err-send-2-clause-err
-returns-in-Err-send-2-clause-err g c =
-    let stops = rw (c.requires.empty, c.in-Err-OverLimit.field-0-is) at c.in-Err-OverLimit.ensures.err in
-    Starved-unsent _ stops.0 stops.1.0 c.in-Err-send-2.ensures.err
-
-pub returns-in-Ok-send-4-clause-err : goal.returns-in-Ok-send-4-clause-err
-returns-in-Ok-send-4-clause-err g c =
-    let stops = rw (c.requires.empty, c.in-Err-Memory.field-0-is) at c.in-Err-Memory.ensures.err in
-    let sent = rw c.in-Ok-send-4.ensures.empty at c.in-Ok-send-4.ensures.ok in
-    Memory-sent stops sent
-
-pub returns-in-Err-send-3-clause-err : goal.returns-in-Err-send-3-clause-err
-returns-in-Err-send-3-clause-err g c =
-    let stops = rw (c.requires.empty, c.in-Err-Memory.field-0-is) at c.in-Err-Memory.ensures.err in
-    Starved-unsent _ stops.0 stops.1.0 c.in-Err-send-3.ensures.err
-
-pub returns-in-Err-Write-clause-err : goal.returns-in-Err-Write-clause-err
-returns-in-Err-Write-clause-err g c = rw (c.requires.empty, c.in-Err-Write.field-0-is) at c.in-Err-Write.ensures.err
+pub returns-in-Err-clause-takes : goal.returns-in-Err-clause-takes
+returns-in-Err-clause-takes g c =
+    let taken = rw (c.requires.empty, ← c.self.view_is) at c.take_all-answer.ensures.takes in
+    let spent = rw (← c.self.view_is) at c.take_all-answer.ensures.spent in
+    let claim = rw (← c.self.view_is) at c.take_all-answer.ensures.claim in
+    rw c.in-Err.ensures.failed
+    (Takes-unsent c.take_all-answer.result _ [] _ _ (λ e. false≢true (c.if-is_lost.ensures.1 e)) taken (λ t e. (refl, refl)) spent claim c.in-Err.ensures.err c.give_back.ensures.back)

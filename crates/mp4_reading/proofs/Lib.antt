@@ -1,0 +1,9 @@
+pub mod ReadingAskLemmas
+pub mod ReadingLemmas
+pub mod ReadingGrowthLemmas
+pub mod ReadingItemLemmas
+pub mod BodyLemmas
+pub mod AccountLemmas
+pub mod BlockLemmas
+pub mod PieceLemmas
+pub mod RunLemmas

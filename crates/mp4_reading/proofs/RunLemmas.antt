@@ -1,0 +1,192 @@
+-- What a run brings that stops behind some bytes, or at the next piece.
+use Rattle.std.proofs.Common.{◌≡◌, ℕ, zero, suc, ◌+◌, ◌-◌, ◌≤◌, ◌<◌, List, [], ◌∷◌, ◌++◌, length, take, max, Bool, true, Option, Some, None, Result, Ok, Err, inl, inr, ap, sym, ◌∙◌, refl, arith, append-nil, append_assoc, subst}
+use Rattle.std.proofs.Math.Seq.{take-append_seam, take-append-add}
+use Rattle.std.proofs.KnownBytes.{Appends-trans}
+use Rattle.std.specs.Io.KnownBytes.{Appends, Consumes}
+use Rattle.mp4_ends.specs.Streams.{AppendsPrefix}
+use Rattle.mp4_ends.proofs.StreamLemmas.{AppendsPrefix-more}
+use Rattle.mp4_ledger.specs.Memory.{Account}
+use Rattle.mp4_ledger.specs.declared.ledger.Refused.{Refused}
+use Rattle.mp4_ledger.specs.declared.ledger.Refused.TheVariants as refusals
+use Rattle.mp4_box.specs.declared.rules.Fault.{Fault}
+use Rattle.mp4_reading.specs.Accounts.{Counts, Spends}
+use Rattle.mp4_reading.specs.Readings.{Ask, greatest, Told, Reading, nothing, uncounted, plus, fault_in, early_in, after, both, silent, asks_for, shifted, most_of}
+use Rattle.mp4_reading.specs.Pieces.{Outside, Standing, Refuses, Starves, StopsAt, Around, Takes, IsFed, refusal_of}
+use Rattle.mp4_reading.specs.Runs.{Ends, Claims, Run, reading_of, TellsAll, TellsSome, IsPrompt, StarvesAt, ComesUntil, Runs}
+use Rattle.mp4_reading.specs.declared.stop.Stop.{Stop}
+use Rattle.mp4_reading.specs.declared.stop.Stop.TheVariants.{Stream, Read, Write, OverLimit, Memory}
+use Rattle.mp4_reading.proofs.ReadingAskLemmas.{most-both, shifted-append, greatest-shifted, greatest-append}
+use Rattle.mp4_reading.proofs.AccountLemmas.{Counts-more, Spends-after}
+use Rattle.mp4_reading.proofs.BlockLemmas.{Appends-passed}
+use Rattle.mp4_reading.proofs.ReadingLemmas.{both-silent}
+
+-- ---- how much was out
+
+peak-exact : (k l : Account) (claim m : ℕ) → k.peak ≡ k.live → Counts k l 0 claim m → l.peak ≡ k.live + m
+peak-exact k l claim zero z c = omega (arith, c.peak, z)
+peak-exact k l claim (suc m) z c = omega (arith, c.peak, z)
+
+peak-most : (k l : Account) (claim m : ℕ) → k.peak ≡ k.live → Spends k l 0 claim m → l.peak ≤ k.live + m
+peak-most k l claim zero z c = omega (arith, c.at_most, z)
+peak-most k l claim (suc m) z c = omega (arith, c.at_most, z)
+
+-- ---- a run over a machine that was fed all of the bytes b
+
+-- the run that is seen where it began and ended so
+abbrev pub run_of : (List ℕ → Reading) → List ℕ → Outside → Outside → Ends → Run
+run_of whole b start now ends = record {
+  whole = whole;
+  bytes = b;
+  ends = ends;
+  claims = record { copy = start.account.live; limit = start.account.limit; peak = now.account.peak };
+  tally = now.tally;
+}
+
+module _ (whole : List ℕ → Reading) (b : List ℕ) (start : Outside) (marked : start.account.peak ≡ start.account.live) where
+  module _ {now : Outside} {p : Standing} (s : IsFed whole b start now p) where
+    -- what all of the bytes are read as
+    reads-all : whole b ≡ after (whole b).told (p.reads [])
+    reads-all = ap whole (sym (append-nil b)) ∙ s.stands.rest []
+
+    pub fed-fault : fault_in (whole b).outcome ≡ fault_in (p.reads []).outcome
+    fed-fault = ap (λ r. fault_in r.outcome) reads-all
+
+    pub fed-undecided : early_in (whole b).outcome ≡ None
+    fed-undecided = ap (λ r. early_in r.outcome) reads-all ∙ s.quiet.early
+
+    pub fed-tells : (ends : Ends) → ends.written ≡ start.written → ends.written' ≡ now.written → TellsAll (run_of whole b start now ends)
+    fed-tells ends from to = record {
+      text = subst (λ w. Appends ends.written w (whole b).told.text) (sym to) (subst (λ w. Appends w now.written (whole b).told.text) (sym from) s.text);
+      peak = peak-exact start.account now.account p.claim (most_of (whole b).told) marked s.counts;
+      tally = s.stands.tally;
+    }
+
+    -- no byte came since, or the bytes of one read
+    abbrev pub prompt-now : (ends : Ends) → IsPrompt (run_of whole b start now ends)
+    prompt-now ends = record { early = b; last = []; cut = sym (append-nil b); few = omega arith; undecided = fed-undecided }
+
+    abbrev pub prompt-read : (got : List ℕ) (later : Outside) (ends : Ends) → length got ≤ start.account.live → IsPrompt (run_of whole (b ++ got) start later ends)
+    prompt-read got later ends few = record { early = b; last = got; cut = refl; few = few; undecided = fed-undecided }
+
+    -- ---- the next piece stops it
+
+    module _ (then : Outside) (piece : List ℕ) (waiting : now.waiting ≡ []) (low : p.claim ≤ now.account.live) where
+      reads-both : whole (b ++ piece) ≡ after (whole b).told (p.reads (piece ++ []))
+      reads-both = ap whole (ap (λ l. b ++ l) (sym (append-nil piece))) ∙ s.stands.rest (piece ++ [])
+
+      counts-both : (told : Told) → Counts now.account then.account p.claim 0 (most_of told) → Counts start.account then.account 0 0 (most_of (both (whole b).told told))
+      counts-both told c = subst (Counts start.account then.account 0 0) (sym (most-both (whole b).told told))
+          (Counts-more start.account now.account then.account 0 p.claim 0 (most_of (whole b).told) (most_of told) (omega arith) s.counts c)
+
+      refuses-tells : (f : Fault) (ends : Ends) → ends.written ≡ start.written → ends.written' ≡ then.written → then.waiting ≡ [] → Refuses now then p piece f → TellsAll (run_of whole (b ++ piece) start then ends)
+      refuses-tells f ends from to none g =
+          let told : (whole (b ++ piece)).told ≡ both (whole b).told g.brought = ap (λ r. r.told) (reads-both ∙ ap (after (whole b).told) (g.rest [])) in
+          let text = Appends-trans start.written now.written then.written (whole b).told.text g.brought.text s.text (Appends-passed g.moves.passes waiting none) in
+          record {
+            text = subst (λ t. Appends ends.written ends.written' t.text) (sym told) (subst (λ w. Appends ends.written w ((whole b).told.text ++ g.brought.text)) (sym to) (subst (λ w. Appends w then.written ((whole b).told.text ++ g.brought.text)) (sym from) text));
+            peak = peak-exact start.account then.account 0 (most_of (both (whole b).told g.brought)) marked (counts-both g.brought g.moves.counts) ∙ ap (λ t. start.account.live + most_of t) (sym told);
+            tally = g.moves.tallied ∙ ap (λ t. plus t g.brought.tally) s.stands.tally ∙ ap (λ t. t.tally) (sym told);
+          }
+
+      refuses-outcome : (f : Fault) → Refuses now then p piece f → (whole (b ++ piece)).outcome ≡ (after (whole b).told (p.reads (piece ++ []))).outcome
+      refuses-outcome f g = ap (λ r. r.outcome) reads-both
+
+      -- what is asked for before the box whose claim is refused
+      asks_before : Starves now then p piece → List Ask
+      asks_before g = (both (whole b).told g.brought).asks
+
+      starves : (ends : Ends) (few : length piece ≤ start.account.live) → ends.written ≡ start.written → ends.written' ≡ then.written → then.waiting ≡ [] → (g : Starves now then p piece)
+          → (r : StarvesAt (run_of whole (b ++ piece) start then ends) (prompt-read piece then ends few)) × (r.ask.sum ≡ g.sum)
+      starves ends few from to none g =
+          let more = (g.behind []).told in
+          let n = length (whole b).told.text in
+          let k = length g.brought.text in
+          let told : (whole (b ++ piece)).told ≡ both (whole b).told (both g.brought (both (asks_for g.at g.sum) more)) = ap (λ r. r.told) (reads-both ∙ ap (after (whole b).told) (g.rest [])) in
+          let text = Appends-trans start.written now.written then.written (whole b).told.text g.brought.text s.text (Appends-passed g.moves.passes waiting none) in
+          let front : take (n + (k + 0)) (whole (b ++ piece)).told.text ≡ (whole b).told.text ++ g.brought.text =
+          ap (λ t. take (n + (k + 0)) t.text) told
+          ∙ take-append-add (whole b).told.text (g.brought.text ++ more.text) (k + 0)
+          ∙ ap (λ l. (whole b).told.text ++ l) (take-append-add g.brought.text more.text 0 ∙ append-nil g.brought.text) in (
+            record {
+              ask = record { at = g.at; sum = g.sum; behind = n + (k + 0) };
+              before = (whole b).told.asks ++ shifted n g.brought.asks;
+              asked = (
+                shifted n (shifted k (shifted 0 more.asks)),
+                ap (λ t. t.asks) told
+                    ∙ ap (λ l. (whole b).told.asks ++ l) (shifted-append n g.brought.asks (shifted k (record { at = g.at; sum = g.sum; behind = 0 } ∷ shifted 0 more.asks)))
+                    ∙ sym (append_assoc (whole b).told.asks (shifted n g.brought.asks) _),
+              );
+              new = (shifted n g.brought.asks, refl);
+              text = subst (λ l. Appends ends.written ends.written' l) (sym front) (subst (λ w. Appends ends.written w ((whole b).told.text ++ g.brought.text)) (sym to) (subst (λ w. Appends w then.written ((whole b).told.text ++ g.brought.text)) (sym from) text));
+              peak = peak-exact start.account then.account 0 (greatest ((whole b).told.asks ++ shifted n g.brought.asks)) marked (counts-both g.brought g.moves.counts);
+            },
+            refl,
+          )
+
+      loses : (ends : Ends) → ends.written ≡ start.written → ends.written' ≡ then.written → StopsAt now then p piece Write → TellsSome (run_of whole (b ++ piece) start then ends)
+      loses ends from to g =
+          let r = p.reads (piece ++ []) in
+          let told : (whole (b ++ piece)).told ≡ both (whole b).told r.told = ap (λ r. r.told) reads-both in
+          let text = AppendsPrefix-more start.written now.written then.written (whole b).told.text r.told.text s.text (subst (λ l. AppendsPrefix now.written then.written (l ++ r.told.text)) waiting (g []).text) in
+          let spends = subst (Spends start.account then.account 0 0) (sym (most-both (whole b).told r.told) ∙ ap most_of (sym told))
+          (Spends-after start.account now.account then.account 0 p.claim 0 (most_of (whole b).told) (most_of r.told) (omega arith) s.counts (g []).spends) in
+          record {
+            text = subst (λ t. AppendsPrefix ends.written ends.written' t.text) (sym told) (subst (λ w. AppendsPrefix ends.written w ((whole b).told.text ++ r.told.text)) (sym to) (subst (λ w. AppendsPrefix w then.written ((whole b).told.text ++ r.told.text)) (sym from) text));
+            least = omega (arith, spends.at_least, marked);
+            most = peak-most start.account then.account 0 (most_of (whole (b ++ piece)).told) marked spends;
+          }
+
+      -- how it stops
+      pub fed-stops : (ends : Ends) (few : length piece ≤ start.account.live) → ends.written ≡ start.written → ends.written' ≡ then.written → then.waiting ≡ [] → (e : Stop) → (e ≡ Write → ends.write_failed ≡ true) → StopsAt now then p piece e
+          → ComesUntil (run_of whole (b ++ piece) start then ends) (prompt-read piece then ends few) e
+      unfolding starves
+      fed-stops ends few from to none (Stream f) failed g =
+          let is = ap (λ r. r.outcome) (reads-both ∙ ap (after (whole b).told) (g.rest [])) in (
+            refuses-tells f ends from to none g,
+            ap fault_in is,
+            λ none. let some : early_in (whole (b ++ piece)).outcome ≡ Some f = ap early_in is in absurd cc,
+          )
+      fed-stops ends few from to none (Read at) failed g = absurd g
+      fed-stops ends few from to none Write failed g = (loses ends from to g, failed refl)
+      fed-stops ends few from to none OverLimit failed (g, far) =
+          let asked = starves ends few from to none g in inr (asked.0, omega (arith, far, asked.1, g.moves.counts.live, s.counts.live, g.moves.counts.limit, s.counts.limit, low))
+      fed-stops ends few from to none Memory failed (g, near) =
+          let asked = starves ends few from to none g in inr (asked.0, omega (arith, near, asked.1, g.moves.counts.live, s.counts.live, g.moves.counts.limit, s.counts.limit, low))
+
+-- ---- a call that stops
+
+left_by : (o o' : Outside) (p : Standing) (bs : List ℕ) (e : Stop) → p.claim ≤ o.account.live → StopsAt o o' p bs e → (o'.account.live + p.claim ≡ o.account.live) × (o'.account.limit ≡ o.account.limit)
+left_by o o' p bs (Stream f) low g = (omega (arith, g.moves.counts.live), g.moves.counts.limit)
+left_by o o' p bs (Read at) low g = absurd g
+left_by o o' p bs Write low g = (omega (arith, (g []).spends.live), (g []).spends.limit)
+left_by o o' p bs OverLimit low (g, far) = (omega (arith, g.moves.counts.live), g.moves.counts.limit)
+left_by o o' p bs Memory low (g, near) = (omega (arith, g.moves.counts.live), g.moves.counts.limit)
+
+-- all is given back but what others have
+pub takes-left : {T : Type 0} {around : Around} {p : Standing} {piece : List ℕ} {taken : T → List ℕ} {new : T → Standing} {e : Stop} → p.claim ≤ around.before.account.live → Takes around p piece taken new (Err e)
+    → (around.behind.account.live + p.claim ≡ around.before.account.live) × (around.behind.account.limit ≡ around.before.account.limit)
+takes-left {around = around} {p = p} {piece = piece} {e = e} low t = left_by around.before around.behind p (piece ++ []) e low (t.err [])
+
+-- and so does a run that was fed the bytes before
+pub fed-takes : {T : Type 0} {around : Around} {p : Standing} {piece : List ℕ} {taken : T → List ℕ} {new : T → Standing} {e : Stop} (whole : List ℕ → Reading) (b : List ℕ) (start : Outside) (marked : start.account.peak ≡ start.account.live) (s : IsFed whole b start around.before p) → around.before.waiting ≡ [] → p.claim ≤ around.before.account.live
+    → (ends : Ends) (few : length piece ≤ start.account.live) → ends.written ≡ start.written → ends.written' ≡ around.behind.written → around.behind.waiting ≡ [] → ends.write_failed ≡ around.failed → Takes around p piece taken new (Err e)
+    → ComesUntil (run_of whole (b ++ piece) start around.behind ends) (prompt-read whole b start marked s piece around.behind ends few) e
+fed-takes {around = around} {p = p} {piece = piece} {e = e} whole b start marked s waiting low ends few from to none failed t =
+    fed-stops whole b start marked s around.behind piece waiting low ends few from to none e (λ is. failed ∙ t.failed (ap Err is)) (subst (λ l. StopsAt around.before around.behind p l e) (append-nil piece) (t.err []))
+
+-- ---- a run whose bytes to read into were refused
+
+pub idle-stops : {T : Type 0} (whole : List ℕ → Reading) (ends : Ends) (claims : Claims) (live : ℕ) (r : Refused) → whole [] ≡ nothing → Consumes ends.left ends.left' [] → Appends ends.written ends.written' [] → live ≡ 0 → claims.peak ≡ live
+    → (r ≡ refusals.OverLimit → claims.limit < live + claims.copy) → (r ≡ refusals.Memory → live + claims.copy ≤ claims.limit) → Runs {T = T} whole ends claims uncounted (Err (refusal_of r))
+idle-stops whole ends claims live refusals.OverLimit none given kept idle peak over within = record {
+  bytes = [];
+  given = given;
+  prompt = record { early = []; last = []; cut = refl; few = omega arith; undecided = ap (λ r. early_in r.outcome) none };
+  comes = inl (record { bytes = refl; text = kept; peak = peak ∙ idle }, omega (arith, over refl, idle));
+}
+idle-stops whole ends claims live refusals.Memory none given kept idle peak over within = record {
+  bytes = [];
+  given = given;
+  prompt = record { early = []; last = []; cut = refl; few = omega arith; undecided = ap (λ r. early_in r.outcome) none };
+  comes = inl (record { bytes = refl; text = kept; peak = peak ∙ idle }, omega (arith, within refl, idle));
+}

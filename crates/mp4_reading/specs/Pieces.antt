@@ -1,0 +1,109 @@
+-- What a machine brings that is fed a stream piece by piece, whatever it reads.
+use Rattle.std.specs.Prelude.{◌≡◌, ℕ, ◌+◌, ◌<◌, ◌≤◌, List, [], ◌++◌, length, Bool, true, Option, None, Some, Result, IfOk, IfErr, IsErrOf}
+use Rattle.std.specs.Io.KnownBytes.{Appends}
+use Rattle.mp4_ends.specs.Streams.{AppendsPrefix}
+use Rattle.mp4_box.specs.declared.rules.Fault.{Fault}
+use Rattle.mp4_ledger.specs.Memory.{Account}
+use Rattle.mp4_ledger.specs.declared.ledger.Refused.{Refused}
+use Rattle.mp4_ledger.specs.declared.ledger.Refused.TheVariants as refusals
+use Rattle.mp4_reading.specs.Accounts.{Counts, Spends}
+use Rattle.mp4_reading.specs.Blocks.{Passes}
+use Rattle.mp4_reading.specs.Readings.{plus, Told, silent, asks_for, most_of, Reading, Faulty, early_in, after}
+use Rattle.mp4_reading.specs.declared.stop.Stop.{Stop}
+use Rattle.mp4_reading.specs.declared.stop.Stop.TheVariants.{Stream, Read, Write, OverLimit, Memory}
+use Rattle.mp4_reading.specs.declared.tally.Tally.{Tally}
+
+-- what is outside a machine: what its writer was given, the bytes that wait to be sent, the account of its ledger, and what it has counted
+pub record Outside : Type 0 where
+  pub written : Option (List ℕ)
+  pub waiting : List ℕ
+  pub account : Account
+  pub tally : Tally
+
+-- where a machine stands: the offset of the next byte, what the bytes to come are read as, and how many bytes it has claimed
+pub record Standing : Type 0 where
+  pub reached : ℕ
+  pub reads : List ℕ → Reading
+  pub claim : ℕ
+
+-- all that is known was told: the end of the stream tells nothing, and no fault is decided
+pub record IsQuiet (p : Standing) : Type 0 where
+  pub told : (p.reads []).told ≡ silent
+  pub early : early_in (p.reads []).outcome ≡ None
+
+-- ---- one piece
+
+-- what is outside moved by what was told: `own` bytes of what is out were the machine's, and now `own'` are
+pub record Moves (o o' : Outside) (own own' : ℕ) (told : Told) : Type 0 where
+  pub passes : Passes o.written o'.written o.waiting o'.waiting told.text
+  pub counts : Counts o.account o'.account own own' (most_of told)
+  pub tallied : o'.tally ≡ plus o.tally told.tally
+
+-- a piece brought something: with any bytes behind it the old place reads what was told, and then what the new place reads
+pub record GoesOn (o o' : Outside) (old : Standing) (piece : List ℕ) (new : Standing) : Type 0 where
+  pub brought : Told
+  pub moves : Moves o o' old.claim new.claim brought
+  pub reached : new.reached ≡ old.reached + length piece
+  pub rest : (later : List ℕ) → old.reads (piece ++ later) ≡ after brought (new.reads later)
+
+-- a piece brought something and then a fault, whatever comes behind it; all that was claimed is given back
+pub record Refuses (o o' : Outside) (old : Standing) (piece : List ℕ) (f : Fault) : Type 0 where
+  pub brought : Told
+  pub moves : Moves o o' old.claim 0 brought
+  pub rest : (later : List ℕ) → old.reads (piece ++ later) ≡ record { told = brought; outcome = Faulty f }
+
+-- a piece brought something, and then a box asked for memory that was refused, whatever comes behind it
+pub record Starves (o o' : Outside) (old : Standing) (piece : List ℕ) : Type 0 where
+  pub brought : Told
+  pub moves : Moves o o' old.claim 0 brought
+  pub at : ℕ
+  pub sum : ℕ
+  pub behind : List ℕ → Reading
+  pub rest : (later : List ℕ) → old.reads (piece ++ later) ≡ after brought (after (asks_for at sum) (behind later))
+
+-- a write failed before all that a reading tells was written
+pub record Loses (o o' : Outside) (own : ℕ) (r : Reading) : Type 0 where
+  pub text : AppendsPrefix o.written o'.written (o.waiting ++ r.told.text)
+  pub spends : Spends o.account o'.account own 0 (most_of r.told)
+
+-- a machine that stops at a piece has met a fault, a write has failed, or a claim was refused: nothing is claimed then
+abbrev pub StopsAt : Outside → Outside → Standing → List ℕ → Stop → Type 0
+StopsAt o o' old piece (Stream f) = Refuses o o' old piece f
+StopsAt o o' old piece (Read at) = ⊥
+StopsAt o o' old piece Write = (later : List ℕ) → Loses o o' old.claim (old.reads (piece ++ later))
+StopsAt o o' old piece OverLimit = (s : Starves o o' old piece) × (o'.account.limit < o'.account.live + s.sum)
+StopsAt o o' old piece Memory = (s : Starves o o' old piece) × (o'.account.live + s.sum ≤ o'.account.limit)
+
+-- why a run stops whose claim was refused so
+abbrev pub refusal_of : Refused → Stop
+refusal_of refusals.OverLimit = OverLimit
+refusal_of refusals.Memory = Memory
+
+-- ---- a call
+
+-- what is outside before and behind a call, and whether the writer has failed then
+pub record Around : Type 0 where
+  pub before : Outside
+  pub behind : Outside
+  pub failed : Bool
+
+-- a call takes bytes from the front of a piece, by its result; where it stops, so does a machine that is fed the piece with any bytes behind it
+pub record Takes {T : Type 0} (around : Around) (old : Standing) (piece : List ℕ) (taken : T → List ℕ) (new : T → Standing) (result : Result T Stop) : Type 0 where
+  pub ok : IfOk result (λ t. GoesOn around.before around.behind old (taken t) (new t))
+  pub err : IfErr result (λ e. (more : List ℕ) → StopsAt around.before around.behind old (piece ++ more) e)
+  pub failed : IsErrOf result Write → around.failed ≡ true
+
+-- ---- every list of pieces
+
+-- a machine stands behind the bytes b of a stream: what it has told is what is told of them, and what is to come follows from where it stands
+pub record Stands (whole : List ℕ → Reading) (b : List ℕ) (p : Standing) (counted : Tally) : Type 0 where
+  pub reached : p.reached ≡ length b
+  pub rest : (later : List ℕ) → whole (b ++ later) ≡ after (whole b).told (p.reads later)
+  pub tally : counted ≡ (whole b).told.tally
+
+-- a machine was fed pieces whose join is b: it stands behind them, all of their text was written, and what they ask for was claimed
+pub record IsFed (whole : List ℕ → Reading) (b : List ℕ) (start now : Outside) (p : Standing) : Type 0 where
+  pub stands : Stands whole b p now.tally
+  pub quiet : IsQuiet p
+  pub text : Appends start.written now.written (whole b).told.text
+  pub counts : Counts start.account now.account 0 p.claim (most_of (whole b).told)

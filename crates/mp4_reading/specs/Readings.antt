@@ -1,0 +1,134 @@
+-- A stream that is read item by item, whatever its items are.
+use Rattle.std.specs.Prelude.{◌≡◌, ℕ, zero, suc, ◌+◌, List, [], ◌∷◌, ◌++◌, length, max, Option, None, Some}
+use Rattle.mp4_box.specs.declared.rules.Fault.{Fault}
+use Rattle.mp4_reading.specs.declared.tally.Tally.{Tally}
+
+-- ---- how the reading of some bytes ends
+
+pub data Outcome : Type 0 where
+  -- without a fault
+  Sound : Outcome
+  -- with a fault that the bytes decide
+  Faulty : Fault → Outcome
+  -- with a fault if no byte follows
+  CutOff : Fault → Outcome
+
+-- the fault of a stream that is these bytes
+abbrev pub fault_in : Outcome → Option Fault
+fault_in Sound = None
+fault_in (Faulty f) = Some f
+fault_in (CutOff f) = Some f
+
+-- the fault of every stream that begins with these bytes
+abbrev pub early_in : Outcome → Option Fault
+early_in Sound = None
+early_in (Faulty f) = Some f
+early_in (CutOff f) = None
+
+-- ---- what is told of some bytes
+
+-- a box asks for memory: the offset where it begins, how many bytes are out for the machine with what it asks for, and how many bytes of text are told before
+pub record Ask : Type 0 where
+  pub at : ℕ
+  pub sum : ℕ
+  pub behind : ℕ
+
+-- the same, behind n more bytes of text
+abbrev pub shifted_by : ℕ → Ask → Ask
+shifted_by n a = record { at = a.at; sum = a.sum; behind = n + a.behind }
+
+abbrev pub shifted : ℕ → List Ask → List Ask
+shifted n [] = []
+shifted n (a ∷ asks) = shifted_by n a ∷ shifted n asks
+
+-- the most that is out at once: none where nothing is asked for
+abbrev pub greatest : List Ask → ℕ
+greatest [] = 0
+greatest (a ∷ asks) = max a.sum (greatest asks)
+
+abbrev pub uncounted : Tally
+uncounted = record { fragments = 0; samples = 0; media_bytes = 0 }
+
+abbrev pub plus : Tally → Tally → Tally
+plus s t = record { fragments = s.fragments + t.fragments; samples = s.samples + t.samples; media_bytes = s.media_bytes + t.media_bytes }
+
+-- the text that they determine, what their boxes ask for in order, and what is counted
+pub record Told : Type 0 where
+  pub text : List ℕ
+  pub asks : List Ask
+  pub tally : Tally
+
+abbrev pub silent : Told
+silent = record { text = []; asks = []; tally = uncounted }
+
+-- a text
+abbrev pub says : List ℕ → Told
+says text = record { text = text; asks = []; tally = uncounted }
+
+-- nothing, but this is counted
+abbrev pub counts : Tally → Told
+counts tally = record { text = []; asks = []; tally = tally }
+
+-- a box at an offset asks for memory, with which so much is out
+abbrev pub asks_for : (at sum : ℕ) → Told
+asks_for at sum = record { text = []; asks = record { at = at; sum = sum; behind = 0 } ∷ []; tally = uncounted }
+
+-- one after the other
+abbrev pub both : Told → Told → Told
+both s t = record { text = s.text ++ t.text; asks = s.asks ++ shifted (length s.text) t.asks; tally = plus s.tally t.tally }
+
+-- the most that is out at once
+abbrev pub most_of : Told → ℕ
+most_of t = greatest t.asks
+
+-- ---- what some bytes are read as
+
+-- what is told of them, and how their reading ends
+pub record Reading : Type 0 where
+  pub told : Told
+  pub outcome : Outcome
+
+abbrev pub nothing : Reading
+nothing = record { told = silent; outcome = Sound }
+
+-- the same, behind what was told before
+abbrev pub after : Told → Reading → Reading
+after told r = record { told = both told r.told; outcome = r.outcome }
+
+-- what stands at the front of some bytes: the last that is read of them, or a whole item, with what is told of it, the context of what follows, and the bytes that follow
+pub data Front (C : Type 0) : Type 0 where
+  Last : Reading → Front C
+  Whole : Told → C → List ℕ → Front C
+
+abbrev pub after_told : {C : Type 0} → Told → Front C → Front C
+after_told told (Last r) = Last (after told r)
+after_told told (Whole more next rest) = Whole (both told more) next rest
+
+-- what some bytes are read as by their front, where the bytes behind it are read so
+abbrev pub then_read : {C : Type 0} → (C → List ℕ → Reading) → Front C → Reading
+then_read rest_of (Last r) = r
+then_read rest_of (Whole told next rest) = after told (rest_of next rest)
+
+-- front after front, at most so many
+abbrev pub read_at_most : {C : Type 0} → (C → List ℕ → Front C) → ℕ → C → List ℕ → Reading
+read_at_most front zero c bytes = nothing
+read_at_most front (suc n) c bytes = then_read (λ next rest. read_at_most front n next rest) (front c bytes)
+
+-- front after front: each whole item takes a byte at least
+unfoldable pub read_all : {C : Type 0} → (C → List ℕ → Front C) → C → List ℕ → Reading
+read_all front c bytes = read_at_most front (length bytes) c bytes
+
+-- ---- what more bytes change
+
+abbrev pub IsPrefix : {X : Type 0} → List X → List X → Type 0
+IsPrefix {X = X} xs ys = (rest : List X) × (xs ++ rest ≡ ys)
+
+-- t tells what s tells, and it may tell more
+pub record TellsMore (s t : Told) : Type 0 where
+  pub text : IsPrefix s.text t.text
+  pub asks : IsPrefix s.asks t.asks
+
+-- more bytes may add to what is told, and to a fault that is decided they add nothing
+pub record GrowsTo (r s : Reading) : Type 0 where
+  pub told : TellsMore r.told s.told
+  pub early : (f : Fault) → early_in r.outcome ≡ Some f → s ≡ r

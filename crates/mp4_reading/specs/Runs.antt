@@ -1,0 +1,92 @@
+-- What a run over a whole stream answers, writes and claims, whatever is read.
+use Rattle.std.specs.Prelude.{◌≡◌, ◌⊎◌, ℕ, ◌+◌, ◌<◌, ◌≤◌, List, [], ◌∷◌, ◌++◌, length, take, Bool, true, Option, None, Some, Result, Ok, Err}
+use Rattle.std.specs.Io.KnownBytes.{Appends, Consumes}
+use Rattle.mp4_ends.specs.Streams.{AppendsPrefix}
+use Rattle.mp4_reading.specs.Readings.{Ask, greatest, Told, most_of, Reading, fault_in, early_in, IsPrefix}
+use Rattle.mp4_reading.specs.declared.stop.Stop.{Stop}
+use Rattle.mp4_reading.specs.declared.stop.Stop.TheVariants.{Stream, Read, Write, OverLimit, Memory}
+use Rattle.mp4_reading.specs.declared.tally.Tally.{Tally}
+
+-- what the two ends tell: the bytes that reads will give before a run and after it, those that were written, whether the stream has ended, and which end has failed
+pub record Ends : Type 0 where
+  pub left : Option (List ℕ)
+  pub left' : Option (List ℕ)
+  pub written : Option (List ℕ)
+  pub written' : Option (List ℕ)
+  pub ended : Bool
+  pub read_failed : Bool
+  pub write_failed : Bool
+
+-- how many bytes are claimed to read into, how many may be claimed, and the most that were at once
+pub record Claims : Type 0 where
+  pub copy : ℕ
+  pub limit : ℕ
+  pub peak : ℕ
+
+-- a run: what bytes from the first on are read as, those that it was given, and what is seen of it
+pub record Run : Type 0 where
+  pub whole : List ℕ → Reading
+  pub bytes : List ℕ
+  pub ends : Ends
+  pub claims : Claims
+  pub tally : Tally
+
+abbrev pub reading_of : Run → Reading
+reading_of run = run.whole run.bytes
+
+-- ---- what a run brings
+
+-- all that is told of the bytes was written, claimed and counted
+pub record TellsAll (run : Run) : Type 0 where
+  pub text : Appends run.ends.written run.ends.written' (reading_of run).told.text
+  pub peak : run.claims.peak ≡ run.claims.copy + most_of (reading_of run).told
+  pub tally : run.tally ≡ (reading_of run).told.tally
+
+-- a prefix of the text was written, and no more was claimed than is asked for
+pub record TellsSome (run : Run) : Type 0 where
+  pub text : AppendsPrefix run.ends.written run.ends.written' (reading_of run).told.text
+  pub least : run.claims.copy ≤ run.claims.peak
+  pub most : run.claims.peak ≤ run.claims.copy + most_of (reading_of run).told
+
+-- no fault was decided before the bytes of the last read
+pub record IsPrompt (run : Run) : Type 0 where
+  pub early : List ℕ
+  pub last : List ℕ
+  pub cut : run.bytes ≡ early ++ last
+  pub few : length last ≤ run.claims.copy
+  pub undecided : early_in (run.whole early).outcome ≡ None
+
+-- one of what the boxes ask for was refused, which the bytes of the last read brought: what is asked for before was claimed, and exactly the text before was written
+pub record StarvesAt (run : Run) (prompt : IsPrompt run) : Type 0 where
+  pub ask : Ask
+  pub before : List Ask
+  pub asked : (behind : List Ask) × ((reading_of run).told.asks ≡ before ++ ask ∷ behind)
+  pub new : IsPrefix (run.whole prompt.early).told.asks before
+  pub text : Appends run.ends.written run.ends.written' (take ask.behind (reading_of run).told.text)
+  pub peak : run.claims.peak ≡ run.claims.copy + greatest before
+
+-- the bytes to read into were refused: nothing was read, and nothing written
+pub record IsIdle (run : Run) : Type 0 where
+  pub bytes : run.bytes ≡ []
+  pub text : Appends run.ends.written run.ends.written' []
+  pub peak : run.claims.peak ≡ 0
+
+-- ---- what it answers
+
+abbrev pub ComesUntil : (run : Run) → IsPrompt run → Stop → Type 0
+ComesUntil run prompt (Stream f) = TellsAll run × (fault_in (reading_of run).outcome ≡ Some f) × (early_in (reading_of run).outcome ≡ None → run.ends.ended ≡ true)
+ComesUntil run prompt (Read at) = TellsAll run × (early_in (reading_of run).outcome ≡ None) × (at ≡ length run.bytes) × (run.ends.read_failed ≡ true)
+ComesUntil run prompt Write = TellsSome run × (run.ends.write_failed ≡ true)
+ComesUntil run prompt OverLimit = (IsIdle run × (run.claims.limit < run.claims.copy)) ⊎ ((s : StarvesAt run prompt) × (run.claims.limit < run.claims.copy + s.ask.sum))
+ComesUntil run prompt Memory = (IsIdle run × (run.claims.copy ≤ run.claims.limit)) ⊎ ((s : StarvesAt run prompt) × (run.claims.copy + s.ask.sum ≤ run.claims.limit))
+
+abbrev pub Comes : {T : Type 0} → (run : Run) → IsPrompt run → Result T Stop → Type 0
+Comes run prompt (Ok _) = TellsAll run × (fault_in (reading_of run).outcome ≡ None) × (run.ends.ended ≡ true)
+Comes run prompt (Err stop) = ComesUntil run prompt stop
+
+-- a run over a stream of which bytes are read so: of the bytes that it was given, the answer and what it brings
+pub record Runs {T : Type 0} (whole : List ℕ → Reading) (ends : Ends) (claims : Claims) (tally : Tally) (result : Result T Stop) : Type 0 where
+  pub bytes : List ℕ
+  pub given : Consumes ends.left ends.left' bytes
+  pub prompt : IsPrompt (record { whole = whole; bytes = bytes; ends = ends; claims = claims; tally = tally })
+  pub comes : Comes (record { whole = whole; bytes = bytes; ends = ends; claims = claims; tally = tally }) prompt result

@@ -1,0 +1,105 @@
+use Rattle.std.proofs.Common.{rules, arith, ◌≡◌, ◌++◌, [], take, length, length-append, append-nil, ◌∙◌, refl, sym, ap, Err, subst, length-take, ◌≤◌}
+use Rattle.std.proofs.KnownBytes.{Appends-nil, Consumes-nil, Consumes-trans, Consumes-kept}
+use Rattle.mp4_ends.proofs.StreamLemmas.{Consumes-then_none}
+use Rattle.mp4_reading.specs.Pieces.{IsFed}
+use Rattle.mp4_reading.specs.Readings.{silent}
+use Rattle.mp4_reading.specs.Runs.{Ends}
+use Rattle.mp4_reading.proofs.PieceLemmas.{IsFed-none, IsFed-more}
+use Rattle.mp4_reading.proofs.RunLemmas.{fed-fault, fed-undecided, fed-tells, fed-takes, prompt-now, prompt-read, takes-left}
+use Rattle.mp4_stream.specs.Boxes.{reading}
+use Rattle.mp4_stream.specs.Places.{InHeader, outside, standing}
+use Rattle.mp4_stream.proofs.BoxLemmas.{reading-none, place-quiet}
+use Rattle.mp4_stream.proofs.PlaceLemmas.{reached-most}
+use Rattle.mp4_stream.proofs.run.read_on.Goals as goal
+
+pub loop-machine-init : goal.loop-machine-init
+loop-machine-init g c =
+    let begins = c.requires.begins in
+    let none = reading-none 0 in (
+      [],
+      record {
+        read = Consumes-nil _;
+        fed = rw begins (IsFed-none (reading 0) _ (standing (InHeader 0 [])) (place-quiet (InHeader 0 []) (search rules)) refl refl (sym (ap (λ r. r.told.tally) none)) (ap (λ r. r.told) none) (λ later. refl) (rw none (Appends-nil _)));
+        claim = rw begins (omega arith);
+        place = rw begins (search rules);
+        empty = rw begins refl;
+        room = c.requires.claimed;
+        total = refl;
+        bound = omega arith;
+      },
+    )
+
+pub returns-in-Ok-finish-clause-runs : goal.returns-in-Ok-finish-clause-runs
+returns-in-Ok-finish-clause-runs g c =
+    let (b, i) = c.loop-machine.invariant in
+    record {
+      bytes = b;
+      given = Consumes-then_none _ _ _ _ _ _ i.read c.in-Ok-eq0.ensures.bytes.0 c.in-Ok-eq0.field-0-test;
+      prompt = prompt-now (reading 0) b _ c.requires.marked i.fed _;
+      comes = (fed-tells (reading 0) b _ c.requires.marked i.fed _ refl refl, fed-fault (reading 0) b _ c.requires.marked i.fed ∙ c.in-Ok-finish.ensures.ok, search rules);
+    }
+
+pub returns-in-Err-finish-clause-runs : goal.returns-in-Err-finish-clause-runs
+returns-in-Err-finish-clause-runs g c =
+    let (b, i) = c.loop-machine.invariant in
+    record {
+      bytes = b;
+      given = Consumes-then_none _ _ _ _ _ _ i.read c.in-Ok-eq0.ensures.bytes.0 c.in-Ok-eq0.field-0-test;
+      prompt = prompt-now (reading 0) b _ c.requires.marked i.fed _;
+      comes = (fed-tells (reading 0) b _ c.requires.marked i.fed _ refl refl, fed-fault (reading 0) b _ c.requires.marked i.fed ∙ c.in-Err-finish.ensures.err, λ _. search rules);
+    }
+
+pub returns-in-Err-clause-runs : goal.returns-in-Err-clause-runs
+returns-in-Err-clause-runs g c =
+    let (b, i) = c.loop-machine.invariant in
+    record {
+      bytes = b;
+      given = Consumes-kept _ _ _ _ i.read c.in-Err.ensures.bytes;
+      prompt = prompt-now (reading 0) b _ c.requires.marked i.fed _;
+      comes = (fed-tells (reading 0) b _ c.requires.marked i.fed _ refl refl, fed-undecided (reading 0) b _ c.requires.marked i.fed, i.total, c.in-Err.ensures.failed_err);
+    }
+
+pub loop-machine-preserved : goal.loop-machine-preserved
+loop-machine-preserved g c =
+    let (b, i) = c.loop-machine.invariant in
+    let fed = c.in-Ok-feed.ensures in
+    let got = take c.in-Ok.n c.read.new.into in
+    let bound = c.in-Ok.ensures.bound in
+    let goes = fed.takes.ok in
+    let kept : length c.read.new.into ≡ length c.loop-machine.copy = search rules in (
+      b ++ got,
+      record {
+        read = Consumes-trans _ _ _ _ _ i.read c.in-Ok.ensures.bytes.0;
+        fed = IsFed-more (reading 0) b _ i.fed goes (place-quiet c.feed.new.self.place fed.place) refl refl;
+        claim = fed.claim;
+        place = fed.place;
+        empty = fed.empty;
+        room = kept ∙ i.room;
+        total = omega (arith, i.total, length-append b got);
+        bound = omega (arith, i.total, goes.reached, i.fed.stands.reached, length-append b got, reached-most c.feed.new.self.place fed.place);
+      },
+    )
+
+pub returns-in-Err-feed-clause-runs : goal.returns-in-Err-feed-clause-runs
+returns-in-Err-feed-clause-runs g c =
+    let (b, i) = c.loop-machine.invariant in
+    let got = take c.in-Ok.n c.read.new.into in
+    let kept : length c.read.new.into ≡ length c.loop-machine.copy = search rules in
+    let start = outside (g.W.Sink.contents c.args.w.now) [] c.args.ledger.now in
+    let few : length got ≤ c.args.ledger.now.live = omega (arith, i.room, kept, length-take c.in-Ok.n c.read.new.into) in
+    record {
+      bytes = b ++ got;
+      given = Consumes-trans _ _ _ _ _ i.read c.in-Ok.ensures.bytes.0;
+      prompt = prompt-read (reading 0) b start c.requires.marked i.fed got (outside (g.W.Sink.contents c.feed.new.w) [] c.feed.new.ledger) _ few;
+      comes = fed-takes {around = record { before = outside (g.W.Sink.contents c.loop-machine.w) [] c.loop-machine.ledger; behind = outside (g.W.Sink.contents c.feed.new.w) [] c.feed.new.ledger; failed = g.W.Sink.has_failed c.feed.new.w }} (reading 0) b start c.requires.marked i.fed refl i.claim _ few refl refl refl refl c.in-Err-feed.ensures.takes;
+    }
+
+pub returns-in-Err-feed-clause-live : goal.returns-in-Err-feed-clause-live
+returns-in-Err-feed-clause-live g c =
+    let (b, i) = c.loop-machine.invariant in
+    omega (arith, (takes-left i.claim c.in-Err-feed.ensures.takes).0, c.in-Err-feed.ensures.spent, i.fed.counts.live)
+
+pub returns-in-Err-feed-clause-limit : goal.returns-in-Err-feed-clause-limit
+returns-in-Err-feed-clause-limit g c =
+    let (b, i) = c.loop-machine.invariant in
+    (takes-left i.claim c.in-Err-feed.ensures.takes).1 ∙ i.fed.counts.limit

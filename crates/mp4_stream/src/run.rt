@@ -1,0 +1,140 @@
+//! A run over a whole stream.
+
+ghost use Rattle.std.specs.Prelude.{◌≡◌, ◌+◌, ◌<◌, ◌≤◌, [], length};
+ghost use Rattle.mp4_reading.specs.Readings.{uncounted};
+ghost use Rattle.mp4_reading.specs.Runs.{Runs};
+ghost use Rattle.mp4_stream.specs.Boxes.{reading};
+ghost use Rattle.mp4_stream.specs.Places.{InHeader, claim_of};
+
+use crate::machine::Machine;
+use mp4_ends::{Failed, Sink, Source};
+use mp4_ledger::Ledger;
+use mp4_reading::Stop;
+
+/// What a run counts. A listing of boxes counts no samples: all but its peak are 0.
+#[derive(Clone, Copy, Debug, PartialEq, Eq)]
+pub struct Totals {
+    /// How many moof boxes.
+    pub fragments: u64,
+    /// How many samples.
+    pub samples: u128,
+    /// How many bytes of media.
+    pub media_bytes: u64,
+    /// How many rows of samples were read, each time that one was.
+    pub rows_read: u128,
+    /// The most bytes that were claimed at once.
+    pub peak: u64,
+}
+
+impl Totals {
+    /// Those of a run that has counted nothing yet.
+    pub fn new() -> Totals
+        ensures { result ≡ record
+            { fragments = 0; samples = 0; media_bytes = 0; rows_read = 0; peak = 0 } }
+    {
+        Totals {
+            fragments: 0,
+            samples: 0,
+            media_bytes: 0,
+            rows_read: 0,
+            peak: 0,
+        }
+    }
+}
+
+/// Lists the boxes of a stream, however its reads cut it: their types, sizes and offsets, a line for each. A moov
+/// or a moof is held while it comes, and listed with the boxes below it once it is known to be good. `copy` bytes
+/// are claimed to read into.
+///
+/// # Errors
+///
+/// `Stream` where the stream breaks a rule (`Truncated`, `BadSize`, `TooLarge`, `Depth` or `StreamTooLong`), with
+/// the boxes before listed; `Read` and `Write` where an end has failed, with a prefix of the listing written;
+/// `OverLimit` and `Memory` where a claim was refused, with exactly the boxes before that listed.
+pub fn boxes<R: Source, W: Sink>(
+    r: &mut R,
+    w: &mut W,
+    ledger: &mut Ledger,
+    copy: u32,
+    totals: &mut Totals,
+) -> Result<(), Stop>
+    requires copy { (4096 ≤ copy) × (copy ≤ 1048576) }
+    requires idle { ledger.old.live ≡ 0 }
+
+    // Of the bytes that were read: the answer, what was written, and the most that was claimed at once.
+    ensures runs { Runs (reading 0) (record {
+      left = R.remaining r.old;
+      left' = R.remaining r.new;
+      written = W.contents w.old;
+      written' = W.contents w.new;
+      ended = R.has_ended r.new;
+      read_failed = R.has_failed r.new;
+      write_failed = W.has_failed w.new;
+    })
+        (record { copy = copy; limit = ledger.old.limit; peak = ledger.new.peak }) uncounted result }
+
+    // No more was claimed at once than may be, and all was given back.
+    ensures within { ledger.new.peak ≤ ledger.old.limit }
+    ensures back { (ledger.new.live ≡ 0) × (ledger.new.limit ≡ ledger.old.limit) }
+    ensures totals { totals.new ≡ record
+        { fragments = 0; samples = 0; media_bytes = 0; rows_read = 0; peak = ledger.new.peak } }
+{
+    ledger.mark();
+    *totals = Totals::new();
+    let mut buf = match ledger.buf(u64::from(copy)) {
+        Ok(buf) => buf,
+        Err(refused) => return Err(Stop::of_refusal(refused)),
+    };
+    let mut machine = Machine::new();
+    let answer = read_on(r, w, ledger, buf.room_mut(copy as usize), &mut machine);
+    machine.give_up(ledger);
+    ledger.back(buf);
+    totals.peak = ledger.peak();
+    answer
+}
+
+/// Reads the stream to its end into `copy`, which is all that is claimed, and feeds it to a machine to which no byte
+/// has come.
+fn read_on<R: Source, W: Sink>(
+    r: &mut R,
+    w: &mut W,
+    ledger: &mut Ledger,
+    copy: &mut [u8],
+    machine: &mut Machine,
+) -> Result<(), Stop>
+    requires some { 0 < length copy.old }
+    requires marked { ledger.old.peak ≡ ledger.old.live }
+    requires claimed { length copy.old ≡ ledger.old.live }
+    requires begins { machine.old ≡ record { place = InHeader 0 []; waiting = [] } }
+    ensures runs { Runs (reading 0) (record {
+      left = R.remaining r.old;
+      left' = R.remaining r.new;
+      written = W.contents w.old;
+      written' = W.contents w.new;
+      ended = R.has_ended r.new;
+      read_failed = R.has_failed r.new;
+      write_failed = W.has_failed w.new;
+    })
+        (record { copy = ledger.old.live; limit = ledger.old.limit; peak = ledger.new.peak })
+        uncounted result }
+    ensures live { ledger.new.live ≡ ledger.old.live + claim_of machine.new.place }
+    ensures limit { ledger.new.limit ≡ ledger.old.limit }
+{
+    let mut total: u64 = 0;
+    loop {
+        let n = match r.read(copy) {
+            Ok(0) => {
+                return match machine.finish() {
+                    Ok(()) => Ok(()),
+                    Err(fault) => Err(Stop::Stream(fault)),
+                };
+            }
+            Ok(n) => n,
+            Err(Failed) => return Err(Stop::Read { at: total }),
+        };
+        match machine.feed(ledger, &copy[..n], w) {
+            Ok(()) => total += n as u64,
+            Err(stop) => return Err(stop),
+        }
+    }
+}
