@@ -1,6 +1,6 @@
 //! What no clause says: what an adapter makes of std's errors.
 
-use mp4_ends::{Failed, FromRead, IntoWrite, Sink, Source, write_all};
+use mp4_box::{Failed, FromRead, IntoWrite, Sink, Source, write_all};
 use std::io;
 
 /// A reader and a writer of std that are always interrupted.

@@ -5,3 +5,4 @@ pub mod GrammarLemmas
 pub mod OrderLemmas
 pub mod RunLemmas
 pub mod PathLemmas
+pub mod CheckLemmas

@@ -13,6 +13,7 @@
 #![tactic(auto)]
 
 mod box_ref;
+pub mod checks;
 pub mod fields;
 pub mod headers;
 pub mod laws;
@@ -25,10 +26,13 @@ pub mod vectors;
 mod walk;
 
 pub use box_ref::BoxRef;
-pub use fields::{full, i32_at, u32_at, u64_at};
+pub use checks::{AtMostOne, Check, Layout, One, note_along};
+pub use fields::{full, i32_at, number_at, u32_at, u64_at, version_of};
 pub use headers::{FourCc, Header, Size, Step, header_of};
+pub use mp4_ends::{Failed, FromRead, IntoWrite, Sink, Source, ends, write_all};
+pub use mp4_flags::{Flags, TfhdFlags, TrunFlags};
 pub use order::note;
-pub use paths::{Check, note_along};
+pub use paths::{Along, count_of, first_at};
 pub use reader::HeaderReader;
 pub use rules::{Fault, Rule};
 pub use tree::{check_tree, holds_boxes, is_box, whole_box};

@@ -4,10 +4,10 @@ ghost use Rattle.std.specs.Prelude.{◌≡◌, ◌+◌, ◌*◌, ◌<◌, ◌≤
 ghost use Rattle.std.specs.List.{position};
 ghost use Rattle.mp4_ledger.specs.Memory.{given_back};
 ghost use Rattle.mp4_init.specs.Rows.{node_of_row, track_of_row, with_next};
-ghost use Rattle.mp4_init.specs.Seeking.{IsIndexed};
+ghost use Rattle.mp4_init.specs.SearchTrees.{IsIndexed};
 
 use crate::row::{ended_row, linked_row, node_for, row_for, track_for};
-use crate::seek::{Ending, Node, Nodes, search, seek};
+use crate::search_tree::{Ending, Node, Nodes, search, seek};
 use mp4_ledger::{Ledger, Rows64};
 use std::marker::Model;
 
@@ -43,7 +43,7 @@ impl Model for TrackList {
     ghost use Rattle.std.specs.Prelude.{◌≡◌, List, map, length};
     ghost use Rattle.mp4_init.specs.declared.table.Track.{Track};
     ghost use Rattle.mp4_init.specs.Rows.{node_of_row, track_of_row};
-    ghost use Rattle.mp4_init.specs.Seeking.{IsIndexed};
+    ghost use Rattle.mp4_init.specs.SearchTrees.{IsIndexed};
 
     ghost Value = { List Track };
 
@@ -69,7 +69,7 @@ impl TrackList {
     }
 
     /// The track at this index.
-    #[tactic(auto, using(crate::proofs::Listing::row_at))]
+    #[tactic(auto, using(crate::proofs::RowLemmas::row_at))]
     pub fn at(&self, i: usize) -> Track
         requires { i < length self.now }
         ensures { result ≡ slice_index_or self.now i result }
@@ -95,7 +95,7 @@ impl TrackList {
     }
 
     /// Sets where the last fragment of the track at this index ended.
-    #[tactic(auto, using(crate::proofs::Listing::length_with_next))]
+    #[tactic(auto, using(crate::proofs::RowLemmas::length_with_next))]
     pub fn set_next(&mut self, i: usize, next: u64)
         requires { i < length self.old }
         ensures next { self.new ≡ with_next i next self.old }
@@ -118,7 +118,7 @@ impl TrackList {
 impl Nodes for Rows64 {
     ghost nodes = { λ t. map node_of_row t.rows };
 
-    #[tactic(auto, using(crate::proofs::Listing::node_at, crate::proofs::Listing::node_past))]
+    #[tactic(auto, using(crate::proofs::RowLemmas::node_at, crate::proofs::RowLemmas::node_past))]
     fn node(&self, at: usize) -> Option<Node> {
         if at < self.len() {
             Some(node_for(self.get(at)))

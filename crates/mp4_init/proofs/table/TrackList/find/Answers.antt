@@ -2,7 +2,7 @@ use Rattle.std.proofs.Common.{◌∙◌, ap}
 use Rattle.std.specs.Prelude.{◌==◌}
 use Rattle.std.specs.List.{position}
 use Rattle.mp4_init.specs.declared.table.Track.{Track}
-use Rattle.mp4_init.proofs.Listing.{sought_is}
+use Rattle.mp4_init.proofs.RowLemmas.{sought_is}
 use Rattle.mp4_init.proofs.table.TrackList.find.Goals as goal
 
 pub returns : goal.returns
