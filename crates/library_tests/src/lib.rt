@@ -4,8 +4,11 @@
 //! - [`claims`]: that claims succeed where memory is ample;
 //! - [`ends`]: what an adapter makes of std's errors;
 //! - [`boxes`]: worked headers, fields and trees, and [`flags`]: worked flag words;
-//! - [`moovs`]: worked moovs.
+//! - [`moovs`]: worked moovs;
+//! - [`callers`]: callers of the libraries, for their pages.
 #![tactic(auto)]
+
+pub mod callers;
 
 #[cfg(test)]
 mod boxes;

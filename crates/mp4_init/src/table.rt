@@ -1,6 +1,6 @@
 //! A table of tracks in claimed memory.
 
-ghost use Rattle.std.specs.Prelude.{◌≡◌, ◌+◌, ◌*◌, ◌<◌, ◌≤◌, ◌==◌, ◌↔◌, [], ◌++◌, ◌∷◌, length, map, slice_index_or, IsTrue};
+ghost use Rattle.std.specs.Prelude.{◌≡◌, ◌+◌, ◌*◌, ◌<◌, ◌≤◌, ◌==◌, ◌↔◌, [], ◌++◌, ◌∷◌, length, map, slice_index_or, IfSome, IsTrue};
 ghost use Rattle.std.specs.List.{position};
 ghost use Rattle.mp4_ledger.specs.Memory.{given_back};
 ghost use Rattle.mp4_init.specs.Rows.{node_of_row, track_of_row, with_next};
@@ -89,7 +89,8 @@ impl TrackList {
     /// The index of the track with this track_ID; none where no track has it. It asks one track for each of the 32 bits of
     /// a track_ID at most, and one more.
     pub fn find(&self, id: u32) -> Option<usize>
-        ensures { result ≡ position (λ t. t.id == id) self.now }
+        ensures first { result ≡ position (λ t. t.id == id) self.now }
+        ensures within { IfSome result (λ i. i < length self.now) }
     {
         seek(&self.rows, id)
     }
