@@ -8,10 +8,9 @@
 //! - [`callers`]: callers of the libraries, for their pages.
 #![tactic(auto)]
 
-pub mod callers;
-
 #[cfg(test)]
 mod boxes;
+pub mod callers;
 #[cfg(test)]
 mod claims;
 #[cfg(test)]

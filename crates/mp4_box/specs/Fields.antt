@@ -6,6 +6,10 @@ use Rattle.byteorder.specs.Endian.{big_number}
 abbrev pub number_in : List ℕ → ℕ → ℕ
 number_in payload at = if nat_lt (length payload) (at + 4) then 0 else big_number 4 (drop at payload)
 
+-- the number in eight bytes, likewise
+abbrev pub long_number_in : List ℕ → ℕ → ℕ
+long_number_in payload at = if nat_lt (length payload) (at + 8) then 0 else big_number 8 (drop at payload)
+
 -- the version that a full box's payload begins with, 0 where it is empty
 abbrev pub version_in : List ℕ → ℕ
 version_in payload = slice_index payload 0

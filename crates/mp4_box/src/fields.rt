@@ -2,7 +2,7 @@
 
 ghost use Rattle.std.specs.Prelude.{◌≡◌, ◌+◌, ◌<◌, ◌≤◌, ◌↔◌, length, drop, take, IsNone, IfSome, slice_index};
 ghost use Rattle.byteorder.specs.Endian.{big_number, twos_complement};
-ghost use Rattle.mp4_box.specs.Fields.{number_in, version_in};
+ghost use Rattle.mp4_box.specs.Fields.{long_number_in, number_in, version_in};
 
 use byteorder::{BigEndian, ByteOrder};
 
@@ -59,6 +59,17 @@ pub fn number_at(payload: &[u8], at: u32) -> u32
         return 0;
     }
     u32_at(payload, at)
+}
+
+/// The unsigned number in the eight bytes at `at`, 0 where they aren't all there.
+pub fn long_number_at(payload: &[u8], at: u32) -> u64
+    ensures { result ≡ long_number_in payload.now at }
+{
+    let at = at as usize;
+    if payload.len() < at + 8 {
+        return 0;
+    }
+    u64_at(payload, at)
 }
 
 /// The `N` bytes at `at`.

@@ -1,5 +1,5 @@
 //! The tracks of a fragmented movie: what a moov (ISO/IEC 14496-12, 8.2.1) says of each, and the rules that it
-//! must keep.
+//! must keep. `CALLING.md` shows a caller.
 //!
 //! - [`tracks`]: from the bytes of a moov to its [`TrackList`], or why there is none ([`InitStop`]);
 //! - [`rules`]: which boxes of a moov are checked for what, and [`sample_tables`]: what its sample tables are asked;
