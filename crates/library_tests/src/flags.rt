@@ -1,6 +1,6 @@
 //! Worked flag words of tfhd and trun.
 
-use mp4_flags::{Flags, TfhdFlags, TrunFlags};
+use mp4_box::{Flags, TfhdFlags, TrunFlags};
 
 #[test]
 fn words_of_tfhd(rt: HostRuntime) {

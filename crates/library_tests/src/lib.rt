@@ -4,11 +4,13 @@
 //! - [`claims`]: that claims succeed where memory is ample;
 //! - [`ends`]: what an adapter makes of std's errors;
 //! - [`boxes`]: worked headers, fields and trees, and [`flags`]: worked flag words;
-//! - [`moovs`]: worked moovs.
+//! - [`moovs`]: worked moovs;
+//! - [`callers`]: callers of the libraries, for their pages.
 #![tactic(auto)]
 
 #[cfg(test)]
 mod boxes;
+pub mod callers;
 #[cfg(test)]
 mod claims;
 #[cfg(test)]

@@ -3,5 +3,6 @@ pub mod HeaderAnswers
 pub mod TreeLemmas
 pub mod GrammarLemmas
 pub mod OrderLemmas
-pub mod RunLemmas
+pub mod TreeOrderLemmas
 pub mod PathLemmas
+pub mod CheckLemmas

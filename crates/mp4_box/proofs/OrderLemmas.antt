@@ -66,7 +66,7 @@ least-none [] e = refl
 least-none (x ∷ fs) e = let b = best_of x fs in let z : Some b.0 ≡ None = sym b.1.is ∙ e in absurd cc
 
 -- keeping the best goes on behind a part of the list
-pub least_from-append : (best : Option Fault) (fs gs : List Fault) → least_from best (fs ++ gs) ≡ least_from (least_from best fs) gs
+pub least_from_append : (best : Option Fault) (fs gs : List Fault) → least_from best (fs ++ gs) ≡ least_from (least_from best fs) gs
 unfolding least_from
-least_from-append best [] gs = refl
-least_from-append best (f ∷ fs) gs = least_from-append (noted best f) fs gs
+least_from_append best [] gs = refl
+least_from_append best (f ∷ fs) gs = least_from_append (noted best f) fs gs

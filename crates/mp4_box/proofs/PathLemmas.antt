@@ -1,31 +1,137 @@
--- What is at fault along a path, child by child.
-use Rattle.std.proofs.Common.{◌≡◌, ◌∙◌, List, [], ◌∷◌, ◌++◌, length, Option, refl, sym, ap, append-nil, append_assoc}
-use Rattle.std.specs.List.{flat_map}
+-- The boxes on a path, level by level.
+use Rattle.std.proofs.Common.{◌≡◌, ◌∙◌, ◌+◌, ◌-◌, ◌<◌, ◌==◌, ℕ, zero, suc, true, false, List, [], ◌∷◌, ◌++◌, length, take, drop, refl, sym, ap, arith, append-nil, append_assoc}
+use Rattle.std.proofs.lemmas.List.{length-append, length-drop, take_all}
+use Rattle.std.specs.Str.{bytes_eq}
 use Rattle.mp4_box.specs.declared.headers.FourCc.{FourCc}
-use Rattle.mp4_box.specs.declared.rules.Fault.{Fault}
 use Rattle.mp4_box.specs.Trees.{Box, children}
-use Rattle.mp4_box.specs.Order.{least_from}
-use Rattle.mp4_box.specs.Paths.{of_kind, at_path, along}
-use Rattle.mp4_box.proofs.OrderLemmas.{least_from-append}
+use Rattle.mp4_box.specs.Paths.{of_kind, at_path, paths_below, left_on}
 
-flat_map-append : {A B : Type 0} (f : A → List B) (xs ys : List A) → flat_map f (xs ++ ys) ≡ flat_map f xs ++ flat_map f ys
-flat_map-append f [] ys = refl
-flat_map-append {B = B} f (x ∷ xs) ys = ap (λ (zs : List B). f x ++ zs) (flat_map-append f xs ys) ∙ sym (append_assoc (f x) (flat_map f xs) (flat_map f ys))
-
--- what is at fault along the rest of a path below each of these boxes
-abbrev pub below : (Box → List Fault) → List FourCc → List Box → List Fault
-below faults path bs = flat_map faults (flat_map (at_path path) bs)
-
-pub along_end : (faults : Box → List Fault) (path : List FourCc) (b : Box) → length path ≡ 0 → along faults path b ≡ faults b
+pub path_end : (path : List FourCc) (b : Box) → length path ≡ 0 → at_path path b ≡ b ∷ []
 unfolding at_path
-along_end faults [] b e = append-nil (faults b)
-along_end faults (kind ∷ path) b e = absurd cc
+path_end [] b e = refl
+path_end (kind ∷ path) b e = absurd cc
 
-pub along_first : (faults : Box → List Fault) (kind : FourCc) (path : List FourCc) (b : Box) → along faults (kind ∷ path) b ≡ below faults path (of_kind kind (children b))
+pub path_first : (kind : FourCc) (path : List FourCc) (b : Box) → at_path (kind ∷ path) b ≡ paths_below path (of_kind kind (children b))
 unfolding at_path
-along_first faults kind path b = refl
+path_first kind path b = refl
 
-pub along_more : (best : Option Fault) (faults : Box → List Fault) (path : List FourCc) (b : Box) (bs : List Box)
-    → least_from best (below faults path (b ∷ bs)) ≡ least_from (least_from best (along faults path b)) (below faults path bs)
-along_more best faults path b bs =
-    ap (least_from best) (flat_map-append faults (at_path path b) (flat_map (at_path path) bs)) ∙ least_from-append best (along faults path b) (below faults path bs)
+-- all that is left at first
+pub left_here : (path : List FourCc) (b : Box) → length path ≡ 0 → b ∷ left_on path [] ≡ at_path path b
+unfolding left_on at_path
+left_here [] b e = refl
+left_here (kind ∷ path) b e = absurd cc
+
+pub left_first : (path : List FourCc) (b : Box) → (length path == 0) ≡ false → left_on path (children b ∷ []) ≡ at_path path b
+unfolding left_on at_path
+left_first [] b e = absurd cc
+left_first (kind ∷ path) b e = refl
+
+-- nothing is left at no level
+pub left_nowhere : (path : List FourCc) (levels : List (List Box)) → length levels ≡ 0 → left_on path levels ≡ []
+unfolding left_on
+left_nowhere path [] e = refl
+left_nowhere path (bs ∷ levels) e = absurd cc
+
+-- what one more level below the others adds
+pub left_append : (path : List FourCc) (levels : List (List Box)) (kind : FourCc) (below : List FourCc) (bs : List Box) → drop (length levels) path ≡ kind ∷ below
+    → left_on path (levels ++ bs ∷ []) ≡ paths_below below (of_kind kind bs) ++ left_on path levels
+unfolding left_on
+left_append [] [] kind below bs e = absurd cc
+left_append [] (cs ∷ levels) kind below bs e = absurd cc
+left_append (k ∷ path) [] kind below bs e = ap (λ (p : List FourCc). left_on p (bs ∷ [])) e ∙ sym (append-nil (paths_below below (of_kind kind bs)))
+left_append (k ∷ path) (cs ∷ levels) kind below bs e =
+    ap (λ (ds : List Box). ds ++ paths_below path (of_kind k cs)) (left_append path levels kind below bs e)
+    ∙ append_assoc (paths_below below (of_kind kind bs)) (left_on path levels) (paths_below path (of_kind k cs))
+
+-- a level at which nothing is left
+pub left_none : (path : List FourCc) (levels : List (List Box)) (kind : FourCc) (below : List FourCc) → drop (length levels) path ≡ kind ∷ below → left_on path (levels ++ [] ∷ []) ≡ left_on path levels
+left_none path levels kind below e = left_append path levels kind below [] e
+
+-- a box of another type
+pub left_other : (path : List FourCc) (levels : List (List Box)) (kind : FourCc) (below : List FourCc) (b : Box) (bs : List Box) → drop (length levels) path ≡ kind ∷ below → bytes_eq b.header.kind.0 kind.0 ≡ false
+    → left_on path (levels ++ (b ∷ bs) ∷ []) ≡ left_on path (levels ++ bs ∷ [])
+left_other path levels kind below b bs e other =
+    left_append path levels kind below (b ∷ bs) e ∙ rw other (sym (left_append path levels kind below bs e))
+
+-- a box at the end of the path
+pub left_end : (path : List FourCc) (levels : List (List Box)) (kind : FourCc) (below : List FourCc) (b : Box) (bs : List Box) → drop (length levels) path ≡ kind ∷ below → bytes_eq b.header.kind.0 kind.0 ≡ true → length below ≡ 0
+    → left_on path (levels ++ (b ∷ bs) ∷ []) ≡ b ∷ left_on path (levels ++ bs ∷ [])
+left_end path levels kind below b bs e same ends =
+    left_append path levels kind below (b ∷ bs) e
+    ∙ rw same (ap (λ (cs : List Box). (cs ++ paths_below below (of_kind kind bs)) ++ left_on path levels) (path_end below b ends) ∙ ap (λ (cs : List Box). b ∷ cs) (sym (left_append path levels kind below bs e)))
+
+-- the types of a path from a level on
+pub path_from : (path : List FourCc) (n : ℕ) (rest : List FourCc) → take (length path - n) (drop n path) ≡ rest → drop n path ≡ rest
+path_from path n rest e = sym (take_all (length path - n) (drop n path) (omega (arith, length-drop n path))) ∙ e
+
+next_level : (path : List FourCc) (n : ℕ) (kind : FourCc) (below : List FourCc) → drop n path ≡ kind ∷ below → drop (suc n) path ≡ below
+next_level [] zero kind below e = absurd cc
+next_level [] (suc n) kind below e = absurd cc
+next_level (k ∷ path) zero kind below e = cc
+next_level (k ∷ path) (suc n) kind below e = next_level path n kind below e
+
+level_below : (path : List FourCc) (levels : List (List Box)) (kind : FourCc) (below : List FourCc) (bs : List Box) → drop (length levels) path ≡ kind ∷ below → drop (length (levels ++ bs ∷ [])) path ≡ below
+level_below path levels kind below bs e =
+    let deeper : length (levels ++ bs ∷ []) ≡ suc (length levels) = omega (arith, length-append levels (bs ∷ [])) in
+    ap (λ (n : ℕ). drop n path) deeper ∙ next_level path (length levels) kind below e
+
+-- a box on the way, of whose children all are left
+pub left_below : (path : List FourCc) (levels : List (List Box)) (kind next : FourCc) (below : List FourCc) (b : Box) (bs : List Box) → drop (length levels) path ≡ kind ∷ (next ∷ below) → bytes_eq b.header.kind.0 kind.0 ≡ true
+    → left_on path (levels ++ (b ∷ bs) ∷ []) ≡ left_on path ((levels ++ bs ∷ []) ++ children b ∷ [])
+left_below path levels kind next below b bs e same =
+    let deeper : drop (length (levels ++ bs ∷ [])) path ≡ next ∷ below = level_below path levels kind (next ∷ below) bs e in
+    left_append path levels kind (next ∷ below) (b ∷ bs) e
+    ∙ rw same (append_assoc (at_path (next ∷ below) b) (paths_below (next ∷ below) (of_kind kind bs)) (left_on path levels)
+    ∙ ap (λ (cs : List Box). cs ++ (paths_below (next ∷ below) (of_kind kind bs) ++ left_on path levels)) (path_first next below b)
+    ∙ ap (λ (cs : List Box). paths_below below (of_kind next (children b)) ++ cs) (sym (left_append path levels kind (next ∷ below) bs e)))
+    ∙ sym (left_append path (levels ++ bs ∷ []) next below (children b) deeper)
+
+-- ---- how many boxes are looked at
+
+pub total : (Box → ℕ) → List Box → ℕ
+total f [] = 0
+total f (b ∷ bs) = f b + total f bs
+
+-- at these boxes and below them, and a turn more for each level
+pub looks : List FourCc → List Box → ℕ
+looks [] bs = 0
+looks (kind ∷ path) bs = total (λ b. 2 + looks path (children b)) bs
+
+unfoldable pub looks_on : List FourCc → List (List Box) → ℕ
+looks_on path [] = 0
+looks_on [] (bs ∷ levels) = 0
+looks_on (kind ∷ path) (bs ∷ levels) = 1 + looks (kind ∷ path) bs + looks_on path levels
+
+looks_append : (path : List FourCc) (levels : List (List Box)) (kind : FourCc) (below : List FourCc) (bs : List Box) → drop (length levels) path ≡ kind ∷ below
+    → looks_on path (levels ++ bs ∷ []) ≡ 1 + looks (kind ∷ below) bs + looks_on path levels
+unfolding looks_on
+looks_append [] [] kind below bs e = absurd cc
+looks_append [] (cs ∷ levels) kind below bs e = absurd cc
+looks_append (k ∷ path) [] kind below bs e = ap (λ (p : List FourCc). looks_on p (bs ∷ [])) e
+looks_append (k ∷ path) (cs ∷ levels) kind below bs e = let more = looks_append path levels kind below bs e in omega (arith, more)
+
+looks_more : (kind : FourCc) (path : List FourCc) (b : Box) (bs : List Box) → looks (kind ∷ path) (b ∷ bs) ≡ 2 + looks path (children b) + looks (kind ∷ path) bs
+unfolding looks total
+looks_more kind path b bs = refl
+
+-- each turn of a walk looks at one
+pub looks_none : (path : List FourCc) (levels : List (List Box)) (kind : FourCc) (below : List FourCc) → drop (length levels) path ≡ kind ∷ below → looks_on path levels < looks_on path (levels ++ [] ∷ [])
+looks_none path levels kind below e = let one = looks_append path levels kind below [] e in omega (arith, one)
+
+pub looks_box : (path : List FourCc) (levels : List (List Box)) (kind : FourCc) (below : List FourCc) (b : Box) (bs : List Box) → drop (length levels) path ≡ kind ∷ below
+    → looks_on path (levels ++ bs ∷ []) < looks_on path (levels ++ (b ∷ bs) ∷ [])
+looks_box path levels kind below b bs e =
+    let old = looks_append path levels kind below (b ∷ bs) e in
+    let new = looks_append path levels kind below bs e in
+    let more = looks_more kind below b bs in
+    omega (arith, old, new, more)
+
+pub looks_below : (path : List FourCc) (levels : List (List Box)) (kind : FourCc) (below : List FourCc) (b : Box) (bs : List Box) → drop (length levels) path ≡ kind ∷ below → false ≡ (length below == 0)
+    → looks_on path ((levels ++ bs ∷ []) ++ children b ∷ []) < looks_on path (levels ++ (b ∷ bs) ∷ [])
+looks_below path levels kind [] b bs e some = absurd cc
+looks_below path levels kind (next ∷ below) b bs e some =
+    let old = looks_append path levels kind (next ∷ below) (b ∷ bs) e in
+    let rest = looks_append path levels kind (next ∷ below) bs e in
+    let new = looks_append path (levels ++ bs ∷ []) next below (children b) (level_below path levels kind (next ∷ below) bs e) in
+    let more = looks_more kind (next ∷ below) b bs in
+    omega (arith, old, rest, new, more)

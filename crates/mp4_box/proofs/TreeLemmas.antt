@@ -3,7 +3,7 @@ use Rattle.std.proofs.Common.{◌≡◌, ℕ, zero, suc, ◌+◌, ◌-◌, ◌<�
 use Rattle.std.specs.Option.{option_or, is_some}
 use Rattle.mp4_box.specs.declared.rules.Rule.TheVariants.{Depth}
 use Rattle.mp4_box.specs.declared.rules.Fault.{Fault}
-use Rattle.mp4_box.specs.Trees.{Box, box_len, box_at, after, over, is_container, bad_rest, no_rest, bad_below, deep_below, payload_offset, first_of, verdict, fault_at, bad_size, boxes}
+use Rattle.mp4_box.specs.Trees.{Box, box_len, box_at, box_then, over, is_container, bad_rest, no_rest, bad_below, deep_below, payload_offset, first_of, verdict, fault_at, bad_size, boxes}
 
 -- bytes that are passed over
 pub over-skip : {R : Type 0} (f : Box → List R) (g : ℕ → List ℕ → List R) (x : List ℕ) (k o : ℕ) → over f g x k o ≡ over f g (drop k x) 0 (o + k)
@@ -20,14 +20,14 @@ over-box f g [] o b e low high = absurd (omega arith)
 over-box {R} f g (a ∷ xs) o b e low high =
     let back : suc (box_len b - 1) ≡ box_len b = omega arith in
     let rest : over f g xs (box_len b - 1) (o + 1) ≡ over f g (drop (suc (box_len b - 1)) (a ∷ xs)) 0 (o + suc (box_len b - 1)) = over-skip f g (a ∷ xs) (suc (box_len b - 1)) o in
-    ap (λ (p : Option Box). after {R = R} p f (g o (a ∷ xs)) (λ k. over f g xs k (o + 1))) e
+    ap (λ (p : Option Box). box_then {R = R} p f (g o (a ∷ xs)) (λ k. over f g xs k (o + 1))) e
     ∙ ap (λ (ys : List R). f b ++ ys) (rest ∙ ap (λ (n : ℕ). over f g (drop n (a ∷ xs)) 0 (o + n)) back)
 
 -- no box stands here
 pub over-none : {R : Type 0} (f : Box → List R) (g : ℕ → List ℕ → List R) (x : List ℕ) (o : ℕ) → box_at o x ≡ None → 0 < length x → over f g x 0 o ≡ g o x
 unfolding over
 over-none f g [] o e h = absurd (omega arith)
-over-none {R} f g (a ∷ xs) o e h = ap (λ (p : Option Box). after {R = R} p f (g o (a ∷ xs)) (λ k. over f g xs k (o + 1))) e
+over-none {R} f g (a ∷ xs) o e h = ap (λ (p : Option Box). box_then {R = R} p f (g o (a ∷ xs)) (λ k. over f g xs k (o + 1))) e
 
 pub over-end : {R : Type 0} (f : Box → List R) (g : ℕ → List ℕ → List R) (x : List ℕ) (o : ℕ) → length x ≡ 0 → over f g x 0 o ≡ []
 unfolding over
@@ -129,7 +129,7 @@ boxes_end o (a ∷ xs) e = over-none (λ b. b ∷ []) (λ _ _. []) (a ∷ xs) o 
 
 -- there are no more boxes than bytes
 
-few_after : (m : Option Box) (n : ℕ) (go : ℕ → List Box) → ((k : ℕ) → length (go k) ≤ n) → length (after m (λ b. b ∷ []) [] go) ≤ suc n
+few_after : (m : Option Box) (n : ℕ) (go : ℕ → List Box) → ((k : ℕ) → length (go k) ≤ n) → length (box_then m (λ b. b ∷ []) [] go) ≤ suc n
 few_after None n go h = omega arith
 few_after (Some b) n go h = omega (arith, h (box_len b - 1))
 

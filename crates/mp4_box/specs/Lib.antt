@@ -5,3 +5,5 @@ pub mod Trees
 pub mod Grammar
 pub mod Order
 pub mod Paths
+pub mod Fields
+pub mod Checks

@@ -1,10 +1,10 @@
--- The boxes on a path below a box, and what is at fault along it.
-use Rattle.std.specs.Prelude.{List, [], ◌∷◌, filter}
+-- The boxes on a path below a box.
+use Rattle.std.specs.Prelude.{List, [], ◌∷◌, ◌++◌, filter, Option, option_map, option_to_list}
 use Rattle.std.specs.List.{flat_map}
 use Rattle.std.specs.Str.{bytes_eq}
+use Rattle.mp4_box.specs.declared.box_ref.BoxRef.{BoxRef}
 use Rattle.mp4_box.specs.declared.headers.FourCc.{FourCc}
-use Rattle.mp4_box.specs.declared.rules.Fault.{Fault}
-use Rattle.mp4_box.specs.Trees.{Box, children}
+use Rattle.mp4_box.specs.Trees.{Box, children, view}
 
 -- the boxes of this type among these
 abbrev pub of_kind : FourCc → List Box → List Box
@@ -15,6 +15,16 @@ unfoldable pub at_path : List FourCc → Box → List Box
 at_path [] b = b ∷ []
 at_path (kind ∷ path) b = flat_map (at_path path) (of_kind kind (children b))
 
--- what is at fault with the boxes on the path
-abbrev pub along : (Box → List Fault) → List FourCc → Box → List Fault
-along faults path b = flat_map faults (at_path path b)
+-- the boxes that the rest of a path leads to from each of these
+abbrev pub paths_below : List FourCc → List Box → List Box
+paths_below path bs = flat_map (at_path path) bs
+
+-- the boxes on a path that are left, where at each level these are the boxes that are left: the deepest come first
+unfoldable pub left_on : List FourCc → List (List Box) → List Box
+left_on path [] = []
+left_on [] (bs ∷ levels) = []
+left_on (kind ∷ path) (bs ∷ levels) = left_on path levels ++ paths_below path (of_kind kind bs)
+
+-- the one box, where there is one
+abbrev pub seen_of : Option BoxRef → List Box
+seen_of this = option_to_list (option_map view this)

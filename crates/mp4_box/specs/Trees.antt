@@ -51,14 +51,14 @@ box_by o x steps.BadSize = None
 unfoldable pub box_at : ℕ → List ℕ → Option Box
 box_at o x = box_by o x (header_at x)
 
-abbrev pub after : {R : Type 0} → Option Box → (Box → List R) → List R → (ℕ → List R) → List R
-after None f stop go = stop
-after (Some b) f stop go = f b ++ go (box_len b - 1)
+abbrev pub box_then : {R : Type 0} → Option Box → (Box → List R) → List R → (ℕ → List R) → List R
+box_then None f stop go = stop
+box_then (Some b) f stop go = f b ++ go (box_len b - 1)
 
 -- what f makes of each box that stands in the bytes, one after the other, and g of the rest in which none stands; `skip` bytes are passed over first
 unfoldable pub over : {R : Type 0} → (Box → List R) → (ℕ → List ℕ → List R) → List ℕ → ℕ → ℕ → List R
 over f g [] skip o = []
-over f g (a ∷ xs) zero o = after (box_at o (a ∷ xs)) f (g o (a ∷ xs)) (λ k. over f g xs k (o + 1))
+over f g (a ∷ xs) zero o = box_then (box_at o (a ∷ xs)) f (g o (a ∷ xs)) (λ k. over f g xs k (o + 1))
 over f g (a ∷ xs) (suc k) o = over f g xs k (o + 1)
 
 -- the boxes that stand in the bytes one after the other

@@ -2,6 +2,7 @@
 
 ghost use Rattle.std.specs.Prelude.{◌≡◌, ◌+◌, ◌<◌, ◌≤◌, ◌↔◌, length, drop, take, IsNone, IfSome, slice_index};
 ghost use Rattle.byteorder.specs.Endian.{big_number, twos_complement};
+ghost use Rattle.mp4_box.specs.Fields.{long_number_in, number_in, version_in};
 
 use byteorder::{BigEndian, ByteOrder};
 
@@ -40,6 +41,35 @@ pub fn full(payload: &[u8]) -> Option<(u8, u32)>
         return None;
     }
     Some((payload[0], BigEndian::read_u24(&payload[1..])))
+}
+
+/// The version that a full box's payload begins with, 0 where it is empty.
+pub fn version_of(payload: &[u8]) -> u8
+    ensures { result ≡ version_in payload.now }
+{
+    if payload.is_empty() { 0 } else { payload[0] }
+}
+
+/// The unsigned number in the four bytes at `at`, 0 where they aren't all there.
+pub fn number_at(payload: &[u8], at: u32) -> u32
+    ensures { result ≡ number_in payload.now at }
+{
+    let at = at as usize;
+    if payload.len() < at + 4 {
+        return 0;
+    }
+    u32_at(payload, at)
+}
+
+/// The unsigned number in the eight bytes at `at`, 0 where they aren't all there.
+pub fn long_number_at(payload: &[u8], at: u32) -> u64
+    ensures { result ≡ long_number_in payload.now at }
+{
+    let at = at as usize;
+    if payload.len() < at + 8 {
+        return 0;
+    }
+    u64_at(payload, at)
 }
 
 /// The `N` bytes at `at`.

@@ -1,5 +1,5 @@
 //! The boxes of an MP4 stream (ISO/IEC 14496-12): how their headers are written and read, the tree of a box that
-//! is held, the fields of payloads, and the rules that a stream can break.
+//! is held, the fields of payloads, and the rules that a stream can break. `CALLING.md` shows a caller.
 //!
 //! - [`headers`]: the header of a box, in all its forms, and [`header_of`], which reads it from a slice;
 //! - [`reader`]: [`HeaderReader`], which reads it byte by byte;
@@ -7,12 +7,17 @@
 //!   over it;
 //! - [`fields`]: the numbers in a payload;
 //! - [`rules`]: the rules, and the [`Fault`] of a stream that breaks one;
-//! - [`paths`]: checks of the boxes on a path, of which [`note`] keeps the fault that is told;
+//! - [`paths`]: the boxes on a path of types, [`Along`], and [`checks`]: what a box can be asked for, and asking it of
+//!   the boxes on a path, where [`note`] keeps the fault that is told;
 //! - [`vectors`]: three small streams, for tests;
 //! - [`laws`]: what the definitions of `specs/` imply.
+//!
+//! It hands on the ends of a stream, from [`Source`] to [`ends`], and the flag words of tfhd and trun, [`TfhdFlags`] and
+//! [`TrunFlags`]: their users name this crate.
 #![tactic(auto)]
 
 mod box_ref;
+pub mod checks;
 pub mod fields;
 pub mod headers;
 pub mod laws;
@@ -25,10 +30,13 @@ pub mod vectors;
 mod walk;
 
 pub use box_ref::BoxRef;
-pub use fields::{full, i32_at, u32_at, u64_at};
+pub use checks::{AtMostOne, Check, Layout, One, note_along};
+pub use fields::{full, i32_at, long_number_at, number_at, u32_at, u64_at, version_of};
 pub use headers::{FourCc, Header, Size, Step, header_of};
+pub use mp4_ends::{Failed, FromRead, IntoWrite, Sink, Source, ends, write_all};
+pub use mp4_flags::{Flags, TfhdFlags, TrunFlags};
 pub use order::note;
-pub use paths::{Check, note_along};
+pub use paths::{Along, count_of, first_at};
 pub use reader::HeaderReader;
 pub use rules::{Fault, Rule};
 pub use tree::{check_tree, holds_boxes, is_box, whole_box};

@@ -1,39 +1,122 @@
-//! Checks of the boxes on a path.
+//! The boxes on a path of types.
 
-ghost use Rattle.std.specs.Prelude.{◌≡◌, List};
-ghost use Rattle.mp4_box.specs.declared.rules.Fault.{Fault};
-ghost use Rattle.mp4_box.specs.Order.{least_from};
-ghost use Rattle.mp4_box.specs.Paths.{along};
-ghost use Rattle.mp4_box.specs.Trees.{Box, view};
+ghost use Rattle.std.specs.Prelude.{◌≡◌, ◌++◌, ◌≤◌, [], length, option_map, IfNone};
+ghost use Rattle.std.specs.Iterator.{YieldsFirstBy, item_count};
+ghost use Rattle.mp4_box.specs.Paths.{at_path, left_on, of_kind, seen_of};
+ghost use Rattle.mp4_box.specs.Trees.{Box, children, first_of, view};
 
 use crate::box_ref::BoxRef;
 use crate::headers::FourCc;
-use crate::rules::Fault;
 use crate::walk::Walk;
+use arrayvec::ArrayVec;
+use std::marker::Model;
 
-/// What is asked of a box.
-pub trait Check {
-    // What is at fault with a box.
-    ghost faults: { Self → Box → List Fault };
+/// A path may have so many types.
+const LEVELS: usize = 8;
 
-    /// Keeps in `best` the first of the best so far and of what is at fault with the box.
-    fn note_at(&self, this: &BoxRef<'_>, best: &mut Option<Fault>)
-        ensures { best.new ≡ least_from best.old (faults self.now (view this.now)) };
+/// Goes over the boxes that a path of types leads to from a box, in the order in which they stand.
+#[derive(Drop)]
+pub struct Along<'p, 'a> {
+    path: &'p [FourCc],
+    /// The box itself, where the path is empty.
+    here: Option<BoxRef<'a>>,
+    /// The boxes that are left at each level, down to the one that was looked at last.
+    walks: ArrayVec<Walk<'a>, LEVELS>,
 }
 
-/// Checks each box that the path of types leads to from this one: `best` is the first of the best so far and
-/// of what is at fault with these.
-#[tactic(auto, using(crate::proofs::PathLemmas::along_end, crate::proofs::PathLemmas::along_more, crate::proofs::PathLemmas::along_first), unfolding(crate::specs::Order::least_from))]
-pub fn note_along<C: Check>(check: &C, path: &[FourCc], this: &BoxRef<'_>, best: &mut Option<Fault>)
-    ensures { best.new ≡ least_from best.old (along (C.faults check.now) path.now (view this.now)) }
+// A contract sees the boxes that are left.
+impl<'p, 'a> Model for Along<'p, 'a> {
+    ghost use Rattle.std.specs.Prelude.{List, ◌≤◌, ◌++◌, length};
+    ghost use Rattle.mp4_box.specs.Paths.{left_on, seen_of};
+    ghost use Rattle.mp4_box.specs.Trees.{Box};
+
+    ghost Value = { List Box };
+
+    ghost view = { λ a. seen_of a.here ++ left_on a.path.now a.walks.items };
+
+    ghost invariant = { λ a. (length a.walks.items ≤ length a.path.now) × (length a.path.now ≤ 8) };
+}
+
+impl<'p, 'a> Along<'p, 'a> {
+    /// The boxes that the path leads to from this one.
+    #[tactic(auto, using(crate::proofs::PathLemmas::left_here, crate::proofs::PathLemmas::left_first))]
+    pub fn of(path: &'p [FourCc], this: &BoxRef<'a>) -> Along<'p, 'a>
+        requires { length path.now ≤ 8 }
+        ensures { result ≡ at_path path.now (view this.now) }
+    {
+        let mut along = Along {
+            path,
+            here: None,
+            walks: ArrayVec::new(),
+        };
+        if path.is_empty() {
+            along.here = Some(*this);
+        } else {
+            along.walks.push(Walk::of(this));
+        }
+        along
+    }
+}
+
+/// The next of the boxes that are left.
+#[tactic(auto, using(crate::proofs::PathLemmas::left_none, crate::proofs::PathLemmas::left_other, crate::proofs::PathLemmas::left_end, crate::proofs::PathLemmas::left_below, crate::proofs::PathLemmas::looks_none, crate::proofs::PathLemmas::looks_box, crate::proofs::PathLemmas::looks_below))]
+fn next_on<'a>(path: &[FourCc], walks: &mut ArrayVec<Walk<'a>, LEVELS>) -> Option<BoxRef<'a>>
+    requires deep { length walks.old.items ≤ length path.now }
+    requires room { length path.now ≤ 8 }
+    ensures first { left_on path.now walks.old.items ≡
+        seen_of result ++ left_on path.now walks.new.items }
+    ensures none { IfNone result (left_on path.now walks.new.items ≡ []) }
+    ensures deep { length walks.new.items ≤ length path.now }
 {
-    let Some((kind, rest)) = path.split_first() else {
-        check.note_at(this, best);
-        return;
-    };
-    for child in Walk::of(this) {
-        if child.header.kind.0.as_slice() == kind.0.as_slice() {
-            note_along(check, rest, &child, best);
+    while let Some(mut walk) = walks.pop() {
+        let Some((kind, below)) = path[walks.len()..].split_first() else {
+            return None;
+        };
+        if let Some(child) = walk.next() {
+            walks.push(walk);
+            if child.header.kind.0.as_slice() == kind.0.as_slice() {
+                if below.is_empty() {
+                    return Some(child);
+                }
+                walks.push(Walk::of(&child));
+            }
         }
     }
+    None
+}
+
+impl<'p, 'a> Iterator for Along<'p, 'a> {
+    type Item = BoxRef<'a>;
+
+    ghost next_gives = { YieldsFirstBy view (λ a. a) };
+
+    ghost remaining = { item_count (λ a. a) };
+
+    fn next(&mut self) -> Option<BoxRef<'a>> {
+        if let Some(this) = self.here.take() {
+            return Some(this);
+        }
+        next_on(self.path, &mut self.walks)
+    }
+}
+
+/// The first box that a path of types leads to from this one.
+pub fn first_at<'a>(path: &[FourCc], this: &BoxRef<'a>) -> Option<BoxRef<'a>>
+    requires { length path.now ≤ 8 }
+    ensures { option_map view result ≡ first_of (at_path path.now (view this.now)) }
+{
+    Along::of(path, this).next()
+}
+
+/// How many children of this type the box has.
+pub fn count_of(kind: FourCc, this: &BoxRef<'_>) -> u64
+    ensures { result ≡ length (of_kind kind (children (view this.now))) }
+{
+    let mut count = 0;
+    for child in Walk::of(this) {
+        if child.header.kind.0.as_slice() == kind.0.as_slice() {
+            count += 1;
+        }
+    }
+    count
 }

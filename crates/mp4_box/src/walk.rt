@@ -1,6 +1,6 @@
 //! The children of a held box.
 
-ghost use Rattle.std.specs.Prelude.{◌≡◌, ◌≤◌, length};
+ghost use Rattle.std.specs.Prelude.{◌≡◌, ◌≤◌, [], length};
 ghost use Rattle.mp4_box.specs.Trees.{boxes, children, view};
 ghost use Rattle.std.specs.Iterator.{YieldsFirstBy, item_count};
 
@@ -25,6 +25,19 @@ impl<'a> Model for Walk<'a> {
     ghost view = { λ w. boxes w.offset w.rest.now };
 
     ghost invariant = { λ w. w.offset + length w.rest.now < 2 ^ 63 };
+}
+
+impl<'a> Default for Walk<'a> {
+    ghost is_default = { λ w. w ≡ [] };
+
+    /// A walk over no boxes.
+    #[tactic(auto, unfolding(crate::specs::Trees::over))]
+    fn default() -> Walk<'a> {
+        Walk {
+            rest: &[],
+            offset: 0,
+        }
+    }
 }
 
 impl<'a> Walk<'a> {

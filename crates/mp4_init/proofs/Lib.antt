@@ -1,8 +1,7 @@
-pub mod Noting
-pub mod Summing
-pub mod Answering
-pub mod Seeking
-pub mod Linking
-pub mod Listing
-pub mod Telling
-pub mod SizeLemmas
+pub mod SummaryLemmas
+pub mod MoovLemmas
+pub mod SearchTreeLemmas
+pub mod LinkLemmas
+pub mod RowLemmas
+pub mod SummaryTableLemmas
+pub mod TrackLemmas

@@ -2,7 +2,7 @@ pub mod Kinds
 pub mod Fields
 pub mod Rules
 pub mod Tracks
-pub mod Seeking
+pub mod SearchTrees
 pub mod Summaries
 pub mod Rows
-pub mod Answers
+pub mod Moovs

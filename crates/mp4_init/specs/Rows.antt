@@ -1,6 +1,6 @@
 -- How a track stands in a row of eight numbers: its values in the first five, and the links of its node in two more.
 use Rattle.std.specs.Prelude.{ℕ, List, ◌/◌, ◌%◌, ◌^◌, slice_index, zero, suc, [], ◌∷◌}
-use Rattle.mp4_init.specs.declared.seek.Node.{Node}
+use Rattle.mp4_init.specs.declared.search_tree.Node.{Node}
 use Rattle.mp4_init.specs.declared.table.Track.{Track}
 
 -- two numbers of 32 bits in one of 64

@@ -1,29 +1,23 @@
 -- The rules of a moov, each with the boxes that it speaks of (ISO/IEC 14496-12, 8.2.1 to 8.8.3).
-use Rattle.std.specs.Prelude.{ℕ, Bool, false, List, [], ◌∷◌, ◌++◌, ◌==◌, codes, nat_lt, if◌then◌else◌, length, map, filter, option_map, option_to_list}
+use Rattle.std.specs.Prelude.{ℕ, Bool, false, List, [], ◌∷◌, ◌++◌, ◌==◌, codes, nat_lt, if◌then◌else◌, length, filter}
 use Rattle.mp4_box.specs.declared.headers.FourCc.{FourCc}
 use Rattle.mp4_box.specs.declared.rules.Fault.{Fault}
-use Rattle.mp4_box.specs.declared.rules.Rule.TheVariants.{Missing, Twice, SamplesInMoov, UnknownTrack}
-use Rattle.mp4_box.specs.Trees.{Box, children, fault_at}
-use Rattle.mp4_box.specs.Paths.{of_kind, at_path, along}
-use Rattle.mp4_init.specs.declared.checks.Layout.{Layout}
-use Rattle.mp4_init.specs.declared.checks.Layout.TheVariants.{Versioned, Exactly, AtLeast, Entries}
+use Rattle.mp4_box.specs.declared.rules.Rule.TheVariants.{FieldLength, SamplesInMoov, UnknownTrack}
+use Rattle.mp4_box.specs.Trees.{Box, fault_at}
+use Rattle.mp4_box.specs.declared.checks.Layout.TheVariants.{Versioned, Exactly, AtLeast}
+use Rattle.mp4_box.specs.Checks.{along, laid_out, one}
+use Rattle.mp4_box.specs.Fields.{number_in}
+use Rattle.mp4_box.specs.Paths.{at_path}
 use Rattle.mp4_init.specs.Kinds.{kind, trak, tkhd, mdia, mdhd, minf, stbl, stsd, mvex, to_stbl, to_tkhd, to_trex}
-use Rattle.mp4_init.specs.Fields.{number_in, tkhd_id, trex_id, broken}
+use Rattle.mp4_init.specs.Fields.{has_entries, tkhd_id, trex_id}
 
 -- ---- what is asked of one box
 
--- just one of them must stand in the parent: where there is none the parent is at fault, and each but the first is
-abbrev pub alone : Box → List Box → List Fault
-alone parent [] = fault_at Missing parent ∷ []
-alone parent (b ∷ bs) = map (fault_at Twice) bs
-
--- the box must have just one child of the type
-abbrev pub one : FourCc → Box → List Fault
-one kind b = alone b (of_kind kind (children b))
-
--- the payload must be laid out so
-abbrev pub laid_out : Layout → Box → List Fault
-laid_out layout b = option_to_list (option_map (λ rule. fault_at rule b) (broken layout b))
+-- an stsd must have its count, and behind it so many entries
+abbrev pub entries_faults : Box → List Fault
+entries_faults b =
+    if nat_lt (length b.payload) 8 then fault_at FieldLength b ∷ []
+    else if has_entries b then [] else fault_at FieldLength b ∷ []
 
 -- the count at this place must be 0
 abbrev pub no_samples : ℕ → Box → List Fault
@@ -77,7 +71,7 @@ unfoldable pub field_faults : Box → List Fault
 field_faults m =
     along (laid_out (Versioned 84 96)) to_tkhd m
     ++ along (laid_out (Versioned 24 36)) (trak ∷ mdia ∷ mdhd ∷ []) m
-    ++ along (laid_out Entries) (below_stbl (codes "stsd")) m
+    ++ along (entries_faults) (below_stbl (codes "stsd")) m
     ++ along (laid_out (AtLeast 8)) (below_stbl (codes "stts")) m
     ++ along (laid_out (AtLeast 8)) (below_stbl (codes "stsc")) m
     ++ along (laid_out (AtLeast 8)) (below_stbl (codes "stco")) m

@@ -2,8 +2,8 @@
 use Rattle.std.specs.Prelude.{ℕ, List, [], ◌∷◌, Option, Some, None, replicate, slice_set, slice_index_or, ◌==◌, ◌-◌, ◌^◌, nat_lt, if◌then◌else◌}
 use Rattle.mp4_box.specs.Trees.{Box}
 use Rattle.mp4_box.specs.Paths.{at_path}
-use Rattle.mp4_init.specs.declared.seek.Node.{Node}
-use Rattle.mp4_init.specs.Seeking.{sought, no_node}
+use Rattle.mp4_init.specs.declared.search_tree.Node.{Node}
+use Rattle.mp4_init.specs.SearchTrees.{sought, no_node}
 use Rattle.mp4_init.specs.declared.summary.Summary.{Summary}
 use Rattle.mp4_init.specs.declared.summary.Source.{Source}
 use Rattle.mp4_init.specs.declared.summary.Source.TheVariants.{Tkhd, Trex}

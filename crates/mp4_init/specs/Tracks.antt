@@ -5,7 +5,8 @@ use Rattle.mp4_box.specs.Paths.{of_kind, at_path}
 use Rattle.mp4_init.specs.declared.table.Track.{Track}
 use Rattle.mp4_init.specs.declared.summary.Defaults.{Defaults}
 use Rattle.mp4_init.specs.Kinds.{trak, tkhd, mdia, mdhd, minf, stbl, stsd}
-use Rattle.mp4_init.specs.Fields.{number_in, behind_times}
+use Rattle.mp4_box.specs.Fields.{number_in}
+use Rattle.mp4_init.specs.Fields.{behind_times}
 use Rattle.mp4_init.specs.Rules.{trexes_of}
 
 -- a field of the one box that there must be (the first, where the rules are broken), and 0 where there is none

@@ -1,26 +1,26 @@
 //! The tracks of a moov, put into claimed memory.
 
-ghost use Rattle.std.specs.Prelude.{◌≡◌, ◌+◌, ◌*◌, ◌<◌, ◌↔◌, length, option_map, IfOk, OnOk, OnErr, IsErrOf};
+ghost use Rattle.std.specs.Prelude.{◌≡◌, ◌+◌, ◌*◌, ◌<◌, ◌≤◌, ◌↔◌, length, option_map, IfOk, OnOk, OnErr, IsErrOf};
 ghost use Rattle.mp4_ledger.specs.Memory.{claimed};
 ghost use Rattle.mp4_box.specs.Paths.{at_path, of_kind};
 ghost use Rattle.mp4_box.specs.Trees.{children, view, first_of};
-ghost use Rattle.mp4_init.specs.Fields.{behind_times, number_in};
+ghost use Rattle.mp4_init.specs.Fields.{behind_times};
 ghost use Rattle.mp4_init.specs.Summaries.{summaries_in};
 ghost use Rattle.mp4_init.specs.Tracks.{entries_of, field_of, id_of, timescale_of, track_of, tracks_of};
 
-use crate::fields::{number_at, number_behind_times};
-use crate::find::find_first;
+use crate::fields::number_behind_times;
 use crate::kinds::{MDHD, MDIA, MINF, STBL, STSD, TKHD, TRAK};
 use crate::slots::{SLOTS, Slots};
 use crate::table::{Track, TrackList, push_track};
-use mp4_box::{BoxRef, FourCc, Walk};
+use mp4_box::{BoxRef, FourCc, Walk, count_of, first_at, number_at};
 use mp4_ledger::{Ledger, Refused};
 
 /// The field behind the times of the first tkhd or mdhd on the path, 0 where there is none.
 fn behind_times_at(path: &[FourCc], trak: &BoxRef<'_>) -> u32
+    requires { length path.now ≤ 8 }
     ensures { result ≡ field_of behind_times (first_of (at_path path.now (view trak.now))) }
 {
-    match find_first(path, trak) {
+    match first_at(path, trak) {
         Some(this) => number_behind_times(&this),
         None => 0,
     }
@@ -30,14 +30,14 @@ fn behind_times_at(path: &[FourCc], trak: &BoxRef<'_>) -> u32
 fn entries_in(trak: &BoxRef<'_>) -> u32
     ensures { result ≡ entries_of (view trak.now) }
 {
-    match find_first(&[MDIA, MINF, STBL, STSD], trak) {
+    match first_at(&[MDIA, MINF, STBL, STSD], trak) {
         Some(stsd) => number_at(stsd.payload, 4),
         None => 0,
     }
 }
 
 /// The track of a trak.
-#[tactic(auto, using(crate::proofs::Summing::defaults_by), unfolding(crate::specs::Tracks::track_of))]
+#[tactic(auto, using(crate::proofs::SummaryLemmas::defaults_by), unfolding(crate::specs::Tracks::track_of))]
 fn track_in<const N: usize>(moov: &BoxRef<'_>, trak: &BoxRef<'_>, slots: &mut Slots<N>) -> Track
     requires some { 0 < N }
     requires told { slots.old.summaries ≡ summaries_in N (view moov.now) slots.old.index.nodes }
@@ -58,19 +58,6 @@ fn track_in<const N: usize>(moov: &BoxRef<'_>, trak: &BoxRef<'_>, slots: &mut Sl
     }
 }
 
-/// How many children of this type the box has.
-fn count_of(this: &BoxRef<'_>, kind: FourCc) -> u64
-    ensures { result ≡ length (of_kind kind (children (view this.now))) }
-{
-    let mut count = 0;
-    for child in Walk::of(this) {
-        if child.header.kind.0.as_slice() == kind.0.as_slice() {
-            count += 1;
-        }
-    }
-    count
-}
-
 /// Claims a table for the tracks of a moov without a fault, and fills it.
 ///
 /// # Errors
@@ -84,7 +71,7 @@ pub(crate) fn list_of(ledger: &mut Ledger, moov: &BoxRef<'_>) -> Result<TrackLis
         (ledger.old.limit < ledger.old.live + 64 * length (tracks_of (view moov.now))) }
     ensures err { OnErr result (ledger.new ≡ ledger.old) }
 {
-    let mut rows = match ledger.rows(count_of(moov, TRAK)) {
+    let mut rows = match ledger.rows(count_of(TRAK, moov)) {
         Ok(rows) => rows,
         Err(refused) => return Err(refused),
     };

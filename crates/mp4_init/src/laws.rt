@@ -5,7 +5,7 @@ ghost use Rattle.std.specs.List.{AllByRecursion};
 ghost use Rattle.mp4_box.specs.Headers.{IsBytes};
 ghost use Rattle.mp4_box.specs.Paths.{of_kind};
 ghost use Rattle.mp4_box.specs.Trees.{Box, box_at, children};
-ghost use Rattle.mp4_init.specs.Answers.{moov_fault, moov_faults, moov_tracks};
+ghost use Rattle.mp4_init.specs.Moovs.{moov_fault, moov_faults, moov_tracks};
 ghost use Rattle.mp4_init.specs.Kinds.{trak};
 ghost use Rattle.mp4_init.specs.Rules.{trexes_of};
 ghost use Rattle.mp4_init.specs.Tracks.{id_of};

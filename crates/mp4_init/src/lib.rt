@@ -1,30 +1,30 @@
 //! The tracks of a fragmented movie: what a moov (ISO/IEC 14496-12, 8.2.1) says of each, and the rules that it
-//! must keep.
+//! must keep. `CALLING.md` shows a caller.
 //!
 //! - [`tracks`]: from the bytes of a moov to its [`TrackList`], or why there is none ([`InitStop`]);
-//! - [`rules`]: which boxes of a moov are checked for what, and [`checks`]: what is asked of one box;
+//! - [`rules`]: which boxes of a moov are checked for what, and [`sample_tables`]: what its sample tables are asked;
 //! - [`build`]: from the traks of a moov to a table, [`table`]: [`TrackList`], that table in claimed memory, and
 //!   [`row`]: how a [`Track`] stands in it;
 //! - [`summary`]: what a moov says of one track_ID, and [`slots`]: of many at once;
-//! - [`seek`]: the search for a track_ID, in a table and among slots;
-//! - [`find`]: boxes on a path, [`kinds`]: their types, and [`fields`]: their fields;
+//! - [`search_tree`]: the search for a track_ID by its bits, in a table and among slots;
+//! - [`kinds`]: the types of the boxes that are read, and [`fields`]: their fields;
 //! - [`laws`]: what the definitions of `specs/` imply.
 //!
 //! The definitions: `specs/Kinds.antt` (types and paths), `specs/Fields.antt` (payloads), `specs/Rules.antt`
-//! (what is at fault), `specs/Tracks.antt` (the tracks), `specs/Answers.antt` (what a moov comes to). The others say
-//! how it is worked out: `specs/Seeking.antt`, `specs/Summaries.antt`, `specs/Rows.antt`.
+//! (what is at fault), `specs/Tracks.antt` (the tracks), `specs/Moovs.antt` (the tracks of a moov or its
+//! fault). The others say
+//! how it is worked out: `specs/SearchTrees.antt`, `specs/Summaries.antt`, `specs/Rows.antt`.
 #![tactic(auto)]
 
 mod build;
-mod checks;
 mod fields;
-mod find;
 mod kinds;
 pub mod laws;
 mod moov;
 mod row;
 mod rules;
-mod seek;
+mod sample_tables;
+mod search_tree;
 mod slots;
 mod summary;
 mod table;

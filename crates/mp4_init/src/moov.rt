@@ -1,11 +1,11 @@
 //! From the bytes of a moov to its tracks.
 
-ghost use Rattle.std.specs.Prelude.{◌≡◌, ◌+◌, ◌*◌, ◌^◌, ◌<◌, ◌≤◌, ◌↔◌, length, Some, None, Err, IfOk, OnErr};
+ghost use Rattle.std.specs.Prelude.{◌≡◌, ◌+◌, ◌*◌, ◌^◌, ◌<◌, ◌≤◌, ◌↔◌, length, Some, None, Err, IfOk, OnOk, OnErr};
 ghost use Rattle.mp4_ledger.specs.Memory.{claimed};
 ghost use Rattle.mp4_box.specs.declared.rules.Fault.{Fault};
 ghost use Rattle.mp4_box.specs.Headers.{IsWhole};
 ghost use Rattle.mp4_box.specs.Order.{IsLeast};
-ghost use Rattle.mp4_init.specs.Answers.{moov_fault, moov_faults, moov_tracks};
+ghost use Rattle.mp4_init.specs.Moovs.{moov_fault, moov_faults, moov_tracks};
 
 use crate::build::list_of;
 use crate::rules::content_fault_of;
@@ -38,11 +38,14 @@ pub fn tracks(ledger: &mut Ledger, moov: &[u8], offset: u64) -> Result<TrackList
     requires whole { IsWhole moov.now }
     requires room { offset + length moov.now ≤ 2 ^ 62 }
     ensures list { IfOk result (λ l. l ≡ moov_tracks offset moov.now) }
+    ensures good { OnOk result (moov_fault offset moov.now ≡ None) }
     ensures ok { IfOk result (λ l. ledger.new ≡ claimed ledger.old (64 * length l)) }
     ensures fault { (f : Fault) → (result ≡ Err (InitStop.Fault f)) ↔
         (moov_fault offset moov.now ≡ Some f) }
     ensures least { (f : Fault) → result ≡ Err (InitStop.Fault f) →
         IsLeast f (moov_faults offset moov.now) }
+    ensures refused { (r : Refused) → result ≡ Err (InitStop.Refused r) →
+        moov_fault offset moov.now ≡ None }
     ensures over_limit { (result ≡ Err (InitStop.Refused Refused.OverLimit)) ↔
         ((moov_fault offset moov.now ≡ None) × (ledger.old.limit < ledger.old.live +
         64 * length (moov_tracks offset moov.now))) }

@@ -2,9 +2,9 @@
 
 ghost use Rattle.std.specs.Prelude.{◌≡◌, slice_index};
 ghost use Rattle.mp4_init.specs.Rows.{lower, node_of_row, track_of_row, upper};
-ghost use Rattle.mp4_init.specs.Seeking.{with_link};
+ghost use Rattle.mp4_init.specs.SearchTrees.{with_link};
 
-use crate::seek::{NOWHERE, Node};
+use crate::search_tree::{NOWHERE, Node};
 use crate::table::Track;
 
 /// Two numbers of 32 bits in one of 64.

@@ -3,21 +3,21 @@
 ghost use Rattle.std.specs.Prelude.{◌≡◌, ◌<◌, Option};
 ghost use Rattle.mp4_box.specs.Trees.{view};
 ghost use Rattle.mp4_box.specs.Order.{least_from, least};
-ghost use Rattle.mp4_box.specs.Paths.{along};
-ghost use Rattle.mp4_init.specs.Answers.{content_fault, form_faults, value_faults};
+ghost use Rattle.mp4_box.specs.Checks.{along};
+ghost use Rattle.mp4_init.specs.Moovs.{content_fault, form_faults, value_faults};
 ghost use Rattle.mp4_init.specs.Rules.{below_stbl, field_faults, is_known, known, number_faults, sample_faults, track_faults};
 ghost use Rattle.mp4_init.specs.Summaries.{summaries_in};
 
-use crate::checks::{Layout, NoSamples, One};
 use crate::fields::number_behind_times;
 use crate::kinds::{
     CO64, MDHD, MDIA, MINF, MVEX, STBL, STCO, STSC, STSD, STSZ, STTS, STZ2, TKHD, TRAK, TREX,
 };
+use crate::sample_tables::{Entries, NoSamples};
 use crate::slots::{SLOTS, Slots};
-use mp4_box::{BoxRef, Check, Fault, FourCc, Rule, Walk, note, note_along};
+use mp4_box::{Along, BoxRef, Check, Fault, FourCc, Layout, One, Rule, note, note_along};
 
 /// Boxes that are missing, or stand a second time.
-#[tactic(auto, using(crate::proofs::Noting::least_from_append), unfolding(crate::specs::Rules::number_faults))]
+#[tactic(auto, using(mp4_box::proofs::OrderLemmas::least_from_append), unfolding(crate::specs::Rules::number_faults))]
 fn note_numbers(moov: &BoxRef<'_>, best: &mut Option<Fault>)
     ensures { best.new ≡ least_from best.old (number_faults (view moov.now)) }
 {
@@ -39,13 +39,13 @@ fn note_in_stbl<C: Check>(check: &C, kind: FourCc, moov: &BoxRef<'_>, best: &mut
 }
 
 /// Boxes whose version or length is wrong.
-#[tactic(auto, using(crate::proofs::Noting::least_from_append), unfolding(crate::specs::Rules::field_faults))]
+#[tactic(auto, using(mp4_box::proofs::OrderLemmas::least_from_append), unfolding(crate::specs::Rules::field_faults))]
 fn note_fields(moov: &BoxRef<'_>, best: &mut Option<Fault>)
     ensures { best.new ≡ least_from best.old (field_faults (view moov.now)) }
 {
     note_along(&Layout::Versioned(84, 96), &[TRAK, TKHD], moov, best);
     note_along(&Layout::Versioned(24, 36), &[TRAK, MDIA, MDHD], moov, best);
-    note_in_stbl(&Layout::Entries, STSD, moov, best);
+    note_in_stbl(&Entries, STSD, moov, best);
     note_in_stbl(&Layout::AtLeast(8), STTS, moov, best);
     note_in_stbl(&Layout::AtLeast(8), STSC, moov, best);
     note_in_stbl(&Layout::AtLeast(8), STCO, moov, best);
@@ -56,7 +56,7 @@ fn note_fields(moov: &BoxRef<'_>, best: &mut Option<Fault>)
 }
 
 /// Tables that tell of samples.
-#[tactic(auto, using(crate::proofs::Noting::least_from_append), unfolding(crate::specs::Rules::sample_faults))]
+#[tactic(auto, using(mp4_box::proofs::OrderLemmas::least_from_append), unfolding(crate::specs::Rules::sample_faults))]
 fn note_samples(moov: &BoxRef<'_>, best: &mut Option<Fault>)
     ensures { best.new ≡ least_from best.old (sample_faults (view moov.now)) }
 {
@@ -82,36 +82,22 @@ fn is_known_in<const N: usize>(moov: &BoxRef<'_>, tkhd: &BoxRef<'_>, slots: &mut
     summary.trexes == 1
 }
 
-/// Notes the tkhds on a path below a box of the moov whose track_ID a tkhd before has, or that haven't just one trex.
-#[tactic(auto, using(mp4_box::proofs::PathLemmas::along_end, mp4_box::proofs::PathLemmas::along_more, mp4_box::proofs::PathLemmas::along_first), unfolding(mp4_box::specs::Order::least_from))]
-fn note_tracks<'a, const N: usize>(
-    moov: &BoxRef<'a>,
-    path: &[FourCc],
-    this: &BoxRef<'a>,
-    slots: &mut Slots<N>,
-    best: &mut Option<Fault>,
-)
+/// Tracks whose track_ID a tkhd before has, or that haven't just one trex.
+#[tactic(auto, unfolding(mp4_box::specs::Order::least_from, crate::specs::Rules::track_faults))]
+fn note_unknown<const N: usize>(moov: &BoxRef<'_>, slots: &mut Slots<N>, best: &mut Option<Fault>)
     requires some { 0 < N }
     requires told { slots.old.summaries ≡ summaries_in N (view moov.now) slots.old.index.nodes }
-    ensures best { best.new ≡ least_from best.old
-        (along (known (view moov.now)) path.now (view this.now)) }
-    ensures told { slots.new.summaries ≡ summaries_in N (view moov.now) slots.new.index.nodes }
+    ensures { best.new ≡ least_from best.old (track_faults (view moov.now)) }
 {
-    let Some((kind, rest)) = path.split_first() else {
-        if !is_known_in(moov, this, slots) {
-            note(best, this.fault(Rule::UnknownTrack));
-        }
-        return;
-    };
-    for child in Walk::of(this) {
-        if child.header.kind.0.as_slice() == kind.0.as_slice() {
-            note_tracks(moov, rest, &child, slots, best);
+    for tkhd in Along::of(&[TRAK, TKHD], moov) {
+        if !is_known_in(moov, &tkhd, slots) {
+            note(best, tkhd.fault(Rule::UnknownTrack));
         }
     }
 }
 
 /// The fault of the content of a moov whose tree is good.
-#[tactic(auto, using(crate::proofs::Noting::least_from_append), unfolding(crate::specs::Answers::content_fault, crate::specs::Answers::form_faults, crate::specs::Answers::value_faults, crate::specs::Rules::track_faults))]
+#[tactic(auto, using(mp4_box::proofs::OrderLemmas::least_from_append), unfolding(crate::specs::Moovs::content_fault, crate::specs::Moovs::form_faults, crate::specs::Moovs::value_faults))]
 pub(crate) fn content_fault_of(moov: &BoxRef<'_>) -> Option<Fault>
     ensures { result ≡ content_fault (view moov.now) }
 {
@@ -121,7 +107,7 @@ pub(crate) fn content_fault_of(moov: &BoxRef<'_>) -> Option<Fault>
     if best.is_none() {
         note_samples(moov, &mut best);
         let mut slots = Slots::<SLOTS>::new(moov);
-        note_tracks(moov, &[TRAK, TKHD], moov, &mut slots, &mut best);
+        note_unknown(moov, &mut slots, &mut best);
     }
     best
 }

@@ -1,16 +1,16 @@
 //! Summaries of many track_IDs at once, so that a moov of many tracks is gone over few times.
 
-ghost use Rattle.std.specs.Prelude.{◌≡◌, ◌<◌, length, Some};
+ghost use Rattle.std.specs.Prelude.{◌≡◌, ◌<◌, ◌≤◌, length, Some};
 ghost use Rattle.mp4_box.specs.Paths.{at_path};
 ghost use Rattle.mp4_box.specs.Trees.{view};
-ghost use Rattle.mp4_init.specs.Seeking.{sought};
+ghost use Rattle.mp4_init.specs.SearchTrees.{sought};
 ghost use Rattle.mp4_init.specs.Summaries.{all_told, id_by, root_id, summaries_in, summary_in, told_at};
 
 use crate::fields::number_behind_times;
 use crate::kinds::{MVEX, TKHD, TRAK, TREX};
-use crate::seek::{Ending, NOWHERE, Node, Nodes, search, seek};
+use crate::search_tree::{Ending, NOWHERE, Node, Nodes, search, seek};
 use crate::summary::{NOTHING, Source, Summary, id_in, tell};
-use mp4_box::{BoxRef, FourCc, Walk};
+use mp4_box::{Along, BoxRef, FourCc};
 
 /// Nodes of track_IDs. What has no track_ID of its own has that of the first, and no node leads to it.
 #[derive(Clone, Copy)]
@@ -27,15 +27,13 @@ impl<const N: usize> Nodes for Index<N> {
 }
 
 impl<const N: usize> Index<N> {
-    /// Adds a node behind those that are used, as long as there is room.
+    /// Adds a node behind those that are used.
     fn add(&mut self, id: u32, used: &mut usize)
-        requires { 0 < used.old }
+        requires some { 0 < used.old }
+        requires room { used.old < N }
         ensures root { root_id self.new.nodes ≡ root_id self.old.nodes }
         ensures used { 0 < used.new }
     {
-        if *used >= N {
-            return;
-        }
         if let Ending::Behind(link) = search(self, id) {
             let mut node = self.nodes[link.at];
             if link.is_odd {
@@ -53,21 +51,18 @@ impl<const N: usize> Index<N> {
         }
     }
 
-    /// Adds the track_IDs of the tkhds on a path below a box that begin at the offset or behind it.
-    fn add_along(&mut self, from: u64, path: &[FourCc], this: &BoxRef<'_>, used: &mut usize)
-        requires { 0 < used.old }
-        ensures root { root_id self.new.nodes ≡ root_id self.old.nodes }
-        ensures used { 0 < used.new }
+    /// Adds the track_IDs of the tkhds that begin at the offset or behind it, as long as there is room.
+    fn add_from(&mut self, from: u64, moov: &BoxRef<'_>)
+        requires { 0 < N }
+        ensures { root_id self.new.nodes ≡ root_id self.old.nodes }
     {
-        let Some((kind, rest)) = path.split_first() else {
-            if this.offset >= from {
-                self.add(number_behind_times(this), used);
+        let mut used = 1;
+        for tkhd in Along::of(&[TRAK, TKHD], moov) {
+            if used >= N {
+                return;
             }
-            return;
-        };
-        for child in Walk::of(this) {
-            if child.header.kind.0.as_slice() == kind.0.as_slice() {
-                self.add_along(from, rest, &child, used);
+            if tkhd.offset >= from {
+                self.add(number_behind_times(&tkhd), &mut used);
             }
         }
     }
@@ -89,27 +84,22 @@ fn tell_one<const N: usize>(
     }
 }
 
-/// Tells the boxes on a path below a box to the summaries of their track_IDs.
-#[tactic(auto, using(crate::proofs::Telling::told_end, crate::proofs::Telling::told_more, crate::proofs::Telling::told_first), unfolding(crate::specs::Summaries::all_told))]
+/// Tells the boxes on a path to the summaries of their track_IDs.
+#[tactic(auto, unfolding(crate::specs::Summaries::all_told))]
 fn tell_along<const N: usize>(
     source: Source,
     index: &Index<N>,
     path: &[FourCc],
-    this: &BoxRef<'_>,
+    moov: &BoxRef<'_>,
     summaries: &mut [Summary],
 )
-    requires { length summaries.old ≡ N }
+    requires size { length summaries.old ≡ N }
+    requires path { length path.now ≤ 8 }
     ensures { summaries.new ≡ all_told source index.now.nodes summaries.old
-        (at_path path.now (view this.now)) }
+        (at_path path.now (view moov.now)) }
 {
-    let Some((kind, rest)) = path.split_first() else {
-        tell_one(source, index, this, summaries);
-        return;
-    };
-    for child in Walk::of(this) {
-        if child.header.kind.0.as_slice() == kind.0.as_slice() {
-            tell_along(source, index, rest, &child, summaries);
-        }
+    for this in Along::of(path, moov) {
+        tell_one(source, index, &this, summaries);
     }
 }
 
@@ -137,8 +127,7 @@ impl<const N: usize> Slots<N> {
             odd: NOWHERE,
         };
         let mut index = Index { nodes: [node; N] };
-        let mut used = 1;
-        index.add_along(from, &[TRAK, TKHD], moov, &mut used);
+        index.add_from(from, moov);
         let mut summaries = [NOTHING; N];
         tell_along(Source::Tkhd, &index, &[TRAK, TKHD], moov, &mut summaries);
         tell_along(Source::Trex, &index, &[MVEX, TREX], moov, &mut summaries);

@@ -5,8 +5,8 @@ ghost use Rattle.mp4_box.specs.Trees.{view};
 ghost use Rattle.mp4_init.specs.Summaries.{id_by, told};
 ghost use Rattle.mp4_init.specs.Tracks.{defaults_of};
 
-use crate::fields::{number_at, number_behind_times};
-use mp4_box::BoxRef;
+use crate::fields::number_behind_times;
+use mp4_box::{BoxRef, number_at};
 
 /// The four defaults of a trex (ISO/IEC 14496-12, 8.8.3).
 #[derive(Clone, Copy)]

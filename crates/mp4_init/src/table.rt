@@ -1,13 +1,13 @@
 //! A table of tracks in claimed memory.
 
-ghost use Rattle.std.specs.Prelude.{◌≡◌, ◌+◌, ◌*◌, ◌<◌, ◌≤◌, ◌==◌, ◌↔◌, [], ◌++◌, ◌∷◌, length, map, slice_index_or, IsTrue};
+ghost use Rattle.std.specs.Prelude.{◌≡◌, ◌+◌, ◌*◌, ◌<◌, ◌≤◌, ◌==◌, ◌↔◌, [], ◌++◌, ◌∷◌, length, map, slice_index_or, IfSome, IsTrue};
 ghost use Rattle.std.specs.List.{position};
 ghost use Rattle.mp4_ledger.specs.Memory.{given_back};
 ghost use Rattle.mp4_init.specs.Rows.{node_of_row, track_of_row, with_next};
-ghost use Rattle.mp4_init.specs.Seeking.{IsIndexed};
+ghost use Rattle.mp4_init.specs.SearchTrees.{IsIndexed};
 
 use crate::row::{ended_row, linked_row, node_for, row_for, track_for};
-use crate::seek::{Ending, Node, Nodes, search, seek};
+use crate::search_tree::{Ending, Node, Nodes, search, seek};
 use mp4_ledger::{Ledger, Rows64};
 use std::marker::Model;
 
@@ -43,7 +43,7 @@ impl Model for TrackList {
     ghost use Rattle.std.specs.Prelude.{◌≡◌, List, map, length};
     ghost use Rattle.mp4_init.specs.declared.table.Track.{Track};
     ghost use Rattle.mp4_init.specs.Rows.{node_of_row, track_of_row};
-    ghost use Rattle.mp4_init.specs.Seeking.{IsIndexed};
+    ghost use Rattle.mp4_init.specs.SearchTrees.{IsIndexed};
 
     ghost Value = { List Track };
 
@@ -69,7 +69,7 @@ impl TrackList {
     }
 
     /// The track at this index.
-    #[tactic(auto, using(crate::proofs::Listing::row_at))]
+    #[tactic(auto, using(crate::proofs::RowLemmas::row_at))]
     pub fn at(&self, i: usize) -> Track
         requires { i < length self.now }
         ensures { result ≡ slice_index_or self.now i result }
@@ -89,13 +89,14 @@ impl TrackList {
     /// The index of the track with this track_ID; none where no track has it. It asks one track for each of the 32 bits of
     /// a track_ID at most, and one more.
     pub fn find(&self, id: u32) -> Option<usize>
-        ensures { result ≡ position (λ t. t.id == id) self.now }
+        ensures first { result ≡ position (λ t. t.id == id) self.now }
+        ensures within { IfSome result (λ i. i < length self.now) }
     {
         seek(&self.rows, id)
     }
 
     /// Sets where the last fragment of the track at this index ended.
-    #[tactic(auto, using(crate::proofs::Listing::length_with_next))]
+    #[tactic(auto, using(crate::proofs::RowLemmas::length_with_next))]
     pub fn set_next(&mut self, i: usize, next: u64)
         requires { i < length self.old }
         ensures next { self.new ≡ with_next i next self.old }
@@ -118,7 +119,7 @@ impl TrackList {
 impl Nodes for Rows64 {
     ghost nodes = { λ t. map node_of_row t.rows };
 
-    #[tactic(auto, using(crate::proofs::Listing::node_at, crate::proofs::Listing::node_past))]
+    #[tactic(auto, using(crate::proofs::RowLemmas::node_at, crate::proofs::RowLemmas::node_past))]
     fn node(&self, at: usize) -> Option<Node> {
         if at < self.len() {
             Some(node_for(self.get(at)))

@@ -30,8 +30,8 @@ abbrev pub fitted : List ℕ → ℕ → List ℕ
 fitted xs n = take n xs ++ replicate (n - length xs) 0
 
 -- what stands in the place of xs once w was written there: it is w where the lengths are equal
-abbrev pub over : {X : Type 0} → List X → List X → List X
-over xs w = take (length xs) (w ++ drop (length w) xs)
+abbrev pub overwritten : {X : Type 0} → List X → List X → List X
+overwritten xs w = take (length xs) (w ++ drop (length w) xs)
 
 -- what a buffer and a table have out, where there is one
 abbrev pub bytes_out : Option Bytes → ℕ

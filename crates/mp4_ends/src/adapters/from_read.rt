@@ -1,6 +1,8 @@
 //! A reader of std.
 
-ghost use Rattle.std.specs.Prelude.{◌≡◌, Ok, IfOk, IsErr, OnErr};
+ghost use Rattle.std.specs.Prelude.{◌≡◌, ◌≢◌, ◌<◌, length, true, false, eqb, Ok, IfOk, OnOk, IsErr, OnErr};
+ghost use Rattle.std.specs.Io.{ReadsAtMost};
+ghost use Rattle.std.specs.Io.KnownBytes.{ReadConsumes};
 ghost use Rattle.mp4_ends.specs.Ends.{left_in, state_ended, state_failed};
 ghost use Rattle.mp4_ends.specs.declared.adapters.State.TheVariants.{Open};
 
@@ -43,7 +45,24 @@ impl<R: io::Read> Source for FromRead<R> {
 
     ghost has_ended = { λ s. state_ended s.state };
 
-    fn read(&mut self, into: &mut [u8]) -> Result<usize, Failed> {
+    fn read(&mut self, into: &mut [u8]) -> Result<usize, Failed>
+        requires { 0 < length into.old }
+
+        // Those of every source.
+        ensures bound { ReadsAtMost result into.new }
+        ensures bytes { ReadConsumes (left_in self.old.state (R.remaining self.old.inner))
+            (left_in self.new.state (R.remaining self.new.inner)) result into.new }
+        ensures failed_ok { OnOk result ((state_failed self.old.state ≡ false) ×
+            (state_failed self.new.state ≡ false)) }
+        ensures failed_err { OnErr result (state_failed self.new.state ≡ true) }
+        ensures ended { IfOk result (λ n. (state_ended self.old.state ≡ true → n ≡ 0) ×
+            (state_ended self.new.state ≡ eqb n 0)) }
+        ensures ended_err { OnErr result ((state_ended self.old.state ≡ false) ×
+            (state_ended self.new.state ≡ false)) }
+
+        // Once it has ended or failed nothing changes, the reader within neither.
+        ensures rests { self.old.state ≢ Open → self.new ≡ self.old }
+    {
         match self.state {
             State::Broken => Err(Failed),
             State::Ended => Ok(0),

@@ -1,8 +1,9 @@
 //! A writer of std.
 
-ghost use Rattle.std.specs.Prelude.{◌≡◌, ◌<◌, Ok, IfOk, IsErr, OnOk, OnErr};
+ghost use Rattle.std.specs.Prelude.{◌≡◌, ◌<◌, ◌≤◌, length, true, false, Ok, IfOk, IsErr, OnOk, OnErr};
+ghost use Rattle.std.specs.Io.KnownBytes.{Keeps, WriteAppends};
 ghost use Rattle.mp4_ends.specs.Ends.{state_failed};
-ghost use Rattle.mp4_ends.specs.declared.adapters.State.TheVariants.{Open};
+ghost use Rattle.mp4_ends.specs.declared.adapters.State.TheVariants.{Open, Broken};
 
 use super::State;
 use crate::streams::{Failed, Sink};
@@ -42,7 +43,20 @@ impl<W: io::Write> Sink for IntoWrite<W> {
 
     ghost has_failed = { λ s. state_failed s.state };
 
-    fn write(&mut self, from: &[u8]) -> Result<usize, Failed> {
+    fn write(&mut self, from: &[u8]) -> Result<usize, Failed>
+        requires { 0 < length from.now }
+
+        // Those of every sink.
+        ensures bound { IfOk result (λ n. (0 < n) × (n ≤ length from.now)) }
+        ensures bytes { WriteAppends (W.contents self.old.inner) (W.contents self.new.inner) result
+            from.now }
+        ensures failed_ok { OnOk result ((state_failed self.old.state ≡ false) ×
+            (state_failed self.new.state ≡ false)) }
+        ensures failed_err { OnErr result (state_failed self.new.state ≡ true) }
+
+        // Once it has failed nothing changes, the writer within neither.
+        ensures rests { self.old.state ≡ Broken → self.new ≡ self.old }
+    {
         if self.failed() {
             return Err(Failed);
         }
@@ -55,7 +69,16 @@ impl<W: io::Write> Sink for IntoWrite<W> {
         }
     }
 
-    fn flush(&mut self) -> Result<(), Failed> {
+    fn flush(&mut self) -> Result<(), Failed>
+        // Those of every sink.
+        ensures bytes { Keeps (W.contents self.old.inner) (W.contents self.new.inner) }
+        ensures failed_ok { OnOk result ((state_failed self.old.state ≡ false) ×
+            (state_failed self.new.state ≡ false)) }
+        ensures failed_err { OnErr result (state_failed self.new.state ≡ true) }
+
+        // Once it has failed nothing changes, the writer within neither.
+        ensures rests { self.old.state ≡ Broken → self.new ≡ self.old }
+    {
         if self.failed() {
             return Err(Failed);
         }

@@ -2,7 +2,7 @@ use Rattle.std.proofs.Common.{◌∙◌, sym, arith}
 use Rattle.mp4_box.specs.Trees.{tree_faults}
 use Rattle.mp4_box.specs.Order.{IsLeast}
 use Rattle.mp4_box.proofs.GrammarLemmas.{tree_law}
-use Rattle.mp4_box.proofs.RunLemmas.{tree-least, if_err_by}
+use Rattle.mp4_box.proofs.TreeOrderLemmas.{tree-least, if_err_by}
 use Rattle.mp4_box.proofs.tree.check_tree.Goals as goal
 
 pub returns-clause-good : goal.returns-clause-good

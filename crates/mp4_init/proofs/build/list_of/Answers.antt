@@ -4,7 +4,7 @@ use Rattle.mp4_box.specs.Paths.{of_kind}
 use Rattle.mp4_box.specs.Trees.{children, view}
 use Rattle.mp4_init.specs.Kinds.{trak}
 use Rattle.mp4_init.specs.Tracks.{track_of}
-use Rattle.mp4_init.proofs.Linking.{indexed_none}
+use Rattle.mp4_init.proofs.LinkLemmas.{indexed_none}
 use Rattle.mp4_init.proofs.build.list_of.Goals as goal
 
 pub loop-trak-init : goal.loop-trak-init

@@ -5,7 +5,7 @@ use Rattle.mp4_box.specs.Paths.{of_kind}
 use Rattle.mp4_init.specs.Kinds.{trak}
 use Rattle.mp4_init.specs.Rows.{node_of_row, track_of_row}
 use Rattle.mp4_init.specs.Tracks.{track_of, tracks_of}
-use Rattle.mp4_init.specs.Seeking.{IsIndexed}
+use Rattle.mp4_init.specs.SearchTrees.{IsIndexed}
 use Rattle.mp4_init.specs.declared.slots.TheConstants.{SLOTS}
 use Rattle.mp4_init.specs.Summaries.{summaries_in}
 use Rattle.mp4_init.proofs.build.list_of.Given as goal

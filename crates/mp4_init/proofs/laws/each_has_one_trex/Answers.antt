@@ -1,4 +1,4 @@
-use Rattle.mp4_init.proofs.SizeLemmas.{one_trex_each}
+use Rattle.mp4_init.proofs.TrackLemmas.{one_trex_each}
 use Rattle.mp4_init.proofs.laws.each_has_one_trex.Goals as goal
 
 pub returns : goal.returns

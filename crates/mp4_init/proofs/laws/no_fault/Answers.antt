@@ -1,4 +1,4 @@
-use Rattle.mp4_init.proofs.Answering.{nothing_at_fault}
+use Rattle.mp4_init.proofs.MoovLemmas.{nothing_at_fault}
 use Rattle.mp4_init.proofs.laws.no_fault.Goals as goal
 
 pub returns : goal.returns

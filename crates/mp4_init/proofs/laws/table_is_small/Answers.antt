@@ -1,4 +1,4 @@
-use Rattle.mp4_init.proofs.SizeLemmas.{table_small}
+use Rattle.mp4_init.proofs.TrackLemmas.{table_small}
 use Rattle.mp4_init.proofs.laws.table_is_small.Goals as goal
 
 pub returns : goal.returns

@@ -2,8 +2,8 @@ use Rattle.std.proofs.Common.{refl, rules, subst}
 use Rattle.mp4_box.specs.declared.rules.Fault.{Fault}
 use Rattle.mp4_box.specs.Order.{IsLeast}
 use Rattle.mp4_box.specs.Trees.{view}
-use Rattle.mp4_init.specs.Answers.{moov_faults}
-use Rattle.mp4_init.proofs.Answering.{box_least, stop_is}
+use Rattle.mp4_init.specs.Moovs.{moov_faults}
+use Rattle.mp4_init.proofs.MoovLemmas.{box_least, stop_is}
 use Rattle.mp4_init.proofs.moov.tracks.Goals as goal
 
 pub returns-in-Some-clause-least : goal.returns-in-Some-clause-least

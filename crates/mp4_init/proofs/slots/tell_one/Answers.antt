@@ -1,6 +1,6 @@
 use Rattle.std.proofs.Common.{rules, ◌∙◌, sym}
 use Rattle.mp4_box.specs.Trees.{view}
-use Rattle.mp4_init.proofs.Telling.{told_here}
+use Rattle.mp4_init.proofs.SummaryTableLemmas.{told_here}
 use Rattle.mp4_init.proofs.slots.tell_one.Goals as goal
 
 pub returns-in-Some : goal.returns-in-Some

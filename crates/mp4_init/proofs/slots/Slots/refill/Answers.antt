@@ -1,5 +1,5 @@
 use Rattle.std.proofs.Common.{rules}
-use Rattle.mp4_init.proofs.Seeking.{root_found}
+use Rattle.mp4_init.proofs.SearchTreeLemmas.{root_found}
 use Rattle.mp4_init.proofs.slots.Slots.refill.Goals as goal
 
 pub returns-clause-place : goal.returns-clause-place

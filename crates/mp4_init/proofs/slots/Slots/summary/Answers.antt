@@ -1,6 +1,6 @@
 use Rattle.std.proofs.Common.{rules}
 use Rattle.mp4_box.specs.Trees.{view}
-use Rattle.mp4_init.proofs.Telling.{summary_at_place}
+use Rattle.mp4_init.proofs.SummaryTableLemmas.{summary_at_place}
 use Rattle.mp4_init.proofs.slots.Slots.summary.Goals as goal
 
 pub returns-clause-summary : goal.returns-clause-summary

@@ -1,0 +1,64 @@
+//! Callers of the libraries, which their pages `CALLING.md` quote.
+
+ghost use Rattle.std.specs.Prelude.{◌≡◌, ◌+◌, ◌*◌, ◌^◌, ◌≤◌, ◌==◌, ◌∷◌, [], length, codes, not, IfOk, IfErr, Some};
+ghost use Rattle.std.specs.List.{list_all, position};
+ghost use Rattle.std.specs.Option.{is_some};
+ghost use Rattle.mp4_box.specs.Fields.{number_in};
+ghost use Rattle.mp4_box.specs.Headers.{IsWhole};
+ghost use Rattle.mp4_box.specs.Order.{IsLeast};
+ghost use Rattle.mp4_box.specs.Paths.{at_path, of_kind};
+ghost use Rattle.mp4_box.specs.Trees.{Box, box_at, children, tree_faults, view};
+ghost use Rattle.mp4_init.specs.Moovs.{moov_tracks};
+ghost use Rattle.library_tests.specs.Kinds.{to_trun, traf};
+
+use mp4_box::{Along, BoxRef, Fault, FourCc, check_tree, count_of, number_at, whole_box};
+use mp4_init::{InitStop, tracks};
+use mp4_ledger::Ledger;
+
+const TRAF: FourCc = FourCc(*b"traf");
+
+const TRUN: FourCc = FourCc(*b"trun");
+
+/// How many track fragments a moof has, which is one whole box that begins at `offset`; or the fault of its tree.
+pub fn track_fragments(moof: &[u8], offset: u64) -> Result<u64, Fault>
+    requires whole { IsWhole moof.now }
+    requires room { offset + length moof.now ≤ 2 ^ 62 }
+    ensures ok { IfOk result (λ n. (b : Box) → box_at offset moof.now ≡ Some b →
+        n ≡ length (of_kind traf (children b))) }
+    ensures err { IfErr result (λ f. IsLeast f (tree_faults offset moof.now)) }
+{
+    if let Err(fault) = check_tree(moof, offset) {
+        return Err(fault);
+    }
+    Ok(count_of(TRAF, &whole_box(moof, offset)))
+}
+
+/// Whether each run of a moof has samples: its sample_count (ISO/IEC 14496-12, 8.8.8) isn't 0.
+pub fn runs_have_samples(moof: &BoxRef<'_>) -> bool
+    ensures { result ≡ list_all (λ trun. not (number_in trun.payload 4 == 0))
+        (at_path to_trun (view moof.now)) }
+{
+    for trun in Along::of(&[TRAF, TRUN], moof) {
+        if number_at(trun.payload, 4) == 0 {
+            return false;
+        }
+    }
+    true
+}
+
+/// Whether a moov has a track of this track_ID. What is claimed for its tracks is given back.
+pub fn has_track(ledger: &mut Ledger, moov: &[u8], offset: u64, id: u32) -> Result<bool, InitStop>
+    requires whole { IsWhole moov.now }
+    requires room { offset + length moov.now ≤ 2 ^ 62 }
+    ensures ok { IfOk result (λ has. has ≡
+        is_some (position (λ t. t.id == id) (moov_tracks offset moov.now))) }
+    ensures live { ledger.new.live ≡ ledger.old.live }
+{
+    let list = match tracks(ledger, moov, offset) {
+        Ok(list) => list,
+        Err(stop) => return Err(stop),
+    };
+    let has = list.find(id).is_some();
+    list.back(ledger);
+    Ok(has)
+}
