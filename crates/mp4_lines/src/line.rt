@@ -1,13 +1,13 @@
 //! A line of text under construction.
 
-ghost use Rattle.std.specs.Prelude.{◌≡◌, ◌+◌, ◌*◌, ◌≤◌, ◌++◌, [], length, List, ℕ};
-ghost use Rattle.arrayvec.specs.ArrayVec.{array_vec_len};
+ghost use Rattle.std.specs.Prelude.{◌≡◌, ◌+◌, ◌*◌, ◌≤◌, ◌++◌, [], length};
 ghost use Rattle.std.specs.Fmt.{decimal, signed_decimal};
 ghost use Rattle.mp4_lines.specs.Digits.{hex_bytes};
 
-use crate::digits::{DECIMAL_DIGITS, SIGNED_DECIMAL_BYTES, WIDE_DECIMAL_DIGITS, hex_digit};
-use arrayvec::ArrayVec;
-use itoa::Buffer;
+use crate::digits::{
+    DECIMAL_DIGITS, SIGNED_DECIMAL_BYTES, WIDE_DECIMAL_DIGITS, decimal_len, hex_digit,
+};
+use itoa::{Buffer, write_digits};
 use std::marker::Model;
 
 /// The most bytes that a line holds.
@@ -16,13 +16,19 @@ pub const LINE_CAPACITY: usize = 160;
 /// A line of at most [`LINE_CAPACITY`] bytes. A contract sees it as the list of its bytes.
 #[derive(Drop)]
 pub struct Line {
-    text: ArrayVec<u8, LINE_CAPACITY>,
+    text: [u8; LINE_CAPACITY],
+    len: usize,
 }
 
 impl Model for Line {
+    ghost use Rattle.std.specs.Prelude.{◌≡◌, ◌≤◌, length, take, List, ℕ};
+    ghost use Rattle.mp4_lines.specs.declared.line.TheConstants.{LINE_CAPACITY};
+
     ghost Value = { List ℕ };
 
-    ghost view = { λ l. l.text.items };
+    ghost view = { λ l. take l.len l.text };
+
+    ghost invariant = { λ l. (l.len ≤ LINE_CAPACITY) × (length l.text ≡ LINE_CAPACITY) };
 }
 
 impl Line {
@@ -31,7 +37,8 @@ impl Line {
         ensures { result ≡ [] }
     {
         Line {
-            text: ArrayVec::new(),
+            text: [0; LINE_CAPACITY],
+            len: 0,
         }
     }
 
@@ -39,7 +46,7 @@ impl Line {
     pub fn bytes(&self) -> &[u8]
         ensures { result.now ≡ self.now }
     {
-        self.text.as_slice()
+        &self.text[..self.len]
     }
 
     /// Appends these bytes.
@@ -48,10 +55,9 @@ impl Line {
         ensures text { self.new ≡ self.old ++ bytes.now }
         ensures len { length self.new ≡ length self.old + length bytes.now }
     {
-        match self.text.try_extend_from_slice(bytes) {
-            Ok(()) => {}
-            Err(_) => unreachable!(),
-        }
+        let end = self.len + bytes.len();
+        self.text[self.len..end].copy_from_slice(bytes);
+        self.len = end;
     }
 
     /// Appends the number in decimal, at most [`DECIMAL_DIGITS`] bytes.
@@ -60,8 +66,9 @@ impl Line {
         ensures text { self.new ≡ self.old ++ decimal number }
         ensures len { length self.new ≤ length self.old + DECIMAL_DIGITS }
     {
-        let mut digits = Buffer::new();
-        self.push_bytes(digits.format(number).as_bytes());
+        let end = self.len + decimal_len(number);
+        write_digits(number, &mut self.text, end);
+        self.len = end;
     }
 
     /// Appends the number in decimal, at most [`WIDE_DECIMAL_DIGITS`] bytes.
@@ -70,8 +77,12 @@ impl Line {
         ensures text { self.new ≡ self.old ++ decimal number }
         ensures len { length self.new ≤ length self.old + WIDE_DECIMAL_DIGITS }
     {
-        let mut wide = Buffer::new();
-        self.push_bytes(wide.format(number).as_bytes());
+        if number <= u64::MAX as u128 {
+            self.push_decimal(number as u64);
+            return;
+        }
+        let mut digits = Buffer::new();
+        self.push_bytes(digits.format(number).as_bytes());
     }
 
     /// Appends the number in decimal, a negative one behind a minus sign: at most [`SIGNED_DECIMAL_BYTES`] bytes.
@@ -80,8 +91,10 @@ impl Line {
         ensures text { self.new ≡ self.old ++ signed_decimal number }
         ensures len { length self.new ≤ length self.old + SIGNED_DECIMAL_BYTES }
     {
-        let mut signed = Buffer::new();
-        self.push_bytes(signed.format(number).as_bytes());
+        if number < 0 {
+            self.push_bytes(b"-");
+        }
+        self.push_wide_decimal(number.unsigned_abs());
     }
 
     /// Appends the bytes in hexadecimal, two digits each, in lower case.
@@ -91,8 +104,7 @@ impl Line {
         ensures len { length self.new ≡ length self.old + 2 * length bytes.now }
     {
         for byte in bytes {
-            self.text.push(hex_digit(*byte / 16));
-            self.text.push(hex_digit(*byte % 16));
+            self.push_bytes(&[hex_digit(*byte / 16), hex_digit(*byte % 16)]);
         }
     }
 }
