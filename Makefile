@@ -1,22 +1,31 @@
-# `make demo` lists the boxes of the first test vector, `make demo IN=stream.mp4` those of another file.
-# `make test` proves everything from nothing and runs every test. Both need Rattle's toolchain alone.
+# make demo         proves and builds the program, and lists the boxes of a small stream (IN=stream.mp4: of yours)
+# make test         proves everything from nothing, and runs every test
+# make install      puts the program and its manual page below PREFIX
+# All but install need Rattle's toolchain. The others are for working on fmp4.
 IN ?= crates/fmp4/stdin
+PREFIX ?= /usr/local
 
-.PHONY: demo build moov_tracks test refusals manual bench
+.PHONY: demo build moov_tracks test install refusals manual bench
 
 demo: build
 	@crates/fmp4/out/fmp4 boxes < "$(IN)"
 
 build:
-	@mkdir -p crates/fmp4/out
-	@cd crates/fmp4 && rt run -- boxes < stdin > /dev/null 2> out/build.log || { cat out/build.log >&2; exit 1; }
+	@scripts/build fmp4 boxes
 
 moov_tracks:
-	@mkdir -p crates/moov_tracks/out
-	@cd crates/moov_tracks && rt run < stdin > /dev/null 2> out/build.log || { cat out/build.log >&2; exit 1; }
+	@scripts/build moov_tracks
 
 test:
+	@scripts/needs_rt
+	@echo "proving everything from nothing and running the tests: about half an hour on 4 cores" >&2
 	@rt ci
+
+install:
+	@test -x crates/fmp4/out/fmp4 || { echo "there is no crates/fmp4/out/fmp4: run 'make build' first" >&2; exit 1; }
+	install -d "$(DESTDIR)$(PREFIX)/bin" "$(DESTDIR)$(PREFIX)/share/man/man1"
+	install -m 755 crates/fmp4/out/fmp4 "$(DESTDIR)$(PREFIX)/bin/fmp4"
+	install -m 644 docs/fmp4.1 "$(DESTDIR)$(PREFIX)/share/man/man1/fmp4.1"
 
 # Runs the programs with each of their allocations refused in turn.
 refusals: build moov_tracks
@@ -26,9 +35,8 @@ refusals: build moov_tracks
 manual:
 	@scripts/check_manual
 
-# Lists a stream of 1 GiB beside `cat`, and one of small fragments beside a plain Rust program, and the tracks of moovs of
-# 16 MiB.
+# Measures the program beside others; see bench/README.md.
 bench: build moov_tracks
 	@bench/large_boxes
-	@bench/small_fragments
+	@bench/small_boxes
 	@bench/many_tracks
