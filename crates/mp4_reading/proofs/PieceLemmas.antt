@@ -121,17 +121,17 @@ module _ {o o' : Outside} {p q : Standing} (low : p.claim ≤ o.account.live) (i
 
 -- ---- a call
 
-pub Takes-ok : {T : Type 0} {around : Around} {old : Standing} {piece : List ℕ} {taken : T → List ℕ} {new : T → Standing} {t : T} → GoesOn around.before around.behind old (taken t) (new t) → Takes around old piece taken new (Ok t)
-Takes-ok g = record { ok = g; err = tt; failed = λ e. absurd cc }
+pub Takes-ok : {T : Type 0} {around : Around} {old : Standing} {piece : List ℕ} {taken : T → List ℕ} {new : T → Standing} {t : T} → GoesOn around.before around.behind old (taken t) (new t) → around.failed' ≡ around.failed → Takes around old piece taken new (Ok t)
+Takes-ok g kept = record { ok = g; err = tt; failed = λ e. absurd cc; kept = λ _. kept }
 
-pub Takes-err : {T : Type 0} {around : Around} {old : Standing} {piece : List ℕ} {taken : T → List ℕ} {new : T → Standing} {e : Stop} → ((more : List ℕ) → StopsAt around.before around.behind old (piece ++ more) e) → (e ≡ Write → around.failed ≡ true) → Takes around old piece taken new (Err e)
-Takes-err stops failed = record { ok = tt; err = stops; failed = λ e. failed cc }
+pub Takes-err : {T : Type 0} {around : Around} {old : Standing} {piece : List ℕ} {taken : T → List ℕ} {new : T → Standing} {e : Stop} → ((more : List ℕ) → StopsAt around.before around.behind old (piece ++ more) e) → (e ≡ Write → around.failed' ≡ true) → ((e ≡ Write → ⊥) → around.failed' ≡ around.failed) → Takes around old piece taken new (Err e)
+Takes-err stops failed kept = record { ok = tt; err = stops; failed = λ e. failed cc; kept = λ other. kept (λ is. other (ap Err is)) }
 
 -- bytes came of which nothing was told, and then a call that takes none
 pub Takes-behind : {T : Type 0} {around : Around} {p q : Standing} {x : List ℕ} {new : T → Standing} {result : Result T Stop} → p.claim ≤ around.before.account.live → GoesOn around.before around.before p x q
     → Takes around q [] (λ _. []) new result → Takes around p x (λ _. x) new result
-Takes-behind {T = T} {around = around} {p = p} {q = q} {x = x} {new = new} {result = Ok t} low g h = Takes-ok (subst (λ l. GoesOn around.before around.behind p l (new t)) (append-nil x) (GoesOn-more {p = p} low g [] (new t) h.ok))
-Takes-behind {T = T} {around = around} {p = p} {q = q} {x = x} {new = new} {result = Err e} low g h = Takes-err (λ more. StopsAt-more {p = p} low g around.behind more e (h.err more)) (λ is. h.failed (ap Err is))
+Takes-behind {T = T} {around = around} {p = p} {q = q} {x = x} {new = new} {result = Ok t} low g h = Takes-ok (subst (λ l. GoesOn around.before around.behind p l (new t)) (append-nil x) (GoesOn-more {p = p} low g [] (new t) h.ok)) (h.kept (λ e. absurd cc))
+Takes-behind {T = T} {around = around} {p = p} {q = q} {x = x} {new = new} {result = Err e} low g h = Takes-err (λ more. StopsAt-more {p = p} low g around.behind more e (h.err more)) (λ is. h.failed (ap Err is)) (λ other. h.kept (λ is. other cc))
 
 -- ---- what waits is sent at the end of a piece
 
@@ -209,17 +209,17 @@ Loses-waiting o o' x p xs g = λ later. record { text = (g later).text; spends =
 -- ---- a call, and then what waits is sent
 
 abbrev pub sent_behind : Around → Option (List ℕ) → List ℕ → Bool → Around
-sent_behind a u x failed = record { before = a.before; behind = sent_to a.behind u x; failed = failed }
+sent_behind a u x failed' = record { before = a.before; behind = sent_to a.behind u x; failed = a.failed; failed' = failed' }
 
-pub Takes-sent : {T : Type 0} {around : Around} {old : Standing} {piece : List ℕ} {taken : T → List ℕ} {new : T → Standing} (r : Result T Stop) (u : Option (List ℕ)) (x : List ℕ) (failed : Bool) → (r ≡ Err Write → ⊥) → Takes around old piece taken new r
-    → Passes around.behind.written u around.behind.waiting x [] → Takes (sent_behind around u x failed) old piece taken new r
-Takes-sent (Ok t) u x failed other h p = Takes-ok (GoesOn-sent h.ok p)
-Takes-sent {around = around} {old = old} {piece = piece} (Err e) u x failed other h p =
-    Takes-err (λ more. StopsAt-sent around.before around.behind u x old (piece ++ more) e (λ is. other (ap Err is)) (h.err more) p) (λ is. absurd (other (ap Err is)))
+pub Takes-sent : {T : Type 0} {around : Around} {old : Standing} {piece : List ℕ} {taken : T → List ℕ} {new : T → Standing} (r : Result T Stop) (u : Option (List ℕ)) (x : List ℕ) (failed' : Bool) → (r ≡ Err Write → ⊥) → Takes around old piece taken new r
+    → Passes around.behind.written u around.behind.waiting x [] → failed' ≡ around.failed' → Takes (sent_behind around u x failed') old piece taken new r
+Takes-sent (Ok t) u x failed' other h p kept = Takes-ok (GoesOn-sent h.ok p) (kept ∙ h.kept other)
+Takes-sent {around = around} {old = old} {piece = piece} (Err e) u x failed' other h p kept =
+    Takes-err (λ more. StopsAt-sent around.before around.behind u x old (piece ++ more) e (λ is. other (ap Err is)) (h.err more) p) (λ is. absurd (other (ap Err is))) (λ _. kept ∙ h.kept other)
 
 -- what waits can't be sent, and what is claimed is given back
 abbrev pub lost_behind : Around → Option (List ℕ) → List ℕ → Account → Around
-lost_behind a u x account = record { before = a.before; behind = lost_to a.behind u x account; failed = true }
+lost_behind a u x account = record { before = a.before; behind = lost_to a.behind u x account; failed = a.failed; failed' = true }
 
 pub Takes-unsent : {T : Type 0} {around : Around} {old : Standing} {piece : List ℕ} {taken : T → List ℕ} {new new' : T → Standing} (r : Result T Stop) (u : Option (List ℕ)) (x : List ℕ) (a : Account) (claim : ℕ) → (r ≡ Err Write → ⊥) → Takes around old piece taken new r
     → ((t : T) → r ≡ Ok t → ((taken t ≡ piece) × ((new t).claim ≡ claim))) → OnErr r (claim ≡ 0) → claim ≤ around.behind.account.live → AppendsPrefix around.behind.written u around.behind.waiting → a ≡ given_back around.behind.account claim
@@ -227,11 +227,11 @@ pub Takes-unsent : {T : Type 0} {around : Around} {old : Standing} {piece : List
 Takes-unsent {around = around} {old = old} {piece = piece} {new = new} (Ok t) u x a claim other h here spent low f back =
     let same = here t refl in
     Takes-err (λ more later. subst (λ l. Loses around.before (lost_to around.behind u x a) old.claim (old.reads l)) (sym (append_assoc piece more later))
-    (subst (λ l. Loses around.before (lost_to around.behind u x a) old.claim (old.reads (l ++ (more ++ later)))) same.0 (GoesOn-unsent u x a f (omega (arith, same.1, low)) (back ∙ ap (given_back around.behind.account) (sym same.1)) h.ok (more ++ later)))) (λ is. refl)
+    (subst (λ l. Loses around.before (lost_to around.behind u x a) old.claim (old.reads (l ++ (more ++ later)))) same.0 (GoesOn-unsent u x a f (omega (arith, same.1, low)) (back ∙ ap (given_back around.behind.account) (sym same.1)) h.ok (more ++ later)))) (λ is. refl) (λ never. absurd (never refl))
 Takes-unsent {around = around} {old = old} {piece = piece} (Err e) u x a claim other h here spent low f back =
     let same : a ≡ around.behind.account = back ∙ ap (given_back around.behind.account) spent ∙ sym (none_back around.behind.account) in
     Takes-err (λ more later. subst (λ k. Loses around.before (lost_to around.behind u x k) old.claim (old.reads ((piece ++ more) ++ later))) (sym same)
-    (StopsAt-unsent around.before around.behind u x old (piece ++ more) e f (λ is. other (ap Err is)) (h.err more) later)) (λ is. refl)
+    (StopsAt-unsent around.before around.behind u x old (piece ++ more) e f (λ is. other (ap Err is)) (h.err more) later)) (λ is. refl) (λ never. absurd (never refl))
 
 -- ---- all the bytes so far
 

@@ -137,7 +137,7 @@ module _ (whole : List ℕ → Reading) (b : List ℕ) (start : Outside) (marked
           }
 
       -- how it stops
-      pub fed-stops : (ends : Ends) (few : length piece ≤ start.account.live) → ends.written ≡ start.written → ends.written' ≡ then.written → then.waiting ≡ [] → (e : Stop) → (e ≡ Write → ends.write_failed ≡ true) → StopsAt now then p piece e
+      pub fed-stops : (ends : Ends) (few : length piece ≤ start.account.live) → ends.written ≡ start.written → ends.written' ≡ then.written → then.waiting ≡ [] → (e : Stop) → (e ≡ Write → ends.write_failed' ≡ true) → StopsAt now then p piece e
           → ComesUntil (run_of whole (b ++ piece) start then ends) (prompt-read piece then ends few) e
       unfolding starves
       fed-stops ends few from to none (Stream f) failed g =
@@ -169,24 +169,26 @@ takes-left {around = around} {p = p} {piece = piece} {e = e} low t = left_by aro
 
 -- and so does a run that was fed the bytes before
 pub fed-takes : {T : Type 0} {around : Around} {p : Standing} {piece : List ℕ} {taken : T → List ℕ} {new : T → Standing} {e : Stop} (whole : List ℕ → Reading) (b : List ℕ) (start : Outside) (marked : start.account.peak ≡ start.account.live) (s : IsFed whole b start around.before p) → around.before.waiting ≡ [] → p.claim ≤ around.before.account.live
-    → (ends : Ends) (few : length piece ≤ start.account.live) → ends.written ≡ start.written → ends.written' ≡ around.behind.written → around.behind.waiting ≡ [] → ends.write_failed ≡ around.failed → Takes around p piece taken new (Err e)
+    → (ends : Ends) (few : length piece ≤ start.account.live) → ends.written ≡ start.written → ends.written' ≡ around.behind.written → around.behind.waiting ≡ [] → ends.write_failed' ≡ around.failed' → Takes around p piece taken new (Err e)
     → ComesUntil (run_of whole (b ++ piece) start around.behind ends) (prompt-read whole b start marked s piece around.behind ends few) e
 fed-takes {around = around} {p = p} {piece = piece} {e = e} whole b start marked s waiting low ends few from to none failed t =
     fed-stops whole b start marked s around.behind piece waiting low ends few from to none e (λ is. failed ∙ t.failed (ap Err is)) (subst (λ l. StopsAt around.before around.behind p l e) (append-nil piece) (t.err []))
 
 -- ---- a run whose bytes to read into were refused
 
-pub idle-stops : {T : Type 0} (whole : List ℕ → Reading) (ends : Ends) (claims : Claims) (live : ℕ) (r : Refused) → whole [] ≡ nothing → Consumes ends.left ends.left' [] → Appends ends.written ends.written' [] → live ≡ 0 → claims.peak ≡ live
+pub idle-stops : {T : Type 0} (whole : List ℕ → Reading) (ends : Ends) (claims : Claims) (live : ℕ) (r : Refused) → whole [] ≡ nothing → Consumes ends.left ends.left' [] → Appends ends.written ends.written' [] → ends.write_failed' ≡ ends.write_failed → live ≡ 0 → claims.peak ≡ live
     → (r ≡ refusals.OverLimit → claims.limit < live + claims.copy) → (r ≡ refusals.Memory → live + claims.copy ≤ claims.limit) → Runs {T = T} whole ends claims uncounted (Err (refusal_of r))
-idle-stops whole ends claims live refusals.OverLimit none given kept idle peak over within = record {
+idle-stops whole ends claims live refusals.OverLimit none given kept failed idle peak over within = record {
   bytes = [];
   given = given;
   prompt = record { early = []; last = []; cut = refl; few = omega arith; undecided = ap (λ r. early_in r.outcome) none };
   comes = inl (record { bytes = refl; text = kept; peak = peak ∙ idle }, omega (arith, over refl, idle));
+  kept = λ _. failed;
 }
-idle-stops whole ends claims live refusals.Memory none given kept idle peak over within = record {
+idle-stops whole ends claims live refusals.Memory none given kept failed idle peak over within = record {
   bytes = [];
   given = given;
   prompt = record { early = []; last = []; cut = refl; few = omega arith; undecided = ap (λ r. early_in r.outcome) none };
   comes = inl (record { bytes = refl; text = kept; peak = peak ∙ idle }, omega (arith, within refl, idle));
+  kept = λ _. failed;
 }

@@ -81,17 +81,19 @@ refusal_of refusals.Memory = Memory
 
 -- ---- a call
 
--- what is outside before and behind a call, and whether the writer has failed then
+-- what is outside before and behind a call, and whether the writer had failed and has
 pub record Around : Type 0 where
   pub before : Outside
   pub behind : Outside
   pub failed : Bool
+  pub failed' : Bool
 
 -- a call takes bytes from the front of a piece, by its result; where it stops, so does a machine that is fed the piece with any bytes behind it
 pub record Takes {T : Type 0} (around : Around) (old : Standing) (piece : List ℕ) (taken : T → List ℕ) (new : T → Standing) (result : Result T Stop) : Type 0 where
   pub ok : IfOk result (λ t. GoesOn around.before around.behind old (taken t) (new t))
   pub err : IfErr result (λ e. (more : List ℕ) → StopsAt around.before around.behind old (piece ++ more) e)
-  pub failed : IsErrOf result Write → around.failed ≡ true
+  pub failed : IsErrOf result Write → around.failed' ≡ true
+  pub kept : (IsErrOf result Write → ⊥) → around.failed' ≡ around.failed
 
 -- ---- every list of pieces
 

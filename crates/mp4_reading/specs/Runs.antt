@@ -1,5 +1,5 @@
 -- What a run over a whole stream answers, writes and claims, whatever is read.
-use Rattle.std.specs.Prelude.{◌≡◌, ◌⊎◌, ℕ, ◌+◌, ◌<◌, ◌≤◌, List, [], ◌∷◌, ◌++◌, length, take, Bool, true, Option, None, Some, Result, Ok, Err}
+use Rattle.std.specs.Prelude.{◌≡◌, ◌⊎◌, ℕ, ◌+◌, ◌<◌, ◌≤◌, List, [], ◌∷◌, ◌++◌, length, take, Bool, true, Option, None, Some, Result, Ok, Err, IsErrOf}
 use Rattle.std.specs.Io.KnownBytes.{Appends, Consumes}
 use Rattle.mp4_ends.specs.Streams.{AppendsPrefix}
 use Rattle.mp4_reading.specs.Readings.{Ask, greatest, Told, most_of, Reading, fault_in, early_in, IsPrefix}
@@ -7,7 +7,7 @@ use Rattle.mp4_reading.specs.declared.stop.Stop.{Stop}
 use Rattle.mp4_reading.specs.declared.stop.Stop.TheVariants.{Stream, Read, Write, OverLimit, Memory}
 use Rattle.mp4_reading.specs.declared.tally.Tally.{Tally}
 
--- what the two ends tell: the bytes that reads will give before a run and after it, those that were written, whether the stream has ended, and which end has failed
+-- what the two ends tell before a run and after it: the bytes that reads will give, those that were written, whether the stream has ended, and which end has failed
 pub record Ends : Type 0 where
   pub left : Option (List ℕ)
   pub left' : Option (List ℕ)
@@ -16,6 +16,7 @@ pub record Ends : Type 0 where
   pub ended : Bool
   pub read_failed : Bool
   pub write_failed : Bool
+  pub write_failed' : Bool
 
 -- how many bytes are claimed to read into, how many may be claimed, and the most that were at once
 pub record Claims : Type 0 where
@@ -76,7 +77,7 @@ pub record IsIdle (run : Run) : Type 0 where
 abbrev pub ComesUntil : (run : Run) → IsPrompt run → Stop → Type 0
 ComesUntil run prompt (Stream f) = TellsAll run × (fault_in (reading_of run).outcome ≡ Some f) × (early_in (reading_of run).outcome ≡ None → run.ends.ended ≡ true)
 ComesUntil run prompt (Read at) = TellsAll run × (early_in (reading_of run).outcome ≡ None) × (at ≡ length run.bytes) × (run.ends.read_failed ≡ true)
-ComesUntil run prompt Write = TellsSome run × (run.ends.write_failed ≡ true)
+ComesUntil run prompt Write = TellsSome run × (run.ends.write_failed' ≡ true)
 ComesUntil run prompt OverLimit = (IsIdle run × (run.claims.limit < run.claims.copy)) ⊎ ((s : StarvesAt run prompt) × (run.claims.limit < run.claims.copy + s.ask.sum))
 ComesUntil run prompt Memory = (IsIdle run × (run.claims.copy ≤ run.claims.limit)) ⊎ ((s : StarvesAt run prompt) × (run.claims.copy + s.ask.sum ≤ run.claims.limit))
 
@@ -84,9 +85,10 @@ abbrev pub Comes : {T : Type 0} → (run : Run) → IsPrompt run → Result T St
 Comes run prompt (Ok _) = TellsAll run × (fault_in (reading_of run).outcome ≡ None) × (run.ends.ended ≡ true)
 Comes run prompt (Err stop) = ComesUntil run prompt stop
 
--- a run over a stream of which bytes are read so: of the bytes that it was given, the answer and what it brings
+-- a run over a stream of which bytes are read so: of the bytes that it was given, the answer and what it brings; a write that failed is always told
 pub record Runs {T : Type 0} (whole : List ℕ → Reading) (ends : Ends) (claims : Claims) (tally : Tally) (result : Result T Stop) : Type 0 where
   pub bytes : List ℕ
   pub given : Consumes ends.left ends.left' bytes
   pub prompt : IsPrompt (record { whole = whole; bytes = bytes; ends = ends; claims = claims; tally = tally })
   pub comes : Comes (record { whole = whole; bytes = bytes; ends = ends; claims = claims; tally = tally }) prompt result
+  pub kept : (IsErrOf result Write → ⊥) → ends.write_failed' ≡ ends.write_failed

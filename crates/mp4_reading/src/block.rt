@@ -41,6 +41,7 @@ impl Block {
         ensures empty { OnOk result (self.new ≡ []) }
         ensures err { OnErr result (AppendsPrefix (W.contents w.old) (W.contents w.new) self.old) }
         ensures failed { OnErr result (W.has_failed w.new ≡ true) }
+        ensures kept { OnOk result (W.has_failed w.new ≡ W.has_failed w.old) }
     {
         write_all(w, self.waiting.as_slice())?;
         self.waiting.clear();
@@ -54,6 +55,7 @@ impl Block {
         ensures err { OnErr result (AppendsPrefix (W.contents w.old) (W.contents w.new)
             (self.old ++ bytes.now)) }
         ensures failed { OnErr result (W.has_failed w.new ≡ true) }
+        ensures kept { OnOk result (W.has_failed w.new ≡ W.has_failed w.old) }
     {
         match self.waiting.try_extend_from_slice(bytes) {
             Ok(()) => Ok(()),
@@ -67,6 +69,7 @@ impl Block {
         ensures err { OnErr result (AppendsPrefix (W.contents w.old) (W.contents w.new)
             (self.old ++ bytes.now)) }
         ensures failed { OnErr result (W.has_failed w.new ≡ true) }
+        ensures kept { OnOk result (W.has_failed w.new ≡ W.has_failed w.old) }
     {
         match self.send(w) {
             Ok(()) => {}

@@ -1,5 +1,5 @@
 -- Where a machine that lists boxes is in a stream.
-use Rattle.std.specs.Prelude.{◌≡◌, ℕ, ◌+◌, ◌-◌, ◌<◌, ◌≤◌, List, [], ◌++◌, length, Option, Some, None}
+use Rattle.std.specs.Prelude.{◌≡◌, ℕ, ◌+◌, ◌-◌, ◌<◌, ◌≤◌, List, [], ◌++◌, length, Bool, Option, Some, None}
 use Rattle.mp4_box.specs.declared.headers.FourCc.{FourCc}
 use Rattle.mp4_box.specs.declared.headers.Header.{Header}
 use Rattle.mp4_box.specs.declared.headers.Size.TheVariants.{Exact}
@@ -7,7 +7,7 @@ use Rattle.mp4_box.specs.declared.headers.Step.TheVariants as steps
 use Rattle.mp4_box.specs.Headers.{header_at, need}
 use Rattle.mp4_ledger.specs.Memory.{Account}
 use Rattle.mp4_reading.specs.Bodies.{longest, told_body, told_open}
-use Rattle.mp4_reading.specs.Pieces.{Outside, Standing}
+use Rattle.mp4_reading.specs.Pieces.{Around, Outside, Standing}
 use Rattle.mp4_reading.specs.Readings.{Reading, uncounted, then_read}
 use Rattle.mp4_stream.specs.Boxes.{passed, held_body, reading}
 use Rattle.mp4_stream.specs.Holding.{Holding}
@@ -93,3 +93,12 @@ IsMachine head phase (Some h) = (head ≡ []) × (phase ≡ phases.Header (h.at 
 -- what is outside a machine that lists boxes, which counts nothing
 abbrev pub outside : Option (List ℕ) → List ℕ → Account → Outside
 outside written waiting account = record { written = written; waiting = waiting; account = account; tally = uncounted }
+
+-- a call that is lent a writer, a block and a ledger, by what they were and are
+abbrev pub around : {W : Type 0} → (contents : W → Option (List ℕ)) → (has_failed : W → Bool) → (w w' : W) → (waiting waiting' : List ℕ) → (account account' : Account) → Around
+around contents has_failed w w' waiting waiting' account account' = record {
+  before = outside (contents w) waiting account;
+  behind = outside (contents w') waiting' account';
+  failed = has_failed w;
+  failed' = has_failed w';
+}

@@ -129,6 +129,7 @@ impl Held {
         ensures err { OnErr result (AppendsPrefix (W.contents w.old) (W.contents w.new)
             (out.old ++ held_lines self.now.at self.now.bytes)) }
         ensures failed { OnErr result (W.has_failed w.new ≡ true) }
+        ensures kept { OnOk result (W.has_failed w.new ≡ W.has_failed w.old) }
     {
         let this = whole_held(self.buf.bytes(), self.at);
         put_tree(&this, 7, 0, out, w)

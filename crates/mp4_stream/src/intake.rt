@@ -7,7 +7,7 @@ ghost use Rattle.mp4_reading.specs.Bodies.{longest};
 ghost use Rattle.mp4_reading.specs.Pieces.{Takes};
 ghost use Rattle.mp4_stream.specs.Boxes.{least_end};
 ghost use Rattle.mp4_stream.specs.Holding.{most_held};
-ghost use Rattle.mp4_stream.specs.Places.{Begins, InHeader, InHeld, IsMachine, IsPhase, IsPlace, claim_of, outside, place_by, place_of, standing};
+ghost use Rattle.mp4_stream.specs.Places.{Begins, InHeader, InHeld, IsMachine, IsPhase, IsPlace, around, claim_of, place_by, place_of, standing};
 ghost use Rattle.mp4_stream.specs.declared.phase.Phase.TheVariants as phases;
 
 use crate::held::{Held, held_limit};
@@ -56,11 +56,8 @@ pub(crate) fn take_unheld<W: Sink>(
 ) -> Result<Taken, Stop>
     requires some { 0 < length piece.now }
     requires phase { IsPhase head.old phase }
-    ensures takes { Takes (record {
-      before = outside (W.contents w.old) out.old ledger.old;
-      behind = outside (W.contents w.new) out.new ledger.new;
-      failed = W.has_failed w.new;
-    })
+    ensures takes { Takes (around W.contents W.has_failed w.old w.new out.old out.new
+        ledger.old ledger.new)
         (standing (place_by head.old phase)) piece.now (λ t. take t.count piece.now)
         (λ t. standing (place_of head.new t.phase t.held)) result }
     ensures taken { IfOk result (λ t. (0 < t.count) × (t.count ≤ length piece.now)) }
@@ -106,11 +103,8 @@ fn take_header<W: Sink>(
 ) -> Result<Taken, Stop>
     requires some { 0 < length piece.now }
     requires place { IsPlace (InHeader at head.old) }
-    ensures takes { Takes (record {
-      before = outside (W.contents w.old) out.old ledger.old;
-      behind = outside (W.contents w.new) out.new ledger.new;
-      failed = W.has_failed w.new;
-    })
+    ensures takes { Takes (around W.contents W.has_failed w.old w.new out.old out.new
+        ledger.old ledger.new)
         (standing (InHeader at head.old)) piece.now (λ t. take t.count piece.now)
         (λ t. standing (place_of head.new t.phase t.held)) result }
     ensures taken { IfOk result (λ t. (0 < t.count) × (t.count ≤ length piece.now)) }
@@ -148,11 +142,8 @@ fn take_byte<W: Sink>(
     w: &mut W,
 ) -> Result<Begun, Stop>
     requires place { IsPlace (InHeader at head.old) }
-    ensures takes { Takes (record {
-      before = outside (W.contents w.old) out.old ledger.old;
-      behind = outside (W.contents w.new) out.new ledger.new;
-      failed = W.has_failed w.new;
-    })
+    ensures takes { Takes (around W.contents W.has_failed w.old w.new out.old out.new
+        ledger.old ledger.new)
         (standing (InHeader at head.old)) (byte ∷ []) (λ _. byte ∷ [])
         (λ b. standing (place_of head.new b.phase b.held)) result }
     ensures claim { IfOk result (λ b. claim_of (place_of head.new b.phase b.held) ≤
@@ -192,11 +183,8 @@ fn begin<W: Sink>(
     requires room { HasRoom header.now.size header.now.header_len }
     requires len { length head.now ≡ need head.now }
     requires is { header_at head.now ≡ steps.Whole header.now }
-    ensures takes { Takes (record {
-      before = outside (W.contents w.old) out.old ledger.old;
-      behind = outside (W.contents w.new) out.new ledger.new;
-      failed = W.has_failed w.new;
-    })
+    ensures takes { Takes (around W.contents W.has_failed w.old w.new out.old out.new
+        ledger.old ledger.new)
         (standing (InHeader at head.now)) [] (λ _. [])
         (λ b. standing (place_of [] b.phase b.held)) result }
     ensures claim { IfOk result (λ b. claim_of (place_of [] b.phase b.held) ≤ ledger.new.live) }
@@ -234,11 +222,8 @@ fn begin_held<W: Sink>(
     requires is { header_at head.now ≡ steps.Whole header.now }
     requires end { least_end at header.now header.now.size ≤ longest }
     requires held { most_held header.now.kind.0 ≡ Some limit }
-    ensures takes { Takes (record {
-      before = outside (W.contents w.old) out.old ledger.old;
-      behind = outside (W.contents w.new) out.new ledger.new;
-      failed = W.has_failed w.new;
-    })
+    ensures takes { Takes (around W.contents W.has_failed w.old w.new out.old out.new
+        ledger.old ledger.new)
         (standing (InHeader at head.now)) [] (λ _. [])
         (λ b. standing (place_of [] b.phase b.held)) result }
     ensures claim { IfOk result (λ b. claim_of (place_of [] b.phase b.held) ≤ ledger.new.live) }
@@ -274,11 +259,8 @@ pub(crate) fn take_held<W: Sink>(
     requires some { 0 < length piece.now }
     requires place { IsPlace (InHeld held.at held.kind held.size held.bytes) }
     requires claim { held.size ≤ ledger.old.live }
-    ensures takes { Takes (record {
-      before = outside (W.contents w.old) out.old ledger.old;
-      behind = outside (W.contents w.new) out.new ledger.new;
-      failed = W.has_failed w.new;
-    })
+    ensures takes { Takes (around W.contents W.has_failed w.old w.new out.old out.new
+        ledger.old ledger.new)
         (standing (InHeld held.at held.kind held.size held.bytes)) piece.now
         (λ k. take k.count piece.now)
         (λ k. standing (place_of [] (phases.Header (held.at + held.size)) k.held)) result }
@@ -305,11 +287,8 @@ fn settle<W: Sink>(
 ) -> Result<Option<Held>, Stop>
     requires begins { Begins held.size held.bytes }
     requires claim { held.size ≤ ledger.old.live }
-    ensures takes { Takes (record {
-      before = outside (W.contents w.old) out.old ledger.old;
-      behind = outside (W.contents w.new) out.new ledger.new;
-      failed = W.has_failed w.new;
-    })
+    ensures takes { Takes (around W.contents W.has_failed w.old w.new out.old out.new
+        ledger.old ledger.new)
         (standing (InHeld held.at held.kind held.size held.bytes)) [] (λ _. [])
         (λ h. standing (place_of [] (phases.Header (held.at + held.size)) h)) result }
     ensures claim { IfOk result (λ h. claim_of

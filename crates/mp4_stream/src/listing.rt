@@ -54,6 +54,7 @@ pub(crate) fn put_tree<W: Sink>(
     ensures err { OnErr result (AppendsPrefix (W.contents w.old) (W.contents w.new)
         (out.old ++ tree_lines levels level (view this.now))) }
     ensures failed { OnErr result (W.has_failed w.new ≡ true) }
+    ensures kept { OnOk result (W.has_failed w.new ≡ W.has_failed w.old) }
 {
     let mut line = Line::new();
     push_line(&mut line, this, level);

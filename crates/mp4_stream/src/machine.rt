@@ -6,7 +6,7 @@ ghost use Rattle.mp4_ledger.specs.Memory.{given_back};
 ghost use Rattle.mp4_reading.specs.Bodies.{fault};
 ghost use Rattle.mp4_reading.specs.Pieces.{Takes};
 ghost use Rattle.mp4_reading.specs.Readings.{fault_in};
-ghost use Rattle.mp4_stream.specs.Places.{InHeader, IsPhase, IsPlace, claim_of, outside, place_by, standing};
+ghost use Rattle.mp4_stream.specs.Places.{InHeader, IsPhase, IsPlace, around, claim_of, place_by, standing};
 
 use crate::held::Held;
 use crate::intake::{Kept, Taken, take_held, take_unheld};
@@ -60,11 +60,8 @@ impl Machine {
     ) -> Result<(), Stop>
         requires claim { claim_of self.old.place ≤ ledger.old.live }
         requires empty { self.old.waiting ≡ [] }
-        ensures takes { Takes (record {
-          before = outside (W.contents w.old) [] ledger.old;
-          behind = outside (W.contents w.new) [] ledger.new;
-          failed = W.has_failed w.new;
-        })
+        ensures takes { Takes (around W.contents W.has_failed w.old w.new [] []
+            ledger.old ledger.new)
             (standing self.old.place) piece.now (λ _. piece.now) (λ _. standing self.new.place)
             result }
         ensures claim { claim_of self.new.place ≤ ledger.new.live }
@@ -94,11 +91,8 @@ impl Machine {
         w: &mut W,
     ) -> Result<(), Stop>
         requires claim { claim_of self.old.place ≤ ledger.old.live }
-        ensures takes { Takes (record {
-          before = outside (W.contents w.old) self.old.waiting ledger.old;
-          behind = outside (W.contents w.new) self.new.waiting ledger.new;
-          failed = W.has_failed w.new;
-        }) (standing self.old.place) piece.now (λ _. piece.now)
+        ensures takes { Takes (around W.contents W.has_failed w.old w.new self.old.waiting self.new.waiting
+            ledger.old ledger.new) (standing self.old.place) piece.now (λ _. piece.now)
             (λ _. standing self.new.place) result }
         ensures claim { claim_of self.new.place ≤ ledger.new.live }
         ensures place { IsPlace self.new.place }
@@ -124,11 +118,8 @@ impl Machine {
     ) -> Result<usize, Stop>
         requires some { 0 < length piece.now }
         requires claim { claim_of self.old.place ≤ ledger.old.live }
-        ensures takes { Takes (record {
-          before = outside (W.contents w.old) self.old.waiting ledger.old;
-          behind = outside (W.contents w.new) self.new.waiting ledger.new;
-          failed = W.has_failed w.new;
-        }) (standing self.old.place) piece.now
+        ensures takes { Takes (around W.contents W.has_failed w.old w.new self.old.waiting self.new.waiting
+            ledger.old ledger.new) (standing self.old.place) piece.now
             (λ n. take n piece.now) (λ _. standing self.new.place) result }
         ensures taken { IfOk result (λ n. (0 < n) × (n ≤ length piece.now)) }
         ensures claim { claim_of self.new.place ≤ ledger.new.live }

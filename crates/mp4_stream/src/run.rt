@@ -69,7 +69,8 @@ pub fn boxes<R: Source, W: Sink>(
       written' = W.contents w.new;
       ended = R.has_ended r.new;
       read_failed = R.has_failed r.new;
-      write_failed = W.has_failed w.new;
+      write_failed = W.has_failed w.old;
+      write_failed' = W.has_failed w.new;
     })
         (record { copy = copy; limit = ledger.old.limit; peak = ledger.new.peak }) uncounted result }
 
@@ -113,7 +114,8 @@ fn read_on<R: Source, W: Sink>(
       written' = W.contents w.new;
       ended = R.has_ended r.new;
       read_failed = R.has_failed r.new;
-      write_failed = W.has_failed w.new;
+      write_failed = W.has_failed w.old;
+      write_failed' = W.has_failed w.new;
     })
         (record { copy = ledger.old.live; limit = ledger.old.limit; peak = ledger.new.peak })
         uncounted result }

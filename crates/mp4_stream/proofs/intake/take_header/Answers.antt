@@ -33,11 +33,11 @@ returns-in-Err-clause-takes g c =
     rw (c.if-is_empty.ensures.0 refl)
     (Takes-err (λ more. subst (λ l. StopsAt (outside (g.W.Sink.contents c.args.w.now) c.args.out.now c.args.ledger.now) (outside (g.W.Sink.contents c.begin.new.w) c.begin.new.out c.begin.new.ledger) (standing (InHeader c.args.at [])) l c.in-Err.stop)
     (apart more) (StopsAt-header _ _ c.args.at (take n piece) (drop n piece ++ more) c.in-Err.stop (begun.err (drop n piece ++ more))))
-    (λ e. begun.failed (ap Err e)))
+    (λ e. begun.failed (ap Err e)) (λ other. begun.kept (λ is. other cc)))
 
 pub returns-in-Err-take_byte-clause-takes : goal.returns-in-Err-take_byte-clause-takes
 returns-in-Err-take_byte-clause-takes g c =
     let taken = c.in-Err-take_byte.ensures.takes in
     Takes-err (λ more. subst (λ l. StopsAt (outside (g.W.Sink.contents c.args.w.now) c.args.out.now c.args.ledger.now) (outside (g.W.Sink.contents c.take_byte.new.w) c.take_byte.new.out c.take_byte.new.ledger) (standing (InHeader c.args.at c.args.head.now)) l c.in-Err-take_byte.stop)
     (first_of_piece c.args.piece.now more c.requires.some) (taken.err (drop 1 c.args.piece.now ++ more)))
-    (λ e. taken.failed (ap Err e))
+    (λ e. taken.failed (ap Err e)) (λ other. taken.kept (λ is. other cc))

@@ -15,4 +15,4 @@ returns-in-Err-clause-takes g c =
     let n = c.take-count.result in
     let goes = GoesOn-held _ held.at held.kind held.size held.bytes (take n c.args.piece.now) in
     let settled = rw c.take-count.ensures.held at c.in-Err.ensures.takes in
-    Takes-err (λ more. StopsAt-take_more c.requires.claim n c.args.piece.now goes _ more c.in-Err.stop (settled.err (drop n c.args.piece.now ++ more))) (λ e. settled.failed (ap Err e))
+    Takes-err (λ more. StopsAt-take_more c.requires.claim n c.args.piece.now goes _ more c.in-Err.stop (settled.err (drop n c.args.piece.now ++ more))) (λ e. settled.failed (ap Err e)) (λ other. settled.kept (λ is. other cc))

@@ -17,7 +17,7 @@ returns-in-Body-clause-takes g c =
     let len = length-take-le n c.args.piece.now passed.taken.1 in
     rw (c.in-Body.is, phase.0)
     (Takes-ok (GoesOn-passed _ (InBody c.in-Body.at c.in-Body.kind c.in-Body.next c.in-Body.left) (place_by [] next) (take n c.args.piece.now)
-    (sym (claim-none [] next)) (omega (arith, passed.reached, len)) passed.reads))
+    (sym (claim-none [] next)) (omega (arith, passed.reached, len)) passed.reads) refl)
 
 pub returns-in-Ok-clause-takes : goal.returns-in-Ok-clause-takes
 returns-in-Ok-clause-takes g c =
@@ -26,9 +26,9 @@ returns-in-Ok-clause-takes g c =
     let passed = c.in-Ok.ensures in
     rw (c.in-OpenBody.is, phase.0)
     (Takes-ok (rw (take-length c.args.piece.now) (GoesOn-passed _ (InOpenBody c.in-OpenBody.at c.in-OpenBody.kind c.in-OpenBody.left) (place_by [] next) c.args.piece.now
-    (sym (claim-none [] next)) passed.reached passed.reads)))
+    (sym (claim-none [] next)) passed.reached passed.reads)) refl)
 
 pub returns-in-Err-clause-takes : goal.returns-in-Err-clause-takes
 returns-in-Err-clause-takes g c =
     rw (c.in-OpenBody.is, c.in-Err.ensures.stops)
-    (Takes-err (λ more. Refuses-passed _ c.in-OpenBody.at c.in-OpenBody.left c.in-OpenBody.kind c.args.piece.now more c.in-Err.ensures.err) (λ e. absurd cc))
+    (Takes-err (λ more. Refuses-passed _ c.in-OpenBody.at c.in-OpenBody.left c.in-OpenBody.kind c.args.piece.now more c.in-Err.ensures.err) (λ e. absurd cc) (λ _. refl))

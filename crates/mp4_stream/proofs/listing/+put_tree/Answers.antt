@@ -33,6 +33,7 @@ loop-child-init g t c =
       below = omega arith;
       text = c.bytes.result.now;
       passes = c.in-Ok.ensures.ok;
+      kept = c.in-Ok.ensures.kept;
       left = ap (λ (t : List ℕ). t ++ lines c.into_iter-child-iterator.result) line ∙ ap (λ (bs : List Box). line_below c.args.level b ++ lines bs) children ∙ all;
     }
 
@@ -46,6 +47,7 @@ loop-child-preserved g t c =
       below = c.loop-child.invariant.below;
       text = c.loop-child.invariant.text ++ tree_lines n l b;
       passes = Passes-more c.loop-child.invariant.passes c.in-Ok-put_tree.ensures.ok;
+      kept = c.in-Ok-put_tree.ensures.kept ∙ c.loop-child.invariant.kept;
       left = lines-child n l b c.next.new.self c.loop-child.invariant.text all (ap (λ (bs : List Box). c.loop-child.invariant.text ++ flat_map (tree_lines n l) bs) (sym c.in-Some.ensures.steps) ∙ c.loop-child.invariant.left);
     }
 

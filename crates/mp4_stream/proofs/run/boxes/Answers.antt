@@ -12,6 +12,6 @@ returns-in-Err-clause-runs g c =
     let refused = rw c.mark.ensures at c.in-Err.ensures in
     let copy : c.from.result ≡ c.args.copy = c.from.ensures in
     rw (c.of_refusal.ensures, refused.err)
-    (idle-stops (reading 0) _ _ c.args.ledger.now.live c.in-Err.refused (reading-none 0) (Consumes-nil _) (Appends-nil _) c.requires.idle refl
-        (λ e. omega (arith, refused.over_limit.0 (ap Err e), copy))
-        (λ e. omega (arith, within_limit c.args.ledger.now.limit (c.args.ledger.now.live + c.from.result) (ap Err e) refused.over_limit.1, copy)))
+    (idle-stops (reading 0) _ _ c.args.ledger.now.live c.in-Err.refused (reading-none 0) (Consumes-nil _) (Appends-nil _) refl c.requires.idle refl
+    (λ e. omega (arith, refused.over_limit.0 (ap Err e), copy))
+    (λ e. omega (arith, within_limit c.args.ledger.now.limit (c.args.ledger.now.live + c.from.result) (ap Err e) refused.over_limit.1, copy)))

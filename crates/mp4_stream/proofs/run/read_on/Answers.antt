@@ -24,6 +24,7 @@ loop-machine-init g c =
         place = rw begins (search rules);
         empty = rw begins refl;
         room = c.requires.claimed;
+        kept = refl;
         total = refl;
         bound = omega arith;
       },
@@ -37,6 +38,7 @@ returns-in-Ok-finish-clause-runs g c =
       given = Consumes-then_none _ _ _ _ _ _ i.read c.in-Ok-eq0.ensures.bytes.0 c.in-Ok-eq0.field-0-test;
       prompt = prompt-now (reading 0) b _ c.requires.marked i.fed _;
       comes = (fed-tells (reading 0) b _ c.requires.marked i.fed _ refl refl, fed-fault (reading 0) b _ c.requires.marked i.fed ∙ c.in-Ok-finish.ensures.ok, search rules);
+      kept = λ _. i.kept;
     }
 
 pub returns-in-Err-finish-clause-runs : goal.returns-in-Err-finish-clause-runs
@@ -47,6 +49,7 @@ returns-in-Err-finish-clause-runs g c =
       given = Consumes-then_none _ _ _ _ _ _ i.read c.in-Ok-eq0.ensures.bytes.0 c.in-Ok-eq0.field-0-test;
       prompt = prompt-now (reading 0) b _ c.requires.marked i.fed _;
       comes = (fed-tells (reading 0) b _ c.requires.marked i.fed _ refl refl, fed-fault (reading 0) b _ c.requires.marked i.fed ∙ c.in-Err-finish.ensures.err, λ _. search rules);
+      kept = λ _. i.kept;
     }
 
 pub returns-in-Err-clause-runs : goal.returns-in-Err-clause-runs
@@ -57,6 +60,7 @@ returns-in-Err-clause-runs g c =
       given = Consumes-kept _ _ _ _ i.read c.in-Err.ensures.bytes;
       prompt = prompt-now (reading 0) b _ c.requires.marked i.fed _;
       comes = (fed-tells (reading 0) b _ c.requires.marked i.fed _ refl refl, fed-undecided (reading 0) b _ c.requires.marked i.fed, i.total, c.in-Err.ensures.failed_err);
+      kept = λ _. i.kept;
     }
 
 pub loop-machine-preserved : goal.loop-machine-preserved
@@ -66,7 +70,7 @@ loop-machine-preserved g c =
     let got = take c.in-Ok.n c.read.new.into in
     let bound = c.in-Ok.ensures.bound in
     let goes = fed.takes.ok in
-    let kept : length c.read.new.into ≡ length c.loop-machine.copy = search rules in (
+    let same : length c.read.new.into ≡ length c.loop-machine.copy = search rules in (
       b ++ got,
       record {
         read = Consumes-trans _ _ _ _ _ i.read c.in-Ok.ensures.bytes.0;
@@ -74,7 +78,8 @@ loop-machine-preserved g c =
         claim = fed.claim;
         place = fed.place;
         empty = fed.empty;
-        room = kept ∙ i.room;
+        room = same ∙ i.room;
+        kept = fed.takes.kept (λ e. absurd cc) ∙ i.kept;
         total = omega (arith, i.total, length-append b got);
         bound = omega (arith, i.total, goes.reached, i.fed.stands.reached, length-append b got, reached-most c.feed.new.self.place fed.place);
       },
@@ -91,7 +96,8 @@ returns-in-Err-feed-clause-runs g c =
       bytes = b ++ got;
       given = Consumes-trans _ _ _ _ _ i.read c.in-Ok.ensures.bytes.0;
       prompt = prompt-read (reading 0) b start c.requires.marked i.fed got (outside (g.W.Sink.contents c.feed.new.w) [] c.feed.new.ledger) _ few;
-      comes = fed-takes {around = record { before = outside (g.W.Sink.contents c.loop-machine.w) [] c.loop-machine.ledger; behind = outside (g.W.Sink.contents c.feed.new.w) [] c.feed.new.ledger; failed = g.W.Sink.has_failed c.feed.new.w }} (reading 0) b start c.requires.marked i.fed refl i.claim _ few refl refl refl refl c.in-Err-feed.ensures.takes;
+      comes = fed-takes {around = record { before = outside (g.W.Sink.contents c.loop-machine.w) [] c.loop-machine.ledger; behind = outside (g.W.Sink.contents c.feed.new.w) [] c.feed.new.ledger; failed = g.W.Sink.has_failed c.loop-machine.w; failed' = g.W.Sink.has_failed c.feed.new.w }} (reading 0) b start c.requires.marked i.fed refl i.claim _ few refl refl refl refl c.in-Err-feed.ensures.takes;
+      kept = λ other. c.in-Err-feed.ensures.takes.kept (λ is. other cc) ∙ i.kept;
     }
 
 pub returns-in-Err-feed-clause-live : goal.returns-in-Err-feed-clause-live

@@ -14,6 +14,7 @@ invariant-loop-machine g l =
       place : IsPlace l.machine.place;
       empty : l.machine.waiting ≡ [];
       room : length l.copy ≡ l.initial.ledger.live;
+      kept : g.W.Sink.has_failed l.w ≡ g.W.Sink.has_failed l.initial.w;
       total : l.total ≡ length b;
       bound : l.total ≤ 2 ^ 62 + 31;
     }

@@ -1,4 +1,4 @@
-use Rattle.std.proofs.Common.{arith, rules, ap, Err, drop, ◌++◌}
+use Rattle.std.proofs.Common.{arith, rules, ap, Err, drop, ◌++◌, ◌∙◌, refl}
 use Rattle.std.proofs.lemmas.List.{take_rest, length-drop}
 use Rattle.mp4_stream.specs.Places.{standing}
 use Rattle.mp4_reading.proofs.PieceLemmas.{GoesOn-none, GoesOn-take_more, StopsAt-take_more, Takes-err}
@@ -7,7 +7,7 @@ use Rattle.mp4_stream.proofs.machine.Machine.take_all.Goals as goal
 pub returns-in-Err-clause-takes : goal.returns-in-Err-clause-takes
 returns-in-Err-clause-takes g c =
     let taken = simp take_rest at c.in-Err.ensures.takes in
-    Takes-err (λ more. StopsAt-take_more {p = standing c.args.self.now.place} c.requires.claim c.loop-at.at c.args.piece.now c.loop-at.invariant.goes_on _ more c.in-Err.stop (taken.err more)) (λ e. taken.failed (ap Err e))
+    Takes-err (λ more. StopsAt-take_more {p = standing c.args.self.now.place} c.requires.claim c.loop-at.at c.args.piece.now c.loop-at.invariant.goes_on _ more c.in-Err.stop (taken.err more)) (λ e. taken.failed (ap Err e)) (λ other. taken.kept (λ is. other cc) ∙ c.loop-at.invariant.kept)
 
 pub loop-at-init : goal.loop-at-init
 loop-at-init g c = record {
@@ -15,6 +15,7 @@ loop-at-init g c = record {
   goes_on = GoesOn-none _ (standing c.args.self.now.place);
   claim = c.requires.claim;
   place = search rules;
+  kept = refl;
 }
 
 pub loop-at-preserved : goal.loop-at-preserved
@@ -26,4 +27,5 @@ loop-at-preserved g c =
       goes_on = GoesOn-take_more {p = standing c.args.self.now.place} c.requires.claim c.loop-at.at c.args.piece.now c.loop-at.invariant.goes_on c.in-Ok.count _ taken.ok;
       claim = c.in-Ok.ensures.claim;
       place = c.in-Ok.ensures.place;
+      kept = taken.kept (λ e. absurd cc) ∙ c.loop-at.invariant.kept;
     }

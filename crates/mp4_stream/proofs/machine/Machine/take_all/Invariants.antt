@@ -9,6 +9,7 @@ invariant-loop-at g l = record {
   goes_on : GoesOn (outside (g.W.Sink.contents l.initial.w) l.initial.self.waiting l.initial.ledger) (outside (g.W.Sink.contents l.w) l.self.waiting l.ledger) (standing l.initial.self.place) (take l.at l.piece) (standing l.self.place);
   claim : claim_of l.self.place ≤ l.ledger.live;
   place : IsPlace l.self.place;
+  kept : g.W.Sink.has_failed l.w ≡ g.W.Sink.has_failed l.initial.w;
 }
 
 abbrev pub decreases-loop-at : goal.decreases-loop-at
