@@ -16,21 +16,27 @@ unfolding at_path
 path_first kind path b = refl
 
 -- all that is left at first
-pub left_here : (path : List FourCc) (b : Box) → length path ≡ 0 → b ∷ left_on path [] ≡ at_path path b
+pub left_here : (path : List FourCc) (b : Box) (bs : List Box) → length path ≡ 0 → b ∷ left_on path (bs ∷ []) ≡ at_path path b
 unfolding left_on at_path
-left_here [] b e = refl
-left_here (kind ∷ path) b e = absurd cc
+left_here [] b bs e = refl
+left_here (kind ∷ path) b bs e = absurd cc
 
 pub left_first : (path : List FourCc) (b : Box) → (length path == 0) ≡ false → left_on path (children b ∷ []) ≡ at_path path b
 unfolding left_on at_path
 left_first [] b e = absurd cc
 left_first (kind ∷ path) b e = refl
 
--- nothing is left at no level
+-- nothing is left at no level, and on no path
 pub left_nowhere : (path : List FourCc) (levels : List (List Box)) → length levels ≡ 0 → left_on path levels ≡ []
 unfolding left_on
 left_nowhere path [] e = refl
 left_nowhere path (bs ∷ levels) e = absurd cc
+
+pub left_nothing : (path : List FourCc) (levels : List (List Box)) → length path ≡ 0 → left_on path levels ≡ []
+unfolding left_on
+left_nothing [] [] e = refl
+left_nothing [] (bs ∷ levels) e = refl
+left_nothing (kind ∷ path) levels e = absurd cc
 
 -- what one more level below the others adds
 pub left_append : (path : List FourCc) (levels : List (List Box)) (kind : FourCc) (below : List FourCc) (bs : List Box) → drop (length levels) path ≡ kind ∷ below

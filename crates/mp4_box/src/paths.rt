@@ -1,6 +1,6 @@
 //! The boxes on a path of types.
 
-ghost use Rattle.std.specs.Prelude.{◌≡◌, ◌++◌, ◌≤◌, [], length, option_map, IfNone};
+ghost use Rattle.std.specs.Prelude.{◌≡◌, ◌++◌, ◌∷◌, ◌<◌, ◌≤◌, [], length, option_map, IfNone};
 ghost use Rattle.std.specs.Iterator.{YieldsFirstBy, item_count};
 ghost use Rattle.mp4_box.specs.Paths.{at_path, left_on, of_kind, seen_of};
 ghost use Rattle.mp4_box.specs.Trees.{Box, children, first_of, view};
@@ -10,6 +10,7 @@ use crate::headers::FourCc;
 use crate::walk::Walk;
 use arrayvec::ArrayVec;
 use std::marker::Model;
+use std::mem;
 
 /// A path may have so many types.
 const LEVELS: usize = 8;
@@ -20,21 +21,23 @@ pub struct Along<'p, 'a> {
     path: &'p [FourCc],
     /// The box itself, where the path is empty.
     here: Option<BoxRef<'a>>,
-    /// The boxes that are left at each level, down to the one that was looked at last.
-    walks: ArrayVec<Walk<'a>, LEVELS>,
+    /// The boxes that are left at each level above the one that it is at.
+    above: ArrayVec<Walk<'a>, LEVELS>,
+    /// Those that are left there.
+    walk: Walk<'a>,
 }
 
 // A contract sees the boxes that are left.
 impl<'p, 'a> Model for Along<'p, 'a> {
-    ghost use Rattle.std.specs.Prelude.{List, ◌≤◌, ◌++◌, length};
+    ghost use Rattle.std.specs.Prelude.{List, [], ◌∷◌, ◌≤◌, ◌-◌, ◌++◌, length};
     ghost use Rattle.mp4_box.specs.Paths.{left_on, seen_of};
     ghost use Rattle.mp4_box.specs.Trees.{Box};
 
     ghost Value = { List Box };
 
-    ghost view = { λ a. seen_of a.here ++ left_on a.path.now a.walks.items };
+    ghost view = { λ a. seen_of a.here ++ left_on a.path.now (a.above.items ++ a.walk ∷ []) };
 
-    ghost invariant = { λ a. (length a.walks.items ≤ length a.path.now) × (length a.path.now ≤ 8) };
+    ghost invariant = { λ a. (length a.above.items ≤ length a.path.now - 1) × (length a.path.now ≤ 8) };
 }
 
 impl<'p, 'a> Along<'p, 'a> {
@@ -44,45 +47,57 @@ impl<'p, 'a> Along<'p, 'a> {
         requires { length path.now ≤ 8 }
         ensures { result ≡ at_path path.now (view this.now) }
     {
-        let mut along = Along {
+        let above = ArrayVec::new();
+        if path.is_empty() {
+            return Along {
+                path,
+                here: Some(*this),
+                above,
+                walk: Walk::default(),
+            };
+        }
+        Along {
             path,
             here: None,
-            walks: ArrayVec::new(),
-        };
-        if path.is_empty() {
-            along.here = Some(*this);
-        } else {
-            along.walks.push(Walk::of(this));
+            above,
+            walk: Walk::of(this),
         }
-        along
     }
 }
 
 /// The next of the boxes that are left.
-#[tactic(auto, using(crate::proofs::PathLemmas::left_none, crate::proofs::PathLemmas::left_other, crate::proofs::PathLemmas::left_end, crate::proofs::PathLemmas::left_below, crate::proofs::PathLemmas::looks_none, crate::proofs::PathLemmas::looks_box, crate::proofs::PathLemmas::looks_below))]
-fn next_on<'a>(path: &[FourCc], walks: &mut ArrayVec<Walk<'a>, LEVELS>) -> Option<BoxRef<'a>>
-    requires deep { length walks.old.items ≤ length path.now }
+#[tactic(auto, using(crate::proofs::PathLemmas::left_none, crate::proofs::PathLemmas::left_nowhere, crate::proofs::PathLemmas::left_other, crate::proofs::PathLemmas::left_end, crate::proofs::PathLemmas::left_below, crate::proofs::PathLemmas::looks_none, crate::proofs::PathLemmas::looks_box, crate::proofs::PathLemmas::looks_below))]
+fn next_on<'a>(
+    path: &[FourCc],
+    above: &mut ArrayVec<Walk<'a>, LEVELS>,
+    walk: &mut Walk<'a>,
+) -> Option<BoxRef<'a>>
+    requires deep { length above.old.items < length path.now }
     requires room { length path.now ≤ 8 }
-    ensures first { left_on path.now walks.old.items ≡
-        seen_of result ++ left_on path.now walks.new.items }
-    ensures none { IfNone result (left_on path.now walks.new.items ≡ []) }
-    ensures deep { length walks.new.items ≤ length path.now }
+    ensures first { left_on path.now (above.old.items ++ walk.old ∷ []) ≡
+        seen_of result ++ left_on path.now (above.new.items ++ walk.new ∷ []) }
+    ensures none { IfNone result (left_on path.now (above.new.items ++ walk.new ∷ []) ≡ []) }
+    ensures deep { length above.new.items < length path.now }
 {
-    while let Some(mut walk) = walks.pop() {
-        let Some((kind, below)) = path[walks.len()..].split_first() else {
-            return None;
+    loop {
+        let (kind, below) = match path[above.len()..].split_first() {
+            Some(first) => first,
+            None => unreachable!(),
         };
-        if let Some(child) = walk.next() {
-            walks.push(walk);
-            if child.header.kind.0.as_slice() == kind.0.as_slice() {
-                if below.is_empty() {
-                    return Some(child);
-                }
-                walks.push(Walk::of(&child));
+        let Some(child) = walk.next() else {
+            let Some(outer) = above.pop() else {
+                return None;
+            };
+            *walk = outer;
+            continue;
+        };
+        if child.header.kind.0.as_slice() == kind.0.as_slice() {
+            if below.is_empty() {
+                return Some(child);
             }
+            above.push(mem::replace(walk, Walk::of(&child)));
         }
     }
-    None
 }
 
 impl<'p, 'a> Iterator for Along<'p, 'a> {
@@ -92,11 +107,15 @@ impl<'p, 'a> Iterator for Along<'p, 'a> {
 
     ghost remaining = { item_count (λ a. a) };
 
+    #[tactic(auto, using(crate::proofs::PathLemmas::left_nothing))]
     fn next(&mut self) -> Option<BoxRef<'a>> {
         if let Some(this) = self.here.take() {
             return Some(this);
         }
-        next_on(self.path, &mut self.walks)
+        if self.path.is_empty() {
+            return None;
+        }
+        next_on(self.path, &mut self.above, &mut self.walk)
     }
 }
 
