@@ -1,12 +1,38 @@
 -- What a run of the program does.
-use Rattle.std.specs.Prelude.{◌≡◌, ℕ, Bool, true, false, List, Option, Result, Ok, Err}
-use Rattle.std.specs.Io.KnownBytes.{Appends, Consumes, Keeps}
+use Rattle.std.specs.Prelude.{◌≡◌, ◌⊎◌, ◌≤◌, ℕ, Bool, true, false, List, codes, Option, None, Some, OnOk, Result, Ok, Err}
+use Rattle.std.specs.Io.KnownBytes.{Appends, Keeps}
 use Rattle.mp4_ends.specs.Streams.{AppendsPrefix}
-use Rattle.mp4_stream.specs.Answers.{Lists}
-use Rattle.mp4_stream.specs.declared.top.Stop.{Stop}
-use Rattle.mp4_stream.specs.declared.top.Stop.TheVariants.{Stream, Read, Write, OverLimit, Memory}
+use Rattle.mp4_reading.specs.Readings.{uncounted}
+use Rattle.mp4_reading.specs.Runs.{Ends, Runs}
+use Rattle.mp4_reading.specs.declared.stop.Stop.{Stop}
+use Rattle.mp4_reading.specs.declared.stop.Stop.TheVariants.{Stream, Read, Write, OverLimit, Memory}
+use Rattle.mp4_stream.specs.Boxes.{reading}
+use Rattle.fmp4_program.specs.declared.asked.Invocation.{Invocation}
+use Rattle.fmp4_program.specs.declared.asked.Invocation.TheVariants.{Boxes}
 use Rattle.fmp4_program.specs.declared.asked.Settings.{Settings}
 use Rattle.fmp4_program.specs.Lines.{line, stop_text}
+
+-- what is seen of a run: what the two ends of the stream tell, what the fault writer was given before and after, whether it has failed, and the exit status
+pub record Seen : Type 0 where
+  pub ends : Ends
+  pub told : Option (List ℕ)
+  pub told' : Option (List ℕ)
+  pub fault_failed : Bool
+  pub status : ℕ
+
+-- ---- the fault writer
+
+-- a line was written, where the fault writer doesn't fail, and else a prefix of it
+pub record Tells (told told' : Option (List ℕ)) (failed : Bool) (text : List ℕ) : Type 0 where
+  pub front : AppendsPrefix told told' text
+  pub whole : failed ≡ false → Appends told told' text
+
+-- what is told of an answer: nothing of a success
+abbrev pub TellsOf : Option (List ℕ) → Option (List ℕ) → Bool → Result (Unit {0}) Stop → Type 0
+TellsOf told told' failed (Ok _) = Keeps told told'
+TellsOf told told' failed (Err stop) = Tells told told' failed (line (stop_text stop))
+
+-- ---- a command
 
 -- the exit status of an answer
 abbrev pub status_of : Result (Unit {0}) Stop → ℕ
@@ -17,32 +43,32 @@ status_of (Err Write) = 3
 status_of (Err OverLimit) = 4
 status_of (Err Memory) = 4
 
--- a line was written, where its writer doesn't fail, and else a front of it
-pub record Tells (told told' : Option (List ℕ)) (failed : Bool) (text : List ℕ) : Type 0 where
-  pub front : AppendsPrefix told told' text
-  pub whole : failed ≡ false → Appends told told' text
-
--- what is told of an answer: nothing of a success
-abbrev pub TellsOf : Option (List ℕ) → Option (List ℕ) → Bool → Result (Unit {0}) Stop → Type 0
-TellsOf told told' failed (Ok _) = Keeps told told'
-TellsOf told told' failed (Err stop) = Tells told told' failed (line (stop_text stop))
-
--- an end that is said to have failed has, and after a success the writer has not
-abbrev pub FailsBy : Result (Unit {0}) Stop → Bool → Bool → Type 0
-FailsBy (Ok _) read_failed write_failed = write_failed ≡ false
-FailsBy (Err (Stream f)) read_failed write_failed = Unit {0}
-FailsBy (Err (Read at)) read_failed write_failed = read_failed ≡ true
-FailsBy (Err Write) read_failed write_failed = write_failed ≡ true
-FailsBy (Err OverLimit) read_failed write_failed = Unit {0}
-FailsBy (Err Memory) read_failed write_failed = Unit {0}
-
--- a run of the command `boxes` with its settings, by what its ends tell before and after, and whether they have ended and failed
-pub record ListsBoxes (settings : Settings) (left left' taken taken' told told' : Option (List ℕ)) (ended read_failed write_failed fault_failed : Bool) (status : ℕ) : Type 0 where
-  -- the bytes that were read, and the answer
-  pub bytes : List ℕ
+-- the boxes are listed: a success is flushed, and the answer is that of the listing and the flush
+pub record ListsBoxes (settings : Settings) (seen : Seen) : Type 0 where
   pub answer : Result (Unit {0}) Stop
-  pub reads : Consumes left left' bytes
-  pub lists : Lists taken taken' settings.copy settings.max_held bytes ended answer
-  pub fails : FailsBy answer read_failed write_failed
-  pub exits : status ≡ status_of answer
-  pub tells : TellsOf told told' fault_failed answer
+  pub peak : ℕ
+  pub runs : Runs (reading 0) seen.ends (record { copy = settings.copy; limit = settings.max_held; peak = peak }) uncounted answer
+  pub within : peak ≤ settings.max_held
+  pub flushed : OnOk answer (seen.ends.write_failed' ≡ false)
+  pub exits : seen.status ≡ status_of answer
+  pub tells : TellsOf seen.told seen.told' seen.fault_failed answer
+
+abbrev pub Does : Invocation → Seen → Type 0
+Does (Boxes settings) seen = ListsBoxes settings seen
+
+-- ---- the program
+
+-- the stream is left alone, and a line says why
+pub record Declines (untouched : Type 0) (seen : Seen) (status : ℕ) (why : List ℕ) : Type 0 where
+  pub alone : untouched
+  pub exits : seen.status ≡ status
+  pub tells : Tells seen.told seen.told' seen.fault_failed (line why)
+
+-- what the words ask for is done, or they ask for nothing
+abbrev pub Obeys : (untouched : Type 0) → Option Invocation → Seen → Type 0
+Obeys untouched None seen = Declines untouched seen 1 (codes "bad command line")
+Obeys untouched (Some asked) seen = Does asked seen
+
+-- or there was no memory to read the words
+abbrev pub Ran : (untouched : Type 0) → Option Invocation → Seen → Type 0
+Ran untouched asked seen = Declines untouched seen 4 (codes "out of memory") ⊎ Obeys untouched asked seen

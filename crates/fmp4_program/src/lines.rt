@@ -4,7 +4,8 @@ ghost use Rattle.std.specs.Prelude.{◌≡◌, ◌+◌, ◌≤◌, ◌++◌, cod
 ghost use Rattle.std.specs.Fmt.{decimal};
 ghost use Rattle.fmp4_program.specs.Lines.{fault_text, kind_text, line, stop_text};
 
-use mp4_stream::{Fault, FourCc, Line, Stop};
+use mp4_lines::{LINE_CAPACITY, Line};
+use mp4_stream::{Fault, FourCc, Stop};
 
 /// The line of what stopped a run.
 pub fn stop_line(stop: &Stop) -> Line
@@ -21,7 +22,7 @@ pub fn stop_line(stop: &Stop) -> Line
 
 /// A line of this text.
 fn plain_line(text: &[u8]) -> Line
-    requires { length text.now ≤ 96 }
+    requires { length text.now ≤ LINE_CAPACITY }
     ensures { result ≡ text.now }
 {
     let mut line = Line::new();
@@ -58,7 +59,7 @@ fn read_line(at: u64) -> Line
 }
 
 fn push_kind(line: &mut Line, kind: Option<FourCc>)
-    requires { length line.old + 6 ≤ 96 }
+    requires { length line.old + 6 ≤ LINE_CAPACITY }
     ensures text { line.new ≡ line.old ++ kind_text kind }
     ensures len { length line.new ≤ length line.old + 6 }
 {

@@ -1,11 +1,11 @@
 //! A run of the program.
 
-ghost use Rattle.std.specs.Prelude.{◌≡◌, ◌≤◌, ◌⊎◌, ℕ, List, codes, map, string_bytes, MatchOption};
-ghost use Rattle.std.specs.Io.KnownBytes.{Consumes};
-ghost use Rattle.mp4_stream.specs.Answers.{Lists};
-ghost use Rattle.fmp4_program.specs.Words.{carried_settings, command_of};
-ghost use Rattle.fmp4_program.specs.Lines.{line};
-ghost use Rattle.fmp4_program.specs.Runs.{FailsBy, ListsBoxes, Tells, TellsOf, status_of};
+ghost use Rattle.std.specs.Prelude.{◌≡◌, ◌≤◌, false, map, string_bytes, OnOk};
+ghost use Rattle.mp4_reading.specs.Readings.{uncounted};
+ghost use Rattle.mp4_reading.specs.Runs.{Runs};
+ghost use Rattle.mp4_stream.specs.Boxes.{reading};
+ghost use Rattle.fmp4_program.specs.Words.{command_of};
+ghost use Rattle.fmp4_program.specs.Runs.{Ran, Tells, TellsOf, status_of};
 
 use crate::asked::Invocation;
 use crate::command::{NoCommand, read_words};
@@ -24,14 +24,23 @@ pub fn run<R: Source, W: Sink, F: Sink>(
     w: &mut W,
     fault_w: &mut F,
 ) -> u8
-    ensures { ((result ≡ 4) × (r.new ≡ r.old) × (w.new ≡ w.old) × Tells (F.contents fault_w.old)
-        (F.contents fault_w.new) (F.has_failed fault_w.new) (line (codes "out of memory"))) ⊎
-        MatchOption (command_of (map string_bytes words.items))
-        ((result ≡ 1) × (r.new ≡ r.old) × (w.new ≡ w.old) × Tells (F.contents fault_w.old)
-        (F.contents fault_w.new) (F.has_failed fault_w.new) (line (codes "bad command line")))
-        (λ asked. ListsBoxes (carried_settings asked) (R.remaining r.old) (R.remaining r.new) (W.contents w.old)
-        (W.contents w.new) (F.contents fault_w.old) (F.contents fault_w.new) (R.has_ended r.new)
-        (R.has_failed r.new) (W.has_failed w.new) (F.has_failed fault_w.new) result) }
+    ensures { Ran ((r.new ≡ r.old) × (w.new ≡ w.old)) (command_of (map string_bytes words.items))
+        (record {
+          ends = record {
+            left = R.remaining r.old;
+            left' = R.remaining r.new;
+            written = W.contents w.old;
+            written' = W.contents w.new;
+            ended = R.has_ended r.new;
+            read_failed = R.has_failed r.new;
+            write_failed = W.has_failed w.old;
+            write_failed' = W.has_failed w.new;
+          };
+          told = F.contents fault_w.old;
+          told' = F.contents fault_w.new;
+          fault_failed = F.has_failed fault_w.new;
+          status = result;
+        }) }
 {
     let asked = match read_words(alloc, words.as_slice()) {
         Ok(asked) => asked,
@@ -60,9 +69,19 @@ fn list_boxes<R: Source, W: Sink>(
 ) -> Result<(), Stop>
     requires copy { (4096 ≤ copy) × (copy ≤ 1048576) }
     requires idle { ledger.old.live ≡ 0 }
-    ensures listed { (b : List ℕ) × Consumes (R.remaining r.old) (R.remaining r.new) b × Lists
-        (W.contents w.old) (W.contents w.new) copy ledger.old.limit b (R.has_ended r.new) result }
-    ensures fails { FailsBy result (R.has_failed r.new) (W.has_failed w.new) }
+    ensures runs { Runs (reading 0) (record {
+      left = R.remaining r.old;
+      left' = R.remaining r.new;
+      written = W.contents w.old;
+      written' = W.contents w.new;
+      ended = R.has_ended r.new;
+      read_failed = R.has_failed r.new;
+      write_failed = W.has_failed w.old;
+      write_failed' = W.has_failed w.new;
+    })
+        (record { copy = copy; limit = ledger.old.limit; peak = ledger.new.peak }) uncounted result }
+    ensures within { ledger.new.peak ≤ ledger.old.limit }
+    ensures flushed { OnOk result (W.has_failed w.new ≡ false) }
 {
     match boxes(r, w, ledger, copy, &mut Totals::new()) {
         Ok(()) => match w.flush() {
