@@ -1,5 +1,5 @@
 -- Bytes of a body that is told as it comes, whatever is told of it and whatever is read behind it.
-use Rattle.std.proofs.Common.{◌≡◌, ◌∙◌, ℕ, ◌+◌, ◌-◌, ◌<◌, ◌≤◌, List, [], ◌++◌, length, take, drop, Bool, true, false, Some, None, ap, sym, refl, arith, length-append}
+use Rattle.std.proofs.Common.{◌≡◌, ◌∙◌, ℕ, ◌-◌, ◌<◌, ◌≤◌, List, [], ◌++◌, length, take, drop, Bool, true, false, Some, ap, sym, refl, arith, length-append}
 use Rattle.std.proofs.Math.Seq.{take-append-add, drop-append-add}
 use Rattle.std.proofs.lemmas.Bool.{ltb-true, ltb-false}
 use Rattle.std.proofs.lemmas.Bool.Decides.{nat_tests}
@@ -7,7 +7,7 @@ use Rattle.std.specs.Prelude.{nat_lt}
 use Rattle.mp4_box.specs.declared.headers.FourCc.{FourCc}
 use Rattle.mp4_box.specs.declared.rules.Rule.TheVariants.{Truncated, StreamTooLong}
 use Rattle.mp4_reading.specs.Bodies.{fault, told_body, told_open}
-use Rattle.mp4_reading.specs.Readings.{Reading, Told, silent, both, after, Sound, Faulty, CutOff, then_read, early_in}
+use Rattle.mp4_reading.specs.Readings.{Reading, Told, silent, both, after, Sound, Faulty, CutOff, then_read}
 use Rattle.mp4_reading.proofs.ReadingLemmas.{after-silent, after-both}
 
 pub nat_lt_true : (m n : ℕ) → m < n → nat_lt m n ≡ true

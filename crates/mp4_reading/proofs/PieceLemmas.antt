@@ -5,17 +5,14 @@ use Rattle.std.proofs.KnownBytes.{Appends-trans}
 use Rattle.std.specs.Io.KnownBytes.{Appends}
 use Rattle.mp4_ends.specs.Streams.{AppendsPrefix}
 use Rattle.mp4_ends.proofs.StreamLemmas.{AppendsPrefix-longer}
-use Rattle.mp4_box.specs.declared.rules.Fault.{Fault}
 use Rattle.mp4_ledger.specs.Memory.{Account, claimed, given_back}
-use Rattle.mp4_ledger.specs.declared.ledger.Refused.{Refused}
 use Rattle.mp4_reading.specs.Accounts.{Counts, Spends}
-use Rattle.mp4_reading.proofs.AccountLemmas.{Counts-none, Counts-claim, Counts-back, Counts-more, Spends-after, Spends-more, Spends-counts}
+use Rattle.mp4_reading.proofs.AccountLemmas.{Counts-none, Counts-claim, Counts-back, Counts-more, Spends-after, Spends-more}
 use Rattle.mp4_reading.specs.Blocks.{Passes}
 use Rattle.mp4_reading.specs.Readings.{Reading, Told, plus, after, both, silent, asks_for, most_of}
-use Rattle.mp4_reading.specs.Pieces.{Outside, Standing, Moves, GoesOn, Refuses, Starves, Loses, StopsAt, Around, Takes, Stands, IsQuiet, IsFed}
+use Rattle.mp4_reading.specs.Pieces.{Outside, Standing, Moves, GoesOn, Starves, Loses, StopsAt, Around, Takes, IsQuiet, IsFed}
 use Rattle.mp4_reading.specs.declared.stop.Stop.{Stop}
 use Rattle.mp4_reading.specs.declared.stop.Stop.TheVariants.{Stream, Read, Write, OverLimit, Memory}
-use Rattle.mp4_reading.specs.declared.tally.Tally.{Tally}
 use Rattle.mp4_reading.proofs.ReadingAskLemmas.{max_none, most-both, most-first, plus-assoc, plus-none}
 use Rattle.mp4_reading.proofs.ReadingLemmas.{after-both, after-silent, both-silent}
 use Rattle.mp4_reading.proofs.BlockLemmas.{Passes-none, Passes-more, AppendsPrefix-passed, Passes-sent_on, Appends-passed}

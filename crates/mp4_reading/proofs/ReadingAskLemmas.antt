@@ -1,6 +1,6 @@
 -- What boxes ask for, and what is counted, one after the other.
-use Rattle.std.proofs.Common.{◌≡◌, ◌∙◌, ℕ, zero, suc, ◌+◌, ◌≤◌, List, [], ◌∷◌, ◌++◌, length, max, ap, sym, refl, arith, append_assoc, append-nil, length-append}
-use Rattle.mp4_reading.specs.Readings.{Ask, shifted_by, shifted, greatest, uncounted, plus, Told, silent, both, most_of}
+use Rattle.std.proofs.Common.{◌≡◌, ◌∙◌, ℕ, ◌+◌, ◌≤◌, List, [], ◌∷◌, ◌++◌, length, max, ap, sym, refl, arith, append_assoc, length-append}
+use Rattle.mp4_reading.specs.Readings.{Ask, shifted_by, shifted, greatest, uncounted, plus, Told, both, most_of}
 use Rattle.mp4_reading.specs.declared.tally.Tally.{Tally}
 
 pub max_first : (a b : ℕ) → a ≤ max a b

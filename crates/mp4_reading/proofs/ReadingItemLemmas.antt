@@ -1,7 +1,7 @@
 -- Where a box asks for memory, the text before is that of the bytes before the box, whatever the items are.
-use Rattle.std.proofs.Common.{◌≡◌, ◌∙◌, ℕ, zero, suc, ◌+◌, ◌-◌, ◌<◌, ◌≤◌, List, [], ◌∷◌, ◌++◌, length, take, drop, ap, sym, refl, arith, append_assoc, append-nil, length-append, subst}
-use Rattle.std.proofs.Math.Seq.{take-append_seam, take-append-add}
-use Rattle.mp4_reading.specs.Readings.{Ask, shifted_by, shifted, Told, both, Reading, nothing, Front, Last, Whole, after, then_read, read_all}
+use Rattle.std.proofs.Common.{◌≡◌, ◌∙◌, ℕ, zero, suc, ◌+◌, ◌-◌, ◌≤◌, List, [], ◌∷◌, ◌++◌, length, take, ap, sym, refl, arith, subst}
+use Rattle.std.proofs.Math.Seq.{take-append-add}
+use Rattle.mp4_reading.specs.Readings.{Ask, shifted_by, shifted, Told, Reading, Front, Last, Whole, after, then_read, read_all}
 use Rattle.mp4_reading.proofs.ReadingLemmas.{Below, IsItemwise, read_all-front}
 use Rattle.mp4_reading.proofs.ReadingGrowthLemmas.{told_of}
 

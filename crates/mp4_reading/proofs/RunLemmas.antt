@@ -1,6 +1,6 @@
 -- What a run brings that stops behind some bytes, or at the next piece.
-use Rattle.std.proofs.Common.{◌≡◌, ℕ, zero, suc, ◌+◌, ◌-◌, ◌≤◌, ◌<◌, List, [], ◌∷◌, ◌++◌, length, take, max, Bool, true, Option, Some, None, Result, Ok, Err, inl, inr, ap, sym, ◌∙◌, refl, arith, append-nil, append_assoc, subst}
-use Rattle.std.proofs.Math.Seq.{take-append_seam, take-append-add}
+use Rattle.std.proofs.Common.{◌≡◌, ℕ, zero, suc, ◌+◌, ◌≤◌, ◌<◌, List, [], ◌∷◌, ◌++◌, length, take, true, Some, None, Err, inl, inr, ap, sym, ◌∙◌, refl, arith, append-nil, append_assoc, subst}
+use Rattle.std.proofs.Math.Seq.{take-append-add}
 use Rattle.std.proofs.KnownBytes.{Appends-trans}
 use Rattle.std.specs.Io.KnownBytes.{Appends, Consumes}
 use Rattle.mp4_ends.specs.Streams.{AppendsPrefix}
@@ -10,15 +10,14 @@ use Rattle.mp4_ledger.specs.declared.ledger.Refused.{Refused}
 use Rattle.mp4_ledger.specs.declared.ledger.Refused.TheVariants as refusals
 use Rattle.mp4_box.specs.declared.rules.Fault.{Fault}
 use Rattle.mp4_reading.specs.Accounts.{Counts, Spends}
-use Rattle.mp4_reading.specs.Readings.{Ask, greatest, Told, Reading, nothing, uncounted, plus, fault_in, early_in, after, both, silent, asks_for, shifted, most_of}
+use Rattle.mp4_reading.specs.Readings.{Ask, greatest, Told, Reading, nothing, uncounted, plus, fault_in, early_in, after, both, asks_for, shifted, most_of}
 use Rattle.mp4_reading.specs.Pieces.{Outside, Standing, Refuses, Starves, StopsAt, Around, Takes, IsFed, refusal_of}
-use Rattle.mp4_reading.specs.Runs.{Ends, Claims, Run, reading_of, TellsAll, TellsSome, IsPrompt, StarvesAt, ComesUntil, Runs}
+use Rattle.mp4_reading.specs.Runs.{Ends, Claims, Run, TellsAll, TellsSome, IsPrompt, StarvesAt, ComesUntil, Runs}
 use Rattle.mp4_reading.specs.declared.stop.Stop.{Stop}
 use Rattle.mp4_reading.specs.declared.stop.Stop.TheVariants.{Stream, Read, Write, OverLimit, Memory}
-use Rattle.mp4_reading.proofs.ReadingAskLemmas.{most-both, shifted-append, greatest-shifted, greatest-append}
+use Rattle.mp4_reading.proofs.ReadingAskLemmas.{most-both, shifted-append}
 use Rattle.mp4_reading.proofs.AccountLemmas.{Counts-more, Spends-after}
 use Rattle.mp4_reading.proofs.BlockLemmas.{Appends-passed}
-use Rattle.mp4_reading.proofs.ReadingLemmas.{both-silent}
 
 -- ---- how much was out
 

@@ -1,5 +1,5 @@
 -- A body that is told as it comes: of some bytes of it, from its first byte on, this is told.
-use Rattle.std.specs.Prelude.{ℕ, ◌+◌, ◌^◌, List, length, take, drop, nat_lt, if◌then◌else◌, Option, Some}
+use Rattle.std.specs.Prelude.{ℕ, ◌^◌, List, length, take, drop, nat_lt, if◌then◌else◌, Option, Some}
 use Rattle.mp4_box.specs.declared.headers.FourCc.{FourCc}
 use Rattle.mp4_box.specs.declared.rules.Fault.{Fault}
 use Rattle.mp4_box.specs.declared.rules.Rule.{Rule}

@@ -15,10 +15,10 @@ use Rattle.mp4_box.specs.Headers.{need, header_at, HasRoom}
 use Rattle.mp4_box.proofs.HeaderLemmas.{header_at-append, whole_is, need-least}
 use Rattle.mp4_box.specs.declared.rules.Fault.{Fault}
 use Rattle.mp4_box.specs.Trees.{tree_faults}
-use Rattle.mp4_stream.specs.Holding.{held_lines, most_held}
+use Rattle.mp4_stream.specs.Holding.{most_held}
 use Rattle.mp4_stream.specs.Listing.{box_line}
-use Rattle.mp4_reading.specs.Readings.{Ask, shifted, Told, silent, says, asks_for, both, Front, Last, Whole, after_told}
-use Rattle.mp4_reading.proofs.ReadingItemLemmas.{Each, IsFirst, IsItem, IsItemAt, asks_stand}
+use Rattle.mp4_reading.specs.Readings.{Ask, shifted, Told, silent, says, asks_for, Front, Last, Whole, after_told}
+use Rattle.mp4_reading.proofs.ReadingItemLemmas.{Each, IsFirst, IsItemAt, asks_stand}
 use Rattle.mp4_reading.proofs.ReadingGrowthLemmas.{told_of}
 use Rattle.mp4_reading.proofs.ReadingLemmas.{Below}
 use Rattle.mp4_reading.specs.Bodies.{longest, told_body, told_open}

@@ -16,12 +16,12 @@ use Rattle.mp4_box.specs.declared.rules.Fault.{Fault}
 use Rattle.mp4_box.specs.Trees.{tree_faults}
 use Rattle.mp4_stream.specs.Holding.{most_held}
 use Rattle.mp4_stream.specs.Listing.{box_line}
-use Rattle.mp4_reading.specs.Readings.{Reading, Outcome, Sound, Faulty, CutOff, Front, Last, Whole, Told, both, says, asks_for, after, after_told, TellsMore}
+use Rattle.mp4_reading.specs.Readings.{Last, says, asks_for}
 use Rattle.mp4_reading.specs.Bodies.{longest, told_body, told_open}
 use Rattle.mp4_stream.specs.Boxes.{refused, passed, body, held_box, held_body, holding, box_by, least_end, box, front_by, front}
 use Rattle.mp4_stream.proofs.BoxLemmas.{front-some, front-none, kind_of-append}
 use Rattle.mp4_reading.proofs.BodyLemmas.{nat_lt_true, nat_lt_false}
-use Rattle.mp4_reading.proofs.ReadingGrowthLemmas.{told_of, LastGrows, FrontGrows, TellsMore-silent, TellsMore-behind, told-grows}
+use Rattle.mp4_reading.proofs.ReadingGrowthLemmas.{FrontGrows, TellsMore-silent, told-grows}
 
 sized-grows : (at : ℕ) (kind : FourCc) (next left : ℕ) (b x : List ℕ) (t : Bool) → nat_lt (length b) left ≡ t → FrontGrows x (told_body passed at kind next left b) (told_body passed at kind next left (b ++ x))
 sized-grows at kind next left b x true e = rw e (TellsMore-silent _)

@@ -11,12 +11,12 @@ use Rattle.mp4_box.proofs.HeaderLemmas.{need-least}
 use Rattle.mp4_box.proofs.HeaderAnswers.{head-whole, head-need, header-none}
 use Rattle.mp4_stream.specs.Listing.{box_line}
 use Rattle.mp4_reading.specs.Readings.{Faulty, silent, after, says, asks_for, nothing, then_read}
-use Rattle.mp4_reading.specs.Bodies.{longest, told_body, told_open}
+use Rattle.mp4_reading.specs.Bodies.{longest, told_body}
 use Rattle.mp4_stream.specs.Boxes.{refused, cut_off, passed, held_body, body, least_end, box, reading}
 use Rattle.mp4_box.specs.declared.rules.Fault.{Fault}
 use Rattle.mp4_box.specs.Trees.{tree_faults}
 use Rattle.mp4_stream.specs.Holding.{held_lines, most_held}
-use Rattle.mp4_stream.specs.Joined.{Item, MayStand, AreBoxes, joined, told_by, told_from}
+use Rattle.mp4_stream.specs.Joined.{Item, MayStand, AreSound, joined, told_by, told_from}
 use Rattle.mp4_reading.proofs.ReadingLemmas.{after-both, after-silent}
 use Rattle.mp4_reading.proofs.BodyLemmas.{nat_lt_true, nat_lt_false}
 use Rattle.mp4_stream.proofs.BoxLemmas.{reading-whole, reading-begun, reading-holds, reading-good, reading-bad_tree, reading-by}
@@ -66,7 +66,7 @@ box_by_limit at b payload later (Some limit) e is may near =
     ∙ ap (after (asks_for at (length b.bytes))) (reading-good at b.header.kind (length b.bytes) b.bytes later refl may.1)
     ∙ after-both (asks_for at (length b.bytes)) (says (held_lines at b.bytes)) (reading (at + length b.bytes) later)
 
-pub reading-boxes : (bs : List Item) (at : ℕ) (later : List ℕ) → AreBoxes at bs → at + length (joined bs) ≤ longest
+pub reading-boxes : (bs : List Item) (at : ℕ) (later : List ℕ) → AreSound at bs → at + length (joined bs) ≤ longest
     → reading at (joined bs ++ later) ≡ after (told_from at bs) (reading (at + length (joined bs)) later)
 reading-boxes [] at later are near = ap (λ n. reading n later) (omega arith) ∙ sym (after-silent (reading (at + 0) later))
 reading-boxes (b ∷ bs) at later (box, may, more) near =

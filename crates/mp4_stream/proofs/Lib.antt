@@ -5,3 +5,4 @@ pub mod PlaceLemmas
 pub mod HoldingLemmas
 pub mod ListingLemmas
 pub mod JoinLemmas
+pub mod RestLemmas

@@ -1,5 +1,5 @@
 -- What a machine that lists boxes brings by its place.
-use Rattle.std.proofs.Common.{◌≡◌, ℕ, ◌+◌, ◌-◌, ◌^◌, ◌<◌, ◌≤◌, List, [], ◌∷◌, ◌++◌, length, Option, Some, None, ap, sym, refl, ◌∙◌, arith, append_assoc, append-nil, length-append, take, drop, take-append-drop, length-take-le, subst}
+use Rattle.std.proofs.Common.{◌≡◌, ℕ, ◌+◌, ◌^◌, ◌<◌, ◌≤◌, List, [], ◌∷◌, ◌++◌, length, Option, Some, None, ap, sym, refl, ◌∙◌, arith, append_assoc, append-nil, length-append, take, drop, take-append-drop, length-take-le, subst}
 use Rattle.mp4_box.specs.declared.headers.FourCc.{FourCc}
 use Rattle.mp4_box.specs.declared.headers.Header.{Header}
 use Rattle.mp4_box.specs.declared.headers.Size.TheVariants.{Exact, ToEnd}
@@ -11,7 +11,7 @@ use Rattle.mp4_box.specs.Trees.{tree_faults}
 use Rattle.mp4_box.proofs.HeaderLemmas.{whole_is, bad_is, need_more, need-append, need-least, need-most, header_at-append}
 use Rattle.mp4_ends.specs.Streams.{AppendsPrefix}
 use Rattle.mp4_ends.proofs.StreamLemmas.{AppendsPrefix-longer}
-use Rattle.mp4_ledger.specs.Memory.{claimed, given_back}
+use Rattle.mp4_ledger.specs.Memory.{given_back}
 use Rattle.mp4_ledger.specs.declared.ledger.Refused.{Refused}
 use Rattle.mp4_ledger.specs.declared.ledger.Refused.TheVariants as refusals
 use Rattle.mp4_reading.specs.Accounts.{Counts, Spends}
@@ -20,8 +20,7 @@ use Rattle.mp4_reading.specs.Bodies.{longest, fault}
 use Rattle.mp4_reading.specs.Pieces.{Outside, Standing, Moves, GoesOn, Refuses, Starves, Loses, StopsAt, refusal_of}
 use Rattle.mp4_reading.specs.Readings.{Faulty, Reading, Told, then_read, silent, says, asks_for, most_of, after}
 use Rattle.mp4_reading.specs.declared.stop.Stop.{Stop}
-use Rattle.mp4_reading.specs.declared.stop.Stop.TheVariants.{OverLimit, Memory}
-use Rattle.mp4_reading.proofs.AccountLemmas.{Counts-none, Counts-claim, Counts-back, Spends-more, Spends-counts}
+use Rattle.mp4_reading.proofs.AccountLemmas.{Counts-none, Counts-back, Spends-more, Spends-counts}
 use Rattle.mp4_reading.proofs.BlockLemmas.{Passes-none}
 use Rattle.mp4_reading.proofs.PieceLemmas.{sent_to, claimed_from, back_to, Moves-none, Moves-claim, GoesOn-silent, GoesOn-more, StopsAt-more}
 use Rattle.mp4_reading.proofs.ReadingLemmas.{after-silent}

@@ -2,4 +2,5 @@ pub mod Listing
 pub mod Holding
 pub mod Boxes
 pub mod Joined
+pub mod Rests
 pub mod Places

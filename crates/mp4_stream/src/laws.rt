@@ -1,6 +1,4 @@
-//! What the definitions of a stream's reading imply, in the terms of how headers are written. Each stream is
-//! a join of whole boxes and then nothing, a box to the end of the stream, or bytes that begin no whole box:
-//! the first law reads past the join, the others tell what the rest comes to.
+//! What the definitions of a stream's reading imply, in the terms of how headers are written (ISO/IEC 14496-12, 4.2).
 
 ghost use Rattle.std.specs.Prelude.{◌≡◌, ◌+◌, ◌-◌, ◌<◌, ◌≤◌, ◌++◌, ◌∷◌, List, ℕ, [], length, take, None, Some};
 ghost use Rattle.mp4_box.specs.Headers.{BeginsWith, Head, IsBox, IsBytes, kind_of, need};
@@ -12,14 +10,23 @@ ghost use Rattle.mp4_box.specs.declared.rules.Rule.TheVariants.{BadSize, StreamT
 ghost use Rattle.mp4_reading.specs.Bodies.{longest};
 ghost use Rattle.mp4_stream.specs.Boxes.{cut_off, least_end, listing, reading, refused};
 ghost use Rattle.mp4_stream.specs.Holding.{most_held};
-ghost use Rattle.mp4_stream.specs.Joined.{AreBoxes, Item, joined, told_from};
+ghost use Rattle.mp4_stream.specs.Joined.{AreSound, Item, joined, told_from};
 ghost use Rattle.mp4_stream.specs.Listing.{box_line};
+ghost use Rattle.mp4_stream.specs.Rests.{Split};
 ghost use Rattle.mp4_reading.specs.Readings.{Ask, GrowsTo, Faulty, after, asks_for, nothing, says, silent};
+
+/// Each stream is whole boxes that break no rule, one after the other, and then one of the rests that are named: nothing, a
+/// box that is cut, that goes too far, that breaks a rule, or that goes to the end of the stream. It is read as these
+/// boxes' lines, and then as the rest says.
+pub fn every_stream()
+    ensures { (b : List ℕ) → IsBytes b → (s : Split 0 b) ×
+        (reading 0 b ≡ after (told_from 0 s.boxes) s.reading) }
+{}
 
 /// Whole boxes that break no rule are told one after the other, a moov or moof by its tree and each other
 /// by its line, and the bytes behind them are read as if they came first.
 pub fn whole_boxes()
-    ensures { (bs : List Item) (at : ℕ) (later : List ℕ) → AreBoxes at bs → at + length (joined bs) ≤ longest →
+    ensures { (bs : List Item) (at : ℕ) (later : List ℕ) → AreSound at bs → at + length (joined bs) ≤ longest →
         reading at (joined bs ++ later) ≡ after (told_from at bs) (reading (at + length (joined bs)) later) }
 {}
 

@@ -1,4 +1,4 @@
-use Rattle.std.proofs.Common.{◌++◌, arith, rules, refl}
+use Rattle.std.proofs.Common.{◌++◌, rules, refl}
 use Rattle.mp4_reading.proofs.PieceLemmas.{GoesOn-none, Takes-ok, Takes-err}
 use Rattle.mp4_stream.specs.Places.{InHeld, outside, standing}
 use Rattle.mp4_stream.proofs.HoldingLemmas.{verdict_good, verdict_bad}

@@ -1,4 +1,4 @@
-use Rattle.std.proofs.Common.{◌∙◌, ◌-◌, ap, take, length, length-take-le, arith, sym}
+use Rattle.std.proofs.Common.{◌∙◌, ◌-◌, ap, take, length, length-take-le, arith}
 use Rattle.mp4_reading.proofs.BodyLemmas.{body-over, body-passed}
 use Rattle.mp4_reading.specs.Bodies.{told_body}
 use Rattle.mp4_reading.specs.Readings.{then_read}

@@ -1,6 +1,5 @@
-use Rattle.std.proofs.Common.{◌≡◌, ◌+◌, ◌<◌, [], arith, refl, ap, Err}
+use Rattle.std.proofs.Common.{◌≡◌, ◌+◌, arith, refl, ap, Err}
 use Rattle.std.proofs.KnownBytes.{Consumes-nil, Appends-nil}
-use Rattle.mp4_ledger.specs.declared.ledger.Refused.TheVariants as refusals
 use Rattle.mp4_reading.proofs.AccountLemmas.{within_limit}
 use Rattle.mp4_reading.proofs.RunLemmas.{idle-stops}
 use Rattle.mp4_stream.specs.Boxes.{reading}

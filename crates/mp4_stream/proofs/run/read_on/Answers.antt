@@ -1,9 +1,6 @@
-use Rattle.std.proofs.Common.{rules, arith, ◌≡◌, ◌++◌, [], take, length, length-append, append-nil, ◌∙◌, refl, sym, ap, Err, subst, length-take, ◌≤◌}
+use Rattle.std.proofs.Common.{rules, arith, ◌≡◌, ◌++◌, [], take, length, length-append, ◌∙◌, refl, sym, ap, length-take, ◌≤◌}
 use Rattle.std.proofs.KnownBytes.{Appends-nil, Consumes-nil, Consumes-trans, Consumes-kept}
 use Rattle.mp4_ends.proofs.StreamLemmas.{Consumes-then_none}
-use Rattle.mp4_reading.specs.Pieces.{IsFed}
-use Rattle.mp4_reading.specs.Readings.{silent}
-use Rattle.mp4_reading.specs.Runs.{Ends}
 use Rattle.mp4_reading.proofs.PieceLemmas.{IsFed-none, IsFed-more}
 use Rattle.mp4_reading.proofs.RunLemmas.{fed-fault, fed-undecided, fed-tells, fed-takes, prompt-now, prompt-read, takes-left}
 use Rattle.mp4_stream.specs.Boxes.{reading}

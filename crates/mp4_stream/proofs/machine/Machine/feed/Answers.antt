@@ -1,4 +1,4 @@
-use Rattle.std.proofs.Common.{◌≡◌, ◌++◌, [], Err, Ok, refl, sym, arith}
+use Rattle.std.proofs.Common.{◌++◌, [], refl}
 use Rattle.std.proofs.lemmas.Bool.{false≢true}
 use Rattle.mp4_reading.proofs.PieceLemmas.{Loses-waiting, Takes-err, Takes-sent, Takes-unsent}
 use Rattle.mp4_stream.specs.Places.{standing}

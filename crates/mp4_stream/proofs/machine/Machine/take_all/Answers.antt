@@ -1,4 +1,4 @@
-use Rattle.std.proofs.Common.{arith, rules, ap, Err, drop, ◌++◌, ◌∙◌, refl}
+use Rattle.std.proofs.Common.{arith, rules, ap, Err, ◌∙◌, refl}
 use Rattle.std.proofs.lemmas.List.{take_rest, length-drop}
 use Rattle.mp4_stream.specs.Places.{standing}
 use Rattle.mp4_reading.proofs.PieceLemmas.{GoesOn-none, GoesOn-take_more, StopsAt-take_more, Takes-err}

@@ -1,6 +1,5 @@
 use Rattle.std.proofs.Common.{sym, ◌∙◌, ap, Err}
 use Rattle.mp4_reading.proofs.PieceLemmas.{Takes-ok, Takes-err}
-use Rattle.mp4_stream.proofs.PlaceLemmas.{claim-none}
 use Rattle.mp4_stream.proofs.machine.Machine.take_some.Goals as goal
 
 pub returns-in-Err-clause-takes : goal.returns-in-Err-clause-takes

@@ -1,0 +1,58 @@
+-- What is left of a stream behind whole boxes that break no rule, and what it is read as.
+use Rattle.std.specs.Prelude.{◌≡◌, ℕ, ◌+◌, ◌<◌, ◌≤◌, List, [], ◌∷◌, ◌++◌, length, Some, None}
+use Rattle.mp4_box.specs.Headers.{BeginsWith, Head, IsBox, kind_of, need}
+use Rattle.mp4_box.specs.Trees.{tree_faults}
+use Rattle.mp4_box.specs.declared.headers.Header.{Header}
+use Rattle.mp4_box.specs.declared.headers.Size.TheVariants.{Exact, ToEnd}
+use Rattle.mp4_box.specs.declared.rules.Fault.{Fault}
+use Rattle.mp4_box.specs.declared.rules.Rule.TheVariants.{BadSize, StreamTooLong, TooLarge, Truncated}
+use Rattle.mp4_reading.specs.Bodies.{longest}
+use Rattle.mp4_reading.specs.Readings.{Faulty, Reading, after, asks_for, nothing, says, silent}
+use Rattle.mp4_stream.specs.Boxes.{cut_off, least_end, refused}
+use Rattle.mp4_stream.specs.Holding.{most_held}
+use Rattle.mp4_stream.specs.Joined.{AreSound, Item, joined}
+use Rattle.mp4_stream.specs.Listing.{box_line}
+
+-- bytes that begin with a header
+pub record Headed (y : List ℕ) : Type 0 where
+  pub header : Header
+  pub head : List ℕ
+  pub more : List ℕ
+  pub spelled : Head header head
+  pub cut : y ≡ head ++ more
+
+-- the rest y stands at an offset, and is read so
+pub data IsRest (at : ℕ) (y : List ℕ) (r : Reading) : Type 0 where
+  -- nothing is left
+  Ended : y ≡ [] → r ≡ nothing → IsRest at y r
+  -- too few bytes for a header
+  CutInHeader : 0 < length y → length y < need y → r ≡ cut_off Truncated (kind_of y) at → IsRest at y r
+  -- no header begins these bytes, though there are enough
+  BadHeader : need y ≤ length y → ((h : Header) → BeginsWith h y → ⊥) → r ≡ refused BadSize (kind_of y) at → IsRest at y r
+  -- a box that goes past the longest stream
+  TooFar : (b : Headed y) → longest < least_end at b.header b.header.size → r ≡ refused StreamTooLong (Some b.header.kind) at → IsRest at y r
+  -- a box that isn't held, and isn't whole
+  CutInBody : (b : Headed y) (s : ℕ) → most_held b.header.kind.0 ≡ None → b.header.size ≡ Exact s → at + s ≤ longest → length y < s
+      → r ≡ after (says (box_line at b.header)) (cut_off Truncated (Some b.header.kind) at) → IsRest at y r
+  -- one that goes to the end of the stream
+  Open : (b : Headed y) → most_held b.header.kind.0 ≡ None → b.header.size ≡ ToEnd → at + length y ≤ longest → r ≡ after (says (box_line at b.header)) nothing → IsRest at y r
+  OpenTooFar : (b : Headed y) → most_held b.header.kind.0 ≡ None → b.header.size ≡ ToEnd → at + length b.head ≤ longest → longest < at + length y
+      → r ≡ after (says (box_line at b.header)) (refused StreamTooLong (Some b.header.kind) at) → IsRest at y r
+  -- a moov or moof that is too large, or states no size
+  Large : (b : Headed y) (limit s : ℕ) → most_held b.header.kind.0 ≡ Some limit → b.header.size ≡ Exact s → at + s ≤ longest → limit < s → r ≡ refused TooLarge (Some b.header.kind) at → IsRest at y r
+  Unsized : (b : Headed y) (limit : ℕ) → most_held b.header.kind.0 ≡ Some limit → b.header.size ≡ ToEnd → at + length b.head ≤ longest → r ≡ refused TooLarge (Some b.header.kind) at → IsRest at y r
+  -- one that isn't whole, or has a fault in its tree
+  CutInHeld : (b : Headed y) (limit s : ℕ) → most_held b.header.kind.0 ≡ Some limit → b.header.size ≡ Exact s → at + s ≤ longest → s ≤ limit → length y < s
+      → r ≡ after (asks_for at s) (cut_off Truncated (Some b.header.kind) at) → IsRest at y r
+  BadTree : (h : Header) (limit : ℕ) (payload x more : List ℕ) (f : Fault) (fs : List Fault) → y ≡ x ++ more → IsBox h payload x → most_held h.kind.0 ≡ Some limit → at + length x ≤ longest → length x ≤ limit
+      → tree_faults at x ≡ f ∷ fs → r ≡ after (asks_for at (length x)) (record { told = silent; outcome = Faulty f }) → IsRest at y r
+
+-- the bytes b from an offset on are whole boxes that break no rule, and then one of the rests
+pub record Split (at : ℕ) (b : List ℕ) : Type 0 where
+  pub boxes : List Item
+  pub rest : List ℕ
+  pub cut : b ≡ joined boxes ++ rest
+  pub sound : AreSound at boxes
+  pub near : at + length (joined boxes) ≤ longest
+  pub reading : Reading
+  pub is : IsRest (at + length (joined boxes)) rest reading
