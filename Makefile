@@ -18,7 +18,7 @@ moov_tracks:
 
 test:
 	@scripts/needs_rt
-	@echo "proving everything from nothing and running the tests: about half an hour on 4 cores" >&2
+	@echo "proving everything from nothing and running the tests: 20 to 30 minutes on 4 cores" >&2
 	@rt ci
 
 install:

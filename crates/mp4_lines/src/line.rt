@@ -49,6 +49,13 @@ impl Line {
         &self.text[..self.len]
     }
 
+    /// Empties the line, for the next one.
+    pub fn clear(&mut self)
+        ensures { self.new ≡ [] }
+    {
+        self.len = 0;
+    }
+
     /// Appends these bytes.
     pub fn push_bytes(&mut self, bytes: &[u8])
         requires { length self.old + length bytes.now ≤ LINE_CAPACITY }
