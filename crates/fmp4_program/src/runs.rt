@@ -79,7 +79,8 @@ fn list_boxes<R: Source, W: Sink>(
       write_failed = W.has_failed w.old;
       write_failed' = W.has_failed w.new;
     })
-        (record { copy = copy; limit = ledger.old.limit; peak = ledger.new.peak }) uncounted result }
+        (record { copy = copy; limit = ledger.old.limit; peak = ledger.new.peak })
+        uncounted result }
     ensures within { ledger.new.peak ≤ ledger.old.limit }
     ensures flushed { OnOk result (W.has_failed w.new ≡ false) }
 {

@@ -72,7 +72,8 @@ pub fn boxes<R: Source, W: Sink>(
       write_failed = W.has_failed w.old;
       write_failed' = W.has_failed w.new;
     })
-        (record { copy = copy; limit = ledger.old.limit; peak = ledger.new.peak }) uncounted result }
+        (record { copy = copy; limit = ledger.old.limit; peak = ledger.new.peak })
+        uncounted result }
 
     // No more was claimed at once than may be, and all was given back.
     ensures within { ledger.new.peak ≤ ledger.old.limit }
