@@ -1,5 +1,5 @@
 -- The boxes of a payload, one step at a time.
-use Rattle.std.proofs.Common.{◌≡◌, ℕ, zero, suc, ◌+◌, ◌-◌, ◌<◌, ◌≤◌, ◌==◌, true, false, List, [], ◌∷◌, ◌++◌, length, drop, Option, Some, None, Ok, Err, refl, sym, ap, ◌∙◌, arith}
+use Rattle.std.proofs.Common.{Bool, not, ◌≡◌, ℕ, zero, suc, ◌+◌, ◌-◌, ◌<◌, ◌≤◌, ◌==◌, true, false, List, [], ◌∷◌, ◌++◌, length, drop, Option, Some, None, Ok, Err, refl, sym, ap, ◌∙◌, arith}
 use Rattle.std.specs.Option.{option_or, is_some}
 use Rattle.mp4_box.specs.declared.rules.Rule.TheVariants.{Depth}
 use Rattle.mp4_box.specs.declared.rules.Fault.{Fault}
@@ -55,6 +55,10 @@ pub deep-leaf : (n : ℕ) (b : Box) → 0 < n → is_container b.header.kind.0 �
 unfolding deep_below
 deep-leaf zero b h c = absurd (omega arith)
 deep-leaf (suc n) b h c = rw c refl
+
+pub none_held : (held k : Bool) → held ≡ k → not held ≡ true → k ≡ false
+none_held true k e n = absurd cc
+none_held false k e n = sym e
 
 pub verdict-ok : (fs : List Fault) → verdict fs ≡ Ok tt → fs ≡ []
 verdict-ok [] e = refl

@@ -1,6 +1,6 @@
 //! The tree of a held box (ISO/IEC 14496-12, 4.2).
 
-ghost use Rattle.std.specs.Prelude.{◌≡◌, ◌+◌, ◌-◌, ◌^◌, ◌<◌, ◌≤◌, length, Some, IfErr, IsOk, IsTrue, ◌↔◌, OnOk, IfSome, option_map};
+ghost use Rattle.std.specs.Prelude.{◌≡◌, ◌+◌, ◌-◌, ◌^◌, ◌<◌, ◌≤◌, [], length, Some, IfErr, IsOk, IsTrue, ◌↔◌, OnOk, IfSome, option_map};
 ghost use Rattle.std.specs.Option.{option_or};
 ghost use Rattle.mp4_box.specs.Headers.{IsWhole};
 ghost use Rattle.mp4_box.specs.Trees.{bad_below, bad_size, box_at, box_len, deep_below, fault_at, first_of, is_container, tree_faults, verdict, view};
@@ -90,6 +90,17 @@ impl<'a> BoxRef<'a> {
     }
 }
 
+/// Whether nothing can be at fault below this box, `levels` levels down: it holds no boxes.
+fn is_leaf(this: &BoxRef, levels: u8) -> bool
+    ensures bad { IsTrue result → bad_below levels (view this.now) ≡ [] }
+    ensures deep { IsTrue result → deep_below levels (view this.now) ≡ [] }
+{
+    if levels == 0 {
+        return false;
+    }
+    !holds_boxes(this.header.kind)
+}
+
 /// What is at fault below a box, `levels` levels down: the first rest in which no box stands. A box that
 /// stands too deep is kept in `deep`.
 fn check_below(this: &BoxRef, levels: u8, deep: &mut Option<Fault>) -> Result<(), Fault>
@@ -112,8 +123,10 @@ fn check_below(this: &BoxRef, levels: u8, deep: &mut Option<Fault>) -> Result<()
         let Some(child) = first_box(rest, offset) else {
             return Err(bad_box(rest, offset));
         };
-        if let Err(fault) = check_below(&child, levels - 1, deep) {
-            return Err(fault);
+        if !is_leaf(&child, levels - 1) {
+            if let Err(fault) = check_below(&child, levels - 1, deep) {
+                return Err(fault);
+            }
         }
         let len = child.header.header_len as usize + child.payload.len();
         let (_, others) = rest.split_at(len);

@@ -4,7 +4,7 @@ ghost use Rattle.std.specs.Prelude.{◌≡◌, ◌+◌, ◌≤◌, ◌++◌, [],
 ghost use Rattle.mp4_ends.specs.Streams.{AppendsPrefix};
 ghost use Rattle.mp4_box.specs.Trees.{view};
 ghost use Rattle.mp4_reading.specs.Blocks.{Passes};
-ghost use Rattle.mp4_stream.specs.Listing.{box_line, line_below, size_text, tree_lines, user_text};
+ghost use Rattle.mp4_stream.specs.Listing.{box_line, has_lines_below, line_below, lines_below, size_text, tree_lines, user_text};
 
 use mp4_box::{BoxRef, Header, Size, Walk, holds_boxes};
 use mp4_ends::{Failed, Sink};
@@ -40,6 +40,16 @@ pub(crate) fn push_box(line: &mut Line, at: u64, header: &Header)
     line.push_bytes(b"\n");
 }
 
+/// Whether lines of boxes below this one follow its own, where so many levels below it are listed.
+fn has_lines_below(this: &BoxRef<'_>, levels: u8) -> bool
+    ensures { result ≡ has_lines_below levels (view this.now) }
+{
+    if levels == 0 {
+        return false;
+    }
+    holds_boxes(this.header.kind)
+}
+
 /// Puts the lines of a box, which stands so many levels below the top, and of the boxes below it: as far as `levels` go.
 pub(crate) fn put_tree<W: Sink>(
     this: &BoxRef<'_>,
@@ -57,24 +67,73 @@ pub(crate) fn put_tree<W: Sink>(
     ensures kept { OnOk result (W.has_failed w.new ≡ W.has_failed w.old) }
 {
     let mut line = Line::new();
-    push_line(&mut line, this, level);
-    match out.put(w, line.bytes()) {
+    match put_line(this, level, &mut line, out, w) {
         Ok(()) => {}
         Err(Failed) => return Err(Failed),
     }
-    if levels == 0 {
+    if !has_lines_below(this, levels) {
         return Ok(());
     }
-    if !holds_boxes(this.header.kind) {
-        return Ok(());
+    match put_below(this, levels - 1, level + 1, &mut line, out, w) {
+        Ok(()) => Ok(()),
+        Err(Failed) => Err(Failed),
     }
+}
+
+/// Puts the lines of the boxes below a box: its children stand so many levels below the top.
+fn put_below<W: Sink>(
+    this: &BoxRef<'_>,
+    levels: u8,
+    level: u8,
+    line: &mut Line,
+    out: &mut Block,
+    w: &mut W,
+) -> Result<(), Failed>
+    requires { levels + level ≤ 7 }
+    ensures ok { OnOk result (Passes (W.contents w.old) (W.contents w.new) out.old out.new
+        (lines_below levels level (view this.now))) }
+    ensures err { OnErr result (AppendsPrefix (W.contents w.old) (W.contents w.new)
+        (out.old ++ lines_below levels level (view this.now))) }
+    ensures failed { OnErr result (W.has_failed w.new ≡ true) }
+    ensures kept { OnOk result (W.has_failed w.new ≡ W.has_failed w.old) }
+{
     for child in Walk::of(this) {
-        match put_tree(&child, levels - 1, level + 1, out, w) {
+        match put_line(&child, level, line, out, w) {
             Ok(()) => {}
             Err(Failed) => return Err(Failed),
         }
+        if has_lines_below(&child, levels) {
+            match put_below(&child, levels - 1, level + 1, line, out, w) {
+                Ok(()) => {}
+                Err(Failed) => return Err(Failed),
+            }
+        }
     }
     Ok(())
+}
+
+/// Puts the line of a box that stands so many levels below the top. It is built in `line`.
+fn put_line<W: Sink>(
+    this: &BoxRef<'_>,
+    level: u8,
+    line: &mut Line,
+    out: &mut Block,
+    w: &mut W,
+) -> Result<(), Failed>
+    requires { level ≤ 7 }
+    ensures ok { OnOk result (Passes (W.contents w.old) (W.contents w.new) out.old out.new
+        (line_below level (view this.now))) }
+    ensures err { OnErr result (AppendsPrefix (W.contents w.old) (W.contents w.new)
+        (out.old ++ line_below level (view this.now))) }
+    ensures failed { OnErr result (W.has_failed w.new ≡ true) }
+    ensures kept { OnOk result (W.has_failed w.new ≡ W.has_failed w.old) }
+{
+    line.clear();
+    push_line(line, this, level);
+    match out.put(w, line.bytes()) {
+        Ok(()) => Ok(()),
+        Err(Failed) => Err(Failed),
+    }
 }
 
 fn push_size(line: &mut Line, size: Size)
