@@ -17,9 +17,9 @@ use std::marker::Model;
 
 /// A moov or moof in claimed memory. It must be given back.
 pub(crate) struct Held {
+    buf: Buf,
     at: u64,
     kind: FourCc,
-    buf: Buf,
 }
 
 // A contract sees the box that is to come, and what came of it.

@@ -1,6 +1,6 @@
 //! How headers are taken, and boxes that are held.
 
-ghost use Rattle.std.specs.Prelude.{◌≡◌, ◌+◌, ◌-◌, ◌<◌, ◌≤◌, ◌∷◌, [], length, take, None, Some, IfOk, OnErr};
+ghost use Rattle.std.specs.Prelude.{◌≡◌, ◌+◌, ◌-◌, ◌<◌, ◌≤◌, ◌∷◌, [], length, take, None, Some, IfOk, OnErr, OnOk};
 ghost use Rattle.mp4_box.specs.Headers.{HasRoom, header_at, need};
 ghost use Rattle.mp4_box.specs.declared.headers.Step.TheVariants as steps;
 ghost use Rattle.mp4_reading.specs.Bodies.{longest};
@@ -18,56 +18,41 @@ use mp4_ends::{Failed, Sink};
 use mp4_ledger::Ledger;
 use mp4_lines::Line;
 use mp4_reading::{Block, Stop};
+use std::mem::replace;
 
-/// What was taken of a piece.
-pub(crate) struct Taken {
-    /// How many bytes.
-    pub(crate) count: usize,
+/// How far a machine came between headers and boxes that are held.
+pub(crate) struct Progress {
     /// What comes next; behind the box that is held, where one is.
     pub(crate) phase: Phase,
     /// The box that is held, of which more is to come.
     pub(crate) held: Option<Held>,
 }
 
-/// What comes behind a header.
-struct Begun {
-    /// What comes next; behind the box that is held, where one is.
-    phase: Phase,
-    /// The box that is held, of which more is to come.
-    held: Option<Held>,
-}
-
-/// Bytes that were taken of a box that is held.
-pub(crate) struct Kept {
-    /// How many.
-    pub(crate) count: usize,
-    /// The box, where more of it is to come.
-    pub(crate) held: Option<Held>,
-}
-
-/// Takes some bytes from the front of a piece, while no box is held.
+/// Takes some bytes from the front of a piece, while no box is held: how many.
 pub(crate) fn take_unheld<W: Sink>(
-    phase: Phase,
+    progress: &mut Progress,
     head: &mut HeaderReader,
     piece: &[u8],
     ledger: &mut Ledger,
     out: &mut Block,
     w: &mut W,
-) -> Result<Taken, Stop>
+) -> Result<usize, Stop>
     requires some { 0 < length piece.now }
-    requires phase { IsPhase head.old phase }
+    requires phase { IsPhase head.old progress.old.phase }
+    requires none { progress.old.held ≡ None }
     ensures takes { Takes (around W.contents W.has_failed w.old w.new out.old out.new
         ledger.old ledger.new)
-        (standing (place_by head.old phase)) piece.now (λ t. take t.count piece.now)
-        (λ t. standing (place_of head.new t.phase t.held)) result }
-    ensures taken { IfOk result (λ t. (0 < t.count) × (t.count ≤ length piece.now)) }
-    ensures claim { IfOk result (λ t. claim_of (place_of head.new t.phase t.held) ≤
-        ledger.new.live) }
-    ensures machine { IfOk result (λ t. IsMachine head.new t.phase t.held) }
-    ensures spent { OnErr result (IsPhase head.new phase) }
+        (standing (place_by head.old progress.old.phase)) piece.now (λ n. take n piece.now)
+        (λ _. standing (place_of head.new progress.new.phase progress.new.held)) result }
+    ensures taken { IfOk result (λ n. (0 < n) × (n ≤ length piece.now)) }
+    ensures claim { OnOk result (claim_of (place_of head.new progress.new.phase
+        progress.new.held) ≤ ledger.new.live) }
+    ensures machine { OnOk result (IsMachine head.new progress.new.phase progress.new.held) }
+    ensures spent { OnErr result (IsPhase head.new progress.new.phase) }
+    ensures none { OnErr result (progress.new.held ≡ None) }
 {
-    match phase {
-        Phase::Header { at } => take_header(at, head, piece, ledger, out, w),
+    match progress.phase {
+        Phase::Header { at } => take_header(at, progress, head, piece, ledger, out, w),
         Phase::Body {
             at,
             kind,
@@ -75,59 +60,55 @@ pub(crate) fn take_unheld<W: Sink>(
             left,
         } => {
             let passed = pass(at, kind, next, left, piece);
-            Ok(Taken {
-                count: passed.count,
-                phase: passed.phase,
-                held: None,
-            })
+            progress.phase = passed.phase;
+            Ok(passed.count)
         }
         Phase::OpenBody { at, kind, left } => match pass_open(at, kind, left, piece) {
-            Ok(phase) => Ok(Taken {
-                count: piece.len(),
-                phase,
-                held: None,
-            }),
+            Ok(phase) => {
+                progress.phase = phase;
+                Ok(piece.len())
+            }
             Err(stop) => Err(stop),
         },
     }
 }
 
-/// Takes the header of the box at `at`, where all of it is in the piece, or else a byte of it.
+/// Takes the header of the box at `at`, where all of it is in the piece, or else a byte of it: how many bytes.
 fn take_header<W: Sink>(
     at: u64,
+    progress: &mut Progress,
     head: &mut HeaderReader,
     piece: &[u8],
     ledger: &mut Ledger,
     out: &mut Block,
     w: &mut W,
-) -> Result<Taken, Stop>
+) -> Result<usize, Stop>
     requires some { 0 < length piece.now }
     requires place { IsPlace (InHeader at head.old) }
+    requires phase { progress.old.phase ≡ phases.Header at }
+    requires none { progress.old.held ≡ None }
     ensures takes { Takes (around W.contents W.has_failed w.old w.new out.old out.new
         ledger.old ledger.new)
-        (standing (InHeader at head.old)) piece.now (λ t. take t.count piece.now)
-        (λ t. standing (place_of head.new t.phase t.held)) result }
-    ensures taken { IfOk result (λ t. (0 < t.count) × (t.count ≤ length piece.now)) }
-    ensures claim { IfOk result (λ t. claim_of (place_of head.new t.phase t.held) ≤
-        ledger.new.live) }
-    ensures machine { IfOk result (λ t. IsMachine head.new t.phase t.held) }
+        (standing (InHeader at head.old)) piece.now (λ n. take n piece.now)
+        (λ _. standing (place_of head.new progress.new.phase progress.new.held)) result }
+    ensures taken { IfOk result (λ n. (0 < n) × (n ≤ length piece.now)) }
+    ensures claim { OnOk result (claim_of (place_of head.new progress.new.phase
+        progress.new.held) ≤ ledger.new.live) }
+    ensures machine { OnOk result (IsMachine head.new progress.new.phase progress.new.held) }
     ensures spent { OnErr result (head.new ≡ []) }
+    ensures kept { OnErr result (progress.new ≡ progress.old) }
 {
     if head.is_empty() {
         if let Ok(header) = header_of(piece) {
             let count = header.header_len as usize;
-            return match begin(at, &header, &piece[..count], ledger, out, w) {
-                Ok(Begun { phase, held }) => Ok(Taken { count, phase, held }),
+            return match begin(at, &header, &piece[..count], progress, ledger, out, w) {
+                Ok(()) => Ok(count),
                 Err(stop) => Err(stop),
             };
         }
     }
-    match take_byte(at, head, piece[0], ledger, out, w) {
-        Ok(Begun { phase, held }) => Ok(Taken {
-            count: 1,
-            phase,
-            held,
-        }),
+    match take_byte(at, progress, head, piece[0], ledger, out, w) {
+        Ok(()) => Ok(1),
         Err(stop) => Err(stop),
     }
 }
@@ -135,34 +116,35 @@ fn take_header<W: Sink>(
 /// Takes a byte of the header of the box at `at`.
 fn take_byte<W: Sink>(
     at: u64,
+    progress: &mut Progress,
     head: &mut HeaderReader,
     byte: u8,
     ledger: &mut Ledger,
     out: &mut Block,
     w: &mut W,
-) -> Result<Begun, Stop>
+) -> Result<(), Stop>
     requires place { IsPlace (InHeader at head.old) }
+    requires phase { progress.old.phase ≡ phases.Header at }
+    requires none { progress.old.held ≡ None }
     ensures takes { Takes (around W.contents W.has_failed w.old w.new out.old out.new
         ledger.old ledger.new)
         (standing (InHeader at head.old)) (byte ∷ []) (λ _. byte ∷ [])
-        (λ b. standing (place_of head.new b.phase b.held)) result }
-    ensures claim { IfOk result (λ b. claim_of (place_of head.new b.phase b.held) ≤
-        ledger.new.live) }
-    ensures machine { IfOk result (λ b. IsMachine head.new b.phase b.held) }
+        (λ _. standing (place_of head.new progress.new.phase progress.new.held)) result }
+    ensures claim { OnOk result (claim_of (place_of head.new progress.new.phase
+        progress.new.held) ≤ ledger.new.live) }
+    ensures machine { OnOk result (IsMachine head.new progress.new.phase progress.new.held) }
     ensures spent { OnErr result (head.new ≡ []) }
+    ensures kept { OnErr result (progress.new ≡ progress.old) }
 {
     match head.feed(byte) {
-        Step::More => Ok(Begun {
-            phase: Phase::Header { at },
-            held: None,
-        }),
+        Step::More => Ok(()),
         Step::BadSize => {
             let kind = head.kind();
             *head = HeaderReader::new();
             Err(refused(Rule::BadSize, kind, at))
         }
         Step::Whole(header) => {
-            let begun = begin(at, &header, head.bytes(), ledger, out, w);
+            let begun = begin(at, &header, head.bytes(), progress, ledger, out, w);
             *head = HeaderReader::new();
             begun
         }
@@ -174,33 +156,40 @@ fn begin<W: Sink>(
     at: u64,
     header: &Header,
     head: &[u8],
+    progress: &mut Progress,
     ledger: &mut Ledger,
     out: &mut Block,
     w: &mut W,
-) -> Result<Begun, Stop>
+) -> Result<(), Stop>
     requires at { at ≤ longest }
     requires header_len { (8 ≤ header.now.header_len) × (header.now.header_len ≤ 32) }
     requires room { HasRoom header.now.size header.now.header_len }
     requires len { length head.now ≡ need head.now }
     requires is { header_at head.now ≡ steps.Whole header.now }
+    requires none { progress.old.held ≡ None }
     ensures takes { Takes (around W.contents W.has_failed w.old w.new out.old out.new
         ledger.old ledger.new)
         (standing (InHeader at head.now)) [] (λ _. [])
-        (λ b. standing (place_of [] b.phase b.held)) result }
-    ensures claim { IfOk result (λ b. claim_of (place_of [] b.phase b.held) ≤ ledger.new.live) }
-    ensures machine { IfOk result (λ b. IsMachine [] b.phase b.held) }
+        (λ _. standing (place_of [] progress.new.phase progress.new.held)) result }
+    ensures claim { OnOk result (claim_of (place_of [] progress.new.phase progress.new.held) ≤
+        ledger.new.live) }
+    ensures machine { OnOk result (IsMachine [] progress.new.phase progress.new.held) }
+    ensures kept { OnErr result (progress.new ≡ progress.old) }
 {
     let phase = match phase_behind(at, header) {
         Some(phase) => phase,
         None => return Err(refused(Rule::StreamTooLong, Some(header.kind), at)),
     };
     match held_limit(header.kind) {
-        Some(limit) => begin_held(at, header, limit, head, ledger, out, w),
+        Some(limit) => begin_held(at, header, limit, head, progress, ledger, out, w),
         None => {
             let mut line = Line::new();
             push_box(&mut line, at, header);
             match out.put(w, line.bytes()) {
-                Ok(()) => Ok(Begun { phase, held: None }),
+                Ok(()) => {
+                    progress.phase = phase;
+                    Ok(())
+                }
                 Err(Failed) => Err(Stop::Write),
             }
         }
@@ -213,21 +202,25 @@ fn begin_held<W: Sink>(
     header: &Header,
     limit: u64,
     head: &[u8],
+    progress: &mut Progress,
     ledger: &mut Ledger,
     out: &mut Block,
     w: &mut W,
-) -> Result<Begun, Stop>
+) -> Result<(), Stop>
     requires room { HasRoom header.now.size header.now.header_len }
     requires len { length head.now ≡ need head.now }
     requires is { header_at head.now ≡ steps.Whole header.now }
     requires end { least_end at header.now header.now.size ≤ longest }
     requires held { most_held header.now.kind.0 ≡ Some limit }
+    requires none { progress.old.held ≡ None }
     ensures takes { Takes (around W.contents W.has_failed w.old w.new out.old out.new
         ledger.old ledger.new)
         (standing (InHeader at head.now)) [] (λ _. [])
-        (λ b. standing (place_of [] b.phase b.held)) result }
-    ensures claim { IfOk result (λ b. claim_of (place_of [] b.phase b.held) ≤ ledger.new.live) }
-    ensures machine { IfOk result (λ b. IsMachine [] b.phase b.held) }
+        (λ _. standing (place_of [] progress.new.phase progress.new.held)) result }
+    ensures claim { OnOk result (claim_of (place_of [] progress.new.phase progress.new.held) ≤
+        ledger.new.live) }
+    ensures machine { OnOk result (IsMachine [] progress.new.phase progress.new.held) }
+    ensures kept { OnErr result (progress.new ≡ progress.old) }
 {
     let Size::Exact(size) = header.size else {
         return Err(refused(Rule::TooLarge, Some(header.kind), at));
@@ -239,64 +232,70 @@ fn begin_held<W: Sink>(
         Ok(held) => held,
         Err(refused) => return Err(Stop::of_refusal(refused)),
     };
-    match settle(held, ledger, out, w) {
-        Ok(held) => Ok(Begun {
-            phase: Phase::Header { at: at + size },
-            held,
-        }),
+    match settle(held, &mut progress.held, ledger, out, w) {
+        Ok(()) => {
+            progress.phase = Phase::Header { at: at + size };
+            Ok(())
+        }
         Err(stop) => Err(stop),
     }
 }
 
-/// Takes bytes of a box that is held.
+/// Takes bytes of a box that was held, which is put back where more of it is to come: how many.
 pub(crate) fn take_held<W: Sink>(
     held: Held,
+    slot: &mut Option<Held>,
     piece: &[u8],
     ledger: &mut Ledger,
     out: &mut Block,
     w: &mut W,
-) -> Result<Kept, Stop>
+) -> Result<usize, Stop>
     requires some { 0 < length piece.now }
     requires place { IsPlace (InHeld held.at held.kind held.size held.bytes) }
     requires claim { held.size ≤ ledger.old.live }
+    requires none { slot.old ≡ None }
     ensures takes { Takes (around W.contents W.has_failed w.old w.new out.old out.new
         ledger.old ledger.new)
         (standing (InHeld held.at held.kind held.size held.bytes)) piece.now
-        (λ k. take k.count piece.now)
-        (λ k. standing (place_of [] (phases.Header (held.at + held.size)) k.held)) result }
-    ensures taken { IfOk result (λ k. (0 < k.count) × (k.count ≤ length piece.now)) }
-    ensures claim { IfOk result (λ k. claim_of
-        (place_of [] (phases.Header (held.at + held.size)) k.held) ≤ ledger.new.live) }
-    ensures machine { IfOk result (λ k. IsMachine [] (phases.Header (held.at + held.size))
-        k.held) }
+        (λ n. take n piece.now)
+        (λ _. standing (place_of [] (phases.Header (held.at + held.size)) slot.new)) result }
+    ensures taken { IfOk result (λ n. (0 < n) × (n ≤ length piece.now)) }
+    ensures claim { OnOk result (claim_of
+        (place_of [] (phases.Header (held.at + held.size)) slot.new) ≤ ledger.new.live) }
+    ensures machine { OnOk result (IsMachine [] (phases.Header (held.at + held.size)) slot.new) }
+    ensures none { OnErr result (slot.new ≡ None) }
 {
     let mut held = held;
     let count = held.take(piece);
-    match settle(held, ledger, out, w) {
-        Ok(held) => Ok(Kept { count, held }),
+    match settle(held, slot, ledger, out, w) {
+        Ok(()) => Ok(count),
         Err(stop) => Err(stop),
     }
 }
 
-/// Checks a box that is held, lists it and gives it back, where all of it came: the box, where more of it is to come.
+/// Checks a box that was held, lists it and gives it back, where all of it came. It is put back where more is to come.
 fn settle<W: Sink>(
     held: Held,
+    slot: &mut Option<Held>,
     ledger: &mut Ledger,
     out: &mut Block,
     w: &mut W,
-) -> Result<Option<Held>, Stop>
+) -> Result<(), Stop>
     requires begins { Begins held.size held.bytes }
     requires claim { held.size ≤ ledger.old.live }
+    requires none { slot.old ≡ None }
     ensures takes { Takes (around W.contents W.has_failed w.old w.new out.old out.new
         ledger.old ledger.new)
         (standing (InHeld held.at held.kind held.size held.bytes)) [] (λ _. [])
-        (λ h. standing (place_of [] (phases.Header (held.at + held.size)) h)) result }
-    ensures claim { IfOk result (λ h. claim_of
-        (place_of [] (phases.Header (held.at + held.size)) h) ≤ ledger.new.live) }
-    ensures machine { IfOk result (λ h. IsMachine [] (phases.Header (held.at + held.size)) h) }
+        (λ _. standing (place_of [] (phases.Header (held.at + held.size)) slot.new)) result }
+    ensures claim { OnOk result (claim_of
+        (place_of [] (phases.Header (held.at + held.size)) slot.new) ≤ ledger.new.live) }
+    ensures machine { OnOk result (IsMachine [] (phases.Header (held.at + held.size)) slot.new) }
+    ensures none { OnErr result (slot.new ≡ None) }
 {
     if !held.is_whole() {
-        return Ok(Some(held));
+        put(slot, held);
+        return Ok(());
     }
     match held.check() {
         Ok(()) => {}
@@ -308,7 +307,18 @@ fn settle<W: Sink>(
     let listed = held.list(out, w);
     held.back(ledger);
     match listed {
-        Ok(()) => Ok(None),
+        Ok(()) => Ok(()),
         Err(Failed) => Err(Stop::Write),
+    }
+}
+
+/// Puts a box where none is.
+fn put(slot: &mut Option<Held>, held: Held)
+    requires { slot.old ≡ None }
+    ensures { slot.new ≡ Some held }
+{
+    match replace(slot, Some(held)) {
+        None => {}
+        Some(_) => unreachable!(),
     }
 }

@@ -9,21 +9,19 @@ ghost use Rattle.mp4_reading.specs.Readings.{fault_in};
 ghost use Rattle.mp4_stream.specs.Places.{InHeader, IsPhase, IsPlace, around, claim_of, place_by, standing};
 
 use crate::held::Held;
-use crate::intake::{Kept, Taken, take_held, take_unheld};
+use crate::intake::{Progress, take_held, take_unheld};
 use crate::phase::Phase;
 use mp4_box::{Fault, FourCc, HeaderReader, Rule};
 use mp4_ends::{Failed, Sink};
 use mp4_ledger::Ledger;
 use mp4_reading::{Block, Stop};
 use std::marker::Model;
-use std::mem::replace;
 
 /// A machine that lists boxes. While it holds a box its phase is the one behind that box. What it has claimed must be
 /// given back.
 pub(crate) struct Machine {
-    phase: Phase,
+    progress: Progress,
     head: HeaderReader,
-    held: Option<Held>,
     out: Block,
 }
 
@@ -33,9 +31,9 @@ impl Model for Machine {
 
     ghost Value = { State };
 
-    ghost view = { λ m. record { place = place_of m.head m.phase m.held; waiting = m.out } };
+    ghost view = { λ m. record { place = place_of m.head m.progress.phase m.progress.held; waiting = m.out } };
 
-    ghost invariant = { λ m. IsMachine m.head m.phase m.held };
+    ghost invariant = { λ m. IsMachine m.head m.progress.phase m.progress.held };
 }
 
 impl Machine {
@@ -44,9 +42,11 @@ impl Machine {
         ensures { result ≡ record { place = InHeader 0 []; waiting = [] } }
     {
         Machine {
-            phase: Phase::Header { at: 0 },
+            progress: Progress {
+                phase: Phase::Header { at: 0 },
+                held: None,
+            },
             head: HeaderReader::new(),
-            held: None,
             out: Block::new(),
         }
     }
@@ -98,7 +98,7 @@ impl Machine {
         ensures place { IsPlace self.new.place }
         ensures spent { OnErr result (claim_of self.new.place ≡ 0) }
     {
-        let _ = &self.phase;
+        let _ = &self.progress;
         let mut at = 0;
         while at < piece.len() {
             match self.take_some(ledger, &piece[at..], w) {
@@ -126,22 +126,15 @@ impl Machine {
         ensures place { IsPlace self.new.place }
         ensures spent { OnErr result (claim_of self.new.place ≡ 0) }
     {
-        match self.held.take() {
-            Some(held) => match take_held(held, piece, ledger, &mut self.out, w) {
-                Ok(Kept { count, held }) => {
-                    put(&mut self.held, held);
-                    Ok(count)
-                }
-                Err(stop) => Err(stop),
-            },
-            None => match take_unheld(self.phase, &mut self.head, piece, ledger, &mut self.out, w) {
-                Ok(Taken { count, phase, held }) => {
-                    self.phase = phase;
-                    put(&mut self.held, held);
-                    Ok(count)
-                }
-                Err(stop) => Err(stop),
-            },
+        match self.progress.held.take() {
+            Some(held) => {
+                let slot = &mut self.progress.held;
+                take_held(held, slot, piece, ledger, &mut self.out, w)
+            }
+            None => {
+                let progress = &mut self.progress;
+                take_unheld(progress, &mut self.head, piece, ledger, &mut self.out, w)
+            }
         }
     }
 
@@ -152,9 +145,9 @@ impl Machine {
         ensures err { IfErr result (λ f. fault_in ((standing self.now.place).reads []).outcome ≡
             Some f) }
     {
-        match &self.held {
+        match &self.progress.held {
             Some(held) => Err(truncated(Some(held.kind()), held.offset())),
-            None => end_of(self.phase, &self.head),
+            None => end_of(self.progress.phase, &self.head),
         }
     }
 
@@ -165,7 +158,7 @@ impl Machine {
         ensures spent { claim_of self.new.place ≡ 0 }
         ensures place { IsPlace self.new.place }
     {
-        if let Some(held) = self.held.take() {
+        if let Some(held) = self.progress.held.take() {
             held.back(ledger);
         }
     }
@@ -176,11 +169,11 @@ impl Machine {
         ensures { ledger.new ≡ given_back ledger.old (claim_of self.place) }
     {
         let Machine {
-            phase: _,
+            progress,
             head: _,
-            held,
             out: _,
         } = self;
+        let Progress { phase: _, held } = progress;
         if let Some(held) = held {
             held.back(ledger);
         }
@@ -192,17 +185,6 @@ fn is_lost(answer: &Result<(), Stop>) -> bool
     ensures { IsTrue result ↔ IsErrOf answer.now Stop.Write }
 {
     matches!(answer, Err(Stop::Write))
-}
-
-/// Puts a box, or none, where none is.
-fn put(place: &mut Option<Held>, held: Option<Held>)
-    requires { place.old ≡ None }
-    ensures { place.new ≡ held }
-{
-    match replace(place, held) {
-        None => {}
-        Some(_) => unreachable!(),
-    }
 }
 
 /// What the end of the stream means where no box is held.

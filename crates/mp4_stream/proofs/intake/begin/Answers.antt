@@ -11,8 +11,8 @@ returns-in-None-clause-takes g c =
 pub returns-in-Ok-clause-takes : goal.returns-in-Ok-clause-takes
 returns-in-Ok-clause-takes g c =
     let next = c.in-Some.ensures in
-    Takes-ok (GoesOn-line _ c.args.at c.args.header.now c.args.head.now c.requires.len c.requires.is _ c.put.new.self c.bytes.result.now (place_by [] c.in-Some.phase) (c.bytes.ensures ∙ (rw c.new-line.ensures at c.push_box.ensures))
-    next.some (sym c.held_limit.ensures ∙ c.in-None-held_limit.is) (claim-none [] c.in-Some.phase) next.reached next.reads c.in-Ok.ensures.ok) c.in-Ok.ensures.kept
+    rw c.requires.none (Takes-ok (GoesOn-line _ c.args.at c.args.header.now c.args.head.now c.requires.len c.requires.is _ c.put.new.self c.bytes.result.now (place_by [] c.in-Some.phase) (c.bytes.ensures ∙ (rw c.new-line.ensures at c.push_box.ensures))
+    next.some (sym c.held_limit.ensures ∙ c.in-None-held_limit.is) (claim-none [] c.in-Some.phase) next.reached next.reads c.in-Ok.ensures.ok) c.in-Ok.ensures.kept)
 
 pub returns-in-Err-clause-takes : goal.returns-in-Err-clause-takes
 returns-in-Err-clause-takes g c =

@@ -46,7 +46,7 @@ returns-in-Ok-settle-clause-takes g c =
     let some : 0 < c.in-Exact.size = omega (arith, room, (whole_is c.args.head.now c.args.header.now c.requires.is).1, need-least c.args.head.now) in
     let claim = GoesOn-claim _ c.args.at c.args.header.now c.args.head.now c.requires.len c.requires.is c.args.limit c.in-Exact.size end c.requires.held c.in-Exact.is c.if-size-limit.false some in
     let settled = rw (c.in-Ok.ensures.held, c.in-Ok.ensures.ok) at c.in-Ok-settle.ensures.takes in
-    Takes-ok (GoesOn-more {p = standing (InHeader c.args.at c.args.head.now)} (omega arith) claim [] (standing (place_of [] (phases.Header (c.args.at + c.in-Exact.size)) c.in-Ok-settle.held)) settled.ok) (settled.kept (λ e. absurd cc))
+    Takes-ok (GoesOn-more {p = standing (InHeader c.args.at c.args.head.now)} (omega arith) claim [] (standing (place_of [] (phases.Header (c.args.at + c.in-Exact.size)) c.settle.new.slot)) settled.ok) (settled.kept (λ e. absurd cc))
 
 pub returns-in-Err-settle-clause-takes : goal.returns-in-Err-settle-clause-takes
 returns-in-Err-settle-clause-takes g c =

@@ -8,7 +8,7 @@ use Rattle.mp4_stream.proofs.intake.settle.Goals as goal
 pub returns-then-not-is_whole-clause-takes : goal.returns-then-not-is_whole-clause-takes
 returns-then-not-is_whole-clause-takes g c =
     let held = c.args.held in
-    Takes-ok (GoesOn-none _ (standing (InHeld held.at held.kind held.size held.bytes))) refl
+    rw c.put.ensures (Takes-ok (GoesOn-none _ (standing (InHeld held.at held.kind held.size held.bytes))) refl)
 
 pub returns-in-Err-clause-takes : goal.returns-in-Err-clause-takes
 returns-in-Err-clause-takes g c =
@@ -20,7 +20,7 @@ returns-in-Err-clause-takes g c =
 pub returns-in-Ok-listed-clause-takes : goal.returns-in-Ok-listed-clause-takes
 returns-in-Ok-listed-clause-takes g c =
     let held = c.args.held in
-    Takes-ok (rw c.back-2.ensures (GoesOn-good _ held.at held.kind held.size held.bytes c.requires.claim (search rules) _ c.list-listed.new.out (verdict_good c.check.ensures c.in-Ok.is) c.in-Ok-listed.ensures.ok)) c.in-Ok-listed.ensures.kept
+    Takes-ok (rw (c.back-2.ensures, c.requires.none) (GoesOn-good _ held.at held.kind held.size held.bytes c.requires.claim (search rules) _ c.list-listed.new.out (verdict_good c.check.ensures c.in-Ok.is) c.in-Ok-listed.ensures.ok)) c.in-Ok-listed.ensures.kept
 
 pub returns-in-Err-listed-clause-takes : goal.returns-in-Err-listed-clause-takes
 returns-in-Err-listed-clause-takes g c =

@@ -5,7 +5,7 @@ use Rattle.mp4_stream.proofs.PlaceLemmas.{GoesOn-byte, Refuses-bad}
 use Rattle.mp4_stream.proofs.intake.take_byte.Goals as goal
 
 pub returns-in-More-clause-takes : goal.returns-in-More-clause-takes
-returns-in-More-clause-takes g c = Takes-ok (GoesOn-byte _ c.args.at c.args.head.now c.args.byte c.feed.new.self c.feed.ensures.bytes) refl
+returns-in-More-clause-takes g c = rw (c.requires.phase, c.requires.none) (Takes-ok (GoesOn-byte _ c.args.at c.args.head.now c.args.byte c.feed.new.self c.feed.ensures.bytes) refl)
 
 pub returns-in-BadSize-clause-takes : goal.returns-in-BadSize-clause-takes
 returns-in-BadSize-clause-takes g c =

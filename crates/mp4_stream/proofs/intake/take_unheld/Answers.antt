@@ -15,7 +15,7 @@ returns-in-Body-clause-takes g c =
     let next = c.pass-passed.result.phase in
     let passed = c.pass-passed.ensures in
     let len = length-take-le n c.args.piece.now passed.taken.1 in
-    rw (c.in-Body.is, phase.0)
+    rw (c.in-Body.is, phase.0, c.requires.none)
     (Takes-ok (GoesOn-passed _ (InBody c.in-Body.at c.in-Body.kind c.in-Body.next c.in-Body.left) (place_by [] next) (take n c.args.piece.now)
     (sym (claim-none [] next)) (omega (arith, passed.reached, len)) passed.reads) refl)
 
@@ -24,7 +24,7 @@ returns-in-Ok-clause-takes g c =
     let phase = rw c.in-OpenBody.is at c.requires.phase in
     let next = c.in-Ok.phase in
     let passed = c.in-Ok.ensures in
-    rw (c.in-OpenBody.is, phase.0)
+    rw (c.in-OpenBody.is, phase.0, c.requires.none)
     (Takes-ok (rw (take-length c.args.piece.now) (GoesOn-passed _ (InOpenBody c.in-OpenBody.at c.in-OpenBody.kind c.in-OpenBody.left) (place_by [] next) c.args.piece.now
     (sym (claim-none [] next)) passed.reached passed.reads)) refl)
 
