@@ -61,7 +61,8 @@ impl Held {
     ) -> Result<Held, Refused>
         requires room { length header.now ≤ size }
         requires end { at + size ≤ 2 ^ 62 }
-        ensures held { IfOk result (λ h. h ≡ record { at = at; kind = kind; size = size; bytes = header.now }) }
+        ensures held { IfOk result (λ h. h ≡ record
+            { at = at; kind = kind; size = size; bytes = header.now }) }
         ensures ok { OnOk result (ledger.new ≡ claimed ledger.old size) }
         ensures over_limit { IsErrOf result Refused.OverLimit ↔
             (ledger.old.limit < ledger.old.live + size) }

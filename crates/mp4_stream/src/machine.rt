@@ -91,8 +91,9 @@ impl Machine {
         w: &mut W,
     ) -> Result<(), Stop>
         requires claim { claim_of self.old.place ≤ ledger.old.live }
-        ensures takes { Takes (around W.contents W.has_failed w.old w.new self.old.waiting self.new.waiting
-            ledger.old ledger.new) (standing self.old.place) piece.now (λ _. piece.now)
+        ensures takes { Takes (around W.contents W.has_failed w.old w.new
+            self.old.waiting self.new.waiting ledger.old ledger.new)
+            (standing self.old.place) piece.now (λ _. piece.now)
             (λ _. standing self.new.place) result }
         ensures claim { claim_of self.new.place ≤ ledger.new.live }
         ensures place { IsPlace self.new.place }
@@ -118,8 +119,9 @@ impl Machine {
     ) -> Result<usize, Stop>
         requires some { 0 < length piece.now }
         requires claim { claim_of self.old.place ≤ ledger.old.live }
-        ensures takes { Takes (around W.contents W.has_failed w.old w.new self.old.waiting self.new.waiting
-            ledger.old ledger.new) (standing self.old.place) piece.now
+        ensures takes { Takes (around W.contents W.has_failed w.old w.new
+            self.old.waiting self.new.waiting ledger.old ledger.new)
+            (standing self.old.place) piece.now
             (λ n. take n piece.now) (λ _. standing self.new.place) result }
         ensures taken { IfOk result (λ n. (0 < n) × (n ≤ length piece.now)) }
         ensures claim { claim_of self.new.place ≤ ledger.new.live }
