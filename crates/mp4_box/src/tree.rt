@@ -3,7 +3,7 @@
 ghost use Rattle.std.specs.Prelude.{◌≡◌, ◌+◌, ◌-◌, ◌^◌, ◌<◌, ◌≤◌, [], length, Some, IfErr, IsOk, IsTrue, ◌↔◌, OnOk, IfSome, option_map};
 ghost use Rattle.std.specs.Option.{option_or};
 ghost use Rattle.mp4_box.specs.Headers.{IsWhole};
-ghost use Rattle.mp4_box.specs.Trees.{bad_below, bad_size, box_at, box_len, deep_below, fault_at, first_of, is_container, tree_faults, verdict, view};
+ghost use Rattle.mp4_box.specs.Trees.{bad_below, bad_size, box_at, box_faults, box_len, deep_below, fault_at, first_of, is_container, tree_faults, verdict, view};
 ghost use Rattle.mp4_box.specs.Grammar.{IsTree};
 ghost use Rattle.mp4_box.specs.Order.{IsLeast};
 
@@ -86,6 +86,24 @@ impl<'a> BoxRef<'a> {
             rule,
             kind: Some(self.header.kind),
             offset: self.offset,
+        }
+    }
+
+    /// Checks the tree of this box, which stands at the top.
+    ///
+    /// # Errors
+    ///
+    /// As [`check_tree`].
+    pub fn check(&self) -> Result<(), Fault>
+        ensures { result ≡ verdict (box_faults (view self.now)) }
+    {
+        let mut deep = None;
+        if let Err(fault) = check_below(self, LEVELS, &mut deep) {
+            return Err(fault);
+        }
+        match deep {
+            Some(fault) => Err(fault),
+            None => Ok(()),
         }
     }
 }
@@ -175,20 +193,11 @@ pub fn check_tree(bytes: &[u8], offset: u64) -> Result<(), Fault>
     find_fault(bytes, offset)
 }
 
-/// The first fault of the tree of the box that the bytes begin with.
+/// The first fault of the tree of the box that the bytes are.
 fn find_fault(bytes: &[u8], offset: u64) -> Result<(), Fault>
-    requires { offset + length bytes.now ≤ 2 ^ 62 }
+    requires whole { IsWhole bytes.now }
+    requires room { offset + length bytes.now ≤ 2 ^ 62 }
     ensures { result ≡ verdict (tree_faults offset bytes.now) }
 {
-    let Some(this) = first_box(bytes, offset) else {
-        return Ok(());
-    };
-    let mut deep = None;
-    if let Err(fault) = check_below(&this, LEVELS, &mut deep) {
-        return Err(fault);
-    }
-    match deep {
-        Some(fault) => Err(fault),
-        None => Ok(()),
-    }
+    whole_box(bytes, offset).check()
 }

@@ -116,6 +116,28 @@ module _ {o o' : Outside} {p q : Standing} (low : p.claim ≤ o.account.live) (i
   StopsAt-take_more o'' more e h =
       subst (λ l. StopsAt o o'' p l e) (sym (append_assoc (take i xs) (drop i xs) more) ∙ ap (λ l. l ++ more) (take-append-drop i xs)) (StopsAt-more low g o'' (drop i xs ++ more) e h)
 
+-- bytes x came before, of which nothing was told: what they and a piece bring, the piece brings behind them
+module _ (o o' : Outside) (p q : Standing) (x : List ℕ) (same : q.claim ≡ p.claim) (reads : (later : List ℕ) → p.reads (x ++ later) ≡ q.reads later) (ys : List ℕ) where
+  rest-behind : (later : List ℕ) → q.reads (ys ++ later) ≡ p.reads ((x ++ ys) ++ later)
+  rest-behind later = sym (reads (ys ++ later)) ∙ ap p.reads (sym (append_assoc x ys later))
+
+  moves-behind : (d : ℕ) (t : Told) → Moves o o' p.claim d t → Moves o o' q.claim d t
+  moves-behind d t m = subst (λ n. Moves o o' n d t) (sym same) m
+
+  pub GoesOn-behind : (r : Standing) → q.reached ≡ p.reached + length x → GoesOn o o' p (x ++ ys) r → GoesOn o o' q ys r
+  GoesOn-behind r far g = record { brought = g.brought; moves = moves-behind r.claim g.brought g.moves; reached = omega (arith, far, g.reached, length-append x ys); rest = λ later. rest-behind later ∙ g.rest later }
+
+  Starves-behind : Starves o o' p (x ++ ys) → Starves o o' q ys
+  Starves-behind g = record { brought = g.brought; moves = moves-behind 0 g.brought g.moves; at = g.at; sum = g.sum; behind = g.behind; rest = λ later. rest-behind later ∙ g.rest later }
+
+  pub StopsAt-behind : (e : Stop) → StopsAt o o' p (x ++ ys) e → StopsAt o o' q ys e
+  unfolding Starves-behind
+  StopsAt-behind (Stream f) g = record { brought = g.brought; moves = moves-behind 0 g.brought g.moves; rest = λ later. rest-behind later ∙ g.rest later }
+  StopsAt-behind (Read at) g = g
+  StopsAt-behind Write g = λ later. subst (λ n. Loses o o' n (q.reads (ys ++ later))) (sym same) (subst (Loses o o' p.claim) (sym (rest-behind later)) (g later))
+  StopsAt-behind OverLimit (g, far) = (Starves-behind g, far)
+  StopsAt-behind Memory (g, near) = (Starves-behind g, near)
+
 -- ---- a call
 
 pub Takes-ok : {T : Type 0} {around : Around} {old : Standing} {piece : List ℕ} {taken : T → List ℕ} {new : T → Standing} {t : T} → GoesOn around.before around.behind old (taken t) (new t) → around.failed' ≡ around.failed → Takes around old piece taken new (Ok t)
@@ -124,10 +146,10 @@ Takes-ok g kept = record { ok = g; err = tt; failed = λ e. absurd cc; kept = λ
 pub Takes-err : {T : Type 0} {around : Around} {old : Standing} {piece : List ℕ} {taken : T → List ℕ} {new : T → Standing} {e : Stop} → ((more : List ℕ) → StopsAt around.before around.behind old (piece ++ more) e) → (e ≡ Write → around.failed' ≡ true) → ((e ≡ Write → ⊥) → around.failed' ≡ around.failed) → Takes around old piece taken new (Err e)
 Takes-err stops failed kept = record { ok = tt; err = stops; failed = λ e. failed cc; kept = λ other. kept (λ is. other (ap Err is)) }
 
--- bytes came of which nothing was told, and then a call that takes none
-pub Takes-behind : {T : Type 0} {around : Around} {p q : Standing} {x : List ℕ} {new : T → Standing} {result : Result T Stop} → p.claim ≤ around.before.account.live → GoesOn around.before around.before p x q
-    → Takes around q [] (λ _. []) new result → Takes around p x (λ _. x) new result
-Takes-behind {T = T} {around = around} {p = p} {q = q} {x = x} {new = new} {result = Ok t} low g h = Takes-ok (subst (λ l. GoesOn around.before around.behind p l (new t)) (append-nil x) (GoesOn-more {p = p} low g [] (new t) h.ok)) (h.kept (λ e. absurd cc))
+-- bytes came, and then a call that takes none
+pub Takes-behind : {T : Type 0} {o : Outside} {around : Around} {p q : Standing} {x : List ℕ} {new : T → Standing} {result : Result T Stop} → p.claim ≤ o.account.live → GoesOn o around.before p x q
+    → Takes around q [] (λ _. []) new result → Takes (record { before = o; behind = around.behind; failed = around.failed; failed' = around.failed' }) p x (λ _. x) new result
+Takes-behind {T = T} {o = o} {around = around} {p = p} {q = q} {x = x} {new = new} {result = Ok t} low g h = Takes-ok (subst (λ l. GoesOn o around.behind p l (new t)) (append-nil x) (GoesOn-more {p = p} low g [] (new t) h.ok)) (h.kept (λ e. absurd cc))
 Takes-behind {T = T} {around = around} {p = p} {q = q} {x = x} {new = new} {result = Err e} low g h = Takes-err (λ more. StopsAt-more {p = p} low g around.behind more e (h.err more)) (λ is. h.failed (ap Err is)) (λ other. h.kept (λ is. other cc))
 
 -- ---- what waits is sent at the end of a piece

@@ -12,16 +12,18 @@ use Rattle.mp4_box.proofs.GrammarLemmas.{is_whole}
 use Rattle.mp4_stream.specs.Places.{Begins}
 use Rattle.mp4_reading.proofs.BodyLemmas.{nat_lt_false}
 
-found : (x : List ℕ) (h : Header) → header_at x ≡ steps.Whole h → h.size ≡ Exact (length x) → box_at 0 x ≡ Some (record { header = h; offset = 0; payload = slice_range x h.header_len (length x) })
+pub found : (at : ℕ) (x : List ℕ) (h : Header) → header_at x ≡ steps.Whole h → h.size ≡ Exact (length x) → box_at at x ≡ Some (record { header = h; offset = at; payload = slice_range x h.header_len (length x) })
 unfolding box_at
-found x h e size = ap (box_by 0 x) e ∙ rw (size, nat_lt_false (length x) (length x) (omega arith)) refl
+found at x h e size = ap (box_by at x) e ∙ rw (size, nat_lt_false (length x) (length x) (omega arith)) refl
+
+pub rest-len : (n : ℕ) (x : List ℕ) → length (slice_range x n (length x)) ≡ length x - n
+rest-len n x = length-take (length x - n) (drop n x) ∙ omega (arith, length-drop n x)
 
 pub begins_whole : (size : ℕ) (x : List ℕ) → IsBytes x → Begins size x → length x ≡ size → IsWhole x
 begins_whole size x fits (h, e, exact) len =
     let w = whole_is x h e in
     let box : Box = record { header = h; offset = 0; payload = slice_range x h.header_len (length x) } in
-    let rest : length (slice_range x h.header_len (length x)) ≡ length x - h.header_len = length-take (length x - h.header_len) (drop h.header_len x) ∙ omega (arith, length-drop h.header_len x) in
-    is_whole x box fits (found x h e (exact ∙ ap Exact (sym len))) (omega (arith, w.0, w.1, rest))
+    is_whole x box fits (found 0 x h e (exact ∙ ap Exact (sym len))) (omega (arith, w.0, w.1, rest-len h.header_len x))
 
 -- more of the box came
 pub begins_more : (size : ℕ) (x y : List ℕ) → Begins size x → Begins size (x ++ y)

@@ -1,5 +1,6 @@
 -- What a machine that lists boxes brings by its place.
 use Rattle.std.proofs.Common.{◌≡◌, ℕ, ◌+◌, ◌^◌, ◌<◌, ◌≤◌, List, [], ◌∷◌, ◌++◌, length, Option, Some, None, ap, sym, refl, ◌∙◌, arith, append_assoc, append-nil, length-append, take, drop, take-append-drop, length-take-le, subst}
+use Rattle.std.proofs.lemmas.List.{take-take}
 use Rattle.mp4_box.specs.declared.headers.FourCc.{FourCc}
 use Rattle.mp4_box.specs.declared.headers.Header.{Header}
 use Rattle.mp4_box.specs.declared.headers.Size.TheVariants.{Exact, ToEnd}
@@ -25,7 +26,7 @@ use Rattle.mp4_reading.proofs.BlockLemmas.{Passes-none}
 use Rattle.mp4_reading.proofs.PieceLemmas.{sent_to, claimed_from, back_to, Moves-none, Moves-claim, GoesOn-silent, GoesOn-more, StopsAt-more}
 use Rattle.mp4_reading.proofs.ReadingLemmas.{after-silent}
 use Rattle.mp4_reading.proofs.ReadingAskLemmas.{plus-none}
-use Rattle.mp4_stream.specs.Boxes.{refused, least_end, body, held_body, reading}
+use Rattle.mp4_stream.specs.Boxes.{refused, least_end, box, body, held_body, reading}
 use Rattle.mp4_stream.specs.Holding.{held_lines, most_held}
 use Rattle.mp4_stream.specs.Listing.{box_line}
 use Rattle.mp4_stream.specs.Places.{Place, InHeader, InBody, InHeld, InOpenBody, IsPlace, reached_of, reads_at, claim_of, place_by, standing}
@@ -56,19 +57,14 @@ GoesOn-byte o at held byte new e =
 
 -- the last byte of a header
 
-pub whole-len : (held : List ℕ) (byte : ℕ) (new : List ℕ) (h : Header) → length held < need held → new ≡ held ++ byte ∷ [] → header_at new ≡ steps.Whole h → length new ≡ need new
-whole-len held byte new h short e is =
-    let most : length new ≤ need new = rw e (need_more held byte short) in
-    omega (arith, most, (whole_is new h is).0)
-
 pub bad-len : (held : List ℕ) (byte : ℕ) (new : List ℕ) → length held < need held → new ≡ held ++ byte ∷ [] → header_at new ≡ steps.BadSize → length new ≡ need new
 bad-len held byte new short e is =
     let most : length new ≤ need new = rw e (need_more held byte short) in
     omega (arith, most, bad_is new is)
 
--- whatever comes behind, a place reads a fault
-pub Refuses-there : (o : Outside) (p : Standing) (more : List ℕ) (f : Fault) → ((later : List ℕ) → p.reads later ≡ record { told = silent; outcome = Faulty f }) → p.claim ≡ 0 → Refuses o o p more f
-Refuses-there o p more f r none = record { brought = silent; moves = subst (λ n. Moves o o n 0 silent) (sym none) (Moves-none o 0); rest = λ later. r (more ++ later) }
+-- behind some bytes a place reads a fault, whatever comes
+pub Refuses-there : (o : Outside) (p : Standing) (x more : List ℕ) (f : Fault) → ((later : List ℕ) → p.reads (x ++ later) ≡ record { told = silent; outcome = Faulty f }) → p.claim ≡ 0 → Refuses o o p (x ++ more) f
+Refuses-there o p x more f r none = record { brought = silent; moves = subst (λ n. Moves o o n 0 silent) (sym none) (Moves-none o 0); rest = λ later. ap p.reads (append_assoc x more later) ∙ r (more ++ later) }
 
 pub Refuses-bad : (o : Outside) (at : ℕ) (held : List ℕ) (byte : ℕ) (new more : List ℕ) → length held < need held → new ≡ held ++ byte ∷ [] → header_at new ≡ steps.BadSize
     → Refuses o o (standing (InHeader at held)) (byte ∷ more) (fault BadSize (kind_of new) at)
@@ -78,13 +74,6 @@ Refuses-bad o at held byte new more short e is = record {
   rest = λ later. ap (reading at) (sym (append_assoc held (byte ∷ []) (more ++ later)) ∙ ap (λ l. l ++ (more ++ later)) (sym e)) ∙ reading-bad at new (more ++ later) (bad-len held byte new short e is) is;
 }
 
-module _ (o o' : Outside) (at : ℕ) (held : List ℕ) (byte : ℕ) (new : List ℕ) (e : new ≡ held ++ byte ∷ []) where
-  pub GoesOn-last : (q : Standing) → GoesOn o o' (standing (InHeader at new)) [] q → GoesOn o o' (standing (InHeader at held)) (byte ∷ []) q
-  GoesOn-last q g = GoesOn-more {p = standing (InHeader at held)} (omega arith) (GoesOn-byte o at held byte new e) [] q g
-
-  pub StopsAt-last : (more : List ℕ) (s : Stop) → StopsAt o o' (standing (InHeader at new)) more s → StopsAt o o' (standing (InHeader at held)) (byte ∷ more) s
-  StopsAt-last more s g = StopsAt-more {p = standing (InHeader at held)} (omega arith) (GoesOn-byte o at held byte new e) o' more s g
-
 -- a write failed in what is told first
 Loses-told : (o o' : Outside) (own : ℕ) (told : Told) (rest r : Reading) → r ≡ after told rest → AppendsPrefix o.written o'.written (o.waiting ++ told.text) → Spends o.account o'.account own 0 0 → Loses o o' own r
 Loses-told o o' own told rest r e p q = record {
@@ -92,60 +81,101 @@ Loses-told o o' own told rest r e p q = record {
   spends = Spends-more o.account o'.account own 0 0 (most_of r.told) (omega arith) q;
 }
 
--- ---- behind the header x of a box
+-- ---- a piece x that begins with the header of a box
 
-module _ (o : Outside) (at : ℕ) (h : Header) (x : List ℕ) (len : length x ≡ need x) (is : header_at x ≡ steps.Whole h) where
+-- a front of some bytes, the rest, and more
+pub apart : (n : ℕ) (x more : List ℕ) → take n x ++ (drop n x ++ more) ≡ x ++ more
+apart n x more = sym (append_assoc (take n x) (drop n x) more) ∙ ap (λ l. l ++ more) (take-append-drop n x)
+
+-- a header at the front of some bytes, by itself
+pub front-len : (x : List ℕ) (h : Header) → header_at x ≡ steps.Whole h → length (take h.header_len x) ≡ need (take h.header_len x)
+front-len x h is =
+    let w = whole_is x h is in
+    let len : length (take h.header_len x) ≡ h.header_len = length-take-le h.header_len x (omega (arith, w.0, w.1)) in
+    let same : need x ≡ need (take h.header_len x) = ap need (sym (take-append-drop h.header_len x)) ∙ need-append (take h.header_len x) (drop h.header_len x) (omega (arith, len, w.1, need-least x)) in
+    len ∙ w.1 ∙ same
+
+pub front-is : (x : List ℕ) (h : Header) → header_at x ≡ steps.Whole h → header_at (take h.header_len x) ≡ steps.Whole h
+front-is x h is =
+    let whole : need (take h.header_len x) ≤ length (take h.header_len x) = omega (arith, front-len x h is) in
+    sym (header_at-append (take h.header_len x) (drop h.header_len x) whole) ∙ ap header_at (take-append-drop h.header_len x) ∙ is
+
+-- and so does each front of it that has all of the header
+pub take-is : (n : ℕ) (x : List ℕ) (h : Header) → header_at x ≡ steps.Whole h → h.header_len ≤ n → header_at (take n x) ≡ steps.Whole h
+take-is n x h is far =
+    let front : take h.header_len (take n x) ≡ take h.header_len x = take-take h.header_len n x far in
+    let whole : need (take h.header_len x) ≤ length (take h.header_len x) = omega (arith, front-len x h is) in
+    ap header_at (sym (take-append-drop h.header_len (take n x)) ∙ ap (λ l. l ++ drop h.header_len (take n x)) front) ∙ header_at-append (take h.header_len x) (drop h.header_len (take n x)) whole ∙ front-is x h is
+
+-- it is the header, and what stands behind it
+reading-begins : (at : ℕ) (h : Header) (x later : List ℕ) → header_at x ≡ steps.Whole h → reading at (x ++ later) ≡ then_read reading (box at h (take h.header_len x) (drop h.header_len x ++ later))
+reading-begins at h x later is =
+    ap (reading at) (sym (apart h.header_len x later)) ∙ reading-whole at (take h.header_len x) (drop h.header_len x ++ later) h (front-len x h is) (front-is x h is)
+
+module _ (o : Outside) (at : ℕ) (h : Header) (x : List ℕ) (is : header_at x ≡ steps.Whole h) where
   -- the box goes past the longest stream
-  pub Refuses-far : (more : List ℕ) → longest < least_end at h h.size → Refuses o o (standing (InHeader at x)) more (fault StreamTooLong (Some h.kind) at)
-  Refuses-far more far = Refuses-there o (standing (InHeader at x)) more (fault StreamTooLong (Some h.kind) at) (λ later. reading-whole at x later h len is ∙ reading-too_long at h x later far) refl
+  pub Refuses-far : (more : List ℕ) → longest < least_end at h h.size → Refuses o o (standing (InHeader at [])) (x ++ more) (fault StreamTooLong (Some h.kind) at)
+  Refuses-far more far = Refuses-there o (standing (InHeader at [])) x more (fault StreamTooLong (Some h.kind) at)
+      (λ later. reading-begins at h x later is ∙ reading-too_long at h (take h.header_len x) (drop h.header_len x ++ later) far) refl
 
   -- its line was written
-  pub GoesOn-line : (u : Option (List ℕ)) (v line : List ℕ) (p : Place) → line ≡ box_line at h → least_end at h h.size ≤ longest → most_held h.kind.0 ≡ None → claim_of p ≡ 0 → reached_of p ≡ at + h.header_len
-      → ((later : List ℕ) → then_read reading (body at h h.size later) ≡ reads_at p later) → Passes o.written u o.waiting v line → GoesOn o (sent_to o u v) (standing (InHeader at x)) [] (standing p)
-  GoesOn-line u v line p e near loose none place brings q = record {
-    brought = says (box_line at h);
-    moves = record { passes = subst (Passes o.written u o.waiting v) e q; counts = rw none (Counts-none o.account 0); tallied = sym (plus-none o.tally) };
-    reached = omega (arith, place, (whole_is x h is).1, len);
-    rest = λ later. reading-whole at x later h len is ∙ reading-begun at h x later near loose ∙ ap (after (says (box_line at h))) (brings later);
-  }
+  pub GoesOn-line : (u : Option (List ℕ)) (v : List ℕ) (p : Place) → least_end at h h.size ≤ longest → most_held h.kind.0 ≡ None → claim_of p ≡ 0 → reached_of p ≡ at + h.header_len
+      → ((later : List ℕ) → then_read reading (body at h h.size later) ≡ reads_at p later) → Passes o.written u o.waiting v (box_line at h) → GoesOn o (sent_to o u v) (standing (InHeader at [])) (take h.header_len x) (standing p)
+  GoesOn-line u v p near loose none place brings q =
+      let y = take h.header_len x in
+      record {
+        brought = says (box_line at h);
+        moves = record { passes = q; counts = rw none (Counts-none o.account 0); tallied = sym (plus-none o.tally) };
+        reached = omega (arith, place, length-take-le h.header_len x (omega (arith, (whole_is x h is).0, (whole_is x h is).1)));
+        rest = λ later. reading-whole at y later h (front-len x h is) (front-is x h is) ∙ reading-begun at h y later near loose ∙ ap (after (says (box_line at h))) (brings later);
+      }
 
   -- its line can't be written
-  pub Loses-line : (u : Option (List ℕ)) (v later : List ℕ) → least_end at h h.size ≤ longest → most_held h.kind.0 ≡ None
-      → AppendsPrefix o.written u (o.waiting ++ box_line at h) → Loses o (sent_to o u v) 0 (reading at (x ++ later))
-  Loses-line u v later near loose p = Loses-told o (sent_to o u v) 0 (says (box_line at h)) (then_read reading (body at h h.size later)) (reading at (x ++ later))
-      (reading-whole at x later h len is ∙ reading-begun at h x later near loose) p (Spends-counts o.account o.account 0 0 0 (Counts-none o.account 0))
+  pub Loses-line : (u : Option (List ℕ)) (v more later : List ℕ) → least_end at h h.size ≤ longest → most_held h.kind.0 ≡ None
+      → AppendsPrefix o.written u (o.waiting ++ box_line at h) → Loses o (sent_to o u v) 0 (reading at ((x ++ more) ++ later))
+  Loses-line u v more later near loose p =
+      let rest = drop h.header_len x ++ (more ++ later) in
+      Loses-told o (sent_to o u v) 0 (says (box_line at h)) (then_read reading (body at h h.size rest)) (reading at ((x ++ more) ++ later))
+      (ap (reading at) (append_assoc x more later) ∙ reading-begins at h x (more ++ later) is ∙ reading-begun at h (take h.header_len x) rest near loose) p (Spends-counts o.account o.account 0 0 0 (Counts-none o.account 0))
 
   -- it is to be held, and has no size or one that is too large
-  pub Refuses-large : (more : List ℕ) (limit s : ℕ) → at + s ≤ longest → most_held h.kind.0 ≡ Some limit → h.size ≡ Exact s → limit < s → Refuses o o (standing (InHeader at x)) more (fault TooLarge (Some h.kind) at)
+  pub Refuses-large : (more : List ℕ) (limit s : ℕ) → at + s ≤ longest → most_held h.kind.0 ≡ Some limit → h.size ≡ Exact s → limit < s → Refuses o o (standing (InHeader at [])) (x ++ more) (fault TooLarge (Some h.kind) at)
   Refuses-large more limit s near held size large =
-      Refuses-there o (standing (InHeader at x)) more (fault TooLarge (Some h.kind) at) (λ later. reading-whole at x later h len is ∙ reading-too_large at h x later limit s near held size large) refl
+      Refuses-there o (standing (InHeader at [])) x more (fault TooLarge (Some h.kind) at)
+      (λ later. reading-begins at h x later is ∙ reading-too_large at h (take h.header_len x) (drop h.header_len x ++ later) limit s near held size large) refl
 
-  pub Refuses-open : (more : List ℕ) (limit : ℕ) → at + h.header_len ≤ longest → most_held h.kind.0 ≡ Some limit → h.size ≡ ToEnd → Refuses o o (standing (InHeader at x)) more (fault TooLarge (Some h.kind) at)
+  pub Refuses-open : (more : List ℕ) (limit : ℕ) → at + h.header_len ≤ longest → most_held h.kind.0 ≡ Some limit → h.size ≡ ToEnd → Refuses o o (standing (InHeader at [])) (x ++ more) (fault TooLarge (Some h.kind) at)
   Refuses-open more limit near held size =
-      Refuses-there o (standing (InHeader at x)) more (fault TooLarge (Some h.kind) at) (λ later. reading-whole at x later h len is ∙ reading-held_to_end at h x later limit near held size) refl
+      Refuses-there o (standing (InHeader at [])) x more (fault TooLarge (Some h.kind) at)
+      (λ later. reading-begins at h x later is ∙ reading-held_to_end at h (take h.header_len x) (drop h.header_len x ++ later) limit near held size) refl
 
   module _ (limit s : ℕ) (near : at + s ≤ longest) (held : most_held h.kind.0 ≡ Some limit) (size : h.size ≡ Exact s) (fits : s ≤ limit) where
+    reading-claims : (later : List ℕ) → reading at (x ++ later) ≡ after (asks_for at s) (then_read reading (held_body at h.kind s (x ++ later)))
+    reading-claims later =
+        reading-begins at h x later is ∙ reading-holds at h (take h.header_len x) (drop h.header_len x ++ later) limit s near held size fits
+        ∙ ap (λ l. after (asks_for at s) (then_read reading (held_body at h.kind s l))) (apart h.header_len x later)
+
     -- room for it was claimed
-    pub GoesOn-claim : 0 < s → GoesOn o (claimed_from o s) (standing (InHeader at x)) [] (standing (InHeld at h.kind s x))
+    pub GoesOn-claim : 0 < s → GoesOn o (claimed_from o s) (standing (InHeader at [])) x (standing (InHeld at h.kind s x))
     GoesOn-claim some = record {
       brought = asks_for at s;
       moves = subst (λ n. Moves o (claimed_from o s) 0 n (asks_for at n)) (omega arith) (Moves-claim o 0 s at (omega arith) (omega arith));
       reached = omega arith;
-      rest = λ later. reading-whole at x later h len is ∙ reading-holds at h x later limit s near held size fits;
+      rest = reading-claims;
     }
 
     -- and it was not
-    Starves-claim : (more : List ℕ) → Starves o o (standing (InHeader at x)) more
+    Starves-claim : (more : List ℕ) → Starves o o (standing (InHeader at [])) (x ++ more)
     Starves-claim more = record {
       brought = silent;
       moves = Moves-none o 0;
       at = at;
       sum = s;
       behind = λ later. then_read reading (held_body at h.kind s (x ++ (more ++ later)));
-      rest = λ later. reading-whole at x (more ++ later) h len is ∙ reading-holds at h x (more ++ later) limit s near held size fits ∙ sym (after-silent _);
+      rest = λ later. ap (reading at) (append_assoc x more later) ∙ reading-claims (more ++ later) ∙ sym (after-silent _);
     }
 
-    pub StopsAt-refused : (more : List ℕ) (r : Refused) → (r ≡ refusals.OverLimit → o.account.limit < o.account.live + s) → (r ≡ refusals.Memory → o.account.live + s ≤ o.account.limit) → StopsAt o o (standing (InHeader at x)) more (refusal_of r)
+    pub StopsAt-refused : (more : List ℕ) (r : Refused) → (r ≡ refusals.OverLimit → o.account.limit < o.account.live + s) → (r ≡ refusals.Memory → o.account.live + s ≤ o.account.limit) → StopsAt o o (standing (InHeader at [])) (x ++ more) (refusal_of r)
     unfolding Starves-claim
     StopsAt-refused more refusals.OverLimit over within = (Starves-claim more, omega (arith, over refl))
     StopsAt-refused more refusals.Memory over within = (Starves-claim more, omega (arith, within refl))
@@ -155,15 +185,6 @@ module _ (o : Outside) (at : ℕ) (h : Header) (x : List ℕ) (len : length x �
 pub GoesOn-passed : (o : Outside) (p q : Place) (x : List ℕ) → claim_of p ≡ claim_of q → reached_of q ≡ reached_of p + length x
     → ((later : List ℕ) → reads_at p (x ++ later) ≡ reads_at q later) → GoesOn o o (standing p) x (standing q)
 GoesOn-passed o p q x e place f = GoesOn-silent o (standing p) (standing q) x (sym e) place f
-
-pub Refuses-passed : (o : Outside) (at left : ℕ) (kind : FourCc) (x more : List ℕ)
-    → ((later : List ℕ) → reads_at (InOpenBody at kind left) (x ++ later) ≡ refused StreamTooLong (Some kind) at)
-    → Refuses o o (standing (InOpenBody at kind left)) (x ++ more) (fault StreamTooLong (Some kind) at)
-Refuses-passed o at left kind x more f = record {
-  brought = silent;
-  moves = Moves-none o 0;
-  rest = λ later. ap (reads_at (InOpenBody at kind left)) (append_assoc x more later) ∙ f (more ++ later);
-}
 
 -- ---- a box that is held
 
@@ -193,28 +214,3 @@ module _ (o : Outside) (at : ℕ) (kind : FourCc) (size : ℕ) (x : List ℕ) (l
     moves = record { passes = Passes-none o.written o.waiting; counts = subst (λ n. Counts o.account (given_back o.account size) size n 0) (omega arith) (Counts-back o.account size size (omega arith) low); tallied = sym (plus-none o.tally) };
     rest = λ later. reading-bad_tree at kind size x (more ++ later) f fs len bad;
   }
-
--- ---- a header that stands in a piece
-
--- a header at the front of some bytes, by itself
-pub front-len : (x : List ℕ) (h : Header) → header_at x ≡ steps.Whole h → length (take h.header_len x) ≡ need (take h.header_len x)
-front-len x h is =
-    let w = whole_is x h is in
-    let len : length (take h.header_len x) ≡ h.header_len = length-take-le h.header_len x (omega (arith, w.0, w.1)) in
-    let same : need x ≡ need (take h.header_len x) = ap need (sym (take-append-drop h.header_len x)) ∙ need-append (take h.header_len x) (drop h.header_len x) (omega (arith, len, w.1, need-least x)) in
-    len ∙ w.1 ∙ same
-
-pub front-is : (x : List ℕ) (h : Header) → header_at x ≡ steps.Whole h → header_at (take h.header_len x) ≡ steps.Whole h
-front-is x h is =
-    let whole : need (take h.header_len x) ≤ length (take h.header_len x) = omega (arith, front-len x h is) in
-    sym (header_at-append (take h.header_len x) (drop h.header_len x) whole) ∙ ap header_at (take-append-drop h.header_len x) ∙ is
-
-module _ (o o' : Outside) (at : ℕ) (x : List ℕ) where
-  GoesOn-bytes : GoesOn o o (standing (InHeader at [])) x (standing (InHeader at x))
-  GoesOn-bytes = GoesOn-silent o (standing (InHeader at [])) (standing (InHeader at x)) x refl (omega arith) (λ later. refl)
-
-  pub GoesOn-header : (q : Standing) → GoesOn o o' (standing (InHeader at x)) [] q → GoesOn o o' (standing (InHeader at [])) x q
-  GoesOn-header q g = subst (λ l. GoesOn o o' (standing (InHeader at [])) l q) (append-nil x) (GoesOn-more {p = standing (InHeader at [])} (omega arith) GoesOn-bytes [] q g)
-
-  pub StopsAt-header : (more : List ℕ) (s : Stop) → StopsAt o o' (standing (InHeader at x)) more s → StopsAt o o' (standing (InHeader at [])) (x ++ more) s
-  StopsAt-header more s g = StopsAt-more {p = standing (InHeader at [])} (omega arith) GoesOn-bytes o' more s g

@@ -1,18 +1,22 @@
 //! A box that is held while it comes.
 
-ghost use Rattle.std.specs.Prelude.{◌≡◌, ◌+◌, ◌-◌, ◌^◌, ◌<◌, ◌≤◌, ◌↔◌, ◌++◌, length, take, min, true, false, Some, Ok, IfOk, IfErr, OnErr, OnOk, IsErrOf, IsTrue};
-ghost use Rattle.mp4_ends.specs.Streams.{AppendsPrefix};
-ghost use Rattle.mp4_box.specs.Trees.{box_at, tree_faults, verdict, view};
-ghost use Rattle.mp4_ledger.specs.Memory.{claimed, given_back};
-ghost use Rattle.mp4_reading.specs.Blocks.{Passes};
-ghost use Rattle.mp4_stream.specs.Holding.{held_lines, most_held};
-ghost use Rattle.mp4_stream.specs.Places.{Begins};
+ghost use Rattle.std.specs.Prelude.{◌≡◌, ℕ, ◌+◌, ◌-◌, ◌^◌, ◌<◌, ◌≤◌, ◌↔◌, List, [], ◌++◌, length, take, min, Some, IfOk, OnErr, OnOk, IsErrOf, IsTrue};
+ghost use Rattle.mp4_box.specs.declared.headers.FourCc.{FourCc};
+ghost use Rattle.mp4_box.specs.declared.headers.Size.TheVariants.{Exact};
+ghost use Rattle.mp4_box.specs.declared.headers.Step.TheVariants as steps;
+ghost use Rattle.mp4_box.specs.Headers.{header_at};
+ghost use Rattle.mp4_box.specs.Trees.{box_at, view};
+ghost use Rattle.mp4_ledger.specs.Memory.{Account, claimed, given_back};
+ghost use Rattle.mp4_reading.specs.Bodies.{longest};
+ghost use Rattle.mp4_reading.specs.Pieces.{Takes};
+ghost use Rattle.mp4_stream.specs.Holding.{most_held};
+ghost use Rattle.mp4_stream.specs.Places.{Begins, InHeader, InHeld, around, standing};
 
 use crate::listing::put_tree;
-use mp4_box::{BoxRef, Fault, FourCc, check_tree, whole_box};
+use mp4_box::{BoxRef, FourCc, Header, whole_box};
 use mp4_ends::{Failed, Sink};
 use mp4_ledger::{Buf, Ledger, Refused};
-use mp4_reading::Block;
+use mp4_reading::{Block, Stop};
 use std::marker::Model;
 
 /// A moov or moof in claimed memory. It must be given back.
@@ -47,7 +51,7 @@ pub(crate) fn held_limit(kind: FourCc) -> Option<u64>
 }
 
 impl Held {
-    /// Claims room for a box of `size` bytes at `at`, of which the header came.
+    /// Claims room for a box of `size` bytes at `at`, of which these came.
     ///
     /// # Errors
     ///
@@ -57,12 +61,12 @@ impl Held {
         at: u64,
         kind: FourCc,
         size: u64,
-        header: &[u8],
+        bytes: &[u8],
     ) -> Result<Held, Refused>
-        requires room { length header.now ≤ size }
+        requires room { length bytes.now ≤ size }
         requires end { at + size ≤ 2 ^ 62 }
         ensures held { IfOk result (λ h. h ≡ record
-            { at = at; kind = kind; size = size; bytes = header.now }) }
+            { at = at; kind = kind; size = size; bytes = bytes.now }) }
         ensures ok { OnOk result (ledger.new ≡ claimed ledger.old size) }
         ensures over_limit { IsErrOf result Refused.OverLimit ↔
             (ledger.old.limit < ledger.old.live + size) }
@@ -72,7 +76,7 @@ impl Held {
         match ledger.buf(size) {
             Ok(buf) => {
                 let mut buf = buf;
-                buf.push_slice(header);
+                buf.push_slice(bytes);
                 Ok(Held { at, kind, buf })
             }
             Err(refused) => Err(refused),
@@ -112,28 +116,21 @@ impl Held {
         self.at
     }
 
-    /// What is at fault in the tree of the box, all of which came.
-    pub(crate) fn check(&self) -> Result<(), Fault>
+    /// Lists the box, all of which came. What is claimed for it is to be given back behind.
+    ///
+    /// # Errors
+    ///
+    /// As [`list_box`].
+    pub(crate) fn list<W: Sink>(&self, out: &mut Block, w: &mut W) -> Result<(), Stop>
         requires begins { Begins self.now.size self.now.bytes }
         requires whole { length self.now.bytes ≡ self.now.size }
-        ensures { result ≡ verdict (tree_faults self.now.at self.now.bytes) }
+        ensures { (a : Account) → self.now.size ≤ a.live →
+            Takes (around W.contents W.has_failed w.old w.new out.old out.new
+            a (given_back a self.now.size))
+            (standing (InHeld self.now.at self.now.kind self.now.size self.now.bytes)) [] (λ _. [])
+            (λ _. standing (InHeader (self.now.at + self.now.size) [])) result }
     {
-        check_whole(self.buf.bytes(), self.at)
-    }
-
-    /// Puts the lines of the box, all of which came, and of those below it.
-    pub(crate) fn list<W: Sink>(&self, out: &mut Block, w: &mut W) -> Result<(), Failed>
-        requires begins { Begins self.now.size self.now.bytes }
-        requires whole { length self.now.bytes ≡ self.now.size }
-        ensures ok { OnOk result (Passes (W.contents w.old) (W.contents w.new) out.old out.new
-            (held_lines self.now.at self.now.bytes)) }
-        ensures err { OnErr result (AppendsPrefix (W.contents w.old) (W.contents w.new)
-            (out.old ++ held_lines self.now.at self.now.bytes)) }
-        ensures failed { OnErr result (W.has_failed w.new ≡ true) }
-        ensures kept { OnOk result (W.has_failed w.new ≡ W.has_failed w.old) }
-    {
-        let this = whole_held(self.buf.bytes(), self.at);
-        put_tree(&this, 7, 0, out, w)
+        list_box(&whole_held(self.buf.bytes(), self.at), out, w)
     }
 
     /// Gives its room back.
@@ -150,15 +147,6 @@ impl Held {
     }
 }
 
-/// What is at fault in the tree of the box that the bytes are.
-fn check_whole(bytes: &[u8], at: u64) -> Result<(), Fault>
-    requires begins { Begins (length bytes.now) bytes.now }
-    requires room { at + length bytes.now ≤ 2 ^ 62 }
-    ensures { result ≡ verdict (tree_faults at bytes.now) }
-{
-    check_tree(bytes, at)
-}
-
 /// The box that the bytes are.
 fn whole_held<'a>(bytes: &'a [u8], at: u64) -> BoxRef<'a>
     requires begins { Begins (length bytes.now) bytes.now }
@@ -166,4 +154,66 @@ fn whole_held<'a>(bytes: &'a [u8], at: u64) -> BoxRef<'a>
     ensures { box_at at bytes.now ≡ Some (view result) }
 {
     whole_box(bytes, at)
+}
+
+/// Lists the box at `at`, all of which is in a piece: `bytes` are it. Its room is claimed and given back all the same, so that
+/// what a stream claims doesn't depend on how its reads cut it.
+///
+/// # Errors
+///
+/// As the ledger refuses the claim, and as [`list_box`].
+pub(crate) fn list_whole<W: Sink>(
+    at: u64,
+    header: &Header,
+    bytes: &[u8],
+    ledger: &mut Ledger,
+    out: &mut Block,
+    w: &mut W,
+) -> Result<(), Stop>
+    requires is { header_at bytes.now ≡ steps.Whole header.now }
+    requires size { header.now.size ≡ Exact (length bytes.now) }
+    requires held { (limit : ℕ) × (most_held header.now.kind.0 ≡ Some limit) ×
+        (length bytes.now ≤ limit) }
+    requires end { at + length bytes.now ≤ longest }
+    ensures { Takes (around W.contents W.has_failed w.old w.new out.old out.new
+        ledger.old ledger.new)
+        (standing (InHeader at [])) bytes.now (λ _. bytes.now)
+        (λ _. standing (InHeader (at + length bytes.now) [])) result }
+{
+    let room = match ledger.buf(bytes.len() as u64) {
+        Ok(room) => room,
+        Err(refused) => return Err(Stop::of_refusal(refused)),
+    };
+    let this = BoxRef {
+        header: *header,
+        offset: at,
+        payload: &bytes[header.header_len as usize..],
+    };
+    let listed = list_box(&this, out, w);
+    ledger.back(room);
+    listed
+}
+
+/// Checks the tree of a box and puts its line and those of the boxes below it. What is claimed for it is to be given back
+/// behind.
+///
+/// # Errors
+///
+/// `Stream` where the tree is at fault; nothing is put then. `Write` where the writer has failed.
+fn list_box<W: Sink>(this: &BoxRef<'_>, out: &mut Block, w: &mut W) -> Result<(), Stop>
+    ensures { (at : ℕ) → (kind : FourCc) → (x : List ℕ) → (a : Account) →
+        box_at at x ≡ Some (view this.now) → length x ≤ a.live →
+        Takes (around W.contents W.has_failed w.old w.new out.old out.new
+        a (given_back a (length x)))
+        (standing (InHeld at kind (length x) x)) [] (λ _. [])
+        (λ _. standing (InHeader (at + length x) [])) result }
+{
+    match this.check() {
+        Ok(()) => {}
+        Err(fault) => return Err(Stop::Stream(fault)),
+    }
+    match put_tree(this, 7, 0, out, w) {
+        Ok(()) => Ok(()),
+        Err(Failed) => Err(Stop::Write),
+    }
 }

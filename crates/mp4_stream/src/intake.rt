@@ -10,13 +10,12 @@ ghost use Rattle.mp4_stream.specs.Holding.{most_held};
 ghost use Rattle.mp4_stream.specs.Places.{Begins, InHeader, InHeld, IsMachine, IsPhase, IsPlace, around, claim_of, place_by, place_of, standing};
 ghost use Rattle.mp4_stream.specs.declared.phase.Phase.TheVariants as phases;
 
-use crate::held::{Held, held_limit};
-use crate::listing::push_box;
-use crate::phase::{Phase, pass, pass_open, phase_behind, refused};
+use crate::held::{Held, held_limit, list_whole};
+use crate::listing::put_box;
+use crate::phase::{Phase, is_too_long, pass, pass_open, phase_behind, refused};
 use mp4_box::{Header, HeaderReader, Rule, Size, Step, header_of};
 use mp4_ends::{Failed, Sink};
 use mp4_ledger::Ledger;
-use mp4_lines::Line;
 use mp4_reading::{Block, Stop};
 use std::mem::replace;
 
@@ -73,7 +72,8 @@ pub(crate) fn take_unheld<W: Sink>(
     }
 }
 
-/// Takes the header of the box at `at`, where all of it is in the piece, or else a byte of it: how many bytes.
+/// Takes the header of the box at `at`, where all of it is in the piece, and what else of a box that is held; or else a byte
+/// of the header: how many bytes.
 fn take_header<W: Sink>(
     at: u64,
     progress: &mut Progress,
@@ -100,11 +100,7 @@ fn take_header<W: Sink>(
 {
     if head.is_empty() {
         if let Ok(header) = header_of(piece) {
-            let count = header.header_len as usize;
-            return match begin(at, &header, &piece[..count], progress, ledger, out, w) {
-                Ok(()) => Ok(count),
-                Err(stop) => Err(stop),
-            };
+            return begin(at, &header, piece, progress, ledger, out, w);
         }
     }
     match take_byte(at, progress, head, piece[0], ledger, out, w) {
@@ -146,77 +142,75 @@ fn take_byte<W: Sink>(
         Step::Whole(header) => {
             let begun = begin(at, &header, head.bytes(), progress, ledger, out, w);
             *head = HeaderReader::new();
-            begun
-        }
-    }
-}
-
-/// Goes on behind the header of the box at `at`, which is whole and has these bytes: writes its line, or holds it.
-fn begin<W: Sink>(
-    at: u64,
-    header: &Header,
-    head: &[u8],
-    progress: &mut Progress,
-    ledger: &mut Ledger,
-    out: &mut Block,
-    w: &mut W,
-) -> Result<(), Stop>
-    requires at { at ≤ longest }
-    requires header_len { (8 ≤ header.now.header_len) × (header.now.header_len ≤ 32) }
-    requires room { HasRoom header.now.size header.now.header_len }
-    requires len { length head.now ≡ need head.now }
-    requires is { header_at head.now ≡ steps.Whole header.now }
-    requires none { progress.old.held ≡ None }
-    ensures takes { Takes (around W.contents W.has_failed w.old w.new out.old out.new
-        ledger.old ledger.new)
-        (standing (InHeader at head.now)) [] (λ _. [])
-        (λ _. standing (place_of [] progress.new.phase progress.new.held)) result }
-    ensures claim { OnOk result (claim_of (place_of [] progress.new.phase progress.new.held) ≤
-        ledger.new.live) }
-    ensures machine { OnOk result (IsMachine [] progress.new.phase progress.new.held) }
-    ensures kept { OnErr result (progress.new ≡ progress.old) }
-{
-    let phase = match phase_behind(at, header) {
-        Some(phase) => phase,
-        None => return Err(refused(Rule::StreamTooLong, Some(header.kind), at)),
-    };
-    match held_limit(header.kind) {
-        Some(limit) => begin_held(at, header, limit, head, progress, ledger, out, w),
-        None => {
-            let mut line = Line::new();
-            push_box(&mut line, at, header);
-            match out.put(w, line.bytes()) {
-                Ok(()) => {
-                    progress.phase = phase;
-                    Ok(())
-                }
-                Err(Failed) => Err(Stop::Write),
+            match begun {
+                Ok(_) => Ok(()),
+                Err(stop) => Err(stop),
             }
         }
     }
 }
 
-/// Holds the box at `at`, of which the header came.
-fn begin_held<W: Sink>(
+/// Takes the box at `at`, with whose header the piece begins: writes its line, or holds what there is of it. How many bytes.
+fn begin<W: Sink>(
     at: u64,
     header: &Header,
-    limit: u64,
-    head: &[u8],
+    piece: &[u8],
     progress: &mut Progress,
     ledger: &mut Ledger,
     out: &mut Block,
     w: &mut W,
-) -> Result<(), Stop>
+) -> Result<usize, Stop>
+    requires at { at ≤ longest }
     requires room { HasRoom header.now.size header.now.header_len }
-    requires len { length head.now ≡ need head.now }
-    requires is { header_at head.now ≡ steps.Whole header.now }
+    requires is { header_at piece.now ≡ steps.Whole header.now }
+    requires none { progress.old.held ≡ None }
+    ensures takes { Takes (around W.contents W.has_failed w.old w.new out.old out.new
+        ledger.old ledger.new)
+        (standing (InHeader at [])) piece.now (λ n. take n piece.now)
+        (λ _. standing (place_of [] progress.new.phase progress.new.held)) result }
+    ensures taken { IfOk result (λ n. (header.now.header_len ≤ n) × (n ≤ length piece.now)) }
+    ensures claim { OnOk result (claim_of (place_of [] progress.new.phase progress.new.held) ≤
+        ledger.new.live) }
+    ensures machine { OnOk result (IsMachine [] progress.new.phase progress.new.held) }
+    ensures kept { OnErr result (progress.new ≡ progress.old) }
+{
+    if is_too_long(at, header) {
+        return Err(refused(Rule::StreamTooLong, Some(header.kind), at));
+    }
+    match held_limit(header.kind) {
+        Some(limit) => begin_held(at, header, limit, piece, progress, ledger, out, w),
+        None => match put_box(at, header, out, w) {
+            Ok(()) => {
+                progress.phase = phase_behind(at, header);
+                Ok(header.header_len as usize)
+            }
+            Err(Failed) => Err(Stop::Write),
+        },
+    }
+}
+
+/// Takes the box at `at`, which is to be held, and with whose header the piece begins: lists it where all of it is there, and
+/// else holds what there is of it. How many bytes.
+fn begin_held<W: Sink>(
+    at: u64,
+    header: &Header,
+    limit: u64,
+    piece: &[u8],
+    progress: &mut Progress,
+    ledger: &mut Ledger,
+    out: &mut Block,
+    w: &mut W,
+) -> Result<usize, Stop>
+    requires room { HasRoom header.now.size header.now.header_len }
+    requires is { header_at piece.now ≡ steps.Whole header.now }
     requires end { least_end at header.now header.now.size ≤ longest }
     requires held { most_held header.now.kind.0 ≡ Some limit }
     requires none { progress.old.held ≡ None }
     ensures takes { Takes (around W.contents W.has_failed w.old w.new out.old out.new
         ledger.old ledger.new)
-        (standing (InHeader at head.now)) [] (λ _. [])
+        (standing (InHeader at [])) piece.now (λ n. take n piece.now)
         (λ _. standing (place_of [] progress.new.phase progress.new.held)) result }
+    ensures taken { IfOk result (λ n. (header.now.header_len ≤ n) × (n ≤ length piece.now)) }
     ensures claim { OnOk result (claim_of (place_of [] progress.new.phase progress.new.held) ≤
         ledger.new.live) }
     ensures machine { OnOk result (IsMachine [] progress.new.phase progress.new.held) }
@@ -228,16 +222,24 @@ fn begin_held<W: Sink>(
     if size > limit {
         return Err(refused(Rule::TooLarge, Some(header.kind), at));
     }
-    let held = match Held::claim(ledger, at, header.kind, size, head) {
-        Ok(held) => held,
-        Err(refused) => return Err(Stop::of_refusal(refused)),
-    };
-    match settle(held, &mut progress.held, ledger, out, w) {
-        Ok(()) => {
-            progress.phase = Phase::Header { at: at + size };
-            Ok(())
+    let next = Phase::Header { at: at + size };
+    if size <= piece.len() as u64 {
+        let size = size as usize;
+        return match list_whole(at, header, &piece[..size], ledger, out, w) {
+            Ok(()) => {
+                progress.phase = next;
+                Ok(size)
+            }
+            Err(stop) => Err(stop),
+        };
+    }
+    match Held::claim(ledger, at, header.kind, size, piece) {
+        Ok(held) => {
+            put(&mut progress.held, held);
+            progress.phase = next;
+            Ok(piece.len())
         }
-        Err(stop) => Err(stop),
+        Err(refused) => Err(Stop::of_refusal(refused)),
     }
 }
 
@@ -297,19 +299,9 @@ fn settle<W: Sink>(
         put(slot, held);
         return Ok(());
     }
-    match held.check() {
-        Ok(()) => {}
-        Err(fault) => {
-            held.back(ledger);
-            return Err(Stop::Stream(fault));
-        }
-    }
     let listed = held.list(out, w);
     held.back(ledger);
-    match listed {
-        Ok(()) => Ok(()),
-        Err(Failed) => Err(Stop::Write),
-    }
+    listed
 }
 
 /// Puts a box where none is.

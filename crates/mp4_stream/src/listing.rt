@@ -27,7 +27,7 @@ fn push_line(line: &mut Line, this: &BoxRef, level: u8)
 
 /// Puts the line of the box with this header that begins at `at` behind its indent.
 #[tactic(auto, unfolding(crate::specs::Listing::box_line))]
-pub(crate) fn push_box(line: &mut Line, at: u64, header: &Header)
+fn push_box(line: &mut Line, at: u64, header: &Header)
     requires { length line.old ≤ 14 }
     ensures { line.new ≡ line.old ++ box_line at header.now }
 {
@@ -38,6 +38,28 @@ pub(crate) fn push_box(line: &mut Line, at: u64, header: &Header)
     line.push_decimal(at);
     push_user(line, header.user);
     line.push_bytes(b"\n");
+}
+
+/// Puts the line of the box at the top with this header that begins at `at`.
+pub(crate) fn put_box<W: Sink>(
+    at: u64,
+    header: &Header,
+    out: &mut Block,
+    w: &mut W,
+) -> Result<(), Failed>
+    ensures ok { OnOk result (Passes (W.contents w.old) (W.contents w.new) out.old out.new
+        (box_line at header.now)) }
+    ensures err { OnErr result (AppendsPrefix (W.contents w.old) (W.contents w.new)
+        (out.old ++ box_line at header.now)) }
+    ensures failed { OnErr result (W.has_failed w.new ≡ true) }
+    ensures kept { OnOk result (W.has_failed w.new ≡ W.has_failed w.old) }
+{
+    let mut line = Line::new();
+    push_box(&mut line, at, header);
+    match out.put(w, line.bytes()) {
+        Ok(()) => Ok(()),
+        Err(Failed) => Err(Failed),
+    }
 }
 
 /// Whether lines of boxes below this one follow its own, where so many levels below it are listed.

@@ -1,6 +1,6 @@
 //! Where a machine is in a stream between boxes that are held, and how it passes over bodies.
 
-ghost use Rattle.std.specs.Prelude.{◌≡◌, ℕ, ◌+◌, ◌-◌, ◌<◌, ◌≤◌, [], ◌++◌, List, length, take, None, Some, Ok, IfNone, IfSome, IfOk, IfErr, OnErr};
+ghost use Rattle.std.specs.Prelude.{◌≡◌, ℕ, ◌+◌, ◌-◌, ◌<◌, ◌≤◌, [], ◌++◌, List, length, take, Some, IfOk, IfErr, IsTrue, OnErr, ◌↔◌};
 ghost use Rattle.mp4_box.specs.Headers.{HasRoom};
 ghost use Rattle.mp4_box.specs.declared.rules.Rule.TheVariants.{StreamTooLong};
 ghost use Rattle.mp4_reading.specs.Bodies.{fault, longest, told_body, told_open};
@@ -47,70 +47,57 @@ pub(crate) fn refused(rule: Rule, kind: Option<FourCc>, at: u64) -> Stop
     })
 }
 
-/// What comes behind the header of the box at `at`; nothing where the box goes past the longest stream.
-pub(crate) fn phase_behind(at: u64, header: &Header) -> Option<Phase>
+/// Whether the box at `at` with this header goes past the longest stream.
+pub(crate) fn is_too_long(at: u64, header: &Header) -> bool
     requires at { at ≤ longest }
-    requires len { (8 ≤ header.now.header_len) × (header.now.header_len ≤ 32) }
+    ensures { IsTrue result ↔ (longest < least_end at header.now header.now.size) }
+{
+    let least = match header.size {
+        Size::Exact(size) => size,
+        Size::ToEnd => header.header_len,
+    };
+    least > LONGEST - at
+}
+
+/// What comes behind the header of the box at `at`, whose body is passed over.
+pub(crate) fn phase_behind(at: u64, header: &Header) -> Phase
     requires room { HasRoom header.now.size header.now.header_len }
-    ensures none { IfNone result (longest < least_end at header.now header.now.size) }
-    ensures some { IfSome result (λ p. least_end at header.now header.now.size ≤ longest) }
-    ensures reads { IfSome result (λ p. (later : List ℕ) → then_read reading
-        (body at header.now header.now.size later) ≡ reads_at (place_by [] p) later) }
-    ensures phase { IfSome result (λ p. IsPhase [] p) }
-    ensures reached { IfSome result (λ p. reached_of (place_by [] p) ≡ at + header.now.header_len) }
+    requires end { least_end at header.now header.now.size ≤ longest }
+    ensures reads { (later : List ℕ) → then_read reading
+        (body at header.now header.now.size later) ≡ reads_at (place_by [] result) later }
+    ensures phase { IsPhase [] result }
+    ensures reached { reached_of (place_by [] result) ≡ at + header.now.header_len }
 {
     match header.size {
         Size::Exact(size) => sized_phase(at, header.kind, size, header.header_len),
-        Size::ToEnd => open_phase(at, header.kind, header.header_len),
+        Size::ToEnd => Phase::OpenBody {
+            at,
+            kind: header.kind,
+            left: LONGEST - (at + header.header_len),
+        },
     }
 }
 
 /// What comes behind the header, of this length, of a box of this size.
-pub(crate) fn sized_phase(at: u64, kind: FourCc, size: u64, header_len: u64) -> Option<Phase>
-    requires at { at ≤ longest }
+fn sized_phase(at: u64, kind: FourCc, size: u64, header_len: u64) -> Phase
     requires room { header_len ≤ size }
-    ensures none { IfNone result (longest < at + size) }
-    ensures some { IfSome result (λ p. at + size ≤ longest) }
-    ensures reads { IfSome result (λ p. (later : List ℕ) → then_read reading
-        (told_body passed at kind (at + size) (size - header_len) later) ≡ reads_at (place_by [] p)
-        later) }
-    ensures phase { IfSome result (λ p. IsPhase [] p) }
-    ensures reached { IfSome result (λ p. reached_of (place_by [] p) ≡ at + header_len) }
+    requires end { at + size ≤ longest }
+    ensures reads { (later : List ℕ) → then_read reading
+        (told_body passed at kind (at + size) (size - header_len) later) ≡
+        reads_at (place_by [] result) later }
+    ensures phase { IsPhase [] result }
+    ensures reached { reached_of (place_by [] result) ≡ at + header_len }
 {
-    if size > LONGEST - at {
-        return None;
-    }
     let next = at + size;
     if size == header_len {
-        return Some(Phase::Header { at: next });
+        return Phase::Header { at: next };
     }
-    Some(Phase::Body {
+    Phase::Body {
         at,
         kind,
         next,
         left: size - header_len,
-    })
-}
-
-/// What comes behind the header, of this length, of a box that goes to the end of the stream.
-pub(crate) fn open_phase(at: u64, kind: FourCc, header_len: u64) -> Option<Phase>
-    requires at { at ≤ longest }
-    ensures none { IfNone result (longest < at + header_len) }
-    ensures some { IfSome result (λ p. at + header_len ≤ longest) }
-    ensures reads { IfSome result (λ p. (later : List ℕ) → then_read reading
-        (told_open passed at kind 0 (longest - (at + header_len)) later) ≡ reads_at (place_by [] p)
-        later) }
-    ensures phase { IfSome result (λ p. IsPhase [] p) }
-    ensures reached { IfSome result (λ p. reached_of (place_by [] p) ≡ at + header_len) }
-{
-    if header_len > LONGEST - at {
-        return None;
     }
-    Some(Phase::OpenBody {
-        at,
-        kind,
-        left: LONGEST - (at + header_len),
-    })
 }
 
 /// Bytes of a body that were passed over.

@@ -1,8 +1,10 @@
-use Rattle.std.proofs.Common.{[], take, length-take-le, arith, refl, sym}
+use Rattle.std.proofs.Common.{[], Some, take, length-take-le, arith, refl, sym}
 use Rattle.std.proofs.Math.Seq.{take-length}
+use Rattle.mp4_box.specs.declared.rules.Rule.TheVariants.{StreamTooLong}
+use Rattle.mp4_reading.specs.Bodies.{fault}
 use Rattle.mp4_reading.proofs.PieceLemmas.{Takes-ok, Takes-err}
-use Rattle.mp4_stream.specs.Places.{InBody, InOpenBody, place_by}
-use Rattle.mp4_stream.proofs.PlaceLemmas.{GoesOn-passed, Refuses-passed, claim-none}
+use Rattle.mp4_stream.specs.Places.{InBody, InOpenBody, place_by, standing}
+use Rattle.mp4_stream.proofs.PlaceLemmas.{GoesOn-passed, Refuses-there, claim-none}
 use Rattle.mp4_stream.proofs.intake.take_unheld.Goals as goal
 
 pub returns-in-Header-clause-takes : goal.returns-in-Header-clause-takes
@@ -31,4 +33,4 @@ returns-in-Ok-clause-takes g c =
 pub returns-in-Err-clause-takes : goal.returns-in-Err-clause-takes
 returns-in-Err-clause-takes g c =
     rw (c.in-OpenBody.is, c.in-Err.ensures.stops)
-    (Takes-err (λ more. Refuses-passed _ c.in-OpenBody.at c.in-OpenBody.left c.in-OpenBody.kind c.args.piece.now more c.in-Err.ensures.err) (λ e. absurd cc) (λ _. refl))
+    (Takes-err (λ more. Refuses-there _ (standing (InOpenBody c.in-OpenBody.at c.in-OpenBody.kind c.in-OpenBody.left)) c.args.piece.now more (fault StreamTooLong (Some c.in-OpenBody.kind) c.in-OpenBody.at) c.in-Err.ensures.err refl) (λ e. absurd cc) (λ _. refl))
