@@ -3,7 +3,8 @@ use Rattle.std.specs.Prelude.{◌≡◌, ◌⊎◌, ◌≤◌, ℕ, Bool, false,
 use Rattle.std.specs.Io.KnownBytes.{Appends, Keeps}
 use Rattle.mp4_ends.specs.Streams.{AppendsPrefix}
 use Rattle.mp4_reading.specs.Readings.{uncounted}
-use Rattle.mp4_reading.specs.Runs.{Ends, Runs}
+use Rattle.mp4_reading.specs.Ends.{Ends}
+use Rattle.mp4_reading.specs.Runs.{Runs}
 use Rattle.mp4_reading.specs.declared.stop.Stop.{Stop}
 use Rattle.mp4_reading.specs.declared.stop.Stop.TheVariants.{Stream, Read, Write, OverLimit, Memory}
 use Rattle.mp4_stream.specs.Boxes.{reading}

@@ -1,6 +1,7 @@
 //! A run of the program.
 
 ghost use Rattle.std.specs.Prelude.{◌≡◌, ◌≤◌, false, map, string_bytes, OnOk};
+ghost use Rattle.mp4_reading.specs.Ends.{between, received, sent};
 ghost use Rattle.mp4_reading.specs.Readings.{uncounted};
 ghost use Rattle.mp4_reading.specs.Runs.{Runs};
 ghost use Rattle.mp4_stream.specs.Boxes.{reading};
@@ -26,16 +27,8 @@ pub fn run<R: Source, W: Sink, F: Sink>(
 ) -> u8
     ensures { Ran ((r.new ≡ r.old) × (w.new ≡ w.old)) (command_of (map string_bytes words.items))
         (record {
-          ends = record {
-            left = R.remaining r.old;
-            left' = R.remaining r.new;
-            written = W.contents w.old;
-            written' = W.contents w.new;
-            ended = R.has_ended r.new;
-            read_failed = R.has_failed r.new;
-            write_failed = W.has_failed w.old;
-            write_failed' = W.has_failed w.new;
-          };
+          ends = between (received R.remaining R.has_ended R.has_failed r.old r.new)
+            (sent W.contents W.has_failed w.old w.new);
           told = F.contents fault_w.old;
           told' = F.contents fault_w.new;
           fault_failed = F.has_failed fault_w.new;
@@ -69,16 +62,9 @@ fn list_boxes<R: Source, W: Sink>(
 ) -> Result<(), Stop>
     requires copy { (4096 ≤ copy) × (copy ≤ 1048576) }
     requires idle { ledger.old.live ≡ 0 }
-    ensures runs { Runs (reading 0) (record {
-      left = R.remaining r.old;
-      left' = R.remaining r.new;
-      written = W.contents w.old;
-      written' = W.contents w.new;
-      ended = R.has_ended r.new;
-      read_failed = R.has_failed r.new;
-      write_failed = W.has_failed w.old;
-      write_failed' = W.has_failed w.new;
-    })
+    ensures runs { Runs (reading 0) (between
+        (received R.remaining R.has_ended R.has_failed r.old r.new)
+        (sent W.contents W.has_failed w.old w.new))
         (record { copy = copy; limit = ledger.old.limit; peak = ledger.new.peak })
         uncounted result }
     ensures within { ledger.new.peak ≤ ledger.old.limit }

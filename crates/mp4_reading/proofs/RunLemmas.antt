@@ -12,7 +12,8 @@ use Rattle.mp4_box.specs.declared.rules.Fault.{Fault}
 use Rattle.mp4_reading.specs.Accounts.{Counts, Spends}
 use Rattle.mp4_reading.specs.Readings.{Ask, greatest, Told, Reading, nothing, uncounted, plus, fault_in, early_in, after, both, asks_for, shifted, most_of}
 use Rattle.mp4_reading.specs.Pieces.{Outside, Standing, Refuses, Starves, StopsAt, Around, Takes, IsFed, refusal_of}
-use Rattle.mp4_reading.specs.Runs.{Ends, Claims, Run, TellsAll, TellsSome, IsPrompt, StarvesAt, ComesUntil, Runs}
+use Rattle.mp4_reading.specs.Ends.{Ends}
+use Rattle.mp4_reading.specs.Runs.{Claims, Run, TellsAll, TellsSome, IsPrompt, StarvesAt, ComesUntil, Runs}
 use Rattle.mp4_reading.specs.declared.stop.Stop.{Stop}
 use Rattle.mp4_reading.specs.declared.stop.Stop.TheVariants.{Stream, Read, Write, OverLimit, Memory}
 use Rattle.mp4_reading.proofs.ReadingAskLemmas.{most-both, shifted-append}

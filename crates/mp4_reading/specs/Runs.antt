@@ -2,21 +2,11 @@
 use Rattle.std.specs.Prelude.{◌≡◌, ◌⊎◌, ℕ, ◌+◌, ◌<◌, ◌≤◌, List, [], ◌∷◌, ◌++◌, length, take, Bool, true, Option, None, Some, Result, Ok, Err, IsErrOf}
 use Rattle.std.specs.Io.KnownBytes.{Appends, Consumes}
 use Rattle.mp4_ends.specs.Streams.{AppendsPrefix}
+use Rattle.mp4_reading.specs.Ends.{Ends}
 use Rattle.mp4_reading.specs.Readings.{Ask, greatest, most_of, Reading, fault_in, early_in, IsPrefix}
 use Rattle.mp4_reading.specs.declared.stop.Stop.{Stop}
 use Rattle.mp4_reading.specs.declared.stop.Stop.TheVariants.{Stream, Read, Write, OverLimit, Memory}
 use Rattle.mp4_reading.specs.declared.tally.Tally.{Tally}
-
--- what the two ends tell before a run and after it: the bytes that reads will give, those that were written, whether the stream has ended, and which end has failed
-pub record Ends : Type 0 where
-  pub left : Option (List ℕ)
-  pub left' : Option (List ℕ)
-  pub written : Option (List ℕ)
-  pub written' : Option (List ℕ)
-  pub ended : Bool
-  pub read_failed : Bool
-  pub write_failed : Bool
-  pub write_failed' : Bool
 
 -- how many bytes are claimed to read into, how many may be claimed, and the most that were at once
 pub record Claims : Type 0 where

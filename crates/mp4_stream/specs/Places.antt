@@ -7,6 +7,7 @@ use Rattle.mp4_box.specs.declared.headers.Step.TheVariants as steps
 use Rattle.mp4_box.specs.Headers.{header_at, need}
 use Rattle.mp4_ledger.specs.Memory.{Account}
 use Rattle.mp4_reading.specs.Bodies.{longest, told_body, told_open}
+use Rattle.mp4_reading.specs.Ends.{Sent}
 use Rattle.mp4_reading.specs.Pieces.{Around, Outside, Standing}
 use Rattle.mp4_reading.specs.Readings.{Reading, uncounted, then_read}
 use Rattle.mp4_stream.specs.Boxes.{passed, held_body, reading}
@@ -95,10 +96,10 @@ abbrev pub outside : Option (List ℕ) → List ℕ → Account → Outside
 outside written waiting account = record { written = written; waiting = waiting; account = account; tally = uncounted }
 
 -- a call that is lent a writer, a block and a ledger, by what they were and are
-abbrev pub around : {W : Type 0} → (contents : W → Option (List ℕ)) → (has_failed : W → Bool) → (w w' : W) → (waiting waiting' : List ℕ) → (account account' : Account) → Around
-around contents has_failed w w' waiting waiting' account account' = record {
-  before = outside (contents w) waiting account;
-  behind = outside (contents w') waiting' account';
-  failed = has_failed w;
-  failed' = has_failed w';
+abbrev pub around : Sent → (waiting waiting' : List ℕ) → (account account' : Account) → Around
+around s waiting waiting' account account' = record {
+  before = outside s.written waiting account;
+  behind = outside s.written' waiting' account';
+  failed = s.failed;
+  failed' = s.failed';
 }

@@ -8,6 +8,7 @@ ghost use Rattle.mp4_box.specs.Headers.{header_at};
 ghost use Rattle.mp4_box.specs.Trees.{box_at, view};
 ghost use Rattle.mp4_ledger.specs.Memory.{Account, claimed, given_back};
 ghost use Rattle.mp4_reading.specs.Bodies.{longest};
+ghost use Rattle.mp4_reading.specs.Ends.{sent};
 ghost use Rattle.mp4_reading.specs.Pieces.{Takes};
 ghost use Rattle.mp4_stream.specs.Holding.{most_held};
 ghost use Rattle.mp4_stream.specs.Places.{Begins, InHeader, InHeld, around, standing};
@@ -125,8 +126,8 @@ impl Held {
         requires begins { Begins self.now.size self.now.bytes }
         requires whole { length self.now.bytes ≡ self.now.size }
         ensures { (a : Account) → self.now.size ≤ a.live →
-            Takes (around W.contents W.has_failed w.old w.new out.old out.new
-            a (given_back a self.now.size))
+            Takes (around (sent W.contents W.has_failed w.old w.new)
+            out.old out.new a (given_back a self.now.size))
             (standing (InHeld self.now.at self.now.kind self.now.size self.now.bytes)) [] (λ _. [])
             (λ _. standing (InHeader (self.now.at + self.now.size) [])) result }
     {
@@ -175,8 +176,8 @@ pub(crate) fn list_whole<W: Sink>(
     requires held { (limit : ℕ) × (most_held header.now.kind.0 ≡ Some limit) ×
         (length bytes.now ≤ limit) }
     requires end { at + length bytes.now ≤ longest }
-    ensures { Takes (around W.contents W.has_failed w.old w.new out.old out.new
-        ledger.old ledger.new)
+    ensures { Takes (around (sent W.contents W.has_failed w.old w.new)
+        out.old out.new ledger.old ledger.new)
         (standing (InHeader at [])) bytes.now (λ _. bytes.now)
         (λ _. standing (InHeader (at + length bytes.now) [])) result }
 {
@@ -203,8 +204,8 @@ pub(crate) fn list_whole<W: Sink>(
 fn list_box<W: Sink>(this: &BoxRef<'_>, out: &mut Block, w: &mut W) -> Result<(), Stop>
     ensures { (at : ℕ) → (kind : FourCc) → (x : List ℕ) → (a : Account) →
         box_at at x ≡ Some (view this.now) → length x ≤ a.live →
-        Takes (around W.contents W.has_failed w.old w.new out.old out.new
-        a (given_back a (length x)))
+        Takes (around (sent W.contents W.has_failed w.old w.new)
+        out.old out.new a (given_back a (length x)))
         (standing (InHeld at kind (length x) x)) [] (λ _. [])
         (λ _. standing (InHeader (at + length x) [])) result }
 {

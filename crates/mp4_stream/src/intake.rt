@@ -4,6 +4,7 @@ ghost use Rattle.std.specs.Prelude.{◌≡◌, ◌+◌, ◌-◌, ◌<◌, ◌≤
 ghost use Rattle.mp4_box.specs.Headers.{HasRoom, header_at, need};
 ghost use Rattle.mp4_box.specs.declared.headers.Step.TheVariants as steps;
 ghost use Rattle.mp4_reading.specs.Bodies.{longest};
+ghost use Rattle.mp4_reading.specs.Ends.{sent};
 ghost use Rattle.mp4_reading.specs.Pieces.{Takes};
 ghost use Rattle.mp4_stream.specs.Boxes.{least_end};
 ghost use Rattle.mp4_stream.specs.Holding.{most_held};
@@ -39,8 +40,8 @@ pub(crate) fn take_unheld<W: Sink>(
     requires some { 0 < length piece.now }
     requires phase { IsPhase head.old progress.old.phase }
     requires none { progress.old.held ≡ None }
-    ensures takes { Takes (around W.contents W.has_failed w.old w.new out.old out.new
-        ledger.old ledger.new)
+    ensures takes { Takes (around (sent W.contents W.has_failed w.old w.new)
+        out.old out.new ledger.old ledger.new)
         (standing (place_by head.old progress.old.phase)) piece.now (λ n. take n piece.now)
         (λ _. standing (place_of head.new progress.new.phase progress.new.held)) result }
     ensures taken { IfOk result (λ n. (0 < n) × (n ≤ length piece.now)) }
@@ -87,8 +88,8 @@ fn take_header<W: Sink>(
     requires place { IsPlace (InHeader at head.old) }
     requires phase { progress.old.phase ≡ phases.Header at }
     requires none { progress.old.held ≡ None }
-    ensures takes { Takes (around W.contents W.has_failed w.old w.new out.old out.new
-        ledger.old ledger.new)
+    ensures takes { Takes (around (sent W.contents W.has_failed w.old w.new)
+        out.old out.new ledger.old ledger.new)
         (standing (InHeader at head.old)) piece.now (λ n. take n piece.now)
         (λ _. standing (place_of head.new progress.new.phase progress.new.held)) result }
     ensures taken { IfOk result (λ n. (0 < n) × (n ≤ length piece.now)) }
@@ -122,8 +123,8 @@ fn take_byte<W: Sink>(
     requires place { IsPlace (InHeader at head.old) }
     requires phase { progress.old.phase ≡ phases.Header at }
     requires none { progress.old.held ≡ None }
-    ensures takes { Takes (around W.contents W.has_failed w.old w.new out.old out.new
-        ledger.old ledger.new)
+    ensures takes { Takes (around (sent W.contents W.has_failed w.old w.new)
+        out.old out.new ledger.old ledger.new)
         (standing (InHeader at head.old)) (byte ∷ []) (λ _. byte ∷ [])
         (λ _. standing (place_of head.new progress.new.phase progress.new.held)) result }
     ensures claim { OnOk result (claim_of (place_of head.new progress.new.phase
@@ -164,8 +165,8 @@ fn begin<W: Sink>(
     requires room { HasRoom header.now.size header.now.header_len }
     requires is { header_at piece.now ≡ steps.Whole header.now }
     requires none { progress.old.held ≡ None }
-    ensures takes { Takes (around W.contents W.has_failed w.old w.new out.old out.new
-        ledger.old ledger.new)
+    ensures takes { Takes (around (sent W.contents W.has_failed w.old w.new)
+        out.old out.new ledger.old ledger.new)
         (standing (InHeader at [])) piece.now (λ n. take n piece.now)
         (λ _. standing (place_of [] progress.new.phase progress.new.held)) result }
     ensures taken { IfOk result (λ n. (header.now.header_len ≤ n) × (n ≤ length piece.now)) }
@@ -206,8 +207,8 @@ fn begin_held<W: Sink>(
     requires end { least_end at header.now header.now.size ≤ longest }
     requires held { most_held header.now.kind.0 ≡ Some limit }
     requires none { progress.old.held ≡ None }
-    ensures takes { Takes (around W.contents W.has_failed w.old w.new out.old out.new
-        ledger.old ledger.new)
+    ensures takes { Takes (around (sent W.contents W.has_failed w.old w.new)
+        out.old out.new ledger.old ledger.new)
         (standing (InHeader at [])) piece.now (λ n. take n piece.now)
         (λ _. standing (place_of [] progress.new.phase progress.new.held)) result }
     ensures taken { IfOk result (λ n. (header.now.header_len ≤ n) × (n ≤ length piece.now)) }
@@ -256,8 +257,8 @@ pub(crate) fn take_held<W: Sink>(
     requires place { IsPlace (InHeld held.at held.kind held.size held.bytes) }
     requires claim { held.size ≤ ledger.old.live }
     requires none { slot.old ≡ None }
-    ensures takes { Takes (around W.contents W.has_failed w.old w.new out.old out.new
-        ledger.old ledger.new)
+    ensures takes { Takes (around (sent W.contents W.has_failed w.old w.new)
+        out.old out.new ledger.old ledger.new)
         (standing (InHeld held.at held.kind held.size held.bytes)) piece.now
         (λ n. take n piece.now)
         (λ _. standing (place_of [] (phases.Header (held.at + held.size)) slot.new)) result }
@@ -286,8 +287,8 @@ fn settle<W: Sink>(
     requires begins { Begins held.size held.bytes }
     requires claim { held.size ≤ ledger.old.live }
     requires none { slot.old ≡ None }
-    ensures takes { Takes (around W.contents W.has_failed w.old w.new out.old out.new
-        ledger.old ledger.new)
+    ensures takes { Takes (around (sent W.contents W.has_failed w.old w.new)
+        out.old out.new ledger.old ledger.new)
         (standing (InHeld held.at held.kind held.size held.bytes)) [] (λ _. [])
         (λ _. standing (place_of [] (phases.Header (held.at + held.size)) slot.new)) result }
     ensures claim { OnOk result (claim_of

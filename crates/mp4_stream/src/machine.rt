@@ -4,6 +4,7 @@ ghost use Rattle.std.specs.Prelude.{◌≡◌, ◌+◌, ◌-◌, ◌<◌, ◌≤
 ghost use Rattle.mp4_box.specs.declared.rules.Rule.TheVariants.{Truncated};
 ghost use Rattle.mp4_ledger.specs.Memory.{given_back};
 ghost use Rattle.mp4_reading.specs.Bodies.{fault};
+ghost use Rattle.mp4_reading.specs.Ends.{sent};
 ghost use Rattle.mp4_reading.specs.Pieces.{Takes};
 ghost use Rattle.mp4_reading.specs.Readings.{fault_in};
 ghost use Rattle.mp4_stream.specs.Places.{InHeader, IsPhase, IsPlace, around, claim_of, place_by, standing};
@@ -60,8 +61,8 @@ impl Machine {
     ) -> Result<(), Stop>
         requires claim { claim_of self.old.place ≤ ledger.old.live }
         requires empty { self.old.waiting ≡ [] }
-        ensures takes { Takes (around W.contents W.has_failed w.old w.new [] []
-            ledger.old ledger.new)
+        ensures takes { Takes (around (sent W.contents W.has_failed w.old w.new)
+            [] [] ledger.old ledger.new)
             (standing self.old.place) piece.now (λ _. piece.now) (λ _. standing self.new.place)
             result }
         ensures claim { claim_of self.new.place ≤ ledger.new.live }
@@ -91,7 +92,7 @@ impl Machine {
         w: &mut W,
     ) -> Result<(), Stop>
         requires claim { claim_of self.old.place ≤ ledger.old.live }
-        ensures takes { Takes (around W.contents W.has_failed w.old w.new
+        ensures takes { Takes (around (sent W.contents W.has_failed w.old w.new)
             self.old.waiting self.new.waiting ledger.old ledger.new)
             (standing self.old.place) piece.now (λ _. piece.now)
             (λ _. standing self.new.place) result }
@@ -119,7 +120,7 @@ impl Machine {
     ) -> Result<usize, Stop>
         requires some { 0 < length piece.now }
         requires claim { claim_of self.old.place ≤ ledger.old.live }
-        ensures takes { Takes (around W.contents W.has_failed w.old w.new
+        ensures takes { Takes (around (sent W.contents W.has_failed w.old w.new)
             self.old.waiting self.new.waiting ledger.old ledger.new)
             (standing self.old.place) piece.now
             (λ n. take n piece.now) (λ _. standing self.new.place) result }

@@ -1,6 +1,7 @@
 //! A run over a whole stream.
 
 ghost use Rattle.std.specs.Prelude.{◌≡◌, ◌+◌, ◌<◌, ◌≤◌, [], length};
+ghost use Rattle.mp4_reading.specs.Ends.{between, received, sent};
 ghost use Rattle.mp4_reading.specs.Readings.{uncounted};
 ghost use Rattle.mp4_reading.specs.Runs.{Runs};
 ghost use Rattle.mp4_stream.specs.Boxes.{reading};
@@ -62,16 +63,9 @@ pub fn boxes<R: Source, W: Sink>(
     requires idle { ledger.old.live ≡ 0 }
 
     // Of the bytes that were read: the answer, what was written, and the most that was claimed at once.
-    ensures runs { Runs (reading 0) (record {
-      left = R.remaining r.old;
-      left' = R.remaining r.new;
-      written = W.contents w.old;
-      written' = W.contents w.new;
-      ended = R.has_ended r.new;
-      read_failed = R.has_failed r.new;
-      write_failed = W.has_failed w.old;
-      write_failed' = W.has_failed w.new;
-    })
+    ensures runs { Runs (reading 0) (between
+        (received R.remaining R.has_ended R.has_failed r.old r.new)
+        (sent W.contents W.has_failed w.old w.new))
         (record { copy = copy; limit = ledger.old.limit; peak = ledger.new.peak })
         uncounted result }
 
@@ -108,16 +102,9 @@ fn read_on<R: Source, W: Sink>(
     requires marked { ledger.old.peak ≡ ledger.old.live }
     requires claimed { length copy.old ≡ ledger.old.live }
     requires begins { machine.old ≡ record { place = InHeader 0 []; waiting = [] } }
-    ensures runs { Runs (reading 0) (record {
-      left = R.remaining r.old;
-      left' = R.remaining r.new;
-      written = W.contents w.old;
-      written' = W.contents w.new;
-      ended = R.has_ended r.new;
-      read_failed = R.has_failed r.new;
-      write_failed = W.has_failed w.old;
-      write_failed' = W.has_failed w.new;
-    })
+    ensures runs { Runs (reading 0) (between
+        (received R.remaining R.has_ended R.has_failed r.old r.new)
+        (sent W.contents W.has_failed w.old w.new))
         (record { copy = ledger.old.live; limit = ledger.old.limit; peak = ledger.new.peak })
         uncounted result }
     ensures live { ledger.new.live ≡ ledger.old.live + claim_of machine.new.place }

@@ -1,0 +1,45 @@
+-- What the two ends of a run tell.
+use Rattle.std.specs.Prelude.{ℕ, List, Bool, Option}
+
+-- what a source tells before a call and behind it: the bytes that its reads will give; and whether it has ended, and failed
+pub record Received : Type 0 where
+  pub left : Option (List ℕ)
+  pub left' : Option (List ℕ)
+  pub ended : Bool
+  pub failed : Bool
+
+abbrev pub received : {R : Type 0} → (remaining : R → Option (List ℕ)) → (has_ended has_failed : R → Bool) → (r r' : R) → Received
+received remaining has_ended has_failed r r' = record { left = remaining r; left' = remaining r'; ended = has_ended r'; failed = has_failed r' }
+
+-- what a sink tells before a call and behind it: the bytes that were written, and whether it had failed
+pub record Sent : Type 0 where
+  pub written : Option (List ℕ)
+  pub written' : Option (List ℕ)
+  pub failed : Bool
+  pub failed' : Bool
+
+abbrev pub sent : {W : Type 0} → (contents : W → Option (List ℕ)) → (has_failed : W → Bool) → (w w' : W) → Sent
+sent contents has_failed w w' = record { written = contents w; written' = contents w'; failed = has_failed w; failed' = has_failed w' }
+
+-- what both ends of a run tell
+pub record Ends : Type 0 where
+  pub left : Option (List ℕ)
+  pub left' : Option (List ℕ)
+  pub written : Option (List ℕ)
+  pub written' : Option (List ℕ)
+  pub ended : Bool
+  pub read_failed : Bool
+  pub write_failed : Bool
+  pub write_failed' : Bool
+
+abbrev pub between : Received → Sent → Ends
+between r s = record {
+  left = r.left;
+  left' = r.left';
+  written = s.written;
+  written' = s.written';
+  ended = r.ended;
+  read_failed = r.failed;
+  write_failed = s.failed;
+  write_failed' = s.failed';
+}
