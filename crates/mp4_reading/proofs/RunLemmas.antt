@@ -1,5 +1,5 @@
 -- What a run brings that stops behind some bytes, or at the next piece.
-use Rattle.std.proofs.Common.{◌≡◌, ℕ, zero, suc, ◌+◌, ◌≤◌, ◌<◌, List, [], ◌∷◌, ◌++◌, length, take, true, Some, None, Err, inl, inr, ap, sym, ◌∙◌, refl, arith, append-nil, append_assoc, subst}
+use Rattle.std.proofs.Common.{◌≡◌, ℕ, zero, suc, ◌+◌, ◌≤◌, ◌<◌, List, [], ◌∷◌, ◌++◌, length, take, true, Some, None, Result, Err, inl, inr, ap, sym, ◌∙◌, refl, arith, append-nil, append_assoc, subst}
 use Rattle.std.proofs.Math.Seq.{take-append-add}
 use Rattle.std.proofs.KnownBytes.{Appends-trans}
 use Rattle.std.specs.Io.KnownBytes.{Appends, Consumes}
@@ -15,6 +15,7 @@ use Rattle.mp4_reading.specs.Pieces.{Outside, Standing, Refuses, Starves, StopsA
 use Rattle.mp4_reading.specs.Ends.{Ends}
 use Rattle.mp4_reading.specs.Runs.{Claims, Run, TellsAll, TellsSome, IsPrompt, StarvesAt, ComesUntil, Runs}
 use Rattle.mp4_reading.specs.declared.stop.Stop.{Stop}
+use Rattle.mp4_reading.specs.declared.tally.Tally.{Tally}
 use Rattle.mp4_reading.specs.declared.stop.Stop.TheVariants.{Stream, Read, Write, OverLimit, Memory}
 use Rattle.mp4_reading.proofs.ReadingAskLemmas.{most-both, shifted-append}
 use Rattle.mp4_reading.proofs.AccountLemmas.{Counts-more, Spends-after}
@@ -192,3 +193,12 @@ idle-stops whole ends claims live refusals.Memory none given kept failed idle pe
   comes = inl (record { bytes = refl; text = kept; peak = peak ∙ idle }, omega (arith, within refl, idle));
   kept = λ _. failed;
 }
+
+-- ---- the same claims by other names
+
+pub Runs-same : {T : Type 0} {whole : List ℕ → Reading} {ends : Ends} {tally : Tally} {copy copy' limit limit' peak peak' : ℕ} {result : Result T Stop} → copy ≡ copy' → limit ≡ limit' → peak ≡ peak'
+    → Runs whole ends (record { copy = copy; limit = limit; peak = peak }) tally result → Runs whole ends (record { copy = copy'; limit = limit'; peak = peak' }) tally result
+Runs-same {whole = whole} {ends = ends} {tally = tally} {copy = copy} {copy' = copy'} {limit = limit} {limit' = limit'} {peak = peak} {result = result} e f g run =
+    subst (λ n. Runs whole ends (record { copy = copy'; limit = limit'; peak = n }) tally result) g
+    (subst (λ n. Runs whole ends (record { copy = copy'; limit = n; peak = peak }) tally result) f
+    (subst (λ n. Runs whole ends (record { copy = n; limit = limit; peak = peak }) tally result) e run))
