@@ -18,7 +18,7 @@ use Rattle.mp4_reading.specs.Readings.{Reading, after, nothing}
 use Rattle.mp4_stream.specs.Boxes.{least_end, reading}
 use Rattle.mp4_stream.specs.Holding.{most_held}
 use Rattle.mp4_stream.specs.Joined.{AreSound, Item, MayStand, joined, told_from}
-use Rattle.mp4_stream.specs.Rests.{Headed, IsRest, Ended, CutInHeader, BadHeader, TooFar, CutInBody, Open, OpenTooFar, Large, Unsized, CutInHeld, BadTree, Split}
+use Rattle.mp4_stream.specs.Rests.{Boxed, Headed, IsRest, Ended, CutInHeader, BadHeader, TooFar, CutInBody, Open, OpenTooFar, Large, Unsized, CutInHeld, BadTree, Split}
 use Rattle.mp4_stream.proofs.BoxLemmas.{reading-more, reading-none, reading-whole, reading-too_long, reading-too_large, reading-held_to_end}
 use Rattle.mp4_stream.proofs.JoinLemmas.{reading-boxes, reading-unheaded, reading-cut, reading-open, reading-open_long, reading-cut_held, reading-bad_held}
 
@@ -38,16 +38,16 @@ module _ (at : ℕ) (y : List ℕ) (r : Reading) where
   rest-reads fits (BadHeader whole none e) = reading-unheaded at y fits whole none ∙ sym e
   rest-reads fits (TooFar b far e) =
       headed b (reading-whole at b.head b.more b.header (head-need b.header b.head b.spelled) (head-whole b.header b.head b.spelled) ∙ reading-too_long at b.header b.head b.more far ∙ sym e)
-  rest-reads fits (CutInBody b s loose size near short e) = headed b (reading-cut at s b.header b.head b.more b.spelled loose size near (omega (arith, len_of b, short)) ∙ sym e)
-  rest-reads fits (Open b loose size near e) = headed b (reading-open at b.header b.head b.more b.spelled loose size (omega (arith, len_of b, near)) ∙ sym e)
-  rest-reads fits (OpenTooFar b loose size near far e) = headed b (reading-open_long at b.header b.head b.more b.spelled loose size near (omega (arith, len_of b, far)) ∙ sym e)
-  rest-reads fits (Large b limit s held size near large e) =
+  rest-reads fits (CutInBody b s (loose, size, near) short e) = headed b (reading-cut at s b.header b.head b.more b.spelled loose size near (omega (arith, len_of b, short)) ∙ sym e)
+  rest-reads fits (Open b (loose, size) near e) = headed b (reading-open at b.header b.head b.more b.spelled loose size (omega (arith, len_of b, near)) ∙ sym e)
+  rest-reads fits (OpenTooFar b (loose, size) near far e) = headed b (reading-open_long at b.header b.head b.more b.spelled loose size near (omega (arith, len_of b, far)) ∙ sym e)
+  rest-reads fits (Large b s limit (held, size, near) large e) =
       headed b (reading-whole at b.head b.more b.header (head-need b.header b.head b.spelled) (head-whole b.header b.head b.spelled) ∙ reading-too_large at b.header b.head b.more limit s near held size large ∙ sym e)
   rest-reads fits (Unsized b limit held size near e) =
       headed b (reading-whole at b.head b.more b.header (head-need b.header b.head b.spelled) (head-whole b.header b.head b.spelled)
       ∙ reading-held_to_end at b.header b.head b.more limit (omega (arith, near, b.spelled.header_len)) held size ∙ sym e)
-  rest-reads fits (CutInHeld b limit s held size near small short e) = headed b (reading-cut_held at limit s b.header b.head b.more b.spelled held size near small (omega (arith, len_of b, short)) ∙ sym e)
-  rest-reads fits (BadTree h limit payload x more f fs cut is held near small bad e) = ap (reading at) cut ∙ reading-bad_held at limit h payload x more f fs is held near small bad ∙ sym e
+  rest-reads fits (CutInHeld b s limit (held, size, near) small short e) = headed b (reading-cut_held at limit s b.header b.head b.more b.spelled held size near small (omega (arith, len_of b, short)) ∙ sym e)
+  rest-reads fits (BadTree b limit f fs (held, size, near) small bad e) = ap (reading at) b.cut ∙ reading-bad_held at limit b.header b.payload b.bytes b.more f fs b.is held near small bad ∙ sym e
 
 -- ---- a whole box comes first
 
@@ -108,7 +108,7 @@ module _ (at : ℕ) (b : List ℕ) (near : at ≤ longest) (fits : IsBytes b) (h
   loose : (s : ℕ) → h.size ≡ Exact s → most_held h.kind.0 ≡ None → at + s ≤ longest → Split at b
   unfolding begins x
   loose s size none end = elim (cases_lt (length b) s) [
-    | inl short ↦ only at b _ near (CutInBody begins s none size end short refl)
+    | inl short ↦ only at b _ near (CutInBody begins s (none, size, end) short refl)
     | inr enough ↦
         let some : 0 < s = omega (arith, subst (λ z. HasRoom z h.header_len) size (room_of b h whole), w.1, need-least b) in
         let item : Item = record { header = h; bytes = take s b } in
@@ -118,8 +118,8 @@ module _ (at : ℕ) (b : List ℕ) (near : at ≤ longest) (fits : IsBytes b) (h
   open_box : h.size ≡ ToEnd → most_held h.kind.0 ≡ None → at + h.header_len ≤ longest → Split at b
   unfolding begins x
   open_box size none end = elim (cases_lt longest (at + length b)) [
-    | inl far ↦ only at b _ near (OpenTooFar begins none size (omega (arith, end, x_len)) far refl)
-    | inr low ↦ only at b _ near (Open begins none size low refl)
+    | inl far ↦ only at b _ near (OpenTooFar begins (none, size) (omega (arith, end, x_len)) far refl)
+    | inr low ↦ only at b _ near (Open begins (none, size) low refl)
   ]
 
   good_tree : (limit s : ℕ) → h.size ≡ Exact s → most_held h.kind.0 ≡ Some limit → at + s ≤ longest → s ≤ limit → s ≤ length b → (fs : List Fault) → tree_faults at (take s b) ≡ fs → Split at b
@@ -130,14 +130,15 @@ module _ (at : ℕ) (b : List ℕ) (near : at ≤ longest) (fits : IsBytes b) (h
       first at s b item (drop h.header_len (take s b)) refl len (box_of s size enough) (subst (MayStand at (take s b)) (sym held) (omega (arith, len, small), good)) (go s some enough end)
   good_tree limit s size held end small enough (f ∷ fs) bad =
       let len = length-take-le s b enough in
-      only at b _ near (BadTree h limit (drop h.header_len (take s b)) (take s b) (drop s b) f fs (sym (take-append-drop s b)) (box_of s size enough) held (omega (arith, len, end)) (omega (arith, len, small)) bad refl)
+      let whole : Boxed b = record { header = h; payload = drop h.header_len (take s b); bytes = take s b; more = drop s b; is = box_of s size enough; cut = sym (take-append-drop s b) } in
+      only at b _ near (BadTree whole limit f fs (held, size ∙ ap Exact (sym len), omega (arith, len, end)) (omega (arith, len, small)) bad refl)
 
   held_box : (limit s : ℕ) → h.size ≡ Exact s → most_held h.kind.0 ≡ Some limit → at + s ≤ longest → Split at b
   unfolding begins x
   held_box limit s size held end = elim (cases_lt limit s) [
-    | inl large ↦ only at b _ near (Large begins limit s held size end large refl)
+    | inl large ↦ only at b _ near (Large begins s limit (held, size, end) large refl)
     | inr small ↦ elim (cases_lt (length b) s) [
-      | inl short ↦ only at b _ near (CutInHeld begins limit s held size end small short refl)
+      | inl short ↦ only at b _ near (CutInHeld begins s limit (held, size, end) small short refl)
       | inr enough ↦ good_tree limit s size held end small enough (tree_faults at (take s b)) refl
     ]
   ]

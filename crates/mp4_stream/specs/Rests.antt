@@ -21,6 +21,26 @@ pub record Headed (y : List ℕ) : Type 0 where
   pub spelled : Head header head
   pub cut : y ≡ head ++ more
 
+-- bytes that begin with a whole box
+pub record Boxed (y : List ℕ) : Type 0 where
+  pub header : Header
+  pub payload : List ℕ
+  pub bytes : List ℕ
+  pub more : List ℕ
+  pub is : IsBox header payload bytes
+  pub cut : y ≡ bytes ++ more
+
+-- the box at an offset isn't held and has so many bytes, or goes to the end of the stream
+abbrev pub IsLoose : ℕ → ℕ → Header → Type 0
+IsLoose at s h = (most_held h.kind.0 ≡ None) × (h.size ≡ Exact s) × (at + s ≤ longest)
+
+abbrev pub IsOpen : Header → Type 0
+IsOpen h = (most_held h.kind.0 ≡ None) × (h.size ≡ ToEnd)
+
+-- it is to be held, has so many bytes, and may have so many
+abbrev pub IsHeld : ℕ → ℕ → ℕ → Header → Type 0
+IsHeld at s limit h = (most_held h.kind.0 ≡ Some limit) × (h.size ≡ Exact s) × (at + s ≤ longest)
+
 -- the rest y stands at an offset, and is read so
 pub data IsRest (at : ℕ) (y : List ℕ) (r : Reading) : Type 0 where
   -- nothing is left
@@ -32,20 +52,17 @@ pub data IsRest (at : ℕ) (y : List ℕ) (r : Reading) : Type 0 where
   -- a box that goes past the longest stream
   TooFar : (b : Headed y) → longest < least_end at b.header b.header.size → r ≡ refused StreamTooLong (Some b.header.kind) at → IsRest at y r
   -- a box that isn't held, and isn't whole
-  CutInBody : (b : Headed y) (s : ℕ) → most_held b.header.kind.0 ≡ None → b.header.size ≡ Exact s → at + s ≤ longest → length y < s
-      → r ≡ after (says (box_line at b.header)) (cut_off Truncated (Some b.header.kind) at) → IsRest at y r
+  CutInBody : (b : Headed y) (s : ℕ) → IsLoose at s b.header → length y < s → r ≡ after (says (box_line at b.header)) (cut_off Truncated (Some b.header.kind) at) → IsRest at y r
   -- one that goes to the end of the stream
-  Open : (b : Headed y) → most_held b.header.kind.0 ≡ None → b.header.size ≡ ToEnd → at + length y ≤ longest → r ≡ after (says (box_line at b.header)) nothing → IsRest at y r
-  OpenTooFar : (b : Headed y) → most_held b.header.kind.0 ≡ None → b.header.size ≡ ToEnd → at + length b.head ≤ longest → longest < at + length y
-      → r ≡ after (says (box_line at b.header)) (refused StreamTooLong (Some b.header.kind) at) → IsRest at y r
+  Open : (b : Headed y) → IsOpen b.header → at + length y ≤ longest → r ≡ after (says (box_line at b.header)) nothing → IsRest at y r
+  OpenTooFar : (b : Headed y) → IsOpen b.header → at + length b.head ≤ longest → longest < at + length y → r ≡ after (says (box_line at b.header)) (refused StreamTooLong (Some b.header.kind) at) → IsRest at y r
   -- a moov or moof that is too large, or states no size
-  Large : (b : Headed y) (limit s : ℕ) → most_held b.header.kind.0 ≡ Some limit → b.header.size ≡ Exact s → at + s ≤ longest → limit < s → r ≡ refused TooLarge (Some b.header.kind) at → IsRest at y r
+  Large : (b : Headed y) (s limit : ℕ) → IsHeld at s limit b.header → limit < s → r ≡ refused TooLarge (Some b.header.kind) at → IsRest at y r
   Unsized : (b : Headed y) (limit : ℕ) → most_held b.header.kind.0 ≡ Some limit → b.header.size ≡ ToEnd → at + length b.head ≤ longest → r ≡ refused TooLarge (Some b.header.kind) at → IsRest at y r
   -- one that isn't whole, or has a fault in its tree
-  CutInHeld : (b : Headed y) (limit s : ℕ) → most_held b.header.kind.0 ≡ Some limit → b.header.size ≡ Exact s → at + s ≤ longest → s ≤ limit → length y < s
-      → r ≡ after (asks_for at s) (cut_off Truncated (Some b.header.kind) at) → IsRest at y r
-  BadTree : (h : Header) (limit : ℕ) (payload x more : List ℕ) (f : Fault) (fs : List Fault) → y ≡ x ++ more → IsBox h payload x → most_held h.kind.0 ≡ Some limit → at + length x ≤ longest → length x ≤ limit
-      → tree_faults at x ≡ f ∷ fs → r ≡ after (asks_for at (length x)) (record { told = silent; outcome = Faulty f }) → IsRest at y r
+  CutInHeld : (b : Headed y) (s limit : ℕ) → IsHeld at s limit b.header → s ≤ limit → length y < s → r ≡ after (asks_for at s) (cut_off Truncated (Some b.header.kind) at) → IsRest at y r
+  BadTree : (b : Boxed y) (limit : ℕ) (f : Fault) (fs : List Fault) → IsHeld at (length b.bytes) limit b.header → length b.bytes ≤ limit → tree_faults at b.bytes ≡ f ∷ fs
+      → r ≡ after (asks_for at (length b.bytes)) (record { told = silent; outcome = Faulty f }) → IsRest at y r
 
 -- the bytes b from an offset on are whole boxes that break no rule, and then one of the rests
 pub record Split (at : ℕ) (b : List ℕ) : Type 0 where
