@@ -1,14 +1,16 @@
 //! Callers of the libraries, which their pages `CALLING.md` quote.
 
-ghost use Rattle.std.specs.Prelude.{◌≡◌, ◌+◌, ◌*◌, ◌^◌, ◌≤◌, ◌==◌, ◌∷◌, [], length, codes, not, IfOk, IfErr, Some};
+ghost use Rattle.std.specs.Prelude.{◌≡◌, ◌+◌, ◌*◌, ◌^◌, ◌<◌, ◌≤◌, ◌↔◌, ◌==◌, ◌∷◌, [], length, codes, not, IfOk, IfErr, Err, None, Some};
 ghost use Rattle.std.specs.List.{list_all, position};
 ghost use Rattle.std.specs.Option.{is_some};
+ghost use Rattle.mp4_box.specs.declared.rules.Fault.{Fault};
+ghost use Rattle.mp4_ledger.specs.declared.ledger.Refused.TheVariants as refusals;
 ghost use Rattle.mp4_box.specs.Fields.{number_in};
 ghost use Rattle.mp4_box.specs.Headers.{IsWhole};
 ghost use Rattle.mp4_box.specs.Order.{IsLeast};
 ghost use Rattle.mp4_box.specs.Paths.{at_path, of_kind};
 ghost use Rattle.mp4_box.specs.Trees.{Box, box_at, children, tree_faults, view};
-ghost use Rattle.mp4_init.specs.Moovs.{moov_tracks};
+ghost use Rattle.mp4_init.specs.Moovs.{moov_fault, moov_tracks};
 ghost use Rattle.library_tests.specs.Kinds.{to_trun, traf};
 
 use mp4_box::{Along, BoxRef, Fault, FourCc, check_tree, count_of, number_at, whole_box};
@@ -52,6 +54,11 @@ pub fn has_track(ledger: &mut Ledger, moov: &[u8], offset: u64, id: u32) -> Resu
     requires room { offset + length moov.now ≤ 2 ^ 62 }
     ensures ok { IfOk result (λ has. has ≡
         is_some (position (λ t. t.id == id) (moov_tracks offset moov.now))) }
+    ensures fault { (f : Fault) → (result ≡ Err (InitStop.Fault f)) ↔
+        (moov_fault offset moov.now ≡ Some f) }
+    ensures over_limit { (result ≡ Err (InitStop.Refused refusals.OverLimit)) ↔
+        ((moov_fault offset moov.now ≡ None) × (ledger.old.limit < ledger.old.live +
+        64 * length (moov_tracks offset moov.now))) }
     ensures live { ledger.new.live ≡ ledger.old.live }
 {
     let list = match tracks(ledger, moov, offset) {
