@@ -1,0 +1,3 @@
+pub mod MarkLemmas
+pub mod PassLemmas
+pub mod RowLemmas

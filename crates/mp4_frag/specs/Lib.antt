@@ -1,0 +1,9 @@
+pub mod Kinds
+pub mod Fields
+pub mod Mfhd
+pub mod Tfhd
+pub mod Tfdt
+pub mod Trun
+pub mod Rules
+pub mod Repeats
+pub mod Rows
