@@ -1,3 +1,4 @@
 pub mod MarkLemmas
 pub mod PassLemmas
 pub mod RowLemmas
+pub mod TimeLemmas

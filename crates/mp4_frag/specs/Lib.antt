@@ -7,3 +7,6 @@ pub mod Trun
 pub mod Rules
 pub mod Repeats
 pub mod Rows
+pub mod Runs
+pub mod Moofs
+pub mod Times

@@ -1,5 +1,5 @@
 -- The runs of a moof: their defaults, times and places (ISO/IEC 14496-12, 8.8.4 to 8.8.8 and 8.8.12). Numbers are without limit here.
-use Rattle.std.specs.Prelude.{ℕ, ℤ, pos, List, [], ◌∷◌, Option, Some, None, ◌+◌, ◌-◌, ◌^◌, ◌+ℤ◌, ◌≤ℤ◌, ◌<ℤ◌, ◌<◌, nat_lt, if◌then◌else◌, length, map, fold}
+use Rattle.std.specs.Prelude.{ℕ, ℤ, pos, List, [], ◌∷◌, Option, Some, None, ◌+◌, ◌-◌, ◌+ℤ◌, length, map}
 use Rattle.std.specs.List.{flat_map, fold}
 use Rattle.std.specs.Option.{unwrap_or}
 use Rattle.mp4_box.specs.Fields.{version_in}

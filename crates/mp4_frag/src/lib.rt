@@ -13,6 +13,7 @@ mod run;
 mod sums;
 mod tfdt;
 mod tfhd;
+mod traf;
 mod trun;
 
 pub use rows::{Cursor, Row, Rows, Steps};

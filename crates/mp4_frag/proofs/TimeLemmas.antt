@@ -1,0 +1,30 @@
+-- Which runs end past 64 bits.
+use Rattle.std.proofs.Common.{◌≡◌, ◌∙◌, ◌+◌, ◌++◌, ℕ, ℤ, List, [], ◌∷◌, refl, sym, ap}
+use Rattle.std.specs.List.{flat_map}
+use Rattle.mp4_box.specs.declared.rules.Fault.{Fault}
+use Rattle.mp4_box.specs.Trees.{Box}
+use Rattle.mp4_frag.specs.Rows.{row_of, group_at, rows_of, durations}
+use Rattle.mp4_frag.specs.Runs.{Shared, run_at, run_of, runs_from, end_place}
+use Rattle.mp4_frag.specs.Moofs.{late}
+use Rattle.mp4_frag.specs.Times.{ticks_in, late_at, late_from}
+
+-- the durations of a run don't depend on its time or its place
+pub ticks_are : (s : Shared) (time : ℕ) (last : ℤ) (b : Box) → durations (rows_of (run_at s time last b) s.moof.bytes) ≡ ticks_in s b
+unfolding run_at row_of group_at ticks_in
+ticks_are s time last b = refl
+
+pub end_is : (s : Shared) (time : ℕ) (last : ℤ) (b : Box) → (run_of s time last b).end ≡ time + ticks_in s b
+unfolding run_of run_at row_of group_at ticks_in
+end_is s time last b = refl
+
+late_one : (s : Shared) (time : ℕ) (last : ℤ) (b : Box) → late (run_of s time last b) ≡ late_at (time + ticks_in s b) b
+unfolding run_of run_at row_of group_at ticks_in
+late_one s time last b = refl
+
+pub late_are : (s : Shared) (time : ℕ) (last : ℤ) (bs : List Box) → flat_map late (runs_from s time last bs) ≡ late_from s time bs
+unfolding runs_from late_from
+late_are s time last [] = refl
+late_are s time last (b ∷ bs) =
+    let run = run_of s time last b in
+    ap (λ (fs : List Fault). fs ++ flat_map late (runs_from s run.end (end_place run) bs)) (late_one s time last b)
+    ∙ ap (λ (fs : List Fault). late_at (time + ticks_in s b) b ++ fs) (late_are s run.end (end_place run) bs ∙ ap (λ (t : ℕ). late_from s t bs) (end_is s time last b))
