@@ -2,3 +2,4 @@ pub mod MarkLemmas
 pub mod PassLemmas
 pub mod RowLemmas
 pub mod TimeLemmas
+pub mod MoofLemmas

@@ -52,9 +52,13 @@ value_faults tracks m =
 abbrev pub late : Run → List Fault
 late run = if nat_lt run.end (2 ^ 64) then [] else record { rule = TimeRange; kind = Some trun; offset = run.offset } ∷ []
 
--- the truns of runs that end past 64 bits
+-- the truns of a traf whose runs end past 64 bits
+abbrev pub time_faults_of : TrackFragment → List Fault
+time_faults_of t = flat_map late (runs_of t)
+
+-- those of all trafs
 abbrev pub time_faults : List TrackFragment → List Fault
-time_faults ts = flat_map late (flat_map runs_of ts)
+time_faults ts = flat_map time_faults_of ts
 
 -- the fault by all rules but the last, that of times: of its tree; else of its boxes; else of their values
 unfoldable pub early_fault : Held → List Track → Option Fault

@@ -8,6 +8,7 @@ use Rattle.mp4_box.specs.Paths.{of_kind, at_path}
 use Rattle.mp4_init.specs.declared.table.Track.{Track}
 use Rattle.mp4_frag.specs.declared.run.Run.{Run}
 use Rattle.mp4_frag.specs.declared.traf.TrafHeader.{TrafHeader}
+use Rattle.mp4_frag.specs.declared.traf.TrafContext.{TrafContext}
 use Rattle.mp4_frag.specs.Kinds.{traf, tfhd, tfdt, trun}
 use Rattle.mp4_frag.specs.Fields.{flags_in, number_or, payload_of}
 use Rattle.mp4_frag.specs.Tfdt.{base_media_decode_time}
@@ -71,12 +72,12 @@ pub record TrackFragment : Type 0 where
   pub time : ℕ
   pub truns : List Box
 
-abbrev pub shared_by : Held → List Track → Box → Shared
-shared_by h tracks t = record { moof = h; header = header_by (track_of tracks t) (tfhd_of t); ends_at = end_in h t }
+abbrev pub shared_by : Held → Track → Box → Shared
+shared_by h track t = record { moof = h; header = header_by track (tfhd_of t); ends_at = end_in h t }
 
 unfoldable pub traf_of : Held → List Track → Box → TrackFragment
 traf_of h tracks t = record {
-  shared = shared_by h tracks t;
+  shared = shared_by h (track_of tracks t) t;
   time = base_of (track_of tracks t).next t;
   truns = of_kind trun (children t);
 }
@@ -141,3 +142,9 @@ last_end time runs = fold (λ (_ : ℕ) (run : Run). run.end) time runs
 -- where a traf ends: its base time plus all its durations
 abbrev pub end_of : TrackFragment → ℕ
 end_of t = last_end t.time (runs_of t)
+
+-- ---- what the code keeps of these
+
+-- a context, without where its bytes lie in memory
+abbrev pub shared_of : TrafContext → Shared
+shared_of c = record { moof = record { bytes = c.held.now; offset = c.moof }; header = c.header; ends_at = c.ends_at }

@@ -29,3 +29,15 @@ pub(crate) fn count_samples(moof: &BoxRef<'_>) -> Result<u32, Fault>
     }
     Ok(count)
 }
+
+/// How many samples a moof has that hasn't too many.
+pub(crate) fn samples_in(moof: &BoxRef<'_>) -> u32
+    requires { count_faults (view moof.now) ≡ [] }
+    ensures samples { result ≡ samples_of (view moof.now) }
+    ensures few { result ≤ most_samples }
+{
+    match count_samples(moof) {
+        Ok(count) => count,
+        Err(_) => unreachable!(),
+    }
+}

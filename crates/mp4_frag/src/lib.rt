@@ -6,13 +6,16 @@ mod counts;
 mod fields;
 mod kinds;
 mod mfhd;
+mod moof;
 mod repeats;
 mod rows;
 mod rules;
 mod run;
+mod runs;
 mod sums;
 mod tfdt;
 mod tfhd;
+mod times;
 mod traf;
 mod trun;
 
