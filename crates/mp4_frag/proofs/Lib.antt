@@ -3,3 +3,7 @@ pub mod PassLemmas
 pub mod RowLemmas
 pub mod TimeLemmas
 pub mod MoofLemmas
+pub mod RangeLemmas
+pub mod PlaceLemmas
+pub mod SoundLemmas
+pub mod RunLemmas
