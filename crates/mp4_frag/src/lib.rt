@@ -1,6 +1,7 @@
 //! The runs of a moof.
 #![tactic(auto)]
 
+mod after;
 mod checks;
 mod counts;
 mod fields;
