@@ -1,0 +1,10 @@
+pub mod MarkLemmas
+pub mod PassLemmas
+pub mod RowLemmas
+pub mod TimeLemmas
+pub mod MoofLemmas
+pub mod RangeLemmas
+pub mod PlaceLemmas
+pub mod SoundLemmas
+pub mod RunLemmas
+pub mod AfterLemmas
