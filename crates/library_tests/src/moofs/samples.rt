@@ -1,0 +1,307 @@
+//! The samples of a moof, and where its tracks end.
+
+use super::{TFDT, TFHD, TRUN, moof_of, one_traf, push_box};
+use mp4_box::is_box;
+use mp4_box::vectors::{V1, V2, V3};
+use mp4_frag::{Moof, Run, Steps};
+use mp4_init::{TrackList, tracks};
+use mp4_ledger::Ledger;
+use std::alloc::Global;
+use std::process::Abort;
+use std::test::Fail;
+
+/// A sample as its moof tells it.
+#[derive(Clone, Copy, Debug, PartialEq, Eq)]
+struct Sample {
+    track: u32,
+    time: u64,
+    offset: i64,
+    duration: u32,
+    size: u32,
+    flags: u32,
+    entry: u32,
+    place: i128,
+}
+
+/// A sample of V1's track, with its usual duration, flags and entry.
+fn of_1(time: u64, size: u32, place: i128) -> Sample {
+    Sample {
+        track: 1,
+        time,
+        offset: 0,
+        duration: 1024,
+        size,
+        flags: 0x0200_0000,
+        entry: 1,
+        place,
+    }
+}
+
+fn of_2(time: u64, size: u32, place: i128) -> Sample {
+    Sample {
+        track: 2,
+        ..of_1(time, size, place)
+    }
+}
+
+/// A sample of V1's track without bytes.
+fn empty(time: u64, duration: u32, flags: u32) -> Sample {
+    Sample {
+        duration,
+        flags,
+        ..of_1(time, 0, 468)
+    }
+}
+
+/// The first sample of V1's track, without bytes, with this offset of its composition time.
+fn offset_by(offset: i64) -> Sample {
+    Sample {
+        offset,
+        ..of_1(0, 0, 468)
+    }
+}
+
+fn push_run(run: &Run, moof: &[u8], samples: &mut Vec<Sample>) -> Result<(), Fail> {
+    let mut time = run.time;
+    let mut place = run.place;
+    for row in run.rows(moof) {
+        samples.push(Sample {
+            track: run.track,
+            time,
+            offset: row.offset,
+            duration: row.duration,
+            size: row.size,
+            flags: row.flags,
+            entry: run.entry,
+            place,
+        })?;
+        time = time.saturating_add(u64::from(row.duration));
+        place = place.saturating_add(i128::from(row.size));
+    }
+    if time != run.end || place != run.place.saturating_add(i128::from(run.bytes)) {
+        return Err("a run has other sums".into());
+    }
+    Ok(())
+}
+
+/// The samples of a moof that begins at this offset, in listing order; and then the end of each track.
+fn read(
+    alloc: Global,
+    list: &mut TrackList,
+    moof: &[u8],
+    at: u32,
+) -> Result<(Vec<Sample>, Vec<u64>), Fail> {
+    if moof.len() > 67_108_864 || !is_box(moof) {
+        return Err("no box".into());
+    }
+    let mut steps = Steps { rows: 0 };
+    let Ok(read) = Moof::read(moof, u64::from(at), list, &mut steps) else {
+        return Err("a fault".into());
+    };
+    let mut samples = Vec::new(alloc);
+    for traf in read.trafs(list) {
+        for run in traf.runs() {
+            push_run(&run, moof, &mut samples)?;
+        }
+    }
+    // What was read is charged, and no more.
+    if steps.rows != u128::from(read.samples()) || samples.len() as u128 != steps.rows {
+        return Err("other rows are charged".into());
+    }
+    read.settle(list, &mut steps);
+    let mut ends = Vec::new(alloc);
+    for i in 0..list.len() {
+        ends.push(list.at(i).next)?;
+    }
+    Ok((samples, ends))
+}
+
+/// The same, with the tracks of a moov that begins at 20.
+fn told(
+    alloc: Global,
+    moov: &[u8],
+    moof: &[u8],
+    at: u32,
+) -> Result<(Vec<Sample>, Vec<u64>), Fail> {
+    if moov.len() > 16_777_216 || !is_box(moov) {
+        return Err("no box".into());
+    }
+    let mut ledger = Ledger::new(alloc, 1 << 30);
+    match tracks(&mut ledger, moov, 20) {
+        Ok(list) => {
+            let mut list = list;
+            let told = read(alloc, &mut list, moof, at);
+            list.back(&mut ledger);
+            told
+        }
+        Err(_) => Err("no tracks".into()),
+    }
+}
+
+/// What a moof at 364 comes to, of which these are the boxes of its only traf, with V1's track.
+fn check_trafs(
+    rt: &impl Abort,
+    alloc: Global,
+    rows: &[(&[&[u8]], &[Sample], u64)],
+) -> Result<(), Fail> {
+    for (boxes, expected, end) in rows {
+        let moof = one_traf(alloc, boxes)?;
+        let (samples, ends) = told(alloc, &V1.as_slice()[20..364], moof.as_slice(), 364)?;
+        assert_eq!(rt; samples.as_slice(), *expected, "{boxes:?}");
+        assert_eq!(rt; ends.as_slice(), &[*end][..]);
+    }
+    Ok(())
+}
+
+#[test]
+fn vectors_have_these_samples(rt: HostRuntime) -> Result<(), Fail> {
+    let v1 = V1.as_slice();
+    let (samples, ends) = told(rt.alloc(), &v1[20..364], &v1[364..460], 364)?;
+    let first = [of_1(0, 5, 468), of_1(1024, 7, 473), of_1(2048, 3, 480)];
+    assert_eq!(rt; samples.as_slice(), &first[..]);
+    assert_eq!(rt; ends.as_slice(), &[3072][..]);
+
+    let v2 = V2.as_slice();
+    let (samples, ends) = told(rt.alloc(), &v2[20..584], &v2[584..748], 584)?;
+    let both = [
+        of_1(0, 5, 756),
+        of_1(1024, 7, 761),
+        of_1(2048, 3, 768),
+        of_2(0, 4, 771),
+        of_2(1024, 4, 775),
+    ];
+    assert_eq!(rt; samples.as_slice(), &both[..]);
+    assert_eq!(rt; ends.as_slice(), &[3072, 2048][..]);
+
+    let v3 = V3.as_slice();
+    let (samples, ends) = told(rt.alloc(), &v3[20..584], &v3[584..784], 584)?;
+    let listed = [
+        of_1(0, 5, 792),
+        of_1(1024, 7, 801),
+        of_2(0, 4, 797),
+        of_2(1024, 4, 808),
+    ];
+    assert_eq!(rt; samples.as_slice(), &listed[..]);
+    assert_eq!(rt; ends.as_slice(), &[2048, 2048][..]);
+    Ok(())
+}
+
+#[test]
+fn defaults_stand_in(rt: HostRuntime) -> Result<(), Fail> {
+    let ticks_512 = b"\0\0\0\x14tfhd\0\x02\0\x08\0\0\0\x01\0\0\x02\0";
+    let size_9 = b"\0\0\0\x14tfhd\0\x02\0\x10\0\0\0\x01\0\0\0\x09";
+    let no_sync = b"\0\0\0\x14tfhd\0\x02\0\x20\0\0\0\x01\x01\x01\0\0";
+    let no_sizes = b"\0\0\0\x14trun\0\0\0\x01\0\0\0\x02\0\0\0\x68";
+    let first_flags = b"\0\0\0\x18trun\0\0\0\x05\0\0\0\x02\0\0\0\x68\x02\0\0\0";
+    check_trafs(
+        &rt,
+        rt.alloc(),
+        &[
+            (&[TFHD, TFDT, no_sizes], &[of_1(0, 0, 468), of_1(1024, 0, 468)], 2048),
+            (&[ticks_512, TFDT, no_sizes], &[empty(0, 512, 0x0200_0000), empty(512, 512, 0x0200_0000)], 1024),
+            (&[size_9, TFDT, no_sizes], &[of_1(0, 9, 468), of_1(1024, 9, 477)], 2048),
+            (&[no_sync, TFDT, no_sizes], &[empty(0, 1024, 0x0101_0000), empty(1024, 1024, 0x0101_0000)], 2048),
+            // first_sample_flags are those of the first sample alone.
+            (&[no_sync, TFDT, first_flags], &[of_1(0, 0, 468), empty(1024, 1024, 0x0101_0000)], 2048),
+        ],
+    )
+}
+
+#[test]
+fn composition_times_have_offsets(rt: HostRuntime) -> Result<(), Fail> {
+    let unsigned = b"\0\0\0\x18trun\0\0\x08\x01\0\0\0\x01\0\0\0\x68\xff\xff\xff\xff";
+    let signed = b"\0\0\0\x18trun\x01\0\x08\x01\0\0\0\x01\0\0\0\x68\xff\xff\xff\xff";
+    let least = b"\0\0\0\x18trun\x01\0\x08\x01\0\0\0\x01\0\0\0\x68\x80\0\0\0";
+    check_trafs(
+        &rt,
+        rt.alloc(),
+        &[
+            (&[TFHD, TFDT, unsigned], &[offset_by(4_294_967_295)], 1024),
+            (&[TFHD, TFDT, signed], &[offset_by(-1)], 1024),
+            (&[TFHD, TFDT, least], &[offset_by(-2_147_483_648)], 1024),
+        ],
+    )
+}
+
+#[test]
+fn runs_begin_where_they_say_or_follow(rt: HostRuntime) -> Result<(), Fail> {
+    // Samples of 2 bytes each: a run without data_offset, one that has it, and one that has no samples.
+    let size_2 = b"\0\0\0\x14tfhd\0\x02\0\x10\0\0\0\x01\0\0\0\x02";
+    let follows = b"\0\0\0\x10trun\0\0\0\0\0\0\0\x01";
+    let at_200 = b"\0\0\0\x14trun\0\0\0\x01\0\0\0\x01\0\0\0\xc8";
+    let none_at_100 = b"\0\0\0\x14trun\0\0\0\x01\0\0\0\0\0\0\0\x64";
+    let least = b"\0\0\0\x14trun\0\0\0\x01\0\0\0\x01\x80\0\0\0";
+    let most = b"\0\0\0\x14trun\0\0\0\x01\0\0\0\x01\x7f\xff\xff\xff";
+    check_trafs(
+        &rt,
+        rt.alloc(),
+        &[
+            (&[size_2, follows], &[of_1(0, 2, 364)], 1024),
+            (&[size_2, follows, follows], &[of_1(0, 2, 364), of_1(1024, 2, 366)], 2048),
+            (&[size_2, at_200, follows], &[of_1(0, 2, 564), of_1(1024, 2, 566)], 2048),
+            (&[size_2, none_at_100, follows], &[of_1(0, 2, 464)], 1024),
+            (&[size_2, at_200, none_at_100, follows], &[of_1(0, 2, 564), of_1(1024, 2, 464)], 2048),
+            (&[size_2, at_200, none_at_100], &[of_1(0, 2, 564)], 1024),
+            (&[size_2, least], &[of_1(0, 2, 364 - 2_147_483_648)], 1024),
+            (&[size_2, most], &[of_1(0, 2, 364 + 2_147_483_647)], 1024),
+        ],
+    )
+}
+
+#[test]
+fn times_begin_with_the_tfdt_or_follow(rt: HostRuntime) -> Result<(), Fail> {
+    let at_9000 = b"\0\0\0\x10tfdt\0\0\0\0\0\0\x23\x28";
+    let last = b"\0\0\0\x14tfdt\x01\0\0\0\xff\xff\xff\xff\xff\xff\xf3\xff";
+    let one = b"\0\0\0\x14trun\0\0\0\x01\0\0\0\x01\0\0\0\x68";
+    let three = b"\0\0\0\x14trun\0\0\0\x01\0\0\0\x03\0\0\0\x68";
+    let late = 18_446_744_073_709_548_543;
+    check_trafs(
+        &rt,
+        rt.alloc(),
+        &[
+            (&[TFHD, one], &[of_1(0, 0, 468)], 1024),
+            (&[TFHD, at_9000, one], &[of_1(9000, 0, 468)], 10_024),
+            // The last decode time is that of V1 with the latest base time that there may be.
+            (
+                &[TFHD, last, three],
+                &[of_1(late, 0, 468), of_1(late + 1024, 0, 468), of_1(18_446_744_073_709_550_591, 0, 468)],
+                18_446_744_073_709_551_615,
+            ),
+        ],
+    )?;
+    // Two trafs of one track, with a tfdt each.
+    let mut trafs = Vec::new(rt.alloc());
+    push_box(&mut trafs, b"traf", &[TFHD, at_9000, one])?;
+    push_box(&mut trafs, b"traf", &[TFHD, TFDT, TRUN])?;
+    let moof = moof_of(rt.alloc(), &[trafs.as_slice()])?;
+    let (samples, ends) = told(rt.alloc(), &V1.as_slice()[20..364], moof.as_slice(), 364)?;
+    let both = [of_1(9000, 0, 468), of_1(0, 5, 468), of_1(1024, 7, 473), of_1(2048, 3, 480)];
+    assert_eq!(rt; samples.as_slice(), &both[..]);
+    assert_eq!(rt; ends.as_slice(), &[3072][..]);
+    Ok(())
+}
+
+#[test]
+fn a_fragment_follows(rt: HostRuntime) -> Result<(), Fail> {
+    // V1's moof without its tfdt, behind another that ended at 3,072.
+    let moof = one_traf(rt.alloc(), &[TFHD, TRUN])?;
+    let mut ledger = Ledger::new(rt.alloc(), 1 << 30);
+    let moov = &V1.as_slice()[20..364];
+    if !is_box(moov) {
+        return Err("no box".into());
+    }
+    let Ok(list) = tracks(&mut ledger, moov, 20) else {
+        return Err("no tracks".into());
+    };
+    let mut list = list;
+    if !list.is_empty() {
+        list.set_next(0, 3072);
+    }
+    let told = read(rt.alloc(), &mut list, moof.as_slice(), 483);
+    list.back(&mut ledger);
+    let (samples, ends) = told?;
+    let first = [of_1(3072, 5, 587), of_1(4096, 7, 592), of_1(5120, 3, 599)];
+    assert_eq!(rt; samples.as_slice(), &first[..]);
+    assert_eq!(rt; ends.as_slice(), &[6144][..]);
+    Ok(())
+}
