@@ -3,7 +3,7 @@ use Rattle.std.proofs.Common.{◌≡◌, ◌∙◌, ◌+◌, ◌^◌, ◌<◌, �
 use Rattle.std.specs.Prelude.{option_map, slice_get}
 use Rattle.std.specs.List.{AllByRecursion, flat_map, fold, position, position_from}
 use Rattle.std.specs.Option.{is_none, option_and_then, unwrap_or}
-use Rattle.std.proofs.lemmas.Bool.{lt-ltb}
+use Rattle.std.proofs.lemmas.Bool.{lt-ltb, ltb-true}
 use Rattle.std.proofs.lemmas.Iterator.Adapters.{position_from-zero}
 use Rattle.mp4_box.specs.declared.rules.Fault.{Fault}
 use Rattle.mp4_box.specs.declared.rules.Rule.TheVariants.{Unsupported}
@@ -14,16 +14,18 @@ use Rattle.mp4_init.specs.declared.table.Track.{Track}
 use Rattle.mp4_init.specs.Rows.{with_next}
 use Rattle.mp4_init.proofs.SearchTreeLemmas.{is_same, same_test, other_test}
 use Rattle.mp4_frag.specs.declared.run.Run.{Run}
-use Rattle.mp4_frag.specs.Kinds.{tfdt, tfhd, traf}
+use Rattle.mp4_frag.specs.Kinds.{tfdt, tfhd, traf, trun}
 use Rattle.mp4_frag.specs.Rules.{fault_if, track_with}
 use Rattle.mp4_frag.specs.Tfhd.{track_id}
-use Rattle.mp4_frag.specs.Runs.{Held, Shared, TrackFragment, base_by, base_of, end_of, end_place, header_by, last_end, no_track, run_of, runs_from, runs_of, tfhd_of, traf_of, trafs_by, track_of}
+use Rattle.mp4_frag.specs.Runs.{Held, Shared, TrackFragment, base_by, base_of, end_of, end_place, header_by, last_end, no_track, run_of, runs_from, runs_of, shared_by, tfhd_of, traf_of, trafs_by, track_of}
 use Rattle.mp4_frag.specs.Ranges.{IsSound}
 use Rattle.mp4_frag.specs.Moofs.{IsRead, late, moof_of, moof_trafs}
 use Rattle.mp4_frag.specs.Repeats.{traf_id, lacks_time, is_listed, is_repeat, repeat_faults, repeats}
 use Rattle.mp4_frag.specs.Settling.{EachInTime, EndsInTime, ended, ended_at, settled, settled_on, ticks_from, with_end}
-use Rattle.mp4_frag.proofs.MoofLemmas.{early, read_early, values}
+use Rattle.mp4_frag.specs.Times.{late_from, late_trun, ticks_in}
+use Rattle.mp4_frag.proofs.MoofLemmas.{on_path, early, read_early, values}
 use Rattle.mp4_frag.proofs.PassLemmas.{listed-append}
+use Rattle.mp4_frag.proofs.RunLemmas.{traf_is}
 use Rattle.mp4_frag.proofs.SoundLemmas.{all_sound}
 use Rattle.mp4_frag.proofs.TimeLemmas.{end_is, late_are}
 
@@ -147,8 +149,8 @@ unfolding lacks_time
 base_same now before earlier t a e =
     base_like (track_of now t).next (track_of before t).next (first_of (at_path (tfdt ∷ []) t))
     (λ none.
-        let unlisted : is_listed (traf_id t) earlier ≡ false = ap (λ (u : Bool). u && is_listed (traf_id t) earlier) (sym none) ∙ e in
-        ap (λ (o : Option Track). (unwrap_or o no_track).next) (ap (λ (id : ℕ). track_with id now) (sym (id_is t)) ∙ a.same (traf_id t) unlisted ∙ ap (λ (id : ℕ). track_with id before) (id_is t)))
+    let unlisted : is_listed (traf_id t) earlier ≡ false = ap (λ (u : Bool). u && is_listed (traf_id t) earlier) (sym none) ∙ e in
+    ap (λ (o : Option Track). (unwrap_or o no_track).next) (ap (λ (id : ℕ). track_with id now) (sym (id_is t)) ∙ a.same (traf_id t) unlisted ∙ ap (λ (id : ℕ). track_with id before) (id_is t)))
 
 traf_same : (h : Held) (now before : List Track) (earlier : List Box) (t : Box) → Agree now before earlier → is_repeat earlier t ≡ false → traf_of h now t ≡ traf_of h before t
 unfolding traf_of
@@ -213,15 +215,58 @@ end_is_ticks t = ends_at_ticks t.shared t.time (pos t.shared.moof.offset) t.trun
 
 -- ---- a moof that was read
 
-pub record Settles (h : Held) (tracks : List Track) (m : Box) : Type 0 where
-  pub is : settled_on h tracks (of_kind traf (children m)) ≡ settled tracks (moof_trafs h tracks)
-  pub each : EachInTime h tracks (of_kind traf (children m))
+pub record Settles (h : Held) (tracks : List Track) (ts : List Box) : Type 0 where
+  pub is : settled_on h tracks ts ≡ settled tracks (moof_trafs h tracks)
+  pub each : EachInTime h tracks ts
 
-pub settles : (h : Held) (tracks : List Track) (m : Box) → h.offset ≤ 2 ^ 62 → IsWhole h.bytes → IsBytes h.bytes → box_at h.offset h.bytes ≡ Some m → moof_of h ≡ m → IsRead h tracks → Settles h tracks m
+pub settles : (h : Held) (tracks : List Track) (m : Box) → h.offset ≤ 2 ^ 62 → IsWhole h.bytes → IsBytes h.bytes → box_at h.offset h.bytes ≡ Some m → moof_of h ≡ m → IsRead h tracks → Settles h tracks (at_path (traf ∷ []) m)
 settles h tracks m near whole fits here is read =
     let none : repeat_faults m ≡ [] = ap repeat_faults (sym is) ∙ (values tracks (moof_of h) (early h tracks (read_early h tracks read)).value).repeats in
     let sound : AllByRecursion IsSound (trafs_by h tracks (children m)) = subst (λ (b : Box). AllByRecursion IsSound (trafs_by h tracks (children b))) is (all_sound h tracks m near whole fits here is read) in
-    record {
+    subst (λ (ts : List Box). Settles h tracks ts) (sym (on_path m)) (record {
       is = settled_are h tracks tracks [] (of_kind traf (children m)) (same_tracks tracks) none ∙ ap (λ (b : Box). fold ended tracks (trafs_by h tracks (children b))) (sym is);
       each = each_in_time h tracks tracks [] (of_kind traf (children m)) (same_tracks tracks) none sound;
-    }
+    })
+
+-- ---- the loop over the truns of a traf
+
+first_in_time : (s : Shared) (time : ℕ) (b : Box) (bs : List Box) → late_from s time (b ∷ bs) ≡ [] → (time + ticks_in s b < 2 ^ 64) × (late_from s (time + ticks_in s b) bs ≡ [])
+unfolding late_from
+first_in_time s time b bs e = by (ltb (time + ticks_in s b) (2 ^ 64)) refl e
+  where
+    by : (t : Bool) → ltb (time + ticks_in s b) (2 ^ 64) ≡ t → cond t [] (late_trun b ∷ []) ++ late_from s (time + ticks_in s b) bs ≡ [] → (time + ticks_in s b < 2 ^ 64) × (late_from s (time + ticks_in s b) bs ≡ [])
+    by true t e = (ltb-true (time + ticks_in s b) (2 ^ 64) t, e)
+    by false t e = absurd cc
+
+pub tick_fits : (s : Shared) (time : ℕ) (b : Box) (bs : List Box) → late_from s time (b ∷ bs) ≡ [] → time + ticks_in s b < 2 ^ 64
+tick_fits s time b bs e = (first_in_time s time b bs e).0
+
+pub tick_more : (s : Shared) (time : ℕ) (b : Box) (bs : List Box) → late_from s time (b ∷ bs) ≡ [] → late_from s (time + ticks_in s b) bs ≡ []
+tick_more s time b bs e = (first_in_time s time b bs e).1
+
+-- ---- the loop over the trafs of a moof
+
+pub each_first : (h : Held) (tracks : List Track) (b : Box) (bs : List Box) → EachInTime h tracks (b ∷ bs) → EndsInTime (traf_of h tracks b)
+unfolding EachInTime
+each_first h tracks b bs e = e.0
+
+pub each_more : (h : Held) (tracks : List Track) (b : Box) (bs : List Box) → EachInTime h tracks (b ∷ bs) → EachInTime h (ended tracks (traf_of h tracks b)) bs
+unfolding EachInTime
+each_more h tracks b bs e = e.1
+
+pub settled_more : (h : Held) (tracks : List Track) (b : Box) (bs : List Box) → settled_on h tracks (b ∷ bs) ≡ settled_on h (ended tracks (traf_of h tracks b)) bs
+unfolding settled_on
+settled_more h tracks b bs = refl
+
+pub settled_none : (h : Held) (tracks : List Track) → settled_on h tracks [] ≡ tracks
+unfolding settled_on
+settled_none h tracks = refl
+
+-- the track of a traf is set to its end
+pub ended_is : (h : Held) (tracks : List Track) (b : Box) (track : Track) (s : Shared) (time end i : ℕ) → track ≡ track_of tracks b → s ≡ shared_by h track b → time ≡ base_of track.next b → end ≡ ticks_from s time (of_kind trun (children b))
+    → position (λ (t : Track). t.id == s.header.track) tracks ≡ Some i → with_next i end tracks ≡ ended tracks (traf_of h tracks b)
+ended_is h tracks b track s time end i known shares begins ends at =
+    let t : TrackFragment = record { shared = s; time = time; truns = of_kind trun (children b) } in
+    ap (λ (o : Option ℕ). ended_at o end tracks) (sym at)
+    ∙ ap (λ (n : ℕ). with_end s.header.track n tracks) (ends ∙ sym (end_is_ticks t))
+    ∙ ap (ended tracks) (traf_is h tracks b track s time known shares begins)

@@ -10,7 +10,6 @@ use Rattle.mp4_frag.specs.Fields.{flags_in}
 use Rattle.mp4_frag.specs.Trun.{sample_count, sample_duration_present}
 use Rattle.mp4_frag.specs.Runs.{Held, Shared, TrackFragment, end_of, traf_of}
 use Rattle.mp4_frag.specs.Times.{ticks_in, late_from}
-use Rattle.mp4_frag.specs.Moofs.{moof_of}
 
 -- the tracks, where the one at this place ended at `next`
 abbrev pub ended_at : Option ℕ → ℕ → List Track → List Track
@@ -38,8 +37,8 @@ abbrev pub timed_in : List Box → ℕ
 timed_in truns = sum_by (λ (b : Box). timed b.payload) truns
 
 -- those of a moof
-abbrev pub timed_samples : Held → ℕ
-timed_samples h = timed_in (at_path to_trun (moof_of h))
+abbrev pub timed_of : Box → ℕ
+timed_of m = timed_in (at_path to_trun m)
 
 -- ---- how it is worked out: traf after traf, with the tracks as they are
 
