@@ -8,3 +8,4 @@ pub mod PlaceLemmas
 pub mod SoundLemmas
 pub mod RunLemmas
 pub mod AfterLemmas
+pub mod SettleLemmas

@@ -31,7 +31,7 @@ unfolding at_path
 path_one [] = refl
 path_one (b ∷ bs) = ap (λ (cs : List Box). b ∷ cs) (path_one bs)
 
-on_path : (m : Box) → at_path (traf ∷ []) m ≡ of_kind traf (children m)
+pub on_path : (m : Box) → at_path (traf ∷ []) m ≡ of_kind traf (children m)
 unfolding at_path
 on_path m = path_one (of_kind traf (children m))
 

@@ -12,8 +12,10 @@ use Rattle.mp4_box.specs.Trees.{Box, box_at, children, fault_at}
 use Rattle.mp4_init.specs.declared.table.Track.{Track}
 use Rattle.mp4_frag.specs.declared.run.Run.{Run}
 use Rattle.mp4_frag.specs.Kinds.{traf, trun, to_trun}
-use Rattle.mp4_frag.specs.Trun.{sample_count}
-use Rattle.mp4_frag.specs.Rules.{count_faults, most_samples, samples_in, too_many}
+use Rattle.mp4_frag.specs.Fields.{flags_in}
+use Rattle.mp4_frag.specs.Trun.{sample_count, sample_duration_present}
+use Rattle.mp4_frag.specs.Settling.{timed, timed_in, timed_of}
+use Rattle.mp4_frag.specs.Rules.{count_faults, most_samples, samples_in, samples_of, too_many}
 use Rattle.mp4_frag.specs.Runs.{Held, TrackFragment, runs_of, traf_of, trafs_by}
 use Rattle.mp4_frag.specs.Moofs.{IsRead, late, late_fault, moof_of, moof_trafs, time_faults, time_faults_of}
 use Rattle.mp4_frag.specs.Ranges.{IsSound}
@@ -97,3 +99,25 @@ all_sound h tracks m near whole fits here is e =
     let few = trafs_few m (ap count_faults (sym is) ∙ read_count h tracks e) in
     let times : time_faults (trafs_by h tracks (children m)) ≡ [] = ap (λ (b : Box). time_faults (trafs_by h tracks (children b))) (sym is) ∙ read_times h tracks e in
     subst (λ (b : Box). AllByRecursion IsSound (trafs_by h tracks (children b))) (sym is) (trafs_sound h tracks (of_kind traf (children m)) near fits lie few times)
+
+-- ---- the samples that have durations of their own
+
+timed_few : (p : List ℕ) → timed p ≤ sample_count p
+timed_few p = by (sample_duration_present (flags_in p))
+  where
+    by : (t : Bool) → cond t (sample_count p) 0 ≤ sample_count p
+    by true = omega arith
+    by false = omega arith
+
+all_timed_few : (bs : List Box) → timed_in bs ≤ samples_in bs
+all_timed_few [] = omega arith
+all_timed_few (b ∷ bs) =
+    omega (arith, timed_few b.payload, all_timed_few bs, sum_by-cons (λ (b : Box). timed b.payload) b bs, sum_by-cons (λ (b : Box). sample_count b.payload) b bs)
+
+-- they are few, as all samples are
+pub record FewTimed (m : Box) : Type 0 where
+  pub timed : timed_of m ≤ samples_of m
+  pub most : samples_of m ≤ most_samples
+
+pub few_timed : (m : Box) → count_faults m ≡ [] → FewTimed m
+few_timed m e = record { timed = all_timed_few (at_path to_trun m); most = omega (arith, few_from 0 (at_path to_trun m) (omega arith) e) }

@@ -12,3 +12,4 @@ pub mod Moofs
 pub mod Times
 pub mod Ranges
 pub mod After
+pub mod Settling

@@ -13,6 +13,7 @@ mod rows;
 mod rules;
 mod run;
 mod runs;
+mod settle;
 mod sums;
 mod tfdt;
 mod tfhd;
