@@ -21,5 +21,8 @@ mod times;
 mod traf;
 mod trun;
 
+pub use moof::Moof;
 pub use rows::{Cursor, Row, Rows, Steps};
 pub use run::Run;
+pub use runs::Runs;
+pub use traf::{Traf, Trafs};

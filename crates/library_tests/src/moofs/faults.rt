@@ -24,12 +24,7 @@ fn read(list: &TrackList, moof: &[u8], at: u32) -> Result<(Option<Fault>, u128),
 }
 
 /// The same, with the tracks of a moov that begins at 20.
-fn told(
-    alloc: Global,
-    moov: &[u8],
-    moof: &[u8],
-    at: u32,
-) -> Result<(Option<Fault>, u128), Fail> {
+fn told(alloc: Global, moov: &[u8], moof: &[u8], at: u32) -> Result<(Option<Fault>, u128), Fail> {
     if moov.len() > 16_777_216 || !is_box(moov) {
         return Err("no box".into());
     }
@@ -93,9 +88,15 @@ fn boxes_are_missing_or_twice(rt: HostRuntime) -> Result<(), Fail> {
         rt.alloc(),
         &[
             // Missing is the lower rule, though the tfhd that is there twice begins first.
-            (&[&[TFHD, TFHD], &[TRUN]], fault(Rule::Missing, b"traf", 428)),
+            (
+                &[&[TFHD, TFHD], &[TRUN]],
+                fault(Rule::Missing, b"traf", 428),
+            ),
             // Of two the one that begins first.
-            (&[&[TFHD], &[TRUN], &[TRUN]], fault(Rule::Missing, b"traf", 412)),
+            (
+                &[&[TFHD], &[TRUN], &[TRUN]],
+                fault(Rule::Missing, b"traf", 412),
+            ),
         ],
     )?;
     let mut no_mfhd = Vec::new(rt.alloc());
@@ -111,45 +112,50 @@ fn boxes_are_missing_or_twice(rt: HostRuntime) -> Result<(), Fail> {
 
 #[test]
 fn boxes_have_another_form(rt: HostRuntime) -> Result<(), Fail> {
-    let version_2 = b"\0\0\0\x10tfdt\x02\0\0\0\0\0\0\0";
-    let no_samples = b"\0\0\0\x14trun\x02\0\0\0\0\0\0\0\0\0\0\0";
-    let four = b"\0\0\0\x20trun\0\0\x02\x01\0\0\0\x04\0\0\0\x68\0\0\0\x05\0\0\0\x07\0\0\0\x03";
-    let most = b"\0\0\0\x20trun\0\0\x02\x01\xff\xff\xff\xff\0\0\0\x68\0\0\0\x05\0\0\0\x07\0\0\0\x03";
-    let short_tfhd = b"\0\0\0\x0ftfhd\0\x02\0\0\0\0\0";
+    const VERSION_2: &[u8] = b"\0\0\0\x10tfdt\x02\0\0\0\0\0\0\0";
+    const NO_SAMPLES: &[u8] = b"\0\0\0\x14trun\x02\0\0\0\0\0\0\0\0\0\0\0";
+    const FOUR: &[u8] =
+        b"\0\0\0\x20trun\0\0\x02\x01\0\0\0\x04\0\0\0\x68\0\0\0\x05\0\0\0\x07\0\0\0\x03";
+    const MOST: &[u8] =
+        b"\0\0\0\x20trun\0\0\x02\x01\xff\xff\xff\xff\0\0\0\x68\0\0\0\x05\0\0\0\x07\0\0\0\x03";
+    const SHORT_TFHD: &[u8] = b"\0\0\0\x0ftfhd\0\x02\0\0\0\0\0";
     check_trafs(
         &rt,
         rt.alloc(),
         &[
-            (&[TFHD, version_2], fault(Rule::Version, b"tfdt", 412)),
-            (&[TFHD, TFDT, no_samples], fault(Rule::Version, b"trun", 428)),
-            (&[TFHD, TFDT, four], fault(Rule::FieldLength, b"trun", 428)),
-            (&[TFHD, TFDT, most], fault(Rule::FieldLength, b"trun", 428)),
-            (&[short_tfhd, TFDT], fault(Rule::FieldLength, b"tfhd", 396)),
+            (&[TFHD, VERSION_2], fault(Rule::Version, b"tfdt", 412)),
+            (
+                &[TFHD, TFDT, NO_SAMPLES],
+                fault(Rule::Version, b"trun", 428),
+            ),
+            (&[TFHD, TFDT, FOUR], fault(Rule::FieldLength, b"trun", 428)),
+            (&[TFHD, TFDT, MOST], fault(Rule::FieldLength, b"trun", 428)),
+            (&[SHORT_TFHD, TFDT], fault(Rule::FieldLength, b"tfhd", 396)),
             // Version is the lower rule.
-            (&[TFHD, four, version_2], fault(Rule::Version, b"tfdt", 444)),
+            (&[TFHD, FOUR, VERSION_2], fault(Rule::Version, b"tfdt", 444)),
         ],
     )
 }
 
 #[test]
 fn boxes_are_unsupported(rt: HostRuntime) -> Result<(), Fail> {
-    let senc = b"\0\0\0\x10senc\0\0\0\0\0\0\0\0";
-    let free = b"\0\0\0\x08free";
-    let skip = b"\0\0\0\x08skip";
-    let traf = b"\0\0\0\x08traf";
-    let short_trun = b"\0\0\0\x0dtrun\0\0\0\0\0";
+    const SENC: &[u8] = b"\0\0\0\x10senc\0\0\0\0\0\0\0\0";
+    const FREE: &[u8] = b"\0\0\0\x08free";
+    const SKIP: &[u8] = b"\0\0\0\x08skip";
+    const TRAF: &[u8] = b"\0\0\0\x08traf";
+    const SHORT_TRUN: &[u8] = b"\0\0\0\x0dtrun\0\0\0\0\0";
     check_trafs(
         &rt,
         rt.alloc(),
         &[
-            (&[TFHD, senc, TRUN], fault(Rule::Unsupported, b"senc", 412)),
-            (&[TFHD, free, skip, TRUN], None),
+            (&[TFHD, SENC, TRUN], fault(Rule::Unsupported, b"senc", 412)),
+            (&[TFHD, FREE, SKIP, TRUN], None),
             // A traf in a traf has no tfhd, and needs none.
-            (&[TFHD, traf], fault(Rule::Unsupported, b"traf", 412)),
+            (&[TFHD, TRAF], fault(Rule::Unsupported, b"traf", 412)),
         ],
     )?;
     // A trun that stands in no traf isn't read.
-    let moof = moof_of(rt.alloc(), &[short_trun])?;
+    let moof = moof_of(rt.alloc(), &[SHORT_TRUN])?;
     let (fault_of, _) = told(rt.alloc(), &V1.as_slice()[20..364], moof.as_slice(), 364)?;
     assert_eq!(rt; fault_of, fault(Rule::Unsupported, b"trun", 388));
     Ok(())
@@ -176,42 +182,72 @@ fn trafs_are_nested(rt: HostRuntime) -> Result<(), Fail> {
 
 #[test]
 fn a_tfhd_says_what_is_not_read(rt: HostRuntime) -> Result<(), Fail> {
-    let no_base = b"\0\0\0\x10tfhd\0\0\0\0\0\0\0\x01";
-    let own_base = b"\0\0\0\x18tfhd\0\x02\0\x01\0\0\0\x01\0\0\0\0\0\0\0\0";
-    let empty = b"\0\0\0\x10tfhd\0\x03\0\0\0\0\0\x01";
-    let other_track = b"\0\0\0\x10tfhd\0\x02\0\0\0\0\0\x02";
-    let entry_0 = b"\0\0\0\x14tfhd\0\x02\0\x02\0\0\0\x01\0\0\0\0";
-    let entry_1 = b"\0\0\0\x14tfhd\0\x02\0\x02\0\0\0\x01\0\0\0\x01";
-    let entry_2 = b"\0\0\0\x14tfhd\0\x02\0\x02\0\0\0\x01\0\0\0\x02";
+    const NO_BASE: &[u8] = b"\0\0\0\x10tfhd\0\0\0\0\0\0\0\x01";
+    const OWN_BASE: &[u8] = b"\0\0\0\x18tfhd\0\x02\0\x01\0\0\0\x01\0\0\0\0\0\0\0\0";
+    const EMPTY: &[u8] = b"\0\0\0\x10tfhd\0\x03\0\0\0\0\0\x01";
+    const OTHER_TRACK: &[u8] = b"\0\0\0\x10tfhd\0\x02\0\0\0\0\0\x02";
+    const ENTRY_0: &[u8] = b"\0\0\0\x14tfhd\0\x02\0\x02\0\0\0\x01\0\0\0\0";
+    const ENTRY_1: &[u8] = b"\0\0\0\x14tfhd\0\x02\0\x02\0\0\0\x01\0\0\0\x01";
+    const ENTRY_2: &[u8] = b"\0\0\0\x14tfhd\0\x02\0\x02\0\0\0\x01\0\0\0\x02";
     check_trafs(
         &rt,
         rt.alloc(),
         &[
-            (&[no_base, TFDT, TRUN], fault(Rule::BaseNotMoof, b"tfhd", 396)),
-            (&[own_base, TFDT, TRUN], fault(Rule::BaseNotMoof, b"tfhd", 396)),
-            (&[empty, TFDT, TRUN], fault(Rule::EmptyDuration, b"tfhd", 396)),
-            (&[other_track, TFDT, TRUN], fault(Rule::UnknownTrack, b"tfhd", 396)),
-            (&[entry_0, TFDT, TRUN], fault(Rule::EntryIndex, b"tfhd", 396)),
-            (&[entry_1, TFDT, TRUN], None),
-            (&[entry_2, TFDT, TRUN], fault(Rule::EntryIndex, b"tfhd", 396)),
+            (
+                &[NO_BASE, TFDT, TRUN],
+                fault(Rule::BaseNotMoof, b"tfhd", 396),
+            ),
+            (
+                &[OWN_BASE, TFDT, TRUN],
+                fault(Rule::BaseNotMoof, b"tfhd", 396),
+            ),
+            (
+                &[EMPTY, TFDT, TRUN],
+                fault(Rule::EmptyDuration, b"tfhd", 396),
+            ),
+            (
+                &[OTHER_TRACK, TFDT, TRUN],
+                fault(Rule::UnknownTrack, b"tfhd", 396),
+            ),
+            (
+                &[ENTRY_0, TFDT, TRUN],
+                fault(Rule::EntryIndex, b"tfhd", 396),
+            ),
+            (&[ENTRY_1, TFDT, TRUN], None),
+            (
+                &[ENTRY_2, TFDT, TRUN],
+                fault(Rule::EntryIndex, b"tfhd", 396),
+            ),
         ],
     )
 }
 
 #[test]
 fn track_ids_repeat(rt: HostRuntime) -> Result<(), Fail> {
-    let of_9 = b"\0\0\0\x10tfhd\0\x02\0\0\0\0\0\x09";
+    const OF_9: &[u8] = b"\0\0\0\x10tfhd\0\x02\0\0\0\0\0\x09";
     check_moofs(
         &rt,
         rt.alloc(),
         &[
             (&[&[TFHD, TFDT], &[TFHD, TFDT]], None),
             (&[&[TFHD], &[TFHD, TFDT]], None),
-            (&[&[TFHD, TFDT], &[TFHD]], fault(Rule::Unsupported, b"traf", 428)),
-            (&[&[TFHD], &[TFHD], &[TFHD]], fault(Rule::Unsupported, b"traf", 412)),
+            (
+                &[&[TFHD, TFDT], &[TFHD]],
+                fault(Rule::Unsupported, b"traf", 428),
+            ),
+            (
+                &[&[TFHD], &[TFHD], &[TFHD]],
+                fault(Rule::Unsupported, b"traf", 412),
+            ),
             // A track_ID that no track has repeats too.
-            (&[&[TFHD], &[of_9], &[of_9]], fault(Rule::Unsupported, b"traf", 436)),
-            (&[&[TFHD], &[of_9, TFDT], &[of_9, TFDT]], fault(Rule::UnknownTrack, b"tfhd", 420)),
+            (
+                &[&[TFHD], &[OF_9], &[OF_9]],
+                fault(Rule::Unsupported, b"traf", 436),
+            ),
+            (
+                &[&[TFHD], &[OF_9, TFDT], &[OF_9, TFDT]],
+                fault(Rule::UnknownTrack, b"tfhd", 420),
+            ),
         ],
     )?;
     // V2 with two trafs of track 1, the second without its tfdt.
@@ -229,21 +265,36 @@ fn track_ids_repeat(rt: HostRuntime) -> Result<(), Fail> {
 
 #[test]
 fn a_trun_says_too_much(rt: HostRuntime) -> Result<(), Fail> {
-    let two_flags = b"\0\0\0\x30trun\0\0\x06\x05\0\0\0\x03\0\0\0\x68\x02\0\0\0\
+    const TWO_FLAGS: &[u8] = b"\0\0\0\x30trun\0\0\x06\x05\0\0\0\x03\0\0\0\x68\x02\0\0\0\
         \0\0\0\x05\x02\0\0\0\0\0\0\x07\x02\0\0\0\0\0\0\x03\x02\0\0\0";
-    let a_million = b"\0\0\0\x14trun\0\0\0\x01\0\x0f\x42\x40\0\0\0\0";
-    let one_more = b"\0\0\0\x14trun\0\0\0\x01\0\x0f\x42\x41\0\0\0\0";
-    let most = b"\0\0\0\x14trun\0\0\0\x01\xff\xff\xff\xff\0\0\0\0";
+    const A_MILLION: &[u8] = b"\0\0\0\x14trun\0\0\0\x01\0\x0f\x42\x40\0\0\0\0";
+    const ONE_MORE: &[u8] = b"\0\0\0\x14trun\0\0\0\x01\0\x0f\x42\x41\0\0\0\0";
+    const MOST: &[u8] = b"\0\0\0\x14trun\0\0\0\x01\xff\xff\xff\xff\0\0\0\0";
     check_trafs(
         &rt,
         rt.alloc(),
         &[
-            (&[TFHD, TFDT, two_flags], fault(Rule::FlagsConflict, b"trun", 428)),
-            (&[TFHD, TFDT, a_million], None),
-            (&[TFHD, TFDT, one_more], fault(Rule::TooManySamples, b"trun", 428)),
-            (&[TFHD, TFDT, most], fault(Rule::TooManySamples, b"trun", 428)),
-            (&[TFHD, TFDT, TRUN, a_million], fault(Rule::TooManySamples, b"trun", 460)),
-            (&[TFHD, TFDT, most, most], fault(Rule::TooManySamples, b"trun", 428)),
+            (
+                &[TFHD, TFDT, TWO_FLAGS],
+                fault(Rule::FlagsConflict, b"trun", 428),
+            ),
+            (&[TFHD, TFDT, A_MILLION], None),
+            (
+                &[TFHD, TFDT, ONE_MORE],
+                fault(Rule::TooManySamples, b"trun", 428),
+            ),
+            (
+                &[TFHD, TFDT, MOST],
+                fault(Rule::TooManySamples, b"trun", 428),
+            ),
+            (
+                &[TFHD, TFDT, TRUN, A_MILLION],
+                fault(Rule::TooManySamples, b"trun", 460),
+            ),
+            (
+                &[TFHD, TFDT, MOST, MOST],
+                fault(Rule::TooManySamples, b"trun", 428),
+            ),
         ],
     )
 }
@@ -251,20 +302,23 @@ fn a_trun_says_too_much(rt: HostRuntime) -> Result<(), Fail> {
 #[test]
 fn times_pass_64_bits(rt: HostRuntime) -> Result<(), Fail> {
     // Three samples of 1,024 ticks end at 2^64 - 1 at the latest.
-    let last = b"\0\0\0\x14tfdt\x01\0\0\0\xff\xff\xff\xff\xff\xff\xf3\xff";
-    let past = b"\0\0\0\x14tfdt\x01\0\0\0\xff\xff\xff\xff\xff\xff\xf4\0";
+    const LAST: &[u8] = b"\0\0\0\x14tfdt\x01\0\0\0\xff\xff\xff\xff\xff\xff\xf3\xff";
+    const PAST: &[u8] = b"\0\0\0\x14tfdt\x01\0\0\0\xff\xff\xff\xff\xff\xff\xf4\0";
     check_trafs(
         &rt,
         rt.alloc(),
         &[
-            (&[TFHD, last, TRUN], None),
-            (&[TFHD, past, TRUN], fault(Rule::TimeRange, b"trun", 432)),
+            (&[TFHD, LAST, TRUN], None),
+            (&[TFHD, PAST, TRUN], fault(Rule::TimeRange, b"trun", 432)),
             // The run with which the time passes.
-            (&[TFHD, last, TRUN, TRUN], fault(Rule::TimeRange, b"trun", 464)),
+            (
+                &[TFHD, LAST, TRUN, TRUN],
+                fault(Rule::TimeRange, b"trun", 464),
+            ),
         ],
     )?;
     // Its samples are charged all the same.
-    let moof = one_traf(rt.alloc(), &[TFHD, past, TRUN])?;
+    let moof = one_traf(rt.alloc(), &[TFHD, PAST, TRUN])?;
     let (_, rows) = told(rt.alloc(), &V1.as_slice()[20..364], moof.as_slice(), 364)?;
     assert_eq!(rt; rows, 3);
     Ok(())

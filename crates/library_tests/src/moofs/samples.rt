@@ -117,12 +117,7 @@ fn read(
 }
 
 /// The same, with the tracks of a moov that begins at 20.
-fn told(
-    alloc: Global,
-    moov: &[u8],
-    moof: &[u8],
-    at: u32,
-) -> Result<(Vec<Sample>, Vec<u64>), Fail> {
+fn told(alloc: Global, moov: &[u8], moof: &[u8], at: u32) -> Result<(Vec<Sample>, Vec<u64>), Fail> {
     if moov.len() > 16_777_216 || !is_box(moov) {
         return Err("no box".into());
     }
@@ -139,17 +134,17 @@ fn told(
 }
 
 /// What a moof at 364 comes to, of which these are the boxes of its only traf, with V1's track.
-fn check_trafs(
+fn check_traf(
     rt: &impl Abort,
     alloc: Global,
-    rows: &[(&[&[u8]], &[Sample], u64)],
+    boxes: &[&[u8]],
+    expected: &[Sample],
+    end: u64,
 ) -> Result<(), Fail> {
-    for (boxes, expected, end) in rows {
-        let moof = one_traf(alloc, boxes)?;
-        let (samples, ends) = told(alloc, &V1.as_slice()[20..364], moof.as_slice(), 364)?;
-        assert_eq!(rt; samples.as_slice(), *expected, "{boxes:?}");
-        assert_eq!(rt; ends.as_slice(), &[*end][..]);
-    }
+    let moof = one_traf(alloc, boxes)?;
+    let (samples, ends) = told(alloc, &V1.as_slice()[20..364], moof.as_slice(), 364)?;
+    assert_eq!(rt; samples.as_slice(), expected, "{boxes:?}");
+    assert_eq!(rt; ends.as_slice(), &[end][..]);
     Ok(())
 }
 
@@ -188,94 +183,186 @@ fn vectors_have_these_samples(rt: HostRuntime) -> Result<(), Fail> {
 
 #[test]
 fn defaults_stand_in(rt: HostRuntime) -> Result<(), Fail> {
-    let ticks_512 = b"\0\0\0\x14tfhd\0\x02\0\x08\0\0\0\x01\0\0\x02\0";
-    let size_9 = b"\0\0\0\x14tfhd\0\x02\0\x10\0\0\0\x01\0\0\0\x09";
-    let no_sync = b"\0\0\0\x14tfhd\0\x02\0\x20\0\0\0\x01\x01\x01\0\0";
-    let no_sizes = b"\0\0\0\x14trun\0\0\0\x01\0\0\0\x02\0\0\0\x68";
-    let first_flags = b"\0\0\0\x18trun\0\0\0\x05\0\0\0\x02\0\0\0\x68\x02\0\0\0";
-    check_trafs(
+    const TICKS_512: &[u8] = b"\0\0\0\x14tfhd\0\x02\0\x08\0\0\0\x01\0\0\x02\0";
+    const SIZE_9: &[u8] = b"\0\0\0\x14tfhd\0\x02\0\x10\0\0\0\x01\0\0\0\x09";
+    const NO_SYNC: &[u8] = b"\0\0\0\x14tfhd\0\x02\0\x20\0\0\0\x01\x01\x01\0\0";
+    const NO_SIZES: &[u8] = b"\0\0\0\x14trun\0\0\0\x01\0\0\0\x02\0\0\0\x68";
+    const FIRST_FLAGS: &[u8] = b"\0\0\0\x18trun\0\0\0\x05\0\0\0\x02\0\0\0\x68\x02\0\0\0";
+    check_traf(
         &rt,
         rt.alloc(),
-        &[
-            (&[TFHD, TFDT, no_sizes], &[of_1(0, 0, 468), of_1(1024, 0, 468)], 2048),
-            (&[ticks_512, TFDT, no_sizes], &[empty(0, 512, 0x0200_0000), empty(512, 512, 0x0200_0000)], 1024),
-            (&[size_9, TFDT, no_sizes], &[of_1(0, 9, 468), of_1(1024, 9, 477)], 2048),
-            (&[no_sync, TFDT, no_sizes], &[empty(0, 1024, 0x0101_0000), empty(1024, 1024, 0x0101_0000)], 2048),
-            // first_sample_flags are those of the first sample alone.
-            (&[no_sync, TFDT, first_flags], &[of_1(0, 0, 468), empty(1024, 1024, 0x0101_0000)], 2048),
-        ],
-    )
+        &[TFHD, TFDT, NO_SIZES],
+        &[of_1(0, 0, 468), of_1(1024, 0, 468)],
+        2048,
+    )?;
+    check_traf(
+        &rt,
+        rt.alloc(),
+        &[TICKS_512, TFDT, NO_SIZES],
+        &[empty(0, 512, 0x0200_0000), empty(512, 512, 0x0200_0000)],
+        1024,
+    )?;
+    check_traf(
+        &rt,
+        rt.alloc(),
+        &[SIZE_9, TFDT, NO_SIZES],
+        &[of_1(0, 9, 468), of_1(1024, 9, 477)],
+        2048,
+    )?;
+    check_traf(
+        &rt,
+        rt.alloc(),
+        &[NO_SYNC, TFDT, NO_SIZES],
+        &[empty(0, 1024, 0x0101_0000), empty(1024, 1024, 0x0101_0000)],
+        2048,
+    )?;
+    // first_sample_flags are those of the first sample alone.
+    check_traf(
+        &rt,
+        rt.alloc(),
+        &[NO_SYNC, TFDT, FIRST_FLAGS],
+        &[of_1(0, 0, 468), empty(1024, 1024, 0x0101_0000)],
+        2048,
+    )?;
+    Ok(())
 }
 
 #[test]
 fn composition_times_have_offsets(rt: HostRuntime) -> Result<(), Fail> {
-    let unsigned = b"\0\0\0\x18trun\0\0\x08\x01\0\0\0\x01\0\0\0\x68\xff\xff\xff\xff";
-    let signed = b"\0\0\0\x18trun\x01\0\x08\x01\0\0\0\x01\0\0\0\x68\xff\xff\xff\xff";
-    let least = b"\0\0\0\x18trun\x01\0\x08\x01\0\0\0\x01\0\0\0\x68\x80\0\0\0";
-    check_trafs(
+    const UNSIGNED: &[u8] = b"\0\0\0\x18trun\0\0\x08\x01\0\0\0\x01\0\0\0\x68\xff\xff\xff\xff";
+    const SIGNED: &[u8] = b"\0\0\0\x18trun\x01\0\x08\x01\0\0\0\x01\0\0\0\x68\xff\xff\xff\xff";
+    const LEAST: &[u8] = b"\0\0\0\x18trun\x01\0\x08\x01\0\0\0\x01\0\0\0\x68\x80\0\0\0";
+    check_traf(
         &rt,
         rt.alloc(),
-        &[
-            (&[TFHD, TFDT, unsigned], &[offset_by(4_294_967_295)], 1024),
-            (&[TFHD, TFDT, signed], &[offset_by(-1)], 1024),
-            (&[TFHD, TFDT, least], &[offset_by(-2_147_483_648)], 1024),
-        ],
-    )
+        &[TFHD, TFDT, UNSIGNED],
+        &[offset_by(4_294_967_295)],
+        1024,
+    )?;
+    check_traf(
+        &rt,
+        rt.alloc(),
+        &[TFHD, TFDT, SIGNED],
+        &[offset_by(-1)],
+        1024,
+    )?;
+    check_traf(
+        &rt,
+        rt.alloc(),
+        &[TFHD, TFDT, LEAST],
+        &[offset_by(-2_147_483_648)],
+        1024,
+    )?;
+    Ok(())
 }
 
 #[test]
 fn runs_begin_where_they_say_or_follow(rt: HostRuntime) -> Result<(), Fail> {
     // Samples of 2 bytes each: a run without data_offset, one that has it, and one that has no samples.
-    let size_2 = b"\0\0\0\x14tfhd\0\x02\0\x10\0\0\0\x01\0\0\0\x02";
-    let follows = b"\0\0\0\x10trun\0\0\0\0\0\0\0\x01";
-    let at_200 = b"\0\0\0\x14trun\0\0\0\x01\0\0\0\x01\0\0\0\xc8";
-    let none_at_100 = b"\0\0\0\x14trun\0\0\0\x01\0\0\0\0\0\0\0\x64";
-    let least = b"\0\0\0\x14trun\0\0\0\x01\0\0\0\x01\x80\0\0\0";
-    let most = b"\0\0\0\x14trun\0\0\0\x01\0\0\0\x01\x7f\xff\xff\xff";
-    check_trafs(
+    const SIZE_2: &[u8] = b"\0\0\0\x14tfhd\0\x02\0\x10\0\0\0\x01\0\0\0\x02";
+    const FOLLOWS: &[u8] = b"\0\0\0\x10trun\0\0\0\0\0\0\0\x01";
+    const AT_200: &[u8] = b"\0\0\0\x14trun\0\0\0\x01\0\0\0\x01\0\0\0\xc8";
+    const NONE_AT_100: &[u8] = b"\0\0\0\x14trun\0\0\0\x01\0\0\0\0\0\0\0\x64";
+    const LEAST: &[u8] = b"\0\0\0\x14trun\0\0\0\x01\0\0\0\x01\x80\0\0\0";
+    const MOST: &[u8] = b"\0\0\0\x14trun\0\0\0\x01\0\0\0\x01\x7f\xff\xff\xff";
+    check_traf(
         &rt,
         rt.alloc(),
-        &[
-            (&[size_2, follows], &[of_1(0, 2, 364)], 1024),
-            (&[size_2, follows, follows], &[of_1(0, 2, 364), of_1(1024, 2, 366)], 2048),
-            (&[size_2, at_200, follows], &[of_1(0, 2, 564), of_1(1024, 2, 566)], 2048),
-            (&[size_2, none_at_100, follows], &[of_1(0, 2, 464)], 1024),
-            (&[size_2, at_200, none_at_100, follows], &[of_1(0, 2, 564), of_1(1024, 2, 464)], 2048),
-            (&[size_2, at_200, none_at_100], &[of_1(0, 2, 564)], 1024),
-            (&[size_2, least], &[of_1(0, 2, 364 - 2_147_483_648)], 1024),
-            (&[size_2, most], &[of_1(0, 2, 364 + 2_147_483_647)], 1024),
-        ],
-    )
+        &[SIZE_2, FOLLOWS],
+        &[of_1(0, 2, 364)],
+        1024,
+    )?;
+    check_traf(
+        &rt,
+        rt.alloc(),
+        &[SIZE_2, FOLLOWS, FOLLOWS],
+        &[of_1(0, 2, 364), of_1(1024, 2, 366)],
+        2048,
+    )?;
+    check_traf(
+        &rt,
+        rt.alloc(),
+        &[SIZE_2, AT_200, FOLLOWS],
+        &[of_1(0, 2, 564), of_1(1024, 2, 566)],
+        2048,
+    )?;
+    check_traf(
+        &rt,
+        rt.alloc(),
+        &[SIZE_2, NONE_AT_100, FOLLOWS],
+        &[of_1(0, 2, 464)],
+        1024,
+    )?;
+    check_traf(
+        &rt,
+        rt.alloc(),
+        &[SIZE_2, AT_200, NONE_AT_100, FOLLOWS],
+        &[of_1(0, 2, 564), of_1(1024, 2, 464)],
+        2048,
+    )?;
+    check_traf(
+        &rt,
+        rt.alloc(),
+        &[SIZE_2, AT_200, NONE_AT_100],
+        &[of_1(0, 2, 564)],
+        1024,
+    )?;
+    check_traf(
+        &rt,
+        rt.alloc(),
+        &[SIZE_2, LEAST],
+        &[of_1(0, 2, 364 - 2_147_483_648)],
+        1024,
+    )?;
+    check_traf(
+        &rt,
+        rt.alloc(),
+        &[SIZE_2, MOST],
+        &[of_1(0, 2, 364 + 2_147_483_647)],
+        1024,
+    )?;
+    Ok(())
 }
 
 #[test]
 fn times_begin_with_the_tfdt_or_follow(rt: HostRuntime) -> Result<(), Fail> {
-    let at_9000 = b"\0\0\0\x10tfdt\0\0\0\0\0\0\x23\x28";
-    let last = b"\0\0\0\x14tfdt\x01\0\0\0\xff\xff\xff\xff\xff\xff\xf3\xff";
-    let one = b"\0\0\0\x14trun\0\0\0\x01\0\0\0\x01\0\0\0\x68";
-    let three = b"\0\0\0\x14trun\0\0\0\x01\0\0\0\x03\0\0\0\x68";
+    const AT_9000: &[u8] = b"\0\0\0\x10tfdt\0\0\0\0\0\0\x23\x28";
+    const LAST: &[u8] = b"\0\0\0\x14tfdt\x01\0\0\0\xff\xff\xff\xff\xff\xff\xf3\xff";
+    const ONE: &[u8] = b"\0\0\0\x14trun\0\0\0\x01\0\0\0\x01\0\0\0\x68";
+    const THREE: &[u8] = b"\0\0\0\x14trun\0\0\0\x01\0\0\0\x03\0\0\0\x68";
     let late = 18_446_744_073_709_548_543;
-    check_trafs(
+    check_traf(&rt, rt.alloc(), &[TFHD, ONE], &[of_1(0, 0, 468)], 1024)?;
+    check_traf(
         &rt,
         rt.alloc(),
+        &[TFHD, AT_9000, ONE],
+        &[of_1(9000, 0, 468)],
+        10_024,
+    )?;
+    // The last decode time is that of V1 with the latest base time that there may be.
+    check_traf(
+        &rt,
+        rt.alloc(),
+        &[TFHD, LAST, THREE],
         &[
-            (&[TFHD, one], &[of_1(0, 0, 468)], 1024),
-            (&[TFHD, at_9000, one], &[of_1(9000, 0, 468)], 10_024),
-            // The last decode time is that of V1 with the latest base time that there may be.
-            (
-                &[TFHD, last, three],
-                &[of_1(late, 0, 468), of_1(late + 1024, 0, 468), of_1(18_446_744_073_709_550_591, 0, 468)],
-                18_446_744_073_709_551_615,
-            ),
+            of_1(late, 0, 468),
+            of_1(late + 1024, 0, 468),
+            of_1(18_446_744_073_709_550_591, 0, 468),
         ],
+        18_446_744_073_709_551_615,
     )?;
     // Two trafs of one track, with a tfdt each.
     let mut trafs = Vec::new(rt.alloc());
-    push_box(&mut trafs, b"traf", &[TFHD, at_9000, one])?;
+    push_box(&mut trafs, b"traf", &[TFHD, AT_9000, ONE])?;
     push_box(&mut trafs, b"traf", &[TFHD, TFDT, TRUN])?;
     let moof = moof_of(rt.alloc(), &[trafs.as_slice()])?;
     let (samples, ends) = told(rt.alloc(), &V1.as_slice()[20..364], moof.as_slice(), 364)?;
-    let both = [of_1(9000, 0, 468), of_1(0, 5, 468), of_1(1024, 7, 473), of_1(2048, 3, 480)];
+    let both = [
+        of_1(9000, 0, 468),
+        of_1(0, 5, 468),
+        of_1(1024, 7, 473),
+        of_1(2048, 3, 480),
+    ];
     assert_eq!(rt; samples.as_slice(), &both[..]);
     assert_eq!(rt; ends.as_slice(), &[3072][..]);
     Ok(())

@@ -1,0 +1,102 @@
+//! Prints what a moof comes to, which is read from standard input behind its moov: how many runs and samples it has, and how
+//! many rows were read for it; or the number and the place of what is at fault. Its mdat is taken to go to the end of the
+//! stream. What it must print for the first test vector stands in the file stdout.
+#![tactic(auto)]
+
+ghost use Rattle.std.specs.Prelude.{◌*◌, ◌+◌, ◌^◌, ◌<◌, ◌≤◌, length};
+
+use mp4_box::{Fault, Size, header_of, is_box};
+use mp4_frag::{Moof, Payload, Steps};
+use mp4_init::{TrackList, tracks};
+use mp4_ledger::{Ledger, Refused};
+use std::io;
+use std::io::Read;
+use std::process::ExitCode;
+
+/// A moov may have so many bytes.
+const LONGEST_MOOV: usize = 16 << 20;
+
+/// A moof may have so many bytes.
+const LONGEST_MOOF: usize = 64 << 20;
+
+/// Why a moof isn't listed.
+enum Stop {
+    Fault(Fault),
+    Refused(Refused),
+}
+
+/// What a moof comes to.
+struct Counts {
+    runs: usize,
+    samples: u32,
+    rows: u128,
+}
+
+/// Reads a moof at offset 0, lists its runs, looks where they stand, and settles its tracks.
+fn count(ledger: &mut Ledger, list: &mut TrackList, moof: &[u8]) -> Result<Counts, Stop> {
+    let mut steps = Steps { rows: 0 };
+    let moof = match Moof::read(moof, 0, list, &mut steps) {
+        Ok(moof) => moof,
+        Err(fault) => return Err(Stop::Fault(fault)),
+    };
+    let runs = match moof.list(ledger, list, &mut steps) {
+        Ok(runs) => runs,
+        Err(refused) => return Err(Stop::Refused(refused)),
+    };
+    let payload = Payload { start: 0, end: None };
+    let placed = moof.places(payload, &runs, &mut steps);
+    let count = runs.len();
+    runs.back(ledger);
+    if let Err(fault) = placed {
+        return Err(Stop::Fault(fault));
+    }
+    let samples = moof.samples();
+    moof.settle(list, &mut steps);
+    Ok(Counts {
+        runs: count,
+        samples,
+        rows: steps.rows,
+    })
+}
+
+/// Where the first box ends.
+fn first_end(bytes: &[u8]) -> usize
+    ensures { result ≤ length bytes.now }
+{
+    match header_of(bytes) {
+        Ok(header) => match header.size {
+            Size::Exact(size) => size.min(bytes.len() as u64) as usize,
+            Size::ToEnd => 0,
+        },
+        Err(_) => 0,
+    }
+}
+
+/// Reads a moov and a moof and prints what there is to say of the moof.
+fn print_runs(rt: &HostRuntime) -> io::Result<()> {
+    let mut stream = Vec::new(rt.alloc());
+    rt.stdin().read_to_end(&mut stream)?;
+    let (moov, moof) = stream.as_slice().split_at(first_end(stream.as_slice()));
+    if moov.len() > LONGEST_MOOV || !is_box(moov) || moof.len() > LONGEST_MOOF || !is_box(moof) {
+        return println!(rt; "not a moov of at most 16 MiB and a moof of at most 64 MiB");
+    }
+    let mut ledger = Ledger::new(rt.alloc(), 1 << 30);
+    let Ok(list) = tracks(&mut ledger, moov, 0) else {
+        return println!(rt; "no tracks");
+    };
+    let mut list = list;
+    let told = count(&mut ledger, &mut list, moof);
+    list.back(&mut ledger);
+    match told {
+        Ok(counts) => println!(rt; "{} runs, {} samples, {} rows", counts.runs, counts.samples, counts.rows),
+        Err(Stop::Fault(fault)) => println!(rt; "rule {} at {}", fault.rule.number(), fault.offset),
+        Err(Stop::Refused(_)) => println!(rt; "no memory"),
+    }
+}
+
+fn main(rt: HostRuntime) -> ExitCode {
+    match print_runs(&rt) {
+        Ok(()) => ExitCode::from(0),
+        Err(_) => ExitCode::from(1),
+    }
+}
