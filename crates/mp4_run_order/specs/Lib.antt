@@ -1,0 +1,5 @@
+pub mod Runs
+pub mod Places
+pub mod Orders
+pub mod Searches
+pub mod Takings
