@@ -20,20 +20,20 @@ pub below_less : (m n : ℕ) (o : Option ℕ) → m < n → IsBelow n o → IsBe
 below_less m n None lt h = tt
 below_less m n (Some k) lt h = omega arith
 
-lower_step : (n m k : ℕ) (t : Bool) → nat_lt m k ≡ t → n < (if t then m else k) → (n < m) × (n < k)
-lower_step n m k true e h = let g = ltb-true m k e in (h, omega arith)
-lower_step n m k false e h = let g = ltb-false m k e in (omega arith, h)
+lower_step : (n m k : ℕ) (t : Bool) → nat_lt k m ≡ t → n < (if t then k else m) → (n < m) × (n < k)
+lower_step n m k true e h = let g = ltb-true k m e in (omega arith, h)
+lower_step n m k false e h = let g = ltb-false k m e in (h, omega arith)
 
 -- what is below the lower of two is below both
 pub below_lower : (n m : ℕ) (o : Option ℕ) → IsBelow n (Some (lower_of m o)) → (n < m) × IsBelow n o
 below_lower n m None h = (h, tt)
-below_lower n m (Some k) h = lower_step n m k (nat_lt m k) refl h
+below_lower n m (Some k) h = lower_step n m k (nat_lt k m) refl h
 
-which_step : (m k : ℕ) (r : Option ℕ) (t : Bool) → r ≡ Some (if t then m else k) → (r ≡ Some m) ⊎ (r ≡ Some k)
-which_step m k r true e = inl e
-which_step m k r false e = inr e
+which_step : (m k : ℕ) (r : Option ℕ) (t : Bool) → r ≡ Some (if t then k else m) → (r ≡ Some m) ⊎ (r ≡ Some k)
+which_step m k r true e = inr e
+which_step m k r false e = inl e
 
 -- the lower of two is one of them
 pub lower_which : (m : ℕ) (o r : Option ℕ) → r ≡ Some (lower_of m o) → (r ≡ Some m) ⊎ (r ≡ o)
 lower_which m None r e = inl e
-lower_which m (Some k) r e = which_step m k r (nat_lt m k) e
+lower_which m (Some k) r e = which_step m k r (nat_lt k m) e

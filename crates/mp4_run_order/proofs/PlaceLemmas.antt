@@ -7,10 +7,10 @@ use Rattle.std.proofs.lemmas.Bool.{eqb-true, eqb-false, ltb-true, ltb-false, and
 use mathlib.Core.Logic.{◌⊎◌, inl, inr}
 use Rattle.mp4_run_order.specs.declared.runs.ListedRun.{ListedRun}
 use Rattle.mp4_run_order.specs.declared.runs.Payload.{Payload}
-use Rattle.mp4_run_order.specs.declared.searches.PlaceSearch.{PlaceSearch}
+use Rattle.mp4_run_order.specs.declared.place_search.PlaceSearch.{PlaceSearch}
 use Rattle.mp4_run_order.specs.Runs.{end_of}
 use Rattle.mp4_run_order.specs.Places.{LiesIn, lies_in}
-use Rattle.mp4_run_order.specs.Searches.{is_below, is_judged, lower_of, beside, place_step}
+use Rattle.mp4_run_order.specs.Searches.{is_below, may_be_first, lower_of, bytes_step, place_step}
 use Rattle.mp4_run_order.proofs.ListLemmas.{Each, Pairs, each_always, each_weaker}
 use Rattle.mp4_run_order.proofs.RunLemmas.{some_from, lies_from, lies_to, lt_from, ge_from, apart_flip, both_have}
 use Rattle.mp4_run_order.proofs.BoundLemmas.{IsBelow, below_from, below_to, below_less, below_lower, lower_which}
@@ -70,15 +70,15 @@ skipped p runs found found' last x xs r f upto out is = record {
   is = is;
 }
 
-judged_from : (found : Option ℕ) (x : ListedRun) → not (is_judged found x) ≡ false → (x.count ≢ 0) × IsBelow x.number found
+judged_from : (found : Option ℕ) (x : ListedRun) → not (may_be_first found x) ≡ false → (x.count ≢ 0) × IsBelow x.number found
 judged_from found x h =
-    let r = and_parts (not (x.count == 0)) (is_below x.number found) (not-false (is_judged found x) h) in
+    let r = and_parts (not (x.count == 0)) (is_below x.number found) (not-false (may_be_first found x) h) in
     (some_from x.count r.0, below_from x.number found r.1)
 
-not_judged : (found : Option ℕ) (x : ListedRun) → not (is_judged found x) ≡ true → IsBelow x.number found → x.count ≢ 0 → ⊥
+not_judged : (found : Option ℕ) (x : ListedRun) → not (may_be_first found x) ≡ true → IsBelow x.number found → x.count ≢ 0 → ⊥
 not_judged found x h b n =
-    let e = not-true (is_judged found x) h in
-    let j : is_judged found x ≡ true = and_from (not (x.count == 0)) (is_below x.number found) (not_from_false (x.count == 0) (ne_eqb x.count 0 n)) (below_to x.number found b) in
+    let e = not-true (may_be_first found x) h in
+    let j : may_be_first found x ≡ true = and_from (not (x.count == 0)) (is_below x.number found) (not_from_false (x.count == 0) (ne_eqb x.count 0 n)) (below_to x.number found b) in
     absurd (cc)
 
 -- behind a run that was found at fault
@@ -143,7 +143,7 @@ beside_step p runs found a x xs c nx yx b lies next l ih false e w ew =
     (record { clear = λ ba bx na mx ya zx. ge }, each_weaker (Follows x) (Clear r a) (λ y k. record { clear = λ ba by na ny ya yy. let h = k.place in omega (arith, ints) }) xs next) f.is
 
 kept_step : (p : Payload) (runs : List ListedRun) (found : Option ℕ) (last : Option ListedRun) (x : ListedRun) (xs : List ListedRun) → Contains runs x → x.count ≢ 0 → x.bytes ≢ 0 → IsBelow x.number found → LiesIn p x → Each (Follows x) xs → IsLast runs last (x ∷ xs)
-    → NextIs p runs xs → Passed p runs found last (x ∷ xs) (fold place_step (beside (at_state p found last) last x) xs).offender
+    → NextIs p runs xs → Passed p runs found last (x ∷ xs) (fold place_step (bytes_step (at_state p found last) last x) xs).offender
 kept_step p runs found None x xs c nx yx b lies next l ih =
     let f = ih found (Some x) (c, nx, yx, next) in
     after_kept p runs found found None x xs (found_from p found (Some x) xs) lies f f.upto (tt, each_always (ClearAt (found_from p found (Some x) xs) None) (λ y. tt) xs) f.is
@@ -151,8 +151,8 @@ kept_step p runs found (Some a) x xs c nx yx b lies next l ih =
     beside_step p runs found a x xs c nx yx b lies next l ih (lt_z x.place (end_of a)) refl (nat_lt a.number x.number) refl
 
 passed_step : (p : Payload) (runs : List ListedRun) (found : Option ℕ) (last : Option ListedRun) (x : ListedRun) (xs : List ListedRun) → Contains runs x → Each (Follows x) xs → IsLast runs last (x ∷ xs) → NextIs p runs xs
-    → (t : Bool) → not (is_judged found x) ≡ t → (u : Bool) → not (lies_in p x) ≡ u → (v : Bool) → (x.bytes == 0) ≡ v
-    → Passed p runs found last (x ∷ xs) (fold place_step (if t then at_state p found last else if u then at_state p (Some x.number) last else if v then at_state p found last else beside (at_state p found last) last x) xs).offender
+    → (t : Bool) → not (may_be_first found x) ≡ t → (u : Bool) → not (lies_in p x) ≡ u → (v : Bool) → (x.bytes == 0) ≡ v
+    → Passed p runs found last (x ∷ xs) (fold place_step (if t then at_state p found last else if u then at_state p (Some x.number) last else if v then at_state p found last else bytes_step (at_state p found last) last x) xs).offender
 passed_step p runs found last x xs c next l ih true et u eu v ev =
     let f = ih found last (rest_is runs last x xs l) in
     skipped p runs found found last x xs (found_from p found last xs) f f.upto (λ b n. not_judged found x et (f.upto x.number b) n) f.is
@@ -179,7 +179,7 @@ passed_step p runs found last x xs c next l ih false et false eu false ev =
 passed : (p : Payload) (runs : List ListedRun) (found : Option ℕ) (last : Option ListedRun) (xs : List ListedRun) → Each (Contains runs) xs → Pairs Follows xs → IsLast runs last xs → Passed p runs found last xs (found_from p found last xs)
 passed p runs found last [] c n l = record { upto = λ n b. b; at = tt; inside = tt; pairs = tt; is = inl refl }
 passed p runs found last (x ∷ xs) c n l =
-    passed_step p runs found last x xs c.0 n.0 l (λ f m k. passed p runs f m xs c.1 n.1 k) (not (is_judged found x)) refl (not (lies_in p x)) refl (x.bytes == 0) refl
+    passed_step p runs found last x xs c.0 n.0 l (λ f m k. passed p runs f m xs c.1 n.1 k) (not (may_be_first found x)) refl (not (lies_in p x)) refl (x.bytes == 0) refl
 
 -- what is found in runs in taking order
 pub by_place : (p : Payload) (runs : List ListedRun) (found : Option ℕ) (xs : List ListedRun) → Each (Contains runs) xs → Pairs Follows xs → Passed p runs found None xs (found_from p found None xs)

@@ -6,7 +6,7 @@ use Rattle.std.proofs.lemmas.Bool.{eqb-true, eqb-false}
 use mathlib.Core.Logic.{◌⊎◌, inl, inr}
 use Rattle.mp4_run_order.specs.declared.runs.ListedRun.{ListedRun}
 use Rattle.mp4_run_order.specs.declared.runs.Payload.{Payload}
-use Rattle.mp4_run_order.specs.declared.searches.TrackSearch.{TrackSearch}
+use Rattle.mp4_run_order.specs.declared.track_search.TrackSearch.{TrackSearch}
 use Rattle.mp4_run_order.specs.Runs.{IsInTurn}
 use Rattle.mp4_run_order.specs.Orders.{IsBeforeByTrack}
 use Rattle.mp4_run_order.specs.Searches.{is_late, lower_of, track_step}

@@ -3,3 +3,4 @@ pub mod Places
 pub mod Orders
 pub mod Searches
 pub mod Takings
+pub mod Worked

@@ -9,6 +9,7 @@ ghost use Rattle.mp4_run_order.specs.Orders.{FitsKeys, IsTakingOrder, IsTrackOrd
 ghost use Rattle.mp4_run_order.specs.Places.{IsOffender, Placed, first_offender};
 ghost use Rattle.mp4_run_order.specs.Runs.{IsListing};
 ghost use Rattle.mp4_run_order.specs.Searches.{found_by_place, found_by_track};
+ghost use Rattle.mp4_run_order.specs.Worked.{AreAtFault, AreTakenInTurns, AreWithoutBytes};
 ghost use Rattle.mp4_run_order.specs.Takings.{AllFollow, IsTakenWell, has_samples};
 
 /// The two passes find the number of the first run in the listing that is at fault, and none where none is.
@@ -57,4 +58,11 @@ pub fn older_rule_is_kept()
     ensures placed { (p : Payload) (runs : List ListedRun) → AllFollow p runs → Placed p runs }
     ensures order { (p : Payload) (runs xs : List ListedRun) → IsListing runs → IsTakingOrder runs xs →
         AllFollow p runs → filter has_samples xs ≡ filter has_samples runs }
+{}
+
+/// Runs of two tracks in turn, with one that is moved, and with one that has no bytes.
+pub fn worked_runs()
+    ensures in_turns { AreTakenInTurns }
+    ensures at_fault { AreAtFault }
+    ensures without_bytes { AreWithoutBytes }
 {}
