@@ -12,7 +12,7 @@ ghost use Rattle.mp4_init.specs.Moovs.{moov_tracks};
 ghost use Rattle.mp4_run_order.specs.Orders.{FitsKeys, taken};
 ghost use Rattle.mp4_run_order.specs.Places.{first_offender};
 ghost use Rattle.mp4_run_order.specs.Runs.{IsListing};
-ghost use Rattle.mp4_run_order.specs.Searches.{found_by_track};
+ghost use Rattle.mp4_run_order.specs.Searches.{found_by_place, found_by_track};
 ghost use Rattle.library_tests.specs.Kinds.{to_trun, traf};
 
 use mp4_box::{Along, BoxRef, Fault, FourCc, check_tree, count_of, number_at, whole_box};
@@ -68,11 +68,22 @@ pub fn has_track(ledger: &mut Ledger, moov: &[u8], offset: u64, id: u32) -> Resu
     Ok(has)
 }
 
-/// What is found in runs that are sorted by track.
-fn found_among(runs: &[ListedRun]) -> Option<u64>
+/// What a pass over runs finds that are sorted by track.
+fn find_by_track(runs: &[ListedRun]) -> Option<u64>
     ensures { result ≡ found_by_track runs.now }
 {
     let mut search = TrackSearch::new();
+    for run in runs {
+        search = search.past(*run);
+    }
+    search.offender
+}
+
+/// What a pass over runs in taking order finds, with what was found by track.
+fn find_by_place(payload: Payload, offender: Option<u64>, runs: &[ListedRun]) -> Option<u64>
+    ensures { result ≡ found_by_place payload offender runs.now }
+{
+    let mut search = PlaceSearch::new(payload, offender);
     for run in runs {
         search = search.past(*run);
     }
@@ -87,10 +98,7 @@ pub fn first_at_fault(payload: Payload, runs: &mut [ListedRun]) -> Option<u64>
     ensures taken { runs.new ≡ taken runs.old }
 {
     runs.sort_unstable_by_key(|run| run.track_key());
-    let mut search = PlaceSearch::new(payload, found_among(runs));
+    let offender = find_by_track(runs);
     runs.sort_unstable_by_key(|run| run.place_key());
-    for run in runs.iter() {
-        search = search.past(*run);
-    }
-    search.offender
+    find_by_place(payload, offender, runs)
 }
