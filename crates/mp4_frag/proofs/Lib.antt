@@ -1,0 +1,5 @@
+pub mod MarkLemmas
+pub mod PassLemmas
+pub mod RowLemmas
+pub mod TimeLemmas
+pub mod MoofLemmas

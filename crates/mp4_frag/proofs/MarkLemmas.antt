@@ -1,0 +1,70 @@
+-- What is marked at the place of a track_ID.
+use Rattle.std.proofs.Common.{◌≡◌, ◌∙◌, ◌<◌, ◌≤◌, ◌+◌, ◌-◌, ◌==◌, ℕ, zero, suc, Bool, true, false, cond, List, [], ◌∷◌, ◌++◌, length, take, drop, Option, Some, None, refl, sym, ap, arith}
+use Rattle.std.specs.Prelude.{replicate, slice_get, slice_index_or, slice_set}
+use Rattle.std.proofs.lemmas.List.{get_or_default, length-replicate, length-set, get_or-replicate, get_or-set_same, get_or-set_other}
+use Rattle.std.proofs.lemmas.Bool.Decides.{nat_tests}
+use Rattle.mp4_box.specs.Trees.{Box}
+use Rattle.mp4_init.proofs.SearchTreeLemmas.{is_same, same_test, other_test}
+use Rattle.mp4_frag.specs.Repeats.{traf_id, is_listed, place_if, descend, sought, marked_at, all_marked, marks}
+
+some_same : (a b : ℕ) → Some a ≡ Some b → a ≡ b
+some_same a b e = cc
+
+placed : (ids : List ℕ) (o : Option ℕ) (id at k : ℕ) → slice_get ids at ≡ o → place_if o id at ≡ Some k → slice_get ids k ≡ Some id
+placed ids None id at k g e = absurd cc
+placed ids (Some x) id at k g e = by (x == id) refl
+  where
+    by : (t : Bool) → (x == id) ≡ t → slice_get ids k ≡ Some id
+    by true s = let f : Some at ≡ Some k = ap (λ (u : Bool). cond u (Some at) None) (sym s) ∙ e in ap (slice_get ids) (sym (some_same at k f)) ∙ g ∙ ap (λ (n : ℕ). Some n) (is_same x id s)
+    by false s = let f : None ≡ Some k = ap (λ (u : Bool). cond u (Some at) None) (sym s) ∙ e in absurd cc
+
+-- the id stands where it is found
+pub found : (ids : List ℕ) (id k : ℕ) → sought ids id ≡ Some k → slice_get ids k ≡ Some id
+unfolding sought
+found ids id k e = let at = descend 17 65536 ids id 0 in placed ids (slice_get ids at) id at k refl e
+
+same_id : (ids : List ℕ) (x id k : ℕ) → sought ids x ≡ Some k → sought ids id ≡ Some k → x ≡ id
+same_id ids x id k e f = some_same x id (sym (found ids x k e) ∙ found ids id k f)
+
+pub length-marked_at : (seen : List Bool) (o : Option ℕ) → length (marked_at seen o) ≡ length seen
+length-marked_at seen None = refl
+length-marked_at seen (Some k) = length-set seen k true
+
+apart : (x id : ℕ) → (x == id) ≡ false → x ≡ id → ⊥
+apart x id e same = grind (arith, nat_tests)
+
+away : (ids : List ℕ) (seen : List Bool) (x id k : ℕ) (o : Option ℕ) → sought ids id ≡ Some k → sought ids x ≡ o → (x ≡ id → ⊥) → slice_index_or (marked_at seen o) k false ≡ slice_index_or seen k false
+away ids seen x id k None here e other = refl
+away ids seen x id k (Some j) here e other = get_or-set_other seen j k true false (λ same. other (same_id ids x id k (e ∙ ap (λ (n : ℕ). Some n) (sym same)) here))
+
+or_false : (t : Bool) → t ≡ cond t true false
+or_false true = refl
+or_false false = refl
+
+or_true : (t : Bool) → true ≡ cond t true true
+or_true true = refl
+or_true false = refl
+
+pub told : (ids : List ℕ) (seen : List Bool) (ts : List Box) (id k : ℕ) → sought ids id ≡ Some k → k < length seen
+    → slice_index_or (all_marked ids seen ts) k false ≡ cond (slice_index_or seen k false) true (is_listed id ts)
+unfolding all_marked is_listed
+told ids seen [] id k here within = or_false (slice_index_or seen k false)
+told ids seen (t ∷ ts) id k here within =
+    let next = marked_at seen (sought ids (traf_id t)) in
+    told ids next ts id k here (omega (arith, within, length-marked_at seen (sought ids (traf_id t)))) ∙ by (traf_id t == id) refl
+  where
+    by : (u : Bool) → (traf_id t == id) ≡ u → cond (slice_index_or (marked_at seen (sought ids (traf_id t))) k false) true (is_listed id ts) ≡ cond (slice_index_or seen k false) true (cond u true (is_listed id ts))
+    by true e =
+        ap (λ (o : Option ℕ). cond (slice_index_or (marked_at seen o) k false) true (is_listed id ts)) (ap (sought ids) (is_same (traf_id t) id e) ∙ here)
+        ∙ ap (λ (b : Bool). cond b true (is_listed id ts)) (get_or-set_same seen k true false within)
+        ∙ or_true (slice_index_or seen k false)
+    by false e = ap (λ (b : Bool). cond b true (is_listed id ts)) (away ids seen (traf_id t) id k (sought ids (traf_id t)) here refl (apart (traf_id t) id e))
+
+-- a mark tells whether one of these has the track_ID
+pub mark_tells : (n : ℕ) (ids : List ℕ) (seen : List Bool) (ts : List Box) (id k : ℕ) (d : Bool) → sought ids id ≡ Some k → length seen ≡ n → k < n → seen ≡ marks n ids ts → slice_index_or seen k d ≡ is_listed id ts
+unfolding marks
+mark_tells n ids seen ts id k d here len within e =
+    get_or_default seen k d false (omega (arith, len, within))
+    ∙ ap (λ (xs : List Bool). slice_index_or xs k false) e
+    ∙ told ids (replicate n false) ts id k here (omega (arith, within, length-replicate n false))
+    ∙ ap (λ (b : Bool). cond b true (is_listed id ts)) (get_or-replicate n k false false within)

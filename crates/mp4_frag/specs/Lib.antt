@@ -1,0 +1,12 @@
+pub mod Kinds
+pub mod Fields
+pub mod Mfhd
+pub mod Tfhd
+pub mod Tfdt
+pub mod Trun
+pub mod Rules
+pub mod Repeats
+pub mod Rows
+pub mod Runs
+pub mod Moofs
+pub mod Times

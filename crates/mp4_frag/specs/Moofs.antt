@@ -1,0 +1,80 @@
+-- What a moof comes to: its trafs, its runs and its samples, or its fault.
+use Rattle.std.specs.Prelude.{◌≡◌, ℕ, List, [], ◌∷◌, ◌++◌, ◌^◌, nat_lt, if◌then◌else◌, Option, Some, None}
+use Rattle.std.specs.List.{flat_map}
+use Rattle.std.specs.Option.{option_or, unwrap_or}
+use Rattle.mp4_box.specs.declared.headers.FourCc.{FourCc}
+use Rattle.mp4_box.specs.declared.headers.Size.TheVariants.{ToEnd}
+use Rattle.mp4_box.specs.declared.rules.Fault.{Fault}
+use Rattle.mp4_box.specs.declared.rules.Rule.TheVariants.{TimeRange}
+use Rattle.mp4_box.specs.Checks.{along}
+use Rattle.mp4_box.specs.Order.{least}
+use Rattle.mp4_box.specs.Trees.{Box, box_at, children, tree_faults, verdict}
+use Rattle.mp4_init.specs.declared.table.Track.{Track}
+use Rattle.mp4_init.specs.Moovs.{fault_of, or_else}
+use Rattle.mp4_frag.specs.Kinds.{to_tfhd, to_trun, trun}
+use Rattle.mp4_frag.specs.Rules.{child_faults, count_faults, form_faults, samples_of, tfhd_faults, trun_faults}
+use Rattle.mp4_frag.specs.Repeats.{repeat_faults}
+use Rattle.mp4_frag.specs.Runs.{Held, TrackFragment, runs_of, trafs_by}
+use Rattle.mp4_frag.specs.declared.run.Run.{Run}
+
+-- what stands for a box where the bytes are none
+abbrev pub no_box : Box
+no_box = record { header = record { kind = record { 0 = [] }; user = None; size = ToEnd; header_len = 0 }; offset = 0; payload = [] }
+
+-- the moof that the bytes are
+abbrev pub moof_of : Held → Box
+moof_of h = unwrap_or (box_at h.offset h.bytes) no_box
+
+-- its trafs, in order
+abbrev pub moof_trafs : Held → List Track → List TrackFragment
+moof_trafs h tracks = trafs_by h tracks (children (moof_of h))
+
+-- its runs, in listing order
+abbrev pub moof_runs : Held → List Track → List Run
+moof_runs h tracks = flat_map runs_of (moof_trafs h tracks)
+
+-- how many samples it has
+abbrev pub moof_samples : Held → ℕ
+moof_samples h = samples_of (moof_of h)
+
+-- ---- its fault
+
+-- what is at fault with the values of a moof whose boxes are as they must be, times aside
+unfoldable pub value_faults : List Track → Box → List Fault
+value_faults tracks m =
+    child_faults m
+    ++ repeat_faults m
+    ++ along (tfhd_faults tracks) to_tfhd m
+    ++ along trun_faults to_trun m
+    ++ count_faults m
+
+-- the trun of a run that ends past 64 bits
+abbrev pub late : Run → List Fault
+late run = if nat_lt run.end (2 ^ 64) then [] else record { rule = TimeRange; kind = Some trun; offset = run.offset } ∷ []
+
+-- the truns of a traf whose runs end past 64 bits
+abbrev pub time_faults_of : TrackFragment → List Fault
+time_faults_of t = flat_map late (runs_of t)
+
+-- those of all trafs
+abbrev pub time_faults : List TrackFragment → List Fault
+time_faults ts = flat_map time_faults_of ts
+
+-- the fault by all rules but the last, that of times: of its tree; else of its boxes; else of their values
+unfoldable pub early_fault : Held → List Track → Option Fault
+early_fault h tracks =
+    option_or (fault_of (verdict (tree_faults h.offset h.bytes)))
+    (option_or (least (form_faults (moof_of h))) (least (value_faults tracks (moof_of h))))
+
+-- the fault of the moof that the bytes are: times are looked at only where all else is good
+abbrev pub moof_fault : Held → List Track → Option Fault
+moof_fault h tracks = option_or (early_fault h tracks) (least (time_faults (moof_trafs h tracks)))
+
+-- all that is at fault with it, as far as it is looked at
+abbrev pub moof_faults : Held → List Track → List Fault
+moof_faults h tracks =
+    or_else (tree_faults h.offset h.bytes) (or_else (form_faults (moof_of h)) (or_else (value_faults tracks (moof_of h)) (time_faults (moof_trafs h tracks))))
+
+-- the moof was read without a fault, with these tracks
+abbrev pub IsRead : Held → List Track → Type 0
+IsRead h tracks = moof_fault h tracks ≡ None

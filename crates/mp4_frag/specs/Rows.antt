@@ -1,0 +1,63 @@
+-- The rows of a run: row i is group i of the fields that its flags name, and what isn't there has a default (ISO/IEC 14496-12, 8.8.7 and 8.8.8).
+use Rattle.std.specs.Prelude.{ℕ, ℤ, List, Option, Some, None, pos, ◌≡◌, ◌≤◌, ◌==◌, ◌+◌, ◌-◌, ◌*◌, ◌+ℤ◌, if◌then◌else◌, map, take}
+use Rattle.std.specs.List.{range_with_len, sum_by}
+use Rattle.std.specs.Option.{unwrap_or}
+use Rattle.byteorder.specs.Endian.{twos_complement}
+use Rattle.mp4_box.specs.Fields.{number_in}
+use Rattle.mp4_frag.specs.declared.run.Run.{Run}
+use Rattle.mp4_frag.specs.declared.rows.Row.{Row}
+use Rattle.mp4_frag.specs.declared.rows.Cursor.{Cursor}
+
+-- where group i begins in the bytes of the moof
+unfoldable pub group_at : Run → ℕ → ℕ
+group_at run i = run.samples_at + run.fields.len * i
+
+-- the field at a place of the group that begins at g, or what stands for a field that isn't there
+abbrev pub field_at : List ℕ → ℕ → Option ℕ → ℕ → ℕ
+field_at held g None usual = usual
+field_at held g (Some at) usual = number_in held (g + at)
+
+-- the flags of a sample that has none of its own: those of sample 0, where they are given, else the default
+abbrev pub usual_flags : Run → ℕ → ℕ
+usual_flags run i = if i == 0 then unwrap_or run.first_sample_flags run.flags else run.flags
+
+-- the offset of a composition time, which is unsigned at version 0
+abbrev pub offset_by : ℕ → ℕ → ℤ
+offset_by version n = if version == 0 then pos n else twos_complement 4 n
+
+abbrev pub offset_at : List ℕ → ℕ → ℕ → Option ℕ → ℤ
+offset_at held version g None = pos 0
+offset_at held version g (Some at) = offset_by version (number_in held (g + at))
+
+-- row i, of which the group begins at g
+abbrev pub row_from : Run → List ℕ → ℕ → ℕ → Row
+row_from run held i g = record {
+  duration = field_at held g run.fields.sample_duration run.duration;
+  size = field_at held g run.fields.sample_size run.size;
+  flags = field_at held g run.fields.sample_flags (usual_flags run i);
+  offset = offset_at held run.version g run.fields.sample_composition_time_offset;
+}
+
+unfoldable pub row_of : Run → List ℕ → ℕ → Row
+row_of run held i = row_from run held i (group_at run i)
+
+-- the rows from row i on
+abbrev pub rows_behind : Run → List ℕ → ℕ → List Row
+rows_behind run held i = map (row_of run held) (range_with_len i (run.count - i))
+
+-- all rows
+abbrev pub rows_of : Run → List ℕ → List Row
+rows_of run held = rows_behind run held 0
+
+-- the durations and the sizes of rows, added up
+abbrev pub durations : List Row → ℕ
+durations rows = sum_by (λ (row : Row). row.duration) rows
+
+abbrev pub sizes : List Row → ℕ
+sizes rows = sum_by (λ (row : Row). row.size) rows
+
+-- c stands before a row of the run, or behind the last, with the time and the place of that row
+pub record IsCursor (run : Run) (held : List ℕ) (c : Cursor) : Type 0 where
+  pub row : c.row ≤ run.count
+  pub time : c.time ≡ run.time + durations (take c.row (rows_of run held))
+  pub place : c.place ≡ run.place +ℤ pos (sizes (take c.row (rows_of run held)))

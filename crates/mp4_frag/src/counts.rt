@@ -1,0 +1,43 @@
+//! How many samples a moof has.
+
+ghost use Rattle.std.specs.Prelude.{◌≡◌, ◌∷◌, [], ◌≤◌, IfOk, OnOk, IfErr};
+ghost use Rattle.mp4_box.specs.Trees.{view};
+ghost use Rattle.mp4_frag.specs.Rules.{count_faults, most_samples, samples_of};
+
+use crate::kinds::{TRAF, TRUN};
+use crate::trun::sample_count;
+use mp4_box::{Along, BoxRef, Fault, Rule};
+
+/// So many samples may a moof have.
+const MOST_SAMPLES: u32 = 1_000_000;
+
+/// How many samples a moof has, or the first trun with which it has too many.
+#[tactic(auto, using(std::proofs::lemmas::List::Sums::sum_by_more), unfolding(crate::specs::Rules::too_many))]
+pub(crate) fn count_samples(moof: &BoxRef<'_>) -> Result<u32, Fault>
+    ensures count { IfOk result (λ n. n ≡ samples_of (view moof.now)) }
+    ensures few { IfOk result (λ n. n ≤ most_samples) }
+    ensures ok { OnOk result (count_faults (view moof.now) ≡ []) }
+    ensures err { IfErr result (λ f. count_faults (view moof.now) ≡ f ∷ []) }
+{
+    let mut count = 0;
+    for trun in Along::of(&[TRAF, TRUN], moof) {
+        let more = sample_count(trun.payload);
+        if more > MOST_SAMPLES - count {
+            return Err(trun.fault(Rule::TooManySamples));
+        }
+        count += more;
+    }
+    Ok(count)
+}
+
+/// How many samples a moof has that hasn't too many.
+pub(crate) fn samples_in(moof: &BoxRef<'_>) -> u32
+    requires { count_faults (view moof.now) ≡ [] }
+    ensures samples { result ≡ samples_of (view moof.now) }
+    ensures few { result ≤ most_samples }
+{
+    match count_samples(moof) {
+        Ok(count) => count,
+        Err(_) => unreachable!(),
+    }
+}

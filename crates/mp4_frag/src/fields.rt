@@ -1,0 +1,87 @@
+//! Fields that are there where a flag says so (ISO/IEC 14496-12, 4.2).
+
+ghost use Rattle.std.specs.Prelude.{◌≡◌, ◌≤◌, ◌<◌, ◌^◌, [], ◌∷◌};
+ghost use Rattle.mp4_box.specs.Fields.{number_in};
+ghost use Rattle.mp4_box.specs.Paths.{at_path};
+ghost use Rattle.mp4_box.specs.Trees.{first_of, view};
+ghost use Rattle.mp4_frag.specs.Fields.{flags_in, number_or, payload_of, place_if, signed_in, width_if};
+
+use mp4_box::{BoxRef, FourCc, first_at, full, i32_at, number_at, u32_at};
+
+/// The flags of a full box, 0 where they aren't all there.
+pub(crate) fn flags_of(payload: &[u8]) -> u32
+    ensures { result ≡ flags_in payload.now }
+{
+    match full(payload) {
+        Some((_, flags)) => flags,
+        None => 0,
+    }
+}
+
+/// How many bytes a field of 32 bits takes.
+pub(crate) fn width_if(is_there: bool) -> u32
+    ensures value { result ≡ width_if is_there }
+    ensures small { result ≤ 4 }
+{
+    if is_there { 4 } else { 0 }
+}
+
+/// Where a field stands that is there.
+pub(crate) fn place_if(is_there: bool, at: u32) -> Option<u32>
+    ensures { result ≡ place_if is_there at }
+{
+    if is_there { Some(at) } else { None }
+}
+
+/// The number of the field at a place, or what stands for a field that isn't there.
+pub(crate) fn number_or(payload: &[u8], at: Option<u32>, usual: u32) -> u32
+    ensures { result ≡ number_or payload.now at usual }
+{
+    match at {
+        Some(at) => number_at(payload, at),
+        None => usual,
+    }
+}
+
+/// The signed number in the four bytes at a place of a payload, 0 where they aren't all there.
+pub(crate) fn signed_at(payload: &[u8], at: u32) -> i32
+    ensures { result ≡ signed_in payload.now at }
+{
+    let at = at as usize;
+    if payload.len() < at + 4 {
+        return 0;
+    }
+    i32_at(payload, at)
+}
+
+/// The number in the four bytes at a place of the bytes of a moof, 0 where they aren't all there.
+pub(crate) fn number_from(held: &[u8], at: u128) -> u32
+    requires { at < 2 ^ 120 }
+    ensures { result ≡ number_in held.now at }
+{
+    if (held.len() as u128) < at + 4 {
+        return 0;
+    }
+    u32_at(held, at as usize)
+}
+
+/// The same as a signed number, in two's complement.
+pub(crate) fn signed_from(held: &[u8], at: u128) -> i64
+    requires { at < 2 ^ 120 }
+    ensures { result ≡ signed_in held.now at }
+{
+    if (held.len() as u128) < at + 4 {
+        return 0;
+    }
+    i64::from(i32_at(held, at as usize))
+}
+
+/// The payload of the first child of this type, empty where there is none.
+pub(crate) fn payload_at<'a>(kind: FourCc, this: &BoxRef<'a>) -> &'a [u8]
+    ensures { result.now ≡ payload_of (first_of (at_path (kind ∷ []) (view this.now))) }
+{
+    match first_at(&[kind], this) {
+        Some(found) => found.payload,
+        None => &[],
+    }
+}

@@ -1,0 +1,161 @@
+//! From the bytes of a moof to its runs.
+
+ghost use Rattle.std.specs.Prelude.{◌≡◌, ◌+◌, ◌^◌, ◌<◌, ◌≤◌, ◌↔◌, length, Some, None, Err, IfOk, OnOk, IfSome, IsSome};
+ghost use Rattle.std.specs.Option.{option_or};
+ghost use Rattle.mp4_box.specs.declared.rules.Fault.{Fault};
+ghost use Rattle.mp4_box.specs.Headers.{IsWhole};
+ghost use Rattle.mp4_box.specs.Order.{IsLeast, least, least_from};
+ghost use Rattle.mp4_box.specs.Trees.{view};
+ghost use Rattle.mp4_frag.specs.Moofs.{IsRead, early_fault, moof_fault, moof_faults, moof_of, moof_samples, moof_trafs, time_faults, value_faults};
+ghost use Rattle.mp4_frag.specs.Rules.{count_faults, form_faults, most_samples};
+ghost use Rattle.mp4_frag.specs.Runs.{Held};
+
+use crate::checks::{FlagsOnce, OfTrack};
+use crate::counts::samples_in;
+use crate::kinds::{TFHD, TRAF, TRUN};
+use crate::repeats::note_repeats;
+use crate::rows::Steps;
+use crate::rules::{note_children, note_count, note_forms};
+use crate::times::InTime;
+use mp4_box::{BoxRef, Fault, check_tree, note_along, whole_box};
+use mp4_init::TrackList;
+use std::marker::Model;
+
+/// A moof without a fault (ISO/IEC 14496-12, 8.8.4). It borrows its bytes, and nothing else.
+#[derive(Drop)]
+pub struct Moof<'a> {
+    held: &'a [u8],
+    offset: u64,
+}
+
+// A contract sees its bytes, and the offset of the first of them.
+impl<'a> Model for Moof<'a> {
+    ghost use Rattle.std.specs.Prelude.{◌≡◌, ◌+◌, ◌^◌, ◌≤◌, [], length};
+    ghost use Rattle.mp4_box.specs.Headers.{IsWhole};
+    ghost use Rattle.mp4_frag.specs.Moofs.{moof_of};
+    ghost use Rattle.mp4_frag.specs.Rules.{count_faults};
+    ghost use Rattle.mp4_frag.specs.Runs.{Held};
+
+    ghost Value = { Held };
+
+    ghost view = { λ m. record { bytes = m.held.now; offset = m.offset } };
+
+    ghost invariant = { λ m. IsWhole m.held.now × (m.offset + length m.held.now ≤ 2 ^ 62) ×
+        (count_faults (moof_of (record { bytes = m.held.now; offset = m.offset })) ≡ []) };
+}
+
+/// What is at fault with the values, times aside.
+#[tactic(auto, using(mp4_box::proofs::OrderLemmas::least_from_append), unfolding(crate::specs::Moofs::value_faults))]
+fn note_values(tracks: &TrackList, moof: &BoxRef<'_>, best: &mut Option<Fault>)
+    ensures { best.new ≡ least_from best.old (value_faults tracks.now (view moof.now)) }
+{
+    note_children(moof, best);
+    note_repeats(moof, best);
+    note_along(&OfTrack(tracks), &[TRAF, TFHD], moof, best);
+    note_along(&FlagsOnce, &[TRAF, TRUN], moof, best);
+    note_count(moof, best);
+}
+
+/// The fault of a moof whose tree is good, times aside.
+fn early_content_fault(tracks: &TrackList, moof: &BoxRef<'_>) -> Option<Fault>
+    ensures { result ≡ option_or (least (form_faults (view moof.now)))
+        (least (value_faults tracks.now (view moof.now))) }
+{
+    let mut best = None;
+    note_forms(moof, &mut best);
+    if best.is_none() {
+        note_values(tracks, moof, &mut best);
+    }
+    best
+}
+
+/// The fault of the moof that the bytes are, which begin at this offset, times aside.
+#[tactic(auto, using(crate::proofs::MoofLemmas::moof_is), unfolding(crate::specs::Moofs::early_fault))]
+fn early_fault(held: &[u8], offset: u64, tracks: &TrackList) -> Option<Fault>
+    requires whole { IsWhole held.now }
+    requires room { offset + length held.now ≤ 2 ^ 62 }
+    ensures fault { result ≡ early_fault (record { bytes = held.now; offset = offset }) tracks.now }
+    ensures least { IfSome result (λ f. IsLeast f
+        (moof_faults (record { bytes = held.now; offset = offset }) tracks.now)) }
+{
+    if let Err(fault) = check_tree(held, offset) {
+        return Some(fault);
+    }
+    early_content_fault(tracks, &whole_box(held, offset))
+}
+
+/// Which of the runs end past 64 bits: the first.
+#[tactic(auto, using(crate::proofs::MoofLemmas::times_along))]
+fn late_fault(held: &[u8], offset: u64, tracks: &TrackList, moof: &BoxRef<'_>) -> Option<Fault>
+    requires { moof_of (record { bytes = held.now; offset = offset }) ≡ view moof.now }
+    ensures { result ≡ least (time_faults (moof_trafs (record { bytes = held.now; offset = offset }) tracks.now)) }
+{
+    let check = InTime {
+        held,
+        moof: offset,
+        tracks,
+    };
+    let mut best = None;
+    note_along(&check, &[TRAF], moof, &mut best);
+    best
+}
+
+impl<'a> Moof<'a> {
+    /// The moof that the bytes are, one whole box of stated size that begins at `offset` in the stream. `tracks` are those
+    /// of its moov. Its samples are counted in `steps` as rows that were read, once all rules but that of times hold.
+    ///
+    /// # Errors
+    ///
+    /// The fault of the lowest rule that it breaks, at the box that begins first of those that break it. The rules of
+    /// its tree come first, then those of its boxes; their values are looked at only where the boxes are as they must
+    /// be, and the times of its runs only where the values are too.
+    pub fn read(
+        held: &'a [u8],
+        offset: u64,
+        tracks: &TrackList,
+        steps: &mut Steps,
+    ) -> Result<Moof<'a>, Fault>
+        requires whole { IsWhole held.now }
+        requires room { offset + length held.now ≤ 2 ^ 62 }
+        requires steps { steps.old.rows < 2 ^ 127 }
+        ensures moof { IfOk result (λ m. m ≡ record { bytes = held.now; offset = offset }) }
+        ensures good { OnOk result (IsRead (record { bytes = held.now; offset = offset }) tracks.now) }
+        ensures fault { (f : Fault) → (result ≡ Err f) ↔
+            (moof_fault (record { bytes = held.now; offset = offset }) tracks.now ≡ Some f) }
+        ensures least { (f : Fault) → result ≡ Err f → IsLeast f
+            (moof_faults (record { bytes = held.now; offset = offset }) tracks.now) }
+        ensures walked { early_fault (record { bytes = held.now; offset = offset }) tracks.now ≡ None →
+            steps.new.rows ≡ steps.old.rows + moof_samples (record { bytes = held.now; offset = offset }) }
+        ensures unwalked { IsSome (early_fault (record { bytes = held.now; offset = offset }) tracks.now) →
+            steps.new ≡ steps.old }
+    {
+        if let Some(fault) = early_fault(held, offset, tracks) {
+            return Err(fault);
+        }
+        let this = whole_box(held, offset);
+        let samples = samples_in(&this);
+        steps.rows += u128::from(samples);
+        if let Some(fault) = late_fault(held, offset, tracks, &this) {
+            return Err(fault);
+        }
+        Ok(Moof { held, offset })
+    }
+
+    /// The moof again that was read from these bytes with these tracks. It reads no row.
+    pub fn again(held: &'a [u8], offset: u64, tracks: &TrackList) -> Moof<'a>
+        requires whole { IsWhole held.now }
+        requires room { offset + length held.now ≤ 2 ^ 62 }
+        requires read { IsRead (record { bytes = held.now; offset = offset }) tracks.now }
+        ensures { result ≡ record { bytes = held.now; offset = offset } }
+    {
+        Moof { held, offset }
+    }
+
+    /// How many samples it has.
+    pub fn samples(&self) -> u32
+        ensures samples { result ≡ moof_samples self.now }
+        ensures few { result ≤ most_samples }
+    {
+        samples_in(&whole_box(self.held, self.offset))
+    }
+}

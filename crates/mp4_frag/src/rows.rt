@@ -1,0 +1,161 @@
+//! The rows of a run, one for each sample.
+
+ghost use Rattle.std.specs.Prelude.{◌≡◌, ◌+◌, ◌*◌, ◌<◌, ◌≤◌, ◌^◌, drop};
+ghost use Rattle.std.specs.Iterator.{YieldsFirst, item_count};
+ghost use Rattle.mp4_frag.specs.Rows.{IsCursor, field_at, offset_at, row_of, rows_behind, rows_of, usual_flags};
+
+use crate::fields::{number_from, signed_from};
+use crate::run::Run;
+use std::marker::Model;
+
+/// What a run says of one sample.
+#[derive(Clone, Copy, Debug, PartialEq, Eq)]
+pub struct Row {
+    /// Its duration in ticks.
+    pub duration: u32,
+    /// Its size in bytes.
+    pub size: u32,
+    /// Its flags (ISO/IEC 14496-12, 8.8.3).
+    pub flags: u32,
+    /// How far its composition time lies behind its decode time, in ticks.
+    pub offset: i64,
+}
+
+/// How many rows were read.
+#[derive(Clone, Copy, Debug, PartialEq, Eq)]
+pub struct Steps {
+    pub rows: u128,
+}
+
+/// A place in a run: before a row, or behind the last.
+#[derive(Clone, Copy, Debug, PartialEq, Eq)]
+pub struct Cursor {
+    /// The index of the row, from 0 on.
+    pub row: u32,
+    /// The decode time there, in ticks.
+    pub time: u64,
+    /// The offset in the stream of the sample's first byte.
+    pub place: i128,
+}
+
+/// Goes over rows of a run.
+#[derive(Drop)]
+pub struct Rows<'a> {
+    run: Run,
+    held: &'a [u8],
+    index: u32,
+}
+
+// A contract sees the rows that are left.
+impl<'a> Model for Rows<'a> {
+    ghost use Rattle.std.specs.Prelude.{◌≤◌, List};
+    ghost use Rattle.mp4_frag.specs.declared.rows.Row.{Row};
+    ghost use Rattle.mp4_frag.specs.Rows.{rows_behind};
+
+    ghost Value = { List Row };
+
+    ghost view = { λ r. rows_behind r.run r.held.now r.index };
+
+    ghost invariant = { λ r. r.index ≤ r.run.count };
+}
+
+/// The field of a group at a place, or what stands for a field that isn't there.
+fn field_at(held: &[u8], group: u128, at: Option<u32>, usual: u32) -> u32
+    requires { group < 2 ^ 100 }
+    ensures { result ≡ field_at held.now group at usual }
+{
+    match at {
+        Some(at) => number_from(held, group + u128::from(at)),
+        None => usual,
+    }
+}
+
+/// The composition time offset of a group, 0 where it has none: unsigned at version 0.
+fn offset_at(held: &[u8], version: u8, group: u128, at: Option<u32>) -> i64
+    requires { group < 2 ^ 100 }
+    ensures { result ≡ offset_at held.now version group at }
+{
+    let Some(at) = at else {
+        return 0;
+    };
+    let at = group + u128::from(at);
+    if version == 0 {
+        i64::from(number_from(held, at))
+    } else {
+        signed_from(held, at)
+    }
+}
+
+impl Run {
+    /// The flags of a sample that has none of its own.
+    fn usual_flags(&self, i: u32) -> u32
+        ensures { result ≡ usual_flags self.now i }
+    {
+        if i == 0 {
+            self.first_sample_flags.unwrap_or(self.flags)
+        } else {
+            self.flags
+        }
+    }
+
+    /// The row at this index.
+    #[tactic(auto, unfolding(crate::specs::Rows::row_of, crate::specs::Rows::group_at))]
+    fn row(&self, held: &[u8], i: u32) -> Row
+        ensures { result ≡ row_of self.now held.now i }
+    {
+        let group = u128::from(self.samples_at) + u128::from(self.fields.len) * u128::from(i);
+        let fields = self.fields;
+        Row {
+            duration: field_at(held, group, fields.sample_duration, self.duration),
+            size: field_at(held, group, fields.sample_size, self.size),
+            flags: field_at(held, group, fields.sample_flags, self.usual_flags(i)),
+            offset: offset_at(
+                held,
+                self.version,
+                group,
+                fields.sample_composition_time_offset,
+            ),
+        }
+    }
+
+    /// The rows of the run, in order. `held` are the bytes of its moof.
+    pub fn rows<'a>(&self, held: &'a [u8]) -> Rows<'a>
+        ensures { result ≡ rows_of self.now held.now }
+    {
+        Rows {
+            run: *self,
+            held,
+            index: 0,
+        }
+    }
+
+    /// The rows of the run from a cursor on. `held` are the bytes of its moof.
+    #[tactic(auto, using(crate::proofs::RowLemmas::rows_dropped))]
+    pub fn rows_from<'a>(&self, held: &'a [u8], cursor: Cursor) -> Rows<'a>
+        requires cursor { IsCursor self.now held.now cursor }
+        ensures { result ≡ drop cursor.row (rows_of self.now held.now) }
+    {
+        Rows {
+            run: *self,
+            held,
+            index: cursor.row,
+        }
+    }
+}
+
+impl<'a> Iterator for Rows<'a> {
+    type Item = Row;
+
+    ghost next_gives = { YieldsFirst (λ rest. rest) };
+
+    ghost remaining = { item_count (λ rest. rest) };
+
+    fn next(&mut self) -> Option<Row> {
+        if self.index == self.run.count {
+            return None;
+        }
+        let row = self.run.row(self.held, self.index);
+        self.index += 1;
+        Some(row)
+    }
+}
