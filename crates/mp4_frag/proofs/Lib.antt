@@ -3,3 +3,4 @@ pub mod PassLemmas
 pub mod RowLemmas
 pub mod TimeLemmas
 pub mod MoofLemmas
+pub mod BoxOrderLemmas

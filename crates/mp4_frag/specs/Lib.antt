@@ -10,3 +10,4 @@ pub mod Rows
 pub mod Runs
 pub mod Moofs
 pub mod Times
+pub mod RunRows

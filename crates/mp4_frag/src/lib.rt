@@ -11,6 +11,7 @@ mod repeats;
 mod rows;
 mod rules;
 mod run;
+mod run_row;
 mod runs;
 mod sums;
 mod tfdt;

@@ -1,0 +1,61 @@
+-- What a row of a list keeps of a run. The rest of it is read in its trun and in the tfhd of its traf.
+use Rattle.std.specs.Prelude.{ℕ, ℤ, pos, List, drop, ◌-◌, slice_index}
+use Rattle.std.specs.Option.{unwrap_or}
+use lib.IntN.{◌-ℤ◌}
+use Rattle.mp4_box.specs.Trees.{Box, box_at}
+use Rattle.mp4_init.specs.declared.table.Track.{Track}
+use Rattle.mp4_init.specs.Rows.{lower, upper}
+use Rattle.mp4_run_order.specs.declared.runs.ListedRun.{ListedRun}
+use Rattle.mp4_frag.specs.declared.run.Run.{Run}
+use Rattle.mp4_frag.specs.declared.run_row.RunRow.{RunRow}
+use Rattle.mp4_frag.specs.Moofs.{no_box}
+use Rattle.mp4_frag.specs.Runs.{Held, header_by, known_track, run_at}
+use Rattle.mp4_frag.specs.Tfhd.{track_id}
+
+-- how it stands in eight numbers
+unfoldable pub row_of_words : List ℕ → RunRow
+row_of_words w = record {
+  place = pos (slice_index w 0) -ℤ pos 9223372036854775808;
+  trun = slice_index w 1;
+  time = slice_index w 2;
+  end = slice_index w 3;
+  bytes = slice_index w 4;
+  traf_ends_at = slice_index w 5;
+  tfhd = slice_index w 6;
+  track = upper (slice_index w 7);
+  count = lower (slice_index w 7);
+}
+
+-- what the order of runs depends on
+abbrev pub listed_row : RunRow → ListedRun
+listed_row r = record { number = r.trun; track = r.track; count = r.count; place = r.place; bytes = r.bytes }
+
+abbrev pub listed_run : Run → ListedRun
+listed_run run = record { number = run.offset; track = run.track; count = run.count; place = run.place; bytes = run.bytes }
+
+-- the box of a moof that begins at this offset
+unfoldable pub box_in : Held → ℕ → Box
+box_in h offset = unwrap_or (box_at offset (drop (offset - h.offset) h.bytes)) no_box
+
+-- the run of a trun, whose time is known, but for its place, its end and its bytes
+abbrev pub reread_at : Held → List Track → RunRow → Box → Box → Run
+reread_at h tracks r trun tfhd =
+    run_at (record { moof = h; header = header_by (known_track (track_id tfhd.payload) tracks) tfhd.payload; ends_at = r.traf_ends_at }) r.time (pos 0) trun
+
+-- the run of a row, in a moof that is held
+unfoldable pub run_of_row : Held → List Track → RunRow → Run
+run_of_row h tracks r = record (reread_at h tracks r (box_in h r.trun) (box_in h r.tfhd)) { place = r.place; end = r.end; bytes = r.bytes }
+
+-- the row of a run, whose traf has its tfhd at this offset
+abbrev pub row_of_run : ℕ → Run → RunRow
+row_of_run tfhd run = record {
+  place = run.place;
+  trun = run.offset;
+  time = run.time;
+  end = run.end;
+  bytes = run.bytes;
+  traf_ends_at = run.traf_ends_at;
+  tfhd = tfhd;
+  track = run.track;
+  count = run.count;
+}
