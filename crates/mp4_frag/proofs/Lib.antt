@@ -4,3 +4,5 @@ pub mod RowLemmas
 pub mod TimeLemmas
 pub mod MoofLemmas
 pub mod BoxOrderLemmas
+pub mod RunRowLemmas
+pub mod RunListLemmas

@@ -11,3 +11,4 @@ pub mod Runs
 pub mod Moofs
 pub mod Times
 pub mod RunRows
+pub mod RunLists

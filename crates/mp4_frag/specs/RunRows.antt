@@ -1,11 +1,12 @@
 -- What a row of a list keeps of a run. The rest of it is read in its trun and in the tfhd of its traf.
-use Rattle.std.specs.Prelude.{ℕ, ℤ, pos, List, drop, ◌-◌, slice_index}
+use Rattle.std.specs.Prelude.{ℕ, ℤ, pos, List, drop, map, ◌-◌, slice_index}
 use Rattle.std.specs.Option.{unwrap_or}
 use lib.IntN.{◌-ℤ◌}
 use Rattle.mp4_box.specs.Trees.{Box, box_at}
 use Rattle.mp4_init.specs.declared.table.Track.{Track}
 use Rattle.mp4_init.specs.Rows.{lower, upper}
 use Rattle.mp4_run_order.specs.declared.runs.ListedRun.{ListedRun}
+use Rattle.mp4_run_order.specs.Orders.{place_key, track_key}
 use Rattle.mp4_frag.specs.declared.run.Run.{Run}
 use Rattle.mp4_frag.specs.declared.run_row.RunRow.{RunRow}
 use Rattle.mp4_frag.specs.Moofs.{no_box}
@@ -32,6 +33,17 @@ listed_row r = record { number = r.trun; track = r.track; count = r.count; place
 
 abbrev pub listed_run : Run → ListedRun
 listed_run run = record { number = run.offset; track = run.track; count = run.count; place = run.place; bytes = run.bytes }
+
+-- the runs of rows, as the order of runs sees them
+abbrev pub listed_words : List (List ℕ) → List ListedRun
+listed_words ws = map (λ (w : List ℕ). listed_row (row_of_words w)) ws
+
+-- by which numbers rows are sorted
+abbrev pub track_word : List ℕ → ℕ
+track_word w = track_key (listed_row (row_of_words w))
+
+abbrev pub place_word : List ℕ → ℕ
+place_word w = place_key (listed_row (row_of_words w))
 
 -- the box of a moof that begins at this offset
 unfoldable pub box_in : Held → ℕ → Box

@@ -5,6 +5,7 @@ mod checks;
 mod counts;
 mod fields;
 mod kinds;
+mod listed;
 mod mfhd;
 mod moof;
 mod repeats;
