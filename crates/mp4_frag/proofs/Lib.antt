@@ -6,3 +6,7 @@ pub mod MoofLemmas
 pub mod BoxOrderLemmas
 pub mod RunRowLemmas
 pub mod RunListLemmas
+pub mod RangeLemmas
+pub mod PlaceLemmas
+pub mod SoundLemmas
+pub mod RunLemmas

@@ -12,3 +12,4 @@ pub mod Moofs
 pub mod Times
 pub mod RunRows
 pub mod RunLists
+pub mod Ranges

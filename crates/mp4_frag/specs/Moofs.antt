@@ -48,9 +48,12 @@ value_faults tracks m =
     ++ along trun_faults to_trun m
     ++ count_faults m
 
--- the trun of a run that ends past 64 bits
+-- the fault of a run that ends past 64 bits: its trun
+abbrev pub late_fault : Run → Fault
+late_fault run = record { rule = TimeRange; kind = Some trun; offset = run.offset }
+
 abbrev pub late : Run → List Fault
-late run = if nat_lt run.end (2 ^ 64) then [] else record { rule = TimeRange; kind = Some trun; offset = run.offset } ∷ []
+late run = if nat_lt run.end (2 ^ 64) then [] else late_fault run ∷ []
 
 -- the truns of a traf whose runs end past 64 bits
 abbrev pub time_faults_of : TrackFragment → List Fault

@@ -3,10 +3,12 @@ use Rattle.std.specs.Prelude.{ℕ, ℤ, pos, List, [], ◌∷◌, Option, Some, 
 use Rattle.std.specs.List.{flat_map, fold}
 use Rattle.std.specs.Option.{unwrap_or}
 use Rattle.mp4_box.specs.Fields.{version_in}
-use Rattle.mp4_box.specs.Trees.{Box, children, first_of, payload_offset}
+use Rattle.mp4_box.specs.declared.box_ref.BoxRef.{BoxRef}
+use Rattle.mp4_box.specs.Trees.{Box, children, first_of, payload_offset, view}
 use Rattle.mp4_box.specs.Paths.{of_kind, at_path}
 use Rattle.mp4_init.specs.declared.table.Track.{Track}
 use Rattle.mp4_frag.specs.declared.run.Run.{Run}
+use Rattle.mp4_frag.specs.declared.runs.Behind.{Behind}
 use Rattle.mp4_frag.specs.declared.traf.TrafHeader.{TrafHeader}
 use Rattle.mp4_frag.specs.declared.traf.TrafContext.{TrafContext}
 use Rattle.mp4_frag.specs.Kinds.{traf, tfhd, tfdt, trun}
@@ -148,3 +150,11 @@ end_of t = last_end t.time (runs_of t)
 -- a context, without where its bytes lie in memory
 abbrev pub shared_of : TrafContext → Shared
 shared_of c = record { moof = record { bytes = c.held.now; offset = c.moof }; header = c.header; ends_at = c.ends_at }
+
+-- the runs of the truns that are left, behind the runs so far
+abbrev pub runs_left : TrafContext → Behind → List Box → List Run
+runs_left c behind bs = runs_from (shared_of c) behind.time behind.place (of_kind trun bs)
+
+-- a traf, of which this is the box
+abbrev pub fragment_of : TrafContext → ℕ → BoxRef → TrackFragment
+fragment_of c time b = record { shared = shared_of c; time = time; truns = of_kind trun (children (view b)) }

@@ -17,6 +17,7 @@ use crate::repeats::note_repeats;
 use crate::rows::Steps;
 use crate::rules::{note_children, note_count, note_forms};
 use crate::times::InTime;
+use crate::traf::Trafs;
 use mp4_box::{BoxRef, Fault, check_tree, note_along, whole_box};
 use mp4_init::TrackList;
 use std::marker::Model;
@@ -100,6 +101,17 @@ fn late_fault(held: &[u8], offset: u64, tracks: &TrackList, moof: &BoxRef<'_>) -
     best
 }
 
+/// The trafs of the moof that the bytes are, which begin at this offset.
+#[tactic(auto, using(crate::proofs::MoofLemmas::moof_is))]
+fn trafs_in<'a>(held: &'a [u8], offset: u64, tracks: &'a TrackList) -> Trafs<'a>
+    requires whole { IsWhole held.now }
+    requires room { offset + length held.now ≤ 2 ^ 62 }
+    requires read { IsRead (record { bytes = held.now; offset = offset }) tracks.now }
+    ensures { result ≡ moof_trafs (record { bytes = held.now; offset = offset }) tracks.now }
+{
+    Trafs::of(held, offset, tracks, &whole_box(held, offset))
+}
+
 impl<'a> Moof<'a> {
     /// The moof that the bytes are, one whole box of stated size that begins at `offset` in the stream. `tracks` are those
     /// of its moov. Its samples are counted in `steps` as rows that were read, once all rules but that of times hold.
@@ -157,5 +169,13 @@ impl<'a> Moof<'a> {
         ensures few { result ≤ most_samples }
     {
         samples_in(&whole_box(self.held, self.offset))
+    }
+    /// Its trafs, in order (ISO/IEC 14496-12, 8.8.6). `tracks` are those that it was read with. They borrow its bytes and not the
+    /// Moof.
+    pub fn trafs(&self, tracks: &'a TrackList) -> Trafs<'a>
+        requires { IsRead self.now tracks.now }
+        ensures { result ≡ moof_trafs self.now tracks.now }
+    {
+        trafs_in(self.held, self.offset, tracks)
     }
 }

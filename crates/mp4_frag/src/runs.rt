@@ -1,10 +1,13 @@
 //! From the truns of a traf to its runs.
 
-ghost use Rattle.std.specs.Prelude.{◌≡◌, ◌+◌, ◌∷◌, [], ◌<◌, ◌^◌, length, pos, None, IfSome};
+ghost use Rattle.std.specs.Prelude.{◌≡◌, ◌+◌, ◌∷◌, [], ◌<◌, ◌^◌, length, pos, option_to_list, None, IfNone, IfSome, ◌++◌};
+ghost use Rattle.std.specs.List.{AllByRecursion};
+ghost use Rattle.std.specs.Iterator.{YieldsFirst, item_count};
 ghost use Rattle.mp4_box.specs.Trees.{view};
-ghost use Rattle.mp4_box.specs.Paths.{of_kind};
+ghost use Rattle.mp4_box.specs.Paths.{of_kind, seen_of};
 ghost use Rattle.mp4_frag.specs.Kinds.{trun};
-ghost use Rattle.mp4_frag.specs.Runs.{run_at, run_of, shared_of, start_by};
+ghost use Rattle.mp4_frag.specs.Ranges.{InRange};
+ghost use Rattle.mp4_frag.specs.Runs.{end_place, run_at, run_of, runs_left, shared_of, start_by};
 ghost use Rattle.mp4_frag.specs.Times.{ticks_in};
 
 use crate::fields::flags_of;
@@ -13,7 +16,17 @@ use crate::run::Run;
 use crate::sums::{sums_of, ticks_of};
 use crate::traf::{TrafContext, end_in};
 use crate::trun::{data_offset, first_sample_flags, sample_count, sample_fields, trun_fields};
-use mp4_box::{BoxRef, Walk, version_of};
+use mp4_box::{BoxRef, FourCc, Walk, version_of};
+use std::marker::Model;
+
+/// Where the runs of a traf end so far, and the next may begin.
+#[derive(Clone, Copy)]
+pub struct Behind {
+    /// In time, in ticks.
+    pub time: u64,
+    /// The offset in the stream.
+    pub place: i128,
+}
 
 /// Where a run begins: so far behind the first byte of the moof, or where the run before it ends.
 fn start_by(moof: u64, last: i128, offset: Option<i32>) -> i128
@@ -27,8 +40,9 @@ fn start_by(moof: u64, last: i128, offset: Option<i32>) -> i128
 
 /// The run of a trun, but for its end and its bytes.
 #[tactic(auto, unfolding(crate::specs::Runs::run_at))]
-fn run_at(context: &TrafContext<'_>, time: u64, last: i128, trun: &BoxRef<'_>) -> Run
-    ensures { result ≡ run_at (shared_of context.now) time last (view trun.now) }
+fn run_at(context: &TrafContext<'_>, behind: &Behind, trun: &BoxRef<'_>) -> Run
+    ensures { result ≡ run_at (shared_of context.now) behind.now.time behind.now.place
+        (view trun.now) }
 {
     let flags = flags_of(trun.payload);
     let payload_at = (trun.offset + trun.header.header_len).saturating_sub(context.moof);
@@ -37,9 +51,9 @@ fn run_at(context: &TrafContext<'_>, time: u64, last: i128, trun: &BoxRef<'_>) -
         entry: context.header.entry,
         version: version_of(trun.payload),
         count: sample_count(trun.payload),
-        time,
-        end: time,
-        place: start_by(context.moof, last, data_offset(trun.payload)),
+        time: behind.time,
+        end: behind.time,
+        place: start_by(context.moof, behind.place, data_offset(trun.payload)),
         bytes: 0,
         offset: trun.offset,
         duration: context.header.duration,
@@ -58,34 +72,101 @@ fn run_at(context: &TrafContext<'_>, time: u64, last: i128, trun: &BoxRef<'_>) -
 pub(crate) fn ticks_in(context: &TrafContext<'_>, trun: &BoxRef<'_>) -> u64
     ensures { result ≡ ticks_in (shared_of context.now) (view trun.now) }
 {
-    ticks_of(&run_at(context, 0, 0, trun), context.held)
+    let start = Behind { time: 0, place: 0 };
+    ticks_of(&run_at(context, &start, trun), context.held)
 }
 
 /// The run of a trun.
 #[tactic(auto, unfolding(crate::specs::Runs::run_of))]
-pub(crate) fn run_of(context: &TrafContext<'_>, time: u64, last: i128, trun: &BoxRef<'_>) -> Run
-    requires { time + ticks_in (shared_of context.now) (view trun.now) < 2 ^ 64 }
-    ensures { result ≡ run_of (shared_of context.now) time last (view trun.now) }
+pub(crate) fn run_of(context: &TrafContext<'_>, behind: &Behind, trun: &BoxRef<'_>) -> Run
+    requires { behind.now.time + ticks_in (shared_of context.now) (view trun.now) < 2 ^ 64 }
+    ensures { result ≡ run_of (shared_of context.now) behind.now.time behind.now.place
+        (view trun.now) }
 {
-    let mut run = run_at(context, time, last, trun);
+    let mut run = run_at(context, behind, trun);
     let sums = sums_of(&run, context.held);
-    run.end = time + sums.ticks;
+    run.end = behind.time + sums.ticks;
     run.bytes = sums.bytes;
     run
 }
 
-/// The next trun among the children that are left.
-pub(crate) fn next_trun<'a>(walk: &mut Walk<'a>) -> Option<BoxRef<'a>>
-    ensures some { IfSome result (λ b. of_kind trun walk.old ≡ view b ∷ of_kind trun walk.new) }
-    ensures none { result ≡ None → of_kind trun walk.old ≡ [] }
+/// The next box of this type among those that are left.
+pub(crate) fn next_of<'a>(kind: FourCc, walk: &mut Walk<'a>) -> Option<BoxRef<'a>>
+    ensures first { of_kind kind walk.old ≡ seen_of result ++ of_kind kind walk.new }
+    ensures none { IfNone result (of_kind kind walk.new ≡ []) }
     ensures fewer { IfSome result (λ b. length walk.new < length walk.old) }
 {
     loop {
         let Some(child) = walk.next() else {
             return None;
         };
-        if child.header.kind.0.as_slice() == TRUN.0.as_slice() {
+        if child.header.kind.0.as_slice() == kind.0.as_slice() {
             return Some(child);
         }
+    }
+}
+
+/// Goes over the runs of a traf.
+#[derive(Drop)]
+pub struct Runs<'a> {
+    pub(crate) context: TrafContext<'a>,
+    /// Where the runs so far end.
+    pub(crate) behind: Behind,
+    /// The children that are left.
+    pub(crate) walk: Walk<'a>,
+}
+
+// A contract sees the runs that are left.
+impl<'a> Model for Runs<'a> {
+    ghost use Rattle.std.specs.Prelude.{List};
+    ghost use Rattle.std.specs.List.{AllByRecursion};
+    ghost use Rattle.mp4_frag.specs.declared.run.Run.{Run};
+    ghost use Rattle.mp4_frag.specs.Ranges.{InRange};
+    ghost use Rattle.mp4_frag.specs.Runs.{runs_left};
+
+    ghost Value = { List Run };
+
+    ghost view = { λ r. runs_left r.context r.behind r.walk };
+
+    ghost invariant = { λ r. AllByRecursion InRange (runs_left r.context r.behind r.walk) };
+}
+
+/// Where a run ends.
+pub(crate) fn behind_run(run: &Run) -> Behind
+    requires { InRange run.now }
+    ensures time { result.time ≡ run.now.end }
+    ensures place { result.place ≡ end_place run.now }
+{
+    Behind {
+        time: run.end,
+        place: run.place + i128::from(run.bytes),
+    }
+}
+
+/// The run of the next trun among the children that are left, behind the runs so far.
+fn next_run<'a>(context: &TrafContext<'a>, behind: &mut Behind, walk: &mut Walk<'a>) -> Option<Run>
+    requires range { AllByRecursion InRange (runs_left context.now behind.old walk.old) }
+    ensures first { runs_left context.now behind.old walk.old ≡
+        option_to_list result ++ runs_left context.now behind.new walk.new }
+    ensures none { IfNone result (runs_left context.now behind.new walk.new ≡ []) }
+    ensures range { AllByRecursion InRange (runs_left context.now behind.new walk.new) }
+{
+    let Some(trun) = next_of(TRUN, walk) else {
+        return None;
+    };
+    let run = run_of(context, behind, &trun);
+    *behind = behind_run(&run);
+    Some(run)
+}
+
+impl<'a> Iterator for Runs<'a> {
+    type Item = Run;
+
+    ghost next_gives = { YieldsFirst (λ rest. rest) };
+
+    ghost remaining = { item_count (λ rest. rest) };
+
+    fn next(&mut self) -> Option<Run> {
+        next_run(&self.context, &mut self.behind, &mut self.walk)
     }
 }

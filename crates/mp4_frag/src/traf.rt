@@ -1,16 +1,21 @@
 //! What a track fragment says of its runs.
 
-ghost use Rattle.std.specs.Prelude.{◌≡◌, []};
-ghost use Rattle.mp4_box.specs.Trees.{view};
-ghost use Rattle.mp4_frag.specs.Runs.{base_of, end_in, header_by, known_track, shared_by, shared_of, tfhd_of, track_of};
+ghost use Rattle.std.specs.Prelude.{◌≡◌, ◌<◌, ◌^◌, [], ◌++◌, option_to_list, IfNone};
+ghost use Rattle.std.specs.Iterator.{YieldsFirst, item_count};
+ghost use Rattle.std.specs.List.{AllByRecursion};
+ghost use Rattle.mp4_box.specs.Trees.{children, view};
+ghost use Rattle.mp4_frag.specs.Ranges.{InRange, IsSound};
+ghost use Rattle.mp4_frag.specs.Runs.{base_of, end_in, fragment_of, header_by, known_track, runs_of, shared_by, shared_of, track_of, trafs_by};
 
 use crate::checks::{entry_of, track_with};
 use crate::fields::{flags_of, number_or, payload_at};
-use crate::kinds::{TFDT, TFHD};
+use crate::kinds::{TFDT, TFHD, TRAF};
+use crate::runs::{Behind, Runs, next_of};
 use crate::tfdt::base_media_decode_time;
 use crate::tfhd::{tfhd_fields, track_id};
-use mp4_box::{BoxRef, first_at};
+use mp4_box::{BoxRef, Walk, first_at};
 use mp4_init::{Track, TrackList};
+use std::marker::Model;
 
 /// What the tfhd of a traf says, and else its track.
 #[derive(Clone, Copy)]
@@ -61,7 +66,8 @@ pub(crate) fn known_track(tracks: &TrackList, id: u32) -> Track
 
 /// What a tfhd says, and else its track.
 pub(crate) fn header_by(track: Track, tfhd: &[u8]) -> TrafHeader
-    ensures { result ≡ header_by track tfhd.now }
+    ensures header { result ≡ header_by track tfhd.now }
+    ensures small { result.size < 2 ^ 32 }
 {
     let fields = tfhd_fields(flags_of(tfhd));
     TrafHeader {
@@ -104,13 +110,148 @@ pub(crate) fn context_of<'a>(
     track: Track,
     traf: &BoxRef<'_>,
 ) -> TrafContext<'a>
-    ensures { shared_of result ≡ shared_by (record { bytes = held.now; offset = moof }) track
+    ensures shared { shared_of result ≡ shared_by (record { bytes = held.now; offset = moof }) track
         (view traf.now) }
+    ensures small { result.header.size < 2 ^ 32 }
 {
     TrafContext {
         held,
         moof,
         header: header_by(track, payload_at(TFHD, traf)),
         ends_at: end_in(moof, traf),
+    }
+}
+
+/// A track fragment of a moof without a fault (ISO/IEC 14496-12, 8.8.6).
+#[derive(Drop)]
+pub struct Traf<'a> {
+    context: TrafContext<'a>,
+    /// Its base time.
+    time: u64,
+    this: BoxRef<'a>,
+}
+
+// A contract sees what its runs share, its base time and its truns.
+impl<'a> Model for Traf<'a> {
+    ghost use Rattle.std.specs.List.{AllByRecursion};
+    ghost use Rattle.mp4_frag.specs.Ranges.{InRange};
+    ghost use Rattle.mp4_frag.specs.Runs.{TrackFragment, fragment_of, runs_of};
+
+    ghost Value = { TrackFragment };
+
+    ghost view = { λ t. fragment_of t.context t.time t.this };
+
+    ghost invariant = { λ t. AllByRecursion InRange
+        (runs_of (fragment_of t.context t.time t.this)) };
+}
+
+impl<'a> Traf<'a> {
+    /// The traf that this box is.
+    fn of(context: &TrafContext<'a>, time: u64, this: &BoxRef<'a>) -> Traf<'a>
+        requires { AllByRecursion InRange (runs_of (fragment_of context.now time this.now)) }
+        ensures { result ≡ fragment_of context.now time this.now }
+    {
+        Traf {
+            context: *context,
+            time,
+            this: *this,
+        }
+    }
+
+    /// Its runs, in order (ISO/IEC 14496-12, 8.8.8).
+    pub fn runs(&self) -> Runs<'a>
+        ensures { result ≡ runs_of self.now }
+    {
+        Runs {
+            context: self.context,
+            behind: Behind {
+                time: self.time,
+                place: i128::from(self.context.moof),
+            },
+            walk: Walk::of(&self.this),
+        }
+    }
+}
+
+/// Goes over the trafs of a moof.
+#[derive(Drop)]
+pub struct Trafs<'a> {
+    held: &'a [u8],
+    moof: u64,
+    tracks: &'a TrackList,
+    /// The children that are left.
+    walk: Walk<'a>,
+}
+
+// A contract sees the trafs that are left.
+impl<'a> Model for Trafs<'a> {
+    ghost use Rattle.std.specs.Prelude.{List};
+    ghost use Rattle.std.specs.List.{AllByRecursion};
+    ghost use Rattle.mp4_frag.specs.Ranges.{InRange, IsSound};
+    ghost use Rattle.mp4_frag.specs.Runs.{TrackFragment, trafs_by};
+
+    ghost Value = { List TrackFragment };
+
+    ghost view = { λ t. trafs_by (record { bytes = t.held.now; offset = t.moof }) t.tracks.now t.walk };
+
+    ghost invariant = { λ t. AllByRecursion IsSound
+        (trafs_by (record { bytes = t.held.now; offset = t.moof }) t.tracks.now t.walk) };
+}
+
+impl<'a> Trafs<'a> {
+    /// The trafs among the children of a box, in the moof that begins at this offset.
+    pub(crate) fn of(
+        held: &'a [u8],
+        moof: u64,
+        tracks: &'a TrackList,
+        this: &BoxRef<'a>,
+    ) -> Trafs<'a>
+        requires { AllByRecursion IsSound (trafs_by (record { bytes = held.now; offset = moof })
+            tracks.now (children (view this.now))) }
+        ensures { result ≡ trafs_by (record { bytes = held.now; offset = moof }) tracks.now
+            (children (view this.now)) }
+    {
+        Trafs {
+            held,
+            moof,
+            tracks,
+            walk: Walk::of(this),
+        }
+    }
+}
+
+/// The next traf among the children that are left.
+fn next_traf<'a>(
+    held: &'a [u8],
+    moof: u64,
+    tracks: &TrackList,
+    walk: &mut Walk<'a>,
+) -> Option<Traf<'a>>
+    requires sound { AllByRecursion IsSound
+        (trafs_by (record { bytes = held.now; offset = moof }) tracks.now walk.old) }
+    ensures first { trafs_by (record { bytes = held.now; offset = moof }) tracks.now walk.old ≡
+        option_to_list result ++ trafs_by (record { bytes = held.now; offset = moof }) tracks.now walk.new }
+    ensures none { IfNone result
+        (trafs_by (record { bytes = held.now; offset = moof }) tracks.now walk.new ≡ []) }
+    ensures sound { AllByRecursion IsSound
+        (trafs_by (record { bytes = held.now; offset = moof }) tracks.now walk.new) }
+{
+    let Some(this) = next_of(TRAF, walk) else {
+        return None;
+    };
+    let track = track_of(tracks, &this);
+    let context = context_of(held, moof, track, &this);
+    Some(Traf::of(&context, base_of(track.next, &this), &this))
+}
+
+impl<'a> Iterator for Trafs<'a> {
+    type Item = Traf<'a>;
+
+    ghost next_gives = { YieldsFirst (λ rest. rest) };
+
+    ghost remaining = { item_count (λ rest. rest) };
+
+    fn next(&mut self) -> Option<Traf<'a>> {
+        next_traf(self.held, self.moof, self.tracks, &mut self.walk)
     }
 }

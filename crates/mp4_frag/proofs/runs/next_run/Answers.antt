@@ -1,0 +1,38 @@
+use Rattle.std.proofs.Common.{◌≡◌, ◌∙◌, ◌∷◌, ℕ, ℤ, List, sym, ap, subst, rules}
+use Rattle.std.specs.List.{AllByRecursion}
+use Rattle.std.specs.Int.{w128}
+use Rattle.std.proofs.lemmas.Int.{to_z-of_z}
+use Rattle.mp4_box.specs.Paths.{of_kind}
+use Rattle.mp4_box.specs.Trees.{view}
+use Rattle.mp4_frag.specs.declared.run.Run.{Run}
+use Rattle.mp4_frag.specs.Kinds.{trun}
+use Rattle.mp4_frag.specs.Ranges.{InRange}
+use Rattle.mp4_frag.specs.Runs.{end_place, run_of, runs_from, runs_left, shared_of}
+use Rattle.mp4_frag.proofs.RunLemmas.{first_in_range, next_is, runs_none}
+use Rattle.mp4_frag.proofs.runs.next_run.Goals as goal
+
+pub returns-in_default-clause-first : goal.returns-in_default-clause-first
+returns-in_default-clause-first c = ap (runs_from (shared_of c.args.context.now) c.args.behind.now.time c.args.behind.now.place) c.in_default.ensures.first
+
+pub returns-in_default-clause-none : goal.returns-in_default-clause-none
+returns-in_default-clause-none c = runs_none (shared_of c.args.context.now) c.args.behind.now.time c.args.behind.now.place (of_kind trun c.next_of.new.walk) c.in_default.ensures.none
+
+pub returns-in_default-clause-range : goal.returns-in_default-clause-range
+returns-in_default-clause-range c = subst (λ (runs : List Run). AllByRecursion InRange runs) (returns-in_default-clause-first c) c.requires.range
+
+pub run_of-run-requires : goal.run_of-run-requires
+run_of-run-requires c =
+    (first_in_range (shared_of c.args.context.now) c.args.behind.now.time c.args.behind.now.place (view c.in-Some.trun) (of_kind trun c.args.walk.now) (of_kind trun c.next_of.new.walk) c.in-Some.ensures.first c.requires.range).fits
+
+pub behind_run-requires : goal.behind_run-requires
+behind_run-requires c =
+    subst InRange (sym c.run_of-run.ensures)
+    (first_in_range (shared_of c.args.context.now) c.args.behind.now.time c.args.behind.now.place (view c.in-Some.trun) (of_kind trun c.args.walk.now) (of_kind trun c.next_of.new.walk) c.in-Some.ensures.first c.requires.range).here
+
+pub returns-clause-first : goal.returns-clause-first
+returns-clause-first c =
+    next_is (shared_of c.args.context.now) c.args.behind.now.time c.args.behind.now.place (view c.in-Some.trun) (of_kind trun c.args.walk.now) (of_kind trun c.next_of.new.walk)
+    c.run_of-run.result c.behind_run.result.time c.behind_run.result.place c.in-Some.ensures.first c.run_of-run.ensures c.behind_run.ensures.time c.behind_run.ensures.place
+
+pub returns-clause-range : goal.returns-clause-range
+returns-clause-range c = (subst (λ (runs : List Run). AllByRecursion InRange runs) (returns-clause-first c) c.requires.range).1
