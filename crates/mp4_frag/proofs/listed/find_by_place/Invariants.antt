@@ -9,4 +9,4 @@ abbrev pub invariant-loop-run : goal.invariant-loop-run
 invariant-loop-run l =
     (goal.iterator-loop-run).can_next l.run-iterator
     × (goal.iterator-loop-run).is_finite l.run-iterator
-    × (fold place_step l.search l.run-iterator ≡ fold place_step (place_start l.fn.payload l.fn.late) (listed_words l.fn.rows.now.rows))
+    × (fold place_step l.search l.run-iterator ≡ fold place_step (place_start l.fn.payload l.fn.late) (listed_words l.fn.rows.rows))
