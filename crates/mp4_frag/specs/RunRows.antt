@@ -1,16 +1,19 @@
 -- What a row of a list keeps of a run. The rest of it is read in its trun and in the tfhd of its traf.
-use Rattle.std.specs.Prelude.{ℕ, ℤ, pos, List, drop, map, ◌-◌, slice_index}
+use Rattle.std.specs.Prelude.{ℕ, ℤ, pos, List, [], ◌∷◌, drop, map, ◌-◌, ◌^◌, slice_index, Option, Some, None}
+use Rattle.std.specs.List.{flat_map}
 use Rattle.std.specs.Option.{unwrap_or}
 use lib.IntN.{◌-ℤ◌}
-use Rattle.mp4_box.specs.Trees.{Box, box_at}
+use Rattle.mp4_box.specs.Paths.{at_path}
+use Rattle.mp4_box.specs.Trees.{Box, box_at, first_of}
 use Rattle.mp4_init.specs.declared.table.Track.{Track}
 use Rattle.mp4_init.specs.Rows.{lower, upper}
 use Rattle.mp4_run_order.specs.declared.runs.ListedRun.{ListedRun}
 use Rattle.mp4_run_order.specs.Orders.{place_key, track_key}
 use Rattle.mp4_frag.specs.declared.run.Run.{Run}
 use Rattle.mp4_frag.specs.declared.run_row.RunRow.{RunRow}
+use Rattle.mp4_frag.specs.Kinds.{tfhd}
 use Rattle.mp4_frag.specs.Moofs.{no_box}
-use Rattle.mp4_frag.specs.Runs.{Held, header_by, known_track, run_at}
+use Rattle.mp4_frag.specs.Runs.{Held, header_by, known_track, run_at, runs_of, traf_of}
 use Rattle.mp4_frag.specs.Tfhd.{track_id}
 
 -- how it stands in eight numbers
@@ -71,3 +74,22 @@ row_of_run tfhd run = record {
   track = run.track;
   count = run.count;
 }
+
+-- where the tfhd of a traf begins, in no stream where there is none
+abbrev pub offset_or_none : Option Box → ℕ
+offset_or_none None = 2 ^ 64 - 1
+offset_or_none (Some b) = b.offset
+
+abbrev pub tfhd_at : Box → ℕ
+tfhd_at t = offset_or_none (first_of (at_path (tfhd ∷ []) t))
+
+-- the rows of the runs of a traf, and those of trafs
+abbrev pub rows_of_traf : Held → List Track → Box → List RunRow
+rows_of_traf h tracks t = map (row_of_run (tfhd_at t)) (runs_of (traf_of h tracks t))
+
+abbrev pub rows_of_trafs : Held → List Track → List Box → List RunRow
+rows_of_trafs h tracks ts = flat_map (rows_of_traf h tracks) ts
+
+-- the rows of numbers
+abbrev pub rows_of_words : List (List ℕ) → List RunRow
+rows_of_words ws = map row_of_words ws

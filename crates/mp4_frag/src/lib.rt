@@ -4,6 +4,7 @@
 mod checks;
 mod counts;
 mod fields;
+mod fill;
 mod kinds;
 mod listed;
 mod mfhd;

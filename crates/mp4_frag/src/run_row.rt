@@ -1,6 +1,7 @@
 //! What a row of a list keeps of a run.
 
-ghost use Rattle.std.specs.Prelude.{◌≡◌, ◌+ℤ◌, ◌≤ℤ◌, ◌<ℤ◌, ◌^◌, pos};
+ghost use Rattle.std.specs.Prelude.{◌≡◌};
+ghost use Rattle.mp4_frag.specs.Ranges.{InRange};
 ghost use Rattle.mp4_frag.specs.RunRows.{row_of_run, row_of_words};
 
 use crate::run::Run;
@@ -71,8 +72,7 @@ pub(crate) fn row_of_words(words: [u64; 8]) -> RunRow
 
 /// The row of a run, whose traf has its tfhd at this offset.
 pub(crate) fn row_of_run(tfhd: u64, run: &Run) -> RunRow
-    requires low { pos 0 ≤ℤ (run.now.place +ℤ pos (2 ^ 63)) }
-    requires high { run.now.place <ℤ pos (2 ^ 63) }
+    requires { InRange run.now }
     ensures { result ≡ row_of_run tfhd run.now }
 {
     RunRow {
