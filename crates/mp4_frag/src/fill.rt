@@ -2,18 +2,20 @@
 
 ghost use Rattle.std.specs.Prelude.{◌≡◌, ◌+◌, ◌≤◌, ◌<◌, ◌∷◌, ◌++◌, [], length, map};
 ghost use Rattle.std.specs.List.{All, AllByRecursion};
+ghost use Rattle.mp4_box.specs.Paths.{at_path};
 ghost use Rattle.mp4_box.specs.Trees.{view};
 ghost use Rattle.mp4_run_order.specs.Orders.{FitsKeys};
+ghost use Rattle.mp4_frag.specs.Kinds.{traf};
 ghost use Rattle.mp4_frag.specs.Ranges.{InRange, IsSound};
-ghost use Rattle.mp4_frag.specs.RunRows.{listed_words, row_of_run, rows_of_traf, rows_of_words, tfhd_at};
+ghost use Rattle.mp4_frag.specs.RunRows.{listed_words, row_of_run, rows_of_traf, rows_of_trafs, rows_of_words, tfhd_at};
 ghost use Rattle.mp4_frag.specs.Runs.{traf_of};
 
-use crate::kinds::TFHD;
+use crate::kinds::{TFHD, TRAF};
 use crate::run::Run;
 use crate::run_row::{row_of_run, words_of};
 use crate::runs::Runs;
-use crate::traf::{Traf, base_of, context_of, track_of};
-use mp4_box::{BoxRef, first_at};
+use crate::traf::traf_of;
+use mp4_box::{Along, BoxRef, first_at};
 use mp4_init::TrackList;
 use mp4_ledger::Rows64;
 
@@ -56,5 +58,38 @@ fn push_runs(rows: &mut Rows64, tfhd: u64, runs: Runs<'_>)
 {
     for run in runs {
         push_run(rows, tfhd, &run);
+    }
+}
+
+/// Appends the rows of the runs of a traf, of which the moof begins at this offset.
+fn push_traf(rows: &mut Rows64, held: &[u8], moof: u64, tracks: &TrackList, traf: &BoxRef<'_>)
+    requires room { length rows.old.rows + length (rows_of_traf (record { bytes = held.now; offset = moof })
+        tracks.now (view traf.now)) ≤ rows.old.cap }
+    requires sound { IsSound (traf_of (record { bytes = held.now; offset = moof }) tracks.now
+        (view traf.now)) }
+    requires fits { All FitsKeys (listed_words rows.old.rows) }
+    ensures rows { rows_of_words rows.new.rows ≡ rows_of_words rows.old.rows ++
+        rows_of_traf (record { bytes = held.now; offset = moof }) tracks.now (view traf.now) }
+    ensures fits { All FitsKeys (listed_words rows.new.rows) }
+    ensures cap { rows.new.cap ≡ rows.old.cap }
+{
+    push_runs(rows, tfhd_at(traf), traf_of(held, moof, tracks, traf).runs());
+}
+
+/// Fills a table with the rows of all runs of a moof, in listing order.
+pub(crate) fn fill(rows: &mut Rows64, held: &[u8], moof: &BoxRef<'_>, tracks: &TrackList)
+    requires room { length rows.old.rows + length (rows_of_trafs (record { bytes = held.now; offset = moof.now.offset })
+        tracks.now (at_path (traf ∷ []) (view moof.now))) ≤ rows.old.cap }
+    requires sound { AllByRecursion (λ t. IsSound (traf_of (record { bytes = held.now; offset = moof.now.offset })
+        tracks.now t)) (at_path (traf ∷ []) (view moof.now)) }
+    requires fits { All FitsKeys (listed_words rows.old.rows) }
+    ensures rows { rows_of_words rows.new.rows ≡ rows_of_words rows.old.rows ++
+        rows_of_trafs (record { bytes = held.now; offset = moof.now.offset }) tracks.now
+            (at_path (traf ∷ []) (view moof.now)) }
+    ensures fits { All FitsKeys (listed_words rows.new.rows) }
+    ensures cap { rows.new.cap ≡ rows.old.cap }
+{
+    for traf in Along::of(&[TRAF], moof) {
+        push_traf(rows, held, moof.offset, tracks, &traf);
     }
 }
