@@ -29,7 +29,7 @@ record Rest (o : ℕ) (x : List ℕ) (k : ℕ) (bs : List Box) : Type 0 where
   pub from : Each (λ b. o + k ≤ b.offset) bs
   pub rise : Pairs Behind bs
 
-none_left : (o : ℕ) (x : List ℕ) → length x ≡ 0 → boxes o x ≡ []
+pub none_left : (o : ℕ) (x : List ℕ) → length x ≡ 0 → boxes o x ≡ []
 none_left o x e = over-end (λ b. b ∷ []) (λ _ _. []) x o e
 
 no_rest : (o : ℕ) (x : List ℕ) (k : ℕ) → Rest o x k []

@@ -20,9 +20,9 @@ use Rattle.mp4_frag.specs.declared.run.Run.{Run}
 use Rattle.mp4_frag.specs.declared.run_row.RunRow.{RunRow}
 use Rattle.mp4_frag.specs.Moofs.{moof_runs}
 use Rattle.mp4_frag.specs.Runs.{Held}
-use Rattle.mp4_frag.specs.RunRows.{listed_row, listed_run, listed_words, place_word, row_of_words, run_of_row, track_word}
-use Rattle.mp4_frag.specs.RunLists.{IsFoundByTrack, IsListOf, ListedRows, misplaced, moof_listing, place_fault, taken_runs}
-use Rattle.mp4_frag.proofs.RunRowLemmas.{Earlier, Reread}
+use Rattle.mp4_frag.specs.RunRows.{listed_row, listed_run, listed_words, place_word, row_of_words, rows_of_words, run_of_row, track_word}
+use Rattle.mp4_frag.specs.RunLists.{IsFoundByTrack, IsLate, IsListOf, IsSorted, ListedRows, misplaced, moof_listing, place_fault, taken_runs}
+use Rattle.mp4_frag.proofs.RunRowLemmas.{Earlier, Given}
 
 -- ---- maps
 
@@ -40,23 +40,21 @@ map_map f g (x ∷ xs) = ap (λ (zs : _). g (f x) ∷ zs) (map_map f g xs)
 
 -- ---- rows of a moof
 
--- the row is that of a run, which it gives again
-pub record Gives (h : Held) (tracks : List Track) (row : RunRow) : Type 0 where
-  pub listed : listed_run (run_of_row h tracks row) ≡ listed_row row
+-- the row is that of its run
+abbrev Gives : Held → List Track → RunRow → Type 0
+Gives h tracks row = listed_run (run_of_row h tracks row) ≡ listed_row row
 
--- the rows of all runs of a moof, in listing order
-pub record Filled (h : Held) (tracks : List Track) (rows : List RunRow) : Type 0 where
-  pub runs : map (run_of_row h tracks) rows ≡ moof_runs h tracks
-  pub gives : Each (Gives h tracks) rows
+abbrev Filled : Held → List Track → List RunRow → Type 0
+Filled h tracks rows = Given h tracks rows (moof_runs h tracks)
 
-listed_by : (h : Held) (tracks : List Track) (rows : List RunRow) → Each (Gives h tracks) rows → map listed_run (map (run_of_row h tracks) rows) ≡ map listed_row rows
-listed_by h tracks [] g = refl
-listed_by h tracks (r ∷ rows) g =
-    ap (λ (x : ListedRun). x ∷ map listed_run (map (run_of_row h tracks) rows)) g.0.listed ∙ ap (λ (xs : List ListedRun). listed_row r ∷ xs) (listed_by h tracks rows g.1)
+pointwise : {X Y : Type 0} (f g : X → Y) (xs : List X) → map f xs ≡ map g xs → Each (λ x. f x ≡ g x) xs
+pointwise f g [] e = tt
+pointwise f g (x ∷ xs) e = (cc, pointwise f g xs cc)
 
--- the listing of the moof, by its rows
-pub listing_of : (h : Held) (tracks : List Track) (rows : List RunRow) → Filled h tracks rows → map listed_row rows ≡ moof_listing h tracks
-listing_of h tracks rows f = sym (listed_by h tracks rows f.gives) ∙ ap (map listed_run) f.runs
+each_gives : (h : Held) (tracks : List Track) (rows : List RunRow) → Filled h tracks rows → Each (Gives h tracks) rows
+each_gives h tracks rows f =
+    pointwise (λ row. listed_run (run_of_row h tracks row)) listed_row rows
+    (sym (map_map (run_of_row h tracks) listed_run rows) ∙ (ap (map listed_run) f.runs_are ∙ sym f.listed))
 
 -- ---- in order
 
@@ -84,7 +82,7 @@ listed_up key ws h = no_fall_map (λ (w : List ℕ). listed_row (row_of_words w)
 
 listed_moved : (h : Held) (tracks : List Track) (from to : List (List ℕ)) → Filled h tracks (map row_of_words from) → IsPermutation from to → IsPermutation (moof_listing h tracks) (listed_words to)
 listed_moved h tracks from to f m =
-    subst (λ (xs : List ListedRun). IsPermutation xs (listed_words to)) (sym (map_map row_of_words listed_row from) ∙ listing_of h tracks (map row_of_words from) f)
+    subst (λ (xs : List ListedRun). IsPermutation xs (listed_words to)) (sym (map_map row_of_words listed_row from) ∙ f.listed)
     (IsPermutation-map (λ (w : List ℕ). listed_row (row_of_words w)) from to m)
 
 -- what is known of the runs of a moof
@@ -108,29 +106,30 @@ given_order : (h : Held) (tracks : List Track) (rows : List RunRow) → Each (Gi
 given_order h tracks rows g o =
     pairs_map (run_of_row h tracks) (TakenBefore listed_run) rows
     (pairs_with (Gives h tracks) (λ a b. IsTakenBefore (listed_row a) (listed_row b)) (λ a b. IsTakenBefore (listed_run (run_of_row h tracks a)) (listed_run (run_of_row h tracks b)))
-    (λ a b x y t. subst (λ (r : ListedRun). IsTakenBefore r (listed_run (run_of_row h tracks b))) (sym x.listed) (subst (λ (r : ListedRun). IsTakenBefore (listed_row a) r) (sym y.listed) t)) rows g o)
+    (λ a b x y t. subst (λ (r : ListedRun). IsTakenBefore r (listed_run (run_of_row h tracks b))) (sym x) (subst (λ (r : ListedRun). IsTakenBefore (listed_row a) r) (sym y) t)) rows g o)
 
 runs_taken : (h : Held) (tracks : List Track) (from to : List RunRow) → Known h tracks → Filled h tracks from → IsPermutation from to → Pairs (λ a b. IsTakenBefore (listed_row a) (listed_row b)) to → map (run_of_row h tracks) to ≡ taken_runs h tracks
 runs_taken h tracks from to k f m o =
     taken_alone listed_run (moof_runs h tracks) (map (run_of_row h tracks) to) k.rise
-    (subst (λ (runs : List Run). IsPermutation runs (map (run_of_row h tracks) to)) f.runs (IsPermutation-map (run_of_row h tracks) from to m))
-    (given_order h tracks to (each_moved (Gives h tracks) from to m f.gives) o)
+    (subst (λ (runs : List Run). IsPermutation runs (map (run_of_row h tracks) to)) f.runs_are (IsPermutation-map (run_of_row h tracks) from to m))
+    (given_order h tracks to (each_moved (Gives h tracks) from to m (each_gives h tracks from f)) o)
 
 -- rows of a moof that were sorted by track and then by place
-pub list_is : (h : Held) (tracks : List Track) (filled tracked placed : List (List ℕ)) (late : Option ℕ) → Known h tracks → Filled h tracks (map row_of_words filled) → IsPermutation filled tracked → IsNonDecreasingBy track_word tracked
-    → IsPermutation tracked placed → IsNonDecreasingBy place_word placed → late ≡ found_by_track (listed_words tracked) → IsListOf h tracks (record { rows = map row_of_words placed; late = late })
-list_is h tracks filled tracked placed late k f m up n rise e =
-    let all = IsPermutation-trans filled tracked placed m n in
-    let order = by_place h tracks filled placed k f all rise in
-    let rows = map row_of_words placed in
+pub list_is : (h : Held) (tracks : List Track) (filled placed : List (List ℕ)) (late : Option ℕ) → Known h tracks → Filled h tracks (rows_of_words filled) → IsLate filled late → IsSorted filled placed → IsListOf h tracks (record { rows = rows_of_words placed; late = late })
+list_is h tracks filled placed late k f l s =
+    let order = by_place h tracks filled placed k f s.same s.up in
+    let rows = rows_of_words placed in
     let same : listed_words placed ≡ map listed_row rows = sym (map_map row_of_words listed_row placed) in
     let pairs = pairs_of_map (λ (w : List ℕ). listed_row (row_of_words w)) IsTakenBefore placed (pairs_of_all IsTakenBefore (listed_words placed) order.order) in
     record {
-      runs = runs_taken h tracks (map row_of_words filled) rows k f (IsPermutation-map row_of_words filled placed all) (pairs_map row_of_words (λ a b. IsTakenBefore (listed_row a) (listed_row b)) placed pairs);
+      runs = runs_taken h tracks (rows_of_words filled) rows k f (IsPermutation-map row_of_words filled placed s.same) (pairs_map row_of_words (λ a b. IsTakenBefore (listed_row a) (listed_row b)) placed pairs);
       listing = is_listing h tracks k;
       taken = sym same ∙ order_is_taken (moof_listing h tracks) (listed_words placed) (is_listing h tracks k) order;
-      late = record { sorted = listed_words tracked; order = by_track h tracks filled tracked k f m up; is = e };
+      late = record { sorted = listed_words l.sorted; order = by_track h tracks filled l.sorted k f l.same l.up; is = l.is };
     }
+
+pub length_rows : (ws : List (List ℕ)) → length (rows_of_words ws) ≡ length ws
+length_rows ws = length-map ws row_of_words
 
 -- ---- the search
 

@@ -1,5 +1,6 @@
 -- The runs of a moof in the order in which they are taken, in a list, and which of them is at fault.
 use Rattle.std.specs.Prelude.{ℕ, ◌≡◌, List, map, option_map, Option, Some}
+use Rattle.std.specs.List.Sorted.{IsNonDecreasingBy, IsPermutation}
 use Rattle.mp4_box.specs.declared.rules.Fault.{Fault}
 use Rattle.mp4_box.specs.declared.rules.Rule.TheVariants.{RunPlace}
 use Rattle.mp4_init.specs.declared.table.Track.{Track}
@@ -14,7 +15,7 @@ use Rattle.mp4_frag.specs.declared.run_row.RunRow.{RunRow}
 use Rattle.mp4_frag.specs.Kinds.{trun}
 use Rattle.mp4_frag.specs.Moofs.{moof_runs}
 use Rattle.mp4_frag.specs.Runs.{Held}
-use Rattle.mp4_frag.specs.RunRows.{listed_row, listed_run, run_of_row}
+use Rattle.mp4_frag.specs.RunRows.{listed_row, listed_run, listed_words, place_word, run_of_row, track_word}
 
 -- the runs of a moof as the rule of their places sees them, in listing order
 abbrev pub moof_listing : Held → List Track → List ListedRun
@@ -34,6 +35,18 @@ pub record IsFoundByTrack (runs : List ListedRun) (late : Option ℕ) : Type 0 w
   pub sorted : List ListedRun
   pub order : IsTrackOrder runs sorted
   pub is : late ≡ found_by_track sorted
+
+-- it was found by track in rows of these numbers
+pub record IsLate (words : List (List ℕ)) (late : Option ℕ) : Type 0 where
+  pub sorted : List (List ℕ)
+  pub same : IsPermutation words sorted
+  pub up : IsNonDecreasingBy track_word sorted
+  pub is : late ≡ found_by_track (listed_words sorted)
+
+-- the numbers of the same rows, sorted by place
+pub record IsSorted (words sorted : List (List ℕ)) : Type 0 where
+  pub same : IsPermutation words sorted
+  pub up : IsNonDecreasingBy place_word sorted
 
 -- the list is that of a moof, with these tracks
 pub record IsListOf (h : Held) (tracks : List Track) (l : ListedRows) : Type 0 where

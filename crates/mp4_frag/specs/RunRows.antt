@@ -1,18 +1,18 @@
 -- What a row of a list keeps of a run. The rest of it is read in its trun and in the tfhd of its traf.
-use Rattle.std.specs.Prelude.{ℕ, ℤ, pos, List, [], ◌∷◌, drop, map, ◌-◌, ◌^◌, slice_index, Option, Some, None}
+use Rattle.std.specs.Prelude.{ℕ, ℤ, pos, List, [], ◌∷◌, drop, map, ◌+◌, ◌-◌, ◌^◌, slice_index, Option, Some, None}
 use Rattle.std.specs.List.{flat_map}
 use Rattle.std.specs.Option.{unwrap_or}
 use lib.IntN.{◌-ℤ◌}
 use Rattle.mp4_box.specs.Paths.{at_path}
-use Rattle.mp4_box.specs.Trees.{Box, box_at, first_of}
+use Rattle.mp4_box.specs.declared.headers.Size.TheVariants.{ToEnd}
+use Rattle.mp4_box.specs.Trees.{Box, boxes, first_of}
 use Rattle.mp4_init.specs.declared.table.Track.{Track}
 use Rattle.mp4_init.specs.Rows.{lower, upper}
 use Rattle.mp4_run_order.specs.declared.runs.ListedRun.{ListedRun}
 use Rattle.mp4_run_order.specs.Orders.{place_key, track_key}
 use Rattle.mp4_frag.specs.declared.run.Run.{Run}
 use Rattle.mp4_frag.specs.declared.run_row.RunRow.{RunRow}
-use Rattle.mp4_frag.specs.Kinds.{tfhd}
-use Rattle.mp4_frag.specs.Moofs.{no_box}
+use Rattle.mp4_frag.specs.Kinds.{free, tfhd}
 use Rattle.mp4_frag.specs.Runs.{Held, header_by, known_track, run_at, runs_of, traf_of}
 use Rattle.mp4_frag.specs.Tfhd.{track_id}
 
@@ -48,9 +48,16 @@ track_word w = track_key (listed_row (row_of_words w))
 abbrev pub place_word : List ℕ → ℕ
 place_word w = place_key (listed_row (row_of_words w))
 
--- the box of a moof that begins at this offset
+-- what stands for a box where none is
+abbrev pub nothing : Box
+nothing = record { header = record { kind = free; user = None; size = ToEnd; header_len = 0 }; offset = 0; payload = [] }
+
+abbrev pub box_behind : Held → ℕ → Box
+box_behind h at = unwrap_or (first_of (boxes (h.offset + at) (drop at h.bytes))) nothing
+
+-- the box of a moof that begins at this offset in the stream
 unfoldable pub box_in : Held → ℕ → Box
-box_in h offset = unwrap_or (box_at offset (drop (offset - h.offset) h.bytes)) no_box
+box_in h offset = box_behind h (offset - h.offset)
 
 -- the run of a trun, whose time is known, but for its place, its end and its bytes
 abbrev pub reread_at : Held → List Track → RunRow → Box → Box → Run

@@ -25,8 +25,8 @@ use std::marker::Model;
 /// A moof without a fault (ISO/IEC 14496-12, 8.8.4). It borrows its bytes, and nothing else.
 #[derive(Drop)]
 pub struct Moof<'a> {
-    held: &'a [u8],
-    offset: u64,
+    pub(crate) held: &'a [u8],
+    pub(crate) offset: u64,
 }
 
 // A contract sees its bytes, and the offset of the first of them.
