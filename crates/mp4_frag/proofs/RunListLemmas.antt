@@ -146,6 +146,30 @@ place_is p h tracks l r of e =
     e ∙ (ap (λ (o : Option ℕ). found_by_place p o (map listed_row l.rows)) late.is ∙ (ap (found_by_place p (found_by_track late.sorted)) of.taken ∙ s)) in
     ap (option_map misplaced) found ∙ both_maps (first_offender p listing)
 
+pub place_found : (p : Payload) (h : Held) (tracks : List Track) (l : ListedRows) (ws : List (List ℕ)) (late r : Option ℕ) → IsListOf h tracks l → record { rows = rows_of_words ws; late = late } ≡ l → r ≡ found_by_place p late (listed_words ws)
+    → option_map misplaced r ≡ place_fault p (moof_runs h tracks)
+place_found p h tracks l ws late r of e found =
+    place_is p h tracks (record { rows = rows_of_words ws; late = late }) r (subst (IsListOf h tracks) (sym e) of)
+    (found ∙ ap (found_by_place p late) (sym (map_map row_of_words listed_row ws)))
+
+-- ---- the run at an index
+
+map_at : {X Y : Type 0} (f : X → Y) (xs : List X) (i : ℕ) (d : Y) (e : X) → i < length xs → get_or (map f xs) i d ≡ f (get_or xs i e)
+map_at f [] i d e h = absurd (omega arith)
+map_at f (x ∷ xs) zero d e h = refl
+map_at f (x ∷ xs) (suc i) d e h = map_at f xs i d e (omega arith)
+
+pub run_is : (h : Held) (tracks : List Track) (l : ListedRows) (ws : List (List ℕ)) (i : ℕ) (w : List ℕ) (r : Run) → IsListOf h tracks l → rows_of_words ws ≡ l.rows → i < length l.rows → w ≡ get_or ws i w → r ≡ run_of_row h tracks (row_of_words w)
+    → r ≡ get_or (taken_runs h tracks) i r
+run_is h tracks l ws i w r of e lt at is =
+    let n = ap length e in
+    let m = length_rows ws in
+    let same : map (run_of_row h tracks) (rows_of_words ws) ≡ taken_runs h tracks = ap (map (run_of_row h tracks)) e ∙ of.runs in
+    is
+    ∙ (ap (λ (v : List ℕ). run_of_row h tracks (row_of_words v)) at
+    ∙ (ap (run_of_row h tracks) (sym (map_at row_of_words ws i (row_of_words w) w (omega arith)))
+    ∙ (sym (map_at (run_of_row h tracks) (rows_of_words ws) i r (row_of_words w) (omega arith)) ∙ ap (λ (xs : List Run). get_or xs i r) same)))
+
 -- ---- what is lent comes back
 
 pub overwritten_all : (xs w : List (List ℕ)) → length w ≡ length xs → overwritten xs w ≡ w
