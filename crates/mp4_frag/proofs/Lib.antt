@@ -10,3 +10,4 @@ pub mod RangeLemmas
 pub mod PlaceLemmas
 pub mod SoundLemmas
 pub mod RunLemmas
+pub mod MoofListLemmas

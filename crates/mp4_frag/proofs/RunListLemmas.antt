@@ -34,7 +34,7 @@ pairs_map : {X Y : Type 0} (f : X → Y) (R : Y → Y → Type 0) (xs : List X) 
 pairs_map f R [] h = tt
 pairs_map f R (x ∷ xs) h = (each_map f (R (f x)) xs h.0, pairs_map f R xs h.1)
 
-map_map : {X Y Z : Type 0} (f : X → Y) (g : Y → Z) (xs : List X) → map g (map f xs) ≡ map (λ x. g (f x)) xs
+pub map_map : {X Y Z : Type 0} (f : X → Y) (g : Y → Z) (xs : List X) → map g (map f xs) ≡ map (λ x. g (f x)) xs
 map_map f g [] = refl
 map_map f g (x ∷ xs) = ap (λ (zs : _). g (f x) ∷ zs) (map_map f g xs)
 
@@ -44,7 +44,7 @@ map_map f g (x ∷ xs) = ap (λ (zs : _). g (f x) ∷ zs) (map_map f g xs)
 abbrev Gives : Held → List Track → RunRow → Type 0
 Gives h tracks row = listed_run (run_of_row h tracks row) ≡ listed_row row
 
-abbrev Filled : Held → List Track → List RunRow → Type 0
+abbrev pub Filled : Held → List Track → List RunRow → Type 0
 Filled h tracks rows = Given h tracks rows (moof_runs h tracks)
 
 pointwise : {X Y : Type 0} (f g : X → Y) (xs : List X) → map f xs ≡ map g xs → Each (λ x. f x ≡ g x) xs

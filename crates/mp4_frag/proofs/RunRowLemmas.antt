@@ -148,7 +148,7 @@ pairs_append : {X : Type 0} (R : X → X → Type 0) (xs ys : List X) → Pairs 
 pairs_append R [] ys h k c = k
 pairs_append R (x ∷ xs) ys h k c = (each_append (R x) xs ys h.0 c.0, pairs_append R xs ys h.1 k c.1)
 
-abbrev runs_by : Held → List Track → List Box → List Run
+abbrev pub runs_by : Held → List Track → List Box → List Run
 runs_by h tracks ts = flat_map runs_of (map (traf_of h tracks) ts)
 
 runs_behind : (h : Held) (tracks : List Track) (n : ℕ) (ts : List Box) → Each (λ t. RunsOf t (runs_of (traf_of h tracks t))) ts → Each (λ t. n ≤ t.offset) ts → Each (λ run. n ≤ run.offset) (runs_by h tracks ts)

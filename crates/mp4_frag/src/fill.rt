@@ -76,20 +76,26 @@ fn push_traf(rows: &mut Rows64, held: &[u8], moof: u64, tracks: &TrackList, traf
     push_runs(rows, tfhd_at(traf), traf_of(held, moof, tracks, traf).runs());
 }
 
-/// Fills a table with the rows of all runs of a moof, in listing order.
-pub(crate) fn fill(rows: &mut Rows64, held: &[u8], moof: &BoxRef<'_>, tracks: &TrackList)
-    requires room { length rows.old.rows + length (rows_of_trafs (record { bytes = held.now; offset = moof.now.offset })
+/// Appends the rows of all runs of a moof that begins at this offset, in listing order.
+pub(crate) fn fill(
+    rows: &mut Rows64,
+    held: &[u8],
+    offset: u64,
+    moof: &BoxRef<'_>,
+    tracks: &TrackList,
+)
+    requires room { length rows.old.rows + length (rows_of_trafs (record { bytes = held.now; offset = offset })
         tracks.now (at_path (traf ∷ []) (view moof.now))) ≤ rows.old.cap }
-    requires sound { AllByRecursion (λ t. IsSound (traf_of (record { bytes = held.now; offset = moof.now.offset })
+    requires sound { AllByRecursion (λ t. IsSound (traf_of (record { bytes = held.now; offset = offset })
         tracks.now t)) (at_path (traf ∷ []) (view moof.now)) }
     requires fits { All FitsKeys (listed_words rows.old.rows) }
     ensures rows { rows_of_words rows.new.rows ≡ rows_of_words rows.old.rows ++
-        rows_of_trafs (record { bytes = held.now; offset = moof.now.offset }) tracks.now
+        rows_of_trafs (record { bytes = held.now; offset = offset }) tracks.now
             (at_path (traf ∷ []) (view moof.now)) }
     ensures fits { All FitsKeys (listed_words rows.new.rows) }
     ensures cap { rows.new.cap ≡ rows.old.cap }
 {
     for traf in Along::of(&[TRAF], moof) {
-        push_traf(rows, held, moof.offset, tracks, &traf);
+        push_traf(rows, held, offset, tracks, &traf);
     }
 }

@@ -1,18 +1,13 @@
 //! The runs of a moof in the order in which they are taken, in claimed memory.
 
-ghost use Rattle.std.specs.Prelude.{◌≡◌, ◌+◌, ◌*◌, ◌^◌, ◌<◌, ◌≤◌, ◌↔◌, [], ◌∷◌, length, map, slice_index_or, Err, IfOk, OnOk, OnErr};
-ghost use Rattle.std.specs.List.{All, AllByRecursion};
+ghost use Rattle.std.specs.Prelude.{◌≡◌, ◌+◌, ◌*◌, ◌^◌, ◌<◌, ◌≤◌, ◌↔◌, length, slice_index_or, Some, IsErrOf, IfOk, OnOk, OnErr};
+ghost use Rattle.mp4_box.specs.Headers.{IsWhole};
 ghost use Rattle.mp4_box.specs.Paths.{at_path};
-ghost use Rattle.mp4_box.specs.Trees.{view};
-ghost use Rattle.mp4_ledger.specs.declared.ledger.Refused.TheVariants.{OverLimit};
+ghost use Rattle.mp4_box.specs.Trees.{box_at, view};
 ghost use Rattle.mp4_ledger.specs.Memory.{claimed, given_back};
-ghost use Rattle.mp4_run_order.specs.Orders.{FitsKeys};
-ghost use Rattle.mp4_frag.specs.Kinds.{to_trun, traf};
+ghost use Rattle.mp4_frag.specs.Kinds.{to_trun};
 ghost use Rattle.mp4_frag.specs.Moofs.{IsRead, moof_runs, moof_samples};
-ghost use Rattle.mp4_frag.specs.Ranges.{IsSound};
 ghost use Rattle.mp4_frag.specs.RunLists.{IsLate, IsListOf, IsSorted, taken_runs};
-ghost use Rattle.mp4_frag.specs.RunRows.{listed_words, place_word, row_of_words, rows_of_trafs, rows_of_words};
-ghost use Rattle.mp4_frag.specs.Runs.{traf_of};
 
 use crate::fill::fill;
 use crate::kinds::{TRAF, TRUN};
@@ -100,4 +95,69 @@ fn put_in_order(rows: &mut Rows64) -> Option<u64>
     let late = find_by_track(rows);
     sort_by_place(rows);
     late
+}
+
+/// The list of the runs of the moof that the bytes are, which begin at this offset.
+fn list_in(
+    ledger: &mut Ledger,
+    held: &[u8],
+    offset: u64,
+    tracks: &TrackList,
+) -> Result<RunList, Refused>
+    requires whole { IsWhole held.now }
+    requires room { offset + length held.now ≤ 2 ^ 62 }
+    requires read { IsRead (record { bytes = held.now; offset = offset }) tracks.now }
+    ensures list { IfOk result (λ l.
+        IsListOf (record { bytes = held.now; offset = offset }) tracks.now l) }
+    ensures len { IfOk result (λ l. length l.rows ≡
+        length (moof_runs (record { bytes = held.now; offset = offset }) tracks.now)) }
+    ensures ok { OnOk result (ledger.new ≡ claimed ledger.old (64 *
+        length (moof_runs (record { bytes = held.now; offset = offset }) tracks.now))) }
+    ensures over_limit { IsErrOf result Refused.OverLimit ↔ (ledger.old.limit < ledger.old.live + 64 *
+        length (moof_runs (record { bytes = held.now; offset = offset }) tracks.now)) }
+    ensures err { OnErr result (ledger.new ≡ ledger.old) }
+{
+    let moof = whole_box(held, offset);
+    let mut rows = match ledger.rows(count_truns(&moof)) {
+        Ok(rows) => rows,
+        Err(refused) => return Err(refused),
+    };
+    fill(&mut rows, held, offset, &moof, tracks);
+    let late = put_in_order(&mut rows);
+    Ok(RunList { rows, late })
+}
+
+impl<'a> Moof<'a> {
+    /// Its runs in the order in which they are taken, in a table that is claimed, 64 bytes for each. `tracks` are those that it was
+    /// read with. Its samples are counted in `steps` as rows that were read.
+    ///
+    /// # Errors
+    ///
+    /// `OverLimit` exactly where the claim passes the limit; else `Memory` where the allocator has none. Nothing is claimed
+    /// and no row is read then.
+    pub fn list(
+        &self,
+        ledger: &mut Ledger,
+        tracks: &TrackList,
+        steps: &mut Steps,
+    ) -> Result<RunList, Refused>
+        requires read { IsRead self.now tracks.now }
+        requires steps { steps.old.rows < 2 ^ 127 }
+        ensures list { IfOk result (λ l. IsListOf self.now tracks.now l) }
+        ensures len { IfOk result (λ l. length l.rows ≡ length (moof_runs self.now tracks.now)) }
+        ensures ok { OnOk result (ledger.new ≡
+            claimed ledger.old (64 * length (moof_runs self.now tracks.now))) }
+        ensures walked { OnOk result (steps.new.rows ≡ steps.old.rows + moof_samples self.now) }
+        ensures over_limit { IsErrOf result Refused.OverLimit ↔ (ledger.old.limit <
+            ledger.old.live + 64 * length (moof_runs self.now tracks.now)) }
+        ensures err { OnErr result (ledger.new ≡ ledger.old) }
+        ensures unwalked { OnErr result (steps.new ≡ steps.old) }
+    {
+        let list = match list_in(ledger, self.held, self.offset, tracks) {
+            Ok(list) => list,
+            Err(refused) => return Err(refused),
+        };
+        steps.rows += u128::from(self.samples());
+        Ok(list)
+    }
 }

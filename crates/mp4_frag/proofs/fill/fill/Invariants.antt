@@ -11,7 +11,7 @@ use Rattle.mp4_frag.proofs.fill.fill.Given as goal
 
 abbrev pub invariant-loop-traf : goal.invariant-loop-traf
 invariant-loop-traf l =
-    let h : Held = record { bytes = l.held; offset = l.moof.offset } in
+    let h : Held = record { bytes = l.held; offset = l.offset } in
     (goal.iterator-loop-traf).can_next l.traf-iterator
     × (goal.iterator-loop-traf).is_finite l.traf-iterator
     × AllByRecursion (λ t. IsSound (traf_of h l.tracks t)) l.traf-iterator
