@@ -9,3 +9,4 @@ pub mod SoundLemmas
 pub mod RunLemmas
 pub mod AfterLemmas
 pub mod SettleLemmas
+pub mod GroupLemmas

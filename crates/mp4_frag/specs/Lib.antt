@@ -13,3 +13,4 @@ pub mod Times
 pub mod Ranges
 pub mod After
 pub mod Settling
+pub mod Laws

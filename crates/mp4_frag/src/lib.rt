@@ -6,6 +6,7 @@ mod checks;
 mod counts;
 mod fields;
 mod kinds;
+pub mod laws;
 mod mfhd;
 mod moof;
 mod repeats;
