@@ -11,3 +11,6 @@ pub mod PlaceLemmas
 pub mod SoundLemmas
 pub mod RunLemmas
 pub mod MoofListLemmas
+pub mod AfterLemmas
+pub mod SettleLemmas
+pub mod GroupLemmas

@@ -13,3 +13,6 @@ pub mod Times
 pub mod RunRows
 pub mod RunLists
 pub mod Ranges
+pub mod After
+pub mod Settling
+pub mod Laws

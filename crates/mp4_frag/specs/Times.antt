@@ -11,8 +11,11 @@ use Rattle.mp4_frag.specs.Runs.{Shared, run_at}
 unfoldable pub ticks_in : Shared → Box → ℕ
 ticks_in s b = durations (rows_of (run_at s 0 (pos 0) b) s.moof.bytes)
 
+abbrev pub late_trun : Box → Fault
+late_trun b = record { rule = TimeRange; kind = Some trun; offset = b.offset }
+
 abbrev pub late_at : ℕ → Box → List Fault
-late_at end b = if nat_lt end (2 ^ 64) then [] else record { rule = TimeRange; kind = Some trun; offset = b.offset } ∷ []
+late_at end b = if nat_lt end (2 ^ 64) then [] else late_trun b ∷ []
 
 -- which of these truns end past 64 bits, where the first begins at a time
 unfoldable pub late_from : Shared → ℕ → List Box → List Fault

@@ -9,6 +9,7 @@ ghost use Rattle.mp4_box.specs.Trees.{view};
 ghost use Rattle.mp4_frag.specs.Moofs.{IsRead, early_fault, moof_fault, moof_faults, moof_of, moof_samples, moof_trafs, time_faults, value_faults};
 ghost use Rattle.mp4_frag.specs.Rules.{count_faults, form_faults, most_samples};
 ghost use Rattle.mp4_frag.specs.Runs.{Held};
+ghost use Rattle.mp4_frag.specs.Settling.{settled, timed_of};
 
 use crate::checks::{FlagsOnce, OfTrack};
 use crate::counts::samples_in;
@@ -16,6 +17,7 @@ use crate::kinds::{TFHD, TRAF, TRUN};
 use crate::repeats::note_repeats;
 use crate::rows::Steps;
 use crate::rules::{note_children, note_count, note_forms};
+use crate::settle::{settle_in, timed_in};
 use crate::times::InTime;
 use crate::traf::Trafs;
 use mp4_box::{BoxRef, Fault, check_tree, note_along, whole_box};
@@ -177,5 +179,18 @@ impl<'a> Moof<'a> {
         ensures { result ≡ moof_trafs self.now tracks.now }
     {
         trafs_in(self.held, self.offset, tracks)
+    }
+    /// Sets where each track ends: its `next` becomes the end of its last traf in the moof, in ticks, and that of the others stays.
+    /// `tracks` are those that the moof was read with, so this is its last use. The samples that have durations of their own
+    /// are counted in `steps` as rows that were read.
+    pub fn settle(&self, tracks: &mut TrackList, steps: &mut Steps)
+        requires read { IsRead self.now tracks.old }
+        requires steps { steps.old.rows < 2 ^ 127 }
+        ensures tracks { tracks.new ≡ settled tracks.old (moof_trafs self.now tracks.old) }
+        ensures walked { steps.new.rows ≡ steps.old.rows + timed_of (moof_of self.now) }
+        ensures few { steps.new.rows ≤ steps.old.rows + moof_samples self.now }
+    {
+        steps.rows += u128::from(timed_in(&whole_box(self.held, self.offset)));
+        settle_in(self.held, self.offset, tracks);
     }
 }

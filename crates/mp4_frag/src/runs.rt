@@ -3,7 +3,7 @@
 ghost use Rattle.std.specs.Prelude.{◌≡◌, ◌+◌, ◌∷◌, [], ◌<◌, ◌^◌, length, pos, option_to_list, None, IfNone, IfSome, ◌++◌};
 ghost use Rattle.std.specs.List.{AllByRecursion};
 ghost use Rattle.std.specs.Iterator.{YieldsFirst, item_count};
-ghost use Rattle.mp4_box.specs.Trees.{view};
+ghost use Rattle.mp4_box.specs.Trees.{children, view};
 ghost use Rattle.mp4_box.specs.Paths.{of_kind, seen_of};
 ghost use Rattle.mp4_frag.specs.Kinds.{trun};
 ghost use Rattle.mp4_frag.specs.Ranges.{InRange};
@@ -109,11 +109,11 @@ pub(crate) fn next_of<'a>(kind: FourCc, walk: &mut Walk<'a>) -> Option<BoxRef<'a
 /// Goes over the runs of a traf.
 #[derive(Drop)]
 pub struct Runs<'a> {
-    pub(crate) context: TrafContext<'a>,
+    context: TrafContext<'a>,
     /// Where the runs so far end.
-    pub(crate) behind: Behind,
+    behind: Behind,
     /// The children that are left.
-    pub(crate) walk: Walk<'a>,
+    walk: Walk<'a>,
 }
 
 // A contract sees the runs that are left.
@@ -129,6 +129,20 @@ impl<'a> Model for Runs<'a> {
     ghost view = { λ r. runs_left r.context r.behind r.walk };
 
     ghost invariant = { λ r. AllByRecursion InRange (runs_left r.context r.behind r.walk) };
+}
+
+impl<'a> Runs<'a> {
+    /// The runs of the truns among the children of a box, behind the runs so far.
+    pub(crate) fn of(context: &TrafContext<'a>, behind: &Behind, this: &BoxRef<'a>) -> Runs<'a>
+        requires { AllByRecursion InRange (runs_left context.now behind.now (children (view this.now))) }
+        ensures { result ≡ runs_left context.now behind.now (children (view this.now)) }
+    {
+        Runs {
+            context: *context,
+            behind: *behind,
+            walk: Walk::of(this),
+        }
+    }
 }
 
 /// Where a run ends.

@@ -162,14 +162,11 @@ impl<'a> Traf<'a> {
     pub fn runs(&self) -> Runs<'a>
         ensures { result ≡ runs_of self.now }
     {
-        Runs {
-            context: self.context,
-            behind: Behind {
-                time: self.time,
-                place: i128::from(self.context.moof),
-            },
-            walk: Walk::of(&self.this),
-        }
+        let behind = Behind {
+            time: self.time,
+            place: i128::from(self.context.moof),
+        };
+        Runs::of(&self.context, &behind, &self.this)
     }
 }
 

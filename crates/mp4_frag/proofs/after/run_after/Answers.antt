@@ -1,0 +1,43 @@
+use Rattle.std.proofs.Common.{◌≡◌, ◌∙◌, ◌++◌, ℕ, List, Option, Some, arith, ap, sym, rules}
+use Rattle.std.specs.List.{flat_map}
+use Rattle.mp4_box.specs.Trees.{first_of}
+use Rattle.mp4_frag.specs.declared.run.Run.{Run}
+use Rattle.mp4_frag.specs.Runs.{Held, TrackFragment, runs_of}
+use Rattle.mp4_frag.specs.After.{all_behind, runs_behind, trafs_behind}
+use Rattle.mp4_frag.proofs.AfterLemmas.{after_run, first_of_both, first_of_last}
+use Rattle.mp4_frag.proofs.after.run_after.Goals as goal
+
+abbrev held_of : List ℕ → ℕ → Held
+held_of bytes offset = record { bytes = bytes; offset = offset }
+
+pub runs_behind-requires-clause-order : goal.runs_behind-requires-clause-order
+runs_behind-requires-clause-order c = (after_run (held_of c.args.held.now c.args.moof) c.args.tracks.now (omega (arith, c.requires.room)) c.requires.whole (λ i. (c.type_inv.held i).fits) c.requires.read c.requires.run.0 c.requires.run.1 c.args.run.now c.requires.run.2).low
+
+pub runs_behind-requires-clause-within : goal.runs_behind-requires-clause-within
+runs_behind-requires-clause-within c = (after_run (held_of c.args.held.now c.args.moof) c.args.tracks.now (omega (arith, c.requires.room)) c.requires.whole (λ i. (c.type_inv.held i).fits) c.requires.read c.requires.run.0 c.requires.run.1 c.args.run.now c.requires.run.2).high
+
+pub runs_behind-requires-clause-here : goal.runs_behind-requires-clause-here
+runs_behind-requires-clause-here c = (after_run (held_of c.args.held.now c.args.moof) c.args.tracks.now (omega (arith, c.requires.room)) c.requires.whole (λ i. (c.type_inv.held i).fits) c.requires.read c.requires.run.0 c.requires.run.1 c.args.run.now c.requires.run.2).here c.requires.small
+
+pub runs_behind-requires-clause-range : goal.runs_behind-requires-clause-range
+runs_behind-requires-clause-range c = (after_run (held_of c.args.held.now c.args.moof) c.args.tracks.now (omega (arith, c.requires.room)) c.requires.whole (λ i. (c.type_inv.held i).fits) c.requires.read c.requires.run.0 c.requires.run.1 c.args.run.now c.requires.run.2).range c.requires.small
+
+pub trafs_behind-requires-clause-within : goal.trafs_behind-requires-clause-within
+trafs_behind-requires-clause-within c = (after_run (held_of c.args.held.now c.args.moof) c.args.tracks.now (omega (arith, c.requires.room)) c.requires.whole (λ i. (c.type_inv.held i).fits) c.requires.read c.requires.run.0 c.requires.run.1 c.args.run.now c.requires.run.2).high
+
+pub trafs_behind-requires-clause-sound : goal.trafs_behind-requires-clause-sound
+trafs_behind-requires-clause-sound c = (after_run (held_of c.args.held.now c.args.moof) c.args.tracks.now (omega (arith, c.requires.room)) c.requires.whole (λ i. (c.type_inv.held i).fits) c.requires.read c.requires.run.0 c.requires.run.1 c.args.run.now c.requires.run.2).sound
+
+pub returns-in-Some : goal.returns-in-Some
+returns-in-Some c = record {
+  next = λ before after s.
+      first_of_both (runs_behind (held_of c.args.held.now c.args.moof) c.args.run.now) (flat_map runs_of (trafs_behind (held_of c.args.held.now c.args.moof) c.args.tracks.now c.args.run.now)) c.in-Some.next c.next.new.self (sym c.runs_behind.ensures ∙ c.in-Some.ensures.steps)
+      ∙ ap (λ (runs : List Run). first_of runs) (sym (after_run (held_of c.args.held.now c.args.moof) c.args.tracks.now (omega (arith, c.requires.room)) c.requires.whole (λ i. (c.type_inv.held i).fits) c.requires.read before after c.args.run.now s).is);
+}
+
+pub returns : goal.returns
+returns c = record {
+  next = λ before after s.
+      first_of_last (runs_behind (held_of c.args.held.now c.args.moof) c.args.run.now) (flat_map runs_of (trafs_behind (held_of c.args.held.now c.args.moof) c.args.tracks.now c.args.run.now)) c.first_run.result (sym c.runs_behind.ensures ∙ c.in_default.ensures.steps.0) (c.first_run.ensures ∙ ap (λ (ts : List TrackFragment). first_of (flat_map runs_of ts)) c.trafs_behind.ensures)
+      ∙ ap (λ (runs : List Run). first_of runs) (sym (after_run (held_of c.args.held.now c.args.moof) c.args.tracks.now (omega (arith, c.requires.room)) c.requires.whole (λ i. (c.type_inv.held i).fits) c.requires.read before after c.args.run.now s).is);
+}
