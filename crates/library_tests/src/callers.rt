@@ -1,7 +1,7 @@
 //! Callers of the libraries, which their pages `CALLING.md` quote.
 
-ghost use Rattle.std.specs.Prelude.{◌≡◌, ◌+◌, ◌*◌, ◌^◌, ◌<◌, ◌≤◌, ◌↔◌, ◌==◌, ◌∷◌, [], length, codes, not, IfOk, IfErr, Err, None, Some};
-ghost use Rattle.std.specs.List.{list_all, position};
+ghost use Rattle.std.specs.Prelude.{◌≡◌, ◌+◌, ◌*◌, ◌^◌, ◌<◌, ◌≤◌, ◌↔◌, ◌==◌, ◌∷◌, [], length, codes, not, option_map, IfOk, IfErr, Err, None, Some};
+ghost use Rattle.std.specs.List.{All, list_all, position};
 ghost use Rattle.std.specs.Option.{is_some};
 ghost use Rattle.mp4_box.specs.declared.rules.Fault.{Fault};
 ghost use Rattle.mp4_ledger.specs.declared.ledger.Refused.TheVariants as refusals;
@@ -11,11 +11,16 @@ ghost use Rattle.mp4_box.specs.Order.{IsLeast};
 ghost use Rattle.mp4_box.specs.Paths.{at_path, of_kind};
 ghost use Rattle.mp4_box.specs.Trees.{Box, box_at, children, tree_faults, view};
 ghost use Rattle.mp4_init.specs.Moovs.{moov_fault, moov_tracks};
+ghost use Rattle.mp4_run_order.specs.Orders.{FitsKeys, taken};
+ghost use Rattle.mp4_run_order.specs.Places.{first_offender};
+ghost use Rattle.mp4_run_order.specs.Runs.{IsListing};
+ghost use Rattle.mp4_run_order.specs.Searches.{found_by_place, found_by_track};
 ghost use Rattle.library_tests.specs.Kinds.{to_trun, traf};
 
 use mp4_box::{Along, BoxRef, Fault, FourCc, check_tree, count_of, number_at, whole_box};
 use mp4_init::{InitStop, tracks};
 use mp4_ledger::Ledger;
+use mp4_run_order::{ListedRun, Payload, PlaceSearch, TrackSearch};
 
 const TRAF: FourCc = FourCc(*b"traf");
 
@@ -68,4 +73,39 @@ pub fn has_track(ledger: &mut Ledger, moov: &[u8], offset: u64, id: u32) -> Resu
     let has = list.find(id).is_some();
     list.back(ledger);
     Ok(has)
+}
+
+/// What a pass over runs finds that are sorted by track.
+fn find_by_track(runs: &[ListedRun]) -> Option<u64>
+    ensures { result ≡ found_by_track runs.now }
+{
+    let mut search = TrackSearch::new();
+    for run in runs {
+        search = search.past(*run);
+    }
+    search.offender
+}
+
+/// What a pass over runs in taking order finds, with what was found by track.
+fn find_by_place(payload: Payload, offender: Option<u64>, runs: &[ListedRun]) -> Option<u64>
+    ensures { result ≡ found_by_place payload offender runs.now }
+{
+    let mut search = PlaceSearch::new(payload, offender);
+    for run in runs {
+        search = search.past(*run);
+    }
+    search.offender
+}
+
+/// The number of the first run in the listing that is at fault. The runs are then in taking order.
+pub fn first_at_fault(payload: Payload, runs: &mut [ListedRun]) -> Option<u64>
+    requires listing { IsListing runs.old }
+    requires keys { All FitsKeys runs.old }
+    ensures found { result ≡ option_map (λ run. run.number) (first_offender payload runs.old) }
+    ensures taken { runs.new ≡ taken runs.old }
+{
+    runs.sort_unstable_by_key(|run| run.track_key());
+    let offender = find_by_track(runs);
+    runs.sort_unstable_by_key(|run| run.place_key());
+    find_by_place(payload, offender, runs)
 }

@@ -1,9 +1,11 @@
 //! Worked moofs: what no clause says is which of their bytes are which sample or fault.
 //!
 //! - [`faults`]: moofs with one thing wrong, or two, and what is at fault then;
+//! - [`order`]: the order in which runs are taken, and where they may stand;
 //! - [`samples`]: the samples of moofs, and where their tracks end.
 
 mod faults;
+mod order;
 mod samples;
 
 use mp4_box::{Fault, FourCc, Rule};
@@ -18,12 +20,13 @@ const TFDT: &[u8] = b"\0\0\0\x10tfdt\0\0\0\0\0\0\0\0";
 /// V1's run of samples of 5, 7 and 3 bytes, at 428 in the first traf.
 const TRUN: &[u8] = b"\0\0\0\x20trun\0\0\x02\x01\0\0\0\x03\0\0\0\x68\0\0\0\x05\0\0\0\x07\0\0\0\x03";
 
+/// How many bytes a box has with these parts.
 fn size_of(parts: &[&[u8]]) -> u32 {
-    let mut size: u32 = 8;
+    let mut size: usize = 8;
     for part in parts {
-        size = size.saturating_add(part.len() as u32);
+        size = size.saturating_add(part.len());
     }
-    size
+    size.min(1 << 30) as u32
 }
 
 fn push_box(bytes: &mut Vec<u8>, kind: &[u8; 4], parts: &[&[u8]]) -> Result<(), Fail> {

@@ -3,9 +3,14 @@ pub mod PassLemmas
 pub mod RowLemmas
 pub mod TimeLemmas
 pub mod MoofLemmas
+pub mod BoxOrderLemmas
+pub mod RunRowLemmas
+pub mod RunListLemmas
 pub mod RangeLemmas
 pub mod PlaceLemmas
 pub mod SoundLemmas
 pub mod RunLemmas
+pub mod MoofListLemmas
 pub mod AfterLemmas
 pub mod SettleLemmas
+pub mod GroupLemmas

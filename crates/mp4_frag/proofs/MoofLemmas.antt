@@ -174,3 +174,12 @@ pub content_fault_least : (h : Held) (tracks : List Track) (m : Box) (o : Option
     → IfSome o (λ f. IsLeast f (moof_faults h tracks))
 content_fault_least h tracks m None is good e = tt
 content_fault_least h tracks m (Some f) is good e = early_least h tracks f good (sym (early_is h tracks m (Some f) is good e))
+
+pub nothing_at_fault : (h : Held) (tracks : List Track) → IsRead h tracks → moof_faults h tracks ≡ []
+nothing_at_fault h tracks e =
+    let none = early h tracks (read_early h tracks e) in
+    let times = time_faults (moof_trafs h tracks) in
+    ap (λ (fs : List Fault). or_else fs (or_else (form_faults (moof_of h)) (or_else (value_faults tracks (moof_of h)) times))) none.tree
+    ∙ ap (λ (fs : List Fault). or_else fs (or_else (value_faults tracks (moof_of h)) times)) none.form
+    ∙ ap (λ (fs : List Fault). or_else fs times) none.value
+    ∙ read_times h tracks e

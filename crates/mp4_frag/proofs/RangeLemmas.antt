@@ -103,11 +103,11 @@ place_of s time last n b small held fits near begins =
 end_low : (z : ℤ) (bytes : ℕ) → pos 0 ≤ℤ (z +ℤ pos (2 ^ 31)) → pos 0 ≤ℤ ((z +ℤ pos bytes) +ℤ pos (2 ^ 31))
 end_low z bytes l = omega (arith, ints, l)
 
-below : (z : ℤ) (n : ℕ) → z ≤ℤ pos n → n ≤ 2 ^ 63 → z ≤ℤ pos (2 ^ 63)
+below : (z : ℤ) (n : ℕ) → z ≤ℤ pos n → n < 2 ^ 63 → z <ℤ pos (2 ^ 63)
 below z n h l = omega (arith, ints, h, l)
 
 ranges : (s : Shared) (time : ℕ) (last : ℤ) (n : ℕ) (bs : List Box) → s.header.size < 2 ^ 32 → IsBytes s.moof.bytes → AllByRecursion (λ (b : Box). IsBytes b.payload) bs → s.moof.offset + 2 ^ 31 ≤ n → Begins last n
-    → n + 2 ^ 32 * samples_in bs ≤ 2 ^ 63 → AllByRecursion (λ (run : Run). run.end < 2 ^ 64) (runs_from s time last bs) → AllByRecursion InRange (runs_from s time last bs)
+    → n + 2 ^ 32 * samples_in bs < 2 ^ 63 → AllByRecursion (λ (run : Run). run.end < 2 ^ 64) (runs_from s time last bs) → AllByRecursion InRange (runs_from s time last bs)
 unfolding runs_from
 ranges s time last n [] small held fits near begins room ends = tt
 ranges s time last n (b ∷ bs) small held fits near begins room ends =

@@ -2,11 +2,14 @@
 use Rattle.std.proofs.Common.{◌*◌, ℤ, pos, ◌+ℤ◌, take, ◌≡◌, ℕ, zero, suc, ◌+◌, ◌-◌, ◌<◌, ◌≤◌, ◌==◌, Bool, true, false, cond, List, [], ◌∷◌, map, drop, length, refl, ap, sym, ◌∙◌, arith, Option, Some, None}
 use Rattle.std.specs.Option.{is_none}
 use Rattle.std.specs.List.{range_with_len, sum_by}
+use Rattle.std.proofs.lemmas.Int.{ints}
 use Rattle.std.proofs.lemmas.List.FromFn.{length-map-range_with_len, get_or-map-range_with_len}
 use Rattle.std.proofs.lemmas.List.Sums.{sum_by_more, sum_by-cons}
 use Rattle.mp4_frag.specs.declared.run.Run.{Run}
 use Rattle.mp4_frag.specs.declared.rows.Row.{Row}
-use Rattle.mp4_frag.specs.Rows.{row_of, rows_of, rows_behind, durations, sizes}
+use Rattle.mp4_frag.specs.declared.rows.Cursor.{Cursor}
+use Rattle.mp4_frag.specs.Rows.{row_of, rows_of, rows_behind, durations, sizes, IsCursor}
+use Rattle.mp4_frag.specs.Laws.{first_cursor, past}
 
 -- the first of the rows that are left
 pub rows_next : (run : Run) (held : List ℕ) (i : ℕ) → i < run.count → rows_behind run held i ≡ row_of run held i ∷ rows_behind run held (i + 1)
@@ -61,3 +64,21 @@ pub durations_by_product : (run : Run) (held : List ℕ) → is_none run.fields.
 unfolding row_of
 durations_by_product run held e =
     same_sum (λ (r : Row). r.duration) (row_of run held) run.duration 0 (run.count - 0) (λ i. rw (none_there run.fields.sample_duration e) refl) ∙ ap (λ (n : ℕ). run.duration * n) (omega (arith))
+
+-- ---- cursors
+
+sum_more : (f : Row → ℕ) (run : Run) (held : List ℕ) (i : ℕ) → i < run.count → sum_by f (take (i + 1) (rows_of run held)) ≡ sum_by f (take i (rows_of run held)) + f (row_of run held i)
+sum_more f run held i h =
+    let n : length (rows_of run held) ≡ run.count = length_rows_of run held in
+    sum_by_more f (rows_of run held) i (row_of run held i) (omega arith)
+    ∙ ap (λ r. sum_by f (take i (rows_of run held)) + f r) (get_or-map-range_with_len (row_of run held) 0 (run.count - 0) i i (row_of run held i) (omega arith) (omega arith))
+
+-- a cursor goes on by one row
+pub cursor_past : (run : Run) (held : List ℕ) (c : Cursor) → IsCursor run held c → c.row < run.count → IsCursor run held (past c (row_of run held c.row))
+cursor_past run held c is h =
+    let d = sum_more (λ r. r.duration) run held c.row h in
+    let s = sum_more (λ r. r.size) run held c.row h in
+    record { row = omega arith; time = omega arith; place = omega (arith, ints) }
+
+pub cursor_first : (run : Run) (held : List ℕ) → IsCursor run held (first_cursor run)
+cursor_first run held = record { row = omega arith; time = omega arith; place = omega (arith, ints) }

@@ -23,6 +23,7 @@ use Rattle.mp4_frag.specs.Moofs.{IsRead, late, moof_of, moof_trafs}
 use Rattle.mp4_frag.specs.Repeats.{traf_id, lacks_time, is_listed, is_repeat, repeat_faults, repeats}
 use Rattle.mp4_frag.specs.Settling.{EachInTime, EndsInTime, ended, ended_at, settled, settled_on, ticks_from, with_end}
 use Rattle.mp4_frag.specs.Times.{late_from, late_trun, ticks_in}
+use Rattle.mp4_frag.specs.Laws.{in_turn}
 use Rattle.mp4_frag.proofs.MoofLemmas.{on_path, early, read_early, values}
 use Rattle.mp4_frag.proofs.PassLemmas.{listed-append}
 use Rattle.mp4_frag.proofs.RunLemmas.{traf_is}
@@ -270,3 +271,16 @@ ended_is h tracks b track s time end i known shares begins ends at =
     ap (λ (o : Option ℕ). ended_at o end tracks) (sym at)
     ∙ ap (λ (n : ℕ). with_end s.header.track n tracks) (ends ∙ sym (end_is_ticks t))
     ∙ ap (ended tracks) (traf_is h tracks b track s time known shares begins)
+
+-- ---- trafs in turn
+
+turns_are : (h : Held) (now before : List Track) (earlier ts : List Box) → Agree now before earlier → repeats earlier ts ≡ [] → in_turn h now ts ≡ map (traf_of h before) ts
+unfolding in_turn repeats
+turns_are h now before earlier [] a e = refl
+turns_are h now before earlier (t ∷ ts) a e =
+    let none = no_fault (is_repeat earlier t) t (repeats (earlier ++ t ∷ []) ts) e in
+    ap (λ (x : TrackFragment). x ∷ in_turn h (ended now x) ts) (traf_same h now before earlier t a none.0)
+    ∙ ap (λ (xs : List TrackFragment). traf_of h before t ∷ xs) (turns_are h (ended now (traf_of h before t)) before (earlier ++ t ∷ []) ts (agree_ended h now before earlier t a) none.1)
+
+pub in_turn_are : (h : Held) (tracks : List Track) → repeat_faults (moof_of h) ≡ [] → in_turn h tracks (of_kind traf (children (moof_of h))) ≡ moof_trafs h tracks
+in_turn_are h tracks none = turns_are h tracks tracks [] (of_kind traf (children (moof_of h))) (same_tracks tracks) none

@@ -1,25 +1,34 @@
 -- The trafs of a moof without a fault.
-use Rattle.std.proofs.Common.{◌≡◌, ◌∙◌, ◌+◌, ◌^◌, ◌<◌, ◌≤◌, ℕ, zero, suc, Bool, true, false, cond, ltb, List, [], ◌∷◌, ◌++◌, map, length, Option, Some, None, refl, sym, ap, subst, arith, append-nil}
-use Rattle.std.specs.List.{AllByRecursion, flat_map, sum_by}
+use Rattle.std.proofs.Common.{◌≡◌, ◌∙◌, ◌+◌, ◌^◌, ◌<◌, ◌≤◌, ℕ, ℤ, pos, zero, suc, Bool, true, false, cond, ltb, List, [], ◌∷◌, ◌++◌, map, length, Option, Some, None, refl, sym, ap, subst, arith, inl, inr}
+use Rattle.std.specs.Prelude.{◌==◌, slice_get}
+use Rattle.std.specs.List.{AllByRecursion, flat_map, position, sum_by}
+use Rattle.std.specs.Option.{option_and_then, unwrap_or}
 use Rattle.std.proofs.lemmas.Bool.{ltb-false, ltb-true}
+use Rattle.std.proofs.lemmas.Grind.{flat_map-append}
+use Rattle.std.proofs.lemmas.List.{length-append}
 use Rattle.std.proofs.lemmas.List.Sums.{sum_by-cons, sum_by-append}
 use Rattle.mp4_box.specs.declared.headers.FourCc.{FourCc}
 use Rattle.mp4_box.specs.declared.rules.Fault.{Fault}
 use Rattle.mp4_box.specs.declared.rules.Rule.TheVariants.{TooManySamples}
 use Rattle.mp4_box.specs.Headers.{IsBytes, IsWhole}
 use Rattle.mp4_box.specs.Paths.{of_kind, at_path}
-use Rattle.mp4_box.specs.Trees.{Box, box_at, children, fault_at}
+use Rattle.mp4_box.specs.Trees.{Box, box_at, children, fault_at, first_of}
+use Rattle.mp4_box.proofs.GrammarLemmas.{option_is, whole_found}
 use Rattle.mp4_init.specs.declared.table.Track.{Track}
 use Rattle.mp4_frag.specs.declared.run.Run.{Run}
-use Rattle.mp4_frag.specs.Kinds.{traf, trun, to_trun}
-use Rattle.mp4_frag.specs.Fields.{flags_in}
+use Rattle.mp4_frag.specs.Kinds.{tfhd, traf, trun, to_trun}
+use Rattle.mp4_frag.specs.Fields.{flags_in, number_or, payload_of}
+use Rattle.mp4_frag.specs.Tfhd.{fields_of, track_id}
 use Rattle.mp4_frag.specs.Trun.{sample_count, sample_duration_present}
 use Rattle.mp4_frag.specs.Settling.{timed, timed_in, timed_of}
 use Rattle.mp4_frag.specs.Rules.{count_faults, most_samples, samples_in, samples_of, too_many}
-use Rattle.mp4_frag.specs.Runs.{Held, TrackFragment, runs_of, traf_of, trafs_by}
-use Rattle.mp4_frag.specs.Moofs.{IsRead, late, late_fault, moof_of, moof_trafs, time_faults, time_faults_of}
-use Rattle.mp4_frag.specs.Ranges.{IsSound}
-use Rattle.mp4_frag.proofs.MoofLemmas.{last_none, read_count, read_times}
+use Rattle.mp4_frag.specs.Rows.{rows_of}
+use Rattle.mp4_frag.specs.Runs.{Held, Shared, TrackFragment, end_place, run_at, no_track, run_of, runs_from, runs_of, tfhd_of, track_of, traf_of, trafs_by}
+use Rattle.mp4_frag.specs.Moofs.{IsRead, late, late_fault, moof_of, moof_runs, moof_samples, moof_trafs, time_faults, time_faults_of}
+use Rattle.mp4_frag.specs.Ranges.{InRange, IsSound}
+use Rattle.mp4_frag.proofs.MoofLemmas.{last_none, moof_is, read_count, read_times}
+use Rattle.mp4_frag.proofs.RangeLemmas.{in_range, number_small}
+use Rattle.mp4_frag.proofs.RowLemmas.{length_rows_of}
 use Rattle.mp4_frag.proofs.PlaceLemmas.{Lies, children_lie, kind_all, moof_lies}
 
 -- ---- ends
@@ -52,15 +61,15 @@ unfolding at_path
 path_one [] = refl
 path_one (b ∷ bs) = ap (λ (cs : List Box). b ∷ cs) (path_one bs)
 
-on_path : (b : Box) → at_path (trun ∷ []) b ≡ of_kind trun (children b)
+pub trun_path : (b : Box) → at_path (trun ∷ []) b ≡ of_kind trun (children b)
 unfolding at_path
-on_path b = path_one (of_kind trun (children b))
+trun_path b = path_one (of_kind trun (children b))
 
 all_few : (n : ℕ) (ts : List Box) → samples_in (flat_map (at_path (trun ∷ [])) ts) ≤ n → AllByRecursion (λ (t : Box). samples_in (of_kind trun (children t)) ≤ n) ts
 all_few n [] h = tt
 all_few n (t ∷ ts) h =
     let sum = sum_by-append (λ (b : Box). sample_count b.payload) (at_path (trun ∷ []) t) (flat_map (at_path (trun ∷ [])) ts) in
-    let here : samples_in (at_path (trun ∷ []) t) ≡ samples_in (of_kind trun (children t)) = ap samples_in (on_path t) in (
+    let here : samples_in (at_path (trun ∷ []) t) ≡ samples_in (of_kind trun (children t)) = ap samples_in (trun_path t) in (
       omega (arith, h, sum, here),
       all_few n ts (omega (arith, h, sum)),
     )
@@ -121,3 +130,92 @@ pub record FewTimed (m : Box) : Type 0 where
 
 pub few_timed : (m : Box) → count_faults m ≡ [] → FewTimed m
 few_timed m e = record { timed = all_timed_few (at_path to_trun m); most = omega (arith, few_from 0 (at_path to_trun m) (omega arith) e) }
+
+-- ---- the rows of all runs
+
+run_count : (s : Shared) (time : ℕ) (last : ℤ) (b : Box) → (run_of s time last b).count ≡ sample_count b.payload
+unfolding run_of run_at
+run_count s time last b = refl
+
+-- how many rows runs have
+abbrev pub rows_in : List ℕ → List Run → ℕ
+rows_in held runs = length (flat_map (λ (run : Run). rows_of run held) runs)
+
+rows_append : (held : List ℕ) (xs ys : List Run) → rows_in held (xs ++ ys) ≡ rows_in held xs + rows_in held ys
+rows_append held xs ys =
+    ap length (flat_map-append (λ (run : Run). rows_of run held) xs ys) ∙ length-append (flat_map (λ (run : Run). rows_of run held) xs) (flat_map (λ (run : Run). rows_of run held) ys)
+
+count_runs : (held : List ℕ) (s : Shared) (time : ℕ) (last : ℤ) (bs : List Box) → rows_in held (runs_from s time last bs) ≡ samples_in bs
+unfolding runs_from
+count_runs held s time last [] = refl
+count_runs held s time last (b ∷ bs) =
+    let run = run_of s time last b in
+    let rest = count_runs held s run.end (end_place run) bs in
+    let more = length-append (rows_of run held) (flat_map (λ (run : Run). rows_of run held) (runs_from s run.end (end_place run) bs)) in
+    omega (arith, more, rest, length_rows_of run held, run_count s time last b, sum_by-cons (λ (b : Box). sample_count b.payload) b bs)
+
+count_traf : (h : Held) (tracks : List Track) (t : Box) → rows_in h.bytes (runs_of (traf_of h tracks t)) ≡ samples_in (of_kind trun (children t))
+unfolding traf_of
+count_traf h tracks t = count_runs h.bytes (traf_of h tracks t).shared (traf_of h tracks t).time (pos h.offset) (of_kind trun (children t))
+
+count_trafs : (h : Held) (tracks : List Track) (ts : List Box) → rows_in h.bytes (flat_map runs_of (map (traf_of h tracks) ts)) ≡ samples_in (flat_map (at_path (trun ∷ [])) ts)
+count_trafs h tracks [] = refl
+count_trafs h tracks (t ∷ ts) =
+    let more = rows_append h.bytes (runs_of (traf_of h tracks t)) (flat_map runs_of (map (traf_of h tracks) ts)) in
+    let sum = sum_by-append (λ (b : Box). sample_count b.payload) (at_path (trun ∷ []) t) (flat_map (at_path (trun ∷ [])) ts) in
+    let here : samples_in (at_path (trun ∷ []) t) ≡ samples_in (of_kind trun (children t)) = ap samples_in (trun_path t) in
+    omega (arith, more, sum, here, count_traf h tracks t, count_trafs h tracks ts)
+
+pub rows_are_samples : (h : Held) (tracks : List Track) → rows_in h.bytes (moof_runs h tracks) ≡ moof_samples h
+unfolding at_path
+rows_are_samples h tracks = count_trafs h tracks (of_kind traf (children (moof_of h)))
+
+-- ---- the range of all runs
+
+number_or_small : (p : List ℕ) (o : Option ℕ) (usual : ℕ) → IsBytes p → usual < 2 ^ 32 → number_or p o usual < 2 ^ 32
+number_or_small p None usual fits small = small
+number_or_small p (Some at) usual fits small = number_small p at fits
+
+found_small : (tracks : List Track) (i : ℕ) → AllByRecursion (λ (t : Track). t.size < 2 ^ 32) tracks → (unwrap_or (slice_get tracks i) no_track).size < 2 ^ 32
+found_small [] i small = omega arith
+found_small (t ∷ ts) zero small = small.0
+found_small (t ∷ ts) (suc i) small = found_small ts i small.1
+
+track_small : (tracks : List Track) (o : Option ℕ) → AllByRecursion (λ (t : Track). t.size < 2 ^ 32) tracks → (unwrap_or (option_and_then (slice_get tracks) o) no_track).size < 2 ^ 32
+track_small tracks None small = omega arith
+track_small tracks (Some i) small = found_small tracks i small
+
+payload_bytes : (h : Held) (bs : List Box) → AllByRecursion (Lies h) bs → IsBytes (payload_of (first_of bs))
+payload_bytes h [] lie = λ i. omega arith
+payload_bytes h (b ∷ bs) lie = lie.0.bytes
+
+tfhd_bytes : (h : Held) (t : Box) → Lies h t → IsBytes (tfhd_of t)
+unfolding at_path
+tfhd_bytes h t lies =
+    subst (λ (bs : List Box). IsBytes (payload_of (first_of bs))) (sym (path_one (of_kind tfhd (children t)))) (payload_bytes h (of_kind tfhd (children t)) (kind_all (Lies h) tfhd (children t) (children_lie h t lies)))
+
+size_small : (h : Held) (tracks : List Track) (t : Box) → Lies h t → AllByRecursion (λ (t : Track). t.size < 2 ^ 32) tracks → (traf_of h tracks t).shared.header.size < 2 ^ 32
+unfolding traf_of
+size_small h tracks t lies small =
+    number_or_small (tfhd_of t) (fields_of (tfhd_of t)).default_sample_size (track_of tracks t).size (tfhd_bytes h t lies) (track_small tracks (position (λ (x : Track). x.id == track_id (tfhd_of t)) tracks) small)
+
+range_append : (xs ys : List Run) → AllByRecursion InRange xs → AllByRecursion InRange ys → AllByRecursion InRange (xs ++ ys)
+range_append [] ys all rest = rest
+range_append (x ∷ xs) ys all rest = (all.0, range_append xs ys all.1 rest)
+
+trafs_in_range : (h : Held) (tracks : List Track) (ts : List Box) → AllByRecursion (λ (t : Track). t.size < 2 ^ 32) tracks → AllByRecursion (Lies h) ts → AllByRecursion IsSound (map (traf_of h tracks) ts) → AllByRecursion InRange (flat_map runs_of (map (traf_of h tracks) ts))
+trafs_in_range h tracks [] small lie sound = tt
+trafs_in_range h tracks (t ∷ ts) small lie sound =
+    range_append (runs_of (traf_of h tracks t)) (flat_map runs_of (map (traf_of h tracks) ts)) (in_range (traf_of h tracks t) (size_small h tracks t lie.0 small) sound.0) (trafs_in_range h tracks ts small lie.1 sound.1)
+
+pub all_in_range : (h : Held) (tracks : List Track) → IsWhole h.bytes → IsBytes h.bytes → h.offset + length h.bytes ≤ 2 ^ 62 → AllByRecursion (λ (t : Track). t.size < 2 ^ 32) tracks → IsRead h tracks → AllByRecursion InRange (moof_runs h tracks)
+all_in_range h tracks whole fits room small read =
+    elim (option_is (box_at h.offset h.bytes)) [
+      | inl none ↦ absurd (whole_found h.offset h.bytes whole none)
+      | inr some ↦
+          let m = some.0 in
+          let is = moof_is h.offset h.bytes m some.1 in
+          let sound : AllByRecursion IsSound (trafs_by h tracks (children m)) = subst (λ (b : Box). AllByRecursion IsSound (trafs_by h tracks (children b))) is (all_sound h tracks m (omega (arith, room)) whole fits some.1 is read) in
+          subst (λ (b : Box). AllByRecursion InRange (flat_map runs_of (trafs_by h tracks (children b)))) (sym is)
+          (trafs_in_range h tracks (of_kind traf (children m)) small (kind_all (Lies h) traf (children m) (children_lie h m (moof_lies h m whole fits some.1))) sound)
+    ]

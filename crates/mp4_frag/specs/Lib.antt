@@ -10,6 +10,9 @@ pub mod Rows
 pub mod Runs
 pub mod Moofs
 pub mod Times
+pub mod RunRows
+pub mod RunLists
 pub mod Ranges
 pub mod After
 pub mod Settling
+pub mod Laws

@@ -1,5 +1,5 @@
 -- Which numbers the runs of a moof without a fault have.
-use Rattle.std.specs.Prelude.{ℕ, ℤ, pos, ◌≤◌, ◌<◌, ◌^◌, ◌+ℤ◌, ◌≤ℤ◌}
+use Rattle.std.specs.Prelude.{ℕ, ℤ, pos, ◌≤◌, ◌<◌, ◌^◌, ◌+ℤ◌, ◌≤ℤ◌, ◌<ℤ◌}
 use Rattle.std.specs.List.{AllByRecursion}
 use Rattle.mp4_box.specs.Headers.{IsBytes}
 use Rattle.mp4_box.specs.Trees.{Box}
@@ -7,11 +7,11 @@ use Rattle.mp4_frag.specs.declared.run.Run.{Run}
 use Rattle.mp4_frag.specs.Rules.{most_samples, samples_in}
 use Rattle.mp4_frag.specs.Runs.{TrackFragment, end_place, runs_of}
 
--- the run ends within 64 bits, and its samples lie from 2^31 bytes before the stream on up to byte 2^63
+-- the run ends within 64 bits, and its samples lie from 2^31 bytes before the stream on, and end before byte 2^63
 pub record InRange (run : Run) : Type 0 where
   pub end : run.end < 2 ^ 64
   pub low : pos 0 ≤ℤ (run.place +ℤ pos (2 ^ 31))
-  pub high : end_place run ≤ℤ pos (2 ^ 63)
+  pub high : end_place run <ℤ pos (2 ^ 63)
 
 -- what is known of each traf of a moof without a fault
 pub record IsSound (t : TrackFragment) : Type 0 where

@@ -5,7 +5,7 @@ ghost use Rattle.std.specs.Iterator.{YieldsFirst, item_count};
 ghost use Rattle.std.specs.List.{AllByRecursion};
 ghost use Rattle.mp4_box.specs.Trees.{children, view};
 ghost use Rattle.mp4_frag.specs.Ranges.{InRange, IsSound};
-ghost use Rattle.mp4_frag.specs.Runs.{base_of, end_in, fragment_of, header_by, known_track, runs_of, shared_by, shared_of, track_of, trafs_by};
+ghost use Rattle.mp4_frag.specs.Runs.{base_of, end_in, fragment_of, header_by, known_track, runs_of, shared_by, shared_of, track_of, traf_of, trafs_by};
 
 use crate::checks::{entry_of, track_with};
 use crate::fields::{flags_of, number_or, payload_at};
@@ -170,6 +170,23 @@ impl<'a> Traf<'a> {
     }
 }
 
+/// The traf that a box is, in the moof that begins at this offset.
+pub(crate) fn traf_of<'a>(
+    held: &'a [u8],
+    moof: u64,
+    tracks: &TrackList,
+    this: &BoxRef<'a>,
+) -> Traf<'a>
+    requires { IsSound (traf_of (record { bytes = held.now; offset = moof }) tracks.now
+        (view this.now)) }
+    ensures { result ≡ traf_of (record { bytes = held.now; offset = moof }) tracks.now
+        (view this.now) }
+{
+    let track = track_of(tracks, this);
+    let context = context_of(held, moof, track, this);
+    Traf::of(&context, base_of(track.next, this), this)
+}
+
 /// Goes over the trafs of a moof.
 #[derive(Drop)]
 pub struct Trafs<'a> {
@@ -236,9 +253,7 @@ fn next_traf<'a>(
     let Some(this) = next_of(TRAF, walk) else {
         return None;
     };
-    let track = track_of(tracks, &this);
-    let context = context_of(held, moof, track, &this);
-    Some(Traf::of(&context, base_of(track.next, &this), &this))
+    Some(traf_of(held, moof, tracks, &this))
 }
 
 impl<'a> Iterator for Trafs<'a> {

@@ -1,5 +1,7 @@
 //! The samples of a moof, and where its tracks end.
 
+ghost use Rattle.std.specs.Prelude.{◌≡◌, length};
+
 use super::{TFDT, TFHD, TRUN, moof_of, one_traf, push_box};
 use mp4_box::is_box;
 use mp4_box::vectors::{V1, V2, V3};
@@ -90,7 +92,9 @@ fn read(
     list: &mut TrackList,
     moof: &[u8],
     at: u32,
-) -> Result<(Vec<Sample>, Vec<u64>), Fail> {
+) -> Result<(Vec<Sample>, Vec<u64>), Fail>
+    ensures { length list.new ≡ length list.old }
+{
     if moof.len() > 67_108_864 || !is_box(moof) {
         return Err("no box".into());
     }

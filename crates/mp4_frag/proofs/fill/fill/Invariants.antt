@@ -1,0 +1,21 @@
+use Rattle.std.proofs.Common.{◌≡◌, ◌+◌, ◌≤◌, ◌++◌, [], ◌∷◌, length}
+use Rattle.std.specs.List.{All, AllByRecursion}
+use Rattle.mp4_box.specs.Paths.{at_path}
+use Rattle.mp4_box.specs.Trees.{view}
+use Rattle.mp4_run_order.specs.Orders.{FitsKeys}
+use Rattle.mp4_frag.specs.Kinds.{traf}
+use Rattle.mp4_frag.specs.Ranges.{IsSound}
+use Rattle.mp4_frag.specs.RunRows.{listed_words, rows_of_trafs, rows_of_words}
+use Rattle.mp4_frag.specs.Runs.{Held, traf_of}
+use Rattle.mp4_frag.proofs.fill.fill.Given as goal
+
+abbrev pub invariant-loop-traf : goal.invariant-loop-traf
+invariant-loop-traf l =
+    let h : Held = record { bytes = l.held; offset = l.offset } in
+    (goal.iterator-loop-traf).can_next l.traf-iterator
+    × (goal.iterator-loop-traf).is_finite l.traf-iterator
+    × AllByRecursion (λ t. IsSound (traf_of h l.tracks t)) l.traf-iterator
+    × (rows_of_words l.rows.rows ++ rows_of_trafs h l.tracks l.traf-iterator ≡ rows_of_words l.initial.rows.rows ++ rows_of_trafs h l.tracks (at_path (traf ∷ []) (view l.moof)))
+    × All FitsKeys (listed_words l.rows.rows)
+    × (length l.rows.rows + length (rows_of_trafs h l.tracks l.traf-iterator) ≤ l.rows.cap)
+    × (l.rows.cap ≡ l.initial.rows.cap)

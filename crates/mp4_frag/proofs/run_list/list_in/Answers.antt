@@ -1,0 +1,87 @@
+use Rattle.std.proofs.Common.{◌≡◌, ◌∙◌, ◌*◌, ℕ, List, [], ◌∷◌, length, ap, arith}
+use Rattle.std.proofs.lemmas.List.Elements.{All-nil}
+use Rattle.mp4_box.specs.Paths.{at_path}
+use Rattle.mp4_box.specs.Trees.{view}
+use Rattle.mp4_ledger.specs.Memory.{Account, Rows, claimed}
+use Rattle.mp4_ledger.specs.declared.ledger.Refused.TheVariants.{OverLimit}
+use Rattle.mp4_run_order.specs.Orders.{FitsKeys}
+use Rattle.mp4_frag.specs.declared.run_list.RunList.{RunList as RowList}
+use Rattle.mp4_frag.specs.Kinds.{traf}
+use Rattle.mp4_frag.specs.Moofs.{moof_runs}
+use Rattle.mp4_frag.specs.RunRows.{rows_of_trafs}
+use Rattle.mp4_frag.specs.Runs.{Held}
+use Rattle.mp4_frag.proofs.MoofListLemmas.{claim_is, claimed_so, few_truns, filled, is_moof, known, length_filled, put_in, refused_so, room_for, sound_trafs}
+use Rattle.mp4_frag.proofs.RunListLemmas.{length_rows, list_is}
+use Rattle.mp4_frag.proofs.run_list.list_in.Goals as goal
+
+pub count_truns-requires : goal.count_truns-requires
+count_truns-requires c =
+    let h : Held = record { bytes = c.args.held.now; offset = c.args.offset } in
+    let m = view c.whole_box-moof.result in
+    let f = is_moof c.args.offset c.args.held.now m c.requires.whole (λ i. (c.type_inv.held i).fits) c.requires.room c.whole_box-moof.ensures in
+    few_truns h m f
+
+pub returns-in-Err-clause-over_limit : goal.returns-in-Err-clause-over_limit
+returns-in-Err-clause-over_limit c =
+    let h : Held = record { bytes = c.args.held.now; offset = c.args.offset } in
+    let m = view c.whole_box-moof.result in
+    let f = is_moof c.args.offset c.args.held.now m c.requires.whole (λ i. (c.type_inv.held i).fits) c.requires.room c.whole_box-moof.ensures in
+    refused_so Rows RowList c.in-Err.refused OverLimit c.count_truns.result (length (moof_runs h c.args.tracks.now)) c.args.ledger.now.limit c.args.ledger.now.live (claim_is h c.args.tracks.now m c.count_truns.result f c.count_truns.ensures) c.in-Err.ensures.over_limit
+
+pub fill-requires-clause-room : goal.fill-requires-clause-room
+fill-requires-clause-room c =
+    let h : Held = record { bytes = c.args.held.now; offset = c.args.offset } in
+    let m = view c.whole_box-moof.result in
+    let f = is_moof c.args.offset c.args.held.now m c.requires.whole (λ i. (c.type_inv.held i).fits) c.requires.room c.whole_box-moof.ensures in
+    let none = ap (λ (t : Rows). length t.rows) c.in-Ok.ensures.empty in
+    let cap = ap (λ (t : Rows). t.cap) c.in-Ok.ensures.empty in
+    omega (arith, none, cap, c.count_truns.ensures, room_for h c.args.tracks.now m)
+
+pub fill-requires-clause-sound : goal.fill-requires-clause-sound
+fill-requires-clause-sound c =
+    let h : Held = record { bytes = c.args.held.now; offset = c.args.offset } in
+    let m = view c.whole_box-moof.result in
+    let f = is_moof c.args.offset c.args.held.now m c.requires.whole (λ i. (c.type_inv.held i).fits) c.requires.room c.whole_box-moof.ensures in
+    sound_trafs h c.args.tracks.now m f c.requires.read
+
+pub returns-clause-list : goal.returns-clause-list
+returns-clause-list c =
+    let h : Held = record { bytes = c.args.held.now; offset = c.args.offset } in
+    let m = view c.whole_box-moof.result in
+    let f = is_moof c.args.offset c.args.held.now m c.requires.whole (λ i. (c.type_inv.held i).fits) c.requires.room c.whole_box-moof.ensures in
+    let rows = put_in c.in-Ok.rows.rows c.fill.new.rows.rows (rows_of_trafs h c.args.tracks.now (at_path (traf ∷ []) m)) (ap (λ (t : Rows). t.rows) c.in-Ok.ensures.empty) c.fill.ensures.rows in
+    let g = filled h c.args.tracks.now m c.fill.new.rows.rows f rows in
+    list_is h c.args.tracks.now c.fill.new.rows.rows c.put_in_order-late.new.rows.rows c.put_in_order-late.result (known h c.args.tracks.now m c.fill.new.rows.rows f g c.fill.ensures.fits) g c.put_in_order-late.ensures.late c.put_in_order-late.ensures.sorted
+
+pub returns-clause-ok : goal.returns-clause-ok
+returns-clause-ok c =
+    let h : Held = record { bytes = c.args.held.now; offset = c.args.offset } in
+    let m = view c.whole_box-moof.result in
+    let f = is_moof c.args.offset c.args.held.now m c.requires.whole (λ i. (c.type_inv.held i).fits) c.requires.room c.whole_box-moof.ensures in
+    c.in-Ok.ensures.ok ∙ ap (λ (n : ℕ). claimed c.args.ledger.now (64 * n)) (claim_is h c.args.tracks.now m c.count_truns.result f c.count_truns.ensures)
+
+pub returns-clause-over_limit : goal.returns-clause-over_limit
+returns-clause-over_limit c =
+    let h : Held = record { bytes = c.args.held.now; offset = c.args.offset } in
+    let m = view c.whole_box-moof.result in
+    let f = is_moof c.args.offset c.args.held.now m c.requires.whole (λ i. (c.type_inv.held i).fits) c.requires.room c.whole_box-moof.ensures in
+    claimed_so c.in-Ok.rows _ OverLimit c.count_truns.result (length (moof_runs h c.args.tracks.now)) c.args.ledger.now.limit c.args.ledger.now.live (claim_is h c.args.tracks.now m c.count_truns.result f c.count_truns.ensures) c.in-Ok.ensures.over_limit
+
+pub invariant_of-result : goal.invariant_of-result
+invariant_of-result c =
+    let h : Held = record { bytes = c.args.held.now; offset = c.args.offset } in
+    let m = view c.whole_box-moof.result in
+    let f = is_moof c.args.offset c.args.held.now m c.requires.whole (λ i. (c.type_inv.held i).fits) c.requires.room c.whole_box-moof.ensures in
+    let rows = put_in c.in-Ok.rows.rows c.fill.new.rows.rows (rows_of_trafs h c.args.tracks.now (at_path (traf ∷ []) m)) (ap (λ (t : Rows). t.rows) c.in-Ok.ensures.empty) c.fill.ensures.rows in
+    let n = length_filled h c.args.tracks.now m c.fill.new.rows.rows rows in
+    let cap = ap (λ (t : Rows). t.cap) c.in-Ok.ensures.empty in
+    omega (arith, n, cap, c.count_truns.ensures, c.fill.ensures.cap, c.put_in_order-late.ensures.len, c.put_in_order-late.ensures.cap)
+
+pub returns-clause-len : goal.returns-clause-len
+returns-clause-len c =
+    let h : Held = record { bytes = c.args.held.now; offset = c.args.offset } in
+    let m = view c.whole_box-moof.result in
+    let f = is_moof c.args.offset c.args.held.now m c.requires.whole (λ i. (c.type_inv.held i).fits) c.requires.room c.whole_box-moof.ensures in
+    let rows = put_in c.in-Ok.rows.rows c.fill.new.rows.rows (rows_of_trafs h c.args.tracks.now (at_path (traf ∷ []) m)) (ap (λ (t : Rows). t.rows) c.in-Ok.ensures.empty) c.fill.ensures.rows in
+    let n = length_filled h c.args.tracks.now m c.fill.new.rows.rows rows in
+    omega (arith, n, length_rows c.put_in_order-late.new.rows.rows, c.put_in_order-late.ensures.len, claim_is h c.args.tracks.now m (length c.fill.new.rows.rows) f n)

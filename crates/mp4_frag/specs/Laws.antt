@@ -1,0 +1,45 @@
+-- What the laws speak of beside the definitions.
+use Rattle.std.specs.Prelude.{◌≡◌, ℕ, ℤ, pos, List, [], ◌∷◌, ◌+◌, ◌*◌, ◌<◌, ◌+ℤ◌}
+use Rattle.std.specs.List.{AllByRecursion}
+use Rattle.mp4_box.specs.Trees.{Box, children}
+use Rattle.mp4_box.specs.Paths.{of_kind}
+use Rattle.mp4_init.specs.declared.table.Track.{Track}
+use Rattle.mp4_frag.specs.declared.run.Run.{Run}
+use Rattle.mp4_frag.specs.declared.rows.Row.{Row}
+use Rattle.mp4_frag.specs.declared.rows.Cursor.{Cursor}
+use Rattle.mp4_frag.specs.Kinds.{traf, trun}
+use Rattle.mp4_frag.specs.Fields.{flags_in}
+use Rattle.mp4_frag.specs.Trun.{sample_count, sample_fields, trun_fields}
+use Rattle.mp4_frag.specs.Rows.{row_from, row_of}
+use Rattle.mp4_frag.specs.Runs.{Held, Shared, TrackFragment, run_of, shared_by, track_of, traf_of}
+use Rattle.mp4_frag.specs.Settling.{ended}
+use Rattle.mp4_frag.specs.Moofs.{moof_of}
+
+-- where group i begins in the payload of a trun
+abbrev pub group_in : List ℕ → ℕ → ℕ
+group_in payload i = (trun_fields (flags_in payload)).samples + (sample_fields (flags_in payload)).len * i
+
+-- row i of the run of a trun, in its payload
+abbrev pub group_row : Run → List ℕ → ℕ → Row
+group_row run payload i = row_from run payload i (group_in payload i)
+
+-- each row of the run of a trun is what stands in its group
+abbrev pub RowsAreGroups : Shared → Box → Type 0
+RowsAreGroups s b = (time : ℕ) (last : ℤ) (i : ℕ) → i < sample_count b.payload → row_of (run_of s time last b) s.moof.bytes i ≡ group_row (run_of s time last b) b.payload i
+
+-- so it is with the truns of a traf
+abbrev pub TrafRowsAreGroups : Held → List Track → Box → Type 0
+TrafRowsAreGroups h tracks t = AllByRecursion (RowsAreGroups (shared_by h (track_of tracks t) t)) (of_kind trun (children t))
+
+-- the cursor behind a row
+abbrev pub past : Cursor → Row → Cursor
+past c row = record { row = c.row + 1; time = c.time + row.duration; place = c.place +ℤ pos row.size }
+
+-- the cursor of the first row
+abbrev pub first_cursor : Run → Cursor
+first_cursor run = record { row = 0; time = run.time; place = run.place }
+
+-- trafs one after the other: where one has no tfdt, it begins where the last traf of its track ended, in this moof or before it
+unfoldable pub in_turn : Held → List Track → List Box → List TrackFragment
+in_turn h tracks [] = []
+in_turn h tracks (b ∷ bs) = traf_of h tracks b ∷ in_turn h (ended tracks (traf_of h tracks b)) bs

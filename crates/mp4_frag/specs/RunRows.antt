@@ -1,0 +1,102 @@
+-- What a row of a list keeps of a run. The rest of it is read in its trun and in the tfhd of its traf.
+use Rattle.std.specs.Prelude.{ℕ, ℤ, pos, List, [], ◌∷◌, drop, map, ◌+◌, ◌-◌, ◌^◌, slice_index, Option, Some, None}
+use Rattle.std.specs.List.{flat_map}
+use Rattle.std.specs.Option.{unwrap_or}
+use lib.IntN.{◌-ℤ◌}
+use Rattle.mp4_box.specs.Paths.{at_path}
+use Rattle.mp4_box.specs.declared.headers.Size.TheVariants.{ToEnd}
+use Rattle.mp4_box.specs.Trees.{Box, boxes, first_of}
+use Rattle.mp4_init.specs.declared.table.Track.{Track}
+use Rattle.mp4_init.specs.Rows.{lower, upper}
+use Rattle.mp4_run_order.specs.declared.runs.ListedRun.{ListedRun}
+use Rattle.mp4_run_order.specs.Orders.{place_key, track_key}
+use Rattle.mp4_frag.specs.declared.run.Run.{Run}
+use Rattle.mp4_frag.specs.declared.run_row.RunRow.{RunRow}
+use Rattle.mp4_frag.specs.Kinds.{free, tfhd}
+use Rattle.mp4_frag.specs.Runs.{Held, header_by, known_track, run_at, runs_of, traf_of}
+use Rattle.mp4_frag.specs.Tfhd.{track_id}
+
+-- how it stands in eight numbers
+unfoldable pub row_of_words : List ℕ → RunRow
+row_of_words w = record {
+  place = pos (slice_index w 0) -ℤ pos 9223372036854775808;
+  trun = slice_index w 1;
+  time = slice_index w 2;
+  end = slice_index w 3;
+  bytes = slice_index w 4;
+  traf_ends_at = slice_index w 5;
+  tfhd = slice_index w 6;
+  track = upper (slice_index w 7);
+  count = lower (slice_index w 7);
+}
+
+-- what the order of runs depends on
+abbrev pub listed_row : RunRow → ListedRun
+listed_row r = record { number = r.trun; track = r.track; count = r.count; place = r.place; bytes = r.bytes }
+
+abbrev pub listed_run : Run → ListedRun
+listed_run run = record { number = run.offset; track = run.track; count = run.count; place = run.place; bytes = run.bytes }
+
+-- the runs of rows, as the order of runs sees them
+abbrev pub listed_words : List (List ℕ) → List ListedRun
+listed_words ws = map (λ (w : List ℕ). listed_row (row_of_words w)) ws
+
+-- by which numbers rows are sorted
+abbrev pub track_word : List ℕ → ℕ
+track_word w = track_key (listed_row (row_of_words w))
+
+abbrev pub place_word : List ℕ → ℕ
+place_word w = place_key (listed_row (row_of_words w))
+
+-- what stands for a box where none is
+abbrev pub nothing : Box
+nothing = record { header = record { kind = free; user = None; size = ToEnd; header_len = 0 }; offset = 0; payload = [] }
+
+abbrev pub box_behind : Held → ℕ → Box
+box_behind h at = unwrap_or (first_of (boxes (h.offset + at) (drop at h.bytes))) nothing
+
+-- the box of a moof that begins at this offset in the stream
+unfoldable pub box_in : Held → ℕ → Box
+box_in h offset = box_behind h (offset - h.offset)
+
+-- the run of a trun, whose time is known, but for its place, its end and its bytes
+abbrev pub reread_at : Held → List Track → RunRow → Box → Box → Run
+reread_at h tracks r trun tfhd =
+    run_at (record { moof = h; header = header_by (known_track (track_id tfhd.payload) tracks) tfhd.payload; ends_at = r.traf_ends_at }) r.time (pos 0) trun
+
+-- the run of a row, in a moof that is held
+unfoldable pub run_of_row : Held → List Track → RunRow → Run
+run_of_row h tracks r = record (reread_at h tracks r (box_in h r.trun) (box_in h r.tfhd)) { place = r.place; end = r.end; bytes = r.bytes }
+
+-- the row of a run, whose traf has its tfhd at this offset
+abbrev pub row_of_run : ℕ → Run → RunRow
+row_of_run tfhd run = record {
+  place = run.place;
+  trun = run.offset;
+  time = run.time;
+  end = run.end;
+  bytes = run.bytes;
+  traf_ends_at = run.traf_ends_at;
+  tfhd = tfhd;
+  track = run.track;
+  count = run.count;
+}
+
+-- where the tfhd of a traf begins, in no stream where there is none
+abbrev pub offset_or_none : Option Box → ℕ
+offset_or_none None = 2 ^ 64 - 1
+offset_or_none (Some b) = b.offset
+
+abbrev pub tfhd_at : Box → ℕ
+tfhd_at t = offset_or_none (first_of (at_path (tfhd ∷ []) t))
+
+-- the rows of the runs of a traf, and those of trafs
+abbrev pub rows_of_traf : Held → List Track → Box → List RunRow
+rows_of_traf h tracks t = map (row_of_run (tfhd_at t)) (runs_of (traf_of h tracks t))
+
+abbrev pub rows_of_trafs : Held → List Track → List Box → List RunRow
+rows_of_trafs h tracks ts = flat_map (rows_of_traf h tracks) ts
+
+-- the rows of numbers
+abbrev pub rows_of_words : List (List ℕ) → List RunRow
+rows_of_words ws = map row_of_words ws

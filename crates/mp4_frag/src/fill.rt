@@ -1,0 +1,101 @@
+//! From a moof to the rows of its runs, in listing order.
+
+ghost use Rattle.std.specs.Prelude.{◌≡◌, ◌+◌, ◌≤◌, ◌<◌, ◌∷◌, ◌++◌, [], length, map};
+ghost use Rattle.std.specs.List.{All, AllByRecursion};
+ghost use Rattle.mp4_box.specs.Paths.{at_path};
+ghost use Rattle.mp4_box.specs.Trees.{view};
+ghost use Rattle.mp4_run_order.specs.Orders.{FitsKeys};
+ghost use Rattle.mp4_frag.specs.Kinds.{traf};
+ghost use Rattle.mp4_frag.specs.Ranges.{InRange, IsSound};
+ghost use Rattle.mp4_frag.specs.RunRows.{listed_words, row_of_run, rows_of_traf, rows_of_trafs, rows_of_words, tfhd_at};
+ghost use Rattle.mp4_frag.specs.Runs.{traf_of};
+
+use crate::kinds::{TFHD, TRAF};
+use crate::run::Run;
+use crate::run_row::{row_of_run, words_of};
+use crate::runs::Runs;
+use crate::traf::traf_of;
+use mp4_box::{Along, BoxRef, first_at};
+use mp4_init::TrackList;
+use mp4_ledger::Rows64;
+
+/// What stands for the offset of a tfhd where there is none.
+const NOWHERE: u64 = u64::MAX;
+
+/// Where the tfhd of a traf begins.
+fn tfhd_at(traf: &BoxRef<'_>) -> u64
+    ensures { result ≡ tfhd_at (view traf.now) }
+{
+    match first_at(&[TFHD], traf) {
+        Some(tfhd) => tfhd.offset,
+        None => NOWHERE,
+    }
+}
+
+/// Appends the row of a run.
+fn push_run(rows: &mut Rows64, tfhd: u64, run: &Run)
+    requires room { length rows.old.rows < rows.old.cap }
+    requires range { InRange run.now }
+    requires fits { All FitsKeys (listed_words rows.old.rows) }
+    ensures rows { rows_of_words rows.new.rows ≡ rows_of_words rows.old.rows ++
+        row_of_run tfhd run.now ∷ [] }
+    ensures fits { All FitsKeys (listed_words rows.new.rows) }
+    ensures len { length rows.new.rows ≡ length rows.old.rows + 1 }
+    ensures cap { rows.new.cap ≡ rows.old.cap }
+{
+    rows.push(words_of(row_of_run(tfhd, run)));
+}
+
+/// Appends the rows of the runs of a traf.
+fn push_runs(rows: &mut Rows64, tfhd: u64, runs: Runs<'_>)
+    requires room { length rows.old.rows + length runs ≤ rows.old.cap }
+    requires range { AllByRecursion InRange runs }
+    requires fits { All FitsKeys (listed_words rows.old.rows) }
+    ensures rows { rows_of_words rows.new.rows ≡ rows_of_words rows.old.rows ++
+        map (row_of_run tfhd) runs.entry }
+    ensures fits { All FitsKeys (listed_words rows.new.rows) }
+    ensures cap { rows.new.cap ≡ rows.old.cap }
+{
+    for run in runs {
+        push_run(rows, tfhd, &run);
+    }
+}
+
+/// Appends the rows of the runs of a traf, of which the moof begins at this offset.
+fn push_traf(rows: &mut Rows64, held: &[u8], moof: u64, tracks: &TrackList, traf: &BoxRef<'_>)
+    requires room { length rows.old.rows + length (rows_of_traf (record { bytes = held.now; offset = moof })
+        tracks.now (view traf.now)) ≤ rows.old.cap }
+    requires sound { IsSound (traf_of (record { bytes = held.now; offset = moof }) tracks.now
+        (view traf.now)) }
+    requires fits { All FitsKeys (listed_words rows.old.rows) }
+    ensures rows { rows_of_words rows.new.rows ≡ rows_of_words rows.old.rows ++
+        rows_of_traf (record { bytes = held.now; offset = moof }) tracks.now (view traf.now) }
+    ensures fits { All FitsKeys (listed_words rows.new.rows) }
+    ensures cap { rows.new.cap ≡ rows.old.cap }
+{
+    push_runs(rows, tfhd_at(traf), traf_of(held, moof, tracks, traf).runs());
+}
+
+/// Appends the rows of all runs of a moof that begins at this offset, in listing order.
+pub(crate) fn fill(
+    rows: &mut Rows64,
+    held: &[u8],
+    offset: u64,
+    moof: &BoxRef<'_>,
+    tracks: &TrackList,
+)
+    requires room { length rows.old.rows + length (rows_of_trafs (record { bytes = held.now; offset = offset })
+        tracks.now (at_path (traf ∷ []) (view moof.now))) ≤ rows.old.cap }
+    requires sound { AllByRecursion (λ t. IsSound (traf_of (record { bytes = held.now; offset = offset })
+        tracks.now t)) (at_path (traf ∷ []) (view moof.now)) }
+    requires fits { All FitsKeys (listed_words rows.old.rows) }
+    ensures rows { rows_of_words rows.new.rows ≡ rows_of_words rows.old.rows ++
+        rows_of_trafs (record { bytes = held.now; offset = offset }) tracks.now
+            (at_path (traf ∷ []) (view moof.now)) }
+    ensures fits { All FitsKeys (listed_words rows.new.rows) }
+    ensures cap { rows.new.cap ≡ rows.old.cap }
+{
+    for traf in Along::of(&[TRAF], moof) {
+        push_traf(rows, held, offset, tracks, &traf);
+    }
+}

@@ -1,0 +1,57 @@
+//! What the definitions of a moof's rules, runs and rows imply.
+
+ghost use Rattle.std.specs.Prelude.{◌≡◌, ◌<◌, ◌≤◌, ◌^◌, ◌+◌, ℕ, List, [], length};
+ghost use Rattle.std.specs.List.{AllByRecursion, flat_map};
+ghost use Rattle.mp4_box.specs.Headers.{IsBytes, IsWhole};
+ghost use Rattle.mp4_box.specs.Paths.{of_kind};
+ghost use Rattle.mp4_box.specs.Trees.{children};
+ghost use Rattle.mp4_init.specs.declared.table.Track.{Track};
+ghost use Rattle.mp4_frag.specs.declared.run.Run.{Run};
+ghost use Rattle.mp4_frag.specs.declared.rows.Cursor.{Cursor};
+ghost use Rattle.mp4_frag.specs.Kinds.{traf};
+ghost use Rattle.mp4_frag.specs.Laws.{TrafRowsAreGroups, first_cursor, in_turn, past};
+ghost use Rattle.mp4_frag.specs.Moofs.{IsRead, moof_faults, moof_of, moof_runs, moof_samples, moof_trafs};
+ghost use Rattle.mp4_frag.specs.Ranges.{InRange};
+ghost use Rattle.mp4_frag.specs.Repeats.{repeat_faults};
+ghost use Rattle.mp4_frag.specs.Rows.{IsCursor, row_of, rows_of};
+ghost use Rattle.mp4_frag.specs.Runs.{Held};
+
+/// In a moof without a fault nothing is at fault, as far as it is looked at.
+pub fn no_fault()
+    ensures { (h : Held) (tracks : List Track) → IsRead h tracks → moof_faults h tracks ≡ [] }
+{}
+
+/// In a moof without a fault row i of the run of each trun is what stands in group i of the trun's payload.
+pub fn rows_are_groups()
+    ensures { (h : Held) (tracks : List Track) → IsWhole h.bytes → IsBytes h.bytes →
+        IsRead h tracks → AllByRecursion (TrafRowsAreGroups h tracks)
+        (of_kind traf (children (moof_of h))) }
+{}
+
+/// The samples of a moof are the rows of all its runs.
+pub fn samples_are_rows()
+    ensures { (h : Held) (tracks : List Track) →
+        length (flat_map (λ run. rows_of run h.bytes) (moof_runs h tracks)) ≡ moof_samples h }
+{}
+
+/// A run's time and place are a cursor at its first row, and a cursor that has gone past a row is a cursor.
+pub fn cursors_go_on()
+    ensures first { (run : Run) (held : List ℕ) → IsCursor run held (first_cursor run) }
+    ensures past { (run : Run) (held : List ℕ) (c : Cursor) → IsCursor run held c →
+        c.row < run.count → IsCursor run held (past c (row_of run held c.row)) }
+{}
+
+/// Where no traf without tfdt has the track_ID of an earlier one, the ends of the tracks before the moof are all that base
+/// times need: each traf is as it is where the trafs are gone over in turn, and each sets where its track ended.
+pub fn ends_before_serve()
+    ensures { (h : Held) (tracks : List Track) → repeat_faults (moof_of h) ≡ [] →
+        in_turn h tracks (of_kind traf (children (moof_of h))) ≡ moof_trafs h tracks }
+{}
+
+/// In a moof without a fault each run ends within 64 bits, and its samples lie from 2^31 bytes before the stream on up to
+/// byte 2^63.
+pub fn runs_are_in_range()
+    ensures { (h : Held) (tracks : List Track) → IsWhole h.bytes → IsBytes h.bytes →
+        h.offset + length h.bytes ≤ 2 ^ 62 → AllByRecursion (λ t. t.size < 2 ^ 32) tracks →
+        IsRead h tracks → AllByRecursion InRange (moof_runs h tracks) }
+{}

@@ -1,0 +1,127 @@
+//! Rows of runs, as the order of runs sees them.
+
+ghost use Rattle.std.specs.Prelude.{◌≡◌, map, length};
+ghost use Rattle.std.specs.Iterator.{YieldsFirst, item_count};
+ghost use Rattle.std.specs.List.Sorted.{IsNonDecreasingBy, IsPermutation};
+ghost use Rattle.mp4_run_order.specs.Searches.{found_by_place, found_by_track};
+ghost use Rattle.mp4_frag.specs.RunRows.{listed_row, listed_words, place_word, row_of_words, track_word};
+
+use crate::run_row::{RunRow, row_of_words};
+use mp4_ledger::Rows64;
+use mp4_run_order::{ListedRun, Payload, PlaceSearch, TrackSearch};
+use std::marker::Model;
+
+/// What the order of runs depends on, of the run of a row.
+fn listed_row(row: &RunRow) -> ListedRun
+    ensures { result ≡ listed_row row.now }
+{
+    ListedRun {
+        number: row.trun,
+        track: row.track,
+        count: row.count,
+        place: row.place,
+        bytes: row.bytes,
+    }
+}
+
+/// Goes over the runs of rows.
+#[derive(Drop)]
+struct Listed<'a> {
+    rows: &'a Rows64,
+    at: usize,
+}
+
+// A contract sees the runs that are left.
+impl<'a> Model for Listed<'a> {
+    ghost use Rattle.std.specs.Prelude.{◌≤◌, List, drop, length};
+    ghost use Rattle.mp4_run_order.specs.declared.runs.ListedRun.{ListedRun};
+    ghost use Rattle.mp4_frag.specs.RunRows.{listed_words};
+
+    ghost Value = { List ListedRun };
+
+    ghost view = { λ l. listed_words (drop l.at l.rows.now.rows) };
+
+    ghost invariant = { λ l. l.at ≤ length l.rows.now.rows };
+}
+
+/// The runs of all rows.
+fn runs_of(rows: &Rows64) -> Listed<'_>
+    ensures { result ≡ listed_words rows.now.rows }
+{
+    Listed { rows, at: 0 }
+}
+
+impl<'a> Iterator for Listed<'a> {
+    type Item = ListedRun;
+
+    ghost next_gives = { YieldsFirst (λ rest. rest) };
+
+    ghost remaining = { item_count (λ rest. rest) };
+
+    fn next(&mut self) -> Option<ListedRun> {
+        if self.at == self.rows.len() {
+            return None;
+        }
+        let run = listed_row(&row_of_words(self.rows.get(self.at)));
+        self.at += 1;
+        Some(run)
+    }
+}
+
+/// What a pass over rows finds that are sorted by track.
+pub(crate) fn find_by_track(rows: &Rows64) -> Option<u64>
+    ensures { result ≡ found_by_track (listed_words rows.now.rows) }
+{
+    let mut search = TrackSearch::new();
+    for run in runs_of(rows) {
+        search = search.past(run);
+    }
+    search.offender
+}
+
+/// What a pass over rows in taking order finds, with what was found by track.
+pub(crate) fn find_by_place(payload: Payload, late: Option<u64>, rows: &Rows64) -> Option<u64>
+    ensures { result ≡ found_by_place payload late (listed_words rows.now.rows) }
+{
+    let mut search = PlaceSearch::new(payload, late);
+    for run in runs_of(rows) {
+        search = search.past(run);
+    }
+    search.offender
+}
+
+fn sort_words_by_track(words: &mut [[u64; 8]])
+    ensures same { IsPermutation words.old words.new }
+    ensures up { IsNonDecreasingBy track_word words.new }
+    ensures len { length words.new ≡ length words.old }
+{
+    words.sort_unstable_by_key(|words| listed_row(&row_of_words(*words)).track_key());
+}
+
+fn sort_words_by_place(words: &mut [[u64; 8]])
+    ensures same { IsPermutation words.old words.new }
+    ensures up { IsNonDecreasingBy place_word words.new }
+    ensures len { length words.new ≡ length words.old }
+{
+    words.sort_unstable_by_key(|words| listed_row(&row_of_words(*words)).place_key());
+}
+
+/// Sorts rows by track, and those of one track as they are listed.
+pub(crate) fn sort_by_track(rows: &mut Rows64)
+    ensures same { IsPermutation rows.old.rows rows.new.rows }
+    ensures up { IsNonDecreasingBy track_word rows.new.rows }
+    ensures len { length rows.new.rows ≡ length rows.old.rows }
+    ensures cap { rows.new.cap ≡ rows.old.cap }
+{
+    sort_words_by_track(rows.all_mut());
+}
+
+/// Sorts rows by place, and those at one place as they are listed.
+pub(crate) fn sort_by_place(rows: &mut Rows64)
+    ensures same { IsPermutation rows.old.rows rows.new.rows }
+    ensures up { IsNonDecreasingBy place_word rows.new.rows }
+    ensures len { length rows.new.rows ≡ length rows.old.rows }
+    ensures cap { rows.new.cap ≡ rows.old.cap }
+{
+    sort_words_by_place(rows.all_mut());
+}

@@ -1,0 +1,40 @@
+//! Where the runs of a moof may stand: the rule RunPlace.
+
+ghost use Rattle.std.specs.Prelude.{◌≡◌, List};
+ghost use Rattle.mp4_init.specs.declared.table.Track.{Track};
+ghost use Rattle.mp4_init.specs.Moovs.{fault_of};
+ghost use Rattle.mp4_frag.specs.Moofs.{moof_runs};
+ghost use Rattle.mp4_frag.specs.RunLists.{IsListOf, place_fault};
+
+use crate::kinds::TRUN;
+use crate::listed::find_by_place;
+use crate::moof::Moof;
+use crate::rows::Steps;
+use crate::run_list::RunList;
+use mp4_box::{Fault, Rule};
+use mp4_run_order::Payload;
+
+impl<'a> Moof<'a> {
+    /// Whether its runs stand where they may in the payload of its mdat. The list is that of this moof, with the tracks that it
+    /// was read with. No row is read.
+    ///
+    /// # Errors
+    ///
+    /// RunPlace at the first trun in the listing that is at fault: it has samples, and its run doesn't lie in the payload,
+    /// shares a byte with a run that is listed earlier, or begins before the end of a run of its track with samples that
+    /// is listed earlier.
+    pub fn places(&self, payload: Payload, list: &RunList, steps: &mut Steps) -> Result<(), Fault>
+        ensures fault { (tracks : List Track) → IsListOf self.now tracks list.now →
+            fault_of result ≡ place_fault payload (moof_runs self.now tracks) }
+        ensures steps { steps.new ≡ steps.old }
+    {
+        match find_by_place(payload, list.late, &list.rows) {
+            None => Ok(()),
+            Some(offset) => Err(Fault {
+                rule: Rule::RunPlace,
+                kind: Some(TRUN),
+                offset,
+            }),
+        }
+    }
+}

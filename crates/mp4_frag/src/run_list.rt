@@ -1,0 +1,163 @@
+//! The runs of a moof in the order in which they are taken, in claimed memory.
+
+ghost use Rattle.std.specs.Prelude.{◌≡◌, ◌+◌, ◌*◌, ◌^◌, ◌<◌, ◌≤◌, ◌↔◌, length, slice_index_or, Some, IsErrOf, IfOk, OnOk, OnErr};
+ghost use Rattle.mp4_box.specs.Headers.{IsWhole};
+ghost use Rattle.mp4_box.specs.Paths.{at_path};
+ghost use Rattle.mp4_box.specs.Trees.{box_at, view};
+ghost use Rattle.mp4_ledger.specs.Memory.{claimed, given_back};
+ghost use Rattle.mp4_frag.specs.Kinds.{to_trun};
+ghost use Rattle.mp4_frag.specs.Moofs.{IsRead, moof_runs, moof_samples};
+ghost use Rattle.mp4_frag.specs.RunLists.{IsLate, IsListOf, IsSorted, taken_runs};
+
+use crate::fill::fill;
+use crate::kinds::{TRAF, TRUN};
+use crate::listed::{find_by_track, sort_by_place, sort_by_track};
+use crate::moof::Moof;
+use crate::reread::run_of_row;
+use crate::rows::Steps;
+use crate::run::Run;
+use crate::run_row::row_of_words;
+use mp4_box::{Along, BoxRef, whole_box};
+use mp4_init::TrackList;
+use mp4_ledger::{Ledger, Refused, Rows64};
+use std::marker::Model;
+
+/// The runs of a moof in the order in which they are taken: by place, and those at one place as the moof lists them. They are kept
+/// in claimed memory, 64 bytes for each. The list must be given back to its ledger, and can't be dropped.
+pub struct RunList {
+    pub(crate) rows: Rows64,
+    /// The offset of the first trun in the listing that begins before the end of an earlier one of its track.
+    pub(crate) late: Option<u64>,
+}
+
+// A contract sees what its rows keep of the runs, and what was found by track.
+impl Model for RunList {
+    ghost use Rattle.std.specs.Prelude.{◌≡◌, length};
+    ghost use Rattle.mp4_frag.specs.RunLists.{ListedRows};
+    ghost use Rattle.mp4_frag.specs.RunRows.{rows_of_words};
+
+    ghost Value = { ListedRows };
+
+    ghost view = { λ l. record { rows = rows_of_words l.rows.rows; late = l.late } };
+
+    ghost invariant = { λ l. length l.rows.rows ≡ l.rows.cap };
+}
+
+impl RunList {
+    /// How many runs it has.
+    #[tactic(auto, using(crate::proofs::RunListLemmas::length_rows))]
+    pub fn len(&self) -> usize
+        ensures { result ≡ length self.now.rows }
+    {
+        self.rows.len()
+    }
+
+    /// The run at this index, of a list of this moof with these tracks. It reads no row of the run.
+    pub fn at(&self, i: usize, moof: &Moof<'_>, tracks: &TrackList) -> Run
+        requires index { i < length self.now.rows }
+        requires list { IsListOf moof.now tracks.now self.now }
+        ensures { result ≡ slice_index_or (taken_runs moof.now tracks.now) i result }
+    {
+        run_of_row(moof.held, moof.offset, tracks, &row_of_words(self.rows.get(i)))
+    }
+
+    /// Gives its claim back.
+    #[tactic(auto, using(crate::proofs::RunListLemmas::length_rows))]
+    pub fn back(self, ledger: &mut Ledger)
+        requires { 64 * length self.rows ≤ ledger.old.live }
+        ensures { ledger.new ≡ given_back ledger.old (64 * length self.rows) }
+    {
+        let RunList { rows, late: _ } = self;
+        ledger.back_rows(rows);
+    }
+}
+
+/// How many truns stand in the trafs of a moof.
+fn count_truns(moof: &BoxRef<'_>) -> u64
+    requires { length (at_path to_trun (view moof.now)) ≤ 2 ^ 62 }
+    ensures { result ≡ length (at_path to_trun (view moof.now)) }
+{
+    let mut count: u64 = 0;
+    for _ in Along::of(&[TRAF, TRUN], moof) {
+        count += 1;
+    }
+    count
+}
+
+/// Sorts rows as they are taken, and tells what was found by track before.
+fn put_in_order(rows: &mut Rows64) -> Option<u64>
+    ensures late { IsLate rows.old.rows result }
+    ensures sorted { IsSorted rows.old.rows rows.new.rows }
+    ensures len { length rows.new.rows ≡ length rows.old.rows }
+    ensures cap { rows.new.cap ≡ rows.old.cap }
+{
+    sort_by_track(rows);
+    let late = find_by_track(rows);
+    sort_by_place(rows);
+    late
+}
+
+/// The list of the runs of the moof that the bytes are, which begin at this offset.
+fn list_in(
+    ledger: &mut Ledger,
+    held: &[u8],
+    offset: u64,
+    tracks: &TrackList,
+) -> Result<RunList, Refused>
+    requires whole { IsWhole held.now }
+    requires room { offset + length held.now ≤ 2 ^ 62 }
+    requires read { IsRead (record { bytes = held.now; offset = offset }) tracks.now }
+    ensures list { IfOk result (λ l.
+        IsListOf (record { bytes = held.now; offset = offset }) tracks.now l) }
+    ensures len { IfOk result (λ l. length l.rows ≡
+        length (moof_runs (record { bytes = held.now; offset = offset }) tracks.now)) }
+    ensures ok { OnOk result (ledger.new ≡ claimed ledger.old (64 *
+        length (moof_runs (record { bytes = held.now; offset = offset }) tracks.now))) }
+    ensures over_limit { IsErrOf result Refused.OverLimit ↔ (ledger.old.limit < ledger.old.live + 64 *
+        length (moof_runs (record { bytes = held.now; offset = offset }) tracks.now)) }
+    ensures err { OnErr result (ledger.new ≡ ledger.old) }
+{
+    let moof = whole_box(held, offset);
+    let mut rows = match ledger.rows(count_truns(&moof)) {
+        Ok(rows) => rows,
+        Err(refused) => return Err(refused),
+    };
+    fill(&mut rows, held, offset, &moof, tracks);
+    let late = put_in_order(&mut rows);
+    Ok(RunList { rows, late })
+}
+
+impl<'a> Moof<'a> {
+    /// Its runs in the order in which they are taken, in a table that is claimed, 64 bytes for each. `tracks` are those that it was
+    /// read with. Its samples are counted in `steps` as rows that were read.
+    ///
+    /// # Errors
+    ///
+    /// `OverLimit` exactly where the claim passes the limit; else `Memory` where the allocator has none. Nothing is claimed
+    /// and no row is read then.
+    pub fn list(
+        &self,
+        ledger: &mut Ledger,
+        tracks: &TrackList,
+        steps: &mut Steps,
+    ) -> Result<RunList, Refused>
+        requires read { IsRead self.now tracks.now }
+        requires steps { steps.old.rows < 2 ^ 127 }
+        ensures list { IfOk result (λ l. IsListOf self.now tracks.now l) }
+        ensures len { IfOk result (λ l. length l.rows ≡ length (moof_runs self.now tracks.now)) }
+        ensures ok { OnOk result (ledger.new ≡
+            claimed ledger.old (64 * length (moof_runs self.now tracks.now))) }
+        ensures walked { OnOk result (steps.new.rows ≡ steps.old.rows + moof_samples self.now) }
+        ensures over_limit { IsErrOf result Refused.OverLimit ↔ (ledger.old.limit <
+            ledger.old.live + 64 * length (moof_runs self.now tracks.now)) }
+        ensures err { OnErr result (ledger.new ≡ ledger.old) }
+        ensures unwalked { OnErr result (steps.new ≡ steps.old) }
+    {
+        let list = match list_in(ledger, self.held, self.offset, tracks) {
+            Ok(list) => list,
+            Err(refused) => return Err(refused),
+        };
+        steps.rows += u128::from(self.samples());
+        Ok(list)
+    }
+}

@@ -1,0 +1,10 @@
+pub mod ListLemmas
+pub mod SortLemmas
+pub mod RunLemmas
+pub mod BoundLemmas
+pub mod BlameLemmas
+pub mod TrackLemmas
+pub mod PlaceLemmas
+pub mod SearchLemmas
+pub mod OrderLemmas
+pub mod TakingLemmas

@@ -1,0 +1,26 @@
+-- Runs of samples, their bytes, and the listing of a moof (ISO/IEC 14496-12, 8.8.8).
+use Rattle.std.specs.Prelude.{ℤ, pos, ◌+ℤ◌, ◌≤ℤ◌, ◌<ℤ◌, ◌≡◌, ◌≢◌, ◌<◌, List}
+use Rattle.std.specs.List.{AllPairs}
+use Rattle.mp4_run_order.specs.declared.runs.ListedRun.{ListedRun}
+
+-- the stream offset behind its last byte
+abbrev pub end_of : ListedRun → ℤ
+end_of run = run.place +ℤ pos run.bytes
+
+-- the byte at this stream offset is one of its samples'
+pub record HasByte (run : ListedRun) (offset : ℤ) : Type 0 where
+  pub samples : run.count ≢ 0
+  pub from : run.place ≤ℤ offset
+  pub to : offset <ℤ end_of run
+
+-- no byte is one of both
+pub record SharesNoByte (a b : ListedRun) : Type 0 where
+  pub no_byte : (offset : ℤ) → HasByte a offset → HasByte b offset → ⊥
+
+-- the run begins no earlier than the end of a, where a has samples and is of its track
+pub record IsInTurn (a run : ListedRun) : Type 0 where
+  pub in_turn : a.count ≢ 0 → a.track ≡ run.track → end_of a ≤ℤ run.place
+
+-- the runs of a moof, in the order in which it lists them
+abbrev pub IsListing : List ListedRun → Type 0
+IsListing runs = AllPairs (λ a b. a.number < b.number) runs
