@@ -65,9 +65,11 @@ no_fall_map f key xs h = λ i j d le lt. let l = length-map xs f in at f key xs 
     get_map f [] i d e h = absurd (omega arith)
     get_map f (x ∷ xs) zero d e h = refl
     get_map f (x ∷ xs) (suc i) d e h = get_map f xs i d e (omega arith)
+
     some : {X : Type 0} (xs : List X) (i : ℕ) → i < length xs → X
     some [] i h = absurd (omega arith)
     some (x ∷ xs) i h = x
+
     at : {X Y : Type 0} (f : X → Y) (key : Y → ℕ) (xs : List X) → IsNonDecreasingBy (λ x. key (f x)) xs → (i j : ℕ) (d : Y) → i ≤ j → j < length xs → key (get_or (map f xs) i d) ≤ key (get_or (map f xs) j d)
     at f key xs h i j d le lt =
         let e = some xs j lt in

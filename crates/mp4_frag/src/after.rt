@@ -10,12 +10,12 @@ ghost use Rattle.mp4_frag.specs.Moofs.{IsRead, moof_runs};
 ghost use Rattle.mp4_frag.specs.Ranges.{InRange, IsSound};
 ghost use Rattle.mp4_frag.specs.Runs.{Held, runs_of};
 
-use crate::kinds::FREE;
 use crate::moof::Moof;
+use crate::part::headless;
 use crate::run::Run;
 use crate::runs::{Runs, behind_run};
 use crate::traf::{TrafContext, TrafHeader, Trafs};
-use mp4_box::{BoxRef, Header, Size, Walk};
+use mp4_box::BoxRef;
 use mp4_init::TrackList;
 
 /// What stands between two places of a moof, as the payload of a box without a header.
@@ -26,16 +26,7 @@ fn part_of<'a>(held: &'a [u8], moof: u64, from: u64, to: u64) -> BoxRef<'a>
     ensures { children (view result) ≡ boxes_between (record { bytes = held.now; offset = moof })
         from to }
 {
-    BoxRef {
-        header: Header {
-            kind: FREE,
-            user: None,
-            size: Size::ToEnd,
-            header_len: 0,
-        },
-        offset: moof + from,
-        payload: &held[from as usize..to as usize],
-    }
+    headless(&held[from as usize..to as usize], moof + from)
 }
 
 /// The runs behind a run in its traf.

@@ -11,6 +11,7 @@ pub mod laws;
 mod listed;
 mod mfhd;
 mod moof;
+mod part;
 mod places;
 mod repeats;
 mod reread;

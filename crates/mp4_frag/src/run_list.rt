@@ -58,7 +58,12 @@ impl RunList {
         requires list { IsListOf moof.now tracks.now self.now }
         ensures { result ≡ slice_index_or (taken_runs moof.now tracks.now) i result }
     {
-        run_of_row(moof.held, moof.offset, tracks, &row_of_words(self.rows.get(i)))
+        run_of_row(
+            moof.held,
+            moof.offset,
+            tracks,
+            &row_of_words(self.rows.get(i)),
+        )
     }
 
     /// Gives its claim back.
