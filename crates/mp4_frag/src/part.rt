@@ -2,7 +2,7 @@
 
 ghost use Rattle.std.specs.Prelude.{◌≡◌, ◌+◌, ◌^◌, ◌<◌, length};
 ghost use Rattle.mp4_box.specs.Trees.{view};
-ghost use Rattle.mp4_frag.specs.RunRows.{nothing};
+ghost use Rattle.mp4_frag.specs.Rereads.{nothing};
 
 use crate::kinds::FREE;
 use mp4_box::{BoxRef, Header, Size};

@@ -2,7 +2,7 @@
 
 ghost use Rattle.std.specs.Prelude.{◌≡◌, ◌+◌, ◌^◌, ◌≤◌, length};
 ghost use Rattle.mp4_box.specs.Trees.{view};
-ghost use Rattle.mp4_frag.specs.RunRows.{box_in, run_of_row};
+ghost use Rattle.mp4_frag.specs.Rereads.{box_in, run_of_row};
 
 use crate::part::headless;
 use crate::run::Run;
@@ -31,7 +31,7 @@ fn box_in<'a>(held: &'a [u8], moof: u64, offset: u64) -> BoxRef<'a>
 }
 
 /// The run of a row, in the moof that begins at this offset.
-#[tactic(auto, unfolding(crate::specs::RunRows::run_of_row))]
+#[tactic(auto, unfolding(crate::specs::Rereads::run_of_row))]
 pub(crate) fn run_of_row(held: &[u8], moof: u64, tracks: &TrackList, row: &RunRow) -> Run
     requires { moof + length held.now ≤ 2 ^ 62 }
     ensures { result ≡ run_of_row (record { bytes = held.now; offset = moof }) tracks.now row.now }

@@ -160,7 +160,7 @@ impl<'a> Moof<'a> {
     {
         let list = match list_in(ledger, self.held, self.offset, tracks) {
             Ok(list) => list,
-            Err(refused) => return Err(refused),
+            Err(why) => return Err(why),
         };
         steps.rows += u128::from(self.samples());
         Ok(list)

@@ -1,7 +1,7 @@
 use Rattle.std.proofs.Common.{◌≡◌, ◌∙◌, ◌+◌, ℕ, sym, ap, arith, List}
 use Rattle.std.specs.Option.{unwrap_or}
 use Rattle.mp4_box.specs.Trees.{Box, first_of, view}
-use Rattle.mp4_frag.specs.RunRows.{nothing}
+use Rattle.mp4_frag.specs.Rereads.{nothing}
 use Rattle.mp4_frag.specs.Runs.{Held}
 use Rattle.mp4_frag.proofs.RunRowLemmas.{found_by, found_nothing}
 use Rattle.mp4_frag.proofs.reread.box_in.Goals as goal
