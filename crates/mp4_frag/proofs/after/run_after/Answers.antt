@@ -1,9 +1,9 @@
-use Rattle.std.proofs.Common.{◌≡◌, ◌∙◌, ◌++◌, ℕ, List, Option, Some, arith, ap, sym, rules}
+use Rattle.std.proofs.Common.{◌∙◌, ℕ, List, arith, ap, sym}
 use Rattle.std.specs.List.{flat_map}
 use Rattle.mp4_box.specs.Trees.{first_of}
 use Rattle.mp4_frag.specs.declared.run.Run.{Run}
 use Rattle.mp4_frag.specs.Runs.{Held, TrackFragment, runs_of}
-use Rattle.mp4_frag.specs.After.{all_behind, runs_behind, trafs_behind}
+use Rattle.mp4_frag.specs.After.{runs_behind, trafs_behind}
 use Rattle.mp4_frag.proofs.AfterLemmas.{after_run, first_of_both, first_of_last}
 use Rattle.mp4_frag.proofs.after.run_after.Goals as goal
 

@@ -1,4 +1,4 @@
-use Rattle.std.proofs.Common.{◌≡◌, ◌∙◌, ap, sym, ◌∷◌}
+use Rattle.std.proofs.Common.{◌∙◌, ap, sym, ◌∷◌}
 use Rattle.mp4_box.specs.Trees.{view}
 use Rattle.mp4_frag.specs.Runs.{Held, TrackFragment, fragment_of, shared_of, trafs_by}
 use Rattle.mp4_frag.proofs.RunLemmas.{first_traf, traf_is}
