@@ -1,6 +1,6 @@
 //! The next run of a moof, found from a run alone.
 
-ghost use Rattle.std.specs.Prelude.{◌≡◌, ◌+◌, ◌++◌, ◌∷◌, ◌^◌, ◌<◌, ◌≤◌, List, length};
+ghost use Rattle.std.specs.Prelude.{◌≡◌, ◌+◌, ◌++◌, ◌∷◌, ◌^◌, ◌<◌, ◌≤◌, List, length, IfSome};
 ghost use Rattle.std.specs.List.{AllByRecursion, flat_map};
 ghost use Rattle.mp4_box.specs.Headers.{IsWhole};
 ghost use Rattle.mp4_box.specs.Trees.{children, first_of, view};
@@ -91,6 +91,8 @@ fn run_after(held: &[u8], moof: u64, tracks: &TrackList, run: &Run) -> Option<Ru
     ensures next { (before after : List Run) → StandsBetween
         (moof_runs (record { bytes = held.now; offset = moof }) tracks.now) before run.now after →
         result ≡ first_of after }
+    ensures run { IfSome result (λ next. StandsIn next
+        (moof_runs (record { bytes = held.now; offset = moof }) tracks.now)) }
 {
     if let Some(next) = runs_behind(held, moof, run).next() {
         return Some(next);
@@ -105,8 +107,9 @@ impl Run {
     pub fn after(self, moof: &Moof<'_>, tracks: &TrackList) -> Option<Run>
         requires read { IsRead moof.now tracks.now }
         requires run { StandsIn self (moof_runs moof.now tracks.now) }
-        ensures { (before after : List Run) → StandsBetween (moof_runs moof.now tracks.now) before
-            self after → result ≡ first_of after }
+        ensures next { (before after : List Run) → StandsBetween (moof_runs moof.now tracks.now)
+            before self after → result ≡ first_of after }
+        ensures run { IfSome result (λ next. StandsIn next (moof_runs moof.now tracks.now)) }
     {
         run_after(moof.held, moof.offset, tracks, &self)
     }
