@@ -1,10 +1,9 @@
 -- The runs behind a run of a moof.
-use Rattle.std.proofs.Common.{◌≡◌, ◌∙◌, ◌+◌, ◌-◌, ◌^◌, ◌<◌, ◌≤◌, ◌⊎◌, ℕ, ℤ, pos, zero, suc, Bool, true, false, cond, List, [], ◌∷◌, ◌++◌, map, length, take, drop, Option, Some, None, refl, sym, ap, subst, arith, inl, inr, append_assoc}
-use Rattle.std.specs.Prelude.{slice_range}
+use Rattle.std.proofs.Common.{◌≡◌, ◌∙◌, ◌+◌, ◌-◌, ◌^◌, ◌<◌, ◌≤◌, ◌⊎◌, ℕ, ℤ, pos, Bool, true, false, cond, List, [], ◌∷◌, ◌++◌, map, length, take, drop, Option, Some, refl, sym, ap, subst, arith, inl, inr, append_assoc}
+use Rattle.std.specs.Prelude.{slice_range, IfSome}
 use Rattle.std.specs.List.{AllByRecursion, flat_map}
 use Rattle.std.specs.Str.{bytes_eq}
 use Rattle.std.proofs.lemmas.List.{drop-take, drop-drop, length-drop}
-use Rattle.mp4_box.specs.declared.headers.FourCc.{FourCc}
 use Rattle.mp4_box.specs.Headers.{IsBytes, IsWhole}
 use Rattle.mp4_box.specs.Paths.{of_kind}
 use Rattle.mp4_box.specs.Trees.{Box, box_at, box_len, boxes, children, first_of, payload_offset}
@@ -17,7 +16,7 @@ use Rattle.mp4_frag.specs.declared.traf.TrafHeader.{TrafHeader}
 use Rattle.mp4_frag.specs.Kinds.{traf, trun}
 use Rattle.mp4_frag.specs.Ranges.{InRange, IsSound}
 use Rattle.mp4_frag.specs.Runs.{Held, Shared, TrackFragment, end_in, end_place, run_at, run_of, runs_from, runs_of, shared_by, track_of, base_of, traf_of, trafs_by}
-use Rattle.mp4_frag.specs.After.{StandsBetween, all_behind, boxes_between, header_behind, runs_behind, shared_behind, trafs_behind}
+use Rattle.mp4_frag.specs.After.{StandsBetween, StandsIn, all_behind, boxes_between, header_behind, runs_behind, shared_behind, trafs_behind}
 use Rattle.mp4_frag.specs.Moofs.{IsRead, moof_of, moof_runs}
 use Rattle.mp4_frag.proofs.MoofLemmas.{moof_is}
 use Rattle.mp4_frag.proofs.PlaceLemmas.{Lies, children_lie, moof_lies}
@@ -259,3 +258,12 @@ first_of_both xs ys x rest e = ap (λ (zs : List Run). first_of (zs ++ ys)) (sym
 
 pub first_of_last : (xs ys : List Run) (r : Option Run) → xs ≡ [] → r ≡ first_of ys → r ≡ first_of (xs ++ ys)
 first_of_last xs ys r e f = f ∙ ap (λ (zs : List Run). first_of (zs ++ ys)) (sym e)
+
+-- where the run behind a run stands, too
+pub stands_on : (runs : List Run) (run : Run) (r : Option Run) → StandsIn run runs → ((before after : List Run) → StandsBetween runs before run after → r ≡ first_of after) → IfSome r (λ (next : Run). StandsIn next runs)
+stands_on runs run r stands is = by stands.0 stands.1 stands.2 (is stands.0 stands.1 stands.2)
+  where
+    by : (before after : List Run) → StandsBetween runs before run after → r ≡ first_of after → IfSome r (λ (next : Run). StandsIn next runs)
+    by before [] s e = subst (λ (o : Option Run). IfSome o (λ (next : Run). StandsIn next runs)) (sym e) tt
+    by before (x ∷ rest) s e =
+        subst (λ (o : Option Run). IfSome o (λ (next : Run). StandsIn next runs)) (sym e) (before ++ run ∷ [], rest, record { is = s.is ∙ sym (append_assoc before (run ∷ []) (x ∷ rest)) })

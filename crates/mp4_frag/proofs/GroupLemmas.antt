@@ -1,5 +1,5 @@
 -- The rows of a run are the groups of its trun's payload.
-use Rattle.std.proofs.Common.{◌≡◌, ◌∙◌, ◌+◌, ◌-◌, ◌*◌, ◌^◌, ◌<◌, ◌≤◌, ◌==◌, ℕ, ℤ, zero, suc, Bool, true, false, cond, ltb, List, [], ◌∷◌, ◌++◌, map, length, take, drop, get_or, Option, Some, None, refl, sym, ap, subst, arith, inl, inr}
+use Rattle.std.proofs.Common.{◌≡◌, ◌∙◌, ◌+◌, ◌*◌, ◌<◌, ◌≤◌, ◌==◌, ℕ, suc, Bool, true, false, cond, ltb, List, [], ◌∷◌, length, drop, get_or, Option, Some, None, refl, sym, ap, subst, arith, inl, inr}
 use Rattle.std.specs.List.{AllByRecursion, flat_map}
 use Rattle.std.proofs.lemmas.Bool.{le-ltb}
 use Rattle.std.proofs.lemmas.Bool.Decides.{nat_tests}
@@ -7,18 +7,16 @@ use Rattle.std.proofs.lemmas.Grind.{flat_map-append}
 use Rattle.std.proofs.lemmas.List.{get_or-take, get_or-drop}
 use Rattle.std.proofs.Math.Nat.{mul-le-mul_left, mul-suc}
 use Rattle.byteorder.specs.Endian.{big_number}
-use Rattle.mp4_box.specs.declared.rules.Fault.{Fault}
 use Rattle.mp4_box.specs.declared.rules.Rule.{Rule}
 use Rattle.mp4_box.specs.declared.rules.Rule.TheVariants.{Version, FieldLength}
 use Rattle.mp4_box.specs.Checks.{along, fault_by, unless}
 use Rattle.mp4_box.specs.Fields.{number_in, version_in}
 use Rattle.mp4_box.specs.Headers.{IsBytes, IsWhole}
 use Rattle.mp4_box.specs.Paths.{at_path, of_kind}
-use Rattle.mp4_box.specs.Trees.{Box, box_at, children, payload_offset}
+use Rattle.mp4_box.specs.Trees.{Box, box_at, children}
 use Rattle.mp4_box.proofs.GrammarLemmas.{option_is, whole_found}
 use Rattle.mp4_init.specs.declared.table.Track.{Track}
 use Rattle.mp4_frag.specs.declared.run.Run.{Run}
-use Rattle.mp4_frag.specs.declared.rows.Row.{Row}
 use Rattle.mp4_frag.specs.Kinds.{traf, trun, to_trun}
 use Rattle.mp4_frag.specs.Fields.{flags_in, place_if, width_if}
 use Rattle.mp4_frag.specs.Trun.{sample_count, sample_fields, trun_broken, trun_fields, trun_len, sample_duration_present, sample_size_present, sample_flags_present, sample_composition_time_offset_present, sample_size_at, sample_flags_at, sample_composition_time_offset_at}
@@ -26,7 +24,7 @@ use Rattle.mp4_frag.specs.Rules.{form_faults, trun_length}
 use Rattle.mp4_frag.specs.Rows.{field_at, group_at, offset_at, offset_by, row_from, row_of, usual_flags}
 use Rattle.mp4_frag.specs.Runs.{Held, Shared, run_at, run_of, shared_by, track_of}
 use Rattle.mp4_frag.specs.Moofs.{IsRead, moof_of}
-use Rattle.mp4_frag.specs.Laws.{RowsAreGroups, TrafRowsAreGroups, group_in, group_row}
+use Rattle.mp4_frag.specs.Laws.{RowsAreGroups, TrafRowsAreGroups}
 use Rattle.mp4_frag.proofs.MoofLemmas.{early, last_none, moof_is, read_early}
 use Rattle.mp4_frag.proofs.PlaceLemmas.{Lies, children_lie, kind_all, moof_lies}
 use Rattle.mp4_frag.proofs.SoundLemmas.{trun_path}

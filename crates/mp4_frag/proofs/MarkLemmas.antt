@@ -1,10 +1,10 @@
 -- What is marked at the place of a track_ID.
-use Rattle.std.proofs.Common.{◌≡◌, ◌∙◌, ◌<◌, ◌≤◌, ◌+◌, ◌-◌, ◌==◌, ℕ, zero, suc, Bool, true, false, cond, List, [], ◌∷◌, ◌++◌, length, take, drop, Option, Some, None, refl, sym, ap, arith}
-use Rattle.std.specs.Prelude.{replicate, slice_get, slice_index_or, slice_set}
+use Rattle.std.proofs.Common.{◌≡◌, ◌∙◌, ◌<◌, ◌==◌, ℕ, Bool, true, false, cond, List, [], ◌∷◌, length, Option, Some, None, refl, sym, ap, arith}
+use Rattle.std.specs.Prelude.{replicate, slice_get, slice_index_or}
 use Rattle.std.proofs.lemmas.List.{get_or_default, length-replicate, length-set, get_or-replicate, get_or-set_same, get_or-set_other}
 use Rattle.std.proofs.lemmas.Bool.Decides.{nat_tests}
 use Rattle.mp4_box.specs.Trees.{Box}
-use Rattle.mp4_init.proofs.SearchTreeLemmas.{is_same, same_test, other_test}
+use Rattle.mp4_init.proofs.SearchTreeLemmas.{is_same}
 use Rattle.mp4_frag.specs.Repeats.{traf_id, is_listed, place_if, descend, sought, marked_at, all_marked, marks}
 
 some_same : (a b : ℕ) → Some a ≡ Some b → a ≡ b

@@ -17,7 +17,8 @@ use Rattle.mp4_frag.specs.Kinds.{to_trun, traf}
 use Rattle.mp4_frag.specs.Moofs.{IsRead, moof_of, moof_runs}
 use Rattle.mp4_frag.specs.Ranges.{IsSound}
 use Rattle.mp4_frag.specs.RunLists.{moof_listing}
-use Rattle.mp4_frag.specs.RunRows.{listed_row, listed_words, row_of_words, rows_of_trafs, rows_of_words, run_of_row}
+use Rattle.mp4_frag.specs.Rereads.{run_of_row}
+use Rattle.mp4_frag.specs.RunRows.{listed_row, listed_words, row_of_words, rows_of_trafs, rows_of_words}
 use Rattle.mp4_frag.specs.Runs.{Held, TrackFragment, traf_of, trafs_by}
 use Rattle.mp4_frag.proofs.MoofLemmas.{moof_is}
 use Rattle.mp4_frag.proofs.PlaceLemmas.{Lies, moof_lies}

@@ -1,16 +1,18 @@
 -- Trafs that are passed, child by child.
-use Rattle.std.proofs.Common.{◌≡◌, ◌≢◌, ◌∙◌, ◌<◌, ◌≤◌, ◌+◌, ◌-◌, ◌==◌, ℕ, zero, suc, Bool, true, false, cond, List, [], ◌∷◌, ◌++◌, length, take, drop, Option, Some, None, refl, sym, ap, arith, append-nil, append_assoc}
+use Rattle.std.proofs.Common.{◌≡◌, ◌≢◌, ◌∙◌, ◌+◌, ◌-◌, ◌==◌, ◌&&◌, ◌||◌, ℕ, zero, suc, Bool, true, false, cond, List, [], ◌∷◌, ◌++◌, take, drop, Option, refl, sym, ap, arith, append-nil, append_assoc}
 use Rattle.std.specs.Prelude.{replicate}
+use Rattle.std.specs.List.{list_any}
 use Rattle.std.specs.Str.{bytes_eq}
 use Rattle.mp4_box.specs.declared.rules.Fault.{Fault}
 use Rattle.mp4_box.specs.declared.rules.Rule.TheVariants.{Unsupported}
 use Rattle.mp4_box.specs.Trees.{Box, children}
 use Rattle.mp4_box.specs.Order.{least_from}
-use Rattle.mp4_box.specs.Paths.{of_kind}
+use Rattle.mp4_box.specs.Paths.{at_path, of_kind}
 use Rattle.mp4_box.proofs.OrderLemmas.{least_from_append}
 use Rattle.mp4_frag.specs.Kinds.{traf}
 use Rattle.mp4_frag.specs.Rules.{fault_if}
-use Rattle.mp4_frag.specs.Repeats.{traf_id, is_listed, is_repeat, repeats, trafs_before, sought, marked_at, all_marked, marks}
+use Rattle.mp4_frag.proofs.MoofLemmas.{on_path}
+use Rattle.mp4_frag.specs.Repeats.{traf_id, is_listed, is_repeat, lacks_time, repeat_faults, repeats, trafs_before, sought, marked_at, all_marked, marks}
 
 abbrev pub trafs : List Box → List Box
 trafs bs = of_kind traf bs
@@ -121,3 +123,19 @@ repeats_more best earlier c ys =
 pub repeats_none : (best : Option Fault) (earlier : List Box) → least_from best (repeats earlier (trafs [])) ≡ best
 unfolding repeats least_from
 repeats_none best earlier = refl
+
+-- ---- where each traf has a tfdt
+
+none_lacks : (earlier ts : List Box) → list_any lacks_time ts ≡ false → repeats earlier ts ≡ []
+unfolding repeats
+none_lacks earlier [] e = refl
+none_lacks earlier (t ∷ ts) e = by (lacks_time t) refl (none_lacks (earlier ++ t ∷ []) ts) e
+  where
+    by : (u : Bool) → lacks_time t ≡ u → (list_any lacks_time ts ≡ false → repeats (earlier ++ t ∷ []) ts ≡ []) → u || list_any lacks_time ts ≡ false → repeats earlier (t ∷ ts) ≡ []
+    by true is later e = absurd cc
+    by false is later e = ap (λ (u : Bool). fault_if (u && is_listed (traf_id t) earlier) Unsupported t ++ repeats (earlier ++ t ∷ []) ts) is ∙ later e
+
+pub no_repeats : (m : Box) (best : Option Fault) (any : Bool) → any ≡ list_any lacks_time (at_path (traf ∷ []) m) → any ≡ false → least_from best (repeat_faults m) ≡ best
+unfolding least_from
+no_repeats m best true is e = absurd cc
+no_repeats m best false is e = ap (least_from best) (none_lacks [] (of_kind traf (children m)) (ap (list_any lacks_time) (sym (on_path m)) ∙ sym is))

@@ -1,16 +1,15 @@
 -- Where the boxes of a moof lie in its bytes.
-use Rattle.std.proofs.Common.{◌≡◌, ◌∙◌, ◌+◌, ◌-◌, ◌<◌, ◌≤◌, ℕ, zero, suc, Bool, true, false, cond, List, [], ◌∷◌, ◌++◌, length, take, drop, Option, Some, None, refl, sym, ap, subst, arith, inl, inr}
+use Rattle.std.proofs.Common.{◌≡◌, ◌∙◌, ◌+◌, ◌-◌, ◌≤◌, ℕ, zero, suc, Bool, true, false, cond, List, [], ◌∷◌, ◌++◌, length, take, drop, Some, sym, ap, subst, arith, inl, inr}
 use Rattle.std.specs.List.{AllByRecursion}
 use Rattle.std.specs.Str.{bytes_eq}
-use Rattle.std.proofs.lemmas.List.{drop_at, drop-take, take-take, drop-drop, length-append, length-take, length-drop, take_all}
+use Rattle.std.proofs.lemmas.List.{drop_at, drop-take, take-take, drop-drop, length-drop}
 use Rattle.mp4_box.specs.declared.headers.FourCc.{FourCc}
 use Rattle.mp4_box.specs.Headers.{IsBytes, IsWhole}
 use Rattle.mp4_box.specs.Paths.{of_kind}
-use Rattle.mp4_box.specs.Trees.{Box, box_at, box_len, boxes, children, over, payload_offset}
+use Rattle.mp4_box.specs.Trees.{Box, box_at, box_len, boxes, children, payload_offset}
 use Rattle.mp4_box.proofs.GrammarLemmas.{option_is, stands, whole_len}
 use Rattle.mp4_box.proofs.HeaderLemmas.{IsBytes-drop}
 use Rattle.mp4_box.proofs.TreeLemmas.{boxes_more, boxes_end, over-end}
-use Rattle.mp4_frag.specs.Moofs.{moof_of}
 use Rattle.mp4_frag.specs.Runs.{Held}
 
 -- the payload of a box is a part of the bytes that are held

@@ -1,5 +1,5 @@
 -- The numbers of the runs of a traf.
-use Rattle.std.proofs.Common.{◌≡◌, ◌∙◌, ◌+◌, ◌-◌, ◌*◌, ◌^◌, ◌<◌, ◌≤◌, ◌==◌, ℕ, zero, suc, ℤ, pos, ◌+ℤ◌, ◌≤ℤ◌, ◌<ℤ◌, Bool, true, false, cond, ltb, List, [], ◌∷◌, map, length, drop, Option, Some, None, refl, sym, ap, subst, arith}
+use Rattle.std.proofs.Common.{◌≡◌, ◌+◌, ◌-◌, ◌*◌, ◌^◌, ◌<◌, ◌≤◌, ℕ, zero, suc, ℤ, pos, ◌+ℤ◌, ◌≤ℤ◌, ◌<ℤ◌, Bool, true, false, cond, ltb, List, [], ◌∷◌, map, length, drop, Option, Some, None, refl, arith}
 use Rattle.std.specs.Prelude.{option_map}
 use lib.IntN.{◌-ℤ◌}
 use Rattle.std.specs.List.{AllByRecursion, range_with_len, sum_by}
@@ -15,7 +15,7 @@ use Rattle.mp4_frag.specs.declared.run.Run.{Run}
 use Rattle.mp4_frag.specs.declared.rows.Row.{Row}
 use Rattle.mp4_frag.specs.Fields.{flags_in, signed_in}
 use Rattle.mp4_frag.specs.Trun.{data_offset, sample_count, trun_fields}
-use Rattle.mp4_frag.specs.Rules.{most_samples, samples_in}
+use Rattle.mp4_frag.specs.Rules.{samples_in}
 use Rattle.mp4_frag.specs.Rows.{field_at, row_of, group_at, rows_of, sizes}
 use Rattle.mp4_frag.specs.Runs.{Shared, TrackFragment, start_by, run_at, run_of, runs_from, runs_of, end_place}
 use Rattle.mp4_frag.specs.Ranges.{InRange, IsSound}

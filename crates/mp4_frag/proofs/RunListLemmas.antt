@@ -10,18 +10,21 @@ use Rattle.mp4_init.specs.declared.table.Track.{Track}
 use Rattle.mp4_run_order.specs.declared.runs.ListedRun.{ListedRun}
 use Rattle.mp4_run_order.specs.declared.runs.Payload.{Payload}
 use Rattle.mp4_run_order.specs.Orders.{FitsKeys, IsBeforeByTrack, IsTakenBefore, IsTakingOrder, IsTrackOrder, place_key, taken, taken_by, track_key}
-use Rattle.mp4_run_order.specs.Places.{first_offender}
+use Rattle.mp4_box.specs.declared.rules.Fault.{Fault}
+use Rattle.mp4_run_order.specs.Places.{IsOffender, first_offender}
 use Rattle.mp4_run_order.specs.Runs.{IsListing}
 use Rattle.mp4_run_order.specs.Searches.{found_by_place, found_by_track}
 use Rattle.mp4_run_order.proofs.ListLemmas.{Each, Pairs, all_of_pairs, each_moved, pairs_of_all, pairs_of_map, pairs_with}
 use Rattle.mp4_run_order.proofs.OrderLemmas.{TakenBefore, order_is_taken, place_keys_order, taken_alone, taken_is_order, track_keys_order}
-use Rattle.mp4_run_order.proofs.SearchLemmas.{search_is}
+use Rattle.mp4_run_order.proofs.SearchLemmas.{offender_means, search_is}
 use Rattle.mp4_frag.specs.declared.run.Run.{Run}
 use Rattle.mp4_frag.specs.declared.run_row.RunRow.{RunRow}
 use Rattle.mp4_frag.specs.Moofs.{moof_runs}
 use Rattle.mp4_frag.specs.Runs.{Held}
-use Rattle.mp4_frag.specs.RunRows.{listed_row, listed_run, listed_words, place_word, row_of_words, rows_of_words, run_of_row, track_word}
-use Rattle.mp4_frag.specs.RunLists.{IsFoundByTrack, IsLate, IsListOf, IsSorted, ListedRows, misplaced, moof_listing, place_fault, taken_runs}
+use Rattle.mp4_frag.specs.Rereads.{run_of_row}
+use Rattle.mp4_frag.specs.RunRows.{listed_row, listed_run, listed_words, place_word, row_of_words, rows_of_words, track_word}
+use Rattle.mp4_frag.specs.Places.{IsPlaceFault, misplaced, place_fault}
+use Rattle.mp4_frag.specs.RunLists.{IsFoundByTrack, IsLate, IsListOf, IsSorted, ListedRows, moof_listing, taken_runs}
 use Rattle.mp4_frag.proofs.RunRowLemmas.{Earlier, Given}
 
 -- ---- maps
@@ -65,9 +68,11 @@ no_fall_map f key xs h = λ i j d le lt. let l = length-map xs f in at f key xs 
     get_map f [] i d e h = absurd (omega arith)
     get_map f (x ∷ xs) zero d e h = refl
     get_map f (x ∷ xs) (suc i) d e h = get_map f xs i d e (omega arith)
+
     some : {X : Type 0} (xs : List X) (i : ℕ) → i < length xs → X
     some [] i h = absurd (omega arith)
     some (x ∷ xs) i h = x
+
     at : {X Y : Type 0} (f : X → Y) (key : Y → ℕ) (xs : List X) → IsNonDecreasingBy (λ x. key (f x)) xs → (i j : ℕ) (d : Y) → i ≤ j → j < length xs → key (get_or (map f xs) i d) ≤ key (get_or (map f xs) j d)
     at f key xs h i j d le lt =
         let e = some xs j lt in
@@ -151,6 +156,17 @@ pub place_found : (p : Payload) (h : Held) (tracks : List Track) (l : ListedRows
 place_found p h tracks l ws late r of e found =
     place_is p h tracks (record { rows = rows_of_words ws; late = late }) r (subst (IsListOf h tracks) (sym e) of)
     (found ∙ ap (found_by_place p late) (sym (map_map row_of_words listed_row ws)))
+
+-- what the fault means
+
+means_by : (p : Payload) (runs : List ListedRun) (o : Option ListedRun) → IsOffender p runs o → IsPlaceFault p runs (option_map (λ run. misplaced run.number) o)
+means_by p runs None h = h
+means_by p runs (Some run) h = record { run = run; first = h; is = refl }
+
+pub place_means : (p : Payload) (h : Held) (tracks : List Track) (l : ListedRows) (o : Option Fault) → IsListOf h tracks l → o ≡ place_fault p (moof_runs h tracks) → IsPlaceFault p (moof_listing h tracks) o
+place_means p h tracks l o of e =
+    let listing = moof_listing h tracks in
+    subst (IsPlaceFault p listing) (sym e) (means_by p listing (first_offender p listing) (offender_means p listing of.listing))
 
 -- ---- the run at an index
 

@@ -1,5 +1,5 @@
 -- The tracks behind a moof: the ends before it serve each traf that has no tfdt.
-use Rattle.std.proofs.Common.{length, ◌≡◌, ◌∙◌, ◌+◌, ◌^◌, ◌<◌, ◌≤◌, ◌==◌, ◌&&◌, ℕ, ℤ, pos, zero, suc, Bool, true, false, cond, ltb, List, [], ◌∷◌, ◌++◌, map, Option, Some, None, refl, sym, ap, subst, arith}
+use Rattle.std.proofs.Common.{length, ◌≡◌, ◌∙◌, ◌+◌, ◌^◌, ◌<◌, ◌≤◌, ◌==◌, ◌&&◌, ℕ, ℤ, pos, suc, Bool, true, false, cond, ltb, List, [], ◌∷◌, ◌++◌, map, Option, Some, None, refl, sym, ap, subst, arith}
 use Rattle.std.specs.Prelude.{option_map, slice_get}
 use Rattle.std.specs.List.{AllByRecursion, flat_map, fold, position, position_from}
 use Rattle.std.specs.Option.{is_none, option_and_then, unwrap_or}
@@ -13,9 +13,9 @@ use Rattle.mp4_box.specs.Trees.{Box, box_at, children, first_of}
 use Rattle.mp4_init.specs.declared.table.Track.{Track}
 use Rattle.mp4_init.specs.Rows.{with_next}
 use Rattle.mp4_init.proofs.RowLemmas.{length_with_next}
-use Rattle.mp4_init.proofs.SearchTreeLemmas.{is_same, same_test, other_test}
+use Rattle.mp4_init.proofs.SearchTreeLemmas.{is_same}
 use Rattle.mp4_frag.specs.declared.run.Run.{Run}
-use Rattle.mp4_frag.specs.Kinds.{tfdt, tfhd, traf, trun}
+use Rattle.mp4_frag.specs.Kinds.{tfdt, traf, trun}
 use Rattle.mp4_frag.specs.Rules.{fault_if, track_with}
 use Rattle.mp4_frag.specs.Tfhd.{track_id}
 use Rattle.mp4_frag.specs.Runs.{Held, Shared, TrackFragment, base_by, base_of, end_of, end_place, header_by, last_end, no_track, run_of, runs_from, runs_of, shared_by, tfhd_of, traf_of, trafs_by, track_of}

@@ -1,14 +1,12 @@
 -- The trafs of a moof without a fault.
 use Rattle.std.proofs.Common.{◌≡◌, ◌∙◌, ◌+◌, ◌^◌, ◌<◌, ◌≤◌, ℕ, ℤ, pos, zero, suc, Bool, true, false, cond, ltb, List, [], ◌∷◌, ◌++◌, map, length, Option, Some, None, refl, sym, ap, subst, arith, inl, inr}
 use Rattle.std.specs.Prelude.{◌==◌, slice_get}
-use Rattle.std.specs.List.{AllByRecursion, flat_map, position, sum_by}
+use Rattle.std.specs.List.{AllByRecursion, flat_map, position}
 use Rattle.std.specs.Option.{option_and_then, unwrap_or}
 use Rattle.std.proofs.lemmas.Bool.{ltb-false, ltb-true}
 use Rattle.std.proofs.lemmas.Grind.{flat_map-append}
 use Rattle.std.proofs.lemmas.List.{length-append}
 use Rattle.std.proofs.lemmas.List.Sums.{sum_by-cons, sum_by-append}
-use Rattle.mp4_box.specs.declared.headers.FourCc.{FourCc}
-use Rattle.mp4_box.specs.declared.rules.Fault.{Fault}
 use Rattle.mp4_box.specs.declared.rules.Rule.TheVariants.{TooManySamples}
 use Rattle.mp4_box.specs.Headers.{IsBytes, IsWhole}
 use Rattle.mp4_box.specs.Paths.{of_kind, at_path}
@@ -23,7 +21,7 @@ use Rattle.mp4_frag.specs.Trun.{sample_count, sample_duration_present}
 use Rattle.mp4_frag.specs.Settling.{timed, timed_in, timed_of}
 use Rattle.mp4_frag.specs.Rules.{count_faults, most_samples, samples_in, samples_of, too_many}
 use Rattle.mp4_frag.specs.Rows.{rows_of}
-use Rattle.mp4_frag.specs.Runs.{Held, Shared, TrackFragment, end_place, run_at, no_track, run_of, runs_from, runs_of, tfhd_of, track_of, traf_of, trafs_by}
+use Rattle.mp4_frag.specs.Runs.{Held, Shared, end_place, run_at, no_track, run_of, runs_from, runs_of, tfhd_of, track_of, traf_of, trafs_by}
 use Rattle.mp4_frag.specs.Moofs.{IsRead, late, late_fault, moof_of, moof_runs, moof_samples, moof_trafs, time_faults, time_faults_of}
 use Rattle.mp4_frag.specs.Ranges.{InRange, IsSound}
 use Rattle.mp4_frag.proofs.MoofLemmas.{last_none, moof_is, read_count, read_times}

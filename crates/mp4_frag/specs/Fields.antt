@@ -1,5 +1,5 @@
 -- Fields that are there where a flag says so (ISO/IEC 14496-12, 4.2).
-use Rattle.std.specs.Prelude.{ℕ, ℤ, Bool, List, [], Option, Some, None, ◌+◌, nat_lt, if◌then◌else◌, length, drop}
+use Rattle.std.specs.Prelude.{ℕ, ℤ, Bool, List, [], Option, Some, None, nat_lt, if◌then◌else◌, length, drop}
 use Rattle.byteorder.specs.Endian.{big_number, twos_complement}
 use Rattle.mp4_box.specs.Fields.{number_in}
 use Rattle.mp4_box.specs.Trees.{Box}

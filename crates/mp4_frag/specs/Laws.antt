@@ -7,13 +7,12 @@ use Rattle.mp4_init.specs.declared.table.Track.{Track}
 use Rattle.mp4_frag.specs.declared.run.Run.{Run}
 use Rattle.mp4_frag.specs.declared.rows.Row.{Row}
 use Rattle.mp4_frag.specs.declared.rows.Cursor.{Cursor}
-use Rattle.mp4_frag.specs.Kinds.{traf, trun}
+use Rattle.mp4_frag.specs.Kinds.{trun}
 use Rattle.mp4_frag.specs.Fields.{flags_in}
 use Rattle.mp4_frag.specs.Trun.{sample_count, sample_fields, trun_fields}
 use Rattle.mp4_frag.specs.Rows.{row_from, row_of}
 use Rattle.mp4_frag.specs.Runs.{Held, Shared, TrackFragment, run_of, shared_by, track_of, traf_of}
 use Rattle.mp4_frag.specs.Settling.{ended}
-use Rattle.mp4_frag.specs.Moofs.{moof_of}
 
 -- where group i begins in the payload of a trun
 abbrev pub group_in : List ℕ → ℕ → ℕ

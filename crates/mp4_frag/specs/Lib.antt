@@ -16,3 +16,5 @@ pub mod Ranges
 pub mod After
 pub mod Settling
 pub mod Laws
+pub mod Rereads
+pub mod Places

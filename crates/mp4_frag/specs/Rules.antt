@@ -16,7 +16,7 @@ use Rattle.mp4_frag.specs.Kinds.{mfhd, traf, tfhd, tfdt, trun, free, skip, to_tf
 use Rattle.mp4_frag.specs.Fields.{flags_in, number_or}
 use Rattle.mp4_frag.specs.Mfhd.{mfhd_len}
 use Rattle.mp4_frag.specs.Tfdt.{tfdt_layout}
-use Rattle.mp4_frag.specs.Tfhd.{counts_from_moof, duration_is_empty, fields_of, tfhd_fields, track_id}
+use Rattle.mp4_frag.specs.Tfhd.{counts_from_moof, duration_is_empty, fields_of, track_id}
 use Rattle.mp4_frag.specs.Trun.{flags_conflict, sample_count, trun_broken}
 
 -- the box is at fault by the rule where this holds

@@ -15,7 +15,8 @@ use Rattle.mp4_frag.specs.declared.run_row.RunRow.{RunRow}
 use Rattle.mp4_frag.specs.Kinds.{trun}
 use Rattle.mp4_frag.specs.Moofs.{moof_runs}
 use Rattle.mp4_frag.specs.Runs.{Held}
-use Rattle.mp4_frag.specs.RunRows.{listed_row, listed_run, listed_words, place_word, run_of_row, track_word}
+use Rattle.mp4_frag.specs.Rereads.{run_of_row}
+use Rattle.mp4_frag.specs.RunRows.{listed_row, listed_run, listed_words, place_word, track_word}
 
 -- the runs of a moof as the rule of their places sees them, in listing order
 abbrev pub moof_listing : Held → List Track → List ListedRun
@@ -54,13 +55,3 @@ pub record IsListOf (h : Held) (tracks : List Track) (l : ListedRows) : Type 0 w
   pub listing : IsListing (moof_listing h tracks)
   pub taken : map listed_row l.rows ≡ taken (moof_listing h tracks)
   pub late : IsFoundByTrack (moof_listing h tracks) l.late
-
--- ---- the rule of places
-
--- the trun that begins at this offset
-abbrev pub misplaced : ℕ → Fault
-misplaced offset = record { rule = RunPlace; kind = Some trun; offset = offset }
-
--- the fault of the first run in the listing that may not stand where it does, where there is one
-abbrev pub place_fault : Payload → List Run → Option Fault
-place_fault payload runs = option_map (λ run. misplaced run.number) (first_offender payload (map listed_run runs))

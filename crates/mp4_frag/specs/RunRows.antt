@@ -30,6 +30,9 @@ row_of_words w = record {
   count = lower (slice_index w 7);
 }
 
+abbrev pub rows_of_words : List (List ℕ) → List RunRow
+rows_of_words ws = map row_of_words ws
+
 -- what the order of runs depends on
 abbrev pub listed_row : RunRow → ListedRun
 listed_row r = record { number = r.trun; track = r.track; count = r.count; place = r.place; bytes = r.bytes }
@@ -47,26 +50,6 @@ track_word w = track_key (listed_row (row_of_words w))
 
 abbrev pub place_word : List ℕ → ℕ
 place_word w = place_key (listed_row (row_of_words w))
-
--- what stands for a box where none is
-abbrev pub nothing : Box
-nothing = record { header = record { kind = free; user = None; size = ToEnd; header_len = 0 }; offset = 0; payload = [] }
-
-abbrev pub box_behind : Held → ℕ → Box
-box_behind h at = unwrap_or (first_of (boxes (h.offset + at) (drop at h.bytes))) nothing
-
--- the box of a moof that begins at this offset in the stream
-unfoldable pub box_in : Held → ℕ → Box
-box_in h offset = box_behind h (offset - h.offset)
-
--- the run of a trun, whose time is known, but for its place, its end and its bytes
-abbrev pub reread_at : Held → List Track → RunRow → Box → Box → Run
-reread_at h tracks r trun tfhd =
-    run_at (record { moof = h; header = header_by (known_track (track_id tfhd.payload) tracks) tfhd.payload; ends_at = r.traf_ends_at }) r.time (pos 0) trun
-
--- the run of a row, in a moof that is held
-unfoldable pub run_of_row : Held → List Track → RunRow → Run
-run_of_row h tracks r = record (reread_at h tracks r (box_in h r.trun) (box_in h r.tfhd)) { place = r.place; end = r.end; bytes = r.bytes }
 
 -- the row of a run, whose traf has its tfhd at this offset
 abbrev pub row_of_run : ℕ → Run → RunRow
@@ -96,7 +79,3 @@ rows_of_traf h tracks t = map (row_of_run (tfhd_at t)) (runs_of (traf_of h track
 
 abbrev pub rows_of_trafs : Held → List Track → List Box → List RunRow
 rows_of_trafs h tracks ts = flat_map (rows_of_traf h tracks) ts
-
--- the rows of numbers
-abbrev pub rows_of_words : List (List ℕ) → List RunRow
-rows_of_words ws = map row_of_words ws

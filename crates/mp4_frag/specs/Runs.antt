@@ -1,6 +1,6 @@
 -- The runs of a moof: their defaults, times and places (ISO/IEC 14496-12, 8.8.4 to 8.8.8 and 8.8.12). Numbers are without limit here.
 use Rattle.std.specs.Prelude.{ℕ, ℤ, pos, List, [], ◌∷◌, Option, Some, None, ◌+◌, ◌-◌, ◌+ℤ◌, length, map}
-use Rattle.std.specs.List.{flat_map, fold}
+use Rattle.std.specs.List.{fold}
 use Rattle.std.specs.Option.{unwrap_or}
 use Rattle.mp4_box.specs.Fields.{version_in}
 use Rattle.mp4_box.specs.declared.box_ref.BoxRef.{BoxRef}

@@ -1,5 +1,5 @@
 -- Where the tracks end behind a moof.
-use Rattle.std.specs.Prelude.{ℕ, List, [], ◌∷◌, Option, Some, None, ◌+◌, ◌==◌, if◌then◌else◌, ◌≡◌, ⊤}
+use Rattle.std.specs.Prelude.{ℕ, List, [], ◌∷◌, Option, Some, None, ◌+◌, ◌==◌, if◌then◌else◌, ◌≡◌}
 use Rattle.std.specs.List.{fold, position, sum_by}
 use Rattle.mp4_box.specs.Trees.{Box}
 use Rattle.mp4_box.specs.Paths.{at_path}

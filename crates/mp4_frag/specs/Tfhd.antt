@@ -2,8 +2,7 @@
 use Rattle.std.specs.Prelude.{ℕ, Bool, List, ◌+◌, not, ◌&&◌, if◌then◌else◌}
 use Rattle.mp4_flags.specs.Flags.{has_flag}
 use Rattle.mp4_box.specs.Fields.{number_in}
-use Rattle.mp4_init.specs.declared.table.Track.{Track}
-use Rattle.mp4_frag.specs.Fields.{flags_in, number_or, place_if, width_if}
+use Rattle.mp4_frag.specs.Fields.{flags_in, place_if, width_if}
 use Rattle.mp4_frag.specs.declared.tfhd.TfhdFields.{TfhdFields}
 
 -- ---- the flags, by their names in the standard

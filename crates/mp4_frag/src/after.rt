@@ -1,6 +1,6 @@
 //! The next run of a moof, found from a run alone.
 
-ghost use Rattle.std.specs.Prelude.{◌≡◌, ◌+◌, ◌++◌, ◌∷◌, ◌^◌, ◌<◌, ◌≤◌, List, length};
+ghost use Rattle.std.specs.Prelude.{◌≡◌, ◌+◌, ◌++◌, ◌∷◌, ◌^◌, ◌<◌, ◌≤◌, List, length, IfSome};
 ghost use Rattle.std.specs.List.{AllByRecursion, flat_map};
 ghost use Rattle.mp4_box.specs.Headers.{IsWhole};
 ghost use Rattle.mp4_box.specs.Trees.{children, first_of, view};
@@ -10,12 +10,12 @@ ghost use Rattle.mp4_frag.specs.Moofs.{IsRead, moof_runs};
 ghost use Rattle.mp4_frag.specs.Ranges.{InRange, IsSound};
 ghost use Rattle.mp4_frag.specs.Runs.{Held, runs_of};
 
-use crate::kinds::FREE;
 use crate::moof::Moof;
+use crate::part::headless;
 use crate::run::Run;
 use crate::runs::{Runs, behind_run};
 use crate::traf::{TrafContext, TrafHeader, Trafs};
-use mp4_box::{BoxRef, Header, Size, Walk};
+use mp4_box::BoxRef;
 use mp4_init::TrackList;
 
 /// What stands between two places of a moof, as the payload of a box without a header.
@@ -26,16 +26,7 @@ fn part_of<'a>(held: &'a [u8], moof: u64, from: u64, to: u64) -> BoxRef<'a>
     ensures { children (view result) ≡ boxes_between (record { bytes = held.now; offset = moof })
         from to }
 {
-    BoxRef {
-        header: Header {
-            kind: FREE,
-            user: None,
-            size: Size::ToEnd,
-            header_len: 0,
-        },
-        offset: moof + from,
-        payload: &held[from as usize..to as usize],
-    }
+    headless(&held[from as usize..to as usize], moof + from)
 }
 
 /// The runs behind a run in its traf.
@@ -100,6 +91,8 @@ fn run_after(held: &[u8], moof: u64, tracks: &TrackList, run: &Run) -> Option<Ru
     ensures next { (before after : List Run) → StandsBetween
         (moof_runs (record { bytes = held.now; offset = moof }) tracks.now) before run.now after →
         result ≡ first_of after }
+    ensures run { IfSome result (λ next. StandsIn next
+        (moof_runs (record { bytes = held.now; offset = moof }) tracks.now)) }
 {
     if let Some(next) = runs_behind(held, moof, run).next() {
         return Some(next);
@@ -114,8 +107,9 @@ impl Run {
     pub fn after(self, moof: &Moof<'_>, tracks: &TrackList) -> Option<Run>
         requires read { IsRead moof.now tracks.now }
         requires run { StandsIn self (moof_runs moof.now tracks.now) }
-        ensures { (before after : List Run) → StandsBetween (moof_runs moof.now tracks.now) before
-            self after → result ≡ first_of after }
+        ensures next { (before after : List Run) → StandsBetween (moof_runs moof.now tracks.now)
+            before self after → result ≡ first_of after }
+        ensures run { IfSome result (λ next. StandsIn next (moof_runs moof.now tracks.now)) }
     {
         run_after(moof.held, moof.offset, tracks, &self)
     }

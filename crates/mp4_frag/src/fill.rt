@@ -73,7 +73,11 @@ fn push_traf(rows: &mut Rows64, held: &[u8], moof: u64, tracks: &TrackList, traf
     ensures fits { All FitsKeys (listed_words rows.new.rows) }
     ensures cap { rows.new.cap ≡ rows.old.cap }
 {
-    push_runs(rows, tfhd_at(traf), traf_of(held, moof, tracks, traf).runs());
+    push_runs(
+        rows,
+        tfhd_at(traf),
+        traf_of(held, moof, tracks, traf).runs(),
+    );
 }
 
 /// Appends the rows of all runs of a moof that begins at this offset, in listing order.
@@ -91,7 +95,7 @@ pub(crate) fn fill(
     requires fits { All FitsKeys (listed_words rows.old.rows) }
     ensures rows { rows_of_words rows.new.rows ≡ rows_of_words rows.old.rows ++
         rows_of_trafs (record { bytes = held.now; offset = offset }) tracks.now
-            (at_path (traf ∷ []) (view moof.now)) }
+        (at_path (traf ∷ []) (view moof.now)) }
     ensures fits { All FitsKeys (listed_words rows.new.rows) }
     ensures cap { rows.new.cap ≡ rows.old.cap }
 {

@@ -48,8 +48,8 @@ pub fn ends_before_serve()
         in_turn h tracks (of_kind traf (children (moof_of h))) ≡ moof_trafs h tracks }
 {}
 
-/// In a moof without a fault each run ends within 64 bits, and its samples lie from 2^31 bytes before the stream on up to
-/// byte 2^63.
+/// In a moof without a fault each run ends within 64 bits, and its samples lie from 2^31 bytes before the stream on and
+/// end before byte 2^63.
 pub fn runs_are_in_range()
     ensures { (h : Held) (tracks : List Track) → IsWhole h.bytes → IsBytes h.bytes →
         h.offset + length h.bytes ≤ 2 ^ 62 → AllByRecursion (λ t. t.size < 2 ^ 32) tracks →

@@ -1,4 +1,20 @@
-//! The runs of a moof.
+//! The samples of a movie fragment: what a moof (ISO/IEC 14496-12, 8.8.4) says of each, and the rules that it must keep.
+//! `CALLING.md` shows a caller.
+//!
+//! - [`Moof::read`]: from the bytes of a moof to a [`Moof`], or the [`Fault`](mp4_box::Fault) that it has;
+//!   [`Moof::settle`]: where its tracks end behind it;
+//! - [`Moof::trafs`], [`Traf::runs`] and [`Run::rows`]: its trafs, their [`Run`]s and the [`Row`] of each sample.
+//!   [`Run::rows_from`] goes on from a [`Cursor`], and [`Run::after`] gives the next run;
+//! - [`Moof::list`]: a [`RunList`], its runs in the order in which they are taken, in claimed memory, and
+//!   [`Moof::places`]: whether they stand where they may in the [`Payload`] of its mdat;
+//! - [`laws`]: what the definitions of `specs/` imply.
+//!
+//! Each box that is read has a file here and one in `specs/`, with its fields by the standard's names and where they stand:
+//! mfhd, tfhd, tfdt, trun. `specs/Rules.antt` and `specs/Repeats.antt` say what is at fault, `specs/Rows.antt` what a row
+//! is, `specs/Runs.antt` when and where runs begin and end, `specs/Moofs.antt` what a moof comes to, `specs/RunLists.antt`
+//! what a list of its runs is, and `specs/Places.antt` which run is at fault by its place. The others say how it is worked
+//! out: `specs/Ranges.antt`, `specs/Times.antt`, `specs/After.antt`, `specs/Settling.antt`, `specs/RunRows.antt`,
+//! `specs/Rereads.antt`.
 #![tactic(auto)]
 
 mod after;
@@ -11,6 +27,7 @@ pub mod laws;
 mod listed;
 mod mfhd;
 mod moof;
+mod part;
 mod places;
 mod repeats;
 mod reread;

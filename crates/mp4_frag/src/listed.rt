@@ -84,8 +84,8 @@ pub(crate) fn find_by_place(payload: Payload, late: Option<u64>, rows: &Rows64) 
     ensures { result ≡ found_by_place payload late (listed_words rows.now.rows) }
 {
     let mut search = PlaceSearch::new(payload, late);
-    for run in runs_of(rows) {
-        search = search.past(run);
+    for taken in runs_of(rows) {
+        search = search.past(taken);
     }
     search.offender
 }

@@ -140,6 +140,9 @@ impl<'a> Moof<'a> {
             (moof_faults (record { bytes = held.now; offset = offset }) tracks.now) }
         ensures walked { early_fault (record { bytes = held.now; offset = offset }) tracks.now ≡ None →
             steps.new.rows ≡ steps.old.rows + moof_samples (record { bytes = held.now; offset = offset }) }
+        ensures ok { OnOk result (steps.new.rows ≡ steps.old.rows +
+            moof_samples (record { bytes = held.now; offset = offset })) }
+        ensures few { steps.new.rows ≤ steps.old.rows + most_samples }
         ensures unwalked { IsSome (early_fault (record { bytes = held.now; offset = offset }) tracks.now) →
             steps.new ≡ steps.old }
     {

@@ -4,7 +4,8 @@ ghost use Rattle.std.specs.Prelude.{◌≡◌, List};
 ghost use Rattle.mp4_init.specs.declared.table.Track.{Track};
 ghost use Rattle.mp4_init.specs.Moovs.{fault_of};
 ghost use Rattle.mp4_frag.specs.Moofs.{moof_runs};
-ghost use Rattle.mp4_frag.specs.RunLists.{IsListOf, place_fault};
+ghost use Rattle.mp4_frag.specs.Places.{IsPlaceFault, place_fault};
+ghost use Rattle.mp4_frag.specs.RunLists.{IsListOf, moof_listing};
 
 use crate::kinds::TRUN;
 use crate::listed::find_by_place;
@@ -26,6 +27,8 @@ impl<'a> Moof<'a> {
     pub fn places(&self, payload: Payload, list: &RunList, steps: &mut Steps) -> Result<(), Fault>
         ensures fault { (tracks : List Track) → IsListOf self.now tracks list.now →
             fault_of result ≡ place_fault payload (moof_runs self.now tracks) }
+        ensures first { (tracks : List Track) → IsListOf self.now tracks list.now →
+            IsPlaceFault payload (moof_listing self.now tracks) (fault_of result) }
         ensures steps { steps.new ≡ steps.old }
     {
         match find_by_place(payload, list.late, &list.rows) {

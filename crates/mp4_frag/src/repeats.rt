@@ -1,20 +1,37 @@
-//! Track fragments without a base time of their own, behind others of their track.
+//! Trafs without a base time of their own, behind others of their track.
+//!
+//! A moof of 64 MiB may have millions of trafs. The track_IDs of trafs without tfdt are looked at in blocks, in an array of fixed
+//! size: each is marked when a traf that has it is passed. The moof is gone over again for each block alone.
 
 ghost use Rattle.std.specs.Prelude.{◌≡◌, ◌≤◌, ◌<◌, ◌+◌, [], ◌∷◌, length, IfSome};
+ghost use Rattle.std.specs.List.{list_any};
 ghost use Rattle.mp4_box.specs.Trees.{view, children};
 ghost use Rattle.mp4_box.specs.Order.{least_from};
-ghost use Rattle.mp4_box.specs.Paths.{of_kind};
+ghost use Rattle.mp4_box.specs.Paths.{at_path, of_kind};
 ghost use Rattle.mp4_frag.specs.Kinds.{traf};
 ghost use Rattle.mp4_frag.specs.Repeats.{all_marked, descend, is_listed, is_repeat, lacks_time, marked_at, marks, repeat_faults, repeats, sought, traf_id, trafs_before};
 
 use crate::fields::payload_at;
 use crate::kinds::{TFDT, TFHD, TRAF};
 use crate::tfhd::track_id;
-use mp4_box::{BoxRef, Fault, Rule, Walk, first_at, note};
+use mp4_box::{Along, BoxRef, Fault, Rule, Walk, first_at, note};
+
+/// For how many track_IDs a moof is gone over at once, and a small one.
+const MANY: usize = 131_072;
+
+const FEW: usize = 64;
+
+/// A small moof has a payload of fewer bytes.
+const SMALL: usize = 4096;
+
+/// A search takes so many steps, the first of them this long: half of MANY.
+const LEVELS: u8 = 17;
+
+const FIRST_STEP: usize = 65_536;
 
 /// The track_ID of a traf.
 #[tactic(auto, unfolding(crate::specs::Repeats::traf_id))]
-pub(crate) fn number_of(traf: &BoxRef<'_>) -> u32
+fn traf_id(traf: &BoxRef<'_>) -> u32
     ensures { result ≡ traf_id (view traf.now) }
 {
     track_id(payload_at(TFHD, traf))
@@ -22,7 +39,7 @@ pub(crate) fn number_of(traf: &BoxRef<'_>) -> u32
 
 /// Whether a traf has no tfdt.
 #[tactic(auto, unfolding(crate::specs::Repeats::lacks_time))]
-pub(crate) fn has_no_time(traf: &BoxRef<'_>) -> bool
+fn lacks_time(traf: &BoxRef<'_>) -> bool
     ensures { result ≡ lacks_time (view traf.now) }
 {
     first_at(&[TFDT], traf).is_none()
@@ -52,7 +69,7 @@ fn seek(ids: &[u32], id: u32) -> Option<usize>
     ensures place { result ≡ sought ids.now id }
     ensures within { IfSome result (λ k. k < length ids.now) }
 {
-    let at = descend(17, 65_536, ids, id, 0);
+    let at = descend(LEVELS, FIRST_STEP, ids, id, 0);
     match ids.get(at) {
         Some(other) => { if *other == id { Some(at) } else { None } }
         None => None,
@@ -77,7 +94,8 @@ impl<const N: usize> Marks<N> {
         }
     }
 
-    /// The track_IDs of trafs without tfdt, from a child of the moof on, as many as there is room for, in order.
+    /// The track_IDs of trafs without tfdt, from a child of the moof on, as many as there is room for, in order. What is
+    /// left of the room has this track_ID.
     fn ids_from(moof: &BoxRef<'_>, from: usize, id: u32) -> [u32; N] {
         let mut ids = [id; N];
         let mut used = 0;
@@ -88,9 +106,9 @@ impl<const N: usize> Marks<N> {
             }
             if passed >= from
                 && child.header.kind.0.as_slice() == TRAF.0.as_slice()
-                && has_no_time(&child)
+                && lacks_time(&child)
             {
-                ids[used] = number_of(&child);
+                ids[used] = traf_id(&child);
                 used += 1;
             }
             passed = passed.saturating_add(1);
@@ -110,12 +128,13 @@ impl<const N: usize> Marks<N> {
         if child.header.kind.0.as_slice() != TRAF.0.as_slice() {
             return false;
         }
-        let other = number_of(child);
+        let other = traf_id(child);
         self.mark(other);
         other == id
     }
 
     /// Takes other track_IDs: those of the trafs from here on. Tells whether a traf that was passed has this one.
+    // It stands apart since a function pays for the size of its locals each time that it is called.
     #[tactic(auto, using(crate::proofs::PassLemmas::marked_next, crate::proofs::PassLemmas::listed_next, crate::proofs::PassLemmas::marked_none, crate::proofs::PassLemmas::listed_none), unfolding(crate::specs::Repeats::marks))]
     fn refill(&mut self, moof: &BoxRef<'_>, passed: usize, id: u32) -> bool
         ensures seen { self.new.seen ≡ marks N self.new.ids (trafs_before passed (view moof.now)) }
@@ -156,10 +175,10 @@ impl<const N: usize> Marks<N> {
         ensures seen { self.new.seen ≡ marks N self.new.ids (trafs_before passed (view moof.now)) }
         ensures repeat { result ≡ is_repeat (trafs_before passed (view moof.now)) (view traf.now) }
     {
-        if !has_no_time(traf) {
+        if !lacks_time(traf) {
             return false;
         }
-        self.has(moof, passed, number_of(traf))
+        self.has(moof, passed, traf_id(traf))
     }
 
     /// Notes such a traf.
@@ -199,35 +218,50 @@ impl<const N: usize> Marks<N> {
     }
 }
 
-/// With room for few trafs.
+/// The same with room for few track_IDs.
 #[tactic(auto, unfolding(crate::specs::Repeats::marks, crate::specs::Repeats::all_marked))]
 fn note_few(moof: &BoxRef<'_>, best: &mut Option<Fault>)
     ensures { best.new ≡ least_from best.old (repeat_faults (view moof.now)) }
 {
-    let mut marks = Marks::<64> {
-        ids: [0; 64],
-        seen: [false; 64],
+    let mut marks = Marks::<FEW> {
+        ids: [0; FEW],
+        seen: [false; FEW],
     };
     marks.note_all(moof, best);
 }
 
-/// With room for many trafs.
+/// The same with room for many.
 #[tactic(auto, unfolding(crate::specs::Repeats::marks, crate::specs::Repeats::all_marked))]
 fn note_many(moof: &BoxRef<'_>, best: &mut Option<Fault>)
     ensures { best.new ≡ least_from best.old (repeat_faults (view moof.now)) }
 {
-    let mut marks = Marks::<131_072> {
-        ids: [0; 131_072],
-        seen: [false; 131_072],
+    let mut marks = Marks::<MANY> {
+        ids: [0; MANY],
+        seen: [false; MANY],
     };
     marks.note_all(moof, best);
 }
 
+/// Whether a traf of the moof has no tfdt.
+fn any_lacks_time(moof: &BoxRef<'_>) -> bool
+    ensures { result ≡ list_any lacks_time (at_path (traf ∷ []) (view moof.now)) }
+{
+    for traf in Along::of(&[TRAF], moof) {
+        if lacks_time(&traf) {
+            return true;
+        }
+    }
+    false
+}
+
 /// Notes the trafs that have no tfdt though one that is listed earlier has their track_ID.
-pub fn note_repeats(moof: &BoxRef<'_>, best: &mut Option<Fault>)
+pub(crate) fn note_repeats(moof: &BoxRef<'_>, best: &mut Option<Fault>)
     ensures { best.new ≡ least_from best.old (repeat_faults (view moof.now)) }
 {
-    if moof.payload.len() < 4096 {
+    if !any_lacks_time(moof) {
+        return;
+    }
+    if moof.payload.len() < SMALL {
         note_few(moof, best);
     } else {
         note_many(moof, best);

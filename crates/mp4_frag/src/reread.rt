@@ -1,34 +1,17 @@
 //! From the row of a run to the run.
 
-ghost use Rattle.std.specs.Prelude.{◌≡◌, ◌+◌, ◌^◌, ◌<◌, ◌≤◌, length};
+ghost use Rattle.std.specs.Prelude.{◌≡◌, ◌+◌, ◌^◌, ◌≤◌, length};
 ghost use Rattle.mp4_box.specs.Trees.{view};
-ghost use Rattle.mp4_frag.specs.RunRows.{box_in, nothing, run_of_row};
+ghost use Rattle.mp4_frag.specs.Rereads.{box_in, run_of_row};
 
-use crate::kinds::FREE;
+use crate::part::headless;
 use crate::run::Run;
 use crate::run_row::RunRow;
 use crate::runs::{Behind, run_at};
 use crate::tfhd::track_id;
 use crate::traf::{TrafContext, header_by, known_track};
-use mp4_box::{BoxRef, Header, Size, Walk};
+use mp4_box::{BoxRef, Walk};
 use mp4_init::TrackList;
-
-/// These bytes as the payload of a box without a header.
-fn part_of(payload: &[u8], offset: u64) -> BoxRef<'_>
-    requires { offset + length payload.now < 2 ^ 63 }
-    ensures { view result ≡ record nothing { offset = offset; payload = payload.now } }
-{
-    BoxRef {
-        header: Header {
-            kind: FREE,
-            user: None,
-            size: Size::ToEnd,
-            header_len: 0,
-        },
-        offset,
-        payload,
-    }
-}
 
 /// The box of a moof that begins at this offset in the stream.
 fn box_in<'a>(held: &'a [u8], moof: u64, offset: u64) -> BoxRef<'a>
@@ -37,18 +20,18 @@ fn box_in<'a>(held: &'a [u8], moof: u64, offset: u64) -> BoxRef<'a>
 {
     let at = offset.saturating_sub(moof);
     if at > held.len() as u64 {
-        return part_of(&held[..0], 0);
+        return headless(&held[..0], 0);
     }
     let (_, rest) = held.split_at(at as usize);
-    let part = part_of(rest, moof + at);
+    let part = headless(rest, moof + at);
     match Walk::of(&part).next() {
         Some(this) => this,
-        None => part_of(&held[..0], 0),
+        None => headless(&held[..0], 0),
     }
 }
 
 /// The run of a row, in the moof that begins at this offset.
-#[tactic(auto, unfolding(crate::specs::RunRows::run_of_row))]
+#[tactic(auto, unfolding(crate::specs::Rereads::run_of_row))]
 pub(crate) fn run_of_row(held: &[u8], moof: u64, tracks: &TrackList, row: &RunRow) -> Run
     requires { moof + length held.now ≤ 2 ^ 62 }
     ensures { result ≡ run_of_row (record { bytes = held.now; offset = moof }) tracks.now row.now }

@@ -58,7 +58,12 @@ impl RunList {
         requires list { IsListOf moof.now tracks.now self.now }
         ensures { result ≡ slice_index_or (taken_runs moof.now tracks.now) i result }
     {
-        run_of_row(moof.held, moof.offset, tracks, &row_of_words(self.rows.get(i)))
+        run_of_row(
+            moof.held,
+            moof.offset,
+            tracks,
+            &row_of_words(self.rows.get(i)),
+        )
     }
 
     /// Gives its claim back.
@@ -155,7 +160,7 @@ impl<'a> Moof<'a> {
     {
         let list = match list_in(ledger, self.held, self.offset, tracks) {
             Ok(list) => list,
-            Err(refused) => return Err(refused),
+            Err(why) => return Err(why),
         };
         steps.rows += u128::from(self.samples());
         Ok(list)

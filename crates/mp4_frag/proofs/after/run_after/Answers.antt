@@ -1,10 +1,11 @@
-use Rattle.std.proofs.Common.{◌≡◌, ◌∙◌, ◌++◌, ℕ, List, Option, Some, arith, ap, sym, rules}
+use Rattle.std.proofs.Common.{Some, ◌∙◌, ℕ, List, arith, ap, sym}
 use Rattle.std.specs.List.{flat_map}
 use Rattle.mp4_box.specs.Trees.{first_of}
 use Rattle.mp4_frag.specs.declared.run.Run.{Run}
 use Rattle.mp4_frag.specs.Runs.{Held, TrackFragment, runs_of}
-use Rattle.mp4_frag.specs.After.{all_behind, runs_behind, trafs_behind}
-use Rattle.mp4_frag.proofs.AfterLemmas.{after_run, first_of_both, first_of_last}
+use Rattle.mp4_frag.specs.After.{runs_behind, trafs_behind}
+use Rattle.mp4_frag.specs.Moofs.{moof_runs}
+use Rattle.mp4_frag.proofs.AfterLemmas.{after_run, first_of_both, first_of_last, stands_on}
 use Rattle.mp4_frag.proofs.after.run_after.Goals as goal
 
 abbrev held_of : List ℕ → ℕ → Held
@@ -28,16 +29,18 @@ trafs_behind-requires-clause-within c = (after_run (held_of c.args.held.now c.ar
 pub trafs_behind-requires-clause-sound : goal.trafs_behind-requires-clause-sound
 trafs_behind-requires-clause-sound c = (after_run (held_of c.args.held.now c.args.moof) c.args.tracks.now (omega (arith, c.requires.room)) c.requires.whole (λ i. (c.type_inv.held i).fits) c.requires.read c.requires.run.0 c.requires.run.1 c.args.run.now c.requires.run.2).sound
 
-pub returns-in-Some : goal.returns-in-Some
-returns-in-Some c = record {
-  next = λ before after s.
-      first_of_both (runs_behind (held_of c.args.held.now c.args.moof) c.args.run.now) (flat_map runs_of (trafs_behind (held_of c.args.held.now c.args.moof) c.args.tracks.now c.args.run.now)) c.in-Some.next c.next.new.self (sym c.runs_behind.ensures ∙ c.in-Some.ensures.steps)
-      ∙ ap (λ (runs : List Run). first_of runs) (sym (after_run (held_of c.args.held.now c.args.moof) c.args.tracks.now (omega (arith, c.requires.room)) c.requires.whole (λ i. (c.type_inv.held i).fits) c.requires.read before after c.args.run.now s).is);
-}
+pub returns-in-Some-clause-next : goal.returns-in-Some-clause-next
+returns-in-Some-clause-next c before after s =
+    first_of_both (runs_behind (held_of c.args.held.now c.args.moof) c.args.run.now) (flat_map runs_of (trafs_behind (held_of c.args.held.now c.args.moof) c.args.tracks.now c.args.run.now)) c.in-Some.next c.next.new.self (sym c.runs_behind.ensures ∙ c.in-Some.ensures.steps)
+    ∙ ap (λ (runs : List Run). first_of runs) (sym (after_run (held_of c.args.held.now c.args.moof) c.args.tracks.now (omega (arith, c.requires.room)) c.requires.whole (λ i. (c.type_inv.held i).fits) c.requires.read before after c.args.run.now s).is)
 
-pub returns : goal.returns
-returns c = record {
-  next = λ before after s.
-      first_of_last (runs_behind (held_of c.args.held.now c.args.moof) c.args.run.now) (flat_map runs_of (trafs_behind (held_of c.args.held.now c.args.moof) c.args.tracks.now c.args.run.now)) c.first_run.result (sym c.runs_behind.ensures ∙ c.in_default.ensures.steps.0) (c.first_run.ensures ∙ ap (λ (ts : List TrackFragment). first_of (flat_map runs_of ts)) c.trafs_behind.ensures)
-      ∙ ap (λ (runs : List Run). first_of runs) (sym (after_run (held_of c.args.held.now c.args.moof) c.args.tracks.now (omega (arith, c.requires.room)) c.requires.whole (λ i. (c.type_inv.held i).fits) c.requires.read before after c.args.run.now s).is);
-}
+pub returns-in-Some-clause-run : goal.returns-in-Some-clause-run
+returns-in-Some-clause-run c = stands_on (moof_runs (held_of c.args.held.now c.args.moof) c.args.tracks.now) c.args.run.now (Some c.in-Some.next) c.requires.run (returns-in-Some-clause-next c)
+
+pub returns-clause-next : goal.returns-clause-next
+returns-clause-next c before after s =
+    first_of_last (runs_behind (held_of c.args.held.now c.args.moof) c.args.run.now) (flat_map runs_of (trafs_behind (held_of c.args.held.now c.args.moof) c.args.tracks.now c.args.run.now)) c.first_run.result (sym c.runs_behind.ensures ∙ c.in_default.ensures.steps.0) (c.first_run.ensures ∙ ap (λ (ts : List TrackFragment). first_of (flat_map runs_of ts)) c.trafs_behind.ensures)
+    ∙ ap (λ (runs : List Run). first_of runs) (sym (after_run (held_of c.args.held.now c.args.moof) c.args.tracks.now (omega (arith, c.requires.room)) c.requires.whole (λ i. (c.type_inv.held i).fits) c.requires.read before after c.args.run.now s).is)
+
+pub returns-clause-run : goal.returns-clause-run
+returns-clause-run c = stands_on (moof_runs (held_of c.args.held.now c.args.moof) c.args.tracks.now) c.args.run.now c.first_run.result c.requires.run (returns-clause-next c)

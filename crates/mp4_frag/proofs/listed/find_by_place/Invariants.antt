@@ -5,8 +5,8 @@ use Rattle.mp4_frag.specs.RunRows.{listed_words}
 use Rattle.mp4_frag.proofs.listed.find_by_place.Given as goal
 
 -- what is made of the runs that are left is what is made of all
-abbrev pub invariant-loop-run : goal.invariant-loop-run
-invariant-loop-run l =
-    (goal.iterator-loop-run).can_next l.run-iterator
-    × (goal.iterator-loop-run).is_finite l.run-iterator
-    × (fold place_step l.search l.run-iterator ≡ fold place_step (place_start l.fn.payload l.fn.late) (listed_words l.fn.rows.rows))
+abbrev pub invariant-loop-taken : goal.invariant-loop-taken
+invariant-loop-taken l =
+    (goal.iterator-loop-taken).can_next l.taken-iterator
+    × (goal.iterator-loop-taken).is_finite l.taken-iterator
+    × (fold place_step l.search l.taken-iterator ≡ fold place_step (place_start l.fn.payload l.fn.late) (listed_words l.fn.rows.rows))

@@ -1,4 +1,4 @@
-use Rattle.std.proofs.Common.{sym, ap, ◌∙◌}
+use Rattle.std.proofs.Common.{sym}
 use Rattle.mp4_box.specs.Trees.{view}
 use Rattle.mp4_frag.proofs.MoofLemmas.{content_fault_least, moof_is, tree_least}
 use Rattle.mp4_frag.proofs.moof.early_fault.Goals as goal

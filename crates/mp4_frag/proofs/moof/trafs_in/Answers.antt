@@ -1,4 +1,4 @@
-use Rattle.std.proofs.Common.{◌≡◌, ◌+◌, ◌^◌, ◌≤◌, arith, subst, sym, ap, List, rules}
+use Rattle.std.proofs.Common.{◌≡◌, ◌^◌, ◌≤◌, arith, subst}
 use Rattle.std.specs.List.{AllByRecursion}
 use Rattle.mp4_box.specs.Trees.{Box, children, view}
 use Rattle.mp4_frag.specs.Ranges.{IsSound}

@@ -1,13 +1,11 @@
-use Rattle.std.proofs.Common.{◌≡◌, ◌∙◌, ◌∷◌, ℕ, ℤ, List, sym, ap, subst, rules}
+use Rattle.std.proofs.Common.{List, sym, ap, subst}
 use Rattle.std.specs.List.{AllByRecursion}
-use Rattle.std.specs.Int.{w128}
-use Rattle.std.proofs.lemmas.Int.{to_z-of_z}
 use Rattle.mp4_box.specs.Paths.{of_kind}
 use Rattle.mp4_box.specs.Trees.{view}
 use Rattle.mp4_frag.specs.declared.run.Run.{Run}
 use Rattle.mp4_frag.specs.Kinds.{trun}
 use Rattle.mp4_frag.specs.Ranges.{InRange}
-use Rattle.mp4_frag.specs.Runs.{end_place, run_of, runs_from, runs_left, shared_of}
+use Rattle.mp4_frag.specs.Runs.{runs_from, shared_of}
 use Rattle.mp4_frag.proofs.RunLemmas.{first_in_range, next_is, runs_none}
 use Rattle.mp4_frag.proofs.runs.next_run.Goals as goal
 

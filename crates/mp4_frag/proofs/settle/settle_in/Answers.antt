@@ -1,4 +1,4 @@
-use Rattle.std.proofs.Common.{◌≡◌, ◌∙◌, ◌+◌, ◌^◌, ◌≤◌, List, arith, subst, sym}
+use Rattle.std.proofs.Common.{◌∙◌, List, arith, subst, sym}
 use Rattle.mp4_box.specs.Trees.{Box, view}
 use Rattle.mp4_frag.specs.Runs.{Held}
 use Rattle.mp4_frag.proofs.MoofLemmas.{moof_is}

@@ -1,4 +1,4 @@
-use Rattle.std.proofs.Common.{sym, rules, subst, ◌≡◌, ◌∙◌}
+use Rattle.std.proofs.Common.{sym, subst}
 use Rattle.mp4_box.specs.declared.rules.Fault.{Fault}
 use Rattle.mp4_box.specs.Order.{IsLeast}
 use Rattle.mp4_box.specs.Trees.{view}

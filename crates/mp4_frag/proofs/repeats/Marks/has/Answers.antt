@@ -1,4 +1,4 @@
-use Rattle.std.proofs.Common.{◌∙◌, sym, arith, length, rules}
+use Rattle.std.proofs.Common.{◌∙◌, sym, arith, rules}
 use Rattle.mp4_box.specs.Trees.{view}
 use Rattle.mp4_frag.specs.Repeats.{trafs_before}
 use Rattle.mp4_frag.proofs.MarkLemmas.{mark_tells}

@@ -1,7 +1,7 @@
 use Rattle.std.proofs.Common.{◌≡◌, ◌∙◌, ap, List}
 use Rattle.mp4_frag.specs.declared.run_row.RunRow.{RunRow}
 use Rattle.mp4_frag.specs.RunLists.{ListedRows}
-use Rattle.mp4_frag.specs.RunRows.{run_of_row}
+use Rattle.mp4_frag.specs.Rereads.{run_of_row}
 use Rattle.mp4_frag.specs.Runs.{Held}
 use Rattle.mp4_frag.proofs.RunListLemmas.{run_is}
 use Rattle.mp4_frag.proofs.run_list.RunList.at.Goals as goal
