@@ -4,7 +4,7 @@
 //! - [`claims`]: that claims succeed where memory is ample;
 //! - [`ends`]: what an adapter makes of std's errors;
 //! - [`boxes`]: worked headers, fields and trees, and [`flags`]: worked flag words;
-//! - [`moovs`]: worked moovs;
+//! - [`moovs`]: worked moovs, and [`moofs`]: worked moofs;
 //! - [`callers`]: callers of the libraries, for their pages.
 #![tactic(auto)]
 
@@ -17,5 +17,7 @@ mod claims;
 mod ends;
 #[cfg(test)]
 mod flags;
+#[cfg(test)]
+mod moofs;
 #[cfg(test)]
 mod moovs;
