@@ -2,10 +2,12 @@
 //!
 //! - [`faults`]: moofs with one thing wrong, or two, and what is at fault then;
 //! - [`order`]: the order in which runs are taken, and where they may stand;
+//! - [`runs`]: the runs of moofs, and the run behind a run;
 //! - [`samples`]: the samples of moofs, and where their tracks end.
 
 mod faults;
 mod order;
+mod runs;
 mod samples;
 
 use mp4_box::{Fault, FourCc, Rule};
