@@ -3,7 +3,8 @@
 //! stream. What it must print for the first test vector stands in the file stdout.
 #![tactic(auto)]
 
-ghost use Rattle.std.specs.Prelude.{◌*◌, ◌+◌, ◌^◌, ◌<◌, ◌≤◌, length};
+ghost use Rattle.std.specs.Prelude.{◌≡◌, ◌^◌, ◌≤◌, length};
+ghost use Rattle.mp4_box.specs.Headers.{IsWhole};
 
 use mp4_box::{Fault, Size, header_of, is_box};
 use mp4_frag::{Moof, Payload, Steps};
@@ -26,6 +27,7 @@ enum Stop {
 }
 
 /// What a moof comes to.
+#[derive(Clone, Copy)]
 struct Counts {
     runs: usize,
     samples: u32,
@@ -33,7 +35,12 @@ struct Counts {
 }
 
 /// Reads a moof at offset 0, lists its runs, looks where they stand, and settles its tracks.
-fn count(ledger: &mut Ledger, list: &mut TrackList, moof: &[u8]) -> Result<Counts, Stop> {
+fn count(ledger: &mut Ledger, list: &mut TrackList, moof: &[u8]) -> Result<Counts, Stop>
+    requires whole { IsWhole moof.now }
+    requires room { length moof.now ≤ 2 ^ 62 }
+    ensures tracks { length list.new ≡ length list.old }
+    ensures back { ledger.new.live ≡ ledger.old.live }
+{
     let mut steps = Steps { rows: 0 };
     let moof = match Moof::read(moof, 0, list, &mut steps) {
         Ok(moof) => moof,
@@ -43,7 +50,10 @@ fn count(ledger: &mut Ledger, list: &mut TrackList, moof: &[u8]) -> Result<Count
         Ok(runs) => runs,
         Err(refused) => return Err(Stop::Refused(refused)),
     };
-    let payload = Payload { start: 0, end: None };
+    let payload = Payload {
+        start: 0,
+        end: None,
+    };
     let placed = moof.places(payload, &runs, &mut steps);
     let count = runs.len();
     runs.back(ledger);
@@ -88,7 +98,10 @@ fn print_runs(rt: &HostRuntime) -> io::Result<()> {
     let told = count(&mut ledger, &mut list, moof);
     list.back(&mut ledger);
     match told {
-        Ok(counts) => println!(rt; "{} runs, {} samples, {} rows", counts.runs, counts.samples, counts.rows),
+        Ok(counts) => println!(rt;
+            "{} runs, {} samples, {} rows",
+            counts.runs, counts.samples, counts.rows
+        ),
         Err(Stop::Fault(fault)) => println!(rt; "rule {} at {}", fault.rule.number(), fault.offset),
         Err(Stop::Refused(_)) => println!(rt; "no memory"),
     }
