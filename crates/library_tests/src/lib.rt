@@ -5,6 +5,7 @@
 //! - [`ends`]: what an adapter makes of std's errors;
 //! - [`boxes`]: worked headers, fields and trees, and [`flags`]: worked flag words;
 //! - [`moovs`]: worked moovs;
+//! - [`run_lists`]: worked lists of runs;
 //! - [`callers`]: callers of the libraries, for their pages.
 #![tactic(auto)]
 
@@ -19,3 +20,5 @@ mod ends;
 mod flags;
 #[cfg(test)]
 mod moovs;
+#[cfg(test)]
+mod run_lists;
