@@ -1,6 +1,6 @@
 //! Callers of the libraries, which their pages `CALLING.md` quote.
 
-ghost use Rattle.std.specs.Prelude.{◌≡◌, ◌+◌, ◌*◌, ◌^◌, ◌≤◌, ◌==◌, ◌∷◌, [], length, codes, not, option_map, IfOk, IfErr, Some};
+ghost use Rattle.std.specs.Prelude.{◌≡◌, ◌+◌, ◌*◌, ◌^◌, ◌≤◌, ◌==◌, ◌∷◌, [], length, codes, not, nat_le, option_map, IfOk, IfErr, Some};
 ghost use Rattle.std.specs.List.{All, list_all, position};
 ghost use Rattle.std.specs.Option.{is_some};
 ghost use Rattle.mp4_box.specs.Fields.{number_in};
@@ -8,6 +8,8 @@ ghost use Rattle.mp4_box.specs.Headers.{IsWhole};
 ghost use Rattle.mp4_box.specs.Order.{IsLeast};
 ghost use Rattle.mp4_box.specs.Paths.{at_path, of_kind};
 ghost use Rattle.mp4_box.specs.Trees.{Box, box_at, children, tree_faults, view};
+ghost use Rattle.mp4_frag.specs.Moofs.{moof_faults, moof_runs};
+ghost use Rattle.mp4_frag.specs.Runs.{runs_of};
 ghost use Rattle.mp4_init.specs.Moovs.{moov_tracks};
 ghost use Rattle.mp4_run_order.specs.Orders.{FitsKeys, taken};
 ghost use Rattle.mp4_run_order.specs.Places.{first_offender};
@@ -16,7 +18,8 @@ ghost use Rattle.mp4_run_order.specs.Searches.{found_by_place, found_by_track};
 ghost use Rattle.library_tests.specs.Kinds.{to_trun, traf};
 
 use mp4_box::{Along, BoxRef, Fault, FourCc, check_tree, count_of, number_at, whole_box};
-use mp4_init::{InitStop, tracks};
+use mp4_frag::{Moof, Steps, Traf};
+use mp4_init::{InitStop, TrackList, tracks};
 use mp4_ledger::Ledger;
 use mp4_run_order::{ListedRun, Payload, PlaceSearch, TrackSearch};
 
@@ -101,4 +104,43 @@ pub fn first_at_fault(payload: Payload, runs: &mut [ListedRun]) -> Option<u64>
     let offender = find_by_track(runs);
     runs.sort_unstable_by_key(|run| run.place_key());
     find_by_place(payload, offender, runs)
+}
+
+/// Whether each run of a traf ends by a time, in ticks.
+fn traf_ends_by(traf: &Traf<'_>, time: u64) -> bool
+    ensures { result ≡ list_all (λ run. nat_le run.end time) (runs_of traf.now) }
+{
+    for run in traf.runs() {
+        if run.end > time {
+            return false;
+        }
+    }
+    true
+}
+
+/// Whether each run of a moof ends by a time, in ticks, or the fault of the moof, which begins at this offset.
+pub fn ends_by<'a>(
+    held: &'a [u8],
+    offset: u64,
+    tracks: &'a TrackList,
+    time: u64,
+) -> Result<bool, Fault>
+    requires whole { IsWhole held.now }
+    requires room { offset + length held.now ≤ 2 ^ 62 }
+    ensures ok { IfOk result (λ yes. yes ≡ list_all (λ run. nat_le run.end time)
+        (moof_runs (record { bytes = held.now; offset = offset }) tracks.now)) }
+    ensures err { IfErr result (λ f. IsLeast f
+        (moof_faults (record { bytes = held.now; offset = offset }) tracks.now)) }
+{
+    let mut steps = Steps { rows: 0 };
+    let moof = match Moof::read(held, offset, tracks, &mut steps) {
+        Ok(moof) => moof,
+        Err(fault) => return Err(fault),
+    };
+    for traf in moof.trafs(tracks) {
+        if !traf_ends_by(&traf, time) {
+            return Ok(false);
+        }
+    }
+    Ok(true)
 }

@@ -4,8 +4,7 @@
 //! - [`claims`]: that claims succeed where memory is ample;
 //! - [`ends`]: what an adapter makes of std's errors;
 //! - [`boxes`]: worked headers, fields and trees, and [`flags`]: worked flag words;
-//! - [`moovs`]: worked moovs;
-//! - [`run_lists`]: worked lists of runs;
+//! - [`moovs`]: worked moovs, [`moofs`]: worked moofs, and [`run_lists`]: worked lists of runs;
 //! - [`callers`]: callers of the libraries, for their pages.
 #![tactic(auto)]
 
@@ -18,6 +17,8 @@ mod claims;
 mod ends;
 #[cfg(test)]
 mod flags;
+#[cfg(test)]
+mod moofs;
 #[cfg(test)]
 mod moovs;
 #[cfg(test)]

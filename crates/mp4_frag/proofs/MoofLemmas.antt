@@ -1,5 +1,5 @@
 -- The box that the bytes of a moof are, and its fault.
-use Rattle.std.proofs.Common.{◌≡◌, ◌∙◌, ℕ, List, [], ◌∷◌, ◌++◌, Option, Some, None, Result, Ok, Err, refl, sym, ap, subst}
+use Rattle.std.proofs.Common.{◌≡◌, ◌∙◌, ℕ, List, [], ◌∷◌, ◌++◌, Option, Some, None, Ok, refl, sym, ap, subst}
 use Rattle.std.specs.Prelude.{map, IfSome}
 use Rattle.std.specs.List.{flat_map}
 use Rattle.std.specs.Option.{option_or, unwrap_or}
@@ -11,7 +11,6 @@ use Rattle.mp4_box.specs.Trees.{Box, box_at, children, tree_faults, verdict}
 use Rattle.mp4_box.proofs.OrderLemmas.{least-is, least-none}
 use Rattle.mp4_init.specs.declared.table.Track.{Track}
 use Rattle.mp4_init.specs.Moovs.{fault_of, or_else}
-use Rattle.mp4_frag.specs.declared.moof.Moof.{Moof}
 use Rattle.mp4_frag.specs.Kinds.{traf, to_tfhd, to_trun}
 use Rattle.mp4_frag.specs.Repeats.{repeat_faults}
 use Rattle.mp4_frag.specs.Rules.{child_faults, count_faults, form_faults, tfhd_faults, trun_faults}
@@ -156,12 +155,6 @@ early_least h tracks f good e = sound_least h tracks f (verdict_ok (tree_faults 
 
 pub late_least : (h : Held) (tracks : List Track) (f : Fault) → early_fault h tracks ≡ None → least (time_faults (moof_trafs h tracks)) ≡ Some f → IsLeast f (moof_faults h tracks)
 late_least h tracks f none e = sound_least h tracks f (early h tracks none).tree (ap (λ (o : Option Fault). option_or o (least (time_faults (moof_trafs h tracks)))) none ∙ e)
-
-abbrev answer : Fault → Result Moof Fault
-answer f = Err f
-
-pub err_is : (f g : Fault) → answer f ≡ answer g → f ≡ g
-err_is f g e = cc
 
 early_is : (h : Held) (tracks : List Track) (m : Box) (o : Option Fault) → moof_of h ≡ m → verdict (tree_faults h.offset h.bytes) ≡ Ok tt → o ≡ option_or (least (form_faults m)) (least (value_faults tracks m)) → o ≡ early_fault h tracks
 unfolding early_fault

@@ -1,6 +1,6 @@
 //! From the bytes of a moof to its runs.
 
-ghost use Rattle.std.specs.Prelude.{◌≡◌, ◌+◌, ◌^◌, ◌<◌, ◌≤◌, ◌↔◌, length, Some, None, Err, IfOk, OnOk, IfSome, IsSome};
+ghost use Rattle.std.specs.Prelude.{◌≡◌, ◌+◌, ◌^◌, ◌<◌, ◌≤◌, ◌↔◌, length, Some, None, Err, IfErr, IfOk, OnOk, IfSome, IsSome};
 ghost use Rattle.std.specs.Option.{option_or};
 ghost use Rattle.mp4_box.specs.declared.rules.Fault.{Fault};
 ghost use Rattle.mp4_box.specs.Headers.{IsWhole};
@@ -136,8 +136,8 @@ impl<'a> Moof<'a> {
         ensures good { OnOk result (IsRead (record { bytes = held.now; offset = offset }) tracks.now) }
         ensures fault { (f : Fault) → (result ≡ Err f) ↔
             (moof_fault (record { bytes = held.now; offset = offset }) tracks.now ≡ Some f) }
-        ensures least { (f : Fault) → result ≡ Err f → IsLeast f
-            (moof_faults (record { bytes = held.now; offset = offset }) tracks.now) }
+        ensures least { IfErr result (λ f. IsLeast f
+            (moof_faults (record { bytes = held.now; offset = offset }) tracks.now)) }
         ensures walked { early_fault (record { bytes = held.now; offset = offset }) tracks.now ≡ None →
             steps.new.rows ≡ steps.old.rows + moof_samples (record { bytes = held.now; offset = offset }) }
         ensures unwalked { IsSome (early_fault (record { bytes = held.now; offset = offset }) tracks.now) →

@@ -1,14 +1,10 @@
-use Rattle.std.proofs.Common.{sym, subst}
-use Rattle.mp4_box.specs.declared.rules.Fault.{Fault}
-use Rattle.mp4_box.specs.Order.{IsLeast}
+use Rattle.std.proofs.Common.{sym}
 use Rattle.mp4_box.specs.Trees.{view}
-use Rattle.mp4_frag.specs.Moofs.{moof_faults}
-use Rattle.mp4_frag.proofs.MoofLemmas.{count_is_none, count_none, late_least, moof_is, err_is}
+use Rattle.mp4_frag.proofs.MoofLemmas.{count_is_none, count_none, late_least, moof_is}
 use Rattle.mp4_frag.proofs.moof.Moof.read.Goals as goal
 
 pub returns-in-Some-clause-least : goal.returns-in-Some-clause-least
-returns-in-Some-clause-least c f e =
-    subst (λ (f : Fault). IsLeast f (moof_faults (record { bytes = c.args.held.now; offset = c.args.offset }) c.args.tracks.now)) (err_is c.in-Some.fault f e) c.in-Some.ensures.least
+returns-in-Some-clause-least c = c.in-Some.ensures.least
 
 pub samples_in-samples-requires : goal.samples_in-samples-requires
 samples_in-samples-requires c =
@@ -16,9 +12,8 @@ samples_in-samples-requires c =
     (moof_is c.args.offset c.args.held.now (view c.whole_box-this.result) c.whole_box-this.ensures)
 
 pub returns-in-Some-late_fault-clause-least : goal.returns-in-Some-late_fault-clause-least
-returns-in-Some-late_fault-clause-least c f e =
-    subst (λ (f : Fault). IsLeast f (moof_faults (record { bytes = c.args.held.now; offset = c.args.offset }) c.args.tracks.now)) (err_is c.in-Some-late_fault.fault f e)
-    (late_least (record { bytes = c.args.held.now; offset = c.args.offset }) c.args.tracks.now c.in-Some-late_fault.fault (sym c.in_default.ensures.fault) (sym c.in-Some-late_fault.ensures))
+returns-in-Some-late_fault-clause-least c =
+    late_least (record { bytes = c.args.held.now; offset = c.args.offset }) c.args.tracks.now c.in-Some-late_fault.fault (sym c.in_default.ensures.fault) (sym c.in-Some-late_fault.ensures)
 
 pub invariant_of-result : goal.invariant_of-result
 invariant_of-result c =
