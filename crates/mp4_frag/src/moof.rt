@@ -183,10 +183,12 @@ impl<'a> Moof<'a> {
     /// Sets where each track ends: its `next` becomes the end of its last traf in the moof, in ticks, and that of the others stays.
     /// `tracks` are those that the moof was read with, so this is its last use. The samples that have durations of their own
     /// are counted in `steps` as rows that were read.
+    #[tactic(auto, using(crate::proofs::SettleLemmas::settled_length))]
     pub fn settle(&self, tracks: &mut TrackList, steps: &mut Steps)
         requires read { IsRead self.now tracks.old }
         requires steps { steps.old.rows < 2 ^ 127 }
         ensures tracks { tracks.new ≡ settled tracks.old (moof_trafs self.now tracks.old) }
+        ensures len { length tracks.new ≡ length tracks.old }
         ensures walked { steps.new.rows ≡ steps.old.rows + timed_of (moof_of self.now) }
         ensures few { steps.new.rows ≤ steps.old.rows + moof_samples self.now }
     {
