@@ -47,12 +47,13 @@ fn told_of(ledger: &mut Ledger, moof: &[u8], tracks: &TrackList) -> Told
     }
     let mut steps = Steps { rows: 0 };
     let moof = Moof::read(moof, 584, tracks, &mut steps).ok()?;
-    let list = match moof.list(ledger, tracks, &mut steps) {
+    let mut walked = Steps { rows: 0 };
+    let list = match moof.list(ledger, tracks, &mut walked) {
         Ok(list) => list,
         Err(_) => return None,
     };
     let places = places_of(&list, &moof, tracks);
-    let answer = moof.places(PAYLOAD, &list, &mut steps);
+    let answer = moof.places(PAYLOAD, &list, &mut walked);
     list.back(ledger);
     places.map(|places| (places, answer))
 }
@@ -99,7 +100,8 @@ fn count_of(ledger: &mut Ledger, moof: &[u8], tracks: &TrackList) -> Option<Resu
 {
     let mut steps = Steps { rows: 0 };
     let moof = Moof::read(moof, 364, tracks, &mut steps).ok()?;
-    match moof.list(ledger, tracks, &mut steps) {
+    let mut walked = Steps { rows: 0 };
+    match moof.list(ledger, tracks, &mut walked) {
         Ok(list) => {
             let count = list.len();
             list.back(ledger);
