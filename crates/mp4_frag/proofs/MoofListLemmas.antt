@@ -1,5 +1,5 @@
 -- What is known of the runs of a moof, for a list of them.
-use Rattle.std.proofs.Common.{◌≡◌, ◌∙◌, ◌+◌, ◌*◌, ◌^◌, ◌<◌, ◌≤◌, ◌↔◌, ℕ, List, [], ◌∷◌, ◌++◌, length, Some, refl, sym, ap, subst, arith}
+use Rattle.std.proofs.Common.{◌≡◌, ◌∙◌, ◌+◌, ◌*◌, ◌^◌, ◌<◌, ◌≤◌, ◌↔◌, ℕ, List, [], ◌∷◌, ◌++◌, length, Some, sym, ap, subst, arith}
 use Rattle.std.specs.Prelude.{map, Result, Ok, Err}
 use Rattle.mp4_ledger.specs.declared.ledger.Refused.{Refused}
 use Rattle.std.specs.List.{All, AllByRecursion}
@@ -11,15 +11,13 @@ use Rattle.mp4_box.proofs.GrammarLemmas.{stands, whole_len}
 use Rattle.mp4_init.specs.declared.table.Track.{Track}
 use Rattle.mp4_run_order.specs.declared.runs.ListedRun.{ListedRun}
 use Rattle.mp4_run_order.specs.Orders.{FitsKeys}
-use Rattle.mp4_frag.specs.declared.run.Run.{Run}
 use Rattle.mp4_frag.specs.declared.run_row.RunRow.{RunRow}
 use Rattle.mp4_frag.specs.Kinds.{to_trun, traf}
 use Rattle.mp4_frag.specs.Moofs.{IsRead, moof_of, moof_runs}
 use Rattle.mp4_frag.specs.Ranges.{IsSound}
-use Rattle.mp4_frag.specs.RunLists.{moof_listing}
 use Rattle.mp4_frag.specs.Rereads.{run_of_row}
 use Rattle.mp4_frag.specs.RunRows.{listed_row, listed_words, row_of_words, rows_of_trafs, rows_of_words}
-use Rattle.mp4_frag.specs.Runs.{Held, TrackFragment, traf_of, trafs_by}
+use Rattle.mp4_frag.specs.Runs.{Held, traf_of, trafs_by}
 use Rattle.mp4_frag.proofs.MoofLemmas.{moof_is}
 use Rattle.mp4_frag.proofs.PlaceLemmas.{Lies, moof_lies}
 use Rattle.mp4_frag.proofs.RunListLemmas.{Filled, Known, map_map}

@@ -1,15 +1,15 @@
 -- A list of rows that was sorted twice is that of its moof.
-use Rattle.std.proofs.Common.{◌≡◌, ◌∙◌, ◌+◌, ◌<◌, ◌≤◌, ◌^◌, ℕ, ℤ, pos, ◌+ℤ◌, ◌≤ℤ◌, List, [], ◌∷◌, ◌++◌, length, drop, append-nil, get_or, zero, suc, Option, Some, None, refl, sym, ap, subst, arith}
+use Rattle.std.proofs.Common.{◌≡◌, ◌∙◌, ◌<◌, ◌≤◌, ℕ, List, [], ◌∷◌, length, drop, append-nil, get_or, zero, suc, Option, Some, None, refl, sym, ap, subst, arith}
 use Rattle.std.specs.Prelude.{map, option_map}
-use Rattle.std.specs.List.{All, AllByRecursion, AllPairs}
+use Rattle.std.specs.List.{All}
 use Rattle.std.specs.List.Sorted.{IsPermutation, IsNonDecreasingBy}
 use Rattle.std.proofs.lemmas.List.{length-map, take_all, drop_all}
 use Rattle.mp4_ledger.specs.Memory.{overwritten}
-use Rattle.std.proofs.lemmas.List.Sorted.{IsPermutation-map, IsPermutation-trans, IsPermutation-sym}
+use Rattle.std.proofs.lemmas.List.Sorted.{IsPermutation-map}
 use Rattle.mp4_init.specs.declared.table.Track.{Track}
 use Rattle.mp4_run_order.specs.declared.runs.ListedRun.{ListedRun}
 use Rattle.mp4_run_order.specs.declared.runs.Payload.{Payload}
-use Rattle.mp4_run_order.specs.Orders.{FitsKeys, IsBeforeByTrack, IsTakenBefore, IsTakingOrder, IsTrackOrder, place_key, taken, taken_by, track_key}
+use Rattle.mp4_run_order.specs.Orders.{FitsKeys, IsTakenBefore, IsTakingOrder, IsTrackOrder, place_key, taken, track_key}
 use Rattle.mp4_box.specs.declared.rules.Fault.{Fault}
 use Rattle.mp4_run_order.specs.Places.{IsOffender, first_offender}
 use Rattle.mp4_run_order.specs.Runs.{IsListing}
@@ -24,7 +24,7 @@ use Rattle.mp4_frag.specs.Runs.{Held}
 use Rattle.mp4_frag.specs.Rereads.{run_of_row}
 use Rattle.mp4_frag.specs.RunRows.{listed_row, listed_run, listed_words, place_word, row_of_words, rows_of_words, track_word}
 use Rattle.mp4_frag.specs.Places.{IsPlaceFault, misplaced, place_fault}
-use Rattle.mp4_frag.specs.RunLists.{IsFoundByTrack, IsLate, IsListOf, IsSorted, ListedRows, moof_listing, taken_runs}
+use Rattle.mp4_frag.specs.RunLists.{IsLate, IsListOf, IsSorted, ListedRows, moof_listing, taken_runs}
 use Rattle.mp4_frag.proofs.RunRowLemmas.{Earlier, Given}
 
 -- ---- maps

@@ -1,5 +1,5 @@
 -- The runs of a moof are found again by their rows, and their truns rise.
-use Rattle.std.proofs.Common.{◌≡◌, ◌∙◌, ◌+◌, ◌-◌, ◌^◌, ◌<◌, ◌≤◌, ℕ, ℤ, pos, List, [], ◌∷◌, ◌++◌, length, take, drop, Option, Some, None, refl, sym, ap, subst, arith}
+use Rattle.std.proofs.Common.{◌≡◌, ◌∙◌, ◌+◌, ◌-◌, ◌^◌, ◌<◌, ◌≤◌, ℕ, ℤ, pos, List, [], ◌∷◌, ◌++◌, length, take, drop, Some, refl, sym, ap, subst, arith}
 use Rattle.std.specs.Prelude.{map}
 use Rattle.std.specs.List.{AllByRecursion, flat_map}
 use Rattle.std.specs.Option.{unwrap_or}
@@ -18,9 +18,9 @@ use Rattle.mp4_run_order.specs.declared.runs.ListedRun.{ListedRun}
 use Rattle.mp4_frag.specs.declared.run_row.RunRow.{RunRow}
 use Rattle.mp4_frag.specs.Fields.{payload_of}
 use Rattle.mp4_frag.specs.Kinds.{tfhd, to_trun, traf, trun}
-use Rattle.mp4_frag.specs.Runs.{Held, Shared, end_place, header_by, known_track, run_at, run_of, runs_from, runs_of, shared_by, tfhd_of, track_of, traf_of, trafs_by}
+use Rattle.mp4_frag.specs.Runs.{Held, Shared, end_place, header_by, known_track, run_at, run_of, runs_from, runs_of, shared_by, tfhd_of, track_of, traf_of}
 use Rattle.mp4_frag.specs.Tfhd.{track_id}
-use Rattle.mp4_frag.specs.Rereads.{box_behind, box_in, nothing, reread_at, run_of_row}
+use Rattle.mp4_frag.specs.Rereads.{box_behind, box_in, nothing, run_of_row}
 use Rattle.mp4_frag.specs.RunRows.{listed_row, listed_run, offset_or_none, row_of_run, rows_of_traf, rows_of_trafs, tfhd_at}
 use Rattle.mp4_frag.proofs.PlaceLemmas.{Lies, children_lie, kind_all}
 use Rattle.mp4_frag.proofs.BoxOrderLemmas.{FoundIn, Behind, none_left, boxes_found, boxes_rise, kind_found, kind_rise}

@@ -1,18 +1,13 @@
 -- The runs of a moof in the order in which they are taken, in a list, and which of them is at fault.
-use Rattle.std.specs.Prelude.{ℕ, ◌≡◌, List, map, option_map, Option, Some}
+use Rattle.std.specs.Prelude.{ℕ, ◌≡◌, List, map, Option}
 use Rattle.std.specs.List.Sorted.{IsNonDecreasingBy, IsPermutation}
-use Rattle.mp4_box.specs.declared.rules.Fault.{Fault}
-use Rattle.mp4_box.specs.declared.rules.Rule.TheVariants.{RunPlace}
 use Rattle.mp4_init.specs.declared.table.Track.{Track}
 use Rattle.mp4_run_order.specs.declared.runs.ListedRun.{ListedRun}
-use Rattle.mp4_run_order.specs.declared.runs.Payload.{Payload}
 use Rattle.mp4_run_order.specs.Orders.{IsTrackOrder, taken, taken_by}
-use Rattle.mp4_run_order.specs.Places.{first_offender}
 use Rattle.mp4_run_order.specs.Runs.{IsListing}
 use Rattle.mp4_run_order.specs.Searches.{found_by_track}
 use Rattle.mp4_frag.specs.declared.run.Run.{Run}
 use Rattle.mp4_frag.specs.declared.run_row.RunRow.{RunRow}
-use Rattle.mp4_frag.specs.Kinds.{trun}
 use Rattle.mp4_frag.specs.Moofs.{moof_runs}
 use Rattle.mp4_frag.specs.Runs.{Held}
 use Rattle.mp4_frag.specs.Rereads.{run_of_row}

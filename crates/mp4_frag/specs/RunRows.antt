@@ -1,20 +1,17 @@
 -- What a row of a list keeps of a run. The rest of it is read in its trun and in the tfhd of its traf.
-use Rattle.std.specs.Prelude.{ℕ, ℤ, pos, List, [], ◌∷◌, drop, map, ◌+◌, ◌-◌, ◌^◌, slice_index, Option, Some, None}
+use Rattle.std.specs.Prelude.{ℕ, pos, List, [], ◌∷◌, map, ◌-◌, ◌^◌, slice_index, Option, Some, None}
 use Rattle.std.specs.List.{flat_map}
-use Rattle.std.specs.Option.{unwrap_or}
 use lib.IntN.{◌-ℤ◌}
 use Rattle.mp4_box.specs.Paths.{at_path}
-use Rattle.mp4_box.specs.declared.headers.Size.TheVariants.{ToEnd}
-use Rattle.mp4_box.specs.Trees.{Box, boxes, first_of}
+use Rattle.mp4_box.specs.Trees.{Box, first_of}
 use Rattle.mp4_init.specs.declared.table.Track.{Track}
 use Rattle.mp4_init.specs.Rows.{lower, upper}
 use Rattle.mp4_run_order.specs.declared.runs.ListedRun.{ListedRun}
 use Rattle.mp4_run_order.specs.Orders.{place_key, track_key}
 use Rattle.mp4_frag.specs.declared.run.Run.{Run}
 use Rattle.mp4_frag.specs.declared.run_row.RunRow.{RunRow}
-use Rattle.mp4_frag.specs.Kinds.{free, tfhd}
-use Rattle.mp4_frag.specs.Runs.{Held, header_by, known_track, run_at, runs_of, traf_of}
-use Rattle.mp4_frag.specs.Tfhd.{track_id}
+use Rattle.mp4_frag.specs.Kinds.{tfhd}
+use Rattle.mp4_frag.specs.Runs.{Held, runs_of, traf_of}
 
 -- how it stands in eight numbers
 unfoldable pub row_of_words : List ℕ → RunRow

@@ -1,4 +1,4 @@
-use Rattle.std.proofs.Common.{◌≡◌, ◌∙◌, ◌+◌, ℕ, sym, ap, arith, List}
+use Rattle.std.proofs.Common.{◌∙◌, ◌+◌, ℕ, sym, ap, arith, List}
 use Rattle.std.specs.Option.{unwrap_or}
 use Rattle.mp4_box.specs.Trees.{Box, first_of, view}
 use Rattle.mp4_frag.specs.Rereads.{nothing}

@@ -1,10 +1,8 @@
-use Rattle.std.proofs.Common.{◌≡◌, ◌∙◌, ◌*◌, ℕ, List, [], ◌∷◌, length, ap, arith}
-use Rattle.std.proofs.lemmas.List.Elements.{All-nil}
+use Rattle.std.proofs.Common.{◌∙◌, ◌*◌, ℕ, [], ◌∷◌, length, ap, arith}
 use Rattle.mp4_box.specs.Paths.{at_path}
 use Rattle.mp4_box.specs.Trees.{view}
-use Rattle.mp4_ledger.specs.Memory.{Account, Rows, claimed}
+use Rattle.mp4_ledger.specs.Memory.{Rows, claimed}
 use Rattle.mp4_ledger.specs.declared.ledger.Refused.TheVariants.{OverLimit}
-use Rattle.mp4_run_order.specs.Orders.{FitsKeys}
 use Rattle.mp4_frag.specs.declared.run_list.RunList.{RunList as RowList}
 use Rattle.mp4_frag.specs.Kinds.{traf}
 use Rattle.mp4_frag.specs.Moofs.{moof_runs}

@@ -1,8 +1,7 @@
-use Rattle.std.proofs.Common.{◌≡◌, ◌∙◌, subst, sym, List}
-use Rattle.std.specs.List.{AllByRecursion}
+use Rattle.std.proofs.Common.{◌∙◌, subst, sym}
 use Rattle.mp4_box.specs.Trees.{view}
-use Rattle.mp4_frag.specs.Ranges.{InRange, IsSound}
-use Rattle.mp4_frag.specs.Runs.{Held, TrackFragment, fragment_of, runs_of, shared_of}
+use Rattle.mp4_frag.specs.Ranges.{IsSound}
+use Rattle.mp4_frag.specs.Runs.{Held, fragment_of, shared_of}
 use Rattle.mp4_frag.proofs.RangeLemmas.{in_range}
 use Rattle.mp4_frag.proofs.RunLemmas.{traf_is}
 use Rattle.mp4_frag.proofs.traf.traf_of.Goals as goal

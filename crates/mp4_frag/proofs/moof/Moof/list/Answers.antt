@@ -1,4 +1,4 @@
-use Rattle.std.proofs.Common.{◌≡◌, ◌∙◌, sym, subst, arith}
+use Rattle.std.proofs.Common.{sym, subst}
 use Rattle.mp4_frag.specs.Moofs.{IsRead}
 use Rattle.mp4_frag.proofs.moof.Moof.list.Goals as goal
 

@@ -1,4 +1,4 @@
-use Rattle.std.proofs.Common.{◌≡◌, ◌∙◌, ap, sym, ℕ, Option}
+use Rattle.std.proofs.Common.{◌∙◌, ap, sym}
 use Rattle.std.specs.Prelude.{option_map}
 use Rattle.mp4_frag.specs.Places.{misplaced}
 use Rattle.mp4_frag.proofs.RunListLemmas.{place_found, place_means}

@@ -1,5 +1,4 @@
-use Rattle.std.proofs.Common.{◌≡◌, ◌∙◌, ap, List}
-use Rattle.mp4_frag.specs.declared.run_row.RunRow.{RunRow}
+use Rattle.std.proofs.Common.{◌∙◌, ap}
 use Rattle.mp4_frag.specs.RunLists.{ListedRows}
 use Rattle.mp4_frag.specs.Rereads.{run_of_row}
 use Rattle.mp4_frag.specs.Runs.{Held}
