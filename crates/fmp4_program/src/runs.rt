@@ -28,7 +28,7 @@ pub fn run<R: Source, W: Sink, F: Sink>(
     ensures { Ran ((r.new ≡ r.old) × (w.new ≡ w.old)) (command_of (map string_bytes words.items))
         (record {
           ends = between (received R.remaining R.has_ended R.has_failed r.old r.new)
-            (sent W.contents W.has_failed w.old w.new);
+              (sent W.contents W.has_failed w.old w.new);
           told = F.contents fault_w.old;
           told' = F.contents fault_w.new;
           fault_failed = F.has_failed fault_w.new;
