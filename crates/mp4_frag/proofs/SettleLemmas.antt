@@ -1,5 +1,5 @@
 -- The tracks behind a moof: the ends before it serve each traf that has no tfdt.
-use Rattle.std.proofs.Common.{◌≡◌, ◌∙◌, ◌+◌, ◌^◌, ◌<◌, ◌≤◌, ◌==◌, ◌&&◌, ℕ, ℤ, pos, suc, Bool, true, false, cond, ltb, List, [], ◌∷◌, ◌++◌, map, Option, Some, None, refl, sym, ap, subst, arith}
+use Rattle.std.proofs.Common.{◌≡◌, ◌∙◌, ◌+◌, ◌^◌, ◌<◌, ◌≤◌, ◌==◌, ◌&&◌, ℕ, ℤ, pos, suc, Bool, true, false, cond, ltb, List, [], ◌∷◌, ◌++◌, map, Option, Some, None, refl, sym, ap, subst, arith, length}
 use Rattle.std.specs.Prelude.{option_map, slice_get}
 use Rattle.std.specs.List.{AllByRecursion, flat_map, fold, position, position_from}
 use Rattle.std.specs.Option.{is_none, option_and_then, unwrap_or}
@@ -12,6 +12,7 @@ use Rattle.mp4_box.specs.Paths.{at_path, of_kind}
 use Rattle.mp4_box.specs.Trees.{Box, box_at, children, first_of}
 use Rattle.mp4_init.specs.declared.table.Track.{Track}
 use Rattle.mp4_init.specs.Rows.{with_next}
+use Rattle.mp4_init.proofs.RowLemmas.{length_with_next}
 use Rattle.mp4_init.proofs.SearchTreeLemmas.{is_same}
 use Rattle.mp4_frag.specs.declared.run.Run.{Run}
 use Rattle.mp4_frag.specs.Kinds.{tfdt, traf, trun}
@@ -284,3 +285,14 @@ turns_are h now before earlier (t ∷ ts) a e =
 
 pub in_turn_are : (h : Held) (tracks : List Track) → repeat_faults (moof_of h) ≡ [] → in_turn h tracks (of_kind traf (children (moof_of h))) ≡ moof_trafs h tracks
 in_turn_are h tracks none = turns_are h tracks tracks [] (of_kind traf (children (moof_of h))) (same_tracks tracks) none
+
+-- ---- how many tracks there are
+
+ended_length : (o : Option ℕ) (next : ℕ) (tracks : List Track) → length (ended_at o next tracks) ≡ length tracks
+ended_length None next tracks = refl
+ended_length (Some i) next tracks = length_with_next i next tracks
+
+pub settled_length : (tracks : List Track) (ts : List TrackFragment) → length (settled tracks ts) ≡ length tracks
+settled_length tracks [] = refl
+settled_length tracks (t ∷ ts) =
+    settled_length (ended tracks t) ts ∙ ended_length (position (λ (x : Track). x.id == t.shared.header.track) tracks) (end_of t) tracks

@@ -58,6 +58,9 @@ pub record Held : Type 0 where
   pub bytes : List ℕ
   pub offset : ℕ
 
+abbrev pub held_at : List ℕ → ℕ → Held
+held_at bytes offset = record { bytes = bytes; offset = offset }
+
 -- where in the moof a box ends
 abbrev pub end_in : Held → Box → ℕ
 end_in h b = payload_offset b + length b.payload - h.offset

@@ -8,7 +8,7 @@ ghost use Rattle.mp4_box.specs.Order.{IsLeast, least, least_from};
 ghost use Rattle.mp4_box.specs.Trees.{view};
 ghost use Rattle.mp4_frag.specs.Moofs.{IsRead, early_fault, moof_fault, moof_faults, moof_of, moof_samples, moof_trafs, time_faults, value_faults};
 ghost use Rattle.mp4_frag.specs.Rules.{count_faults, form_faults, most_samples};
-ghost use Rattle.mp4_frag.specs.Runs.{Held};
+ghost use Rattle.mp4_frag.specs.Runs.{Held, held_at};
 ghost use Rattle.mp4_frag.specs.Settling.{settled, timed_of};
 
 use crate::checks::{FlagsOnce, OfTrack};
@@ -37,14 +37,14 @@ impl<'a> Model for Moof<'a> {
     ghost use Rattle.mp4_box.specs.Headers.{IsWhole};
     ghost use Rattle.mp4_frag.specs.Moofs.{moof_of};
     ghost use Rattle.mp4_frag.specs.Rules.{count_faults};
-    ghost use Rattle.mp4_frag.specs.Runs.{Held};
+    ghost use Rattle.mp4_frag.specs.Runs.{Held, held_at};
 
     ghost Value = { Held };
 
-    ghost view = { λ m. record { bytes = m.held.now; offset = m.offset } };
+    ghost view = { λ m. held_at m.held.now m.offset };
 
     ghost invariant = { λ m. IsWhole m.held.now × (m.offset + length m.held.now ≤ 2 ^ 62) ×
-        (count_faults (moof_of (record { bytes = m.held.now; offset = m.offset })) ≡ []) };
+        (count_faults (moof_of (held_at m.held.now m.offset)) ≡ []) };
 }
 
 /// What is at fault with the values, times aside.
@@ -77,9 +77,9 @@ fn early_content_fault(tracks: &TrackList, moof: &BoxRef<'_>) -> Option<Fault>
 fn early_fault(held: &[u8], offset: u64, tracks: &TrackList) -> Option<Fault>
     requires whole { IsWhole held.now }
     requires room { offset + length held.now ≤ 2 ^ 62 }
-    ensures fault { result ≡ early_fault (record { bytes = held.now; offset = offset }) tracks.now }
+    ensures fault { result ≡ early_fault (held_at held.now offset) tracks.now }
     ensures least { IfSome result (λ f. IsLeast f
-        (moof_faults (record { bytes = held.now; offset = offset }) tracks.now)) }
+        (moof_faults (held_at held.now offset) tracks.now)) }
 {
     if let Err(fault) = check_tree(held, offset) {
         return Some(fault);
@@ -90,8 +90,8 @@ fn early_fault(held: &[u8], offset: u64, tracks: &TrackList) -> Option<Fault>
 /// Which of the runs end past 64 bits: the first.
 #[tactic(auto, using(crate::proofs::MoofLemmas::times_along))]
 fn late_fault(held: &[u8], offset: u64, tracks: &TrackList, moof: &BoxRef<'_>) -> Option<Fault>
-    requires { moof_of (record { bytes = held.now; offset = offset }) ≡ view moof.now }
-    ensures { result ≡ least (time_faults (moof_trafs (record { bytes = held.now; offset = offset }) tracks.now)) }
+    requires { moof_of (held_at held.now offset) ≡ view moof.now }
+    ensures { result ≡ least (time_faults (moof_trafs (held_at held.now offset) tracks.now)) }
 {
     let check = InTime {
         held,
@@ -108,8 +108,8 @@ fn late_fault(held: &[u8], offset: u64, tracks: &TrackList, moof: &BoxRef<'_>) -
 fn trafs_in<'a>(held: &'a [u8], offset: u64, tracks: &'a TrackList) -> Trafs<'a>
     requires whole { IsWhole held.now }
     requires room { offset + length held.now ≤ 2 ^ 62 }
-    requires read { IsRead (record { bytes = held.now; offset = offset }) tracks.now }
-    ensures { result ≡ moof_trafs (record { bytes = held.now; offset = offset }) tracks.now }
+    requires read { IsRead (held_at held.now offset) tracks.now }
+    ensures { result ≡ moof_trafs (held_at held.now offset) tracks.now }
 {
     Trafs::of(held, offset, tracks, &whole_box(held, offset))
 }
@@ -132,15 +132,15 @@ impl<'a> Moof<'a> {
         requires whole { IsWhole held.now }
         requires room { offset + length held.now ≤ 2 ^ 62 }
         requires steps { steps.old.rows < 2 ^ 127 }
-        ensures moof { IfOk result (λ m. m ≡ record { bytes = held.now; offset = offset }) }
-        ensures good { OnOk result (IsRead (record { bytes = held.now; offset = offset }) tracks.now) }
+        ensures moof { IfOk result (λ m. m ≡ held_at held.now offset) }
+        ensures good { OnOk result (IsRead (held_at held.now offset) tracks.now) }
         ensures fault { (f : Fault) → (result ≡ Err f) ↔
-            (moof_fault (record { bytes = held.now; offset = offset }) tracks.now ≡ Some f) }
+            (moof_fault (held_at held.now offset) tracks.now ≡ Some f) }
         ensures least { IfErr result (λ f. IsLeast f
-            (moof_faults (record { bytes = held.now; offset = offset }) tracks.now)) }
-        ensures walked { early_fault (record { bytes = held.now; offset = offset }) tracks.now ≡ None →
-            steps.new.rows ≡ steps.old.rows + moof_samples (record { bytes = held.now; offset = offset }) }
-        ensures unwalked { IsSome (early_fault (record { bytes = held.now; offset = offset }) tracks.now) →
+            (moof_faults (held_at held.now offset) tracks.now)) }
+        ensures walked { early_fault (held_at held.now offset) tracks.now ≡ None →
+            steps.new.rows ≡ steps.old.rows + moof_samples (held_at held.now offset) }
+        ensures unwalked { IsSome (early_fault (held_at held.now offset) tracks.now) →
             steps.new ≡ steps.old }
     {
         if let Some(fault) = early_fault(held, offset, tracks) {
@@ -159,8 +159,8 @@ impl<'a> Moof<'a> {
     pub fn again(held: &'a [u8], offset: u64, tracks: &TrackList) -> Moof<'a>
         requires whole { IsWhole held.now }
         requires room { offset + length held.now ≤ 2 ^ 62 }
-        requires read { IsRead (record { bytes = held.now; offset = offset }) tracks.now }
-        ensures { result ≡ record { bytes = held.now; offset = offset } }
+        requires read { IsRead (held_at held.now offset) tracks.now }
+        ensures { result ≡ held_at held.now offset }
     {
         Moof { held, offset }
     }
@@ -183,10 +183,12 @@ impl<'a> Moof<'a> {
     /// Sets where each track ends: its `next` becomes the end of its last traf in the moof, in ticks, and that of the others stays.
     /// `tracks` are those that the moof was read with, so this is its last use. The samples that have durations of their own
     /// are counted in `steps` as rows that were read.
+    #[tactic(auto, using(crate::proofs::SettleLemmas::settled_length))]
     pub fn settle(&self, tracks: &mut TrackList, steps: &mut Steps)
         requires read { IsRead self.now tracks.old }
         requires steps { steps.old.rows < 2 ^ 127 }
         ensures tracks { tracks.new ≡ settled tracks.old (moof_trafs self.now tracks.old) }
+        ensures len { length tracks.new ≡ length tracks.old }
         ensures walked { steps.new.rows ≡ steps.old.rows + timed_of (moof_of self.now) }
         ensures few { steps.new.rows ≤ steps.old.rows + moof_samples self.now }
     {

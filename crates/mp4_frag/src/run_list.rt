@@ -7,6 +7,7 @@ ghost use Rattle.mp4_box.specs.Trees.{box_at, view};
 ghost use Rattle.mp4_ledger.specs.Memory.{claimed, given_back};
 ghost use Rattle.mp4_frag.specs.Kinds.{to_trun};
 ghost use Rattle.mp4_frag.specs.Moofs.{IsRead, moof_runs, moof_samples};
+ghost use Rattle.mp4_frag.specs.Runs.{held_at};
 ghost use Rattle.mp4_frag.specs.RunLists.{IsLate, IsListOf, IsSorted, taken_runs};
 
 use crate::fill::fill;
@@ -111,15 +112,15 @@ fn list_in(
 ) -> Result<RunList, Refused>
     requires whole { IsWhole held.now }
     requires room { offset + length held.now ≤ 2 ^ 62 }
-    requires read { IsRead (record { bytes = held.now; offset = offset }) tracks.now }
+    requires read { IsRead (held_at held.now offset) tracks.now }
     ensures list { IfOk result (λ l.
-        IsListOf (record { bytes = held.now; offset = offset }) tracks.now l) }
+        IsListOf (held_at held.now offset) tracks.now l) }
     ensures len { IfOk result (λ l. length l.rows ≡
-        length (moof_runs (record { bytes = held.now; offset = offset }) tracks.now)) }
+        length (moof_runs (held_at held.now offset) tracks.now)) }
     ensures ok { OnOk result (ledger.new ≡ claimed ledger.old (64 *
-        length (moof_runs (record { bytes = held.now; offset = offset }) tracks.now))) }
+        length (moof_runs (held_at held.now offset) tracks.now))) }
     ensures over_limit { IsErrOf result Refused.OverLimit ↔ (ledger.old.limit < ledger.old.live + 64 *
-        length (moof_runs (record { bytes = held.now; offset = offset }) tracks.now)) }
+        length (moof_runs (held_at held.now offset) tracks.now)) }
     ensures err { OnErr result (ledger.new ≡ ledger.old) }
 {
     let moof = whole_box(held, offset);

@@ -134,7 +134,8 @@ impl<'a> Model for Runs<'a> {
 impl<'a> Runs<'a> {
     /// The runs of the truns among the children of a box, behind the runs so far.
     pub(crate) fn of(context: &TrafContext<'a>, behind: &Behind, this: &BoxRef<'a>) -> Runs<'a>
-        requires { AllByRecursion InRange (runs_left context.now behind.now (children (view this.now))) }
+        requires { AllByRecursion InRange
+            (runs_left context.now behind.now (children (view this.now))) }
         ensures { result ≡ runs_left context.now behind.now (children (view this.now)) }
     {
         Runs {

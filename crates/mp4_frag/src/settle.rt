@@ -7,7 +7,7 @@ ghost use Rattle.mp4_box.specs.Trees.{children, view};
 ghost use Rattle.mp4_frag.specs.Kinds.{trun};
 ghost use Rattle.mp4_frag.specs.Moofs.{IsRead, moof_trafs};
 ghost use Rattle.mp4_frag.specs.Rules.{count_faults, samples_of};
-ghost use Rattle.mp4_frag.specs.Runs.{Held, shared_of, traf_of};
+ghost use Rattle.mp4_frag.specs.Runs.{held_at, shared_of, traf_of};
 ghost use Rattle.mp4_frag.specs.Settling.{EndsInTime, ended, settled, ticks_from, timed, timed_of};
 ghost use Rattle.mp4_frag.specs.Times.{late_from};
 
@@ -48,7 +48,8 @@ pub(crate) fn timed_in(moof: &BoxRef<'_>) -> u32
 /// Where a traf ends that begins at a time.
 #[tactic(auto, using(crate::proofs::SettleLemmas::tick_fits, crate::proofs::SettleLemmas::tick_more), unfolding(crate::specs::Settling::ticks_from))]
 fn end_of(context: &TrafContext<'_>, time: u64, traf: &BoxRef<'_>) -> u64
-    requires { late_from (shared_of context.now) time (of_kind trun (children (view traf.now))) ≡ [] }
+    requires { late_from (shared_of context.now) time
+        (of_kind trun (children (view traf.now))) ≡ [] }
     ensures { result ≡ ticks_from (shared_of context.now) time
         (of_kind trun (children (view traf.now))) }
 {
@@ -64,9 +65,9 @@ fn end_of(context: &TrafContext<'_>, time: u64, traf: &BoxRef<'_>) -> u64
 /// Sets where the track of a traf ends: where the traf does.
 #[tactic(auto, unfolding(crate::specs::Runs::traf_of))]
 fn end_traf(held: &[u8], moof: u64, traf: &BoxRef<'_>, tracks: &mut TrackList)
-    requires { EndsInTime (traf_of (record { bytes = held.now; offset = moof }) tracks.old
+    requires { EndsInTime (traf_of (held_at held.now moof) tracks.old
         (view traf.now)) }
-    ensures { tracks.new ≡ ended tracks.old (traf_of (record { bytes = held.now; offset = moof })
+    ensures { tracks.new ≡ ended tracks.old (traf_of (held_at held.now moof)
         tracks.old (view traf.now)) }
 {
     let track = track_of(tracks, traf);
@@ -82,9 +83,9 @@ fn end_traf(held: &[u8], moof: u64, traf: &BoxRef<'_>, tracks: &mut TrackList)
 pub(crate) fn settle_in(held: &[u8], moof: u64, tracks: &mut TrackList)
     requires whole { IsWhole held.now }
     requires room { moof + length held.now ≤ 2 ^ 62 }
-    requires read { IsRead (record { bytes = held.now; offset = moof }) tracks.old }
+    requires read { IsRead (held_at held.now moof) tracks.old }
     ensures { tracks.new ≡ settled tracks.old
-        (moof_trafs (record { bytes = held.now; offset = moof }) tracks.old) }
+        (moof_trafs (held_at held.now moof) tracks.old) }
 {
     let this = whole_box(held, moof);
     for traf in Along::of(&[TRAF], &this) {

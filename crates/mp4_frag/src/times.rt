@@ -6,7 +6,7 @@ ghost use Rattle.mp4_box.specs.Paths.{of_kind};
 ghost use Rattle.mp4_box.specs.Trees.{children, view};
 ghost use Rattle.mp4_frag.specs.Kinds.{trun};
 ghost use Rattle.mp4_frag.specs.Moofs.{time_faults_of};
-ghost use Rattle.mp4_frag.specs.Runs.{shared_of, traf_of};
+ghost use Rattle.mp4_frag.specs.Runs.{held_at, shared_of, traf_of};
 ghost use Rattle.mp4_frag.specs.Times.{late_at, late_from};
 
 use crate::kinds::TRUN;
@@ -63,7 +63,7 @@ fn note_traf(
     best: &mut Option<Fault>,
 )
     ensures { best.new ≡ least_from best.old (time_faults_of
-        (traf_of (record { bytes = held.now; offset = moof }) tracks.now (view traf.now))) }
+        (traf_of (held_at held.now moof) tracks.now (view traf.now))) }
 {
     let track = track_of(tracks, traf);
     let context = context_of(held, moof, track, traf);
@@ -71,7 +71,7 @@ fn note_traf(
 }
 
 impl<'a> Check for InTime<'a> {
-    ghost faults = { λ c b. time_faults_of (traf_of (record { bytes = c.held.now; offset = c.moof })
+    ghost faults = { λ c b. time_faults_of (traf_of (held_at c.held.now c.moof)
         c.tracks.now b) };
 
     fn note_at(&self, this: &BoxRef<'_>, best: &mut Option<Fault>) {

@@ -5,7 +5,7 @@ ghost use Rattle.std.specs.Iterator.{YieldsFirst, item_count};
 ghost use Rattle.std.specs.List.{AllByRecursion};
 ghost use Rattle.mp4_box.specs.Trees.{children, view};
 ghost use Rattle.mp4_frag.specs.Ranges.{InRange, IsSound};
-ghost use Rattle.mp4_frag.specs.Runs.{base_of, end_in, fragment_of, header_by, known_track, runs_of, shared_by, shared_of, track_of, traf_of, trafs_by};
+ghost use Rattle.mp4_frag.specs.Runs.{base_of, end_in, fragment_of, header_by, held_at, known_track, runs_of, shared_by, shared_of, track_of, traf_of, trafs_by};
 
 use crate::checks::{entry_of, track_with};
 use crate::fields::{flags_of, number_or, payload_at};
@@ -110,7 +110,7 @@ pub(crate) fn context_of<'a>(
     track: Track,
     traf: &BoxRef<'_>,
 ) -> TrafContext<'a>
-    ensures shared { shared_of result ≡ shared_by (record { bytes = held.now; offset = moof }) track
+    ensures shared { shared_of result ≡ shared_by (held_at held.now moof) track
         (view traf.now) }
     ensures small { result.header.size < 2 ^ 32 }
 {
@@ -135,7 +135,7 @@ pub struct Traf<'a> {
 impl<'a> Model for Traf<'a> {
     ghost use Rattle.std.specs.List.{AllByRecursion};
     ghost use Rattle.mp4_frag.specs.Ranges.{InRange};
-    ghost use Rattle.mp4_frag.specs.Runs.{TrackFragment, fragment_of, runs_of};
+    ghost use Rattle.mp4_frag.specs.Runs.{fragment_of, held_at, runs_of, TrackFragment};
 
     ghost Value = { TrackFragment };
 
@@ -177,9 +177,9 @@ pub(crate) fn traf_of<'a>(
     tracks: &TrackList,
     this: &BoxRef<'a>,
 ) -> Traf<'a>
-    requires { IsSound (traf_of (record { bytes = held.now; offset = moof }) tracks.now
+    requires { IsSound (traf_of (held_at held.now moof) tracks.now
         (view this.now)) }
-    ensures { result ≡ traf_of (record { bytes = held.now; offset = moof }) tracks.now
+    ensures { result ≡ traf_of (held_at held.now moof) tracks.now
         (view this.now) }
 {
     let track = track_of(tracks, this);
@@ -202,14 +202,14 @@ impl<'a> Model for Trafs<'a> {
     ghost use Rattle.std.specs.Prelude.{List};
     ghost use Rattle.std.specs.List.{AllByRecursion};
     ghost use Rattle.mp4_frag.specs.Ranges.{InRange, IsSound};
-    ghost use Rattle.mp4_frag.specs.Runs.{TrackFragment, trafs_by};
+    ghost use Rattle.mp4_frag.specs.Runs.{held_at, TrackFragment, trafs_by};
 
     ghost Value = { List TrackFragment };
 
-    ghost view = { λ t. trafs_by (record { bytes = t.held.now; offset = t.moof }) t.tracks.now t.walk };
+    ghost view = { λ t. trafs_by (held_at t.held.now t.moof) t.tracks.now t.walk };
 
     ghost invariant = { λ t. AllByRecursion IsSound
-        (trafs_by (record { bytes = t.held.now; offset = t.moof }) t.tracks.now t.walk) };
+        (trafs_by (held_at t.held.now t.moof) t.tracks.now t.walk) };
 }
 
 impl<'a> Trafs<'a> {
@@ -220,9 +220,9 @@ impl<'a> Trafs<'a> {
         tracks: &'a TrackList,
         this: &BoxRef<'a>,
     ) -> Trafs<'a>
-        requires { AllByRecursion IsSound (trafs_by (record { bytes = held.now; offset = moof })
+        requires { AllByRecursion IsSound (trafs_by (held_at held.now moof)
             tracks.now (children (view this.now))) }
-        ensures { result ≡ trafs_by (record { bytes = held.now; offset = moof }) tracks.now
+        ensures { result ≡ trafs_by (held_at held.now moof) tracks.now
             (children (view this.now)) }
     {
         Trafs {
@@ -242,13 +242,13 @@ fn next_traf<'a>(
     walk: &mut Walk<'a>,
 ) -> Option<Traf<'a>>
     requires sound { AllByRecursion IsSound
-        (trafs_by (record { bytes = held.now; offset = moof }) tracks.now walk.old) }
-    ensures first { trafs_by (record { bytes = held.now; offset = moof }) tracks.now walk.old ≡
-        option_to_list result ++ trafs_by (record { bytes = held.now; offset = moof }) tracks.now walk.new }
+        (trafs_by (held_at held.now moof) tracks.now walk.old) }
+    ensures first { trafs_by (held_at held.now moof) tracks.now walk.old ≡
+        option_to_list result ++ trafs_by (held_at held.now moof) tracks.now walk.new }
     ensures none { IfNone result
-        (trafs_by (record { bytes = held.now; offset = moof }) tracks.now walk.new ≡ []) }
+        (trafs_by (held_at held.now moof) tracks.now walk.new ≡ []) }
     ensures sound { AllByRecursion IsSound
-        (trafs_by (record { bytes = held.now; offset = moof }) tracks.now walk.new) }
+        (trafs_by (held_at held.now moof) tracks.now walk.new) }
 {
     let Some(this) = next_of(TRAF, walk) else {
         return None;
