@@ -16,14 +16,14 @@ use mp4_box::{Fault, Rule};
 use mp4_run_order::Payload;
 
 impl<'a> Moof<'a> {
-    /// Whether its runs stand where they may in the payload of its mdat. The list is that of this moof, with the tracks that it
-    /// was read with. No row is read.
+    /// Whether its runs stand where they may in the payload of its mdat. The list is that of this moof, with the
+    /// tracks that it was read with. No row is read.
     ///
     /// # Errors
     ///
-    /// RunPlace at the first trun in the listing that is at fault: it has samples, and its run doesn't lie in the payload,
-    /// shares a byte with a run that is listed earlier, or begins before the end of a run of its track with samples that
-    /// is listed earlier.
+    /// RunPlace at the first trun in the listing that is at fault: it has samples, and its run doesn't lie in the
+    /// payload, shares a byte with a run that is listed earlier, or begins before the end of a run of its track
+    /// with samples that is listed earlier.
     pub fn places(&self, payload: Payload, list: &RunList, steps: &mut Steps) -> Result<(), Fault>
         ensures fault { (tracks : List Track) → IsListOf self.now tracks list.now →
             fault_of result ≡ place_fault payload (moof_runs self.now tracks) }

@@ -2,6 +2,7 @@
 
 ghost use Rattle.std.specs.Prelude.{◌≡◌, ◌+◌, ◌^◌, ◌≤◌, length};
 ghost use Rattle.mp4_box.specs.Trees.{view};
+ghost use Rattle.mp4_frag.specs.Runs.{held_at};
 ghost use Rattle.mp4_frag.specs.Rereads.{box_in, run_of_row};
 
 use crate::part::headless;
@@ -16,7 +17,7 @@ use mp4_init::TrackList;
 /// The box of a moof that begins at this offset in the stream.
 fn box_in<'a>(held: &'a [u8], moof: u64, offset: u64) -> BoxRef<'a>
     requires { moof + length held.now ≤ 2 ^ 62 }
-    ensures { view result ≡ box_in (record { bytes = held.now; offset = moof }) offset }
+    ensures { view result ≡ box_in (held_at held.now moof) offset }
 {
     let at = offset.saturating_sub(moof);
     if at > held.len() as u64 {
@@ -34,7 +35,7 @@ fn box_in<'a>(held: &'a [u8], moof: u64, offset: u64) -> BoxRef<'a>
 #[tactic(auto, unfolding(crate::specs::Rereads::run_of_row))]
 pub(crate) fn run_of_row(held: &[u8], moof: u64, tracks: &TrackList, row: &RunRow) -> Run
     requires { moof + length held.now ≤ 2 ^ 62 }
-    ensures { result ≡ run_of_row (record { bytes = held.now; offset = moof }) tracks.now row.now }
+    ensures { result ≡ run_of_row (held_at held.now moof) tracks.now row.now }
 {
     let tfhd = box_in(held, moof, row.tfhd).payload;
     let context = TrafContext {

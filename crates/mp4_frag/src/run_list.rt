@@ -7,6 +7,7 @@ ghost use Rattle.mp4_box.specs.Trees.{box_at, view};
 ghost use Rattle.mp4_ledger.specs.Memory.{claimed, given_back};
 ghost use Rattle.mp4_frag.specs.Kinds.{to_trun};
 ghost use Rattle.mp4_frag.specs.Moofs.{IsRead, moof_runs, moof_samples};
+ghost use Rattle.mp4_frag.specs.Runs.{held_at};
 ghost use Rattle.mp4_frag.specs.RunLists.{IsLate, IsListOf, IsSorted, taken_runs};
 
 use crate::fill::fill;
@@ -22,8 +23,9 @@ use mp4_init::TrackList;
 use mp4_ledger::{Ledger, Refused, Rows64};
 use std::marker::Model;
 
-/// The runs of a moof in the order in which they are taken: by place, and those at one place as the moof lists them. They are kept
-/// in claimed memory, 64 bytes for each. The list must be given back to its ledger, and can't be dropped.
+/// The runs of a moof in the order in which they are taken: by place, and those at one place as the moof lists
+/// them. They are kept in claimed memory, 64 bytes for each. The list must be given back to its ledger, and can't
+/// be dropped.
 pub struct RunList {
     pub(crate) rows: Rows64,
     /// The offset of the first trun in the listing that begins before the end of an earlier one of its track.
@@ -111,15 +113,15 @@ fn list_in(
 ) -> Result<RunList, Refused>
     requires whole { IsWhole held.now }
     requires room { offset + length held.now ≤ 2 ^ 62 }
-    requires read { IsRead (record { bytes = held.now; offset = offset }) tracks.now }
+    requires read { IsRead (held_at held.now offset) tracks.now }
     ensures list { IfOk result (λ l.
-        IsListOf (record { bytes = held.now; offset = offset }) tracks.now l) }
+        IsListOf (held_at held.now offset) tracks.now l) }
     ensures len { IfOk result (λ l. length l.rows ≡
-        length (moof_runs (record { bytes = held.now; offset = offset }) tracks.now)) }
+        length (moof_runs (held_at held.now offset) tracks.now)) }
     ensures ok { OnOk result (ledger.new ≡ claimed ledger.old (64 *
-        length (moof_runs (record { bytes = held.now; offset = offset }) tracks.now))) }
-    ensures over_limit { IsErrOf result Refused.OverLimit ↔ (ledger.old.limit < ledger.old.live + 64 *
-        length (moof_runs (record { bytes = held.now; offset = offset }) tracks.now)) }
+        length (moof_runs (held_at held.now offset) tracks.now))) }
+    ensures over_limit { IsErrOf result Refused.OverLimit ↔ (ledger.old.limit <
+        ledger.old.live + 64 * length (moof_runs (held_at held.now offset) tracks.now)) }
     ensures err { OnErr result (ledger.new ≡ ledger.old) }
 {
     let moof = whole_box(held, offset);
@@ -133,13 +135,13 @@ fn list_in(
 }
 
 impl<'a> Moof<'a> {
-    /// Its runs in the order in which they are taken, in a table that is claimed, 64 bytes for each. `tracks` are those that it was
-    /// read with. Its samples are counted in `steps` as rows that were read.
+    /// Its runs in the order in which they are taken, in a table that is claimed, 64 bytes for each. `tracks` are
+    /// those that it was read with. Its samples are counted in `steps` as rows that were read.
     ///
     /// # Errors
     ///
-    /// `OverLimit` exactly where the claim passes the limit; else `Memory` where the allocator has none. Nothing is claimed
-    /// and no row is read then.
+    /// `OverLimit` exactly where the claim passes the limit; else `Memory` where the allocator has none. Nothing is
+    /// claimed and no row is read then.
     pub fn list(
         &self,
         ledger: &mut Ledger,

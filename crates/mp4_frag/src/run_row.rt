@@ -9,8 +9,8 @@ use crate::run::Run;
 /// How many numbers of 32 bits there are.
 const HALF: u64 = 1 << 32;
 
-/// What a row of a list keeps of a run, so that no row of the run is read again. The rest of it is read in its trun and in the
-/// tfhd of its traf.
+/// What a row of a list keeps of a run, so that no row of the run is read again. The rest of it is read in its trun
+/// and in the tfhd of its traf.
 #[derive(Clone, Copy, Debug)]
 pub struct RunRow {
     /// The offset in the stream of the first byte of its samples.

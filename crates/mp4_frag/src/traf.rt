@@ -177,9 +177,9 @@ pub(crate) fn traf_of<'a>(
     tracks: &TrackList,
     this: &BoxRef<'a>,
 ) -> Traf<'a>
-    requires { IsSound (traf_of (record { bytes = held.now; offset = moof }) tracks.now
+    requires { IsSound (traf_of (held_at held.now moof) tracks.now
         (view this.now)) }
-    ensures { result ≡ traf_of (record { bytes = held.now; offset = moof }) tracks.now
+    ensures { result ≡ traf_of (held_at held.now moof) tracks.now
         (view this.now) }
 {
     let track = track_of(tracks, this);

@@ -130,7 +130,7 @@ ascending_is_taken runs l up =
     (pairs_of_all (λ a b. a.place ≤ℤ b.place) runs up) (pairs_of_all Earlier runs l) in
     sym (order_is_taken runs runs l (record { same = IsPermutation-refl runs; order = all_of_pairs IsTakenBefore runs order }))
 
--- ---- the older rule
+-- ---- the stricter rule
 
 apart_after : (a b : ListedRun) → (a.count ≢ 0 → end_of a ≤ℤ b.place) → SharesNoByte a b
 apart_after a b h = record { no_byte = λ x i j. let g = h i.samples in let f = i.to in let k = j.from in absurd (omega (arith, ints)) }

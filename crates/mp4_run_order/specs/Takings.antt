@@ -1,4 +1,4 @@
--- What holds of runs in the order in which they are taken, and which runs an older rule accepted.
+-- What holds of runs in the order in which they are taken, and runs that keep a stricter rule.
 use Rattle.std.specs.Prelude.{ℕ, ◌≤ℤ◌, ◌≡◌, ◌≢◌, ◌<◌, ◌==◌, Bool, not, ◌&&◌, List}
 use Rattle.std.specs.List.{All, AllPairs, filter}
 use Rattle.mp4_run_order.specs.declared.runs.ListedRun.{ListedRun}
@@ -22,7 +22,7 @@ pub record IsTakenWell (payload : Payload) (runs taken : List ListedRun) : Type 
   pub lie : All (LiesIn payload) (filter has_samples taken)
   pub turns : (track : ℕ) → filter (has_samples_of track) taken ≡ filter (has_samples_of track) runs
 
--- ---- an older rule: no run with samples begins before the end of one that is listed earlier
+-- ---- a stricter rule: no run with samples begins before the end of one that is listed earlier
 
 pub record Follows (payload : Payload) (runs : List ListedRun) (run : ListedRun) : Type 0 where
   pub lies : LiesIn payload run

@@ -14,8 +14,9 @@ ghost use Rattle.mp4_run_order.specs.Takings.{AllFollow, IsTakenWell, has_sample
 
 /// The two passes find the number of the first run in the listing that is at fault, and none where none is.
 pub fn search_finds_the_first()
-    ensures { (p : Payload) (runs sorted xs : List ListedRun) → IsListing runs → IsTrackOrder runs sorted →
-        IsTakingOrder runs xs → found_by_place p (found_by_track sorted) xs
+    ensures { (p : Payload) (runs sorted xs : List ListedRun) → IsListing runs →
+        IsTrackOrder runs sorted → IsTakingOrder runs xs →
+        found_by_place p (found_by_track sorted) xs
         ≡ option_map (λ run. run.number) (first_offender p runs) }
 {}
 
@@ -28,7 +29,8 @@ pub fn offender_is_the_first()
 /// The taking order of a listing is one, and it is that which is computed.
 pub fn taking_order_is_one()
     ensures exists { (runs : List ListedRun) → IsListing runs → IsTakingOrder runs (taken runs) }
-    ensures alone { (runs xs : List ListedRun) → IsListing runs → IsTakingOrder runs xs → xs ≡ taken runs }
+    ensures alone { (runs xs : List ListedRun) → IsListing runs → IsTakingOrder runs xs →
+        xs ≡ taken runs }
 {}
 
 /// Runs that are sorted by their keys are in taking order, or in order by track.
@@ -39,8 +41,8 @@ pub fn keys_tell_the_orders()
         IsPermutation runs xs → IsNonDecreasingBy track_key xs → IsTrackOrder runs xs }
 {}
 
-/// Without an offender the runs with bytes ascend in taking order and share no byte, those with samples lie in the payload,
-/// and those of each track are taken as they are listed.
+/// Without an offender the runs with bytes ascend in taking order and share no byte, those with samples lie in the
+/// payload, and those of each track are taken as they are listed.
 pub fn placed_runs_are_taken_well()
     ensures { (p : Payload) (runs xs : List ListedRun) → IsListing runs → IsTakingOrder runs xs →
         Placed p runs → IsTakenWell p runs xs }
@@ -52,12 +54,12 @@ pub fn ascending_runs_are_taken_as_listed()
         taken runs ≡ runs }
 {}
 
-/// Where no run begins before the end of one that is listed earlier, as an older rule wants it, no run is at fault, and those
-/// with samples are taken as they are listed.
-pub fn older_rule_is_kept()
+/// Where no run begins before the end of one that is listed earlier, which is a stricter rule, no run is at fault, and
+/// those with samples are taken as they are listed.
+pub fn following_runs_are_placed()
     ensures placed { (p : Payload) (runs : List ListedRun) → AllFollow p runs → Placed p runs }
-    ensures order { (p : Payload) (runs xs : List ListedRun) → IsListing runs → IsTakingOrder runs xs →
-        AllFollow p runs → filter has_samples xs ≡ filter has_samples runs }
+    ensures order { (p : Payload) (runs xs : List ListedRun) → IsListing runs →
+        IsTakingOrder runs xs → AllFollow p runs → filter has_samples xs ≡ filter has_samples runs }
 {}
 
 /// Runs of two tracks in turn, with one that is moved, and with one that has no bytes.

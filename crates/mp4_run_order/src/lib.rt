@@ -6,9 +6,10 @@
 //! - [`ListedRun::track_key`], [`ListedRun::place_key`]: by which numbers runs are sorted for them;
 //! - [`laws`]: what the definitions of `specs/` imply.
 //!
-//! The definitions: `specs/Runs.antt` (runs, their bytes, the listing), `specs/Places.antt` (which run is at fault),
-//! `specs/Orders.antt` (the order in which runs are taken, the order by track), `specs/Takings.antt` (what that order keeps).
-//! `specs/Searches.antt` says how the first run at fault is found, and `specs/Worked.antt` has examples.
+//! The definitions: `specs/Runs.antt` (runs, their bytes, the listing), `specs/Places.antt` (which run is at
+//! fault), `specs/Orders.antt` (the order in which runs are taken, the order by track), `specs/Takings.antt` (what
+//! that order keeps). `specs/Searches.antt` says how the first run at fault is found, and `specs/Worked.antt` has
+//! examples.
 #![tactic(auto)]
 
 pub mod laws;

@@ -6,8 +6,8 @@ ghost use Rattle.mp4_run_order.specs.Searches.{bytes_step, may_be_first, place_s
 use crate::numbers::{is_below, lower_of};
 use crate::runs::{ListedRun, Payload};
 
-/// The search, among runs that are gone over in taking order, for the first in the listing that is at fault. It is the second of
-/// two passes, behind [`TrackSearch`](crate::TrackSearch).
+/// The search, among runs that are gone over in taking order, for the first in the listing that is at fault. It is
+/// the second of two passes, behind [`TrackSearch`](crate::TrackSearch).
 #[derive(Clone, Copy, Debug)]
 pub struct PlaceSearch {
     /// Where runs must lie.

@@ -23,8 +23,8 @@ pub struct ListedRun {
     pub bytes: u64,
 }
 
-/// Where the payload of an mdat begins and ends, as stream offsets. It has no end where the mdat goes to the end of the
-/// stream.
+/// Where the payload of an mdat begins and ends, as stream offsets. It has no end where the mdat goes to the end of
+/// the stream.
 #[derive(Clone, Copy, Debug, PartialEq, Eq)]
 pub struct Payload {
     pub start: u64,

@@ -6,8 +6,9 @@ ghost use Rattle.mp4_run_order.specs.Searches.{is_late, track_start, track_step}
 use crate::numbers::lower_of;
 use crate::runs::ListedRun;
 
-/// The search, among runs that are gone over by track, for the first in the listing that begins before the end of an earlier
-/// run of its track. It is the first of two passes: [`PlaceSearch`](crate::PlaceSearch) begins with what it found.
+/// The search, among runs that are gone over by track, for the first in the listing that begins before the end of
+/// an earlier run of its track. It is the first of two passes: [`PlaceSearch`](crate::PlaceSearch) begins with what
+/// it found.
 #[derive(Clone, Copy, Debug)]
 pub struct TrackSearch {
     /// The number of the first that was found so far.

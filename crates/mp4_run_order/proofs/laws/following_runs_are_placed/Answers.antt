@@ -1,5 +1,5 @@
 use Rattle.mp4_run_order.proofs.TakingLemmas.{follows_stands, follows_order}
-use Rattle.mp4_run_order.proofs.laws.older_rule_is_kept.Goals as goal
+use Rattle.mp4_run_order.proofs.laws.following_runs_are_placed.Goals as goal
 
 pub returns-clause-placed : goal.returns-clause-placed
 returns-clause-placed c p runs h = follows_stands p runs h
