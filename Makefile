@@ -5,7 +5,7 @@
 IN ?= crates/fmp4/stdin
 PREFIX ?= /usr/local
 
-.PHONY: demo build moov_tracks test install refusals manual bench
+.PHONY: demo build moov_tracks moof_runs test install refusals manual bench
 
 demo: build
 	@crates/fmp4/out/fmp4 boxes < "$(IN)"
@@ -15,6 +15,9 @@ build:
 
 moov_tracks:
 	@scripts/build moov_tracks
+
+moof_runs:
+	@scripts/build moof_runs
 
 test:
 	@scripts/needs_rt
@@ -36,7 +39,8 @@ manual:
 	@scripts/check_manual
 
 # Measures the program beside others; see bench/README.md.
-bench: build moov_tracks
+bench: build moov_tracks moof_runs
 	@bench/large_boxes
 	@bench/small_boxes
 	@bench/many_tracks
+	@bench/hostile_moofs
