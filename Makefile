@@ -21,7 +21,7 @@ moof_runs:
 
 test:
 	@scripts/needs_rt
-	@echo "proving everything from nothing and running the tests: 20 to 30 minutes on 4 cores" >&2
+	@echo "proving everything from nothing and running the tests: 45 minutes on 4 cores" >&2
 	@rt ci
 
 install:
