@@ -21,7 +21,7 @@ pub record Lies (h : Held) (b : Box) : Type 0 where
   pub bytes : IsBytes b.payload
 
 -- a part of a part
-inner : (x : List ℕ) (at n j m : ℕ) → j + m ≤ n → take m (drop j (take n (drop at x))) ≡ take m (drop (at + j) x)
+pub inner : (x : List ℕ) (at n j m : ℕ) → j + m ≤ n → take m (drop j (take n (drop at x))) ≡ take m (drop (at + j) x)
 inner x at n j m fits =
     let all : n ≡ j + (n - j) = omega arith in
     ap (λ (k : ℕ). take m (drop j (take k (drop at x)))) all

@@ -22,19 +22,10 @@ use Rattle.mp4_frag.specs.Runs.{Held, Shared, end_place, header_by, known_track,
 use Rattle.mp4_frag.specs.Tfhd.{track_id}
 use Rattle.mp4_frag.specs.Rereads.{box_behind, box_in, nothing, run_of_row}
 use Rattle.mp4_frag.specs.RunRows.{listed_row, listed_run, offset_or_none, row_of_run, rows_of_traf, rows_of_trafs, tfhd_at}
-use Rattle.mp4_frag.proofs.PlaceLemmas.{Lies, children_lie, kind_all}
+use Rattle.mp4_frag.proofs.PlaceLemmas.{Lies, children_lie, inner, kind_all}
 use Rattle.mp4_frag.proofs.BoxOrderLemmas.{FoundIn, Behind, none_left, boxes_found, boxes_rise, kind_found, kind_rise}
 
 -- ---- boxes are found again
-
--- a part of a part
-inner : (x : List ℕ) (at n j m : ℕ) → j + m ≤ n → take m (drop j (take n (drop at x))) ≡ take m (drop (at + j) x)
-inner x at n j m fits =
-    let all : n ≡ j + (n - j) = omega arith in
-    ap (λ (k : ℕ). take m (drop j (take k (drop at x)))) all
-    ∙ ap (take m) (drop-take j (n - j) (drop at x))
-    ∙ take-take m (n - j) (drop j (drop at x)) (omega arith)
-    ∙ ap (take m) (drop-drop j at x)
 
 pub refound : (h : Held) (p b : Box) → Lies h p → FoundIn (payload_offset p) p.payload b → box_in h b.offset ≡ b
 unfolding box_in

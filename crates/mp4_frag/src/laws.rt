@@ -1,11 +1,13 @@
 //! What the definitions of a moof's rules, runs and rows imply.
 
 ghost use Rattle.std.specs.Prelude.{◌≡◌, ◌<◌, ◌≤◌, ◌^◌, ◌+◌, ℕ, List, [], length};
-ghost use Rattle.std.specs.List.{AllByRecursion, flat_map};
+ghost use Rattle.std.specs.List.{AllByRecursion, AllPairs, flat_map};
+ghost use Rattle.std.specs.List.Sorted.{IsPermutation};
 ghost use Rattle.mp4_box.specs.Headers.{IsBytes, IsWhole};
 ghost use Rattle.mp4_box.specs.Paths.{of_kind};
 ghost use Rattle.mp4_box.specs.Trees.{children};
 ghost use Rattle.mp4_init.specs.declared.table.Track.{Track};
+ghost use Rattle.mp4_run_order.specs.Orders.{IsTakenBefore};
 ghost use Rattle.mp4_frag.specs.declared.run.Run.{Run};
 ghost use Rattle.mp4_frag.specs.declared.rows.Cursor.{Cursor};
 ghost use Rattle.mp4_frag.specs.Kinds.{traf};
@@ -14,6 +16,8 @@ ghost use Rattle.mp4_frag.specs.Moofs.{IsRead, moof_faults, moof_of, moof_runs, 
 ghost use Rattle.mp4_frag.specs.Ranges.{InRange};
 ghost use Rattle.mp4_frag.specs.Repeats.{repeat_faults};
 ghost use Rattle.mp4_frag.specs.Rows.{IsCursor, row_of, rows_of};
+ghost use Rattle.mp4_frag.specs.RunLists.{IsListOf, ListedRows, taken_runs};
+ghost use Rattle.mp4_frag.specs.RunRows.{listed_run};
 ghost use Rattle.mp4_frag.specs.Runs.{Held};
 
 /// In a moof without a fault nothing is at fault, as far as it is looked at.
@@ -54,4 +58,12 @@ pub fn runs_are_in_range()
     ensures { (h : Held) (tracks : List Track) → IsWhole h.bytes → IsBytes h.bytes →
         h.offset + length h.bytes ≤ 2 ^ 62 → AllByRecursion (λ t. t.size < 2 ^ 32) tracks →
         IsRead h tracks → AllByRecursion InRange (moof_runs h tracks) }
+{}
+
+/// A list of a moof has just its runs, by place, and those at one place as they are listed.
+pub fn lists_are_in_order()
+    ensures same { (h : Held) (tracks : List Track) →
+        IsPermutation (moof_runs h tracks) (taken_runs h tracks) }
+    ensures order { (h : Held) (tracks : List Track) (l : ListedRows) → IsListOf h tracks l →
+        AllPairs (λ a b. IsTakenBefore (listed_run a) (listed_run b)) (taken_runs h tracks) }
 {}

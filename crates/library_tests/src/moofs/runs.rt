@@ -104,19 +104,31 @@ fn first_and_last(alloc: Global, stream: &[u8], moof: (usize, usize)) -> Option<
     told
 }
 
+/// A run of V1's usual flags: its track, time and end; its place, bytes and trun; its count, and that of the next run; the
+/// sizes of its first sample and of its last.
+fn usual(
+    track: u32,
+    (time, end): (u64, u64),
+    (place, bytes, offset): (i128, u64, u64),
+    counts: (u32, u32),
+    sizes: (u32, u32),
+) -> Told {
+    Told {
+        track,
+        time,
+        end,
+        place,
+        bytes,
+        offset,
+        counts,
+        flags: (0x02000000, 0x02000000),
+        sizes,
+    }
+}
+
 #[test]
 fn one_run(rt: HostRuntime) {
-    let run = Told {
-        track: 1,
-        time: 0,
-        end: 3072,
-        place: 468,
-        bytes: 15,
-        offset: 428,
-        counts: (3, 0),
-        flags: (0x02000000, 0x02000000),
-        sizes: (5, 3),
-    };
+    let run = usual(1, (0, 3072), (468, 15, 428), (3, 0), (5, 3));
     assert_eq!(rt;
         first_and_last(rt.alloc(), V1.as_slice(), (364, 460)),
         Some((run, run))
@@ -125,28 +137,8 @@ fn one_run(rt: HostRuntime) {
 
 #[test]
 fn two_trafs(rt: HostRuntime) {
-    let first = Told {
-        track: 1,
-        time: 0,
-        end: 3072,
-        place: 756,
-        bytes: 15,
-        offset: 648,
-        counts: (3, 2),
-        flags: (0x02000000, 0x02000000),
-        sizes: (5, 3),
-    };
-    let last = Told {
-        track: 2,
-        time: 0,
-        end: 2048,
-        place: 771,
-        bytes: 8,
-        offset: 720,
-        counts: (2, 0),
-        flags: (0x02000000, 0x02000000),
-        sizes: (4, 4),
-    };
+    let first = usual(1, (0, 3072), (756, 15, 648), (3, 2), (5, 3));
+    let last = usual(2, (0, 2048), (771, 8, 720), (2, 0), (4, 4));
     assert_eq!(rt;
         first_and_last(rt.alloc(), V2.as_slice(), (584, 748)),
         Some((first, last))
@@ -155,28 +147,8 @@ fn two_trafs(rt: HostRuntime) {
 
 #[test]
 fn two_runs_in_a_traf(rt: HostRuntime) {
-    let first = Told {
-        track: 1,
-        time: 0,
-        end: 1024,
-        place: 792,
-        bytes: 5,
-        offset: 648,
-        counts: (1, 1),
-        flags: (0x02000000, 0x02000000),
-        sizes: (5, 5),
-    };
-    let last = Told {
-        track: 2,
-        time: 1024,
-        end: 2048,
-        place: 808,
-        bytes: 4,
-        offset: 760,
-        counts: (1, 0),
-        flags: (0x02000000, 0x02000000),
-        sizes: (4, 4),
-    };
+    let first = usual(1, (0, 1024), (792, 5, 648), (1, 1), (5, 5));
+    let last = usual(2, (1024, 2048), (808, 4, 760), (1, 0), (4, 4));
     assert_eq!(rt;
         first_and_last(rt.alloc(), V3.as_slice(), (584, 784)),
         Some((first, last))
