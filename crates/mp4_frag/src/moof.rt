@@ -168,6 +168,22 @@ impl<'a> Moof<'a> {
         Moof { held, offset }
     }
 
+    /// Its bytes: one whole box, which ends at or before byte 2^62 of the stream.
+    pub fn bytes(&self) -> &'a [u8]
+        ensures bytes { result.now ≡ self.now.bytes }
+        ensures whole { IsWhole self.now.bytes }
+        ensures room { self.now.offset + length self.now.bytes ≤ 2 ^ 62 }
+    {
+        self.held
+    }
+
+    /// The offset in the stream of its first byte.
+    pub fn offset(&self) -> u64
+        ensures { result ≡ self.now.offset }
+    {
+        self.offset
+    }
+
     /// How many samples it has.
     pub fn samples(&self) -> u32
         ensures samples { result ≡ moof_samples self.now }

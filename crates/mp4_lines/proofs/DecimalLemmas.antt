@@ -98,3 +98,7 @@ digits_below (suc n) e t here =
 
 pub digits_of_powers : (e : ℕ) → e < 64 → Digits e (get_or DIGITS_OF_POWERS e 0)
 digits_of_powers e here = digits_below 64 e tt here
+
+-- a number of 32 bits has at most ten digits
+pub short_length : (n : ℕ) → n < 2 ^ 32 → length (decimal n) ≤ 10
+short_length n low = length-decimal-le 10 n (omega arith) (omega (arith, low)) (omega (arith, low))

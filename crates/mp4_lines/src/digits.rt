@@ -48,6 +48,7 @@ static POWERS_OF_TEN: [u64; 20] = [
 pub(crate) fn decimal_len(number: u64) -> usize
     ensures value { result ≡ length (decimal number) }
     ensures bound { result ≤ DECIMAL_DIGITS }
+    ensures short { number < 2 ^ 32 → result ≤ 10 }
 {
     if number == 0 {
         return 1;

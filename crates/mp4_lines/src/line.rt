@@ -1,6 +1,6 @@
 //! A line of text under construction.
 
-ghost use Rattle.std.specs.Prelude.{◌≡◌, ◌+◌, ◌*◌, ◌≤◌, ◌++◌, [], length};
+ghost use Rattle.std.specs.Prelude.{◌≡◌, ◌+◌, ◌*◌, ◌^◌, ◌<◌, ◌≤◌, ◌++◌, [], length};
 ghost use Rattle.std.specs.Fmt.{decimal, signed_decimal};
 ghost use Rattle.mp4_lines.specs.Digits.{hex_bytes};
 
@@ -11,7 +11,7 @@ use itoa::{Buffer, write_digits};
 use std::marker::Model;
 
 /// The most bytes that a line holds.
-pub const LINE_CAPACITY: usize = 160;
+pub const LINE_CAPACITY: usize = 200;
 
 /// A line of at most [`LINE_CAPACITY`] bytes. A contract sees it as the list of its bytes.
 #[derive(Drop)]
@@ -67,11 +67,12 @@ impl Line {
         self.len = end;
     }
 
-    /// Appends the number in decimal, at most [`DECIMAL_DIGITS`] bytes.
+    /// Appends the number in decimal, at most [`DECIMAL_DIGITS`] bytes, and 10 where it has 32 bits.
     pub fn push_decimal(&mut self, number: u64)
         requires { length self.old + DECIMAL_DIGITS ≤ LINE_CAPACITY }
         ensures text { self.new ≡ self.old ++ decimal number }
         ensures len { length self.new ≤ length self.old + DECIMAL_DIGITS }
+        ensures short { number < 2 ^ 32 → length self.new ≤ length self.old + 10 }
     {
         let end = self.len + decimal_len(number);
         write_digits(number, &mut self.text, end);
