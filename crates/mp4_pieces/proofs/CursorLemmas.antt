@@ -1,0 +1,38 @@
+-- Cursors of a run, and what is left from them on.
+use Rattle.std.proofs.Common.{◌≡◌, ℕ, ℤ, pos, ◌+◌, ◌^◌, List, length, take, drop, sym, ◌∙◌, arith}
+use Rattle.std.specs.Prelude.{◌+ℤ◌, ◌≤ℤ◌, ◌<ℤ◌}
+use Rattle.std.proofs.lemmas.Int.{ints}
+use Rattle.std.proofs.lemmas.List.{length-drop}
+use Rattle.std.proofs.lemmas.List.Sums.{sum_by-take-drop}
+use Rattle.mp4_frag.specs.declared.run.Run.{Run}
+use Rattle.mp4_frag.specs.declared.rows.Row.{Row}
+use Rattle.mp4_frag.specs.declared.rows.Cursor.{Cursor}
+use Rattle.mp4_frag.specs.Rows.{IsCursor, rows_of, sizes}
+use Rattle.mp4_frag.proofs.RowLemmas.{length_rows_of}
+use Rattle.mp4_pieces.specs.Pieces.{IsRunOf}
+use Rattle.mp4_pieces.specs.Growing.{HasRoom}
+
+low_on : (z y : ℤ) (n : ℕ) → y ≡ z +ℤ pos n → pos 0 ≤ℤ (z +ℤ pos (2 ^ 31)) → pos 0 ≤ℤ (y +ℤ pos (2 ^ 31))
+low_on z y n e h = omega (arith, ints, e, h)
+
+high_on : (z y : ℤ) (n m all : ℕ) → y ≡ z +ℤ pos n → n + m ≡ all → (z +ℤ pos all) <ℤ pos (2 ^ 63) → (y +ℤ pos m) <ℤ pos (2 ^ 63)
+high_on z y n m all e sum h = omega (arith, ints, e, sum, h)
+
+-- the numbers of what is left from a cursor on fit their types
+pub cursor_has_room : (held : List ℕ) (run : Run) (c : Cursor) → IsRunOf held run → IsCursor run held c → HasRoom c (drop c.row (rows_of run held))
+cursor_has_room held run c of at =
+    let rows : List Row = rows_of run held in
+    let n : length rows ≡ run.count = length_rows_of run held in
+    let ticks = sum_by-take-drop (λ (r : Row). r.duration) rows c.row in
+    let bytes : sizes (take c.row rows) + sizes (drop c.row rows) ≡ run.bytes = sum_by-take-drop (λ (r : Row). r.size) rows c.row ∙ sym of.bytes in
+    let few = of.few in
+    let end = of.end in
+    let in_range = of.range.end in
+    let row = at.row in
+    let time = at.time in
+    record {
+      row = omega (arith, length-drop c.row rows, n, few, row);
+      time = omega (arith, ticks, end, in_range, time);
+      low = low_on run.place c.place (sizes (take c.row rows)) at.place of.range.low;
+      high = high_on run.place c.place (sizes (take c.row rows)) (sizes (drop c.row rows)) run.bytes at.place bytes of.range.high;
+    }

@@ -1,0 +1,191 @@
+-- The pieces of a run are pieces of it, and behind each the run goes on.
+use Rattle.std.proofs.Common.{◌≡◌, ℕ, ℤ, suc, pos, ◌<◌, ◌≤◌, ◌+◌, ◌^◌, List, [], ◌∷◌, ◌++◌, length, take, drop, refl, sym, ap, subst, ◌∙◌, arith, inl, inr}
+use Rattle.std.specs.Prelude.{◌+ℤ◌, ◌≤ℤ◌, ◌<ℤ◌}
+use Rattle.std.specs.Int.{int_min}
+use Rattle.std.specs.List.{AllByRecursion, fold}
+use Rattle.std.proofs.lemmas.Int.{fold-int_min_bounds, fold-int_min_reached, ints}
+use Rattle.std.proofs.lemmas.List.Elements.{All-cons}
+use Rattle.std.proofs.lemmas.List.{length-append, length-drop, length-take, take-append-drop}
+use Rattle.std.proofs.lemmas.List.Sums.{sum_by-append, sum_by-take-drop, sum_by-take-le}
+use Rattle.std.proofs.Math.Seq.{drop-append-add, take-append-add, take-append_seam}
+use Rattle.mp4_frag.specs.declared.run.Run.{Run}
+use Rattle.mp4_frag.specs.declared.rows.Row.{Row}
+use Rattle.mp4_frag.specs.declared.rows.Cursor.{Cursor}
+use Rattle.mp4_frag.specs.Laws.{first_cursor}
+use Rattle.mp4_frag.specs.Rows.{IsCursor, durations, rows_of, sizes}
+use Rattle.mp4_frag.proofs.RowLemmas.{cursor_first, length_rows_of}
+use Rattle.mp4_pieces.specs.declared.cut.Cut.{Cut}
+use Rattle.mp4_pieces.specs.declared.piece.Piece.{Piece}
+use Rattle.mp4_pieces.specs.Cutting.{ArePieces, join}
+use Rattle.mp4_pieces.specs.Fitting.{fits}
+use Rattle.mp4_pieces.specs.Pieces.{EndsInRange, IsPieceOf, IsRunOf, behind, composition_times, cursor_at, cut_rows, least_of, past_rows, piece_at, pieces_at, pieces_from, pieces_of, rows_in}
+use Rattle.mp4_pieces.specs.Laws.{IsFollowedBy, IsLeastOf}
+use Rattle.mp4_pieces.proofs.CutLemmas.{pieces_are, pieces_only}
+use Rattle.mp4_pieces.proofs.FitLemmas.{is_limit}
+
+-- ---- a part of a list
+
+split_at : (xs : List Row) (i : ℕ) (q rest : List Row) → drop i xs ≡ q ++ rest → xs ≡ take i xs ++ (q ++ rest)
+split_at xs i q rest e = sym (take-append-drop i xs) ∙ ap (λ (ys : List Row). take i xs ++ ys) e
+
+taken_len : (xs : List Row) (i : ℕ) → i ≤ length xs → length (take i xs) ≡ i
+taken_len xs i h = length-take i xs ∙ omega (arith, h)
+
+take_on : (xs : List Row) (i : ℕ) (q rest : List Row) → i ≤ length xs → drop i xs ≡ q ++ rest → take (i + length q) xs ≡ take i xs ++ q
+take_on xs i q rest h e =
+    ap (λ (ys : List Row). take (i + length q) ys) (split_at xs i q rest e)
+    ∙ ap (λ (n : ℕ). take (n + length q) (take i xs ++ (q ++ rest))) (sym (taken_len xs i h))
+    ∙ take-append-add (take i xs) (q ++ rest) (length q)
+    ∙ ap (λ (ys : List Row). take i xs ++ ys) (take-append_seam q rest)
+
+drop_on : (xs : List Row) (i : ℕ) (q rest : List Row) → i ≤ length xs → drop i xs ≡ q ++ rest → drop (i + length q) xs ≡ rest
+drop_on xs i q rest h e =
+    ap (λ (ys : List Row). drop (i + length q) ys) (split_at xs i q rest e)
+    ∙ ap (λ (n : ℕ). drop (n + length q) (take i xs ++ (q ++ rest))) (sym (taken_len xs i h))
+    ∙ drop-append-add (take i xs) (q ++ rest) (length q)
+    ∙ drop_seam q rest
+  where
+    drop_seam : (q rest : List Row) → drop (length q) (q ++ rest) ≡ rest
+    drop_seam [] rest = refl
+    drop_seam (x ∷ q) rest = drop_seam q rest
+
+-- ---- cursors
+
+cursor_is : (held : List ℕ) (run : Run) (c : Cursor) → IsCursor run held c → cursor_at held run c.row ≡ c
+cursor_is held run c at =
+    let n : length (take c.row (rows_of run held)) ≡ c.row = taken_len (rows_of run held) c.row (omega (arith, at.row, length_rows_of run held)) in
+    let row : 0 + length (take c.row (rows_of run held)) ≡ c.row = omega (arith, n) in
+    rw (row, ← at.time, ← at.place) refl
+
+moved : (x y z : ℤ) (n m : ℕ) → x ≡ y +ℤ pos n → x +ℤ pos m ≡ y +ℤ pos (n + m)
+moved x y z n m e = omega (arith, ints, e)
+
+cursor_on : (held : List ℕ) (run : Run) (c : Cursor) (q rest : List Row) → IsCursor run held c → drop c.row (rows_of run held) ≡ q ++ rest → IsCursor run held (past_rows c q)
+cursor_on held run c q rest at e =
+    let rows : List Row = rows_of run held in
+    let n : length rows ≡ run.count = length_rows_of run held in
+    let low = at.row in
+    let time = at.time in
+    let taken : take (c.row + length q) rows ≡ take c.row rows ++ q = take_on rows c.row q rest (omega (arith, low, n)) e in
+    let ticks : durations (take (c.row + length q) rows) ≡ durations (take c.row rows) + durations q = ap durations taken ∙ sum_by-append (λ (r : Row). r.duration) (take c.row rows) q in
+    let bytes : sizes (take (c.row + length q) rows) ≡ sizes (take c.row rows) + sizes q = ap sizes taken ∙ sum_by-append (λ (r : Row). r.size) (take c.row rows) q in
+    record {
+      row = omega (arith, low, n, length-drop c.row rows, ap length e, length-append q rest);
+      time = omega (arith, time, ticks);
+      place = moved c.place run.place run.place (sizes (take c.row rows)) (sizes q) at.place ∙ ap (λ (k : ℕ). run.place +ℤ pos k) (sym bytes);
+    }
+
+-- ---- one piece, and what follows it
+
+is_piece : (held : List ℕ) (run : Run) (c : Cursor) (q rest : List Row) → IsCursor run held c → 0 < length q → drop c.row (rows_of run held) ≡ q ++ rest → IsPieceOf held run (piece_at c q)
+unfolding piece_at
+is_piece held run c q rest at some e =
+    let rows : List Row = rows_of run held in
+    let low = at.row in
+    let here : take (length q) (drop c.row rows) ≡ q = ap (take (length q)) e ∙ take-append_seam q rest in
+    record {
+      some = some;
+      within = omega (arith, low, length_rows_of run held, length-drop c.row rows, ap length e, length-append q rest);
+      is = ap (λ (d : Cursor). piece_at d q) (sym (cursor_is held run c at)) ∙ ap (λ (ys : List Row). piece_at (cursor_at held run c.row) ys) (sym here);
+    }
+
+followed : (cut : Cut) (held : List ℕ) (run : Run) (c : Cursor) (q : List Row) (qs : List (List Row)) → IsCursor run held c → ArePieces (fits cut) (drop c.row (rows_of run held)) (q ∷ qs)
+    → IsFollowedBy cut held run (piece_at c q) (pieces_at (past_rows c q) qs)
+unfolding piece_at
+followed cut held run c q qs at are =
+    let rows : List Row = rows_of run held in
+    let low = at.row in
+    let e : drop c.row rows ≡ q ++ join qs = sym are.joined in
+    let rest : drop (c.row + length q) rows ≡ join qs = drop_on rows c.row q (join qs) (omega (arith, low, length_rows_of run held)) e in
+    let same : qs ≡ cut_rows cut (join qs) = pieces_only (fits cut) (join qs) qs (is_limit cut) (record { some = are.some.1; joined = refl; fit = are.fit.1; full = are.full.1 }) in
+    record {
+      piece = is_piece held run c q (join qs) at are.some.0 e;
+      cursor = cursor_on held run c q (join qs) at e;
+      rest = ap (λ (ys : List Row). pieces_at (past_rows c q) (cut_rows cut ys)) rest ∙ ap (pieces_at (past_rows c q)) (sym same);
+    }
+
+cons_is : {A : Type 0} (x y : A) (xs ys : List A) → x ∷ xs ≡ y ∷ ys → (x ≡ y) × (xs ≡ ys)
+cons_is x y xs ys e = (cc, cc)
+
+pub goes_on : (cut : Cut) (held : List ℕ) (run : Run) (c : Cursor) (p : Piece) (ps : List Piece) → IsCursor run held c → pieces_from cut held run c ≡ p ∷ ps → IsFollowedBy cut held run p ps
+unfolding pieces_at
+goes_on cut held run c p ps at e = by (cut_rows cut (drop c.row (rows_of run held))) (pieces_are (fits cut) (drop c.row (rows_of run held)) (is_limit cut)) e
+  where
+    by : (parts : List (List Row)) → ArePieces (fits cut) (drop c.row (rows_of run held)) parts → pieces_at c parts ≡ p ∷ ps → IsFollowedBy cut held run p ps
+    by [] are e = absurd cc
+    by (q ∷ qs) are e =
+        let both = cons_is (piece_at c q) p (pieces_at (past_rows c q) qs) ps e in
+        subst (λ (x : Piece). IsFollowedBy cut held run x ps) both.0 (subst (λ (xs : List Piece). IsFollowedBy cut held run (piece_at c q) xs) both.1 (followed cut held run c q qs at are))
+
+-- ---- all pieces
+
+all_pieces : (cut : Cut) (held : List ℕ) (run : Run) (ps : List Piece) (c : Cursor) → IsCursor run held c → pieces_from cut held run c ≡ ps → AllByRecursion (IsPieceOf held run) ps
+all_pieces cut held run [] c at e = tt
+all_pieces cut held run (p ∷ ps) c at e =
+    let next = goes_on cut held run c p ps at e in
+    (next.piece, all_pieces cut held run ps (behind p) next.cursor next.rest)
+
+pub pieces_are_of : (cut : Cut) (held : List ℕ) (run : Run) → AllByRecursion (IsPieceOf held run) (pieces_of cut held run)
+pieces_are_of cut held run = all_pieces cut held run (pieces_of cut held run) (first_cursor run) (cursor_first run held) refl
+
+-- ---- where a piece ends
+
+high_on : (z y : ℤ) (n m all : ℕ) → y ≡ z +ℤ pos n → n + m ≤ all → (z +ℤ pos all) <ℤ pos (2 ^ 63) → (y +ℤ pos m) <ℤ pos (2 ^ 63)
+high_on z y n m all e sum h = omega (arith, ints, e, sum, h)
+
+ends_at : (held : List ℕ) (run : Run) (i n : ℕ) → IsRunOf held run → i + n ≤ run.count → EndsInRange (piece_at (cursor_at held run i) (take n (drop i (rows_of run held))))
+unfolding piece_at
+ends_at held run i n of within =
+    let rows : List Row = rows_of run held in
+    let few = of.few in
+    let end = of.end in
+    let bytes = of.bytes in
+    let range = of.range.end in
+    let ticks = sum_by-take-drop (λ (r : Row). r.duration) rows i in
+    let more_ticks = sum_by-take-le (λ (r : Row). r.duration) (drop i rows) n in
+    let size = sum_by-take-drop (λ (r : Row). r.size) rows i in
+    let more_size = sum_by-take-le (λ (r : Row). r.size) (drop i rows) n in
+    let len = length_rows_of run held in
+    record {
+      row = omega (arith, few, within, length-take n (drop i rows), length-drop i rows, length-take i rows, len);
+      time = omega (arith, end, range, ticks, more_ticks);
+      place = high_on run.place (run.place +ℤ pos (sizes (take i rows))) (sizes (take i rows)) (sizes (take n (drop i rows))) run.bytes refl (omega (arith, bytes, size, more_size)) of.range.high;
+    }
+
+pub piece_ends : (held : List ℕ) (run : Run) (p : Piece) → IsRunOf held run → IsPieceOf held run p → EndsInRange p
+piece_ends held run p of is = subst EndsInRange (sym is.is) (ends_at held run p.first p.count of is.within)
+
+-- ---- the least composition time
+
+least_of_all : (zs : List ℤ) → 0 < length zs → IsLeastOf zs (least_of zs)
+least_of_all [] h = absurd (omega (arith, h))
+least_of_all (z ∷ zs) h =
+    let bounds = fold-int_min_bounds z zs (fold int_min z zs) refl in
+    record {
+      among = elim (fold-int_min_reached z zs (fold int_min z zs) refl) [
+        | inl first ↦ (0, omega arith, sym first)
+        | inr later ↦ (suc later.0, omega (arith, later.1), later.2)
+      ];
+      least = All-cons (λ (y : ℤ). fold int_min z zs ≤ℤ y) z zs bounds.0 bounds.1;
+    }
+
+length_times : (time : ℕ) (rows : List Row) → length (composition_times time rows) ≡ length rows
+unfolding composition_times
+length_times time [] = refl
+length_times time (row ∷ rows) = ap suc (length_times (time + row.duration) rows)
+
+least_at : (c : Cursor) (rows : List Row) → 0 < length rows → IsLeastOf (composition_times c.time rows) (piece_at c rows).least
+unfolding piece_at
+least_at c rows h = least_of_all (composition_times c.time rows) (omega (arith, h, length_times c.time rows))
+
+pub least_is : (held : List ℕ) (run : Run) (p : Piece) → IsPieceOf held run p → IsLeastOf (composition_times p.time (rows_in held run p)) p.least
+unfolding piece_at
+least_is held run p is =
+    let c : Cursor = cursor_at held run p.first in
+    let rows : List Row = rows_in held run p in
+    let some = is.some in
+    let within = is.within in
+    let time : p.time ≡ c.time = ap (λ (x : Piece). x.time) is.is in
+    let least : p.least ≡ (piece_at c rows).least = ap (λ (x : Piece). x.least) is.is in
+    let len : 0 < length rows = omega (arith, some, within, length-take p.count (drop p.first (rows_of run held)), length-drop p.first (rows_of run held), length_rows_of run held) in
+    subst (λ (t : ℕ). IsLeastOf (composition_times t rows) p.least) (sym time) (subst (IsLeastOf (composition_times c.time rows)) (sym least) (least_at c rows len))

@@ -1,0 +1,96 @@
+-- The runs of a moof that was read are such that they can be cut.
+use Rattle.std.proofs.Common.{◌≡◌, ℕ, ℤ, pos, ◌<◌, ◌≤◌, ◌+◌, ◌^◌, List, [], ◌∷◌, ◌++◌, length, map, refl, ap, subst, arith}
+use Rattle.std.specs.List.{AllByRecursion, flat_map}
+use Rattle.std.proofs.lemmas.List.{length-append}
+use Rattle.mp4_box.specs.Headers.{IsBytes, IsWhole}
+use Rattle.mp4_box.specs.Paths.{of_kind}
+use Rattle.mp4_box.specs.Trees.{Box, children}
+use Rattle.mp4_init.specs.declared.table.Track.{Track}
+use Rattle.mp4_frag.specs.declared.run.Run.{Run}
+use Rattle.mp4_frag.specs.After.{StandsBetween}
+use Rattle.mp4_frag.specs.Kinds.{traf}
+use Rattle.mp4_frag.specs.Moofs.{IsRead, moof_of, moof_runs, moof_samples}
+use Rattle.mp4_frag.specs.Rows.{durations, group_at, row_of, rows_of, sizes}
+use Rattle.mp4_frag.specs.Rules.{most_samples}
+use Rattle.mp4_frag.specs.Runs.{Held, Shared, end_place, run_of, runs_from, runs_of, traf_of}
+use Rattle.mp4_frag.proofs.AfterLemmas.{after_run}
+use Rattle.mp4_frag.proofs.MoofLemmas.{read_count}
+use Rattle.mp4_frag.proofs.RowLemmas.{length_rows_of}
+use Rattle.mp4_frag.proofs.SoundLemmas.{few_timed, rows_are_samples}
+use Rattle.mp4_pieces.specs.Pieces.{AreRunsOf, IsRunOf}
+
+-- ---- what holds of all
+
+all_append : (P : Run → Type 0) (xs ys : List Run) → AllByRecursion P xs → AllByRecursion P ys → AllByRecursion P (xs ++ ys)
+all_append P [] ys all rest = rest
+all_append P (x ∷ xs) ys all rest = (all.0, all_append P xs ys all.1 rest)
+
+all_middle : (P : Run → Type 0) (before : List Run) (run : Run) (after : List Run) → AllByRecursion P (before ++ run ∷ after) → P run
+all_middle P [] run after all = all.0
+all_middle P (b ∷ before) run after all = all_middle P before run after all.1
+
+each : (P : Run → Type 0) (runs : List Run) → ((before after : List Run) (run : Run) → StandsBetween runs before run after → P run) → AllByRecursion P runs
+each P [] f = tt
+each P (x ∷ runs) f = (
+  f [] runs x (record { is = refl }),
+  each P runs (λ before after run s. f (x ∷ before) after run (record { is = ap (λ (ys : List Run). x ∷ ys) s.is })),
+)
+
+-- what holds of two lists holds of each
+pub of_both : (held : List ℕ) (xs ys : List Run) → AreRunsOf held (xs ++ ys) → AreRunsOf held xs × AreRunsOf held ys
+of_both held [] ys all = (tt, all)
+of_both held (x ∷ xs) ys all = let rest = of_both held xs ys all.1 in ((all.0, rest.0), rest.1)
+
+-- ---- their sums
+
+record IsSummed (held : List ℕ) (run : Run) : Type 0 where
+  end : run.end ≡ run.time + durations (rows_of run held)
+  bytes : run.bytes ≡ sizes (rows_of run held)
+
+run_summed : (s : Shared) (time : ℕ) (last : ℤ) (b : Box) → IsSummed s.moof.bytes (run_of s time last b)
+unfolding run_of row_of group_at
+run_summed s time last b = record { end = refl; bytes = refl }
+
+runs_summed : (s : Shared) (time : ℕ) (last : ℤ) (bs : List Box) → AllByRecursion (IsSummed s.moof.bytes) (runs_from s time last bs)
+unfolding runs_from
+runs_summed s time last [] = tt
+runs_summed s time last (b ∷ bs) = (run_summed s time last b, runs_summed s (run_of s time last b).end (end_place (run_of s time last b)) bs)
+
+traf_summed : (h : Held) (tracks : List Track) (t : Box) → AllByRecursion (IsSummed h.bytes) (runs_of (traf_of h tracks t))
+unfolding traf_of
+traf_summed h tracks t = runs_summed (traf_of h tracks t).shared (traf_of h tracks t).time (pos h.offset) (traf_of h tracks t).truns
+
+trafs_summed : (h : Held) (tracks : List Track) (ts : List Box) → AllByRecursion (IsSummed h.bytes) (flat_map runs_of (map (traf_of h tracks) ts))
+trafs_summed h tracks [] = tt
+trafs_summed h tracks (t ∷ ts) =
+    all_append (IsSummed h.bytes) (runs_of (traf_of h tracks t)) (flat_map runs_of (map (traf_of h tracks) ts)) (traf_summed h tracks t) (trafs_summed h tracks ts)
+
+-- ---- their counts
+
+counts_few : (held : List ℕ) (n : ℕ) (runs : List Run) → length (flat_map (λ (run : Run). rows_of run held) runs) ≤ n → AllByRecursion (λ (run : Run). run.count ≤ n) runs
+counts_few held n [] h = tt
+counts_few held n (run ∷ runs) h =
+    let more = length-append (rows_of run held) (flat_map (λ (run : Run). rows_of run held) runs) in
+    (omega (arith, h, more, length_rows_of run held), counts_few held n runs (omega (arith, h, more)))
+
+pub samples_few : (h : Held) (tracks : List Track) → IsRead h tracks → moof_samples h ≤ most_samples
+samples_few h tracks read = let few = few_timed (moof_of h) (read_count h tracks read) in few.most
+
+-- ---- all of a moof
+
+run_is : (h : Held) (tracks : List Track) → h.offset ≤ 2 ^ 62 → IsWhole h.bytes → IsBytes h.bytes → IsRead h tracks → (before after : List Run) (run : Run) → StandsBetween (moof_runs h tracks) before run after → run.size < 2 ^ 32 → IsRunOf h.bytes run
+run_is h tracks near whole fits read before after run s small =
+    let count = counts_few h.bytes most_samples (moof_runs h tracks) (omega (arith, rows_are_samples h tracks, samples_few h tracks read)) in
+    let sums = trafs_summed h tracks (of_kind traf (children (moof_of h))) in
+    let summed = all_middle (IsSummed h.bytes) before run after (subst (λ (xs : List Run). AllByRecursion (IsSummed h.bytes) xs) s.is sums) in
+    record {
+      few = all_middle (λ (run : Run). run.count ≤ most_samples) before run after (subst (λ (xs : List Run). AllByRecursion (λ (run : Run). run.count ≤ most_samples) xs) s.is count);
+      end = summed.end;
+      bytes = summed.bytes;
+      range = (after_run h tracks near whole fits read before after run s).here small;
+    }
+
+-- the runs of a moof that was read can be cut
+pub runs_are : (h : Held) (tracks : List Track) → h.offset ≤ 2 ^ 62 → IsWhole h.bytes → IsBytes h.bytes → IsRead h tracks → AreRunsOf h.bytes (moof_runs h tracks)
+runs_are h tracks near whole fits read =
+    each (λ (run : Run). run.size < 2 ^ 32 → IsRunOf h.bytes run) (moof_runs h tracks) (λ before after run s small. run_is h tracks near whole fits read before after run s small)

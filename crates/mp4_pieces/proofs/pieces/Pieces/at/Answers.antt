@@ -1,0 +1,17 @@
+use Rattle.std.proofs.Common.{List, sym, ap, subst, ◌∙◌}
+use Rattle.mp4_frag.specs.declared.rows.Row.{Row}
+use Rattle.mp4_pieces.specs.Growing.{HasRoom}
+use Rattle.mp4_pieces.specs.Pieces.{cut_rows, pieces_at}
+use Rattle.mp4_pieces.proofs.CursorLemmas.{cursor_has_room}
+use Rattle.mp4_pieces.proofs.GrowLemmas.{pieces_left_are}
+use Rattle.mp4_pieces.proofs.pieces.Pieces.at.Goals as goal
+
+pub invariant_of-result : goal.invariant_of-result
+invariant_of-result c =
+    subst (λ (rows : List Row). HasRoom c.args.cursor rows) (sym c.rows_from.ensures)
+    (cursor_has_room c.args.held.now c.args.run.now c.args.cursor c.requires.run c.requires.cursor)
+
+pub returns : goal.returns
+returns c =
+    sym (pieces_left_are c.args.cut.now c.args.cursor c.rows_from.result)
+    ∙ ap (λ (rows : List Row). pieces_at c.args.cursor (cut_rows c.args.cut.now rows)) c.rows_from.ensures

@@ -1,0 +1,103 @@
+-- The pieces of a run, with what their samples come to.
+use Rattle.std.specs.Prelude.{◌≡◌, ◌<◌, ◌≤◌, ◌+◌, ◌^◌, ◌+ℤ◌, ◌<ℤ◌, ℕ, ℤ, pos, List, [], ◌∷◌, length, take, drop, map}
+use Rattle.std.specs.List.{AllByRecursion, fold, sum_by}
+use Rattle.std.specs.Int.{int_min}
+use Rattle.mp4_frag.specs.declared.run.Run.{Run}
+use Rattle.mp4_frag.specs.declared.rows.Row.{Row}
+use Rattle.mp4_frag.specs.declared.rows.Cursor.{Cursor}
+use Rattle.mp4_frag.specs.Laws.{first_cursor}
+use Rattle.mp4_frag.specs.Ranges.{InRange}
+use Rattle.mp4_frag.specs.Rows.{durations, rows_of, sizes}
+use Rattle.mp4_frag.specs.Rules.{most_samples}
+use Rattle.mp4_pieces.specs.declared.cut.Cut.{Cut}
+use Rattle.mp4_pieces.specs.declared.piece.Piece.{Piece}
+use Rattle.mp4_pieces.specs.Cutting.{cut_by}
+use Rattle.mp4_pieces.specs.Fitting.{fits}
+
+-- a run of a moof that was read, of which these are the bytes
+pub record IsRunOf (held : List ℕ) (run : Run) : Type 0 where
+  pub few : run.count ≤ most_samples
+  pub end : run.end ≡ run.time + durations (rows_of run held)
+  pub bytes : run.bytes ≡ sizes (rows_of run held)
+  pub range : InRange run
+
+-- so are all of these, of which the default size has 32 bits
+abbrev pub AreRunsOf : List ℕ → List Run → Type 0
+AreRunsOf held runs = AllByRecursion (λ run. run.size < 2 ^ 32 → IsRunOf held run) runs
+
+-- the composition times of samples, of which the first has this decode time
+unfoldable pub composition_times : ℕ → List Row → List ℤ
+composition_times time [] = []
+composition_times time (row ∷ rows) = (pos time +ℤ row.offset) ∷ composition_times (time + row.duration) rows
+
+-- the least of some numbers, 0 where there is none
+abbrev pub least_of : List ℤ → ℤ
+least_of [] = pos 0
+least_of (z ∷ zs) = fold int_min z zs
+
+-- the piece that these samples are, from a cursor on
+unfoldable pub piece_at : Cursor → List Row → Piece
+piece_at c rows = record {
+  first = c.row;
+  count = length rows;
+  time = c.time;
+  place = c.place;
+  bytes = sizes rows;
+  duration = durations rows;
+  least = least_of (composition_times c.time rows);
+}
+
+-- the cursor behind these samples
+abbrev pub past_rows : Cursor → List Row → Cursor
+past_rows c rows = record { row = c.row + length rows; time = c.time + durations rows; place = c.place +ℤ pos (sizes rows) }
+
+-- the pieces that these lists of samples are, one behind the other
+unfoldable pub pieces_at : Cursor → List (List Row) → List Piece
+pieces_at c [] = []
+pieces_at c (rows ∷ rest) = piece_at c rows ∷ pieces_at (past_rows c rows) rest
+
+-- how samples are cut
+abbrev pub cut_rows : Cut → List Row → List (List Row)
+cut_rows cut rows = cut_by (fits cut) rows
+
+-- the pieces of a run from a cursor on
+abbrev pub pieces_from : Cut → List ℕ → Run → Cursor → List Piece
+pieces_from cut held run c = pieces_at c (cut_rows cut (drop c.row (rows_of run held)))
+
+-- the pieces of a run
+abbrev pub pieces_of : Cut → List ℕ → Run → List Piece
+pieces_of cut held run = pieces_from cut held run (first_cursor run)
+
+-- those of each of some runs
+abbrev pub runs_pieces : Cut → List ℕ → List Run → List (List Piece)
+runs_pieces cut held runs = map (pieces_of cut held) runs
+
+-- how many these are
+abbrev pub piece_count : Cut → List ℕ → List Run → ℕ
+piece_count cut held runs = sum_by (λ run. length (pieces_of cut held run)) runs
+
+-- ---- a piece of a run, however it is cut
+
+-- the cursor before row i of a run
+abbrev pub cursor_at : List ℕ → Run → ℕ → Cursor
+cursor_at held run i = past_rows (first_cursor run) (take i (rows_of run held))
+
+-- the samples of a run that a piece names
+abbrev pub rows_in : List ℕ → Run → Piece → List Row
+rows_in held run p = take p.count (drop p.first (rows_of run held))
+
+-- the piece has samples of the run, and what they come to
+pub record IsPieceOf (held : List ℕ) (run : Run) (p : Piece) : Type 0 where
+  pub some : 0 < p.count
+  pub within : p.first + p.count ≤ run.count
+  pub is : p ≡ piece_at (cursor_at held run p.first) (rows_in held run p)
+
+-- the numbers of the cursor behind a piece fit their types
+pub record EndsInRange (p : Piece) : Type 0 where
+  pub row : p.first + p.count < 2 ^ 32
+  pub time : p.time + p.duration < 2 ^ 64
+  pub place : (p.place +ℤ pos p.bytes) <ℤ pos (2 ^ 63)
+
+-- the cursor behind a piece
+abbrev pub behind : Piece → Cursor
+behind p = record { row = p.first + p.count; time = p.time + p.duration; place = p.place +ℤ pos p.bytes }

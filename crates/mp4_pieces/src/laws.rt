@@ -1,0 +1,93 @@
+//! What the definitions of how runs are cut imply.
+
+ghost use Rattle.std.specs.Prelude.{◌≡◌, ◌+◌, ◌^◌, ◌≤◌, ◌<◌, ◌↔◌, ◌∷◌, [], true, ℕ, List, length};
+ghost use Rattle.std.specs.List.{AllByRecursion};
+ghost use Rattle.std.specs.List.Sorted.{IsPermutation};
+ghost use Rattle.mp4_box.specs.Headers.{IsBytes, IsWhole};
+ghost use Rattle.mp4_init.specs.declared.table.Track.{Track};
+ghost use Rattle.mp4_frag.specs.declared.run.Run.{Run};
+ghost use Rattle.mp4_frag.specs.declared.rows.Cursor.{Cursor};
+ghost use Rattle.mp4_frag.specs.declared.rows.Row.{Row};
+ghost use Rattle.mp4_frag.specs.Moofs.{IsRead, moof_runs, moof_samples};
+ghost use Rattle.mp4_frag.specs.Rows.{IsCursor};
+ghost use Rattle.mp4_frag.specs.Runs.{Held};
+ghost use Rattle.mp4_pieces.specs.declared.cut.Cut.{Cut};
+ghost use Rattle.mp4_pieces.specs.declared.piece.Piece.{Piece};
+ghost use Rattle.mp4_pieces.specs.Cutting.{ArePieces, IsLimit};
+ghost use Rattle.mp4_pieces.specs.Fits.{HasRoomFor};
+ghost use Rattle.mp4_pieces.specs.Fitting.{fits};
+ghost use Rattle.mp4_pieces.specs.Groups.{AreGroups, groups};
+ghost use Rattle.mp4_pieces.specs.Laws.{IsFollowedBy, IsLeastOf};
+ghost use Rattle.mp4_pieces.specs.Pieces.{AreRunsOf, EndsInRange, IsPieceOf, IsRunOf, composition_times, cut_rows, piece_count, pieces_from, pieces_of, rows_in};
+ghost use Rattle.mp4_pieces.specs.Rooms.{room_faults};
+
+/// There is just one way to cut samples into pieces, and it is that which is computed.
+pub fn pieces_are_one()
+    ensures exists { (cut : Cut) (rows : List Row) →
+        ArePieces (fits cut) rows (cut_rows cut rows) }
+    ensures alone { (cut : Cut) (rows : List Row) (ps : List (List Row)) →
+        ArePieces (fits cut) rows ps → ps ≡ cut_rows cut rows }
+{}
+
+/// One sample fits, and so does each beginning of what fits. So samples that fit together are one
+/// piece.
+pub fn what_fits_is_one_piece()
+    ensures limit { (cut : Cut) → IsLimit (fits cut) }
+    ensures whole { (cut : Cut) (row : Row) (rows : List Row) →
+        fits cut (row ∷ rows) ≡ true → cut_rows cut (row ∷ rows) ≡ (row ∷ rows) ∷ [] }
+{}
+
+/// Each piece of a run names samples of it, and has their sums. It ends in range.
+pub fn pieces_name_samples()
+    ensures pieces { (cut : Cut) (held : List ℕ) (run : Run) →
+        AllByRecursion (IsPieceOf held run) (pieces_of cut held run) }
+    ensures least { (held : List ℕ) (run : Run) (p : Piece) → IsPieceOf held run p →
+        IsLeastOf (composition_times p.time (rows_in held run p)) p.least }
+    ensures range { (held : List ℕ) (run : Run) (p : Piece) → IsRunOf held run →
+        IsPieceOf held run p → EndsInRange p }
+{}
+
+/// Behind the first piece from a cursor on there is a cursor of the run, and from there on it has
+/// the other pieces. So no list of pieces need be kept.
+pub fn cursors_go_on()
+    ensures { (cut : Cut) (held : List ℕ) (run : Run) (c : Cursor) (p : Piece) (ps : List Piece) →
+        IsCursor run held c → pieces_from cut held run c ≡ p ∷ ps →
+        IsFollowedBy cut held run p ps }
+{}
+
+/// There is just one way to put pieces into groups, and it is that which is computed.
+pub fn groups_are_one()
+    ensures exists { (ps : List Piece) → AreGroups ps (groups ps) }
+    ensures alone { (ps : List Piece) (gs : List (List Piece)) → AreGroups ps gs →
+        gs ≡ groups ps }
+{}
+
+/// There is no fault exactly where all pieces have room for their numbers.
+pub fn no_fault_is_room()
+    ensures { (cut : Cut) (h : Held) (runs : List Run) (seq : ℕ) →
+        (room_faults cut h runs seq ≡ []) ↔ HasRoomFor cut h runs seq }
+{}
+
+/// It doesn't matter in which order runs are taken: they can be cut, have as many pieces, and have
+/// room.
+pub fn order_is_free()
+    ensures runs { (held : List ℕ) (xs ys : List Run) → IsPermutation xs ys →
+        AreRunsOf held xs → AreRunsOf held ys }
+    ensures count { (cut : Cut) (held : List ℕ) (xs ys : List Run) → IsPermutation xs ys →
+        piece_count cut held ys ≡ piece_count cut held xs }
+    ensures room { (cut : Cut) (h : Held) (xs ys : List Run) (seq : ℕ) → IsPermutation xs ys →
+        HasRoomFor cut h xs seq → HasRoomFor cut h ys seq }
+{}
+
+/// A moof has at most as many pieces as samples.
+pub fn pieces_are_few()
+    ensures { (cut : Cut) (h : Held) (tracks : List Track) →
+        piece_count cut h.bytes (moof_runs h tracks) ≤ moof_samples h }
+{}
+
+/// The runs of a moof that was read are such that they can be cut.
+pub fn runs_of_a_moof_can_be_cut()
+    ensures { (h : Held) (tracks : List Track) → IsWhole h.bytes → IsBytes h.bytes →
+        h.offset + length h.bytes ≤ 2 ^ 62 → IsRead h tracks →
+        AreRunsOf h.bytes (moof_runs h tracks) }
+{}

@@ -1,0 +1,24 @@
+//! How the samples of a movie fragment are cut: the pieces of each run (ISO/IEC 14496-12, 8.8.8).
+//!
+//! - [`Cut`]: how many samples and bytes a piece has at most, and what else is asked for;
+//! - [`Piece`]: some samples of a run that follow each other, with their sums;
+//! - [`Pieces`], which goes over the pieces of a run, from its first sample or a cursor on.
+//!
+//! `specs/Cutting.antt` says how any list is cut by a test of what fits, `specs/Fitting.antt` which
+//! samples fit in a piece, `specs/Pieces.antt` what the pieces of a run are, `specs/Groups.antt`
+//! which of them share an index, `specs/Sizes.antt` how many bytes a piece has when it is written,
+//! and `specs/Rooms.antt` what has no room for its numbers. `specs/Growing.antt` says how pieces
+//! are found, row by row.
+#![tactic(auto)]
+
+mod cut;
+mod index;
+pub mod laws;
+mod piece;
+mod pieces;
+mod rooms;
+
+pub use cut::Cut;
+pub use piece::Piece;
+pub use pieces::Pieces;
+pub use rooms::room;

@@ -1,0 +1,221 @@
+//! The pieces of a run, one after the other.
+
+ghost use Rattle.std.specs.Prelude.{◌≡◌, ◌+◌, ◌^◌, ◌<◌, ◌∷◌, ◌++◌, [], option_to_list, IfNone, None};
+ghost use Rattle.std.specs.Iterator.{YieldsFirst, item_count};
+ghost use Rattle.mp4_frag.specs.Rows.{IsCursor};
+ghost use Rattle.mp4_pieces.specs.Fitting.{is_sync};
+ghost use Rattle.mp4_pieces.specs.Growing.{Grows, HasRoom, grown, has_bytes, opened, pieces_left, takes, with_row};
+ghost use Rattle.mp4_pieces.specs.Pieces.{IsRunOf, behind, pieces_from, pieces_of};
+
+use crate::cut::Cut;
+use crate::piece::Piece;
+use mp4_frag::{Cursor, Row, Rows, Run};
+use std::marker::Model;
+
+/// The bit of a sample's flags that is clear for a sync sample: sample_is_non_sync_sample (ISO/IEC
+/// 14496-12, 8.8.3).
+const NON_SYNC: u32 = 0x0001_0000;
+
+/// Whether a sample is a sync sample.
+fn is_sync(row: &Row) -> bool
+    ensures { result ≡ is_sync row.now }
+{
+    row.flags & NON_SYNC == 0
+}
+
+/// Whether the bytes of one row more fit in a piece.
+fn has_bytes(most: Option<u64>, piece: &Piece, row: &Row) -> bool
+    requires { piece.now.bytes + row.now.size < 2 ^ 64 }
+    ensures { result ≡ has_bytes most piece.now row.now }
+{
+    match most {
+        None => true,
+        Some(most) => piece.bytes + u64::from(row.size) <= most,
+    }
+}
+
+impl Cut {
+    /// Whether one row more fits in a piece.
+    #[tactic(auto, unfolding(crate::specs::Growing::takes))]
+    fn takes(&self, piece: &Piece, row: &Row) -> bool
+        requires { piece.now.bytes + row.now.size < 2 ^ 64 }
+        ensures { result ≡ takes self.now piece.now row.now }
+    {
+        piece.count < self.samples
+            && has_bytes(self.bytes, piece, row)
+            && !(self.sync && is_sync(row))
+    }
+}
+
+/// The piece of one row, from a cursor on.
+#[tactic(auto, unfolding(crate::specs::Growing::opened))]
+fn opened(at: Cursor, row: &Row) -> Piece
+    ensures { result ≡ opened at row.now }
+{
+    Piece {
+        first: at.row,
+        count: 1,
+        time: at.time,
+        place: at.place,
+        bytes: u64::from(row.size),
+        duration: u64::from(row.duration),
+        least: i128::from(at.time) + i128::from(row.offset),
+    }
+}
+
+/// The piece with one row more.
+#[tactic(auto, unfolding(crate::specs::Growing::with_row))]
+fn with_row(piece: Piece, row: &Row) -> Piece
+    requires count { piece.count + 1 < 2 ^ 32 }
+    requires bytes { piece.bytes + row.now.size < 2 ^ 64 }
+    requires time { piece.time + piece.duration + row.now.duration < 2 ^ 64 }
+    ensures { result ≡ with_row piece row.now }
+{
+    let time = piece.time + piece.duration;
+    let composed = i128::from(time) + i128::from(row.offset);
+    Piece {
+        count: piece.count + 1,
+        bytes: piece.bytes + u64::from(row.size),
+        duration: piece.duration + u64::from(row.duration),
+        least: piece.least.min(composed),
+        ..piece
+    }
+}
+
+/// A piece, and the row behind it, which didn't fit.
+#[derive(Clone, Copy)]
+struct Filled {
+    piece: Piece,
+    looked_at: Option<Row>,
+}
+
+/// The piece that begins so, with the rows that fit in it.
+#[tactic(auto, unfolding(crate::specs::Growing::grown, crate::specs::Growing::pieces_left), using(crate::proofs::GrowLemmas::with_row_grows))]
+fn fill(cut: &Cut, begun: Piece, rows: &mut Rows<'_>) -> Filled
+    requires { Grows begun rows.old }
+    ensures pieces { grown cut.now begun rows.old ≡ result.piece ∷ pieces_left cut.now
+        (behind result.piece) (option_to_list result.looked_at ++ rows.new) }
+    ensures grows { Grows result.piece (option_to_list result.looked_at ++ rows.new) }
+{
+    let mut piece = begun;
+    loop {
+        let Some(row) = rows.next() else {
+            return Filled {
+                piece,
+                looked_at: None,
+            };
+        };
+        if !cut.takes(&piece, &row) {
+            return Filled {
+                piece,
+                looked_at: Some(row),
+            };
+        }
+        piece = with_row(piece, &row);
+    }
+}
+
+/// Goes over the pieces of a run.
+#[derive(Drop)]
+pub struct Pieces<'a> {
+    cut: Cut,
+    /// Where the next piece begins.
+    at: Cursor,
+    /// The first of its rows, where it was read to see that the piece before it ends.
+    looked_at: Option<Row>,
+    /// The rows that are left.
+    rows: Rows<'a>,
+}
+
+// A contract sees the pieces that are left.
+impl<'a> Model for Pieces<'a> {
+    ghost use Rattle.std.specs.Prelude.{List, ◌++◌, option_to_list};
+    ghost use Rattle.mp4_pieces.specs.declared.piece.Piece.{Piece};
+    ghost use Rattle.mp4_pieces.specs.Growing.{HasRoom, pieces_left};
+
+    ghost Value = { List Piece };
+
+    ghost view = { λ p. pieces_left p.cut p.at (option_to_list p.looked_at ++ p.rows) };
+
+    ghost invariant = { λ p. HasRoom p.at (option_to_list p.looked_at ++ p.rows) };
+}
+
+impl<'a> Pieces<'a> {
+    /// The pieces of a run. `held` are the bytes of its moof.
+    #[tactic(auto, using(mp4_frag::proofs::RowLemmas::cursor_first))]
+    pub fn of(run: &Run, held: &'a [u8], cut: &Cut) -> Pieces<'a>
+        requires run { IsRunOf held.now run.now }
+        ensures { result ≡ pieces_of cut.now held.now run.now }
+    {
+        let start = Cursor {
+            row: 0,
+            time: run.time,
+            place: run.place,
+        };
+        Pieces::at(run, held, cut, start)
+    }
+
+    /// The pieces of a run from a cursor on, as if its rows began there. `held` are the bytes of
+    /// its moof.
+    pub fn at(run: &Run, held: &'a [u8], cut: &Cut, cursor: Cursor) -> Pieces<'a>
+        requires run { IsRunOf held.now run.now }
+        requires cursor { IsCursor run.now held.now cursor }
+        ensures { result ≡ pieces_from cut.now held.now run.now cursor }
+    {
+        Pieces {
+            cut: *cut,
+            at: cursor,
+            looked_at: None,
+            rows: run.rows_from(held, cursor),
+        }
+    }
+}
+
+/// The next row: the one that was looked at, or else the next of those that are left.
+fn next_row(looked_at: &mut Option<Row>, rows: &mut Rows<'_>) -> Option<Row>
+    ensures taken { looked_at.new ≡ None }
+    ensures rows { option_to_list looked_at.old ++ rows.old ≡ option_to_list result ++ rows.new }
+    ensures none { IfNone result (rows.new ≡ []) }
+{
+    match looked_at.take() {
+        Some(row) => Some(row),
+        None => rows.next(),
+    }
+}
+
+/// The next piece. It reads no row twice, and one behind the piece at most.
+#[tactic(auto, using(crate::proofs::GrowLemmas::opened_grows, crate::proofs::GrowLemmas::behind_has_room), unfolding(crate::specs::Growing::pieces_left))]
+fn next_piece(
+    cut: &Cut,
+    at: &mut Cursor,
+    looked_at: &mut Option<Row>,
+    rows: &mut Rows<'_>,
+) -> Option<Piece>
+    requires { HasRoom at.old (option_to_list looked_at.old ++ rows.old) }
+    ensures first { pieces_left cut.now at.old (option_to_list looked_at.old ++ rows.old) ≡
+        option_to_list result ++ pieces_left cut.now at.new
+        (option_to_list looked_at.new ++ rows.new) }
+    ensures none { IfNone result (pieces_left cut.now at.new
+        (option_to_list looked_at.new ++ rows.new) ≡ []) }
+    ensures room { HasRoom at.new (option_to_list looked_at.new ++ rows.new) }
+{
+    let Some(first) = next_row(looked_at, rows) else {
+        return None;
+    };
+    let filled = fill(cut, opened(*at, &first), rows);
+    *at = filled.piece.behind();
+    *looked_at = filled.looked_at;
+    Some(filled.piece)
+}
+
+impl<'a> Iterator for Pieces<'a> {
+    type Item = Piece;
+
+    ghost next_gives = { YieldsFirst (λ rest. rest) };
+
+    ghost remaining = { item_count (λ rest. rest) };
+
+    fn next(&mut self) -> Option<Piece> {
+        next_piece(&self.cut, &mut self.at, &mut self.looked_at, &mut self.rows)
+    }
+}
