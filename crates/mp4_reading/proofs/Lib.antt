@@ -7,3 +7,6 @@ pub mod AccountLemmas
 pub mod BlockLemmas
 pub mod PieceLemmas
 pub mod RunLemmas
+pub mod HeadLemmas
+pub mod BodyGrowthLemmas
+pub mod HoldingLemmas

@@ -9,11 +9,11 @@ use Rattle.mp4_ledger.specs.Memory.{Account, claimed, given_back}
 use Rattle.mp4_reading.specs.Accounts.{Counts, Spends}
 use Rattle.mp4_reading.proofs.AccountLemmas.{Counts-none, Counts-claim, Counts-back, Counts-more, Spends-after, Spends-more}
 use Rattle.mp4_reading.specs.Blocks.{Passes}
-use Rattle.mp4_reading.specs.Readings.{Reading, Told, plus, after, both, silent, asks_for, most_of}
+use Rattle.mp4_reading.specs.Readings.{AtMost, Reading, Told, plus, after, both, silent, asks_for, most_of}
 use Rattle.mp4_reading.specs.Pieces.{Outside, Standing, Moves, GoesOn, Starves, Loses, StopsAt, Around, Takes, IsQuiet, IsFed}
 use Rattle.mp4_reading.specs.declared.stop.Stop.{Stop}
 use Rattle.mp4_reading.specs.declared.stop.Stop.TheVariants.{Stream, Read, Write, OverLimit, Memory}
-use Rattle.mp4_reading.proofs.ReadingAskLemmas.{max_none, most-both, most-first, plus-assoc, plus-none}
+use Rattle.mp4_reading.proofs.ReadingAskLemmas.{AtMost-behind, AtMost-plus, AtMost-trans, max_none, most-both, most-first, plus-assoc, plus-none}
 use Rattle.mp4_reading.proofs.ReadingLemmas.{after-both, after-silent, both-silent}
 use Rattle.mp4_reading.proofs.BlockLemmas.{Passes-none, Passes-more, AppendsPrefix-passed, Passes-sent_on, Appends-passed}
 
@@ -93,6 +93,8 @@ module _ {o o' : Outside} {p q : Standing} {xs : List ℕ} (low : p.claim ≤ o.
     text = AppendsPrefix-passed o''.written r.told.text g.moves.passes h.text;
     spends = subst (Spends o.account o''.account p.claim 0) (sym (most-both g.brought r.told))
         (Spends-after o.account o'.account o''.account p.claim q.claim 0 (most_of g.brought) (most_of r.told) low g.moves.counts h.spends);
+    least = AtMost-trans o.tally o'.tally o''.tally (subst (AtMost o.tally) (sym g.moves.tallied) (AtMost-plus o.tally g.brought.tally)) h.least;
+    most = subst (AtMost o''.tally) (ap (λ t. plus t r.told.tally) g.moves.tallied ∙ plus-assoc o.tally g.brought.tally r.told.tally) h.most;
   }
 
   -- the second stops
@@ -199,6 +201,8 @@ module _ {o o' : Outside} (u : Option (List ℕ)) (x : List ℕ) (a : Account) w
       at_least = omega (arith, ap (λ k. k.peak) back, m.counts.peak);
       at_most = omega (arith, ap (λ k. k.peak) back, m.counts.peak);
     });
+    least = subst (AtMost o.tally) (sym m.tallied) (AtMost-plus o.tally told.tally);
+    most = subst (λ t. AtMost t (plus o.tally r.told.tally)) (sym m.tallied) (subst (λ s. AtMost (plus o.tally told.tally) (plus o.tally s.tally)) (sym e) (AtMost-behind o.tally told.tally (plus told.tally more.tally) (AtMost-plus told.tally more.tally)));
   }
 
   module _ {p : Standing} {xs : List ℕ} (f : AppendsPrefix o'.written u o'.waiting) where
@@ -223,7 +227,7 @@ StopsAt-unsent o o' u x p xs Memory f other (g, near) later =
 
 -- where a write failed, what waits is lost
 pub Loses-waiting : (o o' : Outside) (x : List ℕ) (p : Standing) (xs : List ℕ) → StopsAt o o' p xs Write → StopsAt o (sent_to o' o'.written x) p xs Write
-Loses-waiting o o' x p xs g = λ later. record { text = (g later).text; spends = (g later).spends }
+Loses-waiting o o' x p xs g = λ later. record { text = (g later).text; spends = (g later).spends; least = (g later).least; most = (g later).most }
 
 -- ---- a call, and then what waits is sent
 

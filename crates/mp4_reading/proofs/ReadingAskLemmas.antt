@@ -1,6 +1,6 @@
 -- What boxes ask for, and what is counted, one after the other.
 use Rattle.std.proofs.Common.{◌≡◌, ◌∙◌, ℕ, ◌+◌, ◌≤◌, List, [], ◌∷◌, ◌++◌, length, max, ap, sym, refl, arith, append_assoc, length-append}
-use Rattle.mp4_reading.specs.Readings.{Ask, shifted_by, shifted, greatest, uncounted, plus, Told, both, most_of}
+use Rattle.mp4_reading.specs.Readings.{Ask, AtMost, shifted_by, shifted, greatest, uncounted, plus, silent, Told, both, most_of}
 use Rattle.mp4_reading.specs.declared.tally.Tally.{Tally}
 
 pub max_first : (a b : ℕ) → a ≤ max a b
@@ -15,44 +15,6 @@ none_max n = omega arith
 pub max_assoc : (a b c : ℕ) → max (max a b) c ≡ max a (max b c)
 max_assoc a b c = omega arith
 
--- ---- asks
-
-pub shifted-none : (asks : List Ask) → shifted 0 asks ≡ asks
-shifted-none [] = refl
-shifted-none (a ∷ asks) =
-    let none : 0 + a.behind ≡ a.behind = omega arith in
-    ap (λ k. record { at = a.at; sum = a.sum; behind = k } ∷ shifted 0 asks) none ∙ ap (λ l. a ∷ l) (shifted-none asks)
-
-pub shifted-append : (n : ℕ) (xs ys : List Ask) → shifted n (xs ++ ys) ≡ shifted n xs ++ shifted n ys
-shifted-append n [] ys = refl
-shifted-append n (a ∷ xs) ys = ap (λ l. shifted_by n a ∷ l) (shifted-append n xs ys)
-
-pub shifted-shifted : (m n : ℕ) (xs : List Ask) → shifted m (shifted n xs) ≡ shifted (m + n) xs
-shifted-shifted m n [] = refl
-shifted-shifted m n (a ∷ xs) =
-    let sum : m + (n + a.behind) ≡ m + n + a.behind = omega arith in
-    ap (λ k. record { at = a.at; sum = a.sum; behind = k } ∷ shifted m (shifted n xs)) sum ∙ ap (λ l. shifted_by (m + n) a ∷ l) (shifted-shifted m n xs)
-
-pub greatest-shifted : (n : ℕ) (xs : List Ask) → greatest (shifted n xs) ≡ greatest xs
-greatest-shifted n [] = refl
-greatest-shifted n (a ∷ xs) = ap (max a.sum) (greatest-shifted n xs)
-
-pub greatest-append : (xs ys : List Ask) → greatest (xs ++ ys) ≡ max (greatest xs) (greatest ys)
-greatest-append [] ys = sym (none_max (greatest ys))
-greatest-append (a ∷ xs) ys = ap (max a.sum) (greatest-append xs ys) ∙ sym (max_assoc a.sum (greatest xs) (greatest ys))
-
-pub most-both : (s t : Told) → most_of (both s t) ≡ max (most_of s) (most_of t)
-most-both s t = greatest-append s.asks (shifted (length s.text) t.asks) ∙ ap (max (greatest s.asks)) (greatest-shifted (length s.text) t.asks)
-
-pub most-first : (s t : Told) → most_of s ≤ most_of (both s t)
-most-first s t = omega (arith, most-both s t)
-
-pub shifted-assoc : (s t u : Told) → (both (both s t) u).asks ≡ (both s (both t u)).asks
-shifted-assoc s t u =
-    append_assoc s.asks (shifted (length s.text) t.asks) (shifted (length (s.text ++ t.text)) u.asks)
-    ∙ ap (λ l. s.asks ++ (shifted (length s.text) t.asks ++ l)) (ap (λ n. shifted n u.asks) (length-append s.text t.text) ∙ sym (shifted-shifted (length s.text) (length t.text) u.asks))
-    ∙ ap (λ l. s.asks ++ l) (sym (shifted-append (length s.text) t.asks (shifted (length t.text) u.asks)))
-
 -- ---- counts
 
 pub plus-none : (t : Tally) → plus t uncounted ≡ t
@@ -60,20 +22,86 @@ plus-none t =
     let f : t.fragments + 0 ≡ t.fragments = omega arith in
     let s : t.samples + 0 ≡ t.samples = omega arith in
     let m : t.media_bytes + 0 ≡ t.media_bytes = omega arith in
-    ap (λ n. record { fragments = n; samples = t.samples + 0; media_bytes = t.media_bytes + 0 }) f ∙ ap (λ n. record { fragments = t.fragments; samples = n; media_bytes = t.media_bytes + 0 }) s ∙ ap (λ n. record { fragments = t.fragments; samples = t.samples; media_bytes = n }) m
+    let w : t.walked + 0 ≡ t.walked = omega arith in
+    rw (f, s, m, w) refl
 
 pub none-plus : (t : Tally) → plus uncounted t ≡ t
 none-plus t =
     let f : 0 + t.fragments ≡ t.fragments = omega arith in
     let s : 0 + t.samples ≡ t.samples = omega arith in
     let m : 0 + t.media_bytes ≡ t.media_bytes = omega arith in
-    ap (λ n. record { fragments = n; samples = 0 + t.samples; media_bytes = 0 + t.media_bytes }) f ∙ ap (λ n. record { fragments = t.fragments; samples = n; media_bytes = 0 + t.media_bytes }) s ∙ ap (λ n. record { fragments = t.fragments; samples = t.samples; media_bytes = n }) m
+    let w : 0 + t.walked ≡ t.walked = omega arith in
+    rw (f, s, m, w) refl
 
 pub plus-assoc : (s t u : Tally) → plus (plus s t) u ≡ plus s (plus t u)
 plus-assoc s t u =
-    ap (λ n. record { fragments = n; samples = s.samples + t.samples + u.samples; media_bytes = s.media_bytes + t.media_bytes + u.media_bytes }) (sum s.fragments t.fragments u.fragments)
-    ∙ ap (λ n. record { fragments = s.fragments + (t.fragments + u.fragments); samples = n; media_bytes = s.media_bytes + t.media_bytes + u.media_bytes }) (sum s.samples t.samples u.samples)
-    ∙ ap (λ n. record { fragments = s.fragments + (t.fragments + u.fragments); samples = s.samples + (t.samples + u.samples); media_bytes = n }) (sum s.media_bytes t.media_bytes u.media_bytes)
-  where
-    sum : (i j k : ℕ) → i + j + k ≡ i + (j + k)
-    sum i j k = omega arith
+    let f : s.fragments + t.fragments + u.fragments ≡ s.fragments + (t.fragments + u.fragments) = omega arith in
+    let n : s.samples + t.samples + u.samples ≡ s.samples + (t.samples + u.samples) = omega arith in
+    let m : s.media_bytes + t.media_bytes + u.media_bytes ≡ s.media_bytes + (t.media_bytes + u.media_bytes) = omega arith in
+    let w : s.walked + t.walked + u.walked ≡ s.walked + (t.walked + u.walked) = omega arith in
+    rw (f, n, m, w) refl
+
+pub AtMost-same : (t : Tally) → AtMost t t
+AtMost-same t = record { fragments = omega arith; samples = omega arith; media_bytes = omega arith; walked = omega arith }
+
+pub AtMost-trans : (s t u : Tally) → AtMost s t → AtMost t u → AtMost s u
+AtMost-trans s t u h k = record {
+  fragments = omega (arith, h.fragments, k.fragments);
+  samples = omega (arith, h.samples, k.samples);
+  media_bytes = omega (arith, h.media_bytes, k.media_bytes);
+  walked = omega (arith, h.walked, k.walked);
+}
+
+-- more is counted behind
+pub AtMost-plus : (s t : Tally) → AtMost s (plus s t)
+AtMost-plus s t = record { fragments = omega arith; samples = omega arith; media_bytes = omega arith; walked = omega arith }
+
+-- and so behind what was counted before
+pub AtMost-behind : (s t u : Tally) → AtMost t u → AtMost (plus s t) (plus s u)
+AtMost-behind s t u h = record {
+  fragments = omega (arith, h.fragments);
+  samples = omega (arith, h.samples);
+  media_bytes = omega (arith, h.media_bytes);
+  walked = omega (arith, h.walked);
+}
+
+-- ---- asks
+
+pub shifted-none : (asks : List Ask) → shifted silent asks ≡ asks
+shifted-none [] = refl
+shifted-none (a ∷ asks) =
+    let none : 0 + a.behind ≡ a.behind = omega arith in
+    ap (λ k. record { at = a.at; sum = a.sum; behind = k; counted = plus uncounted a.counted } ∷ shifted silent asks) none
+    ∙ ap (λ t. record { at = a.at; sum = a.sum; behind = a.behind; counted = t } ∷ shifted silent asks) (none-plus a.counted) ∙ ap (λ l. a ∷ l) (shifted-none asks)
+
+pub shifted-append : (s : Told) (xs ys : List Ask) → shifted s (xs ++ ys) ≡ shifted s xs ++ shifted s ys
+shifted-append s [] ys = refl
+shifted-append s (a ∷ xs) ys = ap (λ l. shifted_by s a ∷ l) (shifted-append s xs ys)
+
+pub shifted-shifted : (s t : Told) (xs : List Ask) → shifted s (shifted t xs) ≡ shifted (both s t) xs
+shifted-shifted s t [] = refl
+shifted-shifted s t (a ∷ xs) =
+    let sum : length s.text + (length t.text + a.behind) ≡ length (s.text ++ t.text) + a.behind = omega (arith, length-append s.text t.text) in
+    ap (λ k. record { at = a.at; sum = a.sum; behind = k; counted = plus s.tally (plus t.tally a.counted) } ∷ shifted s (shifted t xs)) sum
+    ∙ ap (λ c. record { at = a.at; sum = a.sum; behind = length (s.text ++ t.text) + a.behind; counted = c } ∷ shifted s (shifted t xs)) (sym (plus-assoc s.tally t.tally a.counted))
+    ∙ ap (λ l. shifted_by (both s t) a ∷ l) (shifted-shifted s t xs)
+
+pub greatest-shifted : (s : Told) (xs : List Ask) → greatest (shifted s xs) ≡ greatest xs
+greatest-shifted s [] = refl
+greatest-shifted s (a ∷ xs) = ap (max a.sum) (greatest-shifted s xs)
+
+pub greatest-append : (xs ys : List Ask) → greatest (xs ++ ys) ≡ max (greatest xs) (greatest ys)
+greatest-append [] ys = sym (none_max (greatest ys))
+greatest-append (a ∷ xs) ys = ap (max a.sum) (greatest-append xs ys) ∙ sym (max_assoc a.sum (greatest xs) (greatest ys))
+
+pub most-both : (s t : Told) → most_of (both s t) ≡ max (most_of s) (most_of t)
+most-both s t = greatest-append s.asks (shifted s t.asks) ∙ ap (max (greatest s.asks)) (greatest-shifted s t.asks)
+
+pub most-first : (s t : Told) → most_of s ≤ most_of (both s t)
+most-first s t = omega (arith, most-both s t)
+
+pub shifted-assoc : (s t u : Told) → (both (both s t) u).asks ≡ (both s (both t u)).asks
+shifted-assoc s t u =
+    append_assoc s.asks (shifted s t.asks) (shifted (both s t) u.asks)
+    ∙ ap (λ l. s.asks ++ (shifted s t.asks ++ l)) (sym (shifted-shifted s t u.asks))
+    ∙ ap (λ l. s.asks ++ l) (sym (shifted-append s t.asks (shifted t u.asks)))

@@ -37,11 +37,11 @@ TellsMore-trans s t u p q = record { text = prefix-trans s.text t.text u.text p.
 pub TellsMore-behind : (u s t : Told) → TellsMore s t → TellsMore (both u s) (both u t)
 TellsMore-behind u s t p = record {
   text = (p.text.0, append_assoc u.text s.text p.text.0 ∙ ap (λ l. u.text ++ l) p.text.1);
-  asks = (shifted (length u.text) p.asks.0, append_assoc u.asks (shifted (length u.text) s.asks) (shifted (length u.text) p.asks.0) ∙ ap (λ l. u.asks ++ l) (sym (shifted-append (length u.text) s.asks p.asks.0) ∙ ap (shifted (length u.text)) p.asks.1));
+  asks = (shifted u p.asks.0, append_assoc u.asks (shifted u s.asks) (shifted u p.asks.0) ∙ ap (λ l. u.asks ++ l) (sym (shifted-append u s.asks p.asks.0) ∙ ap (shifted u) p.asks.1));
 }
 
 TellsMore-both : (s t : Told) → TellsMore s (both s t)
-TellsMore-both s t = record { text = (t.text, refl); asks = (shifted (length s.text) t.asks, refl) }
+TellsMore-both s t = record { text = (t.text, refl); asks = (shifted s t.asks, refl) }
 
 -- what is told of an item comes first
 pub told_of-first : {C : Type 0} (r : C → List ℕ → Reading) (g : Front C) → TellsMore (told_of g) (then_read r g).told

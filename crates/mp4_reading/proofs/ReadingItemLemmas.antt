@@ -14,9 +14,9 @@ Each-append : (P : Ask → Type 0) (xs ys : List Ask) → Each P xs → Each P y
 Each-append P [] ys h k = k
 Each-append P (a ∷ xs) ys h k = (h.0, Each-append P xs ys h.1 k)
 
-Each-shifted : (P Q : Ask → Type 0) (n : ℕ) → ((a : Ask) → P a → Q (shifted_by n a)) → (xs : List Ask) → Each P xs → Each Q (shifted n xs)
-Each-shifted P Q n f [] h = tt
-Each-shifted P Q n f (a ∷ xs) h = (f a h.0, Each-shifted P Q n f xs h.1)
+Each-shifted : (P Q : Ask → Type 0) (s : Told) → ((a : Ask) → P a → Q (shifted_by s a)) → (xs : List Ask) → Each P xs → Each Q (shifted s xs)
+Each-shifted P Q s f [] h = tt
+Each-shifted P Q s f (a ∷ xs) h = (f a h.0, Each-shifted P Q s f xs h.1)
 
 Each-all : (P Q : Ask → Type 0) → ((a : Ask) → P a → Q a) → (xs : List Ask) → Each P xs → Each Q xs
 Each-all P Q f [] h = tt
@@ -60,7 +60,7 @@ module _ {C : Type 0} (front : C → List ℕ → Front C) (at : C → ℕ) (ite
         text = ap (λ n. take n (read_all front c b).told.text) h.behind ∙ sym (ap (λ n. (read_all front c (take n b)).told.text) zero ∙ none c);
       }
 
-  stands_later : (c next : C) (b rest : List ℕ) (told : Told) → front c b ≡ Whole told next rest → IsItem front at c b told next rest → (a : Ask) → IsTextBefore (read_all front) at next rest a → IsTextBefore (read_all front) at c b (shifted_by (length told.text) a)
+  stands_later : (c next : C) (b rest : List ℕ) (told : Told) → front c b ≡ Whole told next rest → IsItem front at c b told next rest → (a : Ask) → IsTextBefore (read_all front) at next rest a → IsTextBefore (read_all front) at c b (shifted_by told a)
   stands_later c next b rest told e i a s =
       let all : read_all front c b ≡ after told (read_all front next rest) = read_all-front front items c b ∙ ap (then_read (read_all front)) e in
       let far : a.at - at c ≡ length i.own + (a.at - at next) = omega (arith, i.ends, s.near) in
@@ -75,9 +75,9 @@ module _ {C : Type 0} (front : C → List ℕ → Front C) (at : C → ℕ) (ite
       → (c : C) (b : List ℕ) (v : Front C) → front c b ≡ v → Below v n → IsItemAt front at c b v → Each (IsFirst (at c)) (told_of v).asks → Each (IsTextBefore (read_all front) at c b) (then_read (read_all front) v).told.asks
   by_front n more c b (Last r) e below i h = Each-all (IsFirst (at c)) (IsTextBefore (read_all front) at c b) (stands_first c b) r.told.asks h
   by_front n more c b (Whole told next rest) e below i h =
-      Each-append (IsTextBefore (read_all front) at c b) told.asks (shifted (length told.text) (read_all front next rest).told.asks)
+      Each-append (IsTextBefore (read_all front) at c b) told.asks (shifted told (read_all front next rest).told.asks)
       (Each-all (IsFirst (at c)) (IsTextBefore (read_all front) at c b) (stands_first c b) told.asks h)
-      (Each-shifted (IsTextBefore (read_all front) at next rest) (IsTextBefore (read_all front) at c b) (length told.text) (stands_later c next b rest told e i) (read_all front next rest).told.asks (more next rest below))
+      (Each-shifted (IsTextBefore (read_all front) at next rest) (IsTextBefore (read_all front) at c b) told (stands_later c next b rest told e i) (read_all front next rest).told.asks (more next rest below))
 
   asks_for_length : (n : ℕ) (c : C) (b : List ℕ) → length b ≤ n → Each (IsTextBefore (read_all front) at c b) (read_all front c b).told.asks
   asks_for_length n c [] h = subst (λ r. Each (IsTextBefore (read_all front) at c []) r.told.asks) (sym (read_all-front front items c [] ∙ ap (then_read (read_all front)) (items.empty c))) tt

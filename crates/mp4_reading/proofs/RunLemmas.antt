@@ -10,14 +10,14 @@ use Rattle.mp4_ledger.specs.declared.ledger.Refused.{Refused}
 use Rattle.mp4_ledger.specs.declared.ledger.Refused.TheVariants as refusals
 use Rattle.mp4_box.specs.declared.rules.Fault.{Fault}
 use Rattle.mp4_reading.specs.Accounts.{Counts, Spends}
-use Rattle.mp4_reading.specs.Readings.{Ask, greatest, Told, Reading, nothing, uncounted, plus, fault_in, early_in, after, both, asks_for, shifted, most_of}
+use Rattle.mp4_reading.specs.Readings.{Ask, AtMost, greatest, Told, Reading, nothing, uncounted, plus, fault_in, early_in, after, both, asks_for, shifted, most_of}
 use Rattle.mp4_reading.specs.Pieces.{Outside, Standing, Refuses, Starves, StopsAt, Around, Takes, IsFed, refusal_of}
 use Rattle.mp4_reading.specs.Ends.{Ends}
 use Rattle.mp4_reading.specs.Runs.{Claims, Run, TellsAll, TellsSome, IsPrompt, StarvesAt, ComesUntil, Runs}
 use Rattle.mp4_reading.specs.declared.stop.Stop.{Stop}
 use Rattle.mp4_reading.specs.declared.tally.Tally.{Tally}
 use Rattle.mp4_reading.specs.declared.stop.Stop.TheVariants.{Stream, Read, Write, OverLimit, Memory}
-use Rattle.mp4_reading.proofs.ReadingAskLemmas.{most-both, shifted-append}
+use Rattle.mp4_reading.proofs.ReadingAskLemmas.{AtMost-behind, AtMost-plus, most-both, plus-none, shifted-append}
 use Rattle.mp4_reading.proofs.AccountLemmas.{Counts-more, Spends-after}
 use Rattle.mp4_reading.proofs.BlockLemmas.{Appends-passed}
 
@@ -102,6 +102,8 @@ module _ (whole : List ℕ → Reading) (b : List ℕ) (start : Outside) (marked
           let more = (g.behind []).told in
           let n = length (whole b).told.text in
           let k = length g.brought.text in
+          let counted = plus (whole b).told.tally (plus g.brought.tally uncounted) in
+          let tally : then.tally ≡ counted = g.moves.tallied ∙ ap (λ t. plus t g.brought.tally) s.stands.tally ∙ ap (plus (whole b).told.tally) (sym (plus-none g.brought.tally)) in
           let told : (whole (b ++ piece)).told ≡ both (whole b).told (both g.brought (both (asks_for g.at g.sum) more)) = ap (λ r. r.told) (reads-both ∙ ap (after (whole b).told) (g.rest [])) in
           let text = Appends-trans start.written now.written then.written (whole b).told.text g.brought.text s.text (Appends-passed g.moves.passes waiting none) in
           let front : take (n + (k + 0)) (whole (b ++ piece)).told.text ≡ (whole b).told.text ++ g.brought.text =
@@ -109,17 +111,19 @@ module _ (whole : List ℕ → Reading) (b : List ℕ) (start : Outside) (marked
           ∙ take-append-add (whole b).told.text (g.brought.text ++ more.text) (k + 0)
           ∙ ap (λ l. (whole b).told.text ++ l) (take-append-add g.brought.text more.text 0 ∙ append-nil g.brought.text) in (
             record {
-              ask = record { at = g.at; sum = g.sum; behind = n + (k + 0) };
-              before = (whole b).told.asks ++ shifted n g.brought.asks;
+              ask = record { at = g.at; sum = g.sum; behind = n + (k + 0); counted = counted };
+              before = (whole b).told.asks ++ shifted (whole b).told g.brought.asks;
               asked = (
-                shifted n (shifted k (shifted 0 more.asks)),
+                shifted (whole b).told (shifted g.brought (shifted (asks_for g.at g.sum) more.asks)),
                 ap (λ t. t.asks) told
-                    ∙ ap (λ l. (whole b).told.asks ++ l) (shifted-append n g.brought.asks (shifted k (record { at = g.at; sum = g.sum; behind = 0 } ∷ shifted 0 more.asks)))
-                    ∙ sym (append_assoc (whole b).told.asks (shifted n g.brought.asks) _),
+                    ∙ ap (λ l. (whole b).told.asks ++ l) (shifted-append (whole b).told g.brought.asks (shifted g.brought (both (asks_for g.at g.sum) more).asks))
+                    ∙ sym (append_assoc (whole b).told.asks (shifted (whole b).told g.brought.asks) _),
               );
-              new = (shifted n g.brought.asks, refl);
+              new = (shifted (whole b).told g.brought.asks, refl);
               text = subst (λ l. Appends ends.written ends.written' l) (sym front) (subst (λ w. Appends ends.written w ((whole b).told.text ++ g.brought.text)) (sym to) (subst (λ w. Appends w then.written ((whole b).told.text ++ g.brought.text)) (sym from) text));
-              peak = peak-exact start.account then.account 0 (greatest ((whole b).told.asks ++ shifted n g.brought.asks)) marked (counts-both g.brought g.moves.counts);
+              peak = peak-exact start.account then.account 0 (greatest ((whole b).told.asks ++ shifted (whole b).told g.brought.asks)) marked (counts-both g.brought g.moves.counts);
+              tally = tally;
+              most = subst (λ t. AtMost t (whole (b ++ piece)).told.tally) (sym tally) (subst (λ t. AtMost counted t.tally) (sym told) (AtMost-behind (whole b).told.tally (plus g.brought.tally uncounted) (plus g.brought.tally (plus uncounted more.tally)) (AtMost-behind g.brought.tally uncounted (plus uncounted more.tally) (AtMost-plus uncounted more.tally))));
             },
             refl,
           )
@@ -135,6 +139,7 @@ module _ (whole : List ℕ → Reading) (b : List ℕ) (start : Outside) (marked
             text = subst (λ t. AppendsPrefix ends.written ends.written' t.text) (sym told) (subst (λ w. AppendsPrefix ends.written w ((whole b).told.text ++ r.told.text)) (sym to) (subst (λ w. AppendsPrefix w then.written ((whole b).told.text ++ r.told.text)) (sym from) text));
             least = omega (arith, spends.at_least, marked);
             most = peak-most start.account then.account 0 (most_of (whole (b ++ piece)).told) marked spends;
+            counted = subst (AtMost then.tally) (ap (λ t. plus t r.told.tally) s.stands.tally ∙ ap (λ t. t.tally) (sym told)) (g []).most;
           }
 
       -- how it stops
@@ -183,14 +188,14 @@ idle-stops whole ends claims live refusals.OverLimit none given kept failed idle
   bytes = [];
   given = given;
   prompt = record { early = []; last = []; cut = refl; few = omega arith; undecided = ap (λ r. early_in r.outcome) none };
-  comes = inl (record { bytes = refl; text = kept; peak = peak ∙ idle }, omega (arith, over refl, idle));
+  comes = inl (record { bytes = refl; text = kept; peak = peak ∙ idle; tally = refl }, omega (arith, over refl, idle));
   kept = λ _. failed;
 }
 idle-stops whole ends claims live refusals.Memory none given kept failed idle peak over within = record {
   bytes = [];
   given = given;
   prompt = record { early = []; last = []; cut = refl; few = omega arith; undecided = ap (λ r. early_in r.outcome) none };
-  comes = inl (record { bytes = refl; text = kept; peak = peak ∙ idle }, omega (arith, within refl, idle));
+  comes = inl (record { bytes = refl; text = kept; peak = peak ∙ idle; tally = refl }, omega (arith, within refl, idle));
   kept = λ _. failed;
 }
 

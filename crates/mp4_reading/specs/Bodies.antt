@@ -1,10 +1,13 @@
 -- A body that is told as it comes: of some bytes of it, from its first byte on, this is told.
-use Rattle.std.specs.Prelude.{ℕ, ◌^◌, List, length, take, drop, nat_lt, if◌then◌else◌, Option, Some}
+use Rattle.std.specs.Prelude.{ℕ, ◌+◌, ◌^◌, List, length, take, drop, nat_lt, if◌then◌else◌, Option, Some}
 use Rattle.mp4_box.specs.declared.headers.FourCc.{FourCc}
+use Rattle.mp4_box.specs.declared.headers.Header.{Header}
+use Rattle.mp4_box.specs.declared.headers.Size.{Size}
+use Rattle.mp4_box.specs.declared.headers.Size.TheVariants.{Exact, ToEnd}
 use Rattle.mp4_box.specs.declared.rules.Fault.{Fault}
 use Rattle.mp4_box.specs.declared.rules.Rule.{Rule}
 use Rattle.mp4_box.specs.declared.rules.Rule.TheVariants.{Truncated, StreamTooLong}
-use Rattle.mp4_reading.specs.Readings.{Told, Sound, Faulty, CutOff, Front, Last, Whole}
+use Rattle.mp4_reading.specs.Readings.{Told, silent, Sound, Faulty, CutOff, Reading, Front, Last, Whole}
 
 -- no stream is followed further than this
 abbrev pub longest : ℕ
@@ -12,6 +15,19 @@ longest = 2 ^ 62
 
 abbrev pub fault : Rule → Option FourCc → ℕ → Fault
 fault rule kind at = record { rule = rule; kind = kind; offset = at }
+
+-- nothing is told, and the box at `at` breaks a rule
+abbrev pub refused : Rule → Option FourCc → ℕ → Reading
+refused rule kind at = record { told = silent; outcome = Faulty (fault rule kind at) }
+
+-- or it is cut off there
+abbrev pub cut_off : Rule → Option FourCc → ℕ → Reading
+cut_off rule kind at = record { told = silent; outcome = CutOff (fault rule kind at) }
+
+-- where a box at `at` ends at the least
+abbrev pub least_end : ℕ → Header → Size → ℕ
+least_end at h (Exact s) = at + s
+least_end at h ToEnd = at + h.header_len
 
 -- the body of the box at `at`, of which `left` bytes are to come, and the context behind it
 abbrev pub told_body : {C : Type 0} → (List ℕ → Told) → ℕ → FourCc → C → ℕ → List ℕ → Front C

@@ -5,3 +5,4 @@ pub mod Blocks
 pub mod Ends
 pub mod Pieces
 pub mod Runs
+pub mod Holding

@@ -8,7 +8,7 @@ use Rattle.mp4_ledger.specs.declared.ledger.Refused.{Refused}
 use Rattle.mp4_ledger.specs.declared.ledger.Refused.TheVariants as refusals
 use Rattle.mp4_reading.specs.Accounts.{Counts, Spends}
 use Rattle.mp4_reading.specs.Blocks.{Passes}
-use Rattle.mp4_reading.specs.Readings.{plus, Told, silent, asks_for, most_of, Reading, Faulty, early_in, after}
+use Rattle.mp4_reading.specs.Readings.{AtMost, plus, Told, silent, asks_for, most_of, Reading, Faulty, early_in, after}
 use Rattle.mp4_reading.specs.declared.stop.Stop.{Stop}
 use Rattle.mp4_reading.specs.declared.stop.Stop.TheVariants.{Stream, Read, Write, OverLimit, Memory}
 use Rattle.mp4_reading.specs.declared.tally.Tally.{Tally}
@@ -65,6 +65,8 @@ pub record Starves (o o' : Outside) (old : Standing) (piece : List ℕ) : Type 0
 pub record Loses (o o' : Outside) (own : ℕ) (r : Reading) : Type 0 where
   pub text : AppendsPrefix o.written o'.written (o.waiting ++ r.told.text)
   pub spends : Spends o.account o'.account own 0 (most_of r.told)
+  pub least : AtMost o.tally o'.tally
+  pub most : AtMost o'.tally (plus o.tally r.told.tally)
 
 -- a machine that stops at a piece has met a fault, a write has failed, or a claim was refused: nothing is claimed then
 abbrev pub StopsAt : Outside → Outside → Standing → List ℕ → Stop → Type 0

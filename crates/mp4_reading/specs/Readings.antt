@@ -1,5 +1,5 @@
 -- A stream that is read item by item, whatever its items are.
-use Rattle.std.specs.Prelude.{◌≡◌, ℕ, zero, suc, ◌+◌, List, [], ◌∷◌, ◌++◌, length, max, Option, None, Some}
+use Rattle.std.specs.Prelude.{◌≡◌, ℕ, zero, suc, ◌+◌, ◌≤◌, List, [], ◌∷◌, ◌++◌, length, max, Option, None, Some}
 use Rattle.mp4_box.specs.declared.rules.Fault.{Fault}
 use Rattle.mp4_reading.specs.declared.tally.Tally.{Tally}
 
@@ -25,32 +25,34 @@ early_in Sound = None
 early_in (Faulty f) = Some f
 early_in (CutOff f) = None
 
+-- ---- what is counted of some bytes
+
+abbrev pub uncounted : Tally
+uncounted = record { fragments = 0; samples = 0; media_bytes = 0; walked = 0 }
+
+abbrev pub plus : Tally → Tally → Tally
+plus s t = record { fragments = s.fragments + t.fragments; samples = s.samples + t.samples; media_bytes = s.media_bytes + t.media_bytes; walked = s.walked + t.walked }
+
+-- t counts no less than s
+pub record AtMost (s t : Tally) : Type 0 where
+  pub fragments : s.fragments ≤ t.fragments
+  pub samples : s.samples ≤ t.samples
+  pub media_bytes : s.media_bytes ≤ t.media_bytes
+  pub walked : s.walked ≤ t.walked
+
 -- ---- what is told of some bytes
 
--- a box asks for memory: the offset where it begins, how many bytes are out for the machine with what it asks for, and how many bytes of text are told before
+-- a box asks for memory: the offset where it begins, how many bytes are out for the machine with what it asks for, how many bytes of text are told before, and what is counted before
 pub record Ask : Type 0 where
   pub at : ℕ
   pub sum : ℕ
   pub behind : ℕ
-
--- the same, behind n more bytes of text
-abbrev pub shifted_by : ℕ → Ask → Ask
-shifted_by n a = record { at = a.at; sum = a.sum; behind = n + a.behind }
-
-abbrev pub shifted : ℕ → List Ask → List Ask
-shifted n [] = []
-shifted n (a ∷ asks) = shifted_by n a ∷ shifted n asks
+  pub counted : Tally
 
 -- the most that is out at once: none where nothing is asked for
 abbrev pub greatest : List Ask → ℕ
 greatest [] = 0
 greatest (a ∷ asks) = max a.sum (greatest asks)
-
-abbrev pub uncounted : Tally
-uncounted = record { fragments = 0; samples = 0; media_bytes = 0 }
-
-abbrev pub plus : Tally → Tally → Tally
-plus s t = record { fragments = s.fragments + t.fragments; samples = s.samples + t.samples; media_bytes = s.media_bytes + t.media_bytes }
 
 -- the text that they determine, what their boxes ask for in order, and what is counted
 pub record Told : Type 0 where
@@ -71,11 +73,19 @@ counts tally = record { text = []; asks = []; tally = tally }
 
 -- a box at an offset asks for memory, with which so much is out
 abbrev pub asks_for : (at sum : ℕ) → Told
-asks_for at sum = record { text = []; asks = record { at = at; sum = sum; behind = 0 } ∷ []; tally = uncounted }
+asks_for at sum = record { text = []; asks = record { at = at; sum = sum; behind = 0; counted = uncounted } ∷ []; tally = uncounted }
+
+-- what a box asks for, behind what was told before
+abbrev pub shifted_by : Told → Ask → Ask
+shifted_by s a = record { at = a.at; sum = a.sum; behind = length s.text + a.behind; counted = plus s.tally a.counted }
+
+abbrev pub shifted : Told → List Ask → List Ask
+shifted s [] = []
+shifted s (a ∷ asks) = shifted_by s a ∷ shifted s asks
 
 -- one after the other
 abbrev pub both : Told → Told → Told
-both s t = record { text = s.text ++ t.text; asks = s.asks ++ shifted (length s.text) t.asks; tally = plus s.tally t.tally }
+both s t = record { text = s.text ++ t.text; asks = s.asks ++ shifted s t.asks; tally = plus s.tally t.tally }
 
 -- the most that is out at once
 abbrev pub most_of : Told → ℕ

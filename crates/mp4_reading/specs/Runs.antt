@@ -3,7 +3,7 @@ use Rattle.std.specs.Prelude.{◌≡◌, ◌⊎◌, ℕ, ◌+◌, ◌<◌, ◌�
 use Rattle.std.specs.Io.KnownBytes.{Appends, Consumes}
 use Rattle.mp4_ends.specs.Streams.{AppendsPrefix}
 use Rattle.mp4_reading.specs.Ends.{Ends}
-use Rattle.mp4_reading.specs.Readings.{Ask, greatest, most_of, Reading, fault_in, early_in, IsPrefix}
+use Rattle.mp4_reading.specs.Readings.{Ask, AtMost, greatest, most_of, Reading, fault_in, early_in, IsPrefix, uncounted}
 use Rattle.mp4_reading.specs.declared.stop.Stop.{Stop}
 use Rattle.mp4_reading.specs.declared.stop.Stop.TheVariants.{Stream, Read, Write, OverLimit, Memory}
 use Rattle.mp4_reading.specs.declared.tally.Tally.{Tally}
@@ -33,12 +33,6 @@ pub record TellsAll (run : Run) : Type 0 where
   pub peak : run.claims.peak ≡ run.claims.copy + most_of (reading_of run).told
   pub tally : run.tally ≡ (reading_of run).told.tally
 
--- a prefix of the text was written, and no more was claimed than is asked for
-pub record TellsSome (run : Run) : Type 0 where
-  pub text : AppendsPrefix run.ends.written run.ends.written' (reading_of run).told.text
-  pub least : run.claims.copy ≤ run.claims.peak
-  pub most : run.claims.peak ≤ run.claims.copy + most_of (reading_of run).told
-
 -- no fault was decided before the bytes of the last read
 pub record IsPrompt (run : Run) : Type 0 where
   pub early : List ℕ
@@ -47,7 +41,14 @@ pub record IsPrompt (run : Run) : Type 0 where
   pub few : length last ≤ run.claims.copy
   pub undecided : early_in (run.whole early).outcome ≡ None
 
--- one of what the boxes ask for was refused, which the bytes of the last read brought: what is asked for before was claimed, and exactly the text before was written
+-- a prefix of the text was written, and no more was claimed than is asked for, or counted than there is
+pub record TellsSome (run : Run) : Type 0 where
+  pub text : AppendsPrefix run.ends.written run.ends.written' (reading_of run).told.text
+  pub least : run.claims.copy ≤ run.claims.peak
+  pub most : run.claims.peak ≤ run.claims.copy + most_of (reading_of run).told
+  pub counted : AtMost run.tally (reading_of run).told.tally
+
+-- one of what the boxes ask for was refused, which the bytes of the last read brought: what is asked for before was claimed, exactly the text before was written, and what is before was counted
 pub record StarvesAt (run : Run) (prompt : IsPrompt run) : Type 0 where
   pub ask : Ask
   pub before : List Ask
@@ -55,12 +56,15 @@ pub record StarvesAt (run : Run) (prompt : IsPrompt run) : Type 0 where
   pub new : IsPrefix (run.whole prompt.early).told.asks before
   pub text : Appends run.ends.written run.ends.written' (take ask.behind (reading_of run).told.text)
   pub peak : run.claims.peak ≡ run.claims.copy + greatest before
+  pub tally : run.tally ≡ ask.counted
+  pub most : AtMost run.tally (reading_of run).told.tally
 
--- the bytes to read into were refused: nothing was read, and nothing written
+-- the bytes to read into were refused: nothing was read, written or counted
 pub record IsIdle (run : Run) : Type 0 where
   pub bytes : run.bytes ≡ []
   pub text : Appends run.ends.written run.ends.written' []
   pub peak : run.claims.peak ≡ 0
+  pub tally : run.tally ≡ uncounted
 
 -- ---- what it answers
 

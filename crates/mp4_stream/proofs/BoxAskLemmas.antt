@@ -21,18 +21,15 @@ use Rattle.mp4_reading.specs.Readings.{Ask, shifted, Told, silent, says, asks_fo
 use Rattle.mp4_reading.proofs.ReadingItemLemmas.{Each, IsFirst, IsItemAt, asks_stand}
 use Rattle.mp4_reading.proofs.ReadingGrowthLemmas.{told_of}
 use Rattle.mp4_reading.proofs.ReadingLemmas.{Below}
-use Rattle.mp4_reading.specs.Bodies.{longest, told_body, told_open}
-use Rattle.mp4_stream.specs.Boxes.{refused, passed, body, held_box, held_body, holding, box_by, least_end, box, front_by, front, reading, listing}
+use Rattle.mp4_reading.specs.Bodies.{least_end, longest, refused, told_body, told_open}
+use Rattle.mp4_stream.specs.Boxes.{passed, body, held_box, held_body, holding, box_by, box, front_by, front, reading, listing}
 use Rattle.mp4_reading.proofs.BodyLemmas.{nat_lt_false}
-use Rattle.mp4_stream.proofs.BoxLemmas.{front-items, front-some, front-none, head-room, held-below}
-use Rattle.mp4_stream.proofs.PlaceLemmas.{front-len, front-is}
+use Rattle.mp4_stream.proofs.BoxLemmas.{front-items, front-some, front-none, held-below}
+use Rattle.mp4_reading.proofs.HeadLemmas.{front-is, front-len, head-room}
 
 -- ---- what is asked for first
 
-first_told : (at n : ℕ) (t : Told) → t.asks ≡ [] → Each (IsFirst at) (shifted n t.asks)
-first_told at n t e = subst (λ l. Each (IsFirst at) (shifted n l)) (sym e) tt
-
-asks-after : (t : Told) (f : Front ℕ) → (told_of (after_told t f)).asks ≡ t.asks ++ shifted (length t.text) (told_of f).asks
+asks-after : (t : Told) (f : Front ℕ) → (told_of (after_told t f)).asks ≡ t.asks ++ shifted t (told_of f).asks
 asks-after t (Last r) = refl
 asks-after t (Whole told next rest) = refl
 
@@ -62,10 +59,10 @@ holding-first at h limit b (Exact s) = by (nat_lt limit s) refl
   where
     by : (t : Bool) → nat_lt limit s ≡ t → Each (IsFirst at) (told_of (holding at h limit b (Exact s))).asks
     by true e = rw e tt
-    by false e = rw e (subst (Each (IsFirst at)) (sym (asks-after (asks_for at s) (held_body at h.kind s b) ∙ ap (λ l. (asks_for at s).asks ++ shifted 0 l) (held-silent at h.kind s b _ refl))) (record { place = refl; behind = refl }, tt))
+    by false e = rw e (subst (Each (IsFirst at)) (sym (asks-after (asks_for at s) (held_body at h.kind s b) ∙ ap (λ l. (asks_for at s).asks ++ shifted (asks_for at s) l) (held-silent at h.kind s b _ refl))) (record { place = refl; behind = refl }, tt))
 
 box_by-first : (at : ℕ) (h : Header) (x b : List ℕ) (most : Option ℕ) → Each (IsFirst at) (told_of (box_by at h x b most)).asks
-box_by-first at h x b None = subst (Each (IsFirst at)) (sym (asks-after (says (box_line at h)) (body at h h.size b) ∙ ap (shifted (length (box_line at h))) (body-silent at h h.size b))) tt
+box_by-first at h x b None = subst (Each (IsFirst at)) (sym (asks-after (says (box_line at h)) (body at h h.size b) ∙ ap (shifted (says (box_line at h))) (body-silent at h h.size b))) tt
 box_by-first at h x b (Some limit) = holding-first at h limit (x ++ b) h.size
 
 box-first : (at : ℕ) (h : Header) (x b : List ℕ) (t : Bool) → nat_lt longest (least_end at h h.size) ≡ t → Each (IsFirst at) (told_of (box at h x b)).asks

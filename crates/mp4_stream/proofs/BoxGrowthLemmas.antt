@@ -16,28 +16,21 @@ use Rattle.mp4_box.specs.declared.rules.Fault.{Fault}
 use Rattle.mp4_box.specs.Trees.{tree_faults}
 use Rattle.mp4_stream.specs.Holding.{most_held}
 use Rattle.mp4_stream.specs.Listing.{box_line}
-use Rattle.mp4_reading.specs.Readings.{Last, says, asks_for}
-use Rattle.mp4_reading.specs.Bodies.{longest, told_body, told_open}
-use Rattle.mp4_stream.specs.Boxes.{refused, passed, body, held_box, held_body, holding, box_by, least_end, box, front_by, front}
-use Rattle.mp4_stream.proofs.BoxLemmas.{front-some, front-none, kind_of-append}
+use Rattle.mp4_reading.specs.Readings.{Last, silent, says, asks_for, TellsMore}
+use Rattle.mp4_reading.proofs.BodyGrowthLemmas.{told_body-grows, told_open-grows}
+use Rattle.mp4_reading.proofs.HeadLemmas.{kind_of-append}
+use Rattle.mp4_reading.specs.Bodies.{least_end, longest, refused, told_body, told_open}
+use Rattle.mp4_stream.specs.Boxes.{passed, body, held_box, held_body, holding, box_by, box, front_by, front}
+use Rattle.mp4_stream.proofs.BoxLemmas.{front-some, front-none}
 use Rattle.mp4_reading.proofs.BodyLemmas.{nat_lt_true, nat_lt_false}
 use Rattle.mp4_reading.proofs.ReadingGrowthLemmas.{FrontGrows, TellsMore-silent, told-grows}
 
-sized-grows : (at : ℕ) (kind : FourCc) (next left : ℕ) (b x : List ℕ) (t : Bool) → nat_lt (length b) left ≡ t → FrontGrows x (told_body passed at kind next left b) (told_body passed at kind next left (b ++ x))
-sized-grows at kind next left b x true e = rw e (TellsMore-silent _)
-sized-grows at kind next left b x false e =
-    let enough : left ≤ length b = ltb-false _ _ e in
-    rw (e, nat_lt_false (length (b ++ x)) left (omega (arith, length-append b x)), drop-append-le left b x enough) refl
-
-open-grows : (at : ℕ) (kind : FourCc) (left : ℕ) (b x : List ℕ) (t : Bool) → nat_lt left (length b) ≡ t → FrontGrows {C = ℕ} x (told_open passed at kind 0 left b) (told_open passed at kind 0 left (b ++ x))
-open-grows at kind left b x true e =
-    let far : left < length b = ltb-true _ _ e in
-    rw (e, nat_lt_true left (length (b ++ x)) (omega (arith, length-append b x))) refl
-open-grows at kind left b x false e = rw (e, nat_lt_false (length b) 0 (omega arith)) (TellsMore-silent _)
+passed-grows : (b x : List ℕ) → TellsMore (passed b) (passed (b ++ x))
+passed-grows b x = TellsMore-silent silent
 
 pub body-grows : (at : ℕ) (h : Header) (size : Size) (b x : List ℕ) → FrontGrows x (body at h size b) (body at h size (b ++ x))
-body-grows at h (Exact s) b x = sized-grows at h.kind (at + s) (s - h.header_len) b x (nat_lt (length b) (s - h.header_len)) refl
-body-grows at h ToEnd b x = open-grows at h.kind (longest - (at + h.header_len)) b x (nat_lt (longest - (at + h.header_len)) (length b)) refl
+body-grows at h (Exact s) b x = told_body-grows passed passed-grows at h.kind (at + s) (s - h.header_len) b x
+body-grows at h ToEnd b x = told_open-grows passed passed-grows ℕ at h.kind 0 (longest - (at + h.header_len)) b x
 
 held_box-grows : (at next : ℕ) (y rest x : List ℕ) (fs : List Fault) → FrontGrows x (held_box at next y rest fs) (held_box at next y (rest ++ x) fs)
 held_box-grows at next y rest x [] = refl

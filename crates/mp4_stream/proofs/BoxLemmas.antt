@@ -18,12 +18,14 @@ use Rattle.mp4_box.specs.Trees.{tree_faults}
 use Rattle.mp4_stream.specs.Holding.{held_lines, most_held}
 use Rattle.mp4_stream.specs.Listing.{box_line}
 use Rattle.mp4_reading.specs.Readings.{nothing, Last, Whole, after, after_told, silent, says, asks_for, Faulty, then_read, fault_in, early_in}
-use Rattle.mp4_reading.specs.Bodies.{longest, fault, told_body, told_open}
-use Rattle.mp4_stream.specs.Boxes.{refused, cut_off, passed, body, held_box, held_body, holding, box_by, least_end, box, front_by, front, reading}
+use Rattle.mp4_reading.specs.Bodies.{cut_off, fault, least_end, longest, refused, told_body, told_open}
+use Rattle.mp4_stream.specs.Boxes.{passed, body, held_box, held_body, holding, box_by, box, front_by, front, reading}
 use Rattle.mp4_stream.specs.Places.{Place, InHeader, InBody, InHeld, InOpenBody, IsPlace, standing}
 use Rattle.mp4_reading.specs.Pieces.{IsQuiet}
 use Rattle.mp4_reading.proofs.ReadingLemmas.{Below, Below-more, Below-told, IsItemwise, read_all-front, then_read-told}
 use Rattle.mp4_reading.proofs.BodyLemmas.{nat_lt_true, nat_lt_false, body-none, open-none}
+use Rattle.mp4_reading.proofs.BodyGrowthLemmas.{told-below, told_open-below}
+use Rattle.mp4_reading.proofs.HeadLemmas.{head-room, kind_of-append}
 
 pub some_bytes : (xs : List ℕ) → (xs ≡ [] → ⊥) → 0 < length xs
 some_bytes [] f = absurd (f refl)
@@ -31,24 +33,9 @@ some_bytes (x ∷ xs) f = omega arith
 
 -- ---- the boxes are items
 
-sized-below : (at : ℕ) (kind : FourCc) (next left : ℕ) (bytes : List ℕ) → Below (told_body passed at kind next left bytes) (length bytes)
-sized-below at kind next left bytes = elim (nat_lt (length bytes) left) as (λ v. Below (if v then Last (cut_off Truncated (Some kind) at) else Whole silent next (drop left bytes)) (length bytes)) [
-  | true ↦ tt
-  | false ↦ omega (arith, length-drop left bytes)
-]
-
-open-below : (at : ℕ) (kind : FourCc) (left : ℕ) (bytes : List ℕ) (n : ℕ) → Below {C = ℕ} (told_open passed at kind 0 left bytes) n
-open-below at kind left bytes n = elim (nat_lt left (length bytes)) as (λ v. Below {C = ℕ} (if v then Last (refused StreamTooLong (Some kind) at) else if nat_lt (length bytes) 0 then Last (cut_off Truncated (Some kind) at) else Last nothing) n) [
-  | true ↦ tt
-  | false ↦ elim (nat_lt (length bytes) 0) as (λ v. Below {C = ℕ} (if v then Last (cut_off Truncated (Some kind) at) else Last nothing) n) [
-    | true ↦ tt
-    | false ↦ tt
-  ]
-]
-
 pub body-below : (at : ℕ) (h : Header) (size : Size) (bytes : List ℕ) → Below (body at h size bytes) (length bytes)
-body-below at h (Exact s) bytes = sized-below at h.kind (at + s) (s - h.header_len) bytes
-body-below at h ToEnd bytes = open-below at h.kind (longest - (at + h.header_len)) bytes (length bytes)
+body-below at h (Exact s) bytes = told-below passed at h.kind (at + s) (s - h.header_len) (length bytes) bytes (omega arith)
+body-below at h ToEnd bytes = told_open-below ℕ passed at h.kind 0 (longest - (at + h.header_len)) (length bytes) bytes
 
 held_box-below : (at next : ℕ) (x rest : List ℕ) (fs : List Fault) (n : ℕ) → length rest ≤ n → Below (held_box at next x rest fs) n
 held_box-below at next x rest [] n h = h
@@ -76,13 +63,6 @@ box-below at h x bytes room = elim (nat_lt longest (least_end at h h.size)) as (
   | true ↦ tt
   | false ↦ box_by-below at h x bytes (most_held h.kind.0) room
 ]
-
--- a header has room in the box that it begins
-pub head-room : (x : List ℕ) (h : Header) → header_at x ≡ steps.Whole h → HasRoom h.size (length (take h.header_len x))
-head-room x h e =
-    let w = whole_is x h e in
-    let len : length (take h.header_len x) ≡ h.header_len = omega (arith, length-take h.header_len x, w.0, w.1) in
-    rw len (rw e at (header-room x))
 
 front_by-below : (at b : ℕ) (bytes : List ℕ) (s : Step) → header_at (b ∷ bytes) ≡ s → Below (front_by at (b ∷ bytes) s) (length bytes)
 front_by-below at b bytes steps.More e = tt
@@ -119,12 +99,6 @@ pub reading-by : (at : ℕ) (x : List ℕ) (s : Step) → 0 < length x → heade
 reading-by at x s some e = reading-front at x ∙ ap (then_read reading) (front-some at x some ∙ ap (front_by at x) e)
 
 -- ---- a header
-
-pub kind_of-append : (x y : List ℕ) → 8 ≤ length x → kind_of (x ++ y) ≡ kind_of x
-kind_of-append x y eight =
-    let behind : drop 4 (x ++ y) ≡ drop 4 x ++ y = drop-append-le 4 x y (omega arith) in
-    let kind : kind_field (x ++ y) ≡ kind_field x = ap (take 4) behind ∙ take-append-le 4 (drop 4 x) y (omega (arith, length-drop 4 x)) in
-    rw (nat_lt_false (length (x ++ y)) 8 (omega (arith, length-append x y)), nat_lt_false (length x) 8 eight, kind) refl
 
 -- bytes that are what a header needs, and no more
 reading-header : (at : ℕ) (x later : List ℕ) (s : Step) → length x ≡ need x → header_at x ≡ s → reading at (x ++ later) ≡ then_read reading (front_by at (x ++ later) s)

@@ -11,8 +11,8 @@ use Rattle.mp4_box.proofs.HeaderLemmas.{need-least}
 use Rattle.mp4_box.proofs.HeaderAnswers.{head-whole, head-need, header-none}
 use Rattle.mp4_stream.specs.Listing.{box_line}
 use Rattle.mp4_reading.specs.Readings.{Faulty, silent, after, says, asks_for, nothing, then_read}
-use Rattle.mp4_reading.specs.Bodies.{longest, told_body}
-use Rattle.mp4_stream.specs.Boxes.{refused, cut_off, passed, held_body, body, least_end, box, reading}
+use Rattle.mp4_reading.specs.Bodies.{cut_off, least_end, longest, refused, told_body}
+use Rattle.mp4_stream.specs.Boxes.{passed, held_body, body, box, reading}
 use Rattle.mp4_box.specs.declared.rules.Fault.{Fault}
 use Rattle.mp4_box.specs.Trees.{tree_faults}
 use Rattle.mp4_stream.specs.Holding.{held_lines, most_held}

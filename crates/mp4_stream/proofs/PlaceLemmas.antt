@@ -17,16 +17,17 @@ use Rattle.mp4_ledger.specs.declared.ledger.Refused.{Refused}
 use Rattle.mp4_ledger.specs.declared.ledger.Refused.TheVariants as refusals
 use Rattle.mp4_reading.specs.Accounts.{Counts, Spends}
 use Rattle.mp4_reading.specs.Blocks.{Passes}
-use Rattle.mp4_reading.specs.Bodies.{longest, fault}
+use Rattle.mp4_reading.specs.Bodies.{fault, least_end, longest, refused}
 use Rattle.mp4_reading.specs.Pieces.{Outside, Standing, Moves, GoesOn, Refuses, Starves, Loses, StopsAt, refusal_of}
-use Rattle.mp4_reading.specs.Readings.{Faulty, Reading, Told, then_read, silent, says, asks_for, most_of, after}
+use Rattle.mp4_reading.specs.Readings.{AtMost, Faulty, Reading, Told, plus, then_read, silent, says, asks_for, most_of, after}
 use Rattle.mp4_reading.specs.declared.stop.Stop.{Stop}
 use Rattle.mp4_reading.proofs.AccountLemmas.{Counts-none, Counts-back, Spends-more, Spends-counts}
 use Rattle.mp4_reading.proofs.BlockLemmas.{Passes-none}
+use Rattle.mp4_reading.proofs.HeadLemmas.{apart, front-len, front-is, take-is}
 use Rattle.mp4_reading.proofs.PieceLemmas.{sent_to, claimed_from, back_to, Moves-none, Moves-claim, GoesOn-silent, GoesOn-more, StopsAt-more}
 use Rattle.mp4_reading.proofs.ReadingLemmas.{after-silent}
-use Rattle.mp4_reading.proofs.ReadingAskLemmas.{plus-none}
-use Rattle.mp4_stream.specs.Boxes.{refused, least_end, box, body, held_body, reading}
+use Rattle.mp4_reading.proofs.ReadingAskLemmas.{AtMost-plus, AtMost-same, plus-none}
+use Rattle.mp4_stream.specs.Boxes.{box, body, held_body, reading}
 use Rattle.mp4_stream.specs.Holding.{held_lines, most_held}
 use Rattle.mp4_stream.specs.Listing.{box_line}
 use Rattle.mp4_stream.specs.Places.{Place, InHeader, InBody, InHeld, InOpenBody, IsPlace, reached_of, reads_at, claim_of, place_by, standing}
@@ -75,37 +76,15 @@ Refuses-bad o at held byte new more short e is = record {
 }
 
 -- a write failed in what is told first
-Loses-told : (o o' : Outside) (own : ℕ) (told : Told) (rest r : Reading) → r ≡ after told rest → AppendsPrefix o.written o'.written (o.waiting ++ told.text) → Spends o.account o'.account own 0 0 → Loses o o' own r
-Loses-told o o' own told rest r e p q = record {
+Loses-told : (o o' : Outside) (own : ℕ) (told : Told) (rest r : Reading) → r ≡ after told rest → AppendsPrefix o.written o'.written (o.waiting ++ told.text) → Spends o.account o'.account own 0 0 → o'.tally ≡ o.tally → Loses o o' own r
+Loses-told o o' own told rest r e p q same = record {
   text = AppendsPrefix-longer o.written o'.written (o.waiting ++ told.text) rest.told.text (o.waiting ++ r.told.text) p (ap (λ s. o.waiting ++ s.told.text) e ∙ sym (append_assoc o.waiting told.text rest.told.text));
   spends = Spends-more o.account o'.account own 0 0 (most_of r.told) (omega arith) q;
+  least = subst (AtMost o.tally) (sym same) (AtMost-same o.tally);
+  most = subst (λ t. AtMost t (plus o.tally r.told.tally)) (sym same) (AtMost-plus o.tally r.told.tally);
 }
 
 -- ---- a piece x that begins with the header of a box
-
--- a front of some bytes, the rest, and more
-pub apart : (n : ℕ) (x more : List ℕ) → take n x ++ (drop n x ++ more) ≡ x ++ more
-apart n x more = sym (append_assoc (take n x) (drop n x) more) ∙ ap (λ l. l ++ more) (take-append-drop n x)
-
--- a header at the front of some bytes, by itself
-pub front-len : (x : List ℕ) (h : Header) → header_at x ≡ steps.Whole h → length (take h.header_len x) ≡ need (take h.header_len x)
-front-len x h is =
-    let w = whole_is x h is in
-    let len : length (take h.header_len x) ≡ h.header_len = length-take-le h.header_len x (omega (arith, w.0, w.1)) in
-    let same : need x ≡ need (take h.header_len x) = ap need (sym (take-append-drop h.header_len x)) ∙ need-append (take h.header_len x) (drop h.header_len x) (omega (arith, len, w.1, need-least x)) in
-    len ∙ w.1 ∙ same
-
-pub front-is : (x : List ℕ) (h : Header) → header_at x ≡ steps.Whole h → header_at (take h.header_len x) ≡ steps.Whole h
-front-is x h is =
-    let whole : need (take h.header_len x) ≤ length (take h.header_len x) = omega (arith, front-len x h is) in
-    sym (header_at-append (take h.header_len x) (drop h.header_len x) whole) ∙ ap header_at (take-append-drop h.header_len x) ∙ is
-
--- and so does each front of it that has all of the header
-pub take-is : (n : ℕ) (x : List ℕ) (h : Header) → header_at x ≡ steps.Whole h → h.header_len ≤ n → header_at (take n x) ≡ steps.Whole h
-take-is n x h is far =
-    let front : take h.header_len (take n x) ≡ take h.header_len x = take-take h.header_len n x far in
-    let whole : need (take h.header_len x) ≤ length (take h.header_len x) = omega (arith, front-len x h is) in
-    ap header_at (sym (take-append-drop h.header_len (take n x)) ∙ ap (λ l. l ++ drop h.header_len (take n x)) front) ∙ header_at-append (take h.header_len x) (drop h.header_len (take n x)) whole ∙ front-is x h is
 
 -- it is the header, and what stands behind it
 reading-begins : (at : ℕ) (h : Header) (x later : List ℕ) → header_at x ≡ steps.Whole h → reading at (x ++ later) ≡ then_read reading (box at h (take h.header_len x) (drop h.header_len x ++ later))
@@ -136,7 +115,7 @@ module _ (o : Outside) (at : ℕ) (h : Header) (x : List ℕ) (is : header_at x 
   Loses-line u v more later near loose p =
       let rest = drop h.header_len x ++ (more ++ later) in
       Loses-told o (sent_to o u v) 0 (says (box_line at h)) (then_read reading (body at h h.size rest)) (reading at ((x ++ more) ++ later))
-      (ap (reading at) (append_assoc x more later) ∙ reading-begins at h x (more ++ later) is ∙ reading-begun at h (take h.header_len x) rest near loose) p (Spends-counts o.account o.account 0 0 0 (Counts-none o.account 0))
+      (ap (reading at) (append_assoc x more later) ∙ reading-begins at h x (more ++ later) is ∙ reading-begun at h (take h.header_len x) rest near loose) p (Spends-counts o.account o.account 0 0 0 (Counts-none o.account 0)) refl
 
   -- it is to be held, and has no size or one that is too large
   pub Refuses-large : (more : List ℕ) (limit s : ℕ) → at + s ≤ longest → most_held h.kind.0 ≡ Some limit → h.size ≡ Exact s → limit < s → Refuses o o (standing (InHeader at [])) (x ++ more) (fault TooLarge (Some h.kind) at)
@@ -206,7 +185,7 @@ module _ (o : Outside) (at : ℕ) (kind : FourCc) (size : ℕ) (x : List ℕ) (l
 
   pub Loses-good : (u : Option (List ℕ)) (v later : List ℕ) → tree_faults at x ≡ [] → AppendsPrefix o.written u (o.waiting ++ held_lines at x) → Loses o (sent_to (back_to o size) u v) size (then_read reading (held_body at kind size (x ++ later)))
   Loses-good u v later good p = Loses-told o (sent_to (back_to o size) u v) size (says (held_lines at x)) (reading (at + size) later) (then_read reading (held_body at kind size (x ++ later)))
-      (reading-good at kind size x later len good) p (Spends-counts o.account (given_back o.account size) size 0 0 (subst (λ n. Counts o.account (given_back o.account size) size n 0) (omega arith) (Counts-back o.account size size (omega arith) low)))
+      (reading-good at kind size x later len good) p (Spends-counts o.account (given_back o.account size) size 0 0 (subst (λ n. Counts o.account (given_back o.account size) size n 0) (omega arith) (Counts-back o.account size size (omega arith) low))) refl
 
   pub Refuses-tree : (more : List ℕ) (f : Fault) (fs : List Fault) → tree_faults at x ≡ f ∷ fs → Refuses o (back_to o size) (standing (InHeld at kind size x)) more f
   Refuses-tree more f fs bad = record {

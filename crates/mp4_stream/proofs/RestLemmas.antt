@@ -13,9 +13,9 @@ use Rattle.mp4_box.specs.declared.headers.Step.TheVariants as steps
 use Rattle.mp4_box.specs.declared.rules.Fault.{Fault}
 use Rattle.mp4_box.proofs.HeaderLemmas.{IsBytes-drop, bad_is, cut_is, need-least, read_is, room_of, whole_is}
 use Rattle.mp4_box.proofs.HeaderAnswers.{head-need, head-whole, header-begins}
-use Rattle.mp4_reading.specs.Bodies.{longest}
+use Rattle.mp4_reading.specs.Bodies.{least_end, longest}
 use Rattle.mp4_reading.specs.Readings.{Reading, after, nothing}
-use Rattle.mp4_stream.specs.Boxes.{least_end, reading}
+use Rattle.mp4_stream.specs.Boxes.{reading}
 use Rattle.mp4_stream.specs.Holding.{most_held}
 use Rattle.mp4_stream.specs.Joined.{AreSound, Item, MayStand, joined, told_from}
 use Rattle.mp4_stream.specs.Rests.{Boxed, Headed, IsRest, Ended, CutInHeader, BadHeader, TooFar, CutInBody, Open, OpenTooFar, Large, Unsized, CutInHeld, BadTree, Split}

@@ -7,20 +7,13 @@ use Rattle.mp4_box.specs.declared.headers.Size.TheVariants.{Exact, ToEnd}
 use Rattle.mp4_box.specs.declared.headers.Step.{Step}
 use Rattle.mp4_box.specs.declared.headers.Step.TheVariants as steps
 use Rattle.mp4_box.specs.declared.rules.Fault.{Fault}
-use Rattle.mp4_box.specs.declared.rules.Rule.{Rule}
 use Rattle.mp4_box.specs.declared.rules.Rule.TheVariants.{Truncated, BadSize, TooLarge, StreamTooLong}
 use Rattle.mp4_box.specs.Headers.{header_at, kind_of}
 use Rattle.mp4_box.specs.Trees.{tree_faults}
 use Rattle.mp4_stream.specs.Holding.{held_lines, most_held}
 use Rattle.mp4_stream.specs.Listing.{box_line}
-use Rattle.mp4_reading.specs.Bodies.{longest, fault, told_body, told_open}
+use Rattle.mp4_reading.specs.Bodies.{longest, fault, refused, cut_off, least_end, told_body, told_open}
 use Rattle.mp4_reading.specs.Readings.{Told, Faulty, CutOff, Reading, nothing, Front, Last, Whole, after_told, silent, says, asks_for, read_all}
-
-abbrev pub refused : Rule → Option FourCc → ℕ → Reading
-refused rule kind at = record { told = silent; outcome = Faulty (fault rule kind at) }
-
-abbrev pub cut_off : Rule → Option FourCc → ℕ → Reading
-cut_off rule kind at = record { told = silent; outcome = CutOff (fault rule kind at) }
 
 -- nothing is told of a body that is passed over
 abbrev pub passed : List ℕ → Told
@@ -30,11 +23,6 @@ passed bytes = silent
 abbrev pub body : ℕ → Header → Size → List ℕ → Front ℕ
 body at h (Exact s) bytes = told_body passed at h.kind (at + s) (s - h.header_len) bytes
 body at h ToEnd bytes = told_open passed at h.kind 0 (longest - (at + h.header_len)) bytes
-
--- where a box at `at` ends at the least
-abbrev pub least_end : ℕ → Header → Size → ℕ
-least_end at h (Exact s) = at + s
-least_end at h ToEnd = at + h.header_len
 
 -- a box x at `at` that was held, what is at fault in its tree, and the bytes behind it
 abbrev pub held_box : ℕ → ℕ → List ℕ → List ℕ → List Fault → Front ℕ

@@ -1,17 +1,14 @@
 -- Where a machine that lists boxes is in a stream.
 use Rattle.std.specs.Prelude.{◌≡◌, ℕ, ◌+◌, ◌-◌, ◌<◌, ◌≤◌, List, [], ◌++◌, length, Bool, Option, Some, None}
 use Rattle.mp4_box.specs.declared.headers.FourCc.{FourCc}
-use Rattle.mp4_box.specs.declared.headers.Header.{Header}
-use Rattle.mp4_box.specs.declared.headers.Size.TheVariants.{Exact}
-use Rattle.mp4_box.specs.declared.headers.Step.TheVariants as steps
-use Rattle.mp4_box.specs.Headers.{header_at, need}
+use Rattle.mp4_box.specs.Headers.{need}
 use Rattle.mp4_ledger.specs.Memory.{Account}
 use Rattle.mp4_reading.specs.Bodies.{longest, told_body, told_open}
 use Rattle.mp4_reading.specs.Ends.{Sent}
 use Rattle.mp4_reading.specs.Pieces.{Around, Outside, Standing}
 use Rattle.mp4_reading.specs.Readings.{Reading, uncounted, then_read}
 use Rattle.mp4_stream.specs.Boxes.{passed, held_body, reading}
-use Rattle.mp4_stream.specs.Holding.{Holding}
+use Rattle.mp4_reading.specs.Holding.{Begins, Holding}
 use Rattle.mp4_stream.specs.declared.phase.Phase.{Phase}
 use Rattle.mp4_stream.specs.declared.phase.Phase.TheVariants as phases
 
@@ -50,10 +47,6 @@ claim_of (InOpenBody at kind left) = 0
 
 abbrev pub standing : Place → Standing
 standing p = record { reached = reached_of p; reads = reads_at p; claim = claim_of p }
-
--- the bytes begin with the header of a box of this size
-abbrev pub Begins : ℕ → List ℕ → Type 0
-Begins size x = (h : Header) × (header_at x ≡ steps.Whole h) × (h.size ≡ Exact size)
 
 -- no place is past the longest stream but in a header that ends there
 abbrev pub IsPlace : Place → Type 0

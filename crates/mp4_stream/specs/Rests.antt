@@ -6,9 +6,8 @@ use Rattle.mp4_box.specs.declared.headers.Header.{Header}
 use Rattle.mp4_box.specs.declared.headers.Size.TheVariants.{Exact, ToEnd}
 use Rattle.mp4_box.specs.declared.rules.Fault.{Fault}
 use Rattle.mp4_box.specs.declared.rules.Rule.TheVariants.{BadSize, StreamTooLong, TooLarge, Truncated}
-use Rattle.mp4_reading.specs.Bodies.{longest}
+use Rattle.mp4_reading.specs.Bodies.{cut_off, least_end, longest, refused}
 use Rattle.mp4_reading.specs.Readings.{Faulty, Reading, after, asks_for, nothing, says, silent}
-use Rattle.mp4_stream.specs.Boxes.{cut_off, least_end, refused}
 use Rattle.mp4_stream.specs.Holding.{most_held}
 use Rattle.mp4_stream.specs.Joined.{AreSound, Item, joined}
 use Rattle.mp4_stream.specs.Listing.{box_line}

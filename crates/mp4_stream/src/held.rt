@@ -1,4 +1,4 @@
-//! A box that is held while it comes.
+//! A box that is held, and is listed when all of it came.
 
 ghost use Rattle.std.specs.Prelude.{◌≡◌, ℕ, ◌+◌, ◌-◌, ◌^◌, ◌<◌, ◌≤◌, ◌↔◌, List, [], ◌++◌, length, take, min, Some, IfOk, OnErr, OnOk, IsErrOf, IsTrue};
 ghost use Rattle.mp4_box.specs.declared.headers.FourCc.{FourCc};
@@ -11,33 +11,14 @@ ghost use Rattle.mp4_reading.specs.Bodies.{longest};
 ghost use Rattle.mp4_reading.specs.Ends.{sent};
 ghost use Rattle.mp4_reading.specs.Pieces.{Takes};
 ghost use Rattle.mp4_stream.specs.Holding.{most_held};
-ghost use Rattle.mp4_stream.specs.Places.{Begins, InHeader, InHeld, around, standing};
+ghost use Rattle.mp4_reading.specs.Holding.{Begins};
+ghost use Rattle.mp4_stream.specs.Places.{InHeader, InHeld, around, standing};
 
 use crate::listing::put_tree;
 use mp4_box::{BoxRef, FourCc, Header, whole_box};
 use mp4_ends::{Failed, Sink};
-use mp4_ledger::{Buf, Ledger, Refused};
-use mp4_reading::{Block, Stop};
-use std::marker::Model;
-
-/// A moov or moof in claimed memory. It must be given back.
-pub(crate) struct Held {
-    buf: Buf,
-    at: u64,
-    kind: FourCc,
-}
-
-// A contract sees the box that is to come, and what came of it.
-impl Model for Held {
-    ghost use Rattle.std.specs.Prelude.{◌≡◌, ◌+◌, ◌^◌, ◌≤◌, length};
-    ghost use Rattle.mp4_stream.specs.Holding.{Holding};
-
-    ghost Value = { Holding };
-
-    ghost view = { λ h. record { at = h.at; kind = h.kind; size = h.buf.cap; bytes = h.buf.bytes } };
-
-    ghost invariant = { λ h. (h.at + h.buf.cap ≤ 2 ^ 62) × (length h.buf.bytes ≤ h.buf.cap) };
-}
+use mp4_ledger::Ledger;
+use mp4_reading::{Block, Held, Stop};
 
 /// The most bytes that a box of this type may have to be held; none for a type that isn't.
 #[tactic(auto, unfolding(crate::specs::Holding::most_held))]
@@ -51,101 +32,21 @@ pub(crate) fn held_limit(kind: FourCc) -> Option<u64>
     }
 }
 
-impl Held {
-    /// Claims room for a box of `size` bytes at `at`, of which these came.
-    ///
-    /// # Errors
-    ///
-    /// As the ledger refuses the claim: nothing is claimed then.
-    pub(crate) fn claim(
-        ledger: &mut Ledger,
-        at: u64,
-        kind: FourCc,
-        size: u64,
-        bytes: &[u8],
-    ) -> Result<Held, Refused>
-        requires room { length bytes.now ≤ size }
-        requires end { at + size ≤ 2 ^ 62 }
-        ensures held { IfOk result (λ h. h ≡ record
-            { at = at; kind = kind; size = size; bytes = bytes.now }) }
-        ensures ok { OnOk result (ledger.new ≡ claimed ledger.old size) }
-        ensures over_limit { IsErrOf result Refused.OverLimit ↔
-            (ledger.old.limit < ledger.old.live + size) }
-        ensures err { OnErr result (ledger.new ≡ ledger.old) }
-        ensures within { ledger.new.live ≤ ledger.new.limit }
-    {
-        match ledger.buf(size) {
-            Ok(buf) => {
-                let mut buf = buf;
-                buf.push_slice(bytes);
-                Ok(Held { at, kind, buf })
-            }
-            Err(refused) => Err(refused),
-        }
-    }
-
-    /// Takes what belongs to the box from the front of a piece: how many bytes.
-    pub(crate) fn take(&mut self, piece: &[u8]) -> usize
-        ensures taken { result ≡ min (self.old.size - length self.old.bytes) (length piece.now) }
-        ensures held { self.new ≡ record self.old
-            { bytes = self.old.bytes ++ take result piece.now } }
-    {
-        let left = self.buf.cap() - self.buf.len();
-        let taken = left.min(piece.len());
-        self.buf.push_slice(&piece[..taken]);
-        taken
-    }
-
-    /// Whether all of the box came.
-    pub(crate) fn is_whole(&self) -> bool
-        ensures { IsTrue result ↔ (length self.now.bytes ≡ self.now.size) }
-    {
-        self.buf.len() == self.buf.cap()
-    }
-
-    /// Its type.
-    pub(crate) fn kind(&self) -> FourCc
-        ensures { result ≡ self.now.kind }
-    {
-        self.kind
-    }
-
-    /// The offset of its first byte.
-    pub(crate) fn offset(&self) -> u64
-        ensures { result ≡ self.now.at }
-    {
-        self.at
-    }
-
-    /// Lists the box, all of which came. What is claimed for it is to be given back behind.
-    ///
-    /// # Errors
-    ///
-    /// As [`list_box`].
-    pub(crate) fn list<W: Sink>(&self, out: &mut Block, w: &mut W) -> Result<(), Stop>
-        requires begins { Begins self.now.size self.now.bytes }
-        requires whole { length self.now.bytes ≡ self.now.size }
-        ensures { (a : Account) → self.now.size ≤ a.live →
-            Takes (around (sent W.contents W.has_failed w.old w.new)
-            out.old out.new a (given_back a self.now.size))
-            (standing (InHeld self.now.at self.now.kind self.now.size self.now.bytes)) [] (λ _. [])
-            (λ _. standing (InHeader (self.now.at + self.now.size) [])) result }
-    {
-        list_box(&whole_held(self.buf.bytes(), self.at), out, w)
-    }
-
-    /// Gives its room back.
-    pub(crate) fn back(self, ledger: &mut Ledger)
-        requires { self.size ≤ ledger.old.live }
-        ensures { ledger.new ≡ given_back ledger.old self.size }
-    {
-        let Held {
-            at: _,
-            kind: _,
-            buf,
-        } = self;
-        ledger.back(buf);
-    }
+/// Lists the box, all of which came. What is claimed for it is to be given back behind.
+///
+/// # Errors
+///
+/// As [`list_box`].
+pub(crate) fn list<W: Sink>(held: &Held, out: &mut Block, w: &mut W) -> Result<(), Stop>
+    requires begins { Begins held.now.size held.now.bytes }
+    requires whole { length held.now.bytes ≡ held.now.size }
+    ensures { (a : Account) → held.now.size ≤ a.live →
+        Takes (around (sent W.contents W.has_failed w.old w.new)
+        out.old out.new a (given_back a held.now.size))
+        (standing (InHeld held.now.at held.now.kind held.now.size held.now.bytes)) [] (λ _. [])
+        (λ _. standing (InHeader (held.now.at + held.now.size) [])) result }
+{
+    list_box(&whole_held(held.bytes(), held.offset()), out, w)
 }
 
 /// The box that the bytes are.

@@ -3,21 +3,21 @@
 ghost use Rattle.std.specs.Prelude.{◌≡◌, ◌+◌, ◌-◌, ◌<◌, ◌≤◌, ◌∷◌, [], length, take, None, Some, IfOk, OnErr, OnOk};
 ghost use Rattle.mp4_box.specs.Headers.{HasRoom, header_at, need};
 ghost use Rattle.mp4_box.specs.declared.headers.Step.TheVariants as steps;
-ghost use Rattle.mp4_reading.specs.Bodies.{longest};
+ghost use Rattle.mp4_reading.specs.Bodies.{least_end, longest};
 ghost use Rattle.mp4_reading.specs.Ends.{sent};
+ghost use Rattle.mp4_reading.specs.Holding.{Begins};
 ghost use Rattle.mp4_reading.specs.Pieces.{Takes};
-ghost use Rattle.mp4_stream.specs.Boxes.{least_end};
 ghost use Rattle.mp4_stream.specs.Holding.{most_held};
-ghost use Rattle.mp4_stream.specs.Places.{Begins, InHeader, InHeld, IsMachine, IsPhase, IsPlace, around, claim_of, place_by, place_of, standing};
+ghost use Rattle.mp4_stream.specs.Places.{InHeader, InHeld, IsMachine, IsPhase, IsPlace, around, claim_of, place_by, place_of, standing};
 ghost use Rattle.mp4_stream.specs.declared.phase.Phase.TheVariants as phases;
 
-use crate::held::{Held, held_limit, list_whole};
+use crate::held::{held_limit, list, list_whole};
 use crate::listing::put_box;
-use crate::phase::{Phase, is_too_long, pass, pass_open, phase_behind, refused};
+use crate::phase::{Phase, pass, pass_open, phase_behind};
 use mp4_box::{Header, HeaderReader, Rule, Size, Step, header_of};
 use mp4_ends::{Failed, Sink};
 use mp4_ledger::Ledger;
-use mp4_reading::{Block, Stop};
+use mp4_reading::{Block, Held, Stop, is_too_long, refused};
 use std::mem::replace;
 
 /// How far a machine came between headers and boxes that are held.
@@ -300,7 +300,7 @@ fn settle<W: Sink>(
         put(slot, held);
         return Ok(());
     }
-    let listed = held.list(out, w);
+    let listed = list(&held, out, w);
     held.back(ledger);
     listed
 }

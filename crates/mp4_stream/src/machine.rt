@@ -9,13 +9,12 @@ ghost use Rattle.mp4_reading.specs.Pieces.{Takes};
 ghost use Rattle.mp4_reading.specs.Readings.{fault_in};
 ghost use Rattle.mp4_stream.specs.Places.{InHeader, IsPhase, IsPlace, around, claim_of, place_by, standing};
 
-use crate::held::Held;
 use crate::intake::{Progress, take_held, take_unheld};
 use crate::phase::Phase;
 use mp4_box::{Fault, FourCc, HeaderReader, Rule};
 use mp4_ends::{Failed, Sink};
 use mp4_ledger::Ledger;
-use mp4_reading::{Block, Stop};
+use mp4_reading::{Block, Held, Stop};
 use std::marker::Model;
 
 /// A machine that lists boxes. While it holds a box its phase is the one behind that box. What it has claimed must be

@@ -3,16 +3,13 @@
 ghost use Rattle.std.specs.Prelude.{◌≡◌, ℕ, ◌+◌, ◌-◌, ◌<◌, ◌≤◌, [], ◌++◌, List, length, take, Some, IfOk, IfErr, IsTrue, OnErr, ◌↔◌};
 ghost use Rattle.mp4_box.specs.Headers.{HasRoom};
 ghost use Rattle.mp4_box.specs.declared.rules.Rule.TheVariants.{StreamTooLong};
-ghost use Rattle.mp4_reading.specs.Bodies.{fault, longest, told_body, told_open};
+ghost use Rattle.mp4_reading.specs.Bodies.{fault, least_end, longest, refused, told_body, told_open};
 ghost use Rattle.mp4_reading.specs.Readings.{then_read};
-ghost use Rattle.mp4_stream.specs.Boxes.{body, least_end, passed, reading, refused};
+ghost use Rattle.mp4_stream.specs.Boxes.{body, passed, reading};
 ghost use Rattle.mp4_stream.specs.Places.{InBody, InOpenBody, IsPhase, IsPlace, place_by, reached_of, reads_at};
 
-use mp4_box::{Fault, FourCc, Header, Rule, Size};
-use mp4_reading::Stop;
-
-/// No stream is followed further than this many bytes.
-pub(crate) const LONGEST: u64 = 1 << 62;
+use mp4_box::{FourCc, Header, Rule, Size};
+use mp4_reading::{LONGEST, Stop, refused};
 
 /// What a machine takes next. `at` is the offset of the box that it is in.
 #[derive(Clone, Copy)]
@@ -34,29 +31,6 @@ pub(crate) enum Phase {
         kind: FourCc,
         left: u64,
     },
-}
-
-/// A refusal of the box at `at`.
-pub(crate) fn refused(rule: Rule, kind: Option<FourCc>, at: u64) -> Stop
-    ensures { result ≡ Stop.Stream (fault rule kind at) }
-{
-    Stop::Stream(Fault {
-        rule,
-        kind,
-        offset: at,
-    })
-}
-
-/// Whether the box at `at` with this header goes past the longest stream.
-pub(crate) fn is_too_long(at: u64, header: &Header) -> bool
-    requires at { at ≤ longest }
-    ensures { IsTrue result ↔ (longest < least_end at header.now header.now.size) }
-{
-    let least = match header.size {
-        Size::Exact(size) => size,
-        Size::ToEnd => header.header_len,
-    };
-    least > LONGEST - at
 }
 
 /// What comes behind the header of the box at `at`, whose body is passed over.

@@ -4,7 +4,7 @@ use Rattle.mp4_box.proofs.HeaderLemmas.{whole_is, need-least}
 use Rattle.mp4_reading.proofs.AccountLemmas.{within_limit}
 use Rattle.mp4_reading.proofs.PieceLemmas.{GoesOn-more, StopsAt-more, Takes-ok, Takes-err, Takes-behind}
 use Rattle.mp4_stream.specs.Places.{InHeader, InHeld, standing}
-use Rattle.mp4_stream.proofs.HoldingLemmas.{found, rest-len}
+use Rattle.mp4_reading.proofs.HoldingLemmas.{found, rest-len}
 use Rattle.mp4_stream.proofs.PlaceLemmas.{GoesOn-claim, StopsAt-refused}
 use Rattle.mp4_stream.proofs.held.list_whole.Goals as goal
 

@@ -2,13 +2,13 @@ use Rattle.std.proofs.Common.{◌<◌, ◌≤◌, ◌+◌, ◌++◌, [], length,
 use Rattle.std.proofs.Math.Seq.{take-length}
 use Rattle.mp4_box.specs.Headers.{HasRoom}
 use Rattle.mp4_box.proofs.HeaderLemmas.{whole_is, need-least}
-use Rattle.mp4_reading.specs.Bodies.{longest}
+use Rattle.mp4_reading.specs.Bodies.{least_end, longest}
 use Rattle.mp4_reading.specs.Pieces.{StopsAt}
 use Rattle.mp4_reading.proofs.AccountLemmas.{within_limit}
 use Rattle.mp4_reading.proofs.PieceLemmas.{Takes-ok, Takes-err}
-use Rattle.mp4_stream.specs.Boxes.{least_end}
 use Rattle.mp4_stream.specs.Places.{InHeader, outside, standing}
-use Rattle.mp4_stream.proofs.PlaceLemmas.{apart, Refuses-open, Refuses-large, GoesOn-claim, StopsAt-refused, take-is}
+use Rattle.mp4_stream.proofs.PlaceLemmas.{Refuses-open, Refuses-large, GoesOn-claim, StopsAt-refused}
+use Rattle.mp4_reading.proofs.HeadLemmas.{apart, take-is}
 use Rattle.mp4_stream.proofs.intake.begin_held.Goals as goal
 
 pub returns-in_default-clause-takes : goal.returns-in_default-clause-takes
