@@ -5,7 +5,7 @@
 IN ?= crates/fmp4/stdin
 PREFIX ?= /usr/local
 
-.PHONY: demo build moov_tracks moof_runs test install refusals manual bench
+.PHONY: demo build moov_tracks moof_runs cut_pieces test install refusals manual bench
 
 demo: build
 	@crates/fmp4/out/fmp4 boxes < "$(IN)"
@@ -18,6 +18,9 @@ moov_tracks:
 
 moof_runs:
 	@scripts/build moof_runs
+
+cut_pieces:
+	@scripts/build cut_pieces
 
 test:
 	@scripts/needs_rt
@@ -39,8 +42,9 @@ manual:
 	@scripts/check_manual
 
 # Measures the program beside others; see bench/README.md.
-bench: build moov_tracks moof_runs
+bench: build moov_tracks moof_runs cut_pieces
 	@bench/large_boxes
 	@bench/small_boxes
 	@bench/many_tracks
 	@bench/hostile_moofs
+	@bench/pieces

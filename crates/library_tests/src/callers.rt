@@ -1,6 +1,6 @@
 //! Callers of the libraries, which their pages `CALLING.md` quote.
 
-ghost use Rattle.std.specs.Prelude.{◌≡◌, ◌+◌, ◌*◌, ◌^◌, ◌<◌, ◌≤◌, ◌↔◌, ◌==◌, ◌∷◌, [], length, codes, nat_le, not, option_map, IfOk, IfErr, Err, None, Some};
+ghost use Rattle.std.specs.Prelude.{◌≡◌, ◌+◌, ◌*◌, ◌^◌, ◌<◌, ◌≤◌, ◌↔◌, ◌==◌, ◌∷◌, [], length, codes, nat_le, not, option_map, option_to_list, ◌++◌, IfNone, IfOk, IfErr, Err, None, Some};
 ghost use Rattle.std.specs.List.{All, list_all, position};
 ghost use Rattle.std.specs.Option.{is_some};
 ghost use Rattle.mp4_box.specs.declared.rules.Fault.{Fault};
@@ -11,8 +11,13 @@ ghost use Rattle.mp4_box.specs.Order.{IsLeast};
 ghost use Rattle.mp4_box.specs.Paths.{at_path, of_kind};
 ghost use Rattle.mp4_box.specs.Trees.{Box, box_at, children, tree_faults, view};
 ghost use Rattle.mp4_frag.specs.Moofs.{moof_faults, moof_runs};
+ghost use Rattle.mp4_frag.specs.Rows.{IsCursor};
 ghost use Rattle.mp4_frag.specs.Runs.{runs_of};
 ghost use Rattle.mp4_init.specs.Moovs.{moov_fault, moov_tracks};
+ghost use Rattle.mp4_cut.specs.Mdat.{mdat_header};
+ghost use Rattle.mp4_cut.specs.Moof.{written_moof};
+ghost use Rattle.mp4_cut.specs.Puts.{Writes};
+ghost use Rattle.mp4_pieces.specs.Pieces.{IsPieceOf, IsRunOf, pieces_from};
 ghost use Rattle.mp4_run_order.specs.Orders.{FitsKeys, taken};
 ghost use Rattle.mp4_run_order.specs.Places.{first_offender};
 ghost use Rattle.mp4_run_order.specs.Runs.{IsListing};
@@ -20,9 +25,12 @@ ghost use Rattle.mp4_run_order.specs.Searches.{found_by_place, found_by_track};
 ghost use Rattle.library_tests.specs.Kinds.{to_trun, traf};
 
 use mp4_box::{Along, BoxRef, Fault, FourCc, check_tree, count_of, number_at, whole_box};
-use mp4_frag::{Moof, Steps, Traf};
+use mp4_cut::{WriteFault, write_mdat_header, write_moof};
+use mp4_ends::Sink;
+use mp4_frag::{Cursor, Moof, Run, Steps, Traf};
 use mp4_init::{InitStop, TrackList, tracks};
 use mp4_ledger::Ledger;
+use mp4_pieces::{Cut, Piece, Pieces};
 use mp4_run_order::{ListedRun, Payload, PlaceSearch, TrackSearch};
 
 const TRAF: FourCc = FourCc(*b"traf");
@@ -150,4 +158,43 @@ pub fn ends_by<'a>(
         }
     }
     Ok(true)
+}
+
+/// The next piece of a run from a cursor on. The cursor is behind it then, so that no list of pieces is kept.
+pub fn next_piece(run: &Run, held: &[u8], cut: &Cut, at: &mut Cursor) -> Option<Piece>
+    requires run { IsRunOf held.now run.now }
+    requires cursor { IsCursor run.now held.now at.old }
+    ensures pieces { pieces_from cut.now held.now run.now at.old ≡
+        option_to_list result ++ pieces_from cut.now held.now run.now at.new }
+    ensures none { IfNone result (pieces_from cut.now held.now run.now at.new ≡ []) }
+    ensures cursor { IsCursor run.now held.now at.new }
+{
+    let piece = Pieces::at(run, held, cut, *at).next()?;
+    *at = piece.behind();
+    Some(piece)
+}
+
+/// Writes all that stands before the media of a piece: its moof, and the header of its mdat.
+pub fn write_front<W: Sink>(
+    piece: &Piece,
+    run: &Run,
+    held: &[u8],
+    sequence_number: u32,
+    w: &mut W,
+) -> Result<(), WriteFault>
+    requires run { IsRunOf held.now run.now }
+    requires piece { IsPieceOf held.now run.now piece.now }
+    requires media { piece.now.bytes ≤ 2 ^ 62 }
+    ensures { Writes W.contents W.has_failed w.old w.new
+        (written_moof piece.now run.now held.now sequence_number ++ mdat_header piece.now.bytes)
+        result }
+{
+    match write_moof(piece, run, held, sequence_number, w) {
+        Ok(()) => {}
+        Err(WriteFault) => return Err(WriteFault),
+    }
+    match write_mdat_header(piece.bytes, w) {
+        Ok(()) => Ok(()),
+        Err(WriteFault) => Err(WriteFault),
+    }
 }

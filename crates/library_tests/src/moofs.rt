@@ -2,13 +2,18 @@
 //!
 //! - [`faults`]: moofs with one thing wrong, or two, and what is at fault then;
 //! - [`order`]: the order in which runs are taken, and where they may stand;
+//! - [`pieces`]: how runs are cut, and [`room`]: whether their pieces have room for their numbers;
 //! - [`runs`]: the runs of moofs, and the run behind a run;
-//! - [`samples`]: the samples of moofs, and where their tracks end.
+//! - [`samples`]: the samples of moofs, and where their tracks end;
+//! - [`written`]: the moofs and indexes that are written for the pieces of a run.
 
 mod faults;
 mod order;
+mod pieces;
+mod room;
 mod runs;
 mod samples;
+mod written;
 
 use mp4_box::{Fault, FourCc, Rule};
 use std::alloc::Global;

@@ -1,0 +1,153 @@
+//! Cuts the first run of a moof and counts the bytes that are written for its pieces: their moofs,
+//! and the headers of their mdats. Standard input has the greatest number of samples of a piece, in
+//! four bytes with the highest first, a moov and a moof. What it must print for the first test
+//! vector, cut by two samples, stands in the file stdout.
+#![tactic(auto)]
+
+ghost use Rattle.std.specs.Prelude.{◌≡◌, ◌+◌, ◌^◌, ◌≤◌, length, Option, List, ℕ, None, Bool, true, false, IfOk, IfSome, OnErr, OnOk};
+ghost use Rattle.mp4_box.specs.Headers.{IsWhole};
+ghost use Rattle.mp4_frag.specs.Moofs.{IsRead};
+ghost use Rattle.mp4_frag.specs.Runs.{runs_of};
+ghost use Rattle.mp4_pieces.specs.Pieces.{AreRunsOf, IsRunOf};
+
+use mp4_box::{Size, header_of, is_box, number_at};
+use mp4_cut::{Cut, Pieces, put_mdat_header, put_moof};
+use mp4_ends::{Failed, Sink};
+use mp4_frag::{Moof, Run, Steps, Traf};
+use mp4_init::{TrackList, tracks};
+use mp4_ledger::Ledger;
+use mp4_reading::Block;
+use std::io;
+use std::io::Read;
+use std::process::ExitCode;
+
+/// A moov may have so many bytes.
+const LONGEST_MOOV: usize = 16 << 20;
+
+/// A moof may have so many bytes.
+const LONGEST_MOOF: usize = 64 << 20;
+
+/// Counts the bytes that it takes.
+#[derive(Drop)]
+struct Counter {
+    bytes: u64,
+    writes: u64,
+}
+
+impl Sink for Counter {
+    ghost has_failed = { λ _. false };
+
+    fn write(&mut self, from: &[u8]) -> Result<usize, Failed> {
+        self.bytes = self.bytes.saturating_add(from.len() as u64);
+        self.writes = self.writes.saturating_add(1);
+        Ok(from.len())
+    }
+
+    fn flush(&mut self) -> Result<(), Failed> {
+        Ok(())
+    }
+
+    fn failed(&self) -> bool {
+        false
+    }
+}
+
+/// The first run of a traf, if it has one.
+fn first_of(traf: &Traf<'_>, held: &[u8]) -> Option<Run>
+    requires { AreRunsOf held.now (runs_of traf.now) }
+    ensures { IfSome result (λ run. IsRunOf held.now run) }
+{
+    traf.runs().next()
+}
+
+/// The first run of the first traf, if it has one.
+fn first_run<'a>(moof: &Moof<'a>, held: &[u8], list: &'a TrackList) -> Option<Run>
+    requires held { held.now ≡ moof.now.bytes }
+    requires whole { IsWhole held.now }
+    requires near { moof.now.offset + length held.now ≤ 2 ^ 62 }
+    requires read { IsRead moof.now list.now }
+    ensures { IfSome result (λ run. IsRunOf held.now run) }
+{
+    let traf = moof.trafs(list).next()?;
+    first_of(&traf, held)
+}
+
+/// Puts the moof of each piece and the header of its mdat into a block on their way to a counter:
+/// how many pieces there are.
+fn put_all(run: &Run, held: &[u8], cut: &Cut, w: &mut Counter) -> Result<u32, Failed>
+    requires { IsRunOf held.now run.now }
+{
+    let mut block = Block::new();
+    let mut number: u32 = 0;
+    for piece in Pieces::of(run, held, cut) {
+        number = number.saturating_add(1);
+        put_moof(&piece, run, held, number, &mut block, w)?;
+        put_mdat_header(piece.bytes.min(1 << 62), &mut block, w)?;
+    }
+    block.send(w)?;
+    Ok(number)
+}
+
+/// Where the first box ends.
+fn first_end(bytes: &[u8]) -> usize
+    ensures { result ≤ length bytes.now }
+{
+    match header_of(bytes) {
+        Ok(header) => match header.size {
+            Size::Exact(size) => size.min(bytes.len() as u64) as usize,
+            Size::ToEnd => 0,
+        },
+        Err(_) => 0,
+    }
+}
+
+/// How many pieces the first run has, and what is counted of them.
+fn cut_first(list: &TrackList, moof: &[u8], cut: &Cut, w: &mut Counter) -> Option<u32>
+    requires whole { IsWhole moof.now }
+    requires room { length moof.now ≤ 2 ^ 62 }
+{
+    let mut steps = Steps { rows: 0 };
+    let Ok(read) = Moof::read(moof, 0, list, &mut steps) else {
+        return None;
+    };
+    let run = first_run(&read, moof, list)?;
+    match put_all(&run, moof, cut, w) {
+        Ok(pieces) => Some(pieces),
+        Err(Failed) => None,
+    }
+}
+
+/// Reads a number, a moov and a moof, and prints what is counted.
+fn print_counts(rt: &HostRuntime) -> io::Result<()> {
+    let mut stream = Vec::new(rt.alloc());
+    rt.stdin().read_to_end(&mut stream)?;
+    let (front, boxes) = stream.as_slice().split_at(stream.len().min(4));
+    let Some(cut) = Cut::new(number_at(front, 0), None, false) else {
+        return println!(rt; "no number of samples from 1 to 1,000,000");
+    };
+    let (moov, moof) = boxes.split_at(first_end(boxes));
+    if moov.len() > LONGEST_MOOV || !is_box(moov) || moof.len() > LONGEST_MOOF || !is_box(moof) {
+        return println!(rt; "not a moov of at most 16 MiB and a moof of at most 64 MiB");
+    }
+    let mut ledger = Ledger::new(rt.alloc(), 1 << 30);
+    let Ok(list) = tracks(&mut ledger, moov, 0) else {
+        return println!(rt; "no tracks");
+    };
+    let mut w = Counter {
+        bytes: 0,
+        writes: 0,
+    };
+    let told = cut_first(&list, moof, &cut, &mut w);
+    list.back(&mut ledger);
+    match told {
+        Some(pieces) => println!(rt; "{} pieces, {} bytes, {} writes", pieces, w.bytes, w.writes),
+        None => println!(rt; "no run"),
+    }
+}
+
+fn main(rt: HostRuntime) -> ExitCode {
+    match print_counts(&rt) {
+        Ok(()) => ExitCode::from(0),
+        Err(_) => ExitCode::from(1),
+    }
+}

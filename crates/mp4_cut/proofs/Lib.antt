@@ -1,0 +1,13 @@
+pub mod BoxLemmas
+pub mod FieldLemmas
+pub mod MoofLemmas
+pub mod RunLemmas
+pub mod FaultLemmas
+pub mod JoinLemmas
+pub mod PutLemmas
+pub mod PieceLemmas
+pub mod IndexLemmas
+pub mod GivenLemmas
+pub mod ReadLemmas
+pub mod ByteLemmas
+pub mod GroupLemmas

@@ -1,0 +1,12 @@
+pub mod Boxes
+pub mod Mfhd
+pub mod Tfhd
+pub mod Tfdt
+pub mod Trun
+pub mod Mdat
+pub mod Moof
+pub mod Starts
+pub mod Sidx
+pub mod Fronts
+pub mod Puts
+pub mod Reads

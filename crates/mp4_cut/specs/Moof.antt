@@ -1,0 +1,46 @@
+-- A movie fragment that is written, moof (ISO/IEC 14496-12, 8.8.4): mfhd, and one traf with tfhd, tfdt and trun.
+use Rattle.std.specs.Prelude.{ℕ, List, ◌+◌, ◌++◌, length}
+use Rattle.mp4_frag.specs.declared.rows.Row.{Row}
+use Rattle.mp4_frag.specs.Kinds.{mfhd, traf, tfhd, tfdt, trun}
+use Rattle.mp4_frag.specs.Rows.{sizes}
+use Rattle.mp4_cut.specs.Boxes.{box_bytes}
+use Rattle.mp4_cut.specs.Mfhd.{mfhd_payload}
+use Rattle.mp4_cut.specs.Tfhd.{tfhd_payload}
+use Rattle.mp4_cut.specs.Tfdt.{tfdt_payload}
+use Rattle.mp4_cut.specs.Trun.{trun_payload}
+use Rattle.mp4_frag.specs.declared.run.Run.{Run}
+use Rattle.mp4_pieces.specs.declared.piece.Piece.{Piece}
+use Rattle.mp4_pieces.specs.Pieces.{rows_in}
+use Rattle.mp4_pieces.specs.Rooms.{moof}
+use Rattle.mp4_pieces.specs.Sizes.{mdat_header_size, moof_size}
+
+-- what a fragment tells: its track_ID, the index of its sample entry, the version of its trun, the decode time of its first sample, and its rows
+pub record Fragment : Type 0 where
+  pub track : ℕ
+  pub entry : ℕ
+  pub version : ℕ
+  pub time : ℕ
+  pub rows : List Row
+
+-- the media stands behind the moof and the header of its mdat
+abbrev pub data_offset : List Row → ℕ
+data_offset rows = moof_size (length rows) + mdat_header_size (sizes rows)
+
+abbrev pub in_traf : Fragment → List ℕ
+in_traf f =
+    box_bytes tfhd (tfhd_payload f.track f.entry)
+    ++ (box_bytes tfdt (tfdt_payload f.time) ++ box_bytes trun (trun_payload f.version (data_offset f.rows) f.rows))
+
+abbrev pub in_moof : Fragment → ℕ → List ℕ
+in_moof f sequence_number = box_bytes mfhd (mfhd_payload sequence_number) ++ box_bytes traf (in_traf f)
+
+unfoldable pub moof_box : Fragment → ℕ → List ℕ
+moof_box f sequence_number = box_bytes moof (in_moof f sequence_number)
+
+-- ---- what is written for a piece of a run
+
+abbrev pub fragment_of : List ℕ → Run → Piece → Fragment
+fragment_of held run piece = record { track = run.track; entry = run.entry; version = run.version; time = piece.time; rows = rows_in held run piece }
+
+abbrev pub written_moof : Piece → Run → List ℕ → ℕ → List ℕ
+written_moof piece run held sequence_number = moof_box (fragment_of held run piece) sequence_number

@@ -1,0 +1,72 @@
+//! What the definitions of what is written imply.
+
+ghost use Rattle.std.specs.Prelude.{◌≡◌, ◌+◌, ◌*◌, ◌^◌, ◌≤◌, ℕ, List, length};
+ghost use Rattle.std.specs.List.{AllByRecursion};
+ghost use Rattle.mp4_box.specs.Headers.{IsBytes, IsWhole};
+ghost use Rattle.mp4_init.specs.declared.table.Track.{Track};
+ghost use Rattle.mp4_frag.specs.declared.run.Run.{Run};
+ghost use Rattle.mp4_frag.specs.After.{StandsIn};
+ghost use Rattle.mp4_frag.specs.Laws.{first_cursor};
+ghost use Rattle.mp4_frag.specs.Moofs.{IsRead, moof_runs};
+ghost use Rattle.mp4_frag.specs.Runs.{Held};
+ghost use Rattle.mp4_pieces.specs.declared.cut.Cut.{Cut};
+ghost use Rattle.mp4_pieces.specs.declared.piece.Piece.{Piece};
+ghost use Rattle.mp4_pieces.specs.Fits.{FitsIndex};
+ghost use Rattle.mp4_pieces.specs.Groups.{groups};
+ghost use Rattle.mp4_pieces.specs.Pieces.{IsPieceOf, piece_at, pieces_of};
+ghost use Rattle.mp4_pieces.specs.Rooms.{moof};
+ghost use Rattle.mp4_pieces.specs.Sizes.{mdat_header_size, moof_size};
+ghost use Rattle.mp4_cut.specs.Mdat.{mdat, mdat_header};
+ghost use Rattle.mp4_cut.specs.Moof.{Fragment, fragment_of, moof_box, written_moof};
+ghost use Rattle.mp4_cut.specs.Reads.{CanBeRead, FitsFields, FitsTrack, IsHeaded, IsReadAs, Tells, held_moof};
+ghost use Rattle.mp4_cut.specs.Sidx.{sidx, written_index};
+ghost use Rattle.mp4_cut.specs.Starts.{IsGroupOf};
+
+/// A moof of n samples has 92 + 16 n bytes, the header of an mdat 8 or 16, and an index of r pieces
+/// 40 + 12 r.
+pub fn sizes()
+    ensures moof { (piece : Piece) (run : Run) (held : List ℕ) (sequence_number : ℕ) →
+        IsPieceOf held run piece →
+        length (written_moof piece run held sequence_number) ≡ moof_size piece.count }
+    ensures mdat { (bytes : ℕ) → length (mdat_header bytes) ≡ mdat_header_size bytes }
+    ensures index { (run : Run) (timescale : ℕ) (pieces : List Piece) →
+        length (written_index run timescale pieces) ≡ 40 + 12 * length pieces }
+{}
+
+/// Each box begins with the header that says its type and its size.
+pub fn headers_are_read_again()
+    ensures moof { (f : Fragment) (sequence_number : ℕ) → FitsFields f →
+        IsHeaded moof (moof_size (length f.rows)) 8 (moof_box f sequence_number) }
+    ensures mdat { (bytes : ℕ) → bytes ≤ 2 ^ 62 → IsHeaded mdat (mdat_header_size bytes + bytes)
+        (mdat_header_size bytes) (mdat_header bytes) }
+    ensures index { (run : Run) (timescale : ℕ) (pieces : List Piece) → length pieces ≤ 65535 →
+        IsHeaded sidx (40 + 12 * length pieces) 8 (written_index run timescale pieces) }
+{}
+
+/// The moof of a fragment is one whole box, in which the fragment is read again: with the same
+/// samples, times, flags, version and sample entry. Its run, taken as one piece, is the same
+/// fragment again.
+pub fn moofs_are_read_again()
+    ensures whole { (f : Fragment) (sequence_number : ℕ) → FitsFields f →
+        IsWhole (moof_box f sequence_number) }
+    ensures bytes { (f : Fragment) (sequence_number : ℕ) → FitsFields f →
+        IsBytes (moof_box f sequence_number) }
+    ensures read { (tracks : List Track) (f : Fragment) (sequence_number offset : ℕ) →
+        CanBeRead tracks f → IsReadAs tracks f (held_moof f sequence_number offset) }
+    ensures again { (f : Fragment) (h : Held) (run : Run) → Tells f h run →
+        fragment_of h.bytes run (piece_at (first_cursor run) f.rows) ≡ f }
+{}
+
+/// So it is with each piece of each run of a moof without a fault, behind the same tracks.
+pub fn pieces_can_be_read_again()
+    ensures { (h : Held) (tracks : List Track) (run : Run) (piece : Piece) → IsWhole h.bytes →
+        IsBytes h.bytes → h.offset + length h.bytes ≤ 2 ^ 62 → AllByRecursion FitsTrack tracks →
+        IsRead h tracks → StandsIn run (moof_runs h tracks) → IsPieceOf h.bytes run piece →
+        CanBeRead tracks (fragment_of h.bytes run piece) }
+{}
+
+/// Each group of the pieces of a run can be written, where an index has room for them.
+pub fn groups_can_be_written()
+    ensures { (cut : Cut) (held : List ℕ) (run : Run) → FitsIndex (pieces_of cut held run) →
+        AllByRecursion (IsGroupOf cut held run) (groups (pieces_of cut held run)) }
+{}

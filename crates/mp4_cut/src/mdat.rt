@@ -1,0 +1,79 @@
+//! The header of the media data, mdat (ISO/IEC 14496-12, 4.2 and 8.1.1).
+
+ghost use Rattle.std.specs.Prelude.{◌≡◌, ◌+◌, ◌≤◌, ◌<◌, ◌^◌, ◌++◌, length};
+ghost use Rattle.mp4_pieces.specs.Sizes.{mdat_header_size};
+ghost use Rattle.mp4_cut.specs.Mdat.{mdat_header};
+ghost use Rattle.mp4_cut.specs.Puts.{Puts, Writes};
+
+use crate::fields::Fields;
+use crate::write_fault::WriteFault;
+use mp4_box::FourCc;
+use mp4_ends::{Failed, Sink};
+use mp4_reading::Block;
+
+const MDAT: FourCc = FourCc(*b"mdat");
+
+/// From so many bytes of media on the size of an mdat takes 64 bits.
+const LONG: u64 = (1 << 32) - 8;
+
+/// How many bytes the header of an mdat has before so many bytes of media.
+pub(crate) fn mdat_header_size(bytes: u64) -> u32
+    ensures { result ≡ mdat_header_size bytes }
+{
+    if bytes < LONG { 8 } else { 16 }
+}
+
+/// The header of an mdat before so many bytes of media.
+#[tactic(auto, unfolding(crate::specs::Mdat::mdat_header))]
+fn mdat_header(bytes: u64) -> Fields
+    requires { bytes ≤ 2 ^ 62 }
+    ensures { result ≡ mdat_header bytes }
+{
+    let mut header = Fields::new();
+    if bytes < LONG {
+        header.put_header(8 + bytes as u32, MDAT);
+    } else {
+        header.put_header(1, MDAT);
+        header.put_u64(16 + bytes);
+    }
+    header
+}
+
+/// Puts the header of an mdat before so many bytes of media, at most 2^62, into a block that is
+/// lent a sink.
+///
+/// # Errors
+///
+/// `Failed` where the sink failed.
+pub fn put_mdat_header<W: Sink>(bytes: u64, block: &mut Block, w: &mut W) -> Result<(), Failed>
+    requires { bytes ≤ 2 ^ 62 }
+    ensures { Puts W.contents W.has_failed w.old w.new block.old block.new (mdat_header bytes)
+        result }
+{
+    let header = mdat_header(bytes);
+    match block.put(w, header.as_slice()) {
+        Ok(()) => Ok(()),
+        Err(Failed) => Err(Failed),
+    }
+}
+
+/// Writes the header of an mdat before so many bytes of media, at most 2^62: 8 bytes, or 16 where
+/// its size takes 64 bits.
+///
+/// # Errors
+///
+/// `WriteFault` where the sink failed; it may have taken some of the bytes, from the first on.
+pub fn write_mdat_header<W: Sink>(bytes: u64, w: &mut W) -> Result<(), WriteFault>
+    requires { bytes ≤ 2 ^ 62 }
+    ensures { Writes W.contents W.has_failed w.old w.new (mdat_header bytes) result }
+{
+    let mut block = Block::new();
+    match put_mdat_header(bytes, &mut block, w) {
+        Ok(()) => {}
+        Err(Failed) => return Err(WriteFault),
+    }
+    match block.send(w) {
+        Ok(()) => Ok(()),
+        Err(Failed) => Err(WriteFault),
+    }
+}

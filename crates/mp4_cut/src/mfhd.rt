@@ -1,0 +1,22 @@
+//! The header of a movie fragment, mfhd (ISO/IEC 14496-12, 8.8.5).
+
+ghost use Rattle.std.specs.Prelude.{◌≡◌, ◌+◌, ◌≤◌, ◌++◌, length};
+ghost use Rattle.mp4_frag.specs.Kinds.{mfhd};
+ghost use Rattle.mp4_cut.specs.Boxes.{box_bytes};
+ghost use Rattle.mp4_cut.specs.Mfhd.{mfhd_payload};
+
+use crate::fields::Fields;
+use mp4_box::FourCc;
+
+const MFHD: FourCc = FourCc(*b"mfhd");
+
+/// Puts an mfhd with this sequence_number.
+pub(crate) fn put_mfhd(head: &mut Fields, sequence_number: u32)
+    requires { length head.old + 16 ≤ 92 }
+    ensures bytes { head.new ≡ head.old ++ box_bytes mfhd (mfhd_payload sequence_number) }
+    ensures len { length head.new ≡ length head.old + 16 }
+{
+    head.put_header(16, MFHD);
+    head.put_version_and_flags(0, 0);
+    head.put_u32(sequence_number);
+}

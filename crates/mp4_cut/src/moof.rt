@@ -1,0 +1,103 @@
+//! A movie fragment, moof (ISO/IEC 14496-12, 8.8.4): mfhd, and one traf with tfhd, tfdt and trun.
+
+ghost use Rattle.std.specs.Prelude.{◌≡◌, ◌+◌, ◌≤◌, ◌++◌, length};
+ghost use Rattle.mp4_pieces.specs.Pieces.{IsPieceOf, IsRunOf};
+ghost use Rattle.mp4_cut.specs.Fronts.{moof_front};
+ghost use Rattle.mp4_cut.specs.Moof.{written_moof};
+ghost use Rattle.mp4_cut.specs.Puts.{Puts, Writes};
+
+use crate::fields::Fields;
+use crate::mdat::mdat_header_size;
+use crate::mfhd::put_mfhd;
+use crate::start::start_of;
+use crate::tfdt::put_tfdt;
+use crate::tfhd::put_tfhd;
+use crate::trun::{put_samples, put_trun_front};
+use crate::write_fault::WriteFault;
+use mp4_box::FourCc;
+use mp4_ends::{Failed, Sink};
+use mp4_frag::Run;
+use mp4_pieces::Piece;
+use mp4_reading::Block;
+
+const MOOF: FourCc = FourCc(*b"moof");
+
+const TRAF: FourCc = FourCc(*b"traf");
+
+/// The moof of a piece, as far as its samples.
+#[tactic(auto, unfolding(crate::specs::Fronts::moof_front))]
+fn moof_front(piece: &Piece, run: &Run, sequence_number: u32) -> Fields
+    requires { piece.now.count ≤ 1000000 }
+    ensures { result ≡ moof_front run.now piece.now sequence_number }
+{
+    let size = 92 + 16 * piece.count;
+    let mut front = Fields::new();
+    front.put_header(size, MOOF);
+    put_mfhd(&mut front, sequence_number);
+    front.put_header(68 + 16 * piece.count, TRAF);
+    put_tfhd(&mut front, run.track, run.entry);
+    put_tfdt(&mut front, piece.time);
+    let data_offset = size + mdat_header_size(piece.bytes);
+    put_trun_front(&mut front, run.version, piece.count, data_offset);
+    front
+}
+
+/// Puts the moof of a piece of a run into a block that is lent a sink. `held` are the bytes of the
+/// run's moof.
+///
+/// # Errors
+///
+/// `Failed` where the sink failed.
+pub fn put_moof<W: Sink>(
+    piece: &Piece,
+    run: &Run,
+    held: &[u8],
+    sequence_number: u32,
+    block: &mut Block,
+    w: &mut W,
+) -> Result<(), Failed>
+    requires run { IsRunOf held.now run.now }
+    requires piece { IsPieceOf held.now run.now piece.now }
+    ensures { Puts W.contents W.has_failed w.old w.new block.old block.new
+        (written_moof piece.now run.now held.now sequence_number) result }
+{
+    let front = moof_front(piece, run, sequence_number);
+    match block.put(w, front.as_slice()) {
+        Ok(()) => {}
+        Err(Failed) => return Err(Failed),
+    }
+    let mut rows = run.rows_from(held, start_of(piece));
+    match put_samples(block, w, &mut rows, piece.count) {
+        Ok(()) => Ok(()),
+        Err(Failed) => Err(Failed),
+    }
+}
+
+/// Writes the moof of a piece of a run, 92 bytes and 16 for each sample. `held` are the bytes of
+/// the run's moof.
+///
+/// # Errors
+///
+/// `WriteFault` where the sink failed; it may have taken some of the bytes, from the first on.
+pub fn write_moof<W: Sink>(
+    piece: &Piece,
+    run: &Run,
+    held: &[u8],
+    sequence_number: u32,
+    w: &mut W,
+) -> Result<(), WriteFault>
+    requires run { IsRunOf held.now run.now }
+    requires piece { IsPieceOf held.now run.now piece.now }
+    ensures { Writes W.contents W.has_failed w.old w.new
+        (written_moof piece.now run.now held.now sequence_number) result }
+{
+    let mut block = Block::new();
+    match put_moof(piece, run, held, sequence_number, &mut block, w) {
+        Ok(()) => {}
+        Err(Failed) => return Err(WriteFault),
+    }
+    match block.send(w) {
+        Ok(()) => Ok(()),
+        Err(Failed) => Err(WriteFault),
+    }
+}

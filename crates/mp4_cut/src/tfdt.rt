@@ -1,0 +1,22 @@
+//! The base time of a track fragment, tfdt (ISO/IEC 14496-12, 8.8.12).
+
+ghost use Rattle.std.specs.Prelude.{◌≡◌, ◌+◌, ◌≤◌, ◌++◌, length};
+ghost use Rattle.mp4_frag.specs.Kinds.{tfdt};
+ghost use Rattle.mp4_cut.specs.Boxes.{box_bytes};
+ghost use Rattle.mp4_cut.specs.Tfdt.{tfdt_payload};
+
+use crate::fields::Fields;
+use mp4_box::FourCc;
+
+const TFDT: FourCc = FourCc(*b"tfdt");
+
+/// Puts a tfdt of version 1 with this base_media_decode_time.
+pub(crate) fn put_tfdt(head: &mut Fields, base_media_decode_time: u64)
+    requires { length head.old + 20 ≤ 92 }
+    ensures bytes { head.new ≡ head.old ++ box_bytes tfdt (tfdt_payload base_media_decode_time) }
+    ensures len { length head.new ≡ length head.old + 20 }
+{
+    head.put_header(20, TFDT);
+    head.put_version_and_flags(1, 0);
+    head.put_u64(base_media_decode_time);
+}
