@@ -1,0 +1,10 @@
+//! What is made of the fragments of a stream.
+
+/// A command that reads fragments.
+#[derive(Clone, Copy, Debug, PartialEq, Eq)]
+pub enum Command {
+    /// The samples of each fragment are listed.
+    Samples,
+    /// They are counted alone.
+    Check,
+}

@@ -1,0 +1,21 @@
+//! The items of a fragmented stream and what its bytes are read as: a moov, fragments, and other boxes between them.
+//!
+//! - [`kinds`]: [`Kind`], the kinds of boxes at the top of a stream;
+//! - [`command`]: [`Command`], what is made of fragments;
+//! - [`sample`]: [`Sample`], and its line in a listing;
+//! - [`laws`]: what the definitions of `specs/` imply.
+//!
+//! The definitions: `specs/Items.antt` (what stands at the front of some bytes, and what is told of it) with
+//! `specs/Contexts.antt` (what is known where an item begins) and `specs/Kinds.antt`; `specs/Makings.antt` (what a
+//! command makes of a fragment), `specs/Samples.antt` (the samples of a fragment and their lines), `specs/Commands.antt`
+//! (the commands).
+#![tactic(auto)]
+
+pub mod command;
+pub mod kinds;
+pub mod laws;
+pub mod sample;
+
+pub use command::Command;
+pub use kinds::{Kind, MOST_MOOF, MOST_MOOV, kind_of};
+pub use sample::Sample;
