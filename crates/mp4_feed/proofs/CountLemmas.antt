@@ -1,0 +1,50 @@
+-- What a machine counts stays within what offsets of the stream bound.
+use Rattle.std.proofs.Common.{◌≡◌, ℕ, ◌+◌, ◌*◌, ◌<◌, ◌≤◌, List, Option, None, Some, IsSome, ap, sym, refl, subst, arith}
+use Rattle.mp4_box.specs.declared.rules.Fault.{Fault}
+use Rattle.mp4_init.specs.declared.table.Track.{Track}
+use Rattle.mp4_frag.specs.Moofs.{early_fault, moof_samples}
+use Rattle.mp4_frag.specs.Runs.{Held}
+use Rattle.mp4_reading.specs.Bodies.{longest}
+use Rattle.mp4_reading.specs.Readings.{plus}
+use Rattle.mp4_items.specs.Items.{walked}
+use Rattle.mp4_feed.specs.States.{IsCounted}
+use Rattle.mp4_feed.specs.declared.state.Counter.{Counter}
+
+-- nothing more was counted
+pub counted_later : (c : Counter) (b b' owed owed' : ℕ) → b ≤ b' → owed' ≤ owed → b' ≤ longest → IsCounted c b owed → IsCounted c b' owed'
+counted_later c b b' owed owed' more less near i = record {
+  fragments = omega (arith, i.fragments);
+  media = omega (arith, i.media);
+  walked = omega (arith, i.walked);
+  samples = i.samples;
+  some = i.some;
+  few = omega (arith, i.few);
+  far = omega (arith, near);
+}
+
+-- the samples of a moof of so many bytes were looked at: the rows that were read, and those that are owed, are no more than three times as many
+pub counted_moof : (c c' : Counter) (h : Held) (at size k owed : ℕ) → IsCounted c at 0 → 0 < size → at + size ≤ longest → moof_samples h ≤ 1000000 → c'.tally ≡ plus c.tally (walked h) → c'.steps.rows ≡ c.steps.rows + k → moof_samples h ≤ k → k + owed ≤ 3 * moof_samples h
+    → IsCounted c' (at + size) owed
+counted_moof c c' h at size k owed i some near few tally rows all less =
+    let f = ap (λ t. t.fragments) tally in
+    let m = ap (λ t. t.media_bytes) tally in
+    let w = ap (λ t. t.walked) tally in
+    let s = ap (λ t. t.samples) tally in
+    record {
+      fragments = omega (arith, f, i.fragments);
+      media = omega (arith, m, i.media);
+      walked = omega (arith, w, i.walked, some, few);
+      samples = omega (arith, s, w, i.samples);
+      some = omega (arith, w, rows, i.some, all);
+      few = omega (arith, w, s, rows, i.few, less);
+      far = omega (arith, near);
+    }
+
+-- a moof that is at fault
+pub counted_judged : (c c' : Counter) (h : Held) (tracks : List Track) (at size : ℕ) → IsCounted c at 0 → 0 < size → at + size ≤ longest → (early_fault h tracks ≡ None → moof_samples h ≤ 1000000)
+    → (early_fault h tracks ≡ None → c'.tally ≡ plus c.tally (walked h)) → (early_fault h tracks ≡ None → c'.steps.rows ≡ c.steps.rows + moof_samples h) → (IsSome (early_fault h tracks) → c' ≡ c) → IsCounted c' (at + size) 0
+counted_judged c c' h tracks at size i some near few tally rows none = by (early_fault h tracks) refl
+  where
+    by : (e : Option Fault) → early_fault h tracks ≡ e → IsCounted c' (at + size) 0
+    by None is = counted_moof c c' h at size (moof_samples h) 0 i some near (few is) (tally is) (rows is) (omega arith) (omega arith)
+    by (Some g) is = subst (λ k. IsCounted k (at + size) 0) (sym (none (rw is refl))) (counted_later c at (at + size) 0 0 (omega arith) (omega arith) near i)

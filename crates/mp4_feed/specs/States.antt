@@ -1,0 +1,111 @@
+-- What a machine keeps that reads a fragmented stream, and where it is by that.
+use Rattle.std.specs.Prelude.{◌≡◌, ℕ, ◌+◌, ◌*◌, ◌<◌, ◌≤◌, ◌^◌, List, [], length, Option, Some, None}
+use Rattle.std.specs.List.{flat_map}
+use Rattle.std.specs.Option.{unwrap_or}
+use Rattle.mp4_box.specs.Headers.{IsWhole, need}
+use Rattle.mp4_init.specs.declared.table.Track.{Track}
+use Rattle.mp4_frag.specs.Moofs.{IsRead, moof_runs, moof_samples, moof_trafs}
+use Rattle.mp4_frag.specs.RunLists.{IsListOf, taken_runs}
+use Rattle.mp4_frag.specs.Runs.{Held, held_at}
+use Rattle.mp4_frag.specs.Settling.{settled}
+use Rattle.mp4_reading.specs.Bodies.{longest}
+use Rattle.mp4_reading.specs.Holding.{Begins}
+use Rattle.mp4_reading.specs.Readings.{silent}
+use Rattle.mp4_items.specs.Contexts.{Context, context, table_of}
+use Rattle.mp4_items.specs.Samples.{sample_lines, samples_of_run}
+use Rattle.mp4_feed.specs.Places.{Place, InHeader, InHeld, Behind, InBody, InOpenBody}
+use Rattle.mp4_feed.specs.declared.state.Counter.{Counter}
+use Rattle.mp4_feed.specs.declared.state.State.{State}
+use Rattle.mp4_feed.specs.declared.state.State.TheVariants as states
+use Rattle.mp4_feed.specs.declared.state.Waiting.{Waiting}
+
+-- ---- where it is
+
+-- the tracks, where they are known
+abbrev pub known : Option (List Track) → List Track
+known tracks = unwrap_or tracks []
+
+-- the moof that waits for its mdat, or for the end of that
+abbrev pub moof_in : Waiting → Held
+moof_in w = held_at w.moof.bytes w.moof.at
+
+-- what is known behind a body that ends at an offset, where a moof waits for that
+abbrev pub behind_body : Option (List Track) → Option Waiting → ℕ → Context
+behind_body tracks None next = context next tracks 1
+behind_body tracks (Some w) next = context next (Some (settled (known tracks) (moof_trafs (moof_in w) (known tracks)))) 1
+
+-- how many bytes are claimed in that body
+abbrev pub claimed_in : Option (List Track) → Option Waiting → ℕ
+claimed_in tracks None = table_of tracks
+claimed_in tracks (Some w) = table_of tracks + w.moof.size + 64 * length w.runs.rows
+
+-- the place of a machine with these tracks, to which these bytes of a header came
+abbrev pub place_of : Option (List Track) → List ℕ → State → Place
+place_of tracks head (states.Header at) = InHeader (context at tracks 1) head
+place_of tracks head (states.Holding h) = InHeld (context h.at tracks 1) h.kind h.size h.bytes
+place_of tracks head (states.Behind w) = Behind (context w.moof.at tracks 1) (known tracks) w.moof.bytes head
+place_of tracks head (states.Body b w) = InBody (λ _. silent) b.at b.kind (behind_body tracks w b.next) b.left (claimed_in tracks w)
+place_of tracks head (states.OpenBody b w) = InOpenBody (λ _. silent) b.at b.kind b.needed b.left (claimed_in tracks w)
+
+-- ---- what holds of it
+
+-- the moof was read with these tracks, and its list is that of its runs
+pub record IsWaiting (tracks : Option (List Track)) (w : Waiting) : Type 0 where
+  pub is_known : tracks ≡ Some (known tracks)
+  pub whole : IsWhole w.moof.bytes
+  pub size : length w.moof.bytes ≡ w.moof.size
+  pub near : w.moof.at + w.moof.size ≤ longest
+  pub read : IsRead (moof_in w) (known tracks)
+  pub list : IsListOf (moof_in w) (known tracks) w.runs
+  pub len : length w.runs.rows ≡ length (moof_runs (moof_in w) (known tracks))
+
+-- so it is, where one waits
+abbrev pub MayWait : Option (List Track) → Option Waiting → Type 0
+MayWait tracks None = Unit {0}
+MayWait tracks (Some w) = IsWaiting tracks w
+
+-- it has bytes of a header in a header only
+abbrev pub IsState : Option (List Track) → List ℕ → State → Type 0
+IsState tracks head (states.Header at) = (length head < need head) × (at ≤ longest)
+IsState tracks head (states.Holding h) = (head ≡ []) × (length h.bytes < h.size) × (h.at + h.size ≤ longest) × Begins h.size h.bytes
+IsState tracks head (states.Behind w) = (length head < need head) × IsWaiting tracks w
+IsState tracks head (states.Body b w) = (head ≡ []) × (0 < b.left) × (b.left ≤ b.next) × (b.next ≤ longest) × MayWait tracks w
+IsState tracks head (states.OpenBody b w) = (head ≡ []) × (b.left ≤ longest) × MayWait tracks w
+
+-- ---- what it has counted
+
+-- no more has been counted than offsets of the stream bound
+abbrev pub bound_of : State → ℕ
+bound_of (states.Header at) = at
+bound_of (states.Holding h) = h.at
+bound_of (states.Behind w) = w.moof.at + w.moof.size
+bound_of (states.Body b w) = b.next
+bound_of (states.OpenBody b w) = 3 * 2 ^ 62
+
+-- how many samples the moof has that waits
+abbrev pub samples_of : Option Waiting → ℕ
+samples_of None = 0
+samples_of (Some w) = moof_samples (moof_in w)
+
+abbrev pub owed_by : State → ℕ
+owed_by (states.Header at) = 0
+owed_by (states.Holding h) = 0
+owed_by (states.Behind w) = moof_samples (moof_in w)
+owed_by (states.Body b w) = samples_of w
+owed_by (states.OpenBody b w) = samples_of w
+
+-- rows are read once where a moof is read, once for its list, once behind it for as many samples as are owed, and once for each sample that is listed
+pub record IsCounted (c : Counter) (bound owed : ℕ) : Type 0 where
+  pub fragments : c.tally.fragments ≤ bound
+  pub media : c.tally.media_bytes ≤ bound
+  pub walked : c.tally.walked ≤ 1000000 * bound
+  pub samples : c.tally.samples ≤ c.tally.walked
+  pub some : c.tally.walked ≤ c.steps.rows
+  pub few : c.steps.rows + owed ≤ 3 * c.tally.walked + c.tally.samples
+  pub far : bound ≤ 3 * 2 ^ 62
+
+-- ---- what it lists
+
+-- the lines of the samples of the moof that waits, its runs in the order in which they are taken
+abbrev pub lines_of : Waiting → List Track → List ℕ
+lines_of w tracks = sample_lines (flat_map (samples_of_run w.moof.bytes) (taken_runs (moof_in w) tracks))

@@ -1,0 +1,20 @@
+//! The machine that is fed a fragmented stream piece by piece.
+//!
+//! - [`state`]: what it keeps;
+//! - [`heads`]: how headers are taken, and [`intake`]: how a box is begun;
+//! - [`moovs`] and [`moofs`]: how a moov or a moof is taken of which all came;
+//! - [`second`]: what may stand behind a moof, and [`lines`]: the lines of its samples;
+//! - [`bodies`]: how bodies are passed over, and what is done behind an mdat.
+//!
+//! The definitions: `specs/Places.antt` (where a machine is in a stream, and what that means), `specs/States.antt` (what it
+//! keeps by its place), `specs/Stops.antt` (why it stops at a moov).
+#![tactic(auto)]
+
+mod bodies;
+mod heads;
+mod intake;
+mod lines;
+mod moofs;
+mod moovs;
+mod second;
+mod state;
