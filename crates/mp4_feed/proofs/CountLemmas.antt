@@ -7,23 +7,27 @@ use Rattle.mp4_frag.specs.Runs.{Held}
 use Rattle.mp4_reading.specs.Bodies.{longest}
 use Rattle.mp4_reading.specs.Readings.{plus}
 use Rattle.mp4_items.specs.Items.{walked}
-use Rattle.mp4_feed.specs.States.{IsCounted}
+use Rattle.mp4_feed.specs.States.{IsCounted, most_counted}
 use Rattle.mp4_feed.specs.declared.state.Counter.{Counter}
 
 -- nothing more was counted
-pub counted_later : (c : Counter) (b b' owed owed' : ℕ) → b ≤ b' → owed' ≤ owed → b' ≤ longest → IsCounted c b owed → IsCounted c b' owed'
+pub counted_later : (c : Counter) (b b' owed owed' : ℕ) → b ≤ b' → owed' ≤ owed → b' ≤ most_counted → IsCounted c b owed → IsCounted c b' owed'
 counted_later c b b' owed owed' more less near i = record {
   fragments = omega (arith, i.fragments);
   media = omega (arith, i.media);
   walked = omega (arith, i.walked);
-  samples = i.samples;
+  samples = omega (arith, i.samples);
   some = i.some;
   few = omega (arith, i.few);
   far = omega (arith, near);
 }
 
--- the samples of a moof of so many bytes were looked at: the rows that were read, and those that are owed, are no more than three times as many
-pub counted_moof : (c c' : Counter) (h : Held) (at size k owed : ℕ) → IsCounted c at 0 → 0 < size → at + size ≤ longest → moof_samples h ≤ 1000000 → c'.tally ≡ plus c.tally (walked h) → c'.steps.rows ≡ c.steps.rows + k → moof_samples h ≤ k → k + owed ≤ 3 * moof_samples h
+-- where a machine stops
+pub counted_spent : (c : Counter) (b owed : ℕ) → IsCounted c b owed → IsCounted c most_counted 0
+counted_spent c b owed i = counted_later c b most_counted owed 0 i.far (omega arith) (omega arith) i
+
+-- the samples of a moof of so many bytes were looked at: the rows that were read, and those that are owed, are no more than four times as many
+pub counted_moof : (c c' : Counter) (h : Held) (at size k owed : ℕ) → IsCounted c at 0 → 0 < size → at + size ≤ longest → moof_samples h ≤ 1000000 → c'.tally ≡ plus c.tally (walked h) → c'.steps.rows ≡ c.steps.rows + k → moof_samples h ≤ k → k + owed ≤ 4 * moof_samples h
     → IsCounted c' (at + size) owed
 counted_moof c c' h at size k owed i some near few tally rows all less =
     let f = ap (λ t. t.fragments) tally in
@@ -34,9 +38,9 @@ counted_moof c c' h at size k owed i some near few tally rows all less =
       fragments = omega (arith, f, i.fragments);
       media = omega (arith, m, i.media);
       walked = omega (arith, w, i.walked, some, few);
-      samples = omega (arith, s, w, i.samples);
+      samples = omega (arith, s, i.samples);
       some = omega (arith, w, rows, i.some, all);
-      few = omega (arith, w, s, rows, i.few, less);
+      few = omega (arith, w, rows, i.few, less);
       far = omega (arith, near);
     }
 
@@ -47,4 +51,4 @@ counted_judged c c' h tracks at size i some near few tally rows none = by (early
   where
     by : (e : Option Fault) → early_fault h tracks ≡ e → IsCounted c' (at + size) 0
     by None is = counted_moof c c' h at size (moof_samples h) 0 i some near (few is) (tally is) (rows is) (omega arith) (omega arith)
-    by (Some g) is = subst (λ k. IsCounted k (at + size) 0) (sym (none (rw is refl))) (counted_later c at (at + size) 0 0 (omega arith) (omega arith) near i)
+    by (Some g) is = subst (λ k. IsCounted k (at + size) 0) (sym (none (rw is refl))) (counted_later c at (at + size) 0 0 (omega arith) (omega arith) (omega (arith, near)) i)

@@ -90,10 +90,12 @@ Refuses-at o p table more f same low r = record {
     Moves' : ℕ → Type 0
     Moves' n = Moves o (back_to o table) table n silent
 
-module _ (make : Making) (o : Outside) (at number : ℕ) (tracks : Option (List Track)) (h : Header) (x : List ℕ) (len : length x ≡ need x) (low : table_of tracks ≤ o.account.live) where
-  pub Refuses-bad : (more : List ℕ) → header_at x ≡ steps.BadSize → Refuses o (back_to o (table_of tracks)) (standing make (InHeader (context at tracks number) x)) more (fault BadSize (kind_of x) at)
-  Refuses-bad more bad = Refuses-at o (standing make (InHeader (context at tracks number) x)) (table_of tracks) more (fault BadSize (kind_of x) at) refl low (λ later. reads-bad make (context at tracks number) x later len bad)
+pub Refuses-bad : (make : Making) (o : Outside) (at number : ℕ) (tracks : Option (List Track)) (x : List ℕ) → length x ≡ need x → table_of tracks ≤ o.account.live → (more : List ℕ) → header_at x ≡ steps.BadSize
+    → Refuses o (back_to o (table_of tracks)) (standing make (InHeader (context at tracks number) x)) more (fault BadSize (kind_of x) at)
+Refuses-bad make o at number tracks x len low more bad =
+    Refuses-at o (standing make (InHeader (context at tracks number) x)) (table_of tracks) more (fault BadSize (kind_of x) at) refl low (λ later. reads-bad make (context at tracks number) x later len bad)
 
+module _ (make : Making) (o : Outside) (at number : ℕ) (tracks : Option (List Track)) (h : Header) (x : List ℕ) (len : length x ≡ need x) (low : table_of tracks ≤ o.account.live) where
   module _ (is : header_at x ≡ steps.Whole h) where
     pub Refuses-far : (more : List ℕ) → longest < least_end at h h.size → Refuses o (back_to o (table_of tracks)) (standing make (InHeader (context at tracks number) x)) more (fault StreamTooLong (Some h.kind) at)
     Refuses-far more far =

@@ -50,7 +50,7 @@ abbrev pub tallied : Outside → Tally → Outside
 tallied o t = record { written = o.written; waiting = o.waiting; account = o.account; tally = t }
 
 -- all that is claimed is given back: what is held, and then the table of the tracks
-Moves-all_back : (o : Outside) (table size : ℕ) → table + size ≤ o.account.live → Moves o (back_to (back_to o size) table) (table + size) 0 silent
+pub Moves-all_back : (o : Outside) (table size : ℕ) → table + size ≤ o.account.live → Moves o (back_to (back_to o size) table) (table + size) 0 silent
 Moves-all_back o table size low =
     subst (Moves o (back_to (back_to o size) table) (table + size) 0) (both-silent silent)
     (Moves-more low (subst (λ n. Moves o (back_to o size) (table + size) n silent) (omega arith) (Moves-back o (table + size) size (omega arith) low))

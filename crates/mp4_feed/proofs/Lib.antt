@@ -4,3 +4,4 @@ pub mod BodyLemmas
 pub mod HeadLemmas
 pub mod SecondLemmas
 pub mod LineLemmas
+pub mod TakeLemmas

@@ -39,6 +39,11 @@ abbrev pub claimed_in : Option (List Track) → Option Waiting → ℕ
 claimed_in tracks None = table_of tracks
 claimed_in tracks (Some w) = table_of tracks + w.moof.size + 64 * length w.runs.rows
 
+-- how many the moof that waits takes, with its list
+abbrev pub taken_by : Option Waiting → ℕ
+taken_by None = 0
+taken_by (Some w) = w.moof.size + 64 * length w.runs.rows
+
 -- the place of a machine with these tracks, to which these bytes of a header came
 abbrev pub place_of : Option (List Track) → List ℕ → State → Place
 place_of tracks head (states.Header at) = InHeader (context at tracks 1) head
@@ -74,13 +79,17 @@ IsState tracks head (states.OpenBody b w) = (head ≡ []) × (b.left ≤ longest
 
 -- ---- what it has counted
 
+-- nothing is ever counted past this, but rows and samples
+abbrev pub most_counted : ℕ
+most_counted = 3 * 2 ^ 62
+
 -- no more has been counted than offsets of the stream bound
 abbrev pub bound_of : State → ℕ
 bound_of (states.Header at) = at
 bound_of (states.Holding h) = h.at
 bound_of (states.Behind w) = w.moof.at + w.moof.size
 bound_of (states.Body b w) = b.next
-bound_of (states.OpenBody b w) = 3 * 2 ^ 62
+bound_of (states.OpenBody b w) = most_counted
 
 -- how many samples the moof has that waits
 abbrev pub samples_of : Option Waiting → ℕ
@@ -90,19 +99,19 @@ samples_of (Some w) = moof_samples (moof_in w)
 abbrev pub owed_by : State → ℕ
 owed_by (states.Header at) = 0
 owed_by (states.Holding h) = 0
-owed_by (states.Behind w) = moof_samples (moof_in w)
+owed_by (states.Behind w) = 2 * moof_samples (moof_in w)
 owed_by (states.Body b w) = samples_of w
 owed_by (states.OpenBody b w) = samples_of w
 
--- rows are read once where a moof is read, once for its list, once behind it for as many samples as are owed, and once for each sample that is listed
+-- rows are read once where a moof is read, once for its list, once where its samples are listed, and once behind it: so many are still owed
 pub record IsCounted (c : Counter) (bound owed : ℕ) : Type 0 where
   pub fragments : c.tally.fragments ≤ bound
   pub media : c.tally.media_bytes ≤ bound
   pub walked : c.tally.walked ≤ 1000000 * bound
-  pub samples : c.tally.samples ≤ c.tally.walked
+  pub samples : c.tally.samples ≤ 1000000 * bound
   pub some : c.tally.walked ≤ c.steps.rows
-  pub few : c.steps.rows + owed ≤ 3 * c.tally.walked + c.tally.samples
-  pub far : bound ≤ 3 * 2 ^ 62
+  pub few : c.steps.rows + owed ≤ 4 * c.tally.walked
+  pub far : bound ≤ most_counted
 
 -- ---- what it lists
 

@@ -12,7 +12,7 @@ ghost use Rattle.mp4_items.specs.Commands.{making};
 ghost use Rattle.mp4_items.specs.Contexts.{table_of};
 ghost use Rattle.mp4_items.specs.declared.command.Command.{Command};
 ghost use Rattle.mp4_feed.specs.Places.{InBody, InOpenBody, Unlent, beside, claim_of, outside, standing, when_stopped};
-ghost use Rattle.mp4_feed.specs.States.{IsCounted, IsState, IsWaiting, MayWait, behind_body, bound_of, claimed_in, moof_in, owed_by, place_of, samples_of};
+ghost use Rattle.mp4_feed.specs.States.{IsCounted, IsState, IsWaiting, MayWait, behind_body, bound_of, claimed_in, moof_in, owed_by, place_of, samples_of, taken_by};
 
 use crate::state::{Body, Counter, OpenBody, State, Waiting};
 use mp4_box::{Fault, Rule};
@@ -40,6 +40,17 @@ fn settle(waiting: Waiting, tracks: &mut TrackList, ledger: &mut Ledger, counter
     again.settle(tracks, &mut counter.steps);
     runs.back(ledger);
     moof.back(ledger);
+}
+
+/// Gives the moof back that waits, if one does, and its list.
+pub(crate) fn back(waiting: Option<Waiting>, ledger: &mut Ledger)
+    requires { taken_by waiting ≤ ledger.old.live }
+    ensures { ledger.new ≡ given_back ledger.old (taken_by waiting) }
+{
+    if let Some(Waiting { moof, runs }) = waiting {
+        runs.back(ledger);
+        moof.back(ledger);
+    }
 }
 
 /// What is taken next where so much of a body is left: where none is, its moof is done, if one waits.

@@ -16,7 +16,7 @@ ghost use Rattle.mp4_items.specs.Kinds.{kind_in};
 ghost use Rattle.mp4_items.specs.declared.command.Command.{Command};
 ghost use Rattle.mp4_items.specs.declared.kinds.Kind.TheVariants.{Other};
 ghost use Rattle.mp4_feed.specs.Places.{InBody, InHeader, InHeld, Unlent, beside, claim_of, standing, when_stopped};
-ghost use Rattle.mp4_feed.specs.States.{IsCounted, IsState, bound_of, owed_by, place_of};
+ghost use Rattle.mp4_feed.specs.States.{IsCounted, IsState, bound_of, most_counted, owed_by, place_of};
 ghost use Rattle.mp4_feed.specs.declared.state.Counter.{Counter};
 
 use crate::moofs::settle_moof;
@@ -103,6 +103,7 @@ pub(crate) fn hold(
     ensures state { IfOk result (λ s. IsState tracks.new [] s) }
     ensures claim { IfOk result (λ s. claim_of (place_of tracks.new [] s) ≤ ledger.new.live) }
     ensures counted { IfOk result (λ s. IsCounted counter.new (bound_of s) (owed_by s)) }
+    ensures spent { OnErr result (IsCounted counter.new most_counted 0) }
 {
     if !held.is_whole() {
         return Ok(State::Holding(held));
@@ -198,6 +199,7 @@ fn keep_on(
     ensures state { IfOk result (λ s. IsState tracks.new [] s) }
     ensures claim { IfOk result (λ s. claim_of (place_of tracks.new [] s) ≤ ledger.new.live) }
     ensures counted { IfOk result (λ s. IsCounted counter.new (bound_of s) (owed_by s)) }
+    ensures spent { OnErr result (IsCounted counter.new most_counted 0) }
 {
     match keep(at, header, limit, head, tracks, ledger) {
         Ok(held) => hold(held, tracks, ledger, counter),
@@ -293,6 +295,7 @@ pub(crate) fn begin(
     ensures state { IfOk result (λ s. IsState tracks.new [] s) }
     ensures claim { IfOk result (λ s. claim_of (place_of tracks.new [] s) ≤ ledger.new.live) }
     ensures counted { IfOk result (λ s. IsCounted counter.new (bound_of s) (owed_by s)) }
+    ensures spent { OnErr result (IsCounted counter.new most_counted 0) }
 {
     if is_too_long(at, header) {
         return Err(refused(Rule::StreamTooLong, Some(header.kind), at));

@@ -4,7 +4,8 @@
 //! - [`heads`]: how headers are taken, and [`intake`]: how a box is begun;
 //! - [`moovs`] and [`moofs`]: how a moov or a moof is taken of which all came;
 //! - [`second`]: what may stand behind a moof, and [`lines`]: the lines of its samples;
-//! - [`bodies`]: how bodies are passed over, and what is done behind an mdat.
+//! - [`bodies`]: how bodies are passed over, and what is done behind an mdat;
+//! - [`take`]: how bytes are taken from the front of a piece.
 //!
 //! The definitions: `specs/Places.antt` (where a machine is in a stream, and what that means), `specs/States.antt` (what it
 //! keeps by its place), `specs/Stops.antt` (why it stops at a moov).
@@ -18,3 +19,4 @@ mod moofs;
 mod moovs;
 mod second;
 mod state;
+mod take;

@@ -1,0 +1,39 @@
+-- What bytes bring that a machine takes from the front of a piece.
+use Rattle.std.proofs.Common.{◌≡◌, ℕ, ◌+◌, ◌<◌, ◌≤◌, List, [], ◌++◌, length, length-append, take, append-nil, append_assoc, ap, refl, sym, subst, arith, None, Some, Option}
+use Rattle.mp4_box.specs.declared.headers.FourCc.{FourCc}
+use Rattle.mp4_box.specs.declared.headers.Header.{Header}
+use Rattle.mp4_box.specs.declared.headers.Step.TheVariants as steps
+use Rattle.mp4_box.specs.Headers.{header_at, need}
+use Rattle.mp4_box.proofs.HeaderLemmas.{bad_is, whole_is}
+use Rattle.mp4_init.specs.declared.table.Track.{Track}
+use Rattle.mp4_reading.specs.Pieces.{GoesOn, Outside, Standing}
+use Rattle.mp4_reading.specs.Readings.{then_read}
+use Rattle.mp4_reading.proofs.PieceLemmas.{GoesOn-more, GoesOn-silent}
+use Rattle.mp4_items.specs.Contexts.{Context}
+use Rattle.mp4_items.specs.Items.{kept_body, reads_in}
+use Rattle.mp4_items.specs.Makings.{Making}
+use Rattle.mp4_feed.specs.Places.{InHeld, standing}
+use Rattle.mp4_feed.specs.States.{behind_body}
+use Rattle.mp4_feed.specs.declared.state.Waiting.{Waiting}
+
+-- bytes came, and then what a step brings that takes none
+pub GoesOn-then : {o o' o'' : Outside} {p q : Standing} {xs : List ℕ} → p.claim ≤ o.account.live → GoesOn o o' p xs q → (r : Standing) → GoesOn o' o'' q [] r → GoesOn o o'' p xs r
+GoesOn-then {o = o} {o'' = o''} {p = p} {xs = xs} low g r h = subst (λ l. GoesOn o o'' p l r) (append-nil xs) (GoesOn-more {p = p} low g [] r h)
+
+-- bytes of a box came that is held
+pub GoesOn-held : (make : Making) (o : Outside) (c : Context) (kind : FourCc) (size : ℕ) (held x : List ℕ) → GoesOn o o (standing make (InHeld c kind size held)) x (standing make (InHeld c kind size (held ++ x)))
+GoesOn-held make o c kind size held x =
+    GoesOn-silent o (standing make (InHeld c kind size held)) (standing make (InHeld c kind size (held ++ x))) x refl (omega (arith, length-append held x))
+    (λ later. ap (λ l. then_read (reads_in make) (kept_body make c kind size l)) (sym (append_assoc held x later)))
+
+-- bytes that are no header, or are one, are just those that are needed
+pub len_of_bad : (x : List ℕ) → length x ≤ need x → header_at x ≡ steps.BadSize → length x ≡ need x
+len_of_bad x most e = omega (arith, most, bad_is x e)
+
+pub len_of_whole : (x : List ℕ) (h : Header) → length x ≤ need x → header_at x ≡ steps.Whole h → length x ≡ need x
+len_of_whole x h most e = omega (arith, most, (whole_is x h e).0)
+
+-- behind a body the next box begins
+pub behind_at : (tracks : Option (List Track)) (w : Option Waiting) (next : ℕ) → (behind_body tracks w next).at ≡ next
+behind_at tracks None next = refl
+behind_at tracks (Some w) next = refl
