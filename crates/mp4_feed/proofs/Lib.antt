@@ -5,3 +5,6 @@ pub mod HeadLemmas
 pub mod SecondLemmas
 pub mod LineLemmas
 pub mod TakeLemmas
+pub mod MediaLemmas
+pub mod BehindLemmas
+pub mod QuietLemmas

@@ -1,8 +1,11 @@
 -- What a machine keeps that reads a fragmented stream, and where it is by that.
-use Rattle.std.specs.Prelude.{◌≡◌, ℕ, ◌+◌, ◌*◌, ◌<◌, ◌≤◌, ◌^◌, List, [], length, Option, Some, None}
+use Rattle.std.specs.Prelude.{◌≡◌, ℕ, ◌+◌, ◌-◌, ◌*◌, ◌<◌, ◌≤◌, ◌^◌, List, [], length, Option, Some, None}
 use Rattle.std.specs.List.{flat_map}
 use Rattle.std.specs.Option.{unwrap_or}
 use Rattle.mp4_box.specs.Headers.{IsWhole, need}
+use Rattle.mp4_box.specs.declared.headers.Header.{Header}
+use Rattle.mp4_box.specs.declared.headers.Size.{Size}
+use Rattle.mp4_box.specs.declared.headers.Size.TheVariants.{Exact, ToEnd}
 use Rattle.mp4_init.specs.declared.table.Track.{Track}
 use Rattle.mp4_frag.specs.Moofs.{IsRead, moof_runs, moof_samples, moof_trafs}
 use Rattle.mp4_frag.specs.RunLists.{IsListOf, taken_runs}
@@ -12,6 +15,8 @@ use Rattle.mp4_reading.specs.Bodies.{longest}
 use Rattle.mp4_reading.specs.Holding.{Begins}
 use Rattle.mp4_reading.specs.Readings.{silent}
 use Rattle.mp4_items.specs.Contexts.{Context, context, table_of}
+use Rattle.mp4_items.specs.Items.{fragment}
+use Rattle.mp4_items.specs.Makings.{Fragment}
 use Rattle.mp4_items.specs.Samples.{sample_lines, samples_of_run}
 use Rattle.mp4_feed.specs.Places.{Place, InHeader, InHeld, Behind, InBody, InOpenBody}
 use Rattle.mp4_feed.specs.declared.state.Counter.{Counter}
@@ -77,6 +82,17 @@ IsState tracks head (states.Behind w) = (length head < need head) × IsWaiting t
 IsState tracks head (states.Body b w) = (head ≡ []) × (0 < b.left) × (b.left ≤ b.next) × (b.next ≤ longest) × MayWait tracks w
 IsState tracks head (states.OpenBody b w) = (head ≡ []) × (b.left ≤ longest) × MayWait tracks w
 
+-- ---- the fragment of the moof that waits
+
+-- with an mdat directly behind it that has this header
+abbrev pub fragment_of : Waiting → List Track → Header → Fragment
+fragment_of w tracks h = fragment (context w.moof.at (Some tracks) 1) tracks w.moof.bytes h
+
+-- in that mdat, which begins at an offset, by the size that it states: so many bytes of its payload are needed
+abbrev pub in_mdat : List Track → Waiting → ℕ → Header → ℕ → Size → Place
+in_mdat tracks w at h needed (Exact s) = InBody (λ _. silent) at h.kind (behind_body (Some tracks) (Some w) (at + s)) (s - h.header_len) (claimed_in (Some tracks) (Some w))
+in_mdat tracks w at h needed ToEnd = InOpenBody (λ _. silent) at h.kind needed (longest - (at + h.header_len)) (claimed_in (Some tracks) (Some w))
+
 -- ---- what it has counted
 
 -- nothing is ever counted past this, but rows and samples
@@ -95,6 +111,11 @@ bound_of (states.OpenBody b w) = most_counted
 abbrev pub samples_of : Option Waiting → ℕ
 samples_of None = 0
 samples_of (Some w) = moof_samples (moof_in w)
+
+-- behind the header of an mdat at an offset
+abbrev pub bound_behind : ℕ → Size → ℕ
+bound_behind at (Exact s) = at + s
+bound_behind at ToEnd = most_counted
 
 abbrev pub owed_by : State → ℕ
 owed_by (states.Header at) = 0

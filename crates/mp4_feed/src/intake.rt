@@ -63,6 +63,7 @@ fn keep(
     ensures begins { IfOk result (λ h. Begins h.size h.bytes) }
     ensures near { IfOk result (λ h. h.at + h.size ≤ longest) }
     ensures claim { IfOk result (λ h. table_of tracks.now + h.size ≤ ledger.new.live) }
+    ensures left { OnErr result (table_of tracks.now ≤ ledger.new.live) }
 {
     let Size::Exact(size) = header.size else {
         return Err(refused(Rule::TooLarge, Some(header.kind), at));
@@ -100,6 +101,7 @@ pub(crate) fn hold(
         (InHeld (context held.at tracks.old 1) held.kind held.size held.bytes))
         [] (λ _. []) (λ s. standing (making command) (place_of tracks.new [] s)) result }
     ensures kept { OnErr result (tracks.new ≡ tracks.old) }
+    ensures left { OnErr result (table_of tracks.old ≤ ledger.new.live) }
     ensures state { IfOk result (λ s. IsState tracks.new [] s) }
     ensures claim { IfOk result (λ s. claim_of (place_of tracks.new [] s) ≤ ledger.new.live) }
     ensures counted { IfOk result (λ s. IsCounted counter.new (bound_of s) (owed_by s)) }
@@ -140,6 +142,7 @@ fn take_moov(
         (InHeld (context held.at None 1) held.kind held.size held.bytes))
         [] (λ _. []) (λ s. standing (making command) (place_of tracks.new [] s)) result }
     ensures kept { OnErr result (tracks.new ≡ tracks.old) }
+    ensures left { OnErr result (table_of tracks.old ≤ ledger.new.live) }
     ensures state { IfOk result (λ s. IsState tracks.new [] s) }
     ensures claim { IfOk result (λ s. claim_of (place_of tracks.new [] s) ≤ ledger.new.live) }
     ensures counted { IfOk result (λ s. IsCounted counter.now (bound_of s) (owed_by s)) }
@@ -196,6 +199,7 @@ fn keep_on(
         (standing (making command) (InHeader (context at tracks.old 1) head.now))
         [] (λ _. []) (λ s. standing (making command) (place_of tracks.new [] s)) result }
     ensures kept { OnErr result (tracks.new ≡ tracks.old) }
+    ensures left { OnErr result (table_of tracks.old ≤ ledger.new.live) }
     ensures state { IfOk result (λ s. IsState tracks.new [] s) }
     ensures claim { IfOk result (λ s. claim_of (place_of tracks.new [] s) ≤ ledger.new.live) }
     ensures counted { IfOk result (λ s. IsCounted counter.new (bound_of s) (owed_by s)) }
@@ -292,6 +296,7 @@ pub(crate) fn begin(
         (standing (making command) (InHeader (context at tracks.old 1) head.now))
         [] (λ _. []) (λ s. standing (making command) (place_of tracks.new [] s)) result }
     ensures kept { OnErr result (tracks.new ≡ tracks.old) }
+    ensures left { OnErr result (table_of tracks.old ≤ ledger.new.live) }
     ensures state { IfOk result (λ s. IsState tracks.new [] s) }
     ensures claim { IfOk result (λ s. claim_of (place_of tracks.new [] s) ≤ ledger.new.live) }
     ensures counted { IfOk result (λ s. IsCounted counter.new (bound_of s) (owed_by s)) }

@@ -3,7 +3,8 @@
 //! - [`state`]: what it keeps;
 //! - [`heads`]: how headers are taken, and [`intake`]: how a box is begun;
 //! - [`moovs`] and [`moofs`]: how a moov or a moof is taken of which all came;
-//! - [`second`]: what may stand behind a moof, and [`lines`]: the lines of its samples;
+//! - [`behind`]: how the header behind a moof is taken; [`second`]: what may stand there, [`measure`]: what its runs come to, and
+//!   [`lines`]: the lines of its samples;
 //! - [`bodies`]: how bodies are passed over, and what is done behind an mdat;
 //! - [`take`]: how bytes are taken from the front of a piece.
 //!
@@ -11,10 +12,12 @@
 //! keeps by its place), `specs/Stops.antt` (why it stops at a moov).
 #![tactic(auto)]
 
+mod behind;
 mod bodies;
 mod heads;
 mod intake;
 mod lines;
+mod measure;
 mod moofs;
 mod moovs;
 mod second;

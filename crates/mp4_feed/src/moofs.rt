@@ -53,6 +53,7 @@ pub(crate) fn settle_moof(
     ensures waiting { IfOk result (λ w. IsWaiting (Some tracks.now) w) }
     ensures counted { IfOk result (λ w. IsCounted counter.new (held.at + held.size)
         (2 * moof_samples (held_at held.bytes held.at))) }
+    ensures left { OnErr result (64 * length tracks.now ≤ ledger.new.live) }
     ensures uncounted { OnErr result (IsCounted counter.new (held.at + held.size) 0) }
     ensures claim { IfOk result (λ w.
         64 * length tracks.now + held.size + 64 * length w.runs.rows ≤ ledger.new.live) }

@@ -30,7 +30,7 @@ use mp4_reading::is_too_long;
 /// # Errors
 ///
 /// `StreamTooLong` where it goes too far, `MdatMissing` where it is no mdat, `RunPlace` where a run doesn't stand where it may.
-fn judge(waiting: &Waiting, header: &Header, tracks: &TrackList) -> Result<(), Fault>
+pub(crate) fn judge(waiting: &Waiting, header: &Header, tracks: &TrackList) -> Result<(), Fault>
     requires waiting { IsWaiting (Some tracks.now) waiting.now }
     requires room { HasRoom header.now.size header.now.header_len }
     ensures near { OnOk result (least_end (waiting.now.moof.at + waiting.now.moof.size)
@@ -67,7 +67,7 @@ fn judge(waiting: &Waiting, header: &Header, tracks: &TrackList) -> Result<(), F
 }
 
 /// The payload of the mdat at `at`.
-fn payload_of(at: u64, header: &Header) -> Payload
+pub(crate) fn payload_of(at: u64, header: &Header) -> Payload
     requires room { HasRoom header.now.size header.now.header_len }
     requires end { least_end at header.now header.now.size ≤ longest }
     ensures start { result.start ≡ at + header.now.header_len }

@@ -58,6 +58,7 @@ pub(crate) fn take_header(
         (λ t. standing (making command) (place_of tracks.new head.new t.state)) result }
     ensures taken { IfOk result (λ t. (0 < t.count) × (t.count ≤ length piece.now)) }
     ensures kept { OnErr result (tracks.new ≡ tracks.old) }
+    ensures left { OnErr result (table_of tracks.old ≤ ledger.new.live) }
     ensures empty { OnErr result (head.new ≡ []) }
     ensures state { IfOk result (λ t. IsState tracks.new head.new t.state) }
     ensures claim { IfOk result (λ t.
@@ -102,6 +103,7 @@ fn begin_by(
         (standing (making command) (InHeader (context at tracks.old 1) head.old))
         [] (λ _. []) (λ s. standing (making command) (place_of tracks.new head.new s)) result }
     ensures kept { OnErr result (tracks.new ≡ tracks.old) }
+    ensures left { OnErr result (table_of tracks.old ≤ ledger.new.live) }
     ensures empty { OnErr result (head.new ≡ []) }
     ensures state { IfOk result (λ s. IsState tracks.new head.new s) }
     ensures claim { IfOk result (λ s.
@@ -152,6 +154,7 @@ pub(crate) fn take_held(
         (λ t. standing (making command) (place_of tracks.new [] t.state)) result }
     ensures taken { IfOk result (λ t. (0 < t.count) × (t.count ≤ length piece.now)) }
     ensures kept { OnErr result (tracks.new ≡ tracks.old) }
+    ensures left { OnErr result (table_of tracks.old ≤ ledger.new.live) }
     ensures state { IfOk result (λ t. IsState tracks.new [] t.state) }
     ensures claim { IfOk result (λ t.
         claim_of (place_of tracks.new [] t.state) ≤ ledger.new.live) }
@@ -231,6 +234,7 @@ pub(crate) fn take_open(
     ensures state { IfOk result (λ p. IsState tracks.now [] p.state) }
     ensures claim { IfOk result (λ p.
         claim_of (place_of tracks.now [] p.state) ≤ ledger.new.live) }
+    ensures left { OnErr result (table_of tracks.now ≤ ledger.new.live) }
     ensures counted { (c : Counter) → IsCounted c most_counted (samples_of waiting) →
         IfOk result (λ p. IsCounted c (bound_of p.state) (owed_by p.state)) }
 {

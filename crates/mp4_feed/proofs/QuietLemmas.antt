@@ -1,0 +1,102 @@
+-- What the end of the stream means by the place of a machine: it tells nothing more, and no fault was decided before it.
+use Rattle.std.proofs.Common.{◌≡◌, ◌∙◌, ℕ, zero, suc, ◌+◌, ◌<◌, List, [], ◌∷◌, ◌++◌, length, Option, None, Some, append-nil, length-append, ap, refl, arith}
+use Rattle.mp4_box.specs.declared.headers.FourCc.{FourCc}
+use Rattle.mp4_box.specs.declared.rules.Rule.TheVariants.{MdatMissing, Truncated}
+use Rattle.mp4_box.specs.Headers.{kind_of, need}
+use Rattle.mp4_box.proofs.HeaderLemmas.{is_cut}
+use Rattle.mp4_init.specs.declared.table.Track.{Track}
+use Rattle.mp4_reading.specs.Bodies.{cut_off, fault}
+use Rattle.mp4_reading.specs.Pieces.{IsQuiet, Standing}
+use Rattle.mp4_reading.specs.Readings.{CutOff, Reading, Sound, Told, early_in, fault_in, nothing, silent, then_read}
+use Rattle.mp4_reading.proofs.BodyLemmas.{body-none, nat_lt_false, nat_lt_true}
+use Rattle.mp4_reading.proofs.ReadingLemmas.{read_all-front}
+use Rattle.mp4_items.specs.Contexts.{Context}
+use Rattle.mp4_items.specs.Items.{behind, item, item_by, reads_in}
+use Rattle.mp4_items.specs.Kinds.{moof}
+use Rattle.mp4_items.specs.Makings.{Making}
+use Rattle.mp4_items.proofs.ItemLemmas.{item-items}
+use Rattle.mp4_feed.specs.Places.{Behind, InBody, InHeader, InHeld, InOpenBody, IsPlace, Place, reads_at, standing}
+use Rattle.mp4_feed.specs.States.{IsState, place_of}
+use Rattle.mp4_feed.specs.declared.state.State.{State}
+use Rattle.mp4_feed.specs.declared.state.State.TheVariants as states
+use Rattle.mp4_feed.proofs.HeadLemmas.{reads-none}
+use Rattle.mp4_feed.proofs.SecondLemmas.{behind-more, behind-none}
+
+-- ---- what is read where no byte follows
+
+module _ (make : Making) where
+  header-cut : (c : Context) (x : List ℕ) → 0 < length x → length x < need x → reads_in make c x ≡ cut_off Truncated (kind_of x) c.at
+  unfolding item
+  header-cut c [] some short = absurd (omega arith)
+  header-cut c (b ∷ x) some short =
+      read_all-front (item make) (item-items make) c (b ∷ x) ∙ ap (λ s. then_read (reads_in make) (item_by make c (b ∷ x) s)) (is_cut (b ∷ x) short)
+
+  header-ended : (c : Context) (held : List ℕ) → 0 < length held → length held < need held → reads_at make (InHeader c held) [] ≡ cut_off Truncated (kind_of held) c.at
+  header-ended c held some short = ap (reads_in make c) (append-nil held) ∙ header-cut c held some short
+
+  held-ended : (c : Context) (kind : FourCc) (size : ℕ) (held : List ℕ) → length held < size → reads_at make (InHeld c kind size held) [] ≡ cut_off Truncated (Some kind) c.at
+  held-ended c kind size held short = rw (nat_lt_true (length (held ++ [])) size (omega (arith, length-append held [], short))) refl
+
+  behind-ended : (c : Context) (tracks : List Track) (m held : List ℕ) → 0 < length held → length held < need held → reads_at make (Behind c tracks m held) [] ≡ cut_off Truncated (kind_of held) (c.at + length m)
+  behind-ended c tracks m held some short = ap (then_read (reads_in make)) (ap (behind make c tracks m) (append-nil held) ∙ behind-more make c tracks m held some short)
+
+  behind-missing : (c : Context) (tracks : List Track) (m : List ℕ) → reads_at make (Behind c tracks m []) [] ≡ cut_off MdatMissing (Some moof) c.at
+  behind-missing c tracks m = ap (then_read (reads_in make)) (behind-none make c tracks m)
+
+  body-ended : (tell : List ℕ → Told) (at : ℕ) (kind : FourCc) (next : Context) (left own : ℕ) → 0 < left → reads_at make (InBody tell at kind next left own) [] ≡ record { told = tell []; outcome = CutOff (fault Truncated (Some kind) at) }
+  body-ended tell at kind next left own some = body-none (reads_in make) at kind next tell left some
+
+  open-ended : (tell : List ℕ → Told) (at : ℕ) (kind : FourCc) (needed left own : ℕ) → needed ≡ 0 → reads_at make (InOpenBody tell at kind needed left own) [] ≡ record { told = tell []; outcome = Sound }
+  open-ended tell at kind needed left own none = rw (nat_lt_false left 0 (omega arith), nat_lt_false 0 needed (omega (arith, none))) refl
+
+  open-short : (tell : List ℕ → Told) (at : ℕ) (kind : FourCc) (needed left own : ℕ) → 0 < needed → reads_at make (InOpenBody tell at kind needed left own) [] ≡ record { told = tell []; outcome = CutOff (fault Truncated (Some kind) at) }
+  open-short tell at kind needed left own some = rw (nat_lt_false left 0 (omega arith), nat_lt_true 0 needed some) refl
+
+-- ---- the fault of a stream that ends there (in a header: `ends-header` and `ends-none` of HeadLemmas)
+
+module _ (make : Making) where
+  pub ends-held : (c : Context) (kind : FourCc) (size : ℕ) (held : List ℕ) → length held < size → fault_in (reads_at make (InHeld c kind size held) []).outcome ≡ Some (fault Truncated (Some kind) c.at)
+  ends-held c kind size held short = ap (λ r. fault_in r.outcome) (held-ended make c kind size held short)
+
+  pub ends-behind : (c : Context) (tracks : List Track) (m held : List ℕ) → 0 < length held → length held < need held → fault_in (reads_at make (Behind c tracks m held) []).outcome ≡ Some (fault Truncated (kind_of held) (c.at + length m))
+  ends-behind c tracks m held some short = ap (λ r. fault_in r.outcome) (behind-ended make c tracks m held some short)
+
+  pub ends-missing : (c : Context) (tracks : List Track) (m held : List ℕ) → held ≡ [] → fault_in (reads_at make (Behind c tracks m held) []).outcome ≡ Some (fault MdatMissing (Some moof) c.at)
+  ends-missing c tracks m held none = ap (λ l. fault_in (reads_at make (Behind c tracks m l) []).outcome) none ∙ ap (λ r. fault_in r.outcome) (behind-missing make c tracks m)
+
+  pub ends-body : (tell : List ℕ → Told) (at : ℕ) (kind : FourCc) (next : Context) (left own : ℕ) → 0 < left → fault_in (reads_at make (InBody tell at kind next left own) []).outcome ≡ Some (fault Truncated (Some kind) at)
+  ends-body tell at kind next left own some = ap (λ r. fault_in r.outcome) (body-ended make tell at kind next left own some)
+
+  pub ends-open : (tell : List ℕ → Told) (at : ℕ) (kind : FourCc) (needed left own : ℕ) → needed ≡ 0 → fault_in (reads_at make (InOpenBody tell at kind needed left own) []).outcome ≡ None
+  ends-open tell at kind needed left own none = ap (λ r. fault_in r.outcome) (open-ended make tell at kind needed left own none)
+
+  pub ends-short : (tell : List ℕ → Told) (at : ℕ) (kind : FourCc) (needed left own : ℕ) → 0 < needed → fault_in (reads_at make (InOpenBody tell at kind needed left own) []).outcome ≡ Some (fault Truncated (Some kind) at)
+  ends-short tell at kind needed left own some = ap (λ r. fault_in r.outcome) (open-short make tell at kind needed left own some)
+
+-- ---- at no place the end of the stream tells anything, and no fault was decided
+
+is_quiet : (p : Standing) (r : Reading) → p.reads [] ≡ r → r.told ≡ silent → early_in r.outcome ≡ None → IsQuiet p
+is_quiet p r e told early = record { told = ap (λ s. s.told) e ∙ told; early = ap (λ s. early_in s.outcome) e ∙ early }
+
+pub quiet : (make : Making) (p : Place) → IsPlace p → IsQuiet (standing make p)
+quiet make (InHeader c []) i = is_quiet (standing make (InHeader c [])) nothing (reads-none make c) refl refl
+quiet make (InHeader c (b ∷ held)) i = is_quiet (standing make (InHeader c (b ∷ held))) (cut_off Truncated (kind_of (b ∷ held)) c.at) (header-ended make c (b ∷ held) (omega arith) i.0) refl refl
+quiet make (InHeld c kind size held) i = is_quiet (standing make (InHeld c kind size held)) (cut_off Truncated (Some kind) c.at) (held-ended make c kind size held i.0) refl refl
+quiet make (Behind c tracks m []) i = is_quiet (standing make (Behind c tracks m [])) (cut_off MdatMissing (Some moof) c.at) (behind-missing make c tracks m) refl refl
+quiet make (Behind c tracks m (b ∷ held)) i =
+    is_quiet (standing make (Behind c tracks m (b ∷ held))) (cut_off Truncated (kind_of (b ∷ held)) (c.at + length m)) (behind-ended make c tracks m (b ∷ held) (omega arith) i.0) refl refl
+quiet make (InBody tell at kind next left own) i =
+    is_quiet (standing make (InBody tell at kind next left own)) (record { told = tell []; outcome = CutOff (fault Truncated (Some kind) at) }) (body-ended make tell at kind next left own i.0) i.3 refl
+quiet make (InOpenBody tell at kind zero left own) i = is_quiet (standing make (InOpenBody tell at kind zero left own)) (record { told = tell []; outcome = Sound }) (open-ended make tell at kind zero left own refl) i.1 refl
+quiet make (InOpenBody tell at kind (suc needed) left own) i =
+    is_quiet (standing make (InOpenBody tell at kind (suc needed) left own)) (record { told = tell []; outcome = CutOff (fault Truncated (Some kind) at) }) (open-short make tell at kind (suc needed) left own (omega arith)) i.1 refl
+
+-- ---- where a machine is by what it keeps is a place
+
+pub at-place : (tracks : Option (List Track)) (head : List ℕ) (s : State) → IsState tracks head s → IsPlace (place_of tracks head s)
+at-place tracks head (states.Header at) i = i
+at-place tracks head (states.Holding h) i = (i.1, i.2)
+at-place tracks head (states.Behind w) i = (i.0, omega (arith, i.1.size, i.1.near))
+at-place tracks head (states.Body b None) i = (i.1, i.2, i.3, refl)
+at-place tracks head (states.Body b (Some w)) i = (i.1, i.2, i.3, refl)
+at-place tracks head (states.OpenBody b w) i = (i.1, refl)

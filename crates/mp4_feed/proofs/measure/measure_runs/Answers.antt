@@ -1,0 +1,68 @@
+use Rattle.std.proofs.Common.{◌+◌, ◌<◌, arith, length}
+use Rattle.mp4_frag.specs.RunLists.{taken_runs}
+use Rattle.mp4_items.specs.Makings.{reach}
+use Rattle.mp4_feed.specs.States.{moof_in}
+use Rattle.mp4_feed.proofs.MediaLemmas.{are_more, listed, media_far, media_in, media_more, reach_in, reach_more, run_is, stand_in}
+use Rattle.mp4_feed.proofs.measure.measure_runs.Goals as goal
+
+pub with_run-so_far-requires-clause-place : goal.with_run-so_far-requires-clause-place
+with_run-so_far-requires-clause-place c =
+    let w = c.args.waiting.now in
+    let tracks = c.args.tracks.now in
+    let here : c.loop-i.i < length w.runs.rows = omega (arith, c.loop-i-test.true, c.len.ensures) in
+    let at = rw (c.again-moof.ensures, c.bytes.ensures.bytes, c.offset.ensures.at) at c.at-run.ensures in
+    (run_is w tracks c.requires.waiting c.bytes.ensures.valid c.loop-i.i c.at-run.result here at (omega arith)).range.high
+
+pub with_run-so_far-requires-clause-room : goal.with_run-so_far-requires-clause-room
+with_run-so_far-requires-clause-room c =
+    let w = c.args.waiting.now in
+    let tracks = c.args.tracks.now in
+    let runs = taken_runs (moof_in w) tracks in
+    let i = c.loop-i.i in
+    let run = c.at-run.result in
+    let here : i < length w.runs.rows = omega (arith, c.loop-i-test.true, c.len.ensures) in
+    let at = rw (c.again-moof.ensures, c.bytes.ensures.bytes, c.offset.ensures.at) at c.at-run.ensures in
+    let is = run_is w tracks c.requires.waiting c.bytes.ensures.valid i run here at (omega arith) in
+    let room = media_far w.moof.bytes c.args.payload runs (i + 1) c.requires.start (stand_in w tracks c.requires.waiting c.args.payload c.requires.good)
+    (are_more runs i run (listed w tracks c.requires.waiting i here) at w.moof.bytes c.loop-i.invariant.are is) in
+    omega (arith, room, media_more runs i run (listed w tracks c.requires.waiting i here) at, c.loop-i.invariant.bytes)
+
+pub loop-i-preserved : goal.loop-i-preserved
+loop-i-preserved c =
+    let w = c.args.waiting.now in
+    let tracks = c.args.tracks.now in
+    let runs = taken_runs (moof_in w) tracks in
+    let i = c.loop-i.i in
+    let run = c.at-run.result in
+    let start = c.args.payload.start in
+    let here : i < length w.runs.rows = omega (arith, c.loop-i-test.true, c.len.ensures) in
+    let at = rw (c.again-moof.ensures, c.bytes.ensures.bytes, c.offset.ensures.at) at c.at-run.ensures in
+    let is = run_is w tracks c.requires.waiting c.bytes.ensures.valid i run here at (omega arith) in
+    let in_list = listed w tracks c.requires.waiting i here in
+    record {
+      within = omega (arith, here);
+      bytes = omega (arith, c.with_run-so_far.ensures.bytes, c.loop-i.invariant.bytes, media_more runs i run in_list at);
+      needed = reach_more runs i run in_list at start c.loop-i.so_far.needed c.with_run-so_far.result.needed (reach start runs) c.with_run-so_far.ensures.needed c.loop-i.invariant.needed;
+      are = are_more runs i run in_list at w.moof.bytes c.loop-i.invariant.are is;
+    }
+
+pub returns-clause-within : goal.returns-clause-within
+returns-clause-within c e is =
+    let w = c.args.waiting.now in
+    let tracks = c.args.tracks.now in
+    let room = media_in w.moof.bytes c.args.payload e (taken_runs (moof_in w) tracks) c.loop-i.i is (c.requires.end e is) (stand_in w tracks c.requires.waiting c.args.payload c.requires.good) c.loop-i.invariant.are in
+    omega (arith, room, c.loop-i.invariant.bytes)
+
+pub returns-clause-reach : goal.returns-clause-reach
+returns-clause-reach c e is =
+    let w = c.args.waiting.now in
+    let tracks = c.args.tracks.now in
+    let room = reach_in c.args.payload e (taken_runs (moof_in w) tracks) is (c.requires.end e is) (stand_in w tracks c.requires.waiting c.args.payload c.requires.good) in
+    omega (arith, room, c.loop-i.invariant.needed)
+
+pub returns-clause-open : goal.returns-clause-open
+returns-clause-open c =
+    let w = c.args.waiting.now in
+    let tracks = c.args.tracks.now in
+    let room = media_far w.moof.bytes c.args.payload (taken_runs (moof_in w) tracks) c.loop-i.i c.requires.start (stand_in w tracks c.requires.waiting c.args.payload c.requires.good) c.loop-i.invariant.are in
+    omega (arith, room, c.loop-i.invariant.bytes)

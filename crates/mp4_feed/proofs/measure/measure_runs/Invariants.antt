@@ -1,0 +1,20 @@
+use Rattle.std.proofs.Common.{◌≡◌, ◌≤◌, ◌-◌, max, length, take, drop}
+use Rattle.mp4_run_order.proofs.ListLemmas.{Each}
+use Rattle.mp4_frag.specs.RunLists.{taken_runs}
+use Rattle.mp4_items.specs.Makings.{reach}
+use Rattle.mp4_pieces.specs.Pieces.{IsRunOf}
+use Rattle.mp4_feed.specs.States.{moof_in}
+use Rattle.mp4_feed.proofs.MediaLemmas.{media_of}
+use Rattle.mp4_feed.proofs.measure.measure_runs.Given as goal
+
+-- the bytes of the runs so far were added up, and with the runs that are left they reach as far as all
+abbrev pub invariant-loop-i : goal.invariant-loop-i
+invariant-loop-i l = record {
+  within : l.i ≤ length l.fn.waiting.runs.rows;
+  bytes : l.so_far.bytes ≡ media_of (take l.i (taken_runs (moof_in l.fn.waiting) l.fn.tracks));
+  needed : max l.so_far.needed (reach l.fn.payload.start (drop l.i (taken_runs (moof_in l.fn.waiting) l.fn.tracks))) ≡ reach l.fn.payload.start (taken_runs (moof_in l.fn.waiting) l.fn.tracks);
+  are : Each (IsRunOf l.fn.waiting.moof.bytes) (take l.i (taken_runs (moof_in l.fn.waiting) l.fn.tracks));
+}
+
+abbrev pub decreases-loop-i : goal.decreases-loop-i
+decreases-loop-i l = length l.fn.waiting.runs.rows - l.i
