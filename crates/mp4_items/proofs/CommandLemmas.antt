@@ -1,12 +1,19 @@
--- What the commands tell grows with the bytes.
+-- What the commands tell grows with the bytes, and asks for nothing beside the items.
+use Rattle.std.proofs.Common.{refl}
 use Rattle.mp4_reading.specs.Readings.{silent}
 use Rattle.mp4_reading.proofs.ReadingGrowthLemmas.{TellsMore-silent}
 use Rattle.mp4_items.specs.Commands.{making}
 use Rattle.mp4_items.specs.Makings.{IsGrowing}
 use Rattle.mp4_items.specs.declared.command.Command.{Command}
+use Rattle.mp4_items.specs.declared.command.Command.TheVariants.{Samples, Check}
+use Rattle.mp4_items.proofs.ItemAskLemmas.{IsQuiet}
 
 pub making-growing : (command : Command) → IsGrowing (making command)
 making-growing command = record {
   media = λ f b x. TellsMore-silent silent;
   passed = λ kind b x. TellsMore-silent silent;
 }
+
+pub making-quiet : (command : Command) → IsQuiet (making command)
+making-quiet Samples = record { accepted = λ f. refl; media = λ f b. refl; passed = λ kind b. refl }
+making-quiet Check = record { accepted = λ f. refl; media = λ f b. refl; passed = λ kind b. refl }

@@ -89,14 +89,14 @@ kept-below make c kind size bytes n h = elim (nat_lt (length bytes) size) as (λ
   | false ↦ Below-more (whole_box_by make c (take size bytes) (drop size bytes) c.tracks) (length (drop size bytes)) n (omega (arith, h, length-drop size bytes)) (whole-below make c (take size bytes) (drop size bytes) c.tracks)
 ]
 
-keeping-below : (make : Making) (c : Context) (h : Header) (limit : ℕ) (x bytes : List ℕ) (size : Size) → HasRoom size (length x) → Below (keeping make c h limit (x ++ bytes) size) (length bytes)
+pub keeping-below : (make : Making) (c : Context) (h : Header) (limit : ℕ) (x bytes : List ℕ) (size : Size) → HasRoom size (length x) → Below (keeping make c h limit (x ++ bytes) size) (length bytes)
 keeping-below make c h limit x bytes (Exact s) room = elim (nat_lt limit s) as (λ v. Below (if v then Last (refused TooLarge (Some h.kind) c.at) else after_told (asks_for c.at (table_of c.tracks + s)) (kept_body make c h.kind s (x ++ bytes))) (length bytes)) [
   | true ↦ tt
   | false ↦ Below-told (asks_for c.at (table_of c.tracks + s)) (kept_body make c h.kind s (x ++ bytes)) (length bytes) (kept-below make c h.kind s (x ++ bytes) (length bytes) (omega (arith, room, length-append x bytes)))
 ]
 keeping-below make c h limit x bytes ToEnd room = tt
 
-passing-below : (make : Making) (c : Context) (kind : FourCc) (x bytes : List ℕ) (size : Size) → HasRoom size (length x) → Below (passing make c kind (x ++ bytes) size) (length bytes)
+pub passing-below : (make : Making) (c : Context) (kind : FourCc) (x bytes : List ℕ) (size : Size) → HasRoom size (length x) → Below (passing make c kind (x ++ bytes) size) (length bytes)
 passing-below make c kind x bytes (Exact s) room = told-below (make.passed kind) c.at kind (context (c.at + s) c.tracks c.number) s (length bytes) (x ++ bytes) (omega (arith, room, length-append x bytes))
 passing-below make c kind x bytes ToEnd room = told_open-below Context (make.passed kind) c.at kind 0 (longest - c.at) (length bytes) (x ++ bytes)
 

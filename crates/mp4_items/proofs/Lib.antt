@@ -1,2 +1,11 @@
 pub mod ItemLemmas
 pub mod CommandLemmas
+pub mod AskLemmas
+pub mod ItemAskLemmas
+pub mod TakenLemmas
+pub mod BeforeLemmas
+pub mod RunCountLemmas
+pub mod BoundLemmas
+pub mod JoinLemmas
+pub mod RestLemmas
+pub mod SplitLemmas

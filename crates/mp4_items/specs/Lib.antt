@@ -4,3 +4,6 @@ pub mod Makings
 pub mod Items
 pub mod Samples
 pub mod Commands
+pub mod Counts
+pub mod Joined
+pub mod Rests

@@ -1,13 +1,63 @@
 //! What the definitions of a fragmented stream's reading imply.
 
-ghost use Rattle.std.specs.Prelude.{◌++◌, List, ℕ};
-ghost use Rattle.mp4_reading.specs.Readings.{GrowsTo};
+ghost use Rattle.std.specs.Prelude.{◌≡◌, ◌+◌, ◌*◌, ◌≤◌, ◌++◌, ◌∷◌, List, ℕ, length, take};
+ghost use Rattle.mp4_box.specs.Headers.{IsBytes};
+ghost use Rattle.mp4_reading.specs.Bodies.{longest};
+ghost use Rattle.mp4_reading.specs.Readings.{Ask, GrowsTo, Reading, after, most_of};
 ghost use Rattle.mp4_items.specs.Commands.{reading};
+ghost use Rattle.mp4_items.specs.Contexts.{Context, first_context};
+ghost use Rattle.mp4_items.specs.Counts.{WalksOn};
+ghost use Rattle.mp4_items.specs.Items.{reads_in};
+ghost use Rattle.mp4_items.specs.Joined.{AreSound, Item, behind_items, joined, told_items};
+ghost use Rattle.mp4_items.specs.Kinds.{most_moof, most_moov};
+ghost use Rattle.mp4_items.specs.Makings.{Making};
+ghost use Rattle.mp4_items.specs.Rests.{IsRest, Split};
 ghost use Rattle.mp4_items.specs.declared.command.Command.{Command};
+
+/// Each stream is whole items that break no rule, one after the other, and then one of the rests that `IsRest` names:
+/// nothing, or a box or a fragment that is cut, that goes too far, that breaks a rule, or that goes to the end of the
+/// stream. It is read as these items tell, and then as the rest says, whatever a command makes of it.
+pub fn every_stream()
+    ensures { (make : Making) (b : List ℕ) → IsBytes b → (s : Split make first_context b) ×
+        (reads_in make first_context b ≡ after (told_items make first_context s.items) s.reading) }
+{}
+
+/// Whole items that break no rule are told one after the other, and the bytes behind them are read in the context behind
+/// them: a moov makes the tracks known, and a fragment settles where they end.
+pub fn whole_items()
+    ensures { (make : Making) (c : Context) (is : List Item) (later : List ℕ) →
+        AreSound make c is → c.at + length (joined is) ≤ longest →
+        reads_in make c (joined is ++ later) ≡ after (told_items make c is)
+        (reads_in make (behind_items make c is) later) }
+{}
+
+/// Each rest is read as it says.
+pub fn each_rest()
+    ensures { (make : Making) (c : Context) (y : List ℕ) (r : Reading) → IsBytes y →
+        IsRest make c y r → reads_in make c y ≡ r }
+{}
 
 /// What more bytes tell begins with what fewer tell, and a fault that these decide is that of every stream
 /// that begins with them.
 pub fn more_bytes()
     ensures { (command : Command) (b later : List ℕ) →
         GrowsTo (reading command b) (reading command (b ++ later)) }
+{}
+
+/// Where a box asks for memory, the text before is exactly that of the bytes before it, and so are the counts, but that
+/// the samples of a moof are looked at before a list of its runs is asked for.
+pub fn lines_before()
+    ensures text { (command : Command) (b : List ℕ) (before : List Ask) (a : Ask)
+        (behind : List Ask) → (reading command b).told.asks ≡ before ++ a ∷ behind →
+        take a.behind (reading command b).told.text ≡ (reading command (take a.at b)).told.text }
+    ensures counted { (command : Command) (b : List ℕ) (before : List Ask) (a : Ask)
+        (behind : List Ask) → (reading command b).told.asks ≡ before ++ a ∷ behind →
+        WalksOn (reading command (take a.at b)).told.tally a.counted }
+{}
+
+/// No stream asks for more than a table as large as the largest moov, the largest moof and a list of its runs, which takes
+/// at most four times its bytes.
+pub fn asks_bound()
+    ensures { (command : Command) (b : List ℕ) → IsBytes b →
+        most_of (reading command b).told ≤ most_moov + 5 * most_moof }
 {}

@@ -1,0 +1,164 @@
+-- How many runs a moof without a fault can have, by its length: each trun has at least 16 bytes.
+use Rattle.std.proofs.Common.{◌≡◌, ◌∙◌, ◌≤◌, ◌+◌, ◌-◌, ◌*◌, ◌==◌, ℕ, ℤ, zero, suc, Bool, true, false, cond, ltb, List, [], ◌∷◌, length, Option, Some, None, refl, sym, ap, arith, subst, length-append, inl, inr}
+use Rattle.std.specs.Prelude.{map, option_map, option_to_list}
+use Rattle.std.specs.List.{flat_map, AllByRecursion}
+use Rattle.std.specs.Option.{unwrap_or}
+use Rattle.std.specs.Str.{bytes_eq}
+use Rattle.std.proofs.lemmas.Bool.Decides.{nat_tests}
+use Rattle.std.proofs.lemmas.Grind.{flat_map-append}
+use Rattle.mp4_box.specs.declared.headers.FourCc.{FourCc}
+use Rattle.mp4_box.specs.declared.rules.Fault.{Fault}
+use Rattle.mp4_box.specs.declared.rules.Rule.TheVariants.{Version, FieldLength}
+use Rattle.mp4_box.specs.Checks.{unless}
+use Rattle.mp4_box.specs.Fields.{version_in}
+use Rattle.mp4_box.specs.Headers.{IsBytes}
+use Rattle.mp4_box.specs.Paths.{of_kind, at_path}
+use Rattle.mp4_box.specs.Trees.{Box, box_at, box_len, box_then, over, children, payload_offset, fault_at}
+use Rattle.mp4_box.proofs.GrammarLemmas.{stands, option_is, Stands}
+use Rattle.mp4_box.proofs.HeaderAnswers.{head-need}
+use Rattle.mp4_box.proofs.HeaderLemmas.{need-least}
+use Rattle.mp4_init.specs.declared.table.Track.{Track}
+use Rattle.mp4_frag.specs.Fields.{flags_in, width_if}
+use Rattle.mp4_frag.specs.Kinds.{traf, trun}
+use Rattle.mp4_frag.specs.Moofs.{early_fault, moof_of, moof_runs, no_box}
+use Rattle.mp4_frag.specs.Rules.{form_faults, trun_length}
+use Rattle.mp4_frag.specs.Runs.{Held, Shared, end_place, run_of, runs_from, runs_of, traf_of, trafs_by}
+use Rattle.mp4_frag.specs.Trun.{data_offset_present, first_sample_flags_present, sample_count, sample_fields, trun_broken, trun_fields, trun_len}
+use Rattle.mp4_frag.proofs.MoofLemmas.{early, last_none, moof_is}
+
+-- ---- the boxes of some bytes
+
+total : List Box → ℕ
+total [] = 0
+total (b ∷ bs) = box_len b + total bs
+
+record IsLaid (b : Box) : Type 0 where
+  bytes : IsBytes b.payload
+  head : 8 ≤ b.header.header_len
+
+record Fits (n : ℕ) (bs : List Box) : Type 0 where
+  all : AllByRecursion IsLaid bs
+  sum : total bs ≤ n
+
+tail_bytes : (a : ℕ) (xs : List ℕ) → IsBytes (a ∷ xs) → IsBytes xs
+tail_bytes a xs fits i = fits (suc i)
+
+laid_of : (o : ℕ) (x : List ℕ) (b : Box) → Stands o x b → IsLaid b
+laid_of o x b s = record {
+  bytes = s.bytes;
+  head = omega (arith, s.box.spelled.header_len, head-need b.header s.box.head s.box.spelled, need-least s.box.head);
+}
+
+fits_over : (x : List ℕ) (k o : ℕ) → IsBytes x → Fits (length x - k) (over (λ b. b ∷ []) (λ _ _. []) x k o)
+unfolding over total
+fits_over [] k o fits = record { all = tt; sum = omega arith }
+fits_over (a ∷ xs) zero o fits = by (box_at o (a ∷ xs)) refl (λ k. fits_over xs k (o + 1) (tail_bytes a xs fits))
+  where
+    by : (m : Option Box) → box_at o (a ∷ xs) ≡ m → ((k : ℕ) → Fits (length xs - k) (over (λ b. b ∷ []) (λ _ _. []) xs k (o + 1)))
+        → Fits (length (a ∷ xs) - 0) (box_then m (λ b. b ∷ []) [] (λ k. over (λ b. b ∷ []) (λ _ _. []) xs k (o + 1)))
+    by None e later = record { all = tt; sum = omega arith }
+    by (Some b) e later =
+        let s = stands o (a ∷ xs) b fits e in
+        let rest = later (box_len b - 1) in
+        record { all = (laid_of o (a ∷ xs) b s, rest.all); sum = omega (arith, s.low, s.high, rest.sum) }
+fits_over (a ∷ xs) (suc k) o fits =
+    let rest = fits_over xs k (o + 1) (tail_bytes a xs fits) in
+    record { all = rest.all; sum = omega (arith, rest.sum) }
+
+fits_children : (b : Box) → IsBytes b.payload → Fits (length b.payload) (children b)
+fits_children b fits = let f = fits_over b.payload 0 (payload_offset b) fits in record { all = f.all; sum = omega (arith, f.sum) }
+
+kind_fits : (n : ℕ) (kind : FourCc) (bs : List Box) → Fits n bs → Fits n (of_kind kind bs)
+unfolding total
+kind_fits n kind [] f = f
+kind_fits n kind (b ∷ bs) f = by (bytes_eq b.header.kind.0 kind.0) (kind_fits (n - box_len b) kind bs (record { all = f.all.1; sum = omega (arith, f.sum) }))
+  where
+    by : (t : Bool) → Fits (n - box_len b) (of_kind kind bs) → Fits n (cond t (b ∷ of_kind kind bs) (of_kind kind bs))
+    by true h = record { all = (f.all.0, h.all); sum = omega (arith, h.sum, f.sum) }
+    by false h = record { all = h.all; sum = omega (arith, h.sum) }
+
+-- ---- where nothing is at fault with the truns
+
+none_here : (f : Box → List Fault) (bs : List Box) → flat_map f (flat_map (at_path []) bs) ≡ [] → AllByRecursion (λ b. f b ≡ []) bs
+unfolding at_path
+none_here f [] e = tt
+none_here f (b ∷ bs) e =
+    let both = last_none (f b) (flat_map f (flat_map (at_path []) bs)) e in
+    (both.0, none_here f bs both.1)
+
+none_below : (f : Box → List Fault) (kind : FourCc) (bs : List Box) → flat_map f (flat_map (at_path (kind ∷ [])) bs) ≡ [] → AllByRecursion (λ b. AllByRecursion (λ c. f c ≡ []) (of_kind kind (children b))) bs
+unfolding at_path
+none_below f kind [] e = tt
+none_below f kind (b ∷ bs) e =
+    let both = last_none (flat_map f (flat_map (at_path []) (of_kind kind (children b)))) (flat_map f (flat_map (at_path (kind ∷ [])) bs))
+    (sym (flat_map-append f (flat_map (at_path []) (of_kind kind (children b))) (flat_map (at_path (kind ∷ [])) bs)) ∙ e) in
+    (none_here f (of_kind kind (children b)) both.0, none_below f kind bs both.1)
+
+truns_none : (m : Box) → form_faults m ≡ [] → AllByRecursion (λ t. AllByRecursion (λ b. trun_length b ≡ []) (of_kind trun (children t))) (of_kind traf (children m))
+unfolding form_faults at_path
+truns_none m e = none_below trun_length trun (of_kind traf (children m)) (last_none _ _ e).1
+
+laid_by : (b : Box) (t u v : Bool) → option_to_list (option_map (λ r. fault_at r b) (cond t (Some FieldLength) (cond u (Some Version) (unless v FieldLength)))) ≡ [] → v ≡ true
+laid_by b true u v e = absurd cc
+laid_by b false true v e = absurd cc
+laid_by b false false true e = refl
+laid_by b false false false e = absurd cc
+
+long_by : (n i j k : ℕ) → (n == 8 + i + j + k) ≡ true → 8 ≤ n
+long_by n i j k e = grind (arith, nat_tests)
+
+trun_long : (b : Box) → trun_length b ≡ [] → 8 ≤ length b.payload
+unfolding trun_broken trun_fields
+trun_long b e =
+    let flags = flags_in b.payload in
+    let count = sample_count b.payload in
+    long_by (length b.payload) (width_if (data_offset_present flags)) (width_if (first_sample_flags_present flags)) ((sample_fields flags).len * count)
+    (laid_by b (ltb (length b.payload) 4) (ltb 1 (version_in b.payload)) (length b.payload == trun_len flags count) e)
+
+truns_long : (bs : List Box) → AllByRecursion IsLaid bs → AllByRecursion (λ b. trun_length b ≡ []) bs → 16 * length bs ≤ total bs
+unfolding total
+truns_long [] laid long = omega arith
+truns_long (b ∷ bs) laid long = omega (arith, laid.0.head, trun_long b long.0, truns_long bs laid.1 long.1)
+
+-- ---- runs
+
+runs_len : (s : Shared) (time : ℕ) (last : ℤ) (bs : List Box) → length (runs_from s time last bs) ≡ length bs
+unfolding runs_from
+runs_len s time last [] = refl
+runs_len s time last (b ∷ bs) = ap suc (runs_len s (run_of s time last b).end (end_place (run_of s time last b)) bs)
+
+traf_runs : (h : Held) (tracks : List Track) (t : Box) → length (runs_of (traf_of h tracks t)) ≡ length (of_kind trun (children t))
+unfolding traf_of
+traf_runs h tracks t = runs_len (traf_of h tracks t).shared (traf_of h tracks t).time _ (of_kind trun (children t))
+
+trafs_small : (h : Held) (tracks : List Track) (ts : List Box) → AllByRecursion IsLaid ts → AllByRecursion (λ t. AllByRecursion (λ b. trun_length b ≡ []) (of_kind trun (children t))) ts
+    → 16 * length (flat_map runs_of (map (traf_of h tracks) ts)) ≤ total ts
+unfolding total
+trafs_small h tracks [] laid long = omega arith
+trafs_small h tracks (t ∷ ts) laid long =
+    let f = kind_fits (length t.payload) trun (children t) (fits_children t laid.0.bytes) in
+    let here = truns_long (of_kind trun (children t)) f.all long.0 in
+    omega (arith, here, f.sum, traf_runs h tracks t, trafs_small h tracks ts laid.1 long.1, length-append (runs_of (traf_of h tracks t)) (flat_map runs_of (map (traf_of h tracks) ts)))
+
+moof_small : (h : Held) (tracks : List Track) (m : Box) → IsBytes m.payload → form_faults m ≡ [] → 16 * length (flat_map runs_of (trafs_by h tracks (children m))) ≤ length m.payload
+moof_small h tracks m fits e =
+    let f = kind_fits (length m.payload) traf (children m) (fits_children m fits) in
+    omega (arith, f.sum, trafs_small h tracks (of_kind traf (children m)) f.all (truns_none m e))
+
+none_bytes : IsBytes []
+none_bytes i = omega arith
+
+-- the list of the runs of a moof without a fault takes no more than four times its bytes
+pub runs_small : (h : Held) (tracks : List Track) → IsBytes h.bytes → early_fault h tracks ≡ None → 64 * length (moof_runs h tracks) ≤ 4 * length h.bytes
+runs_small h tracks fits e = elim (option_is (box_at h.offset h.bytes)) [
+  | inl none ↦
+      let is : moof_of h ≡ no_box = ap (λ (m : Option Box). unwrap_or m no_box) none in
+      let all = subst (λ (m : Box). 16 * length (flat_map runs_of (trafs_by h tracks (children m))) ≤ length m.payload) (sym is) (moof_small h tracks no_box none_bytes (ap form_faults (sym is) ∙ (early h tracks e).form)) in
+      omega (arith, all, ap (λ (m : Box). length m.payload) is)
+  | inr some ↦
+      let m = some.0 in
+      let s = stands h.offset h.bytes m fits some.1 in
+      let is : moof_of h ≡ m = moof_is h.offset h.bytes m some.1 in
+      let all = subst (λ (b : Box). 16 * length (flat_map runs_of (trafs_by h tracks (children b))) ≤ length b.payload) (sym is) (moof_small h tracks m s.bytes (ap form_faults (sym is) ∙ (early h tracks e).form)) in
+      omega (arith, all, ap (λ (b : Box). length b.payload) is, s.high)
+]
