@@ -57,7 +57,7 @@ module _ (make : Making) (c : Context) where
   pub reads-bad : (x later : List ℕ) → length x ≡ need x → header_at x ≡ steps.BadSize → reads_in make c (x ++ later) ≡ refused BadSize (kind_of x) c.at
   reads-bad x later len e = reads-header x later steps.BadSize len e ∙ ap (λ k. refused BadSize k c.at) (kind_of-append x later (omega (arith, need-least x)))
 
-  reads-more : (x : List ℕ) → 0 < length x → length x < need x → reads_in make c x ≡ cut_off Truncated (kind_of x) c.at
+  pub reads-more : (x : List ℕ) → 0 < length x → length x < need x → reads_in make c x ≡ cut_off Truncated (kind_of x) c.at
   reads-more x some short = reads-front x ∙ ap (then_read (reads_in make)) (item-some x some ∙ ap (item_by make c x) (is_cut x short))
 
   pub reads-none : reads_in make c [] ≡ nothing

@@ -1,9 +1,9 @@
 -- What the end of the stream means by the place of a machine: it tells nothing more, and no fault was decided before it.
-use Rattle.std.proofs.Common.{◌≡◌, ◌∙◌, ℕ, zero, suc, ◌+◌, ◌<◌, List, [], ◌∷◌, ◌++◌, length, Option, None, Some, append-nil, length-append, ap, refl, arith}
+use Rattle.std.proofs.Common.{◌≡◌, ◌∙◌, ℕ, zero, suc, ◌+◌, ◌^◌, ◌<◌, ◌≤◌, List, [], ◌∷◌, ◌++◌, length, Option, None, Some, append-nil, length-append, ap, refl, arith}
 use Rattle.mp4_box.specs.declared.headers.FourCc.{FourCc}
 use Rattle.mp4_box.specs.declared.rules.Rule.TheVariants.{MdatMissing, Truncated}
 use Rattle.mp4_box.specs.Headers.{kind_of, need}
-use Rattle.mp4_box.proofs.HeaderLemmas.{is_cut}
+use Rattle.mp4_box.proofs.HeaderLemmas.{need-most}
 use Rattle.mp4_init.specs.declared.table.Track.{Track}
 use Rattle.mp4_reading.specs.Bodies.{cut_off, fault}
 use Rattle.mp4_reading.specs.Pieces.{IsQuiet, Standing}
@@ -15,24 +15,18 @@ use Rattle.mp4_items.specs.Items.{behind, item, item_by, reads_in}
 use Rattle.mp4_items.specs.Kinds.{moof}
 use Rattle.mp4_items.specs.Makings.{Making}
 use Rattle.mp4_items.proofs.ItemLemmas.{item-items}
-use Rattle.mp4_feed.specs.Places.{Behind, InBody, InHeader, InHeld, InOpenBody, IsPlace, Place, reads_at, standing}
+use Rattle.mp4_feed.specs.Places.{Behind, InBody, InHeader, InHeld, InOpenBody, IsPlace, Place, reached_of, reads_at, standing}
 use Rattle.mp4_feed.specs.States.{IsState, place_of}
 use Rattle.mp4_feed.specs.declared.state.State.{State}
 use Rattle.mp4_feed.specs.declared.state.State.TheVariants as states
-use Rattle.mp4_feed.proofs.HeadLemmas.{reads-none}
+use Rattle.mp4_feed.proofs.HeadLemmas.{reads-more, reads-none}
 use Rattle.mp4_feed.proofs.SecondLemmas.{behind-more, behind-none}
 
 -- ---- what is read where no byte follows
 
 module _ (make : Making) where
-  header-cut : (c : Context) (x : List ℕ) → 0 < length x → length x < need x → reads_in make c x ≡ cut_off Truncated (kind_of x) c.at
-  unfolding item
-  header-cut c [] some short = absurd (omega arith)
-  header-cut c (b ∷ x) some short =
-      read_all-front (item make) (item-items make) c (b ∷ x) ∙ ap (λ s. then_read (reads_in make) (item_by make c (b ∷ x) s)) (is_cut (b ∷ x) short)
-
   header-ended : (c : Context) (held : List ℕ) → 0 < length held → length held < need held → reads_at make (InHeader c held) [] ≡ cut_off Truncated (kind_of held) c.at
-  header-ended c held some short = ap (reads_in make c) (append-nil held) ∙ header-cut c held some short
+  header-ended c held some short = ap (reads_in make c) (append-nil held) ∙ reads-more make c held some short
 
   held-ended : (c : Context) (kind : FourCc) (size : ℕ) (held : List ℕ) → length held < size → reads_at make (InHeld c kind size held) [] ≡ cut_off Truncated (Some kind) c.at
   held-ended c kind size held short = rw (nat_lt_true (length (held ++ [])) size (omega (arith, length-append held [], short))) refl
@@ -73,6 +67,11 @@ module _ (make : Making) where
   pub ends-short : (tell : List ℕ → Told) (at : ℕ) (kind : FourCc) (needed left own : ℕ) → 0 < needed → fault_in (reads_at make (InOpenBody tell at kind needed left own) []).outcome ≡ Some (fault Truncated (Some kind) at)
   ends-short tell at kind needed left own some = ap (λ r. fault_in r.outcome) (open-short make tell at kind needed left own some)
 
+-- some byte came
+pub some_bytes : (x : List ℕ) → (x ≡ [] → ⊥) → 0 < length x
+some_bytes [] h = absurd (h refl)
+some_bytes (b ∷ x) h = omega arith
+
 -- ---- at no place the end of the stream tells anything, and no fault was decided
 
 is_quiet : (p : Standing) (r : Reading) → p.reads [] ≡ r → r.told ≡ silent → early_in r.outcome ≡ None → IsQuiet p
@@ -100,3 +99,11 @@ at-place tracks head (states.Behind w) i = (i.0, omega (arith, i.1.size, i.1.nea
 at-place tracks head (states.Body b None) i = (i.1, i.2, i.3, refl)
 at-place tracks head (states.Body b (Some w)) i = (i.1, i.2, i.3, refl)
 at-place tracks head (states.OpenBody b w) i = (i.1, refl)
+
+-- no place is far behind the longest stream
+pub reached-most : (p : Place) → IsPlace p → reached_of p ≤ 2 ^ 62 + 31
+reached-most (InHeader c held) i = omega (arith, i.0, i.1, need-most held)
+reached-most (InHeld c kind size held) i = omega (arith, i.0, i.1)
+reached-most (Behind c tracks m held) i = omega (arith, i.0, i.1, need-most held)
+reached-most (InBody tell at kind next left own) i = omega (arith, i.2)
+reached-most (InOpenBody tell at kind needed left own) i = omega arith

@@ -1,5 +1,5 @@
 -- What a machine keeps that reads a fragmented stream, and where it is by that.
-use Rattle.std.specs.Prelude.{◌≡◌, ℕ, ◌+◌, ◌-◌, ◌*◌, ◌<◌, ◌≤◌, ◌^◌, List, [], length, Option, Some, None}
+use Rattle.std.specs.Prelude.{◌≡◌, ℕ, ◌+◌, ◌-◌, ◌*◌, ◌<◌, ◌≤◌, ◌^◌, codes, List, [], length, Option, Some, None}
 use Rattle.std.specs.List.{flat_map}
 use Rattle.std.specs.Option.{unwrap_or}
 use Rattle.mp4_box.specs.Headers.{IsWhole, need}
@@ -13,12 +13,15 @@ use Rattle.mp4_frag.specs.Runs.{Held, held_at}
 use Rattle.mp4_frag.specs.Settling.{settled}
 use Rattle.mp4_reading.specs.Bodies.{longest}
 use Rattle.mp4_reading.specs.Holding.{Begins}
+use Rattle.mp4_reading.specs.Pieces.{Standing}
 use Rattle.mp4_reading.specs.Readings.{silent}
+use Rattle.mp4_items.specs.declared.command.Command.{Command}
+use Rattle.mp4_items.specs.Commands.{making}
 use Rattle.mp4_items.specs.Contexts.{Context, context, table_of}
 use Rattle.mp4_items.specs.Items.{fragment}
 use Rattle.mp4_items.specs.Makings.{Fragment}
 use Rattle.mp4_items.specs.Samples.{sample_lines, samples_of_run}
-use Rattle.mp4_feed.specs.Places.{Place, InHeader, InHeld, Behind, InBody, InOpenBody}
+use Rattle.mp4_feed.specs.Places.{Place, InHeader, InHeld, Behind, InBody, InOpenBody, standing}
 use Rattle.mp4_feed.specs.declared.state.Counter.{Counter}
 use Rattle.mp4_feed.specs.declared.state.State.{State}
 use Rattle.mp4_feed.specs.declared.state.State.TheVariants as states
@@ -48,6 +51,14 @@ claimed_in tracks (Some w) = table_of tracks + w.moof.size + 64 * length w.runs.
 abbrev pub taken_by : Option Waiting → ℕ
 taken_by None = 0
 taken_by (Some w) = w.moof.size + 64 * length w.runs.rows
+
+-- how many bytes are claimed beside the table of the tracks
+abbrev pub kept_by : State → ℕ
+kept_by (states.Header at) = 0
+kept_by (states.Holding h) = h.size
+kept_by (states.Behind w) = taken_by (Some w)
+kept_by (states.Body b w) = taken_by w
+kept_by (states.OpenBody b w) = taken_by w
 
 -- the place of a machine with these tracks, to which these bytes of a header came
 abbrev pub place_of : Option (List Track) → List ℕ → State → Place
@@ -133,6 +144,32 @@ pub record IsCounted (c : Counter) (bound owed : ℕ) : Type 0 where
   pub some : c.tally.walked ≤ c.steps.rows
   pub few : c.steps.rows + owed ≤ 4 * c.tally.walked
   pub far : bound ≤ most_counted
+
+-- ---- a machine
+
+-- what it keeps behind a stop: nothing that is claimed
+abbrev pub stopped : State
+stopped = states.OpenBody (record { at = 0; kind = record { 0 = codes "mdat" }; needed = 0; left = 0 }) None
+
+-- what is seen of it: the command, the tracks, what it keeps with the bytes of a header that came, what it has counted, and the bytes that wait to be sent
+pub record Progress : Type 0 where
+  pub command : Command
+  pub tracks : Option (List Track)
+  pub head : List ℕ
+  pub state : State
+  pub counter : Counter
+  pub waiting : List ℕ
+
+-- where it is
+abbrev pub place_in : Progress → Place
+place_in p = place_of p.tracks p.head p.state
+
+abbrev pub stands_in : Progress → Standing
+stands_in p = standing (making p.command) (place_in p)
+
+-- it counts what the stream up to its place bounds
+abbrev pub IsMachine : Option (List Track) → List ℕ → State → Counter → Type 0
+IsMachine tracks head s c = IsState tracks head s × IsCounted c (bound_of s) (owed_by s)
 
 -- ---- what it lists
 

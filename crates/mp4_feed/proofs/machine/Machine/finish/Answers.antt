@@ -1,0 +1,19 @@
+use Rattle.std.proofs.Common.{refl}
+use Rattle.std.proofs.lemmas.Bool.{false≢true}
+use Rattle.mp4_items.specs.Commands.{making}
+use Rattle.mp4_items.specs.Contexts.{context}
+use Rattle.mp4_feed.proofs.HeadLemmas.{ends-header, ends-none}
+use Rattle.mp4_feed.proofs.QuietLemmas.{some_bytes}
+use Rattle.mp4_feed.proofs.machine.Machine.finish.Goals as goal
+
+pub returns-then-is_empty-clause-ok : goal.returns-then-is_empty-clause-ok
+returns-then-is_empty-clause-ok c =
+    let m = c.self.inside in
+    rw (← c.self.view_is, c.in-Header.is) (ends-none (making m.command) (context c.in-Header.at m.tracks 1) m.head (c.if-is_empty.ensures.0 refl))
+
+pub returns-else-is_empty-clause-err : goal.returns-else-is_empty-clause-err
+returns-else-is_empty-clause-err c =
+    let m = c.self.inside in
+    let is = rw c.in-Header.is at c.self.invariant in
+    rw (← c.self.view_is, c.in-Header.is, c.truncated.ensures, c.kind.ensures.computed)
+    (ends-header (making m.command) (context c.in-Header.at m.tracks 1) m.head (some_bytes m.head (λ e. false≢true (c.if-is_empty.ensures.1 e))) is.0.0)
