@@ -14,7 +14,7 @@ use Rattle.mp4_frag.specs.Settling.{settled}
 use Rattle.mp4_reading.specs.Bodies.{longest}
 use Rattle.mp4_reading.specs.Holding.{Begins}
 use Rattle.mp4_reading.specs.Pieces.{Standing}
-use Rattle.mp4_reading.specs.Readings.{silent}
+use Rattle.mp4_reading.specs.Readings.{silent, uncounted}
 use Rattle.mp4_items.specs.declared.command.Command.{Command}
 use Rattle.mp4_items.specs.Commands.{making}
 use Rattle.mp4_items.specs.Contexts.{Context, context, table_of}
@@ -159,6 +159,17 @@ pub record Progress : Type 0 where
   pub state : State
   pub counter : Counter
   pub waiting : List ℕ
+
+-- one to which no byte has come
+abbrev pub begun : Command → Progress
+begun command = record {
+  command = command;
+  tracks = None;
+  head = [];
+  state = states.Header 0;
+  counter = record { tally = uncounted; steps = record { rows = 0 } };
+  waiting = [];
+}
 
 -- where it is
 abbrev pub place_in : Progress → Place

@@ -12,7 +12,7 @@ ghost use Rattle.mp4_reading.specs.Readings.{fault_in, uncounted};
 ghost use Rattle.mp4_items.specs.Commands.{making};
 ghost use Rattle.mp4_items.specs.Contexts.{first_context};
 ghost use Rattle.mp4_feed.specs.Places.{InHeader, IsPlace, around, claim_of, standing};
-ghost use Rattle.mp4_feed.specs.States.{IsState, IsWaiting, kept_by, place_in, place_of, stands_in, stopped};
+ghost use Rattle.mp4_feed.specs.States.{IsState, IsWaiting, begun, kept_by, place_in, place_of, stands_in, stopped};
 ghost use Rattle.mp4_items.specs.Makings.{Making};
 ghost use Rattle.mp4_feed.specs.declared.state.State.TheVariants as states;
 
@@ -53,14 +53,7 @@ impl Model for Machine {
 impl Machine {
     /// A machine to which no byte has come.
     pub fn new(command: Command) -> Machine
-        ensures { result ≡ record {
-          command = command;
-          tracks = None;
-          head = [];
-          state = states.Header 0;
-          waiting = [];
-          counter = record { tally = uncounted; steps = record { rows = 0 } };
-        } }
+        ensures { result ≡ begun command }
     {
         let tally = Tally {
             fragments: 0,

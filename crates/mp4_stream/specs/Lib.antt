@@ -4,3 +4,4 @@ pub mod Boxes
 pub mod Joined
 pub mod Rests
 pub mod Places
+pub mod Fragments

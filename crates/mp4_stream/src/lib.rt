@@ -12,6 +12,7 @@
 //! and claims is said by `mp4_reading`, in `specs/Runs.antt`.
 #![tactic(auto)]
 
+pub mod fragments;
 mod held;
 mod intake;
 pub mod laws;
@@ -19,7 +20,9 @@ mod listing;
 mod machine;
 mod phase;
 pub mod run;
+mod silent;
 
+pub use fragments::{check, samples};
 pub use mp4_box::{Fault, FourCc, Rule, vectors};
 pub use mp4_ends::{Failed, FromRead, IntoWrite, Sink, Source, ends, write_all};
 pub use mp4_ledger::Ledger;

@@ -1,0 +1,151 @@
+//! Runs over a whole stream that read its fragments.
+
+ghost use Rattle.std.specs.Prelude.{◌≡◌, ◌+◌, ◌*◌, ◌<◌, ◌≤◌, [], length};
+ghost use Rattle.mp4_feed.specs.Places.{claim_of};
+ghost use Rattle.mp4_feed.specs.States.{begun, place_in};
+ghost use Rattle.mp4_items.specs.Commands.{reading};
+ghost use Rattle.mp4_items.specs.declared.command.Command.TheVariants.{Check, Samples};
+ghost use Rattle.mp4_reading.specs.Ends.{between, received, sent};
+ghost use Rattle.mp4_reading.specs.Runs.{Runs};
+ghost use Rattle.mp4_stream.specs.Fragments.{ReadsFragments, unsent};
+
+use crate::run::Totals;
+use crate::silent::Silent;
+use mp4_ends::{Failed, Sink, Source};
+use mp4_feed::Machine;
+use mp4_items::Command;
+use mp4_ledger::Ledger;
+use mp4_reading::Stop;
+
+/// Lists the samples of a fragmented stream, however its reads cut it: a line for each, fragment by fragment, the runs of a
+/// fragment in the order in which their media stand. The lines of a fragment are written once the header of its mdat is
+/// accepted. `copy` bytes are claimed to read into.
+///
+/// # Errors
+///
+/// `Stream` where the stream breaks a rule, with the samples of the fragments listed that were accepted before; `Read` and
+/// `Write` where an end has failed, with a prefix of the listing written; `OverLimit` and `Memory` where a claim was refused,
+/// with exactly the samples before that listed.
+pub fn samples<R: Source, W: Sink>(
+    r: &mut R,
+    w: &mut W,
+    ledger: &mut Ledger,
+    copy: u32,
+    totals: &mut Totals,
+) -> Result<(), Stop>
+    requires copy { (4096 ≤ copy) × (copy ≤ 1048576) }
+    requires idle { ledger.old.live ≡ 0 }
+    ensures runs { ReadsFragments Samples (between
+        (received R.remaining R.has_ended R.has_failed r.old r.new)
+        (sent W.contents W.has_failed w.old w.new))
+        (record { copy = copy; limit = ledger.old.limit; peak = ledger.new.peak })
+        totals.new result }
+    ensures within { ledger.new.peak ≤ ledger.old.limit }
+    ensures back { (ledger.new.live ≡ 0) × (ledger.new.limit ≡ ledger.old.limit) }
+    ensures peak { totals.new.peak ≡ ledger.new.peak }
+{
+    run_fragments(Command::Samples, r, w, ledger, copy, totals)
+}
+
+/// Checks a fragmented stream, and counts its fragments, samples and bytes of media.
+///
+/// # Errors
+///
+/// As [`samples`], but nothing is written.
+pub fn check<R: Source>(
+    r: &mut R,
+    ledger: &mut Ledger,
+    copy: u32,
+    totals: &mut Totals,
+) -> Result<(), Stop>
+    requires copy { (4096 ≤ copy) × (copy ≤ 1048576) }
+    requires idle { ledger.old.live ≡ 0 }
+    ensures runs { ReadsFragments Check (between
+        (received R.remaining R.has_ended R.has_failed r.old r.new) unsent)
+        (record { copy = copy; limit = ledger.old.limit; peak = ledger.new.peak })
+        totals.new result }
+    ensures within { ledger.new.peak ≤ ledger.old.limit }
+    ensures back { (ledger.new.live ≡ 0) × (ledger.new.limit ≡ ledger.old.limit) }
+    ensures peak { totals.new.peak ≡ ledger.new.peak }
+{
+    run_fragments(Command::Check, r, &mut Silent, ledger, copy, totals)
+}
+
+/// Reads the fragments of a stream for a command.
+fn run_fragments<R: Source, W: Sink>(
+    command: Command,
+    r: &mut R,
+    w: &mut W,
+    ledger: &mut Ledger,
+    copy: u32,
+    totals: &mut Totals,
+) -> Result<(), Stop>
+    requires copy { (4096 ≤ copy) × (copy ≤ 1048576) }
+    requires idle { ledger.old.live ≡ 0 }
+    ensures runs { ReadsFragments command (between
+        (received R.remaining R.has_ended R.has_failed r.old r.new)
+        (sent W.contents W.has_failed w.old w.new))
+        (record { copy = copy; limit = ledger.old.limit; peak = ledger.new.peak })
+        totals.new result }
+    ensures within { ledger.new.peak ≤ ledger.old.limit }
+    ensures back { (ledger.new.live ≡ 0) × (ledger.new.limit ≡ ledger.old.limit) }
+    ensures peak { totals.new.peak ≡ ledger.new.peak }
+{
+    ledger.mark();
+    *totals = Totals::new();
+    let mut buf = match ledger.buf(u64::from(copy)) {
+        Ok(buf) => buf,
+        Err(refused) => return Err(Stop::of_refusal(refused)),
+    };
+    let mut machine = Machine::new(command);
+    let answer = read_fragments(r, w, ledger, buf.room_mut(copy as usize), &mut machine);
+    let tally = machine.tally();
+    totals.fragments = tally.fragments;
+    totals.samples = tally.samples;
+    totals.media_bytes = tally.media_bytes;
+    totals.rows_read = machine.rows_read();
+    machine.give_up(ledger);
+    ledger.back(buf);
+    totals.peak = ledger.peak();
+    answer
+}
+
+/// Reads the stream to its end into `copy`, which is all that is claimed, and feeds it to a machine to which no byte
+/// has come.
+fn read_fragments<R: Source, W: Sink>(
+    r: &mut R,
+    w: &mut W,
+    ledger: &mut Ledger,
+    copy: &mut [u8],
+    machine: &mut Machine,
+) -> Result<(), Stop>
+    requires some { 0 < length copy.old }
+    requires marked { ledger.old.peak ≡ ledger.old.live }
+    requires claimed { length copy.old ≡ ledger.old.live }
+    requires begins { machine.old ≡ begun machine.old.command }
+    ensures runs { Runs (reading machine.old.command) (between
+        (received R.remaining R.has_ended R.has_failed r.old r.new)
+        (sent W.contents W.has_failed w.old w.new))
+        (record { copy = ledger.old.live; limit = ledger.old.limit; peak = ledger.new.peak })
+        machine.new.counter.tally result }
+    ensures live { ledger.new.live ≡ ledger.old.live + claim_of (place_in machine.new) }
+    ensures limit { ledger.new.limit ≡ ledger.old.limit }
+{
+    let mut total: u64 = 0;
+    loop {
+        let n = match r.read(copy) {
+            Ok(0) => {
+                return match machine.finish() {
+                    Ok(()) => Ok(()),
+                    Err(fault) => Err(Stop::Stream(fault)),
+                };
+            }
+            Ok(n) => n,
+            Err(Failed) => return Err(Stop::Read { at: total }),
+        };
+        match machine.feed(ledger, &copy[..n], w) {
+            Ok(()) => total += n as u64,
+            Err(stop) => return Err(stop),
+        }
+    }
+}
