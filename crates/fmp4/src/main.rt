@@ -1,4 +1,4 @@
-//! Lists the boxes of an MP4 stream (ISO/IEC 14496-12), which is read from standard input.
+//! Lists the boxes or samples of an MP4 stream (ISO/IEC 14496-12), which is read from standard input, or checks it.
 #![tactic(auto)]
 
 #[cfg(test)]

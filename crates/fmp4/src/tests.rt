@@ -3,6 +3,7 @@
 ghost use Rattle.std.specs.Prelude.{◌≡◌, ◌<◌};
 
 mod ends;
+mod fragments;
 mod listings;
 mod memory;
 mod words;

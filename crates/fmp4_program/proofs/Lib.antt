@@ -1,3 +1,4 @@
 pub mod Numbers
 pub mod Understood
 pub mod CopySizes
+pub mod FlushLemmas

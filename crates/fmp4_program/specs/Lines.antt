@@ -1,10 +1,11 @@
--- What the program says of a stop, on its fault writer.
+-- What the program says of a stop, on its fault writer, and of a stream that it has checked.
 use Rattle.std.specs.Prelude.{◌++◌, ℕ, List, Option, Some, None, codes, map}
 use Rattle.std.specs.Fmt.{decimal}
 use Rattle.mp4_box.specs.Rules.{number_of, name_of}
 use Rattle.mp4_box.specs.Shown.{shown_byte}
 use Rattle.mp4_box.specs.declared.headers.FourCc.{FourCc}
 use Rattle.mp4_box.specs.declared.rules.Fault.{Fault}
+use Rattle.mp4_stream.specs.declared.run.Totals.{Totals}
 use Rattle.mp4_reading.specs.declared.stop.Stop.{Stop}
 use Rattle.mp4_reading.specs.declared.stop.Stop.TheVariants.{Stream, Read, Write, OverLimit, Memory}
 
@@ -26,3 +27,7 @@ stop_text (Read at) = codes "read failed at " ++ decimal at
 stop_text Write = codes "write failed"
 stop_text OverLimit = codes "over the limit"
 stop_text Memory = codes "out of memory"
+
+-- how many fragments, samples and bytes of media a stream has, and the most bytes that were claimed at once
+abbrev pub check_text : Totals → List ℕ
+check_text t = codes "fragments=" ++ decimal t.fragments ++ codes " samples=" ++ decimal t.samples ++ codes " media=" ++ decimal t.media_bytes ++ codes " held=" ++ decimal t.peak ++ codes "\n"

@@ -1,17 +1,20 @@
 -- What a run of the program does.
-use Rattle.std.specs.Prelude.{◌≡◌, ◌⊎◌, ◌≤◌, ℕ, Bool, false, List, codes, Option, None, Some, OnOk, Result, Ok, Err}
+use Rattle.std.specs.Prelude.{◌≡◌, ◌⊎◌, ◌≤◌, ℕ, Bool, true, false, List, codes, Option, None, Some, OnOk, Result, Ok, Err}
 use Rattle.std.specs.Io.KnownBytes.{Appends, Keeps}
 use Rattle.mp4_ends.specs.Streams.{AppendsPrefix}
 use Rattle.mp4_reading.specs.Readings.{uncounted}
 use Rattle.mp4_reading.specs.Ends.{Ends}
-use Rattle.mp4_reading.specs.Runs.{Runs}
+use Rattle.mp4_reading.specs.Runs.{Claims, Runs}
 use Rattle.mp4_reading.specs.declared.stop.Stop.{Stop}
 use Rattle.mp4_reading.specs.declared.stop.Stop.TheVariants.{Stream, Read, Write, OverLimit, Memory}
+use Rattle.mp4_items.specs.declared.command.Command.TheVariants as commands
 use Rattle.mp4_stream.specs.Boxes.{reading}
+use Rattle.mp4_stream.specs.Fragments.{ReadsFragments}
+use Rattle.mp4_stream.specs.declared.run.Totals.{Totals}
 use Rattle.fmp4_program.specs.declared.asked.Invocation.{Invocation}
-use Rattle.fmp4_program.specs.declared.asked.Invocation.TheVariants.{Boxes}
+use Rattle.fmp4_program.specs.declared.asked.Invocation.TheVariants.{Boxes, Samples, Check}
 use Rattle.fmp4_program.specs.declared.asked.Settings.{Settings}
-use Rattle.fmp4_program.specs.Lines.{line, stop_text}
+use Rattle.fmp4_program.specs.Lines.{check_text, line, stop_text}
 
 -- what is seen of a run: what the two ends of the stream tell, what the fault writer was given before and after, whether it has failed, and the exit status
 pub record Seen : Type 0 where
@@ -44,18 +47,43 @@ status_of (Err Write) = 3
 status_of (Err OverLimit) = 4
 status_of (Err Memory) = 4
 
--- the boxes are listed: a success is flushed, and the answer is that of the listing and the flush
-pub record ListsBoxes (settings : Settings) (seen : Seen) : Type 0 where
+-- a listing is written: a success is flushed, and the answer is that of the listing and the flush
+pub record Lists (settings : Settings) (seen : Seen) (listing : Claims → Result (Unit {0}) Stop → Type 0) : Type 0 where
   pub answer : Result (Unit {0}) Stop
   pub peak : ℕ
-  pub runs : Runs (reading 0) seen.ends (record { copy = settings.copy; limit = settings.max_held; peak = peak }) uncounted answer
+  pub runs : listing (record { copy = settings.copy; limit = settings.max_held; peak = peak }) answer
   pub within : peak ≤ settings.max_held
   pub flushed : OnOk answer (seen.ends.write_failed' ≡ false)
   pub exits : seen.status ≡ status_of answer
   pub tells : TellsOf seen.told seen.told' seen.fault_failed answer
 
+abbrev pub ListsBoxes : Settings → Seen → Type 0
+ListsBoxes settings seen = Lists settings seen (λ claims answer. Runs (reading 0) seen.ends claims uncounted answer)
+
+abbrev pub ListsSamples : Settings → Seen → Type 0
+ListsSamples settings seen = Lists settings seen (λ claims answer. (totals : Totals) × ReadsFragments commands.Samples seen.ends claims totals answer)
+
+-- behind a good stream its line is written and flushed; behind another nothing
+abbrev pub Writes : Ends → Result (Unit {0}) Stop → Result (Unit {0}) Stop → Totals → Type 0
+Writes ends (Ok _) (Ok _) totals = Appends ends.written ends.written' (check_text totals) × (ends.write_failed' ≡ false)
+Writes ends (Ok _) (Err stop) totals = AppendsPrefix ends.written ends.written' (check_text totals) × (stop ≡ Write) × (ends.write_failed' ≡ true)
+Writes ends (Err stop) answer totals = Keeps ends.written ends.written' × (answer ≡ Err stop)
+
+-- the stream is checked: what comes of it, and the answer with the line that is written
+pub record Checks (settings : Settings) (seen : Seen) : Type 0 where
+  pub checked : Result (Unit {0}) Stop
+  pub answer : Result (Unit {0}) Stop
+  pub totals : Totals
+  pub runs : ReadsFragments commands.Check (record seen.ends { written = None; written' = None; write_failed = false; write_failed' = false }) (record { copy = settings.copy; limit = settings.max_held; peak = totals.peak }) totals checked
+  pub within : totals.peak ≤ settings.max_held
+  pub writes : Writes seen.ends checked answer totals
+  pub exits : seen.status ≡ status_of answer
+  pub tells : TellsOf seen.told seen.told' seen.fault_failed answer
+
 abbrev pub Does : Invocation → Seen → Type 0
 Does (Boxes settings) seen = ListsBoxes settings seen
+Does (Samples settings) seen = ListsSamples settings seen
+Does (Check settings) seen = Checks settings seen
 
 -- ---- the program
 

@@ -8,7 +8,7 @@ use Rattle.clap.specs.Words.{App, Row, Rule, Text, fault_of, first_of, new_app, 
 use Rattle.clap.specs.declared.builder.action.ArgAction.TheVariants.{Set}
 use Rattle.fmp4_program.specs.declared.asked.Settings.{Settings}
 use Rattle.fmp4_program.specs.declared.asked.Invocation.{Invocation}
-use Rattle.fmp4_program.specs.declared.asked.Invocation.TheVariants.{Boxes}
+use Rattle.fmp4_program.specs.declared.asked.Invocation.TheVariants.{Boxes, Samples, Check}
 
 -- ---- which commands and options there are
 
@@ -22,7 +22,7 @@ settings_app name = with_rule (with_rule (new_app name) (valued_rule (codes "cop
 
 -- the whole command line; only a proof that computes it unfolds it
 unfoldable pub program_app : App
-program_app = with_subcommand (new_app (codes "fmp4")) (settings_app (codes "boxes")).top
+program_app = with_subcommand (with_subcommand (with_subcommand (new_app (codes "fmp4")) (settings_app (codes "boxes")).top) (settings_app (codes "samples")).top) (settings_app (codes "check")).top
 
 -- ---- numbers
 
@@ -51,11 +51,17 @@ settings_of rows =
 
 -- the command of that name, with what its options give
 unfoldable pub invocation_of : Text → List Row → Option Invocation
-invocation_of name rows = if bytes_eq name (codes "boxes") then option_map Boxes (settings_of rows) else None
+invocation_of name rows =
+    if bytes_eq name (codes "boxes") then option_map Boxes (settings_of rows)
+    else if bytes_eq name (codes "samples") then option_map Samples (settings_of rows)
+    else if bytes_eq name (codes "check") then option_map Check (settings_of rows)
+    else None
 
 -- the settings that came with a command
 abbrev pub carried_settings : Invocation → Settings
 carried_settings (Boxes settings) = settings
+carried_settings (Samples settings) = settings
+carried_settings (Check settings) = settings
 
 -- what the words ask for: nothing where they break a rule of the command line, or a number is out of its range
 unfoldable pub command_of : List Text → Option Invocation

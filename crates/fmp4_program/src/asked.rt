@@ -14,4 +14,8 @@ pub struct Settings {
 pub enum Invocation {
     /// List the boxes of the stream.
     Boxes(Settings),
+    /// List its samples.
+    Samples(Settings),
+    /// Check it, and count its fragments, samples and bytes of media.
+    Check(Settings),
 }

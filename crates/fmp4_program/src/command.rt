@@ -68,6 +68,12 @@ fn invocation_from(name: &str, matches: &ArgMatches<'_>) -> Option<Invocation>
     if name == "boxes" {
         return Some(Invocation::Boxes(settings_from(matches)?));
     }
+    if name == "samples" {
+        return Some(Invocation::Samples(settings_from(matches)?));
+    }
+    if name == "check" {
+        return Some(Invocation::Check(settings_from(matches)?));
+    }
     None
 }
 
@@ -102,7 +108,11 @@ fn program_command<'a>(alloc: Global) -> Result<Command<'a>, AllocError>
     ensures { IfOk result (λ command. app_of command ≡ program_app) }
 {
     let boxes = settings_command(alloc, "boxes")?;
-    Command::new(alloc, "fmp4").subcommand(boxes)
+    let samples = settings_command(alloc, "samples")?;
+    let check = settings_command(alloc, "check")?;
+    let listing_boxes = Command::new(alloc, "fmp4").subcommand(boxes)?;
+    let listing_samples = listing_boxes.subcommand(samples)?;
+    listing_samples.subcommand(check)
 }
 
 fn no_command_by(error: &Error) -> NoCommand

@@ -32,7 +32,13 @@ pub fn worked_words()
         "4611686018427387905" ∷ []) ≡ None }
 
     ensures no_command { command_of (codes "fmp4" ∷ []) ≡ None }
-    ensures other_command { command_of (codes "fmp4" ∷ codes "samples" ∷ []) ≡ None }
+    ensures samples { command_of (codes "fmp4" ∷ codes "samples" ∷ codes "--copy" ∷ codes "4096" ∷
+        []) ≡ Some (Invocation.Samples (record { copy = 4096; max_held = 536870912 })) }
+    ensures check { command_of (codes "fmp4" ∷ codes "check" ∷ codes "--max-held" ∷ codes "1" ∷
+        []) ≡ Some (Invocation.Check (record { copy = 65536; max_held = 1 })) }
+    ensures other_command { command_of (codes "fmp4" ∷ codes "tracks" ∷ []) ≡ None }
+    ensures sync { command_of (codes "fmp4" ∷ codes "samples" ∷ codes "--sync" ∷ []) ≡ None }
+    ensures index { command_of (codes "fmp4" ∷ codes "check" ∷ codes "--index" ∷ []) ≡ None }
     ensures other_option { command_of (codes "fmp4" ∷ codes "boxes" ∷ codes "--samples" ∷ codes "5"
         ∷ []) ≡ None }
     ensures help { command_of (codes "fmp4" ∷ codes "--help" ∷ []) ≡ None }

@@ -1,11 +1,11 @@
-//! The lines on the fault writer.
+//! The lines on the fault writer, and that of a stream that was checked.
 
 ghost use Rattle.std.specs.Prelude.{◌≡◌, ◌+◌, ◌≤◌, ◌++◌, codes, length};
 ghost use Rattle.std.specs.Fmt.{decimal};
-ghost use Rattle.fmp4_program.specs.Lines.{fault_text, kind_text, line, stop_text};
+ghost use Rattle.fmp4_program.specs.Lines.{check_text, fault_text, kind_text, line, stop_text};
 
 use mp4_lines::{LINE_CAPACITY, Line};
-use mp4_stream::{Fault, FourCc, Stop};
+use mp4_stream::{Fault, FourCc, Stop, Totals};
 
 /// The line of what stopped a run.
 pub fn stop_line(stop: &Stop) -> Line
@@ -54,6 +54,23 @@ fn read_line(at: u64) -> Line
     let mut line = Line::new();
     line.push_bytes(b"fmp4: read failed at ");
     line.push_decimal(at);
+    line.push_bytes(b"\n");
+    line
+}
+
+/// The line of a stream that was checked, as `fragments=1 samples=3 media=15 held=65944`.
+pub fn check_line(totals: &Totals) -> Line
+    ensures { result ≡ check_text totals.now }
+{
+    let mut line = Line::new();
+    line.push_bytes(b"fragments=");
+    line.push_decimal(totals.fragments);
+    line.push_bytes(b" samples=");
+    line.push_wide_decimal(totals.samples);
+    line.push_bytes(b" media=");
+    line.push_decimal(totals.media_bytes);
+    line.push_bytes(b" held=");
+    line.push_decimal(totals.peak);
     line.push_bytes(b"\n");
     line
 }

@@ -1,17 +1,21 @@
 //! A run of the program.
 
-ghost use Rattle.std.specs.Prelude.{◌≡◌, ◌≤◌, false, map, string_bytes, OnOk};
+ghost use Rattle.std.specs.Prelude.{◌≡◌, ◌≤◌, true, false, map, string_bytes, Result, IfErr, OnOk, OnErr};
 ghost use Rattle.mp4_reading.specs.Ends.{between, received, sent};
 ghost use Rattle.mp4_reading.specs.Readings.{uncounted};
 ghost use Rattle.mp4_reading.specs.Runs.{Runs};
+ghost use Rattle.mp4_items.specs.declared.command.Command.TheVariants as commands;
+ghost use Rattle.mp4_ends.specs.Streams.{AppendsPrefix};
+ghost use Rattle.std.specs.Io.KnownBytes.{Appends, Keeps};
 ghost use Rattle.mp4_stream.specs.Boxes.{reading};
+ghost use Rattle.mp4_stream.specs.Fragments.{ReadsFragments, unsent};
 ghost use Rattle.fmp4_program.specs.Words.{command_of};
-ghost use Rattle.fmp4_program.specs.Runs.{Ran, Tells, TellsOf, status_of};
+ghost use Rattle.fmp4_program.specs.Runs.{Ran, Tells, TellsOf, Writes, status_of};
 
 use crate::asked::Invocation;
 use crate::command::{NoCommand, read_words};
-use crate::lines::stop_line;
-use mp4_stream::{Ledger, Sink, Source, Stop, Totals, boxes, write_all};
+use crate::lines::{check_line, stop_line};
+use mp4_stream::{Ledger, Sink, Source, Stop, Totals, boxes, check, samples, write_all};
 use std::alloc::Global;
 
 /// Runs the command that the words name, the first of which is the program's name. Bytes are read from `r`,
@@ -46,9 +50,20 @@ pub fn run<R: Source, W: Sink, F: Sink>(
             return 4;
         }
     };
-    let Invocation::Boxes(settings) = asked;
-    let mut ledger = Ledger::new(alloc, settings.max_held);
-    let answer = list_boxes(r, w, &mut ledger, settings.copy);
+    let answer = match asked {
+        Invocation::Boxes(settings) => {
+            let mut ledger = Ledger::new(alloc, settings.max_held);
+            list_boxes(r, w, &mut ledger, settings.copy)
+        }
+        Invocation::Samples(settings) => {
+            let mut ledger = Ledger::new(alloc, settings.max_held);
+            list_samples(r, w, &mut ledger, settings.copy)
+        }
+        Invocation::Check(settings) => {
+            let mut ledger = Ledger::new(alloc, settings.max_held);
+            check_stream(r, w, &mut ledger, settings.copy)
+        }
+    };
     tell_answer(fault_w, &answer);
     status_for(&answer)
 }
@@ -71,11 +86,80 @@ fn list_boxes<R: Source, W: Sink>(
     ensures flushed { OnOk result (W.has_failed w.new ≡ false) }
 {
     match boxes(r, w, ledger, copy, &mut Totals::new()) {
-        Ok(()) => match w.flush() {
-            Ok(()) => Ok(()),
-            Err(_) => Err(Stop::Write),
-        },
+        Ok(()) => flush(w),
         Err(stop) => Err(stop),
+    }
+}
+
+/// Lists the samples of the stream, and flushes the listing.
+fn list_samples<R: Source, W: Sink>(
+    r: &mut R,
+    w: &mut W,
+    ledger: &mut Ledger,
+    copy: u32,
+) -> Result<(), Stop>
+    requires copy { (4096 ≤ copy) × (copy ≤ 1048576) }
+    requires idle { ledger.old.live ≡ 0 }
+    ensures runs { (totals : Totals) × ReadsFragments commands.Samples (between
+        (received R.remaining R.has_ended R.has_failed r.old r.new)
+        (sent W.contents W.has_failed w.old w.new))
+        (record { copy = copy; limit = ledger.old.limit; peak = ledger.new.peak }) totals result }
+    ensures within { ledger.new.peak ≤ ledger.old.limit }
+    ensures flushed { OnOk result (W.has_failed w.new ≡ false) }
+{
+    match samples(r, w, ledger, copy, &mut Totals::new()) {
+        Ok(()) => flush(w),
+        Err(stop) => Err(stop),
+    }
+}
+
+/// Checks the stream, and writes and flushes the line of what it counted.
+fn check_stream<R: Source, W: Sink>(
+    r: &mut R,
+    w: &mut W,
+    ledger: &mut Ledger,
+    copy: u32,
+) -> Result<(), Stop>
+    requires copy { (4096 ≤ copy) × (copy ≤ 1048576) }
+    requires idle { ledger.old.live ≡ 0 }
+    ensures checks { (checked : Result (Unit {0}) Stop) × (totals : Totals) ×
+        ReadsFragments commands.Check (between
+        (received R.remaining R.has_ended R.has_failed r.old r.new) unsent)
+        (record { copy = copy; limit = ledger.old.limit; peak = totals.peak }) totals checked ×
+        (totals.peak ≤ ledger.old.limit) × Writes (between
+        (received R.remaining R.has_ended R.has_failed r.old r.new)
+        (sent W.contents W.has_failed w.old w.new)) checked result totals }
+{
+    let mut totals = Totals::new();
+    match check(r, ledger, copy, &mut totals) {
+        Ok(()) => send(w, check_line(&totals).bytes()),
+        Err(stop) => Err(stop),
+    }
+}
+
+/// Writes these bytes and flushes them.
+fn send<W: Sink>(w: &mut W, text: &[u8]) -> Result<(), Stop>
+    ensures ok { OnOk result (Appends (W.contents w.old) (W.contents w.new) text.now) }
+    ensures whole { OnOk result (W.has_failed w.new ≡ false) }
+    ensures err { OnErr result (AppendsPrefix (W.contents w.old) (W.contents w.new) text.now) }
+    ensures failed { OnErr result (W.has_failed w.new ≡ true) }
+    ensures write { IfErr result (λ e. e ≡ Stop.Write) }
+{
+    match write_all(w, text) {
+        Ok(()) => flush(w),
+        Err(_) => Err(Stop::Write),
+    }
+}
+
+/// Flushes what was written.
+fn flush<W: Sink>(w: &mut W) -> Result<(), Stop>
+    ensures bytes { Keeps (W.contents w.old) (W.contents w.new) }
+    ensures ok { OnOk result ((W.has_failed w.old ≡ false) × (W.has_failed w.new ≡ false)) }
+    ensures err { IfErr result (λ e. (e ≡ Stop.Write) × (W.has_failed w.new ≡ true)) }
+{
+    match w.flush() {
+        Ok(()) => Ok(()),
+        Err(_) => Err(Stop::Write),
     }
 }
 

@@ -1,5 +1,5 @@
--- What the commands tell grows with the bytes, and asks for nothing beside the items.
-use Rattle.std.proofs.Common.{refl}
+-- What the commands tell grows with the bytes, asks for nothing beside the items, and counts no more samples than these have.
+use Rattle.std.proofs.Common.{arith, refl}
 use Rattle.mp4_reading.specs.Readings.{silent}
 use Rattle.mp4_reading.proofs.ReadingGrowthLemmas.{TellsMore-silent}
 use Rattle.mp4_items.specs.Commands.{making}
@@ -7,6 +7,7 @@ use Rattle.mp4_items.specs.Makings.{IsGrowing}
 use Rattle.mp4_items.specs.declared.command.Command.{Command}
 use Rattle.mp4_items.specs.declared.command.Command.TheVariants.{Samples, Check}
 use Rattle.mp4_items.proofs.ItemAskLemmas.{IsQuiet}
+use Rattle.mp4_items.proofs.WalkLemmas.{CountsSamplesOnce}
 
 pub making-growing : (command : Command) → IsGrowing (making command)
 making-growing command = record {
@@ -17,3 +18,7 @@ making-growing command = record {
 pub making-quiet : (command : Command) → IsQuiet (making command)
 making-quiet Samples = record { accepted = λ f. refl; media = λ f b. refl; passed = λ kind b. refl }
 making-quiet Check = record { accepted = λ f. refl; media = λ f b. refl; passed = λ kind b. refl }
+
+pub making-once : (command : Command) → CountsSamplesOnce (making command)
+making-once Samples = record { accepted = λ f. omega arith; media = λ f b. refl; passed = λ kind b. refl }
+making-once Check = record { accepted = λ f. omega arith; media = λ f b. refl; passed = λ kind b. refl }

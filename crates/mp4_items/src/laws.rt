@@ -61,3 +61,9 @@ pub fn asks_bound()
     ensures { (command : Command) (b : List ℕ) → IsBytes b →
         most_of (reading command b).told ≤ most_moov + 5 * most_moof }
 {}
+
+/// All samples that are counted were looked at.
+pub fn samples_are_walked()
+    ensures { (command : Command) (b : List ℕ) →
+        (reading command b).told.tally.samples ≤ (reading command b).told.tally.walked }
+{}

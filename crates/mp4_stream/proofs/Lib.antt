@@ -6,3 +6,4 @@ pub mod HoldingLemmas
 pub mod ListingLemmas
 pub mod JoinLemmas
 pub mod RestLemmas
+pub mod FragmentLemmas

@@ -1,6 +1,7 @@
-//! The boxes of a stream, and the engine that reads it as it comes.
+//! Runs over a stream: its boxes, its samples, and whether it breaks a rule.
 //!
 //! - [`run`]: [`boxes`], which lists the boxes of a stream, and [`Totals`];
+//! - [`fragments`]: [`samples`] and [`check`], which read its fragments by the machine of `mp4_feed`;
 //! - [`machine`]: what is fed the stream piece by piece, [`intake`]: how it takes headers and boxes that are held, and
 //!   [`phase`]: where it is in the stream;
 //! - [`held`]: a moov or moof in claimed memory, and [`listing`]: the line of a box, and those of a tree of boxes;
@@ -8,7 +9,8 @@
 //!
 //! The definitions: `specs/Boxes.antt` (what the bytes of a stream are read as) with `specs/Holding.antt` (the boxes that
 //! are held) and `specs/Listing.antt` (the lines), `specs/Joined.antt` (whole boxes one after the other, of which the
-//! laws speak), `specs/Places.antt` (where the machine is in a stream, and what that means). What a run answers, writes
+//! laws speak), `specs/Places.antt` (where the machine is in a stream, and what that means), `specs/Fragments.antt` (what a run brings that
+//! reads fragments). What a run answers, writes
 //! and claims is said by `mp4_reading`, in `specs/Runs.antt`.
 #![tactic(auto)]
 

@@ -33,7 +33,7 @@ fn bad_words(rt: HostRuntime) -> Result<(), Fail> {
         &["fmp4", "boxes", "more"],
         &["fmp4", "boxes", "--max-held", "0"],
         &["fmp4", "boxes", "--max-held", "4611686018427387905"],
-        &["fmp4", "samples"],
+        &["fmp4", "samples", "--sync"],
         &["fmp4", "split", "--samples", "2"],
         &["fmp4", "--help"],
         &["fmp4", "help"],

@@ -15,8 +15,40 @@ returns-then-eq-clause-value c =
     let is_boxes : bytes_eq c.args.name.now (codes "boxes") ≡ true = search rules in
     rw (is_boxes, ← c.in_ok-settings_from.ensures.value) refl
 
+pub returns-in_err-settings_from-2-clause-value : goal.returns-in_err-settings_from-2-clause-value
+unfolding invocation_of
+returns-in_err-settings_from-2-clause-value c =
+    let not_boxes : bytes_eq c.args.name.now (codes "boxes") ≡ false = search rules in
+    let is_samples : bytes_eq c.args.name.now (codes "samples") ≡ true = search rules in
+    rw (not_boxes, is_samples, ← c.in_err-settings_from-2.ensures.value) (search rules)
+
+pub returns-then-eq-2-clause-value : goal.returns-then-eq-2-clause-value
+unfolding invocation_of
+returns-then-eq-2-clause-value c =
+    let not_boxes : bytes_eq c.args.name.now (codes "boxes") ≡ false = search rules in
+    let is_samples : bytes_eq c.args.name.now (codes "samples") ≡ true = search rules in
+    rw (not_boxes, is_samples, ← c.in_ok-settings_from-2.ensures.value) refl
+
+pub returns-in_err-settings_from-3-clause-value : goal.returns-in_err-settings_from-3-clause-value
+unfolding invocation_of
+returns-in_err-settings_from-3-clause-value c =
+    let not_boxes : bytes_eq c.args.name.now (codes "boxes") ≡ false = search rules in
+    let not_samples : bytes_eq c.args.name.now (codes "samples") ≡ false = search rules in
+    let is_check : bytes_eq c.args.name.now (codes "check") ≡ true = search rules in
+    rw (not_boxes, not_samples, is_check, ← c.in_err-settings_from-3.ensures.value) (search rules)
+
+pub returns-then-eq-3-clause-value : goal.returns-then-eq-3-clause-value
+unfolding invocation_of
+returns-then-eq-3-clause-value c =
+    let not_boxes : bytes_eq c.args.name.now (codes "boxes") ≡ false = search rules in
+    let not_samples : bytes_eq c.args.name.now (codes "samples") ≡ false = search rules in
+    let is_check : bytes_eq c.args.name.now (codes "check") ≡ true = search rules in
+    rw (not_boxes, not_samples, is_check, ← c.in_ok-settings_from-3.ensures.value) refl
+
 pub returns-clause-value : goal.returns-clause-value
 unfolding invocation_of
 returns-clause-value c =
     let not_boxes : bytes_eq c.args.name.now (codes "boxes") ≡ false = search rules in
-    rw not_boxes refl
+    let not_samples : bytes_eq c.args.name.now (codes "samples") ≡ false = search rules in
+    let not_check : bytes_eq c.args.name.now (codes "check") ≡ false = search rules in
+    rw (not_boxes, not_samples, not_check) refl

@@ -58,3 +58,19 @@ returns-clause-held_too_small c = refl
 pub returns-clause-held_too_large : goal.returns-clause-held_too_large
 unfolding clap_on_literals program_app command_of invocation_of settings_of number_or number_in
 returns-clause-held_too_large c = refl
+
+pub returns-clause-samples : goal.returns-clause-samples
+unfolding clap_on_literals program_app command_of invocation_of settings_of number_or number_in
+returns-clause-samples c = refl
+
+pub returns-clause-check : goal.returns-clause-check
+unfolding clap_on_literals program_app command_of invocation_of settings_of number_or number_in
+returns-clause-check c = refl
+
+pub returns-clause-sync : goal.returns-clause-sync
+unfolding clap_on_literals program_app command_of invocation_of settings_of number_or number_in
+returns-clause-sync c = refl
+
+pub returns-clause-index : goal.returns-clause-index
+unfolding clap_on_literals program_app command_of invocation_of settings_of number_or number_in
+returns-clause-index c = refl

@@ -5,6 +5,7 @@ use Rattle.mp4_reading.proofs.RunLemmas.{Runs-same, idle-stops}
 use Rattle.mp4_items.specs.Commands.{making, reading}
 use Rattle.mp4_items.specs.Contexts.{first_context}
 use Rattle.mp4_feed.proofs.HeadLemmas.{reads-none}
+use Rattle.mp4_stream.proofs.FragmentLemmas.{all_walked}
 use Rattle.mp4_stream.proofs.fragments.run_fragments.Goals as goal
 
 pub returns-in-Err-clause-runs : goal.returns-in-Err-clause-runs
@@ -18,6 +19,7 @@ returns-in-Err-clause-runs g c =
           (λ e. omega (arith, within_limit c.args.ledger.now.limit (c.args.ledger.now.live + c.from.result) (ap Err e) refused.over_limit.1, copy));
       some = omega arith;
       few = omega arith;
+      all = tt;
     })
 
 pub returns-clause-runs : goal.returns-clause-runs
@@ -26,9 +28,11 @@ returns-clause-runs g c =
     let limit : c.buf.new.self.limit ≡ c.args.ledger.now.limit = ap (λ a. a.limit) c.in-Ok.ensures.ok ∙ ap (λ a. a.limit) c.mark.ensures in
     let peak : c.back.new.self.peak ≡ c.read_fragments-answer.new.ledger.peak = rw (c.back.ensures, c.give_up.ensures) refl in
     let walked = ap (λ t. t.walked) c.tally-tally.ensures in
+    let ran = rw (c.new-machine.ensures, ← c.tally-tally.ensures) at c.read_fragments-answer.ensures.runs in
     record {
       walked = c.tally-tally.result.walked;
-      runs = Runs-same live limit (sym peak) (rw (c.new-machine.ensures, ← c.tally-tally.ensures) at c.read_fragments-answer.ensures.runs);
+      runs = Runs-same live limit (sym peak) ran;
       some = omega (arith, walked, c.rows_read-totals.ensures.some);
       few = omega (arith, walked, c.rows_read-totals.ensures.few);
+      all = all_walked c.args.command c.rows_read-totals.result c.read_fragments-answer.result ran (omega (arith, walked, c.rows_read-totals.ensures.some));
     }

@@ -1,0 +1,134 @@
+//! Samples that are listed, and streams that are checked.
+
+use super::{Given, check_run, check_words};
+use mp4_stream::vectors::V1;
+use std::alloc::Global;
+use std::process::Abort;
+use std::test::Fail;
+
+/// The samples of the first vector.
+const SAMPLES: [&str; 3] = [
+    "track=1 dts=0 cts=0 dur=1024 size=5 flags=02000000 sync desc=1 at=468\n",
+    "track=1 dts=1024 cts=1024 dur=1024 size=7 flags=02000000 sync desc=1 at=473\n",
+    "track=1 dts=2048 cts=2048 dur=1024 size=3 flags=02000000 sync desc=1 at=480\n",
+];
+
+/// What it comes to.
+const COUNTS: &str = "fragments=1 samples=3 media=15 held=65944\n";
+
+const HEADER_TO_END: &[u8] = b"\0\0\0\0mdat";
+
+/// A stream whose samples are these, and that breaks no rule.
+fn check_sound(
+    rt: &impl Abort,
+    alloc: Global,
+    parts: &[&[u8]],
+    lines: &[&str],
+    counts: &str,
+) -> Result<(), Fail> {
+    check_words(rt, alloc, &["fmp4", "samples"], parts, 0, lines, "")?;
+    check_words(rt, alloc, &["fmp4", "check"], parts, 0, &[counts], "")
+}
+
+/// A stream with this fault, before which these samples are listed.
+fn check_fault(
+    rt: &impl Abort,
+    alloc: Global,
+    parts: &[&[u8]],
+    lines: &[&str],
+    fault: &str,
+) -> Result<(), Fail> {
+    check_words(rt, alloc, &["fmp4", "samples"], parts, 2, lines, fault)?;
+    check_words(rt, alloc, &["fmp4", "check"], parts, 2, &[], fault)
+}
+
+#[test]
+fn sound_streams(rt: HostRuntime) -> Result<(), Fail> {
+    let (alloc, v1) = (rt.alloc(), V1.as_slice());
+    check_sound(&rt, alloc, &[v1], &SAMPLES, COUNTS)?;
+    let to_end = [&v1[..460], HEADER_TO_END, &v1[468..]];
+    check_sound(&rt, alloc, &to_end, &SAMPLES, COUNTS)?;
+    let none = "fragments=0 samples=0 media=0 held=65536\n";
+    check_sound(&rt, alloc, &[], &[], none)
+}
+
+#[test]
+fn boxes_out_of_place(rt: HostRuntime) -> Result<(), Fail> {
+    let (alloc, v1) = (rt.alloc(), V1.as_slice());
+    let (start, moov, moof, mdat) = (&v1[..20], &v1[20..364], &v1[364..460], &v1[460..]);
+    let fault = "fmp4: 3 NoMoov in moof at 20\n";
+    check_fault(&rt, alloc, &[start, moof, mdat], &[], fault)?;
+    let fault = "fmp4: 4 SecondMoov in moov at 364\n";
+    check_fault(&rt, alloc, &[start, moov, moov], &[], fault)?;
+    let fault = "fmp4: 5 StrayMdat in mdat at 364\n";
+    check_fault(&rt, alloc, &[start, moov, mdat], &[], fault)?;
+    let fault = "fmp4: 6 MdatMissing in moof at 364\n";
+    check_fault(&rt, alloc, &[start, moov, moof], &[], fault)?;
+    check_fault(&rt, alloc, &[start, moov, moof, start], &[], fault)?;
+    let fault = "fmp4: 2 BadSize in mdat at 460\n";
+    let bad = [start, moov, moof, b"\0\0\0\x07mdat".as_slice()];
+    check_fault(&rt, alloc, &bad, &[], fault)
+}
+
+#[test]
+fn media_at_fault(rt: HostRuntime) -> Result<(), Fail> {
+    let (alloc, v1) = (rt.alloc(), V1.as_slice());
+    let cut = "fmp4: 1 Truncated in mdat at 460\n";
+    check_fault(&rt, alloc, &[&v1[..482]], &SAMPLES, cut)?;
+    // An mdat that goes to the end of the stream must have the bytes that the runs need.
+    let to_end = [&v1[..460], HEADER_TO_END, &v1[468..482]];
+    check_fault(&rt, alloc, &to_end, &SAMPLES, cut)?;
+    let cut = "fmp4: 1 Truncated in (none) at 460\n";
+    check_fault(&rt, alloc, &[&v1[..467]], &[], cut)?;
+    // The header is longer by eight bytes, so the run begins within it.
+    let long = [
+        &v1[..460],
+        b"\0\0\0\x01mdat\0\0\0\0\0\0\0\x1f".as_slice(),
+        &v1[468..],
+    ];
+    check_fault(&rt, alloc, &long, &[], "fmp4: 22 RunPlace in trun at 428\n")
+}
+
+#[test]
+fn limits_of_fragments(rt: HostRuntime) -> Result<(), Fail> {
+    let (alloc, v1) = (rt.alloc(), [V1.as_slice()]);
+    let enough = ["fmp4", "samples", "--max-held", "65944"];
+    check_words(&rt, alloc, &enough, &v1, 0, &SAMPLES, "")?;
+    let enough = ["fmp4", "check", "--max-held", "65944"];
+    check_words(&rt, alloc, &enough, &v1, 0, &[COUNTS], "")?;
+    let over = "fmp4: over the limit\n";
+    for command in ["samples", "check"] {
+        let few = ["fmp4", command, "--max-held", "65943"];
+        check_words(&rt, alloc, &few, &v1, 4, &[], over)?;
+        let few = ["fmp4", command, "--max-held", "100"];
+        check_words(&rt, alloc, &few, &v1, 4, &[], over)?;
+    }
+    Ok(())
+}
+
+#[test]
+fn failing_ends_of_fragments(rt: HostRuntime) -> Result<(), Fail> {
+    let (alloc, v1) = (rt.alloc(), V1.as_slice());
+    let mut given = Given::ample(&v1[..470], 7);
+    given.fails = true;
+    let mut listing = Vec::new(alloc);
+    for line in SAMPLES {
+        listing.extend_from_slice(line.as_bytes())?;
+    }
+    let failed = b"fmp4: read failed at 470\n";
+    check_run(&rt, alloc, &["fmp4", "samples"], given, 3, &listing, failed)?;
+    check_run(&rt, alloc, &["fmp4", "check"], given, 3, b"", failed)?;
+    let failed = b"fmp4: write failed\n";
+    let mut given = Given::ample(v1, 483);
+    given.room = 100;
+    let front = &listing[..listing.len().min(100)];
+    check_run(&rt, alloc, &["fmp4", "samples"], given, 3, front, failed)?;
+    given.room = 20;
+    let front = &COUNTS.as_bytes()[..COUNTS.len().min(20)];
+    check_run(&rt, alloc, &["fmp4", "check"], given, 3, front, failed)?;
+    let mut given = Given::ample(v1, 483);
+    given.flushes = false;
+    let counts = COUNTS.as_bytes();
+    check_run(&rt, alloc, &["fmp4", "samples"], given, 3, &listing, failed)?;
+    check_run(&rt, alloc, &["fmp4", "check"], given, 3, counts, failed)
+}

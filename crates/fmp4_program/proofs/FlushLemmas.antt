@@ -1,0 +1,56 @@
+-- What a flush adds to a run that succeeded.
+use Rattle.std.proofs.Common.{◌≡◌, ◌∙◌, ◌+◌, ℕ, Bool, true, false, List, [], Option, Ok, Err, Result, append-nil, ap, arith, refl, subst, sym}
+use Rattle.std.specs.Io.KnownBytes.{Keeps}
+use Rattle.mp4_ends.proofs.StreamLemmas.{Appends-kept}
+use Rattle.mp4_reading.specs.Ends.{Ends}
+use Rattle.mp4_reading.specs.Readings.{AtMost, Reading}
+use Rattle.mp4_reading.specs.Runs.{Claims, Runs}
+use Rattle.std.specs.Prelude.{IfErr, OnOk}
+use Rattle.mp4_reading.specs.declared.stop.Stop.{Stop}
+use Rattle.mp4_reading.specs.declared.stop.Stop.TheVariants.{Write}
+use Rattle.mp4_reading.specs.declared.tally.Tally.{Tally}
+use Rattle.mp4_reading.proofs.ReadingAskLemmas.{AtMost-same}
+
+-- of an answer that is Ok nothing but that is said
+Runs-answer : {T : Type 0} {whole : List ℕ → Reading} {ends : Ends} {claims : Claims} {tally : Tally} {t x : T} → Runs {T = T} whole ends claims tally (Ok t) → Runs {T = T} whole ends claims tally (Ok x)
+Runs-answer r = record { bytes = r.bytes; given = r.given; prompt = r.prompt; comes = r.comes; kept = λ other. r.kept (λ e. absurd cc) }
+
+module _ {T : Type 0} {whole : List ℕ → Reading} {ends : Ends} {claims : Claims} {tally : Tally} {t : T} (u : Option (List ℕ)) (failed : Bool) (r : Runs {T = T} whole ends claims tally (Ok t)) (kept : Keeps ends.written' u) where
+  -- it was flushed
+  flushed : failed ≡ ends.write_failed' → Runs {T = T} whole (record ends { written' = u; write_failed' = failed }) claims tally (Ok t)
+  flushed same = record {
+    bytes = r.bytes;
+    given = r.given;
+    prompt = record { early = r.prompt.early; last = r.prompt.last; cut = r.prompt.cut; few = r.prompt.few; undecided = r.prompt.undecided };
+    comes = (record { text = Appends-kept ends.written ends.written' u _ r.comes.0.text kept; peak = r.comes.0.peak; tally = r.comes.0.tally }, r.comes.1, r.comes.2);
+    kept = λ other. same ∙ r.kept (λ e. absurd cc);
+  }
+
+  -- the flush failed
+  unflushed : failed ≡ true → Runs {T = T} whole (record ends { written' = u; write_failed' = failed }) claims tally (Err Write)
+  unflushed is = record {
+    bytes = r.bytes;
+    given = r.given;
+    prompt = record { early = r.prompt.early; last = r.prompt.last; cut = r.prompt.cut; few = r.prompt.few; undecided = r.prompt.undecided };
+    comes = (
+      record {
+        text = ((whole r.bytes).told.text, [], Appends-kept ends.written ends.written' u _ r.comes.0.text kept, sym (append-nil _));
+        least = omega (arith, r.comes.0.peak);
+        most = omega (arith, r.comes.0.peak);
+        counted = subst (AtMost tally) r.comes.0.tally (AtMost-same tally);
+      },
+      is,
+    );
+    kept = λ other. absurd (other refl);
+  }
+
+-- it was flushed, or the flush failed
+pub after_flush : {T : Type 0} {whole : List ℕ → Reading} {ends : Ends} {claims : Claims} {tally : Tally} {t : T} (u : Option (List ℕ)) (failed : Bool) (s : Result T Stop) → Runs {T = T} whole ends claims tally (Ok t) → Keeps ends.written' u
+    → OnOk s ((ends.write_failed' ≡ false) × (failed ≡ false)) → IfErr s (λ e. (e ≡ Write) × (failed ≡ true)) → Runs {T = T} whole (record ends { written' = u; write_failed' = failed }) claims tally s
+after_flush {T = T} {whole = whole} {ends = ends} {claims = claims} {tally = tally} u failed (Ok x) r kept good bad = Runs-answer (flushed u failed r kept (good.1 ∙ sym good.0))
+after_flush {T = T} {whole = whole} {ends = ends} {claims = claims} {tally = tally} u failed (Err e) r kept good bad = subst (λ k. Runs {T = T} whole (record ends { written' = u; write_failed' = failed }) claims tally (Err k)) (sym bad.0) (unflushed u failed r kept bad.1)
+
+-- what holds holds on Ok
+pub on_any : {T : Type 0} {P : Type 0} (s : Result T Stop) → P → OnOk s P
+on_any (Ok t) p = p
+on_any (Err e) p = tt
