@@ -19,6 +19,8 @@ use mp4_reading::{Held, Stop};
 /// # Errors
 ///
 /// `Stream` where it is at fault; `OverLimit` or `Memory` where the claim of the table is refused.
+// Its room is no part of the frame of its caller, which is made for each box.
+#[inline(never)]
 pub(crate) fn settle_moov(held: Held, ledger: &mut Ledger) -> Result<TrackList, Stop>
     requires begins { Begins held.size held.bytes }
     requires whole { length held.bytes ≡ held.size }

@@ -219,6 +219,8 @@ impl<const N: usize> Marks<N> {
 }
 
 /// The same with room for few track_IDs.
+// Its room is no part of the frame of its caller, which is made for each moof.
+#[inline(never)]
 #[tactic(auto, unfolding(crate::specs::Repeats::marks, crate::specs::Repeats::all_marked))]
 fn note_few(moof: &BoxRef<'_>, best: &mut Option<Fault>)
     ensures { best.new ≡ least_from best.old (repeat_faults (view moof.now)) }
@@ -231,6 +233,7 @@ fn note_few(moof: &BoxRef<'_>, best: &mut Option<Fault>)
 }
 
 /// The same with room for many.
+#[inline(never)]
 #[tactic(auto, unfolding(crate::specs::Repeats::marks, crate::specs::Repeats::all_marked))]
 fn note_many(moof: &BoxRef<'_>, best: &mut Option<Fault>)
     ensures { best.new ≡ least_from best.old (repeat_faults (view moof.now)) }
