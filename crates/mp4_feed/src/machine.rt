@@ -4,6 +4,7 @@ ghost use Rattle.std.specs.Prelude.{◌≡◌, ◌+◌, ◌*◌, ◌-◌, ◌<�
 ghost use Rattle.mp4_init.specs.declared.table.Track.{Track};
 ghost use Rattle.mp4_box.specs.declared.rules.Rule.TheVariants.{MdatMissing, Truncated};
 ghost use Rattle.mp4_box.specs.declared.headers.FourCc.{FourCc};
+ghost use Rattle.mp4_box.specs.Headers.{IsBytes};
 ghost use Rattle.mp4_ledger.specs.Memory.{given_back};
 ghost use Rattle.mp4_reading.specs.Bodies.{fault};
 ghost use Rattle.mp4_reading.specs.Ends.{sent};
@@ -92,6 +93,7 @@ impl Machine {
         ensures command { self.new.command ≡ self.old.command }
         ensures claim { claim_of (place_in self.new) ≤ ledger.new.live }
         ensures place { IsPlace (place_in self.new) }
+        ensures bytes { IsBytes piece.now }
         ensures empty { OnOk result (self.new.waiting ≡ []) }
         ensures spent { OnErr result (claim_of (place_in self.new) ≡ 0) }
     {

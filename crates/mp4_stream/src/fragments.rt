@@ -1,9 +1,11 @@
 //! Runs over a whole stream that read its fragments.
 
-ghost use Rattle.std.specs.Prelude.{◌≡◌, ◌+◌, ◌*◌, ◌<◌, ◌≤◌, [], length};
+ghost use Rattle.std.specs.Prelude.{◌≡◌, ◌+◌, ◌*◌, ◌<◌, ◌≤◌, [], length, IsErrOf};
 ghost use Rattle.mp4_feed.specs.Places.{claim_of};
 ghost use Rattle.mp4_feed.specs.States.{begun, place_in};
+ghost use Rattle.mp4_box.specs.Headers.{IsBytes};
 ghost use Rattle.mp4_items.specs.Commands.{reading};
+ghost use Rattle.mp4_items.specs.Kinds.{most_moof, most_moov};
 ghost use Rattle.mp4_items.specs.declared.command.Command.TheVariants.{Check, Samples};
 ghost use Rattle.mp4_reading.specs.Ends.{between, received, sent};
 ghost use Rattle.mp4_reading.specs.Runs.{Runs};
@@ -43,6 +45,9 @@ pub fn samples<R: Source, W: Sink>(
     ensures within { ledger.new.peak ≤ ledger.old.limit }
     ensures back { (ledger.new.live ≡ 0) × (ledger.new.limit ≡ ledger.old.limit) }
     ensures peak { totals.new.peak ≡ ledger.new.peak }
+    ensures bound { ledger.new.peak ≤ copy + (most_moov + 5 * most_moof) }
+    ensures enough { copy + (most_moov + 5 * most_moof) ≤ ledger.old.limit →
+        IsErrOf result Stop.OverLimit → ⊥ }
 {
     run_fragments(Command::Samples, r, w, ledger, copy, totals)
 }
@@ -67,6 +72,9 @@ pub fn check<R: Source>(
     ensures within { ledger.new.peak ≤ ledger.old.limit }
     ensures back { (ledger.new.live ≡ 0) × (ledger.new.limit ≡ ledger.old.limit) }
     ensures peak { totals.new.peak ≡ ledger.new.peak }
+    ensures bound { ledger.new.peak ≤ copy + (most_moov + 5 * most_moof) }
+    ensures enough { copy + (most_moov + 5 * most_moof) ≤ ledger.old.limit →
+        IsErrOf result Stop.OverLimit → ⊥ }
 {
     run_fragments(Command::Check, r, &mut Silent, ledger, copy, totals)
 }
@@ -90,6 +98,9 @@ fn run_fragments<R: Source, W: Sink>(
     ensures within { ledger.new.peak ≤ ledger.old.limit }
     ensures back { (ledger.new.live ≡ 0) × (ledger.new.limit ≡ ledger.old.limit) }
     ensures peak { totals.new.peak ≡ ledger.new.peak }
+    ensures bound { ledger.new.peak ≤ copy + (most_moov + 5 * most_moof) }
+    ensures enough { copy + (most_moov + 5 * most_moof) ≤ ledger.old.limit →
+        IsErrOf result Stop.OverLimit → ⊥ }
 {
     ledger.mark();
     *totals = Totals::new();
@@ -123,11 +134,11 @@ fn read_fragments<R: Source, W: Sink>(
     requires marked { ledger.old.peak ≡ ledger.old.live }
     requires claimed { length copy.old ≡ ledger.old.live }
     requires begins { machine.old ≡ begun machine.old.command }
-    ensures runs { Runs (reading machine.old.command) (between
+    ensures runs { (run : Runs (reading machine.old.command) (between
         (received R.remaining R.has_ended R.has_failed r.old r.new)
         (sent W.contents W.has_failed w.old w.new))
         (record { copy = ledger.old.live; limit = ledger.old.limit; peak = ledger.new.peak })
-        machine.new.counter.tally result }
+        machine.new.counter.tally result) × IsBytes run.bytes }
     ensures live { ledger.new.live ≡ ledger.old.live + claim_of (place_in machine.new) }
     ensures limit { ledger.new.limit ≡ ledger.old.limit }
 {

@@ -1,5 +1,6 @@
 use Rattle.std.proofs.Common.{◌≡◌, ◌≤◌, ◌+◌, ◌-◌, ◌^◌, List, ℕ, length, []}
 use Rattle.std.specs.Io.KnownBytes.{Consumes}
+use Rattle.mp4_box.specs.Headers.{IsBytes}
 use Rattle.mp4_reading.specs.Pieces.{IsFed}
 use Rattle.mp4_reading.specs.Readings.{uncounted}
 use Rattle.mp4_items.specs.Commands.{reading}
@@ -19,6 +20,7 @@ invariant-loop-machine g l =
       room : length l.copy ≡ l.initial.ledger.live;
       kept : g.W.Sink.has_failed l.w ≡ g.W.Sink.has_failed l.initial.w;
       total : l.total ≡ length b;
+      bytes : IsBytes b;
       bound : l.total ≤ 2 ^ 62 + 31;
     }
 

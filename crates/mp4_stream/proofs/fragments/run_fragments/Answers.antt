@@ -5,7 +5,7 @@ use Rattle.mp4_reading.proofs.RunLemmas.{Runs-same, idle-stops}
 use Rattle.mp4_items.specs.Commands.{making, reading}
 use Rattle.mp4_items.specs.Contexts.{first_context}
 use Rattle.mp4_feed.proofs.HeadLemmas.{reads-none}
-use Rattle.mp4_stream.proofs.FragmentLemmas.{all_walked}
+use Rattle.mp4_stream.proofs.FragmentLemmas.{all_walked, never_over, peak_bound}
 use Rattle.mp4_stream.proofs.fragments.run_fragments.Goals as goal
 
 pub returns-in-Err-clause-runs : goal.returns-in-Err-clause-runs
@@ -28,7 +28,7 @@ returns-clause-runs g c =
     let limit : c.buf.new.self.limit ≡ c.args.ledger.now.limit = ap (λ a. a.limit) c.in-Ok.ensures.ok ∙ ap (λ a. a.limit) c.mark.ensures in
     let peak : c.back.new.self.peak ≡ c.read_fragments-answer.new.ledger.peak = rw (c.back.ensures, c.give_up.ensures) refl in
     let walked = ap (λ t. t.walked) c.tally-tally.ensures in
-    let ran = rw (c.new-machine.ensures, ← c.tally-tally.ensures) at c.read_fragments-answer.ensures.runs in
+    let ran = rw (c.new-machine.ensures, ← c.tally-tally.ensures) at c.read_fragments-answer.ensures.runs.0 in
     record {
       walked = c.tally-tally.result.walked;
       runs = Runs-same live limit (sym peak) ran;
@@ -36,3 +36,16 @@ returns-clause-runs g c =
       few = omega (arith, walked, c.rows_read-totals.ensures.few);
       all = all_walked c.args.command c.rows_read-totals.result c.read_fragments-answer.result ran (omega (arith, walked, c.rows_read-totals.ensures.some));
     }
+
+pub returns-clause-bound : goal.returns-clause-bound
+returns-clause-bound g c =
+    let live : c.buf.new.self.live ≡ c.args.copy = omega (arith, ap (λ a. a.live) c.in-Ok.ensures.ok, ap (λ a. a.live) c.mark.ensures, c.from.ensures, c.requires.idle) in
+    let peak : c.back.new.self.peak ≡ c.read_fragments-answer.new.ledger.peak = rw (c.back.ensures, c.give_up.ensures) refl in
+    let most = peak_bound c.new-machine.result.command _ c.read_fragments-answer.result c.read_fragments-answer.ensures.runs.0 c.read_fragments-answer.ensures.runs.1 in
+    omega (arith, live, peak, most)
+
+pub returns-clause-enough : goal.returns-clause-enough
+returns-clause-enough g c = λ enough over.
+    let live : c.buf.new.self.live ≡ c.args.copy = omega (arith, ap (λ a. a.live) c.in-Ok.ensures.ok, ap (λ a. a.live) c.mark.ensures, c.from.ensures, c.requires.idle) in
+    let limit : c.buf.new.self.limit ≡ c.args.ledger.now.limit = ap (λ a. a.limit) c.in-Ok.ensures.ok ∙ ap (λ a. a.limit) c.mark.ensures in
+    never_over c.new-machine.result.command _ c.read_fragments-answer.result c.read_fragments-answer.ensures.runs.0 c.read_fragments-answer.ensures.runs.1 (omega (arith, live, limit, enough)) over
