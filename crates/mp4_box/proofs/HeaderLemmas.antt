@@ -1,6 +1,8 @@
 -- What is spelled as a header is read as it, and what is read as a header is spelled so.
 use Rattle.std.proofs.Common.{◌≡◌, ℕ, ◌+◌, ◌-◌, ◌^◌, ◌<◌, ◌≤◌, ◌==◌, ◌⊎◌, Bool, true, false, cond, ltb, List, [], ◌∷◌, ◌++◌, length, take, drop, Option, Some, None, refl, sym, ap, subst, ◌∙◌, append_assoc, arith, inl, inr, eq-eqb}
 use Rattle.std.specs.Str.{bytes_eq}
+use Rattle.std.specs.Prelude.{nat_eq}
+use Rattle.std.specs.Int.{from_be_bytes, to_be_bytes, w32}
 use Rattle.std.proofs.lemmas.Bool.{cases_lt, ltb-false, le-ltb, lt-ltb, cond-true, cond-false, false≢true}
 use Rattle.std.proofs.lemmas.Bool.Decides.{nat_tests, Decides-eqb}
 use Rattle.std.proofs.lemmas.List.{take_at, drop_at, take-append-le, drop-append-le, length-append, length-take, length-drop, drop-drop, get_or-drop, get_or-take, get_or_past}
@@ -14,7 +16,7 @@ use Rattle.mp4_box.specs.declared.headers.Size.{Size}
 use Rattle.mp4_box.specs.declared.headers.Size.TheVariants.{Exact, ToEnd}
 use Rattle.mp4_box.specs.declared.headers.Step.{Step}
 use Rattle.mp4_box.specs.declared.headers.Step.TheVariants.{More, Whole, BadSize}
-use Rattle.mp4_box.specs.Headers.{IsBytes, uuid, HasUser, HasRoom, user_bytes, Spells, Head, size_field, kind_field, has_user, is_long, need, user_field, stated_size, with_size, header_at}
+use Rattle.mp4_box.specs.Headers.{IsBytes, uuid, HasUser, HasRoom, user_bytes, Spells, Head, size_field, kind_field, has_user, is_long, need, user_field, stated_size, with_size, plain_header, header_at}
 
 abbrev pub mk : List ℕ → Option (List ℕ) → Size → ℕ → Header
 mk kind user size n = record { kind = record { 0 = kind }; user = user; size = size; header_len = n }
@@ -27,6 +29,22 @@ IsBytes-take n bytes h i =
     elim (cases_lt i n) [
       | inl lt ↦ rw (get_or-take n bytes i 0 lt) (h i)
       | inr le ↦ rw (get_or_past (take n bytes) i 0 (omega (arith, length-take n bytes))) (omega arith)
+    ]
+
+pub bool_is : (b : Bool) → (b ≡ true) ⊎ (b ≡ false)
+bool_is true = inl refl
+bool_is false = inr refl
+
+not_true : (b : Bool) → (b ≡ true → ⊥) → b ≡ false
+not_true true h = absurd (h refl)
+not_true false h = refl
+
+-- four bytes are those of their number
+pub same_number : (x y : List ℕ) (p q : ℕ) → length x ≡ 4 → length y ≡ 4 → IsBytes x → IsBytes y → p ≡ from_be_bytes w32 x → q ≡ from_be_bytes w32 y → nat_eq p q ≡ bytes_eq x y
+same_number x y p q m n fits too is are =
+    elim (bool_is (bytes_eq x y)) [
+      | inl same ↦ eq-eqb _ _ (is ∙ ap (from_be_bytes w32) ((bytes_eq-Decides x y).0 same) ∙ sym are) ∙ sym same
+      | inr other ↦ not_true _ (λ e. false≢true (sym other ∙ (bytes_eq-Decides x y).1 (sym (be_bytes_4 x p m fits is) ∙ ap (to_be_bytes w32) ((Decides-eqb _ _).0 e) ∙ be_bytes_4 y q n too are))) ∙ sym other
     ]
 
 -- headers with the same fields are one
@@ -45,14 +63,6 @@ parts a kind t p q =
       sym (drop-drop 4 4 (a ++ (kind ++ t))) ∙ ap (drop 4) back ∙ drop_at kind t 4 q,
       omega (arith, length-append a (kind ++ t), length-append kind t),
     )
-
-pub bool_is : (b : Bool) → (b ≡ true) ⊎ (b ≡ false)
-bool_is true = inl refl
-bool_is false = inr refl
-
-not_true : (b : Bool) → (b ≡ true → ⊥) → b ≡ false
-not_true true h = absurd (h refl)
-not_true false h = refl
 
 -- whether there is a user type, by the type
 abbrev given : Option (List ℕ) → Bool
@@ -160,6 +170,11 @@ short_is y kind rest user s n number type tail whole has len good =
     let stated : stated_size y ≡ s = cond-false (is_long y) (big_number 8 (drop 8 y)) (size_field y) long ∙ number in
     exactly y (omega (arith, need_n)) nonzero (omega (arith, need_n, stated))
     ∙ ap Whole (same_header (kind_field y) kind (user_field y) user (Exact (stated_size y)) (Exact s) (need y) n type given_user (ap Exact stated) need_n)
+
+-- the header of eight bytes that some bytes begin with
+pub plain_at : (x : List ℕ) → 8 ≤ length x → 8 ≤ size_field x → has_user x ≡ false → header_at x ≡ Whole (plain_header x)
+plain_at x long room none =
+    short_is x (kind_field x) (drop 8 x) None (size_field x) 8 refl refl refl long (λ e. absurd (false≢true (sym none ∙ (bytes_eq-Decides (kind_field x) uuid).1 e))) refl room
 
 long_is : (y kind rest : List ℕ) (user : Option (List ℕ)) (s n : ℕ) → size_field y ≡ 1 → kind_field y ≡ kind → big_number 8 (drop 8 y) ≡ s → drop 16 y ≡ user_bytes user ++ rest → n ≤ length y → HasUser kind user → n ≡ 16 + length (user_bytes user) → n ≤ s
     → header_at y ≡ Whole (mk kind user (Exact s) n)

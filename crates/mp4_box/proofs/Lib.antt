@@ -1,8 +1,10 @@
 pub mod HeaderLemmas
 pub mod HeaderAnswers
+pub mod BoxLemmas
 pub mod TreeLemmas
 pub mod GrammarLemmas
 pub mod OrderLemmas
 pub mod TreeOrderLemmas
 pub mod PathLemmas
 pub mod CheckLemmas
+pub mod SizeLemmas

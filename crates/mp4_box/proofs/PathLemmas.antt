@@ -1,7 +1,11 @@
 -- The boxes on a path, level by level.
 use Rattle.std.proofs.Common.{◌≡◌, ◌∙◌, ◌+◌, ◌-◌, ◌<◌, ◌==◌, ℕ, zero, suc, true, false, List, [], ◌∷◌, ◌++◌, length, take, drop, refl, sym, ap, arith, append-nil, append_assoc}
 use Rattle.std.proofs.lemmas.List.{length-append, length-drop, take_all}
+use Rattle.std.proofs.lemmas.Grind.{flat_map-append}
+use Rattle.std.specs.List.{flat_map}
 use Rattle.std.specs.Str.{bytes_eq}
+use Rattle.mp4_box.specs.declared.rules.Fault.{Fault}
+use Rattle.mp4_box.specs.Checks.{along}
 use Rattle.mp4_box.specs.declared.headers.FourCc.{FourCc}
 use Rattle.mp4_box.specs.Trees.{Box, children}
 use Rattle.mp4_box.specs.Paths.{of_kind, at_path, paths_below, left_on}
@@ -14,6 +18,24 @@ path_end (kind ∷ path) b e = absurd cc
 pub path_first : (kind : FourCc) (path : List FourCc) (b : Box) → at_path (kind ∷ path) b ≡ paths_below path (of_kind kind (children b))
 unfolding at_path
 path_first kind path b = refl
+
+-- what is at fault on a path, level by level
+flat_map_twice : {X Y Z : Type 0} (f : Y → List Z) (g : X → List Y) (xs : List X) → flat_map f (flat_map g xs) ≡ flat_map (λ x. flat_map f (g x)) xs
+flat_map_twice f g [] = refl
+flat_map_twice {X} {Y} {Z} f g (x ∷ xs) = flat_map-append f (g x) (flat_map g xs) ∙ ap (λ (zs : List Z). flat_map f (g x) ++ zs) (flat_map_twice f g xs)
+
+pub along_here : (faults : Box → List Fault) (path : List FourCc) (b : Box) → length path ≡ 0 → faults b ≡ along faults path b
+unfolding at_path
+along_here faults [] b e = sym (append-nil (faults b))
+along_here faults (kind ∷ path) b e = absurd cc
+
+pub along_below : (faults : Box → List Fault) (path : List FourCc) (kind : FourCc) (below : List FourCc) (b : Box) → path ≡ kind ∷ below
+    → flat_map (along faults below) (of_kind kind (children b)) ≡ along faults path b
+along_below faults path kind below b e =
+    sym (ap (λ (p : List FourCc). along faults p b) e ∙ ap (flat_map faults) (path_first kind below b) ∙ flat_map_twice faults (at_path below) (of_kind kind (children b)))
+
+pub path_below : (path : List FourCc) (kind : FourCc) (below : List FourCc) (b : Box) → path ≡ kind ∷ below → paths_below below (of_kind kind (children b)) ≡ at_path path b
+path_below path kind below b e = sym (ap (λ (p : List FourCc). at_path p b) e ∙ path_first kind below b)
 
 -- all that is left at first
 pub left_here : (path : List FourCc) (b : Box) (bs : List Box) → length path ≡ 0 → b ∷ left_on path (bs ∷ []) ≡ at_path path b

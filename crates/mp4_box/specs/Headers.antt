@@ -85,6 +85,10 @@ stated_size x = if is_long x then big_number 8 (drop 8 x) else size_field x
 abbrev pub with_size : List ℕ → Size → Header
 with_size x size = record { kind = record { 0 = kind_field x }; user = user_field x; size = size; header_len = need x }
 
+-- the header of eight bytes
+abbrev pub plain_header : List ℕ → Header
+plain_header x = record { kind = record { 0 = kind_field x }; user = None; size = Exact (size_field x); header_len = 8 }
+
 -- what the first bytes of a box come to
 unfoldable pub header_at : List ℕ → Step
 header_at x =

@@ -10,7 +10,6 @@ ghost use Rattle.mp4_box.specs.declared.rules.Fault.{Fault};
 use crate::box_ref::BoxRef;
 use crate::headers::FourCc;
 use crate::order::note;
-use crate::paths::Along;
 use crate::rules::{Fault, Rule};
 use crate::walk::Walk;
 
@@ -26,13 +25,19 @@ pub trait Check {
 
 /// Checks each box that the path of types leads to from this one: `best` is the first of the best so far and
 /// of what is at fault with these.
-#[tactic(auto, using(crate::proofs::OrderLemmas::least_from_append), unfolding(crate::specs::Order::least_from))]
+#[tactic(auto, using(crate::proofs::OrderLemmas::least_from_append, crate::proofs::PathLemmas::along_here, crate::proofs::PathLemmas::along_below), unfolding(crate::specs::Order::least_from))]
 pub fn note_along<C: Check>(check: &C, path: &[FourCc], this: &BoxRef<'_>, best: &mut Option<Fault>)
     requires { length path.now ≤ 8 }
     ensures { best.new ≡ least_from best.old (along (C.faults check.now) path.now (view this.now)) }
 {
-    for found in Along::of(path, this) {
-        check.note_at(&found, best);
+    let Some((kind, below)) = path.split_first() else {
+        check.note_at(this, best);
+        return;
+    };
+    for child in Walk::of(this) {
+        if child.header.kind.is(*kind) {
+            note_along(check, below, &child, best);
+        }
     }
 }
 
@@ -61,7 +66,7 @@ fn note_further(this: &BoxRef<'_>, kind: FourCc, best: &mut Option<Fault>) -> bo
 {
     let mut seen = false;
     for child in Walk::of(this) {
-        if child.header.kind.0.as_slice() == kind.0.as_slice() {
+        if child.header.kind.is(kind) {
             if seen {
                 note(best, child.fault(Rule::Twice));
             }

@@ -1,6 +1,7 @@
 //! The header of a box (ISO/IEC 14496-12, 4.2).
 
 ghost use Rattle.std.specs.Prelude.{◌≡◌, ◌+◌, ◌<◌, ◌≤◌, ◌↔◌, ◌⊎◌, ℕ, length, map, take, Ok, Err, IfOk, IfErr};
+ghost use Rattle.std.specs.Str.{bytes_eq};
 ghost use Rattle.mp4_box.specs.Headers.{BeginsWith, HasRoom, IfWhole, has_user, header_at, need, result_of};
 ghost use Rattle.mp4_box.specs.Shown.{shown_byte};
 ghost use Rattle.mp4_box.specs.declared.headers.Header.{Header};
@@ -15,6 +16,14 @@ use crate::rules::Rule;
 pub struct FourCc(pub [u8; 4]);
 
 impl FourCc {
+    /// Whether it is this type.
+    #[inline]
+    pub fn is(self, kind: FourCc) -> bool
+        ensures { result ≡ bytes_eq self.0 kind.0 }
+    {
+        are_same(self.0, kind.0)
+    }
+
     /// The type as it is printed: a byte that is no printing ASCII character is shown as `?`.
     pub fn shown(self) -> [u8; 4]
         ensures { result ≡ map shown_byte self.0 }
@@ -22,6 +31,14 @@ impl FourCc {
         let [a, b, c, d] = self.0;
         [shown(a), shown(b), shown(c), shown(d)]
     }
+}
+
+/// Whether four bytes are the same: one comparison of numbers.
+#[inline]
+fn are_same(bytes: [u8; 4], others: [u8; 4]) -> bool
+    ensures { result ≡ bytes_eq bytes others }
+{
+    u32::from_be_bytes(bytes) == u32::from_be_bytes(others)
 }
 
 fn shown(byte: u8) -> u8

@@ -91,7 +91,7 @@ fn next_on<'a>(
             *walk = outer;
             continue;
         };
-        if child.header.kind.0.as_slice() == kind.0.as_slice() {
+        if child.header.kind.is(*kind) {
             if below.is_empty() {
                 return Some(child);
             }
@@ -120,11 +120,22 @@ impl<'p, 'a> Iterator for Along<'p, 'a> {
 }
 
 /// The first box that a path of types leads to from this one.
+#[tactic(auto, using(crate::proofs::PathLemmas::path_end, crate::proofs::PathLemmas::path_below))]
 pub fn first_at<'a>(path: &[FourCc], this: &BoxRef<'a>) -> Option<BoxRef<'a>>
     requires { length path.now ≤ 8 }
     ensures { option_map view result ≡ first_of (at_path path.now (view this.now)) }
 {
-    Along::of(path, this).next()
+    let Some((kind, below)) = path.split_first() else {
+        return Some(*this);
+    };
+    for child in Walk::of(this) {
+        if child.header.kind.is(*kind) {
+            if let Some(found) = first_at(below, &child) {
+                return Some(found);
+            }
+        }
+    }
+    None
 }
 
 /// How many children of this type the box has.
@@ -133,7 +144,7 @@ pub fn count_of(kind: FourCc, this: &BoxRef<'_>) -> u64
 {
     let mut count = 0;
     for child in Walk::of(this) {
-        if child.header.kind.0.as_slice() == kind.0.as_slice() {
+        if child.header.kind.is(kind) {
             count += 1;
         }
     }

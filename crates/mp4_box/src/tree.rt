@@ -2,23 +2,70 @@
 
 ghost use Rattle.std.specs.Prelude.{◌≡◌, ◌+◌, ◌-◌, ◌^◌, ◌<◌, ◌≤◌, [], length, Some, IfErr, IsOk, IsTrue, ◌↔◌, OnOk, IfSome, option_map};
 ghost use Rattle.std.specs.Option.{option_or};
-ghost use Rattle.mp4_box.specs.Headers.{IsWhole};
+ghost use Rattle.mp4_box.specs.Headers.{IsWhole, header_at, plain_header, size_field};
+ghost use Rattle.mp4_box.specs.declared.headers.Step.TheVariants.{Whole};
 ghost use Rattle.mp4_box.specs.Trees.{bad_below, bad_size, box_at, box_faults, box_len, deep_below, fault_at, first_of, is_container, tree_faults, verdict, view};
 ghost use Rattle.mp4_box.specs.Grammar.{IsTree};
 ghost use Rattle.mp4_box.specs.Order.{IsLeast};
 
 use crate::box_ref::BoxRef;
-use crate::fields::array_at;
-use crate::headers::{FourCc, Size, Step, read_header};
+use crate::fields::{array_at, u32_at};
+use crate::headers::{FourCc, Header, Size, Step, read_header};
 use crate::rules::{Fault, Rule};
+
+/// The one type whose boxes carry a user type.
+const UUID: FourCc = FourCc(*b"uuid");
 
 /// A box at the top may have so many levels, its own among them.
 const LEVELS: u8 = 8;
 
+/// Whether the bytes begin with a header of eight bytes that states a size.
+#[inline]
+#[tactic(auto, using(crate::proofs::BoxLemmas::plain_is))]
+fn is_plain(bytes: &[u8]) -> bool
+    requires { 8 ≤ length bytes.now }
+    ensures room { IsTrue result → 8 ≤ size_field bytes.now }
+    ensures header { IsTrue result → header_at bytes.now ≡ Whole (plain_header bytes.now) }
+{
+    u32_at(bytes, 0) >= 8 && !FourCc(array_at::<4>(bytes, 4)).is(UUID)
+}
+
 /// The box of stated size at the front of the bytes, which begin at `offset`; none where they haven't all of
 /// one.
-#[tactic(auto, unfolding(crate::specs::Trees::box_at))]
+#[inline]
+#[tactic(auto, using(crate::proofs::BoxLemmas::plain_box, crate::proofs::BoxLemmas::plain_none, crate::proofs::BoxLemmas::short_none))]
 pub(crate) fn first_box<'a>(bytes: &'a [u8], offset: u64) -> Option<BoxRef<'a>>
+    requires { offset + length bytes.now < 2 ^ 63 }
+    ensures exact { option_map view result ≡ box_at offset bytes.now }
+    ensures within { IfSome result (λ b. (8 ≤ box_len (view b)) ×
+        (box_len (view b) ≤ length bytes.now)) }
+    ensures offset { IfSome result (λ b. b.offset ≡ offset) }
+{
+    if bytes.len() < 8 {
+        return None;
+    }
+    if !is_plain(bytes) {
+        return any_box(bytes, offset);
+    }
+    let size = u32_at(bytes, 0) as usize;
+    if size > bytes.len() {
+        return None;
+    }
+    Some(BoxRef {
+        header: Header {
+            kind: FourCc(array_at::<4>(bytes, 4)),
+            user: None,
+            size: Size::Exact(size as u64),
+            header_len: 8,
+        },
+        offset,
+        payload: &bytes[8..size],
+    })
+}
+
+/// The same where the header may have any form.
+#[tactic(auto, unfolding(crate::specs::Trees::box_at))]
+fn any_box<'a>(bytes: &'a [u8], offset: u64) -> Option<BoxRef<'a>>
     requires { offset + length bytes.now < 2 ^ 63 }
     ensures exact { option_map view result ≡ box_at offset bytes.now }
     ensures within { IfSome result (λ b. (8 ≤ box_len (view b)) ×

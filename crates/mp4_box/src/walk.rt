@@ -42,6 +42,7 @@ impl<'a> Default for Walk<'a> {
 
 impl<'a> Walk<'a> {
     /// The children of this container.
+    #[inline]
     pub fn of(this: &BoxRef<'a>) -> Walk<'a>
         ensures children { result ≡ children (view this.now) }
         ensures few { length result ≤ length this.now.payload.now }
@@ -60,6 +61,7 @@ impl<'a> Iterator for Walk<'a> {
 
     ghost remaining = { item_count (λ w. w) };
 
+    #[inline]
     #[tactic(auto, using(crate::proofs::TreeLemmas::boxes_more, crate::proofs::TreeLemmas::boxes_end))]
     fn next(&mut self) -> Option<BoxRef<'a>> {
         let Some(child) = first_box(self.rest, self.offset) else {

@@ -3,6 +3,7 @@ pub mod PassLemmas
 pub mod RowLemmas
 pub mod TimeLemmas
 pub mod MoofLemmas
+pub mod AtOnceLemmas
 pub mod BoxOrderLemmas
 pub mod RunRowLemmas
 pub mod RunListLemmas

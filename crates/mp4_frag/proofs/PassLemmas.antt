@@ -126,7 +126,7 @@ repeats_none best earlier = refl
 
 -- ---- where each traf has a tfdt
 
-none_lacks : (earlier ts : List Box) → list_any lacks_time ts ≡ false → repeats earlier ts ≡ []
+pub none_lacks : (earlier ts : List Box) → list_any lacks_time ts ≡ false → repeats earlier ts ≡ []
 unfolding repeats
 none_lacks earlier [] e = refl
 none_lacks earlier (t ∷ ts) e = by (lacks_time t) refl (none_lacks (earlier ++ t ∷ []) ts) e

@@ -3,7 +3,7 @@ use Rattle.std.proofs.Common.{◌≡◌, ◌∙◌, ◌+◌, ◌-◌, ◌^◌, �
 use Rattle.std.specs.Prelude.{map}
 use Rattle.std.specs.List.{AllByRecursion, flat_map}
 use Rattle.std.specs.Option.{unwrap_or}
-use Rattle.std.proofs.lemmas.List.{drop-take, take-take, drop-drop, take-append-drop, length-append, length-drop, length-map, map-append}
+use Rattle.std.proofs.lemmas.List.{take-append-drop, length-append, length-drop, length-map, map-append}
 use Rattle.mp4_box.specs.declared.headers.FourCc.{FourCc}
 use Rattle.mp4_box.specs.Headers.{IsBytes}
 use Rattle.mp4_box.specs.Paths.{of_kind, at_path}

@@ -1,9 +1,13 @@
 -- Which runs end past 64 bits.
-use Rattle.std.proofs.Common.{◌≡◌, ◌∙◌, ◌+◌, ◌++◌, ℕ, ℤ, List, [], ◌∷◌, refl, ap}
+use Rattle.std.proofs.Common.{◌≡◌, ◌∙◌, ◌+◌, ◌*◌, ◌++◌, ℕ, ℤ, pos, Bool, true, false, not, Option, Some, None, List, [], ◌∷◌, refl, sym, ap}
 use Rattle.std.specs.List.{flat_map}
+use Rattle.std.specs.Option.{is_none, is_some}
 use Rattle.mp4_box.specs.declared.rules.Fault.{Fault}
 use Rattle.mp4_box.specs.Trees.{Box}
 use Rattle.mp4_frag.specs.declared.run.Run.{Run}
+use Rattle.mp4_frag.specs.Fields.{flags_in}
+use Rattle.mp4_frag.specs.Trun.{sample_count, sample_fields}
+use Rattle.mp4_frag.proofs.RowLemmas.{durations_by_product}
 use Rattle.mp4_frag.specs.Rows.{row_of, group_at, rows_of, durations, sizes}
 use Rattle.mp4_frag.specs.Runs.{Shared, run_at, run_of, runs_from, end_place}
 use Rattle.mp4_frag.specs.Moofs.{late}
@@ -13,6 +17,15 @@ use Rattle.mp4_frag.specs.Times.{ticks_in, late_at, late_from}
 pub ticks_are : (s : Shared) (time : ℕ) (last : ℤ) (b : Box) → durations (rows_of (run_at s time last b) s.moof.bytes) ≡ ticks_in s b
 unfolding run_at row_of group_at ticks_in
 ticks_are s time last b = refl
+
+pub ticks_by_product : (s : Shared) (b : Box) → is_none (sample_fields (flags_in b.payload)).sample_duration ≡ true → s.header.duration * sample_count b.payload ≡ ticks_in s b
+unfolding run_at ticks_in
+ticks_by_product s b none = sym (durations_by_product (run_at s 0 (pos 0) b) s.moof.bytes none)
+
+pub none_told : (o : Option ℕ) (told : Bool) → is_some o ≡ not told → told ≡ true → is_none o ≡ true
+none_told None told e is = refl
+none_told (Some n) true e is = absurd cc
+none_told (Some n) false e is = absurd cc
 
 pub end_is : (s : Shared) (time : ℕ) (last : ℤ) (b : Box) → (run_of s time last b).end ≡ time + ticks_in s b
 unfolding run_of run_at row_of group_at ticks_in

@@ -5,6 +5,7 @@ pub mod Tfhd
 pub mod Tfdt
 pub mod Trun
 pub mod Rules
+pub mod AtOnce
 pub mod Repeats
 pub mod Rows
 pub mod Runs

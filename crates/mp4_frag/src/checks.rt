@@ -56,7 +56,7 @@ fn is_one_of(kinds: &[FourCc], this: &BoxRef<'_>) -> bool
     ensures { result ≡ is_among kinds.now (view this.now) }
 {
     for kind in kinds {
-        if this.header.kind.0.as_slice() == kind.0.as_slice() {
+        if this.header.kind.is(*kind) {
             return true;
         }
     }

@@ -4,9 +4,9 @@ ghost use Rattle.std.specs.Prelude.{◌≡◌, ◌∷◌, [], ◌≤◌, IfOk, O
 ghost use Rattle.mp4_box.specs.Trees.{view};
 ghost use Rattle.mp4_frag.specs.Rules.{count_faults, most_samples, samples_of};
 
-use crate::kinds::{TRAF, TRUN};
+use crate::children::truns_of;
 use crate::trun::sample_count;
-use mp4_box::{Along, BoxRef, Fault, Rule};
+use mp4_box::{BoxRef, Fault, Rule};
 
 /// So many samples may a moof have.
 const MOST_SAMPLES: u32 = 1_000_000;
@@ -20,7 +20,7 @@ pub(crate) fn count_samples(moof: &BoxRef<'_>) -> Result<u32, Fault>
     ensures err { IfErr result (λ f. count_faults (view moof.now) ≡ f ∷ []) }
 {
     let mut count = 0;
-    for trun in Along::of(&[TRAF, TRUN], moof) {
+    for trun in truns_of(moof) {
         let more = sample_count(trun.payload);
         if more > MOST_SAMPLES - count {
             return Err(trun.fault(Rule::TooManySamples));

@@ -6,7 +6,8 @@ ghost use Rattle.mp4_box.specs.Paths.{at_path};
 ghost use Rattle.mp4_box.specs.Trees.{first_of, view};
 ghost use Rattle.mp4_frag.specs.Fields.{flags_in, number_or, payload_of, place_if, signed_in, width_if};
 
-use mp4_box::{BoxRef, FourCc, first_at, full, i32_at, number_at, u32_at};
+use crate::children::children_of;
+use mp4_box::{BoxRef, FourCc, full, i32_at, number_at, u32_at};
 
 /// The flags of a full box, 0 where they aren't all there.
 pub(crate) fn flags_of(payload: &[u8]) -> u32
@@ -80,7 +81,7 @@ pub(crate) fn signed_from(held: &[u8], at: u128) -> i64
 pub(crate) fn payload_at<'a>(kind: FourCc, this: &BoxRef<'a>) -> &'a [u8]
     ensures { result.now ≡ payload_of (first_of (at_path (kind ∷ []) (view this.now))) }
 {
-    match first_at(&[kind], this) {
+    match children_of(kind, this).next() {
         Some(found) => found.payload,
         None => &[],
     }

@@ -10,12 +10,13 @@ ghost use Rattle.mp4_frag.specs.Ranges.{InRange, IsSound};
 ghost use Rattle.mp4_frag.specs.RunRows.{listed_words, row_of_run, rows_of_traf, rows_of_trafs, rows_of_words, tfhd_at};
 ghost use Rattle.mp4_frag.specs.Runs.{held_at, traf_of};
 
+use crate::children::children_of;
 use crate::kinds::{TFHD, TRAF};
 use crate::run::Run;
 use crate::run_row::{row_of_run, words_of};
 use crate::runs::Runs;
 use crate::traf::traf_of;
-use mp4_box::{Along, BoxRef, first_at};
+use mp4_box::BoxRef;
 use mp4_init::TrackList;
 use mp4_ledger::Rows64;
 
@@ -26,7 +27,7 @@ const NOWHERE: u64 = u64::MAX;
 fn tfhd_at(traf: &BoxRef<'_>) -> u64
     ensures { result ≡ tfhd_at (view traf.now) }
 {
-    match first_at(&[TFHD], traf) {
+    match children_of(TFHD, traf).next() {
         Some(tfhd) => tfhd.offset,
         None => NOWHERE,
     }
@@ -99,7 +100,7 @@ pub(crate) fn fill(
     ensures fits { All FitsKeys (listed_words rows.new.rows) }
     ensures cap { rows.new.cap ≡ rows.old.cap }
 {
-    for traf in Along::of(&[TRAF], moof) {
+    for traf in children_of(TRAF, moof) {
         push_traf(rows, held, offset, tracks, &traf);
     }
 }

@@ -18,7 +18,9 @@
 #![tactic(auto)]
 
 mod after;
+mod at_once;
 mod checks;
+mod children;
 mod counts;
 mod fields;
 mod fill;

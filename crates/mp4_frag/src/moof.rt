@@ -11,6 +11,7 @@ ghost use Rattle.mp4_frag.specs.Rules.{count_faults, form_faults, most_samples};
 ghost use Rattle.mp4_frag.specs.Runs.{Held, held_at};
 ghost use Rattle.mp4_frag.specs.Settling.{settled, timed_of};
 
+use crate::at_once::sound_samples;
 use crate::checks::{FlagsOnce, OfTrack};
 use crate::counts::samples_in;
 use crate::kinds::{TFHD, TRAF, TRUN};
@@ -64,6 +65,9 @@ fn early_content_fault(tracks: &TrackList, moof: &BoxRef<'_>) -> Option<Fault>
     ensures { result ≡ option_or (least (form_faults (view moof.now)))
         (least (value_faults tracks.now (view moof.now))) }
 {
+    if sound_samples(tracks, moof).is_some() {
+        return None;
+    }
     let mut best = None;
     note_forms(moof, &mut best);
     if best.is_none() {

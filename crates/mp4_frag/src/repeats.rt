@@ -11,10 +11,11 @@ ghost use Rattle.mp4_box.specs.Paths.{at_path, of_kind};
 ghost use Rattle.mp4_frag.specs.Kinds.{traf};
 ghost use Rattle.mp4_frag.specs.Repeats.{all_marked, descend, is_listed, is_repeat, lacks_time, marked_at, marks, repeat_faults, repeats, sought, traf_id, trafs_before};
 
+use crate::children::children_of;
 use crate::fields::payload_at;
 use crate::kinds::{TFDT, TFHD, TRAF};
 use crate::tfhd::track_id;
-use mp4_box::{Along, BoxRef, Fault, Rule, Walk, first_at, note};
+use mp4_box::{BoxRef, Fault, Rule, Walk, note};
 
 /// For how many track_IDs a moof is gone over at once, and a small one.
 const MANY: usize = 131_072;
@@ -42,7 +43,7 @@ fn traf_id(traf: &BoxRef<'_>) -> u32
 fn lacks_time(traf: &BoxRef<'_>) -> bool
     ensures { result ≡ lacks_time (view traf.now) }
 {
-    first_at(&[TFDT], traf).is_none()
+    children_of(TFDT, traf).next().is_none()
 }
 
 /// Where a search among ids in order ends, by so many steps, each half as long as the one before.
@@ -104,10 +105,7 @@ impl<const N: usize> Marks<N> {
             if used >= N {
                 break;
             }
-            if passed >= from
-                && child.header.kind.0.as_slice() == TRAF.0.as_slice()
-                && lacks_time(&child)
-            {
+            if passed >= from && child.header.kind.is(TRAF) && lacks_time(&child) {
                 ids[used] = traf_id(&child);
                 used += 1;
             }
@@ -125,7 +123,7 @@ impl<const N: usize> Marks<N> {
         ensures ids { self.new.ids ≡ self.old.ids }
         ensures listed { result ≡ is_listed id (of_kind traf (view child.now ∷ [])) }
     {
-        if child.header.kind.0.as_slice() != TRAF.0.as_slice() {
+        if !child.header.kind.is(TRAF) {
             return false;
         }
         let other = traf_id(child);
@@ -195,7 +193,7 @@ impl<const N: usize> Marks<N> {
         ensures best { best.new ≡ least_from best.old (repeats
             (trafs_before passed (view moof.now)) (of_kind traf (view child.now ∷ []))) }
     {
-        if child.header.kind.0.as_slice() != TRAF.0.as_slice() {
+        if !child.header.kind.is(TRAF) {
             return;
         }
         if self.repeats(moof, passed, child) {
@@ -249,7 +247,7 @@ fn note_many(moof: &BoxRef<'_>, best: &mut Option<Fault>)
 fn any_lacks_time(moof: &BoxRef<'_>) -> bool
     ensures { result ≡ list_any lacks_time (at_path (traf ∷ []) (view moof.now)) }
 {
-    for traf in Along::of(&[TRAF], moof) {
+    for traf in children_of(TRAF, moof) {
         if lacks_time(&traf) {
             return true;
         }

@@ -10,15 +10,15 @@ ghost use Rattle.mp4_frag.specs.Moofs.{IsRead, moof_runs, moof_samples};
 ghost use Rattle.mp4_frag.specs.Runs.{held_at};
 ghost use Rattle.mp4_frag.specs.RunLists.{IsLate, IsListOf, IsSorted, taken_runs};
 
+use crate::children::truns_of;
 use crate::fill::fill;
-use crate::kinds::{TRAF, TRUN};
 use crate::listed::{find_by_track, sort_by_place, sort_by_track};
 use crate::moof::Moof;
 use crate::reread::run_of_row;
 use crate::rows::Steps;
 use crate::run::Run;
 use crate::run_row::row_of_words;
-use mp4_box::{Along, BoxRef, whole_box};
+use mp4_box::{BoxRef, whole_box};
 use mp4_init::TrackList;
 use mp4_ledger::{Ledger, Refused, Rows64};
 use std::marker::Model;
@@ -85,7 +85,7 @@ fn count_truns(moof: &BoxRef<'_>) -> u64
     ensures { result ≡ length (at_path to_trun (view moof.now)) }
 {
     let mut count: u64 = 0;
-    for _ in Along::of(&[TRAF, TRUN], moof) {
+    for _ in truns_of(moof) {
         count += 1;
     }
     count

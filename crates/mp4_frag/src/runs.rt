@@ -4,19 +4,19 @@ ghost use Rattle.std.specs.Prelude.{◌≡◌, ◌+◌, ◌∷◌, [], ◌<◌, 
 ghost use Rattle.std.specs.List.{AllByRecursion};
 ghost use Rattle.std.specs.Iterator.{YieldsFirst, item_count};
 ghost use Rattle.mp4_box.specs.Trees.{children, view};
-ghost use Rattle.mp4_box.specs.Paths.{of_kind, seen_of};
 ghost use Rattle.mp4_frag.specs.Kinds.{trun};
 ghost use Rattle.mp4_frag.specs.Ranges.{InRange};
 ghost use Rattle.mp4_frag.specs.Runs.{end_place, run_at, run_of, runs_left, shared_of, start_by};
 ghost use Rattle.mp4_frag.specs.Times.{ticks_in};
 
+use crate::children::next_of;
 use crate::fields::flags_of;
 use crate::kinds::TRUN;
 use crate::run::Run;
 use crate::sums::{sums_of, ticks_of};
 use crate::traf::{TrafContext, end_in};
 use crate::trun::{data_offset, first_sample_flags, sample_count, sample_fields, trun_fields};
-use mp4_box::{BoxRef, FourCc, Walk, version_of};
+use mp4_box::{BoxRef, Walk, version_of};
 use std::marker::Model;
 
 /// Where the runs of a traf end so far, and the next may begin.
@@ -39,6 +39,7 @@ fn start_by(moof: u64, last: i128, offset: Option<i32>) -> i128
 }
 
 /// The run of a trun, but for its end and its bytes.
+#[inline]
 #[tactic(auto, unfolding(crate::specs::Runs::run_at))]
 pub(crate) fn run_at(context: &TrafContext<'_>, behind: &Behind, trun: &BoxRef<'_>) -> Run
     ensures { result ≡ run_at (shared_of context.now) behind.now.time behind.now.place
@@ -67,11 +68,17 @@ pub(crate) fn run_at(context: &TrafContext<'_>, behind: &Behind, trun: &BoxRef<'
     }
 }
 
-/// The durations of the samples of a trun, added up.
-#[tactic(auto, unfolding(crate::specs::Times::ticks_in))]
+/// The durations of the samples of a trun, added up: by a product where no sample has its own.
+#[tactic(auto, using(crate::proofs::TimeLemmas::ticks_by_product), unfolding(crate::specs::Times::ticks_in))]
 pub(crate) fn ticks_in(context: &TrafContext<'_>, trun: &BoxRef<'_>) -> u64
     ensures { result ≡ ticks_in (shared_of context.now) (view trun.now) }
 {
+    if sample_fields(flags_of(trun.payload))
+        .sample_duration
+        .is_none()
+    {
+        return u64::from(context.header.duration) * u64::from(sample_count(trun.payload));
+    }
     let start = Behind { time: 0, place: 0 };
     ticks_of(&run_at(context, &start, trun), context.held)
 }
@@ -88,22 +95,6 @@ pub(crate) fn run_of(context: &TrafContext<'_>, behind: &Behind, trun: &BoxRef<'
     run.end = behind.time + sums.ticks;
     run.bytes = sums.bytes;
     run
-}
-
-/// The next box of this type among those that are left.
-pub(crate) fn next_of<'a>(kind: FourCc, walk: &mut Walk<'a>) -> Option<BoxRef<'a>>
-    ensures first { of_kind kind walk.old ≡ seen_of result ++ of_kind kind walk.new }
-    ensures none { IfNone result (of_kind kind walk.new ≡ []) }
-    ensures fewer { IfSome result (λ b. length walk.new < length walk.old) }
-{
-    loop {
-        let Some(child) = walk.next() else {
-            return None;
-        };
-        if child.header.kind.0.as_slice() == kind.0.as_slice() {
-            return Some(child);
-        }
-    }
 }
 
 /// Goes over the runs of a traf.

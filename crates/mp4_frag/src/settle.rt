@@ -11,12 +11,13 @@ ghost use Rattle.mp4_frag.specs.Runs.{held_at, shared_of, traf_of};
 ghost use Rattle.mp4_frag.specs.Settling.{EndsInTime, ended, settled, ticks_from, timed, timed_of};
 ghost use Rattle.mp4_frag.specs.Times.{late_from};
 
+use crate::children::{children_of, truns_of};
 use crate::fields::flags_of;
 use crate::kinds::{TRAF, TRUN};
 use crate::runs::ticks_in;
 use crate::traf::{TrafContext, base_of, context_of, track_of};
 use crate::trun::{sample_count, sample_fields};
-use mp4_box::{Along, BoxRef, Walk, whole_box};
+use mp4_box::{BoxRef, Walk, whole_box};
 use mp4_init::TrackList;
 
 /// How many samples of a trun have durations of their own: all or none.
@@ -39,7 +40,7 @@ pub(crate) fn timed_in(moof: &BoxRef<'_>) -> u32
     ensures few { result ≤ samples_of (view moof.now) }
 {
     let mut count = 0;
-    for trun in Along::of(&[TRAF, TRUN], moof) {
+    for trun in truns_of(moof) {
         count += timed(trun.payload);
     }
     count
@@ -55,7 +56,7 @@ fn end_of(context: &TrafContext<'_>, time: u64, traf: &BoxRef<'_>) -> u64
 {
     let mut end = time;
     for child in Walk::of(traf) {
-        if child.header.kind.0.as_slice() == TRUN.0.as_slice() {
+        if child.header.kind.is(TRUN) {
             end += ticks_in(context, &child);
         }
     }
@@ -88,7 +89,7 @@ pub(crate) fn settle_in(held: &[u8], moof: u64, tracks: &mut TrackList)
         (moof_trafs (held_at held.now moof) tracks.old) }
 {
     let this = whole_box(held, moof);
-    for traf in Along::of(&[TRAF], &this) {
+    for traf in children_of(TRAF, &this) {
         end_traf(held, moof, &traf, tracks);
     }
 }

@@ -46,7 +46,7 @@ fn note_ends(context: &TrafContext<'_>, time: u64, traf: &BoxRef<'_>, best: &mut
 {
     let mut end = u128::from(time);
     for child in Walk::of(traf) {
-        if child.header.kind.0.as_slice() == TRUN.0.as_slice() {
+        if child.header.kind.is(TRUN) {
             end += u128::from(ticks_in(context, &child));
             note_end(end, &child, best);
         }

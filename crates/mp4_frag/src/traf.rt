@@ -8,12 +8,13 @@ ghost use Rattle.mp4_frag.specs.Ranges.{InRange, IsSound};
 ghost use Rattle.mp4_frag.specs.Runs.{base_of, end_in, fragment_of, header_by, held_at, known_track, runs_of, shared_by, shared_of, track_of, traf_of, trafs_by};
 
 use crate::checks::{entry_of, track_with};
+use crate::children::{children_of, next_of};
 use crate::fields::{flags_of, number_or, payload_at};
 use crate::kinds::{TFDT, TFHD, TRAF};
-use crate::runs::{Behind, Runs, next_of};
+use crate::runs::{Behind, Runs};
 use crate::tfdt::base_media_decode_time;
 use crate::tfhd::{tfhd_fields, track_id};
-use mp4_box::{BoxRef, Walk, first_at};
+use mp4_box::{BoxRef, Walk};
 use mp4_init::{Track, TrackList};
 use std::marker::Model;
 
@@ -83,7 +84,7 @@ pub(crate) fn header_by(track: Track, tfhd: &[u8]) -> TrafHeader
 pub(crate) fn base_of(next: u64, traf: &BoxRef<'_>) -> u64
     ensures { result ≡ base_of next (view traf.now) }
 {
-    match first_at(&[TFDT], traf) {
+    match children_of(TFDT, traf).next() {
         Some(tfdt) => base_media_decode_time(tfdt.payload),
         None => next,
     }

@@ -15,8 +15,8 @@ returns-then-is_empty-clause-first c =
     ∙ (ap (λ (bs : List Box). left_on path (above ++ bs ∷ [])) one
     ∙ left_end path above c.in-Some.first.0.now c.in-Some.first.1.now child left (ap (λ (n : ℕ). drop n path) (sym c.len.ensures.value) ∙ path_from path c.len.result _ c.in-Some.ensures.cases.0) (search rules) (search rules))
 
-pub loop-first-smaller-then-eq : goal.loop-first-smaller-then-eq
-loop-first-smaller-then-eq c =
+pub loop-first-smaller-then-is : goal.loop-first-smaller-then-is
+loop-first-smaller-then-is c =
     let path = c.args.path.now in
     let above = c.loop-first.above.items in
     let child = view c.in-Some-next.child in

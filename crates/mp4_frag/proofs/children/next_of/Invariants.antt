@@ -1,6 +1,6 @@
 use Rattle.std.proofs.Common.{◌≡◌, ◌≤◌, length}
 use Rattle.mp4_box.specs.Paths.{of_kind}
-use Rattle.mp4_frag.proofs.runs.next_of.Given as goal
+use Rattle.mp4_frag.proofs.children.next_of.Given as goal
 
 abbrev pub decreases-loop-child : goal.decreases-loop-child
 decreases-loop-child l = length l.walk

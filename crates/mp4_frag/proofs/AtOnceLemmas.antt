@@ -1,0 +1,247 @@
+-- Where one pass over a moof finds nothing, nothing is at fault with its boxes and their values.
+use Rattle.std.proofs.Common.{◌≡◌, ◌∙◌, Bool, true, false, not, ℕ, List, [], ◌∷◌, ◌++◌, length, Option, Some, None, refl, sym, ap, arith}
+use Rattle.std.specs.Prelude.{◌==◌, ◌&&◌, ◌||◌}
+use Rattle.std.specs.List.{flat_map, list_all, list_any}
+use Rattle.std.specs.Option.{is_none, is_some, option_or}
+use Rattle.std.specs.Str.{bytes_eq}
+use Rattle.std.proofs.lemmas.Bool.Decides.{nat_tests}
+use Rattle.std.proofs.lemmas.Grind.{flat_map-append}
+use Rattle.std.proofs.lemmas.Slice.Eq.{bytes_eq-Decides}
+use Rattle.mp4_box.specs.declared.headers.FourCc.{FourCc}
+use Rattle.mp4_box.specs.declared.rules.Fault.{Fault}
+use Rattle.mp4_box.specs.declared.rules.Rule.TheVariants.{Unsupported}
+use Rattle.mp4_box.specs.declared.checks.Layout.TheVariants.{Exactly}
+use Rattle.mp4_box.specs.Checks.{along, alone, at_most_one, further, laid_out, one}
+use Rattle.mp4_box.specs.Order.{least, least_from}
+use Rattle.mp4_box.proofs.OrderLemmas.{least-none}
+use Rattle.mp4_box.specs.Paths.{at_path, of_kind}
+use Rattle.mp4_box.specs.Trees.{Box, children, first_of}
+use Rattle.mp4_init.specs.declared.table.Track.{Track}
+use Rattle.mp4_frag.specs.AtOnce.{by_moof, by_traf, faults_in_moof, faults_in_traf, has_both, has_one, is_kind, passed_over}
+use Rattle.mp4_frag.specs.Kinds.{mfhd, traf, tfhd, tfdt, trun, free, skip}
+use Rattle.mp4_frag.specs.Mfhd.{mfhd_len}
+use Rattle.mp4_frag.specs.Moofs.{value_faults}
+use Rattle.mp4_frag.specs.Repeats.{lacks_time}
+use Rattle.mp4_frag.specs.Rules.{child_faults, count_faults, fault_if, form_faults, holds_only, tfhd_faults, tfhd_length, trun_faults, trun_length, unsupported}
+use Rattle.mp4_frag.specs.Tfdt.{tfdt_layout}
+use Rattle.mp4_frag.proofs.MoofLemmas.{last_none, path_kind}
+use Rattle.mp4_frag.proofs.PassLemmas.{none_lacks}
+
+and_true : (a x : Bool) → (a && x) ≡ ((a && true) && x)
+and_true true x = refl
+and_true false x = refl
+
+-- the first child, and then the others
+pub both_first : (b : Box) (bs : List Box) → list_all has_both (of_kind traf (b ∷ bs)) ≡ (list_all has_both (of_kind traf (b ∷ [])) && list_all has_both (of_kind traf bs))
+both_first b bs = by (is_kind traf b) refl
+  where
+    by : (u : Bool) → is_kind traf b ≡ u → list_all has_both (of_kind traf (b ∷ bs)) ≡ (list_all has_both (of_kind traf (b ∷ [])) && list_all has_both (of_kind traf bs))
+    by true is = rw is (and_true (has_both b) (list_all has_both (of_kind traf bs)))
+    by false is = rw is refl
+
+-- ---- of lists in which nothing is at fault
+
+both_true : (a b : Bool) → a && b ≡ true → (a ≡ true) × (b ≡ true)
+both_true true b e = (refl, e)
+both_true false b e = absurd cc
+
+-- what is asked of each
+each_none : (f g : Box → List Fault) → ((b : Box) → f b ≡ [] → g b ≡ []) → (bs : List Box) → flat_map f bs ≡ [] → flat_map g bs ≡ []
+each_none f g h [] e = refl
+each_none f g h (b ∷ bs) e =
+    let parts = last_none (f b) (flat_map f bs) e in
+    ap (λ (fs : List Fault). fs ++ flat_map g bs) (h b parts.0) ∙ each_none f g h bs parts.1
+
+-- what is asked of those of a type
+kind_none : (f g : Box → List Fault) (kind : FourCc) → ((b : Box) → is_kind kind b ≡ true → f b ≡ [] → g b ≡ []) → (bs : List Box) → flat_map f bs ≡ [] → flat_map g (of_kind kind bs) ≡ []
+kind_none f g kind h [] e = refl
+kind_none f g kind h (b ∷ bs) e = let parts = last_none (f b) (flat_map f bs) e in by (is_kind kind b) refl parts.0 (kind_none f g kind h bs parts.1)
+  where
+    by : (u : Bool) → is_kind kind b ≡ u → f b ≡ [] → flat_map g (of_kind kind bs) ≡ [] → flat_map g (of_kind kind (b ∷ bs)) ≡ []
+    by true is none rest = rw is (ap (λ (fs : List Fault). fs ++ flat_map g (of_kind kind bs)) (h b is none) ∙ rest)
+    by false is none rest = rw is rest
+
+-- a type is no other
+no_other : (b : Box) (kind other : FourCc) → bytes_eq kind.0 other.0 ≡ false → is_kind kind b ≡ true → is_kind other b ≡ false
+no_other b kind other differ is = ap (λ (k : List ℕ). bytes_eq k other.0) ((bytes_eq-Decides b.header.kind.0 kind.0).0 is) ∙ differ
+
+-- ---- of a child of a traf
+
+trun_is : (tracks : List Track) (b : Box) → is_kind trun b ≡ true → faults_in_traf tracks b ≡ [] → (trun_length b ≡ []) × (trun_faults b ≡ [])
+unfolding faults_in_traf
+trun_is tracks b is e =
+    last_none (trun_length b) (trun_faults b) (ap (λ (u : Bool). by_traf tracks b u (is_kind tfhd b) (is_kind tfdt b) (passed_over (is_kind free b) (is_kind skip b) b)) (sym is) ∙ e)
+
+tfhd_is : (tracks : List Track) (b : Box) → is_kind tfhd b ≡ true → faults_in_traf tracks b ≡ [] → (tfhd_length b ≡ []) × (tfhd_faults tracks b ≡ [])
+unfolding faults_in_traf
+tfhd_is tracks b is e =
+    let others = passed_over (is_kind free b) (is_kind skip b) b in
+    last_none (tfhd_length b) (tfhd_faults tracks b)
+    (ap (λ (u : Bool). by_traf tracks b false u (is_kind tfdt b) others) (sym is)
+    ∙ ap (λ (u : Bool). by_traf tracks b u (is_kind tfhd b) (is_kind tfdt b) others) (sym (no_other b tfhd trun refl is))
+    ∙ e)
+
+tfdt_is : (tracks : List Track) (b : Box) → is_kind tfdt b ≡ true → faults_in_traf tracks b ≡ [] → laid_out tfdt_layout b ≡ []
+unfolding faults_in_traf
+tfdt_is tracks b is e =
+    let others = passed_over (is_kind free b) (is_kind skip b) b in
+    ap (λ (u : Bool). by_traf tracks b false false u others) (sym is)
+    ∙ ap (λ (u : Bool). by_traf tracks b false u (is_kind tfdt b) others) (sym (no_other b tfdt tfhd refl is))
+    ∙ ap (λ (u : Bool). by_traf tracks b u (is_kind tfhd b) (is_kind tfdt b) others) (sym (no_other b tfdt trun refl is))
+    ∙ e
+
+-- a type that is passed over is one of those that may stand there
+in_traf_by : (tracks : List Track) (b : Box) (r h d f s : Bool) → by_traf tracks b r h d (passed_over f s b) ≡ [] → fault_if (not (h || (d || (r || (f || (s || false)))))) Unsupported b ≡ []
+in_traf_by tracks b true true d f s e = refl
+in_traf_by tracks b true false true f s e = refl
+in_traf_by tracks b true false false f s e = refl
+in_traf_by tracks b false true d f s e = refl
+in_traf_by tracks b false false true f s e = refl
+in_traf_by tracks b false false false true s e = refl
+in_traf_by tracks b false false false false true e = refl
+in_traf_by tracks b false false false false false e = absurd cc
+
+supported_in_traf : (tracks : List Track) (b : Box) → faults_in_traf tracks b ≡ [] → unsupported (tfhd ∷ tfdt ∷ trun ∷ free ∷ skip ∷ []) b ≡ []
+unfolding faults_in_traf
+supported_in_traf tracks b e = in_traf_by tracks b (is_kind trun b) (is_kind tfhd b) (is_kind tfdt b) (is_kind free b) (is_kind skip b) e
+
+-- ---- of a child of a moof
+
+traf_is : (tracks : List Track) (b : Box) → is_kind traf b ≡ true → faults_in_moof tracks b ≡ [] → flat_map (faults_in_traf tracks) (children b) ≡ []
+unfolding faults_in_moof
+traf_is tracks b is e = ap (λ (u : Bool). by_moof tracks b u (is_kind mfhd b) (passed_over (is_kind free b) (is_kind skip b) b)) (sym is) ∙ e
+
+mfhd_is : (tracks : List Track) (b : Box) → is_kind mfhd b ≡ true → faults_in_moof tracks b ≡ [] → laid_out (Exactly mfhd_len) b ≡ []
+unfolding faults_in_moof
+mfhd_is tracks b is e =
+    let others = passed_over (is_kind free b) (is_kind skip b) b in
+    ap (λ (u : Bool). by_moof tracks b false u others) (sym is) ∙ ap (λ (u : Bool). by_moof tracks b u (is_kind mfhd b) others) (sym (no_other b mfhd traf refl is)) ∙ e
+
+in_moof_by : (tracks : List Track) (b : Box) (t m f s : Bool) → by_moof tracks b t m (passed_over f s b) ≡ [] → fault_if (not (m || (t || (f || (s || false))))) Unsupported b ≡ []
+in_moof_by tracks b true true f s e = refl
+in_moof_by tracks b true false f s e = refl
+in_moof_by tracks b false true f s e = refl
+in_moof_by tracks b false false true s e = refl
+in_moof_by tracks b false false false true e = refl
+in_moof_by tracks b false false false false e = absurd cc
+
+supported_in_moof : (tracks : List Track) (b : Box) → faults_in_moof tracks b ≡ [] → unsupported (mfhd ∷ traf ∷ free ∷ skip ∷ []) b ≡ []
+unfolding faults_in_moof
+supported_in_moof tracks b e = in_moof_by tracks b (is_kind traf b) (is_kind mfhd b) (is_kind free b) (is_kind skip b) e
+
+-- ---- one child of a type
+
+alone_none : (parent : Box) (bs : List Box) → (length bs == 1) ≡ true → alone parent bs ≡ []
+alone_none parent [] e = grind (arith, nat_tests)
+alone_none parent (b ∷ []) e = refl
+alone_none parent (b ∷ (c ∷ bs)) e = grind (arith, nat_tests)
+
+further_none : (bs : List Box) → (length bs == 1) ≡ true → further bs ≡ []
+further_none [] e = refl
+further_none (b ∷ []) e = refl
+further_none (b ∷ (c ∷ bs)) e = grind (arith, nat_tests)
+
+one_each : (ts : List Box) → list_all has_both ts ≡ true → flat_map (one tfhd) ts ≡ []
+one_each [] e = refl
+one_each (t ∷ ts) e =
+    let parts = both_true (has_both t) (list_all has_both ts) e in
+    ap (λ (fs : List Fault). fs ++ flat_map (one tfhd) ts) (alone_none t (of_kind tfhd (children t)) (both_true (has_one tfhd t) (has_one tfdt t) parts.0).0) ∙ one_each ts parts.1
+
+at_most_one_each : (ts : List Box) → list_all has_both ts ≡ true → flat_map (at_most_one tfdt) ts ≡ []
+at_most_one_each [] e = refl
+at_most_one_each (t ∷ ts) e =
+    let parts = both_true (has_both t) (list_all has_both ts) e in
+    ap (λ (fs : List Fault). fs ++ flat_map (at_most_one tfdt) ts) (further_none (of_kind tfdt (children t)) (both_true (has_one tfhd t) (has_one tfdt t) parts.0).1) ∙ at_most_one_each ts parts.1
+
+some_first : (bs : List Box) → (length bs == 1) ≡ true → is_none (first_of bs) ≡ false
+some_first [] e = grind (arith, nat_tests)
+some_first (b ∷ bs) e = refl
+
+has_time : (t : Box) → has_both t ≡ true → lacks_time t ≡ false
+unfolding lacks_time
+has_time t e = ap (λ (bs : List Box). is_none (first_of bs)) (path_kind tfdt t) ∙ some_first (of_kind tfdt (children t)) (both_true (has_one tfhd t) (has_one tfdt t) e).1
+
+none_lacks_time : (ts : List Box) → list_all has_both ts ≡ true → list_any lacks_time ts ≡ false
+none_lacks_time [] e = refl
+none_lacks_time (t ∷ ts) e =
+    let parts = both_true (has_both t) (list_all has_both ts) e in
+    ap (λ (u : Bool). u || list_any lacks_time ts) (has_time t parts.0) ∙ none_lacks_time ts parts.1
+
+-- ---- along the paths of a moof
+
+flat_map_twice : (f : Box → List Fault) (g : Box → List Box) (xs : List Box) → flat_map f (flat_map g xs) ≡ flat_map (λ x. flat_map f (g x)) xs
+flat_map_twice f g [] = refl
+flat_map_twice f g (x ∷ xs) = flat_map-append f (g x) (flat_map g xs) ∙ ap (λ (zs : List Fault). flat_map f (g x) ++ zs) (flat_map_twice f g xs)
+
+module _ (tracks : List Track) (m : Box) (none : flat_map (faults_in_moof tracks) (children m) ≡ []) where
+  -- what is asked of each traf
+  trafs_none : (g : Box → List Fault) → ((t : Box) → flat_map (faults_in_traf tracks) (children t) ≡ [] → g t ≡ []) → along g (traf ∷ []) m ≡ []
+  trafs_none g h = ap (flat_map g) (path_kind traf m) ∙ kind_none (faults_in_moof tracks) g traf (λ t is e. h t (traf_is tracks t is e)) (children m) none
+
+  -- what is asked of each child of a type of each traf
+  below_none : (g : Box → List Fault) (kind : FourCc) → ((b : Box) → is_kind kind b ≡ true → faults_in_traf tracks b ≡ [] → g b ≡ []) → along g (traf ∷ kind ∷ []) m ≡ []
+  unfolding at_path
+  below_none g kind h =
+      flat_map_twice g (at_path (kind ∷ [])) (of_kind traf (children m))
+      ∙ kind_none (faults_in_moof tracks) (λ t. flat_map g (at_path (kind ∷ []) t)) traf
+      (λ t is e. ap (flat_map g) (path_kind kind t) ∙ kind_none (faults_in_traf tracks) g kind h (children t) (traf_is tracks t is e)) (children m) none
+
+  forms_none : has_one mfhd m ≡ true → list_all has_both (of_kind traf (children m)) ≡ true → form_faults m ≡ []
+  unfolding form_faults at_path
+  forms_none mfhds both =
+      rw (
+        alone_none m (of_kind mfhd (children m)) mfhds,
+        ap (flat_map (one tfhd)) (path_kind traf m) ∙ one_each (of_kind traf (children m)) both,
+        ap (flat_map (at_most_one tfdt)) (path_kind traf m) ∙ at_most_one_each (of_kind traf (children m)) both,
+        ap (flat_map (laid_out (Exactly mfhd_len))) (path_kind mfhd m) ∙ kind_none (faults_in_moof tracks) (laid_out (Exactly mfhd_len)) mfhd (λ b is e. mfhd_is tracks b is e) (children m) none,
+        below_none tfhd_length tfhd (λ b is e. (tfhd_is tracks b is e).0),
+        below_none (laid_out tfdt_layout) tfdt (λ b is e. tfdt_is tracks b is e),
+        below_none trun_length trun (λ b is e. (trun_is tracks b is e).0),
+      ) refl
+
+  children_none : child_faults m ≡ []
+  unfolding child_faults at_path
+  children_none =
+      rw (
+        each_none (faults_in_moof tracks) (unsupported (mfhd ∷ traf ∷ free ∷ skip ∷ [])) (λ b e. supported_in_moof tracks b e) (children m) none,
+        trafs_none (holds_only (tfhd ∷ tfdt ∷ trun ∷ free ∷ skip ∷ []))
+            (λ t e. each_none (faults_in_traf tracks) (unsupported (tfhd ∷ tfdt ∷ trun ∷ free ∷ skip ∷ [])) (λ b e. supported_in_traf tracks b e) (children t) e),
+      ) refl
+
+  values_none : list_all has_both (of_kind traf (children m)) ≡ true → count_faults m ≡ [] → value_faults tracks m ≡ []
+  unfolding value_faults
+  values_none both count =
+      rw (
+        children_none,
+        none_lacks [] (of_kind traf (children m)) (none_lacks_time (of_kind traf (children m)) both),
+        below_none (tfhd_faults tracks) tfhd (λ b is e. (tfhd_is tracks b is e).1),
+        below_none trun_faults trun (λ b is e. (trun_is tracks b is e).1),
+        count,
+      ) refl
+
+-- ---- what the pass tells
+
+no_best : (best : Option Fault) → is_some best ≡ false → best ≡ None
+no_best None e = refl
+no_best (Some f) e = absurd cc
+
+pub record Passed (tracks : List Track) (m : Box) : Type 0 where
+  pub none : flat_map (faults_in_moof tracks) (children m) ≡ []
+  pub mfhds : has_one mfhd m ≡ true
+  pub both : list_all has_both (of_kind traf (children m)) ≡ true
+
+pub passed : (tracks : List Track) (m : Box) (best : Option Fault) (told : Bool) → best ≡ least_from None (flat_map (faults_in_moof tracks) (children m)) → is_some best ≡ false
+    → told ≡ (has_one mfhd m && list_all has_both (of_kind traf (children m))) → told ≡ true → Passed tracks m
+passed tracks m best told e none is sure =
+    let parts = both_true (has_one mfhd m) (list_all has_both (of_kind traf (children m))) (sym is ∙ sure) in
+    record { none = least-none (flat_map (faults_in_moof tracks) (children m)) (sym e ∙ no_best best none); mfhds = parts.0; both = parts.1 }
+
+pub no_forms : (tracks : List Track) (m : Box) → Passed tracks m → form_faults m ≡ []
+no_forms tracks m p = forms_none tracks m p.none p.mfhds p.both
+
+pub no_values : (tracks : List Track) (m : Box) → Passed tracks m → count_faults m ≡ [] → value_faults tracks m ≡ []
+no_values tracks m p count = values_none tracks m p.none p.both count
+
+pub none_least : (fs gs : List Fault) → fs ≡ [] → gs ≡ [] → None ≡ option_or (least fs) (least gs)
+unfolding least_from
+none_least fs gs p q = rw (p, q) refl
