@@ -18,6 +18,7 @@ use Rattle.mp4_box.specs.declared.checks.Layout.TheVariants.{Versioned}
 use Rattle.mp4_box.specs.Trees.{Box, box_at, box_len, box_then, over, children, payload_offset, tree_faults, verdict, first_of, fault_at}
 use Rattle.mp4_box.proofs.GrammarLemmas.{stands}
 use Rattle.mp4_box.proofs.OrderLemmas.{least-none}
+use Rattle.mp4_box.proofs.SizeLemmas.{IsLaid, total, fits_children, kind_fits, both_none, none_here, none_below, laid_by}
 use Rattle.mp4_init.specs.Kinds.{trak, tkhd, to_tkhd}
 use Rattle.mp4_init.specs.Fields.{behind_times, tkhd_id}
 use Rattle.mp4_init.specs.Rules.{number_faults, field_faults, sample_faults, track_faults, before, tkhds_of, trexes_of, is_known, known}
@@ -26,65 +27,7 @@ use Rattle.mp4_init.specs.Moovs.{form_faults, value_faults, content_fault, moov_
 use Rattle.mp4_init.proofs.SearchTreeLemmas.{is_same}
 use Rattle.mp4_init.proofs.MoovLemmas.{first_none}
 
-total : List Box → ℕ
-total [] = 0
-total (b ∷ bs) = box_len b + total bs
-
-tail_bytes : (a : ℕ) (xs : List ℕ) → IsBytes (a ∷ xs) → IsBytes xs
-tail_bytes a xs fits i = fits (suc i)
-
--- what is found of the boxes that stand in the bytes behind some
-record Fits (n : ℕ) (bs : List Box) : Type 0 where
-  all : AllByRecursion (λ b. IsBytes b.payload) bs
-  sum : total bs ≤ n
-
-fits_over : (x : List ℕ) (k o : ℕ) → IsBytes x → Fits (length x - k) (over (λ b. b ∷ []) (λ _ _. []) x k o)
-unfolding over total
-fits_over [] k o fits = record { all = tt; sum = omega arith }
-fits_over (a ∷ xs) zero o fits = by (box_at o (a ∷ xs)) refl (λ k. fits_over xs k (o + 1) (tail_bytes a xs fits))
-  where
-    by : (m : Option Box) → box_at o (a ∷ xs) ≡ m → ((k : ℕ) → Fits (length xs - k) (over (λ b. b ∷ []) (λ _ _. []) xs k (o + 1)))
-        → Fits (length (a ∷ xs) - 0) (box_then m (λ b. b ∷ []) [] (λ k. over (λ b. b ∷ []) (λ _ _. []) xs k (o + 1)))
-    by None e later = record { all = tt; sum = omega arith }
-    by (Some b) e later =
-        let s = stands o (a ∷ xs) b fits e in
-        let rest = later (box_len b - 1) in
-        record { all = (s.bytes, rest.all); sum = omega (arith, s.low, s.high, rest.sum) }
-fits_over (a ∷ xs) (suc k) o fits =
-    let rest = fits_over xs k (o + 1) (tail_bytes a xs fits) in
-    record { all = rest.all; sum = omega (arith, rest.sum) }
-
-fits_children : (b : Box) → IsBytes b.payload → Fits (length b.payload) (children b)
-fits_children b fits = let f = fits_over b.payload 0 (payload_offset b) fits in record { all = f.all; sum = omega (arith, f.sum) }
-
--- ---- where nothing is at fault along a path
-
-none_first : {A : Type 0} (xs ys : List A) → xs ++ ys ≡ [] → (xs ≡ []) × (ys ≡ [])
-none_first [] ys e = (refl, e)
-none_first (x ∷ xs) ys e = absurd cc
-
-none_here : (f : Box → List Fault) (bs : List Box) → flat_map f (flat_map (at_path []) bs) ≡ [] → AllByRecursion (λ b. f b ≡ []) bs
-unfolding at_path
-none_here f [] e = tt
-none_here f (b ∷ bs) e =
-    let both = none_first (f b) (flat_map f (flat_map (at_path []) bs)) e in
-    (both.0, none_here f bs both.1)
-
-none_below : (f : Box → List Fault) (kind : FourCc) (bs : List Box) → flat_map f (flat_map (at_path (kind ∷ [])) bs) ≡ [] → AllByRecursion (λ b. AllByRecursion (λ c. f c ≡ []) (of_kind kind (children b))) bs
-unfolding at_path
-none_below f kind [] e = tt
-none_below f kind (b ∷ bs) e =
-    let both = none_first (flat_map f (flat_map (at_path []) (of_kind kind (children b)))) (flat_map f (flat_map (at_path (kind ∷ [])) bs))
-    (sym (flat_map-append f (flat_map (at_path []) (of_kind kind (children b))) (flat_map (at_path (kind ∷ [])) bs)) ∙ e) in
-    (none_here f (of_kind kind (children b)) both.0, none_below f kind bs both.1)
-
 -- ---- a tkhd is long, and so is its trak
-
-laid_by : (b : Box) (t u v : Bool) → option_to_list (option_map (λ r. fault_at r b) (cond t (Some FieldLength) (cond u (Some Version) (unless v FieldLength)))) ≡ [] → v ≡ true
-laid_by b true u v e = absurd cc
-laid_by b false true v e = absurd cc
-laid_by b false false true e = refl
-laid_by b false false false e = absurd cc
 
 long_by : (n v : ℕ) → (n == cond (v == 0) 84 96) ≡ true → 84 ≤ n
 long_by n v e = grind (arith, nat_tests)
@@ -92,23 +35,6 @@ long_by n v e = grind (arith, nat_tests)
 laid : (b : Box) → laid_out (Versioned 84 96) b ≡ [] → 84 ≤ length b.payload
 unfolding broken
 laid b e = long_by (length b.payload) (version_in b.payload) (laid_by b (ltb (length b.payload) 4) (ltb 1 (version_in b.payload)) (length b.payload == cond (version_in b.payload == 0) 84 96) e)
-
-kind_total : (kind : FourCc) (bs : List Box) → total (of_kind kind bs) ≤ total bs
-unfolding total
-kind_total kind [] = omega arith
-kind_total kind (b ∷ bs) = by (bytes_eq b.header.kind.0 kind.0) (kind_total kind bs)
-  where
-    by : (t : Bool) → total (of_kind kind bs) ≤ total bs → total (cond t (b ∷ of_kind kind bs) (of_kind kind bs)) ≤ box_len b + total bs
-    by true h = omega arith
-    by false h = omega arith
-
-kind_bytes : (kind : FourCc) (bs : List Box) → AllByRecursion (λ b. IsBytes b.payload) bs → AllByRecursion (λ b. IsBytes b.payload) (of_kind kind bs)
-kind_bytes kind [] all = tt
-kind_bytes kind (b ∷ bs) all = by (bytes_eq b.header.kind.0 kind.0) (kind_bytes kind bs all.1)
-  where
-    by : (t : Bool) → AllByRecursion (λ b. IsBytes b.payload) (of_kind kind bs) → AllByRecursion (λ b. IsBytes b.payload) (cond t (b ∷ of_kind kind bs) (of_kind kind bs))
-    by true h = (all.0, h)
-    by false h = h
 
 trak_long : (t : Box) → IsBytes t.payload → one tkhd t ≡ [] → AllByRecursion (λ b. laid_out (Versioned 84 96) b ≡ []) (of_kind tkhd (children t)) → 64 ≤ box_len t
 unfolding total
@@ -118,37 +44,38 @@ trak_long t fits e all = by (of_kind tkhd (children t)) refl e all
     by [] is e all = absurd cc
     by (b ∷ bs) is e all =
         let long = laid b all.0 in
-        let sum : total (b ∷ bs) ≤ length t.payload = omega (arith, ap total is, kind_total tkhd (children t), (fits_children t fits).sum) in
+        let kept = kind_fits (length t.payload) tkhd (children t) (fits_children t fits) in
+        let sum : total (b ∷ bs) ≤ length t.payload = omega (arith, ap total is, kept.sum) in
         omega (arith, long, sum)
 
-traks_long : (ts : List Box) → AllByRecursion (λ b. IsBytes b.payload) ts → AllByRecursion (λ t. one tkhd t ≡ []) ts → AllByRecursion (λ t. AllByRecursion (λ b. laid_out (Versioned 84 96) b ≡ []) (of_kind tkhd (children t))) ts
+traks_long : (ts : List Box) → AllByRecursion IsLaid ts → AllByRecursion (λ t. one tkhd t ≡ []) ts → AllByRecursion (λ t. AllByRecursion (λ b. laid_out (Versioned 84 96) b ≡ []) (of_kind tkhd (children t))) ts
     → 64 * length ts ≤ total ts
 unfolding total
 traks_long [] fits ones laids = omega arith
-traks_long (t ∷ ts) fits ones laids = omega (arith, trak_long t fits.0 ones.0 laids.0, traks_long ts fits.1 ones.1 laids.1)
+traks_long (t ∷ ts) fits ones laids = omega (arith, trak_long t fits.0.bytes ones.0 laids.0, traks_long ts fits.1 ones.1 laids.1)
 
 -- ---- the whole
 
 numbers_none : (m : Box) → number_faults m ≡ [] → along (one tkhd) (trak ∷ []) m ≡ []
 unfolding number_faults
 numbers_none m e =
-    (none_first _ _ (none_first _ _ (none_first _ _ (none_first _ _ (none_first _ _ (none_first _ _ e).0).0).0).0).0).1
+    (both_none _ _ (both_none _ _ (both_none _ _ (both_none _ _ (both_none _ _ (both_none _ _ e).0).0).0).0).0).1
 
 fields_none : (m : Box) → field_faults m ≡ [] → along (laid_out (Versioned 84 96)) to_tkhd m ≡ []
 unfolding field_faults
 fields_none m e =
-    (none_first _ _ (none_first _ _ (none_first _ _ (none_first _ _ (none_first _ _ (none_first _ _ (none_first _ _ (none_first _ _ (none_first _ _ e).0).0).0).0).0).0).0).0).0
+    (both_none _ _ (both_none _ _ (both_none _ _ (both_none _ _ (both_none _ _ (both_none _ _ (both_none _ _ (both_none _ _ (both_none _ _ e).0).0).0).0).0).0).0).0).0
 
 content_small : (m : Box) → IsBytes m.payload → content_fault m ≡ None → 64 * length (tracks_of m) ≤ length m.payload
 unfolding content_fault form_faults at_path
 content_small m fits e =
     let ts : List Box = of_kind trak (children m) in
     let form = least-none (number_faults m ++ field_faults m) (first_none (least (number_faults m ++ field_faults m)) (least (value_faults m)) e).0 in
-    let both = none_first (number_faults m) (field_faults m) form in
-    let kids = fits_children m fits in
+    let both = both_none (number_faults m) (field_faults m) form in
+    let kids = kind_fits (length m.payload) trak (children m) (fits_children m fits) in
     let ones = none_here (one tkhd) ts (numbers_none m both.0) in
     let laids = none_below (laid_out (Versioned 84 96)) tkhd ts (fields_none m both.1) in
-    omega (arith, traks_long ts (kind_bytes trak (children m) kids.all) ones laids, kind_total trak (children m), kids.sum, length-map ts (track_of m))
+    omega (arith, traks_long ts kids.all ones laids, kids.sum, length-map ts (track_of m))
 
 pub table_small : (o : ℕ) (x : List ℕ) → IsBytes x → moov_fault o x ≡ None → 64 * length (moov_tracks o x) ≤ length x
 table_small o x fits e = by (box_at o x) refl (first_none (fault_of (verdict (tree_faults o x))) (of_moov None content_fault (box_at o x)) e).1
@@ -197,8 +124,8 @@ unfolding content_fault form_faults value_faults track_faults at_path
 content_one m e =
     let ts : List Box = of_kind trak (children m) in
     let parts = first_none (least (number_faults m ++ field_faults m)) (least (sample_faults m ++ along (known m) to_tkhd m)) e in
-    let form = none_first (number_faults m) (field_faults m) (least-none (number_faults m ++ field_faults m) parts.0) in
-    let values = none_first (sample_faults m) (along (known m) to_tkhd m) (least-none (sample_faults m ++ along (known m) to_tkhd m) parts.1) in
+    let form = both_none (number_faults m) (field_faults m) (least-none (number_faults m ++ field_faults m) parts.0) in
+    let values = both_none (sample_faults m) (along (known m) to_tkhd m) (least-none (sample_faults m ++ along (known m) to_tkhd m) parts.1) in
     traks_one m ts (none_here (one tkhd) ts (numbers_none m form.0)) (none_below (known m) tkhd ts values.1)
 
 pub one_trex_each : (o : ℕ) (x : List ℕ) (moov : Box) → box_at o x ≡ Some moov → moov_fault o x ≡ None → AllByRecursion (λ t. length (trexes_of moov (id_of t)) ≡ 1) (of_kind trak (children moov))

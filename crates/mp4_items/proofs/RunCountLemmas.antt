@@ -14,6 +14,7 @@ use Rattle.mp4_box.specs.Fields.{version_in}
 use Rattle.mp4_box.specs.Headers.{IsBytes}
 use Rattle.mp4_box.specs.Paths.{of_kind, at_path}
 use Rattle.mp4_box.specs.Trees.{Box, box_at, box_len, box_then, over, children, payload_offset, fault_at}
+use Rattle.mp4_box.proofs.SizeLemmas.{IsLaid, total, fits_children, kind_fits, both_none, none_below, laid_by}
 use Rattle.mp4_box.proofs.GrammarLemmas.{stands, option_is, Stands}
 use Rattle.mp4_box.proofs.HeaderAnswers.{head-need}
 use Rattle.mp4_box.proofs.HeaderLemmas.{need-least}
@@ -24,85 +25,13 @@ use Rattle.mp4_frag.specs.Moofs.{early_fault, moof_of, moof_runs, no_box}
 use Rattle.mp4_frag.specs.Rules.{form_faults, trun_length}
 use Rattle.mp4_frag.specs.Runs.{Held, Shared, end_place, run_of, runs_from, runs_of, traf_of, trafs_by}
 use Rattle.mp4_frag.specs.Trun.{data_offset_present, first_sample_flags_present, sample_count, sample_fields, trun_broken, trun_fields, trun_len}
-use Rattle.mp4_frag.proofs.MoofLemmas.{early, last_none, moof_is}
-
--- ---- the boxes of some bytes
-
-total : List Box → ℕ
-total [] = 0
-total (b ∷ bs) = box_len b + total bs
-
-record IsLaid (b : Box) : Type 0 where
-  bytes : IsBytes b.payload
-  head : 8 ≤ b.header.header_len
-
-record Fits (n : ℕ) (bs : List Box) : Type 0 where
-  all : AllByRecursion IsLaid bs
-  sum : total bs ≤ n
-
-tail_bytes : (a : ℕ) (xs : List ℕ) → IsBytes (a ∷ xs) → IsBytes xs
-tail_bytes a xs fits i = fits (suc i)
-
-laid_of : (o : ℕ) (x : List ℕ) (b : Box) → Stands o x b → IsLaid b
-laid_of o x b s = record {
-  bytes = s.bytes;
-  head = omega (arith, s.box.spelled.header_len, head-need b.header s.box.head s.box.spelled, need-least s.box.head);
-}
-
-fits_over : (x : List ℕ) (k o : ℕ) → IsBytes x → Fits (length x - k) (over (λ b. b ∷ []) (λ _ _. []) x k o)
-unfolding over total
-fits_over [] k o fits = record { all = tt; sum = omega arith }
-fits_over (a ∷ xs) zero o fits = by (box_at o (a ∷ xs)) refl (λ k. fits_over xs k (o + 1) (tail_bytes a xs fits))
-  where
-    by : (m : Option Box) → box_at o (a ∷ xs) ≡ m → ((k : ℕ) → Fits (length xs - k) (over (λ b. b ∷ []) (λ _ _. []) xs k (o + 1)))
-        → Fits (length (a ∷ xs) - 0) (box_then m (λ b. b ∷ []) [] (λ k. over (λ b. b ∷ []) (λ _ _. []) xs k (o + 1)))
-    by None e later = record { all = tt; sum = omega arith }
-    by (Some b) e later =
-        let s = stands o (a ∷ xs) b fits e in
-        let rest = later (box_len b - 1) in
-        record { all = (laid_of o (a ∷ xs) b s, rest.all); sum = omega (arith, s.low, s.high, rest.sum) }
-fits_over (a ∷ xs) (suc k) o fits =
-    let rest = fits_over xs k (o + 1) (tail_bytes a xs fits) in
-    record { all = rest.all; sum = omega (arith, rest.sum) }
-
-fits_children : (b : Box) → IsBytes b.payload → Fits (length b.payload) (children b)
-fits_children b fits = let f = fits_over b.payload 0 (payload_offset b) fits in record { all = f.all; sum = omega (arith, f.sum) }
-
-kind_fits : (n : ℕ) (kind : FourCc) (bs : List Box) → Fits n bs → Fits n (of_kind kind bs)
-unfolding total
-kind_fits n kind [] f = f
-kind_fits n kind (b ∷ bs) f = by (bytes_eq b.header.kind.0 kind.0) (kind_fits (n - box_len b) kind bs (record { all = f.all.1; sum = omega (arith, f.sum) }))
-  where
-    by : (t : Bool) → Fits (n - box_len b) (of_kind kind bs) → Fits n (cond t (b ∷ of_kind kind bs) (of_kind kind bs))
-    by true h = record { all = (f.all.0, h.all); sum = omega (arith, h.sum, f.sum) }
-    by false h = record { all = h.all; sum = omega (arith, h.sum) }
+use Rattle.mp4_frag.proofs.MoofLemmas.{early, moof_is}
 
 -- ---- where nothing is at fault with the truns
 
-none_here : (f : Box → List Fault) (bs : List Box) → flat_map f (flat_map (at_path []) bs) ≡ [] → AllByRecursion (λ b. f b ≡ []) bs
-unfolding at_path
-none_here f [] e = tt
-none_here f (b ∷ bs) e =
-    let both = last_none (f b) (flat_map f (flat_map (at_path []) bs)) e in
-    (both.0, none_here f bs both.1)
-
-none_below : (f : Box → List Fault) (kind : FourCc) (bs : List Box) → flat_map f (flat_map (at_path (kind ∷ [])) bs) ≡ [] → AllByRecursion (λ b. AllByRecursion (λ c. f c ≡ []) (of_kind kind (children b))) bs
-unfolding at_path
-none_below f kind [] e = tt
-none_below f kind (b ∷ bs) e =
-    let both = last_none (flat_map f (flat_map (at_path []) (of_kind kind (children b)))) (flat_map f (flat_map (at_path (kind ∷ [])) bs))
-    (sym (flat_map-append f (flat_map (at_path []) (of_kind kind (children b))) (flat_map (at_path (kind ∷ [])) bs)) ∙ e) in
-    (none_here f (of_kind kind (children b)) both.0, none_below f kind bs both.1)
-
 truns_none : (m : Box) → form_faults m ≡ [] → AllByRecursion (λ t. AllByRecursion (λ b. trun_length b ≡ []) (of_kind trun (children t))) (of_kind traf (children m))
 unfolding form_faults at_path
-truns_none m e = none_below trun_length trun (of_kind traf (children m)) (last_none _ _ e).1
-
-laid_by : (b : Box) (t u v : Bool) → option_to_list (option_map (λ r. fault_at r b) (cond t (Some FieldLength) (cond u (Some Version) (unless v FieldLength)))) ≡ [] → v ≡ true
-laid_by b true u v e = absurd cc
-laid_by b false true v e = absurd cc
-laid_by b false false true e = refl
-laid_by b false false false e = absurd cc
+truns_none m e = none_below trun_length trun (of_kind traf (children m)) (both_none _ _ e).1
 
 long_by : (n i j k : ℕ) → (n == 8 + i + j + k) ≡ true → 8 ≤ n
 long_by n i j k e = grind (arith, nat_tests)
