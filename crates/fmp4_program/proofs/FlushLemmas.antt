@@ -13,13 +13,14 @@ use Rattle.mp4_reading.proofs.ReadingAskLemmas.{AtMost-same}
 
 -- of an answer that is Ok nothing but that is said
 Runs-answer : {T : Type 0} {whole : List ℕ → Reading} {ends : Ends} {claims : Claims} {tally : Tally} {t x : T} → Runs {T = T} whole ends claims tally (Ok t) → Runs {T = T} whole ends claims tally (Ok x)
-Runs-answer r = record { bytes = r.bytes; given = r.given; prompt = r.prompt; comes = r.comes; kept = λ other. r.kept (λ e. absurd cc) }
+Runs-answer r = record { bytes = r.bytes; fits = r.fits; given = r.given; prompt = r.prompt; comes = r.comes; kept = λ other. r.kept (λ e. absurd cc) }
 
 module _ {T : Type 0} {whole : List ℕ → Reading} {ends : Ends} {claims : Claims} {tally : Tally} {t : T} (u : Option (List ℕ)) (failed : Bool) (r : Runs {T = T} whole ends claims tally (Ok t)) (kept : Keeps ends.written' u) where
   -- it was flushed
   flushed : failed ≡ ends.write_failed' → Runs {T = T} whole (record ends { written' = u; write_failed' = failed }) claims tally (Ok t)
   flushed same = record {
     bytes = r.bytes;
+    fits = r.fits;
     given = r.given;
     prompt = record { early = r.prompt.early; last = r.prompt.last; cut = r.prompt.cut; few = r.prompt.few; undecided = r.prompt.undecided };
     comes = (record { text = Appends-kept ends.written ends.written' u _ r.comes.0.text kept; peak = r.comes.0.peak; tally = r.comes.0.tally }, r.comes.1, r.comes.2);
@@ -30,6 +31,7 @@ module _ {T : Type 0} {whole : List ℕ → Reading} {ends : Ends} {claims : Cla
   unflushed : failed ≡ true → Runs {T = T} whole (record ends { written' = u; write_failed' = failed }) claims tally (Err Write)
   unflushed is = record {
     bytes = r.bytes;
+    fits = r.fits;
     given = r.given;
     prompt = record { early = r.prompt.early; last = r.prompt.last; cut = r.prompt.cut; few = r.prompt.few; undecided = r.prompt.undecided };
     comes = (
@@ -49,8 +51,3 @@ pub after_flush : {T : Type 0} {whole : List ℕ → Reading} {ends : Ends} {cla
     → OnOk s ((ends.write_failed' ≡ false) × (failed ≡ false)) → IfErr s (λ e. (e ≡ Write) × (failed ≡ true)) → Runs {T = T} whole (record ends { written' = u; write_failed' = failed }) claims tally s
 after_flush {T = T} {whole = whole} {ends = ends} {claims = claims} {tally = tally} u failed (Ok x) r kept good bad = Runs-answer (flushed u failed r kept (good.1 ∙ sym good.0))
 after_flush {T = T} {whole = whole} {ends = ends} {claims = claims} {tally = tally} u failed (Err e) r kept good bad = subst (λ k. Runs {T = T} whole (record ends { written' = u; write_failed' = failed }) claims tally (Err k)) (sym bad.0) (unflushed u failed r kept bad.1)
-
--- what holds holds on Ok
-pub on_any : {T : Type 0} {P : Type 0} (s : Result T Stop) → P → OnOk s P
-on_any (Ok t) p = p
-on_any (Err e) p = tt

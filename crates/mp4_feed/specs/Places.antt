@@ -5,8 +5,7 @@ use Rattle.mp4_box.specs.Headers.{need}
 use Rattle.mp4_init.specs.declared.table.Track.{Track}
 use Rattle.mp4_ledger.specs.Memory.{Account, given_back}
 use Rattle.mp4_reading.specs.Bodies.{longest, told_body, told_open}
-use Rattle.mp4_reading.specs.Ends.{Sent}
-use Rattle.mp4_reading.specs.Pieces.{Around, Outside, Standing}
+use Rattle.mp4_reading.specs.Pieces.{Around, Outside, Standing, outside}
 use Rattle.mp4_reading.specs.Readings.{Reading, Told, silent, then_read}
 use Rattle.mp4_reading.specs.declared.stop.Stop.{Stop}
 use Rattle.mp4_reading.specs.declared.tally.Tally.{Tally}
@@ -64,18 +63,6 @@ IsPlace (InBody tell at kind next left own) = (0 < left) × (left ≤ next.at) �
 IsPlace (InOpenBody tell at kind needed left own) = (left ≤ longest) × (tell [] ≡ silent)
 
 -- ---- what is outside a machine
-
-abbrev pub outside : Option (List ℕ) → List ℕ → Account → Tally → Outside
-outside written waiting account tally = record { written = written; waiting = waiting; account = account; tally = tally }
-
--- a call that is lent a writer, a block, a ledger and a tally, by what they were and are
-abbrev pub around : Sent → (waiting waiting' : List ℕ) → (account account' : Account) → (tally tally' : Tally) → Around
-around s waiting waiting' account account' tally tally' = record {
-  before = outside s.written waiting account tally;
-  behind = outside s.written' waiting' account' tally';
-  failed = s.failed;
-  failed' = s.failed';
-}
 
 -- a writer and a block that a call isn't lent
 pub record Unlent : Type 0 where

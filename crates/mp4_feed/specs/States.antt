@@ -16,6 +16,7 @@ use Rattle.mp4_reading.specs.Holding.{Begins}
 use Rattle.mp4_reading.specs.Pieces.{Standing}
 use Rattle.mp4_reading.specs.Readings.{silent, uncounted}
 use Rattle.mp4_items.specs.declared.command.Command.{Command}
+use Rattle.mp4_items.specs.declared.command.Command.TheVariants.{Samples, Check}
 use Rattle.mp4_items.specs.Commands.{making}
 use Rattle.mp4_items.specs.Contexts.{Context, context, table_of}
 use Rattle.mp4_items.specs.Items.{fragment}
@@ -128,22 +129,54 @@ abbrev pub bound_behind : ℕ → Size → ℕ
 bound_behind at (Exact s) = at + s
 bound_behind at ToEnd = most_counted
 
-abbrev pub owed_by : State → ℕ
-owed_by (states.Header at) = 0
-owed_by (states.Holding h) = 0
-owed_by (states.Behind w) = 2 * moof_samples (moof_in w)
-owed_by (states.Body b w) = samples_of w
-owed_by (states.OpenBody b w) = samples_of w
+-- how many the moof has that waits for its mdat
+abbrev pub untold_by : State → ℕ
+untold_by (states.Header at) = 0
+untold_by (states.Holding h) = 0
+untold_by (states.Behind w) = moof_samples (moof_in w)
+untold_by (states.Body b w) = 0
+untold_by (states.OpenBody b w) = 0
 
--- rows are read once where a moof is read, once for its list, once where its samples are listed, and once behind it: so many are still owed
-pub record IsCounted (c : Counter) (bound owed : ℕ) : Type 0 where
+-- how many the moof has behind which its tracks don't end yet
+abbrev pub unsettled_by : State → ℕ
+unsettled_by (states.Header at) = 0
+unsettled_by (states.Holding h) = 0
+unsettled_by (states.Behind w) = moof_samples (moof_in w)
+unsettled_by (states.Body b w) = samples_of w
+unsettled_by (states.OpenBody b w) = samples_of w
+
+-- how many rows are read for the lines of n samples
+abbrev pub listed_by : Command → ℕ → ℕ
+listed_by Samples n = n
+listed_by Check n = 0
+
+-- how often the row of a sample is read at most: where its moof is read, for the list of the runs, for its line, and behind the fragment
+abbrev pub reads_of : Command → ℕ
+reads_of Samples = 4
+reads_of Check = 3
+
+-- of the samples that were looked at so many wait for their mdat, and so many for its end; each was read once, those that wait or are counted once more, and these again where they are listed
+pub record IsCounted (command : Command) (c : Counter) (bound untold unsettled : ℕ) : Type 0 where
   pub fragments : c.tally.fragments ≤ bound
   pub media : c.tally.media_bytes ≤ bound
   pub walked : c.tally.walked ≤ 1000000 * bound
   pub samples : c.tally.samples ≤ 1000000 * bound
-  pub some : c.tally.walked ≤ c.steps.rows
-  pub few : c.steps.rows + owed ≤ 4 * c.tally.walked
+  pub all : c.tally.samples + untold ≤ c.tally.walked
+  pub some : c.tally.walked + c.tally.samples + untold + listed_by command c.tally.samples ≤ c.steps.rows
+  pub few : c.steps.rows + listed_by command untold + unsettled ≤ reads_of command * c.tally.walked
   pub far : bound ≤ most_counted
+
+-- by what it takes next
+abbrev pub HasCounted : Command → State → Counter → Type 0
+HasCounted command s c = IsCounted command c (bound_of s) (untold_by s) (unsettled_by s)
+
+-- where it stops
+abbrev pub HasStopped : Command → Counter → Type 0
+HasStopped command c = IsCounted command c most_counted 0 0
+
+-- there is room to count a moof
+abbrev pub CanCount : Counter → Type 0
+CanCount c = (c.tally.walked < 2 ^ 100) × (c.steps.rows < 2 ^ 100)
 
 -- ---- a machine
 
@@ -151,14 +184,13 @@ pub record IsCounted (c : Counter) (bound owed : ℕ) : Type 0 where
 abbrev pub stopped : State
 stopped = states.OpenBody (record { at = 0; kind = record { 0 = codes "mdat" }; needed = 0; left = 0 }) None
 
--- what is seen of it: the command, the tracks, what it keeps with the bytes of a header that came, what it has counted, and the bytes that wait to be sent
+-- what is seen of it: the command, the tracks, what it keeps with the bytes of a header that came, and what it has counted
 pub record Progress : Type 0 where
   pub command : Command
   pub tracks : Option (List Track)
   pub head : List ℕ
   pub state : State
   pub counter : Counter
-  pub waiting : List ℕ
 
 -- one to which no byte has come
 abbrev pub begun : Command → Progress
@@ -168,7 +200,6 @@ begun command = record {
   head = [];
   state = states.Header 0;
   counter = record { tally = uncounted; steps = record { rows = 0 } };
-  waiting = [];
 }
 
 -- where it is
@@ -179,8 +210,8 @@ abbrev pub stands_in : Progress → Standing
 stands_in p = standing (making p.command) (place_in p)
 
 -- it counts what the stream up to its place bounds
-abbrev pub IsMachine : Option (List Track) → List ℕ → State → Counter → Type 0
-IsMachine tracks head s c = IsState tracks head s × IsCounted c (bound_of s) (owed_by s)
+abbrev pub IsMachine : Command → Option (List Track) → List ℕ → State → Counter → Type 0
+IsMachine command tracks head s c = IsState tracks head s × HasCounted command s c
 
 -- ---- what it lists
 

@@ -14,10 +14,11 @@ ghost use Rattle.mp4_items.specs.declared.kinds.Kind.TheVariants.{Mdat};
 ghost use Rattle.mp4_reading.specs.Blocks.{Passes};
 ghost use Rattle.mp4_reading.specs.Bodies.{least_end, longest};
 ghost use Rattle.mp4_reading.specs.Ends.{sent};
-ghost use Rattle.mp4_reading.specs.Pieces.{GoesOn, Takes};
+ghost use Rattle.mp4_reading.specs.Pieces.{GoesOn, Takes, around, outside};
 ghost use Rattle.mp4_reading.specs.Readings.{plus};
-ghost use Rattle.mp4_feed.specs.Places.{Behind, Unlent, around, claim_of, outside, standing, when_stopped};
-ghost use Rattle.mp4_feed.specs.States.{IsCounted, IsState, IsWaiting, bound_behind, bound_of, claimed_in, fragment_of, in_mdat, known, most_counted, moof_in, owed_by, place_of};
+ghost use Rattle.mp4_feed.specs.Places.{Behind, Unlent, claim_of, standing, when_stopped};
+ghost use Rattle.mp4_feed.specs.States.{CanCount, HasCounted, HasStopped, IsCounted, IsState, IsWaiting, bound_behind, claimed_in, fragment_of, in_mdat, known, listed_by, moof_in, place_of};
+ghost use Rattle.mp4_feed.specs.declared.state.State.TheVariants as states;
 
 use crate::bodies::{arrive, back};
 use crate::heads::take_head;
@@ -70,8 +71,9 @@ fn tell<W: Sink>(
         header.now header.now.size ≤ longest }
     requires good { fragment_fault (making command)
         (fragment_of waiting.now tracks.now header.now) ≡ None }
-    requires counted { IsCounted counter.old (waiting.now.moof.at + waiting.now.moof.size)
-        (2 * moof_samples (moof_in waiting.now)) }
+    requires counted { IsCounted command counter.old
+        (waiting.now.moof.at + waiting.now.moof.size)
+        (moof_samples (moof_in waiting.now)) (moof_samples (moof_in waiting.now)) }
     ensures needed { IfOk result (λ n.
         n ≡ needed_in (fragment_of waiting.now tracks.now header.now)) }
     ensures ok { OnOk result (Passes (W.contents w.old) (W.contents w.new) out.old out.new
@@ -82,9 +84,11 @@ fn tell<W: Sink>(
     ensures kept { OnOk result (W.has_failed w.new ≡ W.has_failed w.old) }
     ensures tally { counter.new.tally ≡ plus counter.old.tally
         (counted_in (fragment_of waiting.now tracks.now header.now)) }
-    ensures counted { IsCounted counter.new (bound_behind
+    ensures walked { counter.new.steps.rows ≡
+        counter.old.steps.rows + listed_by command (moof_samples (moof_in waiting.now)) }
+    ensures counted { IsCounted command counter.new (bound_behind
         (waiting.now.moof.at + waiting.now.moof.size) header.now.size)
-        (moof_samples (moof_in waiting.now)) }
+        0 (moof_samples (moof_in waiting.now)) }
 {
     let next = waiting.moof.offset() + waiting.moof.size();
     let measure = measure_runs(waiting, payload_of(next, header), tracks);
@@ -94,8 +98,7 @@ fn tell<W: Sink>(
     match command {
         Command::Check => Ok(measure.needed),
         Command::Samples => {
-            counter.steps.rows += u128::from(samples);
-            match put_runs(waiting, tracks, out, w) {
+            match put_runs(waiting, tracks, &mut counter.steps, out, w) {
                 Ok(()) => Ok(measure.needed),
                 Err(Failed) => Err(Failed),
             }
@@ -117,8 +120,7 @@ fn enter(
     requires near { least_end at header.now header.now.size ≤ longest }
     requires waiting { IsWaiting tracks.old waiting }
     requires claim { claimed_in tracks.old (Some waiting) ≤ ledger.old.live }
-    requires counted { IsCounted counter.old (bound_behind at header.now.size)
-        (moof_samples (moof_in waiting)) }
+    requires count { CanCount counter.old }
     ensures goes { (list : List Track) → tracks.old ≡ Some list → (command : Command) (u : Unlent) →
         GoesOn (outside u.written u.waiting ledger.old counter.old.tally)
         (outside u.written u.waiting ledger.new counter.new.tally)
@@ -126,7 +128,9 @@ fn enter(
         [] (standing (making command) (place_of tracks.new [] result)) }
     ensures state { IsState tracks.new [] result }
     ensures claim { claim_of (place_of tracks.new [] result) ≤ ledger.new.live }
-    ensures counted { IsCounted counter.new (bound_of result) (owed_by result) }
+    ensures counted { (command : Command) → IsCounted command counter.old
+        (bound_behind at header.now.size) 0 (moof_samples (moof_in waiting)) →
+        HasCounted command result counter.new }
 {
     match header.size {
         Size::Exact(size) => {
@@ -172,8 +176,7 @@ fn begin_fragment<W: Sink>(
     requires is { header_at head.now ≡ steps.Whole header.now }
     requires waiting { IsWaiting tracks.old waiting }
     requires claim { claimed_in tracks.old (Some waiting) ≤ ledger.old.live }
-    requires counted { IsCounted counter.old (waiting.moof.at + waiting.moof.size)
-        (2 * moof_samples (moof_in waiting)) }
+    requires counted { HasCounted command (states.Behind waiting) counter.old }
     ensures takes { Takes (around (sent W.contents W.has_failed w.old w.new) out.old out.new
         ledger.old (when_stopped result (table_of tracks.old) ledger.new)
         counter.old.tally counter.new.tally)
@@ -184,8 +187,8 @@ fn begin_fragment<W: Sink>(
     ensures left { OnErr result (table_of tracks.old ≤ ledger.new.live) }
     ensures state { IfOk result (λ s. IsState tracks.new [] s) }
     ensures claim { IfOk result (λ s. claim_of (place_of tracks.new [] s) ≤ ledger.new.live) }
-    ensures counted { IfOk result (λ s. IsCounted counter.new (bound_of s) (owed_by s)) }
-    ensures spent { OnErr result (IsCounted counter.new most_counted 0) }
+    ensures counted { IfOk result (λ s. HasCounted command s counter.new) }
+    ensures spent { OnErr result (HasStopped command counter.new) }
 {
     let Some(list) = tracks else {
         unreachable!();
@@ -228,8 +231,7 @@ fn begin_behind<W: Sink>(
     requires len { length head.old ≤ need head.old }
     requires waiting { IsWaiting tracks.old waiting }
     requires claim { claimed_in tracks.old (Some waiting) ≤ ledger.old.live }
-    requires counted { IsCounted counter.old (waiting.moof.at + waiting.moof.size)
-        (2 * moof_samples (moof_in waiting)) }
+    requires counted { HasCounted command (states.Behind waiting) counter.old }
     ensures takes { Takes (around (sent W.contents W.has_failed w.old w.new) out.old out.new
         ledger.old (when_stopped result (table_of tracks.old) ledger.new)
         counter.old.tally counter.new.tally)
@@ -242,8 +244,8 @@ fn begin_behind<W: Sink>(
     ensures state { IfOk result (λ s. IsState tracks.new head.new s) }
     ensures claim { IfOk result (λ s.
         claim_of (place_of tracks.new head.new s) ≤ ledger.new.live) }
-    ensures counted { IfOk result (λ s. IsCounted counter.new (bound_of s) (owed_by s)) }
-    ensures spent { OnErr result (IsCounted counter.new most_counted 0) }
+    ensures counted { IfOk result (λ s. HasCounted command s counter.new) }
+    ensures spent { OnErr result (HasStopped command counter.new) }
 {
     match *step {
         Step::More => Ok(State::Behind(waiting)),
@@ -286,8 +288,7 @@ pub(crate) fn take_behind<W: Sink>(
     requires short { length head.old < need head.old }
     requires waiting { IsWaiting tracks.old waiting }
     requires claim { claimed_in tracks.old (Some waiting) ≤ ledger.old.live }
-    requires counted { IsCounted counter.old (waiting.moof.at + waiting.moof.size)
-        (2 * moof_samples (moof_in waiting)) }
+    requires counted { HasCounted command (states.Behind waiting) counter.old }
     ensures takes { Takes (around (sent W.contents W.has_failed w.old w.new) out.old out.new
         ledger.old (when_stopped result (table_of tracks.old) ledger.new)
         counter.old.tally counter.new.tally)
@@ -302,9 +303,8 @@ pub(crate) fn take_behind<W: Sink>(
     ensures state { IfOk result (λ t. IsState tracks.new head.new t.state) }
     ensures claim { IfOk result (λ t.
         claim_of (place_of tracks.new head.new t.state) ≤ ledger.new.live) }
-    ensures counted { IfOk result (λ t.
-        IsCounted counter.new (bound_of t.state) (owed_by t.state)) }
-    ensures spent { OnErr result (IsCounted counter.new most_counted 0) }
+    ensures counted { IfOk result (λ t. HasCounted command t.state counter.new) }
+    ensures spent { OnErr result (HasStopped command counter.new) }
 {
     let taken = take_head(head, piece);
     let step = taken.step;

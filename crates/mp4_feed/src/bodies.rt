@@ -1,18 +1,18 @@
 //! Bodies that are passed over, and what is done behind the mdat of a moof.
 
 ghost use Rattle.std.specs.Prelude.{◌≡◌, ◌+◌, ◌*◌, ◌<◌, ◌≤◌, ◌^◌, [], length, take, Some, IfOk, OnErr};
-ghost use Rattle.mp4_frag.specs.Moofs.{moof_samples, moof_trafs};
-ghost use Rattle.mp4_frag.specs.Settling.{settled};
+ghost use Rattle.mp4_frag.specs.Moofs.{moof_of, moof_samples, moof_trafs};
+ghost use Rattle.mp4_frag.specs.Settling.{settled, timed_of};
 ghost use Rattle.mp4_ledger.specs.Memory.{given_back};
 ghost use Rattle.mp4_reading.specs.Bodies.{longest};
-ghost use Rattle.mp4_reading.specs.Pieces.{GoesOn, Takes};
+ghost use Rattle.mp4_reading.specs.Pieces.{GoesOn, Takes, outside};
 ghost use Rattle.mp4_reading.specs.Readings.{silent};
 ghost use Rattle.mp4_reading.specs.declared.tally.Tally.{Tally};
 ghost use Rattle.mp4_items.specs.Commands.{making};
 ghost use Rattle.mp4_items.specs.Contexts.{table_of};
 ghost use Rattle.mp4_items.specs.declared.command.Command.{Command};
-ghost use Rattle.mp4_feed.specs.Places.{InBody, InOpenBody, Unlent, beside, claim_of, outside, standing, when_stopped};
-ghost use Rattle.mp4_feed.specs.States.{IsCounted, IsState, IsWaiting, MayWait, behind_body, bound_of, claimed_in, moof_in, owed_by, place_of, samples_of, taken_by};
+ghost use Rattle.mp4_feed.specs.Places.{InBody, InOpenBody, Unlent, beside, claim_of, standing, when_stopped};
+ghost use Rattle.mp4_feed.specs.States.{CanCount, HasCounted, IsCounted, IsState, IsWaiting, MayWait, behind_body, claimed_in, moof_in, place_of, samples_of, taken_by};
 
 use crate::state::{Body, Counter, OpenBody, State, Waiting};
 use mp4_box::{Fault, Rule};
@@ -31,7 +31,8 @@ fn settle(waiting: Waiting, tracks: &mut TrackList, ledger: &mut Ledger, counter
     ensures back { ledger.new ≡ given_back (given_back ledger.old
         (64 * length waiting.runs.rows)) waiting.moof.size }
     ensures tally { counter.new.tally ≡ counter.old.tally }
-    ensures some { counter.old.steps.rows ≤ counter.new.steps.rows }
+    ensures walked { counter.new.steps.rows ≡
+        counter.old.steps.rows + timed_of (moof_of (moof_in waiting)) }
     ensures few { counter.new.steps.rows ≤
         counter.old.steps.rows + moof_samples (moof_in waiting) }
 {
@@ -64,7 +65,7 @@ pub(crate) fn arrive(
     requires body { (body.left ≤ body.next) × (body.next ≤ longest) }
     requires waiting { MayWait tracks.old waiting }
     requires claim { claimed_in tracks.old waiting ≤ ledger.old.live }
-    requires counted { IsCounted counter.old body.next (samples_of waiting) }
+    requires count { CanCount counter.old }
     ensures goes { (command : Command) (u : Unlent) →
         GoesOn (outside u.written u.waiting ledger.old counter.old.tally)
         (outside u.written u.waiting ledger.new counter.new.tally)
@@ -73,7 +74,9 @@ pub(crate) fn arrive(
         [] (standing (making command) (place_of tracks.new [] result)) }
     ensures state { IsState tracks.new [] result }
     ensures claim { claim_of (place_of tracks.new [] result) ≤ ledger.new.live }
-    ensures counted { IsCounted counter.new (bound_of result) (owed_by result) }
+    ensures counted { (command : Command) →
+        IsCounted command counter.old body.next 0 (samples_of waiting) →
+        HasCounted command result counter.new }
 {
     if body.left > 0 {
         return State::Body(body, waiting);

@@ -16,7 +16,7 @@ ghost use Rattle.mp4_items.specs.Kinds.{kind_in};
 ghost use Rattle.mp4_items.specs.declared.command.Command.{Command};
 ghost use Rattle.mp4_items.specs.declared.kinds.Kind.TheVariants.{Other};
 ghost use Rattle.mp4_feed.specs.Places.{InBody, InHeader, InHeld, Unlent, beside, claim_of, standing, when_stopped};
-ghost use Rattle.mp4_feed.specs.States.{IsCounted, IsState, bound_of, most_counted, owed_by, place_of};
+ghost use Rattle.mp4_feed.specs.States.{CanCount, HasCounted, HasStopped, IsCounted, IsState, place_of};
 ghost use Rattle.mp4_feed.specs.declared.state.Counter.{Counter};
 
 use crate::moofs::settle_moof;
@@ -92,7 +92,7 @@ pub(crate) fn hold(
     requires begins { Begins held.size held.bytes }
     requires near { held.at + held.size ≤ longest }
     requires claim { table_of tracks.old + held.size ≤ ledger.old.live }
-    requires counted { IsCounted counter.old held.at 0 }
+    requires count { CanCount counter.old }
     ensures takes { (command : Command) (u : Unlent) →
         Takes (beside u ledger.old
         (when_stopped result (table_of tracks.old) ledger.new)
@@ -104,8 +104,10 @@ pub(crate) fn hold(
     ensures left { OnErr result (table_of tracks.old ≤ ledger.new.live) }
     ensures state { IfOk result (λ s. IsState tracks.new [] s) }
     ensures claim { IfOk result (λ s. claim_of (place_of tracks.new [] s) ≤ ledger.new.live) }
-    ensures counted { IfOk result (λ s. IsCounted counter.new (bound_of s) (owed_by s)) }
-    ensures spent { OnErr result (IsCounted counter.new most_counted 0) }
+    ensures counted { (command : Command) → IsCounted command counter.old held.at 0 0 →
+        IfOk result (λ s. HasCounted command s counter.new) }
+    ensures spent { (command : Command) → IsCounted command counter.old held.at 0 0 →
+        OnErr result (HasStopped command counter.new) }
 {
     if !held.is_whole() {
         return Ok(State::Holding(held));
@@ -135,7 +137,6 @@ fn take_moov(
     requires near { held.at + held.size ≤ longest }
     requires whole { length held.bytes ≡ held.size }
     requires claim { held.size ≤ ledger.old.live }
-    requires counted { IsCounted counter.now held.at 0 }
     ensures takes { (command : Command) (u : Unlent) →
         Takes (beside u ledger.old ledger.new counter.now.tally counter.now.tally)
         (standing (making command)
@@ -145,7 +146,8 @@ fn take_moov(
     ensures left { OnErr result (table_of tracks.old ≤ ledger.new.live) }
     ensures state { IfOk result (λ s. IsState tracks.new [] s) }
     ensures claim { IfOk result (λ s. claim_of (place_of tracks.new [] s) ≤ ledger.new.live) }
-    ensures counted { IfOk result (λ s. IsCounted counter.now (bound_of s) (owed_by s)) }
+    ensures counted { (command : Command) → IsCounted command counter.now held.at 0 0 →
+        IfOk result (λ s. HasCounted command s counter.now) }
 {
     let at = held.offset() + held.size();
     match settle_moov(held, ledger) {
@@ -187,7 +189,7 @@ fn keep_on(
     requires is { header_at head.now ≡ steps.Whole header.now }
     requires end { least_end at header.now header.now.size ≤ longest }
     requires claim { table_of tracks.old ≤ ledger.old.live }
-    requires counted { IsCounted counter.old at 0 }
+    requires count { CanCount counter.old }
     requires reads { (command : Command) (later : List ℕ) →
         reads_in (making command) (context at tracks.old 1) (head.now ++ later) ≡
         then_read (reads_in (making command)) (keeping (making command)
@@ -202,8 +204,10 @@ fn keep_on(
     ensures left { OnErr result (table_of tracks.old ≤ ledger.new.live) }
     ensures state { IfOk result (λ s. IsState tracks.new [] s) }
     ensures claim { IfOk result (λ s. claim_of (place_of tracks.new [] s) ≤ ledger.new.live) }
-    ensures counted { IfOk result (λ s. IsCounted counter.new (bound_of s) (owed_by s)) }
-    ensures spent { OnErr result (IsCounted counter.new most_counted 0) }
+    ensures counted { (command : Command) → IsCounted command counter.old at 0 0 →
+        IfOk result (λ s. HasCounted command s counter.new) }
+    ensures spent { (command : Command) → IsCounted command counter.old at 0 0 →
+        OnErr result (HasStopped command counter.new) }
 {
     match keep(at, header, limit, head, tracks, ledger) {
         Ok(held) => hold(held, tracks, ledger, counter),
@@ -223,8 +227,8 @@ fn pass_over(at: u64, header: &Header) -> State
     ensures state { (tracks : Option (List Track)) → IsState tracks [] result }
     ensures claim { (tracks : Option (List Track)) →
         claim_of (place_of tracks [] result) ≡ table_of tracks }
-    ensures counted { (c : Counter) → IsCounted c at 0 →
-        IsCounted c (bound_of result) (owed_by result) }
+    ensures counted { (command : Command) (c : Counter) → IsCounted command c at 0 0 →
+        HasCounted command result c }
 {
     match header.size {
         Size::Exact(size) => pass_sized(at, header.kind, size, header.header_len),
@@ -251,8 +255,8 @@ fn pass_sized(at: u64, kind: FourCc, size: u64, header_len: u64) -> State
     ensures state { (tracks : Option (List Track)) → IsState tracks [] result }
     ensures claim { (tracks : Option (List Track)) →
         claim_of (place_of tracks [] result) ≡ table_of tracks }
-    ensures counted { (c : Counter) → IsCounted c at 0 →
-        IsCounted c (bound_of result) (owed_by result) }
+    ensures counted { (command : Command) (c : Counter) → IsCounted command c at 0 0 →
+        HasCounted command result c }
 {
     let next = at + size;
     if size == header_len {
@@ -288,7 +292,7 @@ pub(crate) fn begin(
     requires len { length head.now ≡ need head.now }
     requires is { header_at head.now ≡ steps.Whole header.now }
     requires claim { table_of tracks.old ≤ ledger.old.live }
-    requires counted { IsCounted counter.old at 0 }
+    requires count { CanCount counter.old }
     ensures takes { (command : Command) (u : Unlent) →
         Takes (beside u ledger.old
         (when_stopped result (table_of tracks.old) ledger.new)
@@ -299,8 +303,10 @@ pub(crate) fn begin(
     ensures left { OnErr result (table_of tracks.old ≤ ledger.new.live) }
     ensures state { IfOk result (λ s. IsState tracks.new [] s) }
     ensures claim { IfOk result (λ s. claim_of (place_of tracks.new [] s) ≤ ledger.new.live) }
-    ensures counted { IfOk result (λ s. IsCounted counter.new (bound_of s) (owed_by s)) }
-    ensures spent { OnErr result (IsCounted counter.new most_counted 0) }
+    ensures counted { (command : Command) → IsCounted command counter.old at 0 0 →
+        IfOk result (λ s. HasCounted command s counter.new) }
+    ensures spent { (command : Command) → IsCounted command counter.old at 0 0 →
+        OnErr result (HasStopped command counter.new) }
 {
     if is_too_long(at, header) {
         return Err(refused(Rule::StreamTooLong, Some(header.kind), at));

@@ -1,6 +1,6 @@
 //! The machine that is fed a fragmented stream piece by piece.
 //!
-//! - [`machine`]: [`Machine`];
+//! - [`machine`]: [`FragmentMachine`];
 //! - [`state`]: what it keeps;
 //! - [`heads`]: how headers are taken, and [`intake`]: how a box is begun;
 //! - [`moovs`] and [`moofs`]: how a moov or a moof is taken of which all came;
@@ -27,4 +27,4 @@ mod second;
 mod state;
 mod take;
 
-pub use machine::Machine;
+pub use machine::FragmentMachine;

@@ -3,15 +3,16 @@
 ghost use Rattle.std.specs.Prelude.{◌≡◌, ◌+◌, ◌+ℤ◌, ◌<ℤ◌, ◌≤ℤ◌, ◌<◌, ◌^◌, ◌++◌, pos, Some, true, OnErr, OnOk};
 ghost use Rattle.mp4_ends.specs.Streams.{AppendsPrefix};
 ghost use Rattle.mp4_frag.specs.Laws.{first_cursor, past};
+ghost use Rattle.mp4_frag.specs.Moofs.{moof_samples};
 ghost use Rattle.mp4_reading.specs.Blocks.{Passes};
 ghost use Rattle.mp4_items.specs.Samples.{sample_lines, sample_of, samples_from, samples_of_run};
 ghost use Rattle.mp4_pieces.specs.Pieces.{IsRunOf};
-ghost use Rattle.mp4_feed.specs.States.{IsWaiting, lines_of};
+ghost use Rattle.mp4_feed.specs.States.{IsWaiting, lines_of, moof_in};
 ghost use Rattle.mp4_pieces.specs.Growing.{HasRoom};
 
 use crate::state::Waiting;
 use mp4_ends::{Failed, Sink};
-use mp4_frag::{Cursor, Moof, Row, Rows, Run};
+use mp4_frag::{Cursor, Moof, Row, Rows, Run, Steps};
 use mp4_init::TrackList;
 use mp4_items::Sample;
 use mp4_lines::Line;
@@ -97,14 +98,19 @@ fn put_run<W: Sink>(run: &Run, held: &[u8], out: &mut Block, w: &mut W) -> Resul
     }
 }
 
-/// Puts the lines of the samples of the moof that waits, its runs in the order in which they are taken.
+/// Puts the lines of the samples of the moof that waits, its runs in the order in which they are taken. They are counted in
+/// `steps` as rows that were read.
 pub(crate) fn put_runs<W: Sink>(
     waiting: &Waiting,
     tracks: &TrackList,
+    steps: &mut Steps,
     out: &mut Block,
     w: &mut W,
 ) -> Result<(), Failed>
-    requires { IsWaiting (Some tracks.now) waiting.now }
+    requires waiting { IsWaiting (Some tracks.now) waiting.now }
+    requires steps { steps.old.rows < 2 ^ 127 }
+    ensures walked { steps.new.rows ≡
+        steps.old.rows + moof_samples (moof_in waiting.now) }
     ensures ok { OnOk result (Passes (W.contents w.old) (W.contents w.new) out.old out.new
         (lines_of waiting.now tracks.now)) }
     ensures err { OnErr result (AppendsPrefix (W.contents w.old) (W.contents w.new)
@@ -113,6 +119,7 @@ pub(crate) fn put_runs<W: Sink>(
     ensures kept { OnOk result (W.has_failed w.new ≡ W.has_failed w.old) }
 {
     let moof = Moof::again(waiting.moof.bytes(), waiting.moof.offset(), tracks);
+    steps.rows += u128::from(moof.samples());
     let mut i = 0;
     while i < waiting.runs.len() {
         let run = waiting.runs.at(i, &moof, tracks);

@@ -13,7 +13,7 @@ ghost use Rattle.mp4_items.specs.Items.{walked};
 ghost use Rattle.mp4_items.specs.Contexts.{context};
 ghost use Rattle.mp4_items.specs.declared.command.Command.{Command};
 ghost use Rattle.mp4_feed.specs.Places.{Behind, InHeld, Unlent, beside, standing, when_stopped};
-ghost use Rattle.mp4_feed.specs.States.{IsCounted, IsWaiting};
+ghost use Rattle.mp4_feed.specs.States.{CanCount, IsCounted, IsWaiting};
 
 use crate::state::{Counter, Waiting};
 use mp4_box::Fault;
@@ -38,7 +38,7 @@ pub(crate) fn settle_moof(
     requires whole { length held.bytes ≡ held.size }
     requires near { held.at + held.size ≤ longest }
     requires claim { 64 * length tracks.now + held.size ≤ ledger.old.live }
-    requires counted { IsCounted counter.old held.at 0 }
+    requires count { CanCount counter.old }
     ensures takes { (command : Command) (u : Unlent) →
         Takes (beside u ledger.old
         (when_stopped result (64 * length tracks.now) ledger.new)
@@ -51,10 +51,17 @@ pub(crate) fn settle_moof(
         result }
     ensures moof { IfOk result (λ w. w.moof ≡ held) }
     ensures waiting { IfOk result (λ w. IsWaiting (Some tracks.now) w) }
-    ensures counted { IfOk result (λ w. IsCounted counter.new (held.at + held.size)
-        (2 * moof_samples (held_at held.bytes held.at))) }
+    ensures walked { OnOk result (counter.new.steps.rows ≡
+        counter.old.steps.rows + 2 * moof_samples (held_at held.bytes held.at)) }
+    ensures once { OnErr result (counter.new.steps.rows + counter.old.tally.walked ≡
+        counter.old.steps.rows + counter.new.tally.walked) }
+    ensures counted { (command : Command) → IsCounted command counter.old held.at 0 0 →
+        OnOk result (IsCounted command counter.new (held.at + held.size)
+        (moof_samples (held_at held.bytes held.at))
+        (moof_samples (held_at held.bytes held.at))) }
     ensures left { OnErr result (64 * length tracks.now ≤ ledger.new.live) }
-    ensures uncounted { OnErr result (IsCounted counter.new (held.at + held.size) 0) }
+    ensures spent { (command : Command) → IsCounted command counter.old held.at 0 0 →
+        OnErr result (IsCounted command counter.new (held.at + held.size) 0 0) }
     ensures claim { IfOk result (λ w.
         64 * length tracks.now + held.size + 64 * length w.runs.rows ≤ ledger.new.live) }
 {
@@ -94,6 +101,8 @@ fn judge(held: &Held, tracks: &TrackList, counter: &mut Counter) -> Result<(), F
     ensures rows { early_fault (held_at held.now.bytes held.now.at) tracks.now ≡ None →
         counter.new.steps.rows ≡
         counter.old.steps.rows + moof_samples (held_at held.now.bytes held.now.at) }
+    ensures once { counter.new.steps.rows + counter.old.tally.walked ≡
+        counter.old.steps.rows + counter.new.tally.walked }
     ensures unwalked { IsSome (early_fault (held_at held.now.bytes held.now.at) tracks.now) →
         counter.new ≡ counter.old }
     ensures few { early_fault (held_at held.now.bytes held.now.at) tracks.now ≡ None →

@@ -3,11 +3,11 @@
 ghost use Rattle.std.specs.Prelude.{◌≡◌, ◌+◌, ◌<◌, ◌≤◌, [], length, take, IfOk, OnErr};
 ghost use Rattle.mp4_ledger.specs.Memory.{given_back};
 ghost use Rattle.mp4_reading.specs.Ends.{sent};
-ghost use Rattle.mp4_reading.specs.Pieces.{Takes};
+ghost use Rattle.mp4_reading.specs.Pieces.{Takes, around};
 ghost use Rattle.mp4_items.specs.Commands.{making};
 ghost use Rattle.mp4_items.specs.Contexts.{table_of};
-ghost use Rattle.mp4_feed.specs.Places.{around, claim_of, standing, when_stopped};
-ghost use Rattle.mp4_feed.specs.States.{IsCounted, IsState, bound_of, kept_by, most_counted, owed_by, place_of};
+ghost use Rattle.mp4_feed.specs.Places.{claim_of, standing, when_stopped};
+ghost use Rattle.mp4_feed.specs.States.{HasCounted, HasStopped, IsState, kept_by, place_of};
 
 use crate::behind::take_behind;
 use crate::bodies::back;
@@ -39,7 +39,7 @@ pub(crate) fn take_next<W: Sink>(
     requires some { 0 < length piece.now }
     requires state { IsState tracks.old head.old state }
     requires claim { claim_of (place_of tracks.old head.old state) ≤ ledger.old.live }
-    requires counted { IsCounted counter.old (bound_of state) (owed_by state) }
+    requires counted { HasCounted command state counter.old }
     ensures takes { Takes (around (sent W.contents W.has_failed w.old w.new) out.old out.new
         ledger.old (when_stopped result (table_of tracks.old) ledger.new)
         counter.old.tally counter.new.tally)
@@ -53,9 +53,8 @@ pub(crate) fn take_next<W: Sink>(
     ensures state { IfOk result (λ t. IsState tracks.new head.new t.state) }
     ensures claim { IfOk result (λ t.
         claim_of (place_of tracks.new head.new t.state) ≤ ledger.new.live) }
-    ensures counted { IfOk result (λ t.
-        IsCounted counter.new (bound_of t.state) (owed_by t.state)) }
-    ensures spent { OnErr result (IsCounted counter.new most_counted 0) }
+    ensures counted { IfOk result (λ t. HasCounted command t.state counter.new) }
+    ensures spent { OnErr result (HasStopped command counter.new) }
 {
     match state {
         State::Header { at } => take_header(at, head, piece, tracks, ledger, counter),

@@ -6,15 +6,15 @@ ghost use Rattle.mp4_box.specs.declared.headers.Step.TheVariants as steps;
 ghost use Rattle.mp4_ledger.specs.Memory.{given_back};
 ghost use Rattle.mp4_reading.specs.Bodies.{longest};
 ghost use Rattle.mp4_reading.specs.Holding.{Begins};
-ghost use Rattle.mp4_reading.specs.Pieces.{GoesOn, Takes};
+ghost use Rattle.mp4_reading.specs.Pieces.{GoesOn, Takes, outside};
 ghost use Rattle.mp4_reading.specs.Readings.{silent};
 ghost use Rattle.mp4_items.specs.Commands.{making};
 ghost use Rattle.mp4_items.specs.Contexts.{context, table_of};
 ghost use Rattle.mp4_items.specs.declared.command.Command.{Command};
 ghost use Rattle.mp4_reading.specs.declared.tally.Tally.{Tally};
 ghost use Rattle.mp4_feed.specs.declared.state.Counter.{Counter};
-ghost use Rattle.mp4_feed.specs.Places.{InBody, InHeader, InHeld, InOpenBody, Unlent, beside, claim_of, outside, standing, when_stopped};
-ghost use Rattle.mp4_feed.specs.States.{IsCounted, IsState, MayWait, behind_body, bound_of, claimed_in, most_counted, owed_by, place_of, samples_of};
+ghost use Rattle.mp4_feed.specs.Places.{InBody, InHeader, InHeld, InOpenBody, Unlent, beside, claim_of, standing, when_stopped};
+ghost use Rattle.mp4_feed.specs.States.{CanCount, HasCounted, HasStopped, IsCounted, IsState, MayWait, behind_body, claimed_in, most_counted, place_of, samples_of};
 
 use crate::bodies::{arrive, back};
 use crate::heads::take_head;
@@ -48,7 +48,7 @@ pub(crate) fn take_header(
     requires at { at ≤ longest }
     requires short { length head.old < need head.old }
     requires claim { table_of tracks.old ≤ ledger.old.live }
-    requires counted { IsCounted counter.old at 0 }
+    requires count { CanCount counter.old }
     ensures takes { (command : Command) (u : Unlent) →
         Takes (beside u ledger.old
         (when_stopped result (table_of tracks.old) ledger.new)
@@ -63,9 +63,10 @@ pub(crate) fn take_header(
     ensures state { IfOk result (λ t. IsState tracks.new head.new t.state) }
     ensures claim { IfOk result (λ t.
         claim_of (place_of tracks.new head.new t.state) ≤ ledger.new.live) }
-    ensures counted { IfOk result (λ t.
-        IsCounted counter.new (bound_of t.state) (owed_by t.state)) }
-    ensures spent { OnErr result (IsCounted counter.new most_counted 0) }
+    ensures counted { (command : Command) → IsCounted command counter.old at 0 0 →
+        IfOk result (λ t. HasCounted command t.state counter.new) }
+    ensures spent { (command : Command) → IsCounted command counter.old at 0 0 →
+        OnErr result (HasStopped command counter.new) }
 {
     let taken = take_head(head, piece);
     match begin_by(at, &taken.step, head, tracks, ledger, counter) {
@@ -95,7 +96,7 @@ fn begin_by(
     requires more { step.now ≡ steps.More → length head.old < need head.old }
     requires len { length head.old ≤ need head.old }
     requires claim { table_of tracks.old ≤ ledger.old.live }
-    requires counted { IsCounted counter.old at 0 }
+    requires count { CanCount counter.old }
     ensures takes { (command : Command) (u : Unlent) →
         Takes (beside u ledger.old
         (when_stopped result (table_of tracks.old) ledger.new)
@@ -108,8 +109,10 @@ fn begin_by(
     ensures state { IfOk result (λ s. IsState tracks.new head.new s) }
     ensures claim { IfOk result (λ s.
         claim_of (place_of tracks.new head.new s) ≤ ledger.new.live) }
-    ensures counted { IfOk result (λ s. IsCounted counter.new (bound_of s) (owed_by s)) }
-    ensures spent { OnErr result (IsCounted counter.new most_counted 0) }
+    ensures counted { (command : Command) → IsCounted command counter.old at 0 0 →
+        IfOk result (λ s. HasCounted command s counter.new) }
+    ensures spent { (command : Command) → IsCounted command counter.old at 0 0 →
+        OnErr result (HasStopped command counter.new) }
 {
     match *step {
         Step::More => Ok(State::Header { at }),
@@ -143,7 +146,7 @@ pub(crate) fn take_held(
     requires short { length held.bytes < held.size }
     requires near { held.at + held.size ≤ longest }
     requires claim { table_of tracks.old + held.size ≤ ledger.old.live }
-    requires counted { IsCounted counter.old held.at 0 }
+    requires count { CanCount counter.old }
     ensures takes { (command : Command) (u : Unlent) →
         Takes (beside u ledger.old
         (when_stopped result (table_of tracks.old) ledger.new)
@@ -158,9 +161,10 @@ pub(crate) fn take_held(
     ensures state { IfOk result (λ t. IsState tracks.new [] t.state) }
     ensures claim { IfOk result (λ t.
         claim_of (place_of tracks.new [] t.state) ≤ ledger.new.live) }
-    ensures counted { IfOk result (λ t.
-        IsCounted counter.new (bound_of t.state) (owed_by t.state)) }
-    ensures spent { OnErr result (IsCounted counter.new most_counted 0) }
+    ensures counted { (command : Command) → IsCounted command counter.old held.at 0 0 →
+        IfOk result (λ t. HasCounted command t.state counter.new) }
+    ensures spent { (command : Command) → IsCounted command counter.old held.at 0 0 →
+        OnErr result (HasStopped command counter.new) }
 {
     let mut held = held;
     let count = held.take(piece);
@@ -183,7 +187,7 @@ pub(crate) fn take_body(
     requires body { (0 < body.left) × (body.left ≤ body.next) × (body.next ≤ longest) }
     requires waiting { MayWait tracks.old waiting }
     requires claim { claimed_in tracks.old waiting ≤ ledger.old.live }
-    requires counted { IsCounted counter.old body.next (samples_of waiting) }
+    requires count { CanCount counter.old }
     ensures goes { (command : Command) (u : Unlent) →
         GoesOn (outside u.written u.waiting ledger.old counter.old.tally)
         (outside u.written u.waiting ledger.new counter.new.tally)
@@ -194,7 +198,9 @@ pub(crate) fn take_body(
     ensures taken { (0 < result.count) × (result.count ≤ length piece.now) }
     ensures state { IsState tracks.new [] result.state }
     ensures claim { claim_of (place_of tracks.new [] result.state) ≤ ledger.new.live }
-    ensures counted { IsCounted counter.new (bound_of result.state) (owed_by result.state) }
+    ensures counted { (command : Command) →
+        IsCounted command counter.old body.next 0 (samples_of waiting) →
+        HasCounted command result.state counter.new }
 {
     let count = body.left.min(piece.len() as u64) as usize;
     let body = Body {
@@ -235,8 +241,12 @@ pub(crate) fn take_open(
     ensures claim { IfOk result (λ p.
         claim_of (place_of tracks.now [] p.state) ≤ ledger.new.live) }
     ensures left { OnErr result (table_of tracks.now ≤ ledger.new.live) }
-    ensures counted { (c : Counter) → IsCounted c most_counted (samples_of waiting) →
-        IfOk result (λ p. IsCounted c (bound_of p.state) (owed_by p.state)) }
+    ensures counted { (command : Command) (c : Counter) →
+        IsCounted command c most_counted 0 (samples_of waiting) →
+        IfOk result (λ p. HasCounted command p.state c) }
+    ensures spent { (command : Command) (c : Counter) →
+        IsCounted command c most_counted 0 (samples_of waiting) →
+        OnErr result (HasStopped command c) }
 {
     let len = piece.len() as u64;
     if len > body.left {

@@ -1,7 +1,7 @@
 -- How what a piece brings and what the next brings is what both bring.
 use Rattle.std.proofs.Common.{◌≡◌, ℕ, ◌+◌, ◌-◌, ◌<◌, ◌≤◌, List, [], ◌++◌, take, drop, Option, Bool, true, Result, Ok, Err, OnErr, ap, sym, ◌∙◌, refl, length, arith, append_assoc, append-nil, length-append, subst, take-append-drop}
 use Rattle.std.proofs.Math.Seq.{take-add}
-use Rattle.std.proofs.KnownBytes.{Appends-trans}
+use Rattle.std.proofs.KnownBytes.{Appends-nil, Appends-trans}
 use Rattle.std.specs.Io.KnownBytes.{Appends}
 use Rattle.mp4_ends.specs.Streams.{AppendsPrefix}
 use Rattle.mp4_ends.proofs.StreamLemmas.{AppendsPrefix-longer}
@@ -9,8 +9,8 @@ use Rattle.mp4_ledger.specs.Memory.{Account, claimed, given_back}
 use Rattle.mp4_reading.specs.Accounts.{Counts, Spends}
 use Rattle.mp4_reading.proofs.AccountLemmas.{Counts-none, Counts-claim, Counts-back, Counts-more, Spends-after, Spends-more}
 use Rattle.mp4_reading.specs.Blocks.{Passes}
-use Rattle.mp4_reading.specs.Readings.{AtMost, Reading, Told, plus, after, both, silent, asks_for, most_of}
-use Rattle.mp4_reading.specs.Pieces.{Outside, Standing, Moves, GoesOn, Starves, Loses, StopsAt, Around, Takes, IsQuiet, IsFed}
+use Rattle.mp4_reading.specs.Readings.{AtMost, Reading, Told, plus, after, both, silent, asks_for, most_of, uncounted, early_in}
+use Rattle.mp4_reading.specs.Pieces.{Outside, outside, Standing, Moves, GoesOn, Starves, Loses, StopsAt, Around, Takes, IsBegun, IsQuiet, IsFed}
 use Rattle.mp4_reading.specs.declared.stop.Stop.{Stop}
 use Rattle.mp4_reading.specs.declared.stop.Stop.TheVariants.{Stream, Read, Write, OverLimit, Memory}
 use Rattle.mp4_reading.proofs.ReadingAskLemmas.{AtMost-behind, AtMost-plus, AtMost-trans, max_none, most-both, most-first, plus-assoc, plus-none}
@@ -258,19 +258,20 @@ Takes-unsent {around = around} {old = old} {piece = piece} (Err e) u x a claim o
 
 -- ---- all the bytes so far
 
--- a machine that has told nothing yet, and has claimed nothing
-pub IsFed-none : (whole : List ℕ → Reading) (o : Outside) (p : Standing) → IsQuiet p → p.reached ≡ 0 → p.claim ≡ 0 → o.tally ≡ (whole []).told.tally → (whole []).told ≡ silent → ((later : List ℕ) → whole later ≡ p.reads later)
-    → Appends o.written o.written (whole []).told.text → IsFed whole [] o o p
-IsFed-none whole o p quiet reached claim tally none same kept = record {
-  stands = record {
-    reached = reached;
-    rest = λ later. same later ∙ sym (ap (λ t. after t (p.reads later)) none ∙ after-silent (p.reads later));
-    tally = tally;
-  };
-  quiet = quiet;
-  text = kept;
-  counts = subst (λ n. Counts o.account o.account 0 n (most_of (whole []).told)) (sym claim) (subst (Counts o.account o.account 0 0) (sym (ap most_of none)) (Counts-none o.account 0));
-}
+-- a machine to which no byte has come
+pub IsFed-begun : (written : Option (List ℕ)) (account : Account) (p : Standing) → IsBegun p uncounted → IsFed p.reads [] (outside written [] account uncounted) (outside written [] account uncounted) p
+IsFed-begun written account p begun =
+    let told : (p.reads []).told ≡ silent = ap (λ r. r.told) begun.none in
+    record {
+      stands = record {
+        reached = begun.reached;
+        rest = λ later. sym (ap (λ t. after t (p.reads later)) told ∙ after-silent (p.reads later));
+        tally = sym (ap (λ t. t.tally) told);
+      };
+      quiet = record { told = told; early = ap (λ r. early_in r.outcome) begun.none };
+      text = subst (λ t. Appends written written t.text) (sym told) (Appends-nil written);
+      counts = subst (λ n. Counts account account 0 n (most_of (p.reads []).told)) (sym begun.claim) (subst (Counts account account 0 0) (sym (ap most_of told)) (Counts-none account 0));
+    }
 
 -- fed one more piece
 pub IsFed-more : {o o' : Outside} {p q : Standing} {piece : List ℕ} (whole : List ℕ → Reading) (b : List ℕ) (start : Outside) → IsFed whole b start o p → GoesOn o o' p piece q → IsQuiet q → o.waiting ≡ [] → o'.waiting ≡ []

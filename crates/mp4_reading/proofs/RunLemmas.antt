@@ -8,6 +8,7 @@ use Rattle.mp4_ends.proofs.StreamLemmas.{AppendsPrefix-more}
 use Rattle.mp4_ledger.specs.Memory.{Account}
 use Rattle.mp4_ledger.specs.declared.ledger.Refused.{Refused}
 use Rattle.mp4_ledger.specs.declared.ledger.Refused.TheVariants as refusals
+use Rattle.mp4_box.specs.Headers.{IsBytes}
 use Rattle.mp4_box.specs.declared.rules.Fault.{Fault}
 use Rattle.mp4_reading.specs.Accounts.{Counts, Spends}
 use Rattle.mp4_reading.specs.Readings.{Ask, AtMost, greatest, Told, Reading, nothing, uncounted, plus, fault_in, early_in, after, both, asks_for, shifted, most_of}
@@ -180,12 +181,19 @@ pub fed-takes : {T : Type 0} {around : Around} {p : Standing} {piece : List ℕ}
 fed-takes {around = around} {p = p} {piece = piece} {e = e} whole b start marked s waiting low ends few from to none failed t =
     fed-stops whole b start marked s around.behind piece waiting low ends few from to none e (λ is. failed ∙ t.failed (ap Err is)) (subst (λ l. StopsAt around.before around.behind p l e) (append-nil piece) (t.err []))
 
+-- bytes behind bytes
+pub bytes-more : (a b : List ℕ) → IsBytes a → IsBytes b → IsBytes (a ++ b)
+bytes-more [] b fits more i = more i
+bytes-more (x ∷ a) b fits more zero = fits zero
+bytes-more (x ∷ a) b fits more (suc i) = bytes-more a b (λ j. fits (suc j)) more i
+
 -- ---- a run whose bytes to read into were refused
 
 pub idle-stops : {T : Type 0} (whole : List ℕ → Reading) (ends : Ends) (claims : Claims) (live : ℕ) (r : Refused) → whole [] ≡ nothing → Consumes ends.left ends.left' [] → Appends ends.written ends.written' [] → ends.write_failed' ≡ ends.write_failed → live ≡ 0 → claims.peak ≡ live
     → (r ≡ refusals.OverLimit → claims.limit < live + claims.copy) → (r ≡ refusals.Memory → live + claims.copy ≤ claims.limit) → Runs {T = T} whole ends claims uncounted (Err (refusal_of r))
 idle-stops whole ends claims live refusals.OverLimit none given kept failed idle peak over within = record {
   bytes = [];
+  fits = λ i. omega arith;
   given = given;
   prompt = record { early = []; last = []; cut = refl; few = omega arith; undecided = ap (λ r. early_in r.outcome) none };
   comes = inl (record { bytes = refl; text = kept; peak = peak ∙ idle; tally = refl }, omega (arith, over refl, idle));
@@ -193,6 +201,7 @@ idle-stops whole ends claims live refusals.OverLimit none given kept failed idle
 }
 idle-stops whole ends claims live refusals.Memory none given kept failed idle peak over within = record {
   bytes = [];
+  fits = λ i. omega arith;
   given = given;
   prompt = record { early = []; last = []; cut = refl; few = omega arith; undecided = ap (λ r. early_in r.outcome) none };
   comes = inl (record { bytes = refl; text = kept; peak = peak ∙ idle; tally = refl }, omega (arith, within refl, idle));

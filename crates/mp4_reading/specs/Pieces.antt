@@ -8,7 +8,9 @@ use Rattle.mp4_ledger.specs.declared.ledger.Refused.{Refused}
 use Rattle.mp4_ledger.specs.declared.ledger.Refused.TheVariants as refusals
 use Rattle.mp4_reading.specs.Accounts.{Counts, Spends}
 use Rattle.mp4_reading.specs.Blocks.{Passes}
-use Rattle.mp4_reading.specs.Readings.{AtMost, plus, Told, silent, asks_for, most_of, Reading, Faulty, early_in, after}
+use Rattle.mp4_reading.specs.Bodies.{longest}
+use Rattle.mp4_reading.specs.Ends.{Sent}
+use Rattle.mp4_reading.specs.Readings.{AtMost, plus, uncounted, nothing, Told, silent, asks_for, most_of, Reading, Faulty, early_in, after}
 use Rattle.mp4_reading.specs.declared.stop.Stop.{Stop}
 use Rattle.mp4_reading.specs.declared.stop.Stop.TheVariants.{Stream, Read, Write, OverLimit, Memory}
 use Rattle.mp4_reading.specs.declared.tally.Tally.{Tally}
@@ -30,6 +32,17 @@ pub record Standing : Type 0 where
 pub record IsQuiet (p : Standing) : Type 0 where
   pub told : (p.reads []).told ≡ silent
   pub early : early_in (p.reads []).outcome ≡ None
+
+-- no machine stands further: in a header behind the longest stream
+abbrev pub farthest : ℕ
+farthest = longest + 31
+
+-- no byte has come: nothing is claimed or counted, and no bytes tell nothing
+pub record IsBegun (p : Standing) (tally : Tally) : Type 0 where
+  pub reached : p.reached ≡ 0
+  pub claim : p.claim ≡ 0
+  pub none : p.reads [] ≡ nothing
+  pub counted : tally ≡ uncounted
 
 -- ---- one piece
 
@@ -83,12 +96,24 @@ refusal_of refusals.Memory = Memory
 
 -- ---- a call
 
+abbrev pub outside : Option (List ℕ) → List ℕ → Account → Tally → Outside
+outside written waiting account tally = record { written = written; waiting = waiting; account = account; tally = tally }
+
 -- what is outside before and behind a call, and whether the writer had failed and has
 pub record Around : Type 0 where
   pub before : Outside
   pub behind : Outside
   pub failed : Bool
   pub failed' : Bool
+
+-- a call that is lent a writer, a block, a ledger and a tally, by what they were and are
+abbrev pub around : Sent → (waiting waiting' : List ℕ) → (account account' : Account) → (tally tally' : Tally) → Around
+around s waiting waiting' account account' tally tally' = record {
+  before = outside s.written waiting account tally;
+  behind = outside s.written' waiting' account' tally';
+  failed = s.failed;
+  failed' = s.failed';
+}
 
 -- a call takes bytes from the front of a piece, by its result; where it stops, so does a machine that is fed the piece with any bytes behind it
 pub record Takes {T : Type 0} (around : Around) (old : Standing) (piece : List ℕ) (taken : T → List ℕ) (new : T → Standing) (result : Result T Stop) : Type 0 where

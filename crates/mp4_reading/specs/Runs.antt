@@ -1,6 +1,7 @@
 -- What a run over a whole stream answers, writes and claims, whatever is read.
-use Rattle.std.specs.Prelude.{◌≡◌, ◌⊎◌, ℕ, ◌+◌, ◌<◌, ◌≤◌, List, [], ◌∷◌, ◌++◌, length, take, Bool, true, Option, None, Some, Result, Ok, Err, IsErrOf}
+use Rattle.std.specs.Prelude.{◌≡◌, ◌⊎◌, ℕ, ◌+◌, ◌<◌, ◌≤◌, List, [], ◌∷◌, ◌++◌, length, take, true, None, Some, Result, Ok, Err, IsErrOf}
 use Rattle.std.specs.Io.KnownBytes.{Appends, Consumes}
+use Rattle.mp4_box.specs.Headers.{IsBytes}
 use Rattle.mp4_ends.specs.Streams.{AppendsPrefix}
 use Rattle.mp4_reading.specs.Ends.{Ends}
 use Rattle.mp4_reading.specs.Readings.{Ask, AtMost, greatest, most_of, Reading, fault_in, early_in, IsPrefix, uncounted}
@@ -82,6 +83,7 @@ Comes run prompt (Err stop) = ComesUntil run prompt stop
 -- a run over a stream of which bytes are read so: of the bytes that it was given, the answer and what it brings; a write that failed is always told
 pub record Runs {T : Type 0} (whole : List ℕ → Reading) (ends : Ends) (claims : Claims) (tally : Tally) (result : Result T Stop) : Type 0 where
   pub bytes : List ℕ
+  pub fits : IsBytes bytes
   pub given : Consumes ends.left ends.left' bytes
   pub prompt : IsPrompt (record { whole = whole; bytes = bytes; ends = ends; claims = claims; tally = tally })
   pub comes : Comes (record { whole = whole; bytes = bytes; ends = ends; claims = claims; tally = tally }) prompt result

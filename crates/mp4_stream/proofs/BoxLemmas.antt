@@ -1,5 +1,5 @@
 -- How the reading of top-level boxes goes on.
-use Rattle.std.proofs.Common.{◌≡◌, ℕ, ◌+◌, ◌-◌, ◌<◌, ◌≤◌, List, [], ◌∷◌, ◌++◌, length, take, drop, true, false, Option, Some, None, ap, sym, ◌∙◌, refl, arith, append-nil, length-append, length-drop, length-take}
+use Rattle.std.proofs.Common.{◌≡◌, ℕ, ◌+◌, ◌-◌, ◌<◌, ◌≤◌, List, [], ◌∷◌, ◌++◌, length, take, drop, true, false, Option, Some, None, ap, sym, ◌∙◌, refl, arith, append-nil, length-append, length-drop, length-take, OnOk, Result, Ok, Err}
 use Rattle.std.proofs.Math.Seq.{take-append_seam, drop-append_seam}
 use Rattle.std.proofs.lemmas.List.{take-append-le, drop-append-le}
 use Rattle.std.specs.Prelude.{nat_lt, if◌then◌else◌}
@@ -20,8 +20,12 @@ use Rattle.mp4_stream.specs.Listing.{box_line}
 use Rattle.mp4_reading.specs.Readings.{nothing, Last, Whole, after, after_told, silent, says, asks_for, Faulty, then_read, fault_in, early_in}
 use Rattle.mp4_reading.specs.Bodies.{cut_off, fault, least_end, longest, refused, told_body, told_open}
 use Rattle.mp4_stream.specs.Boxes.{passed, body, held_box, held_body, holding, box_by, box, front_by, front, reading}
-use Rattle.mp4_stream.specs.Places.{Place, InHeader, InBody, InHeld, InOpenBody, IsPlace, standing}
+use Rattle.mp4_stream.specs.Places.{Place, InHeader, InBody, InHeld, InOpenBody, IsMachine, IsPlace, place_of, standing}
+use Rattle.mp4_stream.specs.declared.phase.Phase.{Phase}
+use Rattle.mp4_stream.specs.declared.phase.Phase.TheVariants as phases
+use Rattle.mp4_reading.specs.Holding.{Holding}
 use Rattle.mp4_reading.specs.Pieces.{IsQuiet}
+use Rattle.mp4_reading.specs.declared.stop.Stop.{Stop}
 use Rattle.mp4_reading.proofs.ReadingLemmas.{Below, Below-more, Below-told, IsItemwise, read_all-front, then_read-told}
 use Rattle.mp4_reading.proofs.BodyLemmas.{nat_lt_true, nat_lt_false, body-none, open-none}
 use Rattle.mp4_reading.proofs.BodyGrowthLemmas.{told-below, told_open-below}
@@ -182,3 +186,14 @@ place-quiet (InHeld at kind size held) h =
     let short = nat_lt_true (length (held ++ [])) size (omega (arith, length-append held [], h.0)) in record { told = rw short refl; early = rw short refl }
 place-quiet (InOpenBody at kind left) h =
     let none = open-none reading at kind 0 passed left in record { told = ap (λ r. r.told) none; early = ap (λ r. early_in r.outcome) none }
+
+-- where a machine is by what it keeps is a place
+at-place : (head : List ℕ) (phase : Phase) (held : Option Holding) → IsMachine head phase held → IsPlace (place_of head phase held)
+at-place head (phases.Header at) None i = i
+at-place head (phases.Body at kind next left) None i = i.1
+at-place head (phases.OpenBody at kind left) None i = i.1
+at-place head phase (Some h) i = i.2
+
+pub machine-quiet : {T : Type 0} (result : Result T Stop) (head : List ℕ) (phase : Phase) (held : Option Holding) → OnOk result (IsMachine head phase held) → OnOk result (IsQuiet (standing (place_of head phase held)))
+machine-quiet (Ok t) head phase held i = place-quiet (place_of head phase held) (at-place head phase held i)
+machine-quiet (Err e) head phase held i = tt

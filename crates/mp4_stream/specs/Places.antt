@@ -6,6 +6,7 @@ use Rattle.mp4_ledger.specs.Memory.{Account}
 use Rattle.mp4_reading.specs.Bodies.{longest, told_body, told_open}
 use Rattle.mp4_reading.specs.Ends.{Sent}
 use Rattle.mp4_reading.specs.Pieces.{Around, Outside, Standing}
+use Rattle.mp4_reading.specs.Pieces as pieces
 use Rattle.mp4_reading.specs.Readings.{Reading, uncounted, then_read}
 use Rattle.mp4_stream.specs.Boxes.{passed, held_body, reading}
 use Rattle.mp4_reading.specs.Holding.{Begins, Holding}
@@ -57,11 +58,6 @@ IsPlace (InOpenBody at kind left) = left ≤ longest
 
 -- ---- the machine
 
--- where it is, and the bytes that wait to be sent
-pub record State : Type 0 where
-  pub place : Place
-  pub waiting : List ℕ
-
 -- the place in this phase, to which these bytes of a header came
 abbrev pub place_by : List ℕ → Phase → Place
 place_by head (phases.Header at) = InHeader at head
@@ -86,13 +82,8 @@ IsMachine head phase (Some h) = (head ≡ []) × (phase ≡ phases.Header (h.at 
 
 -- what is outside a machine that lists boxes, which counts nothing
 abbrev pub outside : Option (List ℕ) → List ℕ → Account → Outside
-outside written waiting account = record { written = written; waiting = waiting; account = account; tally = uncounted }
+outside written waiting account = pieces.outside written waiting account uncounted
 
 -- a call that is lent a writer, a block and a ledger, by what they were and are
 abbrev pub around : Sent → (waiting waiting' : List ℕ) → (account account' : Account) → Around
-around s waiting waiting' account account' = record {
-  before = outside s.written waiting account;
-  behind = outside s.written' waiting' account';
-  failed = s.failed;
-  failed' = s.failed';
-}
+around s waiting waiting' account account' = pieces.around s waiting waiting' account account' uncounted uncounted

@@ -1,23 +1,18 @@
 //! Runs over a whole stream that read its fragments.
 
 ghost use Rattle.std.specs.Prelude.{◌≡◌, ◌+◌, ◌*◌, ◌<◌, ◌≤◌, [], length, IsErrOf};
-ghost use Rattle.mp4_feed.specs.Places.{claim_of};
-ghost use Rattle.mp4_feed.specs.States.{begun, place_in};
-ghost use Rattle.mp4_box.specs.Headers.{IsBytes};
-ghost use Rattle.mp4_items.specs.Commands.{reading};
 ghost use Rattle.mp4_items.specs.Kinds.{most_moof, most_moov};
 ghost use Rattle.mp4_items.specs.declared.command.Command.TheVariants.{Check, Samples};
 ghost use Rattle.mp4_reading.specs.Ends.{between, received, sent};
-ghost use Rattle.mp4_reading.specs.Runs.{Runs};
 ghost use Rattle.mp4_stream.specs.Fragments.{ReadsFragments, unsent};
 
 use crate::run::Totals;
 use crate::silent::Silent;
-use mp4_ends::{Failed, Sink, Source};
-use mp4_feed::Machine;
+use mp4_ends::{Sink, Source};
+use mp4_feed::FragmentMachine;
 use mp4_items::Command;
 use mp4_ledger::Ledger;
-use mp4_reading::Stop;
+use mp4_reading::{Stop, read_stream};
 
 /// Lists the samples of a fragmented stream, however its reads cut it: a line for each, fragment by fragment, the runs of a
 /// fragment in the order in which their media stand. The lines of a fragment are written once the header of its mdat is
@@ -102,61 +97,17 @@ fn run_fragments<R: Source, W: Sink>(
     ensures enough { copy + (most_moov + 5 * most_moof) ≤ ledger.old.limit →
         IsErrOf result Stop.OverLimit → ⊥ }
 {
-    ledger.mark();
-    *totals = Totals::new();
-    let mut buf = match ledger.buf(u64::from(copy)) {
-        Ok(buf) => buf,
-        Err(refused) => return Err(Stop::of_refusal(refused)),
-    };
-    let mut machine = Machine::new(command);
-    let answer = read_fragments(r, w, ledger, buf.room_mut(copy as usize), &mut machine);
+    let mut machine = FragmentMachine::new(command);
+    let answer = read_stream(r, w, ledger, copy, &mut machine);
     let tally = machine.tally();
-    totals.fragments = tally.fragments;
-    totals.samples = tally.samples;
-    totals.media_bytes = tally.media_bytes;
-    totals.rows_read = machine.rows_read();
+    let rows_read = machine.rows_read();
     machine.give_up(ledger);
-    ledger.back(buf);
-    totals.peak = ledger.peak();
+    *totals = Totals {
+        fragments: tally.fragments,
+        samples: tally.samples,
+        media_bytes: tally.media_bytes,
+        rows_read,
+        peak: ledger.peak(),
+    };
     answer
-}
-
-/// Reads the stream to its end into `copy`, which is all that is claimed, and feeds it to a machine to which no byte
-/// has come.
-fn read_fragments<R: Source, W: Sink>(
-    r: &mut R,
-    w: &mut W,
-    ledger: &mut Ledger,
-    copy: &mut [u8],
-    machine: &mut Machine,
-) -> Result<(), Stop>
-    requires some { 0 < length copy.old }
-    requires marked { ledger.old.peak ≡ ledger.old.live }
-    requires claimed { length copy.old ≡ ledger.old.live }
-    requires begins { machine.old ≡ begun machine.old.command }
-    ensures runs { (run : Runs (reading machine.old.command) (between
-        (received R.remaining R.has_ended R.has_failed r.old r.new)
-        (sent W.contents W.has_failed w.old w.new))
-        (record { copy = ledger.old.live; limit = ledger.old.limit; peak = ledger.new.peak })
-        machine.new.counter.tally result) × IsBytes run.bytes }
-    ensures live { ledger.new.live ≡ ledger.old.live + claim_of (place_in machine.new) }
-    ensures limit { ledger.new.limit ≡ ledger.old.limit }
-{
-    let mut total: u64 = 0;
-    loop {
-        let n = match r.read(copy) {
-            Ok(0) => {
-                return match machine.finish() {
-                    Ok(()) => Ok(()),
-                    Err(fault) => Err(Stop::Stream(fault)),
-                };
-            }
-            Ok(n) => n,
-            Err(Failed) => return Err(Stop::Read { at: total }),
-        };
-        match machine.feed(ledger, &copy[..n], w) {
-            Ok(()) => total += n as u64,
-            Err(stop) => return Err(stop),
-        }
-    }
 }

@@ -5,12 +5,11 @@ ghost use Rattle.mp4_reading.specs.Ends.{between, received, sent};
 ghost use Rattle.mp4_reading.specs.Readings.{uncounted};
 ghost use Rattle.mp4_reading.specs.Runs.{Runs};
 ghost use Rattle.mp4_stream.specs.Boxes.{reading};
-ghost use Rattle.mp4_stream.specs.Places.{InHeader, claim_of};
 
-use crate::machine::Machine;
-use mp4_ends::{Failed, Sink, Source};
+use crate::machine::BoxMachine;
+use mp4_ends::{Sink, Source};
 use mp4_ledger::Ledger;
-use mp4_reading::Stop;
+use mp4_reading::{Stop, read_stream};
 
 /// What a run counts. A listing of boxes counts no samples: all but its peak are 0.
 #[derive(Clone, Copy, Debug, PartialEq, Eq)]
@@ -75,56 +74,10 @@ pub fn boxes<R: Source, W: Sink>(
     ensures totals { totals.new ≡ record
         { fragments = 0; samples = 0; media_bytes = 0; rows_read = 0; peak = ledger.new.peak } }
 {
-    ledger.mark();
-    *totals = Totals::new();
-    let mut buf = match ledger.buf(u64::from(copy)) {
-        Ok(buf) => buf,
-        Err(refused) => return Err(Stop::of_refusal(refused)),
-    };
-    let mut machine = Machine::new();
-    let answer = read_on(r, w, ledger, buf.room_mut(copy as usize), &mut machine);
+    let mut machine = BoxMachine::new();
+    let answer = read_stream(r, w, ledger, copy, &mut machine);
     machine.give_up(ledger);
-    ledger.back(buf);
+    *totals = Totals::new();
     totals.peak = ledger.peak();
     answer
-}
-
-/// Reads the stream to its end into `copy`, which is all that is claimed, and feeds it to a machine to which no byte
-/// has come.
-fn read_on<R: Source, W: Sink>(
-    r: &mut R,
-    w: &mut W,
-    ledger: &mut Ledger,
-    copy: &mut [u8],
-    machine: &mut Machine,
-) -> Result<(), Stop>
-    requires some { 0 < length copy.old }
-    requires marked { ledger.old.peak ≡ ledger.old.live }
-    requires claimed { length copy.old ≡ ledger.old.live }
-    requires begins { machine.old ≡ record { place = InHeader 0 []; waiting = [] } }
-    ensures runs { Runs (reading 0) (between
-        (received R.remaining R.has_ended R.has_failed r.old r.new)
-        (sent W.contents W.has_failed w.old w.new))
-        (record { copy = ledger.old.live; limit = ledger.old.limit; peak = ledger.new.peak })
-        uncounted result }
-    ensures live { ledger.new.live ≡ ledger.old.live + claim_of machine.new.place }
-    ensures limit { ledger.new.limit ≡ ledger.old.limit }
-{
-    let mut total: u64 = 0;
-    loop {
-        let n = match r.read(copy) {
-            Ok(0) => {
-                return match machine.finish() {
-                    Ok(()) => Ok(()),
-                    Err(fault) => Err(Stop::Stream(fault)),
-                };
-            }
-            Ok(n) => n,
-            Err(Failed) => return Err(Stop::Read { at: total }),
-        };
-        match machine.feed(ledger, &copy[..n], w) {
-            Ok(()) => total += n as u64,
-            Err(stop) => return Err(stop),
-        }
-    }
 }

@@ -2,7 +2,8 @@ use Rattle.std.proofs.Common.{◌≡◌, ◌∙◌, ◌+◌, ◌<◌, [], Some, 
 use Rattle.mp4_box.proofs.HeaderLemmas.{need-least, whole_is}
 use Rattle.mp4_reading.proofs.PieceLemmas.{Takes-err, Takes-ok}
 use Rattle.mp4_items.specs.Commands.{making}
-use Rattle.mp4_feed.specs.Places.{Unlent, outside}
+use Rattle.mp4_reading.specs.Pieces.{outside}
+use Rattle.mp4_feed.specs.Places.{Unlent}
 use Rattle.mp4_feed.proofs.BehindLemmas.{GoesOn-fragment_at, Loses-fragment, Refuses-fragment, claims}
 use Rattle.mp4_feed.proofs.TakeLemmas.{GoesOn-then}
 use Rattle.mp4_feed.proofs.behind.begin_fragment.Goals as goal

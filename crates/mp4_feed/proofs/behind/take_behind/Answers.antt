@@ -1,7 +1,7 @@
 use Rattle.std.proofs.Common.{take, drop, ◌++◌, ap, Err}
 use Rattle.mp4_reading.proofs.PieceLemmas.{StopsAt-take_more, Takes-ok, Takes-err}
 use Rattle.mp4_items.specs.Commands.{making}
-use Rattle.mp4_feed.specs.Places.{outside}
+use Rattle.mp4_reading.specs.Pieces.{outside}
 use Rattle.mp4_feed.proofs.BehindLemmas.{GoesOn-behind_head, low_behind}
 use Rattle.mp4_feed.proofs.TakeLemmas.{GoesOn-then}
 use Rattle.mp4_feed.proofs.behind.take_behind.Goals as goal

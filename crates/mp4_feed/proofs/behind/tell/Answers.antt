@@ -1,7 +1,8 @@
-use Rattle.std.proofs.Common.{◌≡◌, ◌∙◌, ◌+◌, ◌*◌, ◌≤◌, ap, arith, refl, sym, subst}
+use Rattle.std.proofs.Common.{◌≡◌, ◌∙◌, ◌+◌, ap, arith}
 use Rattle.mp4_frag.specs.Moofs.{moof_samples}
 use Rattle.mp4_reading.specs.Readings.{plus}
-use Rattle.mp4_feed.specs.States.{IsCounted, bound_behind, moof_in}
+use Rattle.mp4_reading.proofs.BlockLemmas.{Passes-none}
+use Rattle.mp4_feed.specs.States.{bound_behind, moof_in}
 use Rattle.mp4_feed.proofs.CountLemmas.{counted_told, media_bound}
 use Rattle.mp4_feed.proofs.behind.tell.Goals as goal
 
@@ -14,9 +15,10 @@ returns-in-Check-clause-counted g c =
     let end = rw at at c.payload_of.ensures.end in
     let measured = c.measure_runs-measure.ensures in
     let many = rw (c.again-moof.ensures, c.bytes.ensures.bytes, c.offset-2.ensures.at) at c.samples-samples.ensures.samples in
-    counted_told c.args.counter.now _ (w.moof.at + w.moof.size) (bound_behind (w.moof.at + w.moof.size) h.size) (moof_samples (moof_in w)) c.measure_runs-measure.result.bytes 0 c.requires.counted (omega (arith, many, c.samples-samples.ensures.few))
+    counted_told c.args.command c.args.counter.now _ (w.moof.at + w.moof.size) (bound_behind (w.moof.at + w.moof.size) h.size) (moof_samples (moof_in w)) c.measure_runs-measure.result.bytes c.requires.counted (omega (arith, many, c.samples-samples.ensures.few))
     (media_bound (w.moof.at + w.moof.size) c.measure_runs-measure.result.bytes h h.size c.payload_of.result start end c.requires.room c.requires.some c.requires.near measured.within measured.open)
-    (c.count.ensures.tally ∙ ap (λ n. plus c.args.counter.now.tally (record { fragments = 1; samples = n; media_bytes = c.measure_runs-measure.result.bytes; walked = 0 })) many) (omega (arith, ap (λ k. k.rows) c.count.ensures.steps)) (omega arith)
+    (c.count.ensures.tally ∙ ap (λ n. plus c.args.counter.now.tally (record { fragments = 1; samples = n; media_bytes = c.measure_runs-measure.result.bytes; walked = 0 })) many)
+    (rw c.in-Check.is (omega (arith, ap (λ k. k.rows) c.count.ensures.steps)))
 
 pub returns-in-Ok-clause-counted : goal.returns-in-Ok-clause-counted
 returns-in-Ok-clause-counted g c =
@@ -27,9 +29,10 @@ returns-in-Ok-clause-counted g c =
     let end = rw at at c.payload_of.ensures.end in
     let measured = c.measure_runs-measure.ensures in
     let many = rw (c.again-moof.ensures, c.bytes.ensures.bytes, c.offset-2.ensures.at) at c.samples-samples.ensures.samples in
-    counted_told c.args.counter.now _ (w.moof.at + w.moof.size) (bound_behind (w.moof.at + w.moof.size) h.size) (moof_samples (moof_in w)) c.measure_runs-measure.result.bytes c.from.result c.requires.counted (omega (arith, many, c.samples-samples.ensures.few))
+    counted_told c.args.command c.args.counter.now _ (w.moof.at + w.moof.size) (bound_behind (w.moof.at + w.moof.size) h.size) (moof_samples (moof_in w)) c.measure_runs-measure.result.bytes c.requires.counted (omega (arith, many, c.samples-samples.ensures.few))
     (media_bound (w.moof.at + w.moof.size) c.measure_runs-measure.result.bytes h h.size c.payload_of.result start end c.requires.room c.requires.some c.requires.near measured.within measured.open)
-    (c.count.ensures.tally ∙ ap (λ n. plus c.args.counter.now.tally (record { fragments = 1; samples = n; media_bytes = c.measure_runs-measure.result.bytes; walked = 0 })) many) (omega (arith, ap (λ k. k.rows) c.count.ensures.steps)) (omega (arith, c.from.ensures, many))
+    (c.count.ensures.tally ∙ ap (λ n. plus c.args.counter.now.tally (record { fragments = 1; samples = n; media_bytes = c.measure_runs-measure.result.bytes; walked = 0 })) many)
+    (rw c.in-Samples.is (omega (arith, ap (λ k. k.rows) c.count.ensures.steps, c.put_runs.ensures.walked)))
 
 pub returns-in-Err-clause-counted : goal.returns-in-Err-clause-counted
 returns-in-Err-clause-counted g c =
@@ -40,6 +43,10 @@ returns-in-Err-clause-counted g c =
     let end = rw at at c.payload_of.ensures.end in
     let measured = c.measure_runs-measure.ensures in
     let many = rw (c.again-moof.ensures, c.bytes.ensures.bytes, c.offset-2.ensures.at) at c.samples-samples.ensures.samples in
-    counted_told c.args.counter.now _ (w.moof.at + w.moof.size) (bound_behind (w.moof.at + w.moof.size) h.size) (moof_samples (moof_in w)) c.measure_runs-measure.result.bytes c.from.result c.requires.counted (omega (arith, many, c.samples-samples.ensures.few))
+    counted_told c.args.command c.args.counter.now _ (w.moof.at + w.moof.size) (bound_behind (w.moof.at + w.moof.size) h.size) (moof_samples (moof_in w)) c.measure_runs-measure.result.bytes c.requires.counted (omega (arith, many, c.samples-samples.ensures.few))
     (media_bound (w.moof.at + w.moof.size) c.measure_runs-measure.result.bytes h h.size c.payload_of.result start end c.requires.room c.requires.some c.requires.near measured.within measured.open)
-    (c.count.ensures.tally ∙ ap (λ n. plus c.args.counter.now.tally (record { fragments = 1; samples = n; media_bytes = c.measure_runs-measure.result.bytes; walked = 0 })) many) (omega (arith, ap (λ k. k.rows) c.count.ensures.steps)) (omega (arith, c.from.ensures, many))
+    (c.count.ensures.tally ∙ ap (λ n. plus c.args.counter.now.tally (record { fragments = 1; samples = n; media_bytes = c.measure_runs-measure.result.bytes; walked = 0 })) many)
+    (rw c.in-Samples.is (omega (arith, ap (λ k. k.rows) c.count.ensures.steps, c.put_runs.ensures.walked)))
+
+pub returns-in-Check-clause-ok : goal.returns-in-Check-clause-ok
+returns-in-Check-clause-ok g c = rw c.in-Check.is (Passes-none _ _)

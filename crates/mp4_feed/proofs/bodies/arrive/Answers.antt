@@ -2,7 +2,7 @@ use Rattle.std.proofs.Common.{◌≡◌, ℕ, ◌*◌, None, Some, ap, arith, le
 use Rattle.mp4_reading.proofs.PieceLemmas.{GoesOn-none, Moves-none}
 use Rattle.mp4_items.specs.Commands.{making}
 use Rattle.mp4_items.specs.Contexts.{table_of}
-use Rattle.mp4_feed.specs.Places.{outside}
+use Rattle.mp4_reading.specs.Pieces.{outside}
 use Rattle.mp4_feed.specs.States.{behind_body}
 use Rattle.mp4_feed.proofs.BodyLemmas.{GoesOn-over, Moves-settled}
 use Rattle.mp4_feed.proofs.bodies.arrive.Goals as goal

@@ -4,7 +4,7 @@ use Rattle.mp4_reading.proofs.PieceLemmas.{Takes-ok, Takes-err}
 use Rattle.mp4_items.specs.Commands.{making}
 use Rattle.mp4_items.specs.Contexts.{context}
 use Rattle.mp4_items.specs.declared.kinds.Kind.TheVariants.{Moov, Moof, Mdat}
-use Rattle.mp4_feed.specs.Places.{outside}
+use Rattle.mp4_reading.specs.Pieces.{outside}
 use Rattle.mp4_feed.proofs.HeadLemmas.{Refuses-box, Refuses-far, reads-kind}
 use Rattle.mp4_feed.proofs.intake.begin.Goals as goal
 

@@ -5,7 +5,7 @@ use Rattle.mp4_reading.specs.Bodies.{least_end, longest}
 use Rattle.mp4_reading.proofs.AccountLemmas.{within_limit}
 use Rattle.mp4_reading.proofs.PieceLemmas.{Takes-ok, Takes-err}
 use Rattle.mp4_items.specs.Commands.{making}
-use Rattle.mp4_feed.specs.Places.{outside}
+use Rattle.mp4_reading.specs.Pieces.{outside}
 use Rattle.mp4_feed.proofs.HeadLemmas.{Refuses-unsized, Refuses-large, GoesOn-keep, StopsAt-keep}
 use Rattle.mp4_feed.proofs.HeldLemmas.{refused_not_written}
 use Rattle.mp4_feed.proofs.intake.keep.Goals as goal

@@ -4,7 +4,7 @@ use Rattle.mp4_init.specs.Moovs.{moov_tracks}
 use Rattle.mp4_reading.proofs.HoldingLemmas.{begins_whole}
 use Rattle.mp4_reading.proofs.PieceLemmas.{Takes-ok, Takes-err}
 use Rattle.mp4_items.specs.Commands.{making}
-use Rattle.mp4_feed.specs.Places.{outside}
+use Rattle.mp4_reading.specs.Pieces.{outside}
 use Rattle.mp4_feed.proofs.HeldLemmas.{GoesOn-moov, StopsAt-moov, begins_some, not_written, table_within}
 use Rattle.mp4_feed.proofs.moovs.settle_moov.Goals as goal
 

@@ -2,7 +2,7 @@ use Rattle.std.proofs.Common.{◌≡◌, ap, refl, sym, ◌∙◌, [], Err}
 use Rattle.mp4_box.proofs.HeaderLemmas.{room_of}
 use Rattle.mp4_reading.proofs.PieceLemmas.{GoesOn-none, Takes-ok, Takes-err}
 use Rattle.mp4_items.specs.Commands.{making}
-use Rattle.mp4_feed.specs.Places.{outside}
+use Rattle.mp4_reading.specs.Pieces.{outside}
 use Rattle.mp4_feed.proofs.HeadLemmas.{Refuses-bad}
 use Rattle.mp4_feed.proofs.TakeLemmas.{len_of_bad, len_of_whole}
 use Rattle.mp4_feed.proofs.take.begin_by.Goals as goal

@@ -1,7 +1,7 @@
 use Rattle.std.proofs.Common.{◌≡◌, ◌≤◌, ◌-◌, arith, length, take, length-take-le, sym, subst}
-use Rattle.mp4_reading.specs.Pieces.{GoesOn}
+use Rattle.mp4_reading.specs.Pieces.{GoesOn, outside}
 use Rattle.mp4_items.specs.Commands.{making}
-use Rattle.mp4_feed.specs.Places.{InBody, outside, standing}
+use Rattle.mp4_feed.specs.Places.{InBody, standing}
 use Rattle.mp4_reading.specs.Readings.{silent}
 use Rattle.mp4_feed.specs.States.{behind_body, claimed_in}
 use Rattle.mp4_feed.proofs.BodyLemmas.{GoesOn-passed}

@@ -2,7 +2,7 @@ use Rattle.std.proofs.Common.{take, drop, ◌++◌, ap, Err}
 use Rattle.mp4_reading.proofs.PieceLemmas.{StopsAt-take_more, Takes-ok, Takes-err}
 use Rattle.mp4_items.specs.Commands.{making}
 use Rattle.mp4_items.specs.Contexts.{context}
-use Rattle.mp4_feed.specs.Places.{outside}
+use Rattle.mp4_reading.specs.Pieces.{outside}
 use Rattle.mp4_feed.proofs.HeadLemmas.{GoesOn-head}
 use Rattle.mp4_feed.proofs.TakeLemmas.{GoesOn-then}
 use Rattle.mp4_feed.proofs.take.take_header.Goals as goal

@@ -3,7 +3,7 @@ use Rattle.mp4_reading.proofs.HoldingLemmas.{begins_more}
 use Rattle.mp4_reading.proofs.PieceLemmas.{StopsAt-take_more, Takes-ok, Takes-err}
 use Rattle.mp4_items.specs.Commands.{making}
 use Rattle.mp4_items.specs.Contexts.{context}
-use Rattle.mp4_feed.specs.Places.{outside}
+use Rattle.mp4_reading.specs.Pieces.{outside}
 use Rattle.mp4_feed.proofs.TakeLemmas.{GoesOn-held, GoesOn-then}
 use Rattle.mp4_feed.proofs.take.take_held.Goals as goal
 

@@ -3,7 +3,7 @@ use Rattle.std.proofs.Math.Seq.{take-length}
 use Rattle.mp4_reading.proofs.PieceLemmas.{Takes-ok, Takes-err}
 use Rattle.mp4_items.specs.Commands.{making}
 use Rattle.mp4_items.specs.Contexts.{table_of}
-use Rattle.mp4_feed.specs.Places.{outside}
+use Rattle.mp4_reading.specs.Pieces.{outside}
 use Rattle.mp4_feed.specs.States.{claimed_in, taken_by}
 use Rattle.mp4_feed.proofs.BodyLemmas.{GoesOn-open, Refuses-open, claimed_apart}
 use Rattle.mp4_feed.proofs.take.take_open.Goals as goal

@@ -4,7 +4,7 @@ use Rattle.mp4_items.specs.Commands.{making}
 use Rattle.mp4_items.specs.Contexts.{context}
 use Rattle.mp4_feed.proofs.HeadLemmas.{ends-header, ends-none}
 use Rattle.mp4_feed.proofs.QuietLemmas.{some_bytes}
-use Rattle.mp4_feed.proofs.machine.Machine.finish.Goals as goal
+use Rattle.mp4_feed.proofs.machine.FragmentMachineMachine.finish.Goals as goal
 
 pub returns-then-is_empty-clause-ok : goal.returns-then-is_empty-clause-ok
 returns-then-is_empty-clause-ok c =
