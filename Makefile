@@ -5,16 +5,13 @@
 IN ?= crates/fmp4/stdin
 PREFIX ?= /usr/local
 
-.PHONY: demo build moov_tracks moof_runs cut_pieces test install refusals manual bench
+.PHONY: demo build moof_runs cut_pieces test install refusals manual bench
 
 demo: build
 	@crates/fmp4/out/fmp4 boxes < "$(IN)"
 
 build:
 	@scripts/build fmp4 boxes
-
-moov_tracks:
-	@scripts/build moov_tracks
 
 moof_runs:
 	@scripts/build moof_runs
@@ -33,8 +30,8 @@ install:
 	install -m 755 crates/fmp4/out/fmp4 "$(DESTDIR)$(PREFIX)/bin/fmp4"
 	install -m 644 docs/fmp4.1 "$(DESTDIR)$(PREFIX)/share/man/man1/fmp4.1"
 
-# Runs the programs with each of their allocations refused in turn.
-refusals: build moov_tracks
+# Runs the program with each of its allocations refused in turn.
+refusals: build
 	@scripts/refused_allocations
 
 # Formats the manual page and looks whether all is there.
@@ -42,7 +39,7 @@ manual:
 	@scripts/check_manual
 
 # Measures the program beside others; see bench/README.md.
-bench: build moov_tracks moof_runs cut_pieces
+bench: build moof_runs cut_pieces
 	@bench/large_boxes
 	@bench/small_boxes
 	@bench/many_tracks

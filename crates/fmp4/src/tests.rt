@@ -4,6 +4,7 @@ ghost use Rattle.std.specs.Prelude.{◌≡◌, ◌<◌};
 
 mod ends;
 mod fragments;
+mod layouts;
 mod listings;
 mod memory;
 mod words;

@@ -1,23 +1,67 @@
-//! Lists the boxes of two real streams, which ffmpeg's muxer wrote: data/audio.mp4, a fragment each
+//! Lists the boxes and the samples of two real streams, which ffmpeg's muxer wrote: data/audio.mp4, a fragment each
 //! second, and data/every_frame.mp4, a fragment each frame. What it must write stands in the file stdout, and
-//! is what another reader found.
+//! is what another reader found. The counts of both streams are those of another reader too.
 #![tactic(auto)]
 
-use mp4_stream::{FromRead, IntoWrite, Ledger, Totals, boxes};
+use mp4_stream::{FromRead, IntoWrite, Ledger, Totals, boxes, check, samples};
 use std::fs::File;
 use std::process::ExitCode;
 
+/// A stream, and what it comes to.
+struct Stream {
+    name: &'static str,
+    fragments: u64,
+    samples: u128,
+    media_bytes: u64,
+}
+
+const STREAMS: [Stream; 2] = [
+    Stream {
+        name: "audio.mp4",
+        fragments: 7,
+        samples: 283,
+        media_bytes: 24034,
+    },
+    Stream {
+        name: "every_frame.mp4",
+        fragments: 50,
+        samples: 50,
+        media_bytes: 15618,
+    },
+];
+
+/// Whether a stream that was read counts so.
+fn is_counted(stream: &Stream, totals: &Totals) -> bool {
+    totals.fragments == stream.fragments
+        && totals.samples == stream.samples
+        && totals.media_bytes == stream.media_bytes
+}
+
 fn main(rt: HostRuntime) -> ExitCode {
     let mut w = IntoWrite::new(rt.stdout());
-    for name in ["audio.mp4", "every_frame.mp4"] {
-        let Ok(stream) = File::open(&rt, name) else {
-            return ExitCode::from(1);
-        };
-        let mut r = FromRead::new(stream);
+    for stream in &STREAMS {
         let mut ledger = Ledger::new(rt.alloc(), 1 << 20);
         let mut totals = Totals::new();
+        let (Ok(first), Ok(second), Ok(third)) = (
+            File::open(&rt, stream.name),
+            File::open(&rt, stream.name),
+            File::open(&rt, stream.name),
+        ) else {
+            return ExitCode::from(1);
+        };
+        let mut r = FromRead::new(first);
         if boxes(&mut r, &mut w, &mut ledger, 4096, &mut totals).is_err() {
             return ExitCode::from(1);
+        }
+        let mut r = FromRead::new(second);
+        if samples(&mut r, &mut w, &mut ledger, 4096, &mut totals).is_err()
+            || !is_counted(stream, &totals)
+        {
+            return ExitCode::from(2);
+        }
+        let mut r = FromRead::new(third);
+        if check(&mut r, &mut ledger, 4096, &mut totals).is_err() || !is_counted(stream, &totals) {
+            return ExitCode::from(3);
         }
     }
     ExitCode::from(0)

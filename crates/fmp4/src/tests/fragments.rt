@@ -7,19 +7,19 @@ use std::process::Abort;
 use std::test::Fail;
 
 /// The samples of the first vector.
-const SAMPLES: [&str; 3] = [
+pub(super) const SAMPLES: [&str; 3] = [
     "track=1 dts=0 cts=0 dur=1024 size=5 flags=02000000 sync desc=1 at=468\n",
     "track=1 dts=1024 cts=1024 dur=1024 size=7 flags=02000000 sync desc=1 at=473\n",
     "track=1 dts=2048 cts=2048 dur=1024 size=3 flags=02000000 sync desc=1 at=480\n",
 ];
 
 /// What it comes to.
-const COUNTS: &str = "fragments=1 samples=3 media=15 held=65944\n";
+pub(super) const COUNTS: &str = "fragments=1 samples=3 media=15 held=65944\n";
 
 const HEADER_TO_END: &[u8] = b"\0\0\0\0mdat";
 
 /// A stream whose samples are these, and that breaks no rule.
-fn check_sound(
+pub(super) fn check_sound(
     rt: &impl Abort,
     alloc: Global,
     parts: &[&[u8]],
@@ -31,7 +31,7 @@ fn check_sound(
 }
 
 /// A stream with this fault, before which these samples are listed.
-fn check_fault(
+pub(super) fn check_fault(
     rt: &impl Abort,
     alloc: Global,
     parts: &[&[u8]],
