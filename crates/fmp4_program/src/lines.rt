@@ -4,11 +4,12 @@ ghost use Rattle.std.specs.Prelude.{◌≡◌, ◌+◌, ◌≤◌, ◌++◌, cod
 ghost use Rattle.std.specs.Fmt.{decimal};
 ghost use Rattle.fmp4_program.specs.Lines.{check_text, fault_text, kind_text, line, stop_text};
 
-use mp4_lines::{LINE_CAPACITY, Line};
+use mp4_lines::Text;
+use mp4_reading::LINE_BYTES;
 use mp4_stream::{Fault, FourCc, Stop, Totals};
 
 /// The line of what stopped a run.
-pub fn stop_line(stop: &Stop) -> Line
+pub fn stop_line(stop: &Stop) -> Text<LINE_BYTES>
     ensures { result ≡ line (stop_text stop.now) }
 {
     match stop {
@@ -21,20 +22,20 @@ pub fn stop_line(stop: &Stop) -> Line
 }
 
 /// A line of this text.
-fn plain_line(text: &[u8]) -> Line
-    requires { length text.now ≤ LINE_CAPACITY }
+fn plain_line(text: &[u8]) -> Text<LINE_BYTES>
+    requires { length text.now ≤ LINE_BYTES }
     ensures { result ≡ text.now }
 {
-    let mut line = Line::new();
+    let mut line = Text::new();
     line.push_bytes(text);
     line
 }
 
 /// The line of a fault, as `fmp4: 1 Truncated in mdat at 460`.
-fn fault_line(fault: &Fault) -> Line
+fn fault_line(fault: &Fault) -> Text<LINE_BYTES>
     ensures { result ≡ line (fault_text fault.now) }
 {
-    let mut line = Line::new();
+    let mut line = Text::new();
     line.push_bytes(b"fmp4: ");
     line.push_decimal(u64::from(fault.rule.number()));
     line.push_bytes(b" ");
@@ -48,10 +49,10 @@ fn fault_line(fault: &Fault) -> Line
 }
 
 /// The line of a failed read, as `fmp4: read failed at 470`.
-fn read_line(at: u64) -> Line
+fn read_line(at: u64) -> Text<LINE_BYTES>
     ensures { result ≡ line (codes "read failed at " ++ decimal at) }
 {
-    let mut line = Line::new();
+    let mut line = Text::new();
     line.push_bytes(b"fmp4: read failed at ");
     line.push_decimal(at);
     line.push_bytes(b"\n");
@@ -59,10 +60,10 @@ fn read_line(at: u64) -> Line
 }
 
 /// The line of a stream that was checked, as `fragments=1 samples=3 media=15 held=65944`.
-pub fn check_line(totals: &Totals) -> Line
+pub fn check_line(totals: &Totals) -> Text<LINE_BYTES>
     ensures { result ≡ check_text totals.now }
 {
-    let mut line = Line::new();
+    let mut line = Text::new();
     line.push_bytes(b"fragments=");
     line.push_decimal(totals.fragments);
     line.push_bytes(b" samples=");
@@ -75,8 +76,8 @@ pub fn check_line(totals: &Totals) -> Line
     line
 }
 
-fn push_kind(line: &mut Line, kind: Option<FourCc>)
-    requires { length line.old + 6 ≤ LINE_CAPACITY }
+fn push_kind(line: &mut Text<LINE_BYTES>, kind: Option<FourCc>)
+    requires { length line.old + 6 ≤ LINE_BYTES }
     ensures text { line.new ≡ line.old ++ kind_text kind }
     ensures len { length line.new ≤ length line.old + 6 }
 {

@@ -16,6 +16,27 @@ use crate::rules::{Fault, Rule};
 /// The one type whose boxes carry a user type.
 const UUID: FourCc = FourCc(*b"uuid");
 
+// The types of the boxes that hold boxes.
+const MOOV: FourCc = FourCc(*b"moov");
+
+const TRAK: FourCc = FourCc(*b"trak");
+
+const EDTS: FourCc = FourCc(*b"edts");
+
+const MDIA: FourCc = FourCc(*b"mdia");
+
+const MINF: FourCc = FourCc(*b"minf");
+
+const DINF: FourCc = FourCc(*b"dinf");
+
+const STBL: FourCc = FourCc(*b"stbl");
+
+const MVEX: FourCc = FourCc(*b"mvex");
+
+const MOOF: FourCc = FourCc(*b"moof");
+
+const TRAF: FourCc = FourCc(*b"traf");
+
 /// A box at the top may have so many levels, its own among them.
 const LEVELS: u8 = 8;
 
@@ -90,23 +111,21 @@ fn any_box<'a>(bytes: &'a [u8], offset: u64) -> Option<BoxRef<'a>>
 }
 
 /// Whether boxes of this type hold boxes.
+#[inline]
 #[tactic(auto, unfolding(crate::specs::Trees::is_container))]
 pub fn holds_boxes(kind: FourCc) -> bool
     ensures { result ≡ is_container kind.0 }
 {
-    match &kind.0 {
-        b"moov"
-        | b"trak"
-        | b"edts"
-        | b"mdia"
-        | b"minf"
-        | b"dinf"
-        | b"stbl"
-        | b"mvex"
-        | b"moof"
-        | b"traf" => true,
-        _ => false,
-    }
+    kind.is(MOOV)
+        || kind.is(TRAK)
+        || kind.is(EDTS)
+        || kind.is(MDIA)
+        || kind.is(MINF)
+        || kind.is(DINF)
+        || kind.is(STBL)
+        || kind.is(MVEX)
+        || kind.is(MOOF)
+        || kind.is(TRAF)
 }
 
 fn bad_box(bytes: &[u8], offset: u64) -> Fault
@@ -141,6 +160,7 @@ impl<'a> BoxRef<'a> {
     /// # Errors
     ///
     /// As [`check_tree`].
+    #[inline]
     pub fn check(&self) -> Result<(), Fault>
         ensures { result ≡ verdict (box_faults (view self.now)) }
     {
@@ -156,6 +176,7 @@ impl<'a> BoxRef<'a> {
 }
 
 /// Whether nothing can be at fault below this box, `levels` levels down: it holds no boxes.
+#[inline(always)]
 fn is_leaf(this: &BoxRef, levels: u8) -> bool
     ensures bad { IsTrue result → bad_below levels (view this.now) ≡ [] }
     ensures deep { IsTrue result → deep_below levels (view this.now) ≡ [] }
@@ -189,7 +210,9 @@ fn check_below(this: &BoxRef, levels: u8, deep: &mut Option<Fault>) -> Result<()
             return Err(bad_box(rest, offset));
         };
         if !is_leaf(&child, levels - 1) {
-            if let Err(fault) = check_below(&child, levels - 1, deep) {
+            // A copy, so that the others need not be in memory.
+            let container = child;
+            if let Err(fault) = check_below(&container, levels - 1, deep) {
                 return Err(fault);
             }
         }

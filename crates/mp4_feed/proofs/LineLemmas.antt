@@ -81,10 +81,6 @@ pub prefix_of : (a b : Option (List ℕ)) (waiting text rest whole : List ℕ) �
 prefix_of a b waiting text rest whole e p =
     AppendsPrefix-longer a b (waiting ++ text) rest (waiting ++ whole) p (ap (λ x. waiting ++ x) (sym e) ∙ sym (append_assoc waiting text rest))
 
--- the line that was built is that of the sample
-pub line-is : {bytes line : List ℕ} {s t : Sample} → bytes ≡ line → line ≡ sample_line s → s ≡ t → bytes ≡ sample_line t
-line-is e f g = e ∙ f ∙ ap sample_line g
-
 -- ---- run after run
 
 -- the lines of one more run were put

@@ -15,7 +15,6 @@ use mp4_ends::{Failed, Sink};
 use mp4_frag::{Cursor, Moof, Row, Rows, Run, Steps};
 use mp4_init::TrackList;
 use mp4_items::Sample;
-use mp4_lines::Line;
 use mp4_reading::Block;
 
 /// The cursor behind a row.
@@ -66,15 +65,12 @@ fn put_rows<W: Sink>(
     ensures failed { OnErr result (W.has_failed w.new ≡ true) }
     ensures kept { OnOk result (W.has_failed w.new ≡ W.has_failed w.old) }
 {
-    let mut line = Line::new();
     let mut at = from;
     loop {
         let Some(row) = rows.next() else {
             return Ok(());
         };
-        line.clear();
-        sample_at(run, &row, at).push(&mut line);
-        match out.put(w, line.bytes()) {
+        match out.put_line(w, &sample_at(run, &row, at)) {
             Ok(()) => {}
             Err(Failed) => return Err(Failed),
         }

@@ -2,10 +2,12 @@
 
 ghost use Rattle.std.specs.Prelude.{◌≡◌, ◌++◌, ◌^◌, ◌<◌, ◌≤◌, ◌+◌, [], length};
 ghost use Rattle.mp4_frag.specs.declared.rows.Row.{Row};
-ghost use Rattle.mp4_items.specs.Samples.{sample_line, sample_of, sync_text};
+ghost use Rattle.std.specs.Fmt.{decimal, signed_decimal};
+ghost use Rattle.mp4_items.specs.Samples.{fields_text, place_text, sample_line, sample_of, sync_text, times_text};
 
 use mp4_frag::{Row, Run};
-use mp4_lines::Line;
+use mp4_lines::{DECIMAL_DIGITS, SIGNED_DECIMAL_BYTES, Text};
+use mp4_reading::{BLOCK_BYTES, LINE_BYTES, Line};
 
 /// The bit of a sample's flags that a sync sample has clear (ISO/IEC 14496-12, 8.8.3).
 const NON_SYNC: u32 = 0x0001_0000;
@@ -47,39 +49,88 @@ impl Sample {
             place,
         }
     }
+}
 
-    /// Puts its line in an empty line.
-    #[tactic(auto, unfolding(crate::specs::Samples::sample_line))]
-    pub fn push(&self, line: &mut Line)
-        requires { line.old ≡ [] }
-        ensures { line.new ≡ sample_line self.now }
+impl Sample {
+    /// Appends its track and its times.
+    fn push_times(&self, block: &mut Text<BLOCK_BYTES>)
+        requires { length block.old + LINE_BYTES ≤ BLOCK_BYTES }
+        ensures text { block.new ≡ block.old ++ times_text self.now }
+        ensures len { length block.new ≤ length block.old + 96 }
     {
-        line.push_bytes(b"track=");
-        line.push_decimal(u64::from(self.track));
-        line.push_bytes(b" dts=");
-        line.push_decimal(self.time);
-        line.push_bytes(b" cts=");
-        line.push_signed_decimal(self.composition);
-        line.push_bytes(b" dur=");
-        line.push_decimal(u64::from(self.duration));
-        line.push_bytes(b" size=");
-        line.push_decimal(u64::from(self.size));
-        line.push_bytes(b" flags=");
-        line.push_hex(&self.flags.to_be_bytes());
-        line.push_bytes(b" ");
-        line.push_bytes(sync_text(self.flags));
-        line.push_bytes(b" desc=");
-        line.push_decimal(u64::from(self.entry));
-        line.push_bytes(b" at=");
-        line.push_signed_decimal(self.place);
-        line.push_bytes(b"\n");
+        push_number(block, b"track=", u64::from(self.track));
+        push_number(block, b" dts=", self.time);
+        push_signed(block, b" cts=", self.composition);
+    }
+
+    /// Appends its duration, size and flags.
+    fn push_fields(&self, block: &mut Text<BLOCK_BYTES>)
+        requires { length block.old + 71 ≤ BLOCK_BYTES }
+        ensures text { block.new ≡ block.old ++ fields_text self.now }
+        ensures len { length block.new ≤ length block.old + 71 }
+    {
+        push_number(block, b" dur=", u64::from(self.duration));
+        push_number(block, b" size=", u64::from(self.size));
+        block.push_bytes(b" flags=");
+        block.push_hex(&self.flags.to_be_bytes());
+        block.push_bytes(b" ");
+        push_sync(block, self.flags);
+    }
+
+    /// Appends its sample entry and place, and ends its line.
+    fn push_place(&self, block: &mut Text<BLOCK_BYTES>)
+        requires { length block.old + 71 ≤ BLOCK_BYTES }
+        ensures { block.new ≡ block.old ++ place_text self.now }
+    {
+        push_number(block, b" desc=", u64::from(self.entry));
+        push_signed(block, b" at=", self.place);
+        block.push_bytes(b"\n");
     }
 }
 
-/// Whether it is a sync sample, as a line has it.
-fn sync_text(flags: u32) -> &'static [u8]
-    ensures text { result.now ≡ sync_text flags }
-    ensures len { length result.now ≤ 4 }
+impl Line for Sample {
+    ghost text = { λ s. sample_line s };
+
+    #[tactic(auto, unfolding(crate::specs::Samples::sample_line))]
+    fn push(&self, block: &mut Text<BLOCK_BYTES>) {
+        self.push_times(block);
+        self.push_fields(block);
+        self.push_place(block);
+    }
+}
+
+/// Appends a number behind its name.
+#[inline(always)]
+fn push_number(block: &mut Text<BLOCK_BYTES>, name: &[u8], number: u64)
+    requires { length block.old + length name.now + DECIMAL_DIGITS ≤ BLOCK_BYTES }
+    ensures text { block.new ≡ block.old ++ name.now ++ decimal number }
+    ensures len { length block.new ≤ length block.old + length name.now + DECIMAL_DIGITS }
 {
-    if flags & NON_SYNC == 0 { b"sync" } else { b"-" }
+    block.push_bytes(name);
+    block.push_decimal(number);
+}
+
+/// Appends a number with a sign behind its name.
+#[inline(always)]
+fn push_signed(block: &mut Text<BLOCK_BYTES>, name: &[u8], number: i128)
+    requires { length block.old + length name.now + SIGNED_DECIMAL_BYTES ≤ BLOCK_BYTES }
+    ensures text { block.new ≡ block.old ++ name.now ++ signed_decimal number }
+    ensures len { length block.new ≤ length block.old + length name.now + SIGNED_DECIMAL_BYTES }
+{
+    block.push_bytes(name);
+    block.push_signed_decimal(number);
+}
+
+/// Appends whether it is a sync sample.
+#[inline]
+fn push_sync(block: &mut Text<BLOCK_BYTES>, flags: u32)
+    requires { length block.old + 4 ≤ BLOCK_BYTES }
+    ensures text { block.new ≡ block.old ++ sync_text flags }
+    ensures len { length block.new ≤ length block.old + 4 }
+{
+    if flags & NON_SYNC == 0 {
+        block.push_bytes(b"sync");
+    } else {
+        block.push_bytes(b"-");
+    }
 }

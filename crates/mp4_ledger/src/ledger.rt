@@ -1,6 +1,6 @@
 //! What is claimed, and how much may be.
 
-ghost use Rattle.std.specs.Prelude.{◌≡◌, ◌+◌, ◌-◌, ◌*◌, ◌<◌, ◌≤◌, ◌↔◌, [], OnOk, OnErr, IfOk, IsErrOf};
+ghost use Rattle.std.specs.Prelude.{◌≡◌, ◌+◌, ◌-◌, ◌*◌, ◌<◌, ◌≤◌, ◌↔◌, [], OnOk, OnErr, IfErr, IfOk, IsErrOf};
 ghost use Rattle.mp4_ledger.specs.Memory.{claimed, given_back};
 
 use crate::buf::Buf;
@@ -136,6 +136,27 @@ impl Ledger {
             rows,
             cap: n as usize,
         })
+    }
+
+    /// Counts a claim of so many bytes, for which room is elsewhere, and gives it back at once: the peak is that of a claim
+    /// that was made.
+    ///
+    /// # Errors
+    ///
+    /// `OverLimit` where the claim passes the limit; never `Memory`.
+    pub fn count_claim(&mut self, claim: u64) -> Result<(), Refused>
+        ensures ok { OnOk result (self.new ≡ given_back (claimed self.old claim) claim) }
+        ensures over_limit { IsErrOf result Refused.OverLimit ↔
+            (self.old.limit < self.old.live + claim) }
+        ensures err { OnErr result (self.new ≡ self.old) }
+        ensures memory { IfErr result (λ r. r ≡ Refused.OverLimit) }
+    {
+        if claim > self.limit - self.live {
+            return Err(Refused::OverLimit);
+        }
+        self.count(claim);
+        self.live -= claim;
+        Ok(())
     }
 
     /// Counts bytes that are claimed, for which there is room.

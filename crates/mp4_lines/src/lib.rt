@@ -1,13 +1,13 @@
-//! Lines of text under construction: bytes, and numbers in decimal and hexadecimal.
+//! Text under construction: bytes, and numbers in decimal and hexadecimal.
 //!
-//! - [`line`]: [`Line`], which holds up to [`LINE_CAPACITY`] bytes and allocates nothing;
+//! - [`text`]: [`Text`], which holds up to a number of bytes that its type names, and allocates nothing;
 //! - [`digits`]: how long numbers are in decimal, and the hexadecimal digits.
 //!
 //! Decimals are std's `decimal` and `signed_decimal`. Hexadecimal is defined in `specs/Digits.antt`.
 #![tactic(auto)]
 
 pub mod digits;
-pub mod line;
+pub mod text;
 
 pub use digits::{DECIMAL_DIGITS, SIGNED_DECIMAL_BYTES, WIDE_DECIMAL_DIGITS};
-pub use line::{LINE_CAPACITY, Line};
+pub use text::Text;

@@ -4,24 +4,41 @@ ghost use Rattle.std.specs.Prelude.{◌≡◌, ℕ, List, ◌+◌, ◌<◌, ◌�
 ghost use Rattle.mp4_ends.specs.Streams.{AppendsPrefix};
 ghost use Rattle.mp4_reading.specs.Blocks.{Passes};
 
-use arrayvec::ArrayVec;
 use mp4_ends::{Failed, Sink, write_all};
+use mp4_lines::Text;
 use std::marker::Model;
 
 /// From so many bytes on a slice is sent by itself and not gathered.
 const LARGE: usize = 4096;
 
+/// So many bytes may wait in a block.
+pub const BLOCK_BYTES: usize = 16_384;
+
+/// The most bytes of a line.
+pub const LINE_BYTES: usize = 256;
+
+/// What is put into a block as a line, and is built there.
+pub trait Line {
+    // Its text.
+    ghost text: { Self → List ℕ };
+
+    /// Appends its text.
+    fn push(&self, block: &mut Text<BLOCK_BYTES>)
+        requires { length block.old + LINE_BYTES ≤ BLOCK_BYTES }
+        ensures { block.new ≡ block.old ++ text self.now };
+}
+
 /// Gathers bytes, so that a sink is given few large writes.
 #[derive(Drop)]
 pub struct Block {
-    waiting: ArrayVec<u8, 16384>,
+    waiting: Text<BLOCK_BYTES>,
 }
 
 // A contract sees the bytes that wait.
 impl Model for Block {
     ghost Value = { List ℕ };
 
-    ghost view = { λ b. b.waiting.items };
+    ghost view = { λ b. b.waiting };
 }
 
 impl Block {
@@ -30,7 +47,7 @@ impl Block {
         ensures { result ≡ [] }
     {
         Block {
-            waiting: ArrayVec::new(),
+            waiting: Text::new(),
         }
     }
 
@@ -43,7 +60,7 @@ impl Block {
         ensures failed { OnErr result (W.has_failed w.new ≡ true) }
         ensures kept { OnOk result (W.has_failed w.new ≡ W.has_failed w.old) }
     {
-        write_all(w, self.waiting.as_slice())?;
+        write_all(w, self.waiting.bytes())?;
         self.waiting.clear();
         Ok(())
     }
@@ -57,10 +74,45 @@ impl Block {
         ensures failed { OnErr result (W.has_failed w.new ≡ true) }
         ensures kept { OnOk result (W.has_failed w.new ≡ W.has_failed w.old) }
     {
-        match self.waiting.try_extend_from_slice(bytes) {
-            Ok(()) => Ok(()),
-            Err(_) => self.send_and_put(w, bytes),
+        if bytes.len() > BLOCK_BYTES - self.waiting.len() {
+            return self.send_and_put(w, bytes);
         }
+        self.waiting.push_bytes(bytes);
+        Ok(())
+    }
+
+    /// Puts a line behind the bytes that wait. Where there may be no room for it, what waits is sent first.
+    #[inline]
+    pub fn put_line<L: Line, W: Sink>(&mut self, w: &mut W, line: &L) -> Result<(), Failed>
+        ensures ok { OnOk result (Passes (W.contents w.old) (W.contents w.new) self.old self.new
+            (L.text line.now)) }
+        ensures err { OnErr result (AppendsPrefix (W.contents w.old) (W.contents w.new)
+            (self.old ++ L.text line.now)) }
+        ensures failed { OnErr result (W.has_failed w.new ≡ true) }
+        ensures kept { OnOk result (W.has_failed w.new ≡ W.has_failed w.old) }
+    {
+        match self.make_room(w) {
+            Ok(()) => {}
+            Err(Failed) => return Err(Failed),
+        }
+        line.push(&mut self.waiting);
+        Ok(())
+    }
+
+    /// Makes room for a line: where there may be none, what waits is sent.
+    #[inline]
+    fn make_room<W: Sink>(&mut self, w: &mut W) -> Result<(), Failed>
+        ensures ok { OnOk result (Passes (W.contents w.old) (W.contents w.new) self.old self.new
+            []) }
+        ensures room { OnOk result (length self.new + LINE_BYTES ≤ BLOCK_BYTES) }
+        ensures err { OnErr result (AppendsPrefix (W.contents w.old) (W.contents w.new) self.old) }
+        ensures failed { OnErr result (W.has_failed w.new ≡ true) }
+        ensures kept { OnOk result (W.has_failed w.new ≡ W.has_failed w.old) }
+    {
+        if self.waiting.len() <= BLOCK_BYTES - LINE_BYTES {
+            return Ok(());
+        }
+        self.send(w)
     }
 
     fn send_and_put<W: Sink>(&mut self, w: &mut W, bytes: &[u8]) -> Result<(), Failed>
@@ -76,10 +128,8 @@ impl Block {
             Err(Failed) => return Err(Failed),
         }
         if bytes.len() < LARGE {
-            return match self.waiting.try_extend_from_slice(bytes) {
-                Ok(()) => Ok(()),
-                Err(_) => unreachable!(),
-            };
+            self.waiting.push_bytes(bytes);
+            return Ok(());
         }
         match write_all(w, bytes) {
             Ok(()) => Ok(()),

@@ -2,14 +2,14 @@
 //!
 //! - [`stop`]: [`Stop`], why a run stops, and [`tally`]: [`Tally`], what is counted of a stream;
 //! - [`limits`]: how far a stream is followed, and what is refused;
-//! - [`block`]: [`Block`], which gathers bytes on their way to a sink, and [`held`]: [`Held`], a box in claimed memory while it
-//!   comes;
+//! - [`block`]: [`Block`], which gathers bytes and lines on their way to a sink ([`Line`]), and [`held`]: [`Held`], a box in
+//!   claimed memory while it comes;
 //! - [`machine`]: [`Machine`], what takes the bytes of a stream as they come, and [`run`]: [`read_stream`], which feeds it a whole
 //!   stream.
 //!
 //! The definitions: `specs/Readings.antt` (what some bytes are read as, item by item), `specs/Bodies.antt` (a body that
-//! is told as it comes), `specs/Holding.antt` (a box that is held while it comes), `specs/Pieces.antt` (what a machine brings that is fed the stream piece by piece), with
-//! `specs/Accounts.antt` (what it does to a ledger) and `specs/Blocks.antt` (what goes by way of a block), and
+//! is told as it comes), `specs/Holding.antt` (a box that is held while it comes), `specs/Pieces.antt` (what a machine
+//! brings that is fed the stream piece by piece), with `specs/Accounts.antt` (what it does to a ledger) and `specs/Blocks.antt` (what goes by way of a block), and
 //! `specs/Runs.antt` (what a run over a whole stream brings). They name no command: a command says what stands at
 //! the front of some bytes, and its machine keeps the clauses of [`Machine`].
 #![tactic(auto)]
@@ -22,7 +22,7 @@ pub mod run;
 pub mod stop;
 pub mod tally;
 
-pub use block::Block;
+pub use block::{BLOCK_BYTES, Block, LINE_BYTES, Line};
 pub use held::Held;
 pub use limits::{LONGEST, is_too_long, refused};
 pub use machine::Machine;

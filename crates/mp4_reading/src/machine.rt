@@ -63,7 +63,7 @@ pub trait Machine {
         ensures err { IfErr result (λ f.
             fault_in ((stands self.now).reads []).outcome ≡ Some f) };
 
-    /// Gives back what is claimed. Nothing can be taken then.
+    /// Gives back what is claimed. Where it stands in the stream then isn't said.
     fn give_back(&mut self, ledger: &mut Ledger)
         requires { (stands self.old).claim ≤ ledger.old.live }
         ensures back { ledger.new ≡ given_back ledger.old (stands self.old).claim }

@@ -7,3 +7,4 @@ pub mod ListingLemmas
 pub mod JoinLemmas
 pub mod RestLemmas
 pub mod FragmentLemmas
+pub mod EmptyLemmas

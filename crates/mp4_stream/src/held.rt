@@ -14,13 +14,14 @@ ghost use Rattle.mp4_stream.specs.Holding.{most_held};
 ghost use Rattle.mp4_reading.specs.Holding.{Begins};
 ghost use Rattle.mp4_stream.specs.Places.{InHeader, InHeld, around, standing};
 
-use crate::listing::put_tree;
+use crate::listing::{put_box, put_tree};
 use mp4_box::{BoxRef, FourCc, Header, whole_box};
 use mp4_ends::{Failed, Sink};
 use mp4_ledger::Ledger;
 use mp4_reading::{Block, Held, Stop};
 
 /// The most bytes that a box of this type may have to be held; none for a type that isn't.
+#[inline(always)]
 #[tactic(auto, unfolding(crate::specs::Holding::most_held))]
 pub(crate) fn held_limit(kind: FourCc) -> Option<u64>
     ensures { result ≡ most_held kind.0 }
@@ -58,12 +59,13 @@ fn whole_held<'a>(bytes: &'a [u8], at: u64) -> BoxRef<'a>
     whole_box(bytes, at)
 }
 
-/// Lists the box at `at`, all of which is in a piece: `bytes` are it. Its room is claimed and given back all the same, so that
-/// what a stream claims doesn't depend on how its reads cut it.
+/// Lists the box at `at`, all of which is in a piece: `bytes` are it. It needs no room of its own, but is counted as one that
+/// is held, so that what a stream claims doesn't depend on how its reads cut it.
 ///
 /// # Errors
 ///
 /// As the ledger refuses the claim, and as [`list_box`].
+#[inline(always)]
 pub(crate) fn list_whole<W: Sink>(
     at: u64,
     header: &Header,
@@ -82,18 +84,34 @@ pub(crate) fn list_whole<W: Sink>(
         (standing (InHeader at [])) bytes.now (λ _. bytes.now)
         (λ _. standing (InHeader (at + length bytes.now) [])) result }
 {
-    let room = match ledger.buf(bytes.len() as u64) {
-        Ok(room) => room,
+    match ledger.count_claim(bytes.len() as u64) {
+        Ok(()) => {}
         Err(refused) => return Err(Stop::of_refusal(refused)),
-    };
-    let this = BoxRef {
-        header: *header,
-        offset: at,
-        payload: &bytes[header.header_len as usize..],
-    };
-    let listed = list_box(&this, out, w);
-    ledger.back(room);
-    listed
+    }
+    if header.header_len == bytes.len() as u64 {
+        return list_empty(at, header, out, w);
+    }
+    list_box(&whole_held(bytes, at), out, w)
+}
+
+/// Lists the box at `at` with this header, which has no payload. What is claimed for it is to be given back behind.
+///
+/// # Errors
+///
+/// `Write` where the writer has failed.
+#[inline]
+fn list_empty<W: Sink>(at: u64, header: &Header, out: &mut Block, w: &mut W) -> Result<(), Stop>
+    ensures { (kind : FourCc) → (x : List ℕ) → (a : Account) →
+        box_at at x ≡ Some (record { header = header.now; offset = at; payload = [] }) →
+        length x ≤ a.live → Takes (around (sent W.contents W.has_failed w.old w.new)
+        out.old out.new a (given_back a (length x)))
+        (standing (InHeld at kind (length x) x)) [] (λ _. [])
+        (λ _. standing (InHeader (at + length x) [])) result }
+{
+    match put_box(at, header, out, w) {
+        Ok(()) => Ok(()),
+        Err(Failed) => Err(Stop::Write),
+    }
 }
 
 /// Checks the tree of a box and puts its line and those of the boxes below it. What is claimed for it is to be given back

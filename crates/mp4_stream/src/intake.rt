@@ -152,6 +152,7 @@ fn take_byte<W: Sink>(
 }
 
 /// Takes the box at `at`, with whose header the piece begins: writes its line, or holds what there is of it. How many bytes.
+#[inline(always)]
 fn begin<W: Sink>(
     at: u64,
     header: &Header,
@@ -192,6 +193,7 @@ fn begin<W: Sink>(
 
 /// Takes the box at `at`, which is to be held, and with whose header the piece begins: lists it where all of it is there, and
 /// else holds what there is of it. How many bytes.
+#[inline(always)]
 fn begin_held<W: Sink>(
     at: u64,
     header: &Header,

@@ -1,43 +1,68 @@
 //! The lines of boxes.
 
-ghost use Rattle.std.specs.Prelude.{◌≡◌, ◌+◌, ◌≤◌, ◌++◌, [], length, true, OnErr, OnOk};
+ghost use Rattle.std.specs.Prelude.{◌≡◌, ◌+◌, ◌≤◌, ◌++◌, length, true, OnErr, OnOk};
 ghost use Rattle.mp4_ends.specs.Streams.{AppendsPrefix};
 ghost use Rattle.mp4_box.specs.Trees.{view};
 ghost use Rattle.mp4_reading.specs.Blocks.{Passes};
-ghost use Rattle.mp4_stream.specs.Listing.{box_line, has_lines_below, line_below, lines_below, size_text, tree_lines, user_text};
+ghost use Rattle.mp4_stream.specs.Listing.{box_line, has_lines_below, indent, line_below, lines_below, size_text, tree_lines, user_text};
 
 use mp4_box::{BoxRef, Header, Size, Walk, holds_boxes};
 use mp4_ends::{Failed, Sink};
-use mp4_lines::{DECIMAL_DIGITS, LINE_CAPACITY, Line};
-use mp4_reading::Block;
+use mp4_lines::{DECIMAL_DIGITS, Text};
+use mp4_reading::{BLOCK_BYTES, Block, LINE_BYTES, Line};
+use std::marker::Model;
 
 /// Spaces for the lowest level.
 const INDENT: [u8; 14] = *b"              ";
 
-/// Puts the line of a box that stands so many levels below the top in an empty line.
-#[tactic(auto, using(crate::proofs::ListingLemmas::spaces))]
-fn push_line(line: &mut Line, this: &BoxRef, level: u8)
-    requires level { level ≤ 7 }
-    requires empty { line.old ≡ [] }
-    ensures { line.new ≡ line_below level (view this.now) }
-{
-    line.push_bytes(&INDENT[..2 * level as usize]);
-    push_box(line, this.offset, &this.header);
+/// The line of the box with a header.
+#[derive(Drop)]
+struct BoxLine<'a> {
+    header: &'a Header,
+    /// The offset of its first byte.
+    at: u64,
+    /// How many levels it stands below the top.
+    level: u8,
 }
 
-/// Puts the line of the box with this header that begins at `at` behind its indent.
+impl<'a> Model for BoxLine<'a> {
+    ghost use Rattle.std.specs.Prelude.{◌≤◌, ◌++◌, List, ℕ};
+    ghost use Rattle.mp4_stream.specs.Listing.{box_line, indent};
+
+    ghost Value = { List ℕ };
+
+    ghost view = { λ l. indent l.level ++ box_line l.at l.header.now };
+
+    ghost invariant = { λ l. l.level ≤ 7 };
+}
+
+impl<'a> Line for BoxLine<'a> {
+    ghost text = { λ l. l };
+
+    #[inline]
+    fn push(&self, block: &mut Text<BLOCK_BYTES>) {
+        // All of the indent is one copy of a length that is known.
+        let end = block.len() + 2 * self.level as usize;
+        block.push_bytes(&INDENT);
+        block.truncate(end);
+        push_box(block, self.at, self.header);
+    }
+}
+
+/// Appends the line of the box with this header that begins at `at`, behind its indent.
+#[inline]
 #[tactic(auto, unfolding(crate::specs::Listing::box_line))]
-fn push_box(line: &mut Line, at: u64, header: &Header)
-    requires { length line.old ≤ 14 }
-    ensures { line.new ≡ line.old ++ box_line at header.now }
+fn push_box(block: &mut Text<BLOCK_BYTES>, at: u64, header: &Header)
+    requires { length block.old + LINE_BYTES ≤ BLOCK_BYTES + 14 }
+    ensures { block.new ≡ block.old ++ box_line at header.now }
 {
-    line.push_bytes(&header.kind.shown());
-    line.push_bytes(b" ");
-    push_size(line, header.size);
-    line.push_bytes(b" @");
-    line.push_decimal(at);
-    push_user(line, header.user);
-    line.push_bytes(b"\n");
+    block.push_bytes(&header.kind.shown());
+    block.push_bytes(b" ");
+    push_size(block, header.size);
+    block.push_bytes(b" @");
+    block.push_decimal(at);
+    push_user(block, header.user);
+    block.push_bytes(b"\n");
 }
 
 /// Puts the line of the box at the top with this header that begins at `at`.
@@ -54,15 +79,16 @@ pub(crate) fn put_box<W: Sink>(
     ensures failed { OnErr result (W.has_failed w.new ≡ true) }
     ensures kept { OnOk result (W.has_failed w.new ≡ W.has_failed w.old) }
 {
-    let mut line = Line::new();
-    push_box(&mut line, at, header);
-    match out.put(w, line.bytes()) {
-        Ok(()) => Ok(()),
-        Err(Failed) => Err(Failed),
-    }
+    let line = BoxLine {
+        header,
+        at,
+        level: 0,
+    };
+    out.put_line(w, &line)
 }
 
 /// Whether lines of boxes below this one follow its own, where so many levels below it are listed.
+#[inline(always)]
 fn has_lines_below(this: &BoxRef<'_>, levels: u8) -> bool
     ensures { result ≡ has_lines_below levels (view this.now) }
 {
@@ -73,6 +99,7 @@ fn has_lines_below(this: &BoxRef<'_>, levels: u8) -> bool
 }
 
 /// Puts the lines of a box, which stands so many levels below the top, and of the boxes below it: as far as `levels` go.
+#[inline(always)]
 pub(crate) fn put_tree<W: Sink>(
     this: &BoxRef<'_>,
     levels: u8,
@@ -88,15 +115,14 @@ pub(crate) fn put_tree<W: Sink>(
     ensures failed { OnErr result (W.has_failed w.new ≡ true) }
     ensures kept { OnOk result (W.has_failed w.new ≡ W.has_failed w.old) }
 {
-    let mut line = Line::new();
-    match put_line(this, level, &mut line, out, w) {
+    match put_line(this, level, out, w) {
         Ok(()) => {}
         Err(Failed) => return Err(Failed),
     }
     if !has_lines_below(this, levels) {
         return Ok(());
     }
-    match put_below(this, levels - 1, level + 1, &mut line, out, w) {
+    match put_below(this, levels - 1, level + 1, out, w) {
         Ok(()) => Ok(()),
         Err(Failed) => Err(Failed),
     }
@@ -107,7 +133,6 @@ fn put_below<W: Sink>(
     this: &BoxRef<'_>,
     levels: u8,
     level: u8,
-    line: &mut Line,
     out: &mut Block,
     w: &mut W,
 ) -> Result<(), Failed>
@@ -120,12 +145,12 @@ fn put_below<W: Sink>(
     ensures kept { OnOk result (W.has_failed w.new ≡ W.has_failed w.old) }
 {
     for child in Walk::of(this) {
-        match put_line(&child, level, line, out, w) {
+        match put_line(&child, level, out, w) {
             Ok(()) => {}
             Err(Failed) => return Err(Failed),
         }
         if has_lines_below(&child, levels) {
-            match put_below(&child, levels - 1, level + 1, line, out, w) {
+            match put_below(&child, levels - 1, level + 1, out, w) {
                 Ok(()) => {}
                 Err(Failed) => return Err(Failed),
             }
@@ -134,14 +159,9 @@ fn put_below<W: Sink>(
     Ok(())
 }
 
-/// Puts the line of a box that stands so many levels below the top. It is built in `line`.
-fn put_line<W: Sink>(
-    this: &BoxRef<'_>,
-    level: u8,
-    line: &mut Line,
-    out: &mut Block,
-    w: &mut W,
-) -> Result<(), Failed>
+/// Puts the line of a box that stands so many levels below the top.
+#[inline(always)]
+fn put_line<W: Sink>(this: &BoxRef<'_>, level: u8, out: &mut Block, w: &mut W) -> Result<(), Failed>
     requires { level ≤ 7 }
     ensures ok { OnOk result (Passes (W.contents w.old) (W.contents w.new) out.old out.new
         (line_below level (view this.now))) }
@@ -150,33 +170,33 @@ fn put_line<W: Sink>(
     ensures failed { OnErr result (W.has_failed w.new ≡ true) }
     ensures kept { OnOk result (W.has_failed w.new ≡ W.has_failed w.old) }
 {
-    line.clear();
-    push_line(line, this, level);
-    match out.put(w, line.bytes()) {
-        Ok(()) => Ok(()),
-        Err(Failed) => Err(Failed),
-    }
+    let line = BoxLine {
+        header: &this.header,
+        at: this.offset,
+        level,
+    };
+    out.put_line(w, &line)
 }
 
-fn push_size(line: &mut Line, size: Size)
-    requires { length line.old + DECIMAL_DIGITS ≤ LINE_CAPACITY }
-    ensures text { line.new ≡ line.old ++ size_text size }
-    ensures len { length line.new ≤ length line.old + DECIMAL_DIGITS }
+fn push_size(block: &mut Text<BLOCK_BYTES>, size: Size)
+    requires { length block.old + DECIMAL_DIGITS ≤ BLOCK_BYTES }
+    ensures text { block.new ≡ block.old ++ size_text size }
+    ensures len { length block.new ≤ length block.old + DECIMAL_DIGITS }
 {
     match size {
-        Size::Exact(size) => line.push_decimal(size),
-        Size::ToEnd => line.push_bytes(b"end"),
+        Size::Exact(size) => block.push_decimal(size),
+        Size::ToEnd => block.push_bytes(b"end"),
     }
 }
 
 /// A user type stands behind a space.
-fn push_user(line: &mut Line, user: Option<[u8; 16]>)
-    requires { length line.old + 33 ≤ LINE_CAPACITY }
-    ensures text { line.new ≡ line.old ++ user_text user }
-    ensures len { length line.new ≤ length line.old + 33 }
+fn push_user(block: &mut Text<BLOCK_BYTES>, user: Option<[u8; 16]>)
+    requires { length block.old + 33 ≤ BLOCK_BYTES }
+    ensures text { block.new ≡ block.old ++ user_text user }
+    ensures len { length block.new ≤ length block.old + 33 }
 {
     if let Some(user) = user {
-        line.push_bytes(b" ");
-        line.push_hex(&user);
+        block.push_bytes(b" ");
+        block.push_hex(&user);
     }
 }

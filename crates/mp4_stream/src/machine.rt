@@ -74,15 +74,16 @@ impl Machine for BoxMachine {
         out: &mut Block,
         w: &mut W,
     ) -> Result<usize, Stop> {
+        if self.progress.held.is_none() {
+            let progress = &mut self.progress;
+            return take_unheld(progress, &mut self.head, piece, ledger, out, w);
+        }
         match self.progress.held.take() {
             Some(held) => {
                 let slot = &mut self.progress.held;
                 take_held(held, slot, piece, ledger, out, w)
             }
-            None => {
-                let progress = &mut self.progress;
-                take_unheld(progress, &mut self.head, piece, ledger, out, w)
-            }
+            None => unreachable!(),
         }
     }
 

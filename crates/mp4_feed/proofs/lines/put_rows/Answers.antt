@@ -1,8 +1,8 @@
-use Rattle.std.proofs.Common.{◌≡◌, ◌++◌, ◌∙◌, [], refl, rules}
+use Rattle.std.proofs.Common.{◌≡◌, ◌++◌, ◌∙◌, [], ap, refl, rules}
 use Rattle.mp4_frag.specs.Laws.{past}
 use Rattle.mp4_reading.proofs.BlockLemmas.{Passes-none, Passes-more, AppendsPrefix-passed}
-use Rattle.mp4_items.specs.Samples.{sample_lines, samples_from}
-use Rattle.mp4_feed.proofs.LineLemmas.{line-is, next_line, prefix_of, put_all, room_on}
+use Rattle.mp4_items.specs.Samples.{sample_line, sample_lines, samples_from}
+use Rattle.mp4_feed.proofs.LineLemmas.{next_line, prefix_of, put_all, room_on}
 use Rattle.mp4_feed.proofs.lines.put_rows.Goals as goal
 
 pub loop-row-init : goal.loop-row-init
@@ -25,25 +25,25 @@ returns-in-Err-clause-err g c =
     let at = c.loop-row.at in
     let row = c.in-Some.row in
     let text = c.loop-row.invariant.text in
-    let line = c.bytes.result.now in
+    let line = sample_line c.sample_at.result in
     let rest = c.next.new.self in
     let all = sample_lines (samples_from c.args.run.now c.args.rows.now c.args.from.time c.args.from.place) in
-    prefix_of (g.W.Sink.contents c.args.w.now) (g.W.Sink.contents c.put.new.w) c.args.out.now (text ++ line) (sample_lines (samples_from c.args.run.now rest (past at row).time (past at row).place)) all
-    (next_line c.args.run.now row rest c.loop-row.rows at text line all c.in-Some.ensures.steps (line-is c.bytes.ensures c.push.ensures c.sample_at.ensures) c.loop-row.invariant.left)
-    (AppendsPrefix-passed (g.W.Sink.contents c.put.new.w) line c.loop-row.invariant.passes c.in-Err.ensures.err)
+    prefix_of (g.W.Sink.contents c.args.w.now) (g.W.Sink.contents c.put_line.new.w) c.args.out.now (text ++ line) (sample_lines (samples_from c.args.run.now rest (past at row).time (past at row).place)) all
+    (next_line c.args.run.now row rest c.loop-row.rows at text line all c.in-Some.ensures.steps (ap sample_line c.sample_at.ensures) c.loop-row.invariant.left)
+    (AppendsPrefix-passed (g.W.Sink.contents c.put_line.new.w) line c.loop-row.invariant.passes c.in-Err.ensures.err)
 
 pub loop-row-preserved : goal.loop-row-preserved
 loop-row-preserved g c =
     let at = c.loop-row.at in
     let row = c.in-Some.row in
     let text = c.loop-row.invariant.text in
-    let line = c.bytes.result.now in
+    let line = sample_line c.sample_at.result in
     let rest = c.next.new.self in
     let all = sample_lines (samples_from c.args.run.now c.args.rows.now c.args.from.time c.args.from.place) in
     record {
       text = text ++ line;
       passes = Passes-more c.loop-row.invariant.passes c.in-Ok.ensures.ok;
       kept = c.in-Ok.ensures.kept ∙ c.loop-row.invariant.kept;
-      left = rw c.past-at.ensures (next_line c.args.run.now row rest c.loop-row.rows at text line all c.in-Some.ensures.steps (line-is c.bytes.ensures c.push.ensures c.sample_at.ensures) c.loop-row.invariant.left);
+      left = rw c.past-at.ensures (next_line c.args.run.now row rest c.loop-row.rows at text line all c.in-Some.ensures.steps (ap sample_line c.sample_at.ensures) c.loop-row.invariant.left);
       room = rw c.past-at.ensures (room_on at row rest c.loop-row.rows c.in-Some.ensures.steps c.loop-row.invariant.room);
     }

@@ -1,6 +1,6 @@
-//! A line of text under construction.
+//! Text under construction.
 
-ghost use Rattle.std.specs.Prelude.{◌≡◌, ◌+◌, ◌*◌, ◌^◌, ◌<◌, ◌≤◌, ◌++◌, [], length};
+ghost use Rattle.std.specs.Prelude.{◌≡◌, ◌+◌, ◌*◌, ◌^◌, ◌<◌, ◌≤◌, ◌++◌, [], length, take};
 ghost use Rattle.std.specs.Fmt.{decimal, signed_decimal};
 ghost use Rattle.mp4_lines.specs.Digits.{hex_bytes};
 
@@ -10,78 +10,93 @@ use crate::digits::{
 use itoa::{Buffer, write_digits};
 use std::marker::Model;
 
-/// The most bytes that a line holds.
-pub const LINE_CAPACITY: usize = 200;
-
-/// A line of at most [`LINE_CAPACITY`] bytes. A contract sees it as the list of its bytes.
+/// Text of at most `CAP` bytes. A contract sees it as the list of its bytes.
 #[derive(Drop)]
-pub struct Line {
-    text: [u8; LINE_CAPACITY],
+pub struct Text<const CAP: usize> {
+    bytes: [u8; CAP],
     len: usize,
 }
 
-impl Model for Line {
+impl<const CAP: usize> Model for Text<CAP> {
     ghost use Rattle.std.specs.Prelude.{◌≡◌, ◌≤◌, length, take, List, ℕ};
-    ghost use Rattle.mp4_lines.specs.declared.line.TheConstants.{LINE_CAPACITY};
 
     ghost Value = { List ℕ };
 
-    ghost view = { λ l. take l.len l.text };
+    ghost view = { λ t. take t.len t.bytes };
 
-    ghost invariant = { λ l. (l.len ≤ LINE_CAPACITY) × (length l.text ≡ LINE_CAPACITY) };
+    ghost invariant = { λ t. (t.len ≤ CAP) × (length t.bytes ≡ CAP) };
 }
 
-impl Line {
-    /// An empty line.
+impl<const CAP: usize> Text<CAP> {
+    /// No text.
     pub fn new() -> Self
         ensures { result ≡ [] }
     {
-        Line {
-            text: [0; LINE_CAPACITY],
+        Text {
+            bytes: [0; CAP],
             len: 0,
         }
     }
 
-    /// The bytes of the line so far.
+    /// How many bytes it has.
+    #[inline]
+    pub fn len(&self) -> usize
+        ensures len { result ≡ length self.now }
+        ensures within { result ≤ CAP }
+    {
+        self.len
+    }
+
+    /// The bytes so far.
     pub fn bytes(&self) -> &[u8]
         ensures { result.now ≡ self.now }
     {
-        &self.text[..self.len]
+        &self.bytes[..self.len]
     }
 
-    /// Empties the line, for the next one.
+    /// Empties it.
     pub fn clear(&mut self)
         ensures { self.new ≡ [] }
     {
         self.len = 0;
     }
 
+    /// Keeps the first `n` bytes, or all where there are fewer.
+    #[inline]
+    pub fn truncate(&mut self, n: usize)
+        ensures { self.new ≡ take n self.old }
+    {
+        self.len = self.len.min(n);
+    }
+
     /// Appends these bytes.
+    #[inline]
     pub fn push_bytes(&mut self, bytes: &[u8])
-        requires { length self.old + length bytes.now ≤ LINE_CAPACITY }
+        requires { length self.old + length bytes.now ≤ CAP }
         ensures text { self.new ≡ self.old ++ bytes.now }
         ensures len { length self.new ≡ length self.old + length bytes.now }
     {
         let end = self.len + bytes.len();
-        self.text[self.len..end].copy_from_slice(bytes);
+        let all = &mut self.bytes[..];
+        all[self.len..end].copy_from_slice(bytes);
         self.len = end;
     }
 
     /// Appends the number in decimal, at most [`DECIMAL_DIGITS`] bytes, and 10 where it has 32 bits.
     pub fn push_decimal(&mut self, number: u64)
-        requires { length self.old + DECIMAL_DIGITS ≤ LINE_CAPACITY }
+        requires { length self.old + DECIMAL_DIGITS ≤ CAP }
         ensures text { self.new ≡ self.old ++ decimal number }
         ensures len { length self.new ≤ length self.old + DECIMAL_DIGITS }
         ensures short { number < 2 ^ 32 → length self.new ≤ length self.old + 10 }
     {
-        let end = self.len + decimal_len(number);
-        write_digits(number, &mut self.text, end);
-        self.len = end;
+        let digits = decimal_len(number);
+        write_digits(number, &mut self.bytes, self.len + digits);
+        self.len += digits;
     }
 
     /// Appends the number in decimal, at most [`WIDE_DECIMAL_DIGITS`] bytes.
     pub fn push_wide_decimal(&mut self, number: u128)
-        requires { length self.old + WIDE_DECIMAL_DIGITS ≤ LINE_CAPACITY }
+        requires { length self.old + WIDE_DECIMAL_DIGITS ≤ CAP }
         ensures text { self.new ≡ self.old ++ decimal number }
         ensures len { length self.new ≤ length self.old + WIDE_DECIMAL_DIGITS }
     {
@@ -95,7 +110,7 @@ impl Line {
 
     /// Appends the number in decimal, a negative one behind a minus sign: at most [`SIGNED_DECIMAL_BYTES`] bytes.
     pub fn push_signed_decimal(&mut self, number: i128)
-        requires { length self.old + SIGNED_DECIMAL_BYTES ≤ LINE_CAPACITY }
+        requires { length self.old + SIGNED_DECIMAL_BYTES ≤ CAP }
         ensures text { self.new ≡ self.old ++ signed_decimal number }
         ensures len { length self.new ≤ length self.old + SIGNED_DECIMAL_BYTES }
     {
@@ -107,7 +122,7 @@ impl Line {
 
     /// Appends the bytes in hexadecimal, two digits each, in lower case.
     pub fn push_hex(&mut self, bytes: &[u8])
-        requires { length self.old + 2 * length bytes.now ≤ LINE_CAPACITY }
+        requires { length self.old + 2 * length bytes.now ≤ CAP }
         ensures text { self.new ≡ self.old ++ hex_bytes bytes.now }
         ensures len { length self.new ≡ length self.old + 2 * length bytes.now }
     {
