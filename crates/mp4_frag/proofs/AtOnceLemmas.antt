@@ -1,7 +1,7 @@
 -- Where one pass over a moof finds nothing, nothing is at fault with its boxes and their values.
 use Rattle.std.proofs.Common.{◌≡◌, ◌∙◌, Bool, true, false, not, ℕ, List, [], ◌∷◌, ◌++◌, length, Option, Some, None, refl, sym, ap, arith}
 use Rattle.std.specs.Prelude.{◌==◌, ◌&&◌, ◌||◌}
-use Rattle.std.specs.List.{flat_map, list_all, list_any}
+use Rattle.std.specs.List.{AllByRecursion, flat_map, list_all, list_any}
 use Rattle.std.specs.Option.{is_none, is_some, option_or}
 use Rattle.std.specs.Str.{bytes_eq}
 use Rattle.std.proofs.lemmas.Bool.Decides.{nat_tests}
@@ -17,7 +17,7 @@ use Rattle.mp4_box.proofs.OrderLemmas.{least-none}
 use Rattle.mp4_box.specs.Paths.{at_path, of_kind}
 use Rattle.mp4_box.specs.Trees.{Box, children, first_of}
 use Rattle.mp4_init.specs.declared.table.Track.{Track}
-use Rattle.mp4_frag.specs.AtOnce.{by_moof, by_traf, faults_in_moof, faults_in_traf, has_both, has_one, is_kind, passed_over}
+use Rattle.mp4_frag.specs.AtOnce.{HasTicks, TrafHasTicks, by_moof, by_traf, faults_in_moof, faults_in_traf, has_both, has_one, is_early, is_kind, passed_over, times_early}
 use Rattle.mp4_frag.specs.Kinds.{mfhd, traf, tfhd, tfdt, trun, free, skip}
 use Rattle.mp4_frag.specs.Mfhd.{mfhd_len}
 use Rattle.mp4_frag.specs.Moofs.{value_faults}
@@ -38,6 +38,38 @@ both_first b bs = by (is_kind traf b) refl
     by : (u : Bool) → is_kind traf b ≡ u → list_all has_both (of_kind traf (b ∷ bs)) ≡ (list_all has_both (of_kind traf (b ∷ [])) && list_all has_both (of_kind traf bs))
     by true is = rw is (and_true (has_both b) (list_all has_both (of_kind traf bs)))
     by false is = rw is refl
+
+-- ---- early times
+
+and_assoc : (a b c : Bool) → (a && (b && c)) ≡ ((a && b) && c)
+and_assoc true b c = refl
+and_assoc false b c = refl
+
+-- a tfdt, and then the others
+pub early_first : (early : Bool) (b : Box) (bs : List Box) → is_kind tfdt b ≡ true → (early && list_all is_early (of_kind tfdt (b ∷ bs))) ≡ ((early && is_early b) && list_all is_early (of_kind tfdt bs))
+early_first early b bs is = rw is (and_assoc early (is_early b) (list_all is_early (of_kind tfdt bs)))
+
+-- the first child, and then the others
+pub times_first : (early : Bool) (b : Box) (bs : List Box) → (early && list_all times_early (of_kind traf (b ∷ bs))) ≡ ((early && list_all times_early (of_kind traf (b ∷ []))) && list_all times_early (of_kind traf bs))
+times_first early b bs = by (is_kind traf b) refl
+  where
+    by : (u : Bool) → is_kind traf b ≡ u → (early && list_all times_early (of_kind traf (b ∷ bs))) ≡ ((early && list_all times_early (of_kind traf (b ∷ []))) && list_all times_early (of_kind traf bs))
+    by true is = rw is (ap (λ (u : Bool). early && u) (and_true (times_early b) (list_all times_early (of_kind traf bs))) ∙ and_assoc early (times_early b && true) (list_all times_early (of_kind traf bs)))
+    by false is = rw is (and_assoc early true (list_all times_early (of_kind traf bs)))
+
+pub ticks_first : (tracks : List Track) (b : Box) (bs : List Box) → (is_kind tfhd b ≡ true → HasTicks tracks b) → AllByRecursion (HasTicks tracks) (of_kind tfhd bs) → AllByRecursion (HasTicks tracks) (of_kind tfhd (b ∷ bs))
+ticks_first tracks b bs here rest = by (is_kind tfhd b) refl
+  where
+    by : (u : Bool) → is_kind tfhd b ≡ u → AllByRecursion (HasTicks tracks) (of_kind tfhd (b ∷ bs))
+    by true is = rw is (here is, rest)
+    by false is = rw is rest
+
+pub trafs_first : (tracks : List Track) (b : Box) (bs : List Box) → AllByRecursion (TrafHasTicks tracks) (of_kind traf (b ∷ [])) → AllByRecursion (TrafHasTicks tracks) (of_kind traf bs) → AllByRecursion (TrafHasTicks tracks) (of_kind traf (b ∷ bs))
+trafs_first tracks b bs here rest = by (is_kind traf b) refl here
+  where
+    by : (u : Bool) → is_kind traf b ≡ u → AllByRecursion (TrafHasTicks tracks) (of_kind traf (b ∷ [])) → AllByRecursion (TrafHasTicks tracks) (of_kind traf (b ∷ bs))
+    by true is here = let one = rw is at here in rw is (one.0, rest)
+    by false is here = rw is rest
 
 -- ---- of lists in which nothing is at fault
 
@@ -62,7 +94,7 @@ kind_none f g kind h (b ∷ bs) e = let parts = last_none (f b) (flat_map f bs) 
     by false is none rest = rw is rest
 
 -- a type is no other
-no_other : (b : Box) (kind other : FourCc) → bytes_eq kind.0 other.0 ≡ false → is_kind kind b ≡ true → is_kind other b ≡ false
+pub no_other : (b : Box) (kind other : FourCc) → bytes_eq kind.0 other.0 ≡ false → is_kind kind b ≡ true → is_kind other b ≡ false
 no_other b kind other differ is = ap (λ (k : List ℕ). bytes_eq k other.0) ((bytes_eq-Decides b.header.kind.0 kind.0).0 is) ∙ differ
 
 -- ---- of a child of a traf

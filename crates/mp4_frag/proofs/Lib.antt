@@ -10,6 +10,8 @@ pub mod RunListLemmas
 pub mod RangeLemmas
 pub mod PlaceLemmas
 pub mod SoundLemmas
+pub mod EarlyLemmas
+pub mod StartLemmas
 pub mod RunLemmas
 pub mod MoofListLemmas
 pub mod AfterLemmas

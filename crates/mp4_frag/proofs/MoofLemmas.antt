@@ -58,7 +58,7 @@ times_along h tracks m e =
 
 -- ---- a moof without a fault
 
-both_none : (a b : Option Fault) → option_or a b ≡ None → (a ≡ None) × (b ≡ None)
+pub both_none : (a b : Option Fault) → option_or a b ≡ None → (a ≡ None) × (b ≡ None)
 both_none None b e = (refl, e)
 both_none (Some f) b e = absurd cc
 

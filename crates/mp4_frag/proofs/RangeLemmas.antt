@@ -45,13 +45,13 @@ signed_range n small = by (ltb n (2 ^ 31)) refl
 
 -- ---- the bytes of a run
 
-small_sum : {X : Type 0} (f : X → ℕ) (g : ℕ → X) (a n : ℕ) → ((i : ℕ) → f (g i) < 2 ^ 32) → sum_by f (map g (range_with_len a n)) ≤ 4294967295 * n
+pub small_sum : {X : Type 0} (f : X → ℕ) (g : ℕ → X) (a n : ℕ) → ((i : ℕ) → f (g i) < 2 ^ 32) → sum_by f (map g (range_with_len a n)) ≤ 4294967295 * n
 small_sum f g a zero small = omega arith
 small_sum f g a (suc n) small =
     let e = sum_by-cons f (g a) (map g (range_with_len (a + 1) n)) in
     omega (arith, e, small a, small_sum f g (a + 1) n small)
 
-field_small : (held : List ℕ) (g : ℕ) (o : Option ℕ) (usual : ℕ) → IsBytes held → usual < 2 ^ 32 → field_at held g o usual < 2 ^ 32
+pub field_small : (held : List ℕ) (g : ℕ) (o : Option ℕ) (usual : ℕ) → IsBytes held → usual < 2 ^ 32 → field_at held g o usual < 2 ^ 32
 field_small held g None usual fits small = small
 field_small held g (Some at) usual fits small = number_small held (g + at) fits
 

@@ -8,7 +8,8 @@ use Rattle.std.proofs.lemmas.Iterator.Adapters.{position_from-zero}
 use Rattle.mp4_box.specs.declared.rules.Fault.{Fault}
 use Rattle.mp4_box.specs.declared.rules.Rule.TheVariants.{Unsupported}
 use Rattle.mp4_box.specs.Headers.{IsBytes, IsWhole}
-use Rattle.mp4_box.specs.Paths.{at_path, of_kind}
+use Rattle.std.proofs.lemmas.List.Sums.{sum_by-append, sum_by-cons}
+use Rattle.mp4_box.specs.Paths.{at_path, of_kind, paths_below}
 use Rattle.mp4_box.specs.Trees.{Box, box_at, children, first_of}
 use Rattle.mp4_init.specs.declared.table.Track.{Track}
 use Rattle.mp4_init.specs.Rows.{with_next}
@@ -22,7 +23,7 @@ use Rattle.mp4_frag.specs.Runs.{Held, Shared, TrackFragment, base_by, base_of, e
 use Rattle.mp4_frag.specs.Ranges.{IsSound}
 use Rattle.mp4_frag.specs.Moofs.{IsRead, late, moof_of, moof_trafs}
 use Rattle.mp4_frag.specs.Repeats.{traf_id, lacks_time, is_listed, is_repeat, repeat_faults, repeats}
-use Rattle.mp4_frag.specs.Settling.{EachInTime, EndsInTime, ended, ended_at, settled, settled_on, ticks_from, with_end}
+use Rattle.mp4_frag.specs.Settling.{EachInTime, EndsInTime, ended, ended_at, settled, settled_on, ticks_from, timed, timed_in, with_end}
 use Rattle.mp4_frag.specs.Times.{late_from, late_trun, ticks_in}
 use Rattle.mp4_frag.specs.Laws.{in_turn}
 use Rattle.mp4_frag.proofs.MoofLemmas.{on_path, early, read_early, values}
@@ -245,6 +246,21 @@ tick_fits s time b bs e = (first_in_time s time b bs e).0
 
 pub tick_more : (s : Shared) (time : ℕ) (b : Box) (bs : List Box) → late_from s time (b ∷ bs) ≡ [] → late_from s (time + ticks_in s b) bs ≡ []
 tick_more s time b bs e = (first_in_time s time b bs e).1
+
+-- past a trun
+pub ticks_on : (s : Shared) (time ticks : ℕ) (b : Box) (bs rest : List Box) → bs ≡ b ∷ rest → ticks ≡ ticks_in s b → ticks_from s (time + ticks) rest ≡ ticks_from s time bs
+unfolding ticks_from
+ticks_on s time ticks b bs rest e t = rw (e, t) refl
+
+pub late_on : (s : Shared) (time ticks : ℕ) (b : Box) (bs rest : List Box) → bs ≡ b ∷ rest → ticks ≡ ticks_in s b → late_from s time bs ≡ [] → late_from s (time + ticks) rest ≡ []
+late_on s time ticks b bs rest e t none = rw t (tick_more s time b rest (ap (late_from s time) (sym e) ∙ none))
+
+pub timed_on : (n : ℕ) (b : Box) (bs rest : List Box) → bs ≡ b ∷ rest → n ≡ timed b.payload → n + timed_in rest ≡ timed_in bs
+timed_on n b bs rest e t = let sum = sum_by-cons (λ (b : Box). timed b.payload) b rest in rw e (omega (arith, sum, t))
+
+-- past a traf
+pub timed_past : (b : Box) (bs : List Box) → timed_in (paths_below (trun ∷ []) (b ∷ bs)) ≡ timed_in (at_path (trun ∷ []) b) + timed_in (paths_below (trun ∷ []) bs)
+timed_past b bs = sum_by-append (λ (b : Box). timed b.payload) (at_path (trun ∷ []) b) (paths_below (trun ∷ []) bs)
 
 -- ---- the loop over the trafs of a moof
 

@@ -72,7 +72,7 @@ all_few n (t ∷ ts) h =
       all_few n ts (omega (arith, h, sum)),
     )
 
-trafs_few : (m : Box) → count_faults m ≡ [] → AllByRecursion (λ (t : Box). samples_in (of_kind trun (children t)) ≤ most_samples) (of_kind traf (children m))
+pub trafs_few : (m : Box) → count_faults m ≡ [] → AllByRecursion (λ (t : Box). samples_in (of_kind trun (children t)) ≤ most_samples) (of_kind traf (children m))
 unfolding at_path
 trafs_few m e = all_few most_samples (of_kind traf (children m)) (omega (arith, few_from 0 (at_path to_trun m) (omega arith) e))
 
@@ -170,7 +170,7 @@ rows_are_samples h tracks = count_trafs h tracks (of_kind traf (children (moof_o
 
 -- ---- the range of all runs
 
-number_or_small : (p : List ℕ) (o : Option ℕ) (usual : ℕ) → IsBytes p → usual < 2 ^ 32 → number_or p o usual < 2 ^ 32
+pub number_or_small : (p : List ℕ) (o : Option ℕ) (usual : ℕ) → IsBytes p → usual < 2 ^ 32 → number_or p o usual < 2 ^ 32
 number_or_small p None usual fits small = small
 number_or_small p (Some at) usual fits small = number_small p at fits
 
@@ -187,7 +187,7 @@ payload_bytes : (h : Held) (bs : List Box) → AllByRecursion (Lies h) bs → Is
 payload_bytes h [] lie = λ i. omega arith
 payload_bytes h (b ∷ bs) lie = lie.0.bytes
 
-tfhd_bytes : (h : Held) (t : Box) → Lies h t → IsBytes (tfhd_of t)
+pub tfhd_bytes : (h : Held) (t : Box) → Lies h t → IsBytes (tfhd_of t)
 unfolding at_path
 tfhd_bytes h t lies =
     subst (λ (bs : List Box). IsBytes (payload_of (first_of bs))) (sym (path_one (of_kind tfhd (children t)))) (payload_bytes h (of_kind tfhd (children t)) (kind_all (Lies h) tfhd (children t) (children_lie h t lies)))

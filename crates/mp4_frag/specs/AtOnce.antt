@@ -1,6 +1,6 @@
--- What one pass over a moof finds: what is at fault with each box of it by itself. Of a moof of which each traf has just one tfhd and one tfdt, and which has just one mfhd, nothing else is at fault but what is asked of many boxes at once.
-use Rattle.std.specs.Prelude.{Bool, List, [], ◌∷◌, ◌++◌, ◌==◌, ◌&&◌, if◌then◌else◌, length}
-use Rattle.std.specs.List.{flat_map}
+-- What one pass over a moof finds: what is at fault with each box by itself, and whether its times are early.
+use Rattle.std.specs.Prelude.{◌≡◌, Bool, true, List, [], ◌∷◌, ◌++◌, ◌==◌, ◌&&◌, ◌<◌, ◌^◌, nat_lt, Option, Some, None, Result, Ok, Err, if◌then◌else◌, length}
+use Rattle.std.specs.List.{AllByRecursion, flat_map, list_all}
 use Rattle.std.specs.Str.{bytes_eq}
 use Rattle.mp4_box.specs.declared.headers.FourCc.{FourCc}
 use Rattle.mp4_box.specs.declared.rules.Fault.{Fault}
@@ -10,10 +10,13 @@ use Rattle.mp4_box.specs.Checks.{laid_out}
 use Rattle.mp4_box.specs.Paths.{of_kind}
 use Rattle.mp4_box.specs.Trees.{Box, children, fault_at}
 use Rattle.mp4_init.specs.declared.table.Track.{Track}
+use Rattle.mp4_frag.specs.declared.at_once.Sound.{Sound}
 use Rattle.mp4_frag.specs.Kinds.{mfhd, traf, tfhd, tfdt, trun, free, skip}
 use Rattle.mp4_frag.specs.Mfhd.{mfhd_len}
 use Rattle.mp4_frag.specs.Rules.{tfhd_faults, tfhd_length, trun_faults, trun_length}
-use Rattle.mp4_frag.specs.Tfdt.{tfdt_layout}
+use Rattle.mp4_frag.specs.Runs.{known_track}
+use Rattle.mp4_frag.specs.Tfdt.{base_media_decode_time, tfdt_layout}
+use Rattle.mp4_frag.specs.Tfhd.{track_id}
 
 abbrev pub is_kind : FourCc → Box → Bool
 is_kind kind b = bytes_eq b.header.kind.0 kind.0
@@ -50,3 +53,34 @@ has_one kind b = length (of_kind kind (children b)) == 1
 -- a traf with just one tfhd and one tfdt
 abbrev pub has_both : Box → Bool
 has_both t = has_one tfhd t && has_one tfdt t
+
+-- ---- times so early that no run ends past 64 bits
+
+-- a tfdt with a time below 2^63
+abbrev pub is_early : Box → Bool
+is_early b = nat_lt (base_media_decode_time b.payload) (2 ^ 63)
+
+-- so has each tfdt of a traf
+abbrev pub times_early : Box → Bool
+times_early t = list_all is_early (of_kind tfdt (children t))
+
+-- a tfhd whose track has a default duration of 32 bits
+abbrev pub HasTicks : List Track → Box → Type 0
+HasTicks tracks b = (known_track (track_id b.payload) tracks).duration < 2 ^ 32
+
+-- so has each tfhd of a traf
+abbrev pub TrafHasTicks : List Track → Box → Type 0
+TrafHasTicks tracks t = AllByRecursion (HasTicks tracks) (of_kind tfhd (children t))
+
+-- the trafs of a moof have one tfhd and one early tfdt each
+pub record IsEarly (tracks : List Track) (m : Box) : Type 0 where
+  pub both : list_all has_both (of_kind traf (children m)) ≡ true
+  pub times : list_all times_early (of_kind traf (children m)) ≡ true
+  pub ticks : AllByRecursion (TrafHasTicks tracks) (of_kind traf (children m))
+
+-- ---- what is told of a moof
+
+-- its fault, where one is found
+abbrev pub told_fault : Result Sound Fault → Option Fault
+told_fault (Ok s) = None
+told_fault (Err f) = Some f

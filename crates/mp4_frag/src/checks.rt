@@ -1,10 +1,13 @@
 //! What is asked of one box of a moof.
 
-ghost use Rattle.std.specs.Prelude.{◌≡◌, Option};
+ghost use Rattle.std.specs.Prelude.{◌≡◌, ◌<◌, ◌^◌, Option};
+ghost use Rattle.std.specs.Option.{unwrap_or};
 ghost use Rattle.mp4_box.specs.Trees.{view};
 ghost use Rattle.mp4_box.specs.Order.{least_from};
 ghost use Rattle.mp4_box.specs.declared.headers.FourCc.{FourCc};
+ghost use Rattle.mp4_frag.specs.AtOnce.{HasTicks};
 ghost use Rattle.mp4_frag.specs.Rules.{entry_of, holds_only, is_among, tfhd_faults, tfhd_length, track_faults, track_with, trun_faults, trun_length, unsupported};
+ghost use Rattle.mp4_frag.specs.Runs.{no_track};
 
 use crate::fields::{flags_of, number_or};
 use crate::tfhd::{counts_from_moof, duration_is_empty, tfhd_fields, track_id};
@@ -104,7 +107,8 @@ pub(crate) fn entry_of(track: Track, tfhd: &[u8]) -> u32
 /// Notes that a tfhd is of no track, or of a sample entry that the track hasn't.
 #[tactic(auto, unfolding(mp4_box::specs::Order::least_from))]
 fn note_track(track: Option<Track>, tfhd: &BoxRef<'_>, best: &mut Option<Fault>)
-    ensures { best.new ≡ least_from best.old (track_faults track (view tfhd.now)) }
+    ensures best { best.new ≡ least_from best.old (track_faults track (view tfhd.now)) }
+    ensures small { (unwrap_or track no_track).duration < 2 ^ 32 }
 {
     match track {
         None => note(best, tfhd.fault(Rule::UnknownTrack)),
@@ -119,8 +123,9 @@ fn note_track(track: Option<Track>, tfhd: &BoxRef<'_>, best: &mut Option<Fault>)
 
 /// Notes what is at fault with the values of a tfhd.
 #[tactic(auto, using(mp4_box::proofs::OrderLemmas::least_from_append), unfolding(mp4_box::specs::Order::least_from, crate::specs::Rules::tfhd_faults))]
-fn note_tfhd(tracks: &TrackList, tfhd: &BoxRef<'_>, best: &mut Option<Fault>)
-    ensures { best.new ≡ least_from best.old (tfhd_faults tracks.now (view tfhd.now)) }
+pub(crate) fn note_tfhd(tracks: &TrackList, tfhd: &BoxRef<'_>, best: &mut Option<Fault>)
+    ensures best { best.new ≡ least_from best.old (tfhd_faults tracks.now (view tfhd.now)) }
+    ensures ticks { HasTicks tracks.now (view tfhd.now) }
 {
     let flags = flags_of(tfhd.payload);
     if !counts_from_moof(flags) {

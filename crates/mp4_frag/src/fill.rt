@@ -7,31 +7,18 @@ ghost use Rattle.mp4_box.specs.Trees.{view};
 ghost use Rattle.mp4_run_order.specs.Orders.{FitsKeys};
 ghost use Rattle.mp4_frag.specs.Kinds.{traf};
 ghost use Rattle.mp4_frag.specs.Ranges.{InRange, IsSound};
-ghost use Rattle.mp4_frag.specs.RunRows.{listed_words, row_of_run, rows_of_traf, rows_of_trafs, rows_of_words, tfhd_at};
+ghost use Rattle.mp4_frag.specs.RunRows.{listed_words, row_of_run, rows_of_traf, rows_of_trafs, rows_of_words};
 ghost use Rattle.mp4_frag.specs.Runs.{held_at, traf_of};
 
 use crate::children::children_of;
-use crate::kinds::{TFHD, TRAF};
+use crate::kinds::TRAF;
 use crate::run::Run;
 use crate::run_row::{row_of_run, words_of};
 use crate::runs::Runs;
-use crate::traf::traf_of;
+use crate::start::{RunsOf, runs_of};
 use mp4_box::BoxRef;
 use mp4_init::TrackList;
 use mp4_ledger::Rows64;
-
-/// What stands for the offset of a tfhd where there is none.
-const NOWHERE: u64 = u64::MAX;
-
-/// Where the tfhd of a traf begins.
-fn tfhd_at(traf: &BoxRef<'_>) -> u64
-    ensures { result ≡ tfhd_at (view traf.now) }
-{
-    match children_of(TFHD, traf).next() {
-        Some(tfhd) => tfhd.offset,
-        None => NOWHERE,
-    }
-}
 
 /// Appends the row of a run.
 fn push_run(rows: &mut Rows64, tfhd: u64, run: &Run)
@@ -74,11 +61,8 @@ fn push_traf(rows: &mut Rows64, held: &[u8], moof: u64, tracks: &TrackList, traf
     ensures fits { All FitsKeys (listed_words rows.new.rows) }
     ensures cap { rows.new.cap ≡ rows.old.cap }
 {
-    push_runs(
-        rows,
-        tfhd_at(traf),
-        traf_of(held, moof, tracks, traf).runs(),
-    );
+    let RunsOf { tfhd, runs } = runs_of(held, moof, tracks, traf);
+    push_runs(rows, tfhd, runs);
 }
 
 /// Appends the rows of all runs of a moof that begins at this offset, in listing order.

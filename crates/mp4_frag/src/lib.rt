@@ -40,6 +40,7 @@ mod run_list;
 mod run_row;
 mod runs;
 mod settle;
+mod start;
 mod sums;
 mod tfdt;
 mod tfhd;

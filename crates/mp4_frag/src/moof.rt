@@ -1,24 +1,25 @@
 //! From the bytes of a moof to its runs.
 
-ghost use Rattle.std.specs.Prelude.{◌≡◌, ◌+◌, ◌^◌, ◌<◌, ◌≤◌, ◌↔◌, length, Some, None, Err, IfErr, IfOk, OnOk, IfSome, IsSome};
+ghost use Rattle.std.specs.Prelude.{◌≡◌, ◌+◌, ◌^◌, ◌<◌, ◌≤◌, ◌↔◌, [], length, true, Some, None, Err, IfErr, IfOk, IfSome, OnOk, IsSome};
 ghost use Rattle.std.specs.Option.{option_or};
 ghost use Rattle.mp4_box.specs.declared.rules.Fault.{Fault};
 ghost use Rattle.mp4_box.specs.Headers.{IsWhole};
 ghost use Rattle.mp4_box.specs.Order.{IsLeast, least, least_from};
 ghost use Rattle.mp4_box.specs.Trees.{view};
+ghost use Rattle.mp4_frag.specs.AtOnce.{IsEarly, told_fault};
 ghost use Rattle.mp4_frag.specs.Moofs.{IsRead, early_fault, moof_fault, moof_faults, moof_of, moof_samples, moof_trafs, time_faults, value_faults};
-ghost use Rattle.mp4_frag.specs.Rules.{count_faults, form_faults, most_samples};
+ghost use Rattle.mp4_frag.specs.Rules.{count_faults, form_faults, most_samples, samples_of};
 ghost use Rattle.mp4_frag.specs.Runs.{Held, held_at};
 ghost use Rattle.mp4_frag.specs.Settling.{settled, timed_of};
 
-use crate::at_once::sound_samples;
+use crate::at_once::{Sound, look_at};
 use crate::checks::{FlagsOnce, OfTrack};
 use crate::counts::samples_in;
 use crate::kinds::{TFHD, TRAF, TRUN};
 use crate::repeats::note_repeats;
 use crate::rows::Steps;
 use crate::rules::{note_children, note_count, note_forms};
-use crate::settle::{settle_in, timed_in};
+use crate::settle::settle_in;
 use crate::times::InTime;
 use crate::traf::Trafs;
 use mp4_box::{BoxRef, Fault, check_tree, note_along, whole_box};
@@ -30,14 +31,16 @@ use std::marker::Model;
 pub struct Moof<'a> {
     pub(crate) held: &'a [u8],
     pub(crate) offset: u64,
+    /// How many samples it has, where they were counted.
+    samples: Option<u32>,
 }
 
 // A contract sees its bytes, and the offset of the first of them.
 impl<'a> Model for Moof<'a> {
-    ghost use Rattle.std.specs.Prelude.{◌≡◌, ◌+◌, ◌^◌, ◌≤◌, [], length};
+    ghost use Rattle.std.specs.Prelude.{◌≡◌, ◌+◌, ◌^◌, ◌≤◌, [], length, IfSome};
     ghost use Rattle.mp4_box.specs.Headers.{IsWhole};
-    ghost use Rattle.mp4_frag.specs.Moofs.{moof_of};
-    ghost use Rattle.mp4_frag.specs.Rules.{count_faults};
+    ghost use Rattle.mp4_frag.specs.Moofs.{moof_of, moof_samples};
+    ghost use Rattle.mp4_frag.specs.Rules.{count_faults, most_samples};
     ghost use Rattle.mp4_frag.specs.Runs.{Held, held_at};
 
     ghost Value = { Held };
@@ -45,7 +48,8 @@ impl<'a> Model for Moof<'a> {
     ghost view = { λ m. held_at m.held.now m.offset };
 
     ghost invariant = { λ m. IsWhole m.held.now × (m.offset + length m.held.now ≤ 2 ^ 62) ×
-        (count_faults (moof_of (held_at m.held.now m.offset)) ≡ []) };
+        (count_faults (moof_of (held_at m.held.now m.offset)) ≡ []) ×
+        IfSome m.samples (λ n. (n ≡ moof_samples (held_at m.held.now m.offset)) × (n ≤ most_samples)) };
 }
 
 /// What is at fault with the values, times aside.
@@ -60,14 +64,11 @@ fn note_values(tracks: &TrackList, moof: &BoxRef<'_>, best: &mut Option<Fault>)
     note_count(moof, best);
 }
 
-/// The fault of a moof whose tree is good, times aside.
-fn early_content_fault(tracks: &TrackList, moof: &BoxRef<'_>) -> Option<Fault>
+/// The fault of a moof whose tree is good, times aside: rule by rule.
+fn content_fault(tracks: &TrackList, moof: &BoxRef<'_>) -> Option<Fault>
     ensures { result ≡ option_or (least (form_faults (view moof.now)))
         (least (value_faults tracks.now (view moof.now))) }
 {
-    if sound_samples(tracks, moof).is_some() {
-        return None;
-    }
     let mut best = None;
     note_forms(moof, &mut best);
     if best.is_none() {
@@ -76,34 +77,67 @@ fn early_content_fault(tracks: &TrackList, moof: &BoxRef<'_>) -> Option<Fault>
     best
 }
 
-/// The fault of the moof that the bytes are, which begin at this offset, times aside.
-#[tactic(auto, using(crate::proofs::MoofLemmas::moof_is), unfolding(crate::specs::Moofs::early_fault))]
-fn early_fault(held: &[u8], offset: u64, tracks: &TrackList) -> Option<Fault>
-    requires whole { IsWhole held.now }
-    requires room { offset + length held.now ≤ 2 ^ 62 }
-    ensures fault { result ≡ early_fault (held_at held.now offset) tracks.now }
-    ensures least { IfSome result (λ f. IsLeast f
-        (moof_faults (held_at held.now offset) tracks.now)) }
+/// What is told of a moof whose tree is good, or its fault, times aside.
+fn early_content(tracks: &TrackList, moof: &BoxRef<'_>) -> Result<Sound, Fault>
+    ensures fault { told_fault result ≡ option_or (least (form_faults (view moof.now)))
+        (least (value_faults tracks.now (view moof.now))) }
+    ensures samples { IfOk result (λ s. s.samples ≡ samples_of (view moof.now)) }
+    ensures few { IfOk result (λ s. s.samples ≤ most_samples) }
+    ensures early { IfOk result (λ s. s.is_early ≡ true → IsEarly tracks.now (view moof.now)) }
 {
-    if let Err(fault) = check_tree(held, offset) {
-        return Some(fault);
+    if let Some(sound) = look_at(tracks, moof) {
+        return Ok(sound);
     }
-    early_content_fault(tracks, &whole_box(held, offset))
+    match content_fault(tracks, moof) {
+        Some(fault) => Err(fault),
+        None => Ok(Sound {
+            samples: samples_in(moof),
+            is_early: false,
+        }),
+    }
 }
 
-/// Which of the runs end past 64 bits: the first.
-#[tactic(auto, using(crate::proofs::MoofLemmas::times_along))]
-fn late_fault(held: &[u8], offset: u64, tracks: &TrackList, moof: &BoxRef<'_>) -> Option<Fault>
-    requires { moof_of (held_at held.now offset) ≡ view moof.now }
+/// What is told of the moof that the bytes are, which begin at this offset, or its fault, times aside.
+#[tactic(auto, using(crate::proofs::MoofLemmas::moof_is), unfolding(crate::specs::Moofs::early_fault))]
+fn early(held: &[u8], offset: u64, tracks: &TrackList) -> Result<Sound, Fault>
+    requires whole { IsWhole held.now }
+    requires room { offset + length held.now ≤ 2 ^ 62 }
+    ensures fault { told_fault result ≡ early_fault (held_at held.now offset) tracks.now }
+    ensures least { IfErr result (λ f. IsLeast f
+        (moof_faults (held_at held.now offset) tracks.now)) }
+    ensures samples { IfOk result (λ s. s.samples ≡ moof_samples (held_at held.now offset)) }
+    ensures few { IfOk result (λ s. s.samples ≤ most_samples) }
+    ensures early { IfOk result (λ s. s.is_early ≡ true →
+        time_faults (moof_trafs (held_at held.now offset) tracks.now) ≡ []) }
+{
+    if let Err(fault) = check_tree(held, offset) {
+        return Err(fault);
+    }
+    match early_content(tracks, &whole_box(held, offset)) {
+        Ok(sound) => Ok(sound),
+        Err(fault) => Err(fault),
+    }
+}
+
+/// Which of the runs end past 64 bits: the first. They are gone over, unless all times are known to be early.
+fn late_fault(is_early: bool, held: &[u8], offset: u64, tracks: &TrackList) -> Option<Fault>
+    requires whole { IsWhole held.now }
+    requires room { offset + length held.now ≤ 2 ^ 62 }
+    requires early { is_early ≡ true →
+        time_faults (moof_trafs (held_at held.now offset) tracks.now) ≡ [] }
     ensures { result ≡ least (time_faults (moof_trafs (held_at held.now offset) tracks.now)) }
 {
+    if is_early {
+        return None;
+    }
+    let moof = whole_box(held, offset);
     let check = InTime {
         held,
         moof: offset,
         tracks,
     };
     let mut best = None;
-    note_along(&check, &[TRAF], moof, &mut best);
+    note_along(&check, &[TRAF], &moof, &mut best);
     best
 }
 
@@ -119,6 +153,23 @@ fn trafs_in<'a>(held: &'a [u8], offset: u64, tracks: &'a TrackList) -> Trafs<'a>
 }
 
 impl<'a> Moof<'a> {
+    /// The moof that the bytes are, of which the samples were counted or not.
+    #[inline]
+    fn of(held: &'a [u8], offset: u64, samples: Option<u32>) -> Moof<'a>
+        requires whole { IsWhole held.now }
+        requires room { offset + length held.now ≤ 2 ^ 62 }
+        requires count { count_faults (moof_of (held_at held.now offset)) ≡ [] }
+        requires samples { IfSome samples (λ n. (n ≡ moof_samples (held_at held.now offset)) ×
+            (n ≤ most_samples)) }
+        ensures { result ≡ held_at held.now offset }
+    {
+        Moof {
+            held,
+            offset,
+            samples,
+        }
+    }
+
     /// The moof that the bytes are, one whole box of stated size that begins at `offset` in the stream. `tracks` are those
     /// of its moov. Its samples are counted in `steps` as rows that were read, once all rules but that of times hold.
     ///
@@ -150,16 +201,15 @@ impl<'a> Moof<'a> {
         ensures unwalked { IsSome (early_fault (held_at held.now offset) tracks.now) →
             steps.new ≡ steps.old }
     {
-        if let Some(fault) = early_fault(held, offset, tracks) {
+        let sound = match early(held, offset, tracks) {
+            Ok(sound) => sound,
+            Err(fault) => return Err(fault),
+        };
+        steps.rows += u128::from(sound.samples);
+        if let Some(fault) = late_fault(sound.is_early, held, offset, tracks) {
             return Err(fault);
         }
-        let this = whole_box(held, offset);
-        let samples = samples_in(&this);
-        steps.rows += u128::from(samples);
-        if let Some(fault) = late_fault(held, offset, tracks, &this) {
-            return Err(fault);
-        }
-        Ok(Moof { held, offset })
+        Ok(Moof::of(held, offset, Some(sound.samples)))
     }
 
     /// The moof again that was read from these bytes with these tracks. It reads no row.
@@ -169,7 +219,7 @@ impl<'a> Moof<'a> {
         requires read { IsRead (held_at held.now offset) tracks.now }
         ensures { result ≡ held_at held.now offset }
     {
-        Moof { held, offset }
+        Moof::of(held, offset, None)
     }
 
     /// Its bytes: one whole box, which ends at or before byte 2^62 of the stream.
@@ -193,7 +243,10 @@ impl<'a> Moof<'a> {
         ensures samples { result ≡ moof_samples self.now }
         ensures few { result ≤ most_samples }
     {
-        samples_in(&whole_box(self.held, self.offset))
+        match self.samples {
+            Some(samples) => samples,
+            None => samples_in(&whole_box(self.held, self.offset)),
+        }
     }
 
     /// Its trafs, in order (ISO/IEC 14496-12, 8.8.6). `tracks` are those that it was read with. They borrow its bytes and not the
@@ -217,7 +270,7 @@ impl<'a> Moof<'a> {
         ensures walked { steps.new.rows ≡ steps.old.rows + timed_of (moof_of self.now) }
         ensures few { steps.new.rows ≤ steps.old.rows + moof_samples self.now }
     {
-        steps.rows += u128::from(timed_in(&whole_box(self.held, self.offset)));
-        settle_in(self.held, self.offset, tracks);
+        let timed = settle_in(self.held, self.offset, tracks);
+        steps.rows += u128::from(timed);
     }
 }

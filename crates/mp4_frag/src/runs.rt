@@ -129,10 +129,18 @@ impl<'a> Runs<'a> {
             (runs_left context.now behind.now (children (view this.now))) }
         ensures { result ≡ runs_left context.now behind.now (children (view this.now)) }
     {
+        Runs::among(context, behind, Walk::of(this))
+    }
+
+    /// The runs of the truns among some boxes, behind the runs so far.
+    pub(crate) fn among(context: &TrafContext<'a>, behind: &Behind, walk: Walk<'a>) -> Runs<'a>
+        requires { AllByRecursion InRange (runs_left context.now behind.now walk) }
+        ensures { result ≡ runs_left context.now behind.now walk.entry }
+    {
         Runs {
             context: *context,
             behind: *behind,
-            walk: Walk::of(this),
+            walk,
         }
     }
 }

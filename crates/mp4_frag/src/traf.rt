@@ -1,11 +1,12 @@
 //! What a track fragment says of its runs.
 
-ghost use Rattle.std.specs.Prelude.{◌≡◌, ◌<◌, ◌^◌, [], ◌++◌, option_to_list, IfNone};
+ghost use Rattle.std.specs.Prelude.{◌≡◌, ◌<◌, ◌^◌, [], ◌++◌, length, slice_get, option_to_list, IfNone, IfSome};
+ghost use Rattle.std.specs.Option.{option_and_then, unwrap_or};
 ghost use Rattle.std.specs.Iterator.{YieldsFirst, item_count};
 ghost use Rattle.std.specs.List.{AllByRecursion};
 ghost use Rattle.mp4_box.specs.Trees.{children, view};
 ghost use Rattle.mp4_frag.specs.Ranges.{InRange, IsSound};
-ghost use Rattle.mp4_frag.specs.Runs.{base_of, end_in, fragment_of, header_by, held_at, known_track, runs_of, shared_by, shared_of, track_of, traf_of, trafs_by};
+ghost use Rattle.mp4_frag.specs.Runs.{base_of, end_in, fragment_of, header_by, held_at, known_track, no_track, runs_of, shared_by, shared_of, track_of, traf_of, trafs_by};
 
 use crate::checks::{entry_of, track_with};
 use crate::children::{children_of, next_of};
@@ -63,6 +64,18 @@ pub(crate) fn known_track(tracks: &TrackList, id: u32) -> Track
     ensures { result ≡ known_track id tracks.now }
 {
     track_with(tracks, id).unwrap_or(NO_TRACK)
+}
+
+/// The track at this index, where one was found.
+#[inline]
+pub(crate) fn track_at(tracks: &TrackList, at: Option<usize>) -> Track
+    requires { IfSome at (λ i. i < length tracks.now) }
+    ensures { result ≡ unwrap_or (option_and_then (slice_get tracks.now) at) no_track }
+{
+    match at {
+        Some(i) => tracks.at(i),
+        None => NO_TRACK,
+    }
 }
 
 /// What a tfhd says, and else its track.

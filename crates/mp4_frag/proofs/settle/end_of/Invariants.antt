@@ -1,15 +1,15 @@
-use Rattle.std.proofs.Common.{◌≡◌, []}
+use Rattle.std.proofs.Common.{◌≡◌, ◌+◌, []}
 use Rattle.mp4_box.specs.Paths.{of_kind}
-use Rattle.mp4_box.specs.Trees.{children, view}
 use Rattle.mp4_frag.specs.Kinds.{trun}
 use Rattle.mp4_frag.specs.Runs.{shared_of}
-use Rattle.mp4_frag.specs.Settling.{ticks_from}
+use Rattle.mp4_frag.specs.Settling.{ticks_from, timed_in}
 use Rattle.mp4_frag.specs.Times.{late_from}
 use Rattle.mp4_frag.proofs.settle.end_of.Given as goal
 
--- the truns that are left end where all end, and in time
+-- the truns that are left end where all end, and in time; their samples and those so far are all
 abbrev pub invariant-loop-child : goal.invariant-loop-child
 invariant-loop-child l = record {
-  left : ticks_from (shared_of l.context) l.end (of_kind trun l.child-iterator) ≡ ticks_from (shared_of l.context) l.time (of_kind trun (children (view l.traf)));
+  left : ticks_from (shared_of l.context) l.end (of_kind trun l.child-iterator) ≡ ticks_from (shared_of l.context) l.time (of_kind trun l.fn.rest);
   late : late_from (shared_of l.context) l.end (of_kind trun l.child-iterator) ≡ [];
+  count : l.count + timed_in (of_kind trun l.child-iterator) ≡ l.fn.count + timed_in (of_kind trun l.fn.rest);
 }

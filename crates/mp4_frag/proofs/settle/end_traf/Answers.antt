@@ -1,11 +1,36 @@
-use Rattle.std.proofs.Common.{◌∙◌, sym}
-use Rattle.mp4_box.specs.Trees.{view}
-use Rattle.mp4_frag.specs.Runs.{Held, shared_of}
+use Rattle.std.proofs.Common.{◌∙◌, ◌==◌, List, ap, arith, refl, sym}
+use Rattle.std.specs.List.{position}
+use Rattle.mp4_box.specs.Trees.{Box, view}
+use Rattle.mp4_init.specs.declared.table.Track.{Track}
+use Rattle.mp4_frag.specs.Kinds.{trun}
+use Rattle.mp4_frag.specs.Runs.{Shared, held_at, shared_of, track_of}
+use Rattle.mp4_frag.specs.Settling.{ticks_from, timed_in}
+use Rattle.mp4_frag.proofs.MoofLemmas.{path_kind}
 use Rattle.mp4_frag.proofs.SettleLemmas.{ended_is}
 use Rattle.mp4_frag.proofs.settle.end_traf.Goals as goal
 
-pub returns-in-Some : goal.returns-in-Some
-returns-in-Some c =
-    let h : Held = record { bytes = c.args.held.now; offset = c.args.moof } in
+pub end_of-end-requires-clause-few : goal.end_of-end-requires-clause-few
+end_of-end-requires-clause-few c =
+    let same = ap timed_in (c.start_of-start.ensures.truns ∙ sym (path_kind trun (view c.args.traf.now))) in
+    omega (arith, same, c.requires.few)
+
+pub returns-in-Some-clause-count : goal.returns-in-Some-clause-count
+returns-in-Some-clause-count c =
+    let same = ap timed_in (c.start_of-start.ensures.truns ∙ sym (path_kind trun (view c.args.traf.now))) in
+    omega (arith, same, c.end_of-end.ensures.count)
+
+pub returns-in_default-clause-count : goal.returns-in_default-clause-count
+returns-in_default-clause-count c =
+    let same = ap timed_in (c.start_of-start.ensures.truns ∙ sym (path_kind trun (view c.args.traf.now))) in
+    omega (arith, same, c.end_of-end.ensures.count)
+
+pub returns-in-Some-clause-tracks : goal.returns-in-Some-clause-tracks
+returns-in-Some-clause-tracks c =
+    let tracks = c.args.tracks.now in
+    let t = view c.args.traf.now in
+    let s = shared_of c.start_of-start.result.context in
+    let start = c.start_of-start in
     c.set_next.ensures.next
-    ∙ ended_is h c.args.tracks.now (view c.args.traf.now) c.track_of-track.result (shared_of c.context_of-context.result) c.base_of.result c.end_of-end.result c.in-Some.i c.track_of-track.ensures c.context_of-context.ensures.shared c.base_of.ensures c.end_of-end.ensures (sym c.in-Some.ensures.first)
+    ∙ ended_is (held_at c.args.held.now c.args.moof) tracks t (track_of tracks t) s start.result.time c.end_of-end.result c.in-Some.i refl start.ensures.shared start.ensures.time
+    (c.end_of-end.ensures.end ∙ ap (λ (bs : List Box). ticks_from s start.result.time bs) start.ensures.truns)
+    (ap (λ (x : Shared). position (λ (u : Track). u.id == x.header.track) tracks) start.ensures.shared ∙ sym start.ensures.track ∙ c.in-Some.is)

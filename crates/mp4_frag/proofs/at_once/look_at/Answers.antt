@@ -1,7 +1,7 @@
-use Rattle.std.proofs.Common.{sym}
+use Rattle.std.proofs.Common.{◌∙◌, sym}
 use Rattle.mp4_box.specs.Trees.{view}
 use Rattle.mp4_frag.proofs.AtOnceLemmas.{Passed, no_forms, no_values, passed}
-use Rattle.mp4_frag.proofs.at_once.sound_samples.Goals as goal
+use Rattle.mp4_frag.proofs.at_once.look_at.Goals as goal
 
 pass : (c : goal.In-Ok) → Passed c.args.tracks.now (view c.args.moof.now)
 pass c =
@@ -12,3 +12,6 @@ returns-in-Ok-clause-forms c = λ _. no_forms c.args.tracks.now (view c.args.moo
 
 pub returns-in-Ok-clause-values : goal.returns-in-Ok-clause-values
 returns-in-Ok-clause-values c = λ _. no_values c.args.tracks.now (view c.args.moof.now) (pass c) c.in-Ok.ensures.ok
+
+pub returns-in-Ok-clause-early : goal.returns-in-Ok-clause-early
+returns-in-Ok-clause-early c = λ sure. record { both = (pass c).both; times = sym c.note_moof.ensures.early ∙ sure; ticks = c.note_moof.ensures.ticks }
