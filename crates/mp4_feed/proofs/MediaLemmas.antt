@@ -2,7 +2,7 @@
 use lib.IntN.{negsuc}
 use Rattle.std.proofs.Common.{◌≡◌, ◌∙◌, ℕ, ℤ, zero, suc, pos, ◌+◌, ◌-◌, ◌<◌, ◌≤◌, ◌^◌, ◌==◌, ◌+ℤ◌, ◌<ℤ◌, ◌≤ℤ◌, max, if◌then◌else◌, Bool, true, false, not, List, [], ◌∷◌, ◌++◌, length, take, drop, get_or, Option, None, Some, inl, inr, ap, sym, refl, subst, arith}
 use Rattle.std.specs.Prelude.{map}
-use Rattle.std.specs.List.{filter, sum_by}
+use Rattle.std.specs.List.{AllByRecursion, filter, sum_by}
 use Rattle.std.specs.Option.{IfSome}
 use Rattle.std.proofs.Math.Seq.{drop-cons, take-suc}
 use Rattle.std.proofs.lemmas.Bool.{and_from, cases_lt, ne_eqb, not_from_false}
@@ -15,8 +15,8 @@ use Rattle.mp4_run_order.specs.Orders.{taken}
 use Rattle.mp4_run_order.specs.Places.{LiesIn}
 use Rattle.mp4_run_order.specs.Runs.{end_of}
 use Rattle.mp4_run_order.specs.Takings.{IsTakenWell, has_bytes, has_samples}
-use Rattle.mp4_run_order.proofs.ListLemmas.{Each, Pairs, each_both, each_of_all, pairs_of_all, pairs_of_map, pairs_with}
-use Rattle.mp4_run_order.proofs.OrderLemmas.{taken_is_order, taken_map}
+use Rattle.mp4_run_order.proofs.ListLemmas.{Each, Pairs, each_both, each_moved, each_of_all, pairs_of_all, pairs_of_map, pairs_with}
+use Rattle.mp4_run_order.proofs.OrderLemmas.{taken_is_order, taken_map, taken_permutes}
 use Rattle.mp4_run_order.proofs.TakingLemmas.{taken_well}
 use Rattle.mp4_frag.specs.declared.rows.Row.{Row}
 use Rattle.mp4_frag.specs.declared.run.Run.{Run}
@@ -28,11 +28,12 @@ use Rattle.mp4_frag.specs.RunRows.{listed_run}
 use Rattle.mp4_frag.specs.Runs.{Held, end_place}
 use Rattle.mp4_frag.proofs.RowLemmas.{length_rows_of}
 use Rattle.mp4_frag.proofs.RunListLemmas.{place_means}
+use Rattle.mp4_frag.proofs.SoundLemmas.{all_small}
 use Rattle.mp4_items.specs.Makings.{beyond, reach}
-use Rattle.mp4_pieces.specs.Pieces.{IsRunOf}
+use Rattle.mp4_pieces.specs.Pieces.{AreRunsOf, IsRunOf}
 use Rattle.mp4_feed.specs.States.{IsWaiting, moof_in}
 use Rattle.mp4_feed.specs.declared.state.Waiting.{Waiting}
-use Rattle.mp4_feed.proofs.LineLemmas.{rows_taken, run_of_all, taken_are}
+use Rattle.mp4_feed.proofs.LineLemmas.{rows_taken, taken_are}
 
 -- how many bytes some runs have
 abbrev pub media_of : List Run → ℕ
@@ -230,15 +231,37 @@ module _ (runs : List Run) (i : ℕ) (run : Run) (here : i < length runs) (at : 
       by true new whole = omega (arith, new, whole)
       by false new whole = omega (arith, new, whole)
 
+-- the run at an index
+pub record RunAt (held : List ℕ) (runs : List Run) (i : ℕ) : Type 0 where
+  pub run : Run
+  pub at : run ≡ get_or runs i run
+  pub is : IsRunOf held run
+
+pub run_at : (held : List ℕ) (runs : List Run) (i : ℕ) → AllByRecursion (IsRunOf held) runs → i < length runs → RunAt held runs i
+run_at held [] i all h = absurd (omega arith)
+run_at held (x ∷ runs) zero all h = record { run = x; at = refl; is = all.0 }
+run_at held (x ∷ runs) (suc i) all h = let rest = run_at held runs i all.1 (omega arith) in record { run = rest.run; at = rest.at; is = rest.is }
+
+all_each : {X : Type 0} (P : X → Type 0) (xs : List X) → AllByRecursion P xs → Each P xs
+all_each P [] all = tt
+all_each P (x ∷ xs) all = (all.0, all_each P xs all.1)
+
+both_hold : (held : List ℕ) (runs : List Run) → AreRunsOf held runs → Each (λ (run : Run). run.size < 2 ^ 32) runs → AllByRecursion (IsRunOf held) runs
+both_hold held [] are small = tt
+both_hold held (x ∷ runs) are small = (are.0 small.0, both_hold held runs are.1 small.1)
+
 -- ---- the runs of the moof that waits
 
 module _ (w : Waiting) (tracks : List Track) (waits : IsWaiting (Some tracks) w) where
   pub listed : (i : ℕ) → i < length w.runs.rows → i < length (taken_runs (moof_in w) tracks)
   listed i h = omega (arith, h, rows_taken (moof_in w) tracks w.runs waits.list)
 
-  pub run_is : IsBytes w.moof.bytes → (i : ℕ) (run : Run) → i < length w.runs.rows → run ≡ get_or (taken_runs (moof_in w) tracks) i run → run.size < 2 ^ 32 → IsRunOf w.moof.bytes run
-  run_is fits i run h at small =
-      run_of_all w.moof.bytes (taken_runs (moof_in w) tracks) i run (taken_are (moof_in w) tracks (omega (arith, waits.size, waits.near)) waits.whole fits waits.read) (listed i h) at small
+  -- they are sound
+  pub taken_sound : IsBytes w.moof.bytes → AllByRecursion (λ (t : Track). t.size < 2 ^ 32) tracks → AllByRecursion (IsRunOf w.moof.bytes) (taken_runs (moof_in w) tracks)
+  taken_sound fits small =
+      let h = moof_in w in
+      both_hold w.moof.bytes (taken_runs h tracks) (taken_are h tracks (omega (arith, waits.size, waits.near)) waits.whole fits waits.read)
+      (each_moved (λ (run : Run). run.size < 2 ^ 32) (moof_runs h tracks) (taken_runs h tracks) (taken_permutes listed_run (moof_runs h tracks)) (all_each (λ (run : Run). run.size < 2 ^ 32) (moof_runs h tracks) (all_small h tracks waits.whole fits small)))
 
   pub stand_in : (p : Payload) → place_fault p (moof_runs (moof_in w) tracks) ≡ None → AreIn p (taken_runs (moof_in w) tracks)
   stand_in p good = taken_in p (moof_in w) tracks w.runs waits.list good

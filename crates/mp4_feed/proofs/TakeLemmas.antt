@@ -1,10 +1,11 @@
 -- What bytes bring that a machine takes from the front of a piece.
-use Rattle.std.proofs.Common.{◌≡◌, ℕ, ◌+◌, ◌<◌, ◌≤◌, List, [], ◌++◌, length, length-append, take, append-nil, append_assoc, ap, refl, sym, subst, arith, None, Some, Option}
+use Rattle.std.proofs.Common.{◌≡◌, ℕ, ◌+◌, ◌<◌, ◌≤◌, List, [], ◌++◌, length, length-append, take, drop, ◌∙◌, append-nil, append_assoc, ap, refl, sym, subst, arith, None, Some, Option}
+use Rattle.std.proofs.lemmas.List.{length-take-le, take-append-drop}
 use Rattle.mp4_box.specs.declared.headers.FourCc.{FourCc}
 use Rattle.mp4_box.specs.declared.headers.Header.{Header}
 use Rattle.mp4_box.specs.declared.headers.Step.TheVariants as steps
 use Rattle.mp4_box.specs.Headers.{header_at, need}
-use Rattle.mp4_box.proofs.HeaderLemmas.{bad_is, whole_is}
+use Rattle.mp4_box.proofs.HeaderLemmas.{bad_is, header_at-append, need-append, need-least, whole_is}
 use Rattle.mp4_init.specs.declared.table.Track.{Track}
 use Rattle.mp4_reading.specs.Pieces.{GoesOn, Outside, Standing}
 use Rattle.mp4_reading.specs.Readings.{then_read}
@@ -37,3 +38,21 @@ len_of_whole x h most e = omega (arith, most, (whole_is x h e).0)
 pub behind_at : (tracks : Option (List Track)) (w : Option Waiting) (next : ℕ) → (behind_body tracks w next).at ≡ next
 behind_at tracks None next = refl
 behind_at tracks (Some w) next = refl
+
+-- the header at the front of a piece
+pub record HeadFront (piece : List ℕ) (h : Header) : Type 0 where
+  pub len : length (take h.header_len piece) ≡ need (take h.header_len piece)
+  pub is : header_at (take h.header_len piece) ≡ steps.Whole h
+
+pub head_front : (piece : List ℕ) (h : Header) → header_at piece ≡ steps.Whole h → HeadFront piece h
+head_front piece h e =
+    let x = take h.header_len piece in
+    let y = drop h.header_len piece in
+    let w = whole_is piece h e in
+    let all : x ++ y ≡ piece = take-append-drop h.header_len piece in
+    let long : length x ≡ h.header_len = length-take-le h.header_len piece (omega (arith, w.0, w.1)) in
+    let same : need x ≡ need piece = sym (need-append x y (omega (arith, long, w.1, need-least piece))) ∙ ap need all in
+    record {
+      len = omega (arith, long, same, w.1);
+      is = sym (header_at-append x y (omega (arith, long, same, w.1))) ∙ ap header_at all ∙ e;
+    }

@@ -27,9 +27,8 @@ use crate::measure::measure_runs;
 use crate::second::{judge, payload_of};
 use crate::state::{Body, Counter, LONGEST, OpenBody, State, Waiting};
 use crate::take::Taken;
-use mp4_box::{Header, HeaderReader, Rule, Size, Step};
+use mp4_box::{Header, HeaderReader, Rule, Size, Step, header_of};
 use mp4_ends::{Failed, Sink};
-use mp4_frag::Moof;
 use mp4_init::TrackList;
 use mp4_items::Command;
 use mp4_ledger::Ledger;
@@ -92,9 +91,7 @@ fn tell<W: Sink>(
 {
     let next = waiting.moof.offset() + waiting.moof.size();
     let measure = measure_runs(waiting, payload_of(next, header), tracks);
-    let moof = Moof::again(waiting.moof.bytes(), waiting.moof.offset(), tracks);
-    let samples = moof.samples();
-    count(counter, samples, measure.bytes);
+    count(counter, waiting.samples, measure.bytes);
     match command {
         Command::Check => Ok(measure.needed),
         Command::Samples => {
@@ -267,13 +264,111 @@ fn begin_behind<W: Sink>(
     }
 }
 
+/// Takes the header behind the moof that waits from the front of a piece, at once where the piece has all of it, and begins its
+/// fragment where all of the header came.
+///
+/// # Errors
+///
+/// As [`begin_behind`].
+pub(crate) fn take_behind<W: Sink>(
+    command: Command,
+    waiting: Waiting,
+    head: &mut HeaderReader,
+    piece: &[u8],
+    tracks: &mut Option<TrackList>,
+    ledger: &mut Ledger,
+    counter: &mut Counter,
+    out: &mut Block,
+    w: &mut W,
+) -> Result<Taken, Stop>
+    requires some { 0 < length piece.now }
+    requires short { length head.old < need head.old }
+    requires waiting { IsWaiting tracks.old waiting }
+    requires claim { claimed_in tracks.old (Some waiting) ≤ ledger.old.live }
+    requires counted { HasCounted command (states.Behind waiting) counter.old }
+    ensures takes { Takes (around (sent W.contents W.has_failed w.old w.new) out.old out.new
+        ledger.old (when_stopped result (table_of tracks.old) ledger.new)
+        counter.old.tally counter.new.tally)
+        (standing (making command) (Behind (context waiting.moof.at tracks.old 1)
+        (known tracks.old) waiting.moof.bytes head.old))
+        piece.now (λ t. take t.count piece.now)
+        (λ t. standing (making command) (place_of tracks.new head.new t.state)) result }
+    ensures taken { IfOk result (λ t. (0 < t.count) × (t.count ≤ length piece.now)) }
+    ensures kept { OnErr result (tracks.new ≡ tracks.old) }
+    ensures left { OnErr result (table_of tracks.old ≤ ledger.new.live) }
+    ensures empty { OnErr result (head.new ≡ []) }
+    ensures state { IfOk result (λ t. IsState tracks.new head.new t.state) }
+    ensures claim { IfOk result (λ t.
+        claim_of (place_of tracks.new head.new t.state) ≤ ledger.new.live) }
+    ensures counted { IfOk result (λ t. HasCounted command t.state counter.new) }
+    ensures spent { OnErr result (HasStopped command counter.new) }
+{
+    if head.is_empty() {
+        if let Ok(header) = header_of(piece) {
+            return take_whole(
+                command, waiting, &header, piece, tracks, ledger, counter, out, w,
+            );
+        }
+    }
+    take_bytes(
+        command, waiting, head, piece, tracks, ledger, counter, out, w,
+    )
+}
+
+/// Takes the header behind the moof that waits, with which the piece begins, and begins its fragment.
+///
+/// # Errors
+///
+/// As [`begin_fragment`].
+fn take_whole<W: Sink>(
+    command: Command,
+    waiting: Waiting,
+    header: &Header,
+    piece: &[u8],
+    tracks: &mut Option<TrackList>,
+    ledger: &mut Ledger,
+    counter: &mut Counter,
+    out: &mut Block,
+    w: &mut W,
+) -> Result<Taken, Stop>
+    requires room { HasRoom header.now.size header.now.header_len }
+    requires is { header_at piece.now ≡ steps.Whole header.now }
+    requires waiting { IsWaiting tracks.old waiting }
+    requires claim { claimed_in tracks.old (Some waiting) ≤ ledger.old.live }
+    requires counted { HasCounted command (states.Behind waiting) counter.old }
+    ensures takes { Takes (around (sent W.contents W.has_failed w.old w.new) out.old out.new
+        ledger.old (when_stopped result (table_of tracks.old) ledger.new)
+        counter.old.tally counter.new.tally)
+        (standing (making command) (Behind (context waiting.moof.at tracks.old 1)
+        (known tracks.old) waiting.moof.bytes []))
+        piece.now (λ t. take t.count piece.now)
+        (λ t. standing (making command) (place_of tracks.new [] t.state)) result }
+    ensures taken { IfOk result (λ t. (0 < t.count) × (t.count ≤ length piece.now)) }
+    ensures kept { OnErr result (tracks.new ≡ tracks.old) }
+    ensures left { OnErr result (table_of tracks.old ≤ ledger.new.live) }
+    ensures state { IfOk result (λ t. IsState tracks.new [] t.state) }
+    ensures claim { IfOk result (λ t.
+        claim_of (place_of tracks.new [] t.state) ≤ ledger.new.live) }
+    ensures counted { IfOk result (λ t. HasCounted command t.state counter.new) }
+    ensures spent { OnErr result (HasStopped command counter.new) }
+{
+    let count = header.header_len as usize;
+    let bytes = &piece[..count];
+    match begin_fragment(
+        command, waiting, header, bytes, tracks, ledger, counter, out, w,
+    ) {
+        Ok(state) => Ok(Taken { count, state }),
+        Err(stop) => Err(stop),
+    }
+}
+
 /// Takes bytes of the header behind the moof that waits from the front of a piece, and begins its fragment where all of the
 /// header came.
 ///
 /// # Errors
 ///
 /// As [`begin_behind`].
-pub(crate) fn take_behind<W: Sink>(
+fn take_bytes<W: Sink>(
     command: Command,
     waiting: Waiting,
     head: &mut HeaderReader,

@@ -115,7 +115,7 @@ pub(crate) fn put_runs<W: Sink>(
     ensures kept { OnOk result (W.has_failed w.new ≡ W.has_failed w.old) }
 {
     let moof = Moof::again(waiting.moof.bytes(), waiting.moof.offset(), tracks);
-    steps.rows += u128::from(moof.samples());
+    steps.rows += u128::from(waiting.samples);
     let mut i = 0;
     while i < waiting.runs.len() {
         let run = waiting.runs.at(i, &moof, tracks);

@@ -1,18 +1,19 @@
 //! How many bytes the runs of a moof have, and how far they reach into the payload of its mdat.
 
 ghost use Rattle.std.specs.Prelude.{◌≡◌, ◌+◌, ◌≤◌, ◌<◌, ◌<ℤ◌, ◌^◌, ◌==◌, if◌then◌else◌, ℕ, pos, max, None, Some};
-ghost use Rattle.std.specs.List.{sum_by};
+ghost use Rattle.std.specs.List.{AllByRecursion, sum_by};
 ghost use Rattle.mp4_frag.specs.Moofs.{moof_runs};
 ghost use Rattle.mp4_frag.specs.Places.{place_fault};
 ghost use Rattle.mp4_frag.specs.RunLists.{taken_runs};
-ghost use Rattle.mp4_frag.specs.Runs.{end_place};
+ghost use Rattle.mp4_run_order.specs.Runs.{end_of};
 ghost use Rattle.mp4_frag.specs.declared.run.Run.{Run};
 ghost use Rattle.mp4_items.specs.Makings.{beyond, reach};
+ghost use Rattle.mp4_pieces.specs.Pieces.{IsRunOf};
 ghost use Rattle.mp4_reading.specs.Bodies.{longest};
 ghost use Rattle.mp4_feed.specs.States.{IsWaiting, moof_in};
 
 use crate::state::Waiting;
-use mp4_frag::{Moof, Payload, Run};
+use mp4_frag::{ListedRun, Payload};
 use mp4_init::TrackList;
 
 /// How many bytes some runs of a moof have, and how far they reach into the payload of its mdat.
@@ -25,11 +26,11 @@ pub(crate) struct Measure {
 }
 
 /// How far behind `start` a run ends, 0 where it ends before.
-fn beyond(start: u64, run: &Run) -> u64
-    requires { end_place run.now <ℤ pos (2 ^ 63) }
-    ensures { result ≡ beyond start (end_place run.now) }
+fn beyond(start: u64, run: ListedRun) -> u64
+    requires { end_of run <ℤ pos (2 ^ 63) }
+    ensures { result ≡ beyond start (end_of run) }
 {
-    let end = run.place + i128::from(run.bytes);
+    let end = i128::from(run.place) + i128::from(run.bytes);
     let start = i128::from(start);
     if end <= start {
         return 0;
@@ -38,12 +39,12 @@ fn beyond(start: u64, run: &Run) -> u64
 }
 
 /// The measure of one run more, in a payload that begins at `start`.
-fn with_run(so_far: Measure, start: u64, run: &Run) -> Measure
-    requires place { end_place run.now <ℤ pos (2 ^ 63) }
-    requires room { so_far.bytes + run.now.bytes < 2 ^ 64 }
-    ensures bytes { result.bytes ≡ so_far.bytes + run.now.bytes }
-    ensures needed { result.needed ≡ (if run.now.count == 0 then so_far.needed
-        else max so_far.needed (beyond start (end_place run.now))) }
+fn with_run(so_far: Measure, start: u64, run: ListedRun) -> Measure
+    requires place { end_of run <ℤ pos (2 ^ 63) }
+    requires room { so_far.bytes + run.bytes < 2 ^ 64 }
+    ensures bytes { result.bytes ≡ so_far.bytes + run.bytes }
+    ensures needed { result.needed ≡ (if run.count == 0 then so_far.needed
+        else max so_far.needed (beyond start (end_of run))) }
 {
     let bytes = so_far.bytes + run.bytes;
     let mut needed = so_far.needed;
@@ -51,6 +52,17 @@ fn with_run(so_far: Measure, start: u64, run: &Run) -> Measure
         needed = needed.max(beyond(start, run));
     }
     Measure { bytes, needed }
+}
+
+/// The runs of the moof that waits are sound: the bytes of a moof are bytes, and no track has a default size past 32 bits.
+#[inline(always)]
+fn runs_are_sound(waiting: &Waiting, tracks: &TrackList)
+    requires { IsWaiting (Some tracks.now) waiting.now }
+    ensures { AllByRecursion (IsRunOf waiting.now.moof.bytes)
+        (taken_runs (moof_in waiting.now) tracks.now) }
+{
+    let _ = waiting.moof.bytes();
+    let _ = tracks.len();
 }
 
 /// How many bytes the runs of the moof that waits have, and how far they reach into a payload in which they stand where
@@ -69,15 +81,14 @@ pub(crate) fn measure_runs(waiting: &Waiting, payload: Payload, tracks: &TrackLi
     ensures reach { (e : ℕ) → payload.end ≡ Some e → payload.start + result.needed ≤ e }
     ensures open { result.bytes ≤ 2 ^ 63 }
 {
-    let moof = Moof::again(waiting.moof.bytes(), waiting.moof.offset(), tracks);
+    runs_are_sound(waiting, tracks);
     let mut so_far = Measure {
         bytes: 0,
         needed: 0,
     };
     let mut i = 0;
     while i < waiting.runs.len() {
-        let run = waiting.runs.at(i, &moof, tracks);
-        so_far = with_run(so_far, payload.start, &run);
+        so_far = with_run(so_far, payload.start, waiting.runs.listed(i));
         i += 1;
     }
     so_far

@@ -65,16 +65,20 @@ pub(crate) fn settle_moof(
     ensures claim { IfOk result (λ w.
         64 * length tracks.now + held.size + 64 * length w.runs.rows ≤ ledger.new.live) }
 {
-    match judge(&held, tracks, counter) {
-        Ok(()) => {}
+    let moof = match judge(&held, tracks, counter) {
+        Ok(moof) => moof,
         Err(fault) => {
             held.back(ledger);
             return Err(Stop::Stream(fault));
         }
-    }
-    let moof = Moof::again(held.bytes(), held.offset(), tracks);
+    };
+    let samples = moof.samples();
     match moof.list(ledger, tracks, &mut counter.steps) {
-        Ok(runs) => Ok(Waiting { moof: held, runs }),
+        Ok(runs) => Ok(Waiting {
+            moof: held,
+            runs,
+            samples,
+        }),
         Err(refused) => {
             held.back(ledger);
             Err(Stop::of_refusal(refused))
@@ -87,11 +91,12 @@ pub(crate) fn settle_moof(
 /// # Errors
 ///
 /// What is at fault with it.
-fn judge(held: &Held, tracks: &TrackList, counter: &mut Counter) -> Result<(), Fault>
+fn judge<'a>(held: &'a Held, tracks: &TrackList, counter: &mut Counter) -> Result<Moof<'a>, Fault>
     requires begins { Begins held.now.size held.now.bytes }
     requires whole { length held.now.bytes ≡ held.now.size }
     requires steps { counter.old.steps.rows < 2 ^ 127 }
     requires walked { counter.old.tally.walked < 2 ^ 127 }
+    ensures moof { IfOk result (λ m. m ≡ held_at held.now.bytes held.now.at) }
     ensures good { OnOk result (IsRead (held_at held.now.bytes held.now.at) tracks.now) }
     ensures fault { IfErr result (λ f.
         moof_fault (held_at held.now.bytes held.now.at) tracks.now ≡ Some f) }
@@ -112,7 +117,7 @@ fn judge(held: &Held, tracks: &TrackList, counter: &mut Counter) -> Result<(), F
     let read = Moof::read(held.bytes(), held.offset(), tracks, &mut counter.steps);
     counter.tally.walked += counter.steps.rows - before;
     match read {
-        Ok(_) => Ok(()),
+        Ok(moof) => Ok(moof),
         Err(fault) => Err(fault),
     }
 }

@@ -1,7 +1,7 @@
 //! How a machine takes bytes from the front of a piece, but those of the header behind a moof.
 
 ghost use Rattle.std.specs.Prelude.{◌≡◌, ◌+◌, ◌*◌, ◌<◌, ◌≤◌, ◌^◌, [], length, take, Some, IfOk, OnErr};
-ghost use Rattle.mp4_box.specs.Headers.{header_at, need};
+ghost use Rattle.mp4_box.specs.Headers.{HasRoom, header_at, need};
 ghost use Rattle.mp4_box.specs.declared.headers.Step.TheVariants as steps;
 ghost use Rattle.mp4_ledger.specs.Memory.{given_back};
 ghost use Rattle.mp4_reading.specs.Bodies.{longest};
@@ -20,7 +20,7 @@ use crate::bodies::{arrive, back};
 use crate::heads::take_head;
 use crate::intake::{begin, hold};
 use crate::state::{Body, Counter, OpenBody, State, Waiting};
-use mp4_box::{HeaderReader, Rule, Step};
+use mp4_box::{Header, HeaderReader, Rule, Step, header_of};
 use mp4_init::TrackList;
 use mp4_ledger::Ledger;
 use mp4_reading::{Held, Stop, refused};
@@ -31,12 +31,101 @@ pub(crate) struct Taken {
     pub(crate) state: State,
 }
 
-/// Takes bytes of the header of the box at `at` from the front of a piece, and begins the box where all of it came.
+/// Takes the header of the box at `at` from the front of a piece, at once where the piece has all of it, and begins the box
+/// where all of it came.
 ///
 /// # Errors
 ///
 /// As [`begin_by`].
 pub(crate) fn take_header(
+    at: u64,
+    head: &mut HeaderReader,
+    piece: &[u8],
+    tracks: &mut Option<TrackList>,
+    ledger: &mut Ledger,
+    counter: &mut Counter,
+) -> Result<Taken, Stop>
+    requires some { 0 < length piece.now }
+    requires at { at ≤ longest }
+    requires short { length head.old < need head.old }
+    requires claim { table_of tracks.old ≤ ledger.old.live }
+    requires count { CanCount counter.old }
+    ensures takes { (command : Command) (u : Unlent) →
+        Takes (beside u ledger.old
+        (when_stopped result (table_of tracks.old) ledger.new)
+        counter.old.tally counter.new.tally)
+        (standing (making command) (InHeader (context at tracks.old 1) head.old))
+        piece.now (λ t. take t.count piece.now)
+        (λ t. standing (making command) (place_of tracks.new head.new t.state)) result }
+    ensures taken { IfOk result (λ t. (0 < t.count) × (t.count ≤ length piece.now)) }
+    ensures kept { OnErr result (tracks.new ≡ tracks.old) }
+    ensures left { OnErr result (table_of tracks.old ≤ ledger.new.live) }
+    ensures empty { OnErr result (head.new ≡ []) }
+    ensures state { IfOk result (λ t. IsState tracks.new head.new t.state) }
+    ensures claim { IfOk result (λ t.
+        claim_of (place_of tracks.new head.new t.state) ≤ ledger.new.live) }
+    ensures counted { (command : Command) → IsCounted command counter.old at 0 0 →
+        IfOk result (λ t. HasCounted command t.state counter.new) }
+    ensures spent { (command : Command) → IsCounted command counter.old at 0 0 →
+        OnErr result (HasStopped command counter.new) }
+{
+    if head.is_empty() {
+        if let Ok(header) = header_of(piece) {
+            return take_whole(at, &header, piece, tracks, ledger, counter);
+        }
+    }
+    take_bytes(at, head, piece, tracks, ledger, counter)
+}
+
+/// Takes the header of the box at `at`, with which the piece begins, and begins the box.
+///
+/// # Errors
+///
+/// As [`begin`].
+fn take_whole(
+    at: u64,
+    header: &Header,
+    piece: &[u8],
+    tracks: &mut Option<TrackList>,
+    ledger: &mut Ledger,
+    counter: &mut Counter,
+) -> Result<Taken, Stop>
+    requires at { at ≤ longest }
+    requires room { HasRoom header.now.size header.now.header_len }
+    requires is { header_at piece.now ≡ steps.Whole header.now }
+    requires claim { table_of tracks.old ≤ ledger.old.live }
+    requires count { CanCount counter.old }
+    ensures takes { (command : Command) (u : Unlent) →
+        Takes (beside u ledger.old
+        (when_stopped result (table_of tracks.old) ledger.new)
+        counter.old.tally counter.new.tally)
+        (standing (making command) (InHeader (context at tracks.old 1) []))
+        piece.now (λ t. take t.count piece.now)
+        (λ t. standing (making command) (place_of tracks.new [] t.state)) result }
+    ensures taken { IfOk result (λ t. (0 < t.count) × (t.count ≤ length piece.now)) }
+    ensures kept { OnErr result (tracks.new ≡ tracks.old) }
+    ensures left { OnErr result (table_of tracks.old ≤ ledger.new.live) }
+    ensures state { IfOk result (λ t. IsState tracks.new [] t.state) }
+    ensures claim { IfOk result (λ t.
+        claim_of (place_of tracks.new [] t.state) ≤ ledger.new.live) }
+    ensures counted { (command : Command) → IsCounted command counter.old at 0 0 →
+        IfOk result (λ t. HasCounted command t.state counter.new) }
+    ensures spent { (command : Command) → IsCounted command counter.old at 0 0 →
+        OnErr result (HasStopped command counter.new) }
+{
+    let count = header.header_len as usize;
+    match begin(at, header, &piece[..count], tracks, ledger, counter) {
+        Ok(state) => Ok(Taken { count, state }),
+        Err(stop) => Err(stop),
+    }
+}
+
+/// Takes bytes of the header of the box at `at` from the front of a piece, and begins the box where all of it came.
+///
+/// # Errors
+///
+/// As [`begin_by`].
+fn take_bytes(
     at: u64,
     head: &mut HeaderReader,
     piece: &[u8],

@@ -15,7 +15,7 @@ use Rattle.mp4_run_order.specs.Places.{IsOffender, first_offender}
 use Rattle.mp4_run_order.specs.Runs.{IsListing}
 use Rattle.mp4_run_order.specs.Searches.{found_by_place, found_by_track}
 use Rattle.mp4_run_order.proofs.ListLemmas.{Each, Pairs, all_of_pairs, each_moved, pairs_of_all, pairs_of_map, pairs_with}
-use Rattle.mp4_run_order.proofs.OrderLemmas.{TakenBefore, order_is_taken, place_keys_order, taken_alone, taken_is_order, track_keys_order}
+use Rattle.mp4_run_order.proofs.OrderLemmas.{TakenBefore, order_is_taken, place_keys_order, taken_alone, taken_is_order, taken_map, track_keys_order}
 use Rattle.mp4_run_order.proofs.SearchLemmas.{offender_means, search_is}
 use Rattle.mp4_frag.specs.declared.run.Run.{Run}
 use Rattle.mp4_frag.specs.declared.run_row.RunRow.{RunRow}
@@ -185,6 +185,21 @@ run_is h tracks l ws i w r of e lt at is =
     ∙ (ap (λ (v : List ℕ). run_of_row h tracks (row_of_words v)) at
     ∙ (ap (run_of_row h tracks) (sym (map_at row_of_words ws i (row_of_words w) w (omega arith)))
     ∙ (sym (map_at (run_of_row h tracks) (rows_of_words ws) i r (row_of_words w) (omega arith)) ∙ ap (λ (xs : List Run). get_or xs i r) same)))
+
+-- what is listed of it
+pub listed_is : (h : Held) (tracks : List Track) (l : ListedRows) (ws : List (List ℕ)) (i : ℕ) (w : List ℕ) (run : Run) → IsListOf h tracks l → rows_of_words ws ≡ l.rows → i < length l.rows → w ≡ get_or ws i w → run ≡ get_or (taken_runs h tracks) i run
+    → listed_row (row_of_words w) ≡ listed_run run
+listed_is h tracks l ws i w run of e lt at is =
+    let n = ap length e in
+    let m = length_rows ws in
+    let k = ap length of.runs in
+    let same : map listed_row (rows_of_words ws) ≡ map listed_run (taken_runs h tracks) = ap (map listed_row) e ∙ of.taken ∙ sym (taken_map listed_run (moof_runs h tracks)) in
+    ap (λ (v : List ℕ). listed_row (row_of_words v)) at
+    ∙ (ap listed_row (sym (map_at row_of_words ws i (row_of_words w) w (omega arith)))
+    ∙ (sym (map_at listed_row (rows_of_words ws) i (listed_run run) (row_of_words w) (omega arith))
+    ∙ (ap (λ (xs : List ListedRun). get_or xs i (listed_run run)) same
+    ∙ (map_at listed_run (taken_runs h tracks) i (listed_run run) run (omega (arith, k, length-map l.rows (run_of_row h tracks)))
+    ∙ ap listed_run (sym is)))))
 
 -- ---- what is lent comes back
 

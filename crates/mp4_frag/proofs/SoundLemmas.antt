@@ -217,3 +217,33 @@ all_in_range h tracks whole fits room small read =
           subst (λ (b : Box). AllByRecursion InRange (flat_map runs_of (trafs_by h tracks (children b)))) (sym is)
           (trafs_in_range h tracks (of_kind traf (children m)) small (kind_all (Lies h) traf (children m) (children_lie h m (moof_lies h m whole fits some.1))) sound)
     ]
+
+-- ---- the default size of all runs
+
+abbrev HasSize : Run → Type 0
+HasSize run = run.size < 2 ^ 32
+
+sizes_append : (xs ys : List Run) → AllByRecursion HasSize xs → AllByRecursion HasSize ys → AllByRecursion HasSize (xs ++ ys)
+sizes_append [] ys all rest = rest
+sizes_append (x ∷ xs) ys all rest = (all.0, sizes_append xs ys all.1 rest)
+
+runs_small : (s : Shared) (time : ℕ) (last : ℤ) (bs : List Box) → s.header.size < 2 ^ 32 → AllByRecursion HasSize (runs_from s time last bs)
+unfolding runs_from run_of run_at
+runs_small s time last [] small = tt
+runs_small s time last (b ∷ bs) small = (small, runs_small s (run_of s time last b).end (end_place (run_of s time last b)) bs small)
+
+trafs_small : (h : Held) (tracks : List Track) (ts : List Box) → AllByRecursion (λ (t : Track). t.size < 2 ^ 32) tracks → AllByRecursion (Lies h) ts → AllByRecursion HasSize (flat_map runs_of (map (traf_of h tracks) ts))
+trafs_small h tracks [] small lie = tt
+trafs_small h tracks (t ∷ ts) small lie =
+    let f = traf_of h tracks t in
+    sizes_append (runs_of f) (flat_map runs_of (map (traf_of h tracks) ts)) (runs_small f.shared f.time (pos f.shared.moof.offset) f.truns (size_small h tracks t lie.0 small)) (trafs_small h tracks ts small lie.1)
+
+pub all_small : (h : Held) (tracks : List Track) → IsWhole h.bytes → IsBytes h.bytes → AllByRecursion (λ (t : Track). t.size < 2 ^ 32) tracks → AllByRecursion (λ (run : Run). run.size < 2 ^ 32) (moof_runs h tracks)
+all_small h tracks whole fits small =
+    elim (option_is (box_at h.offset h.bytes)) [
+      | inl none ↦ absurd (whole_found h.offset h.bytes whole none)
+      | inr some ↦
+          let m = some.0 in
+          subst (λ (b : Box). AllByRecursion HasSize (flat_map runs_of (trafs_by h tracks (children b)))) (sym (moof_is h.offset h.bytes m some.1))
+          (trafs_small h tracks (of_kind traf (children m)) small (kind_all (Lies h) traf (children m) (children_lie h m (moof_lies h m whole fits some.1))))
+    ]

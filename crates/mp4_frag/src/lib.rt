@@ -49,7 +49,7 @@ mod traf;
 mod trun;
 
 pub use moof::Moof;
-pub use mp4_run_order::Payload;
+pub use mp4_run_order::{ListedRun, Payload};
 pub use rows::{Cursor, Row, Rows, Steps};
 pub use run::Run;
 pub use run_list::RunList;

@@ -12,7 +12,7 @@ use mp4_run_order::{ListedRun, Payload, PlaceSearch, TrackSearch};
 use std::marker::Model;
 
 /// What the order of runs depends on, of the run of a row.
-fn listed_row(row: &RunRow) -> ListedRun
+pub(crate) fn listed_row(row: &RunRow) -> ListedRun
     ensures { result ≡ listed_row row.now }
 {
     ListedRun {

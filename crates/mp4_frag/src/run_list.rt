@@ -1,18 +1,21 @@
 //! The runs of a moof in the order in which they are taken, in claimed memory.
 
-ghost use Rattle.std.specs.Prelude.{◌≡◌, ◌+◌, ◌*◌, ◌^◌, ◌<◌, ◌≤◌, ◌↔◌, length, slice_index_or, Some, IsErrOf, IfOk, OnOk, OnErr};
+ghost use Rattle.std.specs.Prelude.{◌≡◌, ◌+◌, ◌*◌, ◌^◌, ◌<◌, ◌≤◌, ◌↔◌, length, slice_index_or, List, Some, IsErrOf, IfOk, OnOk, OnErr};
 ghost use Rattle.mp4_box.specs.Headers.{IsWhole};
 ghost use Rattle.mp4_box.specs.Paths.{at_path};
 ghost use Rattle.mp4_box.specs.Trees.{box_at, view};
 ghost use Rattle.mp4_ledger.specs.Memory.{claimed, given_back};
+ghost use Rattle.mp4_init.specs.declared.table.Track.{Track};
+ghost use Rattle.mp4_frag.specs.declared.run.Run.{Run};
 ghost use Rattle.mp4_frag.specs.Kinds.{to_trun};
 ghost use Rattle.mp4_frag.specs.Moofs.{IsRead, moof_runs, moof_samples};
-ghost use Rattle.mp4_frag.specs.Runs.{held_at};
+ghost use Rattle.mp4_frag.specs.RunRows.{listed_run};
+ghost use Rattle.mp4_frag.specs.Runs.{Held, held_at};
 ghost use Rattle.mp4_frag.specs.RunLists.{IsLate, IsListOf, IsSorted, taken_runs};
 
 use crate::children::truns_of;
 use crate::fill::fill;
-use crate::listed::{find_by_track, sort_by_place, sort_by_track};
+use crate::listed::{find_by_track, listed_row, sort_by_place, sort_by_track};
 use crate::moof::Moof;
 use crate::reread::run_of_row;
 use crate::rows::Steps;
@@ -21,6 +24,7 @@ use crate::run_row::row_of_words;
 use mp4_box::{BoxRef, whole_box};
 use mp4_init::TrackList;
 use mp4_ledger::{Ledger, Refused, Rows64};
+use mp4_run_order::ListedRun;
 use std::marker::Model;
 
 /// The runs of a moof in the order in which they are taken: by place, and those at one place as the moof lists
@@ -66,6 +70,16 @@ impl RunList {
             tracks,
             &row_of_words(self.rows.get(i)),
         )
+    }
+
+    /// What the order of runs depends on, of the run at this index: where it stands, and how many samples and bytes it has. It
+    /// reads no box.
+    pub fn listed(&self, i: usize) -> ListedRun
+        requires { i < length self.now.rows }
+        ensures { (h : Held) (tracks : List Track) (run : Run) → IsListOf h tracks self.now →
+            run ≡ slice_index_or (taken_runs h tracks) i run → result ≡ listed_run run }
+    {
+        listed_row(&row_of_words(self.rows.get(i)))
     }
 
     /// Gives its claim back.

@@ -1,7 +1,7 @@
 -- Tracks in rows.
-use Rattle.std.proofs.Common.{◌≡◌, ◌∙◌, ◌+◌, ◌<◌, ◌≤◌, ◌==◌, cond, sym, subst, ℕ, zero, suc, List, [], ◌∷◌, ◌++◌, length, Some, None, refl, ap, arith}
+use Rattle.std.proofs.Common.{◌≡◌, ◌∙◌, ◌+◌, ◌^◌, ◌<◌, ◌≤◌, ◌==◌, cond, sym, subst, ℕ, zero, suc, List, [], ◌∷◌, ◌++◌, length, Some, None, refl, ap, arith}
 use Rattle.std.specs.Prelude.{map, slice_get, slice_index, slice_index_or, slice_set}
-use Rattle.std.specs.List.{position, position_from}
+use Rattle.std.specs.List.{AllByRecursion, position, position_from}
 use Rattle.std.proofs.lemmas.List.{get_or_append_left, length-map, map-append, map-set, set-append_left}
 use Rattle.std.proofs.Math.Seq.{map-set_same}
 use Rattle.std.proofs.lemmas.Iterator.Adapters.{position_from-zero}
@@ -96,3 +96,12 @@ sought_is rows id ix =
     ∙ position_from-zero (λ n. n.id == id) (map node_of_row rows)
     ∙ first_of_rows rows 0 id
     ∙ sym (position_from-zero (λ t. t.id == id) (map track_of_row rows))
+
+-- the default size of a sample has 32 bits
+size_small : (row : List ℕ) → (track_of_row row).size < 2 ^ 32
+unfolding track_of_row
+size_small row = omega arith
+
+pub sizes_small : (rows : List (List ℕ)) → AllByRecursion (λ (t : Track). t.size < 2 ^ 32) (map track_of_row rows)
+sizes_small [] = tt
+sizes_small (row ∷ rows) = (size_small row, sizes_small rows)

@@ -1,7 +1,7 @@
 //! A table of tracks in claimed memory.
 
-ghost use Rattle.std.specs.Prelude.{◌≡◌, ◌+◌, ◌*◌, ◌<◌, ◌≤◌, ◌==◌, ◌↔◌, [], ◌++◌, ◌∷◌, length, map, slice_index_or, IfSome, IsTrue};
-ghost use Rattle.std.specs.List.{position};
+ghost use Rattle.std.specs.Prelude.{◌≡◌, ◌+◌, ◌*◌, ◌^◌, ◌<◌, ◌≤◌, ◌==◌, ◌↔◌, [], ◌++◌, ◌∷◌, length, map, slice_index_or, IfSome, IsTrue};
+ghost use Rattle.std.specs.List.{AllByRecursion, position};
 ghost use Rattle.mp4_ledger.specs.Memory.{given_back};
 ghost use Rattle.mp4_init.specs.Rows.{node_of_row, track_of_row, with_next};
 ghost use Rattle.mp4_init.specs.SearchTrees.{IsIndexed};
@@ -54,9 +54,11 @@ impl Model for TrackList {
 }
 
 impl TrackList {
-    /// How many tracks it has.
+    /// How many tracks it has. The default size of a sample is below 2^32 in each.
+    #[tactic(auto, using(crate::proofs::RowLemmas::sizes_small))]
     pub fn len(&self) -> usize
-        ensures { result ≡ length self.now }
+        ensures len { result ≡ length self.now }
+        ensures small { AllByRecursion (λ t. t.size < 2 ^ 32) self.now }
     {
         self.rows.len()
     }

@@ -14,8 +14,8 @@ returns-in-Check-clause-counted g c =
     let start = rw at at c.payload_of.ensures.start in
     let end = rw at at c.payload_of.ensures.end in
     let measured = c.measure_runs-measure.ensures in
-    let many = rw (c.again-moof.ensures, c.bytes.ensures.bytes, c.offset-2.ensures.at) at c.samples-samples.ensures.samples in
-    counted_told c.args.command c.args.counter.now _ (w.moof.at + w.moof.size) (bound_behind (w.moof.at + w.moof.size) h.size) (moof_samples (moof_in w)) c.measure_runs-measure.result.bytes c.requires.counted (omega (arith, many, c.samples-samples.ensures.few))
+    let many = c.requires.waiting.samples in
+    counted_told c.args.command c.args.counter.now _ (w.moof.at + w.moof.size) (bound_behind (w.moof.at + w.moof.size) h.size) (moof_samples (moof_in w)) c.measure_runs-measure.result.bytes c.requires.counted (omega (arith, many, c.requires.waiting.few))
     (media_bound (w.moof.at + w.moof.size) c.measure_runs-measure.result.bytes h h.size c.payload_of.result start end c.requires.room c.requires.some c.requires.near measured.within measured.open)
     (c.count.ensures.tally ∙ ap (λ n. plus c.args.counter.now.tally (record { fragments = 1; samples = n; media_bytes = c.measure_runs-measure.result.bytes; walked = 0 })) many)
     (rw c.in-Check.is (omega (arith, ap (λ k. k.rows) c.count.ensures.steps)))
@@ -28,8 +28,8 @@ returns-in-Ok-clause-counted g c =
     let start = rw at at c.payload_of.ensures.start in
     let end = rw at at c.payload_of.ensures.end in
     let measured = c.measure_runs-measure.ensures in
-    let many = rw (c.again-moof.ensures, c.bytes.ensures.bytes, c.offset-2.ensures.at) at c.samples-samples.ensures.samples in
-    counted_told c.args.command c.args.counter.now _ (w.moof.at + w.moof.size) (bound_behind (w.moof.at + w.moof.size) h.size) (moof_samples (moof_in w)) c.measure_runs-measure.result.bytes c.requires.counted (omega (arith, many, c.samples-samples.ensures.few))
+    let many = c.requires.waiting.samples in
+    counted_told c.args.command c.args.counter.now _ (w.moof.at + w.moof.size) (bound_behind (w.moof.at + w.moof.size) h.size) (moof_samples (moof_in w)) c.measure_runs-measure.result.bytes c.requires.counted (omega (arith, many, c.requires.waiting.few))
     (media_bound (w.moof.at + w.moof.size) c.measure_runs-measure.result.bytes h h.size c.payload_of.result start end c.requires.room c.requires.some c.requires.near measured.within measured.open)
     (c.count.ensures.tally ∙ ap (λ n. plus c.args.counter.now.tally (record { fragments = 1; samples = n; media_bytes = c.measure_runs-measure.result.bytes; walked = 0 })) many)
     (rw c.in-Samples.is (omega (arith, ap (λ k. k.rows) c.count.ensures.steps, c.put_runs.ensures.walked)))
@@ -42,8 +42,8 @@ returns-in-Err-clause-counted g c =
     let start = rw at at c.payload_of.ensures.start in
     let end = rw at at c.payload_of.ensures.end in
     let measured = c.measure_runs-measure.ensures in
-    let many = rw (c.again-moof.ensures, c.bytes.ensures.bytes, c.offset-2.ensures.at) at c.samples-samples.ensures.samples in
-    counted_told c.args.command c.args.counter.now _ (w.moof.at + w.moof.size) (bound_behind (w.moof.at + w.moof.size) h.size) (moof_samples (moof_in w)) c.measure_runs-measure.result.bytes c.requires.counted (omega (arith, many, c.samples-samples.ensures.few))
+    let many = c.requires.waiting.samples in
+    counted_told c.args.command c.args.counter.now _ (w.moof.at + w.moof.size) (bound_behind (w.moof.at + w.moof.size) h.size) (moof_samples (moof_in w)) c.measure_runs-measure.result.bytes c.requires.counted (omega (arith, many, c.requires.waiting.few))
     (media_bound (w.moof.at + w.moof.size) c.measure_runs-measure.result.bytes h h.size c.payload_of.result start end c.requires.room c.requires.some c.requires.near measured.within measured.open)
     (c.count.ensures.tally ∙ ap (λ n. plus c.args.counter.now.tally (record { fragments = 1; samples = n; media_bytes = c.measure_runs-measure.result.bytes; walked = 0 })) many)
     (rw c.in-Samples.is (omega (arith, ap (λ k. k.rows) c.count.ensures.steps, c.put_runs.ensures.walked)))

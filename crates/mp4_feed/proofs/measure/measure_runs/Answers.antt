@@ -2,7 +2,7 @@ use Rattle.std.proofs.Common.{◌+◌, ◌<◌, arith, length}
 use Rattle.mp4_frag.specs.RunLists.{taken_runs}
 use Rattle.mp4_items.specs.Makings.{reach}
 use Rattle.mp4_feed.specs.States.{moof_in}
-use Rattle.mp4_feed.proofs.MediaLemmas.{are_more, listed, media_far, media_in, media_more, reach_in, reach_more, run_is, stand_in}
+use Rattle.mp4_feed.proofs.MediaLemmas.{are_more, listed, media_far, media_in, media_more, reach_in, reach_more, run_at, stand_in}
 use Rattle.mp4_feed.proofs.measure.measure_runs.Goals as goal
 
 pub with_run-so_far-requires-clause-place : goal.with_run-so_far-requires-clause-place
@@ -10,8 +10,8 @@ with_run-so_far-requires-clause-place c =
     let w = c.args.waiting.now in
     let tracks = c.args.tracks.now in
     let here : c.loop-i.i < length w.runs.rows = omega (arith, c.loop-i-test.true, c.len.ensures) in
-    let at = rw (c.again-moof.ensures, c.bytes.ensures.bytes, c.offset.ensures.at) at c.at-run.ensures in
-    (run_is w tracks c.requires.waiting c.bytes.ensures.valid c.loop-i.i c.at-run.result here at (omega arith)).range.high
+    let r = run_at w.moof.bytes (taken_runs (moof_in w) tracks) c.loop-i.i c.runs_are_sound.ensures (listed w tracks c.requires.waiting c.loop-i.i here) in
+    rw (c.listed.ensures (moof_in w) tracks r.run c.requires.waiting.list r.at) r.is.range.high
 
 pub with_run-so_far-requires-clause-room : goal.with_run-so_far-requires-clause-room
 with_run-so_far-requires-clause-room c =
@@ -19,13 +19,15 @@ with_run-so_far-requires-clause-room c =
     let tracks = c.args.tracks.now in
     let runs = taken_runs (moof_in w) tracks in
     let i = c.loop-i.i in
-    let run = c.at-run.result in
+    let r = run_at w.moof.bytes runs i c.runs_are_sound.ensures (listed w tracks c.requires.waiting i (omega (arith, c.loop-i-test.true, c.len.ensures))) in
+    let run = r.run in
+    let at = r.at in
+    let is = r.is in
+    let told = c.listed.ensures (moof_in w) tracks run c.requires.waiting.list at in
     let here : i < length w.runs.rows = omega (arith, c.loop-i-test.true, c.len.ensures) in
-    let at = rw (c.again-moof.ensures, c.bytes.ensures.bytes, c.offset.ensures.at) at c.at-run.ensures in
-    let is = run_is w tracks c.requires.waiting c.bytes.ensures.valid i run here at (omega arith) in
     let room = media_far w.moof.bytes c.args.payload runs (i + 1) c.requires.start (stand_in w tracks c.requires.waiting c.args.payload c.requires.good)
     (are_more runs i run (listed w tracks c.requires.waiting i here) at w.moof.bytes c.loop-i.invariant.are is) in
-    omega (arith, room, media_more runs i run (listed w tracks c.requires.waiting i here) at, c.loop-i.invariant.bytes)
+    rw told (omega (arith, room, media_more runs i run (listed w tracks c.requires.waiting i here) at, c.loop-i.invariant.bytes))
 
 pub loop-i-preserved : goal.loop-i-preserved
 loop-i-preserved c =
@@ -33,16 +35,18 @@ loop-i-preserved c =
     let tracks = c.args.tracks.now in
     let runs = taken_runs (moof_in w) tracks in
     let i = c.loop-i.i in
-    let run = c.at-run.result in
+    let r = run_at w.moof.bytes runs i c.runs_are_sound.ensures (listed w tracks c.requires.waiting i (omega (arith, c.loop-i-test.true, c.len.ensures))) in
+    let run = r.run in
+    let at = r.at in
+    let is = r.is in
+    let told = c.listed.ensures (moof_in w) tracks run c.requires.waiting.list at in
     let start = c.args.payload.start in
     let here : i < length w.runs.rows = omega (arith, c.loop-i-test.true, c.len.ensures) in
-    let at = rw (c.again-moof.ensures, c.bytes.ensures.bytes, c.offset.ensures.at) at c.at-run.ensures in
-    let is = run_is w tracks c.requires.waiting c.bytes.ensures.valid i run here at (omega arith) in
     let in_list = listed w tracks c.requires.waiting i here in
     record {
       within = omega (arith, here);
-      bytes = omega (arith, c.with_run-so_far.ensures.bytes, c.loop-i.invariant.bytes, media_more runs i run in_list at);
-      needed = reach_more runs i run in_list at start c.loop-i.so_far.needed c.with_run-so_far.result.needed (reach start runs) c.with_run-so_far.ensures.needed c.loop-i.invariant.needed;
+      bytes = omega (arith, rw told at c.with_run-so_far.ensures.bytes, c.loop-i.invariant.bytes, media_more runs i run in_list at);
+      needed = reach_more runs i run in_list at start c.loop-i.so_far.needed c.with_run-so_far.result.needed (reach start runs) (rw told at c.with_run-so_far.ensures.needed) c.loop-i.invariant.needed;
       are = are_more runs i run in_list at w.moof.bytes c.loop-i.invariant.are is;
     }
 

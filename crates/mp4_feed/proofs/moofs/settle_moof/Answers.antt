@@ -25,11 +25,6 @@ returns-in-Err-clause-spent c = λ command counted.
     let judged = c.judge.ensures in
     counted_judged command c.args.counter.now c.judge.new.counter (held_at held.bytes held.at) c.args.tracks.now held.at held.size counted (begins_some held.size held.bytes c.requires.begins c.requires.whole) c.requires.near judged.few judged.tally judged.rows judged.unwalked
 
-pub again-moof-requires-clause-whole : goal.again-moof-requires-clause-whole
-again-moof-requires-clause-whole c =
-    let held = c.args.held in
-    rw c.bytes.ensures.bytes (begins_whole held.size held.bytes c.bytes.ensures.valid c.requires.begins c.requires.whole)
-
 pub returns-in-Ok-list-clause-takes : goal.returns-in-Ok-list-clause-takes
 returns-in-Ok-list-clause-takes c = λ command u.
     let held = c.args.held in
@@ -37,7 +32,7 @@ returns-in-Ok-list-clause-takes c = λ command u.
     let h = held_at held.bytes held.at in
     let judged = c.judge.ensures in
     let good = none_of (early_fault h tracks) (least (time_faults (moof_trafs h tracks))) c.in-Ok.ensures.good in
-    let ok = rw (c.again-moof.ensures, c.bytes.ensures.bytes, c.offset.ensures.at) at c.in-Ok-list.ensures.ok in
+    let ok = rw c.in-Ok.ensures.moof at c.in-Ok-list.ensures.ok in
     rw (ok, judged.tally good.0)
     (Takes-ok (GoesOn-moof (making command) (outside u.written u.waiting c.args.ledger.now c.args.counter.now.tally) held.at 1 tracks held.kind held.size held.bytes c.requires.whole c.requires.claim good.0 good.1
     (begins_some held.size held.bytes c.requires.begins c.requires.whole)) refl)
@@ -50,7 +45,7 @@ returns-in-Err-list-clause-takes c = λ command u.
     let judged = c.judge.ensures in
     let good = none_of (early_fault h tracks) (least (time_faults (moof_trafs h tracks))) c.in-Ok.ensures.good in
     let err = c.in-Err-list.ensures.err in
-    let over = rw (c.again-moof.ensures, c.bytes.ensures.bytes, c.offset.ensures.at) at c.list.ensures.over_limit in
+    let over = rw c.in-Ok.ensures.moof at c.list.ensures.over_limit in
     rw (c.of_refusal.ensures, c.back-in-Err-list.ensures, err, judged.tally good.0)
     (Takes-err (λ more. StopsAt-runs (making command) (outside u.written u.waiting c.args.ledger.now c.args.counter.now.tally) held.at 1 tracks held.kind held.size held.bytes c.requires.whole c.requires.claim good.0 good.1
     more c.in-Err-list.refused (λ e. over.0 (c.in-Err-list.is ∙ ap Err e))
@@ -63,7 +58,7 @@ returns-in-Ok-list-clause-counted c = λ command counted.
     let h = held_at held.bytes held.at in
     let judged = c.judge.ensures in
     let good = none_of (early_fault h c.args.tracks.now) (least (time_faults (moof_trafs h c.args.tracks.now))) c.in-Ok.ensures.good in
-    let listed = rw (c.again-moof.ensures, c.bytes.ensures.bytes, c.offset.ensures.at) at c.in-Ok-list.ensures.walked in
+    let listed = rw c.in-Ok.ensures.moof at c.in-Ok-list.ensures.walked in
     counted_moof command c.args.counter.now _ h held.at held.size (moof_samples h + moof_samples h) (moof_samples h) counted (begins_some held.size held.bytes c.requires.begins c.requires.whole) c.requires.near (judged.few good.0) (judged.tally good.0)
     (omega (arith, listed, judged.rows good.0)) refl (omega arith)
 
