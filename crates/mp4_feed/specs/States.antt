@@ -8,7 +8,6 @@ use Rattle.mp4_box.specs.declared.headers.Size.{Size}
 use Rattle.mp4_box.specs.declared.headers.Size.TheVariants.{Exact, ToEnd}
 use Rattle.mp4_init.specs.declared.table.Track.{Track}
 use Rattle.mp4_frag.specs.Moofs.{IsRead, moof_runs, moof_samples, moof_trafs}
-use Rattle.mp4_frag.specs.Rules.{most_samples}
 use Rattle.mp4_frag.specs.RunLists.{IsListOf, taken_runs}
 use Rattle.mp4_frag.specs.Runs.{Held, held_at}
 use Rattle.mp4_frag.specs.Settling.{settled}
@@ -72,7 +71,7 @@ place_of tracks head (states.OpenBody b w) = InOpenBody (λ _. silent) b.at b.ki
 
 -- ---- what holds of it
 
--- the moof was read with these tracks, its list is that of its runs, and it has so many samples
+-- the moof was read with these tracks, and its list is that of its runs
 pub record IsWaiting (tracks : Option (List Track)) (w : Waiting) : Type 0 where
   pub is_known : tracks ≡ Some (known tracks)
   pub whole : IsWhole w.moof.bytes
@@ -81,8 +80,6 @@ pub record IsWaiting (tracks : Option (List Track)) (w : Waiting) : Type 0 where
   pub read : IsRead (moof_in w) (known tracks)
   pub list : IsListOf (moof_in w) (known tracks) w.runs
   pub len : length w.runs.rows ≡ length (moof_runs (moof_in w) (known tracks))
-  pub samples : w.samples ≡ moof_samples (moof_in w)
-  pub few : w.samples ≤ most_samples
 
 -- so it is, where one waits
 abbrev pub MayWait : Option (List Track) → Option Waiting → Type 0

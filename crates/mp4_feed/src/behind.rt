@@ -35,7 +35,7 @@ use mp4_ledger::Ledger;
 use mp4_reading::{Block, Stop, refused};
 
 /// Counts a fragment that has so many samples, with so many bytes of media.
-fn count(counter: &mut Counter, samples: u32, bytes: u64)
+fn count(counter: &mut Counter, samples: u64, bytes: u64)
     requires fragments { counter.old.tally.fragments + 1 < 2 ^ 64 }
     requires samples { counter.old.tally.samples + samples < 2 ^ 128 }
     requires media { counter.old.tally.media_bytes + bytes < 2 ^ 64 }
@@ -91,11 +91,12 @@ fn tell<W: Sink>(
 {
     let next = waiting.moof.offset() + waiting.moof.size();
     let measure = measure_runs(waiting, payload_of(next, header), tracks);
-    count(counter, waiting.samples, measure.bytes);
+    count(counter, measure.samples, measure.bytes);
     match command {
         Command::Check => Ok(measure.needed),
         Command::Samples => {
-            match put_runs(waiting, tracks, &mut counter.steps, out, w) {
+            let samples = measure.samples;
+            match put_runs(waiting, samples, tracks, &mut counter.steps, out, w) {
                 Ok(()) => Ok(measure.needed),
                 Err(Failed) => Err(Failed),
             }
@@ -368,6 +369,7 @@ fn take_whole<W: Sink>(
 /// # Errors
 ///
 /// As [`begin_behind`].
+#[inline(never)]
 fn take_bytes<W: Sink>(
     command: Command,
     waiting: Waiting,

@@ -36,11 +36,7 @@ fn settle(waiting: Waiting, tracks: &mut TrackList, ledger: &mut Ledger, counter
     ensures few { counter.new.steps.rows ≤
         counter.old.steps.rows + moof_samples (moof_in waiting) }
 {
-    let Waiting {
-        moof,
-        runs,
-        samples: _,
-    } = waiting;
+    let Waiting { moof, runs } = waiting;
     let again = Moof::again(moof.bytes(), moof.offset(), tracks);
     again.settle(tracks, &mut counter.steps);
     runs.back(ledger);
@@ -52,14 +48,7 @@ pub(crate) fn back(waiting: Option<Waiting>, ledger: &mut Ledger)
     requires { taken_by waiting ≤ ledger.old.live }
     ensures { ledger.new ≡ given_back ledger.old (taken_by waiting) }
 {
-    if let Some(
-        Waiting {
-            moof,
-            runs,
-            samples: _,
-        },
-    ) = waiting
-    {
+    if let Some(Waiting { moof, runs }) = waiting {
         runs.back(ledger);
         moof.back(ledger);
     }

@@ -94,10 +94,11 @@ fn put_run<W: Sink>(run: &Run, held: &[u8], out: &mut Block, w: &mut W) -> Resul
     }
 }
 
-/// Puts the lines of the samples of the moof that waits, its runs in the order in which they are taken. They are counted in
-/// `steps` as rows that were read.
+/// Puts the lines of the samples of the moof that waits, its runs in the order in which they are taken. They are so many, and
+/// are counted in `steps` as rows that were read.
 pub(crate) fn put_runs<W: Sink>(
     waiting: &Waiting,
+    samples: u64,
     tracks: &TrackList,
     steps: &mut Steps,
     out: &mut Block,
@@ -105,6 +106,7 @@ pub(crate) fn put_runs<W: Sink>(
 ) -> Result<(), Failed>
     requires waiting { IsWaiting (Some tracks.now) waiting.now }
     requires steps { steps.old.rows < 2 ^ 127 }
+    requires samples { samples ≡ moof_samples (moof_in waiting.now) }
     ensures walked { steps.new.rows ≡
         steps.old.rows + moof_samples (moof_in waiting.now) }
     ensures ok { OnOk result (Passes (W.contents w.old) (W.contents w.new) out.old out.new
@@ -115,7 +117,7 @@ pub(crate) fn put_runs<W: Sink>(
     ensures kept { OnOk result (W.has_failed w.new ≡ W.has_failed w.old) }
 {
     let moof = Moof::again(waiting.moof.bytes(), waiting.moof.offset(), tracks);
-    steps.rows += u128::from(waiting.samples);
+    steps.rows += u128::from(samples);
     let mut i = 0;
     while i < waiting.runs.len() {
         let run = waiting.runs.at(i, &moof, tracks);

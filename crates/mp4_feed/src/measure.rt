@@ -1,8 +1,9 @@
-//! How many bytes the runs of a moof have, and how far they reach into the payload of its mdat.
+//! How many bytes and samples the runs of a moof have, and how far they reach into the payload of its mdat.
 
 ghost use Rattle.std.specs.Prelude.{◌≡◌, ◌+◌, ◌≤◌, ◌<◌, ◌<ℤ◌, ◌^◌, ◌==◌, if◌then◌else◌, ℕ, pos, max, None, Some};
 ghost use Rattle.std.specs.List.{AllByRecursion, sum_by};
-ghost use Rattle.mp4_frag.specs.Moofs.{moof_runs};
+ghost use Rattle.mp4_frag.specs.Moofs.{moof_runs, moof_samples};
+ghost use Rattle.mp4_frag.specs.Rules.{most_samples};
 ghost use Rattle.mp4_frag.specs.Places.{place_fault};
 ghost use Rattle.mp4_frag.specs.RunLists.{taken_runs};
 ghost use Rattle.mp4_run_order.specs.Runs.{end_of};
@@ -16,11 +17,13 @@ use crate::state::Waiting;
 use mp4_frag::{ListedRun, Payload};
 use mp4_init::TrackList;
 
-/// How many bytes some runs of a moof have, and how far they reach into the payload of its mdat.
+/// How many bytes and samples some runs of a moof have, and how far they reach into the payload of its mdat.
 #[derive(Clone, Copy)]
 pub(crate) struct Measure {
     /// How many bytes their samples have.
     pub(crate) bytes: u64,
+    /// How many samples they have.
+    pub(crate) samples: u64,
     /// How many bytes the payload must have at the least, so that each run with samples lies in it.
     pub(crate) needed: u64,
 }
@@ -42,7 +45,9 @@ fn beyond(start: u64, run: ListedRun) -> u64
 fn with_run(so_far: Measure, start: u64, run: ListedRun) -> Measure
     requires place { end_of run <ℤ pos (2 ^ 63) }
     requires room { so_far.bytes + run.bytes < 2 ^ 64 }
+    requires few { so_far.samples + run.count < 2 ^ 64 }
     ensures bytes { result.bytes ≡ so_far.bytes + run.bytes }
+    ensures samples { result.samples ≡ so_far.samples + run.count }
     ensures needed { result.needed ≡ (if run.count == 0 then so_far.needed
         else max so_far.needed (beyond start (end_of run))) }
 {
@@ -51,7 +56,12 @@ fn with_run(so_far: Measure, start: u64, run: ListedRun) -> Measure
     if run.count > 0 {
         needed = needed.max(beyond(start, run));
     }
-    Measure { bytes, needed }
+    let samples = so_far.samples + u64::from(run.count);
+    Measure {
+        bytes,
+        samples,
+        needed,
+    }
 }
 
 /// The runs of the moof that waits are sound: the bytes of a moof are bytes, and no track has a default size past 32 bits.
@@ -65,7 +75,7 @@ fn runs_are_sound(waiting: &Waiting, tracks: &TrackList)
     let _ = tracks.len();
 }
 
-/// How many bytes the runs of the moof that waits have, and how far they reach into a payload in which they stand where
+/// How many bytes and samples the runs of the moof that waits have, and how far they reach into a payload in which they stand where
 /// they may. No row is read.
 pub(crate) fn measure_runs(waiting: &Waiting, payload: Payload, tracks: &TrackList) -> Measure
     requires waiting { IsWaiting (Some tracks.now) waiting.now }
@@ -75,6 +85,8 @@ pub(crate) fn measure_runs(waiting: &Waiting, payload: Payload, tracks: &TrackLi
     requires end { (e : ℕ) → payload.end ≡ Some e → payload.start ≤ e }
     ensures bytes { result.bytes ≡ sum_by (λ (run : Run). run.bytes)
         (taken_runs (moof_in waiting.now) tracks.now) }
+    ensures samples { result.samples ≡ moof_samples (moof_in waiting.now) }
+    ensures few { result.samples ≤ most_samples }
     ensures needed { result.needed ≡
         reach payload.start (taken_runs (moof_in waiting.now) tracks.now) }
     ensures within { (e : ℕ) → payload.end ≡ Some e → payload.start + result.bytes ≤ e }
@@ -84,6 +96,7 @@ pub(crate) fn measure_runs(waiting: &Waiting, payload: Payload, tracks: &TrackLi
     runs_are_sound(waiting, tracks);
     let mut so_far = Measure {
         bytes: 0,
+        samples: 0,
         needed: 0,
     };
     let mut i = 0;

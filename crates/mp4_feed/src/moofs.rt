@@ -72,13 +72,8 @@ pub(crate) fn settle_moof(
             return Err(Stop::Stream(fault));
         }
     };
-    let samples = moof.samples();
     match moof.list(ledger, tracks, &mut counter.steps) {
-        Ok(runs) => Ok(Waiting {
-            moof: held,
-            runs,
-            samples,
-        }),
+        Ok(runs) => Ok(Waiting { moof: held, runs }),
         Err(refused) => {
             held.back(ledger);
             Err(Stop::of_refusal(refused))

@@ -11,8 +11,6 @@ pub(crate) const LONGEST: u64 = 1 << 62;
 pub(crate) struct Waiting {
     pub(crate) moof: Held,
     pub(crate) runs: RunList,
-    /// How many samples it has.
-    pub(crate) samples: u32,
 }
 
 /// The body of the box at `at`, of which some bytes are left; the next box begins at `next`.

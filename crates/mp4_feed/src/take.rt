@@ -37,6 +37,7 @@ pub(crate) struct Taken {
 /// # Errors
 ///
 /// As [`begin_by`].
+#[inline(always)]
 pub(crate) fn take_header(
     at: u64,
     head: &mut HeaderReader,
@@ -82,6 +83,7 @@ pub(crate) fn take_header(
 /// # Errors
 ///
 /// As [`begin`].
+#[inline(always)]
 fn take_whole(
     at: u64,
     header: &Header,
@@ -125,6 +127,7 @@ fn take_whole(
 /// # Errors
 ///
 /// As [`begin_by`].
+#[inline(never)]
 fn take_bytes(
     at: u64,
     head: &mut HeaderReader,
@@ -223,6 +226,7 @@ fn begin_by(
 /// # Errors
 ///
 /// As [`hold`].
+#[inline(always)]
 pub(crate) fn take_held(
     held: Held,
     piece: &[u8],

@@ -5,7 +5,8 @@
 //!   [`Moof::settle`]: where its tracks end behind it;
 //! - [`Moof::trafs`], [`Traf::runs`] and [`Run::rows`]: its trafs, their [`Run`]s and the [`Row`] of each sample.
 //!   [`Run::rows_from`] goes on from a [`Cursor`], and [`Run::after`] gives the next run;
-//! - [`Moof::list`]: a [`RunList`], its runs in the order in which they are taken, in claimed memory, and
+//! - [`Moof::list`]: a [`RunList`], its runs in the order in which they are taken, in claimed memory;
+//!   [`RunList::at`] gives one of them, [`RunList::listed`] where it stands, and
 //!   [`Moof::places`]: whether they stand where they may in the [`Payload`] of its mdat;
 //! - [`laws`]: what the definitions of `specs/` imply.
 //!
@@ -13,8 +14,11 @@
 //! mfhd, tfhd, tfdt, trun. `specs/Rules.antt` and `specs/Repeats.antt` say what is at fault, `specs/Rows.antt` what a row
 //! is, `specs/Runs.antt` when and where runs begin and end, `specs/Moofs.antt` what a moof comes to, `specs/RunLists.antt`
 //! what a list of its runs is, and `specs/Places.antt` which run is at fault by its place. The others say how it is worked
-//! out: `specs/Ranges.antt`, `specs/Times.antt`, `specs/After.antt`, `specs/Settling.antt`, `specs/RunRows.antt`,
-//! `specs/Rereads.antt`.
+//! out: `specs/AtOnce.antt`, `specs/Ranges.antt`, `specs/Times.antt`, `specs/After.antt`, `specs/Settling.antt`,
+//! `specs/RunRows.antt`, `specs/Rereads.antt`.
+//!
+//! `children.rt` goes over the boxes of a moof by their types, `at_once.rt` looks at all of them in one pass, and `start.rt`
+//! reads what stands before the runs of a traf.
 #![tactic(auto)]
 
 mod after;

@@ -8,6 +8,7 @@ use crate::kinds::FREE;
 use mp4_box::{BoxRef, Header, Size};
 
 /// These bytes, which begin at an offset in the stream, as the payload of a box without a header.
+#[inline]
 pub(crate) fn headless(payload: &[u8], offset: u64) -> BoxRef<'_>
     requires { offset + length payload.now < 2 ^ 63 }
     ensures { view result ≡ record nothing { offset = offset; payload = payload.now } }

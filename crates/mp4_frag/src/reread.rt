@@ -15,6 +15,7 @@ use mp4_box::{BoxRef, Walk};
 use mp4_init::TrackList;
 
 /// The box of a moof that begins at this offset in the stream.
+#[inline(always)]
 fn box_in<'a>(held: &'a [u8], moof: u64, offset: u64) -> BoxRef<'a>
     requires { moof + length held.now ≤ 2 ^ 62 }
     ensures { view result ≡ box_in (held_at held.now moof) offset }
@@ -32,6 +33,7 @@ fn box_in<'a>(held: &'a [u8], moof: u64, offset: u64) -> BoxRef<'a>
 }
 
 /// The run of a row, in the moof that begins at this offset.
+#[inline]
 #[tactic(auto, unfolding(crate::specs::Rereads::run_of_row))]
 pub(crate) fn run_of_row(held: &[u8], moof: u64, tracks: &TrackList, row: &RunRow) -> Run
     requires { moof + length held.now ≤ 2 ^ 62 }

@@ -39,7 +39,7 @@ fn start_by(moof: u64, last: i128, offset: Option<i32>) -> i128
 }
 
 /// The run of a trun, but for its end and its bytes.
-#[inline]
+#[inline(always)]
 #[tactic(auto, unfolding(crate::specs::Runs::run_at))]
 pub(crate) fn run_at(context: &TrafContext<'_>, behind: &Behind, trun: &BoxRef<'_>) -> Run
     ensures { result ≡ run_at (shared_of context.now) behind.now.time behind.now.place

@@ -76,7 +76,7 @@ fn heads_anywhere<'a>(traf: &BoxRef<'a>) -> Heads<'a>
 }
 
 /// The heads of a traf: mostly its first two children are its tfhd and its tfdt.
-#[inline]
+#[inline(always)]
 fn heads_of<'a>(traf: &BoxRef<'a>) -> Heads<'a>
     ensures tfhd { result.tfhd.now ≡ tfhd_of (view traf.now) }
     ensures at { result.tfhd_at ≡ tfhd_at (view traf.now) }
@@ -102,7 +102,7 @@ fn heads_of<'a>(traf: &BoxRef<'a>) -> Heads<'a>
 }
 
 /// What is read of a traf before its runs, in the moof that begins at this offset.
-#[inline]
+#[inline(always)]
 pub(crate) fn start_of<'a>(
     held: &'a [u8],
     moof: u64,
@@ -157,7 +157,7 @@ fn before_runs(time: u64, moof: u64) -> Behind
 }
 
 /// The runs of a traf, in the moof that begins at this offset.
-#[inline]
+#[inline(always)]
 pub(crate) fn runs_of<'a>(
     held: &'a [u8],
     moof: u64,

@@ -83,6 +83,7 @@ pub(crate) fn sample_fields(word: u32) -> SampleFields
 }
 
 /// How many samples a trun has.
+#[inline]
 pub(crate) fn sample_count(payload: &[u8]) -> u32
     ensures { result ≡ sample_count payload.now }
 {
