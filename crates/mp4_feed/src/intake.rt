@@ -34,7 +34,7 @@ use std::mem::replace;
 /// # Errors
 ///
 /// `Stream` where it states no size, or a larger one than it may have; `OverLimit` or `Memory` where the claim is refused.
-#[inline]
+#[inline(always)]
 fn keep(
     at: u64,
     header: &Header,
@@ -176,7 +176,7 @@ fn put(tracks: &mut Option<TrackList>, list: TrackList)
 /// # Errors
 ///
 /// As [`keep`] and [`hold`].
-#[inline]
+#[inline(always)]
 fn keep_on(
     at: u64,
     header: &Header,
@@ -281,7 +281,7 @@ fn pass_sized(at: u64, kind: FourCc, size: u64, header_len: u64) -> State
 /// # Errors
 ///
 /// `Stream` where such a box may not stand here or goes too far, and as [`keep_on`].
-#[inline]
+#[inline(always)]
 pub(crate) fn begin(
     at: u64,
     header: &Header,

@@ -25,6 +25,7 @@ use mp4_reading::{Block, Stop};
 /// # Errors
 ///
 /// As [`take_header`], [`take_held`], [`take_behind`] and [`take_open`].
+#[inline(always)]
 pub(crate) fn take_next<W: Sink>(
     command: Command,
     state: State,

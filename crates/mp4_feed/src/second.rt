@@ -30,6 +30,7 @@ use mp4_reading::is_too_long;
 /// # Errors
 ///
 /// `StreamTooLong` where it goes too far, `MdatMissing` where it is no mdat, `RunPlace` where a run doesn't stand where it may.
+#[inline]
 pub(crate) fn judge(waiting: &Waiting, header: &Header, tracks: &TrackList) -> Result<(), Fault>
     requires waiting { IsWaiting (Some tracks.now) waiting.now }
     requires room { HasRoom header.now.size header.now.header_len }

@@ -13,6 +13,7 @@ const MOST_SAMPLES: u32 = 1_000_000;
 
 /// How many samples a moof has, or the first trun with which it has too many.
 #[tactic(auto, using(std::proofs::lemmas::List::Sums::sum_by_more), unfolding(crate::specs::Rules::too_many))]
+#[inline]
 pub(crate) fn count_samples(moof: &BoxRef<'_>) -> Result<u32, Fault>
     ensures count { IfOk result (λ n. n ≡ samples_of (view moof.now)) }
     ensures few { IfOk result (λ n. n ≤ most_samples) }

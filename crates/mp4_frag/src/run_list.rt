@@ -59,6 +59,7 @@ impl RunList {
     }
 
     /// The run at this index, of a list of this moof with these tracks. It reads no row of the run.
+    #[inline]
     pub fn at(&self, i: usize, moof: &Moof<'_>, tracks: &TrackList) -> Run
         requires index { i < length self.now.rows }
         requires list { IsListOf moof.now tracks.now self.now }
