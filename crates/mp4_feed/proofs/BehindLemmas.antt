@@ -1,5 +1,5 @@
 -- What the header behind a moof brings, where its fragment is refused, accepted, or can't be told.
-use Rattle.std.proofs.Common.{◌≡◌, ◌∙◌, ℕ, ◌+◌, ◌-◌, ◌*◌, ◌<◌, ◌≤◌, List, [], ◌++◌, length, length-append, Option, None, Some, append_assoc, ap, sym, refl, arith, subst}
+use Rattle.std.proofs.Common.{◌≡◌, ◌∙◌, ℕ, ◌+◌, ◌*◌, ◌≤◌, List, [], ◌++◌, length, length-append, Option, None, Some, append_assoc, ap, sym, refl, arith, subst}
 use Rattle.mp4_ends.specs.Streams.{AppendsPrefix}
 use Rattle.mp4_ends.proofs.StreamLemmas.{AppendsPrefix-longer}
 use Rattle.mp4_box.specs.declared.headers.Header.{Header}
@@ -11,7 +11,6 @@ use Rattle.mp4_box.specs.declared.rules.Rule.TheVariants.{BadSize}
 use Rattle.mp4_box.specs.Headers.{HasRoom, header_at, kind_of, need}
 use Rattle.mp4_box.proofs.HeaderLemmas.{whole_is}
 use Rattle.mp4_init.specs.declared.table.Track.{Track}
-use Rattle.mp4_ledger.specs.Memory.{Account}
 use Rattle.mp4_reading.specs.Accounts.{Counts, Spends}
 use Rattle.mp4_reading.specs.Blocks.{Passes}
 use Rattle.mp4_reading.specs.Bodies.{fault, least_end, longest, refused}
@@ -27,7 +26,7 @@ use Rattle.mp4_items.specs.declared.command.Command.TheVariants.{Samples, Check}
 use Rattle.mp4_items.specs.declared.kinds.Kind.TheVariants.{Mdat}
 use Rattle.mp4_items.specs.Commands.{accepted, making}
 use Rattle.mp4_items.specs.Contexts.{Context, context, table_of}
-use Rattle.mp4_items.specs.Items.{behind, faulty, media_body, reads_in, with_runs}
+use Rattle.mp4_items.specs.Items.{behind, faulty, media_body, reads_in}
 use Rattle.mp4_items.specs.Kinds.{kind_in}
 use Rattle.mp4_items.specs.Makings.{Fragment, Making, counted_in, fragment_fault, needed_in}
 use Rattle.mp4_feed.specs.Places.{Behind, claim_of, reached_of, reads_at, standing}

@@ -1,27 +1,26 @@
 -- What the header of a box at the front of a fragmented stream brings.
-use Rattle.std.proofs.Common.{◌≡◌, ◌∙◌, ℕ, ◌+◌, ◌-◌, ◌*◌, ◌<◌, ◌≤◌, List, [], ◌∷◌, ◌++◌, length, take, drop, Option, None, Some, append_assoc, append-nil, ap, sym, refl, arith, length-append, subst}
+use Rattle.std.proofs.Common.{◌≡◌, ◌∙◌, ℕ, ◌+◌, ◌-◌, ◌<◌, ◌≤◌, List, [], ◌∷◌, ◌++◌, length, take, drop, Option, None, Some, append_assoc, append-nil, ap, sym, refl, arith, length-append, subst}
 use Rattle.std.proofs.Math.Seq.{take-append_seam, drop-append_seam}
 use Rattle.mp4_box.specs.declared.headers.FourCc.{FourCc}
 use Rattle.mp4_box.specs.declared.headers.Header.{Header}
-use Rattle.mp4_box.specs.declared.headers.Size.{Size}
 use Rattle.mp4_box.specs.declared.headers.Size.TheVariants.{Exact, ToEnd}
 use Rattle.mp4_box.specs.declared.headers.Step.{Step}
 use Rattle.mp4_box.specs.declared.headers.Step.TheVariants as steps
 use Rattle.mp4_box.specs.declared.rules.Rule.{Rule}
 use Rattle.mp4_box.specs.declared.rules.Rule.TheVariants.{Truncated, BadSize, TooLarge, StreamTooLong}
 use Rattle.mp4_box.specs.Headers.{need, header_at, kind_of}
-use Rattle.mp4_box.proofs.HeaderLemmas.{header_at-append, whole_is, bad_is, need-least, is_cut}
+use Rattle.mp4_box.proofs.HeaderLemmas.{header_at-append, whole_is, need-least, is_cut}
 use Rattle.mp4_box.specs.declared.rules.Fault.{Fault}
 use Rattle.mp4_init.specs.declared.table.Track.{Track}
 use Rattle.mp4_ledger.specs.declared.ledger.Refused.{Refused}
 use Rattle.mp4_ledger.specs.declared.ledger.Refused.TheVariants as refusals
 use Rattle.mp4_reading.specs.Bodies.{longest, fault, refused, cut_off, least_end, told_body, told_open}
-use Rattle.mp4_reading.specs.Readings.{fault_in, Reading, nothing, Faulty, Front, Last, Told, silent, asks_for, after, then_read}
+use Rattle.mp4_reading.specs.Readings.{fault_in, nothing, Faulty, Last, Told, silent, asks_for, after, then_read}
 use Rattle.mp4_reading.specs.Pieces.{Outside, Standing, Moves, GoesOn, Refuses, Starves, StopsAt, refusal_of}
 use Rattle.mp4_reading.proofs.BodyLemmas.{body-some, open-some, nat_lt_true, nat_lt_false}
 use Rattle.mp4_reading.proofs.HeadLemmas.{kind_of-append}
 use Rattle.mp4_reading.proofs.ReadingLemmas.{read_all-front, then_read-told, after-silent}
-use Rattle.mp4_reading.proofs.PieceLemmas.{claimed_from, back_to, Moves-none, Moves-claim, Moves-back, GoesOn-silent, GoesOn-more}
+use Rattle.mp4_reading.proofs.PieceLemmas.{claimed_from, back_to, Moves-claim, Moves-back, GoesOn-silent, GoesOn-more}
 use Rattle.mp4_items.specs.declared.kinds.Kind.{Kind}
 use Rattle.mp4_items.specs.declared.kinds.Kind.TheVariants.{Other}
 use Rattle.mp4_items.specs.Contexts.{Context, context, table_of}

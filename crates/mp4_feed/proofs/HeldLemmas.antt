@@ -12,11 +12,11 @@ use Rattle.mp4_init.specs.Moovs.{moov_fault, moov_tracks}
 use Rattle.mp4_init.specs.declared.table.Track.{Track}
 use Rattle.mp4_ledger.specs.declared.ledger.Refused.{Refused}
 use Rattle.mp4_ledger.specs.declared.ledger.Refused.TheVariants as refusals
-use Rattle.mp4_frag.specs.Moofs.{early_fault, moof_fault, moof_runs, moof_samples, moof_trafs, time_faults}
+use Rattle.mp4_frag.specs.Moofs.{early_fault, moof_fault, moof_runs, moof_trafs, time_faults}
 use Rattle.mp4_frag.specs.Runs.{held_at}
 use Rattle.mp4_box.proofs.HeaderLemmas.{whole_is, need-least}
 use Rattle.mp4_reading.specs.Holding.{Begins}
-use Rattle.mp4_reading.specs.Readings.{Told, silent, both, says, counts, asks_for, plus, after, after_told, Faulty, then_read}
+use Rattle.mp4_reading.specs.Readings.{Told, silent, both, says, counts, asks_for, plus, after, after_told, then_read}
 use Rattle.mp4_reading.specs.Pieces.{Outside, Standing, Moves, GoesOn, Refuses, Starves, StopsAt, refusal_of}
 use Rattle.mp4_ledger.specs.Memory.{Account}
 use Rattle.mp4_reading.specs.declared.stop.Stop.{Stop}
@@ -26,9 +26,9 @@ use Rattle.mp4_reading.proofs.AccountLemmas.{Counts-none}
 use Rattle.mp4_reading.proofs.BlockLemmas.{Passes-none}
 use Rattle.mp4_reading.proofs.BodyLemmas.{nat_lt_false}
 use Rattle.mp4_reading.proofs.ReadingLemmas.{then_read-told, after-silent, after-both, both-silent}
-use Rattle.mp4_reading.proofs.PieceLemmas.{claimed_from, back_to, Moves-none, Moves-more, Moves-claim, Moves-back}
-use Rattle.mp4_items.specs.Contexts.{Context, context, table_of}
-use Rattle.mp4_items.specs.Items.{behind, kept_body, moof_box, moov_box, reads_in, timed_box, walked, whole_box_by, with_runs}
+use Rattle.mp4_reading.proofs.PieceLemmas.{claimed_from, back_to, Moves-more, Moves-claim, Moves-back}
+use Rattle.mp4_items.specs.Contexts.{Context, context}
+use Rattle.mp4_items.specs.Items.{behind, kept_body, moof_box, reads_in, timed_box, walked, whole_box_by, with_runs}
 use Rattle.mp4_items.specs.Makings.{Making}
 use Rattle.mp4_feed.specs.Stops.{stop_of}
 use Rattle.mp4_feed.specs.Places.{Behind, InHeader, InHeld, reads_at, standing, when_stopped}

@@ -9,12 +9,10 @@ use Rattle.mp4_reading.specs.Bodies.{cut_off, fault}
 use Rattle.mp4_reading.specs.Pieces.{IsQuiet, Standing}
 use Rattle.mp4_reading.specs.Readings.{CutOff, Reading, Sound, Told, early_in, fault_in, nothing, silent, then_read}
 use Rattle.mp4_reading.proofs.BodyLemmas.{body-none, nat_lt_false, nat_lt_true}
-use Rattle.mp4_reading.proofs.ReadingLemmas.{read_all-front}
 use Rattle.mp4_items.specs.Contexts.{Context}
-use Rattle.mp4_items.specs.Items.{behind, item, item_by, reads_in}
+use Rattle.mp4_items.specs.Items.{behind, reads_in}
 use Rattle.mp4_items.specs.Kinds.{moof}
 use Rattle.mp4_items.specs.Makings.{Making}
-use Rattle.mp4_items.proofs.ItemLemmas.{item-items}
 use Rattle.mp4_feed.specs.Places.{Behind, InBody, InHeader, InHeld, InOpenBody, IsPlace, Place, reached_of, reads_at, standing}
 use Rattle.mp4_feed.specs.States.{IsState, place_of}
 use Rattle.mp4_feed.specs.declared.state.State.{State}

@@ -1,21 +1,17 @@
 -- What the traks of a moov without a fault are: how long, and that each has one trex.
-use Rattle.std.proofs.Common.{◌≡◌, ◌∙◌, ◌≤◌, ◌+◌, ◌-◌, ◌*◌, ◌==◌, ℕ, zero, suc, Bool, true, false, cond, ltb, List, [], ◌∷◌, ◌++◌, length, Option, Some, None, refl, sym, ap, arith}
-use Rattle.std.specs.Prelude.{option_map, option_to_list}
+use Rattle.std.proofs.Common.{◌≡◌, ◌∙◌, ◌≤◌, ◌*◌, ◌==◌, ℕ, Bool, true, false, cond, ltb, List, [], ◌∷◌, ◌++◌, length, Option, Some, None, refl, sym, ap, arith}
 use Rattle.std.specs.List.{flat_map, AllByRecursion}
-use Rattle.std.specs.Str.{bytes_eq}
 use Rattle.std.proofs.lemmas.Bool.Decides.{nat_tests}
 use Rattle.std.proofs.lemmas.List.{length-map}
-use Rattle.std.proofs.lemmas.Grind.{flat_map-append}
-use Rattle.mp4_box.specs.declared.headers.FourCc.{FourCc}
 use Rattle.mp4_box.specs.declared.rules.Fault.{Fault}
-use Rattle.mp4_box.specs.declared.rules.Rule.TheVariants.{Version, FieldLength, UnknownTrack}
+use Rattle.mp4_box.specs.declared.rules.Rule.TheVariants.{UnknownTrack}
 use Rattle.mp4_box.specs.Headers.{IsBytes}
 use Rattle.mp4_box.specs.Order.{least}
-use Rattle.mp4_box.specs.Checks.{along, alone, broken, laid_out, one, unless}
+use Rattle.mp4_box.specs.Checks.{along, alone, broken, laid_out, one}
 use Rattle.mp4_box.specs.Fields.{version_in}
 use Rattle.mp4_box.specs.Paths.{of_kind, at_path}
 use Rattle.mp4_box.specs.declared.checks.Layout.TheVariants.{Versioned}
-use Rattle.mp4_box.specs.Trees.{Box, box_at, box_len, box_then, over, children, payload_offset, tree_faults, verdict, first_of, fault_at}
+use Rattle.mp4_box.specs.Trees.{Box, box_at, box_len, children, tree_faults, verdict, first_of, fault_at}
 use Rattle.mp4_box.proofs.GrammarLemmas.{stands}
 use Rattle.mp4_box.proofs.OrderLemmas.{least-none}
 use Rattle.mp4_box.proofs.SizeLemmas.{IsLaid, total, fits_children, kind_fits, both_none, none_here, none_below, laid_by}

@@ -1,4 +1,4 @@
-use Rattle.std.proofs.Common.{◌≡◌, ◌∙◌, ◌+◌, ap, arith, refl, sym}
+use Rattle.std.proofs.Common.{◌≡◌, ◌∙◌, ◌+◌, arith, refl, sym}
 use Rattle.mp4_box.proofs.HeaderLemmas.{room_of}
 use Rattle.mp4_reading.proofs.PieceLemmas.{GoesOn-none, Takes-ok, Takes-err}
 use Rattle.mp4_items.specs.Commands.{making}

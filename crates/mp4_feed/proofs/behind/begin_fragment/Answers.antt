@@ -1,7 +1,6 @@
-use Rattle.std.proofs.Common.{◌≡◌, ◌∙◌, ◌+◌, ◌<◌, [], Some, ap, arith, refl, sym, subst}
+use Rattle.std.proofs.Common.{◌≡◌, ◌+◌, arith, refl}
 use Rattle.mp4_box.proofs.HeaderLemmas.{need-least, whole_is}
 use Rattle.mp4_reading.proofs.PieceLemmas.{Takes-err, Takes-ok}
-use Rattle.mp4_items.specs.Commands.{making}
 use Rattle.mp4_reading.specs.Pieces.{outside}
 use Rattle.mp4_feed.specs.Places.{Unlent}
 use Rattle.mp4_feed.proofs.BehindLemmas.{GoesOn-fragment_at, Loses-fragment, Refuses-fragment, claims}

@@ -1,4 +1,3 @@
-use Rattle.std.proofs.Common.{sym}
 use Rattle.mp4_reading.proofs.PieceLemmas.{GoesOn-none}
 use Rattle.mp4_feed.proofs.behind.enter.Goals as goal
 

@@ -1,4 +1,4 @@
-use Rattle.std.proofs.Common.{◌≡◌, ℕ, ◌*◌, None, Some, ap, arith, length, sym}
+use Rattle.std.proofs.Common.{◌*◌, None, Some, ap, arith, length}
 use Rattle.mp4_reading.proofs.PieceLemmas.{GoesOn-none, Moves-none}
 use Rattle.mp4_items.specs.Commands.{making}
 use Rattle.mp4_items.specs.Contexts.{table_of}

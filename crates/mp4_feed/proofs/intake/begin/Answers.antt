@@ -1,4 +1,4 @@
-use Rattle.std.proofs.Common.{◌≡◌, ◌∙◌, None, Some, ap, refl, sym, rules}
+use Rattle.std.proofs.Common.{◌∙◌, None, refl, sym, rules}
 use Rattle.mp4_box.specs.declared.rules.Rule.TheVariants.{NoMoov, SecondMoov, StrayMdat}
 use Rattle.mp4_reading.proofs.PieceLemmas.{Takes-ok, Takes-err}
 use Rattle.mp4_items.specs.Commands.{making}

@@ -1,4 +1,4 @@
-use Rattle.std.proofs.Common.{ap, sym, refl, Err}
+use Rattle.std.proofs.Common.{ap, refl, Err}
 use Rattle.mp4_reading.proofs.PieceLemmas.{GoesOn-none, Takes-ok, Takes-err}
 use Rattle.mp4_feed.proofs.HeldLemmas.{when_none}
 use Rattle.mp4_feed.proofs.intake.hold.Goals as goal

@@ -1,7 +1,6 @@
-use Rattle.std.proofs.Common.{◌≡◌, ◌≤◌, ◌<◌, ◌+◌, ap, arith, refl, sym, subst, Err, ◌∙◌}
+use Rattle.std.proofs.Common.{◌<◌, ◌+◌, ap, arith, refl, subst, Err}
 use Rattle.mp4_box.proofs.HeaderLemmas.{whole_is, need-least}
 use Rattle.mp4_box.specs.Headers.{HasRoom}
-use Rattle.mp4_reading.specs.Bodies.{least_end, longest}
 use Rattle.mp4_reading.proofs.AccountLemmas.{within_limit}
 use Rattle.mp4_reading.proofs.PieceLemmas.{Takes-ok, Takes-err}
 use Rattle.mp4_items.specs.Commands.{making}

@@ -1,6 +1,5 @@
-use Rattle.std.proofs.Common.{ap, Err, [], rules}
+use Rattle.std.proofs.Common.{ap, Err}
 use Rattle.mp4_reading.proofs.PieceLemmas.{Takes-behind, Takes-err}
-use Rattle.mp4_items.specs.Commands.{making}
 use Rattle.mp4_feed.proofs.intake.keep_on.Goals as goal
 
 pub returns-in-Ok-clause-takes : goal.returns-in-Ok-clause-takes

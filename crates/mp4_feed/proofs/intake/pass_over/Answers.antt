@@ -1,6 +1,5 @@
-use Rattle.std.proofs.Common.{◌≡◌, ◌≤◌, ◌+◌, [], subst, refl}
+use Rattle.std.proofs.Common.{subst, refl}
 use Rattle.mp4_box.specs.Headers.{HasRoom}
-use Rattle.mp4_reading.proofs.PieceLemmas.{GoesOn-more}
 use Rattle.mp4_items.specs.Commands.{making}
 use Rattle.mp4_feed.proofs.HeadLemmas.{GoesOn-other, GoesOn-other_open, GoesOn-both}
 use Rattle.mp4_feed.proofs.intake.pass_over.Goals as goal

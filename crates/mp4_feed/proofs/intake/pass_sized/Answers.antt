@@ -1,4 +1,4 @@
-use Rattle.std.proofs.Common.{◌≡◌, ◌-◌, ◌+◌, arith}
+use Rattle.std.proofs.Common.{◌-◌, ◌+◌, arith}
 use Rattle.mp4_reading.proofs.PieceLemmas.{GoesOn-none, Moves-none}
 use Rattle.mp4_items.specs.Commands.{making}
 use Rattle.mp4_items.specs.Contexts.{context, table_of}

@@ -3,7 +3,6 @@ use Rattle.mp4_box.specs.Order.{least}
 use Rattle.mp4_frag.specs.Moofs.{early_fault, moof_runs, moof_samples, moof_trafs, time_faults}
 use Rattle.mp4_frag.specs.Runs.{held_at}
 use Rattle.mp4_reading.proofs.AccountLemmas.{within_limit}
-use Rattle.mp4_reading.proofs.HoldingLemmas.{begins_whole}
 use Rattle.mp4_reading.proofs.PieceLemmas.{Takes-ok, Takes-err}
 use Rattle.mp4_items.specs.Commands.{making}
 use Rattle.mp4_reading.specs.Pieces.{outside}

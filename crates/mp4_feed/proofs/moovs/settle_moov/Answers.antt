@@ -1,4 +1,4 @@
-use Rattle.std.proofs.Common.{ap, sym, refl, arith, subst, Err, Ok, ◌∙◌, ◌≡◌, ◌≤◌, ◌+◌, ◌*◌, length, ℕ}
+use Rattle.std.proofs.Common.{ap, refl, Err, ◌∙◌, ◌+◌, ◌*◌, length}
 use Rattle.mp4_init.specs.declared.moov.InitStop.TheVariants as init
 use Rattle.mp4_init.specs.Moovs.{moov_tracks}
 use Rattle.mp4_reading.proofs.HoldingLemmas.{begins_whole}
