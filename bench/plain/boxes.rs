@@ -414,15 +414,19 @@ impl<'a> Iterator for Children<'a> {
     }
 }
 
-/// Checks that the boxes below a container are whole and don't stand too deep.
-fn check_below(payload: &[u8], at: u64, depth: usize) -> Result<(), Stop> {
+/// Checks that the boxes below a container are whole, and keeps the first that stands too deep.
+fn check_below(
+    payload: &[u8],
+    at: u64,
+    depth: usize,
+    deep: &mut Option<Stop>,
+) -> Result<(), Stop> {
     for child in (Children { bytes: payload, at }) {
         let (at, header, payload) = child?;
         if depth > DEEPEST {
-            return Err(Stop::Fault("Depth", Some(header.kind), at));
-        }
-        if header.kind.is_container() {
-            check_below(payload, at + header.len as u64, depth + 1)?;
+            deep.get_or_insert(Stop::Fault("Depth", Some(header.kind), at));
+        } else if header.kind.is_container() {
+            check_below(payload, at + header.len as u64, depth + 1, deep)?;
         }
     }
     Ok(())
@@ -453,7 +457,11 @@ fn list_held<W: Write>(
     header: &Header,
 ) -> Result<(), Stop> {
     let (payload, below) = (&bytes[header.len..], at + header.len as u64);
-    check_below(payload, below, 2)?;
+    let mut deep = None;
+    check_below(payload, below, 2, &mut deep)?;
+    if let Some(deep) = deep {
+        return Err(deep);
+    }
     lines.add(0, at, header)?;
     list_below(lines, payload, below, 1)
 }

@@ -104,7 +104,8 @@ fn note_traf(
     tfhds == 1 && tfdts == 1
 }
 
-/// Notes what is at fault with a child of a moof by itself, and whether a tfdt of it is late. Tells whether it is no traf, or has just one tfhd and one tfdt.
+/// Notes what is at fault with a child of a moof by itself, and whether a tfdt of it is late. Tells whether it is no traf, or
+/// has just one tfhd and one tfdt.
 #[inline]
 #[tactic(auto, unfolding(crate::specs::AtOnce::faults_in_moof, mp4_box::specs::Order::least_from))]
 fn note_in_moof(
