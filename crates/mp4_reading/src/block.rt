@@ -82,7 +82,7 @@ impl Block {
     }
 
     /// Puts a line behind the bytes that wait. Where there may be no room for it, what waits is sent first.
-    #[inline]
+    #[inline(always)]
     pub fn put_line<L: Line, W: Sink>(&mut self, w: &mut W, line: &L) -> Result<(), Failed>
         ensures ok { OnOk result (Passes (W.contents w.old) (W.contents w.new) self.old self.new
             (L.text line.now)) }
@@ -100,7 +100,7 @@ impl Block {
     }
 
     /// Makes room for a line: where there may be none, what waits is sent.
-    #[inline]
+    #[inline(always)]
     fn make_room<W: Sink>(&mut self, w: &mut W) -> Result<(), Failed>
         ensures ok { OnOk result (Passes (W.contents w.old) (W.contents w.new) self.old self.new
             []) }

@@ -39,7 +39,7 @@ impl<'a> Model for BoxLine<'a> {
 impl<'a> Line for BoxLine<'a> {
     ghost text = { λ l. l };
 
-    #[inline]
+    #[inline(always)]
     fn push(&self, block: &mut Text<BLOCK_BYTES>) {
         // All of the indent is one copy of a length that is known.
         let end = block.len() + 2 * self.level as usize;
@@ -50,7 +50,7 @@ impl<'a> Line for BoxLine<'a> {
 }
 
 /// Appends the line of the box with this header that begins at `at`, behind its indent.
-#[inline]
+#[inline(always)]
 #[tactic(auto, unfolding(crate::specs::Listing::box_line))]
 fn push_box(block: &mut Text<BLOCK_BYTES>, at: u64, header: &Header)
     requires { length block.old + LINE_BYTES ≤ BLOCK_BYTES + 14 }
