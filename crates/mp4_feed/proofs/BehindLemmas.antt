@@ -30,7 +30,8 @@ use Rattle.mp4_items.specs.Items.{behind, faulty, media_body, reads_in}
 use Rattle.mp4_items.specs.Kinds.{kind_in}
 use Rattle.mp4_items.specs.Makings.{Fragment, Making, counted_in, fragment_fault, needed_in}
 use Rattle.mp4_feed.specs.Places.{Behind, claim_of, reached_of, reads_at, standing}
-use Rattle.mp4_feed.specs.States.{IsWaiting, claimed_in, fragment_of, in_mdat, known, taken_by}
+use Rattle.mp4_frag.specs.Moofs.{moof_runs}
+use Rattle.mp4_feed.specs.States.{IsWaiting, claimed_in, fragment_of, in_mdat, known, moof_in, taken_by}
 use Rattle.mp4_feed.specs.declared.state.Waiting.{Waiting}
 use Rattle.mp4_feed.proofs.BodyLemmas.{Refuses-back, claimed_apart}
 use Rattle.mp4_feed.proofs.HeldLemmas.{Moves-all_back}
@@ -81,8 +82,17 @@ module _ (make : Making) (o : Outside) (w : Waiting) (tracks : Option (List Trac
       (subst (λ n. Moves o (back_to (back_to o (taken_by (Some w))) (table_of tracks)) n 0 silent) (sym own) (Moves-all_back o (table_of tracks) (taken_by (Some w)) (omega (arith, low, claimed_apart tracks (Some w)))))
       (λ later. ap (then_read (reads_in make)) (behind-bad make (context w.moof.at tracks 1) (known tracks) w.moof.bytes x later len bad) ∙ ap (λ n. refused BadSize (kind_of x) n) ends)
 
+-- of a moof all bytes are there, and a row for each of its runs
+pub record HasRows (tracks : List Track) (w : Waiting) : Type 0 where
+  pub size : length w.moof.bytes ≡ w.moof.size
+  pub len : length w.runs.rows ≡ length (moof_runs (moof_in w) tracks)
+
+-- so it is where one waits
+pub rows_of : (tracks : List Track) (w : Waiting) → IsWaiting (Some tracks) w → HasRows tracks w
+rows_of tracks w i = record { size = i.size; len = i.len }
+
 module _ (command : Command) (o : Outside) (w : Waiting) (tracks : List Track) (h : Header) (x : List ℕ)
-    (i : IsWaiting (Some tracks) w) (len : length x ≡ need x) (is : header_at x ≡ steps.Whole h) (low : claimed_in (Some tracks) (Some w) ≤ o.account.live) where
+    (i : HasRows tracks w) (len : length x ≡ need x) (is : header_at x ≡ steps.Whole h) (low : claimed_in (Some tracks) (Some w) ≤ o.account.live) where
   abbrev pub c : Context
   c = context w.moof.at (Some tracks) 1
 

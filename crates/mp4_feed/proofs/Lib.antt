@@ -7,4 +7,6 @@ pub mod LineLemmas
 pub mod TakeLemmas
 pub mod MediaLemmas
 pub mod BehindLemmas
+pub mod WholeLemmas
+pub mod FragmentLemmas
 pub mod QuietLemmas

@@ -35,7 +35,7 @@ use mp4_ledger::Ledger;
 use mp4_reading::{Block, Stop, refused};
 
 /// Counts a fragment that has so many samples, with so many bytes of media.
-fn count(counter: &mut Counter, samples: u64, bytes: u64)
+pub(crate) fn count(counter: &mut Counter, samples: u64, bytes: u64)
     requires fragments { counter.old.tally.fragments + 1 < 2 ^ 64 }
     requires samples { counter.old.tally.samples + samples < 2 ^ 128 }
     requires media { counter.old.tally.media_bytes + bytes < 2 ^ 64 }

@@ -7,7 +7,7 @@
 //! - [`behind`]: how the header behind a moof is taken; [`second`]: what may stand there, [`measure`]: what its runs come to, and
 //!   [`lines`]: the lines of its samples;
 //! - [`bodies`]: how bodies are passed over, and what is done behind an mdat;
-//! - [`next`] and [`take`]: how bytes are taken from the front of a piece.
+//! - [`next`] and [`take`]: how bytes are taken from the front of a piece; [`whole`]: and a fragment of which the piece has all.
 //!
 //! The definitions: `specs/Places.antt` (where a machine is in a stream, and what that means), `specs/States.antt` (what it
 //! keeps by its place), `specs/Stops.antt` (why it stops at a moov).
@@ -26,5 +26,6 @@ mod next;
 mod second;
 mod state;
 mod take;
+mod whole;
 
 pub use machine::FragmentMachine;

@@ -79,7 +79,7 @@ fn put_rows<W: Sink>(
 }
 
 /// Puts the lines of the samples of a run. `held` are the bytes of its moof.
-fn put_run<W: Sink>(run: &Run, held: &[u8], out: &mut Block, w: &mut W) -> Result<(), Failed>
+pub(crate) fn put_run<W: Sink>(run: &Run, held: &[u8], out: &mut Block, w: &mut W) -> Result<(), Failed>
     requires { IsRunOf held.now run.now }
     ensures ok { OnOk result (Passes (W.contents w.old) (W.contents w.new) out.old out.new
         (sample_lines (samples_of_run held.now run.now))) }

@@ -17,3 +17,4 @@ pub mod MoofListLemmas
 pub mod AfterLemmas
 pub mod SettleLemmas
 pub mod GroupLemmas
+pub mod LoneLemmas

@@ -8,6 +8,7 @@
 //! - [`Moof::list`]: a [`RunList`], its runs in the order in which they are taken, in claimed memory;
 //!   [`RunList::at`] gives one of them, [`RunList::listed`] where it stands, and
 //!   [`Moof::places`]: whether they stand where they may in the [`Payload`] of its mdat;
+//! - [`Moof::lone_run`]: a [`LoneRun`], the run of a moof that has no other, without a list;
 //! - [`laws`]: what the definitions of `specs/` imply.
 //!
 //! Each box that is read has a file here and one in `specs/`, with its fields by the standard's names and where they stand:
@@ -31,6 +32,7 @@ mod fill;
 mod kinds;
 pub mod laws;
 mod listed;
+mod lone;
 mod mfhd;
 mod moof;
 mod part;
@@ -52,6 +54,7 @@ mod times;
 mod traf;
 mod trun;
 
+pub use lone::LoneRun;
 pub use moof::Moof;
 pub use mp4_run_order::{ListedRun, Payload};
 pub use rows::{Cursor, Row, Rows, Steps};

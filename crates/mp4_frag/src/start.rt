@@ -146,7 +146,7 @@ pub(crate) struct RunsOf<'a> {
 
 /// Where the first run of a traf may begin, in the moof that begins at this offset.
 #[inline]
-fn before_runs(time: u64, moof: u64) -> Behind
+pub(crate) fn before_runs(time: u64, moof: u64) -> Behind
     ensures time { result.time ≡ time }
     ensures place { result.place ≡ pos moof }
 {

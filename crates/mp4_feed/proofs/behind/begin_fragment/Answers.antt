@@ -3,7 +3,7 @@ use Rattle.mp4_box.proofs.HeaderLemmas.{need-least, whole_is}
 use Rattle.mp4_reading.proofs.PieceLemmas.{Takes-err, Takes-ok}
 use Rattle.mp4_reading.specs.Pieces.{outside}
 use Rattle.mp4_feed.specs.Places.{Unlent}
-use Rattle.mp4_feed.proofs.BehindLemmas.{GoesOn-fragment_at, Loses-fragment, Refuses-fragment, claims}
+use Rattle.mp4_feed.proofs.BehindLemmas.{GoesOn-fragment_at, Loses-fragment, Refuses-fragment, claims, rows_of}
 use Rattle.mp4_feed.proofs.TakeLemmas.{GoesOn-then}
 use Rattle.mp4_feed.proofs.behind.begin_fragment.Goals as goal
 
@@ -14,7 +14,7 @@ returns-in-Err-clause-takes g c =
     let h = c.args.header.now in
     let x = c.args.head.now in
     let o = outside (g.W.Sink.contents c.args.w.now) c.args.out.now c.args.ledger.now c.args.counter.now.tally in
-    let waits = rw c.in-Some.is at c.requires.waiting in
+    let waits = rows_of list w (rw c.in-Some.is at c.requires.waiting) in
     let low = rw c.in-Some.is at c.requires.claim in
     rw (c.in-Some.is, c.back.ensures)
     (Takes-err (λ more. Refuses-fragment c.args.command o w list h x waits c.requires.len c.requires.is low more c.in-Err.fault (λ later. c.in-Err.ensures.fault c.args.command x later c.requires.len c.requires.is)) (λ is. absurd cc) (λ _. refl))
@@ -32,7 +32,7 @@ returns-in-Ok-tell-clause-takes g c =
     let h = c.args.header.now in
     let x = c.args.head.now in
     let o = outside (g.W.Sink.contents c.args.w.now) c.args.out.now c.args.ledger.now c.args.counter.now.tally in
-    let waits = rw c.in-Some.is at c.requires.waiting in
+    let waits = rows_of list w (rw c.in-Some.is at c.requires.waiting) in
     let low = rw c.in-Some.is at c.requires.claim in
     let told = c.in-Ok-tell.ensures in
     let at : c.offset.result + c.size.result ≡ w.moof.at + w.moof.size = omega (arith, c.offset.ensures.at, c.size.ensures) in
@@ -50,7 +50,7 @@ returns-in-Err-tell-clause-takes g c =
     let h = c.args.header.now in
     let x = c.args.head.now in
     let o = outside (g.W.Sink.contents c.args.w.now) c.args.out.now c.args.ledger.now c.args.counter.now.tally in
-    let waits = rw c.in-Some.is at c.requires.waiting in
+    let waits = rows_of list w (rw c.in-Some.is at c.requires.waiting) in
     let low = rw c.in-Some.is at c.requires.claim in
     let told = c.in-Err-tell.ensures in
     rw (c.in-Some.is, c.back-in-Err-tell.ensures)

@@ -1,0 +1,226 @@
+-- What is known of a fragment of which a piece has all.
+use Rattle.std.proofs.Common.{◌≡◌, ◌∙◌, ℕ, ◌+◌, ◌*◌, ◌<◌, ◌≤◌, ◌^◌, ◌==◌, true, false, not, append-nil, List, [], ◌∷◌, ◌++◌, length, take, drop, Option, None, Some, ap, sym, refl, arith, subst}
+use Rattle.std.proofs.lemmas.List.{length-take-le}
+use Rattle.std.proofs.lemmas.List.Sums.{sum_by-cons}
+use Rattle.std.specs.Prelude.{option_map}
+use Rattle.std.specs.List.{flat_map}
+use Rattle.std.specs.Option.{option_or}
+use Rattle.mp4_ends.specs.Streams.{AppendsPrefix}
+use Rattle.mp4_ledger.specs.Memory.{Account, claimed, given_back}
+use Rattle.mp4_init.specs.Rows.{with_next}
+use Rattle.mp4_box.specs.Headers.{HasRoom, IsBytes, IsWhole, header_at}
+use Rattle.mp4_box.specs.declared.headers.Header.{Header}
+use Rattle.mp4_box.specs.declared.headers.Size.TheVariants.{Exact}
+use Rattle.mp4_box.specs.declared.headers.Step.TheVariants as steps
+use Rattle.mp4_box.proofs.HeaderLemmas.{need-least, room_of, whole_is}
+use Rattle.mp4_init.specs.declared.table.Track.{Track}
+use Rattle.mp4_run_order.specs.declared.runs.ListedRun.{ListedRun}
+use Rattle.mp4_run_order.specs.declared.runs.Payload.{Payload}
+use Rattle.mp4_run_order.specs.Places.{IsOffender, LiesIn, Placed, first_offender}
+use Rattle.mp4_run_order.specs.Takings.{has_samples}
+use Rattle.mp4_run_order.proofs.SearchLemmas.{offender_means}
+use Rattle.mp4_frag.specs.declared.run.Run.{Run}
+use Rattle.mp4_frag.specs.declared.lone.LoneRun.{LoneRun}
+use Rattle.mp4_frag.specs.Moofs.{IsRead, moof_runs, moof_samples, moof_trafs}
+use Rattle.mp4_frag.specs.Settling.{settled}
+use Rattle.mp4_frag.specs.Places.{misplaced, place_fault}
+use Rattle.mp4_run_order.specs.Orders.{taken_by}
+use Rattle.mp4_frag.specs.RunLists.{taken_runs}
+use Rattle.mp4_frag.specs.RunRows.{listed_run}
+use Rattle.mp4_frag.specs.Runs.{Held, held_at}
+use Rattle.mp4_pieces.specs.Pieces.{AreRunsOf, IsRunOf}
+use Rattle.mp4_pieces.proofs.RunLemmas.{runs_are}
+use Rattle.mp4_reading.proofs.HoldingLemmas.{begins_whole}
+use Rattle.mp4_items.specs.Commands.{accepted, making}
+use Rattle.mp4_items.specs.Items.{end_of, fragment, walked}
+use Rattle.mp4_items.specs.Kinds.{most_moof}
+use Rattle.mp4_items.specs.Makings.{Fragment, counted_in, fragment_fault}
+use Rattle.mp4_items.specs.Contexts.{Context, context}
+use Rattle.mp4_items.specs.Samples.{sample_lines, samples_of_run}
+use Rattle.mp4_items.specs.declared.command.Command.{Command}
+use Rattle.mp4_items.specs.declared.command.Command.TheVariants.{Samples}
+use Rattle.mp4_items.specs.declared.kinds.Kind.{Kind}
+use Rattle.mp4_items.specs.declared.kinds.Kind.TheVariants.{Moof, Mdat}
+use Rattle.mp4_reading.specs.Bodies.{longest}
+use Rattle.mp4_reading.specs.Blocks.{Passes}
+use Rattle.mp4_reading.specs.Pieces.{GoesOn, Outside, StopsAt, outside}
+use Rattle.mp4_reading.specs.Readings.{plus}
+use Rattle.mp4_reading.specs.declared.stop.Stop.TheVariants.{Write}
+use Rattle.mp4_reading.specs.declared.tally.Tally.{Tally}
+use Rattle.mp4_feed.specs.Places.{InHeader, standing}
+use Rattle.mp4_feed.specs.States.{IsCounted, listed_by}
+use Rattle.mp4_feed.specs.declared.state.Counter.{Counter}
+use Rattle.mp4_feed.proofs.CountLemmas.{counted_later, counted_moof, counted_told}
+use Rattle.mp4_feed.specs.Wholes.{IsFragment, IsLone, StandsFirst, payload_in}
+use Rattle.mp4_feed.specs.declared.whole.Span.{Span}
+use Rattle.mp4_feed.specs.declared.whole.Whole.{Whole}
+use Rattle.mp4_feed.proofs.MediaLemmas.{AreIn, media_in, media_of}
+use Rattle.mp4_feed.proofs.WholeLemmas.{GoesOn-whole, StopsAt-whole, front_is}
+
+-- ---- a box at the front
+
+module _ (kind : Kind) (at : ℕ) (x : List ℕ) (b : Span) (first : StandsFirst kind at x b) where
+  -- its header has room
+  pub first_fits : b.header_len ≤ b.size
+  first_fits = omega (arith, first.head, subst (λ z. HasRoom z first.header.header_len) first.sized (room_of x first.header first.is))
+
+  module _ (m : List ℕ) (is : m ≡ take b.size x) where
+    pub first_len : length m ≡ b.size
+    first_len = ap length is ∙ length-take-le b.size x first.whole
+
+    -- its bytes begin with its header
+    pub first_is : header_at m ≡ steps.Whole first.header
+    first_is =
+        front_is m x first.header (is ∙ ap (λ n. take n x) (sym first_len)) first.is (omega (arith, first_fits, first.head, first_len)) (omega (arith, first.whole, first_len))
+
+    pub first_whole : IsBytes m → IsWhole m
+    first_whole fits = begins_whole b.size m fits (first.header, first_is, first.sized) first_len
+
+-- ---- a run that is the only one
+
+none_blamed : (o : Option ListedRun) → option_map (λ run. misplaced run.number) o ≡ None → o ≡ None
+none_blamed None e = refl
+none_blamed (Some run) e = absurd cc
+
+module _ (p : Payload) (run : Run) (stands : place_fault p (run ∷ []) ≡ None) where
+  placed : Placed p (listed_run run ∷ [])
+  placed =
+      subst (IsOffender p (listed_run run ∷ [])) (none_blamed (first_offender p (listed_run run ∷ [])) stands) (offender_means p (listed_run run ∷ []) (λ i j d low high. absurd (omega (arith, low, high))))
+
+  lies : has_samples (listed_run run) ≡ true → LiesIn p (listed_run run)
+  lies some = (placed 0 (listed_run run) (omega arith) (λ e. none_has e some)).lies
+    where
+      none_has : (listed_run run).count ≡ 0 → has_samples (listed_run run) ≡ true → ⊥
+      none_has e t = let no : has_samples (listed_run run) ≡ false = ap (λ n. not (n == 0)) e in absurd cc
+
+  -- it has no more bytes than the payload
+  pub lone_fits : (held : List ℕ) (end : ℕ) → p.end ≡ Some end → p.start ≤ end → IsRunOf held run → p.start + run.bytes ≤ end
+  lone_fits held end e room is =
+      let one : AreIn p (run ∷ []) = record { rise = (tt, tt); lie = (lies, tt) } in
+      omega (arith, media_in held p end (run ∷ []) 1 e room one (is, tt), sum_by-cons (λ (r : Run). r.bytes) run [])
+
+-- ---- a fragment
+
+-- samples that were looked at
+walked_more : (t : Tally) (h : Held) (n : ℕ) → n ≡ moof_samples h → record { fragments = t.fragments; samples = t.samples; media_bytes = t.media_bytes; walked = t.walked + n } ≡ plus t (walked h)
+walked_more t h n e =
+    let f : t.fragments ≡ t.fragments + 0 = omega arith in
+    let s : t.samples ≡ t.samples + 0 = omega arith in
+    let m : t.media_bytes ≡ t.media_bytes + 0 = omega arith in
+    ap (λ k. record { fragments = k; samples = t.samples; media_bytes = t.media_bytes; walked = t.walked + n }) f
+    ∙ ap (λ k. record { fragments = t.fragments + 0; samples = k; media_bytes = t.media_bytes; walked = t.walked + n }) s
+    ∙ ap (λ k. record { fragments = t.fragments + 0; samples = t.samples + 0; media_bytes = k; walked = t.walked + n }) m
+    ∙ ap (λ k. record { fragments = t.fragments + 0; samples = t.samples + 0; media_bytes = t.media_bytes + 0; walked = t.walked + k }) e
+
+module _ (h : Held) (tracks : List Track) (p : Payload) (l : LoneRun) (lone : IsLone h tracks p l) where
+  pub one_taken : taken_runs h tracks ≡ l.run ∷ []
+  one_taken = ap (taken_by listed_run) lone.run
+
+  pub lone_is : h.offset ≤ 2 ^ 62 → IsWhole h.bytes → IsBytes h.bytes → IsRunOf h.bytes l.run
+  lone_is near whole fits = (subst (AreRunsOf h.bytes) lone.run (runs_are h tracks near whole fits lone.read)).0 lone.small
+
+  -- its lines are those of the run
+  pub lone_text : (c : Context) (g : Header) → h ≡ (fragment c tracks h.bytes g).moof → (accepted Samples (fragment c tracks h.bytes g)).text ≡ sample_lines (samples_of_run h.bytes l.run)
+  lone_text c g same =
+      let f = fragment c tracks h.bytes g in
+      ap (λ runs. sample_lines (flat_map (samples_of_run h.bytes) runs)) (ap (λ k. taken_runs k tracks) (sym same) ∙ one_taken)
+      ∙ ap sample_lines (append-nil (samples_of_run h.bytes l.run))
+
+module _ (at : ℕ) (tracks : List Track) (piece : List ℕ) (f : Whole) (is : IsFragment at tracks piece f) where
+  pub moof_len : length f.moof.now ≡ is.span.size
+  moof_len = first_len Moof at piece is.span is.moof f.moof.now is.bytes
+
+  pub moof_whole : IsWhole f.moof.now
+  moof_whole = first_whole Moof at piece is.span is.moof f.moof.now is.bytes is.valid
+
+  pub run_is : IsRunOf f.moof.now f.run.run
+  run_is = lone_is (held_at f.moof.now at) tracks (payload_in (at + is.span.size) f.mdat) f.run is.lone (omega (arith, is.moof.near)) moof_whole is.valid
+
+  -- its media lie in its mdat
+  pub media_fits : at + is.span.size + f.run.run.bytes + 8 ≤ at + is.span.size + f.mdat.size
+  media_fits =
+      let room = first_fits Mdat (at + is.span.size) (drop is.span.size piece) f.mdat is.mdat in
+      let w = whole_is (drop is.span.size piece) is.mdat.header is.mdat.is in
+      let last = lone_fits (payload_in (at + is.span.size) f.mdat) f.run.run is.lone.stands f.moof.now (at + is.span.size + f.mdat.size) refl (omega (arith, room)) run_is in
+      omega (arith, last, w.1, need-least (drop is.span.size piece), is.mdat.head)
+
+  pub some_moof : 0 < is.span.size
+  some_moof =
+      let w = whole_is piece is.moof.header is.moof.is in
+      omega (arith, w.1, need-least piece, is.moof.head, first_fits Moof at piece is.span is.moof)
+
+  -- it is counted, and no sample waits
+  pub counted_whole : (command : Command) (c c' : Counter) (n k : ℕ) → IsCounted command c at 0 0 → n ≡ f.run.run.count → k ≡ f.run.run.count
+      → c'.tally ≡ plus (record { fragments = c.tally.fragments; samples = c.tally.samples; media_bytes = c.tally.media_bytes; walked = c.tally.walked + n }) (record { fragments = 1; samples = k; media_bytes = f.run.run.bytes; walked = 0 })
+      → c'.steps.rows ≡ c.steps.rows + 2 * k + listed_by command k → IsCounted command c' (at + length f.moof.now + f.mdat.size) 0 0
+  counted_whole command c c' n k i all one tally rows =
+      let h = held_at f.moof.now at in
+      let few : k ≤ 1000000 = omega (arith, one, run_is.few) in
+      let same : k ≡ moof_samples h = one ∙ is.lone.samples in
+      let c1 : Counter = record { tally = plus c.tally (walked h); steps = record { rows = c.steps.rows + (k + k) } } in
+      let near : at + is.span.size ≤ longest = is.moof.near in
+      let waits : IsCounted command c1 (at + is.span.size) k k = counted_moof command c c1 h at is.span.size (k + k) k i some_moof near (omega (arith, same, few)) refl refl (omega (arith, same)) (omega (arith, same)) in
+      let sum = tally ∙ ap (λ t. plus t (record { fragments = 1; samples = k; media_bytes = f.run.run.bytes; walked = 0 })) (walked_more c.tally h n (all ∙ is.lone.samples)) in
+      let told : IsCounted command c' (at + is.span.size + f.mdat.size) 0 k = counted_told command c1 c' (at + is.span.size) (at + is.span.size + f.mdat.size) k f.run.run.bytes waits few
+      (omega (arith, media_fits), omega (arith, media_fits), omega (arith, is.mdat.near)) sum (omega (arith, rows)) in
+      subst (λ z. IsCounted command c' (at + z + f.mdat.size) 0 0) (sym moof_len) (counted_later command c' (at + is.span.size + f.mdat.size) (at + is.span.size + f.mdat.size) k 0 (omega arith) (omega arith) (omega (arith, is.mdat.near)) told)
+
+  abbrev m : List ℕ
+  m = f.moof.now
+
+  abbrev g : Header
+  g = is.mdat.header
+
+  abbrev n : ℕ
+  n = length f.moof.now + f.mdat.size
+
+  -- as it is told
+  abbrev pub it : Fragment
+  it = fragment (context at (Some tracks) 1) tracks f.moof.now is.mdat.header
+
+  payload_same : it.payload ≡ payload_in (at + is.span.size) f.mdat
+  payload_same =
+      ap (λ k. record { start = at + k + g.header_len; end = end_of (at + k) g.size }) moof_len
+      ∙ ap (λ k. record { start = at + is.span.size + k; end = end_of (at + is.span.size) g.size }) is.mdat.head
+      ∙ ap (λ z. record { start = at + is.span.size + f.mdat.header_len; end = end_of (at + is.span.size) z }) is.mdat.sized
+
+  pub it_is_good : (command : Command) → fragment_fault (making command) it ≡ None
+  it_is_good command =
+      ap (λ o. option_or o None) (ap (λ p. place_fault p (moof_runs (held_at m at) tracks)) payload_same ∙ ap (place_fault (payload_in (at + is.span.size) f.mdat)) is.lone.run ∙ is.lone.stands)
+
+  module _ (command : Command) (o : Outside) (low : 64 * length tracks ≤ o.account.live) (u : Option (List ℕ)) (v : List ℕ) (a : Account) (t : Tally)
+      (account : a ≡ given_back (claimed o.account (length f.moof.now + 64)) (length f.moof.now + 64)) (tally : t ≡ plus (plus o.tally (walked (held_at f.moof.now at))) (counted_in it)) where
+    within : length m ≤ length piece
+    within = omega (arith, moof_len, is.moof.whole)
+
+    front : m ≡ take (length m) piece
+    front = is.bytes ∙ ap (λ k. take k piece) (sym moof_len)
+
+    behind : header_at (drop (length m) piece) ≡ steps.Whole g
+    behind = ap (λ k. header_at (drop k piece)) moof_len ∙ is.mdat.is
+
+    sized : is.moof.header.size ≡ Exact (length m)
+    sized = is.moof.sized ∙ ap Exact (sym moof_len)
+
+    whole : f.mdat.size ≤ length (drop (length m) piece)
+    whole = subst (λ k. f.mdat.size ≤ length (drop k piece)) (sym moof_len) is.mdat.whole
+
+    near : at + length m + f.mdat.size ≤ longest
+    near = omega (arith, moof_len, is.mdat.near)
+
+    most : length m ≤ most_moof
+    most = omega (arith, moof_len, is.most)
+
+    -- it is told
+    pub GoesOn-it : Passes o.written u o.waiting v (accepted command it).text
+        → GoesOn o (outside u v a t) (standing (making command) (InHeader (context at (Some tracks) 1) [])) (take n piece) (standing (making command) (InHeader (context (at + n) (Some (with_next f.run.track f.run.run.end tracks)) 1) []))
+    GoesOn-it passes =
+        let goes = GoesOn-whole command o at tracks piece m is.moof.header g f.mdat.size f.run.run front within is.moof.is is.moof.is_kind sized most is.lone.read is.lone.run behind is.mdat.is_kind is.mdat.sized whole near low u v a t (it_is_good command) account tally passes in
+        let end : at + length m + f.mdat.size ≡ at + n = omega arith in
+        subst (λ ts. GoesOn o (outside u v a t) (standing (making command) (InHeader (context at (Some tracks) 1) [])) (take n piece) (standing (making command) (InHeader (context (at + n) (Some ts) 1) []))) is.lone.ends
+        (subst (λ k. GoesOn o (outside u v a t) (standing (making command) (InHeader (context at (Some tracks) 1) [])) (take n piece) (standing (making command) (InHeader (context k (Some (settled tracks (moof_trafs (held_at m at) tracks))) 1) []))) end goes)
+
+    -- it can't be told
+    pub StopsAt-it : (more : List ℕ) → AppendsPrefix o.written u (o.waiting ++ (accepted command it).text) → StopsAt o (outside u v (given_back a (64 * length tracks)) t) (standing (making command) (InHeader (context at (Some tracks) 1) [])) (piece ++ more) Write
+    StopsAt-it more p =
+        StopsAt-whole command o at tracks piece m is.moof.header g f.mdat.size f.run.run front within is.moof.is is.moof.is_kind sized most is.lone.read is.lone.run behind is.mdat.is_kind is.mdat.sized whole near low u v a t (it_is_good command) account tally more p

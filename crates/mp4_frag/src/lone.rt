@@ -1,0 +1,179 @@
+//! The run of a moof that has no other.
+
+ghost use Rattle.std.specs.Prelude.{◌≡◌, ◌≢◌, ◌+◌, ◌^◌, ◌<◌, ◌≤◌, ◌↔◌, ◌∷◌, ◌==◌, [], length, true, None, IfNone, IfSome, IsSome};
+ghost use Rattle.std.specs.List.{position};
+ghost use Rattle.mp4_box.specs.Headers.{IsWhole};
+ghost use Rattle.mp4_box.specs.Paths.{of_kind};
+ghost use Rattle.mp4_box.specs.Trees.{view};
+ghost use Rattle.mp4_init.specs.Rows.{with_next};
+ghost use Rattle.mp4_run_order.specs.Places.{lies_in};
+ghost use Rattle.mp4_frag.specs.Moofs.{IsRead, moof_runs, moof_samples, moof_trafs};
+ghost use Rattle.mp4_frag.specs.Places.{place_fault};
+ghost use Rattle.mp4_frag.specs.Ranges.{InRange, IsSound};
+ghost use Rattle.mp4_frag.specs.RunLists.{taken_runs};
+ghost use Rattle.mp4_frag.specs.RunRows.{listed_run};
+ghost use Rattle.mp4_frag.specs.Runs.{held_at, runs_of, tfhd_of, traf_of};
+ghost use Rattle.mp4_frag.specs.Settling.{settled};
+ghost use Rattle.mp4_frag.specs.Tfhd.{track_id};
+
+use crate::children::next_of;
+use crate::kinds::{TRAF, TRUN};
+use crate::moof::Moof;
+use crate::rows::Steps;
+use crate::run::Run;
+use crate::runs::run_of;
+use crate::start::{Start, before_runs, start_of};
+use mp4_box::{BoxRef, FourCc, Walk, whole_box};
+use mp4_init::TrackList;
+use mp4_run_order::Payload;
+
+/// The only run of a moof, and where its track stands among the tracks.
+#[derive(Clone, Copy, Debug)]
+pub struct LoneRun {
+    /// The run.
+    pub run: Run,
+    /// The index of its track.
+    pub track: usize,
+}
+
+/// The only box of this type among those that are left; none where there are more, or none at all.
+#[inline(always)]
+fn only_of<'a>(kind: FourCc, mut walk: Walk<'a>) -> Option<BoxRef<'a>>
+    ensures only { IfSome result (λ b. of_kind kind walk.entry ≡ view b ∷ []) }
+    ensures none { IfNone result (length (of_kind kind walk.entry) ≢ 1) }
+{
+    let Some(only) = next_of(kind, &mut walk) else {
+        return None;
+    };
+    match next_of(kind, &mut walk) {
+        Some(_) => None,
+        None => Some(only),
+    }
+}
+
+/// The only run of a traf, in the moof that begins at this offset. Its track is known.
+#[inline(always)]
+fn lone_of<'a>(held: &'a [u8], moof: u64, tracks: &TrackList, traf: &BoxRef<'a>) -> Option<LoneRun>
+    requires sound { IsSound (traf_of (held_at held.now moof) tracks.now
+        (view traf.now)) }
+    requires known { IsSome (position (λ t. t.id == track_id (tfhd_of (view traf.now)))
+        tracks.now) }
+    ensures run { IfSome result (λ l.
+        runs_of (traf_of (held_at held.now moof) tracks.now (view traf.now)) ≡ l.run ∷ []) }
+    ensures range { IfSome result (λ l. InRange l.run) }
+    ensures track { IfSome result (λ l.
+        position (λ t. t.id == track_id (tfhd_of (view traf.now))) tracks.now ≡ Some l.track) }
+    ensures within { IfSome result (λ l. l.track < length tracks.now) }
+    ensures none { IfNone result (length
+        (runs_of (traf_of (held_at held.now moof) tracks.now (view traf.now))) ≢ 1) }
+{
+    let start = start_of(held, moof, tracks, traf);
+    let Start {
+        context,
+        time,
+        track,
+        tfhd: _,
+        rest,
+    } = start;
+    let Some(trun) = only_of(TRUN, rest) else {
+        return None;
+    };
+    let Some(track) = track else {
+        unreachable!();
+    };
+    let behind = before_runs(time, moof);
+    Some(LoneRun {
+        run: run_of(&context, &behind, &trun),
+        track,
+    })
+}
+
+/// The only run of the moof that the bytes are, which begin at this offset: of its only traf.
+#[inline(always)]
+fn lone_in(held: &[u8], offset: u64, tracks: &TrackList) -> Option<LoneRun>
+    requires whole { IsWhole held.now }
+    requires room { offset + length held.now ≤ 2 ^ 62 }
+    requires read { IsRead (held_at held.now offset) tracks.now }
+    ensures traf { IfSome result (λ _.
+        length (moof_trafs (held_at held.now offset) tracks.now) ≡ 1) }
+    ensures run { IfSome result (λ l.
+        moof_runs (held_at held.now offset) tracks.now ≡ l.run ∷ []) }
+    ensures range { IfSome result (λ l. InRange l.run) }
+    ensures samples { IfSome result (λ l. l.run.count ≡ moof_samples (held_at held.now offset)) }
+    ensures known { IfSome result (λ l. l.track < length tracks.now) }
+    ensures ends { IfSome result (λ l.
+        settled tracks.now (moof_trafs (held_at held.now offset) tracks.now) ≡
+        with_next l.track l.run.end tracks.now) }
+    ensures none { length (moof_trafs (held_at held.now offset) tracks.now) ≡ 1 →
+        length (moof_runs (held_at held.now offset) tracks.now) ≡ 1 → IsSome result }
+{
+    let moof = whole_box(held, offset);
+    let Some(traf) = only_of(TRAF, Walk::of(&moof)) else {
+        return None;
+    };
+    lone_of(held, offset, tracks, &traf)
+}
+
+impl<'a> Moof<'a> {
+    /// The run of a moof that has one traf, with one trun in it; none where it has others. `tracks` are those that it
+    /// was read with. Its samples are counted in `steps` as rows that were read; where there is no such run, no row is
+    /// read.
+    pub fn lone_run(&self, tracks: &TrackList, steps: &mut Steps) -> Option<LoneRun>
+        requires read { IsRead self.now tracks.now }
+        requires steps { steps.old.rows < 2 ^ 127 }
+        ensures traf { IfSome result (λ _. length (moof_trafs self.now tracks.now) ≡ 1) }
+        ensures run { IfSome result (λ l. moof_runs self.now tracks.now ≡ l.run ∷ []) }
+        ensures taken { IfSome result (λ l. taken_runs self.now tracks.now ≡ l.run ∷ []) }
+        ensures range { IfSome result (λ l. InRange l.run) }
+        ensures samples { IfSome result (λ l. l.run.count ≡ moof_samples self.now) }
+        ensures known { IfSome result (λ l. l.track < length tracks.now) }
+        ensures ends { IfSome result (λ l. settled tracks.now (moof_trafs self.now tracks.now) ≡
+            with_next l.track l.run.end tracks.now) }
+        ensures none { length (moof_trafs self.now tracks.now) ≡ 1 →
+            length (moof_runs self.now tracks.now) ≡ 1 → IsSome result }
+        ensures walked { IfSome result (λ _. steps.new.rows ≡
+            steps.old.rows + moof_samples self.now) }
+        ensures unwalked { result ≡ None → steps.new ≡ steps.old }
+    {
+        let Some(lone) = lone_in(self.held, self.offset, tracks) else {
+            return None;
+        };
+        steps.rows += u128::from(lone.run.count);
+        Some(lone)
+    }
+}
+
+/// Whether a run lies in a payload: from its first byte on, and up to its end, where it has one.
+#[inline(always)]
+fn lies_in(run: &Run, payload: Payload) -> bool
+    ensures { result ≡ lies_in payload (listed_run run.now) }
+{
+    if run.place < i128::from(payload.start) {
+        return false;
+    }
+    match payload.end {
+        None => true,
+        Some(end) => run.place <= i128::from(end) - i128::from(run.bytes),
+    }
+}
+
+impl LoneRun {
+    /// Whether the run stands where it may in the payload of its mdat, being the only one of its moof: it has no
+    /// samples, or lies in the payload.
+    #[inline]
+    pub fn stands_in(&self, payload: Payload) -> bool
+        ensures { (result ≡ true) ↔ (place_fault payload (self.now.run ∷ []) ≡ None) }
+    {
+        self.run.count == 0 || lies_in(&self.run, payload)
+    }
+
+    /// Sets where its track ends behind the moof: where the run does. `tracks` are those that the moof was read with. No
+    /// row is read.
+    pub fn settle(&self, tracks: &mut TrackList)
+        requires { self.now.track < length tracks.old }
+        ensures tracks { tracks.new ≡ with_next self.now.track self.now.run.end tracks.old }
+        ensures len { length tracks.new ≡ length tracks.old }
+    {
+        tracks.set_next(self.track, self.run.end);
+    }
+}
