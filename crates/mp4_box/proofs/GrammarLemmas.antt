@@ -32,7 +32,7 @@ pub record Stands (o : ℕ) (x : List ℕ) (b : Box) : Type 0 where
 some_is : (a b : Box) → Some a ≡ Some b → a ≡ b
 some_is a b e = cc
 
-cond_some : (t : Bool) (a b : Box) → cond t None (Some a) ≡ Some b → (t ≡ false) × (a ≡ b)
+pub cond_some : (t : Bool) (a b : Box) → cond t None (Some a) ≡ Some b → (t ≡ false) × (a ≡ b)
 cond_some true a b e = absurd cc
 cond_some false a b e = (refl, cc)
 

@@ -8,3 +8,4 @@ pub mod TreeOrderLemmas
 pub mod PathLemmas
 pub mod CheckLemmas
 pub mod SizeLemmas
+pub mod FilledLemmas

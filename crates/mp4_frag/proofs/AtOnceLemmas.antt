@@ -17,7 +17,7 @@ use Rattle.mp4_box.proofs.OrderLemmas.{least-none}
 use Rattle.mp4_box.specs.Paths.{at_path, of_kind}
 use Rattle.mp4_box.specs.Trees.{Box, children, first_of}
 use Rattle.mp4_init.specs.declared.table.Track.{Track}
-use Rattle.mp4_frag.specs.AtOnce.{HasTicks, TrafHasTicks, by_moof, by_traf, faults_in_moof, faults_in_traf, has_both, has_one, is_early, is_kind, passed_over, times_early}
+use Rattle.mp4_frag.specs.AtOnce.{HasTicks, IsComplete, TrafHasTicks, by_moof, by_traf, faults_in_moof, faults_in_traf, has_both, has_one, is_complete, is_filled, is_kind, passed_over}
 use Rattle.mp4_frag.specs.Kinds.{mfhd, traf, tfhd, tfdt, trun, free, skip}
 use Rattle.mp4_frag.specs.Mfhd.{mfhd_len}
 use Rattle.mp4_frag.specs.Moofs.{value_faults}
@@ -31,31 +31,25 @@ and_true : (a x : Bool) → (a && x) ≡ ((a && true) && x)
 and_true true x = refl
 and_true false x = refl
 
+pub both_true : (a b : Bool) → a && b ≡ true → (a ≡ true) × (b ≡ true)
+both_true true b e = (refl, e)
+both_true false b e = absurd cc
+
+true_both : (a b : Bool) → a ≡ true → b ≡ true → a && b ≡ true
+true_both a b e f = ap (λ (u : Bool). u && b) e ∙ f
+
 -- the first child, and then the others
-pub both_first : (b : Box) (bs : List Box) → list_all has_both (of_kind traf (b ∷ bs)) ≡ (list_all has_both (of_kind traf (b ∷ [])) && list_all has_both (of_kind traf bs))
-both_first b bs = by (is_kind traf b) refl
+pub complete_first : (b : Box) (bs : List Box) → list_all is_complete (of_kind traf (b ∷ bs)) ≡ (list_all is_complete (of_kind traf (b ∷ [])) && list_all is_complete (of_kind traf bs))
+complete_first b bs = by (is_kind traf b) refl
   where
-    by : (u : Bool) → is_kind traf b ≡ u → list_all has_both (of_kind traf (b ∷ bs)) ≡ (list_all has_both (of_kind traf (b ∷ [])) && list_all has_both (of_kind traf bs))
-    by true is = rw is (and_true (has_both b) (list_all has_both (of_kind traf bs)))
+    by : (u : Bool) → is_kind traf b ≡ u → list_all is_complete (of_kind traf (b ∷ bs)) ≡ (list_all is_complete (of_kind traf (b ∷ [])) && list_all is_complete (of_kind traf bs))
+    by true is = rw is (and_true (is_complete b) (list_all is_complete (of_kind traf bs)))
     by false is = rw is refl
 
--- ---- early times
+pub complete_more : (b : Box) (bs : List Box) → list_all is_complete (of_kind traf (b ∷ [])) ≡ true → list_all is_complete (of_kind traf bs) ≡ true → list_all is_complete (of_kind traf (b ∷ bs)) ≡ true
+complete_more b bs here rest = complete_first b bs ∙ true_both (list_all is_complete (of_kind traf (b ∷ []))) (list_all is_complete (of_kind traf bs)) here rest
 
-and_assoc : (a b c : Bool) → (a && (b && c)) ≡ ((a && b) && c)
-and_assoc true b c = refl
-and_assoc false b c = refl
-
--- a tfdt, and then the others
-pub early_first : (early : Bool) (b : Box) (bs : List Box) → is_kind tfdt b ≡ true → (early && list_all is_early (of_kind tfdt (b ∷ bs))) ≡ ((early && is_early b) && list_all is_early (of_kind tfdt bs))
-early_first early b bs is = rw is (and_assoc early (is_early b) (list_all is_early (of_kind tfdt bs)))
-
--- the first child, and then the others
-pub times_first : (early : Bool) (b : Box) (bs : List Box) → (early && list_all times_early (of_kind traf (b ∷ bs))) ≡ ((early && list_all times_early (of_kind traf (b ∷ []))) && list_all times_early (of_kind traf bs))
-times_first early b bs = by (is_kind traf b) refl
-  where
-    by : (u : Bool) → is_kind traf b ≡ u → (early && list_all times_early (of_kind traf (b ∷ bs))) ≡ ((early && list_all times_early (of_kind traf (b ∷ []))) && list_all times_early (of_kind traf bs))
-    by true is = rw is (ap (λ (u : Bool). early && u) (and_true (times_early b) (list_all times_early (of_kind traf bs))) ∙ and_assoc early (times_early b && true) (list_all times_early (of_kind traf bs)))
-    by false is = rw is (and_assoc early true (list_all times_early (of_kind traf bs)))
+-- ---- default durations
 
 pub ticks_first : (tracks : List Track) (b : Box) (bs : List Box) → (is_kind tfhd b ≡ true → HasTicks tracks b) → AllByRecursion (HasTicks tracks) (of_kind tfhd bs) → AllByRecursion (HasTicks tracks) (of_kind tfhd (b ∷ bs))
 ticks_first tracks b bs here rest = by (is_kind tfhd b) refl
@@ -73,12 +67,8 @@ trafs_first tracks b bs here rest = by (is_kind traf b) refl here
 
 -- ---- of lists in which nothing is at fault
 
-both_true : (a b : Bool) → a && b ≡ true → (a ≡ true) × (b ≡ true)
-both_true true b e = (refl, e)
-both_true false b e = absurd cc
-
 -- what is asked of each
-each_none : (f g : Box → List Fault) → ((b : Box) → f b ≡ [] → g b ≡ []) → (bs : List Box) → flat_map f bs ≡ [] → flat_map g bs ≡ []
+pub each_none : (f g : Box → List Fault) → ((b : Box) → f b ≡ [] → g b ≡ []) → (bs : List Box) → flat_map f bs ≡ [] → flat_map g bs ≡ []
 each_none f g h [] e = refl
 each_none f g h (b ∷ bs) e =
     let parts = last_none (f b) (flat_map f bs) e in
@@ -133,13 +123,13 @@ in_traf_by tracks b false false false true s e = refl
 in_traf_by tracks b false false false false true e = refl
 in_traf_by tracks b false false false false false e = absurd cc
 
-supported_in_traf : (tracks : List Track) (b : Box) → faults_in_traf tracks b ≡ [] → unsupported (tfhd ∷ tfdt ∷ trun ∷ free ∷ skip ∷ []) b ≡ []
+pub supported_in_traf : (tracks : List Track) (b : Box) → faults_in_traf tracks b ≡ [] → unsupported (tfhd ∷ tfdt ∷ trun ∷ free ∷ skip ∷ []) b ≡ []
 unfolding faults_in_traf
 supported_in_traf tracks b e = in_traf_by tracks b (is_kind trun b) (is_kind tfhd b) (is_kind tfdt b) (is_kind free b) (is_kind skip b) e
 
 -- ---- of a child of a moof
 
-traf_is : (tracks : List Track) (b : Box) → is_kind traf b ≡ true → faults_in_moof tracks b ≡ [] → flat_map (faults_in_traf tracks) (children b) ≡ []
+pub traf_is : (tracks : List Track) (b : Box) → is_kind traf b ≡ true → faults_in_moof tracks b ≡ [] → flat_map (faults_in_traf tracks) (children b) ≡ []
 unfolding faults_in_moof
 traf_is tracks b is e = ap (λ (u : Bool). by_moof tracks b u (is_kind mfhd b) (passed_over (is_kind free b) (is_kind skip b) b)) (sym is) ∙ e
 
@@ -259,20 +249,26 @@ no_best (Some f) e = absurd cc
 
 pub record Passed (tracks : List Track) (m : Box) : Type 0 where
   pub none : flat_map (faults_in_moof tracks) (children m) ≡ []
-  pub mfhds : has_one mfhd m ≡ true
-  pub both : list_all has_both (of_kind traf (children m)) ≡ true
+  pub complete : IsComplete m
 
-pub passed : (tracks : List Track) (m : Box) (best : Option Fault) (told : Bool) → best ≡ least_from None (flat_map (faults_in_moof tracks) (children m)) → is_some best ≡ false
-    → told ≡ (has_one mfhd m && list_all has_both (of_kind traf (children m))) → told ≡ true → Passed tracks m
-passed tracks m best told e none is sure =
-    let parts = both_true (has_one mfhd m) (list_all has_both (of_kind traf (children m))) (sym is ∙ sure) in
-    record { none = least-none (flat_map (faults_in_moof tracks) (children m)) (sym e ∙ no_best best none); mfhds = parts.0; both = parts.1 }
+pub passed : (tracks : List Track) (m : Box) (best : Option Fault) → best ≡ least_from None (flat_map (faults_in_moof tracks) (children m)) → is_some best ≡ false → IsComplete m → Passed tracks m
+passed tracks m best e none complete = record { none = least-none (flat_map (faults_in_moof tracks) (children m)) (sym e ∙ no_best best none); complete = complete }
+
+-- so each traf has its tfhd and its tfdt
+each_both : (ts : List Box) → list_all is_complete ts ≡ true → list_all has_both ts ≡ true
+each_both [] e = refl
+each_both (t ∷ ts) e =
+    let parts = both_true (is_complete t) (list_all is_complete ts) e in
+    true_both (has_both t) (list_all has_both ts) (both_true (has_both t) (is_filled t) parts.0).0 (each_both ts parts.1)
+
+pub passed_both : (tracks : List Track) (m : Box) → Passed tracks m → list_all has_both (of_kind traf (children m)) ≡ true
+passed_both tracks m p = each_both (of_kind traf (children m)) p.complete.trafs
 
 pub no_forms : (tracks : List Track) (m : Box) → Passed tracks m → form_faults m ≡ []
-no_forms tracks m p = forms_none tracks m p.none p.mfhds p.both
+no_forms tracks m p = forms_none tracks m p.none p.complete.mfhds (passed_both tracks m p)
 
 pub no_values : (tracks : List Track) (m : Box) → Passed tracks m → count_faults m ≡ [] → value_faults tracks m ≡ []
-no_values tracks m p count = values_none tracks m p.none p.both count
+no_values tracks m p count = values_none tracks m p.none (passed_both tracks m p) count
 
 pub none_least : (fs gs : List Fault) → fs ≡ [] → gs ≡ [] → None ≡ option_or (least fs) (least gs)
 unfolding least_from

@@ -100,6 +100,9 @@ early_in_time h tracks m whole fits here is count early =
 
 -- ---- where nothing else is at fault
 
+pub values_count : (tracks : List Track) (m : Box) → value_faults tracks m ≡ [] → count_faults m ≡ []
+values_count tracks m none = (values tracks m none).count
+
 pub content_count : (tracks : List Track) (m : Box) → None ≡ option_or (least (form_faults m)) (least (value_faults tracks m)) → count_faults m ≡ []
 content_count tracks m e = (values tracks m (least-none (value_faults tracks m) (both_none (least (form_faults m)) (least (value_faults tracks m)) (sym e)).1)).count
 

@@ -4,6 +4,8 @@ pub mod RowLemmas
 pub mod TimeLemmas
 pub mod MoofLemmas
 pub mod AtOnceLemmas
+pub mod AddLemmas
+pub mod PassTreeLemmas
 pub mod BoxOrderLemmas
 pub mod RunRowLemmas
 pub mod RunListLemmas

@@ -172,7 +172,7 @@ early_least h tracks f good e = sound_least h tracks f (verdict_ok (tree_faults 
 pub late_least : (h : Held) (tracks : List Track) (f : Fault) → early_fault h tracks ≡ None → least (time_faults (moof_trafs h tracks)) ≡ Some f → IsLeast f (moof_faults h tracks)
 late_least h tracks f none e = sound_least h tracks f (early h tracks none).tree (ap (λ (o : Option Fault). option_or o (least (time_faults (moof_trafs h tracks)))) none ∙ e)
 
-early_is : (h : Held) (tracks : List Track) (m : Box) (o : Option Fault) → moof_of h ≡ m → verdict (tree_faults h.offset h.bytes) ≡ Ok tt → o ≡ option_or (least (form_faults m)) (least (value_faults tracks m)) → o ≡ early_fault h tracks
+pub early_is : (h : Held) (tracks : List Track) (m : Box) (o : Option Fault) → moof_of h ≡ m → verdict (tree_faults h.offset h.bytes) ≡ Ok tt → o ≡ option_or (least (form_faults m)) (least (value_faults tracks m)) → o ≡ early_fault h tracks
 unfolding early_fault
 early_is h tracks m o is good e =
     e

@@ -1,6 +1,6 @@
 -- What one pass over a moof finds: what is at fault with each box by itself, and whether its times are early.
-use Rattle.std.specs.Prelude.{◌≡◌, Bool, true, List, [], ◌∷◌, ◌++◌, ◌==◌, ◌&&◌, ◌<◌, ◌^◌, nat_lt, Option, Some, None, Result, Ok, Err, if◌then◌else◌, length}
-use Rattle.std.specs.List.{AllByRecursion, flat_map, list_all}
+use Rattle.std.specs.Prelude.{◌≡◌, ◌+◌, ◌-◌, ℕ, Bool, true, List, [], ◌∷◌, ◌++◌, ◌==◌, ◌&&◌, ◌<◌, ◌^◌, nat_lt, Option, Some, None, Result, Ok, Err, if◌then◌else◌, length}
+use Rattle.std.specs.List.{AllByRecursion, flat_map, list_all, sum_by}
 use Rattle.std.specs.Str.{bytes_eq}
 use Rattle.mp4_box.specs.declared.headers.FourCc.{FourCc}
 use Rattle.mp4_box.specs.declared.rules.Fault.{Fault}
@@ -8,12 +8,12 @@ use Rattle.mp4_box.specs.declared.rules.Rule.TheVariants.{Unsupported}
 use Rattle.mp4_box.specs.declared.checks.Layout.TheVariants.{Exactly}
 use Rattle.mp4_box.specs.Checks.{laid_out}
 use Rattle.mp4_box.specs.Paths.{of_kind}
-use Rattle.mp4_box.specs.Trees.{Box, children, fault_at}
+use Rattle.mp4_box.specs.Trees.{Box, box_len, children, fault_at}
 use Rattle.mp4_init.specs.declared.table.Track.{Track}
 use Rattle.mp4_frag.specs.declared.at_once.Sound.{Sound}
 use Rattle.mp4_frag.specs.Kinds.{mfhd, traf, tfhd, tfdt, trun, free, skip}
 use Rattle.mp4_frag.specs.Mfhd.{mfhd_len}
-use Rattle.mp4_frag.specs.Rules.{tfhd_faults, tfhd_length, trun_faults, trun_length}
+use Rattle.mp4_frag.specs.Rules.{samples_in, tfhd_faults, tfhd_length, trun_faults, trun_length}
 use Rattle.mp4_frag.specs.Runs.{known_track}
 use Rattle.mp4_frag.specs.Tfdt.{base_media_decode_time, tfdt_layout}
 use Rattle.mp4_frag.specs.Tfhd.{track_id}
@@ -54,6 +54,24 @@ has_one kind b = length (of_kind kind (children b)) == 1
 abbrev pub has_both : Box → Bool
 has_both t = has_one tfhd t && has_one tfdt t
 
+-- the boxes in the payload take all of it
+abbrev pub is_filled : Box → Bool
+is_filled b = sum_by box_len (children b) == length b.payload
+
+-- such a traf whose boxes take all of it
+abbrev pub is_complete : Box → Bool
+is_complete t = has_both t && is_filled t
+
+-- the children of the trafs among these
+abbrev pub in_trafs : List Box → List Box
+in_trafs bs = flat_map children (of_kind traf bs)
+
+-- just one mfhd, no rest, and the like in each traf
+pub record IsComplete (m : Box) : Type 0 where
+  pub mfhds : has_one mfhd m ≡ true
+  pub filled : is_filled m ≡ true
+  pub trafs : list_all is_complete (of_kind traf (children m)) ≡ true
+
 -- ---- times so early that no run ends past 64 bits
 
 -- a tfdt with a time below 2^63
@@ -77,6 +95,24 @@ pub record IsEarly (tracks : List Track) (m : Box) : Type 0 where
   pub both : list_all has_both (of_kind traf (children m)) ≡ true
   pub times : list_all times_early (of_kind traf (children m)) ≡ true
   pub ticks : AllByRecursion (TrafHasTicks tracks) (of_kind traf (children m))
+
+-- ---- what is counted
+
+-- a count that stays at the most that it can hold: below that it is the sum of the old one and of what is added
+abbrev pub IsCount : ℕ → ℕ → ℕ → ℕ → Type 0
+IsCount most old more new = new < most → new ≡ old + more
+
+abbrev pub most_32 : ℕ
+most_32 = 2 ^ 32 - 1
+
+abbrev pub most_64 : ℕ
+most_64 = 2 ^ 64 - 1
+
+-- what these children of trafs add to what is told of the moof
+pub record Adds (bs : List Box) (old new : Sound) : Type 0 where
+  pub samples : IsCount most_32 old.samples (samples_in (of_kind trun bs)) new.samples
+  pub truns : IsCount most_64 old.truns (length (of_kind trun bs)) new.truns
+  pub early : new.is_early ≡ (old.is_early && list_all is_early (of_kind tfdt bs))
 
 -- ---- what is told of a moof
 

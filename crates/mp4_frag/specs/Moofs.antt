@@ -1,5 +1,5 @@
 -- What a moof comes to: its trafs, its runs and its samples, or its fault.
-use Rattle.std.specs.Prelude.{◌≡◌, ℕ, List, [], ◌∷◌, ◌++◌, ◌^◌, nat_lt, if◌then◌else◌, Option, Some, None}
+use Rattle.std.specs.Prelude.{◌≡◌, ℕ, List, [], ◌∷◌, ◌++◌, ◌^◌, nat_lt, if◌then◌else◌, Option, Some, None, length}
 use Rattle.std.specs.List.{flat_map}
 use Rattle.std.specs.Option.{option_or, unwrap_or}
 use Rattle.mp4_box.specs.declared.headers.Size.TheVariants.{ToEnd}
@@ -7,6 +7,7 @@ use Rattle.mp4_box.specs.declared.rules.Fault.{Fault}
 use Rattle.mp4_box.specs.declared.rules.Rule.TheVariants.{TimeRange}
 use Rattle.mp4_box.specs.Checks.{along}
 use Rattle.mp4_box.specs.Order.{least}
+use Rattle.mp4_box.specs.Paths.{at_path}
 use Rattle.mp4_box.specs.Trees.{Box, box_at, children, tree_faults, verdict}
 use Rattle.mp4_init.specs.declared.table.Track.{Track}
 use Rattle.mp4_init.specs.Moovs.{fault_of, or_else}
@@ -35,6 +36,10 @@ moof_runs h tracks = flat_map runs_of (moof_trafs h tracks)
 -- how many samples it has
 abbrev pub moof_samples : Held → ℕ
 moof_samples h = samples_of (moof_of h)
+
+-- how many truns it has
+abbrev pub moof_truns : Held → ℕ
+moof_truns h = length (at_path to_trun (moof_of h))
 
 -- ---- its fault
 

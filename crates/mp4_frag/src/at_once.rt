@@ -3,22 +3,23 @@
 //! The rules are searched one by one, each with a pass of its own, so that of several faults the first is told. Nearly every
 //! moof has none, and one pass says so.
 
-ghost use Rattle.std.specs.Prelude.{◌≡◌, ◌≤◌, ◌∷◌, ◌&&◌, [], true, IfSome, IsSome};
+ghost use Rattle.std.specs.Prelude.{◌≡◌, ◌≤◌, ◌∷◌, [], length, true, IfSome, IsSome, IsTrue};
 ghost use Rattle.std.specs.List.{AllByRecursion, flat_map, list_all};
 ghost use Rattle.mp4_box.specs.Order.{least_from};
-ghost use Rattle.mp4_box.specs.Paths.{of_kind};
-ghost use Rattle.mp4_box.specs.Trees.{children, view};
-ghost use Rattle.mp4_frag.specs.AtOnce.{HasTicks, IsEarly, TrafHasTicks, faults_in_moof, faults_in_traf, has_both, has_one, is_early, is_kind, passed_over, times_early};
-ghost use Rattle.mp4_frag.specs.Kinds.{free, mfhd, skip, tfhd, traf};
+ghost use Rattle.mp4_box.specs.Paths.{at_path, of_kind};
+ghost use Rattle.mp4_box.specs.Trees.{box_faults, box_len, children, view};
+ghost use Rattle.mp4_frag.specs.AtOnce.{Adds, HasTicks, IsComplete, IsCount, IsEarly, TrafHasTicks, faults_in_moof, faults_in_traf, in_trafs, is_complete, is_early, is_kind, most_32, most_64, passed_over};
+ghost use Rattle.mp4_frag.specs.Kinds.{free, skip, tfdt, tfhd, to_trun, traf, trun};
 ghost use Rattle.mp4_frag.specs.Moofs.{value_faults};
-ghost use Rattle.mp4_frag.specs.Rules.{form_faults, most_samples, samples_of};
+ghost use Rattle.mp4_frag.specs.Rules.{form_faults, most_samples, samples_in, samples_of};
 
 use crate::checks::{FlagsOnce, TfhdLength, TrunLength, note_tfhd};
-use crate::counts::count_samples;
+use crate::counts::MOST_SAMPLES;
 use crate::kinds::{FREE, MFHD, SKIP, TFDT, TFHD, TRAF, TRUN};
 use crate::mfhd::MFHD_LEN;
 use crate::tfdt::{LONG_TFDT_LEN, TFDT_LEN, base_media_decode_time};
-use mp4_box::{BoxRef, Check, Fault, Layout, Rule, Walk, note};
+use crate::trun::sample_count;
+use mp4_box::{BoxRef, Check, Fault, FourCc, Layout, Rule, Walk, note};
 use mp4_init::TrackList;
 
 /// What is told of a moof in which nothing is at fault with its boxes and their values.
@@ -26,12 +27,17 @@ use mp4_init::TrackList;
 pub(crate) struct Sound {
     /// How many samples it has.
     pub(crate) samples: u32,
+    /// How many truns it has.
+    pub(crate) truns: u64,
     /// Whether its times are so early that none of its runs ends past 64 bits.
     pub(crate) is_early: bool,
 }
 
 /// A moof has so few samples that a traf which begins before this time ends within 64 bits.
 const LATE: u64 = 1 << 63;
+
+/// The bytes of a moof have room for so many truns at most.
+const MOST_TRUNS: u64 = 1 << 62;
 
 /// Notes a box that may not stand where it does.
 #[inline]
@@ -74,54 +80,105 @@ fn is_early(tfdt: &BoxRef<'_>) -> bool
     base_media_decode_time(tfdt.payload) < LATE
 }
 
-/// Notes what is at fault with each child of a traf by itself, and whether a tfdt is late. Tells whether it has just one tfhd
-/// and one tfdt.
-#[tactic(auto, using(mp4_box::proofs::OrderLemmas::least_from_append, crate::proofs::AtOnceLemmas::early_first, crate::proofs::AtOnceLemmas::ticks_first), unfolding(mp4_box::specs::Order::least_from))]
+/// Adds the bytes of a box to those before it.
+#[inline(always)]
+fn add_len(this: &BoxRef<'_>, len: &mut u64)
+    ensures { IsCount most_64 len.old (box_len (view this.now)) len.new }
+{
+    *len = len.saturating_add(this.header.header_len + this.payload.len() as u64);
+}
+
+/// Counts a box of this type.
+#[inline(always)]
+fn count_kind(kind: FourCc, this: &BoxRef<'_>, count: &mut u64)
+    ensures { IsCount most_64 count.old (length (of_kind kind (view this.now ∷ []))) count.new }
+{
+    if this.header.kind.is(kind) {
+        *count = count.saturating_add(1);
+    }
+}
+
+/// Counts the samples of a trun.
+#[inline(always)]
+fn count_samples_of(this: &BoxRef<'_>, count: &mut u32)
+    ensures { IsCount most_32 count.old (samples_in (of_kind trun (view this.now ∷ []))) count.new }
+{
+    if this.header.kind.is(TRUN) {
+        *count = count.saturating_add(sample_count(this.payload));
+    }
+}
+
+/// Whether a child of a traf is no tfdt, or has an early time.
+#[inline(always)]
+fn is_in_time(child: &BoxRef<'_>) -> bool
+    ensures { result ≡ list_all is_early (of_kind tfdt (view child.now ∷ [])) }
+{
+    !child.header.kind.is(TFDT) || is_early(child)
+}
+
+/// Adds what a child of a traf says to what is told of the moof.
+#[inline(always)]
+fn add_child(child: &BoxRef<'_>, sound: &mut Sound)
+    ensures { Adds (view child.now ∷ []) sound.old sound.new }
+{
+    count_samples_of(child, &mut sound.samples);
+    count_kind(TRUN, child, &mut sound.truns);
+    sound.is_early = sound.is_early && is_in_time(child);
+}
+
+/// Whether all three hold.
+#[inline(always)]
+fn all_hold(first: bool, second: bool, third: bool) -> bool
+    ensures { IsTrue result → (first ≡ true) × (second ≡ true) × (third ≡ true) }
+{
+    first && second && third
+}
+
+/// Notes what is at fault with each child of a traf by itself, and adds what it says to what is told. Where it has just one tfhd
+/// and one tfdt, and no rest, it tells so.
 fn note_traf(
     tracks: &TrackList,
     traf: &BoxRef<'_>,
     best: &mut Option<Fault>,
-    early: &mut bool,
+    sound: &mut Sound,
 ) -> bool
     ensures best { best.new ≡ least_from best.old
         (flat_map (faults_in_traf tracks.now) (children (view traf.now))) }
-    ensures both { result ≡ has_both (view traf.now) }
-    ensures early { early.new ≡ (early.old && times_early (view traf.now)) }
+    ensures complete { IsTrue result → is_complete (view traf.now) ≡ true }
+    ensures adds { Adds (children (view traf.now)) sound.old sound.new }
     ensures ticks { TrafHasTicks tracks.now (view traf.now) }
 {
-    let mut tfhds: u64 = 0;
-    let mut tfdts: u64 = 0;
+    let mut tfhds = 0;
+    let mut tfdts = 0;
+    let mut len = 0;
     for child in Walk::of(traf) {
         note_in_traf(tracks, &child, best);
-        if child.header.kind.is(TFHD) {
-            tfhds += 1;
-        }
-        if child.header.kind.is(TFDT) {
-            tfdts += 1;
-            *early = *early && is_early(&child);
-        }
+        add_len(&child, &mut len);
+        count_kind(TFHD, &child, &mut tfhds);
+        count_kind(TFDT, &child, &mut tfdts);
+        add_child(&child, sound);
     }
-    tfhds == 1 && tfdts == 1
+    all_hold(tfhds == 1, tfdts == 1, len == traf.payload.len() as u64)
 }
 
-/// Notes what is at fault with a child of a moof by itself, and whether a tfdt of it is late. Tells whether it is no traf, or
-/// has just one tfhd and one tfdt.
-#[inline]
+/// Notes what is at fault with a child of a moof by itself, and adds what it says to what is told. Where it is a traf that has
+/// just one tfhd and one tfdt, and no rest, or is no traf, it tells so.
+#[inline(always)]
 #[tactic(auto, unfolding(crate::specs::AtOnce::faults_in_moof, mp4_box::specs::Order::least_from))]
 fn note_in_moof(
     tracks: &TrackList,
     child: &BoxRef<'_>,
     best: &mut Option<Fault>,
-    early: &mut bool,
+    sound: &mut Sound,
 ) -> bool
     ensures best { best.new ≡ least_from best.old (faults_in_moof tracks.now (view child.now)) }
-    ensures both { result ≡ list_all has_both (of_kind traf (view child.now ∷ [])) }
-    ensures early { early.new ≡
-        (early.old && list_all times_early (of_kind traf (view child.now ∷ []))) }
+    ensures complete { IsTrue result →
+        list_all is_complete (of_kind traf (view child.now ∷ [])) ≡ true }
+    ensures adds { Adds (in_trafs (view child.now ∷ [])) sound.old sound.new }
     ensures ticks { AllByRecursion (TrafHasTicks tracks.now) (of_kind traf (view child.now ∷ [])) }
 {
     if child.header.kind.is(TRAF) {
-        return note_traf(tracks, child, best, early);
+        return note_traf(tracks, child, best, sound);
     }
     if child.header.kind.is(MFHD) {
         Layout::Exactly(MFHD_LEN).note_at(child, best);
@@ -131,54 +188,56 @@ fn note_in_moof(
     true
 }
 
-/// Notes what is at fault with each box of a moof by itself, and whether a tfdt is late. Tells whether it has just one mfhd,
-/// and each traf just one tfhd and one tfdt.
-#[tactic(auto, using(mp4_box::proofs::OrderLemmas::least_from_append, crate::proofs::AtOnceLemmas::both_first, crate::proofs::AtOnceLemmas::times_first, crate::proofs::AtOnceLemmas::trafs_first), unfolding(mp4_box::specs::Order::least_from))]
+/// Notes what is at fault with each box of a moof by itself, and adds what it says to what is told. Where it has just one mfhd,
+/// each traf just one tfhd and one tfdt, and no rest stands in them, it tells so.
 fn note_moof(
     tracks: &TrackList,
     moof: &BoxRef<'_>,
     best: &mut Option<Fault>,
-    early: &mut bool,
+    sound: &mut Sound,
 ) -> bool
     ensures best { best.new ≡ least_from best.old
         (flat_map (faults_in_moof tracks.now) (children (view moof.now))) }
-    ensures both { result ≡ (has_one mfhd (view moof.now) && list_all has_both (of_kind traf (children (view moof.now)))) }
-    ensures early { early.new ≡
-        (early.old && list_all times_early (of_kind traf (children (view moof.now)))) }
+    ensures complete { IsTrue result → IsComplete (view moof.now) }
+    ensures adds { Adds (in_trafs (children (view moof.now))) sound.old sound.new }
     ensures ticks { AllByRecursion (TrafHasTicks tracks.now)
         (of_kind traf (children (view moof.now))) }
 {
-    let mut mfhds: u64 = 0;
-    let mut have_both = true;
+    let mut mfhds = 0;
+    let mut len = 0;
+    let mut complete = true;
     for child in Walk::of(moof) {
-        have_both = note_in_moof(tracks, &child, best, early) && have_both;
-        if child.header.kind.is(MFHD) {
-            mfhds += 1;
-        }
+        complete = note_in_moof(tracks, &child, best, sound) && complete;
+        add_len(&child, &mut len);
+        count_kind(MFHD, &child, &mut mfhds);
     }
-    mfhds == 1 && have_both
+    all_hold(complete, mfhds == 1, len == moof.payload.len() as u64)
 }
 
-/// What is told of a moof, where nothing is at fault with its boxes and their values, times aside, and each traf has its
-/// tfdt.
+/// What is told of a moof, where nothing is at fault with its tree, its boxes and their values, times aside, and each traf has
+/// its tfdt.
 pub(crate) fn look_at(tracks: &TrackList, moof: &BoxRef<'_>) -> Option<Sound>
+    ensures tree { IsSome result → box_faults (view moof.now) ≡ [] }
     ensures forms { IsSome result → form_faults (view moof.now) ≡ [] }
     ensures values { IsSome result → value_faults tracks.now (view moof.now) ≡ [] }
     ensures samples { IfSome result (λ s. s.samples ≡ samples_of (view moof.now)) }
     ensures few { IfSome result (λ s. s.samples ≤ most_samples) }
+    ensures truns { IfSome result (λ s.
+        s.truns ≡ length (at_path to_trun (view moof.now))) }
     ensures early { IfSome result (λ s.
         s.is_early ≡ true → IsEarly tracks.now (view moof.now)) }
 {
     let mut best = None;
-    let mut is_early = true;
-    if !note_moof(tracks, moof, &mut best, &mut is_early) {
+    let mut sound = Sound {
+        samples: 0,
+        truns: 0,
+        is_early: true,
+    };
+    if !note_moof(tracks, moof, &mut best, &mut sound) {
         return None;
     }
-    if best.is_some() {
+    if best.is_some() || sound.samples > MOST_SAMPLES || sound.truns > MOST_TRUNS {
         return None;
     }
-    match count_samples(moof) {
-        Ok(samples) => Some(Sound { samples, is_early }),
-        Err(_) => None,
-    }
+    Some(sound)
 }

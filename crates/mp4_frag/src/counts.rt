@@ -1,7 +1,9 @@
-//! How many samples a moof has.
+//! How many samples and truns a moof has.
 
-ghost use Rattle.std.specs.Prelude.{◌≡◌, ◌∷◌, [], ◌≤◌, IfOk, OnOk, IfErr};
+ghost use Rattle.std.specs.Prelude.{◌≡◌, ◌∷◌, [], ◌≤◌, ◌^◌, length, IfOk, OnOk, IfErr};
+ghost use Rattle.mp4_box.specs.Paths.{at_path};
 ghost use Rattle.mp4_box.specs.Trees.{view};
+ghost use Rattle.mp4_frag.specs.Kinds.{to_trun};
 ghost use Rattle.mp4_frag.specs.Rules.{count_faults, most_samples, samples_of};
 
 use crate::children::truns_of;
@@ -9,7 +11,7 @@ use crate::trun::sample_count;
 use mp4_box::{BoxRef, Fault, Rule};
 
 /// So many samples may a moof have.
-const MOST_SAMPLES: u32 = 1_000_000;
+pub(crate) const MOST_SAMPLES: u32 = 1_000_000;
 
 /// How many samples a moof has, or the first trun with which it has too many.
 #[tactic(auto, using(std::proofs::lemmas::List::Sums::sum_by_more), unfolding(crate::specs::Rules::too_many))]
@@ -41,4 +43,16 @@ pub(crate) fn samples_in(moof: &BoxRef<'_>) -> u32
         Ok(count) => count,
         Err(_) => unreachable!(),
     }
+}
+
+/// How many truns stand in the trafs of a moof.
+pub(crate) fn truns_in(moof: &BoxRef<'_>) -> u64
+    requires { length (at_path to_trun (view moof.now)) ≤ 2 ^ 62 }
+    ensures { result ≡ length (at_path to_trun (view moof.now)) }
+{
+    let mut count: u64 = 0;
+    for _ in truns_of(moof) {
+        count += 1;
+    }
+    count
 }

@@ -1,20 +1,20 @@
 //! From the bytes of a moof to its runs.
 
-ghost use Rattle.std.specs.Prelude.{◌≡◌, ◌+◌, ◌^◌, ◌<◌, ◌≤◌, ◌↔◌, [], length, true, Some, None, Err, IfErr, IfOk, IfSome, OnOk, IsSome};
+ghost use Rattle.std.specs.Prelude.{◌≡◌, ◌+◌, ◌^◌, ◌<◌, ◌≤◌, ◌↔◌, [], length, true, false, Some, None, Err, IfErr, IfOk, IfSome, OnOk, IsSome};
 ghost use Rattle.std.specs.Option.{option_or};
 ghost use Rattle.mp4_box.specs.declared.rules.Fault.{Fault};
 ghost use Rattle.mp4_box.specs.Headers.{IsWhole};
 ghost use Rattle.mp4_box.specs.Order.{IsLeast, least, least_from};
 ghost use Rattle.mp4_box.specs.Trees.{view};
-ghost use Rattle.mp4_frag.specs.AtOnce.{IsEarly, told_fault};
-ghost use Rattle.mp4_frag.specs.Moofs.{IsRead, early_fault, moof_fault, moof_faults, moof_of, moof_samples, moof_trafs, time_faults, value_faults};
-ghost use Rattle.mp4_frag.specs.Rules.{count_faults, form_faults, most_samples, samples_of};
+ghost use Rattle.mp4_frag.specs.AtOnce.{told_fault};
+ghost use Rattle.mp4_frag.specs.Moofs.{IsRead, early_fault, moof_fault, moof_faults, moof_of, moof_samples, moof_trafs, moof_truns, time_faults, value_faults};
+ghost use Rattle.mp4_frag.specs.Rules.{count_faults, form_faults, most_samples};
 ghost use Rattle.mp4_frag.specs.Runs.{Held, held_at};
 ghost use Rattle.mp4_frag.specs.Settling.{settled, timed_of};
 
 use crate::at_once::{Sound, look_at};
 use crate::checks::{FlagsOnce, OfTrack};
-use crate::counts::samples_in;
+use crate::counts::{samples_in, truns_in};
 use crate::kinds::{TFHD, TRAF, TRUN};
 use crate::repeats::note_repeats;
 use crate::rows::Steps;
@@ -77,28 +77,34 @@ fn content_fault(tracks: &TrackList, moof: &BoxRef<'_>) -> Option<Fault>
     best
 }
 
-/// What is told of a moof whose tree is good, or its fault, times aside.
-fn early_content(tracks: &TrackList, moof: &BoxRef<'_>) -> Result<Sound, Fault>
-    ensures fault { told_fault result ≡ option_or (least (form_faults (view moof.now)))
-        (least (value_faults tracks.now (view moof.now))) }
-    ensures samples { IfOk result (λ s. s.samples ≡ samples_of (view moof.now)) }
+/// What is told of the moof that the bytes are, which begin at this offset, or its fault, times aside: rule by rule.
+#[tactic(auto, using(crate::proofs::MoofLemmas::moof_is), unfolding(crate::specs::Moofs::early_fault))]
+fn early_by_rules(held: &[u8], offset: u64, tracks: &TrackList) -> Result<Sound, Fault>
+    requires whole { IsWhole held.now }
+    requires room { offset + length held.now ≤ 2 ^ 62 }
+    ensures fault { told_fault result ≡ early_fault (held_at held.now offset) tracks.now }
+    ensures least { IfErr result (λ f. IsLeast f
+        (moof_faults (held_at held.now offset) tracks.now)) }
+    ensures samples { IfOk result (λ s. s.samples ≡ moof_samples (held_at held.now offset)) }
     ensures few { IfOk result (λ s. s.samples ≤ most_samples) }
-    ensures early { IfOk result (λ s. s.is_early ≡ true → IsEarly tracks.now (view moof.now)) }
+    ensures truns { IfOk result (λ s. s.truns ≡ moof_truns (held_at held.now offset)) }
+    ensures late { IfOk result (λ s. s.is_early ≡ false) }
 {
-    if let Some(sound) = look_at(tracks, moof) {
-        return Ok(sound);
+    if let Err(fault) = check_tree(held, offset) {
+        return Err(fault);
     }
-    match content_fault(tracks, moof) {
+    let moof = whole_box(held, offset);
+    match content_fault(tracks, &moof) {
         Some(fault) => Err(fault),
         None => Ok(Sound {
-            samples: samples_in(moof),
+            samples: samples_in(&moof),
+            truns: truns_in(&moof),
             is_early: false,
         }),
     }
 }
 
 /// What is told of the moof that the bytes are, which begin at this offset, or its fault, times aside.
-#[tactic(auto, using(crate::proofs::MoofLemmas::moof_is), unfolding(crate::specs::Moofs::early_fault))]
 fn early(held: &[u8], offset: u64, tracks: &TrackList) -> Result<Sound, Fault>
     requires whole { IsWhole held.now }
     requires room { offset + length held.now ≤ 2 ^ 62 }
@@ -107,13 +113,14 @@ fn early(held: &[u8], offset: u64, tracks: &TrackList) -> Result<Sound, Fault>
         (moof_faults (held_at held.now offset) tracks.now)) }
     ensures samples { IfOk result (λ s. s.samples ≡ moof_samples (held_at held.now offset)) }
     ensures few { IfOk result (λ s. s.samples ≤ most_samples) }
+    ensures truns { IfOk result (λ s. s.truns ≡ moof_truns (held_at held.now offset)) }
     ensures early { IfOk result (λ s. s.is_early ≡ true →
         time_faults (moof_trafs (held_at held.now offset) tracks.now) ≡ []) }
 {
-    if let Err(fault) = check_tree(held, offset) {
-        return Err(fault);
+    if let Some(sound) = look_at(tracks, &whole_box(held, offset)) {
+        return Ok(sound);
     }
-    match early_content(tracks, &whole_box(held, offset)) {
+    match early_by_rules(held, offset, tracks) {
         Ok(sound) => Ok(sound),
         Err(fault) => Err(fault),
     }

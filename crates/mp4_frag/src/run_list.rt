@@ -2,18 +2,15 @@
 
 ghost use Rattle.std.specs.Prelude.{◌≡◌, ◌+◌, ◌*◌, ◌^◌, ◌<◌, ◌≤◌, ◌↔◌, length, slice_index_or, List, Some, IsErrOf, IfOk, OnOk, OnErr};
 ghost use Rattle.mp4_box.specs.Headers.{IsWhole};
-ghost use Rattle.mp4_box.specs.Paths.{at_path};
-ghost use Rattle.mp4_box.specs.Trees.{box_at, view};
 ghost use Rattle.mp4_ledger.specs.Memory.{claimed, given_back};
 ghost use Rattle.mp4_init.specs.declared.table.Track.{Track};
 ghost use Rattle.mp4_frag.specs.declared.run.Run.{Run};
-ghost use Rattle.mp4_frag.specs.Kinds.{to_trun};
 ghost use Rattle.mp4_frag.specs.Moofs.{IsRead, moof_runs, moof_samples};
 ghost use Rattle.mp4_frag.specs.RunRows.{listed_run};
 ghost use Rattle.mp4_frag.specs.Runs.{Held, held_at};
 ghost use Rattle.mp4_frag.specs.RunLists.{IsLate, IsListOf, IsSorted, taken_runs};
 
-use crate::children::truns_of;
+use crate::counts::truns_in;
 use crate::fill::fill;
 use crate::listed::{find_by_track, listed_row, sort_by_place, sort_by_track};
 use crate::moof::Moof;
@@ -21,7 +18,7 @@ use crate::reread::run_of_row;
 use crate::rows::Steps;
 use crate::run::Run;
 use crate::run_row::row_of_words;
-use mp4_box::{BoxRef, whole_box};
+use mp4_box::whole_box;
 use mp4_init::TrackList;
 use mp4_ledger::{Ledger, Refused, Rows64};
 use mp4_run_order::ListedRun;
@@ -94,18 +91,6 @@ impl RunList {
     }
 }
 
-/// How many truns stand in the trafs of a moof.
-fn count_truns(moof: &BoxRef<'_>) -> u64
-    requires { length (at_path to_trun (view moof.now)) ≤ 2 ^ 62 }
-    ensures { result ≡ length (at_path to_trun (view moof.now)) }
-{
-    let mut count: u64 = 0;
-    for _ in truns_of(moof) {
-        count += 1;
-    }
-    count
-}
-
 /// Sorts rows as they are taken, and tells what was found by track before.
 fn put_in_order(rows: &mut Rows64) -> Option<u64>
     ensures late { IsLate rows.old.rows result }
@@ -140,7 +125,7 @@ fn list_in(
     ensures err { OnErr result (ledger.new ≡ ledger.old) }
 {
     let moof = whole_box(held, offset);
-    let mut rows = match ledger.rows(count_truns(&moof)) {
+    let mut rows = match ledger.rows(truns_in(&moof)) {
         Ok(rows) => rows,
         Err(refused) => return Err(refused),
     };

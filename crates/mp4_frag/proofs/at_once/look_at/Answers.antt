@@ -1,17 +1,39 @@
-use Rattle.std.proofs.Common.{◌∙◌, sym}
+use Rattle.std.proofs.Common.{◌≡◌, sym, arith}
+use Rattle.mp4_box.specs.Paths.{at_path}
 use Rattle.mp4_box.specs.Trees.{view}
-use Rattle.mp4_frag.proofs.AtOnceLemmas.{Passed, no_forms, no_values, passed}
+use Rattle.mp4_frag.specs.Kinds.{to_trun}
+use Rattle.mp4_frag.specs.Rules.{samples_of}
+use Rattle.mp4_frag.proofs.AddLemmas.{few_enough, told_early, told_samples, told_truns}
+use Rattle.mp4_frag.proofs.AtOnceLemmas.{Passed, no_forms, no_values, passed, passed_both}
+use Rattle.mp4_frag.proofs.PassTreeLemmas.{no_tree}
 use Rattle.mp4_frag.proofs.at_once.look_at.Goals as goal
 
-pass : (c : goal.In-Ok) → Passed c.args.tracks.now (view c.args.moof.now)
+pass : (c : goal.Else-sound-gt-MOST_TRUNS) → Passed c.args.tracks.now (view c.args.moof.now)
 pass c =
-    passed c.args.tracks.now (view c.args.moof.now) c.note_moof.new.best c.note_moof.result c.note_moof.ensures.best (sym c.if-is_some.ensures) c.note_moof.ensures.both c.if-not-note_moof.false
+    passed c.args.tracks.now (view c.args.moof.now) c.note_moof.new.best c.note_moof.ensures.best (sym c.if-is_some.ensures) (c.note_moof.ensures.complete c.if-not-note_moof.false)
 
-pub returns-in-Ok-clause-forms : goal.returns-in-Ok-clause-forms
-returns-in-Ok-clause-forms c = λ _. no_forms c.args.tracks.now (view c.args.moof.now) (pass c)
+samples : (c : goal.Else-sound-gt-MOST_TRUNS) → c.note_moof.new.sound.samples ≡ samples_of (view c.args.moof.now)
+samples c = told_samples (view c.args.moof.now) c.note_moof.new.sound c.note_moof.ensures.adds (omega (arith, c.if-sound-gt-MOST_SAMPLES.false))
 
-pub returns-in-Ok-clause-values : goal.returns-in-Ok-clause-values
-returns-in-Ok-clause-values c = λ _. no_values c.args.tracks.now (view c.args.moof.now) (pass c) c.in-Ok.ensures.ok
+pub returns-clause-tree : goal.returns-clause-tree
+returns-clause-tree c = λ _. no_tree c.args.tracks.now (view c.args.moof.now) (pass c)
 
-pub returns-in-Ok-clause-early : goal.returns-in-Ok-clause-early
-returns-in-Ok-clause-early c = λ sure. record { both = (pass c).both; times = sym c.note_moof.ensures.early ∙ sure; ticks = c.note_moof.ensures.ticks }
+pub returns-clause-forms : goal.returns-clause-forms
+returns-clause-forms c = λ _. no_forms c.args.tracks.now (view c.args.moof.now) (pass c)
+
+pub returns-clause-values : goal.returns-clause-values
+returns-clause-values c = λ _.
+    no_values c.args.tracks.now (view c.args.moof.now) (pass c) (few_enough 0 (at_path to_trun (view c.args.moof.now)) (omega (arith, samples c, c.if-sound-gt-MOST_SAMPLES.false)))
+
+pub returns-clause-samples : goal.returns-clause-samples
+returns-clause-samples c = samples c
+
+pub returns-clause-truns : goal.returns-clause-truns
+returns-clause-truns c = told_truns (view c.args.moof.now) c.note_moof.new.sound c.note_moof.ensures.adds (omega (arith, c.if-sound-gt-MOST_TRUNS.false))
+
+pub returns-clause-early : goal.returns-clause-early
+returns-clause-early c = λ sure. record {
+  both = passed_both c.args.tracks.now (view c.args.moof.now) (pass c);
+  times = told_early (view c.args.moof.now) c.note_moof.new.sound c.note_moof.ensures.adds sure;
+  ticks = c.note_moof.ensures.ticks;
+}

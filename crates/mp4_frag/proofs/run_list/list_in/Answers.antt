@@ -12,8 +12,8 @@ use Rattle.mp4_frag.proofs.MoofListLemmas.{claim_is, claimed_so, few_truns, fill
 use Rattle.mp4_frag.proofs.RunListLemmas.{length_rows, list_is}
 use Rattle.mp4_frag.proofs.run_list.list_in.Goals as goal
 
-pub count_truns-requires : goal.count_truns-requires
-count_truns-requires c =
+pub truns_in-requires : goal.truns_in-requires
+truns_in-requires c =
     let h : Held = record { bytes = c.args.held.now; offset = c.args.offset } in
     let m = view c.whole_box-moof.result in
     let f = is_moof c.args.offset c.args.held.now m c.requires.whole (λ i. (c.type_inv.held i).fits) c.requires.room c.whole_box-moof.ensures in
@@ -24,7 +24,7 @@ returns-in-Err-clause-over_limit c =
     let h : Held = record { bytes = c.args.held.now; offset = c.args.offset } in
     let m = view c.whole_box-moof.result in
     let f = is_moof c.args.offset c.args.held.now m c.requires.whole (λ i. (c.type_inv.held i).fits) c.requires.room c.whole_box-moof.ensures in
-    refused_so Rows RowList c.in-Err.refused OverLimit c.count_truns.result (length (moof_runs h c.args.tracks.now)) c.args.ledger.now.limit c.args.ledger.now.live (claim_is h c.args.tracks.now m c.count_truns.result f c.count_truns.ensures) c.in-Err.ensures.over_limit
+    refused_so Rows RowList c.in-Err.refused OverLimit c.truns_in.result (length (moof_runs h c.args.tracks.now)) c.args.ledger.now.limit c.args.ledger.now.live (claim_is h c.args.tracks.now m c.truns_in.result f c.truns_in.ensures) c.in-Err.ensures.over_limit
 
 pub fill-requires-clause-room : goal.fill-requires-clause-room
 fill-requires-clause-room c =
@@ -33,7 +33,7 @@ fill-requires-clause-room c =
     let f = is_moof c.args.offset c.args.held.now m c.requires.whole (λ i. (c.type_inv.held i).fits) c.requires.room c.whole_box-moof.ensures in
     let none = ap (λ (t : Rows). length t.rows) c.in-Ok.ensures.empty in
     let cap = ap (λ (t : Rows). t.cap) c.in-Ok.ensures.empty in
-    omega (arith, none, cap, c.count_truns.ensures, room_for h c.args.tracks.now m)
+    omega (arith, none, cap, c.truns_in.ensures, room_for h c.args.tracks.now m)
 
 pub fill-requires-clause-sound : goal.fill-requires-clause-sound
 fill-requires-clause-sound c =
@@ -56,14 +56,14 @@ returns-clause-ok c =
     let h : Held = record { bytes = c.args.held.now; offset = c.args.offset } in
     let m = view c.whole_box-moof.result in
     let f = is_moof c.args.offset c.args.held.now m c.requires.whole (λ i. (c.type_inv.held i).fits) c.requires.room c.whole_box-moof.ensures in
-    c.in-Ok.ensures.ok ∙ ap (λ (n : ℕ). claimed c.args.ledger.now (64 * n)) (claim_is h c.args.tracks.now m c.count_truns.result f c.count_truns.ensures)
+    c.in-Ok.ensures.ok ∙ ap (λ (n : ℕ). claimed c.args.ledger.now (64 * n)) (claim_is h c.args.tracks.now m c.truns_in.result f c.truns_in.ensures)
 
 pub returns-clause-over_limit : goal.returns-clause-over_limit
 returns-clause-over_limit c =
     let h : Held = record { bytes = c.args.held.now; offset = c.args.offset } in
     let m = view c.whole_box-moof.result in
     let f = is_moof c.args.offset c.args.held.now m c.requires.whole (λ i. (c.type_inv.held i).fits) c.requires.room c.whole_box-moof.ensures in
-    claimed_so c.in-Ok.rows _ OverLimit c.count_truns.result (length (moof_runs h c.args.tracks.now)) c.args.ledger.now.limit c.args.ledger.now.live (claim_is h c.args.tracks.now m c.count_truns.result f c.count_truns.ensures) c.in-Ok.ensures.over_limit
+    claimed_so c.in-Ok.rows _ OverLimit c.truns_in.result (length (moof_runs h c.args.tracks.now)) c.args.ledger.now.limit c.args.ledger.now.live (claim_is h c.args.tracks.now m c.truns_in.result f c.truns_in.ensures) c.in-Ok.ensures.over_limit
 
 pub invariant_of-result : goal.invariant_of-result
 invariant_of-result c =
@@ -73,7 +73,7 @@ invariant_of-result c =
     let rows = put_in c.in-Ok.rows.rows c.fill.new.rows.rows (rows_of_trafs h c.args.tracks.now (at_path (traf ∷ []) m)) (ap (λ (t : Rows). t.rows) c.in-Ok.ensures.empty) c.fill.ensures.rows in
     let n = length_filled h c.args.tracks.now m c.fill.new.rows.rows rows in
     let cap = ap (λ (t : Rows). t.cap) c.in-Ok.ensures.empty in
-    omega (arith, n, cap, c.count_truns.ensures, c.fill.ensures.cap, c.put_in_order-late.ensures.len, c.put_in_order-late.ensures.cap)
+    omega (arith, n, cap, c.truns_in.ensures, c.fill.ensures.cap, c.put_in_order-late.ensures.len, c.put_in_order-late.ensures.cap)
 
 pub returns-clause-len : goal.returns-clause-len
 returns-clause-len c =
