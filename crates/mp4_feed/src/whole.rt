@@ -27,7 +27,7 @@ use crate::state::{Counter, State};
 use crate::take::Taken;
 use mp4_box::{HeaderReader, Size, header_of};
 use mp4_ends::{Failed, Sink};
-use mp4_frag::{LoneRun, Moof, Payload, Steps};
+use mp4_frag::{LoneRun, Payload, Steps};
 use mp4_init::TrackList;
 use mp4_items::{Command, Kind, MOST_MOOF, kind_of};
 use mp4_ledger::Ledger;
@@ -90,10 +90,7 @@ fn lone_run_in(moof: &[u8], at: u64, tracks: &TrackList, payload: Payload) -> Op
     ensures { IfSome result (λ l. IsLone (held_at moof.now at) tracks.now payload l) }
 {
     let mut steps = Steps { rows: 0 };
-    let Ok(moof) = Moof::read(moof, at, tracks, &mut steps) else {
-        return None;
-    };
-    let Some(run) = moof.lone_run(tracks, &mut steps) else {
+    let Some(run) = LoneRun::read(moof, at, tracks, &mut steps) else {
         return None;
     };
     if run.stands_in(payload) {

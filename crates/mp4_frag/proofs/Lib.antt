@@ -20,3 +20,4 @@ pub mod AfterLemmas
 pub mod SettleLemmas
 pub mod GroupLemmas
 pub mod LoneLemmas
+pub mod UsualLemmas

@@ -1,8 +1,8 @@
 -- A moof with one traf, and one trun in it.
-use Rattle.std.proofs.Common.{◌≡◌, ◌≢◌, ◌∙◌, ◌+◌, ◌^◌, ◌<◌, ◌≤◌, ◌==◌, ℕ, ℤ, List, [], ◌∷◌, map, length, Option, Some, None, refl, sym, ap, subst, arith, append-nil}
+use Rattle.std.proofs.Common.{◌≡◌, ◌≢◌, ◌∙◌, ◌+◌, ◌^◌, ◌<◌, ◌≤◌, ◌==◌, ℕ, ℤ, pos, List, [], ◌∷◌, map, length, Option, Some, None, refl, sym, ap, subst, arith, append-nil}
 use Rattle.std.specs.Prelude.{IfSome, IsSome, slice_get}
 use Rattle.std.specs.List.{AllByRecursion, flat_map, position}
-use Rattle.std.specs.Option.{option_and_then}
+use Rattle.std.specs.Option.{option_and_then, unwrap_or}
 use Rattle.mp4_box.specs.Checks.{along, alone, one}
 use Rattle.mp4_box.specs.Paths.{at_path, of_kind}
 use Rattle.mp4_box.specs.Trees.{Box, children, first_of}
@@ -10,13 +10,14 @@ use Rattle.mp4_init.specs.declared.table.Track.{Track}
 use Rattle.mp4_init.specs.Rows.{with_next}
 use Rattle.mp4_frag.specs.declared.lone.LoneRun.{LoneRun}
 use Rattle.mp4_frag.specs.declared.run.Run.{Run}
+use Rattle.mp4_frag.specs.declared.traf.TrafHeader.{TrafHeader}
 use Rattle.mp4_frag.specs.Fields.{payload_of}
 use Rattle.mp4_frag.specs.Kinds.{tfhd, to_tfhd, traf, trun}
 use Rattle.mp4_frag.specs.Moofs.{IsRead, moof_of, moof_runs, moof_samples, moof_trafs}
 use Rattle.mp4_frag.specs.Ranges.{InRange, IsSound}
 use Rattle.mp4_frag.specs.Rows.{rows_of}
 use Rattle.mp4_frag.specs.Rules.{form_faults, tfhd_faults, track_faults, track_with}
-use Rattle.mp4_frag.specs.Runs.{Held, Shared, TrackFragment, end_of, end_place, last_end, run_of, runs_from, runs_of, tfhd_of, traf_of, trafs_by}
+use Rattle.mp4_frag.specs.Runs.{Held, Shared, TrackFragment, base_of, end_in, end_of, header_by, no_track, track_of, end_place, last_end, run_of, runs_from, runs_of, tfhd_of, traf_of, trafs_by}
 use Rattle.mp4_frag.specs.Settling.{ended_at, settled}
 use Rattle.mp4_frag.specs.Tfhd.{track_id}
 use Rattle.mp4_frag.specs.Times.{ticks_in}
@@ -52,6 +53,20 @@ lone h tracks t s time last bs b starts small sound e =
       range = first.here;
       fits = first.fits;
     }
+
+-- its track was found by its tfhd, and its time
+pub lone_found : (h : Held) (tracks : List Track) (t b : Box) (p : List ℕ) (id : ℕ) (o : Option ℕ) (track : Track) (header : TrafHeader) (ends time : ℕ) (last : ℤ)
+    → p ≡ tfhd_of t → id ≡ track_id p → o ≡ position (λ (x : Track). x.id == id) tracks → track ≡ unwrap_or (option_and_then (slice_get tracks) o) no_track → header ≡ header_by track p → header.size < 2 ^ 32 → ends ≡ end_in h t → time ≡ base_of track.next t → last ≡ pos h.offset
+    → IsSound (traf_of h tracks t) → of_kind trun (children t) ≡ b ∷ [] → Lone h tracks t (record { moof = h; header = header; ends_at = ends }) time last b
+lone_found h tracks t b p id o track header ends time last tfhd is found at by small end begins place sound e =
+    let known : track ≡ track_of tracks t = at ∙ ap (λ (q : Option ℕ). unwrap_or (option_and_then (slice_get tracks) q) no_track) (found ∙ ap (λ (k : ℕ). position (λ (x : Track). x.id == k) tracks) (is ∙ ap track_id tfhd)) in
+    let starts : Starts h tracks t (record { moof = h; header = header; ends_at = ends }) time last (children t) = record {
+      shared = rw (by, end, known, tfhd) refl;
+      begins = begins ∙ ap (λ (x : Track). base_of x.next t) known;
+      last = place;
+      truns = refl;
+    } in
+    lone h tracks t (record { moof = h; header = header; ends_at = ends }) time last (children t) b starts small sound e
 
 pub not_lone : (h : Held) (tracks : List Track) (t : Box) (s : Shared) (time : ℕ) (last : ℤ) (bs : List Box) → Starts h tracks t s time last bs → length (of_kind trun bs) ≢ 1 → length (runs_of (traf_of h tracks t)) ≢ 1
 not_lone h tracks t s time last bs starts more one =

@@ -6,6 +6,7 @@ pub mod Tfdt
 pub mod Trun
 pub mod Rules
 pub mod AtOnce
+pub mod Usual
 pub mod Repeats
 pub mod Rows
 pub mod Runs

@@ -74,7 +74,7 @@ fn note_in_traf(tracks: &TrackList, child: &BoxRef<'_>, best: &mut Option<Fault>
 }
 
 /// Whether a tfdt has an early time.
-fn is_early(tfdt: &BoxRef<'_>) -> bool
+pub(crate) fn is_early(tfdt: &BoxRef<'_>) -> bool
     ensures { result ≡ is_early (view tfdt.now) }
 {
     base_media_decode_time(tfdt.payload) < LATE

@@ -53,6 +53,7 @@ mod tfhd;
 mod times;
 mod traf;
 mod trun;
+mod usual;
 
 pub use lone::LoneRun;
 pub use moof::Moof;

@@ -1,18 +1,22 @@
 //! The run of a moof that has no other.
 
-ghost use Rattle.std.specs.Prelude.{◌≡◌, ◌≢◌, ◌+◌, ◌^◌, ◌<◌, ◌≤◌, ◌↔◌, ◌∷◌, ◌==◌, [], length, true, None, IfNone, IfSome, IsSome};
+ghost use Rattle.std.specs.Prelude.{◌≡◌, ℕ, List, ◌*◌, ◌≢◌, ◌+◌, ◌^◌, ◌<◌, ◌≤◌, ◌↔◌, ◌∷◌, ◌==◌, [], length, true, None, IfNone, IfSome, IsSome};
 ghost use Rattle.std.specs.List.{position};
+ghost use Rattle.std.specs.Option.{unwrap_or};
 ghost use Rattle.mp4_box.specs.Headers.{IsWhole};
 ghost use Rattle.mp4_box.specs.Paths.{of_kind};
-ghost use Rattle.mp4_box.specs.Trees.{view};
+ghost use Rattle.mp4_box.specs.Trees.{children, view};
 ghost use Rattle.mp4_init.specs.Rows.{with_next};
+ghost use Rattle.mp4_init.specs.declared.table.Track.{Track};
 ghost use Rattle.mp4_run_order.specs.Places.{lies_in};
+ghost use Rattle.mp4_frag.specs.Kinds.{trun};
 ghost use Rattle.mp4_frag.specs.Moofs.{IsRead, moof_runs, moof_samples, moof_trafs};
 ghost use Rattle.mp4_frag.specs.Places.{place_fault};
 ghost use Rattle.mp4_frag.specs.Ranges.{InRange, IsSound};
+ghost use Rattle.mp4_frag.specs.Rules.{most_samples};
 ghost use Rattle.mp4_frag.specs.RunLists.{taken_runs};
 ghost use Rattle.mp4_frag.specs.RunRows.{listed_run};
-ghost use Rattle.mp4_frag.specs.Runs.{held_at, runs_of, tfhd_of, traf_of};
+ghost use Rattle.mp4_frag.specs.Runs.{base_of, held_at, runs_of, tfhd_of, traf_of};
 ghost use Rattle.mp4_frag.specs.Settling.{settled};
 ghost use Rattle.mp4_frag.specs.Tfhd.{track_id};
 
@@ -22,7 +26,10 @@ use crate::moof::Moof;
 use crate::rows::Steps;
 use crate::run::Run;
 use crate::runs::run_of;
-use crate::start::{Start, before_runs, start_of};
+use crate::start::{before_runs, heads_of};
+use crate::tfhd::track_id;
+use crate::traf::{TrafContext, end_in, header_by, track_at};
+use crate::usual::usual_run;
 use mp4_box::{BoxRef, FourCc, Walk, whole_box};
 use mp4_init::TrackList;
 use mp4_run_order::Payload;
@@ -51,6 +58,49 @@ fn only_of<'a>(kind: FourCc, mut walk: Walk<'a>) -> Option<BoxRef<'a>>
     }
 }
 
+/// The only run of a traf with this tfhd and this base time, in the moof that begins at this offset. Its track is known.
+#[inline(always)]
+pub(crate) fn run_with<'a>(
+    held: &'a [u8],
+    moof: u64,
+    tracks: &TrackList,
+    traf: &BoxRef<'a>,
+    tfhd: &'a [u8],
+    time: Option<u64>,
+    only: &BoxRef<'a>,
+) -> LoneRun
+    requires tfhd { tfhd.now ≡ tfhd_of (view traf.now) }
+    requires time { (next : ℕ) → unwrap_or time next ≡ base_of next (view traf.now) }
+    requires trun { of_kind trun (children (view traf.now)) ≡ view only.now ∷ [] }
+    requires sound { IsSound (traf_of (held_at held.now moof) tracks.now
+        (view traf.now)) }
+    requires known { IsSome (position (λ t. t.id == track_id (tfhd_of (view traf.now)))
+        tracks.now) }
+    ensures run { runs_of (traf_of (held_at held.now moof) tracks.now (view traf.now)) ≡
+        result.run ∷ [] }
+    ensures range { InRange result.run }
+    ensures track { position (λ t. t.id == track_id (tfhd_of (view traf.now))) tracks.now ≡
+        Some result.track }
+    ensures within { result.track < length tracks.now }
+{
+    let found = tracks.find(track_id(tfhd));
+    let track = track_at(tracks, found);
+    let Some(index) = found else {
+        unreachable!();
+    };
+    let context = TrafContext {
+        held,
+        moof,
+        header: header_by(track, tfhd),
+        ends_at: end_in(moof, traf),
+    };
+    let behind = before_runs(time.unwrap_or(track.next), moof);
+    LoneRun {
+        run: run_of(&context, &behind, only),
+        track: index,
+    }
+}
+
 /// The only run of a traf, in the moof that begins at this offset. Its track is known.
 #[inline(always)]
 fn lone_of<'a>(held: &'a [u8], moof: u64, tracks: &TrackList, traf: &BoxRef<'a>) -> Option<LoneRun>
@@ -67,25 +117,13 @@ fn lone_of<'a>(held: &'a [u8], moof: u64, tracks: &TrackList, traf: &BoxRef<'a>)
     ensures none { IfNone result (length
         (runs_of (traf_of (held_at held.now moof) tracks.now (view traf.now))) ≢ 1) }
 {
-    let start = start_of(held, moof, tracks, traf);
-    let Start {
-        context,
-        time,
-        track,
-        tfhd: _,
-        rest,
-    } = start;
-    let Some(trun) = only_of(TRUN, rest) else {
+    let heads = heads_of(traf);
+    let Some(trun) = only_of(TRUN, heads.rest) else {
         return None;
     };
-    let Some(track) = track else {
-        unreachable!();
-    };
-    let behind = before_runs(time, moof);
-    Some(LoneRun {
-        run: run_of(&context, &behind, &trun),
-        track,
-    })
+    Some(run_with(
+        held, moof, tracks, traf, heads.tfhd, heads.time, &trun,
+    ))
 }
 
 /// The only run of the moof that the bytes are, which begin at this offset: of its only traf.
@@ -157,7 +195,64 @@ fn lies_in(run: &Run, payload: Payload) -> bool
     }
 }
 
+/// Whether the moof that the bytes are, which begin at this offset, may have just one traf.
+#[inline(always)]
+fn may_have_one_traf(held: &[u8], offset: u64) -> bool
+    requires whole { IsWhole held.now }
+    requires room { offset + length held.now ≤ 2 ^ 62 }
+    ensures { (tracks : List Track) →
+        length (moof_trafs (held_at held.now offset) tracks) ≡ 1 → result ≡ true }
+{
+    let moof = whole_box(held, offset);
+    only_of(TRAF, Walk::of(&moof)).is_some()
+}
+
 impl LoneRun {
+    /// The run of the moof that the bytes are, one whole box of stated size that begins at `offset` in the stream, where nothing is
+    /// at fault with it and it has one traf, with one trun in it; none of other moofs. `tracks` are those of its moov. Where there
+    /// is such a run, its samples are counted in `steps` twice as rows that were read: once for the rules, as [`Moof::read`]
+    /// counts them, and once for the run.
+    pub fn read(
+        held: &[u8],
+        offset: u64,
+        tracks: &TrackList,
+        steps: &mut Steps,
+    ) -> Option<LoneRun>
+        requires whole { IsWhole held.now }
+        requires room { offset + length held.now ≤ 2 ^ 62 }
+        requires steps { steps.old.rows < 2 ^ 126 }
+        ensures good { IsSome result → IsRead (held_at held.now offset) tracks.now }
+        ensures traf { IfSome result (λ _.
+            length (moof_trafs (held_at held.now offset) tracks.now) ≡ 1) }
+        ensures run { IfSome result (λ l.
+            moof_runs (held_at held.now offset) tracks.now ≡ l.run ∷ []) }
+        ensures range { IfSome result (λ l. InRange l.run) }
+        ensures samples { IfSome result (λ l.
+            l.run.count ≡ moof_samples (held_at held.now offset)) }
+        ensures known { IfSome result (λ l. l.track < length tracks.now) }
+        ensures ends { IfSome result (λ l.
+            settled tracks.now (moof_trafs (held_at held.now offset) tracks.now) ≡
+            with_next l.track l.run.end tracks.now) }
+        ensures none { IsRead (held_at held.now offset) tracks.now →
+            length (moof_trafs (held_at held.now offset) tracks.now) ≡ 1 →
+            length (moof_runs (held_at held.now offset) tracks.now) ≡ 1 → IsSome result }
+        ensures walked { IfSome result (λ _. steps.new.rows ≡
+            steps.old.rows + 2 * moof_samples (held_at held.now offset)) }
+        ensures few { steps.new.rows ≤ steps.old.rows + 2 * most_samples }
+    {
+        if let Some(run) = usual_run(held, offset, tracks) {
+            steps.rows += 2 * u128::from(run.run.count);
+            return Some(run);
+        }
+        if !may_have_one_traf(held, offset) {
+            return None;
+        }
+        match Moof::read(held, offset, tracks, steps) {
+            Ok(moof) => moof.lone_run(tracks, steps),
+            Err(_) => None,
+        }
+    }
+
     /// Whether the run stands where it may in the payload of its mdat, being the only one of its moof: it has no
     /// samples, or lies in the payload.
     #[inline]

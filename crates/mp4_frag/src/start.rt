@@ -27,13 +27,13 @@ const NOWHERE: u64 = u64::MAX;
 #[derive(Drop)]
 pub(crate) struct Heads<'a> {
     /// The payload of its tfhd, empty where it has none.
-    tfhd: &'a [u8],
+    pub(crate) tfhd: &'a [u8],
     /// The offset in the stream of its tfhd.
     tfhd_at: u64,
     /// The time of its tfdt.
-    time: Option<u64>,
+    pub(crate) time: Option<u64>,
     /// Its children, but for some that are no truns.
-    rest: Walk<'a>,
+    pub(crate) rest: Walk<'a>,
 }
 
 /// What is read of a traf before its runs.
@@ -77,7 +77,7 @@ fn heads_anywhere<'a>(traf: &BoxRef<'a>) -> Heads<'a>
 
 /// The heads of a traf: mostly its first two children are its tfhd and its tfdt.
 #[inline(always)]
-fn heads_of<'a>(traf: &BoxRef<'a>) -> Heads<'a>
+pub(crate) fn heads_of<'a>(traf: &BoxRef<'a>) -> Heads<'a>
     ensures tfhd { result.tfhd.now ≡ tfhd_of (view traf.now) }
     ensures at { result.tfhd_at ≡ tfhd_at (view traf.now) }
     ensures time { (next : ℕ) → unwrap_or result.time next ≡ base_of next (view traf.now) }

@@ -1,0 +1,142 @@
+-- A moof of the usual form in which nothing is at fault.
+use Rattle.std.proofs.Common.{◌≡◌, ◌∙◌, ◌+◌, ◌≤◌, ◌<◌, ◌^◌, ◌==◌, Bool, true, false, List, [], ◌∷◌, ◌++◌, length, Option, None, Some, append-nil, refl, sym, ap, arith}
+use Rattle.std.specs.Prelude.{◌&&◌}
+use Rattle.std.specs.List.{flat_map, list_all, sum_by}
+use Rattle.std.specs.Option.{is_some, option_or}
+use Rattle.std.specs.Str.{bytes_eq}
+use Rattle.std.proofs.lemmas.Bool.Decides.{Decides-eqb}
+use Rattle.std.proofs.lemmas.List.Sums.{sum_by-cons}
+use Rattle.mp4_box.specs.declared.headers.FourCc.{FourCc}
+use Rattle.mp4_box.specs.declared.rules.Fault.{Fault}
+use Rattle.mp4_box.specs.declared.checks.Layout.TheVariants.{Exactly}
+use Rattle.mp4_box.specs.Checks.{laid_out}
+use Rattle.mp4_box.specs.Order.{least, least_from}
+use Rattle.mp4_box.specs.Paths.{at_path, of_kind}
+use Rattle.mp4_box.specs.Trees.{Box, box_at, box_faults, box_len, children}
+use Rattle.mp4_box.proofs.OrderLemmas.{least-none}
+use Rattle.mp4_init.specs.declared.table.Track.{Track}
+use Rattle.mp4_frag.specs.AtOnce.{HasTicks, IsComplete, IsEarly, TrafHasTicks, by_moof, by_traf, faults_in_moof, faults_in_traf, has_both, has_one, is_complete, is_early, is_filled, is_kind, passed_over, times_early}
+use Rattle.mp4_frag.specs.Kinds.{free, mfhd, skip, tfdt, tfhd, to_trun, traf, trun}
+use Rattle.mp4_frag.specs.Mfhd.{mfhd_len}
+use Rattle.mp4_frag.specs.Moofs.{IsRead, early_fault, moof_of, moof_samples, moof_trafs, time_faults, value_faults}
+use Rattle.mp4_frag.specs.Rules.{count_faults, form_faults, most_samples, samples_in, tfhd_faults, tfhd_length, trun_faults, trun_length}
+use Rattle.mp4_frag.specs.Runs.{Held}
+use Rattle.mp4_frag.specs.Tfdt.{tfdt_layout}
+use Rattle.mp4_frag.specs.Trun.{sample_count}
+use Rattle.mp4_frag.specs.Usual.{HoldsThree, HoldsTwo, IsUsual, usual_faults}
+use Rattle.mp4_frag.proofs.AddLemmas.{few_enough, moof_truns}
+use Rattle.mp4_frag.proofs.AtOnceLemmas.{Passed, no_forms, no_other, no_values, passed_both}
+use Rattle.mp4_frag.proofs.MoofLemmas.{last_none}
+use Rattle.mp4_frag.proofs.EarlyLemmas.{early_in_time, values_count}
+use Rattle.mp4_frag.proofs.MoofListLemmas.{IsMoof}
+use Rattle.mp4_frag.proofs.PassTreeLemmas.{no_tree, none_early}
+
+module _ (tracks : List Track) (m a t b c d : Box) (u : IsUsual m a t b c d) where
+  -- ---- its boxes by their types
+
+  in_traf_b : faults_in_traf tracks b ≡ tfhd_length b ++ tfhd_faults tracks b
+  unfolding faults_in_traf
+  in_traf_b = rw (no_other b tfhd trun refl u.is_tfhd, u.is_tfhd) refl
+
+  in_traf_c : faults_in_traf tracks c ≡ laid_out tfdt_layout c
+  unfolding faults_in_traf
+  in_traf_c = rw (no_other c tfdt trun refl u.is_tfdt, no_other c tfdt tfhd refl u.is_tfdt, u.is_tfdt) refl
+
+  in_traf_d : faults_in_traf tracks d ≡ trun_length d ++ trun_faults d
+  unfolding faults_in_traf
+  in_traf_d = rw u.is_trun refl
+
+  in_moof_a : faults_in_moof tracks a ≡ laid_out (Exactly mfhd_len) a
+  unfolding faults_in_moof
+  in_moof_a = rw (no_other a mfhd traf refl u.is_mfhd, u.is_mfhd) refl
+
+  in_moof_t : faults_in_moof tracks t ≡ flat_map (faults_in_traf tracks) (children t)
+  unfolding faults_in_moof
+  in_moof_t = rw u.is_traf refl
+
+  pub of_trafs : of_kind traf (children m) ≡ t ∷ []
+  of_trafs = ap (of_kind traf) u.two.are ∙ rw (no_other a mfhd traf refl u.is_mfhd, u.is_traf) refl
+
+  pub of_truns : of_kind trun (children t) ≡ d ∷ []
+  of_truns = ap (of_kind trun) u.three.are ∙ rw (no_other b tfhd trun refl u.is_tfhd, no_other c tfdt trun refl u.is_tfdt, u.is_trun) refl
+
+  of_tfhds : of_kind tfhd (children t) ≡ b ∷ []
+  of_tfhds = ap (of_kind tfhd) u.three.are ∙ rw (no_other c tfdt tfhd refl u.is_tfdt, no_other d trun tfhd refl u.is_trun, u.is_tfhd) refl
+
+  of_tfdts : of_kind tfdt (children t) ≡ c ∷ []
+  of_tfdts = ap (of_kind tfdt) u.three.are ∙ rw (no_other b tfhd tfdt refl u.is_tfhd, no_other d trun tfdt refl u.is_trun, u.is_tfdt) refl
+
+  of_mfhds : of_kind mfhd (children m) ≡ a ∷ []
+  of_mfhds = ap (of_kind mfhd) u.two.are ∙ rw (no_other t traf mfhd refl u.is_traf, u.is_mfhd) refl
+
+  -- ---- all is there, and nothing more
+
+  moof_filled : is_filled m ≡ true
+  moof_filled =
+      (Decides-eqb (sum_by box_len (children m)) (length m.payload)).1
+      (ap (sum_by box_len) u.two.are ∙ omega (arith, sum_by-cons box_len a (t ∷ []), sum_by-cons box_len t [], u.two.filled))
+
+  traf_filled : is_filled t ≡ true
+  traf_filled =
+      (Decides-eqb (sum_by box_len (children t)) (length t.payload)).1
+      (ap (sum_by box_len) u.three.are ∙ omega (arith, sum_by-cons box_len b (c ∷ d ∷ []), sum_by-cons box_len c (d ∷ []), sum_by-cons box_len d [], u.three.filled))
+
+  traf_complete : is_complete t ≡ true
+  traf_complete = rw (of_tfhds, of_tfdts, traf_filled) refl
+
+  complete : IsComplete m
+  complete = record {
+    mfhds = rw of_mfhds refl;
+    filled = moof_filled;
+    trafs = rw (of_trafs, traf_complete) refl;
+  }
+
+  -- ---- nothing is at fault
+
+  module _ (none : usual_faults tracks a b c d ≡ []) where
+    each : flat_map (faults_in_moof tracks) (children m) ≡ []
+    each =
+        let one = last_none (laid_out (Exactly mfhd_len) a) ((tfhd_length b ++ tfhd_faults tracks b) ++ (laid_out tfdt_layout c ++ (trun_length d ++ trun_faults d))) none in
+        let two = last_none (tfhd_length b ++ tfhd_faults tracks b) (laid_out tfdt_layout c ++ (trun_length d ++ trun_faults d)) one.1 in
+        let three = last_none (laid_out tfdt_layout c) (trun_length d ++ trun_faults d) two.1 in
+        let below : flat_map (faults_in_traf tracks) (children t) ≡ [] =
+        ap (flat_map (faults_in_traf tracks)) u.three.are ∙ rw (in_traf_b ∙ two.0, in_traf_c ∙ three.0, in_traf_d ∙ three.1) refl in
+        ap (flat_map (faults_in_moof tracks)) u.two.are ∙ rw (in_moof_a ∙ one.0, in_moof_t ∙ below) refl
+
+    pub usual_passed : Passed tracks m
+    usual_passed = record { none = each; complete = complete }
+
+    all_truns : at_path to_trun m ≡ d ∷ []
+    all_truns = sym (moof_truns m) ∙ ap (λ (ts : List Box). of_kind trun (flat_map children ts)) of_trafs ∙ ap (of_kind trun) (append-nil (children t)) ∙ of_truns
+
+    none_past : sample_count d.payload ≤ most_samples → count_faults m ≡ []
+    none_past few =
+        few_enough 0 (at_path to_trun m) (omega (arith, few, ap samples_in all_truns, sum_by-cons (λ (x : Box). sample_count x.payload) d []))
+
+    pub usual_forms : form_faults m ≡ []
+    usual_forms = no_forms tracks m usual_passed
+
+    pub usual_tree : box_faults m ≡ []
+    usual_tree = no_tree tracks m usual_passed
+
+    pub usual_values : sample_count d.payload ≤ most_samples → value_faults tracks m ≡ []
+    usual_values few = no_values tracks m usual_passed (none_past few)
+
+    pub usual_early : is_early c ≡ true → HasTicks tracks b → IsEarly tracks m
+    usual_early early ticks = record {
+      both = passed_both tracks m usual_passed;
+      times = rw (of_trafs, of_tfdts, early) refl;
+      ticks = rw (of_trafs, of_tfhds) ((ticks, tt), tt);
+    }
+
+-- what is told by nothing
+pub none_noted : (fs : List Fault) (best : Option Fault) → best ≡ least_from None fs → is_some best ≡ false → fs ≡ []
+none_noted fs None e is = least-none fs (sym e)
+none_noted fs (Some f) e is = absurd cc
+
+-- nothing is at fault, and no run is late
+pub usual_read : (h : Held) (tracks : List Track) (m : Box) → IsMoof h m → box_faults m ≡ [] → form_faults m ≡ [] → value_faults tracks m ≡ [] → IsEarly tracks m → IsRead h tracks
+unfolding least_from
+usual_read h tracks m moof tree forms values early =
+    ap (λ (o : Option Fault). option_or o (least (time_faults (moof_trafs h tracks)))) (sym (none_early h tracks m moof.here moof.is tree forms values))
+    ∙ ap least (early_in_time h tracks m moof.whole moof.fits moof.here moof.is (values_count tracks m values) early)
