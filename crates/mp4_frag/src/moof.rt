@@ -31,15 +31,15 @@ use std::marker::Model;
 pub struct Moof<'a> {
     pub(crate) held: &'a [u8],
     pub(crate) offset: u64,
-    /// How many samples it has, where they were counted.
-    samples: Option<u32>,
+    /// What was told of it when it was read, where that is known.
+    told: Option<Sound>,
 }
 
 // A contract sees its bytes, and the offset of the first of them.
 impl<'a> Model for Moof<'a> {
     ghost use Rattle.std.specs.Prelude.{◌≡◌, ◌+◌, ◌^◌, ◌≤◌, [], length, IfSome};
     ghost use Rattle.mp4_box.specs.Headers.{IsWhole};
-    ghost use Rattle.mp4_frag.specs.Moofs.{moof_of, moof_samples};
+    ghost use Rattle.mp4_frag.specs.Moofs.{moof_of, moof_samples, moof_truns};
     ghost use Rattle.mp4_frag.specs.Rules.{count_faults, most_samples};
     ghost use Rattle.mp4_frag.specs.Runs.{Held, held_at};
 
@@ -49,7 +49,8 @@ impl<'a> Model for Moof<'a> {
 
     ghost invariant = { λ m. IsWhole m.held.now × (m.offset + length m.held.now ≤ 2 ^ 62) ×
         (count_faults (moof_of (held_at m.held.now m.offset)) ≡ []) ×
-        IfSome m.samples (λ n. (n ≡ moof_samples (held_at m.held.now m.offset)) × (n ≤ most_samples)) };
+        IfSome m.told (λ s. (s.samples ≡ moof_samples (held_at m.held.now m.offset)) ×
+        (s.samples ≤ most_samples) × (s.truns ≡ moof_truns (held_at m.held.now m.offset))) };
 }
 
 /// What is at fault with the values, times aside.
@@ -77,7 +78,17 @@ fn content_fault(tracks: &TrackList, moof: &BoxRef<'_>) -> Option<Fault>
     best
 }
 
-/// What is told of the moof that the bytes are, which begin at this offset, or its fault, times aside: rule by rule.
+/// How many truns the moof has that the bytes are, which begins at this offset.
+#[tactic(auto, using(crate::proofs::MoofLemmas::moof_is))]
+fn truns_at(held: &[u8], offset: u64) -> u64
+    requires whole { IsWhole held.now }
+    requires room { offset + length held.now ≤ 2 ^ 62 }
+    ensures { result ≡ moof_truns (held_at held.now offset) }
+{
+    truns_in(&whole_box(held, offset))
+}
+
+/// What is told of the moof that the bytes are, which begins at this offset, or its fault, times aside: rule by rule.
 #[tactic(auto, using(crate::proofs::MoofLemmas::moof_is), unfolding(crate::specs::Moofs::early_fault))]
 fn early_by_rules(held: &[u8], offset: u64, tracks: &TrackList) -> Result<Sound, Fault>
     requires whole { IsWhole held.now }
@@ -98,13 +109,13 @@ fn early_by_rules(held: &[u8], offset: u64, tracks: &TrackList) -> Result<Sound,
         Some(fault) => Err(fault),
         None => Ok(Sound {
             samples: samples_in(&moof),
-            truns: truns_in(&moof),
+            truns: truns_at(held, offset),
             is_early: false,
         }),
     }
 }
 
-/// What is told of the moof that the bytes are, which begin at this offset, or its fault, times aside.
+/// What is told of the moof that the bytes are, which begins at this offset, or its fault, times aside.
 fn early(held: &[u8], offset: u64, tracks: &TrackList) -> Result<Sound, Fault>
     requires whole { IsWhole held.now }
     requires room { offset + length held.now ≤ 2 ^ 62 }
@@ -148,7 +159,7 @@ fn late_fault(is_early: bool, held: &[u8], offset: u64, tracks: &TrackList) -> O
     best
 }
 
-/// The trafs of the moof that the bytes are, which begin at this offset.
+/// The trafs of the moof that the bytes are, which begins at this offset.
 #[tactic(auto, using(crate::proofs::MoofLemmas::moof_is))]
 fn trafs_in<'a>(held: &'a [u8], offset: u64, tracks: &'a TrackList) -> Trafs<'a>
     requires whole { IsWhole held.now }
@@ -160,21 +171,17 @@ fn trafs_in<'a>(held: &'a [u8], offset: u64, tracks: &'a TrackList) -> Trafs<'a>
 }
 
 impl<'a> Moof<'a> {
-    /// The moof that the bytes are, of which the samples were counted or not.
+    /// The moof that the bytes are, of which this was told, or nothing.
     #[inline]
-    fn of(held: &'a [u8], offset: u64, samples: Option<u32>) -> Moof<'a>
+    fn of(held: &'a [u8], offset: u64, told: Option<Sound>) -> Moof<'a>
         requires whole { IsWhole held.now }
         requires room { offset + length held.now ≤ 2 ^ 62 }
         requires count { count_faults (moof_of (held_at held.now offset)) ≡ [] }
-        requires samples { IfSome samples (λ n. (n ≡ moof_samples (held_at held.now offset)) ×
-            (n ≤ most_samples)) }
+        requires told { IfSome told (λ s. (s.samples ≡ moof_samples (held_at held.now offset)) ×
+            (s.samples ≤ most_samples) × (s.truns ≡ moof_truns (held_at held.now offset))) }
         ensures { result ≡ held_at held.now offset }
     {
-        Moof {
-            held,
-            offset,
-            samples,
-        }
+        Moof { held, offset, told }
     }
 
     /// The moof that the bytes are, one whole box of stated size that begins at `offset` in the stream. `tracks` are those
@@ -216,7 +223,7 @@ impl<'a> Moof<'a> {
         if let Some(fault) = late_fault(sound.is_early, held, offset, tracks) {
             return Err(fault);
         }
-        Ok(Moof::of(held, offset, Some(sound.samples)))
+        Ok(Moof::of(held, offset, Some(sound)))
     }
 
     /// The moof again that was read from these bytes with these tracks. It reads no row.
@@ -250,9 +257,19 @@ impl<'a> Moof<'a> {
         ensures samples { result ≡ moof_samples self.now }
         ensures few { result ≤ most_samples }
     {
-        match self.samples {
-            Some(samples) => samples,
+        match self.told {
+            Some(told) => told.samples,
             None => samples_in(&whole_box(self.held, self.offset)),
+        }
+    }
+
+    /// How many truns it has.
+    pub(crate) fn truns_len(&self) -> u64
+        ensures { result ≡ moof_truns self.now }
+    {
+        match self.told {
+            Some(told) => told.truns,
+            None => truns_at(self.held, self.offset),
         }
     }
 

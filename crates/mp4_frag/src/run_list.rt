@@ -5,12 +5,11 @@ ghost use Rattle.mp4_box.specs.Headers.{IsWhole};
 ghost use Rattle.mp4_ledger.specs.Memory.{claimed, given_back};
 ghost use Rattle.mp4_init.specs.declared.table.Track.{Track};
 ghost use Rattle.mp4_frag.specs.declared.run.Run.{Run};
-ghost use Rattle.mp4_frag.specs.Moofs.{IsRead, moof_runs, moof_samples};
+ghost use Rattle.mp4_frag.specs.Moofs.{IsRead, moof_runs, moof_samples, moof_truns};
 ghost use Rattle.mp4_frag.specs.RunRows.{listed_run};
 ghost use Rattle.mp4_frag.specs.Runs.{Held, held_at};
 ghost use Rattle.mp4_frag.specs.RunLists.{IsLate, IsListOf, IsSorted, taken_runs};
 
-use crate::counts::truns_in;
 use crate::fill::fill;
 use crate::listed::{find_by_track, listed_row, sort_by_place, sort_by_track};
 use crate::moof::Moof;
@@ -104,16 +103,18 @@ fn put_in_order(rows: &mut Rows64) -> Option<u64>
     late
 }
 
-/// The list of the runs of the moof that the bytes are, which begin at this offset.
+/// The list of the runs of the moof that the bytes are, which begins at this offset and has so many truns.
 fn list_in(
     ledger: &mut Ledger,
     held: &[u8],
     offset: u64,
     tracks: &TrackList,
+    truns: u64,
 ) -> Result<RunList, Refused>
     requires whole { IsWhole held.now }
     requires room { offset + length held.now ≤ 2 ^ 62 }
     requires read { IsRead (held_at held.now offset) tracks.now }
+    requires truns { truns ≡ moof_truns (held_at held.now offset) }
     ensures list { IfOk result (λ l.
         IsListOf (held_at held.now offset) tracks.now l) }
     ensures len { IfOk result (λ l. length l.rows ≡
@@ -125,7 +126,7 @@ fn list_in(
     ensures err { OnErr result (ledger.new ≡ ledger.old) }
 {
     let moof = whole_box(held, offset);
-    let mut rows = match ledger.rows(truns_in(&moof)) {
+    let mut rows = match ledger.rows(truns) {
         Ok(rows) => rows,
         Err(refused) => return Err(refused),
     };
@@ -160,7 +161,7 @@ impl<'a> Moof<'a> {
         ensures err { OnErr result (ledger.new ≡ ledger.old) }
         ensures unwalked { OnErr result (steps.new ≡ steps.old) }
     {
-        let list = match list_in(ledger, self.held, self.offset, tracks) {
+        let list = match list_in(ledger, self.held, self.offset, tracks, self.truns_len()) {
             Ok(list) => list,
             Err(why) => return Err(why),
         };

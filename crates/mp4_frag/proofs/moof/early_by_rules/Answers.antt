@@ -1,19 +1,11 @@
 use Rattle.std.proofs.Common.{◌∙◌, Some, sym}
 use Rattle.mp4_box.specs.Trees.{view}
-use Rattle.mp4_frag.specs.Runs.{Held}
 use Rattle.mp4_frag.proofs.EarlyLemmas.{content_count}
 use Rattle.mp4_frag.proofs.MoofLemmas.{content_fault_least, moof_is, tree_least}
-use Rattle.mp4_frag.proofs.MoofListLemmas.{few_truns, is_moof}
 use Rattle.mp4_frag.proofs.moof.early_by_rules.Goals as goal
 
 pub samples_in-requires : goal.samples_in-requires
 samples_in-requires c = content_count c.args.tracks.now (view c.whole_box-moof.result) (sym c.in-None.is ∙ c.content_fault.ensures)
-
-pub truns_in-requires : goal.truns_in-requires
-truns_in-requires c =
-    let h : Held = record { bytes = c.args.held.now; offset = c.args.offset } in
-    let m = view c.whole_box-moof.result in
-    few_truns h m (is_moof c.args.offset c.args.held.now m c.requires.whole (λ i. (c.type_inv.held i).fits) c.requires.room c.whole_box-moof.ensures)
 
 pub returns-in-Err-clause-least : goal.returns-in-Err-clause-least
 returns-in-Err-clause-least c = tree_least (record { bytes = c.args.held.now; offset = c.args.offset }) c.args.tracks.now c.in-Err.fault c.in-Err.ensures.least

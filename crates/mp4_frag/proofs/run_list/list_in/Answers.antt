@@ -1,30 +1,27 @@
-use Rattle.std.proofs.Common.{◌∙◌, ◌*◌, ℕ, [], ◌∷◌, length, ap, arith}
+use Rattle.std.proofs.Common.{◌≡◌, ◌∙◌, ◌*◌, ℕ, [], ◌∷◌, length, ap, arith}
 use Rattle.mp4_box.specs.Paths.{at_path}
-use Rattle.mp4_box.specs.Trees.{view}
+use Rattle.mp4_box.specs.Trees.{Box, view}
 use Rattle.mp4_ledger.specs.Memory.{Rows, claimed}
 use Rattle.mp4_ledger.specs.declared.ledger.Refused.TheVariants.{OverLimit}
 use Rattle.mp4_frag.specs.declared.run_list.RunList.{RunList as RowList}
-use Rattle.mp4_frag.specs.Kinds.{traf}
-use Rattle.mp4_frag.specs.Moofs.{moof_runs}
+use Rattle.mp4_frag.specs.Kinds.{to_trun, traf}
+use Rattle.mp4_frag.specs.Moofs.{moof_runs, moof_truns}
 use Rattle.mp4_frag.specs.RunRows.{rows_of_trafs}
 use Rattle.mp4_frag.specs.Runs.{Held}
-use Rattle.mp4_frag.proofs.MoofListLemmas.{claim_is, claimed_so, few_truns, filled, is_moof, known, length_filled, put_in, refused_so, room_for, sound_trafs}
+use Rattle.mp4_frag.proofs.MoofListLemmas.{IsMoof, claim_is, claimed_so, filled, is_moof, known, length_filled, put_in, refused_so, room_for, sound_trafs}
 use Rattle.mp4_frag.proofs.RunListLemmas.{length_rows, list_is}
 use Rattle.mp4_frag.proofs.run_list.list_in.Goals as goal
 
-pub truns_in-requires : goal.truns_in-requires
-truns_in-requires c =
-    let h : Held = record { bytes = c.args.held.now; offset = c.args.offset } in
-    let m = view c.whole_box-moof.result in
-    let f = is_moof c.args.offset c.args.held.now m c.requires.whole (λ i. (c.type_inv.held i).fits) c.requires.room c.whole_box-moof.ensures in
-    few_truns h m f
+-- so many truns has the moof
+counted : (h : Held) (m : Box) (n : ℕ) → IsMoof h m → n ≡ moof_truns h → n ≡ length (at_path to_trun m)
+counted h m n f e = e ∙ ap (λ (b : Box). length (at_path to_trun b)) f.is
 
 pub returns-in-Err-clause-over_limit : goal.returns-in-Err-clause-over_limit
 returns-in-Err-clause-over_limit c =
     let h : Held = record { bytes = c.args.held.now; offset = c.args.offset } in
     let m = view c.whole_box-moof.result in
     let f = is_moof c.args.offset c.args.held.now m c.requires.whole (λ i. (c.type_inv.held i).fits) c.requires.room c.whole_box-moof.ensures in
-    refused_so Rows RowList c.in-Err.refused OverLimit c.truns_in.result (length (moof_runs h c.args.tracks.now)) c.args.ledger.now.limit c.args.ledger.now.live (claim_is h c.args.tracks.now m c.truns_in.result f c.truns_in.ensures) c.in-Err.ensures.over_limit
+    refused_so Rows RowList c.in-Err.refused OverLimit c.args.truns (length (moof_runs h c.args.tracks.now)) c.args.ledger.now.limit c.args.ledger.now.live (claim_is h c.args.tracks.now m c.args.truns f (counted h m c.args.truns f c.requires.truns)) c.in-Err.ensures.over_limit
 
 pub fill-requires-clause-room : goal.fill-requires-clause-room
 fill-requires-clause-room c =
@@ -33,7 +30,7 @@ fill-requires-clause-room c =
     let f = is_moof c.args.offset c.args.held.now m c.requires.whole (λ i. (c.type_inv.held i).fits) c.requires.room c.whole_box-moof.ensures in
     let none = ap (λ (t : Rows). length t.rows) c.in-Ok.ensures.empty in
     let cap = ap (λ (t : Rows). t.cap) c.in-Ok.ensures.empty in
-    omega (arith, none, cap, c.truns_in.ensures, room_for h c.args.tracks.now m)
+    omega (arith, none, cap, (counted h m c.args.truns f c.requires.truns), room_for h c.args.tracks.now m)
 
 pub fill-requires-clause-sound : goal.fill-requires-clause-sound
 fill-requires-clause-sound c =
@@ -56,14 +53,14 @@ returns-clause-ok c =
     let h : Held = record { bytes = c.args.held.now; offset = c.args.offset } in
     let m = view c.whole_box-moof.result in
     let f = is_moof c.args.offset c.args.held.now m c.requires.whole (λ i. (c.type_inv.held i).fits) c.requires.room c.whole_box-moof.ensures in
-    c.in-Ok.ensures.ok ∙ ap (λ (n : ℕ). claimed c.args.ledger.now (64 * n)) (claim_is h c.args.tracks.now m c.truns_in.result f c.truns_in.ensures)
+    c.in-Ok.ensures.ok ∙ ap (λ (n : ℕ). claimed c.args.ledger.now (64 * n)) (claim_is h c.args.tracks.now m c.args.truns f (counted h m c.args.truns f c.requires.truns))
 
 pub returns-clause-over_limit : goal.returns-clause-over_limit
 returns-clause-over_limit c =
     let h : Held = record { bytes = c.args.held.now; offset = c.args.offset } in
     let m = view c.whole_box-moof.result in
     let f = is_moof c.args.offset c.args.held.now m c.requires.whole (λ i. (c.type_inv.held i).fits) c.requires.room c.whole_box-moof.ensures in
-    claimed_so c.in-Ok.rows _ OverLimit c.truns_in.result (length (moof_runs h c.args.tracks.now)) c.args.ledger.now.limit c.args.ledger.now.live (claim_is h c.args.tracks.now m c.truns_in.result f c.truns_in.ensures) c.in-Ok.ensures.over_limit
+    claimed_so c.in-Ok.rows _ OverLimit c.args.truns (length (moof_runs h c.args.tracks.now)) c.args.ledger.now.limit c.args.ledger.now.live (claim_is h c.args.tracks.now m c.args.truns f (counted h m c.args.truns f c.requires.truns)) c.in-Ok.ensures.over_limit
 
 pub invariant_of-result : goal.invariant_of-result
 invariant_of-result c =
@@ -73,7 +70,7 @@ invariant_of-result c =
     let rows = put_in c.in-Ok.rows.rows c.fill.new.rows.rows (rows_of_trafs h c.args.tracks.now (at_path (traf ∷ []) m)) (ap (λ (t : Rows). t.rows) c.in-Ok.ensures.empty) c.fill.ensures.rows in
     let n = length_filled h c.args.tracks.now m c.fill.new.rows.rows rows in
     let cap = ap (λ (t : Rows). t.cap) c.in-Ok.ensures.empty in
-    omega (arith, n, cap, c.truns_in.ensures, c.fill.ensures.cap, c.put_in_order-late.ensures.len, c.put_in_order-late.ensures.cap)
+    omega (arith, n, cap, (counted h m c.args.truns f c.requires.truns), c.fill.ensures.cap, c.put_in_order-late.ensures.len, c.put_in_order-late.ensures.cap)
 
 pub returns-clause-len : goal.returns-clause-len
 returns-clause-len c =
