@@ -122,6 +122,7 @@ fn note_track(track: Option<Track>, tfhd: &BoxRef<'_>, best: &mut Option<Fault>)
 }
 
 /// Notes what is at fault with the values of a tfhd.
+#[inline(always)]
 #[tactic(auto, using(mp4_box::proofs::OrderLemmas::least_from_append), unfolding(mp4_box::specs::Order::least_from, crate::specs::Rules::tfhd_faults))]
 pub(crate) fn note_tfhd(tracks: &TrackList, tfhd: &BoxRef<'_>, best: &mut Option<Fault>)
     ensures best { best.new ≡ least_from best.old (tfhd_faults tracks.now (view tfhd.now)) }
