@@ -22,7 +22,7 @@ use crate::trun::sample_count;
 use mp4_box::{BoxRef, Check, Fault, FourCc, Layout, Rule, Walk, note};
 use mp4_init::TrackList;
 
-/// What is told of a moof in which nothing is at fault with its boxes and their values.
+/// What is told of a moof in which nothing is at fault with its tree, its boxes and their values.
 #[derive(Clone, Copy)]
 pub(crate) struct Sound {
     /// How many samples it has.
