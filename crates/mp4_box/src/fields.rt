@@ -73,7 +73,7 @@ pub fn long_number_at(payload: &[u8], at: u32) -> u64
 }
 
 /// The `N` bytes at `at`.
-pub(crate) fn array_at<const N: usize>(bytes: &[u8], at: usize) -> [u8; N]
+pub fn array_at<const N: usize>(bytes: &[u8], at: usize) -> [u8; N]
     requires { at + N ≤ length bytes.now }
     ensures { result ≡ take N (drop at bytes.now) }
 {

@@ -31,7 +31,7 @@ mod walk;
 
 pub use box_ref::BoxRef;
 pub use checks::{AtMostOne, Check, Layout, One, note_along};
-pub use fields::{full, i32_at, long_number_at, number_at, u32_at, u64_at, version_of};
+pub use fields::{array_at, full, i32_at, long_number_at, number_at, u32_at, u64_at, version_of};
 pub use headers::{FourCc, Header, Size, Step, header_of};
 pub use mp4_ends::{Failed, FromRead, IntoWrite, Sink, Source, ends, write_all};
 pub use mp4_flags::{Flags, TfhdFlags, TrunFlags};

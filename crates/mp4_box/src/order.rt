@@ -19,6 +19,7 @@ fn is_before(first: &Fault, second: &Fault) -> bool
 }
 
 /// Keeps the fault in `best` where it comes before the best so far.
+#[inline(never)]
 pub fn note(best: &mut Option<Fault>, fault: Fault)
     ensures { best.new ≡ noted best.old fault }
 {

@@ -145,6 +145,7 @@ fn bad_box(bytes: &[u8], offset: u64) -> Fault
 
 impl<'a> BoxRef<'a> {
     /// The fault of this box where it breaks the rule.
+    #[inline(always)]
     pub fn fault(&self, rule: Rule) -> Fault
         ensures { result ≡ fault_at rule (view self.now) }
     {

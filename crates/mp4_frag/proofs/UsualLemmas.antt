@@ -1,6 +1,8 @@
 -- A moof of the usual form in which nothing is at fault.
-use Rattle.std.proofs.Common.{◌≡◌, ◌∙◌, ◌+◌, ◌≤◌, ◌<◌, ◌^◌, ◌==◌, Bool, true, false, List, [], ◌∷◌, ◌++◌, length, Option, None, Some, append-nil, refl, sym, ap, arith}
-use Rattle.std.specs.Prelude.{◌&&◌}
+use Rattle.std.proofs.Common.{◌≡◌, ◌∙◌, ◌+◌, ◌≤◌, ◌<◌, ◌^◌, ◌==◌, Bool, true, false, not, ℕ, drop, List, [], ◌∷◌, ◌++◌, length, Option, None, Some, append-nil, refl, sym, ap, arith}
+use Rattle.std.specs.Prelude.{◌&&◌, slice_range}
+use Rattle.std.proofs.lemmas.List.{drop_all, length-drop}
+use Rattle.std.proofs.lemmas.Slice.Eq.{bytes_eq-Decides}
 use Rattle.std.specs.List.{flat_map, list_all, sum_by}
 use Rattle.std.specs.Option.{is_some, option_or}
 use Rattle.std.specs.Str.{bytes_eq}
@@ -12,7 +14,11 @@ use Rattle.mp4_box.specs.declared.checks.Layout.TheVariants.{Exactly}
 use Rattle.mp4_box.specs.Checks.{laid_out}
 use Rattle.mp4_box.specs.Order.{least, least_from}
 use Rattle.mp4_box.specs.Paths.{at_path, of_kind}
-use Rattle.mp4_box.specs.Trees.{Box, box_at, box_faults, box_len, children}
+use Rattle.mp4_box.specs.Headers.{kind_field, size_field, uuid}
+use Rattle.mp4_box.specs.declared.headers.Size.TheVariants.{Exact}
+use Rattle.mp4_box.specs.Trees.{Box, box_at, box_faults, box_len, boxes, children, payload_offset}
+use Rattle.mp4_box.proofs.BoxLemmas.{plain_box, plain_is, short_none}
+use Rattle.mp4_box.proofs.TreeLemmas.{boxes_end, boxes_more}
 use Rattle.mp4_box.proofs.OrderLemmas.{least-none}
 use Rattle.mp4_init.specs.declared.table.Track.{Track}
 use Rattle.mp4_frag.specs.AtOnce.{HasTicks, IsComplete, IsEarly, TrafHasTicks, by_moof, by_traf, faults_in_moof, faults_in_traf, has_both, has_one, is_complete, is_early, is_filled, is_kind, passed_over, times_early}
@@ -140,3 +146,41 @@ unfolding least_from
 usual_read h tracks m moof tree forms values early =
     ap (λ (o : Option Fault). option_or o (least (time_faults (moof_trafs h tracks)))) (sym (none_early h tracks m moof.here moof.is tree forms values))
     ∙ ap least (early_in_time h tracks m moof.whole moof.fits moof.here moof.is (values_count tracks m values) early)
+
+-- ---- boxes with headers of eight bytes
+
+pub plain_here : (o : ℕ) (x : List ℕ) (kind : FourCc) (n : ℕ) → 8 ≤ length x → n ≡ size_field x → 8 ≤ n → n ≤ length x → bytes_eq (kind_field x) kind.0 ≡ true → not (bytes_eq kind.0 uuid) ≡ true
+    → box_at o x ≡ Some (record { header = record { kind = kind; user = None; size = Exact n; header_len = 8 }; offset = o; payload = slice_range x 8 n })
+plain_here o x kind n long size room within is other =
+    let same : kind_field x ≡ kind.0 = (bytes_eq-Decides (kind_field x) kind.0).0 is in
+    let header = plain_is x kind.0 long (omega (arith, size, room)) (sym same) other in
+    sym (plain_box o x header (omega (arith, size, within)))
+    ∙ ap (λ (k : List ℕ). Some (record { header = record { kind = record { 0 = k }; user = None; size = Exact (size_field x); header_len = 8 }; offset = o; payload = slice_range x 8 (size_field x) })) same
+    ∙ ap (λ (k : ℕ). Some (record { header = record { kind = kind; user = None; size = Exact k; header_len = 8 }; offset = o; payload = slice_range x 8 k })) (sym size)
+
+-- a box stands first, and others behind it
+one_first : (o p : ℕ) (x rest : List ℕ) (b : Box) → box_at o x ≡ Some b → 8 ≤ box_len b → box_len b ≤ length x → rest ≡ drop (box_len b) x → p ≡ o + box_len b → boxes o x ≡ b ∷ boxes p rest
+one_first o p x rest b here low high behind at =
+    boxes_more o x b here low high ∙ ap (λ (k : ℕ). b ∷ boxes k (drop (box_len b) x)) (sym at) ∙ ap (λ (y : List ℕ). b ∷ boxes p y) (sym behind)
+
+-- or no bytes do
+one_last : (o : ℕ) (x : List ℕ) (b : Box) → box_at o x ≡ Some b → 8 ≤ box_len b → box_len b ≡ length x → boxes o x ≡ b ∷ []
+one_last o x b here low all =
+    one_first o (o + box_len b) x [] b here low (omega (arith, all)) (sym (drop_all (box_len b) x (omega (arith, all)))) refl
+    ∙ ap (λ (bs : List Box). b ∷ bs) (boxes_end (o + box_len b) [] (sym (short_none (o + box_len b) [] (omega arith))))
+
+pub two_are : (m a b : Box) (p : ℕ) (x : List ℕ) → box_at (payload_offset m) m.payload ≡ Some a → 8 ≤ box_len a → box_len a ≤ length m.payload → x ≡ drop (box_len a) m.payload → p ≡ payload_offset m + box_len a
+    → box_at p x ≡ Some b → 8 ≤ box_len b → box_len b ≡ length x → HoldsTwo m a b
+two_are m a b p x first low high rest at second more all = record {
+  are = one_first (payload_offset m) p m.payload x a first low high rest at ∙ ap (λ (bs : List Box). a ∷ bs) (one_last p x b second more all);
+  filled = omega (arith, all, ap length rest, length-drop (box_len a) m.payload, high);
+}
+
+pub three_are : (m a b c : Box) (p q : ℕ) (x y : List ℕ) → box_at (payload_offset m) m.payload ≡ Some a → 8 ≤ box_len a → box_len a ≤ length m.payload → x ≡ drop (box_len a) m.payload → p ≡ payload_offset m + box_len a
+    → box_at p x ≡ Some b → 8 ≤ box_len b → box_len b ≤ length x → y ≡ drop (box_len b) x → q ≡ p + box_len b → box_at q y ≡ Some c → 8 ≤ box_len c → box_len c ≡ length y → HoldsThree m a b c
+three_are m a b c p q x y first low high rest at second low' high' rest' at' third more all = record {
+  are =
+      one_first (payload_offset m) p m.payload x a first low high rest at
+      ∙ ap (λ (bs : List Box). a ∷ bs) (one_first p q x y b second low' high' rest' at' ∙ ap (λ (bs : List Box). b ∷ bs) (one_last q y c third more all));
+  filled = omega (arith, all, ap length rest, length-drop (box_len a) m.payload, high, ap length rest', length-drop (box_len b) x, high');
+}

@@ -2,12 +2,14 @@
 //!
 //! Nearly all moofs of live streams with one track have this form. What is told of them is what the general way tells.
 
-ghost use Rattle.std.specs.Prelude.{◌≡◌, ◌∷◌, ◌≤◌, ◌^◌, ◌+◌, ◌<◌, [], length, IfSome, IsSome, IsTrue};
-ghost use Rattle.mp4_box.specs.Headers.{IsWhole};
+ghost use Rattle.std.specs.Prelude.{◌≡◌, ◌∷◌, ◌≤◌, ◌^◌, ◌+◌, ◌<◌, [], not, true, drop, length, Some, IfSome, IsSome, IsTrue};
+ghost use Rattle.std.specs.Str.{bytes_eq};
+ghost use Rattle.mp4_box.specs.Headers.{IsWhole, uuid};
 ghost use Rattle.mp4_box.specs.Order.{least_from};
-ghost use Rattle.mp4_box.specs.Trees.{box_faults, view};
+ghost use Rattle.mp4_box.specs.Trees.{box_at, box_faults, box_len, view};
 ghost use Rattle.mp4_init.specs.Rows.{with_next};
-ghost use Rattle.mp4_frag.specs.AtOnce.{HasTicks, IsEarly};
+ghost use Rattle.mp4_frag.specs.AtOnce.{HasTicks, IsEarly, is_kind};
+ghost use Rattle.mp4_frag.specs.Kinds.{mfhd, tfdt, tfhd, traf, trun};
 ghost use Rattle.mp4_frag.specs.Moofs.{IsRead, moof_runs, moof_samples, moof_trafs, value_faults};
 ghost use Rattle.mp4_frag.specs.Ranges.{InRange};
 ghost use Rattle.mp4_frag.specs.Rules.{form_faults};
@@ -23,22 +25,22 @@ use crate::lone::{LoneRun, run_with};
 use crate::mfhd::MFHD_LEN;
 use crate::tfdt::{LONG_TFDT_LEN, TFDT_LEN, base_media_decode_time};
 use crate::trun::sample_count;
-use mp4_box::{BoxRef, Check, Fault, Layout, Walk, whole_box};
+use mp4_box::{BoxRef, Check, Fault, FourCc, Header, Layout, Size, array_at, u32_at, whole_box};
 use mp4_init::TrackList;
 
-/// The only two boxes in a box.
+/// The boxes in a moof.
 #[derive(Clone, Copy)]
 struct Two<'a> {
-    first: BoxRef<'a>,
-    second: BoxRef<'a>,
+    mfhd: BoxRef<'a>,
+    traf: BoxRef<'a>,
 }
 
-/// The only three boxes in a box.
+/// The boxes in a traf.
 #[derive(Clone, Copy)]
 struct Three<'a> {
-    first: BoxRef<'a>,
-    second: BoxRef<'a>,
-    third: BoxRef<'a>,
+    tfhd: BoxRef<'a>,
+    tfdt: BoxRef<'a>,
+    trun: BoxRef<'a>,
 }
 
 /// The boxes of a moof of the usual form.
@@ -51,65 +53,95 @@ struct Usual<'a> {
     trun: BoxRef<'a>,
 }
 
-/// How many bytes a box has.
+/// The box at the front of the bytes, which begin at `offset`, where it is of this type and its header has eight bytes and states
+/// a size.
 #[inline(always)]
-fn len_of(this: &BoxRef<'_>) -> u64
-    ensures { result ≡ this.now.header.header_len + length this.now.payload.now }
+fn plain_first<'a>(kind: FourCc, bytes: &'a [u8], offset: u64) -> Option<BoxRef<'a>>
+    requires room { offset + length bytes.now < 2 ^ 63 }
+    requires plain { not (bytes_eq kind.0 uuid) ≡ true }
+    ensures here { IfSome result (λ b. box_at offset bytes.now ≡ Some (view b)) }
+    ensures within { IfSome result (λ b. (8 ≤ box_len (view b)) ×
+        (box_len (view b) ≤ length bytes.now)) }
+    ensures head { IfSome result (λ b. b.header.header_len ≡ 8) }
+    ensures kind { IfSome result (λ b. is_kind kind (view b) ≡ true) }
 {
-    this.header.header_len + this.payload.len() as u64
-}
-
-/// The boxes in a box that has just two, which take all of its payload.
-#[inline(always)]
-fn two_in<'a>(this: &BoxRef<'a>) -> Option<Two<'a>>
-    ensures { IfSome result (λ two.
-        HoldsTwo (view this.now) (view two.first) (view two.second)) }
-{
-    let mut walk = Walk::of(this);
-    let Some(first) = walk.next() else {
-        return None;
-    };
-    let Some(second) = walk.next() else {
-        return None;
-    };
-    if walk.next().is_some() {
+    if bytes.len() < 8 {
         return None;
     }
-    if len_of(&first) + len_of(&second) != this.payload.len() as u64 {
+    let size = u32_at(bytes, 0) as usize;
+    if size < 8 || size > bytes.len() || !FourCc(array_at::<4>(bytes, 4)).is(kind) {
         return None;
     }
-    Some(Two { first, second })
-}
-
-/// The boxes in a box that has just three, which take all of its payload.
-#[inline(always)]
-fn three_in<'a>(this: &BoxRef<'a>) -> Option<Three<'a>>
-    ensures { IfSome result (λ three. HoldsThree (view this.now)
-        (view three.first) (view three.second) (view three.third)) }
-{
-    let mut walk = Walk::of(this);
-    let Some(first) = walk.next() else {
-        return None;
-    };
-    let Some(second) = walk.next() else {
-        return None;
-    };
-    let Some(third) = walk.next() else {
-        return None;
-    };
-    if walk.next().is_some() {
-        return None;
-    }
-    let len = this.payload.len() as u64;
-    let two = len_of(&first) + len_of(&second);
-    if two > len || len_of(&third) != len - two {
-        return None;
-    }
-    Some(Three {
-        first,
-        second,
-        third,
+    Some(BoxRef {
+        header: Header {
+            kind,
+            user: None,
+            size: Size::Exact(size as u64),
+            header_len: 8,
+        },
+        offset,
+        payload: &bytes[8..size],
     })
+}
+
+/// What of a payload stands behind a box with which it begins.
+#[inline(always)]
+fn behind<'a>(bytes: &'a [u8], this: &BoxRef<'_>) -> &'a [u8]
+    requires { box_len (view this.now) ≤ length bytes.now }
+    ensures { result.now ≡ drop (box_len (view this.now)) bytes.now }
+{
+    let (_, rest) = bytes.split_at(this.header.header_len as usize + this.payload.len());
+    rest
+}
+
+/// The boxes in a moof that has just an mfhd and a traf, which take all of its payload.
+#[inline(always)]
+fn two_in<'a>(moof: &BoxRef<'a>) -> Option<Two<'a>>
+    ensures holds { IfSome result (λ two.
+        HoldsTwo (view moof.now) (view two.mfhd) (view two.traf)) }
+    ensures mfhd { IfSome result (λ two. is_kind mfhd (view two.mfhd) ≡ true) }
+    ensures traf { IfSome result (λ two. is_kind traf (view two.traf) ≡ true) }
+{
+    let at = moof.offset + moof.header.header_len;
+    let Some(mfhd) = plain_first(MFHD, moof.payload, at) else {
+        return None;
+    };
+    let rest = behind(moof.payload, &mfhd);
+    let Some(traf) = plain_first(TRAF, rest, at + 8 + mfhd.payload.len() as u64) else {
+        return None;
+    };
+    if traf.payload.len() + 8 != rest.len() {
+        return None;
+    }
+    Some(Two { mfhd, traf })
+}
+
+/// The boxes in a traf that has just a tfhd, a tfdt and a trun, which take all of its payload.
+#[inline(always)]
+fn three_in<'a>(traf: &BoxRef<'a>) -> Option<Three<'a>>
+    ensures holds { IfSome result (λ three. HoldsThree (view traf.now)
+        (view three.tfhd) (view three.tfdt) (view three.trun)) }
+    ensures tfhd { IfSome result (λ three. is_kind tfhd (view three.tfhd) ≡ true) }
+    ensures tfdt { IfSome result (λ three. is_kind tfdt (view three.tfdt) ≡ true) }
+    ensures trun { IfSome result (λ three. is_kind trun (view three.trun) ≡ true) }
+{
+    let at = traf.offset + traf.header.header_len;
+    let Some(tfhd) = plain_first(TFHD, traf.payload, at) else {
+        return None;
+    };
+    let rest = behind(traf.payload, &tfhd);
+    let at = at + 8 + tfhd.payload.len() as u64;
+    let Some(tfdt) = plain_first(TFDT, rest, at) else {
+        return None;
+    };
+    let rest = behind(rest, &tfdt);
+    let Some(trun) = plain_first(TRUN, rest, at + 8 + tfdt.payload.len() as u64) else {
+        return None;
+    };
+    if trun.payload.len() + 8 != rest.len() {
+        return None;
+    }
+    Some(Three { tfhd, tfdt, trun })
 }
 
 /// The boxes of a moof, where it has the usual form.
@@ -118,27 +150,12 @@ fn usual_of<'a>(moof: &BoxRef<'a>) -> Option<Usual<'a>>
     ensures { IfSome result (λ u. IsUsual (view moof.now) (view u.mfhd) (view u.traf)
         (view u.tfhd) (view u.tfdt) (view u.trun)) }
 {
-    let Some(Two {
-        first: mfhd,
-        second: traf,
-    }) = two_in(moof)
-    else {
+    let Some(Two { mfhd, traf }) = two_in(moof) else {
         return None;
     };
-    if !mfhd.header.kind.is(MFHD) || !traf.header.kind.is(TRAF) {
-        return None;
-    }
-    let Some(Three {
-        first: tfhd,
-        second: tfdt,
-        third: trun,
-    }) = three_in(&traf)
-    else {
+    let Some(Three { tfhd, tfdt, trun }) = three_in(&traf) else {
         return None;
     };
-    if !tfhd.header.kind.is(TFHD) || !tfdt.header.kind.is(TFDT) || !trun.header.kind.is(TRUN) {
-        return None;
-    }
     Some(Usual {
         mfhd,
         traf,
