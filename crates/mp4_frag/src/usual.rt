@@ -225,6 +225,8 @@ pub(crate) fn usual_run(held: &[u8], offset: u64, tracks: &TrackList) -> Option<
         return None;
     }
     let time = base_media_decode_time(usual.tfdt.payload);
+    // A copy, so that the other boxes need not be in memory.
+    let trun = usual.trun;
     Some(run_with(
         held,
         offset,
@@ -232,6 +234,6 @@ pub(crate) fn usual_run(held: &[u8], offset: u64, tracks: &TrackList) -> Option<
         &usual.traf,
         usual.tfhd.payload,
         Some(time),
-        &usual.trun,
+        &trun,
     ))
 }
