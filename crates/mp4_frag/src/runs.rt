@@ -84,6 +84,7 @@ pub(crate) fn ticks_in(context: &TrafContext<'_>, trun: &BoxRef<'_>) -> u64
 }
 
 /// The run of a trun.
+#[inline(always)]
 #[tactic(auto, unfolding(crate::specs::Runs::run_of))]
 pub(crate) fn run_of(context: &TrafContext<'_>, behind: &Behind, trun: &BoxRef<'_>) -> Run
     requires { behind.now.time + ticks_in (shared_of context.now) (view trun.now) < 2 ^ 64 }
