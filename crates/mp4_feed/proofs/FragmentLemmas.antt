@@ -21,7 +21,7 @@ use Rattle.mp4_run_order.specs.Takings.{has_samples}
 use Rattle.mp4_run_order.proofs.SearchLemmas.{offender_means}
 use Rattle.mp4_frag.specs.declared.run.Run.{Run}
 use Rattle.mp4_frag.specs.declared.lone.LoneRun.{LoneRun}
-use Rattle.mp4_frag.specs.Moofs.{IsRead, moof_runs, moof_samples, moof_trafs}
+use Rattle.mp4_frag.specs.Moofs.{moof_runs, moof_samples, moof_trafs}
 use Rattle.mp4_frag.specs.Settling.{settled}
 use Rattle.mp4_frag.specs.Places.{misplaced, place_fault}
 use Rattle.mp4_run_order.specs.Orders.{taken_by}
@@ -54,7 +54,7 @@ use Rattle.mp4_feed.proofs.CountLemmas.{counted_later, counted_moof, counted_tol
 use Rattle.mp4_feed.specs.Wholes.{IsFragment, IsLone, StandsFirst, payload_in}
 use Rattle.mp4_feed.specs.declared.whole.Span.{Span}
 use Rattle.mp4_feed.specs.declared.whole.Whole.{Whole}
-use Rattle.mp4_feed.proofs.MediaLemmas.{AreIn, media_in, media_of}
+use Rattle.mp4_feed.proofs.MediaLemmas.{AreIn, media_in}
 use Rattle.mp4_feed.proofs.WholeLemmas.{GoesOn-whole, StopsAt-whole, front_is}
 
 -- ---- a box at the front

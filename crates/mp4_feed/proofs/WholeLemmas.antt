@@ -1,5 +1,5 @@
 -- What a fragment brings of which a piece has all.
-use Rattle.std.proofs.Common.{◌≡◌, ◌∙◌, ℕ, ◌+◌, ◌-◌, ◌*◌, ◌<◌, ◌≤◌, max, List, [], ◌∷◌, ◌++◌, length, length-append, take, drop, take-append-drop, append_assoc, append-nil, Option, None, Some, ap, sym, refl, arith, subst}
+use Rattle.std.proofs.Common.{◌≡◌, ◌∙◌, ℕ, ◌+◌, ◌-◌, ◌*◌, ◌<◌, ◌≤◌, max, List, [], ◌∷◌, ◌++◌, length, take, drop, take-append-drop, Option, None, Some, ap, sym, refl, arith, subst}
 use Rattle.std.specs.Prelude.{map}
 use Rattle.std.proofs.lemmas.List.{length-drop, length-map, length-take-le}
 use Rattle.mp4_ends.specs.Streams.{AppendsPrefix}
@@ -14,22 +14,22 @@ use Rattle.mp4_init.specs.declared.table.Track.{Track}
 use Rattle.mp4_frag.specs.Moofs.{IsRead, early_fault, moof_runs, moof_trafs, time_faults}
 use Rattle.mp4_frag.specs.declared.run.Run.{Run}
 use Rattle.mp4_frag.specs.RunRows.{row_of_run}
-use Rattle.mp4_frag.specs.Runs.{Held, held_at}
+use Rattle.mp4_frag.specs.Runs.{held_at}
 use Rattle.mp4_frag.specs.Settling.{settled}
 use Rattle.mp4_frag.proofs.SettleLemmas.{settled_length}
 use Rattle.mp4_ledger.specs.Memory.{Account, claimed, given_back}
 use Rattle.mp4_reading.specs.Bodies.{least_end, longest}
 use Rattle.mp4_reading.specs.Blocks.{Passes}
 use Rattle.mp4_reading.specs.Pieces.{GoesOn, Loses, Outside, Standing, StopsAt, outside}
-use Rattle.mp4_reading.specs.Readings.{plus, silent, then_read}
+use Rattle.mp4_reading.specs.Readings.{plus, silent}
 use Rattle.mp4_reading.specs.declared.tally.Tally.{Tally}
 use Rattle.mp4_reading.specs.declared.stop.Stop.TheVariants.{Write}
 use Rattle.mp4_reading.proofs.PieceLemmas.{GoesOn-more, GoesOn-silent, GoesOn-take_more, StopsAt-take_more, back_to, claimed_from}
 use Rattle.mp4_items.specs.declared.command.Command.{Command}
 use Rattle.mp4_items.specs.declared.kinds.Kind.TheVariants.{Moof, Mdat}
 use Rattle.mp4_items.specs.Commands.{accepted, making}
-use Rattle.mp4_items.specs.Contexts.{Context, context, table_of}
-use Rattle.mp4_items.specs.Items.{behind, fragment, reads_in, walked}
+use Rattle.mp4_items.specs.Contexts.{Context, context}
+use Rattle.mp4_items.specs.Items.{fragment, walked}
 use Rattle.mp4_items.specs.Kinds.{kind_in, most_moof}
 use Rattle.mp4_items.specs.Makings.{Fragment, Making, counted_in, fragment_fault, needed_in}
 use Rattle.mp4_feed.specs.Places.{Behind, InBody, InHeader, InHeld, standing}

@@ -1,9 +1,9 @@
 -- A moof of the usual form in which nothing is at fault.
-use Rattle.std.proofs.Common.{◌≡◌, ◌∙◌, ◌+◌, ◌≤◌, ◌<◌, ◌^◌, ◌==◌, Bool, true, false, not, ℕ, drop, List, [], ◌∷◌, ◌++◌, length, Option, None, Some, append-nil, refl, sym, ap, arith}
-use Rattle.std.specs.Prelude.{◌&&◌, slice_range}
+use Rattle.std.proofs.Common.{◌≡◌, ◌∙◌, ◌+◌, ◌≤◌, true, false, not, ℕ, drop, List, [], ◌∷◌, ◌++◌, length, Option, None, Some, append-nil, refl, sym, ap, arith}
+use Rattle.std.specs.Prelude.{slice_range}
 use Rattle.std.proofs.lemmas.List.{drop_all, length-drop}
 use Rattle.std.proofs.lemmas.Slice.Eq.{bytes_eq-Decides}
-use Rattle.std.specs.List.{flat_map, list_all, sum_by}
+use Rattle.std.specs.List.{flat_map, sum_by}
 use Rattle.std.specs.Option.{is_some, option_or}
 use Rattle.std.specs.Str.{bytes_eq}
 use Rattle.std.proofs.lemmas.Bool.Decides.{Decides-eqb}
@@ -21,10 +21,10 @@ use Rattle.mp4_box.proofs.BoxLemmas.{plain_box, plain_is, short_none}
 use Rattle.mp4_box.proofs.TreeLemmas.{boxes_end, boxes_more}
 use Rattle.mp4_box.proofs.OrderLemmas.{least-none}
 use Rattle.mp4_init.specs.declared.table.Track.{Track}
-use Rattle.mp4_frag.specs.AtOnce.{HasTicks, IsComplete, IsEarly, TrafHasTicks, by_moof, by_traf, faults_in_moof, faults_in_traf, has_both, has_one, is_complete, is_early, is_filled, is_kind, passed_over, times_early}
-use Rattle.mp4_frag.specs.Kinds.{free, mfhd, skip, tfdt, tfhd, to_trun, traf, trun}
+use Rattle.mp4_frag.specs.AtOnce.{HasTicks, IsComplete, IsEarly, faults_in_moof, faults_in_traf, is_complete, is_early, is_filled}
+use Rattle.mp4_frag.specs.Kinds.{mfhd, tfdt, tfhd, to_trun, traf, trun}
 use Rattle.mp4_frag.specs.Mfhd.{mfhd_len}
-use Rattle.mp4_frag.specs.Moofs.{IsRead, early_fault, moof_of, moof_samples, moof_trafs, time_faults, value_faults}
+use Rattle.mp4_frag.specs.Moofs.{IsRead, moof_trafs, time_faults, value_faults}
 use Rattle.mp4_frag.specs.Rules.{count_faults, form_faults, most_samples, samples_in, tfhd_faults, tfhd_length, trun_faults, trun_length}
 use Rattle.mp4_frag.specs.Runs.{Held}
 use Rattle.mp4_frag.specs.Tfdt.{tfdt_layout}

@@ -121,9 +121,7 @@ fn lone_of<'a>(held: &'a [u8], moof: u64, tracks: &TrackList, traf: &BoxRef<'a>)
     let Some(trun) = only_of(TRUN, heads.rest) else {
         return None;
     };
-    Some(run_with(
-        held, moof, tracks, traf, heads.tfhd, heads.time, &trun,
-    ))
+    Some(run_with(held, moof, tracks, traf, heads.tfhd, heads.time, &trun))
 }
 
 /// The only run of the moof that the bytes are, which begin at this offset: of its only traf.
@@ -212,12 +210,7 @@ impl LoneRun {
     /// at fault with it and it has one traf, with one trun in it; none of other moofs. `tracks` are those of its moov. Where there
     /// is such a run, its samples are counted in `steps` twice as rows that were read: once for the rules, as [`Moof::read`]
     /// counts them, and once for the run.
-    pub fn read(
-        held: &[u8],
-        offset: u64,
-        tracks: &TrackList,
-        steps: &mut Steps,
-    ) -> Option<LoneRun>
+    pub fn read(held: &[u8], offset: u64, tracks: &TrackList, steps: &mut Steps) -> Option<LoneRun>
         requires whole { IsWhole held.now }
         requires room { offset + length held.now ≤ 2 ^ 62 }
         requires steps { steps.old.rows < 2 ^ 126 }

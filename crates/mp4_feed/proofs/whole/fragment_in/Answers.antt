@@ -1,8 +1,7 @@
-use Rattle.std.proofs.Common.{◌+◌, drop, take, arith, sym, subst}
+use Rattle.std.proofs.Common.{◌+◌, arith, sym, subst}
 use Rattle.mp4_box.specs.Headers.{IsBytes}
 use Rattle.mp4_box.proofs.HeaderLemmas.{IsBytes-take}
 use Rattle.mp4_items.specs.declared.kinds.Kind.TheVariants.{Moof, Mdat}
-use Rattle.mp4_feed.specs.Wholes.{StandsFirst}
 use Rattle.mp4_feed.proofs.FragmentLemmas.{first_fits, first_whole}
 use Rattle.mp4_feed.proofs.whole.fragment_in.Goals as goal
 

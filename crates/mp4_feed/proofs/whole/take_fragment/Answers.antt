@@ -1,4 +1,4 @@
-use Rattle.std.proofs.Common.{◌∙◌, ◌+◌, Some, ap, refl, sym}
+use Rattle.std.proofs.Common.{refl}
 use Rattle.mp4_reading.proofs.PieceLemmas.{Takes-err, Takes-ok}
 use Rattle.mp4_reading.specs.Pieces.{outside}
 use Rattle.mp4_feed.proofs.FragmentLemmas.{GoesOn-it, StopsAt-it}

@@ -1,4 +1,4 @@
-use Rattle.std.proofs.Common.{◌∙◌, ap, arith, sym, true}
+use Rattle.std.proofs.Common.{◌∙◌, ap, arith, sym}
 use Rattle.std.specs.Str.{bytes_eq}
 use Rattle.mp4_frag.proofs.UsualLemmas.{plain_here}
 use Rattle.mp4_frag.proofs.usual.plain_first.Goals as goal

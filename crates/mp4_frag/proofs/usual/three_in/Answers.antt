@@ -1,4 +1,4 @@
-use Rattle.std.proofs.Common.{◌+◌, ap, arith, drop, length, refl}
+use Rattle.std.proofs.Common.{ap, arith, length}
 use Rattle.std.proofs.lemmas.List.{length-drop}
 use Rattle.mp4_box.specs.Trees.{box_len, view}
 use Rattle.mp4_frag.proofs.UsualLemmas.{three_are}
@@ -12,8 +12,18 @@ pub plain_first-requires-3-clause-room : goal.plain_first-requires-3-clause-room
 plain_first-requires-3-clause-room c =
     let a = c.in-Some in
     let b = c.in-Some-plain_first in
-    omega (arith, c.args.traf.now.room, ap length c.behind-rest.ensures, length-drop (box_len (view a.tfhd)) c.args.traf.now.payload.now, a.ensures.within, a.ensures.head,
-    ap length c.behind-rest-2.ensures, length-drop (box_len (view b.tfdt)) c.behind-rest.result.now, b.ensures.within, b.ensures.head)
+    omega (
+      arith,
+      c.args.traf.now.room,
+      ap length c.behind-rest.ensures,
+      length-drop (box_len (view a.tfhd)) c.args.traf.now.payload.now,
+      a.ensures.within,
+      a.ensures.head,
+      ap length c.behind-rest-2.ensures,
+      length-drop (box_len (view b.tfdt)) c.behind-rest.result.now,
+      b.ensures.within,
+      b.ensures.head,
+    )
 
 pub returns-clause-holds : goal.returns-clause-holds
 returns-clause-holds c =

@@ -1,4 +1,4 @@
-use Rattle.std.proofs.Common.{◌+◌, ap, arith, drop, length, refl}
+use Rattle.std.proofs.Common.{ap, arith, length}
 use Rattle.std.proofs.lemmas.List.{length-drop}
 use Rattle.mp4_box.specs.Trees.{box_len, view}
 use Rattle.mp4_frag.proofs.UsualLemmas.{two_are}

@@ -1,4 +1,4 @@
-use Rattle.std.proofs.Common.{◌≡◌, ◌∙◌, ◌∷◌, [], refl, sym}
+use Rattle.std.proofs.Common.{◌∙◌, ◌∷◌, []}
 use Rattle.mp4_box.specs.Trees.{view}
 use Rattle.mp4_frag.specs.Runs.{held_at}
 use Rattle.mp4_frag.proofs.LoneLemmas.{moof_is_one, one_known, one_sound, run_ends, run_samples}

@@ -1,4 +1,4 @@
-use Rattle.std.proofs.Common.{◌∙◌, ◌+◌, ◌*◌, arith, sym}
+use Rattle.std.proofs.Common.{◌∙◌, arith, sym}
 use Rattle.mp4_frag.specs.Moofs.{moof_of}
 use Rattle.mp4_frag.specs.Runs.{held_at}
 use Rattle.mp4_frag.proofs.MoofLemmas.{read_count}
