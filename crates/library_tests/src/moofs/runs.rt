@@ -1,11 +1,11 @@
-//! The first and the last run of a moof, and the run behind the first.
+//! The first and the last run of a moof, the run behind the first, and a run that has no other.
 
 ghost use Rattle.std.specs.Prelude.{◌≡◌, ◌<◌, ◌+◌, ◌*◌, ◌^◌, ◌≤◌, length};
 ghost use Rattle.mp4_frag.specs.Moofs.{IsRead};
 
 use mp4_box::is_box;
 use mp4_box::vectors::{V1, V2, V3};
-use mp4_frag::{Moof, Run, Steps};
+use mp4_frag::{LoneRun, Moof, Payload, Run, Steps};
 use mp4_init::{TrackList, tracks};
 use mp4_ledger::Ledger;
 use std::alloc::Global;
@@ -104,6 +104,53 @@ fn first_and_last(alloc: Global, stream: &[u8], moof: (usize, usize)) -> Option<
     told
 }
 
+/// A run that has no other.
+#[derive(Clone, Copy, Debug, PartialEq, Eq)]
+struct Lone {
+    run: Told,
+    /// Whether it stands where it may in the payload of its mdat.
+    stands: bool,
+    /// Where its track ends behind it.
+    next: u64,
+    /// How many rows were counted.
+    rows: u128,
+}
+
+/// The run of the moof of a stream, where it has no other. The payload of its mdat begins 8 bytes behind it, and ends at an offset.
+fn lone_of(
+    alloc: Global,
+    stream: &[u8],
+    (begin, end): (usize, usize),
+    payload_end: u64,
+) -> Option<Lone> {
+    if stream.len() > 1000 || begin < 20 || begin > end || end > stream.len() {
+        return None;
+    }
+    let (moov, held) = (&stream[20..begin], &stream[begin..end]);
+    if !is_box(moov) || !is_box(held) {
+        return None;
+    }
+    let mut ledger = Ledger::new(alloc, 1000);
+    let mut list = tracks(&mut ledger, moov, 20).ok()?;
+    let mut steps = Steps { rows: 0 };
+    let mut lone = None;
+    if let Some(found) = LoneRun::read(held, begin as u64, &list, &mut steps) {
+        let payload = Payload {
+            start: end as u64 + 8,
+            end: Some(payload_end),
+        };
+        found.settle(&mut list);
+        lone = Some(Lone {
+            run: tell_run(held, &found.run, None),
+            stands: found.stands_in(payload),
+            next: list.at(found.track).next,
+            rows: steps.rows,
+        });
+    }
+    list.back(&mut ledger);
+    lone
+}
+
 /// A run of V1's usual flags: its track, time and end; its place, bytes and trun; its count, and that of the next run; the
 /// sizes of its first sample and of its last.
 fn usual(
@@ -153,4 +200,24 @@ fn two_runs_in_a_traf(rt: HostRuntime) {
         first_and_last(rt.alloc(), V3.as_slice(), (584, 784)),
         Some((first, last))
     );
+}
+
+#[test]
+fn a_run_that_has_no_other(rt: HostRuntime) {
+    let stream = V1.as_slice();
+    let mut lone = Lone {
+        run: usual(1, (0, 3072), (468, 15, 428), (3, 0), (5, 3)),
+        stands: true,
+        next: 3072,
+        rows: 6,
+    };
+    assert_eq!(rt; lone_of(rt.alloc(), stream, (364, 460), 483), Some(lone));
+    lone.stands = false;
+    assert_eq!(rt; lone_of(rt.alloc(), stream, (364, 460), 482), Some(lone));
+}
+
+#[test]
+fn runs_that_have_others(rt: HostRuntime) {
+    assert_eq!(rt; lone_of(rt.alloc(), V2.as_slice(), (584, 748), 779), None);
+    assert_eq!(rt; lone_of(rt.alloc(), V3.as_slice(), (584, 784), 812), None);
 }
