@@ -1,6 +1,6 @@
 //! A machine that reads a fragmented stream, which it is fed as it comes.
 
-ghost use Rattle.std.specs.Prelude.{◌≡◌, ◌+◌, ◌*◌, ◌-◌, ◌<◌, ◌≤◌, ◌↔◌, [], List, Option, length, take, None, Some, IfOk, IfErr, OnOk, OnErr, IsErrOf, IsTrue};
+ghost use Rattle.std.specs.Prelude.{◌≡◌, ℕ, ◌+◌, ◌*◌, ◌-◌, ◌<◌, ◌≤◌, ◌↔◌, [], List, Option, length, take, None, Some, IfOk, IfErr, OnOk, OnErr, IsErrOf, IsTrue};
 ghost use Rattle.mp4_init.specs.declared.table.Track.{Track};
 ghost use Rattle.mp4_box.specs.declared.rules.Rule.TheVariants.{MdatMissing, Truncated};
 ghost use Rattle.mp4_box.specs.declared.headers.FourCc.{FourCc};
@@ -8,12 +8,13 @@ ghost use Rattle.mp4_box.specs.Headers.{IsBytes};
 ghost use Rattle.mp4_ledger.specs.Memory.{given_back};
 ghost use Rattle.mp4_reading.specs.Bodies.{fault};
 ghost use Rattle.mp4_reading.specs.Ends.{sent};
-ghost use Rattle.mp4_reading.specs.Pieces.{Takes, around};
+ghost use Rattle.mp4_reading.specs.Pieces.{IsQuiet, Takes, around, farthest};
 ghost use Rattle.mp4_reading.specs.Readings.{fault_in, uncounted};
 ghost use Rattle.mp4_items.specs.Commands.{making};
 ghost use Rattle.mp4_items.specs.Contexts.{first_context};
 ghost use Rattle.mp4_feed.specs.Places.{InHeader, IsPlace, claim_of, standing};
-ghost use Rattle.mp4_feed.specs.States.{IsState, IsWaiting, begun, kept_by, listed_by, place_in, place_of, reads_of, stands_in, stopped};
+ghost use Rattle.mp4_feed.specs.States.{IsState, IsWaiting, begun, kept_by, known, listed_by, place_in, place_of, reads_of, stands_in, stopped};
+ghost use Rattle.mp4_feed.specs.Wholes.{IsFragment};
 ghost use Rattle.mp4_items.specs.Makings.{Making};
 ghost use Rattle.mp4_items.specs.declared.command.Command.{Command};
 ghost use Rattle.mp4_feed.specs.declared.state.State.TheVariants as states;
@@ -21,6 +22,7 @@ ghost use Rattle.mp4_feed.specs.declared.state.State.TheVariants as states;
 use crate::next::{back_state, take_next};
 use crate::state::{Counter, OpenBody, State, Waiting};
 use crate::take::Taken;
+use crate::whole::{Whole, take_fragment, whole_fragment};
 use mp4_box::{Fault, FourCc, HeaderReader, Rule};
 use mp4_ends::Sink;
 use mp4_frag::Steps;
@@ -91,6 +93,112 @@ impl FragmentMachine {
         self.counter.steps.rows
     }
 
+    /// Takes a fragment from the front of a piece that has all of it: how many bytes.
+    ///
+    /// # Errors
+    ///
+    /// `Write` where a write failed.
+    #[inline(always)]
+    fn take_whole<W: Sink>(
+        &mut self,
+        at: u64,
+        whole: &Whole<'_>,
+        ledger: &mut Ledger,
+        piece: &[u8],
+        out: &mut Block,
+        w: &mut W,
+    ) -> Result<usize, Stop>
+        requires state { self.old.state ≡ states.Header at }
+        requires head { self.old.head ≡ [] }
+        requires known { self.old.tracks ≡ Some (known self.old.tracks) }
+        requires is { IsFragment at (known self.old.tracks) piece.now whole.now }
+        requires room { ledger.old.live + (length whole.now.moof.now + 64) ≤ ledger.old.limit }
+        requires claim { claim_of (place_in self.old) ≤ ledger.old.live }
+        ensures takes { Takes (around (sent W.contents W.has_failed w.old w.new) out.old out.new
+            ledger.old ledger.new self.old.counter.tally self.new.counter.tally)
+            (stands_in self.old) piece.now (λ n. take n piece.now) (λ _. stands_in self.new) result }
+        ensures taken { IfOk result (λ n. (0 < n) × (n ≤ length piece.now)) }
+        ensures claim { claim_of (place_in self.new) ≤ ledger.new.live }
+        ensures quiet { OnOk result (IsQuiet (stands_in self.new)) }
+        ensures near { OnOk result ((stands_in self.new).reached ≤ farthest) }
+        ensures spent { OnErr result (claim_of (place_in self.new) ≡ 0) }
+        ensures task { self.new.command ≡ self.old.command }
+    {
+        let tracks = &mut self.tracks;
+        let counter = &mut self.counter;
+        match take_fragment(
+            self.command,
+            at,
+            whole,
+            piece,
+            tracks,
+            ledger,
+            counter,
+            out,
+            w,
+        ) {
+            Ok(size) => {
+                go_to(&mut self.state, at + size);
+                Ok(size as usize)
+            }
+            Err(stop) => {
+                stop_at(&mut self.state);
+                self.give_back(ledger);
+                Err(stop)
+            }
+        }
+    }
+
+    /// Takes a few bytes from the front of a piece, wherever it stands: how many.
+    ///
+    /// # Errors
+    ///
+    /// As [`take_next`].
+    fn take_part<W: Sink>(
+        &mut self,
+        ledger: &mut Ledger,
+        piece: &[u8],
+        out: &mut Block,
+        w: &mut W,
+    ) -> Result<usize, Stop>
+        requires some { 0 < length piece.now }
+        requires claim { claim_of (place_in self.old) ≤ ledger.old.live }
+        ensures takes { Takes (around (sent W.contents W.has_failed w.old w.new) out.old out.new
+            ledger.old ledger.new self.old.counter.tally self.new.counter.tally)
+            (stands_in self.old) piece.now (λ n. take n piece.now) (λ _. stands_in self.new) result }
+        ensures taken { IfOk result (λ n. (0 < n) × (n ≤ length piece.now)) }
+        ensures claim { claim_of (place_in self.new) ≤ ledger.new.live }
+        ensures quiet { OnOk result (IsQuiet (stands_in self.new)) }
+        ensures near { OnOk result ((stands_in self.new).reached ≤ farthest) }
+        ensures spent { OnErr result (claim_of (place_in self.new) ≡ 0) }
+        ensures task { self.new.command ≡ self.old.command }
+    {
+        let state = replace(&mut self.state, stopped());
+        let head = &mut self.head;
+        let tracks = &mut self.tracks;
+        let counter = &mut self.counter;
+        match take_next(
+            self.command,
+            state,
+            head,
+            piece,
+            tracks,
+            ledger,
+            counter,
+            out,
+            w,
+        ) {
+            Ok(Taken { count, state }) => {
+                put(&mut self.state, state);
+                Ok(count)
+            }
+            Err(stop) => {
+                self.give_back(ledger);
+                Err(stop)
+            }
+        }
+    }
+
     /// Gives back all that is claimed.
     pub fn give_up(self, ledger: &mut Ledger)
         requires { claim_of (place_in self) ≤ ledger.old.live }
@@ -126,30 +234,13 @@ impl Machine for FragmentMachine {
         out: &mut Block,
         w: &mut W,
     ) -> Result<usize, Stop> {
-        let state = replace(&mut self.state, stopped());
-        let head = &mut self.head;
-        let tracks = &mut self.tracks;
-        let counter = &mut self.counter;
-        match take_next(
-            self.command,
-            state,
-            head,
-            piece,
-            tracks,
-            ledger,
-            counter,
-            out,
-            w,
-        ) {
-            Ok(Taken { count, state }) => {
-                put(&mut self.state, state);
-                Ok(count)
-            }
-            Err(stop) => {
-                self.give_back(ledger);
-                Err(stop)
+        if let State::Header { at } = &self.state {
+            let at = *at;
+            if let Some(whole) = whole_fragment(at, &self.head, piece, &self.tracks, ledger) {
+                return self.take_whole(at, &whole, ledger, piece, out, w);
             }
         }
+        self.take_part(ledger, piece, out, w)
     }
 
     fn finish(&self) -> Result<(), Fault> {
@@ -192,6 +283,31 @@ fn stopped() -> State
         left: 0,
     };
     State::OpenBody(body, None)
+}
+
+/// Goes on with the header of the box at `at`, where a header was to come.
+#[inline(always)]
+fn go_to(slot: &mut State, at: u64)
+    requires { (old : ℕ) × (slot.old ≡ states.Header old) }
+    ensures { slot.new ≡ states.Header at }
+{
+    match slot {
+        State::Header { at: next } => *next = at,
+        _ => unreachable!(),
+    }
+}
+
+/// Keeps nothing, where a header was to come.
+fn stop_at(slot: &mut State)
+    requires { (old : ℕ) × (slot.old ≡ states.Header old) }
+    ensures { slot.new ≡ stopped }
+{
+    match replace(slot, stopped()) {
+        State::Header { at } => {
+            let _ = at;
+        }
+        _ => unreachable!(),
+    }
 }
 
 /// Puts what is kept where nothing was.

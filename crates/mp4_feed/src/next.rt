@@ -13,7 +13,6 @@ use crate::behind::take_behind;
 use crate::bodies::back;
 use crate::state::{Counter, State};
 use crate::take::{Taken, take_body, take_header, take_held, take_open};
-use crate::whole::{take_fragment, whole_fragment};
 use mp4_box::HeaderReader;
 use mp4_ends::Sink;
 use mp4_init::TrackList;
@@ -25,7 +24,7 @@ use mp4_reading::{Block, Stop};
 ///
 /// # Errors
 ///
-/// As [`take_fragment`], [`take_header`], [`take_held`], [`take_behind`] and [`take_open`].
+/// As [`take_header`], [`take_held`], [`take_behind`] and [`take_open`].
 #[inline(always)]
 pub(crate) fn take_next<W: Sink>(
     command: Command,
@@ -59,12 +58,7 @@ pub(crate) fn take_next<W: Sink>(
     ensures spent { OnErr result (HasStopped command counter.new) }
 {
     match state {
-        State::Header { at } => match whole_fragment(at, head, piece, tracks, ledger) {
-            Some(whole) => take_fragment(
-                command, at, &whole, piece, tracks, ledger, counter, out, w,
-            ),
-            None => take_header(at, head, piece, tracks, ledger, counter),
-        },
+        State::Header { at } => take_header(at, head, piece, tracks, ledger, counter),
         State::Holding(held) => take_held(held, piece, tracks, ledger, counter),
         State::Behind(waiting) => {
             take_behind(

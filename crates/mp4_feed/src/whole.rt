@@ -17,14 +17,13 @@ ghost use Rattle.mp4_items.specs.Commands.{accepted, making};
 ghost use Rattle.mp4_items.specs.Contexts.{context, table_of};
 ghost use Rattle.mp4_items.specs.Items.{fragment, walked};
 ghost use Rattle.mp4_items.specs.Makings.{counted_in};
-ghost use Rattle.mp4_feed.specs.Places.{InHeader, claim_of, standing, when_stopped};
-ghost use Rattle.mp4_feed.specs.States.{HasCounted, HasStopped, IsCounted, IsState, known, place_of};
+ghost use Rattle.mp4_feed.specs.Places.{InHeader, standing, when_stopped};
+ghost use Rattle.mp4_feed.specs.States.{HasStopped, IsCounted, known};
 ghost use Rattle.mp4_feed.specs.Wholes.{IsFragment, IsLone, StandsFirst};
 
 use crate::behind::count;
 use crate::lines::put_run;
-use crate::state::{Counter, State};
-use crate::take::Taken;
+use crate::state::Counter;
 use mp4_box::{HeaderReader, Size, header_of};
 use mp4_ends::{Failed, Sink};
 use mp4_frag::{LoneRun, Payload, Steps};
@@ -211,7 +210,7 @@ fn tell_whole<W: Sink>(
     }
 }
 
-/// Takes the fragment at the front of a piece: it is told, and its track ends where its run does.
+/// Takes the fragment at the front of a piece: it is told, and its track ends where its run does. How many bytes it has.
 ///
 /// # Errors
 ///
@@ -227,7 +226,7 @@ pub(crate) fn take_fragment<W: Sink>(
     counter: &mut Counter,
     out: &mut Block,
     w: &mut W,
-) -> Result<Taken, Stop>
+) -> Result<u64, Stop>
     requires known { tracks.old ≡ Some (known tracks.old) }
     requires is { IsFragment at (known tracks.old) piece.now whole.now }
     requires room { ledger.old.live + (length whole.now.moof.now + 64) ≤ ledger.old.limit }
@@ -237,15 +236,14 @@ pub(crate) fn take_fragment<W: Sink>(
         ledger.old (when_stopped result (table_of tracks.old) ledger.new)
         counter.old.tally counter.new.tally)
         (standing (making command) (InHeader (context at tracks.old 1) []))
-        piece.now (λ t. take t.count piece.now)
-        (λ t. standing (making command) (place_of tracks.new [] t.state)) result }
-    ensures taken { IfOk result (λ t. (0 < t.count) × (t.count ≤ length piece.now)) }
+        piece.now (λ n. take n piece.now)
+        (λ n. standing (making command) (InHeader (context (at + n) tracks.new 1) [])) result }
+    ensures taken { IfOk result (λ n. (0 < n) × (n ≤ length piece.now)) }
+    ensures near { IfOk result (λ n. at + n ≤ longest) }
     ensures kept { OnErr result (tracks.new ≡ tracks.old) }
     ensures left { OnErr result (table_of tracks.old ≤ ledger.new.live) }
-    ensures state { IfOk result (λ t. IsState tracks.new [] t.state) }
-    ensures claim { IfOk result (λ t.
-        claim_of (place_of tracks.new [] t.state) ≤ ledger.new.live) }
-    ensures counted { IfOk result (λ t. HasCounted command t.state counter.new) }
+    ensures claim { OnOk result (table_of tracks.new ≤ ledger.new.live) }
+    ensures counted { IfOk result (λ n. IsCounted command counter.new (at + n) 0 0) }
     ensures spent { OnErr result (HasStopped command counter.new) }
 {
     let Some(list) = tracks else {
@@ -261,9 +259,5 @@ pub(crate) fn take_fragment<W: Sink>(
         Err(Failed) => return Err(Stop::Write),
     }
     whole.run.settle(list);
-    let size = held + whole.mdat.size;
-    Ok(Taken {
-        count: size as usize,
-        state: State::Header { at: at + size },
-    })
+    Ok(held + whole.mdat.size)
 }

@@ -3,13 +3,10 @@ use Rattle.mp4_reading.proofs.PieceLemmas.{Takes-ok}
 use Rattle.mp4_feed.specs.Places.{Unlent}
 use Rattle.mp4_feed.proofs.next.take_next.Goals as goal
 
-pub returns-in-None-clause-takes : goal.returns-in-None-clause-takes
-returns-in-None-clause-takes g c =
+pub returns-in-Header-clause-takes : goal.returns-in-Header-clause-takes
+returns-in-Header-clause-takes g c =
     let u : Unlent = record { written = g.W.Sink.contents c.args.w.now; waiting = c.args.out.now; failed = g.W.Sink.has_failed c.args.w.now } in
     rw c.in-Header.is (c.take_header.ensures.takes c.args.command u)
-
-pub returns-in-Some-clause-takes : goal.returns-in-Some-clause-takes
-returns-in-Some-clause-takes g c = rw (c.in-Header.is, c.in-Some.ensures.head) c.take_fragment.ensures.takes
 
 pub returns-in-Holding-clause-takes : goal.returns-in-Holding-clause-takes
 returns-in-Holding-clause-takes g c =

@@ -3,7 +3,7 @@ use Rattle.mp4_reading.proofs.PieceLemmas.{Takes-err, Takes-ok}
 use Rattle.mp4_items.specs.Commands.{making}
 use Rattle.mp4_feed.specs.States.{place_of}
 use Rattle.mp4_feed.proofs.QuietLemmas.{at-place, quiet}
-use Rattle.mp4_feed.proofs.machine.FragmentMachineMachine.take.Goals as goal
+use Rattle.mp4_feed.proofs.machine.FragmentMachine.take_part.Goals as goal
 
 pub returns-in-Err-clause-takes : goal.returns-in-Err-clause-takes
 returns-in-Err-clause-takes g c =
