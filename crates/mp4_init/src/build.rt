@@ -1,19 +1,21 @@
 //! The tracks of a moov, put into claimed memory.
 
-ghost use Rattle.std.specs.Prelude.{◌≡◌, ◌+◌, ◌*◌, ◌<◌, ◌≤◌, ◌↔◌, length, option_map, IfOk, OnOk, OnErr, IsErrOf};
+ghost use Rattle.std.specs.Prelude.{◌≡◌, ◌+◌, ◌*◌, ◌<◌, ◌≤◌, ◌↔◌, [], length, map, option_map, IfOk, OnOk, OnErr, IsErrOf};
 ghost use Rattle.mp4_ledger.specs.Memory.{claimed};
 ghost use Rattle.mp4_box.specs.Paths.{at_path, of_kind};
 ghost use Rattle.mp4_box.specs.Trees.{children, view, first_of};
 ghost use Rattle.mp4_init.specs.Fields.{behind_times};
+ghost use Rattle.mp4_init.specs.Rows.{node_of_row, track_of_row};
+ghost use Rattle.mp4_init.specs.SearchTrees.{IsIndexed};
 ghost use Rattle.mp4_init.specs.Summaries.{summaries_in};
 ghost use Rattle.mp4_init.specs.Tracks.{entries_of, field_of, id_of, timescale_of, track_of, tracks_of};
 
 use crate::fields::number_behind_times;
 use crate::kinds::{MDHD, MDIA, MINF, STBL, STSD, TKHD, TRAK};
-use crate::slots::{SLOTS, Slots};
+use crate::slots::{FEW_SLOTS, SLOTS, Slots};
 use crate::table::{Track, TrackList, push_track};
 use mp4_box::{BoxRef, FourCc, Walk, count_of, first_at, number_at};
-use mp4_ledger::{Ledger, Refused};
+use mp4_ledger::{Ledger, Refused, Rows64};
 
 /// The field behind the times of the first tkhd or mdhd on the path, 0 where there is none.
 fn behind_times_at(path: &[FourCc], trak: &BoxRef<'_>) -> u32
@@ -58,6 +60,26 @@ fn track_in<const N: usize>(moov: &BoxRef<'_>, trak: &BoxRef<'_>, slots: &mut Sl
     }
 }
 
+/// Puts the tracks of a moov into a table that has just the room for them, with summaries of `N` track_IDs at once.
+// It stands apart since a function pays for the size of its locals each time that it is called.
+#[inline(never)]
+fn push_tracks<const N: usize>(rows: &mut Rows64, moov: &BoxRef<'_>)
+    requires some { 0 < N }
+    requires most { N ≤ SLOTS }
+    requires empty { rows.old.rows ≡ [] }
+    requires cap { rows.old.cap ≡ length (tracks_of (view moov.now)) }
+    ensures tracks { map track_of_row rows.new.rows ≡ tracks_of (view moov.now) }
+    ensures indexed { IsIndexed (map node_of_row rows.new.rows) }
+    ensures full { length rows.new.rows ≡ rows.new.cap }
+{
+    let mut slots = Slots::<N>::new(moov);
+    for trak in Walk::of(moov) {
+        if trak.header.kind.0.as_slice() == TRAK.0.as_slice() {
+            push_track(rows, track_in(moov, &trak, &mut slots));
+        }
+    }
+}
+
 /// Claims a table for the tracks of a moov without a fault, and fills it.
 ///
 /// # Errors
@@ -75,11 +97,10 @@ pub(crate) fn list_of(ledger: &mut Ledger, moov: &BoxRef<'_>) -> Result<TrackLis
         Ok(rows) => rows,
         Err(refused) => return Err(refused),
     };
-    let mut slots = Slots::<SLOTS>::new(moov);
-    for trak in Walk::of(moov) {
-        if trak.header.kind.0.as_slice() == TRAK.0.as_slice() {
-            push_track(&mut rows, track_in(moov, &trak, &mut slots));
-        }
+    if rows.cap() <= FEW_SLOTS {
+        push_tracks::<FEW_SLOTS>(&mut rows, moov);
+    } else {
+        push_tracks::<SLOTS>(&mut rows, moov);
     }
     Ok(TrackList::of(rows))
 }

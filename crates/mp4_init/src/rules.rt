@@ -1,6 +1,6 @@
 //! The rules of a moov: which boxes are checked for what.
 
-ghost use Rattle.std.specs.Prelude.{◌≡◌, ◌<◌, Option};
+ghost use Rattle.std.specs.Prelude.{◌≡◌, ◌<◌, Option, ◌≤◌};
 ghost use Rattle.mp4_box.specs.Trees.{view};
 ghost use Rattle.mp4_box.specs.Order.{least_from, least};
 ghost use Rattle.mp4_box.specs.Checks.{along};
@@ -13,8 +13,8 @@ use crate::kinds::{
     CO64, MDHD, MDIA, MINF, MVEX, STBL, STCO, STSC, STSD, STSZ, STTS, STZ2, TKHD, TRAK, TREX,
 };
 use crate::sample_tables::{Entries, NoSamples};
-use crate::slots::{SLOTS, Slots};
-use mp4_box::{Along, BoxRef, Check, Fault, FourCc, Layout, One, Rule, note, note_along};
+use crate::slots::{FEW_SLOTS, SLOTS, Slots};
+use mp4_box::{Along, BoxRef, Check, Fault, FourCc, Layout, One, Rule, count_of, note, note_along};
 
 /// Boxes that are missing, or stand a second time.
 #[tactic(auto, using(mp4_box::proofs::OrderLemmas::least_from_append), unfolding(crate::specs::Rules::number_faults))]
@@ -96,6 +96,18 @@ fn note_unknown<const N: usize>(moov: &BoxRef<'_>, slots: &mut Slots<N>, best: &
     }
 }
 
+/// The same, with summaries of `N` track_IDs at once.
+// It stands apart since a function pays for the size of its locals each time that it is called.
+#[inline(never)]
+fn note_unknown_by<const N: usize>(moov: &BoxRef<'_>, best: &mut Option<Fault>)
+    requires some { 0 < N }
+    requires most { N ≤ SLOTS }
+    ensures { best.new ≡ least_from best.old (track_faults (view moov.now)) }
+{
+    let mut slots = Slots::<N>::new(moov);
+    note_unknown(moov, &mut slots, best);
+}
+
 /// The fault of the content of a moov whose tree is good.
 #[tactic(auto, using(mp4_box::proofs::OrderLemmas::least_from_append), unfolding(crate::specs::Moovs::content_fault, crate::specs::Moovs::form_faults, crate::specs::Moovs::value_faults))]
 pub(crate) fn content_fault_of(moov: &BoxRef<'_>) -> Option<Fault>
@@ -106,8 +118,11 @@ pub(crate) fn content_fault_of(moov: &BoxRef<'_>) -> Option<Fault>
     note_fields(moov, &mut best);
     if best.is_none() {
         note_samples(moov, &mut best);
-        let mut slots = Slots::<SLOTS>::new(moov);
-        note_unknown(moov, &mut slots, &mut best);
+        if count_of(TRAK, moov) <= FEW_SLOTS as u64 {
+            note_unknown_by::<FEW_SLOTS>(moov, &mut best);
+        } else {
+            note_unknown_by::<SLOTS>(moov, &mut best);
+        }
     }
     best
 }

@@ -106,6 +106,9 @@ fn tell_along<const N: usize>(
 /// For how many track_IDs a moov is gone over at once.
 pub(crate) const SLOTS: usize = 4096;
 
+/// The same for a moov of as many tracks at most.
+pub(crate) const FEW_SLOTS: usize = 64;
+
 /// The summaries of as many track_IDs as there are nodes. A moov is gone over again only where another is asked for.
 #[derive(Clone, Copy)]
 pub(crate) struct Slots<const N: usize> {

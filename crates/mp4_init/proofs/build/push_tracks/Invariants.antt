@@ -6,16 +6,14 @@ use Rattle.mp4_init.specs.Kinds.{trak}
 use Rattle.mp4_init.specs.Rows.{node_of_row, track_of_row}
 use Rattle.mp4_init.specs.Tracks.{track_of, tracks_of}
 use Rattle.mp4_init.specs.SearchTrees.{IsIndexed}
-use Rattle.mp4_init.specs.declared.slots.TheConstants.{SLOTS}
 use Rattle.mp4_init.specs.Summaries.{summaries_in}
-use Rattle.mp4_init.proofs.build.list_of.Given as goal
+use Rattle.mp4_init.proofs.build.push_tracks.Given as goal
 
 -- the tracks so far, and those of the traks that are left
 abbrev pub invariant-loop-trak : goal.invariant-loop-trak
-invariant-loop-trak l = record {
+invariant-loop-trak g l = record {
   tracks : map track_of_row l.rows.rows ++ map (track_of (view l.moov)) (of_kind trak l.trak-iterator) ≡ tracks_of (view l.moov);
   indexed : IsIndexed (map node_of_row l.rows.rows);
   room : length l.rows.rows + length (of_kind trak l.trak-iterator) ≡ l.rows.cap;
-  told : l.slots.summaries ≡ summaries_in SLOTS (view l.moov) l.slots.index.nodes;
-  cap : l.rows.cap ≡ length (tracks_of (view l.moov));
+  told : l.slots.summaries ≡ summaries_in g.row.N (view l.moov) l.slots.index.nodes;
 }
