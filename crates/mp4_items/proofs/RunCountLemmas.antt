@@ -1,23 +1,15 @@
 -- How many runs a moof without a fault can have, by its length: each trun has at least 16 bytes.
-use Rattle.std.proofs.Common.{◌≡◌, ◌∙◌, ◌≤◌, ◌+◌, ◌-◌, ◌*◌, ◌==◌, ℕ, ℤ, zero, suc, Bool, true, false, cond, ltb, List, [], ◌∷◌, length, Option, Some, None, refl, sym, ap, arith, subst, length-append, inl, inr}
-use Rattle.std.specs.Prelude.{map, option_map, option_to_list}
+use Rattle.std.proofs.Common.{◌≡◌, ◌∙◌, ◌≤◌, ◌+◌, ◌*◌, ◌==◌, ℕ, ℤ, suc, true, ltb, List, [], ◌∷◌, length, Option, None, refl, sym, ap, arith, subst, length-append, inl, inr}
+use Rattle.std.specs.Prelude.{map}
 use Rattle.std.specs.List.{flat_map, AllByRecursion}
 use Rattle.std.specs.Option.{unwrap_or}
-use Rattle.std.specs.Str.{bytes_eq}
 use Rattle.std.proofs.lemmas.Bool.Decides.{nat_tests}
-use Rattle.std.proofs.lemmas.Grind.{flat_map-append}
-use Rattle.mp4_box.specs.declared.headers.FourCc.{FourCc}
-use Rattle.mp4_box.specs.declared.rules.Fault.{Fault}
-use Rattle.mp4_box.specs.declared.rules.Rule.TheVariants.{Version, FieldLength}
-use Rattle.mp4_box.specs.Checks.{unless}
 use Rattle.mp4_box.specs.Fields.{version_in}
 use Rattle.mp4_box.specs.Headers.{IsBytes}
 use Rattle.mp4_box.specs.Paths.{of_kind, at_path}
-use Rattle.mp4_box.specs.Trees.{Box, box_at, box_len, box_then, over, children, payload_offset, fault_at}
+use Rattle.mp4_box.specs.Trees.{Box, box_at, children}
 use Rattle.mp4_box.proofs.SizeLemmas.{IsLaid, total, fits_children, kind_fits, both_none, none_below, laid_by}
-use Rattle.mp4_box.proofs.GrammarLemmas.{stands, option_is, Stands}
-use Rattle.mp4_box.proofs.HeaderAnswers.{head-need}
-use Rattle.mp4_box.proofs.HeaderLemmas.{need-least}
+use Rattle.mp4_box.proofs.GrammarLemmas.{stands, option_is}
 use Rattle.mp4_init.specs.declared.table.Track.{Track}
 use Rattle.mp4_frag.specs.Fields.{flags_in, width_if}
 use Rattle.mp4_frag.specs.Kinds.{traf, trun}

@@ -1,5 +1,5 @@
 -- The commands that read fragments and write no fragments.
-use Rattle.std.specs.Prelude.{ℕ, List, [], Option, None}
+use Rattle.std.specs.Prelude.{ℕ, List, [], None}
 use Rattle.mp4_reading.specs.Readings.{Reading, Told, silent, says, counts, both}
 use Rattle.mp4_items.specs.Contexts.{first_context}
 use Rattle.mp4_items.specs.Items.{reads_in}

@@ -14,8 +14,8 @@ use Rattle.mp4_init.specs.Moovs.{moov_fault, moov_tracks}
 use Rattle.mp4_init.specs.declared.table.Track.{Track}
 use Rattle.mp4_frag.specs.Moofs.{early_fault, moof_runs, moof_samples, moof_trafs, time_faults}
 use Rattle.mp4_frag.specs.Runs.{Held, held_at}
-use Rattle.mp4_reading.specs.Bodies.{longest, fault, refused, cut_off, least_end, told_body, told_open}
-use Rattle.mp4_reading.specs.Readings.{Told, silent, says, counts, asks_for, both, Reading, nothing, Faulty, Front, Last, Whole, after_told, read_all}
+use Rattle.mp4_reading.specs.Bodies.{longest, refused, cut_off, least_end, told_body, told_open}
+use Rattle.mp4_reading.specs.Readings.{silent, says, counts, asks_for, both, Reading, nothing, Faulty, Front, Last, Whole, after_told, read_all}
 use Rattle.mp4_reading.specs.declared.tally.Tally.{Tally}
 use Rattle.mp4_items.specs.declared.kinds.Kind.{Kind}
 use Rattle.mp4_items.specs.declared.kinds.Kind.TheVariants.{Moov, Moof, Mdat, Other}

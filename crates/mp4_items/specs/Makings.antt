@@ -1,5 +1,5 @@
 -- What a command makes of a fragmented stream.
-use Rattle.std.specs.Prelude.{◌≡◌, ℕ, ℤ, pos, ◌-◌, ◌==◌, List, [], ◌∷◌, ◌++◌, max, if◌then◌else◌, Option, Some, None}
+use Rattle.std.specs.Prelude.{ℕ, ℤ, pos, ◌-◌, ◌==◌, List, [], ◌∷◌, ◌++◌, max, if◌then◌else◌, Option}
 use Rattle.std.specs.List.{sum_by}
 use Rattle.std.specs.Option.{option_or}
 use lib.IntN.{negsuc}
