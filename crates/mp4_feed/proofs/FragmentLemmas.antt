@@ -1,5 +1,5 @@
 -- What is known of a fragment of which a piece has all.
-use Rattle.std.proofs.Common.{◌≡◌, ◌∙◌, ℕ, ◌+◌, ◌*◌, ◌<◌, ◌≤◌, ◌^◌, ◌==◌, true, false, not, append-nil, List, [], ◌∷◌, ◌++◌, length, take, drop, Option, None, Some, ap, sym, refl, arith, subst}
+use Rattle.std.proofs.Common.{◌≡◌, ◌∙◌, ℕ, ◌+◌, ◌*◌, ◌<◌, ◌≤◌, ◌==◌, true, false, not, append-nil, List, [], ◌∷◌, ◌++◌, length, take, drop, Option, None, Some, ap, sym, refl, arith, subst}
 use Rattle.std.proofs.lemmas.List.{length-take-le}
 use Rattle.std.proofs.lemmas.List.Sums.{sum_by-cons}
 use Rattle.std.specs.Prelude.{option_map}
@@ -21,6 +21,7 @@ use Rattle.mp4_run_order.specs.Takings.{has_samples}
 use Rattle.mp4_run_order.proofs.SearchLemmas.{offender_means}
 use Rattle.mp4_frag.specs.declared.run.Run.{Run}
 use Rattle.mp4_frag.specs.declared.lone.LoneRun.{LoneRun}
+use Rattle.mp4_frag.specs.LoneRuns.{IsLone}
 use Rattle.mp4_frag.specs.Moofs.{moof_runs, moof_samples, moof_trafs}
 use Rattle.mp4_frag.specs.Settling.{settled}
 use Rattle.mp4_frag.specs.Places.{misplaced, place_fault}
@@ -28,8 +29,8 @@ use Rattle.mp4_run_order.specs.Orders.{taken_by}
 use Rattle.mp4_frag.specs.RunLists.{taken_runs}
 use Rattle.mp4_frag.specs.RunRows.{listed_run}
 use Rattle.mp4_frag.specs.Runs.{Held, held_at}
-use Rattle.mp4_pieces.specs.Pieces.{AreRunsOf, IsRunOf}
-use Rattle.mp4_pieces.proofs.RunLemmas.{runs_are}
+use Rattle.mp4_pieces.specs.Pieces.{IsRunOf}
+use Rattle.mp4_pieces.proofs.RunLemmas.{ranged_run}
 use Rattle.mp4_reading.proofs.HoldingLemmas.{begins_whole}
 use Rattle.mp4_items.specs.Commands.{accepted, making}
 use Rattle.mp4_items.specs.Items.{end_of, fragment, walked}
@@ -51,9 +52,9 @@ use Rattle.mp4_feed.specs.Places.{InHeader, standing}
 use Rattle.mp4_feed.specs.States.{IsCounted, listed_by}
 use Rattle.mp4_feed.specs.declared.state.Counter.{Counter}
 use Rattle.mp4_feed.proofs.CountLemmas.{counted_later, counted_moof, counted_told}
-use Rattle.mp4_feed.specs.Wholes.{IsFragment, IsLone, StandsFirst, payload_in}
+use Rattle.mp4_feed.specs.Wholes.{AreBoxes, IsFragment, StandsFirst, payload_in}
+use Rattle.mp4_feed.specs.declared.whole.Boxes.{Boxes}
 use Rattle.mp4_feed.specs.declared.whole.Span.{Span}
-use Rattle.mp4_feed.specs.declared.whole.Whole.{Whole}
 use Rattle.mp4_feed.proofs.MediaLemmas.{AreIn, media_in}
 use Rattle.mp4_feed.proofs.WholeLemmas.{GoesOn-whole, StopsAt-whole, front_is}
 
@@ -112,12 +113,12 @@ walked_more t h n e =
     ∙ ap (λ k. record { fragments = t.fragments + 0; samples = t.samples + 0; media_bytes = k; walked = t.walked + n }) m
     ∙ ap (λ k. record { fragments = t.fragments + 0; samples = t.samples + 0; media_bytes = t.media_bytes + 0; walked = t.walked + k }) e
 
-module _ (h : Held) (tracks : List Track) (p : Payload) (l : LoneRun) (lone : IsLone h tracks p l) where
+module _ (h : Held) (tracks : List Track) (l : LoneRun) (lone : IsLone h tracks l) where
   pub one_taken : taken_runs h tracks ≡ l.run ∷ []
   one_taken = ap (taken_by listed_run) lone.run
 
-  pub lone_is : h.offset ≤ 2 ^ 62 → IsWhole h.bytes → IsBytes h.bytes → IsRunOf h.bytes l.run
-  lone_is near whole fits = (subst (AreRunsOf h.bytes) lone.run (runs_are h tracks near whole fits lone.read)).0 lone.small
+  pub lone_is : IsRunOf h.bytes l.run
+  lone_is = ranged_run h tracks lone.read [] [] l.run (record { is = lone.run }) lone.range
 
   -- its lines are those of the run
   pub lone_text : (c : Context) (g : Header) → h ≡ (fragment c tracks h.bytes g).moof → (accepted Samples (fragment c tracks h.bytes g)).text ≡ sample_lines (samples_of_run h.bytes l.run)
@@ -126,101 +127,105 @@ module _ (h : Held) (tracks : List Track) (p : Payload) (l : LoneRun) (lone : Is
       ap (λ runs. sample_lines (flat_map (samples_of_run h.bytes) runs)) (ap (λ k. taken_runs k tracks) (sym same) ∙ one_taken)
       ∙ ap sample_lines (append-nil (samples_of_run h.bytes l.run))
 
-module _ (at : ℕ) (tracks : List Track) (piece : List ℕ) (f : Whole) (is : IsFragment at tracks piece f) where
-  pub moof_len : length f.moof.now ≡ is.span.size
-  moof_len = first_len Moof at piece is.span is.moof f.moof.now is.bytes
+module _ (at : ℕ) (piece : List ℕ) (b : Boxes) (are : AreBoxes at piece b) where
+  pub moof_len : length b.moof.now ≡ are.span.size
+  moof_len = first_len Moof at piece are.span are.moof b.moof.now are.bytes
 
-  pub moof_whole : IsWhole f.moof.now
-  moof_whole = first_whole Moof at piece is.span is.moof f.moof.now is.bytes is.valid
+  pub moof_whole : IsWhole b.moof.now
+  moof_whole = first_whole Moof at piece are.span are.moof b.moof.now are.bytes are.valid
 
-  pub run_is : IsRunOf f.moof.now f.run.run
-  run_is = lone_is (held_at f.moof.now at) tracks (payload_in (at + is.span.size) f.mdat) f.run is.lone (omega (arith, is.moof.near)) moof_whole is.valid
+  pub some_moof : 0 < are.span.size
+  some_moof =
+      let w = whole_is piece are.moof.header are.moof.is in
+      omega (arith, w.1, need-least piece, are.moof.head, first_fits Moof at piece are.span are.moof)
+
+module _ (at : ℕ) (tracks : List Track) (piece : List ℕ) (b : Boxes) (l : LoneRun) (is : IsFragment at tracks piece b l) where
+  len_is : length b.moof.now ≡ is.boxes.span.size
+  len_is = moof_len at piece b is.boxes
+
+  pub run_is : IsRunOf b.moof.now l.run
+  run_is = lone_is (held_at b.moof.now at) tracks l is.lone
 
   -- its media lie in its mdat
-  pub media_fits : at + is.span.size + f.run.run.bytes + 8 ≤ at + is.span.size + f.mdat.size
+  pub media_fits : at + is.boxes.span.size + l.run.bytes + 8 ≤ at + is.boxes.span.size + b.mdat.size
   media_fits =
-      let room = first_fits Mdat (at + is.span.size) (drop is.span.size piece) f.mdat is.mdat in
-      let w = whole_is (drop is.span.size piece) is.mdat.header is.mdat.is in
-      let last = lone_fits (payload_in (at + is.span.size) f.mdat) f.run.run is.lone.stands f.moof.now (at + is.span.size + f.mdat.size) refl (omega (arith, room)) run_is in
-      omega (arith, last, w.1, need-least (drop is.span.size piece), is.mdat.head)
-
-  pub some_moof : 0 < is.span.size
-  some_moof =
-      let w = whole_is piece is.moof.header is.moof.is in
-      omega (arith, w.1, need-least piece, is.moof.head, first_fits Moof at piece is.span is.moof)
+      let room = first_fits Mdat (at + is.boxes.span.size) (drop is.boxes.span.size piece) b.mdat is.boxes.mdat in
+      let w = whole_is (drop is.boxes.span.size piece) is.boxes.mdat.header is.boxes.mdat.is in
+      let last = lone_fits (payload_in (at + is.boxes.span.size) b.mdat) l.run is.stands b.moof.now (at + is.boxes.span.size + b.mdat.size) refl (omega (arith, room)) run_is in
+      omega (arith, last, w.1, need-least (drop is.boxes.span.size piece), is.boxes.mdat.head)
 
   -- it is counted, and no sample waits
-  pub counted_whole : (command : Command) (c c' : Counter) (n k : ℕ) → IsCounted command c at 0 0 → n ≡ f.run.run.count → k ≡ f.run.run.count
-      → c'.tally ≡ plus (record { fragments = c.tally.fragments; samples = c.tally.samples; media_bytes = c.tally.media_bytes; walked = c.tally.walked + n }) (record { fragments = 1; samples = k; media_bytes = f.run.run.bytes; walked = 0 })
-      → c'.steps.rows ≡ c.steps.rows + 2 * k + listed_by command k → IsCounted command c' (at + length f.moof.now + f.mdat.size) 0 0
+  pub counted_whole : (command : Command) (c c' : Counter) (n k : ℕ) → IsCounted command c at 0 0 → n ≡ l.run.count → k ≡ l.run.count
+      → c'.tally ≡ plus (record { fragments = c.tally.fragments; samples = c.tally.samples; media_bytes = c.tally.media_bytes; walked = c.tally.walked + n }) (record { fragments = 1; samples = k; media_bytes = l.run.bytes; walked = 0 })
+      → c'.steps.rows ≡ c.steps.rows + 2 * k + listed_by command k → IsCounted command c' (at + length b.moof.now + b.mdat.size) 0 0
   counted_whole command c c' n k i all one tally rows =
-      let h = held_at f.moof.now at in
+      let h = held_at b.moof.now at in
       let few : k ≤ 1000000 = omega (arith, one, run_is.few) in
       let same : k ≡ moof_samples h = one ∙ is.lone.samples in
       let c1 : Counter = record { tally = plus c.tally (walked h); steps = record { rows = c.steps.rows + (k + k) } } in
-      let near : at + is.span.size ≤ longest = is.moof.near in
-      let waits : IsCounted command c1 (at + is.span.size) k k = counted_moof command c c1 h at is.span.size (k + k) k i some_moof near (omega (arith, same, few)) refl refl (omega (arith, same)) (omega (arith, same)) in
-      let sum = tally ∙ ap (λ t. plus t (record { fragments = 1; samples = k; media_bytes = f.run.run.bytes; walked = 0 })) (walked_more c.tally h n (all ∙ is.lone.samples)) in
-      let told : IsCounted command c' (at + is.span.size + f.mdat.size) 0 k = counted_told command c1 c' (at + is.span.size) (at + is.span.size + f.mdat.size) k f.run.run.bytes waits few
-      (omega (arith, media_fits), omega (arith, media_fits), omega (arith, is.mdat.near)) sum (omega (arith, rows)) in
-      subst (λ z. IsCounted command c' (at + z + f.mdat.size) 0 0) (sym moof_len) (counted_later command c' (at + is.span.size + f.mdat.size) (at + is.span.size + f.mdat.size) k 0 (omega arith) (omega arith) (omega (arith, is.mdat.near)) told)
+      let near : at + is.boxes.span.size ≤ longest = is.boxes.moof.near in
+      let waits : IsCounted command c1 (at + is.boxes.span.size) k k = counted_moof command c c1 h at is.boxes.span.size (k + k) k i (some_moof at piece b is.boxes) near (omega (arith, same, few)) refl refl (omega (arith, same)) (omega (arith, same)) in
+      let sum = tally ∙ ap (λ t. plus t (record { fragments = 1; samples = k; media_bytes = l.run.bytes; walked = 0 })) (walked_more c.tally h n (all ∙ is.lone.samples)) in
+      let told : IsCounted command c' (at + is.boxes.span.size + b.mdat.size) 0 k = counted_told command c1 c' (at + is.boxes.span.size) (at + is.boxes.span.size + b.mdat.size) k l.run.bytes waits few
+      (omega (arith, media_fits), omega (arith, media_fits), omega (arith, is.boxes.mdat.near)) sum (omega (arith, rows)) in
+      subst (λ z. IsCounted command c' (at + z + b.mdat.size) 0 0) (sym len_is) (counted_later command c' (at + is.boxes.span.size + b.mdat.size) (at + is.boxes.span.size + b.mdat.size) k 0 (omega arith) (omega arith) (omega (arith, is.boxes.mdat.near)) told)
 
   abbrev m : List ℕ
-  m = f.moof.now
+  m = b.moof.now
 
   abbrev g : Header
-  g = is.mdat.header
+  g = is.boxes.mdat.header
 
   abbrev n : ℕ
-  n = length f.moof.now + f.mdat.size
+  n = length b.moof.now + b.mdat.size
 
   -- as it is told
   abbrev pub it : Fragment
-  it = fragment (context at (Some tracks) 1) tracks f.moof.now is.mdat.header
+  it = fragment (context at (Some tracks) 1) tracks b.moof.now is.boxes.mdat.header
 
-  payload_same : it.payload ≡ payload_in (at + is.span.size) f.mdat
+  payload_same : it.payload ≡ payload_in (at + is.boxes.span.size) b.mdat
   payload_same =
-      ap (λ k. record { start = at + k + g.header_len; end = end_of (at + k) g.size }) moof_len
-      ∙ ap (λ k. record { start = at + is.span.size + k; end = end_of (at + is.span.size) g.size }) is.mdat.head
-      ∙ ap (λ z. record { start = at + is.span.size + f.mdat.header_len; end = end_of (at + is.span.size) z }) is.mdat.sized
+      ap (λ k. record { start = at + k + g.header_len; end = end_of (at + k) g.size }) len_is
+      ∙ ap (λ k. record { start = at + is.boxes.span.size + k; end = end_of (at + is.boxes.span.size) g.size }) is.boxes.mdat.head
+      ∙ ap (λ z. record { start = at + is.boxes.span.size + b.mdat.header_len; end = end_of (at + is.boxes.span.size) z }) is.boxes.mdat.sized
 
   pub it_is_good : (command : Command) → fragment_fault (making command) it ≡ None
   it_is_good command =
-      ap (λ o. option_or o None) (ap (λ p. place_fault p (moof_runs (held_at m at) tracks)) payload_same ∙ ap (place_fault (payload_in (at + is.span.size) f.mdat)) is.lone.run ∙ is.lone.stands)
+      ap (λ o. option_or o None) (ap (λ p. place_fault p (moof_runs (held_at m at) tracks)) payload_same ∙ ap (place_fault (payload_in (at + is.boxes.span.size) b.mdat)) is.lone.run ∙ is.stands)
 
   module _ (command : Command) (o : Outside) (low : 64 * length tracks ≤ o.account.live) (u : Option (List ℕ)) (v : List ℕ) (a : Account) (t : Tally)
-      (account : a ≡ given_back (claimed o.account (length f.moof.now + 64)) (length f.moof.now + 64)) (tally : t ≡ plus (plus o.tally (walked (held_at f.moof.now at))) (counted_in it)) where
+      (account : a ≡ given_back (claimed o.account (length b.moof.now + 64)) (length b.moof.now + 64)) (tally : t ≡ plus (plus o.tally (walked (held_at b.moof.now at))) (counted_in it)) where
     within : length m ≤ length piece
-    within = omega (arith, moof_len, is.moof.whole)
+    within = omega (arith, len_is, is.boxes.moof.whole)
 
     front : m ≡ take (length m) piece
-    front = is.bytes ∙ ap (λ k. take k piece) (sym moof_len)
+    front = is.boxes.bytes ∙ ap (λ k. take k piece) (sym len_is)
 
     behind : header_at (drop (length m) piece) ≡ steps.Whole g
-    behind = ap (λ k. header_at (drop k piece)) moof_len ∙ is.mdat.is
+    behind = ap (λ k. header_at (drop k piece)) len_is ∙ is.boxes.mdat.is
 
-    sized : is.moof.header.size ≡ Exact (length m)
-    sized = is.moof.sized ∙ ap Exact (sym moof_len)
+    sized : is.boxes.moof.header.size ≡ Exact (length m)
+    sized = is.boxes.moof.sized ∙ ap Exact (sym len_is)
 
-    whole : f.mdat.size ≤ length (drop (length m) piece)
-    whole = subst (λ k. f.mdat.size ≤ length (drop k piece)) (sym moof_len) is.mdat.whole
+    whole : b.mdat.size ≤ length (drop (length m) piece)
+    whole = subst (λ k. b.mdat.size ≤ length (drop k piece)) (sym len_is) is.boxes.mdat.whole
 
-    near : at + length m + f.mdat.size ≤ longest
-    near = omega (arith, moof_len, is.mdat.near)
+    near : at + length m + b.mdat.size ≤ longest
+    near = omega (arith, len_is, is.boxes.mdat.near)
 
     most : length m ≤ most_moof
-    most = omega (arith, moof_len, is.most)
+    most = omega (arith, len_is, is.boxes.most)
 
     -- it is told
     pub GoesOn-it : Passes o.written u o.waiting v (accepted command it).text
-        → GoesOn o (outside u v a t) (standing (making command) (InHeader (context at (Some tracks) 1) [])) (take n piece) (standing (making command) (InHeader (context (at + n) (Some (with_next f.run.track f.run.run.end tracks)) 1) []))
+        → GoesOn o (outside u v a t) (standing (making command) (InHeader (context at (Some tracks) 1) [])) (take n piece) (standing (making command) (InHeader (context (at + n) (Some (with_next l.track l.run.end tracks)) 1) []))
     GoesOn-it passes =
-        let goes = GoesOn-whole command o at tracks piece m is.moof.header g f.mdat.size f.run.run front within is.moof.is is.moof.is_kind sized most is.lone.read is.lone.run behind is.mdat.is_kind is.mdat.sized whole near low u v a t (it_is_good command) account tally passes in
-        let end : at + length m + f.mdat.size ≡ at + n = omega arith in
+        let goes = GoesOn-whole command o at tracks piece m is.boxes.moof.header g b.mdat.size l.run front within is.boxes.moof.is is.boxes.moof.is_kind sized most is.lone.read is.lone.run behind is.boxes.mdat.is_kind is.boxes.mdat.sized whole near low u v a t (it_is_good command) account tally passes in
+        let end : at + length m + b.mdat.size ≡ at + n = omega arith in
         subst (λ ts. GoesOn o (outside u v a t) (standing (making command) (InHeader (context at (Some tracks) 1) [])) (take n piece) (standing (making command) (InHeader (context (at + n) (Some ts) 1) []))) is.lone.ends
         (subst (λ k. GoesOn o (outside u v a t) (standing (making command) (InHeader (context at (Some tracks) 1) [])) (take n piece) (standing (making command) (InHeader (context k (Some (settled tracks (moof_trafs (held_at m at) tracks))) 1) []))) end goes)
 
     -- it can't be told
     pub StopsAt-it : (more : List ℕ) → AppendsPrefix o.written u (o.waiting ++ (accepted command it).text) → StopsAt o (outside u v (given_back a (64 * length tracks)) t) (standing (making command) (InHeader (context at (Some tracks) 1) [])) (piece ++ more) Write
     StopsAt-it more p =
-        StopsAt-whole command o at tracks piece m is.moof.header g f.mdat.size f.run.run front within is.moof.is is.moof.is_kind sized most is.lone.read is.lone.run behind is.mdat.is_kind is.mdat.sized whole near low u v a t (it_is_good command) account tally more p
+        StopsAt-whole command o at tracks piece m is.boxes.moof.header g b.mdat.size l.run front within is.boxes.moof.is is.boxes.moof.is_kind sized most is.lone.read is.lone.run behind is.boxes.mdat.is_kind is.boxes.mdat.sized whole near low u v a t (it_is_good command) account tally more p

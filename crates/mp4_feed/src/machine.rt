@@ -22,10 +22,10 @@ ghost use Rattle.mp4_feed.specs.declared.state.State.TheVariants as states;
 use crate::next::{back_state, take_next};
 use crate::state::{Counter, OpenBody, State, Waiting};
 use crate::take::Taken;
-use crate::whole::{Whole, take_fragment, whole_fragment};
+use crate::whole::{Whole, boxes_at, stands_in, take_fragment};
 use mp4_box::{Fault, FourCc, HeaderReader, Rule};
 use mp4_ends::Sink;
-use mp4_frag::Steps;
+use mp4_frag::{LoneRun, Steps};
 use mp4_init::TrackList;
 use mp4_items::Command;
 use mp4_ledger::Ledger;
@@ -111,8 +111,8 @@ impl FragmentMachine {
         requires state { self.old.state ≡ states.Header at }
         requires head { self.old.head ≡ [] }
         requires known { self.old.tracks ≡ Some (known self.old.tracks) }
-        requires is { IsFragment at (known self.old.tracks) piece.now whole.now }
-        requires room { ledger.old.live + (length whole.now.moof.now + 64) ≤ ledger.old.limit }
+        requires is { IsFragment at (known self.old.tracks) piece.now whole.now.boxes whole.now.run.now }
+        requires room { ledger.old.live + (length whole.now.boxes.moof.now + 64) ≤ ledger.old.limit }
         requires claim { claim_of (place_in self.old) ≤ ledger.old.live }
         ensures takes { Takes (around (sent W.contents W.has_failed w.old w.new) out.old out.new
             ledger.old ledger.new self.old.counter.tally self.new.counter.tally)
@@ -236,8 +236,17 @@ impl Machine for FragmentMachine {
     ) -> Result<usize, Stop> {
         if let State::Header { at } = &self.state {
             let at = *at;
-            if let Some(whole) = whole_fragment(at, &self.head, piece, &self.tracks, ledger) {
-                return self.take_whole(at, &whole, ledger, piece, out, w);
+            if let (Some(boxes), Some(list)) = (
+                boxes_at(at, &self.head, piece, ledger),
+                &self.tracks,
+            ) {
+                let mut steps = Steps { rows: 0 };
+                if let Some(run) = &LoneRun::read(boxes.moof, at, list, &mut steps) {
+                    if stands_in(at, &boxes, piece, run) {
+                        let whole = Whole { boxes, run };
+                        return self.take_whole(at, &whole, ledger, piece, out, w);
+                    }
+                }
             }
         }
         self.take_part(ledger, piece, out, w)

@@ -2,11 +2,12 @@
 //!
 //! Most fragments of live streams are such. What they would claim is counted, and no memory is asked for.
 
-ghost use Rattle.std.specs.Prelude.{◌≡◌, ◌+◌, ◌*◌, ◌<◌, ◌≤◌, ◌^◌, [], ◌++◌, List, length, take, None, Some, true, IfOk, IfSome, OnOk, OnErr};
+ghost use Rattle.std.specs.Prelude.{◌≡◌, ◌+◌, ◌*◌, ◌<◌, ◌≤◌, ◌^◌, [], ◌++◌, List, length, take, None, Some, true, IfOk, IfSome, IsTrue, OnOk, OnErr};
 ghost use Rattle.mp4_box.specs.Headers.{IsBytes, IsWhole};
 ghost use Rattle.mp4_box.specs.declared.headers.Header.{Header};
 ghost use Rattle.mp4_ends.specs.Streams.{AppendsPrefix};
 ghost use Rattle.mp4_init.specs.declared.table.Track.{Track};
+ghost use Rattle.mp4_frag.specs.LoneRuns.{IsLone};
 ghost use Rattle.mp4_frag.specs.Runs.{held_at};
 ghost use Rattle.mp4_reading.specs.Blocks.{Passes};
 ghost use Rattle.mp4_reading.specs.Bodies.{longest};
@@ -19,14 +20,14 @@ ghost use Rattle.mp4_items.specs.Items.{fragment, walked};
 ghost use Rattle.mp4_items.specs.Makings.{counted_in};
 ghost use Rattle.mp4_feed.specs.Places.{InHeader, standing, when_stopped};
 ghost use Rattle.mp4_feed.specs.States.{HasStopped, IsCounted, known};
-ghost use Rattle.mp4_feed.specs.Wholes.{IsFragment, IsLone, StandsFirst};
+ghost use Rattle.mp4_feed.specs.Wholes.{AreBoxes, IsFragment, StandsFirst};
 
 use crate::behind::count;
 use crate::lines::put_run;
 use crate::state::Counter;
 use mp4_box::{HeaderReader, Size, header_of};
 use mp4_ends::{Failed, Sink};
-use mp4_frag::{LoneRun, Payload, Steps};
+use mp4_frag::{LoneRun, Payload};
 use mp4_init::TrackList;
 use mp4_items::{Command, Kind, MOST_MOOF, kind_of};
 use mp4_ledger::Ledger;
@@ -44,15 +45,22 @@ pub(crate) struct Span {
     pub(crate) size: u64,
 }
 
+/// The boxes of a fragment of which a piece has all.
+#[derive(Clone, Copy)]
+pub(crate) struct Boxes<'a> {
+    /// The bytes of its moof.
+    pub(crate) moof: &'a [u8],
+    /// Its mdat.
+    mdat: Span,
+}
+
 /// A fragment of which a piece has all.
 #[derive(Clone, Copy)]
 pub(crate) struct Whole<'a> {
-    /// The bytes of its moof.
-    moof: &'a [u8],
-    /// The only run of that.
-    run: LoneRun,
-    /// Its mdat.
-    mdat: Span,
+    /// Its boxes.
+    pub(crate) boxes: Boxes<'a>,
+    /// The only run of its moof.
+    pub(crate) run: &'a LoneRun,
 }
 
 /// The box at `at`, where it is of this kind and stands at the front of the bytes, they have all of it, and it doesn't go past
@@ -80,38 +88,14 @@ fn first_box(kind: Kind, at: u64, bytes: &[u8]) -> Option<Span>
     })
 }
 
-/// The only run of the moof that the bytes are, which begin at this offset, where nothing is at fault with the moof and the run
-/// stands where it may in the payload.
+/// The boxes of the fragment at `at`, where they stand at the front of a piece that has all of them, and its moof and a row of a
+/// list may be claimed.
 #[inline(always)]
-fn lone_run_in(moof: &[u8], at: u64, tracks: &TrackList, payload: Payload) -> Option<LoneRun>
-    requires whole { IsWhole moof.now }
-    requires room { at + length moof.now ≤ 2 ^ 62 }
-    ensures { IfSome result (λ l. IsLone (held_at moof.now at) tracks.now payload l) }
-{
-    let mut steps = Steps { rows: 0 };
-    let Some(run) = LoneRun::read(moof, at, tracks, &mut steps) else {
-        return None;
-    };
-    if run.stands_in(payload) {
-        Some(run)
-    } else {
-        None
-    }
-}
-
-/// The fragment at `at`, where it stands at the front of a piece that has all of it, nothing is at fault with it, it has just
-/// one run, and its moof and a row of a list may be claimed. No row of it is counted.
-#[inline(always)]
-fn fragment_in<'a>(
-    at: u64,
-    piece: &'a [u8],
-    tracks: &TrackList,
-    ledger: &Ledger,
-) -> Option<Whole<'a>>
+fn boxes_in<'a>(at: u64, piece: &'a [u8], ledger: &Ledger) -> Option<Boxes<'a>>
     requires at { at ≤ longest }
-    ensures is { IfSome result (λ f. IsFragment at tracks.now piece.now f) }
-    ensures room { IfSome result (λ f.
-        ledger.now.live + (length f.moof.now + 64) ≤ ledger.now.limit) }
+    ensures are { IfSome result (λ b. AreBoxes at piece.now b) }
+    ensures room { IfSome result (λ b.
+        ledger.now.live + (length b.moof.now + 64) ≤ ledger.now.limit) }
 {
     let Some(moof) = first_box(Kind::Moof, at, piece) else {
         return None;
@@ -120,47 +104,47 @@ fn fragment_in<'a>(
         return None;
     }
     let (bytes, behind) = piece.split_at(moof.size as usize);
-    let next = at + moof.size;
-    let Some(mdat) = first_box(Kind::Mdat, next, behind) else {
+    let Some(mdat) = first_box(Kind::Mdat, at + moof.size, behind) else {
         return None;
     };
-    let payload = Payload {
-        start: next + mdat.header_len,
-        end: Some(next + mdat.size),
-    };
-    match lone_run_in(bytes, at, tracks, payload) {
-        Some(run) => Some(Whole {
-            moof: bytes,
-            run,
-            mdat,
-        }),
-        None => None,
-    }
+    Some(Boxes { moof: bytes, mdat })
 }
 
-/// The same, where no byte of a header came before and the tracks are known.
+/// The boxes of the fragment at `at`, where no byte of a header came before.
 #[inline(always)]
-pub(crate) fn whole_fragment<'a>(
+pub(crate) fn boxes_at<'a>(
     at: u64,
     head: &HeaderReader,
     piece: &'a [u8],
-    tracks: &Option<TrackList>,
     ledger: &Ledger,
-) -> Option<Whole<'a>>
+) -> Option<Boxes<'a>>
     requires at { at ≤ longest }
     ensures head { IfSome result (λ _. head.now ≡ []) }
-    ensures known { IfSome result (λ _. tracks.now ≡ Some (known tracks.now)) }
-    ensures is { IfSome result (λ f. IsFragment at (known tracks.now) piece.now f) }
-    ensures room { IfSome result (λ f.
-        ledger.now.live + (length f.moof.now + 64) ≤ ledger.now.limit) }
+    ensures are { IfSome result (λ b. AreBoxes at piece.now b) }
+    ensures room { IfSome result (λ b.
+        ledger.now.live + (length b.moof.now + 64) ≤ ledger.now.limit) }
 {
-    if !head.is_empty() {
-        return None;
+    if head.is_empty() {
+        boxes_in(at, piece, ledger)
+    } else {
+        None
     }
-    match tracks {
-        Some(list) => fragment_in(at, piece, list, ledger),
-        None => None,
-    }
+}
+
+/// Whether a run stands where it may in the payload of the mdat of a fragment at `at`.
+#[inline(always)]
+pub(crate) fn stands_in(at: u64, boxes: &Boxes<'_>, piece: &[u8], run: &LoneRun) -> bool
+    requires are { AreBoxes at piece.now boxes.now }
+    ensures { (tracks : List Track) → IsTrue result →
+        IsLone (held_at boxes.now.moof.now at) tracks run.now →
+        IsFragment at tracks piece.now boxes.now run.now }
+{
+    let next = at + boxes.moof.len() as u64;
+    let payload = Payload {
+        start: next + boxes.mdat.header_len,
+        end: Some(next + boxes.mdat.size),
+    };
+    run.stands_in(payload)
 }
 
 /// Counts a fragment, and puts the lines of its samples where they are asked for. Its rows were read where its moof was, and for
@@ -180,21 +164,21 @@ fn tell_whole<W: Sink>(
     out: &mut Block,
     w: &mut W,
 ) -> Result<(), Failed>
-    requires is { IsFragment at tracks.now piece.now whole.now }
+    requires is { IsFragment at tracks.now piece.now whole.now.boxes whole.now.run.now }
     requires counted { IsCounted command counter.old at 0 0 }
     ensures ok { (g : Header) → OnOk result (Passes (W.contents w.old) (W.contents w.new) out.old
         out.new (accepted command (fragment (context at (Some tracks.now) 1) tracks.now
-        whole.now.moof.now g)).text) }
+        whole.now.boxes.moof.now g)).text) }
     ensures err { (g : Header) → OnErr result (AppendsPrefix (W.contents w.old)
         (W.contents w.new) (out.old ++ (accepted command (fragment
-        (context at (Some tracks.now) 1) tracks.now whole.now.moof.now g)).text)) }
+        (context at (Some tracks.now) 1) tracks.now whole.now.boxes.moof.now g)).text)) }
     ensures failed { OnErr result (W.has_failed w.new ≡ true) }
     ensures kept { OnOk result (W.has_failed w.new ≡ W.has_failed w.old) }
     ensures tally { (g : Header) → counter.new.tally ≡ plus (plus counter.old.tally
-        (walked (held_at whole.now.moof.now at))) (counted_in (fragment
-        (context at (Some tracks.now) 1) tracks.now whole.now.moof.now g)) }
+        (walked (held_at whole.now.boxes.moof.now at))) (counted_in (fragment
+        (context at (Some tracks.now) 1) tracks.now whole.now.boxes.moof.now g)) }
     ensures counted { IsCounted command counter.new
-        (at + length whole.now.moof.now + whole.now.mdat.size) 0 0 }
+        (at + length whole.now.boxes.moof.now + whole.now.boxes.mdat.size) 0 0 }
 {
     let run = &whole.run.run;
     let samples = u64::from(run.count);
@@ -205,7 +189,7 @@ fn tell_whole<W: Sink>(
         Command::Check => Ok(()),
         Command::Samples => {
             counter.steps.rows += u128::from(samples);
-            put_run(run, whole.moof, out, w)
+            put_run(run, whole.boxes.moof, out, w)
         }
     }
 }
@@ -228,8 +212,8 @@ pub(crate) fn take_fragment<W: Sink>(
     w: &mut W,
 ) -> Result<u64, Stop>
     requires known { tracks.old ≡ Some (known tracks.old) }
-    requires is { IsFragment at (known tracks.old) piece.now whole.now }
-    requires room { ledger.old.live + (length whole.now.moof.now + 64) ≤ ledger.old.limit }
+    requires is { IsFragment at (known tracks.old) piece.now whole.now.boxes whole.now.run.now }
+    requires room { ledger.old.live + (length whole.now.boxes.moof.now + 64) ≤ ledger.old.limit }
     requires claim { table_of tracks.old ≤ ledger.old.live }
     requires counted { IsCounted command counter.old at 0 0 }
     ensures takes { Takes (around (sent W.contents W.has_failed w.old w.new) out.old out.new
@@ -249,7 +233,7 @@ pub(crate) fn take_fragment<W: Sink>(
     let Some(list) = tracks else {
         unreachable!();
     };
-    let held = whole.moof.len() as u64;
+    let held = whole.boxes.moof.len() as u64;
     match ledger.count_claim(held + ROW) {
         Ok(()) => {}
         Err(_) => unreachable!(),
@@ -259,5 +243,5 @@ pub(crate) fn take_fragment<W: Sink>(
         Err(Failed) => return Err(Stop::Write),
     }
     whole.run.settle(list);
-    Ok(held + whole.mdat.size)
+    Ok(held + whole.boxes.mdat.size)
 }

@@ -13,6 +13,7 @@ use Rattle.mp4_frag.specs.declared.run.Run.{Run}
 use Rattle.mp4_frag.specs.declared.traf.TrafHeader.{TrafHeader}
 use Rattle.mp4_frag.specs.Fields.{payload_of}
 use Rattle.mp4_frag.specs.Kinds.{tfhd, to_tfhd, traf, trun}
+use Rattle.mp4_frag.specs.LoneRuns.{IsLone}
 use Rattle.mp4_frag.specs.Moofs.{IsRead, moof_of, moof_runs, moof_samples, moof_trafs}
 use Rattle.mp4_frag.specs.Ranges.{InRange, IsSound}
 use Rattle.mp4_frag.specs.Rows.{rows_of}
@@ -90,7 +91,7 @@ pub trafs_count : (h : Held) (tracks : List Track) (m : Box) → moof_of h ≡ m
 trafs_count h tracks m is = length_map h tracks (of_kind traf (children (moof_of h))) ∙ ap (λ (b : Box). length (of_kind traf (children b))) is
 
 -- its runs are those of the moof
-pub moof_is_one : (h : Held) (tracks : List Track) (m t : Box) → moof_of h ≡ m → of_kind traf (children m) ≡ t ∷ [] → moof_runs h tracks ≡ runs_of (traf_of h tracks t)
+moof_is_one : (h : Held) (tracks : List Track) (m t : Box) → moof_of h ≡ m → of_kind traf (children m) ≡ t ∷ [] → moof_runs h tracks ≡ runs_of (traf_of h tracks t)
 moof_is_one h tracks m t is e = ap (flat_map runs_of) (one_traf h tracks m t is e) ∙ append-nil (runs_of (traf_of h tracks t))
 
 -- ---- its track is known
@@ -136,7 +137,7 @@ one_known h tracks m t is read e =
 
 -- ---- what its run tells of the moof
 
-pub run_samples : (h : Held) (tracks : List Track) (run : Run) → moof_runs h tracks ≡ run ∷ [] → run.count ≡ moof_samples h
+run_samples : (h : Held) (tracks : List Track) (run : Run) → moof_runs h tracks ≡ run ∷ [] → run.count ≡ moof_samples h
 run_samples h tracks run e =
     sym (ap length (append-nil (rows_of run h.bytes)) ∙ length_rows_of run h.bytes)
     ∙ ap (λ (runs : List Run). length (flat_map (λ (r : Run). rows_of r h.bytes) runs)) (sym e)
@@ -149,7 +150,7 @@ traf_id h tracks t = refl
 end_by : (time : ℕ) (run : Run) (runs : List Run) → runs ≡ run ∷ [] → last_end time runs ≡ run.end
 end_by time run runs e = rw e refl
 
-pub run_ends : (h : Held) (tracks : List Track) (m t : Box) (run : Run) (i : ℕ) → moof_of h ≡ m → of_kind traf (children m) ≡ t ∷ [] → runs_of (traf_of h tracks t) ≡ run ∷ [] → position (λ (x : Track). x.id == track_id (tfhd_of t)) tracks ≡ Some i
+run_ends : (h : Held) (tracks : List Track) (m t : Box) (run : Run) (i : ℕ) → moof_of h ≡ m → of_kind traf (children m) ≡ t ∷ [] → runs_of (traf_of h tracks t) ≡ run ∷ [] → position (λ (x : Track). x.id == track_id (tfhd_of t)) tracks ≡ Some i
     → settled tracks (moof_trafs h tracks) ≡ with_next i run.end tracks
 run_ends h tracks m t run i is e only at =
     ap (settled tracks) (one_traf h tracks m t is e)
@@ -159,11 +160,21 @@ run_ends h tracks m t run i is e only at =
 
 -- ---- what is told of it, where it is the only one
 
-pub samples_told : (h : Held) (tracks : List Track) (m t : Box) (o : Option LoneRun) → moof_of h ≡ m → of_kind traf (children m) ≡ t ∷ [] → IfSome o (λ l. runs_of (traf_of h tracks t) ≡ l.run ∷ []) → IfSome o (λ l. l.run.count ≡ moof_samples h)
-samples_told h tracks m t None is e only = tt
-samples_told h tracks m t (Some l) is e only = run_samples h tracks l.run (moof_is_one h tracks m t is e ∙ only)
+pub one_lone : (h : Held) (tracks : List Track) (m t : Box) (l : LoneRun) → moof_of h ≡ m → of_kind traf (children m) ≡ t ∷ [] → IsRead h tracks → runs_of (traf_of h tracks t) ≡ l.run ∷ [] → InRange l.run
+    → position (λ (x : Track). x.id == track_id (tfhd_of t)) tracks ≡ Some l.track → l.track < length tracks → IsLone h tracks l
+one_lone h tracks m t l is e read only range at known =
+    let run = moof_is_one h tracks m t is e ∙ only in
+    record {
+      read = read;
+      traf = ap length (one_traf h tracks m t is e);
+      run = run;
+      range = range;
+      samples = run_samples h tracks l.run run;
+      known = known;
+      ends = run_ends h tracks m t l.run l.track is e only at;
+    }
 
-pub ends_told : (h : Held) (tracks : List Track) (m t : Box) (o : Option LoneRun) → moof_of h ≡ m → of_kind traf (children m) ≡ t ∷ [] → IfSome o (λ l. runs_of (traf_of h tracks t) ≡ l.run ∷ []) → IfSome o (λ l. position (λ (x : Track). x.id == track_id (tfhd_of t)) tracks ≡ Some l.track)
-    → IfSome o (λ l. settled tracks (moof_trafs h tracks) ≡ with_next l.track l.run.end tracks)
-ends_told h tracks m t None is e only at = tt
-ends_told h tracks m t (Some l) is e only at = run_ends h tracks m t l.run l.track is e only at
+pub lone_told : (h : Held) (tracks : List Track) (m t : Box) (o : Option LoneRun) → moof_of h ≡ m → of_kind traf (children m) ≡ t ∷ [] → IsRead h tracks → IfSome o (λ l. runs_of (traf_of h tracks t) ≡ l.run ∷ []) → IfSome o (λ l. InRange l.run)
+    → IfSome o (λ l. position (λ (x : Track). x.id == track_id (tfhd_of t)) tracks ≡ Some l.track) → IfSome o (λ l. l.track < length tracks) → IfSome o (λ l. IsLone h tracks l)
+lone_told h tracks m t None is e read only range at known = tt
+lone_told h tracks m t (Some l) is e read only range at known = one_lone h tracks m t l is e read only range at known

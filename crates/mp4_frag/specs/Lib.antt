@@ -17,6 +17,7 @@ pub mod RunLists
 pub mod Ranges
 pub mod After
 pub mod Settling
+pub mod LoneRuns
 pub mod Laws
 pub mod Rereads
 pub mod Places

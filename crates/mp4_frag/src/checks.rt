@@ -1,13 +1,15 @@
 //! What is asked of one box of a moof.
 
-ghost use Rattle.std.specs.Prelude.{◌≡◌, ◌<◌, ◌^◌, Option};
-ghost use Rattle.std.specs.Option.{unwrap_or};
+ghost use Rattle.std.specs.Prelude.{◌≡◌, ◌<◌, ◌^◌, ◌==◌, Option, IfSome, length, slice_get};
+ghost use Rattle.std.specs.List.{position};
+ghost use Rattle.std.specs.Option.{option_and_then, unwrap_or};
 ghost use Rattle.mp4_box.specs.Trees.{view};
 ghost use Rattle.mp4_box.specs.Order.{least_from};
 ghost use Rattle.mp4_box.specs.declared.headers.FourCc.{FourCc};
 ghost use Rattle.mp4_frag.specs.AtOnce.{HasTicks};
 ghost use Rattle.mp4_frag.specs.Rules.{entry_of, holds_only, is_among, tfhd_faults, tfhd_length, track_faults, track_with, trun_faults, trun_length, unsupported};
 ghost use Rattle.mp4_frag.specs.Runs.{no_track};
+ghost use Rattle.mp4_frag.specs.Tfhd.{track_id};
 
 use crate::fields::{flags_of, number_or};
 use crate::tfhd::{counts_from_moof, duration_is_empty, tfhd_fields, track_id};
@@ -86,14 +88,22 @@ impl<'a> Check for HoldsOnly<'a> {
     }
 }
 
+/// The track at this index, where there is one.
+fn track_found(tracks: &TrackList, found: Option<usize>) -> Option<Track>
+    requires { IfSome found (λ i. i < length tracks.now) }
+    ensures { result ≡ option_and_then (slice_get tracks.now) found }
+{
+    match found {
+        Some(i) => Some(tracks.at(i)),
+        None => None,
+    }
+}
+
 /// The track with this track_ID.
 pub(crate) fn track_with(tracks: &TrackList, id: u32) -> Option<Track>
     ensures { result ≡ track_with id tracks.now }
 {
-    match tracks.find(id) {
-        Some(i) => Some(tracks.at(i)),
-        None => None,
-    }
+    track_found(tracks, tracks.find(id))
 }
 
 /// The index of the sample entry that a tfhd names, or else its track.
@@ -121,10 +131,17 @@ fn note_track(track: Option<Track>, tfhd: &BoxRef<'_>, best: &mut Option<Fault>)
     }
 }
 
-/// Notes what is at fault with the values of a tfhd.
+/// Notes what is at fault with the values of a tfhd. The index of its track, where there is one.
 #[inline(always)]
 #[tactic(auto, using(mp4_box::proofs::OrderLemmas::least_from_append), unfolding(mp4_box::specs::Order::least_from, crate::specs::Rules::tfhd_faults))]
-pub(crate) fn note_tfhd(tracks: &TrackList, tfhd: &BoxRef<'_>, best: &mut Option<Fault>)
+pub(crate) fn note_tfhd(
+    tracks: &TrackList,
+    tfhd: &BoxRef<'_>,
+    best: &mut Option<Fault>,
+) -> Option<usize>
+    ensures found { result ≡
+        position (λ t. t.id == track_id tfhd.now.payload.now) tracks.now }
+    ensures within { IfSome result (λ i. i < length tracks.now) }
     ensures best { best.new ≡ least_from best.old (tfhd_faults tracks.now (view tfhd.now)) }
     ensures ticks { HasTicks tracks.now (view tfhd.now) }
 {
@@ -135,7 +152,9 @@ pub(crate) fn note_tfhd(tracks: &TrackList, tfhd: &BoxRef<'_>, best: &mut Option
     if duration_is_empty(flags) {
         note(best, tfhd.fault(Rule::EmptyDuration));
     }
-    note_track(track_with(tracks, track_id(tfhd.payload)), tfhd, best);
+    let found = tracks.find(track_id(tfhd.payload));
+    note_track(track_found(tracks, found), tfhd, best);
+    found
 }
 
 impl<'a> Check for OfTrack<'a> {

@@ -10,6 +10,7 @@ ghost use Rattle.mp4_init.specs.Rows.{with_next};
 ghost use Rattle.mp4_init.specs.declared.table.Track.{Track};
 ghost use Rattle.mp4_run_order.specs.Places.{lies_in};
 ghost use Rattle.mp4_frag.specs.Kinds.{trun};
+ghost use Rattle.mp4_frag.specs.LoneRuns.{IsLone};
 ghost use Rattle.mp4_frag.specs.Moofs.{IsRead, moof_runs, moof_samples, moof_trafs};
 ghost use Rattle.mp4_frag.specs.Places.{place_fault};
 ghost use Rattle.mp4_frag.specs.Ranges.{InRange, IsSound};
@@ -17,7 +18,6 @@ ghost use Rattle.mp4_frag.specs.Rules.{most_samples};
 ghost use Rattle.mp4_frag.specs.RunLists.{taken_runs};
 ghost use Rattle.mp4_frag.specs.RunRows.{listed_run};
 ghost use Rattle.mp4_frag.specs.Runs.{base_of, held_at, runs_of, tfhd_of, traf_of};
-ghost use Rattle.mp4_frag.specs.Settling.{settled};
 ghost use Rattle.mp4_frag.specs.Tfhd.{track_id};
 
 use crate::children::next_of;
@@ -58,24 +58,26 @@ fn only_of<'a>(kind: FourCc, mut walk: Walk<'a>) -> Option<BoxRef<'a>>
     }
 }
 
-/// The only run of a traf with this tfhd and this base time, in the moof that begins at this offset. Its track is known.
+/// The only run of a traf with this tfhd and this base time, in the moof that begins at this offset. Its track stands at this
+/// index.
 #[inline(always)]
 pub(crate) fn run_with<'a>(
     held: &'a [u8],
     moof: u64,
     tracks: &TrackList,
+    track: usize,
     traf: &BoxRef<'a>,
     tfhd: &'a [u8],
     time: Option<u64>,
     only: &BoxRef<'a>,
 ) -> LoneRun
+    requires track { position (λ t. t.id == track_id tfhd.now) tracks.now ≡ Some track }
+    requires within { track < length tracks.now }
     requires tfhd { tfhd.now ≡ tfhd_of (view traf.now) }
     requires time { (next : ℕ) → unwrap_or time next ≡ base_of next (view traf.now) }
     requires trun { of_kind trun (children (view traf.now)) ≡ view only.now ∷ [] }
     requires sound { IsSound (traf_of (held_at held.now moof) tracks.now
         (view traf.now)) }
-    requires known { IsSome (position (λ t. t.id == track_id (tfhd_of (view traf.now)))
-        tracks.now) }
     ensures run { runs_of (traf_of (held_at held.now moof) tracks.now (view traf.now)) ≡
         result.run ∷ [] }
     ensures range { InRange result.run }
@@ -83,21 +85,17 @@ pub(crate) fn run_with<'a>(
         Some result.track }
     ensures within { result.track < length tracks.now }
 {
-    let found = tracks.find(track_id(tfhd));
-    let track = track_at(tracks, found);
-    let Some(index) = found else {
-        unreachable!();
-    };
+    let of = track_at(tracks, Some(track));
     let context = TrafContext {
         held,
         moof,
-        header: header_by(track, tfhd),
+        header: header_by(of, tfhd),
         ends_at: end_in(moof, traf),
     };
-    let behind = before_runs(time.unwrap_or(track.next), moof);
+    let behind = before_runs(time.unwrap_or(of.next), moof);
     LoneRun {
         run: run_of(&context, &behind, only),
-        track: index,
+        track,
     }
 }
 
@@ -121,7 +119,12 @@ fn lone_of<'a>(held: &'a [u8], moof: u64, tracks: &TrackList, traf: &BoxRef<'a>)
     let Some(trun) = only_of(TRUN, heads.rest) else {
         return None;
     };
-    Some(run_with(held, moof, tracks, traf, heads.tfhd, heads.time, &trun))
+    let Some(track) = tracks.find(track_id(heads.tfhd)) else {
+        unreachable!();
+    };
+    Some(run_with(
+        held, moof, tracks, track, traf, heads.tfhd, heads.time, &trun,
+    ))
 }
 
 /// The only run of the moof that the bytes are, which begin at this offset: of its only traf.
@@ -130,16 +133,7 @@ fn lone_in(held: &[u8], offset: u64, tracks: &TrackList) -> Option<LoneRun>
     requires whole { IsWhole held.now }
     requires room { offset + length held.now ≤ 2 ^ 62 }
     requires read { IsRead (held_at held.now offset) tracks.now }
-    ensures traf { IfSome result (λ _.
-        length (moof_trafs (held_at held.now offset) tracks.now) ≡ 1) }
-    ensures run { IfSome result (λ l.
-        moof_runs (held_at held.now offset) tracks.now ≡ l.run ∷ []) }
-    ensures range { IfSome result (λ l. InRange l.run) }
-    ensures samples { IfSome result (λ l. l.run.count ≡ moof_samples (held_at held.now offset)) }
-    ensures known { IfSome result (λ l. l.track < length tracks.now) }
-    ensures ends { IfSome result (λ l.
-        settled tracks.now (moof_trafs (held_at held.now offset) tracks.now) ≡
-        with_next l.track l.run.end tracks.now) }
+    ensures lone { IfSome result (λ l. IsLone (held_at held.now offset) tracks.now l) }
     ensures none { length (moof_trafs (held_at held.now offset) tracks.now) ≡ 1 →
         length (moof_runs (held_at held.now offset) tracks.now) ≡ 1 → IsSome result }
 {
@@ -157,14 +151,8 @@ impl<'a> Moof<'a> {
     pub fn lone_run(&self, tracks: &TrackList, steps: &mut Steps) -> Option<LoneRun>
         requires read { IsRead self.now tracks.now }
         requires steps { steps.old.rows < 2 ^ 127 }
-        ensures traf { IfSome result (λ _. length (moof_trafs self.now tracks.now) ≡ 1) }
-        ensures run { IfSome result (λ l. moof_runs self.now tracks.now ≡ l.run ∷ []) }
+        ensures lone { IfSome result (λ l. IsLone self.now tracks.now l) }
         ensures taken { IfSome result (λ l. taken_runs self.now tracks.now ≡ l.run ∷ []) }
-        ensures range { IfSome result (λ l. InRange l.run) }
-        ensures samples { IfSome result (λ l. l.run.count ≡ moof_samples self.now) }
-        ensures known { IfSome result (λ l. l.track < length tracks.now) }
-        ensures ends { IfSome result (λ l. settled tracks.now (moof_trafs self.now tracks.now) ≡
-            with_next l.track l.run.end tracks.now) }
         ensures none { length (moof_trafs self.now tracks.now) ≡ 1 →
             length (moof_runs self.now tracks.now) ≡ 1 → IsSome result }
         ensures walked { IfSome result (λ _. steps.new.rows ≡
@@ -205,6 +193,34 @@ fn may_have_one_traf(held: &[u8], offset: u64) -> bool
     only_of(TRAF, Walk::of(&moof)).is_some()
 }
 
+/// The same as [`LoneRun::read`], whatever form the moof has.
+#[inline(never)]
+fn read_generally(
+    held: &[u8],
+    offset: u64,
+    tracks: &TrackList,
+    steps: &mut Steps,
+) -> Option<LoneRun>
+    requires whole { IsWhole held.now }
+    requires room { offset + length held.now ≤ 2 ^ 62 }
+    requires steps { steps.old.rows < 2 ^ 126 }
+    ensures lone { IfSome result (λ l. IsLone (held_at held.now offset) tracks.now l) }
+    ensures none { IsRead (held_at held.now offset) tracks.now →
+        length (moof_trafs (held_at held.now offset) tracks.now) ≡ 1 →
+        length (moof_runs (held_at held.now offset) tracks.now) ≡ 1 → IsSome result }
+    ensures walked { IfSome result (λ _. steps.new.rows ≡
+        steps.old.rows + 2 * moof_samples (held_at held.now offset)) }
+    ensures few { steps.new.rows ≤ steps.old.rows + 2 * most_samples }
+{
+    if !may_have_one_traf(held, offset) {
+        return None;
+    }
+    match Moof::read(held, offset, tracks, steps) {
+        Ok(moof) => moof.lone_run(tracks, steps),
+        Err(_) => None,
+    }
+}
+
 impl LoneRun {
     /// The run of the moof that the bytes are, one whole box of stated size that begins at `offset` in the stream, where nothing is
     /// at fault with it and it has one traf, with one trun in it; none of other moofs. `tracks` are those of its moov. Where there
@@ -214,18 +230,7 @@ impl LoneRun {
         requires whole { IsWhole held.now }
         requires room { offset + length held.now ≤ 2 ^ 62 }
         requires steps { steps.old.rows < 2 ^ 126 }
-        ensures good { IsSome result → IsRead (held_at held.now offset) tracks.now }
-        ensures traf { IfSome result (λ _.
-            length (moof_trafs (held_at held.now offset) tracks.now) ≡ 1) }
-        ensures run { IfSome result (λ l.
-            moof_runs (held_at held.now offset) tracks.now ≡ l.run ∷ []) }
-        ensures range { IfSome result (λ l. InRange l.run) }
-        ensures samples { IfSome result (λ l.
-            l.run.count ≡ moof_samples (held_at held.now offset)) }
-        ensures known { IfSome result (λ l. l.track < length tracks.now) }
-        ensures ends { IfSome result (λ l.
-            settled tracks.now (moof_trafs (held_at held.now offset) tracks.now) ≡
-            with_next l.track l.run.end tracks.now) }
+        ensures lone { IfSome result (λ l. IsLone (held_at held.now offset) tracks.now l) }
         ensures none { IsRead (held_at held.now offset) tracks.now →
             length (moof_trafs (held_at held.now offset) tracks.now) ≡ 1 →
             length (moof_runs (held_at held.now offset) tracks.now) ≡ 1 → IsSome result }
@@ -233,16 +238,16 @@ impl LoneRun {
             steps.old.rows + 2 * moof_samples (held_at held.now offset)) }
         ensures few { steps.new.rows ≤ steps.old.rows + 2 * most_samples }
     {
-        if let Some(run) = usual_run(held, offset, tracks) {
-            steps.rows += 2 * u128::from(run.run.count);
-            return Some(run);
-        }
-        if !may_have_one_traf(held, offset) {
-            return None;
-        }
-        match Moof::read(held, offset, tracks, steps) {
-            Ok(moof) => moof.lone_run(tracks, steps),
-            Err(_) => None,
+        match usual_run(held, offset, tracks) {
+            Some(run) => {
+                steps.rows += 2 * u128::from(run.run.count);
+                Some(run)
+            }
+            // Taken apart, so that only here the answer need be in memory.
+            None => match read_generally(held, offset, tracks, steps) {
+                Some(run) => Some(run),
+                None => None,
+            },
         }
     }
 

@@ -31,6 +31,7 @@ pub(crate) fn ticks_of(run: &Run, held: &[u8]) -> u64
 }
 
 /// The sizes and the durations of the samples of a run, added up: by products where no sample has its own.
+#[inline(always)]
 #[tactic(auto, using(crate::proofs::RowLemmas::length_rows_of, crate::proofs::RowLemmas::sizes_by_product, crate::proofs::RowLemmas::durations_by_product))]
 pub(crate) fn sums_of(run: &Run, held: &[u8]) -> Sums
     ensures bytes { result.bytes ≡ sizes (rows_of run.now held.now) }

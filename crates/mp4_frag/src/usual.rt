@@ -2,19 +2,19 @@
 //!
 //! Nearly all moofs of live streams with one track have this form. What is told of them is what the general way tells.
 
-ghost use Rattle.std.specs.Prelude.{◌≡◌, ◌∷◌, ◌≤◌, ◌^◌, ◌+◌, ◌<◌, [], not, true, drop, length, Some, IfSome, IsSome, IsTrue};
+ghost use Rattle.std.specs.Prelude.{◌≡◌, ◌∷◌, ◌≤◌, ◌^◌, ◌+◌, ◌<◌, ◌==◌, [], not, true, drop, length, Some, IfSome, IsSome};
+ghost use Rattle.std.specs.List.{position};
 ghost use Rattle.std.specs.Str.{bytes_eq};
 ghost use Rattle.mp4_box.specs.Headers.{IsWhole, uuid};
 ghost use Rattle.mp4_box.specs.Order.{least_from};
 ghost use Rattle.mp4_box.specs.Trees.{box_at, box_faults, box_len, view};
-ghost use Rattle.mp4_init.specs.Rows.{with_next};
 ghost use Rattle.mp4_frag.specs.AtOnce.{HasTicks, IsEarly, is_kind};
 ghost use Rattle.mp4_frag.specs.Kinds.{mfhd, tfdt, tfhd, traf, trun};
-ghost use Rattle.mp4_frag.specs.Moofs.{IsRead, moof_runs, moof_samples, moof_trafs, value_faults};
-ghost use Rattle.mp4_frag.specs.Ranges.{InRange};
+ghost use Rattle.mp4_frag.specs.LoneRuns.{IsLone};
+ghost use Rattle.mp4_frag.specs.Moofs.{value_faults};
 ghost use Rattle.mp4_frag.specs.Rules.{form_faults};
 ghost use Rattle.mp4_frag.specs.Runs.{held_at};
-ghost use Rattle.mp4_frag.specs.Settling.{settled};
+ghost use Rattle.mp4_frag.specs.Tfhd.{track_id};
 ghost use Rattle.mp4_frag.specs.Usual.{HoldsThree, HoldsTwo, IsUsual, usual_faults};
 
 use crate::at_once::is_early;
@@ -165,38 +165,48 @@ fn usual_of<'a>(moof: &BoxRef<'a>) -> Option<Usual<'a>>
     })
 }
 
-/// Notes what is at fault with each box of a moof of the usual form by itself.
+/// Notes what is at fault with each box of a moof of the usual form by itself. The index of its track, where there is one.
 #[inline(always)]
 #[tactic(auto, using(mp4_box::proofs::OrderLemmas::least_from_append), unfolding(mp4_box::specs::Order::least_from))]
-fn note_usual(tracks: &TrackList, usual: &Usual<'_>, best: &mut Option<Fault>)
+fn note_usual(tracks: &TrackList, usual: &Usual<'_>, best: &mut Option<Fault>) -> Option<usize>
+    ensures found { result ≡
+        position (λ t. t.id == track_id usual.now.tfhd.payload.now) tracks.now }
+    ensures within { IfSome result (λ i. i < length tracks.now) }
     ensures best { best.new ≡ least_from best.old (usual_faults tracks.now (view usual.now.mfhd)
         (view usual.now.tfhd) (view usual.now.tfdt) (view usual.now.trun)) }
     ensures ticks { HasTicks tracks.now (view usual.now.tfhd) }
 {
     Layout::Exactly(MFHD_LEN).note_at(&usual.mfhd, best);
     TfhdLength.note_at(&usual.tfhd, best);
-    note_tfhd(tracks, &usual.tfhd, best);
+    let found = note_tfhd(tracks, &usual.tfhd, best);
     Layout::Versioned(TFDT_LEN, LONG_TFDT_LEN).note_at(&usual.tfdt, best);
     TrunLength.note_at(&usual.trun, best);
     FlagsOnce.note_at(&usual.trun, best);
+    found
 }
 
-/// Whether nothing is at fault with a moof of the usual form, and its time is early.
+/// The index of the track of a moof of the usual form, where nothing is at fault with it and its time is early.
 #[inline(always)]
-fn is_sound(tracks: &TrackList, moof: &BoxRef<'_>, usual: &Usual<'_>) -> bool
+fn sound_track(tracks: &TrackList, moof: &BoxRef<'_>, usual: &Usual<'_>) -> Option<usize>
     requires { IsUsual (view moof.now) (view usual.now.mfhd) (view usual.now.traf)
         (view usual.now.tfhd) (view usual.now.tfdt) (view usual.now.trun) }
-    ensures tree { IsTrue result → box_faults (view moof.now) ≡ [] }
-    ensures forms { IsTrue result → form_faults (view moof.now) ≡ [] }
-    ensures values { IsTrue result → value_faults tracks.now (view moof.now) ≡ [] }
-    ensures early { IsTrue result → IsEarly tracks.now (view moof.now) }
+    ensures tree { IsSome result → box_faults (view moof.now) ≡ [] }
+    ensures forms { IsSome result → form_faults (view moof.now) ≡ [] }
+    ensures values { IsSome result → value_faults tracks.now (view moof.now) ≡ [] }
+    ensures early { IsSome result → IsEarly tracks.now (view moof.now) }
+    ensures found { IfSome result (λ i.
+        position (λ t. t.id == track_id usual.now.tfhd.payload.now) tracks.now ≡ Some i) }
+    ensures within { IfSome result (λ i. i < length tracks.now) }
 {
     let mut best = None;
-    note_usual(tracks, usual, &mut best);
+    let found = note_usual(tracks, usual, &mut best);
     if best.is_some() || sample_count(usual.trun.payload) > MOST_SAMPLES {
-        return false;
+        return None;
     }
-    is_early(&usual.tfdt)
+    if !is_early(&usual.tfdt) {
+        return None;
+    }
+    found
 }
 
 /// The run of the moof that the bytes are, which begin at this offset, where it has the usual form, nothing is at fault with it
@@ -205,25 +215,15 @@ fn is_sound(tracks: &TrackList, moof: &BoxRef<'_>, usual: &Usual<'_>) -> bool
 pub(crate) fn usual_run(held: &[u8], offset: u64, tracks: &TrackList) -> Option<LoneRun>
     requires whole { IsWhole held.now }
     requires room { offset + length held.now ≤ 2 ^ 62 }
-    ensures good { IsSome result → IsRead (held_at held.now offset) tracks.now }
-    ensures traf { IfSome result (λ _.
-        length (moof_trafs (held_at held.now offset) tracks.now) ≡ 1) }
-    ensures run { IfSome result (λ l.
-        moof_runs (held_at held.now offset) tracks.now ≡ l.run ∷ []) }
-    ensures range { IfSome result (λ l. InRange l.run) }
-    ensures samples { IfSome result (λ l. l.run.count ≡ moof_samples (held_at held.now offset)) }
-    ensures known { IfSome result (λ l. l.track < length tracks.now) }
-    ensures ends { IfSome result (λ l.
-        settled tracks.now (moof_trafs (held_at held.now offset) tracks.now) ≡
-        with_next l.track l.run.end tracks.now) }
+    ensures { IfSome result (λ l. IsLone (held_at held.now offset) tracks.now l) }
 {
     let moof = whole_box(held, offset);
     let Some(usual) = usual_of(&moof) else {
         return None;
     };
-    if !is_sound(tracks, &moof, &usual) {
+    let Some(track) = sound_track(tracks, &moof, &usual) else {
         return None;
-    }
+    };
     let time = base_media_decode_time(usual.tfdt.payload);
     // A copy, so that the other boxes need not be in memory.
     let trun = usual.trun;
@@ -231,6 +231,7 @@ pub(crate) fn usual_run(held: &[u8], offset: u64, tracks: &TrackList) -> Option<
         held,
         offset,
         tracks,
+        track,
         &usual.traf,
         usual.tfhd.payload,
         Some(time),

@@ -7,6 +7,7 @@ use Rattle.mp4_box.specs.Paths.{of_kind}
 use Rattle.mp4_box.specs.Trees.{Box, children}
 use Rattle.mp4_init.specs.declared.table.Track.{Track}
 use Rattle.mp4_frag.specs.declared.run.Run.{Run}
+use Rattle.mp4_frag.specs.Ranges.{InRange}
 use Rattle.mp4_frag.specs.After.{StandsBetween}
 use Rattle.mp4_frag.specs.Kinds.{traf}
 use Rattle.mp4_frag.specs.Moofs.{IsRead, moof_of, moof_runs, moof_samples}
@@ -78,8 +79,8 @@ samples_few h tracks read = let few = few_timed (moof_of h) (read_count h tracks
 
 -- ---- all of a moof
 
-run_is : (h : Held) (tracks : List Track) → h.offset ≤ 2 ^ 62 → IsWhole h.bytes → IsBytes h.bytes → IsRead h tracks → (before after : List Run) (run : Run) → StandsBetween (moof_runs h tracks) before run after → run.size < 2 ^ 32 → IsRunOf h.bytes run
-run_is h tracks near whole fits read before after run s small =
+pub ranged_run : (h : Held) (tracks : List Track) → IsRead h tracks → (before after : List Run) (run : Run) → StandsBetween (moof_runs h tracks) before run after → InRange run → IsRunOf h.bytes run
+ranged_run h tracks read before after run s range =
     let count = counts_few h.bytes most_samples (moof_runs h tracks) (omega (arith, rows_are_samples h tracks, samples_few h tracks read)) in
     let sums = trafs_summed h tracks (of_kind traf (children (moof_of h))) in
     let summed = all_middle (IsSummed h.bytes) before run after (subst (λ (xs : List Run). AllByRecursion (IsSummed h.bytes) xs) s.is sums) in
@@ -87,10 +88,10 @@ run_is h tracks near whole fits read before after run s small =
       few = all_middle (λ (run : Run). run.count ≤ most_samples) before run after (subst (λ (xs : List Run). AllByRecursion (λ (run : Run). run.count ≤ most_samples) xs) s.is count);
       end = summed.end;
       bytes = summed.bytes;
-      range = (after_run h tracks near whole fits read before after run s).here small;
+      range = range;
     }
 
 -- the runs of a moof that was read can be cut
 pub runs_are : (h : Held) (tracks : List Track) → h.offset ≤ 2 ^ 62 → IsWhole h.bytes → IsBytes h.bytes → IsRead h tracks → AreRunsOf h.bytes (moof_runs h tracks)
 runs_are h tracks near whole fits read =
-    each (λ (run : Run). run.size < 2 ^ 32 → IsRunOf h.bytes run) (moof_runs h tracks) (λ before after run s small. run_is h tracks near whole fits read before after run s small)
+    each (λ (run : Run). run.size < 2 ^ 32 → IsRunOf h.bytes run) (moof_runs h tracks) (λ before after run s small. ranged_run h tracks read before after run s ((after_run h tracks near whole fits read before after run s).here small))

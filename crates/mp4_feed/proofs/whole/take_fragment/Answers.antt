@@ -13,7 +13,7 @@ returns-in-Err-tell_whole-clause-takes g c =
     let o = outside (g.W.Sink.contents c.args.w.now) c.args.out.now c.args.ledger.now c.args.counter.now.tally in
     let told = c.in-Err-tell_whole.ensures in
     rw c.in-Some.is
-    (Takes-err (λ more. StopsAt-it c.args.at list c.args.piece.now f is c.args.command o low (g.W.Sink.contents c.tell_whole.new.w) c.tell_whole.new.out c.count_claim.new.self c.tell_whole.new.counter.tally c.in-Ok.ensures.ok (told.tally is.mdat.header) more (told.err is.mdat.header))
+    (Takes-err (λ more. StopsAt-it c.args.at list c.args.piece.now f.boxes f.run.now is c.args.command o low (g.W.Sink.contents c.tell_whole.new.w) c.tell_whole.new.out c.count_claim.new.self c.tell_whole.new.counter.tally c.in-Ok.ensures.ok (told.tally is.boxes.mdat.header) more (told.err is.boxes.mdat.header))
     (λ _. told.failed) (λ other. absurd (other refl)))
 
 pub returns-clause-takes : goal.returns-clause-takes
@@ -25,4 +25,4 @@ returns-clause-takes g c =
     let o = outside (g.W.Sink.contents c.args.w.now) c.args.out.now c.args.ledger.now c.args.counter.now.tally in
     let told = c.in-Ok-tell_whole.ensures in
     rw (c.in-Some.is, c.settle.ensures.tracks)
-    (Takes-ok (GoesOn-it c.args.at list c.args.piece.now f is c.args.command o low (g.W.Sink.contents c.tell_whole.new.w) c.tell_whole.new.out c.count_claim.new.self c.tell_whole.new.counter.tally c.in-Ok.ensures.ok (told.tally is.mdat.header) (told.ok is.mdat.header)) told.kept)
+    (Takes-ok (GoesOn-it c.args.at list c.args.piece.now f.boxes f.run.now is c.args.command o low (g.W.Sink.contents c.tell_whole.new.w) c.tell_whole.new.out c.count_claim.new.self c.tell_whole.new.counter.tally c.in-Ok.ensures.ok (told.tally is.boxes.mdat.header) (told.ok is.boxes.mdat.header)) told.kept)

@@ -3,7 +3,7 @@ use Rattle.mp4_box.specs.Paths.{of_kind}
 use Rattle.mp4_box.specs.Trees.{view}
 use Rattle.mp4_frag.specs.Kinds.{traf}
 use Rattle.mp4_frag.specs.Runs.{held_at}
-use Rattle.mp4_frag.proofs.LoneLemmas.{ends_told, one_known, one_sound, samples_told}
+use Rattle.mp4_frag.proofs.LoneLemmas.{lone_told, one_known, one_sound}
 use Rattle.mp4_frag.proofs.MoofLemmas.{moof_is}
 use Rattle.mp4_frag.proofs.MoofListLemmas.{is_moof}
 use Rattle.mp4_frag.proofs.lone.lone_in.Goals as goal
@@ -19,12 +19,8 @@ lone_of-requires-clause-known c =
     let m = view c.whole_box-moof.result in
     one_known (held_at c.args.held.now c.args.offset) c.args.tracks.now m (view c.in-Some.traf) (moof_is c.args.offset c.args.held.now m c.whole_box-moof.ensures) c.requires.read (ap (of_kind traf) (sym c.of.ensures.children) ∙ c.in-Some.ensures.only)
 
-pub returns-clause-samples : goal.returns-clause-samples
-returns-clause-samples c =
+pub returns-clause-lone : goal.returns-clause-lone
+returns-clause-lone c =
     let m = view c.whole_box-moof.result in
-    samples_told (held_at c.args.held.now c.args.offset) c.args.tracks.now m (view c.in-Some.traf) c.lone_of.result (moof_is c.args.offset c.args.held.now m c.whole_box-moof.ensures) (ap (of_kind traf) (sym c.of.ensures.children) ∙ c.in-Some.ensures.only) c.lone_of.ensures.run
-
-pub returns-clause-ends : goal.returns-clause-ends
-returns-clause-ends c =
-    let m = view c.whole_box-moof.result in
-    ends_told (held_at c.args.held.now c.args.offset) c.args.tracks.now m (view c.in-Some.traf) c.lone_of.result (moof_is c.args.offset c.args.held.now m c.whole_box-moof.ensures) (ap (of_kind traf) (sym c.of.ensures.children) ∙ c.in-Some.ensures.only) c.lone_of.ensures.run c.lone_of.ensures.track
+    let told = c.lone_of.ensures in
+    lone_told (held_at c.args.held.now c.args.offset) c.args.tracks.now m (view c.in-Some.traf) c.lone_of.result (moof_is c.args.offset c.args.held.now m c.whole_box-moof.ensures) (ap (of_kind traf) (sym c.of.ensures.children) ∙ c.in-Some.ensures.only) c.requires.read told.run told.range told.track told.within

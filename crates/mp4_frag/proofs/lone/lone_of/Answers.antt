@@ -1,5 +1,7 @@
-use Rattle.std.proofs.Common.{◌∙◌, pos, refl, sym}
+use Rattle.std.proofs.Common.{◌∙◌, ◌==◌, ap, pos, refl, sym}
+use Rattle.std.specs.List.{position}
 use Rattle.mp4_box.specs.Trees.{view}
+use Rattle.mp4_init.specs.declared.table.Track.{Track}
 use Rattle.mp4_frag.specs.Runs.{base_of, held_at, shared_by, track_of}
 use Rattle.mp4_frag.proofs.LoneLemmas.{not_lone}
 use Rattle.mp4_frag.proofs.StartLemmas.{Starts}
@@ -16,3 +18,7 @@ returns-in_default-clause-none c =
 
 pub run_with-requires-clause-trun : goal.run_with-requires-clause-trun
 run_with-requires-clause-trun c = sym c.heads_of-heads.ensures.truns ∙ c.in-Some.ensures.only
+
+pub run_with-requires-clause-track : goal.run_with-requires-clause-track
+run_with-requires-clause-track c =
+    ap (λ id. position (λ (t : Track). t.id == id) c.args.tracks.now) (sym c.track_id.ensures) ∙ sym c.find.ensures.first ∙ c.in-Some-find.is

@@ -1,4 +1,4 @@
-use Rattle.std.proofs.Common.{◌∙◌, arith, sym}
+use Rattle.std.proofs.Common.{arith}
 use Rattle.mp4_frag.specs.Moofs.{moof_of}
 use Rattle.mp4_frag.specs.Runs.{held_at}
 use Rattle.mp4_frag.proofs.MoofLemmas.{read_count}
@@ -8,11 +8,5 @@ use Rattle.mp4_frag.proofs.lone.LoneRun.read.Goals as goal
 pub returns-in-Some-clause-few : goal.returns-in-Some-clause-few
 returns-in-Some-clause-few c =
     let h = held_at c.args.held.now c.args.offset in
-    let few = (few_timed (moof_of h) (read_count h c.args.tracks.now (c.in-Some.ensures.good cc))).most in
+    let few = (few_timed (moof_of h) (read_count h c.args.tracks.now c.in-Some.ensures.read)).most in
     omega (arith, few, c.from.ensures, c.in-Some.ensures.samples)
-
-pub returns-in-Err-clause-none : goal.returns-in-Err-clause-none
-returns-in-Err-clause-none c = λ good one runs.
-    let bad = (c.read.ensures.fault c.in-Err.field-0).0 c.in-Err.is in
-    let both = sym good ∙ bad in
-    absurd cc
