@@ -1,11 +1,12 @@
 # make demo         proves and builds the program, and lists the boxes of a small stream (IN=stream.mp4: of yours)
 # make test         proves everything from nothing, and runs every test
+# make wrong_bodies tries the wrong bodies that the tests leave out
 # make install      puts the program and its manual page below PREFIX
 # All but install need Rattle's toolchain. The others are for working on fmp4.
 IN ?= crates/fmp4/stdin
 PREFIX ?= /usr/local
 
-.PHONY: demo build moof_runs cut_pieces test install refusals manual bench
+.PHONY: demo build moof_runs cut_pieces test wrong_bodies install refusals manual bench
 
 demo: build
 	@crates/fmp4/out/fmp4 boxes < "$(IN)"
@@ -23,6 +24,10 @@ test:
 	@scripts/needs_rt
 	@echo "proving everything from nothing and running the tests: about an hour on 2 cores" >&2
 	@rt ci
+
+# Tries the wrong bodies in crates/*/wrong, with what is built.
+wrong_bodies: build
+	@scripts/wrong_bodies
 
 install:
 	@test -x crates/fmp4/out/fmp4 || { echo "there is no crates/fmp4/out/fmp4: run 'make build' first" >&2; exit 1; }
