@@ -22,7 +22,7 @@ cut_pieces:
 
 test:
 	@scripts/needs_rt
-	@echo "proving everything from nothing and running the tests: about an hour on 2 cores" >&2
+	@echo "proving everything from nothing and running the tests: about an hour on 4 cores" >&2
 	@rt ci
 
 # Tries the wrong bodies in crates/*/wrong, with what is built.
