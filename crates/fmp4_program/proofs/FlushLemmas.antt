@@ -1,5 +1,5 @@
 -- What a flush adds to a run that succeeded.
-use Rattle.std.proofs.Common.{◌≡◌, ◌∙◌, ◌+◌, ℕ, Bool, true, false, List, [], Option, Ok, Err, Result, append-nil, ap, arith, refl, subst, sym}
+use Rattle.std.proofs.Common.{◌≡◌, ◌∙◌, ℕ, Bool, true, false, List, [], Option, Ok, Err, Result, append-nil, arith, refl, subst, sym}
 use Rattle.std.specs.Io.KnownBytes.{Keeps}
 use Rattle.mp4_ends.proofs.StreamLemmas.{Appends-kept}
 use Rattle.mp4_reading.specs.Ends.{Ends}

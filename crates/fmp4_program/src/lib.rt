@@ -2,7 +2,7 @@
 //!
 //! - [`runs`]: [`run`], which does what the words of the command line ask;
 //! - [`asked`]: what they can ask for, and [`command`]: how they are read;
-//! - [`lines`]: the lines on the fault writer;
+//! - [`lines`]: the lines on the fault writer, and that of `check`;
 //! - [`laws`]: what some command lines ask for.
 //!
 //! The definitions: `specs/Words.antt` (the command line), `specs/Lines.antt` (the lines of faults), `specs/Runs.antt` (what a run

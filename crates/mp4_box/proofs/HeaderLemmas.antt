@@ -152,9 +152,6 @@ regroup a b c d = simp append_assoc
 regroup5 : (a b c d e : List ℕ) → (((a ++ b) ++ c) ++ d) ++ e ≡ a ++ (b ++ (c ++ (d ++ e)))
 regroup5 a b c d e = simp append_assoc
 
-eq_is : (m n : ℕ) (b : Bool) → (m == n) ≡ b → (k : ℕ) → k ≡ m → (k == n) ≡ b
-eq_is m n b e k h = ap (λ (x : ℕ). x == n) h ∙ e
-
 ne_is : (m n : ℕ) → (m ≡ n → ⊥) → (m == n) ≡ false
 ne_is m n h = not_true (m == n) (λ e. h ((Decides-eqb m n).0 e))
 

@@ -44,6 +44,14 @@ pub record Head (h : Header) (x : List ℕ) : Type 0 where
 abbrev pub BeginsWith : Header → List ℕ → Type 0
 BeginsWith h x = (n : ℕ) × Head h (take n x)
 
+-- bytes that begin with a header
+pub record Headed (y : List ℕ) : Type 0 where
+  pub header : Header
+  pub head : List ℕ
+  pub more : List ℕ
+  pub spelled : Head header head
+  pub cut : y ≡ head ++ more
+
 -- the bytes x are one whole box of stated size with this header and this payload
 pub record IsBox (h : Header) (payload x : List ℕ) : Type 0 where
   pub head : List ℕ

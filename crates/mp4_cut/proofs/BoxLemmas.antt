@@ -1,5 +1,5 @@
 -- Boxes that are written are found again.
-use Rattle.std.proofs.Common.{◌≡◌, ℕ, ◌+◌, ◌<◌, ◌≤◌, ◌^◌, false, List, [], ◌∷◌, ◌++◌, length, drop, Some, refl, sym, ap, ◌∙◌, arith, append-nil, append_assoc, inl, length-append}
+use Rattle.std.proofs.Common.{◌≡◌, ℕ, ◌+◌, ◌<◌, ◌≤◌, ◌^◌, false, List, [], ◌++◌, length, drop, Some, refl, sym, ap, ◌∙◌, arith, append-nil, append_assoc, inl, length-append}
 use Rattle.std.proofs.lemmas.List.{drop_at}
 use Rattle.std.proofs.lemmas.Bool.{false≢true}
 use Rattle.std.proofs.lemmas.Slice.Eq.{bytes_eq-Decides}
@@ -8,7 +8,7 @@ use Rattle.byteorder.specs.Endian.{big_bytes}
 use Rattle.mp4_box.specs.declared.headers.FourCc.{FourCc}
 use Rattle.mp4_box.specs.declared.headers.Size.TheVariants.{Exact}
 use Rattle.mp4_box.specs.Headers.{Head, IsBox, uuid}
-use Rattle.mp4_box.specs.Trees.{Box, box_at, boxes, over}
+use Rattle.mp4_box.specs.Trees.{Box, box_at, over}
 use Rattle.mp4_box.proofs.GrammarLemmas.{found}
 use Rattle.mp4_box.proofs.TreeLemmas.{over-box, over-end}
 use Rattle.mp4_cut.specs.Boxes.{box_bytes}
@@ -62,9 +62,3 @@ pub over_last : {R : Type 0} (f : Box → List R) (g : ℕ → List ℕ → List
 over_last {R} f g kind p o s =
     ap (λ (x : List ℕ). over f g x 0 o) (sym (append-nil (box_bytes kind p)))
     ∙ (over_written f g kind p [] o s ∙ ap (λ (rs : List R). f (box_of o kind p) ++ rs) (over-end f g [] (o + (8 + length p)) refl))
-
-pub boxes_written : (kind : FourCc) (p rest : List ℕ) (o : ℕ) → IsShort kind p → boxes o (box_bytes kind p ++ rest) ≡ box_of o kind p ∷ boxes (o + (8 + length p)) rest
-boxes_written kind p rest o s = over_written (λ b. b ∷ []) (λ _ _. []) kind p rest o s
-
-pub boxes_last : (kind : FourCc) (p : List ℕ) (o : ℕ) → IsShort kind p → boxes o (box_bytes kind p) ≡ box_of o kind p ∷ []
-boxes_last kind p o s = over_last (λ b. b ∷ []) (λ _ _. []) kind p o s

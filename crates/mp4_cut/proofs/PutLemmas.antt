@@ -26,10 +26,6 @@ pub sent_prefix : (a b c : Option (List ℕ)) (waiting rest text : List ℕ) →
 sent_prefix a b c waiting rest text none p q =
     subst (AppendsPrefix a c) (sym p.all ∙ ap (λ (x : List ℕ). x ++ text) none) (AppendsPrefix-more a b c p.sent rest p.written q)
 
--- a prefix of what waited in an empty block and of the text
-pub put_prefix : (a b : Option (List ℕ)) (waiting text : List ℕ) → waiting ≡ [] → AppendsPrefix a b (waiting ++ text) → AppendsPrefix a b text
-put_prefix a b waiting text none p = subst (AppendsPrefix a b) (ap (λ (x : List ℕ). x ++ text) none) p
-
 -- two texts that are put one behind the other
 pub both_put : {a b c : Option (List ℕ)} {x y z : List ℕ} (s t whole : List ℕ) → s ++ t ≡ whole → Passes a b x y s → Passes b c y z t → Passes a c x z whole
 both_put {a} {b} {c} {x} {y} {z} s t whole e p q = subst (Passes a c x z) e (Passes-more p q)

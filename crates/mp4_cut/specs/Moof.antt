@@ -31,16 +31,20 @@ in_traf f =
     box_bytes tfhd (tfhd_payload f.track f.entry)
     ++ (box_bytes tfdt (tfdt_payload f.time) ++ box_bytes trun (trun_payload f.version (data_offset f.rows) f.rows))
 
+-- in it an mfhd, and a traf
 abbrev pub in_moof : Fragment → ℕ → List ℕ
 in_moof f sequence_number = box_bytes mfhd (mfhd_payload sequence_number) ++ box_bytes traf (in_traf f)
 
+-- the moof of a fragment with this number
 unfoldable pub moof_box : Fragment → ℕ → List ℕ
 moof_box f sequence_number = box_bytes moof (in_moof f sequence_number)
 
 -- ---- what is written for a piece of a run
 
+-- the fragment of a piece has its rows, and what all rows of its run share
 abbrev pub fragment_of : List ℕ → Run → Piece → Fragment
 fragment_of held run piece = record { track = run.track; entry = run.entry; version = run.version; time = piece.time; rows = rows_in held run piece }
 
+-- the moof of a piece
 abbrev pub written_moof : Piece → Run → List ℕ → ℕ → List ℕ
 written_moof piece run held sequence_number = moof_box (fragment_of held run piece) sequence_number

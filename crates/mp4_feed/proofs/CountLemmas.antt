@@ -14,13 +14,8 @@ use Rattle.mp4_reading.specs.Readings.{plus}
 use Rattle.mp4_items.specs.Items.{end_of, walked}
 use Rattle.mp4_items.specs.declared.command.Command.{Command}
 use Rattle.mp4_items.specs.declared.command.Command.TheVariants.{Samples, Check}
-use Rattle.mp4_feed.specs.States.{CanCount, HasStopped, IsCounted, bound_behind, listed_by, most_counted, reads_of}
+use Rattle.mp4_feed.specs.States.{IsCounted, bound_behind, listed_by, most_counted, reads_of}
 use Rattle.mp4_feed.specs.declared.state.Counter.{Counter}
-
--- there is room to count another moof
-pub counted_room : (command : Command) (c : Counter) (b untold unsettled : ℕ) → IsCounted command c b untold unsettled → CanCount c
-counted_room Samples c b untold unsettled i = (omega (arith, i.walked, i.far), omega (arith, i.few, i.walked, i.far))
-counted_room Check c b untold unsettled i = (omega (arith, i.walked, i.far), omega (arith, i.few, i.walked, i.far))
 
 -- for no samples no row is read
 pub listed_none : (command : Command) → listed_by command 0 ≡ 0
@@ -38,19 +33,6 @@ counted_later command c b b' unsettled unsettled' more less near i = record {
   some = i.some;
   few = omega (arith, i.few, less);
   far = near;
-}
-
--- where a machine stops
-pub counted_spent : (command : Command) (c : Counter) (b untold unsettled : ℕ) → IsCounted command c b untold unsettled → HasStopped command c
-counted_spent command c b untold unsettled i = record {
-  fragments = omega (arith, i.fragments, i.far);
-  media = omega (arith, i.media, i.far);
-  walked = omega (arith, i.walked, i.far);
-  samples = omega (arith, i.samples, i.far);
-  all = omega (arith, i.all);
-  some = omega (arith, i.some);
-  few = omega (arith, listed_none command, i.few);
-  far = omega arith;
 }
 
 -- the samples of a moof of so many bytes were looked at: so many rows were read, and so many of its samples wait
@@ -117,24 +99,6 @@ counted_told command c c' b b' n m i few room tally read =
     most : (command : Command) → IsCounted command c b n n → c'.steps.rows ≡ c.steps.rows + listed_by command n → c'.steps.rows + listed_by command 0 + n ≤ reads_of command * c'.tally.walked
     most Samples i read = omega (arith, ap (λ t. t.walked) tally, read, i.few)
     most Check i read = omega (arith, ap (λ t. t.walked) tally, read, i.few)
-
--- behind it some of its rows were read
-pub counted_settled : (command : Command) (c c' : Counter) (b n : ℕ) → IsCounted command c b 0 n → c'.tally ≡ c.tally → c.steps.rows ≤ c'.steps.rows → c'.steps.rows ≤ c.steps.rows + n → IsCounted command c' b 0 0
-counted_settled command c c' b n i tally more few =
-    let f = ap (λ t. t.fragments) tally in
-    let m = ap (λ t. t.media_bytes) tally in
-    let w = ap (λ t. t.walked) tally in
-    let s = ap (λ t. t.samples) tally in
-    record {
-      fragments = omega (arith, f, i.fragments);
-      media = omega (arith, m, i.media);
-      walked = omega (arith, w, i.walked);
-      samples = omega (arith, s, i.samples);
-      all = omega (arith, s, w, i.all);
-      some = rw tally (omega (arith, i.some, more));
-      few = rw tally (omega (arith, i.few, few));
-      far = i.far;
-    }
 
 -- its media lie in its mdat
 pub media_bound : (at m : ℕ) (h : Header) (size : Size) (p : Payload) → p.start ≡ at + h.header_len → p.end ≡ end_of at size → HasRoom size h.header_len → 0 < h.header_len → least_end at h size ≤ longest → ((e : ℕ) → p.end ≡ Some e → p.start + m ≤ e) → m ≤ 2 ^ 63

@@ -25,14 +25,14 @@ use crate::heads::take_head;
 use crate::lines::put_runs;
 use crate::measure::measure_runs;
 use crate::second::{judge, payload_of};
-use crate::state::{Body, Counter, LONGEST, OpenBody, State, Waiting};
+use crate::state::{Body, Counter, OpenBody, State, Waiting};
 use crate::take::Taken;
 use mp4_box::{Header, HeaderReader, Rule, Size, Step, header_of};
 use mp4_ends::{Failed, Sink};
 use mp4_init::TrackList;
 use mp4_items::Command;
 use mp4_ledger::Ledger;
-use mp4_reading::{Block, Stop, refused};
+use mp4_reading::{Block, LONGEST, Stop, refused};
 
 /// Counts a fragment that has so many samples, with so many bytes of media.
 pub(crate) fn count(counter: &mut Counter, samples: u64, bytes: u64)

@@ -10,7 +10,7 @@
 //! - [`next`] and [`take`]: how bytes are taken from the front of a piece; [`whole`]: and a fragment of which the piece has all.
 //!
 //! The definitions: `specs/Places.antt` (where a machine is in a stream, and what that means), `specs/States.antt` (what it
-//! keeps by its place), `specs/Stops.antt` (why it stops at a moov).
+//! keeps by its place), `specs/Stops.antt` (why it stops at a moov), `specs/Wholes.antt` (a fragment of which a piece has all).
 #![tactic(auto)]
 
 mod behind;

@@ -83,7 +83,8 @@ impl FragmentMachine {
     }
 
     /// How many rows of samples it has read: each sample of a moof that was looked at once at least, each that is counted once
-    /// more, and again where it is listed; none more than three times, or four where samples are listed.
+    /// more, and again where it is listed; none more than three times, or four where samples are listed. A fragment that a
+    /// piece has whole is looked at first by its only run: where it is then at fault, what that look read isn't counted.
     pub fn rows_read(&self) -> u128
         ensures rows { result ≡ self.now.counter.steps.rows }
         ensures some { self.now.counter.tally.walked + self.now.counter.tally.samples +

@@ -4,9 +4,6 @@ use mp4_box::FourCc;
 use mp4_frag::{RunList, Steps};
 use mp4_reading::{Held, Tally};
 
-/// No stream is followed further than this many bytes.
-pub(crate) const LONGEST: u64 = 1 << 62;
-
 /// A good moof that waits for its mdat or for the end of that, with its runs in the order in which they are taken.
 pub(crate) struct Waiting {
     pub(crate) moof: Held,

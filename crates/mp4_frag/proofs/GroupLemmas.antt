@@ -61,10 +61,6 @@ place_within : (p : Bool) (at len : ℕ) → at + width_if p ≤ len → Within 
 place_within true at len h = record { all = λ f e. omega (arith, h, some_is at f e) }
 place_within false at len h = record { all = λ f e. absurd cc }
 
-width_small : (p : Bool) → width_if p ≤ 4
-width_small true = omega arith
-width_small false = omega arith
-
 record FieldsWithin (flags : ℕ) : Type 0 where
   duration : Within (sample_fields flags).sample_duration (sample_fields flags).len
   size : Within (sample_fields flags).sample_size (sample_fields flags).len

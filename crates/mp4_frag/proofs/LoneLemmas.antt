@@ -1,11 +1,12 @@
 -- A moof with one traf, and one trun in it.
-use Rattle.std.proofs.Common.{◌≡◌, ◌≢◌, ◌∙◌, ◌+◌, ◌^◌, ◌<◌, ◌≤◌, ◌==◌, ℕ, ℤ, pos, List, [], ◌∷◌, map, length, Option, Some, None, refl, sym, ap, subst, arith, append-nil}
-use Rattle.std.specs.Prelude.{IfSome, IsSome, slice_get}
+use Rattle.std.proofs.Common.{◌≡◌, ◌≢◌, ◌∙◌, ◌+◌, ◌^◌, ◌<◌, ◌≤◌, ◌==◌, ◌↔◌, Bool, ℕ, ℤ, pos, true, List, [], ◌∷◌, map, length, Option, Some, None, refl, sym, ap, subst, arith, append-nil}
+use Rattle.std.specs.Prelude.{IfNone, IfSome, IsSome, slice_get}
 use Rattle.std.specs.List.{AllByRecursion, flat_map, position}
-use Rattle.std.specs.Option.{option_and_then, unwrap_or}
+use Rattle.std.specs.Option.{is_some, option_and_then, unwrap_or}
 use Rattle.mp4_box.specs.Checks.{along, alone, one}
 use Rattle.mp4_box.specs.Paths.{at_path, of_kind}
-use Rattle.mp4_box.specs.Trees.{Box, children, first_of}
+use Rattle.mp4_box.specs.Trees.{Box, children, first_of, view}
+use Rattle.mp4_box.specs.declared.box_ref.BoxRef.{BoxRef}
 use Rattle.mp4_init.specs.declared.table.Track.{Track}
 use Rattle.mp4_init.specs.Rows.{with_next}
 use Rattle.mp4_frag.specs.declared.lone.LoneRun.{LoneRun}
@@ -18,7 +19,7 @@ use Rattle.mp4_frag.specs.Moofs.{IsRead, moof_of, moof_runs, moof_samples, moof_
 use Rattle.mp4_frag.specs.Ranges.{InRange, IsSound}
 use Rattle.mp4_frag.specs.Rows.{rows_of}
 use Rattle.mp4_frag.specs.Rules.{form_faults, tfhd_faults, track_faults, track_with}
-use Rattle.mp4_frag.specs.Runs.{Held, Shared, TrackFragment, base_of, end_in, end_of, header_by, no_track, track_of, end_place, last_end, run_of, runs_from, runs_of, tfhd_of, traf_of, trafs_by}
+use Rattle.mp4_frag.specs.Runs.{Held, Shared, TrackFragment, base_of, end_in, end_of, header_by, no_track, track_of, end_place, last_end, run_of, runs_from, runs_of, shared_by, tfhd_of, traf_of, trafs_by}
 use Rattle.mp4_frag.specs.Settling.{ended_at, settled}
 use Rattle.mp4_frag.specs.Tfhd.{track_id}
 use Rattle.mp4_frag.specs.Times.{ticks_in}
@@ -83,16 +84,28 @@ one_sound h tracks m t f read e =
     let near : h.offset ≤ 2 ^ 62 = omega (arith, f.room) in
     (subst (λ (ts : List TrackFragment). AllByRecursion IsSound ts) (one_traf h tracks m t f.is e) (all_sound h tracks m near f.whole f.fits f.here f.is read)).0
 
-length_map : (h : Held) (tracks : List Track) (ts : List Box) → length (map (traf_of h tracks) ts) ≡ length ts
-length_map h tracks [] = refl
-length_map h tracks (t ∷ ts) = let e = length_map h tracks ts in omega (arith, e)
-
-pub trafs_count : (h : Held) (tracks : List Track) (m : Box) → moof_of h ≡ m → length (moof_trafs h tracks) ≡ length (of_kind traf (children m))
-trafs_count h tracks m is = length_map h tracks (of_kind traf (children (moof_of h))) ∙ ap (λ (b : Box). length (of_kind traf (children b))) is
-
 -- its runs are those of the moof
 moof_is_one : (h : Held) (tracks : List Track) (m t : Box) → moof_of h ≡ m → of_kind traf (children m) ≡ t ∷ [] → moof_runs h tracks ≡ runs_of (traf_of h tracks t)
 moof_is_one h tracks m t is e = ap (flat_map runs_of) (one_traf h tracks m t is e) ∙ append-nil (runs_of (traf_of h tracks t))
+
+-- as many as it has truns
+pub runs_count : (h : Held) (tracks : List Track) (m t : Box) → moof_of h ≡ m → of_kind traf (children m) ≡ t ∷ [] → length (moof_runs h tracks) ≡ length (of_kind trun (children t))
+runs_count h tracks m t is e =
+    let track = track_of tracks t in
+    let starts : Starts h tracks t (shared_by h track t) (base_of track.next t) (pos h.offset) (children t) = record { shared = refl; begins = refl; last = refl; truns = refl } in
+    ap length (moof_is_one h tracks m t is e)
+    ∙ ap length (sym (runs_are h tracks t (shared_by h track t) (base_of track.next t) (pos h.offset) (children t) starts))
+    ∙ run_count (shared_by h track t) (base_of track.next t) (pos h.offset) (of_kind trun (children t))
+
+pub only_one : (o : Option BoxRef) (bs : List Box) → IfSome o (λ b. bs ≡ view b ∷ []) → IfNone o (length bs ≢ 1) → (is_some o ≡ true) ↔ (length bs ≡ 1)
+only_one None bs only none = (λ e. absurd cc, λ e. absurd (none e))
+only_one (Some b) bs only none = (λ _. ap length only, λ _. refl)
+
+pub one_run : (h : Held) (tracks : List Track) (m t : Box) (one : Bool) → moof_of h ≡ m → of_kind traf (children m) ≡ t ∷ [] → (one ≡ true) ↔ (length (of_kind trun (children t)) ≡ 1)
+    → (one ≡ true) ↔ ((length (moof_trafs h tracks) ≡ 1) × (length (moof_runs h tracks) ≡ 1))
+one_run h tracks m t one is e found =
+    let runs = runs_count h tracks m t is e in
+    (λ yes. (ap length (one_traf h tracks m t is e), runs ∙ found.0 yes), λ both. found.1 (sym runs ∙ both.1))
 
 -- ---- its track is known
 

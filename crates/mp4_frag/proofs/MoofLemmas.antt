@@ -107,9 +107,6 @@ values tracks m e =
 pub count_none : (h : Held) (tracks : List Track) → early_fault h tracks ≡ None → count_faults (moof_of h) ≡ []
 count_none h tracks e = (values tracks (moof_of h) (early h tracks e).value).count
 
-pub count_is_none : (h : Held) (tracks : List Track) (m : Box) → early_fault h tracks ≡ None → moof_of h ≡ m → count_faults m ≡ []
-count_is_none h tracks m e is = ap count_faults (sym is) ∙ count_none h tracks e
-
 pub read_early : (h : Held) (tracks : List Track) → IsRead h tracks → early_fault h tracks ≡ None
 read_early h tracks e = (both_none (early_fault h tracks) (least (time_faults (moof_trafs h tracks))) e).0
 

@@ -85,13 +85,6 @@ pub listed_none : (id : ℕ) → is_listed id [] ≡ false
 unfolding is_listed
 listed_none id = refl
 
--- either test comes first
-pub either : (found p q : Bool) → cond found true (cond p true q) ≡ cond (cond p true found) true q
-either true true q = refl
-either true false q = refl
-either false true q = refl
-either false false q = refl
-
 -- ---- all children
 
 pub before_more : (n : ℕ) (m : Box) (c : Box) (ys : List Box) → drop n (children m) ≡ c ∷ ys → trafs_before (n + 1) m ≡ trafs_before n m ++ trafs (c ∷ [])

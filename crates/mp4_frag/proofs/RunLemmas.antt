@@ -1,14 +1,13 @@
 -- The runs that are left, one by one.
-use Rattle.std.proofs.Common.{◌≡◌, ◌∙◌, ◌+◌, ◌<◌, ◌^◌, ℕ, ℤ, List, [], ◌∷◌, refl, sym, ap, subst, arith, map}
+use Rattle.std.proofs.Common.{◌≡◌, ◌∙◌, ◌+◌, ◌<◌, ◌^◌, ℕ, ℤ, List, [], ◌∷◌, refl, sym, subst, arith}
 use Rattle.std.specs.List.{AllByRecursion}
 use Rattle.mp4_box.specs.Paths.{of_kind}
 use Rattle.mp4_box.specs.Trees.{Box, children}
 use Rattle.mp4_init.specs.declared.table.Track.{Track}
 use Rattle.mp4_frag.specs.declared.run.Run.{Run}
-use Rattle.mp4_frag.specs.Kinds.{traf, trun}
-use Rattle.mp4_frag.specs.Ranges.{InRange, IsSound}
+use Rattle.mp4_frag.specs.Kinds.{trun}
+use Rattle.mp4_frag.specs.Ranges.{InRange}
 use Rattle.mp4_frag.specs.Runs.{Held, Shared, TrackFragment, base_of, end_place, run_of, runs_from, runs_of, shared_by, track_of, traf_of, trafs_by}
-use Rattle.mp4_frag.proofs.RangeLemmas.{in_range}
 use Rattle.mp4_frag.specs.Times.{ticks_in}
 use Rattle.mp4_frag.proofs.TimeLemmas.{end_is}
 
@@ -46,8 +45,3 @@ traf_is h tracks b track s time is e t = rw (e, t, is) refl
 pub record FirstTraf (h : Held) (tracks : List Track) (t : TrackFragment) (bs cs : List Box) : Type 0 where
   pub is : trafs_by h tracks bs ≡ t ∷ trafs_by h tracks cs
   pub range : AllByRecursion InRange (runs_of t)
-
-pub first_traf : (h : Held) (tracks : List Track) (b : Box) (t : TrackFragment) (bs cs : List Box) → of_kind traf bs ≡ b ∷ of_kind traf cs → t ≡ traf_of h tracks b → t.shared.header.size < 2 ^ 32 → AllByRecursion IsSound (trafs_by h tracks bs) → FirstTraf h tracks t bs cs
-first_traf h tracks b t bs cs e is small sound =
-    let first : trafs_by h tracks bs ≡ t ∷ trafs_by h tracks cs = ap (map (traf_of h tracks)) e ∙ ap (λ (x : TrackFragment). x ∷ trafs_by h tracks cs) (sym is) in
-    record { is = first; range = in_range t small (subst (λ (ts : List TrackFragment). AllByRecursion IsSound ts) first sound).0 }

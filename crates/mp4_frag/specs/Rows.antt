@@ -38,6 +38,7 @@ row_from run held i g = record {
   offset = offset_at held run.version g run.fields.sample_composition_time_offset;
 }
 
+-- row i: group i of the payload of its trun
 unfoldable pub row_of : Run → List ℕ → ℕ → Row
 row_of run held i = row_from run held i (group_at run i)
 

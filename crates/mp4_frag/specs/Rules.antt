@@ -82,6 +82,7 @@ abbrev pub track_faults : Option Track → Box → List Fault
 track_faults None b = fault_at UnknownTrack b ∷ []
 track_faults (Some t) b = fault_if (not (has_entry t (entry_of t b.payload))) EntryIndex b
 
+-- offsets that aren't relative to the moof, a duration without samples, and what is at fault with its track
 unfoldable pub tfhd_faults : List Track → Box → List Fault
 tfhd_faults tracks b =
     fault_if (not (counts_from_moof (flags_in b.payload))) BaseNotMoof b

@@ -77,6 +77,7 @@ pub record TrackFragment : Type 0 where
   pub time : ℕ
   pub truns : List Box
 
+-- the traf is in this moof, and of this track
 abbrev pub shared_by : Held → Track → Box → Shared
 shared_by h track t = record { moof = h; header = header_by track (tfhd_of t); ends_at = end_in h t }
 
@@ -120,6 +121,7 @@ run_at s time last b = record {
 abbrev pub summed : List ℕ → Run → Run
 summed held run = record run { end = run.time + durations (rows_of run held); bytes = sizes (rows_of run held) }
 
+-- the run of a trun, where the one before ends at this time and this place
 unfoldable pub run_of : Shared → ℕ → ℤ → Box → Run
 run_of s time last b = summed s.moof.bytes (run_at s time last b)
 

@@ -21,6 +21,7 @@ pub record HoldsThree (m a b c : Box) : Type 0 where
   pub are : children m ≡ a ∷ b ∷ c ∷ []
   pub filled : box_len a + box_len b + box_len c ≡ length m.payload
 
+-- the moof m holds just an mfhd a and a traf t, and that just a tfhd b, a tfdt c and a trun d
 pub record IsUsual (m a t b c d : Box) : Type 0 where
   pub two : HoldsTwo m a t
   pub three : HoldsThree t b c d

@@ -8,7 +8,8 @@
 //! - [`Moof::list`]: a [`RunList`], its runs in the order in which they are taken, in claimed memory;
 //!   [`RunList::at`] gives one of them, [`RunList::listed`] where it stands, and
 //!   [`Moof::places`]: whether they stand where they may in the [`Payload`] of its mdat;
-//! - [`Moof::lone_run`]: a [`LoneRun`], the run of a moof that has no other, without a list;
+//! - [`Moof::lone_run`]: a [`LoneRun`], the run of a moof that has no other, without a list; [`LoneRun::read`]: the same from
+//!   the bytes of the moof;
 //! - [`laws`]: what the definitions of `specs/` imply.
 //!
 //! Each box that is read has a file here and one in `specs/`, with its fields by the standard's names and where they stand:
@@ -16,10 +17,10 @@
 //! is, `specs/Runs.antt` when and where runs begin and end, `specs/Moofs.antt` what a moof comes to, `specs/RunLists.antt`
 //! what a list of its runs is, `specs/LoneRuns.antt` what a run is that has no other, and `specs/Places.antt` which run is at
 //! fault by its place. The others say how it is worked out: `specs/AtOnce.antt`, `specs/Ranges.antt`, `specs/Times.antt`,
-//! `specs/After.antt`, `specs/Settling.antt`, `specs/RunRows.antt`, `specs/Rereads.antt`.
+//! `specs/After.antt`, `specs/Settling.antt`, `specs/RunRows.antt`, `specs/Rereads.antt`, `specs/Usual.antt`.
 //!
-//! `children.rt` goes over the boxes of a moof by their types, `at_once.rt` looks at all of them in one pass, and `start.rt`
-//! reads what stands before the runs of a traf.
+//! `children.rt` goes over the boxes of a moof by their types, `at_once.rt` looks at all of them in one pass, `usual.rt` reads a
+//! moof of the form that most have, and `start.rt` reads what stands before the runs of a traf.
 #![tactic(auto)]
 
 mod after;

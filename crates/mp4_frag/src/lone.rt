@@ -181,16 +181,20 @@ fn lies_in(run: &Run, payload: Payload) -> bool
     }
 }
 
-/// Whether the moof that the bytes are, which begin at this offset, may have just one traf.
+/// Whether the moof that the bytes are, which begin at this offset, has one traf, with one trun in it.
 #[inline(always)]
-fn may_have_one_traf(held: &[u8], offset: u64) -> bool
+fn has_one_run(held: &[u8], offset: u64) -> bool
     requires whole { IsWhole held.now }
     requires room { offset + length held.now ≤ 2 ^ 62 }
-    ensures { (tracks : List Track) →
-        length (moof_trafs (held_at held.now offset) tracks) ≡ 1 → result ≡ true }
+    ensures { (tracks : List Track) → (result ≡ true) ↔
+        ((length (moof_trafs (held_at held.now offset) tracks) ≡ 1) ×
+        (length (moof_runs (held_at held.now offset) tracks) ≡ 1)) }
 {
     let moof = whole_box(held, offset);
-    only_of(TRAF, Walk::of(&moof)).is_some()
+    let Some(traf) = only_of(TRAF, Walk::of(&moof)) else {
+        return false;
+    };
+    only_of(TRUN, Walk::of(&traf)).is_some()
 }
 
 /// The same as [`LoneRun::read`], whatever form the moof has.
@@ -210,9 +214,11 @@ fn read_generally(
         length (moof_runs (held_at held.now offset) tracks.now) ≡ 1 → IsSome result }
     ensures walked { IfSome result (λ _. steps.new.rows ≡
         steps.old.rows + 2 * moof_samples (held_at held.now offset)) }
+    ensures unwalked { IsRead (held_at held.now offset) tracks.now → result ≡ None →
+        steps.new ≡ steps.old }
     ensures few { steps.new.rows ≤ steps.old.rows + 2 * most_samples }
 {
-    if !may_have_one_traf(held, offset) {
+    if !has_one_run(held, offset) {
         return None;
     }
     match Moof::read(held, offset, tracks, steps) {
@@ -225,7 +231,7 @@ impl LoneRun {
     /// The run of the moof that the bytes are, one whole box of stated size that begins at `offset` in the stream, where nothing is
     /// at fault with it and it has one traf, with one trun in it; none of other moofs. `tracks` are those of its moov. Where there
     /// is such a run, its samples are counted in `steps` twice as rows that were read: once for the rules, as [`Moof::read`]
-    /// counts them, and once for the run.
+    /// counts them, and once for the run. Where there is none though nothing is at fault with the moof, no row is read.
     pub fn read(held: &[u8], offset: u64, tracks: &TrackList, steps: &mut Steps) -> Option<LoneRun>
         requires whole { IsWhole held.now }
         requires room { offset + length held.now ≤ 2 ^ 62 }
@@ -236,6 +242,8 @@ impl LoneRun {
             length (moof_runs (held_at held.now offset) tracks.now) ≡ 1 → IsSome result }
         ensures walked { IfSome result (λ _. steps.new.rows ≡
             steps.old.rows + 2 * moof_samples (held_at held.now offset)) }
+        ensures unwalked { IsRead (held_at held.now offset) tracks.now → result ≡ None →
+            steps.new ≡ steps.old }
         ensures few { steps.new.rows ≤ steps.old.rows + 2 * most_samples }
     {
         match usual_run(held, offset, tracks) {

@@ -66,9 +66,6 @@ box_least o x moov f here good e =
     ∙ ap (of_moov [] (λ moov. or_else (form_faults moov) (value_faults moov))) here in
     subst (λ (fs : List Fault). IsLeast f fs) (sym whole) (content_least moov f e)
 
-pub tree_first : (o : ℕ) (x : List ℕ) (f : Fault) → IsLeast f (tree_faults o x) → IsLeast f (moov_faults o x)
-tree_first o x f l = or_least (tree_faults o x) (of_moov [] (λ moov. or_else (form_faults moov) (value_faults moov)) (box_at o x)) f l
-
 abbrev goal_err : InitStop → Result TrackList InitStop
 goal_err stop = Err stop
 

@@ -62,7 +62,7 @@ number_faults m =
     ++ along (one stbl) (trak ∷ mdia ∷ minf ∷ []) m
     ++ along (one stsd) to_stbl m
 
--- the tables of samples, where each has its count, and how long it is at least
+-- the path to a table of samples
 abbrev pub below_stbl : List ℕ → List FourCc
 below_stbl letters = trak ∷ mdia ∷ minf ∷ stbl ∷ kind letters ∷ []
 
@@ -90,6 +90,6 @@ sample_faults m =
     ++ along (no_samples 8) (below_stbl (codes "stsz")) m
     ++ along (no_samples 8) (below_stbl (codes "stz2")) m
 
--- tracks whose track_ID another has, or that haven't just one trex
+-- tracks whose track_ID an earlier one has, or that haven't just one trex
 unfoldable pub track_faults : Box → List Fault
 track_faults m = along (known m) to_tkhd m

@@ -7,7 +7,7 @@ use Rattle.mp4_box.specs.declared.headers.Size.{Size}
 use Rattle.mp4_box.specs.declared.headers.Size.TheVariants.{Exact, ToEnd}
 use Rattle.mp4_box.specs.declared.rules.Rule.{Rule}
 use Rattle.mp4_box.specs.declared.rules.Rule.TheVariants.{MdatMissing, StreamTooLong, Truncated}
-use Rattle.mp4_box.specs.Headers.{IsBytes}
+use Rattle.mp4_box.specs.Headers.{Headed, IsBytes}
 use Rattle.mp4_box.proofs.HeaderAnswers.{header-none}
 use Rattle.mp4_box.proofs.HeaderLemmas.{IsBytes-drop, is_cut, need-least}
 use Rattle.mp4_init.specs.declared.table.Track.{Track}
@@ -22,7 +22,7 @@ use Rattle.mp4_items.specs.Items.{behind, behind_by, box_in, item, item_by, keep
 use Rattle.mp4_items.specs.Joined.{IsGood, fragment_of, moof_asks, told_moof, tracks_in}
 use Rattle.mp4_items.specs.Kinds.{kind_in, moof}
 use Rattle.mp4_items.specs.Makings.{Making, needed_in}
-use Rattle.mp4_items.specs.Rests.{BadFragment, BadHeader, BadMoof, BadMoov, BehindMoof, CutInBody, CutInHeader, CutInHeld, CutInMedia, Ended, Headed, IsBehind, IsOpen, IsRest, Large, LateMoof, NoMdat, NotMdat, Open, OpenMedia, OpenMediaCut, OpenMediaTooFar, OpenTooFar, OutOfPlace, SecondBadHeader, SecondCutInHeader, SecondTooFar, TooFar, Unsized, ends, media_ends, misplaced, most_here}
+use Rattle.mp4_items.specs.Rests.{BadFragment, BadHeader, BadMoof, BadMoov, BehindMoof, CutInBody, CutInHeader, CutInHeld, CutInMedia, Ended, IsBehind, IsOpen, IsRest, Large, LateMoof, NoMdat, NotMdat, Open, OpenMedia, OpenMediaCut, OpenMediaTooFar, OpenTooFar, OutOfPlace, SecondBadHeader, SecondCutInHeader, SecondTooFar, TooFar, Unsized, ends, media_ends, misplaced, most_here}
 use Rattle.mp4_items.proofs.ItemLemmas.{item-items}
 use Rattle.mp4_items.proofs.JoinLemmas.{item-far, item-good, item-in, item-moof, item-moov, keeping-small, reads-front, second-far, second-in, second-mdat}
 use Rattle.mp4_items.proofs.TakenLemmas.{behind-some, item-some}

@@ -4,7 +4,7 @@ use Rattle.std.proofs.Math.Seq.{drop-append_seam}
 use Rattle.std.proofs.lemmas.Bool.{cases_lt}
 use Rattle.std.proofs.lemmas.List.{take-append-le}
 use Rattle.std.specs.Option.{option_or}
-use Rattle.mp4_box.specs.Headers.{BeginsWith, HasRoom, IsBytes, header_at, result_of}
+use Rattle.mp4_box.specs.Headers.{BeginsWith, HasRoom, Headed, IsBytes, header_at, result_of}
 use Rattle.mp4_box.specs.Order.{least}
 use Rattle.mp4_box.specs.declared.headers.Header.{Header}
 use Rattle.mp4_box.specs.declared.headers.Size.{Size}
@@ -28,7 +28,7 @@ use Rattle.mp4_items.specs.Items.{reads_in}
 use Rattle.mp4_items.specs.Joined.{IsGood, IsMoofHere, IsMoovHere, IsOne, IsSound, Item, Movie, MovieFragment, OneBox, PassedOver, behind_item, behind_items, bytes_of, fragment_of, joined, listed, told_items, tracks_in}
 use Rattle.mp4_items.specs.Kinds.{kind_in, most_moof, most_moov}
 use Rattle.mp4_items.specs.Makings.{Making, fragment_fault, needed_in}
-use Rattle.mp4_items.specs.Rests.{BadFragment, BadHeader, BadMoof, BadMoov, BehindMoof, Boxed, CutInBody, CutInHeader, CutInHeld, CutInMedia, Ended, Headed, IsBehind, IsRest, Large, LateMoof, NoMdat, NotMdat, Open, OpenMedia, OpenMediaCut, OpenMediaTooFar, OpenTooFar, OutOfPlace, SecondBadHeader, SecondCutInHeader, SecondTooFar, Split, TooFar, Unsized, most_here}
+use Rattle.mp4_items.specs.Rests.{BadFragment, BadHeader, BadMoof, BadMoov, BehindMoof, Boxed, CutInBody, CutInHeader, CutInHeld, CutInMedia, Ended, IsBehind, IsRest, Large, LateMoof, NoMdat, NotMdat, Open, OpenMedia, OpenMediaCut, OpenMediaTooFar, OpenTooFar, OutOfPlace, SecondBadHeader, SecondCutInHeader, SecondTooFar, Split, TooFar, Unsized, most_here}
 use Rattle.mp4_items.proofs.JoinLemmas.{behind-at, reads-items}
 use Rattle.mp4_items.proofs.RestLemmas.{rest-reads}
 

@@ -84,11 +84,13 @@ IsSound make c (MovieFragment moof mdat) =
 
 -- ---- what is known behind them
 
+-- a moov tells the tracks, and a fragment where they end
 abbrev pub behind_item : Making → Context → Item → Context
 behind_item make c (PassedOver b) = context (c.at + length b.bytes) c.tracks c.number
 behind_item make c (Movie b) = context (c.at + length b.bytes) (Some (moov_tracks c.at b.bytes)) c.number
 behind_item make c (MovieFragment moof mdat) = behind_fragment make (fragment_in c moof mdat) (c.at + length moof.bytes + length mdat.bytes)
 
+-- behind one after the other
 abbrev pub behind_items : Making → Context → List Item → Context
 behind_items make c [] = c
 behind_items make c (i ∷ is) = behind_items make (behind_item make c i) is
@@ -108,12 +110,14 @@ moof_asks c x = asks_for c.at (64 * length (tracks_in c) + length x)
 abbrev pub told_moof : Context → List ℕ → Told
 told_moof c x = both (moof_asks c x) (both (counts (walked (held_at x c.at))) (asks_for c.at (with_runs c (tracks_in c) x)))
 
+-- of each item what its bytes are told as, and what it asks for
 abbrev pub told_item : Making → Context → Item → Told
 told_item make c (PassedOver b) = make.passed b.header.kind b.bytes
 told_item make c (Movie b) = both (asks_for c.at (length b.bytes)) (both (asks_for c.at (length b.bytes + 64 * length (moov_tracks c.at b.bytes))) (says (make.of_moov b.bytes)))
 told_item make c (MovieFragment moof mdat) =
     both (told_moof c moof.bytes) (both (make.accepted (fragment_in c moof mdat)) (make.media (fragment_in c moof mdat) (drop mdat.header.header_len mdat.bytes)))
 
+-- of one after the other
 abbrev pub told_items : Making → Context → List Item → Told
 told_items make c [] = silent
 told_items make c (i ∷ is) = both (told_item make c i) (told_items make (behind_item make c i) is)

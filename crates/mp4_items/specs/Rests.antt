@@ -1,6 +1,6 @@
 -- What is left of a fragmented stream behind whole items that break no rule, and what it is read as.
 use Rattle.std.specs.Prelude.{◌≡◌, ◌≢◌, ℕ, ◌+◌, ◌-◌, ◌<◌, ◌≤◌, List, [], ◌++◌, length, take, Option, Some, None}
-use Rattle.mp4_box.specs.Headers.{BeginsWith, Head, kind_of, need}
+use Rattle.mp4_box.specs.Headers.{BeginsWith, Headed, kind_of, need}
 use Rattle.mp4_box.specs.Order.{least}
 use Rattle.mp4_box.specs.declared.headers.Header.{Header}
 use Rattle.mp4_box.specs.declared.headers.Size.TheVariants.{Exact, ToEnd}
@@ -21,14 +21,6 @@ use Rattle.mp4_items.specs.Makings.{Fragment, Making, fragment_fault, needed_in}
 use Rattle.mp4_items.specs.declared.kinds.Kind.{Kind}
 use Rattle.mp4_items.specs.declared.kinds.Kind.TheVariants.{Mdat, Moof, Moov, Other}
 
--- bytes that begin with a header
-pub record Headed (y : List ℕ) : Type 0 where
-  pub header : Header
-  pub head : List ℕ
-  pub more : List ℕ
-  pub spelled : Head header head
-  pub cut : y ≡ head ++ more
-
 -- bytes that begin with a whole box
 pub record Boxed (y : List ℕ) : Type 0 where
   pub box : OneBox
@@ -41,10 +33,11 @@ ends told outcome = record { told = told; outcome = outcome }
 
 -- ---- what a box may be at an offset
 
--- it is of this kind and has so many bytes, or goes to the end of the stream
+-- it is of this kind and has so many bytes
 abbrev pub HasSize : Kind → ℕ → ℕ → Header → Type 0
 HasSize kind at s h = (kind_in h.kind.0 ≡ kind) × (h.size ≡ Exact s) × (at + s ≤ longest)
 
+-- it is of this kind and goes to the end of the stream
 abbrev pub IsOpen : Kind → Header → Type 0
 IsOpen kind h = (kind_in h.kind.0 ≡ kind) × (h.size ≡ ToEnd)
 

@@ -45,16 +45,19 @@ is_sync flags = bit_and flags 0x0001_0000 == 0
 abbrev pub sync_text : ℕ → List ℕ
 sync_text flags = if is_sync flags then codes "sync" else codes "-"
 
--- the line of a sample: its track and times, its fields, and its sample entry and place
+-- the parts of the line of a sample: its track and times
 abbrev pub times_text : Sample → List ℕ
 times_text s = codes "track=" ++ decimal s.track ++ codes " dts=" ++ decimal s.time ++ codes " cts=" ++ signed_decimal s.composition
 
+-- its fields
 abbrev pub fields_text : Sample → List ℕ
 fields_text s = codes " dur=" ++ decimal s.duration ++ codes " size=" ++ decimal s.size ++ codes " flags=" ++ hex_bytes (bytes_high_first 4 s.flags) ++ codes " " ++ sync_text s.flags
 
+-- its sample entry and its place
 abbrev pub place_text : Sample → List ℕ
 place_text s = codes " desc=" ++ decimal s.entry ++ codes " at=" ++ signed_decimal s.place ++ codes "\n"
 
+-- the line of a sample
 unfoldable pub sample_line : Sample → List ℕ
 sample_line s = times_text s ++ fields_text s ++ place_text s
 

@@ -1,5 +1,5 @@
 -- The pieces of a run, with what their samples come to.
-use Rattle.std.specs.Prelude.{◌≡◌, ◌<◌, ◌≤◌, ◌+◌, ◌^◌, ◌+ℤ◌, ◌<ℤ◌, ℕ, ℤ, pos, List, [], ◌∷◌, length, take, drop, map}
+use Rattle.std.specs.Prelude.{◌≡◌, ◌<◌, ◌≤◌, ◌+◌, ◌^◌, ◌+ℤ◌, ◌<ℤ◌, ℕ, ℤ, pos, List, [], ◌∷◌, length, take, drop}
 use Rattle.std.specs.List.{AllByRecursion, fold, sum_by}
 use Rattle.std.specs.Int.{int_min}
 use Rattle.mp4_frag.specs.declared.run.Run.{Run}
@@ -68,11 +68,7 @@ pieces_from cut held run c = pieces_at c (cut_rows cut (drop c.row (rows_of run 
 abbrev pub pieces_of : Cut → List ℕ → Run → List Piece
 pieces_of cut held run = pieces_from cut held run (first_cursor run)
 
--- those of each of some runs
-abbrev pub runs_pieces : Cut → List ℕ → List Run → List (List Piece)
-runs_pieces cut held runs = map (pieces_of cut held) runs
-
--- how many these are
+-- how many pieces these runs have
 abbrev pub piece_count : Cut → List ℕ → List Run → ℕ
 piece_count cut held runs = sum_by (λ run. length (pieces_of cut held run)) runs
 

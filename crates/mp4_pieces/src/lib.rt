@@ -2,13 +2,16 @@
 //!
 //! - [`Cut`]: how many samples and bytes a piece has at most, and what else is asked for;
 //! - [`Piece`]: some samples of a run that follow each other, with their sums;
-//! - [`Pieces`], which goes over the pieces of a run, from its first sample or a cursor on.
+//! - [`Pieces`], which goes over the pieces of a run, from its first sample or a cursor on;
+//! - [`room`]: whether what is written of a moof has room for its numbers;
+//! - [`laws`]: what the definitions of `specs/` imply.
 //!
 //! `specs/Cutting.antt` says how any list is cut by a test of what fits, `specs/Fitting.antt` which
 //! samples fit in a piece, `specs/Pieces.antt` what the pieces of a run are, `specs/Groups.antt`
 //! which of them share an index, `specs/Sizes.antt` how many bytes a piece has when it is written,
-//! and `specs/Rooms.antt` what has no room for its numbers. `specs/Growing.antt` says how pieces
-//! are found, row by row.
+//! `specs/Rooms.antt` what has no room for its numbers, and `specs/Fits.antt` when all has room.
+//! `specs/Allowed.antt` says what may be asked of a cut, and `specs/Growing.antt` and
+//! `specs/Rooming.antt` how pieces and their room are found, row by row.
 #![tactic(auto)]
 
 mod cut;

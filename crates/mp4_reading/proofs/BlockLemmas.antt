@@ -6,16 +6,8 @@ use Rattle.mp4_ends.specs.Streams.{AppendsPrefix}
 use Rattle.mp4_ends.proofs.StreamLemmas.{AppendsPrefix-more, AppendsPrefix-longer}
 use Rattle.mp4_reading.specs.Blocks.{Passes}
 
--- nothing was sent
-pub Passes-gathered : (a : Option (List ℕ)) (waiting text : List ℕ) → Passes a a waiting (waiting ++ text) text
-Passes-gathered a waiting text = record { sent = []; written = Appends-nil a; all = refl }
-
 pub Passes-none : (a : Option (List ℕ)) (waiting : List ℕ) → Passes a a waiting waiting []
 Passes-none a waiting = record { sent = []; written = Appends-nil a; all = append-nil waiting }
-
--- all that waited was sent
-pub Passes-sent : (a b : Option (List ℕ)) (waiting : List ℕ) → Appends a b waiting → Passes a b waiting [] []
-Passes-sent a b waiting p = record { sent = waiting; written = p; all = refl }
 
 -- all that waited was sent, and then the text
 pub Passes-through : (a b : Option (List ℕ)) (text : List ℕ) → Appends a b text → Passes a b [] [] text
@@ -49,11 +41,6 @@ AppendsPrefix-waiting a b x t p = AppendsPrefix-longer a b x t (x ++ t) p refl
 
 pub AppendsPrefix-sent_through : {a b : Option (List ℕ)} (c : Option (List ℕ)) {x y : List ℕ} (t : List ℕ) → Passes a b x y [] → y ≡ [] → AppendsPrefix b c t → AppendsPrefix a c (x ++ t)
 AppendsPrefix-sent_through {b = b} c t p e q = AppendsPrefix-passed c t p (subst (λ l. AppendsPrefix b c (l ++ t)) (sym e) q)
-
--- all that waited was sent, and the text waits
-pub Passes-sent_gathered : {a b : Option (List ℕ)} {x y : List ℕ} (z t : List ℕ) → Passes a b x y [] → z ≡ y ++ t → Passes a b x z t
-Passes-sent_gathered {a = a} {b = b} {x = x} {y = y} z t p e =
-    subst (λ l. Passes a b x l t) (sym e) (Passes-more p (Passes-gathered b y t))
 
 -- some text passed, and then what waited was sent on
 pub Passes-sent_on : {a b c : Option (List ℕ)} {x y z t : List ℕ} → Passes a b x y t → Passes b c y z [] → Passes a c x z t

@@ -3,9 +3,6 @@ use Rattle.std.proofs.Common.{◌≡◌, ◌∙◌, ℕ, ◌+◌, ◌≤◌, Lis
 use Rattle.mp4_reading.specs.Readings.{Ask, AtMost, shifted_by, shifted, greatest, uncounted, plus, silent, Told, both, most_of}
 use Rattle.mp4_reading.specs.declared.tally.Tally.{Tally}
 
-pub max_first : (a b : ℕ) → a ≤ max a b
-max_first a b = omega arith
-
 pub max_none : (n : ℕ) → max n 0 ≡ n
 max_none n = omega arith
 

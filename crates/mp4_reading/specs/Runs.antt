@@ -69,6 +69,7 @@ pub record IsIdle (run : Run) : Type 0 where
 
 -- ---- what it answers
 
+-- what a run brings that stops so: at a fault or a failed read all of the text that the bytes decide, at a failed write a prefix of it, and at a refused claim the text before it
 abbrev pub ComesUntil : (run : Run) → IsPrompt run → Stop → Type 0
 ComesUntil run prompt (Stream f) = TellsAll run × (fault_in (reading_of run).outcome ≡ Some f) × (early_in (reading_of run).outcome ≡ None → run.ends.ended ≡ true)
 ComesUntil run prompt (Read at) = TellsAll run × (early_in (reading_of run).outcome ≡ None) × (at ≡ length run.bytes) × (run.ends.read_failed ≡ true)
@@ -76,6 +77,7 @@ ComesUntil run prompt Write = TellsSome run × (run.ends.write_failed' ≡ true)
 ComesUntil run prompt OverLimit = (IsIdle run × (run.claims.limit < run.claims.copy)) ⊎ ((s : StarvesAt run prompt) × (run.claims.limit < run.claims.copy + s.ask.sum))
 ComesUntil run prompt Memory = (IsIdle run × (run.claims.copy ≤ run.claims.limit)) ⊎ ((s : StarvesAt run prompt) × (run.claims.copy + s.ask.sum ≤ run.claims.limit))
 
+-- on Ok the stream ended without a fault, and all of its text was written
 abbrev pub Comes : {T : Type 0} → (run : Run) → IsPrompt run → Result T Stop → Type 0
 Comes run prompt (Ok _) = TellsAll run × (fault_in (reading_of run).outcome ≡ None) × (run.ends.ended ≡ true)
 Comes run prompt (Err stop) = ComesUntil run prompt stop

@@ -8,7 +8,7 @@ use mp4_ends::{Failed, Sink, write_all};
 use mp4_lines::Text;
 use std::marker::Model;
 
-/// From so many bytes on a slice is sent by itself and not gathered.
+/// From so many bytes on a slice that doesn't fit behind what waits is sent by itself and not gathered.
 const LARGE: usize = 4096;
 
 /// So many bytes may wait in a block.

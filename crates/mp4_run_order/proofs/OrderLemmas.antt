@@ -155,9 +155,6 @@ sorted_order run_of key R f xs ys l fits m up =
     (λ a b fa fb h. f (run_of a) (run_of b) fa fb h.0 h.1) ys (each_moved (λ x. FitsKeys (run_of x)) xs ys m fits)
     (pairs_both (λ a b. Differ (run_of a) (run_of b)) (λ a b. key (run_of a) ≤ key (run_of b)) (λ a b. Differ (run_of a) (run_of b) × (key (run_of a) ≤ key (run_of b))) (λ a b x y. (x, y)) ys (differ_moved (λ x. (run_of x).number) xs ys l m) (no_fall (λ x. key (run_of x)) ys up))
 
-pub sorted_by_place : {X : Type 0} (run_of : X → ListedRun) (xs ys : List X) → Listed run_of xs → Each (λ x. FitsKeys (run_of x)) xs → IsPermutation xs ys → IsNonDecreasingBy (λ x. place_key (run_of x)) ys → ys ≡ taken_by run_of xs
-sorted_by_place run_of xs ys l fits m up = taken_alone run_of xs ys l m (sorted_order run_of place_key IsTakenBefore taken_by_key xs ys l fits m up)
-
 pub sorted_by_track : {X : Type 0} (run_of : X → ListedRun) (xs ys : List X) → Listed run_of xs → Each (λ x. FitsKeys (run_of x)) xs → IsPermutation xs ys → IsNonDecreasingBy (λ x. track_key (run_of x)) ys → Pairs (λ a b. IsBeforeByTrack (run_of a) (run_of b)) ys
 sorted_by_track run_of xs ys l fits m up = sorted_order run_of track_key IsBeforeByTrack track_by_key xs ys l fits m up
 

@@ -1,7 +1,7 @@
 -- What more bytes change of the box at the front.
 use Rattle.std.proofs.Common.{◌≡◌, ◌∙◌, ℕ, ◌+◌, ◌-◌, ◌<◌, ◌≤◌, List, [], ◌∷◌, ◌++◌, length, take, drop, Option, None, Some, append_assoc, Bool, true, false, ap, sym, refl, arith, length-append, subst}
 use Rattle.std.specs.Prelude.{nat_lt}
-use Rattle.std.proofs.lemmas.Bool.{ltb-true, ltb-false}
+use Rattle.std.proofs.lemmas.Bool.{ltb-false}
 use Rattle.std.proofs.lemmas.List.{take-append-le, drop-append-le}
 use Rattle.mp4_box.specs.declared.headers.FourCc.{FourCc}
 use Rattle.mp4_box.specs.declared.headers.Header.{Header}
@@ -19,10 +19,10 @@ use Rattle.mp4_stream.specs.Listing.{box_line}
 use Rattle.mp4_reading.specs.Readings.{Last, silent, says, asks_for, TellsMore}
 use Rattle.mp4_reading.proofs.BodyGrowthLemmas.{told_body-grows, told_open-grows}
 use Rattle.mp4_reading.proofs.HeadLemmas.{kind_of-append}
-use Rattle.mp4_reading.specs.Bodies.{least_end, longest, refused, told_body, told_open}
+use Rattle.mp4_reading.specs.Bodies.{least_end, longest, refused}
 use Rattle.mp4_stream.specs.Boxes.{passed, body, held_box, held_body, holding, box_by, box, front_by, front}
 use Rattle.mp4_stream.proofs.BoxLemmas.{front-some, front-none}
-use Rattle.mp4_reading.proofs.BodyLemmas.{nat_lt_true, nat_lt_false}
+use Rattle.mp4_reading.proofs.BodyLemmas.{nat_lt_false}
 use Rattle.mp4_reading.proofs.ReadingGrowthLemmas.{FrontGrows, TellsMore-silent, told-grows}
 
 passed-grows : (b x : List ℕ) → TellsMore (passed b) (passed (b ++ x))

@@ -1,7 +1,6 @@
 -- How the reading of top-level boxes goes on.
-use Rattle.std.proofs.Common.{◌≡◌, ℕ, ◌+◌, ◌-◌, ◌<◌, ◌≤◌, List, [], ◌∷◌, ◌++◌, length, take, drop, true, false, Option, Some, None, ap, sym, ◌∙◌, refl, arith, append-nil, length-append, length-drop, length-take, OnOk, Result, Ok, Err}
+use Rattle.std.proofs.Common.{◌≡◌, ℕ, ◌+◌, ◌-◌, ◌<◌, ◌≤◌, List, [], ◌∷◌, ◌++◌, length, take, drop, true, false, Option, Some, None, ap, sym, ◌∙◌, refl, arith, append-nil, length-append, length-drop, OnOk, Result, Ok, Err}
 use Rattle.std.proofs.Math.Seq.{take-append_seam, drop-append_seam}
-use Rattle.std.proofs.lemmas.List.{take-append-le, drop-append-le}
 use Rattle.std.specs.Prelude.{nat_lt, if◌then◌else◌}
 use Rattle.mp4_box.specs.declared.headers.FourCc.{FourCc}
 use Rattle.mp4_box.specs.declared.headers.Header.{Header}
@@ -10,15 +9,14 @@ use Rattle.mp4_box.specs.declared.headers.Size.TheVariants.{Exact, ToEnd}
 use Rattle.mp4_box.specs.declared.headers.Step.{Step}
 use Rattle.mp4_box.specs.declared.headers.Step.TheVariants as steps
 use Rattle.mp4_box.specs.declared.rules.Rule.TheVariants.{Truncated, BadSize, TooLarge, StreamTooLong}
-use Rattle.mp4_box.specs.Headers.{need, header_at, kind_of, kind_field, HasRoom}
+use Rattle.mp4_box.specs.Headers.{need, header_at, kind_of, HasRoom}
 use Rattle.mp4_box.proofs.HeaderLemmas.{header_at-append, whole_is, need-least, is_cut}
-use Rattle.mp4_box.proofs.HeaderAnswers.{header-room}
 use Rattle.mp4_box.specs.declared.rules.Fault.{Fault}
 use Rattle.mp4_box.specs.Trees.{tree_faults}
 use Rattle.mp4_stream.specs.Holding.{held_lines, most_held}
 use Rattle.mp4_stream.specs.Listing.{box_line}
 use Rattle.mp4_reading.specs.Readings.{nothing, Last, Whole, after, after_told, silent, says, asks_for, Faulty, then_read, fault_in, early_in}
-use Rattle.mp4_reading.specs.Bodies.{cut_off, fault, least_end, longest, refused, told_body, told_open}
+use Rattle.mp4_reading.specs.Bodies.{cut_off, fault, least_end, longest, refused}
 use Rattle.mp4_stream.specs.Boxes.{passed, body, held_box, held_body, holding, box_by, box, front_by, front, reading}
 use Rattle.mp4_stream.specs.Places.{Place, InHeader, InBody, InHeld, InOpenBody, IsMachine, IsPlace, place_of, standing}
 use Rattle.mp4_stream.specs.declared.phase.Phase.{Phase}

@@ -5,7 +5,7 @@ use Rattle.std.proofs.Common.{◌≡◌, ◌∙◌, ℕ, ◌+◌, ◌-◌, ◌++
 use Rattle.mp4_box.specs.declared.headers.Header.{Header}
 use Rattle.mp4_reading.proofs.HoldingLemmas.{rest-len}
 use Rattle.mp4_box.specs.Trees.{Box, bad_below, bad_rest, box_faults, children, deep_below, is_container, over, payload_offset}
-use Rattle.mp4_stream.specs.Listing.{box_line, line_below, tree_lines}
+use Rattle.mp4_stream.specs.Listing.{box_line, tree_lines}
 
 abbrev pub empty_box : ℕ → Header → Box
 empty_box at h = record { header = h; offset = at; payload = [] }

@@ -1,5 +1,5 @@
 -- What a run counts that reads fragments.
-use Rattle.std.proofs.Common.{◌≡◌, ◌∙◌, ℕ, zero, suc, ◌+◌, ◌*◌, ◌≤◌, List, [], ◌∷◌, ◌++◌, max, Ok, Err, Result, ap, arith, inl, inr}
+use Rattle.std.proofs.Common.{◌≡◌, ◌∙◌, ℕ, ◌+◌, ◌*◌, ◌≤◌, List, ◌∷◌, ◌++◌, max, Ok, Err, Result, ap, arith, inl, inr}
 use Rattle.mp4_box.specs.Headers.{IsBytes}
 use Rattle.mp4_items.specs.Kinds.{most_moof, most_moov}
 use Rattle.mp4_items.proofs.BoundLemmas.{asks-bound}

@@ -1,6 +1,5 @@
 -- What a machine that lists boxes brings by its place.
-use Rattle.std.proofs.Common.{◌≡◌, ℕ, ◌+◌, ◌^◌, ◌<◌, ◌≤◌, List, [], ◌∷◌, ◌++◌, length, Option, Some, None, ap, sym, refl, ◌∙◌, arith, append_assoc, append-nil, length-append, take, drop, take-append-drop, length-take-le, subst}
-use Rattle.std.proofs.lemmas.List.{take-take}
+use Rattle.std.proofs.Common.{◌≡◌, ℕ, ◌+◌, ◌^◌, ◌<◌, ◌≤◌, List, [], ◌∷◌, ◌++◌, length, Option, Some, None, ap, sym, refl, ◌∙◌, arith, append_assoc, length-append, take, drop, length-take-le, subst}
 use Rattle.mp4_box.specs.declared.headers.FourCc.{FourCc}
 use Rattle.mp4_box.specs.declared.headers.Header.{Header}
 use Rattle.mp4_box.specs.declared.headers.Size.TheVariants.{Exact, ToEnd}
@@ -9,7 +8,7 @@ use Rattle.mp4_box.specs.declared.rules.Fault.{Fault}
 use Rattle.mp4_box.specs.declared.rules.Rule.TheVariants.{BadSize, StreamTooLong, TooLarge}
 use Rattle.mp4_box.specs.Headers.{need, header_at, kind_of}
 use Rattle.mp4_box.specs.Trees.{tree_faults}
-use Rattle.mp4_box.proofs.HeaderLemmas.{whole_is, bad_is, need_more, need-append, need-least, need-most, header_at-append}
+use Rattle.mp4_box.proofs.HeaderLemmas.{whole_is, bad_is, need_more, need-most}
 use Rattle.mp4_ends.specs.Streams.{AppendsPrefix}
 use Rattle.mp4_ends.proofs.StreamLemmas.{AppendsPrefix-longer}
 use Rattle.mp4_ledger.specs.Memory.{given_back}
@@ -17,14 +16,13 @@ use Rattle.mp4_ledger.specs.declared.ledger.Refused.{Refused}
 use Rattle.mp4_ledger.specs.declared.ledger.Refused.TheVariants as refusals
 use Rattle.mp4_reading.specs.Accounts.{Counts, Spends}
 use Rattle.mp4_reading.specs.Blocks.{Passes}
-use Rattle.mp4_reading.specs.Bodies.{fault, least_end, longest, refused}
+use Rattle.mp4_reading.specs.Bodies.{fault, least_end, longest}
 use Rattle.mp4_reading.specs.Pieces.{Outside, Standing, Moves, GoesOn, Refuses, Starves, Loses, StopsAt, refusal_of}
 use Rattle.mp4_reading.specs.Readings.{AtMost, Faulty, Reading, Told, plus, then_read, silent, says, asks_for, most_of, after}
-use Rattle.mp4_reading.specs.declared.stop.Stop.{Stop}
 use Rattle.mp4_reading.proofs.AccountLemmas.{Counts-none, Counts-back, Spends-more, Spends-counts}
 use Rattle.mp4_reading.proofs.BlockLemmas.{Passes-none}
-use Rattle.mp4_reading.proofs.HeadLemmas.{apart, front-len, front-is, take-is}
-use Rattle.mp4_reading.proofs.PieceLemmas.{sent_to, claimed_from, back_to, Moves-none, Moves-claim, GoesOn-silent, GoesOn-more, StopsAt-more}
+use Rattle.mp4_reading.proofs.HeadLemmas.{apart, front-len, front-is}
+use Rattle.mp4_reading.proofs.PieceLemmas.{sent_to, claimed_from, back_to, Moves-none, Moves-claim, GoesOn-silent}
 use Rattle.mp4_reading.proofs.ReadingLemmas.{after-silent}
 use Rattle.mp4_reading.proofs.ReadingAskLemmas.{AtMost-plus, AtMost-same, plus-none}
 use Rattle.mp4_stream.specs.Boxes.{box, body, held_body, reading}

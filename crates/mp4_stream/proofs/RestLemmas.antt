@@ -3,7 +3,7 @@ use Rattle.std.proofs.Common.{◌≡◌, ◌∙◌, ℕ, zero, suc, ◌+◌, ◌
 use Rattle.std.proofs.Math.Seq.{drop-append_seam}
 use Rattle.std.proofs.lemmas.Bool.{cases_lt}
 use Rattle.std.proofs.lemmas.List.{take-append-le}
-use Rattle.mp4_box.specs.Headers.{HasRoom, IsBox, IsBytes, header_at, need, result_of}
+use Rattle.mp4_box.specs.Headers.{HasRoom, Headed, IsBox, IsBytes, header_at, need, result_of}
 use Rattle.mp4_box.specs.Trees.{tree_faults}
 use Rattle.mp4_box.specs.declared.headers.Header.{Header}
 use Rattle.mp4_box.specs.declared.headers.Size.{Size}
@@ -18,7 +18,7 @@ use Rattle.mp4_reading.specs.Readings.{Reading, after, nothing}
 use Rattle.mp4_stream.specs.Boxes.{reading}
 use Rattle.mp4_stream.specs.Holding.{most_held}
 use Rattle.mp4_stream.specs.Joined.{AreSound, Item, MayStand, joined, told_from}
-use Rattle.mp4_stream.specs.Rests.{Boxed, Headed, IsRest, Ended, CutInHeader, BadHeader, TooFar, CutInBody, Open, OpenTooFar, Large, Unsized, CutInHeld, BadTree, Split}
+use Rattle.mp4_stream.specs.Rests.{Boxed, IsRest, Ended, CutInHeader, BadHeader, TooFar, CutInBody, Open, OpenTooFar, Large, Unsized, CutInHeld, BadTree, Split}
 use Rattle.mp4_stream.proofs.BoxLemmas.{reading-more, reading-none, reading-whole, reading-too_long, reading-too_large, reading-held_to_end}
 use Rattle.mp4_stream.proofs.JoinLemmas.{reading-boxes, reading-unheaded, reading-cut, reading-open, reading-open_long, reading-cut_held, reading-bad_held}
 

@@ -12,8 +12,8 @@ use Rattle.mp4_box.specs.Headers.{header_at, kind_of}
 use Rattle.mp4_box.specs.Trees.{tree_faults}
 use Rattle.mp4_stream.specs.Holding.{held_lines, most_held}
 use Rattle.mp4_stream.specs.Listing.{box_line}
-use Rattle.mp4_reading.specs.Bodies.{longest, fault, refused, cut_off, least_end, told_body, told_open}
-use Rattle.mp4_reading.specs.Readings.{Told, Faulty, CutOff, Reading, nothing, Front, Last, Whole, after_told, silent, says, asks_for, read_all}
+use Rattle.mp4_reading.specs.Bodies.{longest, refused, cut_off, least_end, told_body, told_open}
+use Rattle.mp4_reading.specs.Readings.{Told, Faulty, Reading, nothing, Front, Last, Whole, after_told, silent, says, asks_for, read_all}
 
 -- nothing is told of a body that is passed over
 abbrev pub passed : List ℕ → Told

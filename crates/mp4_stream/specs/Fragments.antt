@@ -1,5 +1,5 @@
 -- What a run brings that reads fragments.
-use Rattle.std.specs.Prelude.{ℕ, ◌+◌, ◌*◌, ◌≤◌, Option, None, false, Result}
+use Rattle.std.specs.Prelude.{ℕ, ◌+◌, ◌*◌, ◌≤◌, None, false, Result}
 use Rattle.mp4_feed.specs.States.{listed_by, reads_of}
 use Rattle.mp4_items.specs.Commands.{reading}
 use Rattle.mp4_items.specs.declared.command.Command.{Command}

@@ -1,6 +1,6 @@
 -- What is left of a stream behind whole boxes that break no rule, and what it is read as.
 use Rattle.std.specs.Prelude.{◌≡◌, ℕ, ◌+◌, ◌<◌, ◌≤◌, List, [], ◌∷◌, ◌++◌, length, Some, None}
-use Rattle.mp4_box.specs.Headers.{BeginsWith, Head, IsBox, kind_of, need}
+use Rattle.mp4_box.specs.Headers.{BeginsWith, Headed, IsBox, kind_of, need}
 use Rattle.mp4_box.specs.Trees.{tree_faults}
 use Rattle.mp4_box.specs.declared.headers.Header.{Header}
 use Rattle.mp4_box.specs.declared.headers.Size.TheVariants.{Exact, ToEnd}
@@ -12,14 +12,6 @@ use Rattle.mp4_stream.specs.Holding.{most_held}
 use Rattle.mp4_stream.specs.Joined.{AreSound, Item, joined}
 use Rattle.mp4_stream.specs.Listing.{box_line}
 
--- bytes that begin with a header
-pub record Headed (y : List ℕ) : Type 0 where
-  pub header : Header
-  pub head : List ℕ
-  pub more : List ℕ
-  pub spelled : Head header head
-  pub cut : y ≡ head ++ more
-
 -- bytes that begin with a whole box
 pub record Boxed (y : List ℕ) : Type 0 where
   pub header : Header
@@ -29,10 +21,11 @@ pub record Boxed (y : List ℕ) : Type 0 where
   pub is : IsBox header payload bytes
   pub cut : y ≡ bytes ++ more
 
--- the box at an offset isn't held and has so many bytes, or goes to the end of the stream
+-- the box at an offset isn't held and has so many bytes
 abbrev pub IsLoose : ℕ → ℕ → Header → Type 0
 IsLoose at s h = (most_held h.kind.0 ≡ None) × (h.size ≡ Exact s) × (at + s ≤ longest)
 
+-- it isn't held and goes to the end of the stream
 abbrev pub IsOpen : Header → Type 0
 IsOpen h = (most_held h.kind.0 ≡ None) × (h.size ≡ ToEnd)
 

@@ -9,9 +9,9 @@
 //!
 //! The definitions: `specs/Boxes.antt` (what the bytes of a stream are read as) with `specs/Holding.antt` (the boxes that
 //! are held) and `specs/Listing.antt` (the lines), `specs/Joined.antt` (whole boxes one after the other, of which the
-//! laws speak), `specs/Places.antt` (where the machine is in a stream, and what that means), `specs/Fragments.antt` (what a run brings that
-//! reads fragments). What a run answers, writes
-//! and claims is said by `mp4_reading`, in `specs/Runs.antt`.
+//! laws speak) with `specs/Rests.antt` (what is left behind them), `specs/Places.antt` (where the machine is in a stream,
+//! and what that means), `specs/Fragments.antt` (what a run brings that reads fragments). What a run answers, writes and
+//! claims is said by `mp4_reading`, in `specs/Runs.antt`.
 #![tactic(auto)]
 
 pub mod fragments;

@@ -14,13 +14,14 @@ use mp4_reading::{Stop, read_stream};
 /// What a run counts. A listing of boxes counts no samples: all but its peak are 0.
 #[derive(Clone, Copy, Debug, PartialEq, Eq)]
 pub struct Totals {
-    /// How many moof boxes.
+    /// How many fragments: moofs with their mdats. One that is at fault, or whose mdat is refused, isn't counted.
     pub fragments: u64,
-    /// How many samples.
+    /// How many samples those have.
     pub samples: u128,
-    /// How many bytes of media.
+    /// How many bytes of media: those of the samples.
     pub media_bytes: u64,
-    /// How many rows of samples were read, each time that one was.
+    /// How many rows of samples were read, each time that one was. What a first look at a fragment read that is then at fault
+    /// isn't counted.
     pub rows_read: u128,
     /// The most bytes that were claimed at once.
     pub peak: u64,

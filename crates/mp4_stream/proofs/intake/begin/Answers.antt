@@ -1,4 +1,4 @@
-use Rattle.std.proofs.Common.{[], ◌++◌, rules, refl, sym, ◌∙◌, arith}
+use Rattle.std.proofs.Common.{[], rules, refl, sym, ◌∙◌, arith}
 use Rattle.mp4_box.proofs.HeaderLemmas.{whole_is}
 use Rattle.mp4_reading.proofs.PieceLemmas.{Takes-ok, Takes-err}
 use Rattle.mp4_stream.specs.Places.{place_by, outside}

@@ -1,7 +1,7 @@
-use Rattle.std.proofs.Common.{◌<◌, ◌≤◌, ◌+◌, ◌++◌, [], length, take, arith, ap, Err, subst, rules, refl, drop}
+use Rattle.std.proofs.Common.{◌≤◌, ◌+◌, ◌++◌, [], arith, ap, Err, subst, rules, refl, drop}
 use Rattle.std.proofs.Math.Seq.{take-length}
 use Rattle.mp4_box.specs.Headers.{HasRoom}
-use Rattle.mp4_box.proofs.HeaderLemmas.{whole_is, need-least}
+use Rattle.mp4_box.proofs.HeaderLemmas.{whole_is}
 use Rattle.mp4_reading.specs.Bodies.{least_end, longest}
 use Rattle.mp4_reading.specs.Pieces.{StopsAt}
 use Rattle.mp4_reading.proofs.AccountLemmas.{within_limit}

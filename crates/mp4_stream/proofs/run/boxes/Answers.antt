@@ -1,4 +1,4 @@
-use Rattle.std.proofs.Common.{◌≡◌, ap, refl, sym}
+use Rattle.std.proofs.Common.{◌≡◌, refl, sym}
 use Rattle.mp4_reading.proofs.RunLemmas.{Runs-same}
 use Rattle.mp4_stream.proofs.BoxLemmas.{reading-none}
 use Rattle.mp4_stream.proofs.run.boxes.Goals as goal

@@ -1,4 +1,4 @@
-use Rattle.std.proofs.Common.{◌≡◌, ◌∙◌, [], ◌∷◌, ◌++◌, List, ap, sym}
+use Rattle.std.proofs.Common.{◌∙◌, [], ◌++◌, List, ap, sym}
 use Rattle.std.specs.List.{flat_map}
 use Rattle.mp4_frag.specs.declared.run.Run.{Run}
 use Rattle.mp4_frag.specs.Runs.{TrackFragment, runs_of}

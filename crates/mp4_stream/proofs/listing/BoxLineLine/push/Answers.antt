@@ -1,4 +1,4 @@
-use Rattle.std.proofs.Common.{◌≡◌, ◌∙◌, ◌++◌, List, ℕ, ap, append_assoc}
+use Rattle.std.proofs.Common.{◌∙◌, ◌++◌, List, ℕ, ap, append_assoc}
 use Rattle.mp4_stream.specs.Listing.{box_line, indent}
 use Rattle.mp4_stream.proofs.ListingLemmas.{indented}
 use Rattle.mp4_stream.proofs.listing.BoxLineLine.push.Goals as goal
