@@ -2,7 +2,7 @@
 # make test         proves everything from nothing, and runs every test
 # make wrong_bodies tries the wrong bodies that the tests leave out
 # make install      puts the program and its manual page below PREFIX
-# All but install need Rattle's toolchain. The targets below it are for working on fmp4; manual needs man alone.
+# All but install and manual need Rattle's toolchain. The targets below install are for working on fmp4.
 IN ?= crates/fmp4/stdin
 PREFIX ?= /usr/local
 
