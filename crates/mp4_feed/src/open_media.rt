@@ -1,0 +1,194 @@
+//! Media that are recut as they come, of an mdat to the end of the stream.
+
+ghost use Rattle.std.specs.Prelude.{◌≡◌, ℕ, ◌+◌, ◌-◌, ◌<◌, ◌≤◌, ◌^◌, [], ◌++◌, List, length, take, true, Some, IfOk, OnOk, OnErr};
+ghost use Rattle.mp4_frag.specs.Moofs.{moof_samples};
+ghost use Rattle.mp4_ledger.specs.Memory.{Account, given_back};
+ghost use Rattle.mp4_reading.specs.Bodies.{longest};
+ghost use Rattle.mp4_reading.specs.Ends.{sent};
+ghost use Rattle.mp4_reading.specs.Pieces.{GoesOn, Loses, Takes, around, outside};
+ghost use Rattle.mp4_items.specs.Contexts.{table_of};
+ghost use Rattle.mp4_items.specs.Makings.{Making};
+ghost use Rattle.mp4_recut.specs.Cursors.{AreCut, MayBeAt, parts_left};
+ghost use Rattle.mp4_recut.specs.Media.{playing, spot_of};
+ghost use Rattle.mp4_recut.specs.declared.plan.Plan.TheVariants as plans;
+ghost use Rattle.mp4_feed.specs.Places.{InOpenBody, reads_at, standing, when_stopped};
+ghost use Rattle.mp4_feed.specs.Recuts.{with_fragments};
+ghost use Rattle.mp4_feed.specs.States.{HasCounted, HasStopped, IsCounted, IsState, IsWaiting, claim_by, claimed_in, moof_in, most_counted, place_of};
+ghost use Rattle.mp4_feed.specs.declared.state.State.TheVariants as states;
+
+use crate::bodies::back;
+use crate::state::{Counter, OpenBody, OpenRecutting, State, Waiting};
+use crate::take::Taken;
+use mp4_box::Rule;
+use mp4_cut::Cut;
+use mp4_ends::{Failed, Sink};
+use mp4_frag::Moof;
+use mp4_init::TrackList;
+use mp4_ledger::Ledger;
+use mp4_reading::{Block, LONGEST, Stop, Tally, refused};
+use mp4_recut::media::{Media, pay};
+
+/// Bytes of an mdat to the end of the stream that were taken: how many, and what is taken next.
+#[derive(Clone, Copy)]
+pub(crate) struct OpenMediaTaken {
+    pub(crate) count: usize,
+    pub(crate) needed: u64,
+    pub(crate) left: u64,
+    pub(crate) media: Media,
+}
+
+/// Takes bytes of an mdat that goes to the end of the stream and is recut, from the front of a piece.
+///
+/// # Errors
+///
+/// `Failed` where a write failed.
+pub(crate) fn take_open_media<W: Sink>(
+    body: OpenBody,
+    media: Media,
+    waiting: &Waiting,
+    piece: &[u8],
+    tracks: &TrackList,
+    cut: &Cut,
+    tally: &mut Tally,
+    out: &mut Block,
+    w: &mut W,
+) -> Result<OpenMediaTaken, Failed>
+    requires some { 0 < length piece.now }
+    requires body { (0 < body.left) × (body.left ≤ longest) }
+    requires waiting { IsWaiting (Some tracks.now) waiting.now }
+    requires cut { AreCut cut.now (moof_in waiting.now) tracks.now }
+    requires at { MayBeAt cut.now (moof_in waiting.now) tracks.now media.behind }
+    requires settled { media.gap.left ≡ 0 → parts_left cut.now (moof_in waiting.now) tracks.now
+        (tally.old.fragments + 1) media.behind ≡ [] }
+    requires numbers { tally.old.fragments + 1 + length (parts_left cut.now
+        (moof_in waiting.now) tracks.now (tally.old.fragments + 1) media.behind) ≤ 2 ^ 32 }
+    ensures taken { IfOk result (λ t. (0 < t.count) × (t.count ≤ length piece.now) ×
+        (t.left + t.count ≡ body.left)) }
+    ensures goes { IfOk result (λ t. (make : Making) (own : ℕ) (account : Account) →
+        GoesOn (outside (W.contents w.old) out.old account tally.old)
+        (outside (W.contents w.new) out.new account tally.new)
+        (standing make (InOpenBody (playing (spot_of cut.now (moof_in waiting.now) tracks.now
+        (longest - body.left) (tally.old.fragments + 1) media)) body.at body.kind body.needed
+        body.left own)) (take t.count piece.now)
+        (standing make (InOpenBody (playing (spot_of cut.now (moof_in waiting.now) tracks.now
+        (longest - t.left) (tally.new.fragments + 1) t.media)) body.at body.kind t.needed
+        t.left own))) }
+    ensures at { IfOk result (λ t.
+        MayBeAt cut.now (moof_in waiting.now) tracks.now t.media.behind) }
+    ensures settled { IfOk result (λ t. t.media.gap.left ≡ 0 → parts_left cut.now
+        (moof_in waiting.now) tracks.now (tally.new.fragments + 1) t.media.behind ≡ []) }
+    ensures numbers { IfOk result (λ t. tally.new.fragments + length (parts_left cut.now
+        (moof_in waiting.now) tracks.now (tally.new.fragments + 1) t.media.behind) ≡
+        tally.old.fragments + length (parts_left cut.now (moof_in waiting.now) tracks.now
+        (tally.old.fragments + 1) media.behind)) }
+    ensures lost { OnErr result ((make : Making) (own : ℕ) (account : Account)
+        (later : List ℕ) → own ≤ account.live →
+        Loses (outside (W.contents w.old) out.old account tally.old)
+        (outside (W.contents w.new) out.new (given_back account own) tally.new) own
+        (reads_at make (InOpenBody (playing (spot_of cut.now (moof_in waiting.now) tracks.now
+        (longest - body.left) (tally.old.fragments + 1) media)) body.at body.kind body.needed
+        body.left own) (piece.now ++ later))) }
+    ensures few { tally.new.fragments + 1 ≤ 2 ^ 32 }
+    ensures tally { tally.new ≡ with_fragments tally.old tally.new.fragments }
+    ensures failed { OnErr result (W.has_failed w.new ≡ true) }
+    ensures kept { OnOk result (W.has_failed w.new ≡ W.has_failed w.old) }
+{
+    let most = body.left.min(piece.len() as u64);
+    let (front, _) = piece.split_at(most as usize);
+    let moof = Moof::again(waiting.moof.bytes(), waiting.moof.offset(), tracks);
+    let at = LONGEST - body.left;
+    let fragments = &mut tally.fragments;
+    let runs = &waiting.runs;
+    match pay(
+        at, media, front, &moof, runs, tracks, cut, fragments, out, w,
+    ) {
+        Ok(paid) => Ok(OpenMediaTaken {
+            count: paid.count,
+            needed: body.needed.saturating_sub(paid.count as u64),
+            left: body.left - paid.count as u64,
+            media: paid.media,
+        }),
+        Err(Failed) => Err(Failed),
+    }
+}
+
+/// Takes bytes of an mdat that goes to the end of the stream and is recut, from the front of a piece: what is taken next. Its moof
+/// and the list of its runs are given back where it stops.
+///
+/// # Errors
+///
+/// `Stream` where it goes too far: what may come of it was recut before; `Write` where a write failed.
+pub(crate) fn take_open_split<W: Sink>(
+    recutting: OpenRecutting,
+    piece: &[u8],
+    tracks: &Option<TrackList>,
+    ledger: &mut Ledger,
+    counter: &mut Counter,
+    out: &mut Block,
+    w: &mut W,
+) -> Result<Taken, Stop>
+    requires some { 0 < length piece.now }
+    requires state { IsState tracks.now [] (states.OpenMedia recutting) }
+    requires claim { claimed_in tracks.now (Some recutting.waiting) ≤ ledger.old.live }
+    requires number { recutting.number ≡ counter.old.tally.fragments + 1 }
+    requires counted { IsCounted (plans.Split recutting.cut) counter.old most_counted 0
+        (moof_samples (moof_in recutting.waiting)) }
+    ensures takes { (make : Making) →
+        Takes (around (sent W.contents W.has_failed w.old w.new) out.old out.new
+        ledger.old (when_stopped result (table_of tracks.now) ledger.new)
+        counter.old.tally counter.new.tally)
+        (standing make (place_of (counter.old.tally.fragments + 1) tracks.now []
+        (states.OpenMedia recutting)))
+        piece.now (λ t. take t.count piece.now)
+        (λ t. standing make (place_of (counter.new.tally.fragments + 1) tracks.now [] t.state))
+        result }
+    ensures taken { IfOk result (λ t. (0 < t.count) × (t.count ≤ length piece.now)) }
+    ensures left { OnErr result (table_of tracks.now ≤ ledger.new.live) }
+    ensures state { IfOk result (λ t. IsState tracks.now [] t.state) }
+    ensures claim { IfOk result (λ t. claim_by tracks.now [] t.state ≤ ledger.new.live) }
+    ensures counted { IfOk result (λ t.
+        HasCounted (plans.Split recutting.cut) t.state counter.new) }
+    ensures spent { OnErr result (HasStopped (plans.Split recutting.cut) counter.new) }
+{
+    let Some(list) = tracks else {
+        unreachable!();
+    };
+    let OpenRecutting {
+        cut,
+        number: _,
+        body,
+        media,
+        waiting,
+    } = recutting;
+    if body.left == 0 {
+        back(Some(waiting), ledger);
+        return Err(refused(Rule::StreamTooLong, Some(body.kind), body.at));
+    }
+    let tally = &mut counter.tally;
+    match take_open_media(body, media, &waiting, piece, list, &cut, tally, out, w) {
+        Ok(taken) => {
+            let number = counter.tally.fragments + 1;
+            let body = OpenBody {
+                at: body.at,
+                kind: body.kind,
+                needed: taken.needed,
+                left: taken.left,
+            };
+            let recutting = OpenRecutting {
+                cut,
+                number,
+                body,
+                media: taken.media,
+                waiting,
+            };
+            Ok(Taken {
+                count: taken.count,
+                state: State::OpenMedia(recutting),
+            })
+        }
+        Err(Failed) => {
+            back(Some(waiting), ledger);
+            Err(Stop::Write)
+        }
+    }
+}
