@@ -1,4 +1,5 @@
-//! Lists the boxes or samples of an MP4 stream (ISO/IEC 14496-12), which is read from standard input, or checks it.
+//! Lists the boxes or samples of an MP4 stream (ISO/IEC 14496-12), which is read from standard input, checks it, or cuts its
+//! fragments into shorter ones.
 #![tactic(auto)]
 
 #[cfg(test)]

@@ -7,6 +7,7 @@ mod fragments;
 mod layouts;
 mod listings;
 mod memory;
+mod splits;
 mod words;
 
 use fmp4_program::run;
@@ -119,7 +120,25 @@ fn check_run(
     Ok(())
 }
 
-/// The boxes of these bytes are listed by reads of one byte, of seven, and of many.
+/// What is written of these bytes by reads of one byte, of seven, and of many.
+fn check_bytes(
+    rt: &impl Abort,
+    alloc: Global,
+    words: &[&str],
+    parts: &[&[u8]],
+    status: u8,
+    written: &[u8],
+    fault: &str,
+) -> Result<(), Fail> {
+    let input = joined(alloc, parts)?;
+    for step in [1, 7, 4096] {
+        let given = Given::ample(&input, step);
+        check_run(rt, alloc, words, given, status, written, fault.as_bytes())?;
+    }
+    Ok(())
+}
+
+/// So it is with the lines of a listing.
 fn check_words(
     rt: &impl Abort,
     alloc: Global,
@@ -129,36 +148,8 @@ fn check_words(
     lines: &[&str],
     fault: &str,
 ) -> Result<(), Fail> {
-    let input = joined(alloc, parts)?;
     let listing = listing_of(alloc, lines)?;
-    let fault = fault.as_bytes();
-    check_run(
-        rt,
-        alloc,
-        words,
-        Given::ample(&input, 1),
-        status,
-        &listing,
-        fault,
-    )?;
-    check_run(
-        rt,
-        alloc,
-        words,
-        Given::ample(&input, 7),
-        status,
-        &listing,
-        fault,
-    )?;
-    check_run(
-        rt,
-        alloc,
-        words,
-        Given::ample(&input, 4096),
-        status,
-        &listing,
-        fault,
-    )
+    check_bytes(rt, alloc, words, parts, status, &listing, fault)
 }
 
 fn check_rows(

@@ -10,6 +10,9 @@ use Rattle.mp4_reading.specs.declared.stop.Stop.{Stop}
 use Rattle.mp4_reading.specs.declared.stop.Stop.TheVariants.{Write}
 use Rattle.mp4_reading.specs.declared.tally.Tally.{Tally}
 use Rattle.mp4_reading.proofs.ReadingAskLemmas.{AtMost-same}
+use Rattle.mp4_recut.specs.declared.plan.Plan.{Plan}
+use Rattle.mp4_stream.specs.Fragments.{ReadsFragments}
+use Rattle.mp4_stream.specs.declared.run.Totals.{Totals}
 
 -- of an answer that is Ok nothing but that is said
 Runs-answer : {T : Type 0} {whole : List ℕ → Reading} {ends : Ends} {claims : Claims} {tally : Tally} {t x : T} → Runs {T = T} whole ends claims tally (Ok t) → Runs {T = T} whole ends claims tally (Ok x)
@@ -51,3 +54,33 @@ pub after_flush : {T : Type 0} {whole : List ℕ → Reading} {ends : Ends} {cla
     → OnOk s ((ends.write_failed' ≡ false) × (failed ≡ false)) → IfErr s (λ e. (e ≡ Write) × (failed ≡ true)) → Runs {T = T} whole (record ends { written' = u; write_failed' = failed }) claims tally s
 after_flush {T = T} {whole = whole} {ends = ends} {claims = claims} {tally = tally} u failed (Ok x) r kept good bad = Runs-answer (flushed u failed r kept (good.1 ∙ sym good.0))
 after_flush {T = T} {whole = whole} {ends = ends} {claims = claims} {tally = tally} u failed (Err e) r kept good bad = subst (λ k. Runs {T = T} whole (record ends { written' = u; write_failed' = failed }) claims tally (Err k)) (sym bad.0) (unflushed u failed r kept bad.1)
+
+-- ---- a run that reads fragments
+
+module _ {T : Type 0} {plan : Plan} {ends : Ends} {claims : Claims} {totals : Totals} {t : T} (u : Option (List ℕ)) (failed : Bool) (r : ReadsFragments {T = T} plan ends claims totals (Ok t)) (kept : Keeps ends.written' u) where
+  reads-flushed : (x : T) → failed ≡ ends.write_failed' → ReadsFragments {T = T} plan (record ends { written' = u; write_failed' = failed }) claims totals (Ok x)
+  unfolding Runs-answer flushed
+  reads-flushed x same = record {
+    walked = r.walked;
+    runs = Runs-answer (flushed u failed r.runs kept same);
+    all = r.all;
+    some = r.some;
+    few = r.few;
+    by_boxes = record { most = r.by_boxes.most; enough = λ moov moof within low e. absurd cc };
+  }
+
+  reads-unflushed : failed ≡ true → ReadsFragments {T = T} plan (record ends { written' = u; write_failed' = failed }) claims totals (Err Write)
+  unfolding unflushed
+  reads-unflushed is = record {
+    walked = r.walked;
+    runs = unflushed u failed r.runs kept is;
+    all = r.all;
+    some = r.some;
+    few = r.few;
+    by_boxes = record { most = r.by_boxes.most; enough = λ moov moof within low e. absurd cc };
+  }
+
+pub reads-after_flush : {T : Type 0} {plan : Plan} {ends : Ends} {claims : Claims} {totals : Totals} {t : T} (u : Option (List ℕ)) (failed : Bool) (s : Result T Stop) → ReadsFragments {T = T} plan ends claims totals (Ok t) → Keeps ends.written' u
+    → OnOk s ((ends.write_failed' ≡ false) × (failed ≡ false)) → IfErr s (λ e. (e ≡ Write) × (failed ≡ true)) → ReadsFragments {T = T} plan (record ends { written' = u; write_failed' = failed }) claims totals s
+reads-after_flush {T = T} {plan = plan} {ends = ends} {claims = claims} {totals = totals} u failed (Ok x) r kept good bad = reads-flushed u failed r kept x (good.1 ∙ sym good.0)
+reads-after_flush {T = T} {plan = plan} {ends = ends} {claims = claims} {totals = totals} u failed (Err e) r kept good bad = subst (λ k. ReadsFragments {T = T} plan (record ends { written' = u; write_failed' = failed }) claims totals (Err k)) (sym bad.0) (reads-unflushed u failed r kept bad.1)

@@ -11,8 +11,11 @@ use Rattle.mp4_items.specs.declared.command.Command.TheVariants as commands
 use Rattle.mp4_stream.specs.Boxes.{reading}
 use Rattle.mp4_stream.specs.Fragments.{ReadsFragments}
 use Rattle.mp4_stream.specs.declared.run.Totals.{Totals}
+use Rattle.mp4_pieces.specs.declared.cut.Cut.{Cut}
+use Rattle.mp4_recut.specs.declared.plan.Plan.TheVariants as plans
+use Rattle.fmp4_program.specs.declared.asked.SplitOptions.{SplitOptions}
 use Rattle.fmp4_program.specs.declared.asked.Invocation.{Invocation}
-use Rattle.fmp4_program.specs.declared.asked.Invocation.TheVariants.{Boxes, Samples, Check}
+use Rattle.fmp4_program.specs.declared.asked.Invocation.TheVariants.{Boxes, Samples, Check, Split}
 use Rattle.fmp4_program.specs.declared.asked.Settings.{Settings}
 use Rattle.fmp4_program.specs.Lines.{check_text, line, stop_text}
 
@@ -47,21 +50,35 @@ status_of (Err Write) = 3
 status_of (Err OverLimit) = 4
 status_of (Err Memory) = 4
 
--- a listing is written: a success is flushed, and the answer is that of the listing and the flush
-pub record Lists (settings : Settings) (seen : Seen) (listing : Claims → Result (Unit {0}) Stop → Type 0) : Type 0 where
+-- what a run brings is written: a success is flushed, and the answer is that of the run and the flush
+pub record Delivers (settings : Settings) (seen : Seen) (brings : Claims → Result (Unit {0}) Stop → Type 0) : Type 0 where
   pub answer : Result (Unit {0}) Stop
   pub peak : ℕ
-  pub runs : listing (record { copy = settings.copy; limit = settings.max_held; peak = peak }) answer
+  pub runs : brings (record { copy = settings.copy; limit = settings.max_held; peak = peak }) answer
   pub within : peak ≤ settings.max_held
   pub flushed : OnOk answer (seen.ends.write_failed' ≡ false)
   pub exits : seen.status ≡ status_of answer
   pub tells : TellsOf seen.told seen.told' seen.fault_failed answer
 
 abbrev pub ListsBoxes : Settings → Seen → Type 0
-ListsBoxes settings seen = Lists settings seen (λ claims answer. Runs (reading 0) seen.ends claims uncounted answer)
+ListsBoxes settings seen = Delivers settings seen (λ claims answer. Runs (reading 0) seen.ends claims uncounted answer)
 
 abbrev pub ListsSamples : Settings → Seen → Type 0
-ListsSamples settings seen = Lists settings seen (λ claims answer. (totals : Totals) × ReadsFragments commands.Samples seen.ends claims totals answer)
+ListsSamples settings seen = Delivers settings seen (λ claims answer. (totals : Totals) × ReadsFragments (plans.List commands.Samples) seen.ends claims totals answer)
+
+-- these are the options of a cut
+pub record IsCutBy (options : SplitOptions) (cut : Cut) : Type 0 where
+  pub samples : cut.samples ≡ options.samples
+  pub bytes : cut.bytes ≡ options.bytes
+  pub index : cut.index ≡ options.index
+  pub sync : cut.sync ≡ options.sync
+
+-- the fragments of the stream are cut so
+abbrev pub SplitsBy : SplitOptions → Ends → Claims → Result (Unit {0}) Stop → Type 0
+SplitsBy options ends claims answer = (cut : Cut) × IsCutBy options cut × ((totals : Totals) × ReadsFragments (plans.Split cut) ends claims totals answer)
+
+abbrev pub Splits : Settings → SplitOptions → Seen → Type 0
+Splits settings options seen = Delivers settings seen (λ claims answer. SplitsBy options seen.ends claims answer)
 
 -- behind a good stream its line is written and flushed; behind another nothing
 abbrev pub Writes : Ends → Result (Unit {0}) Stop → Result (Unit {0}) Stop → Totals → Type 0
@@ -74,7 +91,7 @@ pub record Checks (settings : Settings) (seen : Seen) : Type 0 where
   pub checked : Result (Unit {0}) Stop
   pub answer : Result (Unit {0}) Stop
   pub totals : Totals
-  pub runs : ReadsFragments commands.Check (record seen.ends { written = None; written' = None; write_failed = false; write_failed' = false }) (record { copy = settings.copy; limit = settings.max_held; peak = totals.peak }) totals checked
+  pub runs : ReadsFragments (plans.List commands.Check) (record seen.ends { written = None; written' = None; write_failed = false; write_failed' = false }) (record { copy = settings.copy; limit = settings.max_held; peak = totals.peak }) totals checked
   pub within : totals.peak ≤ settings.max_held
   pub writes : Writes seen.ends checked answer totals
   pub exits : seen.status ≡ status_of answer
@@ -84,6 +101,7 @@ abbrev pub Does : Invocation → Seen → Type 0
 Does (Boxes settings) seen = ListsBoxes settings seen
 Does (Samples settings) seen = ListsSamples settings seen
 Does (Check settings) seen = Checks settings seen
+Does (Split settings options) seen = Splits settings options seen
 
 -- ---- the program
 

@@ -1,14 +1,16 @@
 -- What a command line asks for.
-use Rattle.std.specs.Prelude.{◌≤◌, ◌==◌, ◌^◌, ℕ, List, Option, Some, None, codes, option_map, option_and_then, if◌then◌else◌, length}
+use Rattle.std.specs.Prelude.{◌≤◌, ◌==◌, ◌^◌, ℕ, Bool, false, List, Option, Some, None, codes, option_map, option_and_then, if◌then◌else◌, length}
 use Rattle.std.specs.Option.{option_map_or}
 use Rattle.std.specs.Str.{bytes_eq}
 use Rattle.std.specs.Str.Parse.{digits_value, without_leading_plus}
 use Rattle.clap.specs.ValueTests.{is_unsigned_in}
 use Rattle.clap.specs.Words.{App, Row, Rule, Text, fault_of, first_of, new_app, new_rule, subcommand_of, with_rule, with_subcommand}
-use Rattle.clap.specs.declared.builder.action.ArgAction.TheVariants.{Set}
+use Rattle.clap.specs.declared.builder.action.ArgAction.TheVariants.{Set, SetTrue}
+use Rattle.mp4_pieces.specs.Allowed as pieces
 use Rattle.fmp4_program.specs.declared.asked.Settings.{Settings}
+use Rattle.fmp4_program.specs.declared.asked.SplitOptions.{SplitOptions}
 use Rattle.fmp4_program.specs.declared.asked.Invocation.{Invocation}
-use Rattle.fmp4_program.specs.declared.asked.Invocation.TheVariants.{Boxes, Samples, Check}
+use Rattle.fmp4_program.specs.declared.asked.Invocation.TheVariants.{Boxes, Samples, Check, Split}
 
 -- ---- which commands and options there are
 
@@ -16,13 +18,21 @@ use Rattle.fmp4_program.specs.declared.asked.Invocation.TheVariants.{Boxes, Samp
 abbrev pub valued_rule : Text → Rule
 valued_rule name = record (new_rule name) { long = Some name; action = Some Set }
 
+-- a flag `--name`
+abbrev pub flag_rule : Text → Rule
+flag_rule name = record (new_rule name) { long = Some name; action = Some SetTrue }
+
 -- a command that takes the settings' options
 abbrev pub settings_app : Text → App
 settings_app name = with_rule (with_rule (new_app name) (valued_rule (codes "copy"))) (valued_rule (codes "max-held"))
 
+-- `split`, with its options
+abbrev pub split_app : App
+split_app = with_rule (with_rule (with_rule (with_rule (settings_app (codes "split")) (valued_rule (codes "samples"))) (valued_rule (codes "bytes"))) (flag_rule (codes "index"))) (flag_rule (codes "sync"))
+
 -- the whole command line; only a proof that computes it unfolds it
 unfoldable pub program_app : App
-program_app = with_subcommand (with_subcommand (with_subcommand (new_app (codes "fmp4")) (settings_app (codes "boxes")).top) (settings_app (codes "samples")).top) (settings_app (codes "check")).top
+program_app = with_subcommand (with_subcommand (with_subcommand (with_subcommand (new_app (codes "fmp4")) (settings_app (codes "boxes")).top) (settings_app (codes "samples")).top) (settings_app (codes "check")).top) split_app.top
 
 -- ---- numbers
 
@@ -34,6 +44,18 @@ number_in least most text =
 -- the number that is written after the option, or the usual one where the option is left out
 unfoldable pub number_or : ℕ → ℕ → ℕ → Text → List Row → Option ℕ
 number_or usual least most id rows = option_map_or (number_in least most) (first_of id rows) (Some usual)
+
+-- the number that is written after an option that may not be left out
+unfoldable pub needed_number : ℕ → ℕ → Text → List Row → Option ℕ
+needed_number least most id rows = option_and_then (number_in least most) (first_of id rows)
+
+-- the number that is written after an option, or that it is left out
+unfoldable pub number_if : ℕ → ℕ → Text → List Row → Option (Option ℕ)
+number_if least most id rows = option_map_or (λ text. option_map Some (number_in least most text)) (first_of id rows) (Some None)
+
+-- whether a flag is given
+unfoldable pub has_flag : Text → List Row → Bool
+has_flag id rows = option_map_or (λ text. bytes_eq text (codes "true")) (first_of id rows) false
 
 -- ---- what is asked for
 
@@ -49,19 +71,35 @@ unfoldable pub settings_of : List Row → Option Settings
 settings_of rows =
     option_and_then (λ copy. option_map (λ most. record { copy = copy; max_held = most }) (number_or 536870912 1 (2 ^ 62) (codes "max-held") rows)) (number_or 65536 4096 1048576 (codes "copy") rows)
 
+-- how `split` cuts, by its options
+unfoldable pub options_of : List Row → Option SplitOptions
+options_of rows =
+    option_and_then (λ samples. option_map (λ bytes. record { samples = samples; bytes = bytes; index = has_flag (codes "index") rows; sync = has_flag (codes "sync") rows }) (number_if 1 (2 ^ 62) (codes "bytes") rows))
+    (needed_number 1 1000000 (codes "samples") rows)
+
+-- `split`, with what its options give
+unfoldable pub split_of : List Row → Option Invocation
+split_of rows = option_and_then (λ settings. option_map (λ options. Split settings options) (options_of rows)) (settings_of rows)
+
 -- the command of that name, with what its options give
 unfoldable pub invocation_of : Text → List Row → Option Invocation
 invocation_of name rows =
     if bytes_eq name (codes "boxes") then option_map Boxes (settings_of rows)
     else if bytes_eq name (codes "samples") then option_map Samples (settings_of rows)
     else if bytes_eq name (codes "check") then option_map Check (settings_of rows)
+    else if bytes_eq name (codes "split") then split_of rows
     else None
 
--- the settings that came with a command
-abbrev pub carried_settings : Invocation → Settings
-carried_settings (Boxes settings) = settings
-carried_settings (Samples settings) = settings
-carried_settings (Check settings) = settings
+-- so do the numbers of `split`
+abbrev pub MayCut : SplitOptions → Type 0
+MayCut options = pieces.IsAllowed options.samples options.bytes
+
+-- what came with a command lies in its range
+abbrev pub IsInRange : Invocation → Type 0
+IsInRange (Boxes settings) = IsAllowed settings
+IsInRange (Samples settings) = IsAllowed settings
+IsInRange (Check settings) = IsAllowed settings
+IsInRange (Split settings options) = IsAllowed settings × MayCut options
 
 -- what the words ask for: nothing where they break a rule of the command line, or a number is out of its range
 unfoldable pub command_of : List Text → Option Invocation

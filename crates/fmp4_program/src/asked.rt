@@ -9,7 +9,20 @@ pub struct Settings {
     pub max_held: u64,
 }
 
-/// A command, with the numbers that came with it.
+/// How `split` cuts the fragments of a stream.
+#[derive(Clone, Copy, Debug, PartialEq, Eq)]
+pub struct SplitOptions {
+    /// The most samples that a fragment of the output may have.
+    pub samples: u32,
+    /// The most bytes of media that one of several samples may have, where that is asked for.
+    pub bytes: Option<u64>,
+    /// Whether an index stands before each group of fragments.
+    pub index: bool,
+    /// Whether a fragment ends before each sync sample.
+    pub sync: bool,
+}
+
+/// A command, with what came with it.
 #[derive(Clone, Copy, Debug, PartialEq, Eq)]
 pub enum Invocation {
     /// List the boxes of the stream.
@@ -18,4 +31,6 @@ pub enum Invocation {
     Samples(Settings),
     /// Check it, and count its fragments, samples and bytes of media.
     Check(Settings),
+    /// Cut its fragments into shorter ones.
+    Split(Settings, SplitOptions),
 }

@@ -2,9 +2,9 @@
 ghost use Rattle.std.specs.Prelude.{◌≡◌, ◌≤◌, ◌↔◌, false, option_and_then, option_map, Some, None, IfOk, IfErr, IfSome, codes, map, string_bytes};
 ghost use Rattle.clap.specs.Words.{app_of, first_of, found_of, kind_of, rows_of, rule_of, subcommand_rows_of};
 ghost use Rattle.clap.specs.declared.builder.command.Command.TheViews.{out-Command};
-ghost use Rattle.fmp4_program.specs.Words.{IsAllowed, carried_settings, command_of, invocation_of, number_in, number_or, program_app, settings_app, settings_of, valued_rule};
+ghost use Rattle.fmp4_program.specs.Words.{IsAllowed, IsInRange, MayCut, command_of, flag_rule, has_flag, invocation_of, needed_number, number_if, number_in, number_or, options_of, program_app, settings_app, settings_of, split_app, split_of, valued_rule};
 
-use crate::asked::{Invocation, Settings};
+use crate::asked::{Invocation, Settings, SplitOptions};
 use clap::error::ErrorKind;
 use clap::{Arg, ArgAction, ArgMatches, Command, Error};
 use std::alloc::{AllocError, Global};
@@ -61,9 +61,73 @@ fn settings_from(matches: &ArgMatches<'_>) -> Option<Settings>
     })
 }
 
+fn needed_number(matches: &ArgMatches<'_>, id: &str, least: u64, most: u64) -> Option<u64>
+    ensures value { result ≡ needed_number least most id.now (rows_of (found_of matches.now)) }
+    ensures low { IfSome result (λ number. least ≤ number) }
+    ensures high { IfSome result (λ number. number ≤ most) }
+{
+    match entered_text(matches, id) {
+        Some(entered) => number_in(entered, least, most),
+        None => None,
+    }
+}
+
+fn number_if(
+    matches: &ArgMatches<'_>,
+    id: &str,
+    least: u64,
+    most: u64,
+) -> Option<Option<u64>>
+    ensures value { result ≡ number_if least most id.now (rows_of (found_of matches.now)) }
+    ensures low { IfSome result (λ found. IfSome found (λ number. least ≤ number)) }
+    ensures high { IfSome result (λ found. IfSome found (λ number. number ≤ most)) }
+{
+    match entered_text(matches, id) {
+        Some(text) => match number_in(text, least, most) {
+            Some(number) => Some(Some(number)),
+            None => None,
+        },
+        None => Some(None),
+    }
+}
+
+fn has_flag(matches: &ArgMatches<'_>, id: &str) -> bool
+    ensures { result ≡ has_flag id.now (rows_of (found_of matches.now)) }
+{
+    match entered_text(matches, id) {
+        Some(text) => text == "true",
+        None => false,
+    }
+}
+
+fn options_from(matches: &ArgMatches<'_>) -> Option<SplitOptions>
+    ensures value { result ≡ options_of (rows_of (found_of matches.now)) }
+    ensures ranges { IfSome result MayCut }
+{
+    let samples = needed_number(matches, "samples", 1, 1_000_000)?;
+    let bytes = number_if(matches, "bytes", 1, 1 << 62)?;
+    let index = has_flag(matches, "index");
+    let sync = has_flag(matches, "sync");
+    Some(SplitOptions {
+        samples: samples as u32,
+        bytes,
+        index,
+        sync,
+    })
+}
+
+fn split_from(matches: &ArgMatches<'_>) -> Option<Invocation>
+    ensures value { result ≡ split_of (rows_of (found_of matches.now)) }
+    ensures ranges { IfSome result IsInRange }
+{
+    let settings = settings_from(matches)?;
+    let options = options_from(matches)?;
+    Some(Invocation::Split(settings, options))
+}
+
 fn invocation_from(name: &str, matches: &ArgMatches<'_>) -> Option<Invocation>
     ensures value { result ≡ invocation_of name.now (rows_of (found_of matches.now)) }
-    ensures ranges { IfSome result (λ asked. IsAllowed (carried_settings asked)) }
+    ensures ranges { IfSome result IsInRange }
 {
     if name == "boxes" {
         return Some(Invocation::Boxes(settings_from(matches)?));
@@ -74,13 +138,16 @@ fn invocation_from(name: &str, matches: &ArgMatches<'_>) -> Option<Invocation>
     if name == "check" {
         return Some(Invocation::Check(settings_from(matches)?));
     }
+    if name == "split" {
+        return split_from(matches);
+    }
     None
 }
 
 fn chosen_invocation(matches: &ArgMatches<'_>) -> Option<Invocation>
     ensures value { result ≡ option_and_then (λ entered. invocation_of entered.0 entered.1)
         (subcommand_rows_of matches.now) }
-    ensures ranges { IfSome result (λ asked. IsAllowed (carried_settings asked)) }
+    ensures ranges { IfSome result IsInRange }
 {
     match matches.subcommand() {
         Some(entered) => invocation_from(entered.0, entered.1),
@@ -95,6 +162,13 @@ fn valued_option<'a>(alloc: Global, name: &'a str) -> Arg<'a>
     Arg::new(alloc, name).long(name).action(ArgAction::Set)
 }
 
+fn flag<'a>(alloc: Global, name: &'a str) -> Arg<'a>
+    ensures rule { rule_of result ≡ flag_rule name.entry.now }
+    ensures local { result.global ≡ false }
+{
+    Arg::new(alloc, name).long(name).action(ArgAction::SetTrue)
+}
+
 fn settings_command<'a>(alloc: Global, name: &'a str) -> Result<Command<'a>, AllocError>
     ensures app { IfOk result (λ command. app_of command ≡ settings_app name.entry.now) }
     ensures local { IfOk result (λ command. (out-Command command).has_globals ≡ false) }
@@ -104,15 +178,28 @@ fn settings_command<'a>(alloc: Global, name: &'a str) -> Result<Command<'a>, All
         .arg(valued_option(alloc, "max-held"))
 }
 
+fn split_command<'a>(alloc: Global) -> Result<Command<'a>, AllocError>
+    ensures app { IfOk result (λ command. app_of command ≡ split_app) }
+    ensures local { IfOk result (λ command. (out-Command command).has_globals ≡ false) }
+{
+    let settings = settings_command(alloc, "split")?;
+    let samples = settings.arg(valued_option(alloc, "samples"))?;
+    let bytes = samples.arg(valued_option(alloc, "bytes"))?;
+    let index = bytes.arg(flag(alloc, "index"))?;
+    index.arg(flag(alloc, "sync"))
+}
+
 fn program_command<'a>(alloc: Global) -> Result<Command<'a>, AllocError>
     ensures { IfOk result (λ command. app_of command ≡ program_app) }
 {
     let boxes = settings_command(alloc, "boxes")?;
     let samples = settings_command(alloc, "samples")?;
     let check = settings_command(alloc, "check")?;
+    let split = split_command(alloc)?;
     let listing_boxes = Command::new(alloc, "fmp4").subcommand(boxes)?;
     let listing_samples = listing_boxes.subcommand(samples)?;
-    listing_samples.subcommand(check)
+    let checking = listing_samples.subcommand(check)?;
+    checking.subcommand(split)
 }
 
 fn no_command_by(error: &Error) -> NoCommand
@@ -127,7 +214,7 @@ fn no_command_by(error: &Error) -> NoCommand
 /// Reads what the words ask for. The first word is the name that the program was started by.
 pub fn read_words(alloc: Global, words: &[String]) -> Result<Invocation, NoCommand>
     ensures ok { IfOk result (λ asked. command_of (map string_bytes words.now) ≡ Some asked) }
-    ensures ranges { IfOk result (λ asked. IsAllowed (carried_settings asked)) }
+    ensures ranges { IfOk result IsInRange }
 
     // Nothing is said of the words where the memory ran out.
     ensures err { IfErr result (λ why. why ≡ NoCommand.BadWords → command_of

@@ -9,13 +9,14 @@ ghost use Rattle.mp4_ends.specs.Streams.{AppendsPrefix};
 ghost use Rattle.std.specs.Io.KnownBytes.{Appends, Keeps};
 ghost use Rattle.mp4_stream.specs.Boxes.{reading};
 ghost use Rattle.mp4_stream.specs.Fragments.{ReadsFragments, unsent};
-ghost use Rattle.fmp4_program.specs.Words.{command_of};
-ghost use Rattle.fmp4_program.specs.Runs.{Ran, Tells, TellsOf, Writes, status_of};
+ghost use Rattle.mp4_recut.specs.declared.plan.Plan.TheVariants as plans;
+ghost use Rattle.fmp4_program.specs.Words.{MayCut, command_of};
+ghost use Rattle.fmp4_program.specs.Runs.{IsCutBy, Ran, SplitsBy, Tells, TellsOf, Writes, status_of};
 
-use crate::asked::Invocation;
+use crate::asked::{Invocation, SplitOptions};
 use crate::command::{NoCommand, read_words};
 use crate::lines::{check_line, stop_line};
-use mp4_stream::{Ledger, Sink, Source, Stop, Totals, boxes, check, samples, write_all};
+use mp4_stream::{Cut, Ledger, Sink, Source, Stop, Totals, boxes, check, samples, split, write_all};
 use std::alloc::Global;
 
 /// Runs the command that the words name, the first of which is the program's name. Bytes are read from `r`,
@@ -63,6 +64,10 @@ pub fn run<R: Source, W: Sink, F: Sink>(
             let mut ledger = Ledger::new(alloc, settings.max_held);
             check_stream(r, w, &mut ledger, settings.copy)
         }
+        Invocation::Split(settings, options) => {
+            let mut ledger = Ledger::new(alloc, settings.max_held);
+            split_stream(r, w, &mut ledger, settings.copy, &options)
+        }
     };
     tell_answer(fault_w, &answer);
     status_for(&answer)
@@ -100,7 +105,7 @@ fn list_samples<R: Source, W: Sink>(
 ) -> Result<(), Stop>
     requires copy { (4096 ≤ copy) × (copy ≤ 1048576) }
     requires idle { ledger.old.live ≡ 0 }
-    ensures runs { (totals : Totals) × ReadsFragments commands.Samples (between
+    ensures runs { (totals : Totals) × ReadsFragments (plans.List commands.Samples) (between
         (received R.remaining R.has_ended R.has_failed r.old r.new)
         (sent W.contents W.has_failed w.old w.new))
         (record { copy = copy; limit = ledger.old.limit; peak = ledger.new.peak }) totals result }
@@ -123,7 +128,7 @@ fn check_stream<R: Source, W: Sink>(
     requires copy { (4096 ≤ copy) × (copy ≤ 1048576) }
     requires idle { ledger.old.live ≡ 0 }
     ensures checks { (checked : Result (Unit {0}) Stop) × (totals : Totals) ×
-        ReadsFragments commands.Check (between
+        ReadsFragments (plans.List commands.Check) (between
         (received R.remaining R.has_ended R.has_failed r.old r.new) unsent)
         (record { copy = copy; limit = ledger.old.limit; peak = totals.peak }) totals checked ×
         (totals.peak ≤ ledger.old.limit) × Writes (between
@@ -133,6 +138,47 @@ fn check_stream<R: Source, W: Sink>(
     let mut totals = Totals::new();
     match check(r, ledger, copy, &mut totals) {
         Ok(()) => send(w, check_line(&totals).bytes()),
+        Err(stop) => Err(stop),
+    }
+}
+
+/// The cut of these options.
+fn cut_by(options: &SplitOptions) -> Cut
+    requires { MayCut options.now }
+    ensures { IsCutBy options.now result }
+{
+    match Cut::new(options.samples, options.bytes, options.index) {
+        Some(cut) => {
+            if options.sync {
+                return cut.with_sync();
+            }
+            cut
+        }
+        None => unreachable!(),
+    }
+}
+
+/// Cuts the fragments of the stream into shorter ones, and flushes what was written.
+fn split_stream<R: Source, W: Sink>(
+    r: &mut R,
+    w: &mut W,
+    ledger: &mut Ledger,
+    copy: u32,
+    options: &SplitOptions,
+) -> Result<(), Stop>
+    requires copy { (4096 ≤ copy) × (copy ≤ 1048576) }
+    requires idle { ledger.old.live ≡ 0 }
+    requires options { MayCut options.now }
+    ensures runs { SplitsBy options.now (between
+        (received R.remaining R.has_ended R.has_failed r.old r.new)
+        (sent W.contents W.has_failed w.old w.new))
+        (record { copy = copy; limit = ledger.old.limit; peak = ledger.new.peak }) result }
+    ensures within { ledger.new.peak ≤ ledger.old.limit }
+    ensures flushed { OnOk result (W.has_failed w.new ≡ false) }
+{
+    let cut = cut_by(options);
+    match split(r, w, ledger, &cut, copy, &mut Totals::new()) {
+        Ok(()) => flush(w),
         Err(stop) => Err(stop),
     }
 }

@@ -31,7 +31,7 @@ pub told-both : {C : Type 0} (s t : Told) (f : Front C) → after_told s (after_
 told-both s t (Last r) = ap Last (after-both s t r)
 told-both s t (Whole told next rest) = ap (λ u. Whole u next rest) (sym (both-assoc s t told))
 
-either-none : (a b : Option Fault) → option_or a b ≡ None → (a ≡ None) × (b ≡ None)
+pub either-none : (a b : Option Fault) → option_or a b ≡ None → (a ≡ None) × (b ≡ None)
 either-none None b e = (refl, e)
 either-none (Some f) b e = absurd cc
 

@@ -10,3 +10,4 @@ pub mod WalkLemmas
 pub mod JoinLemmas
 pub mod RestLemmas
 pub mod SplitLemmas
+pub mod HeldSizeLemmas

@@ -7,3 +7,4 @@ pub mod Commands
 pub mod Counts
 pub mod Joined
 pub mod Rests
+pub mod HeldSizes

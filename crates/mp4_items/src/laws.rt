@@ -4,9 +4,10 @@ ghost use Rattle.std.specs.Prelude.{◌≡◌, ◌+◌, ◌*◌, ◌≤◌, ◌+
 ghost use Rattle.mp4_box.specs.Headers.{IsBytes};
 ghost use Rattle.mp4_reading.specs.Bodies.{longest};
 ghost use Rattle.mp4_reading.specs.Readings.{Ask, GrowsTo, Reading, after, most_of};
-ghost use Rattle.mp4_items.specs.Commands.{reading};
+ghost use Rattle.mp4_items.specs.Commands.{making, reading};
 ghost use Rattle.mp4_items.specs.Contexts.{Context, first_context};
 ghost use Rattle.mp4_items.specs.Counts.{WalksOn};
+ghost use Rattle.mp4_items.specs.HeldSizes.{HoldsWithin};
 ghost use Rattle.mp4_items.specs.Items.{reads_in};
 ghost use Rattle.mp4_items.specs.Joined.{AreSound, Item, behind_items, joined, told_items};
 ghost use Rattle.mp4_items.specs.Kinds.{most_moof, most_moov};
@@ -60,6 +61,15 @@ pub fn lines_before()
 pub fn asks_bound()
     ensures { (command : Command) (b : List ℕ) → IsBytes b →
         most_of (reading command b).told ≤ most_moov + 5 * most_moof }
+{}
+
+/// No stream asks for more than twice the bytes of its largest moov and five times those of its largest moof: the table of the
+/// tracks takes no more than the moov, and a list of runs no more than four times its moof. These are boxes that are asked for:
+/// whole items that break no rule stand before, and their header is good and states no more than they may have.
+pub fn asks_within()
+    ensures { (command : Command) (b : List ℕ) (moov moof : ℕ) → IsBytes b →
+        HoldsWithin (making command) first_context b moov moof →
+        most_of (reading command b).told ≤ 2 * moov + 5 * moof }
 {}
 
 /// All samples that are counted were looked at.

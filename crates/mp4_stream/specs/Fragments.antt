@@ -1,20 +1,29 @@
 -- What a run brings that reads fragments.
-use Rattle.std.specs.Prelude.{ℕ, ◌+◌, ◌*◌, ◌≤◌, None, false, Result}
+use Rattle.std.specs.Prelude.{ℕ, ◌+◌, ◌*◌, ◌≤◌, List, None, false, Result, IsErrOf}
 use Rattle.mp4_feed.specs.States.{listed_by, reads_of}
-use Rattle.mp4_items.specs.Commands.{reading}
-use Rattle.mp4_items.specs.declared.command.Command.{Command}
+use Rattle.mp4_items.specs.Contexts.{first_context}
+use Rattle.mp4_items.specs.HeldSizes.{HoldsWithin}
 use Rattle.mp4_reading.specs.Ends.{Ends, Sent}
 use Rattle.mp4_reading.specs.Runs.{Claims, Runs}
 use Rattle.mp4_reading.specs.declared.stop.Stop.{Stop}
+use Rattle.mp4_reading.specs.declared.stop.Stop.TheVariants.{OverLimit}
+use Rattle.mp4_recut.specs.Plans as plans
+use Rattle.mp4_recut.specs.declared.plan.Plan.{Plan}
 use Rattle.mp4_stream.specs.declared.run.Totals.{Totals}
 
--- by the reading of a command, with its totals: the samples that are counted are among those of moofs that were looked at; each of these was read once, and a counted one once more, and again where it is listed; none was read more than three times, or four where they are listed
-pub record ReadsFragments {T : Type 0} (command : Command) (ends : Ends) (claims : Claims) (totals : Totals) (result : Result T Stop) : Type 0 where
+-- where each moov that the bytes hold has at most so many bytes, and each moof: beside the bytes to read into no more is claimed than twice the one and five times the other, and a limit that allows so much is never passed
+pub record ClaimsByBoxes {T : Type 0} (plan : Plan) (bytes : List ℕ) (claims : Claims) (result : Result T Stop) : Type 0 where
+  pub most : (moov moof : ℕ) → HoldsWithin (plans.making_of plan) first_context bytes moov moof → claims.peak ≤ claims.copy + (2 * moov + 5 * moof)
+  pub enough : (moov moof : ℕ) → HoldsWithin (plans.making_of plan) first_context bytes moov moof → claims.copy + (2 * moov + 5 * moof) ≤ claims.limit → IsErrOf result OverLimit → ⊥
+
+-- by the reading of a plan, with its totals: the samples that are counted are among those of moofs that were looked at; each of these was read once, and a counted one once more, and again where it is listed or its pieces are counted; none was read more often than the plan says
+pub record ReadsFragments {T : Type 0} (plan : Plan) (ends : Ends) (claims : Claims) (totals : Totals) (result : Result T Stop) : Type 0 where
   pub walked : ℕ
-  pub runs : Runs (reading command) ends claims (record { fragments = totals.fragments; samples = totals.samples; media_bytes = totals.media_bytes; walked = walked }) result
+  pub runs : Runs (plans.reads_of plan) ends claims (record { fragments = totals.fragments; samples = totals.samples; media_bytes = totals.media_bytes; walked = walked }) result
   pub all : totals.samples ≤ walked
-  pub some : walked + totals.samples + listed_by command totals.samples ≤ totals.rows_read
-  pub few : totals.rows_read ≤ reads_of command * walked
+  pub some : walked + totals.samples + listed_by plan totals.samples ≤ totals.rows_read
+  pub few : totals.rows_read ≤ reads_of plan * walked
+  pub by_boxes : ClaimsByBoxes plan runs.bytes claims result
 
 -- nothing is written
 abbrev pub unsent : Sent

@@ -4,15 +4,18 @@ ghost use Rattle.std.specs.Prelude.{◌≡◌, ◌+◌, ◌*◌, ◌<◌, ◌≤
 ghost use Rattle.mp4_items.specs.Kinds.{most_moof, most_moov};
 ghost use Rattle.mp4_items.specs.declared.command.Command.TheVariants.{Check, Samples};
 ghost use Rattle.mp4_reading.specs.Ends.{between, received, sent};
+ghost use Rattle.mp4_recut.specs.declared.plan.Plan.TheVariants as plans;
 ghost use Rattle.mp4_stream.specs.Fragments.{ReadsFragments, unsent};
 
 use crate::run::Totals;
 use crate::silent::Silent;
+use mp4_cut::Cut;
 use mp4_ends::{Sink, Source};
 use mp4_feed::FragmentMachine;
 use mp4_items::Command;
 use mp4_ledger::Ledger;
 use mp4_reading::{Stop, read_stream};
+use mp4_recut::Plan;
 
 /// Lists the samples of a fragmented stream, however its reads cut it: a line for each, fragment by fragment, the runs of a
 /// fragment in the order in which their media stand. The lines of a fragment are written once the header of its mdat is
@@ -32,7 +35,7 @@ pub fn samples<R: Source, W: Sink>(
 ) -> Result<(), Stop>
     requires copy { (4096 ≤ copy) × (copy ≤ 1048576) }
     requires idle { ledger.old.live ≡ 0 }
-    ensures runs { ReadsFragments Samples (between
+    ensures runs { ReadsFragments (plans.List Samples) (between
         (received R.remaining R.has_ended R.has_failed r.old r.new)
         (sent W.contents W.has_failed w.old w.new))
         (record { copy = copy; limit = ledger.old.limit; peak = ledger.new.peak })
@@ -44,7 +47,7 @@ pub fn samples<R: Source, W: Sink>(
     ensures enough { copy + (most_moov + 5 * most_moof) ≤ ledger.old.limit →
         IsErrOf result Stop.OverLimit → ⊥ }
 {
-    run_fragments(Command::Samples, r, w, ledger, copy, totals)
+    run_fragments(Plan::List(Command::Samples), r, w, ledger, copy, totals)
 }
 
 /// Checks a fragmented stream, and counts its fragments, samples and bytes of media.
@@ -60,7 +63,7 @@ pub fn check<R: Source>(
 ) -> Result<(), Stop>
     requires copy { (4096 ≤ copy) × (copy ≤ 1048576) }
     requires idle { ledger.old.live ≡ 0 }
-    ensures runs { ReadsFragments Check (between
+    ensures runs { ReadsFragments (plans.List Check) (between
         (received R.remaining R.has_ended R.has_failed r.old r.new) unsent)
         (record { copy = copy; limit = ledger.old.limit; peak = ledger.new.peak })
         totals.new result }
@@ -71,21 +74,29 @@ pub fn check<R: Source>(
     ensures enough { copy + (most_moov + 5 * most_moof) ≤ ledger.old.limit →
         IsErrOf result Stop.OverLimit → ⊥ }
 {
-    run_fragments(Command::Check, r, &mut Silent, ledger, copy, totals)
+    run_fragments(Plan::List(Command::Check), r, &mut Silent, ledger, copy, totals)
 }
 
-/// Reads the fragments of a stream for a command.
-fn run_fragments<R: Source, W: Sink>(
-    command: Command,
+/// Cuts the fragments of a fragmented stream into shorter ones, however its reads cut it: each run into pieces, each of which
+/// becomes a moof with an mdat, numbered from 1 on. Its moov and other boxes are written as they are, but for indexes, which
+/// are left out. No byte of media is changed, and none is kept back: a fragment is written, once the header of its mdat is
+/// accepted, up to the first byte of media that hasn't come. `copy` bytes are claimed to read into.
+///
+/// # Errors
+///
+/// As [`samples`], with what the stream before is cut into written; `IndexRange` and `SequenceEnd` too, where what would have
+/// to be written has no room in its fields.
+pub fn split<R: Source, W: Sink>(
     r: &mut R,
     w: &mut W,
     ledger: &mut Ledger,
+    cut: &Cut,
     copy: u32,
     totals: &mut Totals,
 ) -> Result<(), Stop>
     requires copy { (4096 ≤ copy) × (copy ≤ 1048576) }
     requires idle { ledger.old.live ≡ 0 }
-    ensures runs { ReadsFragments command (between
+    ensures runs { ReadsFragments (plans.Split cut.now) (between
         (received R.remaining R.has_ended R.has_failed r.old r.new)
         (sent W.contents W.has_failed w.old w.new))
         (record { copy = copy; limit = ledger.old.limit; peak = ledger.new.peak })
@@ -97,7 +108,33 @@ fn run_fragments<R: Source, W: Sink>(
     ensures enough { copy + (most_moov + 5 * most_moof) ≤ ledger.old.limit →
         IsErrOf result Stop.OverLimit → ⊥ }
 {
-    let mut machine = FragmentMachine::new(command);
+    run_fragments(Plan::Split(*cut), r, w, ledger, copy, totals)
+}
+
+/// Reads the fragments of a stream by a plan.
+fn run_fragments<R: Source, W: Sink>(
+    plan: Plan,
+    r: &mut R,
+    w: &mut W,
+    ledger: &mut Ledger,
+    copy: u32,
+    totals: &mut Totals,
+) -> Result<(), Stop>
+    requires copy { (4096 ≤ copy) × (copy ≤ 1048576) }
+    requires idle { ledger.old.live ≡ 0 }
+    ensures runs { ReadsFragments plan (between
+        (received R.remaining R.has_ended R.has_failed r.old r.new)
+        (sent W.contents W.has_failed w.old w.new))
+        (record { copy = copy; limit = ledger.old.limit; peak = ledger.new.peak })
+        totals.new result }
+    ensures within { ledger.new.peak ≤ ledger.old.limit }
+    ensures back { (ledger.new.live ≡ 0) × (ledger.new.limit ≡ ledger.old.limit) }
+    ensures peak { totals.new.peak ≡ ledger.new.peak }
+    ensures bound { ledger.new.peak ≤ copy + (most_moov + 5 * most_moof) }
+    ensures enough { copy + (most_moov + 5 * most_moof) ≤ ledger.old.limit →
+        IsErrOf result Stop.OverLimit → ⊥ }
+{
+    let mut machine = FragmentMachine::new(plan);
     let answer = read_stream(r, w, ledger, copy, &mut machine);
     let tally = machine.tally();
     let rows_read = machine.rows_read();

@@ -1,7 +1,7 @@
-//! Runs over a stream: its boxes, its samples, and whether it breaks a rule.
+//! Runs over a stream: its boxes, its samples, whether it breaks a rule, and its fragments cut into shorter ones.
 //!
 //! - [`run`]: [`boxes`], which lists the boxes of a stream, and [`Totals`];
-//! - [`fragments`]: [`samples`] and [`check`], which read its fragments by the machine of `mp4_feed`;
+//! - [`fragments`]: [`samples`], [`check`] and [`split`], which read its fragments by the machine of `mp4_feed`;
 //! - [`machine`]: what is fed the stream piece by piece, [`intake`]: how it takes headers and boxes that are held, and
 //!   [`phase`]: where it is in the stream;
 //! - [`held`]: a moov or moof in claimed memory, and [`listing`]: the line of a box, and those of a tree of boxes;
@@ -24,8 +24,9 @@ mod phase;
 pub mod run;
 mod silent;
 
-pub use fragments::{check, samples};
+pub use fragments::{check, samples, split};
 pub use mp4_box::{Fault, FourCc, Rule, vectors};
+pub use mp4_cut::Cut;
 pub use mp4_ends::{Failed, FromRead, IntoWrite, Sink, Source, ends, write_all};
 pub use mp4_ledger::Ledger;
 pub use mp4_reading::Stop;

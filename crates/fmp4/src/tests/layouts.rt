@@ -6,9 +6,9 @@ use mp4_stream::vectors::{V1, V2, V3};
 use std::test::Fail;
 
 /// The first vector's mfhd, and the tfhd of its traf.
-const MFHD: &[u8] = b"\0\0\0\x10mfhd\0\0\0\0\0\0\0\x01";
+pub(super) const MFHD: &[u8] = b"\0\0\0\x10mfhd\0\0\0\0\0\0\0\x01";
 
-const TFHD: &[u8] = b"\0\0\0\x10tfhd\0\x02\0\0\0\0\0\x01";
+pub(super) const TFHD: &[u8] = b"\0\0\0\x10tfhd\0\x02\0\0\0\0\0\x01";
 
 #[test]
 fn headers_and_boxes_around(rt: HostRuntime) -> Result<(), Fail> {

@@ -45,10 +45,20 @@ returns-then-eq-3-clause-value c =
     let is_check : bytes_eq c.args.name.now (codes "check") ≡ true = search rules in
     rw (not_boxes, not_samples, is_check, ← c.in_ok-settings_from-3.ensures.value) refl
 
+pub returns-then-eq-4-clause-value : goal.returns-then-eq-4-clause-value
+unfolding invocation_of
+returns-then-eq-4-clause-value c =
+    let not_boxes : bytes_eq c.args.name.now (codes "boxes") ≡ false = search rules in
+    let not_samples : bytes_eq c.args.name.now (codes "samples") ≡ false = search rules in
+    let not_check : bytes_eq c.args.name.now (codes "check") ≡ false = search rules in
+    let is_split : bytes_eq c.args.name.now (codes "split") ≡ true = search rules in
+    rw (not_boxes, not_samples, not_check, is_split) c.split_from.ensures.value
+
 pub returns-clause-value : goal.returns-clause-value
 unfolding invocation_of
 returns-clause-value c =
     let not_boxes : bytes_eq c.args.name.now (codes "boxes") ≡ false = search rules in
     let not_samples : bytes_eq c.args.name.now (codes "samples") ≡ false = search rules in
     let not_check : bytes_eq c.args.name.now (codes "check") ≡ false = search rules in
-    rw (not_boxes, not_samples, not_check) refl
+    let not_split : bytes_eq c.args.name.now (codes "split") ≡ false = search rules in
+    rw (not_boxes, not_samples, not_check, not_split) refl

@@ -1,6 +1,6 @@
 use Rattle.std.proofs.Common.{refl}
 use Rattle.clap.proofs.OnLiterals.{clap_on_literals}
-use Rattle.fmp4_program.specs.Words.{command_of, invocation_of, number_in, number_or, program_app, settings_of}
+use Rattle.fmp4_program.specs.Words.{command_of, has_flag, invocation_of, needed_number, number_if, number_in, number_or, options_of, program_app, settings_of, split_of}
 use Rattle.fmp4_program.proofs.laws.worked_words.Goals as goal
 
 pub returns-clause-usual_copy : goal.returns-clause-usual_copy
@@ -74,3 +74,71 @@ returns-clause-sync c = refl
 pub returns-clause-index : goal.returns-clause-index
 unfolding clap_on_literals program_app command_of invocation_of settings_of number_or number_in
 returns-clause-index c = refl
+
+pub returns-clause-split : goal.returns-clause-split
+unfolding clap_on_literals program_app command_of invocation_of split_of options_of settings_of number_or needed_number number_if has_flag number_in
+returns-clause-split c = refl
+
+pub returns-clause-split_index : goal.returns-clause-split_index
+unfolding clap_on_literals program_app command_of invocation_of split_of options_of settings_of number_or needed_number number_if has_flag number_in
+returns-clause-split_index c = refl
+
+pub returns-clause-split_sync : goal.returns-clause-split_sync
+unfolding clap_on_literals program_app command_of invocation_of split_of options_of settings_of number_or needed_number number_if has_flag number_in
+returns-clause-split_sync c = refl
+
+pub returns-clause-split_all : goal.returns-clause-split_all
+unfolding clap_on_literals program_app command_of invocation_of split_of options_of settings_of number_or needed_number number_if has_flag number_in
+returns-clause-split_all c = refl
+
+pub returns-clause-split_least : goal.returns-clause-split_least
+unfolding clap_on_literals program_app command_of invocation_of split_of options_of settings_of number_or needed_number number_if has_flag number_in
+returns-clause-split_least c = refl
+
+pub returns-clause-split_most : goal.returns-clause-split_most
+unfolding clap_on_literals program_app command_of invocation_of split_of options_of settings_of number_or needed_number number_if has_flag number_in
+returns-clause-split_most c = refl
+
+pub returns-clause-split_without_samples : goal.returns-clause-split_without_samples
+unfolding clap_on_literals program_app command_of invocation_of split_of options_of settings_of number_or needed_number number_if has_flag number_in
+returns-clause-split_without_samples c = refl
+
+pub returns-clause-split_without_number : goal.returns-clause-split_without_number
+unfolding clap_on_literals program_app command_of invocation_of split_of options_of settings_of number_or needed_number number_if has_flag number_in
+returns-clause-split_without_number c = refl
+
+pub returns-clause-split_no_samples : goal.returns-clause-split_no_samples
+unfolding clap_on_literals program_app command_of invocation_of split_of options_of settings_of number_or needed_number number_if has_flag number_in
+returns-clause-split_no_samples c = refl
+
+pub returns-clause-split_too_many_samples : goal.returns-clause-split_too_many_samples
+unfolding clap_on_literals program_app command_of invocation_of split_of options_of settings_of number_or needed_number number_if has_flag number_in
+returns-clause-split_too_many_samples c = refl
+
+pub returns-clause-split_no_bytes : goal.returns-clause-split_no_bytes
+unfolding clap_on_literals program_app command_of invocation_of split_of options_of settings_of number_or needed_number number_if has_flag number_in
+returns-clause-split_no_bytes c = refl
+
+pub returns-clause-split_too_many_bytes : goal.returns-clause-split_too_many_bytes
+unfolding clap_on_literals program_app command_of invocation_of split_of options_of settings_of number_or needed_number number_if has_flag number_in
+returns-clause-split_too_many_bytes c = refl
+
+pub returns-clause-split_samples_again : goal.returns-clause-split_samples_again
+unfolding clap_on_literals program_app command_of invocation_of split_of options_of settings_of number_or needed_number number_if has_flag number_in
+returns-clause-split_samples_again c = refl
+
+pub returns-clause-split_index_again : goal.returns-clause-split_index_again
+unfolding clap_on_literals program_app command_of invocation_of split_of options_of settings_of number_or needed_number number_if has_flag number_in
+returns-clause-split_index_again c = refl
+
+pub returns-clause-split_copy_too_small : goal.returns-clause-split_copy_too_small
+unfolding clap_on_literals program_app command_of invocation_of split_of options_of settings_of number_or needed_number number_if has_flag number_in
+returns-clause-split_copy_too_small c = refl
+
+pub returns-clause-split_held_too_small : goal.returns-clause-split_held_too_small
+unfolding clap_on_literals program_app command_of invocation_of split_of options_of settings_of number_or needed_number number_if has_flag number_in
+returns-clause-split_held_too_small c = refl
+
+pub returns-clause-bytes_of_samples : goal.returns-clause-bytes_of_samples
+unfolding clap_on_literals program_app command_of invocation_of split_of options_of settings_of number_or needed_number number_if has_flag number_in
+returns-clause-bytes_of_samples c = refl

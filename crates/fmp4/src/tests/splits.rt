@@ -1,0 +1,504 @@
+//! Fragments that are cut into shorter ones. What must be written is laid out by hand.
+
+ghost use Rattle.std.specs.Prelude.{◌≤◌};
+
+use super::layouts::{MFHD, TFHD};
+use super::{Given, check_bytes, check_run, check_words, joined};
+use mp4_stream::vectors::{V1, V2, V3};
+use std::alloc::{AllocError, Global};
+use std::process::Abort;
+use std::test::Fail;
+
+/// The flags of a sample that is a sync sample, and of one that isn't.
+const SYNC: u32 = 0x0200_0000;
+
+const OTHER: u32 = 0x0101_0000;
+
+/// A fragment that must be written: its number, its track, its decode time, how long its samples are, the size and the flags
+/// of each, and their bytes.
+#[derive(Clone, Copy)]
+struct Wanted<'a> {
+    number: u32,
+    track: u32,
+    time: u64,
+    duration: u32,
+    rows: &'a [[u32; 2]],
+    media: &'a [u8],
+}
+
+/// One of the first track, whose samples are 1024 ticks long.
+fn piece_at<'a>(number: u32, time: u64, rows: &'a [[u32; 2]], media: &'a [u8]) -> Wanted<'a> {
+    Wanted {
+        number,
+        track: 1,
+        time,
+        duration: 1024,
+        rows,
+        media,
+    }
+}
+
+/// The same, whose samples last as long as a field can say.
+fn lasting<'a>(short: Wanted<'a>) -> Wanted<'a> {
+    Wanted {
+        duration: 0xffff_ffff,
+        ..short
+    }
+}
+
+/// Its bytes, behind those.
+fn push_fragment(all: &mut Vec<u8>, wanted: &Wanted<'_>) -> Result<(), AllocError> {
+    let count = u32::try_from(wanted.rows.len()).unwrap_or(0);
+    let table = count.saturating_mul(16);
+    let bytes = u32::try_from(wanted.media.len()).unwrap_or(0);
+    push_numbers(all, &[table.saturating_add(92)])?;
+    all.extend_from_slice(b"moof\0\0\0\x10mfhd\0\0\0\0")?;
+    push_numbers(all, &[wanted.number, table.saturating_add(68)])?;
+    all.extend_from_slice(b"traf\0\0\0\x14tfhd\0\x02\0\x02")?;
+    push_numbers(all, &[wanted.track, 1, 20])?;
+    all.extend_from_slice(b"tfdt\x01\0\0\0")?;
+    all.extend_from_slice(&wanted.time.to_be_bytes())?;
+    push_numbers(all, &[table.saturating_add(20)])?;
+    all.extend_from_slice(b"trun\0\0\x0f\x01")?;
+    push_numbers(all, &[count, table.saturating_add(100)])?;
+    for row in wanted.rows {
+        let fields = [wanted.duration, row[0], row[1], 0];
+        push_numbers(all, &fields)?;
+    }
+    push_numbers(all, &[bytes.saturating_add(8)])?;
+    all.extend_from_slice(b"mdat")?;
+    all.extend_from_slice(wanted.media)
+}
+
+fn push_numbers(all: &mut Vec<u8>, numbers: &[u32]) -> Result<(), AllocError> {
+    for number in numbers {
+        all.extend_from_slice(&number.to_be_bytes())?;
+    }
+    Ok(())
+}
+
+/// These bytes, and behind them the fragments.
+fn recut(
+    alloc: Global,
+    front: &[&[u8]],
+    fragments: &[Wanted<'_>],
+) -> Result<Vec<u8>, AllocError> {
+    let mut all = joined(alloc, front)?;
+    for fragment in fragments {
+        push_fragment(&mut all, fragment)?;
+    }
+    Ok(all)
+}
+
+/// A run of `split` with these options on this stream: its status, what must be written, and the line of its fault.
+#[derive(Clone, Copy)]
+struct Case<'a> {
+    options: &'a [&'a str],
+    parts: &'a [&'a [u8]],
+    status: u8,
+    written: &'a [u8],
+    fault: &'a str,
+}
+
+fn check_cases(rt: &impl Abort, alloc: Global, cases: &[Case<'_>]) -> Result<(), Fail> {
+    for case in cases {
+        let mut words = Vec::new(alloc);
+        words.extend_from_slice(&["fmp4", "split"])?;
+        words.extend_from_slice(case.options)?;
+        check_bytes(
+            rt,
+            alloc,
+            &words,
+            case.parts,
+            case.status,
+            case.written,
+            case.fault,
+        )?;
+    }
+    Ok(())
+}
+
+/// A success.
+fn good<'a>(options: &'a [&'a str], parts: &'a [&'a [u8]], written: &'a [u8]) -> Case<'a> {
+    Case {
+        options,
+        parts,
+        status: 0,
+        written,
+        fault: "",
+    }
+}
+
+/// A stream at fault, by two samples a fragment.
+fn bad<'a>(parts: &'a [&'a [u8]], written: &'a [u8], fault: &'a str) -> Case<'a> {
+    Case {
+        options: &["--samples", "2"],
+        parts,
+        status: 2,
+        written,
+        fault,
+    }
+}
+
+/// The first vector by two samples a fragment.
+fn by_two(alloc: Global) -> Result<Vec<u8>, AllocError> {
+    let v1 = V1.as_slice();
+    let fragments = [
+        piece_at(1, 0, &[[5, SYNC], [7, SYNC]], &v1[468..480]),
+        piece_at(2, 2048, &[[3, SYNC]], &v1[480..]),
+    ];
+    recut(alloc, &[&v1[..364]], &fragments)
+}
+
+/// And by one.
+fn by_one(alloc: Global) -> Result<Vec<u8>, AllocError> {
+    let v1 = V1.as_slice();
+    let fragments = [
+        piece_at(1, 0, &[[5, SYNC]], &v1[468..473]),
+        piece_at(2, 1024, &[[7, SYNC]], &v1[473..480]),
+        piece_at(3, 2048, &[[3, SYNC]], &v1[480..]),
+    ];
+    recut(alloc, &[&v1[..364]], &fragments)
+}
+
+#[test]
+fn pieces(rt: HostRuntime) -> Result<(), Fail> {
+    let (alloc, v1) = (rt.alloc(), V1.as_slice());
+    let (two, one) = (by_two(alloc)?, by_one(alloc)?);
+    let behind = [
+        piece_at(1, 0, &[[5, SYNC]], &v1[468..473]),
+        piece_at(2, 1024, &[[7, SYNC], [3, SYNC]], &v1[473..]),
+    ];
+    let behind = recut(alloc, &[&v1[..364]], &behind)?;
+    let (v1, again) = ([v1], [two.as_slice()]);
+    let cases = [
+        good(&["--samples", "2"], &v1, &two),
+        good(&["--samples", "9", "--bytes", "12"], &v1, &two),
+        good(&["--samples", "9", "--bytes", "10"], &v1, &behind),
+        good(&["--samples", "9", "--bytes", "9"], &v1, &one),
+        // A sample with more bytes stands alone.
+        good(&["--samples", "9", "--bytes", "4"], &v1, &one),
+        good(&["--samples", "9", "--sync"], &v1, &one),
+        good(&["--samples", "2"], &again, &two),
+    ];
+    check_cases(&rt, alloc, &cases)
+}
+
+#[test]
+fn indexes(rt: HostRuntime) -> Result<(), Fail> {
+    let (alloc, v1, v2) = (rt.alloc(), V1.as_slice(), V2.as_slice());
+    let two = by_two(alloc)?;
+    // Two references, of 144 bytes and 119.
+    let sidx = b"\0\0\0\x40sidx\x01\0\0\0\0\0\0\x01\0\0\xbb\x80\0\0\0\0\0\0\0\0\0\0\0\0\0\0\0\0\0\0\0\x02\
+        \0\0\0\x90\0\0\x08\0\0\0\0\0\0\0\0\x77\0\0\x04\0\0\0\0\0"
+        .as_slice();
+    let indexed = joined(alloc, &[&v1[..364], sidx, &two[364.min(two.len())..]])?;
+    // One of 140 bytes stands before the fragment of the second track.
+    let second = b"\0\0\0\x34sidx\x01\0\0\0\0\0\0\x02\0\0\xbb\x80\0\0\0\0\0\0\0\0\0\0\0\0\0\0\0\0\0\0\0\x01\
+        \0\0\0\x8c\0\0\x08\0\0\0\0\0"
+        .as_slice();
+    let first = [
+        piece_at(1, 0, &[[5, SYNC], [7, SYNC]], &v2[756..768]),
+        piece_at(2, 2048, &[[3, SYNC]], &v2[768..771]),
+    ];
+    let mut tracks = recut(alloc, &[&v2[..584], sidx], &first)?;
+    tracks.extend_from_slice(second)?;
+    let last = Wanted {
+        track: 2,
+        ..piece_at(3, 0, &[[4, SYNC], [4, SYNC]], &v2[771..])
+    };
+    push_fragment(&mut tracks, &last)?;
+    let (v1, v2, again) = ([v1], [v2], [indexed.as_slice()]);
+    let cases = [
+        good(&["--samples", "2", "--index"], &v1, &indexed),
+        good(&["--samples", "2", "--index"], &v2, &tracks),
+        good(&["--samples", "2"], &again, &two),
+    ];
+    check_cases(&rt, alloc, &cases)?;
+    let counts = "fragments=2 samples=3 media=15 held=65944\n";
+    check_words(&rt, alloc, &["fmp4", "check"], &again, 0, &[counts], "")
+}
+
+#[test]
+fn fields_of_an_index(rt: HostRuntime) -> Result<(), Fail> {
+    let (alloc, v1) = (rt.alloc(), V1.as_slice());
+    let front = [&v1[..352], b"\xff\xff\xff\xff".as_slice(), &v1[356..364]];
+    let sidx = b"\0\0\0\x4csidx\x01\0\0\0\0\0\0\x01\0\0\xbb\x80\0\0\0\0\0\0\0\0\0\0\0\0\0\0\0\0\0\0\0\x03\
+        \0\0\0\x79\xff\xff\xff\xff\0\0\0\0\0\0\0\x7b\xff\xff\xff\xff\0\0\0\0\
+        \0\0\0\x77\xff\xff\xff\xff\0\0\0\0"
+        .as_slice();
+    let fragments = [
+        lasting(piece_at(1, 0, &[[5, SYNC]], &v1[468..473])),
+        lasting(piece_at(2, 0xffff_ffff, &[[7, SYNC]], &v1[473..480])),
+        lasting(piece_at(3, 0x1_ffff_fffe, &[[3, SYNC]], &v1[480..])),
+    ];
+    let written = joined(alloc, &front)?;
+    let indexed = recut(alloc, &[&written, sidx], &fragments)?;
+    let slow = [&v1[..352], b"\xff\xff\xff\xff".as_slice(), &v1[356..]];
+    // The first sample is shown before time 0.
+    let early = [
+        &v1[..364],
+        b"\0\0\0\x6cmoof".as_slice(),
+        MFHD,
+        b"\0\0\0\x54traf",
+        TFHD,
+        &v1[412..428],
+        b"\0\0\0\x2ctrun\x01\0\x0a\x01\0\0\0\x03\0\0\0\x74",
+        b"\0\0\0\x05\xff\xff\xfe\0\0\0\0\x07\0\0\0\0\0\0\0\x03\0\0\0\0",
+        &v1[460..],
+    ];
+    let fault = "fmp4: 23 IndexRange in trun at 428\n";
+    let two = ["--samples", "2", "--index"];
+    let cases = [
+        good(&["--samples", "1", "--index"], &slow, &indexed),
+        Case {
+            options: &two,
+            ..bad(&slow, &written, fault)
+        },
+        Case {
+            options: &two,
+            ..bad(&early, &v1[..364], fault)
+        },
+    ];
+    check_cases(&rt, alloc, &cases)
+}
+
+#[test]
+fn boxes_around_fragments(rt: HostRuntime) -> Result<(), Fail> {
+    let (alloc, v1) = (rt.alloc(), V1.as_slice());
+    let two = by_two(alloc)?;
+    let fragments = &two[364.min(two.len())..];
+    let to_end = [&v1[..460], b"\0\0\0\0mdat".as_slice(), &v1[468..]];
+    let long = [
+        &v1[..444],
+        b"\0\0\0\x70".as_slice(),
+        &v1[448..460],
+        b"\0\0\0\x01mdat\0\0\0\0\0\0\0\x1f",
+        &v1[468..],
+    ];
+    let more = [&v1[..460], b"\0\0\0\x1cmdat".as_slice(), &v1[468..], b"more."];
+    let user = b"\0\0\0\x1cuuid0123456789abcdef\0\0\0\0".as_slice();
+    let around = [
+        &v1[..364],
+        b"\0\0\0\x34sidx".as_slice(),
+        &[0; 44],
+        user,
+        &v1[364..],
+        b"\0\0\0\x10mfra\0\0\0\0\0\0\0\0",
+    ];
+    let kept = joined(alloc, &[&v1[..364], user, fragments])?;
+    // A run without samples gives no fragment.
+    let none = [
+        &v1[..364],
+        b"\0\0\0\x54moof".as_slice(),
+        MFHD,
+        b"\0\0\0\x3ctraf",
+        TFHD,
+        &v1[412..428],
+        b"\0\0\0\x14trun\0\0\x02\x01\0\0\0\0\x80\0\0\0",
+        &v1[460..],
+    ];
+    let by_two = ["--samples", "2"];
+    let cases = [
+        good(&by_two, &[], b""),
+        good(&by_two, &to_end, &two),
+        good(&by_two, &long, &two),
+        good(&by_two, &more, &two),
+        good(&by_two, &around, &kept),
+        good(&by_two, &none, &v1[..364]),
+    ];
+    check_cases(&rt, alloc, &cases)
+}
+
+#[test]
+fn sync_samples(rt: HostRuntime) -> Result<(), Fail> {
+    let (alloc, v1) = (rt.alloc(), V1.as_slice());
+    // The flags of the first sample stand in the trun, those of the others in the trex.
+    let (front, media) = ([&v1[..360], b"\x01\x01\0\0".as_slice()], &v1[468..]);
+    let first = [
+        front[0],
+        front[1],
+        b"\0\0\0\x64moof",
+        MFHD,
+        b"\0\0\0\x4ctraf",
+        TFHD,
+        &v1[412..428],
+        b"\0\0\0\x24trun\0\0\x02\x05\0\0\0\x03\0\0\0\x6c\x02\0\0\0",
+        &v1[448..],
+    ];
+    let all = [[5, SYNC], [7, OTHER], [3, OTHER]];
+    let whole = recut(alloc, &front, &[piece_at(1, 0, &all, media)])?;
+    let pairs = [
+        piece_at(1, 0, &[[5, SYNC], [7, OTHER]], &media[..12]),
+        piece_at(2, 2048, &[[3, OTHER]], &media[12..]),
+    ];
+    let pairs = recut(alloc, &front, &pairs)?;
+    let ones = [
+        piece_at(1, 0, &[[5, SYNC]], &media[..5]),
+        piece_at(2, 1024, &[[7, OTHER]], &media[5..12]),
+        piece_at(3, 2048, &[[3, OTHER]], &media[12..]),
+    ];
+    let ones = recut(alloc, &front, &ones)?;
+    let sidx = b"\0\0\0\x34sidx\x01\0\0\0\0\0\0\x01\0\0\xbb\x80\0\0\0\0\0\0\0\0\0\0\0\0\0\0\0\0\0\0\0\x01\
+        \0\0\0\xa3\0\0\x0c\0\0\0\0\0"
+        .as_slice();
+    let indexed = [front[0], front[1], sidx];
+    let indexed = recut(alloc, &indexed, &[piece_at(1, 0, &all, media)])?;
+    let sync = ["--samples", "9", "--sync"];
+    let (again, indexed_again, pairs_again) = (
+        [whole.as_slice()],
+        [indexed.as_slice()],
+        [pairs.as_slice()],
+    );
+    let cases = [
+        good(&["--samples", "1"], &first, &ones),
+        good(&sync, &first, &whole),
+        good(&["--samples", "9", "--sync", "--index"], &first, &indexed),
+        good(&["--sync", "--samples", "2"], &first, &pairs),
+        good(&sync, &again, &whole),
+        good(&sync, &indexed_again, &whole),
+        good(&["--samples", "2", "--sync"], &pairs_again, &pairs),
+    ];
+    check_cases(&rt, alloc, &cases)
+}
+
+#[test]
+fn two_tracks(rt: HostRuntime) -> Result<(), Fail> {
+    let (alloc, v2, v3) = (rt.alloc(), V2.as_slice(), V3.as_slice());
+    let last = Wanted {
+        track: 2,
+        ..piece_at(3, 0, &[[4, SYNC], [4, SYNC]], &v2[771..])
+    };
+    let two = [
+        piece_at(1, 0, &[[5, SYNC], [7, SYNC]], &v2[756..768]),
+        piece_at(2, 2048, &[[3, SYNC]], &v2[768..771]),
+        last,
+    ];
+    let two = recut(alloc, &[&v2[..584]], &two)?;
+    let by_bytes = [
+        piece_at(1, 0, &[[5, SYNC]], &v2[756..761]),
+        piece_at(2, 1024, &[[7, SYNC]], &v2[761..768]),
+        piece_at(3, 2048, &[[3, SYNC]], &v2[768..771]),
+        Wanted { number: 4, ..last },
+    ];
+    let by_bytes = recut(alloc, &[&v2[..584]], &by_bytes)?;
+    // Runs that lie in turn are cut by place.
+    let turns = [
+        piece_at(1, 0, &[[5, SYNC]], &v3[792..797]),
+        Wanted {
+            track: 2,
+            ..piece_at(2, 0, &[[4, SYNC]], &v3[797..801])
+        },
+        piece_at(3, 1024, &[[7, SYNC]], &v3[801..808]),
+        Wanted {
+            track: 2,
+            ..piece_at(4, 1024, &[[4, SYNC]], &v3[808..])
+        },
+    ];
+    let turns = recut(alloc, &[&v3[..584]], &turns)?;
+    let shared = [&v2[..736], b"\0\0\0\xba".as_slice(), &v2[740..]];
+    let (front, v2, v3, again) = (&v2[..584], [v2], [v3], [by_bytes.as_slice()]);
+    let cases = [
+        good(&["--samples", "2"], &v2, &two),
+        good(&["--samples", "9", "--bytes", "8"], &v2, &by_bytes),
+        good(&["--samples", "2"], &v3, &turns),
+        bad(&shared, front, "fmp4: 22 RunPlace in trun at 720\n"),
+    ];
+    check_cases(&rt, alloc, &cases)?;
+    let counts = "fragments=4 samples=5 media=23 held=66228\n";
+    check_words(&rt, alloc, &["fmp4", "check"], &again, 0, &[counts], "")
+}
+
+#[test]
+fn streams_at_fault(rt: HostRuntime) -> Result<(), Fail> {
+    let (alloc, v1) = (rt.alloc(), V1.as_slice());
+    let two = by_two(alloc)?;
+    let len = two.len();
+    let (start, moov, moof, mdat) = (&v1[..20], &v1[20..364], &v1[364..460], &v1[460..]);
+    let (front, short) = (&v1[..364], [&v1[..482]]);
+    let (shorter, zeros) = ([&v1[..480]], [v1, b"\0\0\0".as_slice()]);
+    let (no_moov, no_moof) = ([start, moof, mdat], [start, moov, mdat]);
+    let (no_mdat, again) = ([start, moov, moof], [start, moov, moov]);
+    let size = [front, moof, b"\0\0\0\x07mdat"];
+    let trex = [&v1[..332], b"\0\0\0\x21".as_slice(), &v1[336..]];
+    let large = [front, b"\x04\0\0\x01moof".as_slice()];
+    // The header is longer by eight bytes, so the run begins within it.
+    let place = [
+        &v1[..460],
+        b"\0\0\0\x01mdat\0\0\0\0\0\0\0\x1f".as_slice(),
+        &v1[468..],
+    ];
+    let cut = "fmp4: 1 Truncated in mdat at 460\n";
+    let cases = [
+        bad(&short, &two[..626.min(len)], cut),
+        bad(&shorter, &two[..624.min(len)], cut),
+        bad(&zeros, &two, "fmp4: 1 Truncated in (none) at 483\n"),
+        bad(&no_moov, start, "fmp4: 3 NoMoov in moof at 20\n"),
+        bad(&again, front, "fmp4: 4 SecondMoov in moov at 364\n"),
+        bad(&no_moof, front, "fmp4: 5 StrayMdat in mdat at 364\n"),
+        bad(&no_mdat, front, "fmp4: 6 MdatMissing in moof at 364\n"),
+        bad(&size, front, "fmp4: 2 BadSize in mdat at 460\n"),
+        bad(&trex, start, "fmp4: 2 BadSize in trex at 332\n"),
+        bad(&large, front, "fmp4: 7 TooLarge in moof at 364\n"),
+        bad(&place, front, "fmp4: 22 RunPlace in trun at 428\n"),
+    ];
+    check_cases(&rt, alloc, &cases)
+}
+
+#[test]
+fn limits_of_split(rt: HostRuntime) -> Result<(), Fail> {
+    let (alloc, v1) = (rt.alloc(), V1.as_slice());
+    let two = by_two(alloc)?;
+    // A moof of 496 bytes, with a free box of 400 behind its mfhd.
+    let large = [
+        &v1[..364],
+        b"\0\0\x01\xf0moof".as_slice(),
+        MFHD,
+        b"\0\0\x01\x90free",
+        &[0; 392],
+        &v1[388..444],
+        b"\0\0\x01\xf8",
+        &v1[448..],
+    ];
+    let over = "fmp4: over the limit\n";
+    let v1 = [v1];
+    for (limit, stream, status, len, fault) in [
+        ("100", v1.as_slice(), 4, 0, over),
+        ("65535", &v1, 4, 0, over),
+        ("65536", &v1, 4, 20, over),
+        ("65943", &v1, 4, 20, over),
+        ("65944", &v1, 0, 627, ""),
+        ("66159", &large, 4, 364, over),
+        ("66160", &large, 0, 627, ""),
+    ] {
+        let options = ["--samples", "2", "--max-held", limit];
+        let case = Case {
+            options: &options,
+            parts: stream,
+            status,
+            written: &two[..len.min(two.len())],
+            fault,
+        };
+        check_cases(&rt, alloc, &[case])?;
+    }
+    Ok(())
+}
+
+#[test]
+fn failing_ends_of_split(rt: HostRuntime) -> Result<(), Fail> {
+    let (alloc, v1) = (rt.alloc(), V1.as_slice());
+    let two = by_two(alloc)?;
+    let len = two.len();
+    let words = ["fmp4", "split", "--samples", "2"];
+    let mut given = Given::ample(&v1[..470], 7);
+    given.fails = true;
+    let failed = b"fmp4: read failed at 470\n";
+    check_run(&rt, alloc, &words, given, 3, &two[..498.min(len)], failed)?;
+    let failed = b"fmp4: write failed\n";
+    let mut given = Given::ample(v1, 483);
+    given.room = 100;
+    check_run(&rt, alloc, &words, given, 3, &two[..100.min(len)], failed)?;
+    let mut given = Given::ample(v1, 483);
+    given.flushes = false;
+    check_run(&rt, alloc, &words, given, 3, &two, failed)
+}
