@@ -31,11 +31,11 @@ use Rattle.mp4_items.specs.Joined.{AreSound, IsSound, Item, Movie, MovieFragment
 use Rattle.mp4_items.specs.Joined as items
 use Rattle.mp4_recut.specs.Splitting.{is_dropped, splitting, timescale_of}
 use Rattle.mp4_recut.specs.Texts.{box_text, groups_text, item_text, items_text, pieces_text, runs_text}
-use Rattle.mp4_recut_laws.specs.Again.{AreFine, IsFine, IsGiven}
-use Rattle.mp4_recut_laws.specs.Streams.{Ending, IsEnding, IsStream, NoMore, OpenBox, OpenFragment, Stream, behind_all, ending_bytes, ending_text, stream_text}
-use Rattle.mp4_recut_laws.proofs.FineLemmas.{all_fine, behind_good, bytes_back, bytes_front}
-use Rattle.mp4_recut_laws.proofs.FragmentLemmas.{fragment_given}
-use Rattle.mp4_recut_laws.proofs.OpenLemmas.{open_given}
+use Rattle.mp4_recut_laws.specs.Premises.{CanAllBeRecut, CanBeRecut, IsRunIn}
+use Rattle.mp4_recut_laws.specs.Streams.{Ending, IsSoundEnding, IsSoundStream, NothingMore, OpenBox, OpenFragment, Stream, ending_context, ending_bytes, ending_text, stream_text}
+use Rattle.mp4_recut_laws.proofs.PremiseLemmas.{all_can_be_recut, behind_good, bytes_back, bytes_front}
+use Rattle.mp4_recut_laws.proofs.FragmentLemmas.{fragment_runs}
+use Rattle.mp4_recut_laws.proofs.OpenFragmentLemmas.{open_runs}
 use Rattle.mp4_recut_laws.proofs.StreamLemmas.{behind_at}
 use Rattle.mp4_pieces.proofs.PieceLemmas.{pieces_are_of}
 
@@ -128,7 +128,7 @@ module _ (cut : Cut) (held : List ℕ) (start : ℕ) (payload : List ℕ) (fits 
   all_fit tracks run sound of [] is = tt
   all_fit tracks run sound of (p ∷ ps) is = ((can_be_read tracks held run p sound of is.0).fits, all_fit tracks run sound of ps is.1)
 
-  runs_bytes : (tracks of : List Track) (number : ℕ) (runs : List Run) → AllByRecursion (IsGiven tracks start payload held) runs → Are (runs_text cut held start payload of number runs)
+  runs_bytes : (tracks of : List Track) (number : ℕ) (runs : List Run) → AllByRecursion (IsRunIn tracks start payload held) runs → Are (runs_text cut held start payload of number runs)
   runs_bytes tracks of number [] all = none
   runs_bytes tracks of number (run ∷ runs) all =
       let ps = pieces_of cut held run in
@@ -146,47 +146,47 @@ box_bytes_by false b held = record { is = held }
 nothing_known : {X : Type 0} → ◌≡◌ {A = Option (List Track)} None (Some []) → X
 nothing_known e = absurd cc
 
-fragment_by : (cut : Cut) (at number : ℕ) (o : Option (List Track)) (moof mdat : OneBox) → IsSound (splitting cut) (context at o number) (MovieFragment moof mdat) → IsFine (context at o number) (MovieFragment moof mdat) → IsBytes mdat.bytes
+fragment_by : (cut : Cut) (at number : ℕ) (o : Option (List Track)) (moof mdat : OneBox) → IsSound (splitting cut) (context at o number) (MovieFragment moof mdat) → CanBeRecut (context at o number) (MovieFragment moof mdat) → IsBytes mdat.bytes
     → Are (item_text cut (context at o number) (MovieFragment moof mdat))
 fragment_by cut at number None moof mdat s fine held = nothing_known s.0.known
 fragment_by cut at number (Some tracks) moof mdat s fine held =
     let f = fragment_in (context at (Some tracks) number) moof mdat in
     let payload = drop mdat.header.header_len mdat.bytes in
-    runs_bytes cut moof.bytes f.payload.start payload (IsBytes-drop mdat.header.header_len mdat.bytes held) tracks tracks number (taken_runs (held_at moof.bytes at) tracks) (fragment_given cut at number tracks moof mdat s fine.0 fine.1 fine.2 fine.3)
+    runs_bytes cut moof.bytes f.payload.start payload (IsBytes-drop mdat.header.header_len mdat.bytes held) tracks tracks number (taken_runs (held_at moof.bytes at) tracks) (fragment_runs cut at number tracks moof mdat s fine.0 fine.1 fine.2 fine.3)
 
-item_bytes : (cut : Cut) (c : Context) (i : Item) → IsSound (splitting cut) c i → IsFine c i → IsBytes (bytes_of i) → Are (item_text cut c i)
+item_bytes : (cut : Cut) (c : Context) (i : Item) → IsSound (splitting cut) c i → CanBeRecut c i → IsBytes (bytes_of i) → Are (item_text cut c i)
 item_bytes cut c (PassedOver b) s fine held = box_bytes_by (is_dropped b.header.kind.0) b.bytes held
 item_bytes cut c (Movie b) s fine held = record { is = held }
 item_bytes cut c (MovieFragment moof mdat) s fine held = fragment_by cut c.at c.number c.tracks moof mdat s fine (bytes_back moof.bytes mdat.bytes held)
 
-items_bytes : (cut : Cut) (c : Context) (is : List Item) → AreSound (splitting cut) c is → AreFine cut c is → IsBytes (joined is) → Are (items_text cut c is)
+items_bytes : (cut : Cut) (c : Context) (is : List Item) → AreSound (splitting cut) c is → CanAllBeRecut cut c is → IsBytes (joined is) → Are (items_text cut c is)
 items_bytes cut c [] s fine held = none
 items_bytes cut c (i ∷ is) s fine held =
     join_both (item_bytes cut c i s.0 fine.0 (bytes_front (bytes_of i) (joined is) held)) (items_bytes cut (behind_item (splitting cut) c i) is s.1 fine.1 (bytes_back (bytes_of i) (joined is) held))
 
 -- ---- the end
 
-open_by : (cut : Cut) (at number : ℕ) (o : Option (List Track)) (moof : OneBox) (h : Header) (head more : List ℕ) → IsEnding (splitting cut) (context at o number) (OpenFragment moof h head more) → IsBytes moof.bytes → IsBytes more → at + length moof.bytes + length more ≤ 2 ^ 62 → number ≤ 2 ^ 32 → AllByRecursion FitsTrack (tracks_in (context at o number))
+open_by : (cut : Cut) (at number : ℕ) (o : Option (List Track)) (moof : OneBox) (h : Header) (head more : List ℕ) → IsSoundEnding (splitting cut) (context at o number) (OpenFragment moof h head more) → IsBytes moof.bytes → IsBytes more → at + length moof.bytes + length more ≤ 2 ^ 62 → number ≤ 2 ^ 32 → AllByRecursion FitsTrack (tracks_in (context at o number))
     → Are (ending_text cut (context at o number) (OpenFragment moof h head more))
 open_by cut at number None moof h head more s held all room low fit = nothing_known s.2.known
 open_by cut at number (Some tracks) moof h head more s held all room low fit =
     let f = items.fragment_of (context at (Some tracks) number) moof.bytes h in
     let whole : IsWhole moof.bytes = (moof.header, s.2.one.payload, s.2.one.is) in
-    runs_bytes cut moof.bytes f.payload.start more all tracks tracks number (taken_runs (held_at moof.bytes at) tracks) (open_given cut at number tracks moof.bytes more h s.1.1 whole held room fit low s.3 s.4 s.5)
+    runs_bytes cut moof.bytes f.payload.start more all tracks tracks number (taken_runs (held_at moof.bytes at) tracks) (open_runs cut at number tracks moof.bytes more h s.1.1 whole held room fit low s.3 s.4 s.5)
 
-end_bytes : (cut : Cut) (c : Context) (e : Ending) → IsEnding (splitting cut) c e → IsBytes (ending_bytes e) → c.at + length (ending_bytes e) ≤ 2 ^ 62 → c.number ≤ 2 ^ 32 → AllByRecursion FitsTrack (tracks_in c) → Are (ending_text cut c e)
-end_bytes cut c NoMore s held room low fit = none
+end_bytes : (cut : Cut) (c : Context) (e : Ending) → IsSoundEnding (splitting cut) c e → IsBytes (ending_bytes e) → c.at + length (ending_bytes e) ≤ 2 ^ 62 → c.number ≤ 2 ^ 32 → AllByRecursion FitsTrack (tracks_in c) → Are (ending_text cut c e)
+end_bytes cut c NothingMore s held room low fit = none
 end_bytes cut c (OpenBox h head more) s held room low fit = box_bytes_by (is_dropped h.kind.0) (head ++ more) held
 end_bytes cut c (OpenFragment moof h head more) s held room low fit =
     open_by cut c.at c.number c.tracks moof h head more s (bytes_front moof.bytes (head ++ more) held) (bytes_back head more (bytes_back moof.bytes (head ++ more) held)) (omega (arith, room, length-append moof.bytes (head ++ more), length-append head more)) low fit
 
-pub text_bytes : (cut : Cut) (s : Stream) → IsStream cut s → IsBytes (stream_text cut s)
+pub text_bytes : (cut : Cut) (s : Stream) → IsSoundStream cut s → IsBytes (stream_text cut s)
 text_bytes cut s is =
     let e = ending_bytes s.ending in
     let len = length-append (joined s.items) e in
     let front = bytes_front (joined s.items) e is.bytes in
     let back = bytes_back (joined s.items) e is.bytes in
-    let fine = all_fine cut first_context s.items is.sound front (omega (arith, is.near, len)) (omega arith) tt in
+    let fine = all_can_be_recut cut first_context s.items is.sound front (omega (arith, is.near, len)) (omega arith) tt in
     let good = behind_good cut first_context s.items is.sound front (omega (arith, is.near, len)) (omega arith) tt in
     bytes_both _ _ (items_bytes cut first_context s.items is.sound fine front).is
-    (end_bytes cut (behind_all cut s) s.ending is.ending back (omega (arith, is.near, len, behind_at (splitting cut) first_context s.items)) good.0 good.1).is
+    (end_bytes cut (ending_context cut s) s.ending is.ending back (omega (arith, is.near, len, behind_at (splitting cut) first_context s.items)) good.0 good.1).is

@@ -22,10 +22,11 @@ use Rattle.mp4_pieces.proofs.PieceLemmas.{pieces_are_of}
 use Rattle.mp4_cut.specs.Sidx.{natural}
 use Rattle.mp4_cut.proofs.GivenLemmas.{IsSoundRun, can_be_read}
 use Rattle.mp4_cut.proofs.PieceLemmas.{bytes_are, count_is}
-use Rattle.mp4_recut_laws.specs.Again.{IsOnePiece, LiesIn, Portion, portion_of, portion_samples, portions_of, unindexed}
-use Rattle.mp4_recut_laws.specs.Shown.{shown_from, shown_of_run}
+use Rattle.mp4_recut_laws.specs.PieceItems.{IsOnePiece, LiesIn, PieceWithMedia, piece_samples, piece_with_media, pieces_with_media}
+use Rattle.mp4_recut_laws.specs.RecutItems.{without_index}
+use Rattle.mp4_recut_laws.specs.MediaSamples.{media_samples_from, media_samples_of_run}
 use Rattle.mp4_recut.specs.Texts.{media_of}
-use Rattle.mp4_recut_laws.proofs.ShownLemmas.{cut_shown, drop_on, join_same}
+use Rattle.mp4_recut_laws.proofs.SampleLemmas.{cut_samples, drop_on, join_same}
 
 -- the rows of a piece, where they stand in the run
 rows_back : (held : List ℕ) (run : Run) (c : Cursor) (rows more : List Row) → drop c.row (rows_of run held) ≡ rows ++ more → rows_in held run (piece_at c rows) ≡ rows
@@ -56,21 +57,21 @@ within_more start payload c rows rs w = record { at = w.at + sizes rows; place =
 at_on : (a b at n start : ℕ) → a ≡ at + n → b ≡ at → start ≤ at → a - start ≡ (b - start) + n
 at_on a b at n start e f h = omega (arith, e, f, h)
 
-pieces_shown : (held : List ℕ) (start : ℕ) (payload : List ℕ) (run : Run) (c : Cursor) (rs : List (List Row)) → drop c.row (rows_of run held) ≡ join rs → Within start payload c rs
-    → flat_map portion_samples (map (portion_of held start payload run) (pieces_at c rs)) ≡ shown_from run.track run.entry (join rs) c.time (drop (natural c.place - start) payload)
+pieces_samples : (held : List ℕ) (start : ℕ) (payload : List ℕ) (run : Run) (c : Cursor) (rs : List (List Row)) → drop c.row (rows_of run held) ≡ join rs → Within start payload c rs
+    → flat_map piece_samples (map (piece_with_media held start payload run) (pieces_at c rs)) ≡ media_samples_from run.track run.entry (join rs) c.time (drop (natural c.place - start) payload)
 unfolding pieces_at piece_at
-pieces_shown held start payload run c [] e w = refl
-pieces_shown held start payload run c (rows ∷ rs) e w =
+pieces_samples held start payload run c [] e w = refl
+pieces_samples held start payload run c (rows ∷ rs) e w =
     let p = piece_at c rows in
     let media = drop (natural c.place - start) payload in
     let next = within_more start payload c rows rs w in
     let here : rows_in held run p ≡ rows = rows_back held run c rows (join rs) e in
     let step : natural (c.place +ℤ pos (sizes rows)) - start ≡ (natural c.place - start) + sizes rows = at_on (natural (c.place +ℤ pos (sizes rows))) (natural c.place) w.at (sizes rows) start (ap natural (place_on c.place w.at (sizes rows) w.place)) (ap natural w.place) w.from in
     join_same _ _ _ _
-    (ap (λ (xs : List Row). shown_from run.track run.entry xs c.time (take (sizes rows) media)) here)
-    (pieces_shown held start payload run (past_rows c rows) rs (more_back held run c rows (join rs) e) next
-    ∙ ap (shown_from run.track run.entry (join rs) (c.time + durations rows)) (drop_on (natural c.place - start) (sizes rows) (natural (c.place +ℤ pos (sizes rows)) - start) payload step))
-    ∙ sym (cut_shown run.track run.entry c.time rows (join rs) media)
+    (ap (λ (xs : List Row). media_samples_from run.track run.entry xs c.time (take (sizes rows) media)) here)
+    (pieces_samples held start payload run (past_rows c rows) rs (more_back held run c rows (join rs) e) next
+    ∙ ap (media_samples_from run.track run.entry (join rs) (c.time + durations rows)) (drop_on (natural c.place - start) (sizes rows) (natural (c.place +ℤ pos (sizes rows)) - start) payload step))
+    ∙ sym (cut_samples run.track run.entry c.time rows (join rs) media)
 
 are : (cut : Cut) (held : List ℕ) (run : Run) → ArePieces (fits cut) (rows_of run held) (cut_rows cut (rows_of run held))
 are cut held run = pieces_are (fits cut) (rows_of run held) (is_limit cut)
@@ -78,10 +79,10 @@ are cut held run = pieces_are (fits cut) (rows_of run held) (is_limit cut)
 within_first : (cut : Cut) (held : List ℕ) (start : ℕ) (payload : List ℕ) (run : Run) → LiesIn start payload held run → Within start payload (first_cursor run) (cut_rows cut (rows_of run held))
 within_first cut held start payload run w = record { at = w.at; place = w.place; from = w.from; to = omega (arith, w.to, ap sizes (are cut held run).joined) }
 
-pub run_shown : (cut : Cut) (held : List ℕ) (start : ℕ) (payload : List ℕ) (run : Run) → LiesIn start payload held run → flat_map portion_samples (portions_of cut held start payload run) ≡ shown_of_run held start payload run
-run_shown cut held start payload run w =
-    pieces_shown held start payload run (first_cursor run) (cut_rows cut (rows_of run held)) (sym (are cut held run).joined) (within_first cut held start payload run w)
-    ∙ ap (λ (rows : List Row). shown_from run.track run.entry rows run.time (drop (natural run.place - start) payload)) (are cut held run).joined
+pub run_samples : (cut : Cut) (held : List ℕ) (start : ℕ) (payload : List ℕ) (run : Run) → LiesIn start payload held run → flat_map piece_samples (pieces_with_media cut held start payload run) ≡ media_samples_of_run held start payload run
+run_samples cut held start payload run w =
+    pieces_samples held start payload run (first_cursor run) (cut_rows cut (rows_of run held)) (sym (are cut held run).joined) (within_first cut held start payload run w)
+    ∙ ap (λ (rows : List Row). media_samples_from run.track run.entry rows run.time (drop (natural run.place - start) payload)) (are cut held run).joined
 
 -- ---- each of them is one piece
 
@@ -106,7 +107,7 @@ fine cut held start payload run c (rows ∷ rs) e w fit =
     )
 
 each : (cut : Cut) (tracks : List Track) (held : List ℕ) (start : ℕ) (payload : List ℕ) (run : Run) → length payload ≤ 2 ^ 62 → IsSoundRun tracks held run → IsRunOf held run → (ps : List Piece) → AllByRecursion (IsPieceOf held run) ps → AllByRecursion (Fine cut held start payload run) ps
-    → AllByRecursion (λ (q : Portion). IsOnePiece (unindexed cut) tracks q.written q.media) (map (portion_of held start payload run) ps)
+    → AllByRecursion (λ (q : PieceWithMedia). IsOnePiece (without_index cut) tracks q.written q.media) (map (piece_with_media held start payload run) ps)
 each cut tracks held start payload run small sound of [] is fine = tt
 each cut tracks held start payload run small sound of (p ∷ ps) is fine = (
   record {
@@ -120,9 +121,9 @@ each cut tracks held start payload run small sound of (p ∷ ps) is fine = (
 )
 
 -- the pieces of a run that lies in its mdat are pieces by themselves
-pub run_portions : (cut : Cut) (tracks : List Track) (held : List ℕ) (start : ℕ) (payload : List ℕ) (run : Run) → length payload ≤ 2 ^ 62 → IsSoundRun tracks held run → IsRunOf held run → LiesIn start payload held run
-    → AllByRecursion (λ (q : Portion). IsOnePiece (unindexed cut) tracks q.written q.media) (portions_of cut held start payload run)
-run_portions cut tracks held start payload run small sound of w =
+pub run_pieces : (cut : Cut) (tracks : List Track) (held : List ℕ) (start : ℕ) (payload : List ℕ) (run : Run) → length payload ≤ 2 ^ 62 → IsSoundRun tracks held run → IsRunOf held run → LiesIn start payload held run
+    → AllByRecursion (λ (q : PieceWithMedia). IsOnePiece (without_index cut) tracks q.written q.media) (pieces_with_media cut held start payload run)
+run_pieces cut tracks held start payload run small sound of w =
     each cut tracks held start payload run small sound of (pieces_of cut held run) (pieces_are_of cut held run)
     (fine cut held start payload run (first_cursor run) (cut_rows cut (rows_of run held)) (sym (are cut held run).joined) (within_first cut held start payload run w) (are cut held run).fit)
 

@@ -22,8 +22,8 @@ use Rattle.mp4_items.specs.Joined.{IsOne, IsSound, MovieFragment, OneBox, fragme
 use Rattle.mp4_items.specs.declared.kinds.Kind.TheVariants.{Mdat}
 use Rattle.mp4_items.specs.Makings.{Fragment, runs_in}
 use Rattle.mp4_recut.specs.Splitting.{splitting}
-use Rattle.mp4_recut_laws.specs.Shown.{shown_in}
-use Rattle.mp4_recut_laws.proofs.RunLemmas.{runs_again, runs_count, runs_out}
+use Rattle.mp4_recut_laws.specs.MediaSamples.{media_samples_in}
+use Rattle.mp4_recut_laws.proofs.RunLemmas.{runs_recut, runs_count, runs_out}
 use Rattle.mp4_run_order.specs.declared.runs.ListedRun.{ListedRun}
 use Rattle.mp4_run_order.specs.declared.runs.Payload.{Payload}
 use Rattle.mp4_run_order.specs.Places.{first_offender, lies_in, may_stand}
@@ -45,7 +45,8 @@ use Rattle.mp4_pieces.proofs.RunLemmas.{runs_are}
 use Rattle.mp4_pieces.proofs.OrderLemmas.{count_kept}
 use Rattle.mp4_cut.specs.Reads.{FitsTrack}
 use Rattle.mp4_cut.proofs.GivenLemmas.{IsSoundRun, all_sound}
-use Rattle.mp4_recut_laws.specs.Again.{Again, IsGiven, fragment_items, unindexed}
+use Rattle.mp4_recut_laws.specs.Premises.{IsRunIn}
+use Rattle.mp4_recut_laws.specs.RecutItems.{AreRecutAnywhere, fragment_items, without_index}
 
 -- ---- where the runs lie
 
@@ -105,25 +106,25 @@ from_place z start h = absurd (omega (arith, ints, h))
 pub no_rows : (run : Run) (held : List ℕ) → run.count ≡ 0 → rows_of run held ≡ []
 no_rows run held e = ap (λ (n : ℕ). map (row_of run held) (range_with_len 0 (n - 0))) e
 
-given_one : (tracks : List Track) (start : ℕ) (payload held : List ℕ) (run : Run) → IsSoundRun tracks held run → (run.size < 2 ^ 32 → IsRunOf held run) → (run.count ≡ 0) ⊎ Lies start (start + length payload) run → IsGiven tracks start payload held run
-given_one tracks start payload held run sound of (inl none) = record { sound = sound; of = of sound.size; lies = inl (no_rows run held none) }
-given_one tracks start payload held run sound of (inr lies) =
+run_in : (tracks : List Track) (start : ℕ) (payload held : List ℕ) (run : Run) → IsSoundRun tracks held run → (run.size < 2 ^ 32 → IsRunOf held run) → (run.count ≡ 0) ⊎ Lies start (start + length payload) run → IsRunIn tracks start payload held run
+run_in tracks start payload held run sound of (inl none) = record { sound = sound; of = of sound.size; lies = inl (no_rows run held none) }
+run_in tracks start payload held run sound of (inr lies) =
     let at = from_place run.place start lies.from in
     record { sound = sound; of = of sound.size; lies = inr (record { at = at.0; place = at.1; from = omega (arith, ints, lies.from, at.1); to = omega (arith, ints, lies.to, at.1, (of sound.size).bytes) }) }
 
-given_all : (tracks : List Track) (start : ℕ) (payload held : List ℕ) (runs : List Run) → AllByRecursion (IsSoundRun tracks held) runs → AreRunsOf held runs → AllByRecursion (λ (run : Run). (run.count ≡ 0) ⊎ Lies start (start + length payload) run) runs → AllByRecursion (IsGiven tracks start payload held) runs
-given_all tracks start payload held [] a b c = tt
-given_all tracks start payload held (run ∷ runs) a b c = (given_one tracks start payload held run a.0 b.0 c.0, given_all tracks start payload held runs a.1 b.1 c.1)
+all_in : (tracks : List Track) (start : ℕ) (payload held : List ℕ) (runs : List Run) → AllByRecursion (IsSoundRun tracks held) runs → AreRunsOf held runs → AllByRecursion (λ (run : Run). (run.count ≡ 0) ⊎ Lies start (start + length payload) run) runs → AllByRecursion (IsRunIn tracks start payload held) runs
+all_in tracks start payload held [] a b c = tt
+all_in tracks start payload held (run ∷ runs) a b c = (run_in tracks start payload held run a.0 b.0 c.0, all_in tracks start payload held runs a.1 b.1 c.1)
 
 pub all_kept : (P : Run → Type 0) (xs ys : List Run) → IsPermutation xs ys → AllByRecursion P xs → AllByRecursion P ys
 all_kept P xs ys same all = recursion_from_All P ys (All-permutation P xs ys same (All-from_recursion P xs all))
 
 -- the runs of a fragment without a fault
-pub runs_given : (h : Held) (tracks : List Track) (start : ℕ) (payload : List ℕ) → IsWhole h.bytes → IsBytes h.bytes → h.offset + length h.bytes ≤ 2 ^ 62 → AllByRecursion FitsTrack tracks → IsRead h tracks → place_fault (pay start (start + length payload)) (moof_runs h tracks) ≡ None
-    → AllByRecursion (IsGiven tracks start payload h.bytes) (taken_runs h tracks)
-runs_given h tracks start payload whole held room all read placed =
-    all_kept (IsGiven tracks start payload h.bytes) (moof_runs h tracks) (taken_runs h tracks) (taken_permutes listed_run (moof_runs h tracks))
-    (given_all tracks start payload h.bytes (moof_runs h tracks) (all_sound h tracks whole held all read) (runs_are h tracks (omega (arith, room)) whole held read) (runs_lie start (start + length payload) (moof_runs h tracks) placed))
+pub runs_in_payload : (h : Held) (tracks : List Track) (start : ℕ) (payload : List ℕ) → IsWhole h.bytes → IsBytes h.bytes → h.offset + length h.bytes ≤ 2 ^ 62 → AllByRecursion FitsTrack tracks → IsRead h tracks → place_fault (pay start (start + length payload)) (moof_runs h tracks) ≡ None
+    → AllByRecursion (IsRunIn tracks start payload h.bytes) (taken_runs h tracks)
+runs_in_payload h tracks start payload whole held room all read placed =
+    all_kept (IsRunIn tracks start payload h.bytes) (moof_runs h tracks) (taken_runs h tracks) (taken_permutes listed_run (moof_runs h tracks))
+    (all_in tracks start payload h.bytes (moof_runs h tracks) (all_sound h tracks whole held all read) (runs_are h tracks (omega (arith, room)) whole held read) (runs_lie start (start + length payload) (moof_runs h tracks) placed))
 
 -- ---- their numbers
 
@@ -169,17 +170,17 @@ module _ (cut : Cut) (at number : ℕ) (tracks : List Track) (moof mdat : OneBox
   good : (place_fault f.payload (moof_runs h tracks) ≡ None) × (room_fault cut h (moof_runs h tracks) number ≡ None)
   good = first_none (place_fault f.payload (moof_runs h tracks)) (room_fault cut h (moof_runs h tracks) number) sound.3
 
-  pub fragment_given : AllByRecursion (IsGiven tracks f.payload.start payload moof.bytes) (taken_runs h tracks)
-  fragment_given =
-      runs_given h tracks f.payload.start payload (moof.header, sound.0.one.payload, sound.0.one.is) held (omega (arith, room)) all sound.1
+  pub fragment_runs : AllByRecursion (IsRunIn tracks f.payload.start payload moof.bytes) (taken_runs h tracks)
+  fragment_runs =
+      runs_in_payload h tracks f.payload.start payload (moof.header, sound.0.one.payload, sound.0.one.is) held (omega (arith, room)) all sound.1
       (ap (λ (p : Payload). place_fault p (moof_runs h tracks)) (sym (payload_is (at + length moof.bytes) mdat sound.2)) ∙ good.0)
 
   pub fragment_count : runs_count cut moof.bytes f.payload.start payload tracks (taken_runs h tracks) ≡ piece_count cut moof.bytes (taken_runs h tracks)
   fragment_count = counts_same cut moof.bytes f.payload.start payload tracks (taken_runs h tracks)
 
   -- the recut text of a fragment without a fault has none, and the same samples
-  pub fragment_again : Again (unindexed cut) number tracks (fragment_items cut f payload) (runs_out cut moof.bytes f.payload.start payload tracks number (runs_in f)) (runs_count cut moof.bytes f.payload.start payload tracks (runs_in f)) (shown_in f payload)
-  fragment_again =
-      runs_again cut moof.bytes f.payload.start payload tracks (omega (arith, room, length-drop mdat.header.header_len mdat.bytes)) number tracks (taken_runs h tracks)
-      fragment_given
+  pub fragment_recut : AreRecutAnywhere (without_index cut) number tracks (fragment_items cut f payload) (runs_out cut moof.bytes f.payload.start payload tracks number (runs_in f)) (runs_count cut moof.bytes f.payload.start payload tracks (runs_in f)) (media_samples_in f payload)
+  fragment_recut =
+      runs_recut cut moof.bytes f.payload.start payload tracks (omega (arith, room, length-drop mdat.header.header_len mdat.bytes)) number tracks (taken_runs h tracks)
+      fragment_runs
       (omega (arith, has_numbers cut h (moof_runs h tracks) number low good.1, fragment_count, count_kept cut moof.bytes (moof_runs h tracks) (taken_runs h tracks) (taken_permutes listed_run (moof_runs h tracks))))

@@ -32,27 +32,29 @@ use Rattle.mp4_cut.proofs.PieceLemmas.{count_is}
 use Rattle.mp4_items.specs.Joined.{bytes_of}
 use Rattle.mp4_recut.specs.Splitting.{scale_of, timescale_of}
 use Rattle.mp4_recut.specs.Texts.{media_of}
-use Rattle.mp4_recut_laws.specs.Again.{IsGiven, Portion, index_one, mdat_one, piece_item, portion_of, portion_samples}
-use Rattle.mp4_recut_laws.specs.Indexes.{GroupsTrue, IsTrue, Reference, RunsTrue, first_samples, referenced, references_in}
-use Rattle.mp4_recut_laws.specs.Shown.{Shown, shown_from}
+use Rattle.mp4_recut_laws.specs.PieceItems.{PieceWithMedia, mdat_as_box, piece_item, piece_samples, piece_with_media}
+use Rattle.mp4_recut_laws.specs.Premises.{IsRunIn}
+use Rattle.mp4_recut_laws.specs.RecutItems.{index_as_box}
+use Rattle.mp4_recut_laws.specs.Indexes.{GroupsAreIndexed, IsIndexOf, Reference, RunsAreIndexed, first_samples, references_of, references_in}
+use Rattle.mp4_recut_laws.specs.MediaSamples.{MediaSample, media_samples_from}
 use Rattle.mp4_recut_laws.proofs.CutLemmas.{run_long}
-use Rattle.mp4_recut_laws.proofs.OneLemmas.{length_media}
+use Rattle.mp4_recut_laws.proofs.OnePieceLemmas.{length_media}
 use Rattle.mp4_recut_laws.proofs.RunLemmas.{none_of}
 
 -- ---- what samples come to
 
-shown_durations : (track entry : ℕ) (rows : List Row) (time : ℕ) (media : List ℕ) → sum_by (λ (s : Shown). s.duration) (shown_from track entry rows time media) ≡ durations rows
-shown_durations track entry [] time media = refl
-shown_durations track entry (row ∷ rows) time media =
-    sum_by-cons (λ (s : Shown). s.duration)
+sample_durations : (track entry : ℕ) (rows : List Row) (time : ℕ) (media : List ℕ) → sum_by (λ (s : MediaSample). s.duration) (media_samples_from track entry rows time media) ≡ durations rows
+sample_durations track entry [] time media = refl
+sample_durations track entry (row ∷ rows) time media =
+    sum_by-cons (λ (s : MediaSample). s.duration)
     (record { track = track; time = time; composition = pos time +ℤ row.offset; duration = row.duration; flags = row.flags; entry = entry; bytes = take row.size media })
-    (shown_from track entry rows (time + row.duration) (drop row.size media))
-    ∙ ap (λ (n : ℕ). row.duration + n) (shown_durations track entry rows (time + row.duration) (drop row.size media)) ∙ sym (sum_by-cons (λ (r : Row). r.duration) row rows)
+    (media_samples_from track entry rows (time + row.duration) (drop row.size media))
+    ∙ ap (λ (n : ℕ). row.duration + n) (sample_durations track entry rows (time + row.duration) (drop row.size media)) ∙ sym (sum_by-cons (λ (r : Row). r.duration) row rows)
 
-shown_times : (track entry : ℕ) (rows : List Row) (time : ℕ) (media : List ℕ) → map (λ (s : Shown). s.composition) (shown_from track entry rows time media) ≡ composition_times time rows
+sample_times : (track entry : ℕ) (rows : List Row) (time : ℕ) (media : List ℕ) → map (λ (s : MediaSample). s.composition) (media_samples_from track entry rows time media) ≡ composition_times time rows
 unfolding composition_times
-shown_times track entry [] time media = refl
-shown_times track entry (row ∷ rows) time media = ap (λ (zs : List ℤ). (pos time +ℤ row.offset) ∷ zs) (shown_times track entry rows (time + row.duration) (drop row.size media))
+sample_times track entry [] time media = refl
+sample_times track entry (row ∷ rows) time media = ap (λ (zs : List ℤ). (pos time +ℤ row.offset) ∷ zs) (sample_times track entry rows (time + row.duration) (drop row.size media))
 
 -- ---- a piece
 
@@ -66,31 +68,31 @@ same_references : (a b c d e f : ℕ) (rs ss : List Reference) → a ≡ b → c
 same_references a b c d e f rs ss p q r s = cc
 
 module _ (held : List ℕ) (start : ℕ) (payload : List ℕ) (run : Run) where
-  abbrev portion : Piece → Portion
-  portion p = portion_of held start payload run p
+  abbrev media_piece : Piece → PieceWithMedia
+  media_piece p = piece_with_media held start payload run p
 
-  piece_size : (p : Piece) (number : ℕ) → Good held start payload run p → fragment_size p ≡ length (bytes_of (piece_item (portion p).written number (portion p).media))
+  piece_size : (p : Piece) (number : ℕ) → Good held start payload run p → fragment_size p ≡ length (bytes_of (piece_item (media_piece p).written number (media_piece p).media))
   piece_size p number good =
       let media = media_of start payload p in
       let f = fragment_of held run p in
       let header : mdat_header_size (length media) ≡ mdat_header_size p.bytes = ap mdat_header_size good.long in
-      omega (arith, length-append (moof_box f number) (mdat_one media).bytes, length_moof f number, count_is held run p good.is, length_media media, header, good.long)
+      omega (arith, length-append (moof_box f number) (mdat_as_box media).bytes, length_moof f number, count_is held run p good.is, length_media media, header, good.long)
 
-  piece_duration : (p : Piece) → Good held start payload run p → p.duration ≡ sum_by (λ (s : Shown). s.duration) (portion_samples (portion p))
+  piece_duration : (p : Piece) → Good held start payload run p → p.duration ≡ sum_by (λ (s : MediaSample). s.duration) (piece_samples (media_piece p))
   unfolding piece_specs.piece_at
   piece_duration p good =
-      ap (λ (q : Piece). q.duration) good.is.is ∙ sym (shown_durations run.track run.entry (rows_in held run p) p.time (media_of start payload p))
+      ap (λ (q : Piece). q.duration) good.is.is ∙ sym (sample_durations run.track run.entry (rows_in held run p) p.time (media_of start payload p))
 
-  piece_least : (p : Piece) → Good held start payload run p → p.least ≡ least_of (map (λ (s : Shown). s.composition) (portion_samples (portion p)))
+  piece_least : (p : Piece) → Good held start payload run p → p.least ≡ least_of (map (λ (s : MediaSample). s.composition) (piece_samples (media_piece p)))
   unfolding piece_specs.piece_at
   piece_least p good =
       let rows = rows_in held run p in
       let time : (cursor_at held run p.first).time ≡ p.time = sym (ap (λ (q : Piece). q.time) good.is.is) in
       ap (λ (q : Piece). q.least) good.is.is
       ∙ ap (λ (t : ℕ). least_of (composition_times t rows)) time
-      ∙ sym (ap least_of (shown_times run.track run.entry rows p.time (media_of start payload p)))
+      ∙ sym (ap least_of (sample_times run.track run.entry rows p.time (media_of start payload p)))
 
-  references_back : (number : ℕ) (g : List Piece) → AllByRecursion (Good held start payload run) g → references_in (length g) (flat_map reference_bytes g) ≡ referenced number (map portion g)
+  references_back : (number : ℕ) (g : List Piece) → AllByRecursion (Good held start payload run) g → references_in (length g) (flat_map reference_bytes g) ≡ references_of number (map media_piece g)
   references_back number [] all = refl
   references_back number (p ∷ g) all =
       let good = all.0 in
@@ -102,7 +104,7 @@ module _ (held : List ℕ) (start : ℕ) (payload : List ℕ) (run : Run) where
       (big_number-reads_back 4 0 rest (omega arith))
       (references_back (number + 1) g all.1)
 
-  small_sizes : (number : ℕ) (g : List Piece) → AllByRecursion (Good held start payload run) g → AllByRecursion (λ (r : Reference). r.size < 2 ^ 31) (referenced number (map portion g))
+  small_sizes : (number : ℕ) (g : List Piece) → AllByRecursion (Good held start payload run) g → AllByRecursion (λ (r : Reference). r.size < 2 ^ 31) (references_of number (map media_piece g))
   small_sizes number [] all = tt
   small_sizes number (p ∷ g) all = (omega (arith, piece_size p number all.0, all.0.fits.size), small_sizes (number + 1) g all.1)
 
@@ -112,13 +114,13 @@ module _ (held : List ℕ) (start : ℕ) (payload : List ℕ) (run : Run) where
   natural_is (pos n) h = (refl, omega (arith, ints, h.high))
   natural_is (negsuc n) h = absurd (omega (arith, ints, h.low))
 
-  earliest_is : (g : List Piece) → BeginsInTime g → AllByRecursion (Good held start payload run) g → (pos (earliest g) ≡ least_of (map (λ (s : Shown). s.composition) (first_samples (map portion g)))) × (earliest g < 2 ^ 64)
+  earliest_is : (g : List Piece) → BeginsInTime g → AllByRecursion (Good held start payload run) g → (pos (earliest g) ≡ least_of (map (λ (s : MediaSample). s.composition) (first_samples (map media_piece g)))) × (earliest g < 2 ^ 64)
   earliest_is [] time all = (refl, omega arith)
   earliest_is (p ∷ g) time all = let n = natural_is p.least time in (n.0 ∙ piece_least p all.0, n.1)
 
-  index_true : (timescale number : ℕ) (g : List Piece) → run.track < 2 ^ 32 → timescale < 2 ^ 32 → length g ≤ 65535 → BeginsInTime g → AllByRecursion (Good held start payload run) g → IsTrue run.track timescale number (drop 8 (index_one run timescale g).bytes) (map portion g)
+  index_tells : (timescale number : ℕ) (g : List Piece) → run.track < 2 ^ 32 → timescale < 2 ^ 32 → length g ≤ 65535 → BeginsInTime g → AllByRecursion (Good held start payload run) g → IsIndexOf run.track timescale number (drop 8 (index_as_box run timescale g).bytes) (map media_piece g)
   unfolding sidx_specs.written_index
-  index_true timescale number g small scale few time all =
+  index_tells timescale number g small scale few time all =
       let v = version_and_flags 1 0 in
       let refs = flat_map reference_bytes g in
       let count = big_bytes 2 0 ++ (big_bytes 2 (length g) ++ refs) in
@@ -161,31 +163,31 @@ module _ (cut : Cut) (held : List ℕ) (start : ℕ) (payload : List ℕ) (track
   all_good run [] is long fit = tt
   all_good run (p ∷ ps) is long fit = (record { is = is.0; long = long.0; fits = fit.0 }, all_good run ps is.1 long.1 fit.1)
 
-  groups_true : (run : Run) (timescale number : ℕ) (gs : List (List Piece)) → run.track < 2 ^ 32 → timescale < 2 ^ 32 → AllByRecursion (λ (g : List Piece). length g ≤ 65535) gs → AllByRecursion BeginsInTime gs → AllByRecursion (Good held start payload run) (join gs)
-      → GroupsTrue cut held start payload run timescale number gs
-  groups_true run timescale number [] small scale few time all = tt
-  groups_true run timescale number (g ∷ gs) small scale few time all = (
-    index_true held start payload run timescale number g small scale few.0 time.0 (all_first (Good held start payload run) g (join gs) all),
-    groups_true run timescale (number + length g) gs small scale few.1 time.1 (all_last (Good held start payload run) g (join gs) all),
+  groups_indexed : (run : Run) (timescale number : ℕ) (gs : List (List Piece)) → run.track < 2 ^ 32 → timescale < 2 ^ 32 → AllByRecursion (λ (g : List Piece). length g ≤ 65535) gs → AllByRecursion BeginsInTime gs → AllByRecursion (Good held start payload run) (join gs)
+      → GroupsAreIndexed cut held start payload run timescale number gs
+  groups_indexed run timescale number [] small scale few time all = tt
+  groups_indexed run timescale number (g ∷ gs) small scale few time all = (
+    index_tells held start payload run timescale number g small scale few.0 time.0 (all_first (Good held start payload run) g (join gs) all),
+    groups_indexed run timescale (number + length g) gs small scale few.1 time.1 (all_last (Good held start payload run) g (join gs) all),
   )
 
-  no_groups : (run : Run) (timescale number : ℕ) → GroupsTrue cut held start payload run timescale number (groups [])
+  no_groups : (run : Run) (timescale number : ℕ) → GroupsAreIndexed cut held start payload run timescale number (groups [])
   unfolding group_specs.groups_from
   no_groups run timescale number = tt
 
-  pub run_true : (run : Run) (timescale number : ℕ) → timescale < 2 ^ 32 → IsGiven tracks start payload held run → FitsIndex (pieces_of cut held run) → GroupsTrue cut held start payload run timescale number (groups (pieces_of cut held run))
-  run_true run timescale number scale g fit = elim g.lies [
-    | inl none ↦ subst (λ (ps : List Piece). GroupsTrue cut held start payload run timescale number (groups ps)) (sym (none_of cut held start payload tracks run none)) (no_groups run timescale number)
+  pub run_indexed : (run : Run) (timescale number : ℕ) → timescale < 2 ^ 32 → IsRunIn tracks start payload held run → FitsIndex (pieces_of cut held run) → GroupsAreIndexed cut held start payload run timescale number (groups (pieces_of cut held run))
+  run_indexed run timescale number scale g fit = elim g.lies [
+    | inl none ↦ subst (λ (ps : List Piece). GroupsAreIndexed cut held start payload run timescale number (groups ps)) (sym (none_of cut held start payload tracks run none)) (no_groups run timescale number)
     | inr lies ↦
         let ps = pieces_of cut held run in
         let are = groups_are ps in
-        groups_true run timescale number (groups ps) g.sound.track scale are.most fit.times
+        groups_indexed run timescale number (groups ps) g.sound.track scale are.most fit.times
         (subst (λ (qs : List Piece). AllByRecursion (Good held start payload run) qs) (sym are.joined) (all_good run ps (pieces_are_of cut held run) (run_long cut held start payload run lies) fit.references))
   ]
 
-  pub runs_true : (number : ℕ) (runs : List Run) → AllByRecursion (λ (t : Track). t.timescale < 2 ^ 32) tracks → AllByRecursion (IsGiven tracks start payload held) runs → AllByRecursion (λ (run : Run). FitsIndex (pieces_of cut held run)) runs → RunsTrue cut held start payload tracks number runs
-  runs_true number [] scaled given fit = tt
-  runs_true number (run ∷ runs) scaled given fit = (
-    run_true run (timescale_of tracks run.track) number (scale_small tracks run.track scaled) given.0 fit.0,
-    runs_true (number + length (pieces_of cut held run)) runs scaled given.1 fit.1,
+  pub runs_indexed : (number : ℕ) (runs : List Run) → AllByRecursion (λ (t : Track). t.timescale < 2 ^ 32) tracks → AllByRecursion (IsRunIn tracks start payload held) runs → AllByRecursion (λ (run : Run). FitsIndex (pieces_of cut held run)) runs → RunsAreIndexed cut held start payload tracks number runs
+  runs_indexed number [] scaled given fit = tt
+  runs_indexed number (run ∷ runs) scaled given fit = (
+    run_indexed run (timescale_of tracks run.track) number (scale_small tracks run.track scaled) given.0 fit.0,
+    runs_indexed (number + length (pieces_of cut held run)) runs scaled given.1 fit.1,
   )

@@ -13,7 +13,9 @@ use Rattle.mp4_cut.specs.Mdat.{mdat_header}
 use Rattle.mp4_cut.specs.Moof.{written_moof}
 use Rattle.mp4_cut.specs.Sidx.{written_index}
 use Rattle.mp4_items.specs.Joined.{Item, bytes_of, joined}
-use Rattle.mp4_recut_laws.specs.Again.{IsGiven, groups_items, index_items, portion_items, portion_of, runs_items, unindexed}
+use Rattle.mp4_recut_laws.specs.PieceItems.{piece_with_media, pieces_items}
+use Rattle.mp4_recut_laws.specs.Premises.{IsRunIn}
+use Rattle.mp4_recut_laws.specs.RecutItems.{groups_items, index_items, runs_items, without_index}
 use Rattle.mp4_recut.specs.Splitting.{timescale_of}
 use Rattle.mp4_recut.specs.Texts.{groups_text, media_of, pieces_text, runs_text}
 use Rattle.mp4_recut_laws.proofs.CutLemmas.{run_long}
@@ -37,11 +39,11 @@ module _ (cut : Cut) (held : List ℕ) (start : ℕ) (payload : List ℕ) where
   abbrev Long : Piece → Type 0
   Long p = length (media_of start payload p) ≡ p.bytes
 
-  pieces_joined : (run : Run) (number : ℕ) (ps : List Piece) → AllByRecursion Long ps → joined (portion_items number (map (portion_of held start payload run) ps)) ≡ pieces_text cut held start payload run number ps
+  pieces_joined : (run : Run) (number : ℕ) (ps : List Piece) → AllByRecursion Long ps → joined (pieces_items number (map (piece_with_media held start payload run) ps)) ≡ pieces_text cut held start payload run number ps
   pieces_joined run number [] long = refl
   pieces_joined run number (p ∷ ps) long =
       let m = media_of start payload p in
-      ap (λ (n : ℕ). (written_moof p run held number ++ (mdat_header n ++ m)) ++ joined (portion_items (number + 1) (map (portion_of held start payload run) ps))) long.0
+      ap (λ (n : ℕ). (written_moof p run held number ++ (mdat_header n ++ m)) ++ joined (pieces_items (number + 1) (map (piece_with_media held start payload run) ps))) long.0
       ∙ (regroup (written_moof p run held number) (mdat_header p.bytes) m _
       ∙ ap (λ (z : List ℕ). (written_moof p run held number ++ mdat_header p.bytes) ++ (m ++ z)) (pieces_joined run (number + 1) ps long.1))
 
@@ -58,7 +60,7 @@ module _ (cut : Cut) (held : List ℕ) (start : ℕ) (payload : List ℕ) where
   groups_joined run timescale number (g ∷ gs) long =
       joined_append (index_items cut.index run timescale g) _
       ∙ same_join _ _ _ _ (index_by cut.index run timescale g)
-      (joined_append (portion_items number (map (portion_of held start payload run) g)) _
+      (joined_append (pieces_items number (map (piece_with_media held start payload run) g)) _
       ∙ same_join _ _ _ _ (pieces_joined run number g (all_first g (join gs) long)) (groups_joined run timescale (number + length g) gs (all_last g (join gs) long)))
 
   pieces_append : (run : Run) (number k : ℕ) (xs ys : List Piece) → k ≡ number + length xs → pieces_text cut held start payload run number (xs ++ ys) ≡ pieces_text cut held start payload run number xs ++ pieces_text cut held start payload run k ys
@@ -71,20 +73,20 @@ module _ (cut : Cut) (held : List ℕ) (start : ℕ) (payload : List ℕ) where
       ∙ sym (append_assoc head (m ++ pieces_text cut held start payload run (number + 1) xs) (pieces_text cut held start payload run k ys)))
 
   -- without an index the groups don't matter
-  groups_plain : (run : Run) (timescale number : ℕ) (gs : List (List Piece)) → groups_text (unindexed cut) held start payload run timescale number gs ≡ pieces_text cut held start payload run number (join gs)
-  groups_plain run timescale number [] = refl
-  groups_plain run timescale number (g ∷ gs) =
-      ap (λ (z : List ℕ). pieces_text cut held start payload run number g ++ z) (groups_plain run timescale (number + length g) gs)
+  groups_without_index : (run : Run) (timescale number : ℕ) (gs : List (List Piece)) → groups_text (without_index cut) held start payload run timescale number gs ≡ pieces_text cut held start payload run number (join gs)
+  groups_without_index run timescale number [] = refl
+  groups_without_index run timescale number (g ∷ gs) =
+      ap (λ (z : List ℕ). pieces_text cut held start payload run number g ++ z) (groups_without_index run timescale (number + length g) gs)
       ∙ sym (pieces_append run number (number + length g) g (join gs) refl)
 
   module _ (tracks : List Track) where
-    long_run : (run : Run) → (IsGiven tracks start payload held run) → AllByRecursion Long (pieces_of cut held run)
+    long_run : (run : Run) → (IsRunIn tracks start payload held run) → AllByRecursion Long (pieces_of cut held run)
     long_run run g = elim g.lies [
       | inl none ↦ subst (λ (ps : List Piece). AllByRecursion Long ps) (sym (none_of cut held start payload tracks run none)) tt
       | inr lies ↦ run_long cut held start payload run lies
     ]
 
-    pub runs_joined : (of : List Track) (number : ℕ) (runs : List Run) → AllByRecursion (IsGiven tracks start payload held) runs → joined (runs_items cut held start payload of number runs) ≡ runs_text cut held start payload of number runs
+    pub runs_joined : (of : List Track) (number : ℕ) (runs : List Run) → AllByRecursion (IsRunIn tracks start payload held) runs → joined (runs_items cut held start payload of number runs) ≡ runs_text cut held start payload of number runs
     runs_joined of number [] all = refl
     runs_joined of number (run ∷ runs) all =
         joined_append (groups_items cut held start payload run (timescale_of of run.track) number (groups (pieces_of cut held run))) _
@@ -92,10 +94,10 @@ module _ (cut : Cut) (held : List ℕ) (start : ℕ) (payload : List ℕ) where
         (groups_joined run (timescale_of of run.track) number (groups (pieces_of cut held run)) (subst (λ (ps : List Piece). AllByRecursion Long ps) (sym (groups_are (pieces_of cut held run)).joined) (long_run run all.0)))
         (runs_joined of (number + length (pieces_of cut held run)) runs all.1)
 
-    pub out_is : (of : List Track) (number : ℕ) (runs : List Run) → AllByRecursion (IsGiven tracks start payload held) runs → runs_out cut held start payload tracks number runs ≡ runs_text (unindexed cut) held start payload of number runs
+    pub out_is : (of : List Track) (number : ℕ) (runs : List Run) → AllByRecursion (IsRunIn tracks start payload held) runs → runs_out cut held start payload tracks number runs ≡ runs_text (without_index cut) held start payload of number runs
     out_is of number [] all = refl
     out_is of number (run ∷ runs) all =
         same_join _ _ _ _
         (pieces_joined run number (pieces_of cut held run) (long_run run all.0)
-        ∙ (sym (ap (pieces_text cut held start payload run number) (groups_are (pieces_of cut held run)).joined) ∙ sym (groups_plain run (timescale_of of run.track) number (groups (pieces_of cut held run)))))
+        ∙ (sym (ap (pieces_text cut held start payload run number) (groups_are (pieces_of cut held run)).joined) ∙ sym (groups_without_index run (timescale_of of run.track) number (groups (pieces_of cut held run)))))
         (out_is of (number + length (pieces_of cut held run)) runs all.1)

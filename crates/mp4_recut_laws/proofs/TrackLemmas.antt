@@ -13,7 +13,7 @@ use Rattle.mp4_frag.specs.Settling.{ended, ended_at, settled, with_end}
 use Rattle.mp4_frag.specs.Runs.{TrackFragment, end_of}
 use Rattle.mp4_cut.specs.Moof.{Fragment}
 use Rattle.mp4_cut.specs.Reads.{CanBeRead}
-use Rattle.mp4_recut_laws.specs.Again.{bare, without_end}
+use Rattle.mp4_recut_laws.specs.PieceItems.{without_end, without_ends}
 
 has_id : ℕ → Track → Bool
 has_id id t = t.id == id
@@ -25,17 +25,17 @@ found_by false at n ts e l = sym (slice_get_past ts at (omega (arith, ltb-false 
 with_is_find : (id : ℕ) (ts : List Track) → track_with id ts ≡ find (λ (t : Track). t.id == id) ts
 with_is_find id ts = found_by (nat_lt (position_or_len (λ (t : Track). t.id == id) ts) (length ts)) (position_or_len (λ (t : Track). t.id == id) ts) (length ts) ts refl refl ∙ sym (find_at (λ (t : Track). t.id == id) ts)
 
-find_by : (id : ℕ) (t : Track) (ts : List Track) (b : Bool) → (t.id == id) ≡ b → option_map without_end (find (λ (t : Track). t.id == id) ts) ≡ find (λ (t : Track). t.id == id) (bare ts)
-    → option_map without_end (cond b (Some t) (find (λ (t : Track). t.id == id) ts)) ≡ cond b (Some (without_end t)) (find (λ (t : Track). t.id == id) (bare ts))
+find_by : (id : ℕ) (t : Track) (ts : List Track) (b : Bool) → (t.id == id) ≡ b → option_map without_end (find (λ (t : Track). t.id == id) ts) ≡ find (λ (t : Track). t.id == id) (without_ends ts)
+    → option_map without_end (cond b (Some t) (find (λ (t : Track). t.id == id) ts)) ≡ cond b (Some (without_end t)) (find (λ (t : Track). t.id == id) (without_ends ts))
 find_by id t ts true e more = refl
 find_by id t ts false e more = more
 
-find_bare : (id : ℕ) (ts : List Track) → option_map without_end (find (λ (t : Track). t.id == id) ts) ≡ find (λ (t : Track). t.id == id) (bare ts)
-find_bare id [] = refl
-find_bare id (t ∷ ts) = find_by id t ts (t.id == id) refl (find_bare id ts)
+find_ends : (id : ℕ) (ts : List Track) → option_map without_end (find (λ (t : Track). t.id == id) ts) ≡ find (λ (t : Track). t.id == id) (without_ends ts)
+find_ends id [] = refl
+find_ends id (t ∷ ts) = find_by id t ts (t.id == id) refl (find_ends id ts)
 
-pub track_bare : (id : ℕ) (ts : List Track) → option_map without_end (track_with id ts) ≡ track_with id (bare ts)
-track_bare id ts = ap (option_map without_end) (with_is_find id ts) ∙ (find_bare id ts ∙ sym (with_is_find id (bare ts)))
+pub track_ends : (id : ℕ) (ts : List Track) → option_map without_end (track_with id ts) ≡ track_with id (without_ends ts)
+track_ends id ts = ap (option_map without_end) (with_is_find id ts) ∙ (find_ends id ts ∙ sym (with_is_find id (without_ends ts)))
 
 record Same (o : Option Track) (t : Track) : Type 0 where
   track : Track
@@ -47,24 +47,24 @@ some_back None t e = absurd cc
 some_back (Some u) t e = record { track = u; is = refl; entries = let same : without_end u ≡ without_end t = cc in ap (λ (x : Track). x.entries) same }
 
 -- what can be read behind some tracks can be read behind others that differ in their ends alone
-pub can_still : (f : Fragment) (ts us : List Track) → bare us ≡ bare ts → CanBeRead ts f → CanBeRead us f
+pub can_still : (f : Fragment) (ts us : List Track) → without_ends us ≡ without_ends ts → CanBeRead ts f → CanBeRead us f
 can_still f ts us e can =
-    let there = some_back (track_with f.track us) can.track (track_bare f.track us ∙ (ap (track_with f.track) e ∙ (sym (track_bare f.track ts) ∙ ap (option_map without_end) can.known))) in
+    let there = some_back (track_with f.track us) can.track (track_ends f.track us ∙ (ap (track_with f.track) e ∙ (sym (track_ends f.track ts) ∙ ap (option_map without_end) can.known))) in
     record { fits = can.fits; track = there.track; known = there.is; low = can.low; high = omega (arith, can.high, there.entries) }
 
-bare_next : (i n : ℕ) (ts : List Track) → bare (with_next i n ts) ≡ bare ts
+ends_next : (i n : ℕ) (ts : List Track) → without_ends (with_next i n ts) ≡ without_ends ts
 unfolding with_next
-bare_next i n [] = refl
-bare_next zero n (t ∷ ts) = refl
-bare_next (suc i) n (t ∷ ts) = ap (λ (us : List Track). without_end t ∷ us) (bare_next i n ts)
+ends_next i n [] = refl
+ends_next zero n (t ∷ ts) = refl
+ends_next (suc i) n (t ∷ ts) = ap (λ (us : List Track). without_end t ∷ us) (ends_next i n ts)
 
-bare_at : (o : Option ℕ) (n : ℕ) (ts : List Track) → bare (ended_at o n ts) ≡ bare ts
-bare_at None n ts = refl
-bare_at (Some i) n ts = bare_next i n ts
+ends_at : (o : Option ℕ) (n : ℕ) (ts : List Track) → without_ends (ended_at o n ts) ≡ without_ends ts
+ends_at None n ts = refl
+ends_at (Some i) n ts = ends_next i n ts
 
-pub bare_end : (id n : ℕ) (ts : List Track) → bare (with_end id n ts) ≡ bare ts
-bare_end id n ts = bare_at (position (λ (t : Track). t.id == id) ts) n ts
+pub ends_changed : (id n : ℕ) (ts : List Track) → without_ends (with_end id n ts) ≡ without_ends ts
+ends_changed id n ts = ends_at (position (λ (t : Track). t.id == id) ts) n ts
 
-pub bare_settled : (ts : List Track) (fs : List TrackFragment) → bare (settled ts fs) ≡ bare ts
-bare_settled ts [] = refl
-bare_settled ts (f ∷ fs) = bare_settled (ended ts f) fs ∙ bare_end f.shared.header.track (end_of f) ts
+pub ends_settled : (ts : List Track) (fs : List TrackFragment) → without_ends (settled ts fs) ≡ without_ends ts
+ends_settled ts [] = refl
+ends_settled ts (f ∷ fs) = ends_settled (ended ts f) fs ∙ ends_changed f.shared.header.track (end_of f) ts

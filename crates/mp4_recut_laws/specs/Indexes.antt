@@ -1,4 +1,4 @@
--- What an index of segments says, sidx (ISO/IEC 14496-12, 8.16.3), and when it tells the truth of the fragments behind it.
+-- What a segment index says, sidx (ISO/IEC 14496-12, 8.16.3), and when it tells the truth of the pieces that it is written for.
 use Rattle.std.specs.Prelude.{◌≡◌, ◌<◌, ◌^◌, ℕ, zero, suc, pos, ◌+◌, List, [], ◌∷◌, length, map, drop}
 use Rattle.std.specs.List.{AllByRecursion, sum_by}
 use Rattle.byteorder.specs.Endian.{big_number}
@@ -14,18 +14,20 @@ use Rattle.mp4_items.specs.Joined.{Item, Movie, MovieFragment, PassedOver, behin
 use Rattle.mp4_items.specs.Joined as items
 use Rattle.mp4_items.specs.Makings.{Fragment, runs_in}
 use Rattle.mp4_recut.specs.Splitting.{splitting, timescale_of}
-use Rattle.mp4_recut_laws.specs.Again.{Portion, index_one, piece_item, portion_of, portion_samples}
-use Rattle.mp4_recut_laws.specs.Shown.{Shown}
-use Rattle.mp4_recut_laws.specs.Streams.{Ending, NoMore, OpenBox, OpenFragment}
+use Rattle.mp4_recut_laws.specs.PieceItems.{PieceWithMedia, piece_item, piece_samples, piece_with_media}
+use Rattle.mp4_recut_laws.specs.RecutItems.{index_as_box}
+use Rattle.mp4_recut_laws.specs.MediaSamples.{MediaSample}
+use Rattle.mp4_recut_laws.specs.Streams.{Ending, NothingMore, OpenBox, OpenFragment}
 
--- ---- what the payload of a sidx of version 1 says
+-- ---- the fields of a sidx of version 1
 
--- referenced_size (31 bits, behind the bit reference_type), subsegment_duration (32 bits), and what is said of access points (32 bits)
+-- one reference of an index: referenced_size, which has 31 bits behind the bit reference_type (0: media), subsegment_duration, and the 32 bits of what is said of access points
 pub record Reference : Type 0 where
   pub size : ℕ
   pub duration : ℕ
   pub access : ℕ
 
+-- the fields of an index: version, reference_ID, timescale, earliest_presentation_time, first_offset and references
 pub record Index : Type 0 where
   pub version : ℕ
   pub track : ℕ
@@ -34,10 +36,12 @@ pub record Index : Type 0 where
   pub first_offset : ℕ
   pub references : List Reference
 
+-- so many references of 12 bytes each
 abbrev pub references_in : ℕ → List ℕ → List Reference
 references_in zero b = []
 references_in (suc n) b = record { size = big_number 4 b; duration = big_number 4 (drop 4 b); access = big_number 4 (drop 8 b) } ∷ references_in n (drop 12 b)
 
+-- the fields in the payload of a sidx of version 1: reference_ID at 4, timescale at 8, earliest_presentation_time at 12, first_offset at 20, reference_count at 30, and the references from 32 on
 abbrev pub index_in : List ℕ → Index
 index_in p = record {
   version = version_in p;
@@ -50,53 +54,59 @@ index_in p = record {
 
 -- ---- the truth
 
--- of fragments that stand one behind the other: how many bytes each has, and the durations of its samples added up
-abbrev pub referenced : ℕ → List Portion → List Reference
-referenced number [] = []
-referenced number (q ∷ qs) =
-    record { size = length (bytes_of (piece_item q.written number q.media)); duration = sum_by (λ (s : Shown). s.duration) (portion_samples q); access = 0 } ∷ referenced (number + 1) qs
+-- what references to these pieces must say: of each how many bytes its moof and mdat have, and the sum of the durations of its samples
+abbrev pub references_of : ℕ → List PieceWithMedia → List Reference
+references_of number [] = []
+references_of number (q ∷ qs) =
+    record { size = length (bytes_of (piece_item q.written number q.media)); duration = sum_by (λ (s : MediaSample). s.duration) (piece_samples q); access = 0 } ∷ references_of (number + 1) qs
 
--- the samples of the first of them
-abbrev pub first_samples : List Portion → List Shown
+-- the samples of the first of these pieces
+abbrev pub first_samples : List PieceWithMedia → List MediaSample
 first_samples [] = []
-first_samples (q ∷ qs) = portion_samples q
+first_samples (q ∷ qs) = piece_samples q
 
--- the index in this payload says so of them, and that the first of them stands directly behind it; its earliest time is the least at which a sample of the first of them is shown
-pub record IsTrue (id scale number : ℕ) (p : List ℕ) (qs : List Portion) : Type 0 where
+-- the payload p of a sidx says the truth of the pieces qs, which stand directly behind it: their sizes and durations, the least composition time of the first, the track and its timescale. It refers to media alone
+pub record IsIndexOf (id scale number : ℕ) (p : List ℕ) (qs : List PieceWithMedia) : Type 0 where
   pub version : (index_in p).version ≡ 1
   pub track : (index_in p).track ≡ id
   pub timescale : (index_in p).timescale ≡ scale
-  pub earliest : pos (index_in p).earliest ≡ least_of (map (λ (s : Shown). s.composition) (first_samples qs))
+  pub earliest : pos (index_in p).earliest ≡ least_of (map (λ (s : MediaSample). s.composition) (first_samples qs))
   pub offset : (index_in p).first_offset ≡ 0
-  pub references : (index_in p).references ≡ referenced number qs
-  pub media : AllByRecursion (λ (r : Reference). r.size < 2 ^ 31) (referenced number qs)
+  pub references : (index_in p).references ≡ references_of number qs
+  pub media : AllByRecursion (λ (r : Reference). r.size < 2 ^ 31) (references_of number qs)
 
--- ---- the indexes of a recut text, each with the fragments that stand behind it up to the next
+-- ---- the indexes of a recut text
 
 module _ (cut : Cut) (held : List ℕ) (start : ℕ) (payload : List ℕ) where
-  abbrev pub GroupsTrue : Run → (timescale number : ℕ) → List (List Piece) → Type 0
-  GroupsTrue run timescale number [] = Unit {0}
-  GroupsTrue run timescale number (g ∷ gs) =
-      IsTrue run.track timescale number (drop 8 (index_one run timescale g).bytes) (map (portion_of held start payload run) g) × GroupsTrue run timescale (number + length g) gs
+  -- the index of each group of pieces tells the truth of the group
+  abbrev pub GroupsAreIndexed : Run → (timescale number : ℕ) → List (List Piece) → Type 0
+  GroupsAreIndexed run timescale number [] = Unit {0}
+  GroupsAreIndexed run timescale number (g ∷ gs) =
+      IsIndexOf run.track timescale number (drop 8 (index_as_box run timescale g).bytes) (map (piece_with_media held start payload run) g) × GroupsAreIndexed run timescale (number + length g) gs
 
-  abbrev pub RunsTrue : List Track → ℕ → List Run → Type 0
-  RunsTrue tracks number [] = Unit {0}
-  RunsTrue tracks number (run ∷ runs) =
-      GroupsTrue run (timescale_of tracks run.track) number (groups (pieces_of cut held run)) × RunsTrue tracks (number + length (pieces_of cut held run)) runs
+  -- so do the indexes of all these runs
+  abbrev pub RunsAreIndexed : List Track → ℕ → List Run → Type 0
+  RunsAreIndexed tracks number [] = Unit {0}
+  RunsAreIndexed tracks number (run ∷ runs) =
+      GroupsAreIndexed run (timescale_of tracks run.track) number (groups (pieces_of cut held run)) × RunsAreIndexed tracks (number + length (pieces_of cut held run)) runs
 
-abbrev pub FragmentTrue : Cut → Fragment → List ℕ → Type 0
-FragmentTrue cut f payload = RunsTrue cut f.moof.bytes f.payload.start payload f.tracks f.number (runs_in f)
+-- so do the indexes that a fragment is recut with
+abbrev pub FragmentIsIndexed : Cut → Fragment → List ℕ → Type 0
+FragmentIsIndexed cut f payload = RunsAreIndexed cut f.moof.bytes f.payload.start payload f.tracks f.number (runs_in f)
 
-abbrev pub ItemTrue : Cut → Context → Item → Type 0
-ItemTrue cut c (PassedOver b) = Unit {0}
-ItemTrue cut c (Movie b) = Unit {0}
-ItemTrue cut c (MovieFragment moof mdat) = FragmentTrue cut (fragment_in c moof mdat) (drop mdat.header.header_len mdat.bytes)
+-- so do those of an item
+abbrev pub ItemIsIndexed : Cut → Context → Item → Type 0
+ItemIsIndexed cut c (PassedOver b) = Unit {0}
+ItemIsIndexed cut c (Movie b) = Unit {0}
+ItemIsIndexed cut c (MovieFragment moof mdat) = FragmentIsIndexed cut (fragment_in c moof mdat) (drop mdat.header.header_len mdat.bytes)
 
-abbrev pub ItemsTrue : Cut → Context → List Item → Type 0
-ItemsTrue cut c [] = Unit {0}
-ItemsTrue cut c (i ∷ is) = ItemTrue cut c i × ItemsTrue cut (behind_item (splitting cut) c i) is
+-- so do those of items, one after the other
+abbrev pub ItemsAreIndexed : Cut → Context → List Item → Type 0
+ItemsAreIndexed cut c [] = Unit {0}
+ItemsAreIndexed cut c (i ∷ is) = ItemIsIndexed cut c i × ItemsAreIndexed cut (behind_item (splitting cut) c i) is
 
-abbrev pub EndingTrue : Cut → Context → Ending → Type 0
-EndingTrue cut c NoMore = Unit {0}
-EndingTrue cut c (OpenBox h head more) = Unit {0}
-EndingTrue cut c (OpenFragment moof h head more) = FragmentTrue cut (items.fragment_of c moof.bytes h) more
+-- so do those of an ending
+abbrev pub EndingIsIndexed : Cut → Context → Ending → Type 0
+EndingIsIndexed cut c NothingMore = Unit {0}
+EndingIsIndexed cut c (OpenBox h head more) = Unit {0}
+EndingIsIndexed cut c (OpenFragment moof h head more) = FragmentIsIndexed cut (items.fragment_of c moof.bytes h) more
