@@ -1,5 +1,5 @@
 -- An index that is written tells the truth of the fragments behind it.
-use Rattle.std.proofs.Common.{◌≡◌, ◌∙◌, ℕ, ℤ, zero, suc, pos, negsuc, ◌+◌, ◌-◌, ◌<◌, ◌≤◌, ◌^◌, ◌+ℤ◌, List, [], ◌∷◌, ◌++◌, length, length-append, Option, Some, None, inl, inr, refl, sym, ap, arith, subst, map}
+use Rattle.std.proofs.Common.{◌≡◌, ◌∙◌, ℕ, ℤ, zero, suc, pos, negsuc, ◌+◌, ◌<◌, ◌≤◌, ◌^◌, ◌+ℤ◌, List, [], ◌∷◌, ◌++◌, length, length-append, Option, Some, None, inl, inr, refl, sym, ap, arith, subst, map}
 use Rattle.std.specs.Prelude.{◌==◌, drop, slice_get, take}
 use Rattle.std.specs.List.{AllByRecursion, flat_map, position, sum_by}
 use Rattle.std.specs.Option.{option_and_then}

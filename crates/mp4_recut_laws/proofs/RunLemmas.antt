@@ -144,7 +144,7 @@ module _ (cut : Cut) (held : List ℕ) (start : ℕ) (payload : List ℕ) (track
       refl
       (ap (λ (ps : List Piece). joined (pieces_items number (media_pieces run ps))) back)
       (ap (λ (ps : List Piece). length ps) back)
-      (ap (λ (ps : List Piece). flat_map piece_samples (media_pieces run ps)) back ∙ g.shown)
+      (ap (λ (ps : List Piece). flat_map piece_samples (media_pieces run ps)) back ∙ g.samples_are)
 
   pub runs_recut : length payload ≤ 2 ^ 62 → (number : ℕ) (of : List Track) (runs : List Run) → AllByRecursion (IsRunIn tracks start payload held) runs → number + runs_count runs ≤ 2 ^ 32
       → AreRecutAnywhere (without_index cut) number tracks (runs_items cut held start payload of number runs) (runs_out number runs) (runs_count runs) (flat_map (media_samples_of_run held start payload) runs)

@@ -1,4 +1,4 @@
-use Rattle.std.proofs.Common.{◌≡◌, ◌∙◌, ◌≤◌, ◌^◌, ℕ, List, length, sym, subst}
+use Rattle.std.proofs.Common.{◌∙◌, ◌≤◌, ◌^◌, ℕ, List, length, sym, subst}
 use Rattle.mp4_recut_laws.specs.Streams.{recut}
 use Rattle.mp4_recut_laws.proofs.IndexTruthLemmas.{recut_indexes_true}
 use Rattle.mp4_recut_laws.proofs.StreamBytesLemmas.{text_of_stream, text_stream}
