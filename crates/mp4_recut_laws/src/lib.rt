@@ -58,9 +58,9 @@ pub fn recut_text_of_a_stream()
         told_by tell (stream_bytes s) ≡ flat_map tell (stream_samples cut s) }
 {}
 
-/// The recut text of bytes that are read without a fault, if it has at most 2^62 bytes: it is read
-/// without a fault, without an index it is its own recut text, and whatever can be told of a sample is
-/// told of the same samples in the same order.
+/// The recut text of bytes that are read without a fault is bytes. If it has at most 2^62 of them, it is
+/// read without a fault, without an index it is its own recut text, and whatever is told of each sample of
+/// the stream, in order, is told of each sample of the text.
 pub fn recut_text_is_a_stream()
     ensures bytes { (cut : Cut) (b : List ℕ) → IsBytes b → (reading cut b).outcome ≡ Sound →
         IsBytes (recut_text cut b) }
