@@ -24,7 +24,8 @@ use Rattle.mp4_cut.specs.Moof.{fragment_of}
 use Rattle.mp4_cut.specs.Reads.{FitsFields, FitsTrack}
 use Rattle.mp4_cut.specs.Sidx.{earliest, natural, reference_bytes, sidx_payload, written_index}
 use Rattle.mp4_cut.proofs.ByteLemmas.{moof_bytes}
-use Rattle.mp4_cut.proofs.GivenLemmas.{IsSoundRun, can_be_read}
+use Rattle.mp4_cut.specs.Reads.{IsSoundRun}
+use Rattle.mp4_cut.proofs.GivenLemmas.{can_be_read}
 use Rattle.mp4_pieces.specs.Sizes.{fragment_size}
 use Rattle.mp4_items.specs.Contexts.{Context, context, first_context}
 use Rattle.mp4_items.specs.Joined.{AreSound, IsSound, Item, Movie, MovieFragment, OneBox, PassedOver, behind_item, bytes_of, fragment_in, joined, tracks_in}

@@ -20,7 +20,8 @@ use Rattle.mp4_pieces.proofs.CutLemmas.{pieces_are}
 use Rattle.mp4_pieces.proofs.FitLemmas.{is_limit}
 use Rattle.mp4_pieces.proofs.PieceLemmas.{pieces_are_of}
 use Rattle.mp4_cut.specs.Sidx.{natural}
-use Rattle.mp4_cut.proofs.GivenLemmas.{IsSoundRun, can_be_read}
+use Rattle.mp4_cut.specs.Reads.{IsSoundRun}
+use Rattle.mp4_cut.proofs.GivenLemmas.{can_be_read}
 use Rattle.mp4_cut.proofs.PieceLemmas.{bytes_are, count_is}
 use Rattle.mp4_recut_laws.specs.PieceItems.{IsOnePiece, LiesIn, PieceWithMedia, piece_samples, piece_with_media, pieces_with_media}
 use Rattle.mp4_recut_laws.specs.RecutItems.{without_index}

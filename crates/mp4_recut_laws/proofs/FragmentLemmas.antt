@@ -44,7 +44,8 @@ use Rattle.mp4_pieces.proofs.RoomLemmas.{past_last}
 use Rattle.mp4_pieces.proofs.RunLemmas.{runs_are}
 use Rattle.mp4_pieces.proofs.OrderLemmas.{count_kept}
 use Rattle.mp4_cut.specs.Reads.{FitsTrack}
-use Rattle.mp4_cut.proofs.GivenLemmas.{IsSoundRun, all_sound}
+use Rattle.mp4_cut.specs.Reads.{IsSoundRun}
+use Rattle.mp4_cut.proofs.GivenLemmas.{all_sound}
 use Rattle.mp4_recut_laws.specs.Premises.{IsRunIn}
 use Rattle.mp4_recut_laws.specs.RecutItems.{AreRecutAnywhere, fragment_items, without_index}
 

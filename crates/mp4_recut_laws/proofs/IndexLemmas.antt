@@ -35,10 +35,11 @@ use Rattle.mp4_recut.specs.Texts.{media_of}
 use Rattle.mp4_recut_laws.specs.PieceItems.{PieceWithMedia, mdat_as_box, piece_item, piece_samples, piece_with_media}
 use Rattle.mp4_recut_laws.specs.Premises.{IsRunIn}
 use Rattle.mp4_recut_laws.specs.RecutItems.{index_as_box}
-use Rattle.mp4_recut_laws.specs.Indexes.{GroupsAreIndexed, IsIndexOf, Reference, RunsAreIndexed, first_samples, references_of, references_in}
+use Rattle.mp4_cut.specs.Indexes.{Reference, references_in}
+use Rattle.mp4_recut_laws.specs.Indexes.{GroupsAreIndexed, IsIndexOf, RunsAreIndexed, first_samples, references_of}
 use Rattle.mp4_recut_laws.specs.MediaSamples.{MediaSample, media_samples_from}
 use Rattle.mp4_recut_laws.proofs.CutLemmas.{run_long}
-use Rattle.mp4_recut_laws.proofs.OnePieceLemmas.{length_media}
+use Rattle.mp4_cut.proofs.ReadLemmas.{length_media}
 use Rattle.mp4_recut_laws.proofs.RunLemmas.{none_of}
 
 -- ---- what samples come to

@@ -31,7 +31,8 @@ use Rattle.mp4_recut.specs.Splitting.{is_dropped, scale_of, splitting, timescale
 use Rattle.mp4_recut_laws.specs.PieceItems.{IsOnePiece, PieceWithMedia, piece_item, piece_samples, piece_with_media, pieces_items, without_end, without_ends}
 use Rattle.mp4_recut_laws.specs.Premises.{CanAllBeRecut, CanBeRecut, IsRunIn}
 use Rattle.mp4_recut_laws.specs.RecutItems.{groups_items, index_as_box, index_items, item_recut, items_recut, kept_items, runs_items, without_index}
-use Rattle.mp4_recut_laws.specs.Indexes.{GroupsAreIndexed, IsIndexOf, Reference, index_in, references_of}
+use Rattle.mp4_cut.specs.Indexes.{Reference, index_in}
+use Rattle.mp4_recut_laws.specs.Indexes.{GroupsAreIndexed, IsIndexOf, references_of}
 use Rattle.mp4_recut_laws.specs.MediaSamples.{MediaSample, item_samples, media_samples_from}
 use Rattle.mp4_recut_laws.specs.Streams.{Ending, IsSoundEnding, IsSoundStream, NothingMore, OpenBox, OpenFragment, Stream, ending_context, ending_bytes, ending_items, recut}
 use Rattle.mp4_recut_laws.specs.IndexTruth.{IndexesAreTrue, IndexIsTrue, first_references, samples_of_first}

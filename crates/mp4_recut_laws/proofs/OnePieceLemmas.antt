@@ -1,13 +1,11 @@
 -- A fragment of one piece is its own recut text.
-use Rattle.std.proofs.Common.{◌≡◌, ◌∙◌, ℕ, ◌+◌, ◌-◌, ◌<◌, ◌≤◌, ◌^◌, Bool, true, false, cond, ltb, List, [], ◌∷◌, ◌++◌, length, Option, Some, None, refl, sym, ap, subst, arith, append-nil, append_assoc, length-append, pos, inr}
+use Rattle.std.proofs.Common.{◌≡◌, ◌∙◌, ℕ, ◌+◌, ◌-◌, ◌<◌, ◌≤◌, ◌^◌, true, false, List, [], ◌∷◌, ◌++◌, length, Option, Some, None, refl, sym, ap, subst, arith, append-nil, append_assoc, length-append, pos}
 use Rattle.std.specs.Prelude.{take, drop}
 use Rattle.std.specs.List.{AllByRecursion}
 use Rattle.std.specs.Option.{option_or}
-use Rattle.std.proofs.lemmas.Bool.{ltb-true, false≢true}
+use Rattle.std.proofs.lemmas.Bool.{false≢true}
 use Rattle.std.proofs.lemmas.List.{drop_at, take_all}
-use Rattle.std.proofs.lemmas.Slice.Eq.{bytes_eq-Decides}
-use Rattle.byteorder.specs.Endian.{big_bytes}
-use Rattle.mp4_box.specs.Headers.{Head, IsBox, uuid}
+use Rattle.mp4_box.specs.Headers.{IsBox}
 use Rattle.mp4_box.specs.declared.rules.Fault.{Fault}
 use Rattle.mp4_init.specs.declared.table.Track.{Track}
 use Rattle.mp4_frag.specs.declared.run.Run.{Run}
@@ -31,13 +29,13 @@ use Rattle.mp4_pieces.proofs.FitLemmas.{is_limit}
 use Rattle.mp4_pieces.proofs.FitsLemmas.{room_to}
 use Rattle.mp4_box.specs.Order.{least}
 use Rattle.mp4_box.specs.Order as order
-use Rattle.mp4_cut.specs.Mdat.{mdat, mdat_header}
+use Rattle.mp4_cut.specs.Mdat.{mdat_header}
 use Rattle.mp4_cut.specs.Moof.{Fragment, data_offset, in_moof, moof_box, fragment_of}
 use Rattle.mp4_cut.specs.Reads.{FitsFields, IsReadAs, Tells, header_of, held_moof, media_of}
 use Rattle.mp4_cut.specs.Sidx.{natural}
-use Rattle.mp4_cut.proofs.BoxLemmas.{head_is, is_box}
+use Rattle.mp4_cut.proofs.BoxLemmas.{is_box}
 use Rattle.mp4_cut.proofs.MoofLemmas.{length_in_moof, length_moof, short_moof}
-use Rattle.mp4_cut.proofs.ReadLemmas.{fragment_again, is_read_as, length_mdat}
+use Rattle.mp4_cut.proofs.ReadLemmas.{fragment_again, is_read_as, length_mdat, mdat_is_box}
 use Rattle.mp4_items.specs.Contexts.{Context, context}
 use Rattle.mp4_items.specs.declared.kinds.Kind.TheVariants.{Moof, Mdat}
 use Rattle.mp4_items.specs.Joined.{IsOne, bytes_of, fragment_in}
@@ -60,37 +58,9 @@ moof_is f number fits = record {
   is = subst (λ (n : ℕ). IsBox (header_of moof n 8) (in_moof f number) (moof_box f number)) (omega (arith, length_in_moof f number)) (is_box moof (in_moof f number) (short_moof f number fits));
 }
 
-long_head : (bytes : ℕ) → bytes ≤ 2 ^ 62 → Head (header_of mdat (16 + bytes) 16) (big_bytes 4 1 ++ (mdat.0 ++ big_bytes 8 (16 + bytes)))
-long_head bytes h = record {
-  kind = refl;
-  user = λ e. absurd (false≢true (sym refl ∙ (bytes_eq-Decides mdat.0 uuid).1 e));
-  spelled = inr (sym (append-nil (big_bytes 4 1 ++ (mdat.0 ++ big_bytes 8 (16 + bytes)))), omega arith, omega arith);
-  header_len = refl;
-}
-
-head_by : (t : Bool) (bytes : ℕ) → ltb (8 + bytes) (2 ^ 32) ≡ t → bytes ≤ 2 ^ 62 → Head (header_of mdat (cond t 8 16 + bytes) (cond t 8 16)) (cond t (big_bytes 4 (8 + bytes) ++ mdat.0) (big_bytes 4 1 ++ (mdat.0 ++ big_bytes 8 (16 + bytes))))
-head_by true bytes t h = head_is mdat (8 + bytes) refl refl (omega arith) (ltb-true _ _ t)
-head_by false bytes t h = long_head bytes h
-
-mdat_head : (bytes : ℕ) → bytes ≤ 2 ^ 62 → Head (header_of mdat (mdat_header_size bytes + bytes) (mdat_header_size bytes)) (mdat_header bytes)
-unfolding mdat_header
-mdat_head bytes h = head_by (ltb (8 + bytes) (2 ^ 32)) bytes refl h
-
-pub length_media : (media : List ℕ) → length (mdat_header (length media) ++ media) ≡ mdat_header_size (length media) + length media
-length_media media = length-append (mdat_header (length media)) media ∙ ap (λ (n : ℕ). n + length media) (length_mdat (length media))
-
 pub mdat_is : (media : List ℕ) → length media ≤ 2 ^ 62 → IsOne Mdat (mdat_as_box media)
 unfolding kind_in
-mdat_is media small = record {
-  type = refl;
-  payload = media;
-  is = record {
-    head = mdat_header (length media);
-    spelled = mdat_head (length media) small;
-    whole = refl;
-    size = ap (Rattle.mp4_box.specs.declared.headers.Size.TheVariants.Exact) (sym (length_media media));
-  };
-}
+mdat_is media small = record { type = refl; payload = media; is = mdat_is_box media small }
 
 -- ---- the pieces of its run
 

@@ -27,7 +27,8 @@ use Rattle.mp4_pieces.specs.Rooms.{room_fault}
 use Rattle.mp4_pieces.proofs.RunLemmas.{runs_are}
 use Rattle.mp4_pieces.proofs.OrderLemmas.{count_kept, runs_kept}
 use Rattle.mp4_cut.specs.Reads.{FitsTrack}
-use Rattle.mp4_cut.proofs.GivenLemmas.{IsSoundRun, all_sound}
+use Rattle.mp4_cut.specs.Reads.{IsSoundRun}
+use Rattle.mp4_cut.proofs.GivenLemmas.{all_sound}
 use Rattle.mp4_items.specs.Contexts.{context}
 use Rattle.mp4_items.specs.Items.{end_of}
 use Rattle.mp4_items.specs.Joined.{IsGood, fragment_of}

@@ -68,7 +68,7 @@ module _ (cut : Cut) (index : cut.index ≡ true) where
 
   pub item_scaled : (c : Context) (i : Item) → AreScaled (tracks_in c) → IsSound (splitting cut) c i → IsBytes (bytes_of i) → AreScaled (tracks_in (behind_item (splitting cut) c i))
   item_scaled c (PassedOver b) scaled s held = scaled
-  item_scaled c (Movie b) scaled s held = moov_scaled c.at b.bytes (b.header, s.0.one.payload, s.0.one.is) held
+  item_scaled c (Movie b) scaled s held = moov_scaled c.at b.bytes held
   item_scaled c (MovieFragment moof mdat) scaled s held =
       let ts = tracks_in c in
       let fs = moof_trafs (held_at moof.bytes c.at) ts in

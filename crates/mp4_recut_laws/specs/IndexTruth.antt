@@ -3,10 +3,10 @@ use Rattle.std.specs.Prelude.{◌≡◌, ◌<◌, ◌^◌, ℕ, zero, suc, pos, 
 use Rattle.std.specs.List.{AllByRecursion, sum_by}
 use Rattle.mp4_pieces.specs.declared.cut.Cut.{Cut}
 use Rattle.mp4_pieces.specs.Pieces.{least_of}
+use Rattle.mp4_cut.specs.Indexes.{Index, Reference, index_in}
 use Rattle.mp4_items.specs.Contexts.{Context}
 use Rattle.mp4_items.specs.Joined.{Item, Movie, MovieFragment, PassedOver, behind_item, bytes_of, tracks_in}
 use Rattle.mp4_recut.specs.Splitting.{splitting, timescale_of}
-use Rattle.mp4_recut_laws.specs.Indexes.{Index, Reference, index_in}
 use Rattle.mp4_recut_laws.specs.MediaSamples.{MediaSample, item_samples}
 
 -- what references to the first n of these items must say: of each how many bytes it has, and the sum of the durations of its samples

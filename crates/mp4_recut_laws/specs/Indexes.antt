@@ -1,14 +1,13 @@
--- What a segment index says, sidx (ISO/IEC 14496-12, 8.16.3), and when it tells the truth of the pieces that it is written for.
-use Rattle.std.specs.Prelude.{◌≡◌, ◌<◌, ◌^◌, ℕ, zero, suc, pos, ◌+◌, List, [], ◌∷◌, length, map, drop}
+-- When a segment index, sidx (ISO/IEC 14496-12, 8.16.3), tells the truth of the pieces that it is written for.
+use Rattle.std.specs.Prelude.{◌≡◌, ◌<◌, ◌^◌, ℕ, pos, ◌+◌, List, [], ◌∷◌, length, map, drop}
 use Rattle.std.specs.List.{AllByRecursion, sum_by}
-use Rattle.byteorder.specs.Endian.{big_number}
-use Rattle.mp4_box.specs.Fields.{long_number_in, number_in, version_in}
 use Rattle.mp4_init.specs.declared.table.Track.{Track}
 use Rattle.mp4_frag.specs.declared.run.Run.{Run}
 use Rattle.mp4_pieces.specs.declared.cut.Cut.{Cut}
 use Rattle.mp4_pieces.specs.declared.piece.Piece.{Piece}
 use Rattle.mp4_pieces.specs.Groups.{groups}
 use Rattle.mp4_pieces.specs.Pieces.{least_of, pieces_of}
+use Rattle.mp4_cut.specs.Indexes.{Reference, index_in}
 use Rattle.mp4_items.specs.Contexts.{Context}
 use Rattle.mp4_items.specs.Joined.{Item, Movie, MovieFragment, PassedOver, behind_item, bytes_of, fragment_in}
 use Rattle.mp4_items.specs.Joined as items
@@ -18,39 +17,6 @@ use Rattle.mp4_recut_laws.specs.PieceItems.{PieceWithMedia, piece_item, piece_sa
 use Rattle.mp4_recut_laws.specs.RecutItems.{index_as_box}
 use Rattle.mp4_recut_laws.specs.MediaSamples.{MediaSample}
 use Rattle.mp4_recut_laws.specs.Streams.{Ending, NothingMore, OpenBox, OpenFragment}
-
--- ---- the fields of a sidx of version 1
-
--- one reference of an index: referenced_size, which has 31 bits behind the bit reference_type (0: media), subsegment_duration, and the 32 bits of what is said of access points
-pub record Reference : Type 0 where
-  pub size : ℕ
-  pub duration : ℕ
-  pub access : ℕ
-
--- the fields of an index: version, reference_ID, timescale, earliest_presentation_time, first_offset and references
-pub record Index : Type 0 where
-  pub version : ℕ
-  pub track : ℕ
-  pub timescale : ℕ
-  pub earliest : ℕ
-  pub first_offset : ℕ
-  pub references : List Reference
-
--- so many references of 12 bytes each
-abbrev pub references_in : ℕ → List ℕ → List Reference
-references_in zero b = []
-references_in (suc n) b = record { size = big_number 4 b; duration = big_number 4 (drop 4 b); access = big_number 4 (drop 8 b) } ∷ references_in n (drop 12 b)
-
--- the fields in the payload of a sidx of version 1: reference_ID at 4, timescale at 8, earliest_presentation_time at 12, first_offset at 20, reference_count at 30, and the references from 32 on
-abbrev pub index_in : List ℕ → Index
-index_in p = record {
-  version = version_in p;
-  track = number_in p 4;
-  timescale = number_in p 8;
-  earliest = long_number_in p 12;
-  first_offset = long_number_in p 20;
-  references = references_in (big_number 2 (drop 30 p)) (drop 32 p);
-}
 
 -- ---- the truth
 

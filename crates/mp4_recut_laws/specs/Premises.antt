@@ -8,8 +8,7 @@ use Rattle.mp4_frag.specs.declared.run.Run.{Run}
 use Rattle.mp4_frag.specs.Rows.{rows_of}
 use Rattle.mp4_pieces.specs.declared.cut.Cut.{Cut}
 use Rattle.mp4_pieces.specs.Pieces.{IsRunOf}
-use Rattle.mp4_cut.specs.Reads.{FitsTrack}
-use Rattle.mp4_cut.proofs.GivenLemmas.{IsSoundRun}
+use Rattle.mp4_cut.specs.Reads.{FitsTrack, IsSoundRun}
 use Rattle.mp4_items.specs.Contexts.{Context, first_context}
 use Rattle.mp4_items.specs.Joined.{AreSound, Item, Movie, MovieFragment, PassedOver, behind_item, behind_items, joined, tracks_in}
 use Rattle.mp4_recut.specs.Splitting.{splitting}

@@ -1,10 +1,9 @@
 //! Laws over pieces, runs and items, from which those over streams follow: a piece, pieces one after
-//! the other, the samples of a run, the items of a stream, a moov, and a stream by its items.
+//! the other, the samples of a run, the items of a stream, and a stream by its items.
 
-ghost use Rattle.std.specs.Prelude.{◌≡◌, ◌+◌, ◌<◌, ◌≤◌, ◌^◌, ◌++◌, ℕ, List, length, take, drop, false, None, Some};
+ghost use Rattle.std.specs.Prelude.{◌≡◌, ◌+◌, ◌<◌, ◌≤◌, ◌^◌, ◌++◌, ℕ, List, length, take, drop, false, Some};
 ghost use Rattle.std.specs.List.{AllByRecursion, flat_map};
 ghost use Rattle.mp4_box.specs.Headers.{IsBytes};
-ghost use Rattle.mp4_init.specs.Moovs.{moov_fault, moov_tracks};
 ghost use Rattle.mp4_init.specs.declared.table.Track.{Track};
 ghost use Rattle.mp4_frag.specs.Rows.{durations, sizes};
 ghost use Rattle.mp4_frag.specs.Settling.{with_end};
@@ -78,12 +77,6 @@ pub fn text_has_no_fault()
     ensures { (cut : Cut) (is : List Item) → AreFirstItems cut is →
         length (items_text cut first_context is) ≤ 2 ^ 62 →
         (reading (without_index cut) (items_text cut first_context is)).outcome ≡ Sound }
-{}
-
-/// A moov that is good at one stream offset is good at each, with the same tracks.
-pub fn moov_is_good_anywhere()
-    ensures { (x : List ℕ) (o to : ℕ) → moov_fault o x ≡ None →
-        (moov_fault to x ≡ None) × (moov_tracks to x ≡ moov_tracks o x) }
 {}
 
 /// The recut text of a stream is the bytes of the stream that it is recut to. Without an index that has
