@@ -1,6 +1,6 @@
 //! Callers of the libraries, which their pages `CALLING.md` quote.
 
-ghost use Rattle.std.specs.Prelude.{◌≡◌, ◌+◌, ◌*◌, ◌^◌, ◌<◌, ◌≤◌, ◌↔◌, ◌==◌, ◌∷◌, [], length, codes, nat_le, not, option_map, option_to_list, ◌++◌, IfNone, IfOk, IfErr, Err, None, Some};
+ghost use Rattle.std.specs.Prelude.{◌≡◌, ◌+◌, ◌*◌, ◌^◌, ◌<◌, ◌≤◌, ◌↔◌, ◌==◌, ◌∷◌, [], length, codes, nat_le, not, option_map, option_to_list, ◌++◌, IfNone, IfOk, IfErr, OnErr, Err, None, Some, List, true, ℕ};
 ghost use Rattle.std.specs.List.{All, list_all, position};
 ghost use Rattle.std.specs.Option.{is_some};
 ghost use Rattle.mp4_box.specs.declared.rules.Fault.{Fault};
@@ -11,6 +11,7 @@ ghost use Rattle.mp4_box.specs.Order.{IsLeast};
 ghost use Rattle.mp4_box.specs.Paths.{at_path, of_kind};
 ghost use Rattle.mp4_box.specs.Trees.{Box, box_at, children, tree_faults, view};
 ghost use Rattle.mp4_frag.specs.Moofs.{moof_faults, moof_runs};
+ghost use Rattle.mp4_frag.specs.RunLists.{IsListOf, taken_runs};
 ghost use Rattle.mp4_frag.specs.Rows.{IsCursor};
 ghost use Rattle.mp4_frag.specs.Runs.{runs_of};
 ghost use Rattle.mp4_init.specs.Moovs.{moov_fault, moov_tracks};
@@ -18,6 +19,11 @@ ghost use Rattle.mp4_cut.specs.Mdat.{mdat_header};
 ghost use Rattle.mp4_cut.specs.Moof.{written_moof};
 ghost use Rattle.mp4_cut.specs.Puts.{Writes};
 ghost use Rattle.mp4_pieces.specs.Pieces.{IsPieceOf, IsRunOf, pieces_from};
+ghost use Rattle.mp4_reading.specs.Readings.{Told, both};
+ghost use Rattle.mp4_recut.specs.Cursors.{AreCut};
+ghost use Rattle.mp4_recut.specs.Media.{Tells, playing, spot_of};
+ghost use Rattle.mp4_recut.specs.Parts.{played};
+ghost use Rattle.mp4_recut.specs.Splitting.{runs_parts};
 ghost use Rattle.mp4_run_order.specs.Orders.{FitsKeys, taken};
 ghost use Rattle.mp4_run_order.specs.Places.{first_offender};
 ghost use Rattle.mp4_run_order.specs.Runs.{IsListing};
@@ -26,11 +32,13 @@ ghost use Rattle.library_tests.specs.Kinds.{to_trun, traf};
 
 use mp4_box::{Along, BoxRef, Fault, FourCc, check_tree, count_of, number_at, whole_box};
 use mp4_cut::{WriteFault, write_mdat_header, write_moof};
-use mp4_ends::Sink;
-use mp4_frag::{Cursor, Moof, Run, Steps, Traf};
+use mp4_ends::{Failed, Sink};
+use mp4_frag::{Cursor, Moof, Run, RunList, Steps, Traf};
 use mp4_init::{InitStop, TrackList, tracks};
 use mp4_ledger::Ledger;
 use mp4_pieces::{Cut, Piece, Pieces};
+use mp4_reading::Block;
+use mp4_recut::media::{Media, begin, settle};
 use mp4_run_order::{ListedRun, Payload, PlaceSearch, TrackSearch};
 
 const TRAF: FourCc = FourCc(*b"traf");
@@ -196,5 +204,35 @@ pub fn write_front<W: Sink>(
     match write_mdat_header(piece.bytes, w) {
         Ok(()) => Ok(()),
         Err(WriteFault) => Err(WriteFault),
+    }
+}
+
+/// Puts all that is written of a moof before its first media byte: the head of its first piece, and of
+/// those behind it as long as no media byte is needed. Gives where the media begin then.
+pub fn put_first_heads<W: Sink>(
+    moof: &Moof<'_>,
+    runs: &RunList,
+    tracks: &TrackList,
+    cut: &Cut,
+    fragments: &mut u64,
+    block: &mut Block,
+    w: &mut W,
+) -> Result<Media, Failed>
+    requires list { IsListOf moof.now tracks.now runs.now }
+    requires cut { AreCut cut.now moof.now tracks.now }
+    requires numbers { fragments.old + 1 + length (runs_parts cut.now moof.now.bytes tracks.now
+        (fragments.old + 1) (taken_runs moof.now tracks.now)) ≤ 2 ^ 32 }
+    ensures told { IfOk result (λ media. (at : ℕ) → (told : Told) ×
+        Tells (W.contents w.old) (W.contents w.new) block.old block.new fragments.old
+        fragments.new told × ((bytes : List ℕ) →
+        played at (runs_parts cut.now moof.now.bytes tracks.now (fragments.old + 1)
+        (taken_runs moof.now tracks.now)) bytes ≡ both told (playing (spot_of cut.now moof.now
+        tracks.now at (fragments.new + 1) media) bytes))) }
+    ensures failed { OnErr result (W.has_failed w.new ≡ true) }
+{
+    let media = begin(moof, runs, tracks, cut);
+    match settle(media, moof, runs, tracks, cut, fragments, block, w) {
+        Ok(media) => Ok(media),
+        Err(Failed) => Err(Failed),
     }
 }

@@ -9,3 +9,5 @@ pub mod PathLemmas
 pub mod CheckLemmas
 pub mod SizeLemmas
 pub mod FilledLemmas
+pub mod ByteLemmas
+pub mod OffsetLemmas

@@ -31,14 +31,14 @@ use Rattle.mp4_frag.specs.Runs.{Held, base_of, end_place, no_track, run_at, run_
 use Rattle.mp4_frag.specs.Moofs.{IsRead, moof_of, moof_runs}
 use Rattle.mp4_frag.proofs.MoofLemmas.{early, last_none, moof_is, on_path, read_early, values}
 use Rattle.mp4_frag.proofs.PlaceLemmas.{Lies, children_lie, kind_all, moof_lies}
-use Rattle.mp4_frag.proofs.RangeLemmas.{number_small}
+use Rattle.mp4_box.proofs.ByteLemmas.{number_small}
 use Rattle.mp4_frag.proofs.RunRowLemmas as run_rows
 use Rattle.mp4_pieces.specs.declared.piece.Piece.{Piece}
 use Rattle.mp4_pieces.specs.Pieces.{IsPieceOf, IsRunOf, piece_at, rows_in}
 use Rattle.mp4_pieces.proofs.PieceLemmas.{piece_ends}
 use Rattle.mp4_pieces.proofs.RunLemmas.{runs_are}
 use Rattle.mp4_cut.specs.Moof.{fragment_of}
-use Rattle.mp4_cut.specs.Reads.{CanBeRead, FitsOffset, FitsRow, FitsTrack}
+use Rattle.mp4_cut.specs.Reads.{CanBeRead, FitsOffset, FitsRow, FitsTrack, IsSoundRun}
 use Rattle.mp4_cut.proofs.PieceLemmas.{count_is}
 
 -- ---- a row
@@ -97,18 +97,6 @@ rows_fit_from run held i zero fits d = tt
 rows_fit_from run held i (suc n) fits d = (row_fits run held i fits d, rows_fit_from run held (i + 1) n fits d)
 
 -- ---- a run
-
--- what is known of a run of a moof without a fault
-pub record IsSoundRun (tracks : List Track) (held : List ℕ) (run : Run) : Type 0 where
-  pub track : run.track < 2 ^ 32
-  pub version : run.version ≤ 1
-  pub of : Track
-  pub known : track_with run.track tracks ≡ Some of
-  pub low : 1 ≤ run.entry
-  pub high : run.entry ≤ of.entries
-  pub most : of.entries < 2 ^ 32
-  pub size : run.size < 2 ^ 32
-  pub rows : AllByRecursion (FitsRow run.version) (rows_of run held)
 
 -- what is known of a traf of one
 record IsSoundTraf (tracks : List Track) (t : Box) : Type 0 where

@@ -11,3 +11,4 @@ pub mod GivenLemmas
 pub mod ReadLemmas
 pub mod ByteLemmas
 pub mod GroupLemmas
+pub mod ReadIndexLemmas

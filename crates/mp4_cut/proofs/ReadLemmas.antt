@@ -1,5 +1,5 @@
 -- What is read of a moof that was written, and the headers that are.
-use Rattle.std.proofs.Common.{◌≡◌, ◌∙◌, ◌+◌, ◌^◌, ◌≤◌, ℕ, pos, ◌+ℤ◌, Bool, true, false, cond, ltb, List, [], ◌∷◌, ◌++◌, length, Some, None, refl, sym, ap, arith, append-nil, append_assoc, inr}
+use Rattle.std.proofs.Common.{◌≡◌, ◌∙◌, ◌+◌, ◌^◌, ◌≤◌, ℕ, pos, ◌+ℤ◌, Bool, true, false, cond, ltb, List, [], ◌∷◌, ◌++◌, length, Some, None, refl, sym, ap, arith, append-nil, append_assoc, length-append, inr}
 use Rattle.std.specs.Prelude.{take, ◌==◌}
 use Rattle.std.specs.List.{flat_map}
 use Rattle.std.specs.Int.Signed.{le_z}
@@ -10,8 +10,9 @@ use Rattle.std.proofs.lemmas.List.{take_all}
 use Rattle.std.proofs.lemmas.Slice.Eq.{bytes_eq-Decides}
 use Rattle.byteorder.specs.Endian.{big_bytes}
 use Rattle.mp4_box.specs.declared.headers.FourCc.{FourCc}
+use Rattle.mp4_box.specs.declared.headers.Size.TheVariants.{Exact}
 use Rattle.mp4_box.specs.declared.headers.Step.TheVariants.{Whole}
-use Rattle.mp4_box.specs.Headers.{Head, IsWhole, header_at, uuid}
+use Rattle.mp4_box.specs.Headers.{Head, IsBox, IsWhole, header_at, uuid}
 use Rattle.mp4_box.proofs.HeaderLemmas.{read_again}
 use Rattle.mp4_init.specs.declared.table.Track.{Track}
 use Rattle.mp4_frag.specs.declared.run.Run.{Run}
@@ -72,6 +73,14 @@ pub mdat_headed : (bytes : ℕ) → bytes ≤ 2 ^ 62 → IsHeaded mdat (mdat_hea
 unfolding mdat_header
 mdat_headed bytes h = mdat_by (ltb (8 + bytes) (2 ^ 32)) bytes refl h
 
+head_by : (t : Bool) (bytes : ℕ) → ltb (8 + bytes) (2 ^ 32) ≡ t → bytes ≤ 2 ^ 62 → Head (header_of mdat (cond t 8 16 + bytes) (cond t 8 16)) (cond t (big_bytes 4 (8 + bytes) ++ mdat.0) (big_bytes 4 1 ++ (mdat.0 ++ big_bytes 8 (16 + bytes))))
+head_by true bytes t h = head_is mdat (8 + bytes) refl refl (omega arith) (ltb-true _ _ t)
+head_by false bytes t h = long_head bytes h
+
+mdat_head : (bytes : ℕ) → bytes ≤ 2 ^ 62 → Head (header_of mdat (mdat_header_size bytes + bytes) (mdat_header_size bytes)) (mdat_header bytes)
+unfolding mdat_header
+mdat_head bytes h = head_by (ltb (8 + bytes) (2 ^ 32)) bytes refl h
+
 mdat_len_by : (t : Bool) (bytes : ℕ) → length (cond t (big_bytes 4 (8 + bytes) ++ mdat.0) (big_bytes 4 1 ++ (mdat.0 ++ big_bytes 8 (16 + bytes)))) ≡ cond t 8 16
 mdat_len_by true bytes = refl
 mdat_len_by false bytes = refl
@@ -79,6 +88,18 @@ mdat_len_by false bytes = refl
 pub length_mdat : (bytes : ℕ) → length (mdat_header bytes) ≡ mdat_header_size bytes
 unfolding mdat_header
 length_mdat bytes = mdat_len_by (ltb (8 + bytes) (2 ^ 32)) bytes
+
+pub length_media : (media : List ℕ) → length (mdat_header (length media) ++ media) ≡ mdat_header_size (length media) + length media
+length_media media = length-append (mdat_header (length media)) media ∙ ap (λ (n : ℕ). n + length media) (length_mdat (length media))
+
+-- an mdat that is written is a whole box
+pub mdat_is_box : (media : List ℕ) → length media ≤ 2 ^ 62 → IsBox (header_of mdat (mdat_header_size (length media) + length media) (mdat_header_size (length media))) media (mdat_header (length media) ++ media)
+mdat_is_box media small = record {
+  head = mdat_header (length media);
+  spelled = mdat_head (length media) small;
+  whole = refl;
+  size = ap Exact (sym (length_media media));
+}
 
 -- ---- the moof
 

@@ -10,3 +10,4 @@ pub mod Sidx
 pub mod Fronts
 pub mod Puts
 pub mod Reads
+pub mod Indexes

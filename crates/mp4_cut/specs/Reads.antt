@@ -59,6 +59,18 @@ pub record FitsTrack (t : Track) : Type 0 where
   pub size : t.size < 2 ^ 32
   pub flags : t.flags < 2 ^ 32
 
+-- what holds of a run of a moof without a fault: its track_ID, version and default size fit their fields, the tracks have its track with its sample entry, and its rows fit theirs
+pub record IsSoundRun (tracks : List Track) (held : List ℕ) (run : Run) : Type 0 where
+  pub track : run.track < 2 ^ 32
+  pub version : run.version ≤ 1
+  pub of : Track
+  pub known : track_with run.track tracks ≡ Some of
+  pub low : 1 ≤ run.entry
+  pub high : run.entry ≤ of.entries
+  pub most : of.entries < 2 ^ 32
+  pub size : run.size < 2 ^ 32
+  pub rows : AllByRecursion (FitsRow run.version) (rows_of run held)
+
 -- ---- what is read
 
 -- the bytes of a fragment's moof, which begins at an offset in the stream

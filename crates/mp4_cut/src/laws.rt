@@ -1,13 +1,17 @@
 //! What the definitions of what is written imply.
 
-ghost use Rattle.std.specs.Prelude.{◌≡◌, ◌+◌, ◌*◌, ◌^◌, ◌≤◌, ℕ, List, length};
+ghost use Rattle.std.specs.Prelude.{◌≡◌, ◌+◌, ◌*◌, ◌^◌, ◌≤◌, ◌<◌, ◌++◌, ◌∷◌, [], ℕ, List, length, map, drop};
 ghost use Rattle.std.specs.List.{AllByRecursion};
-ghost use Rattle.mp4_box.specs.Headers.{IsBytes, IsWhole};
+ghost use Rattle.mp4_box.specs.Fields.{number_in};
+ghost use Rattle.mp4_box.specs.Headers.{IsBox, IsBytes, IsWhole};
+ghost use Rattle.mp4_box.specs.Paths.{of_kind};
+ghost use Rattle.mp4_box.specs.Trees.{children};
 ghost use Rattle.mp4_init.specs.declared.table.Track.{Track};
 ghost use Rattle.mp4_frag.specs.declared.run.Run.{Run};
 ghost use Rattle.mp4_frag.specs.After.{StandsIn};
+ghost use Rattle.mp4_frag.specs.Kinds.{mfhd};
 ghost use Rattle.mp4_frag.specs.Laws.{first_cursor};
-ghost use Rattle.mp4_frag.specs.Moofs.{IsRead, moof_runs};
+ghost use Rattle.mp4_frag.specs.Moofs.{IsRead, moof_of, moof_runs};
 ghost use Rattle.mp4_frag.specs.Runs.{Held};
 ghost use Rattle.mp4_pieces.specs.declared.cut.Cut.{Cut};
 ghost use Rattle.mp4_pieces.specs.declared.piece.Piece.{Piece};
@@ -16,9 +20,10 @@ ghost use Rattle.mp4_pieces.specs.Groups.{groups};
 ghost use Rattle.mp4_pieces.specs.Pieces.{IsPieceOf, piece_at, pieces_of};
 ghost use Rattle.mp4_pieces.specs.Rooms.{moof};
 ghost use Rattle.mp4_pieces.specs.Sizes.{mdat_header_size, moof_size};
+ghost use Rattle.mp4_cut.specs.Indexes.{CanBeIndexed, IsIndexReadAs, index_in};
 ghost use Rattle.mp4_cut.specs.Mdat.{mdat, mdat_header};
 ghost use Rattle.mp4_cut.specs.Moof.{Fragment, fragment_of, moof_box, written_moof};
-ghost use Rattle.mp4_cut.specs.Reads.{CanBeRead, FitsFields, FitsTrack, IsHeaded, IsReadAs, Tells, held_moof};
+ghost use Rattle.mp4_cut.specs.Reads.{CanBeRead, FitsFields, FitsTrack, IsHeaded, IsReadAs, Tells, header_of, held_moof};
 ghost use Rattle.mp4_cut.specs.Sidx.{sidx, written_index};
 ghost use Rattle.mp4_cut.specs.Starts.{IsGroupOf};
 
@@ -69,4 +74,29 @@ pub fn pieces_can_be_read_again()
 pub fn groups_can_be_written()
     ensures { (cut : Cut) (held : List ℕ) (run : Run) → FitsIndex (pieces_of cut held run) →
         AllByRecursion (IsGroupOf cut held run) (groups (pieces_of cut held run)) }
+{}
+
+/// An mdat that is written is one whole box, with its media as its payload.
+pub fn mdats_are_whole_boxes()
+    ensures { (media : List ℕ) → length media ≤ 2 ^ 62 → IsBox (header_of mdat
+        (mdat_header_size (length media) + length media) (mdat_header_size (length media))) media
+        (mdat_header (length media) ++ media) }
+{}
+
+/// An index that is written says by the standard's fields (ISO/IEC 14496-12, 8.16.3) what it was
+/// written for: of each piece how many bytes its moof and its mdat have, and the sum of the durations
+/// of its samples; the least composition time of the first piece; the track, and the timescale.
+pub fn indexes_are_read_again()
+    ensures { (held : List ℕ) (run : Run) (timescale sequence_number : ℕ) (p : Piece)
+        (ps : List Piece) → run.track < 2 ^ 32 → timescale < 2 ^ 32 →
+        CanBeIndexed held run p ps → IsIndexReadAs held run timescale sequence_number p ps
+        (index_in (drop 8 (written_index run timescale (p ∷ ps)))) }
+{}
+
+/// The mfhd of a moof that is written has its sequence_number at the standard's offset (ISO/IEC
+/// 14496-12, 8.8.5), and there is no other mfhd.
+pub fn sequence_numbers_are_read_again()
+    ensures { (f : Fragment) (sequence_number offset : ℕ) → FitsFields f →
+        sequence_number < 2 ^ 32 → map (λ b. number_in b.payload 4) (of_kind mfhd
+        (children (moof_of (held_moof f sequence_number offset)))) ≡ sequence_number ∷ [] }
 {}

@@ -21,3 +21,6 @@ pub mod SettleLemmas
 pub mod GroupLemmas
 pub mod LoneLemmas
 pub mod UsualLemmas
+pub mod SyncLemmas
+pub mod ListingLemmas
+pub mod TrackFitLemmas

@@ -1,16 +1,16 @@
 -- The numbers of the runs of a traf.
-use Rattle.std.proofs.Common.{◌≡◌, ◌+◌, ◌-◌, ◌*◌, ◌^◌, ◌<◌, ◌≤◌, ℕ, zero, suc, ℤ, pos, ◌+ℤ◌, ◌≤ℤ◌, ◌<ℤ◌, Bool, true, false, cond, ltb, List, [], ◌∷◌, map, length, drop, Option, Some, None, refl, arith}
+use Rattle.std.proofs.Common.{◌≡◌, ◌+◌, ◌-◌, ◌*◌, ◌^◌, ◌<◌, ◌≤◌, ℕ, zero, suc, ℤ, pos, ◌+ℤ◌, ◌≤ℤ◌, ◌<ℤ◌, Bool, true, false, cond, ltb, List, [], ◌∷◌, map, Option, Some, None, refl, arith}
 use Rattle.std.specs.Prelude.{option_map}
 use lib.IntN.{◌-ℤ◌}
 use Rattle.std.specs.List.{AllByRecursion, range_with_len, sum_by}
 use Rattle.std.proofs.lemmas.Bool.{ltb-false, ltb-true}
 use Rattle.std.proofs.lemmas.Int.{ints}
 use Rattle.std.proofs.lemmas.List.Sums.{sum_by-cons}
-use Rattle.byteorder.specs.Endian.{big_number, twos_complement}
+use Rattle.byteorder.specs.Endian.{twos_complement}
 use Rattle.mp4_box.specs.Fields.{number_in}
 use Rattle.mp4_box.specs.Headers.{IsBytes}
 use Rattle.mp4_box.specs.Trees.{Box}
-use Rattle.mp4_box.proofs.HeaderLemmas.{IsBytes-drop}
+use Rattle.mp4_box.proofs.ByteLemmas.{number_small}
 use Rattle.mp4_frag.specs.declared.run.Run.{Run}
 use Rattle.mp4_frag.specs.declared.rows.Row.{Row}
 use Rattle.mp4_frag.specs.Fields.{flags_in, signed_in}
@@ -19,18 +19,6 @@ use Rattle.mp4_frag.specs.Rules.{samples_in}
 use Rattle.mp4_frag.specs.Rows.{field_at, row_of, group_at, rows_of, sizes}
 use Rattle.mp4_frag.specs.Runs.{Shared, TrackFragment, start_by, run_at, run_of, runs_from, runs_of, end_place}
 use Rattle.mp4_frag.specs.Ranges.{InRange, IsSound}
-
--- ---- numbers of four bytes
-
-four_bytes : (x : List ℕ) → IsBytes x → big_number 4 x < 2 ^ 32
-four_bytes x fits = omega (arith, fits 0, fits 1, fits 2, fits 3)
-
-pub number_small : (p : List ℕ) (at : ℕ) → IsBytes p → number_in p at < 2 ^ 32
-number_small p at fits = by (ltb (length p) (at + 4))
-  where
-    by : (t : Bool) → cond t 0 (big_number 4 (drop at p)) < 2 ^ 32
-    by true = omega arith
-    by false = four_bytes (drop at p) (IsBytes-drop at p fits)
 
 record Signed (z : ℤ) : Type 0 where
   low : pos 0 ≤ℤ (z +ℤ pos (2 ^ 31))

@@ -25,7 +25,8 @@ use Rattle.mp4_frag.specs.Runs.{Held, Shared, end_place, run_at, no_track, run_o
 use Rattle.mp4_frag.specs.Moofs.{IsRead, late, late_fault, moof_of, moof_runs, moof_samples, moof_trafs, time_faults, time_faults_of}
 use Rattle.mp4_frag.specs.Ranges.{InRange, IsSound}
 use Rattle.mp4_frag.proofs.MoofLemmas.{last_none, moof_is, read_count, read_times}
-use Rattle.mp4_frag.proofs.RangeLemmas.{in_range, number_small}
+use Rattle.mp4_box.proofs.ByteLemmas.{number_small}
+use Rattle.mp4_frag.proofs.RangeLemmas.{in_range}
 use Rattle.mp4_frag.proofs.RowLemmas.{length_rows_of}
 use Rattle.mp4_frag.proofs.PlaceLemmas.{Lies, children_lie, kind_all, moof_lies}
 

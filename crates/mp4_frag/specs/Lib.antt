@@ -21,3 +21,4 @@ pub mod LoneRuns
 pub mod Laws
 pub mod Rereads
 pub mod Places
+pub mod SyncSamples

@@ -1,13 +1,15 @@
 //! What the definitions of a moof's rules, runs and rows imply.
 
-ghost use Rattle.std.specs.Prelude.{◌≡◌, ◌<◌, ◌≤◌, ◌^◌, ◌+◌, ℕ, List, [], length};
+ghost use Rattle.std.specs.Prelude.{◌≡◌, ◌<◌, ◌≤◌, ◌^◌, ◌+◌, ◌*◌, ◌==◌, ℕ, List, [], length};
 ghost use Rattle.std.specs.List.{AllByRecursion, AllPairs, flat_map};
 ghost use Rattle.std.specs.List.Sorted.{IsPermutation};
 ghost use Rattle.mp4_box.specs.Headers.{IsBytes, IsWhole};
 ghost use Rattle.mp4_box.specs.Paths.{of_kind};
 ghost use Rattle.mp4_box.specs.Trees.{children};
 ghost use Rattle.mp4_init.specs.declared.table.Track.{Track};
+ghost use Rattle.mp4_init.specs.TrackFields.{FitsTrackFields};
 ghost use Rattle.mp4_run_order.specs.Orders.{IsTakenBefore};
+ghost use Rattle.mp4_run_order.specs.Runs.{IsListing};
 ghost use Rattle.mp4_frag.specs.declared.run.Run.{Run};
 ghost use Rattle.mp4_frag.specs.declared.rows.Cursor.{Cursor};
 ghost use Rattle.mp4_frag.specs.Kinds.{traf};
@@ -16,9 +18,11 @@ ghost use Rattle.mp4_frag.specs.Moofs.{IsRead, moof_faults, moof_of, moof_runs, 
 ghost use Rattle.mp4_frag.specs.Ranges.{InRange};
 ghost use Rattle.mp4_frag.specs.Repeats.{repeat_faults};
 ghost use Rattle.mp4_frag.specs.Rows.{IsCursor, row_of, rows_of};
-ghost use Rattle.mp4_frag.specs.RunLists.{IsListOf, ListedRows, taken_runs};
+ghost use Rattle.mp4_frag.specs.RunLists.{IsListOf, ListedRows, moof_listing, taken_runs};
 ghost use Rattle.mp4_frag.specs.RunRows.{listed_run};
-ghost use Rattle.mp4_frag.specs.Runs.{Held};
+ghost use Rattle.mp4_frag.specs.Runs.{Held, TrackFragment};
+ghost use Rattle.mp4_frag.specs.Settling.{settled};
+ghost use Rattle.mp4_frag.specs.SyncSamples.{is_sync};
 
 /// In a moof without a fault nothing is at fault, as far as it is looked at.
 pub fn no_fault()
@@ -66,4 +70,24 @@ pub fn lists_are_in_order()
         IsPermutation (moof_runs h tracks) (taken_runs h tracks) }
     ensures order { (h : Held) (tracks : List Track) (l : ListedRows) → IsListOf h tracks l →
         AllPairs (λ a b. IsTakenBefore (listed_run a) (listed_run b)) (taken_runs h tracks) }
+{}
+
+/// A moof lists its runs, also where it has a fault: their numbers rise in the listing.
+pub fn moofs_list_their_runs()
+    ensures { (h : Held) (tracks : List Track) → IsBytes h.bytes →
+        IsListing (moof_listing h tracks) }
+{}
+
+/// Where a moof sets the ends of tracks, their numbers still fit their fields.
+pub fn settled_tracks_fit()
+    ensures { (tracks : List Track) (trafs : List TrackFragment) →
+        AllByRecursion FitsTrackFields tracks →
+        AllByRecursion FitsTrackFields (settled tracks trafs) }
+{}
+
+/// A sample is a sync sample exactly where the bit sample_is_non_sync_sample of its flags is 0, which
+/// stands above the 16 bits of sample_degradation_priority (ISO/IEC 14496-12, 8.8.3).
+pub fn sync_samples_are_told_by_a_bit()
+    ensures { (above bit priority : ℕ) → bit < 2 → priority < 2 ^ 16 →
+        is_sync ((above * 2 + bit) * 2 ^ 16 + priority) ≡ (bit == 0) }
 {}

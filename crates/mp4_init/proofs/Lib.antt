@@ -5,3 +5,5 @@ pub mod LinkLemmas
 pub mod RowLemmas
 pub mod SummaryTableLemmas
 pub mod TrackLemmas
+pub mod OffsetLemmas
+pub mod TrackFieldLemmas

@@ -6,3 +6,4 @@ pub mod SearchTrees
 pub mod Summaries
 pub mod Rows
 pub mod Moovs
+pub mod TrackFields

@@ -5,6 +5,7 @@ ghost use Rattle.std.specs.List.{AllByRecursion};
 ghost use Rattle.mp4_box.specs.Headers.{IsBytes};
 ghost use Rattle.mp4_box.specs.Paths.{of_kind};
 ghost use Rattle.mp4_box.specs.Trees.{Box, box_at, children};
+ghost use Rattle.mp4_init.specs.TrackFields.{FitsTrackFields};
 ghost use Rattle.mp4_init.specs.Moovs.{moov_fault, moov_faults, moov_tracks};
 ghost use Rattle.mp4_init.specs.Kinds.{trak};
 ghost use Rattle.mp4_init.specs.Rules.{trexes_of};
@@ -25,4 +26,16 @@ pub fn table_is_small()
 pub fn each_has_one_trex()
     ensures { (o : ℕ) (x : List ℕ) (moov : Box) → box_at o x ≡ Some moov → moov_fault o x ≡ None →
         AllByRecursion (λ t. length (trexes_of moov (id_of t)) ≡ 1) (of_kind trak (children moov)) }
+{}
+
+/// Each number of a track has the bits of its field.
+pub fn tracks_fit_their_fields()
+    ensures { (o : ℕ) (x : List ℕ) → IsBytes x →
+        AllByRecursion FitsTrackFields (moov_tracks o x) }
+{}
+
+/// A moov that is good at one stream offset is good at each, and has the same tracks there.
+pub fn moovs_are_good_anywhere()
+    ensures good { (o to : ℕ) (x : List ℕ) → moov_fault o x ≡ None → moov_fault to x ≡ None }
+    ensures tracks { (o to : ℕ) (x : List ℕ) → moov_tracks to x ≡ moov_tracks o x }
 {}

@@ -1,5 +1,5 @@
 -- The samples of a fragment, and the lines in which they are listed.
-use Rattle.std.specs.Prelude.{ℕ, ℤ, pos, ◌+◌, ◌+ℤ◌, ◌==◌, bit_and, Bool, List, [], ◌∷◌, ◌++◌, codes, if◌then◌else◌}
+use Rattle.std.specs.Prelude.{ℕ, ℤ, pos, ◌+◌, ◌+ℤ◌, List, [], ◌∷◌, ◌++◌, codes, if◌then◌else◌}
 use Rattle.std.specs.List.{flat_map}
 use Rattle.std.specs.Fmt.{decimal, signed_decimal}
 use Rattle.std.specs.Int.{bytes_high_first}
@@ -7,6 +7,7 @@ use Rattle.mp4_lines.specs.Digits.{hex_bytes}
 use Rattle.mp4_frag.specs.declared.rows.Row.{Row}
 use Rattle.mp4_frag.specs.declared.run.Run.{Run}
 use Rattle.mp4_frag.specs.Rows.{rows_of}
+use Rattle.mp4_frag.specs.SyncSamples.{is_sync}
 use Rattle.mp4_items.specs.Makings.{Fragment, runs_in}
 use Rattle.mp4_items.specs.declared.sample.Sample.{Sample}
 
@@ -38,10 +39,7 @@ samples_in f = flat_map (samples_of_run f.moof.bytes) (runs_in f)
 
 -- ---- their lines
 
--- a sync sample has the bit sample_is_non_sync_sample clear (ISO/IEC 14496-12, 8.8.3)
-abbrev pub is_sync : ℕ → Bool
-is_sync flags = bit_and flags 0x0001_0000 == 0
-
+-- whether it is a sync sample
 abbrev pub sync_text : ℕ → List ℕ
 sync_text flags = if is_sync flags then codes "sync" else codes "-"
 

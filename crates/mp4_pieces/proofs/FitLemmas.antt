@@ -10,7 +10,8 @@ use Rattle.mp4_frag.specs.declared.rows.Row.{Row}
 use Rattle.mp4_frag.specs.Rows.{sizes}
 use Rattle.mp4_pieces.specs.declared.cut.Cut.{Cut}
 use Rattle.mp4_pieces.specs.Cutting.{IsLimit}
-use Rattle.mp4_pieces.specs.Fitting.{fits, fits_bytes, fits_sync, is_sync}
+use Rattle.mp4_frag.specs.SyncSamples.{is_sync}
+use Rattle.mp4_pieces.specs.Fitting.{fits, fits_bytes, fits_sync}
 
 -- ---- tests
 
@@ -57,7 +58,7 @@ one_sync false x = refl
 front_sync : (asked : Bool) (x : Row) (xs ys : List Row) → fits_sync asked (x ∷ (xs ++ ys)) ≡ true → fits_sync asked (x ∷ xs) ≡ true
 front_sync false x xs ys e = refl
 front_sync true x xs ys e =
-    (and_is (list_all (λ (row : Row). not (is_sync row)) xs) (list_all (λ (row : Row). not (is_sync row)) ys) (sym (list_all-append (λ (row : Row). not (is_sync row)) xs ys) ∙ e)).0
+    (and_is (list_all (λ (row : Row). not (is_sync row.flags)) xs) (list_all (λ (row : Row). not (is_sync row.flags)) ys) (sym (list_all-append (λ (row : Row). not (is_sync row.flags)) xs ys) ∙ e)).0
 
 -- ---- all
 

@@ -54,6 +54,22 @@ groups_filled (suc k) (p ∷ ps) = groups_filled k ps
 pub groups_are : {A : Type 0} (ps : List A) → AreGroups ps (groups ps)
 groups_are ps = record { some = groups_some 0 ps; most = groups_most 0 ps; filled = groups_filled 0 ps; joined = groups_joined 0 ps }
 
+-- the groups that begin behind the first k are those of the rest
+groups_past : {A : Type 0} (k : ℕ) (ps : List A) → groups_from k ps ≡ groups (drop k ps)
+unfolding groups_from
+groups_past zero ps = refl
+groups_past (suc k) [] = refl
+groups_past (suc k) (p ∷ ps) = groups_past k ps
+
+pub groups_none : {A : Type 0} → groups {A = A} [] ≡ []
+unfolding groups_from
+groups_none = refl
+
+-- the first group, and those of the rest
+pub groups_first : {A : Type 0} (p : A) (ps : List A) → groups (p ∷ ps) ≡ take 65535 (p ∷ ps) ∷ groups (drop 65535 (p ∷ ps))
+unfolding groups_from
+groups_first {A} p ps = ap (λ (gs : List (List A)). take 65535 (p ∷ ps) ∷ gs) (groups_past 65534 ps)
+
 -- ---- no others
 
 past_group : {A : Type 0} (xs ys : List A) → groups_from (length xs) (xs ++ ys) ≡ groups_from 0 ys

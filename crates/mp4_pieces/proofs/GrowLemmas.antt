@@ -14,7 +14,8 @@ use Rattle.mp4_frag.specs.Rows.{durations, sizes}
 use Rattle.mp4_pieces.specs.declared.cut.Cut.{Cut}
 use Rattle.mp4_pieces.specs.declared.piece.Piece.{Piece}
 use Rattle.mp4_pieces.specs.Cutting.{cut_by, cut_from}
-use Rattle.mp4_pieces.specs.Fitting.{fits, fits_bytes, fits_sync, is_sync}
+use Rattle.mp4_frag.specs.SyncSamples.{is_sync}
+use Rattle.mp4_pieces.specs.Fitting.{fits, fits_bytes, fits_sync}
 use Rattle.mp4_pieces.specs.Pieces.{behind, composition_times, cut_rows, least_of, past_rows, piece_at, pieces_at}
 use Rattle.mp4_pieces.specs.Growing.{Grows, HasRoom, grown, has_bytes, opened, pieces_left, takes, with_row}
 use Rattle.mp4_pieces.proofs.FitLemmas.{and_is, is_limit}
@@ -78,12 +79,12 @@ more_sync false l r e = refl
 more_sync true true r e = refl
 more_sync true false r e = absurd cc
 
-takes_sync : (asked : Bool) (x : Row) (rows : List Row) (row : Row) → fits_sync asked (x ∷ rows) ≡ true → fits_sync asked ((x ∷ rows) ++ row ∷ []) ≡ (not asked || not (is_sync row))
+takes_sync : (asked : Bool) (x : Row) (rows : List Row) (row : Row) → fits_sync asked (x ∷ rows) ≡ true → fits_sync asked ((x ∷ rows) ++ row ∷ []) ≡ (not asked || not (is_sync row.flags))
 takes_sync asked x rows row e =
-    let f : Row → Bool = λ (r : Row). not (is_sync r) in
+    let f : Row → Bool = λ (r : Row). not (is_sync r.flags) in
     ap (λ (b : Bool). not asked || b) (list_all-append f rows (row ∷ []))
-    ∙ more_sync asked (list_all f rows) (not (is_sync row) && true) e
-    ∙ ap (λ (b : Bool). not asked || b) (and_true (not (is_sync row)))
+    ∙ more_sync asked (list_all f rows) (not (is_sync row.flags) && true) e
+    ∙ ap (λ (b : Bool). not asked || b) (and_true (not (is_sync row.flags)))
   where
     and_true : (b : Bool) → (b && true) ≡ b
     and_true true = refl

@@ -8,3 +8,4 @@ pub mod GroupLemmas
 pub mod RoomLemmas
 pub mod FitsLemmas
 pub mod OrderLemmas
+pub mod SpanLemmas

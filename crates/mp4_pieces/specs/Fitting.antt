@@ -1,17 +1,10 @@
 -- Which samples fit in a piece.
-use Rattle.std.specs.Prelude.{ℕ, Bool, true, not, ◌&&◌, ◌||◌, ◌==◌, nat_le, List, length, drop, Option, Some, None, bit_and}
+use Rattle.std.specs.Prelude.{ℕ, Bool, true, not, ◌&&◌, ◌||◌, nat_le, List, length, drop, Option, Some, None}
 use Rattle.std.specs.List.{list_all}
 use Rattle.mp4_frag.specs.declared.rows.Row.{Row}
 use Rattle.mp4_frag.specs.Rows.{sizes}
+use Rattle.mp4_frag.specs.SyncSamples.{is_sync}
 use Rattle.mp4_pieces.specs.declared.cut.Cut.{Cut}
-
--- the bit sample_is_non_sync_sample of a sample's flags (ISO/IEC 14496-12, 8.8.3)
-abbrev pub non_sync : ℕ
-non_sync = 0x0001_0000
-
--- a sync sample has it clear
-abbrev pub is_sync : Row → Bool
-is_sync row = bit_and row.flags non_sync == 0
 
 -- at most so many bytes, or just one sample
 abbrev pub fits_bytes : Option ℕ → List Row → Bool
@@ -20,7 +13,7 @@ fits_bytes (Some most) rows = nat_le (length rows) 1 || nat_le (sizes rows) most
 
 -- no sync sample but the first, where that is asked for
 abbrev pub fits_sync : Bool → List Row → Bool
-fits_sync asked rows = not asked || list_all (λ row. not (is_sync row)) (drop 1 rows)
+fits_sync asked rows = not asked || list_all (λ row. not (is_sync row.flags)) (drop 1 rows)
 
 -- these samples fit in one piece
 abbrev pub fits : Cut → List Row → Bool

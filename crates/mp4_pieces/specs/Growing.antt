@@ -6,7 +6,7 @@ use Rattle.mp4_frag.specs.declared.rows.Cursor.{Cursor}
 use Rattle.mp4_frag.specs.Rows.{durations, sizes}
 use Rattle.mp4_pieces.specs.declared.cut.Cut.{Cut}
 use Rattle.mp4_pieces.specs.declared.piece.Piece.{Piece}
-use Rattle.mp4_pieces.specs.Fitting.{is_sync}
+use Rattle.mp4_frag.specs.SyncSamples.{is_sync}
 use Rattle.mp4_pieces.specs.Pieces.{behind}
 
 -- the piece of one row, from a cursor on
@@ -37,7 +37,7 @@ has_bytes (Some most) p row = nat_le (p.bytes + row.size) most
 
 -- one row more fits in it
 unfoldable pub takes : Cut → Piece → Row → Bool
-takes cut p row = nat_lt p.count cut.samples && (has_bytes cut.bytes p row && (not cut.sync || not (is_sync row)))
+takes cut p row = nat_lt p.count cut.samples && (has_bytes cut.bytes p row && (not cut.sync || not (is_sync row.flags)))
 
 -- the pieces of these rows, where the next piece is this one so far
 unfoldable pub grown : Cut → Piece → List Row → List Piece

@@ -1,6 +1,6 @@
 //! What the definitions of how runs are cut imply.
 
-ghost use Rattle.std.specs.Prelude.{◌≡◌, ◌+◌, ◌^◌, ◌≤◌, ◌<◌, ◌↔◌, ◌∷◌, [], true, ℕ, List, length};
+ghost use Rattle.std.specs.Prelude.{◌≡◌, ◌+◌, ◌^◌, ◌≤◌, ◌<◌, ◌↔◌, ◌+ℤ◌, ◌≤ℤ◌, pos, ◌∷◌, [], true, ℕ, List, length, take, drop};
 ghost use Rattle.std.specs.List.{AllByRecursion};
 ghost use Rattle.std.specs.List.Sorted.{IsPermutation};
 ghost use Rattle.mp4_box.specs.Headers.{IsBytes, IsWhole};
@@ -10,7 +10,7 @@ ghost use Rattle.mp4_frag.specs.declared.rows.Cursor.{Cursor};
 ghost use Rattle.mp4_frag.specs.declared.rows.Row.{Row};
 ghost use Rattle.mp4_frag.specs.Moofs.{IsRead, moof_runs, moof_samples};
 ghost use Rattle.mp4_frag.specs.Rows.{IsCursor};
-ghost use Rattle.mp4_frag.specs.Runs.{Held};
+ghost use Rattle.mp4_frag.specs.Runs.{Held, end_place};
 ghost use Rattle.mp4_pieces.specs.declared.cut.Cut.{Cut};
 ghost use Rattle.mp4_pieces.specs.declared.piece.Piece.{Piece};
 ghost use Rattle.mp4_pieces.specs.Cutting.{ArePieces, IsLimit};
@@ -90,4 +90,20 @@ pub fn runs_of_a_moof_can_be_cut()
     ensures { (h : Held) (tracks : List Track) → IsWhole h.bytes → IsBytes h.bytes →
         h.offset + length h.bytes ≤ 2 ^ 62 → IsRead h tracks →
         AreRunsOf h.bytes (moof_runs h tracks) }
+{}
+
+/// The groups of some pieces are the first 65,535 of them, or all where there are fewer, and the groups
+/// of the rest.
+pub fn groups_begin_with_the_first()
+    ensures none { groups {A = Piece} [] ≡ [] }
+    ensures some { (p : Piece) (ps : List Piece) →
+        groups (p ∷ ps) ≡ take 65535 (p ∷ ps) ∷ groups (drop 65535 (p ∷ ps)) }
+{}
+
+/// The bytes of a piece lie among those of its run.
+pub fn pieces_lie_in_their_run()
+    ensures from { (held : List ℕ) (run : Run) (p : Piece) → IsRunOf held run →
+        IsPieceOf held run p → run.place ≤ℤ p.place }
+    ensures to { (held : List ℕ) (run : Run) (p : Piece) → IsRunOf held run →
+        IsPieceOf held run p → (p.place +ℤ pos p.bytes) ≤ℤ end_place run }
 {}

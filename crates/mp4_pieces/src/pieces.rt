@@ -3,7 +3,7 @@
 ghost use Rattle.std.specs.Prelude.{◌≡◌, ◌+◌, ◌^◌, ◌<◌, ◌∷◌, ◌++◌, [], option_to_list, IfNone, None};
 ghost use Rattle.std.specs.Iterator.{YieldsFirst, item_count};
 ghost use Rattle.mp4_frag.specs.Rows.{IsCursor};
-ghost use Rattle.mp4_pieces.specs.Fitting.{is_sync};
+ghost use Rattle.mp4_frag.specs.SyncSamples.{is_sync};
 ghost use Rattle.mp4_pieces.specs.Growing.{Grows, HasRoom, grown, has_bytes, opened, pieces_left, takes, with_row};
 ghost use Rattle.mp4_pieces.specs.Pieces.{IsRunOf, behind, pieces_from, pieces_of};
 
@@ -18,7 +18,7 @@ const NON_SYNC: u32 = 0x0001_0000;
 
 /// Whether a sample is a sync sample.
 fn is_sync(row: &Row) -> bool
-    ensures { result ≡ is_sync row.now }
+    ensures { result ≡ is_sync row.now.flags }
 {
     row.flags & NON_SYNC == 0
 }

@@ -1,0 +1,29 @@
+-- The bytes of a piece lie among those of its run.
+use Rattle.std.proofs.Common.{◌≡◌, ◌+◌, ◌+ℤ◌, ◌≤ℤ◌, ℕ, List, pos, ap, arith}
+use Rattle.std.specs.Prelude.{drop, take}
+use Rattle.std.proofs.lemmas.Int.{ints}
+use Rattle.std.proofs.lemmas.List.Sums.{sum_by-take-drop, sum_by-take-le}
+use Rattle.mp4_frag.specs.declared.rows.Row.{Row}
+use Rattle.mp4_frag.specs.declared.run.Run.{Run}
+use Rattle.mp4_frag.specs.Rows.{rows_of, sizes}
+use Rattle.mp4_frag.specs.Runs.{end_place}
+use Rattle.mp4_pieces.specs.declared.piece.Piece.{Piece}
+use Rattle.mp4_pieces.specs.Pieces.{IsPieceOf, IsRunOf, piece_at, rows_in}
+
+module _ (held : List ℕ) (run : Run) (p : Piece) (is : IsRunOf held run) (of : IsPieceOf held run p) where
+  place_is : p.place ≡ run.place +ℤ pos (sizes (take p.first (rows_of run held)))
+  unfolding piece_at
+  place_is = ap (λ (q : Piece). q.place) of.is
+
+  bytes_are : p.bytes ≡ sizes (rows_in held run p)
+  unfolding piece_at
+  bytes_are = ap (λ (q : Piece). q.bytes) of.is
+
+  pub piece_from : run.place ≤ℤ p.place
+  piece_from = omega (arith, ints, place_is)
+
+  pub piece_to : (p.place +ℤ pos p.bytes) ≤ℤ end_place run
+  piece_to =
+      let first = sum_by-take-drop (λ (r : Row). r.size) (rows_of run held) p.first in
+      let next = sum_by-take-le (λ (r : Row). r.size) (drop p.first (rows_of run held)) p.count in
+      omega (arith, ints, place_is, bytes_are, first, next, is.bytes)

@@ -1,0 +1,17 @@
+use Rattle.mp4_recut_laws.proofs.StreamBytesLemmas.{text_laws, own_recut}
+use Rattle.mp4_recut_laws.proofs.recut_text_is_a_stream.Goals as goal
+
+pub returns-clause-bytes : goal.returns-clause-bytes
+returns-clause-bytes c = λ cut b held sound. (text_laws cut b held sound).bytes
+
+pub returns-clause-read : goal.returns-clause-read
+returns-clause-read c = λ cut b held sound. (text_laws cut b held sound).sound
+
+pub returns-clause-again : goal.returns-clause-again
+returns-clause-again c = λ cut b held sound. (text_laws cut b held sound).again
+
+pub returns-clause-own : goal.returns-clause-own
+returns-clause-own c = own_recut
+
+pub returns-clause-samples : goal.returns-clause-samples
+returns-clause-samples c = λ cut b tell held sound. (text_laws cut b held sound).samples tell

@@ -1,0 +1,15 @@
+use Rattle.mp4_recut_laws.proofs.StreamBytesLemmas.{text_of_stream, told_by_samples}
+use Rattle.mp4_recut_laws.proofs.ReadStreamLemmas.{recut_text_of_a_stream}
+use Rattle.mp4_recut_laws.proofs.recut_text_of_a_stream.Goals as goal
+
+pub returns-clause-text : goal.returns-clause-text
+returns-clause-text c = λ cut s is. (recut_text_of_a_stream cut s is).text
+
+pub returns-clause-sound : goal.returns-clause-sound
+returns-clause-sound c = λ cut s is. (recut_text_of_a_stream cut s is).sound
+
+pub returns-clause-each : goal.returns-clause-each
+returns-clause-each c = text_of_stream
+
+pub returns-clause-samples : goal.returns-clause-samples
+returns-clause-samples c = told_by_samples

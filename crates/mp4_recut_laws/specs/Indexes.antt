@@ -1,0 +1,78 @@
+-- When a segment index, sidx (ISO/IEC 14496-12, 8.16.3), tells the truth of the pieces that it is written for.
+use Rattle.std.specs.Prelude.{◌≡◌, ◌<◌, ◌^◌, ℕ, pos, ◌+◌, List, [], ◌∷◌, length, map, drop}
+use Rattle.std.specs.List.{AllByRecursion, sum_by}
+use Rattle.mp4_init.specs.declared.table.Track.{Track}
+use Rattle.mp4_frag.specs.declared.run.Run.{Run}
+use Rattle.mp4_pieces.specs.declared.cut.Cut.{Cut}
+use Rattle.mp4_pieces.specs.declared.piece.Piece.{Piece}
+use Rattle.mp4_pieces.specs.Groups.{groups}
+use Rattle.mp4_pieces.specs.Pieces.{least_of, pieces_of}
+use Rattle.mp4_cut.specs.Indexes.{Reference, index_in}
+use Rattle.mp4_items.specs.Contexts.{Context}
+use Rattle.mp4_items.specs.Joined.{Item, Movie, MovieFragment, PassedOver, behind_item, bytes_of, fragment_in}
+use Rattle.mp4_items.specs.Joined as items
+use Rattle.mp4_items.specs.Makings.{Fragment, runs_in}
+use Rattle.mp4_recut.specs.Splitting.{splitting, timescale_of}
+use Rattle.mp4_recut_laws.specs.PieceItems.{PieceWithMedia, piece_item, piece_samples, piece_with_media}
+use Rattle.mp4_recut_laws.specs.RecutItems.{index_as_box}
+use Rattle.mp4_recut_laws.specs.MediaSamples.{MediaSample}
+use Rattle.mp4_recut_laws.specs.Streams.{Ending, NothingMore, OpenBox, OpenFragment}
+
+-- ---- the truth
+
+-- what references to these pieces must say: of each how many bytes its moof and mdat have, and the sum of the durations of its samples
+abbrev pub references_of : ℕ → List PieceWithMedia → List Reference
+references_of number [] = []
+references_of number (q ∷ qs) =
+    record { size = length (bytes_of (piece_item q.written number q.media)); duration = sum_by (λ (s : MediaSample). s.duration) (piece_samples q); access = 0 } ∷ references_of (number + 1) qs
+
+-- the samples of the first of these pieces
+abbrev pub first_samples : List PieceWithMedia → List MediaSample
+first_samples [] = []
+first_samples (q ∷ qs) = piece_samples q
+
+-- the payload p of a sidx says the truth of the pieces qs, which stand directly behind it: their sizes and durations, the least composition time of the first, the track and its timescale. It refers to media alone
+pub record IsIndexOf (id scale number : ℕ) (p : List ℕ) (qs : List PieceWithMedia) : Type 0 where
+  pub version : (index_in p).version ≡ 1
+  pub track : (index_in p).track ≡ id
+  pub timescale : (index_in p).timescale ≡ scale
+  pub earliest : pos (index_in p).earliest ≡ least_of (map (λ (s : MediaSample). s.composition) (first_samples qs))
+  pub offset : (index_in p).first_offset ≡ 0
+  pub references : (index_in p).references ≡ references_of number qs
+  pub media : AllByRecursion (λ (r : Reference). r.size < 2 ^ 31) (references_of number qs)
+
+-- ---- the indexes of a recut text
+
+module _ (cut : Cut) (held : List ℕ) (start : ℕ) (payload : List ℕ) where
+  -- the index of each group of pieces tells the truth of the group
+  abbrev pub GroupsAreIndexed : Run → (timescale number : ℕ) → List (List Piece) → Type 0
+  GroupsAreIndexed run timescale number [] = Unit {0}
+  GroupsAreIndexed run timescale number (g ∷ gs) =
+      IsIndexOf run.track timescale number (drop 8 (index_as_box run timescale g).bytes) (map (piece_with_media held start payload run) g) × GroupsAreIndexed run timescale (number + length g) gs
+
+  -- so do the indexes of all these runs
+  abbrev pub RunsAreIndexed : List Track → ℕ → List Run → Type 0
+  RunsAreIndexed tracks number [] = Unit {0}
+  RunsAreIndexed tracks number (run ∷ runs) =
+      GroupsAreIndexed run (timescale_of tracks run.track) number (groups (pieces_of cut held run)) × RunsAreIndexed tracks (number + length (pieces_of cut held run)) runs
+
+-- so do the indexes that a fragment is recut with
+abbrev pub FragmentIsIndexed : Cut → Fragment → List ℕ → Type 0
+FragmentIsIndexed cut f payload = RunsAreIndexed cut f.moof.bytes f.payload.start payload f.tracks f.number (runs_in f)
+
+-- so do those of an item
+abbrev pub ItemIsIndexed : Cut → Context → Item → Type 0
+ItemIsIndexed cut c (PassedOver b) = Unit {0}
+ItemIsIndexed cut c (Movie b) = Unit {0}
+ItemIsIndexed cut c (MovieFragment moof mdat) = FragmentIsIndexed cut (fragment_in c moof mdat) (drop mdat.header.header_len mdat.bytes)
+
+-- so do those of items, one after the other
+abbrev pub ItemsAreIndexed : Cut → Context → List Item → Type 0
+ItemsAreIndexed cut c [] = Unit {0}
+ItemsAreIndexed cut c (i ∷ is) = ItemIsIndexed cut c i × ItemsAreIndexed cut (behind_item (splitting cut) c i) is
+
+-- so do those of an ending
+abbrev pub EndingIsIndexed : Cut → Context → Ending → Type 0
+EndingIsIndexed cut c NothingMore = Unit {0}
+EndingIsIndexed cut c (OpenBox h head more) = Unit {0}
+EndingIsIndexed cut c (OpenFragment moof h head more) = FragmentIsIndexed cut (items.fragment_of c moof.bytes h) more

@@ -1,0 +1,92 @@
+-- A piece of the recut text as an item of a stream that is read: the moof that is written for its samples, and the mdat with their media (ISO/IEC 14496-12, 8.8.4 and 8.1.1).
+use Rattle.std.specs.Prelude.{◌≡◌, ℕ, ◌+◌, ◌<◌, ◌≤◌, ◌^◌, List, [], ◌∷◌, ◌++◌, length, map, pos, true}
+use Rattle.mp4_init.specs.declared.table.Track.{Track}
+use Rattle.mp4_frag.specs.declared.run.Run.{Run}
+use Rattle.mp4_frag.specs.Rows.{rows_of, sizes}
+use Rattle.mp4_pieces.specs.declared.cut.Cut.{Cut}
+use Rattle.mp4_pieces.specs.declared.piece.Piece.{Piece}
+use Rattle.mp4_pieces.specs.Fitting.{fits}
+use Rattle.mp4_pieces.specs.Pieces.{pieces_of}
+use Rattle.mp4_pieces.specs.Rooms.{moof}
+use Rattle.mp4_pieces.specs.Sizes.{mdat_header_size, moof_size}
+use Rattle.mp4_cut.specs.Mdat.{mdat, mdat_header}
+use Rattle.mp4_cut.specs.Moof.{fragment_of, moof_box}
+use Rattle.mp4_cut.specs.Moof.{Fragment as Written}
+use Rattle.mp4_cut.specs.Reads.{CanBeRead, header_of}
+use Rattle.mp4_items.specs.Contexts.{Context}
+use Rattle.mp4_items.specs.Joined.{IsSound, Item, MovieFragment, OneBox, behind_item, bytes_of}
+use Rattle.mp4_recut.specs.Splitting.{splitting}
+use Rattle.mp4_recut.specs.Texts.{item_text, media_of}
+use Rattle.mp4_recut_laws.specs.MediaSamples.{MediaSample, media_samples_from}
+
+-- ---- one piece
+
+-- the moof that is written for some samples, with its sequence_number
+abbrev pub moof_as_box : Written → ℕ → OneBox
+moof_as_box f number = record { header = header_of moof (moof_size (length f.rows)) 8; bytes = moof_box f number }
+
+-- the mdat that is written for their media
+abbrev pub mdat_as_box : List ℕ → OneBox
+mdat_as_box media = record {
+  header = header_of mdat (mdat_header_size (length media) + length media) (mdat_header_size (length media));
+  bytes = mdat_header (length media) ++ media;
+}
+
+-- the two as one item of a stream
+abbrev pub piece_item : Written → ℕ → List ℕ → Item
+piece_item f number media = MovieFragment (moof_as_box f number) (mdat_as_box media)
+
+-- these samples with these media are one piece of the cut, and their track is one of the tracks
+pub record IsOnePiece (cut : Cut) (tracks : List Track) (f : Written) (media : List ℕ) : Type 0 where
+  pub can : CanBeRead tracks f
+  pub some : 0 < length f.rows
+  pub fits : fits cut f.rows ≡ true
+  pub all : length media ≡ sizes f.rows
+  pub small : length media ≤ 2 ^ 62
+
+-- the item breaks no rule, its recut text is its own bytes, and the next item begins in this context
+pub record IsOwnRecut (cut : Cut) (c : Context) (i : Item) (next : Context) : Type 0 where
+  pub sound : IsSound (splitting cut) c i
+  pub text : item_text cut c i ≡ bytes_of i
+  pub behind : behind_item (splitting cut) c i ≡ next
+
+-- ---- pieces, one after the other
+
+-- a track without the time at which it ends
+abbrev pub without_end : Track → Track
+without_end t = record t { next = 0 }
+
+-- tracks without the times at which they end
+abbrev pub without_ends : List Track → List Track
+without_ends ts = map without_end ts
+
+-- the samples of a piece as they are written, with the bytes of their media
+pub record PieceWithMedia : Type 0 where
+  pub written : Written
+  pub media : List ℕ
+
+-- pieces as items, numbered on from this number
+abbrev pub pieces_items : ℕ → List PieceWithMedia → List Item
+pieces_items number [] = []
+pieces_items number (q ∷ qs) = piece_item q.written number q.media ∷ pieces_items (number + 1) qs
+
+-- the samples of a piece, each with its bytes
+abbrev pub piece_samples : PieceWithMedia → List MediaSample
+piece_samples q = media_samples_from q.written.track q.written.entry q.written.rows q.written.time q.media
+
+-- ---- the pieces of a run
+
+-- a piece of a run with its media. `held` are the bytes of the moof, and `payload` is that of its mdat, which begins at the stream offset `start`
+abbrev pub piece_with_media : List ℕ → ℕ → List ℕ → Run → Piece → PieceWithMedia
+piece_with_media held start payload run p = record { written = fragment_of held run p; media = media_of start payload p }
+
+-- all pieces of a run with their media
+abbrev pub pieces_with_media : Cut → List ℕ → ℕ → List ℕ → Run → List PieceWithMedia
+pieces_with_media cut held start payload run = map (piece_with_media held start payload run) (pieces_of cut held run)
+
+-- the bytes of a run lie in the payload that begins at the stream offset `start`
+pub record LiesIn (start : ℕ) (payload held : List ℕ) (run : Run) : Type 0 where
+  pub at : ℕ
+  pub place : run.place ≡ pos at
+  pub from : start ≤ at
+  pub to : at + sizes (rows_of run held) ≤ start + length payload

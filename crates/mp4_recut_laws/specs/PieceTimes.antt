@@ -1,0 +1,48 @@
+-- Where an index (ISO/IEC 14496-12, 8.16.3) has room for the earliest time of each piece of a stream. Where pieces share an index, only the first of a group needs it.
+use Rattle.std.specs.Prelude.{ℕ, ◌+◌, ◌<◌, ◌^◌, List, [], ◌∷◌, length}
+use Rattle.std.specs.List.{AllByRecursion}
+use Rattle.mp4_frag.specs.declared.run.Run.{Run}
+use Rattle.mp4_pieces.specs.declared.cut.Cut.{Cut}
+use Rattle.mp4_pieces.specs.declared.piece.Piece.{Piece}
+use Rattle.mp4_pieces.specs.Fits.{FitsTime}
+use Rattle.mp4_pieces.specs.Pieces.{composition_times, least_of, pieces_of}
+use Rattle.mp4_pieces.specs.Sizes.{mdat_header_size, moof_size}
+use Rattle.mp4_frag.specs.Rows.{durations, sizes}
+use Rattle.mp4_cut.specs.Moof.{Fragment as Written}
+use Rattle.mp4_items.specs.Contexts.{Context}
+use Rattle.mp4_items.specs.Joined.{Item, Movie, MovieFragment, PassedOver, behind_item, fragment_in}
+use Rattle.mp4_items.specs.Joined as items
+use Rattle.mp4_items.specs.Makings.{Fragment, runs_in}
+use Rattle.mp4_recut.specs.Splitting.{splitting}
+use Rattle.mp4_recut_laws.specs.Streams.{Ending, NothingMore, OpenBox, OpenFragment}
+
+-- an index has room for one piece alone: its moof and mdat have less than 2^31 bytes, its duration has 32 bits, and the least composition time of its samples is not negative and has 64 bits
+pub record FitsOwnIndex (f : Written) : Type 0 where
+  pub size : moof_size (length f.rows) + (mdat_header_size (sizes f.rows) + sizes f.rows) < 2 ^ 31
+  pub duration : durations f.rows < 2 ^ 32
+  pub time : FitsTime (least_of (composition_times f.time f.rows))
+
+-- the least composition time of each piece of a run is not negative and has 64 bits
+abbrev pub RunTimesFit : Cut → List ℕ → Run → Type 0
+RunTimesFit cut held run = AllByRecursion (λ (p : Piece). FitsTime p.least) (pieces_of cut held run)
+
+-- so it is with each run of a fragment
+abbrev pub FragmentTimesFit : Cut → Fragment → Type 0
+FragmentTimesFit cut f = AllByRecursion (RunTimesFit cut f.moof.bytes) (runs_in f)
+
+-- so it is with an item
+abbrev pub ItemTimesFit : Cut → Context → Item → Type 0
+ItemTimesFit cut c (PassedOver b) = Unit {0}
+ItemTimesFit cut c (Movie b) = Unit {0}
+ItemTimesFit cut c (MovieFragment moof mdat) = FragmentTimesFit cut (fragment_in c moof mdat)
+
+-- so it is with items, one after the other
+abbrev pub ItemsTimesFit : Cut → Context → List Item → Type 0
+ItemsTimesFit cut c [] = Unit {0}
+ItemsTimesFit cut c (i ∷ is) = ItemTimesFit cut c i × ItemsTimesFit cut (behind_item (splitting cut) c i) is
+
+-- so it is with an ending
+abbrev pub EndingTimesFit : Cut → Context → Ending → Type 0
+EndingTimesFit cut c NothingMore = Unit {0}
+EndingTimesFit cut c (OpenBox h head more) = Unit {0}
+EndingTimesFit cut c (OpenFragment moof h head more) = FragmentTimesFit cut (items.fragment_of c moof.bytes h)

@@ -1,0 +1,114 @@
+//! Laws of the recut text: what `split` writes of a stream that is read without a fault.
+//!
+//! - [`recut_text_of_a_stream`]: the recut text, item by item; no reader and no machine stands in it;
+//! - [`recut_text_is_a_stream`]: it is read without a fault, it is its own recut text, and it has the
+//!   samples of the stream;
+//! - [`indexes_are_true`]: each index in it tells the truth of the fragments behind it;
+//! - [`recut_text_with_an_index`]: when it is read without a fault with the same cut and an index;
+//! - [`items`]: the laws over pieces, runs and items on which these stand.
+//!
+//! The definitions: `specs/RecutText.antt` (the recut text, and what can be told of samples, by the
+//! bytes of a stream alone), `specs/Streams.antt` (a stream without a fault, by its items, and the
+//! stream that it is recut to), `specs/MediaSamples.antt` (a sample with its bytes),
+//! `specs/IndexTruth.antt` (when an index tells the truth of the items behind it) and
+//! `specs/PieceTimes.antt` (when an index has room for the time of each piece). The laws of
+//! [`items`] speak of `specs/PieceItems.antt` and `specs/RecutItems.antt` (pieces, and the recut
+//! text, as items), `specs/Premises.antt` (what is asked of items) and `specs/Indexes.antt` (what an
+//! index says, and of which pieces) too.
+//!
+//! No function here has a body: each clause is a law.
+#![tactic(auto)]
+
+ghost use Rattle.std.specs.Prelude.{◌≡◌, ◌↔◌, ◌<◌, ◌≤◌, ◌^◌, ℕ, List, length, false, true, None};
+ghost use Rattle.std.specs.List.{flat_map};
+ghost use Rattle.mp4_box.specs.Headers.{IsBytes};
+ghost use Rattle.mp4_init.specs.declared.table.Track.{Track};
+ghost use Rattle.mp4_frag.specs.Moofs.{moof_runs};
+ghost use Rattle.mp4_pieces.specs.Rooms.{room_fault};
+ghost use Rattle.mp4_pieces.specs.declared.cut.Cut.{Cut};
+ghost use Rattle.mp4_cut.specs.Moof.{Fragment};
+ghost use Rattle.mp4_cut.specs.Reads.{held_moof};
+ghost use Rattle.mp4_reading.specs.Readings.{Sound};
+ghost use Rattle.mp4_items.specs.Contexts.{first_context};
+ghost use Rattle.mp4_recut.specs.Splitting.{reading};
+ghost use Rattle.mp4_recut_laws.specs.IndexTruth.{IndexesAreTrue};
+ghost use Rattle.mp4_recut_laws.specs.Indexes.{EndingIsIndexed, ItemsAreIndexed};
+ghost use Rattle.mp4_recut_laws.specs.MediaSamples.{MediaSample};
+ghost use Rattle.mp4_recut_laws.specs.PieceItems.{IsOnePiece};
+ghost use Rattle.mp4_recut_laws.specs.PieceTimes.{EndingTimesFit, FitsOwnIndex, ItemsTimesFit};
+ghost use Rattle.mp4_recut_laws.specs.RecutItems.{without_index};
+ghost use Rattle.mp4_recut_laws.specs.RecutText.{recut_text, told_by};
+ghost use Rattle.mp4_recut_laws.specs.Streams.{IsSoundStream, Stream, ending_context, recut, stream_bytes, stream_samples, stream_text};
+
+pub mod items;
+
+/// What `split` writes of a stream that is read without a fault is exactly its recut text: the texts
+/// of its items, one after the other, and that of its ending. What is told of its samples is told of
+/// those of its items and of its ending, in order. Each such stream has these items and this ending.
+pub fn recut_text_of_a_stream()
+    ensures text { (cut : Cut) (s : Stream) → IsSoundStream cut s →
+        (reading cut (stream_bytes s)).told.text ≡ stream_text cut s }
+    ensures sound { (cut : Cut) (s : Stream) → IsSoundStream cut s →
+        (reading cut (stream_bytes s)).outcome ≡ Sound }
+    ensures each { (cut : Cut) (b : List ℕ) → IsBytes b → (reading cut b).outcome ≡ Sound →
+        (s : Stream) × IsSoundStream cut s × (stream_bytes s ≡ b) ×
+        (recut_text cut b ≡ stream_text cut s) }
+    ensures samples { (cut : Cut) (s : Stream) (tell : MediaSample → List ℕ) →
+        IsSoundStream cut s →
+        told_by tell (stream_bytes s) ≡ flat_map tell (stream_samples cut s) }
+{}
+
+/// The recut text of bytes that are read without a fault is bytes. If it has at most 2^62 of them, it is
+/// read without a fault, without an index it is its own recut text, and whatever is told of each sample of
+/// the stream, in order, is told of each sample of the text.
+pub fn recut_text_is_a_stream()
+    ensures bytes { (cut : Cut) (b : List ℕ) → IsBytes b → (reading cut b).outcome ≡ Sound →
+        IsBytes (recut_text cut b) }
+    ensures read { (cut : Cut) (b : List ℕ) → IsBytes b → (reading cut b).outcome ≡ Sound →
+        length (recut_text cut b) ≤ 2 ^ 62 →
+        (reading (without_index cut) (recut_text cut b)).outcome ≡ Sound }
+    ensures again { (cut : Cut) (b : List ℕ) → IsBytes b → (reading cut b).outcome ≡ Sound →
+        length (recut_text cut b) ≤ 2 ^ 62 →
+        recut_text (without_index cut) (recut_text cut b) ≡ recut_text (without_index cut) b }
+    ensures own { (cut : Cut) (b : List ℕ) → cut.index ≡ false → IsBytes b →
+        (reading cut b).outcome ≡ Sound → length (recut_text cut b) ≤ 2 ^ 62 →
+        recut_text cut (recut_text cut b) ≡ recut_text cut b }
+    ensures samples { (cut : Cut) (b : List ℕ) (tell : MediaSample → List ℕ) → IsBytes b →
+        (reading cut b).outcome ≡ Sound → length (recut_text cut b) ≤ 2 ^ 62 →
+        told_by tell (recut_text cut b) ≡ told_by tell b }
+{}
+
+/// Where an index is asked for, each sidx of the recut text tells the truth: what is read in it holds
+/// of the items directly behind it, as many as it has references. The recut text of bytes that are
+/// read without a fault has such items, and each index was written for its group of pieces.
+pub fn indexes_are_true()
+    ensures bytes { (cut : Cut) (b : List ℕ) → IsBytes b → (reading cut b).outcome ≡ Sound →
+        cut.index ≡ true → length (recut_text cut b) ≤ 2 ^ 62 →
+        (s : Stream) × IsSoundStream (without_index cut) s × (stream_bytes s ≡ recut_text cut b) ×
+        IndexesAreTrue cut first_context s.items }
+    ensures read { (cut : Cut) (s : Stream) → IsSoundStream cut s → cut.index ≡ true →
+        IndexesAreTrue cut first_context (recut cut s).items }
+    ensures written { (cut : Cut) (s : Stream) → IsSoundStream cut s → cut.index ≡ true →
+        ItemsAreIndexed cut first_context s.items ×
+        EndingIsIndexed cut (ending_context cut s) s.ending }
+{}
+
+/// Read with an index, each fragment of a recut text gets an index of its own. So it is read without a
+/// fault where an index has room for the least composition time of each piece. Where several pieces
+/// shared an index, only the first of them had to have room.
+pub fn recut_text_with_an_index()
+    ensures one { (cut : Cut) (at number : ℕ) (tracks : List Track) (f : Fragment)
+        (media : List ℕ) → cut.index ≡ true → number < 2 ^ 32 → IsOnePiece cut tracks f media →
+        (room_fault cut (held_moof f number at) (moof_runs (held_moof f number at) tracks) number
+        ≡ None) ↔ FitsOwnIndex f }
+    ensures read { (cut : Cut) (s : Stream) → IsSoundStream cut s → cut.index ≡ true →
+        ItemsTimesFit cut first_context s.items →
+        EndingTimesFit cut (ending_context cut s) s.ending →
+        length (stream_text cut s) ≤ 2 ^ 62 →
+        (reading cut (stream_text cut s)).outcome ≡ Sound }
+    ensures text { (cut : Cut) (s : Stream) → IsSoundStream cut s → cut.index ≡ true →
+        ItemsTimesFit cut first_context s.items →
+        EndingTimesFit cut (ending_context cut s) s.ending →
+        length (stream_text cut s) ≤ 2 ^ 62 →
+        recut_text cut (stream_text cut s) ≡ stream_text cut (recut cut s) }
+{}
