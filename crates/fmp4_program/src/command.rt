@@ -72,12 +72,7 @@ fn needed_number(matches: &ArgMatches<'_>, id: &str, least: u64, most: u64) -> O
     }
 }
 
-fn number_if(
-    matches: &ArgMatches<'_>,
-    id: &str,
-    least: u64,
-    most: u64,
-) -> Option<Option<u64>>
+fn number_if(matches: &ArgMatches<'_>, id: &str, least: u64, most: u64) -> Option<Option<u64>>
     ensures value { result ≡ number_if least most id.now (rows_of (found_of matches.now)) }
     ensures low { IfSome result (λ found. IfSome found (λ number. least ≤ number)) }
     ensures high { IfSome result (λ found. IfSome found (λ number. number ≤ most)) }

@@ -16,7 +16,9 @@ ghost use Rattle.fmp4_program.specs.Runs.{IsCutBy, Ran, SplitsBy, Tells, TellsOf
 use crate::asked::{Invocation, SplitOptions};
 use crate::command::{NoCommand, read_words};
 use crate::lines::{check_line, stop_line};
-use mp4_stream::{Cut, Ledger, Sink, Source, Stop, Totals, boxes, check, samples, split, write_all};
+use mp4_stream::{
+    Cut, Ledger, Sink, Source, Stop, Totals, boxes, check, samples, split, write_all,
+};
 use std::alloc::Global;
 
 /// Runs the command that the words name, the first of which is the program's name. Bytes are read from `r`,

@@ -74,7 +74,14 @@ pub fn check<R: Source>(
     ensures enough { copy + (most_moov + 5 * most_moof) ≤ ledger.old.limit →
         IsErrOf result Stop.OverLimit → ⊥ }
 {
-    run_fragments(Plan::List(Command::Check), r, &mut Silent, ledger, copy, totals)
+    run_fragments(
+        Plan::List(Command::Check),
+        r,
+        &mut Silent,
+        ledger,
+        copy,
+        totals,
+    )
 }
 
 /// Cuts the fragments of a fragmented stream into shorter ones, however its reads cut it: each run into pieces, each of which

@@ -78,11 +78,7 @@ fn push_numbers(all: &mut Vec<u8>, numbers: &[u32]) -> Result<(), AllocError> {
 }
 
 /// These bytes, and behind them the fragments.
-fn recut(
-    alloc: Global,
-    front: &[&[u8]],
-    fragments: &[Wanted<'_>],
-) -> Result<Vec<u8>, AllocError> {
+fn recut(alloc: Global, front: &[&[u8]], fragments: &[Wanted<'_>]) -> Result<Vec<u8>, AllocError> {
     let mut all = joined(alloc, front)?;
     for fragment in fragments {
         push_fragment(&mut all, fragment)?;
@@ -189,14 +185,16 @@ fn indexes(rt: HostRuntime) -> Result<(), Fail> {
     let (alloc, v1, v2) = (rt.alloc(), V1.as_slice(), V2.as_slice());
     let two = by_two(alloc)?;
     // Two references, of 144 bytes and 119.
-    let sidx = b"\0\0\0\x40sidx\x01\0\0\0\0\0\0\x01\0\0\xbb\x80\0\0\0\0\0\0\0\0\0\0\0\0\0\0\0\0\0\0\0\x02\
+    let sidx =
+        b"\0\0\0\x40sidx\x01\0\0\0\0\0\0\x01\0\0\xbb\x80\0\0\0\0\0\0\0\0\0\0\0\0\0\0\0\0\0\0\0\x02\
         \0\0\0\x90\0\0\x08\0\0\0\0\0\0\0\0\x77\0\0\x04\0\0\0\0\0"
-        .as_slice();
+            .as_slice();
     let indexed = joined(alloc, &[&v1[..364], sidx, &two[364.min(two.len())..]])?;
     // One of 140 bytes stands before the fragment of the second track.
-    let second = b"\0\0\0\x34sidx\x01\0\0\0\0\0\0\x02\0\0\xbb\x80\0\0\0\0\0\0\0\0\0\0\0\0\0\0\0\0\0\0\0\x01\
+    let second =
+        b"\0\0\0\x34sidx\x01\0\0\0\0\0\0\x02\0\0\xbb\x80\0\0\0\0\0\0\0\0\0\0\0\0\0\0\0\0\0\0\0\x01\
         \0\0\0\x8c\0\0\x08\0\0\0\0\0"
-        .as_slice();
+            .as_slice();
     let first = [
         piece_at(1, 0, &[[5, SYNC], [7, SYNC]], &v2[756..768]),
         piece_at(2, 2048, &[[3, SYNC]], &v2[768..771]),
@@ -223,10 +221,11 @@ fn indexes(rt: HostRuntime) -> Result<(), Fail> {
 fn fields_of_an_index(rt: HostRuntime) -> Result<(), Fail> {
     let (alloc, v1) = (rt.alloc(), V1.as_slice());
     let front = [&v1[..352], b"\xff\xff\xff\xff".as_slice(), &v1[356..364]];
-    let sidx = b"\0\0\0\x4csidx\x01\0\0\0\0\0\0\x01\0\0\xbb\x80\0\0\0\0\0\0\0\0\0\0\0\0\0\0\0\0\0\0\0\x03\
+    let sidx =
+        b"\0\0\0\x4csidx\x01\0\0\0\0\0\0\x01\0\0\xbb\x80\0\0\0\0\0\0\0\0\0\0\0\0\0\0\0\0\0\0\0\x03\
         \0\0\0\x79\xff\xff\xff\xff\0\0\0\0\0\0\0\x7b\xff\xff\xff\xff\0\0\0\0\
         \0\0\0\x77\xff\xff\xff\xff\0\0\0\0"
-        .as_slice();
+            .as_slice();
     let fragments = [
         lasting(piece_at(1, 0, &[[5, SYNC]], &v1[468..473])),
         lasting(piece_at(2, 0xffff_ffff, &[[7, SYNC]], &v1[473..480])),
@@ -276,7 +275,12 @@ fn boxes_around_fragments(rt: HostRuntime) -> Result<(), Fail> {
         b"\0\0\0\x01mdat\0\0\0\0\0\0\0\x1f",
         &v1[468..],
     ];
-    let more = [&v1[..460], b"\0\0\0\x1cmdat".as_slice(), &v1[468..], b"more."];
+    let more = [
+        &v1[..460],
+        b"\0\0\0\x1cmdat".as_slice(),
+        &v1[468..],
+        b"more.",
+    ];
     let user = b"\0\0\0\x1cuuid0123456789abcdef\0\0\0\0".as_slice();
     let around = [
         &v1[..364],
@@ -339,9 +343,10 @@ fn sync_samples(rt: HostRuntime) -> Result<(), Fail> {
         piece_at(3, 2048, &[[3, OTHER]], &media[12..]),
     ];
     let ones = recut(alloc, &front, &ones)?;
-    let sidx = b"\0\0\0\x34sidx\x01\0\0\0\0\0\0\x01\0\0\xbb\x80\0\0\0\0\0\0\0\0\0\0\0\0\0\0\0\0\0\0\0\x01\
+    let sidx =
+        b"\0\0\0\x34sidx\x01\0\0\0\0\0\0\x01\0\0\xbb\x80\0\0\0\0\0\0\0\0\0\0\0\0\0\0\0\0\0\0\0\x01\
         \0\0\0\xa3\0\0\x0c\0\0\0\0\0"
-        .as_slice();
+            .as_slice();
     let indexed = [front[0], front[1], sidx];
     let indexed = recut(alloc, &indexed, &[piece_at(1, 0, &all, media)])?;
     let sync = ["--samples", "9", "--sync"];

@@ -1,0 +1,23 @@
+use Rattle.std.proofs.Common.{rules, inr}
+use Rattle.fmp4_program.proofs.runs.run.Goals as goal
+use Rattle.fmp4_program.proofs.runs.run.Goals.{in-Boxes, in-Samples, in-Check, in-Split}
+
+pub returns : goal.returns
+returns g c =
+    let asked = rw c.as_slice.ensures.value at c.in-Ok.ensures.ok in
+    rw asked (inr (elim c.match-asked.branch [
+      | in-Boxes w ↦ search rules
+      | in-Samples w ↦ search rules
+      | in-Check w ↦ search rules
+      | in-Split w ↦
+          let ran = w.split_stream-answer.ensures in
+          rw (w.in-Split.is, w.r-is, w.w-is) (record {
+            answer = c.match-asked.answer;
+            peak = w.split_stream-answer.new.ledger.peak;
+            runs = rw w.answer-is (rw w.new-ledger-in-Split.ensures at ran.runs);
+            within = rw w.new-ledger-in-Split.ensures at ran.within;
+            flushed = rw w.answer-is ran.flushed;
+            exits = c.status_for.ensures;
+            tells = c.tell_answer.ensures;
+          })
+    ]))
