@@ -44,7 +44,7 @@ use Rattle.mp4_items.specs.Contexts.{Context, context, table_of}
 use Rattle.mp4_items.specs.Items.{behind_fragment, end_of, fragment, media_body, reads_in, walked, with_runs}
 use Rattle.mp4_items.specs.Makings.{Fragment, Making, fragment_fault, runs_in}
 use Rattle.mp4_recut.specs.Media.{Lost, Plays, Spot, playing}
-use Rattle.mp4_recut.specs.Parts.{Ascends, Part, played, recuts, slices}
+use Rattle.mp4_recut.specs.Parts.{Ascends, Part, played, slices, told_fragments}
 use Rattle.mp4_recut.specs.Splitting.{parts_of, run_parts, runs_parts, splitting, timescale_of}
 use Rattle.mp4_recut.proofs.AscendLemmas.{runs_ascend}
 use Rattle.mp4_recut.proofs.FragmentLemmas.{some_samples}
@@ -188,16 +188,16 @@ module _ (cut : Cut) (o : Outside) (at : ℕ) (tracks : List Track) (piece : Lis
       subst (λ (runs : List Run). Ascends f.payload.start end (runs_parts cut m tracks number runs)) (sym taken)
       (runs_ascend cut m tracks number f.payload.start end (l.run ∷ []) (omega (arith, head_is, fit.head)) (run_is at tracks piece b l is, tt) (lie, tt) (tt, tt))
 
-  told : playing (first_spot cut f) payload ≡ recuts put (length pieces)
+  told : playing (first_spot cut f) payload ≡ told_fragments put (length pieces)
   told =
       let last : end ≡ f.payload.start + length payload = omega (arith, len, head_is, fit.head) in
       let begins : f.payload.start ≡ media_start at b = omega (arith, head_is) in
       let same : payload ≡ media_in piece b = ap (λ k. take (s - k) (drop k x)) head_is in
       played-slices f.payload.start payload (parts_of cut f) (subst (λ e. Ascends f.payload.start e (parts_of cut f)) last ascends)
-      ∙ ap (λ (ps : List Part). recuts (slices f.payload.start payload ps) (length ps)) all_parts
-      ∙ ap (λ k. recuts (slices k payload parts) (length parts)) begins
-      ∙ ap (λ z. recuts (slices (media_start at b) z parts) (length parts)) same
-      ∙ ap (recuts put) (run_length cut m l.run (timescale_of tracks l.run.track) 0 number pieces)
+      ∙ ap (λ (ps : List Part). told_fragments (slices f.payload.start payload ps) (length ps)) all_parts
+      ∙ ap (λ k. told_fragments (slices k payload parts) (length parts)) begins
+      ∙ ap (λ z. told_fragments (slices (media_start at b) z parts) (length parts)) same
+      ∙ ap (told_fragments put) (run_length cut m l.run (timescale_of tracks l.run.track) 0 number pieces)
 
   counted : (splitting cut).numbered f ≡ number + length pieces
   counted = omega (arith, ap (piece_count cut m) taken, sum_by-cons (λ (r : Run). length (pieces_of cut m r)) l.run [])
@@ -340,7 +340,7 @@ module _ (cut : Cut) (o : Outside) (at : ℕ) (tracks : List Track) (piece : Lis
         loses : (all rest : List ℕ) → all ≡ payload ++ rest → Loses listed_of (outside u v (given_back a (64 * length tracks)) t) (waits mdat_head).claim ((waits mdat_head).reads all)
         loses all rest e =
             let make = splitting cut in
-            let told_first = recuts put (length pieces) in
+            let told_first = told_fragments put (length pieces) in
             let reads : (waits mdat_head).reads all ≡ after (make.accepted f) (then_read (reads_in make) (media_body make f (at + length m) g g.size all)) =
             ap (then_read (reads_in make)) (second-accepted make c tracks m g mdat_head fore.len fore.is all fits is.boxes.mdat.is_kind good) ∙ then_read-told (reads_in make) (make.accepted f) (media_body make f (at + length m) g g.size all) in
             let body_reads : then_read (reads_in make) (media_body make f (at + length m) g g.size all) ≡ after told_first (reads_in make behind_it rest) =
