@@ -1,5 +1,5 @@
 -- The bytes of a piece lie among those of its run.
-use Rattle.std.proofs.Common.{◌≡◌, ◌+◌, ◌+ℤ◌, ◌≤ℤ◌, ℕ, List, pos, ap, arith}
+use Rattle.std.proofs.Common.{◌≡◌, ◌+ℤ◌, ◌≤ℤ◌, ℕ, List, pos, ap, arith}
 use Rattle.std.specs.Prelude.{drop, take}
 use Rattle.std.proofs.lemmas.Int.{ints}
 use Rattle.std.proofs.lemmas.List.Sums.{sum_by-take-drop, sum_by-take-le}
