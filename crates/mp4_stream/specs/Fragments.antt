@@ -16,7 +16,7 @@ pub record ClaimsByBoxes {T : Type 0} (plan : Plan) (bytes : List ℕ) (claims :
   pub most : (moov moof : ℕ) → HoldsWithin (plans.making_of plan) first_context bytes moov moof → claims.peak ≤ claims.copy + (2 * moov + 5 * moof)
   pub enough : (moov moof : ℕ) → HoldsWithin (plans.making_of plan) first_context bytes moov moof → claims.copy + (2 * moov + 5 * moof) ≤ claims.limit → IsErrOf result OverLimit → ⊥
 
--- by the reading of a plan, with its totals: the samples that are counted are among those of moofs that were looked at; each of these was read once, and a counted one once more, and again where it is listed or its pieces are counted; none was read more often than the plan says
+-- by the reading of a plan, with its totals: the samples that are counted are among those of moofs that were looked at; each of these was read once, and a counted one once more, and again where it is listed or recut; none was read more often than the plan allows
 pub record ReadsFragments {T : Type 0} (plan : Plan) (ends : Ends) (claims : Claims) (totals : Totals) (result : Result T Stop) : Type 0 where
   pub walked : ℕ
   pub runs : Runs (plans.reads_of plan) ends claims (record { fragments = totals.fragments; samples = totals.samples; media_bytes = totals.media_bytes; walked = walked }) result
