@@ -1,7 +1,5 @@
 //! Fragments that are cut into shorter ones. What must be written is laid out by hand.
 
-ghost use Rattle.std.specs.Prelude.{◌≤◌};
-
 use super::layouts::{MFHD, TFHD};
 use super::{Given, check_bytes, check_run, check_words, joined};
 use mp4_stream::vectors::{V1, V2, V3};
@@ -13,6 +11,8 @@ use std::test::Fail;
 const SYNC: u32 = 0x0200_0000;
 
 const OTHER: u32 = 0x0101_0000;
+
+const BY_TWO: [&str; 2] = ["--samples", "2"];
 
 /// A fragment that must be written: its number, its track, its decode time, how long its samples are, the size and the flags
 /// of each, and their bytes.
@@ -86,64 +86,57 @@ fn recut(alloc: Global, front: &[&[u8]], fragments: &[Wanted<'_>]) -> Result<Vec
     Ok(all)
 }
 
-/// A run of `split` with these options on this stream: its status, what must be written, and the line of its fault.
-#[derive(Clone, Copy)]
-struct Case<'a> {
-    options: &'a [&'a str],
-    parts: &'a [&'a [u8]],
+/// Runs `split` with these options on a stream: its status, what it writes and its line of a fault must be these.
+fn check_split(
+    rt: &impl Abort,
+    alloc: Global,
+    options: &[&str],
+    parts: &[&[u8]],
     status: u8,
-    written: &'a [u8],
-    fault: &'a str,
-}
-
-fn check_cases(rt: &impl Abort, alloc: Global, cases: &[Case<'_>]) -> Result<(), Fail> {
-    for case in cases {
-        let mut words = Vec::new(alloc);
-        words.extend_from_slice(&["fmp4", "split"])?;
-        words.extend_from_slice(case.options)?;
-        check_bytes(
-            rt,
-            alloc,
-            &words,
-            case.parts,
-            case.status,
-            case.written,
-            case.fault,
-        )?;
-    }
-    Ok(())
+    written: &[u8],
+    fault: &str,
+) -> Result<(), Fail> {
+    let mut words = Vec::new(alloc);
+    words.extend_from_slice(&["fmp4", "split"])?;
+    words.extend_from_slice(options)?;
+    check_bytes(rt, alloc, &words, parts, status, written, fault)
 }
 
 /// A success.
-fn good<'a>(options: &'a [&'a str], parts: &'a [&'a [u8]], written: &'a [u8]) -> Case<'a> {
-    Case {
-        options,
-        parts,
-        status: 0,
-        written,
-        fault: "",
-    }
+fn check_good(
+    rt: &impl Abort,
+    alloc: Global,
+    options: &[&str],
+    parts: &[&[u8]],
+    written: &[u8],
+) -> Result<(), Fail> {
+    check_split(rt, alloc, options, parts, 0, written, "")
 }
 
 /// A stream at fault, by two samples a fragment.
-fn bad<'a>(parts: &'a [&'a [u8]], written: &'a [u8], fault: &'a str) -> Case<'a> {
-    Case {
-        options: &["--samples", "2"],
-        parts,
-        status: 2,
-        written,
-        fault,
-    }
+fn check_bad(
+    rt: &impl Abort,
+    alloc: Global,
+    parts: &[&[u8]],
+    written: &[u8],
+    fault: &str,
+) -> Result<(), Fail> {
+    check_split(rt, alloc, &BY_TWO, parts, 2, written, fault)
 }
 
-/// The first vector by two samples a fragment.
-fn by_two(alloc: Global) -> Result<Vec<u8>, AllocError> {
+/// The fragments of the first vector by two samples each, behind these bytes.
+fn two_behind(alloc: Global, front: &[&[u8]]) -> Result<Vec<u8>, AllocError> {
     let v1 = V1.as_slice();
     let fragments = [
         piece_at(1, 0, &[[5, SYNC], [7, SYNC]], &v1[468..480]),
         piece_at(2, 2048, &[[3, SYNC]], &v1[480..]),
     ];
-    recut(alloc, &[&v1[..364]], &fragments)
+    recut(alloc, front, &fragments)
+}
+
+/// The first vector by two samples a fragment.
+fn by_two(alloc: Global) -> Result<Vec<u8>, AllocError> {
+    two_behind(alloc, &[&V1.as_slice()[..364]])
 }
 
 /// And by one.
@@ -167,17 +160,20 @@ fn pieces(rt: HostRuntime) -> Result<(), Fail> {
     ];
     let behind = recut(alloc, &[&v1[..364]], &behind)?;
     let (v1, again) = ([v1], [two.as_slice()]);
-    let cases = [
-        good(&["--samples", "2"], &v1, &two),
-        good(&["--samples", "9", "--bytes", "12"], &v1, &two),
-        good(&["--samples", "9", "--bytes", "10"], &v1, &behind),
-        good(&["--samples", "9", "--bytes", "9"], &v1, &one),
-        // A sample with more bytes stands alone.
-        good(&["--samples", "9", "--bytes", "4"], &v1, &one),
-        good(&["--samples", "9", "--sync"], &v1, &one),
-        good(&["--samples", "2"], &again, &two),
-    ];
-    check_cases(&rt, alloc, &cases)
+    check_good(&rt, alloc, &BY_TWO, &v1, &two)?;
+    check_good(&rt, alloc, &["--samples", "9", "--bytes", "12"], &v1, &two)?;
+    check_good(
+        &rt,
+        alloc,
+        &["--samples", "9", "--bytes", "10"],
+        &v1,
+        &behind,
+    )?;
+    check_good(&rt, alloc, &["--samples", "9", "--bytes", "9"], &v1, &one)?;
+    // A sample with more bytes stands alone.
+    check_good(&rt, alloc, &["--samples", "9", "--bytes", "4"], &v1, &one)?;
+    check_good(&rt, alloc, &["--samples", "9", "--sync"], &v1, &one)?;
+    check_good(&rt, alloc, &BY_TWO, &again, &two)
 }
 
 #[test]
@@ -189,17 +185,13 @@ fn indexes(rt: HostRuntime) -> Result<(), Fail> {
         b"\0\0\0\x40sidx\x01\0\0\0\0\0\0\x01\0\0\xbb\x80\0\0\0\0\0\0\0\0\0\0\0\0\0\0\0\0\0\0\0\x02\
         \0\0\0\x90\0\0\x08\0\0\0\0\0\0\0\0\x77\0\0\x04\0\0\0\0\0"
             .as_slice();
-    let indexed = joined(alloc, &[&v1[..364], sidx, &two[364.min(two.len())..]])?;
+    let indexed = two_behind(alloc, &[&v1[..364], sidx])?;
     // One of 140 bytes stands before the fragment of the second track.
     let second =
         b"\0\0\0\x34sidx\x01\0\0\0\0\0\0\x02\0\0\xbb\x80\0\0\0\0\0\0\0\0\0\0\0\0\0\0\0\0\0\0\0\x01\
         \0\0\0\x8c\0\0\x08\0\0\0\0\0"
             .as_slice();
-    let first = [
-        piece_at(1, 0, &[[5, SYNC], [7, SYNC]], &v2[756..768]),
-        piece_at(2, 2048, &[[3, SYNC]], &v2[768..771]),
-    ];
-    let mut tracks = recut(alloc, &[&v2[..584], sidx], &first)?;
+    let mut tracks = two_behind(alloc, &[&v2[..584], sidx])?;
     tracks.extend_from_slice(second)?;
     let last = Wanted {
         track: 2,
@@ -207,12 +199,9 @@ fn indexes(rt: HostRuntime) -> Result<(), Fail> {
     };
     push_fragment(&mut tracks, &last)?;
     let (v1, v2, again) = ([v1], [v2], [indexed.as_slice()]);
-    let cases = [
-        good(&["--samples", "2", "--index"], &v1, &indexed),
-        good(&["--samples", "2", "--index"], &v2, &tracks),
-        good(&["--samples", "2"], &again, &two),
-    ];
-    check_cases(&rt, alloc, &cases)?;
+    check_good(&rt, alloc, &["--samples", "2", "--index"], &v1, &indexed)?;
+    check_good(&rt, alloc, &["--samples", "2", "--index"], &v2, &tracks)?;
+    check_good(&rt, alloc, &BY_TWO, &again, &two)?;
     let counts = "fragments=2 samples=3 media=15 held=65944\n";
     check_words(&rt, alloc, &["fmp4", "check"], &again, 0, &[counts], "")
 }
@@ -232,7 +221,7 @@ fn fields_of_an_index(rt: HostRuntime) -> Result<(), Fail> {
         lasting(piece_at(3, 0x1_ffff_fffe, &[[3, SYNC]], &v1[480..])),
     ];
     let written = joined(alloc, &front)?;
-    let indexed = recut(alloc, &[&written, sidx], &fragments)?;
+    let indexed = recut(alloc, &[front[0], front[1], front[2], sidx], &fragments)?;
     let slow = [&v1[..352], b"\xff\xff\xff\xff".as_slice(), &v1[356..]];
     // The first sample is shown before time 0.
     let early = [
@@ -248,25 +237,15 @@ fn fields_of_an_index(rt: HostRuntime) -> Result<(), Fail> {
     ];
     let fault = "fmp4: 23 IndexRange in trun at 428\n";
     let two = ["--samples", "2", "--index"];
-    let cases = [
-        good(&["--samples", "1", "--index"], &slow, &indexed),
-        Case {
-            options: &two,
-            ..bad(&slow, &written, fault)
-        },
-        Case {
-            options: &two,
-            ..bad(&early, &v1[..364], fault)
-        },
-    ];
-    check_cases(&rt, alloc, &cases)
+    check_good(&rt, alloc, &["--samples", "1", "--index"], &slow, &indexed)?;
+    check_split(&rt, alloc, &two, &slow, 2, &written, fault)?;
+    check_split(&rt, alloc, &two, &early, 2, &v1[..364], fault)
 }
 
 #[test]
 fn boxes_around_fragments(rt: HostRuntime) -> Result<(), Fail> {
     let (alloc, v1) = (rt.alloc(), V1.as_slice());
     let two = by_two(alloc)?;
-    let fragments = &two[364.min(two.len())..];
     let to_end = [&v1[..460], b"\0\0\0\0mdat".as_slice(), &v1[468..]];
     let long = [
         &v1[..444],
@@ -290,7 +269,7 @@ fn boxes_around_fragments(rt: HostRuntime) -> Result<(), Fail> {
         &v1[364..],
         b"\0\0\0\x10mfra\0\0\0\0\0\0\0\0",
     ];
-    let kept = joined(alloc, &[&v1[..364], user, fragments])?;
+    let kept = two_behind(alloc, &[&v1[..364], user])?;
     // A run without samples gives no fragment.
     let none = [
         &v1[..364],
@@ -302,16 +281,12 @@ fn boxes_around_fragments(rt: HostRuntime) -> Result<(), Fail> {
         b"\0\0\0\x14trun\0\0\x02\x01\0\0\0\0\x80\0\0\0",
         &v1[460..],
     ];
-    let by_two = ["--samples", "2"];
-    let cases = [
-        good(&by_two, &[], b""),
-        good(&by_two, &to_end, &two),
-        good(&by_two, &long, &two),
-        good(&by_two, &more, &two),
-        good(&by_two, &around, &kept),
-        good(&by_two, &none, &v1[..364]),
-    ];
-    check_cases(&rt, alloc, &cases)
+    check_good(&rt, alloc, &BY_TWO, &[], b"")?;
+    check_good(&rt, alloc, &BY_TWO, &to_end, &two)?;
+    check_good(&rt, alloc, &BY_TWO, &long, &two)?;
+    check_good(&rt, alloc, &BY_TWO, &more, &two)?;
+    check_good(&rt, alloc, &BY_TWO, &around, &kept)?;
+    check_good(&rt, alloc, &BY_TWO, &none, &v1[..364])
 }
 
 #[test]
@@ -355,16 +330,25 @@ fn sync_samples(rt: HostRuntime) -> Result<(), Fail> {
         [indexed.as_slice()],
         [pairs.as_slice()],
     );
-    let cases = [
-        good(&["--samples", "1"], &first, &ones),
-        good(&sync, &first, &whole),
-        good(&["--samples", "9", "--sync", "--index"], &first, &indexed),
-        good(&["--sync", "--samples", "2"], &first, &pairs),
-        good(&sync, &again, &whole),
-        good(&sync, &indexed_again, &whole),
-        good(&["--samples", "2", "--sync"], &pairs_again, &pairs),
-    ];
-    check_cases(&rt, alloc, &cases)
+    check_good(&rt, alloc, &["--samples", "1"], &first, &ones)?;
+    check_good(&rt, alloc, &sync, &first, &whole)?;
+    check_good(
+        &rt,
+        alloc,
+        &["--samples", "9", "--sync", "--index"],
+        &first,
+        &indexed,
+    )?;
+    check_good(&rt, alloc, &["--sync", "--samples", "2"], &first, &pairs)?;
+    check_good(&rt, alloc, &sync, &again, &whole)?;
+    check_good(&rt, alloc, &sync, &indexed_again, &whole)?;
+    check_good(
+        &rt,
+        alloc,
+        &["--samples", "2", "--sync"],
+        &pairs_again,
+        &pairs,
+    )
 }
 
 #[test]
@@ -403,13 +387,22 @@ fn two_tracks(rt: HostRuntime) -> Result<(), Fail> {
     let turns = recut(alloc, &[&v3[..584]], &turns)?;
     let shared = [&v2[..736], b"\0\0\0\xba".as_slice(), &v2[740..]];
     let (front, v2, v3, again) = (&v2[..584], [v2], [v3], [by_bytes.as_slice()]);
-    let cases = [
-        good(&["--samples", "2"], &v2, &two),
-        good(&["--samples", "9", "--bytes", "8"], &v2, &by_bytes),
-        good(&["--samples", "2"], &v3, &turns),
-        bad(&shared, front, "fmp4: 22 RunPlace in trun at 720\n"),
-    ];
-    check_cases(&rt, alloc, &cases)?;
+    check_good(&rt, alloc, &BY_TWO, &v2, &two)?;
+    check_good(
+        &rt,
+        alloc,
+        &["--samples", "9", "--bytes", "8"],
+        &v2,
+        &by_bytes,
+    )?;
+    check_good(&rt, alloc, &BY_TWO, &v3, &turns)?;
+    check_bad(
+        &rt,
+        alloc,
+        &shared,
+        front,
+        "fmp4: 22 RunPlace in trun at 720\n",
+    )?;
     let counts = "fragments=4 samples=5 media=23 held=66228\n";
     check_words(&rt, alloc, &["fmp4", "check"], &again, 0, &[counts], "")
 }
@@ -434,20 +427,59 @@ fn streams_at_fault(rt: HostRuntime) -> Result<(), Fail> {
         &v1[468..],
     ];
     let cut = "fmp4: 1 Truncated in mdat at 460\n";
-    let cases = [
-        bad(&short, &two[..626.min(len)], cut),
-        bad(&shorter, &two[..624.min(len)], cut),
-        bad(&zeros, &two, "fmp4: 1 Truncated in (none) at 483\n"),
-        bad(&no_moov, start, "fmp4: 3 NoMoov in moof at 20\n"),
-        bad(&again, front, "fmp4: 4 SecondMoov in moov at 364\n"),
-        bad(&no_moof, front, "fmp4: 5 StrayMdat in mdat at 364\n"),
-        bad(&no_mdat, front, "fmp4: 6 MdatMissing in moof at 364\n"),
-        bad(&size, front, "fmp4: 2 BadSize in mdat at 460\n"),
-        bad(&trex, start, "fmp4: 2 BadSize in trex at 332\n"),
-        bad(&large, front, "fmp4: 7 TooLarge in moof at 364\n"),
-        bad(&place, front, "fmp4: 22 RunPlace in trun at 428\n"),
-    ];
-    check_cases(&rt, alloc, &cases)
+    check_bad(&rt, alloc, &short, &two[..626.min(len)], cut)?;
+    check_bad(&rt, alloc, &shorter, &two[..624.min(len)], cut)?;
+    check_bad(
+        &rt,
+        alloc,
+        &zeros,
+        &two,
+        "fmp4: 1 Truncated in (none) at 483\n",
+    )?;
+    check_bad(
+        &rt,
+        alloc,
+        &no_moov,
+        start,
+        "fmp4: 3 NoMoov in moof at 20\n",
+    )?;
+    check_bad(
+        &rt,
+        alloc,
+        &again,
+        front,
+        "fmp4: 4 SecondMoov in moov at 364\n",
+    )?;
+    check_bad(
+        &rt,
+        alloc,
+        &no_moof,
+        front,
+        "fmp4: 5 StrayMdat in mdat at 364\n",
+    )?;
+    check_bad(
+        &rt,
+        alloc,
+        &no_mdat,
+        front,
+        "fmp4: 6 MdatMissing in moof at 364\n",
+    )?;
+    check_bad(&rt, alloc, &size, front, "fmp4: 2 BadSize in mdat at 460\n")?;
+    check_bad(&rt, alloc, &trex, start, "fmp4: 2 BadSize in trex at 332\n")?;
+    check_bad(
+        &rt,
+        alloc,
+        &large,
+        front,
+        "fmp4: 7 TooLarge in moof at 364\n",
+    )?;
+    check_bad(
+        &rt,
+        alloc,
+        &place,
+        front,
+        "fmp4: 22 RunPlace in trun at 428\n",
+    )
 }
 
 #[test]
@@ -477,14 +509,8 @@ fn limits_of_split(rt: HostRuntime) -> Result<(), Fail> {
         ("66160", &large, 0, 627, ""),
     ] {
         let options = ["--samples", "2", "--max-held", limit];
-        let case = Case {
-            options: &options,
-            parts: stream,
-            status,
-            written: &two[..len.min(two.len())],
-            fault,
-        };
-        check_cases(&rt, alloc, &[case])?;
+        let written = &two[..len.min(two.len())];
+        check_split(&rt, alloc, &options, stream, status, written, fault)?;
     }
     Ok(())
 }
