@@ -1,24 +1,21 @@
 -- What a fragment brings of which a piece has all, and which is recut.
 use Rattle.std.proofs.Common.{◌≡◌, ◌∙◌, ℕ, ◌+◌, ◌-◌, ◌*◌, ◌<◌, ◌≤◌, ◌^◌, pos, Bool, true, false, List, [], ◌∷◌, ◌++◌, length, length-append, length-take-le, take, take-append-drop, drop, append-nil, append_assoc, Option, None, Some, ap, sym, refl, arith, subst}
-use Rattle.std.specs.Prelude.{◌≤ℤ◌, IfSome, map}
+use Rattle.std.specs.Prelude.{◌≤ℤ◌, IfSome}
 use Rattle.std.specs.List.{sum_by}
 use Rattle.std.specs.Option.{option_or}
 use Rattle.std.proofs.Math.Seq.{drop-append_seam, take-append_seam}
-use Rattle.std.proofs.lemmas.List.{length-drop, length-map}
+use Rattle.std.proofs.lemmas.List.{length-drop}
 use Rattle.std.proofs.lemmas.List.Sums.{sum_by-cons}
 use Rattle.mp4_ends.specs.Streams.{AppendsPrefix}
 use Rattle.mp4_box.specs.declared.headers.FourCc.{FourCc}
 use Rattle.mp4_box.specs.declared.headers.Header.{Header}
-use Rattle.mp4_box.specs.declared.headers.Size.{Size}
 use Rattle.mp4_box.specs.declared.headers.Size.TheVariants.{Exact}
 use Rattle.mp4_box.specs.declared.headers.Step.TheVariants as steps
-use Rattle.mp4_box.specs.Headers.{HasRoom, header_at, need}
-use Rattle.mp4_box.proofs.HeaderLemmas.{need-least, room_of, whole_is}
+use Rattle.mp4_box.specs.Headers.{HasRoom, header_at}
+use Rattle.mp4_box.proofs.HeaderLemmas.{room_of}
 use Rattle.mp4_init.specs.declared.table.Track.{Track}
-use Rattle.mp4_frag.specs.Moofs.{moof_runs, moof_samples, moof_trafs}
+use Rattle.mp4_frag.specs.Moofs.{moof_runs, moof_trafs}
 use Rattle.mp4_frag.specs.Places.{place_fault}
-use Rattle.mp4_frag.specs.RunLists.{taken_runs}
-use Rattle.mp4_frag.specs.RunRows.{row_of_run}
 use Rattle.mp4_frag.specs.Runs.{end_place, held_at}
 use Rattle.mp4_frag.specs.Settling.{settled}
 use Rattle.mp4_frag.specs.declared.lone.LoneRun.{LoneRun}
@@ -26,25 +23,25 @@ use Rattle.mp4_frag.specs.declared.run.Run.{Run}
 use Rattle.mp4_frag.proofs.SettleLemmas.{settled_length}
 use Rattle.mp4_ledger.specs.Memory.{Account, claimed, given_back}
 use Rattle.mp4_pieces.specs.declared.cut.Cut.{Cut}
-use Rattle.mp4_pieces.specs.Pieces.{IsRunOf, piece_count, pieces_of}
+use Rattle.mp4_pieces.specs.Pieces.{piece_count, pieces_of}
 use Rattle.mp4_pieces.specs.declared.piece.Piece.{Piece}
 use Rattle.mp4_pieces.specs.Rooms.{room_fault, room_faults}
 use Rattle.mp4_pieces.proofs.FitsLemmas.{room_to}
 use Rattle.mp4_reading.specs.Bodies.{least_end, longest, told_body}
 use Rattle.mp4_reading.specs.Blocks.{Passes}
 use Rattle.mp4_reading.specs.Pieces.{GoesOn, Loses, Moves, Outside, Standing, StopsAt, outside}
-use Rattle.mp4_reading.specs.Readings.{Told, after, both, plus, silent, then_read}
+use Rattle.mp4_reading.specs.Readings.{Told, after, both, silent, then_read}
 use Rattle.mp4_reading.specs.declared.stop.Stop.TheVariants.{Write}
 use Rattle.mp4_reading.specs.declared.tally.Tally.{Tally}
 use Rattle.mp4_reading.proofs.BlockLemmas.{Passes-none}
 use Rattle.mp4_reading.proofs.BodyLemmas.{nat_lt_false}
-use Rattle.mp4_reading.proofs.PieceLemmas.{GoesOn-more, GoesOn-silent, GoesOn-take_more, StopsAt-take_more, back_to}
+use Rattle.mp4_reading.proofs.PieceLemmas.{GoesOn-silent, GoesOn-take_more, StopsAt-take_more}
 use Rattle.mp4_reading.proofs.ReadingLemmas.{silent-both, then_read-told}
 use Rattle.mp4_items.specs.Contexts.{Context, context, table_of}
 use Rattle.mp4_items.specs.Items.{behind_fragment, end_of, fragment, media_body, reads_in, walked, with_runs}
 use Rattle.mp4_items.specs.Makings.{Fragment, Making, fragment_fault, runs_in}
 use Rattle.mp4_recut.specs.Media.{Lost, Plays, Spot, playing}
-use Rattle.mp4_recut.specs.Parts.{Ascends, Part, played, slices, told_fragments}
+use Rattle.mp4_recut.specs.Parts.{Ascends, Part, slices, told_fragments}
 use Rattle.mp4_recut.specs.Splitting.{parts_of, run_parts, runs_parts, splitting, timescale_of}
 use Rattle.mp4_recut.proofs.AscendLemmas.{runs_ascend}
 use Rattle.mp4_recut.proofs.FragmentLemmas.{some_samples}
@@ -56,7 +53,6 @@ use Rattle.mp4_feed.specs.States.{IsCounted, cut_least, cut_most, cut_reads}
 use Rattle.mp4_feed.specs.declared.state.Counter.{Counter}
 use Rattle.mp4_recut.specs.declared.plan.Plan.TheVariants as plans
 use Rattle.mp4_feed.specs.Wholes.{IsFragment, media_in, media_start, payload_in}
-use Rattle.mp4_feed.specs.declared.state.Waiting.{Waiting}
 use Rattle.mp4_feed.specs.declared.whole.Boxes.{Boxes}
 use Rattle.mp4_reading.specs.Accounts.{Counts}
 use Rattle.mp4_feed.proofs.SecondLemmas.{second-accepted}

@@ -15,7 +15,7 @@ use Rattle.mp4_box.specs.declared.rules.Fault.{Fault}
 use Rattle.mp4_box.specs.Trees.{tree_faults}
 use Rattle.mp4_stream.specs.Holding.{held_lines, most_held}
 use Rattle.mp4_stream.specs.Listing.{box_line}
-use Rattle.mp4_reading.specs.Readings.{nothing, Last, Whole, after, after_told, silent, says, asks_for, Faulty, then_read, fault_in, early_in}
+use Rattle.mp4_reading.specs.Readings.{nothing, Last, after, after_told, silent, says, asks_for, Faulty, then_read, fault_in, early_in}
 use Rattle.mp4_reading.specs.Bodies.{cut_off, fault, least_end, longest, refused}
 use Rattle.mp4_stream.specs.Boxes.{passed, body, held_box, held_body, holding, box_by, box, front_by, front, reading}
 use Rattle.mp4_stream.specs.Places.{Place, InHeader, InBody, InHeld, InOpenBody, IsMachine, IsPlace, place_of, standing}

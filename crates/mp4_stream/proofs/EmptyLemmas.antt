@@ -1,7 +1,7 @@
 -- A box without payload: nothing is at fault with its tree, and its line is all that is listed.
 use Rattle.std.specs.Prelude.{if◌then◌else◌}
 use Rattle.std.specs.List.{flat_map}
-use Rattle.std.proofs.Common.{◌≡◌, ◌∙◌, ℕ, ◌+◌, ◌-◌, ◌++◌, Bool, true, false, List, [], ◌∷◌, length, slice_range, ap, refl, append-nil, arith}
+use Rattle.std.proofs.Common.{◌≡◌, ◌∙◌, ℕ, ◌++◌, Bool, true, false, List, [], ◌∷◌, length, slice_range, ap, refl, append-nil, arith}
 use Rattle.mp4_box.specs.declared.headers.Header.{Header}
 use Rattle.mp4_reading.proofs.HoldingLemmas.{rest-len}
 use Rattle.mp4_box.specs.Trees.{Box, bad_below, bad_rest, box_faults, children, deep_below, is_container, over, payload_offset}

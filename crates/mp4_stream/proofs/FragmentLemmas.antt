@@ -1,9 +1,6 @@
 -- What a run claims and counts that reads fragments.
 use Rattle.std.proofs.Common.{◌≡◌, ◌∙◌, ℕ, ◌+◌, ◌*◌, ◌≤◌, List, ◌∷◌, ◌++◌, max, Ok, Err, Result, ap, arith, inl, inr, refl}
 use Rattle.std.specs.Prelude.{IsErrOf}
-use Rattle.mp4_box.specs.Headers.{IsBytes}
-use Rattle.mp4_items.specs.Contexts.{first_context}
-use Rattle.mp4_items.specs.HeldSizes.{HoldsWithin}
 use Rattle.mp4_items.specs.Kinds.{most_moof, most_moov}
 use Rattle.mp4_items.proofs.BoundLemmas.{asks-bound}
 use Rattle.mp4_items.proofs.CommandLemmas.{making-quiet}

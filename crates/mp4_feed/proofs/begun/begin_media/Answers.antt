@@ -1,4 +1,4 @@
-use Rattle.std.proofs.Common.{ℕ, ◌≡◌, ◌∙◌, ◌+◌, ◌*◌, ◌≤◌, [], Err, Some, ap, arith, length, subst, sym}
+use Rattle.std.proofs.Common.{ℕ, ◌≡◌, ◌∙◌, ◌+◌, [], Err, Some, ap, arith, length, subst, sym}
 use Rattle.mp4_items.specs.Contexts.{context}
 use Rattle.mp4_items.specs.Items.{with_runs}
 use Rattle.mp4_reading.specs.Pieces.{GoesOn, outside}

@@ -1,4 +1,4 @@
-use Rattle.std.proofs.Common.{◌≡◌, ◌+◌, length, arith, ap, refl}
+use Rattle.std.proofs.Common.{◌+◌, length, arith, ap, refl}
 use Rattle.mp4_pieces.proofs.RoomLemmas.{few_pieces}
 use Rattle.mp4_recut.specs.declared.plan.Plan.TheVariants as plans
 use Rattle.mp4_feed.specs.States.{most_counted}

@@ -1,4 +1,4 @@
-use Rattle.std.proofs.Common.{◌+◌, arith}
+use Rattle.std.proofs.Common.{arith}
 use Rattle.mp4_pieces.proofs.RoomLemmas.{few_pieces}
 use Rattle.mp4_feed.proofs.FragmentLemmas.{boxes_fit, media_fits, run_is}
 use Rattle.mp4_feed.proofs.whole_recut.recut_whole.Goals as goal

@@ -2,7 +2,7 @@ use Rattle.std.proofs.Common.{◌≡◌, None, ap, arith, refl, sym}
 use Rattle.mp4_reading.specs.Readings.{uncounted}
 use Rattle.mp4_reading.proofs.RunLemmas.{Runs-same}
 use Rattle.mp4_recut.specs.Plans.{making_of, number_in}
-use Rattle.mp4_items.specs.Contexts.{context, first_context}
+use Rattle.mp4_items.specs.Contexts.{context}
 use Rattle.mp4_feed.proofs.HeadLemmas.{reads-none}
 use Rattle.mp4_stream.proofs.FragmentLemmas.{claims_by_boxes, first_number, never_over, peak_bound}
 use Rattle.mp4_stream.proofs.fragments.run_fragments.Goals as goal
