@@ -14,11 +14,12 @@ use mp4_reading::{Stop, read_stream};
 /// What a run counts. A listing of boxes counts no samples: all but its peak are 0.
 #[derive(Clone, Copy, Debug, PartialEq, Eq)]
 pub struct Totals {
-    /// How many fragments: moofs with their mdats. One that is at fault, or whose mdat is refused, isn't counted.
+    /// How many fragments, moofs with their mdats, were accepted: one that is at fault, or whose mdat is refused, isn't counted. For
+    /// [`split`](crate::split) how many moofs were put on their way to the writer.
     pub fragments: u64,
-    /// How many samples those have.
+    /// How many samples the accepted fragments have.
     pub samples: u128,
-    /// How many bytes of media: those of the samples.
+    /// How many bytes of media: those of these samples.
     pub media_bytes: u64,
     /// How many rows of samples were read, each time that one was. What a first look at a fragment read that is then at fault
     /// isn't counted.
