@@ -2,7 +2,7 @@
 
 use crate::headers::{Header, NoHeader, LONGEST_HEADER};
 use crate::rules::{Fault, Rule};
-use crate::Stop;
+use crate::stop::Stop;
 use std::io::{ErrorKind, Read};
 
 /// How many bytes are read at once.
@@ -181,6 +181,48 @@ impl<R: Read> Input<R> {
                 return Ok(true);
             }
         }
+    }
+}
+
+/// For programs that copy bytes of the stream.
+#[allow(dead_code)]
+impl<R: Read> Input<R> {
+    /// The box that is held, the bytes behind it that came, and the stream.
+    #[inline(always)]
+    pub fn lend(&mut self) -> (&[u8], &[u8], &mut R) {
+        let (held, came) = self.buffer[self.start..self.end].split_at(self.in_buffer);
+        let held = if self.in_block > 0 { &self.block[..self.in_block] } else { held };
+        (held, came, &mut self.stream)
+    }
+
+    /// Passes the box that is held. Its bytes stand at the front of a block, which is to be given back.
+    pub fn take_held(&mut self) -> (Vec<u8>, usize) {
+        let mut block = std::mem::take(&mut self.block);
+        let mut len = self.in_block;
+        if len == 0 {
+            len = self.in_buffer;
+            if block.len() < len {
+                block.resize(len, 0);
+            }
+            block[..len].copy_from_slice(&self.buffer[self.start..self.start + len]);
+            self.start += len;
+            self.at += len as u64;
+        }
+        self.in_buffer = 0;
+        self.in_block = 0;
+        (block, len)
+    }
+
+    pub fn give_back(&mut self, block: Vec<u8>) {
+        self.block = block;
+    }
+
+    /// Reads on where all that came is passed; false where the stream ends.
+    pub fn read_on(&mut self) -> Result<bool, Stop> {
+        self.start = 0;
+        self.end = 0;
+        self.end = read(&mut self.stream, &mut self.buffer, &mut self.came)?;
+        Ok(self.end > 0)
     }
 }
 
