@@ -1,11 +1,11 @@
 //! The fragments that the runs of a moof become.
 
+use crate::input::Input;
 use crate::moof::Run;
+use crate::moov::Track;
 use crate::out::{Out, Through, BLOCK};
 use crate::room::{index_of, GROUP};
 use crate::rows::{by_fields, Cut, Piece, Rows};
-use crate::input::Input;
-use crate::moov::Track;
 use crate::stop::Stop;
 use std::io::{Read, Write};
 
@@ -188,7 +188,7 @@ pub fn put_run<M: Media>(
     number: &mut u64,
     media: &mut M,
 ) -> Result<bool, Stop> {
-    by_fields!(run, put_pieces::<M>(run, held, track, cut, number, media))
+    by_fields!(run, put_pieces[M], run, held, track, cut, number, media)
 }
 
 fn put_pieces<const FIELDS: usize, M: Media>(

@@ -64,7 +64,7 @@ fn fits_index<const FIELDS: usize>(run: &Run, held: &[u8], cut: &Cut) -> bool {
 /// The least fault of what would be written for the runs of a moof at an offset, whose first piece has a number.
 pub fn fault_of(runs: &Runs, at: u64, held: &[u8], cut: &Cut, number: u64) -> Option<Fault> {
     if cut.index {
-        let wrong = runs.list.iter().filter(|run| !by_fields!(run, fits_index::<>(run, held, cut)));
+        let wrong = runs.list.iter().filter(|run| !by_fields!(run, fits_index, run, held, cut));
         if let Some(trun) = wrong.map(|run| run.trun).min() {
             let at = at + u64::from(trun);
             return Some(Fault { rule: Rule::IndexRange, kind: Some(Kind::TRUN), at });
@@ -73,7 +73,7 @@ pub fn fault_of(runs: &Runs, at: u64, held: &[u8], cut: &Cut, number: u64) -> Op
     if number + runs.samples <= 1 << 32 {
         return None;
     }
-    let counts = runs.list.iter().map(|run| by_fields!(run, count::<>(run, held, cut)));
+    let counts = runs.list.iter().map(|run| by_fields!(run, count, run, held, cut));
     let has_room = number + counts.sum::<u64>() <= 1 << 32;
     let fault = Fault { rule: Rule::SequenceEnd, kind: Some(Kind::MOOF), at };
     (!has_room).then_some(fault)

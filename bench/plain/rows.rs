@@ -7,24 +7,24 @@ const NOT_SYNC: u32 = 0x0001_0000;
 
 /// Calls a function for the four bits that tell which fields the rows of a run have.
 macro_rules! by_fields {
-    ($run:expr, $name:ident::<$($more:ty),*>($($given:expr),*)) => {
+    ($run:expr, $name:ident $([$more:ty])?, $($given:expr),*) => {
         match $run.form >> 8 & 15 {
-            0 => $name::<0, $($more),*>($($given),*),
-            1 => $name::<1, $($more),*>($($given),*),
-            2 => $name::<2, $($more),*>($($given),*),
-            3 => $name::<3, $($more),*>($($given),*),
-            4 => $name::<4, $($more),*>($($given),*),
-            5 => $name::<5, $($more),*>($($given),*),
-            6 => $name::<6, $($more),*>($($given),*),
-            7 => $name::<7, $($more),*>($($given),*),
-            8 => $name::<8, $($more),*>($($given),*),
-            9 => $name::<9, $($more),*>($($given),*),
-            10 => $name::<10, $($more),*>($($given),*),
-            11 => $name::<11, $($more),*>($($given),*),
-            12 => $name::<12, $($more),*>($($given),*),
-            13 => $name::<13, $($more),*>($($given),*),
-            14 => $name::<14, $($more),*>($($given),*),
-            _ => $name::<15, $($more),*>($($given),*),
+            0 => $name::<0 $(, $more)?>($($given),*),
+            1 => $name::<1 $(, $more)?>($($given),*),
+            2 => $name::<2 $(, $more)?>($($given),*),
+            3 => $name::<3 $(, $more)?>($($given),*),
+            4 => $name::<4 $(, $more)?>($($given),*),
+            5 => $name::<5 $(, $more)?>($($given),*),
+            6 => $name::<6 $(, $more)?>($($given),*),
+            7 => $name::<7 $(, $more)?>($($given),*),
+            8 => $name::<8 $(, $more)?>($($given),*),
+            9 => $name::<9 $(, $more)?>($($given),*),
+            10 => $name::<10 $(, $more)?>($($given),*),
+            11 => $name::<11 $(, $more)?>($($given),*),
+            12 => $name::<12 $(, $more)?>($($given),*),
+            13 => $name::<13 $(, $more)?>($($given),*),
+            14 => $name::<14 $(, $more)?>($($given),*),
+            _ => $name::<15 $(, $more)?>($($given),*),
         }
     };
 }
