@@ -1,12 +1,12 @@
 //! Bytes on their way out, and a stream that is read only once they are written.
 
 use crate::stop::Stop;
-use std::io::{Error, Read, Write};
+use std::io::{Error, ErrorKind, IoSlice, Read, Write};
 
 /// How many bytes are gathered.
 pub const BLOCK: usize = 65_536;
 /// Bytes of a stream are written from where they lie if they are so many.
-const LONG: usize = 16_384;
+const LONG: usize = 8192;
 
 /// Short bytes are gathered, and written together.
 pub struct Out<W> {
@@ -24,8 +24,7 @@ impl<W: Write> Out<W> {
     #[inline(always)]
     pub fn put(&mut self, bytes: &[u8]) -> Result<(), Stop> {
         if bytes.len() >= LONG {
-            self.send()?;
-            return self.write(bytes);
+            return self.send_with(bytes);
         }
         self.room(bytes.len())?.copy_from_slice(bytes);
         self.len += bytes.len();
@@ -56,9 +55,22 @@ impl<W: Write> Out<W> {
         sent.map_err(|_| Stop::Write)
     }
 
+    /// Writes what was gathered, and these bytes.
     #[cold]
-    fn write(&mut self, bytes: &[u8]) -> Result<(), Stop> {
-        let written = self.to.write_all(bytes);
+    fn send_with(&mut self, bytes: &[u8]) -> Result<(), Stop> {
+        let gathered = std::mem::take(&mut self.len);
+        let written = loop {
+            let both = [IoSlice::new(&self.block[..gathered]), IoSlice::new(bytes)];
+            match self.to.write_vectored(&both) {
+                Err(error) if error.kind() == ErrorKind::Interrupted => {}
+                Err(error) => break Err(error),
+                Ok(count) if count < gathered => {
+                    let left = self.to.write_all(&self.block[count..gathered]);
+                    break left.and_then(|()| self.to.write_all(bytes));
+                }
+                Ok(count) => break self.to.write_all(&bytes[count - gathered..]),
+            }
+        };
         self.has_failed |= written.is_err();
         written.map_err(|_| Stop::Write)
     }

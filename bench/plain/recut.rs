@@ -14,6 +14,25 @@ const FRONT: usize = 92;
 /// The most samples whose rows are put before it is known how many they are.
 const SHORT: u32 = ((BLOCK - FRONT - 16) / 16) as u32;
 
+/// The front of a moof, with what is the same in all: mfhd, and a traf with tfhd, tfdt and trun.
+const MOOF: [u8; FRONT] = {
+    const fn kind(kind: &[u8; 4]) -> u32 {
+        u32::from_be_bytes(*kind)
+    }
+    let words = [
+        [0, kind(b"moof"), 16, kind(b"mfhd"), 0, 0, 0, kind(b"traf")],
+        [20, kind(b"tfhd"), 0x02_0002, 0, 0, 20, kind(b"tfdt"), 1 << 24],
+        [0, 0, 0, kind(b"trun"), 0x0f01, 0, 0, 0],
+    ];
+    let mut front = [0; FRONT];
+    let mut i = 0;
+    while i < FRONT {
+        front[i] = words[i / 32][i / 4 % 8].to_be_bytes()[i % 4];
+        i += 1;
+    }
+    front
+};
+
 /// Media, and where it goes.
 pub trait Media {
     type To: Write;
@@ -89,18 +108,12 @@ struct Next<'a> {
 }
 
 impl<'a> Next<'a> {
+    #[inline(always)]
     fn of(run: &Run, track: u32, cut: &'a Cut, number: u64) -> Next<'a> {
-        let kind = |kind: &[u8; 4]| u32::from_be_bytes(*kind);
-        let form = (run.form & 0xff00_0000) | 0x0f01;
-        let words = [
-            [0, kind(b"moof"), 16, kind(b"mfhd"), 0, 0, 0, kind(b"traf")],
-            [20, kind(b"tfhd"), 0x02_0002, track, run.usual.entry, 20, kind(b"tfdt"), 1 << 24],
-            [0, 0, 0, kind(b"trun"), form, 0, 0, 0],
-        ];
-        let mut front = [0; FRONT];
-        for (place, word) in front.chunks_exact_mut(4).zip(words.as_flattened()) {
-            place.copy_from_slice(&word.to_be_bytes());
-        }
+        let mut front = MOOF;
+        front[44..48].copy_from_slice(&track.to_be_bytes());
+        front[48..52].copy_from_slice(&run.usual.entry.to_be_bytes());
+        front[80] = (run.form >> 24) as u8;
         Next { cut, front, first: 0, time: run.time, number }
     }
 
@@ -129,14 +142,7 @@ impl<'a> Next<'a> {
         let most = self.cut.samples.min(rows.run.count - self.first);
         let room = out.room(FRONT + 16 * most as usize + 16)?;
         let (front, behind) = room.split_first_chunk_mut().expect("there is room");
-        let mut piece = Piece::default();
-        for (i, place) in (0..most).zip(behind.as_chunks_mut().0) {
-            let row = rows.row(self.first + i);
-            if !piece.take(&row, self.cut) {
-                break;
-            }
-            row.put(place);
-        }
+        let piece = rows.put(self.first, self.cut, &mut behind.as_chunks_mut().0[..most as usize]);
         self.put_front(front, &piece);
         let len = 16 * piece.count as usize;
         let header = behind[len..].first_chunk_mut().expect("there is room");

@@ -39,6 +39,14 @@ pub struct Cut {
     pub sync: bool,
 }
 
+impl Cut {
+    /// Whether only the number of samples is asked for.
+    #[inline(always)]
+    fn is_by_count(&self) -> bool {
+        self.bytes == u64::MAX && !self.sync
+    }
+}
+
 /// The fields of a sample; the composition time offset as it is written.
 pub struct Row {
     pub duration: u32,
@@ -72,19 +80,66 @@ impl<'a, const FIELDS: usize> Rows<'a, FIELDS> {
 
     #[inline(always)]
     pub fn row(&self, i: u32) -> Row {
-        let columns = Self::COLUMNS;
-        let row = &self.bytes[i as usize * columns.len..][..columns.len];
+        let len = Self::COLUMNS.len;
+        let usual = if i == 0 { self.run.first_flags } else { self.run.usual.flags };
+        self.read(&self.bytes[i as usize * len..][..len], usual)
+    }
+
+    /// A row by its bytes, with these flags where it has none.
+    #[inline(always)]
+    fn read(&self, row: &[u8], flags: u32) -> Row {
         let at = |column: Option<usize>, usual| match column {
             Some(at) => u32::from_be_bytes([row[at], row[at + 1], row[at + 2], row[at + 3]]),
             None => usual,
         };
-        let usual = &self.run.usual;
+        let (columns, usual) = (Self::COLUMNS, &self.run.usual);
         Row {
             duration: at(columns.duration, usual.duration),
             size: at(columns.size, usual.size),
-            flags: at(columns.flags, if i == 0 { self.run.first_flags } else { usual.flags }),
+            flags: at(columns.flags, flags),
             offset: at(columns.offset, 0),
         }
+    }
+
+    /// Puts the rows of the piece that begins with a sample, as it is cut; there are places for the most that it may have.
+    #[inline(always)]
+    pub fn put(&self, first: u32, cut: &Cut, places: &mut [[u8; 16]]) -> Piece {
+        if places.len() > 4 && cut.is_by_count() {
+            return self.put_all(first, places);
+        }
+        let mut piece = Piece::default();
+        for (i, place) in (first..).zip(places) {
+            let row = self.row(i);
+            if !piece.take(&row, cut) {
+                break;
+            }
+            row.put(place);
+        }
+        piece
+    }
+
+    /// Puts a row in each of the places.
+    #[inline(always)]
+    fn put_all(&self, first: u32, places: &mut [[u8; 16]]) -> Piece {
+        let len = Self::COLUMNS.len;
+        let usual = self.run.usual.flags;
+        let mut piece = Piece { count: places.len() as u32, ..Piece::default() };
+        let mut put = |row: &[u8], place: &mut [u8; 16]| {
+            let row = self.read(row, usual);
+            piece.bytes += u64::from(row.size);
+            piece.duration += u64::from(row.duration);
+            row.put(place);
+        };
+        if len == 0 {
+            places.iter_mut().for_each(|place| put(&[], place));
+        } else {
+            let rows = self.bytes[first as usize * len..].chunks_exact(len);
+            rows.zip(places.iter_mut()).for_each(|(row, place)| put(row, place));
+        }
+        if first == 0 {
+            self.row(0).put(&mut places[0]);
+        }
+        piece
     }
 }
 
