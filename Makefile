@@ -50,3 +50,5 @@ bench: build moof_runs cut_pieces
 	@bench/many_tracks
 	@bench/hostile_moofs
 	@bench/pieces
+	@bench/samples
+	@bench/split

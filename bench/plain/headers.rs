@@ -37,7 +37,7 @@ impl Kind {
     pub const TRUN: Kind = Kind::of(b"trun");
     pub const UUID: Kind = Kind::of(b"uuid");
 
-    const fn of(text: &[u8; 4]) -> Kind {
+    pub const fn of(text: &[u8; 4]) -> Kind {
         Kind(u32::from_be_bytes(*text))
     }
 

@@ -2,7 +2,7 @@
 
 use crate::headers::{Header, NoHeader, LONGEST_HEADER};
 use crate::rules::{Fault, Rule};
-use crate::Stop;
+use crate::stop::Stop;
 use std::io::{ErrorKind, Read};
 
 /// How many bytes are read at once.
@@ -10,11 +10,15 @@ pub const PIECE: usize = 65_536;
 /// No stream is followed further.
 pub const LONGEST_STREAM: u64 = 1 << 62;
 
+/// Bytes that begin with a page of memory: the system copies a file there faster than elsewhere.
+#[repr(align(4096))]
+struct Pages([u8; PIECE]);
+
 pub struct Input<R> {
     stream: R,
     /// How many bytes were read.
     came: u64,
-    buffer: Box<[u8]>,
+    buffer: Box<Pages>,
     /// Where in the buffer the bytes begin and end that came and weren't passed.
     start: usize,
     end: usize,
@@ -32,7 +36,7 @@ impl<R: Read> Input<R> {
         Input {
             stream,
             came: 0,
-            buffer: vec![0; PIECE].into_boxed_slice(),
+            buffer: Box::new(Pages([0; PIECE])),
             start: 0,
             end: 0,
             at: 0,
@@ -91,17 +95,17 @@ impl<R: Read> Input<R> {
         if self.end - self.start < wanted {
             self.fetch(wanted)?;
         }
-        Ok(&self.buffer[self.start + self.in_buffer..self.end])
+        Ok(&self.buffer.0[self.start + self.in_buffer..self.end])
     }
 
     /// Reads until the buffer has so many bytes, or the stream ends.
     #[cold]
     fn fetch(&mut self, wanted: usize) -> Result<(), Stop> {
-        self.buffer.copy_within(self.start..self.end, 0);
+        self.buffer.0.copy_within(self.start..self.end, 0);
         self.end -= self.start;
         self.start = 0;
         while self.end < wanted {
-            match read(&mut self.stream, &mut self.buffer[self.end..], &mut self.came)? {
+            match read(&mut self.stream, &mut self.buffer.0[self.end..], &mut self.came)? {
                 0 => break,
                 count => self.end += count,
             }
@@ -126,7 +130,7 @@ impl<R: Read> Input<R> {
             self.block.resize(size, 0);
         }
         let mut len = size.min(self.end - self.start);
-        self.block[..len].copy_from_slice(&self.buffer[self.start..self.start + len]);
+        self.block[..len].copy_from_slice(&self.buffer.0[self.start..self.start + len]);
         self.start += len;
         while len < size {
             match read(&mut self.stream, &mut self.block[len..size], &mut self.came)? {
@@ -145,7 +149,7 @@ impl<R: Read> Input<R> {
         if self.in_block > 0 {
             &self.block[..self.in_block]
         } else {
-            &self.buffer[self.start..self.start + self.in_buffer]
+            &self.buffer.0[self.start..self.start + self.in_buffer]
         }
     }
 
@@ -170,7 +174,7 @@ impl<R: Read> Input<R> {
         loop {
             self.at += (self.end - self.start) as u64;
             self.start = 0;
-            self.end = read(&mut self.stream, &mut self.buffer, &mut self.came)?;
+            self.end = read(&mut self.stream, &mut self.buffer.0, &mut self.came)?;
             if self.end == 0 {
                 return Ok(false);
             }
@@ -181,6 +185,48 @@ impl<R: Read> Input<R> {
                 return Ok(true);
             }
         }
+    }
+}
+
+/// For programs that copy bytes of the stream.
+#[allow(dead_code)]
+impl<R: Read> Input<R> {
+    /// The box that is held, the bytes behind it that came, and the stream.
+    #[inline(always)]
+    pub fn lend(&mut self) -> (&[u8], &[u8], &mut R) {
+        let (held, came) = self.buffer.0[self.start..self.end].split_at(self.in_buffer);
+        let held = if self.in_block > 0 { &self.block[..self.in_block] } else { held };
+        (held, came, &mut self.stream)
+    }
+
+    /// Passes the box that is held. Its bytes stand at the front of a block, which is to be given back.
+    pub fn take_held(&mut self) -> (Vec<u8>, usize) {
+        let mut block = std::mem::take(&mut self.block);
+        let mut len = self.in_block;
+        if len == 0 {
+            len = self.in_buffer;
+            if block.len() < len {
+                block.resize(len, 0);
+            }
+            block[..len].copy_from_slice(&self.buffer.0[self.start..self.start + len]);
+            self.start += len;
+            self.at += len as u64;
+        }
+        self.in_buffer = 0;
+        self.in_block = 0;
+        (block, len)
+    }
+
+    pub fn give_back(&mut self, block: Vec<u8>) {
+        self.block = block;
+    }
+
+    /// Reads on where all that came is passed; false where the stream ends.
+    pub fn read_on(&mut self) -> Result<bool, Stop> {
+        self.start = 0;
+        self.end = 0;
+        self.end = read(&mut self.stream, &mut self.buffer.0, &mut self.came)?;
+        Ok(self.end > 0)
     }
 }
 

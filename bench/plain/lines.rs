@@ -2,7 +2,7 @@
 
 use crate::line::Line;
 use crate::moof::{Columns, Run};
-use crate::Stop;
+use crate::stop::Stop;
 use std::io::Write;
 
 /// How many bytes are written at once.

@@ -66,7 +66,8 @@ impl Columns {
         &COLUMNS[(form >> 8 & 15) as usize]
     }
 
-    const fn by_bits(bits: usize) -> Columns {
+    /// The columns by the four bits of the fields.
+    pub const fn by_bits(bits: usize) -> Columns {
         let duration = if bits & 1 != 0 { Some(0) } else { None };
         let before_size = 4 * (bits & 1);
         let size = if bits & 2 != 0 { Some(before_size) } else { None };

@@ -15,6 +15,9 @@ pub struct Usual {
 
 pub struct Track {
     pub id: u32,
+    /// That of its mdhd, which is written in an index alone.
+    #[allow(dead_code)]
+    pub timescale: u32,
     /// How many sample descriptions it has.
     pub entries: u32,
     pub usual: Usual,
@@ -63,6 +66,7 @@ impl Tracks {
 #[derive(Default)]
 struct Trak {
     id: u32,
+    timescale: u32,
     tkhd: usize,
     entries: u32,
 }
@@ -91,6 +95,7 @@ pub fn tracks_of(moov: &Child, base: u64) -> Result<Tracks, Fault> {
         let (id, usual) = usual.find(|(id, _)| *id == trak.id)?;
         Some(Track {
             id,
+            timescale: trak.timescale,
             entries: trak.entries,
             usual,
             end: 0,
@@ -156,7 +161,9 @@ fn read_trak(trak: &Child, least: &mut Least) -> Trak {
     for mdia in trak.all(Kind::MDIA) {
         one_each(&mdia, &[Kind::MDHD, Kind::MINF], least);
         for mdhd in mdia.all(Kind::MDHD) {
-            version_of(&mdhd, [24, 36], least);
+            let version = version_of(&mdhd, [24, 36], least);
+            let at = if version == Some(1) { 20 } else { 12 };
+            read.timescale = number(mdhd.payload, at).unwrap_or(0);
         }
         for minf in mdia.all(Kind::MINF) {
             one_each(&minf, &[Kind::STBL], least);

@@ -3,7 +3,8 @@
 use crate::headers::Kind;
 use std::fmt;
 
-/// A rule, by its number and name.
+/// A rule, by its number and name. The listing of samples doesn't ask for those of written fields.
+#[allow(dead_code)]
 #[derive(Clone, Copy, Debug, PartialEq, Eq, PartialOrd, Ord)]
 pub enum Rule {
     Truncated = 1,
@@ -28,6 +29,8 @@ pub enum Rule {
     TooManySamples,
     TimeRange,
     RunPlace,
+    IndexRange,
+    SequenceEnd,
     StreamTooLong = 25,
 }
 
