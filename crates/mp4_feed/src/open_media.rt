@@ -26,7 +26,7 @@ use mp4_frag::Moof;
 use mp4_init::TrackList;
 use mp4_ledger::Ledger;
 use mp4_reading::{Block, LONGEST, Stop, Tally, refused};
-use mp4_recut::media::{Media, pay};
+use mp4_recut::media::{Media, pay_all};
 
 /// Bytes of an mdat to the end of the stream that were taken: how many, and what is taken next.
 #[derive(Clone, Copy)]
@@ -99,14 +99,14 @@ pub(crate) fn take_open_media<W: Sink>(
     let at = LONGEST - body.left;
     let fragments = &mut tally.fragments;
     let runs = &waiting.runs;
-    match pay(
+    match pay_all(
         at, media, front, &moof, runs, tracks, cut, fragments, out, w,
     ) {
-        Ok(paid) => Ok(OpenMediaTaken {
-            count: paid.count,
-            needed: body.needed.saturating_sub(paid.count as u64),
-            left: body.left - paid.count as u64,
-            media: paid.media,
+        Ok(media) => Ok(OpenMediaTaken {
+            count: most as usize,
+            needed: body.needed.saturating_sub(most),
+            left: body.left - most,
+            media,
         }),
         Err(Failed) => Err(Failed),
     }

@@ -1,0 +1,76 @@
+use Rattle.std.proofs.Common.{arith, ◌≡◌, ◌∙◌, ◌+◌, ◌++◌, ◌-◌, ◌≤◌, [], ap, append_assoc, drop, length, refl, subst, sym, take, take-append-drop}
+use Rattle.std.proofs.Math.Seq.{take-add, take-length}
+use Rattle.mp4_recut.specs.Media.{Lost, Plays, Rises, playing, spot_of}
+use Rattle.mp4_recut.proofs.MediaLemmas.{Plays-fails, Plays-more, Plays-none}
+use Rattle.mp4_recut.proofs.media.pay_all.Goals as goal
+
+pub loop-count-init : goal.loop-count-init
+loop-count-init g c =
+    let cut = c.args.cut.now in
+    let h = c.args.moof.now in
+    let tracks = c.args.tracks.now in
+    let n = c.args.fragments.now in
+    let here : c.args.at ≡ c.args.at + 0 = omega arith in
+    let a = g.W.Sink.contents c.args.w.now in
+    record {
+      within = omega arith;
+      plays = subst (λ k. Plays a a c.args.out.now c.args.out.now n n (spot_of cut h tracks c.args.at (n + 1) c.args.from) [] (spot_of cut h tracks k (n + 1) c.args.from)) here (Plays-none a c.args.out.now n (spot_of cut h tracks c.args.at (n + 1) c.args.from));
+      settled = c.requires.settled;
+      at = c.requires.at;
+      numbers = refl;
+      rises = λ end room r. subst (λ k. Rises end (spot_of cut h tracks k (n + 1) c.args.from)) here r;
+      kept = refl;
+    }
+
+pub loop-count-preserved : goal.loop-count-preserved
+loop-count-preserved g c =
+    let cut = c.args.cut.now in
+    let h = c.args.moof.now in
+    let tracks = c.args.tracks.now in
+    let a = g.W.Sink.contents c.args.w.now in
+    let b = g.W.Sink.contents c.loop-count.w in
+    let d = g.W.Sink.contents c.pay.new.w in
+    let m = c.args.fragments.now in
+    let n = c.loop-count.fragments in
+    let k = c.pay.new.fragments in
+    let piece = c.args.piece.now in
+    let i = c.loop-count.count in
+    let taken = c.in-Ok.taken in
+    let first = spot_of cut h tracks c.args.at (m + 1) c.args.from in
+    let back = c.split_at.ensures.back in
+    let there : c.args.at + i + taken.count ≡ c.args.at + (i + taken.count) = omega arith in
+    let few : taken.count ≤ length piece - i = omega (arith, c.in-Ok.ensures.taken, c.split_at.ensures.back_len) in
+    let ok = rw back at c.in-Ok.ensures.ok in
+    let all = Plays-more (take i piece) (take taken.count (drop i piece)) c.loop-count.invariant.plays ok in
+    record {
+      within = omega (arith, few, c.loop-count.invariant.within);
+      plays = subst (λ l. Plays a d c.args.out.now c.pay.new.out m k first l (spot_of cut h tracks (c.args.at + (i + taken.count)) (k + 1) taken.media)) (sym (take-add i taken.count piece))
+          (subst (λ z. Plays a d c.args.out.now c.pay.new.out m k first (take i piece ++ take taken.count (drop i piece)) (spot_of cut h tracks z (k + 1) taken.media)) there all);
+      settled = c.in-Ok.ensures.settled;
+      at = c.in-Ok.ensures.at;
+      numbers = c.in-Ok.ensures.numbers ∙ c.loop-count.invariant.numbers;
+      rises = λ end room r. subst (λ z. Rises end (spot_of cut h tracks z (k + 1) taken.media)) there
+          (c.in-Ok.ensures.rises end (omega (arith, room, c.split_at.ensures.back_len, c.loop-count.invariant.within)) (c.loop-count.invariant.rises end room r));
+      kept = c.in-Ok.ensures.kept ∙ c.loop-count.invariant.kept;
+    }
+
+pub returns-in-Err-clause-err : goal.returns-in-Err-clause-err
+returns-in-Err-clause-err g c = λ later.
+    let cut = c.args.cut.now in
+    let h = c.args.moof.now in
+    let tracks = c.args.tracks.now in
+    let a = g.W.Sink.contents c.args.w.now in
+    let b = g.W.Sink.contents c.loop-count.w in
+    let d = g.W.Sink.contents c.pay.new.w in
+    let m = c.args.fragments.now in
+    let n = c.loop-count.fragments in
+    let k = c.pay.new.fragments in
+    let piece = c.args.piece.now in
+    let i = c.loop-count.count in
+    let first = spot_of cut h tracks c.args.at (m + 1) c.args.from in
+    let media = c.loop-count.media in
+    let back = c.split_at.ensures.back in
+    let err = rw back at c.in-Err.ensures.err in
+    let same : take i piece ++ (drop i piece ++ later) ≡ piece ++ later = sym (append_assoc (take i piece) (drop i piece) later) ∙ ap (λ l. l ++ later) (take-append-drop i piece) in
+    subst (λ l. Lost a d c.args.out.now m k (playing first l)) same
+    (Plays-fails a b d c.args.out.now c.loop-count.out m n k first (spot_of cut h tracks (c.args.at + i) (n + 1) media) (take i piece) (drop i piece ++ later) c.loop-count.invariant.plays (err later))
