@@ -8,6 +8,7 @@ mod layouts;
 mod listings;
 mod memory;
 mod splits;
+mod totals;
 mod words;
 
 use fmp4_program::run;

@@ -16,7 +16,7 @@ use Rattle.mp4_stream.specs.declared.run.Totals.{Totals}
 
 -- of an answer that is Ok nothing but that is said
 Runs-answer : {T : Type 0} {whole : List ℕ → Reading} {ends : Ends} {claims : Claims} {tally : Tally} {t x : T} → Runs {T = T} whole ends claims tally (Ok t) → Runs {T = T} whole ends claims tally (Ok x)
-Runs-answer r = record { bytes = r.bytes; fits = r.fits; given = r.given; prompt = r.prompt; comes = r.comes; kept = λ other. r.kept (λ e. absurd cc) }
+Runs-answer r = record { bytes = r.bytes; fits = r.fits; given = r.given; fragments = r.fragments; prompt = r.prompt; comes = r.comes; kept = λ other. r.kept (λ e. absurd cc) }
 
 module _ {T : Type 0} {whole : List ℕ → Reading} {ends : Ends} {claims : Claims} {tally : Tally} {t : T} (u : Option (List ℕ)) (failed : Bool) (r : Runs {T = T} whole ends claims tally (Ok t)) (kept : Keeps ends.written' u) where
   -- it was flushed
@@ -25,8 +25,9 @@ module _ {T : Type 0} {whole : List ℕ → Reading} {ends : Ends} {claims : Cla
     bytes = r.bytes;
     fits = r.fits;
     given = r.given;
+    fragments = r.fragments;
     prompt = record { early = r.prompt.early; last = r.prompt.last; cut = r.prompt.cut; few = r.prompt.few; undecided = r.prompt.undecided };
-    comes = (record { text = Appends-kept ends.written ends.written' u _ r.comes.0.text kept; peak = r.comes.0.peak; tally = r.comes.0.tally }, r.comes.1, r.comes.2);
+    comes = (record { text = Appends-kept ends.written ends.written' u _ r.comes.0.text kept; fragments = r.comes.0.fragments; peak = r.comes.0.peak; tally = r.comes.0.tally }, r.comes.1, r.comes.2);
     kept = λ other. same ∙ r.kept (λ e. absurd cc);
   }
 
@@ -36,10 +37,12 @@ module _ {T : Type 0} {whole : List ℕ → Reading} {ends : Ends} {claims : Cla
     bytes = r.bytes;
     fits = r.fits;
     given = r.given;
+    fragments = r.fragments;
     prompt = record { early = r.prompt.early; last = r.prompt.last; cut = r.prompt.cut; few = r.prompt.few; undecided = r.prompt.undecided };
     comes = (
       record {
         text = ((whole r.bytes).told.text, [], Appends-kept ends.written ends.written' u _ r.comes.0.text kept, sym (append-nil _));
+        fragments = r.comes.0.fragments;
         least = omega (arith, r.comes.0.peak);
         most = omega (arith, r.comes.0.peak);
         counted = subst (AtMost tally) r.comes.0.tally (AtMost-same tally);
@@ -61,8 +64,10 @@ module _ {T : Type 0} {plan : Plan} {ends : Ends} {claims : Claims} {totals : To
   reads-flushed : (x : T) → failed ≡ ends.write_failed' → ReadsFragments {T = T} plan (record ends { written' = u; write_failed' = failed }) claims totals (Ok x)
   unfolding Runs-answer flushed
   reads-flushed x same = record {
+    told = r.told;
     walked = r.walked;
     runs = Runs-answer (flushed u failed r.runs kept same);
+    fragments = r.fragments;
     all = r.all;
     some = r.some;
     few = r.few;
@@ -72,8 +77,10 @@ module _ {T : Type 0} {plan : Plan} {ends : Ends} {claims : Claims} {totals : To
   reads-unflushed : failed ≡ true → ReadsFragments {T = T} plan (record ends { written' = u; write_failed' = failed }) claims totals (Err Write)
   unfolding unflushed
   reads-unflushed is = record {
+    told = r.told;
     walked = r.walked;
     runs = unflushed u failed r.runs kept is;
+    fragments = r.fragments;
     all = r.all;
     some = r.some;
     few = r.few;

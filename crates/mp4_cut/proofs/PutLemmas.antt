@@ -3,9 +3,8 @@ use Rattle.std.proofs.Common.{◌≡◌, ℕ, zero, suc, ◌-◌, ◌<◌, List,
 use Rattle.std.specs.Prelude.{take}
 use Rattle.std.specs.List.{flat_map}
 use Rattle.mp4_ends.specs.Streams.{AppendsPrefix}
-use Rattle.mp4_ends.proofs.StreamLemmas.{AppendsPrefix-longer, AppendsPrefix-more}
-use Rattle.mp4_reading.specs.Blocks.{Passes}
-use Rattle.mp4_reading.proofs.BlockLemmas.{AppendsPrefix-passed, Passes-more}
+use Rattle.mp4_reading.specs.Blocks.{Breaks, Passes, Pending, unused}
+use Rattle.mp4_reading.proofs.BlockLemmas.{AppendsPrefix-broken, Breaks-passed, Breaks-sent_on, Passes-more}
 
 -- the text of the first of those that are left, and that of the others
 pub next_put : {A : Type 0} (f : A → List ℕ) (left : ℕ) (x : A) (xs ys : List A) (text first whole : List ℕ) → 0 < left → ys ≡ x ∷ xs → first ≡ f x → text ++ flat_map f (take left ys) ≡ whole → (text ++ first) ++ flat_map f (take (left - 1) xs) ≡ whole
@@ -16,20 +15,18 @@ next_put {A} f (suc n) x xs ys text first whole h e is all =
     ∙ (ap (λ (z : List ℕ). text ++ (z ++ flat_map f (take n xs))) is
     ∙ (ap (λ (zs : List A). text ++ flat_map f (take (suc n) zs)) (sym e) ∙ all)))
 
--- a prefix of what is put first is one of the whole
-pub prefix_of : (a b : Option (List ℕ)) (waiting text rest whole : List ℕ) → text ++ rest ≡ whole → AppendsPrefix a b (waiting ++ text) → AppendsPrefix a b (waiting ++ whole)
-prefix_of a b waiting text rest whole e p =
-    AppendsPrefix-longer a b (waiting ++ text) rest (waiting ++ whole) p (ap (λ (x : List ℕ). waiting ++ x) (sym e) ∙ sym (append_assoc waiting text rest))
+-- of what was put into a new block a front was written, where a write failed
+pub sent_front : {a b : Option (List ℕ)} {v w : Pending} (text : List ℕ) → v ≡ unused → Breaks a b v w text → AppendsPrefix a b text
+sent_front {a} {b} text new p = subst (λ l. AppendsPrefix a b (l ++ text)) (ap (λ v. v.bytes) new) (AppendsPrefix-broken p)
 
--- what was put into an empty block was written but for the rest that waits, and of that a prefix
-pub sent_prefix : (a b c : Option (List ℕ)) (waiting rest text : List ℕ) → waiting ≡ [] → Passes a b waiting rest text → AppendsPrefix b c rest → AppendsPrefix a c text
-sent_prefix a b c waiting rest text none p q =
-    subst (AppendsPrefix a c) (sym p.all ∙ ap (λ (x : List ℕ). x ++ text) none) (AppendsPrefix-more a b c p.sent rest p.written q)
+-- and so where the rest that waited could not be sent
+pub sent_prefix : (a b c : Option (List ℕ)) (v w u : Pending) (text : List ℕ) → v ≡ unused → Passes a b v w text → Breaks b c w u [] → AppendsPrefix a c text
+sent_prefix a b c v w u text new p q = sent_front text new (Breaks-sent_on p q)
 
 -- two texts that are put one behind the other
-pub both_put : {a b c : Option (List ℕ)} {x y z : List ℕ} (s t whole : List ℕ) → s ++ t ≡ whole → Passes a b x y s → Passes b c y z t → Passes a c x z whole
-both_put {a} {b} {c} {x} {y} {z} s t whole e p q = subst (Passes a c x z) e (Passes-more p q)
+pub both_put : {a b c : Option (List ℕ)} {v w u : Pending} (s t whole : List ℕ) → s ++ t ≡ whole → Passes a b v w s → Passes b c w u t → Passes a c v u whole
+both_put {a} {b} {c} {v} {w} {u} s t whole e p q = subst (Passes a c v u) e (Passes-more p q)
 
--- the first was put, and of the second a prefix
-pub second_prefix : {a b : Option (List ℕ)} {x y : List ℕ} (c : Option (List ℕ)) (s t whole : List ℕ) → s ++ t ≡ whole → Passes a b x y s → AppendsPrefix b c (y ++ t) → AppendsPrefix a c (x ++ whole)
-second_prefix {a} {b} {x} {y} c s t whole e p q = subst (λ (z : List ℕ). AppendsPrefix a c (x ++ z)) e (AppendsPrefix-passed c t p q)
+-- the first was put, and of the second a front
+pub second_prefix : {a b : Option (List ℕ)} {v w : Pending} (c : Option (List ℕ)) (u : Pending) (s t whole : List ℕ) → s ++ t ≡ whole → Passes a b v w s → Breaks b c w u t → Breaks a c v u whole
+second_prefix {a} {b} {v} {w} c u s t whole e p q = subst (Breaks a c v u) e (Breaks-passed c t p q)

@@ -1,6 +1,6 @@
 //! The two ends of a stream: what its bytes are read from, and what bytes are written to.
 
-ghost use Rattle.std.specs.Prelude.{◌≡◌, ℕ, ◌<◌, ◌≤◌, List, length, Option, None, Bool, true, false, IfOk, OnOk, OnErr, eqb};
+ghost use Rattle.std.specs.Prelude.{◌≡◌, ℕ, ◌<◌, ◌≤◌, List, length, take, Option, None, Bool, true, false, IfOk, IfErr, OnOk, OnErr, eqb};
 ghost use Rattle.std.specs.Io.{ReadsAtMost};
 ghost use Rattle.std.specs.Io.KnownBytes.{ReadConsumes, WriteAppends, Keeps, Appends};
 ghost use Rattle.mp4_ends.specs.Streams.{AppendsPrefix};
@@ -86,6 +86,35 @@ pub trait Sink {
         ensures { result ≡ has_failed self.now };
 }
 
+/// A write has failed before all was taken.
+#[derive(Clone, Copy, Debug, PartialEq, Eq)]
+pub struct Short {
+    /// How many bytes of the front were taken.
+    pub taken: usize,
+}
+
+/// Writes all of these bytes, in as many writes as it takes.
+///
+/// # Errors
+///
+/// `Short` where a write failed, with how many bytes of the front were taken: not all.
+pub fn write_front<W: Sink>(w: &mut W, from: &[u8]) -> Result<(), Short>
+    ensures ok { OnOk result (Appends (W.contents w.old) (W.contents w.new) from.now) }
+    ensures short { IfErr result (λ s. (s.taken < length from.now) ×
+        Appends (W.contents w.old) (W.contents w.new) (take s.taken from.now)) }
+    ensures failed { OnErr result (W.has_failed w.new ≡ true) }
+    ensures kept { OnOk result (W.has_failed w.new ≡ W.has_failed w.old) }
+{
+    let mut at = 0;
+    while at < from.len() {
+        match w.write(&from[at..]) {
+            Ok(n) => at += n,
+            Err(Failed) => return Err(Short { taken: at }),
+        }
+    }
+    Ok(())
+}
+
 /// Writes all of these bytes, in as many writes as it takes.
 ///
 /// # Errors
@@ -97,9 +126,8 @@ pub fn write_all<W: Sink>(w: &mut W, from: &[u8]) -> Result<(), Failed>
     ensures failed { OnErr result (W.has_failed w.new ≡ true) }
     ensures kept { OnOk result (W.has_failed w.new ≡ W.has_failed w.old) }
 {
-    let mut at = 0;
-    while at < from.len() {
-        at += w.write(&from[at..])?;
+    match write_front(w, from) {
+        Ok(()) => Ok(()),
+        Err(_) => Err(Failed),
     }
-    Ok(())
 }

@@ -6,7 +6,6 @@ use Rattle.std.specs.Option.{option_or}
 use Rattle.std.proofs.Math.Seq.{drop-append_seam, take-append_seam}
 use Rattle.std.proofs.lemmas.List.{length-drop}
 use Rattle.std.proofs.lemmas.List.Sums.{sum_by-cons}
-use Rattle.mp4_ends.specs.Streams.{AppendsPrefix}
 use Rattle.mp4_box.specs.declared.headers.FourCc.{FourCc}
 use Rattle.mp4_box.specs.declared.headers.Header.{Header}
 use Rattle.mp4_box.specs.declared.headers.Size.TheVariants.{Exact}
@@ -28,7 +27,7 @@ use Rattle.mp4_pieces.specs.declared.piece.Piece.{Piece}
 use Rattle.mp4_pieces.specs.Rooms.{room_fault, room_faults}
 use Rattle.mp4_pieces.proofs.FitsLemmas.{room_to}
 use Rattle.mp4_reading.specs.Bodies.{least_end, longest, told_body}
-use Rattle.mp4_reading.specs.Blocks.{Passes}
+use Rattle.mp4_reading.specs.Blocks.{BreaksMarked, PassesMarked, Pending}
 use Rattle.mp4_reading.specs.Pieces.{GoesOn, Loses, Moves, Outside, Standing, StopsAt, outside}
 use Rattle.mp4_reading.specs.Readings.{Told, after, both, silent, then_read}
 use Rattle.mp4_reading.specs.declared.stop.Stop.TheVariants.{Write}
@@ -41,7 +40,9 @@ use Rattle.mp4_items.specs.Contexts.{Context, context, table_of}
 use Rattle.mp4_items.specs.Items.{behind_fragment, end_of, fragment, media_body, reads_in, walked, with_runs}
 use Rattle.mp4_items.specs.Makings.{Fragment, Making, fragment_fault, runs_in}
 use Rattle.mp4_recut.specs.Media.{Lost, Plays, Spot, playing}
-use Rattle.mp4_recut.specs.Parts.{Ascends, Part, slices, told_fragments}
+use Rattle.mp4_reading.specs.declared.mark.Mark.{Mark}
+use Rattle.mp4_recut.specs.Parts.{Ascends, Part, marks_in, slices, told_fragments}
+use Rattle.mp4_recut.proofs.PartLemmas.{told_all}
 use Rattle.mp4_recut.specs.Splitting.{parts_of, run_parts, runs_parts, splitting, timescale_of}
 use Rattle.mp4_recut.proofs.AscendLemmas.{runs_ascend}
 use Rattle.mp4_recut.proofs.FragmentLemmas.{some_samples}
@@ -64,7 +65,7 @@ use Rattle.mp4_feed.proofs.WholeLemmas.{GoesOn-moof_whole, back_at_once, claimed
 use Rattle.mp4_init.specs.Rows.{with_next}
 
 -- nothing was told yet
-pub Plays-none : (a : Option (List ℕ)) (v : List ℕ) (n : ℕ) (p : Spot) → Plays a a v v n n p [] p
+pub Plays-none : (a : Option (List ℕ)) (v : Pending) (n : ℕ) (p : Spot) → Plays a a v v n n p [] p
 Plays-none a v n p = record {
   told = silent;
   tells = record {
@@ -135,9 +136,12 @@ module _ (cut : Cut) (o : Outside) (at : ℕ) (tracks : List Track) (piece : Lis
   abbrev parts : List Part
   parts = run_parts cut b.moof.now l.run (timescale_of tracks l.run.track) 0 (o.tally.fragments + 1) (pieces_of cut b.moof.now l.run)
 
-  -- what is put
+  -- what is put, and where moofs end in it
   abbrev pub put : List ℕ
   put = slices (media_start at b) (media_in piece b) (run_parts cut b.moof.now l.run (timescale_of tracks l.run.track) 0 (o.tally.fragments + 1) (pieces_of cut b.moof.now l.run))
+
+  abbrev pub marks : List Mark
+  marks = marks_in (media_start at b) (media_in piece b) (run_parts cut b.moof.now l.run (timescale_of tracks l.run.track) 0 (o.tally.fragments + 1) (pieces_of cut b.moof.now l.run))
 
   fit : BoxesFit at piece b
   fit = boxes_fit at piece b is.boxes
@@ -184,16 +188,16 @@ module _ (cut : Cut) (o : Outside) (at : ℕ) (tracks : List Track) (piece : Lis
       subst (λ (runs : List Run). Ascends f.payload.start end (runs_parts cut m tracks number runs)) (sym taken)
       (runs_ascend cut m tracks number f.payload.start end (l.run ∷ []) (omega (arith, head_is, fit.head)) (run_is at tracks piece b l is, tt) (lie, tt) (tt, tt))
 
-  told : playing (first_spot cut f) payload ≡ told_fragments put (length pieces)
+  told : playing (first_spot cut f) payload ≡ told_fragments put marks (length pieces)
   told =
       let last : end ≡ f.payload.start + length payload = omega (arith, len, head_is, fit.head) in
       let begins : f.payload.start ≡ media_start at b = omega (arith, head_is) in
       let same : payload ≡ media_in piece b = ap (λ k. take (s - k) (drop k x)) head_is in
       played-slices f.payload.start payload (parts_of cut f) (subst (λ e. Ascends f.payload.start e (parts_of cut f)) last ascends)
-      ∙ ap (λ (ps : List Part). told_fragments (slices f.payload.start payload ps) (length ps)) all_parts
-      ∙ ap (λ k. told_fragments (slices k payload parts) (length parts)) begins
-      ∙ ap (λ z. told_fragments (slices (media_start at b) z parts) (length parts)) same
-      ∙ ap (told_fragments put) (run_length cut m l.run (timescale_of tracks l.run.track) 0 number pieces)
+      ∙ ap (told_all f.payload.start payload) all_parts
+      ∙ ap (λ k. told_all k payload parts) begins
+      ∙ ap (λ z. told_all (media_start at b) z parts) same
+      ∙ ap (told_fragments put marks) (run_length cut m l.run (timescale_of tracks l.run.track) 0 number pieces)
 
   counted : (splitting cut).numbered f ≡ number + length pieces
   counted = omega (arith, ap (piece_count cut m) taken, sum_by-cons (λ (r : Run). length (pieces_of cut m r)) l.run [])
@@ -266,7 +270,7 @@ module _ (cut : Cut) (o : Outside) (at : ℕ) (tracks : List Track) (piece : Lis
       (GoesOn-begun cut c tracks m mdat_head g fore.len fore.is fits is.boxes.mdat.is_kind good listed_of.written listed_of.written listed_of.waiting listed_of.waiting listed_of.tally listed_of.tally.fragments (first_spot cut f) listed_of.account (room_of x g behind)
       (Plays-none listed_of.written listed_of.waiting listed_of.tally.fragments (first_spot cut f))))
 
-  module _ (u : Option (List ℕ)) (v : List ℕ) (a : Account) (t : Tally) (account : a ≡ given_back (claimed o.account (length b.moof.now + 64)) (length b.moof.now + 64))
+  module _ (u : Option (List ℕ)) (v : Pending) (a : Account) (t : Tally) (account : a ≡ given_back (claimed o.account (length b.moof.now + 64)) (length b.moof.now + 64))
       (samples : t.samples ≡ o.tally.samples + l.run.count) (media : t.media_bytes ≡ o.tally.media_bytes + l.run.bytes) (walks : t.walked ≡ o.tally.walked + l.run.count) where
     one : length (moof_runs (held_at m at) tracks) ≡ 1
     one = ap length is.lone.run
@@ -278,7 +282,7 @@ module _ (cut : Cut) (o : Outside) (at : ℕ) (tracks : List Track) (piece : Lis
     bytes_of = ap (sum_by (λ (r : Run). r.bytes)) taken ∙ sum_by-cons (λ (r : Run). r.bytes) l.run [] ∙ omega arith
 
     -- its fragments were put
-    pub GoesOn-recut_whole : t.fragments ≡ o.tally.fragments + length (pieces_of cut b.moof.now l.run) → Passes o.written u o.waiting v put
+    pub GoesOn-recut_whole : t.fragments ≡ o.tally.fragments + length (pieces_of cut b.moof.now l.run) → PassesMarked o.written u o.waiting v put marks
         → GoesOn o (outside u v a t) (standing (splitting cut) (InHeader (context at (Some tracks) (o.tally.fragments + 1)) [])) (take (length b.moof.now + b.mdat.size) piece)
         (standing (splitting cut) (InHeader (context (at + (length b.moof.now + b.mdat.size)) (Some (with_next l.track l.run.end tracks)) (t.fragments + 1)) []))
     GoesOn-recut_whole fragments passes =
@@ -303,7 +307,7 @@ module _ (cut : Cut) (o : Outside) (at : ℕ) (tracks : List Track) (piece : Lis
         (subst (λ k. GoesOn o o' starts (take n piece) (standing make (InHeader (context k (Some (settled tracks (moof_trafs (held_at m at) tracks))) ((splitting cut).numbered f)) []))) there goes))
 
     -- a write failed as they were put: all is given back
-    pub StopsAt-recut_whole : (more : List ℕ) → o.tally.fragments ≤ t.fragments → t.fragments ≤ o.tally.fragments + length (pieces_of cut b.moof.now l.run) → AppendsPrefix o.written u (o.waiting ++ put)
+    pub StopsAt-recut_whole : (more : List ℕ) → o.tally.fragments ≤ t.fragments → t.fragments ≤ o.tally.fragments + length (pieces_of cut b.moof.now l.run) → BreaksMarked o.written u o.waiting v put marks
         → StopsAt o (outside u v (given_back a (64 * length tracks)) t) (standing (splitting cut) (InHeader (context at (Some tracks) (o.tally.fragments + 1)) [])) (piece ++ more) Write
     StopsAt-recut_whole more least most prefix =
         let o'' = outside u v (given_back a (64 * length tracks)) t in
@@ -336,7 +340,7 @@ module _ (cut : Cut) (o : Outside) (at : ℕ) (tracks : List Track) (piece : Lis
         loses : (all rest : List ℕ) → all ≡ payload ++ rest → Loses listed_of (outside u v (given_back a (64 * length tracks)) t) (waits mdat_head).claim ((waits mdat_head).reads all)
         loses all rest e =
             let make = splitting cut in
-            let told_first = told_fragments put (length pieces) in
+            let told_first = told_fragments put marks (length pieces) in
             let reads : (waits mdat_head).reads all ≡ after (make.accepted f) (then_read (reads_in make) (media_body make f (at + length m) g g.size all)) =
             ap (then_read (reads_in make)) (second-accepted make c tracks m g mdat_head fore.len fore.is all fits is.boxes.mdat.is_kind good) ∙ then_read-told (reads_in make) (make.accepted f) (media_body make f (at + length m) g g.size all) in
             let body_reads : then_read (reads_in make) (media_body make f (at + length m) g g.size all) ≡ after told_first (reads_in make behind_it rest) =
@@ -346,7 +350,7 @@ module _ (cut : Cut) (o : Outside) (at : ℕ) (tracks : List Track) (piece : Lis
             ∙ body-all make (make.media f) (at + length m) g.kind behind_it payload rest
             ∙ ap (λ z. after z (reads_in make behind_it rest)) told in
             let is_told : ((waits mdat_head).reads all).told ≡ both (make.accepted f) (both told_first (reads_in make behind_it rest).told) = ap (λ z. z.told) (reads ∙ ap (after (make.accepted f)) body_reads) in
-            let lost : Lost listed_of.written u listed_of.waiting listed_of.tally.fragments t.fragments told_first = record { text = prefix; least = omega (arith, least); most = omega (arith, most) } in
+            let lost : Lost listed_of.written u listed_of.waiting v listed_of.tally.fragments t.fragments told_first = record { text = prefix; least = omega (arith, least); most = omega (arith, most) } in
             let so = lost_first cut c tracks m mdat_head g fore.len fore.is fits is.boxes.mdat.is_kind good listed_of.written u listed_of.waiting v listed_of.tally t.fragments own listed_of.account told_first (reads_in make behind_it rest).told ((waits mdat_head).reads all) is_told low_claim lost in
             subst (λ k. Loses listed_of (outside u v (given_back a (64 * length tracks)) k) own ((waits mdat_head).reads all)) counted_so
             (subst (λ k. Loses listed_of (outside u v k (with_samples f listed_of.tally t.fragments)) own ((waits mdat_head).reads all)) given so)

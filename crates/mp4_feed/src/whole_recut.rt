@@ -1,14 +1,13 @@
 //! A fragment of which a piece has all, with one run, that is recut: its fragments are put where it lies.
 
 ghost use Rattle.std.specs.Prelude.{◌≡◌, ◌+◌, ◌*◌, ◌-◌, ◌<◌, ◌≤◌, ◌≤ℤ◌, ◌^◌, ℕ, [], ◌++◌, pos, false, length, take, None, Some, true, IfOk, OnOk, OnErr};
-ghost use Rattle.mp4_cut.specs.Puts.{Puts};
 ghost use Rattle.mp4_frag.specs.Runs.{end_place};
 ghost use Rattle.mp4_pieces.specs.Pieces.{IsRunOf, pieces_of};
 ghost use Rattle.mp4_reading.specs.Bodies.{longest};
 ghost use Rattle.mp4_reading.specs.Ends.{sent};
 ghost use Rattle.mp4_reading.specs.Pieces.{Takes, around};
 ghost use Rattle.mp4_items.specs.Contexts.{context, table_of};
-ghost use Rattle.mp4_recut.specs.Parts.{slices};
+ghost use Rattle.mp4_recut.specs.Media.{PutsAll};
 ghost use Rattle.mp4_recut.specs.Splitting.{run_parts, splitting};
 ghost use Rattle.mp4_recut.specs.declared.plan.Plan.TheVariants as plans;
 ghost use Rattle.mp4_feed.specs.Places.{InHeader, standing, when_stopped};
@@ -57,11 +56,11 @@ fn recut_whole<W: Sink>(
     requires plain { cut.now.index ≡ false }
     requires numbers { counter.old.tally.fragments + 1 + whole.now.run.now.run.count ≤ 2 ^ 32 }
     requires counted { IsCounted (plans.Split cut.now) counter.old at 0 0 }
-    ensures puts { (timescale : ℕ) → Puts W.contents W.has_failed w.old w.new out.old out.new
-        (slices (media_start at whole.now.boxes) (media_in piece.now whole.now.boxes)
+    ensures puts { (timescale : ℕ) → PutsAll W.contents W.has_failed w.old w.new out.old out.new
+        (media_start at whole.now.boxes) (media_in piece.now whole.now.boxes)
         (run_parts cut.now whole.now.boxes.moof.now whole.now.run.now.run timescale 0
         (counter.old.tally.fragments + 1)
-        (pieces_of cut.now whole.now.boxes.moof.now whole.now.run.now.run))) result }
+        (pieces_of cut.now whole.now.boxes.moof.now whole.now.run.now.run)) result }
     ensures number { OnOk result (counter.new.tally.fragments ≡ counter.old.tally.fragments +
         length (pieces_of cut.now whole.now.boxes.moof.now whole.now.run.now.run)) }
     ensures least { counter.old.tally.fragments ≤ counter.new.tally.fragments }

@@ -4,6 +4,7 @@ pub mod ReadingGrowthLemmas
 pub mod ReadingItemLemmas
 pub mod BodyLemmas
 pub mod AccountLemmas
+pub mod MarkLemmas
 pub mod BlockLemmas
 pub mod PieceLemmas
 pub mod RunLemmas

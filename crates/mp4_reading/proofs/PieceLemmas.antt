@@ -1,21 +1,17 @@
 -- How what a piece brings and what the next brings is what both bring.
 use Rattle.std.proofs.Common.{◌≡◌, ℕ, ◌+◌, ◌-◌, ◌<◌, ◌≤◌, List, [], ◌++◌, take, drop, Option, Bool, true, Result, Ok, Err, OnErr, ap, sym, ◌∙◌, refl, length, arith, append_assoc, append-nil, length-append, subst, take-append-drop}
 use Rattle.std.proofs.Math.Seq.{take-add}
-use Rattle.std.proofs.KnownBytes.{Appends-nil, Appends-trans}
-use Rattle.std.specs.Io.KnownBytes.{Appends}
-use Rattle.mp4_ends.specs.Streams.{AppendsPrefix}
-use Rattle.mp4_ends.proofs.StreamLemmas.{AppendsPrefix-longer}
 use Rattle.mp4_ledger.specs.Memory.{Account, claimed, given_back}
 use Rattle.mp4_reading.specs.Accounts.{Counts, Spends}
 use Rattle.mp4_reading.proofs.AccountLemmas.{Counts-none, Counts-claim, Counts-back, Counts-more, Spends-after, Spends-more}
-use Rattle.mp4_reading.specs.Blocks.{Passes}
+use Rattle.mp4_reading.specs.Blocks.{IsSent, Pending, unused, Breaks, BreaksMarked, Passes, PassesMarked}
 use Rattle.mp4_reading.specs.Readings.{AtMost, Reading, Told, plus, after, both, silent, asks_for, most_of, uncounted, early_in}
 use Rattle.mp4_reading.specs.Pieces.{Outside, outside, Standing, Moves, GoesOn, Starves, Loses, StopsAt, Around, Takes, IsBegun, IsQuiet, IsFed}
 use Rattle.mp4_reading.specs.declared.stop.Stop.{Stop}
 use Rattle.mp4_reading.specs.declared.stop.Stop.TheVariants.{Stream, Read, Write, OverLimit, Memory}
 use Rattle.mp4_reading.proofs.ReadingAskLemmas.{AtMost-behind, AtMost-plus, AtMost-trans, max_none, most-both, most-first, plus-assoc, plus-none}
 use Rattle.mp4_reading.proofs.ReadingLemmas.{after-both, after-silent, both-silent}
-use Rattle.mp4_reading.proofs.BlockLemmas.{Passes-none, Passes-more, AppendsPrefix-passed, Passes-sent_on, Appends-passed}
+use Rattle.mp4_reading.proofs.BlockLemmas.{Passes-none, PassesMarked-more, BreaksMarked-longer, BreaksMarked-passed, Passes-sent_on, Breaks-sent_on}
 
 -- nothing moved
 pub Moves-none : (o : Outside) (own : ℕ) → Moves o o own own silent
@@ -23,7 +19,7 @@ Moves-none o own = record { passes = Passes-none o.written o.waiting; counts = C
 
 pub Moves-more : {o o' o'' : Outside} {c d e : ℕ} {s t : Told} → c ≤ o.account.live → Moves o o' c d s → Moves o' o'' d e t → Moves o o'' c e (both s t)
 Moves-more {o = o} {o' = o'} {o'' = o''} {c = c} {d = d} {e = e} {s = s} {t = t} low x y = record {
-  passes = Passes-more x.passes y.passes;
+  passes = PassesMarked-more x.passes y.passes;
   counts = subst (Counts o.account o''.account c e) (sym (most-both s t)) (Counts-more o.account o'.account o''.account c d e (most_of s) (most_of t) low x.counts y.counts);
   tallied = y.tallied ∙ ap (λ n. plus n t.tally) x.tallied ∙ plus-assoc o.tally s.tally t.tally;
 }
@@ -90,7 +86,7 @@ module _ {o o' : Outside} {p q : Standing} {xs : List ℕ} (low : p.claim ≤ o.
 
   Loses-more : (o'' : Outside) (r : Reading) → Loses o' o'' q.claim r → Loses o o'' p.claim (after g.brought r)
   Loses-more o'' r h = record {
-    text = AppendsPrefix-passed o''.written r.told.text g.moves.passes h.text;
+    text = BreaksMarked-passed g.moves.passes h.text;
     spends = subst (Spends o.account o''.account p.claim 0) (sym (most-both g.brought r.told))
         (Spends-after o.account o'.account o''.account p.claim q.claim 0 (most_of g.brought) (most_of r.told) low g.moves.counts h.spends);
     least = AtMost-trans o.tally o'.tally o''.tally (subst (AtMost o.tally) (sym g.moves.tallied) (AtMost-plus o.tally g.brought.tally)) h.least;
@@ -157,10 +153,10 @@ Takes-behind {T = T} {around = around} {p = p} {q = q} {x = x} {new = new} {resu
 -- ---- what waits is sent at the end of a piece
 
 -- the same outside, but that what waited was sent
-abbrev pub sent_to : Outside → Option (List ℕ) → List ℕ → Outside
+abbrev pub sent_to : Outside → Option (List ℕ) → Pending → Outside
 sent_to o u x = record { written = u; waiting = x; account = o.account; tally = o.tally }
 
-module _ {o o' : Outside} {u : Option (List ℕ)} {x : List ℕ} where
+module _ {o o' : Outside} {u : Option (List ℕ)} {x : Pending} where
   Moves-sent : {c d : ℕ} {t : Told} → Moves o o' c d t → Passes o'.written u o'.waiting x [] → Moves o (sent_to o' u x) c d t
   Moves-sent m h = record { passes = Passes-sent_on m.passes h; counts = m.counts; tallied = m.tallied }
 
@@ -172,7 +168,7 @@ module _ {o o' : Outside} {u : Option (List ℕ)} {x : List ℕ} where
     Starves-sent g h = record { brought = g.brought; moves = Moves-sent g.moves h; at = g.at; sum = g.sum; behind = g.behind; rest = g.rest }
 
 -- where a write failed nothing more is sent
-pub StopsAt-sent : (o o' : Outside) (u : Option (List ℕ)) (x : List ℕ) (p : Standing) (xs : List ℕ) (e : Stop) → (e ≡ Write → ⊥) → StopsAt o o' p xs e → Passes o'.written u o'.waiting x [] → StopsAt o (sent_to o' u x) p xs e
+pub StopsAt-sent : (o o' : Outside) (u : Option (List ℕ)) (x : Pending) (p : Standing) (xs : List ℕ) (e : Stop) → (e ≡ Write → ⊥) → StopsAt o o' p xs e → Passes o'.written u o'.waiting x [] → StopsAt o (sent_to o' u x) p xs e
 unfolding Starves-sent
 StopsAt-sent o o' u x p xs (Stream f) other g h = record { brought = g.brought; moves = Moves-sent g.moves h; rest = g.rest }
 StopsAt-sent o o' u x p xs (Read at) other g h = g
@@ -181,20 +177,20 @@ StopsAt-sent o o' u x p xs OverLimit other (g, far) h = (Starves-sent g h, far)
 StopsAt-sent o o' u x p xs Memory other (g, near) h = (Starves-sent g h, near)
 
 -- and where it can't be sent, a prefix of what was to be written was
-prefix-unsent : {a b : Option (List ℕ)} {w v t : List ℕ} (c : Option (List ℕ)) (whole : List ℕ) → Passes a b w v t → AppendsPrefix b c v → (more : List ℕ) → whole ≡ t ++ more → AppendsPrefix a c (w ++ whole)
-prefix-unsent {a = a} {w = w} {v = v} {t = t} c whole p s more e =
-    subst (λ l. AppendsPrefix a c (w ++ l)) (sym e) (AppendsPrefix-passed c more p (AppendsPrefix-longer _ c v more (v ++ more) s refl))
+breaks-unsent : {a b c : Option (List ℕ)} {v w u : Pending} (told more whole : Told) → PassesMarked a b v w told.text told.marks → Breaks b c w u [] → whole ≡ both told more → BreaksMarked a c v u whole.text whole.marks
+breaks-unsent {a = a} {c = c} {v = v} {u = u} told more whole p s e =
+    subst (λ t. BreaksMarked a c v u t.text t.marks) (sym e) (BreaksMarked-longer more.text more.marks (Breaks-sent_on p s))
 
 -- the same outside, but that what waited was lost and what was claimed was given back
-abbrev pub lost_to : Outside → Option (List ℕ) → List ℕ → Account → Outside
+abbrev pub lost_to : Outside → Option (List ℕ) → Pending → Account → Outside
 lost_to o u x a = record { written = u; waiting = x; account = a; tally = o.tally }
 
-module _ {o o' : Outside} (u : Option (List ℕ)) (x : List ℕ) (a : Account) where
+module _ {o o' : Outside} (u : Option (List ℕ)) (x : Pending) (a : Account) where
   -- something was told, and more is; what it is read as is known
-  loses-unsent : (c claim : ℕ) (told more : Told) (r : Reading) → r.told ≡ both told more → Moves o o' c claim told → AppendsPrefix o'.written u o'.waiting
+  loses-unsent : (c claim : ℕ) (told more : Told) (r : Reading) → r.told ≡ both told more → Moves o o' c claim told → Breaks o'.written u o'.waiting x []
       → claim ≤ o'.account.live → a ≡ given_back o'.account claim → Loses o (lost_to o' u x a) c r
   loses-unsent c claim told more r e m f low back = record {
-    text = prefix-unsent u r.told.text m.passes f more.text (ap (λ s. s.text) e);
+    text = breaks-unsent told more r.told m.passes f e;
     spends = Spends-more o.account a c 0 (most_of told) (most_of r.told) (subst (λ s. most_of told ≤ most_of s) (sym e) (most-first told more)) (record {
       limit = ap (λ k. k.limit) back ∙ m.counts.limit;
       live = omega (arith, ap (λ k. k.live) back, m.counts.live, low);
@@ -205,7 +201,7 @@ module _ {o o' : Outside} (u : Option (List ℕ)) (x : List ℕ) (a : Account) w
     most = subst (λ t. AtMost t (plus o.tally r.told.tally)) (sym m.tallied) (subst (λ s. AtMost (plus o.tally told.tally) (plus o.tally s.tally)) (sym e) (AtMost-behind o.tally told.tally (plus told.tally more.tally) (AtMost-plus told.tally more.tally)));
   }
 
-  module _ {p : Standing} {xs : List ℕ} (f : AppendsPrefix o'.written u o'.waiting) where
+  module _ {p : Standing} {xs : List ℕ} (f : Breaks o'.written u o'.waiting x []) where
     pub GoesOn-unsent : {q : Standing} → q.claim ≤ o'.account.live → a ≡ given_back o'.account q.claim → GoesOn o o' p xs q
         → (later : List ℕ) → Loses o (lost_to o' u x a) p.claim (p.reads (xs ++ later))
     GoesOn-unsent {q = q} low back g later =
@@ -214,7 +210,7 @@ module _ {o o' : Outside} (u : Option (List ℕ)) (x : List ℕ) (a : Account) w
 none_back : (a : Account) → a ≡ given_back a 0
 none_back a = let e : a.live - 0 ≡ a.live = omega arith in ap (λ n. record { limit = a.limit; live = n; peak = a.peak }) (sym e)
 
-pub StopsAt-unsent : (o o' : Outside) (u : Option (List ℕ)) (x : List ℕ) (p : Standing) (xs : List ℕ) (e : Stop) → AppendsPrefix o'.written u o'.waiting → (e ≡ Write → ⊥) → StopsAt o o' p xs e
+pub StopsAt-unsent : (o o' : Outside) (u : Option (List ℕ)) (x : Pending) (p : Standing) (xs : List ℕ) (e : Stop) → Breaks o'.written u o'.waiting x [] → (e ≡ Write → ⊥) → StopsAt o o' p xs e
     → (later : List ℕ) → Loses o (sent_to o' u x) p.claim (p.reads (xs ++ later))
 StopsAt-unsent o o' u x p xs (Stream h) f other g later =
     loses-unsent u x o'.account p.claim 0 g.brought silent (p.reads (xs ++ later)) (ap (λ r. r.told) (g.rest later) ∙ sym (both-silent g.brought)) g.moves f (omega arith) (none_back o'.account)
@@ -225,27 +221,23 @@ StopsAt-unsent o o' u x p xs OverLimit f other (g, far) later =
 StopsAt-unsent o o' u x p xs Memory f other (g, near) later =
     loses-unsent u x o'.account p.claim 0 g.brought (after (asks_for g.at g.sum) (g.behind later)).told (p.reads (xs ++ later)) (ap (λ r. r.told) (g.rest later)) g.moves f (omega arith) (none_back o'.account)
 
--- where a write failed, what waits is lost
-pub Loses-waiting : (o o' : Outside) (x : List ℕ) (p : Standing) (xs : List ℕ) → StopsAt o o' p xs Write → StopsAt o (sent_to o' o'.written x) p xs Write
-Loses-waiting o o' x p xs g = λ later. record { text = (g later).text; spends = (g later).spends; least = (g later).least; most = (g later).most }
-
 -- ---- a call, and then what waits is sent
 
-abbrev pub sent_behind : Around → Option (List ℕ) → List ℕ → Bool → Around
+abbrev pub sent_behind : Around → Option (List ℕ) → Pending → Bool → Around
 sent_behind a u x failed' = record { before = a.before; behind = sent_to a.behind u x; failed = a.failed; failed' = failed' }
 
-pub Takes-sent : {T : Type 0} {around : Around} {old : Standing} {piece : List ℕ} {taken : T → List ℕ} {new : T → Standing} (r : Result T Stop) (u : Option (List ℕ)) (x : List ℕ) (failed' : Bool) → (r ≡ Err Write → ⊥) → Takes around old piece taken new r
+pub Takes-sent : {T : Type 0} {around : Around} {old : Standing} {piece : List ℕ} {taken : T → List ℕ} {new : T → Standing} (r : Result T Stop) (u : Option (List ℕ)) (x : Pending) (failed' : Bool) → (r ≡ Err Write → ⊥) → Takes around old piece taken new r
     → Passes around.behind.written u around.behind.waiting x [] → failed' ≡ around.failed' → Takes (sent_behind around u x failed') old piece taken new r
 Takes-sent (Ok t) u x failed' other h p kept = Takes-ok (GoesOn-sent h.ok p) (kept ∙ h.kept other)
 Takes-sent {around = around} {old = old} {piece = piece} (Err e) u x failed' other h p kept =
     Takes-err (λ more. StopsAt-sent around.before around.behind u x old (piece ++ more) e (λ is. other (ap Err is)) (h.err more) p) (λ is. absurd (other (ap Err is))) (λ _. kept ∙ h.kept other)
 
 -- what waits can't be sent, and what is claimed is given back
-abbrev pub lost_behind : Around → Option (List ℕ) → List ℕ → Account → Around
+abbrev pub lost_behind : Around → Option (List ℕ) → Pending → Account → Around
 lost_behind a u x account = record { before = a.before; behind = lost_to a.behind u x account; failed = a.failed; failed' = true }
 
-pub Takes-unsent : {T : Type 0} {around : Around} {old : Standing} {piece : List ℕ} {taken : T → List ℕ} {new new' : T → Standing} (r : Result T Stop) (u : Option (List ℕ)) (x : List ℕ) (a : Account) (claim : ℕ) → (r ≡ Err Write → ⊥) → Takes around old piece taken new r
-    → ((t : T) → r ≡ Ok t → ((taken t ≡ piece) × ((new t).claim ≡ claim))) → OnErr r (claim ≡ 0) → claim ≤ around.behind.account.live → AppendsPrefix around.behind.written u around.behind.waiting → a ≡ given_back around.behind.account claim
+pub Takes-unsent : {T : Type 0} {around : Around} {old : Standing} {piece : List ℕ} {taken : T → List ℕ} {new new' : T → Standing} (r : Result T Stop) (u : Option (List ℕ)) (x : Pending) (a : Account) (claim : ℕ) → (r ≡ Err Write → ⊥) → Takes around old piece taken new r
+    → ((t : T) → r ≡ Ok t → ((taken t ≡ piece) × ((new t).claim ≡ claim))) → OnErr r (claim ≡ 0) → claim ≤ around.behind.account.live → Breaks around.behind.written u around.behind.waiting x [] → a ≡ given_back around.behind.account claim
     → Takes (lost_behind around u x a) old piece taken new' (Err Write)
 Takes-unsent {around = around} {old = old} {piece = piece} {new = new} (Ok t) u x a claim other h here spent low f back =
     let same = here t refl in
@@ -259,7 +251,7 @@ Takes-unsent {around = around} {old = old} {piece = piece} (Err e) u x a claim o
 -- ---- all the bytes so far
 
 -- a machine to which no byte has come
-pub IsFed-begun : (written : Option (List ℕ)) (account : Account) (p : Standing) → IsBegun p uncounted → IsFed p.reads [] (outside written [] account uncounted) (outside written [] account uncounted) p
+pub IsFed-begun : (written : Option (List ℕ)) (account : Account) (p : Standing) → IsBegun p uncounted → IsFed p.reads [] (outside written unused account uncounted) (outside written unused account uncounted) p
 IsFed-begun written account p begun =
     let told : (p.reads []).told ≡ silent = ap (λ r. r.told) begun.none in
     record {
@@ -269,14 +261,15 @@ IsFed-begun written account p begun =
         tally = sym (ap (λ t. t.tally) told);
       };
       quiet = record { told = told; early = ap (λ r. early_in r.outcome) begun.none };
-      text = subst (λ t. Appends written written t.text) (sym told) (Appends-nil written);
+      text = subst (λ t. PassesMarked written written unused unused t.text t.marks) (sym told) (Passes-none written unused);
+      sent = record { bytes = refl; ends = refl };
       counts = subst (λ n. Counts account account 0 n (most_of (p.reads []).told)) (sym begun.claim) (subst (Counts account account 0 0) (sym (ap most_of told)) (Counts-none account 0));
     }
 
 -- fed one more piece
-pub IsFed-more : {o o' : Outside} {p q : Standing} {piece : List ℕ} (whole : List ℕ → Reading) (b : List ℕ) (start : Outside) → IsFed whole b start o p → GoesOn o o' p piece q → IsQuiet q → o.waiting ≡ [] → o'.waiting ≡ []
+pub IsFed-more : {o o' : Outside} {p q : Standing} {piece : List ℕ} (whole : List ℕ → Reading) (b : List ℕ) (start : Outside) → IsFed whole b start o p → GoesOn o o' p piece q → IsQuiet q → IsSent o'.waiting
     → IsFed whole (b ++ piece) start o' q
-IsFed-more {o = o} {o' = o'} {p = p} {q = q} {piece = piece} whole b start s g quiet none none' =
+IsFed-more {o = o} {o' = o'} {p = p} {q = q} {piece = piece} whole b start s g quiet done =
     let rest : (later : List ℕ) → whole ((b ++ piece) ++ later) ≡ after (both (whole b).told g.brought) (q.reads later) =
     λ later. ap whole (append_assoc b piece later) ∙ s.stands.rest (piece ++ later) ∙ ap (after (whole b).told) (g.rest later) ∙ after-both (whole b).told g.brought (q.reads later) in
     let told : (whole (b ++ piece)).told ≡ both (whole b).told g.brought =
@@ -288,7 +281,8 @@ IsFed-more {o = o} {o' = o'} {p = p} {q = q} {piece = piece} whole b start s g q
         tally = g.moves.tallied ∙ ap (λ t. plus t g.brought.tally) s.stands.tally ∙ ap (λ t. t.tally) (sym told);
       };
       quiet = quiet;
-      text = subst (λ t. Appends start.written o'.written t.text) (sym told) (Appends-trans start.written o.written o'.written (whole b).told.text g.brought.text s.text (Appends-passed g.moves.passes none none'));
+      text = subst (λ t. PassesMarked start.written o'.written start.waiting o'.waiting t.text t.marks) (sym told) (PassesMarked-more s.text g.moves.passes);
+      sent = done;
       counts = subst (λ t. Counts start.account o'.account 0 q.claim (most_of t)) (sym told)
           (subst (Counts start.account o'.account 0 q.claim) (sym (most-both (whole b).told g.brought)) (Counts-more start.account o.account o'.account 0 p.claim q.claim (most_of (whole b).told) (most_of g.brought) (omega arith) s.counts g.moves.counts));
     }

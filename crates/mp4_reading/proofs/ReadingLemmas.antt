@@ -1,7 +1,8 @@
 -- How a reading goes on behind its front, whatever the items are.
-use Rattle.std.proofs.Common.{◌≡◌, ℕ, zero, suc, ◌≤◌, List, [], ◌∷◌, ◌++◌, length, ap, sym, ◌∙◌, refl, arith, append_assoc, append-nil}
-use Rattle.mp4_reading.specs.Readings.{Reading, Told, uncounted, plus, silent, both, nothing, Front, Last, Whole, after, after_told, then_read, read_at_most, read_all}
+use Rattle.std.proofs.Common.{◌≡◌, ℕ, zero, suc, ◌≤◌, List, [], ◌∷◌, ◌++◌, length, ap, sym, ◌∙◌, refl, arith, append_assoc, append-nil, length-append}
+use Rattle.mp4_reading.specs.Readings.{Reading, Told, uncounted, plus, silent, both, moved, nothing, Front, Last, Whole, after, after_told, then_read, read_at_most, read_all}
 use Rattle.mp4_reading.proofs.ReadingAskLemmas.{shifted-none, plus-none, none-plus, plus-assoc, shifted-assoc}
+use Rattle.mp4_reading.proofs.MarkLemmas.{moved-append, moved-moved, moved-none}
 
 -- what follows a whole item is at most so long
 abbrev pub Below : {C : Type 0} → Front C → ℕ → Type 0
@@ -24,19 +25,33 @@ Below-told told (Whole more next rest) n h = h
 -- ---- what is told
 
 pub both-silent : (t : Told) → both t silent ≡ t
-both-silent t = ap (λ l. record { text = l; asks = t.asks ++ []; tally = plus t.tally uncounted }) (append-nil t.text) ∙ ap (λ l. record { text = t.text; asks = l; tally = plus t.tally uncounted }) (append-nil t.asks)
-    ∙ ap (λ n. record { text = t.text; asks = t.asks; tally = n }) (plus-none t.tally)
+both-silent t = ap (λ l. record { text = l; asks = t.asks ++ []; marks = t.marks ++ []; tally = plus t.tally uncounted }) (append-nil t.text)
+    ∙ ap (λ l. record { text = t.text; asks = l; marks = t.marks ++ []; tally = plus t.tally uncounted }) (append-nil t.asks)
+    ∙ ap (λ l. record { text = t.text; asks = t.asks; marks = l; tally = plus t.tally uncounted }) (append-nil t.marks)
+    ∙ ap (λ n. record { text = t.text; asks = t.asks; marks = t.marks; tally = n }) (plus-none t.tally)
 
 pub silent-both : (t : Told) → both silent t ≡ t
-silent-both t = ap (λ l. record { text = t.text; asks = l; tally = plus uncounted t.tally }) (shifted-none t.asks) ∙ ap (λ n. record { text = t.text; asks = t.asks; tally = n }) (none-plus t.tally)
+silent-both t = ap (λ l. record { text = t.text; asks = l; marks = moved 0 t.marks; tally = plus uncounted t.tally }) (shifted-none t.asks)
+    ∙ ap (λ l. record { text = t.text; asks = t.asks; marks = l; tally = plus uncounted t.tally }) (moved-none t.marks)
+    ∙ ap (λ n. record { text = t.text; asks = t.asks; marks = t.marks; tally = n }) (none-plus t.tally)
 
 pub after-silent : (r : Reading) → after silent r ≡ r
 after-silent r = ap (λ t. record { told = t; outcome = r.outcome }) (silent-both r.told)
 
+marks-assoc : (s t u : Told) → (both (both s t) u).marks ≡ (both s (both t u)).marks
+marks-assoc s t u =
+    let j = length s.text in
+    let k = length t.text in
+    append_assoc s.marks (moved j t.marks) (moved (length (s.text ++ t.text)) u.marks)
+    ∙ ap (λ n. s.marks ++ (moved j t.marks ++ moved n u.marks)) (length-append s.text t.text)
+    ∙ ap (λ l. s.marks ++ (moved j t.marks ++ l)) (sym (moved-moved j k u.marks))
+    ∙ ap (λ l. s.marks ++ l) (sym (moved-append j t.marks (moved k u.marks)))
+
 pub both-assoc : (s t u : Told) → both (both s t) u ≡ both s (both t u)
-both-assoc s t u = ap (λ l. record { text = l; asks = (both (both s t) u).asks; tally = plus (plus s.tally t.tally) u.tally }) (append_assoc s.text t.text u.text)
-    ∙ ap (λ l. record { text = s.text ++ (t.text ++ u.text); asks = l; tally = plus (plus s.tally t.tally) u.tally }) (shifted-assoc s t u)
-    ∙ ap (λ n. record { text = s.text ++ (t.text ++ u.text); asks = (both s (both t u)).asks; tally = n }) (plus-assoc s.tally t.tally u.tally)
+both-assoc s t u = ap (λ l. record { text = l; asks = (both (both s t) u).asks; marks = (both (both s t) u).marks; tally = plus (plus s.tally t.tally) u.tally }) (append_assoc s.text t.text u.text)
+    ∙ ap (λ l. record { text = s.text ++ (t.text ++ u.text); asks = l; marks = (both (both s t) u).marks; tally = plus (plus s.tally t.tally) u.tally }) (shifted-assoc s t u)
+    ∙ ap (λ l. record { text = s.text ++ (t.text ++ u.text); asks = (both s (both t u)).asks; marks = l; tally = plus (plus s.tally t.tally) u.tally }) (marks-assoc s t u)
+    ∙ ap (λ n. record { text = s.text ++ (t.text ++ u.text); asks = (both s (both t u)).asks; marks = (both s (both t u)).marks; tally = n }) (plus-assoc s.tally t.tally u.tally)
 
 pub after-both : (s t : Told) (r : Reading) → after s (after t r) ≡ after (both s t) r
 after-both s t r = ap (λ u. record { told = u; outcome = r.outcome }) (sym (both-assoc s t r.told))

@@ -1,17 +1,15 @@
 -- What a run brings that stops behind some bytes, or at the next piece.
-use Rattle.std.proofs.Common.{◌≡◌, ℕ, zero, suc, ◌+◌, ◌≤◌, ◌<◌, List, [], ◌∷◌, ◌++◌, length, take, true, Some, None, Result, Err, inl, inr, ap, sym, ◌∙◌, refl, arith, append-nil, append_assoc, subst}
+use Rattle.std.proofs.Common.{◌≡◌, ℕ, zero, suc, ◌+◌, ◌≤◌, ◌<◌, List, [], ◌∷◌, ◌++◌, length, take, true, Some, None, Result, Err, inl, inr, ap, sym, ◌∙◌, refl, arith, append-nil, append_assoc, length-append, subst}
 use Rattle.std.proofs.Math.Seq.{take-append-add}
-use Rattle.std.proofs.KnownBytes.{Appends-trans}
 use Rattle.std.specs.Io.KnownBytes.{Appends, Consumes}
-use Rattle.mp4_ends.specs.Streams.{AppendsPrefix}
-use Rattle.mp4_ends.proofs.StreamLemmas.{AppendsPrefix-more}
 use Rattle.mp4_ledger.specs.Memory.{Account}
 use Rattle.mp4_ledger.specs.declared.ledger.Refused.{Refused}
 use Rattle.mp4_ledger.specs.declared.ledger.Refused.TheVariants as refusals
 use Rattle.mp4_box.specs.Headers.{IsBytes}
 use Rattle.mp4_box.specs.declared.rules.Fault.{Fault}
 use Rattle.mp4_reading.specs.Accounts.{Counts, Spends}
-use Rattle.mp4_reading.specs.Readings.{Ask, AtMost, greatest, Told, Reading, nothing, uncounted, plus, fault_in, early_in, after, both, asks_for, shifted, most_of}
+use Rattle.mp4_reading.specs.Blocks.{BreaksMarked, IsSent, PassesMarked, unused}
+use Rattle.mp4_reading.specs.Readings.{moved, whole_in, Ask, AtMost, greatest, Told, Reading, nothing, uncounted, plus, fault_in, early_in, after, both, asks_for, shifted, most_of}
 use Rattle.mp4_reading.specs.Pieces.{Outside, Standing, Refuses, Starves, StopsAt, Around, Takes, IsFed, refusal_of}
 use Rattle.mp4_reading.specs.Ends.{Ends}
 use Rattle.mp4_reading.specs.Runs.{Claims, Run, TellsAll, TellsSome, IsPrompt, StarvesAt, ComesUntil, Runs}
@@ -20,7 +18,8 @@ use Rattle.mp4_reading.specs.declared.tally.Tally.{Tally}
 use Rattle.mp4_reading.specs.declared.stop.Stop.TheVariants.{Stream, Read, Write, OverLimit, Memory}
 use Rattle.mp4_reading.proofs.ReadingAskLemmas.{AtMost-behind, AtMost-plus, most-both, plus-none, shifted-append}
 use Rattle.mp4_reading.proofs.AccountLemmas.{Counts-more, Spends-after}
-use Rattle.mp4_reading.proofs.BlockLemmas.{Appends-passed}
+use Rattle.mp4_reading.proofs.BlockLemmas.{Appends-passed, BreaksMarked-passed, PassesMarked-more, whole-sent}
+use Rattle.mp4_reading.proofs.MarkLemmas.{moved-append, moved-none}
 
 -- ---- how much was out
 
@@ -41,10 +40,15 @@ run_of whole b start now ends = record {
   bytes = b;
   ends = ends;
   claims = record { copy = start.account.live; limit = start.account.limit; peak = now.account.peak };
+  fragments = now.waiting.whole;
   tally = now.tally;
 }
 
-module _ (whole : List ℕ → Reading) (b : List ℕ) (start : Outside) (marked : start.account.peak ≡ start.account.live) where
+module _ (whole : List ℕ → Reading) (b : List ℕ) (start : Outside) (fresh : start.waiting ≡ unused) (marked : start.account.peak ≡ start.account.live) where
+  -- at first nothing waited
+  clear : start.waiting.bytes ≡ []
+  clear = ap (λ v. v.bytes) fresh
+
   module _ {now : Outside} {p : Standing} (s : IsFed whole b start now p) where
     -- what all of the bytes are read as
     reads-all : whole b ≡ after (whole b).told (p.reads [])
@@ -58,7 +62,8 @@ module _ (whole : List ℕ → Reading) (b : List ℕ) (start : Outside) (marked
 
     pub fed-tells : (ends : Ends) → ends.written ≡ start.written → ends.written' ≡ now.written → TellsAll (run_of whole b start now ends)
     fed-tells ends from to = record {
-      text = subst (λ w. Appends ends.written w (whole b).told.text) (sym to) (subst (λ w. Appends w now.written (whole b).told.text) (sym from) s.text);
+      text = subst (λ w. Appends ends.written w (whole b).told.text) (sym to) (subst (λ w. Appends w now.written (whole b).told.text) (sym from) (Appends-passed s.text clear s.sent.bytes));
+      fragments = whole-sent (subst (λ v. PassesMarked start.written now.written v now.waiting (whole b).told.text (whole b).told.marks) fresh s.text) s.sent;
       peak = peak-exact start.account now.account p.claim (most_of (whole b).told) marked s.counts;
       tally = s.stands.tally;
     }
@@ -72,7 +77,15 @@ module _ (whole : List ℕ → Reading) (b : List ℕ) (start : Outside) (marked
 
     -- ---- the next piece stops it
 
-    module _ (then : Outside) (piece : List ℕ) (waiting : now.waiting ≡ []) (low : p.claim ≤ now.account.live) where
+    module _ (then : Outside) (piece : List ℕ) (low : p.claim ≤ now.account.live) where
+      -- what was told of the bytes before, and of some more
+      passes-both : (told : Told) → PassesMarked now.written then.written now.waiting then.waiting told.text told.marks → PassesMarked start.written then.written start.waiting then.waiting (both (whole b).told told).text (both (whole b).told told).marks
+      passes-both told q = PassesMarked-more s.text q
+
+      -- so many fragments are whole in it, where all was sent
+      whole-both : (told : Told) → PassesMarked now.written then.written now.waiting then.waiting told.text told.marks → IsSent then.waiting → then.waiting.whole ≡ whole_in (length (both (whole b).told told).text) 0 (both (whole b).told told).marks
+      whole-both told q done = whole-sent (subst (λ v. PassesMarked start.written then.written v then.waiting (both (whole b).told told).text (both (whole b).told told).marks) fresh (passes-both told q)) done
+
       reads-both : whole (b ++ piece) ≡ after (whole b).told (p.reads (piece ++ []))
       reads-both = ap whole (ap (λ l. b ++ l) (sym (append-nil piece))) ∙ s.stands.rest (piece ++ [])
 
@@ -80,12 +93,13 @@ module _ (whole : List ℕ → Reading) (b : List ℕ) (start : Outside) (marked
       counts-both told c = subst (Counts start.account then.account 0 0) (sym (most-both (whole b).told told))
           (Counts-more start.account now.account then.account 0 p.claim 0 (most_of (whole b).told) (most_of told) (omega arith) s.counts c)
 
-      refuses-tells : (f : Fault) (ends : Ends) → ends.written ≡ start.written → ends.written' ≡ then.written → then.waiting ≡ [] → Refuses now then p piece f → TellsAll (run_of whole (b ++ piece) start then ends)
+      refuses-tells : (f : Fault) (ends : Ends) → ends.written ≡ start.written → ends.written' ≡ then.written → IsSent then.waiting → Refuses now then p piece f → TellsAll (run_of whole (b ++ piece) start then ends)
       refuses-tells f ends from to none g =
           let told : (whole (b ++ piece)).told ≡ both (whole b).told g.brought = ap (λ r. r.told) (reads-both ∙ ap (after (whole b).told) (g.rest [])) in
-          let text = Appends-trans start.written now.written then.written (whole b).told.text g.brought.text s.text (Appends-passed g.moves.passes waiting none) in
+          let text = Appends-passed (passes-both g.brought g.moves.passes) clear none.bytes in
           record {
             text = subst (λ t. Appends ends.written ends.written' t.text) (sym told) (subst (λ w. Appends ends.written w ((whole b).told.text ++ g.brought.text)) (sym to) (subst (λ w. Appends w then.written ((whole b).told.text ++ g.brought.text)) (sym from) text));
+            fragments = whole-both g.brought g.moves.passes none ∙ ap (λ t. whole_in (length t.text) 0 t.marks) (sym told);
             peak = peak-exact start.account then.account 0 (most_of (both (whole b).told g.brought)) marked (counts-both g.brought g.moves.counts) ∙ ap (λ t. start.account.live + most_of t) (sym told);
             tally = g.moves.tallied ∙ ap (λ t. plus t g.brought.tally) s.stands.tally ∙ ap (λ t. t.tally) (sym told);
           }
@@ -97,7 +111,7 @@ module _ (whole : List ℕ → Reading) (b : List ℕ) (start : Outside) (marked
       asks_before : Starves now then p piece → List Ask
       asks_before g = (both (whole b).told g.brought).asks
 
-      starves : (ends : Ends) (few : length piece ≤ start.account.live) → ends.written ≡ start.written → ends.written' ≡ then.written → then.waiting ≡ [] → (g : Starves now then p piece)
+      starves : (ends : Ends) (few : length piece ≤ start.account.live) → ends.written ≡ start.written → ends.written' ≡ then.written → IsSent then.waiting → (g : Starves now then p piece)
           → (r : StarvesAt (run_of whole (b ++ piece) start then ends) (prompt-read piece then ends few)) × (r.ask.sum ≡ g.sum)
       starves ends few from to none g =
           let more = (g.behind []).told in
@@ -106,7 +120,7 @@ module _ (whole : List ℕ → Reading) (b : List ℕ) (start : Outside) (marked
           let counted = plus (whole b).told.tally (plus g.brought.tally uncounted) in
           let tally : then.tally ≡ counted = g.moves.tallied ∙ ap (λ t. plus t g.brought.tally) s.stands.tally ∙ ap (plus (whole b).told.tally) (sym (plus-none g.brought.tally)) in
           let told : (whole (b ++ piece)).told ≡ both (whole b).told (both g.brought (both (asks_for g.at g.sum) more)) = ap (λ r. r.told) (reads-both ∙ ap (after (whole b).told) (g.rest [])) in
-          let text = Appends-trans start.written now.written then.written (whole b).told.text g.brought.text s.text (Appends-passed g.moves.passes waiting none) in
+          let text = Appends-passed (passes-both g.brought g.moves.passes) clear none.bytes in
           let front : take (n + (k + 0)) (whole (b ++ piece)).told.text ≡ (whole b).told.text ++ g.brought.text =
           ap (λ t. take (n + (k + 0)) t.text) told
           ∙ take-append-add (whole b).told.text (g.brought.text ++ more.text) (k + 0)
@@ -122,6 +136,16 @@ module _ (whole : List ℕ → Reading) (b : List ℕ) (start : Outside) (marked
               );
               new = (shifted (whole b).told g.brought.asks, refl);
               text = subst (λ l. Appends ends.written ends.written' l) (sym front) (subst (λ w. Appends ends.written w ((whole b).told.text ++ g.brought.text)) (sym to) (subst (λ w. Appends w then.written ((whole b).told.text ++ g.brought.text)) (sym from) text));
+              marks = (both (whole b).told g.brought).marks;
+              marked = (
+                moved n (moved k (both (asks_for g.at g.sum) more).marks),
+                ap (λ t. t.marks) told
+                    ∙ ap (λ l. (whole b).told.marks ++ l) (moved-append n g.brought.marks (moved k (both (asks_for g.at g.sum) more).marks))
+                    ∙ sym (append_assoc (whole b).told.marks (moved n g.brought.marks) _),
+              );
+              fragments =
+                  let len : length ((whole b).told.text ++ g.brought.text) ≡ n + (k + 0) = omega (arith, length-append (whole b).told.text g.brought.text) in
+                  whole-both g.brought g.moves.passes none ∙ ap (λ l. whole_in l 0 (both (whole b).told g.brought).marks) len;
               peak = peak-exact start.account then.account 0 (greatest ((whole b).told.asks ++ shifted (whole b).told g.brought.asks)) marked (counts-both g.brought g.moves.counts);
               tally = tally;
               most = subst (λ t. AtMost t (whole (b ++ piece)).told.tally) (sym tally) (subst (λ t. AtMost counted t.tally) (sym told) (AtMost-behind (whole b).told.tally (plus g.brought.tally uncounted) (plus g.brought.tally (plus uncounted more.tally)) (AtMost-behind g.brought.tally uncounted (plus uncounted more.tally) (AtMost-plus uncounted more.tally))));
@@ -133,32 +157,34 @@ module _ (whole : List ℕ → Reading) (b : List ℕ) (start : Outside) (marked
       loses ends from to g =
           let r = p.reads (piece ++ []) in
           let told : (whole (b ++ piece)).told ≡ both (whole b).told r.told = ap (λ r. r.told) reads-both in
-          let text = AppendsPrefix-more start.written now.written then.written (whole b).told.text r.told.text s.text (subst (λ l. AppendsPrefix now.written then.written (l ++ r.told.text)) waiting (g []).text) in
+          let broken = subst (λ t. BreaksMarked start.written then.written start.waiting then.waiting t.text t.marks) (sym told) (BreaksMarked-passed s.text (g []).text) in
+          let lost = subst (λ v. BreaksMarked start.written then.written v then.waiting (whole (b ++ piece)).told.text (whole (b ++ piece)).told.marks) fresh broken in
           let spends = subst (Spends start.account then.account 0 0) (sym (most-both (whole b).told r.told) ∙ ap most_of (sym told))
           (Spends-after start.account now.account then.account 0 p.claim 0 (most_of (whole b).told) (most_of r.told) (omega arith) s.counts (g []).spends) in
           record {
-            text = subst (λ t. AppendsPrefix ends.written ends.written' t.text) (sym told) (subst (λ w. AppendsPrefix ends.written w ((whole b).told.text ++ r.told.text)) (sym to) (subst (λ w. AppendsPrefix w then.written ((whole b).told.text ++ r.told.text)) (sym from) text));
+            text = (lost.front, lost.rest, subst (λ w. Appends ends.written w lost.front) (sym to) (subst (λ w. Appends w then.written lost.front) (sym from) lost.written), lost.all);
+            fragments = lost.whole ∙ ap (λ l. whole_in (length lost.front) 0 l) (moved-none (whole (b ++ piece)).told.marks);
             least = omega (arith, spends.at_least, marked);
             most = peak-most start.account then.account 0 (most_of (whole (b ++ piece)).told) marked spends;
             counted = subst (AtMost then.tally) (ap (λ t. plus t r.told.tally) s.stands.tally ∙ ap (λ t. t.tally) (sym told)) (g []).most;
           }
 
       -- how it stops
-      pub fed-stops : (ends : Ends) (few : length piece ≤ start.account.live) → ends.written ≡ start.written → ends.written' ≡ then.written → then.waiting ≡ [] → (e : Stop) → (e ≡ Write → ends.write_failed' ≡ true) → StopsAt now then p piece e
+      pub fed-stops : (ends : Ends) (few : length piece ≤ start.account.live) → ends.written ≡ start.written → ends.written' ≡ then.written → (e : Stop) → ((e ≡ Write → ⊥) → IsSent then.waiting) → (e ≡ Write → ends.write_failed' ≡ true) → StopsAt now then p piece e
           → ComesUntil (run_of whole (b ++ piece) start then ends) (prompt-read piece then ends few) e
       unfolding starves
-      fed-stops ends few from to none (Stream f) failed g =
+      fed-stops ends few from to (Stream f) none failed g =
           let is = ap (λ r. r.outcome) (reads-both ∙ ap (after (whole b).told) (g.rest [])) in (
-            refuses-tells f ends from to none g,
+            refuses-tells f ends from to (none (λ is. absurd cc)) g,
             ap fault_in is,
             λ none. let some : early_in (whole (b ++ piece)).outcome ≡ Some f = ap early_in is in absurd cc,
           )
-      fed-stops ends few from to none (Read at) failed g = absurd g
-      fed-stops ends few from to none Write failed g = (loses ends from to g, failed refl)
-      fed-stops ends few from to none OverLimit failed (g, far) =
-          let asked = starves ends few from to none g in inr (asked.0, omega (arith, far, asked.1, g.moves.counts.live, s.counts.live, g.moves.counts.limit, s.counts.limit, low))
-      fed-stops ends few from to none Memory failed (g, near) =
-          let asked = starves ends few from to none g in inr (asked.0, omega (arith, near, asked.1, g.moves.counts.live, s.counts.live, g.moves.counts.limit, s.counts.limit, low))
+      fed-stops ends few from to (Read at) none failed g = absurd g
+      fed-stops ends few from to Write none failed g = (loses ends from to g, failed refl)
+      fed-stops ends few from to OverLimit none failed (g, far) =
+          let asked = starves ends few from to (none (λ is. absurd cc)) g in inr (asked.0, omega (arith, far, asked.1, g.moves.counts.live, s.counts.live, g.moves.counts.limit, s.counts.limit, low))
+      fed-stops ends few from to Memory none failed (g, near) =
+          let asked = starves ends few from to (none (λ is. absurd cc)) g in inr (asked.0, omega (arith, near, asked.1, g.moves.counts.live, s.counts.live, g.moves.counts.limit, s.counts.limit, low))
 
 -- ---- a call that stops
 
@@ -175,11 +201,11 @@ pub takes-left : {T : Type 0} {around : Around} {p : Standing} {piece : List ℕ
 takes-left {around = around} {p = p} {piece = piece} {e = e} low t = left_by around.before around.behind p (piece ++ []) e low (t.err [])
 
 -- and so does a run that was fed the bytes before
-pub fed-takes : {T : Type 0} {around : Around} {p : Standing} {piece : List ℕ} {taken : T → List ℕ} {new : T → Standing} {e : Stop} (whole : List ℕ → Reading) (b : List ℕ) (start : Outside) (marked : start.account.peak ≡ start.account.live) (s : IsFed whole b start around.before p) → around.before.waiting ≡ [] → p.claim ≤ around.before.account.live
-    → (ends : Ends) (few : length piece ≤ start.account.live) → ends.written ≡ start.written → ends.written' ≡ around.behind.written → around.behind.waiting ≡ [] → ends.write_failed' ≡ around.failed' → Takes around p piece taken new (Err e)
-    → ComesUntil (run_of whole (b ++ piece) start around.behind ends) (prompt-read whole b start marked s piece around.behind ends few) e
-fed-takes {around = around} {p = p} {piece = piece} {e = e} whole b start marked s waiting low ends few from to none failed t =
-    fed-stops whole b start marked s around.behind piece waiting low ends few from to none e (λ is. failed ∙ t.failed (ap Err is)) (subst (λ l. StopsAt around.before around.behind p l e) (append-nil piece) (t.err []))
+pub fed-takes : {T : Type 0} {around : Around} {p : Standing} {piece : List ℕ} {taken : T → List ℕ} {new : T → Standing} {e : Stop} (whole : List ℕ → Reading) (b : List ℕ) (start : Outside) (fresh : start.waiting ≡ unused) (marked : start.account.peak ≡ start.account.live) (s : IsFed whole b start around.before p) → p.claim ≤ around.before.account.live
+    → (ends : Ends) (few : length piece ≤ start.account.live) → ends.written ≡ start.written → ends.written' ≡ around.behind.written → ((e ≡ Write → ⊥) → IsSent around.behind.waiting) → ends.write_failed' ≡ around.failed' → Takes around p piece taken new (Err e)
+    → ComesUntil (run_of whole (b ++ piece) start around.behind ends) (prompt-read whole b start fresh marked s piece around.behind ends few) e
+fed-takes {around = around} {p = p} {piece = piece} {e = e} whole b start fresh marked s low ends few from to none failed t =
+    fed-stops whole b start fresh marked s around.behind piece low ends few from to e none (λ is. failed ∙ t.failed (ap Err is)) (subst (λ l. StopsAt around.before around.behind p l e) (append-nil piece) (t.err []))
 
 -- bytes behind bytes
 pub bytes-more : (a b : List ℕ) → IsBytes a → IsBytes b → IsBytes (a ++ b)
@@ -190,29 +216,37 @@ bytes-more (x ∷ a) b fits more (suc i) = bytes-more a b (λ j. fits (suc j)) m
 -- ---- a run whose bytes to read into were refused
 
 pub idle-stops : {T : Type 0} (whole : List ℕ → Reading) (ends : Ends) (claims : Claims) (live : ℕ) (r : Refused) → whole [] ≡ nothing → Consumes ends.left ends.left' [] → Appends ends.written ends.written' [] → ends.write_failed' ≡ ends.write_failed → live ≡ 0 → claims.peak ≡ live
-    → (r ≡ refusals.OverLimit → claims.limit < live + claims.copy) → (r ≡ refusals.Memory → live + claims.copy ≤ claims.limit) → Runs {T = T} whole ends claims uncounted (Err (refusal_of r))
-idle-stops whole ends claims live refusals.OverLimit none given kept failed idle peak over within = record {
-  bytes = [];
-  fits = λ i. omega arith;
-  given = given;
-  prompt = record { early = []; last = []; cut = refl; few = omega arith; undecided = ap (λ r. early_in r.outcome) none };
-  comes = inl (record { bytes = refl; text = kept; peak = peak ∙ idle; tally = refl }, omega (arith, over refl, idle));
-  kept = λ _. failed;
-}
-idle-stops whole ends claims live refusals.Memory none given kept failed idle peak over within = record {
-  bytes = [];
-  fits = λ i. omega arith;
-  given = given;
-  prompt = record { early = []; last = []; cut = refl; few = omega arith; undecided = ap (λ r. early_in r.outcome) none };
-  comes = inl (record { bytes = refl; text = kept; peak = peak ∙ idle; tally = refl }, omega (arith, within refl, idle));
-  kept = λ _. failed;
-}
+    → (r ≡ refusals.OverLimit → claims.limit < live + claims.copy) → (r ≡ refusals.Memory → live + claims.copy ≤ claims.limit) → (run : Runs {T = T} whole ends claims uncounted (Err (refusal_of r))) × (run.fragments ≡ 0)
+idle-stops whole ends claims live refusals.OverLimit none given kept failed idle peak over within = (
+  record {
+    bytes = [];
+    fits = λ i. omega arith;
+    given = given;
+    fragments = 0;
+    prompt = record { early = []; last = []; cut = refl; few = omega arith; undecided = ap (λ r. early_in r.outcome) none };
+    comes = inl (record { bytes = refl; text = kept; peak = peak ∙ idle; tally = refl }, omega (arith, over refl, idle));
+    kept = λ _. failed;
+  },
+  refl,
+)
+idle-stops whole ends claims live refusals.Memory none given kept failed idle peak over within = (
+  record {
+    bytes = [];
+    fits = λ i. omega arith;
+    given = given;
+    fragments = 0;
+    prompt = record { early = []; last = []; cut = refl; few = omega arith; undecided = ap (λ r. early_in r.outcome) none };
+    comes = inl (record { bytes = refl; text = kept; peak = peak ∙ idle; tally = refl }, omega (arith, within refl, idle));
+    kept = λ _. failed;
+  },
+  refl,
+)
 
 -- ---- the same claims by other names
 
-pub Runs-same : {T : Type 0} {whole : List ℕ → Reading} {ends : Ends} {tally : Tally} {copy copy' limit limit' peak peak' : ℕ} {result : Result T Stop} → copy ≡ copy' → limit ≡ limit' → peak ≡ peak'
-    → Runs whole ends (record { copy = copy; limit = limit; peak = peak }) tally result → Runs whole ends (record { copy = copy'; limit = limit'; peak = peak' }) tally result
-Runs-same {whole = whole} {ends = ends} {tally = tally} {copy = copy} {copy' = copy'} {limit = limit} {limit' = limit'} {peak = peak} {result = result} e f g run =
-    subst (λ n. Runs whole ends (record { copy = copy'; limit = limit'; peak = n }) tally result) g
-    (subst (λ n. Runs whole ends (record { copy = copy'; limit = n; peak = peak }) tally result) f
-    (subst (λ n. Runs whole ends (record { copy = n; limit = limit; peak = peak }) tally result) e run))
+pub Runs-same : {T : Type 0} {whole : List ℕ → Reading} {ends : Ends} {tally : Tally} {copy copy' limit limit' peak peak' n : ℕ} {result : Result T Stop} → copy ≡ copy' → limit ≡ limit' → peak ≡ peak'
+    → ((run : Runs whole ends (record { copy = copy; limit = limit; peak = peak }) tally result) × (run.fragments ≡ n)) → (run : Runs whole ends (record { copy = copy'; limit = limit'; peak = peak' }) tally result) × (run.fragments ≡ n)
+Runs-same {whole = whole} {ends = ends} {tally = tally} {copy = copy} {copy' = copy'} {limit = limit} {limit' = limit'} {peak = peak} {n = n} {result = result} e f g run =
+    subst (λ k. (run : Runs whole ends (record { copy = copy'; limit = limit'; peak = k }) tally result) × (run.fragments ≡ n)) g
+    (subst (λ k. (run : Runs whole ends (record { copy = copy'; limit = k; peak = peak }) tally result) × (run.fragments ≡ n)) f
+    (subst (λ k. (run : Runs whole ends (record { copy = k; limit = limit; peak = peak }) tally result) × (run.fragments ≡ n)) e run))

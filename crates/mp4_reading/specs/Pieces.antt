@@ -1,13 +1,11 @@
 -- What a machine brings that is fed a stream piece by piece, whatever it reads.
 use Rattle.std.specs.Prelude.{◌≡◌, ℕ, ◌+◌, ◌<◌, ◌≤◌, List, [], ◌++◌, length, Bool, true, Option, None, Result, IfOk, IfErr, IsErrOf}
-use Rattle.std.specs.Io.KnownBytes.{Appends}
-use Rattle.mp4_ends.specs.Streams.{AppendsPrefix}
 use Rattle.mp4_box.specs.declared.rules.Fault.{Fault}
 use Rattle.mp4_ledger.specs.Memory.{Account}
 use Rattle.mp4_ledger.specs.declared.ledger.Refused.{Refused}
 use Rattle.mp4_ledger.specs.declared.ledger.Refused.TheVariants as refusals
 use Rattle.mp4_reading.specs.Accounts.{Counts, Spends}
-use Rattle.mp4_reading.specs.Blocks.{Passes}
+use Rattle.mp4_reading.specs.Blocks.{BreaksMarked, IsSent, PassesMarked, Pending}
 use Rattle.mp4_reading.specs.Bodies.{longest}
 use Rattle.mp4_reading.specs.Ends.{Sent}
 use Rattle.mp4_reading.specs.Readings.{AtMost, plus, uncounted, nothing, Told, silent, asks_for, most_of, Reading, Faulty, early_in, after}
@@ -18,7 +16,7 @@ use Rattle.mp4_reading.specs.declared.tally.Tally.{Tally}
 -- what is outside a machine: what its writer was given, the bytes that wait to be sent, the account of its ledger, and what it has counted
 pub record Outside : Type 0 where
   pub written : Option (List ℕ)
-  pub waiting : List ℕ
+  pub waiting : Pending
   pub account : Account
   pub tally : Tally
 
@@ -48,7 +46,7 @@ pub record IsBegun (p : Standing) (tally : Tally) : Type 0 where
 
 -- what is outside moved by what was told: `own` bytes of what is out were the machine's, and now `own'` are
 pub record Moves (o o' : Outside) (own own' : ℕ) (told : Told) : Type 0 where
-  pub passes : Passes o.written o'.written o.waiting o'.waiting told.text
+  pub passes : PassesMarked o.written o'.written o.waiting o'.waiting told.text told.marks
   pub counts : Counts o.account o'.account own own' (most_of told)
   pub tallied : o'.tally ≡ plus o.tally told.tally
 
@@ -76,7 +74,7 @@ pub record Starves (o o' : Outside) (old : Standing) (piece : List ℕ) : Type 0
 
 -- a write failed before all that a reading tells was written
 pub record Loses (o o' : Outside) (own : ℕ) (r : Reading) : Type 0 where
-  pub text : AppendsPrefix o.written o'.written (o.waiting ++ r.told.text)
+  pub text : BreaksMarked o.written o'.written o.waiting o'.waiting r.told.text r.told.marks
   pub spends : Spends o.account o'.account own 0 (most_of r.told)
   pub least : AtMost o.tally o'.tally
   pub most : AtMost o'.tally (plus o.tally r.told.tally)
@@ -96,7 +94,7 @@ refusal_of refusals.Memory = Memory
 
 -- ---- a call
 
-abbrev pub outside : Option (List ℕ) → List ℕ → Account → Tally → Outside
+abbrev pub outside : Option (List ℕ) → Pending → Account → Tally → Outside
 outside written waiting account tally = record { written = written; waiting = waiting; account = account; tally = tally }
 
 -- what is outside before and behind a call, and whether the writer had failed and has
@@ -107,7 +105,7 @@ pub record Around : Type 0 where
   pub failed' : Bool
 
 -- a call that is lent a writer, a block, a ledger and a tally, by what they were and are
-abbrev pub around : Sent → (waiting waiting' : List ℕ) → (account account' : Account) → (tally tally' : Tally) → Around
+abbrev pub around : Sent → (waiting waiting' : Pending) → (account account' : Account) → (tally tally' : Tally) → Around
 around s waiting waiting' account account' tally tally' = record {
   before = outside s.written waiting account tally;
   behind = outside s.written' waiting' account' tally';
@@ -134,5 +132,6 @@ pub record Stands (whole : List ℕ → Reading) (b : List ℕ) (p : Standing) (
 pub record IsFed (whole : List ℕ → Reading) (b : List ℕ) (start now : Outside) (p : Standing) : Type 0 where
   pub stands : Stands whole b p now.tally
   pub quiet : IsQuiet p
-  pub text : Appends start.written now.written (whole b).told.text
+  pub text : PassesMarked start.written now.written start.waiting now.waiting (whole b).told.text (whole b).told.marks
+  pub sent : IsSent now.waiting
   pub counts : Counts start.account now.account 0 p.claim (most_of (whole b).told)

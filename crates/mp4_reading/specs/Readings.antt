@@ -1,6 +1,7 @@
 -- A stream that is read item by item, whatever its items are.
-use Rattle.std.specs.Prelude.{◌≡◌, ℕ, zero, suc, ◌+◌, ◌≤◌, List, [], ◌∷◌, ◌++◌, length, max, Option, None, Some}
+use Rattle.std.specs.Prelude.{◌≡◌, ℕ, zero, suc, ◌+◌, ◌≤◌, List, [], ◌∷◌, ◌++◌, length, max, nat_lt, if◌then◌else◌, Option, None, Some}
 use Rattle.mp4_box.specs.declared.rules.Fault.{Fault}
+use Rattle.mp4_reading.specs.declared.mark.Mark.{Mark}
 use Rattle.mp4_reading.specs.declared.tally.Tally.{Tally}
 
 -- ---- how the reading of some bytes ends
@@ -40,6 +41,21 @@ pub record AtMost (s t : Tally) : Type 0 where
   pub media_bytes : s.media_bytes ≤ t.media_bytes
   pub walked : s.walked ≤ t.walked
 
+-- ---- where fragments end in a text
+
+-- the same, in a text with n bytes before it
+abbrev pub moved_by : ℕ → Mark → Mark
+moved_by n m = record { end = n + m.end; count = m.count }
+
+abbrev pub moved : ℕ → List Mark → List Mark
+moved n [] = []
+moved n (m ∷ marks) = moved_by n m ∷ moved n marks
+
+-- how many fragments are whole in the first n bytes of a text: what the last mark says that lies in them, else `before`
+abbrev pub whole_in : (n before : ℕ) → List Mark → ℕ
+whole_in n before [] = before
+whole_in n before (m ∷ marks) = whole_in n (if nat_lt n m.end then before else m.count) marks
+
 -- ---- what is told of some bytes
 
 -- a box asks for memory: the offset where it begins, how many bytes are out for the machine with what it asks for, how many bytes of text are told before, and what is counted before
@@ -54,26 +70,27 @@ abbrev pub greatest : List Ask → ℕ
 greatest [] = 0
 greatest (a ∷ asks) = max a.sum (greatest asks)
 
--- the text that they determine, what their boxes ask for in order, and what is counted
+-- the text that they determine, what their boxes ask for in order, where fragments end in the text, and what is counted
 pub record Told : Type 0 where
   pub text : List ℕ
   pub asks : List Ask
+  pub marks : List Mark
   pub tally : Tally
 
 abbrev pub silent : Told
-silent = record { text = []; asks = []; tally = uncounted }
+silent = record { text = []; asks = []; marks = []; tally = uncounted }
 
 -- a text
 abbrev pub says : List ℕ → Told
-says text = record { text = text; asks = []; tally = uncounted }
+says text = record { text = text; asks = []; marks = []; tally = uncounted }
 
 -- nothing, but this is counted
 abbrev pub counts : Tally → Told
-counts tally = record { text = []; asks = []; tally = tally }
+counts tally = record { text = []; asks = []; marks = []; tally = tally }
 
 -- a box at an offset asks for memory, with which so much is out
 abbrev pub asks_for : (at sum : ℕ) → Told
-asks_for at sum = record { text = []; asks = record { at = at; sum = sum; behind = 0; counted = uncounted } ∷ []; tally = uncounted }
+asks_for at sum = record { text = []; asks = record { at = at; sum = sum; behind = 0; counted = uncounted } ∷ []; marks = []; tally = uncounted }
 
 -- what a box asks for, behind what was told before
 abbrev pub shifted_by : Told → Ask → Ask
@@ -85,7 +102,7 @@ shifted s (a ∷ asks) = shifted_by s a ∷ shifted s asks
 
 -- one after the other
 abbrev pub both : Told → Told → Told
-both s t = record { text = s.text ++ t.text; asks = s.asks ++ shifted s t.asks; tally = plus s.tally t.tally }
+both s t = record { text = s.text ++ t.text; asks = s.asks ++ shifted s t.asks; marks = s.marks ++ moved (length s.text) t.marks; tally = plus s.tally t.tally }
 
 -- the most that is out at once
 abbrev pub most_of : Told → ℕ

@@ -4,7 +4,8 @@ use Rattle.std.specs.Io.KnownBytes.{Appends, Consumes}
 use Rattle.mp4_box.specs.Headers.{IsBytes}
 use Rattle.mp4_ends.specs.Streams.{AppendsPrefix}
 use Rattle.mp4_reading.specs.Ends.{Ends}
-use Rattle.mp4_reading.specs.Readings.{Ask, AtMost, greatest, most_of, Reading, fault_in, early_in, IsPrefix, uncounted}
+use Rattle.mp4_reading.specs.Readings.{Ask, AtMost, greatest, most_of, Reading, fault_in, early_in, IsPrefix, uncounted, whole_in}
+use Rattle.mp4_reading.specs.declared.mark.Mark.{Mark}
 use Rattle.mp4_reading.specs.declared.stop.Stop.{Stop}
 use Rattle.mp4_reading.specs.declared.stop.Stop.TheVariants.{Stream, Read, Write, OverLimit, Memory}
 use Rattle.mp4_reading.specs.declared.tally.Tally.{Tally}
@@ -15,12 +16,13 @@ pub record Claims : Type 0 where
   pub limit : ℕ
   pub peak : ℕ
 
--- a run: what bytes from the first on are read as, those that it was given, and what is seen of it
+-- a run: what bytes from the first on are read as, those that it was given, and what is seen of it: its ends, its claims, how many marked fragments are whole in what was written, and what is counted
 pub record Run : Type 0 where
   pub whole : List ℕ → Reading
   pub bytes : List ℕ
   pub ends : Ends
   pub claims : Claims
+  pub fragments : ℕ
   pub tally : Tally
 
 abbrev pub reading_of : Run → Reading
@@ -28,9 +30,10 @@ reading_of run = run.whole run.bytes
 
 -- ---- what a run brings
 
--- all that is told of the bytes was written, claimed and counted
+-- all that is told of the bytes was written, claimed and counted, and so were the fragments in it
 pub record TellsAll (run : Run) : Type 0 where
   pub text : Appends run.ends.written run.ends.written' (reading_of run).told.text
+  pub fragments : run.fragments ≡ whole_in (length (reading_of run).told.text) 0 (reading_of run).told.marks
   pub peak : run.claims.peak ≡ run.claims.copy + most_of (reading_of run).told
   pub tally : run.tally ≡ (reading_of run).told.tally
 
@@ -42,20 +45,24 @@ pub record IsPrompt (run : Run) : Type 0 where
   pub few : length last ≤ run.claims.copy
   pub undecided : early_in (run.whole early).outcome ≡ None
 
--- a prefix of the text was written, and no more was claimed than is asked for, or counted than there is
+-- a prefix of the text was written, and it is known how many fragments are whole in it; no more was claimed than is asked for, or counted than there is
 pub record TellsSome (run : Run) : Type 0 where
   pub text : AppendsPrefix run.ends.written run.ends.written' (reading_of run).told.text
+  pub fragments : run.fragments ≡ whole_in (length text.0) 0 (reading_of run).told.marks
   pub least : run.claims.copy ≤ run.claims.peak
   pub most : run.claims.peak ≤ run.claims.copy + most_of (reading_of run).told
   pub counted : AtMost run.tally (reading_of run).told.tally
 
--- one of what the boxes ask for was refused, which the bytes of the last read brought: what is asked for before was claimed, exactly the text before was written, and what is before was counted
+-- one of what the boxes ask for was refused, which the bytes of the last read brought: what is asked for before was claimed, exactly the text before was written, of whose fragments it is known how many are whole, and what is before was counted
 pub record StarvesAt (run : Run) (prompt : IsPrompt run) : Type 0 where
   pub ask : Ask
   pub before : List Ask
   pub asked : (behind : List Ask) × ((reading_of run).told.asks ≡ before ++ ask ∷ behind)
   pub new : IsPrefix (run.whole prompt.early).told.asks before
   pub text : Appends run.ends.written run.ends.written' (take ask.behind (reading_of run).told.text)
+  pub marks : List Mark
+  pub marked : (behind : List Mark) × ((reading_of run).told.marks ≡ marks ++ behind)
+  pub fragments : run.fragments ≡ whole_in ask.behind 0 marks
   pub peak : run.claims.peak ≡ run.claims.copy + greatest before
   pub tally : run.tally ≡ ask.counted
   pub most : AtMost run.tally (reading_of run).told.tally
@@ -87,6 +94,7 @@ pub record Runs {T : Type 0} (whole : List ℕ → Reading) (ends : Ends) (claim
   pub bytes : List ℕ
   pub fits : IsBytes bytes
   pub given : Consumes ends.left ends.left' bytes
-  pub prompt : IsPrompt (record { whole = whole; bytes = bytes; ends = ends; claims = claims; tally = tally })
-  pub comes : Comes (record { whole = whole; bytes = bytes; ends = ends; claims = claims; tally = tally }) prompt result
+  pub fragments : ℕ
+  pub prompt : IsPrompt (record { whole = whole; bytes = bytes; ends = ends; claims = claims; fragments = fragments; tally = tally })
+  pub comes : Comes (record { whole = whole; bytes = bytes; ends = ends; claims = claims; fragments = fragments; tally = tally }) prompt result
   pub kept : (IsErrOf result Write → ⊥) → ends.write_failed' ≡ ends.write_failed

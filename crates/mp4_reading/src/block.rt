@@ -1,10 +1,12 @@
 //! Bytes on their way to a sink.
 
-ghost use Rattle.std.specs.Prelude.{◌≡◌, ℕ, List, ◌+◌, ◌<◌, ◌≤◌, [], ◌++◌, length, true, OnOk, OnErr};
-ghost use Rattle.mp4_ends.specs.Streams.{AppendsPrefix};
-ghost use Rattle.mp4_reading.specs.Blocks.{Passes};
+ghost use Rattle.std.specs.Prelude.{◌≡◌, ℕ, List, ◌+◌, ◌<◌, ◌≤◌, [], ◌∷◌, ◌++◌, length, true, OnOk, OnErr};
+ghost use Rattle.mp4_reading.specs.Blocks.{Breaks, BreaksMarked, IsSent, Passes, PassesMarked, unused};
+ghost use Rattle.mp4_reading.specs.Readings.{whole_in};
 
-use mp4_ends::{Failed, Sink, write_all};
+use crate::mark::Mark;
+use arrayvec::ArrayVec;
+use mp4_ends::{Failed, Sink, write_front};
 use mp4_lines::Text;
 use std::marker::Model;
 
@@ -13,6 +15,9 @@ const LARGE: usize = 4096;
 
 /// So many bytes may wait in a block.
 pub const BLOCK_BYTES: usize = 16_384;
+
+/// So many ends of fragments may wait with them.
+const MOST_ENDS: usize = 160;
 
 /// The most bytes of a line.
 pub const LINE_BYTES: usize = 256;
@@ -28,49 +33,126 @@ pub trait Line {
         ensures { block.new ≡ block.old ++ text self.now };
 }
 
-/// Gathers bytes, so that a sink is given few large writes.
+/// Gathers bytes, so that a sink is given few large writes, and knows of how many fragments the sink has all bytes.
 #[derive(Drop)]
 pub struct Block {
     waiting: Text<BLOCK_BYTES>,
+    ends: ArrayVec<Mark, MOST_ENDS>,
+    whole: u64,
 }
 
-// A contract sees the bytes that wait.
+// A contract sees the bytes that wait, where fragments end in them, and how many are whole in what was sent.
 impl Model for Block {
-    ghost Value = { List ℕ };
+    ghost use Rattle.std.specs.Prelude.{◌≤◌, length};
+    ghost use Rattle.std.specs.List.{AllByRecursion};
+    ghost use Rattle.mp4_reading.specs.Blocks.{Pending};
 
-    ghost view = { λ b. b.waiting };
+    ghost Value = { Pending };
+
+    ghost view = { λ b. record { bytes = b.waiting; ends = b.ends.items; whole = b.whole } };
+
+    ghost invariant = { λ b. AllByRecursion (λ m. m.end ≤ length b.waiting) b.ends.items };
 }
 
 impl Block {
     /// A block in which nothing waits.
     pub fn new() -> Self
-        ensures { result ≡ [] }
+        ensures { result ≡ unused }
     {
         Block {
             waiting: Text::new(),
+            ends: ArrayVec::new(),
+            whole: 0,
         }
+    }
+
+    /// How many fragments are whole in what was sent.
+    pub fn whole(&self) -> u64
+        ensures { result ≡ self.now.whole }
+    {
+        self.whole
     }
 
     /// Sends all that waits.
     pub fn send<W: Sink>(&mut self, w: &mut W) -> Result<(), Failed>
         ensures ok { OnOk result (Passes (W.contents w.old) (W.contents w.new) self.old self.new
             []) }
-        ensures empty { OnOk result (self.new ≡ []) }
-        ensures err { OnErr result (AppendsPrefix (W.contents w.old) (W.contents w.new) self.old) }
+        ensures sent { OnOk result (IsSent self.new) }
+        ensures err { OnErr result (Breaks (W.contents w.old) (W.contents w.new) self.old self.new
+            []) }
         ensures failed { OnErr result (W.has_failed w.new ≡ true) }
         ensures kept { OnOk result (W.has_failed w.new ≡ W.has_failed w.old) }
     {
-        write_all(w, self.waiting.bytes())?;
-        self.waiting.clear();
+        match write_front(w, self.waiting.bytes()) {
+            Ok(()) => {
+                self.whole = self.whole_in_first(self.waiting.len());
+                self.ends.clear();
+                self.waiting.clear();
+                Ok(())
+            }
+            Err(short) => {
+                self.whole = self.whole_in_first(short.taken);
+                Err(Failed)
+            }
+        }
+    }
+
+    /// How many fragments are whole where the first `n` bytes of those that wait are sent.
+    fn whole_in_first(&self, n: usize) -> u64
+        ensures { result ≡ whole_in n self.now.whole self.now.ends }
+    {
+        let mut whole = self.whole;
+        for mark in self.ends.iter() {
+            if mark.end <= n {
+                whole = mark.count;
+            }
+        }
+        whole
+    }
+
+    /// Says that `count` fragments are whole in all that was put. Where too many ends wait, what waits is sent first.
+    pub fn mark<W: Sink>(&mut self, w: &mut W, count: u64) -> Result<(), Failed>
+        ensures ok { OnOk result (PassesMarked (W.contents w.old) (W.contents w.new) self.old
+            self.new [] (record { end = 0; count = count } ∷ [])) }
+        ensures err { OnErr result (BreaksMarked (W.contents w.old) (W.contents w.new) self.old
+            self.new [] (record { end = 0; count = count } ∷ [])) }
+        ensures failed { OnErr result (W.has_failed w.new ≡ true) }
+        ensures kept { OnOk result (W.has_failed w.new ≡ W.has_failed w.old) }
+    {
+        match self.make_room_for_end(w) {
+            Ok(()) => {}
+            Err(Failed) => return Err(Failed),
+        }
+        self.ends.push(Mark {
+            end: self.waiting.len(),
+            count,
+        });
         Ok(())
+    }
+
+    /// Makes room for the end of a fragment: where there is none, what waits is sent.
+    #[inline(always)]
+    fn make_room_for_end<W: Sink>(&mut self, w: &mut W) -> Result<(), Failed>
+        ensures ok { OnOk result (Passes (W.contents w.old) (W.contents w.new) self.old self.new
+            []) }
+        ensures room { OnOk result (length self.new.ends < MOST_ENDS) }
+        ensures err { OnErr result (Breaks (W.contents w.old) (W.contents w.new) self.old self.new
+            []) }
+        ensures failed { OnErr result (W.has_failed w.new ≡ true) }
+        ensures kept { OnOk result (W.has_failed w.new ≡ W.has_failed w.old) }
+    {
+        if self.ends.len() < MOST_ENDS {
+            return Ok(());
+        }
+        self.send(w)
     }
 
     /// Puts these bytes behind those that wait. Where they don't fit, what waits is sent first.
     pub fn put<W: Sink>(&mut self, w: &mut W, bytes: &[u8]) -> Result<(), Failed>
         ensures ok { OnOk result (Passes (W.contents w.old) (W.contents w.new) self.old self.new
             bytes.now) }
-        ensures err { OnErr result (AppendsPrefix (W.contents w.old) (W.contents w.new)
-            (self.old ++ bytes.now)) }
+        ensures err { OnErr result (Breaks (W.contents w.old) (W.contents w.new) self.old self.new
+            bytes.now) }
         ensures failed { OnErr result (W.has_failed w.new ≡ true) }
         ensures kept { OnOk result (W.has_failed w.new ≡ W.has_failed w.old) }
     {
@@ -86,8 +168,8 @@ impl Block {
     pub fn put_line<L: Line, W: Sink>(&mut self, w: &mut W, line: &L) -> Result<(), Failed>
         ensures ok { OnOk result (Passes (W.contents w.old) (W.contents w.new) self.old self.new
             (L.text line.now)) }
-        ensures err { OnErr result (AppendsPrefix (W.contents w.old) (W.contents w.new)
-            (self.old ++ L.text line.now)) }
+        ensures err { OnErr result (Breaks (W.contents w.old) (W.contents w.new) self.old self.new
+            (L.text line.now)) }
         ensures failed { OnErr result (W.has_failed w.new ≡ true) }
         ensures kept { OnOk result (W.has_failed w.new ≡ W.has_failed w.old) }
     {
@@ -104,8 +186,9 @@ impl Block {
     fn make_room<W: Sink>(&mut self, w: &mut W) -> Result<(), Failed>
         ensures ok { OnOk result (Passes (W.contents w.old) (W.contents w.new) self.old self.new
             []) }
-        ensures room { OnOk result (length self.new + LINE_BYTES ≤ BLOCK_BYTES) }
-        ensures err { OnErr result (AppendsPrefix (W.contents w.old) (W.contents w.new) self.old) }
+        ensures room { OnOk result (length self.new.bytes + LINE_BYTES ≤ BLOCK_BYTES) }
+        ensures err { OnErr result (Breaks (W.contents w.old) (W.contents w.new) self.old self.new
+            []) }
         ensures failed { OnErr result (W.has_failed w.new ≡ true) }
         ensures kept { OnOk result (W.has_failed w.new ≡ W.has_failed w.old) }
     {
@@ -118,8 +201,8 @@ impl Block {
     fn send_and_put<W: Sink>(&mut self, w: &mut W, bytes: &[u8]) -> Result<(), Failed>
         ensures ok { OnOk result (Passes (W.contents w.old) (W.contents w.new) self.old self.new
             bytes.now) }
-        ensures err { OnErr result (AppendsPrefix (W.contents w.old) (W.contents w.new)
-            (self.old ++ bytes.now)) }
+        ensures err { OnErr result (Breaks (W.contents w.old) (W.contents w.new) self.old self.new
+            bytes.now) }
         ensures failed { OnErr result (W.has_failed w.new ≡ true) }
         ensures kept { OnOk result (W.has_failed w.new ≡ W.has_failed w.old) }
     {
@@ -131,9 +214,9 @@ impl Block {
             self.waiting.push_bytes(bytes);
             return Ok(());
         }
-        match write_all(w, bytes) {
+        match write_front(w, bytes) {
             Ok(()) => Ok(()),
-            Err(Failed) => Err(Failed),
+            Err(_) => Err(Failed),
         }
     }
 }

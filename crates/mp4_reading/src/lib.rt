@@ -2,7 +2,8 @@
 //!
 //! - [`stop`]: [`Stop`], why a run stops, and [`tally`]: [`Tally`], what is counted of a stream;
 //! - [`limits`]: how far a stream is followed, and what is refused;
-//! - [`block`]: [`Block`], which gathers bytes and lines on their way to a sink ([`Line`]), and [`held`]: [`Held`], a box in
+//! - [`block`]: [`Block`], which gathers bytes and lines on their way to a sink ([`Line`]), with the ends of fragments among
+//!   them ([`mark`]: [`Mark`]), and [`held`]: [`Held`], a box in
 //!   claimed memory while it comes;
 //! - [`machine`]: [`Machine`], what takes the bytes of a stream as they come, and [`run`]: [`read_stream`], which feeds it a whole
 //!   stream.
@@ -19,6 +20,7 @@ pub mod block;
 pub mod held;
 pub mod limits;
 pub mod machine;
+pub mod mark;
 pub mod run;
 pub mod stop;
 pub mod tally;
@@ -27,6 +29,7 @@ pub use block::{BLOCK_BYTES, Block, LINE_BYTES, Line};
 pub use held::Held;
 pub use limits::{LONGEST, is_too_long, refused};
 pub use machine::Machine;
+pub use mark::Mark;
 pub use run::read_stream;
 pub use stop::Stop;
 pub use tally::Tally;

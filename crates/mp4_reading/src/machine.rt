@@ -3,6 +3,7 @@
 ghost use Rattle.std.specs.Prelude.{◌≡◌, ◌<◌, ◌≤◌, ◌↔◌, [], length, take, None, Some, IfOk, IfErr, OnOk, OnErr, IsErrOf, IsTrue};
 ghost use Rattle.mp4_box.specs.Headers.{IsBytes};
 ghost use Rattle.mp4_ledger.specs.Memory.{given_back};
+ghost use Rattle.mp4_reading.specs.Blocks.{IsSent};
 ghost use Rattle.mp4_reading.specs.Ends.{sent};
 ghost use Rattle.mp4_reading.specs.Pieces.{IsQuiet, Standing, Takes, around, farthest};
 ghost use Rattle.mp4_reading.specs.Readings.{fault_in};
@@ -87,14 +88,13 @@ pub(crate) fn feed<M: Machine, W: Sink>(
     requires claim { (M.stands machine.old).claim ≤ ledger.old.live }
     requires quiet { IsQuiet (M.stands machine.old) }
     requires near { (M.stands machine.old).reached ≤ farthest }
-    requires empty { out.old ≡ [] }
-    ensures takes { Takes (around (sent W.contents W.has_failed w.old w.new) [] []
+    ensures takes { Takes (around (sent W.contents W.has_failed w.old w.new) out.old out.new
         ledger.old ledger.new (M.counted machine.old) (M.counted machine.new))
         (M.stands machine.old) piece.now (λ _. piece.now) (λ _. M.stands machine.new) result }
     ensures claim { (M.stands machine.new).claim ≤ ledger.new.live }
     ensures quiet { OnOk result (IsQuiet (M.stands machine.new)) }
     ensures near { OnOk result ((M.stands machine.new).reached ≤ farthest) }
-    ensures empty { OnOk result (out.new ≡ []) }
+    ensures sent { (IsErrOf result Stop.Write → ⊥) → IsSent out.new }
     ensures bytes { IsBytes piece.now }
     ensures spent { OnErr result ((M.stands machine.new).claim ≡ 0) }
     ensures task { M.task machine.new ≡ M.task machine.old }

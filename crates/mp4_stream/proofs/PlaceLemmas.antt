@@ -9,18 +9,16 @@ use Rattle.mp4_box.specs.declared.rules.Rule.TheVariants.{BadSize, StreamTooLong
 use Rattle.mp4_box.specs.Headers.{need, header_at, kind_of}
 use Rattle.mp4_box.specs.Trees.{tree_faults}
 use Rattle.mp4_box.proofs.HeaderLemmas.{whole_is, bad_is, need_more, need-most}
-use Rattle.mp4_ends.specs.Streams.{AppendsPrefix}
-use Rattle.mp4_ends.proofs.StreamLemmas.{AppendsPrefix-longer}
 use Rattle.mp4_ledger.specs.Memory.{given_back}
 use Rattle.mp4_ledger.specs.declared.ledger.Refused.{Refused}
 use Rattle.mp4_ledger.specs.declared.ledger.Refused.TheVariants as refusals
 use Rattle.mp4_reading.specs.Accounts.{Counts, Spends}
-use Rattle.mp4_reading.specs.Blocks.{Passes}
+use Rattle.mp4_reading.specs.Blocks.{Breaks, BreaksMarked, Passes, Pending}
 use Rattle.mp4_reading.specs.Bodies.{fault, least_end, longest}
 use Rattle.mp4_reading.specs.Pieces.{Outside, Standing, Moves, GoesOn, Refuses, Starves, Loses, StopsAt, refusal_of}
 use Rattle.mp4_reading.specs.Readings.{AtMost, Faulty, Reading, Told, plus, then_read, silent, says, asks_for, most_of, after}
 use Rattle.mp4_reading.proofs.AccountLemmas.{Counts-none, Counts-back, Spends-more, Spends-counts}
-use Rattle.mp4_reading.proofs.BlockLemmas.{Passes-none}
+use Rattle.mp4_reading.proofs.BlockLemmas.{BreaksMarked-longer, Passes-none}
 use Rattle.mp4_reading.proofs.HeadLemmas.{apart, front-len, front-is}
 use Rattle.mp4_reading.proofs.PieceLemmas.{sent_to, claimed_from, back_to, Moves-none, Moves-claim, GoesOn-silent}
 use Rattle.mp4_reading.proofs.ReadingLemmas.{after-silent}
@@ -74,9 +72,9 @@ Refuses-bad o at held byte new more short e is = record {
 }
 
 -- a write failed in what is told first
-Loses-told : (o o' : Outside) (own : ℕ) (told : Told) (rest r : Reading) → r ≡ after told rest → AppendsPrefix o.written o'.written (o.waiting ++ told.text) → Spends o.account o'.account own 0 0 → o'.tally ≡ o.tally → Loses o o' own r
+Loses-told : (o o' : Outside) (own : ℕ) (told : Told) (rest r : Reading) → r ≡ after told rest → BreaksMarked o.written o'.written o.waiting o'.waiting told.text told.marks → Spends o.account o'.account own 0 0 → o'.tally ≡ o.tally → Loses o o' own r
 Loses-told o o' own told rest r e p q same = record {
-  text = AppendsPrefix-longer o.written o'.written (o.waiting ++ told.text) rest.told.text (o.waiting ++ r.told.text) p (ap (λ s. o.waiting ++ s.told.text) e ∙ sym (append_assoc o.waiting told.text rest.told.text));
+  text = subst (λ s. BreaksMarked o.written o'.written o.waiting o'.waiting s.told.text s.told.marks) (sym e) (BreaksMarked-longer rest.told.text rest.told.marks p);
   spends = Spends-more o.account o'.account own 0 0 (most_of r.told) (omega arith) q;
   least = subst (AtMost o.tally) (sym same) (AtMost-same o.tally);
   most = subst (λ t. AtMost t (plus o.tally r.told.tally)) (sym same) (AtMost-plus o.tally r.told.tally);
@@ -96,7 +94,7 @@ module _ (o : Outside) (at : ℕ) (h : Header) (x : List ℕ) (is : header_at x 
       (λ later. reading-begins at h x later is ∙ reading-too_long at h (take h.header_len x) (drop h.header_len x ++ later) far) refl
 
   -- its line was written
-  pub GoesOn-line : (u : Option (List ℕ)) (v : List ℕ) (p : Place) → least_end at h h.size ≤ longest → most_held h.kind.0 ≡ None → claim_of p ≡ 0 → reached_of p ≡ at + h.header_len
+  pub GoesOn-line : (u : Option (List ℕ)) (v : Pending) (p : Place) → least_end at h h.size ≤ longest → most_held h.kind.0 ≡ None → claim_of p ≡ 0 → reached_of p ≡ at + h.header_len
       → ((later : List ℕ) → then_read reading (body at h h.size later) ≡ reads_at p later) → Passes o.written u o.waiting v (box_line at h) → GoesOn o (sent_to o u v) (standing (InHeader at [])) (take h.header_len x) (standing p)
   GoesOn-line u v p near loose none place brings q =
       let y = take h.header_len x in
@@ -108,8 +106,8 @@ module _ (o : Outside) (at : ℕ) (h : Header) (x : List ℕ) (is : header_at x 
       }
 
   -- its line can't be written
-  pub Loses-line : (u : Option (List ℕ)) (v more later : List ℕ) → least_end at h h.size ≤ longest → most_held h.kind.0 ≡ None
-      → AppendsPrefix o.written u (o.waiting ++ box_line at h) → Loses o (sent_to o u v) 0 (reading at ((x ++ more) ++ later))
+  pub Loses-line : (u : Option (List ℕ)) (v : Pending) (more later : List ℕ) → least_end at h h.size ≤ longest → most_held h.kind.0 ≡ None
+      → Breaks o.written u o.waiting v (box_line at h) → Loses o (sent_to o u v) 0 (reading at ((x ++ more) ++ later))
   Loses-line u v more later near loose p =
       let rest = drop h.header_len x ++ (more ++ later) in
       Loses-told o (sent_to o u v) 0 (says (box_line at h)) (then_read reading (body at h h.size rest)) (reading at ((x ++ more) ++ later))
@@ -172,7 +170,7 @@ GoesOn-held o at kind size held x =
 
 module _ (o : Outside) (at : ℕ) (kind : FourCc) (size : ℕ) (x : List ℕ) (low : size ≤ o.account.live) (len : length x ≡ size) where
   -- all of it came, its tree is good, and it was listed and given back
-  pub GoesOn-good : (u : Option (List ℕ)) (v : List ℕ) → tree_faults at x ≡ [] → Passes o.written u o.waiting v (held_lines at x)
+  pub GoesOn-good : (u : Option (List ℕ)) (v : Pending) → tree_faults at x ≡ [] → Passes o.written u o.waiting v (held_lines at x)
       → GoesOn o (sent_to (back_to o size) u v) (standing (InHeld at kind size x)) [] (standing (InHeader (at + size) []))
   GoesOn-good u v good p = record {
     brought = says (held_lines at x);
@@ -181,7 +179,7 @@ module _ (o : Outside) (at : ℕ) (kind : FourCc) (size : ℕ) (x : List ℕ) (l
     rest = λ later. reading-good at kind size x later len good;
   }
 
-  pub Loses-good : (u : Option (List ℕ)) (v later : List ℕ) → tree_faults at x ≡ [] → AppendsPrefix o.written u (o.waiting ++ held_lines at x) → Loses o (sent_to (back_to o size) u v) size (then_read reading (held_body at kind size (x ++ later)))
+  pub Loses-good : (u : Option (List ℕ)) (v : Pending) (later : List ℕ) → tree_faults at x ≡ [] → Breaks o.written u o.waiting v (held_lines at x) → Loses o (sent_to (back_to o size) u v) size (then_read reading (held_body at kind size (x ++ later)))
   Loses-good u v later good p = Loses-told o (sent_to (back_to o size) u v) size (says (held_lines at x)) (reading (at + size) later) (then_read reading (held_body at kind size (x ++ later)))
       (reading-good at kind size x later len good) p (Spends-counts o.account (given_back o.account size) size 0 0 (subst (λ n. Counts o.account (given_back o.account size) size n 0) (omega arith) (Counts-back o.account size size (omega arith) low))) refl
 

@@ -3,6 +3,7 @@ use Rattle.std.specs.Prelude.{◌≡◌, ℕ, ◌+◌, ◌-◌, ◌<◌, ◌≤�
 use Rattle.mp4_box.specs.declared.headers.FourCc.{FourCc}
 use Rattle.mp4_box.specs.Headers.{need}
 use Rattle.mp4_ledger.specs.Memory.{Account}
+use Rattle.mp4_reading.specs.Blocks.{Pending}
 use Rattle.mp4_reading.specs.Bodies.{longest, told_body, told_open}
 use Rattle.mp4_reading.specs.Ends.{Sent}
 use Rattle.mp4_reading.specs.Pieces.{Around, Outside, Standing}
@@ -81,9 +82,9 @@ IsMachine head phase None = IsPhase head phase
 IsMachine head phase (Some h) = (head ≡ []) × (phase ≡ phases.Header (h.at + h.size)) × IsPlace (InHeld h.at h.kind h.size h.bytes)
 
 -- what is outside a machine that lists boxes, which counts nothing
-abbrev pub outside : Option (List ℕ) → List ℕ → Account → Outside
+abbrev pub outside : Option (List ℕ) → Pending → Account → Outside
 outside written waiting account = pieces.outside written waiting account uncounted
 
 -- a call that is lent a writer, a block and a ledger, by what they were and are
-abbrev pub around : Sent → (waiting waiting' : List ℕ) → (account account' : Account) → Around
+abbrev pub around : Sent → (waiting waiting' : Pending) → (account account' : Account) → Around
 around s waiting waiting' account account' = pieces.around s waiting waiting' account account' uncounted uncounted

@@ -5,7 +5,7 @@ ghost use Rattle.mp4_items.specs.Kinds.{most_moof, most_moov};
 ghost use Rattle.mp4_items.specs.declared.command.Command.TheVariants.{Check, Samples};
 ghost use Rattle.mp4_reading.specs.Ends.{between, received, sent};
 ghost use Rattle.mp4_recut.specs.declared.plan.Plan.TheVariants as plans;
-ghost use Rattle.mp4_stream.specs.Fragments.{ReadsFragments, unsent};
+ghost use Rattle.mp4_stream.specs.Fragments.{ReadsFragments, fragments_of, unsent};
 
 use crate::run::Totals;
 use crate::silent::Silent;
@@ -142,16 +142,27 @@ fn run_fragments<R: Source, W: Sink>(
         IsErrOf result Stop.OverLimit → ⊥ }
 {
     let mut machine = FragmentMachine::new(plan);
-    let answer = read_stream(r, w, ledger, copy, &mut machine);
+    let mut whole = 0;
+    let answer = read_stream(r, w, ledger, copy, &mut machine, &mut whole);
     let tally = machine.tally();
     let rows_read = machine.rows_read();
     machine.give_up(ledger);
     *totals = Totals {
-        fragments: tally.fragments,
+        fragments: fragments(&plan, tally.fragments, whole),
         samples: tally.samples,
         media_bytes: tally.media_bytes,
         rows_read,
         peak: ledger.peak(),
     };
     answer
+}
+
+/// How many fragments are counted, where so many were told, and so many of them are whole in what was written.
+fn fragments(plan: &Plan, told: u64, whole: u64) -> u64
+    ensures { result ≡ fragments_of plan.now told whole }
+{
+    match plan {
+        Plan::List(_) => told,
+        Plan::Split(_) => whole,
+    }
 }

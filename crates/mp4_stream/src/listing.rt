@@ -1,9 +1,8 @@
 //! The lines of boxes.
 
 ghost use Rattle.std.specs.Prelude.{◌≡◌, ◌+◌, ◌≤◌, ◌++◌, length, true, OnErr, OnOk};
-ghost use Rattle.mp4_ends.specs.Streams.{AppendsPrefix};
 ghost use Rattle.mp4_box.specs.Trees.{view};
-ghost use Rattle.mp4_reading.specs.Blocks.{Passes};
+ghost use Rattle.mp4_reading.specs.Blocks.{Breaks, Passes};
 ghost use Rattle.mp4_stream.specs.Listing.{box_line, has_lines_below, indent, line_below, lines_below, size_text, tree_lines, user_text};
 
 use mp4_box::{BoxRef, Header, Size, Walk, holds_boxes};
@@ -74,8 +73,8 @@ pub(crate) fn put_box<W: Sink>(
 ) -> Result<(), Failed>
     ensures ok { OnOk result (Passes (W.contents w.old) (W.contents w.new) out.old out.new
         (box_line at header.now)) }
-    ensures err { OnErr result (AppendsPrefix (W.contents w.old) (W.contents w.new)
-        (out.old ++ box_line at header.now)) }
+    ensures err { OnErr result (Breaks (W.contents w.old) (W.contents w.new)
+        out.old out.new (box_line at header.now)) }
     ensures failed { OnErr result (W.has_failed w.new ≡ true) }
     ensures kept { OnOk result (W.has_failed w.new ≡ W.has_failed w.old) }
 {
@@ -110,8 +109,8 @@ pub(crate) fn put_tree<W: Sink>(
     requires { levels + level ≤ 7 }
     ensures ok { OnOk result (Passes (W.contents w.old) (W.contents w.new) out.old out.new
         (tree_lines levels level (view this.now))) }
-    ensures err { OnErr result (AppendsPrefix (W.contents w.old) (W.contents w.new)
-        (out.old ++ tree_lines levels level (view this.now))) }
+    ensures err { OnErr result (Breaks (W.contents w.old) (W.contents w.new)
+        out.old out.new (tree_lines levels level (view this.now))) }
     ensures failed { OnErr result (W.has_failed w.new ≡ true) }
     ensures kept { OnOk result (W.has_failed w.new ≡ W.has_failed w.old) }
 {
@@ -139,8 +138,8 @@ fn put_below<W: Sink>(
     requires { levels + level ≤ 7 }
     ensures ok { OnOk result (Passes (W.contents w.old) (W.contents w.new) out.old out.new
         (lines_below levels level (view this.now))) }
-    ensures err { OnErr result (AppendsPrefix (W.contents w.old) (W.contents w.new)
-        (out.old ++ lines_below levels level (view this.now))) }
+    ensures err { OnErr result (Breaks (W.contents w.old) (W.contents w.new)
+        out.old out.new (lines_below levels level (view this.now))) }
     ensures failed { OnErr result (W.has_failed w.new ≡ true) }
     ensures kept { OnOk result (W.has_failed w.new ≡ W.has_failed w.old) }
 {
@@ -165,8 +164,8 @@ fn put_line<W: Sink>(this: &BoxRef<'_>, level: u8, out: &mut Block, w: &mut W) -
     requires { level ≤ 7 }
     ensures ok { OnOk result (Passes (W.contents w.old) (W.contents w.new) out.old out.new
         (line_below level (view this.now))) }
-    ensures err { OnErr result (AppendsPrefix (W.contents w.old) (W.contents w.new)
-        (out.old ++ line_below level (view this.now))) }
+    ensures err { OnErr result (Breaks (W.contents w.old) (W.contents w.new)
+        out.old out.new (line_below level (view this.now))) }
     ensures failed { OnErr result (W.has_failed w.new ≡ true) }
     ensures kept { OnOk result (W.has_failed w.new ≡ W.has_failed w.old) }
 {

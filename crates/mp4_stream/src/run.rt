@@ -15,7 +15,7 @@ use mp4_reading::{Stop, read_stream};
 #[derive(Clone, Copy, Debug, PartialEq, Eq)]
 pub struct Totals {
     /// How many fragments, moofs with their mdats, were accepted: one that is at fault, or whose mdat is refused, isn't counted. For
-    /// [`split`](crate::split) how many moofs were put on their way to the writer.
+    /// [`split`](crate::split) of how many moofs the writer took the last byte.
     pub fragments: u64,
     /// How many samples the accepted fragments have.
     pub samples: u128,
@@ -77,7 +77,7 @@ pub fn boxes<R: Source, W: Sink>(
         { fragments = 0; samples = 0; media_bytes = 0; rows_read = 0; peak = ledger.new.peak } }
 {
     let mut machine = BoxMachine::new();
-    let answer = read_stream(r, w, ledger, copy, &mut machine);
+    let answer = read_stream(r, w, ledger, copy, &mut machine, &mut 0);
     machine.give_up(ledger);
     *totals = Totals::new();
     totals.peak = ledger.peak();

@@ -7,7 +7,8 @@ use Rattle.mp4_pieces.specs.Pieces.{rows_in}
 use Rattle.mp4_cut.specs.Moof.{written_moof}
 use Rattle.mp4_cut.specs.Trun.{sample_bytes}
 use Rattle.mp4_cut.proofs.PieceLemmas.{front_is, moof_is_put, start_is}
-use Rattle.mp4_cut.proofs.PutLemmas.{both_put, prefix_of, second_prefix}
+use Rattle.mp4_reading.proofs.BlockLemmas.{Breaks-front}
+use Rattle.mp4_cut.proofs.PutLemmas.{both_put, second_prefix}
 use Rattle.mp4_cut.proofs.moof.put_moof.Goals as goal
 
 pub rows_from-rows-requires : goal.rows_from-rows-requires
@@ -20,7 +21,7 @@ returns-in-Err g c =
     let moof = written_moof c.args.piece.now c.args.run.now c.args.held.now c.args.sequence_number in
     record {
       ok = tt;
-      err = prefix_of (g.W.Sink.contents c.args.w.now) (g.W.Sink.contents c.put.new.w) c.args.block.now c.as_slice.result.now samples moof
+      err = Breaks-front c.as_slice.result.now samples moof
           (ap (λ (x : List ℕ). x ++ samples) (c.as_slice.ensures ∙ c.moof_front-front.ensures) ∙ sym (front_is c.args.held.now c.args.run.now c.args.piece.now c.args.sequence_number c.requires.piece))
           c.in-Err.ensures.err;
       failed = c.in-Err.ensures.failed;
@@ -48,7 +49,7 @@ returns-in-Err-put_samples g c =
     c.requires.piece c.as_slice.ensures c.moof_front-front.ensures c.start_of.ensures c.rows_from-rows.ensures in
     record {
       ok = tt;
-      err = second_prefix (g.W.Sink.contents c.put_samples.new.w) c.as_slice.result.now samples moof whole c.in-Ok.ensures.ok c.in-Err-put_samples.ensures.err;
+      err = second_prefix (g.W.Sink.contents c.put_samples.new.w) c.put_samples.new.block c.as_slice.result.now samples moof whole c.in-Ok.ensures.ok c.in-Err-put_samples.ensures.err;
       failed = c.in-Err-put_samples.ensures.failed;
       kept = tt;
     }

@@ -6,7 +6,8 @@ use Rattle.mp4_frag.specs.Rows.{IsCursor}
 use Rattle.mp4_cut.specs.Sidx.{reference_bytes, written_index}
 use Rattle.mp4_cut.specs.Starts.{group_from}
 use Rattle.mp4_cut.proofs.IndexLemmas.{index_is, index_is_put, room_is}
-use Rattle.mp4_cut.proofs.PutLemmas.{both_put, prefix_of, second_prefix}
+use Rattle.mp4_reading.proofs.BlockLemmas.{Breaks-front}
+use Rattle.mp4_cut.proofs.PutLemmas.{both_put, second_prefix}
 use Rattle.mp4_cut.proofs.sidx.put_index.Goals as goal
 
 pub at-pieces-requires : goal.at-pieces-requires
@@ -23,7 +24,7 @@ returns-in-Err g c =
     let index = written_index c.args.run.now c.args.timescale group in
     record {
       ok = tt;
-      err = prefix_of (g.W.Sink.contents c.args.w.now) (g.W.Sink.contents c.put.new.w) c.args.block.now c.as_slice.result.now (flat_map reference_bytes group) index
+      err = Breaks-front c.as_slice.result.now (flat_map reference_bytes group) index
           (ap (λ (x : List ℕ). x ++ flat_map reference_bytes group) (c.as_slice.ensures ∙ c.index_front-front.ensures) ∙ sym (index_is c.args.run.now c.args.timescale c.args.first.now c.args.count group c.requires.group.begins c.requires.group.all))
           c.in-Err.ensures.err;
       failed = c.in-Err.ensures.failed;
@@ -53,7 +54,7 @@ returns-in-Err-put_references g c =
     c.requires.group c.as_slice.ensures c.index_front-front.ensures c.start_of.ensures c.at-pieces.ensures in
     record {
       ok = tt;
-      err = second_prefix (g.W.Sink.contents c.put_references.new.w) c.as_slice.result.now references index whole c.in-Ok.ensures.ok c.in-Err-put_references.ensures.err;
+      err = second_prefix (g.W.Sink.contents c.put_references.new.w) c.put_references.new.block c.as_slice.result.now references index whole c.in-Ok.ensures.ok c.in-Err-put_references.ensures.err;
       failed = c.in-Err-put_references.ensures.failed;
       kept = tt;
     }

@@ -1,10 +1,10 @@
 use Rattle.std.proofs.Common.{◌++◌, ◌-◌, ◌∙◌, arith}
 use Rattle.std.specs.Prelude.{take}
 use Rattle.std.specs.List.{flat_map}
-use Rattle.mp4_reading.proofs.BlockLemmas.{Passes-more, AppendsPrefix-passed}
+use Rattle.mp4_reading.proofs.BlockLemmas.{Breaks-front, Breaks-passed, Passes-more}
 use Rattle.mp4_cut.specs.Sidx.{reference_bytes}
 use Rattle.mp4_cut.proofs.IndexLemmas.{first_fits}
-use Rattle.mp4_cut.proofs.PutLemmas.{next_put, prefix_of}
+use Rattle.mp4_cut.proofs.PutLemmas.{next_put}
 use Rattle.mp4_cut.proofs.sidx.put_references.Goals as goal
 
 pub reference_bytes-requires : goal.reference_bytes-requires
@@ -29,9 +29,9 @@ returns-in-Err g c =
     let all = flat_map reference_bytes (take c.args.count c.args.pieces.now) in
     record {
       ok = tt;
-      err = prefix_of (g.W.Sink.contents c.args.w.now) (g.W.Sink.contents c.put.new.w) c.args.block.now (text ++ c.reference_bytes.result) (flat_map reference_bytes (take (c.loop-left.left - 1) c.next.new.self)) all
+      err = Breaks-front (text ++ c.reference_bytes.result) (flat_map reference_bytes (take (c.loop-left.left - 1) c.next.new.self)) all
           (next_put reference_bytes c.loop-left.left c.in-Some.piece c.next.new.self c.loop-left.pieces text c.reference_bytes.result all (omega arith) c.in-Some.ensures.steps c.reference_bytes.ensures c.loop-left.invariant.left)
-          (AppendsPrefix-passed (g.W.Sink.contents c.put.new.w) c.reference_bytes.result c.loop-left.invariant.passes c.in-Err.ensures.err);
+          (Breaks-passed (g.W.Sink.contents c.put.new.w) c.reference_bytes.result c.loop-left.invariant.passes c.in-Err.ensures.err);
       failed = c.in-Err.ensures.failed;
       kept = tt;
     }

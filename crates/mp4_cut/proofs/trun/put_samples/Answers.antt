@@ -1,9 +1,9 @@
 use Rattle.std.proofs.Common.{◌++◌, ◌-◌, ◌∙◌, arith}
 use Rattle.std.specs.Prelude.{take}
 use Rattle.std.specs.List.{flat_map}
-use Rattle.mp4_reading.proofs.BlockLemmas.{Passes-more, AppendsPrefix-passed}
+use Rattle.mp4_reading.proofs.BlockLemmas.{Breaks-front, Breaks-passed, Passes-more}
 use Rattle.mp4_cut.specs.Trun.{sample_bytes}
-use Rattle.mp4_cut.proofs.PutLemmas.{next_put, prefix_of}
+use Rattle.mp4_cut.proofs.PutLemmas.{next_put}
 use Rattle.mp4_cut.proofs.trun.put_samples.Goals as goal
 
 pub loop-left-preserved : goal.loop-left-preserved
@@ -23,9 +23,9 @@ returns-in-Err g c =
     let all = flat_map sample_bytes (take c.args.count c.args.rows.now) in
     record {
       ok = tt;
-      err = prefix_of (g.W.Sink.contents c.args.w.now) (g.W.Sink.contents c.put.new.w) c.args.block.now (text ++ c.sample_bytes.result) (flat_map sample_bytes (take (c.loop-left.left - 1) c.next.new.self)) all
+      err = Breaks-front (text ++ c.sample_bytes.result) (flat_map sample_bytes (take (c.loop-left.left - 1) c.next.new.self)) all
           (next_put sample_bytes c.loop-left.left row c.next.new.self c.loop-left.rows text c.sample_bytes.result all (omega arith) c.in-Some.ensures.steps c.sample_bytes.ensures c.loop-left.invariant.left)
-          (AppendsPrefix-passed (g.W.Sink.contents c.put.new.w) c.sample_bytes.result c.loop-left.invariant.passes c.in-Err.ensures.err);
+          (Breaks-passed (g.W.Sink.contents c.put.new.w) c.sample_bytes.result c.loop-left.invariant.passes c.in-Err.ensures.err);
       failed = c.in-Err.ensures.failed;
       kept = tt;
     }

@@ -1,20 +1,7 @@
-use Rattle.std.proofs.Common.{rules, sym, ◌∙◌}
-use Rattle.std.proofs.lemmas.Result.{err_from_is_err_and}
-use Rattle.std.proofs.lemmas.List.{take_rest}
-use Rattle.mp4_ends.proofs.StreamLemmas.{Appends-take_more, AppendsPrefix-take_kept}
+use Rattle.std.proofs.Common.{sym, take-append-drop, take, drop}
 use Rattle.mp4_ends.proofs.streams.write_all.Goals as goal
 
-pub returns-in_err-at-clause-front : goal.returns-in_err-at-clause-front
-returns-in_err-at-clause-front g c =
-    let p = err_from_is_err_and c.from_residual.result c.from_residual.ensures.1 in
-    rw p.1 (AppendsPrefix-take_kept _ _ _ _ _ c.loop-at.invariant.taken c.in_err-at.ensures.bytes)
-
-pub loop-at-preserved : goal.loop-at-preserved
-loop-at-preserved g c =
-    let now_failed = c.in_ok-at.ensures.failed_ok in
-    let wrote = simp take_rest at c.in_ok-at.ensures.bytes in
-    record {
-      within = let b = c.in_ok-at.ensures.bound in search rules;
-      taken = Appends-take_more _ _ _ _ _ _ c.loop-at.invariant.taken wrote;
-      kept = now_failed.1 ∙ sym now_failed.0 ∙ c.loop-at.invariant.kept;
-    }
+pub returns-in-Err-clause-front : goal.returns-in-Err-clause-front
+returns-in-Err-clause-front g c =
+    let n = c.in-Err.field-0.taken in
+    (take n c.args.from.now, drop n c.args.from.now, c.in-Err.ensures.short.1, sym (take-append-drop n c.args.from.now))

@@ -1,6 +1,7 @@
 use Rattle.std.proofs.Common.{rules, arith, ◌≡◌, ◌++◌, [], take, length, length-append, ◌∙◌, refl, length-take, ◌≤◌}
 use Rattle.std.proofs.KnownBytes.{Consumes-nil, Consumes-trans, Consumes-kept}
 use Rattle.mp4_ends.proofs.StreamLemmas.{Consumes-then_none}
+use Rattle.mp4_reading.specs.Blocks.{unused}
 use Rattle.mp4_reading.specs.Pieces.{outside}
 use Rattle.mp4_reading.specs.Readings.{uncounted}
 use Rattle.mp4_reading.proofs.PieceLemmas.{IsFed-begun, IsFed-more}
@@ -13,11 +14,10 @@ loop-machine-init g c =
       [],
       record {
         read = Consumes-nil _;
-        fed = rw begun.counted (IsFed-begun (g.W.Sink.contents c.args.w.now) c.args.ledger.now (g.M.Machine.stands c.args.machine.now) (rw begun.counted at begun));
+        fed = rw (begun.counted, c.requires.unused) (IsFed-begun (g.W.Sink.contents c.args.w.now) c.args.ledger.now (g.M.Machine.stands c.args.machine.now) (rw begun.counted at begun));
         task = refl;
         claim = omega (arith, begun.claim);
         near = omega (arith, begun.reached);
-        empty = search rules;
         room = c.requires.claimed;
         kept = refl;
         total = refl;
@@ -29,41 +29,53 @@ loop-machine-init g c =
 pub returns-in-Ok-finish-clause-runs : goal.returns-in-Ok-finish-clause-runs
 returns-in-Ok-finish-clause-runs g c =
     let whole = (g.M.Machine.stands c.args.machine.now).reads in
-    let (b, i) = c.loop-machine.invariant in
-    record {
-      bytes = b;
-      fits = i.bytes;
-      given = Consumes-then_none _ _ _ _ _ _ i.read c.in-Ok-eq0.ensures.bytes.0 c.in-Ok-eq0.field-0-test;
-      prompt = prompt-now whole b _ c.requires.marked i.fed _;
-      comes = (fed-tells whole b _ c.requires.marked i.fed _ refl refl, fed-fault whole b _ c.requires.marked i.fed ∙ c.in-Ok-finish.ensures.ok, search rules);
-      kept = λ _. i.kept;
-    }
+    let start = outside (g.W.Sink.contents c.args.w.now) unused c.args.ledger.now uncounted in
+    let (b, i) = c.loop-machine.invariant in (
+      record {
+        bytes = b;
+        fits = i.bytes;
+        given = Consumes-then_none _ _ _ _ _ _ i.read c.in-Ok-eq0.ensures.bytes.0 c.in-Ok-eq0.field-0-test;
+        fragments = c.loop-machine.out.whole;
+        prompt = prompt-now whole b start refl c.requires.marked i.fed _;
+        comes = (fed-tells whole b start refl c.requires.marked i.fed _ refl refl, fed-fault whole b start refl c.requires.marked i.fed ∙ c.in-Ok-finish.ensures.ok, search rules);
+        kept = λ _. i.kept;
+      },
+      refl,
+    )
 
 pub returns-in-Err-finish-clause-runs : goal.returns-in-Err-finish-clause-runs
 returns-in-Err-finish-clause-runs g c =
     let whole = (g.M.Machine.stands c.args.machine.now).reads in
-    let (b, i) = c.loop-machine.invariant in
-    record {
-      bytes = b;
-      fits = i.bytes;
-      given = Consumes-then_none _ _ _ _ _ _ i.read c.in-Ok-eq0.ensures.bytes.0 c.in-Ok-eq0.field-0-test;
-      prompt = prompt-now whole b _ c.requires.marked i.fed _;
-      comes = (fed-tells whole b _ c.requires.marked i.fed _ refl refl, fed-fault whole b _ c.requires.marked i.fed ∙ c.in-Err-finish.ensures.err, λ _. search rules);
-      kept = λ _. i.kept;
-    }
+    let start = outside (g.W.Sink.contents c.args.w.now) unused c.args.ledger.now uncounted in
+    let (b, i) = c.loop-machine.invariant in (
+      record {
+        bytes = b;
+        fits = i.bytes;
+        given = Consumes-then_none _ _ _ _ _ _ i.read c.in-Ok-eq0.ensures.bytes.0 c.in-Ok-eq0.field-0-test;
+        fragments = c.loop-machine.out.whole;
+        prompt = prompt-now whole b start refl c.requires.marked i.fed _;
+        comes = (fed-tells whole b start refl c.requires.marked i.fed _ refl refl, fed-fault whole b start refl c.requires.marked i.fed ∙ c.in-Err-finish.ensures.err, λ _. search rules);
+        kept = λ _. i.kept;
+      },
+      refl,
+    )
 
 pub returns-in-Err-clause-runs : goal.returns-in-Err-clause-runs
 returns-in-Err-clause-runs g c =
     let whole = (g.M.Machine.stands c.args.machine.now).reads in
-    let (b, i) = c.loop-machine.invariant in
-    record {
-      bytes = b;
-      fits = i.bytes;
-      given = Consumes-kept _ _ _ _ i.read c.in-Err.ensures.bytes;
-      prompt = prompt-now whole b _ c.requires.marked i.fed _;
-      comes = (fed-tells whole b _ c.requires.marked i.fed _ refl refl, fed-undecided whole b _ c.requires.marked i.fed, i.total, c.in-Err.ensures.failed_err);
-      kept = λ _. i.kept;
-    }
+    let start = outside (g.W.Sink.contents c.args.w.now) unused c.args.ledger.now uncounted in
+    let (b, i) = c.loop-machine.invariant in (
+      record {
+        bytes = b;
+        fits = i.bytes;
+        given = Consumes-kept _ _ _ _ i.read c.in-Err.ensures.bytes;
+        fragments = c.loop-machine.out.whole;
+        prompt = prompt-now whole b start refl c.requires.marked i.fed _;
+        comes = (fed-tells whole b start refl c.requires.marked i.fed _ refl refl, fed-undecided whole b start refl c.requires.marked i.fed, i.total, c.in-Err.ensures.failed_err);
+        kept = λ _. i.kept;
+      },
+      refl,
+    )
 
 pub loop-machine-preserved : goal.loop-machine-preserved
 loop-machine-preserved g c =
@@ -77,11 +89,10 @@ loop-machine-preserved g c =
       b ++ got,
       record {
         read = Consumes-trans _ _ _ _ _ i.read c.in-Ok.ensures.bytes.0;
-        fed = IsFed-more whole b _ i.fed goes fed.quiet refl refl;
+        fed = IsFed-more whole b _ i.fed goes fed.quiet (fed.sent (λ e. absurd cc));
         task = fed.task ∙ i.task;
         claim = fed.claim;
         near = fed.near;
-        empty = fed.empty;
         room = same ∙ i.room;
         kept = fed.takes.kept (λ e. absurd cc) ∙ i.kept;
         total = omega (arith, i.total, length-append b got);
@@ -96,16 +107,21 @@ returns-in-Err-feed-clause-runs g c =
     let (b, i) = c.loop-machine.invariant in
     let got = take c.in-Ok.n c.read.new.into in
     let kept : length c.read.new.into ≡ length c.loop-machine.copy = search rules in
-    let start = outside (g.W.Sink.contents c.args.w.now) [] c.args.ledger.now uncounted in
-    let few : length got ≤ c.args.ledger.now.live = omega (arith, i.room, kept, length-take c.in-Ok.n c.read.new.into) in
-    record {
-      bytes = b ++ got;
-      fits = bytes-more b got i.bytes c.in-Err-feed.ensures.bytes;
-      given = Consumes-trans _ _ _ _ _ i.read c.in-Ok.ensures.bytes.0;
-      prompt = prompt-read whole b start c.requires.marked i.fed got (outside (g.W.Sink.contents c.feed.new.w) [] c.feed.new.ledger (g.M.Machine.counted c.feed.new.machine)) _ few;
-      comes = fed-takes {around = record { before = outside (g.W.Sink.contents c.loop-machine.w) [] c.loop-machine.ledger (g.M.Machine.counted c.loop-machine.machine); behind = outside (g.W.Sink.contents c.feed.new.w) [] c.feed.new.ledger (g.M.Machine.counted c.feed.new.machine); failed = g.W.Sink.has_failed c.loop-machine.w; failed' = g.W.Sink.has_failed c.feed.new.w }} whole b start c.requires.marked i.fed refl i.claim _ few refl refl refl refl c.in-Err-feed.ensures.takes;
-      kept = λ other. c.in-Err-feed.ensures.takes.kept (λ is. other cc) ∙ i.kept;
-    }
+    let start = outside (g.W.Sink.contents c.args.w.now) unused c.args.ledger.now uncounted in
+    let before = outside (g.W.Sink.contents c.loop-machine.w) c.loop-machine.out c.loop-machine.ledger (g.M.Machine.counted c.loop-machine.machine) in
+    let behind = outside (g.W.Sink.contents c.feed.new.w) c.feed.new.out c.feed.new.ledger (g.M.Machine.counted c.feed.new.machine) in
+    let few : length got ≤ c.args.ledger.now.live = omega (arith, i.room, kept, length-take c.in-Ok.n c.read.new.into) in (
+      record {
+        bytes = b ++ got;
+        fits = bytes-more b got i.bytes c.in-Err-feed.ensures.bytes;
+        given = Consumes-trans _ _ _ _ _ i.read c.in-Ok.ensures.bytes.0;
+        fragments = c.feed.new.out.whole;
+        prompt = prompt-read whole b start refl c.requires.marked i.fed got behind _ few;
+        comes = fed-takes {around = record { before = before; behind = behind; failed = g.W.Sink.has_failed c.loop-machine.w; failed' = g.W.Sink.has_failed c.feed.new.w }} whole b start refl c.requires.marked i.fed i.claim _ few refl refl (λ other. c.in-Err-feed.ensures.sent (λ is. other cc)) refl c.in-Err-feed.ensures.takes;
+        kept = λ other. c.in-Err-feed.ensures.takes.kept (λ is. other cc) ∙ i.kept;
+      },
+      refl,
+    )
 
 pub returns-in-Err-feed-clause-live : goal.returns-in-Err-feed-clause-live
 returns-in-Err-feed-clause-live g c =

@@ -19,4 +19,4 @@ returns-clause-runs g c =
     let live : c.buf.new.self.live ≡ c.args.copy = omega (arith, ap (λ a. a.live) c.in-Ok.ensures.ok, ap (λ a. a.live) c.mark.ensures, c.from.ensures, c.requires.idle) in
     let limit : c.buf.new.self.limit ≡ c.args.ledger.now.limit = ap (λ a. a.limit) c.in-Ok.ensures.ok ∙ ap (λ a. a.limit) c.mark.ensures in
     let peak : c.back.new.self.peak ≡ c.read_on-answer.new.ledger.peak = rw c.back.ensures refl in
-    Runs-same live limit (sym peak) c.read_on-answer.ensures.runs
+    rw c.whole.ensures (Runs-same live limit (sym peak) c.read_on-answer.ensures.runs)

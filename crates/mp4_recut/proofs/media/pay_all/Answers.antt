@@ -1,5 +1,5 @@
 use Rattle.std.proofs.Common.{arith, ◌≡◌, ◌∙◌, ◌+◌, ◌++◌, ◌-◌, ◌≤◌, [], ap, append_assoc, drop, length, refl, subst, sym, take, take-append-drop}
-use Rattle.std.proofs.Math.Seq.{take-add, take-length}
+use Rattle.std.proofs.Math.Seq.{take-add}
 use Rattle.mp4_recut.specs.Media.{Lost, Plays, Rises, playing, spot_of}
 use Rattle.mp4_recut.proofs.MediaLemmas.{Plays-fails, Plays-more, Plays-none}
 use Rattle.mp4_recut.proofs.media.pay_all.Goals as goal
@@ -72,5 +72,5 @@ returns-in-Err-clause-err g c = λ later.
     let back = c.split_at.ensures.back in
     let err = rw back at c.in-Err.ensures.err in
     let same : take i piece ++ (drop i piece ++ later) ≡ piece ++ later = sym (append_assoc (take i piece) (drop i piece) later) ∙ ap (λ l. l ++ later) (take-append-drop i piece) in
-    subst (λ l. Lost a d c.args.out.now m k (playing first l)) same
-    (Plays-fails a b d c.args.out.now c.loop-count.out m n k first (spot_of cut h tracks (c.args.at + i) (n + 1) media) (take i piece) (drop i piece ++ later) c.loop-count.invariant.plays (err later))
+    subst (λ l. Lost a d c.args.out.now c.pay.new.out m k (playing first l)) same
+    (Plays-fails a b d c.args.out.now c.loop-count.out c.pay.new.out m n k first (spot_of cut h tracks (c.args.at + i) (n + 1) media) (take i piece) (drop i piece ++ later) c.loop-count.invariant.plays (err later))

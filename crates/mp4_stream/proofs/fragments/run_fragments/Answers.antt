@@ -1,9 +1,10 @@
-use Rattle.std.proofs.Common.{◌≡◌, None, ap, arith, refl, sym}
+use Rattle.std.proofs.Common.{◌≡◌, ◌∙◌, None, ap, arith, refl, sym}
 use Rattle.mp4_reading.specs.Readings.{uncounted}
 use Rattle.mp4_reading.proofs.RunLemmas.{Runs-same}
 use Rattle.mp4_recut.specs.Plans.{making_of, number_in}
 use Rattle.mp4_items.specs.Contexts.{context}
 use Rattle.mp4_feed.proofs.HeadLemmas.{reads-none}
+use Rattle.mp4_stream.specs.Fragments.{fragments_of}
 use Rattle.mp4_stream.proofs.FragmentLemmas.{claims_by_boxes, first_number, never_over, peak_bound}
 use Rattle.mp4_stream.proofs.fragments.run_fragments.Goals as goal
 
@@ -17,10 +18,13 @@ returns-clause-runs g c =
     let ran = rw (c.new-machine.ensures, first_number c.args.plan, ← c.tally-tally.ensures.tally) at c.read_stream-answer.ensures.runs in
     let plan = rw c.new-machine.ensures at c.read_stream-answer.ensures.task in
     let read = c.rows_read-rows_read.ensures in
-    let runs = Runs-same refl refl (sym peak) ran in
+    let same = Runs-same refl refl (sym peak) ran in
+    let runs = same.0 in
     record {
+      told = c.tally-tally.result.fragments;
       walked = c.tally-tally.result.walked;
       runs = runs;
+      fragments = c.fragments.ensures ∙ ap (fragments_of c.args.plan c.tally-tally.result.fragments) (sym same.1);
       all = c.tally-tally.ensures.all;
       some = rw (plan, ← c.tally-tally.ensures.tally) at read.some;
       few = rw (plan, ← c.tally-tally.ensures.tally) at read.few;
@@ -30,9 +34,9 @@ returns-clause-runs g c =
 pub returns-clause-bound : goal.returns-clause-bound
 returns-clause-bound g c =
     let ran = rw (c.new-machine.ensures, first_number c.args.plan) at c.read_stream-answer.ensures.runs in
-    omega (arith, ap (λ a. a.peak) c.give_up.ensures, peak_bound c.args.plan _ c.read_stream-answer.result ran)
+    omega (arith, ap (λ a. a.peak) c.give_up.ensures, peak_bound c.args.plan _ c.read_stream-answer.result ran.0)
 
 pub returns-clause-enough : goal.returns-clause-enough
 returns-clause-enough g c =
     let ran = rw (c.new-machine.ensures, first_number c.args.plan) at c.read_stream-answer.ensures.runs in
-    never_over c.args.plan _ c.read_stream-answer.result ran
+    never_over c.args.plan _ c.read_stream-answer.result ran.0

@@ -1,11 +1,10 @@
-use Rattle.std.proofs.Common.{rules, ◌∙◌, ◌+◌, ◌-◌, ◌++◌, ◌<◌, List, ℕ, [], sym, ap, refl, subst}
+use Rattle.std.proofs.Common.{rules, ◌∙◌, ◌+◌, ◌-◌, ◌++◌, ◌<◌, List, [], sym, ap, refl, subst}
 use Rattle.std.specs.List.{flat_map}
 use Rattle.mp4_box.specs.Trees.{Box, view}
-use Rattle.mp4_ends.specs.Streams.{AppendsPrefix}
-use Rattle.mp4_reading.specs.Blocks.{Passes}
+use Rattle.mp4_reading.specs.Blocks.{Breaks, Passes}
 use Rattle.mp4_stream.specs.Listing.{line_below, lines_below, tree_lines}
-use Rattle.mp4_reading.proofs.BlockLemmas.{Passes-more, Passes-none, AppendsPrefix-passed}
-use Rattle.mp4_stream.proofs.ListingLemmas.{has-low, lines-leaf, lines-step, lines-begin, lines-child, AppendsPrefix-lines}
+use Rattle.mp4_reading.proofs.BlockLemmas.{Breaks-front, Passes-more, Passes-none, Breaks-passed}
+use Rattle.mp4_stream.proofs.ListingLemmas.{has-low, lines-leaf, lines-step, lines-begin, lines-child}
 use Rattle.mp4_stream.proofs.listing.+put_below.Goals as goal
 
 pub loop-child-init : goal.loop-child-init
@@ -25,9 +24,9 @@ returns-in-Err-clause-err g t c =
     let all = lines_below n l (view c.args.this.now) in
     let begin = lines-begin n l b in
     let left = lines-child n l b c.next.new.self text all (ap (λ (bs : List Box). text ++ flat_map (tree_lines n l) bs) (sym c.in-Some.ensures.steps) ∙ c.loop-child.invariant.left) in
-    AppendsPrefix-lines (g.W.Sink.contents c.args.w.now) (g.W.Sink.contents c.put_line.new.w) c.args.out.now (text ++ tree_lines n l b) (flat_map (tree_lines n l) c.next.new.self) all left
-    (AppendsPrefix-passed (g.W.Sink.contents c.put_line.new.w) (tree_lines n l b) c.loop-child.invariant.passes
-    (AppendsPrefix-lines (g.W.Sink.contents c.loop-child.w) (g.W.Sink.contents c.put_line.new.w) c.loop-child.out (line_below l b) begin.0 (tree_lines n l b) begin.1 c.in-Err.ensures.err))
+    Breaks-front (text ++ tree_lines n l b) (flat_map (tree_lines n l) c.next.new.self) all left
+    (Breaks-passed (g.W.Sink.contents c.put_line.new.w) (tree_lines n l b) c.loop-child.invariant.passes
+    (Breaks-front (line_below l b) begin.0 (tree_lines n l b) begin.1 c.in-Err.ensures.err))
 
 pub overflow_sub-levels : goal.overflow_sub-levels
 overflow_sub-levels g t c = has-low c.args.levels (view c.in-Some.child) (sym c.has_lines_below.ensures ∙ c.if-has_lines_below.true)
@@ -62,10 +61,10 @@ returns-in-Err-put_below-clause-err g t c =
     let all = lines_below n l (view c.args.this.now) in
     let step = lines-step n l b (sym c.has_lines_below.ensures ∙ c.if-has_lines_below.true) in
     let left = lines-child n l b c.next.new.self text all (ap (λ (bs : List Box). text ++ flat_map (tree_lines n l) bs) (sym c.in-Some.ensures.steps) ∙ c.loop-child.invariant.left) in
-    let put = AppendsPrefix-passed (g.W.Sink.contents c.put_below.new.w) (lines_below (n - 1) (l + 1) b) c.in-Ok.ensures.ok c.in-Err-put_below.ensures.err in
-    AppendsPrefix-lines (g.W.Sink.contents c.args.w.now) (g.W.Sink.contents c.put_below.new.w) c.args.out.now (text ++ tree_lines n l b) (flat_map (tree_lines n l) c.next.new.self) all left
-    (AppendsPrefix-passed (g.W.Sink.contents c.put_below.new.w) (tree_lines n l b) c.loop-child.invariant.passes
-    (subst (λ (t : List ℕ). AppendsPrefix (g.W.Sink.contents c.loop-child.w) (g.W.Sink.contents c.put_below.new.w) (c.loop-child.out ++ t)) step put))
+    let put = Breaks-passed (g.W.Sink.contents c.put_below.new.w) (lines_below (n - 1) (l + 1) b) c.in-Ok.ensures.ok c.in-Err-put_below.ensures.err in
+    Breaks-front (text ++ tree_lines n l b) (flat_map (tree_lines n l) c.next.new.self) all left
+    (Breaks-passed (g.W.Sink.contents c.put_below.new.w) (tree_lines n l b) c.loop-child.invariant.passes
+    (subst (Breaks (g.W.Sink.contents c.loop-child.w) (g.W.Sink.contents c.put_below.new.w) c.loop-child.out c.put_below.new.out) step put))
 
 pub loop-child-preserved : goal.loop-child-preserved
 loop-child-preserved g t c =

@@ -10,4 +10,4 @@ pub returns-clause-runs : goal.returns-clause-runs
 returns-clause-runs g c =
     let peak : c.give_up.new.ledger.peak ≡ c.read_stream-answer.new.ledger.peak = rw c.give_up.ensures refl in
     let ran = rw c.new-machine.ensures at c.read_stream-answer.ensures.runs in
-    Runs-same refl refl (sym peak) ran
+    (Runs-same refl refl (sym peak) ran).0
