@@ -7,6 +7,7 @@ pub mod AccountLemmas
 pub mod BlockLemmas
 pub mod PieceLemmas
 pub mod RunLemmas
+pub mod FedLemmas
 pub mod HeadLemmas
 pub mod BodyGrowthLemmas
 pub mod HoldingLemmas
