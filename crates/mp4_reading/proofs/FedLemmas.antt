@@ -1,13 +1,13 @@
 -- What a machine brings that stands behind some bytes of a stream and is fed the next piece.
-use Rattle.std.proofs.Common.{◌≡◌, ℕ, zero, suc, ◌+◌, ◌-◌, ◌≤◌, List, [], ◌∷◌, ◌++◌, length, take, max, Some, None, Result, Ok, Err, OnErr, ap, sym, ◌∙◌, refl, arith, append-nil, append_assoc, length-append, subst}
+use Rattle.std.proofs.Common.{◌≡◌, ℕ, zero, suc, ◌+◌, ◌-◌, ◌≤◌, List, [], ◌++◌, length, take, max, None, Result, Ok, Err, OnErr, ap, sym, ◌∙◌, refl, arith, append-nil, append_assoc, length-append, subst}
 use Rattle.std.proofs.Math.Seq.{take-append-add}
 use Rattle.mp4_box.specs.declared.rules.Fault.{Fault}
 use Rattle.mp4_ends.specs.Streams.{AppendsPrefix}
 use Rattle.mp4_ledger.specs.Memory.{Account}
-use Rattle.mp4_reading.specs.Accounts.{top_of, Counts, Spends}
+use Rattle.mp4_reading.specs.Accounts.{Counts, Spends}
 use Rattle.mp4_reading.specs.Fed.{Lent, Sums, TellsRest, StarvesBehind, FedUntil}
 use Rattle.mp4_reading.specs.Pieces.{Outside, Standing, GoesOn, Refuses, Starves, Loses, StopsAt, Stands, IsQuiet, IsBegun, Around, Takes}
-use Rattle.mp4_reading.specs.Readings.{Reading, Told, Ask, Faulty, AtMost, both, after, silent, asks_for, shifted, plus, uncounted, most_of, early_in, fault_in, nothing}
+use Rattle.mp4_reading.specs.Readings.{Reading, Told, Faulty, AtMost, both, after, silent, asks_for, shifted, plus, uncounted, most_of, early_in, fault_in}
 use Rattle.mp4_reading.specs.declared.stop.Stop.{Stop}
 use Rattle.mp4_reading.specs.declared.stop.Stop.TheVariants.{Stream, Read, Write, OverLimit, Memory}
 use Rattle.mp4_reading.specs.declared.tally.Tally.{Tally}

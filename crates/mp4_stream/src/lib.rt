@@ -14,6 +14,7 @@
 //! claims is said by `mp4_reading`, in `specs/Runs.antt`.
 #![tactic(auto)]
 
+pub mod feeder;
 pub mod fragments;
 mod held;
 mod intake;
@@ -24,6 +25,7 @@ mod phase;
 pub mod run;
 mod silent;
 
+pub use feeder::Feeder;
 pub use fragments::{check, samples, split};
 pub use mp4_box::{Fault, FourCc, Rule, vectors};
 pub use mp4_cut::Cut;

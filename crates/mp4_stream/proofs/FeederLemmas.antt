@@ -1,0 +1,176 @@
+-- What a Feeder is behind the bytes that it was fed, and what the next piece brings.
+use Rattle.std.proofs.Common.{◌≡◌, ◌∙◌, ℕ, ◌+◌, ◌-◌, ◌*◌, ◌≤◌, ◌<◌, List, [], ◌∷◌, ◌++◌, take, max, Option, None, Some, Ok, Err, ap, sym, refl, arith, append-nil, subst}
+use Rattle.std.proofs.KnownBytes.{Appends-nil}
+use Rattle.mp4_box.specs.Headers.{IsBytes}
+use Rattle.mp4_feed.specs.States.{Progress, begun, stands_in}
+use Rattle.mp4_feed.proofs.HeadLemmas.{reads-none}
+use Rattle.mp4_items.specs.Contexts.{context, first_context}
+use Rattle.mp4_items.specs.HeldSizes.{HoldsWithin}
+use Rattle.mp4_items.proofs.BeforeLemmas.{text-before}
+use Rattle.mp4_items.proofs.HeldSizeLemmas.{asks-within}
+use Rattle.mp4_ledger.specs.Memory.{Account}
+use Rattle.mp4_pieces.specs.declared.cut.Cut.{Cut}
+use Rattle.mp4_reading.specs.Ends.{Sent}
+use Rattle.mp4_reading.specs.Fed.{Lent, lent, Sums, sums_in, StarvesBehind, FedUntil}
+use Rattle.mp4_reading.specs.Pieces.{GoesOn, IsBegun, IsQuiet, StopsAt, outside}
+use Rattle.mp4_reading.specs.Readings.{Ask, both, early_in, greatest, most_of, silent, uncounted}
+use Rattle.mp4_reading.specs.declared.stop.Stop.{Stop}
+use Rattle.mp4_reading.specs.declared.stop.Stop.TheVariants.{Stream, Read, Write, OverLimit, Memory}
+use Rattle.mp4_reading.proofs.AccountLemmas.{Counts-none}
+use Rattle.mp4_reading.proofs.FedLemmas.{Stands-begun, goes-peak, goes-stands, goes-tells, lifted, marked, peak_behind, stands-undecided, stops-until}
+use Rattle.mp4_reading.proofs.ReadingAskLemmas.{greatest-append}
+use Rattle.mp4_reading.proofs.ReadingLemmas.{both-silent}
+use Rattle.mp4_reading.proofs.RunLemmas.{bytes-more}
+use Rattle.mp4_recut.specs.Splitting.{splitting}
+use Rattle.mp4_recut.specs.declared.plan.Plan.TheVariants.{Split}
+use Rattle.mp4_recut.proofs.SplitLemmas.{splitting-quiet}
+use Rattle.mp4_stream.specs.Feeders.{ClaimsWithin, Feeding, Feeds, Finishes, IsFeeder, Stands, WritesBefore, held_by, live, reading, sums_of}
+use Rattle.mp4_stream.specs.Feeders as feeders
+
+-- ---- no byte has come
+
+begun-is : (cut : Cut) → IsBegun (stands_in (begun (Split cut))) uncounted
+begun-is cut = record { reached = refl; claim = refl; none = reads-none (splitting cut) (context 0 None 1); counted = refl }
+
+pub begun-feeder : (cut : Cut) (waiting : List ℕ) → waiting ≡ [] → IsFeeder (feeders.begun cut (begun (Split cut))) 0 waiting
+begun-feeder cut waiting none = record {
+  plan = refl;
+  held = refl;
+  within = omega arith;
+  quiet = λ running. record { told = ap (λ r. r.told) (begun-is cut).none; early = ap (λ r. early_in r.outcome) (begun-is cut).none };
+  near = λ running. omega arith;
+  empty = λ running. none;
+  spent = λ e stop. absurd cc;
+}
+
+pub begun-stands : (cut : Cut) → Stands (feeders.begun cut (begun (Split cut))) []
+begun-stands cut = record {
+  running = refl;
+  bytes = λ i. omega arith;
+  undecided = ap (λ r. early_in r.outcome) (begun-is cut).none;
+  machine = Stands-begun (stands_in (begun (Split cut))) (begun-is cut);
+  sums = sym (ap (λ r. sums_in r.told) (begun-is cut).none);
+}
+
+-- ---- what is claimed, by the boxes of the stream
+
+module _ (cut : Cut) (b : List ℕ) (fits : IsBytes b) (moov moof : ℕ) (within : HoldsWithin (splitting cut) first_context b moov moof) where
+  asked : most_of (reading cut b).told ≤ 2 * moov + 5 * moof
+  asked = asks-within (splitting cut) (splitting-quiet cut) moov moof b fits within
+
+  -- and before a claim that is refused
+  asked_before : (before : List Ask) (a : Ask) (behind : List Ask) → (reading cut b).told.asks ≡ before ++ a ∷ behind → (greatest before ≤ 2 * moov + 5 * moof) × (a.sum ≤ 2 * moov + 5 * moof)
+  asked_before before a behind e =
+      let whole : most_of (reading cut b).told ≡ max (greatest before) (max a.sum (greatest behind)) = ap greatest e ∙ greatest-append before (a ∷ behind) in
+      (omega (arith, whole, asked), omega (arith, whole, asked))
+
+claims-ok : {T : Type 0} {t : T} (cut : Cut) (b : List ℕ) (peak others limit : ℕ) → IsBytes b → peak ≡ most_of (reading cut b).told → ClaimsWithin {T = T} cut b peak others limit (Ok t)
+claims-ok cut b peak others limit fits e = record {
+  most = λ moov moof within. omega (arith, e, asked cut b fits moov moof within);
+  enough = λ moov moof within room is. absurd cc;
+}
+
+module _ (cut : Cut) (b piece : List ℕ) (l : Lent) (own : ℕ) (s : Sums) (fits : IsBytes (b ++ piece)) (low : own ≤ l.account.live) where
+  claims-starved : (r : StarvesBehind (reading cut) b (b ++ piece) l own s) (moov moof : ℕ) → HoldsWithin (splitting cut) first_context (b ++ piece) moov moof → s.peak ≤ 2 * moov + 5 * moof
+  claims-starved r moov moof within =
+      let bound = asked_before cut (b ++ piece) fits moov moof within (both (reading cut b).told r.told).asks r.ask r.asked.0 r.asked.1 in
+      omega (arith, ap (λ k. k.peak) r.sums, bound.0)
+
+  claims-over : (r : StarvesBehind (reading cut) b (b ++ piece) l own s) → l.account'.limit < l.account'.live + r.ask.sum → (moov moof : ℕ) → HoldsWithin (splitting cut) first_context (b ++ piece) moov moof → (l.account.live - own) + (2 * moov + 5 * moof) ≤ l.account.limit → ⊥
+  claims-over r far moov moof within room =
+      let bound = asked_before cut (b ++ piece) fits moov moof within (both (reading cut b).told r.told).asks r.ask r.asked.0 r.asked.1 in
+      omega (arith, far, bound.1, room, r.counts.live, r.counts.limit, low)
+
+  claims-err : {T : Type 0} (e : Stop) → FedUntil (reading cut) b piece l own s e → ClaimsWithin {T = T} cut (b ++ piece) s.peak (l.account.live - own) l.account.limit (Err e)
+  claims-err (Stream f) until = record {
+    most = λ moov moof within. omega (arith, ap (λ k. k.peak) until.2, asked cut (b ++ piece) fits moov moof within);
+    enough = λ moov moof within room is. absurd cc;
+  }
+  claims-err (Read at) until = absurd until
+  claims-err Write until = record {
+    most = λ moov moof within. omega (arith, until.peak_most, asked cut (b ++ piece) fits moov moof within);
+    enough = λ moov moof within room is. absurd cc;
+  }
+  claims-err OverLimit until = record {
+    most = claims-starved until.0;
+    enough = λ moov moof within room is. claims-over until.0 until.1 moov moof within room;
+  }
+  claims-err Memory until = record { most = claims-starved until.0; enough = λ moov moof within room is. absurd cc }
+
+  -- the text before a claim that is refused
+  before-refused : (r : StarvesBehind (reading cut) b (b ++ piece) l own s) → live cut (take r.ask.at (b ++ piece)) ≡ live cut b ++ r.told.text
+  before-refused r = sym (text-before (splitting cut) (splitting-quiet cut) (b ++ piece) (both (reading cut b).told r.told).asks r.ask r.asked.0 r.asked.1) ∙ r.front
+
+  writes-before : (e : Stop) (until : FedUntil (reading cut) b piece l own s e) → WritesBefore cut b piece l own s e until
+  writes-before (Stream f) until = tt
+  writes-before (Read at) until = absurd until
+  writes-before Write until = tt
+  writes-before OverLimit until = before-refused until.0
+  writes-before Memory until = before-refused until.0
+
+-- ---- a piece without bytes
+
+pub feeds-none : {T : Type 0} (t : T) (f : Feeding) (b : List ℕ) (written : Option (List ℕ)) (account : Account) → Stands f b → Feeds b [] f f (record { written = written; written' = written; account = account; account' = account }) (Ok t)
+feeds-none t f b written account s =
+    let same : b ≡ b ++ [] = sym (append-nil b) in
+    record {
+      ok = (
+        subst (Stands f) same s,
+        record {
+          told = silent;
+          all = sym (ap (λ x. (reading f.cut x).told) same) ∙ sym (both-silent (reading f.cut b).told);
+          text = Appends-nil written;
+          counts = Counts-none account (held_by f);
+        },
+      );
+      err = tt;
+      claims = claims-ok f.cut (b ++ []) f.peak (account.live - held_by f) account.limit (subst IsBytes same s.bytes) (ap (λ k. k.peak) s.sums ∙ ap (λ x. most_of (reading f.cut x).told) same);
+    }
+
+-- ---- a piece
+
+-- what a Feeder is behind a piece, with its machine so and the account of its ledger so before and behind
+abbrev pub fed : Feeding → Progress → (a k : Account) → Option Stop → Feeding
+fed f m a k stop = record { cut = f.cut; machine = m; stop = stop; peak = peak_behind f.peak (a.live - held_by f) k.peak }
+
+module _ (f : Feeding) (m : Progress) (s : Sent) (a k : Account) (running : f.stop ≡ None) (few : held_by f ≤ f.peak) (low : held_by f ≤ a.live) (high : a.live ≤ a.peak) (piece : List ℕ) (fits : IsBytes piece) where
+  module _ (b : List ℕ) (st : Stands f b) where
+    most : f.peak ≡ most_of (reading f.cut b).told
+    most = ap (λ (x : Sums). x.peak) st.sums
+
+    pub feeds-ok : {T : Type 0} (t : T) → GoesOn (outside s.written [] (marked a) f.machine.counter.tally) (outside s.written' [] k m.counter.tally) (stands_in f.machine) piece (stands_in m) → IsQuiet (stands_in m)
+        → Feeds {T = T} b piece f (fed f m a k None) (lent s a (lifted k a.peak)) (Ok t)
+    feeds-ok t g quiet =
+        let o = outside s.written [] (marked a) f.machine.counter.tally in
+        let o' = outside s.written' [] k m.counter.tally in
+        let stands = goes-stands (reading f.cut) b st.machine piece o o' a refl refl refl high low f.peak most few refl g quiet in
+        let peak = goes-peak (reading f.cut) b st.machine piece o o' a refl refl refl high low f.peak most few refl g quiet in
+        let bytes = bytes-more b piece st.bytes fits in
+        record {
+          ok = (
+            record {
+              running = refl;
+              bytes = bytes;
+              undecided = stands-undecided (reading f.cut) (b ++ piece) stands quiet;
+              machine = stands;
+              sums = ap (λ t. record { tally = t; peak = peak_behind f.peak (a.live - held_by f) k.peak }) stands.tally ∙ ap (λ n. record { tally = (reading f.cut (b ++ piece)).told.tally; peak = n }) peak;
+            },
+            goes-tells (reading f.cut) b st.machine piece o o' a refl refl refl high low f.peak most few refl g quiet,
+          );
+          err = tt;
+          claims = claims-ok f.cut (b ++ piece) (peak_behind f.peak (a.live - held_by f) k.peak) (a.live - held_by f) a.limit bytes peak;
+        }
+
+    pub feeds-err : {T : Type 0} (e : Stop) → ((more : List ℕ) → StopsAt (outside s.written [] (marked a) f.machine.counter.tally) (outside s.written' [] k m.counter.tally) (stands_in f.machine) (piece ++ more) e)
+        → Feeds {T = T} b piece f (fed f m a k (Some e)) (lent s a (lifted k a.peak)) (Err e)
+    feeds-err e g =
+        let o = outside s.written [] (marked a) f.machine.counter.tally in
+        let o' = outside s.written' [] k m.counter.tally in
+        let until = stops-until (reading f.cut) b st.machine piece o o' a refl refl refl high low f.peak most few e refl (subst (λ x. StopsAt o o' (stands_in f.machine) x e) (append-nil piece) (g [])) in
+        let bytes = bytes-more b piece st.bytes fits in
+        let l = lent s a (lifted k a.peak) in
+        record {
+          ok = tt;
+          err = (until, writes-before f.cut b piece l (held_by f) (sums_of (fed f m a k (Some e))) bytes low e until);
+          claims = claims-err f.cut b piece l (held_by f) (sums_of (fed f m a k (Some e))) bytes low e until;
+        }
