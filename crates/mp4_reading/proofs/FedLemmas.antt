@@ -12,7 +12,7 @@ use Rattle.mp4_reading.specs.declared.stop.Stop.{Stop}
 use Rattle.mp4_reading.specs.declared.stop.Stop.TheVariants.{Stream, Read, Write, OverLimit, Memory}
 use Rattle.mp4_reading.specs.declared.tally.Tally.{Tally}
 use Rattle.mp4_reading.proofs.BlockLemmas.{Appends-passed}
-use Rattle.mp4_reading.proofs.ReadingAskLemmas.{most-both, plus-none, shifted-append}
+use Rattle.mp4_reading.proofs.ReadingAskLemmas.{AtMost-behind, AtMost-plus, most-both, plus-none, shifted-append}
 use Rattle.mp4_reading.proofs.ReadingLemmas.{after-both, both-silent, after-silent}
 use Rattle.mp4_reading.proofs.RunLemmas.{takes-left}
 
@@ -153,6 +153,7 @@ module _ (whole : List ℕ → Reading) (b : List ℕ) {p : Standing} {counted :
                 text = Appends-passed g.moves.passes none none';
                 counts = counts-lifted 0 (most_of g.brought) g.moves.counts;
                 sums = ap (λ t. record { tally = t; peak = peak' }) tally ∙ ap (λ m. record { tally = all; peak = m }) (peak-exact 0 g.brought g.moves.counts);
+                most = subst (λ t. AtMost t (whole (b ++ piece)).told.tally) (sym tally) (subst (λ t. AtMost all t.tally) (sym told) (AtMost-behind (whole b).told.tally (plus g.brought.tally uncounted) (plus g.brought.tally (plus uncounted more.tally)) (AtMost-behind g.brought.tally uncounted (plus uncounted more.tally) (AtMost-plus uncounted more.tally))));
               },
               refl,
             )

@@ -8,6 +8,7 @@ pub mod BlockLemmas
 pub mod PieceLemmas
 pub mod RunLemmas
 pub mod FedLemmas
+pub mod FedRunLemmas
 pub mod HeadLemmas
 pub mod BodyGrowthLemmas
 pub mod HoldingLemmas

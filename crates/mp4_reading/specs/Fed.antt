@@ -58,6 +58,7 @@ pub record StarvesBehind (whole : List ℕ → Reading) (b b' : List ℕ) (l : L
   pub text : Appends l.written l.written' told.text
   pub counts : Counts l.account l.account' own 0 (most_of told)
   pub sums : s ≡ record { tally = ask.counted; peak = most_of (both (whole b).told told) }
+  pub most : AtMost s.tally (whole b').told.tally
 
 -- how a call stops that is fed a piece behind the bytes b: at a fault that these and the piece decide, at a failed write, or at a claim that was refused
 abbrev pub FedUntil : (whole : List ℕ → Reading) → (b piece : List ℕ) → Lent → (own : ℕ) → Sums → Stop → Type 0

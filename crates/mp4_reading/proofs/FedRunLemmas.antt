@@ -1,0 +1,111 @@
+-- A run over a whole stream whose reads are fed piece by piece, by the bytes that came so far.
+use Rattle.std.proofs.Common.{◌≡◌, ℕ, zero, suc, ◌+◌, ◌-◌, ◌≤◌, ◌<◌, List, [], ◌∷◌, ◌++◌, length, take, max, true, Option, Some, None, ap, sym, ◌∙◌, refl, arith, append-nil, subst, inr}
+use Rattle.std.proofs.KnownBytes.{Appends-trans}
+use Rattle.std.specs.Io.KnownBytes.{Appends}
+use Rattle.mp4_box.specs.declared.rules.Fault.{Fault}
+use Rattle.mp4_ends.specs.Streams.{AppendsPrefix}
+use Rattle.mp4_ends.proofs.StreamLemmas.{AppendsPrefix-more}
+use Rattle.mp4_ledger.specs.Memory.{Account}
+use Rattle.mp4_reading.specs.Accounts.{Counts, Spends}
+use Rattle.mp4_reading.specs.Ends.{Ends}
+use Rattle.mp4_reading.specs.Fed.{Lent, Sums, TellsRest, StarvesBehind, FedUntil}
+use Rattle.mp4_reading.specs.Readings.{Outcome, Sound, Faulty, CutOff, Reading, Told, both, early_in, fault_in, most_of, shifted}
+use Rattle.mp4_reading.specs.Runs.{Run, TellsAll, IsPrompt, StarvesAt, ComesUntil}
+use Rattle.mp4_reading.specs.declared.stop.Stop.{Stop}
+use Rattle.mp4_reading.specs.declared.stop.Stop.TheVariants.{Stream, Read, Write, OverLimit, Memory}
+use Rattle.mp4_reading.specs.declared.tally.Tally.{Tally}
+use Rattle.mp4_reading.proofs.AccountLemmas.{Counts-more, Spends-after}
+use Rattle.mp4_reading.proofs.ReadingAskLemmas.{most-both}
+
+peak-all : (a k : Account) (own m : ℕ) → a.peak ≡ a.live → Counts a k 0 own m → k.peak ≡ a.live + m
+peak-all a k own zero marked c = omega (arith, c.peak, marked)
+peak-all a k own (suc m) marked c = omega (arith, c.peak, marked)
+
+peak-some : (a k : Account) (own m : ℕ) → a.peak ≡ a.live → Spends a k 0 own m → k.peak ≤ a.live + m
+peak-some a k own zero marked c = omega (arith, c.at_most, marked)
+peak-some a k own (suc m) marked c = omega (arith, c.at_most, marked)
+
+early-fault : (o : Outcome) (f : Fault) → early_in o ≡ Some f → fault_in o ≡ Some f
+early-fault Sound f e = absurd cc
+early-fault (Faulty g) f e = e
+early-fault (CutOff g) f e = absurd cc
+
+-- a run that was given the bytes b, where so much was out before; the account of the ledger and the tally are so now
+abbrev pub run_so_far : (List ℕ → Reading) → Ends → Account → List ℕ → Account → Tally → Run
+run_so_far whole ends a b k tally = record {
+  whole = whole;
+  bytes = b;
+  ends = ends;
+  claims = record { copy = a.live; limit = a.limit; peak = k.peak };
+  tally = tally;
+}
+
+module _ (whole : List ℕ → Reading) (ends : Ends) (a : Account) (marked : a.peak ≡ a.live) (b : List ℕ) where
+  pub tells-all : (k : Account) (tally : Tally) (own : ℕ) → Appends ends.written ends.written' (whole b).told.text → Counts a k 0 own (most_of (whole b).told) → tally ≡ (whole b).told.tally → TellsAll (run_so_far whole ends a b k tally)
+  tells-all k tally own text counts same = record { text = text; peak = peak-all a k own (most_of (whole b).told) marked counts; tally = same }
+
+  module _ (undecided : early_in (whole b).outcome ≡ None) where
+    -- no byte came since, or the bytes of one read
+    abbrev pub prompt-here : (k : Account) (tally : Tally) → IsPrompt (run_so_far whole ends a b k tally)
+    prompt-here k tally = record { early = b; last = []; cut = sym (append-nil b); few = omega arith; undecided = undecided }
+
+    abbrev pub prompt-fed : (piece : List ℕ) (k : Account) (tally : Tally) → length piece ≤ a.live → IsPrompt (run_so_far whole ends a (b ++ piece) k tally)
+    prompt-fed piece k tally few = record { early = b; last = piece; cut = refl; few = few; undecided = undecided }
+
+    -- the next piece stops it
+    module _ (piece : List ℕ) (l : Lent) (own : ℕ) (s : Sums) (few : length piece ≤ a.live) (to : ends.written' ≡ l.written') (text : Appends ends.written l.written (whole b).told.text) (counts : Counts a l.account 0 own (most_of (whole b).told)) where
+      abbrev run : Run
+      run = run_so_far whole ends a (b ++ piece) l.account' s.tally
+
+      text-behind : (t : List ℕ) → Appends l.written l.written' t → Appends ends.written ends.written' ((whole b).told.text ++ t)
+      text-behind t h = subst (λ w. Appends ends.written w ((whole b).told.text ++ t)) (sym to) (Appends-trans ends.written l.written l.written' (whole b).told.text t text h)
+
+      counts-behind : (t : Told) → Counts l.account l.account' own 0 (most_of t) → Counts a l.account' 0 0 (most_of (both (whole b).told t))
+      counts-behind t c = subst (Counts a l.account' 0 0) (sym (most-both (whole b).told t)) (Counts-more a l.account l.account' 0 own 0 (most_of (whole b).told) (most_of t) (omega arith) counts c)
+
+      tells-rest : TellsRest whole b (b ++ piece) l own 0 → s.tally ≡ (whole (b ++ piece)).told.tally → TellsAll run
+      tells-rest r same = record {
+        text = subst (λ t. Appends ends.written ends.written' t.text) (sym r.all) (text-behind r.told.text r.text);
+        peak = peak-all a l.account' 0 (most_of (both (whole b).told r.told)) marked (counts-behind r.told r.counts) ∙ ap (λ t. a.live + most_of t) (sym r.all);
+        tally = same;
+      }
+
+      starves : (r : StarvesBehind whole b (b ++ piece) l own s) → (at : StarvesAt run (prompt-fed piece l.account' s.tally few)) × (at.ask.sum ≡ r.ask.sum)
+      starves r = (
+        record {
+          ask = r.ask;
+          before = (both (whole b).told r.told).asks;
+          asked = r.asked;
+          new = (shifted (whole b).told r.told.asks, refl);
+          text = subst (λ t. Appends ends.written ends.written' t) (sym r.front) (text-behind r.told.text r.text);
+          peak = peak-all a l.account' 0 (most_of (both (whole b).told r.told)) marked (counts-behind r.told r.counts);
+          tally = ap (λ (x : Sums). x.tally) r.sums;
+          most = r.most;
+        },
+        refl,
+      )
+
+      pub comes-until : (e : Stop) → (e ≡ Write → ends.write_failed' ≡ true) → FedUntil whole b piece l own s e → ComesUntil run (prompt-fed piece l.account' s.tally few) e
+      unfolding starves
+      comes-until (Stream f) failed until = (
+        tells-rest until.0 (ap (λ (x : Sums). x.tally) until.2),
+        early-fault (whole (b ++ piece)).outcome f until.1,
+        λ none. let some = until.1 in absurd cc,
+      )
+      comes-until (Read at) failed until = absurd until
+      comes-until Write failed until =
+          let spends = subst (Spends a l.account' 0 0) (sym (most-both (whole b).told until.told) ∙ ap most_of (sym until.all))
+          (Spends-after a l.account l.account' 0 own 0 (most_of (whole b).told) (most_of until.told) (omega arith) counts until.spends) in
+          let front = AppendsPrefix-more ends.written l.written l.written' (whole b).told.text until.told.text text until.text in (
+            record {
+              text = subst (λ t. AppendsPrefix ends.written ends.written' t.text) (sym until.all) (subst (λ w. AppendsPrefix ends.written w ((whole b).told.text ++ until.told.text)) (sym to) front);
+              least = omega (arith, spends.at_least, marked);
+              most = peak-some a l.account' 0 (most_of (whole (b ++ piece)).told) marked spends;
+              counted = until.most;
+            },
+            failed refl,
+          )
+      comes-until OverLimit failed (r, far) =
+          let at = starves r in inr (at.0, omega (arith, far, at.1, r.counts.live, counts.live, r.counts.limit, counts.limit))
+      comes-until Memory failed (r, near) =
+          let at = starves r in inr (at.0, omega (arith, near, at.1, r.counts.live, counts.live, r.counts.limit, counts.limit))
