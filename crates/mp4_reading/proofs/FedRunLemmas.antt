@@ -30,6 +30,17 @@ early-fault Sound f e = absurd cc
 early-fault (Faulty g) f e = e
 early-fault (CutOff g) f e = absurd cc
 
+-- ---- the bytes of one more read
+
+module _ (whole : List ℕ → Reading) (b b' : List ℕ) (l : Lent) (own own' : ℕ) (r : TellsRest whole b b' l own own') where
+  pub text-more : (first : Option (List ℕ)) → Appends first l.written (whole b).told.text → Appends first l.written' (whole b').told.text
+  text-more first h = subst (λ t. Appends first l.written' t.text) (sym r.all) (Appends-trans first l.written l.written' (whole b).told.text r.told.text h r.text)
+
+  pub counts-more : (a : Account) → Counts a l.account 0 own (most_of (whole b).told) → Counts a l.account' 0 own' (most_of (whole b').told)
+  counts-more a c = subst (λ t. Counts a l.account' 0 own' (most_of t)) (sym r.all) (subst (Counts a l.account' 0 own') (sym (most-both (whole b).told r.told)) (Counts-more a l.account l.account' 0 own own' (most_of (whole b).told) (most_of r.told) (omega arith) c r.counts))
+
+-- ---- how it ends or stops
+
 -- a run that was given the bytes b, where so much was out before; the account of the ledger and the tally are so now
 abbrev pub run_so_far : (List ℕ → Reading) → Ends → Account → List ℕ → Account → Tally → Run
 run_so_far whole ends a b k tally = record {

@@ -1,5 +1,5 @@
 -- What a Feeder is behind the bytes that it was fed, and what the next piece brings.
-use Rattle.std.proofs.Common.{◌≡◌, ◌∙◌, ℕ, ◌+◌, ◌-◌, ◌*◌, ◌≤◌, ◌<◌, List, [], ◌∷◌, ◌++◌, take, max, Option, None, Some, Ok, Err, ap, sym, refl, arith, append-nil, subst}
+use Rattle.std.proofs.Common.{◌≡◌, ◌∙◌, ℕ, ◌+◌, ◌-◌, ◌*◌, ◌≤◌, ◌<◌, List, [], ◌∷◌, ◌++◌, take, true, max, Option, None, Some, Ok, Err, ap, sym, refl, arith, append-nil, subst}
 use Rattle.std.proofs.KnownBytes.{Appends-nil}
 use Rattle.mp4_box.specs.Headers.{IsBytes}
 use Rattle.mp4_feed.specs.States.{Progress, begun, stands_in}
@@ -12,8 +12,9 @@ use Rattle.mp4_ledger.specs.Memory.{Account}
 use Rattle.mp4_pieces.specs.declared.cut.Cut.{Cut}
 use Rattle.mp4_reading.specs.Ends.{Sent}
 use Rattle.mp4_reading.specs.Fed.{Lent, lent, Sums, sums_in, StarvesBehind, FedUntil}
-use Rattle.mp4_reading.specs.Pieces.{GoesOn, IsBegun, IsQuiet, StopsAt, outside}
-use Rattle.mp4_reading.specs.Readings.{Ask, both, early_in, greatest, most_of, silent, uncounted}
+use Rattle.mp4_reading.specs.Pieces.{GoesOn, IsBegun, IsQuiet, StopsAt, farthest, outside}
+use Rattle.mp4_reading.specs.Readings.{Ask, Reading, both, early_in, fault_in, greatest, most_of, nothing, silent, uncounted}
+use Rattle.mp4_reading.specs.Runs.{ComesUntil, IsPrompt, Run, TellsAll}
 use Rattle.mp4_reading.specs.declared.stop.Stop.{Stop}
 use Rattle.mp4_reading.specs.declared.stop.Stop.TheVariants.{Stream, Read, Write, OverLimit, Memory}
 use Rattle.mp4_reading.proofs.AccountLemmas.{Counts-none}
@@ -32,6 +33,10 @@ use Rattle.mp4_stream.specs.Feeders as feeders
 begun-is : (cut : Cut) → IsBegun (stands_in (begun (Split cut))) uncounted
 begun-is cut = record { reached = refl; claim = refl; none = reads-none (splitting cut) (context 0 None 1); counted = refl }
 
+-- no bytes tell nothing
+pub reading-none : (cut : Cut) → reading cut [] ≡ nothing
+reading-none cut = (begun-is cut).none
+
 pub begun-feeder : (cut : Cut) (waiting : List ℕ) → waiting ≡ [] → IsFeeder (feeders.begun cut (begun (Split cut))) 0 waiting
 begun-feeder cut waiting none = record {
   plan = refl;
@@ -48,6 +53,7 @@ begun-stands cut = record {
   running = refl;
   bytes = λ i. omega arith;
   undecided = ap (λ r. early_in r.outcome) (begun-is cut).none;
+  near = omega arith;
   machine = Stands-begun (stands_in (begun (Split cut))) (begun-is cut);
   sums = sym (ap (λ r. sums_in r.told) (begun-is cut).none);
 }
@@ -114,6 +120,7 @@ pub feeds-none : {T : Type 0} (t : T) (f : Feeding) (b : List ℕ) (written : Op
 feeds-none t f b written account s =
     let same : b ≡ b ++ [] = sym (append-nil b) in
     record {
+      bytes = subst IsBytes same s.bytes;
       ok = (
         subst (Stands f) same s,
         record {
@@ -138,20 +145,22 @@ module _ (f : Feeding) (m : Progress) (s : Sent) (a k : Account) (running : f.st
     most : f.peak ≡ most_of (reading f.cut b).told
     most = ap (λ (x : Sums). x.peak) st.sums
 
-    pub feeds-ok : {T : Type 0} (t : T) → GoesOn (outside s.written [] (marked a) f.machine.counter.tally) (outside s.written' [] k m.counter.tally) (stands_in f.machine) piece (stands_in m) → IsQuiet (stands_in m)
+    pub feeds-ok : {T : Type 0} (t : T) → GoesOn (outside s.written [] (marked a) f.machine.counter.tally) (outside s.written' [] k m.counter.tally) (stands_in f.machine) piece (stands_in m) → IsQuiet (stands_in m) → (stands_in m).reached ≤ farthest
         → Feeds {T = T} b piece f (fed f m a k None) (lent s a (lifted k a.peak)) (Ok t)
-    feeds-ok t g quiet =
+    feeds-ok t g quiet near =
         let o = outside s.written [] (marked a) f.machine.counter.tally in
         let o' = outside s.written' [] k m.counter.tally in
         let stands = goes-stands (reading f.cut) b st.machine piece o o' a refl refl refl high low f.peak most few refl g quiet in
         let peak = goes-peak (reading f.cut) b st.machine piece o o' a refl refl refl high low f.peak most few refl g quiet in
         let bytes = bytes-more b piece st.bytes fits in
         record {
+          bytes = bytes;
           ok = (
             record {
               running = refl;
               bytes = bytes;
               undecided = stands-undecided (reading f.cut) (b ++ piece) stands quiet;
+              near = omega (arith, stands.reached, near);
               machine = stands;
               sums = ap (λ t. record { tally = t; peak = peak_behind f.peak (a.live - held_by f) k.peak }) stands.tally ∙ ap (λ n. record { tally = (reading f.cut (b ++ piece)).told.tally; peak = n }) peak;
             },
@@ -170,7 +179,19 @@ module _ (f : Feeding) (m : Progress) (s : Sent) (a k : Account) (running : f.st
         let bytes = bytes-more b piece st.bytes fits in
         let l = lent s a (lifted k a.peak) in
         record {
+          bytes = bytes;
           ok = tt;
           err = (until, writes-before f.cut b piece l (held_by f) (sums_of (fed f m a k (Some e))) bytes low e until);
           claims = claims-err f.cut b piece l (held_by f) (sums_of (fed f m a k (Some e))) bytes low e until;
         }
+
+-- ---- the end of the stream
+
+-- where a run ends at a fault
+pub finish-comes : (f : Feeding) (b : List ℕ) (run : Run) (prompt : IsPrompt run) (stop : Stop) → run.whole ≡ reading f.cut → run.bytes ≡ b → TellsAll run → run.ends.ended ≡ true → Finishes f b (Err stop) → ComesUntil run prompt stop
+finish-comes f b run prompt (Stream fault) whole bytes tells ended is =
+    (tells, ap (λ (w : List ℕ → Reading). fault_in (w run.bytes).outcome) whole ∙ ap (λ x. fault_in (reading f.cut x).outcome) bytes ∙ is, λ _. ended)
+finish-comes f b run prompt (Read at) whole bytes tells ended is = absurd is
+finish-comes f b run prompt Write whole bytes tells ended is = absurd is
+finish-comes f b run prompt OverLimit whole bytes tells ended is = absurd is
+finish-comes f b run prompt Memory whole bytes tells ended is = absurd is

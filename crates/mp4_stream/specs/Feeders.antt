@@ -1,5 +1,5 @@
 -- What a Feeder is behind the bytes of a stream that it was fed, and what a call of it brings.
-use Rattle.std.specs.Prelude.{◌≡◌, ℕ, ◌+◌, ◌-◌, ◌*◌, ◌≤◌, List, [], ◌++◌, take, Option, None, Some, Result, Ok, Err, IfErr, OnOk, IsErrOf}
+use Rattle.std.specs.Prelude.{◌≡◌, ℕ, ◌+◌, ◌-◌, ◌*◌, ◌≤◌, List, [], ◌++◌, length, take, Option, None, Some, Result, Ok, Err, IfErr, OnOk, IsErrOf}
 use Rattle.mp4_box.specs.Headers.{IsBytes}
 use Rattle.mp4_feed.specs.Places.{claim_of}
 use Rattle.mp4_feed.specs.States.{Progress, place_in, stands_in}
@@ -57,11 +57,12 @@ totals_of f = record {
   peak = f.peak;
 }
 
--- after the bytes b of a stream, in whatever pieces they came: it hasn't stopped, since they decide no fault; what is to come is read from where it is; and it has counted and claimed what they tell
+-- after the bytes b of a stream, in whatever pieces they came: it hasn't stopped, since they decide no fault and don't go past the longest stream; what is to come is read from where it is; and it has counted and claimed what they tell
 pub record Stands (f : Feeding) (b : List ℕ) : Type 0 where
   pub running : f.stop ≡ None
   pub bytes : IsBytes b
   pub undecided : early_in (reading f.cut b).outcome ≡ None
+  pub near : length b ≤ farthest
   pub machine : pieces.Stands (reading f.cut) b (stands_in f.machine) f.machine.counter.tally
   pub sums : sums_of f ≡ sums_in (reading f.cut b).told
 
@@ -92,6 +93,7 @@ WritesBefore cut b piece l own s Write until = Unit {0}
 
 -- a Feeder that stands behind the bytes b is fed a piece: it is Ok where no fault is decided, and then all that these bytes tell behind b was written; else it stops
 pub record Feeds {T : Type 0} (b piece : List ℕ) (f f' : Feeding) (l : Lent) (result : Result T Stop) : Type 0 where
+  pub bytes : IsBytes (b ++ piece)
   pub ok : OnOk result (Stands f' (b ++ piece) × TellsRest (reading f.cut) b (b ++ piece) l (held_by f) (held_by f'))
   pub err : IfErr result (λ e. (until : FedUntil (reading f.cut) b piece l (held_by f) (sums_of f') e) × WritesBefore f.cut b piece l (held_by f) (sums_of f') e until)
   pub claims : ClaimsWithin f.cut (b ++ piece) f'.peak (l.account.live - held_by f) l.account.limit result

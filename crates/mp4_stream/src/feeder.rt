@@ -187,7 +187,7 @@ impl Feeder {
     /// # Errors
     ///
     /// As [`Feeder::finish`].
-    fn ending(&self) -> Result<Totals, Stop>
+    pub(crate) fn ending(&self) -> Result<Totals, Stop>
         ensures finishes { (b : List ℕ) → Stands self.now b → Finishes self.now b result }
         ensures stopped { (e : Stop) → self.now.stop ≡ Some e → result ≡ Err e }
     {

@@ -22,6 +22,7 @@ pub mod laws;
 mod listing;
 mod machine;
 mod phase;
+mod pushed;
 pub mod run;
 mod silent;
 

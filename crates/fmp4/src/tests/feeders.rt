@@ -1,7 +1,7 @@
 //! Streams that are pushed in piece by piece. What must come of the first vector by two samples a fragment is a table, by how
 //! many of its bytes came.
 
-ghost use Rattle.std.specs.Prelude.{◌+◌, ◌≤◌};
+ghost use Rattle.std.specs.Prelude.{◌≡◌, ◌+◌, ◌≤◌};
 ghost use Rattle.mp4_stream.specs.Feeders.{held_by};
 
 use super::joined;
@@ -22,7 +22,9 @@ struct Pushed {
 }
 
 /// A Feeder that cuts by two samples a fragment.
-fn by_two_samples(rt: &impl Abort) -> Feeder {
+fn by_two_samples(rt: &impl Abort) -> Feeder
+    ensures { held_by result ≡ 0 }
+{
     Feeder::new(Cut::new(2, None, false).expect(rt, "two samples are allowed"))
 }
 

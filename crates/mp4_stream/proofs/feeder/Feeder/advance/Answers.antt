@@ -50,7 +50,7 @@ returns-in-Ok-clause-feeds g c =
     let f : Feeding = record { cut = i.cut; machine = i.machine; stop = None; peak = i.peak } in
     let peak : c.max-self-inside.result ≡ peak_behind i.peak (c.args.ledger.now.live - held_by f) c.feed-answer.new.ledger.peak = rw (c.max-self-inside.ensures, c.peak.ensures.peak, c.live.ensures.live, c.self.invariant.held) refl in
     rw (← c.self.view_is, c.lift.ensures, c.peak-peak.ensures.peak, peak, runs)
-    (λ b s. feeds-ok f c.feed-answer.new.machine (sent g.W.Sink.contents g.W.Sink.has_failed c.args.w.now c.feed-answer.new.w) c.args.ledger.now c.feed-answer.new.ledger refl c.self.invariant.within low c.peak-peak.ensures.most c.args.piece.now c.feed-answer.ensures.bytes b s _ taken.ok c.in-Ok.ensures.quiet)
+    (λ b s. feeds-ok f c.feed-answer.new.machine (sent g.W.Sink.contents g.W.Sink.has_failed c.args.w.now c.feed-answer.new.w) c.args.ledger.now c.feed-answer.new.ledger refl c.self.invariant.within low c.peak-peak.ensures.most c.args.piece.now c.feed-answer.ensures.bytes b s _ taken.ok c.in-Ok.ensures.quiet c.in-Ok.ensures.near)
 
 pub returns-in-Err-clause-feeds : goal.returns-in-Err-clause-feeds
 returns-in-Err-clause-feeds g c =
