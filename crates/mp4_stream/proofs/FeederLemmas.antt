@@ -1,6 +1,11 @@
 -- What a Feeder is behind the bytes that it was fed, and what the next piece brings.
-use Rattle.std.proofs.Common.{◌≡◌, ◌∙◌, ℕ, ◌+◌, ◌-◌, ◌*◌, ◌≤◌, ◌<◌, List, [], ◌∷◌, ◌++◌, take, true, max, Option, None, Some, Ok, Err, ap, sym, refl, arith, append-nil, subst}
+use Rattle.std.proofs.Common.{◌≡◌, ◌∙◌, ℕ, suc, ◌+◌, ◌-◌, ◌*◌, ◌≤◌, ◌<◌, List, [], ◌∷◌, ◌++◌, length, take, true, max, Option, None, Some, Result, Ok, Err, IfErr, OnOk, ap, sym, refl, arith, append-nil, subst}
+use Rattle.std.specs.Io.KnownBytes.{Appends}
+use Rattle.std.specs.List.{flat_map}
 use Rattle.std.proofs.KnownBytes.{Appends-nil}
+use Rattle.std.proofs.Math.ListN.{get_or}
+use Rattle.std.proofs.Math.Seq.{take-suc}
+use Rattle.std.proofs.lemmas.Grind.{flat_map-append}
 use Rattle.mp4_box.specs.Headers.{IsBytes}
 use Rattle.mp4_feed.specs.States.{Progress, begun, stands_in}
 use Rattle.mp4_feed.proofs.HeadLemmas.{reads-none}
@@ -11,7 +16,7 @@ use Rattle.mp4_items.proofs.HeldSizeLemmas.{asks-within}
 use Rattle.mp4_ledger.specs.Memory.{Account}
 use Rattle.mp4_pieces.specs.declared.cut.Cut.{Cut}
 use Rattle.mp4_reading.specs.Ends.{Sent}
-use Rattle.mp4_reading.specs.Fed.{Lent, lent, Sums, sums_in, StarvesBehind, FedUntil}
+use Rattle.mp4_reading.specs.Fed.{Lent, lent, Sums, sums_in, TellsRest, StarvesBehind, FedUntil}
 use Rattle.mp4_reading.specs.Pieces.{GoesOn, IsBegun, IsQuiet, StopsAt, farthest, outside}
 use Rattle.mp4_reading.specs.Readings.{Ask, Reading, both, early_in, fault_in, greatest, most_of, nothing, silent, uncounted}
 use Rattle.mp4_reading.specs.Runs.{ComesUntil, IsPrompt, Run, TellsAll}
@@ -19,6 +24,7 @@ use Rattle.mp4_reading.specs.declared.stop.Stop.{Stop}
 use Rattle.mp4_reading.specs.declared.stop.Stop.TheVariants.{Stream, Read, Write, OverLimit, Memory}
 use Rattle.mp4_reading.proofs.AccountLemmas.{Counts-none}
 use Rattle.mp4_reading.proofs.FedLemmas.{Stands-begun, goes-peak, goes-stands, goes-tells, lifted, marked, peak_behind, stands-undecided, stops-until}
+use Rattle.mp4_reading.proofs.FedRunLemmas.{text-more}
 use Rattle.mp4_reading.proofs.ReadingAskLemmas.{greatest-append}
 use Rattle.mp4_reading.proofs.ReadingLemmas.{both-silent}
 use Rattle.mp4_reading.proofs.RunLemmas.{bytes-more}
@@ -195,3 +201,30 @@ finish-comes f b run prompt (Read at) whole bytes tells ended is = absurd is
 finish-comes f b run prompt Write whole bytes tells ended is = absurd is
 finish-comes f b run prompt OverLimit whole bytes tells ended is = absurd is
 finish-comes f b run prompt Memory whole bytes tells ended is = absurd is
+
+-- ---- pieces, one after the other
+
+pub joined-more : {X : Type 0} (bytes : X → List ℕ) (pieces : List X) (i : ℕ) (d : X) → i < length pieces → flat_map bytes (take (i + 1) pieces) ≡ flat_map bytes (take i pieces) ++ bytes (get_or pieces i d)
+joined-more bytes pieces i d h =
+    let next : i + 1 ≡ suc i = omega arith in
+    ap (λ n. flat_map bytes (take n pieces)) next ∙ ap (flat_map bytes) (take-suc pieces i d h) ∙ flat_map-append bytes (take i pieces) (get_or pieces i d ∷ [])
+    ∙ ap (λ x. flat_map bytes (take i pieces) ++ x) (append-nil (bytes (get_or pieces i d)))
+
+-- what answers Ok had not stopped
+pub ok-runs : {T : Type 0} {t : T} (stop : Option Stop) (r : Result T Stop) → r ≡ Ok t → ((e : Stop) → stop ≡ Some e → r ≡ Err e) → stop ≡ None
+ok-runs None r is h = refl
+ok-runs {T = T} {t = t} (Some e) r is h = let no : ◌≡◌ {A = Result T Stop} (Ok t) (Err e) = sym is ∙ h e refl in absurd cc
+
+-- a Feeder that runs behind a piece ran before it, and so stands behind the piece too
+pub runs-on : {T : Type 0} (cut : Cut) (b piece : List ℕ) (f f' : Feeding) (l : Lent) (first : Option (List ℕ)) (r : Result T Stop) → f.cut ≡ cut → (Stands f b → Feeds b piece f f' l r) → ((e : Stop) → f.stop ≡ Some e → r ≡ Err e) → IfErr r (λ e. f'.stop ≡ Some e) → f'.stop ≡ None
+    → (f.stop ≡ None → Stands f b × Appends first l.written (live cut b)) → Stands f' (b ++ piece) × Appends first l.written' (live cut (b ++ piece))
+runs-on cut b piece f f' l first (Err e) same feeds stopped stops runs before = let no : ◌≡◌ {A = Option Stop} None (Some e) = sym runs ∙ stops in absurd cc
+runs-on cut b piece f f' l first (Ok t) same feeds stopped stops runs before =
+    let so_far = before (ok-runs f.stop (Ok t) refl stopped) in
+    let fed = feeds so_far.0 in
+    (fed.ok.0, text-more (reading cut) b (b ++ piece) l (held_by f) (held_by f') (subst (λ (x : Cut). TellsRest (reading x) b (b ++ piece) l (held_by f) (held_by f')) same fed.ok.1) first so_far.1)
+
+-- what holds wherever it answers Ok
+pub on-ok : {T : Type 0} (r : Result T Stop) (P : Type 0) → ((t : T) → r ≡ Ok t → P) → OnOk r P
+on-ok (Ok t) P h = h t refl
+on-ok (Err e) P h = tt

@@ -1,11 +1,16 @@
 //! Reads of a whole stream that are pushed into a Feeder.
 
-ghost use Rattle.std.specs.Prelude.{◌≡◌, ◌+◌, ◌<◌, [], length};
+ghost use Rattle.std.specs.Io.KnownBytes.{Appends};
+ghost use Rattle.std.specs.List.{flat_map};
+ghost use Rattle.std.specs.Prelude.{◌≡◌, ◌+◌, ◌<◌, [], length, None, OnOk};
 ghost use Rattle.mp4_reading.specs.Ends.{between, received, sent};
+ghost use Rattle.mp4_reading.specs.Readings.{fault_in};
 ghost use Rattle.mp4_reading.specs.Runs.{Runs};
-ghost use Rattle.mp4_stream.specs.Feeders.{Stands, held_by, reading};
+ghost use Rattle.mp4_stream.specs.Feeders.{Stands, held_by, live, reading};
 
 use crate::feeder::Feeder;
+use crate::run::Totals;
+use mp4_cut::Cut;
 use mp4_ends::{Failed, Sink, Source};
 use mp4_ledger::Ledger;
 use mp4_reading::Stop;
@@ -90,4 +95,30 @@ fn push_reads<R: Source, W: Sink>(
             Err(stop) => return Err(stop),
         }
     }
+}
+
+/// Pushes pieces in as they come, and ends the stream behind them. What is written doesn't depend on how the stream was cut into
+/// pieces: it is what their join is cut into.
+///
+/// # Errors
+///
+/// As [`Feeder::feed`] and [`Feeder::finish`].
+pub fn split_pieces<W: Sink>(
+    pieces: &[&[u8]],
+    w: &mut W,
+    ledger: &mut Ledger,
+    cut: Cut,
+) -> Result<Totals, Stop>
+    ensures text { OnOk result (Appends (W.contents w.old) (W.contents w.new)
+        (live cut (flat_map (λ piece. piece.now) pieces.now))) }
+    ensures sound { OnOk result
+        (fault_in (reading cut (flat_map (λ piece. piece.now) pieces.now)).outcome ≡ None) }
+    ensures back { ledger.new.live ≡ ledger.old.live }
+{
+    let mut feeder = Feeder::new(cut);
+    for piece in pieces {
+        // Behind a stop it writes nothing, and `finish` answers the same.
+        let _ = feeder.feed(ledger, piece, w);
+    }
+    feeder.finish(ledger)
 }

@@ -8,7 +8,7 @@ use super::joined;
 use super::splits::{by_two, tracks_by_two};
 use mp4_stream::ends::ToVec;
 use mp4_stream::vectors::{V1, V2};
-use mp4_stream::{Cut, Fault, Feeder, FourCc, Ledger, Rule, Stop, Totals};
+use mp4_stream::{Cut, Fault, Feeder, FourCc, Ledger, Rule, Stop, Totals, split_pieces};
 use std::alloc::Global;
 use std::process::Abort;
 use std::test::Fail;
@@ -25,7 +25,11 @@ struct Pushed {
 fn by_two_samples(rt: &impl Abort) -> Feeder
     ensures { held_by result ≡ 0 }
 {
-    Feeder::new(Cut::new(2, None, false).expect(rt, "two samples are allowed"))
+    Feeder::new(two_samples(rt))
+}
+
+fn two_samples(rt: &impl Abort) -> Cut {
+    Cut::new(2, None, false).expect(rt, "two samples are allowed")
 }
 
 impl Pushed {
@@ -181,6 +185,21 @@ fn totals_of_a_stream(rt: HostRuntime) -> Result<(), Fail> {
     assert_eq!(&rt; so_far, totals);
     // Each of the three samples at most fifteen times.
     assert!(&rt; totals.rows_read <= 45);
+    Ok(())
+}
+
+#[test]
+fn pieces_of_a_list(rt: HostRuntime) -> Result<(), Fail> {
+    let (alloc, v1) = (rt.alloc(), V1.as_slice());
+    let all = by_two(alloc)?;
+    let (mut w, mut ledger) = (
+        ToVec::new(alloc, 1000, 1000, true)?,
+        Ledger::new(alloc, 408),
+    );
+    let pieces = [&v1[..5], b"".as_slice(), &v1[5..470], &v1[470..]];
+    let answer = split_pieces(&pieces, &mut w, &mut ledger, two_samples(&rt));
+    let samples = answer.expect(&rt, "a stream without a fault").samples;
+    assert_eq!(&rt; (w.bytes(), samples, ledger.live()), (all.as_slice(), 3, 0));
     Ok(())
 }
 

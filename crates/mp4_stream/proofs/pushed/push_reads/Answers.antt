@@ -1,4 +1,4 @@
-use Rattle.std.proofs.Common.{rules, ◌≡◌, ◌∙◌, ◌≤◌, ◌++◌, List, ℕ, [], None, Err, ap, arith, length, length-append, length-take, refl, subst, sym, take}
+use Rattle.std.proofs.Common.{rules, ◌≡◌, ◌∙◌, ◌≤◌, ◌++◌, [], None, Err, ap, arith, length, length-append, length-take, refl, subst, sym, take}
 use Rattle.std.specs.Io.KnownBytes.{Appends}
 use Rattle.std.proofs.KnownBytes.{Appends-nil, Consumes-kept, Consumes-nil, Consumes-trans}
 use Rattle.mp4_ends.proofs.StreamLemmas.{Consumes-then_none}
@@ -9,7 +9,7 @@ use Rattle.mp4_reading.specs.Fed.{FedUntil, Lent, TellsRest, lent}
 use Rattle.mp4_reading.specs.Pieces.{farthest}
 use Rattle.mp4_reading.specs.Readings.{early_in, fault_in, most_of}
 use Rattle.mp4_reading.proofs.AccountLemmas.{Counts-none}
-use Rattle.mp4_reading.proofs.FedRunLemmas.{comes-until, counts-more, prompt-fed, prompt-here, run_so_far, tells-all, text-more}
+use Rattle.mp4_reading.proofs.FedRunLemmas.{comes-until, counts-more, prompt-fed, prompt-here, tells-all, text-more}
 use Rattle.mp4_stream.specs.Feeders.{held_by, reading, sums_of}
 use Rattle.mp4_stream.proofs.FeederLemmas.{finish-comes, reading-none}
 use Rattle.mp4_stream.proofs.pushed.push_reads.Goals as goal
