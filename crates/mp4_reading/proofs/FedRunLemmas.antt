@@ -1,5 +1,5 @@
 -- A run over a whole stream whose reads are fed piece by piece, by the bytes that came so far.
-use Rattle.std.proofs.Common.{◌≡◌, ℕ, zero, suc, ◌+◌, ◌-◌, ◌≤◌, ◌<◌, List, [], ◌∷◌, ◌++◌, length, take, max, true, Option, Some, None, ap, sym, ◌∙◌, refl, arith, append-nil, subst, inr}
+use Rattle.std.proofs.Common.{◌≡◌, ℕ, zero, suc, ◌+◌, ◌≤◌, List, [], ◌++◌, length, true, Option, Some, None, ap, sym, ◌∙◌, refl, arith, append-nil, subst, inr}
 use Rattle.std.proofs.KnownBytes.{Appends-trans}
 use Rattle.std.specs.Io.KnownBytes.{Appends}
 use Rattle.mp4_box.specs.declared.rules.Fault.{Fault}
