@@ -3,6 +3,7 @@
 ghost use Rattle.std.specs.Prelude.{◌≡◌, ◌<◌};
 
 mod ends;
+mod feeders;
 mod fragments;
 mod layouts;
 mod listings;

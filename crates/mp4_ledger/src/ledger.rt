@@ -1,6 +1,6 @@
 //! What is claimed, and how much may be.
 
-ghost use Rattle.std.specs.Prelude.{◌≡◌, ◌+◌, ◌-◌, ◌*◌, ◌<◌, ◌≤◌, ◌↔◌, [], OnOk, OnErr, IfErr, IfOk, IsErrOf};
+ghost use Rattle.std.specs.Prelude.{◌≡◌, ◌+◌, ◌-◌, ◌*◌, ◌<◌, ◌≤◌, ◌↔◌, [], max, OnOk, OnErr, IfErr, IfOk, IsErrOf};
 ghost use Rattle.mp4_ledger.specs.Memory.{claimed, given_back};
 
 use crate::buf::Buf;
@@ -81,6 +81,14 @@ impl Ledger {
         ensures { self.new ≡ record self.old { peak = self.old.live } }
     {
         self.peak = self.live;
+    }
+
+    /// Counts a peak that was reached before a mark: the peak is at least so much then.
+    pub fn lift(&mut self, peak: u64)
+        requires { peak ≤ self.old.limit }
+        ensures { self.new ≡ record self.old { peak = max self.old.peak peak } }
+    {
+        self.peak = self.peak.max(peak);
     }
 
     /// Claims an empty buffer with room for so many bytes.

@@ -101,11 +101,26 @@ pub Appends-passed : {a b : Option (List ℕ)} {v w : Pending} {s : List ℕ} {x
 Appends-passed {a = a} {b = b} {s = s} p e f =
     subst (Appends a b) (sym (sym (ap (λ l. l ++ s) e) ∙ p.all ∙ ap (λ l. p.sent ++ l) f ∙ append-nil p.sent)) p.written
 
+-- where all was sent before and behind, of each more bytes as many fragments are whole
+pub whole-passed : {a b : Option (List ℕ)} {v w : Pending} {s : List ℕ} {xs : List Mark} → PassesMarked a b v w s xs → IsSent v → IsSent w → (n : ℕ) → whole_in (length s + n) v.whole xs ≡ w.whole
+whole-passed {v = v} {w = w} {s = s} {xs = xs} p before behind n =
+    let all : length s + n ≡ length p.sent + n = omega (arith, ap length p.all, length-append p.sent w.bytes, length-append v.bytes s, ap length before.bytes, ap length behind.bytes) in
+    ap (λ k. whole_in k v.whole xs) all
+    ∙ ap (whole_in (length p.sent + n) v.whole) (sym (ap (λ l. moved (length l) xs) before.bytes ∙ moved-none xs))
+    ∙ ap (λ l. whole_in (length p.sent + n) v.whole (l ++ moved (length v.bytes) xs)) (sym before.ends)
+    ∙ p.alike n ∙ ap (whole_in n w.whole) behind.ends
+
 -- of what was put into a new block, and sent, so many fragments are whole
 pub whole-sent : {a b : Option (List ℕ)} {w : Pending} {s : List ℕ} {xs : List Mark} → PassesMarked a b unused w s xs → IsSent w → w.whole ≡ whole_in (length s) 0 xs
-whole-sent {w = w} {s = s} {xs = xs} p done =
-    let all : length p.sent + 0 ≡ length s = omega (arith, ap length p.all, length-append p.sent w.bytes, ap length done.bytes) in
-    ap (λ l. whole_in 0 w.whole l) (sym done.ends) ∙ sym (p.alike 0) ∙ ap (λ n. whole_in n 0 (moved 0 xs)) all ∙ ap (whole_in (length s) 0) (moved-none xs)
+whole-sent {s = s} {xs = xs} p done =
+    let all : length s + 0 ≡ length s = omega arith in
+    sym (whole-passed p (record { bytes = refl; ends = refl }) done 0) ∙ ap (λ k. whole_in k 0 xs) all
+
+-- so many are whole in the front that was written where a write failed
+pub whole-broken : {a b : Option (List ℕ)} {v w : Pending} {s : List ℕ} {xs : List Mark} (p : BreaksMarked a b v w s xs) → IsSent v → w.whole ≡ whole_in (length p.front) v.whole xs
+whole-broken {v = v} {xs = xs} p before =
+    p.whole ∙ ap (λ l. whole_in (length p.front) v.whole (l ++ moved (length v.bytes) xs)) before.ends
+    ∙ ap (whole_in (length p.front) v.whole) (ap (λ l. moved (length l) xs) before.bytes ∙ moved-none xs)
 
 -- and where a write failed a front of it
 pub AppendsPrefix-broken : {a b : Option (List ℕ)} {v w : Pending} {s : List ℕ} {xs : List Mark} → BreaksMarked a b v w s xs → AppendsPrefix a b (v.bytes ++ s)

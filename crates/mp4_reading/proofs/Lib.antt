@@ -8,6 +8,8 @@ pub mod MarkLemmas
 pub mod BlockLemmas
 pub mod PieceLemmas
 pub mod RunLemmas
+pub mod FedLemmas
+pub mod FedRunLemmas
 pub mod HeadLemmas
 pub mod BodyGrowthLemmas
 pub mod HoldingLemmas

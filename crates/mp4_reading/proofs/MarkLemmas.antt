@@ -57,3 +57,8 @@ whole_in-early k n before (x ∷ xs) h =
     ap (λ b. whole_in (k + n) (if b then before else x.count) xs) (not_less (k + n) x.end (omega (arith, h.0)))
     ∙ whole_in-early k n x.count xs h.1
     ∙ ap (λ b. whole_in k (if b then before else x.count) xs) (sym (not_less k x.end h.0))
+
+-- of two texts, one behind the other, where no mark of the first lies behind it
+pub whole_in-both : (j before middle : ℕ) (xs ys : List Mark) → ((n : ℕ) → whole_in (j + n) before xs ≡ middle) → (n : ℕ) → whole_in (j + n) before (xs ++ moved j ys) ≡ whole_in n middle ys
+whole_in-both j before middle xs ys h n =
+    whole_in-append (j + n) before xs (moved j ys) ∙ ap (λ k. whole_in (j + n) k (moved j ys)) (h n) ∙ whole_in-moved j n middle ys

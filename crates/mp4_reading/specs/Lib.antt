@@ -5,4 +5,5 @@ pub mod Blocks
 pub mod Ends
 pub mod Pieces
 pub mod Runs
+pub mod Fed
 pub mod Holding

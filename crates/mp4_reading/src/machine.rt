@@ -78,7 +78,7 @@ pub trait Machine {
 /// # Errors
 ///
 /// As [`Machine::take`].
-pub(crate) fn feed<M: Machine, W: Sink>(
+pub fn feed<M: Machine, W: Sink>(
     machine: &mut M,
     ledger: &mut Ledger,
     piece: &[u8],

@@ -7,4 +7,5 @@ pub mod ListingLemmas
 pub mod JoinLemmas
 pub mod RestLemmas
 pub mod FragmentLemmas
+pub mod FeederLemmas
 pub mod EmptyLemmas

@@ -5,3 +5,4 @@ pub mod Joined
 pub mod Rests
 pub mod Places
 pub mod Fragments
+pub mod Feeders

@@ -7,6 +7,8 @@ ghost use Rattle.mp4_reading.specs.Ends.{between, received, sent};
 ghost use Rattle.mp4_recut.specs.declared.plan.Plan.TheVariants as plans;
 ghost use Rattle.mp4_stream.specs.Fragments.{ReadsFragments, fragments_of, unsent};
 
+use crate::feeder::Feeder;
+use crate::pushed::push_stream;
 use crate::run::Totals;
 use crate::silent::Silent;
 use mp4_cut::Cut;
@@ -115,7 +117,12 @@ pub fn split<R: Source, W: Sink>(
     ensures enough { copy + (most_moov + 5 * most_moof) ≤ ledger.old.limit →
         IsErrOf result Stop.OverLimit → ⊥ }
 {
-    run_fragments(Plan::Split(*cut), r, w, ledger, copy, totals)
+    let mut feeder = Feeder::new(*cut);
+    let answer = push_stream(r, w, ledger, copy, &mut feeder);
+    *totals = feeder.totals();
+    feeder.give_up(ledger);
+    totals.peak = ledger.peak();
+    answer
 }
 
 /// Reads the fragments of a stream by a plan.

@@ -1,7 +1,10 @@
-//! Runs over a stream: its boxes, its samples, whether it breaks a rule, and its fragments cut into shorter ones.
+//! Runs over a stream: its boxes, its samples, whether it breaks a rule, and its fragments cut into shorter ones; and a stream
+//! that is pushed in piece by piece.
 //!
 //! - [`run`]: [`boxes`], which lists the boxes of a stream, and [`Totals`];
 //! - [`fragments`]: [`samples`], [`check`] and [`split`], which read its fragments by the machine of `mp4_feed`;
+//! - [`feeder`]: [`Feeder`], which cuts the fragments of a stream as it is pushed in, and [`pushed`]: the loops over it, whose
+//!   pieces are the reads of a whole stream ([`split`] calls it) or those of a list ([`split_pieces`]);
 //! - [`machine`]: what is fed the stream piece by piece, [`intake`]: how it takes headers and boxes that are held, and
 //!   [`phase`]: where it is in the stream;
 //! - [`held`]: a moov or moof in claimed memory, and [`listing`]: the line of a box, and those of a tree of boxes;
@@ -10,10 +13,12 @@
 //! The definitions: `specs/Boxes.antt` (what the bytes of a stream are read as) with `specs/Holding.antt` (the boxes that
 //! are held) and `specs/Listing.antt` (the lines), `specs/Joined.antt` (whole boxes one after the other, of which the
 //! laws speak) with `specs/Rests.antt` (what is left behind them), `specs/Places.antt` (where the machine is in a stream,
-//! and what that means), `specs/Fragments.antt` (what a run brings that reads fragments). What a run answers, writes and
+//! and what that means), `specs/Fragments.antt` (what a run brings that reads fragments), `specs/Feeders.antt` (what a Feeder is
+//! behind the bytes that it was fed, and what a call of it brings). What a run answers, writes and
 //! claims is said by `mp4_reading`, in `specs/Runs.antt`.
 #![tactic(auto)]
 
+pub mod feeder;
 pub mod fragments;
 mod held;
 mod intake;
@@ -21,13 +26,16 @@ pub mod laws;
 mod listing;
 mod machine;
 mod phase;
+pub mod pushed;
 pub mod run;
 mod silent;
 
+pub use feeder::Feeder;
 pub use fragments::{check, samples, split};
 pub use mp4_box::{Fault, FourCc, Rule, vectors};
 pub use mp4_cut::Cut;
 pub use mp4_ends::{Failed, FromRead, IntoWrite, Sink, Source, ends, write_all};
 pub use mp4_ledger::Ledger;
 pub use mp4_reading::Stop;
+pub use pushed::split_pieces;
 pub use run::{Totals, boxes};

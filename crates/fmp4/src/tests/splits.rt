@@ -135,7 +135,7 @@ fn two_behind(alloc: Global, front: &[&[u8]]) -> Result<Vec<u8>, AllocError> {
 }
 
 /// The first vector by two samples a fragment.
-fn by_two(alloc: Global) -> Result<Vec<u8>, AllocError> {
+pub(super) fn by_two(alloc: Global) -> Result<Vec<u8>, AllocError> {
     two_behind(alloc, &[&V1.as_slice()[..364]])
 }
 
@@ -351,19 +351,29 @@ fn sync_samples(rt: HostRuntime) -> Result<(), Fail> {
     )
 }
 
-#[test]
-fn two_tracks(rt: HostRuntime) -> Result<(), Fail> {
-    let (alloc, v2, v3) = (rt.alloc(), V2.as_slice(), V3.as_slice());
-    let last = Wanted {
+/// The last fragment of the second vector.
+fn last_of_two() -> Wanted<'static> {
+    Wanted {
         track: 2,
-        ..piece_at(3, 0, &[[4, SYNC], [4, SYNC]], &v2[771..])
-    };
+        ..piece_at(3, 0, &[[4, SYNC], [4, SYNC]], &V2.as_slice()[771..])
+    }
+}
+
+/// The second vector by two samples a fragment.
+pub(super) fn tracks_by_two(alloc: Global) -> Result<Vec<u8>, AllocError> {
+    let v2 = V2.as_slice();
     let two = [
         piece_at(1, 0, &[[5, SYNC], [7, SYNC]], &v2[756..768]),
         piece_at(2, 2048, &[[3, SYNC]], &v2[768..771]),
-        last,
+        last_of_two(),
     ];
-    let two = recut(alloc, &[&v2[..584]], &two)?;
+    recut(alloc, &[&v2[..584]], &two)
+}
+
+#[test]
+fn two_tracks(rt: HostRuntime) -> Result<(), Fail> {
+    let (alloc, v2, v3) = (rt.alloc(), V2.as_slice(), V3.as_slice());
+    let (last, two) = (last_of_two(), tracks_by_two(alloc)?);
     let by_bytes = [
         piece_at(1, 0, &[[5, SYNC]], &v2[756..761]),
         piece_at(2, 1024, &[[7, SYNC]], &v2[761..768]),

@@ -1,0 +1,33 @@
+use Rattle.std.proofs.Common.{◌≡◌, ap, arith, refl, sym}
+use Rattle.mp4_reading.proofs.RunLemmas.{Runs-same}
+use Rattle.mp4_recut.specs.declared.plan.Plan.TheVariants.{Split}
+use Rattle.mp4_stream.proofs.FragmentLemmas.{claims_by_boxes, never_over, peak_bound}
+use Rattle.mp4_stream.proofs.fragments.split.Goals as goal
+
+pub returns-clause-runs : goal.returns-clause-runs
+returns-clause-runs g c =
+    let peak : c.give_up.new.ledger.peak ≡ c.push_stream-answer.new.ledger.peak = rw c.give_up.ensures refl in
+    let cut = rw c.new-feeder.ensures.begun at c.push_stream-answer.ensures.cut in
+    let ran = rw c.new-feeder.ensures.begun at c.push_stream-answer.ensures.runs in
+    let same = Runs-same refl refl (sym peak) ran in
+    let runs = same.0 in
+    rw c.totals.ensures.totals (record {
+      told = c.push_stream-answer.new.feeder.machine.counter.tally.fragments;
+      walked = c.push_stream-answer.new.feeder.machine.counter.tally.walked;
+      runs = runs;
+      fragments = sym same.1;
+      all = rw c.totals.ensures.totals at c.totals.ensures.all;
+      some = rw (cut, c.totals.ensures.totals) at c.totals.ensures.some;
+      few = rw (cut, c.totals.ensures.totals) at c.totals.ensures.few;
+      by_boxes = claims_by_boxes (Split c.args.cut.now) _ c.push_stream-answer.result runs;
+    })
+
+pub returns-clause-bound : goal.returns-clause-bound
+returns-clause-bound g c =
+    let ran = rw c.new-feeder.ensures.begun at c.push_stream-answer.ensures.runs in
+    omega (arith, ap (λ a. a.peak) c.give_up.ensures, peak_bound (Split c.args.cut.now) _ c.push_stream-answer.result ran.0)
+
+pub returns-clause-enough : goal.returns-clause-enough
+returns-clause-enough g c =
+    let ran = rw c.new-feeder.ensures.begun at c.push_stream-answer.ensures.runs in
+    never_over (Split c.args.cut.now) _ c.push_stream-answer.result ran.0

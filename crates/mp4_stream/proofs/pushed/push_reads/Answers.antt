@@ -1,0 +1,147 @@
+use Rattle.std.proofs.Common.{rules, ◌≡◌, ◌∙◌, ◌≤◌, ◌++◌, [], None, Err, ap, arith, length, length-append, length-take, refl, subst, sym, take}
+use Rattle.std.specs.Io.KnownBytes.{Appends}
+use Rattle.std.proofs.KnownBytes.{Appends-nil, Consumes-kept, Consumes-nil, Consumes-trans}
+use Rattle.mp4_ends.proofs.StreamLemmas.{Consumes-then_none}
+use Rattle.mp4_pieces.specs.declared.cut.Cut.{Cut}
+use Rattle.mp4_reading.specs.Accounts.{Counts}
+use Rattle.mp4_reading.specs.Ends.{Ends, between, received, sent}
+use Rattle.mp4_reading.specs.Fed.{AllWhole, FedUntil, Lent, TellsRest, lent}
+use Rattle.mp4_reading.specs.Pieces.{farthest}
+use Rattle.mp4_reading.specs.Readings.{early_in, fault_in, most_of}
+use Rattle.mp4_reading.proofs.AccountLemmas.{Counts-none}
+use Rattle.mp4_reading.proofs.FedRunLemmas.{comes-until, counts-more, prompt-fed, prompt-here, tells-all, text-more}
+use Rattle.mp4_stream.specs.Feeders.{held_by, reading, sums_of}
+use Rattle.mp4_stream.proofs.FeederLemmas.{finish-comes, reading-none}
+use Rattle.mp4_stream.proofs.pushed.push_reads.Goals as goal
+
+pub loop-feeder-init : goal.loop-feeder-init
+loop-feeder-init g c =
+    let cut = c.args.feeder.now.cut in
+    let a = c.args.ledger.now in
+    let w = g.W.Sink.contents c.args.w.now in (
+      [],
+      record {
+        read = Consumes-nil _;
+        stands = c.requires.stands;
+        cut = refl;
+        text = subst (λ r. Appends w w r.told.text) (sym (reading-none cut)) (Appends-nil w);
+        counts = subst (λ n. Counts a a 0 n (most_of (reading cut []).told)) (sym c.requires.idle) (subst (λ r. Counts a a 0 0 (most_of r.told)) (sym (reading-none cut)) (Counts-none a 0));
+        claim = omega (arith, c.requires.idle);
+        room = c.requires.claimed;
+        kept = refl;
+        total = refl;
+        bound = omega arith;
+      },
+    )
+
+pub returns-in-Ok-ending-clause-runs : goal.returns-in-Ok-ending-clause-runs
+returns-in-Ok-ending-clause-runs g c =
+    let cut = c.args.feeder.now.cut in
+    let (b, i) = c.loop-feeder.invariant in
+    let undecided = subst (λ (x : Cut). early_in (reading x b).outcome ≡ None) i.cut i.stands.undecided in
+    let counted = subst (λ (x : Cut). c.loop-feeder.feeder.machine.counter.tally ≡ (reading x b).told.tally) i.cut i.stands.machine.tally in
+    let whole = subst (λ (x : Cut). AllWhole (reading x b).told c.loop-feeder.feeder.fragments) i.cut i.stands.fragments in
+    let finishes = c.in-Ok-ending.ensures.finishes b i.stands in (
+      record {
+        bytes = b;
+        fits = i.stands.bytes;
+        given = Consumes-then_none _ _ _ _ _ _ i.read c.in-Ok-eq0.ensures.bytes.0 c.in-Ok-eq0.field-0-test;
+        fragments = c.loop-feeder.feeder.fragments;
+        prompt = prompt-here (reading cut) _ c.args.ledger.now c.requires.marked b undecided c.loop-feeder.ledger c.loop-feeder.feeder.fragments _;
+        comes = (tells-all (reading cut) _ c.args.ledger.now c.requires.marked b c.loop-feeder.ledger _ _ _ i.text whole i.counts counted, subst (λ (x : Cut). fault_in (reading x b).outcome ≡ None) i.cut finishes.0, search rules);
+        kept = λ _. i.kept;
+      },
+      refl,
+    )
+
+pub returns-in-Err-ending-clause-runs : goal.returns-in-Err-ending-clause-runs
+returns-in-Err-ending-clause-runs g c =
+    let cut = c.args.feeder.now.cut in
+    let (b, i) = c.loop-feeder.invariant in
+    let undecided = subst (λ (x : Cut). early_in (reading x b).outcome ≡ None) i.cut i.stands.undecided in
+    let counted = subst (λ (x : Cut). c.loop-feeder.feeder.machine.counter.tally ≡ (reading x b).told.tally) i.cut i.stands.machine.tally in
+    let whole = subst (λ (x : Cut). AllWhole (reading x b).told c.loop-feeder.feeder.fragments) i.cut i.stands.fragments in
+    let finishes = c.in-Err-ending.ensures.finishes b i.stands in
+    let prompt = prompt-here (reading cut) (between (received g.R.Source.remaining g.R.Source.has_ended g.R.Source.has_failed c.args.r.now c.read.new.self) (sent g.W.Sink.contents g.W.Sink.has_failed c.args.w.now c.loop-feeder.w)) c.args.ledger.now c.requires.marked b undecided c.loop-feeder.ledger c.loop-feeder.feeder.fragments c.loop-feeder.feeder.machine.counter.tally in (
+      record {
+        bytes = b;
+        fits = i.stands.bytes;
+        given = Consumes-then_none _ _ _ _ _ _ i.read c.in-Ok-eq0.ensures.bytes.0 c.in-Ok-eq0.field-0-test;
+        fragments = c.loop-feeder.feeder.fragments;
+        prompt = prompt;
+        comes = finish-comes c.loop-feeder.feeder b _ prompt c.in-Err-ending.stop (ap reading (sym i.cut)) refl (tells-all (reading cut) _ c.args.ledger.now c.requires.marked b c.loop-feeder.ledger _ _ _ i.text whole i.counts counted) (search rules) finishes;
+        kept = λ _. i.kept;
+      },
+      refl,
+    )
+
+pub returns-in-Err-clause-runs : goal.returns-in-Err-clause-runs
+returns-in-Err-clause-runs g c =
+    let cut = c.args.feeder.now.cut in
+    let (b, i) = c.loop-feeder.invariant in
+    let undecided = subst (λ (x : Cut). early_in (reading x b).outcome ≡ None) i.cut i.stands.undecided in
+    let counted = subst (λ (x : Cut). c.loop-feeder.feeder.machine.counter.tally ≡ (reading x b).told.tally) i.cut i.stands.machine.tally in
+    let whole = subst (λ (x : Cut). AllWhole (reading x b).told c.loop-feeder.feeder.fragments) i.cut i.stands.fragments in (
+      record {
+        bytes = b;
+        fits = i.stands.bytes;
+        given = Consumes-kept _ _ _ _ i.read c.in-Err.ensures.bytes;
+        fragments = c.loop-feeder.feeder.fragments;
+        prompt = prompt-here (reading cut) _ c.args.ledger.now c.requires.marked b undecided c.loop-feeder.ledger c.loop-feeder.feeder.fragments _;
+        comes = (tells-all (reading cut) _ c.args.ledger.now c.requires.marked b c.loop-feeder.ledger _ _ _ i.text whole i.counts counted, undecided, i.total, c.in-Err.ensures.failed_err);
+        kept = λ _. i.kept;
+      },
+      refl,
+    )
+
+pub loop-feeder-preserved : goal.loop-feeder-preserved
+loop-feeder-preserved g c =
+    let cut = c.args.feeder.now.cut in
+    let (b, i) = c.loop-feeder.invariant in
+    let got = take c.in-Ok.n c.read.new.into in
+    let l : Lent = lent (sent g.W.Sink.contents g.W.Sink.has_failed c.loop-feeder.w c.feed.new.w) c.loop-feeder.feeder.fragments c.feed.new.self.fragments c.loop-feeder.ledger c.feed.new.ledger in
+    let fed = c.in-Ok-feed.ensures.feeds b i.stands in
+    let rest = subst (λ (x : Cut). TellsRest (reading x) b (b ++ got) l (held_by c.loop-feeder.feeder) (held_by c.feed.new.self)) i.cut fed.ok.1 in
+    let near : length (b ++ got) ≤ farthest = fed.ok.0.near in
+    let many = length-append b got in
+    let each = length-take c.in-Ok.n c.read.new.into in
+    let same : length c.read.new.into ≡ length c.loop-feeder.copy = search rules in (
+      b ++ got,
+      record {
+        read = Consumes-trans _ _ _ _ _ i.read c.in-Ok.ensures.bytes.0;
+        stands = fed.ok.0;
+        cut = c.in-Ok-feed.ensures.cut ∙ i.cut;
+        text = text-more (reading cut) b (b ++ got) l _ _ rest _ i.text;
+        counts = counts-more (reading cut) b (b ++ got) l _ _ rest c.args.ledger.now i.counts;
+        claim = c.in-Ok-feed.ensures.claim;
+        room = same ∙ i.room;
+        kept = c.in-Ok-feed.ensures.kept (λ e. absurd cc) ∙ i.kept;
+        total = omega (arith, i.total, many, each, c.in-Ok.ensures.bound);
+        bound = omega (arith, i.total, near, many, each, c.in-Ok.ensures.bound);
+      },
+    )
+
+pub returns-in-Err-feed-clause-runs : goal.returns-in-Err-feed-clause-runs
+returns-in-Err-feed-clause-runs g c =
+    let cut = c.args.feeder.now.cut in
+    let (b, i) = c.loop-feeder.invariant in
+    let got = take c.in-Ok.n c.read.new.into in
+    let l : Lent = lent (sent g.W.Sink.contents g.W.Sink.has_failed c.loop-feeder.w c.feed.new.w) c.loop-feeder.feeder.fragments c.feed.new.self.fragments c.loop-feeder.ledger c.feed.new.ledger in
+    let ends : Ends = between (received g.R.Source.remaining g.R.Source.has_ended g.R.Source.has_failed c.args.r.now c.read.new.self) (sent g.W.Sink.contents g.W.Sink.has_failed c.args.w.now c.feed.new.w) in
+    let undecided = subst (λ (x : Cut). early_in (reading x b).outcome ≡ None) i.cut i.stands.undecided in
+    let whole = subst (λ (x : Cut). AllWhole (reading x b).told c.loop-feeder.feeder.fragments) i.cut i.stands.fragments in
+    let fed = c.in-Err-feed.ensures.feeds b i.stands in
+    let until = subst (λ (x : Cut). FedUntil (reading x) b got l (held_by c.loop-feeder.feeder) (sums_of c.feed.new.self) c.in-Err-feed.stop) i.cut fed.err.0 in
+    let same : length c.read.new.into ≡ length c.loop-feeder.copy = search rules in
+    let few : length got ≤ c.args.ledger.now.live = omega (arith, i.room, same, length-take c.in-Ok.n c.read.new.into) in (
+      record {
+        bytes = b ++ got;
+        fits = fed.bytes;
+        given = Consumes-trans _ _ _ _ _ i.read c.in-Ok.ensures.bytes.0;
+        fragments = c.feed.new.self.fragments;
+        prompt = prompt-fed (reading cut) ends c.args.ledger.now c.requires.marked b undecided got c.feed.new.ledger c.feed.new.self.fragments c.feed.new.self.machine.counter.tally few;
+        comes = comes-until (reading cut) ends c.args.ledger.now c.requires.marked b undecided got l (held_by c.loop-feeder.feeder) (sums_of c.feed.new.self) few refl i.text whole i.counts c.in-Err-feed.stop (λ is. c.in-Err-feed.ensures.failed i.stands.running (ap Err is)) until;
+        kept = λ other. c.in-Err-feed.ensures.kept (λ is. other cc) ∙ i.kept;
+      },
+      refl,
+    )

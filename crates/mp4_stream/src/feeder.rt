@@ -1,0 +1,221 @@
+//! A stream that is pushed in piece by piece, and cut into shorter fragments as it comes.
+
+ghost use Rattle.std.specs.Prelude.{◌≡◌, ℕ, List, ◌+◌, ◌-◌, ◌*◌, ◌≤◌, [], None, Some, Err, Ok, IfErr, OnOk, OnErr, IsErrOf, true};
+ghost use Rattle.mp4_feed.specs.States.{begun, listed_by, reads_of};
+ghost use Rattle.mp4_ledger.specs.Memory.{given_back};
+ghost use Rattle.mp4_reading.specs.Ends.{sent};
+ghost use Rattle.mp4_reading.specs.Fed.{lent};
+ghost use Rattle.mp4_recut.specs.declared.plan.Plan.TheVariants.{Split};
+ghost use Rattle.mp4_stream.specs.Feeders.{Feeds, Finishes, Stands, held_by, totals_of};
+ghost use Rattle.mp4_stream.specs.Feeders as feeders;
+ghost use Rattle.mp4_reading.specs.declared.stop.Stop.{Stop};
+
+use crate::run::Totals;
+use mp4_cut::Cut;
+use mp4_ends::Sink;
+use mp4_feed::FragmentMachine;
+use mp4_ledger::Ledger;
+use mp4_reading::{Block, Machine, Stop, feed};
+use mp4_recut::Plan;
+use std::marker::Model;
+
+/// Cuts the fragments of a stream into shorter ones as the stream is pushed in. It must be spent by [`Feeder::finish`] or
+/// [`Feeder::give_up`].
+pub struct Feeder {
+    cut: Cut,
+    machine: FragmentMachine,
+    /// What is on its way to the writer of a call.
+    block: Block,
+    /// Why it stopped, if it did.
+    stop: Option<Stop>,
+    /// How many bytes are claimed.
+    held: u64,
+    /// The most that were at once.
+    peak: u64,
+}
+
+// A contract sees its cut, where it is in the stream, why it stopped, the most that it had claimed, and the fragments that it wrote.
+impl Model for Feeder {
+    ghost use Rattle.mp4_stream.specs.Feeders.{Feeding, IsFeeder};
+
+    ghost Value = { Feeding };
+
+    ghost view = { λ f. record { cut = f.cut; machine = f.machine; stop = f.stop; peak = f.peak; fragments = f.block.whole } };
+
+    ghost invariant = { λ f. IsFeeder (record { cut = f.cut; machine = f.machine; stop = f.stop; peak = f.peak; fragments = f.block.whole }) f.held f.block };
+}
+
+impl Feeder {
+    /// One to which no byte has come.
+    pub fn new(cut: Cut) -> Feeder
+        ensures begun { result ≡ feeders.begun cut (begun (Split cut)) }
+        ensures stands { Stands result [] }
+        ensures idle { held_by result ≡ 0 }
+    {
+        Feeder {
+            cut,
+            machine: FragmentMachine::new(Plan::Split(cut)),
+            block: Block::new(),
+            stop: None,
+            held: 0,
+            peak: 0,
+        }
+    }
+
+    /// How many bytes it has claimed: nothing behind a stop.
+    pub fn held(&self) -> u64
+        ensures held { result ≡ held_by self.now }
+        ensures most { result ≤ self.now.peak }
+        ensures spent { (e : Stop) → self.now.stop ≡ Some e → result ≡ 0 }
+    {
+        self.held
+    }
+
+    /// What it has counted so far, the fragments of which the writer has the moof, and the most bytes that it had claimed at once,
+    /// whatever else its ledger serves.
+    pub fn totals(&self) -> Totals
+        ensures totals { result ≡ totals_of self.now }
+        ensures all { result.samples ≤ self.now.machine.counter.tally.walked }
+        ensures some { self.now.machine.counter.tally.walked + result.samples +
+            listed_by (Split self.now.cut) result.samples ≤ result.rows_read }
+        ensures few { result.rows_read ≤
+            reads_of (Split self.now.cut) * self.now.machine.counter.tally.walked }
+    {
+        let tally = self.machine.tally();
+        Totals {
+            fragments: self.block.whole(),
+            samples: tally.samples,
+            media_bytes: tally.media_bytes,
+            rows_read: self.machine.rows_read(),
+            peak: self.peak,
+        }
+    }
+
+    /// Takes the next piece of the stream, and writes all that the bytes so far determine and that wasn't written yet. A piece
+    /// without bytes changes nothing.
+    ///
+    /// # Errors
+    ///
+    /// `Stream` where the bytes so far break a rule, with all before written; `Write` where a write failed, with a prefix of it
+    /// written; `OverLimit` and `Memory` where a claim was refused, with exactly what stands before that box written. All that was
+    /// claimed is given back then, and each later call answers the same and writes nothing.
+    pub fn feed<W: Sink>(
+        &mut self,
+        ledger: &mut Ledger,
+        piece: &[u8],
+        w: &mut W,
+    ) -> Result<(), Stop>
+        requires claim { held_by self.old ≤ ledger.old.live }
+        ensures feeds { (b : List ℕ) → Stands self.old b → Feeds b piece.now self.old self.new
+            (lent (sent W.contents W.has_failed w.old w.new) self.old.fragments
+            self.new.fragments ledger.old ledger.new) result }
+        ensures cut { self.new.cut ≡ self.old.cut }
+        ensures runs { OnOk result (self.new.stop ≡ None) }
+        ensures stops { IfErr result (λ e. self.new.stop ≡ Some e) }
+        ensures spent { OnErr result (held_by self.new ≡ 0) }
+        ensures stopped { (e : Stop) → self.old.stop ≡ Some e → (result ≡ Err e) ×
+            (self.new ≡ self.old) × (w.new ≡ w.old) × (ledger.new ≡ ledger.old) }
+        ensures empty { piece.now ≡ [] →
+            (self.new ≡ self.old) × (w.new ≡ w.old) × (ledger.new ≡ ledger.old) }
+        ensures failed { self.old.stop ≡ None → IsErrOf result Stop.Write → W.has_failed w.new ≡ true }
+        ensures kept { (IsErrOf result Stop.Write → ⊥) → W.has_failed w.new ≡ W.has_failed w.old }
+        ensures live { ledger.new.live + held_by self.old ≡ ledger.old.live + held_by self.new }
+        ensures limit { ledger.new.limit ≡ ledger.old.limit }
+        ensures claim { held_by self.new ≤ ledger.new.live }
+    {
+        if let Some(stop) = self.stop {
+            return Err(stop);
+        }
+        if piece.is_empty() {
+            return Ok(());
+        }
+        self.advance(ledger, piece, w)
+    }
+
+    /// Feeds its machine the next piece, and counts the most that was claimed at once by itself.
+    ///
+    /// # Errors
+    ///
+    /// As [`Feeder::feed`].
+    fn advance<W: Sink>(&mut self, ledger: &mut Ledger, piece: &[u8], w: &mut W) -> Result<(), Stop>
+        requires runs { self.old.stop ≡ None }
+        requires claim { held_by self.old ≤ ledger.old.live }
+        ensures feeds { (b : List ℕ) → Stands self.old b → Feeds b piece.now self.old self.new
+            (lent (sent W.contents W.has_failed w.old w.new) self.old.fragments
+            self.new.fragments ledger.old ledger.new) result }
+        ensures cut { self.new.cut ≡ self.old.cut }
+        ensures runs { OnOk result (self.new.stop ≡ None) }
+        ensures stops { IfErr result (λ e. self.new.stop ≡ Some e) }
+        ensures spent { OnErr result (held_by self.new ≡ 0) }
+        ensures failed { IsErrOf result Stop.Write → W.has_failed w.new ≡ true }
+        ensures kept { (IsErrOf result Stop.Write → ⊥) → W.has_failed w.new ≡ W.has_failed w.old }
+        ensures live { ledger.new.live + held_by self.old ≡ ledger.old.live + held_by self.new }
+        ensures limit { ledger.new.limit ≡ ledger.old.limit }
+        ensures claim { held_by self.new ≤ ledger.new.live }
+    {
+        let peak = ledger.peak();
+        let others = ledger.live() - self.held;
+        ledger.mark();
+        let answer = feed(&mut self.machine, ledger, piece, &mut self.block, w);
+        self.held = ledger.live() - others;
+        self.peak = self.peak.max(ledger.peak() - others);
+        ledger.lift(peak);
+        match answer {
+            Ok(()) => Ok(()),
+            Err(stop) => {
+                self.stop = Some(stop);
+                Err(stop)
+            }
+        }
+    }
+
+    /// The stream ended: what it counted of it. All that it has claimed is given back.
+    ///
+    /// # Errors
+    ///
+    /// `Stream` where a stream that ends here is at fault; and behind a stop the same stop.
+    pub fn finish(self, ledger: &mut Ledger) -> Result<Totals, Stop>
+        requires claim { held_by self ≤ ledger.old.live }
+        ensures finishes { (b : List ℕ) → Stands self b → Finishes self b result }
+        ensures stopped { (e : Stop) → self.stop ≡ Some e → result ≡ Err e }
+        ensures back { ledger.new ≡ given_back ledger.old (held_by self) }
+    {
+        let answer = self.ending();
+        self.give_up(ledger);
+        answer
+    }
+
+    /// What the end of the stream means here.
+    ///
+    /// # Errors
+    ///
+    /// As [`Feeder::finish`].
+    pub(crate) fn ending(&self) -> Result<Totals, Stop>
+        ensures finishes { (b : List ℕ) → Stands self.now b → Finishes self.now b result }
+        ensures stopped { (e : Stop) → self.now.stop ≡ Some e → result ≡ Err e }
+    {
+        if let Some(stop) = self.stop {
+            return Err(stop);
+        }
+        match self.machine.finish() {
+            Ok(()) => Ok(self.totals()),
+            Err(fault) => Err(Stop::Stream(fault)),
+        }
+    }
+
+    /// Gives back all that it has claimed.
+    pub fn give_up(self, ledger: &mut Ledger)
+        requires { held_by self ≤ ledger.old.live }
+        ensures { ledger.new ≡ given_back ledger.old (held_by self) }
+    {
+        let Feeder {
+            cut: _,
+            machine,
+            block: _,
+            stop: _,
+            held: _,
+            peak: _,
+        } = self;
+        machine.give_up(ledger);
+    }
+}

@@ -1,0 +1,124 @@
+//! Reads of a whole stream that are pushed into a Feeder.
+
+ghost use Rattle.std.specs.Io.KnownBytes.{Appends};
+ghost use Rattle.std.specs.List.{flat_map};
+ghost use Rattle.std.specs.Prelude.{◌≡◌, ◌+◌, ◌<◌, [], length, None, OnOk};
+ghost use Rattle.mp4_reading.specs.Ends.{between, received, sent};
+ghost use Rattle.mp4_reading.specs.Readings.{fault_in};
+ghost use Rattle.mp4_reading.specs.Runs.{Runs};
+ghost use Rattle.mp4_stream.specs.Feeders.{Stands, held_by, live, reading};
+
+use crate::feeder::Feeder;
+use crate::run::Totals;
+use mp4_cut::Cut;
+use mp4_ends::{Failed, Sink, Source};
+use mp4_ledger::Ledger;
+use mp4_reading::Stop;
+
+/// Reads a stream to its end, however its reads cut it, and pushes each read into a Feeder to which no byte has come. `copy` bytes
+/// are claimed to read into. What the Feeder has claimed at the end is still to be given back.
+///
+/// # Errors
+///
+/// As [`push_reads`]; and `OverLimit` and `Memory` where the bytes to read into were refused.
+pub(crate) fn push_stream<R: Source, W: Sink>(
+    r: &mut R,
+    w: &mut W,
+    ledger: &mut Ledger,
+    copy: u32,
+    feeder: &mut Feeder,
+) -> Result<(), Stop>
+    requires some { 0 < copy }
+    requires idle { ledger.old.live ≡ 0 }
+    requires stands { Stands feeder.old [] }
+    requires none { held_by feeder.old ≡ 0 }
+    ensures runs { (run : Runs (reading feeder.old.cut) (between
+        (received R.remaining R.has_ended R.has_failed r.old r.new)
+        (sent W.contents W.has_failed w.old w.new))
+        (record { copy = copy; limit = ledger.old.limit; peak = ledger.new.peak })
+        feeder.new.machine.counter.tally result) × (run.fragments ≡ feeder.new.fragments) }
+    ensures live { ledger.new.live ≡ held_by feeder.new }
+    ensures limit { ledger.new.limit ≡ ledger.old.limit }
+    ensures cut { feeder.new.cut ≡ feeder.old.cut }
+{
+    ledger.mark();
+    let mut buf = match ledger.buf(u64::from(copy)) {
+        Ok(buf) => buf,
+        Err(refused) => return Err(Stop::of_refusal(refused)),
+    };
+    let answer = push_reads(r, w, ledger, buf.room_mut(copy as usize), feeder);
+    ledger.back(buf);
+    answer
+}
+
+/// Reads a stream to its end into `copy`, which is all that is claimed, and pushes each read into a Feeder to which no byte has
+/// come. What that has claimed at the end is still to be given back.
+///
+/// # Errors
+///
+/// As [`Feeder::feed`] and [`Feeder::finish`]; and `Read` where a read failed.
+fn push_reads<R: Source, W: Sink>(
+    r: &mut R,
+    w: &mut W,
+    ledger: &mut Ledger,
+    copy: &mut [u8],
+    feeder: &mut Feeder,
+) -> Result<(), Stop>
+    requires some { 0 < length copy.old }
+    requires marked { ledger.old.peak ≡ ledger.old.live }
+    requires claimed { length copy.old ≡ ledger.old.live }
+    requires stands { Stands feeder.old [] }
+    requires idle { held_by feeder.old ≡ 0 }
+    ensures runs { (run : Runs (reading feeder.old.cut) (between
+        (received R.remaining R.has_ended R.has_failed r.old r.new)
+        (sent W.contents W.has_failed w.old w.new))
+        (record { copy = ledger.old.live; limit = ledger.old.limit; peak = ledger.new.peak })
+        feeder.new.machine.counter.tally result) × (run.fragments ≡ feeder.new.fragments) }
+    ensures live { ledger.new.live ≡ ledger.old.live + held_by feeder.new }
+    ensures limit { ledger.new.limit ≡ ledger.old.limit }
+    ensures cut { feeder.new.cut ≡ feeder.old.cut }
+{
+    let mut total: u64 = 0;
+    loop {
+        let n = match r.read(copy) {
+            Ok(0) => {
+                return match feeder.ending() {
+                    Ok(_) => Ok(()),
+                    Err(stop) => Err(stop),
+                };
+            }
+            Ok(n) => n,
+            Err(Failed) => return Err(Stop::Read { at: total }),
+        };
+        match feeder.feed(ledger, &copy[..n], w) {
+            Ok(()) => total += n as u64,
+            Err(stop) => return Err(stop),
+        }
+    }
+}
+
+/// Pushes pieces in as they come, and ends the stream behind them. What is written doesn't depend on how the stream was cut into
+/// pieces: it is what their join is cut into.
+///
+/// # Errors
+///
+/// As [`Feeder::feed`] and [`Feeder::finish`].
+pub fn split_pieces<W: Sink>(
+    pieces: &[&[u8]],
+    w: &mut W,
+    ledger: &mut Ledger,
+    cut: Cut,
+) -> Result<Totals, Stop>
+    ensures text { OnOk result (Appends (W.contents w.old) (W.contents w.new)
+        (live cut (flat_map (λ piece. piece.now) pieces.now))) }
+    ensures sound { OnOk result
+        (fault_in (reading cut (flat_map (λ piece. piece.now) pieces.now)).outcome ≡ None) }
+    ensures back { ledger.new.live ≡ ledger.old.live }
+{
+    let mut feeder = Feeder::new(cut);
+    for piece in pieces {
+        // Behind a stop it writes nothing, and `finish` answers the same.
+        let _ = feeder.feed(ledger, piece, w);
+    }
+    feeder.finish(ledger)
+}
