@@ -42,7 +42,8 @@ impl Model for Feeder {
 
     ghost view = { λ f. record { cut = f.cut; machine = f.machine; stop = f.stop; peak = f.peak } };
 
-    ghost invariant = { λ f. IsFeeder (record { cut = f.cut; machine = f.machine; stop = f.stop; peak = f.peak }) f.held f.block };
+    ghost invariant = { λ f. IsFeeder
+        (record { cut = f.cut; machine = f.machine; stop = f.stop; peak = f.peak }) f.held f.block };
 }
 
 impl Feeder {
