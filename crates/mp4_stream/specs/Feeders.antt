@@ -1,5 +1,5 @@
 -- What a Feeder is behind the bytes of a stream that it was fed, and what a call of it brings.
-use Rattle.std.specs.Prelude.{◌≡◌, ℕ, ◌+◌, ◌-◌, ◌*◌, ◌≤◌, List, [], ◌++◌, length, take, Option, None, Some, Result, Ok, Err, IfErr, OnOk, IsErrOf}
+use Rattle.std.specs.Prelude.{◌≡◌, ℕ, ◌+◌, ◌-◌, ◌*◌, ◌≤◌, List, ◌++◌, length, take, Option, None, Some, Result, Ok, Err, IfErr, OnOk, IsErrOf}
 use Rattle.mp4_box.specs.Headers.{IsBytes}
 use Rattle.mp4_feed.specs.Places.{claim_of}
 use Rattle.mp4_feed.specs.States.{Progress, place_in, stands_in}

@@ -34,15 +34,18 @@ pub struct Feeder {
     peak: u64,
 }
 
-// A contract sees its cut, where it is in the stream, why it stopped, the most that it had claimed, and the fragments that it wrote.
+// A contract sees its cut, where it is in the stream, why it stopped, the most that it had claimed, and how many fragments are
+// whole in what it wrote.
 impl Model for Feeder {
     ghost use Rattle.mp4_stream.specs.Feeders.{Feeding, IsFeeder};
 
     ghost Value = { Feeding };
 
-    ghost view = { λ f. record { cut = f.cut; machine = f.machine; stop = f.stop; peak = f.peak; fragments = f.block.whole } };
+    ghost view = { λ f. record
+        { cut = f.cut; machine = f.machine; stop = f.stop; peak = f.peak; fragments = f.block.whole } };
 
-    ghost invariant = { λ f. IsFeeder (record { cut = f.cut; machine = f.machine; stop = f.stop; peak = f.peak; fragments = f.block.whole }) f.held f.block };
+    ghost invariant = { λ f. IsFeeder
+        (record { cut = f.cut; machine = f.machine; stop = f.stop; peak = f.peak; fragments = f.block.whole }) f.held f.block };
 }
 
 impl Feeder {

@@ -5,7 +5,7 @@ ghost use Rattle.mp4_items.specs.Kinds.{most_moof, most_moov};
 ghost use Rattle.mp4_items.specs.declared.command.Command.TheVariants.{Check, Samples};
 ghost use Rattle.mp4_reading.specs.Ends.{between, received, sent};
 ghost use Rattle.mp4_recut.specs.declared.plan.Plan.TheVariants as plans;
-ghost use Rattle.mp4_stream.specs.Fragments.{ReadsFragments, fragments_of, unsent};
+ghost use Rattle.mp4_stream.specs.Fragments.{ReadsFragments, unsent};
 
 use crate::feeder::Feeder;
 use crate::pushed::push_stream;
@@ -49,7 +49,7 @@ pub fn samples<R: Source, W: Sink>(
     ensures enough { copy + (most_moov + 5 * most_moof) ≤ ledger.old.limit →
         IsErrOf result Stop.OverLimit → ⊥ }
 {
-    run_fragments(Plan::List(Command::Samples), r, w, ledger, copy, totals)
+    run_fragments(Command::Samples, r, w, ledger, copy, totals)
 }
 
 /// Checks a fragmented stream, and counts its fragments, samples and bytes of media.
@@ -76,14 +76,7 @@ pub fn check<R: Source>(
     ensures enough { copy + (most_moov + 5 * most_moof) ≤ ledger.old.limit →
         IsErrOf result Stop.OverLimit → ⊥ }
 {
-    run_fragments(
-        Plan::List(Command::Check),
-        r,
-        &mut Silent,
-        ledger,
-        copy,
-        totals,
-    )
+    run_fragments(Command::Check, r, &mut Silent, ledger, copy, totals)
 }
 
 /// Cuts the fragments of a fragmented stream into shorter ones, however its reads cut it: each run into pieces, each of which
@@ -125,9 +118,9 @@ pub fn split<R: Source, W: Sink>(
     answer
 }
 
-/// Reads the fragments of a stream by a plan.
+/// Reads the fragments of a stream for a command that writes none.
 fn run_fragments<R: Source, W: Sink>(
-    plan: Plan,
+    command: Command,
     r: &mut R,
     w: &mut W,
     ledger: &mut Ledger,
@@ -136,7 +129,7 @@ fn run_fragments<R: Source, W: Sink>(
 ) -> Result<(), Stop>
     requires copy { (4096 ≤ copy) × (copy ≤ 1048576) }
     requires idle { ledger.old.live ≡ 0 }
-    ensures runs { ReadsFragments plan (between
+    ensures runs { ReadsFragments (plans.List command) (between
         (received R.remaining R.has_ended R.has_failed r.old r.new)
         (sent W.contents W.has_failed w.old w.new))
         (record { copy = copy; limit = ledger.old.limit; peak = ledger.new.peak })
@@ -148,28 +141,17 @@ fn run_fragments<R: Source, W: Sink>(
     ensures enough { copy + (most_moov + 5 * most_moof) ≤ ledger.old.limit →
         IsErrOf result Stop.OverLimit → ⊥ }
 {
-    let mut machine = FragmentMachine::new(plan);
-    let mut whole = 0;
-    let answer = read_stream(r, w, ledger, copy, &mut machine, &mut whole);
+    let mut machine = FragmentMachine::new(Plan::List(command));
+    let answer = read_stream(r, w, ledger, copy, &mut machine, &mut 0);
     let tally = machine.tally();
     let rows_read = machine.rows_read();
     machine.give_up(ledger);
     *totals = Totals {
-        fragments: fragments(&plan, tally.fragments, whole),
+        fragments: tally.fragments,
         samples: tally.samples,
         media_bytes: tally.media_bytes,
         rows_read,
         peak: ledger.peak(),
     };
     answer
-}
-
-/// How many fragments are counted, where so many were told, and so many of them are whole in what was written.
-fn fragments(plan: &Plan, told: u64, whole: u64) -> u64
-    ensures { result ≡ fragments_of plan.now told whole }
-{
-    match plan {
-        Plan::List(_) => told,
-        Plan::Split(_) => whole,
-    }
 }

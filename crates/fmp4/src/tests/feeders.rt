@@ -220,6 +220,24 @@ fn stops_stay(rt: HostRuntime) -> Result<(), Fail> {
 }
 
 #[test]
+fn writers_that_fail(rt: HostRuntime) -> Result<(), Fail> {
+    let (alloc, v1) = (rt.alloc(), V1.as_slice());
+    let all = by_two(alloc)?;
+    for room in 0..all.len() {
+        let wanted = (&all[..room], 0);
+        let mut whole = Pushed::new(&rt, alloc, room)?;
+        assert_eq!(&rt; whole.push(v1), Err(Stop::Write));
+        assert_eq!(&rt; (whole.w.bytes(), whole.feeder.held()), wanted);
+        assert_eq!(&rt; whole.finish(), (Err(Stop::Write), 0));
+        let mut single = Pushed::new(&rt, alloc, room)?;
+        assert_eq!(&rt; single.push_each(v1), Err(Stop::Write));
+        assert_eq!(&rt; (single.w.bytes(), single.feeder.held()), wanted);
+        assert_eq!(&rt; single.finish(), (Err(Stop::Write), 0));
+    }
+    Ok(())
+}
+
+#[test]
 fn a_writer_that_is_mended(rt: HostRuntime) -> Result<(), Fail> {
     let (alloc, v1) = (rt.alloc(), V1.as_slice());
     let mended = ToVec::new(alloc, 1000, 1000, true)?;
