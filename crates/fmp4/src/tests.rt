@@ -8,8 +8,8 @@ mod fragments;
 mod layouts;
 mod listings;
 mod memory;
+mod split_stops;
 mod splits;
-mod totals;
 mod words;
 
 use fmp4_program::run;

@@ -87,7 +87,7 @@ fn recut(alloc: Global, front: &[&[u8]], fragments: &[Wanted<'_>]) -> Result<Vec
 }
 
 /// Runs `split` with these options on a stream: its status, what it writes and its line of a fault must be these.
-fn check_split(
+pub(super) fn check_split(
     rt: &impl Abort,
     alloc: Global,
     options: &[&str],
@@ -490,56 +490,4 @@ fn streams_at_fault(rt: HostRuntime) -> Result<(), Fail> {
         front,
         "fmp4: 22 RunPlace in trun at 428\n",
     )
-}
-
-#[test]
-fn limits_of_split(rt: HostRuntime) -> Result<(), Fail> {
-    let (alloc, v1) = (rt.alloc(), V1.as_slice());
-    let two = by_two(alloc)?;
-    // A moof of 496 bytes, with a free box of 400 behind its mfhd.
-    let large = [
-        &v1[..364],
-        b"\0\0\x01\xf0moof".as_slice(),
-        MFHD,
-        b"\0\0\x01\x90free",
-        &[0; 392],
-        &v1[388..444],
-        b"\0\0\x01\xf8",
-        &v1[448..],
-    ];
-    let over = "fmp4: over the limit\n";
-    let v1 = [v1];
-    for (limit, stream, status, len, fault) in [
-        ("100", v1.as_slice(), 4, 0, over),
-        ("65535", &v1, 4, 0, over),
-        ("65536", &v1, 4, 20, over),
-        ("65943", &v1, 4, 20, over),
-        ("65944", &v1, 0, 627, ""),
-        ("66159", &large, 4, 364, over),
-        ("66160", &large, 0, 627, ""),
-    ] {
-        let options = ["--samples", "2", "--max-held", limit];
-        let written = &two[..len.min(two.len())];
-        check_split(&rt, alloc, &options, stream, status, written, fault)?;
-    }
-    Ok(())
-}
-
-#[test]
-fn failing_ends_of_split(rt: HostRuntime) -> Result<(), Fail> {
-    let (alloc, v1) = (rt.alloc(), V1.as_slice());
-    let two = by_two(alloc)?;
-    let len = two.len();
-    let words = ["fmp4", "split", "--samples", "2"];
-    let mut given = Given::ample(&v1[..470], 7);
-    given.fails = true;
-    let failed = b"fmp4: read failed at 470\n";
-    check_run(&rt, alloc, &words, given, 3, &two[..498.min(len)], failed)?;
-    let failed = b"fmp4: write failed\n";
-    let mut given = Given::ample(v1, 483);
-    given.room = 100;
-    check_run(&rt, alloc, &words, given, 3, &two[..100.min(len)], failed)?;
-    let mut given = Given::ample(v1, 483);
-    given.flushes = false;
-    check_run(&rt, alloc, &words, given, 3, &two, failed)
 }

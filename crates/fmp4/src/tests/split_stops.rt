@@ -1,0 +1,93 @@
+//! Limits and ends that fail while a stream is recut, and what is counted then.
+
+ghost use Rattle.std.specs.Prelude.{◌≡◌, ◌<◌};
+
+use super::layouts::MFHD;
+use super::splits::{by_two, check_split};
+use super::{Given, check_run};
+use mp4_stream::ends::{FromSlice, ToVec};
+use mp4_stream::vectors::V1;
+use mp4_stream::{Cut, Ledger, Stop, Totals, split};
+use std::process::Abort;
+use std::test::Fail;
+
+/// The first vector by two samples a fragment, in 627 bytes: behind its first 364 a moof of 124 bytes with an mdat of 20, and a
+/// moof of 108 bytes with one of 11.
+#[test]
+fn fragments_that_a_writer_took(rt: HostRuntime) -> Result<(), Fail> {
+    let alloc = rt.alloc();
+    let cut = Cut::new(2, None, false).expect(&rt, "two samples are allowed");
+    for step in [7, 483] {
+        for room in 0..=627usize {
+            let mut r = FromSlice::new(V1.as_slice(), step, false);
+            let mut w = ToVec::new(alloc, room, 1000, true)?;
+            let mut ledger = Ledger::new(alloc, 1 << 20);
+            let mut totals = Totals::new();
+            let answer = split(&mut r, &mut w, &mut ledger, &cut, 4096, &mut totals);
+            let due = if room < 627 { Err(Stop::Write) } else { Ok(()) };
+            let fragments = match room {
+                0..488 => 0,
+                488..616 => 1,
+                _ => 2,
+            };
+            assert_eq!(&rt;
+                (answer, totals.fragments),
+                (due, fragments),
+                "room for {room}"
+            );
+        }
+    }
+    Ok(())
+}
+
+#[test]
+fn limits_of_split(rt: HostRuntime) -> Result<(), Fail> {
+    let (alloc, v1) = (rt.alloc(), V1.as_slice());
+    let two = by_two(alloc)?;
+    // A moof of 496 bytes, with a free box of 400 behind its mfhd.
+    let large = [
+        &v1[..364],
+        b"\0\0\x01\xf0moof".as_slice(),
+        MFHD,
+        b"\0\0\x01\x90free",
+        &[0; 392],
+        &v1[388..444],
+        b"\0\0\x01\xf8",
+        &v1[448..],
+    ];
+    let over = "fmp4: over the limit\n";
+    let v1 = [v1];
+    for (limit, stream, status, len, fault) in [
+        ("100", v1.as_slice(), 4, 0, over),
+        ("65535", &v1, 4, 0, over),
+        ("65536", &v1, 4, 20, over),
+        ("65943", &v1, 4, 20, over),
+        ("65944", &v1, 0, 627, ""),
+        ("66159", &large, 4, 364, over),
+        ("66160", &large, 0, 627, ""),
+    ] {
+        let options = ["--samples", "2", "--max-held", limit];
+        let written = &two[..len.min(two.len())];
+        check_split(&rt, alloc, &options, stream, status, written, fault)?;
+    }
+    Ok(())
+}
+
+#[test]
+fn failing_ends_of_split(rt: HostRuntime) -> Result<(), Fail> {
+    let (alloc, v1) = (rt.alloc(), V1.as_slice());
+    let two = by_two(alloc)?;
+    let len = two.len();
+    let words = ["fmp4", "split", "--samples", "2"];
+    let mut given = Given::ample(&v1[..470], 7);
+    given.fails = true;
+    let failed = b"fmp4: read failed at 470\n";
+    check_run(&rt, alloc, &words, given, 3, &two[..498.min(len)], failed)?;
+    let failed = b"fmp4: write failed\n";
+    let mut given = Given::ample(v1, 483);
+    given.room = 100;
+    check_run(&rt, alloc, &words, given, 3, &two[..100.min(len)], failed)?;
+    let mut given = Given::ample(v1, 483);
+    given.flushes = false;
+    check_run(&rt, alloc, &words, given, 3, &two, failed)
+}
