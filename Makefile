@@ -6,7 +6,7 @@
 IN ?= crates/fmp4/stdin
 PREFIX ?= /usr/local
 
-.PHONY: demo build moof_runs cut_pieces test wrong_bodies install refusals manual bench
+.PHONY: demo build moof_runs cut_pieces push_pieces test wrong_bodies install refusals manual bench
 
 demo: build
 	@crates/fmp4/out/fmp4 boxes < "$(IN)"
@@ -19,6 +19,9 @@ moof_runs:
 
 cut_pieces:
 	@scripts/build cut_pieces
+
+push_pieces:
+	@scripts/build push_pieces
 
 test:
 	@scripts/needs_rt
@@ -35,8 +38,8 @@ install:
 	install -m 755 crates/fmp4/out/fmp4 "$(DESTDIR)$(PREFIX)/bin/fmp4"
 	install -m 644 docs/fmp4.1 "$(DESTDIR)$(PREFIX)/share/man/man1/fmp4.1"
 
-# Runs the program with each of its allocations refused in turn.
-refusals: build
+# Runs the program with each of its allocations refused in turn, and a Feeder.
+refusals: build push_pieces
 	@scripts/refused_allocations
 
 # Formats the manual page and looks whether all is there.
@@ -44,7 +47,7 @@ manual:
 	@scripts/check_manual
 
 # Measures the program beside others; see bench/README.md.
-bench: build moof_runs cut_pieces
+bench: build moof_runs cut_pieces push_pieces
 	@bench/large_boxes
 	@bench/small_boxes
 	@bench/many_tracks
@@ -52,3 +55,4 @@ bench: build moof_runs cut_pieces
 	@bench/pieces
 	@bench/samples
 	@bench/split
+	@bench/feeder

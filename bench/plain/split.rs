@@ -5,6 +5,7 @@
 //! them. The rows of a piece are put where they are written from, and then what stands before them. Media that came with its moof
 //! is taken from the buffer that the stream is read into; else the moof is put in a block first, and media goes out as it comes.
 
+mod cutting;
 mod headers;
 mod held;
 mod input;
@@ -20,90 +21,22 @@ mod rows;
 mod rules;
 mod stop;
 
-use headers::{Header, Kind};
-use input::{Input, LONGEST_STREAM};
+use cutting::Split;
 use out::{Out, Through};
-use reader::{Fragment, Making, Reader};
-use recut::{put_run, Coming, Media, There};
+use reader::Reader;
 use rows::Cut;
 use std::fs::File;
-use std::io::{stdin, stdout, Read, Write};
+use std::io::{stdin, stdout};
 use std::os::fd::AsFd;
 use std::process::ExitCode;
 use stop::{status_of, Stop};
-
-/// The boxes that are left out.
-const INDEXES: [Kind; 3] = [Kind::of(b"sidx"), Kind::of(b"ssix"), Kind::of(b"mfra")];
-
-/// The fragments are cut, and the next piece has a number.
-struct Split {
-    cut: Cut,
-    number: u64,
-}
-
-impl Split {
-    /// Puts the fragments of all runs, as far as their media is there.
-    #[inline(always)]
-    fn put_runs<M: Media>(&mut self, of: &Fragment, held: &[u8], mut media: M) -> Result<(), Stop> {
-        for run in &of.runs.list {
-            let track = of.tracks.at(run.track as usize);
-            if !put_run(run, held, track, &self.cut, &mut self.number, &mut media)? {
-                break;
-            }
-        }
-        Ok(())
-    }
-}
-
-impl<R: Read, W: Write> Making<Through<R, W>> for Split {
-    fn moov(&mut self, input: &mut Input<Through<R, W>>) -> Result<(), Stop> {
-        let (held, _, stream) = input.lend();
-        stream.out.put(held)
-    }
-
-    #[inline]
-    fn other(&mut self, header: &Header, input: &mut Input<Through<R, W>>) -> Result<(), Stop> {
-        if INDEXES.contains(&header.kind) {
-            return Ok(());
-        }
-        let at = input.at();
-        Coming { input }.copy(at, header.size.unwrap_or(LONGEST_STREAM + 1 - at)).map(drop)
-    }
-
-    #[inline]
-    fn fragment(
-        &mut self,
-        of: &Fragment,
-        header: usize,
-        input: &mut Input<Through<R, W>>,
-    ) -> Result<(), Stop> {
-        let at = input.at();
-        let (held, bytes, Through { out, .. }) = input.lend();
-        if self.cut.index || self.number + of.runs.samples > 1 << 32 {
-            if let Some(fault) = room::fault_of(of.runs, of.at, held, &self.cut, self.number) {
-                return Err(Stop::Fault(fault));
-            }
-        }
-        if of.runs.end <= (at + bytes.len() as u64) as i64 {
-            return self.put_runs(of, held, There { at, bytes, out });
-        }
-        let (block, len) = input.take_held();
-        let done = if input.pass(header as u64)? {
-            self.put_runs(of, &block[..len], Coming { input })
-        } else {
-            Ok(())
-        };
-        input.give_back(block);
-        done
-    }
-}
 
 /// Reads standard input, and writes it with shorter fragments.
 fn split(cut: Cut) -> Result<(), Stop> {
     let from = File::from(stdin().as_fd().try_clone_to_owned().map_err(|_| Stop::Read(0))?);
     let to = File::from(stdout().as_fd().try_clone_to_owned().map_err(|_| Stop::Write)?);
     let stream = Through { from, out: Out::new(to) };
-    let mut reader = Reader::new(stream, Split { cut, number: 1 });
+    let mut reader = Reader::new(stream, Split::new(cut));
     let read = reader.read();
     let (_, _, stream) = reader.input.lend();
     if stream.out.has_failed {

@@ -40,6 +40,7 @@ fn headers(rt: HostRuntime) {
     );
     assert_eq!(rt; short, Err(Rule::BadSize));
     assert_eq!(rt; FourCc(*b"f\x7fe\x1f").shown(), *b"f?e?");
+    assert_eq!(rt; FourCc(*b" ~\xa9\0").shown(), *b" ~??");
     assert_eq!(rt;
         (Rule::RunPlace.number(), Rule::RunPlace.name()),
         (22, "RunPlace")
@@ -125,6 +126,25 @@ fn good_children(rt: HostRuntime) -> Result<(), Fail> {
     // A container is walked where it has no place, too.
     let bytes = b"\0\0\0\x18moov\0\0\0\x10traf\0\0\0\x07free";
     check(&rt, bytes, 0, fault(Rule::BadSize, b"free", 16))?;
+    Ok(())
+}
+
+#[test]
+fn containers(rt: HostRuntime) -> Result<(), Fail> {
+    let mut bytes = *b"\0\0\0\x18moov\0\0\0\x10free\0\0\0\x07free";
+    // These types hold boxes, and others none.
+    for kind in [
+        b"moov", b"trak", b"edts", b"mdia", b"minf", b"dinf", b"stbl", b"mvex", b"moof", b"traf",
+    ] {
+        bytes[12..16].copy_from_slice(kind);
+        check(&rt, &bytes, 0, fault(Rule::BadSize, b"free", 16))?;
+    }
+    for kind in [
+        b"udta", b"meta", b"dref", b"stsd", b"mfra", b"mdat", b"free", b"trax",
+    ] {
+        bytes[12..16].copy_from_slice(kind);
+        check(&rt, &bytes, 0, Some(Ok(())))?;
+    }
     Ok(())
 }
 

@@ -94,12 +94,12 @@ fragment_by cut at number (Some tracks) moof mdat s fine =
     media_text cut f payload
     (parts_ascend cut h tracks number f.payload.start payload f.payload fine.0 good.0 (fragment_runs cut at number tracks moof mdat s fine.0 fine.1 fine.2 fine.3))
 
-item_told : (cut : Cut) (c : Context) (i : Item) → IsSound (splitting cut) c i → CanBeRecut c i → (told_item (splitting cut) c i).text ≡ item_text cut c i
+pub item_told : (cut : Cut) (c : Context) (i : Item) → IsSound (splitting cut) c i → CanBeRecut c i → (told_item (splitting cut) c i).text ≡ item_text cut c i
 item_told cut c (PassedOver b) s fine = copied_text (is_dropped b.header.kind.0) b.bytes
 item_told cut c (Movie b) s fine = refl
 item_told cut c (MovieFragment moof mdat) s fine = fragment_by cut c.at c.number c.tracks moof mdat s fine
 
-items_told : (cut : Cut) (c : Context) (is : List Item) → AreSound (splitting cut) c is → CanAllBeRecut cut c is → (told_items (splitting cut) c is).text ≡ items_text cut c is
+pub items_told : (cut : Cut) (c : Context) (is : List Item) → AreSound (splitting cut) c is → CanAllBeRecut cut c is → (told_items (splitting cut) c is).text ≡ items_text cut c is
 items_told cut c [] s fine = refl
 items_told cut c (i ∷ is) s fine = same_bytes _ _ _ _ (item_told cut c i s.0 fine.0) (items_told cut (behind_item (splitting cut) c i) is s.1 fine.1)
 
@@ -117,7 +117,7 @@ open_by cut at number (Some tracks) moof h head more s held room low fit =
     media_text cut f more
     (parts_ascend cut m tracks number f.payload.start more f.payload held good.0 (open_runs cut at number tracks moof.bytes more h s.1.1 whole held room fit low s.3 s.4 s.5))
 
-ending_told : (cut : Cut) (c : Context) (e : Ending) → IsSoundEnding (splitting cut) c e → IsBytes (ending_bytes e) → c.at + length (ending_bytes e) ≤ 2 ^ 62 → c.number ≤ 2 ^ 32 → AllByRecursion FitsTrack (tracks_in c) → (ended (splitting cut) c e).told.text ≡ ending_text cut c e
+pub ending_told : (cut : Cut) (c : Context) (e : Ending) → IsSoundEnding (splitting cut) c e → IsBytes (ending_bytes e) → c.at + length (ending_bytes e) ≤ 2 ^ 62 → c.number ≤ 2 ^ 32 → AllByRecursion FitsTrack (tracks_in c) → (ended (splitting cut) c e).told.text ≡ ending_text cut c e
 ending_told cut c NothingMore s held room low fit = refl
 ending_told cut c (OpenBox h head more) s held room low fit = copied_text (is_dropped h.kind.0) (head ++ more)
 ending_told cut c (OpenFragment moof h head more) s held room low fit =

@@ -80,7 +80,7 @@ module _ (cut : Cut) (held : List ℕ) (start : ℕ) (payload : List ℕ) where
       ∙ sym (pieces_append run number (number + length g) g (join gs) refl)
 
   module _ (tracks : List Track) where
-    long_run : (run : Run) → (IsRunIn tracks start payload held run) → AllByRecursion Long (pieces_of cut held run)
+    pub long_run : (run : Run) → (IsRunIn tracks start payload held run) → AllByRecursion Long (pieces_of cut held run)
     long_run run g = elim g.lies [
       | inl none ↦ subst (λ (ps : List Piece). AllByRecursion Long ps) (sym (none_of cut held start payload tracks run none)) tt
       | inr lies ↦ run_long cut held start payload run lies

@@ -10,6 +10,7 @@
 //! The definitions: `specs/RecutText.antt` (the recut text, and what can be told of samples, by the
 //! bytes of a stream alone), `specs/Streams.antt` (a stream without a fault, by its items, and the
 //! stream that it is recut to), `specs/MediaSamples.antt` (a sample with its bytes),
+//! `specs/MoofEnds.antt` (where the moofs of a stream end, and their numbers),
 //! `specs/IndexTruth.antt` (when an index tells the truth of the items behind it) and
 //! `specs/PieceTimes.antt` (when an index has room for the time of each piece). The laws of
 //! [`items`] speak of `specs/PieceItems.antt` and `specs/RecutItems.antt` (pieces, and the recut
@@ -19,7 +20,7 @@
 //! No function here has a body: each clause is a law.
 #![tactic(auto)]
 
-ghost use Rattle.std.specs.Prelude.{◌≡◌, ◌↔◌, ◌<◌, ◌≤◌, ◌^◌, ℕ, List, length, false, true, None};
+ghost use Rattle.std.specs.Prelude.{◌≡◌, ◌↔◌, ◌+◌, ◌<◌, ◌≤◌, ◌^◌, ℕ, List, length, false, true, None};
 ghost use Rattle.std.specs.List.{flat_map};
 ghost use Rattle.mp4_box.specs.Headers.{IsBytes};
 ghost use Rattle.mp4_init.specs.declared.table.Track.{Track};
@@ -28,12 +29,13 @@ ghost use Rattle.mp4_pieces.specs.Rooms.{room_fault};
 ghost use Rattle.mp4_pieces.specs.declared.cut.Cut.{Cut};
 ghost use Rattle.mp4_cut.specs.Moof.{Fragment};
 ghost use Rattle.mp4_cut.specs.Reads.{held_moof};
-ghost use Rattle.mp4_reading.specs.Readings.{Sound};
+ghost use Rattle.mp4_reading.specs.Readings.{Sound, whole_in};
 ghost use Rattle.mp4_items.specs.Contexts.{first_context};
 ghost use Rattle.mp4_recut.specs.Splitting.{reading};
 ghost use Rattle.mp4_recut_laws.specs.IndexTruth.{IndexesAreTrue};
 ghost use Rattle.mp4_recut_laws.specs.Indexes.{EndingIsIndexed, ItemsAreIndexed};
 ghost use Rattle.mp4_recut_laws.specs.MediaSamples.{MediaSample};
+ghost use Rattle.mp4_recut_laws.specs.MoofEnds.{moof_ends};
 ghost use Rattle.mp4_recut_laws.specs.PieceItems.{IsOnePiece};
 ghost use Rattle.mp4_recut_laws.specs.PieceTimes.{EndingTimesFit, FitsOwnIndex, ItemsTimesFit};
 ghost use Rattle.mp4_recut_laws.specs.RecutItems.{without_index};
@@ -44,7 +46,9 @@ pub mod items;
 
 /// What `split` writes of a stream that is read without a fault is exactly its recut text: the texts
 /// of its items, one after the other, and that of its ending. What is told of its samples is told of
-/// those of its items and of its ending, in order. Each such stream has these items and this ending.
+/// those of its items and of its ending, in order. Each such stream has these items and this ending. The
+/// fragments that are counted are the moofs of the recut text, numbered from 1 on: just where each of them
+/// ends it is whole, and all are in the whole text.
 pub fn recut_text_of_a_stream()
     ensures text { (cut : Cut) (s : Stream) → IsSoundStream cut s →
         (reading cut (stream_bytes s)).told.text ≡ stream_text cut s }
@@ -56,6 +60,14 @@ pub fn recut_text_of_a_stream()
     ensures samples { (cut : Cut) (s : Stream) (tell : MediaSample → List ℕ) →
         IsSoundStream cut s →
         told_by tell (stream_bytes s) ≡ flat_map tell (stream_samples cut s) }
+    ensures moofs { (cut : Cut) (s : Stream) → IsSoundStream cut s →
+        (reading cut (stream_bytes s)).told.marks ≡ moof_ends 0 1 (recut cut s).items }
+    ensures counted { (cut : Cut) (s : Stream) → IsSoundStream cut s →
+        (reading cut (stream_bytes s)).told.tally.fragments ≡
+        length (moof_ends 0 1 (recut cut s).items) }
+    ensures whole { (cut : Cut) (s : Stream) (n : ℕ) → IsSoundStream cut s →
+        whole_in (length (stream_text cut s) + n) 0 (reading cut (stream_bytes s)).told.marks ≡
+        length (moof_ends 0 1 (recut cut s).items) }
 {}
 
 /// The recut text of bytes that are read without a fault is bytes. If it has at most 2^62 of them, it is

@@ -1,59 +1,156 @@
-//! Readers and writers that fail.
+//! The first vector cut behind each of its bytes, and readers and writers that fail behind each, by every command.
 
+ghost use Rattle.std.specs.Prelude.{◌≡◌};
+
+use super::fragments::{COUNTS, SAMPLES};
+use super::splits::by_two;
 use super::{FTYP, Given, MDAT, MOOF, MOOV, check_run, listing_of};
 use mp4_stream::vectors::V1;
-use std::alloc::Global;
+use std::alloc::{AllocError, Global};
 use std::io::Write;
 use std::process::Abort;
 use std::test::Fail;
 
-/// Lists the boxes of the first vector's first bytes, where the reader fails behind them, to a writer with so
-/// much room.
-fn check_failing(
-    rt: &impl Abort,
-    alloc: Global,
-    given: usize,
-    room: usize,
-    fault_room: usize,
-    listing: &[u8],
-    fault: &[u8],
-) -> Result<(), Fail> {
-    let given = Given {
-        input: &V1.as_slice()[..given.min(483)],
-        fails: true,
-        step: 7,
-        room,
-        fault_room,
-        flushes: true,
-    };
-    check_run(rt, alloc, &["fmp4", "boxes"], given, 3, listing, fault)
+#[derive(Clone, Copy, PartialEq, Eq)]
+enum Command {
+    Boxes,
+    Samples,
+    Check,
+    Split,
+}
+
+const COMMANDS: [Command; 4] = [
+    Command::Boxes,
+    Command::Samples,
+    Command::Check,
+    Command::Split,
+];
+
+impl Command {
+    fn words(self) -> &'static [&'static str] {
+        match self {
+            Command::Boxes => &["fmp4", "boxes"],
+            Command::Samples => &["fmp4", "samples"],
+            Command::Check => &["fmp4", "check"],
+            Command::Split => &["fmp4", "split", "--samples", "2"],
+        }
+    }
+
+    /// All that it writes of the vector.
+    fn text(self, alloc: Global) -> Result<Vec<u8>, AllocError> {
+        match self {
+            Command::Boxes => listing_of(alloc, &[FTYP, MOOV, MOOF, MDAT]),
+            Command::Samples => listing_of(alloc, &SAMPLES),
+            Command::Check => listing_of(alloc, &[COUNTS]),
+            Command::Split => by_two(alloc),
+        }
+    }
+
+    /// How many bytes of that are due behind the vector's first `k` bytes. The line of a box is due behind its header, those of a
+    /// moov or moof behind the box, and those of samples behind their mdat's header.
+    fn due(self, k: usize) -> usize {
+        let (ftyp, moov) = (FTYP.len(), FTYP.len() + MOOV.len());
+        match (self, k) {
+            (Command::Boxes, 0..8) => 0,
+            (Command::Boxes, 8..364) => ftyp,
+            (Command::Boxes, 364..460) => moov,
+            (Command::Boxes, 460..468) => moov + MOOF.len(),
+            (Command::Boxes, _) => 310,
+            (Command::Samples, 0..468) => 0,
+            (Command::Samples, _) => 222,
+            (Command::Check, _) => 0,
+            (Command::Split, k) => due_of_split(k),
+        }
+    }
+}
+
+/// So it is with the new fragments: what stands before a byte of media is due with the byte before it.
+pub(super) fn due_of_split(k: usize) -> usize {
+    match k {
+        0..8 => 0,
+        8..20 => k,
+        20..364 => 20,
+        364..468 => 364,
+        468..480 => k + 28,
+        480..483 => k + 144,
+        _ => 627,
+    }
+}
+
+/// The fault of the vector's first `k` bytes.
+fn fault_behind(k: usize) -> &'static str {
+    match k {
+        1..8 => "fmp4: 1 Truncated in (none) at 0\n",
+        8..20 => "fmp4: 1 Truncated in ftyp at 0\n",
+        21..28 => "fmp4: 1 Truncated in (none) at 20\n",
+        28..364 => "fmp4: 1 Truncated in moov at 20\n",
+        365..372 => "fmp4: 1 Truncated in (none) at 364\n",
+        372..460 => "fmp4: 1 Truncated in moof at 364\n",
+        460 => "fmp4: 6 MdatMissing in moof at 364\n",
+        461..468 => "fmp4: 1 Truncated in (none) at 460\n",
+        468..483 => "fmp4: 1 Truncated in mdat at 460\n",
+        _ => "",
+    }
+}
+
+/// The vector's first `k` bytes, which are all that come.
+fn first(k: usize) -> Given<'static>
+    ensures { result.step ≡ 7 }
+{
+    Given::ample(&V1.as_slice()[..k.min(483)], 7)
+}
+
+#[test]
+fn streams_that_end_anywhere(rt: HostRuntime) -> Result<(), Fail> {
+    let alloc = rt.alloc();
+    for command in COMMANDS {
+        let all = command.text(alloc)?;
+        for k in 0..483usize {
+            let fault = match (command, k) {
+                // It asks no mdat of a moof.
+                (Command::Boxes, 460) => "",
+                _ => fault_behind(k),
+            };
+            let status = if fault.is_empty() { 0 } else { 2 };
+            let counts = match (command, k) {
+                (Command::Check, 0 | 20) => "fragments=0 samples=0 media=0 held=65536\n",
+                (Command::Check, 364) => "fragments=0 samples=0 media=0 held=65944\n",
+                _ => "",
+            };
+            let due = &all[..command.due(k).min(all.len())];
+            let written = if counts.is_empty() {
+                due
+            } else {
+                counts.as_bytes()
+            };
+            let words = command.words();
+            check_run(
+                &rt,
+                alloc,
+                words,
+                first(k),
+                status,
+                written,
+                fault.as_bytes(),
+            )?;
+        }
+    }
+    Ok(())
 }
 
 #[test]
 fn failing_readers(rt: HostRuntime) -> Result<(), Fail> {
     let alloc = rt.alloc();
-    let listing = listing_of(alloc, &[FTYP, MOOV, MOOF, MDAT])?;
-    let (ftyp, moov) = (FTYP.len(), FTYP.len() + MOOV.len());
-    for given in 0..=483usize {
-        // A line is due at the end of its box's header, those of a moov or moof at the end of the box.
-        let due = match given {
-            0..8 => 0,
-            8..364 => ftyp,
-            364..460 => moov,
-            460..468 => moov + MOOF.len(),
-            _ => listing.len(),
-        };
-        let mut fault = Vec::new(alloc);
-        write!(fault, "fmp4: read failed at {given}\n")?;
-        check_failing(
-            &rt,
-            alloc,
-            given,
-            1000,
-            100,
-            &listing[..due.min(listing.len())],
-            &fault,
-        )?;
+    for command in COMMANDS {
+        let all = command.text(alloc)?;
+        for k in 0..=483usize {
+            let mut given = first(k);
+            given.fails = true;
+            let written = &all[..command.due(k).min(all.len())];
+            let mut fault = Vec::new(alloc);
+            write!(fault, "fmp4: read failed at {k}\n")?;
+            check_run(&rt, alloc, command.words(), given, 3, written, &fault)?;
+        }
     }
     Ok(())
 }
@@ -61,32 +158,39 @@ fn failing_readers(rt: HostRuntime) -> Result<(), Fail> {
 #[test]
 fn failing_writers(rt: HostRuntime) -> Result<(), Fail> {
     let alloc = rt.alloc();
-    let listing = listing_of(alloc, &[FTYP, MOOV, MOOF, MDAT])?;
-    for room in 0..listing.len() {
-        let written = &listing[..room];
-        check_failing(&rt, alloc, 483, room, 100, written, b"fmp4: write failed\n")?;
+    let failed = b"fmp4: write failed\n";
+    for command in COMMANDS {
+        let all = command.text(alloc)?;
+        for room in 0..all.len() {
+            let mut given = first(483);
+            given.room = room;
+            check_run(&rt, alloc, command.words(), given, 3, &all[..room], failed)?;
+        }
+        let mut given = first(483);
+        given.flushes = false;
+        check_run(&rt, alloc, command.words(), given, 3, &all, failed)?;
     }
-    // The line of the fault is cut where its writer fails, and the status stays.
-    check_failing(
-        &rt,
-        alloc,
-        483,
-        10,
-        7,
-        &listing[..10.min(listing.len())],
-        b"fmp4: w",
-    )?;
-    check_failing(&rt, alloc, 470, 1000, 0, &listing, b"")
+    Ok(())
 }
 
+/// The line of a fault is cut where its writer fails, and the status stays.
 #[test]
-fn a_flush_that_fails(rt: HostRuntime) -> Result<(), Fail> {
+fn failing_writers_of_faults(rt: HostRuntime) -> Result<(), Fail> {
     let alloc = rt.alloc();
-    let listing = listing_of(alloc, &[FTYP, MOOV, MOOF, MDAT])?;
-    let given = Given {
-        flushes: false,
-        ..Given::ample(V1.as_slice(), 7)
-    };
-    let fault = b"fmp4: write failed\n";
-    check_run(&rt, alloc, &["fmp4", "boxes"], given, 3, &listing, fault)
+    for command in COMMANDS {
+        let all = command.text(alloc)?;
+        for fault_room in 0..20usize {
+            let mut given = first(482);
+            given.fault_room = fault_room;
+            let written = &all[..command.due(482).min(all.len())];
+            let fault = &fault_behind(482).as_bytes()[..fault_room];
+            check_run(&rt, alloc, command.words(), given, 2, written, fault)?;
+            let mut given = first(483);
+            (given.room, given.fault_room) = (10, fault_room.min(19));
+            let fault = &b"fmp4: write failed\n"[..fault_room.min(19)];
+            let written = &all[..all.len().min(10)];
+            check_run(&rt, alloc, command.words(), given, 3, written, fault)?;
+        }
+    }
+    Ok(())
 }

@@ -4,7 +4,9 @@
 ghost use Rattle.std.specs.Prelude.{◌≡◌, ◌+◌, ◌≤◌};
 ghost use Rattle.mp4_stream.specs.Feeders.{held_by};
 
+use super::ends::due_of_split;
 use super::joined;
+use super::split_stops::with_a_large_moof;
 use super::splits::{by_two, tracks_by_two};
 use mp4_stream::ends::ToVec;
 use mp4_stream::vectors::{V1, V2};
@@ -14,10 +16,10 @@ use std::process::Abort;
 use std::test::Fail;
 
 /// A Feeder, the ledger that serves it, and what it writes to.
-struct Pushed {
+pub(super) struct Pushed {
     feeder: Feeder,
     ledger: Ledger,
-    w: ToVec,
+    pub(super) w: ToVec,
     ghost claim: { held_by feeder ≤ ledger.live },
 }
 
@@ -34,22 +36,27 @@ fn two_samples(rt: &impl Abort) -> Cut {
 
 impl Pushed {
     /// With ample memory, and a writer with so much room.
-    fn new(rt: &impl Abort, alloc: Global, room: usize) -> Result<Pushed, Fail> {
+    pub(super) fn new(rt: &impl Abort, alloc: Global, room: usize) -> Result<Pushed, Fail> {
+        Pushed::within(rt, alloc, room, 1 << 20)
+    }
+
+    /// And under a limit.
+    fn within(rt: &impl Abort, alloc: Global, room: usize, limit: u64) -> Result<Pushed, Fail> {
         let w = ToVec::new(alloc, room, 1000, true)?;
         Ok(Pushed {
             feeder: by_two_samples(rt),
-            ledger: Ledger::new(alloc, 1 << 20),
+            ledger: Ledger::new(alloc, limit),
             w,
         })
     }
 
     /// Pushes these bytes in as one piece.
-    fn push(&mut self, piece: &[u8]) -> Result<(), Stop> {
+    pub(super) fn push(&mut self, piece: &[u8]) -> Result<(), Stop> {
         self.feeder.feed(&mut self.ledger, piece, &mut self.w)
     }
 
     /// And each of them by itself.
-    fn push_each(&mut self, bytes: &[u8]) -> Result<(), Stop> {
+    pub(super) fn push_each(&mut self, bytes: &[u8]) -> Result<(), Stop> {
         for i in 0..bytes.len() {
             self.push(&bytes[i..i + 1])?;
         }
@@ -84,7 +91,7 @@ impl Pushed {
     }
 
     /// The stream ended: the answer, and how much is out then.
-    fn finish(self) -> (Result<Totals, Stop>, u64) {
+    pub(super) fn finish(self) -> (Result<Totals, Stop>, u64) {
         let Pushed {
             feeder,
             ledger,
@@ -120,15 +127,7 @@ fn at(rule: Rule, kind: Option<&[u8; 4]>, offset: u64) -> Option<Fault> {
 /// Of the first bytes of the first vector: how many bytes must have been written, how many are held, and the fault of a stream
 /// that ends here.
 fn due(k: usize) -> (usize, u64, Option<Fault>) {
-    let written = match k {
-        0..8 => 0,
-        8..20 => k,
-        20..364 => 20,
-        364..468 => 364,
-        468..480 => k + 28,
-        480..483 => k + 144,
-        _ => 627,
-    };
+    let written = due_of_split(k);
     let held = match k {
         0..28 => 0,
         28..364 => 344,
@@ -248,6 +247,63 @@ fn a_writer_that_is_mended(rt: HostRuntime) -> Result<(), Fail> {
     assert_eq!(&rt; pushed.push(v1), Err(Stop::Write));
     assert_eq!(&rt; pushed.w.bytes().len(), 0);
     assert_eq!(&rt; pushed.finish(), (Err(Stop::Write), 0));
+    Ok(())
+}
+
+/// A stream is pushed in under a limit, by single bytes or whole: the answer, and how many bytes it must have written. Behind a
+/// stop nothing is out, and it answers the same.
+fn check_within(
+    rt: &impl Abort,
+    alloc: Global,
+    limit: u64,
+    stream: &[u8],
+    single: bool,
+    answer: Result<(), Stop>,
+    written: usize,
+) -> Result<(), Fail> {
+    let all = by_two(alloc)?;
+    let written = &all[..written.min(all.len())];
+    let mut pushed = Pushed::within(rt, alloc, 1000, limit)?;
+    let answered = if single {
+        pushed.push_each(stream)
+    } else {
+        pushed.push(stream)
+    };
+    assert_eq!(rt;
+        (answered, pushed.w.bytes()),
+        (answer, written),
+        "limit {limit}"
+    );
+    if answer.is_ok() {
+        assert_eq!(rt; pushed.give_up(), 0);
+        return Ok(());
+    }
+    assert_eq!(rt; pushed.feeder.held(), 0);
+    assert_eq!(rt;
+        (pushed.push(stream), pushed.w.bytes()),
+        (answer, written),
+        "limit {limit}"
+    );
+    assert_eq!(rt; pushed.finish(), (Err(Stop::OverLimit), 0));
+    Ok(())
+}
+
+/// Each claim is refused in turn: that of the moov, of the table of its tracks, of a moof, and of the list of its runs.
+#[test]
+fn limits_of_a_feeder(rt: HostRuntime) -> Result<(), Fail> {
+    let (alloc, v1) = (rt.alloc(), V1.as_slice());
+    let large = with_a_large_moof(alloc)?;
+    let over = Err(Stop::OverLimit);
+    for single in [false, true] {
+        for limit in [0, 343, 344, 407] {
+            check_within(&rt, alloc, limit, v1, single, over, 20)?;
+        }
+        check_within(&rt, alloc, 408, v1, single, Ok(()), 627)?;
+        for limit in [408, 559, 560, 623] {
+            check_within(&rt, alloc, limit, &large, single, over, 364)?;
+        }
+        check_within(&rt, alloc, 624, &large, single, Ok(()), 627)?;
+    }
     Ok(())
 }
 

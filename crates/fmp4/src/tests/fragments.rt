@@ -1,6 +1,6 @@
 //! Samples that are listed, and streams that are checked.
 
-use super::{Given, check_run, check_words};
+use super::check_words;
 use mp4_stream::vectors::V1;
 use std::alloc::Global;
 use std::process::Abort;
@@ -104,31 +104,4 @@ fn limits_of_fragments(rt: HostRuntime) -> Result<(), Fail> {
         check_words(&rt, alloc, &few, &v1, 4, &[], over)?;
     }
     Ok(())
-}
-
-#[test]
-fn failing_ends_of_fragments(rt: HostRuntime) -> Result<(), Fail> {
-    let (alloc, v1) = (rt.alloc(), V1.as_slice());
-    let mut given = Given::ample(&v1[..470], 7);
-    given.fails = true;
-    let mut listing = Vec::new(alloc);
-    for line in SAMPLES {
-        listing.extend_from_slice(line.as_bytes())?;
-    }
-    let failed = b"fmp4: read failed at 470\n";
-    check_run(&rt, alloc, &["fmp4", "samples"], given, 3, &listing, failed)?;
-    check_run(&rt, alloc, &["fmp4", "check"], given, 3, b"", failed)?;
-    let failed = b"fmp4: write failed\n";
-    let mut given = Given::ample(v1, 483);
-    given.room = 100;
-    let front = &listing[..listing.len().min(100)];
-    check_run(&rt, alloc, &["fmp4", "samples"], given, 3, front, failed)?;
-    given.room = 20;
-    let front = &COUNTS.as_bytes()[..COUNTS.len().min(20)];
-    check_run(&rt, alloc, &["fmp4", "check"], given, 3, front, failed)?;
-    let mut given = Given::ample(v1, 483);
-    given.flushes = false;
-    let counts = COUNTS.as_bytes();
-    check_run(&rt, alloc, &["fmp4", "samples"], given, 3, &listing, failed)?;
-    check_run(&rt, alloc, &["fmp4", "check"], given, 3, counts, failed)
 }

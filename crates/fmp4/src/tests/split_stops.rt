@@ -1,14 +1,14 @@
-//! Limits and ends that fail while a stream is recut, and what is counted then.
+//! Limits while a stream is recut, and what is counted where a write failed.
 
 ghost use Rattle.std.specs.Prelude.{◌≡◌, ◌<◌};
 
+use super::joined;
 use super::layouts::MFHD;
 use super::splits::{by_two, check_split};
-use super::{Given, check_run};
 use mp4_stream::ends::{FromSlice, ToVec};
 use mp4_stream::vectors::V1;
 use mp4_stream::{Cut, Ledger, Stop, Totals, split};
-use std::process::Abort;
+use std::alloc::{AllocError, Global};
 use std::test::Fail;
 
 /// The first vector by two samples a fragment, in 627 bytes: behind its first 364 a moof of 124 bytes with an mdat of 20, and a
@@ -40,21 +40,30 @@ fn fragments_that_a_writer_took(rt: HostRuntime) -> Result<(), Fail> {
     Ok(())
 }
 
+/// The first vector with a moof of 496 bytes: a free box of 400 stands behind its mfhd.
+pub(super) fn with_a_large_moof(alloc: Global) -> Result<Vec<u8>, AllocError> {
+    let v1 = V1.as_slice();
+    joined(
+        alloc,
+        &[
+            &v1[..364],
+            b"\0\0\x01\xf0moof",
+            MFHD,
+            b"\0\0\x01\x90free",
+            &[0; 392],
+            &v1[388..444],
+            b"\0\0\x01\xf8",
+            &v1[448..],
+        ],
+    )
+}
+
 #[test]
 fn limits_of_split(rt: HostRuntime) -> Result<(), Fail> {
     let (alloc, v1) = (rt.alloc(), V1.as_slice());
     let two = by_two(alloc)?;
-    // A moof of 496 bytes, with a free box of 400 behind its mfhd.
-    let large = [
-        &v1[..364],
-        b"\0\0\x01\xf0moof".as_slice(),
-        MFHD,
-        b"\0\0\x01\x90free",
-        &[0; 392],
-        &v1[388..444],
-        b"\0\0\x01\xf8",
-        &v1[448..],
-    ];
+    let large = with_a_large_moof(alloc)?;
+    let large = [large.as_slice()];
     let over = "fmp4: over the limit\n";
     let v1 = [v1];
     for (limit, stream, status, len, fault) in [
@@ -71,23 +80,4 @@ fn limits_of_split(rt: HostRuntime) -> Result<(), Fail> {
         check_split(&rt, alloc, &options, stream, status, written, fault)?;
     }
     Ok(())
-}
-
-#[test]
-fn failing_ends_of_split(rt: HostRuntime) -> Result<(), Fail> {
-    let (alloc, v1) = (rt.alloc(), V1.as_slice());
-    let two = by_two(alloc)?;
-    let len = two.len();
-    let words = ["fmp4", "split", "--samples", "2"];
-    let mut given = Given::ample(&v1[..470], 7);
-    given.fails = true;
-    let failed = b"fmp4: read failed at 470\n";
-    check_run(&rt, alloc, &words, given, 3, &two[..498.min(len)], failed)?;
-    let failed = b"fmp4: write failed\n";
-    let mut given = Given::ample(v1, 483);
-    given.room = 100;
-    check_run(&rt, alloc, &words, given, 3, &two[..100.min(len)], failed)?;
-    let mut given = Given::ample(v1, 483);
-    given.flushes = false;
-    check_run(&rt, alloc, &words, given, 3, &two, failed)
 }

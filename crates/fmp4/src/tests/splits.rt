@@ -12,7 +12,7 @@ const SYNC: u32 = 0x0200_0000;
 
 const OTHER: u32 = 0x0101_0000;
 
-const BY_TWO: [&str; 2] = ["--samples", "2"];
+pub(super) const BY_TWO: [&str; 2] = ["--samples", "2"];
 
 /// A fragment that must be written: its number, its track, its decode time, how long its samples are, the size and the flags
 /// of each, and their bytes.

@@ -135,24 +135,46 @@ fn versions(rt: HostRuntime) -> Result<(), Fail> {
     )
 }
 
+/// A table of samples, with so many bytes of payload, of which this one is 1 and the others are 0.
+fn table(alloc: Global, kind: &[u8; 4], len: u8, one: Option<u8>) -> Result<Vec<u8>, Fail> {
+    let mut bytes = Vec::new(alloc);
+    bytes.extend_from_slice(&[0, 0, 0, len.saturating_add(8)])?;
+    bytes.extend_from_slice(kind)?;
+    for i in 0..len {
+        bytes.push(if one == Some(i) { 1 } else { 0 })?;
+    }
+    Ok(bytes)
+}
+
+/// The tables that tell of samples, and how long their payloads are at least. Their counts stand at the end of that.
+const SAMPLE_TABLES: [(&[u8; 4], u8); 6] = [
+    (b"stts", 8),
+    (b"stsc", 8),
+    (b"stco", 8),
+    (b"co64", 8),
+    (b"stsz", 12),
+    (b"stz2", 12),
+];
+
 #[test]
 fn lengths(rt: HostRuntime) -> Result<(), Fail> {
-    let stts = b"\0\0\0\x0fstts\0\0\0\0\0\0\0";
-    let stsz = b"\0\0\0\x10stsz\0\0\0\0\0\0\0\0";
+    let alloc = rt.alloc();
     check_more(
         &rt,
-        rt.alloc(),
-        &[
-            (
-                364,
-                b"\0",
-                &[20, 324, 332],
-                fault(Rule::FieldLength, b"trex", 332),
-            ),
-            (324, stts, TABLES, fault(Rule::FieldLength, b"stts", 324)),
-            (324, stsz, TABLES, fault(Rule::FieldLength, b"stsz", 324)),
-        ],
-    )
+        alloc,
+        &[(
+            364,
+            b"\0",
+            &[20, 324, 332],
+            fault(Rule::FieldLength, b"trex", 332),
+        )],
+    )?;
+    for (kind, len) in SAMPLE_TABLES {
+        let short = table(alloc, kind, len.saturating_sub(1), None)?;
+        let fault = fault(Rule::FieldLength, kind, 324);
+        check_more(&rt, alloc, &[(324, short.as_slice(), TABLES, fault)])?;
+    }
+    Ok(())
 }
 
 #[test]
@@ -178,21 +200,26 @@ fn sample_entries(rt: HostRuntime) -> Result<(), Fail> {
 
 #[test]
 fn tables_of_samples(rt: HostRuntime) -> Result<(), Fail> {
-    let stts = b"\0\0\0\x10stts\0\0\0\0\0\0\0\x01";
-    let stco = b"\0\0\0\x10stco\0\0\0\0\0\0\0\0";
-    // The count of these two stands behind another field.
-    let stsz = b"\0\0\0\x14stsz\0\0\0\0\0\0\0\0\0\0\0\x01";
-    let stz2 = b"\0\0\0\x14stz2\0\0\0\0\0\0\0\x08\0\0\0\0";
-    check_more(
-        &rt,
-        rt.alloc(),
-        &[
-            (324, stts, TABLES, fault(Rule::SamplesInMoov, b"stts", 324)),
-            (324, stco, TABLES, Some(Ok(1))),
-            (324, stsz, TABLES, fault(Rule::SamplesInMoov, b"stsz", 324)),
-            (324, stz2, TABLES, Some(Ok(1))),
-        ],
-    )
+    let alloc = rt.alloc();
+    for (kind, len) in SAMPLE_TABLES {
+        let none = table(alloc, kind, len, None)?;
+        let one = table(alloc, kind, len, len.checked_sub(1))?;
+        let fault = fault(Rule::SamplesInMoov, kind, 324);
+        check_more(
+            &rt,
+            alloc,
+            &[
+                (324, none.as_slice(), TABLES, Some(Ok(1))),
+                (324, one.as_slice(), TABLES, fault),
+            ],
+        )?;
+    }
+    // The size of all samples, or of a field, is no count.
+    for kind in [b"stsz", b"stz2"] {
+        let sized = table(alloc, kind, 12, Some(7))?;
+        check_more(&rt, alloc, &[(324, sized.as_slice(), TABLES, Some(Ok(1)))])?;
+    }
+    Ok(())
 }
 
 #[test]

@@ -1,5 +1,6 @@
 use Rattle.mp4_recut_laws.proofs.StreamBytesLemmas.{text_of_stream, told_by_samples}
 use Rattle.mp4_recut_laws.proofs.ReadStreamLemmas.{recut_text_of_a_stream}
+use Rattle.mp4_recut_laws.proofs.MoofTellingLemmas.{moofs_are_told}
 use Rattle.mp4_recut_laws.proofs.recut_text_of_a_stream.Goals as goal
 
 pub returns-clause-text : goal.returns-clause-text
@@ -13,3 +14,12 @@ returns-clause-each c = text_of_stream
 
 pub returns-clause-samples : goal.returns-clause-samples
 returns-clause-samples c = told_by_samples
+
+pub returns-clause-moofs : goal.returns-clause-moofs
+returns-clause-moofs c = λ cut s is. (moofs_are_told cut s is).marks
+
+pub returns-clause-counted : goal.returns-clause-counted
+returns-clause-counted c = λ cut s is. (moofs_are_told cut s is).counted
+
+pub returns-clause-whole : goal.returns-clause-whole
+returns-clause-whole c = λ cut s n is. (moofs_are_told cut s is).whole n

@@ -1,0 +1,146 @@
+//! Pushes a stream into a Feeder piece by piece, as often as it is told, and counts the bytes that are written. Standard input
+//! has three numbers of four bytes, the highest first: the greatest number of samples of a fragment, how many bytes a piece has, and
+//! how many times; then the stream. With pieces of 0 bytes the stream is read by `split`, 65,536 bytes a read.
+#![tactic(auto)]
+
+ghost use Rattle.std.specs.Prelude.{◌<◌, ◌≤◌, false};
+ghost use Rattle.mp4_stream.specs.Feeders.{held_by};
+
+use mp4_box::number_at;
+use mp4_ends::{Failed, Sink};
+use mp4_stream::ends::FromSlice;
+use mp4_stream::{Cut, Feeder, Ledger, Stop, Totals, split};
+use std::alloc::Global;
+use std::io;
+use std::io::Read;
+use std::process::ExitCode;
+
+/// How many bytes `split` reads at once.
+const PIECE: u32 = 65_536;
+
+/// The ledger's limit.
+const LIMIT: u64 = 1 << 30;
+
+/// Counts the bytes that it takes.
+#[derive(Drop)]
+struct Counter {
+    bytes: u64,
+}
+
+impl Sink for Counter {
+    ghost has_failed = { λ _. false };
+
+    fn write(&mut self, from: &[u8]) -> Result<usize, Failed> {
+        self.bytes = self.bytes.saturating_add(from.len() as u64);
+        Ok(from.len())
+    }
+
+    fn flush(&mut self) -> Result<(), Failed> {
+        Ok(())
+    }
+
+    fn failed(&self) -> bool {
+        false
+    }
+}
+
+/// A Feeder, and the ledger that serves it.
+struct Pushed {
+    feeder: Feeder,
+    ledger: Ledger,
+    ghost claim: { held_by feeder ≤ ledger.live },
+}
+
+impl Pushed {
+    fn new(alloc: Global, cut: Cut) -> Pushed {
+        Pushed {
+            feeder: Feeder::new(cut),
+            ledger: Ledger::new(alloc, LIMIT),
+        }
+    }
+
+    /// Pushes a stream in, in pieces of so many bytes.
+    fn push_all(&mut self, stream: &[u8], len: usize, w: &mut Counter) -> Result<(), Stop>
+        requires { 0 < len }
+    {
+        for piece in stream.chunks(len) {
+            self.feeder.feed(&mut self.ledger, piece, w)?;
+        }
+        Ok(())
+    }
+
+    /// Ends the stream.
+    fn finish(self) -> Result<Totals, Stop> {
+        let Pushed { feeder, ledger } = self;
+        let mut ledger = ledger;
+        feeder.finish(&mut ledger)
+    }
+}
+
+/// Cuts a stream that comes in pieces of so many bytes.
+fn push_stream(
+    alloc: Global,
+    stream: &[u8],
+    len: usize,
+    cut: Cut,
+    w: &mut Counter,
+) -> Result<Totals, Stop>
+    requires { 0 < len }
+{
+    let mut pushed = Pushed::new(alloc, cut);
+    // Behind a stop `finish` answers the same.
+    let _ = pushed.push_all(stream, len, w);
+    pushed.finish()
+}
+
+/// Cuts a stream that is read.
+fn read_stream(alloc: Global, stream: &[u8], cut: Cut, w: &mut Counter) -> Result<Totals, Stop> {
+    let mut ledger = Ledger::new(alloc, LIMIT);
+    let mut totals = Totals::new();
+    let mut r = FromSlice::new(stream, PIECE as usize, false);
+    match split(&mut r, w, &mut ledger, &cut, PIECE, &mut totals) {
+        Ok(()) => Ok(totals),
+        Err(stop) => Err(stop),
+    }
+}
+
+/// Cuts a stream, in pieces of so many bytes or as a whole.
+fn cut_stream(
+    alloc: Global,
+    stream: &[u8],
+    len: usize,
+    cut: Cut,
+    w: &mut Counter,
+) -> Result<Totals, Stop> {
+    if len == 0 {
+        read_stream(alloc, stream, cut, w)
+    } else {
+        push_stream(alloc, stream, len, cut, w)
+    }
+}
+
+/// Reads the numbers and the stream, and prints what is counted of the last time.
+fn print_counts(rt: &HostRuntime) -> io::Result<()> {
+    let mut read = Vec::new(rt.alloc());
+    rt.stdin().read_to_end(&mut read)?;
+    let (front, stream) = read.as_slice().split_at(read.len().min(12));
+    let Some(cut) = Cut::new(number_at(front, 0), None, false) else {
+        return println!(rt; "no number of samples from 1 to 1,000,000");
+    };
+    let len = number_at(front, 4) as usize;
+    for _ in 1..number_at(front, 8) {
+        let _ = cut_stream(rt.alloc(), stream, len, cut, &mut Counter { bytes: 0 });
+    }
+    let mut w = Counter { bytes: 0 };
+    match cut_stream(rt.alloc(), stream, len, cut, &mut w) {
+        Ok(totals) => println!(rt; "{} fragments, {} bytes", totals.fragments, w.bytes),
+        Err(_) => println!(rt; "it stops behind {} bytes", w.bytes),
+    }
+}
+
+fn main(rt: HostRuntime) -> ExitCode {
+    match print_counts(&rt) {
+        Ok(()) => ExitCode::from(0),
+        Err(_) => ExitCode::from(1),
+    }
+}
