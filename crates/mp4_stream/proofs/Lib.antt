@@ -8,4 +8,5 @@ pub mod JoinLemmas
 pub mod RestLemmas
 pub mod FragmentLemmas
 pub mod FeederLemmas
+pub mod PushLemmas
 pub mod EmptyLemmas

@@ -6,3 +6,4 @@ pub mod Rests
 pub mod Places
 pub mod Fragments
 pub mod Feeders
+pub mod Pushes

@@ -1,6 +1,6 @@
 //! A stream that is pushed in piece by piece, and cut into shorter fragments as it comes.
 
-ghost use Rattle.std.specs.Prelude.{◌≡◌, ℕ, List, ◌+◌, ◌-◌, ◌*◌, ◌≤◌, [], None, Some, Err, Ok, IfErr, OnOk, OnErr, IsErrOf, true};
+ghost use Rattle.std.specs.Prelude.{◌≡◌, ℕ, List, ◌+◌, ◌-◌, ◌*◌, ◌≤◌, [], None, Some, Err, Ok, IfErr, IfOk, OnOk, OnErr, IsErrOf, true};
 ghost use Rattle.mp4_feed.specs.States.{begun, listed_by, reads_of};
 ghost use Rattle.mp4_ledger.specs.Memory.{given_back};
 ghost use Rattle.mp4_reading.specs.Ends.{sent};
@@ -180,6 +180,10 @@ impl Feeder {
     pub fn finish(self, ledger: &mut Ledger) -> Result<Totals, Stop>
         requires claim { held_by self ≤ ledger.old.live }
         ensures finishes { (b : List ℕ) → Stands self b → Finishes self b result }
+        ensures some { IfOk result (λ t. self.machine.counter.tally.walked + t.samples +
+            listed_by (Split self.cut) t.samples ≤ t.rows_read) }
+        ensures few { IfOk result (λ t. t.rows_read ≤
+            reads_of (Split self.cut) * self.machine.counter.tally.walked) }
         ensures stopped { (e : Stop) → self.stop ≡ Some e → result ≡ Err e }
         ensures back { ledger.new ≡ given_back ledger.old (held_by self) }
     {
@@ -195,6 +199,10 @@ impl Feeder {
     /// As [`Feeder::finish`].
     pub(crate) fn ending(&self) -> Result<Totals, Stop>
         ensures finishes { (b : List ℕ) → Stands self.now b → Finishes self.now b result }
+        ensures some { IfOk result (λ t. self.now.machine.counter.tally.walked + t.samples +
+            listed_by (Split self.now.cut) t.samples ≤ t.rows_read) }
+        ensures few { IfOk result (λ t. t.rows_read ≤
+            reads_of (Split self.now.cut) * self.now.machine.counter.tally.walked) }
         ensures stopped { (e : Stop) → self.now.stop ≡ Some e → result ≡ Err e }
     {
         if let Some(stop) = self.stop {

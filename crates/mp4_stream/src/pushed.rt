@@ -1,12 +1,11 @@
 //! Reads of a whole stream that are pushed into a Feeder.
 
-ghost use Rattle.std.specs.Io.KnownBytes.{Appends};
 ghost use Rattle.std.specs.List.{flat_map};
-ghost use Rattle.std.specs.Prelude.{◌≡◌, ◌+◌, ◌<◌, [], length, None, OnOk};
+ghost use Rattle.std.specs.Prelude.{◌≡◌, ◌+◌, ◌<◌, [], length};
 ghost use Rattle.mp4_reading.specs.Ends.{between, received, sent};
-ghost use Rattle.mp4_reading.specs.Readings.{fault_in};
 ghost use Rattle.mp4_reading.specs.Runs.{Runs};
-ghost use Rattle.mp4_stream.specs.Feeders.{Stands, held_by, live, reading};
+ghost use Rattle.mp4_stream.specs.Feeders.{Stands, held_by, reading};
+ghost use Rattle.mp4_stream.specs.Pushes.{Pushes};
 
 use crate::feeder::Feeder;
 use crate::run::Totals;
@@ -109,11 +108,10 @@ pub fn split_pieces<W: Sink>(
     ledger: &mut Ledger,
     cut: Cut,
 ) -> Result<Totals, Stop>
-    ensures text { OnOk result (Appends (W.contents w.old) (W.contents w.new)
-        (live cut (flat_map (λ piece. piece.now) pieces.now))) }
-    ensures sound { OnOk result
-        (fault_in (reading cut (flat_map (λ piece. piece.now) pieces.now)).outcome ≡ None) }
+    ensures pushes { Pushes cut (flat_map (λ piece. piece.now) pieces.now)
+        (sent W.contents W.has_failed w.old w.new) ledger.old.live ledger.old.limit result }
     ensures back { ledger.new.live ≡ ledger.old.live }
+    ensures limit { ledger.new.limit ≡ ledger.old.limit }
 {
     let mut feeder = Feeder::new(cut);
     for piece in pieces {

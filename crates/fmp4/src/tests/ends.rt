@@ -183,7 +183,8 @@ fn failing_writers_of_faults(rt: HostRuntime) -> Result<(), Fail> {
             let mut given = first(482);
             given.fault_room = fault_room;
             let written = &all[..command.due(482).min(all.len())];
-            let fault = &fault_behind(482).as_bytes()[..fault_room];
+            let fault = fault_behind(482).as_bytes();
+            let fault = &fault[..fault_room.min(fault.len())];
             check_run(&rt, alloc, command.words(), given, 2, written, fault)?;
             let mut given = first(483);
             (given.room, given.fault_room) = (10, fault_room.min(19));

@@ -9,6 +9,7 @@ use mp4_stream::ends::{FromSlice, ToVec};
 use mp4_stream::vectors::V1;
 use mp4_stream::{Cut, Ledger, Stop, Totals, split};
 use std::alloc::{AllocError, Global};
+use std::process::Abort;
 use std::test::Fail;
 
 /// The first vector by two samples a fragment, in 627 bytes: behind its first 364 a moof of 124 bytes with an mdat of 20, and a
@@ -58,26 +59,38 @@ pub(super) fn with_a_large_moof(alloc: Global) -> Result<Vec<u8>, AllocError> {
     )
 }
 
+/// Recuts a stream under a limit: so many bytes must be written, and where these aren't all of the 627, the limit was passed.
+fn check_limit(
+    rt: &impl Abort,
+    alloc: Global,
+    limit: &'static str,
+    stream: &[u8],
+    written: usize,
+) -> Result<(), Fail> {
+    let two = by_two(alloc)?;
+    let options = ["--samples", "2", "--max-held", limit];
+    let (status, fault) = if written < 627 {
+        (4, "fmp4: over the limit\n")
+    } else {
+        (0, "")
+    };
+    let written = &two[..written.min(two.len())];
+    check_split(rt, alloc, &options, &[stream], status, written, fault)
+}
+
 #[test]
 fn limits_of_split(rt: HostRuntime) -> Result<(), Fail> {
-    let (alloc, v1) = (rt.alloc(), V1.as_slice());
-    let two = by_two(alloc)?;
-    let large = with_a_large_moof(alloc)?;
-    let large = [large.as_slice()];
-    let over = "fmp4: over the limit\n";
-    let v1 = [v1];
-    for (limit, stream, status, len, fault) in [
-        ("100", v1.as_slice(), 4, 0, over),
-        ("65535", &v1, 4, 0, over),
-        ("65536", &v1, 4, 20, over),
-        ("65943", &v1, 4, 20, over),
-        ("65944", &v1, 0, 627, ""),
-        ("66159", &large, 4, 364, over),
-        ("66160", &large, 0, 627, ""),
+    let alloc = rt.alloc();
+    for (limit, written) in [
+        ("100", 0),
+        ("65535", 0),
+        ("65536", 20),
+        ("65943", 20),
+        ("65944", 627),
     ] {
-        let options = ["--samples", "2", "--max-held", limit];
-        let written = &two[..len.min(two.len())];
-        check_split(&rt, alloc, &options, stream, status, written, fault)?;
+        check_limit(&rt, alloc, limit, V1.as_slice(), written)?;
     }
-    Ok(())
+    let large = with_a_large_moof(alloc)?;
+    check_limit(&rt, alloc, "66159", &large, 364)?;
+    check_limit(&rt, alloc, "66160", &large, 627)
 }
