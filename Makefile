@@ -56,3 +56,4 @@ bench: build moof_runs cut_pieces push_pieces
 	@bench/samples
 	@bench/split
 	@bench/feeder
+	@bench/hostile_streams

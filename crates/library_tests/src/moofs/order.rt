@@ -242,10 +242,36 @@ fn runs_lie_far_away(rt: HostRuntime) -> Result<(), Fail> {
     Ok(())
 }
 
+/// A run of 5 bytes, which lies from 684 on in a moof at 584.
+const FIVE: &[u8] = b"\0\0\0\x18trun\0\0\x02\x01\0\0\0\x01\0\0\0\x64\0\0\0\x05";
+
+#[test]
+fn a_run_without_bytes_stands_behind_its_track(rt: HostRuntime) -> Result<(), Fail> {
+    let payload = Payload {
+        start: 684,
+        end: None,
+    };
+    let mut empty = *b"\0\0\0\x14trun\0\0\0\x01\0\0\0\x01\0\0\0\x66";
+    for (offset, expected) in [(0x68, fault(Rule::RunPlace, b"trun", 672)), (0x69, None)] {
+        empty[19] = offset;
+        let mut trafs = Vec::new(rt.alloc());
+        push_box(&mut trafs, b"traf", &[TFHD, TFDT, FIVE, &empty])?;
+        let moof = moof_of(rt.alloc(), &[trafs.as_slice()])?;
+        let moov = &V2.as_slice()[20..584];
+        let told = told(rt.alloc(), 128, moov, moof.as_slice(), 584, payload)?;
+        let Ok((taken, misplaced)) = told else {
+            return Err("a refusal".into());
+        };
+        let place = 584 + i128::from(offset);
+        assert_eq!(rt; taken.as_slice(), &[(1, 684), (1, place)][..]);
+        assert_eq!(rt; misplaced, expected);
+    }
+    Ok(())
+}
+
 #[test]
 fn runs_without_bytes_share_none(rt: HostRuntime) -> Result<(), Fail> {
-    // A run of 5 bytes from 464 on; then runs in it: without samples, and with a sample of size 0 by another track.
-    const FIVE: &[u8] = b"\0\0\0\x18trun\0\0\x02\x01\0\0\0\x01\0\0\0\x64\0\0\0\x05";
+    // Runs within one of 5 bytes: without samples, and with a sample of size 0 by another track.
     const NONE: &[u8] = b"\0\0\0\x14trun\0\0\0\x01\0\0\0\0\0\0\0\x66";
     const EMPTY: &[u8] = b"\0\0\0\x14trun\0\0\0\x01\0\0\0\x01\0\0\0\x66";
     const OF_2: &[u8] = b"\0\0\0\x10tfhd\0\x02\0\0\0\0\0\x02";
