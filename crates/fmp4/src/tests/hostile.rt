@@ -167,3 +167,36 @@ fn fields_of_other_boxes(rt: HostRuntime) -> Result<(), Fail> {
     let due = fault_at(Rule::Twice, b"tfhd", 412, line);
     check_hostile(&rt, alloc, &twice, due, 364)
 }
+
+#[test]
+fn numbers_and_names_of_rules(rt: HostRuntime) {
+    for (rule, number, name) in [
+        (Rule::Truncated, 1, "Truncated"),
+        (Rule::BadSize, 2, "BadSize"),
+        (Rule::NoMoov, 3, "NoMoov"),
+        (Rule::SecondMoov, 4, "SecondMoov"),
+        (Rule::StrayMdat, 5, "StrayMdat"),
+        (Rule::MdatMissing, 6, "MdatMissing"),
+        (Rule::TooLarge, 7, "TooLarge"),
+        (Rule::Depth, 8, "Depth"),
+        (Rule::Missing, 9, "Missing"),
+        (Rule::Twice, 10, "Twice"),
+        (Rule::Version, 11, "Version"),
+        (Rule::FieldLength, 12, "FieldLength"),
+        (Rule::SamplesInMoov, 13, "SamplesInMoov"),
+        (Rule::Unsupported, 14, "Unsupported"),
+        (Rule::BaseNotMoof, 15, "BaseNotMoof"),
+        (Rule::EmptyDuration, 16, "EmptyDuration"),
+        (Rule::FlagsConflict, 17, "FlagsConflict"),
+        (Rule::UnknownTrack, 18, "UnknownTrack"),
+        (Rule::EntryIndex, 19, "EntryIndex"),
+        (Rule::TooManySamples, 20, "TooManySamples"),
+        (Rule::TimeRange, 21, "TimeRange"),
+        (Rule::RunPlace, 22, "RunPlace"),
+        (Rule::IndexRange, 23, "IndexRange"),
+        (Rule::SequenceEnd, 24, "SequenceEnd"),
+        (Rule::StreamTooLong, 25, "StreamTooLong"),
+    ] {
+        assert_eq!(&rt; (rule.number(), rule.name()), (number, name));
+    }
+}
