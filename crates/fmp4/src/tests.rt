@@ -13,6 +13,7 @@ mod rows;
 mod split_stops;
 mod splits;
 mod words;
+mod work;
 
 use fmp4_program::run;
 use mp4_stream::ends::{FromSlice, ToVec};

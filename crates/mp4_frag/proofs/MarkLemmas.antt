@@ -1,30 +1,13 @@
 -- What is marked at the place of a track_ID.
 use Rattle.std.proofs.Common.{◌≡◌, ◌∙◌, ◌<◌, ◌==◌, ℕ, Bool, true, false, cond, List, [], ◌∷◌, length, Option, Some, None, refl, sym, ap, arith}
-use Rattle.std.specs.Prelude.{replicate, slice_get, slice_index_or}
+use Rattle.std.specs.Prelude.{replicate, slice_index_or}
 use Rattle.std.proofs.lemmas.List.{get_or_default, length-replicate, length-set, get_or-replicate, get_or-set_same, get_or-set_other}
 use Rattle.std.proofs.lemmas.Bool.Decides.{nat_tests}
 use Rattle.mp4_box.specs.Trees.{Box}
+use Rattle.mp4_init.specs.OrderedIds.{sought}
 use Rattle.mp4_init.proofs.SearchTreeLemmas.{is_same}
-use Rattle.mp4_frag.specs.Repeats.{traf_id, is_listed, place_if, descend, sought, marked_at, all_marked, marks}
-
-some_same : (a b : ℕ) → Some a ≡ Some b → a ≡ b
-some_same a b e = cc
-
-placed : (ids : List ℕ) (o : Option ℕ) (id at k : ℕ) → slice_get ids at ≡ o → place_if o id at ≡ Some k → slice_get ids k ≡ Some id
-placed ids None id at k g e = absurd cc
-placed ids (Some x) id at k g e = by (x == id) refl
-  where
-    by : (t : Bool) → (x == id) ≡ t → slice_get ids k ≡ Some id
-    by true s = let f : Some at ≡ Some k = ap (λ (u : Bool). cond u (Some at) None) (sym s) ∙ e in ap (slice_get ids) (sym (some_same at k f)) ∙ g ∙ ap (λ (n : ℕ). Some n) (is_same x id s)
-    by false s = let f : None ≡ Some k = ap (λ (u : Bool). cond u (Some at) None) (sym s) ∙ e in absurd cc
-
--- the id stands where it is found
-pub found : (ids : List ℕ) (id k : ℕ) → sought ids id ≡ Some k → slice_get ids k ≡ Some id
-unfolding sought
-found ids id k e = let at = descend 17 65536 ids id 0 in placed ids (slice_get ids at) id at k refl e
-
-same_id : (ids : List ℕ) (x id k : ℕ) → sought ids x ≡ Some k → sought ids id ≡ Some k → x ≡ id
-same_id ids x id k e f = some_same x id (sym (found ids x k e) ∙ found ids id k f)
+use Rattle.mp4_init.proofs.OrderedIdLemmas.{same_id}
+use Rattle.mp4_frag.specs.Repeats.{traf_id, is_listed, marked_at, all_marked, marks}
 
 pub length-marked_at : (seen : List Bool) (o : Option ℕ) → length (marked_at seen o) ≡ length seen
 length-marked_at seen None = refl

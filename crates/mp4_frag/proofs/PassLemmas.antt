@@ -1,7 +1,9 @@
 -- Trafs that are passed, child by child.
-use Rattle.std.proofs.Common.{◌≡◌, ◌≢◌, ◌∙◌, ◌+◌, ◌-◌, ◌==◌, ◌&&◌, ◌||◌, ℕ, zero, suc, Bool, true, false, cond, List, [], ◌∷◌, ◌++◌, take, drop, Option, refl, sym, ap, arith, append-nil, append_assoc}
+use Rattle.std.proofs.Common.{◌≡◌, ◌≢◌, ◌∙◌, ◌+◌, ◌-◌, ◌<◌, ◌≤◌, ◌==◌, ◌&&◌, ◌||◌, ℕ, zero, suc, Bool, true, false, cond, List, [], ◌∷◌, ◌++◌, length, take, drop, Option, refl, sym, ap, arith, append-nil, append_assoc, length-append}
 use Rattle.std.specs.Prelude.{replicate}
 use Rattle.std.specs.List.{list_any}
+use Rattle.std.proofs.lemmas.Bool.Decides.{nat_tests}
+use Rattle.std.proofs.lemmas.List.{take_all}
 use Rattle.std.specs.Str.{bytes_eq}
 use Rattle.mp4_box.specs.declared.rules.Fault.{Fault}
 use Rattle.mp4_box.specs.declared.rules.Rule.TheVariants.{Unsupported}
@@ -9,10 +11,11 @@ use Rattle.mp4_box.specs.Trees.{Box, children}
 use Rattle.mp4_box.specs.Order.{least_from}
 use Rattle.mp4_box.specs.Paths.{at_path, of_kind}
 use Rattle.mp4_box.proofs.OrderLemmas.{least_from_append}
+use Rattle.mp4_init.specs.OrderedIds.{sought}
 use Rattle.mp4_frag.specs.Kinds.{traf}
 use Rattle.mp4_frag.specs.Rules.{fault_if}
 use Rattle.mp4_frag.proofs.MoofLemmas.{on_path}
-use Rattle.mp4_frag.specs.Repeats.{traf_id, is_listed, is_repeat, lacks_time, repeat_faults, repeats, trafs_before, sought, marked_at, all_marked, marks}
+use Rattle.mp4_frag.specs.Repeats.{traf_id, is_listed, is_repeat, lacks_time, repeat_faults, repeats, trafs_before, trafs_of, untimed_ids, marked_at, all_marked, marks}
 
 abbrev pub trafs : List Box → List Box
 trafs bs = of_kind traf bs
@@ -81,6 +84,18 @@ pub marked_none : (ids : List ℕ) (seen : List Bool) → all_marked ids seen []
 unfolding all_marked
 marked_none ids seen = refl
 
+-- however many were to be passed
+pub marked_none_left : (ids : List ℕ) (seen : List Bool) (left : ℕ) → all_marked ids seen (trafs (take left [])) ≡ seen
+unfolding all_marked
+marked_none_left ids seen zero = refl
+marked_none_left ids seen (suc left) = refl
+
+pub listed_none_left : (found : Bool) (id left : ℕ) → cond found true (is_listed id (trafs (take left []))) ≡ found
+unfolding is_listed
+listed_none_left true id left = refl
+listed_none_left false id zero = refl
+listed_none_left false id (suc left) = refl
+
 pub listed_none : (id : ℕ) → is_listed id [] ≡ false
 unfolding is_listed
 listed_none id = refl
@@ -117,7 +132,54 @@ pub repeats_none : (best : Option Fault) (earlier : List Box) → least_from bes
 unfolding repeats least_from
 repeats_none best earlier = refl
 
--- ---- where each traf has a tfdt
+-- ---- those without tfdt
+
+untimed-append : (xs ys : List Box) → untimed_ids (xs ++ ys) ≡ untimed_ids xs ++ untimed_ids ys
+unfolding untimed_ids
+untimed-append [] ys = refl
+untimed-append (x ∷ xs) ys = by (lacks_time x) (untimed-append xs ys)
+  where
+    by : (t : Bool) → untimed_ids (xs ++ ys) ≡ untimed_ids xs ++ untimed_ids ys → cond t (traf_id x ∷ untimed_ids (xs ++ ys)) (untimed_ids (xs ++ ys)) ≡ cond t (traf_id x ∷ untimed_ids xs) (untimed_ids xs) ++ untimed_ids ys
+    by true e = ap (λ (ids : List ℕ). traf_id x ∷ ids) e
+    by false e = e
+
+-- the first of some, and those behind it
+pub untimed_next : (so_far : List ℕ) (x : Box) (xs : List Box) → so_far ++ untimed_ids (trafs (x ∷ [])) ++ untimed_ids (trafs xs) ≡ so_far ++ untimed_ids (trafs (x ∷ xs))
+untimed_next so_far x xs =
+    append_assoc so_far (untimed_ids (trafs (x ∷ []))) (untimed_ids (trafs xs))
+    ∙ ap (λ (ids : List ℕ). so_far ++ ids) (sym (untimed-append (trafs (x ∷ [])) (trafs xs)) ∙ ap untimed_ids (sym (trafs-first x xs)))
+
+pub no_untimed : (left : ℕ) → untimed_ids (trafs (drop left [])) ≡ []
+unfolding untimed_ids
+no_untimed zero = refl
+no_untimed (suc left) = refl
+
+pub drop_first : (n : ℕ) (x : Box) (xs : List Box) → n ≢ 0 → drop n (x ∷ xs) ≡ drop (n - 1) xs
+drop_first zero x xs h = absurd (h refl)
+drop_first (suc n) x xs h = let e : n ≡ suc n - 1 = omega arith in ap (λ (m : ℕ). drop m xs) e
+
+pub room_for_all : (n : ℕ) (xs : List ℕ) → length xs ≤ n → xs ≡ take n xs
+room_for_all n xs h = sym (take_all n xs h)
+
+pub room_for_one : (full : Bool) (k n : ℕ) → full ≡ (k == n) → full ≡ false → k ≤ n → k < n
+room_for_one true k n e f h = absurd cc
+room_for_one false k n e f h = grind (arith, nat_tests)
+
+-- how many of them
+abbrev pub count_of_trafs : List Box → ℕ
+count_of_trafs bs = length (untimed_ids (trafs bs))
+
+pub count_next : (x : Box) (xs : List Box) → count_of_trafs (x ∷ xs) ≡ count_of_trafs (x ∷ []) + count_of_trafs xs
+count_next x xs =
+    ap (λ (ts : List Box). length (untimed_ids ts)) (trafs-first x xs)
+    ∙ ap (λ (ids : List ℕ). length ids) (untimed-append (trafs (x ∷ [])) (trafs xs))
+    ∙ length-append (untimed_ids (trafs (x ∷ []))) (untimed_ids (trafs xs))
+
+pub no_more : (n : ℕ) → n ≡ n + count_of_trafs []
+unfolding untimed_ids
+no_more n = omega arith
+
+-- ---- where no traf lacks a tfdt, or none stands before another
 
 pub none_lacks : (earlier ts : List Box) → list_any lacks_time ts ≡ false → repeats earlier ts ≡ []
 unfolding repeats
@@ -128,7 +190,29 @@ none_lacks earlier (t ∷ ts) e = by (lacks_time t) refl (none_lacks (earlier ++
     by true is later e = absurd cc
     by false is later e = ap (λ (u : Bool). fault_if (u && is_listed (traf_id t) earlier) Unsupported t ++ repeats (earlier ++ t ∷ []) ts) is ∙ later e
 
-pub no_repeats : (m : Box) (best : Option Fault) (any : Bool) → any ≡ list_any lacks_time (at_path (traf ∷ []) m) → any ≡ false → least_from best (repeat_faults m) ≡ best
+all_timed : (ts : List Box) → length (untimed_ids ts) ≡ 0 → list_any lacks_time ts ≡ false
+unfolding untimed_ids
+all_timed [] e = refl
+all_timed (t ∷ ts) e = by (lacks_time t) (all_timed ts) e
+  where
+    by : (u : Bool) → (length (untimed_ids ts) ≡ 0 → list_any lacks_time ts ≡ false) → length (cond u (traf_id t ∷ untimed_ids ts) (untimed_ids ts)) ≡ 0 → u || list_any lacks_time ts ≡ false
+    by true later e = absurd (omega (arith, e))
+    by false later e = later e
+
+pub none_untimed : (m : Box) (best : Option Fault) (count : ℕ) → count ≡ length (untimed_ids (trafs_of m)) → count ≡ 0 → best ≡ least_from best (repeat_faults m)
 unfolding least_from
-no_repeats m best true is e = absurd cc
-no_repeats m best false is e = ap (least_from best) (none_lacks [] (of_kind traf (children m)) (ap (list_any lacks_time) (sym (on_path m)) ∙ sym is))
+none_untimed m best count is none = sym (ap (least_from best) (none_lacks [] (trafs_of m) (all_timed (trafs_of m) (sym is ∙ none))))
+
+one_alone : (ts : List Box) → length ts < 2 → repeats [] ts ≡ []
+unfolding repeats is_listed
+one_alone [] h = refl
+one_alone (t ∷ []) h = by (lacks_time t)
+  where
+    by : (u : Bool) → fault_if (u && false) Unsupported t ++ [] ≡ []
+    by true = refl
+    by false = refl
+one_alone (t ∷ (u ∷ ts)) h = absurd (omega (arith, h))
+
+pub none_earlier : (m : Box) (best : Option Fault) → length (trafs_of m) < 2 → best ≡ least_from best (repeat_faults m)
+unfolding least_from
+none_earlier m best h = sym (ap (least_from best) (one_alone (trafs_of m) h))

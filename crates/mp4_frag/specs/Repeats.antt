@@ -1,10 +1,11 @@
 -- Track fragments without a base time of their own, behind others of their track.
-use Rattle.std.specs.Prelude.{ℕ, zero, suc, Bool, true, false, List, [], ◌∷◌, ◌++◌, Option, Some, None, ◌==◌, ◌+◌, ◌/◌, ◌&&◌, nat_lt, if◌then◌else◌, replicate, slice_set, slice_get, take}
+use Rattle.std.specs.Prelude.{ℕ, zero, suc, Bool, true, false, List, [], ◌∷◌, ◌++◌, Option, Some, None, ◌==◌, ◌+◌, ◌/◌, ◌&&◌, nat_lt, if◌then◌else◌, replicate, slice_set, take, drop}
 use Rattle.std.specs.Option.{is_none}
 use Rattle.mp4_box.specs.declared.rules.Fault.{Fault}
 use Rattle.mp4_box.specs.declared.rules.Rule.TheVariants.{Unsupported}
 use Rattle.mp4_box.specs.Trees.{Box, children, first_of}
 use Rattle.mp4_box.specs.Paths.{of_kind, at_path}
+use Rattle.mp4_init.specs.OrderedIds.{sought}
 use Rattle.mp4_frag.specs.Fields.{payload_of}
 use Rattle.mp4_frag.specs.Kinds.{traf, tfhd, tfdt}
 use Rattle.mp4_frag.specs.Tfhd.{track_id}
@@ -39,28 +40,19 @@ trafs_of m = of_kind traf (children m)
 abbrev pub trafs_before : ℕ → Box → List Box
 trafs_before n m = of_kind traf (take n (children m))
 
+-- those behind the first n children
+abbrev pub trafs_behind : ℕ → Box → List Box
+trafs_behind n m = of_kind traf (drop n (children m))
+
 abbrev pub repeat_faults : Box → List Fault
 repeat_faults m = repeats [] (trafs_of m)
 
--- ---- how they are found: some ids in order, and which of them were listed
+-- the track_IDs of those that have no tfdt
+unfoldable pub untimed_ids : List Box → List ℕ
+untimed_ids [] = []
+untimed_ids (t ∷ ts) = if lacks_time t then traf_id t ∷ untimed_ids ts else untimed_ids ts
 
--- a step ahead where what stands there is no greater
-abbrev pub step_to : Option ℕ → ℕ → ℕ → ℕ → ℕ
-step_to None id next at = at
-step_to (Some x) id next at = if nat_lt id x then at else next
-
--- where a search among ids in order ends, by so many steps, each half as long as the one before
-unfoldable pub descend : ℕ → ℕ → List ℕ → ℕ → ℕ → ℕ
-descend zero step ids id at = at
-descend (suc n) step ids id at = descend n (step / 2) ids id (step_to (slice_get ids (at + step)) id (at + step) at)
-
-abbrev pub place_if : Option ℕ → ℕ → ℕ → Option ℕ
-place_if None id at = None
-place_if (Some x) id at = if x == id then Some at else None
-
--- where an id stands among these
-unfoldable pub sought : List ℕ → ℕ → Option ℕ
-sought ids id = let at = descend 17 65536 ids id 0 in place_if (slice_get ids at) id at
+-- ---- how they are found: some of these ids in order, and which of them were listed
 
 abbrev pub marked_at : List Bool → Option ℕ → List Bool
 marked_at seen None = seen

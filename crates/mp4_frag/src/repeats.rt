@@ -1,34 +1,30 @@
 //! Trafs without a base time of their own, behind others of their track.
 //!
-//! A moof of 64 MiB may have millions of trafs. The track_IDs of trafs without tfdt are looked at in blocks, in an array of fixed
-//! size: each is marked when a traf that has it is passed. The moof is gone over again for each block alone.
+//! A moof of 64 MiB may have millions of trafs. The track_IDs of trafs without tfdt are looked at in blocks of a fixed size: each is
+//! marked when a traf that has it is passed. The moof is gone over again for each block alone.
 
-ghost use Rattle.std.specs.Prelude.{◌≡◌, ◌≤◌, ◌<◌, ◌+◌, [], ◌∷◌, length, IfSome};
-ghost use Rattle.std.specs.List.{list_any};
-ghost use Rattle.mp4_box.specs.Trees.{view, children};
+ghost use Rattle.std.specs.Prelude.{◌≡◌, ◌≤◌, ◌<◌, ◌+◌, [], ◌∷◌, ◌++◌, true, false, length, take};
+ghost use Rattle.mp4_box.specs.Trees.{view};
 ghost use Rattle.mp4_box.specs.Order.{least_from};
-ghost use Rattle.mp4_box.specs.Paths.{at_path, of_kind};
+ghost use Rattle.mp4_box.specs.Paths.{of_kind};
+ghost use Rattle.mp4_init.specs.OrderedIds.{AreInOrder, sought};
 ghost use Rattle.mp4_frag.specs.Kinds.{traf};
-ghost use Rattle.mp4_frag.specs.Repeats.{all_marked, descend, is_listed, is_repeat, lacks_time, marked_at, marks, repeat_faults, repeats, sought, traf_id, trafs_before};
+ghost use Rattle.mp4_frag.specs.Repeats.{all_marked, is_listed, is_repeat, lacks_time, marked_at, marks, repeat_faults, repeats, traf_id, trafs_before, trafs_behind, trafs_of, untimed_ids};
 
 use crate::children::children_of;
 use crate::fields::payload_at;
 use crate::kinds::{TFDT, TFHD, TRAF};
 use crate::tfhd::track_id;
-use mp4_box::{BoxRef, Fault, Rule, Walk, note};
+use arrayvec::ArrayVec;
+use mp4_box::{BoxRef, Fault, Rule, Walk, count_of, note};
+use mp4_init::seek_in_order;
 
-/// For how many track_IDs a moof is gone over at once, and a small one.
-const MANY: usize = 131_072;
-
+/// For how many track_IDs a moof is gone over at once: where so many trafs or fewer lack a tfdt, and where more do.
 const FEW: usize = 64;
 
-/// A small moof has a payload of fewer bytes.
-const SMALL: usize = 4096;
+const SOME: usize = 1024;
 
-/// A search takes so many steps, the first of them this long: half of MANY.
-const LEVELS: u8 = 17;
-
-const FIRST_STEP: usize = 65_536;
+const MANY: usize = 45_056;
 
 /// The track_ID of a traf.
 #[tactic(auto, unfolding(crate::specs::Repeats::traf_id))]
@@ -46,79 +42,70 @@ fn lacks_time(traf: &BoxRef<'_>) -> bool
     children_of(TFDT, traf).next().is_none()
 }
 
-/// Where a search among ids in order ends, by so many steps, each half as long as the one before.
-#[tactic(auto, unfolding(crate::specs::Repeats::descend))]
-fn descend(levels: u8, step: usize, ids: &[u32], id: u32, at: usize) -> usize
-    requires at { at ≤ length ids.now }
-    requires step { step ≤ 65536 }
-    ensures { result ≡ descend levels step ids.now id at }
+/// Adds the track_ID of a child of the moof that is a traf without tfdt.
+#[tactic(auto, unfolding(crate::specs::Repeats::untimed_ids))]
+fn push_id<const N: usize>(child: &BoxRef<'_>, ids: &mut ArrayVec<u32, N>)
+    requires { length ids.old.items < N }
+    ensures ids { ids.new.items ≡ ids.old.items ++ untimed_ids (of_kind traf (view child.now ∷ [])) }
+    ensures fits { length ids.new.items ≤ N }
 {
-    if levels == 0 {
-        return at;
+    if !child.header.kind.is(TRAF) {
+        return;
     }
-    let next = at + step;
-    let to = match ids.get(next) {
-        Some(other) => { if id < *other { at } else { next } }
-        None => at,
-    };
-    descend(levels - 1, step / 2, ids, id, to)
-}
-
-/// Where an id stands among ids in order.
-#[tactic(auto, unfolding(crate::specs::Repeats::sought))]
-fn seek(ids: &[u32], id: u32) -> Option<usize>
-    ensures place { result ≡ sought ids.now id }
-    ensures within { IfSome result (λ k. k < length ids.now) }
-{
-    let at = descend(LEVELS, FIRST_STEP, ids, id, 0);
-    match ids.get(at) {
-        Some(other) => { if *other == id { Some(at) } else { None } }
-        None => None,
+    if lacks_time(child) {
+        ids.push(traf_id(child));
     }
 }
 
-/// Some track_IDs in order, and which of them a traf has that was passed.
-#[derive(Clone, Copy)]
+/// Adds the track_IDs of the trafs without tfdt behind so many children of the moof, as many as there is room for.
+fn push_ids<const N: usize>(moof: &BoxRef<'_>, passed: usize, ids: &mut ArrayVec<u32, N>)
+    requires empty { ids.old.items ≡ [] }
+    ensures { ids.new.items ≡ take N (untimed_ids (trafs_behind passed (view moof.now))) }
+{
+    let mut left = passed;
+    for child in Walk::of(moof) {
+        if ids.is_full() {
+            return;
+        }
+        if left == 0 {
+            push_id(&child, ids);
+        } else {
+            left -= 1;
+        }
+    }
+}
+
+/// Takes these in order in the places of all.
+fn take_ids<const N: usize>(moof: &BoxRef<'_>, passed: usize, ids: &mut ArrayVec<u32, N>)
+    ensures { AreInOrder (take N (untimed_ids (trafs_behind passed (view moof.now)))) ids.new.items }
+{
+    ids.clear();
+    push_ids(moof, passed, ids);
+    ids.as_mut_slice().sort_unstable();
+}
+
+/// Track_IDs of trafs without tfdt, in order, and which of them a traf has that was passed.
+#[derive(Drop)]
 struct Marks<const N: usize> {
-    ids: [u32; N],
+    ids: ArrayVec<u32, N>,
     seen: [bool; N],
 }
 
 impl<const N: usize> Marks<N> {
     /// Marks the track_ID of a traf that is passed.
     fn mark(&mut self, id: u32)
-        ensures seen { self.new.seen ≡ marked_at self.old.seen (sought self.old.ids id) }
+        ensures seen { self.new.seen ≡ marked_at self.old.seen (sought self.old.ids.items id) }
         ensures ids { self.new.ids ≡ self.old.ids }
     {
-        if let Some(at) = seek(&self.ids, id) {
+        if let Some(at) = seek_in_order(self.ids.as_slice(), id) {
             self.seen[at] = true;
         }
-    }
-
-    /// The track_IDs of trafs without tfdt, from a child of the moof on, as many as there is room for, in order. What is
-    /// left of the room has this track_ID.
-    fn ids_from(moof: &BoxRef<'_>, from: usize, id: u32) -> [u32; N] {
-        let mut ids = [id; N];
-        let mut used = 0;
-        let mut passed: usize = 0;
-        for child in Walk::of(moof) {
-            if used >= N {
-                break;
-            }
-            if passed >= from && child.header.kind.is(TRAF) && lacks_time(&child) {
-                ids[used] = traf_id(&child);
-                used += 1;
-            }
-            passed = passed.saturating_add(1);
-        }
-        ids.sort_unstable();
-        ids
     }
 
     /// Marks the track_ID of a child of the moof that is passed, where it is a traf. Tells whether it is this one.
     #[tactic(auto, unfolding(crate::specs::Repeats::all_marked, crate::specs::Repeats::is_listed))]
     fn pass(&mut self, child: &BoxRef<'_>, id: u32) -> bool
-        ensures seen { self.new.seen ≡ all_marked self.old.ids self.old.seen
+        ensures seen { self.new.seen ≡ all_marked self.old.ids.items self.old.seen
             (of_kind traf (view child.now ∷ [])) }
         ensures ids { self.new.ids ≡ self.old.ids }
         ensures listed { result ≡ is_listed id (of_kind traf (view child.now ∷ [])) }
@@ -135,13 +122,11 @@ impl<const N: usize> Marks<N> {
     // It stands apart since a function pays for the size of its locals each time that it is called.
     #[tactic(auto, using(crate::proofs::PassLemmas::marked_next, crate::proofs::PassLemmas::listed_next, crate::proofs::PassLemmas::marked_none, crate::proofs::PassLemmas::listed_none), unfolding(crate::specs::Repeats::marks))]
     fn refill(&mut self, moof: &BoxRef<'_>, passed: usize, id: u32) -> bool
-        ensures seen { self.new.seen ≡ marks N self.new.ids (trafs_before passed (view moof.now)) }
+        ensures seen { self.new.seen ≡ marks N self.new.ids.items (trafs_before passed (view moof.now)) }
         ensures listed { result ≡ is_listed id (trafs_before passed (view moof.now)) }
     {
-        let mut marks = Marks {
-            ids: Marks::<N>::ids_from(moof, passed, id),
-            seen: [false; N],
-        };
+        take_ids(moof, passed, &mut self.ids);
+        self.seen.fill(false);
         let mut found = false;
         let mut left = passed;
         for child in Walk::of(moof) {
@@ -149,19 +134,18 @@ impl<const N: usize> Marks<N> {
                 break;
             }
             left -= 1;
-            found = marks.pass(&child, id) || found;
+            found = self.pass(&child, id) || found;
         }
-        *self = marks;
         found
     }
 
     /// Whether a traf that was passed has the track_ID.
     fn has(&mut self, moof: &BoxRef<'_>, passed: usize, id: u32) -> bool
-        requires seen { self.old.seen ≡ marks N self.old.ids (trafs_before passed (view moof.now)) }
-        ensures seen { self.new.seen ≡ marks N self.new.ids (trafs_before passed (view moof.now)) }
+        requires seen { self.old.seen ≡ marks N self.old.ids.items (trafs_before passed (view moof.now)) }
+        ensures seen { self.new.seen ≡ marks N self.new.ids.items (trafs_before passed (view moof.now)) }
         ensures listed { result ≡ is_listed id (trafs_before passed (view moof.now)) }
     {
-        match seek(&self.ids, id) {
+        match seek_in_order(self.ids.as_slice(), id) {
             Some(at) => self.seen[at],
             None => self.refill(moof, passed, id),
         }
@@ -169,8 +153,8 @@ impl<const N: usize> Marks<N> {
 
     /// Whether a traf has no tfdt though one that was passed has its track_ID.
     fn repeats(&mut self, moof: &BoxRef<'_>, passed: usize, traf: &BoxRef<'_>) -> bool
-        requires seen { self.old.seen ≡ marks N self.old.ids (trafs_before passed (view moof.now)) }
-        ensures seen { self.new.seen ≡ marks N self.new.ids (trafs_before passed (view moof.now)) }
+        requires seen { self.old.seen ≡ marks N self.old.ids.items (trafs_before passed (view moof.now)) }
+        ensures seen { self.new.seen ≡ marks N self.new.ids.items (trafs_before passed (view moof.now)) }
         ensures repeat { result ≡ is_repeat (trafs_before passed (view moof.now)) (view traf.now) }
     {
         if !lacks_time(traf) {
@@ -188,8 +172,8 @@ impl<const N: usize> Marks<N> {
         child: &BoxRef<'_>,
         best: &mut Option<Fault>,
     )
-        requires seen { self.old.seen ≡ marks N self.old.ids (trafs_before passed (view moof.now)) }
-        ensures seen { self.new.seen ≡ marks N self.new.ids (trafs_before passed (view moof.now)) }
+        requires seen { self.old.seen ≡ marks N self.old.ids.items (trafs_before passed (view moof.now)) }
+        ensures seen { self.new.seen ≡ marks N self.new.ids.items (trafs_before passed (view moof.now)) }
         ensures best { best.new ≡ least_from best.old (repeats
             (trafs_before passed (view moof.now)) (of_kind traf (view child.now ∷ []))) }
     {
@@ -204,7 +188,7 @@ impl<const N: usize> Marks<N> {
     /// Notes the trafs that have no tfdt though one that is listed earlier has their track_ID.
     #[tactic(auto, using(crate::proofs::PassLemmas::repeats_none))]
     fn note_all(&mut self, moof: &BoxRef<'_>, best: &mut Option<Fault>)
-        requires seen { self.old.seen ≡ marks N self.old.ids [] }
+        requires seen { self.old.seen ≡ marks N self.old.ids.items [] }
         ensures best { best.new ≡ least_from best.old (repeat_faults (view moof.now)) }
     {
         let mut passed = 0;
@@ -216,55 +200,65 @@ impl<const N: usize> Marks<N> {
     }
 }
 
-/// The same with room for few track_IDs.
+/// The same, with room for so many track_IDs.
 // Its room is no part of the frame of its caller, which is made for each moof.
 #[inline(never)]
 #[tactic(auto, unfolding(crate::specs::Repeats::marks, crate::specs::Repeats::all_marked))]
-fn note_few(moof: &BoxRef<'_>, best: &mut Option<Fault>)
+fn note_by<const N: usize>(moof: &BoxRef<'_>, best: &mut Option<Fault>)
+    requires { N ≤ MANY }
     ensures { best.new ≡ least_from best.old (repeat_faults (view moof.now)) }
 {
-    let mut marks = Marks::<FEW> {
-        ids: [0; FEW],
-        seen: [false; FEW],
+    let mut marks = Marks::<N> {
+        ids: ArrayVec::new(),
+        seen: [false; N],
     };
     marks.note_all(moof, best);
 }
 
-/// The same with room for many.
-#[inline(never)]
-#[tactic(auto, unfolding(crate::specs::Repeats::marks, crate::specs::Repeats::all_marked))]
-fn note_many(moof: &BoxRef<'_>, best: &mut Option<Fault>)
-    ensures { best.new ≡ least_from best.old (repeat_faults (view moof.now)) }
+/// Whether a child of the moof is a traf without tfdt.
+#[tactic(auto, unfolding(crate::specs::Repeats::untimed_ids))]
+fn is_untimed(child: &BoxRef<'_>) -> bool
+    ensures yes { result ≡ true → length (untimed_ids (of_kind traf (view child.now ∷ []))) ≡ 1 }
+    ensures no { result ≡ false → length (untimed_ids (of_kind traf (view child.now ∷ []))) ≡ 0 }
 {
-    let mut marks = Marks::<MANY> {
-        ids: [0; MANY],
-        seen: [false; MANY],
-    };
-    marks.note_all(moof, best);
+    if child.header.kind.is(TRAF) {
+        lacks_time(child)
+    } else {
+        false
+    }
 }
 
-/// Whether a traf of the moof has no tfdt.
-fn any_lacks_time(moof: &BoxRef<'_>) -> bool
-    ensures { result ≡ list_any lacks_time (at_path (traf ∷ []) (view moof.now)) }
+/// How many trafs of the moof have no tfdt.
+#[tactic(auto, using(crate::proofs::PassLemmas::count_next))]
+fn untimed_in(moof: &BoxRef<'_>) -> u64
+    ensures { result ≡ length (untimed_ids (trafs_of (view moof.now))) }
 {
-    for traf in children_of(TRAF, moof) {
-        if lacks_time(&traf) {
-            return true;
+    let mut count: u64 = 0;
+    for child in Walk::of(moof) {
+        if is_untimed(&child) {
+            count += 1;
         }
     }
-    false
+    count
 }
 
 /// Notes the trafs that have no tfdt though one that is listed earlier has their track_ID.
+
 pub(crate) fn note_repeats(moof: &BoxRef<'_>, best: &mut Option<Fault>)
     ensures { best.new ≡ least_from best.old (repeat_faults (view moof.now)) }
 {
-    if !any_lacks_time(moof) {
+    if count_of(TRAF, moof) < 2 {
         return;
     }
-    if moof.payload.len() < SMALL {
-        note_few(moof, best);
+    let count = untimed_in(moof);
+    if count == 0 {
+        return;
+    }
+    if count <= FEW as u64 {
+        note_by::<FEW>(moof, best);
+    } else if count <= SOME as u64 {
+        note_by::<SOME>(moof, best);
     } else {
-        note_many(moof, best);
+        note_by::<MANY>(moof, best);
     }
 }

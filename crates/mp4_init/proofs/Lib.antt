@@ -1,6 +1,7 @@
 pub mod SummaryLemmas
 pub mod MoovLemmas
 pub mod SearchTreeLemmas
+pub mod OrderedIdLemmas
 pub mod LinkLemmas
 pub mod RowLemmas
 pub mod SummaryTableLemmas

@@ -180,8 +180,3 @@ found nodes id k e = by (ending nodes id) refl e
         rw at at ((found_from nodes 0 0 id id k (is ∙ ap Found same)).1)
     by (Behind l) is e = absurd cc
     by Unasked is e = absurd cc
-
--- the first node is found at once
-pub root_found : (nodes : List Node) (id : ℕ) → 0 < length nodes → (slice_index_or nodes 0 no_node).id ≡ id → sought nodes id ≡ Some 0
-root_found [] id h e = absurd (omega arith)
-root_found (n ∷ nodes) id h e = ap found_at (stops n nodes 0 0 id id refl e)

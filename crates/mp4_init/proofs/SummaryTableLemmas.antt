@@ -1,24 +1,25 @@
 -- Summaries of many track_IDs: each is that of its track_ID alone.
-use Rattle.std.proofs.Common.{◌≡◌, ◌∙◌, ◌<◌, ◌==◌, ℕ, Bool, true, false, cond, List, [], ◌∷◌, length, Option, Some, None, refl, sym, ap, arith}
+use Rattle.std.proofs.Common.{◌≡◌, ◌∙◌, ◌<◌, ◌+◌, ◌≤◌, ◌++◌, ◌==◌, ℕ, Bool, true, false, cond, List, [], ◌∷◌, length, take, Option, Some, None, refl, sym, ap, arith, ltb}
 use Rattle.std.specs.Prelude.{replicate, slice_index_or, slice_set}
-use Rattle.std.proofs.lemmas.List.{length-replicate, length-set, get_or-replicate, get_or-set_same, get_or-set_other}
+use Rattle.std.proofs.lemmas.List.{length-replicate, length-set, get_or-replicate, get_or-set_same, get_or-set_other, take_all}
 use Rattle.std.proofs.lemmas.Bool.Decides.{nat_tests}
 use Rattle.mp4_box.specs.Trees.{Box}
 use Rattle.mp4_box.specs.Paths.{at_path}
-use Rattle.mp4_init.specs.declared.search_tree.Node.{Node}
 use Rattle.mp4_init.specs.declared.summary.Summary.{Summary}
 use Rattle.mp4_init.specs.declared.summary.Source.{Source}
 use Rattle.mp4_init.specs.declared.summary.Source.TheVariants.{Tkhd, Trex}
 use Rattle.mp4_init.specs.Kinds.{to_tkhd, to_trex}
-use Rattle.mp4_init.specs.SearchTrees.{sought, no_node}
-use Rattle.mp4_init.specs.Summaries.{nothing, id_by, told, gathered, summary_in, told_at, all_told, summaries_in}
-use Rattle.mp4_init.proofs.SearchTreeLemmas.{any_default, is_same, found}
+use Rattle.mp4_init.specs.Fields.{tkhd_id}
+use Rattle.mp4_init.specs.OrderedIds.{sought}
+use Rattle.mp4_init.specs.Summaries.{nothing, id_by, told, gathered, ids_from, summary_in, told_at, all_told, summaries_in}
+use Rattle.mp4_init.proofs.SearchTreeLemmas.{any_default, is_same}
+use Rattle.mp4_init.proofs.OrderedIdLemmas.{none_sought, same_id}
 
-pub told_here : (source : Source) (nodes : List Node) (b : Box) (xs : List Summary) (k id : ℕ) (d s : Summary) → k < length xs → Some k ≡ sought nodes id → id ≡ id_by source b → s ≡ told source (slice_index_or xs k d) b
-    → slice_set xs k s ≡ told_at source b xs (sought nodes (id_by source b))
-told_here source nodes b xs k id d s h here same e =
+pub told_here : (source : Source) (ids : List ℕ) (b : Box) (xs : List Summary) (k id : ℕ) (d s : Summary) → k < length xs → Some k ≡ sought ids id → id ≡ id_by source b → s ≡ told source (slice_index_or xs k d) b
+    → slice_set xs k s ≡ told_at source b xs (sought ids (id_by source b))
+told_here source ids b xs k id d s h here same e =
     ap (slice_set xs k) (e ∙ ap (λ (r : Summary). told source r b) (any_default xs k d nothing h))
-    ∙ ap (told_at source b xs) (here ∙ ap (sought nodes) same)
+    ∙ ap (told_at source b xs) (here ∙ ap (sought ids) same)
 
 -- ---- one of them
 
@@ -26,56 +27,105 @@ pub length-told_at : (source : Source) (b : Box) (xs : List Summary) (o : Option
 length-told_at source b xs None = refl
 length-told_at source b xs (Some k) = length-set xs k (told source (slice_index_or xs k nothing) b)
 
-pub length-all_told : (source : Source) (nodes : List Node) (xs : List Summary) (bs : List Box) → length (all_told source nodes xs bs) ≡ length xs
+pub length-all_told : (source : Source) (ids : List ℕ) (xs : List Summary) (bs : List Box) → length (all_told source ids xs bs) ≡ length xs
 unfolding all_told
-length-all_told source nodes xs [] = refl
-length-all_told source nodes xs (b ∷ bs) =
-    length-all_told source nodes (told_at source b xs (sought nodes (id_by source b))) bs ∙ length-told_at source b xs (sought nodes (id_by source b))
+length-all_told source ids xs [] = refl
+length-all_told source ids xs (b ∷ bs) =
+    length-all_told source ids (told_at source b xs (sought ids (id_by source b))) bs ∙ length-told_at source b xs (sought ids (id_by source b))
 
--- the node that an id is sought at, where it is sought at all
-record Holds (nodes : List Node) (id j : ℕ) (xs : List Summary) : Type 0 where
-  here : sought nodes id ≡ Some j
+-- an id has a place
+record Holds (ids : List ℕ) (id j : ℕ) (xs : List Summary) : Type 0 where
+  here : sought ids id ≡ Some j
   within : j < length xs
 
 is_other : (x id : ℕ) → (x == id) ≡ false → x ≡ id → ⊥
 is_other x id e same = grind (arith, nat_tests)
 
 -- a box is told to the node, or to another
-told_is : (source : Source) (nodes : List Node) (id j : ℕ) (b : Box) (xs : List Summary) → Holds nodes id j xs
-    → slice_index_or (told_at source b xs (sought nodes (id_by source b))) j nothing ≡ cond (id_by source b == id) (told source (slice_index_or xs j nothing) b) (slice_index_or xs j nothing)
-told_is source nodes id j b xs h = by (id_by source b == id) refl
+told_is : (source : Source) (ids : List ℕ) (id j : ℕ) (b : Box) (xs : List Summary) → Holds ids id j xs
+    → slice_index_or (told_at source b xs (sought ids (id_by source b))) j nothing ≡ cond (id_by source b == id) (told source (slice_index_or xs j nothing) b) (slice_index_or xs j nothing)
+told_is source ids id j b xs h = by (id_by source b == id) refl
   where
-    away : (id_by source b ≡ id → ⊥) → (o : Option ℕ) → sought nodes (id_by source b) ≡ o → slice_index_or (told_at source b xs o) j nothing ≡ slice_index_or xs j nothing
+    away : (id_by source b ≡ id → ⊥) → (o : Option ℕ) → sought ids (id_by source b) ≡ o → slice_index_or (told_at source b xs o) j nothing ≡ slice_index_or xs j nothing
     away apart None e = refl
-    away apart (Some k) e = get_or-set_other xs k j (told source (slice_index_or xs k nothing) b) nothing (λ same. apart (sym (found nodes (id_by source b) k e).id_is ∙ ap (λ (i : ℕ). (slice_index_or nodes i no_node).id) (sym same) ∙ (found nodes id j h.here).id_is))
+    away apart (Some k) e = get_or-set_other xs k j (told source (slice_index_or xs k nothing) b) nothing (λ same. apart (same_id ids (id_by source b) id k e (h.here ∙ ap (λ (i : ℕ). Some i) same)))
 
-    by : (t : Bool) → (id_by source b == id) ≡ t → slice_index_or (told_at source b xs (sought nodes (id_by source b))) j nothing ≡ cond t (told source (slice_index_or xs j nothing) b) (slice_index_or xs j nothing)
+    by : (t : Bool) → (id_by source b == id) ≡ t → slice_index_or (told_at source b xs (sought ids (id_by source b))) j nothing ≡ cond t (told source (slice_index_or xs j nothing) b) (slice_index_or xs j nothing)
     by true e =
-        ap (λ (o : Option ℕ). slice_index_or (told_at source b xs o) j nothing) (ap (sought nodes) (is_same (id_by source b) id e) ∙ h.here)
+        ap (λ (o : Option ℕ). slice_index_or (told_at source b xs o) j nothing) (ap (sought ids) (is_same (id_by source b) id e) ∙ h.here)
         ∙ get_or-set_same xs j (told source (slice_index_or xs j nothing) b) nothing h.within
-    by false e = away (is_other (id_by source b) id e) (sought nodes (id_by source b)) refl
+    by false e = away (is_other (id_by source b) id e) (sought ids (id_by source b)) refl
 
-told_all : (source : Source) (nodes : List Node) (id j : ℕ) (xs : List Summary) (bs : List Box) → Holds nodes id j xs
-    → slice_index_or (all_told source nodes xs bs) j nothing ≡ gathered source id (slice_index_or xs j nothing) bs
+told_all : (source : Source) (ids : List ℕ) (id j : ℕ) (xs : List Summary) (bs : List Box) → Holds ids id j xs
+    → slice_index_or (all_told source ids xs bs) j nothing ≡ gathered source id (slice_index_or xs j nothing) bs
 unfolding all_told gathered
-told_all source nodes id j xs [] h = refl
-told_all source nodes id j xs (b ∷ bs) h =
-    let next = told_at source b xs (sought nodes (id_by source b)) in
-    told_all source nodes id j next bs (record { here = h.here; within = omega (arith, h.within, length-told_at source b xs (sought nodes (id_by source b))) })
-    ∙ ap (λ (s : Summary). gathered source id s bs) (told_is source nodes id j b xs h)
+told_all source ids id j xs [] h = refl
+told_all source ids id j xs (b ∷ bs) h =
+    let next = told_at source b xs (sought ids (id_by source b)) in
+    told_all source ids id j next bs (record { here = h.here; within = omega (arith, h.within, length-told_at source b xs (sought ids (id_by source b))) })
+    ∙ ap (λ (s : Summary). gathered source id s bs) (told_is source ids id j b xs h)
 
-pub summary_at : (n : ℕ) (moov : Box) (nodes : List Node) (id j : ℕ) → length nodes ≡ n → sought nodes id ≡ Some j → slice_index_or (summaries_in n moov nodes) j nothing ≡ summary_in moov id
+summary_at : (moov : Box) (ids : List ℕ) (id j : ℕ) → j < length ids → sought ids id ≡ Some j → slice_index_or (summaries_in moov ids) j nothing ≡ summary_in moov id
 unfolding summaries_in summary_in
-summary_at n moov nodes id j len here =
+summary_at moov ids id j within here =
+    let n : ℕ = length ids in
     let none : List Summary = replicate n nothing in
-    let within : j < n = omega (arith, (found nodes id j here).within, len) in
-    let tkhds : List Summary = all_told Tkhd nodes none (at_path to_tkhd moov) in
-    told_all Trex nodes id j tkhds (at_path to_trex moov) (record { here = here; within = omega (arith, within, length-all_told Tkhd nodes none (at_path to_tkhd moov), length-replicate n nothing) })
+    let tkhds : List Summary = all_told Tkhd ids none (at_path to_tkhd moov) in
+    told_all Trex ids id j tkhds (at_path to_trex moov) (record { here = here; within = omega (arith, within, length-all_told Tkhd ids none (at_path to_tkhd moov), length-replicate n nothing) })
     ∙ ap (λ (s : Summary). gathered Trex id s (at_path to_trex moov))
-    (told_all Tkhd nodes id j none (at_path to_tkhd moov) (record { here = here; within = omega (arith, within, length-replicate n nothing) })
+    (told_all Tkhd ids id j none (at_path to_tkhd moov) (record { here = here; within = omega (arith, within, length-replicate n nothing) })
     ∙ ap (λ (s : Summary). gathered Tkhd id s (at_path to_tkhd moov)) (get_or-replicate n j nothing nothing within))
 
-pub summary_at_place : (n : ℕ) (moov : Box) (nodes : List Node) (xs : List Summary) (id j : ℕ) (d : Summary) → length nodes ≡ n → length xs ≡ n → j < n → sought nodes id ≡ Some j → xs ≡ summaries_in n moov nodes
+-- there is a summary for each
+pub length-summaries : (moov : Box) (ids : List ℕ) → length (summaries_in moov ids) ≡ length ids
+unfolding summaries_in
+length-summaries moov ids =
+    let none : List Summary = replicate (length ids) nothing in
+    length-all_told Trex ids (all_told Tkhd ids none (at_path to_tkhd moov)) (at_path to_trex moov)
+    ∙ length-all_told Tkhd ids none (at_path to_tkhd moov) ∙ length-replicate (length ids) nothing
+
+pub summary_at_place : (moov : Box) (ids : List ℕ) (xs : List Summary) (id j : ℕ) (d : Summary) → j < length ids → sought ids id ≡ Some j → xs ≡ summaries_in moov ids
     → slice_index_or xs j d ≡ summary_in moov id
-summary_at_place n moov nodes xs id j d len size within here e =
-    any_default xs j d nothing (omega arith) ∙ ap (λ (ys : List Summary). slice_index_or ys j nothing) e ∙ summary_at n moov nodes id j len here
+summary_at_place moov ids xs id j d within here e =
+    any_default xs j d nothing (omega (arith, within, ap (λ (ys : List Summary). length ys) e, length-summaries moov ids))
+    ∙ ap (λ (ys : List Summary). slice_index_or ys j nothing) e ∙ summary_at moov ids id j within here
+
+-- ---- none
+
+all_of_none : (source : Source) (xs : List Summary) (bs : List Box) → all_told source [] xs bs ≡ xs
+unfolding all_told
+all_of_none source xs [] = refl
+all_of_none source xs (b ∷ bs) = ap (λ (o : Option ℕ). all_told source [] (told_at source b xs o) bs) (none_sought (id_by source b)) ∙ all_of_none source xs bs
+
+pub summaries_of_none : (moov : Box) (ids : List ℕ) (xs : List Summary) → ids ≡ [] → xs ≡ [] → xs ≡ summaries_in moov ids
+unfolding summaries_in
+summaries_of_none moov ids xs none empty =
+    empty
+    ∙ sym (ap (summaries_in moov) none
+    ∙ ap (λ (ys : List Summary). all_told Trex [] ys (at_path to_trex moov)) (all_of_none Tkhd [] (at_path to_tkhd moov))
+    ∙ all_of_none Trex [] (at_path to_trex moov))
+
+-- ---- ids, as many as there is room for
+
+pub room_for_all : (n : ℕ) (xs : List ℕ) → length xs ≤ n → xs ≡ take n xs
+room_for_all n xs h = sym (take_all n xs h)
+
+pub id_here : (from : ℕ) (b : Box) (bs : List Box) → from ≤ b.offset → ids_from from (b ∷ bs) ≡ tkhd_id b ∷ ids_from from bs
+unfolding ids_from
+id_here from b bs h =
+    let test : ltb b.offset from ≡ false = grind (arith, nat_tests) in
+    ap (λ (t : Bool). cond t (ids_from from bs) (tkhd_id b ∷ ids_from from bs)) test
+
+pub id_before : (from : ℕ) (b : Box) (bs : List Box) → b.offset < from → ids_from from (b ∷ bs) ≡ ids_from from bs
+unfolding ids_from
+id_before from b bs h =
+    let test : ltb b.offset from ≡ true = grind (arith, nat_tests) in
+    ap (λ (t : Bool). cond t (ids_from from bs) (tkhd_id b ∷ ids_from from bs)) test
+
+pub no_ids : (from : ℕ) → ids_from from [] ≡ []
+unfolding ids_from
+no_ids from = refl
+
+pub room_for_one : (full : Bool) (k n : ℕ) → full ≡ (k == n) → full ≡ false → k ≤ n → k + 1 ≤ n
+room_for_one true k n e f h = absurd cc
+room_for_one false k n e f h = grind (arith, nat_tests)

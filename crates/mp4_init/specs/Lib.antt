@@ -3,6 +3,7 @@ pub mod Fields
 pub mod Rules
 pub mod Tracks
 pub mod SearchTrees
+pub mod OrderedIds
 pub mod Summaries
 pub mod Rows
 pub mod Moovs

@@ -1,9 +1,8 @@
 -- What a moov says of one track_ID, gathered box by box.
-use Rattle.std.specs.Prelude.{ℕ, List, [], ◌∷◌, Option, Some, None, replicate, slice_set, slice_index_or, ◌==◌, ◌-◌, ◌^◌, nat_lt, if◌then◌else◌}
+use Rattle.std.specs.Prelude.{ℕ, List, [], ◌∷◌, Option, Some, None, length, replicate, slice_set, slice_index_or, ◌==◌, ◌-◌, ◌^◌, nat_lt, if◌then◌else◌}
 use Rattle.mp4_box.specs.Trees.{Box}
 use Rattle.mp4_box.specs.Paths.{at_path}
-use Rattle.mp4_init.specs.declared.search_tree.Node.{Node}
-use Rattle.mp4_init.specs.SearchTrees.{sought, no_node}
+use Rattle.mp4_init.specs.OrderedIds.{sought}
 use Rattle.mp4_init.specs.declared.summary.Summary.{Summary}
 use Rattle.mp4_init.specs.declared.summary.Source.{Source}
 use Rattle.mp4_init.specs.declared.summary.Source.TheVariants.{Tkhd, Trex}
@@ -24,10 +23,14 @@ abbrev pub told : Source → Summary → Box → Summary
 told Tkhd s b = record s { first = if nat_lt b.offset s.first then b.offset else s.first }
 told Trex s b = if s.trexes == 0 then record s { trexes = 1; defaults = defaults_of (Some b) } else record s { trexes = 2 }
 
+-- with one more box, whatever track_ID it has
+abbrev pub told_if : Source → ℕ → Summary → Box → Summary
+told_if source id s b = if id_by source b == id then told source s b else s
+
 -- with all of these boxes that have the track_ID
 unfoldable pub gathered : Source → ℕ → Summary → List Box → Summary
 gathered source id s [] = s
-gathered source id s (b ∷ bs) = gathered source id (if id_by source b == id then told source s b else s) bs
+gathered source id s (b ∷ bs) = gathered source id (told_if source id s b) bs
 
 -- what the moov says of the track_ID
 unfoldable pub summary_in : Box → ℕ → Summary
@@ -35,19 +38,20 @@ summary_in moov id = gathered Trex id (gathered Tkhd id nothing (at_path to_tkhd
 
 -- ---- of many track_IDs at once
 
--- a box is told to the node of its track_ID, where there is one
+-- those of the tkhds that begin at an offset or behind it
+unfoldable pub ids_from : ℕ → List Box → List ℕ
+ids_from from [] = []
+ids_from from (b ∷ bs) = if nat_lt b.offset from then ids_from from bs else tkhd_id b ∷ ids_from from bs
+
+-- a box is told at the place of its track_ID, where that has one
 abbrev pub told_at : Source → Box → List Summary → Option ℕ → List Summary
 told_at source b xs None = xs
 told_at source b xs (Some k) = slice_set xs k (told source (slice_index_or xs k nothing) b)
 
-unfoldable pub all_told : Source → List Node → List Summary → List Box → List Summary
-all_told source nodes xs [] = xs
-all_told source nodes xs (b ∷ bs) = all_told source nodes (told_at source b xs (sought nodes (id_by source b))) bs
+unfoldable pub all_told : Source → List ℕ → List Summary → List Box → List Summary
+all_told source ids xs [] = xs
+all_told source ids xs (b ∷ bs) = all_told source ids (told_at source b xs (sought ids (id_by source b))) bs
 
--- the summaries of n nodes: all boxes of the moov are told to them
-unfoldable pub summaries_in : ℕ → Box → List Node → List Summary
-summaries_in n moov nodes = all_told Trex nodes (all_told Tkhd nodes (replicate n nothing) (at_path to_tkhd moov)) (at_path to_trex moov)
-
--- the track_ID of the first node
-abbrev pub root_id : List Node → ℕ
-root_id nodes = (slice_index_or nodes 0 no_node).id
+-- the summaries of the ids: all boxes of the moov are told to them
+unfoldable pub summaries_in : Box → List ℕ → List Summary
+summaries_in moov ids = all_told Trex ids (all_told Tkhd ids (replicate (length ids) nothing) (at_path to_tkhd moov)) (at_path to_trex moov)

@@ -14,6 +14,7 @@ use crate::fields::number_behind_times;
 use crate::kinds::{MDHD, MDIA, MINF, STBL, STSD, TKHD, TRAK};
 use crate::slots::{FEW_SLOTS, SLOTS, Slots};
 use crate::table::{Track, TrackList, push_track};
+use arrayvec::ArrayVec;
 use mp4_box::{BoxRef, FourCc, Walk, count_of, first_at, number_at};
 use mp4_ledger::{Ledger, Refused, Rows64};
 
@@ -42,9 +43,9 @@ fn entries_in(trak: &BoxRef<'_>) -> u32
 #[tactic(auto, using(crate::proofs::SummaryLemmas::defaults_by), unfolding(crate::specs::Tracks::track_of))]
 fn track_in<const N: usize>(moov: &BoxRef<'_>, trak: &BoxRef<'_>, slots: &mut Slots<N>) -> Track
     requires some { 0 < N }
-    requires told { slots.old.summaries ≡ summaries_in N (view moov.now) slots.old.index.nodes }
+    requires told { slots.old.summaries.items ≡ summaries_in (view moov.now) slots.old.ids.items }
     ensures track { result ≡ track_of (view moov.now) (view trak.now) }
-    ensures told { slots.new.summaries ≡ summaries_in N (view moov.now) slots.new.index.nodes }
+    ensures told { slots.new.summaries.items ≡ summaries_in (view moov.now) slots.new.ids.items }
 {
     let id = behind_times_at(&[TKHD], trak);
     let defaults = slots.summary(moov, trak.offset, id).defaults;
@@ -72,7 +73,10 @@ fn push_tracks<const N: usize>(rows: &mut Rows64, moov: &BoxRef<'_>)
     ensures indexed { IsIndexed (map node_of_row rows.new.rows) }
     ensures full { length rows.new.rows ≡ rows.new.cap }
 {
-    let mut slots = Slots::<N>::new(moov);
+    let mut slots = Slots::<N> {
+        ids: ArrayVec::new(),
+        summaries: ArrayVec::new(),
+    };
     for trak in Walk::of(moov) {
         if trak.header.kind.0.as_slice() == TRAK.0.as_slice() {
             push_track(rows, track_in(moov, &trak, &mut slots));

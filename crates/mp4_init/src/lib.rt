@@ -21,6 +21,7 @@ mod fields;
 mod kinds;
 pub mod laws;
 mod moov;
+mod ordered_ids;
 mod row;
 mod rules;
 mod sample_tables;
@@ -30,4 +31,5 @@ mod summary;
 mod table;
 
 pub use moov::{InitStop, tracks};
+pub use ordered_ids::seek_in_order;
 pub use table::{Track, TrackList};

@@ -14,6 +14,7 @@ use crate::kinds::{
 };
 use crate::sample_tables::{Entries, NoSamples};
 use crate::slots::{FEW_SLOTS, SLOTS, Slots};
+use arrayvec::ArrayVec;
 use mp4_box::{Along, BoxRef, Check, Fault, FourCc, Layout, One, Rule, count_of, note, note_along};
 
 /// Boxes that are missing, or stand a second time.
@@ -71,9 +72,9 @@ fn note_samples(moov: &BoxRef<'_>, best: &mut Option<Fault>)
 /// Whether no tkhd before this one has its track_ID, and just one trex has it.
 fn is_known_in<const N: usize>(moov: &BoxRef<'_>, tkhd: &BoxRef<'_>, slots: &mut Slots<N>) -> bool
     requires some { 0 < N }
-    requires told { slots.old.summaries ≡ summaries_in N (view moov.now) slots.old.index.nodes }
+    requires told { slots.old.summaries.items ≡ summaries_in (view moov.now) slots.old.ids.items }
     ensures known { result ≡ is_known (view moov.now) (view tkhd.now) }
-    ensures told { slots.new.summaries ≡ summaries_in N (view moov.now) slots.new.index.nodes }
+    ensures told { slots.new.summaries.items ≡ summaries_in (view moov.now) slots.new.ids.items }
 {
     let summary = slots.summary(moov, tkhd.offset, number_behind_times(tkhd));
     if summary.first < tkhd.offset {
@@ -86,7 +87,7 @@ fn is_known_in<const N: usize>(moov: &BoxRef<'_>, tkhd: &BoxRef<'_>, slots: &mut
 #[tactic(auto, unfolding(mp4_box::specs::Order::least_from, crate::specs::Rules::track_faults))]
 fn note_unknown<const N: usize>(moov: &BoxRef<'_>, slots: &mut Slots<N>, best: &mut Option<Fault>)
     requires some { 0 < N }
-    requires told { slots.old.summaries ≡ summaries_in N (view moov.now) slots.old.index.nodes }
+    requires told { slots.old.summaries.items ≡ summaries_in (view moov.now) slots.old.ids.items }
     ensures { best.new ≡ least_from best.old (track_faults (view moov.now)) }
 {
     for tkhd in Along::of(&[TRAK, TKHD], moov) {
@@ -99,12 +100,16 @@ fn note_unknown<const N: usize>(moov: &BoxRef<'_>, slots: &mut Slots<N>, best: &
 /// The same, with summaries of `N` track_IDs at once.
 // It stands apart since a function pays for the size of its locals each time that it is called.
 #[inline(never)]
+#[tactic(auto, using(crate::proofs::SummaryTableLemmas::summaries_of_none))]
 fn note_unknown_by<const N: usize>(moov: &BoxRef<'_>, best: &mut Option<Fault>)
     requires some { 0 < N }
     requires most { N ≤ SLOTS }
     ensures { best.new ≡ least_from best.old (track_faults (view moov.now)) }
 {
-    let mut slots = Slots::<N>::new(moov);
+    let mut slots = Slots::<N> {
+        ids: ArrayVec::new(),
+        summaries: ArrayVec::new(),
+    };
     note_unknown(moov, &mut slots, best);
 }
 

@@ -1,184 +1,154 @@
-//! Summaries of many track_IDs at once, so that a moov of many tracks is gone over few times.
+//! What a moov says of many track_IDs at once, so that a moov of many tracks is gone over few times.
 
-ghost use Rattle.std.specs.Prelude.{◌≡◌, ◌<◌, ◌≤◌, length, Some};
+ghost use Rattle.std.specs.Prelude.{◌≡◌, ◌<◌, ◌≤◌, [], length, replicate, take};
 ghost use Rattle.mp4_box.specs.Paths.{at_path};
 ghost use Rattle.mp4_box.specs.Trees.{view};
-ghost use Rattle.mp4_init.specs.SearchTrees.{sought};
-ghost use Rattle.mp4_init.specs.Summaries.{all_told, id_by, root_id, summaries_in, summary_in, told_at};
+ghost use Rattle.mp4_init.specs.Kinds.{to_tkhd};
+ghost use Rattle.mp4_init.specs.OrderedIds.{AreInOrder, sought};
+ghost use Rattle.mp4_init.specs.Summaries.{all_told, gathered, id_by, ids_from, nothing, summaries_in, summary_in, told_at, told_if};
 
 use crate::fields::number_behind_times;
 use crate::kinds::{MVEX, TKHD, TRAK, TREX};
-use crate::search_tree::{Ending, NOWHERE, Node, Nodes, search, seek};
+use crate::ordered_ids::seek_in_order;
 use crate::summary::{NOTHING, Source, Summary, id_in, tell};
+use arrayvec::ArrayVec;
 use mp4_box::{Along, BoxRef, FourCc};
 
-/// Nodes of track_IDs. What has no track_ID of its own has that of the first, and no node leads to it.
-#[derive(Clone, Copy)]
-pub struct Index<const N: usize> {
-    nodes: [Node; N],
-}
-
-impl<const N: usize> Nodes for Index<N> {
-    ghost nodes = { λ x. x.nodes };
-
-    fn node(&self, at: usize) -> Option<Node> {
-        if at < N { Some(self.nodes[at]) } else { None }
-    }
-}
-
-impl<const N: usize> Index<N> {
-    /// Adds a node behind those that are used.
-    fn add(&mut self, id: u32, used: &mut usize)
-        requires some { 0 < used.old }
-        requires room { used.old < N }
-        ensures root { root_id self.new.nodes ≡ root_id self.old.nodes }
-        ensures used { 0 < used.new }
-    {
-        if let Ending::Behind(link) = search(self, id) {
-            let mut node = self.nodes[link.at];
-            if link.is_odd {
-                node.odd = *used;
-            } else {
-                node.even = *used;
-            }
-            self.nodes[link.at] = node;
-            self.nodes[*used] = Node {
-                id,
-                even: NOWHERE,
-                odd: NOWHERE,
-            };
-            *used += 1;
-        }
-    }
-
-    /// Adds the track_IDs of the tkhds that begin at the offset or behind it, as long as there is room.
-    fn add_from(&mut self, from: u64, moov: &BoxRef<'_>)
-        requires { 0 < N }
-        ensures { root_id self.new.nodes ≡ root_id self.old.nodes }
-    {
-        let mut used = 1;
-        for tkhd in Along::of(&[TRAK, TKHD], moov) {
-            if used >= N {
-                return;
-            }
-            if tkhd.offset >= from {
-                self.add(number_behind_times(&tkhd), &mut used);
-            }
-        }
-    }
-}
-
-/// Tells a box to the summary of its track_ID, where there is one.
-fn tell_one<const N: usize>(
-    source: Source,
-    index: &Index<N>,
-    this: &BoxRef<'_>,
-    summaries: &mut [Summary],
-)
-    requires { length summaries.old ≡ N }
-    ensures { summaries.new ≡ told_at source (view this.now) summaries.old
-        (sought index.now.nodes (id_by source (view this.now))) }
+/// Adds the track_IDs of the tkhds that begin at the offset or behind it, as many as there is room for.
+fn push_ids<const N: usize>(moov: &BoxRef<'_>, from: u64, ids: &mut ArrayVec<u32, N>)
+    requires empty { ids.old.items ≡ [] }
+    ensures { ids.new.items ≡ take N (ids_from from (at_path to_tkhd (view moov.now))) }
 {
-    if let Some(at) = seek(index, id_in(source, this)) {
+    for tkhd in Along::of(&[TRAK, TKHD], moov) {
+        if ids.is_full() {
+            return;
+        }
+        if tkhd.offset >= from {
+            ids.push(number_behind_times(&tkhd));
+        }
+    }
+}
+
+/// Takes these in order in the places of all.
+fn take_ids<const N: usize>(moov: &BoxRef<'_>, from: u64, ids: &mut ArrayVec<u32, N>)
+    ensures { AreInOrder (take N (ids_from from (at_path to_tkhd (view moov.now)))) ids.new.items }
+{
+    ids.clear();
+    push_ids(moov, from, ids);
+    ids.as_mut_slice().sort_unstable();
+}
+
+/// Puts as many summaries in the places of all, each before any box was seen.
+fn clear<const N: usize>(count: usize, summaries: &mut ArrayVec<Summary, N>)
+    requires { count ≤ N }
+    ensures { summaries.new.items ≡ replicate count nothing }
+{
+    summaries.clear();
+    while summaries.len() < count {
+        summaries.push(NOTHING);
+    }
+}
+
+/// Tells a box to the summary of its track_ID, where that has a place.
+fn tell_placed(source: Source, ids: &[u32], this: &BoxRef<'_>, summaries: &mut [Summary])
+    requires { length summaries.old ≡ length ids.now }
+    ensures { summaries.new ≡ told_at source (view this.now) summaries.old
+        (sought ids.now (id_by source (view this.now))) }
+{
+    if let Some(at) = seek_in_order(ids, id_in(source, this)) {
         tell(&mut summaries[at], source, this);
     }
 }
 
-/// Tells the boxes on a path to the summaries of their track_IDs.
-#[tactic(auto, unfolding(crate::specs::Summaries::all_told))]
-fn tell_along<const N: usize>(
+/// Tells a box to the summary of this track_ID, where the box has it.
+fn tell_own(source: Source, id: u32, this: &BoxRef<'_>, own: &mut Summary)
+    ensures { own.new ≡ told_if source id own.old (view this.now) }
+{
+    if id_in(source, this) == id {
+        tell(own, source, this);
+    }
+}
+
+/// Tells the boxes on a path to the summaries of their track_IDs, and to that of this one.
+#[tactic(auto, unfolding(crate::specs::Summaries::all_told, crate::specs::Summaries::gathered))]
+fn tell_along(
     source: Source,
-    index: &Index<N>,
     path: &[FourCc],
     moov: &BoxRef<'_>,
+    ids: &[u32],
     summaries: &mut [Summary],
+    id: u32,
+    own: &mut Summary,
 )
-    requires size { length summaries.old ≡ N }
+    requires size { length summaries.old ≡ length ids.now }
     requires path { length path.now ≤ 8 }
-    ensures { summaries.new ≡ all_told source index.now.nodes summaries.old
+    ensures all { summaries.new ≡ all_told source ids.now summaries.old
         (at_path path.now (view moov.now)) }
+    ensures own { own.new ≡ gathered source id own.old (at_path path.now (view moov.now)) }
 {
     for this in Along::of(path, moov) {
-        tell_one(source, index, &this, summaries);
+        tell_placed(source, ids, &this, summaries);
+        tell_own(source, id, &this, own);
     }
 }
 
 /// For how many track_IDs a moov is gone over at once.
-pub(crate) const SLOTS: usize = 4096;
+pub(crate) const SLOTS: usize = 6144;
 
 /// The same for a moov of as many tracks at most.
 pub(crate) const FEW_SLOTS: usize = 64;
 
-/// The summaries of as many track_IDs as there are nodes. A moov is gone over again only where another is asked for.
-#[derive(Clone, Copy)]
+/// Some track_IDs in order, none at first, and what a moov says of each. It is gone over again only where another is asked for.
+#[derive(Drop)]
 pub(crate) struct Slots<const N: usize> {
-    index: Index<N>,
-    summaries: [Summary; N],
+    pub(crate) ids: ArrayVec<u32, N>,
+    pub(crate) summaries: ArrayVec<Summary, N>,
 }
 
 impl<const N: usize> Slots<N> {
-    /// The summaries of a track_ID and of those of the tkhds that begin at the offset or behind it.
-    #[tactic(auto, unfolding(crate::specs::Summaries::summaries_in))]
-    fn of(moov: &BoxRef<'_>, from: u64, id: u32) -> Slots<N>
-        requires { 0 < N }
-        ensures root { root_id result.index.nodes ≡ id }
-        ensures told { result.summaries ≡ summaries_in N (view moov.now) result.index.nodes }
-    {
-        let node = Node {
-            id,
-            even: NOWHERE,
-            odd: NOWHERE,
-        };
-        let mut index = Index { nodes: [node; N] };
-        index.add_from(from, moov);
-        let mut summaries = [NOTHING; N];
-        tell_along(Source::Tkhd, &index, &[TRAK, TKHD], moov, &mut summaries);
-        tell_along(Source::Trex, &index, &[MVEX, TREX], moov, &mut summaries);
-        Slots { index, summaries }
-    }
-
-    /// Those of the tkhds of a moov.
-    pub(crate) fn new(moov: &BoxRef<'_>) -> Slots<N>
-        requires { 0 < N }
-        ensures { result.summaries ≡ summaries_in N (view moov.now) result.index.nodes }
-    {
-        Slots::of(moov, 0, 0)
-    }
-
-    /// Puts a track_ID and those of the tkhds that begin at the offset or behind it in the places of all.
+    /// Puts the track_IDs of the tkhds that begin at the offset or behind it in the places of all. Tells what the moov says of
+    /// this one.
     // It stands apart since a function pays for the size of its locals each time that it is called.
-    fn refill(&mut self, moov: &BoxRef<'_>, from: u64, id: u32)
-        requires { 0 < N }
-        ensures place { sought self.new.index.nodes id ≡ Some 0 }
-        ensures told { self.new.summaries ≡ summaries_in N (view moov.now) self.new.index.nodes }
+    #[tactic(auto, unfolding(crate::specs::Summaries::summaries_in, crate::specs::Summaries::summary_in))]
+    fn refill(&mut self, moov: &BoxRef<'_>, from: u64, id: u32) -> Summary
+        ensures told { self.new.summaries.items ≡ summaries_in (view moov.now) self.new.ids.items }
+        ensures summary { result ≡ summary_in (view moov.now) id }
     {
-        *self = Slots::of(moov, from, id);
-    }
-
-    /// The place of the summary of a track_ID. Where it has none, that and those of the tkhds that begin at the offset
-    /// or behind it take the places of all.
-    fn place_of(&mut self, moov: &BoxRef<'_>, from: u64, id: u32) -> usize
-        requires some { 0 < N }
-        requires told { self.old.summaries ≡ summaries_in N (view moov.now) self.old.index.nodes }
-        ensures place { sought self.new.index.nodes id ≡ Some result }
-        ensures within { result < N }
-        ensures told { self.new.summaries ≡ summaries_in N (view moov.now) self.new.index.nodes }
-    {
-        if let Some(at) = seek(&self.index, id) {
-            return at;
-        }
-        self.refill(moov, from, id);
-        0
+        take_ids(moov, from, &mut self.ids);
+        clear(self.ids.len(), &mut self.summaries);
+        let ids = self.ids.as_slice();
+        let summaries = self.summaries.as_mut_slice();
+        let mut own = NOTHING;
+        tell_along(
+            Source::Tkhd,
+            &[TRAK, TKHD],
+            moov,
+            ids,
+            summaries,
+            id,
+            &mut own,
+        );
+        tell_along(
+            Source::Trex,
+            &[MVEX, TREX],
+            moov,
+            ids,
+            summaries,
+            id,
+            &mut own,
+        );
+        own
     }
 
     /// What the moov says of a track_ID. Those of tkhds that begin at the offset or behind it will be asked for next.
     pub(crate) fn summary(&mut self, moov: &BoxRef<'_>, from: u64, id: u32) -> Summary
-        requires some { 0 < N }
-        requires told { self.old.summaries ≡ summaries_in N (view moov.now) self.old.index.nodes }
+        requires { self.old.summaries.items ≡ summaries_in (view moov.now) self.old.ids.items }
         ensures summary { result ≡ summary_in (view moov.now) id }
-        ensures told { self.new.summaries ≡ summaries_in N (view moov.now) self.new.index.nodes }
+        ensures told { self.new.summaries.items ≡ summaries_in (view moov.now) self.new.ids.items }
     {
-        let at = self.place_of(moov, from, id);
-        self.summaries[at]
+        match seek_in_order(self.ids.as_slice(), id) {
+            Some(at) => self.summaries.as_slice()[at],
+            None => self.refill(moov, from, id),
+        }
     }
 }

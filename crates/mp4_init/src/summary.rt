@@ -9,7 +9,7 @@ use crate::fields::number_behind_times;
 use mp4_box::{BoxRef, number_at};
 
 /// The four defaults of a trex (ISO/IEC 14496-12, 8.8.3).
-#[derive(Clone, Copy)]
+#[derive(Clone, Copy, Default)]
 pub struct Defaults {
     pub desc: u32,
     pub duration: u32,
@@ -18,7 +18,7 @@ pub struct Defaults {
 }
 
 /// What a moov says of one track_ID.
-#[derive(Clone, Copy)]
+#[derive(Clone, Copy, Default)]
 pub struct Summary {
     /// The least offset of its tkhds.
     pub first: u64,

@@ -1,7 +1,10 @@
-use Rattle.std.proofs.Common.{sym}
+use Rattle.std.proofs.Common.{arith}
 use Rattle.mp4_box.specs.Trees.{view}
-use Rattle.mp4_frag.proofs.PassLemmas.{no_repeats}
+use Rattle.mp4_frag.proofs.PassLemmas.{none_earlier, none_untimed}
 use Rattle.mp4_frag.proofs.repeats.note_repeats.Goals as goal
 
-pub returns-then-not-any_lacks_time : goal.returns-then-not-any_lacks_time
-returns-then-not-any_lacks_time c = sym (no_repeats (view c.args.moof.now) c.args.best.now c.any_lacks_time.result c.any_lacks_time.ensures c.if-not-any_lacks_time.true)
+pub returns-then-count_of-lt2 : goal.returns-then-count_of-lt2
+returns-then-count_of-lt2 c = none_earlier (view c.args.moof.now) c.args.best.now (omega (arith, c.count_of.ensures, c.if-count_of-lt2.true))
+
+pub returns-then-count-eq0 : goal.returns-then-count-eq0
+returns-then-count-eq0 c = none_untimed (view c.args.moof.now) c.args.best.now c.untimed_in-count.result c.untimed_in-count.ensures c.if-count-eq0.true

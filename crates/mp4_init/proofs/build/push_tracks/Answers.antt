@@ -5,6 +5,7 @@ use Rattle.mp4_box.specs.Trees.{children, view}
 use Rattle.mp4_init.specs.Kinds.{trak}
 use Rattle.mp4_init.specs.Tracks.{track_of}
 use Rattle.mp4_init.proofs.LinkLemmas.{indexed_none}
+use Rattle.mp4_init.proofs.SummaryTableLemmas.{summaries_of_none}
 use Rattle.mp4_init.proofs.build.push_tracks.Goals as goal
 
 pub loop-trak-init : goal.loop-trak-init
@@ -19,5 +20,5 @@ loop-trak-init g c = record {
         c.requires.cap,
         length-map (of_kind trak (children (view c.args.moov.now))) (track_of (view c.args.moov.now)),
       );
-  told = search rules;
+  told = summaries_of_none (view c.args.moov.now) c.new.result.items c.new-2.result.items c.new.ensures c.new-2.ensures;
 }

@@ -15,5 +15,5 @@ invariant-loop-trak g l = record {
   tracks : map track_of_row l.rows.rows ++ map (track_of (view l.moov)) (of_kind trak l.trak-iterator) ≡ tracks_of (view l.moov);
   indexed : IsIndexed (map node_of_row l.rows.rows);
   room : length l.rows.rows + length (of_kind trak l.trak-iterator) ≡ l.rows.cap;
-  told : l.slots.summaries ≡ summaries_in g.row.N (view l.moov) l.slots.index.nodes;
+  told : l.slots.summaries.items ≡ summaries_in (view l.moov) l.slots.ids.items;
 }

@@ -10,5 +10,5 @@ use Rattle.mp4_init.proofs.rules.note_unknown.Given as goal
 abbrev pub invariant-loop-tkhd : goal.invariant-loop-tkhd
 invariant-loop-tkhd g l = record {
   left : least_from l.best (flat_map (known (view l.moov)) l.tkhd-iterator) ≡ least_from l.fn.best (track_faults (view l.moov));
-  told : l.slots.summaries ≡ summaries_in g.row.N (view l.moov) l.slots.index.nodes;
+  told : l.slots.summaries.items ≡ summaries_in (view l.moov) l.slots.ids.items;
 }

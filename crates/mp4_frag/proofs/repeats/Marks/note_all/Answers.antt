@@ -21,9 +21,9 @@ loop-child-preserved g c =
       rest = sym (after_more n (children m) b bs here);
       seen =
           c.pass.ensures.seen
-          ∙ marks_more g.row.N old.ids old.seen (trafs_before n m) (trafs (b ∷ [])) c.note_child.ensures.seen
-          ∙ ap (λ (ts : List Box). marks g.row.N old.ids ts) (sym more)
-          ∙ ap (λ (ids : List ℕ). marks g.row.N ids (trafs_before (n + 1) m)) (sym c.pass.ensures.ids);
+          ∙ marks_more g.row.N old.ids.items old.seen (trafs_before n m) (trafs (b ∷ [])) c.note_child.ensures.seen
+          ∙ ap (λ (ts : List Box). marks g.row.N old.ids.items ts) (sym more)
+          ∙ ap (λ ids. marks g.row.N ids.items (trafs_before (n + 1) m)) (sym c.pass.ensures.ids);
       left =
           ap (λ (best : Option Fault). least_from best (repeats (trafs_before (n + 1) m) (trafs bs))) c.note_child.ensures.best
           ∙ ap (λ (ts : List Box). least_from (least_from c.loop-child.best (repeats (trafs_before n m) (trafs (b ∷ [])))) (repeats ts (trafs bs))) more
