@@ -6,14 +6,15 @@
 //! - [`build`]: from the traks of a moov to a table, [`table`]: [`TrackList`], that table in claimed memory, and
 //!   [`row`]: how a [`Track`] stands in it;
 //! - [`summary`]: what a moov says of one track_ID, and [`slots`]: of many at once;
-//! - [`search_tree`]: the search for a track_ID by its bits, in a table and among slots;
+//! - [`ordered_ids`]: the search for a track_ID among some in order ([`seek_in_order`]), and [`search_tree`]: by its bits, in
+//!   a table;
 //! - [`kinds`]: the types of the boxes that are read, and [`fields`]: their fields;
 //! - [`laws`]: what the definitions of `specs/` imply.
 //!
 //! The definitions: `specs/Kinds.antt` (types and paths), `specs/Fields.antt` (payloads), `specs/Rules.antt`
 //! (what is at fault), `specs/Tracks.antt` (the tracks), `specs/Moovs.antt` (the tracks of a moov or its
 //! fault), `specs/TrackFields.antt` (how large the numbers of a track are). The others say
-//! how it is worked out: `specs/SearchTrees.antt`, `specs/Summaries.antt`, `specs/Rows.antt`.
+//! how it is worked out: `specs/SearchTrees.antt`, `specs/OrderedIds.antt`, `specs/Summaries.antt`, `specs/Rows.antt`.
 #![tactic(auto)]
 
 mod build;
