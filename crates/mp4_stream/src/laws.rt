@@ -48,8 +48,8 @@ pub fn lines_before()
         take a.behind (listing b) ≡ listing (take a.at b) }
 {}
 
-/// A stream asks for as much as its largest moov or moof has bytes that is held: whole boxes that break no rule stand before
-/// it, and its header is good and states no more than it may have.
+/// The most that a stream asks for is the size of its largest moov or moof that is held. Before such a box stand whole boxes that
+/// break no rule; its header is good, and states no more than it may have.
 pub fn asks_are_held_boxes()
     ensures { (b : List ℕ) (most : ℕ) → IsBytes b →
         (most_of (reading 0 b).told ≤ most) ↔ HoldsAtMost 0 b most }
