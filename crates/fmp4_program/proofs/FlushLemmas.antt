@@ -12,6 +12,7 @@ use Rattle.mp4_reading.specs.declared.tally.Tally.{Tally}
 use Rattle.mp4_reading.proofs.ReadingAskLemmas.{AtMost-same}
 use Rattle.mp4_recut.specs.declared.plan.Plan.{Plan}
 use Rattle.mp4_stream.specs.Fragments.{ReadsFragments}
+use Rattle.mp4_stream.specs.HeldBoxes.{ReadsBoxes}
 use Rattle.mp4_stream.specs.declared.run.Totals.{Totals}
 
 -- of an answer that is Ok nothing but that is said
@@ -52,11 +53,28 @@ module _ {T : Type 0} {whole : List ℕ → Reading} {ends : Ends} {claims : Cla
     kept = λ other. absurd (other refl);
   }
 
+-- ---- a run that lists boxes
+
+module _ {T : Type 0} {ends : Ends} {claims : Claims} {t : T} (u : Option (List ℕ)) (failed : Bool) (r : ReadsBoxes {T = T} ends claims (Ok t)) (kept : Keeps ends.written' u) where
+  boxes-flushed : (x : T) → failed ≡ ends.write_failed' → ReadsBoxes {T = T} (record ends { written' = u; write_failed' = failed }) claims (Ok x)
+  unfolding Runs-answer flushed
+  boxes-flushed x same = record {
+    runs = Runs-answer (flushed u failed r.runs kept same);
+    by_boxes = record { most = r.by_boxes.most; enough = λ largest within low e. absurd cc };
+  }
+
+  boxes-unflushed : failed ≡ true → ReadsBoxes {T = T} (record ends { written' = u; write_failed' = failed }) claims (Err Write)
+  unfolding unflushed
+  boxes-unflushed is = record {
+    runs = unflushed u failed r.runs kept is;
+    by_boxes = record { most = r.by_boxes.most; enough = λ largest within low e. absurd cc };
+  }
+
 -- it was flushed, or the flush failed
-pub after_flush : {T : Type 0} {whole : List ℕ → Reading} {ends : Ends} {claims : Claims} {tally : Tally} {t : T} (u : Option (List ℕ)) (failed : Bool) (s : Result T Stop) → Runs {T = T} whole ends claims tally (Ok t) → Keeps ends.written' u
-    → OnOk s ((ends.write_failed' ≡ false) × (failed ≡ false)) → IfErr s (λ e. (e ≡ Write) × (failed ≡ true)) → Runs {T = T} whole (record ends { written' = u; write_failed' = failed }) claims tally s
-after_flush {T = T} {whole = whole} {ends = ends} {claims = claims} {tally = tally} u failed (Ok x) r kept good bad = Runs-answer (flushed u failed r kept (good.1 ∙ sym good.0))
-after_flush {T = T} {whole = whole} {ends = ends} {claims = claims} {tally = tally} u failed (Err e) r kept good bad = subst (λ k. Runs {T = T} whole (record ends { written' = u; write_failed' = failed }) claims tally (Err k)) (sym bad.0) (unflushed u failed r kept bad.1)
+pub boxes-after_flush : {T : Type 0} {ends : Ends} {claims : Claims} {t : T} (u : Option (List ℕ)) (failed : Bool) (s : Result T Stop) → ReadsBoxes {T = T} ends claims (Ok t) → Keeps ends.written' u
+    → OnOk s ((ends.write_failed' ≡ false) × (failed ≡ false)) → IfErr s (λ e. (e ≡ Write) × (failed ≡ true)) → ReadsBoxes {T = T} (record ends { written' = u; write_failed' = failed }) claims s
+boxes-after_flush {T = T} {ends = ends} {claims = claims} u failed (Ok x) r kept good bad = boxes-flushed u failed r kept x (good.1 ∙ sym good.0)
+boxes-after_flush {T = T} {ends = ends} {claims = claims} u failed (Err e) r kept good bad = subst (λ k. ReadsBoxes {T = T} (record ends { written' = u; write_failed' = failed }) claims (Err k)) (sym bad.0) (boxes-unflushed u failed r kept bad.1)
 
 -- ---- a run that reads fragments
 

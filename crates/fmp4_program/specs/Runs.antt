@@ -2,14 +2,13 @@
 use Rattle.std.specs.Prelude.{◌≡◌, ◌⊎◌, ◌≤◌, ℕ, Bool, true, false, List, codes, Option, None, Some, OnOk, Result, Ok, Err}
 use Rattle.std.specs.Io.KnownBytes.{Appends, Keeps}
 use Rattle.mp4_ends.specs.Streams.{AppendsPrefix}
-use Rattle.mp4_reading.specs.Readings.{uncounted}
 use Rattle.mp4_reading.specs.Ends.{Ends}
-use Rattle.mp4_reading.specs.Runs.{Claims, Runs}
+use Rattle.mp4_reading.specs.Runs.{Claims}
 use Rattle.mp4_reading.specs.declared.stop.Stop.{Stop}
 use Rattle.mp4_reading.specs.declared.stop.Stop.TheVariants.{Stream, Read, Write, OverLimit, Memory}
 use Rattle.mp4_items.specs.declared.command.Command.TheVariants as commands
-use Rattle.mp4_stream.specs.Boxes.{reading}
 use Rattle.mp4_stream.specs.Fragments.{ReadsFragments}
+use Rattle.mp4_stream.specs.HeldBoxes.{ReadsBoxes}
 use Rattle.mp4_stream.specs.declared.run.Totals.{Totals}
 use Rattle.mp4_pieces.specs.declared.cut.Cut.{Cut}
 use Rattle.mp4_recut.specs.declared.plan.Plan.TheVariants as plans
@@ -61,7 +60,7 @@ pub record Delivers (settings : Settings) (seen : Seen) (brings : Claims → Res
   pub tells : TellsOf seen.told seen.told' seen.fault_failed answer
 
 abbrev pub ListsBoxes : Settings → Seen → Type 0
-ListsBoxes settings seen = Delivers settings seen (λ claims answer. Runs (reading 0) seen.ends claims uncounted answer)
+ListsBoxes settings seen = Delivers settings seen (λ claims answer. ReadsBoxes seen.ends claims answer)
 
 abbrev pub ListsSamples : Settings → Seen → Type 0
 ListsSamples settings seen = Delivers settings seen (λ claims answer. (totals : Totals) × ReadsFragments (plans.List commands.Samples) seen.ends claims totals answer)

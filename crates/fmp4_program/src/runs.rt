@@ -2,13 +2,11 @@
 
 ghost use Rattle.std.specs.Prelude.{◌≡◌, ◌≤◌, true, false, map, string_bytes, Result, IfErr, OnOk, OnErr};
 ghost use Rattle.mp4_reading.specs.Ends.{between, received, sent};
-ghost use Rattle.mp4_reading.specs.Readings.{uncounted};
-ghost use Rattle.mp4_reading.specs.Runs.{Runs};
 ghost use Rattle.mp4_items.specs.declared.command.Command.TheVariants as commands;
 ghost use Rattle.mp4_ends.specs.Streams.{AppendsPrefix};
 ghost use Rattle.std.specs.Io.KnownBytes.{Appends, Keeps};
-ghost use Rattle.mp4_stream.specs.Boxes.{reading};
 ghost use Rattle.mp4_stream.specs.Fragments.{ReadsFragments, unsent};
+ghost use Rattle.mp4_stream.specs.HeldBoxes.{ReadsBoxes};
 ghost use Rattle.mp4_recut.specs.declared.plan.Plan.TheVariants as plans;
 ghost use Rattle.fmp4_program.specs.Words.{MayCut, command_of};
 ghost use Rattle.fmp4_program.specs.Runs.{IsCutBy, Ran, SplitsBy, Tells, TellsOf, Writes, status_of};
@@ -84,11 +82,10 @@ fn list_boxes<R: Source, W: Sink>(
 ) -> Result<(), Stop>
     requires copy { (4096 ≤ copy) × (copy ≤ 1048576) }
     requires idle { ledger.old.live ≡ 0 }
-    ensures runs { Runs (reading 0) (between
+    ensures runs { ReadsBoxes (between
         (received R.remaining R.has_ended R.has_failed r.old r.new)
         (sent W.contents W.has_failed w.old w.new))
-        (record { copy = copy; limit = ledger.old.limit; peak = ledger.new.peak })
-        uncounted result }
+        (record { copy = copy; limit = ledger.old.limit; peak = ledger.new.peak }) result }
     ensures within { ledger.new.peak ≤ ledger.old.limit }
     ensures flushed { OnOk result (W.has_failed w.new ≡ false) }
 {

@@ -1,9 +1,11 @@
--- What the commands tell grows with the bytes, asks for nothing beside the items, and counts no more samples than these have.
-use Rattle.std.proofs.Common.{arith, refl}
-use Rattle.mp4_reading.specs.Readings.{silent}
+-- What the commands tell grows with the bytes, asks for nothing beside the items, and counts no more samples than these have; and one tells what the other does but for the text.
+use Rattle.std.proofs.Common.{ap, arith, refl, sym}
+use Rattle.mp4_reading.specs.Readings.{counts, silent}
+use Rattle.mp4_reading.proofs.ReadingAskLemmas.{plus-none}
 use Rattle.mp4_reading.proofs.ReadingGrowthLemmas.{TellsMore-silent}
 use Rattle.mp4_items.specs.Commands.{making}
-use Rattle.mp4_items.specs.Makings.{IsGrowing}
+use Rattle.mp4_items.specs.Makings.{IsGrowing, counted_in}
+use Rattle.mp4_items.specs.WithoutText.{IsWithoutText}
 use Rattle.mp4_items.specs.declared.command.Command.{Command}
 use Rattle.mp4_items.specs.declared.command.Command.TheVariants.{Samples, Check}
 use Rattle.mp4_items.proofs.ItemAskLemmas.{IsQuiet}
@@ -22,3 +24,14 @@ making-quiet Check = record { accepted = λ f. refl; media = λ f b. refl; passe
 pub making-once : (command : Command) → CountsSamplesOnce (making command)
 making-once Samples = record { accepted = λ f. omega arith; media = λ f b. refl; passed = λ kind b. refl }
 making-once Check = record { accepted = λ f. omega arith; media = λ f b. refl; passed = λ kind b. refl }
+
+-- a check makes of each stream what a listing of its samples makes of it, and tells no text
+pub check-without : IsWithoutText (making Samples) (making Check)
+check-without = record {
+  of_moov = λ x. refl;
+  passed = λ kind b. refl;
+  refuses = λ f. refl;
+  accepted = λ f. ap counts (sym (plus-none (counted_in f)));
+  media = λ f b. refl;
+  numbered = λ f. refl;
+}

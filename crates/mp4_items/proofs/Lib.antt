@@ -11,3 +11,4 @@ pub mod JoinLemmas
 pub mod RestLemmas
 pub mod SplitLemmas
 pub mod HeldSizeLemmas
+pub mod TextLemmas

@@ -8,3 +8,4 @@ pub mod Counts
 pub mod Joined
 pub mod Rests
 pub mod HeldSizes
+pub mod WithoutText

@@ -13,6 +13,7 @@ ghost use Rattle.mp4_items.specs.Joined.{AreSound, Item, behind_items, joined, t
 ghost use Rattle.mp4_items.specs.Kinds.{most_moof, most_moov};
 ghost use Rattle.mp4_items.specs.Makings.{Making};
 ghost use Rattle.mp4_items.specs.Rests.{IsRest, Split};
+ghost use Rattle.mp4_items.specs.WithoutText.{IsWithoutText, without_text};
 ghost use Rattle.mp4_items.specs.declared.command.Command.{Command};
 
 /// Each stream is whole items that break no rule, one after the other, and then one of the rests that `IsRest` names:
@@ -76,4 +77,11 @@ pub fn asks_within()
 pub fn samples_are_walked()
     ensures { (command : Command) (b : List ℕ) →
         (reading command b).told.tally.samples ≤ (reading command b).told.tally.walked }
+{}
+
+/// A command that makes of each stream what another makes of it, but tells no text, reads each stream as the other: with the
+/// same outcome, the same asks and the same counts.
+pub fn text_alone()
+    ensures { (make : Making) (silent : Making) (c : Context) (b : List ℕ) →
+        IsWithoutText make silent → reads_in silent c b ≡ without_text (reads_in make c b) }
 {}

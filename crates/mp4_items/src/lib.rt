@@ -9,8 +9,8 @@
 //! `specs/Contexts.antt` (what is known where an item begins) and `specs/Kinds.antt`; `specs/Makings.antt` (what a
 //! command makes of a fragment), `specs/Samples.antt` (the samples of a fragment and their lines), `specs/Commands.antt`
 //! (the commands). The laws speak of `specs/Joined.antt` (whole items one after the other), `specs/Rests.antt` (what may be
-//! left behind them), `specs/HeldSizes.antt` (how large the boxes are that are held) and `specs/Counts.antt` (what is counted
-//! before a box that asks for memory) too.
+//! left behind them), `specs/HeldSizes.antt` (how large the boxes are that are held), `specs/Counts.antt` (what is counted
+//! before a box that asks for memory) and `specs/WithoutText.antt` (what is told without its text) too.
 #![tactic(auto)]
 
 pub mod command;

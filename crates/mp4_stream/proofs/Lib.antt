@@ -6,7 +6,10 @@ pub mod HoldingLemmas
 pub mod ListingLemmas
 pub mod JoinLemmas
 pub mod RestLemmas
+pub mod ClaimLemmas
+pub mod HeldBoxLemmas
 pub mod FragmentLemmas
+pub mod CheckLemmas
 pub mod FeederLemmas
 pub mod PushLemmas
 pub mod EmptyLemmas

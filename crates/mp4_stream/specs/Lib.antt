@@ -3,6 +3,7 @@ pub mod Holding
 pub mod Boxes
 pub mod Joined
 pub mod Rests
+pub mod HeldBoxes
 pub mod Places
 pub mod Fragments
 pub mod Feeders

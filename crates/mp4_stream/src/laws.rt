@@ -1,10 +1,15 @@
 //! What the definitions of a stream's reading imply, in the terms of how headers are written (ISO/IEC 14496-12, 4.2).
 
-ghost use Rattle.std.specs.Prelude.{◌≡◌, ◌+◌, ◌≤◌, ◌++◌, ◌∷◌, List, ℕ, length, take};
+ghost use Rattle.std.specs.Prelude.{◌≡◌, ◌↔◌, ◌+◌, ◌≤◌, ◌++◌, ◌∷◌, [], List, ℕ, length, map, take};
 ghost use Rattle.mp4_box.specs.Headers.{IsBytes};
+ghost use Rattle.mp4_items.specs.WithoutText.{ask_without_text};
+ghost use Rattle.mp4_items.specs.declared.command.Command.TheVariants.{Check, Samples};
 ghost use Rattle.mp4_reading.specs.Bodies.{longest};
-ghost use Rattle.mp4_reading.specs.Readings.{Ask, GrowsTo, Reading, after};
+ghost use Rattle.mp4_reading.specs.Readings.{Ask, GrowsTo, Reading, after, most_of};
+ghost use Rattle.mp4_recut.specs.Plans.{reads_of};
+ghost use Rattle.mp4_recut.specs.declared.plan.Plan.TheVariants as plans;
 ghost use Rattle.mp4_stream.specs.Boxes.{listing, reading};
+ghost use Rattle.mp4_stream.specs.HeldBoxes.{HoldsAtMost};
 ghost use Rattle.mp4_stream.specs.Joined.{AreSound, Item, joined, told_from};
 ghost use Rattle.mp4_stream.specs.Rests.{IsRest, Split};
 
@@ -41,4 +46,25 @@ pub fn lines_before()
     ensures { (b : List ℕ) (before : List Ask) (a : Ask) (behind : List Ask) →
         (reading 0 b).told.asks ≡ before ++ a ∷ behind →
         take a.behind (listing b) ≡ listing (take a.at b) }
+{}
+
+/// The most that a stream asks for is the size of its largest moov or moof that is held. Before such a box stand whole boxes that
+/// break no rule; its header is good, and states no more than it may have.
+pub fn asks_are_held_boxes()
+    ensures { (b : List ℕ) (most : ℕ) → IsBytes b →
+        (most_of (reading 0 b).told ≤ most) ↔ HoldsAtMost 0 b most }
+{}
+
+/// `check` answers as `samples` does, whatever the stream: it finds the same fault or none, and counts and claims the same. It
+/// tells no text.
+pub fn check_is_samples_without_text()
+    ensures outcome { (b : List ℕ) →
+        (reads_of (plans.List Check) b).outcome ≡ (reads_of (plans.List Samples) b).outcome }
+    ensures tally { (b : List ℕ) →
+        (reads_of (plans.List Check) b).told.tally ≡ (reads_of (plans.List Samples) b).told.tally }
+    ensures asks { (b : List ℕ) → (reads_of (plans.List Check) b).told.asks ≡
+        map ask_without_text (reads_of (plans.List Samples) b).told.asks }
+    ensures most { (b : List ℕ) → most_of (reads_of (plans.List Check) b).told ≡
+        most_of (reads_of (plans.List Samples) b).told }
+    ensures text { (b : List ℕ) → (reads_of (plans.List Check) b).told.text ≡ [] }
 {}

@@ -12,10 +12,11 @@
 //!
 //! The definitions: `specs/Boxes.antt` (what the bytes of a stream are read as) with `specs/Holding.antt` (the boxes that
 //! are held) and `specs/Listing.antt` (the lines), `specs/Joined.antt` (whole boxes one after the other, of which the
-//! laws speak) with `specs/Rests.antt` (what is left behind them), `specs/Places.antt` (where the machine is in a stream,
-//! and what that means), `specs/Fragments.antt` (what a run brings that reads fragments), `specs/Feeders.antt` (what a Feeder is
-//! behind the bytes that it was fed, and what a call of it brings) with `specs/Pushes.antt` (what pieces bring, one after
-//! the other). What a run answers, writes and claims is said by `mp4_reading`, in `specs/Runs.antt`.
+//! laws speak) with `specs/Rests.antt` (what is left behind them) and `specs/HeldBoxes.antt` (how large those are that are
+//! held, and what a run claims by them), `specs/Places.antt` (where the machine is in a stream, and what that means),
+//! `specs/Fragments.antt` (what a run brings that reads fragments), `specs/Feeders.antt` (what a Feeder is behind the bytes
+//! that it was fed, and what a call of it brings) with `specs/Pushes.antt` (what pieces bring, one after the other). What a
+//! run answers, writes and claims is said by `mp4_reading`, in `specs/Runs.antt`.
 #![tactic(auto)]
 
 pub mod feeder;

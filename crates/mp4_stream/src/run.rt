@@ -1,10 +1,9 @@
 //! A run over a whole stream.
 
-ghost use Rattle.std.specs.Prelude.{◌≡◌, ◌+◌, ◌<◌, ◌≤◌, [], length};
+ghost use Rattle.std.specs.Prelude.{◌≡◌, ◌+◌, ◌<◌, ◌≤◌, [], length, IsErrOf};
+ghost use Rattle.mp4_items.specs.Kinds.{most_moof};
 ghost use Rattle.mp4_reading.specs.Ends.{between, received, sent};
-ghost use Rattle.mp4_reading.specs.Readings.{uncounted};
-ghost use Rattle.mp4_reading.specs.Runs.{Runs};
-ghost use Rattle.mp4_stream.specs.Boxes.{reading};
+ghost use Rattle.mp4_stream.specs.HeldBoxes.{ReadsBoxes};
 
 use crate::machine::BoxMachine;
 use mp4_ends::{Sink, Source};
@@ -63,15 +62,17 @@ pub fn boxes<R: Source, W: Sink>(
     requires copy { (4096 ≤ copy) × (copy ≤ 1048576) }
     requires idle { ledger.old.live ≡ 0 }
 
-    // Of the bytes that were read: the answer, what was written, and the most that was claimed at once.
-    ensures runs { Runs (reading 0) (between
+    // Of the bytes that were read: the answer, what was written, the most that was claimed at once, and that by the largest of
+    // their boxes.
+    ensures runs { ReadsBoxes (between
         (received R.remaining R.has_ended R.has_failed r.old r.new)
         (sent W.contents W.has_failed w.old w.new))
-        (record { copy = copy; limit = ledger.old.limit; peak = ledger.new.peak })
-        uncounted result }
+        (record { copy = copy; limit = ledger.old.limit; peak = ledger.new.peak }) result }
 
     // No more was claimed at once than may be, and all was given back.
     ensures within { ledger.new.peak ≤ ledger.old.limit }
+    ensures bound { ledger.new.peak ≤ copy + most_moof }
+    ensures enough { copy + most_moof ≤ ledger.old.limit → IsErrOf result Stop.OverLimit → ⊥ }
     ensures back { (ledger.new.live ≡ 0) × (ledger.new.limit ≡ ledger.old.limit) }
     ensures totals { totals.new ≡ record
         { fragments = 0; samples = 0; media_bytes = 0; rows_read = 0; peak = ledger.new.peak } }

@@ -1,0 +1,17 @@
+use Rattle.mp4_stream.proofs.CheckLemmas.{check-asks, check-most, check-outcome, check-tally, check-text}
+use Rattle.mp4_stream.proofs.laws.check_is_samples_without_text.Goals as goal
+
+pub returns-clause-outcome : goal.returns-clause-outcome
+returns-clause-outcome c b = check-outcome b
+
+pub returns-clause-tally : goal.returns-clause-tally
+returns-clause-tally c b = check-tally b
+
+pub returns-clause-asks : goal.returns-clause-asks
+returns-clause-asks c b = check-asks b
+
+pub returns-clause-most : goal.returns-clause-most
+returns-clause-most c b = check-most b
+
+pub returns-clause-text : goal.returns-clause-text
+returns-clause-text c b = check-text b
