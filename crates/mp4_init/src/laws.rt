@@ -1,13 +1,17 @@
 //! What the definitions of a moov's rules and tracks imply.
 
-ghost use Rattle.std.specs.Prelude.{◌≡◌, ◌*◌, ◌≤◌, ℕ, List, [], length, Some, None};
+ghost use Rattle.std.specs.Prelude.{◌≡◌, ◌*◌, ◌≤◌, ℕ, true, List, [], length, slice_get, Some, None};
 ghost use Rattle.std.specs.List.{AllByRecursion};
+ghost use Rattle.std.specs.List.Sorted.{IsSorted};
+ghost use Rattle.std.specs.Option.{is_some};
+ghost use Rattle.std.specs.Ordering.{nat_cmp};
 ghost use Rattle.mp4_box.specs.Headers.{IsBytes};
 ghost use Rattle.mp4_box.specs.Paths.{of_kind};
 ghost use Rattle.mp4_box.specs.Trees.{Box, box_at, children};
 ghost use Rattle.mp4_init.specs.TrackFields.{FitsTrackFields};
 ghost use Rattle.mp4_init.specs.Moovs.{moov_fault, moov_faults, moov_tracks};
 ghost use Rattle.mp4_init.specs.Kinds.{trak};
+ghost use Rattle.mp4_init.specs.OrderedIds.{sought};
 ghost use Rattle.mp4_init.specs.Rules.{trexes_of};
 ghost use Rattle.mp4_init.specs.Tracks.{id_of};
 
@@ -38,4 +42,11 @@ pub fn tracks_fit_their_fields()
 pub fn moovs_are_good_anywhere()
     ensures good { (o to : ℕ) (x : List ℕ) → moov_fault o x ≡ None → moov_fault to x ≡ None }
     ensures tracks { (o to : ℕ) (x : List ℕ) → moov_tracks to x ≡ moov_tracks o x }
+{}
+
+/// A track_ID that stands among at most 65,536 in order is found, and found nowhere else: what stands at its place is it.
+pub fn ids_in_order_are_found()
+    ensures found { (ids : List ℕ) (id k : ℕ) → IsSorted nat_cmp ids → length ids ≤ 65536 →
+        slice_get ids k ≡ Some id → is_some (sought ids id) ≡ true }
+    ensures stands { (ids : List ℕ) (id k : ℕ) → sought ids id ≡ Some k → slice_get ids k ≡ Some id }
 {}
