@@ -1,5 +1,5 @@
 -- What a run claims and counts that reads fragments.
-use Rattle.std.proofs.Common.{◌≡◌, ℕ, ◌+◌, ◌*◌, ◌≤◌, Result, refl}
+use Rattle.std.proofs.Common.{◌≡◌, ◌+◌, ◌*◌, ◌≤◌, Result, refl}
 use Rattle.std.specs.Prelude.{IsErrOf}
 use Rattle.mp4_items.specs.Kinds.{most_moof, most_moov}
 use Rattle.mp4_items.proofs.BoundLemmas.{asks-bound}

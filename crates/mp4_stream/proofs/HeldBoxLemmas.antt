@@ -3,7 +3,7 @@ use Rattle.std.proofs.Common.{◌≡◌, ◌∙◌, ◌↔◌, ℕ, ◌+◌, ◌
 use Rattle.std.specs.Prelude.{IsErrOf, codes, if◌then◌else◌}
 use Rattle.std.specs.Option.{unwrap_or}
 use Rattle.std.specs.Str.{bytes_eq}
-use Rattle.mp4_box.specs.Headers.{Headed, IsBox, IsBytes}
+use Rattle.mp4_box.specs.Headers.{IsBox, IsBytes}
 use Rattle.mp4_items.specs.Kinds.{most_moof}
 use Rattle.mp4_reading.specs.Bodies.{longest}
 use Rattle.mp4_reading.specs.Ends.{Ends}
