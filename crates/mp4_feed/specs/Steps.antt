@@ -1,5 +1,5 @@
 -- What a step of a machine brings, by its result.
-use Rattle.std.specs.Prelude.{◌≡◌, ℕ, ◌<◌, ◌≤◌, List, [], ◌++◌, length, take, Bool, true, Option, Result, Ok, Err}
+use Rattle.std.specs.Prelude.{◌≡◌, ℕ, ◌+◌, ◌<◌, ◌≤◌, List, [], ◌++◌, length, take, Bool, true, Option, Result, Ok, Err}
 use Rattle.mp4_box.specs.Headers.{header_at, need}
 use Rattle.mp4_box.specs.declared.headers.Header.{Header}
 use Rattle.mp4_box.specs.declared.headers.Step.TheVariants as steps
@@ -118,3 +118,8 @@ Advances l old new from (Err e) = StopsIn l old new (at_state old from) [] e
 abbrev pub Consumes : Lent → (old new : Kept) → State → List ℕ → Result Taken Stop → Type 0
 Consumes l old new from piece (Ok t) = (0 < t.count) × (t.count ≤ length piece) × GoesTo l old new (at_state old from) (take t.count piece) t.state
 Consumes l old new from piece (Err e) = StopsIn l old new (at_state old from) piece e
+
+-- one that takes a fragment from the front of a piece that has all of it, where the header of its moof was to come: how many bytes it has
+abbrev pub TakesWhole : Lent → (old new : Kept) → ℕ → List ℕ → Result ℕ Stop → Type 0
+TakesWhole l old new at piece (Ok n) = (0 < n) × (n ≤ length piece) × GoesTo l old new (at_state old (states.Header at)) (take n piece) (states.Header (at + n))
+TakesWhole l old new at piece (Err e) = StopsIn l old new (at_state old (states.Header at)) piece e
