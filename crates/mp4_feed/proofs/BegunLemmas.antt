@@ -1,5 +1,5 @@
 -- Where a machine keeps the media of a fragment that was begun.
-use Rattle.std.proofs.Common.{◌≡◌, ◌∙◌, ℕ, ◌+◌, ◌-◌, ◌*◌, ◌≤◌, List, [], length, Some, ap, sym, arith, subst}
+use Rattle.std.proofs.Common.{◌≡◌, ◌∙◌, ℕ, ◌+◌, ◌-◌, ◌*◌, ◌≤◌, List, [], length, Option, Some, ap, sym, arith, subst}
 use Rattle.mp4_box.specs.declared.headers.Header.{Header}
 use Rattle.mp4_box.specs.declared.headers.Size.{Size}
 use Rattle.mp4_box.specs.declared.headers.Size.TheVariants.{Exact, ToEnd}
@@ -8,7 +8,7 @@ use Rattle.mp4_frag.specs.Moofs.{moof_trafs}
 use Rattle.mp4_frag.specs.Settling.{settled}
 use Rattle.mp4_pieces.specs.declared.cut.Cut.{Cut}
 use Rattle.mp4_reading.specs.Bodies.{longest}
-use Rattle.mp4_reading.specs.Pieces.{GoesOn, Moves, Outside}
+use Rattle.mp4_reading.specs.Pieces.{GoesOn, Moves, Outside, Standing}
 use Rattle.mp4_reading.specs.Readings.{silent}
 use Rattle.mp4_reading.proofs.PieceLemmas.{GoesOn-none}
 use Rattle.mp4_items.specs.Contexts.{context}
@@ -20,7 +20,7 @@ use Rattle.mp4_recut.specs.declared.media.Media.{Media}
 use Rattle.mp4_feed.specs.Places.{InBody, InHeader, InOpenBody, Place, standing}
 use Rattle.mp4_feed.proofs.RecutLemmas.{GoesOn-recut_over}
 use Rattle.mp4_feed.specs.Recuts.{in_media, recut_fragment}
-use Rattle.mp4_feed.specs.States.{claimed_in, moof_in, place_of}
+use Rattle.mp4_feed.specs.States.{claimed_in, known, moof_in, place_of}
 use Rattle.mp4_feed.specs.declared.state.State.TheVariants as states
 use Rattle.mp4_feed.specs.declared.state.Waiting.{Waiting}
 
@@ -38,6 +38,12 @@ module _ (cut : Cut) (w : Waiting) (tracks : List Track) (number n : ℕ) (m : M
   -- where its media are begun
   abbrev pub begun_at : Size → Place
   begun_at size = in_media cut (recut_fragment w tracks number h) (spot_of cut (moof_in w) tracks (at + h.header_len) n m) at h own size
+
+  -- so it is by the tracks that are known
+  pub begun_known : (ts : Option (List Track)) (o o' : Outside) (q : Standing) → ts ≡ Some tracks → GoesOn o o' (standing (splitting cut) (begun_at h.size)) [] q
+      → GoesOn o o' (standing (splitting cut) (in_media cut (recut_fragment w (known ts) number h) (spot_of cut (moof_in w) (known ts) (at + h.header_len) n m) at h (claimed_in ts (Some w)) h.size)) [] q
+  begun_known ts o o' q e =
+      subst (λ t. GoesOn o o' (standing (splitting cut) (in_media cut (recut_fragment w (known t) number h) (spot_of cut (moof_in w) (known t) (at + h.header_len) n m) at h (claimed_in t (Some w)) h.size)) [] q) (sym e)
 
   -- in an mdat that states its size
   pub media_begins : (s : ℕ) (size : Size) → size ≡ Exact s → h.header_len ≤ s → n + length (parts_left cut (moof_in w) tracks n m.behind) ≡ (splitting cut).numbered (recut_fragment w tracks number h)

@@ -54,7 +54,7 @@ use Rattle.mp4_feed.specs.States.{IsCounted, cut_least, cut_most, cut_reads}
 use Rattle.mp4_feed.specs.declared.state.Counter.{Counter}
 use Rattle.mp4_recut.specs.declared.plan.Plan.TheVariants as plans
 use Rattle.mp4_feed.specs.Wholes.{IsFragment, media_in, media_start, payload_in}
-use Rattle.mp4_feed.specs.declared.whole.Boxes.{Boxes}
+use Rattle.mp4_feed.specs.declared.whole_fragment.Boxes.{Boxes}
 use Rattle.mp4_reading.specs.Accounts.{Counts}
 use Rattle.mp4_feed.proofs.SecondLemmas.{second-accepted}
 use Rattle.mp4_feed.proofs.BodyLemmas.{Moves-settled, back_twice}

@@ -1,24 +1,20 @@
 //! Media that are recut as they come, of an mdat to the end of the stream.
 
 ghost use Rattle.std.specs.Prelude.{◌≡◌, ℕ, ◌+◌, ◌-◌, ◌<◌, ◌≤◌, ◌^◌, [], ◌++◌, List, length, take, true, Some, IfOk, OnOk, OnErr};
-ghost use Rattle.mp4_frag.specs.Moofs.{moof_samples};
 ghost use Rattle.mp4_ledger.specs.Memory.{Account, given_back};
 ghost use Rattle.mp4_reading.specs.Bodies.{longest};
-ghost use Rattle.mp4_reading.specs.Ends.{sent};
-ghost use Rattle.mp4_reading.specs.Pieces.{GoesOn, Loses, Takes, around, outside};
-ghost use Rattle.mp4_items.specs.Contexts.{table_of};
+ghost use Rattle.mp4_reading.specs.Pieces.{GoesOn, Loses, outside};
 ghost use Rattle.mp4_items.specs.Makings.{Making};
 ghost use Rattle.mp4_recut.specs.Cursors.{AreCut, MayBeAt, parts_left};
 ghost use Rattle.mp4_recut.specs.Media.{playing, spot_of};
-ghost use Rattle.mp4_recut.specs.declared.plan.Plan.TheVariants as plans;
-ghost use Rattle.mp4_feed.specs.Places.{InOpenBody, reads_at, standing, when_stopped};
+ghost use Rattle.mp4_feed.specs.Places.{InOpenBody, reads_at, standing};
 ghost use Rattle.mp4_feed.specs.Recuts.{with_fragments};
-ghost use Rattle.mp4_feed.specs.States.{HasCounted, HasStopped, IsCounted, IsState, IsWaiting, claim_by, claimed_in, moof_in, most_counted, place_of};
+ghost use Rattle.mp4_feed.specs.States.{IsState, IsWaiting, moof_in};
+ghost use Rattle.mp4_feed.specs.Steps.{CanStep, Consumes, lent};
 ghost use Rattle.mp4_feed.specs.declared.state.State.TheVariants as states;
 
-use crate::bodies::back;
-use crate::state::{Counter, OpenBody, OpenRecutting, State, Waiting};
-use crate::take::Taken;
+use crate::body::back;
+use crate::state::{Kept, OpenBody, OpenRecutting, State, Taken, Waiting};
 use mp4_box::Rule;
 use mp4_cut::Cut;
 use mp4_ends::{Failed, Sink};
@@ -121,36 +117,18 @@ pub(crate) fn take_open_media<W: Sink>(
 pub(crate) fn take_open_split<W: Sink>(
     recutting: OpenRecutting,
     piece: &[u8],
-    tracks: &Option<TrackList>,
+    kept: &mut Kept,
     ledger: &mut Ledger,
-    counter: &mut Counter,
     out: &mut Block,
     w: &mut W,
 ) -> Result<Taken, Stop>
     requires some { 0 < length piece.now }
-    requires state { IsState tracks.now [] (states.OpenMedia recutting) }
-    requires claim { claimed_in tracks.now (Some recutting.waiting) ≤ ledger.old.live }
-    requires number { recutting.number ≡ counter.old.tally.fragments + 1 }
-    requires counted { IsCounted (plans.Split recutting.cut) counter.old most_counted 0
-        (moof_samples (moof_in recutting.waiting)) }
-    ensures takes { (make : Making) →
-        Takes (around (sent W.contents W.has_failed w.old w.new) out.old out.new
-        ledger.old (when_stopped result (table_of tracks.now) ledger.new)
-        counter.old.tally counter.new.tally)
-        (standing make (place_of (counter.old.tally.fragments + 1) tracks.now []
-        (states.OpenMedia recutting)))
-        piece.now (λ t. take t.count piece.now)
-        (λ t. standing make (place_of (counter.new.tally.fragments + 1) tracks.now [] t.state))
-        result }
-    ensures taken { IfOk result (λ t. (0 < t.count) × (t.count ≤ length piece.now)) }
-    ensures left { OnErr result (table_of tracks.now ≤ ledger.new.live) }
-    ensures state { IfOk result (λ t. IsState tracks.now [] t.state) }
-    ensures claim { IfOk result (λ t. claim_by tracks.now [] t.state ≤ ledger.new.live) }
-    ensures counted { IfOk result (λ t.
-        HasCounted (plans.Split recutting.cut) t.state counter.new) }
-    ensures spent { OnErr result (HasStopped (plans.Split recutting.cut) counter.new) }
+    requires state { IsState kept.old.tracks kept.old.head (states.OpenMedia recutting) }
+    requires can { CanStep kept.old ledger.old (states.OpenMedia recutting) }
+    ensures { Consumes (lent W.contents W.has_failed w.old w.new out.old out.new ledger.old ledger.new)
+        kept.old kept.new (states.OpenMedia recutting) piece.now result }
 {
-    let Some(list) = tracks else {
+    let Some(list) = &kept.tracks else {
         unreachable!();
     };
     let OpenRecutting {
@@ -164,10 +142,10 @@ pub(crate) fn take_open_split<W: Sink>(
         back(Some(waiting), ledger);
         return Err(refused(Rule::StreamTooLong, Some(body.kind), body.at));
     }
-    let tally = &mut counter.tally;
+    let tally = &mut kept.counter.tally;
     match take_open_media(body, media, &waiting, piece, list, &cut, tally, out, w) {
         Ok(taken) => {
-            let number = counter.tally.fragments + 1;
+            let number = kept.counter.tally.fragments + 1;
             let body = OpenBody {
                 at: body.at,
                 kind: body.kind,

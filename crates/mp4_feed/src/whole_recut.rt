@@ -1,21 +1,18 @@
 //! A fragment of which a piece has all, with one run, that is recut: its fragments are put where it lies.
 
-ghost use Rattle.std.specs.Prelude.{◌≡◌, ◌+◌, ◌*◌, ◌-◌, ◌<◌, ◌≤◌, ◌≤ℤ◌, ◌^◌, ℕ, [], ◌++◌, pos, false, length, take, None, Some, true, IfOk, OnOk, OnErr};
+ghost use Rattle.std.specs.Prelude.{◌≡◌, ◌+◌, ◌*◌, ◌-◌, ◌<◌, ◌≤◌, ◌≤ℤ◌, ◌^◌, ℕ, [], ◌++◌, pos, false, length, None, Some, OnOk};
 ghost use Rattle.mp4_frag.specs.Runs.{end_place};
 ghost use Rattle.mp4_pieces.specs.Pieces.{IsRunOf, pieces_of};
-ghost use Rattle.mp4_reading.specs.Bodies.{longest};
-ghost use Rattle.mp4_reading.specs.Ends.{sent};
-ghost use Rattle.mp4_reading.specs.Pieces.{Takes, around};
-ghost use Rattle.mp4_items.specs.Contexts.{context, table_of};
 ghost use Rattle.mp4_recut.specs.Media.{PutsAll};
-ghost use Rattle.mp4_recut.specs.Splitting.{run_parts, splitting};
+ghost use Rattle.mp4_recut.specs.Splitting.{run_parts};
 ghost use Rattle.mp4_recut.specs.declared.plan.Plan.TheVariants as plans;
-ghost use Rattle.mp4_feed.specs.Places.{InHeader, standing, when_stopped};
-ghost use Rattle.mp4_feed.specs.States.{HasStopped, IsCounted, known};
+ghost use Rattle.mp4_feed.specs.States.{IsCounted, known};
+ghost use Rattle.mp4_feed.specs.Steps.{CanStep, TakesWhole, lent};
 ghost use Rattle.mp4_feed.specs.Wholes.{AreBoxes, IsFragment, media_in, media_start};
+ghost use Rattle.mp4_feed.specs.declared.state.State.TheVariants as states;
 
-use crate::state::Counter;
-use crate::whole::{Boxes, ROW, Whole};
+use crate::state::{Counter, Kept};
+use crate::whole_fragment::{Boxes, ROW, Whole};
 use mp4_cut::Cut;
 use mp4_ends::{Failed, Sink};
 use mp4_init::TrackList;
@@ -102,36 +99,23 @@ pub(crate) fn recut_fragment<W: Sink>(
     at: u64,
     whole: &Whole<'_>,
     piece: &[u8],
-    tracks: &mut Option<TrackList>,
+    kept: &mut Kept,
     ledger: &mut Ledger,
-    counter: &mut Counter,
     out: &mut Block,
     w: &mut W,
 ) -> Result<u64, Stop>
-    requires known { tracks.old ≡ Some (known tracks.old) }
-    requires is { IsFragment at (known tracks.old) piece.now whole.now.boxes whole.now.run.now }
+    requires known { kept.old.tracks ≡ Some (known kept.old.tracks) }
+    requires is { IsFragment at (known kept.old.tracks) piece.now whole.now.boxes whole.now.run.now }
     requires plain { cut.now.index ≡ false }
-    requires numbers { counter.old.tally.fragments + 1 + whole.now.run.now.run.count ≤ 2 ^ 32 }
+    requires numbers { kept.old.counter.tally.fragments + 1 + whole.now.run.now.run.count ≤ 2 ^ 32 }
     requires room { ledger.old.live + (length whole.now.boxes.moof.now + 64) ≤ ledger.old.limit }
-    requires claim { table_of tracks.old ≤ ledger.old.live }
-    requires counted { IsCounted (plans.Split cut.now) counter.old at 0 0 }
-    ensures takes { Takes (around (sent W.contents W.has_failed w.old w.new) out.old out.new
-        ledger.old (when_stopped result (table_of tracks.old) ledger.new)
-        counter.old.tally counter.new.tally)
-        (standing (splitting cut.now)
-        (InHeader (context at tracks.old (counter.old.tally.fragments + 1)) []))
-        piece.now (λ n. take n piece.now)
-        (λ n. standing (splitting cut.now)
-        (InHeader (context (at + n) tracks.new (counter.new.tally.fragments + 1)) [])) result }
-    ensures taken { IfOk result (λ n. (0 < n) × (n ≤ length piece.now)) }
-    ensures near { IfOk result (λ n. at + n ≤ longest) }
-    ensures kept { OnErr result (tracks.new ≡ tracks.old) }
-    ensures left { OnErr result (table_of tracks.old ≤ ledger.new.live) }
-    ensures claim { OnOk result (table_of tracks.new ≤ ledger.new.live) }
-    ensures counted { IfOk result (λ n. IsCounted (plans.Split cut.now) counter.new (at + n) 0 0) }
-    ensures spent { OnErr result (HasStopped (plans.Split cut.now) counter.new) }
+    requires empty { kept.old.head ≡ [] }
+    requires plan { kept.old.plan ≡ plans.Split cut.now }
+    requires can { CanStep kept.old ledger.old (states.Header at) }
+    ensures { TakesWhole (lent W.contents W.has_failed w.old w.new out.old out.new ledger.old ledger.new)
+        kept.old kept.new at piece.now result }
 {
-    let Some(list) = tracks else {
+    let Some(list) = &mut kept.tracks else {
         unreachable!();
     };
     let held = whole.boxes.moof.len() as u64;
@@ -139,7 +123,7 @@ pub(crate) fn recut_fragment<W: Sink>(
         Ok(()) => {}
         Err(_) => unreachable!(),
     }
-    match recut_whole(cut, at, whole, piece, list, counter, out, w) {
+    match recut_whole(cut, at, whole, piece, list, &mut kept.counter, out, w) {
         Ok(()) => {}
         Err(Failed) => return Err(Stop::Write),
     }
