@@ -1,19 +1,19 @@
 //! What is taken next of a fragment that was begun, whose media are recut.
 
-ghost use Rattle.std.specs.Prelude.{◌≡◌, ℕ, ◌+◌, ◌≤◌, ◌^◌, [], length, Some};
+ghost use Rattle.std.specs.Prelude.{◌≡◌, ℕ, ◌+◌, ◌≤◌, [], length, Some};
 ghost use Rattle.mp4_box.specs.Headers.{HasRoom, header_at, need};
 ghost use Rattle.mp4_box.specs.declared.headers.Step.TheVariants as steps;
 ghost use Rattle.mp4_frag.specs.Moofs.{moof_samples};
 ghost use Rattle.mp4_items.specs.Items.{end_of};
 ghost use Rattle.mp4_items.specs.Makings.{needed_in};
 ghost use Rattle.mp4_reading.specs.Bodies.{least_end, longest};
-ghost use Rattle.mp4_recut.specs.Cursors.{AreCut, MayBeAt, parts_left};
+ghost use Rattle.mp4_recut.specs.Cursors.{parts_left};
 ghost use Rattle.mp4_recut.specs.Media.{Rises, spot_of};
 ghost use Rattle.mp4_recut.specs.Splitting.{splitting};
 ghost use Rattle.mp4_recut.specs.declared.plan.Plan.TheVariants as plans;
 ghost use Rattle.mp4_feed.specs.Places.{Unlent};
 ghost use Rattle.mp4_feed.specs.Recuts.{in_media, recut_fragment};
-ghost use Rattle.mp4_feed.specs.States.{IsCounted, IsWaiting, bound_behind, claimed_in, known, moof_in};
+ghost use Rattle.mp4_feed.specs.States.{AreMediaOf, IsCounted, IsWaiting, bound_behind, claimed_in, known, moof_in};
 ghost use Rattle.mp4_feed.specs.Steps.{Advances, CanStep, GoesTo, lent, lent_ledger, with_head};
 ghost use Rattle.mp4_feed.specs.declared.state.State.TheVariants as states;
 
@@ -40,17 +40,12 @@ fn enter_split(
     requires at { at ≡ split.waiting.moof.at + length split.waiting.moof.bytes }
     requires plan { kept.old.plan ≡ plans.Split cut }
     requires empty { kept.old.head ≡ [] }
-    requires waiting { IsWaiting kept.old.tracks split.waiting }
-    requires cut { AreCut cut (moof_in split.waiting) (known kept.old.tracks) }
-    requires media { MayBeAt cut (moof_in split.waiting) (known kept.old.tracks) split.media.behind }
-    requires settled { split.media.gap.left ≡ 0 → parts_left cut (moof_in split.waiting)
-        (known kept.old.tracks) (kept.old.counter.tally.fragments + 1) split.media.behind ≡ [] }
+    requires known { kept.old.tracks ≡ Some (known kept.old.tracks) }
+    requires media { AreMediaOf cut (known kept.old.tracks) split.waiting
+        (kept.old.counter.tally.fragments + 1) split.media }
     requires rises { (end : ℕ) → end_of at header.now.size ≡ Some end → Rises end (spot_of cut
         (moof_in split.waiting) (known kept.old.tracks) (at + header.now.header_len)
         (kept.old.counter.tally.fragments + 1) split.media) }
-    requires bound { kept.old.counter.tally.fragments + 1 + length (parts_left cut
-        (moof_in split.waiting) (known kept.old.tracks) (kept.old.counter.tally.fragments + 1)
-        split.media.behind) ≤ 2 ^ 32 }
     requires claim { claimed_in kept.old.tracks (Some split.waiting) ≤ ledger.old.live }
     requires counted { IsCounted (plans.Split cut) kept.old.counter (bound_behind at header.now.size)
         0 (moof_samples (moof_in split.waiting)) }

@@ -5,11 +5,11 @@ ghost use Rattle.mp4_ledger.specs.Memory.{Account, given_back};
 ghost use Rattle.mp4_reading.specs.Bodies.{longest};
 ghost use Rattle.mp4_reading.specs.Pieces.{GoesOn, Loses, outside};
 ghost use Rattle.mp4_items.specs.Makings.{Making};
-ghost use Rattle.mp4_recut.specs.Cursors.{AreCut, MayBeAt, parts_left};
+ghost use Rattle.mp4_recut.specs.Cursors.{parts_left};
 ghost use Rattle.mp4_recut.specs.Media.{playing, spot_of};
 ghost use Rattle.mp4_feed.specs.Places.{InOpenBody, reads_at, standing};
 ghost use Rattle.mp4_feed.specs.Recuts.{with_fragments};
-ghost use Rattle.mp4_feed.specs.States.{IsState, IsWaiting, moof_in};
+ghost use Rattle.mp4_feed.specs.States.{AreMediaOf, IsState, moof_in};
 ghost use Rattle.mp4_feed.specs.Steps.{CanStep, Consumes, lent};
 ghost use Rattle.mp4_feed.specs.declared.state.State.TheVariants as states;
 
@@ -51,13 +51,7 @@ pub(crate) fn take_open_media<W: Sink>(
 ) -> Result<OpenMediaTaken, Failed>
     requires some { 0 < length piece.now }
     requires body { (0 < body.left) × (body.left ≤ longest) }
-    requires waiting { IsWaiting (Some tracks.now) waiting.now }
-    requires cut { AreCut cut.now (moof_in waiting.now) tracks.now }
-    requires at { MayBeAt cut.now (moof_in waiting.now) tracks.now media.behind }
-    requires settled { media.gap.left ≡ 0 → parts_left cut.now (moof_in waiting.now) tracks.now
-        (tally.old.fragments + 1) media.behind ≡ [] }
-    requires numbers { tally.old.fragments + 1 + length (parts_left cut.now
-        (moof_in waiting.now) tracks.now (tally.old.fragments + 1) media.behind) ≤ 2 ^ 32 }
+    requires media { AreMediaOf cut.now tracks.now waiting.now (tally.old.fragments + 1) media }
     ensures taken { IfOk result (λ t. (0 < t.count) × (t.count ≤ length piece.now) ×
         (t.left + t.count ≡ body.left)) }
     ensures goes { IfOk result (λ t. (make : Making) (own : ℕ) (account : Account) →
@@ -69,10 +63,8 @@ pub(crate) fn take_open_media<W: Sink>(
         (standing make (InOpenBody (playing (spot_of cut.now (moof_in waiting.now) tracks.now
         (longest - t.left) (tally.new.fragments + 1) t.media)) body.at body.kind t.needed
         t.left own))) }
-    ensures at { IfOk result (λ t.
-        MayBeAt cut.now (moof_in waiting.now) tracks.now t.media.behind) }
-    ensures settled { IfOk result (λ t. t.media.gap.left ≡ 0 → parts_left cut.now
-        (moof_in waiting.now) tracks.now (tally.new.fragments + 1) t.media.behind ≡ []) }
+    ensures media { IfOk result (λ t. AreMediaOf cut.now tracks.now waiting.now
+        (tally.new.fragments + 1) t.media) }
     ensures numbers { IfOk result (λ t. tally.new.fragments + length (parts_left cut.now
         (moof_in waiting.now) tracks.now (tally.new.fragments + 1) t.media.behind) ≡
         tally.old.fragments + length (parts_left cut.now (moof_in waiting.now) tracks.now

@@ -28,19 +28,19 @@ returns-then-body-eq0 c = λ number u needed numbers.
     let ps = parts_left cut (moof_in w) list n m.behind in
     let o = outside u.written u.waiting c.args.ledger.now kept.counter.tally in
     let ends = settled list (moof_trafs (moof_in w) list) in
-    let quiet = rw c.in-Some.is at c.requires.settled in
+    let media = rw c.in-Some.is at c.requires.media in
     let low = rw c.in-Some.is at c.requires.claim in
     let near = rw c.in-Exact.is at c.requires.near in
     let counted = rw c.in-Exact.is at c.requires.counted in
     let rises = (rw (c.in-Some.is, c.in-Exact.is) at c.requires.rises) (at + size) refl in
     let short : size ≤ h.header_len = omega (arith, c.if-body-eq0.true) in
-    let none : ps ≡ [] = quiet (rises-over (at + h.header_len) (at + size) m.gap.place m.gap.left ps rises (omega (arith, short))) in
+    let none : ps ≡ [] = media.settled (rises-over (at + h.header_len) (at + size) m.gap.place m.gap.left ps rises (omega (arith, short))) in
     let many = rw c.in-Some.is at numbers in
     let ended = c.end_fragment.ensures in
     let table : 64 * length ends ≡ 64 * length list = ap (λ l. 64 * length l) (sym ended.tracks) ∙ ap (λ k. 64 * k) ended.len in
     rw (c.in-Some.is, c.requires.plan, c.requires.empty, ended.tracks, ended.back) (record {
       goes = rw ended.tally
-          (begun_known cut w list number n m at h kept.tracks o _ _ c.in-Some.is (media_over cut w list number n m at h size h.size ends o _ c.in-Exact.is short (sym many ∙ omega (arith, ap length none)) refl quiet
+          (begun_known cut w list number n m at h kept.tracks o _ _ c.in-Some.is (media_over cut w list number n m at h size h.size ends o _ c.in-Exact.is short (sym many ∙ omega (arith, ap length none)) refl media.settled
           (Moves-settled o (64 * length list) w.moof.size (64 * length w.runs.rows) (64 * length ends) table low)));
       unfailed = refl;
       plan = refl;
@@ -67,11 +67,7 @@ returns-else-body-eq0 c = λ number u needed numbers.
     let rises = (rw (c.in-Some.is, c.in-Exact.is) at c.requires.rises) (at + size) refl in
     let start : at + h.header_len ≡ at + size - (size - h.header_len) = omega (arith, room) in
     let many = rw c.in-Some.is at numbers in
-    let waiting = rw c.in-Some.is at c.requires.waiting in
-    let cuts = rw c.in-Some.is at c.requires.cut in
-    let may = rw c.in-Some.is at c.requires.media in
-    let quiet = rw c.in-Some.is at c.requires.settled in
-    let bound = rw c.in-Some.is at c.requires.bound in
+    let media = rw c.in-Some.is at c.requires.media in
     let low = rw c.in-Some.is at c.requires.claim in
     rw (c.in-Some.is, c.requires.plan) (record {
       goes = begun_known cut w list number n m at h kept.tracks o o _ c.in-Some.is (GoesOn-same (splitting cut) o _ _ (media_begins cut w list number n m at h size h.size c.in-Exact.is room many));
@@ -84,12 +80,8 @@ returns-else-body-eq0 c = λ number u needed numbers.
           some = omega (arith, c.if-body-eq0.false);
           within = omega arith;
           near = near;
-          waiting = waiting;
-          are_cut = cuts;
-          at = may;
-          settled = quiet;
+          media = media;
           rises = subst (λ k. Rises (at + size) (spot_of cut (moof_in w) list k n m)) start rises;
-          numbers = bound;
         },
       );
       claim = low;
@@ -108,11 +100,7 @@ returns-in-ToEnd c = λ number u needed numbers.
     let near = rw c.in-ToEnd.is at c.requires.near in
     let counted = rw c.in-ToEnd.is at c.requires.counted in
     let enough = rw c.in-Some.is at needed in
-    let waiting = rw c.in-Some.is at c.requires.waiting in
-    let cuts = rw c.in-Some.is at c.requires.cut in
-    let may = rw c.in-Some.is at c.requires.media in
-    let quiet = rw c.in-Some.is at c.requires.settled in
-    let bound = rw c.in-Some.is at c.requires.bound in
+    let media = rw c.in-Some.is at c.requires.media in
     let low = rw c.in-Some.is at c.requires.claim in
     rw (c.in-Some.is, c.requires.plan) (record {
       goes = begun_known cut w list number n m c.args.at c.args.header.now kept.tracks o o _ c.in-Some.is (GoesOn-same (splitting cut) o _ _ (open_begins cut w list number n m c.args.at c.args.header.now c.args.split.needed c.args.header.now.size c.in-ToEnd.is near enough));
@@ -123,11 +111,7 @@ returns-in-ToEnd c = λ number u needed numbers.
         refl,
         record {
           near = omega arith;
-          waiting = waiting;
-          are_cut = cuts;
-          at = may;
-          settled = quiet;
-          numbers = bound;
+          media = media;
         },
       );
       claim = low;

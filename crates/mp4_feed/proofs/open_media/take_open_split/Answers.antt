@@ -25,7 +25,7 @@ returns-then-body-eq0 g c =
     let o = outside (g.W.Sink.contents c.args.w.now) c.args.out.now c.args.ledger.now kept.counter.tally in
     let p = spot_of r.cut (moof_in r.waiting) list longest r.number r.media in
     rw (c.in-Some.is, plan, c.if-body-eq0.true, c.back.ensures, c.refused.ensures) (record {
-      stops = λ more. Refuses-open_recut (splitting r.cut) r.body.at r.body.kind o r.body.needed (claimed_in (Some list) (Some r.waiting)) p c.args.piece.now more (64 * length list) (taken_by (Some r.waiting)) is.2.settled c.requires.some apart low;
+      stops = λ more. Refuses-open_recut (splitting r.cut) r.body.at r.body.kind o r.body.needed (claimed_in (Some list) (Some r.waiting)) p c.args.piece.now more (64 * length list) (taken_by (Some r.waiting)) is.2.media.settled c.requires.some apart low;
       failed = λ is. absurd cc;
       unfailed = λ _. refl;
       plan = refl;
@@ -60,11 +60,7 @@ returns-in-Ok g c =
           refl,
           record {
             near = omega (arith, told.taken.2, recut.near);
-            waiting = recut.waiting;
-            are_cut = recut.are_cut;
-            at = told.at;
-            settled = told.settled;
-            numbers = omega (arith, told.numbers, recut.numbers);
+            media = told.media;
           },
         );
         claim = low;
