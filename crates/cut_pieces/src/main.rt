@@ -16,7 +16,7 @@ use mp4_ends::{Failed, Sink};
 use mp4_frag::{Moof, Run, Steps, Traf};
 use mp4_init::{TrackList, tracks};
 use mp4_ledger::Ledger;
-use mp4_reading::Block;
+use mp4_machine::Block;
 use std::io;
 use std::io::Read;
 use std::process::ExitCode;

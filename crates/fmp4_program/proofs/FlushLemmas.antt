@@ -2,26 +2,26 @@
 use Rattle.std.proofs.Common.{◌≡◌, ◌∙◌, ℕ, Bool, true, false, List, [], Option, Ok, Err, Result, append-nil, arith, refl, subst, sym}
 use Rattle.std.specs.Io.KnownBytes.{Keeps}
 use Rattle.mp4_ends.proofs.StreamLemmas.{Appends-kept}
-use Rattle.mp4_reading.specs.Ends.{Ends}
-use Rattle.mp4_reading.specs.Readings.{AtMost, Reading}
-use Rattle.mp4_reading.specs.Runs.{Claims, Runs}
+use Rattle.mp4_machine.specs.Ends.{Ends}
+use Rattle.mp4_machine.specs.Readings.{AtMost, Reading}
+use Rattle.mp4_machine.specs.StreamRuns.{Claims, ReadsStream}
 use Rattle.std.specs.Prelude.{IfErr, OnOk}
-use Rattle.mp4_reading.specs.declared.stop.Stop.{Stop}
-use Rattle.mp4_reading.specs.declared.stop.Stop.TheVariants.{Write}
-use Rattle.mp4_reading.specs.declared.tally.Tally.{Tally}
-use Rattle.mp4_reading.proofs.ReadingAskLemmas.{AtMost-same}
+use Rattle.mp4_machine.specs.declared.stop.Stop.{Stop}
+use Rattle.mp4_machine.specs.declared.stop.Stop.TheVariants.{Write}
+use Rattle.mp4_machine.specs.declared.tally.Tally.{Tally}
+use Rattle.mp4_machine.proofs.ReadingAskLemmas.{AtMost-same}
 use Rattle.mp4_recut.specs.declared.plan.Plan.{Plan}
 use Rattle.mp4_stream.specs.Fragments.{ReadsFragments}
 use Rattle.mp4_stream.specs.HeldBoxes.{ReadsBoxes}
 use Rattle.mp4_stream.specs.declared.run.Totals.{Totals}
 
 -- of an answer that is Ok nothing but that is said
-Runs-answer : {T : Type 0} {whole : List ℕ → Reading} {ends : Ends} {claims : Claims} {tally : Tally} {t x : T} → Runs {T = T} whole ends claims tally (Ok t) → Runs {T = T} whole ends claims tally (Ok x)
+Runs-answer : {T : Type 0} {whole : List ℕ → Reading} {ends : Ends} {claims : Claims} {tally : Tally} {t x : T} → ReadsStream {T = T} whole ends claims tally (Ok t) → ReadsStream {T = T} whole ends claims tally (Ok x)
 Runs-answer r = record { bytes = r.bytes; fits = r.fits; given = r.given; fragments = r.fragments; prompt = r.prompt; comes = r.comes; kept = λ other. r.kept (λ e. absurd cc) }
 
-module _ {T : Type 0} {whole : List ℕ → Reading} {ends : Ends} {claims : Claims} {tally : Tally} {t : T} (u : Option (List ℕ)) (failed : Bool) (r : Runs {T = T} whole ends claims tally (Ok t)) (kept : Keeps ends.written' u) where
+module _ {T : Type 0} {whole : List ℕ → Reading} {ends : Ends} {claims : Claims} {tally : Tally} {t : T} (u : Option (List ℕ)) (failed : Bool) (r : ReadsStream {T = T} whole ends claims tally (Ok t)) (kept : Keeps ends.written' u) where
   -- it was flushed
-  flushed : failed ≡ ends.write_failed' → Runs {T = T} whole (record ends { written' = u; write_failed' = failed }) claims tally (Ok t)
+  flushed : failed ≡ ends.write_failed' → ReadsStream {T = T} whole (record ends { written' = u; write_failed' = failed }) claims tally (Ok t)
   flushed same = record {
     bytes = r.bytes;
     fits = r.fits;
@@ -33,7 +33,7 @@ module _ {T : Type 0} {whole : List ℕ → Reading} {ends : Ends} {claims : Cla
   }
 
   -- the flush failed
-  unflushed : failed ≡ true → Runs {T = T} whole (record ends { written' = u; write_failed' = failed }) claims tally (Err Write)
+  unflushed : failed ≡ true → ReadsStream {T = T} whole (record ends { written' = u; write_failed' = failed }) claims tally (Err Write)
   unflushed is = record {
     bytes = r.bytes;
     fits = r.fits;
@@ -42,7 +42,7 @@ module _ {T : Type 0} {whole : List ℕ → Reading} {ends : Ends} {claims : Cla
     prompt = record { early = r.prompt.early; last = r.prompt.last; cut = r.prompt.cut; few = r.prompt.few; undecided = r.prompt.undecided };
     comes = (
       record {
-        text = ((whole r.bytes).told.text, [], Appends-kept ends.written ends.written' u _ r.comes.0.text kept, sym (append-nil _));
+        text = ((whole r.bytes).effects.text, [], Appends-kept ends.written ends.written' u _ r.comes.0.text kept, sym (append-nil _));
         fragments = r.comes.0.fragments;
         least = omega (arith, r.comes.0.peak);
         most = omega (arith, r.comes.0.peak);
@@ -82,7 +82,7 @@ module _ {T : Type 0} {plan : Plan} {ends : Ends} {claims : Claims} {totals : To
   reads-flushed : (x : T) → failed ≡ ends.write_failed' → ReadsFragments {T = T} plan (record ends { written' = u; write_failed' = failed }) claims totals (Ok x)
   unfolding Runs-answer flushed
   reads-flushed x same = record {
-    told = r.told;
+    told = r.effects;
     walked = r.walked;
     runs = Runs-answer (flushed u failed r.runs kept same);
     fragments = r.fragments;
@@ -95,7 +95,7 @@ module _ {T : Type 0} {plan : Plan} {ends : Ends} {claims : Claims} {totals : To
   reads-unflushed : failed ≡ true → ReadsFragments {T = T} plan (record ends { written' = u; write_failed' = failed }) claims totals (Err Write)
   unfolding unflushed
   reads-unflushed is = record {
-    told = r.told;
+    told = r.effects;
     walked = r.walked;
     runs = unflushed u failed r.runs kept is;
     fragments = r.fragments;

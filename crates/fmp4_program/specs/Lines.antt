@@ -6,8 +6,8 @@ use Rattle.mp4_box.specs.Shown.{shown_byte}
 use Rattle.mp4_box.specs.declared.headers.FourCc.{FourCc}
 use Rattle.mp4_box.specs.declared.rules.Fault.{Fault}
 use Rattle.mp4_stream.specs.declared.run.Totals.{Totals}
-use Rattle.mp4_reading.specs.declared.stop.Stop.{Stop}
-use Rattle.mp4_reading.specs.declared.stop.Stop.TheVariants.{Stream, Read, Write, OverLimit, Memory}
+use Rattle.mp4_machine.specs.declared.stop.Stop.{Stop}
+use Rattle.mp4_machine.specs.declared.stop.Stop.TheVariants.{Stream, Read, Write, OverLimit, Memory}
 
 -- a line of the program
 abbrev pub line : List ℕ → List ℕ

@@ -2,11 +2,11 @@
 use Rattle.std.specs.Prelude.{◌≡◌, ◌⊎◌, ◌≤◌, ℕ, Bool, true, false, List, codes, Option, None, Some, OnOk, Result, Ok, Err}
 use Rattle.std.specs.Io.KnownBytes.{Appends, Keeps}
 use Rattle.mp4_ends.specs.Streams.{AppendsPrefix}
-use Rattle.mp4_reading.specs.Ends.{Ends}
-use Rattle.mp4_reading.specs.Runs.{Claims}
-use Rattle.mp4_reading.specs.declared.stop.Stop.{Stop}
-use Rattle.mp4_reading.specs.declared.stop.Stop.TheVariants.{Stream, Read, Write, OverLimit, Memory}
-use Rattle.mp4_items.specs.declared.command.Command.TheVariants as commands
+use Rattle.mp4_machine.specs.Ends.{Ends}
+use Rattle.mp4_machine.specs.StreamRuns.{Claims}
+use Rattle.mp4_machine.specs.declared.stop.Stop.{Stop}
+use Rattle.mp4_machine.specs.declared.stop.Stop.TheVariants.{Stream, Read, Write, OverLimit, Memory}
+use Rattle.mp4_grammar.specs.declared.command.Command.TheVariants as commands
 use Rattle.mp4_stream.specs.Fragments.{ReadsFragments}
 use Rattle.mp4_stream.specs.HeldBoxes.{ReadsBoxes}
 use Rattle.mp4_stream.specs.declared.run.Totals.{Totals}

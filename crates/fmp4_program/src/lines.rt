@@ -5,7 +5,7 @@ ghost use Rattle.std.specs.Fmt.{decimal};
 ghost use Rattle.fmp4_program.specs.Lines.{check_text, fault_text, kind_text, line, stop_text};
 
 use mp4_lines::Text;
-use mp4_reading::LINE_BYTES;
+use mp4_machine::LINE_BYTES;
 use mp4_stream::{Fault, FourCc, Stop, Totals};
 
 /// The line of what stopped a run.

@@ -1,8 +1,8 @@
 //! A run of the program.
 
 ghost use Rattle.std.specs.Prelude.{◌≡◌, ◌≤◌, true, false, map, string_bytes, Result, IfErr, OnOk, OnErr};
-ghost use Rattle.mp4_reading.specs.Ends.{between, received, sent};
-ghost use Rattle.mp4_items.specs.declared.command.Command.TheVariants as commands;
+ghost use Rattle.mp4_machine.specs.Ends.{between, received, sent};
+ghost use Rattle.mp4_grammar.specs.declared.command.Command.TheVariants as commands;
 ghost use Rattle.mp4_ends.specs.Streams.{AppendsPrefix};
 ghost use Rattle.std.specs.Io.KnownBytes.{Appends, Keeps};
 ghost use Rattle.mp4_stream.specs.Fragments.{ReadsFragments, unsent};

@@ -11,7 +11,8 @@ ghost use Rattle.mp4_box.specs.Order.{IsLeast};
 ghost use Rattle.mp4_box.specs.Paths.{at_path, of_kind};
 ghost use Rattle.mp4_box.specs.Trees.{Box, box_at, children, tree_faults, view};
 ghost use Rattle.mp4_frag.specs.Moofs.{moof_faults, moof_runs};
-ghost use Rattle.mp4_frag.specs.RunLists.{IsListOf, taken_runs};
+ghost use Rattle.mp4_frag.specs.RunLists.{taken_runs};
+ghost use Rattle.mp4_frag.specs.Working.ListedRows.{IsListOf};
 ghost use Rattle.mp4_frag.specs.Rows.{IsCursor};
 ghost use Rattle.mp4_frag.specs.Runs.{runs_of};
 ghost use Rattle.mp4_init.specs.Moovs.{moov_fault, moov_tracks};
@@ -19,7 +20,7 @@ ghost use Rattle.mp4_cut.specs.Mdat.{mdat_header};
 ghost use Rattle.mp4_cut.specs.Moof.{written_moof};
 ghost use Rattle.mp4_cut.specs.Puts.{Writes};
 ghost use Rattle.mp4_pieces.specs.Pieces.{IsPieceOf, IsRunOf, pieces_from};
-ghost use Rattle.mp4_reading.specs.Readings.{Told, both};
+ghost use Rattle.mp4_machine.specs.Readings.{Effects, both};
 ghost use Rattle.mp4_recut.specs.Cursors.{AreCut};
 ghost use Rattle.mp4_recut.specs.Media.{Tells, playing, spot_of};
 ghost use Rattle.mp4_recut.specs.Parts.{played};
@@ -27,7 +28,7 @@ ghost use Rattle.mp4_recut.specs.Splitting.{runs_parts};
 ghost use Rattle.mp4_run_order.specs.Orders.{FitsKeys, taken};
 ghost use Rattle.mp4_run_order.specs.Places.{first_offender};
 ghost use Rattle.mp4_run_order.specs.Runs.{IsListing};
-ghost use Rattle.mp4_run_order.specs.Searches.{found_by_place, found_by_track};
+ghost use Rattle.mp4_run_order.specs.Working.Searches.{found_by_place, found_by_track};
 ghost use Rattle.library_tests.specs.Kinds.{to_trun, traf};
 
 use mp4_box::{Along, BoxRef, Fault, FourCc, check_tree, count_of, number_at, whole_box};
@@ -37,7 +38,7 @@ use mp4_frag::{Cursor, Moof, Run, RunList, Steps, Traf};
 use mp4_init::{InitStop, TrackList, tracks};
 use mp4_ledger::Ledger;
 use mp4_pieces::{Cut, Piece, Pieces};
-use mp4_reading::Block;
+use mp4_machine::Block;
 use mp4_recut::media::{Media, begin, settle};
 use mp4_run_order::{ListedRun, Payload, PlaceSearch, TrackSearch};
 
@@ -178,7 +179,7 @@ pub fn next_piece(run: &Run, held: &[u8], cut: &Cut, at: &mut Cursor) -> Option<
     ensures cursor { IsCursor run.now held.now at.new }
 {
     let piece = Pieces::at(run, held, cut, *at).next()?;
-    *at = piece.behind();
+    *at = piece.cursor_after();
     Some(piece)
 }
 
@@ -222,7 +223,7 @@ pub fn put_first_heads<W: Sink>(
     requires cut { AreCut cut.now moof.now tracks.now }
     requires numbers { fragments.old + 1 + length (runs_parts cut.now moof.now.bytes tracks.now
         (fragments.old + 1) (taken_runs moof.now tracks.now)) ≤ 2 ^ 32 }
-    ensures told { IfOk result (λ media. (at : ℕ) → (told : Told) ×
+    ensures told { IfOk result (λ media. (at : ℕ) → (told : Effects) ×
         Tells (W.contents w.old) (W.contents w.new) block.old block.new fragments.old
         fragments.new told × ((bytes : List ℕ) →
         played at (runs_parts cut.now moof.now.bytes tracks.now (fragments.old + 1)

@@ -15,7 +15,7 @@ use Rattle.mp4_cut.specs.Mfhd.{mfhd_payload}
 use Rattle.mp4_cut.specs.Tfhd.{tfhd_flags, tfhd_payload}
 use Rattle.mp4_cut.specs.Tfdt.{tfdt_payload}
 use Rattle.mp4_cut.specs.Trun.{offset_bits, sample_bytes, trun_flags}
-use Rattle.mp4_cut.specs.Moof.{Fragment, data_offset, in_moof, in_traf, moof_box}
+use Rattle.mp4_cut.specs.Moof.{WrittenFragment, data_offset, in_moof, in_traf, moof_box}
 use Rattle.mp4_cut.specs.Reads.{FitsFields}
 use Rattle.mp4_cut.proofs.MoofLemmas.{trun_of}
 
@@ -59,22 +59,22 @@ samples (row ∷ rows) = join (sample row) (samples rows)
 mfhd_is : (seq : ℕ) → AreBytes (box_bytes mfhd (mfhd_payload seq))
 mfhd_is seq = box mfhd (mfhd_payload seq) (letters 109 102 104 100 (omega arith) (omega arith) (omega arith) (omega arith)) (join (full 0 0 (omega arith)) (number 4 seq))
 
-tfhd_is : (f : Fragment) → AreBytes (box_bytes tfhd (tfhd_payload f.track f.entry))
+tfhd_is : (f : WrittenFragment) → AreBytes (box_bytes tfhd (tfhd_payload f.track f.entry))
 tfhd_is f = box tfhd (tfhd_payload f.track f.entry) (letters 116 102 104 100 (omega arith) (omega arith) (omega arith) (omega arith)) (join (full 0 tfhd_flags (omega arith)) (join (number 4 f.track) (number 4 f.entry)))
 
-tfdt_is : (f : Fragment) → AreBytes (box_bytes tfdt (tfdt_payload f.time))
+tfdt_is : (f : WrittenFragment) → AreBytes (box_bytes tfdt (tfdt_payload f.time))
 tfdt_is f = box tfdt (tfdt_payload f.time) (letters 116 102 100 116 (omega arith) (omega arith) (omega arith) (omega arith)) (join (full 1 0 (omega arith)) (number 8 f.time))
 
-trun_is : (f : Fragment) → FitsFields f → AreBytes (box_bytes trun (trun_of f))
+trun_is : (f : WrittenFragment) → FitsFields f → AreBytes (box_bytes trun (trun_of f))
 trun_is f fits =
     box trun (trun_of f) (letters 116 114 117 110 (omega arith) (omega arith) (omega arith) (omega arith))
     (join (full f.version trun_flags fits.version) (join (number 4 (length f.rows)) (join (number 4 (data_offset f.rows)) (samples f.rows))))
 
-traf_is : (f : Fragment) → FitsFields f → AreBytes (box_bytes traf (in_traf f))
+traf_is : (f : WrittenFragment) → FitsFields f → AreBytes (box_bytes traf (in_traf f))
 traf_is f fits =
     box traf (in_traf f) (letters 116 114 97 102 (omega arith) (omega arith) (omega arith) (omega arith)) (join (tfhd_is f) (join (tfdt_is f) (trun_is f fits)))
 
-moof_is : (f : Fragment) (seq : ℕ) → FitsFields f → AreBytes (moof_box f seq)
+moof_is : (f : WrittenFragment) (seq : ℕ) → FitsFields f → AreBytes (moof_box f seq)
 unfolding moof_box
 moof_is f seq fits = box moof (in_moof f seq) (letters 109 111 111 102 (omega arith) (omega arith) (omega arith) (omega arith)) (join (mfhd_is seq) (traf_is f fits))
 
@@ -83,5 +83,5 @@ index_small [] all i = omega arith
 index_small (b ∷ x) all zero = all.each.0
 index_small (b ∷ x) all (suc i) = index_small x (record { each = all.each.1 }) i
 
-pub moof_bytes : (f : Fragment) (seq : ℕ) → FitsFields f → IsBytes (moof_box f seq)
+pub moof_bytes : (f : WrittenFragment) (seq : ℕ) → FitsFields f → IsBytes (moof_box f seq)
 moof_bytes f seq fits i = index_small (moof_box f seq) (moof_is f seq fits) i

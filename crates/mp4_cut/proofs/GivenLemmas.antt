@@ -27,7 +27,7 @@ use Rattle.mp4_frag.specs.Tfhd.{fields_of, track_id}
 use Rattle.mp4_frag.specs.Trun.{trun_broken, trun_fields}
 use Rattle.mp4_frag.specs.Rules.{entry_of, fault_if, form_faults, has_entry, tfhd_faults, track_faults, track_with, trun_length}
 use Rattle.mp4_frag.specs.Rows.{durations, field_at, group_at, offset_at, offset_by, row_of, rows_of, usual_flags}
-use Rattle.mp4_frag.specs.Runs.{Held, base_of, end_place, no_track, run_at, run_of, runs_from, runs_of, shared_by, tfhd_of, track_of, traf_of, trafs_by}
+use Rattle.mp4_frag.specs.Runs.{MoofBytes, base_of, end_place, no_track, run_at, run_of, runs_from, runs_of, shared_by, tfhd_of, track_of, traf_of, trafs_by}
 use Rattle.mp4_frag.specs.Moofs.{IsRead, moof_of, moof_runs}
 use Rattle.mp4_frag.proofs.MoofLemmas.{early, last_none, moof_is, on_path, read_early, values}
 use Rattle.mp4_frag.proofs.PlaceLemmas.{Lies, children_lie, kind_all, moof_lies}
@@ -37,7 +37,7 @@ use Rattle.mp4_pieces.specs.declared.piece.Piece.{Piece}
 use Rattle.mp4_pieces.specs.Pieces.{IsPieceOf, IsRunOf, piece_at, rows_in}
 use Rattle.mp4_pieces.proofs.PieceLemmas.{piece_ends}
 use Rattle.mp4_pieces.proofs.RunLemmas.{runs_are}
-use Rattle.mp4_cut.specs.Moof.{fragment_of}
+use Rattle.mp4_cut.specs.Moof.{written_fragment}
 use Rattle.mp4_cut.specs.Reads.{CanBeRead, FitsOffset, FitsRow, FitsTrack, IsSoundRun}
 use Rattle.mp4_cut.proofs.PieceLemmas.{count_is}
 
@@ -146,7 +146,7 @@ first_small p (Some at) usual fits small = number_small p at fits
 track_is : (tracks : List Track) (t : Box) (of : Track) → track_with (track_id (tfhd_of t)) tracks ≡ Some of → track_of tracks t ≡ of
 track_is tracks t of e = ap (λ (x : Option Track). unwrap_or x no_track) e
 
-run_sound : (h : Held) (tracks : List Track) (t : Box) (sound : IsSoundTraf tracks t) (time : ℕ) (last : ℤ) (b : Box) → IsBytes h.bytes → IsBytes b.payload → trun_broken b.payload ≡ None → IsSoundRun tracks h.bytes (run_of (shared_by h sound.of t) time last b)
+run_sound : (h : MoofBytes) (tracks : List Track) (t : Box) (sound : IsSoundTraf tracks t) (time : ℕ) (last : ℤ) (b : Box) → IsBytes h.bytes → IsBytes b.payload → trun_broken b.payload ≡ None → IsSoundRun tracks h.bytes (run_of (shared_by h sound.of t) time last b)
 unfolding run_of run_at
 run_sound h tracks t sound time last b held fits good =
     let p = tfhd_of t in
@@ -172,7 +172,7 @@ run_sound h tracks t sound time last b held fits good =
       });
     }
 
-runs_sound : (h : Held) (tracks : List Track) (t : Box) (sound : IsSoundTraf tracks t) (time : ℕ) (last : ℤ) (bs : List Box) → IsBytes h.bytes → AllByRecursion (λ (b : Box). IsBytes b.payload) bs → AllByRecursion (λ (b : Box). trun_broken b.payload ≡ None) bs
+runs_sound : (h : MoofBytes) (tracks : List Track) (t : Box) (sound : IsSoundTraf tracks t) (time : ℕ) (last : ℤ) (bs : List Box) → IsBytes h.bytes → AllByRecursion (λ (b : Box). IsBytes b.payload) bs → AllByRecursion (λ (b : Box). trun_broken b.payload ≡ None) bs
     → AllByRecursion (IsSoundRun tracks h.bytes) (runs_from (shared_by h sound.of t) time last bs)
 unfolding runs_from
 runs_sound h tracks t sound time last [] held fits good = tt
@@ -219,7 +219,7 @@ found_fits [] (Some i) of all e = absurd cc
 found_fits (t ∷ tracks) (Some zero) of all e = subst FitsTrack (same_track t of e) all.0
 found_fits (t ∷ tracks) (Some (suc i)) of all e = found_fits tracks (Some i) of all.1 e
 
-traf_sound : (tracks : List Track) (h : Held) (t : Box) → AllByRecursion FitsTrack tracks → Lies h t → one tfhd t ≡ [] → flat_map (tfhd_faults tracks) (of_kind tfhd (children t)) ≡ [] → IsSoundTraf tracks t
+traf_sound : (tracks : List Track) (h : MoofBytes) (t : Box) → AllByRecursion FitsTrack tracks → Lies h t → one tfhd t ≡ [] → flat_map (tfhd_faults tracks) (of_kind tfhd (children t)) ≡ [] → IsSoundTraf tracks t
 unfolding tfhd_faults
 traf_sound tracks h t all lies alone_is none = by (of_kind tfhd (children t)) refl alone_is none (kind_all (Lies h) tfhd (children t) (children_lie h t lies))
   where
@@ -239,7 +239,7 @@ traf_sound tracks h t all lies alone_is none = by (of_kind tfhd (children t)) re
           fits = found_fits tracks (position (λ (x : Track). x.id == track_id (tfhd_of t)) tracks) found.0 all known;
         }
 
-bytes_of : (h : Held) (bs : List Box) → AllByRecursion (Lies h) bs → AllByRecursion (λ (b : Box). IsBytes b.payload) bs
+bytes_of : (h : MoofBytes) (bs : List Box) → AllByRecursion (Lies h) bs → AllByRecursion (λ (b : Box). IsBytes b.payload) bs
 bytes_of h [] lie = tt
 bytes_of h (b ∷ bs) lie = (lie.0.bytes, bytes_of h bs lie.1)
 
@@ -247,14 +247,14 @@ all_append : (P : Run → Type 0) (xs ys : List Run) → AllByRecursion P xs →
 all_append P [] ys all rest = rest
 all_append P (x ∷ xs) ys all rest = (all.0, all_append P xs ys all.1 rest)
 
-traf_runs : (tracks : List Track) (h : Held) (t : Box) → IsBytes h.bytes → Lies h t → IsSoundTraf tracks t → flat_map trun_length (of_kind trun (children t)) ≡ [] → AllByRecursion (IsSoundRun tracks h.bytes) (runs_of (traf_of h tracks t))
+traf_runs : (tracks : List Track) (h : MoofBytes) (t : Box) → IsBytes h.bytes → Lies h t → IsSoundTraf tracks t → flat_map trun_length (of_kind trun (children t)) ≡ [] → AllByRecursion (IsSoundRun tracks h.bytes) (runs_of (traf_of h tracks t))
 unfolding traf_of
 traf_runs tracks h t held lies sound good =
     let truns = of_kind trun (children t) in
     subst (λ (of : Track). AllByRecursion (IsSoundRun tracks h.bytes) (runs_from (shared_by h of t) (base_of (track_of tracks t).next t) (pos h.offset) truns)) (sym (track_is tracks t sound.of sound.known))
     (runs_sound h tracks t sound (base_of (track_of tracks t).next t) (pos h.offset) truns held (bytes_of h truns (kind_all (Lies h) trun (children t) (children_lie h t lies))) (truns_in truns good))
 
-trafs_runs : (tracks : List Track) (h : Held) (ts : List Box) → AllByRecursion FitsTrack tracks → IsBytes h.bytes → AllByRecursion (Lies h) ts → AllByRecursion (λ (t : Box). one tfhd t ≡ []) ts
+trafs_runs : (tracks : List Track) (h : MoofBytes) (ts : List Box) → AllByRecursion FitsTrack tracks → IsBytes h.bytes → AllByRecursion (Lies h) ts → AllByRecursion (λ (t : Box). one tfhd t ≡ []) ts
     → AllByRecursion (λ (t : Box). flat_map (tfhd_faults tracks) (of_kind tfhd (children t)) ≡ []) ts → AllByRecursion (λ (t : Box). flat_map trun_length (of_kind trun (children t)) ≡ []) ts
     → AllByRecursion (IsSoundRun tracks h.bytes) (flat_map runs_of (map (traf_of h tracks) ts))
 trafs_runs tracks h [] all held lie ones tfhds truns = tt
@@ -283,7 +283,7 @@ moof_sound tracks m form tfhds =
       truns = none_below trun_length trun (of_kind traf (children m)) last.1;
     }
 
-pub all_sound : (h : Held) (tracks : List Track) → IsWhole h.bytes → IsBytes h.bytes → AllByRecursion FitsTrack tracks → IsRead h tracks → AllByRecursion (IsSoundRun tracks h.bytes) (moof_runs h tracks)
+pub all_sound : (h : MoofBytes) (tracks : List Track) → IsWhole h.bytes → IsBytes h.bytes → AllByRecursion FitsTrack tracks → IsRead h tracks → AllByRecursion (IsSoundRun tracks h.bytes) (moof_runs h tracks)
 all_sound h tracks whole held all read =
     elim (option_is (box_at h.offset h.bytes)) [
       | inl none ↦ absurd (whole_found h.offset h.bytes whole none)
@@ -313,7 +313,7 @@ duration_is : (held : List ℕ) (run : Run) (p : Piece) → IsPieceOf held run p
 unfolding piece_at
 duration_is held run p is = sym (ap (λ (q : Piece). q.duration) is.is)
 
-pub can_be_read : (tracks : List Track) (held : List ℕ) (run : Run) (p : Piece) → IsSoundRun tracks held run → IsRunOf held run → IsPieceOf held run p → CanBeRead tracks (fragment_of held run p)
+pub can_be_read : (tracks : List Track) (held : List ℕ) (run : Run) (p : Piece) → IsSoundRun tracks held run → IsRunOf held run → IsPieceOf held run p → CanBeRead tracks (written_fragment held run p)
 can_be_read tracks held run p sound of is =
     let range = piece_ends held run p of is in
     record {
@@ -335,8 +335,8 @@ all_middle : (P : Run → Type 0) (before : List Run) (run : Run) (after : List 
 all_middle P [] run after all = all.0
 all_middle P (b ∷ before) run after all = all_middle P before run after all.1
 
-pub piece_can_be_read : (h : Held) (tracks : List Track) (run : Run) (p : Piece) → IsWhole h.bytes → IsBytes h.bytes → h.offset + length h.bytes ≤ 2 ^ 62 → AllByRecursion FitsTrack tracks → IsRead h tracks → StandsIn run (moof_runs h tracks) → IsPieceOf h.bytes run p
-    → CanBeRead tracks (fragment_of h.bytes run p)
+pub piece_can_be_read : (h : MoofBytes) (tracks : List Track) (run : Run) (p : Piece) → IsWhole h.bytes → IsBytes h.bytes → h.offset + length h.bytes ≤ 2 ^ 62 → AllByRecursion FitsTrack tracks → IsRead h tracks → StandsIn run (moof_runs h tracks) → IsPieceOf h.bytes run p
+    → CanBeRead tracks (written_fragment h.bytes run p)
 piece_can_be_read h tracks run p whole held room all read (before, after, s) is =
     let sound = all_middle (IsSoundRun tracks h.bytes) before run after (subst (λ (rs : List Run). AllByRecursion (IsSoundRun tracks h.bytes) rs) s.is (all_sound h tracks whole held all read)) in
     let are = all_middle (λ (r : Run). r.size < 2 ^ 32 → IsRunOf h.bytes r) before run after (subst (λ (rs : List Run). AllByRecursion (λ (r : Run). r.size < 2 ^ 32 → IsRunOf h.bytes r) rs) s.is (runs_are h tracks (omega (arith, room)) whole held read)) in

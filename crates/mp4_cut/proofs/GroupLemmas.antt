@@ -14,9 +14,9 @@ use Rattle.mp4_pieces.specs.declared.cut.Cut.{Cut}
 use Rattle.mp4_pieces.specs.declared.piece.Piece.{Piece}
 use Rattle.mp4_pieces.specs.Fits.{BeginsInTime, FitsIndex, FitsReference}
 use Rattle.mp4_pieces.specs.Groups.{group_length, groups, groups_from}
-use Rattle.mp4_pieces.specs.Pieces.{behind, cut_rows, piece_at, pieces_at, pieces_from, pieces_of}
+use Rattle.mp4_pieces.specs.Pieces.{cursor_after, cut_rows, piece_at, pieces_at, pieces_from, pieces_of}
 use Rattle.mp4_pieces.proofs.PieceLemmas.{goes_on}
-use Rattle.mp4_cut.specs.Starts.{IsGroup, IsGroupOf, group_from, start_of}
+use Rattle.mp4_cut.specs.Working.Starts.{IsGroup, IsGroupOf, group_from, start_of}
 
 -- ---- a piece begins at the cursor from which it is found
 
@@ -73,10 +73,10 @@ groups_by cut held run zero c [] at e times fit = tt
 groups_by cut held run (suc k) c [] at e times fit = tt
 groups_by cut held run zero c (p ∷ ps) at e times fit =
     let next = goes_on cut held run c p ps at e in
-    (first_group cut held run c 65534 p ps at e times.0 fit, groups_by cut held run 65534 (behind p) ps next.cursor next.rest times.1 fit.1)
+    (first_group cut held run c 65534 p ps at e times.0 fit, groups_by cut held run 65534 (cursor_after p) ps next.cursor next.rest times.1 fit.1)
 groups_by cut held run (suc k) c (p ∷ ps) at e times fit =
     let next = goes_on cut held run c p ps at e in
-    groups_by cut held run k (behind p) ps next.cursor next.rest times fit.1
+    groups_by cut held run k (cursor_after p) ps next.cursor next.rest times fit.1
 
 pub groups_are : (cut : Cut) (held : List ℕ) (run : Run) → FitsIndex (pieces_of cut held run) → AllByRecursion (IsGroupOf cut held run) (groups (pieces_of cut held run))
 groups_are cut held run fits = groups_by cut held run 0 (first_cursor run) (pieces_of cut held run) (cursor_first run held) refl fits.times fits.references

@@ -15,8 +15,8 @@ use Rattle.mp4_cut.specs.Boxes.{version_and_flags}
 use Rattle.mp4_cut.specs.Reads.{IsHeaded, header_of}
 use Rattle.mp4_cut.proofs.ReadLemmas.{header_read}
 use Rattle.mp4_cut.specs.Sidx.{earliest, natural, reference_bytes, sidx, sidx_payload, written_index}
-use Rattle.mp4_cut.specs.Starts.{IsGroup, group_from, start_of}
-use Rattle.mp4_cut.specs.Fronts.{index_front}
+use Rattle.mp4_cut.specs.Working.Starts.{IsGroup, group_from, start_of}
+use Rattle.mp4_cut.specs.Working.Fronts.{index_front}
 
 -- a reference has room for the first of some pieces, and references have room for the others
 pub record FirstFits (p : Piece) (left : ℕ) (ps : List Piece) : Type 0 where

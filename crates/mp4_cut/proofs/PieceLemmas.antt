@@ -17,9 +17,9 @@ use Rattle.mp4_cut.specs.Mfhd.{mfhd_payload}
 use Rattle.mp4_cut.specs.Tfhd.{tfhd_payload}
 use Rattle.mp4_cut.specs.Tfdt.{tfdt_payload}
 use Rattle.mp4_cut.specs.Trun.{sample_bytes, trun_flags}
-use Rattle.mp4_cut.specs.Fronts.{moof_front}
-use Rattle.mp4_cut.specs.Starts.{start_of}
-use Rattle.mp4_cut.specs.Moof.{data_offset, fragment_of, in_moof, in_traf, written_moof}
+use Rattle.mp4_cut.specs.Working.Fronts.{moof_front}
+use Rattle.mp4_cut.specs.Working.Starts.{start_of}
+use Rattle.mp4_cut.specs.Moof.{data_offset, written_fragment, in_moof, in_traf, written_moof}
 use Rattle.mp4_cut.proofs.MoofLemmas.{length_in_moof, length_traf, length_trun, trun_of}
 use Rattle.mp4_cut.proofs.RunLemmas.{moof_is_front}
 
@@ -57,7 +57,7 @@ same_front run piece seq a b c d e k l m n o p q r s t =
 pub front_is : (held : List ℕ) (run : Run) (p : Piece) (seq : ℕ) → IsPieceOf held run p → written_moof p run held seq ≡ moof_front run p seq ++ flat_map sample_bytes (rows_in held run p)
 unfolding moof_front
 front_is held run p seq is =
-    let f = fragment_of held run p in
+    let f = written_fragment held run p in
     let count = count_is held run p is in
     moof_is_front f seq
     ∙ ap (λ (x : List ℕ). x ++ flat_map sample_bytes (rows_in held run p))

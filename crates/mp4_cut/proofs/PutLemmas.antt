@@ -3,8 +3,8 @@ use Rattle.std.proofs.Common.{◌≡◌, ℕ, zero, suc, ◌-◌, ◌<◌, List,
 use Rattle.std.specs.Prelude.{take}
 use Rattle.std.specs.List.{flat_map}
 use Rattle.mp4_ends.specs.Streams.{AppendsPrefix}
-use Rattle.mp4_reading.specs.Blocks.{Breaks, Passes, Pending, unused}
-use Rattle.mp4_reading.proofs.BlockLemmas.{AppendsPrefix-broken, Breaks-passed, Breaks-sent_on, Passes-more}
+use Rattle.mp4_machine.specs.Blocks.{Breaks, Passes, Pending, unused}
+use Rattle.mp4_machine.proofs.BlockLemmas.{AppendsPrefix-broken, Breaks-passed, Breaks-sent_on, Passes-more}
 
 -- the text of the first of those that are left, and that of the others
 pub next_put : {A : Type 0} (f : A → List ℕ) (left : ℕ) (x : A) (xs ys : List A) (text first whole : List ℕ) → 0 < left → ys ≡ x ∷ xs → first ≡ f x → text ++ flat_map f (take left ys) ≡ whole → (text ++ first) ++ flat_map f (take (left - 1) xs) ≡ whole

@@ -19,7 +19,7 @@ use Rattle.mp4_pieces.specs.Sizes.{fragment_size, mdat_header_size}
 use Rattle.mp4_cut.specs.Boxes.{version_and_flags}
 use Rattle.mp4_cut.specs.Indexes.{CanBeIndexed, IsIndexReadAs, Reference, index_in, reference_to, references_in}
 use Rattle.mp4_cut.specs.Mdat.{mdat_header}
-use Rattle.mp4_cut.specs.Moof.{Fragment, fragment_of, written_moof}
+use Rattle.mp4_cut.specs.Moof.{WrittenFragment, written_fragment, written_moof}
 use Rattle.mp4_cut.specs.Reads.{FitsFields, held_moof}
 use Rattle.mp4_cut.specs.Sidx.{earliest, natural, reference_bytes, written_index}
 use Rattle.mp4_cut.proofs.FieldLemmas.{long_number_back, number_back}
@@ -39,7 +39,7 @@ module _ (held : List ℕ) (run : Run) where
   size_is : (p : Piece) (number : ℕ) → IsPieceOf held run p → fragment_size p ≡ length (written_moof p run held number) + (length (mdat_header (sizes (rows_in held run p))) + sizes (rows_in held run p))
   size_is p number is =
       let bytes = bytes_are held run p is in
-      omega (arith, length_moof (fragment_of held run p) number, count_is held run p is, length_mdat (sizes (rows_in held run p)), bytes, ap mdat_header_size bytes)
+      omega (arith, length_moof (written_fragment held run p) number, count_is held run p is, length_mdat (sizes (rows_in held run p)), bytes, ap mdat_header_size bytes)
 
   duration_is : (p : Piece) → IsPieceOf held run p → p.duration ≡ durations (rows_in held run p)
   unfolding piece_at
@@ -82,5 +82,5 @@ module _ (held : List ℕ) (run : Run) where
 
 -- ---- a moof
 
-pub number_read : (f : Fragment) (number offset : ℕ) → FitsFields f → number < 2 ^ 32 → map (λ (b : Box). number_in b.payload 4) (of_kind mfhd (children (moof_of (held_moof f number offset)))) ≡ number ∷ []
+pub number_read : (f : WrittenFragment) (number offset : ℕ) → FitsFields f → number < 2 ^ 32 → map (λ (b : Box). number_in b.payload 4) (of_kind mfhd (children (moof_of (held_moof f number offset)))) ≡ number ∷ []
 number_read f number offset fits small = rw (moof_back f number offset fits, moof_children f number offset fits) (ap (λ (n : ℕ). n ∷ []) (number_back (version_and_flags 0 0) [] 4 number refl small))

@@ -18,9 +18,9 @@ use Rattle.mp4_init.specs.declared.table.Track.{Track}
 use Rattle.mp4_frag.specs.declared.run.Run.{Run}
 use Rattle.mp4_frag.specs.Rows.{rows_of, sizes}
 use Rattle.mp4_frag.specs.declared.rows.Row.{Row}
-use Rattle.mp4_frag.specs.Runs.{Held, TrackFragment, last_end, runs_of}
+use Rattle.mp4_frag.specs.Runs.{MoofBytes, TrackFragment, last_end, runs_of}
 use Rattle.mp4_frag.specs.Places.{place_fault}
-use Rattle.mp4_frag.specs.RunRows.{listed_run}
+use Rattle.mp4_frag.specs.Places.{listed_run}
 use Rattle.mp4_frag.specs.Settling.{settled, with_end}
 use Rattle.mp4_run_order.specs.Orders.{taken_by}
 use Rattle.mp4_run_order.proofs.RunLemmas.{le_to}
@@ -31,7 +31,7 @@ use Rattle.mp4_pieces.specs.Rooms.{moof}
 use Rattle.mp4_pieces.specs.Sizes.{mdat_header_size, moof_size}
 use Rattle.mp4_cut.specs.Boxes.{box_bytes}
 use Rattle.mp4_cut.specs.Mdat.{mdat, mdat_header}
-use Rattle.mp4_cut.specs.Moof.{fragment_of, Fragment, data_offset, in_moof, moof_box}
+use Rattle.mp4_cut.specs.Moof.{written_fragment, WrittenFragment, data_offset, in_moof, moof_box}
 use Rattle.mp4_cut.specs.Reads.{Tells, CanBeRead, FitsFields, IsHeaded, IsReadAs, header_of, held_moof}
 use Rattle.mp4_cut.proofs.BoxLemmas.{IsShort, head_is, is_box}
 use Rattle.mp4_cut.proofs.FaultLemmas.{moof_is_good}
@@ -47,13 +47,13 @@ header_read kind payload s rest =
     ∙ sym (append_assoc (big_bytes 4 (8 + length payload)) kind.0 (payload ++ rest))))
     ∙ read_again (header_of kind (8 + length payload) 8) (big_bytes 4 (8 + length payload) ++ kind.0) (payload ++ rest) (head_is kind (8 + length payload) s.four s.other (omega arith) s.small)
 
-pub moof_headed : (f : Fragment) (seq : ℕ) → FitsFields f → IsHeaded moof (moof_size (length f.rows)) 8 (moof_box f seq)
+pub moof_headed : (f : WrittenFragment) (seq : ℕ) → FitsFields f → IsHeaded moof (moof_size (length f.rows)) 8 (moof_box f seq)
 unfolding moof_box
 moof_headed f seq fits rest =
     header_read moof (in_moof f seq) (short_moof f seq fits) rest
     ∙ ap (λ (n : ℕ). Whole (header_of moof n 8)) (omega (arith, length_in_moof f seq))
 
-pub moof_whole : (f : Fragment) (seq : ℕ) → FitsFields f → IsWhole (moof_box f seq)
+pub moof_whole : (f : WrittenFragment) (seq : ℕ) → FitsFields f → IsWhole (moof_box f seq)
 unfolding moof_box
 moof_whole f seq fits = (header_of moof (8 + length (in_moof f seq)) 8, in_moof f seq, is_box moof (in_moof f seq) (short_moof f seq fits))
 
@@ -117,7 +117,7 @@ placed_one run n end at last =
 settled_one : (tracks : List Track) (t : TrackFragment) (run : Run) → runs_of t ≡ run ∷ [] → settled tracks (t ∷ []) ≡ with_end t.shared.header.track run.end tracks
 settled_one tracks t run e = ap (λ (rs : List Run). with_end t.shared.header.track (last_end t.time rs) tracks) e
 
-pub is_read_as : (f : Fragment) (seq o : ℕ) (tracks : List Track) → CanBeRead tracks f → IsReadAs tracks f (held_moof f seq o)
+pub is_read_as : (f : WrittenFragment) (seq o : ℕ) (tracks : List Track) → CanBeRead tracks f → IsReadAs tracks f (held_moof f seq o)
 is_read_as f seq o tracks can =
     let h = held_moof f seq o in
     let t = can.track in
@@ -142,7 +142,7 @@ is_read_as f seq o tracks can =
 
 -- ---- the same fragment again
 
-mk_fragment : ℕ → ℕ → ℕ → ℕ → List Row → Fragment
+mk_fragment : ℕ → ℕ → ℕ → ℕ → List Row → WrittenFragment
 mk_fragment track entry version time rows = record { track = track; entry = entry; version = version; time = time; rows = rows }
 
 same_fragment : (a b c d k l m n : ℕ) (xs ys : List Row) → a ≡ k → b ≡ l → c ≡ m → d ≡ n → xs ≡ ys → mk_fragment a b c d xs ≡ mk_fragment k l m n ys
@@ -152,7 +152,7 @@ same_fragment a b c d k l m n xs ys p q r s t =
     ∙ (ap (λ (x : ℕ). mk_fragment k l x d xs) r
     ∙ (ap (λ (x : ℕ). mk_fragment k l m x xs) s ∙ ap (mk_fragment k l m n) t)))
 
-pub fragment_again : (f : Fragment) (h : Held) (run : Run) → Tells f h run → fragment_of h.bytes run (piece_at (first_cursor run) f.rows) ≡ f
+pub fragment_again : (f : WrittenFragment) (h : MoofBytes) (run : Run) → Tells f h run → written_fragment h.bytes run (piece_at (first_cursor run) f.rows) ≡ f
 unfolding piece_at mk_fragment
 fragment_again f h run t =
     same_fragment run.track run.entry run.version run.time f.track f.entry f.version f.time (take (length f.rows) (rows_of run h.bytes)) f.rows

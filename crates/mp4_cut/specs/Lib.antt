@@ -5,9 +5,8 @@ pub mod Tfdt
 pub mod Trun
 pub mod Mdat
 pub mod Moof
-pub mod Starts
 pub mod Sidx
-pub mod Fronts
 pub mod Puts
 pub mod Reads
 pub mod Indexes
+pub mod Working

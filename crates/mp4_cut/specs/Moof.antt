@@ -15,7 +15,7 @@ use Rattle.mp4_pieces.specs.Rooms.{moof}
 use Rattle.mp4_pieces.specs.Sizes.{mdat_header_size, moof_size}
 
 -- what a fragment tells: its track_ID, the index of its sample entry, the version of its trun, the decode time of its first sample, and its rows
-pub record Fragment : Type 0 where
+pub record WrittenFragment : Type 0 where
   pub track : ℕ
   pub entry : ℕ
   pub version : ℕ
@@ -26,25 +26,25 @@ pub record Fragment : Type 0 where
 abbrev pub data_offset : List Row → ℕ
 data_offset rows = moof_size (length rows) + mdat_header_size (sizes rows)
 
-abbrev pub in_traf : Fragment → List ℕ
+abbrev pub in_traf : WrittenFragment → List ℕ
 in_traf f =
     box_bytes tfhd (tfhd_payload f.track f.entry)
     ++ (box_bytes tfdt (tfdt_payload f.time) ++ box_bytes trun (trun_payload f.version (data_offset f.rows) f.rows))
 
 -- in it an mfhd, and a traf
-abbrev pub in_moof : Fragment → ℕ → List ℕ
+abbrev pub in_moof : WrittenFragment → ℕ → List ℕ
 in_moof f sequence_number = box_bytes mfhd (mfhd_payload sequence_number) ++ box_bytes traf (in_traf f)
 
 -- the moof of a fragment with this number
-unfoldable pub moof_box : Fragment → ℕ → List ℕ
+unfoldable pub moof_box : WrittenFragment → ℕ → List ℕ
 moof_box f sequence_number = box_bytes moof (in_moof f sequence_number)
 
 -- ---- what is written for a piece of a run
 
 -- the fragment of a piece has its rows, and what all rows of its run share
-abbrev pub fragment_of : List ℕ → Run → Piece → Fragment
-fragment_of held run piece = record { track = run.track; entry = run.entry; version = run.version; time = piece.time; rows = rows_in held run piece }
+abbrev pub written_fragment : List ℕ → Run → Piece → WrittenFragment
+written_fragment held run piece = record { track = run.track; entry = run.entry; version = run.version; time = piece.time; rows = rows_in held run piece }
 
 -- the moof of a piece
 abbrev pub written_moof : Piece → Run → List ℕ → ℕ → List ℕ
-written_moof piece run held sequence_number = moof_box (fragment_of held run piece) sequence_number
+written_moof piece run held sequence_number = moof_box (written_fragment held run piece) sequence_number

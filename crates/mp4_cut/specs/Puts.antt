@@ -2,8 +2,8 @@
 use Rattle.std.specs.Prelude.{◌≡◌, ℕ, List, [], Option, Bool, true, Result, OnOk, OnErr}
 use Rattle.std.specs.Io.KnownBytes.{Appends}
 use Rattle.mp4_ends.specs.Streams.{AppendsPrefix}
-use Rattle.mp4_reading.specs.Blocks.{BreaksMarked, PassesMarked, Pending}
-use Rattle.mp4_reading.specs.declared.mark.Mark.{Mark}
+use Rattle.mp4_machine.specs.Blocks.{BreaksMarked, PassesMarked, Pending}
+use Rattle.mp4_machine.specs.declared.mark.Mark.{Mark}
 
 -- text with these marks went into the block behind what waited there, or the sink failed and took a front of both
 pub record PutsMarked {W E : Type 0} (contents : W → Option (List ℕ)) (has_failed : W → Bool) (old new : W) (waiting waiting' : Pending) (text : List ℕ) (marks : List Mark) (r : Result (Unit {0}) E) : Type 0 where

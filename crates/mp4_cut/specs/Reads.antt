@@ -11,13 +11,13 @@ use Rattle.mp4_frag.specs.declared.run.Run.{Run}
 use Rattle.mp4_frag.specs.declared.rows.Row.{Row}
 use Rattle.mp4_frag.specs.Rows.{durations, rows_of, sizes}
 use Rattle.mp4_frag.specs.Rules.{most_samples, track_with}
-use Rattle.mp4_frag.specs.Runs.{Held, TrackFragment, runs_of}
+use Rattle.mp4_frag.specs.Runs.{MoofBytes, TrackFragment, runs_of}
 use Rattle.mp4_frag.specs.Moofs.{IsRead, moof_runs, moof_samples, moof_trafs}
 use Rattle.mp4_frag.specs.RunLists.{taken_runs}
 use Rattle.mp4_frag.specs.Places.{place_fault}
 use Rattle.mp4_frag.specs.Settling.{settled, with_end}
 use Rattle.mp4_run_order.specs.declared.runs.Payload.{Payload}
-use Rattle.mp4_cut.specs.Moof.{Fragment, data_offset, moof_box}
+use Rattle.mp4_cut.specs.Moof.{WrittenFragment, data_offset, moof_box}
 
 -- ---- which fragments can be read again
 
@@ -36,7 +36,7 @@ pub record FitsRow (version : ℕ) (row : Row) : Type 0 where
   pub offset : FitsOffset version row.offset
 
 -- what a fragment tells fits its fields, and it ends within 64 bits
-pub record FitsFields (f : Fragment) : Type 0 where
+pub record FitsFields (f : WrittenFragment) : Type 0 where
   pub track : f.track < 2 ^ 32
   pub entry : f.entry < 2 ^ 32
   pub version : f.version ≤ 1
@@ -45,7 +45,7 @@ pub record FitsFields (f : Fragment) : Type 0 where
   pub rows : AllByRecursion (FitsRow f.version) f.rows
 
 -- it can be read behind tracks that have its track with its sample entry
-pub record CanBeRead (tracks : List Track) (f : Fragment) : Type 0 where
+pub record CanBeRead (tracks : List Track) (f : WrittenFragment) : Type 0 where
   pub fits : FitsFields f
   pub track : Track
   pub known : track_with f.track tracks ≡ Some track
@@ -74,11 +74,11 @@ pub record IsSoundRun (tracks : List Track) (held : List ℕ) (run : Run) : Type
 -- ---- what is read
 
 -- the bytes of a fragment's moof, which begins at an offset in the stream
-abbrev pub held_moof : Fragment → ℕ → ℕ → Held
+abbrev pub held_moof : WrittenFragment → ℕ → ℕ → MoofBytes
 held_moof f sequence_number offset = record { bytes = moof_box f sequence_number; offset = offset }
 
 -- a run tells what a fragment tells, whose moof is at an offset in the stream: its samples stand at data_offset
-pub record Tells (f : Fragment) (held : Held) (run : Run) : Type 0 where
+pub record Tells (f : WrittenFragment) (held : MoofBytes) (run : Run) : Type 0 where
   pub track : run.track ≡ f.track
   pub entry : run.entry ≡ f.entry
   pub version : run.version ≡ f.version
@@ -90,11 +90,11 @@ pub record Tells (f : Fragment) (held : Held) (run : Run) : Type 0 where
   pub rows : rows_of run held.bytes ≡ f.rows
 
 -- the payload of the mdat behind its moof
-abbrev pub media_of : Fragment → Held → Payload
+abbrev pub media_of : WrittenFragment → MoofBytes → Payload
 media_of f h = record { start = h.offset + data_offset f.rows; end = Some (h.offset + data_offset f.rows + sizes f.rows) }
 
 -- a moof without a fault is read, with one traf of one run, which tells what the fragment tells, and stands in the mdat behind the moof; behind the moof its track ends where the fragment ends
-pub record IsReadAs (tracks : List Track) (f : Fragment) (h : Held) : Type 0 where
+pub record IsReadAs (tracks : List Track) (f : WrittenFragment) (h : MoofBytes) : Type 0 where
   pub read : IsRead h tracks
   pub traf : TrackFragment
   pub trafs : moof_trafs h tracks ≡ traf ∷ []

@@ -12,7 +12,7 @@ ghost use Rattle.mp4_frag.specs.After.{StandsIn};
 ghost use Rattle.mp4_frag.specs.Kinds.{mfhd};
 ghost use Rattle.mp4_frag.specs.Laws.{first_cursor};
 ghost use Rattle.mp4_frag.specs.Moofs.{IsRead, moof_of, moof_runs};
-ghost use Rattle.mp4_frag.specs.Runs.{Held};
+ghost use Rattle.mp4_frag.specs.Runs.{MoofBytes};
 ghost use Rattle.mp4_pieces.specs.declared.cut.Cut.{Cut};
 ghost use Rattle.mp4_pieces.specs.declared.piece.Piece.{Piece};
 ghost use Rattle.mp4_pieces.specs.Fits.{FitsIndex};
@@ -22,10 +22,10 @@ ghost use Rattle.mp4_pieces.specs.Rooms.{moof};
 ghost use Rattle.mp4_pieces.specs.Sizes.{mdat_header_size, moof_size};
 ghost use Rattle.mp4_cut.specs.Indexes.{CanBeIndexed, IsIndexReadAs, index_in};
 ghost use Rattle.mp4_cut.specs.Mdat.{mdat, mdat_header};
-ghost use Rattle.mp4_cut.specs.Moof.{Fragment, fragment_of, moof_box, written_moof};
+ghost use Rattle.mp4_cut.specs.Moof.{WrittenFragment, written_fragment, moof_box, written_moof};
 ghost use Rattle.mp4_cut.specs.Reads.{CanBeRead, FitsFields, FitsTrack, IsHeaded, IsReadAs, Tells, header_of, held_moof};
 ghost use Rattle.mp4_cut.specs.Sidx.{sidx, written_index};
-ghost use Rattle.mp4_cut.specs.Starts.{IsGroupOf};
+ghost use Rattle.mp4_cut.specs.Working.Starts.{IsGroupOf};
 
 /// A moof of n samples has 92 + 16 n bytes, the header of an mdat 8 or 16, and an index of r pieces
 /// 40 + 12 r.
@@ -40,7 +40,7 @@ pub fn sizes()
 
 /// Each box begins with the header that says its type and its size.
 pub fn headers_are_read_again()
-    ensures moof { (f : Fragment) (sequence_number : ℕ) → FitsFields f →
+    ensures moof { (f : WrittenFragment) (sequence_number : ℕ) → FitsFields f →
         IsHeaded moof (moof_size (length f.rows)) 8 (moof_box f sequence_number) }
     ensures mdat { (bytes : ℕ) → bytes ≤ 2 ^ 62 → IsHeaded mdat (mdat_header_size bytes + bytes)
         (mdat_header_size bytes) (mdat_header bytes) }
@@ -52,22 +52,22 @@ pub fn headers_are_read_again()
 /// samples, times, flags, version and sample entry. Its run, taken as one piece, is the same
 /// fragment again.
 pub fn moofs_are_read_again()
-    ensures whole { (f : Fragment) (sequence_number : ℕ) → FitsFields f →
+    ensures whole { (f : WrittenFragment) (sequence_number : ℕ) → FitsFields f →
         IsWhole (moof_box f sequence_number) }
-    ensures bytes { (f : Fragment) (sequence_number : ℕ) → FitsFields f →
+    ensures bytes { (f : WrittenFragment) (sequence_number : ℕ) → FitsFields f →
         IsBytes (moof_box f sequence_number) }
-    ensures read { (tracks : List Track) (f : Fragment) (sequence_number offset : ℕ) →
+    ensures read { (tracks : List Track) (f : WrittenFragment) (sequence_number offset : ℕ) →
         CanBeRead tracks f → IsReadAs tracks f (held_moof f sequence_number offset) }
-    ensures again { (f : Fragment) (h : Held) (run : Run) → Tells f h run →
-        fragment_of h.bytes run (piece_at (first_cursor run) f.rows) ≡ f }
+    ensures again { (f : WrittenFragment) (h : MoofBytes) (run : Run) → Tells f h run →
+        written_fragment h.bytes run (piece_at (first_cursor run) f.rows) ≡ f }
 {}
 
 /// So it is with each piece of each run of a moof without a fault, behind the same tracks.
 pub fn pieces_can_be_read_again()
-    ensures { (h : Held) (tracks : List Track) (run : Run) (piece : Piece) → IsWhole h.bytes →
+    ensures { (h : MoofBytes) (tracks : List Track) (run : Run) (piece : Piece) → IsWhole h.bytes →
         IsBytes h.bytes → h.offset + length h.bytes ≤ 2 ^ 62 → AllByRecursion FitsTrack tracks →
         IsRead h tracks → StandsIn run (moof_runs h tracks) → IsPieceOf h.bytes run piece →
-        CanBeRead tracks (fragment_of h.bytes run piece) }
+        CanBeRead tracks (written_fragment h.bytes run piece) }
 {}
 
 /// Each group of the pieces of a run can be written, where an index has room for them.
@@ -96,7 +96,7 @@ pub fn indexes_are_read_again()
 /// The mfhd of a moof that is written has its sequence_number at the standard's offset (ISO/IEC
 /// 14496-12, 8.8.5), and there is no other mfhd.
 pub fn sequence_numbers_are_read_again()
-    ensures { (f : Fragment) (sequence_number offset : ℕ) → FitsFields f →
+    ensures { (f : WrittenFragment) (sequence_number offset : ℕ) → FitsFields f →
         sequence_number < 2 ^ 32 → map (λ b. number_in b.payload 4) (of_kind mfhd
         (children (moof_of (held_moof f sequence_number offset)))) ≡ sequence_number ∷ [] }
 {}

@@ -9,7 +9,7 @@ use crate::fields::Fields;
 use crate::write_fault::WriteFault;
 use mp4_box::FourCc;
 use mp4_ends::{Failed, Sink};
-use mp4_reading::Block;
+use mp4_machine::Block;
 
 const MDAT: FourCc = FourCc(*b"mdat");
 

@@ -2,7 +2,7 @@
 
 ghost use Rattle.std.specs.Prelude.{◌≡◌, ◌+◌, ◌≤◌, ◌++◌, length};
 ghost use Rattle.mp4_pieces.specs.Pieces.{IsPieceOf, IsRunOf};
-ghost use Rattle.mp4_cut.specs.Fronts.{moof_front};
+ghost use Rattle.mp4_cut.specs.Working.Fronts.{moof_front};
 ghost use Rattle.mp4_cut.specs.Moof.{written_moof};
 ghost use Rattle.mp4_cut.specs.Puts.{Puts, Writes};
 
@@ -18,14 +18,14 @@ use mp4_box::FourCc;
 use mp4_ends::{Failed, Sink};
 use mp4_frag::Run;
 use mp4_pieces::Piece;
-use mp4_reading::Block;
+use mp4_machine::Block;
 
 const MOOF: FourCc = FourCc(*b"moof");
 
 const TRAF: FourCc = FourCc(*b"traf");
 
 /// The moof of a piece, as far as its samples.
-#[tactic(auto, unfolding(crate::specs::Fronts::moof_front))]
+#[tactic(auto, unfolding(crate::specs::Working::Fronts::moof_front))]
 fn moof_front(piece: &Piece, run: &Run, sequence_number: u32) -> Fields
     requires { piece.now.count ≤ 1000000 }
     ensures { result ≡ moof_front run.now piece.now sequence_number }

@@ -6,10 +6,10 @@ ghost use Rattle.mp4_pieces.specs.Groups.{group_length};
 ghost use Rattle.mp4_pieces.specs.Pieces.{IsRunOf};
 ghost use Rattle.mp4_pieces.specs.Fits.{FitsReference, FitsTime};
 ghost use Rattle.mp4_pieces.specs.Sizes.{fragment_size};
-ghost use Rattle.mp4_cut.specs.Fronts.{index_front};
+ghost use Rattle.mp4_cut.specs.Working.Fronts.{index_front};
 ghost use Rattle.mp4_cut.specs.Puts.{Puts, Writes};
 ghost use Rattle.mp4_cut.specs.Sidx.{natural, reference_bytes, written_index};
-ghost use Rattle.mp4_cut.specs.Starts.{IsGroup, group_from};
+ghost use Rattle.mp4_cut.specs.Working.Starts.{IsGroup, group_from};
 
 use crate::fields::Fields;
 use crate::mdat::mdat_header_size;
@@ -20,7 +20,7 @@ use mp4_box::FourCc;
 use mp4_ends::{Failed, Sink};
 use mp4_frag::Run;
 use mp4_pieces::{Cut, Piece, Pieces};
-use mp4_reading::Block;
+use mp4_machine::Block;
 
 const SIDX: FourCc = FourCc(*b"sidx");
 
@@ -33,7 +33,7 @@ fn natural(z: i128) -> u64
 }
 
 /// The index of so many pieces, of which this is the first, as far as its references.
-#[tactic(auto, unfolding(crate::specs::Fronts::index_front))]
+#[tactic(auto, unfolding(crate::specs::Working::Fronts::index_front))]
 fn index_front(run: &Run, timescale: u32, first: &Piece, count: u16) -> Fields
     requires { FitsTime first.now.least }
     ensures { result ≡ index_front run.now timescale first.now count }

@@ -2,7 +2,7 @@
 
 ghost use Rattle.std.specs.Prelude.{◌≡◌, ◌+◌, ◌≤◌, ◌++◌, length, take};
 ghost use Rattle.std.specs.List.{flat_map};
-ghost use Rattle.mp4_cut.specs.Fronts.{trun_front};
+ghost use Rattle.mp4_cut.specs.Working.Fronts.{trun_front};
 ghost use Rattle.mp4_cut.specs.Puts.{Puts};
 ghost use Rattle.mp4_cut.specs.Trun.{offset_bits, sample_bytes};
 
@@ -11,7 +11,7 @@ use byteorder::{BigEndian, ByteOrder};
 use mp4_box::FourCc;
 use mp4_ends::{Failed, Sink};
 use mp4_frag::{Row, Rows};
-use mp4_reading::Block;
+use mp4_machine::Block;
 
 const TRUN: FourCc = FourCc(*b"trun");
 

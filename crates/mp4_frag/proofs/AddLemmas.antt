@@ -11,7 +11,7 @@ use Rattle.mp4_box.specs.declared.headers.FourCc.{FourCc}
 use Rattle.mp4_box.specs.Paths.{at_path, of_kind}
 use Rattle.mp4_box.specs.Trees.{Box, children}
 use Rattle.mp4_frag.specs.declared.at_once.Sound.{Sound}
-use Rattle.mp4_frag.specs.AtOnce.{Adds, IsCount, in_trafs, is_early, is_kind, most_32, most_64, times_early}
+use Rattle.mp4_frag.specs.Working.AtOnce.{Adds, IsCount, in_trafs, is_early, is_kind, most_32, most_64, times_early}
 use Rattle.mp4_frag.specs.Kinds.{tfdt, to_trun, traf, trun}
 use Rattle.mp4_frag.specs.Rules.{most_samples, samples_in, samples_of, too_many}
 use Rattle.mp4_frag.specs.Trun.{sample_count}

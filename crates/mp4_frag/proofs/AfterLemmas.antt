@@ -15,8 +15,9 @@ use Rattle.mp4_frag.specs.declared.run.Run.{Run}
 use Rattle.mp4_frag.specs.declared.traf.TrafHeader.{TrafHeader}
 use Rattle.mp4_frag.specs.Kinds.{traf, trun}
 use Rattle.mp4_frag.specs.Ranges.{InRange, IsSound}
-use Rattle.mp4_frag.specs.Runs.{Held, Shared, TrackFragment, end_in, end_place, run_at, run_of, runs_from, runs_of, shared_by, track_of, base_of, traf_of, trafs_by}
-use Rattle.mp4_frag.specs.After.{StandsBetween, StandsIn, all_behind, boxes_between, header_behind, runs_behind, shared_behind, trafs_behind}
+use Rattle.mp4_frag.specs.Runs.{MoofBytes, Shared, TrackFragment, end_in, end_place, run_at, run_of, runs_from, runs_of, shared_by, track_of, base_of, traf_of, trafs_by}
+use Rattle.mp4_frag.specs.After.{StandsBetween, StandsIn}
+use Rattle.mp4_frag.specs.Working.RunsBehind.{all_behind, boxes_between, header_behind, runs_behind, shared_behind, trafs_behind}
 use Rattle.mp4_frag.specs.Moofs.{IsRead, moof_of, moof_runs}
 use Rattle.mp4_frag.proofs.MoofLemmas.{moof_is}
 use Rattle.mp4_frag.proofs.PlaceLemmas.{Lies, children_lie, moof_lies}
@@ -62,14 +63,14 @@ behind (d ∷ xs) o x b ys fits e =
     ]
 
 -- the same in a box that lies in the bytes that are held
-record RestIn (h : Held) (p b : Box) (ys : List Box) : Type 0 where
+record RestIn (h : MoofBytes) (p b : Box) (ys : List Box) : Type 0 where
   within : end_in h b ≤ end_in h p
   rest : boxes_between h (end_in h b) (end_in h p) ≡ ys
 
-ends_at : (h : Held) (p : Box) (lies : Lies h p) → end_in h p ≡ lies.at + length p.payload
+ends_at : (h : MoofBytes) (p : Box) (lies : Lies h p) → end_in h p ≡ lies.at + length p.payload
 ends_at h p lies = omega (arith, lies.place)
 
-behind_in : (h : Held) (p b : Box) (xs ys : List Box) → Lies h p → children p ≡ xs ++ b ∷ ys → RestIn h p b ys
+behind_in : (h : MoofBytes) (p b : Box) (xs ys : List Box) → Lies h p → children p ≡ xs ++ b ∷ ys → RestIn h p b ys
 behind_in h p b xs ys lies e =
     let n : ℕ = length p.payload in
     let r = behind xs (payload_offset p) p.payload b ys lies.bytes e in
@@ -94,7 +95,7 @@ behind_in h p b xs ys lies e =
 
 -- ---- in a traf
 
-record InTraf (h : Held) (s : Shared) (t : Box) (run : Run) (after : List Run) : Type 0 where
+record InTraf (h : MoofBytes) (s : Shared) (t : Box) (run : Run) (after : List Run) : Type 0 where
   header : header_behind run ≡ s.header
   ends : run.traf_ends_at ≡ s.ends_at
   within : run.ends_at ≤ end_in h t
@@ -107,12 +108,12 @@ none_is run (x ∷ before) after e = absurd cc
 run_head : (x y : Run) (xs ys : List Run) → x ∷ xs ≡ y ∷ ys → (x ≡ y) × (xs ≡ ys)
 run_head x y xs ys e = (cc, cc)
 
-of_trun : (h : Held) (s : Shared) (time : ℕ) (last : ℤ) (b : Box) → s.moof ≡ h → (header_behind (run_of s time last b) ≡ s.header) × ((run_of s time last b).traf_ends_at ≡ s.ends_at) × ((run_of s time last b).ends_at ≡ end_in h b)
+of_trun : (h : MoofBytes) (s : Shared) (time : ℕ) (last : ℤ) (b : Box) → s.moof ≡ h → (header_behind (run_of s time last b) ≡ s.header) × ((run_of s time last b).traf_ends_at ≡ s.ends_at) × ((run_of s time last b).ends_at ≡ end_in h b)
 unfolding run_of run_at
-of_trun h s time last b e = (refl, refl, ap (λ (m : Held). end_in m b) e)
+of_trun h s time last b e = (refl, refl, ap (λ (m : MoofBytes). end_in m b) e)
 
 -- the first trun is that of the run
-this_trun : (h : Held) (s : Shared) (t c : Box) (pre cs : List Box) (time : ℕ) (last : ℤ) (run : Run) (after : List Run) → Lies h t → s.moof ≡ h → children t ≡ pre ++ c ∷ cs → run_of s time last c ≡ run
+this_trun : (h : MoofBytes) (s : Shared) (t c : Box) (pre cs : List Box) (time : ℕ) (last : ℤ) (run : Run) (after : List Run) → Lies h t → s.moof ≡ h → children t ≡ pre ++ c ∷ cs → run_of s time last c ≡ run
     → runs_from s (run_of s time last c).end (end_place (run_of s time last c)) (of_kind trun cs) ≡ after → InTraf h s t run after
 this_trun h s t c pre cs time last run after lies m split is rest =
     let parts = of_trun h s time last c m in
@@ -131,7 +132,7 @@ this_trun h s t c pre cs time last run after lies m split is rest =
 next_split : (pre : List Box) (c : Box) (cs bs : List Box) → bs ≡ pre ++ c ∷ cs → bs ≡ (pre ++ c ∷ []) ++ cs
 next_split pre c cs bs e = e ∙ sym (append_assoc pre (c ∷ []) cs)
 
-in_traf : (h : Held) (s : Shared) (t : Box) → Lies h t → s.moof ≡ h → (pre cs : List Box) (time : ℕ) (last : ℤ) (before after : List Run) (run : Run) → children t ≡ pre ++ cs
+in_traf : (h : MoofBytes) (s : Shared) (t : Box) → Lies h t → s.moof ≡ h → (pre cs : List Box) (time : ℕ) (last : ℤ) (before after : List Run) (run : Run) → children t ≡ pre ++ cs
     → runs_from s time last (of_kind trun cs) ≡ before ++ run ∷ after → InTraf h s t run after
 unfolding runs_from
 in_traf h s t lies m pre [] time last before after run split e = absurd (none_is run before after e)
@@ -156,7 +157,7 @@ in_traf h s t lies m pre (c ∷ cs) time last before after run split e =
 
 -- ---- in a moof
 
-pub record AfterIn (h : Held) (tracks : List Track) (run : Run) (after : List Run) : Type 0 where
+pub record AfterIn (h : MoofBytes) (tracks : List Track) (run : Run) (after : List Run) : Type 0 where
   pub low : run.ends_at ≤ run.traf_ends_at
   pub high : run.traf_ends_at ≤ length h.bytes
   pub here : run.size < 2 ^ 32 → InRange run
@@ -181,24 +182,24 @@ all_last [] run after all = all
 all_last (b ∷ before) run after all = all_last before run after all.1
 
 -- what the runs of its traf share
-shared_is : (h : Held) (s : Shared) (run : Run) → s.moof ≡ h → header_behind run ≡ s.header → run.traf_ends_at ≡ s.ends_at → shared_behind h run ≡ s
+shared_is : (h : MoofBytes) (s : Shared) (run : Run) → s.moof ≡ h → header_behind run ≡ s.header → run.traf_ends_at ≡ s.ends_at → shared_behind h run ≡ s
 shared_is h s run m header ends = rw (← m, header, ends) refl
 
-runs_behind_are : (h : Held) (s : Shared) (t : Box) (run : Run) (a : List Run) → s.moof ≡ h → s.ends_at ≡ end_in h t → InTraf h s t run a → runs_behind h run ≡ a
+runs_behind_are : (h : MoofBytes) (s : Shared) (t : Box) (run : Run) (a : List Run) → s.moof ≡ h → s.ends_at ≡ end_in h t → InTraf h s t run a → runs_behind h run ≡ a
 unfolding runs_behind
 runs_behind_are h s t run a m at i =
     ap (λ (x : Shared). runs_from x run.end (end_place run) (of_kind trun (boxes_between h run.ends_at run.traf_ends_at))) (shared_is h s run m i.header i.ends)
     ∙ ap (λ (n : ℕ). runs_from s run.end (end_place run) (of_kind trun (boxes_between h run.ends_at n))) (i.ends ∙ at)
     ∙ sym i.is
 
-trafs_behind_are : (h : Held) (tracks : List Track) (m t : Box) (run : Run) (bs : List Box) → run.traf_ends_at ≡ end_in h t → end_in h m ≡ length h.bytes → boxes_between h (end_in h t) (end_in h m) ≡ bs → trafs_behind h tracks run ≡ trafs_by h tracks bs
+trafs_behind_are : (h : MoofBytes) (tracks : List Track) (m t : Box) (run : Run) (bs : List Box) → run.traf_ends_at ≡ end_in h t → end_in h m ≡ length h.bytes → boxes_between h (end_in h t) (end_in h m) ≡ bs → trafs_behind h tracks run ≡ trafs_by h tracks bs
 unfolding trafs_behind
 trafs_behind_are h tracks m t run bs ends all e =
     ap (λ (n : ℕ). trafs_by h tracks (boxes_between h n (length h.bytes))) ends
     ∙ ap (λ (n : ℕ). trafs_by h tracks (boxes_between h (end_in h t) n)) (sym all)
     ∙ ap (trafs_by h tracks) e
 
-this_traf : (h : Held) (tracks : List Track) (m t : Box) (pre bs : List Box) (before after a : List Run) (run : Run) → Lies h m → Lies h t → end_in h m ≡ length h.bytes → children m ≡ pre ++ t ∷ bs
+this_traf : (h : MoofBytes) (tracks : List Track) (m t : Box) (pre bs : List Box) (before after a : List Run) (run : Run) → Lies h m → Lies h t → end_in h m ≡ length h.bytes → children m ≡ pre ++ t ∷ bs
     → IsSound (traf_of h tracks t) → AllByRecursion IsSound (trafs_by h tracks bs) → runs_of (traf_of h tracks t) ≡ before ++ run ∷ a → after ≡ a ++ flat_map runs_of (trafs_by h tracks bs) → AfterIn h tracks run after
 unfolding traf_of
 this_traf h tracks m t pre bs before after a run lies here all split sound sounds e rest =
@@ -218,7 +219,7 @@ this_traf h tracks m t pre bs before after a run lies here all split sound sound
       is = rest ∙ ap (λ (ts : List TrackFragment). a ++ flat_map runs_of ts) (sym trafs) ∙ ap (λ (xs : List Run). xs ++ flat_map runs_of (trafs_behind h tracks run)) (sym runs);
     }
 
-in_moof : (h : Held) (tracks : List Track) (m : Box) → Lies h m → end_in h m ≡ length h.bytes → (pre bs : List Box) → AllByRecursion (Lies h) bs → AllByRecursion IsSound (trafs_by h tracks bs) → (before after : List Run) (run : Run)
+in_moof : (h : MoofBytes) (tracks : List Track) (m : Box) → Lies h m → end_in h m ≡ length h.bytes → (pre bs : List Box) → AllByRecursion (Lies h) bs → AllByRecursion IsSound (trafs_by h tracks bs) → (before after : List Run) (run : Run)
     → children m ≡ pre ++ bs → flat_map runs_of (trafs_by h tracks bs) ≡ before ++ run ∷ after → AfterIn h tracks run after
 in_moof h tracks m lies all pre [] lie sound before after run split e = absurd (none_is run before after e)
 in_moof h tracks m lies all pre (t ∷ bs) lie sound before after run split e =
@@ -236,7 +237,7 @@ in_moof h tracks m lies all pre (t ∷ bs) lie sound before after run split e =
         ]
     by false later sound e = later sound before e
 
-pub after_is : (h : Held) (tracks : List Track) (m : Box) → h.offset ≤ 2 ^ 62 → IsWhole h.bytes → IsBytes h.bytes → box_at h.offset h.bytes ≡ Some m → moof_of h ≡ m → IsRead h tracks → (before after : List Run) (run : Run)
+pub after_is : (h : MoofBytes) (tracks : List Track) (m : Box) → h.offset ≤ 2 ^ 62 → IsWhole h.bytes → IsBytes h.bytes → box_at h.offset h.bytes ≡ Some m → moof_of h ≡ m → IsRead h tracks → (before after : List Run) (run : Run)
     → moof_runs h tracks ≡ before ++ run ∷ after → AfterIn h tracks run after
 after_is h tracks m near whole fits here is read before after run e =
     let lies = moof_lies h m whole fits here in
@@ -245,7 +246,7 @@ after_is h tracks m near whole fits here is read before after run e =
     let runs : flat_map runs_of (trafs_by h tracks (children m)) ≡ before ++ run ∷ after = ap (λ (b : Box). flat_map runs_of (trafs_by h tracks (children b))) (sym is) ∙ e in
     in_moof h tracks m lies all [] (children m) (children_lie h m lies) sound before after run refl runs
 
-pub after_run : (h : Held) (tracks : List Track) → h.offset ≤ 2 ^ 62 → IsWhole h.bytes → IsBytes h.bytes → IsRead h tracks → (before after : List Run) (run : Run) → StandsBetween (moof_runs h tracks) before run after → AfterIn h tracks run after
+pub after_run : (h : MoofBytes) (tracks : List Track) → h.offset ≤ 2 ^ 62 → IsWhole h.bytes → IsBytes h.bytes → IsRead h tracks → (before after : List Run) (run : Run) → StandsBetween (moof_runs h tracks) before run after → AfterIn h tracks run after
 after_run h tracks near whole fits read before after run s =
     elim (option_is (box_at h.offset h.bytes)) [
       | inl none ↦ absurd (whole_found h.offset h.bytes whole none)

@@ -17,7 +17,7 @@ use Rattle.mp4_box.proofs.OrderLemmas.{least-none}
 use Rattle.mp4_box.specs.Paths.{at_path, of_kind}
 use Rattle.mp4_box.specs.Trees.{Box, children, first_of}
 use Rattle.mp4_init.specs.declared.table.Track.{Track}
-use Rattle.mp4_frag.specs.AtOnce.{HasTicks, IsComplete, TrafHasTicks, by_moof, by_traf, faults_in_moof, faults_in_traf, has_both, has_one, is_complete, is_filled, is_kind, passed_over}
+use Rattle.mp4_frag.specs.Working.AtOnce.{HasTicks, IsComplete, TrafHasTicks, by_moof, by_traf, faults_in_moof, faults_in_traf, has_both, has_one, is_complete, is_filled, is_kind, passed_over}
 use Rattle.mp4_frag.specs.Kinds.{mfhd, traf, tfhd, tfdt, trun, free, skip}
 use Rattle.mp4_frag.specs.Mfhd.{mfhd_len}
 use Rattle.mp4_frag.specs.Moofs.{value_faults}

@@ -15,15 +15,15 @@ use Rattle.mp4_box.specs.Trees.{Box, box_at, children, first_of}
 use Rattle.mp4_init.specs.declared.table.Track.{Track}
 use Rattle.mp4_frag.specs.declared.rows.Row.{Row}
 use Rattle.mp4_frag.specs.declared.run.Run.{Run}
-use Rattle.mp4_frag.specs.AtOnce.{HasTicks, IsEarly, TrafHasTicks, has_both, has_one, is_early, times_early}
+use Rattle.mp4_frag.specs.Working.AtOnce.{HasTicks, IsEarly, TrafHasTicks, has_both, has_one, is_early, times_early}
 use Rattle.mp4_frag.specs.Fields.{payload_of}
 use Rattle.mp4_frag.specs.Kinds.{tfdt, tfhd, traf, trun}
 use Rattle.mp4_frag.specs.Moofs.{moof_of, moof_trafs, time_faults, time_faults_of, value_faults}
 use Rattle.mp4_frag.specs.Rows.{group_at, row_of}
 use Rattle.mp4_frag.specs.Rules.{count_faults, form_faults, most_samples, samples_in}
-use Rattle.mp4_frag.specs.Runs.{Held, Shared, base_by, known_track, run_at, tfhd_of, track_of, traf_of, trafs_by}
+use Rattle.mp4_frag.specs.Runs.{MoofBytes, Shared, base_by, known_track, run_at, tfhd_of, track_of, traf_of, trafs_by}
 use Rattle.mp4_frag.specs.Tfhd.{fields_of, track_id}
-use Rattle.mp4_frag.specs.Times.{late_from, ticks_in}
+use Rattle.mp4_frag.specs.Working.Times.{late_from, ticks_in}
 use Rattle.mp4_frag.specs.Trun.{sample_count}
 use Rattle.mp4_frag.proofs.MoofLemmas.{both_none, path_kind, values}
 use Rattle.mp4_frag.proofs.PlaceLemmas.{Lies, children_lie, kind_all, moof_lies}
@@ -72,7 +72,7 @@ both_true : (a b : Bool) → a && b ≡ true → (a ≡ true) × (b ≡ true)
 both_true true b e = (refl, e)
 both_true false b e = absurd cc
 
-traf_in_time : (h : Held) (tracks : List Track) (t : Box) → IsBytes h.bytes → Lies h t → samples_in (of_kind trun (children t)) ≤ most_samples → has_both t ≡ true → times_early t ≡ true → TrafHasTicks tracks t → time_faults_of (traf_of h tracks t) ≡ []
+traf_in_time : (h : MoofBytes) (tracks : List Track) (t : Box) → IsBytes h.bytes → Lies h t → samples_in (of_kind trun (children t)) ≤ most_samples → has_both t ≡ true → times_early t ≡ true → TrafHasTicks tracks t → time_faults_of (traf_of h tracks t) ≡ []
 unfolding traf_of
 traf_in_time h tracks t fits lies few both early ticks =
     let f = traf_of h tracks t in
@@ -84,7 +84,7 @@ traf_in_time h tracks t fits lies few both early ticks =
 
 -- ---- the trafs of a moof
 
-trafs_in_time : (h : Held) (tracks : List Track) (ts : List Box) → IsBytes h.bytes → AllByRecursion (Lies h) ts → AllByRecursion (λ (t : Box). samples_in (of_kind trun (children t)) ≤ most_samples) ts
+trafs_in_time : (h : MoofBytes) (tracks : List Track) (ts : List Box) → IsBytes h.bytes → AllByRecursion (Lies h) ts → AllByRecursion (λ (t : Box). samples_in (of_kind trun (children t)) ≤ most_samples) ts
     → list_all has_both ts ≡ true → list_all times_early ts ≡ true → AllByRecursion (TrafHasTicks tracks) ts → time_faults (map (traf_of h tracks) ts) ≡ []
 trafs_in_time h tracks [] fits lie few both early ticks = refl
 trafs_in_time h tracks (t ∷ ts) fits lie few both early ticks =
@@ -92,7 +92,7 @@ trafs_in_time h tracks (t ∷ ts) fits lie few both early ticks =
     let soon = both_true (times_early t) (list_all times_early ts) early in
     ap (λ (fs : List Fault). fs ++ time_faults (map (traf_of h tracks) ts)) (traf_in_time h tracks t fits lie.0 few.0 has.0 soon.0 ticks.0) ∙ trafs_in_time h tracks ts fits lie.1 few.1 has.1 soon.1 ticks.1
 
-pub early_in_time : (h : Held) (tracks : List Track) (m : Box) → IsWhole h.bytes → IsBytes h.bytes → box_at h.offset h.bytes ≡ Some m → moof_of h ≡ m → count_faults m ≡ [] → IsEarly tracks m → time_faults (moof_trafs h tracks) ≡ []
+pub early_in_time : (h : MoofBytes) (tracks : List Track) (m : Box) → IsWhole h.bytes → IsBytes h.bytes → box_at h.offset h.bytes ≡ Some m → moof_of h ≡ m → count_faults m ≡ [] → IsEarly tracks m → time_faults (moof_trafs h tracks) ≡ []
 early_in_time h tracks m whole fits here is count early =
     let lie = kind_all (Lies h) traf (children m) (children_lie h m (moof_lies h m whole fits here)) in
     ap (λ (b : Box). time_faults (trafs_by h tracks (children b))) is

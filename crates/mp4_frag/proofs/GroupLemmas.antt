@@ -22,7 +22,7 @@ use Rattle.mp4_frag.specs.Fields.{flags_in, place_if, width_if}
 use Rattle.mp4_frag.specs.Trun.{sample_count, sample_fields, trun_broken, trun_fields, trun_len, sample_duration_present, sample_size_present, sample_flags_present, sample_composition_time_offset_present, sample_size_at, sample_flags_at, sample_composition_time_offset_at}
 use Rattle.mp4_frag.specs.Rules.{form_faults, trun_length}
 use Rattle.mp4_frag.specs.Rows.{field_at, group_at, offset_at, offset_by, row_from, row_of, usual_flags}
-use Rattle.mp4_frag.specs.Runs.{Held, Shared, run_at, run_of, shared_by, track_of}
+use Rattle.mp4_frag.specs.Runs.{MoofBytes, Shared, run_at, run_of, shared_by, track_of}
 use Rattle.mp4_frag.specs.Moofs.{IsRead, moof_of}
 use Rattle.mp4_frag.specs.Laws.{RowsAreGroups, TrafRowsAreGroups}
 use Rattle.mp4_frag.proofs.MoofLemmas.{early, last_none, moof_is, read_early}
@@ -31,7 +31,7 @@ use Rattle.mp4_frag.proofs.SoundLemmas.{trun_path}
 
 -- ---- a number of the payload, in the moof
 
-byte_same : (h : Held) (b : Box) (lies : Lies h b) (x k : ℕ) → x + k < length b.payload → get_or (drop (lies.at + x) h.bytes) k 0 ≡ get_or (drop x b.payload) k 0
+byte_same : (h : MoofBytes) (b : Box) (lies : Lies h b) (x k : ℕ) → x + k < length b.payload → get_or (drop (lies.at + x) h.bytes) k 0 ≡ get_or (drop x b.payload) k 0
 byte_same h b lies x k within =
     get_or-drop (lies.at + x) h.bytes k 0
     ∙ ap (λ (n : ℕ). get_or h.bytes n 0) (omega arith)
@@ -43,7 +43,7 @@ byte_same h b lies x k within =
 four_same : (xs ys : List ℕ) → get_or xs 0 0 ≡ get_or ys 0 0 → get_or xs 1 0 ≡ get_or ys 1 0 → get_or xs 2 0 ≡ get_or ys 2 0 → get_or xs 3 0 ≡ get_or ys 3 0 → big_number 4 xs ≡ big_number 4 ys
 four_same xs ys a b c d = rw (a, b, c, d) refl
 
-number_same : (h : Held) (b : Box) (lies : Lies h b) (x : ℕ) → x + 4 ≤ length b.payload → number_in h.bytes (lies.at + x) ≡ number_in b.payload x
+number_same : (h : MoofBytes) (b : Box) (lies : Lies h b) (x : ℕ) → x + 4 ≤ length b.payload → number_in h.bytes (lies.at + x) ≡ number_in b.payload x
 number_same h b lies x within =
     ap (λ (t : Bool). cond t 0 (big_number 4 (drop (lies.at + x) h.bytes))) (le-ltb (length h.bytes) (lies.at + x + 4) (omega (arith, within, lies.within)))
     ∙ four_same (drop (lies.at + x) h.bytes) (drop x b.payload) (byte_same h b lies x 0 (omega (arith, within))) (byte_same h b lies x 1 (omega (arith, within))) (byte_same h b lies x 2 (omega (arith, within))) (byte_same h b lies x 3 (omega (arith, within)))
@@ -78,12 +78,12 @@ fields_within flags =
       offset = place_within (sample_composition_time_offset_present flags) (sample_composition_time_offset_at flags) len (omega arith);
     }
 
-field_same : (h : Held) (b : Box) (lies : Lies h b) (g len usual : ℕ) (o : Option ℕ) → Within o len → g + len ≤ length b.payload → field_at h.bytes (lies.at + g) o usual ≡ field_at b.payload g o usual
+field_same : (h : MoofBytes) (b : Box) (lies : Lies h b) (g len usual : ℕ) (o : Option ℕ) → Within o len → g + len ≤ length b.payload → field_at h.bytes (lies.at + g) o usual ≡ field_at b.payload g o usual
 field_same h b lies g len usual None w room = refl
 field_same h b lies g len usual (Some f) w room =
     ap (number_in h.bytes) (omega arith) ∙ number_same h b lies (g + f) (omega (arith, w.all f refl, room))
 
-offset_same : (h : Held) (b : Box) (lies : Lies h b) (version g len : ℕ) (o : Option ℕ) → Within o len → g + len ≤ length b.payload → offset_at h.bytes version (lies.at + g) o ≡ offset_at b.payload version g o
+offset_same : (h : MoofBytes) (b : Box) (lies : Lies h b) (version g len : ℕ) (o : Option ℕ) → Within o len → g + len ≤ length b.payload → offset_at h.bytes version (lies.at + g) o ≡ offset_at b.payload version g o
 offset_same h b lies version g len None w room = refl
 offset_same h b lies version g len (Some f) w room =
     ap (offset_by version) (ap (number_in h.bytes) (omega arith) ∙ number_same h b lies (g + f) (omega (arith, w.all f refl, room)))
@@ -114,7 +114,7 @@ room_for samples len count i n h e =
 
 -- ---- rows
 
-same_group : (run : Run) (h : Held) (b : Box) (lies : Lies h b) (flags g i : ℕ) → run.fields ≡ sample_fields flags → g + (sample_fields flags).len ≤ length b.payload → row_from run h.bytes i (lies.at + g) ≡ row_from run b.payload i g
+same_group : (run : Run) (h : MoofBytes) (b : Box) (lies : Lies h b) (flags g i : ℕ) → run.fields ≡ sample_fields flags → g + (sample_fields flags).len ≤ length b.payload → row_from run h.bytes i (lies.at + g) ≡ row_from run b.payload i g
 same_group run h b lies flags g i e room =
     let w = fields_within flags in
     let len : ℕ = (sample_fields flags).len in
@@ -162,12 +162,12 @@ all_rows : (s : Shared) (bs : List Box) → AllByRecursion (Lies s.moof) bs → 
 all_rows s [] lie good = tt
 all_rows s (b ∷ bs) lie good = (rows_same s b lie.0 good.0, all_rows s bs lie.1 good.1)
 
-all_trafs : (h : Held) (tracks : List Track) (ts : List Box) → AllByRecursion (Lies h) ts → AllByRecursion (λ (t : Box). AllByRecursion (λ (b : Box). trun_broken b.payload ≡ None) (of_kind trun (children t))) ts → AllByRecursion (TrafRowsAreGroups h tracks) ts
+all_trafs : (h : MoofBytes) (tracks : List Track) (ts : List Box) → AllByRecursion (Lies h) ts → AllByRecursion (λ (t : Box). AllByRecursion (λ (b : Box). trun_broken b.payload ≡ None) (of_kind trun (children t))) ts → AllByRecursion (TrafRowsAreGroups h tracks) ts
 all_trafs h tracks [] lie good = tt
 all_trafs h tracks (t ∷ ts) lie good =
     (all_rows (shared_by h (track_of tracks t) t) (of_kind trun (children t)) (kind_all (Lies h) trun (children t) (children_lie h t lie.0)) good.0, all_trafs h tracks ts lie.1 good.1)
 
-pub rows_are_groups : (h : Held) (tracks : List Track) → IsWhole h.bytes → IsBytes h.bytes → IsRead h tracks → AllByRecursion (TrafRowsAreGroups h tracks) (of_kind traf (children (moof_of h)))
+pub rows_are_groups : (h : MoofBytes) (tracks : List Track) → IsWhole h.bytes → IsBytes h.bytes → IsRead h tracks → AllByRecursion (TrafRowsAreGroups h tracks) (of_kind traf (children (moof_of h)))
 rows_are_groups h tracks whole fits read =
     elim (option_is (box_at h.offset h.bytes)) [
       | inl none ↦ absurd (whole_found h.offset h.bytes whole none)

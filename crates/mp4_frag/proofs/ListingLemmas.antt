@@ -12,11 +12,11 @@ use Rattle.mp4_run_order.proofs.ListLemmas.{Each, Pairs, all_of_pairs}
 use Rattle.mp4_frag.specs.declared.run.Run.{Run}
 use Rattle.mp4_frag.specs.Moofs.{moof_of, moof_runs, no_box}
 use Rattle.mp4_frag.specs.RunLists.{moof_listing}
-use Rattle.mp4_frag.specs.RunRows.{listed_run}
-use Rattle.mp4_frag.specs.Runs.{Held}
+use Rattle.mp4_frag.specs.Places.{listed_run}
+use Rattle.mp4_frag.specs.Runs.{MoofBytes}
 use Rattle.mp4_frag.proofs.RunRowLemmas.{Earlier, moof_runs_rise}
 
-payload_by : (h : Held) → IsBytes h.bytes → (o : Option Box) → box_at h.offset h.bytes ≡ o → IsBytes (unwrap_or o no_box).payload
+payload_by : (h : MoofBytes) → IsBytes h.bytes → (o : Option Box) → box_at h.offset h.bytes ≡ o → IsBytes (unwrap_or o no_box).payload
 payload_by h fits None e = IsBytes-take 0 h.bytes fits
 payload_by h fits (Some m) e = (stands h.offset h.bytes m fits e).bytes
 
@@ -29,7 +29,7 @@ pairs_listed [] h = tt
 pairs_listed (run ∷ runs) h = (each_listed (λ (b : ListedRun). run.offset < b.number) runs h.0, pairs_listed runs h.1)
 
 -- its truns rise
-pub is_listing : (h : Held) (tracks : List Track) → IsBytes h.bytes → IsListing (moof_listing h tracks)
+pub is_listing : (h : MoofBytes) (tracks : List Track) → IsBytes h.bytes → IsListing (moof_listing h tracks)
 is_listing h tracks fits =
     all_of_pairs (λ (a b : ListedRun). a.number < b.number) (moof_listing h tracks)
     (pairs_listed (moof_runs h tracks) (moof_runs_rise h tracks (moof_of h) (payload_by h fits (box_at h.offset h.bytes) refl)).rise)

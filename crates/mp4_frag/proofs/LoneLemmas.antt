@@ -8,7 +8,7 @@ use Rattle.mp4_box.specs.Paths.{at_path, of_kind}
 use Rattle.mp4_box.specs.Trees.{Box, children, first_of, view}
 use Rattle.mp4_box.specs.declared.box_ref.BoxRef.{BoxRef}
 use Rattle.mp4_init.specs.declared.table.Track.{Track}
-use Rattle.mp4_init.specs.Rows.{with_next}
+use Rattle.mp4_init.specs.Tracks.{with_next}
 use Rattle.mp4_frag.specs.declared.lone.LoneRun.{LoneRun}
 use Rattle.mp4_frag.specs.declared.run.Run.{Run}
 use Rattle.mp4_frag.specs.declared.traf.TrafHeader.{TrafHeader}
@@ -19,10 +19,10 @@ use Rattle.mp4_frag.specs.Moofs.{IsRead, moof_of, moof_runs, moof_samples, moof_
 use Rattle.mp4_frag.specs.Ranges.{InRange, IsSound}
 use Rattle.mp4_frag.specs.Rows.{rows_of}
 use Rattle.mp4_frag.specs.Rules.{form_faults, tfhd_faults, track_faults, track_with}
-use Rattle.mp4_frag.specs.Runs.{Held, Shared, TrackFragment, base_of, end_in, end_of, header_by, no_track, track_of, end_place, last_end, run_of, runs_from, runs_of, shared_by, tfhd_of, traf_of, trafs_by}
+use Rattle.mp4_frag.specs.Runs.{MoofBytes, Shared, TrackFragment, base_of, end_in, end_of, header_by, no_track, track_of, end_place, last_end, run_of, runs_from, runs_of, shared_by, tfhd_of, traf_of, trafs_by}
 use Rattle.mp4_frag.specs.Settling.{ended_at, settled}
 use Rattle.mp4_frag.specs.Tfhd.{track_id}
-use Rattle.mp4_frag.specs.Times.{ticks_in}
+use Rattle.mp4_frag.specs.Working.Times.{ticks_in}
 use Rattle.mp4_frag.proofs.MoofLemmas.{early, last_none, path_kind, read_early, values}
 use Rattle.mp4_frag.proofs.MoofListLemmas.{IsMoof}
 use Rattle.mp4_frag.proofs.RowLemmas.{length_rows_of}
@@ -42,12 +42,12 @@ unfolding runs_from
 only_run s time last b bs e = rw e refl
 
 -- the run of a traf with one trun
-pub record Lone (h : Held) (tracks : List Track) (t : Box) (s : Shared) (time : ℕ) (last : ℤ) (b : Box) : Type 0 where
+pub record Lone (h : MoofBytes) (tracks : List Track) (t : Box) (s : Shared) (time : ℕ) (last : ℤ) (b : Box) : Type 0 where
   pub is : runs_of (traf_of h tracks t) ≡ run_of s time last b ∷ []
   pub range : InRange (run_of s time last b)
   pub fits : time + ticks_in s b < 2 ^ 64
 
-pub lone : (h : Held) (tracks : List Track) (t : Box) (s : Shared) (time : ℕ) (last : ℤ) (bs : List Box) (b : Box) → Starts h tracks t s time last bs → s.header.size < 2 ^ 32 → IsSound (traf_of h tracks t) → of_kind trun bs ≡ b ∷ [] → Lone h tracks t s time last b
+pub lone : (h : MoofBytes) (tracks : List Track) (t : Box) (s : Shared) (time : ℕ) (last : ℤ) (bs : List Box) (b : Box) → Starts h tracks t s time last bs → s.header.size < 2 ^ 32 → IsSound (traf_of h tracks t) → of_kind trun bs ≡ b ∷ [] → Lone h tracks t s time last b
 lone h tracks t s time last bs b starts small sound e =
     let first = first_in_range s time last b (of_kind trun bs) [] e (runs_in_range h tracks t s time last bs starts small sound) in
     record {
@@ -57,7 +57,7 @@ lone h tracks t s time last bs b starts small sound e =
     }
 
 -- its track was found by its tfhd, and its time
-pub lone_found : (h : Held) (tracks : List Track) (t b : Box) (p : List ℕ) (id : ℕ) (o : Option ℕ) (track : Track) (header : TrafHeader) (ends time : ℕ) (last : ℤ)
+pub lone_found : (h : MoofBytes) (tracks : List Track) (t b : Box) (p : List ℕ) (id : ℕ) (o : Option ℕ) (track : Track) (header : TrafHeader) (ends time : ℕ) (last : ℤ)
     → p ≡ tfhd_of t → id ≡ track_id p → o ≡ position (λ (x : Track). x.id == id) tracks → track ≡ unwrap_or (option_and_then (slice_get tracks) o) no_track → header ≡ header_by track p → header.size < 2 ^ 32 → ends ≡ end_in h t → time ≡ base_of track.next t → last ≡ pos h.offset
     → IsSound (traf_of h tracks t) → of_kind trun (children t) ≡ b ∷ [] → Lone h tracks t (record { moof = h; header = header; ends_at = ends }) time last b
 lone_found h tracks t b p id o track header ends time last tfhd is found at by small end begins place sound e =
@@ -70,26 +70,26 @@ lone_found h tracks t b p id o track header ends time last tfhd is found at by s
     } in
     lone h tracks t (record { moof = h; header = header; ends_at = ends }) time last (children t) b starts small sound e
 
-pub not_lone : (h : Held) (tracks : List Track) (t : Box) (s : Shared) (time : ℕ) (last : ℤ) (bs : List Box) → Starts h tracks t s time last bs → length (of_kind trun bs) ≢ 1 → length (runs_of (traf_of h tracks t)) ≢ 1
+pub not_lone : (h : MoofBytes) (tracks : List Track) (t : Box) (s : Shared) (time : ℕ) (last : ℤ) (bs : List Box) → Starts h tracks t s time last bs → length (of_kind trun bs) ≢ 1 → length (runs_of (traf_of h tracks t)) ≢ 1
 not_lone h tracks t s time last bs starts more one =
     more (sym (run_count s time last (of_kind trun bs)) ∙ ap length (runs_are h tracks t s time last bs starts) ∙ one)
 
 -- ---- the only traf of a moof
 
-pub one_traf : (h : Held) (tracks : List Track) (m t : Box) → moof_of h ≡ m → of_kind traf (children m) ≡ t ∷ [] → moof_trafs h tracks ≡ traf_of h tracks t ∷ []
+pub one_traf : (h : MoofBytes) (tracks : List Track) (m t : Box) → moof_of h ≡ m → of_kind traf (children m) ≡ t ∷ [] → moof_trafs h tracks ≡ traf_of h tracks t ∷ []
 one_traf h tracks m t is e = ap (λ (b : Box). trafs_by h tracks (children b)) is ∙ ap (map (traf_of h tracks)) e
 
-pub one_sound : (h : Held) (tracks : List Track) (m t : Box) → IsMoof h m → IsRead h tracks → of_kind traf (children m) ≡ t ∷ [] → IsSound (traf_of h tracks t)
+pub one_sound : (h : MoofBytes) (tracks : List Track) (m t : Box) → IsMoof h m → IsRead h tracks → of_kind traf (children m) ≡ t ∷ [] → IsSound (traf_of h tracks t)
 one_sound h tracks m t f read e =
     let near : h.offset ≤ 2 ^ 62 = omega (arith, f.room) in
     (subst (λ (ts : List TrackFragment). AllByRecursion IsSound ts) (one_traf h tracks m t f.is e) (all_sound h tracks m near f.whole f.fits f.here f.is read)).0
 
 -- its runs are those of the moof
-moof_is_one : (h : Held) (tracks : List Track) (m t : Box) → moof_of h ≡ m → of_kind traf (children m) ≡ t ∷ [] → moof_runs h tracks ≡ runs_of (traf_of h tracks t)
+moof_is_one : (h : MoofBytes) (tracks : List Track) (m t : Box) → moof_of h ≡ m → of_kind traf (children m) ≡ t ∷ [] → moof_runs h tracks ≡ runs_of (traf_of h tracks t)
 moof_is_one h tracks m t is e = ap (flat_map runs_of) (one_traf h tracks m t is e) ∙ append-nil (runs_of (traf_of h tracks t))
 
 -- as many as it has truns
-pub runs_count : (h : Held) (tracks : List Track) (m t : Box) → moof_of h ≡ m → of_kind traf (children m) ≡ t ∷ [] → length (moof_runs h tracks) ≡ length (of_kind trun (children t))
+pub runs_count : (h : MoofBytes) (tracks : List Track) (m t : Box) → moof_of h ≡ m → of_kind traf (children m) ≡ t ∷ [] → length (moof_runs h tracks) ≡ length (of_kind trun (children t))
 runs_count h tracks m t is e =
     let track = track_of tracks t in
     let starts : Starts h tracks t (shared_by h track t) (base_of track.next t) (pos h.offset) (children t) = record { shared = refl; begins = refl; last = refl; truns = refl } in
@@ -101,7 +101,7 @@ pub only_one : (o : Option BoxRef) (bs : List Box) → IfSome o (λ b. bs ≡ vi
 only_one None bs only none = (λ e. absurd cc, λ e. absurd (none e))
 only_one (Some b) bs only none = (λ _. ap length only, λ _. refl)
 
-pub one_run : (h : Held) (tracks : List Track) (m t : Box) (one : Bool) → moof_of h ≡ m → of_kind traf (children m) ≡ t ∷ [] → (one ≡ true) ↔ (length (of_kind trun (children t)) ≡ 1)
+pub one_run : (h : MoofBytes) (tracks : List Track) (m t : Box) (one : Bool) → moof_of h ≡ m → of_kind traf (children m) ≡ t ∷ [] → (one ≡ true) ↔ (length (of_kind trun (children t)) ≡ 1)
     → (one ≡ true) ↔ ((length (moof_trafs h tracks) ≡ 1) × (length (moof_runs h tracks) ≡ 1))
 one_run h tracks m t one is e found =
     let runs = runs_count h tracks m t is e in
@@ -141,7 +141,7 @@ traf_known tracks m t form value e =
     let none : flat_map (tfhd_faults tracks) hs ≡ [] = ap (flat_map (tfhd_faults tracks)) (sym (path ∙ path_kind tfhd t)) ∙ value in
     subst (λ (bs : List Box). IsSome (position (λ (x : Track). x.id == track_id (payload_of (first_of bs))) tracks)) (sym (path_kind tfhd t)) (header_known tracks t hs alone_so none)
 
-pub one_known : (h : Held) (tracks : List Track) (m t : Box) → moof_of h ≡ m → IsRead h tracks → of_kind traf (children m) ≡ t ∷ [] → IsSome (position (λ (x : Track). x.id == track_id (tfhd_of t)) tracks)
+pub one_known : (h : MoofBytes) (tracks : List Track) (m t : Box) → moof_of h ≡ m → IsRead h tracks → of_kind traf (children m) ≡ t ∷ [] → IsSome (position (λ (x : Track). x.id == track_id (tfhd_of t)) tracks)
 one_known h tracks m t is read e =
     let none = early h tracks (read_early h tracks read) in
     let form : along (one tfhd) (traf ∷ []) m ≡ [] = ap (along (one tfhd) (traf ∷ [])) (sym is) ∙ one_header (moof_of h) none.form in
@@ -150,20 +150,20 @@ one_known h tracks m t is read e =
 
 -- ---- what its run tells of the moof
 
-run_samples : (h : Held) (tracks : List Track) (run : Run) → moof_runs h tracks ≡ run ∷ [] → run.count ≡ moof_samples h
+run_samples : (h : MoofBytes) (tracks : List Track) (run : Run) → moof_runs h tracks ≡ run ∷ [] → run.count ≡ moof_samples h
 run_samples h tracks run e =
     sym (ap length (append-nil (rows_of run h.bytes)) ∙ length_rows_of run h.bytes)
     ∙ ap (λ (runs : List Run). length (flat_map (λ (r : Run). rows_of r h.bytes) runs)) (sym e)
     ∙ rows_are_samples h tracks
 
-traf_id : (h : Held) (tracks : List Track) (t : Box) → (traf_of h tracks t).shared.header.track ≡ track_id (tfhd_of t)
+traf_id : (h : MoofBytes) (tracks : List Track) (t : Box) → (traf_of h tracks t).shared.header.track ≡ track_id (tfhd_of t)
 unfolding traf_of
 traf_id h tracks t = refl
 
 end_by : (time : ℕ) (run : Run) (runs : List Run) → runs ≡ run ∷ [] → last_end time runs ≡ run.end
 end_by time run runs e = rw e refl
 
-run_ends : (h : Held) (tracks : List Track) (m t : Box) (run : Run) (i : ℕ) → moof_of h ≡ m → of_kind traf (children m) ≡ t ∷ [] → runs_of (traf_of h tracks t) ≡ run ∷ [] → position (λ (x : Track). x.id == track_id (tfhd_of t)) tracks ≡ Some i
+run_ends : (h : MoofBytes) (tracks : List Track) (m t : Box) (run : Run) (i : ℕ) → moof_of h ≡ m → of_kind traf (children m) ≡ t ∷ [] → runs_of (traf_of h tracks t) ≡ run ∷ [] → position (λ (x : Track). x.id == track_id (tfhd_of t)) tracks ≡ Some i
     → settled tracks (moof_trafs h tracks) ≡ with_next i run.end tracks
 run_ends h tracks m t run i is e only at =
     ap (settled tracks) (one_traf h tracks m t is e)
@@ -173,7 +173,7 @@ run_ends h tracks m t run i is e only at =
 
 -- ---- what is told of it, where it is the only one
 
-pub one_lone : (h : Held) (tracks : List Track) (m t : Box) (l : LoneRun) → moof_of h ≡ m → of_kind traf (children m) ≡ t ∷ [] → IsRead h tracks → runs_of (traf_of h tracks t) ≡ l.run ∷ [] → InRange l.run
+pub one_lone : (h : MoofBytes) (tracks : List Track) (m t : Box) (l : LoneRun) → moof_of h ≡ m → of_kind traf (children m) ≡ t ∷ [] → IsRead h tracks → runs_of (traf_of h tracks t) ≡ l.run ∷ [] → InRange l.run
     → position (λ (x : Track). x.id == track_id (tfhd_of t)) tracks ≡ Some l.track → l.track < length tracks → IsLone h tracks l
 one_lone h tracks m t l is e read only range at known =
     let run = moof_is_one h tracks m t is e ∙ only in
@@ -187,7 +187,7 @@ one_lone h tracks m t l is e read only range at known =
       ends = run_ends h tracks m t l.run l.track is e only at;
     }
 
-pub lone_told : (h : Held) (tracks : List Track) (m t : Box) (o : Option LoneRun) → moof_of h ≡ m → of_kind traf (children m) ≡ t ∷ [] → IsRead h tracks → IfSome o (λ l. runs_of (traf_of h tracks t) ≡ l.run ∷ []) → IfSome o (λ l. InRange l.run)
+pub lone_told : (h : MoofBytes) (tracks : List Track) (m t : Box) (o : Option LoneRun) → moof_of h ≡ m → of_kind traf (children m) ≡ t ∷ [] → IsRead h tracks → IfSome o (λ l. runs_of (traf_of h tracks t) ≡ l.run ∷ []) → IfSome o (λ l. InRange l.run)
     → IfSome o (λ l. position (λ (x : Track). x.id == track_id (tfhd_of t)) tracks ≡ Some l.track) → IfSome o (λ l. l.track < length tracks) → IfSome o (λ l. IsLone h tracks l)
 lone_told h tracks m t None is e read only range at known = tt
 lone_told h tracks m t (Some l) is e read only range at known = one_lone h tracks m t l is e read only range at known

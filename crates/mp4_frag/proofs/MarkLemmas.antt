@@ -4,10 +4,11 @@ use Rattle.std.specs.Prelude.{replicate, slice_index_or}
 use Rattle.std.proofs.lemmas.List.{get_or_default, length-replicate, length-set, get_or-replicate, get_or-set_same, get_or-set_other}
 use Rattle.std.proofs.lemmas.Bool.Decides.{nat_tests}
 use Rattle.mp4_box.specs.Trees.{Box}
-use Rattle.mp4_init.specs.OrderedIds.{sought}
+use Rattle.mp4_init.specs.Working.OrderedIds.{sought}
 use Rattle.mp4_init.proofs.SearchTreeLemmas.{is_same}
 use Rattle.mp4_init.proofs.OrderedIdLemmas.{same_id}
-use Rattle.mp4_frag.specs.Repeats.{traf_id, is_listed, marked_at, all_marked, marks}
+use Rattle.mp4_frag.specs.Repeats.{traf_id, is_listed}
+use Rattle.mp4_frag.specs.Working.RepeatMarks.{marked_at, all_marked, marks}
 
 pub length-marked_at : (seen : List Bool) (o : Option ℕ) → length (marked_at seen o) ≡ length seen
 length-marked_at seen None = refl

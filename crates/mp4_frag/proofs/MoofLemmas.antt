@@ -16,13 +16,13 @@ use Rattle.mp4_frag.specs.Kinds.{traf, trun, to_tfhd, to_trun}
 use Rattle.mp4_frag.specs.Repeats.{repeat_faults}
 use Rattle.mp4_frag.specs.Rules.{child_faults, count_faults, form_faults, tfhd_faults, trun_faults}
 use Rattle.mp4_frag.specs.Moofs.{IsRead, early_fault, moof_fault, moof_faults, moof_of, no_box, moof_trafs, time_faults, time_faults_of, value_faults}
-use Rattle.mp4_frag.specs.Runs.{Held, traf_of, trafs_by}
+use Rattle.mp4_frag.specs.Runs.{MoofBytes, traf_of, trafs_by}
 
 pub moof_is : (o : ℕ) (x : List ℕ) (b : Box) → box_at o x ≡ Some b → moof_of (record { bytes = x; offset = o }) ≡ b
 moof_is o x b e = ap (λ (m : Option Box). unwrap_or m no_box) e
 
 -- the trafs of a moof on their path, one by one
-along_map : (h : Held) (tracks : List Track) (bs : List Box) → flat_map (λ (t : Box). time_faults_of (traf_of h tracks t)) bs ≡ time_faults (map (traf_of h tracks) bs)
+along_map : (h : MoofBytes) (tracks : List Track) (bs : List Box) → flat_map (λ (t : Box). time_faults_of (traf_of h tracks t)) bs ≡ time_faults (map (traf_of h tracks) bs)
 along_map h tracks [] = refl
 along_map h tracks (b ∷ bs) = ap (λ (fs : List Fault). time_faults_of (traf_of h tracks b) ++ fs) (along_map h tracks bs)
 
@@ -50,7 +50,7 @@ pub on_path : (m : Box) → at_path (traf ∷ []) m ≡ of_kind traf (children m
 unfolding at_path
 on_path m = path_one (of_kind traf (children m))
 
-pub times_along : (h : Held) (tracks : List Track) (m : Box) → moof_of h ≡ m → flat_map (λ (t : Box). time_faults_of (traf_of h tracks t)) (at_path (traf ∷ []) m) ≡ time_faults (moof_trafs h tracks)
+pub times_along : (h : MoofBytes) (tracks : List Track) (m : Box) → moof_of h ≡ m → flat_map (λ (t : Box). time_faults_of (traf_of h tracks t)) (at_path (traf ∷ []) m) ≡ time_faults (moof_trafs h tracks)
 times_along h tracks m e =
     ap (λ (bs : List Box). flat_map (λ (t : Box). time_faults_of (traf_of h tracks t)) bs) (on_path m)
     ∙ along_map h tracks (of_kind traf (children m))
@@ -71,12 +71,12 @@ verdict_none [] e = refl
 verdict_none (f ∷ fs) e = absurd cc
 
 -- what is known where all rules but that of times hold
-pub record Early (h : Held) (tracks : List Track) : Type 0 where
+pub record Early (h : MoofBytes) (tracks : List Track) : Type 0 where
   pub tree : tree_faults h.offset h.bytes ≡ []
   pub form : form_faults (moof_of h) ≡ []
   pub value : value_faults tracks (moof_of h) ≡ []
 
-pub early : (h : Held) (tracks : List Track) → early_fault h tracks ≡ None → Early h tracks
+pub early : (h : MoofBytes) (tracks : List Track) → early_fault h tracks ≡ None → Early h tracks
 unfolding early_fault
 early h tracks e =
     let a = both_none (fault_of (verdict (tree_faults h.offset h.bytes))) (option_or (least (form_faults (moof_of h))) (least (value_faults tracks (moof_of h)))) e in
@@ -104,16 +104,16 @@ values tracks m e =
     let d = last_none (child_faults m) (repeat_faults m) c.0 in
     record { children = d.0; repeats = d.1; tfhds = c.1; truns = b.1; count = a.1 }
 
-pub count_none : (h : Held) (tracks : List Track) → early_fault h tracks ≡ None → count_faults (moof_of h) ≡ []
+pub count_none : (h : MoofBytes) (tracks : List Track) → early_fault h tracks ≡ None → count_faults (moof_of h) ≡ []
 count_none h tracks e = (values tracks (moof_of h) (early h tracks e).value).count
 
-pub read_early : (h : Held) (tracks : List Track) → IsRead h tracks → early_fault h tracks ≡ None
+pub read_early : (h : MoofBytes) (tracks : List Track) → IsRead h tracks → early_fault h tracks ≡ None
 read_early h tracks e = (both_none (early_fault h tracks) (least (time_faults (moof_trafs h tracks))) e).0
 
-pub read_times : (h : Held) (tracks : List Track) → IsRead h tracks → time_faults (moof_trafs h tracks) ≡ []
+pub read_times : (h : MoofBytes) (tracks : List Track) → IsRead h tracks → time_faults (moof_trafs h tracks) ≡ []
 read_times h tracks e = least-none (time_faults (moof_trafs h tracks)) (both_none (early_fault h tracks) (least (time_faults (moof_trafs h tracks))) e).1
 
-pub read_count : (h : Held) (tracks : List Track) → IsRead h tracks → count_faults (moof_of h) ≡ []
+pub read_count : (h : MoofBytes) (tracks : List Track) → IsRead h tracks → count_faults (moof_of h) ≡ []
 read_count h tracks e = count_none h tracks (read_early h tracks e)
 
 -- ---- the least fault
@@ -145,7 +145,7 @@ or-assoc None b c = refl
 or-assoc (Some a) b c = refl
 
 -- where the tree is good the fault is the least of the content
-pub sound_least : (h : Held) (tracks : List Track) (f : Fault) → tree_faults h.offset h.bytes ≡ [] → moof_fault h tracks ≡ Some f → IsLeast f (moof_faults h tracks)
+pub sound_least : (h : MoofBytes) (tracks : List Track) (f : Fault) → tree_faults h.offset h.bytes ≡ [] → moof_fault h tracks ≡ Some f → IsLeast f (moof_faults h tracks)
 unfolding early_fault
 sound_least h tracks f none e =
     let m = moof_of h in
@@ -156,32 +156,32 @@ sound_least h tracks f none e =
     subst (λ (fs : List Fault). IsLeast f (or_else fs (or_else (form_faults m) (or_else (value_faults tracks m) times)))) (sym none) (content_least tracks m times f content)
 
 -- else it is the least of the tree
-pub tree_least : (h : Held) (tracks : List Track) (f : Fault) → IsLeast f (tree_faults h.offset h.bytes) → IsLeast f (moof_faults h tracks)
+pub tree_least : (h : MoofBytes) (tracks : List Track) (f : Fault) → IsLeast f (tree_faults h.offset h.bytes) → IsLeast f (moof_faults h tracks)
 tree_least h tracks f l = or_least (tree_faults h.offset h.bytes) (or_else (form_faults (moof_of h)) (or_else (value_faults tracks (moof_of h)) (time_faults (moof_trafs h tracks)))) f l
 
 verdict_ok : (fs : List Fault) → verdict fs ≡ Ok tt → fs ≡ []
 verdict_ok [] e = refl
 verdict_ok (f ∷ fs) e = absurd cc
 
-pub early_least : (h : Held) (tracks : List Track) (f : Fault) → verdict (tree_faults h.offset h.bytes) ≡ Ok tt → early_fault h tracks ≡ Some f → IsLeast f (moof_faults h tracks)
+pub early_least : (h : MoofBytes) (tracks : List Track) (f : Fault) → verdict (tree_faults h.offset h.bytes) ≡ Ok tt → early_fault h tracks ≡ Some f → IsLeast f (moof_faults h tracks)
 early_least h tracks f good e = sound_least h tracks f (verdict_ok (tree_faults h.offset h.bytes) good) (ap (λ (o : Option Fault). option_or o (least (time_faults (moof_trafs h tracks)))) e)
 
-pub late_least : (h : Held) (tracks : List Track) (f : Fault) → early_fault h tracks ≡ None → least (time_faults (moof_trafs h tracks)) ≡ Some f → IsLeast f (moof_faults h tracks)
+pub late_least : (h : MoofBytes) (tracks : List Track) (f : Fault) → early_fault h tracks ≡ None → least (time_faults (moof_trafs h tracks)) ≡ Some f → IsLeast f (moof_faults h tracks)
 late_least h tracks f none e = sound_least h tracks f (early h tracks none).tree (ap (λ (o : Option Fault). option_or o (least (time_faults (moof_trafs h tracks)))) none ∙ e)
 
-pub early_is : (h : Held) (tracks : List Track) (m : Box) (o : Option Fault) → moof_of h ≡ m → verdict (tree_faults h.offset h.bytes) ≡ Ok tt → o ≡ option_or (least (form_faults m)) (least (value_faults tracks m)) → o ≡ early_fault h tracks
+pub early_is : (h : MoofBytes) (tracks : List Track) (m : Box) (o : Option Fault) → moof_of h ≡ m → verdict (tree_faults h.offset h.bytes) ≡ Ok tt → o ≡ option_or (least (form_faults m)) (least (value_faults tracks m)) → o ≡ early_fault h tracks
 unfolding early_fault
 early_is h tracks m o is good e =
     e
     ∙ ap (λ (b : Box). option_or (least (form_faults b)) (least (value_faults tracks b))) (sym is)
     ∙ ap (λ (fs : List Fault). option_or (fault_of (verdict fs)) (option_or (least (form_faults (moof_of h))) (least (value_faults tracks (moof_of h))))) (sym (verdict_ok (tree_faults h.offset h.bytes) good))
 
-pub content_fault_least : (h : Held) (tracks : List Track) (m : Box) (o : Option Fault) → moof_of h ≡ m → verdict (tree_faults h.offset h.bytes) ≡ Ok tt → o ≡ option_or (least (form_faults m)) (least (value_faults tracks m))
+pub content_fault_least : (h : MoofBytes) (tracks : List Track) (m : Box) (o : Option Fault) → moof_of h ≡ m → verdict (tree_faults h.offset h.bytes) ≡ Ok tt → o ≡ option_or (least (form_faults m)) (least (value_faults tracks m))
     → IfSome o (λ f. IsLeast f (moof_faults h tracks))
 content_fault_least h tracks m None is good e = tt
 content_fault_least h tracks m (Some f) is good e = early_least h tracks f good (sym (early_is h tracks m (Some f) is good e))
 
-pub nothing_at_fault : (h : Held) (tracks : List Track) → IsRead h tracks → moof_faults h tracks ≡ []
+pub nothing_at_fault : (h : MoofBytes) (tracks : List Track) → IsRead h tracks → moof_faults h tracks ≡ []
 nothing_at_fault h tracks e =
     let none = early h tracks (read_early h tracks e) in
     let times = time_faults (moof_trafs h tracks) in

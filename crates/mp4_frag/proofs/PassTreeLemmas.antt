@@ -12,11 +12,11 @@ use Rattle.mp4_box.specs.Trees.{Box, bad_below, bad_rest, box_at, box_faults, bo
 use Rattle.mp4_box.proofs.FilledLemmas.{over-each, over-filled}
 use Rattle.mp4_box.proofs.TreeLemmas.{bad-leaf, bad-step, deep-leaf, deep-step}
 use Rattle.mp4_init.specs.declared.table.Track.{Track}
-use Rattle.mp4_frag.specs.AtOnce.{by_moof, faults_in_moof, faults_in_traf, has_both, is_complete, is_filled, is_kind, passed_over}
+use Rattle.mp4_frag.specs.Working.AtOnce.{by_moof, faults_in_moof, faults_in_traf, has_both, is_complete, is_filled, is_kind, passed_over}
 use Rattle.mp4_frag.specs.Kinds.{mfhd, traf, tfhd, tfdt, trun, free, skip}
 use Rattle.mp4_frag.specs.Moofs.{early_fault, moof_of, value_faults}
 use Rattle.mp4_frag.specs.Rules.{fault_if, form_faults, is_among}
-use Rattle.mp4_frag.specs.Runs.{Held}
+use Rattle.mp4_frag.specs.Runs.{MoofBytes}
 use Rattle.mp4_frag.proofs.AtOnceLemmas.{Passed, both_true, complete_first, each_none, none_least, supported_in_traf, traf_is}
 use Rattle.mp4_frag.proofs.MoofLemmas.{early_is, last_none}
 
@@ -118,6 +118,6 @@ no_tree tracks m p =
 
 -- ---- so it has no early fault
 
-pub none_early : (h : Held) (tracks : List Track) (m : Box) → box_at h.offset h.bytes ≡ Some m → moof_of h ≡ m → box_faults m ≡ [] → form_faults m ≡ [] → value_faults tracks m ≡ [] → None ≡ early_fault h tracks
+pub none_early : (h : MoofBytes) (tracks : List Track) (m : Box) → box_at h.offset h.bytes ≡ Some m → moof_of h ≡ m → box_faults m ≡ [] → form_faults m ≡ [] → value_faults tracks m ≡ [] → None ≡ early_fault h tracks
 none_early h tracks m here is tree forms values =
     early_is h tracks m None is (ap verdict (ap faults_of here ∙ tree)) (none_least (form_faults m) (value_faults tracks m) forms values)

@@ -10,10 +10,10 @@ use Rattle.mp4_box.specs.Trees.{Box, box_at, box_len, boxes, children, payload_o
 use Rattle.mp4_box.proofs.GrammarLemmas.{option_is, stands, whole_len}
 use Rattle.mp4_box.proofs.HeaderLemmas.{IsBytes-drop}
 use Rattle.mp4_box.proofs.TreeLemmas.{boxes_more, boxes_end, over-end}
-use Rattle.mp4_frag.specs.Runs.{Held}
+use Rattle.mp4_frag.specs.Runs.{MoofBytes}
 
 -- the payload of a box is a part of the bytes that are held
-pub record Lies (h : Held) (b : Box) : Type 0 where
+pub record Lies (h : MoofBytes) (b : Box) : Type 0 where
   pub at : ℕ
   pub place : payload_offset b ≡ h.offset + at
   pub within : at + length b.payload ≤ length h.bytes
@@ -33,7 +33,7 @@ inner x at n j m fits =
 behind_head : (whole head payload : List ℕ) (n : ℕ) → whole ≡ head ++ payload → n ≡ length head → payload ≡ drop n whole
 behind_head whole head payload n e is = sym (drop_at head payload n (sym is)) ∙ ap (drop n) (sym e)
 
-child_lies : (h : Held) (p b : Box) (k : ℕ) → Lies h p → k ≤ length p.payload → box_at (payload_offset p + k) (drop k p.payload) ≡ Some b → Lies h b
+child_lies : (h : MoofBytes) (p b : Box) (k : ℕ) → Lies h p → k ≤ length p.payload → box_at (payload_offset p + k) (drop k p.payload) ≡ Some b → Lies h b
 child_lies h p b k lies within e =
     let x : List ℕ = drop k p.payload in
     let s = stands (payload_offset p + k) x b (IsBytes-drop k p.payload lies.bytes) e in
@@ -55,7 +55,7 @@ child_lies h p b k lies within e =
 none_left : (o : ℕ) (x : List ℕ) → length x ≡ 0 → boxes o x ≡ []
 none_left o x e = over-end (λ b. b ∷ []) (λ _ _. []) x o e
 
-rest_lie : (h : Held) (p : Box) (lies : Lies h p) (fuel k : ℕ) → length p.payload ≤ k + fuel → AllByRecursion (Lies h) (boxes (payload_offset p + k) (drop k p.payload))
+rest_lie : (h : MoofBytes) (p : Box) (lies : Lies h p) (fuel k : ℕ) → length p.payload ≤ k + fuel → AllByRecursion (Lies h) (boxes (payload_offset p + k) (drop k p.payload))
 rest_lie h p lies zero k e =
     subst (λ (bs : List Box). AllByRecursion (Lies h) bs) (sym (none_left (payload_offset p + k) (drop k p.payload) (omega (arith, e, length-drop k p.payload)))) tt
 rest_lie h p lies (suc fuel) k e =
@@ -77,7 +77,7 @@ rest_lie h p lies (suc fuel) k e =
     ]
 
 -- the children of a box that lies in the bytes lie there too
-pub children_lie : (h : Held) (p : Box) → Lies h p → AllByRecursion (Lies h) (children p)
+pub children_lie : (h : MoofBytes) (p : Box) → Lies h p → AllByRecursion (Lies h) (children p)
 children_lie h p lies =
     let all = rest_lie h p lies (length p.payload) 0 (omega arith) in
     let none : payload_offset p + 0 ≡ payload_offset p = omega arith in
@@ -93,7 +93,7 @@ kind_all P kind (b ∷ bs) all = by (bytes_eq b.header.kind.0 kind.0) (kind_all 
     by false rest = rest
 
 -- the moof itself
-pub moof_lies : (h : Held) (m : Box) → IsWhole h.bytes → IsBytes h.bytes → box_at h.offset h.bytes ≡ Some m → Lies h m
+pub moof_lies : (h : MoofBytes) (m : Box) → IsWhole h.bytes → IsBytes h.bytes → box_at h.offset h.bytes ≡ Some m → Lies h m
 moof_lies h m whole fits e =
     let s = stands h.offset h.bytes m fits e in
     let n : ℕ = m.header.header_len in

@@ -13,18 +13,20 @@ use Rattle.mp4_run_order.specs.Orders.{FitsKeys, IsTakenBefore, IsTakingOrder, I
 use Rattle.mp4_box.specs.declared.rules.Fault.{Fault}
 use Rattle.mp4_run_order.specs.Places.{IsOffender, first_offender}
 use Rattle.mp4_run_order.specs.Runs.{IsListing}
-use Rattle.mp4_run_order.specs.Searches.{found_by_place, found_by_track}
+use Rattle.mp4_run_order.specs.Working.Searches.{found_by_place, found_by_track}
 use Rattle.mp4_run_order.proofs.ListLemmas.{Each, Pairs, all_of_pairs, each_moved, pairs_of_all, pairs_of_map, pairs_with}
 use Rattle.mp4_run_order.proofs.OrderLemmas.{TakenBefore, order_is_taken, place_keys_order, taken_alone, taken_is_order, taken_map, track_keys_order}
 use Rattle.mp4_run_order.proofs.SearchLemmas.{offender_means, search_is}
 use Rattle.mp4_frag.specs.declared.run.Run.{Run}
 use Rattle.mp4_frag.specs.declared.run_row.RunRow.{RunRow}
 use Rattle.mp4_frag.specs.Moofs.{moof_runs}
-use Rattle.mp4_frag.specs.Runs.{Held}
-use Rattle.mp4_frag.specs.Rereads.{run_of_row}
-use Rattle.mp4_frag.specs.RunRows.{listed_row, listed_run, listed_words, place_word, row_of_words, rows_of_words, track_word}
-use Rattle.mp4_frag.specs.Places.{IsPlaceFault, misplaced, place_fault}
-use Rattle.mp4_frag.specs.RunLists.{IsLate, IsListOf, IsSorted, ListedRows, moof_listing, taken_runs}
+use Rattle.mp4_frag.specs.Runs.{MoofBytes}
+use Rattle.mp4_frag.specs.Working.Rereads.{run_of_row}
+use Rattle.mp4_frag.specs.Working.RunRows.{listed_row, listed_words, place_word, row_of_words, rows_of_words, track_word}
+use Rattle.mp4_frag.specs.Places.{listed_run}
+use Rattle.mp4_frag.specs.Places.{IsPlaceFault, run_place_fault, place_fault}
+use Rattle.mp4_frag.specs.RunLists.{moof_listing, taken_runs}
+use Rattle.mp4_frag.specs.Working.ListedRows.{IsLate, IsListOf, IsSorted, ListedRows}
 use Rattle.mp4_frag.proofs.RunRowLemmas.{Earlier, Given}
 
 -- ---- maps
@@ -44,17 +46,17 @@ map_map f g (x ∷ xs) = ap (λ (zs : _). g (f x) ∷ zs) (map_map f g xs)
 -- ---- rows of a moof
 
 -- the row is that of its run
-abbrev Gives : Held → List Track → RunRow → Type 0
+abbrev Gives : MoofBytes → List Track → RunRow → Type 0
 Gives h tracks row = listed_run (run_of_row h tracks row) ≡ listed_row row
 
-abbrev pub Filled : Held → List Track → List RunRow → Type 0
+abbrev pub Filled : MoofBytes → List Track → List RunRow → Type 0
 Filled h tracks rows = Given h tracks rows (moof_runs h tracks)
 
 pointwise : {X Y : Type 0} (f g : X → Y) (xs : List X) → map f xs ≡ map g xs → Each (λ x. f x ≡ g x) xs
 pointwise f g [] e = tt
 pointwise f g (x ∷ xs) e = (cc, pointwise f g xs cc)
 
-each_gives : (h : Held) (tracks : List Track) (rows : List RunRow) → Filled h tracks rows → Each (Gives h tracks) rows
+each_gives : (h : MoofBytes) (tracks : List Track) (rows : List RunRow) → Filled h tracks rows → Each (Gives h tracks) rows
 each_gives h tracks rows f =
     pointwise (λ row. listed_run (run_of_row h tracks row)) listed_row rows
     (sym (map_map (run_of_row h tracks) listed_run rows) ∙ (ap (map listed_run) f.runs_are ∙ sym f.listed))
@@ -85,42 +87,42 @@ no_fall_map f key xs h = λ i j d le lt. let l = length-map xs f in at f key xs 
 listed_up : (key : ListedRun → ℕ) (ws : List (List ℕ)) → IsNonDecreasingBy (λ w. key (listed_row (row_of_words w))) ws → IsNonDecreasingBy key (listed_words ws)
 listed_up key ws h = no_fall_map (λ (w : List ℕ). listed_row (row_of_words w)) key ws h
 
-listed_moved : (h : Held) (tracks : List Track) (from to : List (List ℕ)) → Filled h tracks (map row_of_words from) → IsPermutation from to → IsPermutation (moof_listing h tracks) (listed_words to)
+listed_moved : (h : MoofBytes) (tracks : List Track) (from to : List (List ℕ)) → Filled h tracks (map row_of_words from) → IsPermutation from to → IsPermutation (moof_listing h tracks) (listed_words to)
 listed_moved h tracks from to f m =
     subst (λ (xs : List ListedRun). IsPermutation xs (listed_words to)) (sym (map_map row_of_words listed_row from) ∙ f.listed)
     (IsPermutation-map (λ (w : List ℕ). listed_row (row_of_words w)) from to m)
 
 -- what is known of the runs of a moof
-pub record Known (h : Held) (tracks : List Track) : Type 0 where
+pub record Known (h : MoofBytes) (tracks : List Track) : Type 0 where
   pub rise : Pairs Earlier (moof_runs h tracks)
   pub fits : All FitsKeys (moof_listing h tracks)
 
-is_listing : (h : Held) (tracks : List Track) → Known h tracks → IsListing (moof_listing h tracks)
+is_listing : (h : MoofBytes) (tracks : List Track) → Known h tracks → IsListing (moof_listing h tracks)
 is_listing h tracks k = all_of_pairs (λ a b. a.number < b.number) (moof_listing h tracks) (pairs_map listed_run (λ a b. a.number < b.number) (moof_runs h tracks) k.rise)
 
-by_track : (h : Held) (tracks : List Track) (from to : List (List ℕ)) → Known h tracks → Filled h tracks (map row_of_words from) → IsPermutation from to → IsNonDecreasingBy track_word to → IsTrackOrder (moof_listing h tracks) (listed_words to)
+by_track : (h : MoofBytes) (tracks : List Track) (from to : List (List ℕ)) → Known h tracks → Filled h tracks (map row_of_words from) → IsPermutation from to → IsNonDecreasingBy track_word to → IsTrackOrder (moof_listing h tracks) (listed_words to)
 by_track h tracks from to k f m up =
     track_keys_order (moof_listing h tracks) (listed_words to) (is_listing h tracks k) k.fits (listed_moved h tracks from to f m) (listed_up track_key to up)
 
-by_place : (h : Held) (tracks : List Track) (from to : List (List ℕ)) → Known h tracks → Filled h tracks (map row_of_words from) → IsPermutation from to → IsNonDecreasingBy place_word to → IsTakingOrder (moof_listing h tracks) (listed_words to)
+by_place : (h : MoofBytes) (tracks : List Track) (from to : List (List ℕ)) → Known h tracks → Filled h tracks (map row_of_words from) → IsPermutation from to → IsNonDecreasingBy place_word to → IsTakingOrder (moof_listing h tracks) (listed_words to)
 by_place h tracks from to k f m up =
     place_keys_order (moof_listing h tracks) (listed_words to) (is_listing h tracks k) k.fits (listed_moved h tracks from to f m) (listed_up place_key to up)
 
 -- rows in the order in which their runs are taken give the runs so
-given_order : (h : Held) (tracks : List Track) (rows : List RunRow) → Each (Gives h tracks) rows → Pairs (λ a b. IsTakenBefore (listed_row a) (listed_row b)) rows → Pairs (TakenBefore listed_run) (map (run_of_row h tracks) rows)
+given_order : (h : MoofBytes) (tracks : List Track) (rows : List RunRow) → Each (Gives h tracks) rows → Pairs (λ a b. IsTakenBefore (listed_row a) (listed_row b)) rows → Pairs (TakenBefore listed_run) (map (run_of_row h tracks) rows)
 given_order h tracks rows g o =
     pairs_map (run_of_row h tracks) (TakenBefore listed_run) rows
     (pairs_with (Gives h tracks) (λ a b. IsTakenBefore (listed_row a) (listed_row b)) (λ a b. IsTakenBefore (listed_run (run_of_row h tracks a)) (listed_run (run_of_row h tracks b)))
     (λ a b x y t. subst (λ (r : ListedRun). IsTakenBefore r (listed_run (run_of_row h tracks b))) (sym x) (subst (λ (r : ListedRun). IsTakenBefore (listed_row a) r) (sym y) t)) rows g o)
 
-runs_taken : (h : Held) (tracks : List Track) (from to : List RunRow) → Known h tracks → Filled h tracks from → IsPermutation from to → Pairs (λ a b. IsTakenBefore (listed_row a) (listed_row b)) to → map (run_of_row h tracks) to ≡ taken_runs h tracks
+runs_taken : (h : MoofBytes) (tracks : List Track) (from to : List RunRow) → Known h tracks → Filled h tracks from → IsPermutation from to → Pairs (λ a b. IsTakenBefore (listed_row a) (listed_row b)) to → map (run_of_row h tracks) to ≡ taken_runs h tracks
 runs_taken h tracks from to k f m o =
     taken_alone listed_run (moof_runs h tracks) (map (run_of_row h tracks) to) k.rise
     (subst (λ (runs : List Run). IsPermutation runs (map (run_of_row h tracks) to)) f.runs_are (IsPermutation-map (run_of_row h tracks) from to m))
     (given_order h tracks to (each_moved (Gives h tracks) from to m (each_gives h tracks from f)) o)
 
 -- rows of a moof that were sorted by track and then by place
-pub list_is : (h : Held) (tracks : List Track) (filled placed : List (List ℕ)) (late : Option ℕ) → Known h tracks → Filled h tracks (rows_of_words filled) → IsLate filled late → IsSorted filled placed → IsListOf h tracks (record { rows = rows_of_words placed; late = late })
+pub list_is : (h : MoofBytes) (tracks : List Track) (filled placed : List (List ℕ)) (late : Option ℕ) → Known h tracks → Filled h tracks (rows_of_words filled) → IsLate filled late → IsSorted filled placed → IsListOf h tracks (record { rows = rows_of_words placed; late = late })
 list_is h tracks filled placed late k f l s =
     let order = by_place h tracks filled placed k f s.same s.up in
     let rows = rows_of_words placed in
@@ -138,32 +140,32 @@ length_rows ws = length-map ws row_of_words
 
 -- ---- the search
 
-both_maps : (o : Option ListedRun) → option_map misplaced (option_map (λ run. run.number) o) ≡ option_map (λ run. misplaced run.number) o
+both_maps : (o : Option ListedRun) → option_map run_place_fault (option_map (λ run. run.number) o) ≡ option_map (λ run. run_place_fault run.number) o
 both_maps None = refl
 both_maps (Some run) = refl
 
-pub place_is : (p : Payload) (h : Held) (tracks : List Track) (l : ListedRows) (r : Option ℕ) → IsListOf h tracks l → r ≡ found_by_place p l.late (map listed_row l.rows) → option_map misplaced r ≡ place_fault p (moof_runs h tracks)
+pub place_is : (p : Payload) (h : MoofBytes) (tracks : List Track) (l : ListedRows) (r : Option ℕ) → IsListOf h tracks l → r ≡ found_by_place p l.late (map listed_row l.rows) → option_map run_place_fault r ≡ place_fault p (moof_runs h tracks)
 place_is p h tracks l r of e =
     let listing = moof_listing h tracks in
     let late = of.late in
     let s = search_is p listing late.sorted (taken listing) of.listing late.order (taken_is_order listing of.listing) in
     let found : r ≡ option_map (λ run. run.number) (first_offender p listing) =
     e ∙ (ap (λ (o : Option ℕ). found_by_place p o (map listed_row l.rows)) late.is ∙ (ap (found_by_place p (found_by_track late.sorted)) of.taken ∙ s)) in
-    ap (option_map misplaced) found ∙ both_maps (first_offender p listing)
+    ap (option_map run_place_fault) found ∙ both_maps (first_offender p listing)
 
-pub place_found : (p : Payload) (h : Held) (tracks : List Track) (l : ListedRows) (ws : List (List ℕ)) (late r : Option ℕ) → IsListOf h tracks l → record { rows = rows_of_words ws; late = late } ≡ l → r ≡ found_by_place p late (listed_words ws)
-    → option_map misplaced r ≡ place_fault p (moof_runs h tracks)
+pub place_found : (p : Payload) (h : MoofBytes) (tracks : List Track) (l : ListedRows) (ws : List (List ℕ)) (late r : Option ℕ) → IsListOf h tracks l → record { rows = rows_of_words ws; late = late } ≡ l → r ≡ found_by_place p late (listed_words ws)
+    → option_map run_place_fault r ≡ place_fault p (moof_runs h tracks)
 place_found p h tracks l ws late r of e found =
     place_is p h tracks (record { rows = rows_of_words ws; late = late }) r (subst (IsListOf h tracks) (sym e) of)
     (found ∙ ap (found_by_place p late) (sym (map_map row_of_words listed_row ws)))
 
 -- what the fault means
 
-means_by : (p : Payload) (runs : List ListedRun) (o : Option ListedRun) → IsOffender p runs o → IsPlaceFault p runs (option_map (λ run. misplaced run.number) o)
+means_by : (p : Payload) (runs : List ListedRun) (o : Option ListedRun) → IsOffender p runs o → IsPlaceFault p runs (option_map (λ run. run_place_fault run.number) o)
 means_by p runs None h = h
 means_by p runs (Some run) h = record { run = run; first = h; is = refl }
 
-pub place_means : (p : Payload) (h : Held) (tracks : List Track) (l : ListedRows) (o : Option Fault) → IsListOf h tracks l → o ≡ place_fault p (moof_runs h tracks) → IsPlaceFault p (moof_listing h tracks) o
+pub place_means : (p : Payload) (h : MoofBytes) (tracks : List Track) (l : ListedRows) (o : Option Fault) → IsListOf h tracks l → o ≡ place_fault p (moof_runs h tracks) → IsPlaceFault p (moof_listing h tracks) o
 place_means p h tracks l o of e =
     let listing = moof_listing h tracks in
     subst (IsPlaceFault p listing) (sym e) (means_by p listing (first_offender p listing) (offender_means p listing of.listing))
@@ -175,7 +177,7 @@ map_at f [] i d e h = absurd (omega arith)
 map_at f (x ∷ xs) zero d e h = refl
 map_at f (x ∷ xs) (suc i) d e h = map_at f xs i d e (omega arith)
 
-pub run_is : (h : Held) (tracks : List Track) (l : ListedRows) (ws : List (List ℕ)) (i : ℕ) (w : List ℕ) (r : Run) → IsListOf h tracks l → rows_of_words ws ≡ l.rows → i < length l.rows → w ≡ get_or ws i w → r ≡ run_of_row h tracks (row_of_words w)
+pub run_is : (h : MoofBytes) (tracks : List Track) (l : ListedRows) (ws : List (List ℕ)) (i : ℕ) (w : List ℕ) (r : Run) → IsListOf h tracks l → rows_of_words ws ≡ l.rows → i < length l.rows → w ≡ get_or ws i w → r ≡ run_of_row h tracks (row_of_words w)
     → r ≡ get_or (taken_runs h tracks) i r
 run_is h tracks l ws i w r of e lt at is =
     let n = ap length e in
@@ -187,7 +189,7 @@ run_is h tracks l ws i w r of e lt at is =
     ∙ (sym (map_at (run_of_row h tracks) (rows_of_words ws) i r (row_of_words w) (omega arith)) ∙ ap (λ (xs : List Run). get_or xs i r) same)))
 
 -- what is listed of it
-pub listed_is : (h : Held) (tracks : List Track) (l : ListedRows) (ws : List (List ℕ)) (i : ℕ) (w : List ℕ) (run : Run) → IsListOf h tracks l → rows_of_words ws ≡ l.rows → i < length l.rows → w ≡ get_or ws i w → run ≡ get_or (taken_runs h tracks) i run
+pub listed_is : (h : MoofBytes) (tracks : List Track) (l : ListedRows) (ws : List (List ℕ)) (i : ℕ) (w : List ℕ) (run : Run) → IsListOf h tracks l → rows_of_words ws ≡ l.rows → i < length l.rows → w ≡ get_or ws i w → run ≡ get_or (taken_runs h tracks) i run
     → listed_row (row_of_words w) ≡ listed_run run
 listed_is h tracks l ws i w run of e lt at is =
     let n = ap length e in

@@ -18,16 +18,17 @@ use Rattle.mp4_run_order.specs.declared.runs.ListedRun.{ListedRun}
 use Rattle.mp4_frag.specs.declared.run_row.RunRow.{RunRow}
 use Rattle.mp4_frag.specs.Fields.{payload_of}
 use Rattle.mp4_frag.specs.Kinds.{tfhd, to_trun, traf, trun}
-use Rattle.mp4_frag.specs.Runs.{Held, Shared, end_place, header_by, known_track, run_at, run_of, runs_from, runs_of, shared_by, tfhd_of, track_of, traf_of}
+use Rattle.mp4_frag.specs.Runs.{MoofBytes, Shared, end_place, header_by, known_track, run_at, run_of, runs_from, runs_of, shared_by, tfhd_of, track_of, traf_of}
 use Rattle.mp4_frag.specs.Tfhd.{track_id}
-use Rattle.mp4_frag.specs.Rereads.{box_behind, box_in, nothing, run_of_row}
-use Rattle.mp4_frag.specs.RunRows.{listed_row, listed_run, offset_or_none, row_of_run, rows_of_traf, rows_of_trafs, tfhd_at}
+use Rattle.mp4_frag.specs.Working.Rereads.{box_behind, box_in, absent_box, run_of_row}
+use Rattle.mp4_frag.specs.Working.RunRows.{listed_row, offset_or_none, row_of_run, rows_of_traf, rows_of_trafs, tfhd_at}
+use Rattle.mp4_frag.specs.Places.{listed_run}
 use Rattle.mp4_frag.proofs.PlaceLemmas.{Lies, children_lie, inner, kind_all}
 use Rattle.mp4_frag.proofs.BoxOrderLemmas.{FoundIn, Behind, none_left, boxes_found, boxes_rise, kind_found, kind_rise}
 
 -- ---- boxes are found again
 
-pub refound : (h : Held) (p b : Box) → Lies h p → FoundIn (payload_offset p) p.payload b → box_in h b.offset ≡ b
+pub refound : (h : MoofBytes) (p b : Box) → Lies h p → FoundIn (payload_offset p) p.payload b → box_in h b.offset ≡ b
 unfolding box_in
 refound h p b lies f =
     let x : List ℕ = drop f.at p.payload in
@@ -47,39 +48,39 @@ refound h p b lies f =
     let o : h.offset + at ≡ b.offset = omega arith in
     let more = boxes_more b.offset y b whole f.low (omega (arith, length-drop at h.bytes)) in
     ap (box_behind h) k
-    ∙ (ap (λ (m : ℕ). unwrap_or (first_of (boxes m y)) nothing) o
-    ∙ ap (λ (bs : List Box). unwrap_or (first_of bs) nothing) more)
+    ∙ (ap (λ (m : ℕ). unwrap_or (first_of (boxes m y)) absent_box) o
+    ∙ ap (λ (bs : List Box). unwrap_or (first_of bs) absent_box) more)
 
 -- past the end nothing is found
-pub found_nothing : (h : Held) (offset at : ℕ) (b : Box) → at ≡ offset - h.offset → length h.bytes ≤ at → b ≡ nothing → b ≡ box_in h offset
+pub found_nothing : (h : MoofBytes) (offset at : ℕ) (b : Box) → at ≡ offset - h.offset → length h.bytes ≤ at → b ≡ absent_box → b ≡ box_in h offset
 unfolding box_in
 found_nothing h offset at b e far is =
     let none : boxes (h.offset + at) (drop at h.bytes) ≡ [] = none_left (h.offset + at) (drop at h.bytes) (omega (arith, length-drop at h.bytes)) in
-    is ∙ sym (ap (box_behind h) (sym e) ∙ ap (λ (bs : List Box). unwrap_or (first_of bs) nothing) none)
+    is ∙ sym (ap (box_behind h) (sym e) ∙ ap (λ (bs : List Box). unwrap_or (first_of bs) absent_box) none)
 
 -- what stands behind a place, as the payload of a box without a header
-part_boxes : (h : Held) (at : ℕ) (part : Box) → part ≡ record nothing { offset = h.offset + at; payload = drop at h.bytes } → children part ≡ boxes (h.offset + at) (drop at h.bytes)
+part_boxes : (h : MoofBytes) (at : ℕ) (part : Box) → part ≡ record absent_box { offset = h.offset + at; payload = drop at h.bytes } → children part ≡ boxes (h.offset + at) (drop at h.bytes)
 part_boxes h at part e =
     let z : h.offset + at + 0 ≡ h.offset + at = omega arith in
     ap children e ∙ ap (λ (o : ℕ). boxes o (drop at h.bytes)) z
 
-pub found_by : (h : Held) (offset at : ℕ) (part b : Box) (bs : List Box) → at ≡ offset - h.offset → part ≡ record nothing { offset = h.offset + at; payload = drop at h.bytes } → bs ≡ children part → unwrap_or (first_of bs) nothing ≡ b → b ≡ box_in h offset
+pub found_by : (h : MoofBytes) (offset at : ℕ) (part b : Box) (bs : List Box) → at ≡ offset - h.offset → part ≡ record absent_box { offset = h.offset + at; payload = drop at h.bytes } → bs ≡ children part → unwrap_or (first_of bs) absent_box ≡ b → b ≡ box_in h offset
 unfolding box_in
 found_by h offset at part b bs e is all first =
-    sym (ap (box_behind h) (sym e) ∙ (ap (λ (cs : List Box). unwrap_or (first_of cs) nothing) (sym (all ∙ part_boxes h at part is)) ∙ first))
+    sym (ap (box_behind h) (sym e) ∙ (ap (λ (cs : List Box). unwrap_or (first_of cs) absent_box) (sym (all ∙ part_boxes h at part is)) ∙ first))
 
 -- ---- so are runs
 
 -- the run is that of its row
-abbrev pub Reread : Held → List Track → ℕ → Run → Type 0
+abbrev pub Reread : MoofBytes → List Track → ℕ → Run → Type 0
 Reread h tracks tfhd run = run_of_row h tracks (row_of_run tfhd run) ≡ run
 
-again : (h : Held) (tracks : List Track) (payload : List ℕ) (ends_at time : ℕ) (last : ℤ) (o : ℕ) (b : Box) → box_in h b.offset ≡ b → (box_in h o).payload ≡ payload
+again : (h : MoofBytes) (tracks : List Track) (payload : List ℕ) (ends_at time : ℕ) (last : ℤ) (o : ℕ) (b : Box) → box_in h b.offset ≡ b → (box_in h o).payload ≡ payload
     → Reread h tracks o (run_of (record { moof = h; header = header_by (known_track (track_id payload) tracks) payload; ends_at = ends_at }) time last b)
 unfolding run_of_row run_of run_at
 again h tracks payload ends_at time last o b here tfhd = rw (here, tfhd) refl
 
-pub reread : (h : Held) (tracks : List Track) (t : Box) (o : ℕ) → (box_in h o).payload ≡ tfhd_of t → (time : ℕ) (last : ℤ) (bs : List Box) → Each (λ b. box_in h b.offset ≡ b) bs → Each (Reread h tracks o) (runs_from (shared_by h (track_of tracks t) t) time last bs)
+pub reread : (h : MoofBytes) (tracks : List Track) (t : Box) (o : ℕ) → (box_in h o).payload ≡ tfhd_of t → (time : ℕ) (last : ℤ) (bs : List Box) → Each (λ b. box_in h b.offset ≡ b) bs → Each (Reread h tracks o) (runs_from (shared_by h (track_of tracks t) t) time last bs)
 unfolding runs_from
 reread h tracks t o e time last [] f = tt
 reread h tracks t o e time last (b ∷ bs) f =
@@ -113,7 +114,7 @@ record RunsOf (t : Box) (runs : List Run) : Type 0 where
   pub between : Each (λ run. Between t.offset (t.offset + box_len t) run.offset) runs
   pub rise : Pairs Earlier runs
 
-traf_runs : (h : Held) (tracks : List Track) (t : Box) → IsBytes t.payload → RunsOf t (runs_of (traf_of h tracks t))
+traf_runs : (h : MoofBytes) (tracks : List Track) (t : Box) → IsBytes t.payload → RunsOf t (runs_of (traf_of h tracks t))
 unfolding traf_of
 traf_runs h tracks t fits =
     let o = payload_offset t in
@@ -140,24 +141,24 @@ pairs_append : {X : Type 0} (R : X → X → Type 0) (xs ys : List X) → Pairs 
 pairs_append R [] ys h k c = k
 pairs_append R (x ∷ xs) ys h k c = (each_append (R x) xs ys h.0 c.0, pairs_append R xs ys h.1 k c.1)
 
-abbrev pub runs_by : Held → List Track → List Box → List Run
+abbrev pub runs_by : MoofBytes → List Track → List Box → List Run
 runs_by h tracks ts = flat_map runs_of (map (traf_of h tracks) ts)
 
-runs_behind : (h : Held) (tracks : List Track) (n : ℕ) (ts : List Box) → Each (λ t. RunsOf t (runs_of (traf_of h tracks t))) ts → Each (λ t. n ≤ t.offset) ts → Each (λ run. n ≤ run.offset) (runs_by h tracks ts)
+runs_behind : (h : MoofBytes) (tracks : List Track) (n : ℕ) (ts : List Box) → Each (λ t. RunsOf t (runs_of (traf_of h tracks t))) ts → Each (λ t. n ≤ t.offset) ts → Each (λ run. n ≤ run.offset) (runs_by h tracks ts)
 runs_behind h tracks n [] r b = tt
 runs_behind h tracks n (t ∷ ts) r b =
     each_append (λ run. n ≤ run.offset) (runs_of (traf_of h tracks t)) (runs_by h tracks ts)
     (each_weaker (λ run. Between t.offset (t.offset + box_len t) run.offset) (λ run. n ≤ run.offset) (λ run w. let from = w.0 in let le = b.0 in omega arith) (runs_of (traf_of h tracks t)) r.0.between)
     (runs_behind h tracks n ts r.1 b.1)
 
-runs_before : (h : Held) (tracks : List Track) (n : ℕ) (ts : List Box) → Each (λ t. RunsOf t (runs_of (traf_of h tracks t))) ts → Each (λ t. t.offset + box_len t ≤ n) ts → Each (λ run. run.offset < n) (runs_by h tracks ts)
+runs_before : (h : MoofBytes) (tracks : List Track) (n : ℕ) (ts : List Box) → Each (λ t. RunsOf t (runs_of (traf_of h tracks t))) ts → Each (λ t. t.offset + box_len t ≤ n) ts → Each (λ run. run.offset < n) (runs_by h tracks ts)
 runs_before h tracks n [] r b = tt
 runs_before h tracks n (t ∷ ts) r b =
     each_append (λ run. run.offset < n) (runs_of (traf_of h tracks t)) (runs_by h tracks ts)
     (each_weaker (λ run. Between t.offset (t.offset + box_len t) run.offset) (λ run. run.offset < n) (λ run w. let to = w.1 in let le = b.0 in omega arith) (runs_of (traf_of h tracks t)) r.0.between)
     (runs_before h tracks n ts r.1 b.1)
 
-runs_rise : (h : Held) (tracks : List Track) (ts : List Box) → Each (λ t. RunsOf t (runs_of (traf_of h tracks t))) ts → Pairs Behind ts → Pairs Earlier (runs_by h tracks ts)
+runs_rise : (h : MoofBytes) (tracks : List Track) (ts : List Box) → Each (λ t. RunsOf t (runs_of (traf_of h tracks t))) ts → Pairs Behind ts → Pairs Earlier (runs_by h tracks ts)
 runs_rise h tracks [] r b = tt
 runs_rise h tracks (t ∷ ts) r b =
     let later = runs_behind h tracks (t.offset + box_len t) ts r.1 b.0 in
@@ -170,7 +171,7 @@ pub record RunsRise (end : ℕ) (runs : List Run) : Type 0 where
   pub rise : Pairs Earlier runs
   pub before : Each (λ run. run.offset < end) runs
 
-pub moof_runs_rise : (h : Held) (tracks : List Track) (m : Box) → IsBytes m.payload → RunsRise (m.offset + box_len m) (runs_by h tracks (of_kind traf (children m)))
+pub moof_runs_rise : (h : MoofBytes) (tracks : List Track) (m : Box) → IsBytes m.payload → RunsRise (m.offset + box_len m) (runs_by h tracks (of_kind traf (children m)))
 moof_runs_rise h tracks m fits =
     let o = payload_offset m in
     let ts = of_kind traf (children m) in
@@ -204,12 +205,12 @@ pub on_path : (kind : FourCc) (b : Box) → at_path (kind ∷ []) b ≡ of_kind 
 unfolding at_path
 on_path kind b = path_one (of_kind kind (children b))
 
-first_found : (h : Held) (p : Box) → Lies h p → (bs : List Box) → Each (FoundIn (payload_offset p) p.payload) bs → h.offset + length h.bytes ≤ 2 ^ 62 → (box_in h (offset_or_none (first_of bs))).payload ≡ payload_of (first_of bs)
-first_found h p lies [] f room = ap (λ (b : Box). b.payload) (sym (found_nothing h (2 ^ 64 - 1) (2 ^ 64 - 1 - h.offset) nothing refl (omega (arith, room)) refl))
+first_found : (h : MoofBytes) (p : Box) → Lies h p → (bs : List Box) → Each (FoundIn (payload_offset p) p.payload) bs → h.offset + length h.bytes ≤ 2 ^ 62 → (box_in h (offset_or_none (first_of bs))).payload ≡ payload_of (first_of bs)
+first_found h p lies [] f room = ap (λ (b : Box). b.payload) (sym (found_nothing h (2 ^ 64 - 1) (2 ^ 64 - 1 - h.offset) absent_box refl (omega (arith, room)) refl))
 first_found h p lies (b ∷ bs) f room = ap (λ (c : Box). c.payload) (refound h p b lies f.0)
 
 -- the tfhd of a traf is found again
-tfhd_found : (h : Held) (t : Box) → Lies h t → h.offset + length h.bytes ≤ 2 ^ 62 → (box_in h (tfhd_at t)).payload ≡ tfhd_of t
+tfhd_found : (h : MoofBytes) (t : Box) → Lies h t → h.offset + length h.bytes ≤ 2 ^ 62 → (box_in h (tfhd_at t)).payload ≡ tfhd_of t
 tfhd_found h t lies room =
     let o = payload_offset t in
     let bs = of_kind tfhd (children t) in
@@ -217,7 +218,7 @@ tfhd_found h t lies room =
     let f = first_found h t lies bs (kind_found (FoundIn o t.payload) tfhd (children t) (boxes_found o t.payload lies.bytes)) room in
     ap (λ (cs : List Box). (box_in h (offset_or_none (first_of cs))).payload) e ∙ (f ∙ ap (λ (cs : List Box). payload_of (first_of cs)) (sym e))
 
-traf_reread : (h : Held) (tracks : List Track) (t : Box) → Lies h t → h.offset + length h.bytes ≤ 2 ^ 62 → Each (Reread h tracks (tfhd_at t)) (runs_of (traf_of h tracks t))
+traf_reread : (h : MoofBytes) (tracks : List Track) (t : Box) → Lies h t → h.offset + length h.bytes ≤ 2 ^ 62 → Each (Reread h tracks (tfhd_at t)) (runs_of (traf_of h tracks t))
 unfolding traf_of
 traf_reread h tracks t lies room =
     let o = payload_offset t in
@@ -226,11 +227,11 @@ traf_reread h tracks t lies room =
     (each_weaker (FoundIn o t.payload) (λ b. box_in h b.offset ≡ b) (λ b f. refound h t b lies f) (of_kind trun (children t)) (kind_found (FoundIn o t.payload) trun (children t) (boxes_found o t.payload lies.bytes)))
 
 -- what the rows of runs give
-pub record Given (h : Held) (tracks : List Track) (rows : List RunRow) (runs : List Run) : Type 0 where
+pub record Given (h : MoofBytes) (tracks : List Track) (rows : List RunRow) (runs : List Run) : Type 0 where
   pub runs_are : map (run_of_row h tracks) rows ≡ runs
   pub listed : map listed_row rows ≡ map listed_run runs
 
-given_run : (h : Held) (tracks : List Track) (o : ℕ) (runs : List Run) → Each (Reread h tracks o) runs → Given h tracks (map (row_of_run o) runs) runs
+given_run : (h : MoofBytes) (tracks : List Track) (o : ℕ) (runs : List Run) → Each (Reread h tracks o) runs → Given h tracks (map (row_of_run o) runs) runs
 given_run h tracks o [] r = record { runs_are = refl; listed = refl }
 given_run h tracks o (run ∷ runs) r =
     let g = given_run h tracks o runs r.1 in
@@ -239,20 +240,20 @@ given_run h tracks o (run ∷ runs) r =
       listed = ap (λ (xs : List ListedRun). listed_run run ∷ xs) g.listed;
     }
 
-given_append : (h : Held) (tracks : List Track) (a b : List RunRow) (x y : List Run) → Given h tracks a x → Given h tracks b y → Given h tracks (a ++ b) (x ++ y)
+given_append : (h : MoofBytes) (tracks : List Track) (a b : List RunRow) (x y : List Run) → Given h tracks a x → Given h tracks b y → Given h tracks (a ++ b) (x ++ y)
 given_append h tracks a b x y g k = record {
   runs_are = map-append (run_of_row h tracks) a b ∙ (ap (λ (z : List Run). z ++ map (run_of_row h tracks) b) g.runs_are ∙ ap (λ (z : List Run). x ++ z) k.runs_are);
   listed = map-append listed_row a b ∙ (ap (λ (z : List ListedRun). z ++ map listed_row b) g.listed ∙ (ap (λ (z : List ListedRun). map listed_run x ++ z) k.listed ∙ sym (map-append listed_run x y)));
 }
 
-given_trafs : (h : Held) (tracks : List Track) (ts : List Box) → AllByRecursion (Lies h) ts → h.offset + length h.bytes ≤ 2 ^ 62 → Given h tracks (rows_of_trafs h tracks ts) (runs_by h tracks ts)
+given_trafs : (h : MoofBytes) (tracks : List Track) (ts : List Box) → AllByRecursion (Lies h) ts → h.offset + length h.bytes ≤ 2 ^ 62 → Given h tracks (rows_of_trafs h tracks ts) (runs_by h tracks ts)
 given_trafs h tracks [] lie room = record { runs_are = refl; listed = refl }
 given_trafs h tracks (t ∷ ts) lie room =
     given_append h tracks (rows_of_traf h tracks t) (rows_of_trafs h tracks ts) (runs_of (traf_of h tracks t)) (runs_by h tracks ts)
     (given_run h tracks (tfhd_at t) (runs_of (traf_of h tracks t)) (traf_reread h tracks t lie.0 room)) (given_trafs h tracks ts lie.1 room)
 
 -- the rows of the trafs of a moof give its runs
-pub moof_given : (h : Held) (tracks : List Track) (m : Box) → Lies h m → h.offset + length h.bytes ≤ 2 ^ 62 → Given h tracks (rows_of_trafs h tracks (at_path (traf ∷ []) m)) (runs_by h tracks (of_kind traf (children m)))
+pub moof_given : (h : MoofBytes) (tracks : List Track) (m : Box) → Lies h m → h.offset + length h.bytes ≤ 2 ^ 62 → Given h tracks (rows_of_trafs h tracks (at_path (traf ∷ []) m)) (runs_by h tracks (of_kind traf (children m)))
 moof_given h tracks m lies room =
     subst (λ (ts : List Box). Given h tracks (rows_of_trafs h tracks ts) (runs_by h tracks (of_kind traf (children m)))) (sym (on_path traf m))
     (given_trafs h tracks (of_kind traf (children m)) (kind_all (Lies h) traf (children m) (children_lie h m lies)) room)
@@ -264,13 +265,13 @@ unfolding runs_from
 length_runs s time last [] = refl
 length_runs s time last (b ∷ bs) = let run = run_of s time last b in omega (arith, length_runs s run.end (end_place run) bs)
 
-traf_rows : (h : Held) (tracks : List Track) (t : Box) → length (rows_of_traf h tracks t) ≡ length (at_path (trun ∷ []) t)
+traf_rows : (h : MoofBytes) (tracks : List Track) (t : Box) → length (rows_of_traf h tracks t) ≡ length (at_path (trun ∷ []) t)
 unfolding traf_of
 traf_rows h tracks t =
     let r = traf_of h tracks t in
     length-map (runs_of r) (row_of_run (tfhd_at t)) ∙ (length_runs r.shared r.time (pos h.offset) r.truns ∙ sym (ap length (on_path trun t)))
 
-trafs_rows : (h : Held) (tracks : List Track) (ts : List Box) → length (rows_of_trafs h tracks ts) ≡ length (flat_map (at_path (trun ∷ [])) ts)
+trafs_rows : (h : MoofBytes) (tracks : List Track) (ts : List Box) → length (rows_of_trafs h tracks ts) ≡ length (flat_map (at_path (trun ∷ [])) ts)
 trafs_rows h tracks [] = refl
 trafs_rows h tracks (t ∷ ts) =
     let a = length-append (rows_of_traf h tracks t) (rows_of_trafs h tracks ts) in
@@ -281,6 +282,6 @@ two_steps : (m : Box) → at_path to_trun m ≡ flat_map (at_path (trun ∷ []))
 unfolding at_path
 two_steps m = refl
 
-pub moof_rows : (h : Held) (tracks : List Track) (m : Box) → length (rows_of_trafs h tracks (at_path (traf ∷ []) m)) ≡ length (at_path to_trun m)
+pub moof_rows : (h : MoofBytes) (tracks : List Track) (m : Box) → length (rows_of_trafs h tracks (at_path (traf ∷ []) m)) ≡ length (at_path to_trun m)
 moof_rows h tracks m =
     ap (λ (ts : List Box). length (rows_of_trafs h tracks ts)) (on_path traf m) ∙ (trafs_rows h tracks (of_kind traf (children m)) ∙ sym (ap length (two_steps m)))

@@ -12,19 +12,20 @@ use Rattle.std.proofs.lemmas.List.Sums.{sum_by-append, sum_by-cons}
 use Rattle.mp4_box.specs.Paths.{at_path, of_kind, paths_below}
 use Rattle.mp4_box.specs.Trees.{Box, box_at, children, first_of}
 use Rattle.mp4_init.specs.declared.table.Track.{Track}
-use Rattle.mp4_init.specs.Rows.{with_next}
+use Rattle.mp4_init.specs.Tracks.{with_next}
 use Rattle.mp4_init.proofs.RowLemmas.{length_with_next}
 use Rattle.mp4_init.proofs.SearchTreeLemmas.{is_same}
 use Rattle.mp4_frag.specs.declared.run.Run.{Run}
 use Rattle.mp4_frag.specs.Kinds.{tfdt, traf, trun}
 use Rattle.mp4_frag.specs.Rules.{fault_if, track_with}
 use Rattle.mp4_frag.specs.Tfhd.{track_id}
-use Rattle.mp4_frag.specs.Runs.{Held, Shared, TrackFragment, base_by, base_of, end_of, end_place, header_by, last_end, no_track, run_of, runs_from, runs_of, shared_by, tfhd_of, traf_of, trafs_by, track_of}
+use Rattle.mp4_frag.specs.Runs.{MoofBytes, Shared, TrackFragment, base_by, base_of, end_of, end_place, header_by, last_end, no_track, run_of, runs_from, runs_of, shared_by, tfhd_of, traf_of, trafs_by, track_of}
 use Rattle.mp4_frag.specs.Ranges.{IsSound}
 use Rattle.mp4_frag.specs.Moofs.{IsRead, late, moof_of, moof_trafs}
 use Rattle.mp4_frag.specs.Repeats.{traf_id, lacks_time, is_listed, is_repeat, repeat_faults, repeats}
-use Rattle.mp4_frag.specs.Settling.{EachInTime, EndsInTime, ended, ended_at, settled, settled_on, ticks_from, timed, timed_in, with_end}
-use Rattle.mp4_frag.specs.Times.{late_from, late_trun, ticks_in}
+use Rattle.mp4_frag.specs.Settling.{ended, ended_at, settled, timed, timed_in, with_end}
+use Rattle.mp4_frag.specs.Working.SettlingSteps.{EachInTime, EndsInTime, settled_on, ticks_from}
+use Rattle.mp4_frag.specs.Working.Times.{late_from, late_trun, ticks_in}
 use Rattle.mp4_frag.specs.Laws.{in_turn}
 use Rattle.mp4_frag.proofs.MoofLemmas.{on_path, early, read_early, values}
 use Rattle.mp4_frag.proofs.PassLemmas.{listed-append}
@@ -155,7 +156,7 @@ base_same now before earlier t a e =
     let unlisted : is_listed (traf_id t) earlier ≡ false = ap (λ (u : Bool). u && is_listed (traf_id t) earlier) (sym none) ∙ e in
     ap (λ (o : Option Track). (unwrap_or o no_track).next) (ap (λ (id : ℕ). track_with id now) (sym (id_is t)) ∙ a.same (traf_id t) unlisted ∙ ap (λ (id : ℕ). track_with id before) (id_is t)))
 
-traf_same : (h : Held) (now before : List Track) (earlier : List Box) (t : Box) → Agree now before earlier → is_repeat earlier t ≡ false → traf_of h now t ≡ traf_of h before t
+traf_same : (h : MoofBytes) (now before : List Track) (earlier : List Box) (t : Box) → Agree now before earlier → is_repeat earlier t ≡ false → traf_of h now t ≡ traf_of h before t
 unfolding traf_of
 traf_same h now before earlier t a e =
     let like : but_end (track_of now t) ≡ but_end (track_of before t) = known_like (track_with (track_id (tfhd_of t)) now) (track_with (track_id (tfhd_of t)) before) (a.like (track_id (tfhd_of t))) in
@@ -167,15 +168,15 @@ no_fault : (u : Bool) (t : Box) (fs : List Fault) → fault_if u Unsupported t +
 no_fault true t fs e = absurd cc
 no_fault false t fs e = (refl, e)
 
-ended_id : (h : Held) (before now : List Track) (t : Box) → ended now (traf_of h before t) ≡ with_end (traf_id t) (end_of (traf_of h before t)) now
+ended_id : (h : MoofBytes) (before now : List Track) (t : Box) → ended now (traf_of h before t) ≡ with_end (traf_id t) (end_of (traf_of h before t)) now
 unfolding traf_of traf_id
 ended_id h before now t = refl
 
-agree_ended : (h : Held) (now before : List Track) (earlier : List Box) (t : Box) → Agree now before earlier → Agree (ended now (traf_of h before t)) before (earlier ++ t ∷ [])
+agree_ended : (h : MoofBytes) (now before : List Track) (earlier : List Box) (t : Box) → Agree now before earlier → Agree (ended now (traf_of h before t)) before (earlier ++ t ∷ [])
 agree_ended h now before earlier t a =
     subst (λ (x : List Track). Agree x before (earlier ++ t ∷ [])) (sym (ended_id h before now t)) (agree_after now before earlier t (end_of (traf_of h before t)) a)
 
-settled_are : (h : Held) (now before : List Track) (earlier ts : List Box) → Agree now before earlier → repeats earlier ts ≡ [] → settled_on h now ts ≡ fold ended now (map (traf_of h before) ts)
+settled_are : (h : MoofBytes) (now before : List Track) (earlier ts : List Box) → Agree now before earlier → repeats earlier ts ≡ [] → settled_on h now ts ≡ fold ended now (map (traf_of h before) ts)
 unfolding settled_on repeats
 settled_are h now before earlier [] a e = refl
 settled_are h now before earlier (t ∷ ts) a e =
@@ -192,7 +193,7 @@ not_late (run ∷ runs) all = rw (lt-ltb run.end (2 ^ 64) all.0) (not_late runs 
 sound_in_time : (t : TrackFragment) → IsSound t → EndsInTime t
 sound_in_time t s = sym (late_are t.shared t.time (pos t.shared.moof.offset) t.truns) ∙ not_late (runs_of t) s.ends
 
-each_in_time : (h : Held) (now before : List Track) (earlier ts : List Box) → Agree now before earlier → repeats earlier ts ≡ [] → AllByRecursion IsSound (map (traf_of h before) ts) → EachInTime h now ts
+each_in_time : (h : MoofBytes) (now before : List Track) (earlier ts : List Box) → Agree now before earlier → repeats earlier ts ≡ [] → AllByRecursion IsSound (map (traf_of h before) ts) → EachInTime h now ts
 unfolding EachInTime repeats
 each_in_time h now before earlier [] a e sound = tt
 each_in_time h now before earlier (t ∷ ts) a e sound =
@@ -218,11 +219,11 @@ end_is_ticks t = ends_at_ticks t.shared t.time (pos t.shared.moof.offset) t.trun
 
 -- ---- a moof that was read
 
-pub record Settles (h : Held) (tracks : List Track) (ts : List Box) : Type 0 where
+pub record Settles (h : MoofBytes) (tracks : List Track) (ts : List Box) : Type 0 where
   pub is : settled_on h tracks ts ≡ settled tracks (moof_trafs h tracks)
   pub each : EachInTime h tracks ts
 
-pub settles : (h : Held) (tracks : List Track) (m : Box) → h.offset ≤ 2 ^ 62 → IsWhole h.bytes → IsBytes h.bytes → box_at h.offset h.bytes ≡ Some m → moof_of h ≡ m → IsRead h tracks → Settles h tracks (at_path (traf ∷ []) m)
+pub settles : (h : MoofBytes) (tracks : List Track) (m : Box) → h.offset ≤ 2 ^ 62 → IsWhole h.bytes → IsBytes h.bytes → box_at h.offset h.bytes ≡ Some m → moof_of h ≡ m → IsRead h tracks → Settles h tracks (at_path (traf ∷ []) m)
 settles h tracks m near whole fits here is read =
     let none : repeat_faults m ≡ [] = ap repeat_faults (sym is) ∙ (values tracks (moof_of h) (early h tracks (read_early h tracks read)).value).repeats in
     let sound : AllByRecursion IsSound (trafs_by h tracks (children m)) = subst (λ (b : Box). AllByRecursion IsSound (trafs_by h tracks (children b))) is (all_sound h tracks m near whole fits here is read) in
@@ -264,24 +265,24 @@ timed_past b bs = sum_by-append (λ (b : Box). timed b.payload) (at_path (trun �
 
 -- ---- the loop over the trafs of a moof
 
-pub each_first : (h : Held) (tracks : List Track) (b : Box) (bs : List Box) → EachInTime h tracks (b ∷ bs) → EndsInTime (traf_of h tracks b)
+pub each_first : (h : MoofBytes) (tracks : List Track) (b : Box) (bs : List Box) → EachInTime h tracks (b ∷ bs) → EndsInTime (traf_of h tracks b)
 unfolding EachInTime
 each_first h tracks b bs e = e.0
 
-pub each_more : (h : Held) (tracks : List Track) (b : Box) (bs : List Box) → EachInTime h tracks (b ∷ bs) → EachInTime h (ended tracks (traf_of h tracks b)) bs
+pub each_more : (h : MoofBytes) (tracks : List Track) (b : Box) (bs : List Box) → EachInTime h tracks (b ∷ bs) → EachInTime h (ended tracks (traf_of h tracks b)) bs
 unfolding EachInTime
 each_more h tracks b bs e = e.1
 
-pub settled_more : (h : Held) (tracks : List Track) (b : Box) (bs : List Box) → settled_on h tracks (b ∷ bs) ≡ settled_on h (ended tracks (traf_of h tracks b)) bs
+pub settled_more : (h : MoofBytes) (tracks : List Track) (b : Box) (bs : List Box) → settled_on h tracks (b ∷ bs) ≡ settled_on h (ended tracks (traf_of h tracks b)) bs
 unfolding settled_on
 settled_more h tracks b bs = refl
 
-pub settled_none : (h : Held) (tracks : List Track) → settled_on h tracks [] ≡ tracks
+pub settled_none : (h : MoofBytes) (tracks : List Track) → settled_on h tracks [] ≡ tracks
 unfolding settled_on
 settled_none h tracks = refl
 
 -- the track of a traf is set to its end
-pub ended_is : (h : Held) (tracks : List Track) (b : Box) (track : Track) (s : Shared) (time end i : ℕ) → track ≡ track_of tracks b → s ≡ shared_by h track b → time ≡ base_of track.next b → end ≡ ticks_from s time (of_kind trun (children b))
+pub ended_is : (h : MoofBytes) (tracks : List Track) (b : Box) (track : Track) (s : Shared) (time end i : ℕ) → track ≡ track_of tracks b → s ≡ shared_by h track b → time ≡ base_of track.next b → end ≡ ticks_from s time (of_kind trun (children b))
     → position (λ (t : Track). t.id == s.header.track) tracks ≡ Some i → with_next i end tracks ≡ ended tracks (traf_of h tracks b)
 ended_is h tracks b track s time end i known shares begins ends at =
     let t : TrackFragment = record { shared = s; time = time; truns = of_kind trun (children b) } in
@@ -291,7 +292,7 @@ ended_is h tracks b track s time end i known shares begins ends at =
 
 -- ---- trafs in turn
 
-turns_are : (h : Held) (now before : List Track) (earlier ts : List Box) → Agree now before earlier → repeats earlier ts ≡ [] → in_turn h now ts ≡ map (traf_of h before) ts
+turns_are : (h : MoofBytes) (now before : List Track) (earlier ts : List Box) → Agree now before earlier → repeats earlier ts ≡ [] → in_turn h now ts ≡ map (traf_of h before) ts
 unfolding in_turn repeats
 turns_are h now before earlier [] a e = refl
 turns_are h now before earlier (t ∷ ts) a e =
@@ -299,7 +300,7 @@ turns_are h now before earlier (t ∷ ts) a e =
     ap (λ (x : TrackFragment). x ∷ in_turn h (ended now x) ts) (traf_same h now before earlier t a none.0)
     ∙ ap (λ (xs : List TrackFragment). traf_of h before t ∷ xs) (turns_are h (ended now (traf_of h before t)) before (earlier ++ t ∷ []) ts (agree_ended h now before earlier t a) none.1)
 
-pub in_turn_are : (h : Held) (tracks : List Track) → repeat_faults (moof_of h) ≡ [] → in_turn h tracks (of_kind traf (children (moof_of h))) ≡ moof_trafs h tracks
+pub in_turn_are : (h : MoofBytes) (tracks : List Track) → repeat_faults (moof_of h) ≡ [] → in_turn h tracks (of_kind traf (children (moof_of h))) ≡ moof_trafs h tracks
 in_turn_are h tracks none = turns_are h tracks tracks [] (of_kind traf (children (moof_of h))) (same_tracks tracks) none
 
 -- ---- how many tracks there are

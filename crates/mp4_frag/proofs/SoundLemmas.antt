@@ -21,7 +21,7 @@ use Rattle.mp4_frag.specs.Trun.{sample_count, sample_duration_present}
 use Rattle.mp4_frag.specs.Settling.{timed, timed_in, timed_of}
 use Rattle.mp4_frag.specs.Rules.{count_faults, most_samples, samples_in, samples_of, too_many}
 use Rattle.mp4_frag.specs.Rows.{rows_of}
-use Rattle.mp4_frag.specs.Runs.{Held, Shared, end_place, run_at, no_track, run_of, runs_from, runs_of, tfhd_of, track_of, traf_of, trafs_by}
+use Rattle.mp4_frag.specs.Runs.{MoofBytes, Shared, end_place, run_at, no_track, run_of, runs_from, runs_of, tfhd_of, track_of, traf_of, trafs_by}
 use Rattle.mp4_frag.specs.Moofs.{IsRead, late, late_fault, moof_of, moof_runs, moof_samples, moof_trafs, time_faults, time_faults_of}
 use Rattle.mp4_frag.specs.Ranges.{InRange, IsSound}
 use Rattle.mp4_frag.proofs.MoofLemmas.{last_none, moof_is, read_count, read_times}
@@ -79,11 +79,11 @@ trafs_few m e = all_few most_samples (of_kind traf (children m)) (omega (arith, 
 
 -- ---- all
 
-lies_bytes : (h : Held) (bs : List Box) → AllByRecursion (Lies h) bs → AllByRecursion (λ (b : Box). IsBytes b.payload) bs
+lies_bytes : (h : MoofBytes) (bs : List Box) → AllByRecursion (Lies h) bs → AllByRecursion (λ (b : Box). IsBytes b.payload) bs
 lies_bytes h [] all = tt
 lies_bytes h (b ∷ bs) all = (all.0.bytes, lies_bytes h bs all.1)
 
-traf_sound : (h : Held) (tracks : List Track) (t : Box) → h.offset ≤ 2 ^ 62 → IsBytes h.bytes → Lies h t → samples_in (of_kind trun (children t)) ≤ most_samples → time_faults_of (traf_of h tracks t) ≡ [] → IsSound (traf_of h tracks t)
+traf_sound : (h : MoofBytes) (tracks : List Track) (t : Box) → h.offset ≤ 2 ^ 62 → IsBytes h.bytes → Lies h t → samples_in (of_kind trun (children t)) ≤ most_samples → time_faults_of (traf_of h tracks t) ≡ [] → IsSound (traf_of h tracks t)
 unfolding traf_of
 traf_sound h tracks t near fits lies few times = record {
   near = near;
@@ -93,7 +93,7 @@ traf_sound h tracks t near fits lies few times = record {
   ends = none_late (runs_of (traf_of h tracks t)) times;
 }
 
-trafs_sound : (h : Held) (tracks : List Track) (ts : List Box) → h.offset ≤ 2 ^ 62 → IsBytes h.bytes → AllByRecursion (Lies h) ts → AllByRecursion (λ (t : Box). samples_in (of_kind trun (children t)) ≤ most_samples) ts
+trafs_sound : (h : MoofBytes) (tracks : List Track) (ts : List Box) → h.offset ≤ 2 ^ 62 → IsBytes h.bytes → AllByRecursion (Lies h) ts → AllByRecursion (λ (t : Box). samples_in (of_kind trun (children t)) ≤ most_samples) ts
     → time_faults (map (traf_of h tracks) ts) ≡ [] → AllByRecursion IsSound (map (traf_of h tracks) ts)
 trafs_sound h tracks [] near fits lie few times = tt
 trafs_sound h tracks (t ∷ ts) near fits lie few times =
@@ -101,7 +101,7 @@ trafs_sound h tracks (t ∷ ts) near fits lie few times =
     (traf_sound h tracks t near fits lie.0 few.0 both.0, trafs_sound h tracks ts near fits lie.1 few.1 both.1)
 
 -- the moof is a box that its bytes are
-pub all_sound : (h : Held) (tracks : List Track) (m : Box) → h.offset ≤ 2 ^ 62 → IsWhole h.bytes → IsBytes h.bytes → box_at h.offset h.bytes ≡ Some m → moof_of h ≡ m → IsRead h tracks → AllByRecursion IsSound (moof_trafs h tracks)
+pub all_sound : (h : MoofBytes) (tracks : List Track) (m : Box) → h.offset ≤ 2 ^ 62 → IsWhole h.bytes → IsBytes h.bytes → box_at h.offset h.bytes ≡ Some m → moof_of h ≡ m → IsRead h tracks → AllByRecursion IsSound (moof_trafs h tracks)
 all_sound h tracks m near whole fits here is e =
     let lie = kind_all (Lies h) traf (children m) (children_lie h m (moof_lies h m whole fits here)) in
     let few = trafs_few m (ap count_faults (sym is) ∙ read_count h tracks e) in
@@ -153,11 +153,11 @@ count_runs held s time last (b ∷ bs) =
     let more = length-append (rows_of run held) (flat_map (λ (run : Run). rows_of run held) (runs_from s run.end (end_place run) bs)) in
     omega (arith, more, rest, length_rows_of run held, run_count s time last b, sum_by-cons (λ (b : Box). sample_count b.payload) b bs)
 
-count_traf : (h : Held) (tracks : List Track) (t : Box) → rows_in h.bytes (runs_of (traf_of h tracks t)) ≡ samples_in (of_kind trun (children t))
+count_traf : (h : MoofBytes) (tracks : List Track) (t : Box) → rows_in h.bytes (runs_of (traf_of h tracks t)) ≡ samples_in (of_kind trun (children t))
 unfolding traf_of
 count_traf h tracks t = count_runs h.bytes (traf_of h tracks t).shared (traf_of h tracks t).time (pos h.offset) (of_kind trun (children t))
 
-count_trafs : (h : Held) (tracks : List Track) (ts : List Box) → rows_in h.bytes (flat_map runs_of (map (traf_of h tracks) ts)) ≡ samples_in (flat_map (at_path (trun ∷ [])) ts)
+count_trafs : (h : MoofBytes) (tracks : List Track) (ts : List Box) → rows_in h.bytes (flat_map runs_of (map (traf_of h tracks) ts)) ≡ samples_in (flat_map (at_path (trun ∷ [])) ts)
 count_trafs h tracks [] = refl
 count_trafs h tracks (t ∷ ts) =
     let more = rows_append h.bytes (runs_of (traf_of h tracks t)) (flat_map runs_of (map (traf_of h tracks) ts)) in
@@ -165,7 +165,7 @@ count_trafs h tracks (t ∷ ts) =
     let here : samples_in (at_path (trun ∷ []) t) ≡ samples_in (of_kind trun (children t)) = ap samples_in (trun_path t) in
     omega (arith, more, sum, here, count_traf h tracks t, count_trafs h tracks ts)
 
-pub rows_are_samples : (h : Held) (tracks : List Track) → rows_in h.bytes (moof_runs h tracks) ≡ moof_samples h
+pub rows_are_samples : (h : MoofBytes) (tracks : List Track) → rows_in h.bytes (moof_runs h tracks) ≡ moof_samples h
 unfolding at_path
 rows_are_samples h tracks = count_trafs h tracks (of_kind traf (children (moof_of h)))
 
@@ -184,16 +184,16 @@ track_small : (tracks : List Track) (o : Option ℕ) → AllByRecursion (λ (t :
 track_small tracks None small = omega arith
 track_small tracks (Some i) small = found_small tracks i small
 
-payload_bytes : (h : Held) (bs : List Box) → AllByRecursion (Lies h) bs → IsBytes (payload_of (first_of bs))
+payload_bytes : (h : MoofBytes) (bs : List Box) → AllByRecursion (Lies h) bs → IsBytes (payload_of (first_of bs))
 payload_bytes h [] lie = λ i. omega arith
 payload_bytes h (b ∷ bs) lie = lie.0.bytes
 
-pub tfhd_bytes : (h : Held) (t : Box) → Lies h t → IsBytes (tfhd_of t)
+pub tfhd_bytes : (h : MoofBytes) (t : Box) → Lies h t → IsBytes (tfhd_of t)
 unfolding at_path
 tfhd_bytes h t lies =
     subst (λ (bs : List Box). IsBytes (payload_of (first_of bs))) (sym (path_one (of_kind tfhd (children t)))) (payload_bytes h (of_kind tfhd (children t)) (kind_all (Lies h) tfhd (children t) (children_lie h t lies)))
 
-size_small : (h : Held) (tracks : List Track) (t : Box) → Lies h t → AllByRecursion (λ (t : Track). t.size < 2 ^ 32) tracks → (traf_of h tracks t).shared.header.size < 2 ^ 32
+size_small : (h : MoofBytes) (tracks : List Track) (t : Box) → Lies h t → AllByRecursion (λ (t : Track). t.size < 2 ^ 32) tracks → (traf_of h tracks t).shared.header.size < 2 ^ 32
 unfolding traf_of
 size_small h tracks t lies small =
     number_or_small (tfhd_of t) (fields_of (tfhd_of t)).default_sample_size (track_of tracks t).size (tfhd_bytes h t lies) (track_small tracks (position (λ (x : Track). x.id == track_id (tfhd_of t)) tracks) small)
@@ -202,12 +202,12 @@ range_append : (xs ys : List Run) → AllByRecursion InRange xs → AllByRecursi
 range_append [] ys all rest = rest
 range_append (x ∷ xs) ys all rest = (all.0, range_append xs ys all.1 rest)
 
-trafs_in_range : (h : Held) (tracks : List Track) (ts : List Box) → AllByRecursion (λ (t : Track). t.size < 2 ^ 32) tracks → AllByRecursion (Lies h) ts → AllByRecursion IsSound (map (traf_of h tracks) ts) → AllByRecursion InRange (flat_map runs_of (map (traf_of h tracks) ts))
+trafs_in_range : (h : MoofBytes) (tracks : List Track) (ts : List Box) → AllByRecursion (λ (t : Track). t.size < 2 ^ 32) tracks → AllByRecursion (Lies h) ts → AllByRecursion IsSound (map (traf_of h tracks) ts) → AllByRecursion InRange (flat_map runs_of (map (traf_of h tracks) ts))
 trafs_in_range h tracks [] small lie sound = tt
 trafs_in_range h tracks (t ∷ ts) small lie sound =
     range_append (runs_of (traf_of h tracks t)) (flat_map runs_of (map (traf_of h tracks) ts)) (in_range (traf_of h tracks t) (size_small h tracks t lie.0 small) sound.0) (trafs_in_range h tracks ts small lie.1 sound.1)
 
-pub all_in_range : (h : Held) (tracks : List Track) → IsWhole h.bytes → IsBytes h.bytes → h.offset + length h.bytes ≤ 2 ^ 62 → AllByRecursion (λ (t : Track). t.size < 2 ^ 32) tracks → IsRead h tracks → AllByRecursion InRange (moof_runs h tracks)
+pub all_in_range : (h : MoofBytes) (tracks : List Track) → IsWhole h.bytes → IsBytes h.bytes → h.offset + length h.bytes ≤ 2 ^ 62 → AllByRecursion (λ (t : Track). t.size < 2 ^ 32) tracks → IsRead h tracks → AllByRecursion InRange (moof_runs h tracks)
 all_in_range h tracks whole fits room small read =
     elim (option_is (box_at h.offset h.bytes)) [
       | inl none ↦ absurd (whole_found h.offset h.bytes whole none)
@@ -233,13 +233,13 @@ unfolding runs_from run_of run_at
 runs_small s time last [] small = tt
 runs_small s time last (b ∷ bs) small = (small, runs_small s (run_of s time last b).end (end_place (run_of s time last b)) bs small)
 
-trafs_small : (h : Held) (tracks : List Track) (ts : List Box) → AllByRecursion (λ (t : Track). t.size < 2 ^ 32) tracks → AllByRecursion (Lies h) ts → AllByRecursion HasSize (flat_map runs_of (map (traf_of h tracks) ts))
+trafs_small : (h : MoofBytes) (tracks : List Track) (ts : List Box) → AllByRecursion (λ (t : Track). t.size < 2 ^ 32) tracks → AllByRecursion (Lies h) ts → AllByRecursion HasSize (flat_map runs_of (map (traf_of h tracks) ts))
 trafs_small h tracks [] small lie = tt
 trafs_small h tracks (t ∷ ts) small lie =
     let f = traf_of h tracks t in
     sizes_append (runs_of f) (flat_map runs_of (map (traf_of h tracks) ts)) (runs_small f.shared f.time (pos f.shared.moof.offset) f.truns (size_small h tracks t lie.0 small)) (trafs_small h tracks ts small lie.1)
 
-pub all_small : (h : Held) (tracks : List Track) → IsWhole h.bytes → IsBytes h.bytes → AllByRecursion (λ (t : Track). t.size < 2 ^ 32) tracks → AllByRecursion (λ (run : Run). run.size < 2 ^ 32) (moof_runs h tracks)
+pub all_small : (h : MoofBytes) (tracks : List Track) → IsWhole h.bytes → IsBytes h.bytes → AllByRecursion (λ (t : Track). t.size < 2 ^ 32) tracks → AllByRecursion (λ (run : Run). run.size < 2 ^ 32) (moof_runs h tracks)
 all_small h tracks whole fits small =
     elim (option_is (box_at h.offset h.bytes)) [
       | inl none ↦ absurd (whole_found h.offset h.bytes whole none)

@@ -3,13 +3,13 @@ use Rattle.std.proofs.Common.{◌≡◌, ◌∙◌, ◌<◌, ◌^◌, ℕ, ℤ, 
 use Rattle.std.specs.List.{AllByRecursion}
 use Rattle.mp4_box.specs.Paths.{at_path, of_kind}
 use Rattle.mp4_box.specs.Trees.{Box, children, first_of}
-use Rattle.mp4_frag.specs.AtOnce.{is_kind}
+use Rattle.mp4_frag.specs.Working.AtOnce.{is_kind}
 use Rattle.mp4_init.specs.declared.table.Track.{Track}
 use Rattle.mp4_frag.specs.Kinds.{tfdt, tfhd, trun}
 use Rattle.mp4_frag.specs.Fields.{payload_of}
-use Rattle.mp4_frag.specs.RunRows.{offset_or_none, tfhd_at}
+use Rattle.mp4_frag.specs.Working.RunRows.{offset_or_none, tfhd_at}
 use Rattle.mp4_frag.specs.Ranges.{InRange, IsSound}
-use Rattle.mp4_frag.specs.Runs.{Held, Shared, base_by, base_of, runs_from, runs_of, shared_by, tfhd_of, track_of, traf_of}
+use Rattle.mp4_frag.specs.Runs.{MoofBytes, Shared, base_by, base_of, runs_from, runs_of, shared_by, tfhd_of, track_of, traf_of}
 use Rattle.mp4_frag.specs.Tfdt.{base_media_decode_time}
 use Rattle.mp4_frag.proofs.AtOnceLemmas.{no_other}
 use Rattle.mp4_frag.proofs.MoofLemmas.{path_kind}
@@ -35,18 +35,18 @@ headed t a b bs e first second = record {
 }
 
 -- what is known of the runs of a traf before they are read
-pub record Starts (h : Held) (tracks : List Track) (t : Box) (s : Shared) (time : ℕ) (place : ℤ) (bs : List Box) : Type 0 where
+pub record Starts (h : MoofBytes) (tracks : List Track) (t : Box) (s : Shared) (time : ℕ) (place : ℤ) (bs : List Box) : Type 0 where
   pub shared : s ≡ shared_by h (track_of tracks t) t
   pub begins : time ≡ base_of (track_of tracks t).next t
   pub last : place ≡ pos h.offset
   pub truns : of_kind trun bs ≡ of_kind trun (children t)
 
 -- the runs of the truns that are left are those of the traf
-pub runs_are : (h : Held) (tracks : List Track) (t : Box) (s : Shared) (time : ℕ) (last : ℤ) (bs : List Box) → Starts h tracks t s time last bs → runs_from s time last (of_kind trun bs) ≡ runs_of (traf_of h tracks t)
+pub runs_are : (h : MoofBytes) (tracks : List Track) (t : Box) (s : Shared) (time : ℕ) (last : ℤ) (bs : List Box) → Starts h tracks t s time last bs → runs_from s time last (of_kind trun bs) ≡ runs_of (traf_of h tracks t)
 unfolding traf_of
 runs_are h tracks t s time last bs f = rw (f.shared, f.begins, f.last, f.truns) refl
 
-pub runs_in_range : (h : Held) (tracks : List Track) (t : Box) (s : Shared) (time : ℕ) (last : ℤ) (bs : List Box) → Starts h tracks t s time last bs → s.header.size < 2 ^ 32 → IsSound (traf_of h tracks t) → AllByRecursion InRange (runs_from s time last (of_kind trun bs))
+pub runs_in_range : (h : MoofBytes) (tracks : List Track) (t : Box) (s : Shared) (time : ℕ) (last : ℤ) (bs : List Box) → Starts h tracks t s time last bs → s.header.size < 2 ^ 32 → IsSound (traf_of h tracks t) → AllByRecursion InRange (runs_from s time last (of_kind trun bs))
 unfolding traf_of
 runs_in_range h tracks t s time last bs f small sound =
     subst (AllByRecursion InRange) (sym (runs_are h tracks t s time last bs f)) (in_range (traf_of h tracks t) (subst (λ (x : Shared). x.header.size < 2 ^ 32) f.shared small) sound)

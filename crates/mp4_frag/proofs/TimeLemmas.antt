@@ -11,7 +11,7 @@ use Rattle.mp4_frag.proofs.RowLemmas.{durations_by_product}
 use Rattle.mp4_frag.specs.Rows.{row_of, group_at, rows_of, durations, sizes}
 use Rattle.mp4_frag.specs.Runs.{Shared, run_at, run_of, runs_from, end_place}
 use Rattle.mp4_frag.specs.Moofs.{late}
-use Rattle.mp4_frag.specs.Times.{ticks_in, late_at, late_from}
+use Rattle.mp4_frag.specs.Working.Times.{ticks_in, late_at, late_from}
 
 -- the durations of a run don't depend on its time or its place
 pub ticks_are : (s : Shared) (time : ℕ) (last : ℤ) (b : Box) → durations (rows_of (run_at s time last b) s.moof.bytes) ≡ ticks_in s b

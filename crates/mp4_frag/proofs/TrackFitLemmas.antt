@@ -3,7 +3,7 @@ use Rattle.std.proofs.Common.{ℕ, zero, suc, List, [], ◌∷◌, Option, None,
 use Rattle.std.specs.Prelude.{◌==◌}
 use Rattle.std.specs.List.{AllByRecursion, position}
 use Rattle.mp4_init.specs.declared.table.Track.{Track}
-use Rattle.mp4_init.specs.Rows.{with_next}
+use Rattle.mp4_init.specs.Tracks.{with_next}
 use Rattle.mp4_init.specs.TrackFields.{FitsTrackFields}
 use Rattle.mp4_frag.specs.Runs.{TrackFragment, end_of}
 use Rattle.mp4_frag.specs.Settling.{ended, ended_at, settled, with_end}

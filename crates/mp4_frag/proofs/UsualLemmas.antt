@@ -21,15 +21,15 @@ use Rattle.mp4_box.proofs.BoxLemmas.{plain_box, plain_is, short_none}
 use Rattle.mp4_box.proofs.TreeLemmas.{boxes_end, boxes_more}
 use Rattle.mp4_box.proofs.OrderLemmas.{least-none}
 use Rattle.mp4_init.specs.declared.table.Track.{Track}
-use Rattle.mp4_frag.specs.AtOnce.{HasTicks, IsComplete, IsEarly, faults_in_moof, faults_in_traf, is_complete, is_early, is_filled}
+use Rattle.mp4_frag.specs.Working.AtOnce.{HasTicks, IsComplete, IsEarly, faults_in_moof, faults_in_traf, is_complete, is_early, is_filled}
 use Rattle.mp4_frag.specs.Kinds.{mfhd, tfdt, tfhd, to_trun, traf, trun}
 use Rattle.mp4_frag.specs.Mfhd.{mfhd_len}
 use Rattle.mp4_frag.specs.Moofs.{IsRead, moof_trafs, time_faults, value_faults}
 use Rattle.mp4_frag.specs.Rules.{count_faults, form_faults, most_samples, samples_in, tfhd_faults, tfhd_length, trun_faults, trun_length}
-use Rattle.mp4_frag.specs.Runs.{Held}
+use Rattle.mp4_frag.specs.Runs.{MoofBytes}
 use Rattle.mp4_frag.specs.Tfdt.{tfdt_layout}
 use Rattle.mp4_frag.specs.Trun.{sample_count}
-use Rattle.mp4_frag.specs.Usual.{HoldsThree, HoldsTwo, IsUsual, usual_faults}
+use Rattle.mp4_frag.specs.Working.Usual.{HoldsThree, HoldsTwo, IsUsual, usual_faults}
 use Rattle.mp4_frag.proofs.AddLemmas.{few_enough, moof_truns}
 use Rattle.mp4_frag.proofs.AtOnceLemmas.{Passed, no_forms, no_other, no_values, passed_both}
 use Rattle.mp4_frag.proofs.MoofLemmas.{last_none}
@@ -141,7 +141,7 @@ none_noted fs None e is = least-none fs (sym e)
 none_noted fs (Some f) e is = absurd cc
 
 -- nothing is at fault, and no run is late
-pub usual_read : (h : Held) (tracks : List Track) (m : Box) → IsMoof h m → box_faults m ≡ [] → form_faults m ≡ [] → value_faults tracks m ≡ [] → IsEarly tracks m → IsRead h tracks
+pub usual_read : (h : MoofBytes) (tracks : List Track) (m : Box) → IsMoof h m → box_faults m ≡ [] → form_faults m ≡ [] → value_faults tracks m ≡ [] → IsEarly tracks m → IsRead h tracks
 unfolding least_from
 usual_read h tracks m moof tree forms values early =
     ap (λ (o : Option Fault). option_or o (least (time_faults (moof_trafs h tracks)))) (sym (none_early h tracks m moof.here moof.is tree forms values))

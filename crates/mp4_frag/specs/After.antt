@@ -7,7 +7,7 @@ use Rattle.mp4_init.specs.declared.table.Track.{Track}
 use Rattle.mp4_frag.specs.declared.run.Run.{Run}
 use Rattle.mp4_frag.specs.declared.traf.TrafHeader.{TrafHeader}
 use Rattle.mp4_frag.specs.Kinds.{trun}
-use Rattle.mp4_frag.specs.Runs.{Held, Shared, TrackFragment, end_place, runs_from, runs_of, trafs_by}
+use Rattle.mp4_frag.specs.Runs.{MoofBytes, Shared, TrackFragment, end_place, runs_from, runs_of, trafs_by}
 
 -- the run is one of these, with these before it and these after it
 pub record StandsBetween (runs before : List Run) (run : Run) (after : List Run) : Type 0 where
@@ -16,27 +16,3 @@ pub record StandsBetween (runs before : List Run) (run : Run) (after : List Run)
 -- the run is one of these
 abbrev pub StandsIn : Run → List Run → Type 0
 StandsIn run runs = (before : List Run) × (after : List Run) × StandsBetween runs before run after
-
--- ---- how what is behind it is found
-
--- the boxes that stand between two places of a moof
-abbrev pub boxes_between : Held → ℕ → ℕ → List Box
-boxes_between h from to = boxes (h.offset + from) (slice_range h.bytes from to)
-
-abbrev pub header_behind : Run → TrafHeader
-header_behind run = record { track = run.track; entry = run.entry; duration = run.duration; size = run.size; flags = run.flags }
-
-abbrev pub shared_behind : Held → Run → Shared
-shared_behind h run = record { moof = h; header = header_behind run; ends_at = run.traf_ends_at }
-
--- the runs behind it in its traf
-unfoldable pub runs_behind : Held → Run → List Run
-runs_behind h run = runs_from (shared_behind h run) run.end (end_place run) (of_kind trun (boxes_between h run.ends_at run.traf_ends_at))
-
--- the trafs behind its traf
-unfoldable pub trafs_behind : Held → List Track → Run → List TrackFragment
-trafs_behind h tracks run = trafs_by h tracks (boxes_between h run.traf_ends_at (length h.bytes))
-
--- all runs behind it
-abbrev pub all_behind : Held → List Track → Run → List Run
-all_behind h tracks run = runs_behind h run ++ flat_map runs_of (trafs_behind h tracks run)

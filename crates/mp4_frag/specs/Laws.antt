@@ -11,7 +11,7 @@ use Rattle.mp4_frag.specs.Kinds.{trun}
 use Rattle.mp4_frag.specs.Fields.{flags_in}
 use Rattle.mp4_frag.specs.Trun.{sample_count, sample_fields, trun_fields}
 use Rattle.mp4_frag.specs.Rows.{row_from, row_of}
-use Rattle.mp4_frag.specs.Runs.{Held, Shared, TrackFragment, run_of, shared_by, track_of, traf_of}
+use Rattle.mp4_frag.specs.Runs.{MoofBytes, Shared, TrackFragment, run_of, shared_by, track_of, traf_of}
 use Rattle.mp4_frag.specs.Settling.{ended}
 
 -- where group i begins in the payload of a trun
@@ -27,7 +27,7 @@ abbrev pub RowsAreGroups : Shared → Box → Type 0
 RowsAreGroups s b = (time : ℕ) (last : ℤ) (i : ℕ) → i < sample_count b.payload → row_of (run_of s time last b) s.moof.bytes i ≡ group_row (run_of s time last b) b.payload i
 
 -- so it is with the truns of a traf
-abbrev pub TrafRowsAreGroups : Held → List Track → Box → Type 0
+abbrev pub TrafRowsAreGroups : MoofBytes → List Track → Box → Type 0
 TrafRowsAreGroups h tracks t = AllByRecursion (RowsAreGroups (shared_by h (track_of tracks t) t)) (of_kind trun (children t))
 
 -- the cursor behind a row
@@ -39,6 +39,6 @@ abbrev pub first_cursor : Run → Cursor
 first_cursor run = record { row = 0; time = run.time; place = run.place }
 
 -- trafs one after the other: where one has no tfdt, it begins where the last traf of its track ended, in this moof or before it
-unfoldable pub in_turn : Held → List Track → List Box → List TrackFragment
+unfoldable pub in_turn : MoofBytes → List Track → List Box → List TrackFragment
 in_turn h tracks [] = []
 in_turn h tracks (b ∷ bs) = traf_of h tracks b ∷ in_turn h (ended tracks (traf_of h tracks b)) bs

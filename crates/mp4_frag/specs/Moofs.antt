@@ -14,7 +14,7 @@ use Rattle.mp4_init.specs.Moovs.{fault_of, or_else}
 use Rattle.mp4_frag.specs.Kinds.{to_tfhd, to_trun, trun}
 use Rattle.mp4_frag.specs.Rules.{child_faults, count_faults, form_faults, samples_of, tfhd_faults, trun_faults}
 use Rattle.mp4_frag.specs.Repeats.{repeat_faults}
-use Rattle.mp4_frag.specs.Runs.{Held, TrackFragment, runs_of, trafs_by}
+use Rattle.mp4_frag.specs.Runs.{MoofBytes, TrackFragment, runs_of, trafs_by}
 use Rattle.mp4_frag.specs.declared.run.Run.{Run}
 
 -- what stands for a box where the bytes are none
@@ -22,23 +22,23 @@ abbrev pub no_box : Box
 no_box = record { header = record { kind = record { 0 = [] }; user = None; size = ToEnd; header_len = 0 }; offset = 0; payload = [] }
 
 -- the moof that the bytes are
-abbrev pub moof_of : Held → Box
+abbrev pub moof_of : MoofBytes → Box
 moof_of h = unwrap_or (box_at h.offset h.bytes) no_box
 
 -- its trafs, in order
-abbrev pub moof_trafs : Held → List Track → List TrackFragment
+abbrev pub moof_trafs : MoofBytes → List Track → List TrackFragment
 moof_trafs h tracks = trafs_by h tracks (children (moof_of h))
 
 -- its runs, in listing order
-abbrev pub moof_runs : Held → List Track → List Run
+abbrev pub moof_runs : MoofBytes → List Track → List Run
 moof_runs h tracks = flat_map runs_of (moof_trafs h tracks)
 
 -- how many samples it has
-abbrev pub moof_samples : Held → ℕ
+abbrev pub moof_samples : MoofBytes → ℕ
 moof_samples h = samples_of (moof_of h)
 
 -- how many truns it has
-abbrev pub moof_truns : Held → ℕ
+abbrev pub moof_truns : MoofBytes → ℕ
 moof_truns h = length (at_path to_trun (moof_of h))
 
 -- ---- its fault
@@ -68,20 +68,20 @@ abbrev pub time_faults : List TrackFragment → List Fault
 time_faults ts = flat_map time_faults_of ts
 
 -- the fault by all rules but the last, that of times: of its tree; else of its boxes; else of their values
-unfoldable pub early_fault : Held → List Track → Option Fault
+unfoldable pub early_fault : MoofBytes → List Track → Option Fault
 early_fault h tracks =
     option_or (fault_of (verdict (tree_faults h.offset h.bytes)))
     (option_or (least (form_faults (moof_of h))) (least (value_faults tracks (moof_of h))))
 
 -- the fault of the moof that the bytes are: times are looked at only where all else is good
-abbrev pub moof_fault : Held → List Track → Option Fault
+abbrev pub moof_fault : MoofBytes → List Track → Option Fault
 moof_fault h tracks = option_or (early_fault h tracks) (least (time_faults (moof_trafs h tracks)))
 
 -- all that is at fault with it, as far as it is looked at
-abbrev pub moof_faults : Held → List Track → List Fault
+abbrev pub moof_faults : MoofBytes → List Track → List Fault
 moof_faults h tracks =
     or_else (tree_faults h.offset h.bytes) (or_else (form_faults (moof_of h)) (or_else (value_faults tracks (moof_of h)) (time_faults (moof_trafs h tracks))))
 
 -- the moof was read without a fault, with these tracks
-abbrev pub IsRead : Held → List Track → Type 0
+abbrev pub IsRead : MoofBytes → List Track → Type 0
 IsRead h tracks = moof_fault h tracks ≡ None

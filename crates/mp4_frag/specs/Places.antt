@@ -7,21 +7,23 @@ use Rattle.mp4_run_order.specs.declared.runs.Payload.{Payload}
 use Rattle.mp4_run_order.specs.Places.{IsFirstOffender, Placed, first_offender}
 use Rattle.mp4_frag.specs.declared.run.Run.{Run}
 use Rattle.mp4_frag.specs.Kinds.{trun}
-use Rattle.mp4_frag.specs.RunRows.{listed_run}
+
+abbrev pub listed_run : Run → ListedRun
+listed_run run = record { number = run.offset; track = run.track; count = run.count; place = run.place; bytes = run.bytes }
 
 -- the trun that begins at this offset may not stand where it does
-abbrev pub misplaced : ℕ → Fault
-misplaced offset = record { rule = RunPlace; kind = Some trun; offset = offset }
+abbrev pub run_place_fault : ℕ → Fault
+run_place_fault offset = record { rule = RunPlace; kind = Some trun; offset = offset }
 
 -- the fault of the first run in the listing that may not stand where it does, where there is one
 abbrev pub place_fault : Payload → List Run → Option Fault
-place_fault payload runs = option_map (λ run. misplaced run.number) (first_offender payload (map listed_run runs))
+place_fault payload runs = option_map (λ run. run_place_fault run.number) (first_offender payload (map listed_run runs))
 
 -- the fault is that of the first run in the listing that is at fault
 pub record IsMisplaced (payload : Payload) (runs : List ListedRun) (fault : Fault) : Type 0 where
   pub run : ListedRun
   pub first : IsFirstOffender payload runs run
-  pub is : fault ≡ misplaced run.number
+  pub is : fault ≡ run_place_fault run.number
 
 -- what is answered: that fault, or none where all runs may stand where they do
 abbrev pub IsPlaceFault : Payload → List ListedRun → Option Fault → Type 0

@@ -5,7 +5,7 @@ use Rattle.mp4_box.specs.declared.rules.Fault.{Fault}
 use Rattle.mp4_box.specs.declared.rules.Rule.TheVariants.{Unsupported}
 use Rattle.mp4_box.specs.Trees.{Box, children, first_of}
 use Rattle.mp4_box.specs.Paths.{of_kind, at_path}
-use Rattle.mp4_init.specs.OrderedIds.{sought}
+use Rattle.mp4_init.specs.Working.OrderedIds.{sought}
 use Rattle.mp4_frag.specs.Fields.{payload_of}
 use Rattle.mp4_frag.specs.Kinds.{traf, tfhd, tfdt}
 use Rattle.mp4_frag.specs.Tfhd.{track_id}
@@ -51,18 +51,3 @@ repeat_faults m = repeats [] (trafs_of m)
 unfoldable pub untimed_ids : List Box → List ℕ
 untimed_ids [] = []
 untimed_ids (t ∷ ts) = if lacks_time t then traf_id t ∷ untimed_ids ts else untimed_ids ts
-
--- ---- how they are found: some of these ids in order, and which of them were listed
-
-abbrev pub marked_at : List Bool → Option ℕ → List Bool
-marked_at seen None = seen
-marked_at seen (Some k) = slice_set seen k true
-
--- each of these is marked at the place of its id, where it has one
-unfoldable pub all_marked : List ℕ → List Bool → List Box → List Bool
-all_marked ids seen [] = seen
-all_marked ids seen (t ∷ ts) = all_marked ids (marked_at seen (sought ids (traf_id t))) ts
-
--- what is marked behind these
-unfoldable pub marks : ℕ → List ℕ → List Box → List Bool
-marks n ids ts = all_marked ids (replicate n false) ts

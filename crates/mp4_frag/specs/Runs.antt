@@ -54,20 +54,20 @@ abbrev pub base_of : ℕ → Box → ℕ
 base_of next t = base_by next (first_of (at_path (tfdt ∷ []) t))
 
 -- a moof that is held: its bytes, and the offset in the stream of the first
-pub record Held : Type 0 where
+pub record MoofBytes : Type 0 where
   pub bytes : List ℕ
   pub offset : ℕ
 
-abbrev pub held_at : List ℕ → ℕ → Held
-held_at bytes offset = record { bytes = bytes; offset = offset }
+abbrev pub moof_at : List ℕ → ℕ → MoofBytes
+moof_at bytes offset = record { bytes = bytes; offset = offset }
 
 -- where in the moof a box ends
-abbrev pub end_in : Held → Box → ℕ
+abbrev pub end_in : MoofBytes → Box → ℕ
 end_in h b = payload_offset b + length b.payload - h.offset
 
 -- what the runs of a traf share: the moof, the header of the traf, and where in the moof the traf ends
 pub record Shared : Type 0 where
-  pub moof : Held
+  pub moof : MoofBytes
   pub header : TrafHeader
   pub ends_at : ℕ
 
@@ -78,10 +78,10 @@ pub record TrackFragment : Type 0 where
   pub truns : List Box
 
 -- the traf is in this moof, and of this track
-abbrev pub shared_by : Held → Track → Box → Shared
+abbrev pub shared_by : MoofBytes → Track → Box → Shared
 shared_by h track t = record { moof = h; header = header_by track (tfhd_of t); ends_at = end_in h t }
 
-unfoldable pub traf_of : Held → List Track → Box → TrackFragment
+unfoldable pub traf_of : MoofBytes → List Track → Box → TrackFragment
 traf_of h tracks t = record {
   shared = shared_by h (track_of tracks t) t;
   time = base_of (track_of tracks t).next t;
@@ -139,7 +139,7 @@ runs_from s time last (b ∷ bs) =
 abbrev pub runs_of : TrackFragment → List Run
 runs_of t = runs_from t.shared t.time (pos t.shared.moof.offset) t.truns
 
-abbrev pub trafs_by : Held → List Track → List Box → List TrackFragment
+abbrev pub trafs_by : MoofBytes → List Track → List Box → List TrackFragment
 trafs_by h tracks bs = map (traf_of h tracks) (of_kind traf bs)
 
 -- where a run ends, or the time so far where there is none
@@ -149,17 +149,3 @@ last_end time runs = fold (λ (_ : ℕ) (run : Run). run.end) time runs
 -- where a traf ends: its base time plus all its durations
 abbrev pub end_of : TrackFragment → ℕ
 end_of t = last_end t.time (runs_of t)
-
--- ---- what the code keeps of these
-
--- a context, without where its bytes lie in memory
-abbrev pub shared_of : TrafContext → Shared
-shared_of c = record { moof = record { bytes = c.held.now; offset = c.moof }; header = c.header; ends_at = c.ends_at }
-
--- the runs of the truns that are left, behind the runs so far
-abbrev pub runs_left : TrafContext → Behind → List Box → List Run
-runs_left c behind bs = runs_from (shared_of c) behind.time behind.place (of_kind trun bs)
-
--- a traf, of which this is the box
-abbrev pub fragment_of : TrafContext → ℕ → BoxRef → TrackFragment
-fragment_of c time b = record { shared = shared_of c; time = time; truns = of_kind trun (children (view b)) }

@@ -5,10 +5,11 @@ ghost use Rattle.std.specs.List.{AllByRecursion, flat_map};
 ghost use Rattle.mp4_box.specs.Headers.{IsWhole};
 ghost use Rattle.mp4_box.specs.Trees.{children, first_of, view};
 ghost use Rattle.mp4_frag.specs.declared.run.Run.{Run};
-ghost use Rattle.mp4_frag.specs.After.{StandsBetween, StandsIn, all_behind, boxes_between, runs_behind, trafs_behind};
+ghost use Rattle.mp4_frag.specs.After.{StandsBetween, StandsIn};
+ghost use Rattle.mp4_frag.specs.Working.RunsBehind.{all_behind, boxes_between, runs_behind, trafs_behind};
 ghost use Rattle.mp4_frag.specs.Moofs.{IsRead, moof_runs};
 ghost use Rattle.mp4_frag.specs.Ranges.{InRange, IsSound};
-ghost use Rattle.mp4_frag.specs.Runs.{held_at, runs_of};
+ghost use Rattle.mp4_frag.specs.Runs.{moof_at, runs_of};
 
 use crate::moof::Moof;
 use crate::part::headless;
@@ -23,22 +24,22 @@ fn part_of<'a>(held: &'a [u8], moof: u64, from: u64, to: u64) -> BoxRef<'a>
     requires order { from ≤ to }
     requires within { to ≤ length held.now }
     requires room { moof + length held.now ≤ 2 ^ 62 }
-    ensures { children (view result) ≡ boxes_between (held_at held.now moof)
+    ensures { children (view result) ≡ boxes_between (moof_at held.now moof)
         from to }
 {
     headless(&held[from as usize..to as usize], moof + from)
 }
 
 /// The runs behind a run in its traf.
-#[tactic(auto, unfolding(crate::specs::After::runs_behind))]
+#[tactic(auto, unfolding(crate::specs::Working::RunsBehind::runs_behind))]
 fn runs_behind<'a>(held: &'a [u8], moof: u64, run: &Run) -> Runs<'a>
     requires order { run.now.ends_at ≤ run.now.traf_ends_at }
     requires within { run.now.traf_ends_at ≤ length held.now }
     requires room { moof + length held.now ≤ 2 ^ 62 }
     requires here { InRange run.now }
     requires range { AllByRecursion InRange
-        (runs_behind (held_at held.now moof) run.now) }
-    ensures { result ≡ runs_behind (held_at held.now moof) run.now }
+        (runs_behind (moof_at held.now moof) run.now) }
+    ensures { result ≡ runs_behind (moof_at held.now moof) run.now }
 {
     let context = TrafContext {
         held,
@@ -57,13 +58,13 @@ fn runs_behind<'a>(held: &'a [u8], moof: u64, run: &Run) -> Runs<'a>
 }
 
 /// The trafs behind the traf of a run.
-#[tactic(auto, unfolding(crate::specs::After::trafs_behind))]
+#[tactic(auto, unfolding(crate::specs::Working::RunsBehind::trafs_behind))]
 fn trafs_behind<'a>(held: &'a [u8], moof: u64, tracks: &'a TrackList, run: &Run) -> Trafs<'a>
     requires within { run.now.traf_ends_at ≤ length held.now }
     requires room { moof + length held.now ≤ 2 ^ 62 }
     requires sound { AllByRecursion IsSound
-        (trafs_behind (held_at held.now moof) tracks.now run.now) }
-    ensures { result ≡ trafs_behind (held_at held.now moof) tracks.now run.now }
+        (trafs_behind (moof_at held.now moof) tracks.now run.now) }
+    ensures { result ≡ trafs_behind (moof_at held.now moof) tracks.now run.now }
 {
     let part = part_of(held, moof, run.traf_ends_at, held.len() as u64);
     Trafs::of(held, moof, tracks, &part)
@@ -85,14 +86,14 @@ fn first_run(trafs: Trafs<'_>) -> Option<Run>
 fn run_after(held: &[u8], moof: u64, tracks: &TrackList, run: &Run) -> Option<Run>
     requires whole { IsWhole held.now }
     requires room { moof + length held.now ≤ 2 ^ 62 }
-    requires read { IsRead (held_at held.now moof) tracks.now }
+    requires read { IsRead (moof_at held.now moof) tracks.now }
     requires small { run.now.size < 2 ^ 32 }
-    requires run { StandsIn run.now (moof_runs (held_at held.now moof) tracks.now) }
+    requires run { StandsIn run.now (moof_runs (moof_at held.now moof) tracks.now) }
     ensures next { (before after : List Run) → StandsBetween
-        (moof_runs (held_at held.now moof) tracks.now) before run.now after →
+        (moof_runs (moof_at held.now moof) tracks.now) before run.now after →
         result ≡ first_of after }
     ensures run { IfSome result (λ next. StandsIn next
-        (moof_runs (held_at held.now moof) tracks.now)) }
+        (moof_runs (moof_at held.now moof) tracks.now)) }
 {
     if let Some(next) = runs_behind(held, moof, run).next() {
         return Some(next);

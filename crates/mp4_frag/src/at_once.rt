@@ -8,7 +8,7 @@ ghost use Rattle.std.specs.List.{AllByRecursion, flat_map, list_all};
 ghost use Rattle.mp4_box.specs.Order.{least_from};
 ghost use Rattle.mp4_box.specs.Paths.{at_path, of_kind};
 ghost use Rattle.mp4_box.specs.Trees.{box_faults, box_len, children, view};
-ghost use Rattle.mp4_frag.specs.AtOnce.{Adds, HasTicks, IsComplete, IsCount, IsEarly, TrafHasTicks, faults_in_moof, faults_in_traf, in_trafs, is_complete, is_early, is_kind, most_32, most_64, passed_over};
+ghost use Rattle.mp4_frag.specs.Working.AtOnce.{Adds, HasTicks, IsComplete, IsCount, IsEarly, TrafHasTicks, faults_in_moof, faults_in_traf, in_trafs, is_complete, is_early, is_kind, most_32, most_64, passed_over};
 ghost use Rattle.mp4_frag.specs.Kinds.{free, skip, tfdt, tfhd, to_trun, traf, trun};
 ghost use Rattle.mp4_frag.specs.Moofs.{value_faults};
 ghost use Rattle.mp4_frag.specs.Rules.{form_faults, most_samples, samples_in, samples_of};
@@ -54,7 +54,7 @@ fn note_other(child: &BoxRef<'_>, best: &mut Option<Fault>)
 
 /// Notes what is at fault with a child of a traf by itself.
 #[inline]
-#[tactic(auto, using(mp4_box::proofs::OrderLemmas::least_from_append), unfolding(crate::specs::AtOnce::faults_in_traf, mp4_box::specs::Order::least_from))]
+#[tactic(auto, using(mp4_box::proofs::OrderLemmas::least_from_append), unfolding(crate::specs::Working::AtOnce::faults_in_traf, mp4_box::specs::Order::least_from))]
 fn note_in_traf(tracks: &TrackList, child: &BoxRef<'_>, best: &mut Option<Fault>)
     ensures best { best.new ≡ least_from best.old (faults_in_traf tracks.now (view child.now)) }
     ensures ticks { is_kind tfhd (view child.now) ≡ true → HasTicks tracks.now (view child.now) }
@@ -164,7 +164,7 @@ fn note_traf(
 /// Notes what is at fault with a child of a moof by itself, and adds what it says to what is told. Where it is a traf that has
 /// just one tfhd and one tfdt, and no rest, or is no traf, it tells so.
 #[inline(always)]
-#[tactic(auto, unfolding(crate::specs::AtOnce::faults_in_moof, mp4_box::specs::Order::least_from))]
+#[tactic(auto, unfolding(crate::specs::Working::AtOnce::faults_in_moof, mp4_box::specs::Order::least_from))]
 fn note_in_moof(
     tracks: &TrackList,
     child: &BoxRef<'_>,

@@ -18,27 +18,28 @@ ghost use Rattle.mp4_frag.specs.Moofs.{IsRead, moof_faults, moof_of, moof_runs, 
 ghost use Rattle.mp4_frag.specs.Ranges.{InRange};
 ghost use Rattle.mp4_frag.specs.Repeats.{repeat_faults};
 ghost use Rattle.mp4_frag.specs.Rows.{IsCursor, row_of, rows_of};
-ghost use Rattle.mp4_frag.specs.RunLists.{IsListOf, ListedRows, moof_listing, taken_runs};
-ghost use Rattle.mp4_frag.specs.RunRows.{listed_run};
-ghost use Rattle.mp4_frag.specs.Runs.{Held, TrackFragment};
+ghost use Rattle.mp4_frag.specs.RunLists.{moof_listing, taken_runs};
+ghost use Rattle.mp4_frag.specs.Working.ListedRows.{IsListOf, ListedRows};
+ghost use Rattle.mp4_frag.specs.Places.{listed_run};
+ghost use Rattle.mp4_frag.specs.Runs.{MoofBytes, TrackFragment};
 ghost use Rattle.mp4_frag.specs.Settling.{settled};
 ghost use Rattle.mp4_frag.specs.SyncSamples.{is_sync};
 
 /// In a moof without a fault nothing is at fault, as far as it is looked at.
 pub fn no_fault()
-    ensures { (h : Held) (tracks : List Track) → IsRead h tracks → moof_faults h tracks ≡ [] }
+    ensures { (h : MoofBytes) (tracks : List Track) → IsRead h tracks → moof_faults h tracks ≡ [] }
 {}
 
 /// In a moof without a fault row i of the run of each trun is what stands in group i of the trun's payload.
 pub fn rows_are_groups()
-    ensures { (h : Held) (tracks : List Track) → IsWhole h.bytes → IsBytes h.bytes →
+    ensures { (h : MoofBytes) (tracks : List Track) → IsWhole h.bytes → IsBytes h.bytes →
         IsRead h tracks → AllByRecursion (TrafRowsAreGroups h tracks)
         (of_kind traf (children (moof_of h))) }
 {}
 
 /// The samples of a moof are the rows of all its runs.
 pub fn samples_are_rows()
-    ensures { (h : Held) (tracks : List Track) →
+    ensures { (h : MoofBytes) (tracks : List Track) →
         length (flat_map (λ run. rows_of run h.bytes) (moof_runs h tracks)) ≡ moof_samples h }
 {}
 
@@ -52,29 +53,29 @@ pub fn cursors_go_on()
 /// Where no traf without tfdt has the track_ID of an earlier one, the ends of the tracks before the moof are all that base
 /// times need: each traf is as it is where the trafs are gone over in turn, and each sets where its track ended.
 pub fn ends_before_serve()
-    ensures { (h : Held) (tracks : List Track) → repeat_faults (moof_of h) ≡ [] →
+    ensures { (h : MoofBytes) (tracks : List Track) → repeat_faults (moof_of h) ≡ [] →
         in_turn h tracks (of_kind traf (children (moof_of h))) ≡ moof_trafs h tracks }
 {}
 
 /// In a moof without a fault each run ends within 64 bits, and its samples lie from 2^31 bytes before the stream on and
 /// end before byte 2^63.
 pub fn runs_are_in_range()
-    ensures { (h : Held) (tracks : List Track) → IsWhole h.bytes → IsBytes h.bytes →
+    ensures { (h : MoofBytes) (tracks : List Track) → IsWhole h.bytes → IsBytes h.bytes →
         h.offset + length h.bytes ≤ 2 ^ 62 → AllByRecursion (λ t. t.size < 2 ^ 32) tracks →
         IsRead h tracks → AllByRecursion InRange (moof_runs h tracks) }
 {}
 
 /// A list of a moof has just its runs, by place, and those at one place as they are listed.
 pub fn lists_are_in_order()
-    ensures same { (h : Held) (tracks : List Track) →
+    ensures same { (h : MoofBytes) (tracks : List Track) →
         IsPermutation (moof_runs h tracks) (taken_runs h tracks) }
-    ensures order { (h : Held) (tracks : List Track) (l : ListedRows) → IsListOf h tracks l →
+    ensures order { (h : MoofBytes) (tracks : List Track) (l : ListedRows) → IsListOf h tracks l →
         AllPairs (λ a b. IsTakenBefore (listed_run a) (listed_run b)) (taken_runs h tracks) }
 {}
 
 /// A moof lists its runs, also where it has a fault: their numbers rise in the listing.
 pub fn moofs_list_their_runs()
-    ensures { (h : Held) (tracks : List Track) → IsBytes h.bytes →
+    ensures { (h : MoofBytes) (tracks : List Track) → IsBytes h.bytes →
         IsListing (moof_listing h tracks) }
 {}
 

@@ -6,7 +6,7 @@ ghost use Rattle.std.specs.Option.{unwrap_or};
 ghost use Rattle.mp4_box.specs.Headers.{IsWhole};
 ghost use Rattle.mp4_box.specs.Paths.{of_kind};
 ghost use Rattle.mp4_box.specs.Trees.{children, view};
-ghost use Rattle.mp4_init.specs.Rows.{with_next};
+ghost use Rattle.mp4_init.specs.Tracks.{with_next};
 ghost use Rattle.mp4_init.specs.declared.table.Track.{Track};
 ghost use Rattle.mp4_run_order.specs.Places.{lies_in};
 ghost use Rattle.mp4_frag.specs.Kinds.{trun};
@@ -16,8 +16,8 @@ ghost use Rattle.mp4_frag.specs.Places.{place_fault};
 ghost use Rattle.mp4_frag.specs.Ranges.{InRange, IsSound};
 ghost use Rattle.mp4_frag.specs.Rules.{most_samples};
 ghost use Rattle.mp4_frag.specs.RunLists.{taken_runs};
-ghost use Rattle.mp4_frag.specs.RunRows.{listed_run};
-ghost use Rattle.mp4_frag.specs.Runs.{base_of, held_at, runs_of, tfhd_of, traf_of};
+ghost use Rattle.mp4_frag.specs.Places.{listed_run};
+ghost use Rattle.mp4_frag.specs.Runs.{base_of, moof_at, runs_of, tfhd_of, traf_of};
 ghost use Rattle.mp4_frag.specs.Tfhd.{track_id};
 
 use crate::children::next_of;
@@ -76,9 +76,9 @@ pub(crate) fn run_with<'a>(
     requires tfhd { tfhd.now ≡ tfhd_of (view traf.now) }
     requires time { (next : ℕ) → unwrap_or time next ≡ base_of next (view traf.now) }
     requires trun { of_kind trun (children (view traf.now)) ≡ view only.now ∷ [] }
-    requires sound { IsSound (traf_of (held_at held.now moof) tracks.now
+    requires sound { IsSound (traf_of (moof_at held.now moof) tracks.now
         (view traf.now)) }
-    ensures run { runs_of (traf_of (held_at held.now moof) tracks.now (view traf.now)) ≡
+    ensures run { runs_of (traf_of (moof_at held.now moof) tracks.now (view traf.now)) ≡
         result.run ∷ [] }
     ensures range { InRange result.run }
     ensures track { position (λ t. t.id == track_id (tfhd_of (view traf.now))) tracks.now ≡
@@ -102,18 +102,18 @@ pub(crate) fn run_with<'a>(
 /// The only run of a traf, in the moof that begins at this offset. Its track is known.
 #[inline(always)]
 fn lone_of<'a>(held: &'a [u8], moof: u64, tracks: &TrackList, traf: &BoxRef<'a>) -> Option<LoneRun>
-    requires sound { IsSound (traf_of (held_at held.now moof) tracks.now
+    requires sound { IsSound (traf_of (moof_at held.now moof) tracks.now
         (view traf.now)) }
     requires known { IsSome (position (λ t. t.id == track_id (tfhd_of (view traf.now)))
         tracks.now) }
     ensures run { IfSome result (λ l.
-        runs_of (traf_of (held_at held.now moof) tracks.now (view traf.now)) ≡ l.run ∷ []) }
+        runs_of (traf_of (moof_at held.now moof) tracks.now (view traf.now)) ≡ l.run ∷ []) }
     ensures range { IfSome result (λ l. InRange l.run) }
     ensures track { IfSome result (λ l.
         position (λ t. t.id == track_id (tfhd_of (view traf.now))) tracks.now ≡ Some l.track) }
     ensures within { IfSome result (λ l. l.track < length tracks.now) }
     ensures none { IfNone result (length
-        (runs_of (traf_of (held_at held.now moof) tracks.now (view traf.now))) ≢ 1) }
+        (runs_of (traf_of (moof_at held.now moof) tracks.now (view traf.now))) ≢ 1) }
 {
     let heads = heads_of(traf);
     let Some(trun) = only_of(TRUN, heads.rest) else {
@@ -132,10 +132,10 @@ fn lone_of<'a>(held: &'a [u8], moof: u64, tracks: &TrackList, traf: &BoxRef<'a>)
 fn lone_in(held: &[u8], offset: u64, tracks: &TrackList) -> Option<LoneRun>
     requires whole { IsWhole held.now }
     requires room { offset + length held.now ≤ 2 ^ 62 }
-    requires read { IsRead (held_at held.now offset) tracks.now }
-    ensures lone { IfSome result (λ l. IsLone (held_at held.now offset) tracks.now l) }
-    ensures none { length (moof_trafs (held_at held.now offset) tracks.now) ≡ 1 →
-        length (moof_runs (held_at held.now offset) tracks.now) ≡ 1 → IsSome result }
+    requires read { IsRead (moof_at held.now offset) tracks.now }
+    ensures lone { IfSome result (λ l. IsLone (moof_at held.now offset) tracks.now l) }
+    ensures none { length (moof_trafs (moof_at held.now offset) tracks.now) ≡ 1 →
+        length (moof_runs (moof_at held.now offset) tracks.now) ≡ 1 → IsSome result }
 {
     let moof = whole_box(held, offset);
     let Some(traf) = only_of(TRAF, Walk::of(&moof)) else {
@@ -187,8 +187,8 @@ fn has_one_run(held: &[u8], offset: u64) -> bool
     requires whole { IsWhole held.now }
     requires room { offset + length held.now ≤ 2 ^ 62 }
     ensures { (tracks : List Track) → (result ≡ true) ↔
-        ((length (moof_trafs (held_at held.now offset) tracks) ≡ 1) ×
-        (length (moof_runs (held_at held.now offset) tracks) ≡ 1)) }
+        ((length (moof_trafs (moof_at held.now offset) tracks) ≡ 1) ×
+        (length (moof_runs (moof_at held.now offset) tracks) ≡ 1)) }
 {
     let moof = whole_box(held, offset);
     let Some(traf) = only_of(TRAF, Walk::of(&moof)) else {
@@ -208,13 +208,13 @@ fn read_generally(
     requires whole { IsWhole held.now }
     requires room { offset + length held.now ≤ 2 ^ 62 }
     requires steps { steps.old.rows < 2 ^ 126 }
-    ensures lone { IfSome result (λ l. IsLone (held_at held.now offset) tracks.now l) }
-    ensures none { IsRead (held_at held.now offset) tracks.now →
-        length (moof_trafs (held_at held.now offset) tracks.now) ≡ 1 →
-        length (moof_runs (held_at held.now offset) tracks.now) ≡ 1 → IsSome result }
+    ensures lone { IfSome result (λ l. IsLone (moof_at held.now offset) tracks.now l) }
+    ensures none { IsRead (moof_at held.now offset) tracks.now →
+        length (moof_trafs (moof_at held.now offset) tracks.now) ≡ 1 →
+        length (moof_runs (moof_at held.now offset) tracks.now) ≡ 1 → IsSome result }
     ensures walked { IfSome result (λ _. steps.new.rows ≡
-        steps.old.rows + 2 * moof_samples (held_at held.now offset)) }
-    ensures unwalked { IsRead (held_at held.now offset) tracks.now → result ≡ None →
+        steps.old.rows + 2 * moof_samples (moof_at held.now offset)) }
+    ensures unwalked { IsRead (moof_at held.now offset) tracks.now → result ≡ None →
         steps.new ≡ steps.old }
     ensures few { steps.new.rows ≤ steps.old.rows + 2 * most_samples }
 {
@@ -236,13 +236,13 @@ impl LoneRun {
         requires whole { IsWhole held.now }
         requires room { offset + length held.now ≤ 2 ^ 62 }
         requires steps { steps.old.rows < 2 ^ 126 }
-        ensures lone { IfSome result (λ l. IsLone (held_at held.now offset) tracks.now l) }
-        ensures none { IsRead (held_at held.now offset) tracks.now →
-            length (moof_trafs (held_at held.now offset) tracks.now) ≡ 1 →
-            length (moof_runs (held_at held.now offset) tracks.now) ≡ 1 → IsSome result }
+        ensures lone { IfSome result (λ l. IsLone (moof_at held.now offset) tracks.now l) }
+        ensures none { IsRead (moof_at held.now offset) tracks.now →
+            length (moof_trafs (moof_at held.now offset) tracks.now) ≡ 1 →
+            length (moof_runs (moof_at held.now offset) tracks.now) ≡ 1 → IsSome result }
         ensures walked { IfSome result (λ _. steps.new.rows ≡
-            steps.old.rows + 2 * moof_samples (held_at held.now offset)) }
-        ensures unwalked { IsRead (held_at held.now offset) tracks.now → result ≡ None →
+            steps.old.rows + 2 * moof_samples (moof_at held.now offset)) }
+        ensures unwalked { IsRead (moof_at held.now offset) tracks.now → result ≡ None →
             steps.new ≡ steps.old }
         ensures few { steps.new.rows ≤ steps.old.rows + 2 * most_samples }
     {

@@ -6,10 +6,10 @@ ghost use Rattle.mp4_box.specs.declared.rules.Fault.{Fault};
 ghost use Rattle.mp4_box.specs.Headers.{IsWhole};
 ghost use Rattle.mp4_box.specs.Order.{IsLeast, least, least_from};
 ghost use Rattle.mp4_box.specs.Trees.{view};
-ghost use Rattle.mp4_frag.specs.AtOnce.{told_fault};
+ghost use Rattle.mp4_frag.specs.Working.AtOnce.{told_fault};
 ghost use Rattle.mp4_frag.specs.Moofs.{IsRead, early_fault, moof_fault, moof_faults, moof_of, moof_samples, moof_trafs, moof_truns, time_faults, value_faults};
 ghost use Rattle.mp4_frag.specs.Rules.{count_faults, form_faults, most_samples};
-ghost use Rattle.mp4_frag.specs.Runs.{Held, held_at};
+ghost use Rattle.mp4_frag.specs.Runs.{MoofBytes, moof_at};
 ghost use Rattle.mp4_frag.specs.Settling.{settled, timed_of};
 
 use crate::at_once::{Sound, look_at};
@@ -41,16 +41,16 @@ impl<'a> Model for Moof<'a> {
     ghost use Rattle.mp4_box.specs.Headers.{IsWhole};
     ghost use Rattle.mp4_frag.specs.Moofs.{moof_of, moof_samples, moof_truns};
     ghost use Rattle.mp4_frag.specs.Rules.{count_faults, most_samples};
-    ghost use Rattle.mp4_frag.specs.Runs.{Held, held_at};
+    ghost use Rattle.mp4_frag.specs.Runs.{MoofBytes, moof_at};
 
-    ghost Value = { Held };
+    ghost Value = { MoofBytes };
 
-    ghost view = { λ m. held_at m.held.now m.offset };
+    ghost view = { λ m. moof_at m.held.now m.offset };
 
     ghost invariant = { λ m. IsWhole m.held.now × (m.offset + length m.held.now ≤ 2 ^ 62) ×
-        (count_faults (moof_of (held_at m.held.now m.offset)) ≡ []) ×
-        IfSome m.told (λ s. (s.samples ≡ moof_samples (held_at m.held.now m.offset)) ×
-        (s.samples ≤ most_samples) × (s.truns ≡ moof_truns (held_at m.held.now m.offset))) };
+        (count_faults (moof_of (moof_at m.held.now m.offset)) ≡ []) ×
+        IfSome m.told (λ s. (s.samples ≡ moof_samples (moof_at m.held.now m.offset)) ×
+        (s.samples ≤ most_samples) × (s.truns ≡ moof_truns (moof_at m.held.now m.offset))) };
 }
 
 /// What is at fault with the values, times aside.
@@ -83,7 +83,7 @@ fn content_fault(tracks: &TrackList, moof: &BoxRef<'_>) -> Option<Fault>
 fn truns_at(held: &[u8], offset: u64) -> u64
     requires whole { IsWhole held.now }
     requires room { offset + length held.now ≤ 2 ^ 62 }
-    ensures { result ≡ moof_truns (held_at held.now offset) }
+    ensures { result ≡ moof_truns (moof_at held.now offset) }
 {
     truns_in(&whole_box(held, offset))
 }
@@ -93,12 +93,12 @@ fn truns_at(held: &[u8], offset: u64) -> u64
 fn early_by_rules(held: &[u8], offset: u64, tracks: &TrackList) -> Result<Sound, Fault>
     requires whole { IsWhole held.now }
     requires room { offset + length held.now ≤ 2 ^ 62 }
-    ensures fault { told_fault result ≡ early_fault (held_at held.now offset) tracks.now }
+    ensures fault { told_fault result ≡ early_fault (moof_at held.now offset) tracks.now }
     ensures least { IfErr result (λ f. IsLeast f
-        (moof_faults (held_at held.now offset) tracks.now)) }
-    ensures samples { IfOk result (λ s. s.samples ≡ moof_samples (held_at held.now offset)) }
+        (moof_faults (moof_at held.now offset) tracks.now)) }
+    ensures samples { IfOk result (λ s. s.samples ≡ moof_samples (moof_at held.now offset)) }
     ensures few { IfOk result (λ s. s.samples ≤ most_samples) }
-    ensures truns { IfOk result (λ s. s.truns ≡ moof_truns (held_at held.now offset)) }
+    ensures truns { IfOk result (λ s. s.truns ≡ moof_truns (moof_at held.now offset)) }
     ensures late { IfOk result (λ s. s.is_early ≡ false) }
 {
     if let Err(fault) = check_tree(held, offset) {
@@ -119,14 +119,14 @@ fn early_by_rules(held: &[u8], offset: u64, tracks: &TrackList) -> Result<Sound,
 fn early(held: &[u8], offset: u64, tracks: &TrackList) -> Result<Sound, Fault>
     requires whole { IsWhole held.now }
     requires room { offset + length held.now ≤ 2 ^ 62 }
-    ensures fault { told_fault result ≡ early_fault (held_at held.now offset) tracks.now }
+    ensures fault { told_fault result ≡ early_fault (moof_at held.now offset) tracks.now }
     ensures least { IfErr result (λ f. IsLeast f
-        (moof_faults (held_at held.now offset) tracks.now)) }
-    ensures samples { IfOk result (λ s. s.samples ≡ moof_samples (held_at held.now offset)) }
+        (moof_faults (moof_at held.now offset) tracks.now)) }
+    ensures samples { IfOk result (λ s. s.samples ≡ moof_samples (moof_at held.now offset)) }
     ensures few { IfOk result (λ s. s.samples ≤ most_samples) }
-    ensures truns { IfOk result (λ s. s.truns ≡ moof_truns (held_at held.now offset)) }
+    ensures truns { IfOk result (λ s. s.truns ≡ moof_truns (moof_at held.now offset)) }
     ensures early { IfOk result (λ s. s.is_early ≡ true →
-        time_faults (moof_trafs (held_at held.now offset) tracks.now) ≡ []) }
+        time_faults (moof_trafs (moof_at held.now offset) tracks.now) ≡ []) }
 {
     if let Some(sound) = look_at(tracks, &whole_box(held, offset)) {
         return Ok(sound);
@@ -142,8 +142,8 @@ fn late_fault(is_early: bool, held: &[u8], offset: u64, tracks: &TrackList) -> O
     requires whole { IsWhole held.now }
     requires room { offset + length held.now ≤ 2 ^ 62 }
     requires early { is_early ≡ true →
-        time_faults (moof_trafs (held_at held.now offset) tracks.now) ≡ [] }
-    ensures { result ≡ least (time_faults (moof_trafs (held_at held.now offset) tracks.now)) }
+        time_faults (moof_trafs (moof_at held.now offset) tracks.now) ≡ [] }
+    ensures { result ≡ least (time_faults (moof_trafs (moof_at held.now offset) tracks.now)) }
 {
     if is_early {
         return None;
@@ -164,8 +164,8 @@ fn late_fault(is_early: bool, held: &[u8], offset: u64, tracks: &TrackList) -> O
 fn trafs_in<'a>(held: &'a [u8], offset: u64, tracks: &'a TrackList) -> Trafs<'a>
     requires whole { IsWhole held.now }
     requires room { offset + length held.now ≤ 2 ^ 62 }
-    requires read { IsRead (held_at held.now offset) tracks.now }
-    ensures { result ≡ moof_trafs (held_at held.now offset) tracks.now }
+    requires read { IsRead (moof_at held.now offset) tracks.now }
+    ensures { result ≡ moof_trafs (moof_at held.now offset) tracks.now }
 {
     Trafs::of(held, offset, tracks, &whole_box(held, offset))
 }
@@ -176,10 +176,10 @@ impl<'a> Moof<'a> {
     fn of(held: &'a [u8], offset: u64, told: Option<Sound>) -> Moof<'a>
         requires whole { IsWhole held.now }
         requires room { offset + length held.now ≤ 2 ^ 62 }
-        requires count { count_faults (moof_of (held_at held.now offset)) ≡ [] }
-        requires told { IfSome told (λ s. (s.samples ≡ moof_samples (held_at held.now offset)) ×
-            (s.samples ≤ most_samples) × (s.truns ≡ moof_truns (held_at held.now offset))) }
-        ensures { result ≡ held_at held.now offset }
+        requires count { count_faults (moof_of (moof_at held.now offset)) ≡ [] }
+        requires told { IfSome told (λ s. (s.samples ≡ moof_samples (moof_at held.now offset)) ×
+            (s.samples ≤ most_samples) × (s.truns ≡ moof_truns (moof_at held.now offset))) }
+        ensures { result ≡ moof_at held.now offset }
     {
         Moof { held, offset, told }
     }
@@ -201,18 +201,18 @@ impl<'a> Moof<'a> {
         requires whole { IsWhole held.now }
         requires room { offset + length held.now ≤ 2 ^ 62 }
         requires steps { steps.old.rows < 2 ^ 127 }
-        ensures moof { IfOk result (λ m. m ≡ held_at held.now offset) }
-        ensures good { OnOk result (IsRead (held_at held.now offset) tracks.now) }
+        ensures moof { IfOk result (λ m. m ≡ moof_at held.now offset) }
+        ensures good { OnOk result (IsRead (moof_at held.now offset) tracks.now) }
         ensures fault { (f : Fault) → (result ≡ Err f) ↔
-            (moof_fault (held_at held.now offset) tracks.now ≡ Some f) }
+            (moof_fault (moof_at held.now offset) tracks.now ≡ Some f) }
         ensures least { IfErr result (λ f. IsLeast f
-            (moof_faults (held_at held.now offset) tracks.now)) }
-        ensures walked { early_fault (held_at held.now offset) tracks.now ≡ None →
-            steps.new.rows ≡ steps.old.rows + moof_samples (held_at held.now offset) }
+            (moof_faults (moof_at held.now offset) tracks.now)) }
+        ensures walked { early_fault (moof_at held.now offset) tracks.now ≡ None →
+            steps.new.rows ≡ steps.old.rows + moof_samples (moof_at held.now offset) }
         ensures ok { OnOk result (steps.new.rows ≡ steps.old.rows +
-            moof_samples (held_at held.now offset)) }
+            moof_samples (moof_at held.now offset)) }
         ensures few { steps.new.rows ≤ steps.old.rows + most_samples }
-        ensures unwalked { IsSome (early_fault (held_at held.now offset) tracks.now) →
+        ensures unwalked { IsSome (early_fault (moof_at held.now offset) tracks.now) →
             steps.new ≡ steps.old }
     {
         let sound = match early(held, offset, tracks) {
@@ -230,8 +230,8 @@ impl<'a> Moof<'a> {
     pub fn again(held: &'a [u8], offset: u64, tracks: &TrackList) -> Moof<'a>
         requires whole { IsWhole held.now }
         requires room { offset + length held.now ≤ 2 ^ 62 }
-        requires read { IsRead (held_at held.now offset) tracks.now }
-        ensures { result ≡ held_at held.now offset }
+        requires read { IsRead (moof_at held.now offset) tracks.now }
+        ensures { result ≡ moof_at held.now offset }
     {
         Moof::of(held, offset, None)
     }

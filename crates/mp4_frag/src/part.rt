@@ -2,7 +2,7 @@
 
 ghost use Rattle.std.specs.Prelude.{◌≡◌, ◌+◌, ◌^◌, ◌<◌, length};
 ghost use Rattle.mp4_box.specs.Trees.{view};
-ghost use Rattle.mp4_frag.specs.Rereads.{nothing};
+ghost use Rattle.mp4_frag.specs.Working.Rereads.{absent_box};
 
 use crate::kinds::FREE;
 use mp4_box::{BoxRef, Header, Size};
@@ -11,7 +11,7 @@ use mp4_box::{BoxRef, Header, Size};
 #[inline]
 pub(crate) fn headless(payload: &[u8], offset: u64) -> BoxRef<'_>
     requires { offset + length payload.now < 2 ^ 63 }
-    ensures { view result ≡ record nothing { offset = offset; payload = payload.now } }
+    ensures { view result ≡ record absent_box { offset = offset; payload = payload.now } }
 {
     BoxRef {
         header: Header {

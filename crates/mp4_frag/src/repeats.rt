@@ -7,9 +7,10 @@ ghost use Rattle.std.specs.Prelude.{◌≡◌, ◌≤◌, ◌<◌, ◌+◌, [], 
 ghost use Rattle.mp4_box.specs.Trees.{view};
 ghost use Rattle.mp4_box.specs.Order.{least_from};
 ghost use Rattle.mp4_box.specs.Paths.{of_kind};
-ghost use Rattle.mp4_init.specs.OrderedIds.{AreInOrder, sought};
+ghost use Rattle.mp4_init.specs.Working.OrderedIds.{AreInOrder, sought};
 ghost use Rattle.mp4_frag.specs.Kinds.{traf};
-ghost use Rattle.mp4_frag.specs.Repeats.{all_marked, is_listed, is_repeat, lacks_time, marked_at, marks, repeat_faults, repeats, traf_id, trafs_before, trafs_behind, trafs_of, untimed_ids};
+ghost use Rattle.mp4_frag.specs.Repeats.{is_listed, is_repeat, lacks_time, repeat_faults, repeats, traf_id, trafs_before, trafs_behind, trafs_of, untimed_ids};
+ghost use Rattle.mp4_frag.specs.Working.RepeatMarks.{all_marked, marked_at, marks};
 
 use crate::children::children_of;
 use crate::fields::payload_at;
@@ -103,7 +104,7 @@ impl<const N: usize> Marks<N> {
     }
 
     /// Marks the track_ID of a child of the moof that is passed, where it is a traf. Tells whether it is this one.
-    #[tactic(auto, unfolding(crate::specs::Repeats::all_marked, crate::specs::Repeats::is_listed))]
+    #[tactic(auto, unfolding(crate::specs::Working::RepeatMarks::all_marked, crate::specs::Repeats::is_listed))]
     fn pass(&mut self, child: &BoxRef<'_>, id: u32) -> bool
         ensures seen { self.new.seen ≡ all_marked self.old.ids.items self.old.seen
             (of_kind traf (view child.now ∷ [])) }
@@ -120,7 +121,7 @@ impl<const N: usize> Marks<N> {
 
     /// Takes other track_IDs: those of the trafs from here on. Tells whether a traf that was passed has this one.
     // It stands apart since a function pays for the size of its locals each time that it is called.
-    #[tactic(auto, using(crate::proofs::PassLemmas::marked_next, crate::proofs::PassLemmas::listed_next, crate::proofs::PassLemmas::marked_none, crate::proofs::PassLemmas::listed_none), unfolding(crate::specs::Repeats::marks))]
+    #[tactic(auto, using(crate::proofs::PassLemmas::marked_next, crate::proofs::PassLemmas::listed_next, crate::proofs::PassLemmas::marked_none, crate::proofs::PassLemmas::listed_none), unfolding(crate::specs::Working::RepeatMarks::marks))]
     fn refill(&mut self, moof: &BoxRef<'_>, passed: usize, id: u32) -> bool
         ensures seen { self.new.seen ≡ marks N self.new.ids.items (trafs_before passed (view moof.now)) }
         ensures listed { result ≡ is_listed id (trafs_before passed (view moof.now)) }
@@ -203,7 +204,7 @@ impl<const N: usize> Marks<N> {
 /// The same, with room for so many track_IDs.
 // Its room is no part of the frame of its caller, which is made for each moof.
 #[inline(never)]
-#[tactic(auto, unfolding(crate::specs::Repeats::marks, crate::specs::Repeats::all_marked))]
+#[tactic(auto, unfolding(crate::specs::Working::RepeatMarks::marks, crate::specs::Working::RepeatMarks::all_marked))]
 fn note_by<const N: usize>(moof: &BoxRef<'_>, best: &mut Option<Fault>)
     requires { N ≤ MANY }
     ensures { best.new ≡ least_from best.old (repeat_faults (view moof.now)) }

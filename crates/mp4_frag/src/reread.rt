@@ -2,8 +2,8 @@
 
 ghost use Rattle.std.specs.Prelude.{◌≡◌, ◌+◌, ◌^◌, ◌≤◌, length};
 ghost use Rattle.mp4_box.specs.Trees.{view};
-ghost use Rattle.mp4_frag.specs.Runs.{held_at};
-ghost use Rattle.mp4_frag.specs.Rereads.{box_in, run_of_row};
+ghost use Rattle.mp4_frag.specs.Runs.{moof_at};
+ghost use Rattle.mp4_frag.specs.Working.Rereads.{box_in, run_of_row};
 
 use crate::part::headless;
 use crate::run::Run;
@@ -18,7 +18,7 @@ use mp4_init::TrackList;
 #[inline(always)]
 fn box_in<'a>(held: &'a [u8], moof: u64, offset: u64) -> BoxRef<'a>
     requires { moof + length held.now ≤ 2 ^ 62 }
-    ensures { view result ≡ box_in (held_at held.now moof) offset }
+    ensures { view result ≡ box_in (moof_at held.now moof) offset }
 {
     let at = offset.saturating_sub(moof);
     if at > held.len() as u64 {
@@ -34,10 +34,10 @@ fn box_in<'a>(held: &'a [u8], moof: u64, offset: u64) -> BoxRef<'a>
 
 /// The run of a row, in the moof that begins at this offset.
 #[inline]
-#[tactic(auto, unfolding(crate::specs::Rereads::run_of_row))]
+#[tactic(auto, unfolding(crate::specs::Working::Rereads::run_of_row))]
 pub(crate) fn run_of_row(held: &[u8], moof: u64, tracks: &TrackList, row: &RunRow) -> Run
     requires { moof + length held.now ≤ 2 ^ 62 }
-    ensures { result ≡ run_of_row (held_at held.now moof) tracks.now row.now }
+    ensures { result ≡ run_of_row (moof_at held.now moof) tracks.now row.now }
 {
     let tfhd = box_in(held, moof, row.tfhd).payload;
     let context = TrafContext {

@@ -6,9 +6,10 @@ ghost use Rattle.mp4_ledger.specs.Memory.{claimed, given_back};
 ghost use Rattle.mp4_init.specs.declared.table.Track.{Track};
 ghost use Rattle.mp4_frag.specs.declared.run.Run.{Run};
 ghost use Rattle.mp4_frag.specs.Moofs.{IsRead, moof_runs, moof_samples, moof_truns};
-ghost use Rattle.mp4_frag.specs.RunRows.{listed_run};
-ghost use Rattle.mp4_frag.specs.Runs.{Held, held_at};
-ghost use Rattle.mp4_frag.specs.RunLists.{IsLate, IsListOf, IsSorted, taken_runs};
+ghost use Rattle.mp4_frag.specs.Places.{listed_run};
+ghost use Rattle.mp4_frag.specs.Runs.{MoofBytes, moof_at};
+ghost use Rattle.mp4_frag.specs.RunLists.{taken_runs};
+ghost use Rattle.mp4_frag.specs.Working.ListedRows.{IsLate, IsListOf, IsSorted};
 
 use crate::fill::fill;
 use crate::listed::{find_by_track, listed_row, sort_by_place, sort_by_track};
@@ -35,8 +36,8 @@ pub struct RunList {
 // A contract sees what its rows keep of the runs, and what was found by track.
 impl Model for RunList {
     ghost use Rattle.std.specs.Prelude.{◌≡◌, length};
-    ghost use Rattle.mp4_frag.specs.RunLists.{ListedRows};
-    ghost use Rattle.mp4_frag.specs.RunRows.{rows_of_words};
+    ghost use Rattle.mp4_frag.specs.Working.ListedRows.{ListedRows};
+    ghost use Rattle.mp4_frag.specs.Working.RunRows.{rows_of_words};
 
     ghost Value = { ListedRows };
 
@@ -73,7 +74,7 @@ impl RunList {
     /// reads no box.
     pub fn listed(&self, i: usize) -> ListedRun
         requires { i < length self.now.rows }
-        ensures { (h : Held) (tracks : List Track) (run : Run) → IsListOf h tracks self.now →
+        ensures { (h : MoofBytes) (tracks : List Track) (run : Run) → IsListOf h tracks self.now →
             run ≡ slice_index_or (taken_runs h tracks) i run → result ≡ listed_run run }
     {
         listed_row(&row_of_words(self.rows.get(i)))
@@ -113,16 +114,16 @@ fn list_in(
 ) -> Result<RunList, Refused>
     requires whole { IsWhole held.now }
     requires room { offset + length held.now ≤ 2 ^ 62 }
-    requires read { IsRead (held_at held.now offset) tracks.now }
-    requires truns { truns ≡ moof_truns (held_at held.now offset) }
+    requires read { IsRead (moof_at held.now offset) tracks.now }
+    requires truns { truns ≡ moof_truns (moof_at held.now offset) }
     ensures list { IfOk result (λ l.
-        IsListOf (held_at held.now offset) tracks.now l) }
+        IsListOf (moof_at held.now offset) tracks.now l) }
     ensures len { IfOk result (λ l. length l.rows ≡
-        length (moof_runs (held_at held.now offset) tracks.now)) }
+        length (moof_runs (moof_at held.now offset) tracks.now)) }
     ensures ok { OnOk result (ledger.new ≡ claimed ledger.old (64 *
-        length (moof_runs (held_at held.now offset) tracks.now))) }
+        length (moof_runs (moof_at held.now offset) tracks.now))) }
     ensures over_limit { IsErrOf result Refused.OverLimit ↔ (ledger.old.limit <
-        ledger.old.live + 64 * length (moof_runs (held_at held.now offset) tracks.now)) }
+        ledger.old.live + 64 * length (moof_runs (moof_at held.now offset) tracks.now)) }
     ensures err { OnErr result (ledger.new ≡ ledger.old) }
 {
     let moof = whole_box(held, offset);

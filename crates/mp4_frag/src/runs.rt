@@ -6,8 +6,9 @@ ghost use Rattle.std.specs.Iterator.{YieldsFirst, item_count};
 ghost use Rattle.mp4_box.specs.Trees.{children, view};
 ghost use Rattle.mp4_frag.specs.Kinds.{trun};
 ghost use Rattle.mp4_frag.specs.Ranges.{InRange};
-ghost use Rattle.mp4_frag.specs.Runs.{end_place, run_at, run_of, runs_left, shared_of, start_by};
-ghost use Rattle.mp4_frag.specs.Times.{ticks_in};
+ghost use Rattle.mp4_frag.specs.Runs.{end_place, run_at, run_of, start_by};
+ghost use Rattle.mp4_frag.specs.Working.TrafContexts.{runs_left, shared_of};
+ghost use Rattle.mp4_frag.specs.Working.Times.{ticks_in};
 
 use crate::children::next_of;
 use crate::fields::flags_of;
@@ -69,7 +70,7 @@ pub(crate) fn run_at(context: &TrafContext<'_>, behind: &Behind, trun: &BoxRef<'
 }
 
 /// The durations of the samples of a trun, added up: by a product where no sample has its own.
-#[tactic(auto, using(crate::proofs::TimeLemmas::ticks_by_product), unfolding(crate::specs::Times::ticks_in))]
+#[tactic(auto, using(crate::proofs::TimeLemmas::ticks_by_product), unfolding(crate::specs::Working::Times::ticks_in))]
 pub(crate) fn ticks_in(context: &TrafContext<'_>, trun: &BoxRef<'_>) -> u64
     ensures { result ≡ ticks_in (shared_of context.now) (view trun.now) }
 {
@@ -114,7 +115,7 @@ impl<'a> Model for Runs<'a> {
     ghost use Rattle.std.specs.List.{AllByRecursion};
     ghost use Rattle.mp4_frag.specs.declared.run.Run.{Run};
     ghost use Rattle.mp4_frag.specs.Ranges.{InRange};
-    ghost use Rattle.mp4_frag.specs.Runs.{runs_left};
+    ghost use Rattle.mp4_frag.specs.Working.TrafContexts.{runs_left};
 
     ghost Value = { List Run };
 

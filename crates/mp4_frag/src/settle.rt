@@ -6,9 +6,11 @@ ghost use Rattle.mp4_box.specs.Paths.{at_path, of_kind};
 ghost use Rattle.mp4_box.specs.Trees.{view};
 ghost use Rattle.mp4_frag.specs.Kinds.{trun};
 ghost use Rattle.mp4_frag.specs.Moofs.{IsRead, moof_of, moof_samples, moof_trafs};
-ghost use Rattle.mp4_frag.specs.Runs.{held_at, shared_of, traf_of};
-ghost use Rattle.mp4_frag.specs.Settling.{EndsInTime, ended, settled, ticks_from, timed, timed_in, timed_of};
-ghost use Rattle.mp4_frag.specs.Times.{late_from};
+ghost use Rattle.mp4_frag.specs.Runs.{moof_at, traf_of};
+ghost use Rattle.mp4_frag.specs.Working.TrafContexts.{shared_of};
+ghost use Rattle.mp4_frag.specs.Settling.{ended, settled, timed, timed_in, timed_of};
+ghost use Rattle.mp4_frag.specs.Working.SettlingSteps.{EndsInTime, ticks_from};
+ghost use Rattle.mp4_frag.specs.Working.Times.{late_from};
 
 use crate::children::children_of;
 use crate::fields::flags_of;
@@ -34,7 +36,7 @@ fn timed(payload: &[u8]) -> u32
 
 /// Where a traf ends that begins at a time, of which these children are left. Those of its samples that have durations of their
 /// own are counted.
-#[tactic(auto, using(crate::proofs::SettleLemmas::tick_fits, crate::proofs::SettleLemmas::tick_more), unfolding(crate::specs::Settling::ticks_from))]
+#[tactic(auto, using(crate::proofs::SettleLemmas::tick_fits, crate::proofs::SettleLemmas::tick_more), unfolding(crate::specs::Working::SettlingSteps::ticks_from))]
 fn end_of<'a>(context: &TrafContext<'_>, time: u64, rest: Walk<'a>, count: &mut u32) -> u64
     requires late { late_from (shared_of context.now) time (of_kind trun rest) ≡ [] }
     requires few { count.old + timed_in (of_kind trun rest) < 2 ^ 32 }
@@ -54,10 +56,10 @@ fn end_of<'a>(context: &TrafContext<'_>, time: u64, rest: Walk<'a>, count: &mut 
 /// Sets where the track of a traf ends: where the traf does. Those of its samples that have durations of their own are counted.
 #[tactic(auto, unfolding(crate::specs::Runs::traf_of))]
 fn end_traf(held: &[u8], moof: u64, traf: &BoxRef<'_>, tracks: &mut TrackList, count: &mut u32)
-    requires time { EndsInTime (traf_of (held_at held.now moof) tracks.old
+    requires time { EndsInTime (traf_of (moof_at held.now moof) tracks.old
         (view traf.now)) }
     requires few { count.old + timed_in (at_path (trun ∷ []) (view traf.now)) < 2 ^ 32 }
-    ensures tracks { tracks.new ≡ ended tracks.old (traf_of (held_at held.now moof)
+    ensures tracks { tracks.new ≡ ended tracks.old (traf_of (moof_at held.now moof)
         tracks.old (view traf.now)) }
     ensures count { count.new ≡ count.old + timed_in (at_path (trun ∷ []) (view traf.now)) }
 {
@@ -81,11 +83,11 @@ fn end_traf(held: &[u8], moof: u64, traf: &BoxRef<'_>, tracks: &mut TrackList, c
 pub(crate) fn settle_in(held: &[u8], moof: u64, tracks: &mut TrackList) -> u32
     requires whole { IsWhole held.now }
     requires room { moof + length held.now ≤ 2 ^ 62 }
-    requires read { IsRead (held_at held.now moof) tracks.old }
+    requires read { IsRead (moof_at held.now moof) tracks.old }
     ensures tracks { tracks.new ≡ settled tracks.old
-        (moof_trafs (held_at held.now moof) tracks.old) }
-    ensures timed { result ≡ timed_of (moof_of (held_at held.now moof)) }
-    ensures few { result ≤ moof_samples (held_at held.now moof) }
+        (moof_trafs (moof_at held.now moof) tracks.old) }
+    ensures timed { result ≡ timed_of (moof_of (moof_at held.now moof)) }
+    ensures few { result ≤ moof_samples (moof_at held.now moof) }
 {
     let this = whole_box(held, moof);
     let mut count = 0;

@@ -6,9 +6,10 @@ ghost use Rattle.std.specs.Option.{unwrap_or};
 ghost use Rattle.mp4_box.specs.Paths.{of_kind};
 ghost use Rattle.mp4_box.specs.Trees.{children, view};
 ghost use Rattle.mp4_frag.specs.Kinds.{trun};
-ghost use Rattle.mp4_frag.specs.RunRows.{tfhd_at};
+ghost use Rattle.mp4_frag.specs.Working.RunRows.{tfhd_at};
 ghost use Rattle.mp4_frag.specs.Ranges.{IsSound};
-ghost use Rattle.mp4_frag.specs.Runs.{base_of, held_at, runs_of, shared_by, shared_of, tfhd_of, track_of, traf_of};
+ghost use Rattle.mp4_frag.specs.Runs.{base_of, moof_at, runs_of, shared_by, tfhd_of, track_of, traf_of};
+ghost use Rattle.mp4_frag.specs.Working.TrafContexts.{shared_of};
 ghost use Rattle.mp4_frag.specs.Tfhd.{track_id};
 
 use crate::children::children_of;
@@ -109,7 +110,7 @@ pub(crate) fn start_of<'a>(
     tracks: &TrackList,
     traf: &BoxRef<'a>,
 ) -> Start<'a>
-    ensures shared { shared_of result.context ≡ shared_by (held_at held.now moof)
+    ensures shared { shared_of result.context ≡ shared_by (moof_at held.now moof)
         (track_of tracks.now (view traf.now)) (view traf.now) }
     ensures small { result.context.header.size < 2 ^ 32 }
     ensures time { result.time ≡
@@ -164,11 +165,11 @@ pub(crate) fn runs_of<'a>(
     tracks: &TrackList,
     traf: &BoxRef<'a>,
 ) -> RunsOf<'a>
-    requires { IsSound (traf_of (held_at held.now moof) tracks.now
+    requires { IsSound (traf_of (moof_at held.now moof) tracks.now
         (view traf.now)) }
     ensures tfhd { result.tfhd ≡ tfhd_at (view traf.now) }
     ensures runs { result.runs ≡
-        runs_of (traf_of (held_at held.now moof) tracks.now (view traf.now)) }
+        runs_of (traf_of (moof_at held.now moof) tracks.now (view traf.now)) }
 {
     let start = start_of(held, moof, tracks, traf);
     let Start {

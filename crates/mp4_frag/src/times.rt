@@ -6,8 +6,9 @@ ghost use Rattle.mp4_box.specs.Paths.{of_kind};
 ghost use Rattle.mp4_box.specs.Trees.{children, view};
 ghost use Rattle.mp4_frag.specs.Kinds.{trun};
 ghost use Rattle.mp4_frag.specs.Moofs.{time_faults_of};
-ghost use Rattle.mp4_frag.specs.Runs.{held_at, shared_of, traf_of};
-ghost use Rattle.mp4_frag.specs.Times.{late_at, late_from};
+ghost use Rattle.mp4_frag.specs.Runs.{moof_at, traf_of};
+ghost use Rattle.mp4_frag.specs.Working.TrafContexts.{shared_of};
+ghost use Rattle.mp4_frag.specs.Working.Times.{late_at, late_from};
 
 use crate::kinds::TRUN;
 use crate::runs::ticks_in;
@@ -39,7 +40,7 @@ fn note_end(end: u128, trun: &BoxRef<'_>, best: &mut Option<Fault>)
 }
 
 /// Notes the truns of a traf whose runs end past 64 bits, where the first begins at a time.
-#[tactic(auto, using(mp4_box::proofs::OrderLemmas::least_from_append), unfolding(crate::specs::Times::late_from, mp4_box::specs::Order::least_from))]
+#[tactic(auto, using(mp4_box::proofs::OrderLemmas::least_from_append), unfolding(crate::specs::Working::Times::late_from, mp4_box::specs::Order::least_from))]
 fn note_ends(context: &TrafContext<'_>, time: u64, traf: &BoxRef<'_>, best: &mut Option<Fault>)
     ensures { best.new ≡ least_from best.old (late_from (shared_of context.now) time
         (of_kind trun (children (view traf.now)))) }
@@ -63,7 +64,7 @@ fn note_traf(
     best: &mut Option<Fault>,
 )
     ensures { best.new ≡ least_from best.old (time_faults_of
-        (traf_of (held_at held.now moof) tracks.now (view traf.now))) }
+        (traf_of (moof_at held.now moof) tracks.now (view traf.now))) }
 {
     let track = track_of(tracks, traf);
     let context = context_of(held, moof, track, traf);
@@ -71,7 +72,7 @@ fn note_traf(
 }
 
 impl<'a> Check for InTime<'a> {
-    ghost faults = { λ c b. time_faults_of (traf_of (held_at c.held.now c.moof)
+    ghost faults = { λ c b. time_faults_of (traf_of (moof_at c.held.now c.moof)
         c.tracks.now b) };
 
     fn note_at(&self, this: &BoxRef<'_>, best: &mut Option<Fault>) {

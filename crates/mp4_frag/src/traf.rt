@@ -6,7 +6,8 @@ ghost use Rattle.std.specs.Iterator.{YieldsFirst, item_count};
 ghost use Rattle.std.specs.List.{AllByRecursion};
 ghost use Rattle.mp4_box.specs.Trees.{children, view};
 ghost use Rattle.mp4_frag.specs.Ranges.{InRange, IsSound};
-ghost use Rattle.mp4_frag.specs.Runs.{base_of, end_in, fragment_of, header_by, held_at, known_track, no_track, runs_of, shared_by, shared_of, track_of, traf_of, trafs_by};
+ghost use Rattle.mp4_frag.specs.Runs.{base_of, end_in, header_by, moof_at, known_track, no_track, runs_of, shared_by, track_of, traf_of, trafs_by};
+ghost use Rattle.mp4_frag.specs.Working.TrafContexts.{track_fragment, shared_of};
 
 use crate::checks::{entry_of, track_with};
 use crate::children::{children_of, next_of};
@@ -124,7 +125,7 @@ pub(crate) fn context_of<'a>(
     track: Track,
     traf: &BoxRef<'_>,
 ) -> TrafContext<'a>
-    ensures shared { shared_of result ≡ shared_by (held_at held.now moof) track
+    ensures shared { shared_of result ≡ shared_by (moof_at held.now moof) track
         (view traf.now) }
     ensures small { result.header.size < 2 ^ 32 }
 {
@@ -149,21 +150,22 @@ pub struct Traf<'a> {
 impl<'a> Model for Traf<'a> {
     ghost use Rattle.std.specs.List.{AllByRecursion};
     ghost use Rattle.mp4_frag.specs.Ranges.{InRange};
-    ghost use Rattle.mp4_frag.specs.Runs.{fragment_of, held_at, runs_of, TrackFragment};
+    ghost use Rattle.mp4_frag.specs.Runs.{moof_at, runs_of, TrackFragment};
+ghost use Rattle.mp4_frag.specs.Working.TrafContexts.{track_fragment};
 
     ghost Value = { TrackFragment };
 
-    ghost view = { λ t. fragment_of t.context t.time t.this };
+    ghost view = { λ t. track_fragment t.context t.time t.this };
 
     ghost invariant = { λ t. AllByRecursion InRange
-        (runs_of (fragment_of t.context t.time t.this)) };
+        (runs_of (track_fragment t.context t.time t.this)) };
 }
 
 impl<'a> Traf<'a> {
     /// The traf that this box is.
     fn of(context: &TrafContext<'a>, time: u64, this: &BoxRef<'a>) -> Traf<'a>
-        requires { AllByRecursion InRange (runs_of (fragment_of context.now time this.now)) }
-        ensures { result ≡ fragment_of context.now time this.now }
+        requires { AllByRecursion InRange (runs_of (track_fragment context.now time this.now)) }
+        ensures { result ≡ track_fragment context.now time this.now }
     {
         Traf {
             context: *context,
@@ -191,9 +193,9 @@ pub(crate) fn traf_of<'a>(
     tracks: &TrackList,
     this: &BoxRef<'a>,
 ) -> Traf<'a>
-    requires { IsSound (traf_of (held_at held.now moof) tracks.now
+    requires { IsSound (traf_of (moof_at held.now moof) tracks.now
         (view this.now)) }
-    ensures { result ≡ traf_of (held_at held.now moof) tracks.now
+    ensures { result ≡ traf_of (moof_at held.now moof) tracks.now
         (view this.now) }
 {
     let track = track_of(tracks, this);
@@ -216,14 +218,14 @@ impl<'a> Model for Trafs<'a> {
     ghost use Rattle.std.specs.Prelude.{List};
     ghost use Rattle.std.specs.List.{AllByRecursion};
     ghost use Rattle.mp4_frag.specs.Ranges.{InRange, IsSound};
-    ghost use Rattle.mp4_frag.specs.Runs.{held_at, TrackFragment, trafs_by};
+    ghost use Rattle.mp4_frag.specs.Runs.{moof_at, TrackFragment, trafs_by};
 
     ghost Value = { List TrackFragment };
 
-    ghost view = { λ t. trafs_by (held_at t.held.now t.moof) t.tracks.now t.walk };
+    ghost view = { λ t. trafs_by (moof_at t.held.now t.moof) t.tracks.now t.walk };
 
     ghost invariant = { λ t. AllByRecursion IsSound
-        (trafs_by (held_at t.held.now t.moof) t.tracks.now t.walk) };
+        (trafs_by (moof_at t.held.now t.moof) t.tracks.now t.walk) };
 }
 
 impl<'a> Trafs<'a> {
@@ -234,9 +236,9 @@ impl<'a> Trafs<'a> {
         tracks: &'a TrackList,
         this: &BoxRef<'a>,
     ) -> Trafs<'a>
-        requires { AllByRecursion IsSound (trafs_by (held_at held.now moof)
+        requires { AllByRecursion IsSound (trafs_by (moof_at held.now moof)
             tracks.now (children (view this.now))) }
-        ensures { result ≡ trafs_by (held_at held.now moof) tracks.now
+        ensures { result ≡ trafs_by (moof_at held.now moof) tracks.now
             (children (view this.now)) }
     {
         Trafs {
@@ -256,13 +258,13 @@ fn next_traf<'a>(
     walk: &mut Walk<'a>,
 ) -> Option<Traf<'a>>
     requires sound { AllByRecursion IsSound
-        (trafs_by (held_at held.now moof) tracks.now walk.old) }
-    ensures first { trafs_by (held_at held.now moof) tracks.now walk.old ≡
-        option_to_list result ++ trafs_by (held_at held.now moof) tracks.now walk.new }
+        (trafs_by (moof_at held.now moof) tracks.now walk.old) }
+    ensures first { trafs_by (moof_at held.now moof) tracks.now walk.old ≡
+        option_to_list result ++ trafs_by (moof_at held.now moof) tracks.now walk.new }
     ensures none { IfNone result
-        (trafs_by (held_at held.now moof) tracks.now walk.new ≡ []) }
+        (trafs_by (moof_at held.now moof) tracks.now walk.new ≡ []) }
     ensures sound { AllByRecursion IsSound
-        (trafs_by (held_at held.now moof) tracks.now walk.new) }
+        (trafs_by (moof_at held.now moof) tracks.now walk.new) }
 {
     let Some(this) = next_of(TRAF, walk) else {
         return None;

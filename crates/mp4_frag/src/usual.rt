@@ -8,14 +8,14 @@ ghost use Rattle.std.specs.Str.{bytes_eq};
 ghost use Rattle.mp4_box.specs.Headers.{IsWhole, uuid};
 ghost use Rattle.mp4_box.specs.Order.{least_from};
 ghost use Rattle.mp4_box.specs.Trees.{box_at, box_faults, box_len, view};
-ghost use Rattle.mp4_frag.specs.AtOnce.{HasTicks, IsEarly, is_kind};
+ghost use Rattle.mp4_frag.specs.Working.AtOnce.{HasTicks, IsEarly, is_kind};
 ghost use Rattle.mp4_frag.specs.Kinds.{mfhd, tfdt, tfhd, traf, trun};
 ghost use Rattle.mp4_frag.specs.LoneRuns.{IsLone};
 ghost use Rattle.mp4_frag.specs.Moofs.{value_faults};
 ghost use Rattle.mp4_frag.specs.Rules.{form_faults};
-ghost use Rattle.mp4_frag.specs.Runs.{held_at};
+ghost use Rattle.mp4_frag.specs.Runs.{moof_at};
 ghost use Rattle.mp4_frag.specs.Tfhd.{track_id};
-ghost use Rattle.mp4_frag.specs.Usual.{HoldsThree, HoldsTwo, IsUsual, usual_faults};
+ghost use Rattle.mp4_frag.specs.Working.Usual.{HoldsThree, HoldsTwo, IsUsual, usual_faults};
 
 use crate::at_once::is_early;
 use crate::checks::{FlagsOnce, TfhdLength, TrunLength, note_tfhd};
@@ -86,7 +86,7 @@ fn plain_first<'a>(kind: FourCc, bytes: &'a [u8], offset: u64) -> Option<BoxRef<
 
 /// What of a payload stands behind a box with which it begins.
 #[inline(always)]
-fn behind<'a>(bytes: &'a [u8], this: &BoxRef<'_>) -> &'a [u8]
+fn rest_after<'a>(bytes: &'a [u8], this: &BoxRef<'_>) -> &'a [u8]
     requires { box_len (view this.now) ≤ length bytes.now }
     ensures { result.now ≡ drop (box_len (view this.now)) bytes.now }
 {
@@ -106,7 +106,7 @@ fn two_in<'a>(moof: &BoxRef<'a>) -> Option<Two<'a>>
     let Some(mfhd) = plain_first(MFHD, moof.payload, at) else {
         return None;
     };
-    let rest = behind(moof.payload, &mfhd);
+    let rest = rest_after(moof.payload, &mfhd);
     let Some(traf) = plain_first(TRAF, rest, at + 8 + mfhd.payload.len() as u64) else {
         return None;
     };
@@ -129,12 +129,12 @@ fn three_in<'a>(traf: &BoxRef<'a>) -> Option<Three<'a>>
     let Some(tfhd) = plain_first(TFHD, traf.payload, at) else {
         return None;
     };
-    let rest = behind(traf.payload, &tfhd);
+    let rest = rest_after(traf.payload, &tfhd);
     let at = at + 8 + tfhd.payload.len() as u64;
     let Some(tfdt) = plain_first(TFDT, rest, at) else {
         return None;
     };
-    let rest = behind(rest, &tfdt);
+    let rest = rest_after(rest, &tfdt);
     let Some(trun) = plain_first(TRUN, rest, at + 8 + tfdt.payload.len() as u64) else {
         return None;
     };
@@ -215,7 +215,7 @@ fn sound_track(tracks: &TrackList, moof: &BoxRef<'_>, usual: &Usual<'_>) -> Opti
 pub(crate) fn usual_run(held: &[u8], offset: u64, tracks: &TrackList) -> Option<LoneRun>
     requires whole { IsWhole held.now }
     requires room { offset + length held.now ≤ 2 ^ 62 }
-    ensures { IfSome result (λ l. IsLone (held_at held.now offset) tracks.now l) }
+    ensures { IfSome result (λ l. IsLone (moof_at held.now offset) tracks.now l) }
 {
     let moof = whole_box(held, offset);
     let Some(usual) = usual_of(&moof) else {

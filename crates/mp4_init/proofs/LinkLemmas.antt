@@ -8,7 +8,7 @@ use Rattle.mp4_init.specs.declared.search_tree.Ending.{Ending}
 use Rattle.mp4_init.specs.declared.search_tree.Ending.TheVariants.{Found, Behind, Unasked}
 use Rattle.mp4_init.specs.declared.search_tree.Link.{Link}
 use Rattle.mp4_init.specs.declared.search_tree.Node.{Node}
-use Rattle.mp4_init.specs.SearchTrees.{or_before, ending, ending_from, found_at, link_at, link_of, next_by, with_link, sought, no_node, IsIndexed}
+use Rattle.mp4_init.specs.Working.SearchTrees.{or_before, ending, ending_from, found_at, link_at, link_of, next_by, with_link, sought, no_node, IsIndexed}
 use Rattle.mp4_init.proofs.SearchTreeLemmas.{is_same, same_test, other_test, past, after, by_cases, stops, goes_on, passes}
 
 -- ---- where a search ends

@@ -10,9 +10,10 @@ use Rattle.mp4_init.specs.declared.table.Track.{Track}
 use Rattle.mp4_init.specs.declared.search_tree.Ending.{Ending}
 use Rattle.mp4_init.specs.declared.search_tree.Ending.TheVariants.{Found, Behind, Unasked}
 use Rattle.mp4_init.specs.declared.search_tree.Link.{Link}
-use Rattle.mp4_init.specs.SearchTrees.{ending, sought, with_link, no_node, IsIndexed}
+use Rattle.mp4_init.specs.Working.SearchTrees.{ending, sought, with_link, no_node, IsIndexed}
 use Rattle.mp4_init.proofs.LinkLemmas.{relinked, indexed_again, indexed_first, indexed_more}
-use Rattle.mp4_init.specs.Rows.{node_of_row, track_of_row, upper, with_next}
+use Rattle.mp4_init.specs.Working.Rows.{node_of_row, track_of_row, upper}
+use Rattle.mp4_init.specs.Tracks.{with_next}
 
 -- the track of a row
 pub row_at : (rows : List (List ℕ)) (i : ℕ) (d : Track) (e : List ℕ) → i < length rows → slice_index_or (map track_of_row rows) i d ≡ track_of_row (slice_index_or rows i e)

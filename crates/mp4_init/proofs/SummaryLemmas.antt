@@ -10,7 +10,7 @@ use Rattle.mp4_init.specs.Kinds.{to_tkhd, to_trex}
 use Rattle.mp4_init.specs.Fields.{tkhd_id, trex_id}
 use Rattle.mp4_init.specs.Rules.{with_id, before, is_known, tkhds_of, trexes_of}
 use Rattle.mp4_init.specs.Tracks.{defaults_of}
-use Rattle.mp4_init.specs.Summaries.{nothing, told, gathered, summary_in}
+use Rattle.mp4_init.specs.Working.Summaries.{empty_summary, told, gathered, summary_in}
 
 abbrev with_all : ℕ → ℕ → Defaults → Summary
 with_all first trexes defaults = record { first = first; trexes = trexes; defaults = defaults }
@@ -104,11 +104,11 @@ none id first (b ∷ bs) = by (trex_id b == id) (none id first bs)
     by false e = e
 
 -- the summary by its parts
-summary_is : (moov : Box) (id : ℕ) → summary_in moov id ≡ with_all (gathered Tkhd id nothing (at_path to_tkhd moov)).first (few (trexes_of moov id)) (defaults_of (first_of (trexes_of moov id)))
+summary_is : (moov : Box) (id : ℕ) → summary_in moov id ≡ with_all (gathered Tkhd id empty_summary (at_path to_tkhd moov)).first (few (trexes_of moov id)) (defaults_of (first_of (trexes_of moov id)))
 unfolding summary_in
 summary_is moov id =
-    ap (λ s. gathered Trex id s (at_path to_trex moov)) (tkhds_keep id nothing (at_path to_tkhd moov))
-    ∙ none id (gathered Tkhd id nothing (at_path to_tkhd moov)).first (at_path to_trex moov)
+    ap (λ s. gathered Trex id s (at_path to_trex moov)) (tkhds_keep id empty_summary (at_path to_tkhd moov))
+    ∙ none id (gathered Tkhd id empty_summary (at_path to_tkhd moov)).first (at_path to_trex moov)
 
 pub defaults_by : (moov : Box) (id : ℕ) → (summary_in moov id).defaults ≡ defaults_of (first_of (trexes_of moov id))
 defaults_by moov id = ap (λ (s : Summary). s.defaults) (summary_is moov id)
@@ -128,7 +128,7 @@ known_by moov b h =
     let early = length (before b.offset (tkhds_of moov id)) == 0 in
     let first : ltb (summary_in moov id).first b.offset ≡ not early =
     ap (λ (s : Summary). ltb s.first b.offset) (summary_is moov id)
-    ∙ first_before id b.offset nothing (at_path to_tkhd moov)
+    ∙ first_before id b.offset empty_summary (at_path to_tkhd moov)
     ∙ ap (λ (t : Bool). cond t true (not early)) (max_not_before b.offset h) in
     let trexes : ((summary_in moov id).trexes == 1) ≡ (length (trexes_of moov id) == 1) =
     ap (λ (s : Summary). s.trexes == 1) (summary_is moov id) ∙ few_one (trexes_of moov id) in

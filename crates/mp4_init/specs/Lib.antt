@@ -2,9 +2,6 @@ pub mod Kinds
 pub mod Fields
 pub mod Rules
 pub mod Tracks
-pub mod SearchTrees
-pub mod OrderedIds
-pub mod Summaries
-pub mod Rows
 pub mod Moovs
 pub mod TrackFields
+pub mod Working

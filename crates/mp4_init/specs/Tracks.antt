@@ -1,5 +1,5 @@
 -- The tracks of a moov.
-use Rattle.std.specs.Prelude.{ℕ, List, [], ◌∷◌, Option, Some, None, map}
+use Rattle.std.specs.Prelude.{ℕ, List, [], ◌∷◌, Option, Some, None, map, zero, suc}
 use Rattle.mp4_box.specs.Trees.{Box, children, first_of}
 use Rattle.mp4_box.specs.Paths.{of_kind, at_path}
 use Rattle.mp4_init.specs.declared.table.Track.{Track}
@@ -8,6 +8,12 @@ use Rattle.mp4_init.specs.Kinds.{trak, tkhd, mdia, mdhd, minf, stbl, stsd}
 use Rattle.mp4_box.specs.Fields.{number_in}
 use Rattle.mp4_init.specs.Fields.{behind_times}
 use Rattle.mp4_init.specs.Rules.{trexes_of}
+
+-- the tracks, where the last fragment of the track at this index ended at `next`
+unfoldable pub with_next : ℕ → ℕ → List Track → List Track
+with_next i next [] = []
+with_next zero next (t ∷ ts) = record t { next = next } ∷ ts
+with_next (suc i) next (t ∷ ts) = t ∷ with_next i next ts
 
 -- a field of the one box that there must be (the first, where the rules are broken), and 0 where there is none
 abbrev pub field_of : (Box → ℕ) → Option Box → ℕ

@@ -5,9 +5,9 @@ ghost use Rattle.mp4_ledger.specs.Memory.{claimed};
 ghost use Rattle.mp4_box.specs.Paths.{at_path, of_kind};
 ghost use Rattle.mp4_box.specs.Trees.{children, view, first_of};
 ghost use Rattle.mp4_init.specs.Fields.{behind_times};
-ghost use Rattle.mp4_init.specs.Rows.{node_of_row, track_of_row};
-ghost use Rattle.mp4_init.specs.SearchTrees.{IsIndexed};
-ghost use Rattle.mp4_init.specs.Summaries.{summaries_in};
+ghost use Rattle.mp4_init.specs.Working.Rows.{node_of_row, track_of_row};
+ghost use Rattle.mp4_init.specs.Working.SearchTrees.{IsIndexed};
+ghost use Rattle.mp4_init.specs.Working.Summaries.{summaries_in};
 ghost use Rattle.mp4_init.specs.Tracks.{entries_of, field_of, id_of, timescale_of, track_of, tracks_of};
 
 use crate::fields::number_behind_times;

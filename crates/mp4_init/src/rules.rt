@@ -6,7 +6,7 @@ ghost use Rattle.mp4_box.specs.Order.{least_from, least};
 ghost use Rattle.mp4_box.specs.Checks.{along};
 ghost use Rattle.mp4_init.specs.Moovs.{content_fault, form_faults, value_faults};
 ghost use Rattle.mp4_init.specs.Rules.{below_stbl, field_faults, is_known, known, number_faults, sample_faults, track_faults};
-ghost use Rattle.mp4_init.specs.Summaries.{summaries_in};
+ghost use Rattle.mp4_init.specs.Working.Summaries.{summaries_in};
 
 use crate::fields::number_behind_times;
 use crate::kinds::{

@@ -2,7 +2,7 @@
 
 ghost use Rattle.std.specs.Prelude.{◌≡◌, ◌<◌, List, length, slice_get, IfSome};
 ghost use Rattle.mp4_init.specs.declared.search_tree.Node.{Node};
-ghost use Rattle.mp4_init.specs.SearchTrees.{ending, link_of, sought, EndsWithin};
+ghost use Rattle.mp4_init.specs.Working.SearchTrees.{ending, link_of, sought, EndsWithin};
 
 /// A track_ID, and where to go on from here for another: by the next bit of that, the lowest first. A node leads only
 /// ahead: any other place is none.

@@ -4,8 +4,8 @@ ghost use Rattle.std.specs.Prelude.{◌≡◌, ◌<◌, ◌≤◌, [], length, r
 ghost use Rattle.mp4_box.specs.Paths.{at_path};
 ghost use Rattle.mp4_box.specs.Trees.{view};
 ghost use Rattle.mp4_init.specs.Kinds.{to_tkhd};
-ghost use Rattle.mp4_init.specs.OrderedIds.{AreInOrder, sought};
-ghost use Rattle.mp4_init.specs.Summaries.{all_told, gathered, id_by, ids_from, nothing, summaries_in, summary_in, told_at, told_if};
+ghost use Rattle.mp4_init.specs.Working.OrderedIds.{AreInOrder, sought};
+ghost use Rattle.mp4_init.specs.Working.Summaries.{all_told, gathered, id_by, ids_from, empty_summary, summaries_in, summary_in, told_at, told_if};
 
 use crate::fields::number_behind_times;
 use crate::kinds::{MVEX, TKHD, TRAK, TREX};
@@ -41,7 +41,7 @@ fn take_ids<const N: usize>(moov: &BoxRef<'_>, from: u64, ids: &mut ArrayVec<u32
 /// Puts as many summaries in the places of all, each before any box was seen.
 fn clear<const N: usize>(count: usize, summaries: &mut ArrayVec<Summary, N>)
     requires { count ≤ N }
-    ensures { summaries.new.items ≡ replicate count nothing }
+    ensures { summaries.new.items ≡ replicate count empty_summary }
 {
     summaries.clear();
     while summaries.len() < count {
@@ -70,7 +70,7 @@ fn tell_own(source: Source, id: u32, this: &BoxRef<'_>, own: &mut Summary)
 }
 
 /// Tells the boxes on a path to the summaries of their track_IDs, and to that of this one.
-#[tactic(auto, unfolding(crate::specs::Summaries::all_told, crate::specs::Summaries::gathered))]
+#[tactic(auto, unfolding(crate::specs::Working::Summaries::all_told, crate::specs::Working::Summaries::gathered))]
 fn tell_along(
     source: Source,
     path: &[FourCc],
@@ -109,7 +109,7 @@ impl<const N: usize> Slots<N> {
     /// Puts the track_IDs of the tkhds that begin at the offset or behind it in the places of all. Tells what the moov says of
     /// this one.
     // It stands apart since a function pays for the size of its locals each time that it is called.
-    #[tactic(auto, unfolding(crate::specs::Summaries::summaries_in, crate::specs::Summaries::summary_in))]
+    #[tactic(auto, unfolding(crate::specs::Working::Summaries::summaries_in, crate::specs::Working::Summaries::summary_in))]
     fn refill(&mut self, moov: &BoxRef<'_>, from: u64, id: u32) -> Summary
         ensures told { self.new.summaries.items ≡ summaries_in (view moov.now) self.new.ids.items }
         ensures summary { result ≡ summary_in (view moov.now) id }

@@ -2,7 +2,7 @@
 
 ghost use Rattle.std.specs.Prelude.{◌≡◌, Some};
 ghost use Rattle.mp4_box.specs.Trees.{view};
-ghost use Rattle.mp4_init.specs.Summaries.{id_by, told};
+ghost use Rattle.mp4_init.specs.Working.Summaries.{id_by, told};
 ghost use Rattle.mp4_init.specs.Tracks.{defaults_of};
 
 use crate::fields::number_behind_times;

@@ -3,8 +3,9 @@
 ghost use Rattle.std.specs.Prelude.{◌≡◌, ◌+◌, ◌*◌, ◌^◌, ◌<◌, ◌≤◌, ◌==◌, ◌↔◌, [], ◌++◌, ◌∷◌, length, map, slice_index_or, IfSome, IsTrue};
 ghost use Rattle.std.specs.List.{AllByRecursion, position};
 ghost use Rattle.mp4_ledger.specs.Memory.{given_back};
-ghost use Rattle.mp4_init.specs.Rows.{node_of_row, track_of_row, with_next};
-ghost use Rattle.mp4_init.specs.SearchTrees.{IsIndexed};
+ghost use Rattle.mp4_init.specs.Working.Rows.{node_of_row, track_of_row};
+ghost use Rattle.mp4_init.specs.Tracks.{with_next};
+ghost use Rattle.mp4_init.specs.Working.SearchTrees.{IsIndexed};
 
 use crate::row::{ended_row, linked_row, node_for, row_for, track_for};
 use crate::search_tree::{Ending, Node, Nodes, search, seek};
@@ -42,8 +43,8 @@ pub struct TrackList {
 impl Model for TrackList {
     ghost use Rattle.std.specs.Prelude.{◌≡◌, List, map, length};
     ghost use Rattle.mp4_init.specs.declared.table.Track.{Track};
-    ghost use Rattle.mp4_init.specs.Rows.{node_of_row, track_of_row};
-    ghost use Rattle.mp4_init.specs.SearchTrees.{IsIndexed};
+    ghost use Rattle.mp4_init.specs.Working.Rows.{node_of_row, track_of_row};
+    ghost use Rattle.mp4_init.specs.Working.SearchTrees.{IsIndexed};
 
     ghost Value = { List Track };
 

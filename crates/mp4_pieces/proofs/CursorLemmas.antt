@@ -10,7 +10,7 @@ use Rattle.mp4_frag.specs.declared.rows.Cursor.{Cursor}
 use Rattle.mp4_frag.specs.Rows.{IsCursor, rows_of, sizes}
 use Rattle.mp4_frag.proofs.RowLemmas.{length_rows_of}
 use Rattle.mp4_pieces.specs.Pieces.{IsRunOf}
-use Rattle.mp4_pieces.specs.Growing.{HasRoom}
+use Rattle.mp4_pieces.specs.Working.Growing.{HasRoom}
 
 low_on : (z y : ℤ) (n : ℕ) → y ≡ z +ℤ pos n → pos 0 ≤ℤ (z +ℤ pos (2 ^ 31)) → pos 0 ≤ℤ (y +ℤ pos (2 ^ 31))
 low_on z y n e h = omega (arith, ints, e, h)

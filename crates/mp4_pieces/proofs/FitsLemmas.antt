@@ -7,7 +7,7 @@ use Rattle.std.proofs.lemmas.Bool.{le-ltb, ltb-false}
 use Rattle.std.proofs.lemmas.Int.{ints}
 use Rattle.mp4_box.specs.declared.rules.Fault.{Fault}
 use Rattle.mp4_frag.specs.declared.run.Run.{Run}
-use Rattle.mp4_frag.specs.Runs.{Held}
+use Rattle.mp4_frag.specs.Runs.{MoofBytes}
 use Rattle.mp4_frag.proofs.MoofLemmas.{last_none}
 use Rattle.mp4_pieces.specs.declared.cut.Cut.{Cut}
 use Rattle.mp4_pieces.specs.declared.piece.Piece.{Piece}
@@ -136,7 +136,7 @@ fit_runs cut held (run ∷ runs) f =
 number_fits : (n : ℕ) → n < 4294967296 → nat_lt 4294967295 n ≡ false
 number_fits n h = le-ltb 4294967295 n (omega (arith, h))
 
-pub room_from : (cut : Cut) (h : Held) (runs : List Run) (seq : ℕ) → room_faults cut h runs seq ≡ [] → HasRoomFor cut h runs seq
+pub room_from : (cut : Cut) (h : MoofBytes) (runs : List Run) (seq : ℕ) → room_faults cut h runs seq ≡ [] → HasRoomFor cut h runs seq
 unfolding room_faults
 room_from cut h runs seq e =
     let ns = numbers seq (piece_count cut h.bytes runs) in
@@ -146,7 +146,7 @@ room_from cut h runs seq e =
       numbers = none_pass (λ (n : ℕ). n < 2 ^ 32) (nat_lt 4294967295) ns below_long (none_told (list_any (nat_lt 4294967295) ns) (sequence_fault h.offset) both.1);
     }
 
-pub room_to : (cut : Cut) (h : Held) (runs : List Run) (seq : ℕ) → HasRoomFor cut h runs seq → room_faults cut h runs seq ≡ []
+pub room_to : (cut : Cut) (h : MoofBytes) (runs : List Run) (seq : ℕ) → HasRoomFor cut h runs seq → room_faults cut h runs seq ≡ []
 unfolding room_faults
 room_to cut h runs seq has =
     let ns = numbers seq (piece_count cut h.bytes runs) in

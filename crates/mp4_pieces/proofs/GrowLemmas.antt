@@ -16,8 +16,8 @@ use Rattle.mp4_pieces.specs.declared.piece.Piece.{Piece}
 use Rattle.mp4_pieces.specs.Cutting.{cut_by, cut_from}
 use Rattle.mp4_frag.specs.SyncSamples.{is_sync}
 use Rattle.mp4_pieces.specs.Fitting.{fits, fits_bytes, fits_sync}
-use Rattle.mp4_pieces.specs.Pieces.{behind, composition_times, cut_rows, least_of, past_rows, piece_at, pieces_at}
-use Rattle.mp4_pieces.specs.Growing.{Grows, HasRoom, grown, has_bytes, opened, pieces_left, takes, with_row}
+use Rattle.mp4_pieces.specs.Pieces.{cursor_after, composition_times, cut_rows, least_of, past_rows, piece_at, pieces_at}
+use Rattle.mp4_pieces.specs.Working.Growing.{Grows, HasRoom, grown, has_bytes, opened, pieces_left, takes, with_row}
 use Rattle.mp4_pieces.proofs.FitLemmas.{and_is, is_limit}
 
 bool_is : (b : Bool) → (b ≡ true) ⊎ (b ≡ false)
@@ -68,7 +68,7 @@ unfolding piece_at with_row
 with_row_is c x rows row =
     rw (length-append (x ∷ rows) (row ∷ []), sizes-more (x ∷ rows) row, durations-more (x ∷ rows) row, least_time c.time x rows row) refl
 
-pub behind_is : (c : Cursor) (rows : List Row) → behind (piece_at c rows) ≡ past_rows c rows
+pub behind_is : (c : Cursor) (rows : List Row) → cursor_after (piece_at c rows) ≡ past_rows c rows
 unfolding piece_at
 behind_is c rows = refl
 
@@ -157,7 +157,7 @@ with_row_grows p row rows h =
     let n : p.bytes + sizes (row ∷ rows) ≡ p.bytes + row.size + sizes rows = omega (arith, s) in
     record { row = omega (arith, r); time = omega (arith, d, t); low = h.low; high = subst (λ (n : ℕ). (p.place +ℤ pos n) <ℤ pos (2 ^ 63)) n h.high }
 
-pub behind_has_room : (p : Piece) (rows : List Row) → Grows p rows → HasRoom (behind p) rows
+pub behind_has_room : (p : Piece) (rows : List Row) → Grows p rows → HasRoom (cursor_after p) rows
 behind_has_room p rows h = record {
   row = h.row;
   time = h.time;

@@ -5,7 +5,7 @@ use Rattle.std.specs.List.Sorted.{IsPermutation}
 use Rattle.std.proofs.lemmas.List.Elements.{All-from_recursion, recursion_from_All}
 use Rattle.std.proofs.lemmas.List.Sorted.{All-permutation, sum_by-IsPermutation}
 use Rattle.mp4_frag.specs.declared.run.Run.{Run}
-use Rattle.mp4_frag.specs.Runs.{Held}
+use Rattle.mp4_frag.specs.Runs.{MoofBytes}
 use Rattle.mp4_pieces.specs.declared.cut.Cut.{Cut}
 use Rattle.mp4_pieces.specs.Fits.{FitsIndex, HasRoomFor}
 use Rattle.mp4_pieces.specs.Pieces.{AreRunsOf, IsRunOf, piece_count, pieces_of}
@@ -20,7 +20,7 @@ runs_kept held xs ys same all = all_kept (λ (run : Run). run.size < 2 ^ 32 → 
 pub count_kept : (cut : Cut) (held : List ℕ) (xs ys : List Run) → IsPermutation xs ys → piece_count cut held ys ≡ piece_count cut held xs
 count_kept cut held xs ys same = sum_by-IsPermutation (λ (run : Run). length (pieces_of cut held run)) xs ys same
 
-pub room_kept : (cut : Cut) (h : Held) (xs ys : List Run) (seq : ℕ) → IsPermutation xs ys → HasRoomFor cut h xs seq → HasRoomFor cut h ys seq
+pub room_kept : (cut : Cut) (h : MoofBytes) (xs ys : List Run) (seq : ℕ) → IsPermutation xs ys → HasRoomFor cut h xs seq → HasRoomFor cut h ys seq
 room_kept cut h xs ys seq same has = record {
   indexes = λ t. all_kept (λ (run : Run). FitsIndex (pieces_of cut h.bytes run)) xs ys same (has.indexes t);
   numbers = subst (λ (n : ℕ). AllByRecursion (λ (k : ℕ). k < 2 ^ 32) (numbers seq n)) (sym (count_kept cut h.bytes xs ys same)) has.numbers;

@@ -18,7 +18,7 @@ use Rattle.mp4_pieces.specs.declared.cut.Cut.{Cut}
 use Rattle.mp4_pieces.specs.declared.piece.Piece.{Piece}
 use Rattle.mp4_pieces.specs.Cutting.{ArePieces, join}
 use Rattle.mp4_pieces.specs.Fitting.{fits}
-use Rattle.mp4_pieces.specs.Pieces.{EndsInRange, IsPieceOf, IsRunOf, behind, composition_times, cursor_at, cut_rows, least_of, past_rows, piece_at, pieces_at, pieces_from, pieces_of, rows_in}
+use Rattle.mp4_pieces.specs.Pieces.{EndsInRange, IsPieceOf, IsRunOf, cursor_after, composition_times, cursor_at, cut_rows, least_of, past_rows, piece_at, pieces_at, pieces_from, pieces_of, rows_in}
 use Rattle.mp4_pieces.specs.Laws.{IsFollowedBy, IsLeastOf}
 use Rattle.mp4_pieces.proofs.CutLemmas.{pieces_are, pieces_only}
 use Rattle.mp4_pieces.proofs.FitLemmas.{is_limit}
@@ -123,7 +123,7 @@ all_pieces : (cut : Cut) (held : List ℕ) (run : Run) (ps : List Piece) (c : Cu
 all_pieces cut held run [] c at e = tt
 all_pieces cut held run (p ∷ ps) c at e =
     let next = goes_on cut held run c p ps at e in
-    (next.piece, all_pieces cut held run ps (behind p) next.cursor next.rest)
+    (next.piece, all_pieces cut held run ps (cursor_after p) next.cursor next.rest)
 
 pub pieces_are_of : (cut : Cut) (held : List ℕ) (run : Run) → AllByRecursion (IsPieceOf held run) (pieces_of cut held run)
 pieces_are_of cut held run = all_pieces cut held run (pieces_of cut held run) (first_cursor run) (cursor_first run held) refl

@@ -17,7 +17,7 @@ use Rattle.mp4_frag.specs.declared.rows.Cursor.{Cursor}
 use Rattle.mp4_frag.specs.Laws.{first_cursor}
 use Rattle.mp4_frag.specs.Moofs.{moof_runs, moof_samples}
 use Rattle.mp4_frag.specs.Rows.{rows_of}
-use Rattle.mp4_frag.specs.Runs.{Held}
+use Rattle.mp4_frag.specs.Runs.{MoofBytes}
 use Rattle.mp4_frag.proofs.RowLemmas.{length_rows_of}
 use Rattle.mp4_frag.proofs.SoundLemmas.{rows_are_samples}
 use Rattle.mp4_pieces.specs.declared.cut.Cut.{Cut}
@@ -28,7 +28,7 @@ use Rattle.mp4_pieces.specs.Fitting.{fits}
 use Rattle.mp4_pieces.specs.Groups.{groups_from}
 use Rattle.mp4_pieces.specs.Pieces.{cut_rows, past_rows, piece_count, pieces_at, pieces_of}
 use Rattle.mp4_pieces.specs.Rooms.{index_faults, index_faults_of, numbers, passes_reference, passes_time, room_fault, room_faults, sequence_faults}
-use Rattle.mp4_pieces.specs.Rooming.{check_past, passes_from}
+use Rattle.mp4_pieces.specs.Working.Rooming.{check_past, passes_from}
 
 bool_is : (b : Bool) → (b ≡ true) ⊎ (b ≡ false)
 bool_is true = inl refl
@@ -105,7 +105,7 @@ count_few cut held [] = omega arith
 count_few cut held (run ∷ runs) =
     omega (arith, count-cons cut held run runs, few_pieces cut held run, length_rows_of run held, length-append (rows_of run held) (flat_map (λ (run : Run). rows_of run held) runs), count_few cut held runs)
 
-pub moof_count_few : (cut : Cut) (h : Held) (tracks : List Track) → piece_count cut h.bytes (moof_runs h tracks) ≤ moof_samples h
+pub moof_count_few : (cut : Cut) (h : MoofBytes) (tracks : List Track) → piece_count cut h.bytes (moof_runs h tracks) ≤ moof_samples h
 moof_count_few cut h tracks = omega (arith, count_few cut h.bytes (moof_runs h tracks), rows_are_samples h tracks)
 
 -- ---- the last number
@@ -155,7 +155,7 @@ faults_one cut held run = append-nil (index_faults_of cut held run)
 
 -- ---- all of a moof
 
-pub fault_is : (cut : Cut) (h : Held) (held : List ℕ) (runs : List Run) (seq count offset : ℕ) (first best : Option Fault) → held ≡ h.bytes → first ≡ least_from None (index_faults cut held runs) → count ≡ piece_count cut held runs → offset ≡ h.offset
+pub fault_is : (cut : Cut) (h : MoofBytes) (held : List ℕ) (runs : List Run) (seq count offset : ℕ) (first best : Option Fault) → held ≡ h.bytes → first ≡ least_from None (index_faults cut held runs) → count ≡ piece_count cut held runs → offset ≡ h.offset
     → best ≡ least_from first (sequence_faults offset (numbers seq count)) → best ≡ room_fault cut h runs seq
 unfolding room_faults
 fault_is cut h held runs seq count offset first best at is n o told =

@@ -13,7 +13,7 @@ use Rattle.mp4_frag.specs.Kinds.{traf}
 use Rattle.mp4_frag.specs.Moofs.{IsRead, moof_of, moof_runs, moof_samples}
 use Rattle.mp4_frag.specs.Rows.{durations, group_at, row_of, rows_of, sizes}
 use Rattle.mp4_frag.specs.Rules.{most_samples}
-use Rattle.mp4_frag.specs.Runs.{Held, Shared, end_place, run_of, runs_from, runs_of, traf_of}
+use Rattle.mp4_frag.specs.Runs.{MoofBytes, Shared, end_place, run_of, runs_from, runs_of, traf_of}
 use Rattle.mp4_frag.proofs.AfterLemmas.{after_run}
 use Rattle.mp4_frag.proofs.MoofLemmas.{read_count}
 use Rattle.mp4_frag.proofs.RowLemmas.{length_rows_of}
@@ -57,11 +57,11 @@ unfolding runs_from
 runs_summed s time last [] = tt
 runs_summed s time last (b ∷ bs) = (run_summed s time last b, runs_summed s (run_of s time last b).end (end_place (run_of s time last b)) bs)
 
-traf_summed : (h : Held) (tracks : List Track) (t : Box) → AllByRecursion (IsSummed h.bytes) (runs_of (traf_of h tracks t))
+traf_summed : (h : MoofBytes) (tracks : List Track) (t : Box) → AllByRecursion (IsSummed h.bytes) (runs_of (traf_of h tracks t))
 unfolding traf_of
 traf_summed h tracks t = runs_summed (traf_of h tracks t).shared (traf_of h tracks t).time (pos h.offset) (traf_of h tracks t).truns
 
-trafs_summed : (h : Held) (tracks : List Track) (ts : List Box) → AllByRecursion (IsSummed h.bytes) (flat_map runs_of (map (traf_of h tracks) ts))
+trafs_summed : (h : MoofBytes) (tracks : List Track) (ts : List Box) → AllByRecursion (IsSummed h.bytes) (flat_map runs_of (map (traf_of h tracks) ts))
 trafs_summed h tracks [] = tt
 trafs_summed h tracks (t ∷ ts) =
     all_append (IsSummed h.bytes) (runs_of (traf_of h tracks t)) (flat_map runs_of (map (traf_of h tracks) ts)) (traf_summed h tracks t) (trafs_summed h tracks ts)
@@ -74,12 +74,12 @@ counts_few held n (run ∷ runs) h =
     let more = length-append (rows_of run held) (flat_map (λ (run : Run). rows_of run held) runs) in
     (omega (arith, h, more, length_rows_of run held), counts_few held n runs (omega (arith, h, more)))
 
-pub samples_few : (h : Held) (tracks : List Track) → IsRead h tracks → moof_samples h ≤ most_samples
+pub samples_few : (h : MoofBytes) (tracks : List Track) → IsRead h tracks → moof_samples h ≤ most_samples
 samples_few h tracks read = let few = few_timed (moof_of h) (read_count h tracks read) in few.most
 
 -- ---- all of a moof
 
-pub ranged_run : (h : Held) (tracks : List Track) → IsRead h tracks → (before after : List Run) (run : Run) → StandsBetween (moof_runs h tracks) before run after → InRange run → IsRunOf h.bytes run
+pub ranged_run : (h : MoofBytes) (tracks : List Track) → IsRead h tracks → (before after : List Run) (run : Run) → StandsBetween (moof_runs h tracks) before run after → InRange run → IsRunOf h.bytes run
 ranged_run h tracks read before after run s range =
     let count = counts_few h.bytes most_samples (moof_runs h tracks) (omega (arith, rows_are_samples h tracks, samples_few h tracks read)) in
     let sums = trafs_summed h tracks (of_kind traf (children (moof_of h))) in
@@ -92,6 +92,6 @@ ranged_run h tracks read before after run s range =
     }
 
 -- the runs of a moof that was read can be cut
-pub runs_are : (h : Held) (tracks : List Track) → h.offset ≤ 2 ^ 62 → IsWhole h.bytes → IsBytes h.bytes → IsRead h tracks → AreRunsOf h.bytes (moof_runs h tracks)
+pub runs_are : (h : MoofBytes) (tracks : List Track) → h.offset ≤ 2 ^ 62 → IsWhole h.bytes → IsBytes h.bytes → IsRead h tracks → AreRunsOf h.bytes (moof_runs h tracks)
 runs_are h tracks near whole fits read =
     each (λ (run : Run). run.size < 2 ^ 32 → IsRunOf h.bytes run) (moof_runs h tracks) (λ before after run s small. ranged_run h tracks read before after run s ((after_run h tracks near whole fits read before after run s).here small))

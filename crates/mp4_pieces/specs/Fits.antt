@@ -2,7 +2,7 @@
 use Rattle.std.specs.Prelude.{◌≡◌, ◌<◌, ◌^◌, ◌≤ℤ◌, ◌<ℤ◌, ℕ, ℤ, pos, true, List, [], ◌∷◌}
 use Rattle.std.specs.List.{AllByRecursion}
 use Rattle.mp4_frag.specs.declared.run.Run.{Run}
-use Rattle.mp4_frag.specs.Runs.{Held}
+use Rattle.mp4_frag.specs.Runs.{MoofBytes}
 use Rattle.mp4_pieces.specs.declared.cut.Cut.{Cut}
 use Rattle.mp4_pieces.specs.declared.piece.Piece.{Piece}
 use Rattle.mp4_pieces.specs.Groups.{groups}
@@ -31,6 +31,6 @@ pub record FitsIndex (ps : List Piece) : Type 0 where
   pub references : AllByRecursion FitsReference ps
 
 -- where an index is asked for, those of all runs have room; and each piece has a number of 32 bits
-pub record HasRoomFor (cut : Cut) (h : Held) (runs : List Run) (seq : ℕ) : Type 0 where
+pub record HasRoomFor (cut : Cut) (h : MoofBytes) (runs : List Run) (seq : ℕ) : Type 0 where
   pub indexes : cut.index ≡ true → AllByRecursion (λ run. FitsIndex (pieces_of cut h.bytes run)) runs
   pub numbers : AllByRecursion (λ n. n < 2 ^ 32) (numbers seq (piece_count cut h.bytes runs))

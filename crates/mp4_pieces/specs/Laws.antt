@@ -5,13 +5,13 @@ use Rattle.mp4_frag.specs.declared.run.Run.{Run}
 use Rattle.mp4_frag.specs.Rows.{IsCursor}
 use Rattle.mp4_pieces.specs.declared.cut.Cut.{Cut}
 use Rattle.mp4_pieces.specs.declared.piece.Piece.{Piece}
-use Rattle.mp4_pieces.specs.Pieces.{IsPieceOf, behind, pieces_from}
+use Rattle.mp4_pieces.specs.Pieces.{IsPieceOf, cursor_after, pieces_from}
 
 -- p is a piece of the run, and behind it there is a cursor, from which on the run has the pieces ps
 pub record IsFollowedBy (cut : Cut) (held : List ℕ) (run : Run) (p : Piece) (ps : List Piece) : Type 0 where
   pub piece : IsPieceOf held run p
-  pub cursor : IsCursor run held (behind p)
-  pub rest : pieces_from cut held run (behind p) ≡ ps
+  pub cursor : IsCursor run held (cursor_after p)
+  pub rest : pieces_from cut held run (cursor_after p) ≡ ps
 
 -- the number is one of these, and none of these is less
 pub record IsLeastOf (zs : List ℤ) (z : ℤ) : Type 0 where

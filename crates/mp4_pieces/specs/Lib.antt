@@ -2,10 +2,9 @@ pub mod Allowed
 pub mod Cutting
 pub mod Fitting
 pub mod Pieces
-pub mod Growing
 pub mod Groups
 pub mod Sizes
 pub mod Rooms
 pub mod Fits
-pub mod Rooming
 pub mod Laws
+pub mod Working

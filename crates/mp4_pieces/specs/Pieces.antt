@@ -95,5 +95,5 @@ pub record EndsInRange (p : Piece) : Type 0 where
   pub place : (p.place +ℤ pos p.bytes) <ℤ pos (2 ^ 63)
 
 -- the cursor behind a piece
-abbrev pub behind : Piece → Cursor
-behind p = record { row = p.first + p.count; time = p.time + p.duration; place = p.place +ℤ pos p.bytes }
+abbrev pub cursor_after : Piece → Cursor
+cursor_after p = record { row = p.first + p.count; time = p.time + p.duration; place = p.place +ℤ pos p.bytes }

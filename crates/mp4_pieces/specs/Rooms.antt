@@ -9,7 +9,7 @@ use Rattle.mp4_box.specs.declared.rules.Rule.TheVariants.{IndexRange, SequenceEn
 use Rattle.mp4_init.specs.Kinds.{kind}
 use Rattle.mp4_frag.specs.declared.run.Run.{Run}
 use Rattle.mp4_frag.specs.Kinds.{trun}
-use Rattle.mp4_frag.specs.Runs.{Held}
+use Rattle.mp4_frag.specs.Runs.{MoofBytes}
 use Rattle.mp4_pieces.specs.declared.cut.Cut.{Cut}
 use Rattle.mp4_pieces.specs.declared.piece.Piece.{Piece}
 use Rattle.mp4_pieces.specs.Groups.{groups}
@@ -60,9 +60,9 @@ sequence_faults offset ns = if list_any (nat_lt (2 ^ 32 - 1)) ns then sequence_f
 
 -- ---- both, for some runs of a moof, of which the first piece has the number seq
 
-unfoldable pub room_faults : Cut → Held → List Run → ℕ → List Fault
+unfoldable pub room_faults : Cut → MoofBytes → List Run → ℕ → List Fault
 room_faults cut h runs seq = index_faults cut h.bytes runs ++ sequence_faults h.offset (numbers seq (piece_count cut h.bytes runs))
 
 -- the fault that is told
-abbrev pub room_fault : Cut → Held → List Run → ℕ → Option Fault
+abbrev pub room_fault : Cut → MoofBytes → List Run → ℕ → Option Fault
 room_fault cut h runs seq = least (room_faults cut h runs seq)

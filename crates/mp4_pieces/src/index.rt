@@ -1,7 +1,7 @@
 //! Whether an index of the pieces of a run has room for its numbers.
 
 ghost use Rattle.std.specs.Prelude.{◌≡◌, ◌+◌, ◌^◌, ◌<◌, ◌∷◌, [], length};
-ghost use Rattle.mp4_pieces.specs.Rooming.{check_past};
+ghost use Rattle.mp4_pieces.specs.Working.Rooming.{check_past};
 ghost use Rattle.mp4_pieces.specs.Rooms.{passes_index, passes_reference, passes_time};
 ghost use Rattle.mp4_pieces.specs.Sizes.{fragment_size, mdat_header_size};
 
@@ -62,7 +62,7 @@ struct IndexCheck {
 
 impl IndexCheck {
     /// The check after one more piece.
-    #[tactic(auto, unfolding(crate::specs::Rooming::check_past))]
+    #[tactic(auto, unfolding(crate::specs::Working::Rooming::check_past))]
     fn past(self, piece: &Piece) -> IndexCheck
         ensures { result ≡ check_past self piece.now }
     {

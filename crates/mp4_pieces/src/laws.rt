@@ -10,7 +10,7 @@ ghost use Rattle.mp4_frag.specs.declared.rows.Cursor.{Cursor};
 ghost use Rattle.mp4_frag.specs.declared.rows.Row.{Row};
 ghost use Rattle.mp4_frag.specs.Moofs.{IsRead, moof_runs, moof_samples};
 ghost use Rattle.mp4_frag.specs.Rows.{IsCursor};
-ghost use Rattle.mp4_frag.specs.Runs.{Held, end_place};
+ghost use Rattle.mp4_frag.specs.Runs.{MoofBytes, end_place};
 ghost use Rattle.mp4_pieces.specs.declared.cut.Cut.{Cut};
 ghost use Rattle.mp4_pieces.specs.declared.piece.Piece.{Piece};
 ghost use Rattle.mp4_pieces.specs.Cutting.{ArePieces, IsLimit};
@@ -64,7 +64,7 @@ pub fn groups_are_one()
 
 /// There is no fault exactly where all pieces have room for their numbers.
 pub fn no_fault_is_room()
-    ensures { (cut : Cut) (h : Held) (runs : List Run) (seq : ℕ) →
+    ensures { (cut : Cut) (h : MoofBytes) (runs : List Run) (seq : ℕ) →
         (room_faults cut h runs seq ≡ []) ↔ HasRoomFor cut h runs seq }
 {}
 
@@ -75,19 +75,19 @@ pub fn order_is_free()
         AreRunsOf held xs → AreRunsOf held ys }
     ensures count { (cut : Cut) (held : List ℕ) (xs ys : List Run) → IsPermutation xs ys →
         piece_count cut held ys ≡ piece_count cut held xs }
-    ensures room { (cut : Cut) (h : Held) (xs ys : List Run) (seq : ℕ) → IsPermutation xs ys →
+    ensures room { (cut : Cut) (h : MoofBytes) (xs ys : List Run) (seq : ℕ) → IsPermutation xs ys →
         HasRoomFor cut h xs seq → HasRoomFor cut h ys seq }
 {}
 
 /// A moof has at most as many pieces as samples.
 pub fn pieces_are_few()
-    ensures { (cut : Cut) (h : Held) (tracks : List Track) →
+    ensures { (cut : Cut) (h : MoofBytes) (tracks : List Track) →
         piece_count cut h.bytes (moof_runs h tracks) ≤ moof_samples h }
 {}
 
 /// The runs of a moof that was read are such that they can be cut.
 pub fn runs_of_a_moof_can_be_cut()
-    ensures { (h : Held) (tracks : List Track) → IsWhole h.bytes → IsBytes h.bytes →
+    ensures { (h : MoofBytes) (tracks : List Track) → IsWhole h.bytes → IsBytes h.bytes →
         h.offset + length h.bytes ≤ 2 ^ 62 → IsRead h tracks →
         AreRunsOf h.bytes (moof_runs h tracks) }
 {}

@@ -1,7 +1,7 @@
 //! A piece of a run.
 
 ghost use Rattle.std.specs.Prelude.{◌≡◌};
-ghost use Rattle.mp4_pieces.specs.Pieces.{EndsInRange, behind};
+ghost use Rattle.mp4_pieces.specs.Pieces.{EndsInRange, cursor_after};
 
 use mp4_frag::Cursor;
 
@@ -27,9 +27,9 @@ pub struct Piece {
 
 impl Piece {
     /// The cursor behind it, where the next piece begins. Each piece of a run ends in range.
-    pub fn behind(self) -> Cursor
+    pub fn cursor_after(self) -> Cursor
         requires { EndsInRange self }
-        ensures { result ≡ behind self }
+        ensures { result ≡ cursor_after self }
     {
         Cursor {
             row: self.first + self.count,

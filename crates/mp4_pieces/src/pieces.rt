@@ -4,8 +4,8 @@ ghost use Rattle.std.specs.Prelude.{◌≡◌, ◌+◌, ◌^◌, ◌<◌, ◌∷
 ghost use Rattle.std.specs.Iterator.{YieldsFirst, item_count};
 ghost use Rattle.mp4_frag.specs.Rows.{IsCursor};
 ghost use Rattle.mp4_frag.specs.SyncSamples.{is_sync};
-ghost use Rattle.mp4_pieces.specs.Growing.{Grows, HasRoom, grown, has_bytes, opened, pieces_left, takes, with_row};
-ghost use Rattle.mp4_pieces.specs.Pieces.{IsRunOf, behind, pieces_from, pieces_of};
+ghost use Rattle.mp4_pieces.specs.Working.Growing.{Grows, HasRoom, grown, has_bytes, opened, pieces_left, takes, with_row};
+ghost use Rattle.mp4_pieces.specs.Pieces.{IsRunOf, cursor_after, pieces_from, pieces_of};
 
 use crate::cut::Cut;
 use crate::piece::Piece;
@@ -36,7 +36,7 @@ fn has_bytes(most: Option<u64>, piece: &Piece, row: &Row) -> bool
 
 impl Cut {
     /// Whether one row more fits in a piece.
-    #[tactic(auto, unfolding(crate::specs::Growing::takes))]
+    #[tactic(auto, unfolding(crate::specs::Working::Growing::takes))]
     fn takes(&self, piece: &Piece, row: &Row) -> bool
         requires { piece.now.bytes + row.now.size < 2 ^ 64 }
         ensures { result ≡ takes self.now piece.now row.now }
@@ -48,7 +48,7 @@ impl Cut {
 }
 
 /// The piece of one row, from a cursor on.
-#[tactic(auto, unfolding(crate::specs::Growing::opened))]
+#[tactic(auto, unfolding(crate::specs::Working::Growing::opened))]
 fn opened(at: Cursor, row: &Row) -> Piece
     ensures { result ≡ opened at row.now }
 {
@@ -64,7 +64,7 @@ fn opened(at: Cursor, row: &Row) -> Piece
 }
 
 /// The piece with one row more.
-#[tactic(auto, unfolding(crate::specs::Growing::with_row))]
+#[tactic(auto, unfolding(crate::specs::Working::Growing::with_row))]
 fn with_row(piece: Piece, row: &Row) -> Piece
     requires count { piece.count + 1 < 2 ^ 32 }
     requires bytes { piece.bytes + row.now.size < 2 ^ 64 }
@@ -90,11 +90,11 @@ struct Filled {
 }
 
 /// The piece that begins so, with the rows that fit in it.
-#[tactic(auto, unfolding(crate::specs::Growing::grown, crate::specs::Growing::pieces_left), using(crate::proofs::GrowLemmas::with_row_grows))]
+#[tactic(auto, unfolding(crate::specs::Working::Growing::grown, crate::specs::Working::Growing::pieces_left), using(crate::proofs::GrowLemmas::with_row_grows))]
 fn fill(cut: &Cut, begun: Piece, rows: &mut Rows<'_>) -> Filled
     requires { Grows begun rows.old }
     ensures pieces { grown cut.now begun rows.old ≡ result.piece ∷ pieces_left cut.now
-        (behind result.piece) (option_to_list result.looked_at ++ rows.new) }
+        (cursor_after result.piece) (option_to_list result.looked_at ++ rows.new) }
     ensures grows { Grows result.piece (option_to_list result.looked_at ++ rows.new) }
 {
     let mut piece = begun;
@@ -131,7 +131,7 @@ pub struct Pieces<'a> {
 impl<'a> Model for Pieces<'a> {
     ghost use Rattle.std.specs.Prelude.{List, ◌++◌, option_to_list};
     ghost use Rattle.mp4_pieces.specs.declared.piece.Piece.{Piece};
-    ghost use Rattle.mp4_pieces.specs.Growing.{HasRoom, pieces_left};
+    ghost use Rattle.mp4_pieces.specs.Working.Growing.{HasRoom, pieces_left};
 
     ghost Value = { List Piece };
 
@@ -184,7 +184,7 @@ fn next_row(looked_at: &mut Option<Row>, rows: &mut Rows<'_>) -> Option<Row>
 }
 
 /// The next piece. It reads no row twice, and one behind the piece at most.
-#[tactic(auto, using(crate::proofs::GrowLemmas::opened_grows, crate::proofs::GrowLemmas::behind_has_room), unfolding(crate::specs::Growing::pieces_left))]
+#[tactic(auto, using(crate::proofs::GrowLemmas::opened_grows, crate::proofs::GrowLemmas::behind_has_room), unfolding(crate::specs::Working::Growing::pieces_left))]
 fn next_piece(
     cut: &Cut,
     at: &mut Cursor,
@@ -203,7 +203,7 @@ fn next_piece(
         return None;
     };
     let filled = fill(cut, opened(*at, &first), rows);
-    *at = filled.piece.behind();
+    *at = filled.piece.cursor_after();
     *looked_at = filled.looked_at;
     Some(filled.piece)
 }

@@ -19,11 +19,11 @@ use Rattle.mp4_run_order.proofs.TakingLemmas.{taken_well}
 use Rattle.mp4_frag.specs.declared.rows.Row.{Row}
 use Rattle.mp4_frag.specs.declared.run.Run.{Run}
 use Rattle.mp4_frag.specs.Moofs.{moof_runs}
-use Rattle.mp4_frag.specs.Places.{misplaced, place_fault}
+use Rattle.mp4_frag.specs.Places.{run_place_fault, place_fault}
 use Rattle.mp4_frag.specs.Rows.{rows_of, sizes}
 use Rattle.mp4_frag.specs.RunLists.{moof_listing, taken_runs}
-use Rattle.mp4_frag.specs.RunRows.{listed_run}
-use Rattle.mp4_frag.specs.Runs.{Held, end_place}
+use Rattle.mp4_frag.specs.Places.{listed_run}
+use Rattle.mp4_frag.specs.Runs.{MoofBytes, end_place}
 use Rattle.mp4_frag.proofs.RowLemmas.{length_rows_of}
 use Rattle.mp4_frag.proofs.ListingLemmas.{is_listing}
 use Rattle.mp4_pieces.specs.declared.cut.Cut.{Cut}
@@ -38,9 +38,9 @@ use Rattle.mp4_recut_laws.proofs.FragmentLemmas.{map_none}
 
 -- ---- its runs stand where they may
 
-placed : (p : Payload) (h : Held) (tracks : List Track) → IsBytes h.bytes → place_fault p (moof_runs h tracks) ≡ None → Placed p (moof_listing h tracks)
+placed : (p : Payload) (h : MoofBytes) (tracks : List Track) → IsBytes h.bytes → place_fault p (moof_runs h tracks) ≡ None → Placed p (moof_listing h tracks)
 placed p h tracks fits good =
-    subst (IsOffender p (moof_listing h tracks)) (map_none (λ (run : ListedRun). misplaced run.number) (first_offender p (moof_listing h tracks)) good)
+    subst (IsOffender p (moof_listing h tracks)) (map_none (λ (run : ListedRun). run_place_fault run.number) (first_offender p (moof_listing h tracks)) good)
     (offender_means p (moof_listing h tracks) (is_listing h tracks fits))
 
 -- ---- of two runs with bytes the first ends before the second begins
@@ -48,7 +48,7 @@ placed p h tracks fits good =
 abbrev Rises : Run → Run → Type 0
 Rises a b = has_bytes (listed_run a) ≡ true → has_bytes (listed_run b) ≡ true → end_place a ≤ℤ b.place
 
-taken_rise : (p : Payload) (h : Held) (tracks : List Track) → IsBytes h.bytes → place_fault p (moof_runs h tracks) ≡ None → Pairs Rises (taken_runs h tracks)
+taken_rise : (p : Payload) (h : MoofBytes) (tracks : List Track) → IsBytes h.bytes → place_fault p (moof_runs h tracks) ≡ None → Pairs Rises (taken_runs h tracks)
 taken_rise p h tracks fits good =
     let listing = moof_listing h tracks in
     let runs = taken_runs h tracks in
@@ -91,7 +91,7 @@ module _ (cut : Cut) (tracks : List Track) (start : ℕ) (payload held : List �
   all_clear (run ∷ runs) are rise = (clear_of run are.0 runs are.1 rise.0, all_clear runs are.1 rise.1)
 
 -- the parts of a fragment without a fault ascend, whatever its payload states of its end, where all media that its runs need came
-pub parts_ascend : (cut : Cut) (h : Held) (tracks : List Track) (number start : ℕ) (payload : List ℕ) (p : Payload) → IsBytes h.bytes → place_fault p (moof_runs h tracks) ≡ None → AllByRecursion (IsRunIn tracks start payload h.bytes) (taken_runs h tracks)
+pub parts_ascend : (cut : Cut) (h : MoofBytes) (tracks : List Track) (number start : ℕ) (payload : List ℕ) (p : Payload) → IsBytes h.bytes → place_fault p (moof_runs h tracks) ≡ None → AllByRecursion (IsRunIn tracks start payload h.bytes) (taken_runs h tracks)
     → Ascends start (start + length payload) (runs_parts cut h.bytes tracks number (taken_runs h tracks))
 parts_ascend cut h tracks number start payload p fits good given =
     let runs = taken_runs h tracks in

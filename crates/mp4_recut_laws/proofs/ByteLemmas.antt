@@ -11,7 +11,7 @@ use Rattle.mp4_box.proofs.HeaderLemmas.{IsBytes-drop, IsBytes-take}
 use Rattle.mp4_init.specs.declared.table.Track.{Track}
 use Rattle.mp4_frag.specs.declared.run.Run.{Run}
 use Rattle.mp4_frag.specs.RunLists.{taken_runs}
-use Rattle.mp4_frag.specs.Runs.{held_at}
+use Rattle.mp4_frag.specs.Runs.{moof_at}
 use Rattle.mp4_pieces.specs.declared.cut.Cut.{Cut}
 use Rattle.mp4_pieces.specs.declared.piece.Piece.{Piece}
 use Rattle.mp4_pieces.specs.Cutting.{join}
@@ -20,16 +20,16 @@ use Rattle.mp4_pieces.specs.Pieces.{IsPieceOf, IsRunOf, pieces_of}
 use Rattle.mp4_pieces.proofs.GroupLemmas.{groups_are}
 use Rattle.mp4_cut.specs.Mdat as mdats
 use Rattle.mp4_cut.specs.Mdat.{mdat_header}
-use Rattle.mp4_cut.specs.Moof.{fragment_of}
+use Rattle.mp4_cut.specs.Moof.{written_fragment}
 use Rattle.mp4_cut.specs.Reads.{FitsFields, FitsTrack}
 use Rattle.mp4_cut.specs.Sidx.{earliest, natural, reference_bytes, sidx_payload, written_index}
 use Rattle.mp4_cut.proofs.ByteLemmas.{moof_bytes}
 use Rattle.mp4_cut.specs.Reads.{IsSoundRun}
 use Rattle.mp4_cut.proofs.GivenLemmas.{can_be_read}
 use Rattle.mp4_pieces.specs.Sizes.{fragment_size}
-use Rattle.mp4_items.specs.Contexts.{Context, context, first_context}
-use Rattle.mp4_items.specs.Joined.{AreSound, IsSound, Item, Movie, MovieFragment, OneBox, PassedOver, behind_item, bytes_of, fragment_in, joined, tracks_in}
-use Rattle.mp4_items.specs.Joined as items
+use Rattle.mp4_grammar.specs.Contexts.{Context, context, first_context}
+use Rattle.mp4_grammar.specs.Joined.{AreSound, IsSound, Item, Movie, MovieFragment, OneBox, PassedOver, context_after, bytes_of, fragment_in, joined, tracks_in}
+use Rattle.mp4_grammar.specs.Joined as items
 use Rattle.mp4_recut.specs.Splitting.{is_dropped, splitting, timescale_of}
 use Rattle.mp4_recut.specs.Texts.{box_text, groups_text, item_text, items_text, pieces_text, runs_text}
 use Rattle.mp4_recut_laws.specs.Premises.{CanAllBeRecut, CanBeRecut, IsRunIn}
@@ -111,12 +111,12 @@ all_last P (x ∷ xs) ys all = all_last P xs ys all.1
 
 module _ (cut : Cut) (held : List ℕ) (start : ℕ) (payload : List ℕ) (fits : IsBytes payload) where
   abbrev Fits : Run → Piece → Type 0
-  Fits run p = FitsFields (fragment_of held run p)
+  Fits run p = FitsFields (written_fragment held run p)
 
   pieces_bytes : (run : Run) (number : ℕ) (ps : List Piece) → AllByRecursion (Fits run) ps → Are (pieces_text cut held start payload run number ps)
   pieces_bytes run number [] all = none
   pieces_bytes run number (p ∷ ps) all =
-      join_both (join_both (record { is = moof_bytes (fragment_of held run p) number all.0 }) (header p.bytes))
+      join_both (join_both (record { is = moof_bytes (written_fragment held run p) number all.0 }) (header p.bytes))
       (join_both (record { is = IsBytes-take p.bytes (drop (natural p.place - start) payload) (IsBytes-drop (natural p.place - start) payload fits) }) (pieces_bytes run (number + 1) ps all.1))
 
   groups_bytes : (run : Run) (timescale number : ℕ) (gs : List (List Piece)) → AllByRecursion (Fits run) (join gs) → Are (groups_text cut held start payload run timescale number gs)
@@ -153,7 +153,7 @@ fragment_by cut at number None moof mdat s fine held = nothing_known s.0.known
 fragment_by cut at number (Some tracks) moof mdat s fine held =
     let f = fragment_in (context at (Some tracks) number) moof mdat in
     let payload = drop mdat.header.header_len mdat.bytes in
-    runs_bytes cut moof.bytes f.payload.start payload (IsBytes-drop mdat.header.header_len mdat.bytes held) tracks tracks number (taken_runs (held_at moof.bytes at) tracks) (fragment_runs cut at number tracks moof mdat s fine.0 fine.1 fine.2 fine.3)
+    runs_bytes cut moof.bytes f.payload.start payload (IsBytes-drop mdat.header.header_len mdat.bytes held) tracks tracks number (taken_runs (moof_at moof.bytes at) tracks) (fragment_runs cut at number tracks moof mdat s fine.0 fine.1 fine.2 fine.3)
 
 item_bytes : (cut : Cut) (c : Context) (i : Item) → IsSound (splitting cut) c i → CanBeRecut c i → IsBytes (bytes_of i) → Are (item_text cut c i)
 item_bytes cut c (PassedOver b) s fine held = box_bytes_by (is_dropped b.header.kind.0) b.bytes held
@@ -163,7 +163,7 @@ item_bytes cut c (MovieFragment moof mdat) s fine held = fragment_by cut c.at c.
 items_bytes : (cut : Cut) (c : Context) (is : List Item) → AreSound (splitting cut) c is → CanAllBeRecut cut c is → IsBytes (joined is) → Are (items_text cut c is)
 items_bytes cut c [] s fine held = none
 items_bytes cut c (i ∷ is) s fine held =
-    join_both (item_bytes cut c i s.0 fine.0 (bytes_front (bytes_of i) (joined is) held)) (items_bytes cut (behind_item (splitting cut) c i) is s.1 fine.1 (bytes_back (bytes_of i) (joined is) held))
+    join_both (item_bytes cut c i s.0 fine.0 (bytes_front (bytes_of i) (joined is) held)) (items_bytes cut (context_after (splitting cut) c i) is s.1 fine.1 (bytes_back (bytes_of i) (joined is) held))
 
 -- ---- the end
 
@@ -171,9 +171,9 @@ open_by : (cut : Cut) (at number : ℕ) (o : Option (List Track)) (moof : OneBox
     → Are (ending_text cut (context at o number) (OpenFragment moof h head more))
 open_by cut at number None moof h head more s held all room low fit = nothing_known s.2.known
 open_by cut at number (Some tracks) moof h head more s held all room low fit =
-    let f = items.fragment_of (context at (Some tracks) number) moof.bytes h in
+    let f = items.fragment_here (context at (Some tracks) number) moof.bytes h in
     let whole : IsWhole moof.bytes = (moof.header, s.2.one.payload, s.2.one.is) in
-    runs_bytes cut moof.bytes f.payload.start more all tracks tracks number (taken_runs (held_at moof.bytes at) tracks) (open_runs cut at number tracks moof.bytes more h s.1.1 whole held room fit low s.3 s.4 s.5)
+    runs_bytes cut moof.bytes f.payload.start more all tracks tracks number (taken_runs (moof_at moof.bytes at) tracks) (open_runs cut at number tracks moof.bytes more h s.1.1 whole held room fit low s.3 s.4 s.5)
 
 end_bytes : (cut : Cut) (c : Context) (e : Ending) → IsSoundEnding (splitting cut) c e → IsBytes (ending_bytes e) → c.at + length (ending_bytes e) ≤ 2 ^ 62 → c.number ≤ 2 ^ 32 → AllByRecursion FitsTrack (tracks_in c) → Are (ending_text cut c e)
 end_bytes cut c NothingMore s held room low fit = none

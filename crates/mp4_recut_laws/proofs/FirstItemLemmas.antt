@@ -1,9 +1,9 @@
 -- The laws of the recut text of whole items.
 use Rattle.std.proofs.Common.{◌≡◌, ◌∙◌, ℕ, ◌≤◌, ◌^◌, List, length, refl, sym, ap, arith}
 use Rattle.mp4_pieces.specs.declared.cut.Cut.{Cut}
-use Rattle.mp4_reading.specs.Readings.{Sound}
-use Rattle.mp4_items.specs.Contexts.{first_context}
-use Rattle.mp4_items.specs.Joined.{Item, joined}
+use Rattle.mp4_machine.specs.Readings.{Sound}
+use Rattle.mp4_grammar.specs.Contexts.{first_context}
+use Rattle.mp4_grammar.specs.Joined.{Item, joined}
 use Rattle.mp4_recut_laws.specs.Premises.{AreFirstItems, CanAllBeRecut, RecutAgrees}
 use Rattle.mp4_recut_laws.specs.RecutItems.{items_recut, without_index}
 use Rattle.mp4_recut.specs.Splitting.{reading, splitting}

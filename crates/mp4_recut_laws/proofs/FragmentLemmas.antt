@@ -16,11 +16,11 @@ use Rattle.mp4_init.proofs.MoovLemmas.{first_none}
 use Rattle.mp4_init.proofs.SearchTreeLemmas.{is_same}
 use Rattle.std.proofs.lemmas.List.{length-drop}
 use Rattle.std.proofs.lemmas.List.Sums.{sum_by-cons}
-use Rattle.mp4_items.specs.Contexts.{context}
-use Rattle.mp4_items.specs.Items.{end_of}
-use Rattle.mp4_items.specs.Joined.{IsOne, IsSound, MovieFragment, OneBox, fragment_in}
-use Rattle.mp4_items.specs.declared.kinds.Kind.TheVariants.{Mdat}
-use Rattle.mp4_items.specs.Makings.{Fragment, runs_in}
+use Rattle.mp4_grammar.specs.Contexts.{context}
+use Rattle.mp4_grammar.specs.Items.{end_of}
+use Rattle.mp4_grammar.specs.Joined.{IsOne, IsSound, MovieFragment, OneBox, fragment_in}
+use Rattle.mp4_grammar.specs.declared.kinds.Kind.TheVariants.{Mdat}
+use Rattle.mp4_grammar.specs.Meanings.{Fragment, runs_in}
 use Rattle.mp4_recut.specs.Splitting.{splitting}
 use Rattle.mp4_recut_laws.specs.MediaSamples.{media_samples_in}
 use Rattle.mp4_recut_laws.proofs.RunLemmas.{runs_recut, runs_count, runs_out}
@@ -31,11 +31,11 @@ use Rattle.mp4_run_order.proofs.OrderLemmas.{taken_permutes}
 use Rattle.mp4_run_order.proofs.RunLemmas.{le_from}
 use Rattle.mp4_frag.specs.declared.run.Run.{Run}
 use Rattle.mp4_frag.specs.Moofs.{IsRead, moof_runs}
-use Rattle.mp4_frag.specs.Places.{misplaced, place_fault}
+use Rattle.mp4_frag.specs.Places.{run_place_fault, place_fault}
 use Rattle.mp4_frag.specs.Rows.{row_of, rows_of}
 use Rattle.mp4_frag.specs.RunLists.{taken_runs}
-use Rattle.mp4_frag.specs.RunRows.{listed_run}
-use Rattle.mp4_frag.specs.Runs.{Held, held_at}
+use Rattle.mp4_frag.specs.Places.{listed_run}
+use Rattle.mp4_frag.specs.Runs.{MoofBytes, moof_at}
 use Rattle.mp4_pieces.specs.declared.cut.Cut.{Cut}
 use Rattle.mp4_pieces.specs.Pieces.{AreRunsOf, IsRunOf, piece_count, pieces_of}
 use Rattle.mp4_pieces.specs.Rooms.{numbers, room_fault, sequence_fault}
@@ -96,7 +96,7 @@ all_lie start end all [] h = tt
 all_lie start end all (run ∷ runs) h = (lies_by start end all run h.0, all_lie start end all runs h.1)
 
 runs_lie : (start end : ℕ) (runs : List Run) → place_fault (pay start end) runs ≡ None → AllByRecursion (λ (run : Run). (run.count ≡ 0) ⊎ Lies start end run) runs
-runs_lie start end runs e = all_lie start end (map listed_run runs) runs (find_none _ (map listed_run runs) (map_none (λ (run : ListedRun). misplaced run.number) (first_offender (pay start end) (map listed_run runs)) e))
+runs_lie start end runs e = all_lie start end (map listed_run runs) runs (find_none _ (map listed_run runs) (map_none (λ (run : ListedRun). run_place_fault run.number) (first_offender (pay start end) (map listed_run runs)) e))
 
 -- ---- what is asked of them
 
@@ -121,7 +121,7 @@ pub all_kept : (P : Run → Type 0) (xs ys : List Run) → IsPermutation xs ys �
 all_kept P xs ys same all = recursion_from_All P ys (All-permutation P xs ys same (All-from_recursion P xs all))
 
 -- the runs of a fragment without a fault
-pub runs_in_payload : (h : Held) (tracks : List Track) (start : ℕ) (payload : List ℕ) → IsWhole h.bytes → IsBytes h.bytes → h.offset + length h.bytes ≤ 2 ^ 62 → AllByRecursion FitsTrack tracks → IsRead h tracks → place_fault (pay start (start + length payload)) (moof_runs h tracks) ≡ None
+pub runs_in_payload : (h : MoofBytes) (tracks : List Track) (start : ℕ) (payload : List ℕ) → IsWhole h.bytes → IsBytes h.bytes → h.offset + length h.bytes ≤ 2 ^ 62 → AllByRecursion FitsTrack tracks → IsRead h tracks → place_fault (pay start (start + length payload)) (moof_runs h tracks) ≡ None
     → AllByRecursion (IsRunIn tracks start payload h.bytes) (taken_runs h tracks)
 runs_in_payload h tracks start payload whole held room all read placed =
     all_kept (IsRunIn tracks start payload h.bytes) (moof_runs h tracks) (taken_runs h tracks) (taken_permutes listed_run (moof_runs h tracks))
@@ -137,7 +137,7 @@ last_none : {X : Type 0} (xs ys : List X) → xs ++ ys ≡ [] → ys ≡ []
 last_none [] ys e = e
 last_none (x ∷ xs) ys e = absurd cc
 
-pub has_numbers : (cut : Cut) (h : Held) (runs : List Run) (number : ℕ) → number ≤ 4294967296 → room_fault cut h runs number ≡ None → number + piece_count cut h.bytes runs ≤ 4294967296
+pub has_numbers : (cut : Cut) (h : MoofBytes) (runs : List Run) (number : ℕ) → number ≤ 4294967296 → room_fault cut h runs number ≡ None → number + piece_count cut h.bytes runs ≤ 4294967296
 unfolding rooms.room_faults
 has_numbers cut h runs number low e =
     let none = last_none (rooms.index_faults cut h.bytes runs) _ (least-none (rooms.room_faults cut h runs number) e) in
@@ -159,8 +159,8 @@ payload_is n mdat one =
     ∙ same_end (n + mdat.header.header_len) _ _ (omega (arith, len, length-drop mdat.header.header_len mdat.bytes))
 
 module _ (cut : Cut) (at number : ℕ) (tracks : List Track) (moof mdat : OneBox) (sound : IsSound (splitting cut) (context at (Some tracks) number) (MovieFragment moof mdat)) (held : IsBytes moof.bytes) (room : at + length moof.bytes + length mdat.bytes ≤ 2 ^ 62) (all : AllByRecursion FitsTrack tracks) (low : number ≤ 4294967296) where
-  abbrev h : Held
-  h = held_at moof.bytes at
+  abbrev h : MoofBytes
+  h = moof_at moof.bytes at
 
   abbrev f : Fragment
   f = fragment_in (context at (Some tracks) number) moof mdat

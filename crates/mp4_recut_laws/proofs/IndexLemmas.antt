@@ -23,13 +23,13 @@ use Rattle.mp4_pieces.specs.Sizes.{fragment_size, mdat_header_size}
 use Rattle.mp4_pieces.proofs.GroupLemmas.{groups_are}
 use Rattle.mp4_pieces.proofs.PieceLemmas.{pieces_are_of}
 use Rattle.mp4_cut.specs.Boxes.{version_and_flags}
-use Rattle.mp4_cut.specs.Moof.{fragment_of, moof_box}
+use Rattle.mp4_cut.specs.Moof.{written_fragment, moof_box}
 use Rattle.mp4_cut.specs.Sidx.{earliest, natural, reference_bytes}
 use Rattle.mp4_cut.specs.Sidx as sidx_specs
 use Rattle.mp4_cut.proofs.FieldLemmas.{long_number_back, number_back}
 use Rattle.mp4_cut.proofs.MoofLemmas.{length_moof}
 use Rattle.mp4_cut.proofs.PieceLemmas.{count_is}
-use Rattle.mp4_items.specs.Joined.{bytes_of}
+use Rattle.mp4_grammar.specs.Joined.{bytes_of}
 use Rattle.mp4_recut.specs.Splitting.{scale_of, timescale_of}
 use Rattle.mp4_recut.specs.Texts.{media_of}
 use Rattle.mp4_recut_laws.specs.PieceItems.{PieceWithMedia, mdat_as_box, piece_item, piece_samples, piece_with_media}
@@ -75,7 +75,7 @@ module _ (held : List ℕ) (start : ℕ) (payload : List ℕ) (run : Run) where
   piece_size : (p : Piece) (number : ℕ) → Good held start payload run p → fragment_size p ≡ length (bytes_of (piece_item (media_piece p).written number (media_piece p).media))
   piece_size p number good =
       let media = media_of start payload p in
-      let f = fragment_of held run p in
+      let f = written_fragment held run p in
       let header : mdat_header_size (length media) ≡ mdat_header_size p.bytes = ap mdat_header_size good.long in
       omega (arith, length-append (moof_box f number) (mdat_as_box media).bytes, length_moof f number, count_is held run p good.is, length_media media, header, good.long)
 

@@ -14,7 +14,7 @@ use Rattle.mp4_frag.specs.Moofs.{moof_runs, moof_trafs}
 use Rattle.mp4_frag.specs.Places.{place_fault}
 use Rattle.mp4_frag.specs.RunLists.{taken_runs}
 use Rattle.mp4_frag.specs.Rules.{track_with}
-use Rattle.mp4_frag.specs.Runs.{held_at}
+use Rattle.mp4_frag.specs.Runs.{moof_at}
 use Rattle.mp4_pieces.specs.declared.cut.Cut.{Cut}
 use Rattle.mp4_pieces.specs.declared.piece.Piece.{Piece}
 use Rattle.mp4_pieces.specs.Cutting.{join}
@@ -24,8 +24,8 @@ use Rattle.mp4_pieces.specs.Pieces.{least_of, pieces_of}
 use Rattle.mp4_pieces.specs.Rooms.{room_fault}
 use Rattle.mp4_pieces.proofs.GroupLemmas.{groups_are}
 use Rattle.mp4_cut.specs.Reads.{FitsTrack}
-use Rattle.mp4_items.specs.Contexts.{Context, context, first_context}
-use Rattle.mp4_items.specs.Joined.{AreSound, IsSound, Item, Movie, MovieFragment, OneBox, PassedOver, behind_item, behind_items, bytes_of, fragment_in, fragment_of, joined, listed, tracks_in}
+use Rattle.mp4_grammar.specs.Contexts.{Context, context, first_context}
+use Rattle.mp4_grammar.specs.Joined.{AreSound, IsSound, Item, Movie, MovieFragment, OneBox, PassedOver, context_after, context_after_all, bytes_of, fragment_in, fragment_here, joined, listed, tracks_in}
 use Rattle.mp4_recut.specs.Splitting as splits
 use Rattle.mp4_recut.specs.Splitting.{is_dropped, scale_of, splitting, timescale_of}
 use Rattle.mp4_recut_laws.specs.PieceItems.{IsOnePiece, PieceWithMedia, piece_item, piece_samples, piece_with_media, pieces_items, without_end, without_ends}
@@ -99,16 +99,16 @@ module _ (cut : Cut) (tracks : List Track) where
   pieces_true : (number : ℕ) (qs : List PieceWithMedia) (more : List Item) → TrueAnywhere more → TrueAnywhere (pieces_items number qs ++ more)
   pieces_true number [] more any at n us e = any at n us e
   pieces_true number (q ∷ qs) more any at n us e =
-      let fs = moof_trafs (held_at (Rattle.mp4_cut.specs.Moof.moof_box q.written number) at) us in
+      let fs = moof_trafs (moof_at (Rattle.mp4_cut.specs.Moof.moof_box q.written number) at) us in
       (tt, pieces_true (number + 1) qs more any _ _ _ (ends_settled us fs ∙ e))
 
   pieces_references : (number : ℕ) (qs : List PieceWithMedia) (more : List Item) (at n : ℕ) (us : List Track) → without_ends us ≡ without_ends tracks → AllByRecursion IsPieceHere qs → first_references cut (context at (Some us) n) (length qs) (pieces_items number qs ++ more) ≡ references_of number qs
   pieces_references number [] more at n us e all = refl
   pieces_references number (q ∷ qs) more at n us e all =
-      let fs = moof_trafs (held_at (Rattle.mp4_cut.specs.Moof.moof_box q.written number) at) us in
+      let fs = moof_trafs (moof_at (Rattle.mp4_cut.specs.Moof.moof_box q.written number) at) us in
       let i = piece_item q.written number q.media in
       let rest = pieces_references (number + 1) qs more _ _ _ (ends_settled us fs ∙ e) all.1 in
-      ap (λ (ss : List MediaSample). record { size = length (bytes_of i); duration = sum_by (λ (s : MediaSample). s.duration) ss; access = 0 } ∷ first_references cut (behind_item (splitting cut) (context at (Some us) n) i) (length qs) (pieces_items (number + 1) qs ++ more)) (one_samples_here at n number us q e all.0)
+      ap (λ (ss : List MediaSample). record { size = length (bytes_of i); duration = sum_by (λ (s : MediaSample). s.duration) ss; access = 0 } ∷ first_references cut (context_after (splitting cut) (context at (Some us) n) i) (length qs) (pieces_items (number + 1) qs ++ more)) (one_samples_here at n number us q e all.0)
       ∙ ap (λ (rs : List Reference). record { size = length (bytes_of i); duration = sum_by (λ (s : MediaSample). s.duration) (piece_samples q); access = 0 } ∷ rs) rest
 
   -- ---- an index
@@ -200,15 +200,15 @@ module _ (cut : Cut) (index : cut.index ≡ true) where
 
   kept_true : (o : Option (List Track)) (d : Context) (t : Bool) (b : OneBox) (more : List Item) → is_dropped b.header.kind.0 ≡ t → option_map without_ends d.tracks ≡ option_map without_ends o → Later o more → IndexesAreTrue cut d (kept_items t b ++ more)
   kept_true o d true b more t e later = later d e
-  kept_true o d false b more t e later = (λ kind. absurd (false≢true (sym t ∙ (ap is_dropped kind ∙ sidx_dropped))), later (behind_item (splitting cut) d (PassedOver b)) e)
+  kept_true o d false b more t e later = (λ kind. absurd (false≢true (sym t ∙ (ap is_dropped kind ∙ sidx_dropped))), later (context_after (splitting cut) d (PassedOver b)) e)
 
   fragment_true_here : (at number : ℕ) (o : Option (List Track)) (to now : ℕ) (u : Option (List Track)) (moof mdat : OneBox) (more : List Item) → option_map without_ends u ≡ option_map without_ends o → AreScaled (listed o) → IsSound (splitting cut) (context at o number) (MovieFragment moof mdat) → CanBeRecut (context at o number) (MovieFragment moof mdat)
-      → Later (behind_item (splitting cut) (context at o number) (MovieFragment moof mdat)).tracks more → IndexesAreTrue cut (context to u now) (item_recut cut (context at o number) (MovieFragment moof mdat) ++ more)
+      → Later (context_after (splitting cut) (context at o number) (MovieFragment moof mdat)).tracks more → IndexesAreTrue cut (context to u now) (item_recut cut (context at o number) (MovieFragment moof mdat) ++ more)
   fragment_true_here at number None to now u moof mdat more e scaled s fine later = nothing_known s.0.known
   fragment_true_here at number (Some tracks) to now None moof mdat more e scaled s fine later = nothing_same (without_ends tracks) e
   fragment_true_here at number (Some tracks) to now (Some us) moof mdat more e scaled s fine later =
       let f = fragment_in (context at (Some tracks) number) moof mdat in
-      let h = held_at moof.bytes at in
+      let h = moof_at moof.bytes at in
       let fs = moof_trafs h tracks in
       let payload = drop mdat.header.header_len mdat.bytes in
       let good = first_none (place_fault f.payload (moof_runs h tracks)) (room_fault cut h (moof_runs h tracks) number) s.3 in
@@ -216,15 +216,15 @@ module _ (cut : Cut) (index : cut.index ≡ true) where
       (fragment_runs cut at number tracks moof mdat s fine.0 fine.1 fine.2 fine.3) (all_index cut h tracks number index good.1)
       (λ x n vs k. later (context x (Some vs) n) (some_ends _ _ (k ∙ sym (ends_settled tracks fs)))) to now us (some_same (without_ends us) (without_ends tracks) e)
 
-  item_true_here : (c d : Context) (i : Item) (more : List Item) → option_map without_ends d.tracks ≡ option_map without_ends c.tracks → AreScaled (tracks_in c) → IsSound (splitting cut) c i → CanBeRecut c i → Later (behind_item (splitting cut) c i).tracks more → IndexesAreTrue cut d (item_recut cut c i ++ more)
+  item_true_here : (c d : Context) (i : Item) (more : List Item) → option_map without_ends d.tracks ≡ option_map without_ends c.tracks → AreScaled (tracks_in c) → IsSound (splitting cut) c i → CanBeRecut c i → Later (context_after (splitting cut) c i).tracks more → IndexesAreTrue cut d (item_recut cut c i ++ more)
   item_true_here c d (PassedOver b) more e scaled s fine later = kept_true c.tracks d (is_dropped b.header.kind.0) b more refl e later
-  item_true_here c d (Movie b) more e scaled s fine later = (tt, later (behind_item (splitting cut) d (Movie b)) (some_ends _ _ (fine d.at).1))
+  item_true_here c d (Movie b) more e scaled s fine later = (tt, later (context_after (splitting cut) d (Movie b)) (some_ends _ _ (fine d.at).1))
   item_true_here c d (MovieFragment moof mdat) more e scaled s fine later = fragment_true_here c.at c.number c.tracks d.at d.number d.tracks moof mdat more e scaled s fine later
 
-  items_true_here : (c d : Context) (is more : List Item) → option_map without_ends d.tracks ≡ option_map without_ends c.tracks → AreScaled (tracks_in c) → AreSound (splitting cut) c is → CanAllBeRecut cut c is → IsBytes (joined is) → Later (behind_items (splitting cut) c is).tracks more → IndexesAreTrue cut d (items_recut cut c is ++ more)
+  items_true_here : (c d : Context) (is more : List Item) → option_map without_ends d.tracks ≡ option_map without_ends c.tracks → AreScaled (tracks_in c) → AreSound (splitting cut) c is → CanAllBeRecut cut c is → IsBytes (joined is) → Later (context_after_all (splitting cut) c is).tracks more → IndexesAreTrue cut d (items_recut cut c is ++ more)
   items_true_here c d [] more e scaled s fine held later = later d e
   items_true_here c d (i ∷ is) more e scaled s fine held later =
-      let next = behind_item (splitting cut) c i in
+      let next = context_after (splitting cut) c i in
       subst (IndexesAreTrue cut d) (sym (append_assoc (item_recut cut c i) (items_recut cut next is) more))
       (item_true_here c d i (items_recut cut next is ++ more) e scaled s.0 fine.0
       (λ x k. items_true_here next x is more k (item_scaled cut index c i scaled s.0 (bytes_front (bytes_of i) (joined is) held)) s.1 fine.1 (bytes_back (bytes_of i) (joined is) held) later))
@@ -236,8 +236,8 @@ module _ (cut : Cut) (index : cut.index ≡ true) where
   open_true_here at number None to now u moof h head more e scaled s held room low fit = nothing_known s.2.known
   open_true_here at number (Some tracks) to now None moof h head more e scaled s held room low fit = nothing_same (without_ends tracks) e
   open_true_here at number (Some tracks) to now (Some us) moof h head more e scaled s held room low fit =
-      let f = fragment_of (context at (Some tracks) number) moof.bytes h in
-      let m = held_at moof.bytes at in
+      let f = fragment_here (context at (Some tracks) number) moof.bytes h in
+      let m = moof_at moof.bytes at in
       let whole : IsWhole moof.bytes = (moof.header, s.2.one.payload, s.2.one.is) in
       let good = first_none (place_fault f.payload (moof_runs m tracks)) (room_fault cut m (moof_runs m tracks) number) s.4 in
       subst (IndexesAreTrue cut (context to (Some us) now)) (append-nil _)

@@ -4,10 +4,10 @@ use Rattle.std.specs.Prelude.{drop, option_map}
 use Rattle.mp4_init.specs.declared.table.Track.{Track}
 use Rattle.mp4_frag.specs.Moofs.{moof_trafs}
 use Rattle.mp4_frag.specs.RunLists.{taken_runs}
-use Rattle.mp4_frag.specs.Runs.{held_at}
+use Rattle.mp4_frag.specs.Runs.{moof_at}
 use Rattle.mp4_pieces.specs.declared.cut.Cut.{Cut}
-use Rattle.mp4_items.specs.Contexts.{Context, context}
-use Rattle.mp4_items.specs.Joined.{AreSound, IsSound, Item, Movie, MovieFragment, OneBox, PassedOver, behind_item, behind_items, fragment_in, joined}
+use Rattle.mp4_grammar.specs.Contexts.{Context, context}
+use Rattle.mp4_grammar.specs.Joined.{AreSound, IsSound, Item, Movie, MovieFragment, OneBox, PassedOver, context_after, context_after_all, fragment_in, joined}
 use Rattle.mp4_recut_laws.specs.PieceItems.{without_ends}
 use Rattle.mp4_recut_laws.specs.Premises.{CanAllBeRecut, CanBeRecut, RecutAgrees, SameButEnds}
 use Rattle.mp4_recut_laws.specs.RecutItems.{item_recut, items_recut, kept_items, without_index}
@@ -25,7 +25,7 @@ pub record ItemAgrees (cut : Cut) (c d : Context) (i : Item) (now : List Item) :
   pub sound : AreSound (splitting (without_index cut)) d now
   pub text : items_text (without_index cut) d now ≡ item_text (without_index cut) c i
   pub same : items_samples (without_index cut) d now ≡ item_samples c i
-  pub same_tracks : SameButEnds (behind_item (splitting cut) c i) (behind_items (splitting (without_index cut)) d now)
+  pub same_tracks : SameButEnds (context_after (splitting cut) c i) (context_after_all (splitting (without_index cut)) d now)
   pub join : joined now ≡ item_text cut c i
 
 none_back : (o : Option (List Track)) → option_map without_ends o ≡ None → o ≡ None
@@ -68,7 +68,7 @@ fragment_by cut at number (Some tracks) to now (Some us) moof mdat n e s fine =
     let c = context at (Some tracks) number in
     let f = fragment_in c moof mdat in
     let payload = drop mdat.header.header_len mdat.bytes in
-    let h = held_at moof.bytes at in
+    let h = moof_at moof.bytes at in
     let again = fragment_recut cut at number tracks moof mdat s fine.0 fine.1 fine.2 fine.3 to us (some_same (without_ends us) (without_ends tracks) e) in
     let given = fragment_runs cut at number tracks moof mdat s fine.0 fine.1 fine.2 fine.3 in
     let count = fragment_count cut at number tracks moof mdat s fine.0 fine.1 fine.2 fine.3 in
@@ -90,21 +90,21 @@ one_item cut c d (MovieFragment moof mdat) a s fine = fragment_by cut c.at c.num
 
 -- ---- all items
 
-pub sound_join : (cut : Cut) (c : Context) (xs ys : List Item) → AreSound (splitting cut) c xs → AreSound (splitting cut) (behind_items (splitting cut) c xs) ys → AreSound (splitting cut) c (xs ++ ys)
+pub sound_join : (cut : Cut) (c : Context) (xs ys : List Item) → AreSound (splitting cut) c xs → AreSound (splitting cut) (context_after_all (splitting cut) c xs) ys → AreSound (splitting cut) c (xs ++ ys)
 sound_join cut c [] ys p q = q
-sound_join cut c (x ∷ xs) ys p q = (p.0, sound_join cut (behind_item (splitting cut) c x) xs ys p.1 q)
+sound_join cut c (x ∷ xs) ys p q = (p.0, sound_join cut (context_after (splitting cut) c x) xs ys p.1 q)
 
-pub text_join : (cut : Cut) (c : Context) (xs ys : List Item) → items_text cut c (xs ++ ys) ≡ items_text cut c xs ++ items_text cut (behind_items (splitting cut) c xs) ys
+pub text_join : (cut : Cut) (c : Context) (xs ys : List Item) → items_text cut c (xs ++ ys) ≡ items_text cut c xs ++ items_text cut (context_after_all (splitting cut) c xs) ys
 text_join cut c [] ys = refl
-text_join cut c (x ∷ xs) ys = ap (λ (z : List ℕ). item_text cut c x ++ z) (text_join cut (behind_item (splitting cut) c x) xs ys) ∙ sym (append_assoc (item_text cut c x) _ _)
+text_join cut c (x ∷ xs) ys = ap (λ (z : List ℕ). item_text cut c x ++ z) (text_join cut (context_after (splitting cut) c x) xs ys) ∙ sym (append_assoc (item_text cut c x) _ _)
 
-pub behind_join : (cut : Cut) (c : Context) (xs ys : List Item) → behind_items (splitting cut) c (xs ++ ys) ≡ behind_items (splitting cut) (behind_items (splitting cut) c xs) ys
+pub behind_join : (cut : Cut) (c : Context) (xs ys : List Item) → context_after_all (splitting cut) c (xs ++ ys) ≡ context_after_all (splitting cut) (context_after_all (splitting cut) c xs) ys
 behind_join cut c [] ys = refl
-behind_join cut c (x ∷ xs) ys = behind_join cut (behind_item (splitting cut) c x) xs ys
+behind_join cut c (x ∷ xs) ys = behind_join cut (context_after (splitting cut) c x) xs ys
 
-pub samples_join : (cut : Cut) (c : Context) (xs ys : List Item) → items_samples cut c (xs ++ ys) ≡ items_samples cut c xs ++ items_samples cut (behind_items (splitting cut) c xs) ys
+pub samples_join : (cut : Cut) (c : Context) (xs ys : List Item) → items_samples cut c (xs ++ ys) ≡ items_samples cut c xs ++ items_samples cut (context_after_all (splitting cut) c xs) ys
 samples_join cut c [] ys = refl
-samples_join cut c (x ∷ xs) ys = ap (λ (z : List MediaSample). item_samples c x ++ z) (samples_join cut (behind_item (splitting cut) c x) xs ys) ∙ sym (append_assoc (item_samples c x) _ _)
+samples_join cut c (x ∷ xs) ys = ap (λ (z : List MediaSample). item_samples c x ++ z) (samples_join cut (context_after (splitting cut) c x) xs ys) ∙ sym (append_assoc (item_samples c x) _ _)
 
 pub same_bytes : (a b c d : List ℕ) → a ≡ b → c ≡ d → a ++ c ≡ b ++ d
 same_bytes a b c d p q = ap (λ (x : List ℕ). x ++ c) p ∙ ap (λ (y : List ℕ). b ++ y) q
@@ -116,18 +116,18 @@ pub items_agree : (cut : Cut) (c d : Context) (is : List Item) → SameButEnds c
 items_agree cut c d [] a s fine = record { sound = tt; text = refl; same = refl; same_tracks = a }
 items_agree cut c d (i ∷ is) a s fine =
     let now = item_recut cut c i in
-    let more = items_recut cut (behind_item (splitting cut) c i) is in
+    let more = items_recut cut (context_after (splitting cut) c i) is in
     let one = one_item cut c d i a s.0 fine.0 in
-    let rest = items_agree cut (behind_item (splitting cut) c i) (behind_items (splitting (without_index cut)) d now) is one.same_tracks s.1 fine.1 in
+    let rest = items_agree cut (context_after (splitting cut) c i) (context_after_all (splitting (without_index cut)) d now) is one.same_tracks s.1 fine.1 in
     record {
       sound = sound_join (without_index cut) d now more one.sound rest.sound;
       text = text_join (without_index cut) d now more ∙ same_bytes _ _ _ _ one.text rest.text;
       same = samples_join (without_index cut) d now more ∙ same_samples _ _ _ _ one.same rest.same;
-      same_tracks = subst (λ (x : Context). SameButEnds (behind_items (splitting cut) (behind_item (splitting cut) c i) is) x) (sym (behind_join (without_index cut) d now more)) rest.same_tracks;
+      same_tracks = subst (λ (x : Context). SameButEnds (context_after_all (splitting cut) (context_after (splitting cut) c i) is) x) (sym (behind_join (without_index cut) d now more)) rest.same_tracks;
     }
 
 pub items_joined : (cut : Cut) (c : Context) (is : List Item) → AreSound (splitting cut) c is → CanAllBeRecut cut c is → joined (items_recut cut c is) ≡ items_text cut c is
 items_joined cut c [] s fine = refl
 items_joined cut c (i ∷ is) s fine =
     let one = one_item cut c c i (record { number = refl; tracks = refl }) s.0 fine.0 in
-    joined_append (item_recut cut c i) (items_recut cut (behind_item (splitting cut) c i) is) ∙ same_bytes _ _ _ _ one.join (items_joined cut (behind_item (splitting cut) c i) is s.1 fine.1)
+    joined_append (item_recut cut c i) (items_recut cut (context_after (splitting cut) c i) is) ∙ same_bytes _ _ _ _ one.join (items_joined cut (context_after (splitting cut) c i) is s.1 fine.1)

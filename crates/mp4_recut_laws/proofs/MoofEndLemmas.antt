@@ -10,9 +10,9 @@ use Rattle.mp4_pieces.specs.Pieces.{pieces_of}
 use Rattle.mp4_cut.specs.Mdat.{mdat_header}
 use Rattle.mp4_cut.specs.Moof.{written_moof}
 use Rattle.mp4_cut.specs.Sidx.{written_index}
-use Rattle.mp4_reading.specs.Readings.{moved, moved_by}
-use Rattle.mp4_reading.specs.declared.mark.Mark.{Mark}
-use Rattle.mp4_items.specs.Joined.{Item, Movie, MovieFragment, OneBox, PassedOver, bytes_of, joined}
+use Rattle.mp4_machine.specs.Readings.{moved, moved_by}
+use Rattle.mp4_machine.specs.declared.mark.Mark.{Mark}
+use Rattle.mp4_grammar.specs.Joined.{Item, Movie, MovieFragment, OneBox, PassedOver, bytes_of, joined}
 use Rattle.mp4_recut.specs.Parts.{Part, marks_in, slices}
 use Rattle.mp4_recut.specs.Splitting.{head_of, index_of, next_group, run_parts, runs_parts, timescale_of}
 use Rattle.mp4_recut.specs.Texts.{media_of}

@@ -9,18 +9,18 @@ use Rattle.mp4_frag.specs.declared.run.Run.{Run}
 use Rattle.mp4_frag.specs.Moofs.{moof_runs}
 use Rattle.mp4_frag.specs.Places.{place_fault}
 use Rattle.mp4_frag.specs.RunLists.{taken_runs}
-use Rattle.mp4_frag.specs.Runs.{held_at}
+use Rattle.mp4_frag.specs.Runs.{moof_at}
 use Rattle.mp4_pieces.specs.declared.cut.Cut.{Cut}
 use Rattle.mp4_pieces.specs.declared.piece.Piece.{Piece}
 use Rattle.mp4_pieces.specs.Pieces.{pieces_of}
 use Rattle.mp4_pieces.specs.Rooms.{room_fault}
 use Rattle.mp4_cut.specs.Reads.{FitsTrack}
-use Rattle.mp4_reading.specs.Readings.{Reading, Told, both, moved, whole_in}
-use Rattle.mp4_reading.specs.declared.mark.Mark.{Mark}
-use Rattle.mp4_reading.proofs.BodyLemmas.{nat_lt_false}
-use Rattle.mp4_items.specs.Contexts.{Context, context, first_context}
-use Rattle.mp4_items.specs.Joined.{AreSound, IsSound, Item, Movie, MovieFragment, OneBox, PassedOver, behind_item, behind_items, bytes_of, fragment_in, fragment_of, joined, told_item, told_items, tracks_in}
-use Rattle.mp4_items.specs.Makings.{Fragment, runs_in}
+use Rattle.mp4_machine.specs.Readings.{Reading, Effects, both, moved, whole_in}
+use Rattle.mp4_machine.specs.declared.mark.Mark.{Mark}
+use Rattle.mp4_machine.proofs.BodyLemmas.{nat_lt_false}
+use Rattle.mp4_grammar.specs.Contexts.{Context, context, first_context}
+use Rattle.mp4_grammar.specs.Joined.{AreSound, IsSound, Item, Movie, MovieFragment, OneBox, PassedOver, context_after, context_after_all, bytes_of, fragment_in, fragment_here, joined, item_effects, items_effects, tracks_in}
+use Rattle.mp4_grammar.specs.Meanings.{Fragment, runs_in}
 use Rattle.mp4_recut.specs.Parts.{Ascends, marks_in, played}
 use Rattle.mp4_recut.specs.Splitting.{copied, is_dropped, parts_of, reading, splitting}
 use Rattle.mp4_recut.specs.Texts.{items_text, media_of}
@@ -41,7 +41,7 @@ use Rattle.mp4_recut_laws.proofs.StreamLemmas.{behind_at, laws}
 use Rattle.mp4_recut_laws.proofs.TextLemmas.{long_run}
 
 -- what is told has just these marks, and counts as many fragments
-record HasMarks (t : Told) (marks : List Mark) : Type 0 where
+record HasMarks (t : Effects) (marks : List Mark) : Type 0 where
   is : t.marks ≡ marks
   counted : t.tally.fragments ≡ length marks
 
@@ -59,12 +59,12 @@ media-marks cut f payload up given =
     let all = played-slices f.payload.start payload parts up in
     let ends = runs-ends cut f.moof.bytes f.payload.start payload f.tracks f.number (runs_in f) (all-long cut f.moof.bytes f.payload.start payload f.tracks (runs_in f) given) in
     record {
-      is = ap (λ (t : Told). t.marks) all ∙ ends;
-      counted = ap (λ (t : Told). t.tally.fragments) all ∙ sym (length-marks cut f.moof.bytes f.payload.start payload parts) ∙ ap length ends;
+      is = ap (λ (t : Effects). t.marks) all ∙ ends;
+      counted = ap (λ (t : Effects). t.tally.fragments) all ∙ sym (length-marks cut f.moof.bytes f.payload.start payload parts) ∙ ap length ends;
     }
 
 -- the same behind what is asked and counted before
-behind-moof : (t : Told) (marks : List Mark) (k : ℕ) → HasMarks t marks → k ≡ t.tally.fragments → (moved 0 (moved 0 t.marks) ≡ marks) × (k ≡ length marks)
+behind-moof : (t : Effects) (marks : List Mark) (k : ℕ) → HasMarks t marks → k ≡ t.tally.fragments → (moved 0 (moved 0 t.marks) ≡ marks) × (k ≡ length marks)
 behind-moof t marks k h e = (moved-none (moved 0 t.marks) ∙ moved-none t.marks ∙ h.is, e ∙ h.counted)
 
 -- ---- items
@@ -81,20 +81,20 @@ nothing_known : {X : Type 0} → ◌≡◌ {A = Option (List Track)} None (Some 
 nothing_known e = absurd cc
 
 fragment-marks : (cut : Cut) (at number : ℕ) (o : Option (List Track)) (moof mdat : OneBox) → IsSound (splitting cut) (context at o number) (MovieFragment moof mdat) → CanBeRecut (context at o number) (MovieFragment moof mdat)
-    → HasMarks (told_item (splitting cut) (context at o number) (MovieFragment moof mdat)) (moof_ends 0 number (item_recut cut (context at o number) (MovieFragment moof mdat)))
+    → HasMarks (item_effects (splitting cut) (context at o number) (MovieFragment moof mdat)) (moof_ends 0 number (item_recut cut (context at o number) (MovieFragment moof mdat)))
 fragment-marks cut at number None moof mdat s fine = nothing_known s.0.known
 fragment-marks cut at number (Some tracks) moof mdat s fine =
     let f = fragment_in (context at (Some tracks) number) moof mdat in
-    let h = held_at moof.bytes at in
+    let h = moof_at moof.bytes at in
     let payload = drop mdat.header.header_len mdat.bytes in
     let good = first_none (place_fault f.payload (moof_runs h tracks)) (room_fault cut h (moof_runs h tracks) number) s.3 in
     let given = fragment_runs cut at number tracks moof mdat s fine.0 fine.1 fine.2 fine.3 in
     let media = media-marks cut f payload (parts_ascend cut h tracks number f.payload.start payload f.payload fine.0 good.0 given) given in
-    let told = played f.payload.start (parts_of cut f) payload in
-    let both = behind-moof told _ (0 + (0 + 0) + (0 + told.tally.fragments)) media (omega arith) in
+    let effects = played f.payload.start (parts_of cut f) payload in
+    let both = behind-moof effects _ (0 + (0 + 0) + (0 + effects.tally.fragments)) media (omega arith) in
     record { is = both.0; counted = both.1 }
 
-item-marks : (cut : Cut) (c : Context) (i : Item) → IsSound (splitting cut) c i → CanBeRecut c i → HasMarks (told_item (splitting cut) c i) (moof_ends 0 c.number (item_recut cut c i))
+item-marks : (cut : Cut) (c : Context) (i : Item) → IsSound (splitting cut) c i → CanBeRecut c i → HasMarks (item_effects (splitting cut) c i) (moof_ends 0 c.number (item_recut cut c i))
 item-marks cut c (PassedOver b) s fine =
     let t = is_dropped b.header.kind.0 in
     let copy = copied-marks t b.bytes in
@@ -104,7 +104,7 @@ item-marks cut c (MovieFragment moof mdat) s fine = fragment-marks cut c.at c.nu
 
 -- how many numbers an item takes
 fragment-number : (cut : Cut) (at number : ℕ) (o : Option (List Track)) (moof mdat : OneBox) → IsSound (splitting cut) (context at o number) (MovieFragment moof mdat) → CanBeRecut (context at o number) (MovieFragment moof mdat)
-    → (behind_item (splitting cut) (context at o number) (MovieFragment moof mdat)).number ≡ number + length (moof_ends 0 number (item_recut cut (context at o number) (MovieFragment moof mdat)))
+    → (context_after (splitting cut) (context at o number) (MovieFragment moof mdat)).number ≡ number + length (moof_ends 0 number (item_recut cut (context at o number) (MovieFragment moof mdat)))
 fragment-number cut at number None moof mdat s fine = nothing_known s.0.known
 fragment-number cut at number (Some tracks) moof mdat s fine =
     let f = fragment_in (context at (Some tracks) number) moof mdat in
@@ -113,13 +113,13 @@ fragment-number cut at number (Some tracks) moof mdat s fine =
     let ends = runs-ends cut f.moof.bytes f.payload.start payload tracks number (runs_in f) (all-long cut f.moof.bytes f.payload.start payload tracks (runs_in f) given) in
     omega (arith, runs_length cut f.moof.bytes tracks number (runs_in f), length-marks cut f.moof.bytes f.payload.start payload (parts_of cut f), ap length ends)
 
-item-number : (cut : Cut) (c : Context) (i : Item) → IsSound (splitting cut) c i → CanBeRecut c i → (behind_item (splitting cut) c i).number ≡ c.number + length (moof_ends 0 c.number (item_recut cut c i))
+item-number : (cut : Cut) (c : Context) (i : Item) → IsSound (splitting cut) c i → CanBeRecut c i → (context_after (splitting cut) c i).number ≡ c.number + length (moof_ends 0 c.number (item_recut cut c i))
 item-number cut c (PassedOver b) s fine = omega (arith, ap length (kept-none c.number (is_dropped b.header.kind.0) b))
 item-number cut c (Movie b) s fine = omega arith
 item-number cut c (MovieFragment moof mdat) s fine = fragment-number cut c.at c.number c.tracks moof mdat s fine
 
 -- what is told of one after the other
-both-marks : (s t : Told) (n k : ℕ) (xs ys : List Item) → HasMarks s (moof_ends 0 n xs) → HasMarks t (moof_ends 0 k ys) → length s.text ≡ length (joined xs) → k ≡ n + length (moof_ends 0 n xs)
+both-marks : (s t : Effects) (n k : ℕ) (xs ys : List Item) → HasMarks s (moof_ends 0 n xs) → HasMarks t (moof_ends 0 k ys) → length s.text ≡ length (joined xs) → k ≡ n + length (moof_ends 0 n xs)
     → HasMarks (both s t) (moof_ends 0 n (xs ++ ys))
 both-marks s t n k xs ys p q len next =
     let a = length s.text in
@@ -132,19 +132,19 @@ both-marks s t n k xs ys p q len next =
       counted = omega (arith, p.counted, q.counted, ap length p.is, ap length q.is, length-append s.marks (moved a t.marks), length-moved a t.marks, ap length ends);
     }
 
-items-marks : (cut : Cut) (c : Context) (is : List Item) → AreSound (splitting cut) c is → CanAllBeRecut cut c is → HasMarks (told_items (splitting cut) c is) (moof_ends 0 c.number (items_recut cut c is))
+items-marks : (cut : Cut) (c : Context) (is : List Item) → AreSound (splitting cut) c is → CanAllBeRecut cut c is → HasMarks (items_effects (splitting cut) c is) (moof_ends 0 c.number (items_recut cut c is))
 items-marks cut c [] s fine = record { is = refl; counted = refl }
 items-marks cut c (i ∷ is) s fine =
-    let next = behind_item (splitting cut) c i in
-    both-marks (told_item (splitting cut) c i) (told_items (splitting cut) next is) c.number next.number (item_recut cut c i) (items_recut cut next is)
+    let next = context_after (splitting cut) c i in
+    both-marks (item_effects (splitting cut) c i) (items_effects (splitting cut) next is) c.number next.number (item_recut cut c i) (items_recut cut next is)
     (item-marks cut c i s.0 fine.0) (items-marks cut next is s.1 fine.1)
     (ap length (item_told cut c i s.0 fine.0 ∙ sym (one_item cut c c i (record { number = refl; tracks = refl }) s.0 fine.0).join))
     (item-number cut c i s.0 fine.0)
 
-items-number : (cut : Cut) (c : Context) (is : List Item) → AreSound (splitting cut) c is → CanAllBeRecut cut c is → (behind_items (splitting cut) c is).number ≡ c.number + length (moof_ends 0 c.number (items_recut cut c is))
+items-number : (cut : Cut) (c : Context) (is : List Item) → AreSound (splitting cut) c is → CanAllBeRecut cut c is → (context_after_all (splitting cut) c is).number ≡ c.number + length (moof_ends 0 c.number (items_recut cut c is))
 items-number cut c [] s fine = omega arith
 items-number cut c (i ∷ is) s fine =
-    let next = behind_item (splitting cut) c i in
+    let next = context_after (splitting cut) c i in
     let xs = item_recut cut c i in
     let ys = items_recut cut next is in
     let here = item-number cut c i s.0 fine.0 in
@@ -156,20 +156,20 @@ items-number cut c (i ∷ is) s fine =
 -- ---- the ending
 
 open-marks : (cut : Cut) (at number : ℕ) (o : Option (List Track)) (moof : OneBox) (h : Header) (head more : List ℕ) → IsSoundEnding (splitting cut) (context at o number) (OpenFragment moof h head more) → IsBytes moof.bytes → at + length moof.bytes + length more ≤ 2 ^ 62 → number ≤ 2 ^ 32 → AllByRecursion FitsTrack (tracks_in (context at o number))
-    → HasMarks (ended (splitting cut) (context at o number) (OpenFragment moof h head more)).told (moof_ends 0 number (ending_items cut (context at o number) (OpenFragment moof h head more)))
+    → HasMarks (ended (splitting cut) (context at o number) (OpenFragment moof h head more)).effects (moof_ends 0 number (ending_items cut (context at o number) (OpenFragment moof h head more)))
 open-marks cut at number None moof h head more s held room low fit = nothing_known s.2.known
 open-marks cut at number (Some tracks) moof h head more s held room low fit =
-    let f = fragment_of (context at (Some tracks) number) moof.bytes h in
-    let m = held_at moof.bytes at in
+    let f = fragment_here (context at (Some tracks) number) moof.bytes h in
+    let m = moof_at moof.bytes at in
     let whole : IsWhole moof.bytes = (moof.header, s.2.one.payload, s.2.one.is) in
     let good = first_none (place_fault f.payload (moof_runs m tracks)) (room_fault cut m (moof_runs m tracks) number) s.4 in
     let given = open_runs cut at number tracks moof.bytes more h s.1.1 whole held room fit low s.3 s.4 s.5 in
     let media = media-marks cut f more (parts_ascend cut m tracks number f.payload.start more f.payload held good.0 given) given in
-    let told = played f.payload.start (parts_of cut f) more in
-    let both = behind-moof told _ (0 + (0 + 0) + (0 + told.tally.fragments)) media (omega arith) in
+    let effects = played f.payload.start (parts_of cut f) more in
+    let both = behind-moof effects _ (0 + (0 + 0) + (0 + effects.tally.fragments)) media (omega arith) in
     record { is = both.0; counted = both.1 }
 
-ending-marks : (cut : Cut) (c : Context) (e : Ending) → IsSoundEnding (splitting cut) c e → IsBytes (ending_bytes e) → c.at + length (ending_bytes e) ≤ 2 ^ 62 → c.number ≤ 2 ^ 32 → AllByRecursion FitsTrack (tracks_in c) → HasMarks (ended (splitting cut) c e).told (moof_ends 0 c.number (ending_items cut c e))
+ending-marks : (cut : Cut) (c : Context) (e : Ending) → IsSoundEnding (splitting cut) c e → IsBytes (ending_bytes e) → c.at + length (ending_bytes e) ≤ 2 ^ 62 → c.number ≤ 2 ^ 32 → AllByRecursion FitsTrack (tracks_in c) → HasMarks (ended (splitting cut) c e).effects (moof_ends 0 c.number (ending_items cut c e))
 ending-marks cut c NothingMore s held room low fit = record { is = refl; counted = refl }
 ending-marks cut c (OpenBox h head more) s held room low fit = copied-marks (is_dropped h.kind.0) (head ++ more)
 ending-marks cut c (OpenFragment moof h head more) s held room low fit =
@@ -194,13 +194,13 @@ whole-ends (MovieFragment moof mdat ∷ is) at before k =
     (ap (λ (m : ℕ). whole_in m (before + 1) (moof_ends at' (before + 1 + 1) is)) e ∙ whole-ends is at' (before + 1) k ∙ omega arith)
 
 pub record TellsMoofs (cut : Cut) (s : Stream) : Type 0 where
-  pub marks : (reading cut (stream_bytes s)).told.marks ≡ moof_ends 0 1 (recut cut s).items
-  pub counted : (reading cut (stream_bytes s)).told.tally.fragments ≡ length (moof_ends 0 1 (recut cut s).items)
-  pub whole : (n : ℕ) → whole_in (length (stream_text cut s) + n) 0 (reading cut (stream_bytes s)).told.marks ≡ length (moof_ends 0 1 (recut cut s).items)
+  pub marks : (reading cut (stream_bytes s)).effects.marks ≡ moof_ends 0 1 (recut cut s).items
+  pub counted : (reading cut (stream_bytes s)).effects.tally.fragments ≡ length (moof_ends 0 1 (recut cut s).items)
+  pub whole : (n : ℕ) → whole_in (length (stream_text cut s) + n) 0 (reading cut (stream_bytes s)).effects.marks ≡ length (moof_ends 0 1 (recut cut s).items)
 
 pub moofs_are_told : (cut : Cut) (s : Stream) → IsSoundStream cut s → TellsMoofs cut s
 moofs_are_told cut s is =
-    let make = splitting cut in
+    let meaning = splitting cut in
     let c = ending_context cut s in
     let e = ending_bytes s.ending in
     let len = length-append (joined s.items) e in
@@ -208,22 +208,22 @@ moofs_are_told cut s is =
     let back = bytes_back (joined s.items) e is.bytes in
     let fine = all_can_be_recut cut first_context s.items is.sound front (omega (arith, is.near, len)) (omega arith) tt in
     let good = behind_good cut first_context s.items is.sound front (omega (arith, is.near, len)) (omega arith) tt in
-    let read = stream_reads make s is.sound is.ending back is.near in
+    let read = stream_reads meaning s is.sound is.ending back is.near in
     let all =
-    both-marks (told_items make first_context s.items) (ended make c s.ending).told 1 c.number (items_recut cut first_context s.items) (ending_items cut c s.ending)
+    both-marks (items_effects meaning first_context s.items) (ended meaning c s.ending).effects 1 c.number (items_recut cut first_context s.items) (ending_items cut c s.ending)
     (items-marks cut first_context s.items is.sound fine)
-    (ending-marks cut c s.ending is.ending back (omega (arith, is.near, len, behind_at make first_context s.items)) good.0 good.1)
+    (ending-marks cut c s.ending is.ending back (omega (arith, is.near, len, behind_at meaning first_context s.items)) good.0 good.1)
     (ap length (items_told cut first_context s.items is.sound fine ∙ sym (items_joined cut first_context s.items is.sound fine)))
     (items-number cut first_context s.items is.sound fine) in
-    let marks = ap (λ (r : Reading). r.told.marks) read ∙ all.is in
+    let marks = ap (λ (r : Reading). r.effects.marks) read ∙ all.is in
     let items = (recut cut s).items in
     let rest = ending_bytes (recut cut s).ending in
     record {
       marks = marks;
       whole = λ n.
           let k : length (stream_text cut s) + n ≡ 0 + length (joined items) + (length rest + n) = omega (arith, ap length (laws cut s is).join, length-append (joined items) rest) in
-          ap (λ (m : ℕ). whole_in m 0 (reading cut (stream_bytes s)).told.marks) k
+          ap (λ (m : ℕ). whole_in m 0 (reading cut (stream_bytes s)).effects.marks) k
           ∙ ap (whole_in (0 + length (joined items) + (length rest + n)) 0) marks
           ∙ whole-ends items 0 0 (length rest + n) ∙ omega arith;
-      counted = ap (λ (r : Reading). r.told.tally.fragments) read ∙ all.counted;
+      counted = ap (λ (r : Reading). r.effects.tally.fragments) read ∙ all.counted;
     }

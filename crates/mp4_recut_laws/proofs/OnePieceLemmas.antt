@@ -14,7 +14,7 @@ use Rattle.mp4_frag.specs.Laws.{first_cursor}
 use Rattle.mp4_frag.specs.Moofs.{moof_runs}
 use Rattle.mp4_frag.specs.Rows.{rows_of, durations, sizes}
 use Rattle.mp4_frag.specs.Places.{place_fault}
-use Rattle.mp4_frag.specs.Runs.{Held}
+use Rattle.mp4_frag.specs.Runs.{MoofBytes}
 use Rattle.mp4_frag.specs.Settling.{with_end}
 use Rattle.mp4_run_order.specs.declared.runs.Payload.{Payload}
 use Rattle.mp4_pieces.specs.declared.cut.Cut.{Cut}
@@ -30,17 +30,17 @@ use Rattle.mp4_pieces.proofs.FitsLemmas.{room_to}
 use Rattle.mp4_box.specs.Order.{least}
 use Rattle.mp4_box.specs.Order as order
 use Rattle.mp4_cut.specs.Mdat.{mdat_header}
-use Rattle.mp4_cut.specs.Moof.{Fragment, data_offset, in_moof, moof_box, fragment_of}
+use Rattle.mp4_cut.specs.Moof.{WrittenFragment, data_offset, in_moof, moof_box, written_fragment}
 use Rattle.mp4_cut.specs.Reads.{FitsFields, IsReadAs, Tells, header_of, held_moof, media_of}
 use Rattle.mp4_cut.specs.Sidx.{natural}
 use Rattle.mp4_cut.proofs.BoxLemmas.{is_box}
 use Rattle.mp4_cut.proofs.MoofLemmas.{length_in_moof, length_moof, short_moof}
 use Rattle.mp4_cut.proofs.ReadLemmas.{fragment_again, is_read_as, length_mdat, mdat_is_box}
-use Rattle.mp4_items.specs.Contexts.{Context, context}
-use Rattle.mp4_items.specs.declared.kinds.Kind.TheVariants.{Moof, Mdat}
-use Rattle.mp4_items.specs.Joined.{IsOne, bytes_of, fragment_in}
-use Rattle.mp4_items.specs.Kinds.{kind_in}
-use Rattle.mp4_items.specs.Makings.{fragment_fault, runs_in}
+use Rattle.mp4_grammar.specs.Contexts.{Context, context}
+use Rattle.mp4_grammar.specs.declared.kinds.Kind.TheVariants.{Moof, Mdat}
+use Rattle.mp4_grammar.specs.Joined.{IsOne, bytes_of, fragment_in}
+use Rattle.mp4_grammar.specs.Kinds.{kind_in}
+use Rattle.mp4_grammar.specs.Meanings.{fragment_fault, runs_in}
 use Rattle.mp4_recut_laws.specs.PieceItems.{IsOnePiece, IsOwnRecut, mdat_as_box, moof_as_box, piece_item}
 use Rattle.std.specs.List.{flat_map}
 use Rattle.mp4_recut_laws.specs.MediaSamples.{item_samples, media_samples_from, media_samples_in, media_samples_of_run}
@@ -50,7 +50,7 @@ use Rattle.mp4_recut.specs.Texts.{fragment_text, item_text}
 
 -- ---- the boxes
 
-pub moof_is : (f : Fragment) (number : ℕ) → FitsFields f → IsOne Moof (moof_as_box f number)
+pub moof_is : (f : WrittenFragment) (number : ℕ) → FitsFields f → IsOne Moof (moof_as_box f number)
 unfolding kind_in moof_box
 moof_is f number fits = record {
   type = refl;
@@ -69,7 +69,7 @@ one_piece cut [] some e = absurd (omega arith)
 one_piece cut (x ∷ rows) some e = piece_again (fits cut) x rows (is_limit cut) e
 
 -- the run of a moof that was written has one piece
-pub its_piece : (cut : Cut) (f : Fragment) (h : Held) (run : Run) → Tells f h run → 0 < length f.rows → fits cut f.rows ≡ true → pieces_of cut h.bytes run ≡ piece_at (first_cursor run) f.rows ∷ []
+pub its_piece : (cut : Cut) (f : WrittenFragment) (h : MoofBytes) (run : Run) → Tells f h run → 0 < length f.rows → fits cut f.rows ≡ true → pieces_of cut h.bytes run ≡ piece_at (first_cursor run) f.rows ∷ []
 unfolding pieces_at
 its_piece cut f h run t some e =
     ap (λ (rows : List Row). pieces_at (first_cursor run) (cut_rows cut rows)) t.rows ∙ ap (pieces_at (first_cursor run)) (one_piece cut f.rows some e)
@@ -78,7 +78,7 @@ pub its_count : (cut : Cut) (held : List ℕ) (run : Run) (p : Piece) → pieces
 its_count cut held run p e = omega (arith, ap (λ (ps : List Piece). length ps) e)
 
 -- it has room for its number
-pub has_room : (cut : Cut) (h : Held) (run : Run) (p : Piece) (number : ℕ) → cut.index ≡ false → number < 2 ^ 32 → pieces_of cut h.bytes run ≡ p ∷ [] → room_fault cut h (run ∷ []) number ≡ None
+pub has_room : (cut : Cut) (h : MoofBytes) (run : Run) (p : Piece) (number : ℕ) → cut.index ≡ false → number < 2 ^ 32 → pieces_of cut h.bytes run ≡ p ∷ [] → room_fault cut h (run ∷ []) number ≡ None
 unfolding order.least_from
 has_room cut h run p number none small e =
     ap least (room_to cut h (run ∷ []) number (record {
@@ -94,7 +94,7 @@ pay start end = record { start = start; end = end }
 same_pay : (a b c d : ℕ) → a ≡ b → c ≡ d → pay a (Some c) ≡ pay b (Some d)
 same_pay a b c d p q = cc
 
-payload_is : (at number : ℕ) (tracks : List Track) (f : Fragment) (media : List ℕ) → length media ≡ sizes f.rows
+payload_is : (at number : ℕ) (tracks : List Track) (f : WrittenFragment) (media : List ℕ) → length media ≡ sizes f.rows
     → (fragment_in (context at (Some tracks) number) (moof_as_box f number) (mdat_as_box media)).payload ≡ media_of f (held_moof f number at)
 unfolding pay
 payload_is at number tracks f media all =
@@ -104,7 +104,7 @@ payload_is at number tracks f media all =
 good_by : (a b : Option Fault) → a ≡ None → b ≡ None → option_or a b ≡ None
 good_by a b p q = rw (p, q) refl
 
-is_good : (cut : Cut) (at number : ℕ) (tracks : List Track) (f : Fragment) (media : List ℕ) → cut.index ≡ false → number < 2 ^ 32 → IsOnePiece cut tracks f media → (r : IsReadAs tracks f (held_moof f number at))
+is_good : (cut : Cut) (at number : ℕ) (tracks : List Track) (f : WrittenFragment) (media : List ℕ) → cut.index ≡ false → number < 2 ^ 32 → IsOnePiece cut tracks f media → (r : IsReadAs tracks f (held_moof f number at))
     → fragment_fault (splitting cut) (fragment_in (context at (Some tracks) number) (moof_as_box f number) (mdat_as_box media)) ≡ None
 is_good cut at number tracks f media none small one r =
     let h = held_moof f number at in
@@ -126,12 +126,12 @@ tidy : (a b c : List ℕ) → (((a ++ b) ++ (c ++ [])) ++ []) ++ [] ≡ a ++ (b 
 tidy a b c = append-nil (((a ++ b) ++ (c ++ [])) ++ []) ∙ (append-nil ((a ++ b) ++ (c ++ [])) ∙ (ap (λ (x : List ℕ). (a ++ b) ++ x) (append-nil c) ∙ append_assoc a b c))
 
 -- the text of one piece
-piece_text : (cut : Cut) (f : Fragment) (h : Held) (run : Run) (start number timescale : ℕ) (media : List ℕ) → cut.index ≡ false → Tells f h run → start ≡ h.offset + data_offset f.rows → length media ≡ sizes f.rows → pieces_of cut h.bytes run ≡ piece_at (first_cursor run) f.rows ∷ []
+piece_text : (cut : Cut) (f : WrittenFragment) (h : MoofBytes) (run : Run) (start number timescale : ℕ) (media : List ℕ) → cut.index ≡ false → Tells f h run → start ≡ h.offset + data_offset f.rows → length media ≡ sizes f.rows → pieces_of cut h.bytes run ≡ piece_at (first_cursor run) f.rows ∷ []
     → texts.groups_text cut h.bytes start media run timescale number (groups (pieces_of cut h.bytes run)) ++ [] ≡ moof_box f number ++ (mdat_header (length media) ++ media)
 unfolding piece_at
 piece_text cut f h run start number timescale media none t s all e =
     let p = piece_at (first_cursor run) f.rows in
-    let moof_same : moof_box (fragment_of h.bytes run p) number ≡ moof_box f number = ap (λ (g : Fragment). moof_box g number) (fragment_again f h run t) in
+    let moof_same : moof_box (written_fragment h.bytes run p) number ≡ moof_box f number = ap (λ (g : WrittenFragment). moof_box g number) (fragment_again f h run t) in
     let here : natural run.place - start ≡ 0 = place_back run f.rows (h.offset + data_offset f.rows) start t.place s in
     let back : take (sizes f.rows) (drop (natural run.place - start) media) ≡ media = ap (λ (n : ℕ). take (sizes f.rows) (drop n media)) here ∙ take_all (sizes f.rows) media (omega (arith, all)) in
     ap (λ (ps : List Piece). texts.groups_text cut h.bytes start media run timescale number (groups ps) ++ []) e
@@ -149,7 +149,7 @@ make_context at tracks number = context at (Some tracks) number
 same_context : (a b m n : ℕ) (s t : List Track) → a ≡ b → s ≡ t → m ≡ n → make_context a s m ≡ make_context b t n
 same_context a b m n s t p q r = cc
 
-pub one_recut : (cut : Cut) (at number : ℕ) (tracks : List Track) (f : Fragment) (media : List ℕ) → cut.index ≡ false → number < 2 ^ 32 → IsOnePiece cut tracks f media
+pub one_recut : (cut : Cut) (at number : ℕ) (tracks : List Track) (f : WrittenFragment) (media : List ℕ) → cut.index ≡ false → number < 2 ^ 32 → IsOnePiece cut tracks f media
     → IsOwnRecut cut (context at (Some tracks) number) (piece_item f number media) (context (at + length (bytes_of (piece_item f number media))) (Some (with_end f.track (f.time + durations f.rows) tracks)) (number + 1))
 unfolding make_context
 one_recut cut at number tracks f media none small one =
@@ -182,7 +182,7 @@ one_recut cut at number tracks f media none small one =
 
 -- ---- its samples
 
-pub one_samples : (cut : Cut) (at number : ℕ) (tracks : List Track) (f : Fragment) (media : List ℕ) → IsOnePiece cut tracks f media
+pub one_samples : (cut : Cut) (at number : ℕ) (tracks : List Track) (f : WrittenFragment) (media : List ℕ) → IsOnePiece cut tracks f media
     → item_samples (context at (Some tracks) number) (piece_item f number media) ≡ media_samples_from f.track f.entry f.rows f.time media
 one_samples cut at number tracks f media one =
     let h = held_moof f number at in

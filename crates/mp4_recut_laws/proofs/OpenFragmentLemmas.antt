@@ -17,10 +17,10 @@ use Rattle.mp4_run_order.proofs.OrderLemmas.{taken_permutes}
 use Rattle.mp4_run_order.proofs.RunLemmas.{le_from}
 use Rattle.mp4_frag.specs.declared.run.Run.{Run}
 use Rattle.mp4_frag.specs.Moofs.{IsRead, moof_runs}
-use Rattle.mp4_frag.specs.Places.{misplaced, place_fault}
+use Rattle.mp4_frag.specs.Places.{run_place_fault, place_fault}
 use Rattle.mp4_frag.specs.RunLists.{taken_runs}
-use Rattle.mp4_frag.specs.RunRows.{listed_run}
-use Rattle.mp4_frag.specs.Runs.{Held, end_place, held_at}
+use Rattle.mp4_frag.specs.Places.{listed_run}
+use Rattle.mp4_frag.specs.Runs.{MoofBytes, end_place, moof_at}
 use Rattle.mp4_pieces.specs.declared.cut.Cut.{Cut}
 use Rattle.mp4_pieces.specs.Pieces.{AreRunsOf, IsRunOf}
 use Rattle.mp4_pieces.specs.Rooms.{room_fault}
@@ -29,10 +29,10 @@ use Rattle.mp4_pieces.proofs.OrderLemmas.{count_kept, runs_kept}
 use Rattle.mp4_cut.specs.Reads.{FitsTrack}
 use Rattle.mp4_cut.specs.Reads.{IsSoundRun}
 use Rattle.mp4_cut.proofs.GivenLemmas.{all_sound}
-use Rattle.mp4_items.specs.Contexts.{context}
-use Rattle.mp4_items.specs.Items.{end_of}
-use Rattle.mp4_items.specs.Joined.{IsGood, fragment_of}
-use Rattle.mp4_items.specs.Makings.{Fragment, beyond, needed_in, reach, runs_in}
+use Rattle.mp4_grammar.specs.Contexts.{context}
+use Rattle.mp4_grammar.specs.Items.{end_of}
+use Rattle.mp4_grammar.specs.Joined.{IsGood, fragment_here}
+use Rattle.mp4_grammar.specs.Meanings.{Fragment, beyond, needed_in, reach, runs_in}
 use Rattle.mp4_recut_laws.specs.Premises.{IsRunIn}
 use Rattle.mp4_recut_laws.specs.RecutItems.{AreRecutAnywhere, fragment_items, without_index}
 use Rattle.mp4_recut_laws.specs.MediaSamples.{media_samples_in}
@@ -55,7 +55,7 @@ all_lie start all [] h = tt
 all_lie start all (run ∷ runs) h = (lies_by start all run h.0, all_lie start all runs h.1)
 
 runs_lie : (start : ℕ) (runs : List Run) → place_fault (open_pay start) runs ≡ None → AllByRecursion (λ (run : Run). (run.count ≡ 0) ⊎ (pos start ≤ℤ run.place)) runs
-runs_lie start runs e = all_lie start (map listed_run runs) runs (find_none _ (map listed_run runs) (map_none (λ (run : ListedRun). misplaced run.number) (first_offender (open_pay start) (map listed_run runs)) e))
+runs_lie start runs e = all_lie start (map listed_run runs) runs (find_none _ (map listed_run runs) (map_none (λ (run : ListedRun). run_place_fault run.number) (first_offender (open_pay start) (map listed_run runs)) e))
 
 -- how far they reach
 reach_by : (t : Bool) (n b r : ℕ) (run : Run) → (run.count == 0) ≡ t → cond t r (max b r) ≤ n → ((run.count ≡ 0) ⊎ (b ≤ n)) × (r ≤ n)
@@ -82,12 +82,12 @@ payload_is : (n : ℕ) (h : Header) → h.size ≡ ToEnd → ◌≡◌ {A = Payl
 payload_is n h e = ap (λ (s : Size). record { start = n + h.header_len; end = end_of n s }) e
 
 module _ (cut : Cut) (at number : ℕ) (tracks : List Track) (x more : List ℕ) (h : Header) (is_open : h.size ≡ ToEnd) (whole : IsWhole x) (held : IsBytes x) (room : at + length x + length more ≤ 2 ^ 62) (all : AllByRecursion FitsTrack tracks) (low : number ≤ 4294967296)
-    (read : IsRead (held_at x at) tracks) (good : IsGood (splitting cut) (context at (Some tracks) number) x h) (far : needed_in (fragment_of (context at (Some tracks) number) x h) ≤ length more) where
-  abbrev m : Held
-  m = held_at x at
+    (read : IsRead (moof_at x at) tracks) (good : IsGood (splitting cut) (context at (Some tracks) number) x h) (far : needed_in (fragment_here (context at (Some tracks) number) x h) ≤ length more) where
+  abbrev m : MoofBytes
+  m = moof_at x at
 
   abbrev f : Fragment
-  f = fragment_of (context at (Some tracks) number) x h
+  f = fragment_here (context at (Some tracks) number) x h
 
   abbrev runs : List Run
   runs = moof_runs m tracks

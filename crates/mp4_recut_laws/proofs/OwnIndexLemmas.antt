@@ -13,7 +13,7 @@ use Rattle.mp4_frag.specs.Laws.{first_cursor}
 use Rattle.mp4_frag.specs.Moofs.{moof_runs, moof_trafs}
 use Rattle.mp4_frag.specs.Places.{place_fault}
 use Rattle.mp4_frag.specs.Rows.{sizes}
-use Rattle.mp4_frag.specs.Runs.{Held, held_at}
+use Rattle.mp4_frag.specs.Runs.{MoofBytes, moof_at}
 use Rattle.mp4_pieces.specs.declared.cut.Cut.{Cut}
 use Rattle.mp4_pieces.specs.declared.piece.Piece.{Piece}
 use Rattle.mp4_pieces.specs.Cutting.{join}
@@ -28,13 +28,13 @@ use Rattle.mp4_pieces.specs.Sizes.{mdat_header_size}
 use Rattle.mp4_pieces.proofs.FitsLemmas.{room_from, room_to}
 use Rattle.mp4_pieces.proofs.GroupLemmas.{groups_are}
 use Rattle.mp4_pieces.proofs.PieceLemmas.{pieces_are_of}
-use Rattle.mp4_cut.specs.Moof.{Fragment, fragment_of}
+use Rattle.mp4_cut.specs.Moof.{WrittenFragment, written_fragment}
 use Rattle.mp4_cut.specs.Reads.{Tells, held_moof}
 use Rattle.mp4_cut.proofs.PieceLemmas.{bytes_are, count_is}
 use Rattle.mp4_cut.proofs.ReadLemmas.{is_read_as}
-use Rattle.mp4_items.specs.Contexts.{Context, context}
-use Rattle.mp4_items.specs.Joined.{AreSound, IsGood, IsSound, Item, Movie, MovieFragment, PassedOver, behind_item, behind_items, tracks_in}
-use Rattle.mp4_items.specs.Joined as items
+use Rattle.mp4_grammar.specs.Contexts.{Context, context}
+use Rattle.mp4_grammar.specs.Joined.{AreSound, IsGood, IsSound, Item, Movie, MovieFragment, PassedOver, context_after, context_after_all, tracks_in}
+use Rattle.mp4_grammar.specs.Joined as items
 use Rattle.mp4_recut.specs.Splitting.{splitting, timescale_of}
 use Rattle.mp4_recut_laws.specs.PieceItems.{IsOnePiece, PieceWithMedia, piece_item, piece_with_media, pieces_items, without_ends}
 use Rattle.mp4_recut_laws.specs.Premises.{IsRunIn}
@@ -48,7 +48,7 @@ use Rattle.mp4_recut_laws.proofs.TrackLemmas.{ends_settled, can_still}
 
 -- ---- one piece
 
-its_index : (cut : Cut) (f : Fragment) (h : Held) (run : Run) → Tells f h run → 0 < length f.rows → fits cut f.rows ≡ true → FitsOwnIndex f → FitsIndex (pieces_of cut h.bytes run)
+its_index : (cut : Cut) (f : WrittenFragment) (h : MoofBytes) (run : Run) → Tells f h run → 0 < length f.rows → fits cut f.rows ≡ true → FitsOwnIndex f → FitsIndex (pieces_of cut h.bytes run)
 unfolding piece_specs.piece_at
 its_index cut f h run t some e one =
     let p = piece_at (first_cursor run) f.rows in
@@ -62,7 +62,7 @@ first_nil : {X : Type 0} (xs ys : List X) → xs ++ ys ≡ [] → xs ≡ []
 first_nil [] ys e = refl
 first_nil (x ∷ xs) ys e = absurd cc
 
-no_fault : (cut : Cut) (f : Fragment) (h : Held) (run : Run) → Tells f h run → 0 < length f.rows → fits cut f.rows ≡ true → FitsOwnIndex f → index_faults cut h.bytes (run ∷ []) ≡ []
+no_fault : (cut : Cut) (f : WrittenFragment) (h : MoofBytes) (run : Run) → Tells f h run → 0 < length f.rows → fits cut f.rows ≡ true → FitsOwnIndex f → index_faults cut h.bytes (run ∷ []) ≡ []
 unfolding rooms.room_faults
 no_fault cut f h run t some e one =
     let count : piece_count cut h.bytes (run ∷ []) ≡ 1 = its_count cut h.bytes run (piece_at (first_cursor run) f.rows) (its_piece cut f h run t some e) in
@@ -72,7 +72,7 @@ no_fault cut f h run t some e one =
       numbers = subst (λ (n : ℕ). AllByRecursion (λ (k : ℕ). k < 2 ^ 32) (numbers 0 n)) (sym count) (omega arith, tt);
     }))
 
-index_means : (cut : Cut) (f : Fragment) (h : Held) (run : Run) → Tells f h run → 0 < length f.rows → fits cut f.rows ≡ true → FitsIndex (pieces_of cut h.bytes run) → FitsOwnIndex f
+index_means : (cut : Cut) (f : WrittenFragment) (h : MoofBytes) (run : Run) → Tells f h run → 0 < length f.rows → fits cut f.rows ≡ true → FitsIndex (pieces_of cut h.bytes run) → FitsOwnIndex f
 unfolding piece_specs.piece_at
 index_means cut f h run t some e has =
     let p = piece_at (first_cursor run) f.rows in
@@ -85,7 +85,7 @@ index_means cut f h run t some e has =
     }
 
 -- with an index a fragment by itself has a fault exactly where an index has no room for it
-pub one_fits_index : (cut : Cut) (at number : ℕ) (tracks : List Track) (f : Fragment) (media : List ℕ) → cut.index ≡ true → number < 2 ^ 32 → IsOnePiece cut tracks f media
+pub one_fits_index : (cut : Cut) (at number : ℕ) (tracks : List Track) (f : WrittenFragment) (media : List ℕ) → cut.index ≡ true → number < 2 ^ 32 → IsOnePiece cut tracks f media
     → (room_fault cut (held_moof f number at) (moof_runs (held_moof f number at) tracks) number ≡ None → FitsOwnIndex f) × (FitsOwnIndex f → room_fault cut (held_moof f number at) (moof_runs (held_moof f number at) tracks) number ≡ None)
 unfolding order.least_from
 one_fits_index cut at number tracks f media index small one =
@@ -106,35 +106,35 @@ one_fits_index cut at number tracks f media index small one =
 abbrev pub RoomAnywhere : Cut → List Track → Item → Type 0
 RoomAnywhere cut tracks (PassedOver b) = Unit {0}
 RoomAnywhere cut tracks (Movie b) = ⊥
-RoomAnywhere cut tracks (MovieFragment moof mdat) = (at : ℕ) (us : List Track) → without_ends us ≡ without_ends tracks → index_faults cut moof.bytes (moof_runs (held_at moof.bytes at) us) ≡ []
+RoomAnywhere cut tracks (MovieFragment moof mdat) = (at : ℕ) (us : List Track) → without_ends us ≡ without_ends tracks → index_faults cut moof.bytes (moof_runs (moof_at moof.bytes at) us) ≡ []
 
 abbrev RoomHere : Cut → Context → Item → Type 0
 RoomHere cut c (PassedOver b) = Unit {0}
 RoomHere cut c (Movie b) = Unit {0}
-RoomHere cut c (MovieFragment moof mdat) = index_faults cut moof.bytes (moof_runs (held_at moof.bytes c.at) (tracks_in c)) ≡ []
+RoomHere cut c (MovieFragment moof mdat) = index_faults cut moof.bytes (moof_runs (moof_at moof.bytes c.at) (tracks_in c)) ≡ []
 
 abbrev pub HaveRoom : Cut → Context → List Item → Type 0
 HaveRoom cut c [] = Unit {0}
-HaveRoom cut c (i ∷ is) = RoomHere cut c i × HaveRoom cut (behind_item (splitting (without_index cut)) c i) is
+HaveRoom cut c (i ∷ is) = RoomHere cut c i × HaveRoom cut (context_after (splitting (without_index cut)) c i) is
 
-pub room_join : (cut : Cut) (c : Context) (xs ys : List Item) → HaveRoom cut c xs → HaveRoom cut (behind_items (splitting (without_index cut)) c xs) ys → HaveRoom cut c (xs ++ ys)
+pub room_join : (cut : Cut) (c : Context) (xs ys : List Item) → HaveRoom cut c xs → HaveRoom cut (context_after_all (splitting (without_index cut)) c xs) ys → HaveRoom cut c (xs ++ ys)
 room_join cut c [] ys p q = q
-room_join cut c (x ∷ xs) ys p q = (p.0, room_join cut (behind_item (splitting (without_index cut)) c x) xs ys p.1 q)
+room_join cut c (x ∷ xs) ys p q = (p.0, room_join cut (context_after (splitting (without_index cut)) c x) xs ys p.1 q)
 
 pub have_room : (cut : Cut) (tracks : List Track) (at number : ℕ) (us : List Track) (is : List Item) → without_ends us ≡ without_ends tracks → AllByRecursion (RoomAnywhere cut tracks) is → HaveRoom cut (context at (Some us) number) is
 have_room cut tracks at number us [] e all = tt
 have_room cut tracks at number us (PassedOver b ∷ is) e all = (tt, have_room cut tracks (at + length b.bytes) number us is e all.1)
 have_room cut tracks at number us (Movie b ∷ is) e all = absurd all.0
 have_room cut tracks at number us (MovieFragment moof mdat ∷ is) e all =
-    let fs = moof_trafs (held_at moof.bytes at) us in
+    let fs = moof_trafs (moof_at moof.bytes at) us in
     (all.0 at us e, have_room cut tracks _ _ _ is (ends_settled us fs ∙ e) all.1)
 
 -- items that break no rule without an index break none with one
-index_good : (cut : Cut) (c : Context) (x : List ℕ) (h : Header) → index_faults cut x (moof_runs (held_at x c.at) (tracks_in c)) ≡ [] → IsGood (splitting (without_index cut)) c x h → IsGood (splitting cut) c x h
+index_good : (cut : Cut) (c : Context) (x : List ℕ) (h : Header) → index_faults cut x (moof_runs (moof_at x c.at) (tracks_in c)) ≡ [] → IsGood (splitting (without_index cut)) c x h → IsGood (splitting cut) c x h
 unfolding rooms.room_faults order.least_from
 index_good cut c x h room good =
-    let f = items.fragment_of c x h in
-    let m = held_at x c.at in
+    let f = items.fragment_here c x h in
+    let m = moof_at x c.at in
     let runs = moof_runs m (tracks_in c) in
     let both = first_none (place_fault f.payload runs) (room_fault (without_index cut) m runs c.number) good in
     let faults = sequence_faults m.offset (numbers c.number (piece_count cut m.bytes runs)) in
@@ -150,7 +150,7 @@ index_item cut c (MovieFragment moof mdat) room s = (s.0, s.1, s.2, index_good c
 pub index_sound : (cut : Cut) (c : Context) (is : List Item) → HaveRoom cut c is → AreSound (splitting (without_index cut)) c is → AreSound (splitting cut) c is
 index_sound cut c [] room s = tt
 index_sound cut c (i ∷ is) room s =
-    (index_item cut c i room.0 s.0, subst (λ (d : Context). AreSound (splitting cut) d is) (sym (same_behind cut c i)) (index_sound cut (behind_item (splitting (without_index cut)) c i) is room.1 s.1))
+    (index_item cut c i room.0 s.0, subst (λ (d : Context). AreSound (splitting cut) d is) (sym (same_behind cut c i)) (index_sound cut (context_after (splitting (without_index cut)) c i) is room.1 s.1))
 
 -- ---- the fragments of a recut text
 
@@ -202,7 +202,7 @@ module _ (cut : Cut) (held : List ℕ) (start : ℕ) (payload : List ℕ) (track
       (groups_room run timescale (number + length g) gs (all_last (IsFit run) g (join gs) all)))
 
   -- what an index has room for among other pieces, it has room for alone, if its time fits too
-  fits_one : (run : Run) (p : Piece) → IsPieceOf held run p → FitsReference p → FitsTime p.least → FitsOwnIndex (fragment_of held run p)
+  fits_one : (run : Run) (p : Piece) → IsPieceOf held run p → FitsReference p → FitsTime p.least → FitsOwnIndex (written_fragment held run p)
   unfolding piece_specs.piece_at
   fits_one run p is fit time =
       let rows = rows_in held run p in

@@ -5,8 +5,8 @@ use Rattle.mp4_init.specs.declared.table.Track.{Track}
 use Rattle.mp4_frag.specs.Rows.{durations}
 use Rattle.mp4_frag.specs.Settling.{with_end}
 use Rattle.mp4_pieces.specs.declared.cut.Cut.{Cut}
-use Rattle.mp4_items.specs.Contexts.{Context, context}
-use Rattle.mp4_items.specs.Joined.{AreSound, IsSound, Item, behind_item, behind_items, bytes_of, joined}
+use Rattle.mp4_grammar.specs.Contexts.{Context, context}
+use Rattle.mp4_grammar.specs.Joined.{AreSound, IsSound, Item, context_after, context_after_all, bytes_of, joined}
 use Rattle.mp4_recut_laws.specs.PieceItems.{IsOnePiece, PieceWithMedia, piece_item, piece_samples, pieces_items, without_ends}
 use Rattle.mp4_recut_laws.specs.RecutItems.{AreRecutAnywhere, AreRecutHere}
 use Rattle.mp4_recut_laws.specs.MediaSamples.{MediaSample, item_samples, items_samples}
@@ -33,7 +33,7 @@ same_context a b m n s p r = cc
 
 -- an item, and those behind it
 pub cons_recut : (cut : Cut) (at number : ℕ) (tracks next : List Track) (i : Item) (is : List Item) (mine out : List ℕ) (one count total : ℕ) (its samples : List MediaSample) → total ≡ one + count
-    → IsSound (splitting cut) (context at (Some tracks) number) i → item_text cut (context at (Some tracks) number) i ≡ mine → behind_item (splitting cut) (context at (Some tracks) number) i ≡ context (at + length (bytes_of i)) (Some next) (number + one)
+    → IsSound (splitting cut) (context at (Some tracks) number) i → item_text cut (context at (Some tracks) number) i ≡ mine → context_after (splitting cut) (context at (Some tracks) number) i ≡ context (at + length (bytes_of i)) (Some next) (number + one)
     → without_ends next ≡ without_ends tracks → item_samples (context at (Some tracks) number) i ≡ its → AreRecutHere cut (at + length (bytes_of i)) (number + one) next is out count samples → AreRecutHere cut at number tracks (i ∷ is) (mine ++ out) total (its ++ samples)
 unfolding make_context
 cons_recut cut at number tracks next i is mine out one count total its samples sum sound text behind ends_same here more =
@@ -41,7 +41,7 @@ cons_recut cut at number tracks next i is mine out one count total its samples s
       sound = (sound, subst (λ (e : Context). AreSound (splitting cut) e is) (sym behind) more.sound);
       text = join_bytes _ _ _ _ text (ap (λ (e : Context). items_text cut e is) behind ∙ more.text);
       ended = more.ended;
-      behind = ap (λ (e : Context). behind_items (splitting cut) e is) behind ∙ (more.behind ∙ same_context _ _ _ _ more.ended (omega (arith, length-append (bytes_of i) (joined is))) (omega (arith, sum)));
+      behind = ap (λ (e : Context). context_after_all (splitting cut) e is) behind ∙ (more.behind ∙ same_context _ _ _ _ more.ended (omega (arith, length-append (bytes_of i) (joined is))) (omega (arith, sum)));
       same_tracks = more.same_tracks ∙ ends_same;
       same = join_samples _ _ _ _ here (ap (λ (e : Context). items_samples cut e is) behind ∙ more.same);
     }
@@ -60,26 +60,26 @@ append_recut cut number tracks xs ys out more m n its samples p q at us e =
       sound = sound_join cut _ xs ys a.sound (subst (λ (c : Context). AreSound (splitting cut) c ys) (sym a.behind) b.sound);
       text = text_join cut _ xs ys ∙ join_bytes _ _ _ _ a.text (ap (λ (c : Context). items_text cut c ys) a.behind ∙ b.text);
       ended = b.ended;
-      behind = behind_join cut _ xs ys ∙ (ap (λ (c : Context). behind_items (splitting cut) c ys) a.behind ∙ (b.behind ∙ moved at (length (joined xs)) (length (joined ys)) (length (joined (xs ++ ys))) number m n b.ended (joined_length xs ys)));
+      behind = behind_join cut _ xs ys ∙ (ap (λ (c : Context). context_after_all (splitting cut) c ys) a.behind ∙ (b.behind ∙ moved at (length (joined xs)) (length (joined ys)) (length (joined (xs ++ ys))) number m n b.ended (joined_length xs ys)));
       same_tracks = b.same_tracks ∙ a.same_tracks;
       same = samples_join cut _ xs ys ∙ join_samples _ _ _ _ a.same (ap (λ (c : Context). items_samples cut c ys) a.behind ∙ b.same);
     }
   where
-    sound_join : (cut : Cut) (c : Context) (xs ys : List Item) → AreSound (splitting cut) c xs → AreSound (splitting cut) (behind_items (splitting cut) c xs) ys → AreSound (splitting cut) c (xs ++ ys)
+    sound_join : (cut : Cut) (c : Context) (xs ys : List Item) → AreSound (splitting cut) c xs → AreSound (splitting cut) (context_after_all (splitting cut) c xs) ys → AreSound (splitting cut) c (xs ++ ys)
     sound_join cut c [] ys p q = q
-    sound_join cut c (x ∷ xs) ys p q = (p.0, sound_join cut (behind_item (splitting cut) c x) xs ys p.1 q)
+    sound_join cut c (x ∷ xs) ys p q = (p.0, sound_join cut (context_after (splitting cut) c x) xs ys p.1 q)
 
-    text_join : (cut : Cut) (c : Context) (xs ys : List Item) → items_text cut c (xs ++ ys) ≡ items_text cut c xs ++ items_text cut (behind_items (splitting cut) c xs) ys
+    text_join : (cut : Cut) (c : Context) (xs ys : List Item) → items_text cut c (xs ++ ys) ≡ items_text cut c xs ++ items_text cut (context_after_all (splitting cut) c xs) ys
     text_join cut c [] ys = refl
-    text_join cut c (x ∷ xs) ys = ap (λ (z : List ℕ). item_text cut c x ++ z) (text_join cut (behind_item (splitting cut) c x) xs ys) ∙ sym (append_assoc (item_text cut c x) _ _)
+    text_join cut c (x ∷ xs) ys = ap (λ (z : List ℕ). item_text cut c x ++ z) (text_join cut (context_after (splitting cut) c x) xs ys) ∙ sym (append_assoc (item_text cut c x) _ _)
 
-    behind_join : (cut : Cut) (c : Context) (xs ys : List Item) → behind_items (splitting cut) c (xs ++ ys) ≡ behind_items (splitting cut) (behind_items (splitting cut) c xs) ys
+    behind_join : (cut : Cut) (c : Context) (xs ys : List Item) → context_after_all (splitting cut) c (xs ++ ys) ≡ context_after_all (splitting cut) (context_after_all (splitting cut) c xs) ys
     behind_join cut c [] ys = refl
-    behind_join cut c (x ∷ xs) ys = behind_join cut (behind_item (splitting cut) c x) xs ys
+    behind_join cut c (x ∷ xs) ys = behind_join cut (context_after (splitting cut) c x) xs ys
 
-    samples_join : (cut : Cut) (c : Context) (xs ys : List Item) → items_samples cut c (xs ++ ys) ≡ items_samples cut c xs ++ items_samples cut (behind_items (splitting cut) c xs) ys
+    samples_join : (cut : Cut) (c : Context) (xs ys : List Item) → items_samples cut c (xs ++ ys) ≡ items_samples cut c xs ++ items_samples cut (context_after_all (splitting cut) c xs) ys
     samples_join cut c [] ys = refl
-    samples_join cut c (x ∷ xs) ys = ap (λ (z : List MediaSample). item_samples c x ++ z) (samples_join cut (behind_item (splitting cut) c x) xs ys) ∙ sym (append_assoc (item_samples c x) _ _)
+    samples_join cut c (x ∷ xs) ys = ap (λ (z : List MediaSample). item_samples c x ++ z) (samples_join cut (context_after (splitting cut) c x) xs ys) ∙ sym (append_assoc (item_samples c x) _ _)
 
     joined_length : (xs ys : List Item) → length (joined (xs ++ ys)) ≡ length (joined xs) + length (joined ys)
     joined_length [] ys = omega arith

@@ -10,13 +10,13 @@ use Rattle.mp4_init.proofs.MoovLemmas.{first_none}
 use Rattle.mp4_frag.specs.Moofs.{moof_runs}
 use Rattle.mp4_frag.specs.Places.{place_fault}
 use Rattle.mp4_frag.specs.RunLists.{taken_runs}
-use Rattle.mp4_frag.specs.Runs.{held_at}
+use Rattle.mp4_frag.specs.Runs.{moof_at}
 use Rattle.mp4_pieces.specs.declared.cut.Cut.{Cut}
 use Rattle.mp4_pieces.specs.Rooms.{room_fault}
 use Rattle.mp4_cut.specs.Reads.{FitsTrack}
-use Rattle.mp4_reading.specs.Readings.{Sound}
-use Rattle.mp4_items.specs.Contexts.{Context, context, first_context}
-use Rattle.mp4_items.specs.Joined.{AreSound, IsSound, Item, Movie, MovieFragment, OneBox, PassedOver, behind_item, behind_items, fragment_in, fragment_of, joined, tracks_in}
+use Rattle.mp4_machine.specs.Readings.{Sound}
+use Rattle.mp4_grammar.specs.Contexts.{Context, context, first_context}
+use Rattle.mp4_grammar.specs.Joined.{AreSound, IsSound, Item, Movie, MovieFragment, OneBox, PassedOver, context_after, context_after_all, fragment_in, fragment_here, joined, tracks_in}
 use Rattle.mp4_recut.specs.Splitting.{is_dropped, reading, splitting}
 use Rattle.mp4_recut_laws.specs.PieceItems.{without_ends}
 use Rattle.mp4_recut_laws.specs.Premises.{CanAllBeRecut, CanBeRecut, SameButEnds}
@@ -51,7 +51,7 @@ module _ (cut : Cut) (index : cut.index ≡ true) where
   fragment_room at number (Some tracks) to now None moof mdat e s fine time = nothing_same (without_ends tracks) e
   fragment_room at number (Some tracks) to now (Some us) moof mdat e s fine time =
       let f = fragment_in (context at (Some tracks) number) moof mdat in
-      let h = held_at moof.bytes at in
+      let h = moof_at moof.bytes at in
       let payload = drop mdat.header.header_len mdat.bytes in
       let good = first_none (place_fault f.payload (moof_runs h tracks)) (room_fault cut h (moof_runs h tracks) number) s.3 in
       have_room cut tracks to now us _ (some_same (without_ends us) (without_ends tracks) e)
@@ -67,16 +67,16 @@ module _ (cut : Cut) (index : cut.index ≡ true) where
   items_room c d [] a s fine time = tt
   items_room c d (i ∷ is) a s fine time =
       let one = one_item cut c d i a s.0 fine.0 in
-      room_join cut d (item_recut cut c i) (items_recut cut (behind_item (splitting cut) c i) is) (item_room c d i a s.0 fine.0 time.0)
-      (items_room (behind_item (splitting cut) c i) (behind_items (splitting (without_index cut)) d (item_recut cut c i)) is one.same_tracks s.1 fine.1 time.1)
+      room_join cut d (item_recut cut c i) (items_recut cut (context_after (splitting cut) c i) is) (item_room c d i a s.0 fine.0 time.0)
+      (items_room (context_after (splitting cut) c i) (context_after_all (splitting (without_index cut)) d (item_recut cut c i)) is one.same_tracks s.1 fine.1 time.1)
 
   open_room : (at number : ℕ) (o : Option (List Track)) (to now : ℕ) (u : Option (List Track)) (moof : OneBox) (h : Header) (head more : List ℕ) → option_map without_ends u ≡ option_map without_ends o → IsSoundEnding (splitting cut) (context at o number) (OpenFragment moof h head more) → IsBytes moof.bytes → at + length moof.bytes + length more ≤ 2 ^ 62 → number ≤ 2 ^ 32 → AllByRecursion FitsTrack (tracks_in (context at o number)) → EndingTimesFit cut (context at o number) (OpenFragment moof h head more)
       → HaveRoom cut (context to u now) (ending_items cut (context at o number) (OpenFragment moof h head more))
   open_room at number None to now u moof h head more e s held room low fit time = nothing_known s.2.known
   open_room at number (Some tracks) to now None moof h head more e s held room low fit time = nothing_same (without_ends tracks) e
   open_room at number (Some tracks) to now (Some us) moof h head more e s held room low fit time =
-      let f = fragment_of (context at (Some tracks) number) moof.bytes h in
-      let m = held_at moof.bytes at in
+      let f = fragment_here (context at (Some tracks) number) moof.bytes h in
+      let m = moof_at moof.bytes at in
       let whole : IsWhole moof.bytes = (moof.header, s.2.one.payload, s.2.one.is) in
       let good = first_none (place_fault f.payload (moof_runs m tracks)) (room_fault cut m (moof_runs m tracks) number) s.4 in
       have_room cut tracks to now us _ (some_same (without_ends us) (without_ends tracks) e)
@@ -110,7 +110,7 @@ module _ (cut : Cut) (index : cut.index ≡ true) where
       let same_tracks : SameButEnds first_context first_context = record { number = refl; tracks = refl } in
       let survive = items_agree cut first_context first_context s.items same_tracks is.sound fine in
       let now = items_recut cut first_context s.items in
-      let d = behind_items (splitting (without_index cut)) first_context now in
+      let d = context_after_all (splitting (without_index cut)) first_context now in
       let room = room_join cut first_context now (ending_items cut (ending_context cut s) s.ending) (items_room first_context first_context s.items same_tracks is.sound fine times)
       (end_room (ending_context cut s) d s.ending survive.same_tracks is.ending back (omega (arith, is.near, len, behind_at (splitting cut) first_context s.items)) good.0 good.1 last) in
       let plain = text_stream cut s is near in

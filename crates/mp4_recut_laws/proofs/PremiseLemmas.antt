@@ -10,14 +10,14 @@ use Rattle.mp4_run_order.proofs.OrderLemmas.{taken_permutes}
 use Rattle.mp4_frag.specs.Moofs.{moof_runs, moof_trafs}
 use Rattle.mp4_frag.specs.Places.{place_fault}
 use Rattle.mp4_frag.specs.RunLists.{taken_runs}
-use Rattle.mp4_frag.specs.RunRows.{listed_run}
-use Rattle.mp4_frag.specs.Runs.{held_at}
+use Rattle.mp4_frag.specs.Places.{listed_run}
+use Rattle.mp4_frag.specs.Runs.{moof_at}
 use Rattle.mp4_frag.specs.Settling.{settled}
 use Rattle.mp4_pieces.specs.declared.cut.Cut.{Cut}
 use Rattle.mp4_pieces.specs.Rooms.{room_fault}
 use Rattle.mp4_pieces.proofs.OrderLemmas.{count_kept}
-use Rattle.mp4_items.specs.Contexts.{Context}
-use Rattle.mp4_items.specs.Joined.{AreSound, IsSound, Item, Movie, MovieFragment, PassedOver, behind_item, behind_items, bytes_of, fragment_in, joined, tracks_in}
+use Rattle.mp4_grammar.specs.Contexts.{Context}
+use Rattle.mp4_grammar.specs.Joined.{AreSound, IsSound, Item, Movie, MovieFragment, PassedOver, context_after, context_after_all, bytes_of, fragment_in, joined, tracks_in}
 use Rattle.mp4_recut_laws.specs.Premises.{CanAllBeRecut, CanBeRecut}
 use Rattle.mp4_recut.specs.Splitting.{splitting}
 use Rattle.mp4_recut_laws.proofs.FragmentLemmas.{has_numbers}
@@ -82,9 +82,9 @@ bytes_back xs ys h = subst IsBytes (drop_at xs ys (length xs) refl) (IsBytes-dro
 
 record ItemPremises (cut : Cut) (c : Context) (i : Item) : Type 0 where
   fine : CanBeRecut c i
-  at : (behind_item (splitting cut) c i).at ≡ c.at + length (bytes_of i)
-  number : (behind_item (splitting cut) c i).number ≤ 2 ^ 32
-  tracks : AllByRecursion FitsTrack (tracks_in (behind_item (splitting cut) c i))
+  at : (context_after (splitting cut) c i).at ≡ c.at + length (bytes_of i)
+  number : (context_after (splitting cut) c i).number ≤ 2 ^ 32
+  tracks : AllByRecursion FitsTrack (tracks_in (context_after (splitting cut) c i))
 
 item_premises : (cut : Cut) (c : Context) (i : Item) → IsSound (splitting cut) c i → IsBytes (bytes_of i) → c.at + length (bytes_of i) ≤ 2 ^ 62 → c.number ≤ 2 ^ 32 → AllByRecursion FitsTrack (tracks_in c) → ItemPremises cut c i
 item_premises cut c (PassedOver b) s held room low fit = record { fine = tt; at = refl; number = low; tracks = fit }
@@ -95,7 +95,7 @@ item_premises cut c (Movie b) s held room low fit = record {
   tracks = moov_fits c.at b.bytes held;
 }
 item_premises cut c (MovieFragment moof mdat) s held room low fit =
-    let h = held_at moof.bytes c.at in
+    let h = moof_at moof.bytes c.at in
     let ts = tracks_in c in
     let both = first_none (place_fault (fragment_in c moof mdat).payload (moof_runs h ts)) (room_fault cut h (moof_runs h ts) c.number) s.3 in
     let len = length-append moof.bytes mdat.bytes in
@@ -111,11 +111,11 @@ all_can_be_recut cut c [] s held room low fit = tt
 all_can_be_recut cut c (i ∷ is) s held room low fit =
     let len = length-append (bytes_of i) (joined is) in
     let g = item_premises cut c i s.0 (bytes_front (bytes_of i) (joined is) held) (omega (arith, room, len)) low fit in
-    (g.fine, all_can_be_recut cut (behind_item (splitting cut) c i) is s.1 (bytes_back (bytes_of i) (joined is) held) (omega (arith, room, len, g.at)) g.number g.tracks)
+    (g.fine, all_can_be_recut cut (context_after (splitting cut) c i) is s.1 (bytes_back (bytes_of i) (joined is) held) (omega (arith, room, len, g.at)) g.number g.tracks)
 
-pub behind_good : (cut : Cut) (c : Context) (is : List Item) → AreSound (splitting cut) c is → IsBytes (joined is) → c.at + length (joined is) ≤ 2 ^ 62 → c.number ≤ 2 ^ 32 → AllByRecursion FitsTrack (tracks_in c) → ((behind_items (splitting cut) c is).number ≤ 2 ^ 32) × AllByRecursion FitsTrack (tracks_in (behind_items (splitting cut) c is))
+pub behind_good : (cut : Cut) (c : Context) (is : List Item) → AreSound (splitting cut) c is → IsBytes (joined is) → c.at + length (joined is) ≤ 2 ^ 62 → c.number ≤ 2 ^ 32 → AllByRecursion FitsTrack (tracks_in c) → ((context_after_all (splitting cut) c is).number ≤ 2 ^ 32) × AllByRecursion FitsTrack (tracks_in (context_after_all (splitting cut) c is))
 behind_good cut c [] s held room low fit = (low, fit)
 behind_good cut c (i ∷ is) s held room low fit =
     let len = length-append (bytes_of i) (joined is) in
     let g = item_premises cut c i s.0 (bytes_front (bytes_of i) (joined is) held) (omega (arith, room, len)) low fit in
-    behind_good cut (behind_item (splitting cut) c i) is s.1 (bytes_back (bytes_of i) (joined is) held) (omega (arith, room, len, g.at)) g.number g.tracks
+    behind_good cut (context_after (splitting cut) c i) is s.1 (bytes_back (bytes_of i) (joined is) held) (omega (arith, room, len, g.at)) g.number g.tracks

@@ -8,19 +8,19 @@ use Rattle.mp4_init.specs.declared.table.Track.{Track}
 use Rattle.mp4_init.proofs.MoovLemmas.{first_none}
 use Rattle.mp4_frag.specs.Moofs.{moof_runs}
 use Rattle.mp4_frag.specs.Places.{place_fault}
-use Rattle.mp4_frag.specs.Runs.{held_at}
+use Rattle.mp4_frag.specs.Runs.{moof_at}
 use Rattle.mp4_pieces.specs.declared.cut.Cut.{Cut}
 use Rattle.mp4_pieces.specs.Rooms.{room_fault}
 use Rattle.mp4_cut.specs.Reads.{FitsTrack}
-use Rattle.mp4_reading.specs.Readings.{Reading, Sound, Told, after, nothing}
-use Rattle.mp4_reading.specs.Readings as readings
-use Rattle.mp4_items.specs.Contexts.{Context, context, first_context}
-use Rattle.mp4_items.specs.Items.{reads_in}
-use Rattle.mp4_items.specs.Joined.{AreSound, IsSound, Item, Movie, MovieFragment, OneBox, PassedOver, behind_item, behind_items, fragment_in, fragment_of, joined, told_item, told_items, told_moof, tracks_in}
-use Rattle.mp4_items.specs.Makings.{Fragment, Making}
-use Rattle.mp4_items.specs.Rests.{BehindMoof, Boxed, Open, OpenMedia, ends, media_ends}
-use Rattle.mp4_items.proofs.JoinLemmas.{reads-items}
-use Rattle.mp4_items.proofs.RestLemmas.{rest-reads}
+use Rattle.mp4_machine.specs.Readings.{Reading, Sound, Effects, after, empty_reading}
+use Rattle.mp4_machine.specs.Readings as readings
+use Rattle.mp4_grammar.specs.Contexts.{Context, context, first_context}
+use Rattle.mp4_grammar.specs.Items.{reads_in}
+use Rattle.mp4_grammar.specs.Joined.{AreSound, IsSound, Item, Movie, MovieFragment, OneBox, PassedOver, context_after, context_after_all, fragment_in, fragment_here, joined, item_effects, items_effects, moof_effects, tracks_in}
+use Rattle.mp4_grammar.specs.Meanings.{Fragment, Meaning}
+use Rattle.mp4_grammar.specs.Rests.{BehindMoof, Boxed, Open, OpenMedia, ends, media_ends}
+use Rattle.mp4_grammar.proofs.JoinLemmas.{reads-items}
+use Rattle.mp4_grammar.proofs.RestLemmas.{rest-reads}
 use Rattle.mp4_recut.specs.Parts.{Ascends, played}
 use Rattle.mp4_recut.specs.Splitting.{copied, is_dropped, parts_of, reading, splitting}
 use Rattle.mp4_recut.specs.Texts.{box_text, fragment_text, item_text, items_text}
@@ -37,87 +37,87 @@ use Rattle.mp4_recut_laws.proofs.StreamLemmas.{behind_at}
 
 -- ---- how the end of a stream is read, whatever is made of it
 
-abbrev pub ended : Making → Context → Ending → Reading
-ended make c NothingMore = nothing
-ended make c (OpenBox h head more) = ends (make.passed h.kind (head ++ more)) Sound
-ended make c (OpenFragment moof h head more) = after (told_moof c moof.bytes) (media_ends make (fragment_of c moof.bytes h) more Sound)
+abbrev pub ended : Meaning → Context → Ending → Reading
+ended meaning c NothingMore = empty_reading
+ended meaning c (OpenBox h head more) = ends (meaning.passed h.kind (head ++ more)) Sound
+ended meaning c (OpenFragment moof h head more) = after (moof_effects c moof.bytes) (media_ends meaning (fragment_here c moof.bytes h) more Sound)
 
-ending_reads : (make : Making) (c : Context) (e : Ending) → IsSoundEnding make c e → IsBytes (ending_bytes e) → c.at + length (ending_bytes e) ≤ 2 ^ 62 → reads_in make c (ending_bytes e) ≡ ended make c e
+ending_reads : (meaning : Meaning) (c : Context) (e : Ending) → IsSoundEnding meaning c e → IsBytes (ending_bytes e) → c.at + length (ending_bytes e) ≤ 2 ^ 62 → reads_in meaning c (ending_bytes e) ≡ ended meaning c e
 unfolding readings.read_all
-ending_reads make c NothingMore s held room = refl
-ending_reads make c (OpenBox h head more) s held room =
+ending_reads meaning c NothingMore s held room = refl
+ending_reads meaning c (OpenBox h head more) s held room =
     let b : Headed (head ++ more) = record { header = h; head = head; more = more; spelled = s.0; cut = refl } in
-    rest-reads make c (head ++ more) (ends (make.passed h.kind (head ++ more)) Sound) held (Open b s.1 room refl)
-ending_reads make c (OpenFragment moof h head more) s held room =
+    rest-reads meaning c (head ++ more) (ends (meaning.passed h.kind (head ++ more)) Sound) held (Open b s.1 room refl)
+ending_reads meaning c (OpenFragment moof h head more) s held room =
     let b : Boxed (moof.bytes ++ (head ++ more)) = record { box = moof; more = head ++ more; cut = refl } in
     let z : Headed (head ++ more) = record { header = h; head = head; more = more; spelled = s.0; cut = refl } in
-    let r = media_ends make (fragment_of c moof.bytes h) more Sound in
+    let r = media_ends meaning (fragment_here c moof.bytes h) more Sound in
     let len = length-append moof.bytes (head ++ more) in
-    rest-reads make c (moof.bytes ++ (head ++ more)) (after (told_moof c moof.bytes) r) held
+    rest-reads meaning c (moof.bytes ++ (head ++ more)) (after (moof_effects c moof.bytes) r) held
     (BehindMoof b r s.2 (omega (arith, room, len)) s.3 (OpenMedia z s.1 s.4 (omega (arith, room, len)) s.5 refl) refl)
 
 -- and a stream
-pub stream_reads : (make : Making) (s : Stream) → AreSound make first_context s.items → IsSoundEnding make (behind_items make first_context s.items) s.ending → IsBytes (ending_bytes s.ending) → length (stream_bytes s) ≤ 2 ^ 62
-    → reads_in make first_context (stream_bytes s) ≡ after (told_items make first_context s.items) (ended make (behind_items make first_context s.items) s.ending)
-stream_reads make s sound ending held near =
+pub stream_reads : (meaning : Meaning) (s : Stream) → AreSound meaning first_context s.items → IsSoundEnding meaning (context_after_all meaning first_context s.items) s.ending → IsBytes (ending_bytes s.ending) → length (stream_bytes s) ≤ 2 ^ 62
+    → reads_in meaning first_context (stream_bytes s) ≡ after (items_effects meaning first_context s.items) (ended meaning (context_after_all meaning first_context s.items) s.ending)
+stream_reads meaning s sound ending held near =
     let e = ending_bytes s.ending in
-    let c = behind_items make first_context s.items in
+    let c = context_after_all meaning first_context s.items in
     let len = length-append (joined s.items) e in
-    reads-items make s.items first_context e sound (omega (arith, near, len))
-    ∙ ap (after (told_items make first_context s.items)) (ending_reads make c s.ending ending held (omega (arith, near, len, behind_at make first_context s.items)))
+    reads-items meaning s.items first_context e sound (omega (arith, near, len))
+    ∙ ap (after (items_effects meaning first_context s.items)) (ending_reads meaning c s.ending ending held (omega (arith, near, len, behind_at meaning first_context s.items)))
 
-pub ended_sound : (make : Making) (c : Context) (e : Ending) → (ended make c e).outcome ≡ Sound
-ended_sound make c NothingMore = refl
-ended_sound make c (OpenBox h head more) = refl
-ended_sound make c (OpenFragment moof h head more) = refl
+pub ended_sound : (meaning : Meaning) (c : Context) (e : Ending) → (ended meaning c e).outcome ≡ Sound
+ended_sound meaning c NothingMore = refl
+ended_sound meaning c (OpenBox h head more) = refl
+ended_sound meaning c (OpenFragment moof h head more) = refl
 
 -- ---- the text
 
 media_text : (cut : Cut) (f : Fragment) (payload : List ℕ) → Ascends f.payload.start (f.payload.start + length payload) (parts_of cut f) → (played f.payload.start (parts_of cut f) payload).text ≡ fragment_text cut f payload
-media_text cut f payload up = ap (λ (t : Told). t.text) (played-slices f.payload.start payload (parts_of cut f) up) ∙ parts-text cut f payload
+media_text cut f payload up = ap (λ (t : Effects). t.text) (played-slices f.payload.start payload (parts_of cut f) up) ∙ parts-text cut f payload
 
 copied_text : (t : Bool) (b : List ℕ) → (copied t b).text ≡ box_text t b
 copied_text true b = refl
 copied_text false b = refl
 
 fragment_by : (cut : Cut) (at number : ℕ) (o : Option (List Track)) (moof mdat : OneBox) → IsSound (splitting cut) (context at o number) (MovieFragment moof mdat) → CanBeRecut (context at o number) (MovieFragment moof mdat)
-    → (told_item (splitting cut) (context at o number) (MovieFragment moof mdat)).text ≡ item_text cut (context at o number) (MovieFragment moof mdat)
+    → (item_effects (splitting cut) (context at o number) (MovieFragment moof mdat)).text ≡ item_text cut (context at o number) (MovieFragment moof mdat)
 fragment_by cut at number None moof mdat s fine = nothing_known s.0.known
   where
     nothing_known : {X : Type 0} → ◌≡◌ {A = Option (List Track)} None (Some []) → X
     nothing_known e = absurd cc
 fragment_by cut at number (Some tracks) moof mdat s fine =
     let f = fragment_in (context at (Some tracks) number) moof mdat in
-    let h = held_at moof.bytes at in
+    let h = moof_at moof.bytes at in
     let payload = drop mdat.header.header_len mdat.bytes in
     let good = first_none (place_fault f.payload (moof_runs h tracks)) (room_fault cut h (moof_runs h tracks) number) s.3 in
     media_text cut f payload
     (parts_ascend cut h tracks number f.payload.start payload f.payload fine.0 good.0 (fragment_runs cut at number tracks moof mdat s fine.0 fine.1 fine.2 fine.3))
 
-pub item_told : (cut : Cut) (c : Context) (i : Item) → IsSound (splitting cut) c i → CanBeRecut c i → (told_item (splitting cut) c i).text ≡ item_text cut c i
+pub item_told : (cut : Cut) (c : Context) (i : Item) → IsSound (splitting cut) c i → CanBeRecut c i → (item_effects (splitting cut) c i).text ≡ item_text cut c i
 item_told cut c (PassedOver b) s fine = copied_text (is_dropped b.header.kind.0) b.bytes
 item_told cut c (Movie b) s fine = refl
 item_told cut c (MovieFragment moof mdat) s fine = fragment_by cut c.at c.number c.tracks moof mdat s fine
 
-pub items_told : (cut : Cut) (c : Context) (is : List Item) → AreSound (splitting cut) c is → CanAllBeRecut cut c is → (told_items (splitting cut) c is).text ≡ items_text cut c is
+pub items_told : (cut : Cut) (c : Context) (is : List Item) → AreSound (splitting cut) c is → CanAllBeRecut cut c is → (items_effects (splitting cut) c is).text ≡ items_text cut c is
 items_told cut c [] s fine = refl
-items_told cut c (i ∷ is) s fine = same_bytes _ _ _ _ (item_told cut c i s.0 fine.0) (items_told cut (behind_item (splitting cut) c i) is s.1 fine.1)
+items_told cut c (i ∷ is) s fine = same_bytes _ _ _ _ (item_told cut c i s.0 fine.0) (items_told cut (context_after (splitting cut) c i) is s.1 fine.1)
 
 open_by : (cut : Cut) (at number : ℕ) (o : Option (List Track)) (moof : OneBox) (h : Header) (head more : List ℕ) → IsSoundEnding (splitting cut) (context at o number) (OpenFragment moof h head more) → IsBytes moof.bytes → at + length moof.bytes + length more ≤ 2 ^ 62 → number ≤ 2 ^ 32 → AllByRecursion FitsTrack (tracks_in (context at o number))
-    → (ended (splitting cut) (context at o number) (OpenFragment moof h head more)).told.text ≡ ending_text cut (context at o number) (OpenFragment moof h head more)
+    → (ended (splitting cut) (context at o number) (OpenFragment moof h head more)).effects.text ≡ ending_text cut (context at o number) (OpenFragment moof h head more)
 open_by cut at number None moof h head more s held room low fit = nothing_known s.2.known
   where
     nothing_known : {X : Type 0} → ◌≡◌ {A = Option (List Track)} None (Some []) → X
     nothing_known e = absurd cc
 open_by cut at number (Some tracks) moof h head more s held room low fit =
-    let f = fragment_of (context at (Some tracks) number) moof.bytes h in
-    let m = held_at moof.bytes at in
+    let f = fragment_here (context at (Some tracks) number) moof.bytes h in
+    let m = moof_at moof.bytes at in
     let whole : IsWhole moof.bytes = (moof.header, s.2.one.payload, s.2.one.is) in
     let good = first_none (place_fault f.payload (moof_runs m tracks)) (room_fault cut m (moof_runs m tracks) number) s.4 in
     media_text cut f more
     (parts_ascend cut m tracks number f.payload.start more f.payload held good.0 (open_runs cut at number tracks moof.bytes more h s.1.1 whole held room fit low s.3 s.4 s.5))
 
-pub ending_told : (cut : Cut) (c : Context) (e : Ending) → IsSoundEnding (splitting cut) c e → IsBytes (ending_bytes e) → c.at + length (ending_bytes e) ≤ 2 ^ 62 → c.number ≤ 2 ^ 32 → AllByRecursion FitsTrack (tracks_in c) → (ended (splitting cut) c e).told.text ≡ ending_text cut c e
+pub ending_told : (cut : Cut) (c : Context) (e : Ending) → IsSoundEnding (splitting cut) c e → IsBytes (ending_bytes e) → c.at + length (ending_bytes e) ≤ 2 ^ 62 → c.number ≤ 2 ^ 32 → AllByRecursion FitsTrack (tracks_in c) → (ended (splitting cut) c e).effects.text ≡ ending_text cut c e
 ending_told cut c NothingMore s held room low fit = refl
 ending_told cut c (OpenBox h head more) s held room low fit = copied_text (is_dropped h.kind.0) (head ++ more)
 ending_told cut c (OpenFragment moof h head more) s held room low fit =
@@ -126,12 +126,12 @@ ending_told cut c (OpenFragment moof h head more) s held room low fit =
 -- ---- streams
 
 pub record IsToldAs (cut : Cut) (s : Stream) : Type 0 where
-  pub text : (reading cut (stream_bytes s)).told.text ≡ stream_text cut s
+  pub text : (reading cut (stream_bytes s)).effects.text ≡ stream_text cut s
   pub sound : (reading cut (stream_bytes s)).outcome ≡ Sound
 
 pub recut_text_of_a_stream : (cut : Cut) (s : Stream) → IsSoundStream cut s → IsToldAs cut s
 recut_text_of_a_stream cut s is =
-    let make = splitting cut in
+    let meaning = splitting cut in
     let c = ending_context cut s in
     let e = ending_bytes s.ending in
     let len = length-append (joined s.items) e in
@@ -139,10 +139,10 @@ recut_text_of_a_stream cut s is =
     let back = bytes_back (joined s.items) e is.bytes in
     let fine = all_can_be_recut cut first_context s.items is.sound front (omega (arith, is.near, len)) (omega arith) tt in
     let good = behind_good cut first_context s.items is.sound front (omega (arith, is.near, len)) (omega arith) tt in
-    let read = stream_reads make s is.sound is.ending back is.near in
+    let read = stream_reads meaning s is.sound is.ending back is.near in
     record {
-      text = ap (λ (r : Reading). r.told.text) read
+      text = ap (λ (r : Reading). r.effects.text) read
           ∙ same_bytes _ _ _ _ (items_told cut first_context s.items is.sound fine)
-          (ending_told cut c s.ending is.ending back (omega (arith, is.near, len, behind_at make first_context s.items)) good.0 good.1);
-      sound = ap (λ (r : Reading). r.outcome) read ∙ ended_sound make c s.ending;
+          (ending_told cut c s.ending is.ending back (omega (arith, is.near, len, behind_at meaning first_context s.items)) good.0 good.1);
+      sound = ap (λ (r : Reading). r.outcome) read ∙ ended_sound meaning c s.ending;
     }

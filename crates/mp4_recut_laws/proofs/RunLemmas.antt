@@ -17,10 +17,10 @@ use Rattle.mp4_pieces.proofs.GroupLemmas.{groups_are}
 use Rattle.mp4_cut.specs.Sidx.{natural, sidx, sidx_payload, written_index}
 use Rattle.mp4_cut.proofs.BoxLemmas.{is_box, length_box}
 use Rattle.mp4_cut.proofs.IndexLemmas.{length_index}
-use Rattle.mp4_items.specs.Contexts.{Context, context}
-use Rattle.mp4_items.specs.Joined.{IsOne, bytes_of, joined}
-use Rattle.mp4_items.specs.Kinds.{kind_in}
-use Rattle.mp4_items.specs.declared.kinds.Kind.TheVariants.{Other}
+use Rattle.mp4_grammar.specs.Contexts.{Context, context}
+use Rattle.mp4_grammar.specs.Joined.{IsOne, bytes_of, joined}
+use Rattle.mp4_grammar.specs.Kinds.{kind_in}
+use Rattle.mp4_grammar.specs.declared.kinds.Kind.TheVariants.{Other}
 use Rattle.mp4_recut_laws.specs.PieceItems.{IsOnePiece, PieceWithMedia, piece_item, piece_samples, piece_with_media, pieces_items, pieces_with_media}
 use Rattle.mp4_recut_laws.specs.Premises.{IsRunIn}
 use Rattle.mp4_recut_laws.specs.RecutItems.{AreRecutAnywhere, groups_items, index_as_box, index_items, runs_items, without_index}

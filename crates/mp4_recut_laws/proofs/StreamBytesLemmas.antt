@@ -3,8 +3,8 @@ use Rattle.std.proofs.Common.{◌≡◌, ◌∙◌, ℕ, ◌≤◌, ◌^◌, fal
 use Rattle.std.specs.List.{flat_map}
 use Rattle.mp4_box.specs.Headers.{IsBytes}
 use Rattle.mp4_pieces.specs.declared.cut.Cut.{Cut}
-use Rattle.mp4_reading.specs.Readings.{Sound}
-use Rattle.mp4_items.specs.Joined.{joined}
+use Rattle.mp4_machine.specs.Readings.{Sound}
+use Rattle.mp4_grammar.specs.Joined.{joined}
 use Rattle.mp4_recut.specs.Splitting.{reading}
 use Rattle.mp4_recut_laws.specs.RecutItems.{without_index}
 use Rattle.mp4_recut_laws.specs.MediaSamples.{MediaSample}

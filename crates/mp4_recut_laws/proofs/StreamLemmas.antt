@@ -6,18 +6,18 @@ use Rattle.mp4_box.specs.Headers.{Headed, IsBytes, IsWhole}
 use Rattle.mp4_box.specs.declared.headers.Header.{Header}
 use Rattle.mp4_init.specs.declared.table.Track.{Track}
 use Rattle.mp4_frag.specs.RunLists.{taken_runs}
-use Rattle.mp4_frag.specs.Runs.{held_at}
+use Rattle.mp4_frag.specs.Runs.{moof_at}
 use Rattle.mp4_pieces.specs.declared.cut.Cut.{Cut}
 use Rattle.mp4_cut.specs.Reads.{FitsTrack}
-use Rattle.mp4_reading.specs.Readings.{Reading, Sound}
-use Rattle.mp4_reading.specs.Readings as readings
-use Rattle.mp4_items.specs.Contexts.{Context, context, first_context}
-use Rattle.mp4_items.specs.Items.{reads_in}
-use Rattle.mp4_items.specs.Joined.{AreSound, Item, Movie, MovieFragment, OneBox, PassedOver, behind_item, behind_items, fragment_of, joined, tracks_in}
-use Rattle.mp4_items.specs.Makings.{Making}
-use Rattle.mp4_items.specs.Rests.{Open, ends}
-use Rattle.mp4_items.proofs.JoinLemmas.{reads-items}
-use Rattle.mp4_items.proofs.RestLemmas.{rest-reads}
+use Rattle.mp4_machine.specs.Readings.{Reading, Sound}
+use Rattle.mp4_machine.specs.Readings as readings
+use Rattle.mp4_grammar.specs.Contexts.{Context, context, first_context}
+use Rattle.mp4_grammar.specs.Items.{reads_in}
+use Rattle.mp4_grammar.specs.Joined.{AreSound, Item, Movie, MovieFragment, OneBox, PassedOver, context_after, context_after_all, fragment_here, joined, tracks_in}
+use Rattle.mp4_grammar.specs.Meanings.{Meaning}
+use Rattle.mp4_grammar.specs.Rests.{Open, ends}
+use Rattle.mp4_grammar.proofs.JoinLemmas.{reads-items}
+use Rattle.mp4_grammar.proofs.RestLemmas.{rest-reads}
 use Rattle.mp4_recut_laws.specs.PieceItems.{without_ends}
 use Rattle.mp4_recut_laws.specs.Premises.{SameButEnds}
 use Rattle.mp4_recut_laws.specs.RecutItems.{items_recut, without_index}
@@ -30,18 +30,18 @@ use Rattle.mp4_recut_laws.proofs.ItemLemmas.{items_joined, items_agree, samples_
 use Rattle.mp4_recut_laws.proofs.OpenFragmentLemmas.{open_recut, open_runs}
 use Rattle.mp4_recut_laws.proofs.TextLemmas.{joined_append, out_is, runs_joined}
 
-pub behind_at : (make : Making) (c : Context) (is : List Item) → (behind_items make c is).at ≡ c.at + length (joined is)
-behind_at make c [] = omega arith
-behind_at make c (PassedOver b ∷ is) = omega (arith, behind_at make (behind_item make c (PassedOver b)) is, length-append b.bytes (joined is))
-behind_at make c (Movie b ∷ is) = omega (arith, behind_at make (behind_item make c (Movie b)) is, length-append b.bytes (joined is))
-behind_at make c (MovieFragment moof mdat ∷ is) = omega (arith, behind_at make (behind_item make c (MovieFragment moof mdat)) is, length-append (moof.bytes ++ mdat.bytes) (joined is), length-append moof.bytes mdat.bytes)
+pub behind_at : (meaning : Meaning) (c : Context) (is : List Item) → (context_after_all meaning c is).at ≡ c.at + length (joined is)
+behind_at meaning c [] = omega arith
+behind_at meaning c (PassedOver b ∷ is) = omega (arith, behind_at meaning (context_after meaning c (PassedOver b)) is, length-append b.bytes (joined is))
+behind_at meaning c (Movie b ∷ is) = omega (arith, behind_at meaning (context_after meaning c (Movie b)) is, length-append b.bytes (joined is))
+behind_at meaning c (MovieFragment moof mdat ∷ is) = omega (arith, behind_at meaning (context_after meaning c (MovieFragment moof mdat)) is, length-append (moof.bytes ++ mdat.bytes) (joined is), length-append moof.bytes mdat.bytes)
 
 -- the end, and that of its recut text
 record EndingAgrees (cut : Cut) (c d : Context) (e : Ending) : Type 0 where
   sound : AreSound (splitting (without_index cut)) d (ending_items cut c e)
-  ending : IsSoundEnding (splitting (without_index cut)) (behind_items (splitting (without_index cut)) d (ending_items cut c e)) (ending_recut e)
-  text : items_text (without_index cut) d (ending_items cut c e) ++ ending_text (without_index cut) (behind_items (splitting (without_index cut)) d (ending_items cut c e)) (ending_recut e) ≡ ending_text (without_index cut) c e
-  same : items_samples (without_index cut) d (ending_items cut c e) ++ ending_samples (behind_items (splitting (without_index cut)) d (ending_items cut c e)) (ending_recut e) ≡ ending_samples c e
+  ending : IsSoundEnding (splitting (without_index cut)) (context_after_all (splitting (without_index cut)) d (ending_items cut c e)) (ending_recut e)
+  text : items_text (without_index cut) d (ending_items cut c e) ++ ending_text (without_index cut) (context_after_all (splitting (without_index cut)) d (ending_items cut c e)) (ending_recut e) ≡ ending_text (without_index cut) c e
+  same : items_samples (without_index cut) d (ending_items cut c e) ++ ending_samples (context_after_all (splitting (without_index cut)) d (ending_items cut c e)) (ending_recut e) ≡ ending_samples c e
   join : joined (ending_items cut c e) ++ ending_bytes (ending_recut e) ≡ ending_text cut c e
 
 open_lasts : (cut : Cut) (c d : Context) (h : Header) (head more : List ℕ) (t : Bool) → is_dropped h.kind.0 ≡ t → IsSoundEnding (splitting cut) c (OpenBox h head more)
@@ -62,16 +62,16 @@ fragment_lasts cut at number None to now u moof h head more n e s held room low 
 fragment_lasts cut at number (Some tracks) to now None moof h head more n e s held room low fit = nothing_same (without_ends tracks) e
 fragment_lasts cut at number (Some tracks) to now (Some us) moof h head more n e s held room low fit =
     let c = context at (Some tracks) number in
-    let f = fragment_of c moof.bytes h in
+    let f = fragment_here c moof.bytes h in
     let whole : IsWhole moof.bytes = (moof.header, s.2.one.payload, s.2.one.is) in
     let again = open_recut cut at number tracks moof.bytes more h s.1.1 whole held room fit low s.3 s.4 s.5 to us (some_same (without_ends us) (without_ends tracks) e) in
     let given = open_runs cut at number tracks moof.bytes more h s.1.1 whole held room fit low s.3 s.4 s.5 in
     subst (λ (k : ℕ). EndingAgrees cut c (context to (Some us) k) (OpenFragment moof h head more)) (sym n) (record {
       sound = again.sound;
       ending = tt;
-      text = append-nil _ ∙ (again.text ∙ out_is cut moof.bytes f.payload.start more tracks tracks number (taken_runs (held_at moof.bytes at) tracks) given);
+      text = append-nil _ ∙ (again.text ∙ out_is cut moof.bytes f.payload.start more tracks tracks number (taken_runs (moof_at moof.bytes at) tracks) given);
       same = append-nil _ ∙ again.same;
-      join = append-nil _ ∙ runs_joined cut moof.bytes f.payload.start more tracks tracks number (taken_runs (held_at moof.bytes at) tracks) given;
+      join = append-nil _ ∙ runs_joined cut moof.bytes f.payload.start more tracks tracks number (taken_runs (moof_at moof.bytes at) tracks) given;
     })
 
 ending_agrees : (cut : Cut) (c d : Context) (e : Ending) → SameButEnds c d → IsSoundEnding (splitting cut) c e → IsBytes (ending_bytes e) → c.at + length (ending_bytes e) ≤ 2 ^ 62 → c.number ≤ 2 ^ 32 → AllByRecursion FitsTrack (tracks_in c) → EndingAgrees cut c d e
@@ -93,7 +93,7 @@ pub record Laws (cut : Cut) (s : Stream) : Type 0 where
 
 pub laws : (cut : Cut) (s : Stream) → IsSoundStream cut s → Laws cut s
 laws cut s is =
-    let make = splitting (without_index cut) in
+    let meaning = splitting (without_index cut) in
     let c = ending_context cut s in
     let front = bytes_front (joined s.items) (ending_bytes s.ending) is.bytes in
     let len = length-append (joined s.items) (ending_bytes s.ending) in
@@ -101,21 +101,21 @@ laws cut s is =
     let good = behind_good cut first_context s.items is.sound front (omega (arith, is.near, len)) (omega arith) tt in
     let survive = items_agree cut first_context first_context s.items (record { number = refl; tracks = refl }) is.sound fine in
     let now = items_recut cut first_context s.items in
-    let d = behind_items make first_context now in
+    let d = context_after_all meaning first_context now in
     let last = ending_agrees cut c d s.ending survive.same_tracks is.ending (bytes_back (joined s.items) (ending_bytes s.ending) is.bytes) (omega (arith, is.near, len, behind_at (splitting cut) first_context s.items)) good.0 good.1 in
     let more = ending_items cut c s.ending in
     let there = behind_join (without_index cut) first_context now more in
     record {
       join = ap (λ (x : List ℕ). x ++ ending_bytes (ending_recut s.ending)) (joined_append now more) ∙ (append_assoc (joined now) (joined more) (ending_bytes (ending_recut s.ending)) ∙ same_bytes _ _ _ _ (items_joined cut first_context s.items is.sound fine) last.join);
       sound = sound_join (without_index cut) first_context now more survive.sound last.sound;
-      ending = subst (λ (x : Context). IsSoundEnding make x (ending_recut s.ending)) (sym there) last.ending;
+      ending = subst (λ (x : Context). IsSoundEnding meaning x (ending_recut s.ending)) (sym there) last.ending;
       text =
-          ap (λ (x : List ℕ). x ++ ending_text (without_index cut) (behind_items make first_context (now ++ more)) (ending_recut s.ending)) (text_join (without_index cut) first_context now more)
+          ap (λ (x : List ℕ). x ++ ending_text (without_index cut) (context_after_all meaning first_context (now ++ more)) (ending_recut s.ending)) (text_join (without_index cut) first_context now more)
           ∙ (ap (λ (x : Context). (items_text (without_index cut) first_context now ++ items_text (without_index cut) d more) ++ ending_text (without_index cut) x (ending_recut s.ending)) there
           ∙ (append_assoc (items_text (without_index cut) first_context now) (items_text (without_index cut) d more) _
           ∙ same_bytes _ _ _ _ survive.text last.text));
       same =
-          ap (λ (x : List MediaSample). x ++ ending_samples (behind_items make first_context (now ++ more)) (ending_recut s.ending)) (samples_join (without_index cut) first_context now more)
+          ap (λ (x : List MediaSample). x ++ ending_samples (context_after_all meaning first_context (now ++ more)) (ending_recut s.ending)) (samples_join (without_index cut) first_context now more)
           ∙ (ap (λ (x : Context). (items_samples (without_index cut) first_context now ++ items_samples (without_index cut) d more) ++ ending_samples x (ending_recut s.ending)) there
           ∙ (append_assoc (items_samples (without_index cut) first_context now) (items_samples (without_index cut) d more) _
           ∙ same_samples _ _ _ _ survive.same last.same));
@@ -124,17 +124,17 @@ laws cut s is =
 -- ---- it is read without a fault
 
 -- a stream of whole items and an open box, or none, in a context
-open_ends : (make : Making) (c : Context) (e : Ending) → IsSoundEnding make c (ending_recut e) → IsBytes (ending_bytes (ending_recut e)) → c.at + length (ending_bytes (ending_recut e)) ≤ 2 ^ 62 → (reads_in make c (ending_bytes (ending_recut e))).outcome ≡ Sound
+open_ends : (meaning : Meaning) (c : Context) (e : Ending) → IsSoundEnding meaning c (ending_recut e) → IsBytes (ending_bytes (ending_recut e)) → c.at + length (ending_bytes (ending_recut e)) ≤ 2 ^ 62 → (reads_in meaning c (ending_bytes (ending_recut e))).outcome ≡ Sound
 unfolding readings.read_all
-open_ends make c NothingMore s held room = refl
-open_ends make c (OpenFragment moof h head more) s held room = refl
-open_ends make c (OpenBox h head more) s held room = by (is_dropped h.kind.0) s held room
+open_ends meaning c NothingMore s held room = refl
+open_ends meaning c (OpenFragment moof h head more) s held room = refl
+open_ends meaning c (OpenBox h head more) s held room = by (is_dropped h.kind.0) s held room
   where
-    by : (t : Bool) → IsSoundEnding make c (kept_ending t h head more) → IsBytes (ending_bytes (kept_ending t h head more)) → c.at + length (ending_bytes (kept_ending t h head more)) ≤ 2 ^ 62 → (reads_in make c (ending_bytes (kept_ending t h head more))).outcome ≡ Sound
+    by : (t : Bool) → IsSoundEnding meaning c (kept_ending t h head more) → IsBytes (ending_bytes (kept_ending t h head more)) → c.at + length (ending_bytes (kept_ending t h head more)) ≤ 2 ^ 62 → (reads_in meaning c (ending_bytes (kept_ending t h head more))).outcome ≡ Sound
     by true s held room = refl
     by false s held room =
         let b : Headed (head ++ more) = record { header = h; head = head; more = more; spelled = s.0; cut = refl } in
-        ap (λ (r : Reading). r.outcome) (rest-reads make c (head ++ more) (ends (make.passed h.kind (head ++ more)) Sound) held (Open b s.1 room refl))
+        ap (λ (r : Reading). r.outcome) (rest-reads meaning c (head ++ more) (ends (meaning.passed h.kind (head ++ more)) Sound) held (Open b s.1 room refl))
 
 last_bytes : (e : Ending) → IsBytes (ending_bytes e) → IsBytes (ending_bytes (ending_recut e))
 last_bytes NothingMore held = held
@@ -148,12 +148,12 @@ last_bytes (OpenBox h head more) held = by (is_dropped h.kind.0)
 pub text_reads : (cut : Cut) (s : Stream) → IsSoundStream cut s → length (stream_text cut s) ≤ 2 ^ 62 → (reading (without_index cut) (stream_text cut s)).outcome ≡ Sound
 text_reads cut s is room =
     let l = laws cut s is in
-    let make = splitting (without_index cut) in
+    let meaning = splitting (without_index cut) in
     let r = recut cut s in
     let e = ending_bytes r.ending in
     let len = length-append (joined r.items) e in
     let near = ap length l.join in
-    let at = behind_at make first_context r.items in
+    let at = behind_at meaning first_context r.items in
     ap (λ (b : List ℕ). (reading (without_index cut) b).outcome) (sym l.join)
-    ∙ (ap (λ (x : Reading). x.outcome) (reads-items make r.items first_context e l.sound (omega (arith, room, near, len)))
-    ∙ open_ends make (ending_context (without_index cut) r) s.ending l.ending (last_bytes s.ending (bytes_back (joined s.items) (ending_bytes s.ending) is.bytes)) (omega (arith, room, near, len, at)))
+    ∙ (ap (λ (x : Reading). x.outcome) (reads-items meaning r.items first_context e l.sound (omega (arith, room, near, len)))
+    ∙ open_ends meaning (ending_context (without_index cut) r) s.ending l.ending (last_bytes s.ending (bytes_back (joined s.items) (ending_bytes s.ending) is.bytes)) (omega (arith, room, near, len, at)))

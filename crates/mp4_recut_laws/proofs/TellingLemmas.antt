@@ -11,14 +11,14 @@ use Rattle.mp4_init.specs.declared.table.Track.{Track}
 use Rattle.mp4_init.proofs.MoovLemmas.{first_none}
 use Rattle.mp4_frag.specs.Moofs.{moof_runs}
 use Rattle.mp4_frag.specs.Places.{place_fault}
-use Rattle.mp4_frag.specs.Runs.{held_at}
+use Rattle.mp4_frag.specs.Runs.{moof_at}
 use Rattle.mp4_pieces.specs.declared.cut.Cut.{Cut}
 use Rattle.mp4_pieces.specs.Pieces.{piece_count}
 use Rattle.mp4_pieces.specs.Rooms.{room_fault}
-use Rattle.mp4_reading.specs.Readings.{Reading}
-use Rattle.mp4_items.specs.Contexts.{Context, context, first_context}
-use Rattle.mp4_items.specs.Joined.{AreSound, IsGood, IsMoofHere, IsMoovHere, Item, Movie, MovieFragment, OneBox, PassedOver, behind_items, fragment_in, fragment_of, listed, told_items}
-use Rattle.mp4_items.specs.Makings.{runs_in, settled_in}
+use Rattle.mp4_machine.specs.Readings.{Reading}
+use Rattle.mp4_grammar.specs.Contexts.{Context, context, first_context}
+use Rattle.mp4_grammar.specs.Joined.{AreSound, IsGood, IsMoofHere, IsMoovHere, Item, Movie, MovieFragment, OneBox, PassedOver, context_after_all, fragment_in, fragment_here, listed, items_effects}
+use Rattle.mp4_grammar.specs.Meanings.{runs_in, settled_in}
 use Rattle.mp4_recut.specs.Splitting.{splitting}
 use Rattle.mp4_recut_laws.specs.MediaSamples.{MediaSample, items_samples, media_samples_in}
 use Rattle.mp4_recut_laws.specs.Streams.{Ending, IsSoundEnding, NothingMore, OpenBox, OpenFragment, Stream, ending_context, ending_bytes, ending_samples, stream_bytes, stream_samples}
@@ -28,9 +28,9 @@ use Rattle.mp4_recut_laws.proofs.ReadStreamLemmas.{ended, stream_reads}
 module _ (tell : MediaSample → List ℕ) (cut : Cut) where
   good : (at : ℕ) (o : Option (List Track)) (n m : ℕ) (x : List ℕ) (h : Header) → IsGood (splitting cut) (context at o m) x h → IsGood (telling tell) (context at o n) x h
   good at o n m x h g =
-      let f = fragment_of (context at o m) x h in
-      let runs = moof_runs (held_at x at) (listed o) in
-      ap (λ (f : Option Fault). option_or f None) (first_none (place_fault f.payload runs) (room_fault cut (held_at x at) runs m) g).0
+      let f = fragment_here (context at o m) x h in
+      let runs = moof_runs (moof_at x at) (listed o) in
+      ap (λ (f : Option Fault). option_or f None) (first_none (place_fault f.payload runs) (room_fault cut (moof_at x at) runs m) g).0
 
   moof_here : (at : ℕ) (o : Option (List Track)) (n m : ℕ) (b : OneBox) → IsMoofHere (context at o m) b → IsMoofHere (context at o n) b
   moof_here at o n m b s = record { one = s.one; known = s.known; small = s.small }
@@ -43,7 +43,7 @@ module _ (tell : MediaSample → List ℕ) (cut : Cut) where
   ending_sound at o n m (OpenBox h head more) s = s
   ending_sound at o n m (OpenFragment moof h head more) s = (s.0, s.1, moof_here at o n m moof s.2, s.3, good at o n m moof.bytes h s.4, s.5)
 
-  ending_told : (at : ℕ) (o : Option (List Track)) (n m : ℕ) (e : Ending) → (ended (telling tell) (context at o n) e).told.text ≡ flat_map tell (ending_samples (context at o m) e)
+  ending_told : (at : ℕ) (o : Option (List Track)) (n m : ℕ) (e : Ending) → (ended (telling tell) (context at o n) e).effects.text ≡ flat_map tell (ending_samples (context at o m) e)
   ending_told at o n m NothingMore = refl
   ending_told at o n m (OpenBox h head more) = refl
   ending_told at o n m (OpenFragment moof h head more) = refl
@@ -51,14 +51,14 @@ module _ (tell : MediaSample → List ℕ) (cut : Cut) where
   -- the same items and end, behind contexts that differ in the number alone
   record Tells (c d : Context) (is : List Item) (e : Ending) : Type 0 where
     sound : AreSound (telling tell) c is
-    ending : IsSoundEnding (telling tell) (behind_items (telling tell) c is) e
-    text : (told_items (telling tell) c is).text ++ (ended (telling tell) (behind_items (telling tell) c is) e).told.text ≡ flat_map tell (items_samples cut d is ++ ending_samples (behind_items (splitting cut) d is) e)
+    ending : IsSoundEnding (telling tell) (context_after_all (telling tell) c is) e
+    text : (items_effects (telling tell) c is).text ++ (ended (telling tell) (context_after_all (telling tell) c is) e).effects.text ≡ flat_map tell (items_samples cut d is ++ ending_samples (context_after_all (splitting cut) d is) e)
 
   one_more : (s u v : List MediaSample) (t e : List ℕ) → t ++ e ≡ flat_map tell (u ++ v) → (flat_map tell s ++ t) ++ e ≡ flat_map tell ((s ++ u) ++ v)
   one_more s u v t e h =
       append_assoc (flat_map tell s) t e ∙ ap (λ (x : List ℕ). flat_map tell s ++ x) h ∙ sym (flat_map-append tell s (u ++ v)) ∙ ap (flat_map tell) (sym (append_assoc s u v))
 
-  tells : (at : ℕ) (o : Option (List Track)) (n m : ℕ) (is : List Item) (e : Ending) → AreSound (splitting cut) (context at o m) is → IsSoundEnding (splitting cut) (behind_items (splitting cut) (context at o m) is) e → Tells (context at o n) (context at o m) is e
+  tells : (at : ℕ) (o : Option (List Track)) (n m : ℕ) (is : List Item) (e : Ending) → AreSound (splitting cut) (context at o m) is → IsSoundEnding (splitting cut) (context_after_all (splitting cut) (context at o m) is) e → Tells (context at o n) (context at o m) is e
   tells at o n m [] e s z = record { sound = tt; ending = ending_sound at o n m e z; text = ending_told at o n m e }
   tells at o n m (PassedOver b ∷ is) e s z =
       let rest = tells (at + length b.bytes) o n m is e s.1 z in
@@ -78,4 +78,4 @@ module _ (tell : MediaSample → List ℕ) (cut : Cut) where
   pub stream_told_by : (s : Stream) → AreSound (splitting cut) first_context s.items → IsSoundEnding (splitting cut) (ending_context cut s) s.ending → IsBytes (ending_bytes s.ending) → length (stream_bytes s) ≤ 2 ^ 62 → told_by tell (stream_bytes s) ≡ flat_map tell (stream_samples cut s)
   stream_told_by s sound ending held near =
       let t = tells 0 None 1 1 s.items s.ending sound ending in
-      ap (λ (r : Reading). r.told.text) (stream_reads (telling tell) s t.sound t.ending held near) ∙ t.text
+      ap (λ (r : Reading). r.effects.text) (stream_reads (telling tell) s t.sound t.ending held near) ∙ t.text

@@ -12,7 +12,7 @@ use Rattle.mp4_pieces.proofs.GroupLemmas.{groups_are}
 use Rattle.mp4_cut.specs.Mdat.{mdat_header}
 use Rattle.mp4_cut.specs.Moof.{written_moof}
 use Rattle.mp4_cut.specs.Sidx.{written_index}
-use Rattle.mp4_items.specs.Joined.{Item, bytes_of, joined}
+use Rattle.mp4_grammar.specs.Joined.{Item, bytes_of, joined}
 use Rattle.mp4_recut_laws.specs.PieceItems.{piece_with_media, pieces_items}
 use Rattle.mp4_recut_laws.specs.Premises.{IsRunIn}
 use Rattle.mp4_recut_laws.specs.RecutItems.{groups_items, index_items, runs_items, without_index}

@@ -7,11 +7,11 @@ use Rattle.std.proofs.lemmas.Bool.{ltb-false}
 use Rattle.std.proofs.lemmas.List.Folds.{find_at}
 use Rattle.std.proofs.lemmas.Option.{slice_get_past}
 use Rattle.mp4_init.specs.declared.table.Track.{Track}
-use Rattle.mp4_init.specs.Rows.{with_next}
+use Rattle.mp4_init.specs.Tracks.{with_next}
 use Rattle.mp4_frag.specs.Rules.{track_with}
 use Rattle.mp4_frag.specs.Settling.{ended, ended_at, settled, with_end}
 use Rattle.mp4_frag.specs.Runs.{TrackFragment, end_of}
-use Rattle.mp4_cut.specs.Moof.{Fragment}
+use Rattle.mp4_cut.specs.Moof.{WrittenFragment}
 use Rattle.mp4_cut.specs.Reads.{CanBeRead}
 use Rattle.mp4_recut_laws.specs.PieceItems.{without_end, without_ends}
 
@@ -47,7 +47,7 @@ some_back None t e = absurd cc
 some_back (Some u) t e = record { track = u; is = refl; entries = let same : without_end u ≡ without_end t = cc in ap (λ (x : Track). x.entries) same }
 
 -- what can be read behind some tracks can be read behind others that differ in their ends alone
-pub can_still : (f : Fragment) (ts us : List Track) → without_ends us ≡ without_ends ts → CanBeRead ts f → CanBeRead us f
+pub can_still : (f : WrittenFragment) (ts us : List Track) → without_ends us ≡ without_ends ts → CanBeRead ts f → CanBeRead us f
 can_still f ts us e can =
     let there = some_back (track_with f.track us) can.track (track_ends f.track us ∙ (ap (track_with f.track) e ∙ (sym (track_ends f.track ts) ∙ ap (option_map without_end) can.known))) in
     record { fits = can.fits; track = there.track; known = there.is; low = can.low; high = omega (arith, can.high, there.entries) }

@@ -10,13 +10,13 @@ use Rattle.mp4_init.proofs.MoovLemmas.{first_none}
 use Rattle.mp4_frag.specs.declared.run.Run.{Run}
 use Rattle.mp4_frag.specs.Moofs.{moof_runs}
 use Rattle.mp4_frag.specs.Places.{place_fault}
-use Rattle.mp4_frag.specs.Runs.{Held, held_at}
+use Rattle.mp4_frag.specs.Runs.{MoofBytes, moof_at}
 use Rattle.mp4_pieces.specs.declared.cut.Cut.{Cut}
 use Rattle.mp4_pieces.specs.Pieces.{piece_count}
 use Rattle.mp4_pieces.specs.Rooms.{index_faults, numbers, room_fault, sequence_faults}
 use Rattle.mp4_pieces.specs.Rooms as rooms
-use Rattle.mp4_items.specs.Contexts.{Context, first_context}
-use Rattle.mp4_items.specs.Joined.{AreSound, IsGood, IsSound, Item, Movie, MovieFragment, PassedOver, behind_item, behind_items, fragment_of, tracks_in}
+use Rattle.mp4_grammar.specs.Contexts.{Context, first_context}
+use Rattle.mp4_grammar.specs.Joined.{AreSound, IsGood, IsSound, Item, Movie, MovieFragment, PassedOver, context_after, context_after_all, fragment_here, tracks_in}
 use Rattle.mp4_recut.specs.Splitting.{splitting}
 use Rattle.mp4_recut_laws.specs.RecutItems.{without_index}
 use Rattle.mp4_recut_laws.specs.Streams.{Ending, IsSoundEnding, IsSoundStream, NothingMore, OpenBox, OpenFragment, Stream}
@@ -32,7 +32,7 @@ no_index : (cut : Cut) (held : List ℕ) (runs : List Run) → index_faults (wit
 no_index cut held [] = refl
 no_index cut held (run ∷ runs) = no_index cut held runs
 
-room_without_index : (cut : Cut) (h : Held) (runs : List Run) (number : ℕ) → room_fault cut h runs number ≡ None → room_fault (without_index cut) h runs number ≡ None
+room_without_index : (cut : Cut) (h : MoofBytes) (runs : List Run) (number : ℕ) → room_fault cut h runs number ≡ None → room_fault (without_index cut) h runs number ≡ None
 unfolding rooms.room_faults order.least_from
 room_without_index cut h runs number e =
     let faults = sequence_faults h.offset (numbers number (piece_count cut h.bytes runs)) in
@@ -41,8 +41,8 @@ room_without_index cut h runs number e =
 
 good_without_index : (cut : Cut) (c : Context) (x : List ℕ) (h : Header) → IsGood (splitting cut) c x h → IsGood (splitting (without_index cut)) c x h
 good_without_index cut c x h good =
-    let f = fragment_of c x h in
-    let m = held_at x c.at in
+    let f = fragment_here c x h in
+    let m = moof_at x c.at in
     let runs = moof_runs m (tracks_in c) in
     let both = first_none (place_fault f.payload runs) (room_fault cut m runs c.number) good in
     both_none (place_fault f.payload runs) (room_fault (without_index cut) m runs c.number) both.0 (room_without_index cut m runs c.number both.1)
@@ -52,7 +52,7 @@ item_without_index cut c (PassedOver b) s = s
 item_without_index cut c (Movie b) s = s
 item_without_index cut c (MovieFragment moof mdat) s = (s.0, s.1, s.2, good_without_index cut c moof.bytes mdat.header s.3)
 
-pub same_behind : (cut : Cut) (c : Context) (i : Item) → behind_item (splitting cut) c i ≡ behind_item (splitting (without_index cut)) c i
+pub same_behind : (cut : Cut) (c : Context) (i : Item) → context_after (splitting cut) c i ≡ context_after (splitting (without_index cut)) c i
 same_behind cut c (PassedOver b) = refl
 same_behind cut c (Movie b) = refl
 same_behind cut c (MovieFragment moof mdat) = refl
@@ -64,12 +64,12 @@ ending_without_index cut c (OpenFragment moof h head more) s = (s.0, s.1, s.2, s
 
 record AreWithoutIndex (cut : Cut) (c : Context) (is : List Item) (e : Ending) : Type 0 where
   sound : AreSound (splitting (without_index cut)) c is
-  ending : IsSoundEnding (splitting (without_index cut)) (behind_items (splitting (without_index cut)) c is) e
+  ending : IsSoundEnding (splitting (without_index cut)) (context_after_all (splitting (without_index cut)) c is) e
 
-are_without_index : (cut : Cut) (c : Context) (is : List Item) (e : Ending) → AreSound (splitting cut) c is → IsSoundEnding (splitting cut) (behind_items (splitting cut) c is) e → AreWithoutIndex cut c is e
+are_without_index : (cut : Cut) (c : Context) (is : List Item) (e : Ending) → AreSound (splitting cut) c is → IsSoundEnding (splitting cut) (context_after_all (splitting cut) c is) e → AreWithoutIndex cut c is e
 are_without_index cut c [] e s z = record { sound = tt; ending = ending_without_index cut c e z }
 are_without_index cut c (i ∷ is) e s z =
-    let rest = subst (λ (d : Context). AreWithoutIndex cut d is e) (same_behind cut c i) (are_without_index cut (behind_item (splitting cut) c i) is e s.1 z) in
+    let rest = subst (λ (d : Context). AreWithoutIndex cut d is e) (same_behind cut c i) (are_without_index cut (context_after (splitting cut) c i) is e s.1 z) in
     record { sound = (item_without_index cut c i s.0, rest.sound); ending = rest.ending }
 
 pub stream_without_index : (cut : Cut) (s : Stream) → IsSoundStream cut s → IsSoundStream (without_index cut) s

@@ -12,8 +12,8 @@ use Rattle.mp4_frag.specs.declared.run.Run.{Run}
 use Rattle.mp4_frag.specs.Moofs.{moof_runs, moof_trafs}
 use Rattle.mp4_frag.specs.Places.{place_fault}
 use Rattle.mp4_frag.specs.RunLists.{taken_runs}
-use Rattle.mp4_frag.specs.RunRows.{listed_run}
-use Rattle.mp4_frag.specs.Runs.{Held, held_at}
+use Rattle.mp4_frag.specs.Places.{listed_run}
+use Rattle.mp4_frag.specs.Runs.{MoofBytes, moof_at}
 use Rattle.mp4_frag.specs.Settling.{settled}
 use Rattle.mp4_pieces.specs.declared.cut.Cut.{Cut}
 use Rattle.mp4_pieces.specs.Fits.{FitsIndex}
@@ -22,8 +22,8 @@ use Rattle.mp4_pieces.specs.Rooms.{room_fault, room_faults}
 use Rattle.mp4_pieces.proofs.FitsLemmas.{room_from}
 use Rattle.mp4_pieces.proofs.OrderLemmas.{room_kept}
 use Rattle.mp4_cut.specs.Reads.{FitsTrack}
-use Rattle.mp4_items.specs.Contexts.{Context, context, first_context}
-use Rattle.mp4_items.specs.Joined.{AreSound, IsSound, Item, Movie, MovieFragment, OneBox, PassedOver, behind_item, behind_items, bytes_of, fragment_in, fragment_of, joined, listed, tracks_in}
+use Rattle.mp4_grammar.specs.Contexts.{Context, context, first_context}
+use Rattle.mp4_grammar.specs.Joined.{AreSound, IsSound, Item, Movie, MovieFragment, OneBox, PassedOver, context_after, context_after_all, bytes_of, fragment_in, fragment_here, joined, listed, tracks_in}
 use Rattle.mp4_recut.specs.Splitting.{splitting}
 use Rattle.mp4_recut_laws.specs.Premises.{CanAllBeRecut, CanBeRecut}
 use Rattle.mp4_recut_laws.specs.Indexes.{EndingIsIndexed, ItemIsIndexed, ItemsAreIndexed}
@@ -42,7 +42,7 @@ nothing_known : {X : Type 0} → ◌≡◌ {A = Option (List Track)} None (Some 
 nothing_known e = absurd cc
 
 -- an index has room for the pieces of each run
-pub all_index : (cut : Cut) (h : Held) (tracks : List Track) (number : ℕ) → cut.index ≡ true → room_fault cut h (moof_runs h tracks) number ≡ None → AllByRecursion (λ (run : Run). FitsIndex (pieces_of cut h.bytes run)) (taken_runs h tracks)
+pub all_index : (cut : Cut) (h : MoofBytes) (tracks : List Track) (number : ℕ) → cut.index ≡ true → room_fault cut h (moof_runs h tracks) number ≡ None → AllByRecursion (λ (run : Run). FitsIndex (pieces_of cut h.bytes run)) (taken_runs h tracks)
 all_index cut h tracks number index none =
     let runs = moof_runs h tracks in
     (room_kept cut h runs (taken_runs h tracks) number (taken_permutes listed_run runs) (room_from cut h runs number (least-none (room_faults cut h runs number) none))).indexes index
@@ -52,7 +52,7 @@ module _ (cut : Cut) (index : cut.index ≡ true) where
   fragment_by at number None moof mdat scaled s fine = nothing_known s.0.known
   fragment_by at number (Some tracks) moof mdat scaled s fine =
       let f = fragment_in (context at (Some tracks) number) moof mdat in
-      let h = held_at moof.bytes at in
+      let h = moof_at moof.bytes at in
       let good = first_none (place_fault f.payload (moof_runs h tracks)) (room_fault cut h (moof_runs h tracks) number) s.3 in
       runs_indexed cut moof.bytes f.payload.start (drop mdat.header.header_len mdat.bytes) tracks number (taken_runs h tracks) scaled (fragment_runs cut at number tracks moof mdat s fine.0 fine.1 fine.2 fine.3) (all_index cut h tracks number index good.1)
 
@@ -60,18 +60,18 @@ module _ (cut : Cut) (index : cut.index ≡ true) where
       → EndingIsIndexed cut (context at o number) (OpenFragment moof h head more)
   open_by at number None moof h head more scaled s held room low fit = nothing_known s.2.known
   open_by at number (Some tracks) moof h head more scaled s held room low fit =
-      let f = fragment_of (context at (Some tracks) number) moof.bytes h in
-      let m = held_at moof.bytes at in
+      let f = fragment_here (context at (Some tracks) number) moof.bytes h in
+      let m = moof_at moof.bytes at in
       let whole : IsWhole moof.bytes = (moof.header, s.2.one.payload, s.2.one.is) in
       let good = first_none (place_fault f.payload (moof_runs m tracks)) (room_fault cut m (moof_runs m tracks) number) s.4 in
       runs_indexed cut moof.bytes f.payload.start more tracks number (taken_runs m tracks) scaled (open_runs cut at number tracks moof.bytes more h s.1.1 whole held room fit low s.3 s.4 s.5) (all_index cut m tracks number index good.1)
 
-  pub item_scaled : (c : Context) (i : Item) → AreScaled (tracks_in c) → IsSound (splitting cut) c i → IsBytes (bytes_of i) → AreScaled (tracks_in (behind_item (splitting cut) c i))
+  pub item_scaled : (c : Context) (i : Item) → AreScaled (tracks_in c) → IsSound (splitting cut) c i → IsBytes (bytes_of i) → AreScaled (tracks_in (context_after (splitting cut) c i))
   item_scaled c (PassedOver b) scaled s held = scaled
   item_scaled c (Movie b) scaled s held = moov_scaled c.at b.bytes held
   item_scaled c (MovieFragment moof mdat) scaled s held =
       let ts = tracks_in c in
-      let fs = moof_trafs (held_at moof.bytes c.at) ts in
+      let fs = moof_trafs (moof_at moof.bytes c.at) ts in
       scaled_ends ts (settled ts fs) (sym (ends_settled ts fs)) scaled
 
   item_indexed : (c : Context) (i : Item) → AreScaled (tracks_in c) → IsSound (splitting cut) c i → CanBeRecut c i → ItemIsIndexed cut c i
@@ -79,10 +79,10 @@ module _ (cut : Cut) (index : cut.index ≡ true) where
   item_indexed c (Movie b) scaled s fine = tt
   item_indexed c (MovieFragment moof mdat) scaled s fine = fragment_by c.at c.number c.tracks moof mdat scaled s fine
 
-  pub items_indexed : (c : Context) (is : List Item) → AreScaled (tracks_in c) → AreSound (splitting cut) c is → CanAllBeRecut cut c is → IsBytes (joined is) → ItemsAreIndexed cut c is × AreScaled (tracks_in (behind_items (splitting cut) c is))
+  pub items_indexed : (c : Context) (is : List Item) → AreScaled (tracks_in c) → AreSound (splitting cut) c is → CanAllBeRecut cut c is → IsBytes (joined is) → ItemsAreIndexed cut c is × AreScaled (tracks_in (context_after_all (splitting cut) c is))
   items_indexed c [] scaled s fine held = (tt, scaled)
   items_indexed c (i ∷ is) scaled s fine held =
-      let rest = items_indexed (behind_item (splitting cut) c i) is (item_scaled c i scaled s.0 (bytes_front (bytes_of i) (joined is) held)) s.1 fine.1 (bytes_back (bytes_of i) (joined is) held) in
+      let rest = items_indexed (context_after (splitting cut) c i) is (item_scaled c i scaled s.0 (bytes_front (bytes_of i) (joined is) held)) s.1 fine.1 (bytes_back (bytes_of i) (joined is) held) in
       ((item_indexed c i scaled s.0 fine.0, rest.0), rest.1)
 
   ending_indexed : (c : Context) (e : Ending) → AreScaled (tracks_in c) → IsSoundEnding (splitting cut) c e → IsBytes (ending_bytes e) → c.at + length (ending_bytes e) ≤ 2 ^ 62 → c.number ≤ 2 ^ 32 → AllByRecursion FitsTrack (tracks_in c) → EndingIsIndexed cut c e

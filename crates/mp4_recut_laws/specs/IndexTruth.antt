@@ -4,8 +4,8 @@ use Rattle.std.specs.List.{AllByRecursion, sum_by}
 use Rattle.mp4_pieces.specs.declared.cut.Cut.{Cut}
 use Rattle.mp4_pieces.specs.Pieces.{least_of}
 use Rattle.mp4_cut.specs.Indexes.{Index, Reference, index_in}
-use Rattle.mp4_items.specs.Contexts.{Context}
-use Rattle.mp4_items.specs.Joined.{Item, Movie, MovieFragment, PassedOver, behind_item, bytes_of, tracks_in}
+use Rattle.mp4_grammar.specs.Contexts.{Context}
+use Rattle.mp4_grammar.specs.Joined.{Item, Movie, MovieFragment, PassedOver, context_after, bytes_of, tracks_in}
 use Rattle.mp4_recut.specs.Splitting.{splitting, timescale_of}
 use Rattle.mp4_recut_laws.specs.MediaSamples.{MediaSample, item_samples}
 
@@ -14,7 +14,7 @@ abbrev pub first_references : Cut → Context → ℕ → List Item → List Ref
 first_references cut c zero is = []
 first_references cut c (suc n) [] = []
 first_references cut c (suc n) (i ∷ is) =
-    record { size = length (bytes_of i); duration = sum_by (λ (s : MediaSample). s.duration) (item_samples c i); access = 0 } ∷ first_references cut (behind_item (splitting cut) c i) n is
+    record { size = length (bytes_of i); duration = sum_by (λ (s : MediaSample). s.duration) (item_samples c i); access = 0 } ∷ first_references cut (context_after (splitting cut) c i) n is
 
 -- the samples of the first of these items
 abbrev pub samples_of_first : Context → List Item → List MediaSample
@@ -41,4 +41,4 @@ SidxIsTrue cut c (MovieFragment moof mdat) is = Unit {0}
 -- each sidx among these items does
 abbrev pub IndexesAreTrue : Cut → Context → List Item → Type 0
 IndexesAreTrue cut c [] = Unit {0}
-IndexesAreTrue cut c (i ∷ is) = SidxIsTrue cut (behind_item (splitting cut) c i) i is × IndexesAreTrue cut (behind_item (splitting cut) c i) is
+IndexesAreTrue cut c (i ∷ is) = SidxIsTrue cut (context_after (splitting cut) c i) i is × IndexesAreTrue cut (context_after (splitting cut) c i) is

@@ -8,10 +8,10 @@ use Rattle.mp4_pieces.specs.declared.piece.Piece.{Piece}
 use Rattle.mp4_pieces.specs.Groups.{groups}
 use Rattle.mp4_pieces.specs.Pieces.{least_of, pieces_of}
 use Rattle.mp4_cut.specs.Indexes.{Reference, index_in}
-use Rattle.mp4_items.specs.Contexts.{Context}
-use Rattle.mp4_items.specs.Joined.{Item, Movie, MovieFragment, PassedOver, behind_item, bytes_of, fragment_in}
-use Rattle.mp4_items.specs.Joined as items
-use Rattle.mp4_items.specs.Makings.{Fragment, runs_in}
+use Rattle.mp4_grammar.specs.Contexts.{Context}
+use Rattle.mp4_grammar.specs.Joined.{Item, Movie, MovieFragment, PassedOver, context_after, bytes_of, fragment_in}
+use Rattle.mp4_grammar.specs.Joined as items
+use Rattle.mp4_grammar.specs.Meanings.{Fragment, runs_in}
 use Rattle.mp4_recut.specs.Splitting.{splitting, timescale_of}
 use Rattle.mp4_recut_laws.specs.PieceItems.{PieceWithMedia, piece_item, piece_samples, piece_with_media}
 use Rattle.mp4_recut_laws.specs.RecutItems.{index_as_box}
@@ -69,10 +69,10 @@ ItemIsIndexed cut c (MovieFragment moof mdat) = FragmentIsIndexed cut (fragment_
 -- so do those of items, one after the other
 abbrev pub ItemsAreIndexed : Cut → Context → List Item → Type 0
 ItemsAreIndexed cut c [] = Unit {0}
-ItemsAreIndexed cut c (i ∷ is) = ItemIsIndexed cut c i × ItemsAreIndexed cut (behind_item (splitting cut) c i) is
+ItemsAreIndexed cut c (i ∷ is) = ItemIsIndexed cut c i × ItemsAreIndexed cut (context_after (splitting cut) c i) is
 
 -- so do those of an ending
 abbrev pub EndingIsIndexed : Cut → Context → Ending → Type 0
 EndingIsIndexed cut c NothingMore = Unit {0}
 EndingIsIndexed cut c (OpenBox h head more) = Unit {0}
-EndingIsIndexed cut c (OpenFragment moof h head more) = FragmentIsIndexed cut (items.fragment_of c moof.bytes h) more
+EndingIsIndexed cut c (OpenFragment moof h head more) = FragmentIsIndexed cut (items.fragment_here c moof.bytes h) more

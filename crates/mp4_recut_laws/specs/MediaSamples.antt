@@ -6,9 +6,9 @@ use Rattle.mp4_frag.specs.declared.run.Run.{Run}
 use Rattle.mp4_frag.specs.Rows.{rows_of}
 use Rattle.mp4_pieces.specs.declared.cut.Cut.{Cut}
 use Rattle.mp4_cut.specs.Sidx.{natural}
-use Rattle.mp4_items.specs.Contexts.{Context}
-use Rattle.mp4_items.specs.Joined.{Item, PassedOver, Movie, MovieFragment, behind_item, fragment_in}
-use Rattle.mp4_items.specs.Makings.{Fragment, runs_in}
+use Rattle.mp4_grammar.specs.Contexts.{Context}
+use Rattle.mp4_grammar.specs.Joined.{Item, PassedOver, Movie, MovieFragment, context_after, fragment_in}
+use Rattle.mp4_grammar.specs.Meanings.{Fragment, runs_in}
 use Rattle.mp4_recut.specs.Splitting.{splitting}
 
 -- what a player gets of a sample: its track, its decode and composition times, its duration, its flags and its sample entry, and the bytes of its media; its place in the stream is left out
@@ -45,4 +45,4 @@ item_samples c (MovieFragment moof mdat) = media_samples_in (fragment_in c moof 
 -- the samples of items, one after the other
 abbrev pub items_samples : Cut → Context → List Item → List MediaSample
 items_samples cut c [] = []
-items_samples cut c (i ∷ is) = item_samples c i ++ items_samples cut (behind_item (splitting cut) c i) is
+items_samples cut c (i ∷ is) = item_samples c i ++ items_samples cut (context_after (splitting cut) c i) is

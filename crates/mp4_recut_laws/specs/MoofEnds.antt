@@ -1,7 +1,7 @@
 -- Where the moofs of a stream end, and how they are numbered.
 use Rattle.std.specs.Prelude.{ℕ, ◌+◌, List, [], ◌∷◌, length}
-use Rattle.mp4_reading.specs.declared.mark.Mark.{Mark}
-use Rattle.mp4_items.specs.Joined.{Item, Movie, MovieFragment, PassedOver}
+use Rattle.mp4_machine.specs.declared.mark.Mark.{Mark}
+use Rattle.mp4_grammar.specs.Joined.{Item, Movie, MovieFragment, PassedOver}
 
 -- of items behind so many bytes: the end of each moof, with its number, of which the first is n
 abbrev pub moof_ends : (at n : ℕ) → List Item → List Mark

@@ -10,11 +10,11 @@ use Rattle.mp4_pieces.specs.Pieces.{pieces_of}
 use Rattle.mp4_pieces.specs.Rooms.{moof}
 use Rattle.mp4_pieces.specs.Sizes.{mdat_header_size, moof_size}
 use Rattle.mp4_cut.specs.Mdat.{mdat, mdat_header}
-use Rattle.mp4_cut.specs.Moof.{fragment_of, moof_box}
-use Rattle.mp4_cut.specs.Moof.{Fragment as Written}
+use Rattle.mp4_cut.specs.Moof.{written_fragment, moof_box}
+use Rattle.mp4_cut.specs.Moof.{WrittenFragment as Written}
 use Rattle.mp4_cut.specs.Reads.{CanBeRead, header_of}
-use Rattle.mp4_items.specs.Contexts.{Context}
-use Rattle.mp4_items.specs.Joined.{IsSound, Item, MovieFragment, OneBox, behind_item, bytes_of}
+use Rattle.mp4_grammar.specs.Contexts.{Context}
+use Rattle.mp4_grammar.specs.Joined.{IsSound, Item, MovieFragment, OneBox, context_after, bytes_of}
 use Rattle.mp4_recut.specs.Splitting.{splitting}
 use Rattle.mp4_recut.specs.Texts.{item_text, media_of}
 use Rattle.mp4_recut_laws.specs.MediaSamples.{MediaSample, media_samples_from}
@@ -48,7 +48,7 @@ pub record IsOnePiece (cut : Cut) (tracks : List Track) (f : Written) (media : L
 pub record IsOwnRecut (cut : Cut) (c : Context) (i : Item) (next : Context) : Type 0 where
   pub sound : IsSound (splitting cut) c i
   pub text : item_text cut c i ≡ bytes_of i
-  pub behind : behind_item (splitting cut) c i ≡ next
+  pub behind : context_after (splitting cut) c i ≡ next
 
 -- ---- pieces, one after the other
 
@@ -78,7 +78,7 @@ piece_samples q = media_samples_from q.written.track q.written.entry q.written.r
 
 -- a piece of a run with its media. `held` are the bytes of the moof, and `payload` is that of its mdat, which begins at the stream offset `start`
 abbrev pub piece_with_media : List ℕ → ℕ → List ℕ → Run → Piece → PieceWithMedia
-piece_with_media held start payload run p = record { written = fragment_of held run p; media = media_of start payload p }
+piece_with_media held start payload run p = record { written = written_fragment held run p; media = media_of start payload p }
 
 -- all pieces of a run with their media
 abbrev pub pieces_with_media : Cut → List ℕ → ℕ → List ℕ → Run → List PieceWithMedia

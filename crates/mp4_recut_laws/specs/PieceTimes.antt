@@ -8,11 +8,11 @@ use Rattle.mp4_pieces.specs.Fits.{FitsTime}
 use Rattle.mp4_pieces.specs.Pieces.{composition_times, least_of, pieces_of}
 use Rattle.mp4_pieces.specs.Sizes.{mdat_header_size, moof_size}
 use Rattle.mp4_frag.specs.Rows.{durations, sizes}
-use Rattle.mp4_cut.specs.Moof.{Fragment as Written}
-use Rattle.mp4_items.specs.Contexts.{Context}
-use Rattle.mp4_items.specs.Joined.{Item, Movie, MovieFragment, PassedOver, behind_item, fragment_in}
-use Rattle.mp4_items.specs.Joined as items
-use Rattle.mp4_items.specs.Makings.{Fragment, runs_in}
+use Rattle.mp4_cut.specs.Moof.{WrittenFragment as Written}
+use Rattle.mp4_grammar.specs.Contexts.{Context}
+use Rattle.mp4_grammar.specs.Joined.{Item, Movie, MovieFragment, PassedOver, context_after, fragment_in}
+use Rattle.mp4_grammar.specs.Joined as items
+use Rattle.mp4_grammar.specs.Meanings.{Fragment, runs_in}
 use Rattle.mp4_recut.specs.Splitting.{splitting}
 use Rattle.mp4_recut_laws.specs.Streams.{Ending, NothingMore, OpenBox, OpenFragment}
 
@@ -39,10 +39,10 @@ ItemTimesFit cut c (MovieFragment moof mdat) = FragmentTimesFit cut (fragment_in
 -- so it is with items, one after the other
 abbrev pub ItemsTimesFit : Cut → Context → List Item → Type 0
 ItemsTimesFit cut c [] = Unit {0}
-ItemsTimesFit cut c (i ∷ is) = ItemTimesFit cut c i × ItemsTimesFit cut (behind_item (splitting cut) c i) is
+ItemsTimesFit cut c (i ∷ is) = ItemTimesFit cut c i × ItemsTimesFit cut (context_after (splitting cut) c i) is
 
 -- so it is with an ending
 abbrev pub EndingTimesFit : Cut → Context → Ending → Type 0
 EndingTimesFit cut c NothingMore = Unit {0}
 EndingTimesFit cut c (OpenBox h head more) = Unit {0}
-EndingTimesFit cut c (OpenFragment moof h head more) = FragmentTimesFit cut (items.fragment_of c moof.bytes h)
+EndingTimesFit cut c (OpenFragment moof h head more) = FragmentTimesFit cut (items.fragment_here c moof.bytes h)

@@ -9,8 +9,8 @@ use Rattle.mp4_frag.specs.Rows.{rows_of}
 use Rattle.mp4_pieces.specs.declared.cut.Cut.{Cut}
 use Rattle.mp4_pieces.specs.Pieces.{IsRunOf}
 use Rattle.mp4_cut.specs.Reads.{FitsTrack, IsSoundRun}
-use Rattle.mp4_items.specs.Contexts.{Context, first_context}
-use Rattle.mp4_items.specs.Joined.{AreSound, Item, Movie, MovieFragment, PassedOver, behind_item, behind_items, joined, tracks_in}
+use Rattle.mp4_grammar.specs.Contexts.{Context, first_context}
+use Rattle.mp4_grammar.specs.Joined.{AreSound, Item, Movie, MovieFragment, PassedOver, context_after, context_after_all, joined, tracks_in}
 use Rattle.mp4_recut.specs.Splitting.{splitting}
 use Rattle.mp4_recut.specs.Texts.{items_text}
 use Rattle.mp4_recut_laws.specs.MediaSamples.{items_samples}
@@ -34,7 +34,7 @@ CanBeRecut c (MovieFragment moof mdat) = IsBytes moof.bytes × (c.at + length mo
 -- all of these items can be, one after the other
 abbrev pub CanAllBeRecut : Cut → Context → List Item → Type 0
 CanAllBeRecut cut c [] = Unit {0}
-CanAllBeRecut cut c (i ∷ is) = CanBeRecut c i × CanAllBeRecut cut (behind_item (splitting cut) c i) is
+CanAllBeRecut cut c (i ∷ is) = CanBeRecut c i × CanAllBeRecut cut (context_after (splitting cut) c i) is
 
 -- whole items from the first byte of a stream on: they are bytes, break no rule, and end by offset 2^62
 pub record AreFirstItems (cut : Cut) (is : List Item) : Type 0 where
@@ -54,4 +54,4 @@ pub record RecutAgrees (cut : Cut) (c d : Context) (is now : List Item) : Type 0
   pub sound : AreSound (splitting (without_index cut)) d now
   pub text : items_text (without_index cut) d now ≡ items_text (without_index cut) c is
   pub same : items_samples (without_index cut) d now ≡ items_samples cut c is
-  pub same_tracks : SameButEnds (behind_items (splitting cut) c is) (behind_items (splitting (without_index cut)) d now)
+  pub same_tracks : SameButEnds (context_after_all (splitting cut) c is) (context_after_all (splitting (without_index cut)) d now)

@@ -8,9 +8,9 @@ use Rattle.mp4_pieces.specs.Groups.{groups}
 use Rattle.mp4_pieces.specs.Pieces.{pieces_of}
 use Rattle.mp4_cut.specs.Reads.{header_of}
 use Rattle.mp4_cut.specs.Sidx.{sidx, sidx_payload, written_index}
-use Rattle.mp4_items.specs.Contexts.{Context, context}
-use Rattle.mp4_items.specs.Joined.{AreSound, Item, Movie, MovieFragment, OneBox, PassedOver, behind_item, behind_items, fragment_in, joined}
-use Rattle.mp4_items.specs.Makings.{Fragment, runs_in}
+use Rattle.mp4_grammar.specs.Contexts.{Context, context}
+use Rattle.mp4_grammar.specs.Joined.{AreSound, Item, Movie, MovieFragment, OneBox, PassedOver, context_after, context_after_all, fragment_in, joined}
+use Rattle.mp4_grammar.specs.Meanings.{Fragment, runs_in}
 use Rattle.mp4_recut.specs.Splitting.{is_dropped, splitting, timescale_of}
 use Rattle.mp4_recut.specs.Texts.{items_text}
 use Rattle.mp4_recut_laws.specs.MediaSamples.{MediaSample, items_samples}
@@ -64,7 +64,7 @@ item_recut cut c (MovieFragment moof mdat) = fragment_items cut (fragment_in c m
 -- the recut text of items, as items
 abbrev pub items_recut : Cut → Context → List Item → List Item
 items_recut cut c [] = []
-items_recut cut c (i ∷ is) = item_recut cut c i ++ items_recut cut (behind_item (splitting cut) c i) is
+items_recut cut c (i ∷ is) = item_recut cut c i ++ items_recut cut (context_after (splitting cut) c i) is
 
 -- ---- what items are recut to
 
@@ -73,7 +73,7 @@ pub record AreRecutHere (cut : Cut) (at number : ℕ) (tracks : List Track) (is 
   pub sound : AreSound (splitting cut) (context at (Some tracks) number) is
   pub text : items_text cut (context at (Some tracks) number) is ≡ out
   pub ended : List Track
-  pub behind : behind_items (splitting cut) (context at (Some tracks) number) is ≡ context (at + length (joined is)) (Some ended) (number + count)
+  pub behind : context_after_all (splitting cut) (context at (Some tracks) number) is ≡ context (at + length (joined is)) (Some ended) (number + count)
   pub same_tracks : without_ends ended ≡ without_ends tracks
   pub same : items_samples cut (context at (Some tracks) number) is ≡ samples
 

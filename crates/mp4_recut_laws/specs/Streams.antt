@@ -3,13 +3,13 @@ use Rattle.std.specs.Prelude.{ℕ, ◌≤◌, ◌^◌, Bool, true, false, List, 
 use Rattle.mp4_box.specs.declared.headers.Header.{Header}
 use Rattle.mp4_box.specs.Headers.{Head, IsBytes}
 use Rattle.mp4_frag.specs.Moofs.{IsRead}
-use Rattle.mp4_frag.specs.Runs.{held_at}
+use Rattle.mp4_frag.specs.Runs.{moof_at}
 use Rattle.mp4_pieces.specs.declared.cut.Cut.{Cut}
-use Rattle.mp4_items.specs.Contexts.{Context, first_context}
-use Rattle.mp4_items.specs.Joined.{AreSound, IsGood, IsMoofHere, Item, OneBox, behind_items, fragment_of, joined, tracks_in}
-use Rattle.mp4_items.specs.Makings.{Making, needed_in}
-use Rattle.mp4_items.specs.Rests.{IsOpen}
-use Rattle.mp4_items.specs.declared.kinds.Kind.TheVariants.{Mdat, Other}
+use Rattle.mp4_grammar.specs.Contexts.{Context, first_context}
+use Rattle.mp4_grammar.specs.Joined.{AreSound, IsGood, IsMoofHere, Item, OneBox, context_after_all, fragment_here, joined, tracks_in}
+use Rattle.mp4_grammar.specs.Meanings.{Meaning, needed_in}
+use Rattle.mp4_grammar.specs.Rests.{IsOpen}
+use Rattle.mp4_grammar.specs.declared.kinds.Kind.TheVariants.{Mdat, Other}
 use Rattle.mp4_recut_laws.specs.RecutItems.{fragment_items, items_recut}
 use Rattle.mp4_recut_laws.specs.MediaSamples.{MediaSample, items_samples, media_samples_in}
 use Rattle.mp4_recut.specs.Splitting.{is_dropped, splitting}
@@ -28,23 +28,23 @@ ending_bytes (OpenBox h head more) = head ++ more
 ending_bytes (OpenFragment moof h head more) = moof.bytes ++ (head ++ more)
 
 -- the ending breaks no rule in this context
-abbrev pub IsSoundEnding : Making → Context → Ending → Type 0
-IsSoundEnding make c NothingMore = Unit {0}
-IsSoundEnding make c (OpenBox h head more) = Head h head × IsOpen Other h
-IsSoundEnding make c (OpenFragment moof h head more) =
-    Head h head × IsOpen Mdat h × IsMoofHere c moof × IsRead (held_at moof.bytes c.at) (tracks_in c) × IsGood make c moof.bytes h × (needed_in (fragment_of c moof.bytes h) ≤ length more)
+abbrev pub IsSoundEnding : Meaning → Context → Ending → Type 0
+IsSoundEnding meaning c NothingMore = Unit {0}
+IsSoundEnding meaning c (OpenBox h head more) = Head h head × IsOpen Other h
+IsSoundEnding meaning c (OpenFragment moof h head more) =
+    Head h head × IsOpen Mdat h × IsMoofHere c moof × IsRead (moof_at moof.bytes c.at) (tracks_in c) × IsGood meaning c moof.bytes h × (needed_in (fragment_here c moof.bytes h) ≤ length more)
 
 -- the recut text of an ending
 abbrev pub ending_text : Cut → Context → Ending → List ℕ
 ending_text cut c NothingMore = []
 ending_text cut c (OpenBox h head more) = box_text (is_dropped h.kind.0) (head ++ more)
-ending_text cut c (OpenFragment moof h head more) = fragment_text cut (fragment_of c moof.bytes h) more
+ending_text cut c (OpenFragment moof h head more) = fragment_text cut (fragment_here c moof.bytes h) more
 
 -- the samples of an ending
 abbrev pub ending_samples : Context → Ending → List MediaSample
 ending_samples c NothingMore = []
 ending_samples c (OpenBox h head more) = []
-ending_samples c (OpenFragment moof h head more) = media_samples_in (fragment_of c moof.bytes h) more
+ending_samples c (OpenFragment moof h head more) = media_samples_in (fragment_here c moof.bytes h) more
 
 -- a stream as whole items and an ending
 pub record Stream : Type 0 where
@@ -57,7 +57,7 @@ stream_bytes s = joined s.items ++ ending_bytes s.ending
 
 -- what is known where the ending of a stream begins
 abbrev pub ending_context : Cut → Stream → Context
-ending_context cut s = behind_items (splitting cut) first_context s.items
+ending_context cut s = context_after_all (splitting cut) first_context s.items
 
 -- the stream is of bytes, breaks no rule, and has at most 2^62 bytes
 pub record IsSoundStream (cut : Cut) (s : Stream) : Type 0 where
@@ -80,7 +80,7 @@ stream_samples cut s = items_samples cut first_context s.items ++ ending_samples
 abbrev pub ending_items : Cut → Context → Ending → List Item
 ending_items cut c NothingMore = []
 ending_items cut c (OpenBox h head more) = []
-ending_items cut c (OpenFragment moof h head more) = fragment_items cut (fragment_of c moof.bytes h) more
+ending_items cut c (OpenFragment moof h head more) = fragment_items cut (fragment_here c moof.bytes h) more
 
 -- a box that goes to the end of the stream, where it is kept; nothing where it is left out
 abbrev pub kept_ending : Bool → Header → List ℕ → List ℕ → Ending

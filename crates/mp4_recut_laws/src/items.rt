@@ -10,10 +10,10 @@ ghost use Rattle.mp4_frag.specs.Settling.{with_end};
 ghost use Rattle.mp4_frag.specs.declared.rows.Row.{Row};
 ghost use Rattle.mp4_frag.specs.declared.run.Run.{Run};
 ghost use Rattle.mp4_pieces.specs.declared.cut.Cut.{Cut};
-ghost use Rattle.mp4_cut.specs.Moof.{Fragment};
-ghost use Rattle.mp4_reading.specs.Readings.{Sound};
-ghost use Rattle.mp4_items.specs.Contexts.{context, first_context};
-ghost use Rattle.mp4_items.specs.Joined.{AreSound, Item, bytes_of, joined};
+ghost use Rattle.mp4_cut.specs.Moof.{WrittenFragment};
+ghost use Rattle.mp4_machine.specs.Readings.{Sound};
+ghost use Rattle.mp4_grammar.specs.Contexts.{context, first_context};
+ghost use Rattle.mp4_grammar.specs.Joined.{AreSound, Item, bytes_of, joined};
 ghost use Rattle.mp4_recut.specs.Splitting.{reading, splitting};
 ghost use Rattle.mp4_recut.specs.Texts.{items_text};
 ghost use Rattle.mp4_recut_laws.specs.MediaSamples.{items_samples, media_samples_from, media_samples_of_run};
@@ -24,7 +24,7 @@ ghost use Rattle.mp4_recut_laws.specs.Streams.{IsSoundStream, Stream, recut, str
 
 /// A fragment of one piece is its own recut text, at each stream offset.
 pub fn piece_is_its_own_recut()
-    ensures { (cut : Cut) (at number : ℕ) (tracks : List Track) (f : Fragment) (media : List ℕ) →
+    ensures { (cut : Cut) (at number : ℕ) (tracks : List Track) (f : WrittenFragment) (media : List ℕ) →
         cut.index ≡ false → number < 2 ^ 32 → IsOnePiece cut tracks f media →
         IsOwnRecut cut (context at (Some tracks) number) (piece_item f number media)
         (context (at + length (bytes_of (piece_item f number media)))

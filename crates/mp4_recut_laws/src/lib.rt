@@ -27,10 +27,10 @@ ghost use Rattle.mp4_init.specs.declared.table.Track.{Track};
 ghost use Rattle.mp4_frag.specs.Moofs.{moof_runs};
 ghost use Rattle.mp4_pieces.specs.Rooms.{room_fault};
 ghost use Rattle.mp4_pieces.specs.declared.cut.Cut.{Cut};
-ghost use Rattle.mp4_cut.specs.Moof.{Fragment};
+ghost use Rattle.mp4_cut.specs.Moof.{WrittenFragment};
 ghost use Rattle.mp4_cut.specs.Reads.{held_moof};
-ghost use Rattle.mp4_reading.specs.Readings.{Sound, whole_in};
-ghost use Rattle.mp4_items.specs.Contexts.{first_context};
+ghost use Rattle.mp4_machine.specs.Readings.{Sound, whole_in};
+ghost use Rattle.mp4_grammar.specs.Contexts.{first_context};
 ghost use Rattle.mp4_recut.specs.Splitting.{reading};
 ghost use Rattle.mp4_recut_laws.specs.IndexTruth.{IndexesAreTrue};
 ghost use Rattle.mp4_recut_laws.specs.Indexes.{EndingIsIndexed, ItemsAreIndexed};
@@ -51,7 +51,7 @@ pub mod items;
 /// ends it is whole, and all are in the whole text.
 pub fn recut_text_of_a_stream()
     ensures text { (cut : Cut) (s : Stream) → IsSoundStream cut s →
-        (reading cut (stream_bytes s)).told.text ≡ stream_text cut s }
+        (reading cut (stream_bytes s)).effects.text ≡ stream_text cut s }
     ensures sound { (cut : Cut) (s : Stream) → IsSoundStream cut s →
         (reading cut (stream_bytes s)).outcome ≡ Sound }
     ensures each { (cut : Cut) (b : List ℕ) → IsBytes b → (reading cut b).outcome ≡ Sound →
@@ -61,12 +61,12 @@ pub fn recut_text_of_a_stream()
         IsSoundStream cut s →
         told_by tell (stream_bytes s) ≡ flat_map tell (stream_samples cut s) }
     ensures moofs { (cut : Cut) (s : Stream) → IsSoundStream cut s →
-        (reading cut (stream_bytes s)).told.marks ≡ moof_ends 0 1 (recut cut s).items }
+        (reading cut (stream_bytes s)).effects.marks ≡ moof_ends 0 1 (recut cut s).items }
     ensures counted { (cut : Cut) (s : Stream) → IsSoundStream cut s →
-        (reading cut (stream_bytes s)).told.tally.fragments ≡
+        (reading cut (stream_bytes s)).effects.tally.fragments ≡
         length (moof_ends 0 1 (recut cut s).items) }
     ensures whole { (cut : Cut) (s : Stream) (n : ℕ) → IsSoundStream cut s →
-        whole_in (length (stream_text cut s) + n) 0 (reading cut (stream_bytes s)).told.marks ≡
+        whole_in (length (stream_text cut s) + n) 0 (reading cut (stream_bytes s)).effects.marks ≡
         length (moof_ends 0 1 (recut cut s).items) }
 {}
 
@@ -109,7 +109,7 @@ pub fn indexes_are_true()
 /// fault where an index has room for the least composition time of each piece. Where several pieces
 /// shared an index, only the first of them had to have room.
 pub fn recut_text_with_an_index()
-    ensures one { (cut : Cut) (at number : ℕ) (tracks : List Track) (f : Fragment)
+    ensures one { (cut : Cut) (at number : ℕ) (tracks : List Track) (f : WrittenFragment)
         (media : List ℕ) → cut.index ≡ true → number < 2 ^ 32 → IsOnePiece cut tracks f media →
         (room_fault cut (held_moof f number at) (moof_runs (held_moof f number at) tracks) number
         ≡ None) ↔ FitsOwnIndex f }

@@ -10,7 +10,7 @@ use Rattle.mp4_run_order.specs.declared.runs.Payload.{Payload}
 use Rattle.mp4_run_order.specs.declared.place_search.PlaceSearch.{PlaceSearch}
 use Rattle.mp4_run_order.specs.Runs.{end_of}
 use Rattle.mp4_run_order.specs.Places.{LiesIn, lies_in}
-use Rattle.mp4_run_order.specs.Searches.{is_below, may_be_first, lower_of, bytes_step, place_step}
+use Rattle.mp4_run_order.specs.Working.Searches.{is_below, may_be_first, lower_of, bytes_step, place_step}
 use Rattle.mp4_run_order.proofs.ListLemmas.{Each, Pairs, each_always, each_weaker}
 use Rattle.mp4_run_order.proofs.RunLemmas.{some_from, lies_from, lies_to, lt_from, ge_from, apart_flip, both_have}
 use Rattle.mp4_run_order.proofs.BoundLemmas.{IsBelow, below_from, below_to, below_less, below_lower, lower_which}

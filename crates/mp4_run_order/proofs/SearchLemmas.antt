@@ -11,7 +11,7 @@ use Rattle.mp4_run_order.specs.declared.runs.Payload.{Payload}
 use Rattle.mp4_run_order.specs.Runs.{SharesNoByte, IsInTurn, IsListing}
 use Rattle.mp4_run_order.specs.Places.{MayStand, may_stand, first_offender, IsOffender}
 use Rattle.mp4_run_order.specs.Orders.{IsTakenBefore, IsTakingOrder, IsBeforeByTrack, IsTrackOrder}
-use Rattle.mp4_run_order.specs.Searches.{found_by_track, found_by_place}
+use Rattle.mp4_run_order.specs.Working.Searches.{found_by_track, found_by_place}
 use Rattle.mp4_run_order.proofs.ListLemmas.{Each, Pairs, In, in_to, each_weaker, each_always, each_of, each_at, each_moved, each_two_moved, all_of_each, pairs_of_all, pairs_both, both_ways, pairs_weaker}
 use Rattle.mp4_run_order.proofs.RunLemmas.{stands_to, stands_from, apart_if, apart_flip}
 use Rattle.mp4_run_order.proofs.BoundLemmas.{IsBelow, below_less}

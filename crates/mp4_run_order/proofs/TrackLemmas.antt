@@ -9,7 +9,7 @@ use Rattle.mp4_run_order.specs.declared.runs.Payload.{Payload}
 use Rattle.mp4_run_order.specs.declared.track_search.TrackSearch.{TrackSearch}
 use Rattle.mp4_run_order.specs.Runs.{IsInTurn}
 use Rattle.mp4_run_order.specs.Orders.{IsBeforeByTrack}
-use Rattle.mp4_run_order.specs.Searches.{is_late, lower_of, track_step}
+use Rattle.mp4_run_order.specs.Working.Searches.{is_late, lower_of, track_step}
 use Rattle.mp4_run_order.proofs.ListLemmas.{Each, Pairs, each_always, each_both, each_weaker}
 use Rattle.mp4_run_order.proofs.RunLemmas.{turn_from, overtakes_from, not_in_turn}
 use Rattle.mp4_run_order.proofs.BoundLemmas.{IsBelow, below_lower, lower_which}

@@ -8,7 +8,7 @@ ghost use Rattle.mp4_run_order.specs.declared.runs.Payload.{Payload};
 ghost use Rattle.mp4_run_order.specs.Orders.{FitsKeys, IsTakingOrder, IsTrackOrder, place_key, taken, track_key};
 ghost use Rattle.mp4_run_order.specs.Places.{IsOffender, Placed, first_offender};
 ghost use Rattle.mp4_run_order.specs.Runs.{IsListing};
-ghost use Rattle.mp4_run_order.specs.Searches.{found_by_place, found_by_track};
+ghost use Rattle.mp4_run_order.specs.Working.Searches.{found_by_place, found_by_track};
 ghost use Rattle.mp4_run_order.specs.Worked.{AreAtFault, AreTakenInTurns, AreWithoutBytes};
 ghost use Rattle.mp4_run_order.specs.Takings.{AllFollow, IsTakenWell, has_samples};
 

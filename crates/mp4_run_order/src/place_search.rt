@@ -1,7 +1,7 @@
 //! The search in taking order.
 
 ghost use Rattle.std.specs.Prelude.{◌≡◌};
-ghost use Rattle.mp4_run_order.specs.Searches.{bytes_step, may_be_first, place_start, place_step, shared_step};
+ghost use Rattle.mp4_run_order.specs.Working.Searches.{bytes_step, may_be_first, place_start, place_step, shared_step};
 
 use crate::numbers::{is_below, lower_of};
 use crate::runs::{ListedRun, Payload};

@@ -1,7 +1,7 @@
 //! The search by track.
 
 ghost use Rattle.std.specs.Prelude.{◌≡◌};
-ghost use Rattle.mp4_run_order.specs.Searches.{is_late, track_start, track_step};
+ghost use Rattle.mp4_run_order.specs.Working.Searches.{is_late, track_start, track_step};
 
 use crate::numbers::lower_of;
 use crate::runs::ListedRun;

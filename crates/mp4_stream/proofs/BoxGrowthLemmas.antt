@@ -16,14 +16,14 @@ use Rattle.mp4_box.specs.declared.rules.Fault.{Fault}
 use Rattle.mp4_box.specs.Trees.{tree_faults}
 use Rattle.mp4_stream.specs.Holding.{most_held}
 use Rattle.mp4_stream.specs.Listing.{box_line}
-use Rattle.mp4_reading.specs.Readings.{Last, silent, says, asks_for, TellsMore}
-use Rattle.mp4_reading.proofs.BodyGrowthLemmas.{told_body-grows, told_open-grows}
-use Rattle.mp4_reading.proofs.HeadLemmas.{kind_of-append}
-use Rattle.mp4_reading.specs.Bodies.{least_end, longest, refused}
-use Rattle.mp4_stream.specs.Boxes.{passed, body, held_box, held_body, holding, box_by, box, front_by, front}
+use Rattle.mp4_machine.specs.Readings.{Last, silent, says, requests_memory, TellsMore}
+use Rattle.mp4_machine.proofs.BodyGrowthLemmas.{told_body-grows, told_open-grows}
+use Rattle.mp4_machine.proofs.HeadLemmas.{kind_of-append}
+use Rattle.mp4_machine.specs.Bodies.{least_end, longest, at_fault}
+use Rattle.mp4_stream.specs.Boxes.{passed, body, held_box, held_body, holding, box_by, box, top_box_by, top_box}
 use Rattle.mp4_stream.proofs.BoxLemmas.{front-some, front-none}
-use Rattle.mp4_reading.proofs.BodyLemmas.{nat_lt_false}
-use Rattle.mp4_reading.proofs.ReadingGrowthLemmas.{FrontGrows, TellsMore-silent, told-grows}
+use Rattle.mp4_machine.proofs.BodyLemmas.{nat_lt_false}
+use Rattle.mp4_machine.proofs.ReadingGrowthLemmas.{FrontGrows, TellsMore-silent, told-grows}
 
 passed-grows : (b x : List ℕ) → TellsMore (passed b) (passed (b ++ x))
 passed-grows b x = TellsMore-silent silent
@@ -45,7 +45,7 @@ held-grows at kind size b x false e =
 
 holding-grows : (at : ℕ) (h : Header) (limit s : ℕ) (b x : List ℕ) (t : Bool) → nat_lt limit s ≡ t → FrontGrows x (holding at h limit b (Exact s)) (holding at h limit (b ++ x) (Exact s))
 holding-grows at h limit s b x true e = rw e refl
-holding-grows at h limit s b x false e = rw e (told-grows (asks_for at s) x (held_body at h.kind s b) (held_body at h.kind s (b ++ x)) (held-grows at h.kind s b x (nat_lt (length b) s) refl))
+holding-grows at h limit s b x false e = rw e (told-grows (requests_memory at s) x (held_body at h.kind s b) (held_body at h.kind s (b ++ x)) (held-grows at h.kind s b x (nat_lt (length b) s) refl))
 
 holding-grows_by : (at : ℕ) (h : Header) (limit : ℕ) (b x : List ℕ) (size : Size) → FrontGrows x (holding at h limit b size) (holding at h limit (b ++ x) size)
 holding-grows_by at h limit b x (Exact s) = holding-grows at h limit s b x (nat_lt limit s) refl
@@ -60,20 +60,20 @@ box-grows : (at : ℕ) (h : Header) (y b x : List ℕ) (t : Bool) → nat_lt lon
 box-grows at h y b x true e = rw e refl
 box-grows at h y b x false e = rw e (box_by-grows at h y b x (most_held h.kind.0))
 
-front_by-grows : (at : ℕ) (b x : List ℕ) (s : Step) → header_at b ≡ s → FrontGrows x (front_by at b s) (front at (b ++ x))
+front_by-grows : (at : ℕ) (b x : List ℕ) (s : Step) → header_at b ≡ s → FrontGrows x (top_box_by at b s) (top_box at (b ++ x))
 front_by-grows at b x steps.More e = TellsMore-silent _
 front_by-grows at b x steps.BadSize e =
     let whole : need b ≤ length b = bad_is b e in
     let some : 0 < length (b ++ x) = omega (arith, length-append b x, need-least b) in
-    front-some at (b ++ x) some ∙ ap (front_by at (b ++ x)) (header_at-append b x whole ∙ e) ∙ ap (λ k. Last (refused BadSize k at)) (kind_of-append b x (omega (arith, need-least b)))
+    front-some at (b ++ x) some ∙ ap (top_box_by at (b ++ x)) (header_at-append b x whole ∙ e) ∙ ap (λ k. Last (at_fault BadSize k at)) (kind_of-append b x (omega (arith, need-least b)))
 front_by-grows at b x (steps.Whole h) e =
     let w = whole_is b h e in
     let some : 0 < length (b ++ x) = omega (arith, length-append b x, need-least b, w.0) in
     let behind : drop h.header_len (b ++ x) ≡ drop h.header_len b ++ x = drop-append-le h.header_len b x (omega (arith, w.0, w.1)) in
     let head : take h.header_len (b ++ x) ≡ take h.header_len b = take-append-le h.header_len b x (omega (arith, w.0, w.1)) in
-    let same : front at (b ++ x) ≡ box at h (take h.header_len b) (drop h.header_len b ++ x) = front-some at (b ++ x) some ∙ ap (front_by at (b ++ x)) (header_at-append b x w.0 ∙ e) ∙ ap (λ l. box at h l (drop h.header_len (b ++ x))) head ∙ ap (box at h (take h.header_len b)) behind in
+    let same : top_box at (b ++ x) ≡ box at h (take h.header_len b) (drop h.header_len b ++ x) = front-some at (b ++ x) some ∙ ap (top_box_by at (b ++ x)) (header_at-append b x w.0 ∙ e) ∙ ap (λ l. box at h l (drop h.header_len (b ++ x))) head ∙ ap (box at h (take h.header_len b)) behind in
     subst (FrontGrows x (box at h (take h.header_len b) (drop h.header_len b))) (sym same) (box-grows at h (take h.header_len b) (drop h.header_len b) x (nat_lt longest (least_end at h h.size)) refl)
 
-pub front-grows : (at : ℕ) (b x : List ℕ) → FrontGrows x (front at b) (front at (b ++ x))
-front-grows at [] x = subst (λ v. FrontGrows x v (front at x)) (sym (front-none at)) (TellsMore-silent _)
-front-grows at (a ∷ b) x = subst (λ v. FrontGrows x v (front at ((a ∷ b) ++ x))) (sym (front-some at (a ∷ b) (omega arith))) (front_by-grows at (a ∷ b) x (header_at (a ∷ b)) refl)
+pub front-grows : (at : ℕ) (b x : List ℕ) → FrontGrows x (top_box at b) (top_box at (b ++ x))
+front-grows at [] x = subst (λ v. FrontGrows x v (top_box at x)) (sym (front-none at)) (TellsMore-silent _)
+front-grows at (a ∷ b) x = subst (λ v. FrontGrows x v (top_box at ((a ∷ b) ++ x))) (sym (front-some at (a ∷ b) (omega arith))) (front_by-grows at (a ∷ b) x (header_at (a ∷ b)) refl)

@@ -15,19 +15,19 @@ use Rattle.mp4_box.specs.declared.rules.Fault.{Fault}
 use Rattle.mp4_box.specs.Trees.{tree_faults}
 use Rattle.mp4_stream.specs.Holding.{held_lines, most_held}
 use Rattle.mp4_stream.specs.Listing.{box_line}
-use Rattle.mp4_reading.specs.Readings.{nothing, Last, after, after_told, silent, says, asks_for, Faulty, then_read, fault_in, early_in}
-use Rattle.mp4_reading.specs.Bodies.{cut_off, fault, least_end, longest, refused}
-use Rattle.mp4_stream.specs.Boxes.{passed, body, held_box, held_body, holding, box_by, box, front_by, front, reading}
+use Rattle.mp4_machine.specs.Readings.{empty_reading, Last, after, after_effects, silent, says, requests_memory, Faulty, then_read, fault_in, early_in}
+use Rattle.mp4_machine.specs.Bodies.{cut_off, fault, least_end, longest, at_fault}
+use Rattle.mp4_stream.specs.Boxes.{passed, body, held_box, held_body, holding, box_by, box, top_box_by, top_box, reading}
 use Rattle.mp4_stream.specs.Places.{Place, InHeader, InBody, InHeld, InOpenBody, IsMachine, IsPlace, place_of, standing}
 use Rattle.mp4_stream.specs.declared.phase.Phase.{Phase}
 use Rattle.mp4_stream.specs.declared.phase.Phase.TheVariants as phases
-use Rattle.mp4_reading.specs.Holding.{Holding}
-use Rattle.mp4_reading.specs.Pieces.{IsQuiet}
-use Rattle.mp4_reading.specs.declared.stop.Stop.{Stop}
-use Rattle.mp4_reading.proofs.ReadingLemmas.{Below, Below-more, Below-told, IsItemwise, read_all-front, then_read-told}
-use Rattle.mp4_reading.proofs.BodyLemmas.{nat_lt_true, nat_lt_false, body-none, open-none}
-use Rattle.mp4_reading.proofs.BodyGrowthLemmas.{told-below, told_open-below}
-use Rattle.mp4_reading.proofs.HeadLemmas.{head-room, kind_of-append}
+use Rattle.mp4_machine.specs.Holding.{Holding}
+use Rattle.mp4_machine.specs.Pieces.{IsQuiet}
+use Rattle.mp4_machine.specs.declared.stop.Stop.{Stop}
+use Rattle.mp4_machine.proofs.ReadingLemmas.{Below, Below-more, Below-told, IsItemwise, read_all-front, then_read-told}
+use Rattle.mp4_machine.proofs.BodyLemmas.{nat_lt_true, nat_lt_false, body-none, open-none}
+use Rattle.mp4_machine.proofs.BodyGrowthLemmas.{told-below, told_open-below}
+use Rattle.mp4_machine.proofs.HeadLemmas.{head-room, kind_of-append}
 
 pub some_bytes : (xs : List ℕ) → (xs ≡ [] → ⊥) → 0 < length xs
 some_bytes [] f = absurd (f refl)
@@ -50,9 +50,9 @@ held-below at kind size bytes n h = elim (nat_lt (length bytes) size) as (λ v. 
 ]
 
 holding-below : (at : ℕ) (h : Header) (limit : ℕ) (x bytes : List ℕ) (size : Size) → HasRoom size (length x) → Below (holding at h limit (x ++ bytes) size) (length bytes)
-holding-below at h limit x bytes (Exact s) room = elim (nat_lt limit s) as (λ v. Below (if v then Last (refused TooLarge (Some h.kind) at) else after_told (asks_for at s) (held_body at h.kind s (x ++ bytes))) (length bytes)) [
+holding-below at h limit x bytes (Exact s) room = elim (nat_lt limit s) as (λ v. Below (if v then Last (at_fault TooLarge (Some h.kind) at) else after_effects (requests_memory at s) (held_body at h.kind s (x ++ bytes))) (length bytes)) [
   | true ↦ tt
-  | false ↦ Below-told (asks_for at s) (held_body at h.kind s (x ++ bytes)) (length bytes) (held-below at h.kind s (x ++ bytes) (length bytes) (omega (arith, length-append x bytes)))
+  | false ↦ Below-told (requests_memory at s) (held_body at h.kind s (x ++ bytes)) (length bytes) (held-below at h.kind s (x ++ bytes) (length bytes) (omega (arith, length-append x bytes)))
 ]
 holding-below at h limit x bytes ToEnd room = tt
 
@@ -61,12 +61,12 @@ box_by-below at h x bytes None room = Below-told (says (box_line at h)) (body at
 box_by-below at h x bytes (Some limit) room = holding-below at h limit x bytes h.size room
 
 box-below : (at : ℕ) (h : Header) (x bytes : List ℕ) → HasRoom h.size (length x) → Below (box at h x bytes) (length bytes)
-box-below at h x bytes room = elim (nat_lt longest (least_end at h h.size)) as (λ v. Below (if v then Last (refused StreamTooLong (Some h.kind) at) else box_by at h x bytes (most_held h.kind.0)) (length bytes)) [
+box-below at h x bytes room = elim (nat_lt longest (least_end at h h.size)) as (λ v. Below (if v then Last (at_fault StreamTooLong (Some h.kind) at) else box_by at h x bytes (most_held h.kind.0)) (length bytes)) [
   | true ↦ tt
   | false ↦ box_by-below at h x bytes (most_held h.kind.0) room
 ]
 
-front_by-below : (at b : ℕ) (bytes : List ℕ) (s : Step) → header_at (b ∷ bytes) ≡ s → Below (front_by at (b ∷ bytes) s) (length bytes)
+front_by-below : (at b : ℕ) (bytes : List ℕ) (s : Step) → header_at (b ∷ bytes) ≡ s → Below (top_box_by at (b ∷ bytes) s) (length bytes)
 front_by-below at b bytes steps.More e = tt
 front_by-below at b bytes steps.BadSize e = tt
 front_by-below at b bytes (steps.Whole h) e =
@@ -74,36 +74,36 @@ front_by-below at b bytes (steps.Whole h) e =
     Below-more (box at h (take h.header_len (b ∷ bytes)) (drop h.header_len (b ∷ bytes))) (length (drop h.header_len (b ∷ bytes))) (length bytes)
     (omega (arith, length-drop h.header_len (b ∷ bytes), w.1, need-least (b ∷ bytes))) (box-below at h (take h.header_len (b ∷ bytes)) (drop h.header_len (b ∷ bytes)) (head-room (b ∷ bytes) h e))
 
-pub front-items : IsItemwise front
-unfolding front
+pub front-items : IsItemwise top_box
+unfolding top_box
 front-items = record {
   empty = λ at. refl;
   shorter = λ at b bytes. front_by-below at b bytes (header_at (b ∷ bytes)) refl;
 }
 
 -- the box at the front, and then the rest
-pub reading-front : (at : ℕ) (bytes : List ℕ) → reading at bytes ≡ then_read reading (front at bytes)
-reading-front at bytes = read_all-front front front-items at bytes
+pub reading-front : (at : ℕ) (bytes : List ℕ) → reading at bytes ≡ then_read reading (top_box at bytes)
+reading-front at bytes = read_all-front top_box front-items at bytes
 
-pub front-some : (at : ℕ) (x : List ℕ) → 0 < length x → front at x ≡ front_by at x (header_at x)
-unfolding front
+pub front-some : (at : ℕ) (x : List ℕ) → 0 < length x → top_box at x ≡ top_box_by at x (header_at x)
+unfolding top_box
 front-some at [] h = absurd (omega arith)
 front-some at (b ∷ x) h = refl
 
-pub front-none : (at : ℕ) → front at [] ≡ Last nothing
-unfolding front
+pub front-none : (at : ℕ) → top_box at [] ≡ Last empty_reading
+unfolding top_box
 front-none at = refl
 
-pub reading-none : (at : ℕ) → reading at [] ≡ nothing
+pub reading-none : (at : ℕ) → reading at [] ≡ empty_reading
 reading-none at = reading-front at [] ∙ ap (then_read reading) (front-none at)
 
-pub reading-by : (at : ℕ) (x : List ℕ) (s : Step) → 0 < length x → header_at x ≡ s → reading at x ≡ then_read reading (front_by at x s)
-reading-by at x s some e = reading-front at x ∙ ap (then_read reading) (front-some at x some ∙ ap (front_by at x) e)
+pub reading-by : (at : ℕ) (x : List ℕ) (s : Step) → 0 < length x → header_at x ≡ s → reading at x ≡ then_read reading (top_box_by at x s)
+reading-by at x s some e = reading-front at x ∙ ap (then_read reading) (front-some at x some ∙ ap (top_box_by at x) e)
 
 -- ---- a header
 
 -- bytes that are what a header needs, and no more
-reading-header : (at : ℕ) (x later : List ℕ) (s : Step) → length x ≡ need x → header_at x ≡ s → reading at (x ++ later) ≡ then_read reading (front_by at (x ++ later) s)
+reading-header : (at : ℕ) (x later : List ℕ) (s : Step) → length x ≡ need x → header_at x ≡ s → reading at (x ++ later) ≡ then_read reading (top_box_by at (x ++ later) s)
 reading-header at x later s len e =
     let long : 0 < length (x ++ later) = omega (arith, need-least x, length-append x later) in
     reading-by at (x ++ later) s long (header_at-append x later (omega arith) ∙ e)
@@ -115,16 +115,16 @@ reading-whole at x later h len e =
     reading-header at x later (steps.Whole h) len e ∙ ap (λ l. then_read reading (box at h l (drop h.header_len (x ++ later)))) (ap (λ n. take n (x ++ later)) same ∙ take-append_seam x later)
     ∙ ap (λ l. then_read reading (box at h x l)) (ap (λ n. drop n (x ++ later)) same ∙ drop-append_seam x later)
 
-pub reading-bad : (at : ℕ) (x later : List ℕ) → length x ≡ need x → header_at x ≡ steps.BadSize → reading at (x ++ later) ≡ refused BadSize (kind_of x) at
+pub reading-bad : (at : ℕ) (x later : List ℕ) → length x ≡ need x → header_at x ≡ steps.BadSize → reading at (x ++ later) ≡ at_fault BadSize (kind_of x) at
 reading-bad at x later len e =
-    reading-header at x later steps.BadSize len e ∙ ap (λ k. refused BadSize k at) (kind_of-append x later (omega (arith, need-least x)))
+    reading-header at x later steps.BadSize len e ∙ ap (λ k. at_fault BadSize k at) (kind_of-append x later (omega (arith, need-least x)))
 
 pub reading-more : (at : ℕ) (x : List ℕ) → 0 < length x → length x < need x → reading at x ≡ cut_off Truncated (kind_of x) at
 reading-more at x some short = reading-by at x steps.More some (is_cut x short)
 
 -- ---- behind a header
 
-pub reading-too_long : (at : ℕ) (h : Header) (x later : List ℕ) → longest < least_end at h h.size → then_read reading (box at h x later) ≡ refused StreamTooLong (Some h.kind) at
+pub reading-too_long : (at : ℕ) (h : Header) (x later : List ℕ) → longest < least_end at h h.size → then_read reading (box at h x later) ≡ at_fault StreamTooLong (Some h.kind) at
 reading-too_long at h x later far = rw (nat_lt_true longest (least_end at h h.size) far) refl
 
 pub reading-begun : (at : ℕ) (h : Header) (x later : List ℕ) → least_end at h h.size ≤ longest → most_held h.kind.0 ≡ None
@@ -133,31 +133,31 @@ reading-begun at h x later near loose = rw (nat_lt_false longest (least_end at h
 
 -- a box that is held
 pub reading-too_large : (at : ℕ) (h : Header) (x later : List ℕ) (limit s : ℕ) → at + s ≤ longest → most_held h.kind.0 ≡ Some limit → h.size ≡ Exact s → limit < s
-    → then_read reading (box at h x later) ≡ refused TooLarge (Some h.kind) at
+    → then_read reading (box at h x later) ≡ at_fault TooLarge (Some h.kind) at
 reading-too_large at h x later limit s near held size large = rw (size, nat_lt_false longest (at + s) near, held, nat_lt_true limit s large) refl
 
 pub reading-held_to_end : (at : ℕ) (h : Header) (x later : List ℕ) (limit : ℕ) → at + h.header_len ≤ longest → most_held h.kind.0 ≡ Some limit → h.size ≡ ToEnd
-    → then_read reading (box at h x later) ≡ refused TooLarge (Some h.kind) at
+    → then_read reading (box at h x later) ≡ at_fault TooLarge (Some h.kind) at
 reading-held_to_end at h x later limit near held size = rw (size, nat_lt_false longest (at + h.header_len) near, held) refl
 
 pub reading-holds : (at : ℕ) (h : Header) (x later : List ℕ) (limit s : ℕ) → at + s ≤ longest → most_held h.kind.0 ≡ Some limit → h.size ≡ Exact s → s ≤ limit
-    → then_read reading (box at h x later) ≡ after (asks_for at s) (then_read reading (held_body at h.kind s (x ++ later)))
+    → then_read reading (box at h x later) ≡ after (requests_memory at s) (then_read reading (held_body at h.kind s (x ++ later)))
 reading-holds at h x later limit s near held size fits =
-    rw (size, nat_lt_false longest (at + s) near, held, nat_lt_false limit s fits) (then_read-told reading (asks_for at s) (held_body at h.kind s (x ++ later)))
+    rw (size, nat_lt_false longest (at + s) near, held, nat_lt_false limit s fits) (then_read-told reading (requests_memory at s) (held_body at h.kind s (x ++ later)))
 
 -- all of a held box came
 pub reading-good : (at : ℕ) (kind : FourCc) (size : ℕ) (x later : List ℕ) → length x ≡ size → tree_faults at x ≡ []
     → then_read reading (held_body at kind size (x ++ later)) ≡ after (says (held_lines at x)) (reading (at + size) later)
 reading-good at kind size x later len good =
-    let front : take size (x ++ later) ≡ x = ap (λ n. take n (x ++ later)) (sym len) ∙ take-append_seam x later in
+    let top_box : take size (x ++ later) ≡ x = ap (λ n. take n (x ++ later)) (sym len) ∙ take-append_seam x later in
     let behind : drop size (x ++ later) ≡ later = ap (λ n. drop n (x ++ later)) (sym len) ∙ drop-append_seam x later in
-    rw (nat_lt_false (length (x ++ later)) size (omega (arith, length-append x later)), front, behind, good) refl
+    rw (nat_lt_false (length (x ++ later)) size (omega (arith, length-append x later)), top_box, behind, good) refl
 
 pub reading-bad_tree : (at : ℕ) (kind : FourCc) (size : ℕ) (x later : List ℕ) (f : Fault) (fs : List Fault) → length x ≡ size → tree_faults at x ≡ f ∷ fs
-    → then_read reading (held_body at kind size (x ++ later)) ≡ record { told = silent; outcome = Faulty f }
+    → then_read reading (held_body at kind size (x ++ later)) ≡ record { effects = silent; outcome = Faulty f }
 reading-bad_tree at kind size x later f fs len bad =
-    let front : take size (x ++ later) ≡ x = ap (λ n. take n (x ++ later)) (sym len) ∙ take-append_seam x later in
-    rw (nat_lt_false (length (x ++ later)) size (omega (arith, length-append x later)), front, bad) refl
+    let top_box : take size (x ++ later) ≡ x = ap (λ n. take n (x ++ later)) (sym len) ∙ take-append_seam x later in
+    rw (nat_lt_false (length (x ++ later)) size (omega (arith, length-append x later)), top_box, bad) refl
 
 -- ---- the end of the stream
 
@@ -168,22 +168,22 @@ pub end-none : (at : ℕ) (held : List ℕ) → held ≡ [] → fault_in ((stand
 end-none at held e = ap (λ l. fault_in ((standing (InHeader at l)).reads []).outcome) e ∙ ap (λ r. fault_in r.outcome) (reading-none at)
 
 -- at no place the end of the stream tells anything, and no fault is decided
-quiet-held : (at : ℕ) (held : List ℕ) → length held < need held → ((reading at held).told ≡ silent) × (early_in (reading at held).outcome ≡ None)
-quiet-held at [] short = (ap (λ r. r.told) (reading-none at), ap (λ r. early_in r.outcome) (reading-none at))
+quiet-held : (at : ℕ) (held : List ℕ) → length held < need held → ((reading at held).effects ≡ silent) × (early_in (reading at held).outcome ≡ None)
+quiet-held at [] short = (ap (λ r. r.effects) (reading-none at), ap (λ r. early_in r.outcome) (reading-none at))
 quiet-held at (b ∷ held) short =
-    let cut = reading-more at (b ∷ held) (omega arith) short in (ap (λ r. r.told) cut, ap (λ r. early_in r.outcome) cut)
+    let cut = reading-more at (b ∷ held) (omega arith) short in (ap (λ r. r.effects) cut, ap (λ r. early_in r.outcome) cut)
 
 pub place-quiet : (p : Place) → IsPlace p → IsQuiet (standing p)
 place-quiet (InHeader at held) h =
     let quiet = quiet-held at held h.0 in
     let same = append-nil held in
-    record { told = ap (λ l. (reading at l).told) same ∙ quiet.0; early = ap (λ l. early_in (reading at l).outcome) same ∙ quiet.1 }
+    record { effects = ap (λ l. (reading at l).effects) same ∙ quiet.0; early = ap (λ l. early_in (reading at l).outcome) same ∙ quiet.1 }
 place-quiet (InBody at kind next left) h =
-    let none = body-none reading at kind next passed left h.0 in record { told = ap (λ r. r.told) none; early = ap (λ r. early_in r.outcome) none }
+    let none = body-none reading at kind next passed left h.0 in record { effects = ap (λ r. r.effects) none; early = ap (λ r. early_in r.outcome) none }
 place-quiet (InHeld at kind size held) h =
-    let short = nat_lt_true (length (held ++ [])) size (omega (arith, length-append held [], h.0)) in record { told = rw short refl; early = rw short refl }
+    let short = nat_lt_true (length (held ++ [])) size (omega (arith, length-append held [], h.0)) in record { effects = rw short refl; early = rw short refl }
 place-quiet (InOpenBody at kind left) h =
-    let none = open-none reading at kind 0 passed left in record { told = ap (λ r. r.told) none; early = ap (λ r. early_in r.outcome) none }
+    let none = open-none reading at kind 0 passed left in record { effects = ap (λ r. r.effects) none; early = ap (λ r. early_in r.outcome) none }
 
 -- where a machine is by what it keeps is a place
 at-place : (head : List ℕ) (phase : Phase) (held : Option Holding) → IsMachine head phase held → IsPlace (place_of head phase held)

@@ -1,38 +1,38 @@
 -- What a run claims, by the most that its bytes ask for.
 use Rattle.std.proofs.Common.{◌≡◌, ◌∙◌, ℕ, ◌+◌, ◌≤◌, List, ◌∷◌, ◌++◌, max, Ok, Err, Result, ap, arith, inl, inr}
 use Rattle.std.specs.Prelude.{IsErrOf}
-use Rattle.mp4_reading.specs.Ends.{Ends}
-use Rattle.mp4_reading.specs.Readings.{Ask, Reading, Told, greatest, most_of}
-use Rattle.mp4_reading.specs.Runs.{Claims, Runs}
-use Rattle.mp4_reading.specs.declared.stop.Stop.{Stop}
-use Rattle.mp4_reading.specs.declared.stop.Stop.TheVariants.{Stream, Read, Write, OverLimit, Memory}
-use Rattle.mp4_reading.specs.declared.tally.Tally.{Tally}
-use Rattle.mp4_reading.proofs.ReadingAskLemmas.{greatest-append}
+use Rattle.mp4_machine.specs.Ends.{Ends}
+use Rattle.mp4_machine.specs.Readings.{Request, Reading, Effects, greatest, most_of}
+use Rattle.mp4_machine.specs.StreamRuns.{Claims, ReadsStream}
+use Rattle.mp4_machine.specs.declared.stop.Stop.{Stop}
+use Rattle.mp4_machine.specs.declared.stop.Stop.TheVariants.{Stream, Read, Write, OverLimit, Memory}
+use Rattle.mp4_machine.specs.declared.tally.Tally.{Tally}
+use Rattle.mp4_machine.proofs.ReadingAskLemmas.{greatest-append}
 
 -- what is asked for before a claim that is refused is asked for
-starved_bound : (t : Told) (peak copy n : ℕ) (before : List Ask) (a : Ask) (behind : List Ask) → peak ≡ copy + greatest before → t.asks ≡ before ++ a ∷ behind → most_of t ≤ n → peak ≤ copy + n
-starved_bound t peak copy n before a behind e asked low =
-    let whole : most_of t ≡ max (greatest before) (greatest (a ∷ behind)) = ap greatest asked ∙ greatest-append before (a ∷ behind) in
+starved_bound : (t : Effects) (peak copy n : ℕ) (before : List Request) (a : Request) (behind : List Request) → peak ≡ copy + greatest before → t.requests ≡ before ++ a ∷ behind → most_of t ≤ n → peak ≤ copy + n
+starved_bound t peak copy n before a behind e requested low =
+    let whole : most_of t ≡ max (greatest before) (greatest (a ∷ behind)) = ap greatest requested ∙ greatest-append before (a ∷ behind) in
     omega (arith, e, whole, low)
 
 module _ {T : Type 0} (whole : List ℕ → Reading) {ends : Ends} (claims : Claims) {tally : Tally} where
   -- no run claims more than its bytes ask for
-  pub asked_bound : (result : Result T Stop) (r : Runs {T = T} whole ends claims tally result) (n : ℕ) → most_of (whole r.bytes).told ≤ n → claims.peak ≤ claims.copy + n
+  pub asked_bound : (result : Result T Stop) (r : ReadsStream {T = T} whole ends claims tally result) (n : ℕ) → most_of (whole r.bytes).effects ≤ n → claims.peak ≤ claims.copy + n
   asked_bound (Ok t) r n low = omega (arith, r.comes.0.peak, low)
   asked_bound (Err (Stream f)) r n low = omega (arith, r.comes.0.peak, low)
   asked_bound (Err (Read at)) r n low = omega (arith, r.comes.0.peak, low)
   asked_bound (Err Write) r n low = omega (arith, r.comes.0.most, low)
   asked_bound (Err OverLimit) r n low = elim r.comes [
     | inl idle ↦ omega (arith, idle.0.peak)
-    | inr starved ↦ starved_bound (whole r.bytes).told claims.peak claims.copy n starved.0.before starved.0.ask starved.0.asked.0 starved.0.peak starved.0.asked.1 low
+    | inr starved ↦ starved_bound (whole r.bytes).effects claims.peak claims.copy n starved.0.before starved.0.request starved.0.requested.0 starved.0.peak starved.0.requested.1 low
   ]
   asked_bound (Err Memory) r n low = elim r.comes [
     | inl idle ↦ omega (arith, idle.0.peak)
-    | inr starved ↦ starved_bound (whole r.bytes).told claims.peak claims.copy n starved.0.before starved.0.ask starved.0.asked.0 starved.0.peak starved.0.asked.1 low
+    | inr starved ↦ starved_bound (whole r.bytes).effects claims.peak claims.copy n starved.0.before starved.0.request starved.0.requested.0 starved.0.peak starved.0.requested.1 low
   ]
 
   -- a run is never over a limit that is at least as much
-  pub asked_enough : (result : Result T Stop) (r : Runs {T = T} whole ends claims tally result) (n : ℕ) → most_of (whole r.bytes).told ≤ n → claims.copy + n ≤ claims.limit → IsErrOf result OverLimit → ⊥
+  pub asked_enough : (result : Result T Stop) (r : ReadsStream {T = T} whole ends claims tally result) (n : ℕ) → most_of (whole r.bytes).effects ≤ n → claims.copy + n ≤ claims.limit → IsErrOf result OverLimit → ⊥
   asked_enough (Ok t) r n low enough e = absurd cc
   asked_enough (Err (Stream f)) r n low enough e = absurd cc
   asked_enough (Err (Read at)) r n low enough e = absurd cc
@@ -42,6 +42,6 @@ module _ {T : Type 0} (whole : List ℕ → Reading) {ends : Ends} (claims : Cla
     | inl idle ↦ omega (arith, idle.1, enough)
     | inr starved ↦
         let s = starved.0 in
-        let all : most_of (whole r.bytes).told ≡ max (greatest s.before) (max s.ask.sum (greatest s.asked.0)) = ap greatest s.asked.1 ∙ greatest-append s.before (s.ask ∷ s.asked.0) in
+        let all : most_of (whole r.bytes).effects ≡ max (greatest s.before) (max s.request.sum (greatest s.requested.0)) = ap greatest s.requested.1 ∙ greatest-append s.before (s.request ∷ s.requested.0) in
         omega (arith, starved.1, enough, all, low)
   ]

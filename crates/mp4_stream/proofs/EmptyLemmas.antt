@@ -3,7 +3,7 @@ use Rattle.std.specs.Prelude.{if◌then◌else◌}
 use Rattle.std.specs.List.{flat_map}
 use Rattle.std.proofs.Common.{◌≡◌, ◌∙◌, ℕ, ◌++◌, Bool, true, false, List, [], ◌∷◌, length, slice_range, ap, refl, append-nil, arith}
 use Rattle.mp4_box.specs.declared.headers.Header.{Header}
-use Rattle.mp4_reading.proofs.HoldingLemmas.{rest-len}
+use Rattle.mp4_machine.proofs.HoldingLemmas.{rest-len}
 use Rattle.mp4_box.specs.Trees.{Box, bad_below, bad_rest, box_faults, children, deep_below, is_container, over, payload_offset}
 use Rattle.mp4_stream.specs.Listing.{box_line, tree_lines}
 

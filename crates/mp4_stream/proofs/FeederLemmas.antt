@@ -7,28 +7,28 @@ use Rattle.std.proofs.Math.ListN.{get_or}
 use Rattle.std.proofs.Math.Seq.{take-suc}
 use Rattle.std.proofs.lemmas.Grind.{flat_map-append}
 use Rattle.mp4_box.specs.Headers.{IsBytes}
-use Rattle.mp4_feed.specs.States.{Progress, begun, stands_in}
-use Rattle.mp4_feed.proofs.HeadLemmas.{reads-none}
-use Rattle.mp4_items.specs.Contexts.{context, first_context}
-use Rattle.mp4_items.specs.HeldSizes.{HoldsWithin}
-use Rattle.mp4_items.proofs.BeforeLemmas.{text-before}
-use Rattle.mp4_items.proofs.HeldSizeLemmas.{asks-within}
+use Rattle.mp4_fragment_machine.specs.States.{Progress, begun, stands_in}
+use Rattle.mp4_fragment_machine.proofs.HeadLemmas.{reads-none}
+use Rattle.mp4_grammar.specs.Contexts.{context, first_context}
+use Rattle.mp4_grammar.specs.HeldSizes.{HoldsWithin}
+use Rattle.mp4_grammar.proofs.BeforeLemmas.{text-before}
+use Rattle.mp4_grammar.proofs.HeldSizeLemmas.{asks-within}
 use Rattle.mp4_ledger.specs.Memory.{Account}
 use Rattle.mp4_pieces.specs.declared.cut.Cut.{Cut}
-use Rattle.mp4_reading.specs.Ends.{Sent}
-use Rattle.mp4_reading.specs.Blocks.{IsSent, Pending, unused}
-use Rattle.mp4_reading.specs.Fed.{AllWhole, Lent, lent, Sums, sums_in, TellsRest, StarvesBehind, FedUntil}
-use Rattle.mp4_reading.specs.Pieces.{GoesOn, IsBegun, IsQuiet, StopsAt, farthest, outside}
-use Rattle.mp4_reading.specs.Readings.{Ask, Reading, both, early_in, fault_in, greatest, most_of, nothing, silent, uncounted, whole_in}
-use Rattle.mp4_reading.specs.Runs.{ComesUntil, IsPrompt, Run, TellsAll}
-use Rattle.mp4_reading.specs.declared.stop.Stop.{Stop}
-use Rattle.mp4_reading.specs.declared.stop.Stop.TheVariants.{Stream, Read, Write, OverLimit, Memory}
-use Rattle.mp4_reading.proofs.AccountLemmas.{Counts-none}
-use Rattle.mp4_reading.proofs.FedLemmas.{Stands-begun, goes-peak, goes-stands, goes-tells, lifted, marked, peak_behind, stands-undecided, stops-until}
-use Rattle.mp4_reading.proofs.FedRunLemmas.{text-more, whole-more}
-use Rattle.mp4_reading.proofs.ReadingAskLemmas.{greatest-append}
-use Rattle.mp4_reading.proofs.ReadingLemmas.{both-silent}
-use Rattle.mp4_reading.proofs.RunLemmas.{bytes-more}
+use Rattle.mp4_machine.specs.Ends.{Sent}
+use Rattle.mp4_machine.specs.Blocks.{IsSent, Pending, unused}
+use Rattle.mp4_machine.specs.Fed.{AllWhole, Lent, lent, Sums, sums_in, TellsRest, StarvesBehind, FedUntil}
+use Rattle.mp4_machine.specs.Pieces.{GoesOn, IsBegun, IsQuiet, StopsAt, farthest, outside}
+use Rattle.mp4_machine.specs.Readings.{Request, Reading, both, early_in, fault_in, greatest, most_of, empty_reading, silent, uncounted, whole_in}
+use Rattle.mp4_machine.specs.StreamRuns.{ComesUntil, IsPrompt, StreamRun, TellsAll}
+use Rattle.mp4_machine.specs.declared.stop.Stop.{Stop}
+use Rattle.mp4_machine.specs.declared.stop.Stop.TheVariants.{Stream, Read, Write, OverLimit, Memory}
+use Rattle.mp4_machine.proofs.AccountLemmas.{Counts-none}
+use Rattle.mp4_machine.proofs.FedLemmas.{Stands-begun, goes-peak, goes-stands, goes-tells, lifted, marked, peak_behind, stands-undecided, stops-until}
+use Rattle.mp4_machine.proofs.FedRunLemmas.{text-more, whole-more}
+use Rattle.mp4_machine.proofs.ReadingAskLemmas.{greatest-append}
+use Rattle.mp4_machine.proofs.ReadingLemmas.{both-silent}
+use Rattle.mp4_machine.proofs.RunLemmas.{bytes-more}
 use Rattle.mp4_recut.specs.Splitting.{splitting}
 use Rattle.mp4_recut.specs.declared.plan.Plan.TheVariants.{Split}
 use Rattle.mp4_recut.proofs.SplitLemmas.{splitting-quiet}
@@ -41,7 +41,7 @@ begun-is : (cut : Cut) → IsBegun (stands_in (begun (Split cut))) uncounted
 begun-is cut = record { reached = refl; claim = refl; none = reads-none (splitting cut) (context 0 None 1); counted = refl }
 
 -- no bytes tell nothing
-pub reading-none : (cut : Cut) → reading cut [] ≡ nothing
+pub reading-none : (cut : Cut) → reading cut [] ≡ empty_reading
 reading-none cut = (begun-is cut).none
 
 pub begun-feeder : (cut : Cut) → IsFeeder (feeders.begun cut (begun (Split cut))) 0 unused
@@ -49,7 +49,7 @@ begun-feeder cut = record {
   plan = refl;
   held = refl;
   within = omega arith;
-  quiet = λ running. record { told = ap (λ r. r.told) (begun-is cut).none; early = ap (λ r. early_in r.outcome) (begun-is cut).none };
+  quiet = λ running. record { effects = ap (λ r. r.effects) (begun-is cut).none; early = ap (λ r. early_in r.outcome) (begun-is cut).none };
   near = λ running. omega arith;
   sent = λ running. record { bytes = refl; ends = refl };
   spent = λ e stop. absurd cc;
@@ -62,47 +62,47 @@ begun-stands cut = record {
   undecided = ap (λ r. early_in r.outcome) (begun-is cut).none;
   near = omega arith;
   machine = Stands-begun (stands_in (begun (Split cut))) (begun-is cut);
-  sums = sym (ap (λ r. sums_in r.told) (begun-is cut).none);
-  fragments = λ n. ap (λ r. whole_in (length r.told.text + n) 0 r.told.marks) (begun-is cut).none;
+  sums = sym (ap (λ r. sums_in r.effects) (begun-is cut).none);
+  fragments = λ n. ap (λ r. whole_in (length r.effects.text + n) 0 r.effects.marks) (begun-is cut).none;
 }
 
 -- ---- what is claimed, by the boxes of the stream
 
 module _ (cut : Cut) (b : List ℕ) (fits : IsBytes b) (moov moof : ℕ) (within : HoldsWithin (splitting cut) first_context b moov moof) where
-  asked : most_of (reading cut b).told ≤ 2 * moov + 5 * moof
-  asked = asks-within (splitting cut) (splitting-quiet cut) moov moof b fits within
+  requested : most_of (reading cut b).effects ≤ 2 * moov + 5 * moof
+  requested = asks-within (splitting cut) (splitting-quiet cut) moov moof b fits within
 
   -- and before a claim that is refused
-  asked_before : (before : List Ask) (a : Ask) (behind : List Ask) → (reading cut b).told.asks ≡ before ++ a ∷ behind → (greatest before ≤ 2 * moov + 5 * moof) × (a.sum ≤ 2 * moov + 5 * moof)
+  asked_before : (before : List Request) (a : Request) (behind : List Request) → (reading cut b).effects.requests ≡ before ++ a ∷ behind → (greatest before ≤ 2 * moov + 5 * moof) × (a.sum ≤ 2 * moov + 5 * moof)
   asked_before before a behind e =
-      let whole : most_of (reading cut b).told ≡ max (greatest before) (max a.sum (greatest behind)) = ap greatest e ∙ greatest-append before (a ∷ behind) in
-      (omega (arith, whole, asked), omega (arith, whole, asked))
+      let whole : most_of (reading cut b).effects ≡ max (greatest before) (max a.sum (greatest behind)) = ap greatest e ∙ greatest-append before (a ∷ behind) in
+      (omega (arith, whole, requested), omega (arith, whole, requested))
 
-claims-ok : {T : Type 0} {t : T} (cut : Cut) (b : List ℕ) (peak others limit : ℕ) → IsBytes b → peak ≡ most_of (reading cut b).told → ClaimsWithin {T = T} cut b peak others limit (Ok t)
+claims-ok : {T : Type 0} {t : T} (cut : Cut) (b : List ℕ) (peak others limit : ℕ) → IsBytes b → peak ≡ most_of (reading cut b).effects → ClaimsWithin {T = T} cut b peak others limit (Ok t)
 claims-ok cut b peak others limit fits e = record {
-  most = λ moov moof within. omega (arith, e, asked cut b fits moov moof within);
+  most = λ moov moof within. omega (arith, e, requested cut b fits moov moof within);
   enough = λ moov moof within room is. absurd cc;
 }
 
 module _ (cut : Cut) (b piece : List ℕ) (l : Lent) (own : ℕ) (s : Sums) (fits : IsBytes (b ++ piece)) (low : own ≤ l.account.live) where
   claims-starved : (r : StarvesBehind (reading cut) b (b ++ piece) l own s) (moov moof : ℕ) → HoldsWithin (splitting cut) first_context (b ++ piece) moov moof → s.peak ≤ 2 * moov + 5 * moof
   claims-starved r moov moof within =
-      let bound = asked_before cut (b ++ piece) fits moov moof within (both (reading cut b).told r.told).asks r.ask r.asked.0 r.asked.1 in
+      let bound = asked_before cut (b ++ piece) fits moov moof within (both (reading cut b).effects r.effects).requests r.request r.requested.0 r.requested.1 in
       omega (arith, ap (λ k. k.peak) r.sums, bound.0)
 
-  claims-over : (r : StarvesBehind (reading cut) b (b ++ piece) l own s) → l.account'.limit < l.account'.live + r.ask.sum → (moov moof : ℕ) → HoldsWithin (splitting cut) first_context (b ++ piece) moov moof → (l.account.live - own) + (2 * moov + 5 * moof) ≤ l.account.limit → ⊥
+  claims-over : (r : StarvesBehind (reading cut) b (b ++ piece) l own s) → l.account'.limit < l.account'.live + r.request.sum → (moov moof : ℕ) → HoldsWithin (splitting cut) first_context (b ++ piece) moov moof → (l.account.live - own) + (2 * moov + 5 * moof) ≤ l.account.limit → ⊥
   claims-over r far moov moof within room =
-      let bound = asked_before cut (b ++ piece) fits moov moof within (both (reading cut b).told r.told).asks r.ask r.asked.0 r.asked.1 in
+      let bound = asked_before cut (b ++ piece) fits moov moof within (both (reading cut b).effects r.effects).requests r.request r.requested.0 r.requested.1 in
       omega (arith, far, bound.1, room, r.counts.live, r.counts.limit, low)
 
   claims-err : {T : Type 0} (e : Stop) → FedUntil (reading cut) b piece l own s e → ClaimsWithin {T = T} cut (b ++ piece) s.peak (l.account.live - own) l.account.limit (Err e)
   claims-err (Stream f) until = record {
-    most = λ moov moof within. omega (arith, ap (λ k. k.peak) until.2, asked cut (b ++ piece) fits moov moof within);
+    most = λ moov moof within. omega (arith, ap (λ k. k.peak) until.2, requested cut (b ++ piece) fits moov moof within);
     enough = λ moov moof within room is. absurd cc;
   }
   claims-err (Read at) until = absurd until
   claims-err Write until = record {
-    most = λ moov moof within. omega (arith, until.peak_most, asked cut (b ++ piece) fits moov moof within);
+    most = λ moov moof within. omega (arith, until.peak_most, requested cut (b ++ piece) fits moov moof within);
     enough = λ moov moof within room is. absurd cc;
   }
   claims-err OverLimit until = record {
@@ -112,8 +112,8 @@ module _ (cut : Cut) (b piece : List ℕ) (l : Lent) (own : ℕ) (s : Sums) (fit
   claims-err Memory until = record { most = claims-starved until.0; enough = λ moov moof within room is. absurd cc }
 
   -- the text before a claim that is refused
-  before-refused : (r : StarvesBehind (reading cut) b (b ++ piece) l own s) → live cut (take r.ask.at (b ++ piece)) ≡ live cut b ++ r.told.text
-  before-refused r = sym (text-before (splitting cut) (splitting-quiet cut) (b ++ piece) (both (reading cut b).told r.told).asks r.ask r.asked.0 r.asked.1) ∙ r.front
+  before-refused : (r : StarvesBehind (reading cut) b (b ++ piece) l own s) → live cut (take r.request.at (b ++ piece)) ≡ live cut b ++ r.effects.text
+  before-refused r = sym (text-before (splitting cut) (splitting-quiet cut) (b ++ piece) (both (reading cut b).effects r.effects).requests r.request r.requested.0 r.requested.1) ∙ r.front
 
   writes-before : (e : Stop) (until : FedUntil (reading cut) b piece l own s e) → WritesBefore cut b piece l own s e until
   writes-before (Stream f) until = tt
@@ -132,15 +132,15 @@ feeds-none t f b written account s =
       ok = (
         subst (Stands f) same s,
         record {
-          told = silent;
-          all = sym (ap (λ x. (reading f.cut x).told) same) ∙ sym (both-silent (reading f.cut b).told);
+          effects = silent;
+          all = sym (ap (λ x. (reading f.cut x).effects) same) ∙ sym (both-silent (reading f.cut b).effects);
           text = Appends-nil written;
           fragments = λ n. refl;
           counts = Counts-none account (held_by f);
         },
       );
       err = tt;
-      claims = claims-ok f.cut (b ++ []) f.peak (account.live - held_by f) account.limit (subst IsBytes same s.bytes) (ap (λ k. k.peak) s.sums ∙ ap (λ x. most_of (reading f.cut x).told) same);
+      claims = claims-ok f.cut (b ++ []) f.peak (account.live - held_by f) account.limit (subst IsBytes same s.bytes) (ap (λ k. k.peak) s.sums ∙ ap (λ x. most_of (reading f.cut x).effects) same);
     }
 
 -- ---- a piece
@@ -151,7 +151,7 @@ fed f m a k stop n = record { cut = f.cut; machine = m; stop = stop; peak = peak
 
 module _ (f : Feeding) (m : Progress) (s : Sent) (a k : Account) (running : f.stop ≡ None) (few : held_by f ≤ f.peak) (low : held_by f ≤ a.live) (high : a.live ≤ a.peak) (piece : List ℕ) (fits : IsBytes piece) (v v' : Pending) (clear : IsSent v) (here : v.whole ≡ f.fragments) where
   module _ (b : List ℕ) (st : Stands f b) where
-    most : f.peak ≡ most_of (reading f.cut b).told
+    most : f.peak ≡ most_of (reading f.cut b).effects
     most = ap (λ (x : Sums). x.peak) st.sums
 
     pub feeds-ok : {T : Type 0} (t : T) → IsSent v' → GoesOn (outside s.written v (marked a) f.machine.counter.tally) (outside s.written' v' k m.counter.tally) (stands_in f.machine) piece (stands_in m) → IsQuiet (stands_in m) → (stands_in m).reached ≤ farthest
@@ -172,8 +172,8 @@ module _ (f : Feeding) (m : Progress) (s : Sent) (a k : Account) (running : f.st
               undecided = stands-undecided (reading f.cut) (b ++ piece) stands quiet;
               near = omega (arith, stands.reached, near);
               machine = stands;
-              sums = ap (λ t. record { tally = t; peak = peak_behind f.peak (a.live - held_by f) k.peak }) stands.tally ∙ ap (λ n. record { tally = (reading f.cut (b ++ piece)).told.tally; peak = n }) peak;
-              fragments = whole-more (reading f.cut) b (b ++ piece) (lent s v.whole v'.whole a (lifted k a.peak)) (held_by f) _ tells (subst (AllWhole (reading f.cut b).told) (sym here) st.fragments);
+              sums = ap (λ t. record { tally = t; peak = peak_behind f.peak (a.live - held_by f) k.peak }) stands.tally ∙ ap (λ n. record { tally = (reading f.cut (b ++ piece)).effects.tally; peak = n }) peak;
+              fragments = whole-more (reading f.cut) b (b ++ piece) (lent s v.whole v'.whole a (lifted k a.peak)) (held_by f) _ tells (subst (AllWhole (reading f.cut b).effects) (sym here) st.fragments);
             },
             tells,
           );
@@ -199,7 +199,7 @@ module _ (f : Feeding) (m : Progress) (s : Sent) (a k : Account) (running : f.st
 -- ---- the end of the stream
 
 -- where a run ends at a fault
-pub finish-comes : (f : Feeding) (b : List ℕ) (run : Run) (prompt : IsPrompt run) (stop : Stop) → run.whole ≡ reading f.cut → run.bytes ≡ b → TellsAll run → run.ends.ended ≡ true → Finishes f b (Err stop) → ComesUntil run prompt stop
+pub finish-comes : (f : Feeding) (b : List ℕ) (run : StreamRun) (prompt : IsPrompt run) (stop : Stop) → run.whole ≡ reading f.cut → run.bytes ≡ b → TellsAll run → run.ends.ended ≡ true → Finishes f b (Err stop) → ComesUntil run prompt stop
 finish-comes f b run prompt (Stream fault) whole bytes tells ended is =
     (tells, ap (λ (w : List ℕ → Reading). fault_in (w run.bytes).outcome) whole ∙ ap (λ x. fault_in (reading f.cut x).outcome) bytes ∙ is, λ _. ended)
 finish-comes f b run prompt (Read at) whole bytes tells ended is = absurd is

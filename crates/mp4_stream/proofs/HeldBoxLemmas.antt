@@ -4,19 +4,19 @@ use Rattle.std.specs.Prelude.{IsErrOf, codes, if◌then◌else◌}
 use Rattle.std.specs.Option.{unwrap_or}
 use Rattle.std.specs.Str.{bytes_eq}
 use Rattle.mp4_box.specs.Headers.{IsBox, IsBytes}
-use Rattle.mp4_items.specs.Kinds.{most_moof}
-use Rattle.mp4_reading.specs.Bodies.{longest}
-use Rattle.mp4_reading.specs.Ends.{Ends}
-use Rattle.mp4_reading.specs.Readings.{Reading, Told, after, asks_for, both, most_of, then_read}
-use Rattle.mp4_reading.specs.Runs.{Claims, Runs}
-use Rattle.mp4_reading.specs.declared.stop.Stop.{Stop}
-use Rattle.mp4_reading.specs.declared.stop.Stop.TheVariants.{OverLimit}
-use Rattle.mp4_reading.specs.declared.tally.Tally.{Tally}
-use Rattle.mp4_reading.proofs.ReadingAskLemmas.{most-both}
+use Rattle.mp4_grammar.specs.Kinds.{most_moof}
+use Rattle.mp4_machine.specs.Bodies.{longest}
+use Rattle.mp4_machine.specs.Ends.{Ends}
+use Rattle.mp4_machine.specs.Readings.{Reading, Effects, after, requests_memory, both, most_of, then_read}
+use Rattle.mp4_machine.specs.StreamRuns.{Claims, ReadsStream}
+use Rattle.mp4_machine.specs.declared.stop.Stop.{Stop}
+use Rattle.mp4_machine.specs.declared.stop.Stop.TheVariants.{OverLimit}
+use Rattle.mp4_machine.specs.declared.tally.Tally.{Tally}
+use Rattle.mp4_machine.proofs.ReadingAskLemmas.{most-both}
 use Rattle.mp4_stream.specs.Boxes.{held_body, reading}
 use Rattle.mp4_stream.specs.HeldBoxes.{ClaimsByLargest, HoldsAtMost, HoldsBox}
 use Rattle.mp4_stream.specs.Holding.{most_held}
-use Rattle.mp4_stream.specs.Joined.{AreSound, Item, MayStand, joined, told_by, told_from}
+use Rattle.mp4_stream.specs.Joined.{AreSound, Item, MayStand, joined, box_effects, boxes_effects}
 use Rattle.mp4_stream.specs.Rests.{BadHeader, BadTree, CutInBody, CutInHeader, CutInHeld, Ended, IsRest, Large, Open, OpenTooFar, TooFar, Unsized}
 use Rattle.mp4_stream.proofs.ClaimLemmas.{asked_bound, asked_enough}
 use Rattle.mp4_stream.proofs.JoinLemmas.{reading-boxes, reading-held}
@@ -37,7 +37,7 @@ module _ (most : ℕ) where
         small = small;
       })
 
-  box-most : (at : ℕ) (b : Item) (payload y : List ℕ) (held : Option ℕ) → most_held b.header.kind.0 ≡ held → IsBox b.header payload b.bytes → MayStand at b.bytes held → at + length b.bytes ≤ longest → HoldsAtMost at (b.bytes ++ y) most → most_of (told_by at b held) ≤ most
+  box-most : (at : ℕ) (b : Item) (payload y : List ℕ) (held : Option ℕ) → most_held b.header.kind.0 ≡ held → IsBox b.header payload b.bytes → MayStand at b.bytes held → at + length b.bytes ≤ longest → HoldsAtMost at (b.bytes ++ y) most → most_of (box_effects at b held) ≤ most
   box-most at b payload y None e is may near w = omega arith
   box-most at b payload y (Some limit) e is may near w = omega (arith, front-most at b payload y limit is e may.0 near w)
 
@@ -58,26 +58,26 @@ module _ (most : ℕ) where
 
   -- whole boxes, and the bytes behind them
   record AreModest (at : ℕ) (bs : List Item) (y : List ℕ) : Type 0 where
-    asks : most_of (told_from at bs) ≤ most
+    requests : most_of (boxes_effects at bs) ≤ most
     rest : HoldsAtMost (at + length (joined bs)) y most
 
   boxes-most : (bs : List Item) (at : ℕ) (y : List ℕ) → HoldsAtMost at (joined bs ++ y) most → AreSound at bs → at + length (joined bs) ≤ longest → AreModest at bs y
-  boxes-most [] at y w sound near = record { asks = omega arith; rest = subst (λ n. HoldsAtMost n y most) (omega arith) w }
+  boxes-most [] at y w sound near = record { requests = omega arith; rest = subst (λ n. HoldsAtMost n y most) (omega arith) w }
   boxes-most (b ∷ bs) at y w (box, may, more) near =
       let len = length-append b.bytes (joined bs) in
       let own = subst (λ l. HoldsAtMost at l most) (append_assoc b.bytes (joined bs) y) w in
       let behind = boxes-most bs (at + length b.bytes) y (behind-most at b box.0 (joined bs ++ y) box.1 may own) more (omega (arith, near, len)) in
       let here = box-most at b box.0 (joined bs ++ y) (most_held b.header.kind.0) refl box.1 may (omega (arith, near, len)) own in
       record {
-        asks = omega (arith, most-both (told_by at b (most_held b.header.kind.0)) (told_from (at + length b.bytes) bs), here, behind.asks);
+        requests = omega (arith, most-both (box_effects at b (most_held b.header.kind.0)) (boxes_effects (at + length b.bytes) bs), here, behind.requests);
         rest = subst (λ n. HoldsAtMost n y most) (omega (arith, len)) behind.rest;
       }
 
   -- the rest
-  reads-most : (r s : Reading) → r ≡ s → most_of s.told ≤ most → most_of r.told ≤ most
+  reads-most : (r s : Reading) → r ≡ s → most_of s.effects ≤ most → most_of r.effects ≤ most
   reads-most r s e h = rw e h
 
-  rest-most : (at : ℕ) (y : List ℕ) (r : Reading) → HoldsAtMost at y most → IsRest at y r → most_of r.told ≤ most
+  rest-most : (at : ℕ) (y : List ℕ) (r : Reading) → HoldsAtMost at y most → IsRest at y r → most_of r.effects ≤ most
   rest-most at y r w (Ended none e) = reads-most r _ e (omega arith)
   rest-most at y r w (CutInHeader some short e) = reads-most r _ e (omega arith)
   rest-most at y r w (BadHeader whole none e) = reads-most r _ e (omega arith)
@@ -96,27 +96,27 @@ module _ (most : ℕ) where
       reads-most r _ e (omega (arith, front-most at item b.payload b.more limit b.is held small near own))
 
   -- no more is asked for than for the largest
-  pub asks-most : (b : List ℕ) → IsBytes b → HoldsAtMost 0 b most → most_of (reading 0 b).told ≤ most
+  pub asks-most : (b : List ℕ) → IsBytes b → HoldsAtMost 0 b most → most_of (reading 0 b).effects ≤ most
   asks-most b fits w =
       let (s, reads) = every-stream b fits in
       let all = boxes-most s.boxes 0 s.rest (subst (λ l. HoldsAtMost 0 l most) s.cut w) s.sound s.near in
       reads-most (reading 0 b) _ reads
-      (omega (arith, most-both (told_from 0 s.boxes) s.reading.told, all.asks, rest-most (0 + length (joined s.boxes)) s.rest s.reading all.rest s.is))
+      (omega (arith, most-both (boxes_effects 0 s.boxes) s.reading.effects, all.requests, rest-most (0 + length (joined s.boxes)) s.rest s.reading all.rest s.is))
 
 -- and for each of them is asked
-asked-behind : (r s u : Reading) (t : Told) (at size : ℕ) → r ≡ after t s → s ≡ after (asks_for at size) u → size ≤ most_of r.told
-asked-behind r s u t at size e f = rw (e, f) (omega (arith, most-both t (both (asks_for at size) u.told), most-both (asks_for at size) u.told))
+asked-behind : (r s u : Reading) (t : Effects) (at size : ℕ) → r ≡ after t s → s ≡ after (requests_memory at size) u → size ≤ most_of r.effects
+asked-behind r s u t at size e f = rw (e, f) (omega (arith, most-both t (both (requests_memory at size) u.effects), most-both (requests_memory at size) u.effects))
 
-pub held-asks : (b : List ℕ) (size : ℕ) → HoldsBox 0 b size → size ≤ most_of (reading 0 b).told
+pub held-asks : (b : List ℕ) (size : ℕ) → HoldsBox 0 b size → size ≤ most_of (reading 0 b).effects
 held-asks b size h =
     let (held, is, near) = h.here in
     let at = 0 + length (joined h.boxes) in
     let behind = reading-boxes h.boxes 0 h.rest h.sound (omega (arith, near)) in
     let there = reading-held at h.box.header h.limit size h.box.head h.box.more h.box.spelled held is near h.small in
-    asked-behind (reading 0 b) (reading at h.rest) (then_read reading (held_body at h.box.header.kind size (h.box.head ++ h.box.more))) (told_from 0 h.boxes) at size
+    asked-behind (reading 0 b) (reading at h.rest) (then_read reading (held_body at h.box.header.kind size (h.box.head ++ h.box.more))) (boxes_effects 0 h.boxes) at size
     (ap (reading 0) h.cut ∙ behind) (ap (reading at) h.box.cut ∙ there)
 
-pub asks-exactly : (b : List ℕ) (most : ℕ) → IsBytes b → (most_of (reading 0 b).told ≤ most) ↔ HoldsAtMost 0 b most
+pub asks-exactly : (b : List ℕ) (most : ℕ) → IsBytes b → (most_of (reading 0 b).effects ≤ most) ↔ HoldsAtMost 0 b most
 asks-exactly b most fits = (λ low. record { each = λ size h. omega (arith, low, held-asks b size h) }, asks-most most b fits)
 
 -- ---- whatever the boxes are
@@ -138,15 +138,15 @@ holds-any b = record { each = λ size h. omega (arith, h.small, held-small h.box
 
 -- ---- a run
 
-pub claims_by_largest : {T : Type 0} {ends : Ends} (claims : Claims) {tally : Tally} (result : Result T Stop) (r : Runs {T = T} (reading 0) ends claims tally result) → ClaimsByLargest {T = T} r.bytes claims result
+pub claims_by_largest : {T : Type 0} {ends : Ends} (claims : Claims) {tally : Tally} (result : Result T Stop) (r : ReadsStream {T = T} (reading 0) ends claims tally result) → ClaimsByLargest {T = T} r.bytes claims result
 claims_by_largest claims result r = record {
   most = λ largest w. asked_bound (reading 0) claims result r largest (asks-most largest r.bytes r.fits w);
   enough = λ largest w enough. asked_enough (reading 0) claims result r largest (asks-most largest r.bytes r.fits w) enough;
 }
 
 -- by what any stream asks for
-pub boxes_bound : {T : Type 0} {ends : Ends} (claims : Claims) {tally : Tally} (result : Result T Stop) → Runs {T = T} (reading 0) ends claims tally result → claims.peak ≤ claims.copy + most_moof
+pub boxes_bound : {T : Type 0} {ends : Ends} (claims : Claims) {tally : Tally} (result : Result T Stop) → ReadsStream {T = T} (reading 0) ends claims tally result → claims.peak ≤ claims.copy + most_moof
 boxes_bound claims result r = asked_bound (reading 0) claims result r most_moof (asks-most most_moof r.bytes r.fits (holds-any r.bytes))
 
-pub boxes_enough : {T : Type 0} {ends : Ends} (claims : Claims) {tally : Tally} (result : Result T Stop) → Runs {T = T} (reading 0) ends claims tally result → claims.copy + most_moof ≤ claims.limit → IsErrOf result OverLimit → ⊥
+pub boxes_enough : {T : Type 0} {ends : Ends} (claims : Claims) {tally : Tally} (result : Result T Stop) → ReadsStream {T = T} (reading 0) ends claims tally result → claims.copy + most_moof ≤ claims.limit → IsErrOf result OverLimit → ⊥
 boxes_enough claims result r enough = asked_enough (reading 0) claims result r most_moof (asks-most most_moof r.bytes r.fits (holds-any r.bytes)) enough

@@ -12,17 +12,17 @@ use Rattle.mp4_box.proofs.HeaderLemmas.{whole_is, bad_is, need_more, need-most}
 use Rattle.mp4_ledger.specs.Memory.{given_back}
 use Rattle.mp4_ledger.specs.declared.ledger.Refused.{Refused}
 use Rattle.mp4_ledger.specs.declared.ledger.Refused.TheVariants as refusals
-use Rattle.mp4_reading.specs.Accounts.{Counts, Spends}
-use Rattle.mp4_reading.specs.Blocks.{Breaks, BreaksMarked, Passes, Pending}
-use Rattle.mp4_reading.specs.Bodies.{fault, least_end, longest}
-use Rattle.mp4_reading.specs.Pieces.{Outside, Standing, Moves, GoesOn, Refuses, Starves, Loses, StopsAt, refusal_of}
-use Rattle.mp4_reading.specs.Readings.{AtMost, Faulty, Reading, Told, plus, then_read, silent, says, asks_for, most_of, after}
-use Rattle.mp4_reading.proofs.AccountLemmas.{Counts-none, Counts-back, Spends-more, Spends-counts}
-use Rattle.mp4_reading.proofs.BlockLemmas.{BreaksMarked-longer, Passes-none}
-use Rattle.mp4_reading.proofs.HeadLemmas.{apart, front-len, front-is}
-use Rattle.mp4_reading.proofs.PieceLemmas.{sent_to, claimed_from, back_to, Moves-none, Moves-claim, GoesOn-silent}
-use Rattle.mp4_reading.proofs.ReadingLemmas.{after-silent}
-use Rattle.mp4_reading.proofs.ReadingAskLemmas.{AtMost-plus, AtMost-same, plus-none}
+use Rattle.mp4_machine.specs.Accounts.{Counts, Spends}
+use Rattle.mp4_machine.specs.Blocks.{Breaks, BreaksMarked, Passes, Pending}
+use Rattle.mp4_machine.specs.Bodies.{fault, least_end, longest}
+use Rattle.mp4_machine.specs.Pieces.{Outside, Standing, Moves, GoesOn, Refuses, Starves, Loses, StopsAt, refusal_of}
+use Rattle.mp4_machine.specs.Readings.{AtMost, Faulty, Reading, Effects, plus, then_read, silent, says, requests_memory, most_of, after}
+use Rattle.mp4_machine.proofs.AccountLemmas.{Counts-none, Counts-back, Spends-more, Spends-counts}
+use Rattle.mp4_machine.proofs.BlockLemmas.{BreaksMarked-longer, Passes-none}
+use Rattle.mp4_machine.proofs.HeadLemmas.{apart, front-len, front-is}
+use Rattle.mp4_machine.proofs.PieceLemmas.{sent_to, claimed_from, back_to, Moves-none, Moves-claim, GoesOn-silent}
+use Rattle.mp4_machine.proofs.ReadingLemmas.{after-silent}
+use Rattle.mp4_machine.proofs.ReadingAskLemmas.{AtMost-plus, AtMost-same, plus-none}
 use Rattle.mp4_stream.specs.Boxes.{box, body, held_body, reading}
 use Rattle.mp4_stream.specs.Holding.{held_lines, most_held}
 use Rattle.mp4_stream.specs.Listing.{box_line}
@@ -60,7 +60,7 @@ bad-len held byte new short e is =
     omega (arith, most, bad_is new is)
 
 -- behind some bytes a place reads a fault, whatever comes
-pub Refuses-there : (o : Outside) (p : Standing) (x more : List ℕ) (f : Fault) → ((later : List ℕ) → p.reads (x ++ later) ≡ record { told = silent; outcome = Faulty f }) → p.claim ≡ 0 → Refuses o o p (x ++ more) f
+pub Refuses-there : (o : Outside) (p : Standing) (x more : List ℕ) (f : Fault) → ((later : List ℕ) → p.reads (x ++ later) ≡ record { effects = silent; outcome = Faulty f }) → p.claim ≡ 0 → Refuses o o p (x ++ more) f
 Refuses-there o p x more f r none = record { brought = silent; moves = subst (λ n. Moves o o n 0 silent) (sym none) (Moves-none o 0); rest = λ later. ap p.reads (append_assoc x more later) ∙ r (more ++ later) }
 
 pub Refuses-bad : (o : Outside) (at : ℕ) (held : List ℕ) (byte : ℕ) (new more : List ℕ) → length held < need held → new ≡ held ++ byte ∷ [] → header_at new ≡ steps.BadSize
@@ -72,12 +72,12 @@ Refuses-bad o at held byte new more short e is = record {
 }
 
 -- a write failed in what is told first
-Loses-told : (o o' : Outside) (own : ℕ) (told : Told) (rest r : Reading) → r ≡ after told rest → BreaksMarked o.written o'.written o.waiting o'.waiting told.text told.marks → Spends o.account o'.account own 0 0 → o'.tally ≡ o.tally → Loses o o' own r
-Loses-told o o' own told rest r e p q same = record {
-  text = subst (λ s. BreaksMarked o.written o'.written o.waiting o'.waiting s.told.text s.told.marks) (sym e) (BreaksMarked-longer rest.told.text rest.told.marks p);
-  spends = Spends-more o.account o'.account own 0 0 (most_of r.told) (omega arith) q;
+Loses-told : (o o' : Outside) (own : ℕ) (effects : Effects) (rest r : Reading) → r ≡ after effects rest → BreaksMarked o.written o'.written o.waiting o'.waiting effects.text effects.marks → Spends o.account o'.account own 0 0 → o'.tally ≡ o.tally → Loses o o' own r
+Loses-told o o' own effects rest r e p q same = record {
+  text = subst (λ s. BreaksMarked o.written o'.written o.waiting o'.waiting s.effects.text s.effects.marks) (sym e) (BreaksMarked-longer rest.effects.text rest.effects.marks p);
+  spends = Spends-more o.account o'.account own 0 0 (most_of r.effects) (omega arith) q;
   least = subst (AtMost o.tally) (sym same) (AtMost-same o.tally);
-  most = subst (λ t. AtMost t (plus o.tally r.told.tally)) (sym same) (AtMost-plus o.tally r.told.tally);
+  most = subst (λ t. AtMost t (plus o.tally r.effects.tally)) (sym same) (AtMost-plus o.tally r.effects.tally);
 }
 
 -- ---- a piece x that begins with the header of a box
@@ -125,16 +125,16 @@ module _ (o : Outside) (at : ℕ) (h : Header) (x : List ℕ) (is : header_at x 
       (λ later. reading-begins at h x later is ∙ reading-held_to_end at h (take h.header_len x) (drop h.header_len x ++ later) limit near held size) refl
 
   module _ (limit s : ℕ) (near : at + s ≤ longest) (held : most_held h.kind.0 ≡ Some limit) (size : h.size ≡ Exact s) (fits : s ≤ limit) where
-    reading-claims : (later : List ℕ) → reading at (x ++ later) ≡ after (asks_for at s) (then_read reading (held_body at h.kind s (x ++ later)))
+    reading-claims : (later : List ℕ) → reading at (x ++ later) ≡ after (requests_memory at s) (then_read reading (held_body at h.kind s (x ++ later)))
     reading-claims later =
         reading-begins at h x later is ∙ reading-holds at h (take h.header_len x) (drop h.header_len x ++ later) limit s near held size fits
-        ∙ ap (λ l. after (asks_for at s) (then_read reading (held_body at h.kind s l))) (apart h.header_len x later)
+        ∙ ap (λ l. after (requests_memory at s) (then_read reading (held_body at h.kind s l))) (apart h.header_len x later)
 
     -- room for it was claimed
     pub GoesOn-claim : 0 < s → GoesOn o (claimed_from o s) (standing (InHeader at [])) x (standing (InHeld at h.kind s x))
     GoesOn-claim some = record {
-      brought = asks_for at s;
-      moves = subst (λ n. Moves o (claimed_from o s) 0 n (asks_for at n)) (omega arith) (Moves-claim o 0 s at (omega arith) (omega arith));
+      brought = requests_memory at s;
+      moves = subst (λ n. Moves o (claimed_from o s) 0 n (requests_memory at n)) (omega arith) (Moves-claim o 0 s at (omega arith) (omega arith));
       reached = omega arith;
       rest = reading-claims;
     }
@@ -146,7 +146,7 @@ module _ (o : Outside) (at : ℕ) (h : Header) (x : List ℕ) (is : header_at x 
       moves = Moves-none o 0;
       at = at;
       sum = s;
-      behind = λ later. then_read reading (held_body at h.kind s (x ++ (more ++ later)));
+      continues = λ later. then_read reading (held_body at h.kind s (x ++ (more ++ later)));
       rest = λ later. ap (reading at) (append_assoc x more later) ∙ reading-claims (more ++ later) ∙ sym (after-silent _);
     }
 

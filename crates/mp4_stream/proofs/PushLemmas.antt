@@ -8,20 +8,20 @@ use Rattle.mp4_box.specs.Headers.{Headed}
 use Rattle.mp4_box.specs.declared.rules.Fault.{Fault}
 use Rattle.mp4_ends.specs.Streams.{AppendsPrefix}
 use Rattle.mp4_ends.proofs.StreamLemmas.{AppendsPrefix-longer, AppendsPrefix-more}
-use Rattle.mp4_feed.specs.States.{listed_by, reads_of}
-use Rattle.mp4_items.specs.Contexts.{Context, first_context}
-use Rattle.mp4_items.specs.HeldSizes.{Holds, HoldsWithin}
-use Rattle.mp4_items.specs.Joined.{joined}
-use Rattle.mp4_items.specs.Makings.{Making}
-use Rattle.mp4_items.specs.declared.kinds.Kind.{Kind}
-use Rattle.mp4_items.proofs.ItemLemmas.{reads-grow}
+use Rattle.mp4_fragment_machine.specs.States.{listed_by, reads_of}
+use Rattle.mp4_grammar.specs.Contexts.{Context, first_context}
+use Rattle.mp4_grammar.specs.HeldSizes.{Holds, HoldsWithin}
+use Rattle.mp4_grammar.specs.Joined.{joined}
+use Rattle.mp4_grammar.specs.Meanings.{Meaning}
+use Rattle.mp4_grammar.specs.declared.kinds.Kind.{Kind}
+use Rattle.mp4_grammar.proofs.ItemLemmas.{reads-grow}
 use Rattle.mp4_pieces.specs.declared.cut.Cut.{Cut}
-use Rattle.mp4_reading.specs.Ends.{Sent}
-use Rattle.mp4_reading.specs.Fed.{AllWhole, FedUntil, Lent, StarvesBehind, Sums, TellsRest, sums_in}
-use Rattle.mp4_reading.specs.Readings.{GrowsTo, Outcome, Sound, Faulty, CutOff, Reading, Told, early_in, fault_in, most_of}
-use Rattle.mp4_reading.specs.declared.stop.Stop.{Stop}
-use Rattle.mp4_reading.specs.declared.stop.Stop.TheVariants.{Stream, Read, Write, OverLimit, Memory}
-use Rattle.mp4_reading.proofs.FedRunLemmas.{text-more}
+use Rattle.mp4_machine.specs.Ends.{Sent}
+use Rattle.mp4_machine.specs.Fed.{AllWhole, FedUntil, Lent, StarvesBehind, Sums, TellsRest, sums_in}
+use Rattle.mp4_machine.specs.Readings.{GrowsTo, Outcome, Sound, Faulty, CutOff, Reading, Effects, early_in, fault_in, most_of}
+use Rattle.mp4_machine.specs.declared.stop.Stop.{Stop}
+use Rattle.mp4_machine.specs.declared.stop.Stop.TheVariants.{Stream, Read, Write, OverLimit, Memory}
+use Rattle.mp4_machine.proofs.FedRunLemmas.{text-more}
 use Rattle.mp4_recut.specs.Splitting.{splitting}
 use Rattle.mp4_recut.specs.declared.plan.Plan.TheVariants.{Split}
 use Rattle.mp4_recut.proofs.SplitLemmas.{splitting-growing}
@@ -32,8 +32,8 @@ use Rattle.mp4_stream.proofs.FeederLemmas.{ok-runs}
 
 -- ---- more bytes
 
-holds-more : (make : Making) (c : Context) (b x : List ℕ) (kind : Kind) (size : ℕ) → Holds make c b kind size → Holds make c (b ++ x) kind size
-holds-more make c b x kind size h = record {
+holds-more : (meaning : Meaning) (c : Context) (b x : List ℕ) (kind : Kind) (size : ℕ) → Holds meaning c b kind size → Holds meaning c (b ++ x) kind size
+holds-more meaning c b x kind size h = record {
   items = h.items;
   rest = h.rest ++ x;
   cut = ap (λ (y : List ℕ). y ++ x) h.cut ∙ append_assoc (joined h.items) h.rest x;
@@ -45,10 +45,10 @@ holds-more make c b x kind size h = record {
   small = h.small;
 }
 
-within-front : (make : Making) (c : Context) (b x : List ℕ) (moov moof : ℕ) → HoldsWithin make c (b ++ x) moov moof → HoldsWithin make c b moov moof
-within-front make c b x moov moof w = record {
-  moovs = λ size h. w.moovs size (holds-more make c b x _ size h);
-  moofs = λ size h. w.moofs size (holds-more make c b x _ size h);
+within-front : (meaning : Meaning) (c : Context) (b x : List ℕ) (moov moof : ℕ) → HoldsWithin meaning c (b ++ x) moov moof → HoldsWithin meaning c b moov moof
+within-front meaning c b x moov moof w = record {
+  moovs = λ size h. w.moovs size (holds-more meaning c b x _ size h);
+  moofs = λ size h. w.moofs size (holds-more meaning c b x _ size h);
 }
 
 module _ (cut : Cut) (b x : List ℕ) where
@@ -56,7 +56,7 @@ module _ (cut : Cut) (b x : List ℕ) where
   grows = reads-grow (splitting cut) (splitting-growing cut) first_context b x
 
   prefix-more : (o n : Option (List ℕ)) → AppendsPrefix o n (live cut b) → AppendsPrefix o n (live cut (b ++ x))
-  prefix-more o n h = AppendsPrefix-longer o n (live cut b) grows.told.text.0 (live cut (b ++ x)) h (sym grows.told.text.1)
+  prefix-more o n h = AppendsPrefix-longer o n (live cut b) grows.effects.text.0 (live cut (b ++ x)) h (sym grows.effects.text.1)
 
   no-room-more : (others limit : ℕ) → HasNoRoom cut b others limit → HasNoRoom cut (b ++ x) others limit
   no-room-more others limit h moov moof w = h moov moof (within-front (splitting cut) first_context b x moov moof w)
@@ -64,7 +64,7 @@ module _ (cut : Cut) (b x : List ℕ) where
   stops-more : (s : Sent) (others limit : ℕ) (e : Stop) → StopsIn cut b s others limit (early_in (reading cut b).outcome) e → StopsIn cut (b ++ x) s others limit (early_in (reading cut (b ++ x)).outcome) e
   stops-more s others limit (Stream f) h =
       let same : reading cut (b ++ x) ≡ reading cut b = grows.early f h.0 in
-      (ap (λ (r : Reading). early_in r.outcome) same ∙ h.0, subst (λ (r : Reading). Appends s.written s.written' r.told.text) (sym same) h.1)
+      (ap (λ (r : Reading). early_in r.outcome) same ∙ h.0, subst (λ (r : Reading). Appends s.written s.written' r.effects.text) (sym same) h.1)
   stops-more s others limit (Read at) h = h
   stops-more s others limit Write h = (h.0, prefix-more s.written s.written' h.1)
   stops-more s others limit OverLimit h = (no-room-more others limit h.0, prefix-more s.written s.written' h.1)
@@ -75,16 +75,16 @@ module _ (cut : Cut) (b x : List ℕ) where
 module _ (cut : Cut) (b piece : List ℕ) (l : Lent) (own : ℕ) (sums : Sums) (first : Option (List ℕ)) (before : Appends first l.written (live cut b)) where
   starved : StarvesBehind (reading cut) b (b ++ piece) l own sums → AppendsPrefix first l.written' (live cut (b ++ piece))
   starved r =
-      let n = r.ask.behind in
+      let n = r.request.text_before in
       let all = live cut (b ++ piece) in
-      (live cut b ++ r.told.text, drop n all, Appends-trans first l.written l.written' (live cut b) r.told.text before r.text, sym (take-append-drop n all) ∙ ap (λ (y : List ℕ). y ++ drop n all) r.front)
+      (live cut b ++ r.effects.text, drop n all, Appends-trans first l.written l.written' (live cut b) r.effects.text before r.text, sym (take-append-drop n all) ∙ ap (λ (y : List ℕ). y ++ drop n all) r.front)
 
   stops-now : (s : Sent) (others limit : ℕ) (e : Stop) → s.written ≡ first → s.written' ≡ l.written' → (e ≡ Write → s.failed' ≡ true) → (e ≡ OverLimit → HasNoRoom cut (b ++ piece) others limit) → FedUntil (reading cut) b piece l own sums e
       → StopsIn cut (b ++ piece) s others limit (early_in (reading cut (b ++ piece)).outcome) e
   stops-now s others limit (Stream f) p q failed over until = (until.1, rw (p, q) (text-more (reading cut) b (b ++ piece) l own 0 until.0 first before))
   stops-now s others limit (Read at) p q failed over until = absurd until
   stops-now s others limit Write p q failed over until =
-      (failed refl, rw (p, q, ap (λ (t : Told). t.text) until.all) (AppendsPrefix-more first l.written l.written' (live cut b) until.told.text before until.text))
+      (failed refl, rw (p, q, ap (λ (t : Effects). t.text) until.all) (AppendsPrefix-more first l.written l.written' (live cut b) until.effects.text before until.text))
   stops-now s others limit OverLimit p q failed over until = (over refl, rw (p, q) (starved until.0))
   stops-now s others limit Memory p q failed over until = rw (p, q) (starved until.0)
 
@@ -175,18 +175,18 @@ module _ (cut : Cut) (b : List ℕ) (s : Sent) (others limit : ℕ) where
     ended-ok : (t : Totals) → f.stop ≡ None → Finishes f b (Ok t) → f.machine.counter.tally.walked + t.samples + listed_by (Split f.cut) t.samples ≤ t.rows_read → t.rows_read ≤ reads_of (Split f.cut) * f.machine.counter.tally.walked → Pushes cut b s others limit (Ok t)
     ended-ok t runs fin some few =
         let now = so_far.running runs in
-        let sums = subst (λ (x : Cut). sums_of f ≡ sums_in (reading x b).told) same now.0.sums in
-        let tally : f.machine.counter.tally ≡ (reading cut b).told.tally = ap (λ (k : Sums). k.tally) sums in
+        let sums = subst (λ (x : Cut). sums_of f ≡ sums_in (reading x b).effects) same now.0.sums in
+        let tally : f.machine.counter.tally ≡ (reading cut b).effects.tally = ap (λ (k : Sums). k.tally) sums in
         let is : t ≡ totals_of f = fin.1 in (
           subst (λ (x : Cut). fault_in (reading x b).outcome ≡ None) same fin.0,
           now.1,
           record {
-            fragments = subst (λ (n : ℕ). AllWhole (reading cut b).told n) (sym (ap (λ (x : Totals). x.fragments) is)) (subst (λ (x : Cut). AllWhole (reading x b).told f.fragments) same now.0.fragments);
+            fragments = subst (λ (n : ℕ). AllWhole (reading cut b).effects n) (sym (ap (λ (x : Totals). x.fragments) is)) (subst (λ (x : Cut). AllWhole (reading x b).effects f.fragments) same now.0.fragments);
             samples = ap (λ (x : Totals). x.samples) is ∙ ap (λ x. x.samples) tally;
             media_bytes = ap (λ (x : Totals). x.media_bytes) is ∙ ap (λ x. x.media_bytes) tally;
             peak = ap (λ (x : Totals). x.peak) is ∙ ap (λ (k : Sums). k.peak) sums;
-            some = subst (λ (x : Cut). (reading cut b).told.tally.walked + t.samples + listed_by (Split x) t.samples ≤ t.rows_read) same (subst (λ n. n + t.samples + listed_by (Split f.cut) t.samples ≤ t.rows_read) (ap (λ x. x.walked) tally) some);
-            few = subst (λ (x : Cut). t.rows_read ≤ reads_of (Split x) * (reading cut b).told.tally.walked) same (subst (λ n. t.rows_read ≤ reads_of (Split f.cut) * n) (ap (λ x. x.walked) tally) few);
+            some = subst (λ (x : Cut). (reading cut b).effects.tally.walked + t.samples + listed_by (Split x) t.samples ≤ t.rows_read) same (subst (λ n. n + t.samples + listed_by (Split f.cut) t.samples ≤ t.rows_read) (ap (λ x. x.walked) tally) some);
+            few = subst (λ (x : Cut). t.rows_read ≤ reads_of (Split x) * (reading cut b).effects.tally.walked) same (subst (λ n. t.rows_read ≤ reads_of (Split f.cut) * n) (ap (λ x. x.walked) tally) few);
           },
         )
 

@@ -13,11 +13,11 @@ use Rattle.mp4_box.specs.declared.headers.Step.TheVariants as steps
 use Rattle.mp4_box.specs.declared.rules.Fault.{Fault}
 use Rattle.mp4_box.proofs.HeaderLemmas.{IsBytes-drop, bad_is, cut_is, need-least, read_is, room_of, whole_is}
 use Rattle.mp4_box.proofs.HeaderAnswers.{head-need, head-whole, header-begins}
-use Rattle.mp4_reading.specs.Bodies.{least_end, longest}
-use Rattle.mp4_reading.specs.Readings.{Reading, after, nothing}
+use Rattle.mp4_machine.specs.Bodies.{least_end, longest}
+use Rattle.mp4_machine.specs.Readings.{Reading, after, empty_reading}
 use Rattle.mp4_stream.specs.Boxes.{reading}
 use Rattle.mp4_stream.specs.Holding.{most_held}
-use Rattle.mp4_stream.specs.Joined.{AreSound, Item, MayStand, joined, told_from}
+use Rattle.mp4_stream.specs.Joined.{AreSound, Item, MayStand, joined, boxes_effects}
 use Rattle.mp4_stream.specs.Rests.{Boxed, IsRest, Ended, CutInHeader, BadHeader, TooFar, CutInBody, Open, OpenTooFar, Large, Unsized, CutInHeld, BadTree, Split}
 use Rattle.mp4_stream.proofs.BoxLemmas.{reading-more, reading-none, reading-whole, reading-too_long, reading-too_large, reading-held_to_end}
 use Rattle.mp4_stream.proofs.JoinLemmas.{reading-boxes, reading-unheaded, reading-cut, reading-open, reading-open_long, reading-cut_held, reading-bad_held}
@@ -163,18 +163,18 @@ by_step at b steps.BadSize near fits some e go = only at b _ near (BadHeader (ba
 by_step at b (steps.Whole h) near fits some e go = by_header at b near fits h e go
 
 split_of : (n : ℕ) (at : ℕ) (b : List ℕ) → length b ≤ n → at ≤ longest → IsBytes b → Split at b
-split_of n at [] low near fits = only at [] nothing near (Ended refl refl)
+split_of n at [] low near fits = only at [] empty_reading near (Ended refl refl)
 split_of zero at (a ∷ b) low near fits = absurd (omega arith)
 split_of (suc n) at (a ∷ b) low near fits =
     by_step at (a ∷ b) (header_at (a ∷ b)) near fits (omega arith) refl
     (λ s some enough end. split_of n (at + s) (drop s (a ∷ b)) (omega (arith, length-drop s (a ∷ b), low, some)) end (IsBytes-drop s (a ∷ b) fits))
 
 -- each stream is split so, and read so
-pub every-stream : (b : List ℕ) → IsBytes b → (s : Split 0 b) × (reading 0 b ≡ after (told_from 0 s.boxes) s.reading)
+pub every-stream : (b : List ℕ) → IsBytes b → (s : Split 0 b) × (reading 0 b ≡ after (boxes_effects 0 s.boxes) s.reading)
 every-stream b fits =
     let s = split_of (length b) 0 b (omega arith) (omega arith) fits in
     let rest : s.rest ≡ drop (length (joined s.boxes)) b = sym (drop-append_seam (joined s.boxes) s.rest) ∙ ap (drop (length (joined s.boxes))) (sym s.cut) in (
       s,
       ap (reading 0) s.cut ∙ reading-boxes s.boxes 0 s.rest s.sound s.near
-          ∙ ap (after (told_from 0 s.boxes)) (rest-reads (0 + length (joined s.boxes)) s.rest s.reading (subst IsBytes (sym rest) (IsBytes-drop (length (joined s.boxes)) b fits)) s.is),
+          ∙ ap (after (boxes_effects 0 s.boxes)) (rest-reads (0 + length (joined s.boxes)) s.rest s.reading (subst IsBytes (sym rest) (IsBytes-drop (length (joined s.boxes)) b fits)) s.is),
     )

@@ -12,62 +12,62 @@ use Rattle.mp4_box.specs.Headers.{header_at, kind_of}
 use Rattle.mp4_box.specs.Trees.{tree_faults}
 use Rattle.mp4_stream.specs.Holding.{held_lines, most_held}
 use Rattle.mp4_stream.specs.Listing.{box_line}
-use Rattle.mp4_reading.specs.Bodies.{longest, refused, cut_off, least_end, told_body, told_open}
-use Rattle.mp4_reading.specs.Readings.{Told, Faulty, Reading, nothing, Front, Last, Whole, after_told, silent, says, asks_for, read_all}
+use Rattle.mp4_machine.specs.Bodies.{longest, at_fault, cut_off, least_end, body_item, open_body_item}
+use Rattle.mp4_machine.specs.Readings.{Effects, Faulty, Reading, empty_reading, FirstItem, Last, Whole, after_effects, silent, says, requests_memory, read_all}
 
 -- nothing is told of a body that is passed over
-abbrev pub passed : List ℕ → Told
+abbrev pub passed : List ℕ → Effects
 passed bytes = silent
 
 -- a box at `at` by the size that it states, behind its header
-abbrev pub body : ℕ → Header → Size → List ℕ → Front ℕ
-body at h (Exact s) bytes = told_body passed at h.kind (at + s) (s - h.header_len) bytes
-body at h ToEnd bytes = told_open passed at h.kind 0 (longest - (at + h.header_len)) bytes
+abbrev pub body : ℕ → Header → Size → List ℕ → FirstItem ℕ
+body at h (Exact s) bytes = body_item passed at h.kind (at + s) (s - h.header_len) bytes
+body at h ToEnd bytes = open_body_item passed at h.kind 0 (longest - (at + h.header_len)) bytes
 
 -- a box x at `at` that was held, what is at fault in its tree, and the bytes behind it
-abbrev pub held_box : ℕ → ℕ → List ℕ → List ℕ → List Fault → Front ℕ
+abbrev pub held_box : ℕ → ℕ → List ℕ → List ℕ → List Fault → FirstItem ℕ
 held_box at next x rest [] = Whole (says (held_lines at x)) next rest
-held_box at next x rest (f ∷ fs) = Last (record { told = silent; outcome = Faulty f })
+held_box at next x rest (f ∷ fs) = Last (record { effects = silent; outcome = Faulty f })
 
 -- a box at `at` of `size` bytes that is held: the bytes are its own, and those behind it
-abbrev pub held_body : ℕ → FourCc → ℕ → List ℕ → Front ℕ
+abbrev pub held_body : ℕ → FourCc → ℕ → List ℕ → FirstItem ℕ
 held_body at kind size bytes =
     if nat_lt (length bytes) size then Last (cut_off Truncated (Some kind) at)
     else held_box at (at + size) (take size bytes) (drop size bytes) (tree_faults at (take size bytes))
 
 -- a box at `at` that is to be held, and may have so many bytes
-abbrev pub holding : ℕ → Header → ℕ → List ℕ → Size → Front ℕ
+abbrev pub holding : ℕ → Header → ℕ → List ℕ → Size → FirstItem ℕ
 holding at h limit bytes (Exact s) =
-    if nat_lt limit s then Last (refused TooLarge (Some h.kind) at)
-    else after_told (asks_for at s) (held_body at h.kind s bytes)
-holding at h limit bytes ToEnd = Last (refused TooLarge (Some h.kind) at)
+    if nat_lt limit s then Last (at_fault TooLarge (Some h.kind) at)
+    else after_effects (requests_memory at s) (held_body at h.kind s bytes)
+holding at h limit bytes ToEnd = Last (at_fault TooLarge (Some h.kind) at)
 
 -- a box at `at` with the header x, and the bytes behind it, by the most bytes that it may have where it is held
-abbrev pub box_by : ℕ → Header → List ℕ → List ℕ → Option ℕ → Front ℕ
-box_by at h x bytes None = after_told (says (box_line at h)) (body at h h.size bytes)
+abbrev pub box_by : ℕ → Header → List ℕ → List ℕ → Option ℕ → FirstItem ℕ
+box_by at h x bytes None = after_effects (says (box_line at h)) (body at h h.size bytes)
 box_by at h x bytes (Some limit) = holding at h limit (x ++ bytes) h.size
 
 -- a box at `at` with the header x, and the bytes behind it
-abbrev pub box : ℕ → Header → List ℕ → List ℕ → Front ℕ
+abbrev pub box : ℕ → Header → List ℕ → List ℕ → FirstItem ℕ
 box at h x bytes =
-    if nat_lt longest (least_end at h h.size) then Last (refused StreamTooLong (Some h.kind) at)
+    if nat_lt longest (least_end at h h.size) then Last (at_fault StreamTooLong (Some h.kind) at)
     else box_by at h x bytes (most_held h.kind.0)
 
 -- some bytes at `at`, by what they are as a header
-abbrev pub front_by : ℕ → List ℕ → Step → Front ℕ
-front_by at bytes steps.More = Last (cut_off Truncated (kind_of bytes) at)
-front_by at bytes steps.BadSize = Last (refused BadSize (kind_of bytes) at)
-front_by at bytes (steps.Whole h) = box at h (take h.header_len bytes) (drop h.header_len bytes)
+abbrev pub top_box_by : ℕ → List ℕ → Step → FirstItem ℕ
+top_box_by at bytes steps.More = Last (cut_off Truncated (kind_of bytes) at)
+top_box_by at bytes steps.BadSize = Last (at_fault BadSize (kind_of bytes) at)
+top_box_by at bytes (steps.Whole h) = box at h (take h.header_len bytes) (drop h.header_len bytes)
 
 -- the box at the front of the bytes from the offset `at` on
-unfoldable pub front : ℕ → List ℕ → Front ℕ
-front at [] = Last nothing
-front at (b ∷ bytes) = front_by at (b ∷ bytes) (header_at (b ∷ bytes))
+unfoldable pub top_box : ℕ → List ℕ → FirstItem ℕ
+top_box at [] = Last empty_reading
+top_box at (b ∷ bytes) = top_box_by at (b ∷ bytes) (header_at (b ∷ bytes))
 
 -- what the bytes from the offset `at` on are read as
 abbrev pub reading : ℕ → List ℕ → Reading
-reading at bytes = read_all front at bytes
+reading at bytes = read_all top_box at bytes
 
 -- the lines of a stream's boxes, up to its first fault
 abbrev pub listing : List ℕ → List ℕ
-listing b = (reading 0 b).told.text
+listing b = (reading 0 b).effects.text

@@ -1,18 +1,18 @@
 -- What a Feeder is behind the bytes of a stream that it was fed, and what a call of it brings.
 use Rattle.std.specs.Prelude.{◌≡◌, ℕ, ◌+◌, ◌-◌, ◌*◌, ◌≤◌, List, ◌++◌, length, take, Option, None, Some, Result, Ok, Err, IfErr, OnOk, IsErrOf}
 use Rattle.mp4_box.specs.Headers.{IsBytes}
-use Rattle.mp4_feed.specs.Places.{claim_of}
-use Rattle.mp4_feed.specs.States.{Progress, place_in, stands_in}
-use Rattle.mp4_items.specs.Contexts.{first_context}
-use Rattle.mp4_items.specs.HeldSizes.{HoldsWithin}
+use Rattle.mp4_fragment_machine.specs.Places.{claim_of}
+use Rattle.mp4_fragment_machine.specs.States.{Progress, place_in, stands_in}
+use Rattle.mp4_grammar.specs.Contexts.{first_context}
+use Rattle.mp4_grammar.specs.HeldSizes.{HoldsWithin}
 use Rattle.mp4_pieces.specs.declared.cut.Cut.{Cut}
-use Rattle.mp4_reading.specs.Blocks.{IsSent, Pending}
-use Rattle.mp4_reading.specs.Fed.{AllWhole, Lent, Sums, sums_in, TellsRest, FedUntil}
-use Rattle.mp4_reading.specs.Pieces.{IsQuiet, farthest}
-use Rattle.mp4_reading.specs.Pieces as pieces
-use Rattle.mp4_reading.specs.Readings.{Reading, early_in, fault_in}
-use Rattle.mp4_reading.specs.declared.stop.Stop.{Stop}
-use Rattle.mp4_reading.specs.declared.stop.Stop.TheVariants.{Stream, Read, Write, OverLimit, Memory}
+use Rattle.mp4_machine.specs.Blocks.{IsSent, Pending}
+use Rattle.mp4_machine.specs.Fed.{AllWhole, Lent, Sums, sums_in, TellsRest, FedUntil}
+use Rattle.mp4_machine.specs.Pieces.{IsQuiet, farthest}
+use Rattle.mp4_machine.specs.Pieces as pieces
+use Rattle.mp4_machine.specs.Readings.{Reading, early_in, fault_in}
+use Rattle.mp4_machine.specs.declared.stop.Stop.{Stop}
+use Rattle.mp4_machine.specs.declared.stop.Stop.TheVariants.{Stream, Read, Write, OverLimit, Memory}
 use Rattle.mp4_recut.specs.Plans as plans
 use Rattle.mp4_recut.specs.declared.plan.Plan.TheVariants.{Split}
 use Rattle.mp4_recut.specs.Splitting.{splitting}
@@ -26,7 +26,7 @@ reading cut b = plans.reads_of (Split cut) b
 
 -- what is written of them: all that every stream has that begins with them
 abbrev pub live : Cut → List ℕ → List ℕ
-live cut b = (reading cut b).told.text
+live cut b = (reading cut b).effects.text
 
 -- ---- what a Feeder is
 
@@ -67,8 +67,8 @@ pub record Stands (f : Feeding) (b : List ℕ) : Type 0 where
   pub undecided : early_in (reading f.cut b).outcome ≡ None
   pub near : length b ≤ farthest
   pub machine : pieces.Stands (reading f.cut) b (stands_in f.machine) f.machine.counter.tally
-  pub sums : sums_of f ≡ sums_in (reading f.cut b).told
-  pub fragments : AllWhole (reading f.cut b).told f.fragments
+  pub sums : sums_of f ≡ sums_in (reading f.cut b).effects
+  pub fragments : AllWhole (reading f.cut b).effects f.fragments
 
 -- what a Feeder keeps: its machine cuts so, so many bytes are claimed, nothing waits to be sent between two calls, and nothing is claimed behind a stop
 pub record IsFeeder (f : Feeding) (claimed : ℕ) (waiting : Pending) : Type 0 where
@@ -89,8 +89,8 @@ pub record ClaimsWithin {T : Type 0} (cut : Cut) (b : List ℕ) (peak others lim
 
 -- where a claim was refused, what was written of the stream is what the bytes before the box are cut into
 abbrev pub WritesBefore : (cut : Cut) → (b piece : List ℕ) → (l : Lent) → (own : ℕ) → (s : Sums) → (e : Stop) → FedUntil (reading cut) b piece l own s e → Type 0
-WritesBefore cut b piece l own s OverLimit until = live cut (take until.0.ask.at (b ++ piece)) ≡ live cut b ++ until.0.told.text
-WritesBefore cut b piece l own s Memory until = live cut (take until.0.ask.at (b ++ piece)) ≡ live cut b ++ until.0.told.text
+WritesBefore cut b piece l own s OverLimit until = live cut (take until.0.request.at (b ++ piece)) ≡ live cut b ++ until.0.effects.text
+WritesBefore cut b piece l own s Memory until = live cut (take until.0.request.at (b ++ piece)) ≡ live cut b ++ until.0.effects.text
 WritesBefore cut b piece l own s (Stream f) until = Unit {0}
 WritesBefore cut b piece l own s (Read at) until = Unit {0}
 WritesBefore cut b piece l own s Write until = Unit {0}

@@ -1,12 +1,12 @@
 -- What a run brings that reads fragments.
 use Rattle.std.specs.Prelude.{◌≡◌, ℕ, ◌+◌, ◌*◌, ◌≤◌, List, None, false, Result, IsErrOf}
-use Rattle.mp4_feed.specs.States.{listed_by, reads_of}
-use Rattle.mp4_items.specs.Contexts.{first_context}
-use Rattle.mp4_items.specs.HeldSizes.{HoldsWithin}
-use Rattle.mp4_reading.specs.Ends.{Ends, Sent}
-use Rattle.mp4_reading.specs.Runs.{Claims, Runs}
-use Rattle.mp4_reading.specs.declared.stop.Stop.{Stop}
-use Rattle.mp4_reading.specs.declared.stop.Stop.TheVariants.{OverLimit}
+use Rattle.mp4_fragment_machine.specs.States.{listed_by, reads_of}
+use Rattle.mp4_grammar.specs.Contexts.{first_context}
+use Rattle.mp4_grammar.specs.HeldSizes.{HoldsWithin}
+use Rattle.mp4_machine.specs.Ends.{Ends, Sent}
+use Rattle.mp4_machine.specs.StreamRuns.{Claims, ReadsStream}
+use Rattle.mp4_machine.specs.declared.stop.Stop.{Stop}
+use Rattle.mp4_machine.specs.declared.stop.Stop.TheVariants.{OverLimit}
 use Rattle.mp4_recut.specs.Plans as readings
 use Rattle.mp4_recut.specs.declared.plan.Plan.{Plan}
 use Rattle.mp4_recut.specs.declared.plan.Plan.TheVariants as plans
@@ -14,20 +14,20 @@ use Rattle.mp4_stream.specs.declared.run.Totals.{Totals}
 
 -- where each moov that the bytes hold has at most so many bytes, and each moof: beside the bytes to read into no more is claimed than twice the one and five times the other, and a limit that allows so much is never passed
 pub record ClaimsByBoxes {T : Type 0} (plan : Plan) (bytes : List ℕ) (claims : Claims) (result : Result T Stop) : Type 0 where
-  pub most : (moov moof : ℕ) → HoldsWithin (readings.making_of plan) first_context bytes moov moof → claims.peak ≤ claims.copy + (2 * moov + 5 * moof)
-  pub enough : (moov moof : ℕ) → HoldsWithin (readings.making_of plan) first_context bytes moov moof → claims.copy + (2 * moov + 5 * moof) ≤ claims.limit → IsErrOf result OverLimit → ⊥
+  pub most : (moov moof : ℕ) → HoldsWithin (readings.plan_meaning plan) first_context bytes moov moof → claims.peak ≤ claims.copy + (2 * moov + 5 * moof)
+  pub enough : (moov moof : ℕ) → HoldsWithin (readings.plan_meaning plan) first_context bytes moov moof → claims.copy + (2 * moov + 5 * moof) ≤ claims.limit → IsErrOf result OverLimit → ⊥
 
 -- how many fragments are counted, where so many were told, and so many of them are whole in what was written: those of the input are counted as they are accepted, and those of an output once the writer has their moofs
-abbrev pub fragments_of : Plan → (told whole : ℕ) → ℕ
-fragments_of (plans.List command) told whole = told
-fragments_of (plans.Split cut) told whole = whole
+abbrev pub fragments_of : Plan → (effects whole : ℕ) → ℕ
+fragments_of (plans.List command) effects whole = effects
+fragments_of (plans.Split cut) effects whole = whole
 
 -- by the reading of a plan, with its totals: the samples that are counted are among those of moofs that were looked at; each of these was read once, and a counted one once more, and again where it is listed or recut; none was read more often than the plan allows
 pub record ReadsFragments {T : Type 0} (plan : Plan) (ends : Ends) (claims : Claims) (totals : Totals) (result : Result T Stop) : Type 0 where
-  pub told : ℕ
+  pub effects : ℕ
   pub walked : ℕ
-  pub runs : Runs (readings.reads_of plan) ends claims (record { fragments = told; samples = totals.samples; media_bytes = totals.media_bytes; walked = walked }) result
-  pub fragments : totals.fragments ≡ fragments_of plan told runs.fragments
+  pub runs : ReadsStream (readings.reads_of plan) ends claims (record { fragments = effects; samples = totals.samples; media_bytes = totals.media_bytes; walked = walked }) result
+  pub fragments : totals.fragments ≡ fragments_of plan effects runs.fragments
   pub all : totals.samples ≤ walked
   pub some : walked + totals.samples + listed_by plan totals.samples ≤ totals.rows_read
   pub few : totals.rows_read ≤ reads_of plan * walked

@@ -1,11 +1,11 @@
 -- How large the boxes of a stream are that a listing holds, and what a run claims by them.
 use Rattle.std.specs.Prelude.{◌≡◌, ℕ, ◌+◌, ◌≤◌, List, ◌++◌, length, Result, IsErrOf}
 use Rattle.mp4_box.specs.Headers.{Headed}
-use Rattle.mp4_reading.specs.Ends.{Ends}
-use Rattle.mp4_reading.specs.Readings.{uncounted}
-use Rattle.mp4_reading.specs.Runs.{Claims, Runs}
-use Rattle.mp4_reading.specs.declared.stop.Stop.{Stop}
-use Rattle.mp4_reading.specs.declared.stop.Stop.TheVariants.{OverLimit}
+use Rattle.mp4_machine.specs.Ends.{Ends}
+use Rattle.mp4_machine.specs.Readings.{uncounted}
+use Rattle.mp4_machine.specs.StreamRuns.{Claims, ReadsStream}
+use Rattle.mp4_machine.specs.declared.stop.Stop.{Stop}
+use Rattle.mp4_machine.specs.declared.stop.Stop.TheVariants.{OverLimit}
 use Rattle.mp4_stream.specs.Boxes.{reading}
 use Rattle.mp4_stream.specs.Joined.{AreSound, Item, joined}
 use Rattle.mp4_stream.specs.Rests.{IsHeld}
@@ -32,5 +32,5 @@ pub record ClaimsByLargest {T : Type 0} (bytes : List ℕ) (claims : Claims) (re
 
 -- what a run brings that lists the boxes of the bytes that it was given
 pub record ReadsBoxes {T : Type 0} (ends : Ends) (claims : Claims) (result : Result T Stop) : Type 0 where
-  pub runs : Runs (reading 0) ends claims uncounted result
+  pub runs : ReadsStream (reading 0) ends claims uncounted result
   pub by_boxes : ClaimsByLargest runs.bytes claims result

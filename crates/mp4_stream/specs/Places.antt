@@ -3,14 +3,14 @@ use Rattle.std.specs.Prelude.{◌≡◌, ℕ, ◌+◌, ◌-◌, ◌<◌, ◌≤�
 use Rattle.mp4_box.specs.declared.headers.FourCc.{FourCc}
 use Rattle.mp4_box.specs.Headers.{need}
 use Rattle.mp4_ledger.specs.Memory.{Account}
-use Rattle.mp4_reading.specs.Blocks.{Pending}
-use Rattle.mp4_reading.specs.Bodies.{longest, told_body, told_open}
-use Rattle.mp4_reading.specs.Ends.{Sent}
-use Rattle.mp4_reading.specs.Pieces.{Around, Outside, Standing}
-use Rattle.mp4_reading.specs.Pieces as pieces
-use Rattle.mp4_reading.specs.Readings.{Reading, uncounted, then_read}
+use Rattle.mp4_machine.specs.Blocks.{Pending}
+use Rattle.mp4_machine.specs.Bodies.{longest, body_item, open_body_item}
+use Rattle.mp4_machine.specs.Ends.{Sent}
+use Rattle.mp4_machine.specs.Pieces.{Around, Outside, Standing}
+use Rattle.mp4_machine.specs.Pieces as pieces
+use Rattle.mp4_machine.specs.Readings.{Reading, uncounted, then_read}
 use Rattle.mp4_stream.specs.Boxes.{passed, held_body, reading}
-use Rattle.mp4_reading.specs.Holding.{Begins, Holding}
+use Rattle.mp4_machine.specs.Holding.{Begins, Holding}
 use Rattle.mp4_stream.specs.declared.phase.Phase.{Phase}
 use Rattle.mp4_stream.specs.declared.phase.Phase.TheVariants as phases
 
@@ -36,9 +36,9 @@ reached_of (InOpenBody at kind left) = longest - left
 -- what the bytes to come are read as
 abbrev pub reads_at : Place → List ℕ → Reading
 reads_at (InHeader at held) bytes = reading at (held ++ bytes)
-reads_at (InBody at kind next left) bytes = then_read reading (told_body passed at kind next left bytes)
+reads_at (InBody at kind next left) bytes = then_read reading (body_item passed at kind next left bytes)
 reads_at (InHeld at kind size held) bytes = then_read reading (held_body at kind size (held ++ bytes))
-reads_at (InOpenBody at kind left) bytes = then_read reading (told_open passed at kind 0 left bytes)
+reads_at (InOpenBody at kind left) bytes = then_read reading (open_body_item passed at kind 0 left bytes)
 
 -- how many bytes are claimed for the box that is held
 abbrev pub claim_of : Place → ℕ

@@ -3,28 +3,28 @@ use Rattle.std.specs.Prelude.{◌≡◌, ℕ, ◌+◌, ◌*◌, ◌<◌, ◌≤�
 use Rattle.std.specs.Io.KnownBytes.{Appends}
 use Rattle.mp4_box.specs.declared.rules.Fault.{Fault}
 use Rattle.mp4_ends.specs.Streams.{AppendsPrefix}
-use Rattle.mp4_feed.specs.States.{listed_by, reads_of}
-use Rattle.mp4_items.specs.Contexts.{first_context}
-use Rattle.mp4_items.specs.HeldSizes.{HoldsWithin}
+use Rattle.mp4_fragment_machine.specs.States.{listed_by, reads_of}
+use Rattle.mp4_grammar.specs.Contexts.{first_context}
+use Rattle.mp4_grammar.specs.HeldSizes.{HoldsWithin}
 use Rattle.mp4_pieces.specs.declared.cut.Cut.{Cut}
-use Rattle.mp4_reading.specs.Ends.{Sent}
-use Rattle.mp4_reading.specs.Fed.{AllWhole}
-use Rattle.mp4_reading.specs.Readings.{Told, fault_in, most_of}
-use Rattle.mp4_reading.specs.declared.stop.Stop.{Stop}
-use Rattle.mp4_reading.specs.declared.stop.Stop.TheVariants.{Stream, Read, Write, OverLimit, Memory}
+use Rattle.mp4_machine.specs.Ends.{Sent}
+use Rattle.mp4_machine.specs.Fed.{AllWhole}
+use Rattle.mp4_machine.specs.Readings.{Effects, fault_in, most_of}
+use Rattle.mp4_machine.specs.declared.stop.Stop.{Stop}
+use Rattle.mp4_machine.specs.declared.stop.Stop.TheVariants.{Stream, Read, Write, OverLimit, Memory}
 use Rattle.mp4_recut.specs.declared.plan.Plan.TheVariants.{Split}
 use Rattle.mp4_recut.specs.Splitting.{splitting}
 use Rattle.mp4_stream.specs.Feeders.{live, reading}
 use Rattle.mp4_stream.specs.declared.run.Totals.{Totals}
 
 -- totals of a stream of which this is told: the fragments whose moofs are written, the samples and their bytes, the most that was claimed at once; rows were read once for each sample that was looked at, and again for each that was recut, and no more often than a cut allows
-pub record CountedAs (cut : Cut) (told : Told) (t : Totals) : Type 0 where
-  pub fragments : AllWhole told t.fragments
-  pub samples : t.samples ≡ told.tally.samples
-  pub media_bytes : t.media_bytes ≡ told.tally.media_bytes
-  pub peak : t.peak ≡ most_of told
-  pub some : told.tally.walked + t.samples + listed_by (Split cut) t.samples ≤ t.rows_read
-  pub few : t.rows_read ≤ reads_of (Split cut) * told.tally.walked
+pub record CountedAs (cut : Cut) (effects : Effects) (t : Totals) : Type 0 where
+  pub fragments : AllWhole effects t.fragments
+  pub samples : t.samples ≡ effects.tally.samples
+  pub media_bytes : t.media_bytes ≡ effects.tally.media_bytes
+  pub peak : t.peak ≡ most_of effects
+  pub some : effects.tally.walked + t.samples + listed_by (Split cut) t.samples ≤ t.rows_read
+  pub few : t.rows_read ≤ reads_of (Split cut) * effects.tally.walked
 
 -- by the largest boxes of the bytes a limit has no room for what they ask for, beside what others have
 abbrev pub HasNoRoom : Cut → List ℕ → (others limit : ℕ) → Type 0
@@ -40,5 +40,5 @@ StopsIn cut b s others limit fault Memory = AppendsPrefix s.written s.written' (
 
 -- pieces whose join is the stream b: Ok where it has no fault, with its recut text and its totals, else how it stops. The limit is that of a ledger of which others have so much
 abbrev pub Pushes : Cut → List ℕ → Sent → (others limit : ℕ) → Result Totals Stop → Type 0
-Pushes cut b s others limit (Ok t) = (fault_in (reading cut b).outcome ≡ None) × Appends s.written s.written' (live cut b) × CountedAs cut (reading cut b).told t
+Pushes cut b s others limit (Ok t) = (fault_in (reading cut b).outcome ≡ None) × Appends s.written s.written' (live cut b) × CountedAs cut (reading cut b).effects t
 Pushes cut b s others limit (Err e) = StopsIn cut b s others limit (fault_in (reading cut b).outcome) e

@@ -1,21 +1,21 @@
 //! A stream that is pushed in piece by piece, and cut into shorter fragments as it comes.
 
 ghost use Rattle.std.specs.Prelude.{◌≡◌, ℕ, List, ◌+◌, ◌-◌, ◌*◌, ◌≤◌, [], None, Some, Err, Ok, IfErr, IfOk, OnOk, OnErr, IsErrOf, true};
-ghost use Rattle.mp4_feed.specs.States.{begun, listed_by, reads_of};
+ghost use Rattle.mp4_fragment_machine.specs.States.{begun, listed_by, reads_of};
 ghost use Rattle.mp4_ledger.specs.Memory.{given_back};
-ghost use Rattle.mp4_reading.specs.Ends.{sent};
-ghost use Rattle.mp4_reading.specs.Fed.{lent};
+ghost use Rattle.mp4_machine.specs.Ends.{sent};
+ghost use Rattle.mp4_machine.specs.Fed.{lent};
 ghost use Rattle.mp4_recut.specs.declared.plan.Plan.TheVariants.{Split};
 ghost use Rattle.mp4_stream.specs.Feeders.{Feeds, Finishes, Stands, held_by, totals_of};
 ghost use Rattle.mp4_stream.specs.Feeders as feeders;
-ghost use Rattle.mp4_reading.specs.declared.stop.Stop.{Stop};
+ghost use Rattle.mp4_machine.specs.declared.stop.Stop.{Stop};
 
 use crate::run::Totals;
 use mp4_cut::Cut;
 use mp4_ends::Sink;
-use mp4_feed::FragmentMachine;
+use mp4_fragment_machine::FragmentMachine;
 use mp4_ledger::Ledger;
-use mp4_reading::{Block, Machine, Stop, feed};
+use mp4_machine::{Block, Machine, Stop, feed};
 use mp4_recut::Plan;
 use std::marker::Model;
 

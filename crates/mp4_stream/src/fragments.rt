@@ -1,9 +1,9 @@
 //! Runs over a whole stream that read its fragments.
 
 ghost use Rattle.std.specs.Prelude.{◌≡◌, ◌+◌, ◌*◌, ◌<◌, ◌≤◌, [], length, IsErrOf};
-ghost use Rattle.mp4_items.specs.Kinds.{most_moof, most_moov};
-ghost use Rattle.mp4_items.specs.declared.command.Command.TheVariants.{Check, Samples};
-ghost use Rattle.mp4_reading.specs.Ends.{between, received, sent};
+ghost use Rattle.mp4_grammar.specs.Kinds.{most_moof, most_moov};
+ghost use Rattle.mp4_grammar.specs.declared.command.Command.TheVariants.{Check, Samples};
+ghost use Rattle.mp4_machine.specs.Ends.{between, received, sent};
 ghost use Rattle.mp4_recut.specs.declared.plan.Plan.TheVariants as plans;
 ghost use Rattle.mp4_stream.specs.Fragments.{ReadsFragments, unsent};
 
@@ -13,10 +13,10 @@ use crate::run::Totals;
 use crate::silent::Silent;
 use mp4_cut::Cut;
 use mp4_ends::{Sink, Source};
-use mp4_feed::FragmentMachine;
-use mp4_items::Command;
+use mp4_fragment_machine::FragmentMachine;
+use mp4_grammar::Command;
 use mp4_ledger::Ledger;
-use mp4_reading::{Stop, read_stream};
+use mp4_machine::{Stop, read_stream};
 use mp4_recut::Plan;
 
 /// Lists the samples of a fragmented stream, however its reads cut it: a line for each, fragment by fragment, the runs of a

@@ -7,18 +7,18 @@ ghost use Rattle.mp4_box.specs.declared.headers.Step.TheVariants as steps;
 ghost use Rattle.mp4_box.specs.Headers.{header_at};
 ghost use Rattle.mp4_box.specs.Trees.{box_at, view};
 ghost use Rattle.mp4_ledger.specs.Memory.{Account, claimed, given_back};
-ghost use Rattle.mp4_reading.specs.Bodies.{longest};
-ghost use Rattle.mp4_reading.specs.Ends.{sent};
-ghost use Rattle.mp4_reading.specs.Pieces.{Takes};
+ghost use Rattle.mp4_machine.specs.Bodies.{longest};
+ghost use Rattle.mp4_machine.specs.Ends.{sent};
+ghost use Rattle.mp4_machine.specs.Pieces.{Takes};
 ghost use Rattle.mp4_stream.specs.Holding.{most_held};
-ghost use Rattle.mp4_reading.specs.Holding.{Begins};
+ghost use Rattle.mp4_machine.specs.Holding.{Begins};
 ghost use Rattle.mp4_stream.specs.Places.{InHeader, InHeld, around, standing};
 
 use crate::listing::{put_box, put_tree};
 use mp4_box::{BoxRef, FourCc, Header, whole_box};
 use mp4_ends::{Failed, Sink};
 use mp4_ledger::Ledger;
-use mp4_reading::{Block, Held, Stop};
+use mp4_machine::{Block, Held, Stop};
 
 /// The most bytes that a box of this type may have to be held; none for a type that isn't.
 #[inline(always)]

@@ -3,10 +3,10 @@
 ghost use Rattle.std.specs.Prelude.{◌≡◌, ◌+◌, ◌-◌, ◌<◌, ◌≤◌, ◌∷◌, [], length, take, None, Some, IfOk, OnErr, OnOk};
 ghost use Rattle.mp4_box.specs.Headers.{HasRoom, header_at, need};
 ghost use Rattle.mp4_box.specs.declared.headers.Step.TheVariants as steps;
-ghost use Rattle.mp4_reading.specs.Bodies.{least_end, longest};
-ghost use Rattle.mp4_reading.specs.Ends.{sent};
-ghost use Rattle.mp4_reading.specs.Holding.{Begins};
-ghost use Rattle.mp4_reading.specs.Pieces.{Takes};
+ghost use Rattle.mp4_machine.specs.Bodies.{least_end, longest};
+ghost use Rattle.mp4_machine.specs.Ends.{sent};
+ghost use Rattle.mp4_machine.specs.Holding.{Begins};
+ghost use Rattle.mp4_machine.specs.Pieces.{Takes};
 ghost use Rattle.mp4_stream.specs.Holding.{most_held};
 ghost use Rattle.mp4_stream.specs.Places.{InHeader, InHeld, IsMachine, IsPhase, IsPlace, around, claim_of, place_by, place_of, standing};
 ghost use Rattle.mp4_stream.specs.declared.phase.Phase.TheVariants as phases;
@@ -17,7 +17,7 @@ use crate::phase::{Phase, pass, pass_open, phase_behind};
 use mp4_box::{Header, HeaderReader, Rule, Size, Step, header_of};
 use mp4_ends::{Failed, Sink};
 use mp4_ledger::Ledger;
-use mp4_reading::{Block, Held, Stop, is_too_long, refused};
+use mp4_machine::{Block, Held, Stop, is_too_long, at_fault};
 use std::mem::replace;
 
 /// How far a machine came between headers and boxes that are held.
@@ -138,7 +138,7 @@ fn take_byte<W: Sink>(
         Step::BadSize => {
             let kind = head.kind();
             *head = HeaderReader::new();
-            Err(refused(Rule::BadSize, kind, at))
+            Err(at_fault(Rule::BadSize, kind, at))
         }
         Step::Whole(header) => {
             let begun = begin(at, &header, head.bytes(), progress, ledger, out, w);
@@ -177,7 +177,7 @@ fn begin<W: Sink>(
     ensures kept { OnErr result (progress.new ≡ progress.old) }
 {
     if is_too_long(at, header) {
-        return Err(refused(Rule::StreamTooLong, Some(header.kind), at));
+        return Err(at_fault(Rule::StreamTooLong, Some(header.kind), at));
     }
     match held_limit(header.kind) {
         Some(limit) => begin_held(at, header, limit, piece, progress, ledger, out, w),
@@ -220,10 +220,10 @@ fn begin_held<W: Sink>(
     ensures kept { OnErr result (progress.new ≡ progress.old) }
 {
     let Size::Exact(size) = header.size else {
-        return Err(refused(Rule::TooLarge, Some(header.kind), at));
+        return Err(at_fault(Rule::TooLarge, Some(header.kind), at));
     };
     if size > limit {
-        return Err(refused(Rule::TooLarge, Some(header.kind), at));
+        return Err(at_fault(Rule::TooLarge, Some(header.kind), at));
     }
     let next = Phase::Header { at: at + size };
     if size <= piece.len() as u64 {

@@ -2,15 +2,15 @@
 
 ghost use Rattle.std.specs.Prelude.{◌≡◌, ◌↔◌, ◌+◌, ◌≤◌, ◌++◌, ◌∷◌, [], List, ℕ, length, map, take};
 ghost use Rattle.mp4_box.specs.Headers.{IsBytes};
-ghost use Rattle.mp4_items.specs.WithoutText.{ask_without_text};
-ghost use Rattle.mp4_items.specs.declared.command.Command.TheVariants.{Check, Samples};
-ghost use Rattle.mp4_reading.specs.Bodies.{longest};
-ghost use Rattle.mp4_reading.specs.Readings.{Ask, GrowsTo, Reading, after, most_of};
+ghost use Rattle.mp4_grammar.specs.WithoutText.{request_without_text};
+ghost use Rattle.mp4_grammar.specs.declared.command.Command.TheVariants.{Check, Samples};
+ghost use Rattle.mp4_machine.specs.Bodies.{longest};
+ghost use Rattle.mp4_machine.specs.Readings.{Request, GrowsTo, Reading, after, most_of};
 ghost use Rattle.mp4_recut.specs.Plans.{reads_of};
 ghost use Rattle.mp4_recut.specs.declared.plan.Plan.TheVariants as plans;
 ghost use Rattle.mp4_stream.specs.Boxes.{listing, reading};
 ghost use Rattle.mp4_stream.specs.HeldBoxes.{HoldsAtMost};
-ghost use Rattle.mp4_stream.specs.Joined.{AreSound, Item, joined, told_from};
+ghost use Rattle.mp4_stream.specs.Joined.{AreSound, Item, joined, boxes_effects};
 ghost use Rattle.mp4_stream.specs.Rests.{IsRest, Split};
 
 /// Each stream is whole boxes that break no rule, one after the other, and then one of the rests that `IsRest` names:
@@ -18,7 +18,7 @@ ghost use Rattle.mp4_stream.specs.Rests.{IsRest, Split};
 /// these boxes' lines, and then as the rest says.
 pub fn every_stream()
     ensures { (b : List ℕ) → IsBytes b → (s : Split 0 b) ×
-        (reading 0 b ≡ after (told_from 0 s.boxes) s.reading) }
+        (reading 0 b ≡ after (boxes_effects 0 s.boxes) s.reading) }
 {}
 
 /// Whole boxes that break no rule are told one after the other, a moov or moof by its tree and each other
@@ -26,7 +26,7 @@ pub fn every_stream()
 pub fn whole_boxes()
     ensures { (bs : List Item) (at : ℕ) (later : List ℕ) →
         AreSound at bs → at + length (joined bs) ≤ longest →
-        reading at (joined bs ++ later) ≡ after (told_from at bs)
+        reading at (joined bs ++ later) ≡ after (boxes_effects at bs)
         (reading (at + length (joined bs)) later) }
 {}
 
@@ -43,16 +43,16 @@ pub fn more_bytes()
 
 /// Where a box asks for memory, the lines before are exactly those of the bytes before it.
 pub fn lines_before()
-    ensures { (b : List ℕ) (before : List Ask) (a : Ask) (behind : List Ask) →
-        (reading 0 b).told.asks ≡ before ++ a ∷ behind →
-        take a.behind (listing b) ≡ listing (take a.at b) }
+    ensures { (b : List ℕ) (before : List Request) (a : Request) (later : List Request) →
+        (reading 0 b).effects.requests ≡ before ++ a ∷ later →
+        take a.text_before (listing b) ≡ listing (take a.at b) }
 {}
 
 /// The most that a stream asks for is the size of its largest moov or moof that is held. Before such a box stand whole boxes that
 /// break no rule; its header is good, and states no more than it may have.
-pub fn asks_are_held_boxes()
+pub fn requests_are_held_boxes()
     ensures { (b : List ℕ) (most : ℕ) → IsBytes b →
-        (most_of (reading 0 b).told ≤ most) ↔ HoldsAtMost 0 b most }
+        (most_of (reading 0 b).effects ≤ most) ↔ HoldsAtMost 0 b most }
 {}
 
 /// `check` answers as `samples` does, whatever the stream: it finds the same fault or none, and counts and claims the same. It
@@ -61,10 +61,10 @@ pub fn check_is_samples_without_text()
     ensures outcome { (b : List ℕ) →
         (reads_of (plans.List Check) b).outcome ≡ (reads_of (plans.List Samples) b).outcome }
     ensures tally { (b : List ℕ) →
-        (reads_of (plans.List Check) b).told.tally ≡ (reads_of (plans.List Samples) b).told.tally }
-    ensures asks { (b : List ℕ) → (reads_of (plans.List Check) b).told.asks ≡
-        map ask_without_text (reads_of (plans.List Samples) b).told.asks }
-    ensures most { (b : List ℕ) → most_of (reads_of (plans.List Check) b).told ≡
-        most_of (reads_of (plans.List Samples) b).told }
-    ensures text { (b : List ℕ) → (reads_of (plans.List Check) b).told.text ≡ [] }
+        (reads_of (plans.List Check) b).effects.tally ≡ (reads_of (plans.List Samples) b).effects.tally }
+    ensures requests { (b : List ℕ) → (reads_of (plans.List Check) b).effects.requests ≡
+        map request_without_text (reads_of (plans.List Samples) b).effects.requests }
+    ensures most { (b : List ℕ) → most_of (reads_of (plans.List Check) b).effects ≡
+        most_of (reads_of (plans.List Samples) b).effects }
+    ensures text { (b : List ℕ) → (reads_of (plans.List Check) b).effects.text ≡ [] }
 {}

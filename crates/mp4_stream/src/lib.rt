@@ -2,7 +2,7 @@
 //! that is pushed in piece by piece.
 //!
 //! - [`run`]: [`boxes`], which lists the boxes of a stream, and [`Totals`];
-//! - [`fragments`]: [`samples`], [`check`] and [`split`], which read its fragments by the machine of `mp4_feed`;
+//! - [`fragments`]: [`samples`], [`check`] and [`split`], which read its fragments by the machine of `mp4_fragment_machine`;
 //! - [`feeder`]: [`Feeder`], which cuts the fragments of a stream as it is pushed in, and [`pushed`]: the loops over it, whose
 //!   pieces are the reads of a whole stream ([`split`] calls it) or those of a list ([`split_pieces`]);
 //! - [`machine`]: what is fed the stream piece by piece, [`intake`]: how it takes headers and boxes that are held, and
@@ -16,7 +16,7 @@
 //! held, and what a run claims by them), `specs/Places.antt` (where the machine is in a stream, and what that means),
 //! `specs/Fragments.antt` (what a run brings that reads fragments), `specs/Feeders.antt` (what a Feeder is behind the bytes
 //! that it was fed, and what a call of it brings) with `specs/Pushes.antt` (what pieces bring, one after the other). What a
-//! run answers, writes and claims is said by `mp4_reading`, in `specs/Runs.antt`.
+//! run answers, writes and claims is said by `mp4_machine`, in `specs/Runs.antt`.
 #![tactic(auto)]
 
 pub mod feeder;
@@ -37,6 +37,6 @@ pub use mp4_box::{Fault, FourCc, Rule, vectors};
 pub use mp4_cut::Cut;
 pub use mp4_ends::{Failed, FromRead, IntoWrite, Sink, Source, ends, write_all};
 pub use mp4_ledger::Ledger;
-pub use mp4_reading::Stop;
+pub use mp4_machine::Stop;
 pub use pushed::split_pieces;
 pub use run::{Totals, boxes};

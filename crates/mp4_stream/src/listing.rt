@@ -2,13 +2,13 @@
 
 ghost use Rattle.std.specs.Prelude.{◌≡◌, ◌+◌, ◌≤◌, ◌++◌, length, true, OnErr, OnOk};
 ghost use Rattle.mp4_box.specs.Trees.{view};
-ghost use Rattle.mp4_reading.specs.Blocks.{Breaks, Passes};
+ghost use Rattle.mp4_machine.specs.Blocks.{Breaks, Passes};
 ghost use Rattle.mp4_stream.specs.Listing.{box_line, has_lines_below, indent, line_below, lines_below, size_text, tree_lines, user_text};
 
 use mp4_box::{BoxRef, Header, Size, Walk, holds_boxes};
 use mp4_ends::{Failed, Sink};
 use mp4_lines::{DECIMAL_DIGITS, Text};
-use mp4_reading::{BLOCK_BYTES, Block, LINE_BYTES, Line};
+use mp4_machine::{BLOCK_BYTES, Block, LINE_BYTES, Line};
 use std::marker::Model;
 
 /// Spaces for the lowest level.

@@ -3,8 +3,8 @@
 ghost use Rattle.std.specs.Prelude.{◌≡◌, ◌+◌, ◌-◌, ◌<◌, ◌≤◌, ◌↔◌, [], length, take, None, Some, IfOk, IfErr, OnOk, OnErr, IsErrOf, IsTrue};
 ghost use Rattle.mp4_box.specs.declared.rules.Rule.TheVariants.{Truncated};
 ghost use Rattle.mp4_ledger.specs.Memory.{given_back};
-ghost use Rattle.mp4_reading.specs.Bodies.{fault};
-ghost use Rattle.mp4_reading.specs.Readings.{fault_in, uncounted};
+ghost use Rattle.mp4_machine.specs.Bodies.{fault};
+ghost use Rattle.mp4_machine.specs.Readings.{fault_in, uncounted};
 ghost use Rattle.mp4_stream.specs.Places.{InHeader, IsPhase, claim_of, place_by, standing};
 
 use crate::intake::{Progress, take_held, take_unheld};
@@ -12,7 +12,7 @@ use crate::phase::Phase;
 use mp4_box::{Fault, FourCc, HeaderReader, Rule};
 use mp4_ends::Sink;
 use mp4_ledger::Ledger;
-use mp4_reading::{Block, Machine, Stop};
+use mp4_machine::{Block, Machine, Stop};
 use std::marker::Model;
 
 /// A machine that lists boxes. While it holds a box its phase is the one behind that box. What it has claimed must be

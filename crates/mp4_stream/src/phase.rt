@@ -3,13 +3,13 @@
 ghost use Rattle.std.specs.Prelude.{◌≡◌, ℕ, ◌+◌, ◌-◌, ◌<◌, ◌≤◌, [], ◌++◌, List, length, take, Some, IfOk, IfErr, IsTrue, OnErr, ◌↔◌};
 ghost use Rattle.mp4_box.specs.Headers.{HasRoom};
 ghost use Rattle.mp4_box.specs.declared.rules.Rule.TheVariants.{StreamTooLong};
-ghost use Rattle.mp4_reading.specs.Bodies.{fault, least_end, longest, refused, told_body, told_open};
-ghost use Rattle.mp4_reading.specs.Readings.{then_read};
+ghost use Rattle.mp4_machine.specs.Bodies.{fault, least_end, longest, at_fault, body_item, open_body_item};
+ghost use Rattle.mp4_machine.specs.Readings.{then_read};
 ghost use Rattle.mp4_stream.specs.Boxes.{body, passed, reading};
 ghost use Rattle.mp4_stream.specs.Places.{InBody, InOpenBody, IsPhase, IsPlace, place_by, reached_of, reads_at};
 
 use mp4_box::{FourCc, Header, Rule, Size};
-use mp4_reading::{LONGEST, Stop, refused};
+use mp4_machine::{LONGEST, Stop, at_fault};
 
 /// What a machine takes next. `at` is the offset of the box that it is in.
 #[derive(Clone, Copy)]
@@ -57,7 +57,7 @@ fn sized_phase(at: u64, kind: FourCc, size: u64, header_len: u64) -> Phase
     requires room { header_len ≤ size }
     requires end { at + size ≤ longest }
     ensures reads { (later : List ℕ) → then_read reading
-        (told_body passed at kind (at + size) (size - header_len) later) ≡
+        (body_item passed at kind (at + size) (size - header_len) later) ≡
         reads_at (place_by [] result) later }
     ensures phase { IsPhase [] result }
     ensures reached { reached_of (place_by [] result) ≡ at + header_len }
@@ -118,10 +118,10 @@ pub(crate) fn pass_open(at: u64, kind: FourCc, left: u64, piece: &[u8]) -> Resul
         piece.now) }
     ensures stops { IfErr result (λ e. e ≡ Stop.Stream (fault StreamTooLong (Some kind) at)) }
     ensures err { OnErr result ((later : List ℕ) → reads_at (InOpenBody at kind left)
-        (piece.now ++ later) ≡ refused StreamTooLong (Some kind) at) }
+        (piece.now ++ later) ≡ at_fault StreamTooLong (Some kind) at) }
 {
     if piece.len() as u64 > left {
-        return Err(refused(Rule::StreamTooLong, Some(kind), at));
+        return Err(at_fault(Rule::StreamTooLong, Some(kind), at));
     }
     Ok(Phase::OpenBody {
         at,

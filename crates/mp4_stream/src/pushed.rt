@@ -2,8 +2,8 @@
 
 ghost use Rattle.std.specs.List.{flat_map};
 ghost use Rattle.std.specs.Prelude.{◌≡◌, ◌+◌, ◌<◌, [], length};
-ghost use Rattle.mp4_reading.specs.Ends.{between, received, sent};
-ghost use Rattle.mp4_reading.specs.Runs.{Runs};
+ghost use Rattle.mp4_machine.specs.Ends.{between, received, sent};
+ghost use Rattle.mp4_machine.specs.StreamRuns.{ReadsStream};
 ghost use Rattle.mp4_stream.specs.Feeders.{Stands, held_by, reading};
 ghost use Rattle.mp4_stream.specs.Pushes.{Pushes};
 
@@ -12,7 +12,7 @@ use crate::run::Totals;
 use mp4_cut::Cut;
 use mp4_ends::{Failed, Sink, Source};
 use mp4_ledger::Ledger;
-use mp4_reading::Stop;
+use mp4_machine::Stop;
 
 /// Reads a stream to its end, however its reads cut it, and pushes each read into a Feeder to which no byte has come. `copy` bytes
 /// are claimed to read into. What the Feeder has claimed at the end is still to be given back.
@@ -31,7 +31,7 @@ pub(crate) fn push_stream<R: Source, W: Sink>(
     requires idle { ledger.old.live ≡ 0 }
     requires stands { Stands feeder.old [] }
     requires none { held_by feeder.old ≡ 0 }
-    ensures runs { (run : Runs (reading feeder.old.cut) (between
+    ensures runs { (run : ReadsStream (reading feeder.old.cut) (between
         (received R.remaining R.has_ended R.has_failed r.old r.new)
         (sent W.contents W.has_failed w.old w.new))
         (record { copy = copy; limit = ledger.old.limit; peak = ledger.new.peak })
@@ -68,7 +68,7 @@ fn push_reads<R: Source, W: Sink>(
     requires claimed { length copy.old ≡ ledger.old.live }
     requires stands { Stands feeder.old [] }
     requires idle { held_by feeder.old ≡ 0 }
-    ensures runs { (run : Runs (reading feeder.old.cut) (between
+    ensures runs { (run : ReadsStream (reading feeder.old.cut) (between
         (received R.remaining R.has_ended R.has_failed r.old r.new)
         (sent W.contents W.has_failed w.old w.new))
         (record { copy = ledger.old.live; limit = ledger.old.limit; peak = ledger.new.peak })

@@ -1,14 +1,14 @@
 //! A run over a whole stream.
 
 ghost use Rattle.std.specs.Prelude.{◌≡◌, ◌+◌, ◌<◌, ◌≤◌, [], length, IsErrOf};
-ghost use Rattle.mp4_items.specs.Kinds.{most_moof};
-ghost use Rattle.mp4_reading.specs.Ends.{between, received, sent};
+ghost use Rattle.mp4_grammar.specs.Kinds.{most_moof};
+ghost use Rattle.mp4_machine.specs.Ends.{between, received, sent};
 ghost use Rattle.mp4_stream.specs.HeldBoxes.{ReadsBoxes};
 
 use crate::machine::BoxMachine;
 use mp4_ends::{Sink, Source};
 use mp4_ledger::Ledger;
-use mp4_reading::{Stop, read_stream};
+use mp4_machine::{Stop, read_stream};
 
 /// What a run counts. A listing of boxes counts no samples: all but its peak are 0.
 #[derive(Clone, Copy, Debug, PartialEq, Eq)]

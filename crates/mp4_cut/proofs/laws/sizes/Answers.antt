@@ -1,6 +1,6 @@
 use Rattle.std.proofs.Common.{◌∙◌, ap}
 use Rattle.mp4_pieces.specs.Sizes.{moof_size}
-use Rattle.mp4_cut.specs.Moof.{fragment_of}
+use Rattle.mp4_cut.specs.Moof.{written_fragment}
 use Rattle.mp4_cut.proofs.IndexLemmas.{length_index}
 use Rattle.mp4_cut.proofs.MoofLemmas.{length_moof}
 use Rattle.mp4_cut.proofs.PieceLemmas.{count_is}
@@ -8,7 +8,7 @@ use Rattle.mp4_cut.proofs.ReadLemmas.{length_mdat}
 use Rattle.mp4_cut.proofs.laws.sizes.Goals as goal
 
 pub returns-clause-moof : goal.returns-clause-moof
-returns-clause-moof c piece run held seq is = length_moof (fragment_of held run piece) seq ∙ ap moof_size (count_is held run piece is)
+returns-clause-moof c piece run held seq is = length_moof (written_fragment held run piece) seq ∙ ap moof_size (count_is held run piece is)
 
 pub returns-clause-mdat : goal.returns-clause-mdat
 returns-clause-mdat c bytes = length_mdat bytes

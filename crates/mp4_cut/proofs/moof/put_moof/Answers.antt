@@ -7,7 +7,7 @@ use Rattle.mp4_pieces.specs.Pieces.{rows_in}
 use Rattle.mp4_cut.specs.Moof.{written_moof}
 use Rattle.mp4_cut.specs.Trun.{sample_bytes}
 use Rattle.mp4_cut.proofs.PieceLemmas.{front_is, moof_is_put, start_is}
-use Rattle.mp4_reading.proofs.BlockLemmas.{Breaks-front}
+use Rattle.mp4_machine.proofs.BlockLemmas.{Breaks-front}
 use Rattle.mp4_cut.proofs.PutLemmas.{both_put, second_prefix}
 use Rattle.mp4_cut.proofs.moof.put_moof.Goals as goal
 

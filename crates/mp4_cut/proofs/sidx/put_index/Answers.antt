@@ -4,9 +4,9 @@ use Rattle.std.specs.List.{flat_map}
 use Rattle.mp4_frag.specs.declared.rows.Cursor.{Cursor}
 use Rattle.mp4_frag.specs.Rows.{IsCursor}
 use Rattle.mp4_cut.specs.Sidx.{reference_bytes, written_index}
-use Rattle.mp4_cut.specs.Starts.{group_from}
+use Rattle.mp4_cut.specs.Working.Starts.{group_from}
 use Rattle.mp4_cut.proofs.IndexLemmas.{index_is, index_is_put, room_is}
-use Rattle.mp4_reading.proofs.BlockLemmas.{Breaks-front}
+use Rattle.mp4_machine.proofs.BlockLemmas.{Breaks-front}
 use Rattle.mp4_cut.proofs.PutLemmas.{both_put, second_prefix}
 use Rattle.mp4_cut.proofs.sidx.put_index.Goals as goal
 

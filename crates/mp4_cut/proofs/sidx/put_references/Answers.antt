@@ -1,7 +1,7 @@
 use Rattle.std.proofs.Common.{◌++◌, ◌-◌, ◌∙◌, arith}
 use Rattle.std.specs.Prelude.{take}
 use Rattle.std.specs.List.{flat_map}
-use Rattle.mp4_reading.proofs.BlockLemmas.{Breaks-front, Breaks-passed, Passes-more}
+use Rattle.mp4_machine.proofs.BlockLemmas.{Breaks-front, Breaks-passed, Passes-more}
 use Rattle.mp4_cut.specs.Sidx.{reference_bytes}
 use Rattle.mp4_cut.proofs.IndexLemmas.{first_fits}
 use Rattle.mp4_cut.proofs.PutLemmas.{next_put}

@@ -1,7 +1,7 @@
 use Rattle.std.proofs.Common.{◌≡◌, ◌++◌, ℕ, List}
 use Rattle.std.specs.Prelude.{take}
 use Rattle.std.specs.List.{AllByRecursion, flat_map}
-use Rattle.mp4_reading.specs.Blocks.{Passes}
+use Rattle.mp4_machine.specs.Blocks.{Passes}
 use Rattle.mp4_pieces.specs.Fits.{FitsReference}
 use Rattle.mp4_cut.specs.Sidx.{reference_bytes}
 use Rattle.mp4_cut.proofs.sidx.put_references.Given as goal

@@ -1,5 +1,5 @@
 use Rattle.mp4_cut.specs.Sidx.{written_index}
-use Rattle.mp4_cut.specs.Starts.{group_from}
+use Rattle.mp4_cut.specs.Working.Starts.{group_from}
 use Rattle.mp4_cut.proofs.PutLemmas.{sent_prefix}
 use Rattle.mp4_cut.proofs.sidx.write_index.Goals as goal
 

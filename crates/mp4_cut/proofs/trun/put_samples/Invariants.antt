@@ -1,7 +1,7 @@
 use Rattle.std.proofs.Common.{◌≡◌, ◌++◌, ℕ, List}
 use Rattle.std.specs.Prelude.{take}
 use Rattle.std.specs.List.{flat_map}
-use Rattle.mp4_reading.specs.Blocks.{Passes}
+use Rattle.mp4_machine.specs.Blocks.{Passes}
 use Rattle.mp4_cut.specs.Trun.{sample_bytes}
 use Rattle.mp4_cut.proofs.trun.put_samples.Given as goal
 

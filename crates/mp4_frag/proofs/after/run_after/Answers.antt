@@ -2,13 +2,13 @@ use Rattle.std.proofs.Common.{Some, ◌∙◌, ℕ, List, arith, ap, sym}
 use Rattle.std.specs.List.{flat_map}
 use Rattle.mp4_box.specs.Trees.{first_of}
 use Rattle.mp4_frag.specs.declared.run.Run.{Run}
-use Rattle.mp4_frag.specs.Runs.{Held, TrackFragment, runs_of}
-use Rattle.mp4_frag.specs.After.{runs_behind, trafs_behind}
+use Rattle.mp4_frag.specs.Runs.{MoofBytes, TrackFragment, runs_of}
+use Rattle.mp4_frag.specs.Working.RunsBehind.{runs_behind, trafs_behind}
 use Rattle.mp4_frag.specs.Moofs.{moof_runs}
 use Rattle.mp4_frag.proofs.AfterLemmas.{after_run, first_of_both, first_of_last, stands_on}
 use Rattle.mp4_frag.proofs.after.run_after.Goals as goal
 
-abbrev held_of : List ℕ → ℕ → Held
+abbrev held_of : List ℕ → ℕ → MoofBytes
 held_of bytes offset = record { bytes = bytes; offset = offset }
 
 pub runs_behind-requires-clause-order : goal.runs_behind-requires-clause-order

@@ -4,7 +4,7 @@ use Rattle.mp4_box.specs.Order.{least_from}
 use Rattle.mp4_box.specs.Paths.{of_kind}
 use Rattle.mp4_box.specs.Trees.{view, box_len, children}
 use Rattle.mp4_frag.specs.declared.at_once.Sound.{Sound}
-use Rattle.mp4_frag.specs.AtOnce.{Adds, TrafHasTicks, faults_in_moof, in_trafs, is_complete, most_64}
+use Rattle.mp4_frag.specs.Working.AtOnce.{Adds, TrafHasTicks, faults_in_moof, in_trafs, is_complete, most_64}
 use Rattle.mp4_frag.specs.Kinds.{mfhd, traf}
 use Rattle.mp4_frag.proofs.AddLemmas.{AddsUp}
 use Rattle.mp4_frag.proofs.at_once.note_moof.Given as goal

@@ -3,7 +3,7 @@ use Rattle.mp4_run_order.proofs.ListLemmas.{all_of_pairs, pairs_of_all, pairs_of
 use Rattle.mp4_run_order.proofs.OrderLemmas.{TakenBefore, taken_permutes, taken_rises}
 use Rattle.mp4_frag.specs.Moofs.{moof_runs}
 use Rattle.mp4_frag.specs.RunLists.{moof_listing, taken_runs}
-use Rattle.mp4_frag.specs.RunRows.{listed_run}
+use Rattle.mp4_frag.specs.Places.{listed_run}
 use Rattle.mp4_frag.proofs.laws.lists_are_in_order.Goals as goal
 
 pub returns-clause-same : goal.returns-clause-same

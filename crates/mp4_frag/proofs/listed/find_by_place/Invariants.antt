@@ -1,7 +1,7 @@
 use Rattle.std.proofs.Common.{◌≡◌}
 use Rattle.std.specs.List.{fold}
-use Rattle.mp4_run_order.specs.Searches.{place_start, place_step}
-use Rattle.mp4_frag.specs.RunRows.{listed_words}
+use Rattle.mp4_run_order.specs.Working.Searches.{place_start, place_step}
+use Rattle.mp4_frag.specs.Working.RunRows.{listed_words}
 use Rattle.mp4_frag.proofs.listed.find_by_place.Given as goal
 
 -- what is made of the runs that are left is what is made of all

@@ -2,14 +2,14 @@ use Rattle.std.proofs.Common.{◌∙◌, ◌==◌, ap, pos, refl, sym}
 use Rattle.std.specs.List.{position}
 use Rattle.mp4_box.specs.Trees.{view}
 use Rattle.mp4_init.specs.declared.table.Track.{Track}
-use Rattle.mp4_frag.specs.Runs.{base_of, held_at, shared_by, track_of}
+use Rattle.mp4_frag.specs.Runs.{base_of, moof_at, shared_by, track_of}
 use Rattle.mp4_frag.proofs.LoneLemmas.{not_lone}
 use Rattle.mp4_frag.proofs.StartLemmas.{Starts}
 use Rattle.mp4_frag.proofs.lone.lone_of.Goals as goal
 
 pub returns-in_default-clause-none : goal.returns-in_default-clause-none
 returns-in_default-clause-none c =
-    let h = held_at c.args.held.now c.args.moof in
+    let h = moof_at c.args.held.now c.args.moof in
     let t = view c.args.traf.now in
     let track = track_of c.args.tracks.now t in
     let rest = c.heads_of-heads.result.rest in

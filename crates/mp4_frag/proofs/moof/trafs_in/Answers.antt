@@ -2,7 +2,7 @@ use Rattle.std.proofs.Common.{◌≡◌, ◌^◌, ◌≤◌, arith, subst}
 use Rattle.std.specs.List.{AllByRecursion}
 use Rattle.mp4_box.specs.Trees.{Box, children, view}
 use Rattle.mp4_frag.specs.Ranges.{IsSound}
-use Rattle.mp4_frag.specs.Runs.{Held, trafs_by}
+use Rattle.mp4_frag.specs.Runs.{MoofBytes, trafs_by}
 use Rattle.mp4_frag.specs.Moofs.{moof_of}
 use Rattle.mp4_frag.proofs.MoofLemmas.{moof_is}
 use Rattle.mp4_frag.proofs.SoundLemmas.{all_sound}
@@ -10,7 +10,7 @@ use Rattle.mp4_frag.proofs.moof.trafs_in.Goals as goal
 
 pub of-requires : goal.of-requires
 of-requires c =
-    let h : Held = record { bytes = c.args.held.now; offset = c.args.offset } in
+    let h : MoofBytes = record { bytes = c.args.held.now; offset = c.args.offset } in
     let m : Box = view c.whole_box.result in
     let is : moof_of h ≡ m = moof_is c.args.offset c.args.held.now m c.whole_box.ensures in
     let near : h.offset ≤ 2 ^ 62 = omega (arith, c.requires.room) in

@@ -5,7 +5,8 @@ use Rattle.mp4_box.specs.Trees.{view}
 use Rattle.mp4_frag.specs.declared.run.Run.{Run}
 use Rattle.mp4_frag.specs.Kinds.{trun}
 use Rattle.mp4_frag.specs.Ranges.{InRange}
-use Rattle.mp4_frag.specs.Runs.{runs_from, shared_of}
+use Rattle.mp4_frag.specs.Runs.{runs_from}
+use Rattle.mp4_frag.specs.Working.TrafContexts.{shared_of}
 use Rattle.mp4_frag.proofs.RunLemmas.{first_in_range, next_is, runs_none}
 use Rattle.mp4_frag.proofs.runs.next_run.Goals as goal
 

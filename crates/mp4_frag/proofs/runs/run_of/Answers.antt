@@ -1,6 +1,6 @@
 use Rattle.std.proofs.Common.{arith}
 use Rattle.mp4_box.specs.Trees.{view}
-use Rattle.mp4_frag.specs.Runs.{shared_of}
+use Rattle.mp4_frag.specs.Working.TrafContexts.{shared_of}
 use Rattle.mp4_frag.proofs.TimeLemmas.{run_is, ticks_of_run}
 use Rattle.mp4_frag.proofs.runs.run_of.Goals as goal
 

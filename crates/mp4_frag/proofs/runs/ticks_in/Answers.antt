@@ -3,7 +3,7 @@ use Rattle.std.specs.Option.{is_none}
 use Rattle.mp4_box.specs.Trees.{view}
 use Rattle.mp4_frag.specs.declared.trun.SampleFields.{SampleFields}
 use Rattle.mp4_frag.specs.Fields.{flags_in}
-use Rattle.mp4_frag.specs.Runs.{shared_of}
+use Rattle.mp4_frag.specs.Working.TrafContexts.{shared_of}
 use Rattle.mp4_frag.specs.Trun.{sample_fields}
 use Rattle.mp4_frag.proofs.TimeLemmas.{none_told, ticks_by_product}
 use Rattle.mp4_frag.proofs.runs.ticks_in.Goals as goal

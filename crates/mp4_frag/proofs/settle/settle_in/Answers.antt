@@ -1,6 +1,6 @@
 use Rattle.std.proofs.Common.{◌∙◌, List, [], ◌∷◌, ap, arith, refl, subst, sym}
 use Rattle.mp4_box.specs.Trees.{Box, view}
-use Rattle.mp4_frag.specs.Runs.{Held}
+use Rattle.mp4_frag.specs.Runs.{MoofBytes}
 use Rattle.mp4_box.specs.Paths.{at_path}
 use Rattle.mp4_frag.specs.Kinds.{traf}
 use Rattle.mp4_frag.specs.Moofs.{moof_of}
@@ -12,7 +12,7 @@ use Rattle.mp4_frag.proofs.settle.settle_in.Goals as goal
 
 pub loop-traf-init : goal.loop-traf-init
 loop-traf-init c =
-    let h : Held = record { bytes = c.args.held.now; offset = c.args.moof } in
+    let h : MoofBytes = record { bytes = c.args.held.now; offset = c.args.moof } in
     let m : Box = view c.whole_box-this.result in
     let all = settles h c.args.tracks.now m (omega (arith, c.requires.room)) c.requires.whole (λ i. (c.type_inv.held i).fits) c.whole_box-this.ensures (moof_is c.args.moof c.args.held.now m c.whole_box-this.ensures) c.requires.read in
     let here = subst (λ (ts : List Box). Settles h c.args.tracks.now ts) (sym (c.into_iter-traf-iterator.ensures.into_iter_gives ∙ c.children_of-traf-items.ensures)) all in

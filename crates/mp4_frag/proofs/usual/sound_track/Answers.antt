@@ -1,6 +1,6 @@
 use Rattle.std.proofs.Common.{◌≡◌, ◌∙◌, [], arith, sym}
 use Rattle.mp4_box.specs.Trees.{view}
-use Rattle.mp4_frag.specs.Usual.{usual_faults}
+use Rattle.mp4_frag.specs.Working.Usual.{usual_faults}
 use Rattle.mp4_frag.proofs.UsualLemmas.{none_noted, usual_early, usual_forms, usual_tree, usual_values}
 use Rattle.mp4_frag.proofs.usual.sound_track.Goals as goal
 

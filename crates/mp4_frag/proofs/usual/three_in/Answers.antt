@@ -6,7 +6,7 @@ use Rattle.mp4_frag.proofs.usual.three_in.Goals as goal
 
 pub plain_first-requires-2-clause-room : goal.plain_first-requires-2-clause-room
 plain_first-requires-2-clause-room c =
-    omega (arith, c.args.traf.now.room, ap length c.behind-rest.ensures, length-drop (box_len (view c.in-Some.tfhd)) c.args.traf.now.payload.now, c.in-Some.ensures.within, c.in-Some.ensures.head)
+    omega (arith, c.args.traf.now.room, ap length c.rest_after-rest.ensures, length-drop (box_len (view c.in-Some.tfhd)) c.args.traf.now.payload.now, c.in-Some.ensures.within, c.in-Some.ensures.head)
 
 pub plain_first-requires-3-clause-room : goal.plain_first-requires-3-clause-room
 plain_first-requires-3-clause-room c =
@@ -15,12 +15,12 @@ plain_first-requires-3-clause-room c =
     omega (
       arith,
       c.args.traf.now.room,
-      ap length c.behind-rest.ensures,
+      ap length c.rest_after-rest.ensures,
       length-drop (box_len (view a.tfhd)) c.args.traf.now.payload.now,
       a.ensures.within,
       a.ensures.head,
-      ap length c.behind-rest-2.ensures,
-      length-drop (box_len (view b.tfdt)) c.behind-rest.result.now,
+      ap length c.rest_after-rest-2.ensures,
+      length-drop (box_len (view b.tfdt)) c.rest_after-rest.result.now,
       b.ensures.within,
       b.ensures.head,
     )
@@ -30,5 +30,5 @@ returns-clause-holds c =
     let a = c.in-Some in
     let b = c.in-Some-plain_first in
     let d = c.in-Some-plain_first-2 in
-    three_are (view c.args.traf.now) (view a.tfhd) (view b.tfdt) (view d.trun) _ _ c.behind-rest.result.now c.behind-rest-2.result.now a.ensures.here a.ensures.within.0 a.ensures.within.1 c.behind-rest.ensures (omega (arith, a.ensures.head))
-    b.ensures.here b.ensures.within.0 b.ensures.within.1 c.behind-rest-2.ensures (omega (arith, b.ensures.head)) d.ensures.here d.ensures.within.0 (omega (arith, d.ensures.head, c.if-trun-rest.false))
+    three_are (view c.args.traf.now) (view a.tfhd) (view b.tfdt) (view d.trun) _ _ c.rest_after-rest.result.now c.rest_after-rest-2.result.now a.ensures.here a.ensures.within.0 a.ensures.within.1 c.rest_after-rest.ensures (omega (arith, a.ensures.head))
+    b.ensures.here b.ensures.within.0 b.ensures.within.1 c.rest_after-rest-2.ensures (omega (arith, b.ensures.head)) d.ensures.here d.ensures.within.0 (omega (arith, d.ensures.head, c.if-trun-rest.false))

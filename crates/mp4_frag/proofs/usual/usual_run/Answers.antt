@@ -1,6 +1,6 @@
 use Rattle.std.proofs.Common.{◌∙◌, ◌∷◌, []}
 use Rattle.mp4_box.specs.Trees.{view}
-use Rattle.mp4_frag.specs.Runs.{held_at}
+use Rattle.mp4_frag.specs.Runs.{moof_at}
 use Rattle.mp4_frag.proofs.LoneLemmas.{one_lone, one_sound}
 use Rattle.mp4_frag.proofs.MoofListLemmas.{is_moof}
 use Rattle.mp4_frag.proofs.StartLemmas.{headed}
@@ -20,7 +20,7 @@ run_with-requires-clause-time c = λ next.
 pub run_with-requires-clause-sound : goal.run_with-requires-clause-sound
 run_with-requires-clause-sound c =
     let u = c.in-Some.usual in
-    let h = held_at c.args.held.now c.args.offset in
+    let h = moof_at c.args.held.now c.args.offset in
     let m = view c.whole_box-moof.result in
     let moof = is_moof c.args.offset c.args.held.now m c.requires.whole (λ i. (c.type_inv.held i).fits) c.requires.room c.whole_box-moof.ensures in
     let trafs = of_trafs c.args.tracks.now m (view u.mfhd) (view u.traf) (view u.tfhd) (view u.tfdt) (view u.trun) c.in-Some.ensures in
@@ -31,7 +31,7 @@ run_with-requires-clause-sound c =
 pub returns : goal.returns
 returns c =
     let u = c.in-Some.usual in
-    let h = held_at c.args.held.now c.args.offset in
+    let h = moof_at c.args.held.now c.args.offset in
     let m = view c.whole_box-moof.result in
     let moof = is_moof c.args.offset c.args.held.now m c.requires.whole (λ i. (c.type_inv.held i).fits) c.requires.room c.whole_box-moof.ensures in
     let trafs = of_trafs c.args.tracks.now m (view u.mfhd) (view u.traf) (view u.tfhd) (view u.tfdt) (view u.trun) c.in-Some.ensures in

@@ -3,10 +3,10 @@ use Rattle.std.specs.Prelude.{map}
 use Rattle.mp4_box.specs.Trees.{view}
 use Rattle.mp4_box.specs.Paths.{of_kind}
 use Rattle.mp4_init.specs.Kinds.{trak}
-use Rattle.mp4_init.specs.Rows.{node_of_row, track_of_row}
+use Rattle.mp4_init.specs.Working.Rows.{node_of_row, track_of_row}
 use Rattle.mp4_init.specs.Tracks.{track_of, tracks_of}
-use Rattle.mp4_init.specs.SearchTrees.{IsIndexed}
-use Rattle.mp4_init.specs.Summaries.{summaries_in}
+use Rattle.mp4_init.specs.Working.SearchTrees.{IsIndexed}
+use Rattle.mp4_init.specs.Working.Summaries.{summaries_in}
 use Rattle.mp4_init.proofs.build.push_tracks.Given as goal
 
 -- the tracks so far, and those of the traks that are left

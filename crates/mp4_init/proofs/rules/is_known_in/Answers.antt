@@ -1,6 +1,6 @@
 use Rattle.std.proofs.Common.{arith, ◌∙◌, ap}
 use Rattle.mp4_box.specs.Trees.{view}
-use Rattle.mp4_init.specs.Summaries.{summary_in}
+use Rattle.mp4_init.specs.Working.Summaries.{summary_in}
 use Rattle.mp4_init.proofs.SummaryLemmas.{not_known, known_once}
 use Rattle.mp4_init.proofs.rules.is_known_in.Goals as goal
 

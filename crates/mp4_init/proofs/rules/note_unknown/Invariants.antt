@@ -3,7 +3,7 @@ use Rattle.std.specs.List.{flat_map}
 use Rattle.mp4_box.specs.Trees.{view}
 use Rattle.mp4_box.specs.Order.{least_from}
 use Rattle.mp4_init.specs.Rules.{known, track_faults}
-use Rattle.mp4_init.specs.Summaries.{summaries_in}
+use Rattle.mp4_init.specs.Working.Summaries.{summaries_in}
 use Rattle.mp4_init.proofs.rules.note_unknown.Given as goal
 
 -- what is left to note is what is at fault with the tkhds that are left

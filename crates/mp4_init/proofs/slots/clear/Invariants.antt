@@ -1,11 +1,11 @@
 use Rattle.std.proofs.Common.{◌≡◌, ◌≤◌, ◌-◌, length}
 use Rattle.std.specs.Prelude.{replicate}
-use Rattle.mp4_init.specs.Summaries.{nothing}
+use Rattle.mp4_init.specs.Working.Summaries.{empty_summary}
 use Rattle.mp4_init.proofs.slots.clear.Given as goal
 
 abbrev pub invariant-loop-summaries : goal.invariant-loop-summaries
 invariant-loop-summaries g l = record {
-  so_far : l.summaries.items ≡ replicate (length l.summaries.items) nothing;
+  so_far : l.summaries.items ≡ replicate (length l.summaries.items) empty_summary;
   room : length l.summaries.items ≤ l.count;
 }
 

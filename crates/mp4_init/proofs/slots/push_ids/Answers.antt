@@ -2,7 +2,7 @@ use Rattle.std.proofs.Common.{◌≡◌, ◌∙◌, ◌++◌, ◌∷◌, [], ℕ
 use Rattle.mp4_box.specs.Trees.{Box, view}
 use Rattle.mp4_box.specs.Paths.{at_path}
 use Rattle.mp4_init.specs.Kinds.{to_tkhd}
-use Rattle.mp4_init.specs.Summaries.{ids_from}
+use Rattle.mp4_init.specs.Working.Summaries.{ids_from}
 use Rattle.mp4_init.proofs.SummaryTableLemmas.{id_before, id_here, no_ids, room_for_all, room_for_one}
 use Rattle.mp4_init.proofs.slots.push_ids.Goals as goal
 

@@ -1,7 +1,7 @@
 use Rattle.std.proofs.Common.{◌≡◌, length}
 use Rattle.mp4_box.specs.Trees.{view}
 use Rattle.mp4_box.specs.Paths.{at_path}
-use Rattle.mp4_init.specs.Summaries.{all_told, gathered}
+use Rattle.mp4_init.specs.Working.Summaries.{all_told, gathered}
 use Rattle.mp4_init.proofs.slots.tell_along.Given as goal
 
 -- what is left to tell is the boxes that are left

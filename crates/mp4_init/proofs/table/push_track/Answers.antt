@@ -1,7 +1,7 @@
 use Rattle.std.proofs.Common.{◌∙◌, ap, refl, length, [], ◌∷◌, arith}
 use Rattle.std.proofs.lemmas.List.{length-append, length-map}
-use Rattle.mp4_init.specs.Rows.{node_of_row, track_of_row}
-use Rattle.mp4_init.specs.SearchTrees.{with_link}
+use Rattle.mp4_init.specs.Working.Rows.{node_of_row, track_of_row}
+use Rattle.mp4_init.specs.Working.SearchTrees.{with_link}
 use Rattle.mp4_init.proofs.RowLemmas.{tracks_more, tracks_linked, nodes_more, nodes_linked}
 use Rattle.mp4_init.proofs.table.push_track.Goals as goal
 

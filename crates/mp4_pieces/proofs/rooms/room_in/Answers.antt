@@ -6,7 +6,7 @@ use Rattle.mp4_box.specs.Order.{least_from}
 use Rattle.mp4_box.proofs.OrderLemmas.{least-is, least-none}
 use Rattle.mp4_init.specs.declared.table.Track.{Track}
 use Rattle.mp4_frag.specs.Moofs.{moof_runs, moof_trafs}
-use Rattle.mp4_frag.specs.Runs.{Held, TrackFragment, runs_of}
+use Rattle.mp4_frag.specs.Runs.{MoofBytes, TrackFragment, runs_of}
 use Rattle.mp4_pieces.specs.declared.cut.Cut.{Cut}
 use Rattle.mp4_pieces.specs.Pieces.{AreRunsOf, piece_count}
 use Rattle.mp4_pieces.specs.Rooms.{index_faults, numbers, room_fault, room_faults, sequence_faults}
@@ -29,7 +29,7 @@ note_trafs-count-requires-clause-few c =
     omega (arith, same, moof_count_few c.args.cut.now h c.args.tracks.now, samples_few h c.args.tracks.now c.requires.read)
 
 -- what was noted is the fault of the moof
-noted : (cut : Cut) (h : Held) (held : List ℕ) (tracks : List Track) (ts : List TrackFragment) (seq count offset : ℕ) (first best : Option Fault) → held ≡ h.bytes → ts ≡ moof_trafs h tracks → first ≡ least_from None (index_faults cut held (flat_map runs_of ts))
+noted : (cut : Cut) (h : MoofBytes) (held : List ℕ) (tracks : List Track) (ts : List TrackFragment) (seq count offset : ℕ) (first best : Option Fault) → held ≡ h.bytes → ts ≡ moof_trafs h tracks → first ≡ least_from None (index_faults cut held (flat_map runs_of ts))
     → count ≡ piece_count cut held (flat_map runs_of ts) → offset ≡ h.offset → best ≡ least_from first (sequence_faults offset (numbers seq count)) → best ≡ room_fault cut h (moof_runs h tracks) seq
 noted cut h held tracks ts seq count offset first best at are is n o told =
     fault_is cut h held (moof_runs h tracks) seq count offset first best at

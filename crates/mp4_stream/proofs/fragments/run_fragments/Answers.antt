@@ -1,16 +1,16 @@
 use Rattle.std.proofs.Common.{◌≡◌, None, ap, arith, refl, sym}
-use Rattle.mp4_reading.specs.Readings.{uncounted}
-use Rattle.mp4_reading.proofs.RunLemmas.{Runs-same}
+use Rattle.mp4_machine.specs.Readings.{uncounted}
+use Rattle.mp4_machine.proofs.RunLemmas.{Runs-same}
 use Rattle.mp4_recut.specs.declared.plan.Plan.TheVariants.{List}
-use Rattle.mp4_recut.specs.Plans.{making_of, number_in}
-use Rattle.mp4_items.specs.Contexts.{context}
-use Rattle.mp4_feed.proofs.HeadLemmas.{reads-none}
+use Rattle.mp4_recut.specs.Plans.{plan_meaning, number_in}
+use Rattle.mp4_grammar.specs.Contexts.{context}
+use Rattle.mp4_fragment_machine.proofs.HeadLemmas.{reads-none}
 use Rattle.mp4_stream.proofs.FragmentLemmas.{claims_by_boxes, first_number, never_over, peak_bound}
 use Rattle.mp4_stream.proofs.fragments.run_fragments.Goals as goal
 
 pub read_stream-answer-requires-clause-begun : goal.read_stream-answer-requires-clause-begun
 read_stream-answer-requires-clause-begun g c =
-    rw c.new-machine.ensures (record { reached = refl; claim = refl; none = reads-none (making_of (List c.args.command)) (context 0 None (number_in (List c.args.command) uncounted)); counted = refl })
+    rw c.new-machine.ensures (record { reached = refl; claim = refl; none = reads-none (plan_meaning (List c.args.command)) (context 0 None (number_in (List c.args.command) uncounted)); counted = refl })
 
 pub returns-clause-runs : goal.returns-clause-runs
 returns-clause-runs g c =
@@ -20,7 +20,7 @@ returns-clause-runs g c =
     let read = c.rows_read-rows_read.ensures in
     let runs = (Runs-same refl refl (sym peak) ran).0 in
     record {
-      told = c.tally-tally.result.fragments;
+      effects = c.tally-tally.result.fragments;
       walked = c.tally-tally.result.walked;
       runs = runs;
       fragments = refl;

@@ -1,5 +1,5 @@
 use Rattle.std.proofs.Common.{◌≡◌, ap, arith, refl, sym}
-use Rattle.mp4_reading.proofs.RunLemmas.{Runs-same}
+use Rattle.mp4_machine.proofs.RunLemmas.{Runs-same}
 use Rattle.mp4_recut.specs.declared.plan.Plan.TheVariants.{Split}
 use Rattle.mp4_stream.proofs.FragmentLemmas.{claims_by_boxes, never_over, peak_bound}
 use Rattle.mp4_stream.proofs.fragments.split.Goals as goal
@@ -12,7 +12,7 @@ returns-clause-runs g c =
     let same = Runs-same refl refl (sym peak) ran in
     let runs = same.0 in
     rw c.totals.ensures.totals (record {
-      told = c.push_stream-answer.new.feeder.machine.counter.tally.fragments;
+      effects = c.push_stream-answer.new.feeder.machine.counter.tally.fragments;
       walked = c.push_stream-answer.new.feeder.machine.counter.tally.walked;
       runs = runs;
       fragments = sym same.1;

@@ -1,5 +1,5 @@
 use Rattle.std.proofs.Common.{◌++◌, length, ap, refl, ◌∙◌}
-use Rattle.mp4_reading.proofs.PieceLemmas.{Takes-ok, Takes-err}
+use Rattle.mp4_machine.proofs.PieceLemmas.{Takes-ok, Takes-err}
 use Rattle.mp4_box.specs.Trees.{faults_of}
 use Rattle.mp4_stream.specs.Places.{outside}
 use Rattle.mp4_stream.proofs.EmptyLemmas.{empty_good, empty_lines}

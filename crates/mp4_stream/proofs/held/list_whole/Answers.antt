@@ -2,10 +2,10 @@ use Rattle.mp4_stream.proofs.EmptyLemmas.{no_payload}
 use Rattle.std.proofs.Common.{◌∙◌, Some, ◌<◌, ◌+◌, [], length, arith, ap, Err, refl, rules}
 use Rattle.mp4_ledger.specs.Memory.{claimed}
 use Rattle.mp4_box.proofs.HeaderLemmas.{whole_is, need-least}
-use Rattle.mp4_reading.proofs.AccountLemmas.{within_limit}
-use Rattle.mp4_reading.proofs.PieceLemmas.{Takes-err, Takes-behind}
+use Rattle.mp4_machine.proofs.AccountLemmas.{within_limit}
+use Rattle.mp4_machine.proofs.PieceLemmas.{Takes-err, Takes-behind}
 use Rattle.mp4_stream.specs.Places.{InHeader, InHeld, standing}
-use Rattle.mp4_reading.proofs.HoldingLemmas.{found}
+use Rattle.mp4_machine.proofs.HoldingLemmas.{found}
 use Rattle.mp4_stream.proofs.PlaceLemmas.{GoesOn-claim, StopsAt-refused}
 use Rattle.mp4_stream.proofs.held.list_whole.Goals as goal
 

@@ -1,13 +1,13 @@
 use Rattle.std.proofs.Common.{[], rules, refl, sym, ◌∙◌, arith}
 use Rattle.mp4_box.proofs.HeaderLemmas.{whole_is}
-use Rattle.mp4_reading.proofs.PieceLemmas.{Takes-ok, Takes-err}
+use Rattle.mp4_machine.proofs.PieceLemmas.{Takes-ok, Takes-err}
 use Rattle.mp4_stream.specs.Places.{place_by, outside}
 use Rattle.mp4_stream.proofs.PlaceLemmas.{Refuses-far, GoesOn-line, Loses-line, claim-none}
 use Rattle.mp4_stream.proofs.intake.begin.Goals as goal
 
 pub returns-then-is_too_long-clause-takes : goal.returns-then-is_too_long-clause-takes
 returns-then-is_too_long-clause-takes g c =
-    rw c.refused.ensures (Takes-err (λ more. Refuses-far _ c.args.at c.args.header.now c.args.piece.now c.requires.is more (c.is_too_long.ensures.0 c.if-is_too_long.true)) (λ e. absurd cc) (λ _. refl))
+    rw c.at_fault.ensures (Takes-err (λ more. Refuses-far _ c.args.at c.args.header.now c.args.piece.now c.requires.is more (c.is_too_long.ensures.0 c.if-is_too_long.true)) (λ e. absurd cc) (λ _. refl))
 
 pub returns-in-Ok-clause-takes : goal.returns-in-Ok-clause-takes
 returns-in-Ok-clause-takes g c =

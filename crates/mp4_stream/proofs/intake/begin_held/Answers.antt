@@ -2,24 +2,24 @@ use Rattle.std.proofs.Common.{◌≤◌, ◌+◌, ◌++◌, [], arith, ap, Err, 
 use Rattle.std.proofs.Math.Seq.{take-length}
 use Rattle.mp4_box.specs.Headers.{HasRoom}
 use Rattle.mp4_box.proofs.HeaderLemmas.{whole_is}
-use Rattle.mp4_reading.specs.Bodies.{least_end, longest}
-use Rattle.mp4_reading.specs.Pieces.{StopsAt}
-use Rattle.mp4_reading.proofs.AccountLemmas.{within_limit}
-use Rattle.mp4_reading.proofs.PieceLemmas.{Takes-ok, Takes-err}
+use Rattle.mp4_machine.specs.Bodies.{least_end, longest}
+use Rattle.mp4_machine.specs.Pieces.{StopsAt}
+use Rattle.mp4_machine.proofs.AccountLemmas.{within_limit}
+use Rattle.mp4_machine.proofs.PieceLemmas.{Takes-ok, Takes-err}
 use Rattle.mp4_stream.specs.Places.{InHeader, outside, standing}
 use Rattle.mp4_stream.proofs.PlaceLemmas.{Refuses-open, Refuses-large, GoesOn-claim, StopsAt-refused}
-use Rattle.mp4_reading.proofs.HeadLemmas.{apart, take-is}
+use Rattle.mp4_machine.proofs.HeadLemmas.{apart, take-is}
 use Rattle.mp4_stream.proofs.intake.begin_held.Goals as goal
 
 pub returns-in_default-clause-takes : goal.returns-in_default-clause-takes
 returns-in_default-clause-takes g c =
     let end = subst (λ s. least_end c.args.at c.args.header.now s ≤ longest) c.in_default.is c.requires.end in
-    rw c.refused.ensures (Takes-err (λ more. Refuses-open _ c.args.at c.args.header.now c.args.piece.now c.requires.is more c.args.limit end c.requires.held c.in_default.is) (λ e. absurd cc) (λ _. refl))
+    rw c.at_fault.ensures (Takes-err (λ more. Refuses-open _ c.args.at c.args.header.now c.args.piece.now c.requires.is more c.args.limit end c.requires.held c.in_default.is) (λ e. absurd cc) (λ _. refl))
 
 pub returns-then-size-limit-clause-takes : goal.returns-then-size-limit-clause-takes
 returns-then-size-limit-clause-takes g c =
     let end = subst (λ s. least_end c.args.at c.args.header.now s ≤ longest) c.in-Exact.is c.requires.end in
-    rw c.refused-then-size-limit.ensures
+    rw c.at_fault-then-size-limit.ensures
     (Takes-err (λ more. Refuses-large _ c.args.at c.args.header.now c.args.piece.now c.requires.is more c.args.limit c.in-Exact.size end c.requires.held c.in-Exact.is c.if-size-limit.true) (λ e. absurd cc) (λ _. refl))
 
 pub list_whole-requires-clause-is : goal.list_whole-requires-clause-is

@@ -1,5 +1,5 @@
 use Rattle.std.proofs.Common.{refl}
-use Rattle.mp4_reading.proofs.PieceLemmas.{GoesOn-none, Takes-ok}
+use Rattle.mp4_machine.proofs.PieceLemmas.{GoesOn-none, Takes-ok}
 use Rattle.mp4_stream.specs.Places.{InHeld, standing}
 use Rattle.mp4_stream.proofs.intake.settle.Goals as goal
 

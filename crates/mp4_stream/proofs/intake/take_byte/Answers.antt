@@ -4,8 +4,8 @@ use Rattle.mp4_box.specs.declared.headers.Header.{Header}
 use Rattle.mp4_box.specs.declared.headers.Step.TheVariants as steps
 use Rattle.mp4_box.specs.Headers.{header_at, need}
 use Rattle.mp4_box.proofs.HeaderLemmas.{whole_is, need_more}
-use Rattle.mp4_reading.specs.Pieces.{StopsAt}
-use Rattle.mp4_reading.proofs.PieceLemmas.{Takes-ok, Takes-err, GoesOn-behind, StopsAt-behind}
+use Rattle.mp4_machine.specs.Pieces.{StopsAt}
+use Rattle.mp4_machine.proofs.PieceLemmas.{Takes-ok, Takes-err, GoesOn-behind, StopsAt-behind}
 use Rattle.mp4_stream.specs.Places.{InHeader, outside, standing}
 use Rattle.mp4_stream.proofs.PlaceLemmas.{GoesOn-byte, Refuses-bad}
 use Rattle.mp4_stream.proofs.intake.take_byte.Goals as goal
@@ -15,7 +15,7 @@ returns-in-More-clause-takes g c = rw (c.requires.phase, c.requires.none) (Takes
 
 pub returns-in-BadSize-clause-takes : goal.returns-in-BadSize-clause-takes
 returns-in-BadSize-clause-takes g c =
-    rw (c.refused.ensures, c.kind-kind.ensures.computed)
+    rw (c.at_fault.ensures, c.kind-kind.ensures.computed)
     (Takes-err (λ more. Refuses-bad _ c.args.at c.args.head.now c.args.byte c.feed.new.self more c.requires.place.0 c.feed.ensures.bytes (sym c.in-BadSize.ensures.computed)) (λ e. absurd cc) (λ _. refl))
 
 -- the bytes of a header, taken at once, are those that came and its last

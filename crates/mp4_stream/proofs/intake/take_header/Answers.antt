@@ -1,6 +1,6 @@
 use Rattle.std.proofs.Common.{◌≡◌, ◌∷◌, ◌++◌, ◌<◌, [], ℕ, List, drop, get_or, length, arith, rules, subst, ap, Err}
-use Rattle.mp4_reading.specs.Pieces.{StopsAt}
-use Rattle.mp4_reading.proofs.PieceLemmas.{Takes-err}
+use Rattle.mp4_machine.specs.Pieces.{StopsAt}
+use Rattle.mp4_machine.proofs.PieceLemmas.{Takes-err}
 use Rattle.mp4_stream.specs.Places.{InHeader, standing, outside}
 use Rattle.mp4_stream.proofs.intake.take_header.Goals as goal
 

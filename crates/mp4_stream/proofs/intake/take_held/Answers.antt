@@ -1,6 +1,6 @@
 use Rattle.std.proofs.Common.{take, drop, ◌++◌, ap, Err}
-use Rattle.mp4_reading.proofs.PieceLemmas.{StopsAt-take_more, Takes-err}
-use Rattle.mp4_reading.proofs.HoldingLemmas.{begins_more}
+use Rattle.mp4_machine.proofs.PieceLemmas.{StopsAt-take_more, Takes-err}
+use Rattle.mp4_machine.proofs.HoldingLemmas.{begins_more}
 use Rattle.mp4_stream.proofs.PlaceLemmas.{GoesOn-held}
 use Rattle.mp4_stream.proofs.intake.take_held.Goals as goal
 

@@ -1,8 +1,8 @@
 use Rattle.std.proofs.Common.{[], Some, take, length-take-le, arith, refl, sym}
 use Rattle.std.proofs.Math.Seq.{take-length}
 use Rattle.mp4_box.specs.declared.rules.Rule.TheVariants.{StreamTooLong}
-use Rattle.mp4_reading.specs.Bodies.{fault}
-use Rattle.mp4_reading.proofs.PieceLemmas.{Takes-ok, Takes-err}
+use Rattle.mp4_machine.specs.Bodies.{fault}
+use Rattle.mp4_machine.proofs.PieceLemmas.{Takes-ok, Takes-err}
 use Rattle.mp4_stream.specs.Places.{InBody, InOpenBody, place_by, standing}
 use Rattle.mp4_stream.proofs.PlaceLemmas.{GoesOn-passed, Refuses-there, claim-none}
 use Rattle.mp4_stream.proofs.intake.take_unheld.Goals as goal

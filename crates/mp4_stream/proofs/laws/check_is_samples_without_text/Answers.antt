@@ -7,8 +7,8 @@ returns-clause-outcome c b = check-outcome b
 pub returns-clause-tally : goal.returns-clause-tally
 returns-clause-tally c b = check-tally b
 
-pub returns-clause-asks : goal.returns-clause-asks
-returns-clause-asks c b = check-asks b
+pub returns-clause-requests : goal.returns-clause-requests
+returns-clause-requests c b = check-asks b
 
 pub returns-clause-most : goal.returns-clause-most
 returns-clause-most c b = check-most b

@@ -1,9 +1,9 @@
 use Rattle.std.proofs.Common.{rules, ◌∙◌, ◌+◌, ◌-◌, ◌++◌, ◌<◌, List, [], sym, ap, refl, subst}
 use Rattle.std.specs.List.{flat_map}
 use Rattle.mp4_box.specs.Trees.{Box, view}
-use Rattle.mp4_reading.specs.Blocks.{Breaks, Passes}
+use Rattle.mp4_machine.specs.Blocks.{Breaks, Passes}
 use Rattle.mp4_stream.specs.Listing.{line_below, lines_below, tree_lines}
-use Rattle.mp4_reading.proofs.BlockLemmas.{Breaks-front, Passes-more, Passes-none, Breaks-passed}
+use Rattle.mp4_machine.proofs.BlockLemmas.{Breaks-front, Passes-more, Passes-none, Breaks-passed}
 use Rattle.mp4_stream.proofs.ListingLemmas.{has-low, lines-leaf, lines-step, lines-begin, lines-child}
 use Rattle.mp4_stream.proofs.listing.+put_below.Goals as goal
 

@@ -1,8 +1,8 @@
 use Rattle.std.proofs.Common.{◌∙◌, ◌+◌, ◌-◌, ◌<◌, sym, arith, subst}
 use Rattle.mp4_box.specs.Trees.{view}
-use Rattle.mp4_reading.specs.Blocks.{Breaks, Passes}
+use Rattle.mp4_machine.specs.Blocks.{Breaks, Passes}
 use Rattle.mp4_stream.specs.Listing.{line_below, lines_below, tree_lines}
-use Rattle.mp4_reading.proofs.BlockLemmas.{Breaks-front, Passes-more, Breaks-passed}
+use Rattle.mp4_machine.proofs.BlockLemmas.{Breaks-front, Passes-more, Breaks-passed}
 use Rattle.mp4_stream.proofs.ListingLemmas.{has-low, lines-leaf, lines-step, lines-begin}
 use Rattle.mp4_stream.proofs.listing.put_tree.Goals as goal
 

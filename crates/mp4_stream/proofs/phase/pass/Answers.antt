@@ -1,7 +1,7 @@
 use Rattle.std.proofs.Common.{◌∙◌, ◌-◌, ap, take, length, length-take-le, arith}
-use Rattle.mp4_reading.proofs.BodyLemmas.{body-over, body-passed}
-use Rattle.mp4_reading.specs.Bodies.{told_body}
-use Rattle.mp4_reading.specs.Readings.{then_read}
+use Rattle.mp4_machine.proofs.BodyLemmas.{body-over, body-passed}
+use Rattle.mp4_machine.specs.Bodies.{body_item}
+use Rattle.mp4_machine.specs.Readings.{then_read}
 use Rattle.mp4_stream.specs.Boxes.{passed, reading}
 use Rattle.mp4_stream.proofs.phase.pass.Goals as goal
 use Rattle.std.proofs.Common.{refl}
@@ -20,4 +20,4 @@ returns-else-left-eq0-clause-reads c = λ later.
     let least = c.min-count.ensures in
     let len = length-take-le n c.args.piece.now (omega (arith, least)) in
     body-passed reading c.args.at c.args.kind c.args.next (take n c.args.piece.now) later c.args.left (omega (arith, len, least))
-    ∙ ap (λ m. then_read reading (told_body passed c.args.at c.args.kind c.args.next (c.args.left - m) later)) len
+    ∙ ap (λ m. then_read reading (body_item passed c.args.at c.args.kind c.args.next (c.args.left - m) later)) len

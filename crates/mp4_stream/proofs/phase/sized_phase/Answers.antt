@@ -1,5 +1,5 @@
 use Rattle.std.proofs.Common.{◌-◌, ◌+◌, arith, refl}
-use Rattle.mp4_reading.proofs.BodyLemmas.{body-over}
+use Rattle.mp4_machine.proofs.BodyLemmas.{body-over}
 use Rattle.mp4_stream.specs.Boxes.{passed, reading}
 use Rattle.mp4_stream.proofs.phase.sized_phase.Goals as goal
 

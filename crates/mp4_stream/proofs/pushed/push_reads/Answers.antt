@@ -3,13 +3,13 @@ use Rattle.std.specs.Io.KnownBytes.{Appends}
 use Rattle.std.proofs.KnownBytes.{Appends-nil, Consumes-kept, Consumes-nil, Consumes-trans}
 use Rattle.mp4_ends.proofs.StreamLemmas.{Consumes-then_none}
 use Rattle.mp4_pieces.specs.declared.cut.Cut.{Cut}
-use Rattle.mp4_reading.specs.Accounts.{Counts}
-use Rattle.mp4_reading.specs.Ends.{Ends, between, received, sent}
-use Rattle.mp4_reading.specs.Fed.{AllWhole, FedUntil, Lent, TellsRest, lent}
-use Rattle.mp4_reading.specs.Pieces.{farthest}
-use Rattle.mp4_reading.specs.Readings.{early_in, fault_in, most_of}
-use Rattle.mp4_reading.proofs.AccountLemmas.{Counts-none}
-use Rattle.mp4_reading.proofs.FedRunLemmas.{comes-until, counts-more, prompt-fed, prompt-here, tells-all, text-more}
+use Rattle.mp4_machine.specs.Accounts.{Counts}
+use Rattle.mp4_machine.specs.Ends.{Ends, between, received, sent}
+use Rattle.mp4_machine.specs.Fed.{AllWhole, FedUntil, Lent, TellsRest, lent}
+use Rattle.mp4_machine.specs.Pieces.{farthest}
+use Rattle.mp4_machine.specs.Readings.{early_in, fault_in, most_of}
+use Rattle.mp4_machine.proofs.AccountLemmas.{Counts-none}
+use Rattle.mp4_machine.proofs.FedRunLemmas.{comes-until, counts-more, prompt-fed, prompt-here, tells-all, text-more}
 use Rattle.mp4_stream.specs.Feeders.{held_by, reading, sums_of}
 use Rattle.mp4_stream.proofs.FeederLemmas.{finish-comes, reading-none}
 use Rattle.mp4_stream.proofs.pushed.push_reads.Goals as goal
@@ -24,8 +24,8 @@ loop-feeder-init g c =
         read = Consumes-nil _;
         stands = c.requires.stands;
         cut = refl;
-        text = subst (λ r. Appends w w r.told.text) (sym (reading-none cut)) (Appends-nil w);
-        counts = subst (λ n. Counts a a 0 n (most_of (reading cut []).told)) (sym c.requires.idle) (subst (λ r. Counts a a 0 0 (most_of r.told)) (sym (reading-none cut)) (Counts-none a 0));
+        text = subst (λ r. Appends w w r.effects.text) (sym (reading-none cut)) (Appends-nil w);
+        counts = subst (λ n. Counts a a 0 n (most_of (reading cut []).effects)) (sym c.requires.idle) (subst (λ r. Counts a a 0 0 (most_of r.effects)) (sym (reading-none cut)) (Counts-none a 0));
         claim = omega (arith, c.requires.idle);
         room = c.requires.claimed;
         kept = refl;
@@ -39,8 +39,8 @@ returns-in-Ok-ending-clause-runs g c =
     let cut = c.args.feeder.now.cut in
     let (b, i) = c.loop-feeder.invariant in
     let undecided = subst (λ (x : Cut). early_in (reading x b).outcome ≡ None) i.cut i.stands.undecided in
-    let counted = subst (λ (x : Cut). c.loop-feeder.feeder.machine.counter.tally ≡ (reading x b).told.tally) i.cut i.stands.machine.tally in
-    let whole = subst (λ (x : Cut). AllWhole (reading x b).told c.loop-feeder.feeder.fragments) i.cut i.stands.fragments in
+    let counted = subst (λ (x : Cut). c.loop-feeder.feeder.machine.counter.tally ≡ (reading x b).effects.tally) i.cut i.stands.machine.tally in
+    let whole = subst (λ (x : Cut). AllWhole (reading x b).effects c.loop-feeder.feeder.fragments) i.cut i.stands.fragments in
     let finishes = c.in-Ok-ending.ensures.finishes b i.stands in (
       record {
         bytes = b;
@@ -59,8 +59,8 @@ returns-in-Err-ending-clause-runs g c =
     let cut = c.args.feeder.now.cut in
     let (b, i) = c.loop-feeder.invariant in
     let undecided = subst (λ (x : Cut). early_in (reading x b).outcome ≡ None) i.cut i.stands.undecided in
-    let counted = subst (λ (x : Cut). c.loop-feeder.feeder.machine.counter.tally ≡ (reading x b).told.tally) i.cut i.stands.machine.tally in
-    let whole = subst (λ (x : Cut). AllWhole (reading x b).told c.loop-feeder.feeder.fragments) i.cut i.stands.fragments in
+    let counted = subst (λ (x : Cut). c.loop-feeder.feeder.machine.counter.tally ≡ (reading x b).effects.tally) i.cut i.stands.machine.tally in
+    let whole = subst (λ (x : Cut). AllWhole (reading x b).effects c.loop-feeder.feeder.fragments) i.cut i.stands.fragments in
     let finishes = c.in-Err-ending.ensures.finishes b i.stands in
     let prompt = prompt-here (reading cut) (between (received g.R.Source.remaining g.R.Source.has_ended g.R.Source.has_failed c.args.r.now c.read.new.self) (sent g.W.Sink.contents g.W.Sink.has_failed c.args.w.now c.loop-feeder.w)) c.args.ledger.now c.requires.marked b undecided c.loop-feeder.ledger c.loop-feeder.feeder.fragments c.loop-feeder.feeder.machine.counter.tally in (
       record {
@@ -80,8 +80,8 @@ returns-in-Err-clause-runs g c =
     let cut = c.args.feeder.now.cut in
     let (b, i) = c.loop-feeder.invariant in
     let undecided = subst (λ (x : Cut). early_in (reading x b).outcome ≡ None) i.cut i.stands.undecided in
-    let counted = subst (λ (x : Cut). c.loop-feeder.feeder.machine.counter.tally ≡ (reading x b).told.tally) i.cut i.stands.machine.tally in
-    let whole = subst (λ (x : Cut). AllWhole (reading x b).told c.loop-feeder.feeder.fragments) i.cut i.stands.fragments in (
+    let counted = subst (λ (x : Cut). c.loop-feeder.feeder.machine.counter.tally ≡ (reading x b).effects.tally) i.cut i.stands.machine.tally in
+    let whole = subst (λ (x : Cut). AllWhole (reading x b).effects c.loop-feeder.feeder.fragments) i.cut i.stands.fragments in (
       record {
         bytes = b;
         fits = i.stands.bytes;
@@ -129,7 +129,7 @@ returns-in-Err-feed-clause-runs g c =
     let l : Lent = lent (sent g.W.Sink.contents g.W.Sink.has_failed c.loop-feeder.w c.feed.new.w) c.loop-feeder.feeder.fragments c.feed.new.self.fragments c.loop-feeder.ledger c.feed.new.ledger in
     let ends : Ends = between (received g.R.Source.remaining g.R.Source.has_ended g.R.Source.has_failed c.args.r.now c.read.new.self) (sent g.W.Sink.contents g.W.Sink.has_failed c.args.w.now c.feed.new.w) in
     let undecided = subst (λ (x : Cut). early_in (reading x b).outcome ≡ None) i.cut i.stands.undecided in
-    let whole = subst (λ (x : Cut). AllWhole (reading x b).told c.loop-feeder.feeder.fragments) i.cut i.stands.fragments in
+    let whole = subst (λ (x : Cut). AllWhole (reading x b).effects c.loop-feeder.feeder.fragments) i.cut i.stands.fragments in
     let fed = c.in-Err-feed.ensures.feeds b i.stands in
     let until = subst (λ (x : Cut). FedUntil (reading x) b got l (held_by c.loop-feeder.feeder) (sums_of c.feed.new.self) c.in-Err-feed.stop) i.cut fed.err.0 in
     let same : length c.read.new.into ≡ length c.loop-feeder.copy = search rules in

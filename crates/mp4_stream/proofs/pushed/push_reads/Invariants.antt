@@ -1,8 +1,8 @@
 use Rattle.std.proofs.Common.{◌≡◌, ◌≤◌, ◌+◌, ◌-◌, List, ℕ, length}
 use Rattle.std.specs.Io.KnownBytes.{Appends, Consumes}
-use Rattle.mp4_reading.specs.Accounts.{Counts}
-use Rattle.mp4_reading.specs.Pieces.{farthest}
-use Rattle.mp4_reading.specs.Readings.{most_of}
+use Rattle.mp4_machine.specs.Accounts.{Counts}
+use Rattle.mp4_machine.specs.Pieces.{farthest}
+use Rattle.mp4_machine.specs.Readings.{most_of}
 use Rattle.mp4_stream.specs.Feeders.{Stands, held_by, live, reading}
 use Rattle.mp4_stream.proofs.pushed.push_reads.Given as goal
 
@@ -13,7 +13,7 @@ invariant-loop-feeder g l =
       stands : Stands l.feeder b;
       cut : l.feeder.cut ≡ l.initial.feeder.cut;
       text : Appends (g.W.Sink.contents l.initial.w) (g.W.Sink.contents l.w) (live l.initial.feeder.cut b);
-      counts : Counts l.initial.ledger l.ledger 0 (held_by l.feeder) (most_of (reading l.initial.feeder.cut b).told);
+      counts : Counts l.initial.ledger l.ledger 0 (held_by l.feeder) (most_of (reading l.initial.feeder.cut b).effects);
       claim : held_by l.feeder ≤ l.ledger.live;
       room : length l.copy ≡ l.initial.ledger.live;
       kept : g.W.Sink.has_failed l.w ≡ g.W.Sink.has_failed l.initial.w;

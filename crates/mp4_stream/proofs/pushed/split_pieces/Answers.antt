@@ -3,9 +3,9 @@ use Rattle.std.specs.List.{flat_map}
 use Rattle.std.proofs.KnownBytes.{Appends-nil}
 use Rattle.std.proofs.lemmas.List.{take_all}
 use Rattle.std.specs.Io.KnownBytes.{Appends}
-use Rattle.mp4_reading.specs.Ends.{Sent, sent}
-use Rattle.mp4_reading.specs.Fed.{Lent, lent}
-use Rattle.mp4_reading.specs.Readings.{Reading}
+use Rattle.mp4_machine.specs.Ends.{Sent, sent}
+use Rattle.mp4_machine.specs.Fed.{Lent, lent}
+use Rattle.mp4_machine.specs.Readings.{Reading}
 use Rattle.mp4_stream.specs.Feeders.{Feeding, live, reading}
 use Rattle.mp4_stream.specs.Pushes.{Pushes}
 use Rattle.mp4_stream.proofs.FeederLemmas.{joined-more, reading-none}
@@ -21,7 +21,7 @@ loop-piece-init g c =
       limit = refl;
       cut = refl;
       so_far = record {
-        running = λ _. (c.new-feeder.ensures.stands, subst (λ (r : Reading). Appends w w r.told.text) (sym (reading-none cut)) (Appends-nil w));
+        running = λ _. (c.new-feeder.ensures.stands, subst (λ (r : Reading). Appends w w r.effects.text) (sym (reading-none cut)) (Appends-nil w));
         stopped = λ e is. absurd cc;
       };
     }

@@ -1,6 +1,6 @@
 use Rattle.std.proofs.Common.{◌≡◌, ◌∙◌, ◌-◌, None, refl, arith}
-use Rattle.mp4_reading.specs.Ends.{sent}
-use Rattle.mp4_reading.proofs.FedLemmas.{peak_behind, takes-live}
+use Rattle.mp4_machine.specs.Ends.{sent}
+use Rattle.mp4_machine.proofs.FedLemmas.{peak_behind, takes-live}
 use Rattle.mp4_stream.specs.Feeders.{Feeding, held_by}
 use Rattle.mp4_stream.proofs.FeederLemmas.{feeds-err, feeds-ok}
 use Rattle.mp4_stream.proofs.feeder.Feeder.advance.Goals as goal

@@ -1,9 +1,0 @@
-use Rattle.std.proofs.Common.{refl, rules}
-use Rattle.mp4_reading.proofs.PieceLemmas.{GoesOn-none}
-use Rattle.mp4_feed.proofs.held_box.hold.Goals as goal
-
-pub returns-then-not-is_whole : goal.returns-then-not-is_whole
-returns-then-not-is_whole g c = record { goes = GoesOn-none _ _; unfailed = refl; plan = refl; state = search rules; claim = c.requires.can.claim; counted = c.requires.can.counted }
-
-pub returns-in-Some : goal.returns-in-Some
-returns-in-Some g c = c.take_moof.ensures.advances (record { written = g.W.Sink.contents c.args.w.now; waiting = c.args.out.now; failed = g.W.Sink.has_failed c.args.w.now })

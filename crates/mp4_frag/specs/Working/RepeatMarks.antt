@@ -1,0 +1,26 @@
+-- Working: how trafs without a tfdt are found that come behind others of their track: some of their track_IDs in order, and which of these were listed.
+use Rattle.std.specs.Prelude.{ℕ, zero, suc, Bool, true, false, List, [], ◌∷◌, ◌++◌, Option, Some, None, ◌==◌, ◌+◌, ◌/◌, ◌&&◌, nat_lt, if◌then◌else◌, replicate, slice_set, take, drop}
+use Rattle.std.specs.Option.{is_none}
+use Rattle.mp4_box.specs.declared.rules.Fault.{Fault}
+use Rattle.mp4_box.specs.declared.rules.Rule.TheVariants.{Unsupported}
+use Rattle.mp4_box.specs.Trees.{Box, children, first_of}
+use Rattle.mp4_box.specs.Paths.{of_kind, at_path}
+use Rattle.mp4_init.specs.Working.OrderedIds.{sought}
+use Rattle.mp4_frag.specs.Fields.{payload_of}
+use Rattle.mp4_frag.specs.Kinds.{traf, tfhd, tfdt}
+use Rattle.mp4_frag.specs.Tfhd.{track_id}
+use Rattle.mp4_frag.specs.Rules.{fault_if}
+use Rattle.mp4_frag.specs.Repeats.{traf_id}
+
+abbrev pub marked_at : List Bool → Option ℕ → List Bool
+marked_at seen None = seen
+marked_at seen (Some k) = slice_set seen k true
+
+-- each of these is marked at the place of its id, where it has one
+unfoldable pub all_marked : List ℕ → List Bool → List Box → List Bool
+all_marked ids seen [] = seen
+all_marked ids seen (t ∷ ts) = all_marked ids (marked_at seen (sought ids (traf_id t))) ts
+
+-- what is marked behind these
+unfoldable pub marks : ℕ → List ℕ → List Box → List Bool
+marks n ids ts = all_marked ids (replicate n false) ts

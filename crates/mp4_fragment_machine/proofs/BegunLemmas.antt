@@ -1,0 +1,76 @@
+-- Where a machine keeps the media of a fragment that was begun.
+use Rattle.std.proofs.Common.{◌≡◌, ◌∙◌, ℕ, ◌+◌, ◌-◌, ◌*◌, ◌≤◌, List, [], length, Option, Some, ap, sym, arith, subst}
+use Rattle.mp4_box.specs.declared.headers.Header.{Header}
+use Rattle.mp4_box.specs.declared.headers.Size.{Size}
+use Rattle.mp4_box.specs.declared.headers.Size.TheVariants.{Exact, ToEnd}
+use Rattle.mp4_init.specs.declared.table.Track.{Track}
+use Rattle.mp4_frag.specs.Moofs.{moof_trafs}
+use Rattle.mp4_frag.specs.Settling.{settled}
+use Rattle.mp4_pieces.specs.declared.cut.Cut.{Cut}
+use Rattle.mp4_machine.specs.Bodies.{longest}
+use Rattle.mp4_machine.specs.Pieces.{GoesOn, Moves, Outside, Standing}
+use Rattle.mp4_machine.specs.Readings.{silent}
+use Rattle.mp4_machine.proofs.PieceLemmas.{GoesOn-none}
+use Rattle.mp4_grammar.specs.Contexts.{context}
+use Rattle.mp4_grammar.specs.Meanings.{Meaning, needed_in}
+use Rattle.mp4_recut.specs.Cursors.{parts_left}
+use Rattle.mp4_recut.specs.Media.{IsSettled, playing, spot_of}
+use Rattle.mp4_recut.specs.Splitting.{splitting}
+use Rattle.mp4_recut.specs.declared.media.Media.{Media}
+use Rattle.mp4_fragment_machine.specs.Places.{InBody, InHeader, InOpenBody, Place, standing}
+use Rattle.mp4_fragment_machine.proofs.RecutLemmas.{GoesOn-recut_over}
+use Rattle.mp4_fragment_machine.specs.Working.Recuts.{in_media, recut_fragment}
+use Rattle.mp4_fragment_machine.specs.States.{claimed_in, known, moof_in, place_of}
+use Rattle.mp4_fragment_machine.specs.declared.state.State.TheVariants as states
+use Rattle.mp4_fragment_machine.specs.declared.state.Waiting.{Waiting}
+
+-- the same place
+pub GoesOn-same : (meaning : Meaning) (o : Outside) (p q : Place) → p ≡ q → GoesOn o o (standing meaning p) [] (standing meaning q)
+GoesOn-same meaning o p q e = subst (λ r. GoesOn o o (standing meaning p) [] (standing meaning r)) e (GoesOn-none o (standing meaning p))
+
+module _ (cut : Cut) (w : Waiting) (tracks : List Track) (number n : ℕ) (m : Media) (at : ℕ) (h : Header) where
+  abbrev own : ℕ
+  own = claimed_in (Some tracks) (Some w)
+
+  abbrev ends : List Track
+  ends = settled tracks (moof_trafs (moof_in w) tracks)
+
+  -- where its media are begun
+  abbrev pub begun_at : Size → Place
+  begun_at size = in_media cut (recut_fragment w tracks number h) (spot_of cut (moof_in w) tracks (at + h.header_len) n m) at h own size
+
+  -- so it is by the tracks that are known
+  pub begun_known : (ts : Option (List Track)) (o o' : Outside) (q : Standing) → ts ≡ Some tracks → GoesOn o o' (standing (splitting cut) (begun_at h.size)) [] q
+      → GoesOn o o' (standing (splitting cut) (in_media cut (recut_fragment w (known ts) number h) (spot_of cut (moof_in w) (known ts) (at + h.header_len) n m) at h (claimed_in ts (Some w)) h.size)) [] q
+  begun_known ts o o' q e =
+      subst (λ t. GoesOn o o' (standing (splitting cut) (in_media cut (recut_fragment w (known t) number h) (spot_of cut (moof_in w) (known t) (at + h.header_len) n m) at h (claimed_in t (Some w)) h.size)) [] q) (sym e)
+
+  -- in an mdat that states its size
+  pub media_begins : (s : ℕ) (size : Size) → size ≡ Exact s → h.header_len ≤ s → n + length (parts_left cut (moof_in w) tracks n m.later) ≡ (splitting cut).numbered (recut_fragment w tracks number h)
+      → begun_at size ≡ place_of n (Some tracks) [] (states.Media (record { cut = cut; number = n; body = record { at = at; kind = h.kind; next = at + s; left = s - h.header_len }; media = m; waiting = w }))
+  media_begins s size is room e =
+      let start : at + h.header_len ≡ at + s - (s - h.header_len) = omega (arith, room) in
+      ap begun_at is
+      ∙ ap (λ k. InBody (playing (spot_of cut (moof_in w) tracks k n m)) at h.kind (context (at + s) (Some ends) ((splitting cut).numbered (recut_fragment w tracks number h))) (s - h.header_len) own) start
+      ∙ ap (λ k. InBody (playing (spot_of cut (moof_in w) tracks (at + s - (s - h.header_len)) n m)) at h.kind (context (at + s) (Some ends) k) (s - h.header_len) own) (sym e)
+
+  -- in one without a payload: it is done
+  pub media_over : (s : ℕ) (size : Size) (ts : List Track) (o o' : Outside) → size ≡ Exact s → s ≤ h.header_len → (splitting cut).numbered (recut_fragment w tracks number h) ≡ n → ts ≡ ends
+      → IsSettled (spot_of cut (moof_in w) tracks (at + h.header_len) n m) → Moves o o' own (64 * length ends) silent
+      → GoesOn o o' (standing (splitting cut) (begun_at size)) [] (standing (splitting cut) (place_of n (Some ts) [] (states.Header (at + s))))
+  media_over s size ts o o' is none e same all moves =
+      let meaning = splitting cut in
+      let goes : GoesOn o o' (standing meaning (begun_at (Exact s))) [] (standing meaning (InHeader (context (at + s) (Some ends) ((splitting cut).numbered (recut_fragment w tracks number h))) [])) =
+      GoesOn-recut_over meaning at h.kind o o' (spot_of cut (moof_in w) tracks (at + h.header_len) n m) (context (at + s) (Some ends) ((splitting cut).numbered (recut_fragment w tracks number h))) (s - h.header_len) own all (omega (arith, none)) moves in
+      let numbered = subst (λ k. GoesOn o o' (standing meaning (begun_at (Exact s))) [] (standing meaning (InHeader (context (at + s) (Some ends) k) []))) e goes in
+      let tracked = subst (λ l. GoesOn o o' (standing meaning (begun_at (Exact s))) [] (standing meaning (InHeader (context (at + s) (Some l) n) []))) (sym same) numbered in
+      subst (λ z. GoesOn o o' (standing meaning (begun_at z)) [] (standing meaning (InHeader (context (at + s) (Some ts) n) []))) (sym is) tracked
+
+  -- in one that goes to the end of the stream
+  pub open_begins : (needed : ℕ) (size : Size) → size ≡ ToEnd → at + h.header_len ≤ longest → needed ≡ needed_in (recut_fragment w tracks number h)
+      → begun_at size ≡ place_of n (Some tracks) [] (states.OpenMedia (record { cut = cut; number = n; body = record { at = at; kind = h.kind; needed = needed; left = longest - (at + h.header_len) }; media = m; waiting = w }))
+  open_begins needed size is near e =
+      let start : at + h.header_len ≡ longest - (longest - (at + h.header_len)) = omega (arith, near) in
+      ap begun_at is
+      ∙ ap (λ k. InOpenBody (playing (spot_of cut (moof_in w) tracks k n m)) at h.kind (needed_in (recut_fragment w tracks number h)) (longest - (at + h.header_len)) own) start
+      ∙ ap (λ k. InOpenBody (playing (spot_of cut (moof_in w) tracks (longest - (longest - (at + h.header_len))) n m)) at h.kind k (longest - (at + h.header_len)) own) (sym e)

@@ -1,0 +1,179 @@
+-- What the header behind a moof brings, where its fragment is refused, accepted, or can't be told.
+use Rattle.std.proofs.Common.{◌≡◌, ◌∙◌, ℕ, ◌+◌, ◌*◌, ◌≤◌, List, [], ◌++◌, length, length-append, Option, None, Some, append_assoc, ap, sym, refl, arith, subst}
+use Rattle.mp4_box.specs.declared.headers.Header.{Header}
+use Rattle.mp4_box.specs.declared.headers.Size.{Size}
+use Rattle.mp4_box.specs.declared.headers.Size.TheVariants.{Exact, ToEnd}
+use Rattle.mp4_box.specs.declared.headers.Step.TheVariants as steps
+use Rattle.mp4_box.specs.declared.rules.Fault.{Fault}
+use Rattle.mp4_box.specs.declared.rules.Rule.TheVariants.{BadSize}
+use Rattle.mp4_box.specs.Headers.{HasRoom, header_at, kind_of, need}
+use Rattle.mp4_box.proofs.HeaderLemmas.{whole_is}
+use Rattle.mp4_init.specs.declared.table.Track.{Track}
+use Rattle.mp4_machine.specs.Accounts.{Counts, Spends}
+use Rattle.mp4_machine.specs.Blocks.{Breaks, BreaksMarked, Passes, PassesMarked, Pending}
+use Rattle.mp4_machine.specs.Bodies.{fault, least_end, longest, at_fault}
+use Rattle.mp4_machine.specs.Pieces.{GoesOn, Loses, Moves, Outside, Refuses, Standing}
+use Rattle.mp4_machine.specs.Readings.{AtMost, Reading, Effects, after, most_of, plus, silent, then_read}
+use Rattle.mp4_machine.specs.declared.tally.Tally.{Tally}
+use Rattle.mp4_machine.proofs.BlockLemmas.{BreaksMarked-longer}
+use Rattle.mp4_machine.proofs.AccountLemmas.{Counts-none, Spends-counts, Spends-more}
+use Rattle.mp4_machine.proofs.PieceLemmas.{GoesOn-silent, back_to}
+use Rattle.mp4_machine.proofs.ReadingAskLemmas.{AtMost-behind, AtMost-plus, plus-none}
+use Rattle.mp4_machine.proofs.ReadingLemmas.{then_read-told}
+use Rattle.mp4_grammar.specs.declared.command.Command.{Command}
+use Rattle.mp4_grammar.specs.declared.command.Command.TheVariants.{Samples, Check}
+use Rattle.mp4_grammar.specs.declared.kinds.Kind.TheVariants.{Mdat}
+use Rattle.mp4_grammar.specs.Commands.{accepted, command_meaning}
+use Rattle.mp4_grammar.specs.Contexts.{Context, context, table_of}
+use Rattle.mp4_grammar.specs.Items.{after_moof, faulty, media_body, reads_in}
+use Rattle.mp4_grammar.specs.Kinds.{kind_in}
+use Rattle.mp4_grammar.specs.Meanings.{Fragment, Meaning, counted_in, fragment_fault, needed_in}
+use Rattle.mp4_fragment_machine.specs.Places.{Behind, claim_of, reached_of, reads_at, standing}
+use Rattle.std.specs.Option.{option_or}
+use Rattle.mp4_frag.specs.Places.{place_fault}
+use Rattle.mp4_frag.specs.Moofs.{moof_runs}
+use Rattle.mp4_fragment_machine.specs.States.{IsWaiting, claimed_in, waiting_fragment, in_mdat, known, moof_in, taken_by}
+use Rattle.mp4_fragment_machine.specs.declared.state.Waiting.{Waiting}
+use Rattle.mp4_fragment_machine.proofs.BodyLemmas.{Refuses-back, claimed_apart}
+use Rattle.mp4_fragment_machine.proofs.HeldLemmas.{Moves-all_back}
+use Rattle.mp4_fragment_machine.proofs.SecondLemmas.{behind-bad, second-accepted}
+
+-- what is told of a fragment asks for nothing, and counts it
+most-accepted : (command : Command) (f : Fragment) → most_of (accepted command f) ≡ 0
+most-accepted Check f = refl
+most-accepted Samples f = refl
+
+tally-accepted : (command : Command) (f : Fragment) → (accepted command f).tally ≡ counted_in f
+tally-accepted Check f = refl
+tally-accepted Samples f = plus-none (counted_in f)
+
+marks-accepted : (command : Command) (f : Fragment) → (accepted command f).marks ≡ []
+marks-accepted Check f = refl
+marks-accepted Samples f = refl
+
+-- commands that write no fragments refuse none
+pub listed_good : (command : Command) (number : ℕ) (w : Waiting) (tracks : List Track) (h : Header) → place_fault (waiting_fragment number w tracks h).payload (moof_runs (moof_in w) tracks) ≡ None → fragment_fault (command_meaning command) (waiting_fragment number w tracks h) ≡ None
+listed_good command number w tracks h e = ap (λ o. option_or o None) e
+
+-- a write failed in what was told first, which was counted
+pub Loses-counted : (o o' : Outside) (own : ℕ) (effects : Effects) (rest r : Reading) → r ≡ after effects rest → BreaksMarked o.written o'.written o.waiting o'.waiting effects.text effects.marks → Spends o.account o'.account own 0 0 → o'.tally ≡ plus o.tally effects.tally → Loses o o' own r
+Loses-counted o o' own effects rest r e p q same = record {
+  text = subst (λ s. BreaksMarked o.written o'.written o.waiting o'.waiting s.effects.text s.effects.marks) (sym e) (BreaksMarked-longer rest.effects.text rest.effects.marks p);
+  spends = Spends-more o.account o'.account own 0 0 (most_of r.effects) (omega arith) q;
+  least = subst (AtMost o.tally) (sym same) (AtMost-plus o.tally effects.tally);
+  most = subst (λ t. AtMost t (plus o.tally r.effects.tally)) (sym same) (subst (λ s. AtMost (plus o.tally effects.tally) (plus o.tally s.effects.tally)) (sym e) (AtMost-behind o.tally effects.tally (plus effects.tally rest.effects.tally) (AtMost-plus effects.tally rest.effects.tally)));
+}
+
+-- how much is claimed where a moof waits
+pub claimed_behind : (number : ℕ) (w : Waiting) (tracks : Option (List Track)) → IsWaiting tracks w → (x : List ℕ) → claim_of (Behind (context w.moof.at tracks number) (known tracks) w.moof.bytes x) ≡ claimed_in tracks (Some w)
+claimed_behind number w tracks i x = omega (arith, i.size, i.len, ap table_of i.is_known)
+
+-- a moof that waits, by the tracks that are known
+module _ (meaning : Meaning) (number : ℕ) (o : Outside) (w : Waiting) (tracks : Option (List Track)) (i : IsWaiting tracks w) (low : claimed_in tracks (Some w) ≤ o.account.live) where
+  abbrev pub waits : List ℕ → Standing
+  waits x = standing meaning (Behind (context w.moof.at tracks number) (known tracks) w.moof.bytes x)
+
+  -- what is claimed there
+  pub claims_behind : (x : List ℕ) → (waits x).claim ≡ table_of tracks + taken_by (Some w)
+  claims_behind x = omega (arith, i.size, i.len, ap table_of i.is_known)
+
+  pub low_behind : (x : List ℕ) → (waits x).claim ≤ o.account.live
+  low_behind x = omega (arith, claims_behind x, claimed_apart tracks (Some w), low)
+
+  -- bytes of the header behind it
+  pub GoesOn-behind_head : (held x new : List ℕ) → new ≡ held ++ x → GoesOn o o (waits held) x (waits new)
+  GoesOn-behind_head held x new e =
+      GoesOn-silent o (waits held) (waits new) x refl (omega (arith, ap length e, length-append held x))
+      (λ later. ap (λ l. then_read (reads_in meaning) (after_moof meaning (context w.moof.at tracks number) (known tracks) w.moof.bytes l)) (sym (append_assoc held x later) ∙ ap (λ l. l ++ later) (sym e)))
+
+  -- no header begins with them: all is given back
+  pub Refuses-behind : (x more : List ℕ) (at : ℕ) → at ≡ w.moof.at + w.moof.size → length x ≡ need x → header_at x ≡ steps.BadSize → Refuses o (back_to (back_to o (taken_by (Some w))) (table_of tracks)) (waits x) more (fault BadSize (kind_of x) at)
+  Refuses-behind x more at e len bad =
+      let ends : w.moof.at + length w.moof.bytes ≡ at = omega (arith, i.size, e) in
+      let own = claims_behind x in
+      Refuses-back o (back_to (back_to o (taken_by (Some w))) (table_of tracks)) (waits x) [] more (fault BadSize (kind_of x) at)
+      (subst (λ n. Moves o (back_to (back_to o (taken_by (Some w))) (table_of tracks)) n 0 silent) (sym own) (Moves-all_back o (table_of tracks) (taken_by (Some w)) (omega (arith, low, claimed_apart tracks (Some w)))))
+      (λ later. ap (then_read (reads_in meaning)) (behind-bad meaning (context w.moof.at tracks number) (known tracks) w.moof.bytes x later len bad) ∙ ap (λ n. at_fault BadSize (kind_of x) n) ends)
+
+-- of a moof all bytes are there, and a row for each of its runs
+pub record HasRows (tracks : List Track) (w : Waiting) : Type 0 where
+  pub size : length w.moof.bytes ≡ w.moof.size
+  pub len : length w.runs.rows ≡ length (moof_runs (moof_in w) tracks)
+
+-- so it is where one waits
+pub rows_of : (tracks : List Track) (w : Waiting) → IsWaiting (Some tracks) w → HasRows tracks w
+rows_of tracks w i = record { size = i.size; len = i.len }
+
+module _ (command : Command) (number : ℕ) (o : Outside) (w : Waiting) (tracks : List Track) (h : Header) (x : List ℕ)
+    (i : HasRows tracks w) (len : length x ≡ need x) (is : header_at x ≡ steps.Whole h) (low : claimed_in (Some tracks) (Some w) ≤ o.account.live) where
+  abbrev pub c : Context
+  c = context w.moof.at (Some tracks) number
+
+  abbrev pub place : Standing
+  place = standing (command_meaning command) (Behind c tracks w.moof.bytes x)
+
+  abbrev pub f : Fragment
+  f = waiting_fragment number w tracks h
+
+  abbrev pub next : ℕ
+  next = w.moof.at + w.moof.size
+
+  ends : next ≡ w.moof.at + length w.moof.bytes
+  ends = omega (arith, i.size)
+
+  -- what is claimed there
+  pub claims : place.claim ≡ 64 * length tracks + taken_by (Some w)
+  claims = omega (arith, i.size, i.len)
+
+  all_back : Moves o (back_to (back_to o (taken_by (Some w))) (64 * length tracks)) place.claim 0 silent
+  all_back = subst (λ n. Moves o (back_to (back_to o (taken_by (Some w))) (64 * length tracks)) n 0 silent) (sym claims) (Moves-all_back o (64 * length tracks) (taken_by (Some w)) (omega (arith, low)))
+
+  -- it is refused: the moof, its list and the table are given back
+  pub Refuses-fragment : (more : List ℕ) (g : Fault) → ((later : List ℕ) → after_moof (command_meaning command) c tracks w.moof.bytes (x ++ later) ≡ faulty g) → Refuses o (back_to (back_to o (taken_by (Some w))) (64 * length tracks)) place more g
+  Refuses-fragment more g r = Refuses-back o (back_to (back_to o (taken_by (Some w))) (64 * length tracks)) place [] more g all_back (λ later. ap (then_read (reads_in (command_meaning command))) (r later))
+
+  module _ (near : least_end next h h.size ≤ longest) (mdat : kind_in h.kind.0 ≡ Mdat) (good : fragment_fault (command_meaning command) f ≡ None) where
+    reads-told : (later : List ℕ) → place.reads later ≡ after (accepted command f) (then_read (reads_in (command_meaning command)) (media_body (command_meaning command) f next h h.size later))
+    reads-told later =
+        ap (then_read (reads_in (command_meaning command))) (second-accepted (command_meaning command) c tracks w.moof.bytes h x len is later (subst (λ n. least_end n h h.size ≤ longest) ends near) mdat good)
+        ∙ then_read-told (reads_in (command_meaning command)) (accepted command f) (media_body (command_meaning command) f (w.moof.at + length w.moof.bytes) h h.size later)
+        ∙ ap (λ n. after (accepted command f) (then_read (reads_in (command_meaning command)) (media_body (command_meaning command) f n h h.size later))) (sym ends)
+
+    reads-mdat : (size : Size) (later : List ℕ) → then_read (reads_in (command_meaning command)) (media_body (command_meaning command) f next h size later) ≡ reads_at (command_meaning command) (in_mdat number (Some tracks) w next h (needed_in f) size) later
+    reads-mdat (Exact s) later = refl
+    reads-mdat ToEnd later = refl
+
+    reached-mdat : (size : Size) (needed : ℕ) → HasRoom size h.header_len → least_end next h size ≤ longest → reached_of (in_mdat number (Some tracks) w next h needed size) ≡ place.reached
+    reached-mdat (Exact s) needed room fits = omega (arith, ends, room, (whole_is x h is).1, len)
+    reached-mdat ToEnd needed room fits = omega (arith, ends, fits, (whole_is x h is).1, len)
+
+    claim-mdat : (size : Size) (needed : ℕ) → claim_of (in_mdat number (Some tracks) w next h needed size) ≡ place.claim
+    claim-mdat (Exact s) needed = omega (arith, claims)
+    claim-mdat ToEnd needed = omega (arith, claims)
+
+    -- it is accepted, and told
+    GoesOn-fragment : (o' : Outside) (needed : ℕ) → HasRoom h.size h.header_len → needed ≡ needed_in f → o'.account ≡ o.account → o'.tally ≡ plus o.tally (counted_in f) → Passes o.written o'.written o.waiting o'.waiting (accepted command f).text
+        → GoesOn o o' place [] (standing (command_meaning command) (in_mdat number (Some tracks) w next h needed h.size))
+    GoesOn-fragment o' needed room enough same counted p = record {
+      brought = accepted command f;
+      moves = record {
+        passes = subst (PassesMarked o.written o'.written o.waiting o'.waiting (accepted command f).text) (sym (marks-accepted command f)) p;
+        counts = subst (λ n. Counts o.account o'.account place.claim (claim_of (in_mdat number (Some tracks) w next h needed h.size)) n) (sym (most-accepted command f))
+            (subst (λ n. Counts o.account o'.account place.claim n 0) (sym (claim-mdat h.size needed)) (subst (λ a. Counts o.account a place.claim place.claim 0) (sym same) (Counts-none o.account place.claim)));
+        tallied = counted ∙ ap (plus o.tally) (sym (tally-accepted command f));
+      };
+      reached = reached-mdat h.size needed room near ∙ omega arith;
+      rest = λ later. reads-told later ∙ ap (after (accepted command f)) (reads-mdat h.size later ∙ ap (λ n. reads_at (command_meaning command) (in_mdat number (Some tracks) w next h n h.size) later) (sym enough));
+    }
+
+    pub GoesOn-fragment_at : (at : ℕ) → at ≡ next → (o' : Outside) (needed : ℕ) → HasRoom h.size h.header_len → needed ≡ needed_in f → o'.account ≡ o.account → o'.tally ≡ plus o.tally (counted_in f) → Passes o.written o'.written o.waiting o'.waiting (accepted command f).text
+        → GoesOn o o' place [] (standing (command_meaning command) (in_mdat number (Some tracks) w at h needed h.size))
+    GoesOn-fragment_at at same o' needed room enough account counted p =
+        subst (λ n. GoesOn o o' place [] (standing (command_meaning command) (in_mdat number (Some tracks) w n h needed h.size))) (sym same) (GoesOn-fragment o' needed room enough account counted p)
+
+    -- it is accepted, and can't be told: all is given back
+    pub Loses-fragment : (u : Option (List ℕ)) (v : Pending) (t : Tally) (more later : List ℕ) → t ≡ plus o.tally (counted_in f) → Breaks o.written u o.waiting v (accepted command f).text
+        → Loses o (record { written = u; waiting = v; account = (back_to (back_to o (taken_by (Some w))) (64 * length tracks)).account; tally = t }) place.claim (place.reads (more ++ later))
+    Loses-fragment u v t more later counted p =
+        Loses-counted o (record { written = u; waiting = v; account = (back_to (back_to o (taken_by (Some w))) (64 * length tracks)).account; tally = t }) place.claim (accepted command f) _ (place.reads (more ++ later)) (reads-told (more ++ later)) (subst (BreaksMarked o.written u o.waiting v (accepted command f).text) (sym (marks-accepted command f)) p)
+        (Spends-counts o.account _ place.claim 0 0 all_back.counts) (counted ∙ ap (plus o.tally) (sym (tally-accepted command f)))

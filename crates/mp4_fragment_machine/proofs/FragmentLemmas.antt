@@ -1,0 +1,246 @@
+-- What is known of a fragment of which a piece has all.
+use Rattle.std.proofs.Common.{◌≡◌, ◌∙◌, ℕ, ◌+◌, ◌*◌, ◌<◌, ◌≤◌, ◌==◌, true, false, not, append-nil, List, [], ◌∷◌, ◌++◌, length, take, drop, Option, None, Some, ap, sym, refl, arith, subst}
+use Rattle.std.proofs.lemmas.List.{length-drop, length-take-le}
+use Rattle.std.proofs.lemmas.List.Sums.{sum_by-cons}
+use Rattle.std.specs.Prelude.{option_map}
+use Rattle.std.specs.List.{flat_map}
+use Rattle.std.specs.Option.{option_or}
+use Rattle.mp4_ledger.specs.Memory.{Account, claimed, given_back}
+use Rattle.mp4_init.specs.Tracks.{with_next}
+use Rattle.mp4_box.specs.Headers.{HasRoom, IsBytes, IsWhole, header_at}
+use Rattle.mp4_box.specs.declared.headers.Header.{Header}
+use Rattle.mp4_box.specs.declared.headers.Size.TheVariants.{Exact}
+use Rattle.mp4_box.specs.declared.headers.Step.TheVariants as steps
+use Rattle.mp4_box.proofs.HeaderLemmas.{need-least, room_of, whole_is}
+use Rattle.mp4_init.specs.declared.table.Track.{Track}
+use Rattle.mp4_run_order.specs.declared.runs.ListedRun.{ListedRun}
+use Rattle.mp4_run_order.specs.declared.runs.Payload.{Payload}
+use Rattle.mp4_run_order.specs.Places.{IsOffender, LiesIn, Placed, first_offender}
+use Rattle.mp4_run_order.specs.Takings.{has_samples}
+use Rattle.mp4_run_order.proofs.SearchLemmas.{offender_means}
+use Rattle.mp4_frag.specs.declared.run.Run.{Run}
+use Rattle.mp4_frag.specs.declared.lone.LoneRun.{LoneRun}
+use Rattle.mp4_frag.specs.LoneRuns.{IsLone}
+use Rattle.mp4_frag.specs.Moofs.{moof_runs, moof_samples, moof_trafs}
+use Rattle.mp4_frag.specs.Settling.{settled}
+use Rattle.mp4_frag.specs.Places.{run_place_fault, place_fault}
+use Rattle.mp4_run_order.specs.Orders.{taken_by}
+use Rattle.mp4_frag.specs.RunLists.{taken_runs}
+use Rattle.mp4_frag.specs.Places.{listed_run}
+use Rattle.mp4_frag.specs.Runs.{MoofBytes, moof_at}
+use Rattle.mp4_pieces.specs.Pieces.{IsRunOf}
+use Rattle.mp4_pieces.proofs.RunLemmas.{ranged_run}
+use Rattle.mp4_machine.proofs.HoldingLemmas.{begins_whole}
+use Rattle.mp4_grammar.specs.Commands.{accepted, command_meaning}
+use Rattle.mp4_grammar.specs.Items.{end_of, fragment, walked}
+use Rattle.mp4_grammar.specs.Kinds.{most_moof}
+use Rattle.mp4_grammar.specs.Meanings.{Fragment, counted_in, fragment_fault}
+use Rattle.mp4_grammar.specs.Contexts.{Context, context}
+use Rattle.mp4_grammar.specs.Samples.{sample_lines, samples_of_run}
+use Rattle.mp4_recut.specs.declared.plan.Plan.TheVariants as plans
+use Rattle.mp4_grammar.specs.declared.command.Command.{Command}
+use Rattle.mp4_grammar.specs.declared.command.Command.TheVariants.{Samples}
+use Rattle.mp4_grammar.specs.declared.kinds.Kind.{Kind}
+use Rattle.mp4_grammar.specs.declared.kinds.Kind.TheVariants.{Moof, Mdat}
+use Rattle.mp4_machine.specs.Bodies.{longest}
+use Rattle.mp4_machine.specs.Blocks.{Breaks, Passes, Pending}
+use Rattle.mp4_machine.specs.Pieces.{GoesOn, Outside, StopsAt, outside}
+use Rattle.mp4_machine.specs.Readings.{plus}
+use Rattle.mp4_machine.specs.declared.stop.Stop.TheVariants.{Write}
+use Rattle.mp4_machine.specs.declared.tally.Tally.{Tally}
+use Rattle.mp4_fragment_machine.specs.Places.{InHeader, standing}
+use Rattle.mp4_fragment_machine.specs.States.{IsCounted, listed_by}
+use Rattle.mp4_fragment_machine.specs.declared.state.Counter.{Counter}
+use Rattle.mp4_fragment_machine.proofs.CountLemmas.{counted_later, counted_moof, counted_told}
+use Rattle.mp4_fragment_machine.specs.Working.Wholes.{AreBoxes, IsFragment, StandsFirst, payload_in}
+use Rattle.mp4_fragment_machine.specs.declared.whole_fragment.Boxes.{Boxes}
+use Rattle.mp4_fragment_machine.specs.declared.whole_fragment.Span.{Span}
+use Rattle.mp4_fragment_machine.proofs.MediaLemmas.{AreIn, media_in}
+use Rattle.mp4_fragment_machine.proofs.WholeLemmas.{GoesOn-whole, StopsAt-whole, front_is}
+
+-- ---- a box at the front
+
+module _ (kind : Kind) (at : ℕ) (x : List ℕ) (b : Span) (first : StandsFirst kind at x b) where
+  -- its header has room
+  pub first_fits : b.header_len ≤ b.size
+  first_fits = omega (arith, first.head, subst (λ z. HasRoom z first.header.header_len) first.sized (room_of x first.header first.is))
+
+  module _ (m : List ℕ) (is : m ≡ take b.size x) where
+    pub first_len : length m ≡ b.size
+    first_len = ap length is ∙ length-take-le b.size x first.whole
+
+    -- its bytes begin with its header
+    pub first_is : header_at m ≡ steps.Whole first.header
+    first_is =
+        front_is m x first.header (is ∙ ap (λ n. take n x) (sym first_len)) first.is (omega (arith, first_fits, first.head, first_len)) (omega (arith, first.whole, first_len))
+
+    pub first_whole : IsBytes m → IsWhole m
+    first_whole fits = begins_whole b.size m fits (first.header, first_is, first.sized) first_len
+
+-- ---- a run that is the only one
+
+none_blamed : (o : Option ListedRun) → option_map (λ run. run_place_fault run.number) o ≡ None → o ≡ None
+none_blamed None e = refl
+none_blamed (Some run) e = absurd cc
+
+module _ (p : Payload) (run : Run) (stands : place_fault p (run ∷ []) ≡ None) where
+  placed : Placed p (listed_run run ∷ [])
+  placed =
+      subst (IsOffender p (listed_run run ∷ [])) (none_blamed (first_offender p (listed_run run ∷ [])) stands) (offender_means p (listed_run run ∷ []) (λ i j d low high. absurd (omega (arith, low, high))))
+
+  pub lies : has_samples (listed_run run) ≡ true → LiesIn p (listed_run run)
+  lies some = (placed 0 (listed_run run) (omega arith) (λ e. none_has e some)).lies
+    where
+      none_has : (listed_run run).count ≡ 0 → has_samples (listed_run run) ≡ true → ⊥
+      none_has e t = let no : has_samples (listed_run run) ≡ false = ap (λ n. not (n == 0)) e in absurd cc
+
+  -- it has no more bytes than the payload
+  pub lone_fits : (held : List ℕ) (end : ℕ) → p.end ≡ Some end → p.start ≤ end → IsRunOf held run → p.start + run.bytes ≤ end
+  lone_fits held end e room is =
+      let one : AreIn p (run ∷ []) = record { rise = (tt, tt); lie = (lies, tt) } in
+      omega (arith, media_in held p end (run ∷ []) 1 e room one (is, tt), sum_by-cons (λ (r : Run). r.bytes) run [])
+
+-- ---- a fragment
+
+-- samples that were looked at
+walked_more : (t : Tally) (h : MoofBytes) (n : ℕ) → n ≡ moof_samples h → record { fragments = t.fragments; samples = t.samples; media_bytes = t.media_bytes; walked = t.walked + n } ≡ plus t (walked h)
+walked_more t h n e =
+    let f : t.fragments ≡ t.fragments + 0 = omega arith in
+    let s : t.samples ≡ t.samples + 0 = omega arith in
+    let m : t.media_bytes ≡ t.media_bytes + 0 = omega arith in
+    ap (λ k. record { fragments = k; samples = t.samples; media_bytes = t.media_bytes; walked = t.walked + n }) f
+    ∙ ap (λ k. record { fragments = t.fragments + 0; samples = k; media_bytes = t.media_bytes; walked = t.walked + n }) s
+    ∙ ap (λ k. record { fragments = t.fragments + 0; samples = t.samples + 0; media_bytes = k; walked = t.walked + n }) m
+    ∙ ap (λ k. record { fragments = t.fragments + 0; samples = t.samples + 0; media_bytes = t.media_bytes + 0; walked = t.walked + k }) e
+
+module _ (h : MoofBytes) (tracks : List Track) (l : LoneRun) (lone : IsLone h tracks l) where
+  pub one_taken : taken_runs h tracks ≡ l.run ∷ []
+  one_taken = ap (taken_by listed_run) lone.run
+
+  pub lone_is : IsRunOf h.bytes l.run
+  lone_is = ranged_run h tracks lone.read [] [] l.run (record { is = lone.run }) lone.range
+
+  -- its lines are those of the run
+  pub lone_text : (c : Context) (g : Header) → h ≡ (fragment c tracks h.bytes g).moof → (accepted Samples (fragment c tracks h.bytes g)).text ≡ sample_lines (samples_of_run h.bytes l.run)
+  lone_text c g same =
+      let f = fragment c tracks h.bytes g in
+      ap (λ runs. sample_lines (flat_map (samples_of_run h.bytes) runs)) (ap (λ k. taken_runs k tracks) (sym same) ∙ one_taken)
+      ∙ ap sample_lines (append-nil (samples_of_run h.bytes l.run))
+
+module _ (at : ℕ) (piece : List ℕ) (b : Boxes) (are : AreBoxes at piece b) where
+  pub moof_len : length b.moof.now ≡ are.span.size
+  moof_len = first_len Moof at piece are.span are.moof b.moof.now are.bytes
+
+  pub moof_whole : IsWhole b.moof.now
+  moof_whole = first_whole Moof at piece are.span are.moof b.moof.now are.bytes are.valid
+
+  pub some_moof : 0 < are.span.size
+  some_moof =
+      let w = whole_is piece are.moof.header are.moof.is in
+      omega (arith, w.1, need-least piece, are.moof.head, first_fits Moof at piece are.span are.moof)
+
+-- its boxes have room for their headers, and the piece for them
+pub record BoxesFit (at : ℕ) (piece : List ℕ) (b : Boxes) : Type 0 where
+  pub head : b.mdat.header_len ≤ b.mdat.size
+  pub whole : length b.moof.now + b.mdat.size ≤ length piece
+  pub near : at + length b.moof.now + b.mdat.size ≤ longest
+
+pub boxes_fit : (at : ℕ) (piece : List ℕ) (b : Boxes) → AreBoxes at piece b → BoxesFit at piece b
+boxes_fit at piece b are =
+    let len = moof_len at piece b are in
+    record {
+      head = first_fits Mdat (at + are.span.size) (drop are.span.size piece) b.mdat are.mdat;
+      whole = omega (arith, len, are.moof.whole, are.mdat.whole, length-drop are.span.size piece);
+      near = omega (arith, len, are.mdat.near);
+    }
+
+module _ (at : ℕ) (tracks : List Track) (piece : List ℕ) (b : Boxes) (l : LoneRun) (is : IsFragment at tracks piece b l) where
+  len_is : length b.moof.now ≡ is.boxes.span.size
+  len_is = moof_len at piece b is.boxes
+
+  pub run_is : IsRunOf b.moof.now l.run
+  run_is = lone_is (moof_at b.moof.now at) tracks l is.lone
+
+  -- its media lie in its mdat
+  pub media_fits : at + is.boxes.span.size + l.run.bytes + 8 ≤ at + is.boxes.span.size + b.mdat.size
+  media_fits =
+      let room = first_fits Mdat (at + is.boxes.span.size) (drop is.boxes.span.size piece) b.mdat is.boxes.mdat in
+      let w = whole_is (drop is.boxes.span.size piece) is.boxes.mdat.header is.boxes.mdat.is in
+      let last = lone_fits (payload_in (at + is.boxes.span.size) b.mdat) l.run is.stands b.moof.now (at + is.boxes.span.size + b.mdat.size) refl (omega (arith, room)) run_is in
+      omega (arith, last, w.1, need-least (drop is.boxes.span.size piece), is.boxes.mdat.head)
+
+  -- it is counted, and no sample waits
+  pub counted_whole : (command : Command) (c c' : Counter) (n k : ℕ) → IsCounted (plans.List command) c at 0 0 → n ≡ l.run.count → k ≡ l.run.count
+      → c'.tally ≡ plus (record { fragments = c.tally.fragments; samples = c.tally.samples; media_bytes = c.tally.media_bytes; walked = c.tally.walked + n }) (record { fragments = 1; samples = k; media_bytes = l.run.bytes; walked = 0 })
+      → c'.steps.rows ≡ c.steps.rows + 2 * k + listed_by (plans.List command) k → IsCounted (plans.List command) c' (at + length b.moof.now + b.mdat.size) 0 0
+  counted_whole command c c' n k i all one tally rows =
+      let h = moof_at b.moof.now at in
+      let few : k ≤ 1000000 = omega (arith, one, run_is.few) in
+      let same : k ≡ moof_samples h = one ∙ is.lone.samples in
+      let c1 : Counter = record { tally = plus c.tally (walked h); steps = record { rows = c.steps.rows + (k + k) } } in
+      let near : at + is.boxes.span.size ≤ longest = is.boxes.moof.near in
+      let waits : IsCounted (plans.List command) c1 (at + is.boxes.span.size) k k = counted_moof (plans.List command) c c1 h at is.boxes.span.size (k + k) k i (some_moof at piece b is.boxes) near (omega (arith, same, few)) refl refl (omega (arith, same)) (omega (arith, same)) in
+      let sum = tally ∙ ap (λ t. plus t (record { fragments = 1; samples = k; media_bytes = l.run.bytes; walked = 0 })) (walked_more c.tally h n (all ∙ is.lone.samples)) in
+      let effects : IsCounted (plans.List command) c' (at + is.boxes.span.size + b.mdat.size) 0 k = counted_told command c1 c' (at + is.boxes.span.size) (at + is.boxes.span.size + b.mdat.size) k l.run.bytes waits few
+      (omega (arith, media_fits), omega (arith, media_fits), omega (arith, is.boxes.mdat.near)) sum (omega (arith, rows)) in
+      subst (λ z. IsCounted (plans.List command) c' (at + z + b.mdat.size) 0 0) (sym len_is) (counted_later (plans.List command) c' (at + is.boxes.span.size + b.mdat.size) (at + is.boxes.span.size + b.mdat.size) k 0 (omega arith) (omega arith) (omega (arith, is.boxes.mdat.near)) effects)
+
+  abbrev m : List ℕ
+  m = b.moof.now
+
+  abbrev g : Header
+  g = is.boxes.mdat.header
+
+  abbrev n : ℕ
+  n = length b.moof.now + b.mdat.size
+
+  -- as it is told
+  abbrev pub it : ℕ → Fragment
+  it number = fragment (context at (Some tracks) number) tracks b.moof.now is.boxes.mdat.header
+
+  pub payload_same : (it 1).payload ≡ payload_in (at + is.boxes.span.size) b.mdat
+  payload_same =
+      ap (λ k. record { start = at + k + g.header_len; end = end_of (at + k) g.size }) len_is
+      ∙ ap (λ k. record { start = at + is.boxes.span.size + k; end = end_of (at + is.boxes.span.size) g.size }) is.boxes.mdat.head
+      ∙ ap (λ z. record { start = at + is.boxes.span.size + b.mdat.header_len; end = end_of (at + is.boxes.span.size) z }) is.boxes.mdat.sized
+
+  pub it_is_good : (command : Command) (number : ℕ) → fragment_fault (command_meaning command) (it number) ≡ None
+  it_is_good command number =
+      ap (λ o. option_or o None) (ap (λ p. place_fault p (moof_runs (moof_at m at) tracks)) payload_same ∙ ap (place_fault (payload_in (at + is.boxes.span.size) b.mdat)) is.lone.run ∙ is.stands)
+
+  module _ (command : Command) (number : ℕ) (o : Outside) (low : 64 * length tracks ≤ o.account.live) (u : Option (List ℕ)) (v : Pending) (a : Account) (t : Tally)
+      (account : a ≡ given_back (claimed o.account (length b.moof.now + 64)) (length b.moof.now + 64)) (tally : t ≡ plus (plus o.tally (walked (moof_at b.moof.now at))) (counted_in (it number))) where
+    within : length m ≤ length piece
+    within = omega (arith, len_is, is.boxes.moof.whole)
+
+    front : m ≡ take (length m) piece
+    front = is.boxes.bytes ∙ ap (λ k. take k piece) (sym len_is)
+
+    behind : header_at (drop (length m) piece) ≡ steps.Whole g
+    behind = ap (λ k. header_at (drop k piece)) len_is ∙ is.boxes.mdat.is
+
+    sized : is.boxes.moof.header.size ≡ Exact (length m)
+    sized = is.boxes.moof.sized ∙ ap Exact (sym len_is)
+
+    whole : b.mdat.size ≤ length (drop (length m) piece)
+    whole = subst (λ k. b.mdat.size ≤ length (drop k piece)) (sym len_is) is.boxes.mdat.whole
+
+    near : at + length m + b.mdat.size ≤ longest
+    near = omega (arith, len_is, is.boxes.mdat.near)
+
+    most : length m ≤ most_moof
+    most = omega (arith, len_is, is.boxes.most)
+
+    -- it is told
+    pub GoesOn-it : Passes o.written u o.waiting v (accepted command (it number)).text
+        → GoesOn o (outside u v a t) (standing (command_meaning command) (InHeader (context at (Some tracks) number) [])) (take n piece) (standing (command_meaning command) (InHeader (context (at + n) (Some (with_next l.track l.run.end tracks)) number) []))
+    GoesOn-it passes =
+        let goes = GoesOn-whole command number o at tracks piece m is.boxes.moof.header g b.mdat.size l.run front within is.boxes.moof.is is.boxes.moof.is_kind sized most is.lone.read is.lone.run behind is.boxes.mdat.is_kind is.boxes.mdat.sized whole near low u v a t (it_is_good command number) account tally passes in
+        let end : at + length m + b.mdat.size ≡ at + n = omega arith in
+        subst (λ ts. GoesOn o (outside u v a t) (standing (command_meaning command) (InHeader (context at (Some tracks) number) [])) (take n piece) (standing (command_meaning command) (InHeader (context (at + n) (Some ts) number) []))) is.lone.ends
+        (subst (λ k. GoesOn o (outside u v a t) (standing (command_meaning command) (InHeader (context at (Some tracks) number) [])) (take n piece) (standing (command_meaning command) (InHeader (context k (Some (settled tracks (moof_trafs (moof_at m at) tracks))) number) []))) end goes)
+
+    -- it can't be told
+    pub StopsAt-it : (more : List ℕ) → Breaks o.written u o.waiting v (accepted command (it number)).text → StopsAt o (outside u v (given_back a (64 * length tracks)) t) (standing (command_meaning command) (InHeader (context at (Some tracks) number) [])) (piece ++ more) Write
+    StopsAt-it more p =
+        StopsAt-whole command number o at tracks piece m is.boxes.moof.header g b.mdat.size l.run front within is.boxes.moof.is is.boxes.moof.is_kind sized most is.lone.read is.lone.run behind is.boxes.mdat.is_kind is.boxes.mdat.sized whole near low u v a t (it_is_good command number) account tally more p

@@ -1,0 +1,103 @@
+-- The lines of samples, one after the other.
+use Rattle.std.proofs.Common.{◌≡◌, ◌∙◌, ℕ, zero, suc, ℤ, pos, ◌≤◌, drop, get_or, ◌+◌, ◌+ℤ◌, ◌<ℤ◌, ◌≤ℤ◌, ◌<◌, ◌^◌, List, [], ◌∷◌, ◌++◌, length, Option, ap, sym, refl, arith, subst, append-nil, append_assoc}
+use Rattle.std.specs.List.{flat_map}
+use Rattle.std.proofs.Math.Seq.{drop-cons}
+use Rattle.std.proofs.lemmas.Grind.{flat_map-append}
+use Rattle.std.proofs.lemmas.List.{length-map}
+use Rattle.std.proofs.lemmas.Int.{ints}
+use Rattle.std.proofs.lemmas.List.Sums.{sum_by-cons}
+use Rattle.mp4_box.specs.Headers.{IsBytes, IsWhole}
+use Rattle.mp4_init.specs.declared.table.Track.{Track}
+use Rattle.mp4_run_order.proofs.OrderLemmas.{taken_permutes}
+use Rattle.mp4_frag.specs.Moofs.{IsRead, moof_runs}
+use Rattle.mp4_frag.specs.Working.Rereads.{run_of_row}
+use Rattle.mp4_frag.specs.RunLists.{taken_runs}
+use Rattle.mp4_frag.specs.Working.ListedRows.{IsListOf, ListedRows}
+use Rattle.mp4_frag.specs.Places.{listed_run}
+use Rattle.mp4_frag.specs.Runs.{MoofBytes}
+use Rattle.mp4_pieces.specs.Pieces.{AreRunsOf, IsRunOf}
+use Rattle.mp4_pieces.proofs.OrderLemmas.{runs_kept}
+use Rattle.mp4_pieces.proofs.RunLemmas.{runs_are}
+use Rattle.mp4_frag.specs.declared.rows.Cursor.{Cursor}
+use Rattle.mp4_frag.specs.declared.rows.Row.{Row}
+use Rattle.mp4_frag.specs.declared.run.Run.{Run}
+use Rattle.mp4_frag.specs.Laws.{past}
+use Rattle.mp4_frag.specs.Rows.{durations, sizes}
+use Rattle.mp4_machine.specs.Blocks.{Passes, Pending}
+use Rattle.mp4_grammar.specs.Samples.{sample_line, sample_lines, sample_of, samples_from, samples_of_run}
+use Rattle.mp4_pieces.specs.Working.Growing.{HasRoom}
+
+-- the line of one more sample was put
+pub next_line : (run : Run) (row : Row) (rest rows : List Row) (c : Cursor) (text line all : List ℕ) → rows ≡ row ∷ rest → line ≡ sample_line (sample_of run row c.time c.place) → text ++ sample_lines (samples_from run rows c.time c.place) ≡ all
+    → (text ++ line) ++ sample_lines (samples_from run rest (past c row).time (past c row).place) ≡ all
+next_line run row rest rows c text line all e is whole =
+    append_assoc text line (sample_lines (samples_from run rest (past c row).time (past c row).place))
+    ∙ ap (λ l. text ++ (l ++ sample_lines (samples_from run rest (past c row).time (past c row).place))) is
+    ∙ ap (λ l. text ++ sample_lines (samples_from run l c.time c.place)) (sym e) ∙ whole
+
+-- a row has room, and so has what is left behind it
+low_on : (z : ℤ) (n m all : ℕ) → n + m ≡ all → (z +ℤ pos all) <ℤ pos (2 ^ 63) → (z +ℤ pos n) <ℤ pos (2 ^ 63)
+low_on z n m all sum h = omega (arith, ints, sum, h)
+
+high_on : (z y : ℤ) (n m all : ℕ) → y ≡ z +ℤ pos n → n + m ≡ all → (z +ℤ pos all) <ℤ pos (2 ^ 63) → (y +ℤ pos m) <ℤ pos (2 ^ 63)
+high_on z y n m all e sum h = omega (arith, ints, e, sum, h)
+
+deep_on : (z y : ℤ) (n : ℕ) → y ≡ z +ℤ pos n → pos 0 ≤ℤ (z +ℤ pos (2 ^ 31)) → pos 0 ≤ℤ (y +ℤ pos (2 ^ 31))
+deep_on z y n e h = omega (arith, ints, e, h)
+
+module _ (c : Cursor) (row : Row) (rest rows : List Row) (e : rows ≡ row ∷ rest) (h : HasRoom c rows) where
+  more_ticks : durations rows ≡ row.duration + durations rest
+  more_ticks = ap durations e ∙ sum_by-cons (λ (r : Row). r.duration) row rest
+
+  more_bytes : sizes rows ≡ row.size + sizes rest
+  more_bytes = ap sizes e ∙ sum_by-cons (λ (r : Row). r.size) row rest
+
+  pub row_fits : c.row + 1 < 2 ^ 32
+  row_fits = omega (arith, h.row, ap length e)
+
+  pub time_fits : c.time + row.duration < 2 ^ 64
+  time_fits = omega (arith, h.time, more_ticks)
+
+  pub place_fits : (c.place +ℤ pos row.size) <ℤ pos (2 ^ 63)
+  place_fits = low_on c.place row.size (sizes rest) (sizes rows) (sym more_bytes) h.high
+
+  pub room_on : HasRoom (past c row) rest
+  room_on = record {
+    row = omega (arith, h.row, ap length e);
+    time = omega (arith, h.time, more_ticks);
+    low = deep_on c.place (past c row).place row.size refl h.low;
+    high = high_on c.place (past c row).place row.size (sizes rest) (sizes rows) refl (sym more_bytes) h.high;
+  }
+
+-- all rows were put
+pub put_all : (a b : Option (List ℕ)) (v w : Pending) (text all : List ℕ) (run : Run) (rows : List Row) (c : Cursor) → rows ≡ [] → text ++ sample_lines (samples_from run rows c.time c.place) ≡ all → Passes a b v w text → Passes a b v w all
+put_all a b v w text all run rows c none whole p =
+    subst (Passes a b v w) (sym (append-nil text) ∙ ap (λ l. text ++ sample_lines (samples_from run l c.time c.place)) (sym none) ∙ whole) p
+
+-- ---- run after run
+
+-- the lines of one more run were put
+pub next_run : (held : List ℕ) (taken : List Run) (i : ℕ) (run : Run) (text all : List ℕ) → i < length taken → run ≡ get_or taken i run → text ++ sample_lines (flat_map (samples_of_run held) (drop i taken)) ≡ all
+    → (text ++ sample_lines (samples_of_run held run)) ++ sample_lines (flat_map (samples_of_run held) (drop (i + 1) taken)) ≡ all
+next_run held taken i run text all h at whole =
+    let rest = flat_map (samples_of_run held) (drop (i + 1) taken) in
+    let one : suc i ≡ i + 1 = omega arith in
+    let next : drop i taken ≡ run ∷ drop (i + 1) taken = drop-cons taken i run h ∙ ap (λ r. r ∷ drop (suc i) taken) (sym at) ∙ ap (λ n. run ∷ drop n taken) one in
+    append_assoc text (sample_lines (samples_of_run held run)) (sample_lines rest)
+    ∙ ap (λ l. text ++ l) (sym (flat_map-append sample_line (samples_of_run held run) rest))
+    ∙ ap (λ l. text ++ sample_lines (flat_map (samples_of_run held) l)) (sym next) ∙ whole
+
+-- one of some runs that can be cut
+pub run_of_all : (held : List ℕ) (taken : List Run) (i : ℕ) (run : Run) → AreRunsOf held taken → i < length taken → run ≡ get_or taken i run → run.size < 2 ^ 32 → IsRunOf held run
+run_of_all held [] i run all h at small = absurd (omega arith)
+run_of_all held (x ∷ taken) zero run all h at small = subst (IsRunOf held) (sym at) (all.0 (subst (λ (r : Run). r.size < 2 ^ 32) at small))
+run_of_all held (x ∷ taken) (suc i) run all h at small = run_of_all held taken i run all.1 (omega arith) at small
+
+-- the runs of a moof that was read, in the order in which they are taken
+pub taken_are : (h : MoofBytes) (tracks : List Track) → h.offset + length h.bytes ≤ 2 ^ 62 → IsWhole h.bytes → IsBytes h.bytes → IsRead h tracks → AreRunsOf h.bytes (taken_runs h tracks)
+taken_are h tracks near whole fits read =
+    runs_kept h.bytes (moof_runs h tracks) (taken_runs h tracks) (taken_permutes listed_run (moof_runs h tracks)) (runs_are h tracks (omega (arith, near)) whole fits read)
+
+-- a list of them has as many rows
+pub rows_taken : (h : MoofBytes) (tracks : List Track) (l : ListedRows) → IsListOf h tracks l → length l.rows ≡ length (taken_runs h tracks)
+rows_taken h tracks l is = sym (length-map l.rows (run_of_row h tracks)) ∙ ap length is.runs

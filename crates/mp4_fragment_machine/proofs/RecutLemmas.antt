@@ -1,0 +1,402 @@
+-- What bytes of media bring that are recut.
+use Rattle.std.proofs.Common.{◌≡◌, ◌∙◌, ℕ, zero, suc, ◌+◌, ◌-◌, ◌<◌, ◌≤◌, ◌⊎◌, inl, inr, min, Bool, true, false, List, [], ◌∷◌, ◌++◌, length, length-append, length-take-le, take, drop, append-nil, Option, None, Some, ap, sym, refl, arith, subst}
+use Rattle.std.proofs.Math.Seq.{take-append-add}
+use Rattle.std.proofs.lemmas.Bool.{cases_lt, ltb-true, ltb-false}
+use Rattle.std.proofs.lemmas.List.{take_all, take-append-le}
+use Rattle.std.specs.Prelude.{nat_lt}
+use Rattle.mp4_box.specs.declared.headers.FourCc.{FourCc}
+use Rattle.mp4_ledger.specs.Memory.{Account, given_back}
+use Rattle.mp4_machine.specs.Accounts.{Counts, Spends}
+use Rattle.mp4_machine.specs.Bodies.{fault, least_end, longest, body_item, open_body_item}
+use Rattle.mp4_machine.specs.Pieces.{Outside, outside, Moves, GoesOn, Loses, Refuses}
+use Rattle.mp4_machine.specs.Readings.{moved, AtMost, Faulty, Reading, Effects, after, both, silent, greatest, most_of, plus, shifted, then_read}
+use Rattle.mp4_machine.specs.declared.tally.Tally.{Tally}
+use Rattle.mp4_machine.proofs.BlockLemmas.{BreaksMarked-longer}
+use Rattle.mp4_machine.proofs.MarkLemmas.{moved-none}
+use Rattle.mp4_machine.proofs.PieceLemmas.{back_to}
+use Rattle.mp4_fragment_machine.proofs.BodyLemmas.{Refuses-back}
+use Rattle.mp4_fragment_machine.proofs.HeldLemmas.{Moves-all_back}
+use Rattle.mp4_machine.proofs.AccountLemmas.{Counts-none, Counts-back, Spends-counts, Spends-more}
+use Rattle.mp4_machine.specs.Blocks.{BreaksMarked, Passes, PassesMarked, Pending}
+use Rattle.mp4_machine.proofs.ReadingAskLemmas.{plus-none}
+use Rattle.mp4_machine.proofs.BodyLemmas.{body-over, body-some, open-far, open-some}
+use Rattle.mp4_machine.proofs.ReadingLemmas.{after-both, after-silent, both-silent, then_read-told}
+use Rattle.std.specs.List.{AllByRecursion, sum_by}
+use Rattle.std.specs.Option.{option_or}
+use Rattle.mp4_box.specs.Headers.{HasRoom, header_at, need}
+use Rattle.mp4_box.specs.declared.headers.Header.{Header}
+use Rattle.mp4_box.specs.declared.rules.Rule.TheVariants.{StreamTooLong}
+use Rattle.mp4_box.specs.declared.headers.Size.{Size}
+use Rattle.mp4_box.specs.declared.headers.Size.TheVariants.{Exact, ToEnd}
+use Rattle.mp4_box.specs.declared.headers.Step.TheVariants as steps
+use Rattle.mp4_box.proofs.HeaderLemmas.{whole_is}
+use Rattle.mp4_init.specs.declared.table.Track.{Track}
+use Rattle.mp4_frag.specs.Moofs.{moof_samples, moof_trafs}
+use Rattle.mp4_frag.specs.declared.run.Run.{Run}
+use Rattle.mp4_pieces.specs.declared.cut.Cut.{Cut}
+use Rattle.mp4_pieces.specs.Pieces.{IsRunOf}
+use Rattle.mp4_recut.specs.Cursors.{CanCut}
+use Rattle.mp4_grammar.specs.Contexts.{Context, context, first_context, table_of}
+use Rattle.mp4_grammar.specs.Items.{context_after_fragment, end_of, fragment, media_body, reads_in, with_runs}
+use Rattle.mp4_grammar.specs.Kinds.{kind_in}
+use Rattle.mp4_grammar.specs.Meanings.{Fragment, Meaning, fragment_fault, needed_in, runs_in}
+use Rattle.mp4_grammar.specs.declared.kinds.Kind.TheVariants.{Mdat}
+use Rattle.mp4_recut.specs.Media.{Spot, playing, IsSettled, Tells, Plays, Lost}
+use Rattle.mp4_recut.specs.Parts.{Part, played, span_from}
+use Rattle.mp4_recut.specs.declared.next.Gap.{Gap}
+use Rattle.mp4_recut.specs.Splitting.{copied, is_dropped, parts_of, splitting}
+use Rattle.mp4_recut.proofs.MediaLemmas.{playing-quiet}
+use Rattle.mp4_fragment_machine.specs.Working.Recuts.{first_spot, in_media, with_fragments, with_samples}
+use Rattle.mp4_fragment_machine.specs.States.{claimed_in, moof_in, place_of}
+use Rattle.mp4_fragment_machine.specs.declared.state.Body.{Body}
+use Rattle.mp4_fragment_machine.specs.declared.state.State.TheVariants as states
+use Rattle.mp4_fragment_machine.specs.declared.state.Waiting.{Waiting}
+use Rattle.mp4_recut.specs.declared.media.Media.{Media}
+use Rattle.mp4_frag.specs.Settling.{settled}
+use Rattle.mp4_fragment_machine.specs.Places.{Behind, InBody, InHeader, InOpenBody, claim_of, reached_of, reads_at, standing}
+use Rattle.mp4_fragment_machine.proofs.SecondLemmas.{second-accepted}
+
+module _ (a b : Option (List ℕ)) (v w : Pending) (tally : Tally) (n : ℕ) where
+  tally_more : {t : Effects} → Tells a b v w tally.fragments n t → with_fragments tally n ≡ plus tally t.tally
+  tally_more {t = t} s =
+      let samples : tally.samples ≡ tally.samples + t.tally.samples = omega (arith, s.plain.samples) in
+      let media : tally.media_bytes ≡ tally.media_bytes + t.tally.media_bytes = omega (arith, s.plain.media) in
+      let walked : tally.walked ≡ tally.walked + t.tally.walked = omega (arith, s.plain.walked) in
+      ap (with_fragments tally) s.counted
+      ∙ ap (λ k. record { fragments = tally.fragments + t.tally.fragments; samples = k; media_bytes = tally.media_bytes; walked = tally.walked }) samples
+      ∙ ap (λ k. record { fragments = tally.fragments + t.tally.fragments; samples = tally.samples + t.tally.samples; media_bytes = k; walked = tally.walked }) media
+      ∙ ap (λ k. record { fragments = tally.fragments + t.tally.fragments; samples = tally.samples + t.tally.samples; media_bytes = tally.media_bytes + t.tally.media_bytes; walked = k }) walked
+
+  -- fragments alone were counted
+  pub Moves-tells : {t : Effects} (account : Account) (own : ℕ) → Tells a b v w tally.fragments n t → Moves (outside a v account tally) (outside b w account (with_fragments tally n)) own own t
+  Moves-tells account own s = record {
+    passes = s.passes;
+    counts = subst (λ k. Counts account account own own k) (sym (ap greatest s.plain.requests)) (Counts-none account own);
+    tallied = tally_more s;
+  }
+
+  module _ (meaning : Meaning) (at : ℕ) (kind : FourCc) (next : Context) (own : ℕ) (account : Account) where
+    GoesOn-plays : (left : ℕ) (p q : Spot) (x : List ℕ) → length x ≤ left → left ≤ next.at → Plays a b v w tally.fragments n p x q
+        → GoesOn (outside a v account tally) (outside b w account (with_fragments tally n)) (standing meaning (InBody (playing p) at kind next left own)) x (standing meaning (InBody (playing q) at kind next (left - length x) own))
+    GoesOn-plays left p q x h low g = record {
+      brought = g.effects;
+      moves = Moves-tells account own g.tells;
+      reached = omega (arith, h, low);
+      rest = body-some (reads_in meaning) at kind next (playing p) (playing q) g.effects x left g.rest h;
+    }
+
+    -- the first bytes of a piece, of which so many are of the body
+    pub GoesOn-recut : (left k most : ℕ) (p q : Spot) (piece : List ℕ) → k ≤ most → most ≤ left → most ≤ length piece → left ≤ next.at → Plays a b v w tally.fragments n p (take k (take most piece)) q
+        → GoesOn (outside a v account tally) (outside b w account (with_fragments tally n)) (standing meaning (InBody (playing p) at kind next left own)) (take k piece) (standing meaning (InBody (playing q) at kind next (left - k) own))
+    GoesOn-recut left k most p q piece h i j low g =
+        let len : length (take k piece) ≡ k = length-take-le k piece (omega (arith, h, j)) in
+        subst (λ l. GoesOn (outside a v account tally) (outside b w account (with_fragments tally n)) (standing meaning (InBody (playing p) at kind next left own)) (take k piece) (standing meaning (InBody (playing q) at kind next (left - l) own))) len
+        (GoesOn-plays left p q (take k piece) (omega (arith, len, h, i)) low (subst (λ l. Plays a b v w tally.fragments n p l q) (take-front k most piece h) g))
+      where
+        take-front : (n m : ℕ) (xs : List ℕ) → n ≤ m → take n (take m xs) ≡ take n xs
+        take-front zero m xs h = refl
+        take-front (suc n) zero xs h = absurd (omega (arith, h))
+        take-front (suc n) (suc m) [] h = refl
+        take-front (suc n) (suc m) (x ∷ xs) h = ap (λ l. x ∷ l) (take-front n m xs (omega (arith, h)))
+
+    -- what is told of a body comes first
+    body-first : (f : List ℕ → Effects) (left : ℕ) (bytes : List ℕ) → (more : Effects) × ((then_read (reads_in meaning) (body_item f at kind next left bytes)).effects ≡ both (f (take left bytes)) more)
+    body-first f left bytes = by (nat_lt (length bytes) left) refl
+      where
+        by : (u : Bool) → nat_lt (length bytes) left ≡ u → (more : Effects) × ((then_read (reads_in meaning) (body_item f at kind next left bytes)).effects ≡ both (f (take left bytes)) more)
+        by true e =
+            let short : length bytes < left = ltb-true _ _ e in
+            (silent, rw (e, take_all left bytes (omega (arith, short))) (sym (both-silent (f bytes))))
+        by false e = ((reads_in meaning next (drop left bytes)).effects, rw e refl)
+
+    Loses-first : (s more : Effects) (r : Reading) → r.effects ≡ both s more → own ≤ account.live → Lost a b v w tally.fragments n s → Loses (outside a v account tally) (outside b w (given_back account own) (with_fragments tally n)) own r
+    Loses-first s more r e low f =
+        let none : own - own ≡ 0 = omega arith in
+        let spent : Spends account (given_back account own) own 0 0 = subst (λ k. Spends account (given_back account own) own k 0) none (Spends-counts account (given_back account own) own (own - own) 0 (Counts-back account own own (omega arith) low)) in
+        record {
+          text = subst (λ t. BreaksMarked a b v w t.text t.marks) (sym e) (BreaksMarked-longer more.text more.marks f.text);
+          spends = Spends-more account (given_back account own) own 0 0 (most_of r.effects) (omega arith) spent;
+          least = record { fragments = f.least; samples = omega arith; media_bytes = omega arith; walked = omega arith };
+          most = subst (λ t. AtMost (with_fragments tally n) (plus tally t.tally)) (sym e) (record { fragments = omega (arith, f.most); samples = omega arith; media_bytes = omega arith; walked = omega arith });
+        }
+
+    pub Loses-recut : (left most : ℕ) (p : Spot) (piece later : List ℕ) → most ≡ min left (length piece) → own ≤ account.live → ((later : List ℕ) → Lost a b v w tally.fragments n (playing p (take most piece ++ later)))
+        → Loses (outside a v account tally) (outside b w (given_back account own) (with_fragments tally n)) own (reads_at meaning (InBody (playing p) at kind next left own) (piece ++ later))
+    Loses-recut left most p piece later e low f =
+        let first = body-first (playing p) left (piece ++ later) in
+        Loses-first (playing p (take left (piece ++ later))) first.0 (reads_at meaning (InBody (playing p) at kind next left own) (piece ++ later)) first.1 low
+        (subst (λ l. Lost a b v w tally.fragments n (playing p l)) (sym (front (cases_lt (length piece) left))) (f (take (left - length piece) later)))
+      where
+        front : (length piece < left) ⊎ (left ≤ length piece) → take left (piece ++ later) ≡ take most piece ++ take (left - length piece) later
+        front (inl short) =
+            let k : left ≡ length piece + (left - length piece) = omega (arith, short) in
+            let all : take most piece ≡ piece = take_all most piece (omega (arith, e, short)) in
+            ap (λ k. take k (piece ++ later)) k ∙ take-append-add piece later (left - length piece) ∙ ap (λ l. l ++ take (left - length piece) later) (sym all)
+        front (inr long) =
+            let none : left - length piece ≡ 0 = omega (arith, long) in
+            let m : left ≡ most = omega (arith, e, long) in
+            take-append-le left piece later long ∙ ap (λ k. take k piece) m ∙ sym (append-nil (take most piece)) ∙ ap (λ k. take most piece ++ take k later) (sym none)
+
+-- ---- an mdat is accepted, and its media begin
+
+module _ (cut : Cut) (c : Context) (tracks : List Track) (moof x : List ℕ) (h : Header) (len : length x ≡ need x) (is : header_at x ≡ steps.Whole h)
+    (near : least_end (c.at + length moof) h h.size ≤ longest) (mdat : kind_in h.kind.0 ≡ Mdat) (good : fragment_fault (splitting cut) (fragment c tracks moof h) ≡ None) where
+  abbrev begun_in : Fragment
+  begun_in = fragment c tracks moof h
+
+  abbrev behind_moof : ℕ
+  behind_moof = c.at + length moof
+
+  -- what is told as the heads are put
+  begins-told : (a b : Option (List ℕ)) (v w : Pending) (m n : ℕ) (q : Spot) (g : Plays a b v w m n (first_spot cut begun_in) [] q) (own : ℕ) (size : Size) (later : List ℕ)
+      → then_read (reads_in (splitting cut)) (media_body (splitting cut) begun_in behind_moof h size later) ≡ after g.effects (reads_at (splitting cut) (in_media cut begun_in q behind_moof h own size) later)
+  begins-told a b v w m n q g own (Exact s) later =
+      let e : s - h.header_len - 0 ≡ s - h.header_len = omega arith in
+      body-some (reads_in (splitting cut)) behind_moof h.kind (context_after_fragment (splitting cut) begun_in (behind_moof + s)) (playing (first_spot cut begun_in)) (playing q) g.effects [] (s - h.header_len) g.rest (omega arith) later
+      ∙ ap (λ k. after g.effects (then_read (reads_in (splitting cut)) (body_item (playing q) behind_moof h.kind (context_after_fragment (splitting cut) begun_in (behind_moof + s)) k later))) e
+  begins-told a b v w m n q g own ToEnd later =
+      let left = longest - (behind_moof + h.header_len) in
+      let e : left - 0 ≡ left = omega arith in
+      let d : needed_in begun_in - 0 ≡ needed_in begun_in = omega arith in
+      open-some (reads_in (splitting cut)) behind_moof h.kind (context_after_fragment (splitting cut) begun_in 0) (playing (first_spot cut begun_in)) (playing q) g.effects [] (needed_in begun_in) left g.rest (omega arith) later
+      ∙ ap (λ k. after g.effects (then_read (reads_in (splitting cut)) (open_body_item (playing q) behind_moof h.kind (needed_in begun_in - 0) k later))) e
+      ∙ ap (λ k. after g.effects (then_read (reads_in (splitting cut)) (open_body_item (playing q) behind_moof h.kind k left later))) d
+
+  reached-media : (q : Spot) (own : ℕ) (size : Size) → HasRoom size h.header_len → least_end behind_moof h size ≤ longest → reached_of (in_media cut begun_in q behind_moof h own size) ≡ behind_moof + length x
+  reached-media q own (Exact s) room fits = omega (arith, room, (whole_is x h is).1, len)
+  reached-media q own ToEnd room fits = omega (arith, fits, (whole_is x h is).1, len)
+
+  claim-media : (q : Spot) (own : ℕ) (size : Size) → claim_of (in_media cut begun_in q behind_moof h own size) ≡ own
+  claim-media q own (Exact s) = refl
+  claim-media q own ToEnd = refl
+
+  pub GoesOn-begun : (a b : Option (List ℕ)) (v w : Pending) (tally : Tally) (n : ℕ) (q : Spot) (account : Account) → HasRoom h.size h.header_len → Plays a b v w tally.fragments n (first_spot cut begun_in) [] q
+      → GoesOn (outside a v account tally) (outside b w account (with_samples begun_in tally n)) (standing (splitting cut) (Behind c tracks moof x)) []
+      (standing (splitting cut) (in_media cut begun_in q behind_moof h (with_runs c tracks moof) h.size))
+  GoesOn-begun a b v w tally n q account room g =
+      let meaning = splitting cut in
+      let own = with_runs c tracks moof in
+      let effects = both (meaning.accepted begun_in) g.effects in
+      record {
+        brought = effects;
+        moves = record {
+          passes = subst (PassesMarked a b v w g.effects.text) (sym (moved-none g.effects.marks)) g.tells.passes;
+          counts = subst (λ k. Counts account account own k (most_of effects)) (sym (claim-media q own h.size))
+              (subst (λ l. Counts account account own own (greatest (shifted (meaning.accepted begun_in) l))) (sym g.tells.plain.requests) (Counts-none account own));
+          tallied = counted;
+        };
+        reached = reached-media q own h.size room near ∙ omega arith;
+        rest = λ later.
+            ap (then_read (reads_in meaning)) (second-accepted meaning c tracks moof h x len is later near mdat good)
+            ∙ then_read-told (reads_in meaning) (meaning.accepted begun_in) (media_body meaning begun_in behind_moof h h.size later)
+            ∙ ap (after (meaning.accepted begun_in)) (begins-told a b v w tally.fragments n q g own h.size later)
+            ∙ after-both (meaning.accepted begun_in) g.effects (reads_at meaning (in_media cut begun_in q behind_moof h own h.size) later);
+      }
+    where
+      counted : with_samples begun_in tally n ≡ plus tally (plus ((splitting cut).accepted begun_in).tally g.effects.tally)
+      counted =
+          let fragments : n ≡ tally.fragments + (0 + g.effects.tally.fragments) = omega (arith, g.tells.counted) in
+          let samples : tally.samples + moof_samples begun_in.moof ≡ tally.samples + (moof_samples begun_in.moof + g.effects.tally.samples) = omega (arith, g.tells.plain.samples) in
+          let bytes = sum_by (λ (run : Run). run.bytes) (runs_in begun_in) in
+          let media : tally.media_bytes + bytes ≡ tally.media_bytes + (bytes + g.effects.tally.media_bytes) = omega (arith, g.tells.plain.media) in
+          let walked : tally.walked ≡ tally.walked + (0 + g.effects.tally.walked) = omega (arith, g.tells.plain.walked) in
+          ap (λ k. with_samples begun_in tally k) fragments
+          ∙ ap (λ k. record { fragments = tally.fragments + (0 + g.effects.tally.fragments); samples = k; media_bytes = tally.media_bytes + bytes; walked = tally.walked }) samples
+          ∙ ap (λ k. record { fragments = tally.fragments + (0 + g.effects.tally.fragments); samples = tally.samples + (moof_samples begun_in.moof + g.effects.tally.samples); media_bytes = k; walked = tally.walked }) media
+          ∙ ap (λ k. record { fragments = tally.fragments + (0 + g.effects.tally.fragments); samples = tally.samples + (moof_samples begun_in.moof + g.effects.tally.samples); media_bytes = tally.media_bytes + (bytes + g.effects.tally.media_bytes); walked = k }) walked
+
+  -- ---- a write failed as the heads were put
+
+  -- what is told of the mdat begins with what is told of some bytes of its payload
+  media-first : (size : Size) (l : List ℕ) → (y : List ℕ) × (more : Effects) × ((then_read (reads_in (splitting cut)) (media_body (splitting cut) begun_in behind_moof h size l)).effects ≡ both (played begun_in.payload.start (parts_of cut begun_in) y) more)
+  media-first (Exact s) l = by (nat_lt (length l) (s - h.header_len)) refl
+    where
+      by : (u : Bool) → nat_lt (length l) (s - h.header_len) ≡ u
+          → (y : List ℕ) × (more : Effects) × ((then_read (reads_in (splitting cut)) (media_body (splitting cut) begun_in behind_moof h (Exact s) l)).effects ≡ both (played begun_in.payload.start (parts_of cut begun_in) y) more)
+      by true e = (l, silent, rw e (sym (both-silent (played begun_in.payload.start (parts_of cut begun_in) l))))
+      by false e = (take (s - h.header_len) l, (reads_in (splitting cut) (context_after_fragment (splitting cut) begun_in (behind_moof + s)) (drop (s - h.header_len) l)).effects, rw e refl)
+  media-first ToEnd l = by (nat_lt (longest - (behind_moof + h.header_len)) (length l)) (nat_lt (length l) (needed_in begun_in)) refl refl
+    where
+      by : (u t : Bool) → nat_lt (longest - (behind_moof + h.header_len)) (length l) ≡ u → nat_lt (length l) (needed_in begun_in) ≡ t
+          → (y : List ℕ) × (more : Effects) × ((then_read (reads_in (splitting cut)) (media_body (splitting cut) begun_in behind_moof h ToEnd l)).effects ≡ both (played begun_in.payload.start (parts_of cut begun_in) y) more)
+      by true t e d = (take (longest - (behind_moof + h.header_len)) l, silent, rw e (sym (both-silent (played begun_in.payload.start (parts_of cut begun_in) (take (longest - (behind_moof + h.header_len)) l)))))
+      by false true e d = (l, silent, rw (e, d) (sym (both-silent (played begun_in.payload.start (parts_of cut begun_in) l))))
+      by false false e d = (l, silent, rw (e, d) (sym (both-silent (played begun_in.payload.start (parts_of cut begun_in) l))))
+
+  pub lost_first : (a b : Option (List ℕ)) (v w : Pending) (tally : Tally) (n own : ℕ) (account : Account) (s more : Effects) (r : Reading) → r.effects ≡ both ((splitting cut).accepted begun_in) (both s more) → own ≤ account.live → Lost a b v w tally.fragments n s
+      → Loses (outside a v account tally) (outside b w (given_back account own) (with_samples begun_in tally n)) own r
+  lost_first a b v w tally n own account s more r e low f =
+      let none : own - own ≡ 0 = omega arith in
+      let spent : Spends account (given_back account own) own 0 0 = subst (λ k. Spends account (given_back account own) own k 0) none (Spends-counts account (given_back account own) own (own - own) 0 (Counts-back account own own (omega arith) low)) in
+      record {
+        text = subst (λ t. BreaksMarked a b v w t.text t.marks) (sym e) (subst (BreaksMarked a b v w (s.text ++ more.text)) (sym (moved-none (s.marks ++ moved (length s.text) more.marks))) (BreaksMarked-longer more.text more.marks f.text));
+        spends = Spends-more account (given_back account own) own 0 0 (most_of r.effects) (omega arith) spent;
+        least = record { fragments = f.least; samples = omega arith; media_bytes = omega arith; walked = omega arith };
+        most = subst (λ t. AtMost (with_samples begun_in tally n) (plus tally t.tally)) (sym e) (record { fragments = omega (arith, f.most); samples = omega arith; media_bytes = omega arith; walked = omega arith });
+      }
+
+  pub Loses-begun : (a b : Option (List ℕ)) (v w : Pending) (tally : Tally) (n own : ℕ) (account : Account) → own ≤ account.live → ((y : List ℕ) → Lost a b v w tally.fragments n (played begun_in.payload.start (parts_of cut begun_in) y)) → (l : List ℕ)
+      → Loses (outside a v account tally) (outside b w (given_back account own) (with_samples begun_in tally n)) own ((standing (splitting cut) (Behind c tracks moof x)).reads l)
+  Loses-begun a b v w tally n own account low f l =
+      let meaning = splitting cut in
+      let first = media-first h.size l in
+      let reads : (standing meaning (Behind c tracks moof x)).reads l ≡ after (meaning.accepted begun_in) (then_read (reads_in meaning) (media_body meaning begun_in behind_moof h h.size l)) =
+      ap (then_read (reads_in meaning)) (second-accepted meaning c tracks moof h x len is l near mdat good) ∙ then_read-told (reads_in meaning) (meaning.accepted begun_in) (media_body meaning begun_in behind_moof h h.size l) in
+      lost_first a b v w tally n own account (played begun_in.payload.start (parts_of cut begun_in) first.0) first.1 ((standing meaning (Behind c tracks moof x)).reads l) (ap (λ r. r.effects) reads ∙ ap (both (meaning.accepted begun_in)) first.2) low (f first.0)
+
+-- ---- the mdat is done
+
+-- all of a body came that is recut, and what isn't needed any more was given back
+pub GoesOn-recut_over : (meaning : Meaning) (at : ℕ) (kind : FourCc) (o o' : Outside) (p : Spot) (next : Context) (left own : ℕ) → IsSettled p → left ≡ 0 → Moves o o' own (table_of next.tracks) silent
+    → GoesOn o o' (standing meaning (InBody (playing p) at kind next left own)) [] (standing meaning (InHeader next []))
+GoesOn-recut_over meaning at kind o o' p next left own settled e m = record {
+  brought = silent;
+  moves = m;
+  reached = omega (arith, e);
+  rest = λ later. body-over (reads_in meaning) at kind next (playing p) left later e (playing-quiet p settled) ∙ sym (after-silent (reads_in meaning next later));
+}
+
+-- ---- a box of another type is copied, or left out
+
+both-copied : (t : Bool) (x y : List ℕ) → copied t (x ++ y) ≡ both (copied t x) (copied t y)
+both-copied true x y = refl
+both-copied false x y = refl
+
+most-copied : (t : Bool) (x : List ℕ) → most_of (copied t x) ≡ 0
+most-copied true x = refl
+most-copied false x = refl
+
+tally-copied : (t : Bool) (x : List ℕ) (tally : Tally) → tally ≡ plus tally (copied t x).tally
+tally-copied true x tally = sym (plus-none tally)
+tally-copied false x tally = sym (plus-none tally)
+
+marks-copied : (t : Bool) (x : List ℕ) → (copied t x).marks ≡ []
+marks-copied true x = refl
+marks-copied false x = refl
+
+-- bytes of it came, and went to the block where it is copied
+pub GoesOn-copied : (cut : Cut) (type kind : FourCc) (at : ℕ) (a b : Option (List ℕ)) (v w : Pending) (account : Account) (tally : Tally) (next : Context) (x : List ℕ) (left own : ℕ) → length x ≤ left → left ≤ next.at
+    → Passes a b v w (copied (is_dropped type.0) x).text
+    → GoesOn (outside a v account tally) (outside b w account tally) (standing (splitting cut) (InBody ((splitting cut).passed type) at kind next left own)) x (standing (splitting cut) (InBody ((splitting cut).passed type) at kind next (left - length x) own))
+GoesOn-copied cut type kind at a b v w account tally next x left own h low p =
+    let t = is_dropped type.0 in
+    record {
+      brought = copied t x;
+      moves = record {
+        passes = subst (PassesMarked a b v w (copied t x).text) (sym (marks-copied t x)) p;
+        counts = subst (λ k. Counts account account own own k) (sym (most-copied t x)) (Counts-none account own);
+        tallied = tally-copied t x tally;
+      };
+      reached = omega (arith, h, low);
+      rest = body-some (reads_in (splitting cut)) at kind next (copied t) (copied t) (copied t x) x left (λ later. both-copied t x later) h;
+    }
+
+-- ---- nothing was put yet
+
+-- a span of no bytes is nowhere: what is put from there on is put from the first spot on
+pub Plays-first : (cut : Cut) (f : Fragment) (a b : Option (List ℕ)) (v w : Pending) (m n : ℕ) (g : Gap) (ps : List Part) (q : Spot) → g.left ≡ 0 → ps ≡ parts_of cut f
+    → Plays a b v w m n (record { at = f.payload.start; place = g.place; left = g.left; parts = ps }) [] q → Plays a b v w m n (first_spot cut f) [] q
+Plays-first cut f a b v w m n g ps q none all plays = record {
+  effects = plays.effects;
+  tells = plays.tells;
+  rest = λ later.
+      ap (λ l. played f.payload.start l later) (sym all)
+      ∙ ap (λ k. span_from f.payload.start g.place k (λ next rest. played next ps rest) later) (sym none)
+      ∙ plays.rest later;
+}
+
+pub Lost-first : (cut : Cut) (f : Fragment) (a b : Option (List ℕ)) (v w : Pending) (m n : ℕ) (g : Gap) (ps : List Part) → g.left ≡ 0 → ps ≡ parts_of cut f
+    → ((later : List ℕ) → Lost a b v w m n (playing (record { at = f.payload.start; place = g.place; left = g.left; parts = ps }) later)) → (y : List ℕ) → Lost a b v w m n (played f.payload.start (parts_of cut f) y)
+Lost-first cut f a b v w m n g ps none all lost y =
+    subst (λ t. Lost a b v w m n t) (ap (λ k. span_from f.payload.start g.place k (λ next rest. played next ps rest) y) none ∙ ap (λ l. played f.payload.start l y) all) (lost y)
+
+-- ---- an mdat that goes to the end of the stream
+
+module _ (a b : Option (List ℕ)) (v w : Pending) (tally : Tally) (n : ℕ) (meaning : Meaning) (at : ℕ) (kind : FourCc) (own : ℕ) (account : Account) where
+  GoesOn-open_plays : (needed left : ℕ) (p q : Spot) (x : List ℕ) → length x ≤ left → left ≤ longest → Plays a b v w tally.fragments n p x q
+      → GoesOn (outside a v account tally) (outside b w account (with_fragments tally n)) (standing meaning (InOpenBody (playing p) at kind needed left own)) x (standing meaning (InOpenBody (playing q) at kind (needed - length x) (left - length x) own))
+  GoesOn-open_plays needed left p q x h low g = record {
+    brought = g.effects;
+    moves = Moves-tells a b v w tally n account own g.tells;
+    reached = omega (arith, h, low);
+    rest = open-some (reads_in meaning) at kind first_context (playing p) (playing q) g.effects x needed left g.rest h;
+  }
+
+  -- the first bytes of a piece, of which so many may come
+  pub GoesOn-open_recut : (needed left k most : ℕ) (p q : Spot) (piece : List ℕ) → k ≤ most → most ≤ left → most ≤ length piece → left ≤ longest → Plays a b v w tally.fragments n p (take k (take most piece)) q
+      → GoesOn (outside a v account tally) (outside b w account (with_fragments tally n)) (standing meaning (InOpenBody (playing p) at kind needed left own)) (take k piece) (standing meaning (InOpenBody (playing q) at kind (needed - k) (left - k) own))
+  GoesOn-open_recut needed left k most p q piece h i j low g =
+      let len : length (take k piece) ≡ k = length-take-le k piece (omega (arith, h, j)) in
+      subst (λ l. GoesOn (outside a v account tally) (outside b w account (with_fragments tally n)) (standing meaning (InOpenBody (playing p) at kind needed left own)) (take k piece) (standing meaning (InOpenBody (playing q) at kind (needed - l) (left - l) own))) len
+      (GoesOn-open_plays needed left p q (take k piece) (omega (arith, len, h, i)) low (subst (λ l. Plays a b v w tally.fragments n p l q) (take-front k most piece h) g))
+    where
+      take-front : (n m : ℕ) (xs : List ℕ) → n ≤ m → take n (take m xs) ≡ take n xs
+      take-front zero m xs h = refl
+      take-front (suc n) zero xs h = absurd (omega (arith, h))
+      take-front (suc n) (suc m) [] h = refl
+      take-front (suc n) (suc m) (x ∷ xs) h = ap (λ l. x ∷ l) (take-front n m xs (omega (arith, h)))
+
+  -- what is told of it is told of its first bytes, as many as may come
+  open-first : (f : List ℕ → Effects) (needed left : ℕ) (bytes : List ℕ) → (then_read (reads_in meaning) (open_body_item f at kind needed left bytes)).effects ≡ f (take left bytes)
+  open-first f needed left bytes = by (nat_lt left (length bytes)) (nat_lt (length bytes) needed) refl refl
+    where
+      by : (u t : Bool) → nat_lt left (length bytes) ≡ u → nat_lt (length bytes) needed ≡ t → (then_read (reads_in meaning) (open_body_item f at kind needed left bytes)).effects ≡ f (take left bytes)
+      by true t e d = rw e refl
+      by false true e d =
+          let all : bytes ≡ take left bytes = sym (take_all left bytes (ltb-false _ _ e)) in
+          rw (e, d) (ap f all)
+      by false false e d =
+          let all : bytes ≡ take left bytes = sym (take_all left bytes (ltb-false _ _ e)) in
+          rw (e, d) (ap f all)
+
+  pub Loses-open_recut : (needed left most : ℕ) (p : Spot) (piece later : List ℕ) → most ≡ min left (length piece) → own ≤ account.live → ((later : List ℕ) → Lost a b v w tally.fragments n (playing p (take most piece ++ later)))
+      → Loses (outside a v account tally) (outside b w (given_back account own) (with_fragments tally n)) own (reads_at meaning (InOpenBody (playing p) at kind needed left own) (piece ++ later))
+  Loses-open_recut needed left most p piece later e low f =
+      let s = playing p (take left (piece ++ later)) in
+      Loses-first a b v w tally n meaning at kind first_context own account s silent (reads_at meaning (InOpenBody (playing p) at kind needed left own) (piece ++ later))
+      (open-first (playing p) needed left (piece ++ later) ∙ sym (both-silent s)) low
+      (subst (λ l. Lost a b v w tally.fragments n (playing p l)) (sym (front (cases_lt (length piece) left))) (f (take (left - length piece) later)))
+    where
+      front : (length piece < left) ⊎ (left ≤ length piece) → take left (piece ++ later) ≡ take most piece ++ take (left - length piece) later
+      front (inl short) =
+          let k : left ≡ length piece + (left - length piece) = omega (arith, short) in
+          let all : take most piece ≡ piece = take_all most piece (omega (arith, e, short)) in
+          ap (λ k. take k (piece ++ later)) k ∙ take-append-add piece later (left - length piece) ∙ ap (λ l. l ++ take (left - length piece) later) (sym all)
+      front (inr long) =
+          let none : left - length piece ≡ 0 = omega (arith, long) in
+          let m : left ≡ most = omega (arith, e, long) in
+          take-append-le left piece later long ∙ ap (λ k. take k piece) m ∙ sym (append-nil (take most piece)) ∙ ap (λ k. take most piece ++ take k later) (sym none)
+
+-- no more may come, and some byte does: all was told before
+pub open-far_recut : (meaning : Meaning) (at : ℕ) (kind : FourCc) (p : Spot) (needed own : ℕ) (bytes : List ℕ) → IsSettled p → 0 < length bytes
+    → reads_at meaning (InOpenBody (playing p) at kind needed 0 own) bytes ≡ record { effects = silent; outcome = Faulty (fault StreamTooLong (Some kind) at) }
+open-far_recut meaning at kind p needed own bytes settled some =
+    open-far (reads_in meaning) at kind first_context (playing p) needed 0 bytes some ∙ ap (λ t. record { effects = t; outcome = Faulty (fault StreamTooLong (Some kind) at) }) (playing-quiet p settled)
+
+-- it goes too far, and its moof with the list and the table are given back
+pub Refuses-open_recut : (meaning : Meaning) (at : ℕ) (kind : FourCc) (o : Outside) (needed own : ℕ) (p : Spot) (x more : List ℕ) (table n : ℕ) → IsSettled p → 0 < length x → own ≡ table + n → own ≤ o.account.live
+    → Refuses o (back_to (back_to o n) table) (standing meaning (InOpenBody (playing p) at kind needed 0 own)) (x ++ more) (fault StreamTooLong (Some kind) at)
+Refuses-open_recut meaning at kind o needed own p x more table n settled some e low =
+    Refuses-back o (back_to (back_to o n) table) (standing meaning (InOpenBody (playing p) at kind needed 0 own)) x more (fault StreamTooLong (Some kind) at)
+    (subst (λ k. Moves o (back_to (back_to o n) table) k 0 silent) (sym e) (Moves-all_back o table n (omega (arith, e, low))))
+    (λ later. open-far_recut meaning at kind p needed own (x ++ later) settled (omega (arith, some, length-append x later)))
+
+-- ---- the media of an accepted fragment ascend
+
+-- a fragment without a fault has none by the places of its runs
+pub none-first : {X : Type 0} (a b : Option X) → option_or a b ≡ None → a ≡ None
+none-first None b e = refl
+none-first (Some x) b e = absurd (cc)
+
+-- its payload ends no earlier than it begins
+pub room-in : (at n : ℕ) (size : Size) (end : ℕ) → HasRoom size n → end_of at size ≡ Some end → at + n ≤ end
+room-in at n (Exact s) end room e = let same : at + s ≡ end = some-same e in omega (arith, room, same)
+  where
+    some-same : {a b : ℕ} → Some a ≡ Some b → a ≡ b
+    some-same e = cc
+room-in at n ToEnd end room e = absurd (cc)
+
+-- runs whose pieces can be written are runs of their moof
+pub all-runs : (cut : Cut) (held : List ℕ) (runs : List Run) → AllByRecursion (CanCut cut held) runs → AllByRecursion (IsRunOf held) runs
+all-runs cut held [] all = tt
+all-runs cut held (run ∷ runs) all = (all.0.is, all-runs cut held runs all.1)

@@ -1,0 +1,386 @@
+-- What a fragment brings of which a piece has all, and which is recut.
+use Rattle.std.proofs.Common.{◌≡◌, ◌∙◌, ℕ, ◌+◌, ◌-◌, ◌*◌, ◌<◌, ◌≤◌, ◌^◌, pos, Bool, true, false, List, [], ◌∷◌, ◌++◌, length, length-append, length-take-le, take, take-append-drop, drop, append-nil, append_assoc, Option, None, Some, ap, sym, refl, arith, subst}
+use Rattle.std.specs.Prelude.{◌≤ℤ◌, IfSome}
+use Rattle.std.specs.List.{sum_by}
+use Rattle.std.specs.Option.{option_or}
+use Rattle.std.proofs.Math.Seq.{drop-append_seam, take-append_seam}
+use Rattle.std.proofs.lemmas.List.{length-drop}
+use Rattle.std.proofs.lemmas.List.Sums.{sum_by-cons}
+use Rattle.mp4_box.specs.declared.headers.FourCc.{FourCc}
+use Rattle.mp4_box.specs.declared.headers.Header.{Header}
+use Rattle.mp4_box.specs.declared.headers.Size.TheVariants.{Exact}
+use Rattle.mp4_box.specs.declared.headers.Step.TheVariants as steps
+use Rattle.mp4_box.specs.Headers.{HasRoom, header_at}
+use Rattle.mp4_box.proofs.HeaderLemmas.{room_of}
+use Rattle.mp4_init.specs.declared.table.Track.{Track}
+use Rattle.mp4_frag.specs.Moofs.{moof_runs, moof_trafs}
+use Rattle.mp4_frag.specs.Places.{place_fault}
+use Rattle.mp4_frag.specs.Runs.{end_place, moof_at}
+use Rattle.mp4_frag.specs.Settling.{settled}
+use Rattle.mp4_frag.specs.declared.lone.LoneRun.{LoneRun}
+use Rattle.mp4_frag.specs.declared.run.Run.{Run}
+use Rattle.mp4_frag.proofs.SettleLemmas.{settled_length}
+use Rattle.mp4_ledger.specs.Memory.{Account, claimed, given_back}
+use Rattle.mp4_pieces.specs.declared.cut.Cut.{Cut}
+use Rattle.mp4_pieces.specs.Pieces.{piece_count, pieces_of}
+use Rattle.mp4_pieces.specs.declared.piece.Piece.{Piece}
+use Rattle.mp4_pieces.specs.Rooms.{room_fault, room_faults}
+use Rattle.mp4_pieces.proofs.FitsLemmas.{room_to}
+use Rattle.mp4_machine.specs.Bodies.{least_end, longest, body_item}
+use Rattle.mp4_machine.specs.Blocks.{BreaksMarked, PassesMarked, Pending}
+use Rattle.mp4_machine.specs.Pieces.{GoesOn, Loses, Moves, Outside, Standing, StopsAt, outside}
+use Rattle.mp4_machine.specs.Readings.{Effects, after, both, silent, then_read}
+use Rattle.mp4_machine.specs.declared.stop.Stop.TheVariants.{Write}
+use Rattle.mp4_machine.specs.declared.tally.Tally.{Tally}
+use Rattle.mp4_machine.proofs.BlockLemmas.{Passes-none}
+use Rattle.mp4_machine.proofs.BodyLemmas.{nat_lt_false}
+use Rattle.mp4_machine.proofs.PieceLemmas.{GoesOn-silent, GoesOn-take_more, StopsAt-take_more}
+use Rattle.mp4_machine.proofs.ReadingLemmas.{silent-both, then_read-told}
+use Rattle.mp4_grammar.specs.Contexts.{Context, context, table_of}
+use Rattle.mp4_grammar.specs.Items.{context_after_fragment, end_of, fragment, media_body, reads_in, walked, with_runs}
+use Rattle.mp4_grammar.specs.Meanings.{Fragment, Meaning, fragment_fault, runs_in}
+use Rattle.mp4_recut.specs.Media.{Lost, Plays, Spot, playing}
+use Rattle.mp4_machine.specs.declared.mark.Mark.{Mark}
+use Rattle.mp4_recut.specs.Parts.{Ascends, Part, marks_in, slices, fragments_effects}
+use Rattle.mp4_recut.proofs.PartLemmas.{told_all}
+use Rattle.mp4_recut.specs.Splitting.{parts_of, run_parts, runs_parts, splitting, timescale_of}
+use Rattle.mp4_recut.proofs.AscendLemmas.{runs_ascend}
+use Rattle.mp4_recut.proofs.FragmentLemmas.{some_samples}
+use Rattle.mp4_recut.proofs.PartLemmas.{played-slices}
+use Rattle.mp4_recut.proofs.RoomLemmas.{no_fault, room_for_samples, run_length}
+use Rattle.mp4_fragment_machine.specs.Places.{Behind, InBody, InHeader, standing}
+use Rattle.mp4_fragment_machine.specs.Working.Recuts.{first_spot, in_media, with_samples}
+use Rattle.mp4_fragment_machine.specs.States.{IsCounted, cut_least, cut_most, cut_reads}
+use Rattle.mp4_fragment_machine.specs.declared.state.Counter.{Counter}
+use Rattle.mp4_recut.specs.declared.plan.Plan.TheVariants as plans
+use Rattle.mp4_fragment_machine.specs.Working.Wholes.{IsFragment, media_in, media_start, payload_in}
+use Rattle.mp4_fragment_machine.specs.declared.whole_fragment.Boxes.{Boxes}
+use Rattle.mp4_machine.specs.Accounts.{Counts}
+use Rattle.mp4_fragment_machine.proofs.SecondLemmas.{second-accepted}
+use Rattle.mp4_fragment_machine.proofs.BodyLemmas.{Moves-settled, back_twice}
+use Rattle.mp4_fragment_machine.proofs.FragmentLemmas.{BoxesFit, boxes_fit, lies, media_fits, moof_len, one_taken, payload_same, run_is}
+use Rattle.mp4_fragment_machine.proofs.RecutLemmas.{GoesOn-begun, lost_first}
+use Rattle.mp4_fragment_machine.proofs.TakeLemmas.{GoesOn-then, HeadFront, head_front}
+use Rattle.mp4_fragment_machine.proofs.WholeLemmas.{GoesOn-moof_whole, back_at_once, claimed_at_once, front_is, listed}
+use Rattle.mp4_init.specs.Tracks.{with_next}
+
+-- nothing was told yet
+pub Plays-none : (a : Option (List ℕ)) (v : Pending) (n : ℕ) (p : Spot) → Plays a a v v n n p [] p
+Plays-none a v n p = record {
+  effects = silent;
+  tells = record {
+    plain = record { requests = refl; samples = refl; media = refl; walked = refl };
+    passes = Passes-none a v;
+    counted = omega arith;
+  };
+  rest = λ later. sym (silent-both (playing p later));
+}
+
+-- a tally by its parts
+tally_is : (t : Tally) {a b c d : ℕ} → t.fragments ≡ a → t.samples ≡ b → t.media_bytes ≡ c → t.walked ≡ d → t ≡ record { fragments = a; samples = b; media_bytes = c; walked = d }
+tally_is t {a = a} {b = b} {c = c} {d = d} e f g h =
+    ap (λ k. record { fragments = k; samples = t.samples; media_bytes = t.media_bytes; walked = t.walked }) e
+    ∙ ap (λ k. record { fragments = a; samples = k; media_bytes = t.media_bytes; walked = t.walked }) f
+    ∙ ap (λ k. record { fragments = a; samples = b; media_bytes = k; walked = t.walked }) g
+    ∙ ap (λ k. record { fragments = a; samples = b; media_bytes = c; walked = k }) h
+
+-- what is told of a body of which all came
+pub body-all : (meaning : Meaning) (tell : List ℕ → Effects) (at : ℕ) (kind : FourCc) (next : Context) (x later : List ℕ) → then_read (reads_in meaning) (body_item tell at kind next (length x) (x ++ later)) ≡ after (tell x) (reads_in meaning next later)
+body-all meaning tell at kind next x later =
+    rw (nat_lt_false (length (x ++ later)) (length x) (omega (arith, length-append x later)), take-append_seam x later, drop-append_seam x later) refl
+
+-- all of a body came, and what isn't needed any more was given back
+pub GoesOn-all : (meaning : Meaning) (at : ℕ) (kind : FourCc) (o o' : Outside) (p : Spot) (next : Context) (own : ℕ) (x : List ℕ) → length x ≤ next.at → Moves o o' own (table_of next.tracks) (playing p x)
+    → GoesOn o o' (standing meaning (InBody (playing p) at kind next (length x) own)) x (standing meaning (InHeader next []))
+GoesOn-all meaning at kind o o' p next own x low m = record {
+  brought = playing p x;
+  moves = m;
+  reached = omega (arith, low);
+  rest = λ later. body-all meaning (playing p) at kind next x later;
+}
+
+module _ (cut : Cut) (o : Outside) (at : ℕ) (tracks : List Track) (piece : List ℕ) (b : Boxes) (l : LoneRun) (is : IsFragment at tracks piece b l) (plain : cut.index ≡ false) (few : o.tally.fragments + 1 + l.run.count ≤ 4294967296) (low : 64 * length tracks ≤ o.account.live) where
+  abbrev m : List ℕ
+  m = b.moof.now
+
+  abbrev x : List ℕ
+  x = drop (length b.moof.now) piece
+
+  abbrev number : ℕ
+  number = o.tally.fragments + 1
+
+  abbrev c : Context
+  c = context at (Some tracks) (o.tally.fragments + 1)
+
+  abbrev h : Header
+  h = is.boxes.moof.header
+
+  abbrev g : Header
+  g = is.boxes.mdat.header
+
+  abbrev f : Fragment
+  f = fragment (context at (Some tracks) (o.tally.fragments + 1)) tracks b.moof.now is.boxes.mdat.header
+
+  abbrev s : ℕ
+  s = b.mdat.size
+
+  abbrev end : ℕ
+  end = at + length b.moof.now + b.mdat.size
+
+  abbrev pieces : List Piece
+  pieces = pieces_of cut b.moof.now l.run
+
+  abbrev payload : List ℕ
+  payload = take (b.mdat.size - is.boxes.mdat.header.header_len) (drop is.boxes.mdat.header.header_len (drop (length b.moof.now) piece))
+
+  abbrev parts : List Part
+  parts = run_parts cut b.moof.now l.run (timescale_of tracks l.run.track) 0 (o.tally.fragments + 1) (pieces_of cut b.moof.now l.run)
+
+  -- what is put, and where moofs end in it
+  abbrev pub put : List ℕ
+  put = slices (media_start at b) (media_in piece b) (run_parts cut b.moof.now l.run (timescale_of tracks l.run.track) 0 (o.tally.fragments + 1) (pieces_of cut b.moof.now l.run))
+
+  abbrev pub marks : List Mark
+  marks = marks_in (media_start at b) (media_in piece b) (run_parts cut b.moof.now l.run (timescale_of tracks l.run.track) 0 (o.tally.fragments + 1) (pieces_of cut b.moof.now l.run))
+
+  fit : BoxesFit at piece b
+  fit = boxes_fit at piece b is.boxes
+
+  head_is : g.header_len ≡ b.mdat.header_len
+  head_is = is.boxes.mdat.head
+
+  -- ---- it is accepted
+
+  placed : place_fault f.payload (moof_runs f.moof f.tracks) ≡ None
+  placed = ap (λ p. place_fault p (moof_runs (moof_at m at) tracks)) (payload_same at tracks piece b l is) ∙ ap (place_fault (payload_in (at + is.boxes.span.size) b.mdat)) is.lone.run ∙ is.stands
+
+  has_room : room_fault cut f.moof (moof_runs f.moof f.tracks) number ≡ None
+  has_room =
+      let runs = moof_runs f.moof f.tracks in
+      sym (no_fault (room_faults cut f.moof runs number) (room_to cut f.moof runs number (room_for_samples cut f.moof tracks number plain (omega (arith, few, is.lone.samples)))))
+
+  good : fragment_fault (splitting cut) f ≡ None
+  good = ap (λ e. option_or e (room_fault cut f.moof (moof_runs f.moof f.tracks) number)) placed ∙ has_room
+
+  -- ---- what is told of its media
+
+  taken : runs_in f ≡ l.run ∷ []
+  taken = one_taken (moof_at m at) tracks l is.lone
+
+  all_parts : parts_of cut f ≡ parts
+  unfolding runs_parts
+  all_parts = ap (runs_parts cut m tracks number) taken ∙ append-nil parts
+
+  ends : f.payload.end ≡ Some end
+  ends = ap (end_of (at + length m)) is.boxes.mdat.sized
+
+  len : length payload ≡ s - g.header_len
+  len = length-take-le (s - g.header_len) (drop g.header_len x) (omega (arith, head_is, fit.head, fit.whole, length-drop g.header_len x, length-drop (length m) piece))
+
+  lie : 0 < l.run.bytes → (pos f.payload.start ≤ℤ l.run.place) × (end_place l.run ≤ℤ pos end)
+  lie some =
+      let stands : place_fault f.payload (l.run ∷ []) ≡ None = ap (place_fault f.payload) (sym is.lone.run) ∙ placed in
+      let in_it = lies f.payload l.run stands (some_samples m l.run (run_is at tracks piece b l is) some) in
+      (in_it.from, subst (λ (e : Option ℕ). IfSome e (λ n. end_place l.run ≤ℤ pos n)) ends in_it.to)
+
+  ascends : Ascends f.payload.start end (parts_of cut f)
+  ascends =
+      subst (λ (runs : List Run). Ascends f.payload.start end (runs_parts cut m tracks number runs)) (sym taken)
+      (runs_ascend cut m tracks number f.payload.start end (l.run ∷ []) (omega (arith, head_is, fit.head)) (run_is at tracks piece b l is, tt) (lie, tt) (tt, tt))
+
+  effects : playing (first_spot cut f) payload ≡ fragments_effects put marks (length pieces)
+  effects =
+      let last : end ≡ f.payload.start + length payload = omega (arith, len, head_is, fit.head) in
+      let begins : f.payload.start ≡ media_start at b = omega (arith, head_is) in
+      let same : payload ≡ media_in piece b = ap (λ k. take (s - k) (drop k x)) head_is in
+      played-slices f.payload.start payload (parts_of cut f) (subst (λ e. Ascends f.payload.start e (parts_of cut f)) last ascends)
+      ∙ ap (told_all f.payload.start payload) all_parts
+      ∙ ap (λ k. told_all k payload parts) begins
+      ∙ ap (λ z. told_all (media_start at b) z parts) same
+      ∙ ap (fragments_effects put marks) (run_length cut m l.run (timescale_of tracks l.run.track) 0 number pieces)
+
+  counted : (splitting cut).numbered f ≡ number + length pieces
+  counted = omega (arith, ap (piece_count cut m) taken, sum_by-cons (λ (r : Run). length (pieces_of cut m r)) l.run [])
+
+  -- ---- its boxes, one behind the other
+
+  moof_len_is : length m ≡ is.boxes.span.size
+  moof_len_is = moof_len at piece b is.boxes
+
+  front : m ≡ take (length m) piece
+  front = is.boxes.bytes ∙ ap (λ k. take k piece) (sym moof_len_is)
+
+  within : length m ≤ length piece
+  within = omega (arith, moof_len_is, is.boxes.moof.whole)
+
+  sized : h.size ≡ Exact (length m)
+  sized = is.boxes.moof.sized ∙ ap Exact (sym moof_len_is)
+
+  begins_moof : header_at m ≡ steps.Whole h
+  begins_moof = front_is m piece h front is.boxes.moof.is (subst (λ z. HasRoom z h.header_len) sized (room_of piece h is.boxes.moof.is)) within
+
+  abbrev listed_of : Outside
+  listed_of = listed (splitting cut) number o at tracks h m begins_moof is.boxes.moof.is_kind sized (omega (arith, moof_len_is, is.boxes.most)) (omega (arith, fit.near)) is.lone.read low
+
+  abbrev starts : Standing
+  starts = standing (splitting cut) (InHeader c [])
+
+  abbrev waits : List ℕ → Standing
+  waits y = standing (splitting cut) (Behind c tracks m y)
+
+  to_behind : GoesOn o listed_of starts (take (length m) piece) (waits [])
+  to_behind =
+      subst (λ y. GoesOn o listed_of starts y (waits [])) front
+      (GoesOn-moof_whole (splitting cut) number o at tracks h m begins_moof is.boxes.moof.is_kind sized (omega (arith, moof_len_is, is.boxes.most)) (omega (arith, fit.near)) is.lone.read low)
+
+  behind : header_at x ≡ steps.Whole g
+  behind = ap (λ k. header_at (drop k piece)) moof_len_is ∙ is.boxes.mdat.is
+
+  abbrev mdat_head : List ℕ
+  mdat_head = take g.header_len x
+
+  fore : HeadFront x g
+  fore = head_front x g behind
+
+  to_head : GoesOn listed_of listed_of (waits []) mdat_head (waits mdat_head)
+  to_head = GoesOn-silent listed_of (waits []) (waits mdat_head) mdat_head refl (omega arith) (λ later. refl)
+
+  fits : least_end (at + length m) g g.size ≤ longest
+  fits = subst (λ z. least_end (at + length m) g z ≤ longest) (sym is.boxes.mdat.sized) fit.near
+
+  abbrev own : ℕ
+  own = with_runs c tracks m
+
+  low_claim : own ≤ listed_of.account.live
+  low_claim = omega (arith, low)
+
+  abbrev accepted_of : Outside
+  accepted_of = outside listed_of.written listed_of.waiting listed_of.account (with_samples f listed_of.tally listed_of.tally.fragments)
+
+  abbrev behind_it : Context
+  behind_it = context_after_fragment (splitting cut) f (at + length m + s)
+
+  abbrev body : ℕ → Standing
+  body left = standing (splitting cut) (InBody (playing (first_spot cut f)) (at + length m) g.kind behind_it left own)
+
+  to_body : GoesOn listed_of accepted_of (waits mdat_head) [] (body (length payload))
+  to_body =
+      subst (λ k. GoesOn listed_of accepted_of (waits mdat_head) [] (body k)) (sym len)
+      (subst (λ z. GoesOn listed_of accepted_of (waits mdat_head) [] (standing (splitting cut) (in_media cut f (first_spot cut f) (at + length m) g own z))) is.boxes.mdat.sized
+      (GoesOn-begun cut c tracks m mdat_head g fore.len fore.is fits is.boxes.mdat.is_kind good listed_of.written listed_of.written listed_of.waiting listed_of.waiting listed_of.tally listed_of.tally.fragments (first_spot cut f) listed_of.account (room_of x g behind)
+      (Plays-none listed_of.written listed_of.waiting listed_of.tally.fragments (first_spot cut f))))
+
+  module _ (u : Option (List ℕ)) (v : Pending) (a : Account) (t : Tally) (account : a ≡ given_back (claimed o.account (length b.moof.now + 64)) (length b.moof.now + 64))
+      (samples : t.samples ≡ o.tally.samples + l.run.count) (media : t.media_bytes ≡ o.tally.media_bytes + l.run.bytes) (walks : t.walked ≡ o.tally.walked + l.run.count) where
+    one : length (moof_runs (moof_at m at) tracks) ≡ 1
+    one = ap length is.lone.run
+
+    back_of : given_back (given_back listed_of.account (64 * length (moof_runs (moof_at m at) tracks))) (length m) ≡ a
+    back_of = claimed_at_once o.account (length m) (64 * length (moof_runs (moof_at m at) tracks)) (length m + 64) (omega (arith, one)) ∙ sym account
+
+    bytes_of : sum_by (λ (r : Run). r.bytes) (runs_in f) ≡ l.run.bytes
+    bytes_of = ap (sum_by (λ (r : Run). r.bytes)) taken ∙ sum_by-cons (λ (r : Run). r.bytes) l.run [] ∙ omega arith
+
+    -- its fragments were put
+    pub GoesOn-recut_whole : t.fragments ≡ o.tally.fragments + length (pieces_of cut b.moof.now l.run) → PassesMarked o.written u o.waiting v put marks
+        → GoesOn o (outside u v a t) (standing (splitting cut) (InHeader (context at (Some tracks) (o.tally.fragments + 1)) [])) (take (length b.moof.now + b.mdat.size) piece)
+        (standing (splitting cut) (InHeader (context (at + (length b.moof.now + b.mdat.size)) (Some (with_next l.track l.run.end tracks)) (t.fragments + 1)) []))
+    GoesOn-recut_whole fragments passes =
+        let meaning = splitting cut in
+        let o' = outside u v a t in
+        let r = standing meaning (InHeader behind_it []) in
+        let ended = 64 * length (settled tracks (moof_trafs (moof_at m at) tracks)) in
+        let n = length b.moof.now + b.mdat.size in
+        let back = Moves-settled accepted_of (64 * length tracks) (length m) (64 * length (moof_runs (moof_at m at) tracks)) ended (ap (λ k. 64 * k) (settled_length tracks (moof_trafs (moof_at m at) tracks))) low_claim in
+        let tallied = tally_is t (omega (arith, fragments)) (omega (arith, samples, is.lone.samples)) (omega (arith, media, bytes_of)) (omega (arith, walks, is.lone.samples)) in
+        let moves : Moves accepted_of o' own ended (playing (first_spot cut f) payload) =
+        subst (Moves accepted_of o' own ended) (sym effects) (record { passes = passes; counts = subst (λ k. Counts listed_of.account k own ended 0) back_of back.counts; tallied = tallied }) in
+        let to_end = GoesOn-all meaning (at + length m) g.kind accepted_of o' (first_spot cut f) behind_it own payload (omega (arith, len)) moves in
+        let effects_of = GoesOn-then low_claim to_head (body (length payload)) to_body in
+        let passed = GoesOn-take_more low_claim g.header_len x effects_of (s - g.header_len) r to_end in
+        let all : g.header_len + (s - g.header_len) ≡ s = omega (arith, head_is, fit.head) in
+        let goes = GoesOn-take_more low (length m) piece to_behind s r (subst (λ k. GoesOn listed_of o' (waits []) (take k x) r) all passed) in
+        let there : at + length m + s ≡ at + n = omega arith in
+        let next : (splitting cut).numbered f ≡ t.fragments + 1 = omega (arith, counted, fragments) in
+        subst (λ k. GoesOn o o' starts (take n piece) (standing meaning (InHeader (context (at + n) (Some (with_next l.track l.run.end tracks)) k) []))) next
+        (subst (λ ts. GoesOn o o' starts (take n piece) (standing meaning (InHeader (context (at + n) (Some ts) ((splitting cut).numbered f)) []))) is.lone.ends
+        (subst (λ k. GoesOn o o' starts (take n piece) (standing meaning (InHeader (context k (Some (settled tracks (moof_trafs (moof_at m at) tracks))) ((splitting cut).numbered f)) []))) there goes))
+
+    -- a write failed as they were put: all is given back
+    pub StopsAt-recut_whole : (more : List ℕ) → o.tally.fragments ≤ t.fragments → t.fragments ≤ o.tally.fragments + length (pieces_of cut b.moof.now l.run) → BreaksMarked o.written u o.waiting v put marks
+        → StopsAt o (outside u v (given_back a (64 * length tracks)) t) (standing (splitting cut) (InHeader (context at (Some tracks) (o.tally.fragments + 1)) [])) (piece ++ more) Write
+    StopsAt-recut_whole more least most prefix =
+        let o'' = outside u v (given_back a (64 * length tracks)) t in
+        StopsAt-take_more low (length m) piece to_behind o'' more Write
+        (StopsAt-take_more low_claim g.header_len x to_head o'' more Write (λ later. loses ((drop g.header_len x ++ more) ++ later) (rest_of more later) (same_bytes more later)))
+      where
+        rest_of : List ℕ → List ℕ → List ℕ
+        rest_of more later = (drop (s - g.header_len) (drop g.header_len x) ++ more) ++ later
+
+        same_bytes : (more later : List ℕ) → (drop g.header_len x ++ more) ++ later ≡ payload ++ rest_of more later
+        same_bytes more later =
+            let y = drop g.header_len x in
+            let z = drop (s - g.header_len) y in
+            ap (λ l. (l ++ more) ++ later) (sym (take-append-drop (s - g.header_len) y))
+            ∙ ap (λ l. l ++ later) (append_assoc payload z more)
+            ∙ append_assoc payload (z ++ more) later
+
+        counted_so : with_samples f listed_of.tally t.fragments ≡ t
+        counted_so = sym (tally_is t refl (omega (arith, samples, is.lone.samples)) (omega (arith, media, bytes_of)) (omega (arith, walks, is.lone.samples)))
+
+        given : given_back listed_of.account own ≡ given_back a (64 * length tracks)
+        given =
+            let runs = 64 * length (moof_runs (moof_at m at) tracks) in
+            let sum : own ≡ 64 * length tracks + (length m + runs) = omega arith in
+            ap (given_back listed_of.account) sum
+            ∙ sym (back_twice listed_of.account (length m + runs) (64 * length tracks))
+            ∙ sym (back_at_once o.account (length m) runs (length m + 64) (64 * length tracks) (omega (arith, one)))
+            ∙ ap (λ k. given_back k (64 * length tracks)) (sym account)
+
+        loses : (all rest : List ℕ) → all ≡ payload ++ rest → Loses listed_of (outside u v (given_back a (64 * length tracks)) t) (waits mdat_head).claim ((waits mdat_head).reads all)
+        loses all rest e =
+            let meaning = splitting cut in
+            let told_first = fragments_effects put marks (length pieces) in
+            let reads : (waits mdat_head).reads all ≡ after (meaning.accepted f) (then_read (reads_in meaning) (media_body meaning f (at + length m) g g.size all)) =
+            ap (then_read (reads_in meaning)) (second-accepted meaning c tracks m g mdat_head fore.len fore.is all fits is.boxes.mdat.is_kind good) ∙ then_read-told (reads_in meaning) (meaning.accepted f) (media_body meaning f (at + length m) g g.size all) in
+            let body_reads : then_read (reads_in meaning) (media_body meaning f (at + length m) g g.size all) ≡ after told_first (reads_in meaning behind_it rest) =
+            ap (λ z. then_read (reads_in meaning) (media_body meaning f (at + length m) g z all)) is.boxes.mdat.sized
+            ∙ ap (λ y. then_read (reads_in meaning) (body_item (meaning.media f) (at + length m) g.kind behind_it (s - g.header_len) y)) e
+            ∙ ap (λ k. then_read (reads_in meaning) (body_item (meaning.media f) (at + length m) g.kind behind_it k (payload ++ rest))) (sym len)
+            ∙ body-all meaning (meaning.media f) (at + length m) g.kind behind_it payload rest
+            ∙ ap (λ z. after z (reads_in meaning behind_it rest)) effects in
+            let is_told : ((waits mdat_head).reads all).effects ≡ both (meaning.accepted f) (both told_first (reads_in meaning behind_it rest).effects) = ap (λ z. z.effects) (reads ∙ ap (after (meaning.accepted f)) body_reads) in
+            let lost : Lost listed_of.written u listed_of.waiting v listed_of.tally.fragments t.fragments told_first = record { text = prefix; least = omega (arith, least); most = omega (arith, most) } in
+            let so = lost_first cut c tracks m mdat_head g fore.len fore.is fits is.boxes.mdat.is_kind good listed_of.written u listed_of.waiting v listed_of.tally t.fragments own listed_of.account told_first (reads_in meaning behind_it rest).effects ((waits mdat_head).reads all) is_told low_claim lost in
+            subst (λ k. Loses listed_of (outside u v (given_back a (64 * length tracks)) k) own ((waits mdat_head).reads all)) counted_so
+            (subst (λ k. Loses listed_of (outside u v k (with_samples f listed_of.tally t.fragments)) own ((waits mdat_head).reads all)) given so)
+
+-- ---- what is counted
+
+least_whole : (b : Bool) (walked samples rows k : ℕ) → b ≡ false → walked + samples + 0 + cut_least b samples ≤ rows → (walked + k) + (samples + k) + 0 + cut_least b (samples + k) ≤ rows + 5 * k
+least_whole true walked samples rows k e i = absurd cc
+least_whole false walked samples rows k e i = omega (arith, i)
+
+most_whole : (b : Bool) (walked rows k : ℕ) → b ≡ false → rows + cut_most b 0 + 0 ≤ cut_reads b * walked → rows + 5 * k + cut_most b 0 + 0 ≤ cut_reads b * (walked + k)
+most_whole true walked rows k e i = absurd cc
+most_whole false walked rows k e i = omega (arith, i)
+
+-- no sample waits behind it
+pub counted_whole : (cut : Cut) (at : ℕ) (tracks : List Track) (piece : List ℕ) (b : Boxes) (l : LoneRun) (is : IsFragment at tracks piece b l) (c c' : Counter) → cut.index ≡ false → IsCounted (plans.Split cut) c at 0 0 → c'.tally.fragments + 1 ≤ 2 ^ 32
+    → c'.tally.samples ≡ c.tally.samples + l.run.count → c'.tally.media_bytes ≡ c.tally.media_bytes + l.run.bytes → c'.tally.walked ≡ c.tally.walked + l.run.count → c'.steps.rows ≡ c.steps.rows + 5 * l.run.count
+    → IsCounted (plans.Split cut) c' (at + (length b.moof.now + b.mdat.size)) 0 0
+counted_whole cut at tracks piece b l is c c' plain i fits samples media walks rows =
+    let few = (run_is at tracks piece b l is).few in
+    let room = media_fits at tracks piece b l is in
+    let len = moof_len at piece b is.boxes in
+    let near = is.boxes.mdat.near in
+    record {
+      fragments = omega (arith, fits);
+      media = omega (arith, media, i.media, room, len);
+      walked = omega (arith, walks, i.walked, few, room);
+      samples = omega (arith, samples, i.samples, few, room);
+      all = omega (arith, samples, walks, i.all);
+      some = rw (samples, walks, rows) (least_whole cut.index c.tally.walked c.tally.samples c.steps.rows l.run.count plain i.some);
+      few = rw (walks, rows) (most_whole cut.index c.tally.walked c.steps.rows l.run.count plain i.few);
+      far = omega (arith, near, len);
+    }

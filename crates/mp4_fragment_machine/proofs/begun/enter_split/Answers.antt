@@ -1,0 +1,119 @@
+use Rattle.std.proofs.Common.{◌≡◌, ◌∙◌, ◌+◌, ◌-◌, ◌*◌, ◌≤◌, [], ap, arith, length, refl, subst, sym}
+use Rattle.mp4_frag.specs.Moofs.{moof_samples, moof_trafs}
+use Rattle.mp4_frag.specs.Settling.{settled}
+use Rattle.mp4_machine.specs.Pieces.{outside}
+use Rattle.mp4_recut.specs.Cursors.{parts_left}
+use Rattle.mp4_recut.specs.Media.{Rises, spot_of}
+use Rattle.mp4_recut.specs.Splitting.{splitting}
+use Rattle.mp4_recut.specs.declared.plan.Plan.TheVariants as plans
+use Rattle.mp4_recut.proofs.RiseLemmas.{rises-over}
+use Rattle.mp4_fragment_machine.specs.States.{moof_in}
+use Rattle.mp4_fragment_machine.proofs.BegunLemmas.{GoesOn-same, begun_known, media_begins, media_over, open_begins}
+use Rattle.mp4_fragment_machine.proofs.BodyLemmas.{Moves-settled}
+use Rattle.mp4_fragment_machine.proofs.CountLemmas.{counted_ended}
+use Rattle.mp4_fragment_machine.proofs.StepLemmas.{no_head}
+use Rattle.mp4_fragment_machine.proofs.begun.enter_split.Goals as goal
+
+pub returns-then-body-eq0 : goal.returns-then-body-eq0
+returns-then-body-eq0 c = λ number u needed numbers.
+    let w = c.args.split.waiting in
+    let m = c.args.split.media in
+    let cut = c.args.cut in
+    let kept = c.args.kept.now in
+    let list = c.in-Some.list in
+    let h = c.args.header.now in
+    let at = c.args.at in
+    let size = c.in-Exact.size in
+    let n = kept.counter.tally.fragments + 1 in
+    let ps = parts_left cut (moof_in w) list n m.later in
+    let o = outside u.written u.waiting c.args.ledger.now kept.counter.tally in
+    let ends = settled list (moof_trafs (moof_in w) list) in
+    let media = rw c.in-Some.is at c.requires.media in
+    let low = rw c.in-Some.is at c.requires.claim in
+    let near = rw c.in-Exact.is at c.requires.near in
+    let counted = rw c.in-Exact.is at c.requires.counted in
+    let rises = (rw (c.in-Some.is, c.in-Exact.is) at c.requires.rises) (at + size) refl in
+    let short : size ≤ h.header_len = omega (arith, c.if-body-eq0.true) in
+    let none : ps ≡ [] = media.settled (rises-over (at + h.header_len) (at + size) m.gap.place m.gap.left ps rises (omega (arith, short))) in
+    let many = rw c.in-Some.is at numbers in
+    let ended = c.end_fragment.ensures in
+    let table : 64 * length ends ≡ 64 * length list = ap (λ l. 64 * length l) (sym ended.tracks) ∙ ap (λ k. 64 * k) ended.len in
+    rw (c.in-Some.is, c.requires.plan, c.requires.empty, ended.tracks, ended.back) (record {
+      goes = rw ended.tally
+          (begun_known cut w list number n m at h kept.tracks o _ _ c.in-Some.is (media_over cut w list number n m at h size h.size ends o _ c.in-Exact.is short (sym many ∙ omega (arith, ap length none)) refl media.settled
+          (Moves-settled o (64 * length list) w.moof.size (64 * length w.runs.rows) (64 * length ends) table low)));
+      unfailed = refl;
+      plan = refl;
+      state = (no_head [] refl, near);
+      claim = omega (arith, low, table);
+      counted = counted_ended (plans.Split cut) kept.counter c.end_fragment.new.counter (at + size) (moof_samples (moof_in w)) counted ended.tally (omega (arith, ended.walked)) ended.few;
+    })
+
+pub returns-else-body-eq0 : goal.returns-else-body-eq0
+returns-else-body-eq0 c = λ number u needed numbers.
+    let w = c.args.split.waiting in
+    let m = c.args.split.media in
+    let cut = c.args.cut in
+    let kept = c.args.kept.now in
+    let list = c.in-Some.list in
+    let h = c.args.header.now in
+    let at = c.args.at in
+    let size = c.in-Exact.size in
+    let n = kept.counter.tally.fragments + 1 in
+    let o = outside u.written u.waiting c.args.ledger.now kept.counter.tally in
+    let room = rw c.in-Exact.is at c.requires.room in
+    let near = rw c.in-Exact.is at c.requires.near in
+    let counted = rw c.in-Exact.is at c.requires.counted in
+    let rises = (rw (c.in-Some.is, c.in-Exact.is) at c.requires.rises) (at + size) refl in
+    let start : at + h.header_len ≡ at + size - (size - h.header_len) = omega (arith, room) in
+    let many = rw c.in-Some.is at numbers in
+    let media = rw c.in-Some.is at c.requires.media in
+    let low = rw c.in-Some.is at c.requires.claim in
+    rw (c.in-Some.is, c.requires.plan) (record {
+      goes = begun_known cut w list number n m at h kept.tracks o o _ c.in-Some.is (GoesOn-same (splitting cut) o _ _ (media_begins cut w list number n m at h size h.size c.in-Exact.is room many));
+      unfailed = refl;
+      plan = refl;
+      state = (
+        c.requires.empty,
+        refl,
+        record {
+          some = omega (arith, c.if-body-eq0.false);
+          within = omega arith;
+          near = near;
+          media = media;
+          rises = subst (λ k. Rises (at + size) (spot_of cut (moof_in w) list k n m)) start rises;
+        },
+      );
+      claim = low;
+      counted = (counted, refl, refl);
+    })
+
+pub returns-in-ToEnd : goal.returns-in-ToEnd
+returns-in-ToEnd c = λ number u needed numbers.
+    let w = c.args.split.waiting in
+    let m = c.args.split.media in
+    let cut = c.args.cut in
+    let kept = c.args.kept.now in
+    let list = c.in-Some.list in
+    let n = kept.counter.tally.fragments + 1 in
+    let o = outside u.written u.waiting c.args.ledger.now kept.counter.tally in
+    let near = rw c.in-ToEnd.is at c.requires.near in
+    let counted = rw c.in-ToEnd.is at c.requires.counted in
+    let enough = rw c.in-Some.is at needed in
+    let media = rw c.in-Some.is at c.requires.media in
+    let low = rw c.in-Some.is at c.requires.claim in
+    rw (c.in-Some.is, c.requires.plan) (record {
+      goes = begun_known cut w list number n m c.args.at c.args.header.now kept.tracks o o _ c.in-Some.is (GoesOn-same (splitting cut) o _ _ (open_begins cut w list number n m c.args.at c.args.header.now c.args.split.needed c.args.header.now.size c.in-ToEnd.is near enough));
+      unfailed = refl;
+      plan = refl;
+      state = (
+        c.requires.empty,
+        refl,
+        record {
+          near = omega arith;
+          media = media;
+        },
+      );
+      claim = low;
+      counted = (counted, refl, refl);
+    })

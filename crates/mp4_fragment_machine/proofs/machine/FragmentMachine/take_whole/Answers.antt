@@ -1,0 +1,27 @@
+use Rattle.std.proofs.Common.{◌≡◌, ◌∙◌, ◌+◌, ap}
+use Rattle.mp4_machine.proofs.PieceLemmas.{Takes-err, Takes-ok}
+use Rattle.mp4_recut.specs.Plans.{plan_meaning, number_in}
+use Rattle.mp4_fragment_machine.specs.States.{Progress}
+use Rattle.mp4_fragment_machine.specs.Working.Steps.{at_state}
+use Rattle.mp4_fragment_machine.specs.declared.state.State.TheVariants as states
+use Rattle.mp4_fragment_machine.proofs.QuietLemmas.{at-place, quiet}
+use Rattle.mp4_fragment_machine.proofs.machine.FragmentMachine.take_whole.Goals as goal
+
+pub returns-in-Ok-clause-quiet : goal.returns-in-Ok-clause-quiet
+returns-in-Ok-clause-quiet g c =
+    let kept = c.take_whole_fragment.new.kept in
+    let next = states.Header (c.args.at + c.in-Ok.size) in
+    rw c.go_to.ensures (quiet (plan_meaning kept.plan) (at_state kept next) (at-place (number_in kept.plan kept.counter.tally) kept.tracks kept.head next c.in-Ok.ensures.2.state))
+
+pub returns-in-Ok-clause-takes : goal.returns-in-Ok-clause-takes
+returns-in-Ok-clause-takes g c =
+    let state : c.self.inside.state ≡ states.Header c.args.at = ap (λ (p : Progress). p.state) c.self.view_is ∙ c.requires.state in
+    rw (← c.self.view_is, state, c.go_to.ensures) (Takes-ok c.in-Ok.ensures.2.goes c.in-Ok.ensures.2.unfailed)
+
+pub returns-in-Err-clause-takes : goal.returns-in-Err-clause-takes
+returns-in-Err-clause-takes g c =
+    let state : c.self.inside.state ≡ states.Header c.args.at = ap (λ (p : Progress). p.state) c.self.view_is ∙ c.requires.state in
+    let stopped = c.in-Err.ensures in
+    let back = rw (c.stop_at.ensures, stopped.tracks) at c.give_back.ensures.back in
+    rw (← c.self.view_is, state, back, c.give_back.ensures.counted)
+    (Takes-err stopped.stops stopped.failed stopped.unfailed)

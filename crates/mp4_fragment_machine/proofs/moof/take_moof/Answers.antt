@@ -1,0 +1,82 @@
+use Rattle.std.proofs.Common.{ap, arith, refl, rules, length, ◌+◌, ◌*◌, Err, ◌∙◌}
+use Rattle.mp4_box.specs.Order.{least}
+use Rattle.mp4_frag.specs.Moofs.{early_fault, moof_runs, moof_samples, moof_trafs, time_faults}
+use Rattle.mp4_frag.specs.Runs.{moof_at}
+use Rattle.mp4_machine.proofs.AccountLemmas.{within_limit}
+use Rattle.mp4_machine.specs.Pieces.{outside}
+use Rattle.mp4_recut.specs.Plans.{plan_meaning, number_in}
+use Rattle.mp4_fragment_machine.proofs.CountLemmas.{counted_judged, counted_moof}
+use Rattle.mp4_fragment_machine.proofs.HeldLemmas.{GoesOn-moof, Refuses-judged, StopsAt-runs, begins_some, none_of, refused_not_written}
+use Rattle.mp4_fragment_machine.proofs.NumberLemmas.{number_same}
+use Rattle.mp4_fragment_machine.proofs.StepLemmas.{counted_stop}
+use Rattle.mp4_fragment_machine.proofs.moof.take_moof.Goals as goal
+
+pub returns-in-Err-clause-advances : goal.returns-in-Err-clause-advances
+returns-in-Err-clause-advances c = λ u.
+    let held = c.args.held in
+    let kept = c.args.kept.now in
+    let list = c.in-Some.list in
+    let low = rw c.in-Some.is at c.requires.can.claim in
+    let judged = c.read_moof.ensures in
+    let some = begins_some held.size held.bytes c.requires.begins c.requires.whole in
+    rw (c.in-Some.is, c.back.ensures) (record {
+      stops = λ more. Refuses-judged (plan_meaning kept.plan) (outside u.written u.waiting c.args.ledger.now kept.counter.tally) held.at (number_in kept.plan kept.counter.tally) list held.kind held.size held.bytes c.requires.whole low
+          c.read_moof.new.counter.tally more c.in-Err.fault c.in-Err.ensures.fault judged.tally (λ is. ap (λ k. k.tally) (judged.unwalked is));
+      failed = λ is. absurd cc;
+      unfailed = λ _. refl;
+      plan = refl;
+      tracks = refl;
+      empty = c.requires.empty;
+      left = omega (arith, low);
+      counted = counted_stop kept.plan c.read_moof.new.counter (held.at + held.size) (counted_judged kept.plan kept.counter c.read_moof.new.counter (moof_at held.bytes held.at) list held.at held.size c.requires.can.counted some c.requires.near judged.few judged.tally judged.rows judged.unwalked);
+    })
+
+pub returns-in-Ok-list-clause-advances : goal.returns-in-Ok-list-clause-advances
+returns-in-Ok-list-clause-advances c = λ u.
+    let held = c.args.held in
+    let kept = c.args.kept.now in
+    let list = c.in-Some.list in
+    let h = moof_at held.bytes held.at in
+    let low = rw c.in-Some.is at c.requires.can.claim in
+    let judged = c.read_moof.ensures in
+    let some = begins_some held.size held.bytes c.requires.begins c.requires.whole in
+    let good = none_of (early_fault h list) (least (time_faults (moof_trafs h list))) c.in-Ok.ensures.good in
+    let ok = rw c.in-Ok.ensures.moof at c.in-Ok-list.ensures.ok in
+    let listed = rw c.in-Ok.ensures.moof at c.in-Ok-list.ensures.walked in
+    rw (c.in-Some.is, c.requires.empty, ok) (record {
+      goes = rw (number_same kept.plan kept.counter.tally c.read_moof.new.counter.tally judged.fragments, judged.tally good.0)
+          (GoesOn-moof (plan_meaning kept.plan) (outside u.written u.waiting c.args.ledger.now kept.counter.tally) held.at (number_in kept.plan kept.counter.tally) list held.kind held.size held.bytes c.requires.whole low good.0 good.1 some);
+      unfailed = refl;
+      plan = refl;
+      state = search rules;
+      claim = search rules;
+      counted = counted_moof kept.plan kept.counter _ h held.at held.size (moof_samples h + moof_samples h) (moof_samples h) c.requires.can.counted some c.requires.near (judged.few good.0) (judged.tally good.0)
+          (omega (arith, listed, judged.rows good.0)) refl (omega arith);
+    })
+
+pub returns-in-Err-list-clause-advances : goal.returns-in-Err-list-clause-advances
+returns-in-Err-list-clause-advances c = λ u.
+    let held = c.args.held in
+    let kept = c.args.kept.now in
+    let list = c.in-Some.list in
+    let h = moof_at held.bytes held.at in
+    let low = rw c.in-Some.is at c.requires.can.claim in
+    let judged = c.read_moof.ensures in
+    let some = begins_some held.size held.bytes c.requires.begins c.requires.whole in
+    let good = none_of (early_fault h list) (least (time_faults (moof_trafs h list))) c.in-Ok.ensures.good in
+    let err = c.in-Err-list.ensures.err in
+    let over = rw c.in-Ok.ensures.moof at c.list.ensures.over_limit in
+    rw (c.in-Some.is, c.of_refusal.ensures, c.back-in-Err-list.ensures, err) (record {
+      stops = λ more. rw (judged.tally good.0)
+          (StopsAt-runs (plan_meaning kept.plan) (outside u.written u.waiting c.args.ledger.now kept.counter.tally) held.at (number_in kept.plan kept.counter.tally) list held.kind held.size held.bytes c.requires.whole low good.0 good.1
+          more c.in-Err-list.refused (λ e. over.0 (c.in-Err-list.is ∙ ap Err e))
+          (λ e. within_limit c.args.ledger.now.limit (c.args.ledger.now.live + 64 * length (moof_runs h list)) (c.in-Err-list.is ∙ ap Err e) over.1));
+      failed = λ is. absurd (refused_not_written c.in-Err-list.refused is);
+      unfailed = λ _. refl;
+      plan = refl;
+      tracks = refl;
+      empty = c.requires.empty;
+      left = omega (arith, low);
+      counted = rw c.in-Err-list.ensures.unwalked
+          (counted_stop kept.plan c.read_moof.new.counter (held.at + held.size) (counted_judged kept.plan kept.counter c.read_moof.new.counter h list held.at held.size c.requires.can.counted some c.requires.near judged.few judged.tally judged.rows judged.unwalked));
+    })

@@ -1,0 +1,72 @@
+use Rattle.std.proofs.Common.{◌≡◌, ◌+◌, [], ap, arith, length, refl}
+use Rattle.mp4_pieces.proofs.RoomLemmas.{few_pieces}
+use Rattle.mp4_machine.specs.Pieces.{outside}
+use Rattle.mp4_recut.specs.Splitting.{timescale_of}
+use Rattle.mp4_recut.specs.declared.plan.Plan.TheVariants as plans
+use Rattle.mp4_fragment_machine.proofs.FragmentLemmas.{boxes_fit, moof_len, some_moof}
+use Rattle.mp4_fragment_machine.proofs.StepLemmas.{counted_stop, no_head}
+use Rattle.mp4_fragment_machine.proofs.WholeSplitLemmas.{GoesOn-recut_whole, StopsAt-recut_whole, counted_whole}
+use Rattle.mp4_fragment_machine.proofs.whole_recut.recut_fragment.Goals as goal
+
+pub returns : goal.returns
+returns g c =
+    let kept = c.args.kept.now in
+    let list = c.in-Some.list in
+    let f = c.args.whole.now in
+    let cut = c.args.cut.now in
+    let at = c.args.at in
+    let piece = c.args.piece.now in
+    let is = rw c.in-Some.is at c.requires.is in
+    let can = rw (c.in-Some.is, c.requires.plan) at c.requires.can in
+    let o = outside (g.W.Sink.contents c.args.w.now) c.args.out.now c.args.ledger.now kept.counter.tally in
+    let t = c.recut_whole.new.counter.tally in
+    let effects = c.in-Ok-recut_whole.ensures in
+    let tally = c.recut_whole.ensures.tally in
+    let put = effects.puts (timescale_of list f.run.now.run.track) in
+    let fit = boxes_fit at piece f.boxes is.boxes in
+    let some = some_moof at piece f.boxes is.boxes in
+    let long = moof_len at piece f.boxes is.boxes in
+    let len = rw c.settle.ensures.tracks at c.settle.ensures.len in (
+      omega (arith, some, long),
+      omega (arith, fit.whole),
+      rw (c.in-Some.is, c.requires.plan, c.requires.empty, c.settle.ensures.tracks) (record {
+        goes = GoesOn-recut_whole cut o at list piece f.boxes f.run.now is c.requires.plain c.requires.numbers can.claim (g.W.Sink.contents c.recut_whole.new.w) c.recut_whole.new.out c.count_claim.new.self t c.in-Ok.ensures.ok
+            (ap (λ k. k.samples) tally) (ap (λ k. k.media_bytes) tally) (ap (λ k. k.walked) tally) effects.number put.ok;
+        unfailed = put.kept;
+        plan = refl;
+        state = (no_head [] refl, omega (arith, fit.near));
+        claim = rw c.in-Ok.ensures.ok (omega (arith, can.claim, len));
+        counted = counted_whole cut at list piece f.boxes f.run.now is kept.counter c.recut_whole.new.counter c.requires.plain can.counted
+            (omega (arith, c.recut_whole.ensures.most, c.requires.numbers, few_pieces cut f.boxes.moof.now f.run.now.run))
+            (ap (λ k. k.samples) tally) (ap (λ k. k.media_bytes) tally) (ap (λ k. k.walked) tally) c.recut_whole.ensures.steps;
+      }),
+    )
+
+pub returns-in-Err-recut_whole : goal.returns-in-Err-recut_whole
+returns-in-Err-recut_whole g c =
+    let kept = c.args.kept.now in
+    let list = c.in-Some.list in
+    let f = c.args.whole.now in
+    let cut = c.args.cut.now in
+    let at = c.args.at in
+    let piece = c.args.piece.now in
+    let is = rw c.in-Some.is at c.requires.is in
+    let can = rw (c.in-Some.is, c.requires.plan) at c.requires.can in
+    let o = outside (g.W.Sink.contents c.args.w.now) c.args.out.now c.args.ledger.now kept.counter.tally in
+    let t = c.recut_whole.new.counter.tally in
+    let tally = c.recut_whole.ensures.tally in
+    let put = c.in-Err-recut_whole.ensures.puts (timescale_of list f.run.now.run.track) in
+    let counted = counted_whole cut at list piece f.boxes f.run.now is kept.counter c.recut_whole.new.counter c.requires.plain can.counted
+    (omega (arith, c.recut_whole.ensures.most, c.requires.numbers, few_pieces cut f.boxes.moof.now f.run.now.run))
+    (ap (λ k. k.samples) tally) (ap (λ k. k.media_bytes) tally) (ap (λ k. k.walked) tally) c.recut_whole.ensures.steps in
+    rw (c.in-Some.is, c.requires.plan, c.requires.empty) (record {
+      stops = λ more. StopsAt-recut_whole cut o at list piece f.boxes f.run.now is c.requires.plain c.requires.numbers can.claim (g.W.Sink.contents c.recut_whole.new.w) c.recut_whole.new.out c.count_claim.new.self t c.in-Ok.ensures.ok
+          (ap (λ k. k.samples) tally) (ap (λ k. k.media_bytes) tally) (ap (λ k. k.walked) tally) more c.recut_whole.ensures.least c.recut_whole.ensures.most put.err;
+      failed = λ _. put.failed;
+      unfailed = λ other. absurd (other refl);
+      plan = refl;
+      tracks = refl;
+      empty = refl;
+      left = rw c.in-Ok.ensures.ok (omega (arith, can.claim));
+      counted = counted_stop (plans.Split cut) c.recut_whole.new.counter (at + (length f.boxes.moof.now + f.boxes.mdat.size)) counted;
+    })

@@ -1,0 +1,64 @@
+-- Working: a fragment of which a piece has all: a moof with one run, and its mdat.
+use Rattle.std.specs.Prelude.{◌≡◌, ℕ, ◌+◌, ◌-◌, ◌≤◌, ◌^◌, false, List, [], ◌∷◌, length, take, drop, Some, None}
+use Rattle.mp4_box.specs.Headers.{IsBytes, header_at}
+use Rattle.mp4_box.specs.declared.headers.Header.{Header}
+use Rattle.mp4_box.specs.declared.headers.Size.TheVariants.{Exact}
+use Rattle.mp4_box.specs.declared.headers.Step.TheVariants as steps
+use Rattle.mp4_init.specs.declared.table.Track.{Track}
+use Rattle.mp4_frag.specs.LoneRuns.{IsLone}
+use Rattle.mp4_frag.specs.Places.{place_fault}
+use Rattle.mp4_frag.specs.Runs.{moof_at}
+use Rattle.mp4_frag.specs.declared.lone.LoneRun.{LoneRun}
+use Rattle.mp4_run_order.specs.declared.runs.Payload.{Payload}
+use Rattle.mp4_machine.specs.Bodies.{longest}
+use Rattle.mp4_grammar.specs.Kinds.{kind_in, most_moof}
+use Rattle.mp4_grammar.specs.declared.kinds.Kind.{Kind}
+use Rattle.mp4_grammar.specs.declared.kinds.Kind.TheVariants.{Moof, Mdat}
+use Rattle.mp4_recut.specs.declared.plan.Plan.{Plan}
+use Rattle.mp4_recut.specs.declared.plan.Plan.TheVariants as plans
+use Rattle.mp4_fragment_machine.specs.declared.whole_fragment.Boxes.{Boxes}
+use Rattle.mp4_fragment_machine.specs.declared.whole_fragment.Span.{Span}
+
+-- a box of this kind, at an offset, stands at the front of some bytes that have all of it
+pub record StandsFirst (kind : Kind) (at : ℕ) (x : List ℕ) (b : Span) : Type 0 where
+  pub header : Header
+  pub is : header_at x ≡ steps.Whole header
+  pub is_kind : kind_in header.kind.0 ≡ kind
+  pub head : header.header_len ≡ b.header_len
+  pub sized : header.size ≡ Exact b.size
+  pub whole : b.size ≤ length x
+  pub near : at + b.size ≤ longest
+
+-- the payload of an mdat at an offset
+abbrev pub payload_in : ℕ → Span → Payload
+payload_in at mdat = record { start = at + mdat.header_len; end = Some (at + mdat.size) }
+
+-- at an offset a piece has all of a moof and of the mdat behind it
+pub record AreBoxes (at : ℕ) (piece : List ℕ) (b : Boxes) : Type 0 where
+  pub span : Span
+  pub moof : StandsFirst Moof at piece span
+  pub most : span.size ≤ most_moof
+  pub bytes : b.moof.now ≡ take span.size piece
+  pub valid : IsBytes b.moof.now
+  pub mdat : StandsFirst Mdat (at + span.size) (drop span.size piece) b.mdat
+
+-- a fragment at an offset, of which a piece has all, has these boxes, and its moof just this run, which stands where it may
+pub record IsFragment (at : ℕ) (tracks : List Track) (piece : List ℕ) (b : Boxes) (l : LoneRun) : Type 0 where
+  pub boxes : AreBoxes at piece b
+  pub lone : IsLone (moof_at b.moof.now at) tracks l
+  pub stands : place_fault (payload_in (at + boxes.span.size) b.mdat) (l.run ∷ []) ≡ None
+
+-- ---- its media
+
+-- where they begin
+abbrev pub media_start : ℕ → Boxes → ℕ
+media_start at b = at + length b.moof.now + b.mdat.header_len
+
+-- the payload of its mdat, of the piece
+abbrev pub media_in : List ℕ → Boxes → List ℕ
+media_in piece b = take (b.mdat.size - b.mdat.header_len) (drop b.mdat.header_len (drop (length b.moof.now) piece))
+
+-- a fragment that has just this run is taken so: where it is recut there is no index, and a number for each of its samples behind so many fragments
+abbrev pub IsTakenWhole : Plan → ℕ → LoneRun → Type 0
+IsTakenWhole (plans.List command) fragments l = Unit {0}
+IsTakenWhole (plans.Split cut) fragments l = (cut.index ≡ false) × (fragments + 1 + l.run.count ≤ 2 ^ 32)

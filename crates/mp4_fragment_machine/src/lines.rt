@@ -1,0 +1,135 @@
+//! The lines of a fragment's samples.
+
+ghost use Rattle.std.specs.Prelude.{◌≡◌, ◌+◌, ◌+ℤ◌, ◌<ℤ◌, ◌≤ℤ◌, ◌<◌, ◌^◌, ◌++◌, pos, Some, true, OnErr, OnOk};
+ghost use Rattle.mp4_frag.specs.Laws.{first_cursor, past};
+ghost use Rattle.mp4_frag.specs.Moofs.{moof_samples};
+ghost use Rattle.mp4_machine.specs.Blocks.{Breaks, Passes};
+ghost use Rattle.mp4_grammar.specs.Samples.{sample_lines, sample_of, samples_from, samples_of_run};
+ghost use Rattle.mp4_pieces.specs.Pieces.{IsRunOf};
+ghost use Rattle.mp4_fragment_machine.specs.States.{IsWaiting, lines_of, moof_in};
+ghost use Rattle.mp4_pieces.specs.Working.Growing.{HasRoom};
+
+use crate::state::Waiting;
+use mp4_ends::{Failed, Sink};
+use mp4_frag::{Cursor, Moof, Row, Rows, Run, Steps};
+use mp4_init::TrackList;
+use mp4_grammar::Sample;
+use mp4_machine::Block;
+
+/// The cursor behind a row.
+fn past(at: Cursor, row: &Row) -> Cursor
+    requires row { at.row + 1 < 2 ^ 32 }
+    requires time { at.time + row.now.duration < 2 ^ 64 }
+    requires place { (at.place +ℤ pos row.now.size) <ℤ pos (2 ^ 63) }
+    ensures { result ≡ past at row.now }
+{
+    Cursor {
+        row: at.row + 1,
+        time: at.time + u64::from(row.duration),
+        place: at.place + i128::from(row.size),
+    }
+}
+
+/// The cursor of the first row of a run.
+fn first_cursor(run: &Run) -> Cursor
+    ensures { result ≡ first_cursor run.now }
+{
+    Cursor {
+        row: 0,
+        time: run.time,
+        place: run.place,
+    }
+}
+
+/// The sample of a row of a run that stands at this cursor.
+fn sample_at(run: &Run, row: &Row, at: Cursor) -> Sample
+    ensures { result ≡ sample_of run.now row.now at.time at.place }
+{
+    Sample::of(run, row, at.time, at.place)
+}
+
+/// Puts the lines of the samples that these rows of a run are, of which the first stands at this cursor.
+fn put_rows<W: Sink>(
+    run: &Run,
+    rows: &mut Rows<'_>,
+    from: Cursor,
+    out: &mut Block,
+    w: &mut W,
+) -> Result<(), Failed>
+    requires { HasRoom from rows.old }
+    ensures ok { OnOk result (Passes (W.contents w.old) (W.contents w.new) out.old out.new
+        (sample_lines (samples_from run.now rows.old from.time from.place))) }
+    ensures err { OnErr result (Breaks (W.contents w.old)
+        (W.contents w.new) out.old out.new (sample_lines (samples_from run.now rows.old from.time from.place))) }
+    ensures failed { OnErr result (W.has_failed w.new ≡ true) }
+    ensures kept { OnOk result (W.has_failed w.new ≡ W.has_failed w.old) }
+{
+    let mut at = from;
+    loop {
+        let Some(row) = rows.next() else {
+            return Ok(());
+        };
+        match out.put_line(w, &sample_at(run, &row, at)) {
+            Ok(()) => {}
+            Err(Failed) => return Err(Failed),
+        }
+        at = past(at, &row);
+    }
+}
+
+/// Puts the lines of the samples of a run. `held` are the bytes of its moof.
+pub(crate) fn put_run<W: Sink>(
+    run: &Run,
+    held: &[u8],
+    out: &mut Block,
+    w: &mut W,
+) -> Result<(), Failed>
+    requires { IsRunOf held.now run.now }
+    ensures ok { OnOk result (Passes (W.contents w.old) (W.contents w.new) out.old out.new
+        (sample_lines (samples_of_run held.now run.now))) }
+    ensures err { OnErr result (Breaks (W.contents w.old)
+        (W.contents w.new) out.old out.new (sample_lines (samples_of_run held.now run.now))) }
+    ensures failed { OnErr result (W.has_failed w.new ≡ true) }
+    ensures kept { OnOk result (W.has_failed w.new ≡ W.has_failed w.old) }
+{
+    match put_rows(run, &mut run.rows(held), first_cursor(run), out, w) {
+        Ok(()) => Ok(()),
+        Err(Failed) => Err(Failed),
+    }
+}
+
+/// Puts the lines of the samples of the moof that waits, its runs in the order in which they are taken. They are so many, and
+/// are counted in `steps` as rows that were read.
+pub(crate) fn put_runs<W: Sink>(
+    waiting: &Waiting,
+    samples: u64,
+    tracks: &TrackList,
+    steps: &mut Steps,
+    out: &mut Block,
+    w: &mut W,
+) -> Result<(), Failed>
+    requires waiting { IsWaiting (Some tracks.now) waiting.now }
+    requires steps { steps.old.rows < 2 ^ 127 }
+    requires samples { samples ≡ moof_samples (moof_in waiting.now) }
+    ensures walked { steps.new.rows ≡
+        steps.old.rows + moof_samples (moof_in waiting.now) }
+    ensures ok { OnOk result (Passes (W.contents w.old) (W.contents w.new) out.old out.new
+        (lines_of waiting.now tracks.now)) }
+    ensures err { OnErr result (Breaks (W.contents w.old)
+        (W.contents w.new) out.old out.new (lines_of waiting.now tracks.now)) }
+    ensures failed { OnErr result (W.has_failed w.new ≡ true) }
+    ensures kept { OnOk result (W.has_failed w.new ≡ W.has_failed w.old) }
+{
+    let moof = Moof::again(waiting.moof.bytes(), waiting.moof.offset(), tracks);
+    steps.rows += u128::from(samples);
+    let mut i = 0;
+    while i < waiting.runs.len() {
+        let run = waiting.runs.at(i, &moof, tracks);
+        match put_run(&run, waiting.moof.bytes(), out, w) {
+            Ok(()) => {}
+            Err(Failed) => return Err(Failed),
+        }
+        i += 1;
+    }
+    Ok(())
+}

@@ -1,0 +1,357 @@
+//! A machine that reads a fragmented stream, which it is fed as it comes.
+
+ghost use Rattle.std.specs.Prelude.{◌≡◌, ℕ, ◌+◌, ◌*◌, ◌-◌, ◌<◌, ◌≤◌, ◌↔◌, [], List, Option, length, take, None, Some, IfOk, IfErr, OnOk, OnErr, IsErrOf, IsTrue};
+ghost use Rattle.mp4_init.specs.declared.table.Track.{Track};
+ghost use Rattle.mp4_box.specs.declared.rules.Rule.TheVariants.{MdatMissing, Truncated};
+ghost use Rattle.mp4_box.specs.declared.headers.FourCc.{FourCc};
+ghost use Rattle.mp4_box.specs.Headers.{IsBytes};
+ghost use Rattle.mp4_ledger.specs.Memory.{given_back};
+ghost use Rattle.mp4_machine.specs.Bodies.{fault};
+ghost use Rattle.mp4_machine.specs.Ends.{sent};
+ghost use Rattle.mp4_machine.specs.Pieces.{IsQuiet, Takes, around, farthest};
+ghost use Rattle.mp4_machine.specs.Readings.{fault_in, uncounted};
+ghost use Rattle.mp4_grammar.specs.Contexts.{first_context};
+ghost use Rattle.mp4_fragment_machine.specs.Places.{InHeader, IsPlace, claim_of, standing};
+ghost use Rattle.mp4_fragment_machine.specs.States.{IsState, IsWaiting, begun, kept_by, known, listed_by, place_in, place_of, reads_of, stands_in, stopped};
+ghost use Rattle.mp4_fragment_machine.specs.Working.Wholes.{IsFragment, IsTakenWhole};
+ghost use Rattle.mp4_grammar.specs.Meanings.{Meaning};
+ghost use Rattle.mp4_recut.specs.declared.plan.Plan.{Plan};
+ghost use Rattle.mp4_fragment_machine.specs.declared.state.State.TheVariants as states;
+
+use crate::state::{Counter, Kept, OpenBody, State, Taken, Waiting};
+use crate::step::{back_state, take_next};
+use crate::whole_fragment::{Whole, boxes_at, stands_in};
+use crate::whole_plan::{is_taken_whole, looks_ahead, take_whole_fragment};
+use mp4_box::{Fault, FourCc, HeaderReader, Rule};
+use mp4_ends::Sink;
+use mp4_frag::{LoneRun, Steps};
+use mp4_ledger::Ledger;
+use mp4_machine::{Block, Machine, Stop, Tally};
+use mp4_recut::Plan;
+use std::marker::Model;
+use std::mem::replace;
+
+/// A machine that reads fragments, and makes of them what a command asks for. What it has claimed must be given back.
+pub struct FragmentMachine {
+    kept: Kept,
+    state: State,
+}
+
+// A contract sees where it is and what it has counted.
+impl Model for FragmentMachine {
+    ghost use Rattle.mp4_fragment_machine.specs.States.{IsMachine, Progress};
+
+    ghost Value = { Progress };
+
+    ghost view = { λ m. record { plan = m.kept.plan; tracks = m.kept.tracks; head = m.kept.head; state = m.state; counter = m.kept.counter } };
+
+    ghost invariant = { λ m. IsMachine m.kept.plan m.kept.tracks m.kept.head m.state m.kept.counter };
+}
+
+impl FragmentMachine {
+    /// A machine to which no byte has come.
+    pub fn new(plan: Plan) -> FragmentMachine
+        ensures { result ≡ begun plan }
+    {
+        let tally = Tally {
+            fragments: 0,
+            samples: 0,
+            media_bytes: 0,
+            walked: 0,
+        };
+        let steps = Steps { rows: 0 };
+        FragmentMachine {
+            kept: Kept {
+                plan,
+                tracks: None,
+                head: HeaderReader::new(),
+                counter: Counter { tally, steps },
+            },
+            state: State::Header { at: 0 },
+        }
+    }
+
+    /// What it has counted of the stream.
+    pub fn tally(&self) -> Tally
+        ensures tally { result ≡ self.now.counter.tally }
+        ensures all { result.samples ≤ result.walked }
+    {
+        self.kept.counter.tally
+    }
+
+    /// How many rows of samples it has read: each sample of a moof that was looked at once at least, each that is counted once
+    /// more, and again where it is listed; none more than three times, or four where samples are listed. A fragment that a
+    /// piece has whole is looked at first by its only run: where it is then at fault, what that look read isn't counted.
+    pub fn rows_read(&self) -> u128
+        ensures rows { result ≡ self.now.counter.steps.rows }
+        ensures some { self.now.counter.tally.walked + self.now.counter.tally.samples +
+            listed_by self.now.plan self.now.counter.tally.samples ≤ result }
+        ensures few { result ≤ reads_of self.now.plan * self.now.counter.tally.walked }
+    {
+        self.kept.counter.steps.rows
+    }
+
+    /// Takes a fragment from the front of a piece that has all of it: how many bytes.
+    ///
+    /// # Errors
+    ///
+    /// `Write` where a write failed.
+    #[inline(always)]
+    fn take_whole<W: Sink>(
+        &mut self,
+        at: u64,
+        whole: &Whole<'_>,
+        ledger: &mut Ledger,
+        piece: &[u8],
+        out: &mut Block,
+        w: &mut W,
+    ) -> Result<usize, Stop>
+        requires taken { IsTakenWhole self.old.plan self.old.counter.tally.fragments whole.now.run.now }
+        requires state { self.old.state ≡ states.Header at }
+        requires head { self.old.head ≡ [] }
+        requires known { self.old.tracks ≡ Some (known self.old.tracks) }
+        requires is { IsFragment at (known self.old.tracks) piece.now whole.now.boxes whole.now.run.now }
+        requires room { ledger.old.live + (length whole.now.boxes.moof.now + 64) ≤ ledger.old.limit }
+        requires claim { claim_of (place_in self.old) ≤ ledger.old.live }
+        ensures takes { Takes (around (sent W.contents W.has_failed w.old w.new) out.old out.new
+            ledger.old ledger.new self.old.counter.tally self.new.counter.tally)
+            (stands_in self.old) piece.now (λ n. take n piece.now) (λ _. stands_in self.new) result }
+        ensures taken { IfOk result (λ n. (0 < n) × (n ≤ length piece.now)) }
+        ensures claim { claim_of (place_in self.new) ≤ ledger.new.live }
+        ensures quiet { OnOk result (IsQuiet (stands_in self.new)) }
+        ensures near { OnOk result ((stands_in self.new).reached ≤ farthest) }
+        ensures spent { OnErr result (claim_of (place_in self.new) ≡ 0) }
+        ensures task { self.new.plan ≡ self.old.plan }
+    {
+        match take_whole_fragment(at, whole, piece, &mut self.kept, ledger, out, w) {
+            Ok(size) => {
+                go_to(&mut self.state, at + size);
+                Ok(size as usize)
+            }
+            Err(stop) => {
+                stop_at(&mut self.state);
+                self.give_back(ledger);
+                Err(stop)
+            }
+        }
+    }
+
+    /// Takes a few bytes from the front of a piece, wherever it stands: how many.
+    ///
+    /// # Errors
+    ///
+    /// As [`take_next`].
+    fn take_part<W: Sink>(
+        &mut self,
+        ledger: &mut Ledger,
+        piece: &[u8],
+        out: &mut Block,
+        w: &mut W,
+    ) -> Result<usize, Stop>
+        requires some { 0 < length piece.now }
+        requires claim { claim_of (place_in self.old) ≤ ledger.old.live }
+        ensures takes { Takes (around (sent W.contents W.has_failed w.old w.new) out.old out.new
+            ledger.old ledger.new self.old.counter.tally self.new.counter.tally)
+            (stands_in self.old) piece.now (λ n. take n piece.now) (λ _. stands_in self.new) result }
+        ensures taken { IfOk result (λ n. (0 < n) × (n ≤ length piece.now)) }
+        ensures claim { claim_of (place_in self.new) ≤ ledger.new.live }
+        ensures quiet { OnOk result (IsQuiet (stands_in self.new)) }
+        ensures near { OnOk result ((stands_in self.new).reached ≤ farthest) }
+        ensures spent { OnErr result (claim_of (place_in self.new) ≡ 0) }
+        ensures task { self.new.plan ≡ self.old.plan }
+    {
+        let state = replace(&mut self.state, stopped());
+        match take_next(state, piece, &mut self.kept, ledger, out, w) {
+            Ok(Taken { count, state }) => {
+                put_state(&mut self.state, state);
+                Ok(count)
+            }
+            Err(stop) => {
+                self.give_back(ledger);
+                Err(stop)
+            }
+        }
+    }
+
+    /// Gives back all that is claimed.
+    pub fn give_up(self, ledger: &mut Ledger)
+        requires { claim_of (place_in self) ≤ ledger.old.live }
+        ensures { ledger.new ≡ given_back ledger.old (claim_of (place_in self)) }
+    {
+        let FragmentMachine { kept, state } = self;
+        let Kept {
+            plan: _,
+            tracks,
+            head: _,
+            counter: _,
+        } = kept;
+        back_state(state, ledger);
+        if let Some(list) = tracks {
+            list.back(ledger);
+        }
+    }
+}
+
+impl Machine for FragmentMachine {
+    ghost Task = { Plan };
+
+    ghost task = { λ m. m.plan };
+
+    ghost stands = { λ m. stands_in m };
+
+    ghost counted = { λ m. m.counter.tally };
+
+    fn take<W: Sink>(
+        &mut self,
+        ledger: &mut Ledger,
+        piece: &[u8],
+        out: &mut Block,
+        w: &mut W,
+    ) -> Result<usize, Stop> {
+        if looks_ahead(&self.kept.plan) {
+            if let State::Header { at } = &self.state {
+                let at = *at;
+                if let (Some(boxes), Some(list)) = (
+                    boxes_at(at, &self.kept.head, piece, ledger),
+                    &self.kept.tracks,
+                ) {
+                    let mut steps = Steps { rows: 0 };
+                    if let Some(run) = &LoneRun::read(boxes.moof, at, list, &mut steps) {
+                        if stands_in(at, &boxes, piece, run)
+                            && is_taken_whole(&self.kept.plan, &self.kept.counter, run)
+                        {
+                            let whole = Whole { boxes, run };
+                            return self.take_whole(at, &whole, ledger, piece, out, w);
+                        }
+                    }
+                }
+            }
+        }
+        self.take_part(ledger, piece, out, w)
+    }
+
+    fn finish(&self) -> Result<(), Fault> {
+        match &self.state {
+            State::Header { at } => {
+                if self.kept.head.is_empty() {
+                    return Ok(());
+                }
+                Err(truncated(self.kept.head.kind(), *at))
+            }
+            State::Holding(held) => Err(truncated(Some(held.kind()), held.offset())),
+            State::Behind(waiting) => Err(unfollowed(waiting, &self.kept.head)),
+            State::Body(body, _) => Err(truncated(Some(body.kind), body.at)),
+            State::OpenBody(body, _) => open_end(body),
+            State::Copied(body) => Err(truncated(Some(body.kind), body.at)),
+            State::Media(recutting) => {
+                Err(truncated(Some(recutting.body.kind), recutting.body.at))
+            }
+            State::OpenCopied(body) => open_end(body),
+            State::OpenMedia(recutting) => open_end(&recutting.body),
+        }
+    }
+
+    fn give_back(&mut self, ledger: &mut Ledger) {
+        back_state(replace(&mut self.state, stopped()), ledger);
+        self.kept.head = HeaderReader::new();
+        if let Some(list) = self.kept.tracks.take() {
+            list.back(ledger);
+        }
+    }
+}
+
+/// What is kept behind a stop: nothing that must be given back.
+fn stopped() -> State
+    ensures { result ≡ stopped }
+{
+    let body = OpenBody {
+        at: 0,
+        kind: FourCc(*b"mdat"),
+        needed: 0,
+        left: 0,
+    };
+    State::OpenBody(body, None)
+}
+
+/// Goes on with the header of the box at `at`, where a header was to come.
+#[inline(always)]
+fn go_to(slot: &mut State, at: u64)
+    requires { (old : ℕ) × (slot.old ≡ states.Header old) }
+    ensures { slot.new ≡ states.Header at }
+{
+    match slot {
+        State::Header { at: next } => *next = at,
+        _ => unreachable!(),
+    }
+}
+
+/// Keeps nothing, where a header was to come.
+fn stop_at(slot: &mut State)
+    requires { (old : ℕ) × (slot.old ≡ states.Header old) }
+    ensures { slot.new ≡ stopped }
+{
+    match replace(slot, stopped()) {
+        State::Header { at } => {
+            let _ = at;
+        }
+        _ => unreachable!(),
+    }
+}
+
+/// Puts what is kept where nothing was.
+fn put_state(slot: &mut State, state: State)
+    requires { slot.old ≡ stopped }
+    ensures { slot.new ≡ state }
+{
+    match replace(slot, state) {
+        State::OpenBody(_, waiting) => match waiting {
+            None => {}
+            Some(_) => unreachable!(),
+        },
+        _ => unreachable!(),
+    }
+}
+
+/// The stream ended behind the moof that waits, of which these bytes of a header came.
+fn unfollowed(waiting: &Waiting, head: &HeaderReader) -> Fault
+    requires { (tracks : Option (List Track)) × IsState tracks head.now (states.Behind waiting.now) }
+    ensures { (meaning : Meaning) (number : ℕ) (tracks : Option (List Track)) → IsWaiting tracks waiting.now →
+        fault_in ((standing meaning (place_of number tracks head.now (states.Behind waiting.now))).reads []).outcome ≡
+        Some result }
+{
+    if head.is_empty() {
+        return Fault {
+            rule: Rule::MdatMissing,
+            kind: Some(FourCc(*b"moof")),
+            offset: waiting.moof.offset(),
+        };
+    }
+    truncated(head.kind(), waiting.moof.offset() + waiting.moof.size())
+}
+
+/// The stream ended in a body that goes to its end.
+///
+/// # Errors
+///
+/// `Truncated` where more bytes of it are needed.
+fn open_end(body: &OpenBody) -> Result<(), Fault>
+    ensures ok { OnOk result (body.now.needed ≡ 0) }
+    ensures some { OnErr result (0 < body.now.needed) }
+    ensures err { IfErr result (λ f. f ≡ fault Truncated (Some body.now.kind) body.now.at) }
+{
+    if body.needed == 0 {
+        return Ok(());
+    }
+    Err(truncated(Some(body.kind), body.at))
+}
+
+/// The stream ended in the box at `at`.
+fn truncated(kind: Option<FourCc>, at: u64) -> Fault
+    ensures { result ≡ fault Truncated kind at }
+{
+    Fault {
+        rule: Rule::Truncated,
+        kind,
+        offset: at,
+    }
+}

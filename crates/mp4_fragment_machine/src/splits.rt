@@ -1,0 +1,275 @@
+//! How the fragment of a moof is begun whose media are recut.
+
+ghost use Rattle.std.specs.Prelude.{◌≡◌, ℕ, ◌+◌, ◌*◌, ◌<◌, ◌≤◌, ◌^◌, [], ◌++◌, List, length, None, Some, true, IfOk, OnOk, OnErr};
+ghost use Rattle.std.specs.List.{sum_by};
+ghost use Rattle.mp4_box.specs.Headers.{HasRoom, header_at, need};
+ghost use Rattle.mp4_box.specs.declared.headers.Step.TheVariants as steps;
+ghost use Rattle.mp4_init.specs.Moovs.{fault_of};
+ghost use Rattle.mp4_frag.specs.Moofs.{moof_runs, moof_samples};
+ghost use Rattle.mp4_frag.specs.RunLists.{taken_runs};
+ghost use Rattle.mp4_frag.specs.declared.run.Run.{Run};
+ghost use Rattle.mp4_ledger.specs.Memory.{Account, given_back};
+ghost use Rattle.mp4_machine.specs.Bodies.{least_end, longest};
+ghost use Rattle.mp4_machine.specs.Ends.{sent};
+ghost use Rattle.mp4_machine.specs.Pieces.{GoesOn, Loses, Takes, around, outside};
+ghost use Rattle.mp4_grammar.specs.Contexts.{context};
+ghost use Rattle.mp4_grammar.specs.Items.{end_of, with_runs};
+ghost use Rattle.mp4_grammar.specs.Kinds.{kind_in};
+ghost use Rattle.mp4_grammar.specs.Meanings.{fragment_fault, needed_in};
+ghost use Rattle.mp4_grammar.specs.declared.kinds.Kind.TheVariants.{Mdat};
+ghost use Rattle.mp4_pieces.specs.Rooms.{room_fault};
+ghost use Rattle.mp4_recut.specs.Splitting.{parts_of, runs_parts, splitting};
+ghost use Rattle.mp4_recut.specs.Cursors.{AreCut, parts_left};
+ghost use Rattle.mp4_recut.specs.Media.{Rises, spot_of};
+ghost use Rattle.mp4_recut.specs.declared.plan.Plan.TheVariants as plans;
+ghost use Rattle.mp4_fragment_machine.specs.Places.{Behind, standing, when_stopped};
+ghost use Rattle.mp4_fragment_machine.specs.Working.Recuts.{in_media, recut_fragment, with_samples};
+ghost use Rattle.mp4_fragment_machine.specs.States.{AreMediaOf, HasStopped, IsCounted, IsWaiting, bound_behind, claimed_in, cut_least, cut_most, looks, moof_in};
+
+use crate::body::back;
+use crate::mdat_check::{check_mdat, payload_of};
+use crate::measure::{Measure, measure_runs};
+use crate::state::{Counter, Waiting};
+use mp4_box::{Fault, Header};
+use mp4_cut::Cut;
+use mp4_ends::{Failed, Sink};
+use mp4_frag::{Moof, Steps};
+use mp4_init::TrackList;
+use mp4_ledger::Ledger;
+use mp4_machine::{Block, Stop, Tally};
+use mp4_recut::media::{Media, begin, settle};
+use mp4_recut::room::check_room;
+
+/// A fragment that was begun: its moof, what is taken next of its media, and how many bytes of its mdat's payload are needed.
+pub(crate) struct Split {
+    pub(crate) waiting: Waiting,
+    pub(crate) media: Media,
+    pub(crate) needed: u64,
+}
+
+/// Begins the media of the moof that waits, whose mdat has this header and is accepted: its samples are counted, and all is put
+/// that needs no byte of the media.
+///
+/// # Errors
+///
+/// `Failed` where a write failed.
+fn begin_recut<W: Sink>(
+    waiting: &Waiting,
+    measure: Measure,
+    header: &Header,
+    tracks: &TrackList,
+    cut: &Cut,
+    tally: &mut Tally,
+    out: &mut Block,
+    w: &mut W,
+) -> Result<Media, Failed>
+    requires waiting { IsWaiting (Some tracks.now) waiting.now }
+    requires room { HasRoom header.now.size header.now.header_len }
+    requires near { least_end (waiting.now.moof.at + length waiting.now.moof.bytes)
+        header.now header.now.size ≤ longest }
+    requires mdat { kind_in header.now.kind.0 ≡ Mdat }
+    requires good { fragment_fault (splitting cut.now) (recut_fragment waiting.now tracks.now
+        (tally.old.fragments + 1) header.now) ≡ None }
+    requires cut { AreCut cut.now (moof_in waiting.now) tracks.now }
+    requires numbers { tally.old.fragments + 1 + length (parts_of cut.now (recut_fragment
+        waiting.now tracks.now (tally.old.fragments + 1) header.now)) ≤ 2 ^ 32 }
+    requires samples { measure.samples ≡ moof_samples (moof_in waiting.now) }
+    requires bytes { measure.bytes ≡ sum_by (λ (run : Run). run.bytes)
+        (taken_runs (moof_in waiting.now) tracks.now) }
+    requires few { tally.old.samples + measure.samples < 2 ^ 128 }
+    requires small { tally.old.media_bytes + measure.bytes < 2 ^ 64 }
+    ensures goes { IfOk result (λ m. (x : List ℕ) (account : Account) → length x ≡ need x →
+        header_at x ≡ steps.Whole header.now →
+        GoesOn (outside (W.contents w.old) out.old account tally.old)
+        (outside (W.contents w.new) out.new account tally.new)
+        (standing (splitting cut.now) (Behind (context waiting.now.moof.at (Some tracks.now)
+        (tally.old.fragments + 1)) tracks.now waiting.now.moof.bytes x)) []
+        (standing (splitting cut.now) (in_media cut.now (recut_fragment waiting.now tracks.now
+        (tally.old.fragments + 1) header.now) (spot_of cut.now (moof_in waiting.now) tracks.now
+        (waiting.now.moof.at + length waiting.now.moof.bytes + header.now.header_len)
+        (tally.new.fragments + 1) m)
+        (waiting.now.moof.at + length waiting.now.moof.bytes) header.now
+        (with_runs (context waiting.now.moof.at (Some tracks.now) (tally.old.fragments + 1))
+        tracks.now waiting.now.moof.bytes) header.now.size))) }
+    ensures media { IfOk result (λ m. AreMediaOf cut.now tracks.now waiting.now
+        (tally.new.fragments + 1) m) }
+    ensures rises { IfOk result (λ m. (end : ℕ) → end_of (waiting.now.moof.at +
+        length waiting.now.moof.bytes) header.now.size ≡ Some end →
+        Rises end (spot_of cut.now (moof_in waiting.now) tracks.now
+        (waiting.now.moof.at + length waiting.now.moof.bytes + header.now.header_len)
+        (tally.new.fragments + 1) m)) }
+    ensures numbers { IfOk result (λ m. tally.new.fragments + 1 + length (parts_left cut.now
+        (moof_in waiting.now) tracks.now (tally.new.fragments + 1) m.later) ≡
+        (splitting cut.now).numbered (recut_fragment waiting.now tracks.now
+        (tally.old.fragments + 1) header.now)) }
+    ensures lost { OnErr result ((x : List ℕ) (account : Account) (own : ℕ) (l : List ℕ) →
+        length x ≡ need x → header_at x ≡ steps.Whole header.now → own ≤ account.live →
+        Loses (outside (W.contents w.old) out.old account tally.old)
+        (outside (W.contents w.new) out.new (given_back account own) tally.new) own
+        ((standing (splitting cut.now) (Behind (context waiting.now.moof.at (Some tracks.now)
+        (tally.old.fragments + 1)) tracks.now waiting.now.moof.bytes x)).reads l)) }
+    ensures tally { tally.new ≡ with_samples (recut_fragment waiting.now tracks.now
+        (tally.old.fragments + 1) header.now) tally.old tally.new.fragments }
+    ensures few_numbers { tally.new.fragments + 1 ≤ 2 ^ 32 }
+    ensures failed { OnErr result (W.has_failed w.new ≡ true) }
+    ensures kept { OnOk result (W.has_failed w.new ≡ W.has_failed w.old) }
+{
+    tally.samples += u128::from(measure.samples);
+    tally.media_bytes += measure.bytes;
+    let moof = Moof::again(waiting.moof.bytes(), waiting.moof.offset(), tracks);
+    let runs = &waiting.runs;
+    let media = begin(&moof, runs, tracks, cut);
+    let fragments = &mut tally.fragments;
+    match settle(media, &moof, runs, tracks, cut, fragments, out, w) {
+        Ok(media) => Ok(media),
+        Err(Failed) => Err(Failed),
+    }
+}
+
+/// Whether the pieces of the moof that waits have room for their numbers, where the next fragment has this one: then its runs can be
+/// cut. The rows that are read for this, and as its samples are recut, are counted.
+///
+/// # Errors
+///
+/// As [`check_room`].
+fn check_fragment(
+    waiting: &Waiting,
+    tracks: &TrackList,
+    cut: &Cut,
+    number: u64,
+    samples: u64,
+    steps: &mut Steps,
+) -> Result<(), Fault>
+    requires waiting { IsWaiting (Some tracks.now) waiting.now }
+    requires numbers { number ≤ 2 ^ 32 }
+    requires samples { samples ≡ moof_samples (moof_in waiting.now) }
+    requires few { samples ≤ 1000000 }
+    requires steps { steps.old.rows < 2 ^ 120 }
+    ensures cut { OnOk result (AreCut cut.now (moof_in waiting.now) tracks.now) }
+    ensures numbers { OnOk result (number + length (runs_parts cut.now waiting.now.moof.bytes
+        tracks.now number (taken_runs (moof_in waiting.now) tracks.now)) ≤ 2 ^ 32) }
+    ensures fault { fault_of result ≡ room_fault cut.now (moof_in waiting.now)
+        (moof_runs (moof_in waiting.now) tracks.now) number }
+    ensures least { OnOk result (steps.old.rows + cut_least cut.now.index samples ≤
+        steps.new.rows) }
+    ensures low { steps.old.rows ≤ steps.new.rows }
+    ensures most { steps.new.rows ≤ steps.old.rows + cut_most cut.now.index samples }
+{
+    let moof = Moof::again(waiting.moof.bytes(), waiting.moof.offset(), tracks);
+    match check_room(&moof, tracks, cut, number, samples, steps) {
+        Ok(()) => {
+            steps.rows += u128::from(samples * looks(cut));
+            Ok(())
+        }
+        Err(fault) => Err(fault),
+    }
+}
+
+/// How often the row of a sample is read at most as its run is recut: for its piece, for the number of pieces, and for its moof;
+/// with an index again for its group, for the number of its pieces, and twice for the reference.
+fn looks(cut: &Cut) -> u64
+    ensures { result ≡ looks cut.now.index }
+{
+    if cut.has_index() { 7 } else { 3 }
+}
+
+/// Begins the fragment of the moof that waits, behind which the box with this header stands, to be recut: its samples are
+/// counted, and all is put that needs no byte of its media. The moof and its list are given back where it is refused.
+///
+/// # Errors
+///
+/// `Stream` where that box may not stand there, the runs of the moof not in it, or where its pieces have no room for their
+/// numbers; `Write` where a write failed.
+pub(crate) fn begin_split<W: Sink>(
+    waiting: Waiting,
+    header: &Header,
+    head: &[u8],
+    tracks: &TrackList,
+    cut: &Cut,
+    ledger: &mut Ledger,
+    counter: &mut Counter,
+    out: &mut Block,
+    w: &mut W,
+) -> Result<Split, Stop>
+    requires room { HasRoom header.now.size header.now.header_len }
+    requires len { length head.now ≡ need head.now }
+    requires is { header_at head.now ≡ steps.Whole header.now }
+    requires waiting { IsWaiting (Some tracks.now) waiting }
+    requires claim { claimed_in (Some tracks.now) (Some waiting) ≤ ledger.old.live }
+    requires numbers { counter.old.tally.fragments + 1 ≤ 2 ^ 32 }
+    requires steps { counter.old.steps.rows < 2 ^ 120 }
+    requires few { counter.old.tally.samples < 2 ^ 100 }
+    requires small { counter.old.tally.media_bytes < 2 ^ 63 }
+    ensures takes { Takes (around (sent W.contents W.has_failed w.old w.new) out.old out.new
+        ledger.old (when_stopped result (64 * length tracks.now) ledger.new)
+        counter.old.tally counter.new.tally)
+        (standing (splitting cut.now) (Behind (context waiting.moof.at (Some tracks.now)
+        (counter.old.tally.fragments + 1)) tracks.now waiting.moof.bytes head.now))
+        [] (λ _. []) (λ s. standing (splitting cut.now) (in_media cut.now
+        (recut_fragment waiting tracks.now (counter.old.tally.fragments + 1) header.now)
+        (spot_of cut.now (moof_in waiting) tracks.now
+        (waiting.moof.at + length waiting.moof.bytes + header.now.header_len)
+        (counter.new.tally.fragments + 1) s.media)
+        (waiting.moof.at + length waiting.moof.bytes) header.now
+        (with_runs (context waiting.moof.at (Some tracks.now) (counter.old.tally.fragments + 1))
+        tracks.now waiting.moof.bytes) header.now.size)) result }
+    ensures same { IfOk result (λ s. s.waiting ≡ waiting) }
+    ensures media { IfOk result (λ s. AreMediaOf cut.now tracks.now waiting
+        (counter.new.tally.fragments + 1) s.media) }
+    ensures rises { IfOk result (λ s. (end : ℕ) → end_of (waiting.moof.at +
+        length waiting.moof.bytes) header.now.size ≡ Some end →
+        Rises end (spot_of cut.now (moof_in waiting) tracks.now
+        (waiting.moof.at + length waiting.moof.bytes + header.now.header_len)
+        (counter.new.tally.fragments + 1) s.media)) }
+    ensures numbers { IfOk result (λ s. counter.new.tally.fragments + 1 + length (parts_left
+        cut.now (moof_in waiting) tracks.now (counter.new.tally.fragments + 1) s.media.later)
+        ≡ (splitting cut.now).numbered (recut_fragment waiting tracks.now
+        (counter.old.tally.fragments + 1) header.now)) }
+    ensures needed { IfOk result (λ s. s.needed ≡ needed_in (recut_fragment waiting tracks.now
+        (counter.old.tally.fragments + 1) header.now)) }
+    ensures near { IfOk result (λ s. least_end (waiting.moof.at + length waiting.moof.bytes)
+        header.now header.now.size ≤ longest) }
+    ensures counted { IsCounted (plans.Split cut.now) counter.old
+        (waiting.moof.at + waiting.moof.size) (moof_samples (moof_in waiting))
+        (moof_samples (moof_in waiting)) → IfOk result (λ s. IsCounted (plans.Split cut.now)
+        counter.new (bound_behind (waiting.moof.at + waiting.moof.size) header.now.size) 0
+        (moof_samples (moof_in waiting))) }
+    ensures spent { IsCounted (plans.Split cut.now) counter.old
+        (waiting.moof.at + waiting.moof.size) (moof_samples (moof_in waiting))
+        (moof_samples (moof_in waiting)) →
+        OnErr result (HasStopped (plans.Split cut.now) counter.new) }
+    ensures ledger { IfOk result (λ s. ledger.new ≡ ledger.old) }
+    ensures left { OnErr result (64 * length tracks.now ≤ ledger.new.live) }
+{
+    match check_mdat(&waiting, header, tracks) {
+        Ok(()) => {}
+        Err(fault) => {
+            back(Some(waiting), ledger);
+            return Err(Stop::Stream(fault));
+        }
+    }
+    let next = waiting.moof.offset() + waiting.moof.size();
+    let measure = measure_runs(&waiting, payload_of(next, header), tracks);
+    let samples = measure.samples;
+    let number = counter.tally.fragments + 1;
+    match check_fragment(&waiting, tracks, cut, number, samples, &mut counter.steps) {
+        Ok(()) => {}
+        Err(fault) => {
+            back(Some(waiting), ledger);
+            return Err(Stop::Stream(fault));
+        }
+    }
+    let needed = measure.needed;
+    let tally = &mut counter.tally;
+    match begin_recut(&waiting, measure, header, tracks, cut, tally, out, w) {
+        Ok(media) => Ok(Split {
+            waiting,
+            media,
+            needed,
+        }),
+        Err(Failed) => {
+            back(Some(waiting), ledger);
+            Err(Stop::Write)
+        }
+    }
+}

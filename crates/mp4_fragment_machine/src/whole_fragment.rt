@@ -1,0 +1,238 @@
+//! A fragment of which a piece has all, with one run: it is taken where it lies.
+//!
+//! Most fragments of live streams are such. What they would claim is counted, and no memory is asked for.
+
+ghost use Rattle.std.specs.Prelude.{◌≡◌, ◌+◌, ◌*◌, ◌<◌, ◌≤◌, ◌^◌, [], ◌++◌, List, length, Some, true, IfSome, IsTrue, OnOk, OnErr};
+ghost use Rattle.mp4_box.specs.Headers.{IsBytes, IsWhole};
+ghost use Rattle.mp4_box.specs.declared.headers.Header.{Header};
+ghost use Rattle.mp4_init.specs.declared.table.Track.{Track};
+ghost use Rattle.mp4_frag.specs.LoneRuns.{IsLone};
+ghost use Rattle.mp4_frag.specs.Runs.{moof_at};
+ghost use Rattle.mp4_machine.specs.Blocks.{Breaks, Passes};
+ghost use Rattle.mp4_machine.specs.Bodies.{longest};
+ghost use Rattle.mp4_machine.specs.Readings.{plus};
+ghost use Rattle.mp4_grammar.specs.Commands.{accepted};
+ghost use Rattle.mp4_grammar.specs.Contexts.{context};
+ghost use Rattle.mp4_grammar.specs.Items.{fragment, walked};
+ghost use Rattle.mp4_grammar.specs.Meanings.{counted_in};
+ghost use Rattle.mp4_recut.specs.declared.plan.Plan.TheVariants as plans;
+ghost use Rattle.mp4_fragment_machine.specs.States.{IsCounted, known, listed_by};
+ghost use Rattle.mp4_fragment_machine.specs.Working.Steps.{CanStep, TakesWhole, lent};
+ghost use Rattle.mp4_fragment_machine.specs.Working.Wholes.{AreBoxes, IsFragment, StandsFirst};
+ghost use Rattle.mp4_fragment_machine.specs.declared.state.State.TheVariants as states;
+
+use crate::lines::put_run;
+use crate::listed_fragment::count;
+use crate::state::{Counter, Kept};
+use mp4_box::{HeaderReader, Size, header_of};
+use mp4_ends::{Failed, Sink};
+use mp4_frag::{LoneRun, Payload};
+use mp4_init::TrackList;
+use mp4_grammar::{Command, Kind, MOST_MOOF, kind_of};
+use mp4_ledger::Ledger;
+use mp4_machine::{Block, Stop, is_too_long};
+
+/// How many bytes a row of the list of runs takes.
+pub(crate) const ROW: u64 = 64;
+
+/// A box of which some bytes have all.
+#[derive(Clone, Copy)]
+pub(crate) struct Span {
+    /// How many bytes its header has.
+    pub(crate) header_len: u64,
+    /// How many bytes it has with its header.
+    pub(crate) size: u64,
+}
+
+/// The boxes of a fragment of which a piece has all.
+#[derive(Clone, Copy)]
+pub(crate) struct Boxes<'a> {
+    /// The bytes of its moof.
+    pub(crate) moof: &'a [u8],
+    /// Its mdat.
+    pub(crate) mdat: Span,
+}
+
+/// A fragment of which a piece has all.
+#[derive(Clone, Copy)]
+pub(crate) struct Whole<'a> {
+    /// Its boxes.
+    pub(crate) boxes: Boxes<'a>,
+    /// The only run of its moof.
+    pub(crate) run: &'a LoneRun,
+}
+
+/// The box at `at`, where it is of this kind and stands at the front of the bytes, they have all of it, and it doesn't go past
+/// the longest stream.
+#[inline(always)]
+fn first_box(kind: Kind, at: u64, bytes: &[u8]) -> Option<Span>
+    requires at { at ≤ longest }
+    ensures { IfSome result (λ b. StandsFirst kind at bytes.now b) }
+{
+    let Ok(header) = header_of(bytes) else {
+        return None;
+    };
+    if kind_of(header.kind) != kind {
+        return None;
+    }
+    let Size::Exact(size) = header.size else {
+        return None;
+    };
+    if size > bytes.len() as u64 || is_too_long(at, &header) {
+        return None;
+    }
+    Some(Span {
+        header_len: header.header_len,
+        size,
+    })
+}
+
+/// The boxes of the fragment at `at`, where they stand at the front of a piece that has all of them, and its moof and a row of a
+/// list may be claimed.
+#[inline(always)]
+fn boxes_in<'a>(at: u64, piece: &'a [u8], ledger: &Ledger) -> Option<Boxes<'a>>
+    requires at { at ≤ longest }
+    ensures are { IfSome result (λ b. AreBoxes at piece.now b) }
+    ensures room { IfSome result (λ b.
+        ledger.now.live + (length b.moof.now + 64) ≤ ledger.now.limit) }
+{
+    let Some(moof) = first_box(Kind::Moof, at, piece) else {
+        return None;
+    };
+    if moof.size > MOST_MOOF || moof.size + ROW > ledger.limit() - ledger.live() {
+        return None;
+    }
+    let (bytes, behind) = piece.split_at(moof.size as usize);
+    let Some(mdat) = first_box(Kind::Mdat, at + moof.size, behind) else {
+        return None;
+    };
+    Some(Boxes { moof: bytes, mdat })
+}
+
+/// The boxes of the fragment at `at`, where no byte of a header came before.
+#[inline(always)]
+pub(crate) fn boxes_at<'a>(
+    at: u64,
+    head: &HeaderReader,
+    piece: &'a [u8],
+    ledger: &Ledger,
+) -> Option<Boxes<'a>>
+    requires at { at ≤ longest }
+    ensures head { IfSome result (λ _. head.now ≡ []) }
+    ensures are { IfSome result (λ b. AreBoxes at piece.now b) }
+    ensures room { IfSome result (λ b.
+        ledger.now.live + (length b.moof.now + 64) ≤ ledger.now.limit) }
+{
+    if head.is_empty() {
+        boxes_in(at, piece, ledger)
+    } else {
+        None
+    }
+}
+
+/// Whether a run stands where it may in the payload of the mdat of a fragment at `at`.
+#[inline(always)]
+pub(crate) fn stands_in(at: u64, boxes: &Boxes<'_>, piece: &[u8], run: &LoneRun) -> bool
+    requires are { AreBoxes at piece.now boxes.now }
+    ensures { (tracks : List Track) → IsTrue result →
+        IsLone (moof_at boxes.now.moof.now at) tracks run.now →
+        IsFragment at tracks piece.now boxes.now run.now }
+{
+    let next = at + boxes.moof.len() as u64;
+    let payload = Payload {
+        start: next + boxes.mdat.header_len,
+        end: Some(next + boxes.mdat.size),
+    };
+    run.stands_in(payload)
+}
+
+/// Counts a fragment, and puts the lines of its samples where they are asked for. Its rows were read where its moof was, and for
+/// its run.
+///
+/// # Errors
+///
+/// `Failed` where a write failed.
+#[inline(always)]
+fn tell_whole<W: Sink>(
+    command: Command,
+    at: u64,
+    whole: &Whole<'_>,
+    piece: &[u8],
+    tracks: &TrackList,
+    counter: &mut Counter,
+    out: &mut Block,
+    w: &mut W,
+) -> Result<(), Failed>
+    requires is { IsFragment at tracks.now piece.now whole.now.boxes whole.now.run.now }
+    requires counted { IsCounted (plans.List command) counter.old at 0 0 }
+    ensures ok { (g : Header) → OnOk result (Passes (W.contents w.old) (W.contents w.new) out.old
+        out.new (accepted command (fragment (context at (Some tracks.now) 1) tracks.now
+        whole.now.boxes.moof.now g)).text) }
+    ensures err { (g : Header) → OnErr result (Breaks (W.contents w.old)
+        (W.contents w.new) out.old out.new ((accepted command (fragment
+        (context at (Some tracks.now) 1) tracks.now whole.now.boxes.moof.now g)).text)) }
+    ensures failed { OnErr result (W.has_failed w.new ≡ true) }
+    ensures kept { OnOk result (W.has_failed w.new ≡ W.has_failed w.old) }
+    ensures tally { (g : Header) → counter.new.tally ≡ plus (plus counter.old.tally
+        (walked (moof_at whole.now.boxes.moof.now at))) (counted_in (fragment
+        (context at (Some tracks.now) 1) tracks.now whole.now.boxes.moof.now g)) }
+    ensures walked { counter.new.steps.rows ≡ counter.old.steps.rows + 2 * whole.now.run.now.run.count +
+        listed_by (plans.List command) whole.now.run.now.run.count }
+    ensures counted { IsCounted (plans.List command) counter.new
+        (at + length whole.now.boxes.moof.now + whole.now.boxes.mdat.size) 0 0 }
+{
+    let run = &whole.run.run;
+    let samples = u64::from(run.count);
+    counter.tally.walked += u128::from(samples);
+    counter.steps.rows += 2 * u128::from(samples);
+    count(counter, samples, run.bytes);
+    match command {
+        Command::Check => Ok(()),
+        Command::Samples => {
+            counter.steps.rows += u128::from(samples);
+            put_run(run, whole.boxes.moof, out, w)
+        }
+    }
+}
+
+/// Takes the fragment at the front of a piece: it is told, and its track ends where its run does. How many bytes it has.
+///
+/// # Errors
+///
+/// `Write` where a write failed.
+#[inline(always)]
+pub(crate) fn take_fragment<W: Sink>(
+    command: Command,
+    at: u64,
+    whole: &Whole<'_>,
+    piece: &[u8],
+    kept: &mut Kept,
+    ledger: &mut Ledger,
+    out: &mut Block,
+    w: &mut W,
+) -> Result<u64, Stop>
+    requires known { kept.old.tracks ≡ Some (known kept.old.tracks) }
+    requires is { IsFragment at (known kept.old.tracks) piece.now whole.now.boxes whole.now.run.now }
+    requires room { ledger.old.live + (length whole.now.boxes.moof.now + 64) ≤ ledger.old.limit }
+    requires empty { kept.old.head ≡ [] }
+    requires plan { kept.old.plan ≡ plans.List command }
+    requires can { CanStep kept.old ledger.old (states.Header at) }
+    ensures { TakesWhole (lent W.contents W.has_failed w.old w.new out.old out.new ledger.old ledger.new)
+        kept.old kept.new at piece.now result }
+{
+    let Some(list) = &mut kept.tracks else {
+        unreachable!();
+    };
+    let held = whole.boxes.moof.len() as u64;
+    match ledger.count_claim(held + ROW) {
+        Ok(()) => {}
+        Err(_) => unreachable!(),
+    }
+    let counter = &mut kept.counter;
+    match tell_whole(command, at, whole, piece, list, counter, out, w) {
+        Ok(()) => {}
+        Err(Failed) => return Err(Stop::Write),
+    }
+    whole.run.settle(list);
+    Ok(held + whole.boxes.mdat.size)
+}

@@ -1,0 +1,11 @@
+pub mod Kinds
+pub mod Contexts
+pub mod Meanings
+pub mod Items
+pub mod Samples
+pub mod Commands
+pub mod Counts
+pub mod Joined
+pub mod Rests
+pub mod HeldSizes
+pub mod WithoutText

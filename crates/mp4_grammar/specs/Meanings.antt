@@ -1,0 +1,81 @@
+-- What a command makes of a fragmented stream.
+use Rattle.std.specs.Prelude.{ℕ, ℤ, pos, ◌-◌, ◌==◌, List, [], ◌∷◌, ◌++◌, max, if◌then◌else◌, Option}
+use Rattle.std.specs.List.{sum_by}
+use Rattle.std.specs.Option.{option_or}
+use lib.IntN.{negsuc}
+use Rattle.mp4_box.specs.declared.headers.FourCc.{FourCc}
+use Rattle.mp4_box.specs.declared.rules.Fault.{Fault}
+use Rattle.mp4_init.specs.declared.table.Track.{Track}
+use Rattle.mp4_run_order.specs.declared.runs.Payload.{Payload}
+use Rattle.mp4_frag.specs.declared.run.Run.{Run}
+use Rattle.mp4_frag.specs.Moofs.{moof_runs, moof_samples, moof_trafs}
+use Rattle.mp4_frag.specs.Places.{place_fault}
+use Rattle.mp4_frag.specs.RunLists.{taken_runs}
+use Rattle.mp4_frag.specs.Runs.{MoofBytes, end_place}
+use Rattle.mp4_frag.specs.Settling.{settled}
+use Rattle.mp4_machine.specs.Readings.{Effects, TellsMore}
+use Rattle.mp4_machine.specs.declared.tally.Tally.{Tally}
+
+-- a moof and the mdat directly behind it, by the payload of that; with the tracks and the number of the next fragment before them
+pub record Fragment : Type 0 where
+  pub moof : MoofBytes
+  pub tracks : List Track
+  pub number : ℕ
+  pub payload : Payload
+
+-- ---- what is the same for all commands
+
+-- its runs, in the order in which they are taken
+abbrev pub runs_in : Fragment → List Run
+runs_in f = taken_runs f.moof f.tracks
+
+-- what is counted of it once its mdat's header is accepted: its samples, and the bytes of their media
+abbrev pub counted_in : Fragment → Tally
+counted_in f = record {
+  fragments = 1;
+  samples = moof_samples f.moof;
+  media_bytes = sum_by (λ (run : Run). run.bytes) (runs_in f);
+  walked = 0;
+}
+
+-- the tracks behind it
+abbrev pub settled_in : Fragment → List Track
+settled_in f = settled f.tracks (moof_trafs f.moof f.tracks)
+
+-- how far a place lies behind an offset
+abbrev pub beyond : ℕ → ℤ → ℕ
+beyond start (pos n) = n - start
+beyond start (negsuc n) = 0
+
+-- how many bytes from an offset on these runs reach, where they have samples
+abbrev pub reach : ℕ → List Run → ℕ
+reach start [] = 0
+reach start (run ∷ runs) = if run.count == 0 then reach start runs else max (beyond start (end_place run)) (reach start runs)
+
+-- how many bytes of its payload its runs need
+abbrev pub needed_in : Fragment → ℕ
+needed_in f = reach f.payload.start (runs_in f)
+
+-- ---- what differs
+
+pub record Meaning : Type 0 where
+  -- what is written of a moov, once its tracks are known
+  pub of_moov : List ℕ → List ℕ
+  -- what is told of the bytes that came of another box of a type, from its header on
+  pub passed : FourCc → List ℕ → Effects
+  -- what it refuses of a fragment whose runs stand where they may
+  pub refuses : Fragment → Option Fault
+  -- what is told of a fragment at its mdat's header, and then of the bytes of its payload that came
+  pub accepted : Fragment → Effects
+  pub media : Fragment → List ℕ → Effects
+  -- the number of the next fragment behind it
+  pub numbered : Fragment → ℕ
+
+-- what is at fault with a fragment whose moof is good, once its mdat's header came
+abbrev pub fragment_fault : Meaning → Fragment → Option Fault
+fragment_fault meaning f = option_or (place_fault f.payload (moof_runs f.moof f.tracks)) (meaning.refuses f)
+
+-- what is told of media and of other boxes grows with them
+pub record IsGrowing (meaning : Meaning) : Type 0 where
+  pub media : (f : Fragment) (b x : List ℕ) → TellsMore (meaning.media f b) (meaning.media f (b ++ x))
+  pub passed : (kind : FourCc) (b x : List ℕ) → TellsMore (meaning.passed kind b) (meaning.passed kind (b ++ x))

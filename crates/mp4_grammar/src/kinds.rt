@@ -1,0 +1,38 @@
+//! The kinds of boxes at the top of a fragmented stream.
+
+ghost use Rattle.std.specs.Prelude.{◌≡◌};
+ghost use Rattle.mp4_grammar.specs.Kinds.{kind_in};
+
+use mp4_box::FourCc;
+
+/// The most bytes that a moov may have.
+pub const MOST_MOOV: u64 = 16_777_216;
+
+/// The most bytes that a moof may have.
+pub const MOST_MOOF: u64 = 67_108_864;
+
+/// The kind of a box at the top.
+#[derive(Clone, Copy, Debug, PartialEq, Eq)]
+pub enum Kind {
+    /// What the tracks are (ISO/IEC 14496-12, 8.2.1).
+    Moov,
+    /// What the samples of a fragment are (8.8.4).
+    Moof,
+    /// Their media (8.1.1).
+    Mdat,
+    /// All others.
+    Other,
+}
+
+/// The kind of a box of this type.
+#[tactic(auto, unfolding(crate::specs::Kinds::kind_in))]
+pub fn kind_of(kind: FourCc) -> Kind
+    ensures { result ≡ kind_in kind.0 }
+{
+    match &kind.0 {
+        b"moov" => Kind::Moov,
+        b"moof" => Kind::Moof,
+        b"mdat" => Kind::Mdat,
+        _ => Kind::Other,
+    }
+}

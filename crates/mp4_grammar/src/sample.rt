@@ -1,0 +1,136 @@
+//! The samples of a fragment, and their lines.
+
+ghost use Rattle.std.specs.Prelude.{◌≡◌, ◌++◌, ◌^◌, ◌<◌, ◌≤◌, ◌+◌, [], length};
+ghost use Rattle.mp4_frag.specs.declared.rows.Row.{Row};
+ghost use Rattle.std.specs.Fmt.{decimal, signed_decimal};
+ghost use Rattle.mp4_grammar.specs.Samples.{fields_text, place_text, sample_line, sample_of, sync_text, times_text};
+
+use mp4_frag::{Row, Run};
+use mp4_lines::{DECIMAL_DIGITS, SIGNED_DECIMAL_BYTES, Text};
+use mp4_machine::{BLOCK_BYTES, LINE_BYTES, Line};
+
+/// The bit of a sample's flags that a sync sample has clear (ISO/IEC 14496-12, 8.8.3).
+const NON_SYNC: u32 = 0x0001_0000;
+
+/// A sample of a fragment. Times are ticks of its track's timescale.
+#[derive(Clone, Copy, Debug, PartialEq, Eq)]
+pub struct Sample {
+    /// The track_ID of its track.
+    pub track: u32,
+    /// Its decode time.
+    pub time: u64,
+    /// Its composition time.
+    pub composition: i128,
+    /// Its duration.
+    pub duration: u32,
+    /// Its size in bytes.
+    pub size: u32,
+    /// Its flags (ISO/IEC 14496-12, 8.8.3).
+    pub flags: u32,
+    /// The index of its sample entry, from 1 on.
+    pub entry: u32,
+    /// The offset in the stream of its first byte.
+    pub place: i128,
+}
+
+impl Sample {
+    /// The sample of a row of a run that is decoded at a time, and whose bytes stand at a place.
+    pub fn of(run: &Run, row: &Row, time: u64, place: i128) -> Sample
+        ensures { result ≡ sample_of run.now row.now time place }
+    {
+        Sample {
+            track: run.track,
+            time,
+            composition: i128::from(time) + i128::from(row.offset),
+            duration: row.duration,
+            size: row.size,
+            flags: row.flags,
+            entry: run.entry,
+            place,
+        }
+    }
+}
+
+impl Sample {
+    /// Appends its track and its times.
+    fn push_times(&self, block: &mut Text<BLOCK_BYTES>)
+        requires { length block.old + LINE_BYTES ≤ BLOCK_BYTES }
+        ensures text { block.new ≡ block.old ++ times_text self.now }
+        ensures len { length block.new ≤ length block.old + 96 }
+    {
+        push_number(block, b"track=", u64::from(self.track));
+        push_number(block, b" dts=", self.time);
+        push_signed(block, b" cts=", self.composition);
+    }
+
+    /// Appends its duration, size and flags.
+    fn push_fields(&self, block: &mut Text<BLOCK_BYTES>)
+        requires { length block.old + 71 ≤ BLOCK_BYTES }
+        ensures text { block.new ≡ block.old ++ fields_text self.now }
+        ensures len { length block.new ≤ length block.old + 71 }
+    {
+        push_number(block, b" dur=", u64::from(self.duration));
+        push_number(block, b" size=", u64::from(self.size));
+        block.push_bytes(b" flags=");
+        block.push_hex(&self.flags.to_be_bytes());
+        block.push_bytes(b" ");
+        push_sync(block, self.flags);
+    }
+
+    /// Appends its sample entry and place, and ends its line.
+    fn push_place(&self, block: &mut Text<BLOCK_BYTES>)
+        requires { length block.old + 71 ≤ BLOCK_BYTES }
+        ensures { block.new ≡ block.old ++ place_text self.now }
+    {
+        push_number(block, b" desc=", u64::from(self.entry));
+        push_signed(block, b" at=", self.place);
+        block.push_bytes(b"\n");
+    }
+}
+
+impl Line for Sample {
+    ghost text = { λ s. sample_line s };
+
+    #[tactic(auto, unfolding(crate::specs::Samples::sample_line))]
+    fn push(&self, block: &mut Text<BLOCK_BYTES>) {
+        self.push_times(block);
+        self.push_fields(block);
+        self.push_place(block);
+    }
+}
+
+/// Appends a number behind its name.
+#[inline(always)]
+fn push_number(block: &mut Text<BLOCK_BYTES>, name: &[u8], number: u64)
+    requires { length block.old + length name.now + DECIMAL_DIGITS ≤ BLOCK_BYTES }
+    ensures text { block.new ≡ block.old ++ name.now ++ decimal number }
+    ensures len { length block.new ≤ length block.old + length name.now + DECIMAL_DIGITS }
+{
+    block.push_bytes(name);
+    block.push_decimal(number);
+}
+
+/// Appends a number with a sign behind its name.
+#[inline(always)]
+fn push_signed(block: &mut Text<BLOCK_BYTES>, name: &[u8], number: i128)
+    requires { length block.old + length name.now + SIGNED_DECIMAL_BYTES ≤ BLOCK_BYTES }
+    ensures text { block.new ≡ block.old ++ name.now ++ signed_decimal number }
+    ensures len { length block.new ≤ length block.old + length name.now + SIGNED_DECIMAL_BYTES }
+{
+    block.push_bytes(name);
+    block.push_signed_decimal(number);
+}
+
+/// Appends whether it is a sync sample.
+#[inline]
+fn push_sync(block: &mut Text<BLOCK_BYTES>, flags: u32)
+    requires { length block.old + 4 ≤ BLOCK_BYTES }
+    ensures text { block.new ≡ block.old ++ sync_text flags }
+    ensures len { length block.new ≤ length block.old + 4 }
+{
+    if flags & NON_SYNC == 0 {
+        block.push_bytes(b"sync");
+    } else {
+        block.push_bytes(b"-");
+    }
+}

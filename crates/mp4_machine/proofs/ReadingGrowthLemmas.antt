@@ -1,0 +1,110 @@
+-- What more bytes change of a reading, whatever the items are.
+use Rattle.std.proofs.Common.{◌≡◌, ◌∙◌, ℕ, zero, suc, ◌≤◌, List, [], ◌∷◌, ◌++◌, length, None, ap, sym, refl, arith, append_assoc, append-nil, subst}
+use Rattle.mp4_machine.specs.Readings.{Outcome, Sound, Faulty, CutOff, Effects, silent, both, Reading, FirstItem, Last, Whole, IsPrefix, TellsMore, GrowsTo, early_in, after, after_effects, then_read, read_all, shifted}
+use Rattle.mp4_machine.proofs.ReadingAskLemmas.{shifted-append}
+use Rattle.mp4_machine.proofs.ReadingLemmas.{Below, IsItemwise, read_all-front}
+
+-- what is told of what stands at the front
+abbrev pub effects_of : {C : Type 0} → FirstItem C → Effects
+effects_of (Last r) = r.effects
+effects_of (Whole effects next rest) = effects
+
+-- more bytes change nothing of a reading that ends with a decided fault, and else may add to what is told
+abbrev pub LastGrows : {C : Type 0} → Reading → Outcome → FirstItem C → Type 0
+LastGrows r (Faulty f) g = g ≡ Last r
+LastGrows r Sound g = TellsMore r.effects (effects_of g)
+LastGrows r (CutOff f) g = TellsMore r.effects (effects_of g)
+
+-- more bytes change nothing of a whole item but what follows it
+abbrev pub FrontGrows : {C : Type 0} → List ℕ → FirstItem C → FirstItem C → Type 0
+FrontGrows x (Whole text next rest) g = g ≡ Whole text next (rest ++ x)
+FrontGrows x (Last r) g = LastGrows r r.outcome g
+
+-- ---- what is told
+
+prefix-trans : {X : Type 0} (xs ys zs : List X) → IsPrefix xs ys → IsPrefix ys zs → IsPrefix xs zs
+prefix-trans xs ys zs p q = (p.0 ++ q.0, sym (append_assoc xs p.0 q.0) ∙ ap (λ l. l ++ q.0) p.1 ∙ q.1)
+
+pub TellsMore-silent : (t : Effects) → TellsMore silent t
+TellsMore-silent t = record { text = (t.text, refl); requests = (t.requests, refl) }
+
+pub TellsMore-same : (t : Effects) → TellsMore t t
+TellsMore-same t = record { text = ([], append-nil t.text); requests = ([], append-nil t.requests) }
+
+pub TellsMore-trans : (s t u : Effects) → TellsMore s t → TellsMore t u → TellsMore s u
+TellsMore-trans s t u p q = record { text = prefix-trans s.text t.text u.text p.text q.text; requests = prefix-trans s.requests t.requests u.requests p.requests q.requests }
+
+pub TellsMore-behind : (u s t : Effects) → TellsMore s t → TellsMore (both u s) (both u t)
+TellsMore-behind u s t p = record {
+  text = (p.text.0, append_assoc u.text s.text p.text.0 ∙ ap (λ l. u.text ++ l) p.text.1);
+  requests = (shifted u p.requests.0, append_assoc u.requests (shifted u s.requests) (shifted u p.requests.0) ∙ ap (λ l. u.requests ++ l) (sym (shifted-append u s.requests p.requests.0) ∙ ap (shifted u) p.requests.1));
+}
+
+TellsMore-both : (s t : Effects) → TellsMore s (both s t)
+TellsMore-both s t = record { text = (t.text, refl); requests = (shifted s t.requests, refl) }
+
+-- what is told of an item comes first
+pub told_of-first : {C : Type 0} (r : C → List ℕ → Reading) (g : FirstItem C) → TellsMore (effects_of g) (then_read r g).effects
+told_of-first r (Last s) = TellsMore-same s.effects
+told_of-first r (Whole effects next rest) = TellsMore-both effects (r next rest).effects
+
+-- something is told before the front
+pub told-grows : {C : Type 0} (t : Effects) (x : List ℕ) (f g : FirstItem C) → FrontGrows x f g → FrontGrows x (after_effects t f) (after_effects t g)
+told-grows {C = C} t x (Whole effects next rest) g h = ap (after_effects t) h
+told-grows {C = C} t x (Last r) g h = last r r.outcome refl h
+  where
+    behind : (r : Reading) (g : FirstItem C) → TellsMore r.effects (effects_of g) → TellsMore (both t r.effects) (effects_of (after_effects t g))
+    behind r (Last s) h = TellsMore-behind t r.effects s.effects h
+    behind r (Whole effects next rest) h = TellsMore-behind t r.effects effects h
+
+    last : (r : Reading) (e : Outcome) → r.outcome ≡ e → LastGrows r e g → LastGrows (after t r) e (after_effects t g)
+    last r (Faulty f) e h = ap (after_effects t) h
+    last r Sound e h = behind r g h
+    last r (CutOff f) e h = behind r g h
+
+-- ---- readings
+
+GrowsTo-same : (r : Reading) → GrowsTo r r
+GrowsTo-same r = record { effects = TellsMore-same r.effects; early = λ f e. refl }
+
+GrowsTo-after : (t : Effects) (r s : Reading) → GrowsTo r s → GrowsTo (after t r) (after t s)
+GrowsTo-after t r s g = record { effects = TellsMore-behind t r.effects s.effects g.effects; early = λ f e. ap (after t) (g.early f e) }
+
+module _ {C : Type 0} (first_item : C → List ℕ → FirstItem C) (items : IsItemwise first_item) (grows : (c : C) (b x : List ℕ) → FrontGrows x (first_item c b) (first_item c (b ++ x))) where
+  -- what stands at the front is the last
+  last_grows : (r : Reading) (e : Outcome) (c : C) (b x : List ℕ) → r.outcome ≡ e → LastGrows r e (first_item c (b ++ x)) → GrowsTo r (read_all first_item c (b ++ x))
+  last_grows r (Faulty f) c b x is g = subst (GrowsTo r) (sym (read_all-front first_item items c (b ++ x) ∙ ap (then_read (read_all first_item)) g)) (GrowsTo-same r)
+  last_grows r Sound c b x is g = record {
+    effects = TellsMore-trans r.effects (effects_of (first_item c (b ++ x))) _ g (subst (λ (s : Reading). TellsMore (effects_of (first_item c (b ++ x))) s.effects) (sym (read_all-front first_item items c (b ++ x))) (told_of-first (read_all first_item) (first_item c (b ++ x))));
+    early = λ f e. let none : early_in r.outcome ≡ None = ap early_in is in absurd cc;
+  }
+  last_grows r (CutOff h) c b x is g = record {
+    effects = TellsMore-trans r.effects (effects_of (first_item c (b ++ x))) _ g (subst (λ (s : Reading). TellsMore (effects_of (first_item c (b ++ x))) s.effects) (sym (read_all-front first_item items c (b ++ x))) (told_of-first (read_all first_item) (first_item c (b ++ x))));
+    early = λ f e. let none : early_in r.outcome ≡ None = ap early_in is in absurd cc;
+  }
+
+  grows_by : (n : ℕ) → ((c : C) (b x : List ℕ) → length b ≤ n → GrowsTo (read_all first_item c b) (read_all first_item c (b ++ x)))
+      → (c : C) (b x : List ℕ) (v : FirstItem C) → first_item c b ≡ v → Below v n → FrontGrows x v (first_item c (b ++ x)) → GrowsTo (then_read (read_all first_item) v) (read_all first_item c (b ++ x))
+  grows_by n more c b x (Last r) e below g = last_grows r r.outcome c b x refl g
+  grows_by n more c b x (Whole text next rest) e below g =
+      subst (GrowsTo (after text (read_all first_item next rest))) (sym (read_all-front first_item items c (b ++ x) ∙ ap (then_read (read_all first_item)) g))
+      (GrowsTo-after text (read_all first_item next rest) (read_all first_item next (rest ++ x)) (more next rest x below))
+
+  below_of : (n : ℕ) (c : C) (b : List ℕ) → length b ≤ suc n → Below (first_item c b) n
+  below_of n c [] h = subst (λ v. Below v n) (sym (items.empty c)) tt
+  below_of n c (a ∷ b) h = Below-less (first_item c (a ∷ b)) (length b) n (omega arith) (items.shorter c a b)
+    where
+      Below-less : (f : FirstItem C) (k m : ℕ) → k ≤ m → Below f k → Below f m
+      Below-less (Last r) k m p q = tt
+      Below-less (Whole text next rest) k m p q = omega arith
+
+  reading_grows_for : (n : ℕ) (c : C) (b x : List ℕ) → length b ≤ n → GrowsTo (read_all first_item c b) (read_all first_item c (b ++ x))
+  reading_grows_for zero c [] x h = subst (λ r. GrowsTo r (read_all first_item c x)) (sym (read_all-front first_item items c [] ∙ ap (then_read (read_all first_item)) (items.empty c)))
+      (record { effects = TellsMore-silent (read_all first_item c x).effects; early = λ f e. absurd cc })
+  reading_grows_for zero c (a ∷ b) x h = absurd (omega arith)
+  reading_grows_for (suc n) c b x h = subst (λ r. GrowsTo r (read_all first_item c (b ++ x))) (sym (read_all-front first_item items c b))
+      (grows_by n (reading_grows_for n) c b x (first_item c b) refl (below_of n c b h) (grows c b x))
+
+  -- what more bytes write begins with what fewer write, and a fault that is decided stays
+  pub reading_grows : (c : C) (b x : List ℕ) → GrowsTo (read_all first_item c b) (read_all first_item c (b ++ x))
+  reading_grows c b x = reading_grows_for (length b) c b x (omega arith)

@@ -1,0 +1,252 @@
+-- What a run brings that stops behind some bytes, or at the next piece.
+use Rattle.std.proofs.Common.{◌≡◌, ℕ, zero, suc, ◌+◌, ◌≤◌, ◌<◌, List, [], ◌∷◌, ◌++◌, length, take, true, Some, None, Result, Err, inl, inr, ap, sym, ◌∙◌, refl, arith, append-nil, append_assoc, length-append, subst}
+use Rattle.std.proofs.Math.Seq.{take-append-add}
+use Rattle.std.specs.Io.KnownBytes.{Appends, Consumes}
+use Rattle.mp4_ledger.specs.Memory.{Account}
+use Rattle.mp4_ledger.specs.declared.ledger.Refused.{Refused}
+use Rattle.mp4_ledger.specs.declared.ledger.Refused.TheVariants as refusals
+use Rattle.mp4_box.specs.Headers.{IsBytes}
+use Rattle.mp4_box.specs.declared.rules.Fault.{Fault}
+use Rattle.mp4_machine.specs.Accounts.{Counts, Spends}
+use Rattle.mp4_machine.specs.Blocks.{BreaksMarked, IsSent, PassesMarked, unused}
+use Rattle.mp4_machine.specs.Readings.{moved, whole_in, Request, AtMost, greatest, Effects, Reading, empty_reading, uncounted, plus, fault_in, early_in, after, both, requests_memory, shifted, most_of}
+use Rattle.mp4_machine.specs.Pieces.{Outside, Standing, Refuses, Starves, StopsAt, Around, Takes, IsFed, refusal_of}
+use Rattle.mp4_machine.specs.Ends.{Ends}
+use Rattle.mp4_machine.specs.StreamRuns.{Claims, StreamRun, TellsAll, TellsSome, IsPrompt, StarvesAt, ComesUntil, ReadsStream}
+use Rattle.mp4_machine.specs.declared.stop.Stop.{Stop}
+use Rattle.mp4_machine.specs.declared.tally.Tally.{Tally}
+use Rattle.mp4_machine.specs.declared.stop.Stop.TheVariants.{Stream, Read, Write, OverLimit, Memory}
+use Rattle.mp4_machine.proofs.ReadingAskLemmas.{AtMost-behind, AtMost-plus, most-both, plus-none, shifted-append}
+use Rattle.mp4_machine.proofs.AccountLemmas.{Counts-more, Spends-after}
+use Rattle.mp4_machine.proofs.BlockLemmas.{Appends-passed, BreaksMarked-passed, PassesMarked-more, whole-sent}
+use Rattle.mp4_machine.proofs.MarkLemmas.{moved-append, moved-none}
+
+-- ---- how much was out
+
+peak-exact : (k l : Account) (claim m : ℕ) → k.peak ≡ k.live → Counts k l 0 claim m → l.peak ≡ k.live + m
+peak-exact k l claim zero z c = omega (arith, c.peak, z)
+peak-exact k l claim (suc m) z c = omega (arith, c.peak, z)
+
+peak-most : (k l : Account) (claim m : ℕ) → k.peak ≡ k.live → Spends k l 0 claim m → l.peak ≤ k.live + m
+peak-most k l claim zero z c = omega (arith, c.at_most, z)
+peak-most k l claim (suc m) z c = omega (arith, c.at_most, z)
+
+-- ---- a run over a machine that was fed all of the bytes b
+
+-- the run that is seen where it began and ended so
+abbrev pub run_of : (List ℕ → Reading) → List ℕ → Outside → Outside → Ends → StreamRun
+run_of whole b start now ends = record {
+  whole = whole;
+  bytes = b;
+  ends = ends;
+  claims = record { copy = start.account.live; limit = start.account.limit; peak = now.account.peak };
+  fragments = now.waiting.whole;
+  tally = now.tally;
+}
+
+module _ (whole : List ℕ → Reading) (b : List ℕ) (start : Outside) (fresh : start.waiting ≡ unused) (marked : start.account.peak ≡ start.account.live) where
+  -- at first nothing waited
+  clear : start.waiting.bytes ≡ []
+  clear = ap (λ v. v.bytes) fresh
+
+  module _ {now : Outside} {p : Standing} (s : IsFed whole b start now p) where
+    -- what all of the bytes are read as
+    reads-all : whole b ≡ after (whole b).effects (p.reads [])
+    reads-all = ap whole (sym (append-nil b)) ∙ s.stands.rest []
+
+    pub fed-fault : fault_in (whole b).outcome ≡ fault_in (p.reads []).outcome
+    fed-fault = ap (λ r. fault_in r.outcome) reads-all
+
+    pub fed-undecided : early_in (whole b).outcome ≡ None
+    fed-undecided = ap (λ r. early_in r.outcome) reads-all ∙ s.quiet.early
+
+    pub fed-tells : (ends : Ends) → ends.written ≡ start.written → ends.written' ≡ now.written → TellsAll (run_of whole b start now ends)
+    fed-tells ends from to = record {
+      text = subst (λ w. Appends ends.written w (whole b).effects.text) (sym to) (subst (λ w. Appends w now.written (whole b).effects.text) (sym from) (Appends-passed s.text clear s.sent.bytes));
+      fragments = whole-sent (subst (λ v. PassesMarked start.written now.written v now.waiting (whole b).effects.text (whole b).effects.marks) fresh s.text) s.sent;
+      peak = peak-exact start.account now.account p.claim (most_of (whole b).effects) marked s.counts;
+      tally = s.stands.tally;
+    }
+
+    -- no byte came since, or the bytes of one read
+    abbrev pub prompt-now : (ends : Ends) → IsPrompt (run_of whole b start now ends)
+    prompt-now ends = record { early = b; last = []; cut = sym (append-nil b); few = omega arith; undecided = fed-undecided }
+
+    abbrev pub prompt-read : (got : List ℕ) (later : Outside) (ends : Ends) → length got ≤ start.account.live → IsPrompt (run_of whole (b ++ got) start later ends)
+    prompt-read got later ends few = record { early = b; last = got; cut = refl; few = few; undecided = fed-undecided }
+
+    -- ---- the next piece stops it
+
+    module _ (then : Outside) (piece : List ℕ) (low : p.claim ≤ now.account.live) where
+      -- what was told of the bytes before, and of some more
+      passes-both : (effects : Effects) → PassesMarked now.written then.written now.waiting then.waiting effects.text effects.marks → PassesMarked start.written then.written start.waiting then.waiting (both (whole b).effects effects).text (both (whole b).effects effects).marks
+      passes-both effects q = PassesMarked-more s.text q
+
+      -- so many fragments are whole in it, where all was sent
+      whole-both : (effects : Effects) → PassesMarked now.written then.written now.waiting then.waiting effects.text effects.marks → IsSent then.waiting → then.waiting.whole ≡ whole_in (length (both (whole b).effects effects).text) 0 (both (whole b).effects effects).marks
+      whole-both effects q done = whole-sent (subst (λ v. PassesMarked start.written then.written v then.waiting (both (whole b).effects effects).text (both (whole b).effects effects).marks) fresh (passes-both effects q)) done
+
+      reads-both : whole (b ++ piece) ≡ after (whole b).effects (p.reads (piece ++ []))
+      reads-both = ap whole (ap (λ l. b ++ l) (sym (append-nil piece))) ∙ s.stands.rest (piece ++ [])
+
+      counts-both : (effects : Effects) → Counts now.account then.account p.claim 0 (most_of effects) → Counts start.account then.account 0 0 (most_of (both (whole b).effects effects))
+      counts-both effects c = subst (Counts start.account then.account 0 0) (sym (most-both (whole b).effects effects))
+          (Counts-more start.account now.account then.account 0 p.claim 0 (most_of (whole b).effects) (most_of effects) (omega arith) s.counts c)
+
+      refuses-tells : (f : Fault) (ends : Ends) → ends.written ≡ start.written → ends.written' ≡ then.written → IsSent then.waiting → Refuses now then p piece f → TellsAll (run_of whole (b ++ piece) start then ends)
+      refuses-tells f ends from to none g =
+          let effects : (whole (b ++ piece)).effects ≡ both (whole b).effects g.brought = ap (λ r. r.effects) (reads-both ∙ ap (after (whole b).effects) (g.rest [])) in
+          let text = Appends-passed (passes-both g.brought g.moves.passes) clear none.bytes in
+          record {
+            text = subst (λ t. Appends ends.written ends.written' t.text) (sym effects) (subst (λ w. Appends ends.written w ((whole b).effects.text ++ g.brought.text)) (sym to) (subst (λ w. Appends w then.written ((whole b).effects.text ++ g.brought.text)) (sym from) text));
+            fragments = whole-both g.brought g.moves.passes none ∙ ap (λ t. whole_in (length t.text) 0 t.marks) (sym effects);
+            peak = peak-exact start.account then.account 0 (most_of (both (whole b).effects g.brought)) marked (counts-both g.brought g.moves.counts) ∙ ap (λ t. start.account.live + most_of t) (sym effects);
+            tally = g.moves.tallied ∙ ap (λ t. plus t g.brought.tally) s.stands.tally ∙ ap (λ t. t.tally) (sym effects);
+          }
+
+      refuses-outcome : (f : Fault) → Refuses now then p piece f → (whole (b ++ piece)).outcome ≡ (after (whole b).effects (p.reads (piece ++ []))).outcome
+      refuses-outcome f g = ap (λ r. r.outcome) reads-both
+
+      -- what is asked for before the box whose claim is refused
+      asks_before : Starves now then p piece → List Request
+      asks_before g = (both (whole b).effects g.brought).requests
+
+      starves : (ends : Ends) (few : length piece ≤ start.account.live) → ends.written ≡ start.written → ends.written' ≡ then.written → IsSent then.waiting → (g : Starves now then p piece)
+          → (r : StarvesAt (run_of whole (b ++ piece) start then ends) (prompt-read piece then ends few)) × (r.request.sum ≡ g.sum)
+      starves ends few from to none g =
+          let more = (g.continues []).effects in
+          let n = length (whole b).effects.text in
+          let k = length g.brought.text in
+          let counted = plus (whole b).effects.tally (plus g.brought.tally uncounted) in
+          let tally : then.tally ≡ counted = g.moves.tallied ∙ ap (λ t. plus t g.brought.tally) s.stands.tally ∙ ap (plus (whole b).effects.tally) (sym (plus-none g.brought.tally)) in
+          let effects : (whole (b ++ piece)).effects ≡ both (whole b).effects (both g.brought (both (requests_memory g.at g.sum) more)) = ap (λ r. r.effects) (reads-both ∙ ap (after (whole b).effects) (g.rest [])) in
+          let text = Appends-passed (passes-both g.brought g.moves.passes) clear none.bytes in
+          let front : take (n + (k + 0)) (whole (b ++ piece)).effects.text ≡ (whole b).effects.text ++ g.brought.text =
+          ap (λ t. take (n + (k + 0)) t.text) effects
+          ∙ take-append-add (whole b).effects.text (g.brought.text ++ more.text) (k + 0)
+          ∙ ap (λ l. (whole b).effects.text ++ l) (take-append-add g.brought.text more.text 0 ∙ append-nil g.brought.text) in (
+            record {
+              request = record { at = g.at; sum = g.sum; text_before = n + (k + 0); counted = counted };
+              before = (whole b).effects.requests ++ shifted (whole b).effects g.brought.requests;
+              requested = (
+                shifted (whole b).effects (shifted g.brought (shifted (requests_memory g.at g.sum) more.requests)),
+                ap (λ t. t.requests) effects
+                    ∙ ap (λ l. (whole b).effects.requests ++ l) (shifted-append (whole b).effects g.brought.requests (shifted g.brought (both (requests_memory g.at g.sum) more).requests))
+                    ∙ sym (append_assoc (whole b).effects.requests (shifted (whole b).effects g.brought.requests) _),
+              );
+              new = (shifted (whole b).effects g.brought.requests, refl);
+              text = subst (λ l. Appends ends.written ends.written' l) (sym front) (subst (λ w. Appends ends.written w ((whole b).effects.text ++ g.brought.text)) (sym to) (subst (λ w. Appends w then.written ((whole b).effects.text ++ g.brought.text)) (sym from) text));
+              marks = (both (whole b).effects g.brought).marks;
+              marked = (
+                moved n (moved k (both (requests_memory g.at g.sum) more).marks),
+                ap (λ t. t.marks) effects
+                    ∙ ap (λ l. (whole b).effects.marks ++ l) (moved-append n g.brought.marks (moved k (both (requests_memory g.at g.sum) more).marks))
+                    ∙ sym (append_assoc (whole b).effects.marks (moved n g.brought.marks) _),
+              );
+              fragments =
+                  let len : length ((whole b).effects.text ++ g.brought.text) ≡ n + (k + 0) = omega (arith, length-append (whole b).effects.text g.brought.text) in
+                  whole-both g.brought g.moves.passes none ∙ ap (λ l. whole_in l 0 (both (whole b).effects g.brought).marks) len;
+              peak = peak-exact start.account then.account 0 (greatest ((whole b).effects.requests ++ shifted (whole b).effects g.brought.requests)) marked (counts-both g.brought g.moves.counts);
+              tally = tally;
+              most = subst (λ t. AtMost t (whole (b ++ piece)).effects.tally) (sym tally) (subst (λ t. AtMost counted t.tally) (sym effects) (AtMost-behind (whole b).effects.tally (plus g.brought.tally uncounted) (plus g.brought.tally (plus uncounted more.tally)) (AtMost-behind g.brought.tally uncounted (plus uncounted more.tally) (AtMost-plus uncounted more.tally))));
+            },
+            refl,
+          )
+
+      loses : (ends : Ends) → ends.written ≡ start.written → ends.written' ≡ then.written → StopsAt now then p piece Write → TellsSome (run_of whole (b ++ piece) start then ends)
+      loses ends from to g =
+          let r = p.reads (piece ++ []) in
+          let effects : (whole (b ++ piece)).effects ≡ both (whole b).effects r.effects = ap (λ r. r.effects) reads-both in
+          let broken = subst (λ t. BreaksMarked start.written then.written start.waiting then.waiting t.text t.marks) (sym effects) (BreaksMarked-passed s.text (g []).text) in
+          let lost = subst (λ v. BreaksMarked start.written then.written v then.waiting (whole (b ++ piece)).effects.text (whole (b ++ piece)).effects.marks) fresh broken in
+          let spends = subst (Spends start.account then.account 0 0) (sym (most-both (whole b).effects r.effects) ∙ ap most_of (sym effects))
+          (Spends-after start.account now.account then.account 0 p.claim 0 (most_of (whole b).effects) (most_of r.effects) (omega arith) s.counts (g []).spends) in
+          record {
+            text = (lost.front, lost.rest, subst (λ w. Appends ends.written w lost.front) (sym to) (subst (λ w. Appends w then.written lost.front) (sym from) lost.written), lost.all);
+            fragments = lost.whole ∙ ap (λ l. whole_in (length lost.front) 0 l) (moved-none (whole (b ++ piece)).effects.marks);
+            least = omega (arith, spends.at_least, marked);
+            most = peak-most start.account then.account 0 (most_of (whole (b ++ piece)).effects) marked spends;
+            counted = subst (AtMost then.tally) (ap (λ t. plus t r.effects.tally) s.stands.tally ∙ ap (λ t. t.tally) (sym effects)) (g []).most;
+          }
+
+      -- how it stops
+      pub fed-stops : (ends : Ends) (few : length piece ≤ start.account.live) → ends.written ≡ start.written → ends.written' ≡ then.written → (e : Stop) → ((e ≡ Write → ⊥) → IsSent then.waiting) → (e ≡ Write → ends.write_failed' ≡ true) → StopsAt now then p piece e
+          → ComesUntil (run_of whole (b ++ piece) start then ends) (prompt-read piece then ends few) e
+      unfolding starves
+      fed-stops ends few from to (Stream f) none failed g =
+          let is = ap (λ r. r.outcome) (reads-both ∙ ap (after (whole b).effects) (g.rest [])) in (
+            refuses-tells f ends from to (none (λ is. absurd cc)) g,
+            ap fault_in is,
+            λ none. let some : early_in (whole (b ++ piece)).outcome ≡ Some f = ap early_in is in absurd cc,
+          )
+      fed-stops ends few from to (Read at) none failed g = absurd g
+      fed-stops ends few from to Write none failed g = (loses ends from to g, failed refl)
+      fed-stops ends few from to OverLimit none failed (g, far) =
+          let requested = starves ends few from to (none (λ is. absurd cc)) g in inr (requested.0, omega (arith, far, requested.1, g.moves.counts.live, s.counts.live, g.moves.counts.limit, s.counts.limit, low))
+      fed-stops ends few from to Memory none failed (g, near) =
+          let requested = starves ends few from to (none (λ is. absurd cc)) g in inr (requested.0, omega (arith, near, requested.1, g.moves.counts.live, s.counts.live, g.moves.counts.limit, s.counts.limit, low))
+
+-- ---- a call that stops
+
+left_by : (o o' : Outside) (p : Standing) (bs : List ℕ) (e : Stop) → p.claim ≤ o.account.live → StopsAt o o' p bs e → (o'.account.live + p.claim ≡ o.account.live) × (o'.account.limit ≡ o.account.limit)
+left_by o o' p bs (Stream f) low g = (omega (arith, g.moves.counts.live), g.moves.counts.limit)
+left_by o o' p bs (Read at) low g = absurd g
+left_by o o' p bs Write low g = (omega (arith, (g []).spends.live), (g []).spends.limit)
+left_by o o' p bs OverLimit low (g, far) = (omega (arith, g.moves.counts.live), g.moves.counts.limit)
+left_by o o' p bs Memory low (g, near) = (omega (arith, g.moves.counts.live), g.moves.counts.limit)
+
+-- all is given back but what others have
+pub takes-left : {T : Type 0} {around : Around} {p : Standing} {piece : List ℕ} {taken : T → List ℕ} {new : T → Standing} {e : Stop} → p.claim ≤ around.before.account.live → Takes around p piece taken new (Err e)
+    → (around.after.account.live + p.claim ≡ around.before.account.live) × (around.after.account.limit ≡ around.before.account.limit)
+takes-left {around = around} {p = p} {piece = piece} {e = e} low t = left_by around.before around.after p (piece ++ []) e low (t.err [])
+
+-- and so does a run that was fed the bytes before
+pub fed-takes : {T : Type 0} {around : Around} {p : Standing} {piece : List ℕ} {taken : T → List ℕ} {new : T → Standing} {e : Stop} (whole : List ℕ → Reading) (b : List ℕ) (start : Outside) (fresh : start.waiting ≡ unused) (marked : start.account.peak ≡ start.account.live) (s : IsFed whole b start around.before p) → p.claim ≤ around.before.account.live
+    → (ends : Ends) (few : length piece ≤ start.account.live) → ends.written ≡ start.written → ends.written' ≡ around.after.written → ((e ≡ Write → ⊥) → IsSent around.after.waiting) → ends.write_failed' ≡ around.failed' → Takes around p piece taken new (Err e)
+    → ComesUntil (run_of whole (b ++ piece) start around.after ends) (prompt-read whole b start fresh marked s piece around.after ends few) e
+fed-takes {around = around} {p = p} {piece = piece} {e = e} whole b start fresh marked s low ends few from to none failed t =
+    fed-stops whole b start fresh marked s around.after piece low ends few from to e none (λ is. failed ∙ t.failed (ap Err is)) (subst (λ l. StopsAt around.before around.after p l e) (append-nil piece) (t.err []))
+
+-- bytes behind bytes
+pub bytes-more : (a b : List ℕ) → IsBytes a → IsBytes b → IsBytes (a ++ b)
+bytes-more [] b fits more i = more i
+bytes-more (x ∷ a) b fits more zero = fits zero
+bytes-more (x ∷ a) b fits more (suc i) = bytes-more a b (λ j. fits (suc j)) more i
+
+-- ---- a run whose bytes to read into were refused
+
+pub idle-stops : {T : Type 0} (whole : List ℕ → Reading) (ends : Ends) (claims : Claims) (live : ℕ) (r : Refused) → whole [] ≡ empty_reading → Consumes ends.left ends.left' [] → Appends ends.written ends.written' [] → ends.write_failed' ≡ ends.write_failed → live ≡ 0 → claims.peak ≡ live
+    → (r ≡ refusals.OverLimit → claims.limit < live + claims.copy) → (r ≡ refusals.Memory → live + claims.copy ≤ claims.limit) → (run : ReadsStream {T = T} whole ends claims uncounted (Err (refusal_of r))) × (run.fragments ≡ 0)
+idle-stops whole ends claims live refusals.OverLimit none given kept failed idle peak over within = (
+  record {
+    bytes = [];
+    fits = λ i. omega arith;
+    given = given;
+    fragments = 0;
+    prompt = record { early = []; last = []; cut = refl; few = omega arith; undecided = ap (λ r. early_in r.outcome) none };
+    comes = inl (record { bytes = refl; text = kept; peak = peak ∙ idle; tally = refl }, omega (arith, over refl, idle));
+    kept = λ _. failed;
+  },
+  refl,
+)
+idle-stops whole ends claims live refusals.Memory none given kept failed idle peak over within = (
+  record {
+    bytes = [];
+    fits = λ i. omega arith;
+    given = given;
+    fragments = 0;
+    prompt = record { early = []; last = []; cut = refl; few = omega arith; undecided = ap (λ r. early_in r.outcome) none };
+    comes = inl (record { bytes = refl; text = kept; peak = peak ∙ idle; tally = refl }, omega (arith, within refl, idle));
+    kept = λ _. failed;
+  },
+  refl,
+)
+
+-- ---- the same claims by other names
+
+pub Runs-same : {T : Type 0} {whole : List ℕ → Reading} {ends : Ends} {tally : Tally} {copy copy' limit limit' peak peak' n : ℕ} {result : Result T Stop} → copy ≡ copy' → limit ≡ limit' → peak ≡ peak'
+    → ((run : ReadsStream whole ends (record { copy = copy; limit = limit; peak = peak }) tally result) × (run.fragments ≡ n)) → (run : ReadsStream whole ends (record { copy = copy'; limit = limit'; peak = peak' }) tally result) × (run.fragments ≡ n)
+Runs-same {whole = whole} {ends = ends} {tally = tally} {copy = copy} {copy' = copy'} {limit = limit} {limit' = limit'} {peak = peak} {n = n} {result = result} e f g run =
+    subst (λ k. (run : ReadsStream whole ends (record { copy = copy'; limit = limit'; peak = k }) tally result) × (run.fragments ≡ n)) g
+    (subst (λ k. (run : ReadsStream whole ends (record { copy = copy'; limit = k; peak = peak }) tally result) × (run.fragments ≡ n)) f
+    (subst (λ k. (run : ReadsStream whole ends (record { copy = k; limit = limit; peak = peak }) tally result) × (run.fragments ≡ n)) e run))

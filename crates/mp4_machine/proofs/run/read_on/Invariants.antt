@@ -1,0 +1,25 @@
+use Rattle.std.proofs.Common.{◌≡◌, ◌≤◌, ◌+◌, ◌-◌, List, ℕ, length}
+use Rattle.std.specs.Io.KnownBytes.{Consumes}
+use Rattle.mp4_box.specs.Headers.{IsBytes}
+use Rattle.mp4_machine.specs.Blocks.{unused}
+use Rattle.mp4_machine.specs.Pieces.{IsFed, farthest, outside}
+use Rattle.mp4_machine.specs.Readings.{uncounted}
+use Rattle.mp4_machine.proofs.run.read_on.Given as goal
+
+abbrev pub invariant-loop-machine : goal.invariant-loop-machine
+invariant-loop-machine g l =
+    (b : List ℕ) × record {
+      read : Consumes (g.R.Source.remaining l.initial.r) (g.R.Source.remaining l.r) b;
+      fed : IsFed (g.M.Machine.stands l.initial.machine).reads b (outside (g.W.Sink.contents l.initial.w) unused l.initial.ledger uncounted) (outside (g.W.Sink.contents l.w) l.out l.ledger (g.M.Machine.counted l.machine)) (g.M.Machine.stands l.machine);
+      task : g.M.Machine.task l.machine ≡ g.M.Machine.task l.initial.machine;
+      claim : (g.M.Machine.stands l.machine).claim ≤ l.ledger.live;
+      near : (g.M.Machine.stands l.machine).reached ≤ farthest;
+      room : length l.copy ≡ l.initial.ledger.live;
+      kept : g.W.Sink.has_failed l.w ≡ g.W.Sink.has_failed l.initial.w;
+      total : l.total ≡ length b;
+      bytes : IsBytes b;
+      bound : l.total ≤ farthest;
+    }
+
+abbrev pub decreases-loop-machine : goal.decreases-loop-machine
+decreases-loop-machine g l = farthest + 1 - l.total

@@ -1,0 +1,43 @@
+-- A body that is told as it comes: of some bytes of it, from its first byte on, this is told.
+use Rattle.std.specs.Prelude.{ℕ, ◌+◌, ◌^◌, List, length, take, drop, nat_lt, if◌then◌else◌, Option, Some}
+use Rattle.mp4_box.specs.declared.headers.FourCc.{FourCc}
+use Rattle.mp4_box.specs.declared.headers.Header.{Header}
+use Rattle.mp4_box.specs.declared.headers.Size.{Size}
+use Rattle.mp4_box.specs.declared.headers.Size.TheVariants.{Exact, ToEnd}
+use Rattle.mp4_box.specs.declared.rules.Fault.{Fault}
+use Rattle.mp4_box.specs.declared.rules.Rule.{Rule}
+use Rattle.mp4_box.specs.declared.rules.Rule.TheVariants.{Truncated, StreamTooLong}
+use Rattle.mp4_machine.specs.Readings.{Effects, silent, Sound, Faulty, CutOff, Reading, FirstItem, Last, Whole}
+
+-- no stream is followed further than this
+abbrev pub longest : ℕ
+longest = 2 ^ 62
+
+abbrev pub fault : Rule → Option FourCc → ℕ → Fault
+fault rule kind at = record { rule = rule; kind = kind; offset = at }
+
+-- nothing is told, and the box at `at` breaks a rule
+abbrev pub at_fault : Rule → Option FourCc → ℕ → Reading
+at_fault rule kind at = record { effects = silent; outcome = Faulty (fault rule kind at) }
+
+-- or it is cut off there
+abbrev pub cut_off : Rule → Option FourCc → ℕ → Reading
+cut_off rule kind at = record { effects = silent; outcome = CutOff (fault rule kind at) }
+
+-- where a box at `at` ends at the least
+abbrev pub least_end : ℕ → Header → Size → ℕ
+least_end at h (Exact s) = at + s
+least_end at h ToEnd = at + h.header_len
+
+-- the body of the box at `at`, of which `left` bytes are to come, and the context behind it
+abbrev pub body_item : {C : Type 0} → (List ℕ → Effects) → ℕ → FourCc → C → ℕ → List ℕ → FirstItem C
+body_item tell at kind next left bytes =
+    if nat_lt (length bytes) left then Last (record { effects = tell bytes; outcome = CutOff (fault Truncated (Some kind) at) })
+    else Whole (tell (take left bytes)) next (drop left bytes)
+
+-- one that goes to the end of the stream, of which at most `left` bytes may come, and `needed` must
+abbrev pub open_body_item : {C : Type 0} → (List ℕ → Effects) → ℕ → FourCc → (needed left : ℕ) → List ℕ → FirstItem C
+open_body_item tell at kind needed left bytes =
+    if nat_lt left (length bytes) then Last (record { effects = tell (take left bytes); outcome = Faulty (fault StreamTooLong (Some kind) at) })
+    else if nat_lt (length bytes) needed then Last (record { effects = tell bytes; outcome = CutOff (fault Truncated (Some kind) at) })
+    else Last (record { effects = tell bytes; outcome = Sound })

@@ -1,0 +1,9 @@
+pub mod Readings
+pub mod Bodies
+pub mod Accounts
+pub mod Blocks
+pub mod Ends
+pub mod Pieces
+pub mod StreamRuns
+pub mod Fed
+pub mod Holding

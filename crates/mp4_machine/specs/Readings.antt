@@ -1,0 +1,161 @@
+-- A stream that is read item by item, whatever its items are.
+use Rattle.std.specs.Prelude.{◌≡◌, ℕ, zero, suc, ◌+◌, ◌≤◌, List, [], ◌∷◌, ◌++◌, length, max, nat_lt, if◌then◌else◌, Option, None, Some}
+use Rattle.mp4_box.specs.declared.rules.Fault.{Fault}
+use Rattle.mp4_machine.specs.declared.mark.Mark.{Mark}
+use Rattle.mp4_machine.specs.declared.tally.Tally.{Tally}
+
+-- ---- how the reading of some bytes ends
+
+pub data Outcome : Type 0 where
+  -- without a fault
+  Sound : Outcome
+  -- with a fault that the bytes decide
+  Faulty : Fault → Outcome
+  -- with a fault if no byte follows
+  CutOff : Fault → Outcome
+
+-- the fault of a stream that is these bytes
+abbrev pub fault_in : Outcome → Option Fault
+fault_in Sound = None
+fault_in (Faulty f) = Some f
+fault_in (CutOff f) = Some f
+
+-- the fault of every stream that begins with these bytes
+abbrev pub early_in : Outcome → Option Fault
+early_in Sound = None
+early_in (Faulty f) = Some f
+early_in (CutOff f) = None
+
+-- ---- what is counted of some bytes
+
+abbrev pub uncounted : Tally
+uncounted = record { fragments = 0; samples = 0; media_bytes = 0; walked = 0 }
+
+abbrev pub plus : Tally → Tally → Tally
+plus s t = record { fragments = s.fragments + t.fragments; samples = s.samples + t.samples; media_bytes = s.media_bytes + t.media_bytes; walked = s.walked + t.walked }
+
+-- t counts no less than s
+pub record AtMost (s t : Tally) : Type 0 where
+  pub fragments : s.fragments ≤ t.fragments
+  pub samples : s.samples ≤ t.samples
+  pub media_bytes : s.media_bytes ≤ t.media_bytes
+  pub walked : s.walked ≤ t.walked
+
+-- ---- where fragments end in a text
+
+-- the same, in a text with n bytes before it
+abbrev pub moved_by : ℕ → Mark → Mark
+moved_by n m = record { end = n + m.end; count = m.count }
+
+abbrev pub moved : ℕ → List Mark → List Mark
+moved n [] = []
+moved n (m ∷ marks) = moved_by n m ∷ moved n marks
+
+-- how many fragments are whole in the first n bytes of a text: what the last mark says that lies in them, else `before`
+abbrev pub whole_in : (n before : ℕ) → List Mark → ℕ
+whole_in n before [] = before
+whole_in n before (m ∷ marks) = whole_in n (if nat_lt n m.end then before else m.count) marks
+
+-- ---- what is told of some bytes
+
+-- a box asks for memory: the offset where it begins, how many bytes are out for the machine with what it asks for, how many bytes of text are told before, and what is counted before
+pub record Request : Type 0 where
+  pub at : ℕ
+  pub sum : ℕ
+  pub text_before : ℕ
+  pub counted : Tally
+
+-- the most that is out at once: none where nothing is asked for
+abbrev pub greatest : List Request → ℕ
+greatest [] = 0
+greatest (a ∷ requests) = max a.sum (greatest requests)
+
+-- the text that they determine, what their boxes ask for in order, where fragments end in the text, and what is counted
+pub record Effects : Type 0 where
+  pub text : List ℕ
+  pub requests : List Request
+  pub marks : List Mark
+  pub tally : Tally
+
+abbrev pub silent : Effects
+silent = record { text = []; requests = []; marks = []; tally = uncounted }
+
+-- a text
+abbrev pub says : List ℕ → Effects
+says text = record { text = text; requests = []; marks = []; tally = uncounted }
+
+-- nothing, but this is counted
+abbrev pub counts : Tally → Effects
+counts tally = record { text = []; requests = []; marks = []; tally = tally }
+
+-- a box at an offset asks for memory, with which so much is out
+abbrev pub requests_memory : (at sum : ℕ) → Effects
+requests_memory at sum = record { text = []; requests = record { at = at; sum = sum; text_before = 0; counted = uncounted } ∷ []; marks = []; tally = uncounted }
+
+-- what a box asks for, behind what was told before
+abbrev pub shifted_by : Effects → Request → Request
+shifted_by s a = record { at = a.at; sum = a.sum; text_before = length s.text + a.text_before; counted = plus s.tally a.counted }
+
+abbrev pub shifted : Effects → List Request → List Request
+shifted s [] = []
+shifted s (a ∷ requests) = shifted_by s a ∷ shifted s requests
+
+-- one after the other
+abbrev pub both : Effects → Effects → Effects
+both s t = record { text = s.text ++ t.text; requests = s.requests ++ shifted s t.requests; marks = s.marks ++ moved (length s.text) t.marks; tally = plus s.tally t.tally }
+
+-- the most that is out at once
+abbrev pub most_of : Effects → ℕ
+most_of t = greatest t.requests
+
+-- ---- what some bytes are read as
+
+-- what is told of them, and how their reading ends
+pub record Reading : Type 0 where
+  pub effects : Effects
+  pub outcome : Outcome
+
+abbrev pub empty_reading : Reading
+empty_reading = record { effects = silent; outcome = Sound }
+
+-- the same, behind what was told before
+abbrev pub after : Effects → Reading → Reading
+after effects r = record { effects = both effects r.effects; outcome = r.outcome }
+
+-- what stands at the front of some bytes: the last that is read of them, or a whole item, with what is told of it, the context of what follows, and the bytes that follow
+pub data FirstItem (C : Type 0) : Type 0 where
+  Last : Reading → FirstItem C
+  Whole : Effects → C → List ℕ → FirstItem C
+
+abbrev pub after_effects : {C : Type 0} → Effects → FirstItem C → FirstItem C
+after_effects effects (Last r) = Last (after effects r)
+after_effects effects (Whole more next rest) = Whole (both effects more) next rest
+
+-- what some bytes are read as by their front, where the bytes behind it are read so
+abbrev pub then_read : {C : Type 0} → (C → List ℕ → Reading) → FirstItem C → Reading
+then_read rest_of (Last r) = r
+then_read rest_of (Whole effects next rest) = after effects (rest_of next rest)
+
+-- front after front, at most so many
+abbrev pub read_at_most : {C : Type 0} → (C → List ℕ → FirstItem C) → ℕ → C → List ℕ → Reading
+read_at_most first_item zero c bytes = empty_reading
+read_at_most first_item (suc n) c bytes = then_read (λ next rest. read_at_most first_item n next rest) (first_item c bytes)
+
+-- front after front: each whole item takes a byte at least
+unfoldable pub read_all : {C : Type 0} → (C → List ℕ → FirstItem C) → C → List ℕ → Reading
+read_all first_item c bytes = read_at_most first_item (length bytes) c bytes
+
+-- ---- what more bytes change
+
+abbrev pub IsPrefix : {X : Type 0} → List X → List X → Type 0
+IsPrefix {X = X} xs ys = (rest : List X) × (xs ++ rest ≡ ys)
+
+-- t tells what s tells, and it may tell more
+pub record TellsMore (s t : Effects) : Type 0 where
+  pub text : IsPrefix s.text t.text
+  pub requests : IsPrefix s.requests t.requests
+
+-- more bytes may add to what is told, and to a fault that is decided they add nothing
+pub record GrowsTo (r s : Reading) : Type 0 where
+  pub effects : TellsMore r.effects s.effects
+  pub early : (f : Fault) → early_in r.outcome ≡ Some f → s ≡ r

@@ -1,0 +1,222 @@
+//! Bytes on their way to a sink.
+
+ghost use Rattle.std.specs.Prelude.{◌≡◌, ℕ, List, ◌+◌, ◌<◌, ◌≤◌, [], ◌∷◌, ◌++◌, length, true, OnOk, OnErr};
+ghost use Rattle.mp4_machine.specs.Blocks.{Breaks, BreaksMarked, IsSent, Passes, PassesMarked, unused};
+ghost use Rattle.mp4_machine.specs.Readings.{whole_in};
+
+use crate::mark::Mark;
+use arrayvec::ArrayVec;
+use mp4_ends::{Failed, Sink, write_front};
+use mp4_lines::Text;
+use std::marker::Model;
+
+/// From so many bytes on a slice that doesn't fit behind what waits is sent by itself and not gathered.
+const LARGE: usize = 4096;
+
+/// So many bytes may wait in a block.
+pub const BLOCK_BYTES: usize = 16_384;
+
+/// So many ends of fragments may wait with them.
+const MOST_ENDS: usize = 160;
+
+/// The most bytes of a line.
+pub const LINE_BYTES: usize = 256;
+
+/// What is put into a block as a line, and is built there.
+pub trait Line {
+    // Its text.
+    ghost text: { Self → List ℕ };
+
+    /// Appends its text.
+    fn push(&self, block: &mut Text<BLOCK_BYTES>)
+        requires { length block.old + LINE_BYTES ≤ BLOCK_BYTES }
+        ensures { block.new ≡ block.old ++ text self.now };
+}
+
+/// Gathers bytes, so that a sink is given few large writes, and knows of how many fragments the sink has all bytes.
+#[derive(Drop)]
+pub struct Block {
+    waiting: Text<BLOCK_BYTES>,
+    ends: ArrayVec<Mark, MOST_ENDS>,
+    whole: u64,
+}
+
+// A contract sees the bytes that wait, where fragments end in them, and how many are whole in what was sent.
+impl Model for Block {
+    ghost use Rattle.std.specs.Prelude.{◌≤◌, length};
+    ghost use Rattle.std.specs.List.{AllByRecursion};
+    ghost use Rattle.mp4_machine.specs.Blocks.{Pending};
+
+    ghost Value = { Pending };
+
+    ghost view = { λ b. record { bytes = b.waiting; ends = b.ends.items; whole = b.whole } };
+
+    ghost invariant = { λ b. AllByRecursion (λ m. m.end ≤ length b.waiting) b.ends.items };
+}
+
+impl Block {
+    /// A block in which nothing waits.
+    pub fn new() -> Self
+        ensures { result ≡ unused }
+    {
+        Block {
+            waiting: Text::new(),
+            ends: ArrayVec::new(),
+            whole: 0,
+        }
+    }
+
+    /// How many fragments are whole in what was sent.
+    pub fn whole(&self) -> u64
+        ensures { result ≡ self.now.whole }
+    {
+        self.whole
+    }
+
+    /// Sends all that waits.
+    pub fn send<W: Sink>(&mut self, w: &mut W) -> Result<(), Failed>
+        ensures ok { OnOk result (Passes (W.contents w.old) (W.contents w.new) self.old self.new
+            []) }
+        ensures sent { OnOk result (IsSent self.new) }
+        ensures err { OnErr result (Breaks (W.contents w.old) (W.contents w.new) self.old self.new
+            []) }
+        ensures failed { OnErr result (W.has_failed w.new ≡ true) }
+        ensures kept { OnOk result (W.has_failed w.new ≡ W.has_failed w.old) }
+    {
+        match write_front(w, self.waiting.bytes()) {
+            Ok(()) => {
+                self.whole = self.whole_in_first(self.waiting.len());
+                self.ends.clear();
+                self.waiting.clear();
+                Ok(())
+            }
+            Err(short) => {
+                self.whole = self.whole_in_first(short.taken);
+                Err(Failed)
+            }
+        }
+    }
+
+    /// How many fragments are whole where the first `n` bytes of those that wait are sent.
+    fn whole_in_first(&self, n: usize) -> u64
+        ensures { result ≡ whole_in n self.now.whole self.now.ends }
+    {
+        let mut whole = self.whole;
+        for mark in self.ends.iter() {
+            if mark.end <= n {
+                whole = mark.count;
+            }
+        }
+        whole
+    }
+
+    /// Says that `count` fragments are whole in all that was put. Where too many ends wait, what waits is sent first.
+    pub fn mark<W: Sink>(&mut self, w: &mut W, count: u64) -> Result<(), Failed>
+        ensures ok { OnOk result (PassesMarked (W.contents w.old) (W.contents w.new) self.old
+            self.new [] (record { end = 0; count = count } ∷ [])) }
+        ensures err { OnErr result (BreaksMarked (W.contents w.old) (W.contents w.new) self.old
+            self.new [] (record { end = 0; count = count } ∷ [])) }
+        ensures failed { OnErr result (W.has_failed w.new ≡ true) }
+        ensures kept { OnOk result (W.has_failed w.new ≡ W.has_failed w.old) }
+    {
+        match self.make_room_for_end(w) {
+            Ok(()) => {}
+            Err(Failed) => return Err(Failed),
+        }
+        self.ends.push(Mark {
+            end: self.waiting.len(),
+            count,
+        });
+        Ok(())
+    }
+
+    /// Makes room for the end of a fragment: where there is none, what waits is sent.
+    #[inline(always)]
+    fn make_room_for_end<W: Sink>(&mut self, w: &mut W) -> Result<(), Failed>
+        ensures ok { OnOk result (Passes (W.contents w.old) (W.contents w.new) self.old self.new
+            []) }
+        ensures room { OnOk result (length self.new.ends < MOST_ENDS) }
+        ensures err { OnErr result (Breaks (W.contents w.old) (W.contents w.new) self.old self.new
+            []) }
+        ensures failed { OnErr result (W.has_failed w.new ≡ true) }
+        ensures kept { OnOk result (W.has_failed w.new ≡ W.has_failed w.old) }
+    {
+        if self.ends.len() < MOST_ENDS {
+            return Ok(());
+        }
+        self.send(w)
+    }
+
+    /// Puts these bytes behind those that wait. Where they don't fit, what waits is sent first.
+    pub fn put<W: Sink>(&mut self, w: &mut W, bytes: &[u8]) -> Result<(), Failed>
+        ensures ok { OnOk result (Passes (W.contents w.old) (W.contents w.new) self.old self.new
+            bytes.now) }
+        ensures err { OnErr result (Breaks (W.contents w.old) (W.contents w.new) self.old self.new
+            bytes.now) }
+        ensures failed { OnErr result (W.has_failed w.new ≡ true) }
+        ensures kept { OnOk result (W.has_failed w.new ≡ W.has_failed w.old) }
+    {
+        if bytes.len() > BLOCK_BYTES - self.waiting.len() {
+            return self.send_and_put(w, bytes);
+        }
+        self.waiting.push_bytes(bytes);
+        Ok(())
+    }
+
+    /// Puts a line behind the bytes that wait. Where there may be no room for it, what waits is sent first.
+    #[inline(always)]
+    pub fn put_line<L: Line, W: Sink>(&mut self, w: &mut W, line: &L) -> Result<(), Failed>
+        ensures ok { OnOk result (Passes (W.contents w.old) (W.contents w.new) self.old self.new
+            (L.text line.now)) }
+        ensures err { OnErr result (Breaks (W.contents w.old) (W.contents w.new) self.old self.new
+            (L.text line.now)) }
+        ensures failed { OnErr result (W.has_failed w.new ≡ true) }
+        ensures kept { OnOk result (W.has_failed w.new ≡ W.has_failed w.old) }
+    {
+        match self.make_room(w) {
+            Ok(()) => {}
+            Err(Failed) => return Err(Failed),
+        }
+        line.push(&mut self.waiting);
+        Ok(())
+    }
+
+    /// Makes room for a line: where there may be none, what waits is sent.
+    #[inline(always)]
+    fn make_room<W: Sink>(&mut self, w: &mut W) -> Result<(), Failed>
+        ensures ok { OnOk result (Passes (W.contents w.old) (W.contents w.new) self.old self.new
+            []) }
+        ensures room { OnOk result (length self.new.bytes + LINE_BYTES ≤ BLOCK_BYTES) }
+        ensures err { OnErr result (Breaks (W.contents w.old) (W.contents w.new) self.old self.new
+            []) }
+        ensures failed { OnErr result (W.has_failed w.new ≡ true) }
+        ensures kept { OnOk result (W.has_failed w.new ≡ W.has_failed w.old) }
+    {
+        if self.waiting.len() <= BLOCK_BYTES - LINE_BYTES {
+            return Ok(());
+        }
+        self.send(w)
+    }
+
+    fn send_and_put<W: Sink>(&mut self, w: &mut W, bytes: &[u8]) -> Result<(), Failed>
+        ensures ok { OnOk result (Passes (W.contents w.old) (W.contents w.new) self.old self.new
+            bytes.now) }
+        ensures err { OnErr result (Breaks (W.contents w.old) (W.contents w.new) self.old self.new
+            bytes.now) }
+        ensures failed { OnErr result (W.has_failed w.new ≡ true) }
+        ensures kept { OnOk result (W.has_failed w.new ≡ W.has_failed w.old) }
+    {
+        match self.send(w) {
+            Ok(()) => {}
+            Err(Failed) => return Err(Failed),
+        }
+        if bytes.len() < LARGE {
+            self.waiting.push_bytes(bytes);
+            return Ok(());
+        }
+        match write_front(w, bytes) {
+            Ok(()) => Ok(()),
+            Err(_) => Err(Failed),
+        }
+    }
+}

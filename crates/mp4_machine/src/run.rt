@@ -1,0 +1,96 @@
+//! A run over a whole stream, whatever it is read as.
+
+ghost use Rattle.std.specs.Prelude.{◌≡◌, ◌+◌, ◌<◌, length};
+ghost use Rattle.mp4_machine.specs.Blocks.{unused};
+ghost use Rattle.mp4_machine.specs.Ends.{between, received, sent};
+ghost use Rattle.mp4_machine.specs.Pieces.{IsBegun};
+ghost use Rattle.mp4_machine.specs.StreamRuns.{ReadsStream};
+
+use crate::block::Block;
+use crate::machine::{Machine, feed};
+use crate::stop::Stop;
+use mp4_ends::{Failed, Sink, Source};
+use mp4_ledger::Ledger;
+
+/// Reads a stream to its end, however its reads cut it, and feeds it to a machine to which no byte has come. `copy` bytes are
+/// claimed to read into. What the machine has claimed at the end is still to be given back. `fragments` says of how many of the
+/// fragments that the machine marked the writer took all bytes.
+///
+/// # Errors
+///
+/// `Stream` where the stream breaks a rule; `Read` and `Write` where an end has failed; `OverLimit` and `Memory` where a claim
+/// was refused.
+pub fn read_stream<R: Source, W: Sink, M: Machine>(
+    r: &mut R,
+    w: &mut W,
+    ledger: &mut Ledger,
+    copy: u32,
+    machine: &mut M,
+    fragments: &mut u64,
+) -> Result<(), Stop>
+    requires some { 0 < copy }
+    requires idle { ledger.old.live ≡ 0 }
+    requires begun { IsBegun (M.stands machine.old) (M.counted machine.old) }
+    ensures runs { (run : ReadsStream (M.stands machine.old).reads (between
+        (received R.remaining R.has_ended R.has_failed r.old r.new)
+        (sent W.contents W.has_failed w.old w.new))
+        (record { copy = copy; limit = ledger.old.limit; peak = ledger.new.peak })
+        (M.counted machine.new) result) × (run.fragments ≡ fragments.new) }
+    ensures live { ledger.new.live ≡ (M.stands machine.new).claim }
+    ensures limit { ledger.new.limit ≡ ledger.old.limit }
+    ensures task { M.task machine.new ≡ M.task machine.old }
+{
+    *fragments = 0;
+    ledger.mark();
+    let mut buf = match ledger.buf(u64::from(copy)) {
+        Ok(buf) => buf,
+        Err(refused) => return Err(Stop::of_refusal(refused)),
+    };
+    let mut out = Block::new();
+    let answer = read_on(r, w, ledger, buf.room_mut(copy as usize), machine, &mut out);
+    *fragments = out.whole();
+    ledger.back(buf);
+    answer
+}
+
+/// Reads the stream to its end into `copy`, which is all that is claimed.
+fn read_on<R: Source, W: Sink, M: Machine>(
+    r: &mut R,
+    w: &mut W,
+    ledger: &mut Ledger,
+    copy: &mut [u8],
+    machine: &mut M,
+    out: &mut Block,
+) -> Result<(), Stop>
+    requires some { 0 < length copy.old }
+    requires marked { ledger.old.peak ≡ ledger.old.live }
+    requires claimed { length copy.old ≡ ledger.old.live }
+    requires begun { IsBegun (M.stands machine.old) (M.counted machine.old) }
+    requires unused { out.old ≡ unused }
+    ensures runs { (run : ReadsStream (M.stands machine.old).reads (between
+        (received R.remaining R.has_ended R.has_failed r.old r.new)
+        (sent W.contents W.has_failed w.old w.new))
+        (record { copy = ledger.old.live; limit = ledger.old.limit; peak = ledger.new.peak })
+        (M.counted machine.new) result) × (run.fragments ≡ out.new.whole) }
+    ensures live { ledger.new.live ≡ ledger.old.live + (M.stands machine.new).claim }
+    ensures limit { ledger.new.limit ≡ ledger.old.limit }
+    ensures task { M.task machine.new ≡ M.task machine.old }
+{
+    let mut total: u64 = 0;
+    loop {
+        let n = match r.read(copy) {
+            Ok(0) => {
+                return match machine.finish() {
+                    Ok(()) => Ok(()),
+                    Err(fault) => Err(Stop::Stream(fault)),
+                };
+            }
+            Ok(n) => n,
+            Err(Failed) => return Err(Stop::Read { at: total }),
+        };
+        match feed(machine, ledger, &copy[..n], out, w) {
+            Ok(()) => total += n as u64,
+            Err(stop) => return Err(stop),
+        }
+    }
+}

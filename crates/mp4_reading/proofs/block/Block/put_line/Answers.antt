@@ -1,5 +1,0 @@
-use Rattle.mp4_reading.proofs.BlockLemmas.{Breaks-longer}
-use Rattle.mp4_reading.proofs.block.Block.put_line.Goals as goal
-
-pub returns-in-Err-clause-err : goal.returns-in-Err-clause-err
-returns-in-Err-clause-err g c = Breaks-longer _ c.in-Err.ensures.err
