@@ -18,8 +18,9 @@ ghost use Rattle.mp4_frag.specs.Runs.{runs_of};
 ghost use Rattle.mp4_init.specs.Moovs.{moov_fault, moov_tracks};
 ghost use Rattle.mp4_cut.specs.Mdat.{mdat_header};
 ghost use Rattle.mp4_cut.specs.Moof.{written_moof};
-ghost use Rattle.mp4_cut.specs.Puts.{Writes};
 ghost use Rattle.mp4_pieces.specs.Pieces.{IsPieceOf, IsRunOf, pieces_from};
+ghost use Rattle.mp4_machine.specs.Ends.{sent};
+ghost use Rattle.mp4_machine.specs.Puts.{Writes};
 ghost use Rattle.mp4_machine.specs.Readings.{Effects, both};
 ghost use Rattle.mp4_recut.specs.Cursors.{AreCut};
 ghost use Rattle.mp4_recut.specs.Media.{Tells, playing, spot_of};
@@ -194,7 +195,7 @@ pub fn write_front<W: Sink>(
     requires run { IsRunOf held.now run.now }
     requires piece { IsPieceOf held.now run.now piece.now }
     requires media { piece.now.bytes ≤ 2 ^ 62 }
-    ensures { Writes W.contents W.has_failed w.old w.new
+    ensures { Writes (sent W.contents W.has_failed w.old w.new)
         (written_moof piece.now run.now held.now sequence_number ++ mdat_header piece.now.bytes)
         result }
 {

@@ -6,7 +6,6 @@ pub mod Trun
 pub mod Mdat
 pub mod Moof
 pub mod Sidx
-pub mod Puts
 pub mod Reads
 pub mod Indexes
 pub mod Working

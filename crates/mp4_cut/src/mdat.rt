@@ -3,7 +3,8 @@
 ghost use Rattle.std.specs.Prelude.{◌≡◌, ◌+◌, ◌≤◌, ◌<◌, ◌^◌, ◌++◌, length};
 ghost use Rattle.mp4_pieces.specs.Sizes.{mdat_header_size};
 ghost use Rattle.mp4_cut.specs.Mdat.{mdat_header};
-ghost use Rattle.mp4_cut.specs.Puts.{Puts, Writes};
+ghost use Rattle.mp4_machine.specs.Ends.{sent};
+ghost use Rattle.mp4_machine.specs.Puts.{Puts, Writes};
 
 use crate::fields::Fields;
 use crate::write_fault::WriteFault;
@@ -47,14 +48,11 @@ fn mdat_header(bytes: u64) -> Fields
 /// `Failed` where the sink failed.
 pub fn put_mdat_header<W: Sink>(bytes: u64, block: &mut Block, w: &mut W) -> Result<(), Failed>
     requires { bytes ≤ 2 ^ 62 }
-    ensures { Puts W.contents W.has_failed w.old w.new block.old block.new (mdat_header bytes)
+    ensures { Puts (sent W.contents W.has_failed w.old w.new) block.old block.new (mdat_header bytes)
         result }
 {
     let header = mdat_header(bytes);
-    match block.put(w, header.as_slice()) {
-        Ok(()) => Ok(()),
-        Err(Failed) => Err(Failed),
-    }
+    block.put(w, header.as_slice())
 }
 
 /// Writes the header of an mdat before so many bytes of media, at most 2^62: 8 bytes, or 16 where
@@ -65,7 +63,7 @@ pub fn put_mdat_header<W: Sink>(bytes: u64, block: &mut Block, w: &mut W) -> Res
 /// `WriteFault` where the sink failed; it may have taken some of the bytes, from the first on.
 pub fn write_mdat_header<W: Sink>(bytes: u64, w: &mut W) -> Result<(), WriteFault>
     requires { bytes ≤ 2 ^ 62 }
-    ensures { Writes W.contents W.has_failed w.old w.new (mdat_header bytes) result }
+    ensures { Writes (sent W.contents W.has_failed w.old w.new) (mdat_header bytes) result }
 {
     let mut block = Block::new();
     match put_mdat_header(bytes, &mut block, w) {

@@ -4,7 +4,8 @@ ghost use Rattle.std.specs.Prelude.{◌≡◌, ◌+◌, ◌≤◌, ◌++◌, len
 ghost use Rattle.mp4_pieces.specs.Pieces.{IsPieceOf, IsRunOf};
 ghost use Rattle.mp4_cut.specs.Working.Fronts.{moof_front};
 ghost use Rattle.mp4_cut.specs.Moof.{written_moof};
-ghost use Rattle.mp4_cut.specs.Puts.{Puts, Writes};
+ghost use Rattle.mp4_machine.specs.Ends.{sent};
+ghost use Rattle.mp4_machine.specs.Puts.{Puts, Writes};
 
 use crate::fields::Fields;
 use crate::mdat::mdat_header_size;
@@ -58,7 +59,7 @@ pub fn put_moof<W: Sink>(
 ) -> Result<(), Failed>
     requires run { IsRunOf held.now run.now }
     requires piece { IsPieceOf held.now run.now piece.now }
-    ensures { Puts W.contents W.has_failed w.old w.new block.old block.new
+    ensures { Puts (sent W.contents W.has_failed w.old w.new) block.old block.new
         (written_moof piece.now run.now held.now sequence_number) result }
 {
     let front = moof_front(piece, run, sequence_number);
@@ -67,10 +68,7 @@ pub fn put_moof<W: Sink>(
         Err(Failed) => return Err(Failed),
     }
     let mut rows = run.rows_from(held, start_of(piece));
-    match put_samples(block, w, &mut rows, piece.count) {
-        Ok(()) => Ok(()),
-        Err(Failed) => Err(Failed),
-    }
+    put_samples(block, w, &mut rows, piece.count)
 }
 
 /// Writes the moof of a piece of a run, 92 bytes and 16 for each sample. `held` are the bytes of
@@ -88,7 +86,7 @@ pub fn write_moof<W: Sink>(
 ) -> Result<(), WriteFault>
     requires run { IsRunOf held.now run.now }
     requires piece { IsPieceOf held.now run.now piece.now }
-    ensures { Writes W.contents W.has_failed w.old w.new
+    ensures { Writes (sent W.contents W.has_failed w.old w.new)
         (written_moof piece.now run.now held.now sequence_number) result }
 {
     let mut block = Block::new();

@@ -7,7 +7,8 @@ ghost use Rattle.mp4_pieces.specs.Pieces.{IsRunOf};
 ghost use Rattle.mp4_pieces.specs.Fits.{FitsReference, FitsTime};
 ghost use Rattle.mp4_pieces.specs.Sizes.{fragment_size};
 ghost use Rattle.mp4_cut.specs.Working.Fronts.{index_front};
-ghost use Rattle.mp4_cut.specs.Puts.{Puts, Writes};
+ghost use Rattle.mp4_machine.specs.Ends.{sent};
+ghost use Rattle.mp4_machine.specs.Puts.{Puts, Writes};
 ghost use Rattle.mp4_cut.specs.Sidx.{natural, reference_bytes, written_index};
 ghost use Rattle.mp4_cut.specs.Working.Starts.{IsGroup, group_from};
 
@@ -77,7 +78,7 @@ fn put_references<W: Sink>(
     count: u16,
 ) -> Result<(), Failed>
     requires { AllByRecursion FitsReference (take count pieces.old) }
-    ensures { Puts W.contents W.has_failed w.old w.new block.old block.new
+    ensures { Puts (sent W.contents W.has_failed w.old w.new) block.old block.new
         (flat_map reference_bytes (take count pieces.old)) result }
 {
     let mut left = count;
@@ -127,7 +128,7 @@ pub fn put_index<W: Sink>(
 ) -> Result<(), Failed>
     requires run { IsRunOf held.now run.now }
     requires group { IsGroup cut.now held.now run.now first.now count }
-    ensures { Puts W.contents W.has_failed w.old w.new block.old block.new (written_index run.now
+    ensures { Puts (sent W.contents W.has_failed w.old w.new) block.old block.new (written_index run.now
         timescale (group_from cut.now held.now run.now first.now count)) result }
 {
     let front = index_front(run, timescale, first, count);
@@ -136,10 +137,7 @@ pub fn put_index<W: Sink>(
         Err(Failed) => return Err(Failed),
     }
     let mut pieces = Pieces::at(run, held, cut, start_of(first));
-    match put_references(block, w, &mut pieces, count) {
-        Ok(()) => Ok(()),
-        Err(Failed) => Err(Failed),
-    }
+    put_references(block, w, &mut pieces, count)
 }
 
 /// Writes the index of a group of `count` pieces of a run, as it is cut: 40 bytes and 12 for each
@@ -160,7 +158,7 @@ pub fn write_index<W: Sink>(
 ) -> Result<(), WriteFault>
     requires run { IsRunOf held.now run.now }
     requires group { IsGroup cut.now held.now run.now first.now count }
-    ensures { Writes W.contents W.has_failed w.old w.new (written_index run.now timescale
+    ensures { Writes (sent W.contents W.has_failed w.old w.new) (written_index run.now timescale
         (group_from cut.now held.now run.now first.now count)) result }
 {
     let mut block = Block::new();

@@ -3,7 +3,8 @@
 ghost use Rattle.std.specs.Prelude.{◌≡◌, ◌+◌, ◌≤◌, ◌++◌, length, take};
 ghost use Rattle.std.specs.List.{flat_map};
 ghost use Rattle.mp4_cut.specs.Working.Fronts.{trun_front};
-ghost use Rattle.mp4_cut.specs.Puts.{Puts};
+ghost use Rattle.mp4_machine.specs.Ends.{sent};
+ghost use Rattle.mp4_machine.specs.Puts.{Puts};
 ghost use Rattle.mp4_cut.specs.Trun.{offset_bits, sample_bytes};
 
 use crate::fields::Fields;
@@ -57,7 +58,7 @@ pub(crate) fn put_samples<W: Sink>(
     rows: &mut Rows<'_>,
     count: u32,
 ) -> Result<(), Failed>
-    ensures { Puts W.contents W.has_failed w.old w.new block.old block.new
+    ensures { Puts (sent W.contents W.has_failed w.old w.new) block.old block.new
         (flat_map sample_bytes (take count rows.old)) result }
 {
     let mut left = count;

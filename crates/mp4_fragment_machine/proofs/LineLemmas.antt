@@ -1,5 +1,5 @@
 -- The lines of samples, one after the other.
-use Rattle.std.proofs.Common.{◌≡◌, ◌∙◌, ℕ, zero, suc, ℤ, pos, ◌≤◌, drop, get_or, ◌+◌, ◌+ℤ◌, ◌<ℤ◌, ◌≤ℤ◌, ◌<◌, ◌^◌, List, [], ◌∷◌, ◌++◌, length, Option, ap, sym, refl, arith, subst, append-nil, append_assoc}
+use Rattle.std.proofs.Common.{◌≡◌, ◌∙◌, ℕ, zero, suc, ℤ, pos, ◌≤◌, drop, get_or, ◌+◌, ◌+ℤ◌, ◌<ℤ◌, ◌≤ℤ◌, ◌<◌, ◌^◌, List, [], ◌∷◌, ◌++◌, length, ap, sym, refl, arith, subst, append-nil, append_assoc}
 use Rattle.std.specs.List.{flat_map}
 use Rattle.std.proofs.Math.Seq.{drop-cons}
 use Rattle.std.proofs.lemmas.Grind.{flat_map-append}
@@ -23,7 +23,9 @@ use Rattle.mp4_frag.specs.declared.rows.Row.{Row}
 use Rattle.mp4_frag.specs.declared.run.Run.{Run}
 use Rattle.mp4_frag.specs.Laws.{past}
 use Rattle.mp4_frag.specs.Rows.{durations, sizes}
-use Rattle.mp4_machine.specs.Blocks.{Passes, Pending}
+use Rattle.mp4_machine.specs.Blocks.{Pending}
+use Rattle.mp4_machine.specs.Ends.{Sent}
+use Rattle.mp4_machine.specs.Puts.{HasPut}
 use Rattle.mp4_grammar.specs.Samples.{sample_line, sample_lines, sample_of, samples_from, samples_of_run}
 use Rattle.mp4_pieces.specs.Working.Growing.{HasRoom}
 
@@ -70,9 +72,9 @@ module _ (c : Cursor) (row : Row) (rest rows : List Row) (e : rows ≡ row ∷ r
   }
 
 -- all rows were put
-pub put_all : (a b : Option (List ℕ)) (v w : Pending) (text all : List ℕ) (run : Run) (rows : List Row) (c : Cursor) → rows ≡ [] → text ++ sample_lines (samples_from run rows c.time c.place) ≡ all → Passes a b v w text → Passes a b v w all
-put_all a b v w text all run rows c none whole p =
-    subst (Passes a b v w) (sym (append-nil text) ∙ ap (λ l. text ++ sample_lines (samples_from run l c.time c.place)) (sym none) ∙ whole) p
+pub put_all : {s : Sent} {v w : Pending} {text all : List ℕ} (run : Run) (rows : List Row) (c : Cursor) → rows ≡ [] → text ++ sample_lines (samples_from run rows c.time c.place) ≡ all → HasPut s v w text [] → HasPut s v w all []
+put_all {s = s} {v = v} {w = w} {text = text} run rows c none whole p =
+    subst (λ l. HasPut s v w l []) (sym (append-nil text) ∙ ap (λ l. text ++ sample_lines (samples_from run l c.time c.place)) (sym none) ∙ whole) p
 
 -- ---- run after run
 

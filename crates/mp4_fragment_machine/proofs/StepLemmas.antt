@@ -8,14 +8,14 @@ use Rattle.mp4_machine.specs.Blocks.{Pending}
 use Rattle.mp4_machine.specs.Pieces.{GoesOn, Refuses, outside}
 use Rattle.mp4_machine.specs.declared.held.Held.{Held}
 use Rattle.mp4_machine.specs.declared.stop.Stop.{Stop}
-use Rattle.mp4_machine.specs.declared.stop.Stop.TheVariants.{Stream, Write}
+use Rattle.mp4_machine.specs.declared.stop.Stop.TheVariants.{Stream}
 use Rattle.mp4_machine.proofs.PieceLemmas.{StopsAt-take_more}
 use Rattle.mp4_grammar.specs.Contexts.{context, table_of}
 use Rattle.mp4_recut.specs.Plans.{plan_meaning, number_in}
 use Rattle.mp4_recut.specs.declared.plan.Plan.{Plan}
 use Rattle.mp4_fragment_machine.specs.Places.{Place, claim_of, standing}
 use Rattle.mp4_fragment_machine.specs.States.{HasStopped, IsCounted, IsWaiting, most_counted}
-use Rattle.mp4_fragment_machine.specs.Working.Steps.{Advances, GoesTo, Lent, StopsIn, at_state, outside_after, outside_before, outside_stopped, with_head}
+use Rattle.mp4_fragment_machine.specs.Working.Steps.{Advances, GoesTo, Lent, StopsIn, at_state, outside_before, outside_stopped, with_head}
 use Rattle.mp4_fragment_machine.specs.declared.state.Counter.{Counter}
 use Rattle.mp4_fragment_machine.specs.declared.state.Kept.{Kept}
 use Rattle.mp4_fragment_machine.specs.declared.state.State.{State}

@@ -1,9 +1,10 @@
 //! The lines of a fragment's samples.
 
-ghost use Rattle.std.specs.Prelude.{◌≡◌, ◌+◌, ◌+ℤ◌, ◌<ℤ◌, ◌≤ℤ◌, ◌<◌, ◌^◌, ◌++◌, pos, Some, true, OnErr, OnOk};
+ghost use Rattle.std.specs.Prelude.{◌≡◌, ◌+◌, ◌+ℤ◌, ◌<ℤ◌, ◌≤ℤ◌, ◌<◌, ◌^◌, ◌++◌, pos, Some};
 ghost use Rattle.mp4_frag.specs.Laws.{first_cursor, past};
 ghost use Rattle.mp4_frag.specs.Moofs.{moof_samples};
-ghost use Rattle.mp4_machine.specs.Blocks.{Breaks, Passes};
+ghost use Rattle.mp4_machine.specs.Ends.{sent};
+ghost use Rattle.mp4_machine.specs.Puts.{Puts};
 ghost use Rattle.mp4_grammar.specs.Samples.{sample_lines, sample_of, samples_from, samples_of_run};
 ghost use Rattle.mp4_pieces.specs.Pieces.{IsRunOf};
 ghost use Rattle.mp4_fragment_machine.specs.States.{IsWaiting, lines_of, moof_in};
@@ -57,12 +58,8 @@ fn put_rows<W: Sink>(
     w: &mut W,
 ) -> Result<(), Failed>
     requires { HasRoom from rows.old }
-    ensures ok { OnOk result (Passes (W.contents w.old) (W.contents w.new) out.old out.new
-        (sample_lines (samples_from run.now rows.old from.time from.place))) }
-    ensures err { OnErr result (Breaks (W.contents w.old)
-        (W.contents w.new) out.old out.new (sample_lines (samples_from run.now rows.old from.time from.place))) }
-    ensures failed { OnErr result (W.has_failed w.new ≡ true) }
-    ensures kept { OnOk result (W.has_failed w.new ≡ W.has_failed w.old) }
+    ensures { Puts (sent W.contents W.has_failed w.old w.new) out.old out.new
+        (sample_lines (samples_from run.now rows.old from.time from.place)) result }
 {
     let mut at = from;
     loop {
@@ -85,17 +82,10 @@ pub(crate) fn put_run<W: Sink>(
     w: &mut W,
 ) -> Result<(), Failed>
     requires { IsRunOf held.now run.now }
-    ensures ok { OnOk result (Passes (W.contents w.old) (W.contents w.new) out.old out.new
-        (sample_lines (samples_of_run held.now run.now))) }
-    ensures err { OnErr result (Breaks (W.contents w.old)
-        (W.contents w.new) out.old out.new (sample_lines (samples_of_run held.now run.now))) }
-    ensures failed { OnErr result (W.has_failed w.new ≡ true) }
-    ensures kept { OnOk result (W.has_failed w.new ≡ W.has_failed w.old) }
+    ensures { Puts (sent W.contents W.has_failed w.old w.new) out.old out.new
+        (sample_lines (samples_of_run held.now run.now)) result }
 {
-    match put_rows(run, &mut run.rows(held), first_cursor(run), out, w) {
-        Ok(()) => Ok(()),
-        Err(Failed) => Err(Failed),
-    }
+    put_rows(run, &mut run.rows(held), first_cursor(run), out, w)
 }
 
 /// Puts the lines of the samples of the moof that waits, its runs in the order in which they are taken. They are so many, and
@@ -113,12 +103,8 @@ pub(crate) fn put_runs<W: Sink>(
     requires samples { samples ≡ moof_samples (moof_in waiting.now) }
     ensures walked { steps.new.rows ≡
         steps.old.rows + moof_samples (moof_in waiting.now) }
-    ensures ok { OnOk result (Passes (W.contents w.old) (W.contents w.new) out.old out.new
-        (lines_of waiting.now tracks.now)) }
-    ensures err { OnErr result (Breaks (W.contents w.old)
-        (W.contents w.new) out.old out.new (lines_of waiting.now tracks.now)) }
-    ensures failed { OnErr result (W.has_failed w.new ≡ true) }
-    ensures kept { OnOk result (W.has_failed w.new ≡ W.has_failed w.old) }
+    ensures puts { Puts (sent W.contents W.has_failed w.old w.new) out.old out.new
+        (lines_of waiting.now tracks.now) result }
 {
     let moof = Moof::again(waiting.moof.bytes(), waiting.moof.offset(), tracks);
     steps.rows += u128::from(samples);

@@ -8,7 +8,8 @@ ghost use Rattle.mp4_grammar.specs.Commands.{accepted, command_meaning};
 ghost use Rattle.mp4_grammar.specs.Meanings.{counted_in, fragment_fault, needed_in};
 ghost use Rattle.mp4_recut.specs.Plans.{number_in};
 ghost use Rattle.mp4_recut.specs.declared.plan.Plan.TheVariants as plans;
-ghost use Rattle.mp4_machine.specs.Blocks.{Breaks, Passes};
+ghost use Rattle.mp4_machine.specs.Ends.{sent};
+ghost use Rattle.mp4_machine.specs.Puts.{Puts};
 ghost use Rattle.mp4_machine.specs.Bodies.{least_end, longest};
 ghost use Rattle.mp4_machine.specs.Readings.{plus};
 ghost use Rattle.mp4_fragment_machine.specs.Places.{Unlent};
@@ -69,12 +70,8 @@ fn tell<W: Sink>(
         (moof_samples (moof_in waiting.now)) (moof_samples (moof_in waiting.now)) }
     ensures needed { IfOk result (λ n.
         n ≡ needed_in (waiting_fragment 1 waiting.now tracks.now header.now)) }
-    ensures ok { OnOk result (Passes (W.contents w.old) (W.contents w.new) out.old out.new
-        (accepted command (waiting_fragment 1 waiting.now tracks.now header.now)).text) }
-    ensures err { OnErr result (Breaks (W.contents w.old)
-        (W.contents w.new) out.old out.new ((accepted command (waiting_fragment 1 waiting.now tracks.now header.now)).text)) }
-    ensures failed { OnErr result (W.has_failed w.new ≡ true) }
-    ensures kept { OnOk result (W.has_failed w.new ≡ W.has_failed w.old) }
+    ensures puts { Puts (sent W.contents W.has_failed w.old w.new) out.old out.new
+        (accepted command (waiting_fragment 1 waiting.now tracks.now header.now)).text result }
     ensures tally { counter.new.tally ≡ plus counter.old.tally
         (counted_in (waiting_fragment 1 waiting.now tracks.now header.now)) }
     ensures walked { counter.new.steps.rows ≡

@@ -1,7 +1,8 @@
 //! A moov of which all came.
 
 ghost use Rattle.std.specs.Prelude.{◌≡◌, OnOk, OnErr, true, ◌+◌, ◌≤◌, [], length, None, Some};
-ghost use Rattle.mp4_machine.specs.Blocks.{Breaks, Passes};
+ghost use Rattle.mp4_machine.specs.Ends.{sent};
+ghost use Rattle.mp4_machine.specs.Puts.{Puts};
 ghost use Rattle.mp4_machine.specs.Bodies.{longest};
 ghost use Rattle.mp4_machine.specs.Holding.{Begins};
 ghost use Rattle.mp4_recut.specs.Plans.{plan_meaning};
@@ -79,12 +80,8 @@ fn put_tracks(tracks: &mut Option<TrackList>, list: TrackList)
 ///
 /// `Failed` where a write failed.
 fn put_moov<W: Sink>(plan: Plan, moov: &[u8], out: &mut Block, w: &mut W) -> Result<(), Failed>
-    ensures ok { OnOk result (Passes (W.contents w.old) (W.contents w.new) out.old out.new
-        ((plan_meaning plan).of_moov moov.now)) }
-    ensures err { OnErr result (Breaks (W.contents w.old)
-        (W.contents w.new) out.old out.new ((plan_meaning plan).of_moov moov.now)) }
-    ensures failed { OnErr result (W.has_failed w.new ≡ true) }
-    ensures kept { OnOk result (W.has_failed w.new ≡ W.has_failed w.old) }
+    ensures { Puts (sent W.contents W.has_failed w.old w.new) out.old out.new
+        ((plan_meaning plan).of_moov moov.now) result }
 {
     match plan {
         Plan::List(_) => Ok(()),

@@ -8,7 +8,8 @@ ghost use Rattle.mp4_box.specs.declared.headers.Header.{Header};
 ghost use Rattle.mp4_init.specs.declared.table.Track.{Track};
 ghost use Rattle.mp4_frag.specs.LoneRuns.{IsLone};
 ghost use Rattle.mp4_frag.specs.Runs.{moof_at};
-ghost use Rattle.mp4_machine.specs.Blocks.{Breaks, Passes};
+ghost use Rattle.mp4_machine.specs.Ends.{sent};
+ghost use Rattle.mp4_machine.specs.Puts.{Puts};
 ghost use Rattle.mp4_machine.specs.Bodies.{longest};
 ghost use Rattle.mp4_machine.specs.Readings.{plus};
 ghost use Rattle.mp4_grammar.specs.Commands.{accepted};
@@ -165,14 +166,9 @@ fn tell_whole<W: Sink>(
 ) -> Result<(), Failed>
     requires is { IsFragment at tracks.now piece.now whole.now.boxes whole.now.run.now }
     requires counted { IsCounted (plans.List command) counter.old at 0 0 }
-    ensures ok { (g : Header) → OnOk result (Passes (W.contents w.old) (W.contents w.new) out.old
-        out.new (accepted command (fragment (context at (Some tracks.now) 1) tracks.now
-        whole.now.boxes.moof.now g)).text) }
-    ensures err { (g : Header) → OnErr result (Breaks (W.contents w.old)
-        (W.contents w.new) out.old out.new ((accepted command (fragment
-        (context at (Some tracks.now) 1) tracks.now whole.now.boxes.moof.now g)).text)) }
-    ensures failed { OnErr result (W.has_failed w.new ≡ true) }
-    ensures kept { OnOk result (W.has_failed w.new ≡ W.has_failed w.old) }
+    ensures puts { (g : Header) → Puts (sent W.contents W.has_failed w.old w.new) out.old out.new
+        (accepted command (fragment (context at (Some tracks.now) 1) tracks.now
+        whole.now.boxes.moof.now g)).text result }
     ensures tally { (g : Header) → counter.new.tally ≡ plus (plus counter.old.tally
         (walked (moof_at whole.now.boxes.moof.now at))) (counted_in (fragment
         (context at (Some tracks.now) 1) tracks.now whole.now.boxes.moof.now g)) }

@@ -1,6 +1,7 @@
 //! A fragment of which a piece has all, with one run, that is recut: its fragments are put where it lies.
 
 ghost use Rattle.std.specs.Prelude.{◌≡◌, ◌+◌, ◌*◌, ◌-◌, ◌<◌, ◌≤◌, ◌≤ℤ◌, ◌^◌, ℕ, [], ◌++◌, pos, false, length, None, Some, OnOk};
+ghost use Rattle.mp4_machine.specs.Ends.{sent};
 ghost use Rattle.mp4_frag.specs.Runs.{end_place};
 ghost use Rattle.mp4_pieces.specs.Pieces.{IsRunOf, pieces_of};
 ghost use Rattle.mp4_recut.specs.Media.{PutsAll};
@@ -53,7 +54,7 @@ fn recut_whole<W: Sink>(
     requires plain { cut.now.index ≡ false }
     requires numbers { counter.old.tally.fragments + 1 + whole.now.run.now.run.count ≤ 2 ^ 32 }
     requires counted { IsCounted (plans.Split cut.now) counter.old at 0 0 }
-    ensures puts { (timescale : ℕ) → PutsAll W.contents W.has_failed w.old w.new out.old out.new
+    ensures puts { (timescale : ℕ) → PutsAll (sent W.contents W.has_failed w.old w.new) out.old out.new
         (media_start at whole.now.boxes) (media_in piece.now whole.now.boxes)
         (run_parts cut.now whole.now.boxes.moof.now whole.now.run.now.run timescale 0
         (counter.old.tally.fragments + 1)

@@ -6,6 +6,7 @@ pub mod BodyLemmas
 pub mod AccountLemmas
 pub mod MarkLemmas
 pub mod BlockLemmas
+pub mod PutLemmas
 pub mod PieceLemmas
 pub mod RunLemmas
 pub mod FedLemmas

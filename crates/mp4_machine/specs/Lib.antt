@@ -3,6 +3,7 @@ pub mod Bodies
 pub mod Accounts
 pub mod Blocks
 pub mod Ends
+pub mod Puts
 pub mod Pieces
 pub mod StreamRuns
 pub mod Fed

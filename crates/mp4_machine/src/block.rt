@@ -1,7 +1,9 @@
 //! Bytes on their way to a sink.
 
-ghost use Rattle.std.specs.Prelude.{◌≡◌, ℕ, List, ◌+◌, ◌<◌, ◌≤◌, [], ◌∷◌, ◌++◌, length, true, OnOk, OnErr};
-ghost use Rattle.mp4_machine.specs.Blocks.{Breaks, BreaksMarked, IsSent, Passes, PassesMarked, unused};
+ghost use Rattle.std.specs.Prelude.{◌≡◌, ℕ, List, ◌+◌, ◌<◌, ◌≤◌, [], ◌∷◌, ◌++◌, length, OnOk};
+ghost use Rattle.mp4_machine.specs.Blocks.{IsSent, unused};
+ghost use Rattle.mp4_machine.specs.Ends.{sent};
+ghost use Rattle.mp4_machine.specs.Puts.{Puts, PutsMarked};
 ghost use Rattle.mp4_machine.specs.Readings.{whole_in};
 
 use crate::mark::Mark;
@@ -75,13 +77,8 @@ impl Block {
 
     /// Sends all that waits.
     pub fn send<W: Sink>(&mut self, w: &mut W) -> Result<(), Failed>
-        ensures ok { OnOk result (Passes (W.contents w.old) (W.contents w.new) self.old self.new
-            []) }
+        ensures puts { Puts (sent W.contents W.has_failed w.old w.new) self.old self.new [] result }
         ensures sent { OnOk result (IsSent self.new) }
-        ensures err { OnErr result (Breaks (W.contents w.old) (W.contents w.new) self.old self.new
-            []) }
-        ensures failed { OnErr result (W.has_failed w.new ≡ true) }
-        ensures kept { OnOk result (W.has_failed w.new ≡ W.has_failed w.old) }
     {
         match write_front(w, self.waiting.bytes()) {
             Ok(()) => {
@@ -112,12 +109,8 @@ impl Block {
 
     /// Says that `count` fragments are whole in all that was put. Where too many ends wait, what waits is sent first.
     pub fn mark<W: Sink>(&mut self, w: &mut W, count: u64) -> Result<(), Failed>
-        ensures ok { OnOk result (PassesMarked (W.contents w.old) (W.contents w.new) self.old
-            self.new [] (record { end = 0; count = count } ∷ [])) }
-        ensures err { OnErr result (BreaksMarked (W.contents w.old) (W.contents w.new) self.old
-            self.new [] (record { end = 0; count = count } ∷ [])) }
-        ensures failed { OnErr result (W.has_failed w.new ≡ true) }
-        ensures kept { OnOk result (W.has_failed w.new ≡ W.has_failed w.old) }
+        ensures { PutsMarked (sent W.contents W.has_failed w.old w.new) self.old self.new []
+            (record { end = 0; count = count } ∷ []) result }
     {
         match self.make_room_for_end(w) {
             Ok(()) => {}
@@ -133,13 +126,8 @@ impl Block {
     /// Makes room for the end of a fragment: where there is none, what waits is sent.
     #[inline(always)]
     fn make_room_for_end<W: Sink>(&mut self, w: &mut W) -> Result<(), Failed>
-        ensures ok { OnOk result (Passes (W.contents w.old) (W.contents w.new) self.old self.new
-            []) }
+        ensures puts { Puts (sent W.contents W.has_failed w.old w.new) self.old self.new [] result }
         ensures room { OnOk result (length self.new.ends < MOST_ENDS) }
-        ensures err { OnErr result (Breaks (W.contents w.old) (W.contents w.new) self.old self.new
-            []) }
-        ensures failed { OnErr result (W.has_failed w.new ≡ true) }
-        ensures kept { OnOk result (W.has_failed w.new ≡ W.has_failed w.old) }
     {
         if self.ends.len() < MOST_ENDS {
             return Ok(());
@@ -149,12 +137,8 @@ impl Block {
 
     /// Puts these bytes behind those that wait. Where they don't fit, what waits is sent first.
     pub fn put<W: Sink>(&mut self, w: &mut W, bytes: &[u8]) -> Result<(), Failed>
-        ensures ok { OnOk result (Passes (W.contents w.old) (W.contents w.new) self.old self.new
-            bytes.now) }
-        ensures err { OnErr result (Breaks (W.contents w.old) (W.contents w.new) self.old self.new
-            bytes.now) }
-        ensures failed { OnErr result (W.has_failed w.new ≡ true) }
-        ensures kept { OnOk result (W.has_failed w.new ≡ W.has_failed w.old) }
+        ensures { Puts (sent W.contents W.has_failed w.old w.new) self.old self.new bytes.now
+            result }
     {
         if bytes.len() > BLOCK_BYTES - self.waiting.len() {
             return self.send_and_put(w, bytes);
@@ -166,12 +150,8 @@ impl Block {
     /// Puts a line behind the bytes that wait. Where there may be no room for it, what waits is sent first.
     #[inline(always)]
     pub fn put_line<L: Line, W: Sink>(&mut self, w: &mut W, line: &L) -> Result<(), Failed>
-        ensures ok { OnOk result (Passes (W.contents w.old) (W.contents w.new) self.old self.new
-            (L.text line.now)) }
-        ensures err { OnErr result (Breaks (W.contents w.old) (W.contents w.new) self.old self.new
-            (L.text line.now)) }
-        ensures failed { OnErr result (W.has_failed w.new ≡ true) }
-        ensures kept { OnOk result (W.has_failed w.new ≡ W.has_failed w.old) }
+        ensures { Puts (sent W.contents W.has_failed w.old w.new) self.old self.new
+            (L.text line.now) result }
     {
         match self.make_room(w) {
             Ok(()) => {}
@@ -184,13 +164,8 @@ impl Block {
     /// Makes room for a line: where there may be none, what waits is sent.
     #[inline(always)]
     fn make_room<W: Sink>(&mut self, w: &mut W) -> Result<(), Failed>
-        ensures ok { OnOk result (Passes (W.contents w.old) (W.contents w.new) self.old self.new
-            []) }
+        ensures puts { Puts (sent W.contents W.has_failed w.old w.new) self.old self.new [] result }
         ensures room { OnOk result (length self.new.bytes + LINE_BYTES ≤ BLOCK_BYTES) }
-        ensures err { OnErr result (Breaks (W.contents w.old) (W.contents w.new) self.old self.new
-            []) }
-        ensures failed { OnErr result (W.has_failed w.new ≡ true) }
-        ensures kept { OnOk result (W.has_failed w.new ≡ W.has_failed w.old) }
     {
         if self.waiting.len() <= BLOCK_BYTES - LINE_BYTES {
             return Ok(());
@@ -199,12 +174,8 @@ impl Block {
     }
 
     fn send_and_put<W: Sink>(&mut self, w: &mut W, bytes: &[u8]) -> Result<(), Failed>
-        ensures ok { OnOk result (Passes (W.contents w.old) (W.contents w.new) self.old self.new
-            bytes.now) }
-        ensures err { OnErr result (Breaks (W.contents w.old) (W.contents w.new) self.old self.new
-            bytes.now) }
-        ensures failed { OnErr result (W.has_failed w.new ≡ true) }
-        ensures kept { OnOk result (W.has_failed w.new ≡ W.has_failed w.old) }
+        ensures { Puts (sent W.contents W.has_failed w.old w.new) self.old self.new bytes.now
+            result }
     {
         match self.send(w) {
             Ok(()) => {}

@@ -1,8 +1,9 @@
 //! The lines of boxes.
 
-ghost use Rattle.std.specs.Prelude.{◌≡◌, ◌+◌, ◌≤◌, ◌++◌, length, true, OnErr, OnOk};
+ghost use Rattle.std.specs.Prelude.{◌≡◌, ◌+◌, ◌≤◌, ◌++◌, length};
 ghost use Rattle.mp4_box.specs.Trees.{view};
-ghost use Rattle.mp4_machine.specs.Blocks.{Breaks, Passes};
+ghost use Rattle.mp4_machine.specs.Ends.{sent};
+ghost use Rattle.mp4_machine.specs.Puts.{Puts};
 ghost use Rattle.mp4_stream.specs.Listing.{box_line, has_lines_below, indent, line_below, lines_below, size_text, tree_lines, user_text};
 
 use mp4_box::{BoxRef, Header, Size, Walk, holds_boxes};
@@ -71,12 +72,8 @@ pub(crate) fn put_box<W: Sink>(
     out: &mut Block,
     w: &mut W,
 ) -> Result<(), Failed>
-    ensures ok { OnOk result (Passes (W.contents w.old) (W.contents w.new) out.old out.new
-        (box_line at header.now)) }
-    ensures err { OnErr result (Breaks (W.contents w.old) (W.contents w.new)
-        out.old out.new (box_line at header.now)) }
-    ensures failed { OnErr result (W.has_failed w.new ≡ true) }
-    ensures kept { OnOk result (W.has_failed w.new ≡ W.has_failed w.old) }
+    ensures { Puts (sent W.contents W.has_failed w.old w.new) out.old out.new
+        (box_line at header.now) result }
 {
     let line = BoxLine {
         header,
@@ -107,12 +104,8 @@ pub(crate) fn put_tree<W: Sink>(
     w: &mut W,
 ) -> Result<(), Failed>
     requires { levels + level ≤ 7 }
-    ensures ok { OnOk result (Passes (W.contents w.old) (W.contents w.new) out.old out.new
-        (tree_lines levels level (view this.now))) }
-    ensures err { OnErr result (Breaks (W.contents w.old) (W.contents w.new)
-        out.old out.new (tree_lines levels level (view this.now))) }
-    ensures failed { OnErr result (W.has_failed w.new ≡ true) }
-    ensures kept { OnOk result (W.has_failed w.new ≡ W.has_failed w.old) }
+    ensures { Puts (sent W.contents W.has_failed w.old w.new) out.old out.new
+        (tree_lines levels level (view this.now)) result }
 {
     match put_line(this, level, out, w) {
         Ok(()) => {}
@@ -121,10 +114,7 @@ pub(crate) fn put_tree<W: Sink>(
     if !has_lines_below(this, levels) {
         return Ok(());
     }
-    match put_below(this, levels - 1, level + 1, out, w) {
-        Ok(()) => Ok(()),
-        Err(Failed) => Err(Failed),
-    }
+    put_below(this, levels - 1, level + 1, out, w)
 }
 
 /// Puts the lines of the boxes below a box: its children stand so many levels below the top.
@@ -136,12 +126,8 @@ fn put_below<W: Sink>(
     w: &mut W,
 ) -> Result<(), Failed>
     requires { levels + level ≤ 7 }
-    ensures ok { OnOk result (Passes (W.contents w.old) (W.contents w.new) out.old out.new
-        (lines_below levels level (view this.now))) }
-    ensures err { OnErr result (Breaks (W.contents w.old) (W.contents w.new)
-        out.old out.new (lines_below levels level (view this.now))) }
-    ensures failed { OnErr result (W.has_failed w.new ≡ true) }
-    ensures kept { OnOk result (W.has_failed w.new ≡ W.has_failed w.old) }
+    ensures { Puts (sent W.contents W.has_failed w.old w.new) out.old out.new
+        (lines_below levels level (view this.now)) result }
 {
     for child in Walk::of(this) {
         match put_line(&child, level, out, w) {
@@ -162,12 +148,8 @@ fn put_below<W: Sink>(
 #[inline(always)]
 fn put_line<W: Sink>(this: &BoxRef<'_>, level: u8, out: &mut Block, w: &mut W) -> Result<(), Failed>
     requires { level ≤ 7 }
-    ensures ok { OnOk result (Passes (W.contents w.old) (W.contents w.new) out.old out.new
-        (line_below level (view this.now))) }
-    ensures err { OnErr result (Breaks (W.contents w.old) (W.contents w.new)
-        out.old out.new (line_below level (view this.now))) }
-    ensures failed { OnErr result (W.has_failed w.new ≡ true) }
-    ensures kept { OnOk result (W.has_failed w.new ≡ W.has_failed w.old) }
+    ensures { Puts (sent W.contents W.has_failed w.old w.new) out.old out.new
+        (line_below level (view this.now)) result }
 {
     let line = BoxLine {
         header: &this.header,

@@ -9,10 +9,8 @@ returns-in-Err g c =
     let moof = written_moof c.args.piece.now c.args.run.now c.args.held.now c.args.sequence_number in
     let header = mdat_header c.args.piece.now.bytes in
     record {
-      ok = tt;
-      err = AppendsPrefix-longer (g.W.Sink.contents c.args.w.now) (g.W.Sink.contents c.write_moof.new.w) moof header (moof ++ header) c.in-Err.ensures.err refl;
+      prefix = AppendsPrefix-longer (g.W.Sink.contents c.args.w.now) (g.W.Sink.contents c.write_moof.new.w) moof header (moof ++ header) c.in-Err.ensures.prefix refl;
       failed = c.in-Err.ensures.failed;
-      kept = tt;
     }
 
 pub returns-in-Err-write_mdat_header : goal.returns-in-Err-write_mdat_header
@@ -20,8 +18,6 @@ returns-in-Err-write_mdat_header g c =
     let moof = written_moof c.args.piece.now c.args.run.now c.args.held.now c.args.sequence_number in
     let header = mdat_header c.args.piece.now.bytes in
     record {
-      ok = tt;
-      err = AppendsPrefix-more (g.W.Sink.contents c.args.w.now) (g.W.Sink.contents c.write_moof.new.w) (g.W.Sink.contents c.write_mdat_header.new.w) moof header c.in-Ok.ensures.ok c.in-Err-write_mdat_header.ensures.err;
+      prefix = AppendsPrefix-more (g.W.Sink.contents c.args.w.now) (g.W.Sink.contents c.write_moof.new.w) (g.W.Sink.contents c.write_mdat_header.new.w) moof header c.in-Ok.ensures.appends c.in-Err-write_mdat_header.ensures.prefix;
       failed = c.in-Err-write_mdat_header.ensures.failed;
-      kept = tt;
     }

@@ -7,8 +7,7 @@ use Rattle.mp4_pieces.specs.Pieces.{rows_in}
 use Rattle.mp4_cut.specs.Moof.{written_moof}
 use Rattle.mp4_cut.specs.Trun.{sample_bytes}
 use Rattle.mp4_cut.proofs.PieceLemmas.{front_is, moof_is_put, start_is}
-use Rattle.mp4_machine.proofs.BlockLemmas.{Breaks-front}
-use Rattle.mp4_cut.proofs.PutLemmas.{both_put, second_prefix}
+use Rattle.mp4_machine.proofs.PutLemmas.{HasFailed-front, Puts-then}
 use Rattle.mp4_cut.proofs.moof.put_moof.Goals as goal
 
 pub rows_from-rows-requires : goal.rows_from-rows-requires
@@ -19,37 +18,14 @@ pub returns-in-Err : goal.returns-in-Err
 returns-in-Err g c =
     let samples = flat_map sample_bytes (rows_in c.args.held.now c.args.run.now c.args.piece.now) in
     let moof = written_moof c.args.piece.now c.args.run.now c.args.held.now c.args.sequence_number in
-    record {
-      ok = tt;
-      err = Breaks-front c.as_slice.result.now samples moof
-          (ap (λ (x : List ℕ). x ++ samples) (c.as_slice.ensures ∙ c.moof_front-front.ensures) ∙ sym (front_is c.args.held.now c.args.run.now c.args.piece.now c.args.sequence_number c.requires.piece))
-          c.in-Err.ensures.err;
-      failed = c.in-Err.ensures.failed;
-      kept = tt;
-    }
+    HasFailed-front c.as_slice.result.now samples moof
+    (ap (λ (x : List ℕ). x ++ samples) (c.as_slice.ensures ∙ c.moof_front-front.ensures) ∙ sym (front_is c.args.held.now c.args.run.now c.args.piece.now c.args.sequence_number c.requires.piece))
+    c.in-Err.ensures
 
-pub returns-in-Ok-put_samples : goal.returns-in-Ok-put_samples
-returns-in-Ok-put_samples g c =
+pub returns : goal.returns
+returns g c =
     let moof = written_moof c.args.piece.now c.args.run.now c.args.held.now c.args.sequence_number in
     let samples = flat_map sample_bytes (take c.args.piece.now.count c.rows_from-rows.result) in
     let whole = moof_is_put c.args.held.now c.args.run.now c.args.piece.now c.args.sequence_number c.as_slice.result.now c.moof_front-front.result c.start_of.result c.rows_from-rows.result
     c.requires.piece c.as_slice.ensures c.moof_front-front.ensures c.start_of.ensures c.rows_from-rows.ensures in
-    record {
-      ok = both_put c.as_slice.result.now samples moof whole c.in-Ok.ensures.ok c.in-Ok-put_samples.ensures.ok;
-      err = tt;
-      failed = tt;
-      kept = c.in-Ok-put_samples.ensures.kept ∙ c.in-Ok.ensures.kept;
-    }
-
-pub returns-in-Err-put_samples : goal.returns-in-Err-put_samples
-returns-in-Err-put_samples g c =
-    let moof = written_moof c.args.piece.now c.args.run.now c.args.held.now c.args.sequence_number in
-    let samples = flat_map sample_bytes (take c.args.piece.now.count c.rows_from-rows.result) in
-    let whole = moof_is_put c.args.held.now c.args.run.now c.args.piece.now c.args.sequence_number c.as_slice.result.now c.moof_front-front.result c.start_of.result c.rows_from-rows.result
-    c.requires.piece c.as_slice.ensures c.moof_front-front.ensures c.start_of.ensures c.rows_from-rows.ensures in
-    record {
-      ok = tt;
-      err = second_prefix (g.W.Sink.contents c.put_samples.new.w) c.put_samples.new.block c.as_slice.result.now samples moof whole c.in-Ok.ensures.ok c.in-Err-put_samples.ensures.err;
-      failed = c.in-Err-put_samples.ensures.failed;
-      kept = tt;
-    }
+    Puts-then c.in-Ok.ensures _ _ _ samples moof whole c.put_samples.result c.put_samples.ensures

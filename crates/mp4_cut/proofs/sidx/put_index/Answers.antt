@@ -6,8 +6,7 @@ use Rattle.mp4_frag.specs.Rows.{IsCursor}
 use Rattle.mp4_cut.specs.Sidx.{reference_bytes, written_index}
 use Rattle.mp4_cut.specs.Working.Starts.{group_from}
 use Rattle.mp4_cut.proofs.IndexLemmas.{index_is, index_is_put, room_is}
-use Rattle.mp4_machine.proofs.BlockLemmas.{Breaks-front}
-use Rattle.mp4_cut.proofs.PutLemmas.{both_put, second_prefix}
+use Rattle.mp4_machine.proofs.PutLemmas.{HasFailed-front, Puts-then}
 use Rattle.mp4_cut.proofs.sidx.put_index.Goals as goal
 
 pub at-pieces-requires : goal.at-pieces-requires
@@ -22,39 +21,15 @@ pub returns-in-Err : goal.returns-in-Err
 returns-in-Err g c =
     let group = group_from c.args.cut.now c.args.held.now c.args.run.now c.args.first.now c.args.count in
     let index = written_index c.args.run.now c.args.timescale group in
-    record {
-      ok = tt;
-      err = Breaks-front c.as_slice.result.now (flat_map reference_bytes group) index
-          (ap (λ (x : List ℕ). x ++ flat_map reference_bytes group) (c.as_slice.ensures ∙ c.index_front-front.ensures) ∙ sym (index_is c.args.run.now c.args.timescale c.args.first.now c.args.count group c.requires.group.begins c.requires.group.all))
-          c.in-Err.ensures.err;
-      failed = c.in-Err.ensures.failed;
-      kept = tt;
-    }
+    HasFailed-front c.as_slice.result.now (flat_map reference_bytes group) index
+    (ap (λ (x : List ℕ). x ++ flat_map reference_bytes group) (c.as_slice.ensures ∙ c.index_front-front.ensures) ∙ sym (index_is c.args.run.now c.args.timescale c.args.first.now c.args.count group c.requires.group.begins c.requires.group.all))
+    c.in-Err.ensures
 
-pub returns-in-Ok-put_references : goal.returns-in-Ok-put_references
-returns-in-Ok-put_references g c =
+pub returns : goal.returns
+returns g c =
     let group = group_from c.args.cut.now c.args.held.now c.args.run.now c.args.first.now c.args.count in
     let index = written_index c.args.run.now c.args.timescale group in
     let references = flat_map reference_bytes (take c.args.count c.at-pieces.result) in
     let whole = index_is_put c.args.cut.now c.args.held.now c.args.run.now c.args.timescale c.args.first.now c.args.count c.as_slice.result.now c.index_front-front.result c.start_of.result c.at-pieces.result
     c.requires.group c.as_slice.ensures c.index_front-front.ensures c.start_of.ensures c.at-pieces.ensures in
-    record {
-      ok = both_put c.as_slice.result.now references index whole c.in-Ok.ensures.ok c.in-Ok-put_references.ensures.ok;
-      err = tt;
-      failed = tt;
-      kept = c.in-Ok-put_references.ensures.kept ∙ c.in-Ok.ensures.kept;
-    }
-
-pub returns-in-Err-put_references : goal.returns-in-Err-put_references
-returns-in-Err-put_references g c =
-    let group = group_from c.args.cut.now c.args.held.now c.args.run.now c.args.first.now c.args.count in
-    let index = written_index c.args.run.now c.args.timescale group in
-    let references = flat_map reference_bytes (take c.args.count c.at-pieces.result) in
-    let whole = index_is_put c.args.cut.now c.args.held.now c.args.run.now c.args.timescale c.args.first.now c.args.count c.as_slice.result.now c.index_front-front.result c.start_of.result c.at-pieces.result
-    c.requires.group c.as_slice.ensures c.index_front-front.ensures c.start_of.ensures c.at-pieces.ensures in
-    record {
-      ok = tt;
-      err = second_prefix (g.W.Sink.contents c.put_references.new.w) c.put_references.new.block c.as_slice.result.now references index whole c.in-Ok.ensures.ok c.in-Err-put_references.ensures.err;
-      failed = c.in-Err-put_references.ensures.failed;
-      kept = tt;
-    }
+    Puts-then c.in-Ok.ensures _ _ _ references index whole c.put_references.result c.put_references.ensures

@@ -1,7 +1,7 @@
-use Rattle.std.proofs.Common.{◌++◌, ◌-◌, ◌∙◌, arith}
+use Rattle.std.proofs.Common.{◌++◌, ◌-◌, arith}
 use Rattle.std.specs.Prelude.{take}
 use Rattle.std.specs.List.{flat_map}
-use Rattle.mp4_machine.proofs.BlockLemmas.{Breaks-front, Breaks-passed, Passes-more}
+use Rattle.mp4_machine.proofs.PutLemmas.{HasFailed-front, HasFailed-then, HasPut-then}
 use Rattle.mp4_cut.specs.Sidx.{reference_bytes}
 use Rattle.mp4_cut.proofs.IndexLemmas.{first_fits}
 use Rattle.mp4_cut.proofs.PutLemmas.{next_put}
@@ -17,8 +17,7 @@ loop-left-preserved g c =
     let text = c.loop-left.invariant.text in
     record {
       text = text ++ c.reference_bytes.result;
-      passes = Passes-more c.loop-left.invariant.passes c.in-Ok.ensures.ok;
-      kept = c.in-Ok.ensures.kept ∙ c.loop-left.invariant.kept;
+      put = HasPut-then c.loop-left.invariant.put c.in-Ok.ensures;
       left = next_put reference_bytes c.loop-left.left c.in-Some.piece c.next.new.self c.loop-left.pieces text c.reference_bytes.result (flat_map reference_bytes (take c.args.count c.args.pieces.now)) (omega arith) c.in-Some.ensures.steps c.reference_bytes.ensures c.loop-left.invariant.left;
       room = (first_fits c.loop-left.left c.in-Some.piece c.next.new.self c.loop-left.pieces (omega arith) c.in-Some.ensures.steps c.loop-left.invariant.room).others;
     }
@@ -27,11 +26,6 @@ pub returns-in-Err : goal.returns-in-Err
 returns-in-Err g c =
     let text = c.loop-left.invariant.text in
     let all = flat_map reference_bytes (take c.args.count c.args.pieces.now) in
-    record {
-      ok = tt;
-      err = Breaks-front (text ++ c.reference_bytes.result) (flat_map reference_bytes (take (c.loop-left.left - 1) c.next.new.self)) all
-          (next_put reference_bytes c.loop-left.left c.in-Some.piece c.next.new.self c.loop-left.pieces text c.reference_bytes.result all (omega arith) c.in-Some.ensures.steps c.reference_bytes.ensures c.loop-left.invariant.left)
-          (Breaks-passed (g.W.Sink.contents c.put.new.w) c.reference_bytes.result c.loop-left.invariant.passes c.in-Err.ensures.err);
-      failed = c.in-Err.ensures.failed;
-      kept = tt;
-    }
+    HasFailed-front (text ++ c.reference_bytes.result) (flat_map reference_bytes (take (c.loop-left.left - 1) c.next.new.self)) all
+    (next_put reference_bytes c.loop-left.left c.in-Some.piece c.next.new.self c.loop-left.pieces text c.reference_bytes.result all (omega arith) c.in-Some.ensures.steps c.reference_bytes.ensures c.loop-left.invariant.left)
+    (HasFailed-then c.loop-left.invariant.put c.in-Err.ensures)

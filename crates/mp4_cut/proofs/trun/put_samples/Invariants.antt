@@ -1,7 +1,8 @@
-use Rattle.std.proofs.Common.{◌≡◌, ◌++◌, ℕ, List}
+use Rattle.std.proofs.Common.{◌≡◌, ◌++◌, ℕ, List, []}
 use Rattle.std.specs.Prelude.{take}
 use Rattle.std.specs.List.{flat_map}
-use Rattle.mp4_machine.specs.Blocks.{Passes}
+use Rattle.mp4_machine.specs.Ends.{sent}
+use Rattle.mp4_machine.specs.Puts.{HasPut}
 use Rattle.mp4_cut.specs.Trun.{sample_bytes}
 use Rattle.mp4_cut.proofs.trun.put_samples.Given as goal
 
@@ -12,7 +13,6 @@ decreases-loop-left g l = l.left
 abbrev pub invariant-loop-left : goal.invariant-loop-left
 invariant-loop-left g l = record {
   text : List ℕ;
-  passes : Passes (g.W.Sink.contents l.fn.w) (g.W.Sink.contents l.w) l.fn.block l.block text;
-  kept : g.W.Sink.has_failed l.w ≡ g.W.Sink.has_failed l.fn.w;
+  put : HasPut (sent g.W.Sink.contents g.W.Sink.has_failed l.fn.w l.w) l.fn.block l.block text [];
   left : text ++ flat_map sample_bytes (take l.left l.rows) ≡ flat_map sample_bytes (take l.count l.fn.rows);
 }

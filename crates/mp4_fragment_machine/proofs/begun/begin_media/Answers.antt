@@ -1,4 +1,4 @@
-use Rattle.std.proofs.Common.{◌≡◌, ◌∙◌, ℕ, ◌+◌, ◌++◌, Err, List, Option, Some, [], ap, arith, length, refl, subst, sym}
+use Rattle.std.proofs.Common.{◌≡◌, ℕ, ◌+◌, Err, List, Option, Some, [], ap, arith, length, refl, subst}
 use Rattle.mp4_grammar.specs.Contexts.{context}
 use Rattle.mp4_grammar.specs.Items.{with_runs}
 use Rattle.mp4_machine.specs.Pieces.{GoesOn, outside}

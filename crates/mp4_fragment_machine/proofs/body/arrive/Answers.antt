@@ -1,4 +1,4 @@
-use Rattle.std.proofs.Common.{◌+◌, ◌*◌, [], None, Some, ap, arith, length, refl}
+use Rattle.std.proofs.Common.{◌*◌, [], None, Some, ap, arith, length, refl}
 use Rattle.mp4_frag.specs.Moofs.{moof_samples}
 use Rattle.mp4_machine.proofs.PieceLemmas.{GoesOn-none, Moves-none}
 use Rattle.mp4_machine.specs.Pieces.{outside}

@@ -27,7 +27,7 @@ returns-in-Err g c = λ account can.
     record {
       stops = λ more later. subst (λ l. Loses (outside a c.args.out.now account tally) (outside b c.put.new.self (given_back account table) tally) table (reads_at meaning (InBody (λ x. says x) body.at body.kind next body.left table) l)) (sym (append_assoc piece more later))
           (Loses-says meaning body.at body.kind a b c.args.out.now c.put.new.self account tally next body.left table n piece (more ++ later)
-          (omega (arith, c.min-count.ensures)) (omega (arith, c.min-count.ensures)) can.claim put.err);
+          (omega (arith, c.min-count.ensures)) (omega (arith, c.min-count.ensures)) can.claim put.breaks);
       failed = λ _. put.failed;
       unfailed = λ other. absurd (other refl);
       plan = refl;
@@ -52,12 +52,12 @@ returns-then-left-eq0 g c = λ account can.
     let put = rw c.split_at.ensures.front at c.in-Ok.ensures in
     let len : length x ≡ n = length-take-le n c.args.piece.now (omega (arith, c.min-count.ensures)) in
     let next = context body.next kept.tracks (number_in kept.plan tally) in
-    let effects = GoesOn-says meaning body.at body.kind a b c.args.out.now c.put.new.self account tally next x body.left table (omega (arith, len, c.min-count.ensures)) is.2 put.ok in (
+    let effects = GoesOn-says meaning body.at body.kind a b c.args.out.now c.put.new.self account tally next x body.left table (omega (arith, len, c.min-count.ensures)) is.2 put.passes in (
       omega (arith, c.min-count.ensures, c.requires.some, is.1),
       omega (arith, c.min-count.ensures),
       rw is.0 (record {
         goes = GoesOn-then can.claim effects (standing meaning (InHeader next [])) (GoesOn-says_over meaning body.at body.kind (outside b c.put.new.self account tally) next (body.left - length x) (omega (arith, len, c.if-left-eq0.true)));
-        unfailed = put.kept;
+        unfailed = put.unfailed;
         plan = refl;
         state = (no_head [] refl, is.3);
         claim = can.claim;
@@ -84,8 +84,8 @@ returns g c = λ account can.
       omega (arith, c.min-count.ensures),
       record {
         goes = subst (λ k. GoesOn (outside a c.args.out.now account tally) (outside b c.put.new.self account tally) (standing meaning (InBody (λ l. says l) body.at body.kind next body.left table)) x (standing meaning (InBody (λ l. says l) body.at body.kind next (body.left - k) table))) len
-            (GoesOn-says meaning body.at body.kind a b c.args.out.now c.put.new.self account tally next x body.left table (omega (arith, len, c.min-count.ensures)) is.2 put.ok);
-        unfailed = put.kept;
+            (GoesOn-says meaning body.at body.kind a b c.args.out.now c.put.new.self account tally next x body.left table (omega (arith, len, c.min-count.ensures)) is.2 put.passes);
+        unfailed = put.unfailed;
         plan = refl;
         state = (is.0, omega (arith, c.if-left-eq0.false), omega (arith, is.2), is.3);
         claim = can.claim;

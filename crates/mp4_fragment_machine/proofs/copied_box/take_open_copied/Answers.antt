@@ -24,7 +24,7 @@ returns-in-Err g c = λ account can.
     record {
       stops = λ more later. subst (λ l. Loses (outside a c.args.out.now account tally) (outside b c.put.new.self (given_back account table) tally) table (reads_at meaning (InOpenBody (λ x. says x) body.at body.kind body.needed body.left table) l)) (sym (append_assoc piece more later))
           (Loses-open_says meaning body.at body.kind a b c.args.out.now c.put.new.self account tally body.needed body.left table n piece (more ++ later)
-          (omega (arith, c.min-most.ensures)) (omega (arith, c.min-most.ensures)) can.claim put.err);
+          (omega (arith, c.min-most.ensures)) (omega (arith, c.min-most.ensures)) can.claim put.breaks);
       failed = λ _. put.failed;
       unfailed = λ other. absurd (other refl);
       plan = refl;
@@ -42,9 +42,9 @@ returns-then-len-body g c = λ account can.
     let same : n ≡ body.left = omega (arith, c.min-most.ensures, c.if-len-body.true) in
     let put = rw (c.split_at.ensures.front, same) at c.in-Ok.ensures in
     rw c.at_fault.ensures (record {
-      stops = λ more. Refuses-open_says (plan_meaning kept.plan) body.at body.kind (g.W.Sink.contents c.args.w.now) (g.W.Sink.contents c.put.new.w) c.args.out.now c.put.new.self account kept.counter.tally body.needed body.left (table_of kept.tracks) c.args.piece.now more can.claim c.if-len-body.true put.ok;
+      stops = λ more. Refuses-open_says (plan_meaning kept.plan) body.at body.kind (g.W.Sink.contents c.args.w.now) (g.W.Sink.contents c.put.new.w) c.args.out.now c.put.new.self account kept.counter.tally body.needed body.left (table_of kept.tracks) c.args.piece.now more can.claim c.if-len-body.true put.passes;
       failed = λ is. absurd cc;
-      unfailed = λ _. put.kept;
+      unfailed = λ _. put.unfailed;
       plan = refl;
       tracks = refl;
       empty = c.requires.state.0;
@@ -63,8 +63,8 @@ returns g c = λ account can.
       c.requires.some,
       omega arith,
       record {
-        goes = rw (take-length c.args.piece.now, c.saturating_sub.ensures) (GoesOn-open_says (plan_meaning kept.plan) body.at body.kind (g.W.Sink.contents c.args.w.now) (g.W.Sink.contents c.put.new.w) c.args.out.now c.put.new.self account kept.counter.tally c.args.piece.now body.needed body.left (table_of kept.tracks) c.if-len-body.false is.1 put.ok);
-        unfailed = put.kept;
+        goes = rw (take-length c.args.piece.now, c.saturating_sub.ensures) (GoesOn-open_says (plan_meaning kept.plan) body.at body.kind (g.W.Sink.contents c.args.w.now) (g.W.Sink.contents c.put.new.w) c.args.out.now c.put.new.self account kept.counter.tally c.args.piece.now body.needed body.left (table_of kept.tracks) c.if-len-body.false is.1 put.passes);
+        unfailed = put.unfailed;
         plan = refl;
         state = (is.0, omega (arith, is.1));
         claim = can.claim;

@@ -1,5 +1,6 @@
-use Rattle.std.proofs.Common.{◌≡◌, ◌++◌, ℕ, List}
-use Rattle.mp4_machine.specs.Blocks.{Passes}
+use Rattle.std.proofs.Common.{◌≡◌, ◌++◌, ℕ, List, []}
+use Rattle.mp4_machine.specs.Ends.{sent}
+use Rattle.mp4_machine.specs.Puts.{HasPut}
 use Rattle.mp4_grammar.specs.Samples.{sample_lines, samples_from}
 use Rattle.mp4_pieces.specs.Working.Growing.{HasRoom}
 use Rattle.mp4_fragment_machine.proofs.lines.put_rows.Given as goal
@@ -8,8 +9,7 @@ use Rattle.mp4_fragment_machine.proofs.lines.put_rows.Given as goal
 abbrev pub invariant-loop-row : goal.invariant-loop-row
 invariant-loop-row g l = record {
   text : List ℕ;
-  passes : Passes (g.W.Sink.contents l.fn.w) (g.W.Sink.contents l.w) l.fn.out l.out text;
-  kept : g.W.Sink.has_failed l.w ≡ g.W.Sink.has_failed l.fn.w;
+  put : HasPut (sent g.W.Sink.contents g.W.Sink.has_failed l.fn.w l.w) l.fn.out l.out text [];
   left : text ++ sample_lines (samples_from l.fn.run l.rows l.at.time l.at.place) ≡ sample_lines (samples_from l.fn.run l.fn.rows l.fn.from.time l.fn.from.place);
   room : HasRoom l.at l.rows;
 }

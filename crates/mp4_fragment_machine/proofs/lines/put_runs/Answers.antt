@@ -1,7 +1,7 @@
-use Rattle.std.proofs.Common.{◌++◌, ◌∙◌, ◌+◌, ◌<◌, arith, drop, length}
+use Rattle.std.proofs.Common.{◌++◌, ◌+◌, ◌<◌, arith, drop, length}
 use Rattle.std.specs.List.{flat_map}
 use Rattle.mp4_frag.specs.RunLists.{taken_runs}
-use Rattle.mp4_machine.proofs.BlockLemmas.{Breaks-front, Breaks-passed, Passes-more}
+use Rattle.mp4_machine.proofs.PutLemmas.{HasFailed-front, HasFailed-then, HasPut-then}
 use Rattle.mp4_grammar.specs.Samples.{sample_lines, samples_of_run}
 use Rattle.mp4_fragment_machine.specs.States.{lines_of, moof_in}
 use Rattle.mp4_fragment_machine.proofs.LineLemmas.{next_run, rows_taken, run_of_all, taken_are}
@@ -16,8 +16,8 @@ put_run-requires g c =
     let all = taken_are h tracks (omega (arith, c.requires.waiting.size, c.requires.waiting.near)) c.requires.waiting.whole c.bytes.ensures.valid c.requires.waiting.read in
     rw c.bytes-in-loop-i.ensures.bytes (run_of_all w.moof.bytes (taken_runs h tracks) c.loop-i.i c.at-run.result all here (rw (c.again-moof.ensures, c.bytes.ensures.bytes, c.offset.ensures.at) at c.at-run.ensures) (omega arith))
 
-pub returns-in-Err-clause-err : goal.returns-in-Err-clause-err
-returns-in-Err-clause-err g c =
+pub returns-in-Err-clause-puts : goal.returns-in-Err-clause-puts
+returns-in-Err-clause-puts g c =
     let w = c.args.waiting.now in
     let h = moof_in w in
     let tracks = c.args.tracks.now in
@@ -25,10 +25,10 @@ returns-in-Err-clause-err g c =
     let text = c.loop-i.invariant.text in
     let here : c.loop-i.i < length (taken_runs h tracks) = omega (arith, c.loop-i-test.true, c.len.ensures, rows_taken h tracks w.runs c.requires.waiting.list) in
     let at = rw (c.again-moof.ensures, c.bytes.ensures.bytes, c.offset.ensures.at) at c.at-run.ensures in
-    let err = rw c.bytes-in-loop-i.ensures.bytes at c.in-Err.ensures.err in
-    Breaks-front (text ++ sample_lines (samples_of_run w.moof.bytes run)) (sample_lines (flat_map (samples_of_run w.moof.bytes) (drop (c.loop-i.i + 1) (taken_runs h tracks)))) (lines_of w tracks)
+    let put = rw c.bytes-in-loop-i.ensures.bytes at c.in-Err.ensures in
+    HasFailed-front (text ++ sample_lines (samples_of_run w.moof.bytes run)) (sample_lines (flat_map (samples_of_run w.moof.bytes) (drop (c.loop-i.i + 1) (taken_runs h tracks)))) (lines_of w tracks)
     (next_run w.moof.bytes (taken_runs h tracks) c.loop-i.i run text (lines_of w tracks) here at c.loop-i.invariant.left)
-    (Breaks-passed (g.W.Sink.contents c.put_run.new.w) (sample_lines (samples_of_run w.moof.bytes run)) c.loop-i.invariant.passes err)
+    (HasFailed-then c.loop-i.invariant.put put)
 
 pub loop-i-preserved : goal.loop-i-preserved
 loop-i-preserved g c =
@@ -39,11 +39,10 @@ loop-i-preserved g c =
     let text = c.loop-i.invariant.text in
     let here : c.loop-i.i < length (taken_runs h tracks) = omega (arith, c.loop-i-test.true, c.len.ensures, rows_taken h tracks w.runs c.requires.waiting.list) in
     let at = rw (c.again-moof.ensures, c.bytes.ensures.bytes, c.offset.ensures.at) at c.at-run.ensures in
-    let ok = rw c.bytes-in-loop-i.ensures.bytes at c.in-Ok.ensures.ok in
+    let put = rw c.bytes-in-loop-i.ensures.bytes at c.in-Ok.ensures in
     record {
       within = omega (arith, c.loop-i-test.true, c.len.ensures);
       text = text ++ sample_lines (samples_of_run w.moof.bytes run);
-      passes = Passes-more c.loop-i.invariant.passes ok;
-      kept = c.in-Ok.ensures.kept ∙ c.loop-i.invariant.kept;
+      put = HasPut-then c.loop-i.invariant.put put;
       left = next_run w.moof.bytes (taken_runs h tracks) c.loop-i.i run text (lines_of w tracks) here at c.loop-i.invariant.left;
     }

@@ -1,6 +1,7 @@
-use Rattle.std.proofs.Common.{◌≡◌, ◌≤◌, ◌-◌, ◌++◌, List, ℕ, length, drop}
+use Rattle.std.proofs.Common.{◌≡◌, ◌≤◌, ◌-◌, ◌++◌, List, [], ℕ, length, drop}
 use Rattle.std.specs.List.{flat_map}
-use Rattle.mp4_machine.specs.Blocks.{Passes}
+use Rattle.mp4_machine.specs.Ends.{sent}
+use Rattle.mp4_machine.specs.Puts.{HasPut}
 use Rattle.mp4_frag.specs.RunLists.{taken_runs}
 use Rattle.mp4_grammar.specs.Samples.{sample_lines, samples_of_run}
 use Rattle.mp4_fragment_machine.specs.States.{lines_of, moof_in}
@@ -11,8 +12,7 @@ abbrev pub invariant-loop-i : goal.invariant-loop-i
 invariant-loop-i g l = record {
   within : l.i ≤ length l.fn.waiting.runs.rows;
   text : List ℕ;
-  passes : Passes (g.W.Sink.contents l.fn.w) (g.W.Sink.contents l.w) l.fn.out l.out text;
-  kept : g.W.Sink.has_failed l.w ≡ g.W.Sink.has_failed l.fn.w;
+  put : HasPut (sent g.W.Sink.contents g.W.Sink.has_failed l.fn.w l.w) l.fn.out l.out text [];
   left : text ++ sample_lines (flat_map (samples_of_run l.fn.waiting.moof.bytes) (drop l.i (taken_runs (moof_in l.fn.waiting) l.fn.tracks))) ≡ lines_of l.fn.waiting l.fn.tracks;
 }
 

@@ -1,4 +1,4 @@
-use Rattle.std.proofs.Common.{◌≡◌, ◌+◌, ◌++◌, [], Some, arith, refl, subst}
+use Rattle.std.proofs.Common.{◌≡◌, ◌+◌, [], Some, arith, refl, subst}
 use Rattle.mp4_frag.specs.Moofs.{moof_samples}
 use Rattle.mp4_box.proofs.HeaderLemmas.{need-least, whole_is}
 use Rattle.mp4_machine.specs.Pieces.{outside}
@@ -74,12 +74,12 @@ returns-in-Ok-tell g c =
     let at : c.offset.result + c.size.result ≡ w.moof.at + w.moof.size = omega (arith, c.offset.ensures.at, c.size.ensures) in
     let o' = outside (g.W.Sink.contents c.tell.new.w) c.tell.new.out c.args.ledger.now c.tell.new.counter.tally in
     let u : Unlent = record { written = g.W.Sink.contents c.tell.new.w; waiting = c.tell.new.out; failed = g.W.Sink.has_failed c.tell.new.w } in
-    let goes = GoesOn-fragment_at c.args.command 1 o w list h x waits c.requires.len c.requires.is low c.in-Ok.ensures.near c.in-Ok.ensures.mdat (listed_good c.args.command 1 w list h (c.in-Ok.ensures.good 1)) _ at o' c.in-Ok-tell.needed c.requires.room effects.needed refl effects.tally effects.ok in
+    let goes = GoesOn-fragment_at c.args.command 1 o w list h x waits c.requires.len c.requires.is low c.in-Ok.ensures.near c.in-Ok.ensures.mdat (listed_good c.args.command 1 w list h (c.in-Ok.ensures.good 1)) _ at o' c.in-Ok-tell.needed c.requires.room effects.needed refl effects.tally effects.puts.passes in
     let own = claims c.args.command 1 o w list h x waits c.requires.len c.requires.is low in
     let next = c.offset.result + c.size.result in
     let entered = subst (λ (p : Plan). GoesTo (lent_ledger u c.args.ledger.now c.enter.new.ledger) (record { plan = kept.plan; tracks = Some list; head = kept.head; counter = c.tell.new.counter }) c.enter.new.kept (in_mdat (number_in p c.tell.new.counter.tally) (Some list) w next h c.in-Ok-tell.needed h.size) [] c.enter.result) c.requires.plan (c.enter.ensures u) in
     rw (c.in-Some.is, c.requires.plan)
-    (GoesTo-behind entered (omega (arith, own, low)) c.requires.plan effects.kept goes)
+    (GoesTo-behind entered (omega (arith, own, low)) c.requires.plan effects.puts.unfailed goes)
 
 pub returns-in-Err-tell : goal.returns-in-Err-tell
 returns-in-Err-tell g c =
@@ -96,8 +96,8 @@ returns-in-Err-tell g c =
     let counted = effects.counted in
     rw (c.in-Some.is, c.requires.plan, c.back-in-Err-tell.ensures) (record {
       stops = λ more later. Loses-fragment c.args.command 1 o w list h x (rows_of list w i) c.requires.len c.requires.is low c.in-Ok.ensures.near c.in-Ok.ensures.mdat (listed_good c.args.command 1 w list h (c.in-Ok.ensures.good 1))
-          (g.W.Sink.contents c.tell.new.w) c.tell.new.out c.tell.new.counter.tally more later effects.tally effects.err;
-      failed = λ _. effects.failed;
+          (g.W.Sink.contents c.tell.new.w) c.tell.new.out c.tell.new.counter.tally more later effects.tally effects.puts.breaks;
+      failed = λ _. effects.puts.failed;
       unfailed = λ other. absurd (other refl);
       plan = refl;
       tracks = refl;

@@ -1,7 +1,7 @@
 use Rattle.std.proofs.Common.{◌≡◌, ◌∙◌, ◌+◌, ap, arith}
 use Rattle.mp4_frag.specs.Moofs.{moof_samples}
 use Rattle.mp4_machine.specs.Readings.{plus}
-use Rattle.mp4_machine.proofs.BlockLemmas.{Passes-none}
+use Rattle.mp4_machine.proofs.PutLemmas.{HasPut-none}
 use Rattle.mp4_fragment_machine.specs.States.{bound_behind, moof_in}
 use Rattle.mp4_fragment_machine.proofs.CountLemmas.{counted_told, media_bound}
 use Rattle.mp4_fragment_machine.proofs.listed_fragment.tell.Goals as goal
@@ -48,5 +48,5 @@ returns-in-Err-clause-counted g c =
     (c.count.ensures.tally ∙ ap (λ n. plus c.args.counter.now.tally (record { fragments = 1; samples = n; media_bytes = c.measure_runs-measure.result.bytes; walked = 0 })) many)
     (rw c.in-Samples.is (omega (arith, ap (λ k. k.rows) c.count.ensures.steps, c.put_runs.ensures.walked)))
 
-pub returns-in-Check-clause-ok : goal.returns-in-Check-clause-ok
-returns-in-Check-clause-ok g c = rw c.in-Check.is (Passes-none _ _)
+pub returns-in-Check-clause-puts : goal.returns-in-Check-clause-puts
+returns-in-Check-clause-puts g c = rw c.in-Check.is (HasPut-none _ _ _)

@@ -7,7 +7,7 @@ use Rattle.mp4_machine.specs.Pieces.{outside}
 use Rattle.mp4_recut.specs.Plans.{plan_meaning, number_in}
 use Rattle.mp4_fragment_machine.proofs.CountLemmas.{counted_later}
 use Rattle.mp4_fragment_machine.proofs.HeldLemmas.{GoesOn-moov_put, Loses-moov, StopsAt-moov, begins_some, not_written, table_within}
-use Rattle.mp4_fragment_machine.proofs.StepLemmas.{counted_stop, given_back-none, no_head}
+use Rattle.mp4_fragment_machine.proofs.StepLemmas.{counted_stop, given_back-none}
 use Rattle.mp4_fragment_machine.proofs.moov.take_moov.Goals as goal
 
 pub tracks-requires-clause-whole : goal.tracks-requires-clause-whole
@@ -48,8 +48,8 @@ returns-in-Ok-put_moov g c =
     let put = rw c.bytes-2.ensures.bytes at c.in-Ok-put_moov.ensures in
     rw (c.requires.none, c.requires.empty, c.put_tracks.ensures, c.offset-2.ensures.at, c.size.ensures, c.back-in-Ok-put_moov.ensures, c.in-Ok.ensures.ok, list) (record {
       goes = GoesOn-moov_put (plan_meaning kept.plan) (outside (g.W.Sink.contents c.args.w.now) c.args.out.now c.args.ledger.now kept.counter.tally) held.at (number_in kept.plan kept.counter.tally) held.kind held.size held.bytes c.requires.whole low (begins_some held.size held.bytes c.requires.begins c.requires.whole) good
-          (g.W.Sink.contents c.put_moov.new.w) c.put_moov.new.out put.ok;
-      unfailed = put.kept;
+          (g.W.Sink.contents c.put_moov.new.w) c.put_moov.new.out put.passes;
+      unfailed = put.unfailed;
       plan = refl;
       state = (omega arith, c.requires.near);
       claim = omega (arith, low);
@@ -68,7 +68,7 @@ returns-in-Err-put_moov g c =
     rw (c.requires.none, c.back-in-Err-put_moov-2.ensures, c.back-in-Err-put_moov.ensures, c.in-Ok.ensures.ok, list) (record {
       stops = λ more later. rw (given_back-none (given_back (given_back (claimed c.args.ledger.now n) held.size) n))
           (Loses-moov (plan_meaning kept.plan) (outside (g.W.Sink.contents c.args.w.now) c.args.out.now c.args.ledger.now kept.counter.tally) held.at (number_in kept.plan kept.counter.tally) held.kind held.size held.bytes c.requires.whole low (begins_some held.size held.bytes c.requires.begins c.requires.whole) good
-          (g.W.Sink.contents c.put_moov.new.w) c.put_moov.new.out put.err (more ++ later));
+          (g.W.Sink.contents c.put_moov.new.w) c.put_moov.new.out put.breaks (more ++ later));
       failed = λ _. put.failed;
       unfailed = λ other. absurd (other refl);
       plan = refl;

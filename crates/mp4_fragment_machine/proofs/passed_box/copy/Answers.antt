@@ -8,7 +8,6 @@ use Rattle.mp4_fragment_machine.specs.Working.Steps.{outside_before}
 use Rattle.mp4_fragment_machine.proofs.CountLemmas.{counted_later}
 use Rattle.mp4_fragment_machine.proofs.HeadLemmas.{GoesOn-both}
 use Rattle.mp4_fragment_machine.proofs.CopyLemmas.{GoesOn-copy, GoesOn-copy_open, GoesOn-says_over}
-use Rattle.mp4_fragment_machine.proofs.StepLemmas.{no_head}
 use Rattle.mp4_fragment_machine.proofs.passed_box.copy.Goals as goal
 
 pub returns-then-size-header : goal.returns-then-size-header

@@ -22,7 +22,7 @@ returns-then-is_dropped g c = λ account can.
 pub returns-in-Ok : goal.returns-in-Ok
 returns-in-Ok g c = λ account can.
     let kept : is_dropped c.args.header.now.kind.0 ≡ false = sym c.is_dropped.ensures ∙ c.if-is_dropped.false in
-    c.copy.ensures (lent g.W.Sink.contents g.W.Sink.has_failed c.args.w.now c.put.new.w c.args.out.now c.put.new.self account account) c.args.kept.now c.args.head.now can refl c.in-Ok.ensures.kept (λ b. rw (c.in-Split.is, kept) refl) c.in-Ok.ensures.ok
+    c.copy.ensures (lent g.W.Sink.contents g.W.Sink.has_failed c.args.w.now c.put.new.w c.args.out.now c.put.new.self account account) c.args.kept.now c.args.head.now can refl c.in-Ok.ensures.unfailed (λ b. rw (c.in-Split.is, kept) refl) c.in-Ok.ensures.passes
 
 pub returns-in-Err : goal.returns-in-Err
 returns-in-Err g c = λ account can.
@@ -31,7 +31,7 @@ returns-in-Err g c = λ account can.
     let put = c.in-Err.ensures in
     record {
       stops = λ more later. Loses-copy (plan_meaning k.plan) (outside (g.W.Sink.contents c.args.w.now) c.args.out.now account k.counter.tally) c.args.at (number_in k.plan k.counter.tally) k.tracks c.args.header.now c.args.head.now can.len can.is c.requires.end c.requires.other (λ b. rw (c.in-Split.is, kept) refl) c.requires.room
-          (g.W.Sink.contents c.put.new.w) c.put.new.self put.err can.can.claim (more ++ later);
+          (g.W.Sink.contents c.put.new.w) c.put.new.self put.breaks can.can.claim (more ++ later);
       failed = λ _. put.failed;
       unfailed = λ other. absurd (other refl);
       plan = refl;

@@ -15,9 +15,10 @@ returns-in-Err-tell_whole g c =
     let low = rw c.in-Some.is at c.requires.can.claim in
     let o = outside (g.W.Sink.contents c.args.w.now) c.args.out.now c.args.ledger.now kept.counter.tally in
     let effects = c.in-Err-tell_whole.ensures in
+    let put = effects.puts is.boxes.mdat.header in
     rw (c.in-Some.is, c.requires.plan, c.requires.empty) (record {
-      stops = λ more. StopsAt-it c.args.at list c.args.piece.now f.boxes f.run.now is c.args.command 1 o low (g.W.Sink.contents c.tell_whole.new.w) c.tell_whole.new.out c.count_claim.new.self c.tell_whole.new.counter.tally c.in-Ok.ensures.ok (effects.tally is.boxes.mdat.header) more (effects.err is.boxes.mdat.header);
-      failed = λ _. effects.failed;
+      stops = λ more. StopsAt-it c.args.at list c.args.piece.now f.boxes f.run.now is c.args.command 1 o low (g.W.Sink.contents c.tell_whole.new.w) c.tell_whole.new.out c.count_claim.new.self c.tell_whole.new.counter.tally c.in-Ok.ensures.ok (effects.tally is.boxes.mdat.header) more put.breaks;
+      failed = λ _. put.failed;
       unfailed = λ other. absurd (other refl);
       plan = refl;
       tracks = refl;
@@ -37,6 +38,7 @@ returns g c =
     let low = rw c.in-Some.is at c.requires.can.claim in
     let o = outside (g.W.Sink.contents c.args.w.now) c.args.out.now c.args.ledger.now kept.counter.tally in
     let effects = c.in-Ok-tell_whole.ensures in
+    let put = effects.puts is.boxes.mdat.header in
     let fit = boxes_fit at piece f.boxes is.boxes in
     let some = some_moof at piece f.boxes is.boxes in
     let long = moof_len at piece f.boxes is.boxes in
@@ -45,8 +47,8 @@ returns g c =
       omega (arith, some, long),
       omega (arith, fit.whole),
       rw (c.in-Some.is, c.requires.plan, c.requires.empty, c.settle.ensures.tracks) (record {
-        goes = GoesOn-it at list piece f.boxes f.run.now is c.args.command 1 o low (g.W.Sink.contents c.tell_whole.new.w) c.tell_whole.new.out c.count_claim.new.self c.tell_whole.new.counter.tally c.in-Ok.ensures.ok (effects.tally is.boxes.mdat.header) (effects.ok is.boxes.mdat.header);
-        unfailed = effects.kept;
+        goes = GoesOn-it at list piece f.boxes f.run.now is c.args.command 1 o low (g.W.Sink.contents c.tell_whole.new.w) c.tell_whole.new.out c.count_claim.new.self c.tell_whole.new.counter.tally c.in-Ok.ensures.ok (effects.tally is.boxes.mdat.header) put.passes;
+        unfailed = put.unfailed;
         plan = refl;
         state = (no_head [] refl, omega (arith, fit.near));
         claim = rw c.in-Ok.ensures.ok (omega (arith, low, len));

@@ -1,6 +1,6 @@
 use Rattle.std.proofs.Common.{◌∙◌, Some, arith, ap, refl, sym, subst}
-use Rattle.std.specs.Prelude.{OnErr}
-use Rattle.mp4_machine.specs.Blocks.{Breaks}
+use Rattle.mp4_machine.specs.Ends.{sent}
+use Rattle.mp4_machine.specs.Puts.{Puts}
 use Rattle.mp4_frag.specs.Runs.{moof_at}
 use Rattle.mp4_grammar.specs.Contexts.{context}
 use Rattle.mp4_fragment_machine.proofs.FragmentLemmas.{counted_whole, lone_text, media_fits, run_is}
@@ -24,12 +24,12 @@ returns-in-Samples-clause-counted g c =
     counted_whole c.args.at c.args.tracks.now c.args.piece.now c.args.whole.now.boxes c.args.whole.now.run.now c.requires.is c.args.command c.args.counter.now _ c.from.result c.from-samples.result c.requires.counted (c.from.ensures ∙ c.from-samples.ensures) c.from-samples.ensures
     c.count.ensures.tally (rw c.in-Samples.is (omega (arith, ap (λ k. k.rows) c.count.ensures.steps, c.from-2.ensures, c.from-in-Samples.ensures)))
 
-pub returns-in-Samples-clause-err : goal.returns-in-Samples-clause-err
-returns-in-Samples-clause-err g c = λ header.
+pub returns-in-Samples-clause-puts : goal.returns-in-Samples-clause-puts
+returns-in-Samples-clause-puts g c = λ header.
     let is = c.requires.is in
     let text = lone_text (moof_at c.args.whole.now.boxes.moof.now c.args.at) c.args.tracks.now c.args.whole.now.run.now is.lone (context c.args.at (Some c.args.tracks.now) 1) header refl in
     rw c.in-Samples.is
-    (subst (λ l. OnErr c.put_run.result (Breaks (g.W.Sink.contents c.args.w.now) (g.W.Sink.contents c.put_run.new.w) c.args.out.now c.put_run.new.out l)) (sym text) c.put_run.ensures.err)
+    (subst (λ l. Puts (sent g.W.Sink.contents g.W.Sink.has_failed c.args.w.now c.put_run.new.w) c.args.out.now c.put_run.new.out l c.put_run.result) (sym text) c.put_run.ensures)
 
 pub returns-in-Check-clause-walked : goal.returns-in-Check-clause-walked
 returns-in-Check-clause-walked g c = rw c.in-Check.is (omega (arith, ap (λ k. k.rows) c.count.ensures.steps, c.from-2.ensures, c.from-samples.ensures))

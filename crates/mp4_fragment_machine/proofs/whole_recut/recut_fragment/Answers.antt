@@ -1,4 +1,4 @@
-use Rattle.std.proofs.Common.{◌≡◌, ◌+◌, [], ap, arith, length, refl}
+use Rattle.std.proofs.Common.{◌+◌, [], ap, arith, length, refl}
 use Rattle.mp4_pieces.proofs.RoomLemmas.{few_pieces}
 use Rattle.mp4_machine.specs.Pieces.{outside}
 use Rattle.mp4_recut.specs.Splitting.{timescale_of}
@@ -31,8 +31,8 @@ returns g c =
       omega (arith, fit.whole),
       rw (c.in-Some.is, c.requires.plan, c.requires.empty, c.settle.ensures.tracks) (record {
         goes = GoesOn-recut_whole cut o at list piece f.boxes f.run.now is c.requires.plain c.requires.numbers can.claim (g.W.Sink.contents c.recut_whole.new.w) c.recut_whole.new.out c.count_claim.new.self t c.in-Ok.ensures.ok
-            (ap (λ k. k.samples) tally) (ap (λ k. k.media_bytes) tally) (ap (λ k. k.walked) tally) effects.number put.ok;
-        unfailed = put.kept;
+            (ap (λ k. k.samples) tally) (ap (λ k. k.media_bytes) tally) (ap (λ k. k.walked) tally) effects.number put.passes;
+        unfailed = put.unfailed;
         plan = refl;
         state = (no_head [] refl, omega (arith, fit.near));
         claim = rw c.in-Ok.ensures.ok (omega (arith, can.claim, len));
@@ -61,7 +61,7 @@ returns-in-Err-recut_whole g c =
     (ap (λ k. k.samples) tally) (ap (λ k. k.media_bytes) tally) (ap (λ k. k.walked) tally) c.recut_whole.ensures.steps in
     rw (c.in-Some.is, c.requires.plan, c.requires.empty) (record {
       stops = λ more. StopsAt-recut_whole cut o at list piece f.boxes f.run.now is c.requires.plain c.requires.numbers can.claim (g.W.Sink.contents c.recut_whole.new.w) c.recut_whole.new.out c.count_claim.new.self t c.in-Ok.ensures.ok
-          (ap (λ k. k.samples) tally) (ap (λ k. k.media_bytes) tally) (ap (λ k. k.walked) tally) more c.recut_whole.ensures.least c.recut_whole.ensures.most put.err;
+          (ap (λ k. k.samples) tally) (ap (λ k. k.media_bytes) tally) (ap (λ k. k.walked) tally) more c.recut_whole.ensures.least c.recut_whole.ensures.most put.breaks;
       failed = λ _. put.failed;
       unfailed = λ other. absurd (other refl);
       plan = refl;

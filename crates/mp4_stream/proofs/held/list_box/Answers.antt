@@ -14,10 +14,10 @@ returns-in-Err g c at kind x a is low =
 pub returns-in-Ok-put_tree : goal.returns-in-Ok-put_tree
 returns-in-Ok-put_tree g c at kind x a is low =
     let good = ap faults_of is ∙ verdict_good c.check.ensures c.in-Ok.is in
-    Takes-ok (GoesOn-good _ at kind (length x) x low refl _ c.put_tree.new.out good (rw is c.in-Ok-put_tree.ensures.ok)) c.in-Ok-put_tree.ensures.kept
+    Takes-ok (GoesOn-good _ at kind (length x) x low refl _ c.put_tree.new.out good (rw is c.in-Ok-put_tree.ensures.passes)) c.in-Ok-put_tree.ensures.unfailed
 
 pub returns-in-Err-put_tree : goal.returns-in-Err-put_tree
 returns-in-Err-put_tree g c at kind x a is low =
     let good = ap faults_of is ∙ verdict_good c.check.ensures c.in-Ok.is in
-    Takes-err (λ more later. Loses-good (outside (g.W.Sink.contents c.args.w.now) c.args.out.now a) at kind (length x) x low refl _ _ (more ++ later) good (rw is c.in-Err-put_tree.ensures.err))
+    Takes-err (λ more later. Loses-good (outside (g.W.Sink.contents c.args.w.now) c.args.out.now a) at kind (length x) x low refl _ _ (more ++ later) good (rw is c.in-Err-put_tree.ensures.breaks))
     (λ e. c.in-Err-put_tree.ensures.failed) (λ other. absurd (other refl))

@@ -13,7 +13,7 @@ pub returns-in-Ok-clause-takes : goal.returns-in-Ok-clause-takes
 returns-in-Ok-clause-takes g c =
     let next = c.phase_behind-progress.ensures in
     rw c.requires.none (Takes-ok (GoesOn-line _ c.args.at c.args.header.now c.args.piece.now c.requires.is _ c.put_box.new.out (place_by [] c.phase_behind-progress.result) (search rules)
-    (sym c.held_limit.ensures ∙ c.in-None.is) (claim-none [] c.phase_behind-progress.result) next.reached next.reads c.in-Ok.ensures.ok) c.in-Ok.ensures.kept)
+    (sym c.held_limit.ensures ∙ c.in-None.is) (claim-none [] c.phase_behind-progress.result) next.reached next.reads c.in-Ok.ensures.passes) c.in-Ok.ensures.unfailed)
 
 pub returns-in-Ok-clause-taken : goal.returns-in-Ok-clause-taken
 returns-in-Ok-clause-taken g c =
@@ -22,4 +22,4 @@ returns-in-Ok-clause-taken g c =
 
 pub returns-in-Err-clause-takes : goal.returns-in-Err-clause-takes
 returns-in-Err-clause-takes g c =
-    Takes-err (λ more later. Loses-line (outside (g.W.Sink.contents c.args.w.now) c.args.out.now c.args.ledger.now) c.args.at c.args.header.now c.args.piece.now c.requires.is _ _ more later (search rules) (sym c.held_limit.ensures ∙ c.in-None.is) c.in-Err.ensures.err) (λ e. c.in-Err.ensures.failed) (λ other. absurd (other refl))
+    Takes-err (λ more later. Loses-line (outside (g.W.Sink.contents c.args.w.now) c.args.out.now c.args.ledger.now) c.args.at c.args.header.now c.args.piece.now c.requires.is _ _ more later (search rules) (sym c.held_limit.ensures ∙ c.in-None.is) c.in-Err.ensures.breaks) (λ e. c.in-Err.ensures.failed) (λ other. absurd (other refl))
