@@ -7,6 +7,8 @@ pub mod AccountLemmas
 pub mod MarkLemmas
 pub mod BlockLemmas
 pub mod PieceLemmas
+pub mod StepLemmas
+pub mod StandingLemmas
 pub mod RunLemmas
 pub mod FedLemmas
 pub mod FedRunLemmas

@@ -4,6 +4,8 @@ pub mod Accounts
 pub mod Blocks
 pub mod Ends
 pub mod Pieces
+pub mod Steps
+pub mod Standings
 pub mod StreamRuns
 pub mod Fed
 pub mod Holding
