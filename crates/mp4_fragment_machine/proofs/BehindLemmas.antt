@@ -17,7 +17,7 @@ use Rattle.mp4_machine.specs.Readings.{AtMost, Reading, Effects, after, most_of,
 use Rattle.mp4_machine.specs.declared.tally.Tally.{Tally}
 use Rattle.mp4_machine.proofs.BlockLemmas.{BreaksMarked-longer}
 use Rattle.mp4_machine.proofs.AccountLemmas.{Counts-none, Spends-counts, Spends-more}
-use Rattle.mp4_machine.proofs.PieceLemmas.{GoesOn-silent, back_to}
+use Rattle.mp4_machine.proofs.PieceLemmas.{GoesOn-silent, Loses-told, Refuses-there, back_to}
 use Rattle.mp4_machine.proofs.ReadingAskLemmas.{AtMost-behind, AtMost-plus, plus-none}
 use Rattle.mp4_machine.proofs.ReadingLemmas.{then_read-told}
 use Rattle.mp4_grammar.specs.declared.command.Command.{Command}
@@ -34,7 +34,7 @@ use Rattle.mp4_frag.specs.Places.{place_fault}
 use Rattle.mp4_frag.specs.Moofs.{moof_runs}
 use Rattle.mp4_fragment_machine.specs.States.{IsWaiting, claimed_in, waiting_fragment, in_mdat, known, moof_in, taken_by}
 use Rattle.mp4_fragment_machine.specs.declared.state.Waiting.{Waiting}
-use Rattle.mp4_fragment_machine.proofs.BodyLemmas.{Refuses-back, claimed_apart}
+use Rattle.mp4_fragment_machine.proofs.BodyLemmas.{claimed_apart}
 use Rattle.mp4_fragment_machine.proofs.HeldLemmas.{Moves-all_back}
 use Rattle.mp4_fragment_machine.proofs.SecondLemmas.{behind-bad, second-accepted}
 
@@ -54,15 +54,6 @@ marks-accepted Samples f = refl
 -- commands that write no fragments refuse none
 pub listed_good : (command : Command) (number : ℕ) (w : Waiting) (tracks : List Track) (h : Header) → place_fault (waiting_fragment number w tracks h).payload (moof_runs (moof_in w) tracks) ≡ None → fragment_fault (command_meaning command) (waiting_fragment number w tracks h) ≡ None
 listed_good command number w tracks h e = ap (λ o. option_or o None) e
-
--- a write failed in what was told first, which was counted
-pub Loses-counted : (o o' : Outside) (own : ℕ) (effects : Effects) (rest r : Reading) → r ≡ after effects rest → BreaksMarked o.written o'.written o.waiting o'.waiting effects.text effects.marks → Spends o.account o'.account own 0 0 → o'.tally ≡ plus o.tally effects.tally → Loses o o' own r
-Loses-counted o o' own effects rest r e p q same = record {
-  text = subst (λ s. BreaksMarked o.written o'.written o.waiting o'.waiting s.effects.text s.effects.marks) (sym e) (BreaksMarked-longer rest.effects.text rest.effects.marks p);
-  spends = Spends-more o.account o'.account own 0 0 (most_of r.effects) (omega arith) q;
-  least = subst (AtMost o.tally) (sym same) (AtMost-plus o.tally effects.tally);
-  most = subst (λ t. AtMost t (plus o.tally r.effects.tally)) (sym same) (subst (λ s. AtMost (plus o.tally effects.tally) (plus o.tally s.effects.tally)) (sym e) (AtMost-behind o.tally effects.tally (plus effects.tally rest.effects.tally) (AtMost-plus effects.tally rest.effects.tally)));
-}
 
 -- how much is claimed where a moof waits
 pub claimed_behind : (number : ℕ) (w : Waiting) (tracks : Option (List Track)) → IsWaiting tracks w → (x : List ℕ) → claim_of (Behind (context w.moof.at tracks number) (known tracks) w.moof.bytes x) ≡ claimed_in tracks (Some w)
@@ -91,7 +82,7 @@ module _ (meaning : Meaning) (number : ℕ) (o : Outside) (w : Waiting) (tracks 
   Refuses-behind x more at e len bad =
       let ends : w.moof.at + length w.moof.bytes ≡ at = omega (arith, i.size, e) in
       let own = claims_behind x in
-      Refuses-back o (back_to (back_to o (taken_by (Some w))) (table_of tracks)) (waits x) [] more (fault BadSize (kind_of x) at)
+      Refuses-there o (back_to (back_to o (taken_by (Some w))) (table_of tracks)) (waits x) [] more (fault BadSize (kind_of x) at)
       (subst (λ n. Moves o (back_to (back_to o (taken_by (Some w))) (table_of tracks)) n 0 silent) (sym own) (Moves-all_back o (table_of tracks) (taken_by (Some w)) (omega (arith, low, claimed_apart tracks (Some w)))))
       (λ later. ap (then_read (reads_in meaning)) (behind-bad meaning (context w.moof.at tracks number) (known tracks) w.moof.bytes x later len bad) ∙ ap (λ n. at_fault BadSize (kind_of x) n) ends)
 
@@ -130,7 +121,7 @@ module _ (command : Command) (number : ℕ) (o : Outside) (w : Waiting) (tracks 
 
   -- it is refused: the moof, its list and the table are given back
   pub Refuses-fragment : (more : List ℕ) (g : Fault) → ((later : List ℕ) → after_moof (command_meaning command) c tracks w.moof.bytes (x ++ later) ≡ faulty g) → Refuses o (back_to (back_to o (taken_by (Some w))) (64 * length tracks)) place more g
-  Refuses-fragment more g r = Refuses-back o (back_to (back_to o (taken_by (Some w))) (64 * length tracks)) place [] more g all_back (λ later. ap (then_read (reads_in (command_meaning command))) (r later))
+  Refuses-fragment more g r = Refuses-there o (back_to (back_to o (taken_by (Some w))) (64 * length tracks)) place [] more g all_back (λ later. ap (then_read (reads_in (command_meaning command))) (r later))
 
   module _ (near : least_end next h h.size ≤ longest) (mdat : kind_in h.kind.0 ≡ Mdat) (good : fragment_fault (command_meaning command) f ≡ None) where
     reads-told : (later : List ℕ) → place.reads later ≡ after (accepted command f) (then_read (reads_in (command_meaning command)) (media_body (command_meaning command) f next h h.size later))
@@ -175,5 +166,5 @@ module _ (command : Command) (number : ℕ) (o : Outside) (w : Waiting) (tracks 
     pub Loses-fragment : (u : Option (List ℕ)) (v : Pending) (t : Tally) (more later : List ℕ) → t ≡ plus o.tally (counted_in f) → Breaks o.written u o.waiting v (accepted command f).text
         → Loses o (record { written = u; waiting = v; account = (back_to (back_to o (taken_by (Some w))) (64 * length tracks)).account; tally = t }) place.claim (place.reads (more ++ later))
     Loses-fragment u v t more later counted p =
-        Loses-counted o (record { written = u; waiting = v; account = (back_to (back_to o (taken_by (Some w))) (64 * length tracks)).account; tally = t }) place.claim (accepted command f) _ (place.reads (more ++ later)) (reads-told (more ++ later)) (subst (BreaksMarked o.written u o.waiting v (accepted command f).text) (sym (marks-accepted command f)) p)
+        Loses-told o (record { written = u; waiting = v; account = (back_to (back_to o (taken_by (Some w))) (64 * length tracks)).account; tally = t }) place.claim (accepted command f) _ (place.reads (more ++ later)) (reads-told (more ++ later)) (subst (BreaksMarked o.written u o.waiting v (accepted command f).text) (sym (marks-accepted command f)) p)
         (Spends-counts o.account _ place.claim 0 0 all_back.counts) (counted ∙ ap (plus o.tally) (sym (tally-accepted command f)))

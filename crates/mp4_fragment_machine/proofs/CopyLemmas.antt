@@ -20,7 +20,7 @@ use Rattle.mp4_machine.specs.Pieces.{Outside, Moves, GoesOn, Refuses, Loses, out
 use Rattle.mp4_machine.specs.declared.tally.Tally.{Tally}
 use Rattle.mp4_machine.proofs.AccountLemmas.{Counts-back, Counts-none, Spends-counts}
 use Rattle.mp4_machine.proofs.BodyLemmas.{body-some, body-over, open-some, open-far}
-use Rattle.mp4_machine.proofs.PieceLemmas.{Moves-none}
+use Rattle.mp4_machine.proofs.PieceLemmas.{Moves-none, Loses-told}
 use Rattle.mp4_machine.proofs.ReadingLemmas.{after-silent}
 use Rattle.mp4_machine.proofs.ReadingAskLemmas.{plus-none}
 use Rattle.mp4_grammar.specs.Contexts.{Context, context, first_context, table_of}
@@ -29,7 +29,6 @@ use Rattle.mp4_grammar.specs.Kinds.{kind_in}
 use Rattle.mp4_grammar.specs.Meanings.{Meaning}
 use Rattle.mp4_grammar.specs.declared.kinds.Kind.TheVariants.{Other}
 use Rattle.mp4_fragment_machine.specs.Places.{InBody, InHeader, InOpenBody, reads_at, standing}
-use Rattle.mp4_fragment_machine.proofs.BehindLemmas.{Loses-counted}
 use Rattle.mp4_fragment_machine.proofs.HeadLemmas.{reads-kind}
 
 -- what is claimed is given back
@@ -71,7 +70,7 @@ module _ (meaning : Meaning) (at : ℕ) (kind : FourCc) (a b : Option (List ℕ)
       let x = take n piece in
       let len : length x ≡ n = length-take-le n piece within in
       let place = λ (l : ℕ). InBody (λ l. says l) at kind next l own in
-      Loses-counted (outside a v account tally) (outside b w (given_back account own) tally) own (says x) (reads_at meaning (place (left - length x)) (drop n piece ++ later)) (reads_at meaning (place left) (piece ++ later))
+      Loses-told (outside a v account tally) (outside b w (given_back account own) tally) own (says x) (reads_at meaning (place (left - length x)) (drop n piece ++ later)) (reads_at meaning (place left) (piece ++ later))
       (ap (reads_at meaning (place left)) (cut_at n piece later) ∙ body-some (reads_in meaning) at kind next (λ l. says l) (λ l. says l) (says x) x left (λ later. refl) (omega (arith, len, few)) (drop n piece ++ later))
       p (spends-back account own low) (sym (plus-none tally))
 
@@ -80,7 +79,7 @@ module _ (meaning : Meaning) (at : ℕ) (kind : FourCc) (a b : Option (List ℕ)
   Loses-open_says needed left own n piece later few within low p =
       let x = take n piece in
       let len : length x ≡ n = length-take-le n piece within in
-      Loses-counted (outside a v account tally) (outside b w (given_back account own) tally) own (says x) (reads_at meaning (InOpenBody (λ l. says l) at kind (needed - length x) (left - length x) own) (drop n piece ++ later)) (reads_at meaning (InOpenBody (λ l. says l) at kind needed left own) (piece ++ later))
+      Loses-told (outside a v account tally) (outside b w (given_back account own) tally) own (says x) (reads_at meaning (InOpenBody (λ l. says l) at kind (needed - length x) (left - length x) own) (drop n piece ++ later)) (reads_at meaning (InOpenBody (λ l. says l) at kind needed left own) (piece ++ later))
       (ap (reads_at meaning (InOpenBody (λ l. says l) at kind needed left own)) (cut_at n piece later) ∙ open-some (reads_in meaning) at kind first_context (λ l. says l) (λ l. says l) (says x) x needed left (λ later. refl) (omega (arith, len, few)) (drop n piece ++ later))
       p (spends-back account own low) (sym (plus-none tally))
 
@@ -147,7 +146,7 @@ module _ (meaning : Meaning) (o : Outside) (at number : ℕ) (tracks : Option (L
       → Loses o (outside a v (given_back o.account (table_of tracks)) o.tally) (table_of tracks) ((standing meaning (InHeader (context at tracks number) x)).reads later)
   Loses-copy room a v p low later =
       let first = by h.size refl room in
-      Loses-counted o (outside a v (given_back o.account (table_of tracks)) o.tally) (table_of tracks) (says x) first.0 ((standing meaning (InHeader (context at tracks number) x)).reads later) first.1 p (spends-back o.account (table_of tracks) low) (sym (plus-none o.tally))
+      Loses-told o (outside a v (given_back o.account (table_of tracks)) o.tally) (table_of tracks) (says x) first.0 ((standing meaning (InHeader (context at tracks number) x)).reads later) first.1 p (spends-back o.account (table_of tracks) low) (sym (plus-none o.tally))
     where
       by : (z : Size) → h.size ≡ z → HasRoom z h.header_len → (r : Reading) × (reads_in meaning (context at tracks number) (x ++ later) ≡ after (says x) r)
       by (Exact s) e fits = (reads_at meaning (InBody (λ l. says l) at h.kind (context (at + s) tracks number) (s - h.header_len) (table_of tracks)) later, rest-copy s e fits later)

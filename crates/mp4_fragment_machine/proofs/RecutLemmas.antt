@@ -13,8 +13,7 @@ use Rattle.mp4_machine.specs.Readings.{moved, AtMost, Faulty, Reading, Effects, 
 use Rattle.mp4_machine.specs.declared.tally.Tally.{Tally}
 use Rattle.mp4_machine.proofs.BlockLemmas.{BreaksMarked-longer}
 use Rattle.mp4_machine.proofs.MarkLemmas.{moved-none}
-use Rattle.mp4_machine.proofs.PieceLemmas.{back_to}
-use Rattle.mp4_fragment_machine.proofs.BodyLemmas.{Refuses-back}
+use Rattle.mp4_machine.proofs.PieceLemmas.{back_to, Refuses-there}
 use Rattle.mp4_fragment_machine.proofs.HeldLemmas.{Moves-all_back}
 use Rattle.mp4_machine.proofs.AccountLemmas.{Counts-none, Counts-back, Spends-counts, Spends-more}
 use Rattle.mp4_machine.specs.Blocks.{BreaksMarked, Passes, PassesMarked, Pending}
@@ -372,7 +371,7 @@ open-far_recut meaning at kind p needed own bytes settled some =
 pub Refuses-open_recut : (meaning : Meaning) (at : ℕ) (kind : FourCc) (o : Outside) (needed own : ℕ) (p : Spot) (x more : List ℕ) (table n : ℕ) → IsSettled p → 0 < length x → own ≡ table + n → own ≤ o.account.live
     → Refuses o (back_to (back_to o n) table) (standing meaning (InOpenBody (playing p) at kind needed 0 own)) (x ++ more) (fault StreamTooLong (Some kind) at)
 Refuses-open_recut meaning at kind o needed own p x more table n settled some e low =
-    Refuses-back o (back_to (back_to o n) table) (standing meaning (InOpenBody (playing p) at kind needed 0 own)) x more (fault StreamTooLong (Some kind) at)
+    Refuses-there o (back_to (back_to o n) table) (standing meaning (InOpenBody (playing p) at kind needed 0 own)) x more (fault StreamTooLong (Some kind) at)
     (subst (λ k. Moves o (back_to (back_to o n) table) k 0 silent) (sym e) (Moves-all_back o table n (omega (arith, e, low))))
     (λ later. open-far_recut meaning at kind p needed own (x ++ later) settled (omega (arith, some, length-append x later)))
 

@@ -4,7 +4,7 @@ use Rattle.mp4_box.specs.declared.rules.Fault.{Fault}
 use Rattle.mp4_init.specs.declared.table.Track.{Track}
 use Rattle.mp4_machine.specs.Pieces.{Moves, Outside, Refuses}
 use Rattle.mp4_machine.specs.Readings.{silent, then_read}
-use Rattle.mp4_machine.proofs.PieceLemmas.{back_to}
+use Rattle.mp4_machine.proofs.PieceLemmas.{back_to, Refuses-there}
 use Rattle.mp4_grammar.specs.Contexts.{context}
 use Rattle.mp4_grammar.specs.Items.{after_moof, faulty, reads_in}
 use Rattle.mp4_grammar.specs.Meanings.{Meaning}
@@ -12,7 +12,6 @@ use Rattle.mp4_fragment_machine.specs.Places.{Behind, claim_of, standing}
 use Rattle.mp4_fragment_machine.specs.States.{claimed_in, taken_by}
 use Rattle.mp4_fragment_machine.specs.declared.state.Waiting.{Waiting}
 use Rattle.mp4_fragment_machine.proofs.BehindLemmas.{HasRows}
-use Rattle.mp4_fragment_machine.proofs.BodyLemmas.{Refuses-back}
 use Rattle.mp4_fragment_machine.proofs.HeldLemmas.{Moves-all_back}
 
 module _ (meaning : Meaning) (number : ℕ) (o : Outside) (w : Waiting) (tracks : List Track) (x : List ℕ) (i : HasRows tracks w) (low : claimed_in (Some tracks) (Some w) ≤ o.account.live) where
@@ -25,6 +24,6 @@ module _ (meaning : Meaning) (number : ℕ) (o : Outside) (w : Waiting) (tracks 
       → Refuses o (back_to (back_to o (taken_by (Some w))) (64 * length tracks)) (standing meaning (Behind (context w.moof.at (Some tracks) number) tracks w.moof.bytes x)) more g
   Refuses-split more g r =
       let place = standing meaning (Behind (context w.moof.at (Some tracks) number) tracks w.moof.bytes x) in
-      Refuses-back o (back_to (back_to o (taken_by (Some w))) (64 * length tracks)) place [] more g
+      Refuses-there o (back_to (back_to o (taken_by (Some w))) (64 * length tracks)) place [] more g
       (subst (λ n. Moves o (back_to (back_to o (taken_by (Some w))) (64 * length tracks)) n 0 silent) (sym claims-split) (Moves-all_back o (64 * length tracks) (taken_by (Some w)) (omega (arith, low))))
       (λ later. ap (then_read (reads_in meaning)) (r later))

@@ -24,7 +24,8 @@ use Rattle.mp4_fragment_machine.specs.declared.state.Waiting.{Waiting}
 use Rattle.mp4_fragment_machine.proofs.BehindLemmas.{GoesOn-behind_head, claimed_behind}
 use Rattle.mp4_fragment_machine.proofs.CountLemmas.{counted_later}
 use Rattle.mp4_fragment_machine.proofs.HeadLemmas.{GoesOn-head}
-use Rattle.mp4_fragment_machine.proofs.TakeLemmas.{GoesOn-held, GoesOn-then}
+use Rattle.mp4_fragment_machine.proofs.TakeLemmas.{GoesOn-held}
+use Rattle.mp4_machine.proofs.StepLemmas.{GoesOn-then}
 
 -- ---- bytes come first
 

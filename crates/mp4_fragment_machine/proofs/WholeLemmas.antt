@@ -38,7 +38,9 @@ use Rattle.mp4_fragment_machine.proofs.BehindLemmas.{GoesOn-fragment_at, HasRows
 use Rattle.mp4_fragment_machine.proofs.BodyLemmas.{GoesOn-over, GoesOn-passed, Moves-settled, back_twice}
 use Rattle.mp4_fragment_machine.proofs.HeadLemmas.{GoesOn-head, GoesOn-keep, reads-kind}
 use Rattle.mp4_fragment_machine.proofs.HeldLemmas.{GoesOn-moof, looked, none_of}
-use Rattle.mp4_fragment_machine.proofs.TakeLemmas.{GoesOn-held, GoesOn-then, HeadFront, head_front}
+use Rattle.mp4_fragment_machine.proofs.TakeLemmas.{GoesOn-held}
+use Rattle.mp4_machine.proofs.HeadLemmas.{front-is, front-len}
+use Rattle.mp4_machine.proofs.StepLemmas.{GoesOn-then}
 
 -- ---- a moof
 
@@ -53,9 +55,6 @@ module _ (meaning : Meaning) (number : ℕ) (o : Outside) (at : ℕ) (tracks : L
 
   abbrev pub rest : List ℕ
   rest = drop h.header_len x
-
-  front : HeadFront x h
-  front = head_front x h is
 
   some : 0 < length x
   some = let w = whole_is x h is in omega (arith, w.0, w.1, need-least x)
@@ -73,7 +72,7 @@ module _ (meaning : Meaning) (number : ℕ) (o : Outside) (at : ℕ) (tracks : L
   to_held : GoesOn o held (standing meaning (InHeader c head)) [] (standing meaning (InHeld c h.kind (length x) head))
   to_held =
       GoesOn-keep meaning o at number (Some tracks) h head most_moof low
-      (λ later. reads-kind meaning c h head front.len front.is Moof (Some tracks) later (subst (λ s. least_end at h s ≤ longest) (sym sized) near) kind refl) (length x) sized most some
+      (λ later. reads-kind meaning c h head (front-len x h is) (front-is x h is) Moof (Some tracks) later (subst (λ s. least_end at h s ≤ longest) (sym sized) near) kind refl) (length x) sized most some
 
   pub GoesOn-moof_whole : GoesOn o listed (standing meaning (InHeader c [])) x (standing meaning (Behind c tracks x []))
   GoesOn-moof_whole =
@@ -111,9 +110,6 @@ module _ (command : Command) (number : ℕ) (o : Outside) (at : ℕ) (tracks : L
   rows : HasRows tracks w
   rows = record { size = refl; len = length-map (moof_runs (moof_at m at) tracks) (row_of_run 0) }
 
-  mdat_front : HeadFront x g
-  mdat_front = head_front x g is
-
   room : g.header_len ≤ s
   room = subst (λ z. HasRoom z g.header_len) sized (room_of x g is)
 
@@ -144,7 +140,7 @@ module _ (command : Command) (number : ℕ) (o : Outside) (at : ℕ) (tracks : L
       to_body : GoesOn o o' (waits mdat_head) [] (body (s - g.header_len))
       to_body =
           subst (λ z. GoesOn o o' (waits mdat_head) [] (standing meaning (in_mdat number (Some tracks) w next g (needed_in f) z))) sized
-          (GoesOn-fragment_at command number o w tracks g mdat_head rows mdat_front.len mdat_front.is (omega (arith, low, rows.len)) fits mdat good next refl o' (needed_in f) (room_of x g is) refl account tally passes)
+          (GoesOn-fragment_at command number o w tracks g mdat_head rows (front-len x g is) (front-is x g is) (omega (arith, low, rows.len)) fits mdat good next refl o' (needed_in f) (room_of x g is) refl account tally passes)
 
       to_end : GoesOn o' o' (body (s - g.header_len)) (take (s - g.header_len) (drop g.header_len x)) (body 0)
       to_end =
@@ -171,7 +167,7 @@ module _ (command : Command) (number : ℕ) (o : Outside) (at : ℕ) (tracks : L
     StopsAt-mdat_whole u v a t more back counted p =
         StopsAt-take_more low_claim g.header_len x to_head (record { written = u; waiting = v; account = a; tally = t }) more Write
         (λ later. subst (λ k. Loses o (record { written = u; waiting = v; account = k; tally = t }) (waits mdat_head).claim ((waits mdat_head).reads ((drop g.header_len x ++ more) ++ later))) (sym back)
-        (Loses-fragment command number o w tracks g mdat_head rows mdat_front.len mdat_front.is (omega (arith, low, rows.len)) fits mdat good u v t (drop g.header_len x ++ more) later counted p))
+        (Loses-fragment command number o w tracks g mdat_head rows (front-len x g is) (front-is x g is) (omega (arith, low, rows.len)) fits mdat good u v t (drop g.header_len x ++ more) later counted p))
 
 -- ---- both
 

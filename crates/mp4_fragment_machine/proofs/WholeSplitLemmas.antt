@@ -60,7 +60,8 @@ use Rattle.mp4_fragment_machine.proofs.SecondLemmas.{second-accepted}
 use Rattle.mp4_fragment_machine.proofs.BodyLemmas.{Moves-settled, back_twice}
 use Rattle.mp4_fragment_machine.proofs.FragmentLemmas.{BoxesFit, boxes_fit, lies, media_fits, moof_len, one_taken, payload_same, run_is}
 use Rattle.mp4_fragment_machine.proofs.RecutLemmas.{GoesOn-begun, lost_first}
-use Rattle.mp4_fragment_machine.proofs.TakeLemmas.{GoesOn-then, HeadFront, head_front}
+use Rattle.mp4_machine.proofs.HeadLemmas.{front-is, front-len}
+use Rattle.mp4_machine.proofs.StepLemmas.{GoesOn-then}
 use Rattle.mp4_fragment_machine.proofs.WholeLemmas.{GoesOn-moof_whole, back_at_once, claimed_at_once, front_is, listed}
 use Rattle.mp4_init.specs.Tracks.{with_next}
 
@@ -239,9 +240,6 @@ module _ (cut : Cut) (o : Outside) (at : ℕ) (tracks : List Track) (piece : Lis
   abbrev mdat_head : List ℕ
   mdat_head = take g.header_len x
 
-  fore : HeadFront x g
-  fore = head_front x g behind
-
   to_head : GoesOn listed_of listed_of (waits []) mdat_head (waits mdat_head)
   to_head = GoesOn-silent listed_of (waits []) (waits mdat_head) mdat_head refl (omega arith) (λ later. refl)
 
@@ -267,7 +265,7 @@ module _ (cut : Cut) (o : Outside) (at : ℕ) (tracks : List Track) (piece : Lis
   to_body =
       subst (λ k. GoesOn listed_of accepted_of (waits mdat_head) [] (body k)) (sym len)
       (subst (λ z. GoesOn listed_of accepted_of (waits mdat_head) [] (standing (splitting cut) (in_media cut f (first_spot cut f) (at + length m) g own z))) is.boxes.mdat.sized
-      (GoesOn-begun cut c tracks m mdat_head g fore.len fore.is fits is.boxes.mdat.is_kind good listed_of.written listed_of.written listed_of.waiting listed_of.waiting listed_of.tally listed_of.tally.fragments (first_spot cut f) listed_of.account (room_of x g behind)
+      (GoesOn-begun cut c tracks m mdat_head g (front-len x g behind) (front-is x g behind) fits is.boxes.mdat.is_kind good listed_of.written listed_of.written listed_of.waiting listed_of.waiting listed_of.tally listed_of.tally.fragments (first_spot cut f) listed_of.account (room_of x g behind)
       (Plays-none listed_of.written listed_of.waiting listed_of.tally.fragments (first_spot cut f))))
 
   module _ (u : Option (List ℕ)) (v : Pending) (a : Account) (t : Tally) (account : a ≡ given_back (claimed o.account (length b.moof.now + 64)) (length b.moof.now + 64))
@@ -342,7 +340,7 @@ module _ (cut : Cut) (o : Outside) (at : ℕ) (tracks : List Track) (piece : Lis
             let meaning = splitting cut in
             let told_first = fragments_effects put marks (length pieces) in
             let reads : (waits mdat_head).reads all ≡ after (meaning.accepted f) (then_read (reads_in meaning) (media_body meaning f (at + length m) g g.size all)) =
-            ap (then_read (reads_in meaning)) (second-accepted meaning c tracks m g mdat_head fore.len fore.is all fits is.boxes.mdat.is_kind good) ∙ then_read-told (reads_in meaning) (meaning.accepted f) (media_body meaning f (at + length m) g g.size all) in
+            ap (then_read (reads_in meaning)) (second-accepted meaning c tracks m g mdat_head (front-len x g behind) (front-is x g behind) all fits is.boxes.mdat.is_kind good) ∙ then_read-told (reads_in meaning) (meaning.accepted f) (media_body meaning f (at + length m) g g.size all) in
             let body_reads : then_read (reads_in meaning) (media_body meaning f (at + length m) g g.size all) ≡ after told_first (reads_in meaning behind_it rest) =
             ap (λ z. then_read (reads_in meaning) (media_body meaning f (at + length m) g z all)) is.boxes.mdat.sized
             ∙ ap (λ y. then_read (reads_in meaning) (body_item (meaning.media f) (at + length m) g.kind behind_it (s - g.header_len) y)) e
@@ -351,7 +349,7 @@ module _ (cut : Cut) (o : Outside) (at : ℕ) (tracks : List Track) (piece : Lis
             ∙ ap (λ z. after z (reads_in meaning behind_it rest)) effects in
             let is_told : ((waits mdat_head).reads all).effects ≡ both (meaning.accepted f) (both told_first (reads_in meaning behind_it rest).effects) = ap (λ z. z.effects) (reads ∙ ap (after (meaning.accepted f)) body_reads) in
             let lost : Lost listed_of.written u listed_of.waiting v listed_of.tally.fragments t.fragments told_first = record { text = prefix; least = omega (arith, least); most = omega (arith, most) } in
-            let so = lost_first cut c tracks m mdat_head g fore.len fore.is fits is.boxes.mdat.is_kind good listed_of.written u listed_of.waiting v listed_of.tally t.fragments own listed_of.account told_first (reads_in meaning behind_it rest).effects ((waits mdat_head).reads all) is_told low_claim lost in
+            let so = lost_first cut c tracks m mdat_head g (front-len x g behind) (front-is x g behind) fits is.boxes.mdat.is_kind good listed_of.written u listed_of.waiting v listed_of.tally t.fragments own listed_of.account told_first (reads_in meaning behind_it rest).effects ((waits mdat_head).reads all) is_told low_claim lost in
             subst (λ k. Loses listed_of (outside u v (given_back a (64 * length tracks)) k) own ((waits mdat_head).reads all)) counted_so
             (subst (λ k. Loses listed_of (outside u v k (with_samples f listed_of.tally t.fragments)) own ((waits mdat_head).reads all)) given so)
 

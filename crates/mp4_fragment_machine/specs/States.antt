@@ -20,8 +20,8 @@ use Rattle.mp4_pieces.specs.declared.cut.Cut.{Cut}
 use Rattle.mp4_recut.specs.Cursors.{AreCut, MayBeAt, parts_left}
 use Rattle.mp4_recut.specs.Media.{Rises, playing, spot_of}
 use Rattle.mp4_recut.specs.declared.media.Media.{Media}
-use Rattle.mp4_fragment_machine.specs.declared.state.Body.{Body}
-use Rattle.mp4_fragment_machine.specs.declared.state.OpenBody.{OpenBody}
+use Rattle.mp4_machine.specs.declared.body.Body.{Body}
+use Rattle.mp4_machine.specs.declared.body.OpenBody.{OpenBody}
 use Rattle.mp4_fragment_machine.specs.declared.state.Recutting.{Recutting}
 use Rattle.mp4_recut.specs.declared.plan.Plan.{Plan}
 use Rattle.mp4_recut.specs.declared.plan.Plan.TheVariants as plans

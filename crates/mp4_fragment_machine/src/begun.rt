@@ -19,12 +19,12 @@ ghost use Rattle.mp4_fragment_machine.specs.declared.state.State.TheVariants as 
 
 use crate::body::end_fragment;
 use crate::splits::{Split, begin_split};
-use crate::state::{Body, Kept, OpenBody, OpenRecutting, Recutting, State, Waiting};
+use crate::state::{Kept, OpenRecutting, Recutting, State, Waiting};
 use mp4_box::{Header, Size};
 use mp4_cut::Cut;
 use mp4_ends::Sink;
 use mp4_ledger::Ledger;
-use mp4_machine::{Block, LONGEST, Stop};
+use mp4_machine::{Block, Body, LONGEST, OpenBody, Stop};
 
 /// What is taken next behind the header of the mdat at `at`, whose media were begun.
 fn enter_split(

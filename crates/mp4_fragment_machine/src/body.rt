@@ -10,12 +10,12 @@ ghost use Rattle.mp4_fragment_machine.specs.States.{IsState, IsWaiting, MayWait,
 ghost use Rattle.mp4_fragment_machine.specs.Working.Steps.{CanStep, Consumes, GoesTo, at_state, lent_ledger};
 ghost use Rattle.mp4_fragment_machine.specs.declared.state.State.TheVariants as states;
 
-use crate::state::{Body, Counter, Kept, OpenBody, State, Taken, Waiting};
+use crate::state::{Counter, Kept, State, Taken, Waiting};
 use mp4_box::Rule;
 use mp4_frag::Moof;
 use mp4_init::TrackList;
 use mp4_ledger::Ledger;
-use mp4_machine::{Stop, at_fault};
+use mp4_machine::{Body, OpenBody, Stop, at_fault};
 
 /// Ends the tracks behind a moof and its mdat, and gives the moof and its list back.
 pub(crate) fn end_fragment(

@@ -6,10 +6,10 @@ ghost use Rattle.mp4_fragment_machine.specs.States.{IsState};
 ghost use Rattle.mp4_fragment_machine.specs.Working.Steps.{CanStep, Consumes, lent};
 ghost use Rattle.mp4_fragment_machine.specs.declared.state.State.TheVariants as states;
 
-use crate::state::{Body, Kept, OpenBody, State, Taken};
+use crate::state::{Kept, State, Taken};
 use mp4_box::Rule;
 use mp4_ends::{Failed, Sink};
-use mp4_machine::{Block, Stop, at_fault};
+use mp4_machine::{Block, Body, OpenBody, Stop, at_fault};
 
 /// Takes bytes of a body that is copied from the front of a piece.
 ///

@@ -8,7 +8,6 @@ ghost use Rattle.mp4_fragment_machine.specs.States.{IsState};
 ghost use Rattle.mp4_fragment_machine.specs.Working.Steps.{Advances, CanStep, Consumes, lent, with_head};
 ghost use Rattle.mp4_fragment_machine.specs.declared.state.State.TheVariants as states;
 
-use crate::header_bytes::take_head;
 use crate::held_box::keep_on;
 use crate::passed_box::pass_over;
 use crate::state::{Kept, State, Taken};
@@ -16,7 +15,7 @@ use mp4_box::{Header, HeaderReader, Rule, Step, header_of};
 use mp4_ends::Sink;
 use mp4_grammar::{Kind, MOST_MOOF, MOST_MOOV, kind_of};
 use mp4_ledger::Ledger;
-use mp4_machine::{Block, Stop, is_too_long, at_fault};
+use mp4_machine::{Block, Stop, is_too_long, at_fault, take_head};
 use std::mem::replace;
 
 /// Takes the header of the box at `at` from the front of a piece, at once where the piece has all of it, and begins the box

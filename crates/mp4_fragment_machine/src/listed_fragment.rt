@@ -21,13 +21,13 @@ use crate::body::{arrive, back};
 use crate::lines::put_runs;
 use crate::mdat_check::{check_mdat, payload_of};
 use crate::measure::measure_runs;
-use crate::state::{Body, Counter, Kept, OpenBody, State, Waiting};
+use crate::state::{Counter, Kept, State, Waiting};
 use mp4_box::{Header, Size};
 use mp4_ends::{Failed, Sink};
 use mp4_init::TrackList;
 use mp4_grammar::Command;
 use mp4_ledger::Ledger;
-use mp4_machine::{Block, LONGEST, Stop};
+use mp4_machine::{Block, Body, LONGEST, OpenBody, Stop};
 
 /// Counts a fragment that has so many samples, with so many bytes of media.
 pub(crate) fn count(counter: &mut Counter, samples: u64, bytes: u64)

@@ -18,7 +18,7 @@ ghost use Rattle.mp4_grammar.specs.Meanings.{Meaning};
 ghost use Rattle.mp4_recut.specs.declared.plan.Plan.{Plan};
 ghost use Rattle.mp4_fragment_machine.specs.declared.state.State.TheVariants as states;
 
-use crate::state::{Counter, Kept, OpenBody, State, Taken, Waiting};
+use crate::state::{Counter, Kept, State, Taken, Waiting};
 use crate::step::{back_state, take_next};
 use crate::whole_fragment::{Whole, boxes_at, stands_in};
 use crate::whole_plan::{is_taken_whole, looks_ahead, take_whole_fragment};
@@ -26,7 +26,7 @@ use mp4_box::{Fault, FourCc, HeaderReader, Rule};
 use mp4_ends::Sink;
 use mp4_frag::{LoneRun, Steps};
 use mp4_ledger::Ledger;
-use mp4_machine::{Block, Machine, Stop, Tally};
+use mp4_machine::{Block, Machine, OpenBody, Stop, Tally, truncated};
 use mp4_recut::Plan;
 use std::marker::Model;
 use std::mem::replace;
@@ -241,13 +241,13 @@ impl Machine for FragmentMachine {
             State::Holding(held) => Err(truncated(Some(held.kind()), held.offset())),
             State::Behind(waiting) => Err(unfollowed(waiting, &self.kept.head)),
             State::Body(body, _) => Err(truncated(Some(body.kind), body.at)),
-            State::OpenBody(body, _) => open_end(body),
+            State::OpenBody(body, _) => body.end(),
             State::Copied(body) => Err(truncated(Some(body.kind), body.at)),
             State::Media(recutting) => {
                 Err(truncated(Some(recutting.body.kind), recutting.body.at))
             }
-            State::OpenCopied(body) => open_end(body),
-            State::OpenMedia(recutting) => open_end(&recutting.body),
+            State::OpenCopied(body) => body.end(),
+            State::OpenMedia(recutting) => recutting.body.end(),
         }
     }
 
@@ -327,31 +327,4 @@ fn unfollowed(waiting: &Waiting, head: &HeaderReader) -> Fault
         };
     }
     truncated(head.kind(), waiting.moof.offset() + waiting.moof.size())
-}
-
-/// The stream ended in a body that goes to its end.
-///
-/// # Errors
-///
-/// `Truncated` where more bytes of it are needed.
-fn open_end(body: &OpenBody) -> Result<(), Fault>
-    ensures ok { OnOk result (body.now.needed ≡ 0) }
-    ensures some { OnErr result (0 < body.now.needed) }
-    ensures err { IfErr result (λ f. f ≡ fault Truncated (Some body.now.kind) body.now.at) }
-{
-    if body.needed == 0 {
-        return Ok(());
-    }
-    Err(truncated(Some(body.kind), body.at))
-}
-
-/// The stream ended in the box at `at`.
-fn truncated(kind: Option<FourCc>, at: u64) -> Fault
-    ensures { result ≡ fault Truncated kind at }
-{
-    Fault {
-        rule: Rule::Truncated,
-        kind,
-        offset: at,
-    }
 }

@@ -9,13 +9,12 @@ ghost use Rattle.mp4_fragment_machine.specs.declared.state.State.TheVariants as 
 
 use crate::begun::begin_media;
 use crate::body::back;
-use crate::header_bytes::take_head;
 use crate::listed_fragment::begin_listed;
 use crate::state::{Kept, State, Taken, Waiting};
 use mp4_box::{Header, HeaderReader, Rule, Step, header_of};
 use mp4_ends::Sink;
 use mp4_ledger::Ledger;
-use mp4_machine::{Block, Stop, at_fault};
+use mp4_machine::{Block, Stop, at_fault, take_head};
 use mp4_recut::Plan;
 use std::mem::replace;
 

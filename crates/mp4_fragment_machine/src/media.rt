@@ -15,13 +15,13 @@ ghost use Rattle.mp4_fragment_machine.specs.Working.Steps.{CanStep, Consumes, le
 ghost use Rattle.mp4_fragment_machine.specs.declared.state.State.TheVariants as states;
 
 use crate::body::{back, end_fragment};
-use crate::state::{Body, Kept, Recutting, State, Taken, Waiting};
+use crate::state::{Kept, Recutting, State, Taken, Waiting};
 use mp4_cut::Cut;
 use mp4_ends::{Failed, Sink};
 use mp4_frag::Moof;
 use mp4_init::TrackList;
 use mp4_ledger::Ledger;
-use mp4_machine::{Block, Stop, Tally};
+use mp4_machine::{Block, Body, Stop, Tally};
 use mp4_recut::media::{Media, pay_all};
 
 /// Bytes of an mdat that were taken: how many, how many are left of it, and what is taken next.

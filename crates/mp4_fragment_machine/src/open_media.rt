@@ -14,14 +14,14 @@ ghost use Rattle.mp4_fragment_machine.specs.Working.Steps.{CanStep, Consumes, le
 ghost use Rattle.mp4_fragment_machine.specs.declared.state.State.TheVariants as states;
 
 use crate::body::back;
-use crate::state::{Kept, OpenBody, OpenRecutting, State, Taken, Waiting};
+use crate::state::{Kept, OpenRecutting, State, Taken, Waiting};
 use mp4_box::Rule;
 use mp4_cut::Cut;
 use mp4_ends::{Failed, Sink};
 use mp4_frag::Moof;
 use mp4_init::TrackList;
 use mp4_ledger::Ledger;
-use mp4_machine::{Block, LONGEST, Stop, Tally, at_fault};
+use mp4_machine::{Block, LONGEST, OpenBody, Stop, Tally, at_fault};
 use mp4_recut::media::{Media, pay_all};
 
 /// Bytes of an mdat to the end of the stream that were taken: how many, and what is taken next.

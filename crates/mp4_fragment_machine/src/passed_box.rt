@@ -16,10 +16,10 @@ ghost use Rattle.mp4_fragment_machine.specs.Working.Steps.{Advances, CanPass, Go
 ghost use Rattle.mp4_fragment_machine.specs.declared.state.Kept.{Kept};
 ghost use Rattle.mp4_fragment_machine.specs.declared.state.State.TheVariants as states;
 
-use crate::state::{Body, Kept, OpenBody, State};
+use crate::state::{Kept, State};
 use mp4_box::{FourCc, Header, Size};
 use mp4_ends::{Failed, Sink};
-use mp4_machine::{Block, LONGEST, Stop};
+use mp4_machine::{Block, Body, LONGEST, OpenBody, Stop};
 use mp4_recut::Plan;
 
 /// What is taken behind the header of the box at `at`, which is passed over, or copied with these bytes of its header.

@@ -1,10 +1,10 @@
 //! What a machine keeps that is fed a fragmented stream.
 
-use mp4_box::{FourCc, HeaderReader};
+use mp4_box::HeaderReader;
 use mp4_cut::Cut;
 use mp4_frag::{RunList, Steps};
 use mp4_init::TrackList;
-use mp4_machine::{Held, Tally};
+use mp4_machine::{Body, Held, OpenBody, Tally};
 use mp4_recut::Plan;
 use mp4_recut::media::Media;
 
@@ -12,24 +12,6 @@ use mp4_recut::media::Media;
 pub(crate) struct Waiting {
     pub(crate) moof: Held,
     pub(crate) runs: RunList,
-}
-
-/// The body of the box at `at`, of which some bytes are left; the next box begins at `next`.
-#[derive(Clone, Copy)]
-pub(crate) struct Body {
-    pub(crate) at: u64,
-    pub(crate) kind: FourCc,
-    pub(crate) next: u64,
-    pub(crate) left: u64,
-}
-
-/// The body of the box at `at`, which goes to the end of the stream: so many bytes of it must come, and so many may.
-#[derive(Clone, Copy)]
-pub(crate) struct OpenBody {
-    pub(crate) at: u64,
-    pub(crate) kind: FourCc,
-    pub(crate) needed: u64,
-    pub(crate) left: u64,
 }
 
 /// The body of an mdat that is recut, for whose end its moof waits: of the pieces that are left the first has this number.

@@ -1,10 +1,11 @@
 -- Headers at the front of some bytes.
-use Rattle.std.proofs.Common.{◌≡◌, ◌∙◌, ℕ, ◌≤◌, List, ◌++◌, length, take, drop, ap, sym, refl, arith, append_assoc, length-append, length-drop, length-take, length-take-le, take-append-drop}
+use Rattle.std.proofs.Common.{◌≡◌, ◌∙◌, ℕ, ◌≤◌, List, ◌++◌, length, take, drop, Ok, ap, sym, refl, arith, append_assoc, length-append, length-drop, length-take, length-take-le, take-append-drop}
 use Rattle.std.proofs.Math.Seq.{take-take}
 use Rattle.std.proofs.lemmas.List.{take-append-le, drop-append-le}
 use Rattle.mp4_box.specs.declared.headers.Header.{Header}
+use Rattle.mp4_box.specs.declared.headers.Step.{Step}
 use Rattle.mp4_box.specs.declared.headers.Step.TheVariants as steps
-use Rattle.mp4_box.specs.Headers.{need, header_at, kind_of, kind_field, HasRoom}
+use Rattle.mp4_box.specs.Headers.{need, header_at, kind_of, kind_field, HasRoom, result_of}
 use Rattle.mp4_box.proofs.HeaderLemmas.{header_at-append, need-append, whole_is, need-least}
 use Rattle.mp4_box.proofs.HeaderAnswers.{header-room}
 use Rattle.mp4_machine.proofs.BodyLemmas.{nat_lt_false}
@@ -21,6 +22,12 @@ head-room x h e =
     let w = whole_is x h e in
     let len : length (take h.header_len x) ≡ h.header_len = omega (arith, length-take h.header_len x, w.0, w.1) in
     rw len (rw e at (header-room x))
+
+-- a header that is read from the front of a piece
+pub header_is : {step : Step} {h : Header} → result_of step ≡ Ok h → step ≡ steps.Whole h
+header_is {step = steps.Whole k} e = cc
+header_is {step = steps.More} e = absurd cc
+header_is {step = steps.BadSize} e = absurd cc
 
 -- a front of some bytes, the rest, and more
 pub apart : (n : ℕ) (x more : List ℕ) → take n x ++ (drop n x ++ more) ≡ x ++ more

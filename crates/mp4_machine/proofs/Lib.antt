@@ -8,6 +8,8 @@ pub mod MarkLemmas
 pub mod BlockLemmas
 pub mod PutLemmas
 pub mod PieceLemmas
+pub mod StepLemmas
+pub mod StandingLemmas
 pub mod RunLemmas
 pub mod FedLemmas
 pub mod FedRunLemmas

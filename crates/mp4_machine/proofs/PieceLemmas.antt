@@ -1,12 +1,13 @@
 -- How what a piece brings and what the next brings is what both bring.
 use Rattle.std.proofs.Common.{◌≡◌, ℕ, ◌+◌, ◌-◌, ◌<◌, ◌≤◌, List, [], ◌++◌, take, drop, Option, Bool, true, Result, Ok, Err, OnErr, ap, sym, ◌∙◌, refl, length, arith, append_assoc, append-nil, length-append, subst, take-append-drop}
 use Rattle.std.proofs.Math.Seq.{take-add}
+use Rattle.mp4_box.specs.declared.rules.Fault.{Fault}
 use Rattle.mp4_ledger.specs.Memory.{Account, claimed, given_back}
 use Rattle.mp4_machine.specs.Accounts.{Counts, Spends}
 use Rattle.mp4_machine.proofs.AccountLemmas.{Counts-none, Counts-claim, Counts-back, Counts-more, Spends-after, Spends-more}
 use Rattle.mp4_machine.specs.Blocks.{IsSent, Pending, unused, Breaks, BreaksMarked, Passes, PassesMarked}
-use Rattle.mp4_machine.specs.Readings.{AtMost, Reading, Effects, plus, after, both, silent, requests_memory, most_of, uncounted, early_in}
-use Rattle.mp4_machine.specs.Pieces.{Outside, outside, Standing, Moves, GoesOn, Starves, Loses, StopsAt, Around, Takes, IsBegun, IsQuiet, IsFed}
+use Rattle.mp4_machine.specs.Readings.{AtMost, Faulty, Reading, Effects, plus, after, both, silent, requests_memory, most_of, uncounted, early_in}
+use Rattle.mp4_machine.specs.Pieces.{Outside, outside, Standing, Moves, GoesOn, Refuses, Starves, Loses, StopsAt, Around, Takes, IsBegun, IsQuiet, IsFed}
 use Rattle.mp4_machine.specs.declared.stop.Stop.{Stop}
 use Rattle.mp4_machine.specs.declared.stop.Stop.TheVariants.{Stream, Read, Write, OverLimit, Memory}
 use Rattle.mp4_machine.proofs.ReadingAskLemmas.{AtMost-behind, AtMost-plus, AtMost-trans, max_none, most-both, most-first, plus-assoc, plus-none}
@@ -59,6 +60,19 @@ GoesOn-silent o p q x same far f = record {
   moves = subst (λ n. Moves o o p.claim n silent) (sym same) (Moves-none o p.claim);
   reached = far;
   rest = λ later. f later ∙ sym (after-silent (q.reads later));
+}
+
+-- behind some bytes a fault is read, whatever comes: all is given back
+pub Refuses-there : (o o' : Outside) (p : Standing) (x more : List ℕ) (f : Fault) → Moves o o' p.claim 0 silent → ((later : List ℕ) → p.reads (x ++ later) ≡ record { effects = silent; outcome = Faulty f }) → Refuses o o' p (x ++ more) f
+Refuses-there o o' p x more f m r = record { brought = silent; moves = m; rest = λ later. ap p.reads (append_assoc x more later) ∙ r (more ++ later) }
+
+-- a write failed in what is told first, which was counted
+pub Loses-told : (o o' : Outside) (own : ℕ) (effects : Effects) (rest r : Reading) → r ≡ after effects rest → BreaksMarked o.written o'.written o.waiting o'.waiting effects.text effects.marks → Spends o.account o'.account own 0 0 → o'.tally ≡ plus o.tally effects.tally → Loses o o' own r
+Loses-told o o' own effects rest r e p q same = record {
+  text = subst (λ s. BreaksMarked o.written o'.written o.waiting o'.waiting s.effects.text s.effects.marks) (sym e) (BreaksMarked-longer rest.effects.text rest.effects.marks p);
+  spends = Spends-more o.account o'.account own 0 0 (most_of r.effects) (omega arith) q;
+  least = subst (AtMost o.tally) (sym same) (AtMost-plus o.tally effects.tally);
+  most = subst (λ t. AtMost t (plus o.tally r.effects.tally)) (sym same) (subst (λ s. AtMost (plus o.tally effects.tally) (plus o.tally s.effects.tally)) (sym e) (AtMost-behind o.tally effects.tally (plus effects.tally rest.effects.tally) (AtMost-plus effects.tally rest.effects.tally)));
 }
 
 module _ {o o' : Outside} {p q : Standing} {xs : List ℕ} (low : p.claim ≤ o.account.live) (g : GoesOn o o' p xs q) where

@@ -1,5 +1,5 @@
 -- A body that is told as it comes: of some bytes of it, from its first byte on, this is told.
-use Rattle.std.specs.Prelude.{ℕ, ◌+◌, ◌^◌, List, length, take, drop, nat_lt, if◌then◌else◌, Option, Some}
+use Rattle.std.specs.Prelude.{◌≡◌, ℕ, ◌+◌, ◌-◌, ◌<◌, ◌≤◌, ◌^◌, List, length, take, drop, nat_lt, if◌then◌else◌, Option, Some}
 use Rattle.mp4_box.specs.declared.headers.FourCc.{FourCc}
 use Rattle.mp4_box.specs.declared.headers.Header.{Header}
 use Rattle.mp4_box.specs.declared.headers.Size.{Size}
@@ -7,6 +7,8 @@ use Rattle.mp4_box.specs.declared.headers.Size.TheVariants.{Exact, ToEnd}
 use Rattle.mp4_box.specs.declared.rules.Fault.{Fault}
 use Rattle.mp4_box.specs.declared.rules.Rule.{Rule}
 use Rattle.mp4_box.specs.declared.rules.Rule.TheVariants.{Truncated, StreamTooLong}
+use Rattle.mp4_machine.specs.declared.body.AnyBody.{AnyBody}
+use Rattle.mp4_machine.specs.declared.body.AnyBody.TheVariants as bodies
 use Rattle.mp4_machine.specs.Readings.{Effects, silent, Sound, Faulty, CutOff, Reading, FirstItem, Last, Whole}
 
 -- no stream is followed further than this
@@ -41,3 +43,9 @@ open_body_item tell at kind needed left bytes =
     if nat_lt left (length bytes) then Last (record { effects = tell (take left bytes); outcome = Faulty (fault StreamTooLong (Some kind) at) })
     else if nat_lt (length bytes) needed then Last (record { effects = tell bytes; outcome = CutOff (fault Truncated (Some kind) at) })
     else Last (record { effects = tell bytes; outcome = Sound })
+
+-- the body behind the header of a box at `at`, by the size that it states
+abbrev pub IsBodyOf : ℕ → Header → AnyBody → Type 0
+IsBodyOf at h (bodies.Empty next) = (size : ℕ) × (h.size ≡ Exact size) × (size ≡ h.header_len) × (next ≡ at + size) × (next ≤ longest)
+IsBodyOf at h (bodies.Sized b) = (size : ℕ) × (h.size ≡ Exact size) × (h.header_len < size) × (b ≡ record { at = at; kind = h.kind; next = at + size; left = size - h.header_len }) × (at + size ≤ longest)
+IsBodyOf at h (bodies.Open b) = (h.size ≡ ToEnd) × (b ≡ record { at = at; kind = h.kind; needed = 0; left = longest - (at + h.header_len) }) × (at + h.header_len ≤ longest)

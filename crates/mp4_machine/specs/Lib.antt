@@ -5,6 +5,8 @@ pub mod Blocks
 pub mod Ends
 pub mod Puts
 pub mod Pieces
+pub mod Steps
+pub mod Standings
 pub mod StreamRuns
 pub mod Fed
 pub mod Holding

@@ -5,6 +5,7 @@
 //! - [`block`]: [`Block`], which gathers bytes and lines on their way to a sink ([`Line`]), with the ends of fragments among
 //!   them ([`mark`]: [`Mark`]), and [`held`]: [`Held`], a box in
 //!   claimed memory while it comes;
+//! - [`header_bytes`]: which bytes of a piece are a header's, and [`body`]: the bodies behind headers ([`Body`], [`OpenBody`]);
 //! - [`machine`]: [`Machine`], what takes the bytes of a stream as they come, and [`feed`], which feeds it the next piece;
 //! - [`run`]: [`read_stream`], which feeds it a whole stream.
 //!
@@ -18,6 +19,8 @@
 #![tactic(auto)]
 
 pub mod block;
+pub mod body;
+pub mod header_bytes;
 pub mod held;
 pub mod limits;
 pub mod machine;
@@ -27,6 +30,8 @@ pub mod stop;
 pub mod tally;
 
 pub use block::{BLOCK_BYTES, Block, LINE_BYTES, Line};
+pub use body::{AnyBody, Body, OpenBody, body_of, truncated};
+pub use header_bytes::{HeadTaken, take_head};
 pub use held::Held;
 pub use limits::{LONGEST, is_too_long, at_fault};
 pub use machine::{Machine, feed};

@@ -15,12 +15,12 @@ use Rattle.mp4_box.specs.declared.rules.Fault.{Fault}
 use Rattle.mp4_box.specs.Trees.{tree_faults}
 use Rattle.mp4_stream.specs.Holding.{held_lines, most_held}
 use Rattle.mp4_stream.specs.Listing.{box_line}
-use Rattle.mp4_machine.specs.Readings.{empty_reading, Last, after, after_effects, silent, says, requests_memory, Faulty, then_read, fault_in, early_in}
-use Rattle.mp4_machine.specs.Bodies.{cut_off, fault, least_end, longest, at_fault}
+use Rattle.mp4_machine.specs.Readings.{empty_reading, Last, after, after_effects, silent, says, requests_memory, Faulty, Sound, then_read, fault_in, early_in}
+use Rattle.mp4_machine.specs.Bodies.{cut_off, fault, least_end, longest, at_fault, open_body_item}
 use Rattle.mp4_stream.specs.Boxes.{passed, body, held_box, held_body, holding, box_by, box, top_box_by, top_box, reading}
-use Rattle.mp4_stream.specs.Places.{Place, InHeader, InBody, InHeld, InOpenBody, IsMachine, IsPlace, place_of, standing}
-use Rattle.mp4_stream.specs.declared.phase.Phase.{Phase}
-use Rattle.mp4_stream.specs.declared.phase.Phase.TheVariants as phases
+use Rattle.mp4_stream.specs.States.{IsState, in_header, standing}
+use Rattle.mp4_stream.specs.declared.state.State.{State}
+use Rattle.mp4_stream.specs.declared.state.State.TheVariants as states
 use Rattle.mp4_machine.specs.Holding.{Holding}
 use Rattle.mp4_machine.specs.Pieces.{IsQuiet}
 use Rattle.mp4_machine.specs.declared.stop.Stop.{Stop}
@@ -161,37 +161,26 @@ reading-bad_tree at kind size x later f fs len bad =
 
 -- ---- the end of the stream
 
-pub end-held : (at : ℕ) (held : List ℕ) → 0 < length held → length held < need held → fault_in ((standing (InHeader at held)).reads []).outcome ≡ Some (fault Truncated (kind_of held) at)
+pub end-held : (at : ℕ) (held : List ℕ) → 0 < length held → length held < need held → fault_in ((in_header at held).reads []).outcome ≡ Some (fault Truncated (kind_of held) at)
 end-held at held some short = ap (λ r. fault_in r.outcome) (ap (reading at) (append-nil held) ∙ reading-more at held some short)
 
-pub end-none : (at : ℕ) (held : List ℕ) → held ≡ [] → fault_in ((standing (InHeader at held)).reads []).outcome ≡ None
-end-none at held e = ap (λ l. fault_in ((standing (InHeader at l)).reads []).outcome) e ∙ ap (λ r. fault_in r.outcome) (reading-none at)
+pub end-none : (at : ℕ) (held : List ℕ) → held ≡ [] → fault_in ((in_header at held).reads []).outcome ≡ None
+end-none at held e = ap (λ l. fault_in ((in_header at l).reads []).outcome) e ∙ ap (λ r. fault_in r.outcome) (reading-none at)
 
--- at no place the end of the stream tells anything, and no fault is decided
-quiet-held : (at : ℕ) (held : List ℕ) → length held < need held → ((reading at held).effects ≡ silent) × (early_in (reading at held).outcome ≡ None)
-quiet-held at [] short = (ap (λ r. r.effects) (reading-none at), ap (λ r. early_in r.outcome) (reading-none at))
-quiet-held at (b ∷ held) short =
-    let cut = reading-more at (b ∷ held) (omega arith) short in (ap (λ r. r.effects) cut, ap (λ r. early_in r.outcome) cut)
+-- the end of the stream tells nothing wherever a machine stands, and no fault is decided
+quiet-head : (at : ℕ) (head : List ℕ) → length head < need head → ((reading at head).effects ≡ silent) × (early_in (reading at head).outcome ≡ None)
+quiet-head at [] short = (ap (λ r. r.effects) (reading-none at), ap (λ r. early_in r.outcome) (reading-none at))
+quiet-head at (b ∷ head) short =
+    let cut = reading-more at (b ∷ head) (omega arith) short in (ap (λ r. r.effects) cut, ap (λ r. early_in r.outcome) cut)
 
-pub place-quiet : (p : Place) → IsPlace p → IsQuiet (standing p)
-place-quiet (InHeader at held) h =
-    let quiet = quiet-held at held h.0 in
-    let same = append-nil held in
+pub state-quiet : (head : List ℕ) (s : State) → IsState head s → IsQuiet (standing head s)
+state-quiet head (states.Header at) i =
+    let quiet = quiet-head at head i.0 in
+    let same = append-nil head in
     record { effects = ap (λ l. (reading at l).effects) same ∙ quiet.0; early = ap (λ l. early_in (reading at l).outcome) same ∙ quiet.1 }
-place-quiet (InBody at kind next left) h =
-    let none = body-none reading at kind next passed left h.0 in record { effects = ap (λ r. r.effects) none; early = ap (λ r. early_in r.outcome) none }
-place-quiet (InHeld at kind size held) h =
-    let short = nat_lt_true (length (held ++ [])) size (omega (arith, length-append held [], h.0)) in record { effects = rw short refl; early = rw short refl }
-place-quiet (InOpenBody at kind left) h =
-    let none = open-none reading at kind 0 passed left in record { effects = ap (λ r. r.effects) none; early = ap (λ r. early_in r.outcome) none }
-
--- where a machine is by what it keeps is a place
-at-place : (head : List ℕ) (phase : Phase) (held : Option Holding) → IsMachine head phase held → IsPlace (place_of head phase held)
-at-place head (phases.Header at) None i = i
-at-place head (phases.Body at kind next left) None i = i.1
-at-place head (phases.OpenBody at kind left) None i = i.1
-at-place head phase (Some h) i = i.2
-
-pub machine-quiet : {T : Type 0} (result : Result T Stop) (head : List ℕ) (phase : Phase) (held : Option Holding) → OnOk result (IsMachine head phase held) → OnOk result (IsQuiet (standing (place_of head phase held)))
-machine-quiet (Ok t) head phase held i = place-quiet (place_of head phase held) (at-place head phase held i)
-machine-quiet (Err e) head phase held i = tt
+state-quiet head (states.Holding h) i =
+    let short = nat_lt_true (length (h.bytes ++ [])) h.size (omega (arith, length-append h.bytes [], i.1)) in record { effects = rw short refl; early = rw short refl }
+state-quiet head (states.Body b) i =
+    let none = body-none reading b.at b.kind b.next passed b.left i.1 in record { effects = ap (λ r. r.effects) none; early = ap (λ r. early_in r.outcome) none }
+state-quiet head (states.OpenBody b) i =
+    let none : then_read reading (open_body_item passed b.at b.kind b.needed b.left []) ≡ record { effects = silent; outcome = Sound } = rw i.2 (open-none reading b.at b.kind 0 passed b.left) in record { effects = ap (λ r. r.effects) none; early = ap (λ r. early_in r.outcome) none }

@@ -1,7 +1,7 @@
 pub mod BoxLemmas
 pub mod BoxGrowthLemmas
 pub mod BoxAskLemmas
-pub mod PlaceLemmas
+pub mod StateLemmas
 pub mod HoldingLemmas
 pub mod ListingLemmas
 pub mod JoinLemmas

@@ -4,7 +4,8 @@ pub mod Boxes
 pub mod Joined
 pub mod Rests
 pub mod HeldBoxes
-pub mod Places
+pub mod States
+pub mod Steps
 pub mod Fragments
 pub mod Feeders
 pub mod Pushes

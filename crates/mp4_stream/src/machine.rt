@@ -1,69 +1,63 @@
 //! A machine that lists the boxes of a stream, which it is fed as it comes.
 
 ghost use Rattle.std.specs.Prelude.{◌≡◌, ◌+◌, ◌-◌, ◌<◌, ◌≤◌, ◌↔◌, [], length, take, None, Some, IfOk, IfErr, OnOk, OnErr, IsErrOf, IsTrue};
-ghost use Rattle.mp4_box.specs.declared.rules.Rule.TheVariants.{Truncated};
 ghost use Rattle.mp4_ledger.specs.Memory.{given_back};
-ghost use Rattle.mp4_machine.specs.Bodies.{fault};
 ghost use Rattle.mp4_machine.specs.Readings.{fault_in, uncounted};
-ghost use Rattle.mp4_stream.specs.Places.{InHeader, IsPhase, claim_of, place_by, standing};
+ghost use Rattle.mp4_stream.specs.States.{begun, standing};
+ghost use Rattle.mp4_stream.specs.declared.state.State.TheVariants as states;
 
-use crate::intake::{Progress, take_held, take_unheld};
-use crate::phase::Phase;
-use mp4_box::{Fault, FourCc, HeaderReader, Rule};
+use crate::state::{State, Taken};
+use crate::step::{back_state, take_next};
+use mp4_box::{Fault, HeaderReader};
 use mp4_ends::Sink;
 use mp4_ledger::Ledger;
-use mp4_machine::{Block, Machine, Stop};
+use mp4_machine::{Block, Machine, Stop, truncated};
 use std::marker::Model;
+use std::mem::replace;
 
-/// A machine that lists boxes. While it holds a box its phase is the one behind that box. What it has claimed must be
-/// given back.
+/// A machine that lists boxes. What it has claimed must be given back.
 pub(crate) struct BoxMachine {
-    progress: Progress,
+    /// The bytes that came of a header.
     head: HeaderReader,
+    state: State,
 }
 
 // A contract sees where it is.
 impl Model for BoxMachine {
-    ghost use Rattle.mp4_stream.specs.Places.{Place, IsMachine, place_of};
+    ghost use Rattle.mp4_stream.specs.States.{IsState, Progress};
 
-    ghost Value = { Place };
+    ghost Value = { Progress };
 
-    ghost view = { λ m. place_of m.head m.progress.phase m.progress.held };
+    ghost view = { λ m. record { head = m.head; state = m.state } };
 
-    ghost invariant = { λ m. IsMachine m.head m.progress.phase m.progress.held };
+    ghost invariant = { λ m. IsState m.head m.state };
 }
 
 impl BoxMachine {
     /// A machine to which no byte has come.
     pub(crate) fn new() -> Self
-        ensures { result ≡ InHeader 0 [] }
+        ensures { result ≡ begun }
     {
         BoxMachine {
-            progress: Progress {
-                phase: Phase::Header { at: 0 },
-                held: None,
-            },
             head: HeaderReader::new(),
+            state: nothing_held(),
         }
     }
 
     /// Gives back all that is claimed.
     pub(crate) fn give_up(self, ledger: &mut Ledger)
-        requires { claim_of self ≤ ledger.old.live }
-        ensures { ledger.new ≡ given_back ledger.old (claim_of self) }
+        requires { (standing self.head self.state).claim ≤ ledger.old.live }
+        ensures { ledger.new ≡ given_back ledger.old (standing self.head self.state).claim }
     {
-        let BoxMachine { progress, head: _ } = self;
-        let Progress { phase: _, held } = progress;
-        if let Some(held) = held {
-            held.back(ledger);
-        }
+        let BoxMachine { head: _, state } = self;
+        back_state(state, ledger);
     }
 }
 
 impl Machine for BoxMachine {
     ghost task = { λ _. tt };
 
-    ghost stands = { λ m. standing m };
+    ghost stands = { λ m. standing m.head m.state };
 
     ghost counted = { λ _. uncounted };
 
@@ -74,60 +68,54 @@ impl Machine for BoxMachine {
         out: &mut Block,
         w: &mut W,
     ) -> Result<usize, Stop> {
-        if self.progress.held.is_none() {
-            let progress = &mut self.progress;
-            return take_unheld(progress, &mut self.head, piece, ledger, out, w);
-        }
-        match self.progress.held.take() {
-            Some(held) => {
-                let slot = &mut self.progress.held;
-                take_held(held, slot, piece, ledger, out, w)
+        let state = replace(&mut self.state, nothing_held());
+        match take_next(state, piece, &mut self.head, ledger, out, w) {
+            Ok(Taken { count, state }) => {
+                put_state(&mut self.state, state);
+                Ok(count)
             }
-            None => unreachable!(),
+            Err(stop) => Err(stop),
         }
     }
 
     fn finish(&self) -> Result<(), Fault> {
-        match &self.progress.held {
-            Some(held) => Err(truncated(Some(held.kind()), held.offset())),
-            None => end_of(self.progress.phase, &self.head),
+        match &self.state {
+            State::Header { at } => {
+                if self.head.is_empty() {
+                    return Ok(());
+                }
+                Err(truncated(self.head.kind(), *at))
+            }
+            State::Holding(held) => Err(truncated(Some(held.kind()), held.offset())),
+            State::Body(body) => Err(truncated(Some(body.kind), body.at)),
+            State::OpenBody(body) => body.end(),
         }
     }
 
     fn give_back(&mut self, ledger: &mut Ledger) {
-        if let Some(held) = self.progress.held.take() {
-            held.back(ledger);
-        }
+        back_state(replace(&mut self.state, nothing_held()), ledger);
+        self.head = HeaderReader::new();
     }
 }
 
-/// What the end of the stream means where no box is held.
-fn end_of(phase: Phase, head: &HeaderReader) -> Result<(), Fault>
-    requires { IsPhase head.now phase }
-    ensures ok { OnOk result
-        (fault_in ((standing (place_by head.now phase)).reads []).outcome ≡ None) }
-    ensures err { IfErr result (λ f. fault_in
-        ((standing (place_by head.now phase)).reads []).outcome ≡ Some f) }
+/// What is taken first, and kept behind a stop.
+#[inline(always)]
+fn nothing_held() -> State
+    ensures { result ≡ states.Header 0 }
 {
-    match phase {
-        Phase::Header { at } => {
-            if head.is_empty() {
-                return Ok(());
-            }
-            Err(truncated(head.kind(), at))
-        }
-        Phase::Body { at, kind, .. } => Err(truncated(Some(kind), at)),
-        Phase::OpenBody { .. } => Ok(()),
-    }
+    State::Header { at: 0 }
 }
 
-/// The stream ended in the box at `at`.
-fn truncated(kind: Option<FourCc>, at: u64) -> Fault
-    ensures { result ≡ fault Truncated kind at }
+/// Puts what is taken next where nothing was held.
+#[inline(always)]
+fn put_state(slot: &mut State, state: State)
+    requires { slot.old ≡ states.Header 0 }
+    ensures { slot.new ≡ state }
 {
-    Fault {
-        rule: Rule::Truncated,
-        kind,
-        offset: at,
+    match replace(slot, state) {
+        State::Header { at } => {
+            let _ = at;
+        }
+        _ => unreachable!(),
     }
 }

@@ -8,7 +8,7 @@ use Rattle.mp4_recut.specs.Plans.{plan_meaning, number_in}
 use Rattle.mp4_fragment_machine.specs.Places.{InBody, InHeader, reads_at, standing}
 use Rattle.mp4_fragment_machine.proofs.CopyLemmas.{GoesOn-says, GoesOn-says_over, Loses-says}
 use Rattle.mp4_fragment_machine.proofs.StepLemmas.{counted_stop, no_head}
-use Rattle.mp4_fragment_machine.proofs.TakeLemmas.{GoesOn-then}
+use Rattle.mp4_machine.proofs.StepLemmas.{GoesOn-then}
 use Rattle.mp4_fragment_machine.proofs.copied_box.take_copied.Goals as goal
 
 pub returns-in-Err : goal.returns-in-Err

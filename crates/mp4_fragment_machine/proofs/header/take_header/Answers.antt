@@ -1,7 +1,7 @@
 use Rattle.std.proofs.Common.{◌∙◌, arith, refl, sym}
 use Rattle.std.proofs.lemmas.List.{length-take-le}
 use Rattle.mp4_fragment_machine.proofs.StepLemmas.{comes_head, GoesTo-then, StopsIn-then}
-use Rattle.mp4_fragment_machine.proofs.TakeLemmas.{head_front, header_is}
+use Rattle.mp4_machine.proofs.HeadLemmas.{front-is, front-len, header_is}
 use Rattle.mp4_fragment_machine.proofs.header.take_header.Goals as goal
 
 pub returns-in-Ok-begin_box : goal.returns-in-Ok-begin_box
@@ -16,10 +16,10 @@ returns-in-Err g c =
     StopsIn-then c.in-Ok.header.header_len c.args.piece.now (comes_head c.args.kept.now c.args.at c.requires.can.claim (rw none refl)) c.in-Err.ensures
 
 pub begin_box-requires-clause-len : goal.begin_box-requires-clause-len
-begin_box-requires-clause-len g c = (head_front c.args.piece.now c.in-Ok.header (header_is (sym c.header_of.ensures.computed ∙ c.in-Ok.is))).len
+begin_box-requires-clause-len g c = front-len c.args.piece.now c.in-Ok.header (header_is (sym c.header_of.ensures.computed ∙ c.in-Ok.is))
 
 pub begin_box-requires-clause-is : goal.begin_box-requires-clause-is
-begin_box-requires-clause-is g c = (head_front c.args.piece.now c.in-Ok.header (header_is (sym c.header_of.ensures.computed ∙ c.in-Ok.is))).is
+begin_box-requires-clause-is g c = front-is c.args.piece.now c.in-Ok.header (header_is (sym c.header_of.ensures.computed ∙ c.in-Ok.is))
 
 pub slice_bounds-begin_box-end : goal.slice_bounds-begin_box-end
 slice_bounds-begin_box-end g c = sym (length-take-le c.in-Ok.header.header_len c.args.piece.now c.in-Ok.ensures.within.1)

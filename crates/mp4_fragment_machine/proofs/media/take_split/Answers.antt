@@ -14,7 +14,7 @@ use Rattle.mp4_fragment_machine.proofs.BodyLemmas.{Moves-settled, back_twice, cl
 use Rattle.mp4_fragment_machine.proofs.CountLemmas.{counted_recut}
 use Rattle.mp4_fragment_machine.proofs.RecutLemmas.{GoesOn-recut_over}
 use Rattle.mp4_fragment_machine.proofs.StepLemmas.{no_head}
-use Rattle.mp4_fragment_machine.proofs.TakeLemmas.{GoesOn-then}
+use Rattle.mp4_machine.proofs.StepLemmas.{GoesOn-then}
 use Rattle.mp4_fragment_machine.proofs.media.take_split.Goals as goal
 
 pub returns-in-Err : goal.returns-in-Err

@@ -1,0 +1,50 @@
+-- What bytes bring where machines stand alike.
+use Rattle.std.proofs.Common.{◌≡◌, ◌∙◌, ℕ, ◌-◌, ◌<◌, ◌≤◌, List, [], ◌++◌, length, length-append, length-take-le, min, take, Some, ap, arith, refl, sym}
+use Rattle.mp4_box.specs.declared.rules.Rule.TheVariants.{StreamTooLong}
+use Rattle.mp4_machine.specs.Bodies.{fault, longest, body_item, open_body_item}
+use Rattle.mp4_machine.specs.Pieces.{GoesOn, Moves, Outside, Refuses, Standing}
+use Rattle.mp4_machine.specs.Readings.{Reading, Effects, silent, then_read}
+use Rattle.mp4_machine.specs.Standings.{in_body, in_open_body}
+use Rattle.mp4_machine.specs.declared.body.Body.{Body}
+use Rattle.mp4_machine.specs.declared.body.OpenBody.{OpenBody}
+use Rattle.mp4_machine.proofs.BodyLemmas.{body-over, body-passed, open-far, open-some}
+use Rattle.mp4_machine.proofs.PieceLemmas.{GoesOn-silent, Refuses-there}
+use Rattle.mp4_machine.proofs.ReadingLemmas.{after-silent}
+
+module _ {C : Type 0} (reads : C → List ℕ → Reading) (next : C) (claim : ℕ) (o : Outside) where
+  -- ---- in a body that is passed over
+
+  -- some of it came
+  pub GoesOn-passed : (b : Body) (n : ℕ) (piece : List ℕ) → n ≡ min b.left (length piece) → b.left ≤ b.next
+      → GoesOn o o (in_body reads (λ _. silent) next claim b) (take n piece) (in_body reads (λ _. silent) next claim (record b { left = b.left - n }))
+  GoesOn-passed b n piece most low =
+      let x = take n piece in
+      let len : length x ≡ n = length-take-le n piece (omega (arith, most)) in
+      GoesOn-silent o (in_body reads (λ _. silent) next claim b) (in_body reads (λ _. silent) next claim (record b { left = b.left - n })) x refl (omega (arith, len, most, low))
+      (λ later. body-passed reads b.at b.kind next x later b.left (omega (arith, len, most)) ∙ ap (λ k. then_read reads (body_item (λ _. silent) b.at b.kind next (b.left - k) later)) len)
+
+  -- all of a body came, however it is told
+  pub GoesOn-over : (o' : Outside) (tell : List ℕ → Effects) (b : Body) (to : Standing) → b.left ≡ 0 → tell [] ≡ silent → Moves o o' claim to.claim silent → to.reached ≡ b.next → ((later : List ℕ) → reads next later ≡ to.reads later)
+      → GoesOn o o' (in_body reads tell next claim b) [] to
+  GoesOn-over o' tell b to over none m far f = record {
+    brought = silent;
+    moves = m;
+    reached = omega (arith, far, over);
+    rest = λ later. body-over reads b.at b.kind next tell b.left later over none ∙ f later ∙ sym (after-silent (to.reads later));
+  }
+
+  -- ---- in one that goes to the end of the stream
+
+  -- some of it came
+  pub GoesOn-open : (b : OpenBody) (x : List ℕ) → length x ≤ b.left → b.left ≤ longest
+      → GoesOn o o (in_open_body reads (λ _. silent) claim b) x (in_open_body reads (λ _. silent) claim (record b { needed = b.needed - length x; left = b.left - length x }))
+  GoesOn-open b x h low =
+      GoesOn-silent o (in_open_body reads (λ _. silent) claim b) (in_open_body reads (λ _. silent) claim (record b { needed = b.needed - length x; left = b.left - length x })) x refl (omega (arith, h, low))
+      (λ later. open-some reads b.at b.kind next (λ _. silent) (λ _. silent) silent x b.needed b.left (λ l. refl) h later ∙ after-silent _)
+
+  -- it goes too far
+  pub Refuses-far : (o' : Outside) (b : OpenBody) (x more : List ℕ) → Moves o o' claim 0 silent → b.left < length x
+      → Refuses o o' (in_open_body reads (λ _. silent) claim b) (x ++ more) (fault StreamTooLong (Some b.kind) b.at)
+  Refuses-far o' b x more m far =
+      Refuses-there o o' (in_open_body reads (λ _. silent) claim b) x more (fault StreamTooLong (Some b.kind) b.at) m
+      (λ later. open-far reads b.at b.kind next (λ _. silent) b.needed b.left (x ++ later) (omega (arith, far, length-append x later)))

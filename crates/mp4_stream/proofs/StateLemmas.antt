@@ -1,0 +1,247 @@
+-- What a machine that lists boxes brings by where it stands.
+use Rattle.std.proofs.Common.{◌≡◌, ℕ, ◌+◌, ◌-◌, ◌^◌, ◌<◌, ◌≤◌, List, [], ◌∷◌, ◌++◌, length, Bool, Option, Some, None, ap, sym, refl, ◌∙◌, arith, append-nil, append_assoc, length-append, take, drop, length-take-le, subst}
+use Rattle.std.proofs.Math.Seq.{take-length}
+use Rattle.mp4_box.specs.declared.headers.FourCc.{FourCc}
+use Rattle.mp4_box.specs.declared.headers.Header.{Header}
+use Rattle.mp4_box.specs.declared.headers.Size.TheVariants.{Exact, ToEnd}
+use Rattle.mp4_box.specs.declared.headers.Step.TheVariants as steps
+use Rattle.mp4_box.specs.declared.rules.Fault.{Fault}
+use Rattle.mp4_box.specs.declared.rules.Rule.TheVariants.{BadSize, StreamTooLong, TooLarge}
+use Rattle.mp4_box.specs.Headers.{need, header_at, kind_of}
+use Rattle.mp4_box.specs.Trees.{tree_faults}
+use Rattle.mp4_box.proofs.HeaderLemmas.{whole_is, need-least, need-most}
+use Rattle.mp4_ledger.specs.Memory.{claimed, given_back}
+use Rattle.mp4_ledger.specs.declared.ledger.Refused.{Refused}
+use Rattle.mp4_ledger.specs.declared.ledger.Refused.TheVariants as refusals
+use Rattle.mp4_machine.specs.Accounts.{Counts}
+use Rattle.mp4_machine.specs.Blocks.{Breaks, Passes, Pending}
+use Rattle.mp4_machine.specs.Bodies.{IsBodyOf, fault, least_end, longest}
+use Rattle.mp4_machine.specs.Holding.{Holding}
+use Rattle.mp4_machine.specs.Pieces.{Around, Outside, Standing, Moves, GoesOn, Refuses, Starves, Loses, StopsAt, refusal_of}
+use Rattle.mp4_machine.specs.Standings.{in_body, in_open_body}
+use Rattle.mp4_machine.specs.declared.body.AnyBody.TheVariants as bodies
+use Rattle.mp4_machine.specs.declared.body.Body.{Body}
+use Rattle.mp4_machine.specs.declared.body.OpenBody.{OpenBody}
+use Rattle.mp4_machine.specs.Readings.{then_read, silent, says, requests_memory, after}
+use Rattle.mp4_machine.proofs.AccountLemmas.{Counts-none, Counts-back, Spends-counts}
+use Rattle.mp4_machine.proofs.BlockLemmas.{Passes-none}
+use Rattle.mp4_machine.proofs.HeadLemmas.{apart, front-len, front-is, take-is}
+use Rattle.mp4_machine.proofs.HoldingLemmas.{found}
+use Rattle.mp4_machine.proofs.PieceLemmas.{sent_to, claimed_from, back_to, Moves-none, Moves-claim, GoesOn-silent, Loses-told, Refuses-there}
+use Rattle.mp4_machine.proofs.BodyLemmas.{body-over}
+use Rattle.mp4_machine.proofs.ReadingLemmas.{after-silent}
+use Rattle.mp4_machine.proofs.StepLemmas.{Comes, GoesTo-behind, StopsIn-behind}
+use Rattle.mp4_machine.specs.Steps.{GoesTo, StopsIn, unmoved}
+use Rattle.mp4_machine.specs.declared.stop.Stop.{Stop}
+use Rattle.mp4_machine.specs.declared.stop.Stop.TheVariants.{Write}
+use Rattle.mp4_machine.proofs.ReadingAskLemmas.{plus-none}
+use Rattle.mp4_stream.specs.Boxes.{box, body, held_body, passed, reading}
+use Rattle.mp4_stream.specs.Holding.{held_lines, most_held}
+use Rattle.mp4_stream.specs.Listing.{box_line}
+use Rattle.mp4_stream.specs.States.{HasCome, IsState, at_header, behind_header, box_of, in_box, in_header, standing}
+use Rattle.mp4_stream.specs.declared.state.State.{State}
+use Rattle.mp4_stream.specs.declared.state.State.TheVariants as states
+use Rattle.mp4_stream.proofs.BoxLemmas.{reading-whole, reading-bad, reading-begun, reading-too_long, reading-too_large, reading-held_to_end, reading-holds, reading-good, reading-bad_tree}
+
+pub reached-most : (head : List ℕ) (s : State) → IsState head s → (standing head s).reached ≤ 2 ^ 62 + 31
+reached-most head (states.Header at) h = omega (arith, h.0, h.1, need-most head)
+reached-most head (states.Holding b) h = omega (arith, h.1, h.2)
+reached-most head (states.Body b) h = omega (arith, h.3)
+reached-most head (states.OpenBody b) h = omega arith
+
+-- ---- bytes of which nothing is told yet
+
+-- bytes of a header
+pub GoesOn-head : (o : Outside) (at : ℕ) (old x new : List ℕ) → new ≡ old ++ x → GoesOn o o (in_header at old) x (in_header at new)
+GoesOn-head o at old x new e =
+    GoesOn-silent o (in_header at old) (in_header at new) x refl (omega (arith, ap length e, length-append old x))
+    (λ later. ap (reading at) (sym (append_assoc old x later) ∙ ap (λ l. l ++ later) (sym e)))
+
+pub comes_head : {a : Around} (at : ℕ) (old : List ℕ) {x new : List ℕ} → new ≡ old ++ x → Comes a a.before (in_header at old) x (in_header at new)
+comes_head {a = a} at old {x = x} {new = new} e = record { claim = omega arith; goes = GoesOn-head a.before at old x new e }
+
+-- what a header brings that came byte by byte, it brings at once
+pub GoesTo-begun : {a : Around} (at : ℕ) (head : List ℕ) {s : Standing} → GoesTo a (at_header at) head s → GoesTo a (in_header at head) [] s
+GoesTo-begun {a = a} at head {s = s} g = GoesTo-behind head refl (λ later. refl) [] (omega arith) (subst (λ l. GoesTo a (at_header at) l s) (sym (append-nil head)) g)
+
+pub StopsIn-begun : {a : Around} (at : ℕ) (head : List ℕ) {e : Stop} → StopsIn a (at_header at) head e → StopsIn a (in_header at head) [] e
+StopsIn-begun at head h = StopsIn-behind head refl (λ later. refl) h
+
+-- all bytes of a header are taken
+pub all_taken : {n : ℕ} {x : List ℕ} {h : Header} → n ≤ length x → h.header_len ≤ n → length x ≤ need x → header_at x ≡ steps.Whole h → take n x ≡ x
+all_taken {n = n} {x = x} {h = h} most all len is =
+    let same : n ≡ length x = omega (arith, (whole_is x h is).1, most, all, len) in
+    ap (λ k. take k x) same ∙ take-length x
+
+-- the bytes of a header that came are none
+pub Refuses-bad : (o : Outside) (at : ℕ) (head more : List ℕ) → length head ≡ need head → header_at head ≡ steps.BadSize → Refuses o o (in_header at head) more (fault BadSize (kind_of head) at)
+Refuses-bad o at head more len is = record {
+  brought = silent;
+  moves = Moves-none o 0;
+  rest = λ later. reading-bad at head (more ++ later) len is;
+}
+
+-- ---- a piece x that begins with the header of a box
+
+-- it is the header, and what stands behind it
+reading-begins : (at : ℕ) (h : Header) (x later : List ℕ) → header_at x ≡ steps.Whole h → reading at (x ++ later) ≡ then_read reading (box at h (take h.header_len x) (drop h.header_len x ++ later))
+reading-begins at h x later is =
+    ap (reading at) (sym (apart h.header_len x later)) ∙ reading-whole at (take h.header_len x) (drop h.header_len x ++ later) h (front-len x h is) (front-is x h is)
+
+module _ (o : Outside) (at : ℕ) (h : Header) (x : List ℕ) (is : header_at x ≡ steps.Whole h) where
+  -- the box goes past the longest stream
+  pub Refuses-far : (more : List ℕ) → longest < least_end at h h.size → Refuses o o (at_header at) (x ++ more) (fault StreamTooLong (Some h.kind) at)
+  Refuses-far more far = Refuses-there o o (at_header at) x more (fault StreamTooLong (Some h.kind) at) (Moves-none o 0)
+      (λ later. reading-begins at h x later is ∙ reading-too_long at h (take h.header_len x) (drop h.header_len x ++ later) far)
+
+  -- its line was written
+  pub GoesOn-line : (u : Option (List ℕ)) (v : Pending) → least_end at h h.size ≤ longest → most_held h.kind.0 ≡ None → Passes o.written u o.waiting v (box_line at h)
+      → GoesOn o (sent_to o u v) (at_header at) (take h.header_len x) (behind_header at h)
+  GoesOn-line u v near loose q =
+      let y = take h.header_len x in
+      record {
+        brought = says (box_line at h);
+        moves = record { passes = q; counts = Counts-none o.account 0; tallied = sym (plus-none o.tally) };
+        reached = omega (arith, length-take-le h.header_len x (omega (arith, (whole_is x h is).0, (whole_is x h is).1)));
+        rest = λ later. reading-whole at y later h (front-len x h is) (front-is x h is) ∙ reading-begun at h y later near loose;
+      }
+
+  -- its line can't be written
+  pub Loses-line : (u : Option (List ℕ)) (v : Pending) (more later : List ℕ) → least_end at h h.size ≤ longest → most_held h.kind.0 ≡ None
+      → Breaks o.written u o.waiting v (box_line at h) → Loses o (sent_to o u v) 0 (reading at ((x ++ more) ++ later))
+  Loses-line u v more later near loose p =
+      let rest = drop h.header_len x ++ (more ++ later) in
+      Loses-told o (sent_to o u v) 0 (says (box_line at h)) (then_read reading (body at h h.size rest)) (reading at ((x ++ more) ++ later))
+      (ap (reading at) (append_assoc x more later) ∙ reading-begins at h x (more ++ later) is ∙ reading-begun at h (take h.header_len x) rest near loose) p (Spends-counts o.account o.account 0 0 0 (Counts-none o.account 0)) (sym (plus-none o.tally))
+
+  -- it is to be held, and has no size or one that is too large
+  pub Refuses-large : (more : List ℕ) (limit s : ℕ) → at + s ≤ longest → most_held h.kind.0 ≡ Some limit → h.size ≡ Exact s → limit < s → Refuses o o (at_header at) (x ++ more) (fault TooLarge (Some h.kind) at)
+  Refuses-large more limit s near held size large =
+      Refuses-there o o (at_header at) x more (fault TooLarge (Some h.kind) at) (Moves-none o 0)
+      (λ later. reading-begins at h x later is ∙ reading-too_large at h (take h.header_len x) (drop h.header_len x ++ later) limit s near held size large)
+
+  pub Refuses-open : (more : List ℕ) (limit : ℕ) → at + h.header_len ≤ longest → most_held h.kind.0 ≡ Some limit → h.size ≡ ToEnd → Refuses o o (at_header at) (x ++ more) (fault TooLarge (Some h.kind) at)
+  Refuses-open more limit near held size =
+      Refuses-there o o (at_header at) x more (fault TooLarge (Some h.kind) at) (Moves-none o 0)
+      (λ later. reading-begins at h x later is ∙ reading-held_to_end at h (take h.header_len x) (drop h.header_len x ++ later) limit near held size)
+
+-- a claim that is refused is no failed write
+not_written : (r : Refused) → refusal_of r ≡ Write → ⊥
+not_written refusals.OverLimit e = absurd cc
+not_written refusals.Memory e = absurd cc
+
+-- ---- its body, which is passed over
+
+module _ (o : Outside) (at : ℕ) (h : Header) where
+  pub GoesOn-empty : (next : ℕ) → IsBodyOf at h (bodies.Empty next) → GoesOn o o (behind_header at h) [] (at_header next)
+  GoesOn-empty next (size, is, all, far, near) =
+      GoesOn-silent o (behind_header at h) (at_header next) [] refl (omega (arith, far, all))
+      (λ later. rw (is, far) (body-over reading at h.kind (at + size) passed (size - h.header_len) later (omega (arith, all)) refl))
+
+  pub GoesOn-sized : (b : Body) → IsBodyOf at h (bodies.Sized b) → GoesOn o o (behind_header at h) [] (standing [] (states.Body b))
+  GoesOn-sized b (size, is, room, same, near) =
+      rw same (GoesOn-silent o (behind_header at h) (in_body reading passed (at + size) 0 (record { at = at; kind = h.kind; next = at + size; left = size - h.header_len })) [] refl (omega (arith, room))
+      (λ later. rw is refl))
+
+  pub GoesOn-to_end : (b : OpenBody) → IsBodyOf at h (bodies.Open b) → GoesOn o o (behind_header at h) [] (standing [] (states.OpenBody b))
+  GoesOn-to_end b (is, same, near) =
+      rw same (GoesOn-silent o (behind_header at h) (in_open_body reading passed 0 (record { at = at; kind = h.kind; needed = 0; left = longest - (at + h.header_len) })) [] refl (omega (arith, near))
+      (λ later. rw is refl))
+
+pub state-sized : (at : ℕ) (h : Header) (b : Body) → IsBodyOf at h (bodies.Sized b) → IsState [] (states.Body b)
+state-sized at h b (size, is, room, same, near) = rw same (refl, omega (arith, room), omega arith, near)
+
+-- ---- a piece x that begins with the header of a box that is to be held
+
+module _ (o : Outside) (at : ℕ) (h : Header) (x : List ℕ) (is : header_at x ≡ steps.Whole h) (limit s : ℕ) (near : at + s ≤ longest) (held : most_held h.kind.0 ≡ Some limit) (size : h.size ≡ Exact s) (fits : s ≤ limit) where
+  reading-claims : (later : List ℕ) → reading at (x ++ later) ≡ after (requests_memory at s) (then_read reading (held_body at h.kind s (x ++ later)))
+  reading-claims later =
+      reading-begins at h x later is ∙ reading-holds at h (take h.header_len x) (drop h.header_len x ++ later) limit s near held size fits
+      ∙ ap (λ l. after (requests_memory at s) (then_read reading (held_body at h.kind s l))) (apart h.header_len x later)
+
+  -- room for it was claimed
+  pub GoesOn-claim : 0 < s → GoesOn o (claimed_from o s) (at_header at) x (in_box (record { at = at; kind = h.kind; size = s; bytes = x }))
+  GoesOn-claim some = record {
+    brought = requests_memory at s;
+    moves = subst (λ n. Moves o (claimed_from o s) 0 n (requests_memory at n)) (omega arith) (Moves-claim o 0 s at (omega arith) (omega arith));
+    reached = omega arith;
+    rest = reading-claims;
+  }
+
+  -- and it was not
+  Starves-claim : (more : List ℕ) → Starves o o (at_header at) (x ++ more)
+  Starves-claim more = record {
+    brought = silent;
+    moves = Moves-none o 0;
+    at = at;
+    sum = s;
+    continues = λ later. then_read reading (held_body at h.kind s (x ++ (more ++ later)));
+    rest = λ later. ap (reading at) (append_assoc x more later) ∙ reading-claims (more ++ later) ∙ sym (after-silent _);
+  }
+
+  pub StopsAt-refused : (more : List ℕ) (r : Refused) → (r ≡ refusals.OverLimit → o.account.limit < o.account.live + s) → (r ≡ refusals.Memory → o.account.live + s ≤ o.account.limit) → StopsAt o o (at_header at) (x ++ more) (refusal_of r)
+  unfolding Starves-claim
+  StopsAt-refused more refusals.OverLimit over within = (Starves-claim more, omega (arith, over refl))
+  StopsAt-refused more refusals.Memory over within = (Starves-claim more, omega (arith, within refl))
+
+  pub StopsIn-starved : {failed : Bool} (r : Refused) → (r ≡ refusals.OverLimit → o.account.limit < o.account.live + s) → (r ≡ refusals.Memory → o.account.live + s ≤ o.account.limit) → StopsIn (unmoved o failed) (at_header at) x (refusal_of r)
+  StopsIn-starved r over within = record { stops = λ more. StopsAt-refused more r over within; failed = λ e. absurd (not_written r e); unfailed = λ _. refl }
+
+-- that box, where a piece has all of it
+abbrev pub box_come : ℕ → Header → ℕ → List ℕ → Holding
+box_come at h size piece = record { at = at; kind = h.kind; size = size; bytes = take size piece }
+
+-- its bytes, and the room that was claimed for them
+pub record ComesWhole (o : Outside) (at : ℕ) (h : Header) (size : ℕ) (piece : List ℕ) : Type 0 where
+  pub some : 0 < size
+  pub goes : GoesOn o (claimed_from o size) (at_header at) (take size piece) (in_box (box_come at h size piece))
+  pub come : HasCome (box_come at h size piece) (claimed o.account size) (box_of at h (take size piece))
+
+pub come_whole : (o : Outside) (at : ℕ) (h : Header) (piece : List ℕ) → header_at piece ≡ steps.Whole h → (limit size : ℕ) → at + size ≤ longest → most_held h.kind.0 ≡ Some limit → h.size ≡ Exact size → size ≤ limit → (h.header_len ≤ size) × (size ≤ length piece) → ComesWhole o at h size piece
+come_whole o at h piece is limit size near held sized fits room =
+    let x = take size piece in
+    let w = whole_is piece h is in
+    let some : 0 < size = omega (arith, room.0, w.1, need-least piece) in
+    let len : length x ≡ size = length-take-le size piece room.1 in
+    let front = take-is size piece h is room.0 in
+    record {
+      some = some;
+      goes = GoesOn-claim o at h x front limit size near held sized fits some;
+      come = record { is = found at x h front (sized ∙ ap Exact (sym len)); len = len; claim = omega arith };
+    }
+
+-- ---- a box that is held
+
+-- more of it came
+pub GoesOn-held : (o : Outside) (b : Holding) (x : List ℕ) → GoesOn o o (in_box b) x (in_box (record b { bytes = b.bytes ++ x }))
+GoesOn-held o b x =
+    GoesOn-silent o (in_box b) (in_box (record b { bytes = b.bytes ++ x })) x refl (omega (arith, length-append b.bytes x))
+    (λ later. ap (λ l. then_read reading (held_body b.at b.kind b.size l)) (sym (append_assoc b.bytes x later)))
+
+pub comes_held : {a : Around} (b : Holding) {x : List ℕ} → b.size ≤ a.before.account.live → Comes a a.before (in_box b) x (in_box (record b { bytes = b.bytes ++ x }))
+comes_held {a = a} b {x = x} low = record { claim = low; goes = GoesOn-held a.before b x }
+
+module _ (o : Outside) (b : Holding) (low : b.size ≤ o.account.live) (len : length b.bytes ≡ b.size) where
+  Counts-given : Counts o.account (given_back o.account b.size) b.size 0 0
+  Counts-given = subst (λ n. Counts o.account (given_back o.account b.size) b.size n 0) (omega arith) (Counts-back o.account b.size b.size (omega arith) low)
+
+  -- all of it came, its tree is good, and it was listed and given back
+  pub GoesOn-good : (u : Option (List ℕ)) (v : Pending) → tree_faults b.at b.bytes ≡ [] → Passes o.written u o.waiting v (held_lines b.at b.bytes)
+      → GoesOn o (sent_to (back_to o b.size) u v) (in_box b) [] (at_header (b.at + b.size))
+  GoesOn-good u v good p = record {
+    brought = says (held_lines b.at b.bytes);
+    moves = record { passes = p; counts = Counts-given; tallied = sym (plus-none o.tally) };
+    reached = omega (arith, len);
+    rest = λ later. reading-good b.at b.kind b.size b.bytes later len good;
+  }
+
+  pub Loses-good : (u : Option (List ℕ)) (v : Pending) (later : List ℕ) → tree_faults b.at b.bytes ≡ [] → Breaks o.written u o.waiting v (held_lines b.at b.bytes) → Loses o (sent_to (back_to o b.size) u v) b.size (then_read reading (held_body b.at b.kind b.size (b.bytes ++ later)))
+  Loses-good u v later good p = Loses-told o (sent_to (back_to o b.size) u v) b.size (says (held_lines b.at b.bytes)) (reading (b.at + b.size) later) (then_read reading (held_body b.at b.kind b.size (b.bytes ++ later)))
+      (reading-good b.at b.kind b.size b.bytes later len good) p (Spends-counts o.account (given_back o.account b.size) b.size 0 0 Counts-given) (sym (plus-none o.tally))
+
+  pub Refuses-tree : (more : List ℕ) (f : Fault) (fs : List Fault) → tree_faults b.at b.bytes ≡ f ∷ fs → Refuses o (back_to o b.size) (in_box b) more f
+  Refuses-tree more f fs bad = record {
+    brought = silent;
+    moves = record { passes = Passes-none o.written o.waiting; counts = Counts-given; tallied = sym (plus-none o.tally) };
+    rest = λ later. reading-bad_tree b.at b.kind b.size b.bytes (more ++ later) f fs len bad;
+  }

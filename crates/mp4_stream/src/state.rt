@@ -1,0 +1,21 @@
+//! What a machine takes next that lists boxes.
+
+use mp4_machine::{Body, Held, OpenBody};
+
+/// What a machine takes next.
+pub(crate) enum State {
+    /// A byte of the header of the box at `at`.
+    Header { at: u64 },
+    /// Bytes of a moov or moof.
+    Holding(Held),
+    /// Bytes of a body.
+    Body(Body),
+    /// Bytes of a body that goes to the end of the stream.
+    OpenBody(OpenBody),
+}
+
+/// Bytes that were taken from the front of a piece: how many, and what is taken next.
+pub(crate) struct Taken {
+    pub(crate) count: usize,
+    pub(crate) state: State,
+}
