@@ -6,7 +6,7 @@
 //! - [`laws`]: what the definitions of `specs/` imply.
 //!
 //! The definitions: `specs/Items.antt` (what stands at the front of some bytes, and what is told of it) with
-//! `specs/Contexts.antt` (what is known where an item begins) and `specs/Kinds.antt`; `specs/Makings.antt` (what a
+//! `specs/Contexts.antt` (what is known where an item begins) and `specs/Kinds.antt`; `specs/Meanings.antt` (what a
 //! command makes of a fragment), `specs/Samples.antt` (the samples of a fragment and their lines), `specs/Commands.antt`
 //! (the commands). The laws speak of `specs/Joined.antt` (whole items one after the other), `specs/Rests.antt` (what may be
 //! left behind them), `specs/HeldSizes.antt` (how large the boxes are that are held), `specs/Counts.antt` (what is counted

@@ -13,7 +13,7 @@
 //! is told as it comes), `specs/Holding.antt` (a box that is held while it comes), `specs/Pieces.antt` (what a machine
 //! brings that is fed the stream piece by piece), with `specs/Accounts.antt` (what it does to a ledger) and
 //! `specs/Blocks.antt` (what goes by way of a block) and `specs/Fed.antt` (the same by the bytes that came so far),
-//! `specs/Runs.antt` (what a run over a whole stream brings) with `specs/Ends.antt` (what its two ends tell), and
+//! `specs/StreamRuns.antt` (what a run over a whole stream brings) with `specs/Ends.antt` (what its two ends tell), and
 //! `specs/Puts.antt` (what a call does that puts text into a block). They name no command: a command says what stands at
 //! the front of some bytes, and its machine keeps the clauses of [`Machine`].
 #![tactic(auto)]

@@ -18,7 +18,7 @@
 //! `specs/Steps.antt` (what a step of it brings),
 //! `specs/Fragments.antt` (what a run brings that reads fragments), `specs/Feeders.antt` (what a Feeder is behind the bytes
 //! that it was fed, and what a call of it brings) with `specs/Pushes.antt` (what pieces bring, one after the other). What a
-//! run answers, writes and claims is said by `mp4_machine`, in `specs/Runs.antt`.
+//! run answers, writes and claims is said by `mp4_machine`, in `specs/StreamRuns.antt`.
 #![tactic(auto)]
 
 mod body;
