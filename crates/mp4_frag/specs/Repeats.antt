@@ -1,11 +1,10 @@
 -- Track fragments without a base time of their own, behind others of their track.
-use Rattle.std.specs.Prelude.{ℕ, zero, suc, Bool, true, false, List, [], ◌∷◌, ◌++◌, Option, Some, None, ◌==◌, ◌+◌, ◌/◌, ◌&&◌, nat_lt, if◌then◌else◌, replicate, slice_set, take, drop}
+use Rattle.std.specs.Prelude.{ℕ, Bool, true, false, List, [], ◌∷◌, ◌++◌, ◌==◌, ◌&&◌, if◌then◌else◌, take, drop}
 use Rattle.std.specs.Option.{is_none}
 use Rattle.mp4_box.specs.declared.rules.Fault.{Fault}
 use Rattle.mp4_box.specs.declared.rules.Rule.TheVariants.{Unsupported}
 use Rattle.mp4_box.specs.Trees.{Box, children, first_of}
 use Rattle.mp4_box.specs.Paths.{of_kind, at_path}
-use Rattle.mp4_init.specs.Working.OrderedIds.{sought}
 use Rattle.mp4_frag.specs.Fields.{payload_of}
 use Rattle.mp4_frag.specs.Kinds.{traf, tfhd, tfdt}
 use Rattle.mp4_frag.specs.Tfhd.{track_id}

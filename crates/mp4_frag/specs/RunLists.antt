@@ -1,17 +1,11 @@
 -- The runs of a moof in the order in which they are taken, in a list, and which of them is at fault.
-use Rattle.std.specs.Prelude.{ℕ, ◌≡◌, List, map, Option}
-use Rattle.std.specs.List.Sorted.{IsNonDecreasingBy, IsPermutation}
+use Rattle.std.specs.Prelude.{List, map}
 use Rattle.mp4_init.specs.declared.table.Track.{Track}
 use Rattle.mp4_run_order.specs.declared.runs.ListedRun.{ListedRun}
-use Rattle.mp4_run_order.specs.Orders.{IsTrackOrder, taken, taken_by}
-use Rattle.mp4_run_order.specs.Runs.{IsListing}
-use Rattle.mp4_run_order.specs.Working.Searches.{found_by_track}
+use Rattle.mp4_run_order.specs.Orders.{taken_by}
 use Rattle.mp4_frag.specs.declared.run.Run.{Run}
-use Rattle.mp4_frag.specs.declared.run_row.RunRow.{RunRow}
 use Rattle.mp4_frag.specs.Moofs.{moof_runs}
 use Rattle.mp4_frag.specs.Runs.{MoofBytes}
-use Rattle.mp4_frag.specs.Working.Rereads.{run_of_row}
-use Rattle.mp4_frag.specs.Working.RunRows.{listed_row, listed_words, place_word, track_word}
 use Rattle.mp4_frag.specs.Places.{listed_run}
 
 -- the runs of a moof as the rule of their places sees them, in listing order

@@ -3,14 +3,11 @@ use Rattle.std.specs.Prelude.{ℕ, ℤ, pos, List, [], ◌∷◌, Option, Some, 
 use Rattle.std.specs.List.{fold}
 use Rattle.std.specs.Option.{unwrap_or}
 use Rattle.mp4_box.specs.Fields.{version_in}
-use Rattle.mp4_box.specs.declared.box_ref.BoxRef.{BoxRef}
-use Rattle.mp4_box.specs.Trees.{Box, children, first_of, payload_offset, view}
+use Rattle.mp4_box.specs.Trees.{Box, children, first_of, payload_offset}
 use Rattle.mp4_box.specs.Paths.{of_kind, at_path}
 use Rattle.mp4_init.specs.declared.table.Track.{Track}
 use Rattle.mp4_frag.specs.declared.run.Run.{Run}
-use Rattle.mp4_frag.specs.declared.runs.Behind.{Behind}
 use Rattle.mp4_frag.specs.declared.traf.TrafHeader.{TrafHeader}
-use Rattle.mp4_frag.specs.declared.traf.TrafContext.{TrafContext}
 use Rattle.mp4_frag.specs.Kinds.{traf, tfhd, tfdt, trun}
 use Rattle.mp4_frag.specs.Fields.{flags_in, number_or, payload_of}
 use Rattle.mp4_frag.specs.Tfdt.{base_media_decode_time}

@@ -1,5 +1,5 @@
 -- Where the tracks end behind a moof.
-use Rattle.std.specs.Prelude.{ℕ, List, [], ◌∷◌, Option, Some, None, ◌+◌, ◌==◌, if◌then◌else◌, ◌≡◌}
+use Rattle.std.specs.Prelude.{ℕ, List, Option, Some, None, ◌==◌, if◌then◌else◌}
 use Rattle.std.specs.List.{fold, position, sum_by}
 use Rattle.mp4_box.specs.Trees.{Box}
 use Rattle.mp4_box.specs.Paths.{at_path}
@@ -8,8 +8,7 @@ use Rattle.mp4_init.specs.Tracks.{with_next}
 use Rattle.mp4_frag.specs.Kinds.{to_trun}
 use Rattle.mp4_frag.specs.Fields.{flags_in}
 use Rattle.mp4_frag.specs.Trun.{sample_count, sample_duration_present}
-use Rattle.mp4_frag.specs.Runs.{MoofBytes, Shared, TrackFragment, end_of, traf_of}
-use Rattle.mp4_frag.specs.Working.Times.{ticks_in, late_from}
+use Rattle.mp4_frag.specs.Runs.{TrackFragment, end_of}
 
 -- the tracks, where the one at this place ended at `next`
 abbrev pub ended_at : Option ℕ → ℕ → List Track → List Track

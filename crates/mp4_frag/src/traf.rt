@@ -151,7 +151,7 @@ impl<'a> Model for Traf<'a> {
     ghost use Rattle.std.specs.List.{AllByRecursion};
     ghost use Rattle.mp4_frag.specs.Ranges.{InRange};
     ghost use Rattle.mp4_frag.specs.Runs.{moof_at, runs_of, TrackFragment};
-ghost use Rattle.mp4_frag.specs.Working.TrafContexts.{track_fragment};
+    ghost use Rattle.mp4_frag.specs.Working.TrafContexts.{track_fragment};
 
     ghost Value = { TrackFragment };
 

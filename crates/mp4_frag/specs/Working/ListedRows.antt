@@ -3,16 +3,13 @@ use Rattle.std.specs.Prelude.{ℕ, ◌≡◌, List, map, Option}
 use Rattle.std.specs.List.Sorted.{IsNonDecreasingBy, IsPermutation}
 use Rattle.mp4_init.specs.declared.table.Track.{Track}
 use Rattle.mp4_run_order.specs.declared.runs.ListedRun.{ListedRun}
-use Rattle.mp4_run_order.specs.Orders.{IsTrackOrder, taken, taken_by}
+use Rattle.mp4_run_order.specs.Orders.{IsTrackOrder, taken}
 use Rattle.mp4_run_order.specs.Runs.{IsListing}
 use Rattle.mp4_run_order.specs.Working.Searches.{found_by_track}
-use Rattle.mp4_frag.specs.declared.run.Run.{Run}
 use Rattle.mp4_frag.specs.declared.run_row.RunRow.{RunRow}
-use Rattle.mp4_frag.specs.Moofs.{moof_runs}
 use Rattle.mp4_frag.specs.Runs.{MoofBytes}
 use Rattle.mp4_frag.specs.Working.Rereads.{run_of_row}
 use Rattle.mp4_frag.specs.Working.RunRows.{listed_row, listed_words, place_word, track_word}
-use Rattle.mp4_frag.specs.Places.{listed_run}
 use Rattle.mp4_frag.specs.RunLists.{moof_listing, taken_runs}
 
 -- rows of runs, and what was found in them by track

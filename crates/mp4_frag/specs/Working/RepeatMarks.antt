@@ -1,15 +1,7 @@
 -- Working: how trafs without a tfdt are found that come behind others of their track: some of their track_IDs in order, and which of these were listed.
-use Rattle.std.specs.Prelude.{ℕ, zero, suc, Bool, true, false, List, [], ◌∷◌, ◌++◌, Option, Some, None, ◌==◌, ◌+◌, ◌/◌, ◌&&◌, nat_lt, if◌then◌else◌, replicate, slice_set, take, drop}
-use Rattle.std.specs.Option.{is_none}
-use Rattle.mp4_box.specs.declared.rules.Fault.{Fault}
-use Rattle.mp4_box.specs.declared.rules.Rule.TheVariants.{Unsupported}
-use Rattle.mp4_box.specs.Trees.{Box, children, first_of}
-use Rattle.mp4_box.specs.Paths.{of_kind, at_path}
+use Rattle.std.specs.Prelude.{ℕ, Bool, true, false, List, [], ◌∷◌, Option, Some, None, replicate, slice_set}
+use Rattle.mp4_box.specs.Trees.{Box}
 use Rattle.mp4_init.specs.Working.OrderedIds.{sought}
-use Rattle.mp4_frag.specs.Fields.{payload_of}
-use Rattle.mp4_frag.specs.Kinds.{traf, tfhd, tfdt}
-use Rattle.mp4_frag.specs.Tfhd.{track_id}
-use Rattle.mp4_frag.specs.Rules.{fault_if}
 use Rattle.mp4_frag.specs.Repeats.{traf_id}
 
 abbrev pub marked_at : List Bool → Option ℕ → List Bool

@@ -1,5 +1,5 @@
 -- Working: how the runs behind a run are found, by where its trun and its traf end.
-use Rattle.std.specs.Prelude.{◌≡◌, ℕ, List, ◌∷◌, ◌+◌, ◌++◌, length, slice_range}
+use Rattle.std.specs.Prelude.{ℕ, List, ◌+◌, ◌++◌, length, slice_range}
 use Rattle.std.specs.List.{flat_map}
 use Rattle.mp4_box.specs.Trees.{Box, boxes}
 use Rattle.mp4_box.specs.Paths.{of_kind}

@@ -1,14 +1,8 @@
 -- Working: how it is worked out where the tracks end behind a moof: traf after traf, with the tracks as they are.
-use Rattle.std.specs.Prelude.{ℕ, List, [], ◌∷◌, Option, Some, None, ◌+◌, ◌==◌, if◌then◌else◌, ◌≡◌}
-use Rattle.std.specs.List.{fold, position, sum_by}
+use Rattle.std.specs.Prelude.{ℕ, List, [], ◌∷◌, ◌+◌, ◌≡◌}
 use Rattle.mp4_box.specs.Trees.{Box}
-use Rattle.mp4_box.specs.Paths.{at_path}
 use Rattle.mp4_init.specs.declared.table.Track.{Track}
-use Rattle.mp4_init.specs.Tracks.{with_next}
-use Rattle.mp4_frag.specs.Kinds.{to_trun}
-use Rattle.mp4_frag.specs.Fields.{flags_in}
-use Rattle.mp4_frag.specs.Trun.{sample_count, sample_duration_present}
-use Rattle.mp4_frag.specs.Runs.{MoofBytes, Shared, TrackFragment, end_of, traf_of}
+use Rattle.mp4_frag.specs.Runs.{MoofBytes, Shared, TrackFragment, traf_of}
 use Rattle.mp4_frag.specs.Working.Times.{ticks_in, late_from}
 use Rattle.mp4_frag.specs.Settling.{ended}
 

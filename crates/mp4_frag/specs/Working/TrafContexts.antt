@@ -1,23 +1,12 @@
 -- Working: what the code keeps of a traf while it goes over its runs.
-use Rattle.std.specs.Prelude.{ℕ, ℤ, pos, List, [], ◌∷◌, Option, Some, None, ◌+◌, ◌-◌, ◌+ℤ◌, length, map}
-use Rattle.std.specs.List.{fold}
-use Rattle.std.specs.Option.{unwrap_or}
-use Rattle.mp4_box.specs.Fields.{version_in}
+use Rattle.std.specs.Prelude.{ℕ, List}
 use Rattle.mp4_box.specs.declared.box_ref.BoxRef.{BoxRef}
-use Rattle.mp4_box.specs.Trees.{Box, children, first_of, payload_offset, view}
-use Rattle.mp4_box.specs.Paths.{of_kind, at_path}
-use Rattle.mp4_init.specs.declared.table.Track.{Track}
+use Rattle.mp4_box.specs.Trees.{Box, children, view}
+use Rattle.mp4_box.specs.Paths.{of_kind}
 use Rattle.mp4_frag.specs.declared.run.Run.{Run}
 use Rattle.mp4_frag.specs.declared.runs.Behind.{Behind}
-use Rattle.mp4_frag.specs.declared.traf.TrafHeader.{TrafHeader}
 use Rattle.mp4_frag.specs.declared.traf.TrafContext.{TrafContext}
-use Rattle.mp4_frag.specs.Kinds.{traf, tfhd, tfdt, trun}
-use Rattle.mp4_frag.specs.Fields.{flags_in, number_or, payload_of}
-use Rattle.mp4_frag.specs.Tfdt.{base_media_decode_time}
-use Rattle.mp4_frag.specs.Tfhd.{fields_of, track_id}
-use Rattle.mp4_frag.specs.Trun.{data_offset, first_sample_flags, sample_count, sample_fields, trun_fields}
-use Rattle.mp4_frag.specs.Rules.{entry_of, track_with}
-use Rattle.mp4_frag.specs.Rows.{rows_of, durations, sizes}
+use Rattle.mp4_frag.specs.Kinds.{trun}
 use Rattle.mp4_frag.specs.Runs.{Shared, TrackFragment, runs_from}
 
 -- a context, without where its bytes lie in memory
