@@ -18,7 +18,8 @@ use Rattle.fmp4_program.specs.declared.asked.Invocation.TheVariants.{Boxes, Samp
 use Rattle.fmp4_program.specs.declared.asked.Settings.{Settings}
 use Rattle.fmp4_program.specs.Lines.{check_text, line, stop_text}
 
--- what is seen of a run: what the two ends of the stream tell, what the fault writer was given before and after, whether it has failed, and the exit status
+-- what is seen of a run: what the two ends of the stream tell, and the exit status.
+-- What the fault writer was given is known before and after, and whether it has failed
 pub record Seen : Type 0 where
   pub ends : Ends
   pub told : Option (List ℕ)

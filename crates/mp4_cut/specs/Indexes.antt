@@ -14,7 +14,8 @@ use Rattle.mp4_cut.specs.Moof.{written_moof}
 
 -- ---- the fields of a sidx of version 1
 
--- one reference of an index: referenced_size, which has 31 bits behind the bit reference_type (0: media), subsegment_duration, and the 32 bits of what is said of access points
+-- one reference of an index: referenced_size, which has 31 bits behind the bit reference_type (0: media),
+-- subsegment_duration, and the 32 bits of what is said of access points
 pub record Reference : Type 0 where
   pub size : ℕ
   pub duration : ℕ
@@ -34,7 +35,8 @@ abbrev pub references_in : ℕ → List ℕ → List Reference
 references_in zero b = []
 references_in (suc n) b = record { size = big_number 4 b; duration = big_number 4 (drop 4 b); access = big_number 4 (drop 8 b) } ∷ references_in n (drop 12 b)
 
--- the fields in the payload of a sidx of version 1: reference_ID at 4, timescale at 8, earliest_presentation_time at 12, first_offset at 20, reference_count at 30, and the references from 32 on
+-- the fields in the payload of a sidx of version 1: reference_ID at 4, timescale at 8, earliest_presentation_time at
+-- 12, first_offset at 20, reference_count at 30, and the references from 32 on
 abbrev pub index_in : List ℕ → Index
 index_in p = record {
   version = version_in p;
@@ -54,7 +56,8 @@ pub record CanBeIndexed (held : List ℕ) (run : Run) (p : Piece) (ps : List Pie
   pub pieces : AllByRecursion (IsPieceOf held run) (p ∷ ps)
   pub references : AllByRecursion FitsReference (p ∷ ps)
 
--- what a reference to a piece must say, whose moof has this sequence_number: how many bytes its moof and its mdat have, and the sum of the durations of its samples
+-- what a reference to a piece must say, whose moof has this sequence_number: how many bytes its moof and its mdat
+-- have, and the sum of the durations of its samples
 abbrev pub reference_to : List ℕ → Run → ℕ → Piece → Reference
 reference_to held run sequence_number p = record {
   size = length (written_moof p run held sequence_number) + (length (mdat_header (sizes (rows_in held run p))) + sizes (rows_in held run p));
@@ -62,7 +65,8 @@ reference_to held run sequence_number p = record {
   access = 0;
 }
 
--- the index says so of these pieces, which stand directly behind it, with the timescale that was given: its earliest time is the least composition time of the samples of the first
+-- the index says so of these pieces, which stand directly behind it, with the timescale that was given.
+-- Its earliest time is the least composition time of the samples of the first
 pub record IsIndexReadAs (held : List ℕ) (run : Run) (given sequence_number : ℕ) (p : Piece) (ps : List Piece) (x : Index) : Type 0 where
   pub version : x.version ≡ 1
   pub track : x.track ≡ run.track

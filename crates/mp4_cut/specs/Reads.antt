@@ -59,7 +59,8 @@ pub record FitsTrack (t : Track) : Type 0 where
   pub size : t.size < 2 ^ 32
   pub flags : t.flags < 2 ^ 32
 
--- what holds of a run of a moof without a fault: its track_ID, version and default size fit their fields, the tracks have its track with its sample entry, and its rows fit theirs
+-- what holds of a run of a moof without a fault: its track_ID, version and default size fit their fields.
+-- The tracks have its track with its sample entry, and its rows fit their fields
 pub record IsSoundRun (tracks : List Track) (held : List ℕ) (run : Run) : Type 0 where
   pub track : run.track < 2 ^ 32
   pub version : run.version ≤ 1
@@ -93,7 +94,8 @@ pub record Tells (f : WrittenFragment) (held : MoofBytes) (run : Run) : Type 0 w
 abbrev pub media_of : WrittenFragment → MoofBytes → Payload
 media_of f h = record { start = h.offset + data_offset f.rows; end = Some (h.offset + data_offset f.rows + sizes f.rows) }
 
--- a moof without a fault is read, with one traf of one run, which tells what the fragment tells, and stands in the mdat behind the moof; behind the moof its track ends where the fragment ends
+-- a moof without a fault is read, with one traf of one run, which tells what the fragment tells, and stands in the
+-- mdat behind the moof. Behind the moof its track ends where the fragment ends
 pub record IsReadAs (tracks : List Track) (f : WrittenFragment) (h : MoofBytes) : Type 0 where
   pub read : IsRead h tracks
   pub traf : TrackFragment

@@ -22,11 +22,14 @@ abbrev pub earliest : List Piece → ℕ
 earliest [] = 0
 earliest (piece ∷ pieces) = natural piece.least
 
--- a reference to a piece: reference_type 0 (1 bit) with referenced_size (31 bits), its moof and its mdat; subsegment_duration (32 bits), its durations added up; starts_with_SAP, SAP_type and SAP_delta_time 0 (1, 3 and 28 bits)
+-- a reference to a piece: reference_type 0 (1 bit) with referenced_size (31 bits), that of its moof and its mdat;
+-- subsegment_duration (32 bits), its durations added up; starts_with_SAP, SAP_type and SAP_delta_time 0 (1, 3, 28
+-- bits)
 abbrev pub reference_bytes : Piece → List ℕ
 reference_bytes piece = big_bytes 4 (fragment_size piece) ++ (big_bytes 4 piece.duration ++ big_bytes 4 0)
 
--- reference_ID and timescale (32 bits each), earliest_presentation_time and first_offset 0 (64 bits each at version 1), reserved 0 and reference_count (16 bits each), and the references
+-- reference_ID and timescale (32 bits each), earliest_presentation_time and first_offset 0 (64 bits each at version
+-- 1), reserved 0 and reference_count (16 bits each), and the references
 abbrev pub sidx_payload : ℕ → ℕ → List Piece → List ℕ
 sidx_payload reference_id timescale pieces =
     version_and_flags 1 0 ++ (big_bytes 4 reference_id ++ (big_bytes 4 timescale

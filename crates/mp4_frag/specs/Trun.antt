@@ -1,4 +1,6 @@
--- A run of samples, trun: its flags, its fields and its length (ISO/IEC 14496-12, 8.8.8). Its payload is version and flags, sample_count (32 bits) at 4, data_offset and first_sample_flags where their flags are set, and a group of fields for each sample.
+-- A run of samples, trun: its flags, its fields and its length (ISO/IEC 14496-12, 8.8.8). Its payload is version and
+-- flags, sample_count (32 bits) at 4, data_offset and first_sample_flags where their flags are set, and a group of
+-- fields for each sample.
 use Rattle.std.specs.Prelude.{ℕ, ℤ, Bool, List, Option, Some, ◌==◌, ◌+◌, ◌*◌, ◌&&◌, nat_lt, if◌then◌else◌, length, option_map}
 use Rattle.mp4_flags.specs.Flags.{has_flag}
 use Rattle.mp4_box.specs.declared.rules.Rule.{Rule}

@@ -208,7 +208,9 @@ abbrev pub looks : Bool → ℕ
 looks true = 7
 looks false = 3
 
--- how many rows are read at least where n samples are recut: for their pieces, for the samples of each and for its moof; with an index twice more for the sizes and times of its references, twice for the pieces of its groups, and twice where it is asked whether it has room for them
+-- how many rows are read at least where n samples are recut: for their pieces, for the samples of each, for its moof.
+-- With an index, twice more for the sizes and times of its references, twice for the pieces of its groups, and twice
+-- where it is asked whether it has room for them
 abbrev pub cut_least : Bool → ℕ → ℕ
 cut_least true n = 9 * n
 cut_least false n = 3 * n
@@ -229,7 +231,8 @@ abbrev pub listed_most : Plan → ℕ → ℕ
 listed_most (plans.List command) n = listed_by (plans.List command) n
 listed_most (plans.Split cut) n = cut_most cut.index n
 
--- how often the row of a sample is read at most: where its moof is read, for the list of the runs, for its line or where it is recut, and behind the fragment
+-- how often the row of a sample is read at most: where its moof is read, for the list of the runs, for its line or
+-- where it is recut, and behind the fragment
 abbrev pub cut_reads : Bool → ℕ
 cut_reads true = 12
 cut_reads false = 8
@@ -244,7 +247,8 @@ abbrev pub most_fragments : Plan → ℕ → ℕ
 most_fragments (plans.List command) bound = bound
 most_fragments (plans.Split cut) bound = 2 ^ 32 - 1
 
--- of the samples that were looked at so many wait for their mdat, and so many for its end; each was read once, those that wait or are counted once more, and these again where they are listed
+-- of the samples that were looked at so many wait for their mdat, and so many for its end. Each was read once.
+-- Those that wait or are counted were read once more, and these again where they are listed
 pub record IsCounted (plan : Plan) (c : Counter) (bound untold unsettled : ℕ) : Type 0 where
   pub fragments : c.tally.fragments ≤ most_fragments plan bound
   pub media : c.tally.media_bytes ≤ bound

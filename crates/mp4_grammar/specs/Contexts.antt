@@ -2,7 +2,8 @@
 use Rattle.std.specs.Prelude.{ℕ, ◌*◌, List, length, Option, Some, None}
 use Rattle.mp4_init.specs.declared.table.Track.{Track}
 
--- the offset of the box; the tracks, none before the moov, each with the time at which the last of its fragments ended; and the number of the next fragment that is written
+-- the offset of the box; the tracks, each with the time at which the last of its fragments ended; and the number of
+-- the next fragment that is written. There are no tracks before the moov
 pub record Context : Type 0 where
   pub at : ℕ
   pub tracks : Option (List Track)

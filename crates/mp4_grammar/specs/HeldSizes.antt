@@ -9,7 +9,8 @@ use Rattle.mp4_grammar.specs.Rests.{IsHeld}
 use Rattle.mp4_grammar.specs.declared.kinds.Kind.{Kind}
 use Rattle.mp4_grammar.specs.declared.kinds.Kind.TheVariants.{Moof, Moov}
 
--- behind whole items that break no rule, the bytes b begin with the header of a box of this kind that is to be held there: it states so many bytes, no more than it may have
+-- behind whole items that break no rule, the bytes b begin with the header of a box of this kind that is to be held
+-- there. It states so many bytes, no more than it may have
 pub record Holds (meaning : Meaning) (c : Context) (b : List ℕ) (kind : Kind) (size : ℕ) : Type 0 where
   pub items : List Item
   pub rest : List ℕ

@@ -1,4 +1,5 @@
--- The items of a fragmented stream: one moov, and then fragments, each a moof and the mdat directly behind it; other boxes stand before, between and behind them (ISO/IEC 14496-12, 8.1.1, 8.2.1 and 8.8.4).
+-- The items of a fragmented stream (ISO/IEC 14496-12, 8.1.1, 8.2.1 and 8.8.4): one moov, and then fragments.
+-- A fragment is a moof and the mdat directly behind it. Other boxes stand before, between and behind them.
 use Rattle.std.specs.Prelude.{ℕ, ◌+◌, ◌-◌, ◌*◌, List, [], ◌∷◌, ◌++◌, length, take, drop, nat_lt, if◌then◌else◌, Option, Some, None}
 use Rattle.mp4_box.specs.declared.headers.FourCc.{FourCc}
 use Rattle.mp4_box.specs.declared.headers.Header.{Header}

@@ -1,4 +1,6 @@
--- Whole items that break no rule, one after the other: one moov, which comes before any moof; fragments, each a moof and the mdat directly behind it; and boxes of other types, which are passed over (ISO/IEC 14496-12, 8.1.1, 8.2.1 and 8.8.4).
+-- Whole items that break no rule, one after the other (ISO/IEC 14496-12, 8.1.1, 8.2.1 and 8.8.4): one moov, which
+-- comes before any moof; fragments, each a moof and the mdat directly behind it; and boxes of other types, which are
+-- passed over.
 use Rattle.std.specs.Prelude.{◌≡◌, ℕ, ◌+◌, ◌*◌, ◌≤◌, List, [], ◌∷◌, ◌++◌, length, drop, Option, Some, None}
 use Rattle.mp4_box.specs.Headers.{IsBox}
 use Rattle.mp4_box.specs.declared.headers.Header.{Header}

@@ -71,27 +71,49 @@ media_ends meaning f bytes outcome = after (meaning.accepted f) (ends (meaning.m
 -- the bytes z stand behind a good moof x in a context, and are read so: they begin with no whole mdat with which the fragment is good
 pub data IsAfterMoof (meaning : Meaning) (c : Context) (x z : List ℕ) (r : Reading) : Type 0 where
   -- nothing is left
-  NoMdat : z ≡ [] → r ≡ cut_off MdatMissing (Some moof) c.at → IsAfterMoof meaning c x z r
+  NoMdat :
+      z ≡ []
+      → r ≡ cut_off MdatMissing (Some moof) c.at → IsAfterMoof meaning c x z r
   -- too few bytes for a header
-  SecondCutInHeader : 0 < length z → length z < need z → r ≡ cut_off Truncated (kind_of z) (c.at + length x) → IsAfterMoof meaning c x z r
+  SecondCutInHeader :
+      0 < length z → length z < need z
+      → r ≡ cut_off Truncated (kind_of z) (c.at + length x) → IsAfterMoof meaning c x z r
   -- no header begins these bytes, though there are enough
-  SecondBadHeader : need z ≤ length z → ((h : Header) → BeginsWith h z → ⊥) → r ≡ at_fault BadSize (kind_of z) (c.at + length x) → IsAfterMoof meaning c x z r
+  SecondBadHeader :
+      need z ≤ length z → ((h : Header) → BeginsWith h z → ⊥)
+      → r ≡ at_fault BadSize (kind_of z) (c.at + length x) → IsAfterMoof meaning c x z r
   -- a box that goes past the longest stream
-  SecondTooFar : (b : Headed z) → longest < least_end (c.at + length x) b.header b.header.size → r ≡ at_fault StreamTooLong (Some b.header.kind) (c.at + length x) → IsAfterMoof meaning c x z r
+  SecondTooFar :
+      (b : Headed z) → longest < least_end (c.at + length x) b.header b.header.size
+      → r ≡ at_fault StreamTooLong (Some b.header.kind) (c.at + length x) → IsAfterMoof meaning c x z r
   -- a box that isn't an mdat
-  NotMdat : (b : Headed z) → kind_in b.header.kind.0 ≢ Mdat → least_end (c.at + length x) b.header b.header.size ≤ longest → r ≡ at_fault MdatMissing (Some moof) c.at → IsAfterMoof meaning c x z r
+  NotMdat :
+      (b : Headed z) → kind_in b.header.kind.0 ≢ Mdat → least_end (c.at + length x) b.header b.header.size ≤ longest
+      → r ≡ at_fault MdatMissing (Some moof) c.at → IsAfterMoof meaning c x z r
   -- an mdat with which the runs of the moof are at fault
-  BadFragment : (b : Headed z) (f : Fault) → kind_in b.header.kind.0 ≡ Mdat → least_end (c.at + length x) b.header b.header.size ≤ longest → fragment_fault meaning (fragment_here c x b.header) ≡ Some f
+  BadFragment :
+      (b : Headed z) (f : Fault) → kind_in b.header.kind.0 ≡ Mdat
+      → least_end (c.at + length x) b.header b.header.size ≤ longest
+      → fragment_fault meaning (fragment_here c x b.header) ≡ Some f
       → r ≡ ends silent (Faulty f) → IsAfterMoof meaning c x z r
   -- an mdat that isn't whole
-  CutInMedia : (b : Headed z) (s : ℕ) → HasSize Mdat (c.at + length x) s b.header → IsGood meaning c x b.header → length z < s
-      → r ≡ media_ends meaning (fragment_here c x b.header) b.more (CutOff (fault Truncated (Some b.header.kind) (c.at + length x))) → IsAfterMoof meaning c x z r
+  CutInMedia :
+      (b : Headed z) (s : ℕ) → HasSize Mdat (c.at + length x) s b.header → IsGood meaning c x b.header → length z < s
+      → r ≡ media_ends meaning (fragment_here c x b.header) b.more (CutOff (fault Truncated (Some b.header.kind) (c.at + length x)))
+      → IsAfterMoof meaning c x z r
   -- one that goes to the end of the stream: it has all bytes that the runs need, or too few, or it goes too far
-  OpenMedia : (b : Headed z) → IsOpen Mdat b.header → IsGood meaning c x b.header → c.at + length x + length z ≤ longest → needed_in (fragment_here c x b.header) ≤ length b.more
+  OpenMedia :
+      (b : Headed z) → IsOpen Mdat b.header → IsGood meaning c x b.header → c.at + length x + length z ≤ longest
+      → needed_in (fragment_here c x b.header) ≤ length b.more
       → r ≡ media_ends meaning (fragment_here c x b.header) b.more Sound → IsAfterMoof meaning c x z r
-  OpenMediaCut : (b : Headed z) → IsOpen Mdat b.header → IsGood meaning c x b.header → c.at + length x + length z ≤ longest → length b.more < needed_in (fragment_here c x b.header)
-      → r ≡ media_ends meaning (fragment_here c x b.header) b.more (CutOff (fault Truncated (Some b.header.kind) (c.at + length x))) → IsAfterMoof meaning c x z r
-  OpenMediaTooFar : (b : Headed z) → IsOpen Mdat b.header → IsGood meaning c x b.header → c.at + length x + length b.head ≤ longest → longest < c.at + length x + length z
+  OpenMediaCut :
+      (b : Headed z) → IsOpen Mdat b.header → IsGood meaning c x b.header → c.at + length x + length z ≤ longest
+      → length b.more < needed_in (fragment_here c x b.header)
+      → r ≡ media_ends meaning (fragment_here c x b.header) b.more (CutOff (fault Truncated (Some b.header.kind) (c.at + length x)))
+      → IsAfterMoof meaning c x z r
+  OpenMediaTooFar :
+      (b : Headed z) → IsOpen Mdat b.header → IsGood meaning c x b.header → c.at + length x + length b.head ≤ longest
+      → longest < c.at + length x + length z
       → r ≡ media_ends meaning (fragment_here c x b.header) (take (longest - (c.at + length x + length b.head)) b.more) (Faulty (fault StreamTooLong (Some b.header.kind) (c.at + length x)))
       → IsAfterMoof meaning c x z r
 
@@ -100,41 +122,72 @@ pub data IsAfterMoof (meaning : Meaning) (c : Context) (x z : List ℕ) (r : Rea
 -- the rest y stands in a context, and is read so
 pub data IsRest (meaning : Meaning) (c : Context) (y : List ℕ) (r : Reading) : Type 0 where
   -- nothing is left
-  Ended : y ≡ [] → r ≡ empty_reading → IsRest meaning c y r
+  Ended :
+      y ≡ []
+      → r ≡ empty_reading → IsRest meaning c y r
   -- too few bytes for a header
-  CutInHeader : 0 < length y → length y < need y → r ≡ cut_off Truncated (kind_of y) c.at → IsRest meaning c y r
+  CutInHeader :
+      0 < length y → length y < need y
+      → r ≡ cut_off Truncated (kind_of y) c.at → IsRest meaning c y r
   -- no header begins these bytes, though there are enough
-  BadHeader : need y ≤ length y → ((h : Header) → BeginsWith h y → ⊥) → r ≡ at_fault BadSize (kind_of y) c.at → IsRest meaning c y r
+  BadHeader :
+      need y ≤ length y → ((h : Header) → BeginsWith h y → ⊥)
+      → r ≡ at_fault BadSize (kind_of y) c.at → IsRest meaning c y r
   -- a box that goes past the longest stream
-  TooFar : (b : Headed y) → longest < least_end c.at b.header b.header.size → r ≡ at_fault StreamTooLong (Some b.header.kind) c.at → IsRest meaning c y r
+  TooFar :
+      (b : Headed y) → longest < least_end c.at b.header b.header.size
+      → r ≡ at_fault StreamTooLong (Some b.header.kind) c.at → IsRest meaning c y r
   -- a box that may not stand here
-  OutOfPlace : (b : Headed y) (rule : Rule) → place_rule (kind_in b.header.kind.0) c.tracks ≡ Some rule → least_end c.at b.header b.header.size ≤ longest
+  OutOfPlace :
+      (b : Headed y) (rule : Rule) → place_rule (kind_in b.header.kind.0) c.tracks ≡ Some rule
+      → least_end c.at b.header b.header.size ≤ longest
       → r ≡ at_fault rule (Some b.header.kind) c.at → IsRest meaning c y r
   -- a box that is passed over, and isn't whole
-  CutInBody : (b : Headed y) (s : ℕ) → HasSize Other c.at s b.header → length y < s
-      → r ≡ ends (meaning.passed b.header.kind y) (CutOff (fault Truncated (Some b.header.kind) c.at)) → IsRest meaning c y r
+  CutInBody :
+      (b : Headed y) (s : ℕ) → HasSize Other c.at s b.header → length y < s
+      → r ≡ ends (meaning.passed b.header.kind y) (CutOff (fault Truncated (Some b.header.kind) c.at))
+      → IsRest meaning c y r
   -- one that goes to the end of the stream
-  Open : (b : Headed y) → IsOpen Other b.header → c.at + length y ≤ longest → r ≡ ends (meaning.passed b.header.kind y) Sound → IsRest meaning c y r
-  OpenTooFar : (b : Headed y) → IsOpen Other b.header → c.at + length b.head ≤ longest → longest < c.at + length y
-      → r ≡ ends (meaning.passed b.header.kind (take (longest - c.at) y)) (Faulty (fault StreamTooLong (Some b.header.kind) c.at)) → IsRest meaning c y r
+  Open :
+      (b : Headed y) → IsOpen Other b.header → c.at + length y ≤ longest
+      → r ≡ ends (meaning.passed b.header.kind y) Sound → IsRest meaning c y r
+  OpenTooFar :
+      (b : Headed y) → IsOpen Other b.header → c.at + length b.head ≤ longest → longest < c.at + length y
+      → r ≡ ends (meaning.passed b.header.kind (take (longest - c.at) y)) (Faulty (fault StreamTooLong (Some b.header.kind) c.at))
+      → IsRest meaning c y r
   -- a moov or moof that is too large, or states no size
-  Large : (b : Headed y) (s limit : ℕ) → IsHeld c s limit b.header → limit < s → r ≡ at_fault TooLarge (Some b.header.kind) c.at → IsRest meaning c y r
-  Unsized : (b : Headed y) (limit : ℕ) → most_here (kind_in b.header.kind.0) c.tracks ≡ Some limit → b.header.size ≡ ToEnd → c.at + length b.head ≤ longest
+  Large :
+      (b : Headed y) (s limit : ℕ) → IsHeld c s limit b.header → limit < s
+      → r ≡ at_fault TooLarge (Some b.header.kind) c.at → IsRest meaning c y r
+  Unsized :
+      (b : Headed y) (limit : ℕ) → most_here (kind_in b.header.kind.0) c.tracks ≡ Some limit → b.header.size ≡ ToEnd
+      → c.at + length b.head ≤ longest
       → r ≡ at_fault TooLarge (Some b.header.kind) c.at → IsRest meaning c y r
   -- one that isn't whole
-  CutInHeld : (b : Headed y) (s limit : ℕ) → IsHeld c s limit b.header → s ≤ limit → length y < s
-      → r ≡ after (requests_memory c.at (table_of c.tracks + s)) (cut_off Truncated (Some b.header.kind) c.at) → IsRest meaning c y r
+  CutInHeld :
+      (b : Headed y) (s limit : ℕ) → IsHeld c s limit b.header → s ≤ limit → length y < s
+      → r ≡ after (requests_memory c.at (table_of c.tracks + s)) (cut_off Truncated (Some b.header.kind) c.at)
+      → IsRest meaning c y r
   -- a moov with a fault
-  BadMoov : (b : Boxed y) (f : Fault) → IsMoovHere c b.box → c.at + length b.box.bytes ≤ longest → moov_fault c.at b.box.bytes ≡ Some f
+  BadMoov :
+      (b : Boxed y) (f : Fault) → IsMoovHere c b.box → c.at + length b.box.bytes ≤ longest
+      → moov_fault c.at b.box.bytes ≡ Some f
       → r ≡ after (requests_memory c.at (length b.box.bytes)) (ends silent (Faulty f)) → IsRest meaning c y r
   -- a moof with a fault by any rule but that of times; or else by that one, once its samples were looked at
-  BadMoof : (b : Boxed y) (f : Fault) → IsMoofHere c b.box → c.at + length b.box.bytes ≤ longest → early_fault (moof_at b.box.bytes c.at) (tracks_in c) ≡ Some f
+  BadMoof :
+      (b : Boxed y) (f : Fault) → IsMoofHere c b.box → c.at + length b.box.bytes ≤ longest
+      → early_fault (moof_at b.box.bytes c.at) (tracks_in c) ≡ Some f
       → r ≡ after (moof_requests c b.box.bytes) (ends silent (Faulty f)) → IsRest meaning c y r
-  LateMoof : (b : Boxed y) (f : Fault) → IsMoofHere c b.box → c.at + length b.box.bytes ≤ longest → early_fault (moof_at b.box.bytes c.at) (tracks_in c) ≡ None
+  LateMoof :
+      (b : Boxed y) (f : Fault) → IsMoofHere c b.box → c.at + length b.box.bytes ≤ longest
+      → early_fault (moof_at b.box.bytes c.at) (tracks_in c) ≡ None
       → least (time_faults (moof_trafs (moof_at b.box.bytes c.at) (tracks_in c))) ≡ Some f
-      → r ≡ after (moof_requests c b.box.bytes) (after (counts (walked (moof_at b.box.bytes c.at))) (ends silent (Faulty f))) → IsRest meaning c y r
+      → r ≡ after (moof_requests c b.box.bytes) (after (counts (walked (moof_at b.box.bytes c.at))) (ends silent (Faulty f)))
+      → IsRest meaning c y r
   -- a good moof, and no whole mdat behind it with which the fragment is good
-  BehindMoof : (b : Boxed y) (s : Reading) → IsMoofHere c b.box → c.at + length b.box.bytes ≤ longest → IsRead (moof_at b.box.bytes c.at) (tracks_in c) → IsAfterMoof meaning c b.box.bytes b.more s
+  BehindMoof :
+      (b : Boxed y) (s : Reading) → IsMoofHere c b.box → c.at + length b.box.bytes ≤ longest
+      → IsRead (moof_at b.box.bytes c.at) (tracks_in c) → IsAfterMoof meaning c b.box.bytes b.more s
       → r ≡ after (moof_effects c b.box.bytes) s → IsRest meaning c y r
 
 -- the bytes b in a context are whole items that break no rule, and then one of the rests

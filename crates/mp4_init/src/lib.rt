@@ -13,8 +13,8 @@
 //!
 //! The definitions: `specs/Kinds.antt` (types and paths), `specs/Fields.antt` (payloads), `specs/Rules.antt`
 //! (what is at fault), `specs/Tracks.antt` (the tracks), `specs/Moovs.antt` (the tracks of a moov or its
-//! fault), `specs/TrackFields.antt` (how large the numbers of a track are). The others say
-//! how it is worked out: `specs/Working/SearchTrees.antt`, `specs/Working/OrderedIds.antt`, `specs/Working/Summaries.antt`, `specs/Working/Rows.antt`.
+//! fault), `specs/TrackFields.antt` (how large the numbers of a track are). How all this is worked out is said in
+//! `specs/Working/`.
 #![tactic(auto)]
 
 mod build;

@@ -23,7 +23,8 @@ pub record IsSent (v : Pending) : Type 0 where
 abbrev pub whole_by : ℕ → Pending → List Mark → ℕ
 whole_by n v marks = whole_in n v.whole (v.ends ++ moved (length v.bytes) marks)
 
--- text with these marks was put behind the bytes that waited: a front of all that was sent, and the rest waits; of each more bytes as many fragments are whole as before
+-- text with these marks was put behind the bytes that waited. A prefix of all of it was sent, and the rest waits.
+-- Of each more bytes as many fragments are whole as before
 pub record PassesMarked (told told' : Option (List ℕ)) (v w : Pending) (text : List ℕ) (marks : List Mark) : Type 0 where
   pub sent : List ℕ
   pub written : Appends told told' sent

@@ -46,7 +46,8 @@ pub record TellsRest (whole : List ℕ → Reading) (b b' : List ℕ) (l : Lent)
   pub fragments : (n : ℕ) → whole_in (length effects.text + n) l.whole effects.marks ≡ l.whole'
   pub counts : Counts l.account l.account' own own' (most_of effects)
 
--- a write failed: a prefix of its text was written, of whose fragments it is known how many are whole, no more was claimed than it asks for, and no more counted
+-- a write failed: a prefix of the text was written, and it is known how many fragments are whole in it.
+-- No more was claimed than the bytes request, and no more counted
 pub record TellsPart (whole : List ℕ → Reading) (b b' : List ℕ) (l : Lent) (own : ℕ) (s : Sums) : Type 0 where
   pub effects : Effects
   pub all : (whole b').effects ≡ both (whole b).effects effects

@@ -58,7 +58,8 @@ whole_in n before (m ∷ marks) = whole_in n (if nat_lt n m.end then before else
 
 -- ---- what is told of some bytes
 
--- a box asks for memory: the offset where it begins, how many bytes are out for the machine with what it asks for, how many bytes of text are told before, and what is counted before
+-- a box requests memory: the offset where it begins, and how many bytes are out for the machine with what it requests.
+-- Before it the text has so many bytes, and so much is counted
 pub record Request : Type 0 where
   pub at : ℕ
   pub sum : ℕ
@@ -122,7 +123,8 @@ empty_reading = record { effects = silent; outcome = Sound }
 abbrev pub after : Effects → Reading → Reading
 after effects r = record { effects = both effects r.effects; outcome = r.outcome }
 
--- what stands at the front of some bytes: the last that is read of them, or a whole item, with what is told of it, the context of what follows, and the bytes that follow
+-- what stands at the front of some bytes: the last that is read of them, or a whole item.
+-- An item has its effects, the context of what follows, and the bytes that follow
 pub data FirstItem (C : Type 0) : Type 0 where
   Last : Reading → FirstItem C
   Whole : Effects → C → List ℕ → FirstItem C

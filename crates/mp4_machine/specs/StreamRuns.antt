@@ -16,7 +16,8 @@ pub record Claims : Type 0 where
   pub limit : ℕ
   pub peak : ℕ
 
--- a run: what bytes from the first on are read as, those that it was given, and what is seen of it: its ends, its claims, how many marked fragments are whole in what was written, and what is counted
+-- a run over a stream: what bytes from the first on are read as, and those that it was given.
+-- Seen of it are its ends, its claims, how many marked fragments are whole in what was written, and what is counted
 pub record StreamRun : Type 0 where
   pub whole : List ℕ → Reading
   pub bytes : List ℕ
@@ -53,7 +54,8 @@ pub record TellsSome (run : StreamRun) : Type 0 where
   pub most : run.claims.peak ≤ run.claims.copy + most_of (reading_of run).effects
   pub counted : AtMost run.tally (reading_of run).effects.tally
 
--- one of what the boxes ask for was refused, which the bytes of the last read brought: what is asked for before was claimed, exactly the text before was written, of whose fragments it is known how many are whole, and what is before was counted
+-- a request was refused, which the bytes of the last read brought. What is requested before was claimed, what is
+-- before was counted, and exactly the text before was written, of whose fragments it is known how many are whole
 pub record StarvesAt (run : StreamRun) (prompt : IsPrompt run) : Type 0 where
   pub request : Request
   pub before : List Request
@@ -76,7 +78,8 @@ pub record IsIdle (run : StreamRun) : Type 0 where
 
 -- ---- what it answers
 
--- what a run brings that stops so: at a fault or a failed read all of the text that the bytes decide, at a failed write a prefix of it, and at a refused claim the text before it
+-- what a run brings that stops so: at a fault or a failed read all of the text that the bytes decide.
+-- At a failed write it is a prefix of the text, and at a refused claim the text before it
 abbrev pub ComesUntil : (run : StreamRun) → IsPrompt run → Stop → Type 0
 ComesUntil run prompt (Stream f) = TellsAll run × (fault_in (reading_of run).outcome ≡ Some f) × (early_in (reading_of run).outcome ≡ None → run.ends.ended ≡ true)
 ComesUntil run prompt (Read at) = TellsAll run × (early_in (reading_of run).outcome ≡ None) × (at ≡ length run.bytes) × (run.ends.read_failed ≡ true)

@@ -10,8 +10,8 @@
 //! samples fit in a piece, `specs/Pieces.antt` what the pieces of a run are, `specs/Groups.antt`
 //! which of them share an index, `specs/Sizes.antt` how many bytes a piece has when it is written,
 //! `specs/Rooms.antt` what has no room for its numbers, and `specs/Fits.antt` when all has room.
-//! `specs/Allowed.antt` says what may be asked of a cut, and `specs/Working/Growing.antt` and
-//! `specs/Working/Rooming.antt` how pieces and their room are found, row by row.
+//! `specs/Allowed.antt` says what may be asked of a cut. How pieces and their room are found, row by row, is said in
+//! `specs/Working/`.
 #![tactic(auto)]
 
 mod cut;

@@ -21,7 +21,9 @@ abbrev pub samples_of_first : Context → List Item → List MediaSample
 samples_of_first c [] = []
 samples_of_first c (i ∷ is) = item_samples c i
 
--- the index tells the truth of the items directly behind it: it has a reference to each of the first items, with its size and duration; its track is that of the samples of the first item, with the timescale of that track; its earliest time is the least composition time of these samples; and it refers to media alone
+-- the index tells the truth of the items directly behind it. It has a reference to each of the first items, with its
+-- size and duration. Its track is that of the samples of the first item, with the timescale of that track, and its
+-- earliest time is the least composition time of these samples. It refers to media alone
 pub record IndexIsTrue (cut : Cut) (c : Context) (x : Index) (is : List Item) : Type 0 where
   pub version : x.version ≡ 1
   pub some : 0 < length x.references

@@ -31,7 +31,8 @@ abbrev pub first_samples : List PieceWithMedia → List MediaSample
 first_samples [] = []
 first_samples (q ∷ qs) = piece_samples q
 
--- the payload p of a sidx says the truth of the pieces qs, which stand directly behind it: their sizes and durations, the least composition time of the first, the track and its timescale. It refers to media alone
+-- the payload p of a sidx says the truth of the pieces qs, which stand directly behind it: their sizes and durations,
+-- the least composition time of the first, the track and its timescale. It refers to media alone
 pub record IsIndexOf (id scale number : ℕ) (p : List ℕ) (qs : List PieceWithMedia) : Type 0 where
   pub version : (index_in p).version ≡ 1
   pub track : (index_in p).track ≡ id

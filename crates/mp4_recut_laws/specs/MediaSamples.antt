@@ -11,7 +11,8 @@ use Rattle.mp4_grammar.specs.Joined.{Item, PassedOver, Movie, MovieFragment, con
 use Rattle.mp4_grammar.specs.Meanings.{Fragment, runs_in}
 use Rattle.mp4_recut.specs.Splitting.{splitting}
 
--- what a player gets of a sample: its track, its decode and composition times, its duration, its flags and its sample entry, and the bytes of its media; its place in the stream is left out
+-- what a player gets of a sample: its track, its times, its duration, its flags and its sample entry.
+-- It gets the bytes of its media too. Its place in the stream is left out
 pub record MediaSample : Type 0 where
   pub track : ℕ
   pub time : ℕ

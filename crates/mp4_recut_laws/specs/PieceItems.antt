@@ -1,4 +1,5 @@
--- A piece of the recut text as an item of a stream that is read: the moof that is written for its samples, and the mdat with their media (ISO/IEC 14496-12, 8.8.4 and 8.1.1).
+-- A piece of the recut text as an item of a stream that is read (ISO/IEC 14496-12, 8.8.4 and 8.1.1).
+-- It is the moof that is written for its samples, and the mdat with their media.
 use Rattle.std.specs.Prelude.{◌≡◌, ℕ, ◌+◌, ◌<◌, ◌≤◌, ◌^◌, List, [], ◌∷◌, ◌++◌, length, map, pos, true}
 use Rattle.mp4_init.specs.declared.table.Track.{Track}
 use Rattle.mp4_frag.specs.declared.run.Run.{Run}

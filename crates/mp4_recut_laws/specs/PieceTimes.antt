@@ -1,4 +1,5 @@
--- Where an index (ISO/IEC 14496-12, 8.16.3) has room for the earliest time of each piece of a stream. Where pieces share an index, only the first of a group needs it.
+-- Where an index (ISO/IEC 14496-12, 8.16.3) has room for the earliest time of each piece of a stream.
+-- Where pieces share an index, only the first of a group needs it.
 use Rattle.std.specs.Prelude.{ℕ, ◌+◌, ◌<◌, ◌^◌, List, [], ◌∷◌, length}
 use Rattle.std.specs.List.{AllByRecursion}
 use Rattle.mp4_frag.specs.declared.run.Run.{Run}
@@ -16,7 +17,8 @@ use Rattle.mp4_grammar.specs.Meanings.{Fragment, runs_in}
 use Rattle.mp4_recut.specs.Splitting.{splitting}
 use Rattle.mp4_recut_laws.specs.Streams.{Ending, NothingMore, OpenBox, OpenFragment}
 
--- an index has room for one piece alone: its moof and mdat have less than 2^31 bytes, its duration has 32 bits, and the least composition time of its samples is not negative and has 64 bits
+-- an index has room for one piece alone: its moof and mdat have less than 2^31 bytes, and its duration has 32 bits.
+-- The least composition time of its samples is not negative and has 64 bits
 pub record FitsOwnIndex (f : Written) : Type 0 where
   pub size : moof_size (length f.rows) + (mdat_header_size (sizes f.rows) + sizes f.rows) < 2 ^ 31
   pub duration : durations f.rows < 2 ^ 32

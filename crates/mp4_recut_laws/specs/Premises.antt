@@ -25,7 +25,8 @@ pub record IsRunIn (tracks : List Track) (start : ℕ) (payload held : List ℕ)
   pub of : IsRunOf held run
   pub lies : (rows_of run held ≡ []) ⊎ LiesIn start payload held run
 
--- a moov is good at each stream offset, with the same tracks; a fragment is of bytes and ends by offset 2^62, the fields of its tracks fit, and its number is at most 2^32
+-- a moov is good at each stream offset, with the same tracks. A fragment is of bytes and ends by offset 2^62,
+-- the fields of its tracks fit, and its number is at most 2^32
 abbrev pub CanBeRecut : Context → Item → Type 0
 CanBeRecut c (PassedOver b) = Unit {0}
 CanBeRecut c (Movie b) = (at : ℕ) → (moov_fault at b.bytes ≡ None) × (without_ends (moov_tracks at b.bytes) ≡ without_ends (moov_tracks c.at b.bytes))
@@ -49,7 +50,8 @@ pub record SameButEnds (c d : Context) : Type 0 where
   pub number : d.number ≡ c.number
   pub tracks : option_map without_ends d.tracks ≡ option_map without_ends c.tracks
 
--- items and those of their recut text, each list in its context: the latter break no rule, and without an index they have the same recut text and the same samples
+-- items and those of their recut text, each list in its context. The latter break no rule.
+-- Without an index they have the same recut text and the same samples
 pub record RecutAgrees (cut : Cut) (c d : Context) (is now : List Item) : Type 0 where
   pub sound : AreSound (splitting (without_index cut)) d now
   pub text : items_text (without_index cut) d now ≡ items_text (without_index cut) c is

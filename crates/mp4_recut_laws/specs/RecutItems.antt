@@ -68,7 +68,8 @@ items_recut cut c (i ∷ is) = item_recut cut c i ++ items_recut cut (context_af
 
 -- ---- what items are recut to
 
--- in this context the items break no rule; their recut text is `out`, of `count` fragments, and these are their samples; behind them only the times at which the tracks end differ
+-- in this context the items break no rule. Their recut text is `out`, of `count` fragments, and these are their
+-- samples. Behind them only the times at which the tracks end differ
 pub record AreRecutHere (cut : Cut) (at number : ℕ) (tracks : List Track) (is : List Item) (out : List ℕ) (count : ℕ) (samples : List MediaSample) : Type 0 where
   pub sound : AreSound (splitting cut) (context at (Some tracks) number) is
   pub text : items_text cut (context at (Some tracks) number) is ≡ out

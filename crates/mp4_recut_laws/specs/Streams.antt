@@ -15,7 +15,8 @@ use Rattle.mp4_recut_laws.specs.MediaSamples.{MediaSample, items_samples, media_
 use Rattle.mp4_recut.specs.Splitting.{is_dropped, splitting}
 use Rattle.mp4_recut.specs.Texts.{box_text, fragment_text, items_text}
 
--- what stands behind the whole items of a stream: nothing; a box that goes to the end of the stream, by its header, the bytes of the header, and those behind it; or a moof, and an mdat that goes to the end
+-- what stands behind the whole items of a stream: nothing; or a box that goes to the end of the stream, by its header,
+-- the bytes of the header, and those behind it; or a moof, and an mdat that goes to the end
 pub data Ending : Type 0 where
   NothingMore : Ending
   OpenBox : (h : Header) (head more : List ℕ) → Ending

@@ -8,8 +8,8 @@
 //!
 //! The definitions: `specs/Runs.antt` (runs, their bytes, the listing), `specs/Places.antt` (which run is at
 //! fault), `specs/Orders.antt` (the order in which runs are taken, the order by track), `specs/Takings.antt` (what
-//! that order keeps). `specs/Working/Searches.antt` says how the first run at fault is found, and `specs/Worked.antt` has
-//! examples.
+//! that order keeps). `specs/Worked.antt` has examples, and `specs/Working/Searches.antt` says how the first run at fault
+//! is found.
 #![tactic(auto)]
 
 pub mod laws;

@@ -30,7 +30,8 @@ live cut b = (reading cut b).effects.text
 
 -- ---- what a Feeder is
 
--- what is seen of it: its cut, where its machine is, why it stopped, the most that it had claimed at once, and how many fragments are whole in what it wrote
+-- what is seen of it: its cut, where its machine is, and why it stopped.
+-- It tells the most that it had claimed at once, and how many fragments are whole in what it wrote
 pub record Feeding : Type 0 where
   pub cut : Cut
   pub machine : Progress
@@ -60,7 +61,9 @@ totals_of f = record {
   peak = f.peak;
 }
 
--- after the bytes b of a stream, in whatever pieces they came: it hasn't stopped, since they decide no fault and don't go past the longest stream; what is to come is read from where it is; it has counted and claimed what they tell, and so many fragments are whole in their text as it says
+-- after the bytes b of a stream, in whatever pieces they came. It hasn't stopped, since they decide no fault and don't
+-- go past the longest stream. What is to come is read from where it is, it has counted and claimed what b does, and so
+-- many fragments are whole in their text as it says
 pub record Stands (f : Feeding) (b : List ℕ) : Type 0 where
   pub running : f.stop ≡ None
   pub bytes : IsBytes b
@@ -82,7 +85,8 @@ pub record IsFeeder (f : Feeding) (claimed : ℕ) (waiting : Pending) : Type 0 w
 
 -- ---- what a call brings
 
--- where each moov that the bytes hold has at most so many bytes, and each moof: it never has more claimed than twice the one and five times the other, and is never over a limit that allows so much beside what others have
+-- where each moov that the bytes hold has at most so many bytes, and each moof. It never has more claimed than twice
+-- the one and five times the other, and is never over a limit that allows so much beside what others have
 pub record ClaimsWithin {T : Type 0} (cut : Cut) (b : List ℕ) (peak others limit : ℕ) (result : Result T Stop) : Type 0 where
   pub most : (moov moof : ℕ) → HoldsWithin (splitting cut) first_context b moov moof → peak ≤ 2 * moov + 5 * moof
   pub enough : (moov moof : ℕ) → HoldsWithin (splitting cut) first_context b moov moof → others + (2 * moov + 5 * moof) ≤ limit → IsErrOf result OverLimit → ⊥
@@ -95,7 +99,8 @@ WritesBefore cut b piece l own s (Stream f) until = Unit {0}
 WritesBefore cut b piece l own s (Read at) until = Unit {0}
 WritesBefore cut b piece l own s Write until = Unit {0}
 
--- a Feeder that stands behind the bytes b is fed a piece: it is Ok where no fault is decided, and then all that these bytes tell behind b was written; else it stops
+-- a Feeder that stands behind the bytes b is fed a piece. It is Ok where no fault is decided, and then all that these
+-- bytes tell behind b was written; else it stops
 pub record Feeds {T : Type 0} (b piece : List ℕ) (f f' : Feeding) (l : Lent) (result : Result T Stop) : Type 0 where
   pub bytes : IsBytes (b ++ piece)
   pub ok : OnOk result (Stands f' (b ++ piece) × TellsRest (reading f.cut) b (b ++ piece) l (held_by f) (held_by f'))

@@ -10,7 +10,8 @@ use Rattle.mp4_stream.specs.Boxes.{reading}
 use Rattle.mp4_stream.specs.Joined.{AreSound, Item, joined}
 use Rattle.mp4_stream.specs.Rests.{IsHeld}
 
--- behind whole boxes that break no rule, the bytes b from an offset on have the header of a moov or moof: it states so many bytes, no more than it may have
+-- behind whole boxes that break no rule, the bytes b from an offset on have the header of a moov or moof.
+-- It states so many bytes, no more than it may have
 pub record HoldsBox (at : ℕ) (b : List ℕ) (size : ℕ) : Type 0 where
   pub boxes : List Item
   pub rest : List ℕ
@@ -25,7 +26,8 @@ pub record HoldsBox (at : ℕ) (b : List ℕ) (size : ℕ) : Type 0 where
 pub record HoldsAtMost (at : ℕ) (b : List ℕ) (most : ℕ) : Type 0 where
   pub each : (size : ℕ) → HoldsBox at b size → size ≤ most
 
--- where each moov and each moof that the bytes hold has at most so many bytes: beside the bytes to read into no more is claimed than that, and a limit that allows so much is never passed
+-- where each moov and each moof that the bytes hold has at most so many bytes. Beside the bytes to read into no more
+-- is claimed than that, and a limit that allows so much is never passed
 pub record ClaimsByLargest {T : Type 0} (bytes : List ℕ) (claims : Claims) (result : Result T Stop) : Type 0 where
   pub most : (largest : ℕ) → HoldsAtMost 0 bytes largest → claims.peak ≤ claims.copy + largest
   pub enough : (largest : ℕ) → HoldsAtMost 0 bytes largest → claims.copy + largest ≤ claims.limit → IsErrOf result OverLimit → ⊥

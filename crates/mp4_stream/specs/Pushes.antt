@@ -17,7 +17,9 @@ use Rattle.mp4_recut.specs.Splitting.{splitting}
 use Rattle.mp4_stream.specs.Feeders.{live, reading}
 use Rattle.mp4_stream.specs.declared.run.Totals.{Totals}
 
--- totals of a stream of which this is told: the fragments whose moofs are written, the samples and their bytes, the most that was claimed at once; rows were read once for each sample that was looked at, and again for each that was recut, and no more often than a cut allows
+-- totals of a stream that has these effects: the fragments whose moofs are written, the samples and their bytes, and
+-- the most that was claimed at once. Rows were read once for each sample that was looked at, again for each that was
+-- recut, and no more often than a cut allows
 pub record CountedAs (cut : Cut) (effects : Effects) (t : Totals) : Type 0 where
   pub fragments : AllWhole effects t.fragments
   pub samples : t.samples ≡ effects.tally.samples
@@ -30,7 +32,8 @@ pub record CountedAs (cut : Cut) (effects : Effects) (t : Totals) : Type 0 where
 abbrev pub HasNoRoom : Cut → List ℕ → (others limit : ℕ) → Type 0
 HasNoRoom cut b others limit = (moov moof : ℕ) → HoldsWithin (splitting cut) first_context b moov moof → limit < others + (2 * moov + 5 * moof)
 
--- how it stops within the bytes b, whose fault is known or not: at that fault with all written before it, at a failed write or for want of memory with a prefix
+-- how it stops within the bytes b, whose fault is known or not: at that fault, with all written before it.
+-- At a failed write or for want of memory a prefix is written
 abbrev pub StopsIn : Cut → List ℕ → Sent → (others limit : ℕ) → Option Fault → Stop → Type 0
 StopsIn cut b s others limit fault (Stream f) = (fault ≡ Some f) × Appends s.written s.written' (live cut b)
 StopsIn cut b s others limit fault (Read at) = ⊥
@@ -38,7 +41,8 @@ StopsIn cut b s others limit fault Write = (s.failed' ≡ true) × AppendsPrefix
 StopsIn cut b s others limit fault OverLimit = HasNoRoom cut b others limit × AppendsPrefix s.written s.written' (live cut b)
 StopsIn cut b s others limit fault Memory = AppendsPrefix s.written s.written' (live cut b)
 
--- pieces whose join is the stream b: Ok where it has no fault, with its recut text and its totals, else how it stops. The limit is that of a ledger of which others have so much
+-- pieces whose join is the stream b: Ok where it has no fault, with its recut text and its totals, else how it stops.
+-- The limit is that of a ledger of which others have so much
 abbrev pub Pushes : Cut → List ℕ → Sent → (others limit : ℕ) → Result Totals Stop → Type 0
 Pushes cut b s others limit (Ok t) = (fault_in (reading cut b).outcome ≡ None) × Appends s.written s.written' (live cut b) × CountedAs cut (reading cut b).effects t
 Pushes cut b s others limit (Err e) = StopsIn cut b s others limit (fault_in (reading cut b).outcome) e

@@ -36,25 +36,49 @@ IsHeld at s limit h = (most_held h.kind.0 ≡ Some limit) × (h.size ≡ Exact s
 -- the rest y stands at an offset, and is read so
 pub data IsRest (at : ℕ) (y : List ℕ) (r : Reading) : Type 0 where
   -- nothing is left
-  Ended : y ≡ [] → r ≡ empty_reading → IsRest at y r
+  Ended :
+      y ≡ []
+      → r ≡ empty_reading → IsRest at y r
   -- too few bytes for a header
-  CutInHeader : 0 < length y → length y < need y → r ≡ cut_off Truncated (kind_of y) at → IsRest at y r
+  CutInHeader :
+      0 < length y → length y < need y
+      → r ≡ cut_off Truncated (kind_of y) at → IsRest at y r
   -- no header begins these bytes, though there are enough
-  BadHeader : need y ≤ length y → ((h : Header) → BeginsWith h y → ⊥) → r ≡ at_fault BadSize (kind_of y) at → IsRest at y r
+  BadHeader :
+      need y ≤ length y → ((h : Header) → BeginsWith h y → ⊥)
+      → r ≡ at_fault BadSize (kind_of y) at → IsRest at y r
   -- a box that goes past the longest stream
-  TooFar : (b : Headed y) → longest < least_end at b.header b.header.size → r ≡ at_fault StreamTooLong (Some b.header.kind) at → IsRest at y r
+  TooFar :
+      (b : Headed y) → longest < least_end at b.header b.header.size
+      → r ≡ at_fault StreamTooLong (Some b.header.kind) at → IsRest at y r
   -- a box that isn't held, and isn't whole
-  CutInBody : (b : Headed y) (s : ℕ) → IsLoose at s b.header → length y < s → r ≡ after (says (box_line at b.header)) (cut_off Truncated (Some b.header.kind) at) → IsRest at y r
+  CutInBody :
+      (b : Headed y) (s : ℕ) → IsLoose at s b.header → length y < s
+      → r ≡ after (says (box_line at b.header)) (cut_off Truncated (Some b.header.kind) at) → IsRest at y r
   -- one that goes to the end of the stream
-  Open : (b : Headed y) → IsOpen b.header → at + length y ≤ longest → r ≡ after (says (box_line at b.header)) empty_reading → IsRest at y r
-  OpenTooFar : (b : Headed y) → IsOpen b.header → at + length b.head ≤ longest → longest < at + length y → r ≡ after (says (box_line at b.header)) (at_fault StreamTooLong (Some b.header.kind) at) → IsRest at y r
+  Open :
+      (b : Headed y) → IsOpen b.header → at + length y ≤ longest
+      → r ≡ after (says (box_line at b.header)) empty_reading → IsRest at y r
+  OpenTooFar :
+      (b : Headed y) → IsOpen b.header → at + length b.head ≤ longest → longest < at + length y
+      → r ≡ after (says (box_line at b.header)) (at_fault StreamTooLong (Some b.header.kind) at) → IsRest at y r
   -- a moov or moof that is too large, or states no size
-  Large : (b : Headed y) (s limit : ℕ) → IsHeld at s limit b.header → limit < s → r ≡ at_fault TooLarge (Some b.header.kind) at → IsRest at y r
-  Unsized : (b : Headed y) (limit : ℕ) → most_held b.header.kind.0 ≡ Some limit → b.header.size ≡ ToEnd → at + length b.head ≤ longest → r ≡ at_fault TooLarge (Some b.header.kind) at → IsRest at y r
+  Large :
+      (b : Headed y) (s limit : ℕ) → IsHeld at s limit b.header → limit < s
+      → r ≡ at_fault TooLarge (Some b.header.kind) at → IsRest at y r
+  Unsized :
+      (b : Headed y) (limit : ℕ) → most_held b.header.kind.0 ≡ Some limit → b.header.size ≡ ToEnd
+      → at + length b.head ≤ longest
+      → r ≡ at_fault TooLarge (Some b.header.kind) at → IsRest at y r
   -- one that isn't whole, or has a fault in its tree
-  CutInHeld : (b : Headed y) (s limit : ℕ) → IsHeld at s limit b.header → s ≤ limit → length y < s → r ≡ after (requests_memory at s) (cut_off Truncated (Some b.header.kind) at) → IsRest at y r
-  BadTree : (b : Boxed y) (limit : ℕ) (f : Fault) (fs : List Fault) → IsHeld at (length b.bytes) limit b.header → length b.bytes ≤ limit → tree_faults at b.bytes ≡ f ∷ fs
-      → r ≡ after (requests_memory at (length b.bytes)) (record { effects = silent; outcome = Faulty f }) → IsRest at y r
+  CutInHeld :
+      (b : Headed y) (s limit : ℕ) → IsHeld at s limit b.header → s ≤ limit → length y < s
+      → r ≡ after (requests_memory at s) (cut_off Truncated (Some b.header.kind) at) → IsRest at y r
+  BadTree :
+      (b : Boxed y) (limit : ℕ) (f : Fault) (fs : List Fault) → IsHeld at (length b.bytes) limit b.header
+      → length b.bytes ≤ limit → tree_faults at b.bytes ≡ f ∷ fs
+      → r ≡ after (requests_memory at (length b.bytes)) (record { effects = silent; outcome = Faulty f })
+      → IsRest at y r
 
 -- the bytes b from an offset on are whole boxes that break no rule, and then one of the rests
 pub record Split (at : ℕ) (b : List ℕ) : Type 0 where

@@ -1,4 +1,5 @@
--- Working: how trafs without a tfdt are found that come behind others of their track: some of their track_IDs in order, and which of these were listed.
+-- Working: how trafs without a tfdt are found that come behind others of their track.
+-- Some of their track_IDs are kept in order, with which of these were listed.
 use Rattle.std.specs.Prelude.{ℕ, Bool, true, false, List, [], ◌∷◌, Option, Some, None, replicate, slice_set}
 use Rattle.mp4_box.specs.Trees.{Box}
 use Rattle.mp4_init.specs.Working.OrderedIds.{sought}

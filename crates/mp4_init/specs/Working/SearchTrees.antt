@@ -1,4 +1,5 @@
--- Working: how a track_ID is sought among nodes: from the first on, each of another track_ID leads on by the next bit of the one that is sought, the lowest first.
+-- Working: how a track_ID is sought among nodes. From the first on, each node of another track_ID leads on by the next
+-- bit of the one that is sought, the lowest first.
 use Rattle.std.specs.Prelude.{ℕ, Bool, true, false, List, [], ◌∷◌, Option, Some, None, ⊤, ◌==◌, ◌+◌, ◌/◌, ◌%◌, ◌≡◌, ◌<◌, if◌then◌else◌}
 use Rattle.std.specs.List.{position}
 use Rattle.mp4_init.specs.declared.search_tree.Ending.{Ending}
