@@ -1,20 +1,23 @@
 //! The run of a moof that has no other.
 
-ghost use Rattle.std.specs.Prelude.{◌≡◌, ℕ, List, ◌*◌, ◌≢◌, ◌+◌, ◌^◌, ◌<◌, ◌≤◌, ◌↔◌, ◌∷◌, ◌==◌, [], length, true, None, IfNone, IfSome, IsSome};
+ghost use Rattle.std.specs.Prelude.{◌≡◌, ℕ, List, ◌*◌, ◌≢◌, ◌+◌, ◌^◌, ◌<◌, ◌≤◌, ◌↔◌, ◌∷◌, ◌==◌, [], length, true, None, Some, Ok, Err, IfNone, IfSome, IsSome, OnErr};
 ghost use Rattle.std.specs.List.{position};
 ghost use Rattle.std.specs.Option.{unwrap_or};
 ghost use Rattle.mp4_box.specs.Headers.{IsWhole};
+ghost use Rattle.mp4_box.specs.Order.{least};
+ghost use Rattle.mp4_box.specs.declared.rules.Fault.{Fault};
+ghost use Rattle.mp4_frag.specs.declared.lone.LoneRun.{LoneRun};
 ghost use Rattle.mp4_box.specs.Paths.{of_kind};
 ghost use Rattle.mp4_box.specs.Trees.{children, view};
+ghost use Rattle.mp4_init.specs.Moovs.{fault_of};
 ghost use Rattle.mp4_init.specs.Tracks.{with_next};
 ghost use Rattle.mp4_init.specs.declared.table.Track.{Track};
 ghost use Rattle.mp4_run_order.specs.Places.{lies_in};
 ghost use Rattle.mp4_frag.specs.Kinds.{trun};
 ghost use Rattle.mp4_frag.specs.LoneRuns.{IsLone};
-ghost use Rattle.mp4_frag.specs.Moofs.{IsRead, moof_runs, moof_samples, moof_trafs};
+ghost use Rattle.mp4_frag.specs.Moofs.{IsRead, early_fault, moof_runs, moof_samples, moof_trafs, time_faults};
 ghost use Rattle.mp4_frag.specs.Places.{place_fault};
 ghost use Rattle.mp4_frag.specs.Ranges.{InRange, IsSound};
-ghost use Rattle.mp4_frag.specs.Rules.{most_samples};
 ghost use Rattle.mp4_frag.specs.RunLists.{taken_runs};
 ghost use Rattle.mp4_frag.specs.Places.{listed_run};
 ghost use Rattle.mp4_frag.specs.Runs.{base_of, moof_at, runs_of, tfhd_of, traf_of};
@@ -22,7 +25,8 @@ ghost use Rattle.mp4_frag.specs.Tfhd.{track_id};
 
 use crate::children::next_of;
 use crate::kinds::{TRAF, TRUN};
-use crate::moof::Moof;
+use crate::moof::{Moof, read_by_rules};
+use crate::places::run_place_fault;
 use crate::rows::Steps;
 use crate::run::Run;
 use crate::runs::run_of;
@@ -30,7 +34,7 @@ use crate::start::{before_runs, heads_of};
 use crate::tfhd::track_id;
 use crate::traf::{TrafContext, end_in, header_by, track_at};
 use crate::usual::usual_run;
-use mp4_box::{BoxRef, FourCc, Walk, whole_box};
+use mp4_box::{BoxRef, Fault, FourCc, Walk, whole_box};
 use mp4_init::TrackList;
 use mp4_run_order::Payload;
 
@@ -204,26 +208,37 @@ fn read_generally(
     offset: u64,
     tracks: &TrackList,
     steps: &mut Steps,
-) -> Option<LoneRun>
+) -> Result<Option<LoneRun>, Fault>
     requires whole { IsWhole held.now }
     requires room { offset + length held.now ≤ 2 ^ 62 }
     requires steps { steps.old.rows < 2 ^ 126 }
-    ensures lone { IfSome result (λ l. IsLone (moof_at held.now offset) tracks.now l) }
+    ensures lone { (l : LoneRun) → result ≡ Ok (Some l) →
+        IsLone (moof_at held.now offset) tracks.now l }
     ensures none { IsRead (moof_at held.now offset) tracks.now →
         length (moof_trafs (moof_at held.now offset) tracks.now) ≡ 1 →
-        length (moof_runs (moof_at held.now offset) tracks.now) ≡ 1 → IsSome result }
-    ensures walked { IfSome result (λ _. steps.new.rows ≡
-        steps.old.rows + 2 * moof_samples (moof_at held.now offset)) }
-    ensures unwalked { IsRead (moof_at held.now offset) tracks.now → result ≡ None →
-        steps.new ≡ steps.old }
-    ensures few { steps.new.rows ≤ steps.old.rows + 2 * most_samples }
+        length (moof_runs (moof_at held.now offset) tracks.now) ≡ 1 →
+        (l : LoneRun) × (result ≡ Ok (Some l)) }
+    ensures late { (f : Fault) → result ≡ Err f →
+        (early_fault (moof_at held.now offset) tracks.now ≡ None) ×
+        (least (time_faults (moof_trafs (moof_at held.now offset) tracks.now)) ≡ Some f) }
+    ensures walked { (l : LoneRun) → result ≡ Ok (Some l) → steps.new.rows ≡
+        steps.old.rows + 2 * moof_samples (moof_at held.now offset) }
+    ensures unwalked { result ≡ Ok None → steps.new ≡ steps.old }
+    ensures refused { OnErr result (steps.new.rows ≡
+        steps.old.rows + moof_samples (moof_at held.now offset)) }
 {
     if !has_one_run(held, offset) {
-        return None;
+        return Ok(None);
     }
-    match Moof::read(held, offset, tracks, steps) {
-        Ok(moof) => moof.lone_run(tracks, steps),
-        Err(_) => None,
+    match read_by_rules(held, offset, tracks, steps) {
+        Ok(moof) => Ok(moof.lone_run(tracks, steps)),
+        Err(found) => {
+            if found.is_late {
+                Err(found.fault)
+            } else {
+                Ok(None)
+            }
+        }
     }
 }
 
@@ -231,41 +246,63 @@ impl LoneRun {
     /// The run of the moof that the bytes are, one whole box of stated size that begins at `offset` in the stream, where nothing is
     /// at fault with it and it has one traf, with one trun in it; none of other moofs. `tracks` are those of its moov. Where there
     /// is such a run, its samples are counted in `steps` twice as rows that were read: once for the rules, as [`Moof::read`]
-    /// counts them, and once for the run. Where there is none though nothing is at fault with the moof, no row is read.
-    pub fn read(held: &[u8], offset: u64, tracks: &TrackList, steps: &mut Steps) -> Option<LoneRun>
+    /// counts them, and once for the run. Where there is none, no row is read.
+    ///
+    /// # Errors
+    ///
+    /// TimeRange at its trun, where that ends past 64 bits and no other rule is broken: its samples are counted once then.
+    pub fn read(
+        held: &[u8],
+        offset: u64,
+        tracks: &TrackList,
+        steps: &mut Steps,
+    ) -> Result<Option<LoneRun>, Fault>
         requires whole { IsWhole held.now }
         requires room { offset + length held.now ≤ 2 ^ 62 }
         requires steps { steps.old.rows < 2 ^ 126 }
-        ensures lone { IfSome result (λ l. IsLone (moof_at held.now offset) tracks.now l) }
+        ensures lone { (l : LoneRun) → result ≡ Ok (Some l) →
+            IsLone (moof_at held.now offset) tracks.now l }
         ensures none { IsRead (moof_at held.now offset) tracks.now →
             length (moof_trafs (moof_at held.now offset) tracks.now) ≡ 1 →
-            length (moof_runs (moof_at held.now offset) tracks.now) ≡ 1 → IsSome result }
-        ensures walked { IfSome result (λ _. steps.new.rows ≡
-            steps.old.rows + 2 * moof_samples (moof_at held.now offset)) }
-        ensures unwalked { IsRead (moof_at held.now offset) tracks.now → result ≡ None →
-            steps.new ≡ steps.old }
-        ensures few { steps.new.rows ≤ steps.old.rows + 2 * most_samples }
+            length (moof_runs (moof_at held.now offset) tracks.now) ≡ 1 →
+            (l : LoneRun) × (result ≡ Ok (Some l)) }
+        ensures late { (f : Fault) → result ≡ Err f →
+            (early_fault (moof_at held.now offset) tracks.now ≡ None) ×
+            (least (time_faults (moof_trafs (moof_at held.now offset) tracks.now)) ≡ Some f) }
+        ensures walked { (l : LoneRun) → result ≡ Ok (Some l) → steps.new.rows ≡
+            steps.old.rows + 2 * moof_samples (moof_at held.now offset) }
+        ensures unwalked { result ≡ Ok None → steps.new ≡ steps.old }
+        ensures refused { OnErr result (steps.new.rows ≡
+            steps.old.rows + moof_samples (moof_at held.now offset)) }
     {
         match usual_run(held, offset, tracks) {
             Some(run) => {
                 steps.rows += 2 * u128::from(run.run.count);
-                Some(run)
+                Ok(Some(run))
             }
             // Taken apart, so that only here the answer need be in memory.
             None => match read_generally(held, offset, tracks, steps) {
-                Some(run) => Some(run),
-                None => None,
+                Ok(Some(run)) => Ok(Some(run)),
+                Ok(None) => Ok(None),
+                Err(fault) => Err(fault),
             },
         }
     }
 
     /// Whether the run stands where it may in the payload of its mdat, being the only one of its moof: it has no
     /// samples, or lies in the payload.
+    ///
+    /// # Errors
+    ///
+    /// RunPlace at its trun.
     #[inline]
-    pub fn stands_in(&self, payload: Payload) -> bool
-        ensures { (result ≡ true) ↔ (place_fault payload (self.now.run ∷ []) ≡ None) }
+    pub fn places(&self, payload: Payload) -> Result<(), Fault>
+        ensures { fault_of result ≡ place_fault payload (self.now.run ∷ []) }
     {
-        self.run.count == 0 || lies_in(&self.run, payload)
+        if self.run.count == 0 || lies_in(&self.run, payload) {
+            return Ok(());
+        }
+        Err(run_place_fault(self.run.offset))
     }
 
     /// Sets where its track ends behind the moof: where the run does. `tracks` are those that the moof was read with. No

@@ -1,7 +1,7 @@
 //! From the bytes of a moof to its runs.
 
 ghost use Rattle.std.specs.Prelude.{◌≡◌, ◌+◌, ◌^◌, ◌<◌, ◌≤◌, ◌↔◌, [], length, true, false, Some, None, Err, IfErr, IfOk, IfSome, OnOk, IsSome};
-ghost use Rattle.std.specs.Option.{option_or};
+ghost use Rattle.std.specs.Option.{is_none, option_or};
 ghost use Rattle.mp4_box.specs.declared.rules.Fault.{Fault};
 ghost use Rattle.mp4_box.specs.Headers.{IsWhole};
 ghost use Rattle.mp4_box.specs.Order.{IsLeast, least, least_from};
@@ -159,6 +159,66 @@ fn late_fault(is_early: bool, held: &[u8], offset: u64, tracks: &TrackList) -> O
     best
 }
 
+/// What is at fault with a moof.
+#[derive(Clone, Copy, Drop)]
+pub(crate) struct MoofFault {
+    /// The fault that is told.
+    pub(crate) fault: Fault,
+    /// It is that of times: all other rules hold, and rows were read.
+    pub(crate) is_late: bool,
+}
+
+/// The moof that the bytes are, one whole box of stated size that begins at this offset. Its samples are counted in `steps` as
+/// rows that were read, once all rules but that of times hold.
+///
+/// # Errors
+///
+/// The fault of the lowest rule that it breaks, at the box that begins first.
+#[inline(always)]
+pub(crate) fn read_by_rules<'a>(
+    held: &'a [u8],
+    offset: u64,
+    tracks: &TrackList,
+    steps: &mut Steps,
+) -> Result<Moof<'a>, MoofFault>
+    requires whole { IsWhole held.now }
+    requires room { offset + length held.now ≤ 2 ^ 62 }
+    requires steps { steps.old.rows < 2 ^ 127 }
+    ensures moof { IfOk result (λ m. m ≡ moof_at held.now offset) }
+    ensures good { OnOk result (IsRead (moof_at held.now offset) tracks.now) }
+    ensures fault { IfErr result (λ f. moof_fault (moof_at held.now offset) tracks.now ≡
+        Some f.fault) }
+    ensures least { IfErr result (λ f. IsLeast f.fault
+        (moof_faults (moof_at held.now offset) tracks.now)) }
+    ensures late { IfErr result (λ f. f.is_late ≡
+        is_none (early_fault (moof_at held.now offset) tracks.now)) }
+    ensures walked { early_fault (moof_at held.now offset) tracks.now ≡ None →
+        steps.new.rows ≡ steps.old.rows + moof_samples (moof_at held.now offset) }
+    ensures ok { OnOk result (steps.new.rows ≡ steps.old.rows +
+        moof_samples (moof_at held.now offset)) }
+    ensures few { steps.new.rows ≤ steps.old.rows + most_samples }
+    ensures unwalked { IsSome (early_fault (moof_at held.now offset) tracks.now) →
+        steps.new ≡ steps.old }
+{
+    let sound = match early(held, offset, tracks) {
+        Ok(sound) => sound,
+        Err(fault) => {
+            return Err(MoofFault {
+                fault,
+                is_late: false,
+            });
+        }
+    };
+    steps.rows += u128::from(sound.samples);
+    if let Some(fault) = late_fault(sound.is_early, held, offset, tracks) {
+        return Err(MoofFault {
+            fault,
+            is_late: true,
+        });
+    }
+    Ok(Moof::of(held, offset, Some(sound)))
+}
+
 /// The trafs of the moof that the bytes are, which begins at this offset.
 #[tactic(auto, using(crate::proofs::MoofLemmas::moof_is))]
 fn trafs_in<'a>(held: &'a [u8], offset: u64, tracks: &'a TrackList) -> Trafs<'a>
@@ -215,15 +275,10 @@ impl<'a> Moof<'a> {
         ensures unwalked { IsSome (early_fault (moof_at held.now offset) tracks.now) →
             steps.new ≡ steps.old }
     {
-        let sound = match early(held, offset, tracks) {
-            Ok(sound) => sound,
-            Err(fault) => return Err(fault),
-        };
-        steps.rows += u128::from(sound.samples);
-        if let Some(fault) = late_fault(sound.is_early, held, offset, tracks) {
-            return Err(fault);
+        match read_by_rules(held, offset, tracks, steps) {
+            Ok(moof) => Ok(moof),
+            Err(found) => Err(found.fault),
         }
-        Ok(Moof::of(held, offset, Some(sound)))
     }
 
     /// The moof again that was read from these bytes with these tracks. It reads no row.

@@ -4,7 +4,7 @@ ghost use Rattle.std.specs.Prelude.{◌≡◌, List};
 ghost use Rattle.mp4_init.specs.declared.table.Track.{Track};
 ghost use Rattle.mp4_init.specs.Moovs.{fault_of};
 ghost use Rattle.mp4_frag.specs.Moofs.{moof_runs};
-ghost use Rattle.mp4_frag.specs.Places.{IsPlaceFault, place_fault};
+ghost use Rattle.mp4_frag.specs.Places.{IsPlaceFault, place_fault, run_place_fault};
 ghost use Rattle.mp4_frag.specs.RunLists.{moof_listing};
 ghost use Rattle.mp4_frag.specs.Working.ListedRows.{IsListOf};
 
@@ -15,6 +15,17 @@ use crate::rows::Steps;
 use crate::run_list::RunList;
 use mp4_box::{Fault, Rule};
 use mp4_run_order::Payload;
+
+/// The trun that begins at this offset may not stand where it does.
+pub(crate) fn run_place_fault(offset: u64) -> Fault
+    ensures { result ≡ run_place_fault offset }
+{
+    Fault {
+        rule: Rule::RunPlace,
+        kind: Some(TRUN),
+        offset,
+    }
+}
 
 impl<'a> Moof<'a> {
     /// Whether its runs stand where they may in the payload of its mdat. The list is that of this moof, with the
@@ -34,11 +45,7 @@ impl<'a> Moof<'a> {
     {
         match find_by_place(payload, list.late, &list.rows) {
             None => Ok(()),
-            Some(offset) => Err(Fault {
-                rule: Rule::RunPlace,
-                kind: Some(TRUN),
-                offset,
-            }),
+            Some(offset) => Err(run_place_fault(offset)),
         }
     }
 }

@@ -1,6 +1,6 @@
 use Rattle.std.proofs.Common.{sym}
 use Rattle.mp4_frag.proofs.MoofLemmas.{count_none, late_least}
-use Rattle.mp4_frag.proofs.moof.Moof.read.Goals as goal
+use Rattle.mp4_frag.proofs.moof.read_by_rules.Goals as goal
 
 pub returns-in-Some-clause-least : goal.returns-in-Some-clause-least
 returns-in-Some-clause-least c =
