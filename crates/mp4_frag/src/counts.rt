@@ -11,7 +11,7 @@ use crate::trun::sample_count;
 use mp4_box::{BoxRef, Fault, Rule};
 
 /// So many samples may a moof have.
-pub(crate) const MOST_SAMPLES: u32 = 1_000_000;
+pub const MOST_SAMPLES: u32 = 1_000_000;
 
 /// How many samples a moof has, or the first trun with which it has too many.
 #[tactic(auto, using(std::proofs::lemmas::List::Sums::sum_by_more), unfolding(crate::specs::Rules::too_many))]

@@ -57,6 +57,7 @@ mod traf;
 mod trun;
 mod usual;
 
+pub use counts::MOST_SAMPLES;
 pub use lone::LoneRun;
 pub use moof::Moof;
 pub use mp4_run_order::{ListedRun, Payload};

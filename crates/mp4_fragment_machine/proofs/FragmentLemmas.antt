@@ -103,7 +103,7 @@ module _ (p : Payload) (run : Run) (stands : place_fault p (run ∷ []) ≡ None
 -- ---- a fragment
 
 -- samples that were looked at
-walked_more : (t : Tally) (h : MoofBytes) (n : ℕ) → n ≡ moof_samples h → record { fragments = t.fragments; samples = t.samples; media_bytes = t.media_bytes; walked = t.walked + n } ≡ plus t (walked h)
+pub walked_more : (t : Tally) (h : MoofBytes) (n : ℕ) → n ≡ moof_samples h → record { fragments = t.fragments; samples = t.samples; media_bytes = t.media_bytes; walked = t.walked + n } ≡ plus t (walked h)
 walked_more t h n e =
     let f : t.fragments ≡ t.fragments + 0 = omega arith in
     let s : t.samples ≡ t.samples + 0 = omega arith in

@@ -46,7 +46,7 @@ use Rattle.mp4_machine.proofs.StepLemmas.{GoesOn-then}
 
 module _ (meaning : Meaning) (number : ℕ) (o : Outside) (at : ℕ) (tracks : List Track) (h : Header) (x : List ℕ)
     (is : header_at x ≡ steps.Whole h) (kind : kind_in h.kind.0 ≡ Moof) (sized : h.size ≡ Exact (length x)) (most : length x ≤ most_moof) (near : at + length x ≤ longest)
-    (read : IsRead (moof_at x at) tracks) (low : 64 * length tracks ≤ o.account.live) where
+    (low : 64 * length tracks ≤ o.account.live) where
   abbrev pub c : Context
   c = context at (Some tracks) number
 
@@ -74,14 +74,19 @@ module _ (meaning : Meaning) (number : ℕ) (o : Outside) (at : ℕ) (tracks : L
       GoesOn-keep meaning o at number (Some tracks) h head most_moof low
       (λ later. reads-kind meaning c h head (front-len x h is) (front-is x h is) Moof (Some tracks) later (subst (λ s. least_end at h s ≤ longest) (sym sized) near) kind refl) (length x) sized most some
 
-  pub GoesOn-moof_whole : GoesOn o listed (standing meaning (InHeader c [])) x (standing meaning (Behind c tracks x []))
-  GoesOn-moof_whole =
+  -- all of it came, and is held
+  pub GoesOn-held_whole : GoesOn o (claimed_from o (length x)) (standing meaning (InHeader c [])) x (standing meaning (InHeld c h.kind (length x) x))
+  GoesOn-held_whole =
       let all : head ++ rest ≡ x = take-append-drop h.header_len x in
-      let good = none_of (early_fault (moof_at x at) tracks) (least (time_faults (moof_trafs (moof_at x at) tracks))) read in
       let begun = GoesOn-then low to_header (standing meaning (InHeld c h.kind (length x) head)) to_held in
       let more = GoesOn-more low begun rest (standing meaning (InHeld c h.kind (length x) (head ++ rest))) (GoesOn-held meaning held c h.kind (length x) head rest) in
-      let whole = subst (λ l. GoesOn o held (standing meaning (InHeader c [])) l (standing meaning (InHeld c h.kind (length x) l))) all more in
-      GoesOn-then low whole (standing meaning (Behind c tracks x [])) (GoesOn-moof meaning held at number tracks h.kind (length x) x refl (omega (arith, low)) good.0 good.1 some)
+      subst (λ l. GoesOn o held (standing meaning (InHeader c [])) l (standing meaning (InHeld c h.kind (length x) l))) all more
+
+  -- it is good, and waits for its mdat
+  pub GoesOn-moof_whole : IsRead (moof_at x at) tracks → GoesOn o listed (standing meaning (InHeader c [])) x (standing meaning (Behind c tracks x []))
+  GoesOn-moof_whole read =
+      let good = none_of (early_fault (moof_at x at) tracks) (least (time_faults (moof_trafs (moof_at x at) tracks))) read in
+      GoesOn-then low GoesOn-held_whole (standing meaning (Behind c tracks x [])) (GoesOn-moof meaning held at number tracks h.kind (length x) x refl (omega (arith, low)) good.0 good.1 some)
 
 -- ---- the mdat behind it
 
@@ -208,10 +213,10 @@ module _ (command : Command) (number : ℕ) (o : Outside) (at : ℕ) (tracks : L
   one = ap length lone
 
   abbrev listed_of : Outside
-  listed_of = listed (command_meaning command) number o at tracks h m begins moof sized most (omega (arith, near)) read low
+  listed_of = listed (command_meaning command) number o at tracks h m begins moof sized most (omega (arith, near)) low
 
   to_behind : GoesOn o listed_of starts (take (length m) piece) (standing (command_meaning command) (Behind (context at (Some tracks) number) tracks m []))
-  to_behind = subst (λ l. GoesOn o listed_of starts l (standing (command_meaning command) (Behind (context at (Some tracks) number) tracks m []))) front (GoesOn-moof_whole (command_meaning command) number o at tracks h m begins moof sized most (omega (arith, near)) read low)
+  to_behind = subst (λ l. GoesOn o listed_of starts l (standing (command_meaning command) (Behind (context at (Some tracks) number) tracks m []))) front (GoesOn-moof_whole (command_meaning command) number o at tracks h m begins moof sized most (omega (arith, near)) low read)
 
   module _ (u : Option (List ℕ)) (v : Pending) (a : Account) (t : Tally)
       (good : fragment_fault (command_meaning command) (fragment (context at (Some tracks) number) tracks m g) ≡ None)

@@ -221,7 +221,7 @@ module _ (cut : Cut) (o : Outside) (at : ℕ) (tracks : List Track) (piece : Lis
   begins_moof = front_is m piece h front is.boxes.moof.is (subst (λ z. HasRoom z h.header_len) sized (room_of piece h is.boxes.moof.is)) within
 
   abbrev listed_of : Outside
-  listed_of = listed (splitting cut) number o at tracks h m begins_moof is.boxes.moof.is_kind sized (omega (arith, moof_len_is, is.boxes.most)) (omega (arith, fit.near)) is.lone.read low
+  listed_of = listed (splitting cut) number o at tracks h m begins_moof is.boxes.moof.is_kind sized (omega (arith, moof_len_is, is.boxes.most)) (omega (arith, fit.near)) low
 
   abbrev starts : Standing
   starts = standing (splitting cut) (InHeader c [])
@@ -232,7 +232,7 @@ module _ (cut : Cut) (o : Outside) (at : ℕ) (tracks : List Track) (piece : Lis
   to_behind : GoesOn o listed_of starts (take (length m) piece) (waits [])
   to_behind =
       subst (λ y. GoesOn o listed_of starts y (waits [])) front
-      (GoesOn-moof_whole (splitting cut) number o at tracks h m begins_moof is.boxes.moof.is_kind sized (omega (arith, moof_len_is, is.boxes.most)) (omega (arith, fit.near)) is.lone.read low)
+      (GoesOn-moof_whole (splitting cut) number o at tracks h m begins_moof is.boxes.moof.is_kind sized (omega (arith, moof_len_is, is.boxes.most)) (omega (arith, fit.near)) low is.lone.read)
 
   behind : header_at x ≡ steps.Whole g
   behind = ap (λ k. header_at (drop k piece)) moof_len_is ∙ is.boxes.mdat.is

@@ -15,7 +15,7 @@ use mp4_box::{Header, HeaderReader, Rule, Step, header_of};
 use mp4_ends::Sink;
 use mp4_grammar::{Kind, MOST_MOOF, MOST_MOOV, kind_of};
 use mp4_ledger::Ledger;
-use mp4_machine::{Block, Stop, is_too_long, at_fault, take_head};
+use mp4_machine::{Block, Stop, at_fault, is_too_long, take_head};
 use std::mem::replace;
 
 /// Takes the header of the box at `at` from the front of a piece, at once where the piece has all of it, and begins the box

@@ -13,8 +13,8 @@ ghost use Rattle.mp4_pieces.specs.Working.Growing.{HasRoom};
 use crate::state::Waiting;
 use mp4_ends::{Failed, Sink};
 use mp4_frag::{Cursor, Moof, Row, Rows, Run, Steps};
-use mp4_init::TrackList;
 use mp4_grammar::Sample;
+use mp4_init::TrackList;
 use mp4_machine::Block;
 
 /// The cursor behind a row.

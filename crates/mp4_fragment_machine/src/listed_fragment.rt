@@ -24,8 +24,8 @@ use crate::measure::measure_runs;
 use crate::state::{Counter, Kept, State, Waiting};
 use mp4_box::{Header, Size};
 use mp4_ends::{Failed, Sink};
-use mp4_init::TrackList;
 use mp4_grammar::Command;
+use mp4_init::TrackList;
 use mp4_ledger::Ledger;
 use mp4_machine::{Block, Body, LONGEST, OpenBody, Stop};
 

@@ -5,6 +5,8 @@ ghost use Rattle.mp4_init.specs.declared.table.Track.{Track};
 ghost use Rattle.mp4_box.specs.declared.rules.Rule.TheVariants.{MdatMissing, Truncated};
 ghost use Rattle.mp4_box.specs.declared.headers.FourCc.{FourCc};
 ghost use Rattle.mp4_box.specs.Headers.{IsBytes};
+ghost use Rattle.mp4_frag.specs.LoneRuns.{IsLone};
+ghost use Rattle.mp4_frag.specs.Runs.{moof_at};
 ghost use Rattle.mp4_ledger.specs.Memory.{given_back};
 ghost use Rattle.mp4_machine.specs.Bodies.{fault};
 ghost use Rattle.mp4_machine.specs.Ends.{sent};
@@ -13,15 +15,16 @@ ghost use Rattle.mp4_machine.specs.Readings.{fault_in, uncounted};
 ghost use Rattle.mp4_grammar.specs.Contexts.{first_context};
 ghost use Rattle.mp4_fragment_machine.specs.Places.{InHeader, IsPlace, claim_of, standing};
 ghost use Rattle.mp4_fragment_machine.specs.States.{IsState, IsWaiting, begun, kept_by, known, listed_by, place_in, place_of, reads_of, stands_in, stopped};
-ghost use Rattle.mp4_fragment_machine.specs.Working.Wholes.{IsFragment, IsTakenWhole};
+ghost use Rattle.mp4_fragment_machine.specs.Working.Wholes.{AreBoxes, IsTakenWhole};
 ghost use Rattle.mp4_grammar.specs.Meanings.{Meaning};
 ghost use Rattle.mp4_recut.specs.declared.plan.Plan.{Plan};
 ghost use Rattle.mp4_fragment_machine.specs.declared.state.State.TheVariants as states;
 
 use crate::state::{Counter, Kept, State, Taken, Waiting};
 use crate::step::{back_state, take_next};
-use crate::whole_fragment::{Whole, boxes_at, stands_in};
-use crate::whole_plan::{is_taken_whole, looks_ahead, take_whole_fragment};
+use crate::whole_fault::refuse_times;
+use crate::whole_fragment::{Whole, boxes_at};
+use crate::whole_plan::{looks_ahead, take_whole_fragment};
 use mp4_box::{Fault, FourCc, HeaderReader, Rule};
 use mp4_ends::Sink;
 use mp4_frag::{LoneRun, Steps};
@@ -95,7 +98,7 @@ impl FragmentMachine {
     ///
     /// # Errors
     ///
-    /// `Write` where a write failed.
+    /// `Stream` where its run may not stand where it does; `Write` where a write failed.
     #[inline(always)]
     fn take_whole<W: Sink>(
         &mut self,
@@ -110,7 +113,9 @@ impl FragmentMachine {
         requires state { self.old.state ≡ states.Header at }
         requires head { self.old.head ≡ [] }
         requires known { self.old.tracks ≡ Some (known self.old.tracks) }
-        requires is { IsFragment at (known self.old.tracks) piece.now whole.now.boxes whole.now.run.now }
+        requires are { AreBoxes at piece.now whole.now.boxes }
+        requires lone { IsLone (moof_at whole.now.boxes.moof.now at) (known self.old.tracks)
+            whole.now.run.now }
         requires room { ledger.old.live + (length whole.now.boxes.moof.now + 64) ≤ ledger.old.limit }
         requires claim { claim_of (place_in self.old) ≤ ledger.old.live }
         ensures takes { Takes (around (sent W.contents W.has_failed w.old w.new) out.old out.new
@@ -208,20 +213,28 @@ impl Machine for FragmentMachine {
         out: &mut Block,
         w: &mut W,
     ) -> Result<usize, Stop> {
-        if looks_ahead(&self.kept.plan) {
-            if let State::Header { at } = &self.state {
-                let at = *at;
+        if let State::Header { at } = &self.state {
+            let at = *at;
+            if looks_ahead(&self.kept.plan, &self.kept.counter) {
                 if let (Some(boxes), Some(list)) = (
                     boxes_at(at, &self.kept.head, piece, ledger),
                     &self.kept.tracks,
                 ) {
                     let mut steps = Steps { rows: 0 };
-                    if let Some(run) = &LoneRun::read(boxes.moof, at, list, &mut steps) {
-                        if stands_in(at, &boxes, piece, run)
-                            && is_taken_whole(&self.kept.plan, &self.kept.counter, run)
-                        {
-                            let whole = Whole { boxes, run };
+                    match LoneRun::read(boxes.moof, at, list, &mut steps) {
+                        Ok(Some(run)) => {
+                            let whole = Whole { boxes, run: &run };
                             return self.take_whole(at, &whole, ledger, piece, out, w);
+                        }
+                        Ok(None) => {}
+                        Err(fault) => {
+                            let kept = &mut self.kept;
+                            let stop = refuse_times(
+                                at, &boxes, piece, steps.rows, fault, kept, ledger,
+                            );
+                            stop_at(&mut self.state);
+                            self.give_back(ledger);
+                            return Err(stop);
                         }
                     }
                 }

@@ -18,8 +18,8 @@ ghost use Rattle.mp4_fragment_machine.specs.States.{IsWaiting, moof_in};
 use crate::state::Waiting;
 use mp4_box::{Fault, FourCc, Header, Rule, Size};
 use mp4_frag::{Moof, Payload, Steps};
-use mp4_init::TrackList;
 use mp4_grammar::{Kind, kind_of};
+use mp4_init::TrackList;
 use mp4_ledger::Ledger;
 use mp4_machine::is_too_long;
 

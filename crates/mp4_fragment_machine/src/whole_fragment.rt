@@ -2,11 +2,12 @@
 //!
 //! Most fragments of live streams are such. What they would claim is counted, and no memory is asked for.
 
-ghost use Rattle.std.specs.Prelude.{◌≡◌, ◌+◌, ◌*◌, ◌<◌, ◌≤◌, ◌^◌, [], ◌++◌, List, length, Some, true, IfSome, IsTrue, OnOk, OnErr};
+ghost use Rattle.std.specs.Prelude.{◌≡◌, ◌+◌, ◌*◌, ◌<◌, ◌≤◌, ◌^◌, ◌∷◌, [], ◌++◌, List, length, Some, true, IfErr, IfSome, OnOk, OnErr};
 ghost use Rattle.mp4_box.specs.Headers.{IsBytes, IsWhole};
 ghost use Rattle.mp4_box.specs.declared.headers.Header.{Header};
 ghost use Rattle.mp4_init.specs.declared.table.Track.{Track};
 ghost use Rattle.mp4_frag.specs.LoneRuns.{IsLone};
+ghost use Rattle.mp4_frag.specs.Places.{place_fault};
 ghost use Rattle.mp4_frag.specs.Runs.{moof_at};
 ghost use Rattle.mp4_machine.specs.Ends.{sent};
 ghost use Rattle.mp4_machine.specs.Puts.{Puts};
@@ -19,17 +20,17 @@ ghost use Rattle.mp4_grammar.specs.Meanings.{counted_in};
 ghost use Rattle.mp4_recut.specs.declared.plan.Plan.TheVariants as plans;
 ghost use Rattle.mp4_fragment_machine.specs.States.{IsCounted, known, listed_by};
 ghost use Rattle.mp4_fragment_machine.specs.Working.Steps.{CanStep, TakesWhole, lent};
-ghost use Rattle.mp4_fragment_machine.specs.Working.Wholes.{AreBoxes, IsFragment, StandsFirst};
+ghost use Rattle.mp4_fragment_machine.specs.Working.Wholes.{AreBoxes, IsFragment, StandsFirst, payload_in};
 ghost use Rattle.mp4_fragment_machine.specs.declared.state.State.TheVariants as states;
 
 use crate::lines::put_run;
 use crate::listed_fragment::count;
 use crate::state::{Counter, Kept};
-use mp4_box::{HeaderReader, Size, header_of};
+use mp4_box::{Fault, HeaderReader, Size, header_of};
 use mp4_ends::{Failed, Sink};
 use mp4_frag::{LoneRun, Payload};
-use mp4_init::TrackList;
 use mp4_grammar::{Command, Kind, MOST_MOOF, kind_of};
+use mp4_init::TrackList;
 use mp4_ledger::Ledger;
 use mp4_machine::{Block, Stop, is_too_long};
 
@@ -131,20 +132,33 @@ pub(crate) fn boxes_at<'a>(
     }
 }
 
-/// Whether a run stands where it may in the payload of the mdat of a fragment at `at`.
+/// Whether the only run of a fragment at `at` stands where it may in the payload of its mdat.
+///
+/// # Errors
+///
+/// `RunPlace` at its trun.
 #[inline(always)]
-pub(crate) fn stands_in(at: u64, boxes: &Boxes<'_>, piece: &[u8], run: &LoneRun) -> bool
+pub(crate) fn check_place(
+    at: u64,
+    boxes: &Boxes<'_>,
+    piece: &[u8],
+    run: &LoneRun,
+) -> Result<(), Fault>
     requires are { AreBoxes at piece.now boxes.now }
-    ensures { (tracks : List Track) → IsTrue result →
-        IsLone (moof_at boxes.now.moof.now at) tracks run.now →
-        IsFragment at tracks piece.now boxes.now run.now }
+    ensures good { (tracks : List Track) → IsLone (moof_at boxes.now.moof.now at) tracks run.now →
+        OnOk result (IsFragment at tracks piece.now boxes.now run.now) }
+    ensures fault { (are : AreBoxes at piece.now boxes.now) → IfErr result (λ f.
+        place_fault (payload_in (at + are.span.size) boxes.now.mdat) (run.now.run ∷ []) ≡ Some f) }
 {
     let next = at + boxes.moof.len() as u64;
     let payload = Payload {
         start: next + boxes.mdat.header_len,
         end: Some(next + boxes.mdat.size),
     };
-    run.stands_in(payload)
+    match run.places(payload) {
+        Ok(()) => Ok(()),
+        Err(fault) => Err(fault),
+    }
 }
 
 /// Counts a fragment, and puts the lines of its samples where they are asked for. Its rows were read where its moof was, and for

@@ -10,8 +10,3 @@ pub read-requires-clause-room : goal.read-requires-clause-room
 read-requires-clause-room g c =
     let are = c.in-Some-Some.ensures.are in
     omega (arith, moof_len c.in-Header.at c.args.piece.now c.in-Some-Some.boxes are, are.moof.near)
-
-pub take_whole-requires-clause-is : goal.take_whole-requires-clause-is
-take_whole-requires-clause-is g c =
-    rw (← c.self.view_is, c.in-Some-Some.is-1)
-    (c.stands_in.ensures c.in-Some-Some.list c.if-stands_in.true (rw c.in-Some.is at c.read.ensures.lone))
