@@ -1,5 +1,5 @@
 -- What a moov or moof brings of which all came.
-use Rattle.std.proofs.Common.{◌≡◌, ◌∙◌, ℕ, ◌+◌, ◌-◌, ◌*◌, ◌<◌, ◌≤◌, List, [], ◌++◌, length, take, drop, Option, None, Some, IsSome, Result, Ok, Err, inl, inr, ap, sym, refl, arith, length-append, subst}
+use Rattle.std.proofs.Common.{◌≡◌, ◌∙◌, ℕ, ◌+◌, ◌*◌, ◌<◌, ◌≤◌, List, [], ◌++◌, length, take, drop, Option, None, Some, IsSome, Result, Err, inl, inr, ap, sym, refl, arith, length-append, subst}
 use Rattle.std.proofs.Math.Seq.{take-append_seam, drop-append_seam}
 use Rattle.std.proofs.lemmas.Bool.{cases_lt}
 use Rattle.std.specs.Option.{option_or}
@@ -20,8 +20,6 @@ use Rattle.mp4_machine.specs.Readings.{Effects, most_of, silent, both, says, cou
 use Rattle.mp4_machine.specs.Accounts.{Spends}
 use Rattle.mp4_machine.specs.Blocks.{Breaks, BreaksMarked, Passes, Pending}
 use Rattle.mp4_machine.specs.Pieces.{Outside, Standing, Moves, GoesOn, Refuses, Starves, StopsAt, Loses, outside, refusal_of}
-use Rattle.mp4_ledger.specs.Memory.{Account}
-use Rattle.mp4_machine.specs.declared.stop.Stop.{Stop}
 use Rattle.mp4_machine.specs.declared.stop.Stop.TheVariants.{Write}
 use Rattle.mp4_machine.specs.declared.tally.Tally.{Tally}
 use Rattle.mp4_machine.proofs.AccountLemmas.{Counts-none, Spends-counts, Spends-more}

@@ -30,12 +30,12 @@ use Rattle.mp4_box.specs.declared.headers.Size.TheVariants.{Exact, ToEnd}
 use Rattle.mp4_box.specs.declared.headers.Step.TheVariants as steps
 use Rattle.mp4_box.proofs.HeaderLemmas.{whole_is}
 use Rattle.mp4_init.specs.declared.table.Track.{Track}
-use Rattle.mp4_frag.specs.Moofs.{moof_samples, moof_trafs}
+use Rattle.mp4_frag.specs.Moofs.{moof_samples}
 use Rattle.mp4_frag.specs.declared.run.Run.{Run}
 use Rattle.mp4_pieces.specs.declared.cut.Cut.{Cut}
 use Rattle.mp4_pieces.specs.Pieces.{IsRunOf}
 use Rattle.mp4_recut.specs.Cursors.{CanCut}
-use Rattle.mp4_grammar.specs.Contexts.{Context, context, first_context, table_of}
+use Rattle.mp4_grammar.specs.Contexts.{Context, first_context, table_of}
 use Rattle.mp4_grammar.specs.Items.{context_after_fragment, end_of, fragment, media_body, reads_in, with_runs}
 use Rattle.mp4_grammar.specs.Kinds.{kind_in}
 use Rattle.mp4_grammar.specs.Meanings.{Fragment, Meaning, fragment_fault, needed_in, runs_in}
@@ -46,11 +46,6 @@ use Rattle.mp4_recut.specs.declared.next.Gap.{Gap}
 use Rattle.mp4_recut.specs.Splitting.{copied, is_dropped, parts_of, splitting}
 use Rattle.mp4_recut.proofs.MediaLemmas.{playing-quiet}
 use Rattle.mp4_fragment_machine.specs.Working.Recuts.{first_spot, in_media, with_fragments, with_samples}
-use Rattle.mp4_fragment_machine.specs.States.{claimed_in, moof_in, place_of}
-use Rattle.mp4_machine.specs.declared.body.Body.{Body}
-use Rattle.mp4_fragment_machine.specs.declared.state.State.TheVariants as states
-use Rattle.mp4_fragment_machine.specs.declared.state.Waiting.{Waiting}
-use Rattle.mp4_recut.specs.declared.media.Media.{Media}
 use Rattle.mp4_frag.specs.Settling.{settled}
 use Rattle.mp4_fragment_machine.specs.Places.{Behind, InBody, InHeader, InOpenBody, claim_of, reached_of, reads_at, standing}
 use Rattle.mp4_fragment_machine.proofs.SecondLemmas.{second-accepted}

@@ -6,17 +6,17 @@ use Rattle.mp4_machine.specs.declared.stop.Stop.TheVariants.{Write}
 
 -- what is outside of a step that is lent nothing
 abbrev pub unmoved : Outside → Bool → Around
-unmoved o failed = record { before = o; behind = o; failed = failed; failed' = failed }
+unmoved o failed = record { before = o; after = o; failed = failed; failed' = failed }
 
 -- the machine took bytes, and stands elsewhere
 pub record GoesTo (a : Around) (from : Standing) (bytes : List ℕ) (to : Standing) : Type 0 where
-  pub goes : GoesOn a.before a.text_before from bytes to
+  pub goes : GoesOn a.before a.after from bytes to
   pub unfailed : a.failed' ≡ a.failed
-  pub claim : to.claim ≤ a.text_before.account.live
+  pub claim : to.claim ≤ a.after.account.live
 
 -- it stops at a piece
 pub record StopsIn (a : Around) (from : Standing) (piece : List ℕ) (e : Stop) : Type 0 where
-  pub stops : (more : List ℕ) → StopsAt a.before a.text_before from (piece ++ more) e
+  pub stops : (more : List ℕ) → StopsAt a.before a.after from (piece ++ more) e
   pub failed : e ≡ Write → a.failed' ≡ true
   pub unfailed : (e ≡ Write → ⊥) → a.failed' ≡ a.failed
 

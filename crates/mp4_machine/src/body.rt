@@ -5,7 +5,7 @@ ghost use Rattle.mp4_box.specs.Headers.{HasRoom};
 ghost use Rattle.mp4_box.specs.declared.rules.Rule.TheVariants.{StreamTooLong, Truncated};
 ghost use Rattle.mp4_machine.specs.Bodies.{IsBodyOf, fault, least_end, longest};
 
-use crate::limits::{LONGEST, refused};
+use crate::limits::{LONGEST, at_fault};
 use crate::stop::Stop;
 use mp4_box::{Fault, FourCc, Header, Rule, Size};
 
@@ -97,7 +97,7 @@ impl OpenBody {
     {
         let len = piece.len() as u64;
         if len > self.left {
-            return Err(refused(Rule::StreamTooLong, Some(self.kind), self.at));
+            return Err(at_fault(Rule::StreamTooLong, Some(self.kind), self.at));
         }
         self.needed = self.needed.saturating_sub(len);
         self.left -= len;

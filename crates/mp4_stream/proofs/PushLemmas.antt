@@ -1,10 +1,9 @@
 -- Pieces that are pushed into a Feeder, one after the other.
-use Rattle.std.proofs.Common.{◌≡◌, ◌∙◌, ℕ, ◌+◌, ◌-◌, ◌*◌, ◌≤◌, ◌<◌, List, [], ◌++◌, length, take, drop, append_assoc, append-nil, true, Option, None, Some, Result, Ok, Err, IfErr, IfOk, OnOk, IsErrOf, ap, sym, refl, arith, subst, ⊎_elim}
+use Rattle.std.proofs.Common.{◌≡◌, ◌∙◌, ℕ, ◌+◌, ◌-◌, ◌*◌, ◌≤◌, ◌<◌, List, ◌++◌, drop, append_assoc, true, Option, None, Some, Result, Ok, Err, IfErr, IfOk, OnOk, IsErrOf, ap, sym, refl, arith, subst, ⊎_elim}
 use Rattle.std.specs.Io.KnownBytes.{Appends}
 use Rattle.std.proofs.KnownBytes.{Appends-trans}
 use Rattle.std.proofs.lemmas.Bool.{cases_lt}
 use Rattle.std.proofs.lemmas.List.{take-append-drop}
-use Rattle.mp4_box.specs.Headers.{Headed}
 use Rattle.mp4_box.specs.declared.rules.Fault.{Fault}
 use Rattle.mp4_ends.specs.Streams.{AppendsPrefix}
 use Rattle.mp4_ends.proofs.StreamLemmas.{AppendsPrefix-longer, AppendsPrefix-more}
@@ -18,7 +17,7 @@ use Rattle.mp4_grammar.proofs.ItemLemmas.{reads-grow}
 use Rattle.mp4_pieces.specs.declared.cut.Cut.{Cut}
 use Rattle.mp4_machine.specs.Ends.{Sent}
 use Rattle.mp4_machine.specs.Fed.{AllWhole, FedUntil, Lent, StarvesBehind, Sums, TellsRest, sums_in}
-use Rattle.mp4_machine.specs.Readings.{GrowsTo, Outcome, Sound, Faulty, CutOff, Reading, Effects, early_in, fault_in, most_of}
+use Rattle.mp4_machine.specs.Readings.{GrowsTo, Outcome, Sound, Faulty, CutOff, Reading, Effects, early_in, fault_in}
 use Rattle.mp4_machine.specs.declared.stop.Stop.{Stop}
 use Rattle.mp4_machine.specs.declared.stop.Stop.TheVariants.{Stream, Read, Write, OverLimit, Memory}
 use Rattle.mp4_machine.proofs.FedRunLemmas.{text-more}
@@ -26,9 +25,8 @@ use Rattle.mp4_recut.specs.Splitting.{splitting}
 use Rattle.mp4_recut.specs.declared.plan.Plan.TheVariants.{Split}
 use Rattle.mp4_recut.proofs.SplitLemmas.{splitting-growing}
 use Rattle.mp4_stream.specs.Feeders.{ClaimsWithin, Feeding, Feeds, Finishes, Stands, held_by, live, reading, sums_of, totals_of}
-use Rattle.mp4_stream.specs.Pushes.{CountedAs, HasNoRoom, Pushes, StopsIn}
+use Rattle.mp4_stream.specs.Pushes.{HasNoRoom, Pushes, StopsIn}
 use Rattle.mp4_stream.specs.declared.run.Totals.{Totals}
-use Rattle.mp4_stream.proofs.FeederLemmas.{ok-runs}
 
 -- ---- more bytes
 

@@ -1,4 +1,4 @@
-use Rattle.std.proofs.Common.{◌≡◌, ◌∙◌, ℕ, ◌+◌, ◌++◌, Err, List, Option, Some, [], ap, arith, length, refl, subst, sym}
+use Rattle.std.proofs.Common.{◌≡◌, ℕ, ◌+◌, Err, List, Option, Some, [], ap, arith, length, refl, subst}
 use Rattle.mp4_grammar.specs.Contexts.{context}
 use Rattle.mp4_grammar.specs.Items.{with_runs}
 use Rattle.mp4_machine.specs.Pieces.{GoesOn, outside}
@@ -51,13 +51,4 @@ returns-in-Err g c =
     let begun = c.in-Err.ensures in
     let kept = c.args.kept.now in
     let can = rw (c.in-Some.is, c.requires.plan) at c.requires.can in
-    rw (c.in-Some.is, c.requires.plan) (record {
-      stops = begun.takes.err;
-      failed = λ e. begun.takes.failed (ap Err e);
-      unfailed = λ other. begun.takes.kept (λ is. other cc);
-      plan = refl;
-      tracks = refl;
-      empty = c.requires.empty;
-      left = begun.left;
-      counted = begun.spent can.counted;
-    })
+    rw (c.in-Some.is, c.requires.plan) (record { step = record { stops = begun.takes.err; failed = λ e. begun.takes.failed (ap Err e); unfailed = λ other. begun.takes.kept (λ is. other cc) }; plan = refl; tracks = refl; empty = c.requires.empty; left = begun.left; counted = begun.spent can.counted })

@@ -2,14 +2,12 @@ use Rattle.std.proofs.Common.{◌≡◌, ◌∙◌, ◌+◌, ◌*◌, ◌++◌, 
 use Rattle.std.specs.Option.{option_or}
 use Rattle.mp4_frag.specs.Moofs.{moof_runs}
 use Rattle.mp4_frag.specs.Places.{place_fault}
-use Rattle.mp4_frag.specs.RunLists.{taken_runs}
 use Rattle.mp4_ledger.specs.Memory.{given_back}
 use Rattle.mp4_pieces.specs.Rooms.{room_fault}
 use Rattle.mp4_grammar.specs.Contexts.{context}
 use Rattle.mp4_grammar.specs.Meanings.{fragment_fault}
 use Rattle.mp4_machine.specs.Pieces.{outside}
 use Rattle.mp4_machine.proofs.PieceLemmas.{Takes-ok, Takes-err}
-use Rattle.mp4_recut.proofs.RoomLemmas.{runs_length}
 use Rattle.mp4_recut.specs.Splitting.{splitting}
 use Rattle.mp4_fragment_machine.specs.Places.{Behind, standing}
 use Rattle.mp4_fragment_machine.specs.Working.Recuts.{recut_fragment}

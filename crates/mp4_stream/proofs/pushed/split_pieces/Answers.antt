@@ -3,10 +3,10 @@ use Rattle.std.specs.List.{flat_map}
 use Rattle.std.proofs.KnownBytes.{Appends-nil}
 use Rattle.std.proofs.lemmas.List.{take_all}
 use Rattle.std.specs.Io.KnownBytes.{Appends}
-use Rattle.mp4_machine.specs.Ends.{Sent, sent}
+use Rattle.mp4_machine.specs.Ends.{sent}
 use Rattle.mp4_machine.specs.Fed.{Lent, lent}
 use Rattle.mp4_machine.specs.Readings.{Reading}
-use Rattle.mp4_stream.specs.Feeders.{Feeding, live, reading}
+use Rattle.mp4_stream.specs.Feeders.{Feeding}
 use Rattle.mp4_stream.specs.Pushes.{Pushes}
 use Rattle.mp4_stream.proofs.FeederLemmas.{joined-more, reading-none}
 use Rattle.mp4_stream.proofs.PushLemmas.{SoFar, ended, pushed}
