@@ -14,4 +14,4 @@ read-requires-clause-room g c =
 pub take_whole-requires-clause-is : goal.take_whole-requires-clause-is
 take_whole-requires-clause-is g c =
     rw (← c.self.view_is, c.in-Some-Some.is-1)
-    (c.stands_in.ensures c.in-Some-Some.list c.if-stands_in.true (rw c.in-Some.is at c.read.ensures.lone))
+    (c.stands_in.ensures c.in-Some-Some.list c.if-stands_in.true (rw c.in-Some-read.is at c.read.ensures.lone))
