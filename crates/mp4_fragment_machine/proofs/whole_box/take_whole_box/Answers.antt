@@ -58,4 +58,4 @@ returns-in-Err g c = λ account can.
     let copied : is_dropped b.kind.0 ≡ false = sym c.is_dropped.ensures ∙ c.if-is_dropped.false in
     let put = c.in-Err.ensures in
     let o = outside (g.W.Sink.contents c.args.w.now) c.args.out.now account k.counter.tally in
-    record { step = record { stops = λ more later. rw c.requires.empty (Loses-box meaning c.args.at number k.tracks piece b c.requires.is o (g.W.Sink.contents c.put.new.w) c.put.new.self (λ l. rw (c.in-Split.is, copied) refl) put.err can.claim more later); failed = λ _. put.failed; unfailed = λ other. absurd (other refl) }; plan = refl; tracks = refl; empty = c.requires.empty; left = can.claim; counted = counted_stop k.plan k.counter c.args.at can.counted }
+    record { step = record { stops = λ more later. rw c.requires.empty (Loses-box meaning c.args.at number k.tracks piece b c.requires.is o (g.W.Sink.contents c.put.new.w) c.put.new.self (λ l. rw (c.in-Split.is, copied) refl) put.breaks can.claim more later); failed = λ _. put.failed; unfailed = λ other. absurd (other refl) }; plan = refl; tracks = refl; empty = c.requires.empty; left = can.claim; counted = counted_stop k.plan k.counter c.args.at can.counted }
