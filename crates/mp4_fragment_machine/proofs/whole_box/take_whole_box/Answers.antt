@@ -44,8 +44,8 @@ returns-in-Ok g c = λ account can.
     let o = outside (g.W.Sink.contents c.args.w.now) c.args.out.now account k.counter.tally in (
       box_some meaning c.args.at number k.tracks piece b c.requires.is,
       c.requires.is.whole,
-      GoesTo-box c.args.at piece b c.requires.is c.requires.empty can refl c.in-Ok.ensures.kept
-          (GoesOn-copied_box meaning c.args.at number k.tracks piece b c.requires.is o (g.W.Sink.contents c.put.new.w) c.put.new.self (λ l. rw (c.in-Split.is, copied) refl) c.in-Ok.ensures.ok),
+      GoesTo-box c.args.at piece b c.requires.is c.requires.empty can refl c.in-Ok.ensures.unfailed
+          (GoesOn-copied_box meaning c.args.at number k.tracks piece b c.requires.is o (g.W.Sink.contents c.put.new.w) c.put.new.self (λ l. rw (c.in-Split.is, copied) refl) c.in-Ok.ensures.passes),
     )
 
 pub returns-in-Err : goal.returns-in-Err
