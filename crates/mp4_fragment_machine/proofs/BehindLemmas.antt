@@ -1,5 +1,5 @@
 -- What the header behind a moof brings, where its fragment is refused, accepted, or can't be told.
-use Rattle.std.proofs.Common.{◌≡◌, ◌∙◌, ℕ, ◌+◌, ◌*◌, ◌≤◌, List, [], ◌++◌, length, length-append, Option, None, Some, append_assoc, ap, sym, refl, arith, subst}
+use Rattle.std.proofs.Common.{◌≡◌, ◌∙◌, ℕ, ◌+◌, ◌*◌, ◌≤◌, List, [], ◌++◌, length, Option, None, Some, ap, sym, refl, arith, subst}
 use Rattle.mp4_box.specs.declared.headers.Header.{Header}
 use Rattle.mp4_box.specs.declared.headers.Size.{Size}
 use Rattle.mp4_box.specs.declared.headers.Size.TheVariants.{Exact, ToEnd}
@@ -9,17 +9,17 @@ use Rattle.mp4_box.specs.declared.rules.Rule.TheVariants.{BadSize}
 use Rattle.mp4_box.specs.Headers.{HasRoom, header_at, kind_of, need}
 use Rattle.mp4_box.proofs.HeaderLemmas.{whole_is}
 use Rattle.mp4_init.specs.declared.table.Track.{Track}
-use Rattle.mp4_machine.specs.Accounts.{Counts, Spends}
+use Rattle.mp4_machine.specs.Accounts.{Counts}
 use Rattle.mp4_machine.specs.Blocks.{Breaks, BreaksMarked, Passes, PassesMarked, Pending}
 use Rattle.mp4_machine.specs.Bodies.{fault, least_end, longest, at_fault}
 use Rattle.mp4_machine.specs.Pieces.{GoesOn, Loses, Moves, Outside, Refuses, Standing}
-use Rattle.mp4_machine.specs.Readings.{AtMost, Reading, Effects, after, most_of, plus, silent, then_read}
+use Rattle.mp4_machine.specs.Readings.{after, most_of, plus, silent, then_read}
 use Rattle.mp4_machine.specs.declared.tally.Tally.{Tally}
-use Rattle.mp4_machine.proofs.BlockLemmas.{BreaksMarked-longer}
-use Rattle.mp4_machine.proofs.AccountLemmas.{Counts-none, Spends-counts, Spends-more}
-use Rattle.mp4_machine.proofs.PieceLemmas.{GoesOn-silent, Loses-told, Refuses-there, back_to}
-use Rattle.mp4_machine.proofs.ReadingAskLemmas.{AtMost-behind, AtMost-plus, plus-none}
+use Rattle.mp4_machine.proofs.AccountLemmas.{Counts-none, Spends-counts}
+use Rattle.mp4_machine.proofs.PieceLemmas.{Loses-told, Refuses-there, back_to}
+use Rattle.mp4_machine.proofs.ReadingAskLemmas.{plus-none}
 use Rattle.mp4_machine.proofs.ReadingLemmas.{then_read-told}
+use Rattle.mp4_machine.proofs.StandingLemmas.{GoesOn-gathered}
 use Rattle.mp4_grammar.specs.declared.command.Command.{Command}
 use Rattle.mp4_grammar.specs.declared.command.Command.TheVariants.{Samples, Check}
 use Rattle.mp4_grammar.specs.declared.kinds.Kind.TheVariants.{Mdat}
@@ -74,8 +74,7 @@ module _ (meaning : Meaning) (number : ℕ) (o : Outside) (w : Waiting) (tracks 
   -- bytes of the header behind it
   pub GoesOn-behind_head : (held x new : List ℕ) → new ≡ held ++ x → GoesOn o o (waits held) x (waits new)
   GoesOn-behind_head held x new e =
-      GoesOn-silent o (waits held) (waits new) x refl (omega (arith, ap length e, length-append held x))
-      (λ later. ap (λ l. then_read (reads_in meaning) (after_moof meaning (context w.moof.at tracks number) (known tracks) w.moof.bytes l)) (sym (append_assoc held x later) ∙ ap (λ l. l ++ later) (sym e)))
+      GoesOn-gathered o (λ l. then_read (reads_in meaning) (after_moof meaning (context w.moof.at tracks number) (known tracks) w.moof.bytes l)) (w.moof.at + length w.moof.bytes) (waits []).claim held x new e
 
   -- no header begins with them: all is given back
   pub Refuses-behind : (x more : List ℕ) (at : ℕ) → at ≡ w.moof.at + w.moof.size → length x ≡ need x → header_at x ≡ steps.BadSize → Refuses o (back_to (back_to o (taken_by (Some w))) (table_of tracks)) (waits x) more (fault BadSize (kind_of x) at)

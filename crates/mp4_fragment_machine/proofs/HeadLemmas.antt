@@ -1,5 +1,5 @@
 -- What the header of a box at the front of a fragmented stream brings.
-use Rattle.std.proofs.Common.{◌≡◌, ◌∙◌, ℕ, ◌+◌, ◌-◌, ◌<◌, ◌≤◌, List, [], ◌∷◌, ◌++◌, length, take, drop, Option, None, Some, append_assoc, append-nil, ap, sym, refl, arith, length-append, subst}
+use Rattle.std.proofs.Common.{◌≡◌, ◌∙◌, ℕ, ◌+◌, ◌-◌, ◌<◌, ◌≤◌, List, [], ◌∷◌, ◌++◌, length, take, drop, Option, None, Some, append-nil, ap, sym, refl, arith, length-append, subst}
 use Rattle.std.proofs.Math.Seq.{take-append_seam, drop-append_seam}
 use Rattle.mp4_box.specs.declared.headers.Header.{Header}
 use Rattle.mp4_box.specs.declared.headers.Size.TheVariants.{Exact, ToEnd}
@@ -18,6 +18,7 @@ use Rattle.mp4_machine.specs.Readings.{fault_in, empty_reading, Faulty, Last, Ef
 use Rattle.mp4_machine.specs.Pieces.{Outside, Standing, Moves, GoesOn, Refuses, Starves, StopsAt, refusal_of}
 use Rattle.mp4_machine.proofs.BodyLemmas.{body-some, open-some, nat_lt_true, nat_lt_false}
 use Rattle.mp4_machine.proofs.HeadLemmas.{kind_of-append}
+use Rattle.mp4_machine.proofs.StandingLemmas.{GoesOn-gathered}
 use Rattle.mp4_machine.proofs.ReadingLemmas.{read_all-front, then_read-told, after-silent}
 use Rattle.mp4_machine.proofs.PieceLemmas.{claimed_from, back_to, Moves-claim, Moves-back, GoesOn-silent, GoesOn-more}
 use Rattle.mp4_grammar.specs.declared.kinds.Kind.{Kind}
@@ -74,8 +75,7 @@ module _ (meaning : Meaning) (c : Context) where
 
 pub GoesOn-head : (meaning : Meaning) (o : Outside) (c : Context) (held x new : List ℕ) → new ≡ held ++ x → GoesOn o o (standing meaning (InHeader c held)) x (standing meaning (InHeader c new))
 GoesOn-head meaning o c held x new e =
-    GoesOn-silent o (standing meaning (InHeader c held)) (standing meaning (InHeader c new)) x refl (omega (arith, ap length e, length-append held x))
-    (λ later. ap (reads_in meaning c) (sym (append_assoc held x later) ∙ ap (λ l. l ++ later) (sym e)))
+    GoesOn-gathered o (reads_in meaning c) c.at (table_of c.tracks) held x new e
 
 -- whatever comes behind, a fault is read: the table of the tracks is given back
 pub Refuses-at : (o : Outside) (p : Standing) (table : ℕ) (more : List ℕ) (f : Fault) → p.claim ≡ table → table ≤ o.account.live → ((later : List ℕ) → p.reads later ≡ record { effects = silent; outcome = Faulty f }) → Refuses o (back_to o table) p more f

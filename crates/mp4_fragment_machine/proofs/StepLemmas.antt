@@ -1,5 +1,5 @@
 -- How what a step brings is made up, and what bytes that came before it change.
-use Rattle.std.proofs.Common.{◌≡◌, ℕ, ◌+◌, ◌-◌, ◌<◌, ◌≤◌, Bool, List, [], ◌++◌, length, take, drop, Option, Result, Ok, Err, ap, refl, ◌∙◌, arith}
+use Rattle.std.proofs.Common.{◌≡◌, ℕ, ◌+◌, ◌-◌, ◌<◌, ◌≤◌, Bool, List, [], ◌++◌, length, take, Option, Result, Ok, Err, ap, refl, ◌∙◌, arith}
 use Rattle.mp4_box.specs.Headers.{need}
 use Rattle.mp4_box.specs.declared.rules.Fault.{Fault}
 use Rattle.mp4_box.proofs.HeaderLemmas.{need-least}
@@ -9,7 +9,6 @@ use Rattle.mp4_machine.specs.Pieces.{GoesOn, Refuses, outside}
 use Rattle.mp4_machine.specs.declared.held.Held.{Held}
 use Rattle.mp4_machine.specs.declared.stop.Stop.{Stop}
 use Rattle.mp4_machine.specs.declared.stop.Stop.TheVariants.{Stream}
-use Rattle.mp4_machine.proofs.PieceLemmas.{StopsAt-take_more}
 use Rattle.mp4_grammar.specs.Contexts.{context, table_of}
 use Rattle.mp4_recut.specs.Plans.{plan_meaning, number_in}
 use Rattle.mp4_recut.specs.declared.plan.Plan.{Plan}
@@ -26,6 +25,7 @@ use Rattle.mp4_fragment_machine.proofs.CountLemmas.{counted_later}
 use Rattle.mp4_fragment_machine.proofs.HeadLemmas.{GoesOn-head}
 use Rattle.mp4_fragment_machine.proofs.TakeLemmas.{GoesOn-held}
 use Rattle.mp4_machine.proofs.StepLemmas.{GoesOn-then}
+use Rattle.mp4_machine.proofs.StepLemmas as reading
 
 -- ---- bytes come first
 
@@ -39,21 +39,11 @@ pub record Comes (l : Lent) (account : Account) (old mid : Kept) (from : Place) 
 module _ {l : Lent} {account : Account} {old mid new : Kept} {from to : Place} where
   -- and then a step that takes none
   pub GoesTo-then : {bytes : List ℕ} {s : State} → Comes l account old mid from bytes to → GoesTo (record l { account = account }) mid new to [] s → GoesTo l old new from bytes s
-  GoesTo-then x g = record {
-    goes = GoesOn-then x.claim x.goes _ (rw x.plan at g.goes);
-    unfailed = g.unfailed;
-    plan = rw x.plan at g.plan;
-    state = g.state;
-    claim = g.claim;
-    counted = g.counted;
-  }
+  GoesTo-then x g = record { step = reading.GoesTo-then (record { claim = x.claim; goes = x.goes }) (rw x.plan at g.step); plan = rw x.plan at g.plan; state = g.state; counted = g.counted }
 
   pub StopsIn-then : (n : ℕ) (piece : List ℕ) {e : Stop} → Comes l account old mid from (take n piece) to → StopsIn (record l { account = account }) mid new to [] e → StopsIn l old new from piece e
-  StopsIn-then n piece {e = e} x h = record {
-    stops = λ more. StopsAt-take_more {p = standing (plan_meaning old.plan) from} x.claim n piece x.goes (outside_stopped l new (table_of old.tracks)) more e
-        (rw (x.plan, x.tracks) at (h.stops (drop n piece ++ more)));
-    failed = h.failed;
-    unfailed = h.unfailed;
+  StopsIn-then n piece x h = record {
+    step = reading.StopsIn-then n piece (record { claim = x.claim; goes = x.goes }) (rw (x.plan, x.tracks) at h.step);
     plan = rw x.plan at h.plan;
     tracks = rw x.tracks at h.tracks;
     empty = h.empty;
@@ -87,14 +77,7 @@ module _ {l : Lent} {old mid new : Kept} {from to : Place} where
   -- a step that takes none, and is lent no writer, behind what was written
   pub GoesTo-behind : {a : Option (List ℕ)} {v : Pending} {b : Account} {f : Bool} {bytes : List ℕ} {s : State} → GoesTo (record l { written = a; waiting = v; account = b; failed = f }) mid new to [] s → claim_of from ≤ l.account.live → mid.plan ≡ old.plan → f ≡ l.failed
       → GoesOn (outside_before l old) (outside a v b mid.counter.tally) (standing (plan_meaning old.plan) from) bytes (standing (plan_meaning old.plan) to) → GoesTo l old new from bytes s
-  GoesTo-behind h low plan kept g = record {
-    goes = GoesOn-then low g _ (rw plan at h.goes);
-    unfailed = h.unfailed ∙ kept;
-    plan = h.plan ∙ plan;
-    state = h.state;
-    claim = h.claim;
-    counted = h.counted;
-  }
+  GoesTo-behind h low plan kept g = record { step = record { goes = GoesOn-then low g _ (rw plan at h.step.goes); unfailed = h.step.unfailed ∙ kept; claim = h.step.claim }; plan = h.plan ∙ plan; state = h.state; counted = h.counted }
 
 -- bytes of the header behind the moof that waits
 pub comes_behind : {l : Lent} (k : Kept) (w : Waiting) {x head : List ℕ} → IsWaiting k.tracks w → claim_of (at_state k (states.Behind w)) ≤ l.account.live → head ≡ k.head ++ x → Comes l l.account k (with_head head k) (at_state k (states.Behind w)) x (at_state (with_head head k) (states.Behind w))
@@ -120,16 +103,7 @@ counted_stop plan c b i = counted_later plan c b most_counted 0 0 i.far (omega a
 -- a fault where nothing changed but the bytes of a header that came
 pub StopsIn-refused : {l : Lent} {old new : Kept} {from : Place} {piece : List ℕ} {f : Fault} (b : ℕ) → l.failed' ≡ l.failed → new.plan ≡ old.plan → new.tracks ≡ old.tracks → new.head ≡ [] → table_of old.tracks ≤ l.account'.live → IsCounted new.plan new.counter b 0 0
     → ((more : List ℕ) → Refuses (outside_before l old) (outside_stopped l new (table_of old.tracks)) (standing (plan_meaning old.plan) from) (piece ++ more) f) → StopsIn l old new from piece (Stream f)
-StopsIn-refused {new = new} b unfailed plan tracks empty left counted refuses = record {
-  stops = refuses;
-  failed = λ e. absurd cc;
-  unfailed = λ _. unfailed;
-  plan = plan;
-  tracks = tracks;
-  empty = empty;
-  left = left;
-  counted = counted_stop new.plan new.counter b counted;
-}
+StopsIn-refused {new = new} b unfailed plan tracks empty left counted refuses = record { step = reading.StopsIn-refused unfailed refuses; plan = plan; tracks = tracks; empty = empty; left = left; counted = counted_stop new.plan new.counter b counted }
 
 -- nothing is given back
 pub given_back-none : (a : Account) → given_back a 0 ≡ a

@@ -1,17 +1,15 @@
 -- What bytes bring that a machine takes from the front of a piece.
-use Rattle.std.proofs.Common.{◌≡◌, ℕ, ◌≤◌, List, [], ◌++◌, length, length-append, take, drop, ◌∙◌, append-nil, append_assoc, ap, refl, sym, subst, arith, None, Some, Option, Ok}
-use Rattle.std.proofs.lemmas.List.{length-take-le, take-append-drop}
+use Rattle.std.proofs.Common.{◌≡◌, ℕ, ◌+◌, ◌≤◌, List, ◌++◌, length, refl, arith, None, Some, Option}
 use Rattle.mp4_box.specs.declared.headers.FourCc.{FourCc}
 use Rattle.mp4_box.specs.declared.headers.Header.{Header}
 use Rattle.mp4_box.specs.declared.headers.Step.TheVariants as steps
-use Rattle.mp4_box.specs.declared.headers.Step.{Step}
-use Rattle.mp4_box.specs.Headers.{header_at, need, result_of}
-use Rattle.mp4_box.proofs.HeaderLemmas.{bad_is, header_at-append, need-append, need-least, whole_is}
+use Rattle.mp4_box.specs.Headers.{header_at, need}
+use Rattle.mp4_box.proofs.HeaderLemmas.{bad_is, whole_is}
 use Rattle.mp4_init.specs.declared.table.Track.{Track}
-use Rattle.mp4_machine.specs.Pieces.{GoesOn, Outside, Standing}
+use Rattle.mp4_machine.specs.Pieces.{GoesOn, Outside}
 use Rattle.mp4_machine.specs.Readings.{then_read}
-use Rattle.mp4_machine.proofs.PieceLemmas.{GoesOn-more, GoesOn-silent}
-use Rattle.mp4_grammar.specs.Contexts.{Context}
+use Rattle.mp4_machine.proofs.StandingLemmas.{GoesOn-gathered}
+use Rattle.mp4_grammar.specs.Contexts.{Context, table_of}
 use Rattle.mp4_grammar.specs.Items.{kept_body, reads_in}
 use Rattle.mp4_grammar.specs.Meanings.{Meaning}
 use Rattle.mp4_fragment_machine.specs.Places.{InHeld, standing}
@@ -21,8 +19,7 @@ use Rattle.mp4_fragment_machine.specs.declared.state.Waiting.{Waiting}
 -- bytes of a box came that is held
 pub GoesOn-held : (meaning : Meaning) (o : Outside) (c : Context) (kind : FourCc) (size : ℕ) (held x : List ℕ) → GoesOn o o (standing meaning (InHeld c kind size held)) x (standing meaning (InHeld c kind size (held ++ x)))
 GoesOn-held meaning o c kind size held x =
-    GoesOn-silent o (standing meaning (InHeld c kind size held)) (standing meaning (InHeld c kind size (held ++ x))) x refl (omega (arith, length-append held x))
-    (λ later. ap (λ l. then_read (reads_in meaning) (kept_body meaning c kind size l)) (sym (append_assoc held x later)))
+    GoesOn-gathered o (λ l. then_read (reads_in meaning) (kept_body meaning c kind size l)) c.at (table_of c.tracks + size) held x (held ++ x) refl
 
 -- bytes that are no header, or are one, are just those that are needed
 pub len_of_bad : (x : List ℕ) → length x ≤ need x → header_at x ≡ steps.BadSize → length x ≡ need x

@@ -156,9 +156,7 @@ pub StopsIn-whole : (l : Lent) (old new : Kept) (at : ℕ) (piece : List ℕ) (f
     → ((more : List ℕ) → StopsAt (outside_before l old) (outside l.written' l.waiting' (given_back l.account' (64 * length tracks)) new.counter.tally) (standing (plan_meaning old.plan) (InHeader (context at (Some tracks) (number_in old.plan old.counter.tally)) [])) (piece ++ more) (Stream f))
     → StopsIn l old new (at_state old (states.Header at)) piece (Stream f)
 StopsIn-whole l old new at piece f tracks known empty unfailed plan same head left counted stops = record {
-  stops = λ more. rw (known, empty) (stops more);
-  failed = λ e. absurd cc;
-  unfailed = λ _. unfailed;
+  step = record { stops = λ more. rw (known, empty) (stops more); failed = λ e. absurd cc; unfailed = λ _. unfailed };
   plan = plan;
   tracks = same;
   empty = head;

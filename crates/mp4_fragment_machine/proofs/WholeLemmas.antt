@@ -1,7 +1,7 @@
 -- What a fragment brings of which a piece has all.
 use Rattle.std.proofs.Common.{◌≡◌, ◌∙◌, ℕ, ◌+◌, ◌-◌, ◌*◌, ◌<◌, ◌≤◌, max, List, [], ◌∷◌, ◌++◌, length, take, drop, take-append-drop, Option, None, Some, ap, sym, refl, arith, subst}
 use Rattle.std.specs.Prelude.{map}
-use Rattle.std.proofs.lemmas.List.{length-drop, length-map, length-take-le}
+use Rattle.std.proofs.lemmas.List.{length-drop, length-map}
 use Rattle.mp4_box.specs.declared.headers.FourCc.{FourCc}
 use Rattle.mp4_box.specs.declared.headers.Header.{Header}
 use Rattle.mp4_box.specs.declared.headers.Size.TheVariants.{Exact}
@@ -28,14 +28,15 @@ use Rattle.mp4_grammar.specs.declared.command.Command.{Command}
 use Rattle.mp4_grammar.specs.declared.kinds.Kind.TheVariants.{Moof, Mdat}
 use Rattle.mp4_grammar.specs.Commands.{accepted, command_meaning}
 use Rattle.mp4_grammar.specs.Contexts.{Context, context}
-use Rattle.mp4_grammar.specs.Items.{fragment, walked}
+use Rattle.mp4_grammar.specs.Items.{fragment, reads_in, walked}
 use Rattle.mp4_grammar.specs.Kinds.{kind_in, most_moof}
 use Rattle.mp4_grammar.specs.Meanings.{Fragment, Meaning, counted_in, fragment_fault, needed_in}
 use Rattle.mp4_fragment_machine.specs.Places.{Behind, InBody, InHeader, InHeld, standing}
 use Rattle.mp4_fragment_machine.specs.States.{claimed_in, waiting_fragment, in_mdat}
 use Rattle.mp4_fragment_machine.specs.declared.state.Waiting.{Waiting}
 use Rattle.mp4_fragment_machine.proofs.BehindLemmas.{GoesOn-fragment_at, HasRows, Loses-fragment}
-use Rattle.mp4_fragment_machine.proofs.BodyLemmas.{GoesOn-over, GoesOn-passed, Moves-settled, back_twice}
+use Rattle.mp4_machine.proofs.StandingLemmas.{GoesOn-over, GoesOn-passed}
+use Rattle.mp4_fragment_machine.proofs.BodyLemmas.{Moves-settled, back_twice}
 use Rattle.mp4_fragment_machine.proofs.HeadLemmas.{GoesOn-head, GoesOn-keep, reads-kind}
 use Rattle.mp4_fragment_machine.proofs.HeldLemmas.{GoesOn-moof, looked, none_of}
 use Rattle.mp4_fragment_machine.proofs.TakeLemmas.{GoesOn-held}
@@ -149,15 +150,15 @@ module _ (command : Command) (number : ℕ) (o : Outside) (at : ℕ) (tracks : L
 
       to_end : GoesOn o' o' (body (s - g.header_len)) (take (s - g.header_len) (drop g.header_len x)) (body 0)
       to_end =
-          let y = take (s - g.header_len) (drop g.header_len x) in
-          let len : length y ≡ s - g.header_len = length-take-le (s - g.header_len) (drop g.header_len x) (omega (arith, room, whole, length-drop g.header_len x)) in
-          let none : s - g.header_len - length y ≡ 0 = omega (arith, len) in
-          subst (λ n. GoesOn o' o' (body (s - g.header_len)) y (body n)) none (GoesOn-passed meaning next g.kind o' o' behind_it y (s - g.header_len) (claimed_in (Some tracks) (Some w)) (omega (arith, len)) (omega (arith, room)))
+          let n = s - g.header_len in
+          let none : n - n ≡ 0 = omega arith in
+          subst (λ k. GoesOn o' o' (body n) (take n (drop g.header_len x)) (body k)) none
+          (GoesOn-passed (reads_in meaning) behind_it (claimed_in (Some tracks) (Some w)) o' (record { at = next; kind = g.kind; next = next + s; left = n }) n (drop g.header_len x) (omega (arith, room, whole, length-drop g.header_len x)) (omega (arith, room)))
 
       to_next : GoesOn o' settled_to (body 0) [] (standing meaning (InHeader behind_it []))
       to_next =
-          GoesOn-over meaning next g.kind o' settled_to behind_it 0 (claimed_in (Some tracks) (Some w)) refl
-          (Moves-settled o' (64 * length tracks) (length m) (64 * length w.runs.rows) _ (ap (λ n. 64 * n) (settled_length tracks (moof_trafs (moof_at m at) tracks))) (omega (arith, low, rows.len, ap (λ a. a.live) account)))
+          GoesOn-over (reads_in meaning) behind_it (claimed_in (Some tracks) (Some w)) o' settled_to (λ _. silent) (record { at = next; kind = g.kind; next = next + s; left = 0 }) (standing meaning (InHeader behind_it [])) refl refl
+          (Moves-settled o' (64 * length tracks) (length m) (64 * length w.runs.rows) _ (ap (λ n. 64 * n) (settled_length tracks (moof_trafs (moof_at m at) tracks))) (omega (arith, low, rows.len, ap (λ a. a.live) account))) (omega arith) (λ later. refl)
 
       pub GoesOn-mdat_whole : GoesOn o settled_to (waits []) (take s x) (standing meaning (InHeader behind_it []))
       GoesOn-mdat_whole =

@@ -11,11 +11,10 @@ ghost use Rattle.mp4_fragment_machine.specs.Working.Steps.{CanStep, Consumes, Go
 ghost use Rattle.mp4_fragment_machine.specs.declared.state.State.TheVariants as states;
 
 use crate::state::{Counter, Kept, State, Taken, Waiting};
-use mp4_box::Rule;
 use mp4_frag::Moof;
 use mp4_init::TrackList;
 use mp4_ledger::Ledger;
-use mp4_machine::{Body, OpenBody, Stop, at_fault};
+use mp4_machine::{Body, OpenBody, Stop};
 
 /// Ends the tracks behind a moof and its mdat, and gives the moof and its list back.
 pub(crate) fn end_fragment(
@@ -100,13 +99,8 @@ pub(crate) fn take_body(
         kept.old kept.new (states.Body body waiting) piece.now (Ok result) }
     ensures count { result.count ≡ min body.left (length piece.now) }
 {
-    let count = body.left.min(piece.len() as u64) as usize;
-    let body = Body {
-        at: body.at,
-        kind: body.kind,
-        next: body.next,
-        left: body.left - count as u64,
-    };
+    let mut body = body;
+    let count = body.take(piece);
     let state = arrive(body, waiting, kept, ledger);
     Taken { count, state }
 }
@@ -130,19 +124,15 @@ pub(crate) fn take_open(
         kept.now kept.now (states.OpenBody body waiting) piece.now result }
 {
     let _ = kept;
-    let len = piece.len() as u64;
-    if len > body.left {
-        back(waiting, ledger);
-        return Err(at_fault(Rule::StreamTooLong, Some(body.kind), body.at));
+    let mut body = body;
+    match body.take(piece) {
+        Ok(()) => Ok(Taken {
+            count: piece.len(),
+            state: State::OpenBody(body, waiting),
+        }),
+        Err(stop) => {
+            back(waiting, ledger);
+            Err(stop)
+        }
     }
-    let body = OpenBody {
-        at: body.at,
-        kind: body.kind,
-        needed: body.needed.saturating_sub(len),
-        left: body.left - len,
-    };
-    Ok(Taken {
-        count: piece.len(),
-        state: State::OpenBody(body, waiting),
-    })
 }

@@ -30,25 +30,19 @@ pub(crate) fn take_copied<W: Sink>(
         kept.now kept.now (states.Copied body) piece.now result }
 {
     let _ = kept;
-    let count = body.left.min(piece.len() as u64) as usize;
+    let mut body = body;
+    let count = body.take(piece);
     let (front, _) = piece.split_at(count);
     match out.put(w, front) {
         Ok(()) => {}
         Err(Failed) => return Err(Stop::Write),
     }
-    let left = body.left - count as u64;
-    if left == 0 {
+    if body.left == 0 {
         return Ok(Taken {
             count,
             state: State::Header { at: body.next },
         });
     }
-    let body = Body {
-        at: body.at,
-        kind: body.kind,
-        next: body.next,
-        left,
-    };
     Ok(Taken {
         count,
         state: State::Copied(body),

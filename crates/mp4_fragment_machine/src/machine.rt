@@ -2,28 +2,29 @@
 
 ghost use Rattle.std.specs.Prelude.{◌≡◌, ℕ, ◌+◌, ◌*◌, ◌-◌, ◌<◌, ◌≤◌, ◌↔◌, [], List, Option, length, take, None, Some, IfOk, IfErr, OnOk, OnErr, IsErrOf, IsTrue};
 ghost use Rattle.mp4_init.specs.declared.table.Track.{Track};
-ghost use Rattle.mp4_box.specs.declared.rules.Rule.TheVariants.{MdatMissing, Truncated};
+ghost use Rattle.mp4_box.specs.declared.rules.Rule.TheVariants.{MdatMissing};
 ghost use Rattle.mp4_box.specs.declared.headers.FourCc.{FourCc};
 ghost use Rattle.mp4_box.specs.Headers.{IsBytes};
 ghost use Rattle.mp4_frag.specs.LoneRuns.{IsLone};
 ghost use Rattle.mp4_frag.specs.Runs.{moof_at};
 ghost use Rattle.mp4_ledger.specs.Memory.{given_back};
-ghost use Rattle.mp4_machine.specs.Bodies.{fault};
 ghost use Rattle.mp4_machine.specs.Ends.{sent};
 ghost use Rattle.mp4_machine.specs.Pieces.{IsQuiet, Takes, around, farthest};
 ghost use Rattle.mp4_machine.specs.Readings.{fault_in, uncounted};
 ghost use Rattle.mp4_grammar.specs.Contexts.{first_context};
 ghost use Rattle.mp4_fragment_machine.specs.Places.{InHeader, IsPlace, claim_of, standing};
 ghost use Rattle.mp4_fragment_machine.specs.States.{IsState, IsWaiting, begun, kept_by, known, listed_by, place_in, place_of, reads_of, stands_in, stopped};
-ghost use Rattle.mp4_fragment_machine.specs.Working.Wholes.{AreBoxes, IsTakenWhole};
+ghost use Rattle.mp4_fragment_machine.specs.Working.Wholes.{AreBoxes, IsTakenWhole, StandsFirst};
+ghost use Rattle.mp4_grammar.specs.declared.kinds.Kind.TheVariants.{Other};
 ghost use Rattle.mp4_grammar.specs.Meanings.{Meaning};
 ghost use Rattle.mp4_recut.specs.declared.plan.Plan.{Plan};
 ghost use Rattle.mp4_fragment_machine.specs.declared.state.State.TheVariants as states;
 
 use crate::state::{Counter, Kept, State, Taken, Waiting};
 use crate::step::{back_state, take_next};
+use crate::whole_box::{box_at, take_whole_box};
 use crate::whole_fault::refuse_times;
-use crate::whole_fragment::{Whole, boxes_at};
+use crate::whole_fragment::{Span, Whole, boxes_at};
 use crate::whole_plan::{looks_ahead, take_whole_fragment};
 use mp4_box::{Fault, FourCc, HeaderReader, Rule};
 use mp4_ends::Sink;
@@ -141,6 +142,48 @@ impl FragmentMachine {
         }
     }
 
+    /// Takes a box from the front of a piece that has all of it, and that is passed over or copied: how many bytes.
+    ///
+    /// # Errors
+    ///
+    /// `Write` where a write failed.
+    #[inline(always)]
+    fn pass_whole<W: Sink>(
+        &mut self,
+        at: u64,
+        span: &Span,
+        ledger: &mut Ledger,
+        piece: &[u8],
+        out: &mut Block,
+        w: &mut W,
+    ) -> Result<usize, Stop>
+        requires is { StandsFirst Other at piece.now span.now }
+        requires state { self.old.state ≡ states.Header at }
+        requires head { self.old.head ≡ [] }
+        requires claim { claim_of (place_in self.old) ≤ ledger.old.live }
+        ensures takes { Takes (around (sent W.contents W.has_failed w.old w.new) out.old out.new
+            ledger.old ledger.new self.old.counter.tally self.new.counter.tally)
+            (stands_in self.old) piece.now (λ n. take n piece.now) (λ _. stands_in self.new) result }
+        ensures taken { IfOk result (λ n. (0 < n) × (n ≤ length piece.now)) }
+        ensures claim { claim_of (place_in self.new) ≤ ledger.new.live }
+        ensures quiet { OnOk result (IsQuiet (stands_in self.new)) }
+        ensures near { OnOk result ((stands_in self.new).reached ≤ farthest) }
+        ensures spent { OnErr result (claim_of (place_in self.new) ≡ 0) }
+        ensures task { self.new.plan ≡ self.old.plan }
+    {
+        match take_whole_box(at, span, piece, &self.kept, out, w) {
+            Ok(size) => {
+                go_to(&mut self.state, at + size);
+                Ok(size as usize)
+            }
+            Err(stop) => {
+                stop_at(&mut self.state);
+                self.give_back(ledger);
+                Err(stop)
+            }
+        }
+    }
+
     /// Takes a few bytes from the front of a piece, wherever it stands: how many.
     ///
     /// # Errors
@@ -215,6 +258,9 @@ impl Machine for FragmentMachine {
     ) -> Result<usize, Stop> {
         if let State::Header { at } = &self.state {
             let at = *at;
+            if let Some(span) = &box_at(at, &self.kept.head, piece) {
+                return self.pass_whole(at, span, ledger, piece, out, w);
+            }
             if looks_ahead(&self.kept.plan, &self.kept.counter) {
                 if let (Some(boxes), Some(list)) = (
                     boxes_at(at, &self.kept.head, piece, ledger),

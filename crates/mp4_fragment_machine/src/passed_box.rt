@@ -17,9 +17,9 @@ ghost use Rattle.mp4_fragment_machine.specs.declared.state.Kept.{Kept};
 ghost use Rattle.mp4_fragment_machine.specs.declared.state.State.TheVariants as states;
 
 use crate::state::{Kept, State};
-use mp4_box::{FourCc, Header, Size};
+use mp4_box::{FourCc, Header};
 use mp4_ends::{Failed, Sink};
-use mp4_machine::{Block, Body, LONGEST, OpenBody, Stop};
+use mp4_machine::{AnyBody, Block, Stop, body_of};
 use mp4_recut::Plan;
 
 /// What is taken behind the header of the box at `at`, which is passed over, or copied with these bytes of its header.
@@ -58,7 +58,7 @@ pub(crate) fn pass_over<W: Sink>(
 
 /// Whether a box of this type is left out of what is written.
 #[tactic(auto, unfolding(mp4_recut::specs::Splitting::is_dropped))]
-fn is_dropped(kind: FourCc) -> bool
+pub(crate) fn is_dropped(kind: FourCc) -> bool
     ensures { result ≡ is_dropped kind.0 }
 {
     matches!(&kind.0, b"sidx" | b"ssix" | b"mfra")
@@ -75,25 +75,10 @@ fn copy(at: u64, header: &Header) -> State
         Passes l.written l.written' l.waiting l.waiting' x →
         GoesTo l (with_head x k) k (at_state (with_head x k) (states.Header at)) [] result }
 {
-    match header.size {
-        Size::Exact(size) => {
-            let next = at + size;
-            if size == header.header_len {
-                return State::Header { at: next };
-            }
-            State::Copied(Body {
-                at,
-                kind: header.kind,
-                next,
-                left: size - header.header_len,
-            })
-        }
-        Size::ToEnd => State::OpenCopied(OpenBody {
-            at,
-            kind: header.kind,
-            needed: 0,
-            left: LONGEST - (at + header.header_len),
-        }),
+    match body_of(at, header) {
+        AnyBody::Empty { next } => State::Header { at: next },
+        AnyBody::Sized(body) => State::Copied(body),
+        AnyBody::Open(body) => State::OpenCopied(body),
     }
 }
 
@@ -108,28 +93,9 @@ fn leave_out(at: u64, header: &Header) -> State
         GoesTo (lent_ledger u account account) (with_head x k) k
         (at_state (with_head x k) (states.Header at)) [] result }
 {
-    match header.size {
-        Size::Exact(size) => {
-            let next = at + size;
-            if size == header.header_len {
-                return State::Header { at: next };
-            }
-            let body = Body {
-                at,
-                kind: header.kind,
-                next,
-                left: size - header.header_len,
-            };
-            State::Body(body, None)
-        }
-        Size::ToEnd => {
-            let body = OpenBody {
-                at,
-                kind: header.kind,
-                needed: 0,
-                left: LONGEST - (at + header.header_len),
-            };
-            State::OpenBody(body, None)
-        }
+    match body_of(at, header) {
+        AnyBody::Empty { next } => State::Header { at: next },
+        AnyBody::Sized(body) => State::Body(body, None),
+        AnyBody::Open(body) => State::OpenBody(body, None),
     }
 }

@@ -26,7 +26,7 @@ ghost use Rattle.mp4_fragment_machine.specs.declared.state.State.TheVariants as 
 use crate::lines::put_run;
 use crate::listed_fragment::count;
 use crate::state::{Counter, Kept};
-use mp4_box::{Fault, HeaderReader, Size, header_of};
+use mp4_box::{Fault, FourCc, HeaderReader, Size, header_of};
 use mp4_ends::{Failed, Sink};
 use mp4_frag::{LoneRun, Payload};
 use mp4_grammar::{Command, Kind, MOST_MOOF, kind_of};
@@ -40,6 +40,7 @@ pub(crate) const ROW: u64 = 64;
 /// A box of which some bytes have all.
 #[derive(Clone, Copy)]
 pub(crate) struct Span {
+    pub(crate) kind: FourCc,
     /// How many bytes its header has.
     pub(crate) header_len: u64,
     /// How many bytes it has with its header.
@@ -67,7 +68,7 @@ pub(crate) struct Whole<'a> {
 /// The box at `at`, where it is of this kind and stands at the front of the bytes, they have all of it, and it doesn't go past
 /// the longest stream.
 #[inline(always)]
-fn first_box(kind: Kind, at: u64, bytes: &[u8]) -> Option<Span>
+pub(crate) fn first_box(kind: Kind, at: u64, bytes: &[u8]) -> Option<Span>
     requires at { at ≤ longest }
     ensures { IfSome result (λ b. StandsFirst kind at bytes.now b) }
 {
@@ -84,6 +85,7 @@ fn first_box(kind: Kind, at: u64, bytes: &[u8]) -> Option<Span>
         return None;
     }
     Some(Span {
+        kind: header.kind,
         header_len: header.header_len,
         size,
     })

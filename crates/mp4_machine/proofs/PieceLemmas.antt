@@ -158,12 +158,6 @@ Takes-ok g kept = record { ok = g; err = tt; failed = λ e. absurd cc; kept = λ
 pub Takes-err : {T : Type 0} {around : Around} {old : Standing} {piece : List ℕ} {taken : T → List ℕ} {new : T → Standing} {e : Stop} → ((more : List ℕ) → StopsAt around.before around.after old (piece ++ more) e) → (e ≡ Write → around.failed' ≡ true) → ((e ≡ Write → ⊥) → around.failed' ≡ around.failed) → Takes around old piece taken new (Err e)
 Takes-err stops failed kept = record { ok = tt; err = stops; failed = λ e. failed cc; kept = λ other. kept (λ is. other (ap Err is)) }
 
--- bytes came, and then a call that takes none
-pub Takes-behind : {T : Type 0} {o : Outside} {around : Around} {p q : Standing} {x : List ℕ} {new : T → Standing} {result : Result T Stop} → p.claim ≤ o.account.live → GoesOn o around.before p x q
-    → Takes around q [] (λ _. []) new result → Takes (record { before = o; after = around.after; failed = around.failed; failed' = around.failed' }) p x (λ _. x) new result
-Takes-behind {T = T} {o = o} {around = around} {p = p} {q = q} {x = x} {new = new} {result = Ok t} low g h = Takes-ok (subst (λ l. GoesOn o around.after p l (new t)) (append-nil x) (GoesOn-more {p = p} low g [] (new t) h.ok)) (h.kept (λ e. absurd cc))
-Takes-behind {T = T} {around = around} {p = p} {q = q} {x = x} {new = new} {result = Err e} low g h = Takes-err (λ more. StopsAt-more {p = p} low g around.after more e (h.err more)) (λ is. h.failed (ap Err is)) (λ other. h.kept (λ is. other cc))
-
 -- ---- what waits is sent at the end of a piece
 
 -- the same outside, but that what waited was sent

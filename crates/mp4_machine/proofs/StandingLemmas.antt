@@ -1,15 +1,21 @@
 -- What bytes bring where machines stand alike.
-use Rattle.std.proofs.Common.{◌≡◌, ◌∙◌, ℕ, ◌-◌, ◌<◌, ◌≤◌, List, [], ◌++◌, length, length-append, length-take-le, min, take, Some, ap, arith, refl, sym}
+use Rattle.std.proofs.Common.{◌≡◌, ◌∙◌, ℕ, ◌-◌, ◌<◌, ◌≤◌, List, [], ◌++◌, append_assoc, length, length-append, length-take-le, min, take, Some, ap, arith, refl, sym}
 use Rattle.mp4_box.specs.declared.rules.Rule.TheVariants.{StreamTooLong}
-use Rattle.mp4_machine.specs.Bodies.{fault, longest, body_item, open_body_item}
+use Rattle.mp4_machine.specs.Bodies.{fault, longest, body_item}
 use Rattle.mp4_machine.specs.Pieces.{GoesOn, Moves, Outside, Refuses, Standing}
 use Rattle.mp4_machine.specs.Readings.{Reading, Effects, silent, then_read}
-use Rattle.mp4_machine.specs.Standings.{in_body, in_open_body}
+use Rattle.mp4_machine.specs.Standings.{gathering, in_body, in_open_body}
 use Rattle.mp4_machine.specs.declared.body.Body.{Body}
 use Rattle.mp4_machine.specs.declared.body.OpenBody.{OpenBody}
 use Rattle.mp4_machine.proofs.BodyLemmas.{body-over, body-passed, open-far, open-some}
 use Rattle.mp4_machine.proofs.PieceLemmas.{GoesOn-silent, Refuses-there}
 use Rattle.mp4_machine.proofs.ReadingLemmas.{after-silent}
+
+-- more bytes were gathered
+pub GoesOn-gathered : (o : Outside) (reads : List ℕ → Reading) (at claim : ℕ) (old x new : List ℕ) → new ≡ old ++ x → GoesOn o o (gathering reads at claim old) x (gathering reads at claim new)
+GoesOn-gathered o reads at claim old x new e =
+    GoesOn-silent o (gathering reads at claim old) (gathering reads at claim new) x refl (omega (arith, ap length e, length-append old x))
+    (λ later. ap reads (sym (append_assoc old x later) ∙ ap (λ l. l ++ later) (sym e)))
 
 module _ {C : Type 0} (reads : C → List ℕ → Reading) (next : C) (claim : ℕ) (o : Outside) where
   -- ---- in a body that is passed over

@@ -1,11 +1,11 @@
 -- How what a step brings is made up, and what bytes that came before it change.
-use Rattle.std.proofs.Common.{◌≡◌, ℕ, ◌+◌, ◌≤◌, List, [], ◌++◌, length, take, drop, append-nil, refl, subst, Result, Ok, Err}
+use Rattle.std.proofs.Common.{◌≡◌, ℕ, ◌+◌, ◌≤◌, List, [], ◌++◌, length, take, drop, append-nil, subst, Ok, Err}
 use Rattle.mp4_box.specs.declared.rules.Fault.{Fault}
 use Rattle.mp4_machine.specs.Pieces.{Around, GoesOn, Outside, Refuses, Standing, Takes}
-use Rattle.mp4_machine.specs.Steps.{GoesTo, Leads, StopsIn, unmoved}
+use Rattle.mp4_machine.specs.Steps.{GoesTo, StopsIn}
 use Rattle.mp4_machine.specs.declared.stop.Stop.{Stop}
 use Rattle.mp4_machine.specs.declared.stop.Stop.TheVariants.{Stream}
-use Rattle.mp4_machine.proofs.PieceLemmas.{GoesOn-behind, GoesOn-more, GoesOn-none, StopsAt-behind, StopsAt-take_more, Takes-err, Takes-ok}
+use Rattle.mp4_machine.proofs.PieceLemmas.{GoesOn-behind, GoesOn-more, StopsAt-behind, StopsAt-take_more, Takes-err, Takes-ok}
 
 -- bytes came, and then what a step brings that takes none
 pub GoesOn-then : {o o' o'' : Outside} {p q : Standing} {xs : List ℕ} → p.claim ≤ o.account.live → GoesOn o o' p xs q → (r : Standing) → GoesOn o' o'' q [] r → GoesOn o o'' p xs r

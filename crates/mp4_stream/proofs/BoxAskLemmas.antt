@@ -59,7 +59,7 @@ holding-first at h limit b (Exact s) = by (nat_lt limit s) refl
   where
     by : (t : Bool) → nat_lt limit s ≡ t → Each (IsFirst at) (effects_of (holding at h limit b (Exact s))).requests
     by true e = rw e tt
-    by false e = rw e (subst (Each (IsFirst at)) (sym (asks-after (requests_memory at s) (held_body at h.kind s b) ∙ ap (λ l. (requests_memory at s).requests ++ shifted (requests_memory at s) l) (held-silent at h.kind s b _ refl))) (record { place = refl; behind = refl }, tt))
+    by false e = rw e (subst (Each (IsFirst at)) (sym (asks-after (requests_memory at s) (held_body at h.kind s b) ∙ ap (λ l. (requests_memory at s).requests ++ shifted (requests_memory at s) l) (held-silent at h.kind s b _ refl))) (record { place = refl; none_before = refl }, tt))
 
 box_by-first : (at : ℕ) (h : Header) (x b : List ℕ) (most : Option ℕ) → Each (IsFirst at) (effects_of (box_by at h x b most)).requests
 box_by-first at h x b None = subst (Each (IsFirst at)) (sym (asks-after (says (box_line at h)) (body at h h.size b) ∙ ap (shifted (says (box_line at h))) (body-silent at h h.size b))) tt

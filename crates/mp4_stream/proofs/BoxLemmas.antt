@@ -1,5 +1,5 @@
 -- How the reading of top-level boxes goes on.
-use Rattle.std.proofs.Common.{◌≡◌, ℕ, ◌+◌, ◌-◌, ◌<◌, ◌≤◌, List, [], ◌∷◌, ◌++◌, length, take, drop, true, false, Option, Some, None, ap, sym, ◌∙◌, refl, arith, append-nil, length-append, length-drop, OnOk, Result, Ok, Err}
+use Rattle.std.proofs.Common.{◌≡◌, ℕ, ◌+◌, ◌-◌, ◌<◌, ◌≤◌, List, [], ◌∷◌, ◌++◌, length, take, drop, true, false, Option, Some, None, ap, sym, ◌∙◌, refl, arith, append-nil, length-append, length-drop}
 use Rattle.std.proofs.Math.Seq.{take-append_seam, drop-append_seam}
 use Rattle.std.specs.Prelude.{nat_lt, if◌then◌else◌}
 use Rattle.mp4_box.specs.declared.headers.FourCc.{FourCc}
@@ -21,9 +21,7 @@ use Rattle.mp4_stream.specs.Boxes.{passed, body, held_box, held_body, holding, b
 use Rattle.mp4_stream.specs.States.{IsState, in_header, standing}
 use Rattle.mp4_stream.specs.declared.state.State.{State}
 use Rattle.mp4_stream.specs.declared.state.State.TheVariants as states
-use Rattle.mp4_machine.specs.Holding.{Holding}
 use Rattle.mp4_machine.specs.Pieces.{IsQuiet}
-use Rattle.mp4_machine.specs.declared.stop.Stop.{Stop}
 use Rattle.mp4_machine.proofs.ReadingLemmas.{Below, Below-more, Below-told, IsItemwise, read_all-front, then_read-told}
 use Rattle.mp4_machine.proofs.BodyLemmas.{nat_lt_true, nat_lt_false, body-none, open-none}
 use Rattle.mp4_machine.proofs.BodyGrowthLemmas.{told-below, told_open-below}

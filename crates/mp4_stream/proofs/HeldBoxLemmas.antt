@@ -4,7 +4,7 @@ use Rattle.std.specs.Prelude.{IsErrOf, codes, if◌then◌else◌}
 use Rattle.std.specs.Option.{unwrap_or}
 use Rattle.std.specs.Str.{bytes_eq}
 use Rattle.mp4_box.specs.Headers.{IsBox, IsBytes}
-use Rattle.mp4_grammar.specs.Kinds.{most_moof}
+use Rattle.mp4_grammar.specs.Kinds.{most_moof, most_moov}
 use Rattle.mp4_machine.specs.Bodies.{longest}
 use Rattle.mp4_machine.specs.Ends.{Ends}
 use Rattle.mp4_machine.specs.Readings.{Reading, Effects, after, requests_memory, both, most_of, then_read}
@@ -122,7 +122,7 @@ asks-exactly b most fits = (λ low. record { each = λ size h. omega (arith, low
 -- ---- whatever the boxes are
 
 abbrev limit_by : (moov moof : Bool) → Option ℕ
-limit_by moov moof = if moov then Some 16777216 else if moof then Some 67108864 else None
+limit_by moov moof = if moov then Some most_moov else if moof then Some most_moof else None
 
 limit-small : (moov moof : Bool) (limit : ℕ) → limit_by moov moof ≡ Some limit → limit ≤ most_moof
 limit-small true moof limit e = omega (arith, ap (λ o. unwrap_or o 0) e)

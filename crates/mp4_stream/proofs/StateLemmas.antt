@@ -1,7 +1,6 @@
 -- What a machine that lists boxes brings by where it stands.
-use Rattle.std.proofs.Common.{◌≡◌, ℕ, ◌+◌, ◌-◌, ◌^◌, ◌<◌, ◌≤◌, List, [], ◌∷◌, ◌++◌, length, Bool, Option, Some, None, ap, sym, refl, ◌∙◌, arith, append-nil, append_assoc, length-append, take, drop, length-take-le, subst}
+use Rattle.std.proofs.Common.{◌≡◌, ℕ, ◌+◌, ◌-◌, ◌<◌, ◌≤◌, List, [], ◌∷◌, ◌++◌, length, Bool, Option, Some, None, ap, sym, refl, ◌∙◌, arith, append-nil, append_assoc, take, drop, length-take-le, subst}
 use Rattle.std.proofs.Math.Seq.{take-length}
-use Rattle.mp4_box.specs.declared.headers.FourCc.{FourCc}
 use Rattle.mp4_box.specs.declared.headers.Header.{Header}
 use Rattle.mp4_box.specs.declared.headers.Size.TheVariants.{Exact, ToEnd}
 use Rattle.mp4_box.specs.declared.headers.Step.TheVariants as steps
@@ -9,7 +8,7 @@ use Rattle.mp4_box.specs.declared.rules.Fault.{Fault}
 use Rattle.mp4_box.specs.declared.rules.Rule.TheVariants.{BadSize, StreamTooLong, TooLarge}
 use Rattle.mp4_box.specs.Headers.{need, header_at, kind_of}
 use Rattle.mp4_box.specs.Trees.{tree_faults}
-use Rattle.mp4_box.proofs.HeaderLemmas.{whole_is, need-least, need-most}
+use Rattle.mp4_box.proofs.HeaderLemmas.{whole_is, need-least}
 use Rattle.mp4_ledger.specs.Memory.{claimed, given_back}
 use Rattle.mp4_ledger.specs.declared.ledger.Refused.{Refused}
 use Rattle.mp4_ledger.specs.declared.ledger.Refused.TheVariants as refusals
@@ -30,6 +29,7 @@ use Rattle.mp4_machine.proofs.HoldingLemmas.{found}
 use Rattle.mp4_machine.proofs.PieceLemmas.{sent_to, claimed_from, back_to, Moves-none, Moves-claim, GoesOn-silent, Loses-told, Refuses-there}
 use Rattle.mp4_machine.proofs.BodyLemmas.{body-over}
 use Rattle.mp4_machine.proofs.ReadingLemmas.{after-silent}
+use Rattle.mp4_machine.proofs.StandingLemmas.{GoesOn-gathered}
 use Rattle.mp4_machine.proofs.StepLemmas.{Comes, GoesTo-behind, StopsIn-behind}
 use Rattle.mp4_machine.specs.Steps.{GoesTo, StopsIn, unmoved}
 use Rattle.mp4_machine.specs.declared.stop.Stop.{Stop}
@@ -39,26 +39,14 @@ use Rattle.mp4_stream.specs.Boxes.{box, body, held_body, passed, reading}
 use Rattle.mp4_stream.specs.Holding.{held_lines, most_held}
 use Rattle.mp4_stream.specs.Listing.{box_line}
 use Rattle.mp4_stream.specs.States.{HasCome, IsState, at_header, behind_header, box_of, in_box, in_header, standing}
-use Rattle.mp4_stream.specs.declared.state.State.{State}
 use Rattle.mp4_stream.specs.declared.state.State.TheVariants as states
 use Rattle.mp4_stream.proofs.BoxLemmas.{reading-whole, reading-bad, reading-begun, reading-too_long, reading-too_large, reading-held_to_end, reading-holds, reading-good, reading-bad_tree}
-
-pub reached-most : (head : List ℕ) (s : State) → IsState head s → (standing head s).reached ≤ 2 ^ 62 + 31
-reached-most head (states.Header at) h = omega (arith, h.0, h.1, need-most head)
-reached-most head (states.Holding b) h = omega (arith, h.1, h.2)
-reached-most head (states.Body b) h = omega (arith, h.3)
-reached-most head (states.OpenBody b) h = omega arith
 
 -- ---- bytes of which nothing is told yet
 
 -- bytes of a header
-pub GoesOn-head : (o : Outside) (at : ℕ) (old x new : List ℕ) → new ≡ old ++ x → GoesOn o o (in_header at old) x (in_header at new)
-GoesOn-head o at old x new e =
-    GoesOn-silent o (in_header at old) (in_header at new) x refl (omega (arith, ap length e, length-append old x))
-    (λ later. ap (reading at) (sym (append_assoc old x later) ∙ ap (λ l. l ++ later) (sym e)))
-
 pub comes_head : {a : Around} (at : ℕ) (old : List ℕ) {x new : List ℕ} → new ≡ old ++ x → Comes a a.before (in_header at old) x (in_header at new)
-comes_head {a = a} at old {x = x} {new = new} e = record { claim = omega arith; goes = GoesOn-head a.before at old x new e }
+comes_head {a = a} at old {x = x} {new = new} e = record { claim = omega arith; goes = GoesOn-gathered a.before (reading at) at 0 old x new e }
 
 -- what a header brings that came byte by byte, it brings at once
 pub GoesTo-begun : {a : Around} (at : ℕ) (head : List ℕ) {s : Standing} → GoesTo a (at_header at) head s → GoesTo a (in_header at head) [] s
@@ -213,13 +201,8 @@ come_whole o at h piece is limit size near held sized fits room =
 -- ---- a box that is held
 
 -- more of it came
-pub GoesOn-held : (o : Outside) (b : Holding) (x : List ℕ) → GoesOn o o (in_box b) x (in_box (record b { bytes = b.bytes ++ x }))
-GoesOn-held o b x =
-    GoesOn-silent o (in_box b) (in_box (record b { bytes = b.bytes ++ x })) x refl (omega (arith, length-append b.bytes x))
-    (λ later. ap (λ l. then_read reading (held_body b.at b.kind b.size l)) (sym (append_assoc b.bytes x later)))
-
 pub comes_held : {a : Around} (b : Holding) {x : List ℕ} → b.size ≤ a.before.account.live → Comes a a.before (in_box b) x (in_box (record b { bytes = b.bytes ++ x }))
-comes_held {a = a} b {x = x} low = record { claim = low; goes = GoesOn-held a.before b x }
+comes_held {a = a} b {x = x} low = record { claim = low; goes = GoesOn-gathered a.before (λ bytes. then_read reading (held_body b.at b.kind b.size bytes)) b.at b.size b.bytes x (b.bytes ++ x) refl }
 
 module _ (o : Outside) (b : Holding) (low : b.size ≤ o.account.live) (len : length b.bytes ≡ b.size) where
   Counts-given : Counts o.account (given_back o.account b.size) b.size 0 0

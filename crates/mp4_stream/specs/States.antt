@@ -1,5 +1,5 @@
 -- Where a machine that lists boxes is in a stream, by what it takes next.
-use Rattle.std.specs.Prelude.{◌≡◌, ℕ, ◌+◌, ◌<◌, ◌≤◌, List, [], ◌++◌, length, slice_range, Option, Some}
+use Rattle.std.specs.Prelude.{◌≡◌, ℕ, ◌+◌, ◌<◌, ◌≤◌, List, [], length, slice_range, Option, Some}
 use Rattle.mp4_box.specs.declared.headers.Header.{Header}
 use Rattle.mp4_box.specs.Headers.{need}
 use Rattle.mp4_box.specs.Trees.{Box, box_at}
@@ -11,7 +11,7 @@ use Rattle.mp4_machine.specs.Holding.{Begins, Holding}
 use Rattle.mp4_machine.specs.Pieces.{Around, Outside, Standing}
 use Rattle.mp4_machine.specs.Pieces as pieces
 use Rattle.mp4_machine.specs.Readings.{uncounted, then_read}
-use Rattle.mp4_machine.specs.Standings.{in_body, in_open_body}
+use Rattle.mp4_machine.specs.Standings.{gathering, in_body, in_open_body}
 use Rattle.mp4_stream.specs.Boxes.{body, passed, held_body, reading}
 use Rattle.mp4_stream.specs.declared.state.State.{State}
 use Rattle.mp4_stream.specs.declared.state.State.TheVariants as states
@@ -20,7 +20,7 @@ use Rattle.mp4_stream.specs.declared.state.State.TheVariants as states
 
 -- in the header of the box at an offset, of which these bytes came
 abbrev pub in_header : ℕ → List ℕ → Standing
-in_header at head = record { reached = at + length head; reads = λ bytes. reading at (head ++ bytes); claim = 0 }
+in_header at head = gathering (reading at) at 0 head
 
 -- before it
 abbrev pub at_header : ℕ → Standing
@@ -32,7 +32,7 @@ behind_header at h = record { reached = at + h.header_len; reads = λ bytes. the
 
 -- in a box that is held
 abbrev pub in_box : Holding → Standing
-in_box h = record { reached = h.at + length h.bytes; reads = λ bytes. then_read reading (held_body h.at h.kind h.size (h.bytes ++ bytes)); claim = h.size }
+in_box h = gathering (λ bytes. then_read reading (held_body h.at h.kind h.size bytes)) h.at h.size h.bytes
 
 -- where it takes this next, and these bytes of a header came
 abbrev pub standing : List ℕ → State → Standing

@@ -16,6 +16,7 @@ use crate::listed_box::{list_held, list_whole};
 use crate::state::{State, Taken};
 use mp4_box::{FourCc, Header, Rule, Size};
 use mp4_ends::Sink;
+use mp4_grammar::{MOST_MOOF, MOST_MOOV};
 use mp4_ledger::Ledger;
 use mp4_machine::{Block, Held, Stop, at_fault};
 
@@ -26,8 +27,8 @@ pub(crate) fn held_limit(kind: FourCc) -> Option<u64>
     ensures { result ≡ most_held kind.0 }
 {
     match &kind.0 {
-        b"moov" => Some(16_777_216),
-        b"moof" => Some(67_108_864),
+        b"moov" => Some(MOST_MOOV),
+        b"moof" => Some(MOST_MOOF),
         _ => None,
     }
 }

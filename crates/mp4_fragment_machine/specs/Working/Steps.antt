@@ -1,13 +1,13 @@
 -- Working: what a step of a machine brings, by its result.
-use Rattle.std.specs.Prelude.{◌≡◌, ℕ, ◌+◌, ◌<◌, ◌≤◌, List, [], ◌++◌, length, take, Bool, true, Option, Result, Ok, Err}
+use Rattle.std.specs.Prelude.{◌≡◌, ℕ, ◌+◌, ◌<◌, ◌≤◌, List, [], length, take, Bool, Option, Result, Ok, Err}
 use Rattle.mp4_box.specs.Headers.{header_at, need}
 use Rattle.mp4_box.specs.declared.headers.Header.{Header}
 use Rattle.mp4_box.specs.declared.headers.Step.TheVariants as steps
 use Rattle.mp4_ledger.specs.Memory.{Account, given_back}
 use Rattle.mp4_machine.specs.Blocks.{Pending}
-use Rattle.mp4_machine.specs.Pieces.{GoesOn, Outside, StopsAt, outside}
+use Rattle.mp4_machine.specs.Pieces.{Around, Outside, outside}
+use Rattle.mp4_machine.specs.Steps as reading
 use Rattle.mp4_machine.specs.declared.stop.Stop.{Stop}
-use Rattle.mp4_machine.specs.declared.stop.Stop.TheVariants.{Write}
 use Rattle.mp4_grammar.specs.Contexts.{table_of}
 use Rattle.mp4_recut.specs.Plans.{plan_meaning, number_in}
 use Rattle.mp4_fragment_machine.specs.Places.{Place, Unlent, claim_of, standing}
@@ -65,6 +65,14 @@ outside_after l k = outside l.written' l.waiting' l.account' k.counter.tally
 abbrev pub outside_stopped : Lent → Kept → ℕ → Outside
 outside_stopped l k table = outside l.written' l.waiting' (given_back l.account' table) k.counter.tally
 
+-- what is outside of a step that goes on
+abbrev pub around_of : Lent → (old new : Kept) → Around
+around_of l old new = record { before = outside_before l old; after = outside_after l new; failed = l.failed; failed' = l.failed' }
+
+-- and of one that stops
+abbrev pub around_stopped : Lent → (old new : Kept) → Around
+around_stopped l old new = record { before = outside_before l old; after = outside_stopped l new (table_of old.tracks); failed = l.failed; failed' = l.failed' }
+
 -- ---- where a machine is
 
 -- in this state
@@ -91,18 +99,14 @@ pub record CanPass (k : Kept) (account : Account) (at : ℕ) (h : Header) (x : L
 
 -- from a place it took bytes, and goes on in this state
 pub record GoesTo (l : Lent) (old new : Kept) (from : Place) (bytes : List ℕ) (s : State) : Type 0 where
-  pub goes : GoesOn (outside_before l old) (outside_after l new) (standing (plan_meaning old.plan) from) bytes (standing (plan_meaning new.plan) (at_state new s))
-  pub unfailed : l.failed' ≡ l.failed
+  pub step : reading.GoesTo (around_of l old new) (standing (plan_meaning old.plan) from) bytes (standing (plan_meaning new.plan) (at_state new s))
   pub plan : new.plan ≡ old.plan
   pub state : IsState new.tracks new.head s
-  pub claim : claim_of (at_state new s) ≤ l.account'.live
   pub counted : HasCounted new.plan s new.counter
 
 -- it stops at a piece: of what was claimed only the table of the tracks still is
 pub record StopsIn (l : Lent) (old new : Kept) (from : Place) (piece : List ℕ) (e : Stop) : Type 0 where
-  pub stops : (more : List ℕ) → StopsAt (outside_before l old) (outside_stopped l new (table_of old.tracks)) (standing (plan_meaning old.plan) from) (piece ++ more) e
-  pub failed : e ≡ Write → l.failed' ≡ true
-  pub unfailed : (e ≡ Write → ⊥) → l.failed' ≡ l.failed
+  pub step : reading.StopsIn (around_stopped l old new) (standing (plan_meaning old.plan) from) piece e
   pub plan : new.plan ≡ old.plan
   pub tracks : new.tracks ≡ old.tracks
   pub empty : new.head ≡ []

@@ -24,6 +24,7 @@ pub record StandsFirst (kind : Kind) (at : ℕ) (x : List ℕ) (b : Span) : Type
   pub header : Header
   pub is : header_at x ≡ steps.Whole header
   pub is_kind : kind_in header.kind.0 ≡ kind
+  pub type : header.kind ≡ b.kind
   pub head : header.header_len ≡ b.header_len
   pub sized : header.size ≡ Exact b.size
   pub whole : b.size ≤ length x

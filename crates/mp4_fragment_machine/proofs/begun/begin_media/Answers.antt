@@ -51,13 +51,4 @@ returns-in-Err g c =
     let begun = c.in-Err.ensures in
     let kept = c.args.kept.now in
     let can = rw (c.in-Some.is, c.requires.plan) at c.requires.can in
-    rw (c.in-Some.is, c.requires.plan) (record {
-      stops = begun.takes.err;
-      failed = λ e. begun.takes.failed (ap Err e);
-      unfailed = λ other. begun.takes.kept (λ is. other cc);
-      plan = refl;
-      tracks = refl;
-      empty = c.requires.empty;
-      left = begun.left;
-      counted = begun.spent can.counted;
-    })
+    rw (c.in-Some.is, c.requires.plan) (record { step = record { stops = begun.takes.err; failed = λ e. begun.takes.failed (ap Err e); unfailed = λ other. begun.takes.kept (λ is. other cc) }; plan = refl; tracks = refl; empty = c.requires.empty; left = begun.left; counted = begun.spent can.counted })

@@ -39,13 +39,15 @@ returns-then-body-eq0 c = λ number u needed numbers.
     let ended = c.end_fragment.ensures in
     let table : 64 * length ends ≡ 64 * length list = ap (λ l. 64 * length l) (sym ended.tracks) ∙ ap (λ k. 64 * k) ended.len in
     rw (c.in-Some.is, c.requires.plan, c.requires.empty, ended.tracks, ended.back) (record {
-      goes = rw ended.tally
-          (begun_known cut w list number n m at h kept.tracks o _ _ c.in-Some.is (media_over cut w list number n m at h size h.size ends o _ c.in-Exact.is short (sym many ∙ omega (arith, ap length none)) refl media.settled
-          (Moves-settled o (64 * length list) w.moof.size (64 * length w.runs.rows) (64 * length ends) table low)));
-      unfailed = refl;
+      step = record {
+        goes = rw ended.tally
+            (begun_known cut w list number n m at h kept.tracks o _ _ c.in-Some.is (media_over cut w list number n m at h size h.size ends o _ c.in-Exact.is short (sym many ∙ omega (arith, ap length none)) refl media.settled
+            (Moves-settled o (64 * length list) w.moof.size (64 * length w.runs.rows) (64 * length ends) table low)));
+        unfailed = refl;
+        claim = omega (arith, low, table);
+      };
       plan = refl;
       state = (no_head [] refl, near);
-      claim = omega (arith, low, table);
       counted = counted_ended (plans.Split cut) kept.counter c.end_fragment.new.counter (at + size) (moof_samples (moof_in w)) counted ended.tally (omega (arith, ended.walked)) ended.few;
     })
 
@@ -70,8 +72,7 @@ returns-else-body-eq0 c = λ number u needed numbers.
     let media = rw c.in-Some.is at c.requires.media in
     let low = rw c.in-Some.is at c.requires.claim in
     rw (c.in-Some.is, c.requires.plan) (record {
-      goes = begun_known cut w list number n m at h kept.tracks o o _ c.in-Some.is (GoesOn-same (splitting cut) o _ _ (media_begins cut w list number n m at h size h.size c.in-Exact.is room many));
-      unfailed = refl;
+      step = record { goes = begun_known cut w list number n m at h kept.tracks o o _ c.in-Some.is (GoesOn-same (splitting cut) o _ _ (media_begins cut w list number n m at h size h.size c.in-Exact.is room many)); unfailed = refl; claim = low };
       plan = refl;
       state = (
         c.requires.empty,
@@ -84,7 +85,6 @@ returns-else-body-eq0 c = λ number u needed numbers.
           rises = subst (λ k. Rises (at + size) (spot_of cut (moof_in w) list k n m)) start rises;
         },
       );
-      claim = low;
       counted = (counted, refl, refl);
     })
 
@@ -103,8 +103,7 @@ returns-in-ToEnd c = λ number u needed numbers.
     let media = rw c.in-Some.is at c.requires.media in
     let low = rw c.in-Some.is at c.requires.claim in
     rw (c.in-Some.is, c.requires.plan) (record {
-      goes = begun_known cut w list number n m c.args.at c.args.header.now kept.tracks o o _ c.in-Some.is (GoesOn-same (splitting cut) o _ _ (open_begins cut w list number n m c.args.at c.args.header.now c.args.split.needed c.args.header.now.size c.in-ToEnd.is near enough));
-      unfailed = refl;
+      step = record { goes = begun_known cut w list number n m c.args.at c.args.header.now kept.tracks o o _ c.in-Some.is (GoesOn-same (splitting cut) o _ _ (open_begins cut w list number n m c.args.at c.args.header.now c.args.split.needed c.args.header.now.size c.in-ToEnd.is near enough)); unfailed = refl; claim = low };
       plan = refl;
       state = (
         c.requires.empty,
@@ -114,6 +113,5 @@ returns-in-ToEnd c = λ number u needed numbers.
           media = media;
         },
       );
-      claim = low;
       counted = (counted, refl, refl);
     })

@@ -1,4 +1,4 @@
-use Rattle.std.proofs.Common.{◌≡◌, ◌-◌, ◌++◌, [], append_assoc, length, take, arith, refl, subst, sym}
+use Rattle.std.proofs.Common.{◌≡◌, ◌-◌, ◌++◌, [], append_assoc, length, take, arith, refl, subst, sym, ap}
 use Rattle.std.proofs.lemmas.List.{length-take-le}
 use Rattle.mp4_ledger.specs.Memory.{given_back}
 use Rattle.mp4_machine.specs.Pieces.{GoesOn, Loses, outside}
@@ -9,6 +9,7 @@ use Rattle.mp4_fragment_machine.specs.Places.{InBody, InHeader, reads_at, standi
 use Rattle.mp4_fragment_machine.proofs.CopyLemmas.{GoesOn-says, GoesOn-says_over, Loses-says}
 use Rattle.mp4_fragment_machine.proofs.StepLemmas.{counted_stop, no_head}
 use Rattle.mp4_machine.proofs.StepLemmas.{GoesOn-then}
+use Rattle.mp4_machine.specs.declared.body.Body.{Body}
 use Rattle.mp4_fragment_machine.proofs.copied_box.take_copied.Goals as goal
 
 pub returns-in-Err : goal.returns-in-Err
@@ -16,7 +17,7 @@ returns-in-Err g c = λ account can.
     let body = c.args.body in
     let kept = c.args.kept.now in
     let piece = c.args.piece.now in
-    let n = c.min-count.result in
+    let n = c.take-count.result in
     let a = g.W.Sink.contents c.args.w.now in
     let b = g.W.Sink.contents c.put.new.w in
     let tally = kept.counter.tally in
@@ -25,11 +26,13 @@ returns-in-Err g c = λ account can.
     let next = context body.next kept.tracks (number_in kept.plan tally) in
     let put = rw c.split_at.ensures.front at c.in-Err.ensures in
     record {
-      stops = λ more later. subst (λ l. Loses (outside a c.args.out.now account tally) (outside b c.put.new.self (given_back account table) tally) table (reads_at meaning (InBody (λ x. says x) body.at body.kind next body.left table) l)) (sym (append_assoc piece more later))
-          (Loses-says meaning body.at body.kind a b c.args.out.now c.put.new.self account tally next body.left table n piece (more ++ later)
-          (omega (arith, c.min-count.ensures)) (omega (arith, c.min-count.ensures)) can.claim put.breaks);
-      failed = λ _. put.failed;
-      unfailed = λ other. absurd (other refl);
+      step = record {
+        stops = λ more later. subst (λ l. Loses (outside a c.args.out.now account tally) (outside b c.put.new.self (given_back account table) tally) table (reads_at meaning (InBody (λ x. says x) body.at body.kind next body.left table) l)) (sym (append_assoc piece more later))
+            (Loses-says meaning body.at body.kind a b c.args.out.now c.put.new.self account tally next body.left table n piece (more ++ later)
+            (omega (arith, c.take-count.ensures.taken)) (omega (arith, c.take-count.ensures.taken)) can.claim put.breaks);
+        failed = λ _. put.failed;
+        unfailed = λ other. absurd (other refl);
+      };
       plan = refl;
       tracks = refl;
       empty = c.requires.state.0;
@@ -37,12 +40,13 @@ returns-in-Err g c = λ account can.
       counted = counted_stop kept.plan kept.counter body.next can.counted;
     }
 
-pub returns-then-left-eq0 : goal.returns-then-left-eq0
-returns-then-left-eq0 g c = λ account can.
+pub returns-then-body-eq0 : goal.returns-then-body-eq0
+returns-then-body-eq0 g c = λ account can.
     let body = c.args.body in
     let kept = c.args.kept.now in
     let is = c.requires.state in
-    let n = c.min-count.result in
+    let n = c.take-count.result in
+    let left_is = ap (λ (b : Body). b.left) c.take-count.ensures.left in
     let a = g.W.Sink.contents c.args.w.now in
     let b = g.W.Sink.contents c.put.new.w in
     let tally = kept.counter.tally in
@@ -50,19 +54,12 @@ returns-then-left-eq0 g c = λ account can.
     let meaning = plan_meaning kept.plan in
     let x = take n c.args.piece.now in
     let put = rw c.split_at.ensures.front at c.in-Ok.ensures in
-    let len : length x ≡ n = length-take-le n c.args.piece.now (omega (arith, c.min-count.ensures)) in
+    let len : length x ≡ n = length-take-le n c.args.piece.now (omega (arith, c.take-count.ensures.taken)) in
     let next = context body.next kept.tracks (number_in kept.plan tally) in
-    let effects = GoesOn-says meaning body.at body.kind a b c.args.out.now c.put.new.self account tally next x body.left table (omega (arith, len, c.min-count.ensures)) is.2 put.passes in (
-      omega (arith, c.min-count.ensures, c.requires.some, is.1),
-      omega (arith, c.min-count.ensures),
-      rw is.0 (record {
-        goes = GoesOn-then can.claim effects (standing meaning (InHeader next [])) (GoesOn-says_over meaning body.at body.kind (outside b c.put.new.self account tally) next (body.left - length x) (omega (arith, len, c.if-left-eq0.true)));
-        unfailed = put.unfailed;
-        plan = refl;
-        state = (no_head [] refl, is.3);
-        claim = can.claim;
-        counted = can.counted;
-      }),
+    let effects = GoesOn-says meaning body.at body.kind a b c.args.out.now c.put.new.self account tally next x body.left table (omega (arith, len, c.take-count.ensures.taken)) is.2 put.passes in (
+      omega (arith, c.take-count.ensures.taken, c.requires.some, is.1),
+      omega (arith, c.take-count.ensures.taken),
+      rw (c.take-count.ensures.left, is.0) (record { step = record { goes = GoesOn-then can.claim effects (standing meaning (InHeader next [])) (GoesOn-says_over meaning body.at body.kind (outside b c.put.new.self account tally) next (body.left - length x) (omega (arith, len, c.if-body-eq0.true, left_is))); unfailed = put.unfailed; claim = can.claim }; plan = refl; state = (no_head [] refl, is.3); counted = can.counted }),
     )
 
 pub returns : goal.returns
@@ -70,7 +67,8 @@ returns g c = λ account can.
     let body = c.args.body in
     let kept = c.args.kept.now in
     let is = c.requires.state in
-    let n = c.min-count.result in
+    let n = c.take-count.result in
+    let left_is = ap (λ (b : Body). b.left) c.take-count.ensures.left in
     let a = g.W.Sink.contents c.args.w.now in
     let b = g.W.Sink.contents c.put.new.w in
     let tally = kept.counter.tally in
@@ -78,17 +76,19 @@ returns g c = λ account can.
     let meaning = plan_meaning kept.plan in
     let x = take n c.args.piece.now in
     let put = rw c.split_at.ensures.front at c.in-Ok.ensures in
-    let len : length x ≡ n = length-take-le n c.args.piece.now (omega (arith, c.min-count.ensures)) in
+    let len : length x ≡ n = length-take-le n c.args.piece.now (omega (arith, c.take-count.ensures.taken)) in
     let next = context body.next kept.tracks (number_in kept.plan tally) in (
-      omega (arith, c.min-count.ensures, c.requires.some, is.1),
-      omega (arith, c.min-count.ensures),
-      record {
-        goes = subst (λ k. GoesOn (outside a c.args.out.now account tally) (outside b c.put.new.self account tally) (standing meaning (InBody (λ l. says l) body.at body.kind next body.left table)) x (standing meaning (InBody (λ l. says l) body.at body.kind next (body.left - k) table))) len
-            (GoesOn-says meaning body.at body.kind a b c.args.out.now c.put.new.self account tally next x body.left table (omega (arith, len, c.min-count.ensures)) is.2 put.passes);
-        unfailed = put.unfailed;
+      omega (arith, c.take-count.ensures.taken, c.requires.some, is.1),
+      omega (arith, c.take-count.ensures.taken),
+      rw c.take-count.ensures.left (record {
+        step = record {
+          goes = subst (λ k. GoesOn (outside a c.args.out.now account tally) (outside b c.put.new.self account tally) (standing meaning (InBody (λ l. says l) body.at body.kind next body.left table)) x (standing meaning (InBody (λ l. says l) body.at body.kind next (body.left - k) table))) len
+              (GoesOn-says meaning body.at body.kind a b c.args.out.now c.put.new.self account tally next x body.left table (omega (arith, len, c.take-count.ensures.taken)) is.2 put.passes);
+          unfailed = put.unfailed;
+          claim = can.claim;
+        };
         plan = refl;
-        state = (is.0, omega (arith, c.if-left-eq0.false), omega (arith, is.2), is.3);
-        claim = can.claim;
+        state = (is.0, omega (arith, c.if-body-eq0.false, left_is), omega (arith, is.2), is.3);
         counted = can.counted;
-      },
+      }),
     )

@@ -22,11 +22,13 @@ returns-in-Err g c = λ account can.
     let meaning = plan_meaning kept.plan in
     let put = rw c.split_at.ensures.front at c.in-Err.ensures in
     record {
-      stops = λ more later. subst (λ l. Loses (outside a c.args.out.now account tally) (outside b c.put.new.self (given_back account table) tally) table (reads_at meaning (InOpenBody (λ x. says x) body.at body.kind body.needed body.left table) l)) (sym (append_assoc piece more later))
-          (Loses-open_says meaning body.at body.kind a b c.args.out.now c.put.new.self account tally body.needed body.left table n piece (more ++ later)
-          (omega (arith, c.min-most.ensures)) (omega (arith, c.min-most.ensures)) can.claim put.breaks);
-      failed = λ _. put.failed;
-      unfailed = λ other. absurd (other refl);
+      step = record {
+        stops = λ more later. subst (λ l. Loses (outside a c.args.out.now account tally) (outside b c.put.new.self (given_back account table) tally) table (reads_at meaning (InOpenBody (λ x. says x) body.at body.kind body.needed body.left table) l)) (sym (append_assoc piece more later))
+            (Loses-open_says meaning body.at body.kind a b c.args.out.now c.put.new.self account tally body.needed body.left table n piece (more ++ later)
+            (omega (arith, c.min-most.ensures)) (omega (arith, c.min-most.ensures)) can.claim put.breaks);
+        failed = λ _. put.failed;
+        unfailed = λ other. absurd (other refl);
+      };
       plan = refl;
       tracks = refl;
       empty = c.requires.state.0;
@@ -41,16 +43,7 @@ returns-then-len-body g c = λ account can.
     let n = c.min-most.result in
     let same : n ≡ body.left = omega (arith, c.min-most.ensures, c.if-len-body.true) in
     let put = rw (c.split_at.ensures.front, same) at c.in-Ok.ensures in
-    rw c.at_fault.ensures (record {
-      stops = λ more. Refuses-open_says (plan_meaning kept.plan) body.at body.kind (g.W.Sink.contents c.args.w.now) (g.W.Sink.contents c.put.new.w) c.args.out.now c.put.new.self account kept.counter.tally body.needed body.left (table_of kept.tracks) c.args.piece.now more can.claim c.if-len-body.true put.passes;
-      failed = λ is. absurd cc;
-      unfailed = λ _. put.unfailed;
-      plan = refl;
-      tracks = refl;
-      empty = c.requires.state.0;
-      left = can.claim;
-      counted = can.counted;
-    })
+    rw c.at_fault.ensures (record { step = record { stops = λ more. Refuses-open_says (plan_meaning kept.plan) body.at body.kind (g.W.Sink.contents c.args.w.now) (g.W.Sink.contents c.put.new.w) c.args.out.now c.put.new.self account kept.counter.tally body.needed body.left (table_of kept.tracks) c.args.piece.now more can.claim c.if-len-body.true put.passes; failed = λ is. absurd cc; unfailed = λ _. put.unfailed }; plan = refl; tracks = refl; empty = c.requires.state.0; left = can.claim; counted = can.counted })
 
 pub returns : goal.returns
 returns g c = λ account can.
@@ -62,12 +55,5 @@ returns g c = λ account can.
     let put = rw (c.split_at.ensures.front, same, take-length c.args.piece.now) at c.in-Ok.ensures in (
       c.requires.some,
       omega arith,
-      record {
-        goes = rw (take-length c.args.piece.now, c.saturating_sub.ensures) (GoesOn-open_says (plan_meaning kept.plan) body.at body.kind (g.W.Sink.contents c.args.w.now) (g.W.Sink.contents c.put.new.w) c.args.out.now c.put.new.self account kept.counter.tally c.args.piece.now body.needed body.left (table_of kept.tracks) c.if-len-body.false is.1 put.passes);
-        unfailed = put.unfailed;
-        plan = refl;
-        state = (is.0, omega (arith, is.1));
-        claim = can.claim;
-        counted = can.counted;
-      },
+      record { step = record { goes = rw (take-length c.args.piece.now, c.saturating_sub.ensures) (GoesOn-open_says (plan_meaning kept.plan) body.at body.kind (g.W.Sink.contents c.args.w.now) (g.W.Sink.contents c.put.new.w) c.args.out.now c.put.new.self account kept.counter.tally c.args.piece.now body.needed body.left (table_of kept.tracks) c.if-len-body.false is.1 put.passes); unfailed = put.unfailed; claim = can.claim }; plan = refl; state = (is.0, omega (arith, is.1)); counted = can.counted },
     )

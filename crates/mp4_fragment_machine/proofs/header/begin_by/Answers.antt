@@ -9,7 +9,7 @@ use Rattle.mp4_fragment_machine.proofs.TakeLemmas.{len_of_bad, len_of_whole}
 use Rattle.mp4_fragment_machine.proofs.header.begin_by.Goals as goal
 
 pub returns-in-More : goal.returns-in-More
-returns-in-More g c = record { goes = GoesOn-none _ _; unfailed = refl; plan = refl; state = (c.requires.more c.in-More.is, c.requires.at); claim = c.requires.can.claim; counted = c.requires.can.counted }
+returns-in-More g c = record { step = record { goes = GoesOn-none _ _; unfailed = refl; claim = c.requires.can.claim }; plan = refl; state = (c.requires.more c.in-More.is, c.requires.at); counted = c.requires.can.counted }
 
 pub returns-in-BadSize : goal.returns-in-BadSize
 returns-in-BadSize g c =

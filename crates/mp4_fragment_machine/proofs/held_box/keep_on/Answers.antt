@@ -63,10 +63,12 @@ returns-in-Err g c =
     let number = number_in kept.plan kept.counter.tally in
     let refused = c.in-Err.ensures in
     rw (c.of_refusal.ensures, refused.err) (record {
-      stops = λ more. StopsAt-keep (plan_meaning kept.plan) (outside (g.W.Sink.contents c.args.w.now) c.args.out.now c.args.ledger.now kept.counter.tally) c.args.at number kept.tracks c.args.header.now c.args.head.now c.args.limit can.claim (c.requires.reads number) c.in-Exact.size c.in-Exact.is c.if-size-limit.false
-          more c.in-Err.refused (λ e. refused.over_limit.0 (ap Err e)) (λ e. within_limit c.args.ledger.now.limit (c.args.ledger.now.live + c.in-Exact.size) (ap Err e) refused.over_limit.1);
-      failed = λ is. absurd (refused_not_written c.in-Err.refused is);
-      unfailed = λ _. refl;
+      step = record {
+        stops = λ more. StopsAt-keep (plan_meaning kept.plan) (outside (g.W.Sink.contents c.args.w.now) c.args.out.now c.args.ledger.now kept.counter.tally) c.args.at number kept.tracks c.args.header.now c.args.head.now c.args.limit can.claim (c.requires.reads number) c.in-Exact.size c.in-Exact.is c.if-size-limit.false
+            more c.in-Err.refused (λ e. refused.over_limit.0 (ap Err e)) (λ e. within_limit c.args.ledger.now.limit (c.args.ledger.now.live + c.in-Exact.size) (ap Err e) refused.over_limit.1);
+        failed = λ is. absurd (refused_not_written c.in-Err.refused is);
+        unfailed = λ _. refl;
+      };
       plan = refl;
       tracks = refl;
       empty = c.requires.empty;

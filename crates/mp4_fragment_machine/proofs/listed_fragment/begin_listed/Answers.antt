@@ -26,16 +26,7 @@ returns-in-Err g c =
     let i = rw c.in-Some.is at c.requires.waiting in
     let o = outside (g.W.Sink.contents c.args.w.now) c.args.out.now c.args.ledger.now kept.counter.tally in
     let low = rw (claimed_behind 1 w (Some list) i kept.head) at can.claim in
-    rw (c.in-Some.is, c.requires.plan, c.back.ensures) (record {
-      stops = λ more. Refuses-fragment c.args.command 1 o w list h x (rows_of list w i) c.requires.len c.requires.is low more c.in-Err.fault (λ later. c.in-Err.ensures.fault (command_meaning c.args.command) 1 x later c.requires.len c.requires.is);
-      failed = λ is. absurd cc;
-      unfailed = λ _. refl;
-      plan = refl;
-      tracks = refl;
-      empty = c.requires.empty;
-      left = omega (arith, claimed_apart (Some list) (Some w), low);
-      counted = counted_unlisted (plans.List c.args.command) kept.counter (w.moof.at + w.moof.size) (moof_samples (moof_in w)) can.counted;
-    })
+    rw (c.in-Some.is, c.requires.plan, c.back.ensures) (record { step = record { stops = λ more. Refuses-fragment c.args.command 1 o w list h x (rows_of list w i) c.requires.len c.requires.is low more c.in-Err.fault (λ later. c.in-Err.ensures.fault (command_meaning c.args.command) 1 x later c.requires.len c.requires.is); failed = λ is. absurd cc; unfailed = λ _. refl }; plan = refl; tracks = refl; empty = c.requires.empty; left = omega (arith, claimed_apart (Some list) (Some w), low); counted = counted_unlisted (plans.List c.args.command) kept.counter (w.moof.at + w.moof.size) (moof_samples (moof_in w)) can.counted })
 
 pub tell-requires-clause-some : goal.tell-requires-clause-some
 tell-requires-clause-some g c = omega (arith, (whole_is c.args.head.now c.args.header.now c.requires.is).1, need-least c.args.head.now)
@@ -95,10 +86,12 @@ returns-in-Err-tell g c =
     let effects = c.in-Err-tell.ensures in
     let counted = effects.counted in
     rw (c.in-Some.is, c.requires.plan, c.back-in-Err-tell.ensures) (record {
-      stops = λ more later. Loses-fragment c.args.command 1 o w list h x (rows_of list w i) c.requires.len c.requires.is low c.in-Ok.ensures.near c.in-Ok.ensures.mdat (listed_good c.args.command 1 w list h (c.in-Ok.ensures.good 1))
-          (g.W.Sink.contents c.tell.new.w) c.tell.new.out c.tell.new.counter.tally more later effects.tally effects.puts.breaks;
-      failed = λ _. effects.puts.failed;
-      unfailed = λ other. absurd (other refl);
+      step = record {
+        stops = λ more later. Loses-fragment c.args.command 1 o w list h x (rows_of list w i) c.requires.len c.requires.is low c.in-Ok.ensures.near c.in-Ok.ensures.mdat (listed_good c.args.command 1 w list h (c.in-Ok.ensures.good 1))
+            (g.W.Sink.contents c.tell.new.w) c.tell.new.out c.tell.new.counter.tally more later effects.tally effects.puts.breaks;
+        failed = λ _. effects.puts.failed;
+        unfailed = λ other. absurd (other refl);
+      };
       plan = refl;
       tracks = refl;
       empty = c.requires.empty;

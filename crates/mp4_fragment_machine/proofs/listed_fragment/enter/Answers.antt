@@ -13,11 +13,4 @@ returns-in-Exact c = λ u. rw c.in-Exact.is (c.arrive.ensures u)
 pub returns-in-ToEnd : goal.returns-in-ToEnd
 returns-in-ToEnd c = λ u.
     let counted = rw c.in-ToEnd.is at c.requires.counted in
-    rw c.in-ToEnd.is (record {
-      goes = GoesOn-none _ _;
-      unfailed = refl;
-      plan = refl;
-      state = (c.requires.empty, omega arith, c.requires.waiting);
-      claim = c.requires.claim;
-      counted = counted;
-    })
+    rw c.in-ToEnd.is (record { step = record { goes = GoesOn-none _ _; unfailed = refl; claim = c.requires.claim }; plan = refl; state = (c.requires.empty, omega arith, c.requires.waiting); counted = counted })

@@ -12,7 +12,7 @@ use Rattle.mp4_fragment_machine.proofs.TakeLemmas.{len_of_bad, len_of_whole}
 use Rattle.mp4_fragment_machine.proofs.mdat_header.begin_mdat.Goals as goal
 
 pub returns-in-More : goal.returns-in-More
-returns-in-More g c = record { goes = GoesOn-none _ _; unfailed = refl; plan = refl; state = (c.requires.more c.in-More.is, c.requires.waiting); claim = c.requires.can.claim; counted = c.requires.can.counted }
+returns-in-More g c = record { step = record { goes = GoesOn-none _ _; unfailed = refl; claim = c.requires.can.claim }; plan = refl; state = (c.requires.more c.in-More.is, c.requires.waiting); counted = c.requires.can.counted }
 
 pub returns-in-BadSize : goal.returns-in-BadSize
 returns-in-BadSize g c =
@@ -23,16 +23,7 @@ returns-in-BadSize g c =
     let low = rw (claimed_behind number w kept.tracks c.requires.waiting kept.head) at can.claim in
     let bad = sym c.requires.step ∙ c.in-BadSize.is in
     let at : c.offset.result + c.size.result ≡ w.moof.at + w.moof.size = omega (arith, c.offset.ensures.at, c.size.ensures) in
-    rw (c.at_fault.ensures, c.kind-kind.ensures.computed, c.back.ensures) (record {
-      stops = λ more. Refuses-behind (plan_meaning kept.plan) number (outside (g.W.Sink.contents c.args.w.now) c.args.out.now c.args.ledger.now kept.counter.tally) w kept.tracks c.requires.waiting low kept.head more _ at (len_of_bad kept.head c.requires.len bad) bad;
-      failed = λ is. absurd cc;
-      unfailed = λ _. refl;
-      plan = refl;
-      tracks = refl;
-      empty = c.new-kept.ensures;
-      left = omega (arith, claimed_apart kept.tracks (Some w), low);
-      counted = counted_unlisted kept.plan kept.counter (w.moof.at + w.moof.size) (moof_samples (moof_in w)) can.counted;
-    })
+    rw (c.at_fault.ensures, c.kind-kind.ensures.computed, c.back.ensures) (record { step = record { stops = λ more. Refuses-behind (plan_meaning kept.plan) number (outside (g.W.Sink.contents c.args.w.now) c.args.out.now c.args.ledger.now kept.counter.tally) w kept.tracks c.requires.waiting low kept.head more _ at (len_of_bad kept.head c.requires.len bad) bad; failed = λ is. absurd cc; unfailed = λ _. refl }; plan = refl; tracks = refl; empty = c.new-kept.ensures; left = omega (arith, claimed_apart kept.tracks (Some w), low); counted = counted_unlisted kept.plan kept.counter (w.moof.at + w.moof.size) (moof_samples (moof_in w)) can.counted })
 
 pub begin_fragment-requires-clause-room : goal.begin_fragment-requires-clause-room
 begin_fragment-requires-clause-room g c = room_of c.args.kept.now.head c.in-Whole.header (sym c.requires.step ∙ c.in-Whole.is)

@@ -40,11 +40,13 @@ returns-in-Err g c =
     back_twice ledger (taken_by (Some w)) (64 * length list) ∙ ap (given_back ledger) (sym apart) in
     let split = rw plan at counted in
     rw (c.in-Some.is, plan, number, c.back.ensures) (record {
-      stops = λ more later. rw all
-          (subst (λ l. Loses a (outside (g.W.Sink.contents c.take_media.new.w) c.take_media.new.out (given_back ledger own) c.take_media.new.tally) own (reads_at (splitting r.cut) place l)) (sym (append_assoc piece more later))
-          (c.in-Err.ensures.lost (splitting r.cut) next own ledger (more ++ later) low));
-      failed = λ _. c.in-Err.ensures.failed;
-      unfailed = λ other. absurd (other refl);
+      step = record {
+        stops = λ more later. rw all
+            (subst (λ l. Loses a (outside (g.W.Sink.contents c.take_media.new.w) c.take_media.new.out (given_back ledger own) c.take_media.new.tally) own (reads_at (splitting r.cut) place l)) (sym (append_assoc piece more later))
+            (c.in-Err.ensures.lost (splitting r.cut) next own ledger (more ++ later) low));
+        failed = λ _. c.in-Err.ensures.failed;
+        unfailed = λ other. absurd (other refl);
+      };
       plan = refl;
       tracks = refl;
       empty = is.0;
@@ -91,12 +93,14 @@ returns-then-taken-eq0 g c =
       effects.taken.0,
       effects.taken.1,
       rw (c.in-Some.is, plan, number, is.0, ended.tracks) (record {
-        goes = rw ended.tally
-            (subst (λ k. GoesOn (outside (g.W.Sink.contents c.args.w.now) c.args.out.now ledger old.tally) (outside (g.W.Sink.contents c.take_media.new.w) c.take_media.new.out there c.take_media.new.tally) (standing meaning (InBody (playing (spot_of r.cut (moof_in w) list (r.body.next - r.body.left) first r.media)) r.body.at r.body.kind next r.body.left own)) (take taken.count c.args.piece.now) (standing meaning (InHeader (context r.body.next (Some (settled list (moof_trafs (moof_in w) list))) k) []))) same goes);
-        unfailed = effects.kept;
+        step = record {
+          goes = rw ended.tally
+              (subst (λ k. GoesOn (outside (g.W.Sink.contents c.args.w.now) c.args.out.now ledger old.tally) (outside (g.W.Sink.contents c.take_media.new.w) c.take_media.new.out there c.take_media.new.tally) (standing meaning (InBody (playing (spot_of r.cut (moof_in w) list (r.body.next - r.body.left) first r.media)) r.body.at r.body.kind next r.body.left own)) (take taken.count c.args.piece.now) (standing meaning (InHeader (context r.body.next (Some (settled list (moof_trafs (moof_in w) list))) k) []))) same goes);
+          unfailed = effects.kept;
+          claim = rw ended.back (omega (arith, low, table));
+        };
         plan = refl;
         state = (no_head [] refl, recut.near);
-        claim = rw ended.back (omega (arith, low, table));
         counted = counted_recut r.cut old c.end_fragment.new.counter r.body.next r.body.next (moof_samples (moof_in w)) 0 split (omega arith) split.far
             (rw ended.tally c.take_media.ensures.few) (rw ended.tally c.take_media.ensures.tally) (omega (arith, ended.walked)) (omega (arith, ended.few));
       }),
@@ -134,8 +138,7 @@ returns g c =
       effects.taken.0,
       effects.taken.1,
       rw (c.in-Some.is, plan, number) (record {
-        goes = subst (λ k. GoesOn o o' (standing meaning place) (take taken.count c.args.piece.now) (standing meaning (again (context r.body.next (Some ends) k)))) same (effects.goes meaning next own ledger refl);
-        unfailed = effects.kept;
+        step = record { goes = subst (λ k. GoesOn o o' (standing meaning place) (take taken.count c.args.piece.now) (standing meaning (again (context r.body.next (Some ends) k)))) same (effects.goes meaning next own ledger refl); unfailed = effects.kept; claim = low };
         plan = refl;
         state = (
           is.0,
@@ -148,7 +151,6 @@ returns g c =
             rises = effects.rises recut.rises;
           },
         );
-        claim = low;
         counted = (
           counted_recut r.cut old (record { tally = c.take_media.new.tally; steps = old.steps }) r.body.next r.body.next (moof_samples (moof_in w)) (moof_samples (moof_in w)) split (omega arith) split.far
               c.take_media.ensures.few c.take_media.ensures.tally (omega arith) (omega arith),

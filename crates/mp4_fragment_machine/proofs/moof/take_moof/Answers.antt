@@ -20,10 +20,12 @@ returns-in-Err-clause-advances c = λ u.
     let judged = c.read_moof.ensures in
     let some = begins_some held.size held.bytes c.requires.begins c.requires.whole in
     rw (c.in-Some.is, c.back.ensures) (record {
-      stops = λ more. Refuses-judged (plan_meaning kept.plan) (outside u.written u.waiting c.args.ledger.now kept.counter.tally) held.at (number_in kept.plan kept.counter.tally) list held.kind held.size held.bytes c.requires.whole low
-          c.read_moof.new.counter.tally more c.in-Err.fault c.in-Err.ensures.fault judged.tally (λ is. ap (λ k. k.tally) (judged.unwalked is));
-      failed = λ is. absurd cc;
-      unfailed = λ _. refl;
+      step = record {
+        stops = λ more. Refuses-judged (plan_meaning kept.plan) (outside u.written u.waiting c.args.ledger.now kept.counter.tally) held.at (number_in kept.plan kept.counter.tally) list held.kind held.size held.bytes c.requires.whole low
+            c.read_moof.new.counter.tally more c.in-Err.fault c.in-Err.ensures.fault judged.tally (λ is. ap (λ k. k.tally) (judged.unwalked is));
+        failed = λ is. absurd cc;
+        unfailed = λ _. refl;
+      };
       plan = refl;
       tracks = refl;
       empty = c.requires.empty;
@@ -44,12 +46,14 @@ returns-in-Ok-list-clause-advances c = λ u.
     let ok = rw c.in-Ok.ensures.moof at c.in-Ok-list.ensures.ok in
     let listed = rw c.in-Ok.ensures.moof at c.in-Ok-list.ensures.walked in
     rw (c.in-Some.is, c.requires.empty, ok) (record {
-      goes = rw (number_same kept.plan kept.counter.tally c.read_moof.new.counter.tally judged.fragments, judged.tally good.0)
-          (GoesOn-moof (plan_meaning kept.plan) (outside u.written u.waiting c.args.ledger.now kept.counter.tally) held.at (number_in kept.plan kept.counter.tally) list held.kind held.size held.bytes c.requires.whole low good.0 good.1 some);
-      unfailed = refl;
+      step = record {
+        goes = rw (number_same kept.plan kept.counter.tally c.read_moof.new.counter.tally judged.fragments, judged.tally good.0)
+            (GoesOn-moof (plan_meaning kept.plan) (outside u.written u.waiting c.args.ledger.now kept.counter.tally) held.at (number_in kept.plan kept.counter.tally) list held.kind held.size held.bytes c.requires.whole low good.0 good.1 some);
+        unfailed = refl;
+        claim = search rules;
+      };
       plan = refl;
       state = search rules;
-      claim = search rules;
       counted = counted_moof kept.plan kept.counter _ h held.at held.size (moof_samples h + moof_samples h) (moof_samples h) c.requires.can.counted some c.requires.near (judged.few good.0) (judged.tally good.0)
           (omega (arith, listed, judged.rows good.0)) refl (omega arith);
     })
@@ -67,12 +71,14 @@ returns-in-Err-list-clause-advances c = λ u.
     let err = c.in-Err-list.ensures.err in
     let over = rw c.in-Ok.ensures.moof at c.list.ensures.over_limit in
     rw (c.in-Some.is, c.of_refusal.ensures, c.back-in-Err-list.ensures, err) (record {
-      stops = λ more. rw (judged.tally good.0)
-          (StopsAt-runs (plan_meaning kept.plan) (outside u.written u.waiting c.args.ledger.now kept.counter.tally) held.at (number_in kept.plan kept.counter.tally) list held.kind held.size held.bytes c.requires.whole low good.0 good.1
-          more c.in-Err-list.refused (λ e. over.0 (c.in-Err-list.is ∙ ap Err e))
-          (λ e. within_limit c.args.ledger.now.limit (c.args.ledger.now.live + 64 * length (moof_runs h list)) (c.in-Err-list.is ∙ ap Err e) over.1));
-      failed = λ is. absurd (refused_not_written c.in-Err-list.refused is);
-      unfailed = λ _. refl;
+      step = record {
+        stops = λ more. rw (judged.tally good.0)
+            (StopsAt-runs (plan_meaning kept.plan) (outside u.written u.waiting c.args.ledger.now kept.counter.tally) held.at (number_in kept.plan kept.counter.tally) list held.kind held.size held.bytes c.requires.whole low good.0 good.1
+            more c.in-Err-list.refused (λ e. over.0 (c.in-Err-list.is ∙ ap Err e))
+            (λ e. within_limit c.args.ledger.now.limit (c.args.ledger.now.live + 64 * length (moof_runs h list)) (c.in-Err-list.is ∙ ap Err e) over.1));
+        failed = λ is. absurd (refused_not_written c.in-Err-list.refused is);
+        unfailed = λ _. refl;
+      };
       plan = refl;
       tracks = refl;
       empty = c.requires.empty;

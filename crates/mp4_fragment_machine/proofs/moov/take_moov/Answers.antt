@@ -25,12 +25,14 @@ returns-in-Err g c =
     let over = rw (c.bytes.ensures.bytes, c.offset.ensures.at) at c.tracks.ensures.over_limit in
     let err = c.in-Err.ensures.err in
     rw (c.stop_of.ensures, c.back.ensures, err, c.requires.none) (record {
-      stops = λ more. rw (given_back-none (given_back c.args.ledger.now held.size))
-          (StopsAt-moov (plan_meaning kept.plan) (outside (g.W.Sink.contents c.args.w.now) c.args.out.now c.args.ledger.now kept.counter.tally) held.at (number_in kept.plan kept.counter.tally) held.kind held.size held.bytes c.requires.whole low more c.in-Err.why
-          (λ f e. (said f).0 (c.in-Err.is ∙ ap Err e))
-          (λ r e. (refused r (c.in-Err.is ∙ ap Err e), λ is. (over.0 (c.in-Err.is ∙ ap Err e ∙ ap (λ q. Err (init.Refused q)) is)).1, λ is. table_within c.args.ledger.now.limit (c.args.ledger.now.live + 64 * length (moov_tracks held.at held.bytes)) (c.in-Err.is ∙ ap Err e ∙ ap (λ q. Err (init.Refused q)) is) (refused r (c.in-Err.is ∙ ap Err e)) over.1)));
-      failed = λ is. absurd (not_written c.in-Err.why is);
-      unfailed = λ _. refl;
+      step = record {
+        stops = λ more. rw (given_back-none (given_back c.args.ledger.now held.size))
+            (StopsAt-moov (plan_meaning kept.plan) (outside (g.W.Sink.contents c.args.w.now) c.args.out.now c.args.ledger.now kept.counter.tally) held.at (number_in kept.plan kept.counter.tally) held.kind held.size held.bytes c.requires.whole low more c.in-Err.why
+            (λ f e. (said f).0 (c.in-Err.is ∙ ap Err e))
+            (λ r e. (refused r (c.in-Err.is ∙ ap Err e), λ is. (over.0 (c.in-Err.is ∙ ap Err e ∙ ap (λ q. Err (init.Refused q)) is)).1, λ is. table_within c.args.ledger.now.limit (c.args.ledger.now.live + 64 * length (moov_tracks held.at held.bytes)) (c.in-Err.is ∙ ap Err e ∙ ap (λ q. Err (init.Refused q)) is) (refused r (c.in-Err.is ∙ ap Err e)) over.1)));
+        failed = λ is. absurd (not_written c.in-Err.why is);
+        unfailed = λ _. refl;
+      };
       plan = refl;
       tracks = refl;
       empty = c.requires.empty;
@@ -47,12 +49,14 @@ returns-in-Ok-put_moov g c =
     let good = rw (c.bytes.ensures.bytes, c.offset.ensures.at) at c.in-Ok.ensures.good in
     let put = rw c.bytes-2.ensures.bytes at c.in-Ok-put_moov.ensures in
     rw (c.requires.none, c.requires.empty, c.put_tracks.ensures, c.offset-2.ensures.at, c.size.ensures, c.back-in-Ok-put_moov.ensures, c.in-Ok.ensures.ok, list) (record {
-      goes = GoesOn-moov_put (plan_meaning kept.plan) (outside (g.W.Sink.contents c.args.w.now) c.args.out.now c.args.ledger.now kept.counter.tally) held.at (number_in kept.plan kept.counter.tally) held.kind held.size held.bytes c.requires.whole low (begins_some held.size held.bytes c.requires.begins c.requires.whole) good
-          (g.W.Sink.contents c.put_moov.new.w) c.put_moov.new.out put.passes;
-      unfailed = put.unfailed;
+      step = record {
+        goes = GoesOn-moov_put (plan_meaning kept.plan) (outside (g.W.Sink.contents c.args.w.now) c.args.out.now c.args.ledger.now kept.counter.tally) held.at (number_in kept.plan kept.counter.tally) held.kind held.size held.bytes c.requires.whole low (begins_some held.size held.bytes c.requires.begins c.requires.whole) good
+            (g.W.Sink.contents c.put_moov.new.w) c.put_moov.new.out put.passes;
+        unfailed = put.unfailed;
+        claim = omega (arith, low);
+      };
       plan = refl;
       state = (omega arith, c.requires.near);
-      claim = omega (arith, low);
       counted = counted_later kept.plan kept.counter held.at (held.at + held.size) 0 0 (omega arith) (omega arith) (omega (arith, c.requires.near)) c.requires.can.counted;
     })
 
@@ -66,11 +70,13 @@ returns-in-Err-put_moov g c =
     let put = rw c.bytes-2.ensures.bytes at c.in-Err-put_moov.ensures in
     let n = 64 * length (moov_tracks held.at held.bytes) in
     rw (c.requires.none, c.back-in-Err-put_moov-2.ensures, c.back-in-Err-put_moov.ensures, c.in-Ok.ensures.ok, list) (record {
-      stops = λ more later. rw (given_back-none (given_back (given_back (claimed c.args.ledger.now n) held.size) n))
-          (Loses-moov (plan_meaning kept.plan) (outside (g.W.Sink.contents c.args.w.now) c.args.out.now c.args.ledger.now kept.counter.tally) held.at (number_in kept.plan kept.counter.tally) held.kind held.size held.bytes c.requires.whole low (begins_some held.size held.bytes c.requires.begins c.requires.whole) good
-          (g.W.Sink.contents c.put_moov.new.w) c.put_moov.new.out put.breaks (more ++ later));
-      failed = λ _. put.failed;
-      unfailed = λ other. absurd (other refl);
+      step = record {
+        stops = λ more later. rw (given_back-none (given_back (given_back (claimed c.args.ledger.now n) held.size) n))
+            (Loses-moov (plan_meaning kept.plan) (outside (g.W.Sink.contents c.args.w.now) c.args.out.now c.args.ledger.now kept.counter.tally) held.at (number_in kept.plan kept.counter.tally) held.kind held.size held.bytes c.requires.whole low (begins_some held.size held.bytes c.requires.begins c.requires.whole) good
+            (g.W.Sink.contents c.put_moov.new.w) c.put_moov.new.out put.breaks (more ++ later));
+        failed = λ _. put.failed;
+        unfailed = λ other. absurd (other refl);
+      };
       plan = refl;
       tracks = refl;
       empty = c.requires.empty;

@@ -24,16 +24,7 @@ returns-then-body-eq0 g c =
     let apart = claimed_apart (Some list) (Some r.waiting) in
     let o = outside (g.W.Sink.contents c.args.w.now) c.args.out.now c.args.ledger.now kept.counter.tally in
     let p = spot_of r.cut (moof_in r.waiting) list longest r.number r.media in
-    rw (c.in-Some.is, plan, c.if-body-eq0.true, c.back.ensures, c.at_fault.ensures) (record {
-      stops = λ more. Refuses-open_recut (splitting r.cut) r.body.at r.body.kind o r.body.needed (claimed_in (Some list) (Some r.waiting)) p c.args.piece.now more (64 * length list) (taken_by (Some r.waiting)) is.2.media.settled c.requires.some apart low;
-      failed = λ is. absurd cc;
-      unfailed = λ _. refl;
-      plan = refl;
-      tracks = refl;
-      empty = is.0;
-      left = omega (arith, apart, low);
-      counted = rw plan at (counted_later kept.plan kept.counter most_counted most_counted (moof_samples (moof_in r.waiting)) 0 (omega arith) (omega arith) (omega arith) counted);
-    })
+    rw (c.in-Some.is, plan, c.if-body-eq0.true, c.back.ensures, c.at_fault.ensures) (record { step = record { stops = λ more. Refuses-open_recut (splitting r.cut) r.body.at r.body.kind o r.body.needed (claimed_in (Some list) (Some r.waiting)) p c.args.piece.now more (64 * length list) (taken_by (Some r.waiting)) is.2.media.settled c.requires.some apart low; failed = λ is. absurd cc; unfailed = λ _. refl }; plan = refl; tracks = refl; empty = is.0; left = omega (arith, apart, low); counted = rw plan at (counted_later kept.plan kept.counter most_counted most_counted (moof_samples (moof_in r.waiting)) 0 (omega arith) (omega arith) (omega arith) counted) })
 
 pub returns-in-Ok : goal.returns-in-Ok
 returns-in-Ok g c =
@@ -52,8 +43,7 @@ returns-in-Ok g c =
       effects.taken.0,
       effects.taken.1,
       rw (c.in-Some.is, plan, number) (record {
-        goes = effects.goes (splitting r.cut) (claimed_in (Some list) (Some r.waiting)) c.args.ledger.now;
-        unfailed = effects.kept;
+        step = record { goes = effects.goes (splitting r.cut) (claimed_in (Some list) (Some r.waiting)) c.args.ledger.now; unfailed = effects.kept; claim = low };
         plan = refl;
         state = (
           is.0,
@@ -63,7 +53,6 @@ returns-in-Ok g c =
             media = effects.media;
           },
         );
-        claim = low;
         counted = (
           counted_recut r.cut old (record { tally = c.take_open_media.new.tally; steps = old.steps }) most_counted most_counted n n split (omega arith) (omega arith)
               c.take_open_media.ensures.few c.take_open_media.ensures.tally (omega arith) (omega arith),
@@ -94,11 +83,13 @@ returns-in-Err g c =
     let all : given_back (given_back ledger (taken_by (Some r.waiting))) (64 * length list) ≡ given_back ledger own =
     back_twice ledger (taken_by (Some r.waiting)) (64 * length list) ∙ ap (given_back ledger) (sym apart) in
     rw (c.in-Some.is, plan, number, c.back-in-Err.ensures) (record {
-      stops = λ more later. rw all
-          (subst (λ l. Loses a (outside (g.W.Sink.contents c.take_open_media.new.w) c.take_open_media.new.out (given_back ledger own) c.take_open_media.new.tally) own (reads_at (splitting r.cut) place l)) (sym (append_assoc c.args.piece.now more later))
-          (c.in-Err.ensures.lost (splitting r.cut) own ledger (more ++ later) low));
-      failed = λ _. c.in-Err.ensures.failed;
-      unfailed = λ other. absurd (other refl);
+      step = record {
+        stops = λ more later. rw all
+            (subst (λ l. Loses a (outside (g.W.Sink.contents c.take_open_media.new.w) c.take_open_media.new.out (given_back ledger own) c.take_open_media.new.tally) own (reads_at (splitting r.cut) place l)) (sym (append_assoc c.args.piece.now more later))
+            (c.in-Err.ensures.lost (splitting r.cut) own ledger (more ++ later) low));
+        failed = λ _. c.in-Err.ensures.failed;
+        unfailed = λ other. absurd (other refl);
+      };
       plan = refl;
       tracks = refl;
       empty = is.0;

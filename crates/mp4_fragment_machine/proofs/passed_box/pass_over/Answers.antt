@@ -30,10 +30,12 @@ returns-in-Err g c = λ account can.
     let kept : is_dropped c.args.header.now.kind.0 ≡ false = sym c.is_dropped.ensures ∙ c.if-is_dropped.false in
     let put = c.in-Err.ensures in
     record {
-      stops = λ more later. Loses-copy (plan_meaning k.plan) (outside (g.W.Sink.contents c.args.w.now) c.args.out.now account k.counter.tally) c.args.at (number_in k.plan k.counter.tally) k.tracks c.args.header.now c.args.head.now can.len can.is c.requires.end c.requires.other (λ b. rw (c.in-Split.is, kept) refl) c.requires.room
-          (g.W.Sink.contents c.put.new.w) c.put.new.self put.breaks can.can.claim (more ++ later);
-      failed = λ _. put.failed;
-      unfailed = λ other. absurd (other refl);
+      step = record {
+        stops = λ more later. Loses-copy (plan_meaning k.plan) (outside (g.W.Sink.contents c.args.w.now) c.args.out.now account k.counter.tally) c.args.at (number_in k.plan k.counter.tally) k.tracks c.args.header.now c.args.head.now can.len can.is c.requires.end c.requires.other (λ b. rw (c.in-Split.is, kept) refl) c.requires.room
+            (g.W.Sink.contents c.put.new.w) c.put.new.self put.breaks can.can.claim (more ++ later);
+        failed = λ _. put.failed;
+        unfailed = λ other. absurd (other refl);
+      };
       plan = refl;
       tracks = refl;
       empty = can.empty;

@@ -16,16 +16,7 @@ returns-in-Err-tell_whole g c =
     let o = outside (g.W.Sink.contents c.args.w.now) c.args.out.now c.args.ledger.now kept.counter.tally in
     let effects = c.in-Err-tell_whole.ensures in
     let put = effects.puts is.boxes.mdat.header in
-    rw (c.in-Some.is, c.requires.plan, c.requires.empty) (record {
-      stops = λ more. StopsAt-it c.args.at list c.args.piece.now f.boxes f.run.now is c.args.command 1 o low (g.W.Sink.contents c.tell_whole.new.w) c.tell_whole.new.out c.count_claim.new.self c.tell_whole.new.counter.tally c.in-Ok.ensures.ok (effects.tally is.boxes.mdat.header) more put.breaks;
-      failed = λ _. put.failed;
-      unfailed = λ other. absurd (other refl);
-      plan = refl;
-      tracks = refl;
-      empty = refl;
-      left = rw c.in-Ok.ensures.ok (omega (arith, low));
-      counted = counted_stop (plans.List c.args.command) c.tell_whole.new.counter (c.args.at + length f.boxes.moof.now + f.boxes.mdat.size) effects.counted;
-    })
+    rw (c.in-Some.is, c.requires.plan, c.requires.empty) (record { step = record { stops = λ more. StopsAt-it c.args.at list c.args.piece.now f.boxes f.run.now is c.args.command 1 o low (g.W.Sink.contents c.tell_whole.new.w) c.tell_whole.new.out c.count_claim.new.self c.tell_whole.new.counter.tally c.in-Ok.ensures.ok (effects.tally is.boxes.mdat.header) more put.breaks; failed = λ _. put.failed; unfailed = λ other. absurd (other refl) }; plan = refl; tracks = refl; empty = refl; left = rw c.in-Ok.ensures.ok (omega (arith, low)); counted = counted_stop (plans.List c.args.command) c.tell_whole.new.counter (c.args.at + length f.boxes.moof.now + f.boxes.mdat.size) effects.counted })
 
 pub returns : goal.returns
 returns g c =
@@ -46,12 +37,5 @@ returns g c =
     let there : at + length f.boxes.moof.now + f.boxes.mdat.size ≡ at + (length f.boxes.moof.now + f.boxes.mdat.size) = omega arith in (
       omega (arith, some, long),
       omega (arith, fit.whole),
-      rw (c.in-Some.is, c.requires.plan, c.requires.empty, c.settle.ensures.tracks) (record {
-        goes = GoesOn-it at list piece f.boxes f.run.now is c.args.command 1 o low (g.W.Sink.contents c.tell_whole.new.w) c.tell_whole.new.out c.count_claim.new.self c.tell_whole.new.counter.tally c.in-Ok.ensures.ok (effects.tally is.boxes.mdat.header) put.passes;
-        unfailed = put.unfailed;
-        plan = refl;
-        state = (no_head [] refl, omega (arith, fit.near));
-        claim = rw c.in-Ok.ensures.ok (omega (arith, low, len));
-        counted = subst (λ k. IsCounted (plans.List c.args.command) c.tell_whole.new.counter k 0 0) there effects.counted;
-      }),
+      rw (c.in-Some.is, c.requires.plan, c.requires.empty, c.settle.ensures.tracks) (record { step = record { goes = GoesOn-it at list piece f.boxes f.run.now is c.args.command 1 o low (g.W.Sink.contents c.tell_whole.new.w) c.tell_whole.new.out c.count_claim.new.self c.tell_whole.new.counter.tally c.in-Ok.ensures.ok (effects.tally is.boxes.mdat.header) put.passes; unfailed = put.unfailed; claim = rw c.in-Ok.ensures.ok (omega (arith, low, len)) }; plan = refl; state = (no_head [] refl, omega (arith, fit.near)); counted = subst (λ k. IsCounted (plans.List c.args.command) c.tell_whole.new.counter k 0 0) there effects.counted }),
     )

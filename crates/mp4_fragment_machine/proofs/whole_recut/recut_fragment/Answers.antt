@@ -30,12 +30,14 @@ returns g c =
       omega (arith, some, long),
       omega (arith, fit.whole),
       rw (c.in-Some.is, c.requires.plan, c.requires.empty, c.settle.ensures.tracks) (record {
-        goes = GoesOn-recut_whole cut o at list piece f.boxes f.run.now is c.requires.plain c.requires.numbers can.claim (g.W.Sink.contents c.recut_whole.new.w) c.recut_whole.new.out c.count_claim.new.self t c.in-Ok.ensures.ok
-            (ap (λ k. k.samples) tally) (ap (λ k. k.media_bytes) tally) (ap (λ k. k.walked) tally) effects.number put.passes;
-        unfailed = put.unfailed;
+        step = record {
+          goes = GoesOn-recut_whole cut o at list piece f.boxes f.run.now is c.requires.plain c.requires.numbers can.claim (g.W.Sink.contents c.recut_whole.new.w) c.recut_whole.new.out c.count_claim.new.self t c.in-Ok.ensures.ok
+              (ap (λ k. k.samples) tally) (ap (λ k. k.media_bytes) tally) (ap (λ k. k.walked) tally) effects.number put.passes;
+          unfailed = put.unfailed;
+          claim = rw c.in-Ok.ensures.ok (omega (arith, can.claim, len));
+        };
         plan = refl;
         state = (no_head [] refl, omega (arith, fit.near));
-        claim = rw c.in-Ok.ensures.ok (omega (arith, can.claim, len));
         counted = counted_whole cut at list piece f.boxes f.run.now is kept.counter c.recut_whole.new.counter c.requires.plain can.counted
             (omega (arith, c.recut_whole.ensures.most, c.requires.numbers, few_pieces cut f.boxes.moof.now f.run.now.run))
             (ap (λ k. k.samples) tally) (ap (λ k. k.media_bytes) tally) (ap (λ k. k.walked) tally) c.recut_whole.ensures.steps;
@@ -60,10 +62,12 @@ returns-in-Err-recut_whole g c =
     (omega (arith, c.recut_whole.ensures.most, c.requires.numbers, few_pieces cut f.boxes.moof.now f.run.now.run))
     (ap (λ k. k.samples) tally) (ap (λ k. k.media_bytes) tally) (ap (λ k. k.walked) tally) c.recut_whole.ensures.steps in
     rw (c.in-Some.is, c.requires.plan, c.requires.empty) (record {
-      stops = λ more. StopsAt-recut_whole cut o at list piece f.boxes f.run.now is c.requires.plain c.requires.numbers can.claim (g.W.Sink.contents c.recut_whole.new.w) c.recut_whole.new.out c.count_claim.new.self t c.in-Ok.ensures.ok
-          (ap (λ k. k.samples) tally) (ap (λ k. k.media_bytes) tally) (ap (λ k. k.walked) tally) more c.recut_whole.ensures.least c.recut_whole.ensures.most put.breaks;
-      failed = λ _. put.failed;
-      unfailed = λ other. absurd (other refl);
+      step = record {
+        stops = λ more. StopsAt-recut_whole cut o at list piece f.boxes f.run.now is c.requires.plain c.requires.numbers can.claim (g.W.Sink.contents c.recut_whole.new.w) c.recut_whole.new.out c.count_claim.new.self t c.in-Ok.ensures.ok
+            (ap (λ k. k.samples) tally) (ap (λ k. k.media_bytes) tally) (ap (λ k. k.walked) tally) more c.recut_whole.ensures.least c.recut_whole.ensures.most put.breaks;
+        failed = λ _. put.failed;
+        unfailed = λ other. absurd (other refl);
+      };
       plan = refl;
       tracks = refl;
       empty = refl;

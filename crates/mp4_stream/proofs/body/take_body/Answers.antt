@@ -1,4 +1,4 @@
-use Rattle.std.proofs.Common.{◌-◌, [], ap, arith, refl}
+use Rattle.std.proofs.Common.{◌-◌, ap, arith, refl}
 use Rattle.mp4_machine.specs.declared.body.Body.{Body}
 use Rattle.mp4_machine.proofs.PieceLemmas.{Moves-none}
 use Rattle.mp4_machine.proofs.StandingLemmas.{GoesOn-over, GoesOn-passed}

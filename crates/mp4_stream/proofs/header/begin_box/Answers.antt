@@ -1,4 +1,4 @@
-use Rattle.std.proofs.Common.{◌++◌, ◌∙◌, [], arith, refl, rules, sym}
+use Rattle.std.proofs.Common.{◌∙◌, [], arith, refl, rules, sym}
 use Rattle.mp4_box.proofs.HeaderLemmas.{need-least, whole_is}
 use Rattle.mp4_machine.proofs.StepLemmas.{GoesOn-then, StopsIn-refused}
 use Rattle.mp4_stream.specs.States.{outside, standing}

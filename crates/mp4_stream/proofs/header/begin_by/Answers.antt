@@ -1,5 +1,5 @@
-use Rattle.std.proofs.Common.{◌≡◌, ◌∙◌, [], arith, refl, sym}
-use Rattle.mp4_box.proofs.HeaderLemmas.{bad_is, room_of, whole_is}
+use Rattle.std.proofs.Common.{◌∙◌, arith, refl, sym}
+use Rattle.mp4_box.proofs.HeaderLemmas.{bad_is, room_of}
 use Rattle.mp4_machine.proofs.PieceLemmas.{GoesOn-none}
 use Rattle.mp4_machine.proofs.StepLemmas.{StopsIn-refused}
 use Rattle.mp4_stream.proofs.StateLemmas.{GoesTo-begun, Refuses-bad, StopsIn-begun, all_taken}

@@ -1,4 +1,4 @@
-use Rattle.std.proofs.Common.{◌∙◌, refl, sym}
+use Rattle.std.proofs.Common.{◌∙◌, sym}
 use Rattle.mp4_machine.proofs.HeadLemmas.{header_is}
 use Rattle.mp4_stream.proofs.header.take_header.Goals as goal
 

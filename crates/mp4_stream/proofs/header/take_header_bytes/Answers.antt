@@ -1,4 +1,3 @@
-use Rattle.std.proofs.Common.{arith, take}
 use Rattle.mp4_machine.proofs.StepLemmas.{GoesTo-then, StopsIn-then}
 use Rattle.mp4_stream.proofs.StateLemmas.{comes_head}
 use Rattle.mp4_stream.proofs.header.take_header_bytes.Goals as goal

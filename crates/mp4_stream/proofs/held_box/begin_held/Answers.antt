@@ -1,6 +1,5 @@
-use Rattle.std.proofs.Common.{◌≤◌, ◌+◌, ap, arith, Err, refl, subst, take}
+use Rattle.std.proofs.Common.{◌≤◌, ◌+◌, ap, arith, Err, refl, subst}
 use Rattle.std.proofs.Math.Seq.{take-length}
-use Rattle.mp4_box.specs.Headers.{HasRoom}
 use Rattle.mp4_box.proofs.HeaderLemmas.{need-least, whole_is}
 use Rattle.mp4_machine.specs.Bodies.{least_end, longest}
 use Rattle.mp4_machine.proofs.AccountLemmas.{within_limit}

@@ -1,4 +1,4 @@
-use Rattle.std.proofs.Common.{arith, refl, rules}
+use Rattle.std.proofs.Common.{refl, rules}
 use Rattle.mp4_machine.proofs.PieceLemmas.{GoesOn-none}
 use Rattle.mp4_stream.proofs.held_box.hold.Goals as goal
 

@@ -1,4 +1,4 @@
-use Rattle.std.proofs.Common.{take, arith, refl}
+use Rattle.std.proofs.Common.{take, arith}
 use Rattle.mp4_machine.proofs.HoldingLemmas.{begins_more}
 use Rattle.mp4_machine.proofs.StepLemmas.{GoesTo-then, StopsIn-then}
 use Rattle.mp4_stream.proofs.StateLemmas.{comes_held}

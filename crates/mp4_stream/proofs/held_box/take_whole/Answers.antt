@@ -1,6 +1,4 @@
-use Rattle.std.proofs.Common.{◌≡◌, ◌+◌, ◌<◌, ◌≤◌, ap, arith, Err, length, length-take-le, refl, subst, sym, take}
-use Rattle.mp4_box.specs.declared.headers.Size.TheVariants.{Exact}
-use Rattle.mp4_box.proofs.HeaderLemmas.{need-least, whole_is}
+use Rattle.std.proofs.Common.{◌+◌, ap, arith, Err, refl}
 use Rattle.mp4_ledger.specs.Memory.{claimed}
 use Rattle.mp4_machine.proofs.AccountLemmas.{within_limit}
 use Rattle.mp4_machine.proofs.HeadLemmas.{take-is}

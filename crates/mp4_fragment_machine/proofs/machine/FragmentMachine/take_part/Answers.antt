@@ -1,5 +1,5 @@
 use Rattle.mp4_recut.specs.Plans.{plan_meaning, number_in}
-use Rattle.mp4_machine.proofs.PieceLemmas.{Takes-err, Takes-ok}
+use Rattle.mp4_machine.proofs.StepLemmas.{Takes-goes, Takes-stops}
 use Rattle.mp4_fragment_machine.specs.Working.Steps.{at_state}
 use Rattle.mp4_fragment_machine.proofs.QuietLemmas.{at-place, quiet}
 use Rattle.mp4_fragment_machine.proofs.machine.FragmentMachine.take_part.Goals as goal
@@ -9,7 +9,7 @@ returns-in-Err-clause-takes g c =
     let taken = rw c.replace-state.ensures.value at c.in-Err.ensures in
     let back = rw (c.replace-state.ensures.after, c.stopped.ensures, c.in-Err.ensures.tracks) at c.give_back.ensures.back in
     rw (← c.self.view_is, back, c.give_back.ensures.counted)
-    (Takes-err taken.stops taken.failed taken.unfailed)
+    (Takes-stops c.in-Err.stop taken.step)
 
 pub returns-in-Ok-clause-quiet : goal.returns-in-Ok-clause-quiet
 returns-in-Ok-clause-quiet g c =
@@ -20,4 +20,4 @@ returns-in-Ok-clause-quiet g c =
 pub returns-in-Ok-clause-takes : goal.returns-in-Ok-clause-takes
 returns-in-Ok-clause-takes g c =
     let taken = rw c.replace-state.ensures.value at c.in-Ok.ensures in
-    rw (← c.self.view_is, c.put_state.ensures) (Takes-ok taken.2.goes taken.2.unfailed)
+    rw (← c.self.view_is, c.put_state.ensures) (Takes-goes c.in-Ok.field-0.count taken.2.step)

@@ -1,5 +1,5 @@
 use Rattle.std.proofs.Common.{◌≡◌, ◌∙◌, ◌+◌, ap}
-use Rattle.mp4_machine.proofs.PieceLemmas.{Takes-err, Takes-ok}
+use Rattle.mp4_machine.proofs.StepLemmas.{Takes-goes, Takes-stops}
 use Rattle.mp4_recut.specs.Plans.{plan_meaning, number_in}
 use Rattle.mp4_fragment_machine.specs.States.{Progress}
 use Rattle.mp4_fragment_machine.specs.Working.Steps.{at_state}
@@ -16,7 +16,7 @@ returns-in-Ok-clause-quiet g c =
 pub returns-in-Ok-clause-takes : goal.returns-in-Ok-clause-takes
 returns-in-Ok-clause-takes g c =
     let state : c.self.inside.state ≡ states.Header c.args.at = ap (λ (p : Progress). p.state) c.self.view_is ∙ c.requires.state in
-    rw (← c.self.view_is, state, c.go_to.ensures) (Takes-ok c.in-Ok.ensures.2.goes c.in-Ok.ensures.2.unfailed)
+    rw (← c.self.view_is, state, c.go_to.ensures) (Takes-goes c.in-Ok.size c.in-Ok.ensures.2.step)
 
 pub returns-in-Err-clause-takes : goal.returns-in-Err-clause-takes
 returns-in-Err-clause-takes g c =
@@ -24,4 +24,4 @@ returns-in-Err-clause-takes g c =
     let stopped = c.in-Err.ensures in
     let back = rw (c.stop_at.ensures, stopped.tracks) at c.give_back.ensures.back in
     rw (← c.self.view_is, state, back, c.give_back.ensures.counted)
-    (Takes-err stopped.stops stopped.failed stopped.unfailed)
+    (Takes-stops c.in-Err.stop stopped.step)
