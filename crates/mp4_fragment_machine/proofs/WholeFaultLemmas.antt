@@ -1,5 +1,6 @@
 -- What a fragment brings of which a piece has all, with one run, and that is at fault by its times or by where that run stands.
-use Rattle.std.proofs.Common.{◌≡◌, ℕ, ◌+◌, ◌*◌, ◌≤◌, List, [], ◌∷◌, ◌++◌, length, map, take, drop, Some, None, ap, sym, refl, ◌∙◌, arith, subst, length-map}
+use Rattle.std.proofs.Common.{◌≡◌, ℕ, ◌+◌, ◌*◌, ◌≤◌, Bool, true, false, List, [], ◌∷◌, ◌++◌, length, map, take, drop, Some, None, ap, sym, refl, ◌∙◌, arith, subst}
+use Rattle.std.proofs.lemmas.List.{length-map}
 use Rattle.mp4_box.specs.declared.headers.Header.{Header}
 use Rattle.mp4_box.specs.declared.headers.Size.TheVariants.{Exact}
 use Rattle.mp4_box.specs.declared.headers.Step.TheVariants as steps
@@ -10,9 +11,11 @@ use Rattle.mp4_init.specs.declared.table.Track.{Track}
 use Rattle.mp4_run_order.specs.declared.runs.Payload.{Payload}
 use Rattle.mp4_frag.specs.declared.lone.LoneRun.{LoneRun}
 use Rattle.mp4_frag.specs.LoneRuns.{IsLone}
-use Rattle.mp4_frag.specs.Moofs.{early_fault, moof_runs, moof_trafs, time_faults}
+use Rattle.mp4_frag.specs.Moofs.{early_fault, moof_of, moof_runs, moof_samples, moof_trafs, time_faults}
 use Rattle.mp4_frag.specs.Places.{place_fault}
-use Rattle.mp4_frag.specs.Runs.{moof_at}
+use Rattle.mp4_frag.specs.Runs.{MoofBytes, moof_at}
+use Rattle.mp4_frag.proofs.MoofLemmas.{count_none}
+use Rattle.mp4_frag.proofs.SoundLemmas.{few_timed}
 use Rattle.mp4_frag.specs.Working.RunRows.{row_of_run}
 use Rattle.mp4_ledger.specs.Memory.{Account, claimed, given_back}
 use Rattle.mp4_machine.specs.Bodies.{least_end, longest}
@@ -29,7 +32,11 @@ use Rattle.mp4_grammar.specs.Meanings.{Meaning, fragment_fault}
 use Rattle.mp4_grammar.specs.declared.kinds.Kind.TheVariants.{Mdat, Moof}
 use Rattle.mp4_fragment_machine.specs.Places.{Behind, InHeader, InHeld, standing}
 use Rattle.mp4_recut.specs.Plans.{plan_meaning, number_in}
-use Rattle.mp4_fragment_machine.specs.States.{HasStopped, taken_by}
+use Rattle.mp4_recut.specs.declared.plan.Plan.{Plan}
+use Rattle.mp4_recut.specs.declared.plan.Plan.TheVariants as plans
+use Rattle.mp4_grammar.specs.declared.command.Command.TheVariants.{Check, Samples}
+use Rattle.mp4_fragment_machine.specs.declared.state.Counter.{Counter}
+use Rattle.mp4_fragment_machine.specs.States.{HasStopped, IsCounted, cut_most, cut_reads, taken_by}
 use Rattle.mp4_fragment_machine.specs.Working.Steps.{Lent, StopsIn, at_state, outside_before}
 use Rattle.mp4_fragment_machine.specs.declared.state.Kept.{Kept}
 use Rattle.mp4_fragment_machine.specs.declared.state.State.TheVariants as states
@@ -163,3 +170,19 @@ StopsIn-whole l old new at piece f tracks known empty unfailed plan same head le
   left = rw known left;
   counted = counted;
 }
+
+-- ---- what is counted where it stops
+
+few_of : (index : Bool) (rows walked : ℕ) → rows + cut_most index 0 + 0 ≤ cut_reads index * walked → rows ≤ 12 * walked
+few_of true rows walked h = omega (arith, h)
+few_of false rows walked h = omega (arith, h)
+
+-- no row was read more than twelve times
+pub few_rows : (plan : Plan) (c : Counter) (b : ℕ) → IsCounted plan c b 0 0 → c.steps.rows ≤ 12 * c.tally.walked
+few_rows (plans.List Samples) c b i = omega (arith, i.few)
+few_rows (plans.List Check) c b i = omega (arith, i.few)
+few_rows (plans.Split cut) c b i = few_of cut.index c.steps.rows c.tally.walked i.few
+
+-- a moof has few samples where no other rule than that of times is broken
+pub few_samples : (h : MoofBytes) (tracks : List Track) → early_fault h tracks ≡ None → moof_samples h ≤ 1000000
+few_samples h tracks good = omega (arith, (few_timed (moof_of h) (count_none h tracks good)).most)

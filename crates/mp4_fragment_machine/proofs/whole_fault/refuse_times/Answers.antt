@@ -1,31 +1,26 @@
 use Rattle.std.proofs.Common.{◌≡◌, ◌+◌, ◌*◌, ◌≤◌, arith, length, refl}
-use Rattle.mp4_frag.specs.Moofs.{moof_of, moof_samples}
 use Rattle.mp4_frag.specs.Runs.{moof_at}
-use Rattle.mp4_frag.proofs.MoofLemmas.{count_none}
-use Rattle.mp4_frag.proofs.SoundLemmas.{few_timed}
 use Rattle.mp4_machine.specs.Pieces.{outside}
 use Rattle.mp4_recut.specs.Plans.{plan_meaning, number_in}
 use Rattle.mp4_fragment_machine.specs.States.{known}
 use Rattle.mp4_fragment_machine.specs.Working.Steps.{lent_ledger}
 use Rattle.mp4_fragment_machine.proofs.CountLemmas.{counted_moof}
-use Rattle.mp4_fragment_machine.proofs.FragmentLemmas.{moof_len, some_moof, walked_more}
+use Rattle.mp4_fragment_machine.proofs.FragmentLemmas.{some_moof, walked_more}
 use Rattle.mp4_fragment_machine.proofs.StepLemmas.{counted_stop}
-use Rattle.mp4_fragment_machine.proofs.WholeFaultLemmas.{StopsAt-late, StopsIn-whole}
+use Rattle.mp4_fragment_machine.proofs.WholeFaultLemmas.{StopsAt-late, StopsIn-whole, few_rows, few_samples}
 use Rattle.mp4_fragment_machine.proofs.whole_fault.refuse_times.Goals as goal
 
 pub overflow_add-kept : goal.overflow_add-kept
 overflow_add-kept c =
-    let h = moof_at c.args.boxes.now.moof.now c.args.at in
-    let few = (few_timed (moof_of h) (count_none h (known c.args.kept.now.tracks) c.requires.good)).most in
+    let few = few_samples (moof_at c.args.boxes.now.moof.now c.args.at) (known c.args.kept.now.tracks) c.requires.good in
     let i = c.requires.can.counted in
     omega (arith, i.walked, i.far, few, c.requires.samples)
 
 pub overflow_add-kept-2 : goal.overflow_add-kept-2
 overflow_add-kept-2 c =
-    let h = moof_at c.args.boxes.now.moof.now c.args.at in
-    let few = (few_timed (moof_of h) (count_none h (known c.args.kept.now.tracks) c.requires.good)).most in
-    let can = can_count c.args.kept.now.plan c.args.kept.now.counter c.args.at c.requires.can.counted in
-    omega (arith, can.rows, few, c.requires.samples)
+    let few = few_samples (moof_at c.args.boxes.now.moof.now c.args.at) (known c.args.kept.now.tracks) c.requires.good in
+    let i = c.requires.can.counted in
+    omega (arith, few_rows c.args.kept.now.plan c.args.kept.now.counter c.args.at i, i.walked, i.far, few, c.requires.samples)
 
 pub returns : goal.returns
 returns c = λ u.
@@ -38,9 +33,9 @@ returns c = λ u.
     let h = moof_at b.moof.now at in
     let o = outside u.written u.waiting c.args.ledger.now kept.counter.tally in
     let low = rw c.requires.known at c.requires.can.claim in
-    let few = (few_timed (moof_of h) (count_none h list c.requires.good)).most in
+    let few = few_samples h list c.requires.good in
     let tally = walked_more kept.counter.tally h c.args.samples c.requires.samples in
     StopsIn-whole (lent_ledger u c.args.ledger.now c.count_claim.new.self) kept _ at piece c.args.fault list c.requires.known c.requires.empty refl refl refl c.requires.empty
     (rw c.in-Ok.ensures.ok (omega (arith, low)))
-    (counted_stop kept.plan _ (at + are.span.size) (counted_moof kept.plan kept.counter _ h at are.span.size c.args.samples 0 c.requires.can.counted (some_moof at piece b are) are.moof.near (omega (arith, few)) tally refl (omega (arith, c.requires.samples)) (omega arith)))
+    (counted_stop kept.plan _ (at + are.span.size) (counted_moof kept.plan kept.counter _ h at are.span.size c.args.samples 0 c.requires.can.counted (some_moof at piece b are) are.moof.near few tally refl (omega (arith, c.requires.samples)) (omega arith)))
     (λ more. StopsAt-late (plan_meaning kept.plan) (number_in kept.plan kept.counter.tally) o at list piece b are low c.count_claim.new.self _ c.in-Ok.ensures.ok tally more c.args.fault c.requires.good c.requires.late)
