@@ -5,6 +5,7 @@ use Rattle.mp4_box.specs.Headers.{need}
 use Rattle.mp4_init.specs.declared.table.Track.{Track}
 use Rattle.mp4_ledger.specs.Memory.{Account, given_back}
 use Rattle.mp4_machine.specs.Blocks.{Pending}
+use Rattle.mp4_machine.specs.Ends.{Sent}
 use Rattle.mp4_machine.specs.Bodies.{longest, body_item, open_body_item}
 use Rattle.mp4_machine.specs.Pieces.{Standing}
 use Rattle.mp4_machine.specs.Readings.{Reading, Effects, silent, then_read}
@@ -69,6 +70,10 @@ pub record Unlent : Type 0 where
   pub written : Option (List ℕ)
   pub waiting : Pending
   pub failed : Bool
+
+-- what such a writer tells
+abbrev pub unsent : Unlent → Sent
+unsent u = record { written = u.written; written' = u.written; failed = u.failed; failed' = u.failed }
 
 -- the account behind a call that doesn't give back what others have: where it stops they give so much back
 abbrev pub when_stopped : {T : Type 0} → Result T Stop → ℕ → Account → Account

@@ -6,13 +6,16 @@ ghost use Rattle.mp4_box.specs.declared.rules.Rule.TheVariants.{MdatMissing};
 ghost use Rattle.mp4_box.specs.declared.headers.FourCc.{FourCc};
 ghost use Rattle.mp4_box.specs.Headers.{IsBytes};
 ghost use Rattle.mp4_frag.specs.LoneRuns.{IsLone};
+ghost use Rattle.mp4_box.specs.Order.{least};
+ghost use Rattle.mp4_frag.specs.Moofs.{early_fault, moof_samples, moof_trafs, time_faults};
 ghost use Rattle.mp4_frag.specs.Runs.{moof_at};
 ghost use Rattle.mp4_ledger.specs.Memory.{given_back};
 ghost use Rattle.mp4_machine.specs.Ends.{sent};
 ghost use Rattle.mp4_machine.specs.Pieces.{IsQuiet, Takes, around, farthest};
 ghost use Rattle.mp4_machine.specs.Readings.{fault_in, uncounted};
+ghost use Rattle.mp4_machine.specs.Steps.{StopsIn};
 ghost use Rattle.mp4_grammar.specs.Contexts.{first_context};
-ghost use Rattle.mp4_fragment_machine.specs.Places.{InHeader, IsPlace, claim_of, standing};
+ghost use Rattle.mp4_fragment_machine.specs.Places.{InHeader, IsPlace, Unlent, claim_of, standing, unsent};
 ghost use Rattle.mp4_fragment_machine.specs.States.{IsState, IsWaiting, begun, kept_by, known, listed_by, place_in, place_of, reads_of, stands_in, stopped};
 ghost use Rattle.mp4_fragment_machine.specs.Working.Wholes.{AreBoxes, IsTakenWhole, StandsFirst};
 ghost use Rattle.mp4_grammar.specs.declared.kinds.Kind.TheVariants.{Other};
@@ -24,7 +27,7 @@ use crate::state::{Counter, Kept, State, Taken, Waiting};
 use crate::step::{back_state, take_next};
 use crate::whole_box::{box_at, take_whole_box};
 use crate::whole_fault::refuse_times;
-use crate::whole_fragment::{Span, Whole, boxes_at};
+use crate::whole_fragment::{Boxes, Span, Whole, boxes_at};
 use crate::whole_plan::{looks_ahead, take_whole_fragment};
 use mp4_box::{Fault, FourCc, HeaderReader, Rule};
 use mp4_ends::Sink;
@@ -84,8 +87,7 @@ impl FragmentMachine {
     }
 
     /// How many rows of samples it has read: each sample of a moof that was looked at once at least, each that is counted once
-    /// more, and again where it is listed; none more than three times, or four where samples are listed. A fragment that a
-    /// piece has whole is looked at first by its only run: where it is then at fault, what that look read isn't counted.
+    /// more, and again where it is listed; none more than three times, or four where samples are listed.
     pub fn rows_read(&self) -> u128
         ensures rows { result ≡ self.now.counter.steps.rows }
         ensures some { self.now.counter.tally.walked + self.now.counter.tally.samples +
@@ -140,6 +142,39 @@ impl FragmentMachine {
                 Err(stop)
             }
         }
+    }
+
+    /// Stops at a fragment of which a piece has all, whose moof has so many samples, and of which the times alone are at fault.
+    fn refuse(
+        &mut self,
+        at: u64,
+        boxes: &Boxes<'_>,
+        samples: u128,
+        fault: Fault,
+        ledger: &mut Ledger,
+        piece: &[u8],
+    ) -> Stop
+        requires state { self.old.state ≡ states.Header at }
+        requires head { self.old.head ≡ [] }
+        requires known { self.old.tracks ≡ Some (known self.old.tracks) }
+        requires are { AreBoxes at piece.now boxes.now }
+        requires good { early_fault (moof_at boxes.now.moof.now at) (known self.old.tracks) ≡ None }
+        requires late { least (time_faults (moof_trafs (moof_at boxes.now.moof.now at)
+            (known self.old.tracks))) ≡ Some fault }
+        requires samples { samples ≡ moof_samples (moof_at boxes.now.moof.now at) }
+        requires room { ledger.old.live + (length boxes.now.moof.now + 64) ≤ ledger.old.limit }
+        requires claim { claim_of (place_in self.old) ≤ ledger.old.live }
+        ensures stops { (u : Unlent) → StopsIn (around (unsent u) u.waiting u.waiting
+            ledger.old ledger.new self.old.counter.tally self.new.counter.tally)
+            (stands_in self.old) piece.now result }
+        ensures claim { claim_of (place_in self.new) ≤ ledger.new.live }
+        ensures spent { claim_of (place_in self.new) ≡ 0 }
+        ensures task { self.new.plan ≡ self.old.plan }
+    {
+        let stop = refuse_times(at, boxes, piece, samples, fault, &mut self.kept, ledger);
+        stop_at(&mut self.state);
+        self.give_back(ledger);
+        stop
     }
 
     /// Takes a box from the front of a piece that has all of it, and that is passed over or copied: how many bytes.
@@ -274,13 +309,7 @@ impl Machine for FragmentMachine {
                         }
                         Ok(None) => {}
                         Err(fault) => {
-                            let kept = &mut self.kept;
-                            let stop = refuse_times(
-                                at, &boxes, piece, steps.rows, fault, kept, ledger,
-                            );
-                            stop_at(&mut self.state);
-                            self.give_back(ledger);
-                            return Err(stop);
+                            return Err(self.refuse(at, &boxes, steps.rows, fault, ledger, piece));
                         }
                     }
                 }

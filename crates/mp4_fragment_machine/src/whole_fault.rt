@@ -2,7 +2,7 @@
 //!
 //! Its rows were read where it was looked at, and are counted as such.
 
-ghost use Rattle.std.specs.Prelude.{◌≡◌, ◌+◌, ◌≤◌, ◌∷◌, [], length, None, Some};
+ghost use Rattle.std.specs.Prelude.{◌≡◌, ◌+◌, ◌*◌, ◌≤◌, ◌∷◌, [], length, None, Some};
 ghost use Rattle.mp4_box.specs.Order.{least};
 ghost use Rattle.mp4_frag.specs.LoneRuns.{IsLone};
 ghost use Rattle.mp4_frag.specs.Moofs.{early_fault, moof_samples, moof_trafs, time_faults};
@@ -40,8 +40,10 @@ pub(crate) fn refuse_times(
     requires room { ledger.old.live + (length boxes.now.moof.now + 64) ≤ ledger.old.limit }
     requires empty { kept.old.head ≡ [] }
     requires can { CanStep kept.old ledger.old (states.Header at) }
-    ensures { (u : Unlent) → StopsIn (lent_ledger u ledger.old ledger.new) kept.old kept.new
+    ensures stops { (u : Unlent) → StopsIn (lent_ledger u ledger.old ledger.new) kept.old kept.new
         (at_state kept.old (states.Header at)) piece.now result }
+    ensures walked { kept.new.counter.steps.rows ≡ kept.old.counter.steps.rows +
+        moof_samples (moof_at boxes.now.moof.now at) }
 {
     match ledger.count_claim(boxes.moof.len() as u64) {
         Ok(()) => {}
@@ -72,8 +74,10 @@ pub(crate) fn refuse_place(
     requires room { ledger.old.live + (length whole.now.boxes.moof.now + 64) ≤ ledger.old.limit }
     requires empty { kept.old.head ≡ [] }
     requires can { CanStep kept.old ledger.old (states.Header at) }
-    ensures { (u : Unlent) → StopsIn (lent_ledger u ledger.old ledger.new) kept.old kept.new
+    ensures stops { (u : Unlent) → StopsIn (lent_ledger u ledger.old ledger.new) kept.old kept.new
         (at_state kept.old (states.Header at)) piece.now result }
+    ensures walked { kept.new.counter.steps.rows ≡ kept.old.counter.steps.rows +
+        2 * whole.now.run.now.run.count }
 {
     match ledger.count_claim(whole.boxes.moof.len() as u64 + ROW) {
         Ok(()) => {}

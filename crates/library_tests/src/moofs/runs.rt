@@ -134,7 +134,7 @@ fn lone_of(
     let mut list = tracks(&mut ledger, moov, 20).ok()?;
     let mut steps = Steps { rows: 0 };
     let mut lone = None;
-    if let Some(found) = LoneRun::read(held, begin as u64, &list, &mut steps) {
+    if let Ok(Some(found)) = LoneRun::read(held, begin as u64, &list, &mut steps) {
         let payload = Payload {
             start: end as u64 + 8,
             end: Some(payload_end),
@@ -142,7 +142,7 @@ fn lone_of(
         found.settle(&mut list);
         lone = Some(Lone {
             run: tell_run(held, &found.run, None),
-            stands: found.stands_in(payload),
+            stands: found.places(payload).is_ok(),
             next: list.at(found.track).next,
             rows: steps.rows,
         });

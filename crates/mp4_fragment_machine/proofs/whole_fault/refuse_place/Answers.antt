@@ -18,8 +18,8 @@ overflow_add-kept-2 c =
     let i = c.requires.can.counted in
     omega (arith, few_rows c.args.kept.now.plan c.args.kept.now.counter c.args.at i, i.walked, i.far, c.from-samples.ensures)
 
-pub returns : goal.returns
-returns c = λ u.
+pub returns-clause-stops : goal.returns-clause-stops
+returns-clause-stops c = λ u.
     let kept = c.args.kept.now in
     let list = known kept.tracks in
     let at = c.args.at in

@@ -2,7 +2,7 @@ use Rattle.mp4_fragment_machine.specs.States.{known}
 use Rattle.mp4_fragment_machine.proofs.whole_plan.take_whole_fragment.Goals as goal
 
 pub returns-in-Err : goal.returns-in-Err
-returns-in-Err g c = c.refuse_place.ensures (record { written = g.W.Sink.contents c.args.w.now; waiting = c.args.out.now; failed = g.W.Sink.has_failed c.args.w.now })
+returns-in-Err g c = c.refuse_place.ensures.stops (record { written = g.W.Sink.contents c.args.w.now; waiting = c.args.out.now; failed = g.W.Sink.has_failed c.args.w.now })
 
 pub take_fragment-requires-clause-is : goal.take_fragment-requires-clause-is
 take_fragment-requires-clause-is g c = c.in-Ok.ensures.good (known c.args.kept.now.tracks) c.requires.lone
