@@ -9,12 +9,11 @@ use Rattle.mp4_box.specs.declared.rules.Fault.{Fault}
 use Rattle.mp4_box.specs.declared.rules.Rule.TheVariants.{Unsupported}
 use Rattle.mp4_box.specs.Trees.{Box, children}
 use Rattle.mp4_box.specs.Order.{least_from}
-use Rattle.mp4_box.specs.Paths.{at_path, of_kind}
+use Rattle.mp4_box.specs.Paths.{of_kind}
 use Rattle.mp4_box.proofs.OrderLemmas.{least_from_append}
 use Rattle.mp4_init.specs.Working.OrderedIds.{sought}
 use Rattle.mp4_frag.specs.Kinds.{traf}
 use Rattle.mp4_frag.specs.Rules.{fault_if}
-use Rattle.mp4_frag.proofs.MoofLemmas.{on_path}
 use Rattle.mp4_frag.specs.Repeats.{traf_id, is_listed, is_repeat, lacks_time, repeat_faults, repeats, trafs_before, trafs_of, untimed_ids}
 use Rattle.mp4_frag.specs.Working.RepeatMarks.{marked_at, all_marked, marks}
 

@@ -1,5 +1,5 @@
 -- Working: how trafs without a tfdt are found that come behind others of their track: some of their track_IDs in order, and which of these were listed.
-use Rattle.std.specs.Prelude.{ℕ, zero, suc, Bool, true, false, List, [], ◌∷◌, ◌++◌, Option, Some, None, ◌==◌, ◌+◌, ◌/◌, ◌&&◌, nat_lt, if◌then◌else◌, replicate, slice_set, take, drop}
+use Rattle.std.specs.Prelude.{ℕ, Bool, true, false, List, [], ◌∷◌, ◌++◌, Option, Some, None, ◌==◌, ◌&&◌, if◌then◌else◌, replicate, slice_set, take, drop}
 use Rattle.std.specs.Option.{is_none}
 use Rattle.mp4_box.specs.declared.rules.Fault.{Fault}
 use Rattle.mp4_box.specs.declared.rules.Rule.TheVariants.{Unsupported}

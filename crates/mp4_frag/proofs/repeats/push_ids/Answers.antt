@@ -1,7 +1,7 @@
-use Rattle.std.proofs.Common.{◌≡◌, ◌∙◌, ◌≢◌, ◌++◌, ◌∷◌, [], ◌-◌, ℕ, List, drop, take, length, sym, ap, arith, append-nil}
+use Rattle.std.proofs.Common.{◌∙◌, ◌++◌, ◌∷◌, [], ℕ, List, drop, take, sym, ap, append-nil}
 use Rattle.mp4_box.specs.Trees.{Box, view}
 use Rattle.mp4_frag.specs.Repeats.{untimed_ids}
-use Rattle.mp4_frag.proofs.PassLemmas.{trafs, drop_first, no_untimed, room_for_all, room_for_one, untimed_next}
+use Rattle.mp4_frag.proofs.PassLemmas.{trafs, drop_first, no_untimed, room_for_all, untimed_next}
 use Rattle.mp4_frag.proofs.repeats.push_ids.Goals as goal
 
 pub loop-child-preserved-then-left-eq0 : goal.loop-child-preserved-then-left-eq0
