@@ -59,7 +59,7 @@ holding-first at h limit b (Exact s) = by (nat_lt limit s) refl
   where
     by : (t : Bool) → nat_lt limit s ≡ t → Each (IsFirst at) (effects_of (holding at h limit b (Exact s))).requests
     by true e = rw e tt
-    by false e = rw e (subst (Each (IsFirst at)) (sym (asks-after (requests_memory at s) (held_body at h.kind s b) ∙ ap (λ l. (requests_memory at s).requests ++ shifted (requests_memory at s) l) (held-silent at h.kind s b _ refl))) (record { place = refl; behind = refl }, tt))
+    by false e = rw e (subst (Each (IsFirst at)) (sym (asks-after (requests_memory at s) (held_body at h.kind s b) ∙ ap (λ l. (requests_memory at s).requests ++ shifted (requests_memory at s) l) (held-silent at h.kind s b _ refl))) (record { place = refl; none_before = refl }, tt))
 
 box_by-first : (at : ℕ) (h : Header) (x b : List ℕ) (most : Option ℕ) → Each (IsFirst at) (effects_of (box_by at h x b most)).requests
 box_by-first at h x b None = subst (Each (IsFirst at)) (sym (asks-after (says (box_line at h)) (body at h h.size b) ∙ ap (shifted (says (box_line at h))) (body-silent at h h.size b))) tt
@@ -205,7 +205,7 @@ front-whole at [] = subst (IsItemAt top_box (λ n. n) at []) (sym (front-none at
 front-whole at (a ∷ b) = subst (IsItemAt top_box (λ n. n) at (a ∷ b)) (sym (front-some at (a ∷ b) (omega arith))) (front_by-whole at (a ∷ b) (header_at (a ∷ b)) refl)
 
 -- the listing before a box that asks is that of the bytes before it
-pub listing-before : (b : List ℕ) (before : List Request) (a : Request) (behind : List Request) → (reading 0 b).effects.requests ≡ before ++ a ∷ behind → take a.text_before (listing b) ≡ listing (take a.at b)
+pub listing-before : (b : List ℕ) (before : List Request) (a : Request) (behind : List Request) → (reading 0 b).effects.requests ≡ before ++ a ∷ behind → take a.none_before (listing b) ≡ listing (take a.at b)
 listing-before b before a behind e =
     let none : a.at - 0 ≡ a.at = omega arith in
     (asks_stand top_box (λ n. n) front-items front-first front-whole 0 b before a behind e).text ∙ ap (λ n. listing (take n b)) none

@@ -67,11 +67,11 @@ outside_stopped l k table = outside l.written' l.waiting' (given_back l.account'
 
 -- what is outside of a step that goes on
 abbrev pub around_of : Lent → (old new : Kept) → Around
-around_of l old new = record { before = outside_before l old; behind = outside_after l new; failed = l.failed; failed' = l.failed' }
+around_of l old new = record { before = outside_before l old; after = outside_after l new; failed = l.failed; failed' = l.failed' }
 
 -- and of one that stops
 abbrev pub around_stopped : Lent → (old new : Kept) → Around
-around_stopped l old new = record { before = outside_before l old; behind = outside_stopped l new (table_of old.tracks); failed = l.failed; failed' = l.failed' }
+around_stopped l old new = record { before = outside_before l old; after = outside_stopped l new (table_of old.tracks); failed = l.failed; failed' = l.failed' }
 
 -- ---- where a machine is
 
