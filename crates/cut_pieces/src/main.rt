@@ -8,7 +8,7 @@ ghost use Rattle.std.specs.Prelude.{◌≡◌, ◌+◌, ◌^◌, ◌≤◌, leng
 ghost use Rattle.mp4_box.specs.Headers.{IsWhole};
 ghost use Rattle.mp4_frag.specs.Moofs.{IsRead};
 ghost use Rattle.mp4_frag.specs.Runs.{runs_of};
-ghost use Rattle.mp4_pieces.specs.Pieces.{AreRunsOf, IsRunOf};
+ghost use Rattle.mp4_frag.specs.Ranges.{AreRunsOf, IsRunOf};
 
 use mp4_box::{Size, header_of, is_box, number_at};
 use mp4_cut::{Cut, Pieces, put_mdat_header, put_moof};

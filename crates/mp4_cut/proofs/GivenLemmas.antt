@@ -34,9 +34,10 @@ use Rattle.mp4_frag.proofs.PlaceLemmas.{Lies, children_lie, kind_all, moof_lies}
 use Rattle.mp4_box.proofs.ByteLemmas.{number_small}
 use Rattle.mp4_frag.proofs.RunRowLemmas as run_rows
 use Rattle.mp4_pieces.specs.declared.piece.Piece.{Piece}
-use Rattle.mp4_pieces.specs.Pieces.{IsPieceOf, IsRunOf, piece_at, rows_in}
+use Rattle.mp4_pieces.specs.Pieces.{IsPieceOf, piece_at, rows_in}
+use Rattle.mp4_frag.specs.Ranges.{IsRunOf}
 use Rattle.mp4_pieces.proofs.PieceLemmas.{piece_ends}
-use Rattle.mp4_pieces.proofs.RunLemmas.{runs_are}
+use Rattle.mp4_frag.proofs.ReadRunLemmas.{runs_are}
 use Rattle.mp4_cut.specs.Moof.{written_fragment}
 use Rattle.mp4_cut.specs.Reads.{CanBeRead, FitsOffset, FitsRow, FitsTrack, IsSoundRun}
 use Rattle.mp4_cut.proofs.PieceLemmas.{count_is}

@@ -25,7 +25,7 @@ use Rattle.mp4_frag.specs.Settling.{settled, with_end}
 use Rattle.mp4_run_order.specs.Orders.{taken_by}
 use Rattle.mp4_run_order.proofs.RunLemmas.{le_to}
 use Rattle.mp4_frag.proofs.SoundLemmas.{rows_are_samples}
-use Rattle.mp4_frag.specs.Laws.{first_cursor}
+use Rattle.mp4_frag.specs.Cursors.{first_cursor}
 use Rattle.mp4_pieces.specs.Pieces.{piece_at}
 use Rattle.mp4_pieces.specs.Rooms.{moof}
 use Rattle.mp4_pieces.specs.Sizes.{mdat_header_size, moof_size}

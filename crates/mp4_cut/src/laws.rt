@@ -10,7 +10,7 @@ ghost use Rattle.mp4_init.specs.declared.table.Track.{Track};
 ghost use Rattle.mp4_frag.specs.declared.run.Run.{Run};
 ghost use Rattle.mp4_frag.specs.After.{StandsIn};
 ghost use Rattle.mp4_frag.specs.Kinds.{mfhd};
-ghost use Rattle.mp4_frag.specs.Laws.{first_cursor};
+ghost use Rattle.mp4_frag.specs.Cursors.{first_cursor};
 ghost use Rattle.mp4_frag.specs.Moofs.{IsRead, moof_of, moof_runs};
 ghost use Rattle.mp4_frag.specs.Runs.{MoofBytes};
 ghost use Rattle.mp4_pieces.specs.declared.cut.Cut.{Cut};

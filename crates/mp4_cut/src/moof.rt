@@ -1,7 +1,8 @@
 //! A movie fragment, moof (ISO/IEC 14496-12, 8.8.4): mfhd, and one traf with tfhd, tfdt and trun.
 
 ghost use Rattle.std.specs.Prelude.{◌≡◌, ◌+◌, ◌≤◌, ◌++◌, length};
-ghost use Rattle.mp4_pieces.specs.Pieces.{IsPieceOf, IsRunOf};
+ghost use Rattle.mp4_pieces.specs.Pieces.{IsPieceOf};
+ghost use Rattle.mp4_frag.specs.Ranges.{IsRunOf};
 ghost use Rattle.mp4_cut.specs.Working.Fronts.{moof_front};
 ghost use Rattle.mp4_cut.specs.Moof.{written_moof};
 ghost use Rattle.mp4_machine.specs.Ends.{sent};

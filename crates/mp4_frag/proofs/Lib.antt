@@ -24,3 +24,5 @@ pub mod UsualLemmas
 pub mod SyncLemmas
 pub mod ListingLemmas
 pub mod TrackFitLemmas
+pub mod CursorLemmas
+pub mod ReadRunLemmas

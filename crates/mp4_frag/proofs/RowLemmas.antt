@@ -9,7 +9,7 @@ use Rattle.mp4_frag.specs.declared.run.Run.{Run}
 use Rattle.mp4_frag.specs.declared.rows.Row.{Row}
 use Rattle.mp4_frag.specs.declared.rows.Cursor.{Cursor}
 use Rattle.mp4_frag.specs.Rows.{row_of, rows_of, rows_behind, durations, sizes, IsCursor}
-use Rattle.mp4_frag.specs.Laws.{first_cursor, past}
+use Rattle.mp4_frag.specs.Cursors.{first_cursor, past}
 
 -- the first of the rows that are left
 pub rows_next : (run : Run) (held : List ℕ) (i : ℕ) → i < run.count → rows_behind run held i ≡ row_of run held i ∷ rows_behind run held (i + 1)

@@ -1,12 +1,11 @@
 -- What the laws speak of beside the definitions.
-use Rattle.std.specs.Prelude.{◌≡◌, ℕ, ℤ, pos, List, [], ◌∷◌, ◌+◌, ◌*◌, ◌<◌, ◌+ℤ◌}
+use Rattle.std.specs.Prelude.{◌≡◌, ℕ, ℤ, List, [], ◌∷◌, ◌+◌, ◌*◌, ◌<◌}
 use Rattle.std.specs.List.{AllByRecursion}
 use Rattle.mp4_box.specs.Trees.{Box, children}
 use Rattle.mp4_box.specs.Paths.{of_kind}
 use Rattle.mp4_init.specs.declared.table.Track.{Track}
 use Rattle.mp4_frag.specs.declared.run.Run.{Run}
 use Rattle.mp4_frag.specs.declared.rows.Row.{Row}
-use Rattle.mp4_frag.specs.declared.rows.Cursor.{Cursor}
 use Rattle.mp4_frag.specs.Kinds.{trun}
 use Rattle.mp4_frag.specs.Fields.{flags_in}
 use Rattle.mp4_frag.specs.Trun.{sample_count, sample_fields, trun_fields}
@@ -29,14 +28,6 @@ RowsAreGroups s b = (time : ℕ) (last : ℤ) (i : ℕ) → i < sample_count b.p
 -- so it is with the truns of a traf
 abbrev pub TrafRowsAreGroups : MoofBytes → List Track → Box → Type 0
 TrafRowsAreGroups h tracks t = AllByRecursion (RowsAreGroups (shared_by h (track_of tracks t) t)) (of_kind trun (children t))
-
--- the cursor behind a row
-abbrev pub past : Cursor → Row → Cursor
-past c row = record { row = c.row + 1; time = c.time + row.duration; place = c.place +ℤ pos row.size }
-
--- the cursor of the first row
-abbrev pub first_cursor : Run → Cursor
-first_cursor run = record { row = 0; time = run.time; place = run.place }
 
 -- trafs one after the other: where one has no tfdt, it begins where the last traf of its track ended, in this moof or before it
 unfoldable pub in_turn : MoofBytes → List Track → List Box → List TrackFragment

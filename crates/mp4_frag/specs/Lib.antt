@@ -7,6 +7,7 @@ pub mod Trun
 pub mod Rules
 pub mod Repeats
 pub mod Rows
+pub mod Cursors
 pub mod Runs
 pub mod Moofs
 pub mod RunLists

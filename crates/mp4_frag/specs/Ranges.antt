@@ -1,9 +1,10 @@
 -- Which numbers the runs of a moof without a fault have.
-use Rattle.std.specs.Prelude.{pos, ◌≤◌, ◌<◌, ◌^◌, ◌+ℤ◌, ◌≤ℤ◌, ◌<ℤ◌}
+use Rattle.std.specs.Prelude.{◌≡◌, ℕ, List, pos, ◌≤◌, ◌<◌, ◌+◌, ◌^◌, ◌+ℤ◌, ◌≤ℤ◌, ◌<ℤ◌}
 use Rattle.std.specs.List.{AllByRecursion}
 use Rattle.mp4_box.specs.Headers.{IsBytes}
 use Rattle.mp4_box.specs.Trees.{Box}
 use Rattle.mp4_frag.specs.declared.run.Run.{Run}
+use Rattle.mp4_frag.specs.Rows.{durations, rows_of, sizes}
 use Rattle.mp4_frag.specs.Rules.{most_samples, samples_in}
 use Rattle.mp4_frag.specs.Runs.{TrackFragment, end_place, runs_of}
 
@@ -12,6 +13,17 @@ pub record InRange (run : Run) : Type 0 where
   pub end : run.end < 2 ^ 64
   pub low : pos 0 ≤ℤ (run.place +ℤ pos (2 ^ 31))
   pub high : end_place run <ℤ pos (2 ^ 63)
+
+-- a run of a moof that was read, of which these are the bytes
+pub record IsRunOf (held : List ℕ) (run : Run) : Type 0 where
+  pub few : run.count ≤ most_samples
+  pub end : run.end ≡ run.time + durations (rows_of run held)
+  pub bytes : run.bytes ≡ sizes (rows_of run held)
+  pub range : InRange run
+
+-- so are all of these, of which the default size has 32 bits
+abbrev pub AreRunsOf : List ℕ → List Run → Type 0
+AreRunsOf held runs = AllByRecursion (λ run. run.size < 2 ^ 32 → IsRunOf held run) runs
 
 -- what is known of each traf of a moof without a fault
 pub record IsSound (t : TrackFragment) : Type 0 where

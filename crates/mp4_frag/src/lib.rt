@@ -12,13 +12,14 @@
 //!   the bytes of the moof;
 //! - [`laws`]: what the definitions of `specs/` imply.
 //!
-//! Each box that is read has a file here and one in `specs/`, with its fields by the standard's names and where they stand:
-//! mfhd, tfhd, tfdt, trun. `specs/Rules.antt` and `specs/Repeats.antt` say what is at fault, `specs/Rows.antt` what a row
-//! is, `specs/Runs.antt` when and where runs begin and end, `specs/Moofs.antt` what a moof comes to, `specs/RunLists.antt`
-//! in which order they are taken, `specs/LoneRuns.antt` what a run is that has no other, `specs/Places.antt` which run is
-//! at fault by its place, `specs/After.antt` what stands behind a run, `specs/Settling.antt` where the tracks end behind a
-//! moof, `specs/Ranges.antt` which numbers runs have, and `specs/SyncSamples.antt` which samples are sync samples. How all
-//! this is worked out is said in `specs/Working/`.
+//! Each box that is read has a file here and one in `specs/`, with its fields by the standard's names and where they
+//! stand: mfhd, tfhd, tfdt, trun. `specs/Rules.antt` and `specs/Repeats.antt` say what is at fault, `specs/Rows.antt`
+//! what a row is, `specs/Cursors.antt` what a cursor is, `specs/Runs.antt` when and where runs begin and end,
+//! `specs/Moofs.antt` what a moof comes to, `specs/Ranges.antt` what holds of its runs, `specs/RunLists.antt` in which
+//! order they are taken, `specs/LoneRuns.antt` what a run is that has no other, `specs/Places.antt` which run is at
+//! fault by its place, `specs/After.antt` what stands behind a run, `specs/Settling.antt` where the tracks end behind a
+//! moof, and `specs/SyncSamples.antt` which samples are sync samples. How all this is worked out is said in
+//! `specs/Working/`.
 //!
 //! `children.rt` goes over the boxes of a moof by their types, `at_once.rt` looks at all of them in one pass, `usual.rt` reads a
 //! moof of the form that most have, and `start.rt` reads what stands before the runs of a traf.

@@ -1,7 +1,8 @@
 //! The rows of a run, one for each sample.
 
-ghost use Rattle.std.specs.Prelude.{◌≡◌, ◌+◌, ◌*◌, ◌<◌, ◌≤◌, ◌^◌, drop};
+ghost use Rattle.std.specs.Prelude.{◌≡◌, ◌+◌, ◌*◌, ◌+ℤ◌, ◌<ℤ◌, ◌<◌, ◌≤◌, ◌^◌, drop, pos};
 ghost use Rattle.std.specs.Iterator.{YieldsFirst, item_count};
+ghost use Rattle.mp4_frag.specs.Cursors.{first_cursor, past};
 ghost use Rattle.mp4_frag.specs.Rows.{IsCursor, field_at, offset_at, row_of, rows_behind, rows_of, usual_flags};
 
 use crate::fields::{number_from, signed_from};
@@ -36,6 +37,22 @@ pub struct Cursor {
     pub time: u64,
     /// The offset in the stream of the sample's first byte.
     pub place: i128,
+}
+
+impl Cursor {
+    /// The cursor behind a row that stands here.
+    pub fn past(self, row: &Row) -> Cursor
+        requires row { self.row + 1 < 2 ^ 32 }
+        requires time { self.time + row.now.duration < 2 ^ 64 }
+        requires place { (self.place +ℤ pos row.now.size) <ℤ pos (2 ^ 63) }
+        ensures { result ≡ past self row.now }
+    {
+        Cursor {
+            row: self.row + 1,
+            time: self.time + u64::from(row.duration),
+            place: self.place + i128::from(row.size),
+        }
+    }
 }
 
 /// Goes over rows of a run.
@@ -115,6 +132,17 @@ impl Run {
                 group,
                 fields.sample_composition_time_offset,
             ),
+        }
+    }
+
+    /// The cursor of its first row.
+    pub fn first_cursor(&self) -> Cursor
+        ensures { result ≡ first_cursor self.now }
+    {
+        Cursor {
+            row: 0,
+            time: self.time,
+            place: self.place,
         }
     }
 

@@ -28,8 +28,8 @@ use Rattle.mp4_run_order.specs.Orders.{taken_by}
 use Rattle.mp4_frag.specs.RunLists.{taken_runs}
 use Rattle.mp4_frag.specs.Places.{listed_run}
 use Rattle.mp4_frag.specs.Runs.{MoofBytes, moof_at}
-use Rattle.mp4_pieces.specs.Pieces.{IsRunOf}
-use Rattle.mp4_pieces.proofs.RunLemmas.{ranged_run}
+use Rattle.mp4_frag.specs.Ranges.{IsRunOf}
+use Rattle.mp4_frag.proofs.ReadRunLemmas.{ranged_run}
 use Rattle.mp4_machine.proofs.HoldingLemmas.{begins_whole}
 use Rattle.mp4_grammar.specs.Commands.{accepted, command_meaning}
 use Rattle.mp4_grammar.specs.Items.{end_of, fragment, walked}

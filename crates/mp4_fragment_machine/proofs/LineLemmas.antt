@@ -1,11 +1,9 @@
 -- The lines of samples, one after the other.
-use Rattle.std.proofs.Common.{◌≡◌, ◌∙◌, ℕ, zero, suc, ℤ, pos, ◌≤◌, drop, get_or, ◌+◌, ◌+ℤ◌, ◌<ℤ◌, ◌≤ℤ◌, ◌<◌, ◌^◌, List, [], ◌∷◌, ◌++◌, length, ap, sym, refl, arith, subst, append-nil, append_assoc}
+use Rattle.std.proofs.Common.{◌≡◌, ◌∙◌, ℕ, zero, suc, ◌≤◌, drop, get_or, ◌+◌, ◌<◌, ◌^◌, List, [], ◌∷◌, ◌++◌, length, ap, sym, arith, subst, append-nil, append_assoc}
 use Rattle.std.specs.List.{flat_map}
 use Rattle.std.proofs.Math.Seq.{drop-cons}
 use Rattle.std.proofs.lemmas.Grind.{flat_map-append}
 use Rattle.std.proofs.lemmas.List.{length-map}
-use Rattle.std.proofs.lemmas.Int.{ints}
-use Rattle.std.proofs.lemmas.List.Sums.{sum_by-cons}
 use Rattle.mp4_box.specs.Headers.{IsBytes, IsWhole}
 use Rattle.mp4_init.specs.declared.table.Track.{Track}
 use Rattle.mp4_run_order.proofs.OrderLemmas.{taken_permutes}
@@ -15,19 +13,16 @@ use Rattle.mp4_frag.specs.RunLists.{taken_runs}
 use Rattle.mp4_frag.specs.Working.ListedRows.{IsListOf, ListedRows}
 use Rattle.mp4_frag.specs.Places.{listed_run}
 use Rattle.mp4_frag.specs.Runs.{MoofBytes}
-use Rattle.mp4_pieces.specs.Pieces.{AreRunsOf, IsRunOf}
-use Rattle.mp4_pieces.proofs.OrderLemmas.{runs_kept}
-use Rattle.mp4_pieces.proofs.RunLemmas.{runs_are}
+use Rattle.mp4_frag.specs.Ranges.{AreRunsOf, IsRunOf}
+use Rattle.mp4_frag.proofs.ReadRunLemmas.{runs_are, runs_kept}
 use Rattle.mp4_frag.specs.declared.rows.Cursor.{Cursor}
 use Rattle.mp4_frag.specs.declared.rows.Row.{Row}
 use Rattle.mp4_frag.specs.declared.run.Run.{Run}
-use Rattle.mp4_frag.specs.Laws.{past}
-use Rattle.mp4_frag.specs.Rows.{durations, sizes}
+use Rattle.mp4_frag.specs.Cursors.{past}
 use Rattle.mp4_machine.specs.Blocks.{Pending}
 use Rattle.mp4_machine.specs.Ends.{Sent}
 use Rattle.mp4_machine.specs.Puts.{HasPut}
 use Rattle.mp4_grammar.specs.Samples.{sample_line, sample_lines, sample_of, samples_from, samples_of_run}
-use Rattle.mp4_pieces.specs.Working.Growing.{HasRoom}
 
 -- the line of one more sample was put
 pub next_line : (run : Run) (row : Row) (rest rows : List Row) (c : Cursor) (text line all : List ℕ) → rows ≡ row ∷ rest → line ≡ sample_line (sample_of run row c.time c.place) → text ++ sample_lines (samples_from run rows c.time c.place) ≡ all
@@ -36,40 +31,6 @@ next_line run row rest rows c text line all e is whole =
     append_assoc text line (sample_lines (samples_from run rest (past c row).time (past c row).place))
     ∙ ap (λ l. text ++ (l ++ sample_lines (samples_from run rest (past c row).time (past c row).place))) is
     ∙ ap (λ l. text ++ sample_lines (samples_from run l c.time c.place)) (sym e) ∙ whole
-
--- a row has room, and so has what is left behind it
-low_on : (z : ℤ) (n m all : ℕ) → n + m ≡ all → (z +ℤ pos all) <ℤ pos (2 ^ 63) → (z +ℤ pos n) <ℤ pos (2 ^ 63)
-low_on z n m all sum h = omega (arith, ints, sum, h)
-
-high_on : (z y : ℤ) (n m all : ℕ) → y ≡ z +ℤ pos n → n + m ≡ all → (z +ℤ pos all) <ℤ pos (2 ^ 63) → (y +ℤ pos m) <ℤ pos (2 ^ 63)
-high_on z y n m all e sum h = omega (arith, ints, e, sum, h)
-
-deep_on : (z y : ℤ) (n : ℕ) → y ≡ z +ℤ pos n → pos 0 ≤ℤ (z +ℤ pos (2 ^ 31)) → pos 0 ≤ℤ (y +ℤ pos (2 ^ 31))
-deep_on z y n e h = omega (arith, ints, e, h)
-
-module _ (c : Cursor) (row : Row) (rest rows : List Row) (e : rows ≡ row ∷ rest) (h : HasRoom c rows) where
-  more_ticks : durations rows ≡ row.duration + durations rest
-  more_ticks = ap durations e ∙ sum_by-cons (λ (r : Row). r.duration) row rest
-
-  more_bytes : sizes rows ≡ row.size + sizes rest
-  more_bytes = ap sizes e ∙ sum_by-cons (λ (r : Row). r.size) row rest
-
-  pub row_fits : c.row + 1 < 2 ^ 32
-  row_fits = omega (arith, h.row, ap length e)
-
-  pub time_fits : c.time + row.duration < 2 ^ 64
-  time_fits = omega (arith, h.time, more_ticks)
-
-  pub place_fits : (c.place +ℤ pos row.size) <ℤ pos (2 ^ 63)
-  place_fits = low_on c.place row.size (sizes rest) (sizes rows) (sym more_bytes) h.high
-
-  pub room_on : HasRoom (past c row) rest
-  room_on = record {
-    row = omega (arith, h.row, ap length e);
-    time = omega (arith, h.time, more_ticks);
-    low = deep_on c.place (past c row).place row.size refl h.low;
-    high = high_on c.place (past c row).place row.size (sizes rest) (sizes rows) refl (sym more_bytes) h.high;
-  }
 
 -- all rows were put
 pub put_all : {s : Sent} {v w : Pending} {text all : List ℕ} (run : Run) (rows : List Row) (c : Cursor) → rows ≡ [] → text ++ sample_lines (samples_from run rows c.time c.place) ≡ all → HasPut s v w text [] → HasPut s v w all []

@@ -34,7 +34,7 @@ use Rattle.mp4_frag.proofs.RunListLemmas.{place_means}
 use Rattle.mp4_frag.proofs.MoofLemmas.{read_count}
 use Rattle.mp4_frag.proofs.SoundLemmas.{all_small, few_timed, rows_are_samples}
 use Rattle.mp4_grammar.specs.Meanings.{beyond, reach}
-use Rattle.mp4_pieces.specs.Pieces.{AreRunsOf, IsRunOf}
+use Rattle.mp4_frag.specs.Ranges.{AreRunsOf, IsRunOf}
 use Rattle.mp4_fragment_machine.specs.States.{IsWaiting, moof_in}
 use Rattle.mp4_fragment_machine.specs.declared.state.Waiting.{Waiting}
 use Rattle.mp4_fragment_machine.proofs.LineLemmas.{rows_taken, taken_are}

@@ -33,7 +33,7 @@ use Rattle.mp4_init.specs.declared.table.Track.{Track}
 use Rattle.mp4_frag.specs.Moofs.{moof_samples}
 use Rattle.mp4_frag.specs.declared.run.Run.{Run}
 use Rattle.mp4_pieces.specs.declared.cut.Cut.{Cut}
-use Rattle.mp4_pieces.specs.Pieces.{IsRunOf}
+use Rattle.mp4_frag.specs.Ranges.{IsRunOf}
 use Rattle.mp4_recut.specs.Cursors.{CanCut}
 use Rattle.mp4_grammar.specs.Contexts.{Context, first_context, table_of}
 use Rattle.mp4_grammar.specs.Items.{context_after_fragment, end_of, fragment, media_body, reads_in, with_runs}

@@ -1,14 +1,13 @@
 //! The lines of a fragment's samples.
 
-ghost use Rattle.std.specs.Prelude.{◌≡◌, ◌+◌, ◌+ℤ◌, ◌<ℤ◌, ◌≤ℤ◌, ◌<◌, ◌^◌, ◌++◌, pos, Some};
-ghost use Rattle.mp4_frag.specs.Laws.{first_cursor, past};
+ghost use Rattle.std.specs.Prelude.{◌≡◌, ◌+◌, ◌<◌, ◌^◌, Some};
+ghost use Rattle.mp4_frag.specs.Cursors.{HasRoom};
 ghost use Rattle.mp4_frag.specs.Moofs.{moof_samples};
+ghost use Rattle.mp4_frag.specs.Ranges.{IsRunOf};
 ghost use Rattle.mp4_machine.specs.Ends.{sent};
 ghost use Rattle.mp4_machine.specs.Puts.{Puts};
 ghost use Rattle.mp4_grammar.specs.Samples.{sample_lines, sample_of, samples_from, samples_of_run};
-ghost use Rattle.mp4_pieces.specs.Pieces.{IsRunOf};
 ghost use Rattle.mp4_fragment_machine.specs.States.{IsWaiting, lines_of, moof_in};
-ghost use Rattle.mp4_pieces.specs.Working.Growing.{HasRoom};
 
 use crate::state::Waiting;
 use mp4_ends::{Failed, Sink};
@@ -16,31 +15,6 @@ use mp4_frag::{Cursor, Moof, Row, Rows, Run, Steps};
 use mp4_grammar::Sample;
 use mp4_init::TrackList;
 use mp4_machine::Block;
-
-/// The cursor behind a row.
-fn past(at: Cursor, row: &Row) -> Cursor
-    requires row { at.row + 1 < 2 ^ 32 }
-    requires time { at.time + row.now.duration < 2 ^ 64 }
-    requires place { (at.place +ℤ pos row.now.size) <ℤ pos (2 ^ 63) }
-    ensures { result ≡ past at row.now }
-{
-    Cursor {
-        row: at.row + 1,
-        time: at.time + u64::from(row.duration),
-        place: at.place + i128::from(row.size),
-    }
-}
-
-/// The cursor of the first row of a run.
-fn first_cursor(run: &Run) -> Cursor
-    ensures { result ≡ first_cursor run.now }
-{
-    Cursor {
-        row: 0,
-        time: run.time,
-        place: run.place,
-    }
-}
 
 /// The sample of a row of a run that stands at this cursor.
 fn sample_at(run: &Run, row: &Row, at: Cursor) -> Sample
@@ -50,6 +24,7 @@ fn sample_at(run: &Run, row: &Row, at: Cursor) -> Sample
 }
 
 /// Puts the lines of the samples that these rows of a run are, of which the first stands at this cursor.
+#[tactic(auto, using(mp4_frag::proofs::CursorLemmas::row_fits, mp4_frag::proofs::CursorLemmas::time_fits, mp4_frag::proofs::CursorLemmas::place_fits))]
 fn put_rows<W: Sink>(
     run: &Run,
     rows: &mut Rows<'_>,
@@ -70,7 +45,7 @@ fn put_rows<W: Sink>(
             Ok(()) => {}
             Err(Failed) => return Err(Failed),
         }
-        at = past(at, &row);
+        at = at.past(&row);
     }
 }
 
@@ -85,7 +60,7 @@ pub(crate) fn put_run<W: Sink>(
     ensures { Puts (sent W.contents W.has_failed w.old w.new) out.old out.new
         (sample_lines (samples_of_run held.now run.now)) result }
 {
-    put_rows(run, &mut run.rows(held), first_cursor(run), out, w)
+    put_rows(run, &mut run.rows(held), run.first_cursor(), out, w)
 }
 
 /// Puts the lines of the samples of the moof that waits, its runs in the order in which they are taken. They are so many, and

@@ -9,7 +9,7 @@ ghost use Rattle.mp4_frag.specs.RunLists.{taken_runs};
 ghost use Rattle.mp4_run_order.specs.Runs.{end_of};
 ghost use Rattle.mp4_frag.specs.declared.run.Run.{Run};
 ghost use Rattle.mp4_grammar.specs.Meanings.{beyond, reach};
-ghost use Rattle.mp4_pieces.specs.Pieces.{IsRunOf};
+ghost use Rattle.mp4_frag.specs.Ranges.{IsRunOf};
 ghost use Rattle.mp4_machine.specs.Bodies.{longest};
 ghost use Rattle.mp4_fragment_machine.specs.States.{IsWaiting, moof_in};
 

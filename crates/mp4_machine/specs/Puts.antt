@@ -35,6 +35,7 @@ pub record HasFailedIn (s : Sent) (text : List ℕ) : Type 0 where
   pub prefix : AppendsPrefix s.written s.written' text
   pub failed : s.failed' ≡ true
 
+-- one or the other, by the result
 abbrev pub Writes : {T E : Type 0} → Sent → (text : List ℕ) → Result T E → Type 0
 Writes s text (Ok x) = HasWritten s text
 Writes s text (Err e) = HasFailedIn s text

@@ -5,7 +5,8 @@
 //! - [`block`]: [`Block`], which gathers bytes and lines on their way to a sink ([`Line`]), with the ends of fragments among
 //!   them ([`mark`]: [`Mark`]), and [`held`]: [`Held`], a box in
 //!   claimed memory while it comes;
-//! - [`header_bytes`]: which bytes of a piece are a header's, and [`body`]: the bodies behind headers ([`Body`], [`OpenBody`]);
+//! - [`header_bytes`]: which bytes of a piece are a header's, and [`body`]: the bodies behind headers ([`Body`],
+//!   [`OpenBody`]);
 //! - [`machine`]: [`Machine`], what takes the bytes of a stream as they come, and [`feed`], which feeds it the next piece;
 //! - [`run`]: [`read_stream`], which feeds it a whole stream.
 //!
@@ -14,8 +15,9 @@
 //! brings that is fed the stream piece by piece), with `specs/Accounts.antt` (what it does to a ledger) and
 //! `specs/Blocks.antt` (what goes by way of a block) and `specs/Fed.antt` (the same by the bytes that came so far),
 //! `specs/StreamRuns.antt` (what a run over a whole stream brings) with `specs/Ends.antt` (what its two ends tell), and
-//! `specs/Puts.antt` (what a call does that puts text into a block). They name no command: a command says what stands at
-//! the front of some bytes, and its machine keeps the clauses of [`Machine`].
+//! `specs/Puts.antt` (what a call does that puts text into a block). Within a machine `specs/Steps.antt` says what a step
+//! brings, and `specs/Standings.antt` where machines stand alike. They name no command: a command says what stands at the
+//! front of some bytes, and its machine keeps the clauses of [`Machine`].
 #![tactic(auto)]
 
 pub mod block;

@@ -17,7 +17,8 @@ use Rattle.mp4_pieces.specs.Cutting.{cut_by, cut_from}
 use Rattle.mp4_frag.specs.SyncSamples.{is_sync}
 use Rattle.mp4_pieces.specs.Fitting.{fits, fits_bytes, fits_sync}
 use Rattle.mp4_pieces.specs.Pieces.{cursor_after, composition_times, cut_rows, least_of, past_rows, piece_at, pieces_at}
-use Rattle.mp4_pieces.specs.Working.Growing.{Grows, HasRoom, grown, has_bytes, opened, pieces_left, takes, with_row}
+use Rattle.mp4_pieces.specs.Working.Growing.{Grows, grown, has_bytes, opened, pieces_left, takes, with_row}
+use Rattle.mp4_frag.specs.Cursors.{HasRoom}
 use Rattle.mp4_pieces.proofs.FitLemmas.{and_is, is_limit}
 
 bool_is : (b : Bool) → (b ≡ true) ⊎ (b ≡ false)

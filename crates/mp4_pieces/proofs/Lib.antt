@@ -1,8 +1,6 @@
 pub mod CutLemmas
 pub mod FitLemmas
 pub mod GrowLemmas
-pub mod CursorLemmas
-pub mod RunLemmas
 pub mod PieceLemmas
 pub mod GroupLemmas
 pub mod RoomLemmas

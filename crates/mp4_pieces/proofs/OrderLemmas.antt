@@ -8,14 +8,11 @@ use Rattle.mp4_frag.specs.declared.run.Run.{Run}
 use Rattle.mp4_frag.specs.Runs.{MoofBytes}
 use Rattle.mp4_pieces.specs.declared.cut.Cut.{Cut}
 use Rattle.mp4_pieces.specs.Fits.{FitsIndex, HasRoomFor}
-use Rattle.mp4_pieces.specs.Pieces.{AreRunsOf, IsRunOf, piece_count, pieces_of}
+use Rattle.mp4_pieces.specs.Pieces.{piece_count, pieces_of}
 use Rattle.mp4_pieces.specs.Rooms.{numbers}
 
 all_kept : (P : Run → Type 0) (xs ys : List Run) → IsPermutation xs ys → AllByRecursion P xs → AllByRecursion P ys
 all_kept P xs ys same all = recursion_from_All P ys (All-permutation P xs ys same (All-from_recursion P xs all))
-
-pub runs_kept : (held : List ℕ) (xs ys : List Run) → IsPermutation xs ys → AreRunsOf held xs → AreRunsOf held ys
-runs_kept held xs ys same all = all_kept (λ (run : Run). run.size < 2 ^ 32 → IsRunOf held run) xs ys same all
 
 pub count_kept : (cut : Cut) (held : List ℕ) (xs ys : List Run) → IsPermutation xs ys → piece_count cut held ys ≡ piece_count cut held xs
 count_kept cut held xs ys same = sum_by-IsPermutation (λ (run : Run). length (pieces_of cut held run)) xs ys same

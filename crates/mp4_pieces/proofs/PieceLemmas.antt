@@ -11,14 +11,15 @@ use Rattle.std.proofs.Math.Seq.{drop-append-add, take-append-add, take-append_se
 use Rattle.mp4_frag.specs.declared.run.Run.{Run}
 use Rattle.mp4_frag.specs.declared.rows.Row.{Row}
 use Rattle.mp4_frag.specs.declared.rows.Cursor.{Cursor}
-use Rattle.mp4_frag.specs.Laws.{first_cursor}
+use Rattle.mp4_frag.specs.Cursors.{first_cursor}
 use Rattle.mp4_frag.specs.Rows.{IsCursor, durations, rows_of, sizes}
 use Rattle.mp4_frag.proofs.RowLemmas.{cursor_first, length_rows_of}
 use Rattle.mp4_pieces.specs.declared.cut.Cut.{Cut}
 use Rattle.mp4_pieces.specs.declared.piece.Piece.{Piece}
 use Rattle.mp4_pieces.specs.Cutting.{ArePieces, join}
 use Rattle.mp4_pieces.specs.Fitting.{fits}
-use Rattle.mp4_pieces.specs.Pieces.{EndsInRange, IsPieceOf, IsRunOf, cursor_after, composition_times, cursor_at, cut_rows, least_of, past_rows, piece_at, pieces_at, pieces_from, pieces_of, rows_in}
+use Rattle.mp4_pieces.specs.Pieces.{EndsInRange, IsPieceOf, cursor_after, composition_times, cursor_at, cut_rows, least_of, past_rows, piece_at, pieces_at, pieces_from, pieces_of, rows_in}
+use Rattle.mp4_frag.specs.Ranges.{IsRunOf}
 use Rattle.mp4_pieces.specs.Laws.{IsFollowedBy, IsLeastOf}
 use Rattle.mp4_pieces.proofs.CutLemmas.{pieces_are, pieces_only}
 use Rattle.mp4_pieces.proofs.FitLemmas.{is_limit}

@@ -14,7 +14,7 @@ use Rattle.mp4_init.specs.declared.table.Track.{Track}
 use Rattle.mp4_frag.specs.declared.run.Run.{Run}
 use Rattle.mp4_frag.specs.declared.rows.Row.{Row}
 use Rattle.mp4_frag.specs.declared.rows.Cursor.{Cursor}
-use Rattle.mp4_frag.specs.Laws.{first_cursor}
+use Rattle.mp4_frag.specs.Cursors.{first_cursor}
 use Rattle.mp4_frag.specs.Moofs.{moof_runs, moof_samples}
 use Rattle.mp4_frag.specs.Rows.{rows_of}
 use Rattle.mp4_frag.specs.Runs.{MoofBytes}

@@ -8,7 +8,8 @@ use Rattle.mp4_frag.specs.declared.run.Run.{Run}
 use Rattle.mp4_frag.specs.Rows.{rows_of, sizes}
 use Rattle.mp4_frag.specs.Runs.{end_place}
 use Rattle.mp4_pieces.specs.declared.piece.Piece.{Piece}
-use Rattle.mp4_pieces.specs.Pieces.{IsPieceOf, IsRunOf, piece_at, rows_in}
+use Rattle.mp4_pieces.specs.Pieces.{IsPieceOf, piece_at, rows_in}
+use Rattle.mp4_frag.specs.Ranges.{IsRunOf}
 
 module _ (held : List ℕ) (run : Run) (p : Piece) (is : IsRunOf held run) (of : IsPieceOf held run p) where
   place_is : p.place ≡ run.place +ℤ pos (sizes (take p.first (rows_of run held)))

@@ -1,29 +1,16 @@
 -- The pieces of a run, with what their samples come to.
 use Rattle.std.specs.Prelude.{◌≡◌, ◌<◌, ◌≤◌, ◌+◌, ◌^◌, ◌+ℤ◌, ◌<ℤ◌, ℕ, ℤ, pos, List, [], ◌∷◌, length, take, drop}
-use Rattle.std.specs.List.{AllByRecursion, fold, sum_by}
+use Rattle.std.specs.List.{fold, sum_by}
 use Rattle.std.specs.Int.{int_min}
 use Rattle.mp4_frag.specs.declared.run.Run.{Run}
 use Rattle.mp4_frag.specs.declared.rows.Row.{Row}
 use Rattle.mp4_frag.specs.declared.rows.Cursor.{Cursor}
-use Rattle.mp4_frag.specs.Laws.{first_cursor}
-use Rattle.mp4_frag.specs.Ranges.{InRange}
+use Rattle.mp4_frag.specs.Cursors.{first_cursor}
 use Rattle.mp4_frag.specs.Rows.{durations, rows_of, sizes}
-use Rattle.mp4_frag.specs.Rules.{most_samples}
 use Rattle.mp4_pieces.specs.declared.cut.Cut.{Cut}
 use Rattle.mp4_pieces.specs.declared.piece.Piece.{Piece}
 use Rattle.mp4_pieces.specs.Cutting.{cut_by}
 use Rattle.mp4_pieces.specs.Fitting.{fits}
-
--- a run of a moof that was read, of which these are the bytes
-pub record IsRunOf (held : List ℕ) (run : Run) : Type 0 where
-  pub few : run.count ≤ most_samples
-  pub end : run.end ≡ run.time + durations (rows_of run held)
-  pub bytes : run.bytes ≡ sizes (rows_of run held)
-  pub range : InRange run
-
--- so are all of these, of which the default size has 32 bits
-abbrev pub AreRunsOf : List ℕ → List Run → Type 0
-AreRunsOf held runs = AllByRecursion (λ run. run.size < 2 ^ 32 → IsRunOf held run) runs
 
 -- the composition times of samples, of which the first has this decode time
 unfoldable pub composition_times : ℕ → List Row → List ℤ

@@ -18,7 +18,8 @@ ghost use Rattle.mp4_pieces.specs.Fits.{HasRoomFor};
 ghost use Rattle.mp4_pieces.specs.Fitting.{fits};
 ghost use Rattle.mp4_pieces.specs.Groups.{AreGroups, groups};
 ghost use Rattle.mp4_pieces.specs.Laws.{IsFollowedBy, IsLeastOf};
-ghost use Rattle.mp4_pieces.specs.Pieces.{AreRunsOf, EndsInRange, IsPieceOf, IsRunOf, composition_times, cut_rows, piece_count, pieces_from, pieces_of, rows_in};
+ghost use Rattle.mp4_pieces.specs.Pieces.{EndsInRange, IsPieceOf, composition_times, cut_rows, piece_count, pieces_from, pieces_of, rows_in};
+ghost use Rattle.mp4_frag.specs.Ranges.{AreRunsOf, IsRunOf};
 ghost use Rattle.mp4_pieces.specs.Rooms.{room_faults};
 
 /// There is just one way to cut samples into pieces, and it is that which is computed.

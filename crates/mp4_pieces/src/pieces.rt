@@ -4,8 +4,10 @@ ghost use Rattle.std.specs.Prelude.{◌≡◌, ◌+◌, ◌^◌, ◌<◌, ◌∷
 ghost use Rattle.std.specs.Iterator.{YieldsFirst, item_count};
 ghost use Rattle.mp4_frag.specs.Rows.{IsCursor};
 ghost use Rattle.mp4_frag.specs.SyncSamples.{is_sync};
-ghost use Rattle.mp4_pieces.specs.Working.Growing.{Grows, HasRoom, grown, has_bytes, opened, pieces_left, takes, with_row};
-ghost use Rattle.mp4_pieces.specs.Pieces.{IsRunOf, cursor_after, pieces_from, pieces_of};
+ghost use Rattle.mp4_pieces.specs.Working.Growing.{Grows, grown, has_bytes, opened, pieces_left, takes, with_row};
+ghost use Rattle.mp4_frag.specs.Cursors.{HasRoom};
+ghost use Rattle.mp4_pieces.specs.Pieces.{cursor_after, pieces_from, pieces_of};
+ghost use Rattle.mp4_frag.specs.Ranges.{IsRunOf};
 
 use crate::cut::Cut;
 use crate::piece::Piece;
@@ -131,7 +133,8 @@ pub struct Pieces<'a> {
 impl<'a> Model for Pieces<'a> {
     ghost use Rattle.std.specs.Prelude.{List, ◌++◌, option_to_list};
     ghost use Rattle.mp4_pieces.specs.declared.piece.Piece.{Piece};
-    ghost use Rattle.mp4_pieces.specs.Working.Growing.{HasRoom, pieces_left};
+    ghost use Rattle.mp4_pieces.specs.Working.Growing.{pieces_left};
+    ghost use Rattle.mp4_frag.specs.Cursors.{HasRoom};
 
     ghost Value = { List Piece };
 
@@ -147,12 +150,7 @@ impl<'a> Pieces<'a> {
         requires run { IsRunOf held.now run.now }
         ensures { result ≡ pieces_of cut.now held.now run.now }
     {
-        let start = Cursor {
-            row: 0,
-            time: run.time,
-            place: run.place,
-        };
-        Pieces::at(run, held, cut, start)
+        Pieces::at(run, held, cut, run.first_cursor())
     }
 
     /// The pieces of a run from a cursor on, as if its rows began there. `held` are the bytes of

@@ -27,7 +27,7 @@ use Rattle.mp4_frag.specs.Runs.{MoofBytes, end_place}
 use Rattle.mp4_frag.proofs.RowLemmas.{length_rows_of}
 use Rattle.mp4_frag.proofs.ListingLemmas.{is_listing}
 use Rattle.mp4_pieces.specs.declared.cut.Cut.{Cut}
-use Rattle.mp4_pieces.specs.Pieces.{IsRunOf}
+use Rattle.mp4_frag.specs.Ranges.{IsRunOf}
 use Rattle.mp4_recut.specs.Parts.{Ascends}
 use Rattle.mp4_recut.specs.Splitting.{runs_parts}
 use Rattle.mp4_recut.proofs.AscendLemmas.{Between, Clear, runs_ascend}

@@ -16,7 +16,8 @@ use Rattle.mp4_pieces.specs.declared.cut.Cut.{Cut}
 use Rattle.mp4_pieces.specs.declared.piece.Piece.{Piece}
 use Rattle.mp4_pieces.specs.Cutting.{join}
 use Rattle.mp4_pieces.specs.Groups.{groups}
-use Rattle.mp4_pieces.specs.Pieces.{IsPieceOf, IsRunOf, pieces_of}
+use Rattle.mp4_pieces.specs.Pieces.{IsPieceOf, pieces_of}
+use Rattle.mp4_frag.specs.Ranges.{IsRunOf}
 use Rattle.mp4_pieces.proofs.GroupLemmas.{groups_are}
 use Rattle.mp4_cut.specs.Mdat as mdats
 use Rattle.mp4_cut.specs.Mdat.{mdat_header}

@@ -37,11 +37,12 @@ use Rattle.mp4_frag.specs.RunLists.{taken_runs}
 use Rattle.mp4_frag.specs.Places.{listed_run}
 use Rattle.mp4_frag.specs.Runs.{MoofBytes, moof_at}
 use Rattle.mp4_pieces.specs.declared.cut.Cut.{Cut}
-use Rattle.mp4_pieces.specs.Pieces.{AreRunsOf, IsRunOf, piece_count, pieces_of}
+use Rattle.mp4_pieces.specs.Pieces.{piece_count, pieces_of}
+use Rattle.mp4_frag.specs.Ranges.{AreRunsOf, IsRunOf}
 use Rattle.mp4_pieces.specs.Rooms.{numbers, room_fault, sequence_fault}
 use Rattle.mp4_pieces.specs.Rooms as rooms
 use Rattle.mp4_pieces.proofs.RoomLemmas.{past_last}
-use Rattle.mp4_pieces.proofs.RunLemmas.{runs_are}
+use Rattle.mp4_frag.proofs.ReadRunLemmas.{runs_are}
 use Rattle.mp4_pieces.proofs.OrderLemmas.{count_kept}
 use Rattle.mp4_cut.specs.Reads.{FitsTrack}
 use Rattle.mp4_cut.specs.Reads.{IsSoundRun}

@@ -1,5 +1,5 @@
 -- The moofs of a recut text end where it is told.
-use Rattle.std.proofs.Common.{◌≡◌, ◌∙◌, ℕ, zero, suc, ◌+◌, ◌-◌, Bool, true, false, cond, List, [], ◌∷◌, ◌++◌, length, length-append, take, drop, map, refl, sym, ap, arith, append-nil, subst}
+use Rattle.std.proofs.Common.{◌≡◌, ◌∙◌, ℕ, zero, suc, ◌+◌, ◌-◌, Bool, true, false, cond, List, [], ◌∷◌, ◌++◌, length, length-append, take, drop, map, refl, sym, ap, arith, append-nil}
 use Rattle.std.specs.List.{AllByRecursion}
 use Rattle.mp4_init.specs.declared.table.Track.{Track}
 use Rattle.mp4_frag.specs.declared.run.Run.{Run}
@@ -12,9 +12,9 @@ use Rattle.mp4_cut.specs.Moof.{written_moof}
 use Rattle.mp4_cut.specs.Sidx.{written_index}
 use Rattle.mp4_machine.specs.Readings.{moved, moved_by}
 use Rattle.mp4_machine.specs.declared.mark.Mark.{Mark}
-use Rattle.mp4_grammar.specs.Joined.{Item, Movie, MovieFragment, OneBox, PassedOver, bytes_of, joined}
+use Rattle.mp4_grammar.specs.Joined.{Item, Movie, MovieFragment, PassedOver, joined}
 use Rattle.mp4_recut.specs.Parts.{Part, marks_in, slices}
-use Rattle.mp4_recut.specs.Splitting.{head_of, index_of, next_group, run_parts, runs_parts, timescale_of}
+use Rattle.mp4_recut.specs.Splitting.{head_of, index_of, run_parts, runs_parts, timescale_of}
 use Rattle.mp4_recut.specs.Texts.{media_of}
 use Rattle.mp4_recut.proofs.RoomLemmas.{run_length}
 use Rattle.mp4_recut_laws.specs.MoofEnds.{moof_ends}

@@ -8,7 +8,6 @@ use Rattle.mp4_init.proofs.MoovLemmas.{first_none}
 use Rattle.mp4_frag.specs.declared.run.Run.{Run}
 use Rattle.mp4_frag.specs.Moofs.{moof_runs}
 use Rattle.mp4_frag.specs.Places.{place_fault}
-use Rattle.mp4_frag.specs.RunLists.{taken_runs}
 use Rattle.mp4_frag.specs.Runs.{moof_at}
 use Rattle.mp4_pieces.specs.declared.cut.Cut.{Cut}
 use Rattle.mp4_pieces.specs.declared.piece.Piece.{Piece}
@@ -19,11 +18,11 @@ use Rattle.mp4_machine.specs.Readings.{Reading, Effects, both, moved, whole_in}
 use Rattle.mp4_machine.specs.declared.mark.Mark.{Mark}
 use Rattle.mp4_machine.proofs.BodyLemmas.{nat_lt_false}
 use Rattle.mp4_grammar.specs.Contexts.{Context, context, first_context}
-use Rattle.mp4_grammar.specs.Joined.{AreSound, IsSound, Item, Movie, MovieFragment, OneBox, PassedOver, context_after, context_after_all, bytes_of, fragment_in, fragment_here, joined, item_effects, items_effects, tracks_in}
+use Rattle.mp4_grammar.specs.Joined.{AreSound, IsSound, Item, Movie, MovieFragment, OneBox, PassedOver, context_after, context_after_all, fragment_in, fragment_here, joined, item_effects, items_effects, tracks_in}
 use Rattle.mp4_grammar.specs.Meanings.{Fragment, runs_in}
-use Rattle.mp4_recut.specs.Parts.{Ascends, marks_in, played}
+use Rattle.mp4_recut.specs.Parts.{Ascends, played}
 use Rattle.mp4_recut.specs.Splitting.{copied, is_dropped, parts_of, reading, splitting}
-use Rattle.mp4_recut.specs.Texts.{items_text, media_of}
+use Rattle.mp4_recut.specs.Texts.{media_of}
 use Rattle.mp4_recut.proofs.PartLemmas.{played-slices}
 use Rattle.mp4_recut.proofs.RoomLemmas.{runs_length}
 use Rattle.mp4_recut_laws.specs.MoofEnds.{moof_ends}

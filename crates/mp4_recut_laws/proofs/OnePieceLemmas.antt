@@ -10,7 +10,7 @@ use Rattle.mp4_box.specs.declared.rules.Fault.{Fault}
 use Rattle.mp4_init.specs.declared.table.Track.{Track}
 use Rattle.mp4_frag.specs.declared.run.Run.{Run}
 use Rattle.mp4_frag.specs.declared.rows.Row.{Row}
-use Rattle.mp4_frag.specs.Laws.{first_cursor}
+use Rattle.mp4_frag.specs.Cursors.{first_cursor}
 use Rattle.mp4_frag.specs.Moofs.{moof_runs}
 use Rattle.mp4_frag.specs.Rows.{rows_of, durations, sizes}
 use Rattle.mp4_frag.specs.Places.{place_fault}

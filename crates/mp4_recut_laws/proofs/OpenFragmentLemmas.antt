@@ -22,10 +22,10 @@ use Rattle.mp4_frag.specs.RunLists.{taken_runs}
 use Rattle.mp4_frag.specs.Places.{listed_run}
 use Rattle.mp4_frag.specs.Runs.{MoofBytes, end_place, moof_at}
 use Rattle.mp4_pieces.specs.declared.cut.Cut.{Cut}
-use Rattle.mp4_pieces.specs.Pieces.{AreRunsOf, IsRunOf}
+use Rattle.mp4_frag.specs.Ranges.{AreRunsOf, IsRunOf}
 use Rattle.mp4_pieces.specs.Rooms.{room_fault}
-use Rattle.mp4_pieces.proofs.RunLemmas.{runs_are}
-use Rattle.mp4_pieces.proofs.OrderLemmas.{count_kept, runs_kept}
+use Rattle.mp4_frag.proofs.ReadRunLemmas.{runs_are, runs_kept}
+use Rattle.mp4_pieces.proofs.OrderLemmas.{count_kept}
 use Rattle.mp4_cut.specs.Reads.{FitsTrack}
 use Rattle.mp4_cut.specs.Reads.{IsSoundRun}
 use Rattle.mp4_cut.proofs.GivenLemmas.{all_sound}

@@ -6,7 +6,7 @@ use Rattle.std.proofs.lemmas.List.Concat.{flat_map-append}
 use Rattle.mp4_init.specs.declared.table.Track.{Track}
 use Rattle.mp4_frag.specs.declared.run.Run.{Run}
 use Rattle.mp4_frag.specs.declared.rows.Row.{Row}
-use Rattle.mp4_frag.specs.Laws.{first_cursor}
+use Rattle.mp4_frag.specs.Cursors.{first_cursor}
 use Rattle.mp4_frag.specs.Rows.{rows_of}
 use Rattle.mp4_pieces.specs.declared.cut.Cut.{Cut}
 use Rattle.mp4_pieces.specs.declared.piece.Piece.{Piece}

@@ -7,7 +7,7 @@ use Rattle.mp4_init.specs.declared.table.Track.{Track}
 use Rattle.mp4_frag.specs.declared.run.Run.{Run}
 use Rattle.mp4_frag.specs.Rows.{rows_of}
 use Rattle.mp4_pieces.specs.declared.cut.Cut.{Cut}
-use Rattle.mp4_pieces.specs.Pieces.{IsRunOf}
+use Rattle.mp4_frag.specs.Ranges.{IsRunOf}
 use Rattle.mp4_cut.specs.Reads.{FitsTrack, IsSoundRun}
 use Rattle.mp4_grammar.specs.Contexts.{Context, first_context}
 use Rattle.mp4_grammar.specs.Joined.{AreSound, Item, Movie, MovieFragment, PassedOver, context_after, context_after_all, joined, tracks_in}

@@ -19,8 +19,8 @@ use mp4_ledger::Ledger;
 use mp4_machine::{Block, Stop, is_too_long, at_fault, take_head};
 use std::mem::replace;
 
-/// Takes the header of the box at `at` from the front of a piece, and begins the box where all of it came; at once where the
-/// piece has all of it, and then with what else there is of a box that is held.
+/// Takes the header of the box at `at` from the front of a piece, and begins the box where all of it came; at once where
+/// the piece has all of it, and then with what else there is of a box that is held.
 ///
 /// # Errors
 ///

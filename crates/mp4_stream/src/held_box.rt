@@ -33,13 +33,13 @@ pub(crate) fn held_limit(kind: FourCc) -> Option<u64>
     }
 }
 
-/// Takes the moov or moof at `at`, with whose header the piece begins: lists it where all of it is there, and else holds what
-/// there is of it.
+/// Takes the moov or moof at `at`, with whose header the piece begins: lists it where all of it is there, and else holds
+/// what there is of it.
 ///
 /// # Errors
 ///
-/// `Stream` where it states no size, or a larger one than it may have; `OverLimit` or `Memory` where the claim is refused; and as
-/// [`list_whole`].
+/// `Stream` where it states no size, or a larger one than it may have; `OverLimit` or `Memory` where the claim is
+/// refused; and as [`list_whole`].
 #[inline(always)]
 pub(crate) fn begin_held<W: Sink>(
     at: u64,
@@ -76,8 +76,8 @@ pub(crate) fn begin_held<W: Sink>(
     }
 }
 
-/// Takes the moov or moof at `at`, all of which is in a piece: its first `size` bytes. It needs no room of its own, but is
-/// counted as one that is held, so that what a stream claims doesn't depend on how its reads cut it.
+/// Takes the moov or moof at `at`, all of which is in a piece: its first `size` bytes. It needs no room of its own, but
+/// is counted as one that is held, so that what a stream claims doesn't depend on how its reads cut it.
 ///
 /// # Errors
 ///

@@ -5,17 +5,19 @@
 //! - [`fragments`]: [`samples`], [`check`] and [`split`], which read its fragments by the machine of `mp4_fragment_machine`;
 //! - [`feeder`]: [`Feeder`], which cuts the fragments of a stream as it is pushed in, and [`pushed`]: the loops over it, whose
 //!   pieces are the reads of a whole stream ([`split`] calls it) or those of a list ([`split_pieces`]);
-//! - [`machine`]: what is fed the stream piece by piece to list its boxes, [`state`]: what it takes next, and [`step`]: how;
-//! - [`header`]: how a header is taken and its box begun, [`held_box`]: a moov or moof while it comes, and [`body`]: a body that
-//!   is passed over;
-//! - [`listed_box`]: a moov or moof of which all came, and [`listing`]: the line of a box, and those of a tree of boxes;
+//! - [`machine`]: what is fed the stream piece by piece to list its boxes, [`state`]: what it takes next, and
+//!   [`step`]: how;
+//! - [`header`]: how a header is taken and its box begun, [`held_box`]: a moov or moof while it comes, and [`body`]: a
+//!   body that is passed over;
+//! - [`listed_box`]: a moov or moof of which all came, and [`listing`]: the line of a box, and those of a tree of
+//!   boxes;
 //! - [`laws`]: what the definitions of `specs/` imply.
 //!
 //! The definitions: `specs/Boxes.antt` (what the bytes of a stream are read as) with `specs/Holding.antt` (the boxes that
 //! are held) and `specs/Listing.antt` (the lines), `specs/Joined.antt` (whole boxes one after the other, of which the
 //! laws speak) with `specs/Rests.antt` (what is left behind them) and `specs/HeldBoxes.antt` (how large those are that are
-//! held, and what a run claims by them), `specs/States.antt` (where the machine is in a stream, and what that means) with
-//! `specs/Steps.antt` (what a step of it brings),
+//! held, and what a run claims by them), `specs/States.antt` (where the machine is in a stream, and what that means)
+//! with `specs/Steps.antt` (what a step of it brings),
 //! `specs/Fragments.antt` (what a run brings that reads fragments), `specs/Feeders.antt` (what a Feeder is behind the bytes
 //! that it was fed, and what a call of it brings) with `specs/Pushes.antt` (what pieces bring, one after the other). What a
 //! run answers, writes and claims is said by `mp4_machine`, in `specs/StreamRuns.antt`.

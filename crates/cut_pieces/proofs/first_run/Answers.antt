@@ -2,8 +2,8 @@ use Rattle.std.proofs.Common.{◌≤◌, ◌^◌, List, ℕ, ap, arith, subst, s
 use Rattle.std.specs.List.{flat_map}
 use Rattle.mp4_box.specs.Headers.{IsBytes, IsWhole}
 use Rattle.mp4_frag.specs.Runs.{TrackFragment, runs_of}
-use Rattle.mp4_pieces.specs.Pieces.{AreRunsOf}
-use Rattle.mp4_pieces.proofs.RunLemmas.{of_both, runs_are}
+use Rattle.mp4_frag.specs.Ranges.{AreRunsOf}
+use Rattle.mp4_frag.proofs.ReadRunLemmas.{of_both, runs_are}
 use Rattle.cut_pieces.proofs.first_run.Goals as goal
 
 pub first_of-requires : goal.first_of-requires

@@ -49,16 +49,7 @@ unfoldable pub pieces_left : Cut → Cursor → List Row → List Piece
 pieces_left cut c [] = []
 pieces_left cut c (row ∷ rows) = grown cut (opened c row) rows
 
--- ---- the numbers of what is left fit their types
-
--- from a cursor on
-pub record HasRoom (c : Cursor) (rows : List Row) : Type 0 where
-  pub row : c.row + length rows < 2 ^ 32
-  pub time : c.time + durations rows < 2 ^ 64
-  pub low : pos 0 ≤ℤ (c.place +ℤ pos (2 ^ 31))
-  pub high : (c.place +ℤ pos (sizes rows)) <ℤ pos (2 ^ 63)
-
--- from a piece on, with what it has so far
+-- the numbers of these rows fit their types, from a piece on, with what it has so far
 pub record Grows (p : Piece) (rows : List Row) : Type 0 where
   pub row : p.first + p.count + length rows < 2 ^ 32
   pub time : p.time + p.duration + durations rows < 2 ^ 64

@@ -9,7 +9,7 @@ settle-requires-clause-numbers g c = subst (λ (ps : List Part). c.args.fragment
 
 pub returns-in-Ok-clause-told : goal.returns-in-Ok-clause-told
 returns-in-Ok-clause-told g c = λ at.
-    let plays = c.in-Ok.ensures.ok at in
+    let plays = c.in-Ok.ensures.settles.plays at in
     let n = c.args.fragments.now + 1 in
     let first = c.begin-media.result in
     let parts = runs_parts c.args.cut.now c.args.moof.now.bytes c.args.tracks.now n (taken_runs c.args.moof.now c.args.tracks.now) in (

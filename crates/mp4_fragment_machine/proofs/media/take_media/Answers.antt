@@ -23,7 +23,7 @@ returns-in-Ok-clause-goes g c = λ meaning next own account same.
     let came : most ≤ length piece = search rules in
     let len : length (take most piece) ≡ most = length-take-le most piece came in
     let there : (body.next - body.left) + length (take most piece) ≡ body.next - (body.left - most) = omega (arith, len, here, c.requires.body) in
-    let ok = rw (c.again-moof.ensures, c.bytes.ensures.bytes, c.offset.ensures.at, c.split_at.ensures.front) at c.in-Ok.ensures.ok in
+    let ok = (rw (c.again-moof.ensures, c.bytes.ensures.bytes, c.offset.ensures.at, c.split_at.ensures.front) at c.in-Ok.ensures.pays).plays in
     let plays = subst (λ k. Plays a b c.args.out.now c.pay_all.new.out m n p (take most piece) (spot_of cut h tracks k (n + 1) media)) there ok in
     GoesOn-recut a b c.args.out.now c.pay_all.new.out c.args.tally.now n meaning body.at body.kind next own account body.left most most p
     (spot_of cut h tracks (body.next - (body.left - most)) (n + 1) media) piece (omega arith) here came (omega (arith, same, c.requires.body))
@@ -38,7 +38,7 @@ returns-in-Err-clause-lost g c = λ meaning next own account later low.
     let most = c.min-most.result in
     let piece = c.args.piece.now in
     let p = spot_of cut h tracks (body.next - body.left) (c.args.tally.now.fragments + 1) c.args.media in
-    let err = rw (c.again-moof.ensures, c.bytes.ensures.bytes, c.offset.ensures.at) at c.in-Err.ensures.err in
+    let err = (rw (c.again-moof.ensures, c.bytes.ensures.bytes, c.offset.ensures.at) at c.in-Err.ensures.pays).lost in
     Loses-recut (g.W.Sink.contents c.args.w.now) (g.W.Sink.contents c.pay_all.new.w) c.args.out.now c.pay_all.new.out c.args.tally.now c.pay_all.new.fragments meaning body.at body.kind next own account body.left most p piece later (search rules) low
     (rw (← c.split_at.ensures.front) err)
 
@@ -55,13 +55,13 @@ returns-in-Ok-clause-rises g c = λ r.
     let came : most ≤ length piece = search rules in
     let len : length (take most piece) ≡ most = length-take-le most piece came in
     let there : (body.next - body.left) + length (take most piece) ≡ body.next - (body.left - most) = omega (arith, len, here, c.requires.body) in
-    let rises = rw (c.again-moof.ensures, c.bytes.ensures.bytes, c.offset.ensures.at, c.split_at.ensures.front) at c.in-Ok.ensures.rises in
+    let rises = (rw (c.again-moof.ensures, c.bytes.ensures.bytes, c.offset.ensures.at, c.split_at.ensures.front) at c.in-Ok.ensures.pays).rises in
     subst (λ k. Rises body.next (spot_of cut h tracks k (n + 1) c.in-Ok.media)) there (rises body.next (omega (arith, here, len, c.requires.body)) r)
 
 pub returns-in-Ok-clause-media : goal.returns-in-Ok-clause-media
 returns-in-Ok-clause-media g c =
     let is = c.requires.media in
-    let at = rw (c.again-moof.ensures, c.bytes.ensures.bytes, c.offset.ensures.at) at c.in-Ok.ensures.at in
-    let settled = rw (c.again-moof.ensures, c.bytes.ensures.bytes, c.offset.ensures.at) at c.in-Ok.ensures.settled in
-    let numbers = rw (c.again-moof.ensures, c.bytes.ensures.bytes, c.offset.ensures.at) at c.in-Ok.ensures.numbers in
+    let at = (rw (c.again-moof.ensures, c.bytes.ensures.bytes, c.offset.ensures.at) at c.in-Ok.ensures.pays).next.at in
+    let settled = (rw (c.again-moof.ensures, c.bytes.ensures.bytes, c.offset.ensures.at) at c.in-Ok.ensures.pays).next.settled in
+    let numbers = (rw (c.again-moof.ensures, c.bytes.ensures.bytes, c.offset.ensures.at) at c.in-Ok.ensures.pays).next.numbers in
     record { waiting = is.waiting; are_cut = is.are_cut; at = at; settled = settled; numbers = omega (arith, numbers, is.numbers) }

@@ -24,7 +24,7 @@ returns-in-Ok-clause-goes g c = λ meaning own account.
     let came : most ≤ length piece = search rules in
     let len : length (take most piece) ≡ most = length-take-le most piece came in
     let there : (longest - body.left) + length (take most piece) ≡ longest - (body.left - most) = omega (arith, len, here, c.requires.body) in
-    let ok = rw (c.again-moof.ensures, c.bytes.ensures.bytes, c.offset.ensures.at, c.split_at.ensures.front) at c.in-Ok.ensures.ok in
+    let ok = (rw (c.again-moof.ensures, c.bytes.ensures.bytes, c.offset.ensures.at, c.split_at.ensures.front) at c.in-Ok.ensures.pays).plays in
     let plays = subst (λ k. Plays a b c.args.out.now c.pay_all.new.out m n p (take most piece) (spot_of cut h tracks k (n + 1) media)) there ok in
     rw c.saturating_sub.ensures
     (GoesOn-open_recut a b c.args.out.now c.pay_all.new.out c.args.tally.now n meaning body.at body.kind own account body.needed body.left most most p
@@ -40,14 +40,14 @@ returns-in-Err-clause-lost g c = λ meaning own account later low.
     let most = c.min-most.result in
     let piece = c.args.piece.now in
     let p = spot_of cut h tracks (longest - body.left) (c.args.tally.now.fragments + 1) c.args.media in
-    let err = rw (c.again-moof.ensures, c.bytes.ensures.bytes, c.offset.ensures.at) at c.in-Err.ensures.err in
+    let err = (rw (c.again-moof.ensures, c.bytes.ensures.bytes, c.offset.ensures.at) at c.in-Err.ensures.pays).lost in
     Loses-open_recut (g.W.Sink.contents c.args.w.now) (g.W.Sink.contents c.pay_all.new.w) c.args.out.now c.pay_all.new.out c.args.tally.now c.pay_all.new.fragments meaning body.at body.kind own account body.needed body.left most p piece later (search rules) low
     (rw (← c.split_at.ensures.front) err)
 
 pub returns-in-Ok-clause-media : goal.returns-in-Ok-clause-media
 returns-in-Ok-clause-media g c =
     let is = c.requires.media in
-    let at = rw (c.again-moof.ensures, c.bytes.ensures.bytes, c.offset.ensures.at) at c.in-Ok.ensures.at in
-    let settled = rw (c.again-moof.ensures, c.bytes.ensures.bytes, c.offset.ensures.at) at c.in-Ok.ensures.settled in
-    let numbers = rw (c.again-moof.ensures, c.bytes.ensures.bytes, c.offset.ensures.at) at c.in-Ok.ensures.numbers in
+    let at = (rw (c.again-moof.ensures, c.bytes.ensures.bytes, c.offset.ensures.at) at c.in-Ok.ensures.pays).next.at in
+    let settled = (rw (c.again-moof.ensures, c.bytes.ensures.bytes, c.offset.ensures.at) at c.in-Ok.ensures.pays).next.settled in
+    let numbers = (rw (c.again-moof.ensures, c.bytes.ensures.bytes, c.offset.ensures.at) at c.in-Ok.ensures.pays).next.numbers in
     record { waiting = is.waiting; are_cut = is.are_cut; at = at; settled = settled; numbers = omega (arith, numbers, is.numbers) }

@@ -14,7 +14,7 @@ use Rattle.mp4_fragment_machine.specs.States.{moof_in}
 use Rattle.mp4_fragment_machine.proofs.RecutLemmas.{GoesOn-begun, Loses-begun, Lost-first, Plays-first}
 use Rattle.mp4_frag.specs.Moofs.{moof_runs}
 use Rattle.mp4_frag.specs.Places.{place_fault}
-use Rattle.mp4_pieces.specs.Pieces.{IsRunOf}
+use Rattle.mp4_frag.specs.Ranges.{IsRunOf}
 use Rattle.mp4_recut.specs.Parts.{Ascends}
 use Rattle.mp4_recut.proofs.FragmentLemmas.{spans_ascend}
 use Rattle.mp4_recut.proofs.RiseLemmas.{rises-all}
@@ -37,7 +37,7 @@ returns-in-Ok-clause-goes g c = λ x account len is.
     let b = g.W.Sink.contents c.settle.new.w in
     let q = spot_of cut (moof_in w) tracks (w.moof.at + length w.moof.bytes + h.header_len) (n + 1) c.in-Ok.media in
     let begun = rw (c.again-moof.ensures, c.bytes.ensures.bytes, c.offset.ensures.at) at c.begin-media.ensures in
-    let plays = rw (c.again-moof.ensures, c.bytes.ensures.bytes, c.offset.ensures.at) at c.in-Ok.ensures.ok in
+    let plays = (rw (c.again-moof.ensures, c.bytes.ensures.bytes, c.offset.ensures.at) at c.in-Ok.ensures.settles).plays in
     let m = c.args.measure in
     let counted : with_samples f tally n ≡ record { fragments = n; samples = tally.samples + c.from.result; media_bytes = tally.media_bytes + m.bytes; walked = tally.walked } =
     ap (λ k. record { fragments = n; samples = tally.samples + k; media_bytes = (with_samples f tally n).media_bytes; walked = tally.walked }) (sym (c.from.ensures ∙ c.requires.samples))
@@ -62,7 +62,7 @@ returns-in-Err-clause-lost g c = λ x account own l len is low.
     let a = g.W.Sink.contents c.args.w.now in
     let b = g.W.Sink.contents c.settle.new.w in
     let begun = rw (c.again-moof.ensures, c.bytes.ensures.bytes, c.offset.ensures.at) at c.begin-media.ensures in
-    let lost = rw (c.again-moof.ensures, c.bytes.ensures.bytes, c.offset.ensures.at) at c.in-Err.ensures.err in
+    let lost = (rw (c.again-moof.ensures, c.bytes.ensures.bytes, c.offset.ensures.at) at c.in-Err.ensures.settles).lost in
     let m = c.args.measure in
     let counted : with_samples f tally n ≡ record { fragments = n; samples = tally.samples + c.from.result; media_bytes = tally.media_bytes + m.bytes; walked = tally.walked } =
     ap (λ k. record { fragments = n; samples = tally.samples + k; media_bytes = (with_samples f tally n).media_bytes; walked = tally.walked }) (sym (c.from.ensures ∙ c.requires.samples))
@@ -80,7 +80,7 @@ returns-in-Ok-clause-numbers g c =
     let number = c.args.tally.now.fragments + 1 in
     let h = moof_in w in
     let begun = rw (c.again-moof.ensures, c.bytes.ensures.bytes, c.offset.ensures.at) at c.begin-media.ensures in
-    let numbers = rw (c.again-moof.ensures, c.bytes.ensures.bytes, c.offset.ensures.at) at c.in-Ok.ensures.numbers in
+    let numbers = (rw (c.again-moof.ensures, c.bytes.ensures.bytes, c.offset.ensures.at) at c.in-Ok.ensures.settles).next.numbers in
     omega (arith, numbers, ap length (begun.all number), runs_length cut h.bytes tracks number (taken_runs h tracks))
 
 pub returns-in-Ok-clause-rises : goal.returns-in-Ok-clause-rises
@@ -94,7 +94,7 @@ returns-in-Ok-clause-rises g c = λ end ends.
     let first = c.begin-media.result in
     let behind = w.moof.at + length w.moof.bytes in
     let begun = rw (c.again-moof.ensures, c.bytes.ensures.bytes, c.offset.ensures.at) at c.begin-media.ensures in
-    let settle = rw (c.again-moof.ensures, c.bytes.ensures.bytes, c.offset.ensures.at) at c.in-Ok.ensures.rises in
+    let settle = (rw (c.again-moof.ensures, c.bytes.ensures.bytes, c.offset.ensures.at) at c.in-Ok.ensures.settles).rises in
     let good : place_fault f.payload (moof_runs f.moof f.tracks) ≡ None = none-first (place_fault f.payload (moof_runs f.moof f.tracks)) _ c.requires.good in
     let up = spans_ascend cut f w.runs c.requires.waiting.list (all_each (IsRunOf f.moof.bytes) (taken_runs (moof_in w) tracks) (all-runs cut w.moof.bytes (taken_runs (moof_in w) tracks) c.requires.cut)) good end (room-in behind h.header_len h.size end c.requires.room ends) ends in
     settle (behind + h.header_len) end (rises-all (behind + h.header_len) end first.gap.place first.gap.left (parts_left cut (moof_in w) tracks number first.later) begun.left
@@ -104,7 +104,7 @@ pub returns-in-Ok-clause-media : goal.returns-in-Ok-clause-media
 returns-in-Ok-clause-media g c =
     let number = c.args.tally.now.fragments + 1 in
     let begun = rw (c.again-moof.ensures, c.bytes.ensures.bytes, c.offset.ensures.at) at c.begin-media.ensures in
-    let at = rw (c.again-moof.ensures, c.bytes.ensures.bytes, c.offset.ensures.at) at c.in-Ok.ensures.at in
-    let settled = rw (c.again-moof.ensures, c.bytes.ensures.bytes, c.offset.ensures.at) at c.in-Ok.ensures.settled in
-    let numbers = rw (c.again-moof.ensures, c.bytes.ensures.bytes, c.offset.ensures.at) at c.in-Ok.ensures.numbers in
+    let at = (rw (c.again-moof.ensures, c.bytes.ensures.bytes, c.offset.ensures.at) at c.in-Ok.ensures.settles).next.at in
+    let settled = (rw (c.again-moof.ensures, c.bytes.ensures.bytes, c.offset.ensures.at) at c.in-Ok.ensures.settles).next.settled in
+    let numbers = (rw (c.again-moof.ensures, c.bytes.ensures.bytes, c.offset.ensures.at) at c.in-Ok.ensures.settles).next.numbers in
     record { waiting = c.requires.waiting; are_cut = c.requires.cut; at = at; settled = settled; numbers = omega (arith, numbers, ap length (begun.all number), c.requires.numbers) }

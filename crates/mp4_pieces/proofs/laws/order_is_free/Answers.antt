@@ -1,4 +1,5 @@
-use Rattle.mp4_pieces.proofs.OrderLemmas.{count_kept, room_kept, runs_kept}
+use Rattle.mp4_pieces.proofs.OrderLemmas.{count_kept, room_kept}
+use Rattle.mp4_frag.proofs.ReadRunLemmas.{runs_kept}
 use Rattle.mp4_pieces.proofs.laws.order_is_free.Goals as goal
 
 pub returns-clause-runs : goal.returns-clause-runs

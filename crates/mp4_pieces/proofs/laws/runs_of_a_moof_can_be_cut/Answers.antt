@@ -1,5 +1,5 @@
 use Rattle.std.proofs.Common.{arith}
-use Rattle.mp4_pieces.proofs.RunLemmas.{runs_are}
+use Rattle.mp4_frag.proofs.ReadRunLemmas.{runs_are}
 use Rattle.mp4_pieces.proofs.laws.runs_of_a_moof_can_be_cut.Goals as goal
 
 pub returns : goal.returns

@@ -1,5 +1,5 @@
 use Rattle.std.proofs.Common.{arith, ◌≡◌, ◌∙◌, ◌+◌, ◌++◌, ◌-◌, ◌≤◌, [], ap, append_assoc, drop, length, refl, subst, sym, take, take-append-drop}
-use Rattle.std.proofs.Math.Seq.{take-add}
+use Rattle.std.proofs.Math.Seq.{take-add, take-length}
 use Rattle.mp4_recut.specs.Media.{Lost, Plays, Rises, playing, spot_of}
 use Rattle.mp4_recut.proofs.MediaLemmas.{Plays-fails, Plays-more, Plays-none}
 use Rattle.mp4_recut.proofs.media.pay_all.Goals as goal
@@ -14,12 +14,12 @@ loop-count-init g c =
     let a = g.W.Sink.contents c.args.w.now in
     record {
       within = omega arith;
-      plays = subst (λ k. Plays a a c.args.out.now c.args.out.now n n (spot_of cut h tracks c.args.at (n + 1) c.args.from) [] (spot_of cut h tracks k (n + 1) c.args.from)) here (Plays-none a c.args.out.now n (spot_of cut h tracks c.args.at (n + 1) c.args.from));
-      settled = c.requires.settled;
-      at = c.requires.at;
-      numbers = refl;
-      rises = λ end room r. subst (λ k. Rises end (spot_of cut h tracks k (n + 1) c.args.from)) here r;
-      kept = refl;
+      paid = record {
+        plays = subst (λ k. Plays a a c.args.out.now c.args.out.now n n (spot_of cut h tracks c.args.at (n + 1) c.args.from) [] (spot_of cut h tracks k (n + 1) c.args.from)) here (Plays-none a c.args.out.now n (spot_of cut h tracks c.args.at (n + 1) c.args.from));
+        rises = λ end room r. subst (λ k. Rises end (spot_of cut h tracks k (n + 1) c.args.from)) here r;
+        next = record { settled = c.requires.settled; at = c.requires.at; numbers = refl };
+        unfailed = refl;
+      };
     }
 
 pub loop-count-preserved : goal.loop-count-preserved
@@ -28,34 +28,33 @@ loop-count-preserved g c =
     let h = c.args.moof.now in
     let tracks = c.args.tracks.now in
     let a = g.W.Sink.contents c.args.w.now in
-    let b = g.W.Sink.contents c.loop-count.w in
     let d = g.W.Sink.contents c.pay.new.w in
     let m = c.args.fragments.now in
-    let n = c.loop-count.fragments in
     let k = c.pay.new.fragments in
     let piece = c.args.piece.now in
     let i = c.loop-count.count in
     let taken = c.in-Ok.taken in
     let first = spot_of cut h tracks c.args.at (m + 1) c.args.from in
-    let back = c.split_at.ensures.back in
     let there : c.args.at + i + taken.count ≡ c.args.at + (i + taken.count) = omega arith in
-    let few : taken.count ≤ length piece - i = omega (arith, c.in-Ok.ensures.taken, c.split_at.ensures.back_len) in
-    let ok = rw back at c.in-Ok.ensures.ok in
-    let all = Plays-more (take i piece) (take taken.count (drop i piece)) c.loop-count.invariant.plays ok in
+    let before = c.loop-count.invariant.paid in
+    let pays = rw c.split_at.ensures.back at c.in-Ok.ensures.pays in
+    let paid = pays.2 in
+    let few : taken.count ≤ length piece - i = omega (arith, c.in-Ok.ensures.pays.1, c.split_at.ensures.back_len) in
+    let all = Plays-more (take i piece) (take taken.count (drop i piece)) before.plays paid.plays in
     record {
       within = omega (arith, few, c.loop-count.invariant.within);
-      plays = subst (λ l. Plays a d c.args.out.now c.pay.new.out m k first l (spot_of cut h tracks (c.args.at + (i + taken.count)) (k + 1) taken.media)) (sym (take-add i taken.count piece))
-          (subst (λ z. Plays a d c.args.out.now c.pay.new.out m k first (take i piece ++ take taken.count (drop i piece)) (spot_of cut h tracks z (k + 1) taken.media)) there all);
-      settled = c.in-Ok.ensures.settled;
-      at = c.in-Ok.ensures.at;
-      numbers = c.in-Ok.ensures.numbers ∙ c.loop-count.invariant.numbers;
-      rises = λ end room r. subst (λ z. Rises end (spot_of cut h tracks z (k + 1) taken.media)) there
-          (c.in-Ok.ensures.rises end (omega (arith, room, c.split_at.ensures.back_len, c.loop-count.invariant.within)) (c.loop-count.invariant.rises end room r));
-      kept = c.in-Ok.ensures.kept ∙ c.loop-count.invariant.kept;
+      paid = record {
+        plays = subst (λ l. Plays a d c.args.out.now c.pay.new.out m k first l (spot_of cut h tracks (c.args.at + (i + taken.count)) (k + 1) taken.media)) (sym (take-add i taken.count piece))
+            (subst (λ z. Plays a d c.args.out.now c.pay.new.out m k first (take i piece ++ take taken.count (drop i piece)) (spot_of cut h tracks z (k + 1) taken.media)) there all);
+        rises = λ end room r. subst (λ z. Rises end (spot_of cut h tracks z (k + 1) taken.media)) there
+            (paid.rises end (omega (arith, room)) (before.rises end (omega (arith, room)) r));
+        next = record { settled = paid.next.settled; at = paid.next.at; numbers = paid.next.numbers ∙ before.next.numbers };
+        unfailed = paid.unfailed ∙ before.unfailed;
+      };
     }
 
-pub returns-in-Err-clause-err : goal.returns-in-Err-clause-err
-returns-in-Err-clause-err g c = λ later.
+pub returns-in-Err-clause-pays : goal.returns-in-Err-clause-pays
+returns-in-Err-clause-pays g c =
     let cut = c.args.cut.now in
     let h = c.args.moof.now in
     let tracks = c.args.tracks.now in
@@ -69,8 +68,16 @@ returns-in-Err-clause-err g c = λ later.
     let i = c.loop-count.count in
     let first = spot_of cut h tracks c.args.at (m + 1) c.args.from in
     let media = c.loop-count.media in
-    let back = c.split_at.ensures.back in
-    let err = rw back at c.in-Err.ensures.err in
-    let same : take i piece ++ (drop i piece ++ later) ≡ piece ++ later = sym (append_assoc (take i piece) (drop i piece) later) ∙ ap (λ l. l ++ later) (take-append-drop i piece) in
-    subst (λ l. Lost a d c.args.out.now c.pay.new.out m k (playing first l)) same
-    (Plays-fails a b d c.args.out.now c.loop-count.out c.pay.new.out m n k first (spot_of cut h tracks (c.args.at + i) (n + 1) media) (take i piece) (drop i piece ++ later) c.loop-count.invariant.plays (err later))
+    let unpaid = rw c.split_at.ensures.back at c.in-Err.ensures.pays in
+    record {
+      lost = λ later.
+          let same : take i piece ++ (drop i piece ++ later) ≡ piece ++ later = sym (append_assoc (take i piece) (drop i piece) later) ∙ ap (λ l. l ++ later) (take-append-drop i piece) in
+          subst (λ l. Lost a d c.args.out.now c.pay.new.out m k (playing first l)) same
+          (Plays-fails a b d c.args.out.now c.loop-count.out c.pay.new.out m n k first (spot_of cut h tracks (c.args.at + i) (n + 1) media) (take i piece) (drop i piece ++ later) c.loop-count.invariant.paid.plays (unpaid.lost later));
+      failed = unpaid.failed;
+    }
+
+pub returns-clause-pays : goal.returns-clause-pays
+returns-clause-pays g c =
+    let all : c.loop-count.count ≡ length c.args.piece.now = omega (arith, c.loop-count.invariant.within, c.loop-count-test.false) in
+    rw (all, take-length c.args.piece.now) at c.loop-count.invariant.paid

@@ -3,8 +3,8 @@ use Rattle.std.specs.List.{flat_map}
 use Rattle.mp4_box.specs.Headers.{IsBytes, IsWhole}
 use Rattle.mp4_frag.specs.declared.run.Run.{Run}
 use Rattle.mp4_frag.specs.Runs.{TrackFragment, runs_of}
-use Rattle.mp4_pieces.specs.Pieces.{AreRunsOf}
-use Rattle.mp4_pieces.proofs.RunLemmas.{of_both, runs_are}
+use Rattle.mp4_frag.specs.Ranges.{AreRunsOf}
+use Rattle.mp4_frag.proofs.ReadRunLemmas.{of_both, runs_are}
 use Rattle.library_tests.proofs.moofs.pieces.first_run.Goals as goal
 
 pub first_of-requires : goal.first_of-requires

@@ -6,8 +6,9 @@ use Rattle.mp4_box.specs.Trees.{first_of}
 use Rattle.mp4_frag.specs.declared.run.Run.{Run}
 use Rattle.mp4_frag.specs.Runs.{TrackFragment, runs_of}
 use Rattle.mp4_pieces.specs.Fits.{FitsIndex}
-use Rattle.mp4_pieces.specs.Pieces.{AreRunsOf, IsRunOf, pieces_of}
-use Rattle.mp4_pieces.proofs.RunLemmas.{runs_are}
+use Rattle.mp4_pieces.specs.Pieces.{pieces_of}
+use Rattle.mp4_frag.specs.Ranges.{AreRunsOf, IsRunOf}
+use Rattle.mp4_frag.proofs.ReadRunLemmas.{runs_are}
 use Rattle.library_tests.proofs.moofs.written.first_run.Goals as goal
 
 -- what holds of all holds of the first of them

@@ -1,13 +1,16 @@
 -- The runs of a moof that was read are such that they can be cut.
 use Rattle.std.proofs.Common.{◌≡◌, ℕ, ℤ, pos, ◌<◌, ◌≤◌, ◌+◌, ◌^◌, List, [], ◌∷◌, ◌++◌, length, map, refl, ap, subst, arith}
 use Rattle.std.specs.List.{AllByRecursion, flat_map}
+use Rattle.std.specs.List.Sorted.{IsPermutation}
 use Rattle.std.proofs.lemmas.List.{length-append}
+use Rattle.std.proofs.lemmas.List.Elements.{All-from_recursion, recursion_from_All}
+use Rattle.std.proofs.lemmas.List.Sorted.{All-permutation}
 use Rattle.mp4_box.specs.Headers.{IsBytes, IsWhole}
 use Rattle.mp4_box.specs.Paths.{of_kind}
 use Rattle.mp4_box.specs.Trees.{Box, children}
 use Rattle.mp4_init.specs.declared.table.Track.{Track}
 use Rattle.mp4_frag.specs.declared.run.Run.{Run}
-use Rattle.mp4_frag.specs.Ranges.{InRange}
+use Rattle.mp4_frag.specs.Ranges.{AreRunsOf, InRange, IsRunOf}
 use Rattle.mp4_frag.specs.After.{StandsBetween}
 use Rattle.mp4_frag.specs.Kinds.{traf}
 use Rattle.mp4_frag.specs.Moofs.{IsRead, moof_of, moof_runs, moof_samples}
@@ -18,7 +21,6 @@ use Rattle.mp4_frag.proofs.AfterLemmas.{after_run}
 use Rattle.mp4_frag.proofs.MoofLemmas.{read_count}
 use Rattle.mp4_frag.proofs.RowLemmas.{length_rows_of}
 use Rattle.mp4_frag.proofs.SoundLemmas.{few_timed, rows_are_samples}
-use Rattle.mp4_pieces.specs.Pieces.{AreRunsOf, IsRunOf}
 
 -- ---- what holds of all
 
@@ -95,3 +97,9 @@ ranged_run h tracks read before after run s range =
 pub runs_are : (h : MoofBytes) (tracks : List Track) → h.offset ≤ 2 ^ 62 → IsWhole h.bytes → IsBytes h.bytes → IsRead h tracks → AreRunsOf h.bytes (moof_runs h tracks)
 runs_are h tracks near whole fits read =
     each (λ (run : Run). run.size < 2 ^ 32 → IsRunOf h.bytes run) (moof_runs h tracks) (λ before after run s small. ranged_run h tracks read before after run s ((after_run h tracks near whole fits read before after run s).here small))
+
+-- and in any order
+pub runs_kept : (held : List ℕ) (xs ys : List Run) → IsPermutation xs ys → AreRunsOf held xs → AreRunsOf held ys
+runs_kept held xs ys same all =
+    let IsRun : Run → Type 0 = λ run. run.size < 2 ^ 32 → IsRunOf held run in
+    recursion_from_All IsRun ys (All-permutation IsRun xs ys same (All-from_recursion IsRun xs all))
