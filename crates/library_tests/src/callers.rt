@@ -39,8 +39,8 @@ use mp4_ends::{Failed, Sink};
 use mp4_frag::{Cursor, Moof, Run, RunList, Steps, Traf};
 use mp4_init::{InitStop, TrackList, tracks};
 use mp4_ledger::Ledger;
-use mp4_pieces::{Cut, Piece, Pieces};
 use mp4_machine::Block;
+use mp4_pieces::{Cut, Piece, Pieces};
 use mp4_recut::media::{Media, begin, settle};
 use mp4_run_order::{ListedRun, Payload, PlaceSearch, TrackSearch};
 

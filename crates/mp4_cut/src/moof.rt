@@ -19,8 +19,8 @@ use crate::write_fault::WriteFault;
 use mp4_box::FourCc;
 use mp4_ends::{Failed, Sink};
 use mp4_frag::Run;
-use mp4_pieces::Piece;
 use mp4_machine::Block;
+use mp4_pieces::Piece;
 
 const MOOF: FourCc = FourCc(*b"moof");
 

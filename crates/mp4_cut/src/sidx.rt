@@ -20,8 +20,8 @@ use byteorder::{BigEndian, ByteOrder};
 use mp4_box::FourCc;
 use mp4_ends::{Failed, Sink};
 use mp4_frag::Run;
-use mp4_pieces::{Cut, Piece, Pieces};
 use mp4_machine::Block;
+use mp4_pieces::{Cut, Piece, Pieces};
 
 const SIDX: FourCc = FourCc(*b"sidx");
 

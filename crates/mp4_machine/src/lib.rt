@@ -35,7 +35,7 @@ pub use block::{BLOCK_BYTES, Block, LINE_BYTES, Line};
 pub use body::{AnyBody, Body, OpenBody, body_of, truncated};
 pub use header_bytes::{HeadTaken, take_head};
 pub use held::Held;
-pub use limits::{LONGEST, is_too_long, at_fault};
+pub use limits::{LONGEST, at_fault, is_too_long};
 pub use machine::{Machine, feed};
 pub use mark::Mark;
 pub use run::read_stream;

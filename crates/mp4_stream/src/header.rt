@@ -16,7 +16,7 @@ use crate::state::{State, Taken};
 use mp4_box::{Header, HeaderReader, Rule, Step, header_of};
 use mp4_ends::{Failed, Sink};
 use mp4_ledger::Ledger;
-use mp4_machine::{Block, Stop, is_too_long, at_fault, take_head};
+use mp4_machine::{Block, Stop, at_fault, is_too_long, take_head};
 use std::mem::replace;
 
 /// Takes the header of the box at `at` from the front of a piece, and begins the box where all of it came; at once where
