@@ -205,7 +205,7 @@ front-whole at [] = subst (IsItemAt top_box (λ n. n) at []) (sym (front-none at
 front-whole at (a ∷ b) = subst (IsItemAt top_box (λ n. n) at (a ∷ b)) (sym (front-some at (a ∷ b) (omega arith))) (front_by-whole at (a ∷ b) (header_at (a ∷ b)) refl)
 
 -- the listing before a box that asks is that of the bytes before it
-pub listing-before : (b : List ℕ) (before : List Request) (a : Request) (behind : List Request) → (reading 0 b).effects.requests ≡ before ++ a ∷ behind → take a.none_before (listing b) ≡ listing (take a.at b)
+pub listing-before : (b : List ℕ) (before : List Request) (a : Request) (behind : List Request) → (reading 0 b).effects.requests ≡ before ++ a ∷ behind → take a.text_before (listing b) ≡ listing (take a.at b)
 listing-before b before a behind e =
     let none : a.at - 0 ≡ a.at = omega arith in
     (asks_stand top_box (λ n. n) front-items front-first front-whole 0 b before a behind e).text ∙ ap (λ n. listing (take n b)) none
