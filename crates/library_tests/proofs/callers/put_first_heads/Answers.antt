@@ -13,7 +13,7 @@ returns-in-Ok-clause-told g c = λ at.
     let n = c.args.fragments.now + 1 in
     let first = c.begin-media.result in
     let parts = runs_parts c.args.cut.now c.args.moof.now.bytes c.args.tracks.now n (taken_runs c.args.moof.now c.args.tracks.now) in (
-      plays.told,
+      plays.effects,
       plays.tells,
       λ bytes.
           sym (ap (λ k. span_from at first.gap.place k (λ next rest. played next parts rest) bytes) c.begin-media.ensures.left)
