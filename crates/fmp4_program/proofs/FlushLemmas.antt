@@ -82,7 +82,7 @@ module _ {T : Type 0} {plan : Plan} {ends : Ends} {claims : Claims} {totals : To
   reads-flushed : (x : T) → failed ≡ ends.write_failed' → ReadsFragments {T = T} plan (record ends { written' = u; write_failed' = failed }) claims totals (Ok x)
   unfolding Runs-answer flushed
   reads-flushed x same = record {
-    told = r.effects;
+    effects = r.effects;
     walked = r.walked;
     runs = Runs-answer (flushed u failed r.runs kept same);
     fragments = r.fragments;
@@ -95,7 +95,7 @@ module _ {T : Type 0} {plan : Plan} {ends : Ends} {claims : Claims} {totals : To
   reads-unflushed : failed ≡ true → ReadsFragments {T = T} plan (record ends { written' = u; write_failed' = failed }) claims totals (Err Write)
   unfolding unflushed
   reads-unflushed is = record {
-    told = r.effects;
+    effects = r.effects;
     walked = r.walked;
     runs = unflushed u failed r.runs kept is;
     fragments = r.fragments;
