@@ -20,8 +20,7 @@ pub struct Totals {
     pub samples: u128,
     /// How many bytes of media: those of these samples.
     pub media_bytes: u64,
-    /// How many rows of samples were read, each time that one was. Not counted is what a first look at a fragment read that is
-    /// then at fault, or has more samples than there are sequence numbers left.
+    /// How many rows of samples were read, each time that one was.
     pub rows_read: u128,
     /// The most bytes that were claimed at once.
     pub peak: u64,
