@@ -1,4 +1,4 @@
--- What a command makes of a fragmented stream.
+-- What a fragmented stream means for a command.
 use Rattle.std.specs.Prelude.{ℕ, ℤ, pos, ◌-◌, ◌==◌, List, [], ◌∷◌, ◌++◌, max, if◌then◌else◌, Option}
 use Rattle.std.specs.List.{sum_by}
 use Rattle.std.specs.Option.{option_or}
@@ -61,11 +61,11 @@ needed_in f = reach f.payload.start (runs_in f)
 pub record Meaning : Type 0 where
   -- what is written of a moov, once its tracks are known
   pub of_moov : List ℕ → List ℕ
-  -- what is told of the bytes that came of another box of a type, from its header on
+  -- the effects of the bytes that came of another box of a type, from its header on
   pub passed : FourCc → List ℕ → Effects
   -- what it refuses of a fragment whose runs stand where they may
   pub refuses : Fragment → Option Fault
-  -- what is told of a fragment at its mdat's header, and then of the bytes of its payload that came
+  -- the effects of a fragment at its mdat's header, and then of the bytes of its payload that came
   pub accepted : Fragment → Effects
   pub media : Fragment → List ℕ → Effects
   -- the number of the next fragment behind it
@@ -75,7 +75,7 @@ pub record Meaning : Type 0 where
 abbrev pub fragment_fault : Meaning → Fragment → Option Fault
 fragment_fault meaning f = option_or (place_fault f.payload (moof_runs f.moof f.tracks)) (meaning.refuses f)
 
--- what is told of media and of other boxes grows with them
+-- the effects of media and of other boxes grow with them
 pub record IsGrowing (meaning : Meaning) : Type 0 where
   pub media : (f : Fragment) (b x : List ℕ) → TellsMore (meaning.media f b) (meaning.media f (b ++ x))
   pub passed : (kind : FourCc) (b x : List ℕ) → TellsMore (meaning.passed kind b) (meaning.passed kind (b ++ x))

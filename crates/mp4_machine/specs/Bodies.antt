@@ -1,4 +1,4 @@
--- A body that is told as it comes: of some bytes of it, from its first byte on, this is told.
+-- A body whose bytes have effects as they come: some bytes of it, from its first byte on, have these.
 use Rattle.std.specs.Prelude.{◌≡◌, ℕ, ◌+◌, ◌-◌, ◌<◌, ◌≤◌, ◌^◌, List, length, take, drop, nat_lt, if◌then◌else◌, Option, Some}
 use Rattle.mp4_box.specs.declared.headers.FourCc.{FourCc}
 use Rattle.mp4_box.specs.declared.headers.Header.{Header}
@@ -18,7 +18,7 @@ longest = 2 ^ 62
 abbrev pub fault : Rule → Option FourCc → ℕ → Fault
 fault rule kind at = record { rule = rule; kind = kind; offset = at }
 
--- nothing is told, and the box at `at` breaks a rule
+-- no effects, and the box at `at` breaks a rule
 abbrev pub at_fault : Rule → Option FourCc → ℕ → Reading
 at_fault rule kind at = record { effects = silent; outcome = Faulty (fault rule kind at) }
 

@@ -56,7 +56,7 @@ abbrev pub whole_in : (n before : ℕ) → List Mark → ℕ
 whole_in n before [] = before
 whole_in n before (m ∷ marks) = whole_in n (if nat_lt n m.end then before else m.count) marks
 
--- ---- what is told of some bytes
+-- ---- the effects of some bytes
 
 -- a box requests memory: the offset where it begins, and how many bytes are out for the machine with what it requests.
 -- Before it the text has so many bytes, and so much is counted
@@ -71,7 +71,8 @@ abbrev pub greatest : List Request → ℕ
 greatest [] = 0
 greatest (a ∷ requests) = max a.sum (greatest requests)
 
--- the text that they determine, what their boxes ask for in order, where fragments end in the text, and what is counted
+-- the text that they determine, the memory that their boxes request in order, where fragments end in the text, and
+-- what is counted
 pub record Effects : Type 0 where
   pub text : List ℕ
   pub requests : List Request
@@ -89,11 +90,11 @@ says text = record { text = text; requests = []; marks = []; tally = uncounted }
 abbrev pub counts : Tally → Effects
 counts tally = record { text = []; requests = []; marks = []; tally = tally }
 
--- a box at an offset asks for memory, with which so much is out
+-- a box at an offset requests memory, with which so much is out
 abbrev pub requests_memory : (at sum : ℕ) → Effects
 requests_memory at sum = record { text = []; requests = record { at = at; sum = sum; text_before = 0; counted = uncounted } ∷ []; marks = []; tally = uncounted }
 
--- what a box asks for, behind what was told before
+-- a request, after these effects
 abbrev pub shifted_by : Effects → Request → Request
 shifted_by s a = record { at = a.at; sum = a.sum; text_before = length s.text + a.text_before; counted = plus s.tally a.counted }
 
@@ -111,7 +112,7 @@ most_of t = greatest t.requests
 
 -- ---- what some bytes are read as
 
--- what is told of them, and how their reading ends
+-- their effects, and how their reading ends
 pub record Reading : Type 0 where
   pub effects : Effects
   pub outcome : Outcome
@@ -119,7 +120,7 @@ pub record Reading : Type 0 where
 abbrev pub empty_reading : Reading
 empty_reading = record { effects = silent; outcome = Sound }
 
--- the same, behind what was told before
+-- the same, after these effects
 abbrev pub after : Effects → Reading → Reading
 after effects r = record { effects = both effects r.effects; outcome = r.outcome }
 
@@ -133,17 +134,17 @@ abbrev pub after_effects : {C : Type 0} → Effects → FirstItem C → FirstIte
 after_effects effects (Last r) = Last (after effects r)
 after_effects effects (Whole more next rest) = Whole (both effects more) next rest
 
--- what some bytes are read as by their front, where the bytes behind it are read so
+-- what some bytes are read as by their first item, where the bytes behind it are read so
 abbrev pub then_read : {C : Type 0} → (C → List ℕ → Reading) → FirstItem C → Reading
 then_read rest_of (Last r) = r
 then_read rest_of (Whole effects next rest) = after effects (rest_of next rest)
 
--- front after front, at most so many
+-- item after item, at most so many
 abbrev pub read_at_most : {C : Type 0} → (C → List ℕ → FirstItem C) → ℕ → C → List ℕ → Reading
 read_at_most first_item zero c bytes = empty_reading
 read_at_most first_item (suc n) c bytes = then_read (λ next rest. read_at_most first_item n next rest) (first_item c bytes)
 
--- front after front: each whole item takes a byte at least
+-- item after item: each whole item takes a byte at least
 unfoldable pub read_all : {C : Type 0} → (C → List ℕ → FirstItem C) → C → List ℕ → Reading
 read_all first_item c bytes = read_at_most first_item (length bytes) c bytes
 
@@ -152,12 +153,12 @@ read_all first_item c bytes = read_at_most first_item (length bytes) c bytes
 abbrev pub IsPrefix : {X : Type 0} → List X → List X → Type 0
 IsPrefix {X = X} xs ys = (rest : List X) × (xs ++ rest ≡ ys)
 
--- t tells what s tells, and it may tell more
+-- t has the effects s, and it may have more
 pub record TellsMore (s t : Effects) : Type 0 where
   pub text : IsPrefix s.text t.text
   pub requests : IsPrefix s.requests t.requests
 
--- more bytes may add to what is told, and to a fault that is decided they add nothing
+-- more bytes may add effects, and to a fault that is decided they add nothing
 pub record GrowsTo (r s : Reading) : Type 0 where
   pub effects : TellsMore r.effects s.effects
   pub early : (f : Fault) → early_in r.outcome ≡ Some f → s ≡ r
