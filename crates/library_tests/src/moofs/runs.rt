@@ -139,13 +139,15 @@ fn lone_of(
             start: end as u64 + 8,
             end: Some(payload_end),
         };
-        found.settle(&mut list);
-        lone = Some(Lone {
-            run: tell_run(held, &found.run, None),
-            stands: found.places(payload).is_ok(),
-            next: list.at(found.track).next,
-            rows: steps.rows,
-        });
+        if found.track < list.len() {
+            found.settle(&mut list);
+            lone = Some(Lone {
+                run: tell_run(held, &found.run, None),
+                stands: found.places(payload).is_ok(),
+                next: list.at(found.track).next,
+                rows: steps.rows,
+            });
+        }
     }
     list.back(&mut ledger);
     lone
