@@ -13,7 +13,7 @@ pub struct HeadTaken {
     pub step: Step,
 }
 
-/// Takes bytes of a header from the front of a piece: all of it, where they are there.
+/// Takes bytes of a header from the front of a piece: all of it, where they are there, or else all that are there.
 pub fn take_head(head: &mut HeaderReader, piece: &[u8]) -> HeadTaken
     requires some { 0 < length piece.now }
     requires short { length head.old < need head.old }
@@ -21,6 +21,7 @@ pub fn take_head(head: &mut HeaderReader, piece: &[u8]) -> HeadTaken
     ensures count { (0 < result.count) × (result.count ≤ length piece.now) }
     ensures step { result.step ≡ header_at head.new }
     ensures more { result.step ≡ steps.More → length head.new < need head.new }
+    ensures all { result.step ≡ steps.More → result.count ≡ length piece.now }
     ensures len { length head.new ≤ need head.new }
 {
     let mut count = 0;

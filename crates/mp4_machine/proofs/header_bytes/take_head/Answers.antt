@@ -42,3 +42,6 @@ returns-clause-more c = λ _. c.loop-count.invariant.short
 
 pub returns-clause-len : goal.returns-clause-len
 returns-clause-len c = omega (arith, c.loop-count.invariant.short)
+
+pub returns-clause-all : goal.returns-clause-all
+returns-clause-all c = λ _. omega (arith, c.loop-count-test.false, c.loop-count.invariant.within)
