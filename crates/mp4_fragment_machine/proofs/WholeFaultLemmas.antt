@@ -8,7 +8,6 @@ use Rattle.mp4_box.specs.declared.rules.Fault.{Fault}
 use Rattle.mp4_box.specs.Headers.{header_at}
 use Rattle.mp4_box.specs.Order.{least}
 use Rattle.mp4_init.specs.declared.table.Track.{Track}
-use Rattle.mp4_run_order.specs.declared.runs.Payload.{Payload}
 use Rattle.mp4_frag.specs.declared.lone.LoneRun.{LoneRun}
 use Rattle.mp4_frag.specs.LoneRuns.{IsLone}
 use Rattle.mp4_frag.specs.Moofs.{early_fault, moof_of, moof_runs, moof_samples, moof_trafs, time_faults}
@@ -29,7 +28,7 @@ use Rattle.mp4_grammar.specs.Contexts.{Context, context}
 use Rattle.mp4_grammar.specs.Items.{end_of, fragment, walked}
 use Rattle.mp4_grammar.specs.Kinds.{most_moof}
 use Rattle.mp4_grammar.specs.Meanings.{Meaning, fragment_fault}
-use Rattle.mp4_grammar.specs.declared.kinds.Kind.TheVariants.{Mdat, Moof}
+use Rattle.mp4_grammar.specs.declared.kinds.Kind.TheVariants.{Moof}
 use Rattle.mp4_fragment_machine.specs.Places.{Behind, InHeader, InHeld, standing}
 use Rattle.mp4_recut.specs.Plans.{plan_meaning, number_in}
 use Rattle.mp4_recut.specs.declared.plan.Plan.{Plan}

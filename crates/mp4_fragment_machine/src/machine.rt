@@ -13,12 +13,12 @@ ghost use Rattle.mp4_ledger.specs.Memory.{given_back};
 ghost use Rattle.mp4_machine.specs.Ends.{sent};
 ghost use Rattle.mp4_machine.specs.Pieces.{IsQuiet, Takes, around, farthest};
 ghost use Rattle.mp4_machine.specs.Readings.{fault_in, uncounted};
-ghost use Rattle.mp4_machine.specs.Steps.{StopsIn};
 ghost use Rattle.mp4_grammar.specs.Contexts.{first_context};
 ghost use Rattle.mp4_fragment_machine.specs.Places.{InHeader, IsPlace, Unlent, claim_of, standing, unsent};
 ghost use Rattle.mp4_fragment_machine.specs.States.{IsState, IsWaiting, begun, kept_by, known, listed_by, place_in, place_of, reads_of, stands_in, stopped};
+ghost use Rattle.mp4_fragment_machine.specs.Working.Feeds.{Feeds, HasEnded};
 ghost use Rattle.mp4_fragment_machine.specs.Working.Wholes.{AreBoxes, IsTakenWhole, StandsFirst};
-ghost use Rattle.mp4_grammar.specs.declared.kinds.Kind.TheVariants.{Other};
+ghost use Rattle.mp4_grammar.specs.declared.kinds.Kind.TheVariants.{Moof, Other};
 ghost use Rattle.mp4_grammar.specs.Meanings.{Meaning};
 ghost use Rattle.mp4_recut.specs.declared.plan.Plan.{Plan};
 ghost use Rattle.mp4_fragment_machine.specs.declared.state.State.TheVariants as states;
@@ -27,11 +27,12 @@ use crate::state::{Counter, Kept, State, Taken, Waiting};
 use crate::step::{back_state, take_next};
 use crate::whole_box::{box_at, take_whole_box};
 use crate::whole_fault::refuse_times;
-use crate::whole_fragment::{Boxes, Span, Whole, boxes_at};
+use crate::whole_fragment::{Boxes, Span, Whole, boxes_in};
 use crate::whole_plan::{looks_ahead, take_whole_fragment};
 use mp4_box::{Fault, FourCc, HeaderReader, Rule};
 use mp4_ends::Sink;
 use mp4_frag::{LoneRun, Steps};
+use mp4_grammar::{Kind, kind_of};
 use mp4_ledger::Ledger;
 use mp4_machine::{Block, Machine, OpenBody, Stop, Tally, truncated};
 use mp4_recut::Plan;
@@ -121,15 +122,9 @@ impl FragmentMachine {
             whole.now.run.now }
         requires room { ledger.old.live + (length whole.now.boxes.moof.now + 64) ≤ ledger.old.limit }
         requires claim { claim_of (place_in self.old) ≤ ledger.old.live }
-        ensures takes { Takes (around (sent W.contents W.has_failed w.old w.new) out.old out.new
+        ensures { Feeds (around (sent W.contents W.has_failed w.old w.new) out.old out.new
             ledger.old ledger.new self.old.counter.tally self.new.counter.tally)
-            (stands_in self.old) piece.now (λ n. take n piece.now) (λ _. stands_in self.new) result }
-        ensures taken { IfOk result (λ n. (0 < n) × (n ≤ length piece.now)) }
-        ensures claim { claim_of (place_in self.new) ≤ ledger.new.live }
-        ensures quiet { OnOk result (IsQuiet (stands_in self.new)) }
-        ensures near { OnOk result ((stands_in self.new).reached ≤ farthest) }
-        ensures spent { OnErr result (claim_of (place_in self.new) ≡ 0) }
-        ensures task { self.new.plan ≡ self.old.plan }
+            self.old self.new piece.now result }
     {
         match take_whole_fragment(at, whole, piece, &mut self.kept, ledger, out, w) {
             Ok(size) => {
@@ -164,12 +159,9 @@ impl FragmentMachine {
         requires samples { samples ≡ moof_samples (moof_at boxes.now.moof.now at) }
         requires room { ledger.old.live + (length boxes.now.moof.now + 64) ≤ ledger.old.limit }
         requires claim { claim_of (place_in self.old) ≤ ledger.old.live }
-        ensures stops { (u : Unlent) → StopsIn (around (unsent u) u.waiting u.waiting
+        ensures { (u : Unlent) → HasEnded (around (unsent u) u.waiting u.waiting
             ledger.old ledger.new self.old.counter.tally self.new.counter.tally)
-            (stands_in self.old) piece.now result }
-        ensures claim { claim_of (place_in self.new) ≤ ledger.new.live }
-        ensures spent { claim_of (place_in self.new) ≡ 0 }
-        ensures task { self.new.plan ≡ self.old.plan }
+            self.old self.new piece.now result }
     {
         let stop = refuse_times(at, boxes, piece, samples, fault, &mut self.kept, ledger);
         stop_at(&mut self.state);
@@ -196,15 +188,9 @@ impl FragmentMachine {
         requires state { self.old.state ≡ states.Header at }
         requires head { self.old.head ≡ [] }
         requires claim { claim_of (place_in self.old) ≤ ledger.old.live }
-        ensures takes { Takes (around (sent W.contents W.has_failed w.old w.new) out.old out.new
+        ensures { Feeds (around (sent W.contents W.has_failed w.old w.new) out.old out.new
             ledger.old ledger.new self.old.counter.tally self.new.counter.tally)
-            (stands_in self.old) piece.now (λ n. take n piece.now) (λ _. stands_in self.new) result }
-        ensures taken { IfOk result (λ n. (0 < n) × (n ≤ length piece.now)) }
-        ensures claim { claim_of (place_in self.new) ≤ ledger.new.live }
-        ensures quiet { OnOk result (IsQuiet (stands_in self.new)) }
-        ensures near { OnOk result ((stands_in self.new).reached ≤ farthest) }
-        ensures spent { OnErr result (claim_of (place_in self.new) ≡ 0) }
-        ensures task { self.new.plan ≡ self.old.plan }
+            self.old self.new piece.now result }
     {
         match take_whole_box(at, span, piece, &self.kept, out, w) {
             Ok(size) => {
@@ -233,15 +219,9 @@ impl FragmentMachine {
     ) -> Result<usize, Stop>
         requires some { 0 < length piece.now }
         requires claim { claim_of (place_in self.old) ≤ ledger.old.live }
-        ensures takes { Takes (around (sent W.contents W.has_failed w.old w.new) out.old out.new
+        ensures { Feeds (around (sent W.contents W.has_failed w.old w.new) out.old out.new
             ledger.old ledger.new self.old.counter.tally self.new.counter.tally)
-            (stands_in self.old) piece.now (λ n. take n piece.now) (λ _. stands_in self.new) result }
-        ensures taken { IfOk result (λ n. (0 < n) × (n ≤ length piece.now)) }
-        ensures claim { claim_of (place_in self.new) ≤ ledger.new.live }
-        ensures quiet { OnOk result (IsQuiet (stands_in self.new)) }
-        ensures near { OnOk result ((stands_in self.new).reached ≤ farthest) }
-        ensures spent { OnErr result (claim_of (place_in self.new) ≡ 0) }
-        ensures task { self.new.plan ≡ self.old.plan }
+            self.old self.new piece.now result }
     {
         let state = replace(&mut self.state, stopped());
         match take_next(state, piece, &mut self.kept, ledger, out, w) {
@@ -254,6 +234,84 @@ impl FragmentMachine {
                 Err(stop)
             }
         }
+    }
+
+    /// Takes the fragment at the front of a piece, which has all of its moof, where the piece has all of the fragment and it may be
+    /// taken so, or a few bytes: how many.
+    ///
+    /// # Errors
+    ///
+    /// As [`FragmentMachine::take_whole`] and [`FragmentMachine::take_part`]; `Stream` where the times of its moof are at fault.
+    #[inline(always)]
+    fn take_moof<W: Sink>(
+        &mut self,
+        at: u64,
+        moof: &Span,
+        ledger: &mut Ledger,
+        piece: &[u8],
+        out: &mut Block,
+        w: &mut W,
+    ) -> Result<usize, Stop>
+        requires some { 0 < length piece.now }
+        requires is { StandsFirst Moof at piece.now moof.now }
+        requires state { self.old.state ≡ states.Header at }
+        requires head { self.old.head ≡ [] }
+        requires claim { claim_of (place_in self.old) ≤ ledger.old.live }
+        ensures { Feeds (around (sent W.contents W.has_failed w.old w.new) out.old out.new
+            ledger.old ledger.new self.old.counter.tally self.new.counter.tally)
+            self.old self.new piece.now result }
+    {
+        if looks_ahead(&self.kept.plan, &self.kept.counter) {
+            if let (Some(boxes), Some(list)) = (
+                boxes_in(at, moof, piece, ledger),
+                &self.kept.tracks,
+            ) {
+                let mut steps = Steps { rows: 0 };
+                match LoneRun::read(boxes.moof, at, list, &mut steps) {
+                    Ok(Some(run)) => {
+                        let whole = Whole { boxes, run: &run };
+                        return self.take_whole(at, &whole, ledger, piece, out, w);
+                    }
+                    Ok(None) => {}
+                    Err(fault) => {
+                        return Err(self.refuse(at, &boxes, steps.rows, fault, ledger, piece));
+                    }
+                }
+            }
+        }
+        self.take_part(ledger, piece, out, w)
+    }
+
+    /// Takes some bytes from the front of a piece: a box or a fragment of which it has all, or a few.
+    ///
+    /// # Errors
+    ///
+    /// As [`FragmentMachine::pass_whole`], [`FragmentMachine::take_moof`] and [`FragmentMachine::take_part`].
+    #[inline(always)]
+    fn take_some<W: Sink>(
+        &mut self,
+        ledger: &mut Ledger,
+        piece: &[u8],
+        out: &mut Block,
+        w: &mut W,
+    ) -> Result<usize, Stop>
+        requires some { 0 < length piece.now }
+        requires claim { claim_of (place_in self.old) ≤ ledger.old.live }
+        ensures { Feeds (around (sent W.contents W.has_failed w.old w.new) out.old out.new
+            ledger.old ledger.new self.old.counter.tally self.new.counter.tally)
+            self.old self.new piece.now result }
+    {
+        if let State::Header { at } = &self.state {
+            let at = *at;
+            if let Some(span) = &box_at(at, &self.kept.head, piece) {
+                match kind_of(span.kind) {
+                    Kind::Other => return self.pass_whole(at, span, ledger, piece, out, w),
+                    Kind::Moof => return self.take_moof(at, span, ledger, piece, out, w),
+                    Kind::Moov | Kind::Mdat => {}
+                }
+            }
+        }
+        self.take_part(ledger, piece, out, w)
     }
 
     /// Gives back all that is claimed.
@@ -291,31 +349,10 @@ impl Machine for FragmentMachine {
         out: &mut Block,
         w: &mut W,
     ) -> Result<usize, Stop> {
-        if let State::Header { at } = &self.state {
-            let at = *at;
-            if let Some(span) = &box_at(at, &self.kept.head, piece) {
-                return self.pass_whole(at, span, ledger, piece, out, w);
-            }
-            if looks_ahead(&self.kept.plan, &self.kept.counter) {
-                if let (Some(boxes), Some(list)) = (
-                    boxes_at(at, &self.kept.head, piece, ledger),
-                    &self.kept.tracks,
-                ) {
-                    let mut steps = Steps { rows: 0 };
-                    match LoneRun::read(boxes.moof, at, list, &mut steps) {
-                        Ok(Some(run)) => {
-                            let whole = Whole { boxes, run: &run };
-                            return self.take_whole(at, &whole, ledger, piece, out, w);
-                        }
-                        Ok(None) => {}
-                        Err(fault) => {
-                            return Err(self.refuse(at, &boxes, steps.rows, fault, ledger, piece));
-                        }
-                    }
-                }
-            }
+        match self.take_some(ledger, piece, out, w) {
+            Ok(count) => Ok(count),
+            Err(stop) => Err(stop),
         }
-        self.take_part(ledger, piece, out, w)
     }
 
     fn finish(&self) -> Result<(), Fault> {

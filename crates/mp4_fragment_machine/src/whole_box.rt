@@ -1,6 +1,7 @@
 //! How a box is taken of which a piece has all, and that is passed over or copied.
 
 ghost use Rattle.std.specs.Prelude.{◌≡◌, ◌+◌, ◌≤◌, [], IfSome};
+ghost use Rattle.mp4_grammar.specs.Kinds.{kind_in};
 ghost use Rattle.mp4_grammar.specs.declared.kinds.Kind.TheVariants.{Other};
 ghost use Rattle.mp4_ledger.specs.Memory.{Account};
 ghost use Rattle.mp4_machine.specs.Bodies.{longest};
@@ -13,19 +14,18 @@ use crate::state::Kept;
 use crate::whole_fragment::{Span, first_box};
 use mp4_box::HeaderReader;
 use mp4_ends::{Failed, Sink};
-use mp4_grammar::Kind;
 use mp4_machine::{Block, Stop};
 use mp4_recut::Plan;
 
-/// The box at `at`, where no byte of a header came before, a piece has all of it, and it is passed over or copied.
+/// The box at `at`, where no byte of a header came before and a piece has all of it.
 #[inline(always)]
 pub(crate) fn box_at(at: u64, head: &HeaderReader, piece: &[u8]) -> Option<Span>
     requires at { at ≤ longest }
     ensures head { IfSome result (λ _. head.now ≡ []) }
-    ensures is { IfSome result (λ b. StandsFirst Other at piece.now b) }
+    ensures is { IfSome result (λ b. StandsFirst (kind_in b.kind.0) at piece.now b) }
 {
     if head.is_empty() {
-        first_box(Kind::Other, at, piece)
+        first_box(at, piece)
     } else {
         None
     }

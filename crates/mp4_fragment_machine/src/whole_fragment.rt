@@ -16,7 +16,9 @@ ghost use Rattle.mp4_machine.specs.Readings.{plus};
 ghost use Rattle.mp4_grammar.specs.Commands.{accepted};
 ghost use Rattle.mp4_grammar.specs.Contexts.{context};
 ghost use Rattle.mp4_grammar.specs.Items.{fragment, walked};
+ghost use Rattle.mp4_grammar.specs.Kinds.{kind_in};
 ghost use Rattle.mp4_grammar.specs.Meanings.{counted_in};
+ghost use Rattle.mp4_grammar.specs.declared.kinds.Kind.TheVariants.{Moof};
 ghost use Rattle.mp4_recut.specs.declared.plan.Plan.TheVariants as plans;
 ghost use Rattle.mp4_fragment_machine.specs.States.{IsCounted, known, listed_by};
 ghost use Rattle.mp4_fragment_machine.specs.Working.Steps.{CanStep, TakesWhole, lent};
@@ -26,7 +28,7 @@ ghost use Rattle.mp4_fragment_machine.specs.declared.state.State.TheVariants as 
 use crate::lines::put_run;
 use crate::listed_fragment::count;
 use crate::state::{Counter, Kept};
-use mp4_box::{Fault, FourCc, HeaderReader, Size, header_of};
+use mp4_box::{Fault, FourCc, Size, header_of};
 use mp4_ends::{Failed, Sink};
 use mp4_frag::{LoneRun, Payload};
 use mp4_grammar::{Command, Kind, MOST_MOOF, kind_of};
@@ -65,19 +67,15 @@ pub(crate) struct Whole<'a> {
     pub(crate) run: &'a LoneRun,
 }
 
-/// The box at `at`, where it is of this kind and stands at the front of the bytes, they have all of it, and it doesn't go past
-/// the longest stream.
+/// The box at `at`, where it stands at the front of the bytes, they have all of it, and it doesn't go past the longest stream.
 #[inline(always)]
-pub(crate) fn first_box(kind: Kind, at: u64, bytes: &[u8]) -> Option<Span>
+pub(crate) fn first_box(at: u64, bytes: &[u8]) -> Option<Span>
     requires at { at ≤ longest }
-    ensures { IfSome result (λ b. StandsFirst kind at bytes.now b) }
+    ensures { IfSome result (λ b. StandsFirst (kind_in b.kind.0) at bytes.now b) }
 {
     let Ok(header) = header_of(bytes) else {
         return None;
     };
-    if kind_of(header.kind) != kind {
-        return None;
-    }
     let Size::Exact(size) = header.size else {
         return None;
     };
@@ -91,46 +89,30 @@ pub(crate) fn first_box(kind: Kind, at: u64, bytes: &[u8]) -> Option<Span>
     })
 }
 
-/// The boxes of the fragment at `at`, where they stand at the front of a piece that has all of them, and its moof and a row of a
-/// list may be claimed.
+/// The boxes of the fragment at `at`, whose moof stands at the front of a piece that has all of it, where the piece has all of its
+/// mdat too, and its moof and a row of a list may be claimed.
 #[inline(always)]
-fn boxes_in<'a>(at: u64, piece: &'a [u8], ledger: &Ledger) -> Option<Boxes<'a>>
-    requires at { at ≤ longest }
+pub(crate) fn boxes_in<'a>(
+    at: u64,
+    moof: &Span,
+    piece: &'a [u8],
+    ledger: &Ledger,
+) -> Option<Boxes<'a>>
+    requires moof { StandsFirst Moof at piece.now moof.now }
     ensures are { IfSome result (λ b. AreBoxes at piece.now b) }
     ensures room { IfSome result (λ b.
         ledger.now.live + (length b.moof.now + 64) ≤ ledger.now.limit) }
 {
-    let Some(moof) = first_box(Kind::Moof, at, piece) else {
-        return None;
-    };
     if moof.size > MOST_MOOF || moof.size + ROW > ledger.limit() - ledger.live() {
         return None;
     }
     let (bytes, behind) = piece.split_at(moof.size as usize);
-    let Some(mdat) = first_box(Kind::Mdat, at + moof.size, behind) else {
+    let Some(mdat) = first_box(at + moof.size, behind) else {
         return None;
     };
-    Some(Boxes { moof: bytes, mdat })
-}
-
-/// The boxes of the fragment at `at`, where no byte of a header came before.
-#[inline(always)]
-pub(crate) fn boxes_at<'a>(
-    at: u64,
-    head: &HeaderReader,
-    piece: &'a [u8],
-    ledger: &Ledger,
-) -> Option<Boxes<'a>>
-    requires at { at ≤ longest }
-    ensures head { IfSome result (λ _. head.now ≡ []) }
-    ensures are { IfSome result (λ b. AreBoxes at piece.now b) }
-    ensures room { IfSome result (λ b.
-        ledger.now.live + (length b.moof.now + 64) ≤ ledger.now.limit) }
-{
-    if head.is_empty() {
-        boxes_in(at, piece, ledger)
-    } else {
-        None
+    match kind_of(mdat.kind) {
+        Kind::Mdat => Some(Boxes { moof: bytes, mdat }),
+        Kind::Moov | Kind::Moof | Kind::Other => None,
     }
 }
 

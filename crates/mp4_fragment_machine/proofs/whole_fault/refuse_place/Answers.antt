@@ -1,4 +1,4 @@
-use Rattle.std.proofs.Common.{◌≡◌, ◌+◌, ◌*◌, ◌≤◌, arith, length, refl}
+use Rattle.std.proofs.Common.{◌≡◌, ◌+◌, ◌*◌, arith, refl}
 use Rattle.mp4_frag.specs.Moofs.{moof_samples}
 use Rattle.mp4_frag.specs.Runs.{moof_at}
 use Rattle.mp4_machine.specs.Pieces.{outside}

@@ -3,14 +3,13 @@ use Rattle.mp4_box.specs.Headers.{IsBytes}
 use Rattle.mp4_box.proofs.HeaderLemmas.{IsBytes-take}
 use Rattle.mp4_fragment_machine.proofs.whole_fragment.boxes_in.Goals as goal
 
-pub returns-clause-are : goal.returns-clause-are
-returns-clause-are c =
-    let moof = c.in-Some in
+pub returns-in-Mdat-clause-are : goal.returns-in-Mdat-clause-are
+returns-in-Mdat-clause-are c =
     record {
-      span = moof.moof;
-      moof = moof.ensures;
+      span = c.args.moof.now;
+      moof = c.requires.moof;
       most = c.if-moof-gt-MOST_MOOF.false;
       bytes = c.split_at.ensures.front;
-      valid = subst IsBytes (sym c.split_at.ensures.front) (IsBytes-take moof.moof.size c.args.piece.now (λ i. (c.type_inv.piece i).fits));
-      mdat = rw c.split_at.ensures.back at c.in-Some-first_box.ensures;
+      valid = subst IsBytes (sym c.split_at.ensures.front) (IsBytes-take c.args.moof.now.size c.args.piece.now (λ i. (c.type_inv.piece i).fits));
+      mdat = rw (c.split_at.ensures.back, ← c.kind_of.ensures, c.in-Mdat.is) at c.in-Some.ensures;
     }

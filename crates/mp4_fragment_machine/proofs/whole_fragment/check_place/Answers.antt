@@ -1,4 +1,4 @@
-use Rattle.std.proofs.Common.{◌≡◌, ◌+◌, ◌∷◌, [], None, Some, ap, arith, drop, refl, subst, sym, ◌∙◌}
+use Rattle.std.proofs.Common.{◌≡◌, ◌+◌, ◌∷◌, [], None, Some, ap, arith, drop, subst, sym, ◌∙◌}
 use Rattle.mp4_init.specs.Moovs.{fault_of}
 use Rattle.mp4_frag.specs.Places.{place_fault}
 use Rattle.mp4_grammar.specs.declared.kinds.Kind.TheVariants.{Mdat}

@@ -9,12 +9,13 @@ use Rattle.mp4_fragment_machine.proofs.machine.FragmentMachine.refuse.Goals as g
 abbrev no_writer : Unlent
 no_writer = record { written = None; waiting = unused; failed = false }
 
-pub returns-clause-stops : goal.returns-clause-stops
-returns-clause-stops c = λ u.
+pub returns : goal.returns
+returns c = λ u.
     let state : c.self.inside.state ≡ states.Header c.args.at = ap (λ (p : Progress). p.state) c.self.view_is ∙ c.requires.state in
     let stopped = c.refuse_times-stop.ensures.stops u in
     let back = rw (c.stop_at.ensures, stopped.tracks) at c.give_back.ensures.back in
-    rw (← c.self.view_is, state, back, c.give_back.ensures.counted) stopped.step
+    rw (← c.self.view_is, state, back, c.give_back.ensures.counted)
+    (record { step = stopped.step; spent = rw c.give_back.ensures.counted at c.give_back.ensures.spent; plan = rw c.give_back.ensures.task stopped.plan })
 
 pub invariant_of-self : goal.invariant_of-self
 invariant_of-self c =
@@ -25,6 +26,3 @@ pub give_back-requires : goal.give_back-requires
 give_back-requires c =
     let stopped = c.refuse_times-stop.ensures.stops no_writer in
     rw (c.stop_at.ensures, stopped.tracks) stopped.left
-
-pub returns-clause-task : goal.returns-clause-task
-returns-clause-task c = c.give_back.ensures.task ∙ (c.refuse_times-stop.ensures.stops no_writer).plan ∙ ap (λ (p : Progress). p.plan) c.self.view_is

@@ -1,36 +1,8 @@
-use Rattle.std.proofs.Common.{ap, arith}
-use Rattle.std.specs.Prelude.{Ok}
-use Rattle.mp4_frag.specs.Runs.{moof_at}
-use Rattle.mp4_machine.proofs.StepLemmas.{Takes-stops}
-use Rattle.mp4_fragment_machine.proofs.FragmentLemmas.{lone_is, moof_len, moof_whole}
+use Rattle.mp4_machine.proofs.StepLemmas.{Takes-goes, Takes-stops}
 use Rattle.mp4_fragment_machine.proofs.machine.FragmentMachineMachine.take.Goals as goal
 
-pub read-requires-clause-whole : goal.read-requires-clause-whole
-read-requires-clause-whole g c =
-    moof_whole c.in-Header.at c.args.piece.now c.in-Some-Some.boxes c.in-Some-Some.ensures.are
-
-pub read-requires-clause-room : goal.read-requires-clause-room
-read-requires-clause-room g c =
-    let are = c.in-Some-Some.ensures.are in
-    omega (arith, moof_len c.in-Header.at c.args.piece.now c.in-Some-Some.boxes are, are.moof.near)
-
-pub take_whole-requires-clause-lone : goal.take_whole-requires-clause-lone
-take_whole-requires-clause-lone g c =
-    rw (← c.self.view_is, c.in-Some-Some.is-1, c.in-Ok-Some.run-is) (c.in-Ok-Some.ensures.lone c.in-Ok-Some.run' (ap Ok c.in-Ok-Some.field-0-is))
-
-pub take_whole-requires-clause-taken : goal.take_whole-requires-clause-taken
-take_whole-requires-clause-taken g c =
-    let lone = c.in-Ok-Some.ensures.lone c.in-Ok-Some.run' (ap Ok c.in-Ok-Some.field-0-is) in
-    rw (← c.self.view_is, c.in-Ok-Some.run-is) (c.looks_ahead.ensures c.in-Ok-Some.run' c.if-looks_ahead.true (lone_is (moof_at c.in-Some-Some.boxes.moof.now c.in-Header.at) c.in-Some-Some.list c.in-Ok-Some.run' lone).few)
-
-pub refuse-requires-clause-good : goal.refuse-requires-clause-good
-refuse-requires-clause-good g c =
-    rw (← c.self.view_is, c.in-Some-Some.is-1) (c.read.ensures.late c.in-Err.fault c.in-Err.is).0
-
-pub refuse-requires-clause-late : goal.refuse-requires-clause-late
-refuse-requires-clause-late g c =
-    rw (← c.self.view_is, c.in-Some-Some.is-1) (c.read.ensures.late c.in-Err.fault c.in-Err.is).1
+pub returns-in-Ok-clause-takes : goal.returns-in-Ok-clause-takes
+returns-in-Ok-clause-takes g c = Takes-goes c.in-Ok.count c.in-Ok.ensures.step
 
 pub returns-in-Err-clause-takes : goal.returns-in-Err-clause-takes
-returns-in-Err-clause-takes g c =
-    Takes-stops c.refuse.result (c.refuse.ensures.stops (record { written = g.W.Sink.contents c.args.w.now; waiting = c.args.out.now; failed = g.W.Sink.has_failed c.args.w.now }))
+returns-in-Err-clause-takes g c = Takes-stops c.in-Err.stop c.in-Err.ensures.step
