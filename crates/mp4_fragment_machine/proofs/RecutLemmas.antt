@@ -1,5 +1,5 @@
 -- What bytes of media bring that are recut.
-use Rattle.std.proofs.Common.{◌≡◌, ◌∙◌, ℕ, zero, suc, ◌+◌, ◌-◌, ◌<◌, ◌≤◌, ◌⊎◌, inl, inr, min, Bool, true, false, List, [], ◌∷◌, ◌++◌, length, length-append, length-take-le, take, drop, append-nil, Option, None, Some, ap, sym, refl, arith, subst}
+use Rattle.std.proofs.Common.{◌≡◌, ◌∙◌, ℕ, zero, suc, ◌+◌, ◌-◌, ◌<◌, ◌≤◌, ◌⊎◌, inl, inr, min, Bool, true, false, List, [], ◌∷◌, ◌++◌, length, append_assoc, length-append, length-take-le, take, drop, append-nil, Option, None, Some, ap, sym, refl, arith, subst}
 use Rattle.std.proofs.Math.Seq.{take-append-add}
 use Rattle.std.proofs.lemmas.Bool.{cases_lt, ltb-true, ltb-false}
 use Rattle.std.proofs.lemmas.List.{take_all, take-append-le}
@@ -16,6 +16,7 @@ use Rattle.mp4_machine.proofs.MarkLemmas.{moved-none}
 use Rattle.mp4_machine.proofs.PieceLemmas.{back_to, Refuses-there}
 use Rattle.mp4_fragment_machine.proofs.HeldLemmas.{Moves-all_back}
 use Rattle.mp4_machine.proofs.AccountLemmas.{Counts-none, Counts-back, Spends-counts, Spends-more}
+use Rattle.mp4_machine.specs.Ends.{Sent}
 use Rattle.mp4_machine.specs.Blocks.{BreaksMarked, Passes, PassesMarked, Pending}
 use Rattle.mp4_machine.proofs.ReadingAskLemmas.{plus-none}
 use Rattle.mp4_machine.proofs.BodyLemmas.{body-over, body-some, open-far, open-some}
@@ -40,14 +41,19 @@ use Rattle.mp4_grammar.specs.Items.{context_after_fragment, end_of, fragment, me
 use Rattle.mp4_grammar.specs.Kinds.{kind_in}
 use Rattle.mp4_grammar.specs.Meanings.{Fragment, Meaning, fragment_fault, needed_in, runs_in}
 use Rattle.mp4_grammar.specs.declared.kinds.Kind.TheVariants.{Mdat}
-use Rattle.mp4_recut.specs.Media.{Spot, playing, IsSettled, Tells, Plays, Lost}
+use Rattle.mp4_recut.specs.Media.{Spot, playing, spot_of, IsSettled, Tells, Plays, Lost, Rises}
 use Rattle.mp4_recut.specs.Parts.{Part, played, span_from}
+use Rattle.mp4_recut.specs.declared.media.Media.{Media}
+use Rattle.mp4_recut.specs.declared.media.Taken.{Taken}
 use Rattle.mp4_recut.specs.declared.next.Gap.{Gap}
 use Rattle.mp4_recut.specs.Splitting.{copied, is_dropped, parts_of, splitting}
 use Rattle.mp4_recut.proofs.MediaLemmas.{playing-quiet}
+use Rattle.mp4_fragment_machine.specs.Working.Media.{FailsToTake, HasTaken}
 use Rattle.mp4_fragment_machine.specs.Working.Recuts.{first_spot, in_media, with_fragments, with_samples}
 use Rattle.mp4_frag.specs.Settling.{settled}
 use Rattle.mp4_fragment_machine.specs.Places.{Behind, InBody, InHeader, InOpenBody, claim_of, reached_of, reads_at, standing}
+use Rattle.mp4_fragment_machine.specs.States.{moof_in}
+use Rattle.mp4_fragment_machine.specs.declared.state.Waiting.{Waiting}
 use Rattle.mp4_fragment_machine.proofs.SecondLemmas.{second-accepted}
 
 module _ (a b : Option (List ℕ)) (v w : Pending) (tally : Tally) (n : ℕ) where
@@ -69,6 +75,18 @@ module _ (a b : Option (List ℕ)) (v w : Pending) (tally : Tally) (n : ℕ) whe
     tallied = tally_more s;
   }
 
+  -- a write failed, and no more fragments were counted than are told
+  Loses-first : (own : ℕ) (account : Account) (s more : Effects) (r : Reading) → r.effects ≡ both s more → own ≤ account.live → Lost a b v w tally.fragments n s → Loses (outside a v account tally) (outside b w (given_back account own) (with_fragments tally n)) own r
+  Loses-first own account s more r e low f =
+      let none : own - own ≡ 0 = omega arith in
+      let spent : Spends account (given_back account own) own 0 0 = subst (λ k. Spends account (given_back account own) own k 0) none (Spends-counts account (given_back account own) own (own - own) 0 (Counts-back account own own (omega arith) low)) in
+      record {
+        text = subst (λ t. BreaksMarked a b v w t.text t.marks) (sym e) (BreaksMarked-longer more.text more.marks f.text);
+        spends = Spends-more account (given_back account own) own 0 0 (most_of r.effects) (omega arith) spent;
+        least = record { fragments = f.least; samples = omega arith; media_bytes = omega arith; walked = omega arith };
+        most = subst (λ t. AtMost (with_fragments tally n) (plus tally t.tally)) (sym e) (record { fragments = omega (arith, f.most); samples = omega arith; media_bytes = omega arith; walked = omega arith });
+      }
+
   module _ (meaning : Meaning) (at : ℕ) (kind : FourCc) (next : Context) (own : ℕ) (account : Account) where
     GoesOn-plays : (left : ℕ) (p q : Spot) (x : List ℕ) → length x ≤ left → left ≤ next.at → Plays a b v w tally.fragments n p x q
         → GoesOn (outside a v account tally) (outside b w account (with_fragments tally n)) (standing meaning (InBody (playing p) at kind next left own)) x (standing meaning (InBody (playing q) at kind next (left - length x) own))
@@ -79,57 +97,15 @@ module _ (a b : Option (List ℕ)) (v w : Pending) (tally : Tally) (n : ℕ) whe
       rest = body-some (reads_in meaning) at kind next (playing p) (playing q) g.effects x left g.rest h;
     }
 
-    -- the first bytes of a piece, of which so many are of the body
-    pub GoesOn-recut : (left k most : ℕ) (p q : Spot) (piece : List ℕ) → k ≤ most → most ≤ left → most ≤ length piece → left ≤ next.at → Plays a b v w tally.fragments n p (take k (take most piece)) q
-        → GoesOn (outside a v account tally) (outside b w account (with_fragments tally n)) (standing meaning (InBody (playing p) at kind next left own)) (take k piece) (standing meaning (InBody (playing q) at kind next (left - k) own))
-    GoesOn-recut left k most p q piece h i j low g =
-        let len : length (take k piece) ≡ k = length-take-le k piece (omega (arith, h, j)) in
-        subst (λ l. GoesOn (outside a v account tally) (outside b w account (with_fragments tally n)) (standing meaning (InBody (playing p) at kind next left own)) (take k piece) (standing meaning (InBody (playing q) at kind next (left - l) own))) len
-        (GoesOn-plays left p q (take k piece) (omega (arith, len, h, i)) low (subst (λ l. Plays a b v w tally.fragments n p l q) (take-front k most piece h) g))
-      where
-        take-front : (n m : ℕ) (xs : List ℕ) → n ≤ m → take n (take m xs) ≡ take n xs
-        take-front zero m xs h = refl
-        take-front (suc n) zero xs h = absurd (omega (arith, h))
-        take-front (suc n) (suc m) [] h = refl
-        take-front (suc n) (suc m) (x ∷ xs) h = ap (λ l. x ∷ l) (take-front n m xs (omega (arith, h)))
-
-    -- what is told of a body comes first
-    body-first : (f : List ℕ → Effects) (left : ℕ) (bytes : List ℕ) → (more : Effects) × ((then_read (reads_in meaning) (body_item f at kind next left bytes)).effects ≡ both (f (take left bytes)) more)
-    body-first f left bytes = by (nat_lt (length bytes) left) refl
-      where
-        by : (u : Bool) → nat_lt (length bytes) left ≡ u → (more : Effects) × ((then_read (reads_in meaning) (body_item f at kind next left bytes)).effects ≡ both (f (take left bytes)) more)
-        by true e =
-            let short : length bytes < left = ltb-true _ _ e in
-            (silent, rw (e, take_all left bytes (omega (arith, short))) (sym (both-silent (f bytes))))
-        by false e = ((reads_in meaning next (drop left bytes)).effects, rw e refl)
-
-    Loses-first : (s more : Effects) (r : Reading) → r.effects ≡ both s more → own ≤ account.live → Lost a b v w tally.fragments n s → Loses (outside a v account tally) (outside b w (given_back account own) (with_fragments tally n)) own r
-    Loses-first s more r e low f =
-        let none : own - own ≡ 0 = omega arith in
-        let spent : Spends account (given_back account own) own 0 0 = subst (λ k. Spends account (given_back account own) own k 0) none (Spends-counts account (given_back account own) own (own - own) 0 (Counts-back account own own (omega arith) low)) in
-        record {
-          text = subst (λ t. BreaksMarked a b v w t.text t.marks) (sym e) (BreaksMarked-longer more.text more.marks f.text);
-          spends = Spends-more account (given_back account own) own 0 0 (most_of r.effects) (omega arith) spent;
-          least = record { fragments = f.least; samples = omega arith; media_bytes = omega arith; walked = omega arith };
-          most = subst (λ t. AtMost (with_fragments tally n) (plus tally t.tally)) (sym e) (record { fragments = omega (arith, f.most); samples = omega arith; media_bytes = omega arith; walked = omega arith });
-        }
-
-    pub Loses-recut : (left most : ℕ) (p : Spot) (piece later : List ℕ) → most ≡ min left (length piece) → own ≤ account.live → ((later : List ℕ) → Lost a b v w tally.fragments n (playing p (take most piece ++ later)))
-        → Loses (outside a v account tally) (outside b w (given_back account own) (with_fragments tally n)) own (reads_at meaning (InBody (playing p) at kind next left own) (piece ++ later))
-    Loses-recut left most p piece later e low f =
-        let first = body-first (playing p) left (piece ++ later) in
-        Loses-first (playing p (take left (piece ++ later))) first.0 (reads_at meaning (InBody (playing p) at kind next left own) (piece ++ later)) first.1 low
-        (subst (λ l. Lost a b v w tally.fragments n (playing p l)) (sym (front (cases_lt (length piece) left))) (f (take (left - length piece) later)))
-      where
-        front : (length piece < left) ⊎ (left ≤ length piece) → take left (piece ++ later) ≡ take most piece ++ take (left - length piece) later
-        front (inl short) =
-            let k : left ≡ length piece + (left - length piece) = omega (arith, short) in
-            let all : take most piece ≡ piece = take_all most piece (omega (arith, e, short)) in
-            ap (λ k. take k (piece ++ later)) k ∙ take-append-add piece later (left - length piece) ∙ ap (λ l. l ++ take (left - length piece) later) (sym all)
-        front (inr long) =
-            let none : left - length piece ≡ 0 = omega (arith, long) in
-            let m : left ≡ most = omega (arith, e, long) in
-            take-append-le left piece later long ∙ ap (λ k. take k piece) m ∙ sym (append-nil (take most piece)) ∙ ap (λ k. take most piece ++ take k later) (sym none)
+-- what is told of a body comes first
+body-first : (meaning : Meaning) (at : ℕ) (kind : FourCc) (next : Context) (f : List ℕ → Effects) (left : ℕ) (bytes : List ℕ) → (more : Effects) × ((then_read (reads_in meaning) (body_item f at kind next left bytes)).effects ≡ both (f (take left bytes)) more)
+body-first meaning at kind next f left bytes = by (nat_lt (length bytes) left) refl
+  where
+    by : (u : Bool) → nat_lt (length bytes) left ≡ u → (more : Effects) × ((then_read (reads_in meaning) (body_item f at kind next left bytes)).effects ≡ both (f (take left bytes)) more)
+    by true e =
+        let short : length bytes < left = ltb-true _ _ e in
+        (silent, rw (e, take_all left bytes (omega (arith, short))) (sym (both-silent (f bytes))))
+    by false e = ((reads_in meaning next (drop left bytes)).effects, rw e refl)
 
 -- ---- an mdat is accepted, and its media begin
 
@@ -316,50 +292,113 @@ module _ (a b : Option (List ℕ)) (v w : Pending) (tally : Tally) (n : ℕ) (me
     rest = open-some (reads_in meaning) at kind first_context (playing p) (playing q) g.effects x needed left g.rest h;
   }
 
-  -- the first bytes of a piece, of which so many may come
-  pub GoesOn-open_recut : (needed left k most : ℕ) (p q : Spot) (piece : List ℕ) → k ≤ most → most ≤ left → most ≤ length piece → left ≤ longest → Plays a b v w tally.fragments n p (take k (take most piece)) q
-      → GoesOn (outside a v account tally) (outside b w account (with_fragments tally n)) (standing meaning (InOpenBody (playing p) at kind needed left own)) (take k piece) (standing meaning (InOpenBody (playing q) at kind (needed - k) (left - k) own))
-  GoesOn-open_recut needed left k most p q piece h i j low g =
-      let len : length (take k piece) ≡ k = length-take-le k piece (omega (arith, h, j)) in
-      subst (λ l. GoesOn (outside a v account tally) (outside b w account (with_fragments tally n)) (standing meaning (InOpenBody (playing p) at kind needed left own)) (take k piece) (standing meaning (InOpenBody (playing q) at kind (needed - l) (left - l) own))) len
-      (GoesOn-open_plays needed left p q (take k piece) (omega (arith, len, h, i)) low (subst (λ l. Plays a b v w tally.fragments n p l q) (take-front k most piece h) g))
-    where
-      take-front : (n m : ℕ) (xs : List ℕ) → n ≤ m → take n (take m xs) ≡ take n xs
-      take-front zero m xs h = refl
-      take-front (suc n) zero xs h = absurd (omega (arith, h))
-      take-front (suc n) (suc m) [] h = refl
-      take-front (suc n) (suc m) (x ∷ xs) h = ap (λ l. x ∷ l) (take-front n m xs (omega (arith, h)))
+-- what is told of it is told of its first bytes, as many as may come
+open-first : (meaning : Meaning) (at : ℕ) (kind : FourCc) (f : List ℕ → Effects) (needed left : ℕ) (bytes : List ℕ) → (then_read (reads_in meaning) (open_body_item f at kind needed left bytes)).effects ≡ f (take left bytes)
+open-first meaning at kind f needed left bytes = by (nat_lt left (length bytes)) (nat_lt (length bytes) needed) refl refl
+  where
+    by : (u t : Bool) → nat_lt left (length bytes) ≡ u → nat_lt (length bytes) needed ≡ t → (then_read (reads_in meaning) (open_body_item f at kind needed left bytes)).effects ≡ f (take left bytes)
+    by true t e d = rw e refl
+    by false true e d =
+        let all : bytes ≡ take left bytes = sym (take_all left bytes (ltb-false _ _ e)) in
+        rw (e, d) (ap f all)
+    by false false e d =
+        let all : bytes ≡ take left bytes = sym (take_all left bytes (ltb-false _ _ e)) in
+        rw (e, d) (ap f all)
 
-  -- what is told of it is told of its first bytes, as many as may come
-  open-first : (f : List ℕ → Effects) (needed left : ℕ) (bytes : List ℕ) → (then_read (reads_in meaning) (open_body_item f at kind needed left bytes)).effects ≡ f (take left bytes)
-  open-first f needed left bytes = by (nat_lt left (length bytes)) (nat_lt (length bytes) needed) refl refl
-    where
-      by : (u t : Bool) → nat_lt left (length bytes) ≡ u → nat_lt (length bytes) needed ≡ t → (then_read (reads_in meaning) (open_body_item f at kind needed left bytes)).effects ≡ f (take left bytes)
-      by true t e d = rw e refl
-      by false true e d =
-          let all : bytes ≡ take left bytes = sym (take_all left bytes (ltb-false _ _ e)) in
-          rw (e, d) (ap f all)
-      by false false e d =
-          let all : bytes ≡ take left bytes = sym (take_all left bytes (ltb-false _ _ e)) in
-          rw (e, d) (ap f all)
+-- ---- bytes of media were taken
 
-  pub Loses-open_recut : (needed left most : ℕ) (p : Spot) (piece later : List ℕ) → most ≡ min left (length piece) → own ≤ account.live → ((later : List ℕ) → Lost a b v w tally.fragments n (playing p (take most piece ++ later)))
-      → Loses (outside a v account tally) (outside b w (given_back account own) (with_fragments tally n)) own (reads_at meaning (InOpenBody (playing p) at kind needed left own) (piece ++ later))
-  Loses-open_recut needed left most p piece later e low f =
-      let s = playing p (take left (piece ++ later)) in
-      Loses-first a b v w tally n meaning at kind first_context own account s silent (reads_at meaning (InOpenBody (playing p) at kind needed left own) (piece ++ later))
-      (open-first (playing p) needed left (piece ++ later) ∙ sym (both-silent s)) low
-      (subst (λ l. Lost a b v w tally.fragments n (playing p l)) (sym (front (cases_lt (length piece) left))) (f (take (left - length piece) later)))
-    where
-      front : (length piece < left) ⊎ (left ≤ length piece) → take left (piece ++ later) ≡ take most piece ++ take (left - length piece) later
-      front (inl short) =
-          let k : left ≡ length piece + (left - length piece) = omega (arith, short) in
-          let all : take most piece ≡ piece = take_all most piece (omega (arith, e, short)) in
-          ap (λ k. take k (piece ++ later)) k ∙ take-append-add piece later (left - length piece) ∙ ap (λ l. l ++ take (left - length piece) later) (sym all)
-      front (inr long) =
-          let none : left - length piece ≡ 0 = omega (arith, long) in
-          let m : left ≡ most = omega (arith, e, long) in
-          take-append-le left piece later long ∙ ap (λ k. take k piece) m ∙ sym (append-nil (take most piece)) ∙ ap (λ k. take most piece ++ take k later) (sym none)
+-- of the bytes to come it has those that a piece has, and more
+own-front : (left : ℕ) (piece later : List ℕ) → take left (piece ++ later) ≡ take (min left (length piece)) piece ++ take (left - length piece) later
+own-front left piece later = by (cases_lt (length piece) left)
+  where
+    by : (length piece < left) ⊎ (left ≤ length piece) → take left (piece ++ later) ≡ take (min left (length piece)) piece ++ take (left - length piece) later
+    by (inl short) =
+        let k : left ≡ length piece + (left - length piece) = omega (arith, short) in
+        let all : take (min left (length piece)) piece ≡ piece = take_all (min left (length piece)) piece (omega (arith, short)) in
+        ap (λ k. take k (piece ++ later)) k ∙ take-append-add piece later (left - length piece) ∙ ap (λ l. l ++ take (left - length piece) later) (sym all)
+    by (inr long) =
+        let none : left - length piece ≡ 0 = omega (arith, long) in
+        let m : left ≡ min left (length piece) = omega (arith, long) in
+        take-append-le left piece later long ∙ ap (λ k. take k piece) m ∙ sym (append-nil (take (min left (length piece)) piece)) ∙ ap (λ k. take (min left (length piece)) piece ++ take k later) (sym none)
+
+module _ (cut : Cut) (tracks : List Track) (waiting : Waiting) (s : Sent) (v w : Pending) (t t' : Tally) (old : Media) (piece : List ℕ) where
+  -- where so much is left before an end
+  abbrev spot_before : (end left : ℕ) → Spot
+  spot_before end left = spot_of cut (moof_in waiting) tracks (end - left) (t.fragments + 1) old
+
+  -- and where some of it was taken
+  abbrev spot_behind : (end left : ℕ) → Media → Spot
+  spot_behind end left m = spot_of cut (moof_in waiting) tracks (end - left) (t'.fragments + 1) m
+
+  abbrev Taking : (end left : ℕ) → Taken → Type 0
+  Taking end left new = HasTaken cut tracks waiting s v w t t' (end - left) left old piece new
+
+  reached-taken : (end left : ℕ) (new : Taken) → left ≤ end → Taking end left new → end - left + new.count ≡ end - (left - new.count)
+  reached-taken end left new low g = omega (arith, low, g.count)
+
+  len-taken : (end left : ℕ) (new : Taken) → Taking end left new → length (take new.count piece) ≡ new.count
+  len-taken end left new g = length-take-le new.count piece (omega (arith, g.count))
+
+  plays-taken : (end left : ℕ) (new : Taken) → left ≤ end → Taking end left new → Plays s.written s.written' v w t.fragments t'.fragments (spot_before end left) (take new.count piece) (spot_behind end (left - new.count) new.media)
+  plays-taken end left new low g =
+      subst (λ k. Plays s.written s.written' v w t.fragments t'.fragments (spot_before end left) (take new.count piece) (spot_of cut (moof_in waiting) tracks k (t'.fragments + 1) new.media)) (reached-taken end left new low g) g.paid.plays
+
+  -- what is left ends where it did
+  pub Rises-taken : (end left : ℕ) (new : Taken) → left ≤ end → Taking end left new → Rises end (spot_before end left) → Rises end (spot_behind end (left - new.count) new.media)
+  Rises-taken end left new low g r =
+      subst (λ k. Rises end (spot_of cut (moof_in waiting) tracks k (t'.fragments + 1) new.media)) (reached-taken end left new low g) (g.paid.rises end (omega (arith, low, g.count)) r)
+
+  module _ (meaning : Meaning) (at : ℕ) (kind : FourCc) (own : ℕ) (account : Account) where
+    -- of an mdat that states its size
+    pub GoesOn-taken : (next : Context) (left : ℕ) (new : Taken) → left ≤ next.at → Taking next.at left new
+        → GoesOn (outside s.written v account t) (outside s.written' w account t') (standing meaning (InBody (playing (spot_before next.at left)) at kind next left own)) (take new.count piece) (standing meaning (InBody (playing (spot_behind next.at (left - new.count) new.media)) at kind next (left - new.count) own))
+    GoesOn-taken next left new low g =
+        let p = spot_before next.at left in
+        let q = spot_behind next.at (left - new.count) new.media in
+        let x = take new.count piece in
+        let len = len-taken next.at left new g in
+        subst (λ k. GoesOn (outside s.written v account t) (outside s.written' w account k) (standing meaning (InBody (playing p) at kind next left own)) x (standing meaning (InBody (playing q) at kind next (left - new.count) own))) (sym g.counted.tally)
+        (subst (λ l. GoesOn (outside s.written v account t) (outside s.written' w account (with_fragments t t'.fragments)) (standing meaning (InBody (playing p) at kind next left own)) x (standing meaning (InBody (playing q) at kind next (left - l) own))) len
+        (GoesOn-plays s.written s.written' v w t t'.fragments meaning at kind next own account left p q x (omega (arith, len, g.count)) low (plays-taken next.at left new low g)))
+
+    -- of one that goes to the end of the stream
+    pub GoesOn-open_taken : (needed left : ℕ) (new : Taken) → left ≤ longest → Taking longest left new
+        → GoesOn (outside s.written v account t) (outside s.written' w account t') (standing meaning (InOpenBody (playing (spot_before longest left)) at kind needed left own)) (take new.count piece) (standing meaning (InOpenBody (playing (spot_behind longest (left - new.count) new.media)) at kind (needed - new.count) (left - new.count) own))
+    GoesOn-open_taken needed left new low g =
+        let p = spot_before longest left in
+        let q = spot_behind longest (left - new.count) new.media in
+        let x = take new.count piece in
+        let len = len-taken longest left new g in
+        subst (λ k. GoesOn (outside s.written v account t) (outside s.written' w account k) (standing meaning (InOpenBody (playing p) at kind needed left own)) x (standing meaning (InOpenBody (playing q) at kind (needed - new.count) (left - new.count) own))) (sym g.counted.tally)
+        (subst (λ l. GoesOn (outside s.written v account t) (outside s.written' w account (with_fragments t t'.fragments)) (standing meaning (InOpenBody (playing p) at kind needed left own)) x (standing meaning (InOpenBody (playing q) at kind (needed - l) (left - l) own))) len
+        (GoesOn-open_plays s.written s.written' v w t t'.fragments meaning at kind own account needed left p q x (omega (arith, len, g.count)) low (plays-taken longest left new low g)))
+
+    -- a write failed: what is told of the place begins with what is told of the bytes that are its own
+    lost-taken : (end left : ℕ) (more later : List ℕ) (rest : Effects) (r : Reading) → r.effects ≡ both (playing (spot_before end left) (take left (piece ++ (more ++ later)))) rest → own ≤ account.live → FailsToTake cut tracks waiting s v w t t' (end - left) left old piece
+        → Loses (outside s.written v account t) (outside s.written' w (given_back account own) t') own r
+    lost-taken end left more later rest r e low f =
+        let p = spot_before end left in
+        let none = take (left - length piece) (more ++ later) in
+        subst (λ k. Loses (outside s.written v account t) (outside s.written' w (given_back account own) k) own r) (sym f.counted.tally)
+        (Loses-first s.written s.written' v w t t'.fragments own account (playing p (take left (piece ++ (more ++ later)))) rest r e low
+        (subst (λ l. Lost s.written s.written' v w t.fragments t'.fragments (playing p l)) (sym (own-front left piece (more ++ later))) (f.unpaid.lost none)))
+
+    pub Loses-taken : (next : Context) (left : ℕ) → own ≤ account.live → FailsToTake cut tracks waiting s v w t t' (next.at - left) left old piece → (more later : List ℕ)
+        → Loses (outside s.written v account t) (outside s.written' w (given_back account own) t') own (reads_at meaning (InBody (playing (spot_before next.at left)) at kind next left own) (piece ++ more ++ later))
+    Loses-taken next left low f more later =
+        let p = spot_before next.at left in
+        let first = body-first meaning at kind next (playing p) left (piece ++ (more ++ later)) in
+        subst (λ l. Loses (outside s.written v account t) (outside s.written' w (given_back account own) t') own (reads_at meaning (InBody (playing p) at kind next left own) l)) (sym (append_assoc piece more later))
+        (lost-taken next.at left more later first.0 (reads_at meaning (InBody (playing p) at kind next left own) (piece ++ (more ++ later))) first.1 low f)
+
+    pub Loses-open_taken : (needed left : ℕ) → own ≤ account.live → FailsToTake cut tracks waiting s v w t t' (longest - left) left old piece → (more later : List ℕ)
+        → Loses (outside s.written v account t) (outside s.written' w (given_back account own) t') own (reads_at meaning (InOpenBody (playing (spot_before longest left)) at kind needed left own) (piece ++ more ++ later))
+    Loses-open_taken needed left low f more later =
+        let p = spot_before longest left in
+        let told = playing p (take left (piece ++ (more ++ later))) in
+        subst (λ l. Loses (outside s.written v account t) (outside s.written' w (given_back account own) t') own (reads_at meaning (InOpenBody (playing p) at kind needed left own) l)) (sym (append_assoc piece more later))
+        (lost-taken longest left more later silent (reads_at meaning (InOpenBody (playing p) at kind needed left own) (piece ++ (more ++ later)))
+        (open-first meaning at kind (playing p) needed left (piece ++ (more ++ later)) ∙ sym (both-silent told)) low f)
 
 -- no more may come, and some byte does: all was told before
 pub open-far_recut : (meaning : Meaning) (at : ℕ) (kind : FourCc) (p : Spot) (needed own : ℕ) (bytes : List ℕ) → IsSettled p → 0 < length bytes

@@ -1,67 +1,25 @@
-use Rattle.std.proofs.Common.{rules, arith, ◌≡◌, ◌≤◌, ◌+◌, ◌-◌, length, length-take-le, take, subst, sym}
-use Rattle.std.proofs.lemmas.List.{take_all}
-use Rattle.mp4_recut.specs.Media.{Plays, Rises, spot_of}
-use Rattle.mp4_fragment_machine.specs.States.{moof_in}
-use Rattle.mp4_fragment_machine.proofs.RecutLemmas.{GoesOn-recut, Loses-recut}
+use Rattle.std.proofs.Common.{rules, arith, ◌≡◌, ◌≤◌, length, length-take-le, refl, take}
 use Rattle.mp4_fragment_machine.proofs.media.take_media.Goals as goal
 
-pub returns-in-Ok-clause-goes : goal.returns-in-Ok-clause-goes
-returns-in-Ok-clause-goes g c = λ meaning next own account same.
-    let cut = c.args.cut.now in
-    let h = moof_in c.args.waiting.now in
-    let tracks = c.args.tracks.now in
-    let body = c.args.body in
-    let media = c.in-Ok.media in
-    let m = c.args.tally.now.fragments in
-    let n = c.pay_all.new.fragments in
-    let most = c.min-most.result in
-    let piece = c.args.piece.now in
-    let a = g.W.Sink.contents c.args.w.now in
-    let b = g.W.Sink.contents c.pay_all.new.w in
-    let p = spot_of cut h tracks (body.next - body.left) (m + 1) c.args.media in
-    let here : most ≤ body.left = search rules in
-    let came : most ≤ length piece = search rules in
-    let len : length (take most piece) ≡ most = length-take-le most piece came in
-    let there : (body.next - body.left) + length (take most piece) ≡ body.next - (body.left - most) = omega (arith, len, here, c.requires.body) in
-    let ok = (rw (c.again-moof.ensures, c.bytes.ensures.bytes, c.offset.ensures.at, c.split_at.ensures.front) at c.in-Ok.ensures.pays).plays in
-    let plays = subst (λ k. Plays a b c.args.out.now c.pay_all.new.out m n p (take most piece) (spot_of cut h tracks k (n + 1) media)) there ok in
-    GoesOn-recut a b c.args.out.now c.pay_all.new.out c.args.tally.now n meaning body.at body.kind next own account body.left most most p
-    (spot_of cut h tracks (body.next - (body.left - most)) (n + 1) media) piece (omega arith) here came (omega (arith, same, c.requires.body))
-    (subst (λ l. Plays a b c.args.out.now c.pay_all.new.out m n p l (spot_of cut h tracks (body.next - (body.left - most)) (n + 1) media)) (sym (take_all most (take most piece) (omega (arith, len)))) plays)
-
-pub returns-in-Err-clause-lost : goal.returns-in-Err-clause-lost
-returns-in-Err-clause-lost g c = λ meaning next own account later low.
-    let cut = c.args.cut.now in
-    let h = moof_in c.args.waiting.now in
-    let tracks = c.args.tracks.now in
-    let body = c.args.body in
-    let most = c.min-most.result in
-    let piece = c.args.piece.now in
-    let p = spot_of cut h tracks (body.next - body.left) (c.args.tally.now.fragments + 1) c.args.media in
-    let err = (rw (c.again-moof.ensures, c.bytes.ensures.bytes, c.offset.ensures.at) at c.in-Err.ensures.pays).lost in
-    Loses-recut (g.W.Sink.contents c.args.w.now) (g.W.Sink.contents c.pay_all.new.w) c.args.out.now c.pay_all.new.out c.args.tally.now c.pay_all.new.fragments meaning body.at body.kind next own account body.left most p piece later (search rules) low
-    (rw (← c.split_at.ensures.front) err)
-
-pub returns-in-Ok-clause-rises : goal.returns-in-Ok-clause-rises
-returns-in-Ok-clause-rises g c = λ r.
-    let cut = c.args.cut.now in
-    let h = moof_in c.args.waiting.now in
-    let tracks = c.args.tracks.now in
-    let body = c.args.body in
-    let n = c.pay_all.new.fragments in
-    let most = c.min-most.result in
-    let piece = c.args.piece.now in
-    let here : most ≤ body.left = search rules in
-    let came : most ≤ length piece = search rules in
-    let len : length (take most piece) ≡ most = length-take-le most piece came in
-    let there : (body.next - body.left) + length (take most piece) ≡ body.next - (body.left - most) = omega (arith, len, here, c.requires.body) in
-    let rises = (rw (c.again-moof.ensures, c.bytes.ensures.bytes, c.offset.ensures.at, c.split_at.ensures.front) at c.in-Ok.ensures.pays).rises in
-    subst (λ k. Rises body.next (spot_of cut h tracks k (n + 1) c.in-Ok.media)) there (rises body.next (omega (arith, here, len, c.requires.body)) r)
-
-pub returns-in-Ok-clause-media : goal.returns-in-Ok-clause-media
-returns-in-Ok-clause-media g c =
+pub returns-in-Ok : goal.returns-in-Ok
+returns-in-Ok g c =
     let is = c.requires.media in
-    let at = (rw (c.again-moof.ensures, c.bytes.ensures.bytes, c.offset.ensures.at) at c.in-Ok.ensures.pays).next.at in
-    let settled = (rw (c.again-moof.ensures, c.bytes.ensures.bytes, c.offset.ensures.at) at c.in-Ok.ensures.pays).next.settled in
-    let numbers = (rw (c.again-moof.ensures, c.bytes.ensures.bytes, c.offset.ensures.at) at c.in-Ok.ensures.pays).next.numbers in
-    record { waiting = is.waiting; are_cut = is.are_cut; at = at; settled = settled; numbers = omega (arith, numbers, is.numbers) }
+    let most = c.min-most.result in
+    let piece = c.args.piece.now in
+    let came : most ≤ length piece = search rules in
+    let len : length (take most piece) ≡ most = length-take-le most piece came in
+    let pays = rw (c.again-moof.ensures, c.bytes.ensures.bytes, c.offset.ensures.at, c.split_at.ensures.front, len) at c.in-Ok.ensures.pays in
+    record {
+      count = search rules;
+      paid = pays;
+      media = record { waiting = is.waiting; are_cut = is.are_cut; at = pays.next.at; settled = pays.next.settled; numbers = omega (arith, pays.next.numbers, is.numbers) };
+      counted = record { tally = refl; few = c.in-Ok.ensures.few };
+    }
+
+pub returns-in-Err : goal.returns-in-Err
+returns-in-Err g c =
+    let pays = rw (c.again-moof.ensures, c.bytes.ensures.bytes, c.offset.ensures.at, c.split_at.ensures.front) at c.in-Err.ensures.pays in
+    record {
+      unpaid = rw (← c.min-most.ensures) pays;
+      counted = record { tally = refl; few = c.in-Err.ensures.few };
+    }

@@ -1,18 +1,19 @@
-use Rattle.std.proofs.Common.{◌≡◌, ◌∙◌, ◌+◌, ◌-◌, ◌*◌, ◌≤◌, ◌++◌, [], Some, ap, append_assoc, arith, length, refl, subst, sym, take}
+use Rattle.std.proofs.Common.{◌≡◌, ◌∙◌, ◌+◌, ◌-◌, ◌*◌, ◌≤◌, ◌<◌, [], Some, ap, arith, length, refl, subst, sym, take}
 use Rattle.mp4_ledger.specs.Memory.{given_back}
 use Rattle.mp4_frag.specs.Moofs.{moof_samples, moof_trafs}
 use Rattle.mp4_frag.specs.Settling.{settled}
-use Rattle.mp4_machine.specs.Pieces.{GoesOn, Loses, outside}
+use Rattle.mp4_machine.specs.Ends.{sent}
+use Rattle.mp4_machine.specs.Pieces.{GoesOn, outside}
 use Rattle.mp4_grammar.specs.Contexts.{Context, context}
 use Rattle.mp4_recut.specs.Cursors.{parts_left}
 use Rattle.mp4_recut.specs.Media.{playing, spot_of}
 use Rattle.mp4_recut.specs.Splitting.{splitting}
 use Rattle.mp4_recut.proofs.RiseLemmas.{rises-over}
-use Rattle.mp4_fragment_machine.specs.Places.{InBody, InHeader, reads_at, standing}
+use Rattle.mp4_fragment_machine.specs.Places.{InBody, InHeader, standing}
 use Rattle.mp4_fragment_machine.specs.States.{claimed_in, moof_in, most_counted, taken_by}
 use Rattle.mp4_fragment_machine.proofs.BodyLemmas.{Moves-settled, back_twice, claimed_apart}
 use Rattle.mp4_fragment_machine.proofs.CountLemmas.{counted_recut}
-use Rattle.mp4_fragment_machine.proofs.RecutLemmas.{GoesOn-recut_over}
+use Rattle.mp4_fragment_machine.proofs.RecutLemmas.{GoesOn-recut_over, GoesOn-taken, Loses-taken, Rises-taken}
 use Rattle.mp4_fragment_machine.proofs.StepLemmas.{no_head}
 use Rattle.mp4_machine.proofs.StepLemmas.{GoesOn-then}
 use Rattle.mp4_fragment_machine.proofs.media.take_split.Goals as goal
@@ -33,18 +34,16 @@ returns-in-Err g c =
     let ledger = c.args.ledger.now in
     let own = claimed_in (Some list) (Some w) in
     let apart = claimed_apart (Some list) (Some w) in
-    let place = InBody (playing (spot_of r.cut (moof_in w) list (r.body.next - r.body.left) first r.media)) r.body.at r.body.kind next r.body.left own in
-    let piece = c.args.piece.now in
-    let a = outside (g.W.Sink.contents c.args.w.now) c.args.out.now ledger old.tally in
+    let s = sent g.W.Sink.contents g.W.Sink.has_failed c.args.w.now c.take_media.new.w in
+    let fails = c.in-Err.ensures in
     let all : given_back (given_back ledger (taken_by (Some w))) (64 * length list) ≡ given_back ledger own =
     back_twice ledger (taken_by (Some w)) (64 * length list) ∙ ap (given_back ledger) (sym apart) in
     let split = rw plan at counted in
     rw (c.in-Some.is, plan, number, c.back.ensures) (record {
       step = record {
         stops = λ more later. rw all
-            (subst (λ l. Loses a (outside (g.W.Sink.contents c.take_media.new.w) c.take_media.new.out (given_back ledger own) c.take_media.new.tally) own (reads_at (splitting r.cut) place l)) (sym (append_assoc piece more later))
-            (c.in-Err.ensures.lost (splitting r.cut) next own ledger (more ++ later) low));
-        failed = λ _. c.in-Err.ensures.failed;
+            (Loses-taken r.cut list w s c.args.out.now c.take_media.new.out old.tally c.take_media.new.tally r.media c.args.piece.now (splitting r.cut) r.body.at r.body.kind own ledger next r.body.left low fails more later);
+        failed = λ _. fails.unpaid.failed;
         unfailed = λ other. absurd (other refl);
       };
       plan = refl;
@@ -52,11 +51,11 @@ returns-in-Err g c =
       empty = is.0;
       left = omega (arith, apart, low);
       counted = counted_recut r.cut old (record { tally = c.take_media.new.tally; steps = old.steps }) r.body.next most_counted (moof_samples (moof_in w)) 0 split split.far (omega arith)
-          c.take_media.ensures.few c.take_media.ensures.tally (omega arith) (omega arith);
+          fails.counted.few fails.counted.tally (omega arith) (omega arith);
     })
 
-pub returns-then-taken-eq0 : goal.returns-then-taken-eq0
-returns-then-taken-eq0 g c =
+pub returns-then-left-eq0 : goal.returns-then-left-eq0
+returns-then-left-eq0 g c =
     let r = c.args.recutting in
     let kept = c.args.kept.now in
     let old = kept.counter in
@@ -76,33 +75,36 @@ returns-then-taken-eq0 g c =
     let taken = c.in-Ok.taken in
     let effects = c.in-Ok.ensures in
     let meaning = splitting r.cut in
-    let q = spot_of r.cut (moof_in w) list (r.body.next - taken.left) (n + 1) taken.media in
+    let s = sent g.W.Sink.contents g.W.Sink.has_failed c.args.w.now c.take_media.new.w in
+    let left = r.body.left - taken.count in
+    let q = spot_of r.cut (moof_in w) list (r.body.next - left) (n + 1) taken.media in
     let o = outside (g.W.Sink.contents c.take_media.new.w) c.take_media.new.out ledger c.take_media.new.tally in
     let ended = c.end_fragment.ensures in
     let table : 64 * length (settled list (moof_trafs (moof_in w) list)) ≡ 64 * length list = ap (λ l. 64 * length l) (sym ended.tracks) ∙ ap (λ k. 64 * k) ended.len in
-    let over : r.body.next ≤ r.body.next - taken.left = omega (arith, c.if-taken-eq0.true) in
+    let over : r.body.next ≤ r.body.next - left = omega (arith, c.if-left-eq0.true) in
     let ps = parts_left r.cut (moof_in w) list (n + 1) taken.media.later in
-    let none : length ps ≡ 0 = ap length (effects.media.settled (rises-over (r.body.next - taken.left) r.body.next taken.media.gap.place taken.media.gap.left ps (effects.rises recut.rises) over)) in
-    let same : first + length (parts_left r.cut (moof_in w) list first r.media.later) ≡ n + 1 = omega (arith, effects.numbers, none) in
+    let rises = Rises-taken r.cut list w s c.args.out.now c.take_media.new.out old.tally c.take_media.new.tally r.media c.args.piece.now r.body.next r.body.left taken recut.within effects recut.rises in
+    let none : length ps ≡ 0 = ap length (effects.media.settled (rises-over (r.body.next - left) r.body.next taken.media.gap.place taken.media.gap.left ps rises over)) in
+    let same : first + length (parts_left r.cut (moof_in w) list first r.media.later) ≡ n + 1 = omega (arith, effects.paid.next.numbers, none) in
     let there = c.end_fragment.new.ledger in
     let goes : GoesOn (outside (g.W.Sink.contents c.args.w.now) c.args.out.now ledger old.tally) (outside (g.W.Sink.contents c.take_media.new.w) c.take_media.new.out there c.take_media.new.tally) (standing meaning (InBody (playing (spot_of r.cut (moof_in w) list (r.body.next - r.body.left) first r.media)) r.body.at r.body.kind next r.body.left own)) (take taken.count c.args.piece.now) (standing meaning (InHeader next [])) =
     rw ended.back
-    (GoesOn-then low (effects.goes meaning next own ledger refl) (standing meaning (InHeader next []))
-    (GoesOn-recut_over meaning r.body.at r.body.kind o _ q next taken.left own effects.media.settled (omega (arith, c.if-taken-eq0.true))
+    (GoesOn-then low (GoesOn-taken r.cut list w s c.args.out.now c.take_media.new.out old.tally c.take_media.new.tally r.media c.args.piece.now meaning r.body.at r.body.kind own ledger next r.body.left taken recut.within effects) (standing meaning (InHeader next []))
+    (GoesOn-recut_over meaning r.body.at r.body.kind o _ q next left own effects.media.settled (omega (arith, c.if-left-eq0.true))
     (Moves-settled o (64 * length list) w.moof.size (64 * length w.runs.rows) (64 * length (settled list (moof_trafs (moof_in w) list))) table low))) in (
-      effects.taken.0,
-      effects.taken.1,
+      omega (arith, effects.count, recut.some, c.requires.some),
+      omega (arith, effects.count),
       rw (c.in-Some.is, plan, number, is.0, ended.tracks) (record {
         step = record {
           goes = rw ended.tally
               (subst (λ k. GoesOn (outside (g.W.Sink.contents c.args.w.now) c.args.out.now ledger old.tally) (outside (g.W.Sink.contents c.take_media.new.w) c.take_media.new.out there c.take_media.new.tally) (standing meaning (InBody (playing (spot_of r.cut (moof_in w) list (r.body.next - r.body.left) first r.media)) r.body.at r.body.kind next r.body.left own)) (take taken.count c.args.piece.now) (standing meaning (InHeader (context r.body.next (Some (settled list (moof_trafs (moof_in w) list))) k) []))) same goes);
-          unfailed = effects.kept;
+          unfailed = effects.paid.unfailed;
           claim = rw ended.back (omega (arith, low, table));
         };
         plan = refl;
         state = (no_head [] refl, recut.near);
         counted = counted_recut r.cut old c.end_fragment.new.counter r.body.next r.body.next (moof_samples (moof_in w)) 0 split (omega arith) split.far
-            (rw ended.tally c.take_media.ensures.few) (rw ended.tally c.take_media.ensures.tally) (omega (arith, ended.walked)) (omega (arith, ended.few));
+            (rw ended.tally effects.counted.few) (rw ended.tally effects.counted.tally) (omega (arith, ended.walked)) (omega (arith, ended.few));
       }),
     )
 
@@ -128,32 +130,35 @@ returns g c =
     let taken = c.in-Ok.taken in
     let effects = c.in-Ok.ensures in
     let meaning = splitting r.cut in
+    let s = sent g.W.Sink.contents g.W.Sink.has_failed c.args.w.now c.take_media.new.w in
+    let left = r.body.left - taken.count in
     let ps = parts_left r.cut (moof_in w) list (n + 1) taken.media.later in
-    let same : first + length (parts_left r.cut (moof_in w) list first r.media.later) ≡ n + 1 + length ps = omega (arith, effects.numbers) in
-    let q = spot_of r.cut (moof_in w) list (r.body.next - taken.left) (n + 1) taken.media in
+    let same : first + length (parts_left r.cut (moof_in w) list first r.media.later) ≡ n + 1 + length ps = omega (arith, effects.paid.next.numbers) in
+    let q = spot_of r.cut (moof_in w) list (r.body.next - left) (n + 1) taken.media in
     let place = InBody (playing (spot_of r.cut (moof_in w) list (r.body.next - r.body.left) first r.media)) r.body.at r.body.kind next r.body.left own in
-    let again = λ (k : Context). InBody (playing q) r.body.at r.body.kind k taken.left own in
+    let again = λ (k : Context). InBody (playing q) r.body.at r.body.kind k left own in
     let o = outside (g.W.Sink.contents c.args.w.now) c.args.out.now ledger old.tally in
-    let o' = outside (g.W.Sink.contents c.take_media.new.w) c.take_media.new.out ledger c.take_media.new.tally in (
-      effects.taken.0,
-      effects.taken.1,
+    let o' = outside (g.W.Sink.contents c.take_media.new.w) c.take_media.new.out ledger c.take_media.new.tally in
+    let goes = GoesOn-taken r.cut list w s c.args.out.now c.take_media.new.out old.tally c.take_media.new.tally r.media c.args.piece.now meaning r.body.at r.body.kind own ledger next r.body.left taken recut.within effects in (
+      omega (arith, effects.count, recut.some, c.requires.some),
+      omega (arith, effects.count),
       rw (c.in-Some.is, plan, number) (record {
-        step = record { goes = subst (λ k. GoesOn o o' (standing meaning place) (take taken.count c.args.piece.now) (standing meaning (again (context r.body.next (Some ends) k)))) same (effects.goes meaning next own ledger refl); unfailed = effects.kept; claim = low };
+        step = record { goes = subst (λ k. GoesOn o o' (standing meaning place) (take taken.count c.args.piece.now) (standing meaning (again (context r.body.next (Some ends) k)))) same goes; unfailed = effects.paid.unfailed; claim = low };
         plan = refl;
         state = (
           is.0,
           refl,
           record {
-            some = omega (arith, c.if-taken-eq0.false);
-            within = omega (arith, effects.taken.2, recut.within);
+            some = omega (arith, c.if-left-eq0.false);
+            within = omega (arith, recut.within);
             near = recut.near;
             media = effects.media;
-            rises = effects.rises recut.rises;
+            rises = Rises-taken r.cut list w s c.args.out.now c.take_media.new.out old.tally c.take_media.new.tally r.media c.args.piece.now r.body.next r.body.left taken recut.within effects recut.rises;
           },
         );
         counted = (
           counted_recut r.cut old (record { tally = c.take_media.new.tally; steps = old.steps }) r.body.next r.body.next (moof_samples (moof_in w)) (moof_samples (moof_in w)) split (omega arith) split.far
-              c.take_media.ensures.few c.take_media.ensures.tally (omega arith) (omega arith),
+              effects.counted.few effects.counted.tally (omega arith) (omega arith),
           refl,
           refl,
         );
