@@ -20,11 +20,11 @@ ghost use Rattle.mp4_fragment_machine.specs.declared.state.State.TheVariants as 
 use crate::body::end_fragment;
 use crate::splits::{Split, begin_split};
 use crate::state::{Kept, OpenRecutting, Recutting, State, Waiting};
-use mp4_box::{Header, Size};
+use mp4_box::Header;
 use mp4_cut::Cut;
 use mp4_ends::Sink;
 use mp4_ledger::Ledger;
-use mp4_machine::{Block, Body, LONGEST, OpenBody, Stop};
+use mp4_machine::{AnyBody, Block, OpenBody, Stop, body_of};
 
 /// What is taken next behind the header of the mdat at `at`, whose media were begun.
 fn enter_split(
@@ -69,41 +69,25 @@ fn enter_split(
         unreachable!();
     };
     let number = kept.counter.tally.fragments + 1;
-    match header.size {
-        Size::Exact(size) => {
-            let body = Body {
-                at,
-                kind: header.kind,
-                next: at + size,
-                left: size - header.header_len,
-            };
-            if body.left == 0 {
-                end_fragment(waiting, list, ledger, &mut kept.counter);
-                return State::Header { at: body.next };
-            }
-            State::Media(Recutting {
-                cut,
-                number,
-                body,
-                media,
-                waiting,
-            })
+    match body_of(at, header) {
+        AnyBody::Empty { next } => {
+            end_fragment(waiting, list, ledger, &mut kept.counter);
+            State::Header { at: next }
         }
-        Size::ToEnd => {
-            let body = OpenBody {
-                at,
-                kind: header.kind,
-                needed,
-                left: LONGEST - (at + header.header_len),
-            };
-            State::OpenMedia(OpenRecutting {
-                cut,
-                number,
-                body,
-                media,
-                waiting,
-            })
-        }
+        AnyBody::Sized(body) => State::Media(Recutting {
+            cut,
+            number,
+            body,
+            media,
+            waiting,
+        }),
+        AnyBody::Open(body) => State::OpenMedia(OpenRecutting {
+            cut,
+            number,
+            body: OpenBody { needed, ..body },
+            media,
+            waiting,
+        }),
     }
 }
 

@@ -14,8 +14,8 @@ use Rattle.mp4_fragment_machine.proofs.CountLemmas.{counted_ended}
 use Rattle.mp4_fragment_machine.proofs.StepLemmas.{no_head}
 use Rattle.mp4_fragment_machine.proofs.begun.enter_split.Goals as goal
 
-pub returns-then-body-eq0 : goal.returns-then-body-eq0
-returns-then-body-eq0 c = λ number u needed numbers.
+pub returns-in-Empty : goal.returns-in-Empty
+returns-in-Empty c = λ number u needed numbers.
     let w = c.args.split.waiting in
     let m = c.args.split.media in
     let cut = c.args.cut in
@@ -23,36 +23,35 @@ returns-then-body-eq0 c = λ number u needed numbers.
     let list = c.in-Some.list in
     let h = c.args.header.now in
     let at = c.args.at in
-    let size = c.in-Exact.size in
+    let (size, is, all, far, near) = c.in-Empty.ensures in
     let n = kept.counter.tally.fragments + 1 in
     let ps = parts_left cut (moof_in w) list n m.later in
     let o = outside u.written u.waiting c.args.ledger.now kept.counter.tally in
     let ends = settled list (moof_trafs (moof_in w) list) in
     let media = rw c.in-Some.is at c.requires.media in
     let low = rw c.in-Some.is at c.requires.claim in
-    let near = rw c.in-Exact.is at c.requires.near in
-    let counted = rw c.in-Exact.is at c.requires.counted in
-    let rises = (rw (c.in-Some.is, c.in-Exact.is) at c.requires.rises) (at + size) refl in
-    let short : size ≤ h.header_len = omega (arith, c.if-body-eq0.true) in
+    let counted = rw is at c.requires.counted in
+    let rises = (rw (c.in-Some.is, is) at c.requires.rises) (at + size) refl in
+    let short : size ≤ h.header_len = omega (arith, all) in
     let none : ps ≡ [] = media.settled (rises-over (at + h.header_len) (at + size) m.gap.place m.gap.left ps rises (omega (arith, short))) in
     let many = rw c.in-Some.is at numbers in
     let ended = c.end_fragment.ensures in
     let table : 64 * length ends ≡ 64 * length list = ap (λ l. 64 * length l) (sym ended.tracks) ∙ ap (λ k. 64 * k) ended.len in
-    rw (c.in-Some.is, c.requires.plan, c.requires.empty, ended.tracks, ended.back) (record {
+    rw (c.in-Some.is, c.requires.plan, c.requires.empty, ended.tracks, ended.back, far) (record {
       step = record {
         goes = rw ended.tally
-            (begun_known cut w list number n m at h kept.tracks o _ _ c.in-Some.is (media_over cut w list number n m at h size h.size ends o _ c.in-Exact.is short (sym many ∙ omega (arith, ap length none)) refl media.settled
+            (begun_known cut w list number n m at h kept.tracks o _ _ c.in-Some.is (media_over cut w list number n m at h size h.size ends o _ is short (sym many ∙ omega (arith, ap length none)) refl media.settled
             (Moves-settled o (64 * length list) w.moof.size (64 * length w.runs.rows) (64 * length ends) table low)));
         unfailed = refl;
         claim = omega (arith, low, table);
       };
       plan = refl;
-      state = (no_head [] refl, near);
+      state = (no_head [] refl, rw far at near);
       counted = counted_ended (plans.Split cut) kept.counter c.end_fragment.new.counter (at + size) (moof_samples (moof_in w)) counted ended.tally (omega (arith, ended.walked)) ended.few;
     })
 
-pub returns-else-body-eq0 : goal.returns-else-body-eq0
-returns-else-body-eq0 c = λ number u needed numbers.
+pub returns-in-Sized : goal.returns-in-Sized
+returns-in-Sized c = λ number u needed numbers.
     let w = c.args.split.waiting in
     let m = c.args.split.media in
     let cut = c.args.cut in
@@ -60,25 +59,24 @@ returns-else-body-eq0 c = λ number u needed numbers.
     let list = c.in-Some.list in
     let h = c.args.header.now in
     let at = c.args.at in
-    let size = c.in-Exact.size in
+    let (size, is, some, same, near) = c.in-Sized.ensures in
     let n = kept.counter.tally.fragments + 1 in
     let o = outside u.written u.waiting c.args.ledger.now kept.counter.tally in
-    let room = rw c.in-Exact.is at c.requires.room in
-    let near = rw c.in-Exact.is at c.requires.near in
-    let counted = rw c.in-Exact.is at c.requires.counted in
-    let rises = (rw (c.in-Some.is, c.in-Exact.is) at c.requires.rises) (at + size) refl in
+    let room = rw is at c.requires.room in
+    let counted = rw is at c.requires.counted in
+    let rises = (rw (c.in-Some.is, is) at c.requires.rises) (at + size) refl in
     let start : at + h.header_len ≡ at + size - (size - h.header_len) = omega (arith, room) in
     let many = rw c.in-Some.is at numbers in
     let media = rw c.in-Some.is at c.requires.media in
     let low = rw c.in-Some.is at c.requires.claim in
-    rw (c.in-Some.is, c.requires.plan) (record {
-      step = record { goes = begun_known cut w list number n m at h kept.tracks o o _ c.in-Some.is (GoesOn-same (splitting cut) o _ _ (media_begins cut w list number n m at h size h.size c.in-Exact.is room many)); unfailed = refl; claim = low };
+    rw (c.in-Some.is, c.requires.plan, same) (record {
+      step = record { goes = begun_known cut w list number n m at h kept.tracks o o _ c.in-Some.is (GoesOn-same (splitting cut) o _ _ (media_begins cut w list number n m at h size h.size is room many)); unfailed = refl; claim = low };
       plan = refl;
       state = (
         c.requires.empty,
         refl,
         record {
-          some = omega (arith, c.if-body-eq0.false);
+          some = omega (arith, some);
           within = omega arith;
           near = near;
           media = media;
@@ -88,8 +86,8 @@ returns-else-body-eq0 c = λ number u needed numbers.
       counted = (counted, refl, refl);
     })
 
-pub returns-in-ToEnd : goal.returns-in-ToEnd
-returns-in-ToEnd c = λ number u needed numbers.
+pub returns-in-Open : goal.returns-in-Open
+returns-in-Open c = λ number u needed numbers.
     let w = c.args.split.waiting in
     let m = c.args.split.media in
     let cut = c.args.cut in
@@ -97,13 +95,13 @@ returns-in-ToEnd c = λ number u needed numbers.
     let list = c.in-Some.list in
     let n = kept.counter.tally.fragments + 1 in
     let o = outside u.written u.waiting c.args.ledger.now kept.counter.tally in
-    let near = rw c.in-ToEnd.is at c.requires.near in
-    let counted = rw c.in-ToEnd.is at c.requires.counted in
+    let (is, same, near) = c.in-Open.ensures in
+    let counted = rw is at c.requires.counted in
     let enough = rw c.in-Some.is at needed in
     let media = rw c.in-Some.is at c.requires.media in
     let low = rw c.in-Some.is at c.requires.claim in
-    rw (c.in-Some.is, c.requires.plan) (record {
-      step = record { goes = begun_known cut w list number n m c.args.at c.args.header.now kept.tracks o o _ c.in-Some.is (GoesOn-same (splitting cut) o _ _ (open_begins cut w list number n m c.args.at c.args.header.now c.args.split.needed c.args.header.now.size c.in-ToEnd.is near enough)); unfailed = refl; claim = low };
+    rw (c.in-Some.is, c.requires.plan, same) (record {
+      step = record { goes = begun_known cut w list number n m c.args.at c.args.header.now kept.tracks o o _ c.in-Some.is (GoesOn-same (splitting cut) o _ _ (open_begins cut w list number n m c.args.at c.args.header.now c.args.split.needed c.args.header.now.size is near enough)); unfailed = refl; claim = low };
       plan = refl;
       state = (
         c.requires.empty,
