@@ -48,7 +48,7 @@ use Rattle.mp4_recut.specs.declared.media.Taken.{Taken}
 use Rattle.mp4_recut.specs.declared.next.Gap.{Gap}
 use Rattle.mp4_recut.specs.Splitting.{copied, is_dropped, parts_of, splitting}
 use Rattle.mp4_recut.proofs.MediaLemmas.{playing-quiet}
-use Rattle.mp4_fragment_machine.specs.Working.Media.{FailsToTake, HasTaken}
+use Rattle.mp4_fragment_machine.specs.Working.Media.{FailsToBegin, FailsToTake, HasBegun, HasTaken}
 use Rattle.mp4_fragment_machine.specs.Working.Recuts.{first_spot, in_media, with_fragments, with_samples}
 use Rattle.mp4_frag.specs.Settling.{settled}
 use Rattle.mp4_fragment_machine.specs.Places.{Behind, InBody, InHeader, InOpenBody, claim_of, reached_of, reads_at, standing}
@@ -205,7 +205,7 @@ module _ (cut : Cut) (c : Context) (tracks : List Track) (moof x : List ℕ) (h 
         most = subst (λ t. AtMost (with_samples begun_in tally n) (plus tally t.tally)) (sym e) (record { fragments = omega (arith, f.most); samples = omega arith; media_bytes = omega arith; walked = omega arith });
       }
 
-  pub Loses-begun : (a b : Option (List ℕ)) (v w : Pending) (tally : Tally) (n own : ℕ) (account : Account) → own ≤ account.live → ((y : List ℕ) → Lost a b v w tally.fragments n (played begun_in.payload.start (parts_of cut begun_in) y)) → (l : List ℕ)
+  Loses-begun : (a b : Option (List ℕ)) (v w : Pending) (tally : Tally) (n own : ℕ) (account : Account) → own ≤ account.live → ((y : List ℕ) → Lost a b v w tally.fragments n (played begun_in.payload.start (parts_of cut begun_in) y)) → (l : List ℕ)
       → Loses (outside a v account tally) (outside b w (given_back account own) (with_samples begun_in tally n)) own ((standing (splitting cut) (Behind c tracks moof x)).reads l)
   Loses-begun a b v w tally n own account low f l =
       let meaning = splitting cut in
@@ -213,6 +213,22 @@ module _ (cut : Cut) (c : Context) (tracks : List Track) (moof x : List ℕ) (h 
       let reads : (standing meaning (Behind c tracks moof x)).reads l ≡ after (meaning.accepted begun_in) (then_read (reads_in meaning) (media_body meaning begun_in behind_moof h h.size l)) =
       ap (then_read (reads_in meaning)) (second-accepted meaning c tracks moof h x len is l near mdat good) ∙ then_read-told (reads_in meaning) (meaning.accepted begun_in) (media_body meaning begun_in behind_moof h h.size l) in
       lost_first a b v w tally n own account (played begun_in.payload.start (parts_of cut begun_in) first.0) first.1 ((standing meaning (Behind c tracks moof x)).reads l) (ap (λ r. r.effects) reads ∙ ap (both (meaning.accepted begun_in)) first.2) low (f first.0)
+
+  -- the media were begun
+  pub GoesOn-has_begun : (waiting : Waiting) (s : Sent) (v w : Pending) (t t' : Tally) (new : Media) (account : Account) → HasRoom h.size h.header_len → HasBegun cut begun_in waiting s v w t t' new
+      → GoesOn (outside s.written v account t) (outside s.written' w account t') (standing (splitting cut) (Behind c tracks moof x)) []
+      (standing (splitting cut) (in_media cut begun_in (spot_of cut begun_in.moof tracks begun_in.payload.start (t'.fragments + 1) new) behind_moof h (with_runs c tracks moof) h.size))
+  GoesOn-has_begun waiting s v w t t' new account room g =
+      let q = spot_of cut begun_in.moof tracks begun_in.payload.start (t'.fragments + 1) new in
+      subst (λ k. GoesOn (outside s.written v account t) (outside s.written' w account k) (standing (splitting cut) (Behind c tracks moof x)) [] (standing (splitting cut) (in_media cut begun_in q behind_moof h (with_runs c tracks moof) h.size))) (sym g.counted.tally)
+      (GoesOn-begun s.written s.written' v w t t'.fragments q account room g.plays)
+
+  -- or a write failed
+  pub Loses-fails : (s : Sent) (v w : Pending) (t t' : Tally) (own : ℕ) (account : Account) → own ≤ account.live → FailsToBegin cut begun_in s v w t t' → (l : List ℕ)
+      → Loses (outside s.written v account t) (outside s.written' w (given_back account own) t') own ((standing (splitting cut) (Behind c tracks moof x)).reads l)
+  Loses-fails s v w t t' own account low f l =
+      subst (λ k. Loses (outside s.written v account t) (outside s.written' w (given_back account own) k) own ((standing (splitting cut) (Behind c tracks moof x)).reads l)) (sym f.counted.tally)
+      (Loses-begun s.written s.written' v w t t'.fragments own account low f.lost l)
 
 -- ---- the mdat is done
 

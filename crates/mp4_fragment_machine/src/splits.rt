@@ -8,22 +8,20 @@ ghost use Rattle.mp4_init.specs.Moovs.{fault_of};
 ghost use Rattle.mp4_frag.specs.Moofs.{moof_runs, moof_samples};
 ghost use Rattle.mp4_frag.specs.RunLists.{taken_runs};
 ghost use Rattle.mp4_frag.specs.declared.run.Run.{Run};
-ghost use Rattle.mp4_ledger.specs.Memory.{Account, given_back};
 ghost use Rattle.mp4_machine.specs.Bodies.{least_end, longest};
 ghost use Rattle.mp4_machine.specs.Ends.{sent};
-ghost use Rattle.mp4_machine.specs.Pieces.{GoesOn, Loses, Takes, around, outside};
+ghost use Rattle.mp4_machine.specs.Pieces.{Takes, around};
 ghost use Rattle.mp4_grammar.specs.Contexts.{context};
 ghost use Rattle.mp4_grammar.specs.Items.{end_of, with_runs};
-ghost use Rattle.mp4_grammar.specs.Kinds.{kind_in};
 ghost use Rattle.mp4_grammar.specs.Meanings.{fragment_fault, needed_in};
-ghost use Rattle.mp4_grammar.specs.declared.kinds.Kind.TheVariants.{Mdat};
 ghost use Rattle.mp4_pieces.specs.Rooms.{room_fault};
 ghost use Rattle.mp4_recut.specs.Splitting.{parts_of, runs_parts, splitting};
 ghost use Rattle.mp4_recut.specs.Cursors.{AreCut, parts_left};
 ghost use Rattle.mp4_recut.specs.Media.{Rises, spot_of};
 ghost use Rattle.mp4_recut.specs.declared.plan.Plan.TheVariants as plans;
 ghost use Rattle.mp4_fragment_machine.specs.Places.{Behind, standing, when_stopped};
-ghost use Rattle.mp4_fragment_machine.specs.Working.Recuts.{in_media, recut_fragment, with_samples};
+ghost use Rattle.mp4_fragment_machine.specs.Working.Media.{BeginsMedia};
+ghost use Rattle.mp4_fragment_machine.specs.Working.Recuts.{in_media, recut_fragment};
 ghost use Rattle.mp4_fragment_machine.specs.States.{AreMediaOf, HasStopped, IsCounted, IsWaiting, bound_behind, claimed_in, cut_least, cut_most, looks, moof_in};
 
 use crate::body::back;
@@ -65,9 +63,6 @@ fn begin_recut<W: Sink>(
 ) -> Result<Media, Failed>
     requires waiting { IsWaiting (Some tracks.now) waiting.now }
     requires room { HasRoom header.now.size header.now.header_len }
-    requires near { least_end (waiting.now.moof.at + length waiting.now.moof.bytes)
-        header.now header.now.size ≤ longest }
-    requires mdat { kind_in header.now.kind.0 ≡ Mdat }
     requires good { fragment_fault (splitting cut.now) (recut_fragment waiting.now tracks.now
         (tally.old.fragments + 1) header.now) ≡ None }
     requires cut { AreCut cut.now (moof_in waiting.now) tracks.now }
@@ -78,41 +73,9 @@ fn begin_recut<W: Sink>(
         (taken_runs (moof_in waiting.now) tracks.now) }
     requires few { tally.old.samples + measure.samples < 2 ^ 128 }
     requires small { tally.old.media_bytes + measure.bytes < 2 ^ 64 }
-    ensures goes { IfOk result (λ m. (x : List ℕ) (account : Account) → length x ≡ need x →
-        header_at x ≡ steps.Whole header.now →
-        GoesOn (outside (W.contents w.old) out.old account tally.old)
-        (outside (W.contents w.new) out.new account tally.new)
-        (standing (splitting cut.now) (Behind (context waiting.now.moof.at (Some tracks.now)
-        (tally.old.fragments + 1)) tracks.now waiting.now.moof.bytes x)) []
-        (standing (splitting cut.now) (in_media cut.now (recut_fragment waiting.now tracks.now
-        (tally.old.fragments + 1) header.now) (spot_of cut.now (moof_in waiting.now) tracks.now
-        (waiting.now.moof.at + length waiting.now.moof.bytes + header.now.header_len)
-        (tally.new.fragments + 1) m)
-        (waiting.now.moof.at + length waiting.now.moof.bytes) header.now
-        (with_runs (context waiting.now.moof.at (Some tracks.now) (tally.old.fragments + 1))
-        tracks.now waiting.now.moof.bytes) header.now.size))) }
-    ensures media { IfOk result (λ m. AreMediaOf cut.now tracks.now waiting.now
-        (tally.new.fragments + 1) m) }
-    ensures rises { IfOk result (λ m. (end : ℕ) → end_of (waiting.now.moof.at +
-        length waiting.now.moof.bytes) header.now.size ≡ Some end →
-        Rises end (spot_of cut.now (moof_in waiting.now) tracks.now
-        (waiting.now.moof.at + length waiting.now.moof.bytes + header.now.header_len)
-        (tally.new.fragments + 1) m)) }
-    ensures numbers { IfOk result (λ m. tally.new.fragments + 1 + length (parts_left cut.now
-        (moof_in waiting.now) tracks.now (tally.new.fragments + 1) m.later) ≡
-        (splitting cut.now).numbered (recut_fragment waiting.now tracks.now
-        (tally.old.fragments + 1) header.now)) }
-    ensures lost { OnErr result ((x : List ℕ) (account : Account) (own : ℕ) (l : List ℕ) →
-        length x ≡ need x → header_at x ≡ steps.Whole header.now → own ≤ account.live →
-        Loses (outside (W.contents w.old) out.old account tally.old)
-        (outside (W.contents w.new) out.new (given_back account own) tally.new) own
-        ((standing (splitting cut.now) (Behind (context waiting.now.moof.at (Some tracks.now)
-        (tally.old.fragments + 1)) tracks.now waiting.now.moof.bytes x)).reads l)) }
-    ensures tally { tally.new ≡ with_samples (recut_fragment waiting.now tracks.now
-        (tally.old.fragments + 1) header.now) tally.old tally.new.fragments }
-    ensures few_numbers { tally.new.fragments + 1 ≤ 2 ^ 32 }
-    ensures failed { OnErr result (W.has_failed w.new ≡ true) }
-    ensures kept { OnOk result (W.has_failed w.new ≡ W.has_failed w.old) }
+    ensures { BeginsMedia cut.now (recut_fragment waiting.now tracks.now (tally.old.fragments + 1)
+        header.now) waiting.now (sent W.contents W.has_failed w.old w.new) out.old out.new
+        tally.old tally.new result }
 {
     tally.samples += u128::from(measure.samples);
     tally.media_bytes += measure.bytes;

@@ -1,4 +1,4 @@
-use Rattle.std.proofs.Common.{◌≡◌, ◌∙◌, ◌+◌, ◌*◌, ◌++◌, ap, arith, length, subst, sym, refl, Some, None}
+use Rattle.std.proofs.Common.{◌≡◌, ◌∙◌, ◌+◌, ◌*◌, ◌++◌, ◌≤◌, ap, arith, length, subst, sym, refl, Some, None}
 use Rattle.std.specs.Option.{option_or}
 use Rattle.mp4_frag.specs.Moofs.{moof_runs}
 use Rattle.mp4_frag.specs.Places.{place_fault}
@@ -6,6 +6,8 @@ use Rattle.mp4_ledger.specs.Memory.{given_back}
 use Rattle.mp4_pieces.specs.Rooms.{room_fault}
 use Rattle.mp4_grammar.specs.Contexts.{context}
 use Rattle.mp4_grammar.specs.Meanings.{fragment_fault}
+use Rattle.mp4_machine.specs.Bodies.{least_end, longest}
+use Rattle.mp4_machine.specs.Ends.{sent}
 use Rattle.mp4_machine.specs.Pieces.{outside}
 use Rattle.mp4_machine.proofs.PieceLemmas.{Takes-ok, Takes-err}
 use Rattle.mp4_recut.specs.Splitting.{splitting}
@@ -14,6 +16,7 @@ use Rattle.mp4_fragment_machine.specs.Working.Recuts.{recut_fragment}
 use Rattle.mp4_fragment_machine.specs.States.{moof_in, taken_by}
 use Rattle.mp4_fragment_machine.proofs.BehindLemmas.{rows_of}
 use Rattle.mp4_fragment_machine.proofs.BodyLemmas.{back_twice}
+use Rattle.mp4_fragment_machine.proofs.RecutLemmas.{GoesOn-has_begun, Loses-fails}
 use Rattle.mp4_fragment_machine.proofs.SecondLemmas.{misplaced-behind, payload-of}
 use Rattle.mp4_fragment_machine.proofs.SplitLemmas.{Refuses-split, claims-split}
 use Rattle.mp4_fragment_machine.proofs.splits.begin_split.Goals as goal
@@ -61,7 +64,16 @@ begin_recut-requires-clause-good g c =
 
 pub returns-in-Ok-begin_recut-clause-takes : goal.returns-in-Ok-begin_recut-clause-takes
 returns-in-Ok-begin_recut-clause-takes g c =
-    Takes-ok (c.in-Ok-begin_recut.ensures.goes c.args.head.now c.args.ledger.now c.requires.len c.requires.is) c.in-Ok-begin_recut.ensures.kept
+    let w = c.args.waiting in
+    let tracks = c.args.tracks.now in
+    let number = c.args.counter.now.tally.fragments + 1 in
+    let cut = c.args.cut.now in
+    let f = recut_fragment w tracks number c.args.header.now in
+    let good : fragment_fault (splitting cut) f ≡ None = ap (λ e. option_or e (room_fault cut f.moof (moof_runs f.moof f.tracks) f.number)) (c.in-Ok.ensures.good number) ∙ sym c.in-Ok-check_fragment.ensures.fault in
+    let s = sent g.W.Sink.contents g.W.Sink.has_failed c.args.w.now c.begin_recut.new.w in
+    let near : least_end (w.moof.at + length w.moof.bytes) c.args.header.now c.args.header.now.size ≤ longest = subst (λ k. least_end (w.moof.at + k) c.args.header.now c.args.header.now.size ≤ longest) (sym c.requires.waiting.size) c.in-Ok.ensures.near in
+    Takes-ok (GoesOn-has_begun cut (context w.moof.at (Some tracks) number) tracks w.moof.bytes c.args.head.now c.args.header.now c.requires.len c.requires.is near c.in-Ok.ensures.mdat good w s c.args.out.now c.begin_recut.new.out c.args.counter.now.tally c.begin_recut.new.tally c.in-Ok-begin_recut.media c.args.ledger.now c.requires.room c.in-Ok-begin_recut.ensures)
+    c.in-Ok-begin_recut.ensures.unfailed
 
 pub returns-in-Err-begin_recut-clause-takes : goal.returns-in-Err-begin_recut-clause-takes
 returns-in-Err-begin_recut-clause-takes g c =
@@ -71,9 +83,14 @@ returns-in-Err-begin_recut-clause-takes g c =
     let cut = c.args.cut.now in
     let ledger = c.args.ledger.now in
     let o = outside (g.W.Sink.contents c.args.w.now) c.args.out.now ledger c.args.counter.now.tally in
+    let f = recut_fragment w tracks number c.args.header.now in
+    let good : fragment_fault (splitting cut) f ≡ None = ap (λ e. option_or e (room_fault cut f.moof (moof_runs f.moof f.tracks) f.number)) (c.in-Ok.ensures.good number) ∙ sym c.in-Ok-check_fragment.ensures.fault in
+    let s = sent g.W.Sink.contents g.W.Sink.has_failed c.args.w.now c.begin_recut.new.w in
+    let near : least_end (w.moof.at + length w.moof.bytes) c.args.header.now c.args.header.now.size ≤ longest = subst (λ k. least_end (w.moof.at + k) c.args.header.now c.args.header.now.size ≤ longest) (sym c.requires.waiting.size) c.in-Ok.ensures.near in
     let place = standing (splitting cut) (Behind (context w.moof.at (Some tracks) number) tracks w.moof.bytes c.args.head.now) in
     let own = claims-split (splitting cut) number o w tracks c.args.head.now (rows_of tracks w c.requires.waiting) c.requires.claim in
     let all : given_back (given_back ledger (taken_by (Some w))) (64 * length tracks) ≡ given_back ledger place.claim =
     back_twice ledger (taken_by (Some w)) (64 * length tracks) ∙ ap (given_back ledger) (sym own) in
     rw (c.back-in-Err-begin_recut.ensures, all)
-    (Takes-err (λ more later. c.in-Err-begin_recut.ensures.lost c.args.head.now ledger place.claim (more ++ later) c.requires.len c.requires.is (omega (arith, own, c.requires.claim))) (λ _. c.in-Err-begin_recut.ensures.failed) (λ other. absurd (other refl)))
+    (Takes-err (λ more later. Loses-fails cut (context w.moof.at (Some tracks) number) tracks w.moof.bytes c.args.head.now c.args.header.now c.requires.len c.requires.is near c.in-Ok.ensures.mdat good s c.args.out.now c.begin_recut.new.out c.args.counter.now.tally c.begin_recut.new.tally place.claim ledger (omega (arith, own, c.requires.claim)) c.in-Err-begin_recut.ensures (more ++ later))
+    (λ _. c.in-Err-begin_recut.ensures.failed) (λ other. absurd (other refl)))
