@@ -1,4 +1,4 @@
-use Rattle.std.proofs.Common.{◌≡◌, ◌∙◌, ◌+◌, ◌-◌, ◌*◌, ◌≤◌, ◌<◌, [], Some, ap, arith, length, refl, subst, sym, take}
+use Rattle.std.proofs.Common.{◌≡◌, ◌∙◌, ◌+◌, ◌-◌, ◌*◌, ◌≤◌, [], Some, ap, arith, length, refl, subst, sym, take}
 use Rattle.mp4_ledger.specs.Memory.{given_back}
 use Rattle.mp4_frag.specs.Moofs.{moof_samples, moof_trafs}
 use Rattle.mp4_frag.specs.Settling.{settled}

@@ -1,4 +1,4 @@
-use Rattle.std.proofs.Common.{◌≡◌, ◌∙◌, ◌+◌, ◌-◌, ◌*◌, ◌≤◌, ◌<◌, Some, ap, arith, length, refl, sym}
+use Rattle.std.proofs.Common.{◌≡◌, ◌∙◌, ◌*◌, Some, ap, arith, length, refl, sym}
 use Rattle.mp4_ledger.specs.Memory.{given_back}
 use Rattle.mp4_machine.specs.Bodies.{longest}
 use Rattle.mp4_machine.specs.Ends.{sent}
