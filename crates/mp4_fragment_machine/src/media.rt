@@ -102,21 +102,15 @@ pub(crate) fn take_split<W: Sink>(
     let left = body.left - count as u64;
     if left == 0 {
         end_fragment(waiting, list, ledger, &mut kept.counter);
-        return Ok(Taken {
-            count,
-            state: State::Header { at: body.next },
-        });
+        let state = State::Header { at: body.next };
+        return Ok(Taken { count, state });
     }
-    let body = Body { left, ..body };
-    let recutting = Recutting {
+    let state = State::Media(Recutting {
         cut,
         number: kept.counter.tally.fragments + 1,
-        body,
+        body: Body { left, ..body },
         media: taken.media,
         waiting,
-    };
-    Ok(Taken {
-        count,
-        state: State::Media(recutting),
-    })
+    });
+    Ok(Taken { count, state })
 }

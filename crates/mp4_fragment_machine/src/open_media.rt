@@ -49,33 +49,27 @@ pub(crate) fn take_open_split<W: Sink>(
     }
     let tally = &mut kept.counter.tally;
     let at = LONGEST - body.left;
-    match take_media(
+    let taken = match take_media(
         at, body.left, media, &waiting, piece, list, &cut, tally, out, w,
     ) {
-        Ok(taken) => {
-            let number = kept.counter.tally.fragments + 1;
-            let count = taken.count as u64;
-            let body = OpenBody {
-                at: body.at,
-                kind: body.kind,
-                needed: body.needed.saturating_sub(count),
-                left: body.left - count,
-            };
-            let recutting = OpenRecutting {
-                cut,
-                number,
-                body,
-                media: taken.media,
-                waiting,
-            };
-            Ok(Taken {
-                count: taken.count,
-                state: State::OpenMedia(recutting),
-            })
-        }
+        Ok(taken) => taken,
         Err(Failed) => {
             back(Some(waiting), ledger);
-            Err(Stop::Write)
+            return Err(Stop::Write);
         }
-    }
+    };
+    let count = taken.count;
+    let body = OpenBody {
+        needed: body.needed.saturating_sub(count as u64),
+        left: body.left - count as u64,
+        ..body
+    };
+    let state = State::OpenMedia(OpenRecutting {
+        cut,
+        number: kept.counter.tally.fragments + 1,
+        body,
+        media: taken.media,
+        waiting,
+    });
+    Ok(Taken { count, state })
 }

@@ -1,6 +1,6 @@
 //! How the fragment of a moof is begun whose media are recut.
 
-ghost use Rattle.std.specs.Prelude.{◌≡◌, ℕ, ◌+◌, ◌*◌, ◌<◌, ◌≤◌, ◌^◌, [], ◌++◌, List, length, None, Some, true, IfOk, OnOk, OnErr};
+ghost use Rattle.std.specs.Prelude.{◌≡◌, ◌+◌, ◌<◌, ◌≤◌, ◌^◌, length, None, Some, OnOk};
 ghost use Rattle.std.specs.List.{sum_by};
 ghost use Rattle.mp4_box.specs.Headers.{HasRoom, header_at, need};
 ghost use Rattle.mp4_box.specs.declared.headers.Step.TheVariants as steps;
@@ -8,21 +8,15 @@ ghost use Rattle.mp4_init.specs.Moovs.{fault_of};
 ghost use Rattle.mp4_frag.specs.Moofs.{moof_runs, moof_samples};
 ghost use Rattle.mp4_frag.specs.RunLists.{taken_runs};
 ghost use Rattle.mp4_frag.specs.declared.run.Run.{Run};
-ghost use Rattle.mp4_machine.specs.Bodies.{least_end, longest};
 ghost use Rattle.mp4_machine.specs.Ends.{sent};
-ghost use Rattle.mp4_machine.specs.Pieces.{Takes, around};
-ghost use Rattle.mp4_grammar.specs.Contexts.{context};
-ghost use Rattle.mp4_grammar.specs.Items.{end_of, with_runs};
-ghost use Rattle.mp4_grammar.specs.Meanings.{fragment_fault, needed_in};
+ghost use Rattle.mp4_grammar.specs.Meanings.{fragment_fault};
 ghost use Rattle.mp4_pieces.specs.Rooms.{room_fault};
 ghost use Rattle.mp4_recut.specs.Splitting.{parts_of, runs_parts, splitting};
-ghost use Rattle.mp4_recut.specs.Cursors.{AreCut, parts_left};
-ghost use Rattle.mp4_recut.specs.Media.{Rises, spot_of};
-ghost use Rattle.mp4_recut.specs.declared.plan.Plan.TheVariants as plans;
-ghost use Rattle.mp4_fragment_machine.specs.Places.{Behind, standing, when_stopped};
-ghost use Rattle.mp4_fragment_machine.specs.Working.Media.{BeginsMedia};
-ghost use Rattle.mp4_fragment_machine.specs.Working.Recuts.{in_media, recut_fragment};
-ghost use Rattle.mp4_fragment_machine.specs.States.{AreMediaOf, HasStopped, IsCounted, IsWaiting, bound_behind, claimed_in, cut_least, cut_most, looks, moof_in};
+ghost use Rattle.mp4_recut.specs.Cursors.{AreCut};
+ghost use Rattle.mp4_fragment_machine.specs.Working.Media.{BeginsMedia, BeginsSplit};
+ghost use Rattle.mp4_fragment_machine.specs.Working.Recuts.{recut_fragment};
+ghost use Rattle.mp4_fragment_machine.specs.Working.Steps.{lent};
+ghost use Rattle.mp4_fragment_machine.specs.States.{IsWaiting, claimed_in, cut_least, cut_most, looks, moof_in};
 
 use crate::body::back;
 use crate::mdat_check::{check_mdat, payload_of};
@@ -163,46 +157,10 @@ pub(crate) fn begin_split<W: Sink>(
     requires steps { counter.old.steps.rows < 2 ^ 120 }
     requires few { counter.old.tally.samples < 2 ^ 100 }
     requires small { counter.old.tally.media_bytes < 2 ^ 63 }
-    ensures takes { Takes (around (sent W.contents W.has_failed w.old w.new) out.old out.new
-        ledger.old (when_stopped result (64 * length tracks.now) ledger.new)
-        counter.old.tally counter.new.tally)
-        (standing (splitting cut.now) (Behind (context waiting.moof.at (Some tracks.now)
-        (counter.old.tally.fragments + 1)) tracks.now waiting.moof.bytes head.now))
-        [] (λ _. []) (λ s. standing (splitting cut.now) (in_media cut.now
-        (recut_fragment waiting tracks.now (counter.old.tally.fragments + 1) header.now)
-        (spot_of cut.now (moof_in waiting) tracks.now
-        (waiting.moof.at + length waiting.moof.bytes + header.now.header_len)
-        (counter.new.tally.fragments + 1) s.media)
-        (waiting.moof.at + length waiting.moof.bytes) header.now
-        (with_runs (context waiting.moof.at (Some tracks.now) (counter.old.tally.fragments + 1))
-        tracks.now waiting.moof.bytes) header.now.size)) result }
-    ensures same { IfOk result (λ s. s.waiting ≡ waiting) }
-    ensures media { IfOk result (λ s. AreMediaOf cut.now tracks.now waiting
-        (counter.new.tally.fragments + 1) s.media) }
-    ensures rises { IfOk result (λ s. (end : ℕ) → end_of (waiting.moof.at +
-        length waiting.moof.bytes) header.now.size ≡ Some end →
-        Rises end (spot_of cut.now (moof_in waiting) tracks.now
-        (waiting.moof.at + length waiting.moof.bytes + header.now.header_len)
-        (counter.new.tally.fragments + 1) s.media)) }
-    ensures numbers { IfOk result (λ s. counter.new.tally.fragments + 1 + length (parts_left
-        cut.now (moof_in waiting) tracks.now (counter.new.tally.fragments + 1) s.media.later)
-        ≡ (splitting cut.now).numbered (recut_fragment waiting tracks.now
-        (counter.old.tally.fragments + 1) header.now)) }
-    ensures needed { IfOk result (λ s. s.needed ≡ needed_in (recut_fragment waiting tracks.now
-        (counter.old.tally.fragments + 1) header.now)) }
-    ensures near { IfOk result (λ s. least_end (waiting.moof.at + length waiting.moof.bytes)
-        header.now header.now.size ≤ longest) }
-    ensures counted { IsCounted (plans.Split cut.now) counter.old
-        (waiting.moof.at + waiting.moof.size) (moof_samples (moof_in waiting))
-        (moof_samples (moof_in waiting)) → IfOk result (λ s. IsCounted (plans.Split cut.now)
-        counter.new (bound_behind (waiting.moof.at + waiting.moof.size) header.now.size) 0
-        (moof_samples (moof_in waiting))) }
-    ensures spent { IsCounted (plans.Split cut.now) counter.old
-        (waiting.moof.at + waiting.moof.size) (moof_samples (moof_in waiting))
-        (moof_samples (moof_in waiting)) →
-        OnErr result (HasStopped (plans.Split cut.now) counter.new) }
-    ensures ledger { IfOk result (λ s. ledger.new ≡ ledger.old) }
-    ensures left { OnErr result (64 * length tracks.now ≤ ledger.new.live) }
+    ensures { BeginsSplit cut.now (recut_fragment waiting tracks.now
+        (counter.old.tally.fragments + 1) header.now) waiting header.now head.now
+        (lent W.contents W.has_failed w.old w.new out.old out.new ledger.old ledger.new)
+        counter.old counter.new result }
 {
     match check_mdat(&waiting, header, tracks) {
         Ok(()) => {}

@@ -1,4 +1,4 @@
-use Rattle.std.proofs.Common.{◌≡◌, ℕ, ◌+◌, Err, List, Option, Some, [], ap, arith, length, refl, subst}
+use Rattle.std.proofs.Common.{◌≡◌, ℕ, ◌+◌, List, Option, Some, [], arith, length, refl, subst}
 use Rattle.mp4_grammar.specs.Contexts.{context}
 use Rattle.mp4_grammar.specs.Items.{with_runs}
 use Rattle.mp4_machine.specs.Pieces.{GoesOn, outside}
@@ -35,7 +35,7 @@ returns-in-Ok g c =
     let place = Behind (context w.moof.at (Some list) number) list w.moof.bytes c.args.head.now in
     let q = spot_of cut (moof_in w) list (at + h.header_len) (c.begin_split.new.counter.tally.fragments + 1) c.in-Ok.split.media in
     let own : with_runs (context w.moof.at (Some list) number) list w.moof.bytes ≡ claimed_in (Some list) (Some w) = claimed_behind number w (Some list) i c.args.head.now in
-    let goes = subst (λ k. GoesOn o o' (standing meaning place) [] (standing meaning (in_media cut (recut_fragment w list number h) q at h k h.size))) own begun.takes.ok in
+    let goes = subst (λ k. GoesOn o o' (standing meaning place) [] (standing meaning (in_media cut (recut_fragment w list number h) q at h k h.size))) own begun.goes in
     let there : c.offset.result + c.size.result ≡ at = omega (arith, c.offset.ensures.at, c.size.ensures, i.size) in
     let n = c.begin_split.new.counter.tally.fragments + 1 in
     let m = c.in-Ok.split.media in
@@ -43,7 +43,7 @@ returns-in-Ok g c =
     → GoesTo (lent_ledger u c.begin_split.new.ledger c.enter_split.new.ledger) (record { plan = kept.plan; tracks = kept.tracks; head = kept.head; counter = c.begin_split.new.counter }) c.enter_split.new.kept (in_media cut (recut_fragment x (known t) number h) (spot_of cut (moof_in x) (known t) (k + h.header_len) n m) k h (claimed_in t (Some x)) h.size) [] c.enter_split.result in
     let entered = subst (λ t. step w at t) c.in-Some.is (subst (λ x. step x at kept.tracks) begun.same (subst (λ k. step c.in-Ok.split.waiting k kept.tracks) there (c.enter_split.ensures number u))) in
     rw (c.in-Some.is, c.requires.plan)
-    (GoesTo-behind (entered begun.needed begun.numbers) can.claim c.requires.plan (begun.takes.kept (λ e. absurd cc)) goes)
+    (GoesTo-behind (entered begun.needed begun.begun.numbers) can.claim c.requires.plan begun.unfailed goes)
 
 pub returns-in-Err : goal.returns-in-Err
 returns-in-Err g c =
@@ -51,4 +51,4 @@ returns-in-Err g c =
     let begun = c.in-Err.ensures in
     let kept = c.args.kept.now in
     let can = rw (c.in-Some.is, c.requires.plan) at c.requires.can in
-    rw (c.in-Some.is, c.requires.plan) (record { step = record { stops = begun.takes.err; failed = λ e. begun.takes.failed (ap Err e); unfailed = λ other. begun.takes.kept (λ is. other cc) }; plan = refl; tracks = refl; empty = c.requires.empty; left = begun.left; counted = begun.spent can.counted })
+    rw (c.in-Some.is, c.requires.plan) (record { step = begun.step; plan = refl; tracks = refl; empty = c.requires.empty; left = begun.left; counted = begun.counted can.counted })

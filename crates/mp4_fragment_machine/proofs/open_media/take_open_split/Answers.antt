@@ -26,8 +26,8 @@ returns-then-body-eq0 g c =
     let p = spot_of r.cut (moof_in r.waiting) list longest r.number r.media in
     rw (c.in-Some.is, plan, c.if-body-eq0.true, c.back.ensures, c.at_fault.ensures) (record { step = record { stops = λ more. Refuses-open_recut (splitting r.cut) r.body.at r.body.kind o r.body.needed (claimed_in (Some list) (Some r.waiting)) p c.args.piece.now more (64 * length list) (taken_by (Some r.waiting)) is.2.media.settled c.requires.some apart low; failed = λ is. absurd cc; unfailed = λ _. refl }; plan = refl; tracks = refl; empty = is.0; left = omega (arith, apart, low); counted = rw plan at (counted_later kept.plan kept.counter most_counted most_counted (moof_samples (moof_in r.waiting)) 0 (omega arith) (omega arith) (omega arith) counted) })
 
-pub returns-in-Ok : goal.returns-in-Ok
-returns-in-Ok g c =
+pub returns : goal.returns
+returns g c =
     let r = c.args.recutting in
     let kept = c.args.kept.now in
     let old = kept.counter in
