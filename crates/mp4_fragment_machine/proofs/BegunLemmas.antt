@@ -18,9 +18,12 @@ use Rattle.mp4_recut.specs.Media.{IsSettled, playing, spot_of}
 use Rattle.mp4_recut.specs.Splitting.{splitting}
 use Rattle.mp4_recut.specs.declared.media.Media.{Media}
 use Rattle.mp4_fragment_machine.specs.Places.{InBody, InHeader, InOpenBody, Place, standing}
+use Rattle.mp4_fragment_machine.proofs.BehindLemmas.{claimed_behind}
 use Rattle.mp4_fragment_machine.proofs.RecutLemmas.{GoesOn-recut_over}
+use Rattle.mp4_grammar.specs.Items.{with_runs}
+use Rattle.mp4_fragment_machine.specs.Working.Media.{in_begun}
 use Rattle.mp4_fragment_machine.specs.Working.Recuts.{in_media, recut_fragment}
-use Rattle.mp4_fragment_machine.specs.States.{claimed_in, known, moof_in, place_of}
+use Rattle.mp4_fragment_machine.specs.States.{IsWaiting, claimed_in, known, moof_in, place_of}
 use Rattle.mp4_fragment_machine.specs.declared.state.State.TheVariants as states
 use Rattle.mp4_fragment_machine.specs.declared.state.Waiting.{Waiting}
 
@@ -39,11 +42,16 @@ module _ (cut : Cut) (w : Waiting) (tracks : List Track) (number n : ℕ) (m : M
   abbrev pub begun_at : Size → Place
   begun_at size = in_media cut (recut_fragment w tracks number h) (spot_of cut (moof_in w) tracks (at + h.header_len) n m) at h own size
 
-  -- so it is by the tracks that are known
-  pub begun_known : (ts : Option (List Track)) (o o' : Outside) (q : Standing) → ts ≡ Some tracks → GoesOn o o' (standing (splitting cut) (begun_at h.size)) [] q
-      → GoesOn o o' (standing (splitting cut) (in_media cut (recut_fragment w (known ts) number h) (spot_of cut (moof_in w) (known ts) (at + h.header_len) n m) at h (claimed_in ts (Some w)) h.size)) [] q
-  begun_known ts o o' q e =
-      subst (λ t. GoesOn o o' (standing (splitting cut) (in_media cut (recut_fragment w (known t) number h) (spot_of cut (moof_in w) (known t) (at + h.header_len) n m) at h (claimed_in t (Some w)) h.size)) [] q) (sym e)
+  -- so it is by the tracks that are known, where the mdat stands behind the moof
+  pub begun_known : (ts : Option (List Track)) (o o' : Outside) (q : Standing) → ts ≡ Some tracks → IsWaiting ts w → at ≡ w.moof.at + length w.moof.bytes → GoesOn o o' (standing (splitting cut) (begun_at h.size)) [] q
+      → GoesOn o o' (standing (splitting cut) (in_begun cut (recut_fragment w (known ts) number h) w h n m)) [] q
+  begun_known ts o o' q e i there g =
+      let f = recut_fragment w tracks number h in
+      let behind = w.moof.at + length w.moof.bytes in
+      let all : with_runs (context w.moof.at (Some tracks) number) tracks w.moof.bytes ≡ own = claimed_behind number w (Some tracks) (subst (λ t. IsWaiting t w) e i) [] in
+      let moved = subst (λ k. GoesOn o o' (standing (splitting cut) (in_media cut f (spot_of cut (moof_in w) tracks (k + h.header_len) n m) k h own h.size)) [] q) there g in
+      let claimed = subst (λ k. GoesOn o o' (standing (splitting cut) (in_media cut f (spot_of cut (moof_in w) tracks (behind + h.header_len) n m) behind h k h.size)) [] q) (sym all) moved in
+      subst (λ t. GoesOn o o' (standing (splitting cut) (in_begun cut (recut_fragment w (known t) number h) w h n m)) [] q) (sym e) claimed
 
   -- in an mdat that states its size
   pub media_begins : (s : ℕ) (size : Size) → size ≡ Exact s → h.header_len ≤ s → n + length (parts_left cut (moof_in w) tracks n m.later) ≡ (splitting cut).numbered (recut_fragment w tracks number h)

@@ -1,20 +1,16 @@
 //! What is taken next of a fragment that was begun, whose media are recut.
 
-ghost use Rattle.std.specs.Prelude.{◌≡◌, ℕ, ◌+◌, ◌≤◌, [], length, Some};
+ghost use Rattle.std.specs.Prelude.{◌≡◌, ℕ, ◌+◌, ◌≤◌, [], length};
 ghost use Rattle.mp4_box.specs.Headers.{HasRoom, header_at, need};
 ghost use Rattle.mp4_box.specs.declared.headers.Step.TheVariants as steps;
 ghost use Rattle.mp4_frag.specs.Moofs.{moof_samples};
-ghost use Rattle.mp4_grammar.specs.Items.{end_of};
-ghost use Rattle.mp4_grammar.specs.Meanings.{needed_in};
 ghost use Rattle.mp4_machine.specs.Bodies.{least_end, longest};
-ghost use Rattle.mp4_recut.specs.Cursors.{parts_left};
-ghost use Rattle.mp4_recut.specs.Media.{Rises, spot_of};
-ghost use Rattle.mp4_recut.specs.Splitting.{splitting};
 ghost use Rattle.mp4_recut.specs.declared.plan.Plan.TheVariants as plans;
 ghost use Rattle.mp4_fragment_machine.specs.Places.{Unlent};
-ghost use Rattle.mp4_fragment_machine.specs.Working.Recuts.{in_media, recut_fragment};
-ghost use Rattle.mp4_fragment_machine.specs.States.{AreMediaOf, IsCounted, IsWaiting, bound_behind, claimed_in, known, moof_in};
-ghost use Rattle.mp4_fragment_machine.specs.Working.Steps.{Advances, CanStep, GoesTo, lent, lent_ledger, with_head};
+ghost use Rattle.mp4_fragment_machine.specs.States.{IsCounted, IsWaiting, bound_behind, claimed_in, known, moof_in};
+ghost use Rattle.mp4_fragment_machine.specs.Working.Media.{EntersMedia};
+ghost use Rattle.mp4_fragment_machine.specs.Working.Recuts.{recut_fragment};
+ghost use Rattle.mp4_fragment_machine.specs.Working.Steps.{Advances, CanStep, lent, lent_ledger, with_head};
 ghost use Rattle.mp4_fragment_machine.specs.declared.state.State.TheVariants as states;
 
 use crate::body::end_fragment;
@@ -40,25 +36,13 @@ fn enter_split(
     requires at { at ≡ split.waiting.moof.at + length split.waiting.moof.bytes }
     requires plan { kept.old.plan ≡ plans.Split cut }
     requires empty { kept.old.head ≡ [] }
-    requires known { kept.old.tracks ≡ Some (known kept.old.tracks) }
-    requires media { AreMediaOf cut (known kept.old.tracks) split.waiting
-        (kept.old.counter.tally.fragments + 1) split.media }
-    requires rises { (end : ℕ) → end_of at header.now.size ≡ Some end → Rises end (spot_of cut
-        (moof_in split.waiting) (known kept.old.tracks) (at + header.now.header_len)
-        (kept.old.counter.tally.fragments + 1) split.media) }
+    requires waiting { IsWaiting kept.old.tracks split.waiting }
     requires claim { claimed_in kept.old.tracks (Some split.waiting) ≤ ledger.old.live }
     requires counted { IsCounted (plans.Split cut) kept.old.counter (bound_behind at header.now.size)
         0 (moof_samples (moof_in split.waiting)) }
-    ensures { (number : ℕ) (u : Unlent) →
-        split.needed ≡ needed_in (recut_fragment split.waiting (known kept.old.tracks) number header.now) →
-        kept.old.counter.tally.fragments + 1 + length (parts_left cut (moof_in split.waiting)
-        (known kept.old.tracks) (kept.old.counter.tally.fragments + 1) split.media.later) ≡
-        (splitting cut).numbered (recut_fragment split.waiting (known kept.old.tracks) number header.now) →
-        GoesTo (lent_ledger u ledger.old ledger.new) kept.old kept.new (in_media cut
-        (recut_fragment split.waiting (known kept.old.tracks) number header.now)
-        (spot_of cut (moof_in split.waiting) (known kept.old.tracks) (at + header.now.header_len)
-        (kept.old.counter.tally.fragments + 1) split.media) at header.now
-        (claimed_in kept.old.tracks (Some split.waiting)) header.now.size) [] result }
+    ensures { (number : ℕ) (u : Unlent) → EntersMedia cut (recut_fragment split.waiting
+        (known kept.old.tracks) number header.now) header.now split
+        (lent_ledger u ledger.old ledger.new) kept.old kept.new result }
 {
     let Split {
         waiting,

@@ -25,9 +25,11 @@ use Rattle.mp4_recut.specs.declared.media.Taken.{Taken}
 use Rattle.mp4_fragment_machine.specs.Places.{Behind, Place, standing}
 use Rattle.mp4_fragment_machine.specs.States.{AreMediaOf, HasStopped, IsCounted, bound_behind, moof_in}
 use Rattle.mp4_fragment_machine.specs.Working.Recuts.{first_spot, in_media, with_fragments, with_samples}
-use Rattle.mp4_fragment_machine.specs.Working.Steps.{Lent}
+use Rattle.mp4_fragment_machine.specs.Working.Steps.{GoesTo, Lent}
 use Rattle.mp4_fragment_machine.specs.declared.splits.Split.{Split}
 use Rattle.mp4_fragment_machine.specs.declared.state.Counter.{Counter}
+use Rattle.mp4_fragment_machine.specs.declared.state.Kept.{Kept}
+use Rattle.mp4_fragment_machine.specs.declared.state.State.{State}
 use Rattle.mp4_fragment_machine.specs.declared.state.Waiting.{Waiting}
 
 -- ---- they are begun
@@ -91,18 +93,22 @@ TakesMedia cut tracks waiting s v w t t' at left old piece (Err e) = FailsToTake
 abbrev pub behind_waiting : Fragment → Waiting → List ℕ → Place
 behind_waiting f w head = Behind (context w.moof.at (Some f.tracks) f.number) f.tracks w.moof.bytes head
 
--- and where its media were begun: so many fragments were counted
+-- and where its media were begun: the next fragment of the output has this number
 abbrev pub in_begun : Cut → Fragment → Waiting → Header → ℕ → Media → Place
-in_begun cut f w h n m = in_media cut f (spot_of cut f.moof f.tracks f.payload.start (n + 1) m) (w.moof.at + length w.moof.bytes) h (with_runs (context w.moof.at (Some f.tracks) f.number) f.tracks w.moof.bytes) h.size
+in_begun cut f w h number m = in_media cut f (spot_of cut f.moof f.tracks f.payload.start number m) (w.moof.at + length w.moof.bytes) h (with_runs (context w.moof.at (Some f.tracks) f.number) f.tracks w.moof.bytes) h.size
+
+-- what is kept of it where so many fragments were counted
+pub record IsSplit (cut : Cut) (f : Fragment) (n : ℕ) (s : Split) : Type 0 where
+  pub begun : AreBegun cut f s.waiting n s.media
+  pub needed : s.needed ≡ needed_in f
 
 -- it was begun
 pub record HasSplit (cut : Cut) (f : Fragment) (waiting : Waiting) (h : Header) (head : List ℕ) (l : Lent) (old new : Counter) (s : Split) : Type 0 where
-  pub goes : GoesOn (outside l.written l.waiting l.account old.tally) (outside l.written' l.waiting' l.account' new.tally) (standing (splitting cut) (behind_waiting f waiting head)) [] (standing (splitting cut) (in_begun cut f waiting h new.tally.fragments s.media))
+  pub goes : GoesOn (outside l.written l.waiting l.account old.tally) (outside l.written' l.waiting' l.account' new.tally) (standing (splitting cut) (behind_waiting f waiting head)) [] (standing (splitting cut) (in_begun cut f s.waiting h (new.tally.fragments + 1) s.media))
   pub unfailed : l.failed' ≡ l.failed
   pub ledger : l.account' ≡ l.account
   pub same : s.waiting ≡ waiting
-  pub begun : AreBegun cut f waiting new.tally.fragments s.media
-  pub needed : s.needed ≡ needed_in f
+  pub split : IsSplit cut f new.tally.fragments s
   pub near : least_end (waiting.moof.at + length waiting.moof.bytes) h h.size ≤ longest
   pub counted : IsCounted (plans.Split cut) old (waiting.moof.at + waiting.moof.size) (moof_samples f.moof) (moof_samples f.moof) → IsCounted (plans.Split cut) new (bound_behind (waiting.moof.at + waiting.moof.size) h.size) 0 (moof_samples f.moof)
 
@@ -116,3 +122,7 @@ pub record StopsAtMdat (cut : Cut) (f : Fragment) (waiting : Waiting) (head : Li
 abbrev pub BeginsSplit : Cut → Fragment → Waiting → Header → List ℕ → Lent → (old new : Counter) → Result Split Stop → Type 0
 BeginsSplit cut f waiting h head l old new (Ok s) = HasSplit cut f waiting h head l old new s
 BeginsSplit cut f waiting h head l old new (Err e) = StopsAtMdat cut f waiting head l old new e
+
+-- what is taken next of the mdat with this header, whose media were begun
+abbrev pub EntersMedia : Cut → Fragment → Header → Split → Lent → (old new : Kept) → State → Type 0
+EntersMedia cut f h split l old new s = IsSplit cut f old.counter.tally.fragments split → GoesTo l old new (in_begun cut f split.waiting h (old.counter.tally.fragments + 1) split.media) [] s

@@ -1,6 +1,7 @@
-use Rattle.std.proofs.Common.{◌≡◌, ◌∙◌, ◌+◌, ◌-◌, ◌*◌, ◌≤◌, [], ap, arith, length, refl, subst, sym}
+use Rattle.std.proofs.Common.{◌≡◌, ◌∙◌, ◌+◌, ◌-◌, ◌*◌, ◌≤◌, [], Some, ap, arith, length, refl, subst, sym}
 use Rattle.mp4_frag.specs.Moofs.{moof_samples, moof_trafs}
 use Rattle.mp4_frag.specs.Settling.{settled}
+use Rattle.mp4_grammar.specs.Items.{end_of}
 use Rattle.mp4_machine.specs.Pieces.{outside}
 use Rattle.mp4_recut.specs.Cursors.{parts_left}
 use Rattle.mp4_recut.specs.Media.{Rises, spot_of}
@@ -15,7 +16,7 @@ use Rattle.mp4_fragment_machine.proofs.StepLemmas.{no_head}
 use Rattle.mp4_fragment_machine.proofs.begun.enter_split.Goals as goal
 
 pub returns-in-Empty : goal.returns-in-Empty
-returns-in-Empty c = λ number u needed numbers.
+returns-in-Empty c = λ number u split.
     let w = c.args.split.waiting in
     let m = c.args.split.media in
     let cut = c.args.cut in
@@ -25,22 +26,24 @@ returns-in-Empty c = λ number u needed numbers.
     let at = c.args.at in
     let (size, is, all, far, near) = c.in-Empty.ensures in
     let n = kept.counter.tally.fragments + 1 in
+    let is_split = rw c.in-Some.is at split in
+    let begun = is_split.begun in
+    let media = begun.media in
     let ps = parts_left cut (moof_in w) list n m.later in
     let o = outside u.written u.waiting c.args.ledger.now kept.counter.tally in
     let ends = settled list (moof_trafs (moof_in w) list) in
-    let media = rw c.in-Some.is at c.requires.media in
     let low = rw c.in-Some.is at c.requires.claim in
     let counted = rw is at c.requires.counted in
-    let rises = (rw (c.in-Some.is, is) at c.requires.rises) (at + size) refl in
+    let ends_at : end_of (w.moof.at + length w.moof.bytes) h.size ≡ Some (at + size) = rw is (ap (λ k. Some (k + size)) (sym c.requires.at)) in
+    let rises : Rises (at + size) (spot_of cut (moof_in w) list (at + h.header_len) n m) = subst (λ k. Rises (at + size) (spot_of cut (moof_in w) list (k + h.header_len) n m)) (sym c.requires.at) (begun.rises (at + size) ends_at) in
     let short : size ≤ h.header_len = omega (arith, all) in
     let none : ps ≡ [] = media.settled (rises-over (at + h.header_len) (at + size) m.gap.place m.gap.left ps rises (omega (arith, short))) in
-    let many = rw c.in-Some.is at numbers in
     let ended = c.end_fragment.ensures in
     let table : 64 * length ends ≡ 64 * length list = ap (λ l. 64 * length l) (sym ended.tracks) ∙ ap (λ k. 64 * k) ended.len in
     rw (c.in-Some.is, c.requires.plan, c.requires.empty, ended.tracks, ended.back, far) (record {
       step = record {
         goes = rw ended.tally
-            (begun_known cut w list number n m at h kept.tracks o _ _ c.in-Some.is (media_over cut w list number n m at h size h.size ends o _ is short (sym many ∙ omega (arith, ap length none)) refl media.settled
+            (begun_known cut w list number n m at h kept.tracks o _ _ c.in-Some.is c.requires.waiting c.requires.at (media_over cut w list number n m at h size h.size ends o _ is short (sym begun.numbers ∙ omega (arith, ap length none)) refl media.settled
             (Moves-settled o (64 * length list) w.moof.size (64 * length w.runs.rows) (64 * length ends) table low)));
         unfailed = refl;
         claim = omega (arith, low, table);
@@ -51,7 +54,7 @@ returns-in-Empty c = λ number u needed numbers.
     })
 
 pub returns-in-Sized : goal.returns-in-Sized
-returns-in-Sized c = λ number u needed numbers.
+returns-in-Sized c = λ number u split.
     let w = c.args.split.waiting in
     let m = c.args.split.media in
     let cut = c.args.cut in
@@ -61,16 +64,18 @@ returns-in-Sized c = λ number u needed numbers.
     let at = c.args.at in
     let (size, is, some, same, near) = c.in-Sized.ensures in
     let n = kept.counter.tally.fragments + 1 in
+    let is_split = rw c.in-Some.is at split in
+    let begun = is_split.begun in
+    let media = begun.media in
     let o = outside u.written u.waiting c.args.ledger.now kept.counter.tally in
     let room = rw is at c.requires.room in
     let counted = rw is at c.requires.counted in
-    let rises = (rw (c.in-Some.is, is) at c.requires.rises) (at + size) refl in
+    let ends_at : end_of (w.moof.at + length w.moof.bytes) h.size ≡ Some (at + size) = rw is (ap (λ k. Some (k + size)) (sym c.requires.at)) in
+    let rises : Rises (at + size) (spot_of cut (moof_in w) list (at + h.header_len) n m) = subst (λ k. Rises (at + size) (spot_of cut (moof_in w) list (k + h.header_len) n m)) (sym c.requires.at) (begun.rises (at + size) ends_at) in
     let start : at + h.header_len ≡ at + size - (size - h.header_len) = omega (arith, room) in
-    let many = rw c.in-Some.is at numbers in
-    let media = rw c.in-Some.is at c.requires.media in
     let low = rw c.in-Some.is at c.requires.claim in
     rw (c.in-Some.is, c.requires.plan, same) (record {
-      step = record { goes = begun_known cut w list number n m at h kept.tracks o o _ c.in-Some.is (GoesOn-same (splitting cut) o _ _ (media_begins cut w list number n m at h size h.size is room many)); unfailed = refl; claim = low };
+      step = record { goes = begun_known cut w list number n m at h kept.tracks o o _ c.in-Some.is c.requires.waiting c.requires.at (GoesOn-same (splitting cut) o _ _ (media_begins cut w list number n m at h size h.size is room begun.numbers)); unfailed = refl; claim = low };
       plan = refl;
       state = (
         c.requires.empty,
@@ -87,21 +92,22 @@ returns-in-Sized c = λ number u needed numbers.
     })
 
 pub returns-in-Open : goal.returns-in-Open
-returns-in-Open c = λ number u needed numbers.
+returns-in-Open c = λ number u split.
     let w = c.args.split.waiting in
     let m = c.args.split.media in
     let cut = c.args.cut in
     let kept = c.args.kept.now in
     let list = c.in-Some.list in
     let n = kept.counter.tally.fragments + 1 in
+    let is_split = rw c.in-Some.is at split in
+    let begun = is_split.begun in
+    let media = begun.media in
     let o = outside u.written u.waiting c.args.ledger.now kept.counter.tally in
     let (is, same, near) = c.in-Open.ensures in
     let counted = rw is at c.requires.counted in
-    let enough = rw c.in-Some.is at needed in
-    let media = rw c.in-Some.is at c.requires.media in
     let low = rw c.in-Some.is at c.requires.claim in
     rw (c.in-Some.is, c.requires.plan, same) (record {
-      step = record { goes = begun_known cut w list number n m c.args.at c.args.header.now kept.tracks o o _ c.in-Some.is (GoesOn-same (splitting cut) o _ _ (open_begins cut w list number n m c.args.at c.args.header.now c.args.split.needed c.args.header.now.size is near enough)); unfailed = refl; claim = low };
+      step = record { goes = begun_known cut w list number n m c.args.at c.args.header.now kept.tracks o o _ c.in-Some.is c.requires.waiting c.requires.at (GoesOn-same (splitting cut) o _ _ (open_begins cut w list number n m c.args.at c.args.header.now c.args.split.needed c.args.header.now.size is near is_split.needed)); unfailed = refl; claim = low };
       plan = refl;
       state = (
         c.requires.empty,

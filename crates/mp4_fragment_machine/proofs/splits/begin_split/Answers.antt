@@ -109,13 +109,13 @@ returns-in-Ok-begin_recut g c =
     let has = c.in-Ok-begin_recut.ensures in
     let tally = has.counted.tally in
     let first : c.payload_of.result.start ≡ f.payload.start = omega (arith, start, c.requires.waiting.size) in
+    let needed = measured.needed ∙ ap (λ k. reach k (taken_runs (moof_in w) tracks)) first in
     record {
       goes = GoesOn-has_begun cut (context w.moof.at (Some tracks) number) tracks w.moof.bytes c.args.head.now h c.requires.len c.requires.is near c.in-Ok.ensures.mdat good w s c.args.out.now c.begin_recut.new.out old.tally c.begin_recut.new.tally c.in-Ok-begin_recut.media c.args.ledger.now c.requires.room has;
       unfailed = has.unfailed;
       ledger = refl;
       same = refl;
-      begun = has.begun;
-      needed = measured.needed ∙ ap (λ k. reach k (taken_runs (moof_in w) tracks)) first;
+      split = record { begun = has.begun; needed = needed };
       near = near;
       counted = λ i. counted_split cut old new (w.moof.at + w.moof.size) (bound_behind (w.moof.at + w.moof.size) h.size) (moof_samples (moof_in w)) m i (omega (arith, measured.samples, measured.few)) room has.counted.few
           (ap (λ t. t.samples) tally) (ap (λ t. t.media_bytes) tally ∙ ap (λ k. old.tally.media_bytes + k) (sym measured.bytes)) (ap (λ t. t.walked) tally) least most;
