@@ -21,7 +21,7 @@ use Rattle.mp4_fragment_machine.specs.Places.{InBody, InHeader, InOpenBody, Plac
 use Rattle.mp4_fragment_machine.proofs.BehindLemmas.{claimed_behind}
 use Rattle.mp4_fragment_machine.proofs.RecutLemmas.{GoesOn-recut_over}
 use Rattle.mp4_grammar.specs.Items.{with_runs}
-use Rattle.mp4_fragment_machine.specs.Working.Media.{in_begun}
+use Rattle.mp4_fragment_machine.specs.Working.Splits.{in_begun}
 use Rattle.mp4_fragment_machine.specs.Working.Recuts.{in_media, recut_fragment}
 use Rattle.mp4_fragment_machine.specs.States.{IsWaiting, claimed_in, known, moof_in, place_of}
 use Rattle.mp4_fragment_machine.specs.declared.state.State.TheVariants as states

@@ -3,6 +3,7 @@
 pub mod Feeds
 pub mod Media
 pub mod Recuts
+pub mod Splits
 pub mod Steps
 pub mod Stops
 pub mod Wholes

@@ -8,8 +8,8 @@ ghost use Rattle.mp4_machine.specs.Bodies.{least_end, longest};
 ghost use Rattle.mp4_recut.specs.declared.plan.Plan.TheVariants as plans;
 ghost use Rattle.mp4_fragment_machine.specs.Places.{Unlent};
 ghost use Rattle.mp4_fragment_machine.specs.States.{IsCounted, IsWaiting, bound_behind, claimed_in, known, moof_in};
-ghost use Rattle.mp4_fragment_machine.specs.Working.Media.{EntersMedia};
 ghost use Rattle.mp4_fragment_machine.specs.Working.Recuts.{recut_fragment};
+ghost use Rattle.mp4_fragment_machine.specs.Working.Splits.{EntersMedia};
 ghost use Rattle.mp4_fragment_machine.specs.Working.Steps.{Advances, CanStep, lent, lent_ledger, with_head};
 ghost use Rattle.mp4_fragment_machine.specs.declared.state.State.TheVariants as states;
 

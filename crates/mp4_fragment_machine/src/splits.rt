@@ -13,8 +13,9 @@ ghost use Rattle.mp4_grammar.specs.Meanings.{fragment_fault};
 ghost use Rattle.mp4_pieces.specs.Rooms.{room_fault};
 ghost use Rattle.mp4_recut.specs.Splitting.{parts_of, runs_parts, splitting};
 ghost use Rattle.mp4_recut.specs.Cursors.{AreCut};
-ghost use Rattle.mp4_fragment_machine.specs.Working.Media.{BeginsMedia, BeginsSplit};
+ghost use Rattle.mp4_fragment_machine.specs.Working.Media.{BeginsMedia};
 ghost use Rattle.mp4_fragment_machine.specs.Working.Recuts.{recut_fragment};
+ghost use Rattle.mp4_fragment_machine.specs.Working.Splits.{BeginsSplit};
 ghost use Rattle.mp4_fragment_machine.specs.Working.Steps.{lent};
 ghost use Rattle.mp4_fragment_machine.specs.States.{IsWaiting, claimed_in, cut_least, cut_most, looks, moof_in};
 

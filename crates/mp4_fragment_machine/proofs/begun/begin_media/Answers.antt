@@ -2,7 +2,7 @@ use Rattle.std.proofs.Common.{◌+◌, List, Option, [], refl, subst}
 use Rattle.mp4_init.specs.declared.table.Track.{Track}
 use Rattle.mp4_fragment_machine.specs.Places.{Unlent}
 use Rattle.mp4_fragment_machine.specs.States.{known}
-use Rattle.mp4_fragment_machine.specs.Working.Media.{EntersMedia}
+use Rattle.mp4_fragment_machine.specs.Working.Splits.{EntersMedia}
 use Rattle.mp4_fragment_machine.specs.Working.Recuts.{recut_fragment}
 use Rattle.mp4_fragment_machine.specs.Working.Steps.{lent_ledger}
 use Rattle.mp4_fragment_machine.specs.declared.state.Kept.{Kept}
