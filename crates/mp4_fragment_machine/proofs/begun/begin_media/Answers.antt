@@ -1,4 +1,4 @@
-use Rattle.std.proofs.Common.{◌+◌, List, Option, [], refl, subst}
+use Rattle.std.proofs.Common.{◌+◌, List, Option, refl, subst}
 use Rattle.mp4_init.specs.declared.table.Track.{Track}
 use Rattle.mp4_fragment_machine.specs.Places.{Unlent}
 use Rattle.mp4_fragment_machine.specs.States.{known}
