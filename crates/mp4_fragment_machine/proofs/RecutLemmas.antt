@@ -321,9 +321,23 @@ open-first meaning at kind f needed left bytes = by (nat_lt left (length bytes))
         let all : bytes ≡ take left bytes = sym (take_all left bytes (ltb-false _ _ e)) in
         rw (e, d) (ap f all)
 
+-- no more may come, and some byte does: all was told before
+pub open-far_recut : (meaning : Meaning) (at : ℕ) (kind : FourCc) (p : Spot) (needed own : ℕ) (bytes : List ℕ) → IsSettled p → 0 < length bytes
+    → reads_at meaning (InOpenBody (playing p) at kind needed 0 own) bytes ≡ record { effects = silent; outcome = Faulty (fault StreamTooLong (Some kind) at) }
+open-far_recut meaning at kind p needed own bytes settled some =
+    open-far (reads_in meaning) at kind first_context (playing p) needed 0 bytes some ∙ ap (λ t. record { effects = t; outcome = Faulty (fault StreamTooLong (Some kind) at) }) (playing-quiet p settled)
+
+-- it goes too far, and its moof with the list and the table are given back
+pub Refuses-open_recut : (meaning : Meaning) (at : ℕ) (kind : FourCc) (o : Outside) (needed own : ℕ) (p : Spot) (x more : List ℕ) (table n : ℕ) → IsSettled p → 0 < length x → own ≡ table + n → own ≤ o.account.live
+    → Refuses o (back_to (back_to o n) table) (standing meaning (InOpenBody (playing p) at kind needed 0 own)) (x ++ more) (fault StreamTooLong (Some kind) at)
+Refuses-open_recut meaning at kind o needed own p x more table n settled some e low =
+    Refuses-there o (back_to (back_to o n) table) (standing meaning (InOpenBody (playing p) at kind needed 0 own)) x more (fault StreamTooLong (Some kind) at)
+    (subst (λ k. Moves o (back_to (back_to o n) table) k 0 silent) (sym e) (Moves-all_back o table n (omega (arith, e, low))))
+    (λ later. open-far_recut meaning at kind p needed own (x ++ later) settled (omega (arith, some, length-append x later)))
+
 -- ---- bytes of media were taken
 
--- of the bytes to come it has those that a piece has, and more
+-- its own of the bytes to come are those that a piece has, and those behind the piece
 own-front : (left : ℕ) (piece later : List ℕ) → take left (piece ++ later) ≡ take (min left (length piece)) piece ++ take (left - length piece) later
 own-front left piece later = by (cases_lt (length piece) left)
   where
@@ -346,15 +360,18 @@ module _ (cut : Cut) (tracks : List Track) (waiting : Waiting) (s : Sent) (v w :
   abbrev spot_behind : (end left : ℕ) → Media → Spot
   spot_behind end left m = spot_of cut (moof_in waiting) tracks (end - left) (t'.fragments + 1) m
 
+  -- all was taken that the piece has of what is left before an end
   abbrev Taking : (end left : ℕ) → Taken → Type 0
   Taking end left new = HasTaken cut tracks waiting s v w t t' (end - left) left old piece new
 
+  -- where the next byte stands
   reached-taken : (end left : ℕ) (new : Taken) → left ≤ end → Taking end left new → end - left + new.count ≡ end - (left - new.count)
   reached-taken end left new low g = omega (arith, low, g.count)
 
   len-taken : (end left : ℕ) (new : Taken) → Taking end left new → length (take new.count piece) ≡ new.count
   len-taken end left new g = length-take-le new.count piece (omega (arith, g.count))
 
+  -- what the bytes tell that were taken
   plays-taken : (end left : ℕ) (new : Taken) → left ≤ end → Taking end left new → Plays s.written s.written' v w t.fragments t'.fragments (spot_before end left) (take new.count piece) (spot_behind end (left - new.count) new.media)
   plays-taken end left new low g =
       subst (λ k. Plays s.written s.written' v w t.fragments t'.fragments (spot_before end left) (take new.count piece) (spot_of cut (moof_in waiting) tracks k (t'.fragments + 1) new.media)) (reached-taken end left new low g) g.paid.plays
@@ -365,7 +382,7 @@ module _ (cut : Cut) (tracks : List Track) (waiting : Waiting) (s : Sent) (v w :
       subst (λ k. Rises end (spot_of cut (moof_in waiting) tracks k (t'.fragments + 1) new.media)) (reached-taken end left new low g) (g.paid.rises end (omega (arith, low, g.count)) r)
 
   module _ (meaning : Meaning) (at : ℕ) (kind : FourCc) (own : ℕ) (account : Account) where
-    -- of an mdat that states its size
+    -- in an mdat that states its size
     pub GoesOn-taken : (next : Context) (left : ℕ) (new : Taken) → left ≤ next.at → Taking next.at left new
         → GoesOn (outside s.written v account t) (outside s.written' w account t') (standing meaning (InBody (playing (spot_before next.at left)) at kind next left own)) (take new.count piece) (standing meaning (InBody (playing (spot_behind next.at (left - new.count) new.media)) at kind next (left - new.count) own))
     GoesOn-taken next left new low g =
@@ -377,7 +394,7 @@ module _ (cut : Cut) (tracks : List Track) (waiting : Waiting) (s : Sent) (v w :
         (subst (λ l. GoesOn (outside s.written v account t) (outside s.written' w account (with_fragments t t'.fragments)) (standing meaning (InBody (playing p) at kind next left own)) x (standing meaning (InBody (playing q) at kind next (left - l) own))) len
         (GoesOn-plays s.written s.written' v w t t'.fragments meaning at kind next own account left p q x (omega (arith, len, g.count)) low (plays-taken next.at left new low g)))
 
-    -- of one that goes to the end of the stream
+    -- in one that goes to the end of the stream
     pub GoesOn-open_taken : (needed left : ℕ) (new : Taken) → left ≤ longest → Taking longest left new
         → GoesOn (outside s.written v account t) (outside s.written' w account t') (standing meaning (InOpenBody (playing (spot_before longest left)) at kind needed left own)) (take new.count piece) (standing meaning (InOpenBody (playing (spot_behind longest (left - new.count) new.media)) at kind (needed - new.count) (left - new.count) own))
     GoesOn-open_taken needed left new low g =
@@ -394,11 +411,12 @@ module _ (cut : Cut) (tracks : List Track) (waiting : Waiting) (s : Sent) (v w :
         → Loses (outside s.written v account t) (outside s.written' w (given_back account own) t') own r
     lost-taken end left more later rest r e low f =
         let p = spot_before end left in
-        let none = take (left - length piece) (more ++ later) in
+        let own_later = take (left - length piece) (more ++ later) in
         subst (λ k. Loses (outside s.written v account t) (outside s.written' w (given_back account own) k) own r) (sym f.counted.tally)
         (Loses-first s.written s.written' v w t t'.fragments own account (playing p (take left (piece ++ (more ++ later)))) rest r e low
-        (subst (λ l. Lost s.written s.written' v w t.fragments t'.fragments (playing p l)) (sym (own-front left piece (more ++ later))) (f.unpaid.lost none)))
+        (subst (λ l. Lost s.written s.written' v w t.fragments t'.fragments (playing p l)) (sym (own-front left piece (more ++ later))) (f.unpaid.lost own_later)))
 
+    -- so it is in an mdat that states its size
     pub Loses-taken : (next : Context) (left : ℕ) → own ≤ account.live → FailsToTake cut tracks waiting s v w t t' (next.at - left) left old piece → (more later : List ℕ)
         → Loses (outside s.written v account t) (outside s.written' w (given_back account own) t') own (reads_at meaning (InBody (playing (spot_before next.at left)) at kind next left own) (piece ++ more ++ later))
     Loses-taken next left low f more later =
@@ -407,6 +425,7 @@ module _ (cut : Cut) (tracks : List Track) (waiting : Waiting) (s : Sent) (v w :
         subst (λ l. Loses (outside s.written v account t) (outside s.written' w (given_back account own) t') own (reads_at meaning (InBody (playing p) at kind next left own) l)) (sym (append_assoc piece more later))
         (lost-taken next.at left more later first.0 (reads_at meaning (InBody (playing p) at kind next left own) (piece ++ (more ++ later))) first.1 low f)
 
+    -- and in one that goes to the end of the stream
     pub Loses-open_taken : (needed left : ℕ) → own ≤ account.live → FailsToTake cut tracks waiting s v w t t' (longest - left) left old piece → (more later : List ℕ)
         → Loses (outside s.written v account t) (outside s.written' w (given_back account own) t') own (reads_at meaning (InOpenBody (playing (spot_before longest left)) at kind needed left own) (piece ++ more ++ later))
     Loses-open_taken needed left low f more later =
@@ -415,20 +434,6 @@ module _ (cut : Cut) (tracks : List Track) (waiting : Waiting) (s : Sent) (v w :
         subst (λ l. Loses (outside s.written v account t) (outside s.written' w (given_back account own) t') own (reads_at meaning (InOpenBody (playing p) at kind needed left own) l)) (sym (append_assoc piece more later))
         (lost-taken longest left more later silent (reads_at meaning (InOpenBody (playing p) at kind needed left own) (piece ++ (more ++ later)))
         (open-first meaning at kind (playing p) needed left (piece ++ (more ++ later)) ∙ sym (both-silent told)) low f)
-
--- no more may come, and some byte does: all was told before
-pub open-far_recut : (meaning : Meaning) (at : ℕ) (kind : FourCc) (p : Spot) (needed own : ℕ) (bytes : List ℕ) → IsSettled p → 0 < length bytes
-    → reads_at meaning (InOpenBody (playing p) at kind needed 0 own) bytes ≡ record { effects = silent; outcome = Faulty (fault StreamTooLong (Some kind) at) }
-open-far_recut meaning at kind p needed own bytes settled some =
-    open-far (reads_in meaning) at kind first_context (playing p) needed 0 bytes some ∙ ap (λ t. record { effects = t; outcome = Faulty (fault StreamTooLong (Some kind) at) }) (playing-quiet p settled)
-
--- it goes too far, and its moof with the list and the table are given back
-pub Refuses-open_recut : (meaning : Meaning) (at : ℕ) (kind : FourCc) (o : Outside) (needed own : ℕ) (p : Spot) (x more : List ℕ) (table n : ℕ) → IsSettled p → 0 < length x → own ≡ table + n → own ≤ o.account.live
-    → Refuses o (back_to (back_to o n) table) (standing meaning (InOpenBody (playing p) at kind needed 0 own)) (x ++ more) (fault StreamTooLong (Some kind) at)
-Refuses-open_recut meaning at kind o needed own p x more table n settled some e low =
-    Refuses-there o (back_to (back_to o n) table) (standing meaning (InOpenBody (playing p) at kind needed 0 own)) x more (fault StreamTooLong (Some kind) at)
-    (subst (λ k. Moves o (back_to (back_to o n) table) k 0 silent) (sym e) (Moves-all_back o table n (omega (arith, e, low))))
-    (λ later. open-far_recut meaning at kind p needed own (x ++ later) settled (omega (arith, some, length-append x later)))
 
 -- ---- the media of an accepted fragment ascend
 
