@@ -2,6 +2,8 @@
 
 use mp4_box::FourCc;
 
+pub(crate) const MOOF: FourCc = FourCc(*b"moof");
+
 pub(crate) const MFHD: FourCc = FourCc(*b"mfhd");
 
 pub(crate) const TRAF: FourCc = FourCc(*b"traf");

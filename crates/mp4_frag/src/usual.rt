@@ -20,12 +20,12 @@ ghost use Rattle.mp4_frag.specs.Working.Usual.{HoldsThree, HoldsTwo, IsUsual, us
 use crate::at_once::is_early;
 use crate::checks::{FlagsOnce, TfhdLength, TrunLength, note_tfhd};
 use crate::counts::MOST_SAMPLES;
-use crate::kinds::{MFHD, TFDT, TFHD, TRAF, TRUN};
+use crate::kinds::{MFHD, MOOF, TFDT, TFHD, TRAF, TRUN};
 use crate::lone::{LoneRun, run_with};
 use crate::mfhd::MFHD_LEN;
 use crate::tfdt::{LONG_TFDT_LEN, TFDT_LEN, base_media_decode_time};
 use crate::trun::sample_count;
-use mp4_box::{BoxRef, Check, Fault, FourCc, Header, Layout, Size, array_at, u32_at, whole_box};
+use mp4_box::{BoxRef, Check, Fault, FourCc, Header, Layout, Size, array_at, u32_at};
 use mp4_init::TrackList;
 
 /// The boxes in a moof.
@@ -217,7 +217,9 @@ pub(crate) fn usual_run(held: &[u8], offset: u64, tracks: &TrackList) -> Option<
     requires room { offset + length held.now ≤ 2 ^ 62 }
     ensures { IfSome result (λ l. IsLone (moof_at held.now offset) tracks.now l) }
 {
-    let moof = whole_box(held, offset);
+    let Some(moof) = plain_first(MOOF, held, offset) else {
+        return None;
+    };
     let Some(usual) = usual_of(&moof) else {
         return None;
     };

@@ -24,15 +24,20 @@ pub enum Kind {
     Other,
 }
 
-/// The kind of a box of this type.
+/// The kind of a box of this type. A type is compared as one number.
 #[tactic(auto, unfolding(crate::specs::Kinds::kind_in))]
+#[inline(always)]
 pub fn kind_of(kind: FourCc) -> Kind
     ensures { result ≡ kind_in kind.0 }
 {
-    match &kind.0 {
-        b"moov" => Kind::Moov,
-        b"moof" => Kind::Moof,
-        b"mdat" => Kind::Mdat,
-        _ => Kind::Other,
+    if kind.is(FourCc(*b"moov")) {
+        return Kind::Moov;
     }
+    if kind.is(FourCc(*b"moof")) {
+        return Kind::Moof;
+    }
+    if kind.is(FourCc(*b"mdat")) {
+        return Kind::Mdat;
+    }
+    Kind::Other
 }

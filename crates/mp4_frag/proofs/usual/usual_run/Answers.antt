@@ -9,32 +9,32 @@ use Rattle.mp4_frag.proofs.usual.usual_run.Goals as goal
 
 pub run_with-requires-clause-tfhd : goal.run_with-requires-clause-tfhd
 run_with-requires-clause-tfhd c =
-    let u = c.in-Some.usual in
-    (headed (view u.traf) (view u.tfhd) (view u.tfdt) (view u.trun ∷ []) c.in-Some.ensures.three.are c.in-Some.ensures.is_tfhd c.in-Some.ensures.is_tfdt).tfhd
+    let u = c.in-Some-usual_of.usual in
+    (headed (view u.traf) (view u.tfhd) (view u.tfdt) (view u.trun ∷ []) c.in-Some-usual_of.ensures.three.are c.in-Some-usual_of.ensures.is_tfhd c.in-Some-usual_of.ensures.is_tfdt).tfhd
 
 pub run_with-requires-clause-time : goal.run_with-requires-clause-time
 run_with-requires-clause-time c = λ next.
-    let u = c.in-Some.usual in
-    c.base_media_decode_time-time.ensures ∙ (headed (view u.traf) (view u.tfhd) (view u.tfdt) (view u.trun ∷ []) c.in-Some.ensures.three.are c.in-Some.ensures.is_tfhd c.in-Some.ensures.is_tfdt).time next
+    let u = c.in-Some-usual_of.usual in
+    c.base_media_decode_time-time.ensures ∙ (headed (view u.traf) (view u.tfhd) (view u.tfdt) (view u.trun ∷ []) c.in-Some-usual_of.ensures.three.are c.in-Some-usual_of.ensures.is_tfhd c.in-Some-usual_of.ensures.is_tfdt).time next
 
 pub run_with-requires-clause-sound : goal.run_with-requires-clause-sound
 run_with-requires-clause-sound c =
-    let u = c.in-Some.usual in
+    let u = c.in-Some-usual_of.usual in
     let h = moof_at c.args.held.now c.args.offset in
-    let m = view c.whole_box-moof.result in
-    let moof = is_moof c.args.offset c.args.held.now m c.requires.whole (λ i. (c.type_inv.held i).fits) c.requires.room c.whole_box-moof.ensures in
-    let trafs = of_trafs c.args.tracks.now m (view u.mfhd) (view u.traf) (view u.tfhd) (view u.tfdt) (view u.trun) c.in-Some.ensures in
+    let m = view c.in-Some.moof in
+    let moof = is_moof c.args.offset c.args.held.now m c.requires.whole (λ i. (c.type_inv.held i).fits) c.requires.room c.in-Some.ensures.here in
+    let trafs = of_trafs c.args.tracks.now m (view u.mfhd) (view u.traf) (view u.tfhd) (view u.tfdt) (view u.trun) c.in-Some-usual_of.ensures in
     let sound = c.sound_track.ensures in
     let read = usual_read h c.args.tracks.now m moof (sound.tree cc) (sound.forms cc) (sound.values cc) (sound.early cc) in
     one_sound h c.args.tracks.now m (view u.traf) moof read trafs
 
 pub returns : goal.returns
 returns c =
-    let u = c.in-Some.usual in
+    let u = c.in-Some-usual_of.usual in
     let h = moof_at c.args.held.now c.args.offset in
-    let m = view c.whole_box-moof.result in
-    let moof = is_moof c.args.offset c.args.held.now m c.requires.whole (λ i. (c.type_inv.held i).fits) c.requires.room c.whole_box-moof.ensures in
-    let trafs = of_trafs c.args.tracks.now m (view u.mfhd) (view u.traf) (view u.tfhd) (view u.tfdt) (view u.trun) c.in-Some.ensures in
+    let m = view c.in-Some.moof in
+    let moof = is_moof c.args.offset c.args.held.now m c.requires.whole (λ i. (c.type_inv.held i).fits) c.requires.room c.in-Some.ensures.here in
+    let trafs = of_trafs c.args.tracks.now m (view u.mfhd) (view u.traf) (view u.tfhd) (view u.tfdt) (view u.trun) c.in-Some-usual_of.ensures in
     let sound = c.sound_track.ensures in
     let read = usual_read h c.args.tracks.now m moof (sound.tree cc) (sound.forms cc) (sound.values cc) (sound.early cc) in
     let told = c.run_with.ensures in
