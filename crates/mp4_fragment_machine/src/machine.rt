@@ -243,7 +243,7 @@ impl FragmentMachine {
     ///
     /// As [`FragmentMachine::take_whole`] and [`FragmentMachine::take_part`]; `Stream` where the times of its moof are at fault.
     #[inline(always)]
-    fn take_moof<W: Sink>(
+    fn take_ahead<W: Sink>(
         &mut self,
         at: u64,
         moof: &Span,
@@ -286,7 +286,7 @@ impl FragmentMachine {
     ///
     /// # Errors
     ///
-    /// As [`FragmentMachine::pass_whole`], [`FragmentMachine::take_moof`] and [`FragmentMachine::take_part`].
+    /// As [`FragmentMachine::pass_whole`], [`FragmentMachine::take_ahead`] and [`FragmentMachine::take_part`].
     #[inline(always)]
     fn take_some<W: Sink>(
         &mut self,
@@ -306,7 +306,7 @@ impl FragmentMachine {
             if let Some(span) = &box_at(at, &self.kept.head, piece) {
                 match kind_of(span.kind) {
                     Kind::Other => return self.pass_whole(at, span, ledger, piece, out, w),
-                    Kind::Moof => return self.take_moof(at, span, ledger, piece, out, w),
+                    Kind::Moof => return self.take_ahead(at, span, ledger, piece, out, w),
                     Kind::Moov | Kind::Mdat => {}
                 }
             }

@@ -2,7 +2,7 @@ use Rattle.std.proofs.Common.{ap, arith}
 use Rattle.std.specs.Prelude.{Ok}
 use Rattle.mp4_frag.specs.Runs.{moof_at}
 use Rattle.mp4_fragment_machine.proofs.FragmentLemmas.{lone_is, moof_len, moof_whole}
-use Rattle.mp4_fragment_machine.proofs.machine.FragmentMachine.take_moof.Goals as goal
+use Rattle.mp4_fragment_machine.proofs.machine.FragmentMachine.take_ahead.Goals as goal
 
 pub read-requires-clause-whole : goal.read-requires-clause-whole
 read-requires-clause-whole g c =
