@@ -1,6 +1,6 @@
 //! Bodies that are copied.
 
-ghost use Rattle.std.specs.Prelude.{◌≡◌, ◌<◌, ◌≤◌, length};
+ghost use Rattle.std.specs.Prelude.{◌<◌, length};
 ghost use Rattle.mp4_ledger.specs.Memory.{Account};
 ghost use Rattle.mp4_fragment_machine.specs.States.{IsState};
 ghost use Rattle.mp4_fragment_machine.specs.Working.Steps.{CanStep, Consumes, lent};

@@ -1,6 +1,6 @@
 //! How the header of a box is taken, and the box begun.
 
-ghost use Rattle.std.specs.Prelude.{◌≡◌, ◌+◌, ◌<◌, ◌≤◌, [], length};
+ghost use Rattle.std.specs.Prelude.{◌≡◌, ◌<◌, ◌≤◌, [], length};
 ghost use Rattle.mp4_box.specs.Headers.{HasRoom, header_at, need};
 ghost use Rattle.mp4_box.specs.declared.headers.Step.TheVariants as steps;
 ghost use Rattle.mp4_machine.specs.Bodies.{longest};

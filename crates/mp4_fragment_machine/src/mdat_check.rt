@@ -1,6 +1,6 @@
 //! The box behind a moof, which must be an mdat.
 
-ghost use Rattle.std.specs.Prelude.{◌≡◌, ℕ, ◌+◌, ◌-◌, ◌*◌, ◌<◌, ◌≤◌, [], ◌++◌, List, length, Some, None, IfOk, IfErr, OnOk, OnErr};
+ghost use Rattle.std.specs.Prelude.{◌≡◌, ℕ, ◌+◌, ◌-◌, ◌*◌, ◌<◌, ◌≤◌, [], ◌++◌, List, length, Some, None, IfErr, OnOk};
 ghost use Rattle.mp4_box.specs.Headers.{HasRoom, header_at, need};
 ghost use Rattle.mp4_box.specs.declared.headers.Step.TheVariants as steps;
 ghost use Rattle.mp4_frag.specs.Moofs.{moof_runs};
@@ -11,7 +11,6 @@ ghost use Rattle.mp4_grammar.specs.Items.{after_moof, end_of, faulty, fragment};
 ghost use Rattle.mp4_grammar.specs.Kinds.{kind_in, moof};
 ghost use Rattle.mp4_grammar.specs.Meanings.{Meaning};
 ghost use Rattle.mp4_grammar.specs.declared.kinds.Kind.TheVariants.{Mdat};
-ghost use Rattle.mp4_ledger.specs.Memory.{given_back};
 ghost use Rattle.mp4_machine.specs.Bodies.{fault, least_end, longest};
 ghost use Rattle.mp4_fragment_machine.specs.States.{IsWaiting, moof_in};
 
@@ -20,7 +19,6 @@ use mp4_box::{Fault, FourCc, Header, Rule, Size};
 use mp4_frag::{Moof, Payload, Steps};
 use mp4_grammar::{Kind, kind_of};
 use mp4_init::TrackList;
-use mp4_ledger::Ledger;
 use mp4_machine::is_too_long;
 
 /// Whether the box with this header may stand behind the moof that waits, and the runs of the moof in it.

@@ -1,6 +1,6 @@
 //! A moov of which all came.
 
-ghost use Rattle.std.specs.Prelude.{◌≡◌, OnOk, OnErr, true, ◌+◌, ◌≤◌, [], length, None, Some};
+ghost use Rattle.std.specs.Prelude.{◌≡◌, ◌+◌, ◌≤◌, [], length, None, Some};
 ghost use Rattle.mp4_machine.specs.Ends.{sent};
 ghost use Rattle.mp4_machine.specs.Puts.{Puts};
 ghost use Rattle.mp4_machine.specs.Bodies.{longest};

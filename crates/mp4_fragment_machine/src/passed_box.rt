@@ -1,8 +1,7 @@
 //! Boxes that are passed over, or copied, whole.
 
-ghost use Rattle.std.specs.Prelude.{◌≡◌, ℕ, ◌+◌, ◌≤◌, [], List, length};
-ghost use Rattle.mp4_box.specs.Headers.{HasRoom, header_at, need};
-ghost use Rattle.mp4_box.specs.declared.headers.Step.TheVariants as steps;
+ghost use Rattle.std.specs.Prelude.{◌≡◌, ℕ, ◌≤◌, [], List};
+ghost use Rattle.mp4_box.specs.Headers.{HasRoom};
 ghost use Rattle.mp4_machine.specs.Blocks.{Passes};
 ghost use Rattle.mp4_machine.specs.Bodies.{least_end, longest};
 ghost use Rattle.mp4_machine.specs.Readings.{says, silent};

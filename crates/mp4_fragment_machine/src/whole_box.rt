@@ -1,6 +1,6 @@
 //! How a box is taken of which a piece has all, and that is passed over or copied.
 
-ghost use Rattle.std.specs.Prelude.{◌≡◌, ◌+◌, ◌≤◌, [], IfSome};
+ghost use Rattle.std.specs.Prelude.{◌≡◌, ◌≤◌, [], IfSome};
 ghost use Rattle.mp4_grammar.specs.Kinds.{kind_in};
 ghost use Rattle.mp4_grammar.specs.declared.kinds.Kind.TheVariants.{Other};
 ghost use Rattle.mp4_ledger.specs.Memory.{Account};

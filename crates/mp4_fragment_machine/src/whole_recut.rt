@@ -1,10 +1,8 @@
 //! A fragment of which a piece has all, with one run, that is recut: its fragments are put where it lies.
 
-ghost use Rattle.std.specs.Prelude.{◌≡◌, ◌+◌, ◌*◌, ◌-◌, ◌<◌, ◌≤◌, ◌≤ℤ◌, ◌^◌, ℕ, [], ◌++◌, pos, false, length, None, Some, OnOk};
+ghost use Rattle.std.specs.Prelude.{◌≡◌, ◌+◌, ◌*◌, ◌-◌, ◌<◌, ◌≤◌, ◌^◌, ℕ, [], false, length, Some, OnOk};
 ghost use Rattle.mp4_machine.specs.Ends.{sent};
-ghost use Rattle.mp4_frag.specs.Runs.{end_place};
 ghost use Rattle.mp4_pieces.specs.Pieces.{pieces_of};
-ghost use Rattle.mp4_frag.specs.Ranges.{IsRunOf};
 ghost use Rattle.mp4_recut.specs.Media.{PutsAll};
 ghost use Rattle.mp4_recut.specs.Splitting.{run_parts};
 ghost use Rattle.mp4_recut.specs.declared.plan.Plan.TheVariants as plans;
