@@ -1,5 +1,5 @@
 -- What a run of the program does.
-use Rattle.std.specs.Prelude.{◌≡◌, ◌⊎◌, ◌≤◌, ℕ, Bool, true, false, List, codes, Option, None, Some, OnOk, Result, Ok, Err}
+use Rattle.std.specs.Prelude.{◌≡◌, ◌⊎◌, ◌≤◌, ℕ, Bool, true, false, List, codes, Option, None, Some, Result, Ok, Err}
 use Rattle.std.specs.Io.KnownBytes.{Appends, Keeps}
 use Rattle.mp4_ends.specs.Streams.{AppendsPrefix}
 use Rattle.mp4_machine.specs.Ends.{Ends}
@@ -50,21 +50,34 @@ status_of (Err Write) = 3
 status_of (Err OverLimit) = 4
 status_of (Err Memory) = 4
 
--- what a run brings is written: a success is flushed, and the answer is that of the run and the flush
-pub record Delivers (settings : Settings) (seen : Seen) (brings : Claims → Result (Unit {0}) Stop → Type 0) : Type 0 where
+-- the answer of a run and of the flush behind it, by whether the writer had failed when the run was over, and has:
+-- only a success is flushed
+abbrev pub Flushes : (ran answer : Result (Unit {0}) Stop) → (failed failed' : Bool) → Type 0
+Flushes (Ok _) (Ok _) failed failed' = (failed ≡ false) × (failed' ≡ false)
+Flushes (Ok _) (Err stop) failed failed' = (stop ≡ Write) × (failed' ≡ true)
+Flushes (Err stop) answer failed failed' = (answer ≡ Err stop) × (failed' ≡ failed)
+
+-- a run, with all that it brings whether the flush behind it fails or not
+pub record RunsAndFlushes (brings : Ends → Result (Unit {0}) Stop → Type 0) (ends : Ends) (answer : Result (Unit {0}) Stop) : Type 0 where
+  pub ran : Result (Unit {0}) Stop
+  pub failed : Bool
+  pub runs : brings (record ends { write_failed' = failed }) ran
+  pub flushed : Flushes ran answer failed ends.write_failed'
+
+-- what a run brings is written, and a success is flushed
+pub record Delivers (settings : Settings) (seen : Seen) (brings : Claims → Ends → Result (Unit {0}) Stop → Type 0) : Type 0 where
   pub answer : Result (Unit {0}) Stop
   pub peak : ℕ
-  pub runs : brings (record { copy = settings.copy; limit = settings.max_held; peak = peak }) answer
+  pub runs : RunsAndFlushes (brings (record { copy = settings.copy; limit = settings.max_held; peak = peak })) seen.ends answer
   pub within : peak ≤ settings.max_held
-  pub flushed : OnOk answer (seen.ends.write_failed' ≡ false)
   pub exits : seen.status ≡ status_of answer
   pub tells : TellsOf seen.told seen.told' seen.fault_failed answer
 
 abbrev pub ListsBoxes : Settings → Seen → Type 0
-ListsBoxes settings seen = Delivers settings seen (λ claims answer. ReadsBoxes seen.ends claims answer)
+ListsBoxes settings seen = Delivers settings seen (λ claims ends answer. ReadsBoxes ends claims answer)
 
 abbrev pub ListsSamples : Settings → Seen → Type 0
-ListsSamples settings seen = Delivers settings seen (λ claims answer. (totals : Totals) × ReadsFragments (plans.List commands.Samples) seen.ends claims totals answer)
+ListsSamples settings seen = Delivers settings seen (λ claims ends answer. (totals : Totals) × ReadsFragments (plans.List commands.Samples) ends claims totals answer)
 
 -- these are the options of a cut
 pub record IsCutBy (options : SplitOptions) (cut : Cut) : Type 0 where
@@ -78,7 +91,7 @@ abbrev pub SplitsBy : SplitOptions → Ends → Claims → Result (Unit {0}) Sto
 SplitsBy options ends claims answer = (cut : Cut) × IsCutBy options cut × ((totals : Totals) × ReadsFragments (plans.Split cut) ends claims totals answer)
 
 abbrev pub Splits : Settings → SplitOptions → Seen → Type 0
-Splits settings options seen = Delivers settings seen (λ claims answer. SplitsBy options seen.ends claims answer)
+Splits settings options seen = Delivers settings seen (λ claims ends answer. SplitsBy options ends claims answer)
 
 -- behind a good stream its line is written and flushed; behind another nothing
 abbrev pub Writes : Ends → Result (Unit {0}) Stop → Result (Unit {0}) Stop → Totals → Type 0

@@ -9,7 +9,7 @@ ghost use Rattle.mp4_stream.specs.Fragments.{ReadsFragments, unsent};
 ghost use Rattle.mp4_stream.specs.HeldBoxes.{ReadsBoxes};
 ghost use Rattle.mp4_recut.specs.declared.plan.Plan.TheVariants as plans;
 ghost use Rattle.fmp4_program.specs.Words.{MayCut, command_of};
-ghost use Rattle.fmp4_program.specs.Runs.{IsCutBy, Ran, SplitsBy, Tells, TellsOf, Writes, status_of};
+ghost use Rattle.fmp4_program.specs.Runs.{IsCutBy, Ran, RunsAndFlushes, SplitsBy, Tells, TellsOf, Writes, status_of};
 
 use crate::asked::{Invocation, SplitOptions};
 use crate::command::{NoCommand, read_words};
@@ -32,7 +32,7 @@ pub fn run<R: Source, W: Sink, F: Sink>(
 ) -> u8
     ensures { Ran ((r.new ≡ r.old) × (w.new ≡ w.old)) (command_of (map string_bytes words.items))
         (record {
-          ends = between (received R.remaining R.has_ended R.has_failed r.old r.new)
+          ends = between (received R.remaining R.has_ended R.has_failed R.last_read r.old r.new)
               (sent W.contents W.has_failed w.old w.new);
           told = F.contents fault_w.old;
           told' = F.contents fault_w.new;
@@ -82,12 +82,11 @@ fn list_boxes<R: Source, W: Sink>(
 ) -> Result<(), Stop>
     requires copy { (4096 ≤ copy) × (copy ≤ 1048576) }
     requires idle { ledger.old.live ≡ 0 }
-    ensures runs { ReadsBoxes (between
-        (received R.remaining R.has_ended R.has_failed r.old r.new)
-        (sent W.contents W.has_failed w.old w.new))
-        (record { copy = copy; limit = ledger.old.limit; peak = ledger.new.peak }) result }
+    ensures runs { RunsAndFlushes (λ ends ran. ReadsBoxes ends
+        (record { copy = copy; limit = ledger.old.limit; peak = ledger.new.peak }) ran) (between
+        (received R.remaining R.has_ended R.has_failed R.last_read r.old r.new)
+        (sent W.contents W.has_failed w.old w.new)) result }
     ensures within { ledger.new.peak ≤ ledger.old.limit }
-    ensures flushed { OnOk result (W.has_failed w.new ≡ false) }
 {
     match boxes(r, w, ledger, copy, &mut Totals::new()) {
         Ok(()) => flush(w),
@@ -104,12 +103,12 @@ fn list_samples<R: Source, W: Sink>(
 ) -> Result<(), Stop>
     requires copy { (4096 ≤ copy) × (copy ≤ 1048576) }
     requires idle { ledger.old.live ≡ 0 }
-    ensures runs { (totals : Totals) × ReadsFragments (plans.List commands.Samples) (between
-        (received R.remaining R.has_ended R.has_failed r.old r.new)
-        (sent W.contents W.has_failed w.old w.new))
-        (record { copy = copy; limit = ledger.old.limit; peak = ledger.new.peak }) totals result }
+    ensures runs { RunsAndFlushes (λ ends ran. (totals : Totals) ×
+        ReadsFragments (plans.List commands.Samples) ends
+        (record { copy = copy; limit = ledger.old.limit; peak = ledger.new.peak }) totals ran) (between
+        (received R.remaining R.has_ended R.has_failed R.last_read r.old r.new)
+        (sent W.contents W.has_failed w.old w.new)) result }
     ensures within { ledger.new.peak ≤ ledger.old.limit }
-    ensures flushed { OnOk result (W.has_failed w.new ≡ false) }
 {
     match samples(r, w, ledger, copy, &mut Totals::new()) {
         Ok(()) => flush(w),
@@ -128,10 +127,10 @@ fn check_stream<R: Source, W: Sink>(
     requires idle { ledger.old.live ≡ 0 }
     ensures checks { (checked : Result (Unit {0}) Stop) × (totals : Totals) ×
         ReadsFragments (plans.List commands.Check) (between
-        (received R.remaining R.has_ended R.has_failed r.old r.new) unsent)
+        (received R.remaining R.has_ended R.has_failed R.last_read r.old r.new) unsent)
         (record { copy = copy; limit = ledger.old.limit; peak = totals.peak }) totals checked ×
         (totals.peak ≤ ledger.old.limit) × Writes (between
-        (received R.remaining R.has_ended R.has_failed r.old r.new)
+        (received R.remaining R.has_ended R.has_failed R.last_read r.old r.new)
         (sent W.contents W.has_failed w.old w.new)) checked result totals }
 {
     let mut totals = Totals::new();
@@ -168,12 +167,11 @@ fn split_stream<R: Source, W: Sink>(
     requires copy { (4096 ≤ copy) × (copy ≤ 1048576) }
     requires idle { ledger.old.live ≡ 0 }
     requires options { MayCut options.now }
-    ensures runs { SplitsBy options.now (between
-        (received R.remaining R.has_ended R.has_failed r.old r.new)
-        (sent W.contents W.has_failed w.old w.new))
-        (record { copy = copy; limit = ledger.old.limit; peak = ledger.new.peak }) result }
+    ensures runs { RunsAndFlushes (λ ends ran. SplitsBy options.now ends
+        (record { copy = copy; limit = ledger.old.limit; peak = ledger.new.peak }) ran) (between
+        (received R.remaining R.has_ended R.has_failed R.last_read r.old r.new)
+        (sent W.contents W.has_failed w.old w.new)) result }
     ensures within { ledger.new.peak ≤ ledger.old.limit }
-    ensures flushed { OnOk result (W.has_failed w.new ≡ false) }
 {
     let cut = cut_by(options);
     match split(r, w, ledger, &cut, copy, &mut Totals::new()) {

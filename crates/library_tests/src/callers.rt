@@ -12,7 +12,7 @@ ghost use Rattle.mp4_box.specs.Paths.{at_path, of_kind};
 ghost use Rattle.mp4_box.specs.Trees.{Box, box_at, children, tree_faults, view};
 ghost use Rattle.mp4_frag.specs.Moofs.{moof_faults, moof_runs};
 ghost use Rattle.mp4_frag.specs.RunLists.{taken_runs};
-ghost use Rattle.mp4_frag.specs.Working.ListedRows.{IsListOf};
+ghost use Rattle.mp4_frag.specs.ListsOfRuns.{IsListOf};
 ghost use Rattle.mp4_frag.specs.Rows.{IsCursor};
 ghost use Rattle.mp4_frag.specs.Runs.{runs_of};
 ghost use Rattle.mp4_init.specs.Moovs.{moov_fault, moov_tracks};

@@ -115,11 +115,13 @@ fn claims_of_a_limit_of_100(rt: HostRuntime) {
     let two = ledger.live();
     ledger.back(first);
     let left = (ledger.live(), ledger.peak(), ledger.limit());
-    ledger.mark();
+    let earlier = ledger.mark();
     let marked = ledger.peak();
     ledger.back(second);
     assert_eq!(rt; (one, two, left, marked), (60, 100, (40, 100, 100), 40));
-    assert_eq!(rt; (ledger.live(), ledger.peak()), (0, 40));
+    let after = (ledger.live(), ledger.peak());
+    ledger.lift(earlier);
+    assert_eq!(rt; (after, ledger.peak()), ((0, 40), 100));
 }
 
 /// A buffer of so many bytes, or a table of so many rows.

@@ -16,7 +16,7 @@ use Rattle.mp4_pieces.specs.Fits.{BeginsInTime, FitsIndex, FitsReference}
 use Rattle.mp4_pieces.specs.Groups.{group_length, groups, groups_from}
 use Rattle.mp4_pieces.specs.Pieces.{cursor_after, cut_rows, piece_at, pieces_at, pieces_from, pieces_of}
 use Rattle.mp4_pieces.proofs.PieceLemmas.{goes_on}
-use Rattle.mp4_cut.specs.Working.Starts.{IsGroup, IsGroupOf, group_from, start_of}
+use Rattle.mp4_cut.specs.IndexGroups.{IsGroup, IsGroupOf, group_from, start_of}
 
 -- ---- a piece begins at the cursor from which it is found
 

@@ -15,7 +15,7 @@ use Rattle.mp4_cut.specs.Boxes.{version_and_flags}
 use Rattle.mp4_cut.specs.Reads.{IsHeaded, header_of}
 use Rattle.mp4_cut.proofs.ReadLemmas.{header_read}
 use Rattle.mp4_cut.specs.Sidx.{earliest, natural, reference_bytes, sidx, sidx_payload, written_index}
-use Rattle.mp4_cut.specs.Working.Starts.{IsGroup, group_from, start_of}
+use Rattle.mp4_cut.specs.IndexGroups.{IsGroup, group_from, start_of}
 use Rattle.mp4_cut.specs.Working.Fronts.{index_front}
 
 -- a reference has room for the first of some pieces, and references have room for the others

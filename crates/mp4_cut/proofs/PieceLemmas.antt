@@ -18,7 +18,7 @@ use Rattle.mp4_cut.specs.Tfhd.{tfhd_payload}
 use Rattle.mp4_cut.specs.Tfdt.{tfdt_payload}
 use Rattle.mp4_cut.specs.Trun.{sample_bytes, trun_flags}
 use Rattle.mp4_cut.specs.Working.Fronts.{moof_front}
-use Rattle.mp4_cut.specs.Working.Starts.{start_of}
+use Rattle.mp4_cut.specs.IndexGroups.{start_of}
 use Rattle.mp4_cut.specs.Moof.{data_offset, written_fragment, in_moof, in_traf, written_moof}
 use Rattle.mp4_cut.proofs.MoofLemmas.{length_in_moof, length_traf, length_trun, trun_of}
 use Rattle.mp4_cut.proofs.RunLemmas.{moof_is_front}

@@ -73,10 +73,12 @@ module _ (held : List ℕ) (run : Run) where
       let early = long_number_back (v ++ (big_bytes 4 run.track ++ big_bytes 4 timescale)) (big_bytes 8 0 ++ count) 12 (earliest g) refl begin.1 in
       record {
         version = refl;
+        flags = big_number-reads_back 3 0 (big_bytes 4 run.track ++ (big_bytes 4 timescale ++ (big_bytes 8 (earliest g) ++ (big_bytes 8 0 ++ count)))) (omega arith);
         track = number_back v (big_bytes 4 timescale ++ (big_bytes 8 (earliest g) ++ (big_bytes 8 0 ++ count))) 4 run.track refl small;
         timescale = number_back (v ++ big_bytes 4 run.track) (big_bytes 8 (earliest g) ++ (big_bytes 8 0 ++ count)) 8 timescale refl scale;
         earliest = ap (λ (n : ℕ). pos n) early ∙ (begin.0 ∙ least_is p can.pieces.0);
         offset = long_number_back (v ++ (big_bytes 4 run.track ++ (big_bytes 4 timescale ++ big_bytes 8 (earliest g)))) count 20 0 refl (omega arith);
+        reserved = big_number-reads_back 2 0 (big_bytes 2 (length g) ++ refs) (omega arith);
         references = ap (λ (n : ℕ). references_in n refs) (big_number-reads_back 2 (length g) refs (omega (arith, can.few))) ∙ references_back number g can.pieces can.references;
       }
 

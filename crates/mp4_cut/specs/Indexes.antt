@@ -21,13 +21,16 @@ pub record Reference : Type 0 where
   pub duration : ℕ
   pub access : ℕ
 
--- the fields of an index: version, reference_ID, timescale, earliest_presentation_time, first_offset and references
+-- the fields of an index: version, flags, reference_ID, timescale, earliest_presentation_time, first_offset, the reserved 16
+-- bits and references
 pub record Index : Type 0 where
   pub version : ℕ
+  pub flags : ℕ
   pub track : ℕ
   pub timescale : ℕ
   pub earliest : ℕ
   pub first_offset : ℕ
+  pub reserved : ℕ
   pub references : List Reference
 
 -- so many references of 12 bytes each
@@ -35,15 +38,17 @@ abbrev pub references_in : ℕ → List ℕ → List Reference
 references_in zero b = []
 references_in (suc n) b = record { size = big_number 4 b; duration = big_number 4 (drop 4 b); access = big_number 4 (drop 8 b) } ∷ references_in n (drop 12 b)
 
--- the fields in the payload of a sidx of version 1: reference_ID at 4, timescale at 8, earliest_presentation_time at
--- 12, first_offset at 20, reference_count at 30, and the references from 32 on
+-- the fields in the payload of a sidx of version 1: flags at 1, reference_ID at 4, timescale at 8,
+-- earliest_presentation_time at 12, first_offset at 20, reserved at 28, reference_count at 30, and the references from 32 on
 abbrev pub index_in : List ℕ → Index
 index_in p = record {
   version = version_in p;
+  flags = big_number 3 (drop 1 p);
   track = number_in p 4;
   timescale = number_in p 8;
   earliest = long_number_in p 12;
   first_offset = long_number_in p 20;
+  reserved = big_number 2 (drop 28 p);
   references = references_in (big_number 2 (drop 30 p)) (drop 32 p);
 }
 
@@ -69,8 +74,10 @@ reference_to held run sequence_number p = record {
 -- Its earliest time is the least composition time of the samples of the first
 pub record IsIndexReadAs (held : List ℕ) (run : Run) (given sequence_number : ℕ) (p : Piece) (ps : List Piece) (x : Index) : Type 0 where
   pub version : x.version ≡ 1
+  pub flags : x.flags ≡ 0
   pub track : x.track ≡ run.track
   pub timescale : x.timescale ≡ given
   pub earliest : pos x.earliest ≡ least_of (composition_times p.time (rows_in held run p))
   pub offset : x.first_offset ≡ 0
+  pub reserved : x.reserved ≡ 0
   pub references : x.references ≡ map (reference_to held run sequence_number) (p ∷ ps)

@@ -8,4 +8,5 @@ pub mod Moof
 pub mod Sidx
 pub mod Reads
 pub mod Indexes
+pub mod IndexGroups
 pub mod Working

@@ -1,6 +1,6 @@
 //! What the definitions of what is written imply.
 
-ghost use Rattle.std.specs.Prelude.{◌≡◌, ◌+◌, ◌*◌, ◌^◌, ◌≤◌, ◌<◌, ◌++◌, ◌∷◌, [], ℕ, List, length, map, drop};
+ghost use Rattle.std.specs.Prelude.{◌≡◌, ◌+◌, ◌*◌, ◌^◌, ◌≤◌, ◌<◌, ◌++◌, ◌∷◌, [], ℕ, List, length, map, drop, take};
 ghost use Rattle.std.specs.List.{AllByRecursion};
 ghost use Rattle.mp4_box.specs.Fields.{number_in};
 ghost use Rattle.mp4_box.specs.Headers.{IsBox, IsBytes, IsWhole};
@@ -10,6 +10,7 @@ ghost use Rattle.mp4_init.specs.declared.table.Track.{Track};
 ghost use Rattle.mp4_frag.specs.declared.run.Run.{Run};
 ghost use Rattle.mp4_frag.specs.After.{StandsIn};
 ghost use Rattle.mp4_frag.specs.Kinds.{mfhd};
+ghost use Rattle.mp4_frag.specs.declared.rows.Row.{Row};
 ghost use Rattle.mp4_frag.specs.Cursors.{first_cursor};
 ghost use Rattle.mp4_frag.specs.Moofs.{IsRead, moof_of, moof_runs};
 ghost use Rattle.mp4_frag.specs.Runs.{MoofBytes};
@@ -24,8 +25,12 @@ ghost use Rattle.mp4_cut.specs.Indexes.{CanBeIndexed, IsIndexReadAs, index_in};
 ghost use Rattle.mp4_cut.specs.Mdat.{mdat, mdat_header};
 ghost use Rattle.mp4_cut.specs.Moof.{WrittenFragment, written_fragment, moof_box, written_moof};
 ghost use Rattle.mp4_cut.specs.Reads.{CanBeRead, FitsFields, FitsTrack, IsHeaded, IsReadAs, Tells, header_of, held_moof};
-ghost use Rattle.mp4_cut.specs.Sidx.{sidx, written_index};
-ghost use Rattle.mp4_cut.specs.Working.Starts.{IsGroupOf};
+ghost use Rattle.mp4_cut.specs.Mfhd.{mfhd_payload};
+ghost use Rattle.mp4_cut.specs.Sidx.{sidx, sidx_payload, written_index};
+ghost use Rattle.mp4_cut.specs.Tfdt.{tfdt_payload};
+ghost use Rattle.mp4_cut.specs.Tfhd.{tfhd_payload};
+ghost use Rattle.mp4_cut.specs.Trun.{trun_payload};
+ghost use Rattle.mp4_cut.specs.IndexGroups.{IsGroupOf};
 
 /// A moof of n samples has 92 + 16 n bytes, the header of an mdat 8 or 16, and an index of r pieces
 /// 40 + 12 r.
@@ -36,6 +41,20 @@ pub fn sizes()
     ensures mdat { (bytes : ℕ) → length (mdat_header bytes) ≡ mdat_header_size bytes }
     ensures index { (run : Run) (timescale : ℕ) (pieces : List Piece) →
         length (written_index run timescale pieces) ≡ 40 + 12 * length pieces }
+{}
+
+/// What the full boxes of a fragment begin with: each version, and the flags. A tfhd has its sample_description_index, and its
+/// base is the moof; a trun has a data_offset, and all four fields of each sample (ISO/IEC 14496-12, 8.8.5, 8.8.7, 8.8.8 and
+/// 8.8.12).
+pub fn versions_and_flags()
+    ensures mfhd { (sequence_number : ℕ) →
+        take 4 (mfhd_payload sequence_number) ≡ 0 ∷ 0 ∷ 0 ∷ 0 ∷ [] }
+    ensures tfhd { (track index : ℕ) → take 4 (tfhd_payload track index) ≡ 0 ∷ 2 ∷ 0 ∷ 2 ∷ [] }
+    ensures tfdt { (time : ℕ) → take 4 (tfdt_payload time) ≡ 1 ∷ 0 ∷ 0 ∷ 0 ∷ [] }
+    ensures trun { (version data_offset : ℕ) (rows : List Row) →
+        take 4 (trun_payload version data_offset rows) ≡ version ∷ 0 ∷ 15 ∷ 1 ∷ [] }
+    ensures sidx { (track timescale : ℕ) (pieces : List Piece) →
+        take 4 (sidx_payload track timescale pieces) ≡ 1 ∷ 0 ∷ 0 ∷ 0 ∷ [] }
 {}
 
 /// Each box begins with the header that says its type and its size.

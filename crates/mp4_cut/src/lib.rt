@@ -12,7 +12,7 @@
 //!
 //! Each box that is written has a file here and one in `specs/`, with its fields by the standard's
 //! names in their order: mfhd, tfhd, tfdt, trun, moof, mdat, sidx. `specs/Boxes.antt` says how any
-//! box is written, `specs/Working/Starts.antt` where pieces and groups begin, and `specs/Reads.antt` and
+//! box is written, `specs/IndexGroups.antt` where pieces and groups begin, and `specs/Reads.antt` and
 //! `specs/Indexes.antt` what is read again. `specs/Working/Fronts.antt` says how a moof and an index are
 //! worked out. What a call does to a block and a sink is `Puts` and `Writes` of `mp4_machine`.
 #![tactic(auto)]

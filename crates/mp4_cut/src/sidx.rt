@@ -10,7 +10,7 @@ ghost use Rattle.mp4_cut.specs.Working.Fronts.{index_front};
 ghost use Rattle.mp4_machine.specs.Ends.{sent};
 ghost use Rattle.mp4_machine.specs.Puts.{Puts, Writes};
 ghost use Rattle.mp4_cut.specs.Sidx.{natural, reference_bytes, written_index};
-ghost use Rattle.mp4_cut.specs.Working.Starts.{IsGroup, group_from};
+ghost use Rattle.mp4_cut.specs.IndexGroups.{IsGroup, group_from};
 
 use crate::fields::Fields;
 use crate::mdat::mdat_header_size;

@@ -1,7 +1,7 @@
 //! Where a piece begins in its run.
 
 ghost use Rattle.std.specs.Prelude.{◌≡◌};
-ghost use Rattle.mp4_cut.specs.Working.Starts.{start_of};
+ghost use Rattle.mp4_cut.specs.IndexGroups.{start_of};
 
 use mp4_frag::Cursor;
 use mp4_pieces::Piece;

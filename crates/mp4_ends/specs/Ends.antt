@@ -19,17 +19,30 @@ left_in Open known = known
 left_in Ended known = Some []
 left_in Broken known = known
 
--- an end of std's, and how it stands
-pub record Adapted (A : Type 0) : Type 0 where
+-- how many bytes the last read gave, where it gave any: none after the end or a failure
+abbrev pub last_in : State → ℕ → ℕ
+last_in Open n = n
+last_in Ended n = 0
+last_in Broken n = 0
+
+-- a reader of std's, how it stands, and how many bytes the last read gave that gave any
+pub record AdaptedReader (A : Type 0) : Type 0 where
+  pub inner : A
+  pub state : State
+  pub last : ℕ
+
+-- a writer of std's, and how it stands
+pub record AdaptedWriter (A : Type 0) : Type 0 where
   pub inner : A
   pub state : State
 
--- bytes in memory that are still to be given, at most `step` a read
+-- bytes in memory that are still to be given, at most `step` a read, and how many the last read gave that gave any
 pub record SliceEnd : Type 0 where
   pub left : List ℕ
   pub step : ℕ
   pub fails : Bool
   pub state : State
+  pub last : ℕ
 
 -- memory that takes at most `step` bytes a write and `room` in all
 pub record VecEnd : Type 0 where

@@ -20,6 +20,9 @@ pub trait Source {
     // A read has answered 0.
     ghost has_ended: { Self → Bool };
 
+    // How many bytes the last read gave: 0 where none was made yet, behind the end, and behind a failure.
+    ghost last_read: { Self → ℕ };
+
     /// Reads some bytes into the front of `into`, at least one: how many. 0 is the end of the stream, and
     /// from then on each read answers 0.
     ///
@@ -38,7 +41,11 @@ pub trait Source {
         ensures ended { IfOk result (λ n. (has_ended self.old ≡ true → n ≡ 0) ×
             (has_ended self.new ≡ eqb n 0)) }
         ensures ended_err { OnErr result ((has_ended self.old ≡ false) ×
-            (has_ended self.new ≡ false)) };
+            (has_ended self.new ≡ false)) }
+
+        // So is how many bytes the last read gave.
+        ensures last { IfOk result (λ n. last_read self.new ≡ n) }
+        ensures last_err { OnErr result (last_read self.new ≡ 0) };
 
     /// Whether some call has answered `Failed`.
     fn failed(&self) -> bool

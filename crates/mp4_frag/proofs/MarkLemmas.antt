@@ -4,7 +4,7 @@ use Rattle.std.specs.Prelude.{replicate, slice_index_or}
 use Rattle.std.proofs.lemmas.List.{get_or_default, length-replicate, length-set, get_or-replicate, get_or-set_same, get_or-set_other}
 use Rattle.std.proofs.lemmas.Bool.Decides.{nat_tests}
 use Rattle.mp4_box.specs.Trees.{Box}
-use Rattle.mp4_init.specs.Working.OrderedIds.{sought}
+use Rattle.mp4_init.specs.OrderedIds.{sought}
 use Rattle.mp4_init.proofs.SearchTreeLemmas.{is_same}
 use Rattle.mp4_init.proofs.OrderedIdLemmas.{same_id}
 use Rattle.mp4_frag.specs.Repeats.{traf_id, is_listed}

@@ -11,7 +11,7 @@ use Rattle.mp4_box.specs.Trees.{Box, children}
 use Rattle.mp4_box.specs.Order.{least_from}
 use Rattle.mp4_box.specs.Paths.{of_kind}
 use Rattle.mp4_box.proofs.OrderLemmas.{least_from_append}
-use Rattle.mp4_init.specs.Working.OrderedIds.{sought}
+use Rattle.mp4_init.specs.OrderedIds.{sought}
 use Rattle.mp4_frag.specs.Kinds.{traf}
 use Rattle.mp4_frag.specs.Rules.{fault_if}
 use Rattle.mp4_frag.specs.Repeats.{traf_id, is_listed, is_repeat, lacks_time, repeat_faults, repeats, trafs_before, trafs_of, untimed_ids}

@@ -26,7 +26,9 @@ use Rattle.mp4_frag.specs.Working.RunRows.{listed_row, listed_words, place_word,
 use Rattle.mp4_frag.specs.Places.{listed_run}
 use Rattle.mp4_frag.specs.Places.{IsPlaceFault, run_place_fault, place_fault}
 use Rattle.mp4_frag.specs.RunLists.{moof_listing, taken_runs}
-use Rattle.mp4_frag.specs.Working.ListedRows.{IsLate, IsListOf, IsSorted, ListedRows}
+use Rattle.mp4_frag.specs.ListsOfRuns.{IsListOf}
+use Rattle.mp4_frag.specs.RunLists.{ListedRows}
+use Rattle.mp4_frag.specs.Working.ListedRows.{IsLate, IsSorted}
 use Rattle.mp4_frag.proofs.RunRowLemmas.{Earlier, Given}
 
 -- ---- maps
@@ -130,9 +132,11 @@ list_is h tracks filled placed late k f l s =
     let pairs = pairs_of_map (λ (w : List ℕ). listed_row (row_of_words w)) IsTakenBefore placed (pairs_of_all IsTakenBefore (listed_words placed) order.order) in
     record {
       runs = runs_taken h tracks (rows_of_words filled) rows k f (IsPermutation-map row_of_words filled placed s.same) (pairs_map row_of_words (λ a b. IsTakenBefore (listed_row a) (listed_row b)) placed pairs);
-      listing = is_listing h tracks k;
-      taken = sym same ∙ order_is_taken (moof_listing h tracks) (listed_words placed) (is_listing h tracks k) order;
-      late = record { sorted = listed_words l.sorted; order = by_track h tracks filled l.sorted k f l.same l.up; is = l.is };
+      ordered = record {
+        listing = is_listing h tracks k;
+        taken = sym same ∙ order_is_taken (moof_listing h tracks) (listed_words placed) (is_listing h tracks k) order;
+        late = record { sorted = listed_words l.sorted; order = by_track h tracks filled l.sorted k f l.same l.up; is = l.is };
+      };
     }
 
 pub length_rows : (ws : List (List ℕ)) → length (rows_of_words ws) ≡ length ws
@@ -147,10 +151,10 @@ both_maps (Some run) = refl
 pub place_is : (p : Payload) (h : MoofBytes) (tracks : List Track) (l : ListedRows) (r : Option ℕ) → IsListOf h tracks l → r ≡ found_by_place p l.late (map listed_row l.rows) → option_map run_place_fault r ≡ place_fault p (moof_runs h tracks)
 place_is p h tracks l r of e =
     let listing = moof_listing h tracks in
-    let late = of.late in
-    let s = search_is p listing late.sorted (taken listing) of.listing late.order (taken_is_order listing of.listing) in
+    let late = of.ordered.late in
+    let s = search_is p listing late.sorted (taken listing) of.ordered.listing late.order (taken_is_order listing of.ordered.listing) in
     let found : r ≡ option_map (λ run. run.number) (first_offender p listing) =
-    e ∙ (ap (λ (o : Option ℕ). found_by_place p o (map listed_row l.rows)) late.is ∙ (ap (found_by_place p (found_by_track late.sorted)) of.taken ∙ s)) in
+    e ∙ (ap (λ (o : Option ℕ). found_by_place p o (map listed_row l.rows)) late.is ∙ (ap (found_by_place p (found_by_track late.sorted)) of.ordered.taken ∙ s)) in
     ap (option_map run_place_fault) found ∙ both_maps (first_offender p listing)
 
 pub place_found : (p : Payload) (h : MoofBytes) (tracks : List Track) (l : ListedRows) (ws : List (List ℕ)) (late r : Option ℕ) → IsListOf h tracks l → record { rows = rows_of_words ws; late = late } ≡ l → r ≡ found_by_place p late (listed_words ws)
@@ -168,7 +172,7 @@ means_by p runs (Some run) h = record { run = run; first = h; is = refl }
 pub place_means : (p : Payload) (h : MoofBytes) (tracks : List Track) (l : ListedRows) (o : Option Fault) → IsListOf h tracks l → o ≡ place_fault p (moof_runs h tracks) → IsPlaceFault p (moof_listing h tracks) o
 place_means p h tracks l o of e =
     let listing = moof_listing h tracks in
-    subst (IsPlaceFault p listing) (sym e) (means_by p listing (first_offender p listing) (offender_means p listing of.listing))
+    subst (IsPlaceFault p listing) (sym e) (means_by p listing (first_offender p listing) (offender_means p listing of.ordered.listing))
 
 -- ---- the run at an index
 
@@ -195,7 +199,7 @@ listed_is h tracks l ws i w run of e lt at is =
     let n = ap length e in
     let m = length_rows ws in
     let k = ap length of.runs in
-    let same : map listed_row (rows_of_words ws) ≡ map listed_run (taken_runs h tracks) = ap (map listed_row) e ∙ of.taken ∙ sym (taken_map listed_run (moof_runs h tracks)) in
+    let same : map listed_row (rows_of_words ws) ≡ map listed_run (taken_runs h tracks) = ap (map listed_row) e ∙ of.ordered.taken ∙ sym (taken_map listed_run (moof_runs h tracks)) in
     ap (λ (v : List ℕ). listed_row (row_of_words v)) at
     ∙ (ap listed_row (sym (map_at row_of_words ws i (row_of_words w) w (omega arith)))
     ∙ (sym (map_at listed_row (rows_of_words ws) i (listed_run run) (row_of_words w) (omega arith))

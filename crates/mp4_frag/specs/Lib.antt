@@ -11,6 +11,7 @@ pub mod Cursors
 pub mod Runs
 pub mod Moofs
 pub mod RunLists
+pub mod ListsOfRuns
 pub mod Ranges
 pub mod After
 pub mod Settling

@@ -1,9 +1,10 @@
 -- The runs of a moof in the order in which they are taken, in a list, and which of them is at fault.
-use Rattle.std.specs.Prelude.{List, map}
+use Rattle.std.specs.Prelude.{ℕ, List, Option, map}
 use Rattle.mp4_init.specs.declared.table.Track.{Track}
 use Rattle.mp4_run_order.specs.declared.runs.ListedRun.{ListedRun}
 use Rattle.mp4_run_order.specs.Orders.{taken_by}
 use Rattle.mp4_frag.specs.declared.run.Run.{Run}
+use Rattle.mp4_frag.specs.declared.run_row.RunRow.{RunRow}
 use Rattle.mp4_frag.specs.Moofs.{moof_runs}
 use Rattle.mp4_frag.specs.Runs.{MoofBytes}
 use Rattle.mp4_frag.specs.Places.{listed_run}
@@ -15,3 +16,8 @@ moof_listing h tracks = map listed_run (moof_runs h tracks)
 -- the runs of a moof in the order in which they are taken: by place, and those at one place as the moof lists them
 abbrev pub taken_runs : MoofBytes → List Track → List Run
 taken_runs h tracks = taken_by listed_run (moof_runs h tracks)
+
+-- what is seen of a list: a row for each run, and what was found while they were sorted
+pub record ListedRows : Type 0 where
+  pub rows : List RunRow
+  pub late : Option ℕ

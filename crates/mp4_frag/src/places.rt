@@ -6,7 +6,7 @@ ghost use Rattle.mp4_init.specs.Moovs.{fault_of};
 ghost use Rattle.mp4_frag.specs.Moofs.{moof_runs};
 ghost use Rattle.mp4_frag.specs.Places.{IsPlaceFault, place_fault, run_place_fault};
 ghost use Rattle.mp4_frag.specs.RunLists.{moof_listing};
-ghost use Rattle.mp4_frag.specs.Working.ListedRows.{IsListOf};
+ghost use Rattle.mp4_frag.specs.ListsOfRuns.{IsListOf};
 
 use crate::kinds::TRUN;
 use crate::listed::find_by_place;

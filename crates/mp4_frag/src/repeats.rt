@@ -7,7 +7,7 @@ ghost use Rattle.std.specs.Prelude.{◌≡◌, ◌≤◌, ◌<◌, ◌+◌, [], 
 ghost use Rattle.mp4_box.specs.Trees.{view};
 ghost use Rattle.mp4_box.specs.Order.{least_from};
 ghost use Rattle.mp4_box.specs.Paths.{of_kind};
-ghost use Rattle.mp4_init.specs.Working.OrderedIds.{AreInOrder, sought};
+ghost use Rattle.mp4_init.specs.OrderedIds.{AreInOrder, sought};
 ghost use Rattle.mp4_frag.specs.Kinds.{traf};
 ghost use Rattle.mp4_frag.specs.Repeats.{is_listed, is_repeat, lacks_time, repeat_faults, repeats, traf_id, trafs_before, trafs_behind, trafs_of, untimed_ids};
 ghost use Rattle.mp4_frag.specs.Working.RepeatMarks.{all_marked, marked_at, marks};

@@ -9,7 +9,8 @@ ghost use Rattle.mp4_frag.specs.Moofs.{IsRead, moof_runs, moof_samples, moof_tru
 ghost use Rattle.mp4_frag.specs.Places.{listed_run};
 ghost use Rattle.mp4_frag.specs.Runs.{MoofBytes, moof_at};
 ghost use Rattle.mp4_frag.specs.RunLists.{taken_runs};
-ghost use Rattle.mp4_frag.specs.Working.ListedRows.{IsLate, IsListOf, IsSorted};
+ghost use Rattle.mp4_frag.specs.ListsOfRuns.{IsListOf};
+ghost use Rattle.mp4_frag.specs.Working.ListedRows.{IsLate, IsSorted};
 
 use crate::fill::fill;
 use crate::listed::{find_by_track, listed_row, sort_by_place, sort_by_track};
@@ -36,7 +37,7 @@ pub struct RunList {
 // A contract sees what its rows keep of the runs, and what was found by track.
 impl Model for RunList {
     ghost use Rattle.std.specs.Prelude.{◌≡◌, length};
-    ghost use Rattle.mp4_frag.specs.Working.ListedRows.{ListedRows};
+    ghost use Rattle.mp4_frag.specs.RunLists.{ListedRows};
     ghost use Rattle.mp4_frag.specs.Working.RunRows.{rows_of_words};
 
     ghost Value = { ListedRows };

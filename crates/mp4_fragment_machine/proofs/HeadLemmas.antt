@@ -28,6 +28,8 @@ use Rattle.mp4_grammar.specs.Items.{box_from, box_in, item, item_by, kept_body, 
 use Rattle.mp4_grammar.specs.Kinds.{kind_in}
 use Rattle.mp4_grammar.specs.Meanings.{Meaning}
 use Rattle.mp4_grammar.proofs.ItemLemmas.{item-items}
+use Rattle.mp4_grammar.specs.Meanings.{MarksPast}
+use Rattle.mp4_grammar.proofs.PastLemmas.{kept-past}
 use Rattle.mp4_fragment_machine.specs.Places.{InBody, InHeader, InHeld, InOpenBody, standing}
 
 -- ---- what the bytes are read as
@@ -136,21 +138,22 @@ module _ (meaning : Meaning) (o : Outside) (at number : ℕ) (tracks : Option (L
         rest = λ later. reads-kept later;
       }
 
-      Starves-keep : (more : List ℕ) → Starves o (back_to o (table_of tracks)) (standing meaning (InHeader (context at tracks number) x)) more
-      Starves-keep more = record {
+      Starves-keep : MarksPast meaning → (more : List ℕ) → Starves o (back_to o (table_of tracks)) (standing meaning (InHeader (context at tracks number) x)) more
+      Starves-keep past more = record {
         brought = silent;
         moves = subst (λ n. Moves o (back_to o (table_of tracks)) (table_of tracks) n silent) (omega arith) (Moves-back o (table_of tracks) (table_of tracks) (omega arith) low);
         at = at;
         sum = table_of tracks + s;
         continues = λ later. then_read (reads_in meaning) (kept_body meaning (context at tracks number) h.kind s (x ++ (more ++ later)));
+        past = λ later. kept-past meaning past (context at tracks number) h.kind s (x ++ (more ++ later));
         rest = λ later. reads-kept (more ++ later) ∙ sym (after-silent _);
       }
 
-      pub StopsAt-keep : (more : List ℕ) (r : Refused) → (r ≡ refusals.OverLimit → o.account.limit < o.account.live + s) → (r ≡ refusals.Memory → o.account.live + s ≤ o.account.limit)
+      pub StopsAt-keep : MarksPast meaning → (more : List ℕ) (r : Refused) → (r ≡ refusals.OverLimit → o.account.limit < o.account.live + s) → (r ≡ refusals.Memory → o.account.live + s ≤ o.account.limit)
           → StopsAt o (back_to o (table_of tracks)) (standing meaning (InHeader (context at tracks number) x)) more (refusal_of r)
       unfolding Starves-keep
-      StopsAt-keep more refusals.OverLimit over within = (Starves-keep more, omega (arith, over refl, low))
-      StopsAt-keep more refusals.Memory over within = (Starves-keep more, omega (arith, within refl, low))
+      StopsAt-keep past more refusals.OverLimit over within = (Starves-keep past more, omega (arith, over refl, low))
+      StopsAt-keep past more refusals.Memory over within = (Starves-keep past more, omega (arith, within refl, low))
 
 -- ---- a box that is passed over
 

@@ -31,6 +31,9 @@ use Rattle.mp4_grammar.specs.Contexts.{Context, context}
 use Rattle.mp4_grammar.specs.Items.{after_moof, kept_body, moof_box, reads_in, timed_box, walked, whole_box_by, with_runs}
 use Rattle.mp4_grammar.specs.Meanings.{Meaning}
 use Rattle.mp4_fragment_machine.specs.Working.Stops.{stop_of}
+use Rattle.mp4_machine.proofs.PastLemmas.{both-past}
+use Rattle.mp4_grammar.specs.Meanings.{MarksPast}
+use Rattle.mp4_grammar.proofs.PastLemmas.{behind-past, reads_past}
 use Rattle.mp4_fragment_machine.specs.Places.{Behind, InHeader, InHeld, reads_at, standing}
 
 module _ (meaning : Meaning) (c : Context) (kind : FourCc) (size : ℕ) (x : List ℕ) (len : length x ≡ size) where
@@ -136,28 +139,29 @@ module _ (meaning : Meaning) (o : Outside) (at number : ℕ) (kind : FourCc) (si
       }
 
   -- their table is refused
-  Starves-moov : (more : List ℕ) → moov_fault at x ≡ None → Starves o (back_to o size) (standing meaning (InHeld (context at None number) kind size x)) more
-  Starves-moov more good = record {
+  Starves-moov : MarksPast meaning → (more : List ℕ) → moov_fault at x ≡ None → Starves o (back_to o size) (standing meaning (InHeld (context at None number) kind size x)) more
+  Starves-moov past more good = record {
     brought = silent;
     moves = given;
     at = at;
     sum = length x + 64 * length (moov_tracks at x);
     continues = λ later. after (says (meaning.of_moov x)) (reads_in meaning (context (at + length x) (Some (moov_tracks at x)) number) (more ++ later));
+    past = λ later. both-past (says (meaning.of_moov x)) (reads_in meaning (context (at + length x) (Some (moov_tracks at x)) number) (more ++ later)).effects tt (reads_past meaning past (context (at + length x) (Some (moov_tracks at x)) number) (more ++ later));
     rest = λ later. moov-reads (more ++ later) good ∙ sym (after-silent _ ∙ after-both (requests_memory at (length x + 64 * length (moov_tracks at x))) (says (meaning.of_moov x)) _);
   }
 
-  pub StopsAt-table : (more : List ℕ) (r : Refused) → moov_fault at x ≡ None → (r ≡ refusals.OverLimit → o.account.limit < o.account.live + 64 * length (moov_tracks at x)) → (r ≡ refusals.Memory → o.account.live + 64 * length (moov_tracks at x) ≤ o.account.limit)
+  pub StopsAt-table : MarksPast meaning → (more : List ℕ) (r : Refused) → moov_fault at x ≡ None → (r ≡ refusals.OverLimit → o.account.limit < o.account.live + 64 * length (moov_tracks at x)) → (r ≡ refusals.Memory → o.account.live + 64 * length (moov_tracks at x) ≤ o.account.limit)
       → StopsAt o (back_to o size) (standing meaning (InHeld (context at None number) kind size x)) more (refusal_of r)
   unfolding Starves-moov
-  StopsAt-table more refusals.OverLimit good over within = (Starves-moov more good, omega (arith, over refl, low, len))
-  StopsAt-table more refusals.Memory good over within = (Starves-moov more good, omega (arith, within refl, low, len))
+  StopsAt-table past more refusals.OverLimit good over within = (Starves-moov past more good, omega (arith, over refl, low, len))
+  StopsAt-table past more refusals.Memory good over within = (Starves-moov past more good, omega (arith, within refl, low, len))
 
   -- its tracks can't be had
-  pub StopsAt-moov : (more : List ℕ) (w : InitStop) → ((f : Fault) → w ≡ init.Fault f → moov_fault at x ≡ Some f)
+  pub StopsAt-moov : MarksPast meaning → (more : List ℕ) (w : InitStop) → ((f : Fault) → w ≡ init.Fault f → moov_fault at x ≡ Some f)
       → ((r : Refused) → w ≡ init.Refused r → (moov_fault at x ≡ None) × (r ≡ refusals.OverLimit → o.account.limit < o.account.live + 64 * length (moov_tracks at x)) × (r ≡ refusals.Memory → o.account.live + 64 * length (moov_tracks at x) ≤ o.account.limit))
       → StopsAt o (back_to o size) (standing meaning (InHeld (context at None number) kind size x)) more (stop_of w)
-  StopsAt-moov more (init.Fault f) bad refused = Refuses-moov more f (bad f refl)
-  StopsAt-moov more (init.Refused r) bad refused = let why = refused r refl in StopsAt-table more r why.0 why.1 why.2
+  StopsAt-moov past more (init.Fault f) bad refused = Refuses-moov more f (bad f refl)
+  StopsAt-moov past more (init.Refused r) bad refused = let why = refused r refl in StopsAt-table past more r why.0 why.1 why.2
 
 -- ---- a moof
 
@@ -224,21 +228,22 @@ module _ (meaning : Meaning) (o : Outside) (at number : ℕ) (tracks : List Trac
           }
 
       -- the list is refused
-      Starves-moof : (more : List ℕ) → Starves o (back_to (back_to looked size) (64 * length tracks)) (standing meaning (InHeld (context at (Some tracks) number) kind size x)) more
-      Starves-moof more = record {
+      Starves-moof : MarksPast meaning → (more : List ℕ) → Starves o (back_to (back_to looked size) (64 * length tracks)) (standing meaning (InHeld (context at (Some tracks) number) kind size x)) more
+      Starves-moof past more = record {
         brought = both (counts (walked (moof_at x at))) silent;
         moves = Moves-more low Moves-looked (Moves-all_back looked (64 * length tracks) size low);
         at = at;
         sum = with_runs (context at (Some tracks) number) tracks x;
         continues = λ later. reads_at meaning (Behind (context at (Some tracks) number) tracks x []) (more ++ later);
+        past = λ later. behind-past meaning past (context at (Some tracks) number) tracks x (more ++ later);
         rest = λ later. moof-reads (more ++ later) ∙ ap (λ t. after t (after (requests_memory at (with_runs (context at (Some tracks) number) tracks x)) (reads_at meaning (Behind (context at (Some tracks) number) tracks x []) (more ++ later)))) (sym (both-silent (counts (walked (moof_at x at)))));
       }
 
-      pub StopsAt-runs : (more : List ℕ) (r : Refused) → (r ≡ refusals.OverLimit → o.account.limit < o.account.live + 64 * length (moof_runs (moof_at x at) tracks)) → (r ≡ refusals.Memory → o.account.live + 64 * length (moof_runs (moof_at x at) tracks) ≤ o.account.limit)
+      pub StopsAt-runs : MarksPast meaning → (more : List ℕ) (r : Refused) → (r ≡ refusals.OverLimit → o.account.limit < o.account.live + 64 * length (moof_runs (moof_at x at) tracks)) → (r ≡ refusals.Memory → o.account.live + 64 * length (moof_runs (moof_at x at) tracks) ≤ o.account.limit)
           → StopsAt o (back_to (back_to looked size) (64 * length tracks)) (standing meaning (InHeld (context at (Some tracks) number) kind size x)) more (refusal_of r)
       unfolding Starves-moof
-      StopsAt-runs more refusals.OverLimit over within = (Starves-moof more, omega (arith, over refl, low, len))
-      StopsAt-runs more refusals.Memory over within = (Starves-moof more, omega (arith, within refl, low, len))
+      StopsAt-runs past more refusals.OverLimit over within = (Starves-moof past more, omega (arith, over refl, low, len))
+      StopsAt-runs past more refusals.Memory over within = (Starves-moof past more, omega (arith, within refl, low, len))
 
 -- a box whose header came has a byte
 pub begins_some : (size : ℕ) (x : List ℕ) → Begins size x → length x ≡ size → 0 < size

@@ -10,7 +10,8 @@ use Rattle.mp4_run_order.proofs.OrderLemmas.{taken_permutes}
 use Rattle.mp4_frag.specs.Moofs.{IsRead, moof_runs}
 use Rattle.mp4_frag.specs.Working.Rereads.{run_of_row}
 use Rattle.mp4_frag.specs.RunLists.{taken_runs}
-use Rattle.mp4_frag.specs.Working.ListedRows.{IsListOf, ListedRows}
+use Rattle.mp4_frag.specs.ListsOfRuns.{IsListOf}
+use Rattle.mp4_frag.specs.RunLists.{ListedRows}
 use Rattle.mp4_frag.specs.Places.{listed_run}
 use Rattle.mp4_frag.specs.Runs.{MoofBytes}
 use Rattle.mp4_frag.specs.Ranges.{AreRunsOf, IsRunOf}

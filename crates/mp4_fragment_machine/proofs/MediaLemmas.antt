@@ -26,7 +26,8 @@ use Rattle.mp4_frag.specs.Rules.{most_samples}
 use Rattle.mp4_frag.specs.Places.{place_fault}
 use Rattle.mp4_frag.specs.Rows.{rows_of, sizes}
 use Rattle.mp4_frag.specs.RunLists.{moof_listing, taken_runs}
-use Rattle.mp4_frag.specs.Working.ListedRows.{IsListOf, ListedRows}
+use Rattle.mp4_frag.specs.ListsOfRuns.{IsListOf}
+use Rattle.mp4_frag.specs.RunLists.{ListedRows}
 use Rattle.mp4_frag.specs.Places.{listed_run}
 use Rattle.mp4_frag.specs.Runs.{MoofBytes, end_place}
 use Rattle.mp4_frag.proofs.RowLemmas.{length_rows_of}
@@ -114,7 +115,7 @@ taken_in : (p : Payload) (h : MoofBytes) (tracks : List Track) (l : ListedRows) 
 taken_in p h tracks l list good =
     let listing = moof_listing h tracks in
     let runs = taken_runs h tracks in
-    let well : IsTakenWell p listing (taken listing) = taken_well p listing (taken listing) list.listing (taken_is_order listing list.listing) (place_means p h tracks l None list (sym good)) in
+    let well : IsTakenWell p listing (taken listing) = taken_well p listing (taken listing) list.ordered.listing (taken_is_order listing list.ordered.listing) (place_means p h tracks l None list (sym good)) in
     let of_runs : IsTakenWell p listing (map listed_run runs) = subst (IsTakenWell p listing) (sym (taken_map listed_run (moof_runs h tracks))) well in
     record {
       rise = pairs_of_map listed_run (λ a b. has_bytes a ≡ true → has_bytes b ≡ true → end_of a ≤ℤ b.place) runs

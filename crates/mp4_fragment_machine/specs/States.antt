@@ -9,7 +9,7 @@ use Rattle.mp4_box.specs.declared.headers.Size.TheVariants.{Exact, ToEnd}
 use Rattle.mp4_init.specs.declared.table.Track.{Track}
 use Rattle.mp4_frag.specs.Moofs.{IsRead, moof_runs, moof_samples, moof_trafs}
 use Rattle.mp4_frag.specs.RunLists.{taken_runs}
-use Rattle.mp4_frag.specs.Working.ListedRows.{IsListOf}
+use Rattle.mp4_frag.specs.ListsOfRuns.{IsListOf}
 use Rattle.mp4_frag.specs.Runs.{MoofBytes, moof_at}
 use Rattle.mp4_frag.specs.Settling.{settled}
 use Rattle.mp4_machine.specs.Bodies.{longest}

@@ -4,7 +4,7 @@ use Rattle.std.proofs.Math.Seq.{take-append-add}
 use Rattle.mp4_machine.specs.Readings.{Request, shifted_by, shifted, Effects, plus, uncounted, Reading, FirstItem, Last, Whole, after, after_effects, then_read, read_all}
 use Rattle.mp4_machine.specs.declared.tally.Tally.{Tally}
 use Rattle.mp4_machine.proofs.ReadingLemmas.{Below, Below-more, IsItemwise, read_all-front}
-use Rattle.mp4_machine.proofs.ReadingGrowthLemmas.{effects_of}
+use Rattle.mp4_machine.proofs.PastLemmas.{effects_of}
 use Rattle.mp4_machine.proofs.ReadingItemLemmas.{Each, IsItem, IsItemAt}
 use Rattle.mp4_grammar.specs.Counts.{WalksOn}
 

@@ -21,7 +21,7 @@ use Rattle.mp4_frag.specs.Runs.{moof_at}
 use Rattle.mp4_frag.proofs.SettleLemmas.{settled_length}
 use Rattle.mp4_machine.specs.Bodies.{least_end, longest, body_item, open_body_item}
 use Rattle.mp4_machine.specs.Readings.{Request, greatest, Effects, counts, requests_memory, FirstItem, Last, Whole, after_effects, most_of}
-use Rattle.mp4_machine.proofs.ReadingGrowthLemmas.{effects_of}
+use Rattle.mp4_machine.proofs.PastLemmas.{effects_of}
 use Rattle.mp4_machine.proofs.ReadingItemLemmas.{Each, IsItem, IsItemAt}
 use Rattle.mp4_grammar.specs.declared.kinds.Kind.{Kind}
 use Rattle.mp4_grammar.specs.declared.kinds.Kind.TheVariants.{Moov, Moof, Mdat, Other}

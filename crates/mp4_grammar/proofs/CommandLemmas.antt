@@ -2,19 +2,24 @@
 use Rattle.std.proofs.Common.{ap, arith, refl, sym}
 use Rattle.mp4_machine.specs.Readings.{counts, silent}
 use Rattle.mp4_machine.proofs.ReadingAskLemmas.{plus-none}
-use Rattle.mp4_machine.proofs.ReadingGrowthLemmas.{TellsMore-silent}
+use Rattle.mp4_machine.proofs.ReadingGrowthLemmas.{TellsMore-same}
 use Rattle.mp4_grammar.specs.Commands.{command_meaning}
-use Rattle.mp4_grammar.specs.Meanings.{IsGrowing, counted_in}
+use Rattle.mp4_grammar.specs.Meanings.{IsGrowing, MarksPast, counted_in}
 use Rattle.mp4_grammar.specs.WithoutText.{IsWithoutText}
 use Rattle.mp4_grammar.specs.declared.command.Command.{Command}
 use Rattle.mp4_grammar.specs.declared.command.Command.TheVariants.{Samples, Check}
 use Rattle.mp4_grammar.proofs.ItemAskLemmas.{IsQuiet}
 use Rattle.mp4_grammar.proofs.WalkLemmas.{CountsSamplesOnce}
 
+making-past : (command : Command) → MarksPast (command_meaning command)
+making-past Samples = record { passed = λ kind b. tt; accepted = λ f. tt; media = λ f b. tt }
+making-past Check = record { passed = λ kind b. tt; accepted = λ f. tt; media = λ f b. tt }
+
 pub making-growing : (command : Command) → IsGrowing (command_meaning command)
 making-growing command = record {
-  media = λ f b x. TellsMore-silent silent;
-  passed = λ kind b x. TellsMore-silent silent;
+  marks = making-past command;
+  media = λ f b x. TellsMore-same silent;
+  passed = λ kind b x. TellsMore-same silent;
 }
 
 pub making-quiet : (command : Command) → IsQuiet (command_meaning command)

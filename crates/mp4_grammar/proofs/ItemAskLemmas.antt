@@ -16,7 +16,7 @@ use Rattle.mp4_frag.specs.Moofs.{early_fault, moof_trafs, time_faults}
 use Rattle.mp4_frag.specs.Runs.{moof_at}
 use Rattle.mp4_machine.specs.Bodies.{least_end, longest, body_item, open_body_item}
 use Rattle.mp4_machine.specs.Readings.{Request, Effects, counts, requests_memory, FirstItem, after_effects}
-use Rattle.mp4_machine.proofs.ReadingGrowthLemmas.{effects_of}
+use Rattle.mp4_machine.proofs.PastLemmas.{effects_of}
 use Rattle.mp4_machine.proofs.ReadingItemLemmas.{Each, IsFirst}
 use Rattle.mp4_grammar.specs.declared.kinds.Kind.{Kind}
 use Rattle.mp4_grammar.specs.declared.kinds.Kind.TheVariants.{Moov, Moof, Mdat, Other}

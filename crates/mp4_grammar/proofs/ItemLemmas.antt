@@ -23,6 +23,8 @@ use Rattle.mp4_machine.specs.Readings.{Last, counts, requests_memory, after_effe
 use Rattle.mp4_machine.proofs.ReadingLemmas.{Below, Below-more, Below-told, IsItemwise}
 use Rattle.mp4_machine.proofs.ReadingGrowthLemmas.{reading_grows, FrontGrows, TellsMore-silent, told-grows}
 use Rattle.mp4_machine.proofs.BodyLemmas.{nat_lt_false}
+use Rattle.mp4_machine.proofs.PastLemmas.{effects-past}
+use Rattle.mp4_grammar.proofs.PastLemmas.{behind_by_past, behind_past, item_by_past, item_past, kept_past}
 use Rattle.mp4_machine.proofs.BodyGrowthLemmas.{told-below, told_open-below, told_body-grows, told_open-grows}
 use Rattle.mp4_machine.proofs.HeadLemmas.{head-room, header-grows, kind_of-append}
 use Rattle.mp4_grammar.specs.declared.kinds.Kind.{Kind}
@@ -151,7 +153,7 @@ module _ (meaning : Meaning) (growing : IsGrowing meaning) where
   second-grows c tracks moof h b x false e = rw e (second_by-grows c tracks moof h b x (kind_in h.kind.0))
 
   behind_by-grows : (c : Context) (tracks : List Track) (moof b x : List ℕ) (s : Step) → header_at b ≡ s → FrontGrows x (after_moof_by meaning c tracks moof b s) (after_moof_by meaning c tracks moof (b ++ x) (header_at (b ++ x)))
-  behind_by-grows c tracks moof b x steps.More e = TellsMore-silent _
+  behind_by-grows c tracks moof b x steps.More e = TellsMore-silent _ (effects-past _ (behind_by_past meaning growing.marks c tracks moof (b ++ x) (header_at (b ++ x))))
   behind_by-grows c tracks moof b x steps.BadSize e =
       rw (header_at-append b x (bad_is b e), e) (ap (λ k. Last (at_fault BadSize k (c.at + length moof))) (kind_of-append b x (omega (arith, need-least b, bad_is b e))))
   behind_by-grows c tracks moof b x (steps.Whole h) e =
@@ -160,7 +162,7 @@ module _ (meaning : Meaning) (growing : IsGrowing meaning) where
 
   behind-grows : (c : Context) (tracks : List Track) (moof b x : List ℕ) → FrontGrows x (after_moof meaning c tracks moof b) (after_moof meaning c tracks moof (b ++ x))
   unfolding after_moof
-  behind-grows c tracks moof [] x = TellsMore-silent _
+  behind-grows c tracks moof [] x = TellsMore-silent _ (effects-past (after_moof meaning c tracks moof x) (behind_past meaning growing.marks c tracks moof x))
   behind-grows c tracks moof (a ∷ b) x = behind_by-grows c tracks moof (a ∷ b) x (header_at (a ∷ b)) refl
 
   moov-grows : (c : Context) (y rest x : List ℕ) (f : Option Fault) → FrontGrows x (moov_box meaning c y rest f) (moov_box meaning c y (rest ++ x) f)
@@ -182,7 +184,7 @@ module _ (meaning : Meaning) (growing : IsGrowing meaning) where
   whole-grows c y rest x (Some tracks) = moof-grows c tracks y rest x (early_fault (moof_at y c.at) tracks)
 
   kept-grows : (c : Context) (kind : FourCc) (size : ℕ) (b x : List ℕ) (t : Bool) → nat_lt (length b) size ≡ t → FrontGrows x (kept_body meaning c kind size b) (kept_body meaning c kind size (b ++ x))
-  kept-grows c kind size b x true e = rw e (TellsMore-silent _)
+  kept-grows c kind size b x true e = rw e (TellsMore-silent _ (effects-past (kept_body meaning c kind size (b ++ x)) (kept_past meaning growing.marks c kind size (b ++ x))))
   kept-grows c kind size b x false e =
       let enough : size ≤ length b = ltb-false _ _ e in
       rw (e, nat_lt_false (length (b ++ x)) size (omega (arith, length-append b x)), take-append-le size b x enough, drop-append-le size b x enough)
@@ -219,7 +221,7 @@ module _ (meaning : Meaning) (growing : IsGrowing meaning) where
   box_from-grows c h y b x false e = rw e (box_in-grows c h y b x (kind_in h.kind.0) c.tracks)
 
   item_by-grows : (c : Context) (b x : List ℕ) (s : Step) → header_at b ≡ s → FrontGrows x (item_by meaning c b s) (item_by meaning c (b ++ x) (header_at (b ++ x)))
-  item_by-grows c b x steps.More e = TellsMore-silent _
+  item_by-grows c b x steps.More e = TellsMore-silent _ (effects-past _ (item_by_past meaning growing.marks c (b ++ x) (header_at (b ++ x))))
   item_by-grows c b x steps.BadSize e =
       rw (header_at-append b x (bad_is b e), e) (ap (λ k. Last (at_fault BadSize k c.at)) (kind_of-append b x (omega (arith, need-least b, bad_is b e))))
   item_by-grows c b x (steps.Whole h) e =
@@ -228,9 +230,9 @@ module _ (meaning : Meaning) (growing : IsGrowing meaning) where
 
   pub item-grows : (c : Context) (b x : List ℕ) → FrontGrows x (item meaning c b) (item meaning c (b ++ x))
   unfolding item
-  item-grows c [] x = TellsMore-silent _
+  item-grows c [] x = TellsMore-silent _ (effects-past (item meaning c x) (item_past meaning growing.marks c x))
   item-grows c (a ∷ b) x = item_by-grows c (a ∷ b) x (header_at (a ∷ b)) refl
 
   -- what more bytes add to a reading
   pub reads-grow : (c : Context) (b x : List ℕ) → GrowsTo (reads_in meaning c b) (reads_in meaning c (b ++ x))
-  reads-grow c b x = reading_grows (item meaning) (item-items meaning) item-grows c b x
+  reads-grow c b x = reading_grows (item meaning) (item-items meaning) item-grows (item_past meaning growing.marks) c b x

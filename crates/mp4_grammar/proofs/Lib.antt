@@ -1,3 +1,4 @@
+pub mod PastLemmas
 pub mod ItemLemmas
 pub mod CommandLemmas
 pub mod AskLemmas

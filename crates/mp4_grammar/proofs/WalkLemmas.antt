@@ -18,7 +18,7 @@ use Rattle.mp4_machine.specs.Bodies.{least_end, longest, body_item, open_body_it
 use Rattle.mp4_machine.specs.Readings.{Effects, Reading, FirstItem, Last, Whole, plus, counts, requests_memory, after_effects, then_read, read_all}
 use Rattle.mp4_machine.specs.declared.tally.Tally.{Tally}
 use Rattle.mp4_machine.proofs.ReadingLemmas.{Below, Below-more, IsItemwise, read_all-front}
-use Rattle.mp4_machine.proofs.ReadingGrowthLemmas.{effects_of}
+use Rattle.mp4_machine.proofs.PastLemmas.{effects_of}
 use Rattle.mp4_grammar.specs.declared.kinds.Kind.{Kind}
 use Rattle.mp4_grammar.specs.declared.kinds.Kind.TheVariants.{Moov, Moof, Mdat, Other}
 use Rattle.mp4_grammar.specs.Kinds.{kind_in, most_moof, most_moov}

@@ -13,7 +13,7 @@ use Rattle.mp4_frag.specs.Places.{place_fault}
 use Rattle.mp4_frag.specs.RunLists.{taken_runs}
 use Rattle.mp4_frag.specs.Runs.{MoofBytes, end_place}
 use Rattle.mp4_frag.specs.Settling.{settled}
-use Rattle.mp4_machine.specs.Readings.{Effects, TellsMore}
+use Rattle.mp4_machine.specs.Readings.{ArePast, Effects, TellsMore}
 use Rattle.mp4_machine.specs.declared.tally.Tally.{Tally}
 
 -- a moof and the mdat directly behind it, by the payload of that; with the tracks and the number of the next fragment before them
@@ -75,7 +75,14 @@ pub record Meaning : Type 0 where
 abbrev pub fragment_fault : Meaning → Fragment → Option Fault
 fragment_fault meaning f = option_or (place_fault f.payload (moof_runs f.moof f.tracks)) (meaning.refuses f)
 
--- the effects of media and of other boxes grow with them
+-- each fragment that is told ends past some text
+pub record MarksPast (meaning : Meaning) : Type 0 where
+  pub passed : (kind : FourCc) (b : List ℕ) → ArePast 0 (meaning.passed kind b).marks
+  pub accepted : (f : Fragment) → ArePast 0 (meaning.accepted f).marks
+  pub media : (f : Fragment) (b : List ℕ) → ArePast 0 (meaning.media f b).marks
+
+-- the effects of media and of other boxes grow with them, and no fragment that is told has no text
 pub record IsGrowing (meaning : Meaning) : Type 0 where
+  pub marks : MarksPast meaning
   pub media : (f : Fragment) (b x : List ℕ) → TellsMore (meaning.media f b) (meaning.media f (b ++ x))
   pub passed : (kind : FourCc) (b x : List ℕ) → TellsMore (meaning.passed kind b) (meaning.passed kind (b ++ x))

@@ -1,6 +1,6 @@
 //! What the definitions of a fragmented stream's reading imply.
 
-ghost use Rattle.std.specs.Prelude.{◌≡◌, ◌+◌, ◌*◌, ◌≤◌, ◌++◌, ◌∷◌, List, ℕ, length, take};
+ghost use Rattle.std.specs.Prelude.{◌≡◌, ◌+◌, ◌*◌, ◌^◌, ◌≤◌, ◌++◌, ◌∷◌, List, ℕ, length, take};
 ghost use Rattle.mp4_box.specs.Headers.{IsBytes};
 ghost use Rattle.mp4_machine.specs.Bodies.{longest};
 ghost use Rattle.mp4_machine.specs.Readings.{Request, GrowsTo, Reading, after, most_of};
@@ -55,6 +55,12 @@ pub fn lines_before()
     ensures counted { (command : Command) (b : List ℕ) (before : List Request) (a : Request)
         (later : List Request) → (reading command b).effects.requests ≡ before ++ a ∷ later →
         WalksOn (reading command (take a.at b)).effects.tally a.counted }
+{}
+
+/// A moov may have 16 MiB, and a moof 64 MiB.
+pub fn limits()
+    ensures moov { most_moov ≡ 2 ^ 24 }
+    ensures moof { most_moof ≡ 2 ^ 26 }
 {}
 
 /// No stream asks for more than a table as large as the largest moov, the largest moof and a list of its runs, which takes

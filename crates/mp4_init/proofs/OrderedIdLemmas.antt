@@ -7,7 +7,7 @@ use Rattle.std.specs.Ordering.{nat_cmp}
 use Rattle.std.proofs.lemmas.Bool.{ltb-false, ltb-true}
 use Rattle.std.proofs.lemmas.List.Sorted.{IsNonDecreasingBy-from_sort}
 use Rattle.mp4_init.proofs.SearchTreeLemmas.{is_same, same_test}
-use Rattle.mp4_init.specs.Working.OrderedIds.{descend, place_if, step_to, sought}
+use Rattle.mp4_init.specs.OrderedIds.{descend, place_if, step_to, sought}
 
 some_same : (a b : ℕ) → Some a ≡ Some b → a ≡ b
 some_same a b e = cc

@@ -10,7 +10,7 @@ use Rattle.mp4_init.specs.declared.summary.Source.{Source}
 use Rattle.mp4_init.specs.declared.summary.Source.TheVariants.{Tkhd, Trex}
 use Rattle.mp4_init.specs.Kinds.{to_tkhd, to_trex}
 use Rattle.mp4_init.specs.Fields.{tkhd_id}
-use Rattle.mp4_init.specs.Working.OrderedIds.{sought}
+use Rattle.mp4_init.specs.OrderedIds.{sought}
 use Rattle.mp4_init.specs.Working.Summaries.{empty_summary, id_by, told, gathered, ids_from, summary_in, told_at, all_told, summaries_in}
 use Rattle.mp4_init.proofs.SearchTreeLemmas.{any_default, is_same}
 use Rattle.mp4_init.proofs.OrderedIdLemmas.{none_sought, same_id}

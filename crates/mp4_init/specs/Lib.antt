@@ -4,4 +4,5 @@ pub mod Rules
 pub mod Tracks
 pub mod Moovs
 pub mod TrackFields
+pub mod OrderedIds
 pub mod Working

@@ -11,7 +11,7 @@ ghost use Rattle.mp4_box.specs.Trees.{Box, box_at, children};
 ghost use Rattle.mp4_init.specs.TrackFields.{FitsTrackFields};
 ghost use Rattle.mp4_init.specs.Moovs.{moov_fault, moov_faults, moov_tracks};
 ghost use Rattle.mp4_init.specs.Kinds.{trak};
-ghost use Rattle.mp4_init.specs.Working.OrderedIds.{sought};
+ghost use Rattle.mp4_init.specs.OrderedIds.{sought};
 ghost use Rattle.mp4_init.specs.Rules.{trexes_of};
 ghost use Rattle.mp4_init.specs.Tracks.{id_of};
 

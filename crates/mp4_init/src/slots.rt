@@ -4,7 +4,7 @@ ghost use Rattle.std.specs.Prelude.{◌≡◌, ◌<◌, ◌≤◌, [], length, r
 ghost use Rattle.mp4_box.specs.Paths.{at_path};
 ghost use Rattle.mp4_box.specs.Trees.{view};
 ghost use Rattle.mp4_init.specs.Kinds.{to_tkhd};
-ghost use Rattle.mp4_init.specs.Working.OrderedIds.{AreInOrder, sought};
+ghost use Rattle.mp4_init.specs.OrderedIds.{AreInOrder, sought};
 ghost use Rattle.mp4_init.specs.Working.Summaries.{all_told, gathered, id_by, ids_from, empty_summary, summaries_in, summary_in, told_at, told_if};
 
 use crate::fields::number_behind_times;

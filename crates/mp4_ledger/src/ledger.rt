@@ -38,6 +38,27 @@ impl Model for Ledger {
     ghost invariant = { λ l. (l.live ≤ l.limit) × (l.live ≤ l.peak) × (l.peak ≤ l.limit) };
 }
 
+/// The peak of a ledger before it was marked. Only a mark makes one, and it must be spent: lifted back, or forgotten.
+pub struct EarlierPeak {
+    peak: u64,
+}
+
+// A contract sees the number.
+impl Model for EarlierPeak {
+    ghost use Rattle.std.specs.Prelude.{ℕ};
+
+    ghost Value = { ℕ };
+
+    ghost view = { λ e. e.peak };
+}
+
+impl EarlierPeak {
+    /// Lets it go: the ledger counts from its mark on.
+    pub fn forget(self) {
+        let EarlierPeak { peak: _ } = self;
+    }
+}
+
 impl Ledger {
     /// A ledger of which nothing is out, and of which at most `limit` bytes may be.
     pub fn new(alloc: Global, limit: u64) -> Ledger
@@ -76,18 +97,24 @@ impl Ledger {
         self.limit
     }
 
-    /// Forgets the peak so far: it counts from what is out now.
-    pub fn mark(&mut self)
-        ensures { self.new ≡ record self.old { peak = self.old.live } }
+    /// Begins a new peak: it counts from what is out now. What it was is answered, to be lifted back or forgotten.
+    pub fn mark(&mut self) -> EarlierPeak
+        ensures marked { self.new ≡ record self.old { peak = self.old.live } }
+        ensures earlier { result ≡ self.old.peak }
+        ensures most { self.old.live ≤ self.old.peak }
+        ensures within { self.old.peak ≤ self.old.limit }
     {
+        let earlier = EarlierPeak { peak: self.peak };
         self.peak = self.live;
+        earlier
     }
 
     /// Counts a peak that was reached before a mark: the peak is at least so much then.
-    pub fn lift(&mut self, peak: u64)
-        requires { peak ≤ self.old.limit }
-        ensures { self.new ≡ record self.old { peak = max self.old.peak peak } }
+    pub fn lift(&mut self, earlier: EarlierPeak)
+        requires { earlier ≤ self.old.limit }
+        ensures { self.new ≡ record self.old { peak = max self.old.peak earlier } }
     {
+        let EarlierPeak { peak } = earlier;
         self.peak = self.peak.max(peak);
     }
 

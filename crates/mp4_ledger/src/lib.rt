@@ -1,6 +1,6 @@
 //! Counted memory: buffers and tables that are claimed from a ledger, which has a limit, and are given back to it.
 //!
-//! - [`Ledger`] counts what is out, refuses what would pass its limit, and keeps the most that was out;
+//! - [`Ledger`] counts what is out, refuses what would pass its limit, and keeps the most that was out, an [`EarlierPeak`] beside;
 //! - [`Buf`] is a buffer of bytes, and [`Rows64`] a table of rows of eight numbers.
 //!
 //! A claim can't be dropped: what has one out must give it back, on every way out.
@@ -11,5 +11,5 @@ mod ledger;
 mod rows;
 
 pub use buf::Buf;
-pub use ledger::{Ledger, Refused};
+pub use ledger::{EarlierPeak, Ledger, Refused};
 pub use rows::Rows64;

@@ -12,7 +12,7 @@ use Rattle.mp4_machine.specs.declared.stop.Stop.{Stop}
 use Rattle.mp4_machine.specs.declared.stop.Stop.TheVariants.{Stream, Read, Write, OverLimit, Memory}
 use Rattle.mp4_machine.specs.declared.tally.Tally.{Tally}
 use Rattle.mp4_machine.proofs.BlockLemmas.{Appends-passed, whole-broken, whole-passed}
-use Rattle.mp4_machine.proofs.MarkLemmas.{moved-append}
+use Rattle.mp4_machine.proofs.MarkLemmas.{moved-append, moved-past}
 use Rattle.mp4_machine.proofs.ReadingAskLemmas.{AtMost-behind, AtMost-plus, most-both, plus-none, shifted-append}
 use Rattle.mp4_machine.proofs.ReadingLemmas.{after-both, both-silent, after-silent}
 use Rattle.mp4_machine.proofs.RunLemmas.{takes-left}
@@ -157,6 +157,7 @@ module _ (whole : List ℕ → Reading) (b : List ℕ) {p : Standing} {counted :
                   ap (λ t. t.marks) effects
                       ∙ ap (λ l. (whole b).effects.marks ++ l) (moved-append n g.brought.marks (moved k (both (requests_memory g.at g.sum) more).marks))
                       ∙ sym (append_assoc (whole b).effects.marks (moved n g.brought.marks) _),
+                  moved-past n k more.marks (g.past []),
                 );
                 text = Appends-passed g.moves.passes none.bytes none'.bytes;
                 fragments = whole-passed g.moves.passes none none';

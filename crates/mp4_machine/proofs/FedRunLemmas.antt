@@ -8,12 +8,12 @@ use Rattle.mp4_machine.specs.Accounts.{Counts, Spends}
 use Rattle.mp4_machine.specs.Ends.{Ends}
 use Rattle.mp4_machine.specs.Fed.{AllWhole, Lent, Sums, TellsRest, StarvesBehind, FedUntil}
 use Rattle.mp4_machine.specs.Readings.{Outcome, Sound, Faulty, CutOff, Reading, Effects, both, early_in, fault_in, most_of, shifted, whole_in}
-use Rattle.mp4_machine.specs.StreamRuns.{StreamRun, TellsAll, IsPrompt, StarvesAt, ComesUntil}
+use Rattle.mp4_machine.specs.StreamRuns.{StreamRun, IsOneRead, TellsAll, IsPrompt, StarvesAt, ComesUntil}
 use Rattle.mp4_machine.specs.declared.stop.Stop.{Stop}
 use Rattle.mp4_machine.specs.declared.stop.Stop.TheVariants.{Stream, Read, Write, OverLimit, Memory}
 use Rattle.mp4_machine.specs.declared.tally.Tally.{Tally}
 use Rattle.mp4_machine.proofs.AccountLemmas.{Counts-more, Spends-after}
-use Rattle.mp4_machine.proofs.MarkLemmas.{whole_in-both}
+use Rattle.mp4_machine.proofs.MarkLemmas.{whole_in-both, whole_in-before}
 use Rattle.mp4_machine.proofs.ReadingAskLemmas.{most-both}
 
 peak-all : (a k : Account) (own m : ℕ) → a.peak ≡ a.live → Counts a k 0 own m → k.peak ≡ a.live + m
@@ -72,14 +72,14 @@ module _ (whole : List ℕ → Reading) (ends : Ends) (a : Account) (marked : a.
 
   module _ (undecided : early_in (whole b).outcome ≡ None) where
     -- no byte came since, or the bytes of one read
-    abbrev pub prompt-here : (k : Account) (fragments : ℕ) (tally : Tally) → IsPrompt (run_so_far whole ends a b k fragments tally)
-    prompt-here k fragments tally = record { early = b; last = []; cut = sym (append-nil b); few = omega arith; undecided = undecided }
+    abbrev pub prompt-here : ends.last_read ≡ 0 → (k : Account) (fragments : ℕ) (tally : Tally) → IsPrompt (run_so_far whole ends a b k fragments tally)
+    prompt-here none k fragments tally = record { early = b; last = []; cut = sym (append-nil b); read = λ some. record { few = omega arith; gave = sym none }; undecided = undecided }
 
-    abbrev pub prompt-fed : (piece : List ℕ) (k : Account) (fragments : ℕ) (tally : Tally) → length piece ≤ a.live → IsPrompt (run_so_far whole ends a (b ++ piece) k fragments tally)
-    prompt-fed piece k fragments tally few = record { early = b; last = piece; cut = refl; few = few; undecided = undecided }
+    abbrev pub prompt-fed : (piece : List ℕ) (k : Account) (fragments : ℕ) (tally : Tally) → IsOneRead ends a.live piece → IsPrompt (run_so_far whole ends a (b ++ piece) k fragments tally)
+    prompt-fed piece k fragments tally one = record { early = b; last = piece; cut = refl; read = λ some. one; undecided = undecided }
 
     -- the next piece stops it
-    module _ (piece : List ℕ) (l : Lent) (own : ℕ) (s : Sums) (few : length piece ≤ a.live) (to : ends.written' ≡ l.written') (text : Appends ends.written l.written (whole b).effects.text) (sent : AllWhole (whole b).effects l.whole) (counts : Counts a l.account 0 own (most_of (whole b).effects)) where
+    module _ (piece : List ℕ) (l : Lent) (own : ℕ) (s : Sums) (one : IsOneRead ends a.live piece) (to : ends.written' ≡ l.written') (text : Appends ends.written l.written (whole b).effects.text) (sent : AllWhole (whole b).effects l.whole) (counts : Counts a l.account 0 own (most_of (whole b).effects)) where
       abbrev run : StreamRun
       run = run_so_far whole ends a (b ++ piece) l.account' l.whole' s.tally
 
@@ -97,7 +97,7 @@ module _ (whole : List ℕ → Reading) (ends : Ends) (a : Account) (marked : a.
         tally = same;
       }
 
-      starves : (r : StarvesBehind whole b (b ++ piece) l own s) → (at : StarvesAt run (prompt-fed piece l.account' l.whole' s.tally few)) × (at.request.sum ≡ r.request.sum)
+      starves : (r : StarvesBehind whole b (b ++ piece) l own s) → (at : StarvesAt run (prompt-fed piece l.account' l.whole' s.tally one)) × (at.request.sum ≡ r.request.sum)
       starves r = (
         record {
           request = r.request;
@@ -105,11 +105,10 @@ module _ (whole : List ℕ → Reading) (ends : Ends) (a : Account) (marked : a.
           requested = r.requested;
           new = (shifted (whole b).effects r.effects.requests, refl);
           text = subst (λ t. Appends ends.written ends.written' t) (sym r.front) (text-behind r.effects.text r.text);
-          marks = (both (whole b).effects r.effects).marks;
-          marked = r.marked;
           fragments = sym (r.fragments 0)
               ∙ sym (whole_in-both (length (whole b).effects.text) 0 l.whole (whole b).effects.marks r.effects.marks sent (length r.effects.text + 0))
-              ∙ ap (λ k. whole_in k 0 (both (whole b).effects r.effects).marks) (omega (arith, r.placed));
+              ∙ ap (λ k. whole_in k 0 (both (whole b).effects r.effects).marks) (omega (arith, r.placed))
+              ∙ whole_in-before r.request.text_before 0 (both (whole b).effects r.effects).marks r.marked.0 (whole (b ++ piece)).effects.marks r.marked.1 r.marked.2;
           peak = peak-all a l.account' 0 (most_of (both (whole b).effects r.effects)) marked (counts-behind r.effects r.counts);
           tally = ap (λ (x : Sums). x.tally) r.sums;
           most = r.most;
@@ -117,7 +116,7 @@ module _ (whole : List ℕ → Reading) (ends : Ends) (a : Account) (marked : a.
         refl,
       )
 
-      pub comes-until : (e : Stop) → (e ≡ Write → ends.write_failed' ≡ true) → FedUntil whole b piece l own s e → ComesUntil run (prompt-fed piece l.account' l.whole' s.tally few) e
+      pub comes-until : (e : Stop) → (e ≡ Write → ends.write_failed' ≡ true) → FedUntil whole b piece l own s e → ComesUntil run (prompt-fed piece l.account' l.whole' s.tally one) e
       unfolding starves
       comes-until (Stream f) failed until = (
         tells-rest until.0 (ap (λ (x : Sums). x.tally) until.2),

@@ -1,5 +1,6 @@
 pub mod ReadingAskLemmas
 pub mod ReadingLemmas
+pub mod PastLemmas
 pub mod ReadingGrowthLemmas
 pub mod ReadingItemLemmas
 pub mod BodyLemmas

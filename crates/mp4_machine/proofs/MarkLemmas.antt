@@ -62,3 +62,17 @@ whole_in-early k n before (x ∷ xs) h =
 pub whole_in-both : (j before middle : ℕ) (xs ys : List Mark) → ((n : ℕ) → whole_in (j + n) before xs ≡ middle) → (n : ℕ) → whole_in (j + n) before (xs ++ moved j ys) ≡ whole_in n middle ys
 whole_in-both j before middle xs ys h n =
     whole_in-append (j + n) before xs (moved j ys) ∙ ap (λ k. whole_in (j + n) k (moved j ys)) (h n) ∙ whole_in-moved j n middle ys
+
+-- marks that end behind the bytes tell nothing of them
+pub whole_in-past : (n before : ℕ) (xs : List Mark) → AllByRecursion (λ x. n < x.end) xs → whole_in n before xs ≡ before
+whole_in-past n before [] h = refl
+whole_in-past n before (x ∷ xs) h = ap (λ b. whole_in n (if b then before else x.count) xs) (less n x.end h.0) ∙ whole_in-past n before xs h.1
+
+-- so do those behind a text of n bytes, one of k, and none
+pub moved-past : (n k : ℕ) (xs : List Mark) → AllByRecursion (λ x. 0 < x.end) xs → AllByRecursion (λ x. n + (k + 0) < x.end) (moved n (moved k (moved 0 xs)))
+moved-past n k [] h = h
+moved-past n k (x ∷ xs) h = (omega (arith, h.0), moved-past n k xs h.1)
+
+-- so many fragments are whole in the bytes as by the marks before those
+pub whole_in-before : (n before : ℕ) (xs later zs : List Mark) → zs ≡ xs ++ later → AllByRecursion (λ x. n < x.end) later → whole_in n before xs ≡ whole_in n before zs
+whole_in-before n before xs later zs e h = sym (ap (whole_in n before) e ∙ whole_in-append n before xs later ∙ whole_in-past n (whole_in n before xs) later h)

@@ -95,6 +95,7 @@ module _ {o o' : Outside} {p q : Standing} {xs : List ℕ} (low : p.claim ≤ o.
     at = h.at;
     sum = h.sum;
     continues = h.continues;
+    past = h.past;
     rest = λ later. rest-all ys later ∙ ap (after g.brought) (h.rest later) ∙ after-both g.brought h.brought (after (requests_memory h.at h.sum) (h.continues later));
   }
 
@@ -140,7 +141,7 @@ module _ (o o' : Outside) (p q : Standing) (x : List ℕ) (same : q.claim ≡ p.
   GoesOn-behind r far g = record { brought = g.brought; moves = moves-behind r.claim g.brought g.moves; reached = omega (arith, far, g.reached, length-append x ys); rest = λ later. rest-behind later ∙ g.rest later }
 
   Starves-behind : Starves o o' p (x ++ ys) → Starves o o' q ys
-  Starves-behind g = record { brought = g.brought; moves = moves-behind 0 g.brought g.moves; at = g.at; sum = g.sum; continues = g.continues; rest = λ later. rest-behind later ∙ g.rest later }
+  Starves-behind g = record { brought = g.brought; moves = moves-behind 0 g.brought g.moves; at = g.at; sum = g.sum; continues = g.continues; past = g.past; rest = λ later. rest-behind later ∙ g.rest later }
 
   pub StopsAt-behind : (e : Stop) → StopsAt o o' p (x ++ ys) e → StopsAt o o' q ys e
   unfolding Starves-behind
@@ -173,7 +174,7 @@ module _ {o o' : Outside} {u : Option (List ℕ)} {x : Pending} where
     GoesOn-sent g h = record { brought = g.brought; moves = Moves-sent g.moves h; reached = g.reached; rest = g.rest }
 
     Starves-sent : Starves o o' p xs → Passes o'.written u o'.waiting x [] → Starves o (sent_to o' u x) p xs
-    Starves-sent g h = record { brought = g.brought; moves = Moves-sent g.moves h; at = g.at; sum = g.sum; continues = g.continues; rest = g.rest }
+    Starves-sent g h = record { brought = g.brought; moves = Moves-sent g.moves h; at = g.at; sum = g.sum; continues = g.continues; past = g.past; rest = g.rest }
 
 -- where a write failed nothing more is sent
 pub StopsAt-sent : (o o' : Outside) (u : Option (List ℕ)) (x : Pending) (p : Standing) (xs : List ℕ) (e : Stop) → (e ≡ Write → ⊥) → StopsAt o o' p xs e → Passes o'.written u o'.waiting x [] → StopsAt o (sent_to o' u x) p xs e

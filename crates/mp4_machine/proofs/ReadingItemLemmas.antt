@@ -3,7 +3,7 @@ use Rattle.std.proofs.Common.{◌≡◌, ◌∙◌, ℕ, zero, suc, ◌+◌, ◌
 use Rattle.std.proofs.Math.Seq.{take-append-add}
 use Rattle.mp4_machine.specs.Readings.{Request, shifted_by, shifted, Effects, Reading, FirstItem, Last, Whole, after, then_read, read_all}
 use Rattle.mp4_machine.proofs.ReadingLemmas.{Below, IsItemwise, read_all-front}
-use Rattle.mp4_machine.proofs.ReadingGrowthLemmas.{effects_of}
+use Rattle.mp4_machine.proofs.PastLemmas.{effects_of}
 
 -- each ask is so
 abbrev pub Each : (Request → Type 0) → List Request → Type 0

@@ -12,14 +12,14 @@ use Rattle.mp4_machine.specs.Blocks.{BreaksMarked, IsSent, PassesMarked, unused}
 use Rattle.mp4_machine.specs.Readings.{moved, whole_in, Request, AtMost, greatest, Effects, Reading, empty_reading, uncounted, plus, fault_in, early_in, after, both, requests_memory, shifted, most_of}
 use Rattle.mp4_machine.specs.Pieces.{Outside, Standing, Refuses, Starves, StopsAt, Around, Takes, IsFed, refusal_of}
 use Rattle.mp4_machine.specs.Ends.{Ends}
-use Rattle.mp4_machine.specs.StreamRuns.{Claims, StreamRun, TellsAll, TellsSome, IsPrompt, StarvesAt, ComesUntil, ReadsStream}
+use Rattle.mp4_machine.specs.StreamRuns.{Claims, StreamRun, IsOneRead, TellsAll, TellsSome, IsPrompt, StarvesAt, ComesUntil, ReadsStream}
 use Rattle.mp4_machine.specs.declared.stop.Stop.{Stop}
 use Rattle.mp4_machine.specs.declared.tally.Tally.{Tally}
 use Rattle.mp4_machine.specs.declared.stop.Stop.TheVariants.{Stream, Read, Write, OverLimit, Memory}
 use Rattle.mp4_machine.proofs.ReadingAskLemmas.{AtMost-behind, AtMost-plus, most-both, plus-none, shifted-append}
 use Rattle.mp4_machine.proofs.AccountLemmas.{Counts-more, Spends-after}
 use Rattle.mp4_machine.proofs.BlockLemmas.{Appends-passed, BreaksMarked-passed, PassesMarked-more, whole-sent}
-use Rattle.mp4_machine.proofs.MarkLemmas.{moved-append, moved-none}
+use Rattle.mp4_machine.proofs.MarkLemmas.{moved-append, moved-none, moved-past, whole_in-before}
 
 -- ---- how much was out
 
@@ -69,11 +69,11 @@ module _ (whole : List ℕ → Reading) (b : List ℕ) (start : Outside) (fresh 
     }
 
     -- no byte came since, or the bytes of one read
-    abbrev pub prompt-now : (ends : Ends) → IsPrompt (run_of whole b start now ends)
-    prompt-now ends = record { early = b; last = []; cut = sym (append-nil b); few = omega arith; undecided = fed-undecided }
+    abbrev pub prompt-now : (ends : Ends) → ends.last_read ≡ 0 → IsPrompt (run_of whole b start now ends)
+    prompt-now ends none = record { early = b; last = []; cut = sym (append-nil b); read = λ some. record { few = omega arith; gave = sym none }; undecided = fed-undecided }
 
-    abbrev pub prompt-read : (got : List ℕ) (later : Outside) (ends : Ends) → length got ≤ start.account.live → IsPrompt (run_of whole (b ++ got) start later ends)
-    prompt-read got later ends few = record { early = b; last = got; cut = refl; few = few; undecided = fed-undecided }
+    abbrev pub prompt-read : (got : List ℕ) (later : Outside) (ends : Ends) → IsOneRead ends start.account.live got → IsPrompt (run_of whole (b ++ got) start later ends)
+    prompt-read got later ends one = record { early = b; last = got; cut = refl; read = λ some. one; undecided = fed-undecided }
 
     -- ---- the next piece stops it
 
@@ -111,9 +111,9 @@ module _ (whole : List ℕ → Reading) (b : List ℕ) (start : Outside) (fresh 
       asks_before : Starves now then p piece → List Request
       asks_before g = (both (whole b).effects g.brought).requests
 
-      starves : (ends : Ends) (few : length piece ≤ start.account.live) → ends.written ≡ start.written → ends.written' ≡ then.written → IsSent then.waiting → (g : Starves now then p piece)
-          → (r : StarvesAt (run_of whole (b ++ piece) start then ends) (prompt-read piece then ends few)) × (r.request.sum ≡ g.sum)
-      starves ends few from to none g =
+      starves : (ends : Ends) (one : IsOneRead ends start.account.live piece) → ends.written ≡ start.written → ends.written' ≡ then.written → IsSent then.waiting → (g : Starves now then p piece)
+          → (r : StarvesAt (run_of whole (b ++ piece) start then ends) (prompt-read piece then ends one)) × (r.request.sum ≡ g.sum)
+      starves ends one from to none g =
           let more = (g.continues []).effects in
           let n = length (whole b).effects.text in
           let k = length g.brought.text in
@@ -136,16 +136,14 @@ module _ (whole : List ℕ → Reading) (b : List ℕ) (start : Outside) (fresh 
               );
               new = (shifted (whole b).effects g.brought.requests, refl);
               text = subst (λ l. Appends ends.written ends.written' l) (sym front) (subst (λ w. Appends ends.written w ((whole b).effects.text ++ g.brought.text)) (sym to) (subst (λ w. Appends w then.written ((whole b).effects.text ++ g.brought.text)) (sym from) text));
-              marks = (both (whole b).effects g.brought).marks;
-              marked = (
-                moved n (moved k (both (requests_memory g.at g.sum) more).marks),
-                ap (λ t. t.marks) effects
-                    ∙ ap (λ l. (whole b).effects.marks ++ l) (moved-append n g.brought.marks (moved k (both (requests_memory g.at g.sum) more).marks))
-                    ∙ sym (append_assoc (whole b).effects.marks (moved n g.brought.marks) _),
-              );
               fragments =
+                  let marked : (whole (b ++ piece)).effects.marks ≡ (both (whole b).effects g.brought).marks ++ moved n (moved k (moved 0 more.marks)) =
+                  ap (λ t. t.marks) effects
+                  ∙ ap (λ l. (whole b).effects.marks ++ l) (moved-append n g.brought.marks (moved k (moved 0 more.marks)))
+                  ∙ sym (append_assoc (whole b).effects.marks (moved n g.brought.marks) (moved n (moved k (moved 0 more.marks)))) in
                   let len : length ((whole b).effects.text ++ g.brought.text) ≡ n + (k + 0) = omega (arith, length-append (whole b).effects.text g.brought.text) in
-                  whole-both g.brought g.moves.passes none ∙ ap (λ l. whole_in l 0 (both (whole b).effects g.brought).marks) len;
+                  whole-both g.brought g.moves.passes none ∙ ap (λ l. whole_in l 0 (both (whole b).effects g.brought).marks) len
+                  ∙ whole_in-before (n + (k + 0)) 0 (both (whole b).effects g.brought).marks (moved n (moved k (moved 0 more.marks))) (whole (b ++ piece)).effects.marks marked (moved-past n k more.marks (g.past []));
               peak = peak-exact start.account then.account 0 (greatest ((whole b).effects.requests ++ shifted (whole b).effects g.brought.requests)) marked (counts-both g.brought g.moves.counts);
               tally = tally;
               most = subst (λ t. AtMost t (whole (b ++ piece)).effects.tally) (sym tally) (subst (λ t. AtMost counted t.tally) (sym effects) (AtMost-behind (whole b).effects.tally (plus g.brought.tally uncounted) (plus g.brought.tally (plus uncounted more.tally)) (AtMost-behind g.brought.tally uncounted (plus uncounted more.tally) (AtMost-plus uncounted more.tally))));
@@ -170,21 +168,21 @@ module _ (whole : List ℕ → Reading) (b : List ℕ) (start : Outside) (fresh 
           }
 
       -- how it stops
-      pub fed-stops : (ends : Ends) (few : length piece ≤ start.account.live) → ends.written ≡ start.written → ends.written' ≡ then.written → (e : Stop) → ((e ≡ Write → ⊥) → IsSent then.waiting) → (e ≡ Write → ends.write_failed' ≡ true) → StopsAt now then p piece e
-          → ComesUntil (run_of whole (b ++ piece) start then ends) (prompt-read piece then ends few) e
+      pub fed-stops : (ends : Ends) (one : IsOneRead ends start.account.live piece) → ends.written ≡ start.written → ends.written' ≡ then.written → (e : Stop) → ((e ≡ Write → ⊥) → IsSent then.waiting) → (e ≡ Write → ends.write_failed' ≡ true) → StopsAt now then p piece e
+          → ComesUntil (run_of whole (b ++ piece) start then ends) (prompt-read piece then ends one) e
       unfolding starves
-      fed-stops ends few from to (Stream f) none failed g =
+      fed-stops ends one from to (Stream f) none failed g =
           let is = ap (λ r. r.outcome) (reads-both ∙ ap (after (whole b).effects) (g.rest [])) in (
             refuses-tells f ends from to (none (λ is. absurd cc)) g,
             ap fault_in is,
             λ none. let some : early_in (whole (b ++ piece)).outcome ≡ Some f = ap early_in is in absurd cc,
           )
-      fed-stops ends few from to (Read at) none failed g = absurd g
-      fed-stops ends few from to Write none failed g = (loses ends from to g, failed refl)
-      fed-stops ends few from to OverLimit none failed (g, far) =
-          let requested = starves ends few from to (none (λ is. absurd cc)) g in inr (requested.0, omega (arith, far, requested.1, g.moves.counts.live, s.counts.live, g.moves.counts.limit, s.counts.limit, low))
-      fed-stops ends few from to Memory none failed (g, near) =
-          let requested = starves ends few from to (none (λ is. absurd cc)) g in inr (requested.0, omega (arith, near, requested.1, g.moves.counts.live, s.counts.live, g.moves.counts.limit, s.counts.limit, low))
+      fed-stops ends one from to (Read at) none failed g = absurd g
+      fed-stops ends one from to Write none failed g = (loses ends from to g, failed refl)
+      fed-stops ends one from to OverLimit none failed (g, far) =
+          let requested = starves ends one from to (none (λ is. absurd cc)) g in inr (requested.0, omega (arith, far, requested.1, g.moves.counts.live, s.counts.live, g.moves.counts.limit, s.counts.limit, low))
+      fed-stops ends one from to Memory none failed (g, near) =
+          let requested = starves ends one from to (none (λ is. absurd cc)) g in inr (requested.0, omega (arith, near, requested.1, g.moves.counts.live, s.counts.live, g.moves.counts.limit, s.counts.limit, low))
 
 -- ---- a call that stops
 
@@ -202,10 +200,10 @@ takes-left {around = around} {p = p} {piece = piece} {e = e} low t = left_by aro
 
 -- and so does a run that was fed the bytes before
 pub fed-takes : {T : Type 0} {around : Around} {p : Standing} {piece : List ℕ} {taken : T → List ℕ} {new : T → Standing} {e : Stop} (whole : List ℕ → Reading) (b : List ℕ) (start : Outside) (fresh : start.waiting ≡ unused) (marked : start.account.peak ≡ start.account.live) (s : IsFed whole b start around.before p) → p.claim ≤ around.before.account.live
-    → (ends : Ends) (few : length piece ≤ start.account.live) → ends.written ≡ start.written → ends.written' ≡ around.after.written → ((e ≡ Write → ⊥) → IsSent around.after.waiting) → ends.write_failed' ≡ around.failed' → Takes around p piece taken new (Err e)
-    → ComesUntil (run_of whole (b ++ piece) start around.after ends) (prompt-read whole b start fresh marked s piece around.after ends few) e
-fed-takes {around = around} {p = p} {piece = piece} {e = e} whole b start fresh marked s low ends few from to none failed t =
-    fed-stops whole b start fresh marked s around.after piece low ends few from to e none (λ is. failed ∙ t.failed (ap Err is)) (subst (λ l. StopsAt around.before around.after p l e) (append-nil piece) (t.err []))
+    → (ends : Ends) (one : IsOneRead ends start.account.live piece) → ends.written ≡ start.written → ends.written' ≡ around.after.written → ((e ≡ Write → ⊥) → IsSent around.after.waiting) → ends.write_failed' ≡ around.failed' → Takes around p piece taken new (Err e)
+    → ComesUntil (run_of whole (b ++ piece) start around.after ends) (prompt-read whole b start fresh marked s piece around.after ends one) e
+fed-takes {around = around} {p = p} {piece = piece} {e = e} whole b start fresh marked s low ends one from to none failed t =
+    fed-stops whole b start fresh marked s around.after piece low ends one from to e none (λ is. failed ∙ t.failed (ap Err is)) (subst (λ l. StopsAt around.before around.after p l e) (append-nil piece) (t.err []))
 
 -- bytes behind bytes
 pub bytes-more : (a b : List ℕ) → IsBytes a → IsBytes b → IsBytes (a ++ b)
@@ -223,8 +221,8 @@ idle-stops whole ends claims live refusals.OverLimit none given kept failed idle
     fits = λ i. omega arith;
     given = given;
     fragments = 0;
-    prompt = record { early = []; last = []; cut = refl; few = omega arith; undecided = ap (λ r. early_in r.outcome) none };
-    comes = inl (record { bytes = refl; text = kept; peak = peak ∙ idle; tally = refl }, omega (arith, over refl, idle));
+    prompt = record { early = []; last = []; cut = refl; read = λ some. absurd (omega (arith, some)); undecided = ap (λ r. early_in r.outcome) none };
+    comes = inl (record { bytes = refl; text = kept; fragments = refl; peak = peak ∙ idle; tally = refl }, omega (arith, over refl, idle));
     kept = λ _. failed;
   },
   refl,
@@ -235,8 +233,8 @@ idle-stops whole ends claims live refusals.Memory none given kept failed idle pe
     fits = λ i. omega arith;
     given = given;
     fragments = 0;
-    prompt = record { early = []; last = []; cut = refl; few = omega arith; undecided = ap (λ r. early_in r.outcome) none };
-    comes = inl (record { bytes = refl; text = kept; peak = peak ∙ idle; tally = refl }, omega (arith, within refl, idle));
+    prompt = record { early = []; last = []; cut = refl; read = λ some. absurd (omega (arith, some)); undecided = ap (λ r. early_in r.outcome) none };
+    comes = inl (record { bytes = refl; text = kept; fragments = refl; peak = peak ∙ idle; tally = refl }, omega (arith, within refl, idle));
     kept = λ _. failed;
   },
   refl,

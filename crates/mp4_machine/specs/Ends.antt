@@ -1,15 +1,17 @@
 -- What the two ends of a run tell.
 use Rattle.std.specs.Prelude.{ℕ, List, Bool, Option}
 
--- what a source tells before a call and behind it: the bytes that its reads will give; and whether it has ended, and failed
+-- what a source tells before a call and behind it: the bytes that its reads will give.
+-- Behind it, also whether it has ended, and failed, and how many bytes its last read gave
 pub record Received : Type 0 where
   pub left : Option (List ℕ)
   pub left' : Option (List ℕ)
   pub ended : Bool
   pub failed : Bool
+  pub last : ℕ
 
-abbrev pub received : {R : Type 0} → (remaining : R → Option (List ℕ)) → (has_ended has_failed : R → Bool) → (r r' : R) → Received
-received remaining has_ended has_failed r r' = record { left = remaining r; left' = remaining r'; ended = has_ended r'; failed = has_failed r' }
+abbrev pub received : {R : Type 0} → (remaining : R → Option (List ℕ)) → (has_ended has_failed : R → Bool) → (last_read : R → ℕ) → (r r' : R) → Received
+received remaining has_ended has_failed last_read r r' = record { left = remaining r; left' = remaining r'; ended = has_ended r'; failed = has_failed r'; last = last_read r' }
 
 -- what a sink tells before a call and behind it: the bytes that were written, and whether it had failed
 pub record Sent : Type 0 where
@@ -29,6 +31,7 @@ pub record Ends : Type 0 where
   pub written' : Option (List ℕ)
   pub ended : Bool
   pub read_failed : Bool
+  pub last_read : ℕ
   pub write_failed : Bool
   pub write_failed' : Bool
 
@@ -40,6 +43,7 @@ between r s = record {
   written' = s.written';
   ended = r.ended;
   read_failed = r.failed;
+  last_read = r.last;
   write_failed = s.failed;
   write_failed' = s.failed';
 }

@@ -5,7 +5,7 @@ use Rattle.mp4_ends.specs.Streams.{AppendsPrefix}
 use Rattle.mp4_ledger.specs.Memory.{Account}
 use Rattle.mp4_machine.specs.Accounts.{Counts, Spends}
 use Rattle.mp4_machine.specs.Ends.{Sent}
-use Rattle.mp4_machine.specs.Readings.{Request, AtMost, Reading, Effects, both, early_in, most_of, whole_in}
+use Rattle.mp4_machine.specs.Readings.{ArePast, Request, AtMost, Reading, Effects, both, early_in, most_of, whole_in}
 use Rattle.mp4_machine.specs.declared.mark.Mark.{Mark}
 use Rattle.mp4_machine.specs.declared.stop.Stop.{Stop}
 use Rattle.mp4_machine.specs.declared.stop.Stop.TheVariants.{Stream, Read, Write, OverLimit, Memory}
@@ -59,14 +59,15 @@ pub record TellsPart (whole : List ℕ → Reading) (b b' : List ℕ) (l : Lent)
   pub peak_least : most_of (whole b).effects ≤ s.peak
   pub peak_most : s.peak ≤ most_of (whole b').effects
 
--- a box asked for memory that was refused: what is told before was written and claimed, and what is before was counted
+-- a box asked for memory that was refused: what is told before was written and claimed, and what is before was counted.
+-- All other fragments end past the text before
 pub record StarvesBehind (whole : List ℕ → Reading) (b b' : List ℕ) (l : Lent) (own : ℕ) (s : Sums) : Type 0 where
   pub request : Request
   pub effects : Effects
   pub requested : (later : List Request) × ((whole b').effects.requests ≡ (both (whole b).effects effects).requests ++ request ∷ later)
   pub placed : request.text_before ≡ length (whole b).effects.text + length effects.text
   pub front : take request.text_before (whole b').effects.text ≡ (whole b).effects.text ++ effects.text
-  pub marked : (later : List Mark) × ((whole b').effects.marks ≡ (both (whole b).effects effects).marks ++ later)
+  pub marked : (later : List Mark) × ((whole b').effects.marks ≡ (both (whole b).effects effects).marks ++ later) × ArePast request.text_before later
   pub text : Appends l.written l.written' effects.text
   pub fragments : (n : ℕ) → whole_in (length effects.text + n) l.whole effects.marks ≡ l.whole'
   pub counts : Counts l.account l.account' own 0 (most_of effects)

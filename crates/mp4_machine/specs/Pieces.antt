@@ -8,7 +8,7 @@ use Rattle.mp4_machine.specs.Accounts.{Counts, Spends}
 use Rattle.mp4_machine.specs.Blocks.{BreaksMarked, IsSent, PassesMarked, Pending}
 use Rattle.mp4_machine.specs.Bodies.{longest}
 use Rattle.mp4_machine.specs.Ends.{Sent}
-use Rattle.mp4_machine.specs.Readings.{AtMost, plus, uncounted, empty_reading, Effects, silent, requests_memory, most_of, Reading, Faulty, early_in, after}
+use Rattle.mp4_machine.specs.Readings.{ArePast, AtMost, plus, uncounted, empty_reading, Effects, silent, requests_memory, most_of, Reading, Faulty, early_in, after}
 use Rattle.mp4_machine.specs.declared.stop.Stop.{Stop}
 use Rattle.mp4_machine.specs.declared.stop.Stop.TheVariants.{Stream, Read, Write, OverLimit, Memory}
 use Rattle.mp4_machine.specs.declared.tally.Tally.{Tally}
@@ -63,13 +63,14 @@ pub record Refuses (o o' : Outside) (old : Standing) (piece : List ℕ) (f : Fau
   pub moves : Moves o o' old.claim 0 brought
   pub rest : (later : List ℕ) → old.reads (piece ++ later) ≡ record { effects = brought; outcome = Faulty f }
 
--- a piece brought something, and then a box asked for memory that was refused, whatever comes behind it
+-- a piece brought something, and then a box asked for memory that was refused, whatever comes behind it. Fragments of what comes behind it end past some more text
 pub record Starves (o o' : Outside) (old : Standing) (piece : List ℕ) : Type 0 where
   pub brought : Effects
   pub moves : Moves o o' old.claim 0 brought
   pub at : ℕ
   pub sum : ℕ
   pub continues : List ℕ → Reading
+  pub past : (later : List ℕ) → ArePast 0 (continues later).effects.marks
   pub rest : (later : List ℕ) → old.reads (piece ++ later) ≡ after brought (after (requests_memory at sum) (continues later))
 
 -- a write failed before all that a reading tells was written

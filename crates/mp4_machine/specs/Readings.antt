@@ -1,5 +1,6 @@
 -- A stream that is read item by item, whatever its items are.
-use Rattle.std.specs.Prelude.{◌≡◌, ℕ, zero, suc, ◌+◌, ◌≤◌, List, [], ◌∷◌, ◌++◌, length, max, nat_lt, if◌then◌else◌, Option, None, Some}
+use Rattle.std.specs.Prelude.{◌≡◌, ℕ, zero, suc, ◌+◌, ◌<◌, ◌≤◌, List, [], ◌∷◌, ◌++◌, length, max, nat_lt, if◌then◌else◌, Option, None, Some}
+use Rattle.std.specs.List.{AllByRecursion}
 use Rattle.mp4_box.specs.declared.rules.Fault.{Fault}
 use Rattle.mp4_machine.specs.declared.mark.Mark.{Mark}
 use Rattle.mp4_machine.specs.declared.tally.Tally.{Tally}
@@ -153,10 +154,16 @@ read_all first_item c bytes = read_at_most first_item (length bytes) c bytes
 abbrev pub IsPrefix : {X : Type 0} → List X → List X → Type 0
 IsPrefix {X = X} xs ys = (rest : List X) × (xs ++ rest ≡ ys)
 
--- t has the effects s, and it may have more
+-- each of these fragments ends past the first n bytes of a text
+abbrev pub ArePast : ℕ → List Mark → Type 0
+ArePast n marks = AllByRecursion (λ m. n < m.end) marks
+
+-- t has the effects s, and it may have more: the fragments that are whole in the text of s stay so, and no others are whole in it
 pub record TellsMore (s t : Effects) : Type 0 where
   pub text : IsPrefix s.text t.text
   pub requests : IsPrefix s.requests t.requests
+  pub marks : (later : List Mark) × (s.marks ++ later ≡ t.marks) × ArePast (length s.text) later
+  pub tally : AtMost s.tally t.tally
 
 -- more bytes may add effects, and to a fault that is decided they add nothing
 pub record GrowsTo (r s : Reading) : Type 0 where

@@ -5,7 +5,6 @@ use Rattle.mp4_box.specs.Headers.{IsBytes}
 use Rattle.mp4_ends.specs.Streams.{AppendsPrefix}
 use Rattle.mp4_machine.specs.Ends.{Ends}
 use Rattle.mp4_machine.specs.Readings.{Request, AtMost, greatest, most_of, Reading, fault_in, early_in, IsPrefix, uncounted, whole_in}
-use Rattle.mp4_machine.specs.declared.mark.Mark.{Mark}
 use Rattle.mp4_machine.specs.declared.stop.Stop.{Stop}
 use Rattle.mp4_machine.specs.declared.stop.Stop.TheVariants.{Stream, Read, Write, OverLimit, Memory}
 use Rattle.mp4_machine.specs.declared.tally.Tally.{Tally}
@@ -38,12 +37,17 @@ pub record TellsAll (run : StreamRun) : Type 0 where
   pub peak : run.claims.peak ≡ run.claims.copy + most_of (reading_of run).effects
   pub tally : run.tally ≡ (reading_of run).effects.tally
 
--- no fault was decided before the bytes of the last read
+-- these bytes were given by the last read: there is room for them
+pub record IsOneRead (ends : Ends) (copy : ℕ) (bytes : List ℕ) : Type 0 where
+  pub few : length bytes ≤ copy
+  pub gave : length bytes ≡ ends.last_read
+
+-- no fault was decided before the bytes of the last read, where any was made: none where it failed or was the end
 pub record IsPrompt (run : StreamRun) : Type 0 where
   pub early : List ℕ
   pub last : List ℕ
   pub cut : run.bytes ≡ early ++ last
-  pub few : length last ≤ run.claims.copy
+  pub read : 0 < length run.bytes → IsOneRead run.ends run.claims.copy last
   pub undecided : early_in (run.whole early).outcome ≡ None
 
 -- a prefix of the text was written, and it is known how many fragments are whole in it; no more was claimed than is asked for, or counted than there is
@@ -55,24 +59,23 @@ pub record TellsSome (run : StreamRun) : Type 0 where
   pub counted : AtMost run.tally (reading_of run).effects.tally
 
 -- a request was refused, which the bytes of the last read brought. What is requested before was claimed, what is
--- before was counted, and exactly the text before was written, of whose fragments it is known how many are whole
+-- before was counted, and exactly the text before was written: the fragments are those that are whole in it
 pub record StarvesAt (run : StreamRun) (prompt : IsPrompt run) : Type 0 where
   pub request : Request
   pub before : List Request
   pub requested : (later : List Request) × ((reading_of run).effects.requests ≡ before ++ request ∷ later)
   pub new : IsPrefix (run.whole prompt.early).effects.requests before
   pub text : Appends run.ends.written run.ends.written' (take request.text_before (reading_of run).effects.text)
-  pub marks : List Mark
-  pub marked : (later : List Mark) × ((reading_of run).effects.marks ≡ marks ++ later)
-  pub fragments : run.fragments ≡ whole_in request.text_before 0 marks
+  pub fragments : run.fragments ≡ whole_in request.text_before 0 (reading_of run).effects.marks
   pub peak : run.claims.peak ≡ run.claims.copy + greatest before
   pub tally : run.tally ≡ request.counted
   pub most : AtMost run.tally (reading_of run).effects.tally
 
--- the bytes to read into were refused: nothing was read, written or counted
+-- the bytes to read into were refused: nothing was read, written or counted, and no fragment is whole
 pub record IsIdle (run : StreamRun) : Type 0 where
   pub bytes : run.bytes ≡ []
   pub text : Appends run.ends.written run.ends.written' []
+  pub fragments : run.fragments ≡ 0
   pub peak : run.claims.peak ≡ 0
   pub tally : run.tally ≡ uncounted
 

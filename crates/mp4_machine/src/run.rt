@@ -32,7 +32,7 @@ pub fn read_stream<R: Source, W: Sink, M: Machine>(
     requires idle { ledger.old.live ≡ 0 }
     requires begun { IsBegun (M.stands machine.old) (M.counted machine.old) }
     ensures runs { (run : ReadsStream (M.stands machine.old).reads (between
-        (received R.remaining R.has_ended R.has_failed r.old r.new)
+        (received R.remaining R.has_ended R.has_failed R.last_read r.old r.new)
         (sent W.contents W.has_failed w.old w.new))
         (record { copy = copy; limit = ledger.old.limit; peak = ledger.new.peak })
         (M.counted machine.new) result) × (run.fragments ≡ fragments.new) }
@@ -41,7 +41,7 @@ pub fn read_stream<R: Source, W: Sink, M: Machine>(
     ensures task { M.task machine.new ≡ M.task machine.old }
 {
     *fragments = 0;
-    ledger.mark();
+    ledger.mark().forget();
     let mut buf = match ledger.buf(u64::from(copy)) {
         Ok(buf) => buf,
         Err(refused) => return Err(Stop::of_refusal(refused)),
@@ -68,7 +68,7 @@ fn read_on<R: Source, W: Sink, M: Machine>(
     requires begun { IsBegun (M.stands machine.old) (M.counted machine.old) }
     requires unused { out.old ≡ unused }
     ensures runs { (run : ReadsStream (M.stands machine.old).reads (between
-        (received R.remaining R.has_ended R.has_failed r.old r.new)
+        (received R.remaining R.has_ended R.has_failed R.last_read r.old r.new)
         (sent W.contents W.has_failed w.old w.new))
         (record { copy = ledger.old.live; limit = ledger.old.limit; peak = ledger.new.peak })
         (M.counted machine.new) result) × (run.fragments ≡ out.new.whole) }

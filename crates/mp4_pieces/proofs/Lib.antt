@@ -1,9 +1,11 @@
 pub mod CutLemmas
 pub mod FitLemmas
+mod WhatFitsLemmas
 pub mod GrowLemmas
 pub mod PieceLemmas
 pub mod GroupLemmas
 pub mod RoomLemmas
 pub mod FitsLemmas
+mod LowerRuleLemmas
 pub mod OrderLemmas
 pub mod SpanLemmas

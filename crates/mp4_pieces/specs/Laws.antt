@@ -1,8 +1,10 @@
 -- What the laws speak of beside the definitions.
-use Rattle.std.specs.Prelude.{◌≡◌, ◌≤ℤ◌, ℕ, ℤ, List}
-use Rattle.std.specs.List.{All, Contains}
+use Rattle.std.specs.Prelude.{◌≡◌, ◌⊎◌, ◌≤◌, ◌≤ℤ◌, ℕ, ℤ, List, Some, drop, false, length, true}
+use Rattle.std.specs.List.{All, AllByRecursion, Contains}
 use Rattle.mp4_frag.specs.declared.run.Run.{Run}
-use Rattle.mp4_frag.specs.Rows.{IsCursor}
+use Rattle.mp4_frag.specs.Rows.{IsCursor, sizes}
+use Rattle.mp4_frag.specs.SyncSamples.{is_sync}
+use Rattle.mp4_frag.specs.declared.rows.Row.{Row}
 use Rattle.mp4_pieces.specs.declared.cut.Cut.{Cut}
 use Rattle.mp4_pieces.specs.declared.piece.Piece.{Piece}
 use Rattle.mp4_pieces.specs.Pieces.{IsPieceOf, cursor_after, pieces_from}
@@ -17,3 +19,10 @@ pub record IsFollowedBy (cut : Cut) (held : List ℕ) (run : Run) (p : Piece) (p
 pub record IsLeastOf (zs : List ℤ) (z : ℤ) : Type 0 where
   pub among : Contains zs z
   pub least : All (λ y. z ≤ℤ y) zs
+
+-- samples may be one piece: they are at most as many as are asked for, they have at most so many bytes or are one sample, and
+-- none but the first is a sync sample where a piece ends before each
+pub record MayBeOnePiece (cut : Cut) (rows : List Row) : Type 0 where
+  pub samples : length rows ≤ cut.samples
+  pub bytes : (most : ℕ) → cut.bytes ≡ Some most → (length rows ≤ 1) ⊎ (sizes rows ≤ most)
+  pub sync : cut.sync ≡ true → AllByRecursion (λ row. is_sync row.flags ≡ false) (drop 1 rows)

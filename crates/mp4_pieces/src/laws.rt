@@ -1,9 +1,11 @@
 //! What the definitions of how runs are cut imply.
 
-ghost use Rattle.std.specs.Prelude.{◌≡◌, ◌+◌, ◌^◌, ◌≤◌, ◌<◌, ◌↔◌, ◌+ℤ◌, ◌≤ℤ◌, pos, ◌∷◌, [], true, ℕ, List, length, take, drop};
+ghost use Rattle.std.specs.Prelude.{◌≡◌, ◌+◌, ◌^◌, ◌≤◌, ◌<◌, ◌↔◌, ◌+ℤ◌, ◌≤ℤ◌, pos, ◌∷◌, [], true, ℕ, List, Some, length, take, drop};
 ghost use Rattle.std.specs.List.{AllByRecursion};
 ghost use Rattle.std.specs.List.Sorted.{IsPermutation};
 ghost use Rattle.mp4_box.specs.Headers.{IsBytes, IsWhole};
+ghost use Rattle.mp4_box.specs.declared.rules.Fault.{Fault};
+ghost use Rattle.mp4_box.specs.declared.rules.Rule.TheVariants.{IndexRange};
 ghost use Rattle.mp4_init.specs.declared.table.Track.{Track};
 ghost use Rattle.mp4_frag.specs.declared.run.Run.{Run};
 ghost use Rattle.mp4_frag.specs.declared.rows.Cursor.{Cursor};
@@ -17,10 +19,10 @@ ghost use Rattle.mp4_pieces.specs.Cutting.{ArePieces, IsLimit};
 ghost use Rattle.mp4_pieces.specs.Fits.{HasRoomFor};
 ghost use Rattle.mp4_pieces.specs.Fitting.{fits};
 ghost use Rattle.mp4_pieces.specs.Groups.{AreGroups, groups};
-ghost use Rattle.mp4_pieces.specs.Laws.{IsFollowedBy, IsLeastOf};
+ghost use Rattle.mp4_pieces.specs.Laws.{IsFollowedBy, IsLeastOf, MayBeOnePiece};
 ghost use Rattle.mp4_pieces.specs.Pieces.{EndsInRange, IsPieceOf, composition_times, cut_rows, piece_count, pieces_from, pieces_of, rows_in};
 ghost use Rattle.mp4_frag.specs.Ranges.{AreRunsOf, IsRunOf};
-ghost use Rattle.mp4_pieces.specs.Rooms.{room_faults};
+ghost use Rattle.mp4_pieces.specs.Rooms.{index_faults, room_fault, room_faults};
 
 /// There is just one way to cut samples into pieces, and it is that which is computed.
 pub fn pieces_are_one()
@@ -28,6 +30,12 @@ pub fn pieces_are_one()
         ArePieces (fits cut) rows (cut_rows cut rows) }
     ensures alone { (cut : Cut) (rows : List Row) (ps : List (List Row)) →
         ArePieces (fits cut) rows ps → ps ≡ cut_rows cut rows }
+{}
+
+/// What fits in one piece: at most so many samples, at most so many bytes or just one sample, and no sync sample but the first
+/// where a piece is to end before each.
+pub fn what_fits()
+    ensures { (cut : Cut) (rows : List Row) → (fits cut rows ≡ true) ↔ MayBeOnePiece cut rows }
 {}
 
 /// One sample fits, and so does each beginning of what fits. So samples that fit together are one
@@ -67,6 +75,13 @@ pub fn groups_are_one()
 pub fn no_fault_is_room()
     ensures { (cut : Cut) (h : MoofBytes) (runs : List Run) (seq : ℕ) →
         (room_faults cut h runs seq ≡ []) ↔ HasRoomFor cut h runs seq }
+{}
+
+/// Where an index has no room, that is the fault, and not the numbers of the pieces: the lower rule is told.
+pub fn index_before_numbers()
+    ensures { (cut : Cut) (h : MoofBytes) (runs : List Run) (seq : ℕ) (f g : Fault) (fs : List Fault) →
+        index_faults cut h.bytes runs ≡ f ∷ fs → room_fault cut h runs seq ≡ Some g →
+        g.rule ≡ IndexRange }
 {}
 
 /// It doesn't matter in which order runs are taken: they can be cut, have as many pieces, and have

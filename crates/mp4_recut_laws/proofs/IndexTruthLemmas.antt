@@ -123,12 +123,14 @@ module _ (cut : Cut) (tracks : List Track) where
       let first : samples_of_first c is ≡ piece_samples q = one_samples_here at n number us q e all.0 in
       record {
         version = t.version;
+        flags = t.flags;
         some = omega (arith, count);
         of = subst (λ (ss : List MediaSample). AllByRecursion (λ (s : MediaSample). s.track ≡ x.track) ss) (sym first)
             (subst (λ (id : ℕ). AllByRecursion (λ (s : MediaSample). s.track ≡ id) (piece_samples q)) (own_recut ∙ sym t.track) (sample_track q.written.track q.written.entry q.written.rows q.written.time q.media));
         timescale = t.timescale ∙ same_scale tracks us run.track e ∙ ap (timescale_of us) (sym t.track);
         earliest = t.earliest ∙ ap (λ (ss : List MediaSample). least_of (map (λ (s : MediaSample). s.composition) ss)) (sym first);
         offset = t.offset;
+        reserved = t.reserved;
         references = t.references ∙ sym (pieces_references number (q ∷ qs) more at n us e all) ∙ ap (λ (k : ℕ). first_references cut c k is) (sym count);
         media = subst (λ (rs : List Reference). AllByRecursion (λ (r : Reference). r.size < 2 ^ 31) rs) (sym t.references) t.media;
       }

@@ -8,13 +8,14 @@ use Rattle.mp4_grammar.specs.Joined.{joined}
 use Rattle.mp4_recut.specs.Splitting.{reading}
 use Rattle.mp4_recut_laws.specs.RecutItems.{without_index}
 use Rattle.mp4_recut_laws.specs.MediaSamples.{MediaSample}
-use Rattle.mp4_recut_laws.specs.Streams.{IsSoundStream, Stream, ending_bytes, recut, stream_bytes, stream_samples, stream_text}
+use Rattle.mp4_recut_laws.specs.Streams.{IsSoundStream, IsWellFormed, Stream, ending_bytes, recut, stream_bytes, stream_samples, stream_text}
 use Rattle.mp4_recut_laws.specs.RecutText.{recut_text, told_by}
 use Rattle.mp4_recut_laws.proofs.ByteLemmas.{text_bytes}
 use Rattle.mp4_recut_laws.proofs.PremiseLemmas.{bytes_back}
 use Rattle.mp4_recut_laws.proofs.WithoutIndexLemmas.{stream_without_index}
 use Rattle.mp4_recut_laws.proofs.EveryStreamLemmas.{every_sound_stream}
 use Rattle.mp4_recut_laws.proofs.StreamLemmas.{laws, text_reads}
+use Rattle.mp4_recut_laws.proofs.SameSampleLemmas.{same_samples}
 use Rattle.mp4_recut_laws.proofs.TellingLemmas.{stream_told_by}
 use Rattle.mp4_recut_laws.proofs.ReadStreamLemmas.{recut_text_of_a_stream}
 
@@ -76,3 +77,23 @@ pub own_recut : (cut : Cut) (b : List ℕ) → cut.index ≡ false → IsBytes b
 own_recut cut b e held sound near =
     let same : without_index cut ≡ cut = ap (λ (t : Bool). record cut { index = t }) (sym e) in
     subst (λ (d : Cut). recut_text d (recut_text cut b) ≡ recut_text d b) same ((text_laws cut b held sound).again near)
+
+-- ---- the same samples, as a list
+
+pub well_formed : (cut : Cut) (s : Stream) → IsSoundStream cut s → IsWellFormed (without_index cut) (recut cut s)
+well_formed cut s is =
+    let l = laws cut s is in
+    record { sound = l.sound; ending = l.ending; bytes = subst IsBytes (sym l.join) (text_bytes cut s is) }
+
+pub samples_stay : (cut : Cut) (b : List ℕ) → IsBytes b → (reading cut b).outcome ≡ Sound
+    → (s : Stream) × IsSoundStream cut s × (stream_bytes s ≡ b) × IsWellFormed (without_index cut) (recut cut s) × (stream_bytes (recut cut s) ≡ recut_text cut b) × (stream_samples (without_index cut) (recut cut s) ≡ stream_samples cut s)
+samples_stay cut b held sound =
+    let (s, is, bytes, text) = text_of_stream cut b held sound in
+    (s, is, bytes, well_formed cut s is, (laws cut s is).join ∙ sym text, (laws cut s is).same)
+
+-- however a stream and its text are taken apart
+pub one_list : (cut : Cut) (b : List ℕ) (s t : Stream) → IsBytes b → (reading cut b).outcome ≡ Sound → length (recut_text cut b) ≤ 2 ^ 62 → IsSoundStream cut s → stream_bytes s ≡ b → IsSoundStream (without_index cut) t → stream_bytes t ≡ recut_text cut b
+    → stream_samples (without_index cut) t ≡ stream_samples cut s
+one_list cut b s t held sound near is e are f =
+    same_samples (stream_samples (without_index cut) t) (stream_samples cut s)
+    (λ tell. sym (told_by_samples (without_index cut) t tell are) ∙ ap (told_by tell) f ∙ (text_laws cut b held sound).samples tell near ∙ ap (told_by tell) (sym e) ∙ told_by_samples cut s tell is)

@@ -26,11 +26,13 @@ samples_of_first c (i ∷ is) = item_samples c i
 -- earliest time is the least composition time of these samples. It refers to media alone
 pub record IndexIsTrue (cut : Cut) (c : Context) (x : Index) (is : List Item) : Type 0 where
   pub version : x.version ≡ 1
+  pub flags : x.flags ≡ 0
   pub some : 0 < length x.references
   pub of : AllByRecursion (λ (s : MediaSample). s.track ≡ x.track) (samples_of_first c is)
   pub timescale : x.timescale ≡ timescale_of (tracks_in c) x.track
   pub earliest : pos x.earliest ≡ least_of (map (λ (s : MediaSample). s.composition) (samples_of_first c is))
   pub offset : x.first_offset ≡ 0
+  pub reserved : x.reserved ≡ 0
   pub references : x.references ≡ first_references cut c (length x.references) is
   pub media : AllByRecursion (λ (r : Reference). r.size < 2 ^ 31) x.references
 

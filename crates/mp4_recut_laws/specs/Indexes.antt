@@ -35,10 +35,12 @@ first_samples (q ∷ qs) = piece_samples q
 -- the least composition time of the first, the track and its timescale. It refers to media alone
 pub record IsIndexOf (id scale number : ℕ) (p : List ℕ) (qs : List PieceWithMedia) : Type 0 where
   pub version : (index_in p).version ≡ 1
+  pub flags : (index_in p).flags ≡ 0
   pub track : (index_in p).track ≡ id
   pub timescale : (index_in p).timescale ≡ scale
   pub earliest : pos (index_in p).earliest ≡ least_of (map (λ (s : MediaSample). s.composition) (first_samples qs))
   pub offset : (index_in p).first_offset ≡ 0
+  pub reserved : (index_in p).reserved ≡ 0
   pub references : (index_in p).references ≡ references_of number qs
   pub media : AllByRecursion (λ (r : Reference). r.size < 2 ^ 31) (references_of number qs)
 

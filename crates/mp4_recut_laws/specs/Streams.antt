@@ -67,6 +67,12 @@ pub record IsSoundStream (cut : Cut) (s : Stream) : Type 0 where
   pub bytes : IsBytes (stream_bytes s)
   pub near : length (stream_bytes s) ≤ 2 ^ 62
 
+-- the same, however long it is
+pub record IsWellFormed (cut : Cut) (s : Stream) : Type 0 where
+  pub sound : AreSound (splitting cut) first_context s.items
+  pub ending : IsSoundEnding (splitting cut) (ending_context cut s) s.ending
+  pub bytes : IsBytes (stream_bytes s)
+
 -- the recut text of a stream: the texts of its items, one after the other, and that of its ending
 abbrev pub stream_text : Cut → Stream → List ℕ
 stream_text cut s = items_text cut first_context s.items ++ ending_text cut (ending_context cut s) s.ending

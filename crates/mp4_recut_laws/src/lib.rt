@@ -40,7 +40,7 @@ ghost use Rattle.mp4_recut_laws.specs.PieceItems.{IsOnePiece};
 ghost use Rattle.mp4_recut_laws.specs.PieceTimes.{EndingTimesFit, FitsOwnIndex, ItemsTimesFit};
 ghost use Rattle.mp4_recut_laws.specs.RecutItems.{without_index};
 ghost use Rattle.mp4_recut_laws.specs.RecutText.{recut_text, told_by};
-ghost use Rattle.mp4_recut_laws.specs.Streams.{IsSoundStream, Stream, ending_context, recut, stream_bytes, stream_samples, stream_text};
+ghost use Rattle.mp4_recut_laws.specs.Streams.{IsSoundStream, IsWellFormed, Stream, ending_context, recut, stream_bytes, stream_samples, stream_text};
 
 pub mod items;
 
@@ -70,9 +70,10 @@ pub fn recut_text_of_a_stream()
         length (moof_ends 0 1 (recut cut s).items) }
 {}
 
-/// The recut text of bytes that are read without a fault is bytes. If it has at most 2^62 of them, it is
-/// read without a fault, without an index it is its own recut text, and whatever is told of each sample of
-/// the stream, in order, is told of each sample of the text.
+/// The recut text of bytes that are read without a fault is the bytes of a stream that breaks no rule but that it may be longer
+/// than 2^62 bytes, and the list of its samples is that of the stream. If it has at most 2^62 bytes, it is read without a
+/// fault, and without an index it is its own recut text; however it is taken apart into items, its samples are those of the stream,
+/// and whatever is told of each sample of the stream, in order, is told of each sample of the text.
 pub fn recut_text_is_a_stream()
     ensures bytes { (cut : Cut) (b : List ℕ) → IsBytes b → (reading cut b).outcome ≡ Sound →
         IsBytes (recut_text cut b) }
@@ -85,7 +86,17 @@ pub fn recut_text_is_a_stream()
     ensures own { (cut : Cut) (b : List ℕ) → cut.index ≡ false → IsBytes b →
         (reading cut b).outcome ≡ Sound → length (recut_text cut b) ≤ 2 ^ 62 →
         recut_text cut (recut_text cut b) ≡ recut_text cut b }
-    ensures samples { (cut : Cut) (b : List ℕ) (tell : MediaSample → List ℕ) → IsBytes b →
+    ensures samples { (cut : Cut) (b : List ℕ) → IsBytes b → (reading cut b).outcome ≡ Sound →
+        (s : Stream) × IsSoundStream cut s × (stream_bytes s ≡ b) ×
+        IsWellFormed (without_index cut) (recut cut s) ×
+        (stream_bytes (recut cut s) ≡ recut_text cut b) ×
+        (stream_samples (without_index cut) (recut cut s) ≡ stream_samples cut s) }
+    ensures one_list { (cut : Cut) (b : List ℕ) (s t : Stream) → IsBytes b →
+        (reading cut b).outcome ≡ Sound → length (recut_text cut b) ≤ 2 ^ 62 →
+        IsSoundStream cut s → stream_bytes s ≡ b →
+        IsSoundStream (without_index cut) t → stream_bytes t ≡ recut_text cut b →
+        stream_samples (without_index cut) t ≡ stream_samples cut s }
+    ensures told { (cut : Cut) (b : List ℕ) (tell : MediaSample → List ℕ) → IsBytes b →
         (reading cut b).outcome ≡ Sound → length (recut_text cut b) ≤ 2 ^ 62 →
         told_by tell (recut_text cut b) ≡ told_by tell b }
 {}

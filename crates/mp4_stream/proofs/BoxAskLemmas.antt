@@ -19,7 +19,7 @@ use Rattle.mp4_stream.specs.Holding.{most_held}
 use Rattle.mp4_stream.specs.Listing.{box_line}
 use Rattle.mp4_machine.specs.Readings.{Request, shifted, Effects, silent, says, requests_memory, FirstItem, Last, Whole, after_effects}
 use Rattle.mp4_machine.proofs.ReadingItemLemmas.{Each, IsFirst, IsItemAt, asks_stand}
-use Rattle.mp4_machine.proofs.ReadingGrowthLemmas.{effects_of}
+use Rattle.mp4_machine.proofs.PastLemmas.{effects_of}
 use Rattle.mp4_machine.proofs.ReadingLemmas.{Below}
 use Rattle.mp4_machine.specs.Bodies.{least_end, longest, at_fault, body_item, open_body_item}
 use Rattle.mp4_stream.specs.Boxes.{passed, body, held_box, held_body, holding, box_by, box, top_box_by, top_box, reading, listing}

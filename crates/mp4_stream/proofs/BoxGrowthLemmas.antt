@@ -23,10 +23,12 @@ use Rattle.mp4_machine.specs.Bodies.{least_end, longest, at_fault}
 use Rattle.mp4_stream.specs.Boxes.{passed, body, held_box, held_body, holding, box_by, box, top_box_by, top_box}
 use Rattle.mp4_stream.proofs.BoxLemmas.{front-some, front-none}
 use Rattle.mp4_machine.proofs.BodyLemmas.{nat_lt_false}
-use Rattle.mp4_machine.proofs.ReadingGrowthLemmas.{FrontGrows, TellsMore-silent, told-grows}
+use Rattle.mp4_machine.proofs.ReadingGrowthLemmas.{FrontGrows, TellsMore-silent, TellsMore-same, told-grows}
+use Rattle.mp4_machine.proofs.PastLemmas.{effects-past}
+use Rattle.mp4_stream.proofs.PastLemmas.{held_body-past, top_past}
 
 passed-grows : (b x : List ℕ) → TellsMore (passed b) (passed (b ++ x))
-passed-grows b x = TellsMore-silent silent
+passed-grows b x = TellsMore-same silent
 
 pub body-grows : (at : ℕ) (h : Header) (size : Size) (b x : List ℕ) → FrontGrows x (body at h size b) (body at h size (b ++ x))
 body-grows at h (Exact s) b x = told_body-grows passed passed-grows at h.kind (at + s) (s - h.header_len) b x
@@ -37,7 +39,7 @@ held_box-grows at next y rest x [] = refl
 held_box-grows at next y rest x (f ∷ fs) = refl
 
 held-grows : (at : ℕ) (kind : FourCc) (size : ℕ) (b x : List ℕ) (t : Bool) → nat_lt (length b) size ≡ t → FrontGrows x (held_body at kind size b) (held_body at kind size (b ++ x))
-held-grows at kind size b x true e = rw e (TellsMore-silent _)
+held-grows at kind size b x true e = rw e (TellsMore-silent _ (effects-past (held_body at kind size (b ++ x)) (held_body-past at kind size (b ++ x))))
 held-grows at kind size b x false e =
     let enough : size ≤ length b = ltb-false _ _ e in
     rw (e, nat_lt_false (length (b ++ x)) size (omega (arith, length-append b x)), take-append-le size b x enough, drop-append-le size b x enough)
@@ -61,7 +63,7 @@ box-grows at h y b x true e = rw e refl
 box-grows at h y b x false e = rw e (box_by-grows at h y b x (most_held h.kind.0))
 
 front_by-grows : (at : ℕ) (b x : List ℕ) (s : Step) → header_at b ≡ s → FrontGrows x (top_box_by at b s) (top_box at (b ++ x))
-front_by-grows at b x steps.More e = TellsMore-silent _
+front_by-grows at b x steps.More e = TellsMore-silent _ (effects-past (top_box at (b ++ x)) (top_past at (b ++ x)))
 front_by-grows at b x steps.BadSize e =
     let whole : need b ≤ length b = bad_is b e in
     let some : 0 < length (b ++ x) = omega (arith, length-append b x, need-least b) in
@@ -75,5 +77,5 @@ front_by-grows at b x (steps.Whole h) e =
     subst (FrontGrows x (box at h (take h.header_len b) (drop h.header_len b))) (sym same) (box-grows at h (take h.header_len b) (drop h.header_len b) x (nat_lt longest (least_end at h h.size)) refl)
 
 pub front-grows : (at : ℕ) (b x : List ℕ) → FrontGrows x (top_box at b) (top_box at (b ++ x))
-front-grows at [] x = subst (λ v. FrontGrows x v (top_box at x)) (sym (front-none at)) (TellsMore-silent _)
+front-grows at [] x = subst (λ v. FrontGrows x v (top_box at x)) (sym (front-none at)) (TellsMore-silent _ (effects-past (top_box at x) (top_past at x)))
 front-grows at (a ∷ b) x = subst (λ v. FrontGrows x v (top_box at ((a ∷ b) ++ x))) (sym (front-some at (a ∷ b) (omega arith))) (front_by-grows at (a ∷ b) x (header_at (a ∷ b)) refl)

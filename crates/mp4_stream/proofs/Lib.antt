@@ -13,3 +13,4 @@ pub mod CheckLemmas
 pub mod FeederLemmas
 pub mod PushLemmas
 pub mod EmptyLemmas
+pub mod PastLemmas

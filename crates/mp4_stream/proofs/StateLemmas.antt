@@ -40,6 +40,7 @@ use Rattle.mp4_stream.specs.Holding.{held_lines, most_held}
 use Rattle.mp4_stream.specs.Listing.{box_line}
 use Rattle.mp4_stream.specs.States.{HasCome, IsState, at_header, behind_header, box_of, in_box, in_header, standing}
 use Rattle.mp4_stream.specs.declared.state.State.TheVariants as states
+use Rattle.mp4_stream.proofs.PastLemmas.{held_past}
 use Rattle.mp4_stream.proofs.BoxLemmas.{reading-whole, reading-bad, reading-begun, reading-too_long, reading-too_large, reading-held_to_end, reading-holds, reading-good, reading-bad_tree}
 
 -- ---- bytes of which nothing is told yet
@@ -164,6 +165,7 @@ module _ (o : Outside) (at : ℕ) (h : Header) (x : List ℕ) (is : header_at x 
     at = at;
     sum = s;
     continues = λ later. then_read reading (held_body at h.kind s (x ++ (more ++ later)));
+    past = λ later. held_past at h.kind s (x ++ (more ++ later));
     rest = λ later. ap (reading at) (append_assoc x more later) ∙ reading-claims (more ++ later) ∙ sym (after-silent _);
   }
 

@@ -156,13 +156,12 @@ impl Feeder {
         ensures limit { ledger.new.limit ≡ ledger.old.limit }
         ensures claim { held_by self.new ≤ ledger.new.live }
     {
-        let peak = ledger.peak();
         let others = ledger.live() - self.held;
-        ledger.mark();
+        let earlier = ledger.mark();
         let answer = feed(&mut self.machine, ledger, piece, &mut self.block, w);
         self.held = ledger.live() - others;
         self.peak = self.peak.max(ledger.peak() - others);
-        ledger.lift(peak);
+        ledger.lift(earlier);
         match answer {
             Ok(()) => Ok(()),
             Err(stop) => {

@@ -38,7 +38,7 @@ pub fn samples<R: Source, W: Sink>(
     requires copy { (4096 ≤ copy) × (copy ≤ 1048576) }
     requires idle { ledger.old.live ≡ 0 }
     ensures runs { ReadsFragments (plans.List Samples) (between
-        (received R.remaining R.has_ended R.has_failed r.old r.new)
+        (received R.remaining R.has_ended R.has_failed R.last_read r.old r.new)
         (sent W.contents W.has_failed w.old w.new))
         (record { copy = copy; limit = ledger.old.limit; peak = ledger.new.peak })
         totals.new result }
@@ -66,7 +66,7 @@ pub fn check<R: Source>(
     requires copy { (4096 ≤ copy) × (copy ≤ 1048576) }
     requires idle { ledger.old.live ≡ 0 }
     ensures runs { ReadsFragments (plans.List Check) (between
-        (received R.remaining R.has_ended R.has_failed r.old r.new) unsent)
+        (received R.remaining R.has_ended R.has_failed R.last_read r.old r.new) unsent)
         (record { copy = copy; limit = ledger.old.limit; peak = ledger.new.peak })
         totals.new result }
     ensures within { ledger.new.peak ≤ ledger.old.limit }
@@ -99,7 +99,7 @@ pub fn split<R: Source, W: Sink>(
     requires copy { (4096 ≤ copy) × (copy ≤ 1048576) }
     requires idle { ledger.old.live ≡ 0 }
     ensures runs { ReadsFragments (plans.Split cut.now) (between
-        (received R.remaining R.has_ended R.has_failed r.old r.new)
+        (received R.remaining R.has_ended R.has_failed R.last_read r.old r.new)
         (sent W.contents W.has_failed w.old w.new))
         (record { copy = copy; limit = ledger.old.limit; peak = ledger.new.peak })
         totals.new result }
@@ -130,7 +130,7 @@ fn run_fragments<R: Source, W: Sink>(
     requires copy { (4096 ≤ copy) × (copy ≤ 1048576) }
     requires idle { ledger.old.live ≡ 0 }
     ensures runs { ReadsFragments (plans.List command) (between
-        (received R.remaining R.has_ended R.has_failed r.old r.new)
+        (received R.remaining R.has_ended R.has_failed R.last_read r.old r.new)
         (sent W.contents W.has_failed w.old w.new))
         (record { copy = copy; limit = ledger.old.limit; peak = ledger.new.peak })
         totals.new result }

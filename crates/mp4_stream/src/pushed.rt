@@ -32,7 +32,7 @@ pub(crate) fn push_stream<R: Source, W: Sink>(
     requires stands { Stands feeder.old [] }
     requires none { held_by feeder.old ≡ 0 }
     ensures runs { (run : ReadsStream (reading feeder.old.cut) (between
-        (received R.remaining R.has_ended R.has_failed r.old r.new)
+        (received R.remaining R.has_ended R.has_failed R.last_read r.old r.new)
         (sent W.contents W.has_failed w.old w.new))
         (record { copy = copy; limit = ledger.old.limit; peak = ledger.new.peak })
         feeder.new.machine.counter.tally result) × (run.fragments ≡ feeder.new.fragments) }
@@ -40,7 +40,7 @@ pub(crate) fn push_stream<R: Source, W: Sink>(
     ensures limit { ledger.new.limit ≡ ledger.old.limit }
     ensures cut { feeder.new.cut ≡ feeder.old.cut }
 {
-    ledger.mark();
+    ledger.mark().forget();
     let mut buf = match ledger.buf(u64::from(copy)) {
         Ok(buf) => buf,
         Err(refused) => return Err(Stop::of_refusal(refused)),
@@ -69,7 +69,7 @@ fn push_reads<R: Source, W: Sink>(
     requires stands { Stands feeder.old [] }
     requires idle { held_by feeder.old ≡ 0 }
     ensures runs { (run : ReadsStream (reading feeder.old.cut) (between
-        (received R.remaining R.has_ended R.has_failed r.old r.new)
+        (received R.remaining R.has_ended R.has_failed R.last_read r.old r.new)
         (sent W.contents W.has_failed w.old w.new))
         (record { copy = ledger.old.live; limit = ledger.old.limit; peak = ledger.new.peak })
         feeder.new.machine.counter.tally result) × (run.fragments ≡ feeder.new.fragments) }

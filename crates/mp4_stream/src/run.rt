@@ -64,7 +64,7 @@ pub fn boxes<R: Source, W: Sink>(
     // Of the bytes that were read: the answer, what was written, the most that was claimed at once, and that by the largest of
     // their boxes.
     ensures runs { ReadsBoxes (between
-        (received R.remaining R.has_ended R.has_failed r.old r.new)
+        (received R.remaining R.has_ended R.has_failed R.last_read r.old r.new)
         (sent W.contents W.has_failed w.old w.new))
         (record { copy = copy; limit = ledger.old.limit; peak = ledger.new.peak }) result }
 

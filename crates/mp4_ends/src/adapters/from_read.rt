@@ -3,7 +3,7 @@
 ghost use Rattle.std.specs.Prelude.{◌≡◌, ◌≢◌, ◌<◌, length, true, false, eqb, Ok, IfOk, OnOk, IsErr, OnErr};
 ghost use Rattle.std.specs.Io.{ReadsAtMost};
 ghost use Rattle.std.specs.Io.KnownBytes.{ReadConsumes};
-ghost use Rattle.mp4_ends.specs.Ends.{left_in, state_ended, state_failed};
+ghost use Rattle.mp4_ends.specs.Ends.{last_in, left_in, state_ended, state_failed};
 ghost use Rattle.mp4_ends.specs.declared.adapters.State.TheVariants.{Open};
 
 use super::State;
@@ -16,24 +16,27 @@ use std::marker::Model;
 pub struct FromRead<R> {
     inner: R,
     state: State,
+    /// How many bytes the last read gave that gave any.
+    last: usize,
 }
 
 impl<R> Model for FromRead<R> {
-    ghost use Rattle.mp4_ends.specs.Ends.{Adapted};
+    ghost use Rattle.mp4_ends.specs.Ends.{AdaptedReader};
 
-    ghost Value = { Adapted R };
+    ghost Value = { AdaptedReader R };
 
-    ghost view = { λ s. record { inner = s.inner; state = s.state } };
+    ghost view = { λ s. record { inner = s.inner; state = s.state; last = s.last } };
 }
 
 impl<R: io::Read> FromRead<R> {
     /// A source that has neither ended nor failed, over this reader.
     pub fn new(inner: R) -> Self
-        ensures { result ≡ record { inner = inner; state = Open } }
+        ensures { result ≡ record { inner = inner; state = Open; last = 0 } }
     {
         FromRead {
             inner,
             state: State::Open,
+            last: 0,
         }
     }
 }
@@ -44,6 +47,8 @@ impl<R: io::Read> Source for FromRead<R> {
     ghost has_failed = { λ s. state_failed s.state };
 
     ghost has_ended = { λ s. state_ended s.state };
+
+    ghost last_read = { λ s. last_in s.state s.last };
 
     fn read(&mut self, into: &mut [u8]) -> Result<usize, Failed>
         requires { 0 < length into.old }
@@ -59,6 +64,8 @@ impl<R: io::Read> Source for FromRead<R> {
             (state_ended self.new.state ≡ eqb n 0)) }
         ensures ended_err { OnErr result ((state_ended self.old.state ≡ false) ×
             (state_ended self.new.state ≡ false)) }
+        ensures last { IfOk result (λ n. last_in self.new.state self.new.last ≡ n) }
+        ensures last_err { OnErr result (last_in self.new.state self.new.last ≡ 0) }
 
         // Once it has ended or failed nothing changes, the reader within neither.
         ensures rests { self.old.state ≢ Open → self.new ≡ self.old }
@@ -71,7 +78,10 @@ impl<R: io::Read> Source for FromRead<R> {
                     self.state = State::Ended;
                     Ok(0)
                 }
-                Ok(n) => Ok(n),
+                Ok(n) => {
+                    self.last = n;
+                    Ok(n)
+                }
                 Err(Failed) => {
                     self.state = State::Broken;
                     Err(Failed)

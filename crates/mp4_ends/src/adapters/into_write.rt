@@ -19,9 +19,9 @@ pub struct IntoWrite<W> {
 }
 
 impl<W> Model for IntoWrite<W> {
-    ghost use Rattle.mp4_ends.specs.Ends.{Adapted};
+    ghost use Rattle.mp4_ends.specs.Ends.{AdaptedWriter};
 
-    ghost Value = { Adapted W };
+    ghost Value = { AdaptedWriter W };
 
     ghost view = { λ s. record { inner = s.inner; state = s.state } };
 }

@@ -3,7 +3,7 @@
 ghost use Rattle.std.specs.Prelude.{◌≡◌, ◌==◌, ◌<◌, ◌≤◌, ◌⊎◌, min, if◌then◌else◌, [], length, drop, Some, true, false, IfOk, OnOk, OnErr, eqb};
 ghost use Rattle.std.specs.Io.{ReadsAtMost};
 ghost use Rattle.std.specs.Io.KnownBytes.{ReadConsumes};
-ghost use Rattle.mp4_ends.specs.Ends.{left_in, state_ended, state_failed};
+ghost use Rattle.mp4_ends.specs.Ends.{last_in, left_in, state_ended, state_failed};
 ghost use Rattle.mp4_ends.specs.declared.adapters.State.TheVariants.{Open, Ended, Broken};
 
 use crate::adapters::State;
@@ -17,6 +17,8 @@ pub struct FromSlice<'a> {
     step: usize,
     fails: bool,
     state: State,
+    /// How many bytes the last read gave that gave any.
+    last: usize,
 }
 
 impl<'a> Model for FromSlice<'a> {
@@ -25,7 +27,8 @@ impl<'a> Model for FromSlice<'a> {
 
     ghost Value = { SliceEnd };
 
-    ghost view = { λ s. record { left = s.left.now; step = s.step; fails = s.fails; state = s.state } };
+    ghost view = { λ s. record
+        { left = s.left.now; step = s.step; fails = s.fails; state = s.state; last = s.last } };
 
     ghost invariant = { λ s. 0 < s.step };
 }
@@ -35,13 +38,15 @@ impl<'a> FromSlice<'a> {
     /// `fails` a failure.
     pub fn new(bytes: &'a [u8], step: usize, fails: bool) -> Self
         requires { 0 < step }
-        ensures { result ≡ record { left = bytes.now; step = step; fails = fails; state = Open } }
+        ensures { result ≡ record
+            { left = bytes.now; step = step; fails = fails; state = Open; last = 0 } }
     {
         FromSlice {
             left: bytes,
             step,
             fails,
             state: State::Open,
+            last: 0,
         }
     }
 }
@@ -52,6 +57,8 @@ impl<'a> Source for FromSlice<'a> {
     ghost has_failed = { λ s. state_failed s.state };
 
     ghost has_ended = { λ s. state_ended s.state };
+
+    ghost last_read = { λ s. last_in s.state s.last };
 
     fn read(&mut self, into: &mut [u8]) -> Result<usize, Failed>
         requires { 0 < length into.old }
@@ -67,6 +74,8 @@ impl<'a> Source for FromSlice<'a> {
             (state_ended self.new.state ≡ eqb n 0)) }
         ensures ended_err { OnErr result ((state_ended self.old.state ≡ false) ×
             (state_ended self.new.state ≡ false)) }
+        ensures last { IfOk result (λ n. last_in self.new.state self.new.last ≡ n) }
+        ensures last_err { OnErr result (last_in self.new.state self.new.last ≡ 0) }
 
         // How many, when it fails, and how it stands afterwards.
         ensures count { IfOk result (λ n. self.old.state ≡ Open → n ≡ min
@@ -75,8 +84,11 @@ impl<'a> Source for FromSlice<'a> {
         ensures fails { OnErr result ((self.old.state ≡ Broken) ⊎
             ((self.old.left ≡ []) × (self.old.fails ≡ true))) }
         ensures ends { IfOk result (λ n. n ≡ 0 → self.old.state ≡ Open → self.old.fails ≡ false) }
-        ensures after { IfOk result (λ n. self.new ≡ record self.old
-            { left = drop n self.old.left; state = if n == 0 then Ended else Open }) }
+        ensures after { IfOk result (λ n. self.new ≡ record self.old {
+          left = drop n self.old.left;
+          state = if n == 0 then Ended else Open;
+          last = if n == 0 then self.old.last else n;
+        }) }
         ensures after_err { OnErr result (self.new ≡ record self.old { state = Broken }) }
     {
         match self.state {
@@ -95,6 +107,7 @@ impl<'a> Source for FromSlice<'a> {
         }
         into[..n].copy_from_slice(&self.left[..n]);
         self.left = &self.left[n..];
+        self.last = n;
         Ok(n)
     }
 

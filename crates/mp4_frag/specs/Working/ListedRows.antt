@@ -6,16 +6,12 @@ use Rattle.mp4_run_order.specs.declared.runs.ListedRun.{ListedRun}
 use Rattle.mp4_run_order.specs.Orders.{IsTrackOrder, taken}
 use Rattle.mp4_run_order.specs.Runs.{IsListing}
 use Rattle.mp4_run_order.specs.Working.Searches.{found_by_track}
+use Rattle.mp4_frag.specs.declared.run.Run.{Run}
 use Rattle.mp4_frag.specs.declared.run_row.RunRow.{RunRow}
 use Rattle.mp4_frag.specs.Runs.{MoofBytes}
 use Rattle.mp4_frag.specs.Working.Rereads.{run_of_row}
 use Rattle.mp4_frag.specs.Working.RunRows.{listed_row, listed_words, place_word, track_word}
-use Rattle.mp4_frag.specs.RunLists.{moof_listing, taken_runs}
-
--- rows of runs, and what was found in them by track
-pub record ListedRows : Type 0 where
-  pub rows : List RunRow
-  pub late : Option ℕ
+use Rattle.mp4_frag.specs.RunLists.{ListedRows, moof_listing}
 
 -- what was found by track in these runs
 pub record IsFoundByTrack (runs : List ListedRun) (late : Option ℕ) : Type 0 where
@@ -35,9 +31,12 @@ pub record IsSorted (words sorted : List (List ℕ)) : Type 0 where
   pub same : IsPermutation words sorted
   pub up : IsNonDecreasingBy place_word sorted
 
--- the list is that of a moof, with these tracks
-pub record IsListOf (h : MoofBytes) (tracks : List Track) (l : ListedRows) : Type 0 where
-  pub runs : map (run_of_row h tracks) l.rows ≡ taken_runs h tracks
+-- the runs of a moof that rows of them are read again as
+abbrev pub runs_of_rows : MoofBytes → List Track → List RunRow → List Run
+runs_of_rows h tracks rows = map (run_of_row h tracks) rows
+
+-- what the rows say of where runs stand is what is taken of the runs of the moof, and what was found by track was found in these
+pub record AreOrdered (h : MoofBytes) (tracks : List Track) (l : ListedRows) : Type 0 where
   pub listing : IsListing (moof_listing h tracks)
   pub taken : map listed_row l.rows ≡ taken (moof_listing h tracks)
   pub late : IsFoundByTrack (moof_listing h tracks) l.late

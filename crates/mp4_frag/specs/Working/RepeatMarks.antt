@@ -2,7 +2,7 @@
 -- Some of their track_IDs are kept in order, with which of these were listed.
 use Rattle.std.specs.Prelude.{ℕ, Bool, true, false, List, [], ◌∷◌, Option, Some, None, replicate, slice_set}
 use Rattle.mp4_box.specs.Trees.{Box}
-use Rattle.mp4_init.specs.Working.OrderedIds.{sought}
+use Rattle.mp4_init.specs.OrderedIds.{sought}
 use Rattle.mp4_frag.specs.Repeats.{traf_id}
 
 abbrev pub marked_at : List Bool → Option ℕ → List Bool

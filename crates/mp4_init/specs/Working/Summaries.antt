@@ -2,7 +2,7 @@
 use Rattle.std.specs.Prelude.{ℕ, List, [], ◌∷◌, Option, Some, None, length, replicate, slice_set, slice_index_or, ◌==◌, ◌-◌, ◌^◌, nat_lt, if◌then◌else◌}
 use Rattle.mp4_box.specs.Trees.{Box}
 use Rattle.mp4_box.specs.Paths.{at_path}
-use Rattle.mp4_init.specs.Working.OrderedIds.{sought}
+use Rattle.mp4_init.specs.OrderedIds.{sought}
 use Rattle.mp4_init.specs.declared.summary.Summary.{Summary}
 use Rattle.mp4_init.specs.declared.summary.Source.{Source}
 use Rattle.mp4_init.specs.declared.summary.Source.TheVariants.{Tkhd, Trex}

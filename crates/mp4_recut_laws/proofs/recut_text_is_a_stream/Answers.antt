@@ -1,4 +1,4 @@
-use Rattle.mp4_recut_laws.proofs.StreamBytesLemmas.{text_laws, own_recut}
+use Rattle.mp4_recut_laws.proofs.StreamBytesLemmas.{one_list, own_recut, samples_stay, text_laws}
 use Rattle.mp4_recut_laws.proofs.recut_text_is_a_stream.Goals as goal
 
 pub returns-clause-bytes : goal.returns-clause-bytes
@@ -14,4 +14,10 @@ pub returns-clause-own : goal.returns-clause-own
 returns-clause-own c = own_recut
 
 pub returns-clause-samples : goal.returns-clause-samples
-returns-clause-samples c = λ cut b tell held sound. (text_laws cut b held sound).samples tell
+returns-clause-samples c = samples_stay
+
+pub returns-clause-one_list : goal.returns-clause-one_list
+returns-clause-one_list c = one_list
+
+pub returns-clause-told : goal.returns-clause-told
+returns-clause-told c = λ cut b tell held sound. (text_laws cut b held sound).samples tell

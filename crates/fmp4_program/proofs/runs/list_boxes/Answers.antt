@@ -1,5 +1,14 @@
-use Rattle.fmp4_program.proofs.FlushLemmas.{boxes-after_flush}
+use Rattle.std.proofs.Common.{Err, Ok, refl}
+use Rattle.fmp4_program.proofs.FlushLemmas.{boxes-kept, flushes}
 use Rattle.fmp4_program.proofs.runs.list_boxes.Goals as goal
 
 pub returns-in-Ok-clause-runs : goal.returns-in-Ok-clause-runs
-returns-in-Ok-clause-runs g c = boxes-after_flush _ _ c.flush.result c.in-Ok.ensures.runs c.flush.ensures.bytes c.flush.ensures.ok c.flush.ensures.err
+returns-in-Ok-clause-runs g c = record {
+  ran = Ok tt;
+  failed = g.W.Sink.has_failed c.boxes.new.w;
+  runs = boxes-kept _ c.in-Ok.ensures.runs c.flush.ensures.bytes;
+  flushed = flushes _ _ c.flush.result c.flush.ensures.ok c.flush.ensures.err;
+}
+
+pub returns-in-Err-clause-runs : goal.returns-in-Err-clause-runs
+returns-in-Err-clause-runs g c = record { ran = Err c.in-Err.stop; failed = g.W.Sink.has_failed c.boxes.new.w; runs = c.in-Err.ensures.runs; flushed = (refl, refl) }

@@ -16,7 +16,6 @@ returns g c =
             peak = w.split_stream-answer.new.ledger.peak;
             runs = rw w.answer-is (rw w.new-ledger-in-Split.ensures at ran.runs);
             within = rw w.new-ledger-in-Split.ensures at ran.within;
-            flushed = rw w.answer-is ran.flushed;
             exits = c.status_for.ensures;
             tells = c.tell_answer.ensures;
           })

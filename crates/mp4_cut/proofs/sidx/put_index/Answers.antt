@@ -4,7 +4,7 @@ use Rattle.std.specs.List.{flat_map}
 use Rattle.mp4_frag.specs.declared.rows.Cursor.{Cursor}
 use Rattle.mp4_frag.specs.Rows.{IsCursor}
 use Rattle.mp4_cut.specs.Sidx.{reference_bytes, written_index}
-use Rattle.mp4_cut.specs.Working.Starts.{group_from}
+use Rattle.mp4_cut.specs.IndexGroups.{group_from}
 use Rattle.mp4_cut.proofs.IndexLemmas.{index_is, index_is_put, room_is}
 use Rattle.mp4_machine.proofs.PutLemmas.{HasFailed-front, Puts-then}
 use Rattle.mp4_cut.proofs.sidx.put_index.Goals as goal

@@ -12,4 +12,4 @@ returns-clause-same c h tracks = taken_permutes listed_run (moof_runs h tracks)
 pub returns-clause-order : goal.returns-clause-order
 returns-clause-order c h tracks l is =
     all_of_pairs (TakenBefore listed_run) (taken_runs h tracks) (taken_rises listed_run (moof_runs h tracks)
-    (pairs_of_map listed_run (λ a b. a.number < b.number) (moof_runs h tracks) (pairs_of_all (λ a b. a.number < b.number) (moof_listing h tracks) is.listing)))
+    (pairs_of_map listed_run (λ a b. a.number < b.number) (moof_runs h tracks) (pairs_of_all (λ a b. a.number < b.number) (moof_listing h tracks) is.ordered.listing)))

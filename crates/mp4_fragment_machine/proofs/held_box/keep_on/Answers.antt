@@ -4,6 +4,7 @@ use Rattle.mp4_box.specs.Headers.{HasRoom}
 use Rattle.mp4_machine.specs.Pieces.{outside}
 use Rattle.mp4_machine.proofs.AccountLemmas.{within_limit}
 use Rattle.mp4_recut.specs.Plans.{plan_meaning, number_in}
+use Rattle.mp4_recut.proofs.PastLemmas.{plan-past}
 use Rattle.mp4_fragment_machine.specs.Working.Steps.{with_head}
 use Rattle.mp4_fragment_machine.specs.declared.state.State.TheVariants as states
 use Rattle.mp4_fragment_machine.proofs.HeadLemmas.{Refuses-unsized, Refuses-large, GoesOn-keep, StopsAt-keep}
@@ -65,7 +66,7 @@ returns-in-Err g c =
     rw (c.of_refusal.ensures, refused.err) (record {
       step = record {
         stops = λ more. StopsAt-keep (plan_meaning kept.plan) (outside (g.W.Sink.contents c.args.w.now) c.args.out.now c.args.ledger.now kept.counter.tally) c.args.at number kept.tracks c.args.header.now c.args.head.now c.args.limit can.claim (c.requires.reads number) c.in-Exact.size c.in-Exact.is c.if-size-limit.false
-            more c.in-Err.refused (λ e. refused.over_limit.0 (ap Err e)) (λ e. within_limit c.args.ledger.now.limit (c.args.ledger.now.live + c.in-Exact.size) (ap Err e) refused.over_limit.1);
+            (plan-past kept.plan) more c.in-Err.refused (λ e. refused.over_limit.0 (ap Err e)) (λ e. within_limit c.args.ledger.now.limit (c.args.ledger.now.live + c.in-Exact.size) (ap Err e) refused.over_limit.1);
         failed = λ is. absurd (refused_not_written c.in-Err.refused is);
         unfailed = λ _. refl;
       };

@@ -5,6 +5,7 @@ use Rattle.mp4_frag.specs.Runs.{moof_at}
 use Rattle.mp4_machine.proofs.AccountLemmas.{within_limit}
 use Rattle.mp4_machine.specs.Pieces.{outside}
 use Rattle.mp4_recut.specs.Plans.{plan_meaning, number_in}
+use Rattle.mp4_recut.proofs.PastLemmas.{plan-past}
 use Rattle.mp4_fragment_machine.proofs.CountLemmas.{counted_judged, counted_moof}
 use Rattle.mp4_fragment_machine.proofs.HeldLemmas.{GoesOn-moof, Refuses-judged, StopsAt-runs, begins_some, none_of, refused_not_written}
 use Rattle.mp4_fragment_machine.proofs.NumberLemmas.{number_same}
@@ -74,7 +75,7 @@ returns-in-Err-list-clause-advances c = λ u.
       step = record {
         stops = λ more. rw (judged.tally good.0)
             (StopsAt-runs (plan_meaning kept.plan) (outside u.written u.waiting c.args.ledger.now kept.counter.tally) held.at (number_in kept.plan kept.counter.tally) list held.kind held.size held.bytes c.requires.whole low good.0 good.1
-            more c.in-Err-list.refused (λ e. over.0 (c.in-Err-list.is ∙ ap Err e))
+            (plan-past kept.plan) more c.in-Err-list.refused (λ e. over.0 (c.in-Err-list.is ∙ ap Err e))
             (λ e. within_limit c.args.ledger.now.limit (c.args.ledger.now.live + 64 * length (moof_runs h list)) (c.in-Err-list.is ∙ ap Err e) over.1));
         failed = λ is. absurd (refused_not_written c.in-Err-list.refused is);
         unfailed = λ _. refl;

@@ -5,6 +5,7 @@ use Rattle.mp4_ledger.specs.Memory.{claimed, given_back}
 use Rattle.mp4_machine.proofs.HoldingLemmas.{begins_whole}
 use Rattle.mp4_machine.specs.Pieces.{outside}
 use Rattle.mp4_recut.specs.Plans.{plan_meaning, number_in}
+use Rattle.mp4_recut.proofs.PastLemmas.{plan-past}
 use Rattle.mp4_fragment_machine.proofs.CountLemmas.{counted_later}
 use Rattle.mp4_fragment_machine.proofs.HeldLemmas.{GoesOn-moov_put, Loses-moov, StopsAt-moov, begins_some, not_written, table_within}
 use Rattle.mp4_fragment_machine.proofs.StepLemmas.{counted_stop, given_back-none}
@@ -27,7 +28,7 @@ returns-in-Err g c =
     rw (c.stop_of.ensures, c.back.ensures, err, c.requires.none) (record {
       step = record {
         stops = λ more. rw (given_back-none (given_back c.args.ledger.now held.size))
-            (StopsAt-moov (plan_meaning kept.plan) (outside (g.W.Sink.contents c.args.w.now) c.args.out.now c.args.ledger.now kept.counter.tally) held.at (number_in kept.plan kept.counter.tally) held.kind held.size held.bytes c.requires.whole low more c.in-Err.why
+            (StopsAt-moov (plan_meaning kept.plan) (outside (g.W.Sink.contents c.args.w.now) c.args.out.now c.args.ledger.now kept.counter.tally) held.at (number_in kept.plan kept.counter.tally) held.kind held.size held.bytes c.requires.whole low (plan-past kept.plan) more c.in-Err.why
             (λ f e. (said f).0 (c.in-Err.is ∙ ap Err e))
             (λ r e. (refused r (c.in-Err.is ∙ ap Err e), λ is. (over.0 (c.in-Err.is ∙ ap Err e ∙ ap (λ q. Err (init.Refused q)) is)).1, λ is. table_within c.args.ledger.now.limit (c.args.ledger.now.live + 64 * length (moov_tracks held.at held.bytes)) (c.in-Err.is ∙ ap Err e ∙ ap (λ q. Err (init.Refused q)) is) (refused r (c.in-Err.is ∙ ap Err e)) over.1)));
         failed = λ is. absurd (not_written c.in-Err.why is);

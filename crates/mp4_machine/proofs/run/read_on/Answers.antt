@@ -36,7 +36,7 @@ returns-in-Ok-finish-clause-runs g c =
         fits = i.bytes;
         given = Consumes-then_none _ _ _ _ _ _ i.read c.in-Ok-eq0.ensures.bytes.0 c.in-Ok-eq0.field-0-test;
         fragments = c.loop-machine.out.whole;
-        prompt = prompt-now whole b start refl c.requires.marked i.fed _;
+        prompt = prompt-now whole b start refl c.requires.marked i.fed _ (c.in-Ok-eq0.ensures.last ∙ c.in-Ok-eq0.field-0-test);
         comes = (fed-tells whole b start refl c.requires.marked i.fed _ refl refl, fed-fault whole b start refl c.requires.marked i.fed ∙ c.in-Ok-finish.ensures.ok, search rules);
         kept = λ _. i.kept;
       },
@@ -53,7 +53,7 @@ returns-in-Err-finish-clause-runs g c =
         fits = i.bytes;
         given = Consumes-then_none _ _ _ _ _ _ i.read c.in-Ok-eq0.ensures.bytes.0 c.in-Ok-eq0.field-0-test;
         fragments = c.loop-machine.out.whole;
-        prompt = prompt-now whole b start refl c.requires.marked i.fed _;
+        prompt = prompt-now whole b start refl c.requires.marked i.fed _ (c.in-Ok-eq0.ensures.last ∙ c.in-Ok-eq0.field-0-test);
         comes = (fed-tells whole b start refl c.requires.marked i.fed _ refl refl, fed-fault whole b start refl c.requires.marked i.fed ∙ c.in-Err-finish.ensures.err, λ _. search rules);
         kept = λ _. i.kept;
       },
@@ -70,7 +70,7 @@ returns-in-Err-clause-runs g c =
         fits = i.bytes;
         given = Consumes-kept _ _ _ _ i.read c.in-Err.ensures.bytes;
         fragments = c.loop-machine.out.whole;
-        prompt = prompt-now whole b start refl c.requires.marked i.fed _;
+        prompt = prompt-now whole b start refl c.requires.marked i.fed _ c.in-Err.ensures.last_err;
         comes = (fed-tells whole b start refl c.requires.marked i.fed _ refl refl, fed-undecided whole b start refl c.requires.marked i.fed, i.total, c.in-Err.ensures.failed_err);
         kept = λ _. i.kept;
       },
@@ -110,14 +110,15 @@ returns-in-Err-feed-clause-runs g c =
     let start = outside (g.W.Sink.contents c.args.w.now) unused c.args.ledger.now uncounted in
     let before = outside (g.W.Sink.contents c.loop-machine.w) c.loop-machine.out c.loop-machine.ledger (g.M.Machine.counted c.loop-machine.machine) in
     let behind = outside (g.W.Sink.contents c.feed.new.w) c.feed.new.out c.feed.new.ledger (g.M.Machine.counted c.feed.new.machine) in
-    let few : length got ≤ c.args.ledger.now.live = omega (arith, i.room, kept, length-take c.in-Ok.n c.read.new.into) in (
+    let few : length got ≤ c.args.ledger.now.live = omega (arith, i.room, kept, length-take c.in-Ok.n c.read.new.into) in
+    let gave : length got ≡ g.R.Source.last_read c.read.new.self = omega (arith, length-take c.in-Ok.n c.read.new.into, c.in-Ok.ensures.bound, c.in-Ok.ensures.last) in (
       record {
         bytes = b ++ got;
         fits = bytes-more b got i.bytes c.in-Err-feed.ensures.bytes;
         given = Consumes-trans _ _ _ _ _ i.read c.in-Ok.ensures.bytes.0;
         fragments = c.feed.new.out.whole;
-        prompt = prompt-read whole b start refl c.requires.marked i.fed got behind _ few;
-        comes = fed-takes {around = record { before = before; after = behind; failed = g.W.Sink.has_failed c.loop-machine.w; failed' = g.W.Sink.has_failed c.feed.new.w }} whole b start refl c.requires.marked i.fed i.claim _ few refl refl (λ other. c.in-Err-feed.ensures.sent (λ is. other cc)) refl c.in-Err-feed.ensures.takes;
+        prompt = prompt-read whole b start refl c.requires.marked i.fed got behind _ (record { few = few; gave = gave });
+        comes = fed-takes {around = record { before = before; after = behind; failed = g.W.Sink.has_failed c.loop-machine.w; failed' = g.W.Sink.has_failed c.feed.new.w }} whole b start refl c.requires.marked i.fed i.claim _ (record { few = few; gave = gave }) refl refl (λ other. c.in-Err-feed.ensures.sent (λ is. other cc)) refl c.in-Err-feed.ensures.takes;
         kept = λ other. c.in-Err-feed.ensures.takes.kept (λ is. other cc) ∙ i.kept;
       },
       refl,

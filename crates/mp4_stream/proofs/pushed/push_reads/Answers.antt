@@ -8,6 +8,7 @@ use Rattle.mp4_machine.specs.Ends.{Ends, between, received, sent}
 use Rattle.mp4_machine.specs.Fed.{AllWhole, FedUntil, Lent, TellsRest, lent}
 use Rattle.mp4_machine.specs.Pieces.{farthest}
 use Rattle.mp4_machine.specs.Readings.{early_in, fault_in, most_of}
+use Rattle.mp4_machine.specs.StreamRuns.{IsOneRead}
 use Rattle.mp4_machine.proofs.AccountLemmas.{Counts-none}
 use Rattle.mp4_machine.proofs.FedRunLemmas.{comes-until, counts-more, prompt-fed, prompt-here, tells-all, text-more}
 use Rattle.mp4_stream.specs.Feeders.{held_by, reading, sums_of}
@@ -47,7 +48,7 @@ returns-in-Ok-ending-clause-runs g c =
         fits = i.stands.bytes;
         given = Consumes-then_none _ _ _ _ _ _ i.read c.in-Ok-eq0.ensures.bytes.0 c.in-Ok-eq0.field-0-test;
         fragments = c.loop-feeder.feeder.fragments;
-        prompt = prompt-here (reading cut) _ c.args.ledger.now c.requires.marked b undecided c.loop-feeder.ledger c.loop-feeder.feeder.fragments _;
+        prompt = prompt-here (reading cut) _ c.args.ledger.now c.requires.marked b undecided (c.in-Ok-eq0.ensures.last ∙ c.in-Ok-eq0.field-0-test) c.loop-feeder.ledger c.loop-feeder.feeder.fragments _;
         comes = (tells-all (reading cut) _ c.args.ledger.now c.requires.marked b c.loop-feeder.ledger _ _ _ i.text whole i.counts counted, subst (λ (x : Cut). fault_in (reading x b).outcome ≡ None) i.cut finishes.0, search rules);
         kept = λ _. i.kept;
       },
@@ -62,7 +63,7 @@ returns-in-Err-ending-clause-runs g c =
     let counted = subst (λ (x : Cut). c.loop-feeder.feeder.machine.counter.tally ≡ (reading x b).effects.tally) i.cut i.stands.machine.tally in
     let whole = subst (λ (x : Cut). AllWhole (reading x b).effects c.loop-feeder.feeder.fragments) i.cut i.stands.fragments in
     let finishes = c.in-Err-ending.ensures.finishes b i.stands in
-    let prompt = prompt-here (reading cut) (between (received g.R.Source.remaining g.R.Source.has_ended g.R.Source.has_failed c.args.r.now c.read.new.self) (sent g.W.Sink.contents g.W.Sink.has_failed c.args.w.now c.loop-feeder.w)) c.args.ledger.now c.requires.marked b undecided c.loop-feeder.ledger c.loop-feeder.feeder.fragments c.loop-feeder.feeder.machine.counter.tally in (
+    let prompt = prompt-here (reading cut) (between (received g.R.Source.remaining g.R.Source.has_ended g.R.Source.has_failed g.R.Source.last_read c.args.r.now c.read.new.self) (sent g.W.Sink.contents g.W.Sink.has_failed c.args.w.now c.loop-feeder.w)) c.args.ledger.now c.requires.marked b undecided (c.in-Ok-eq0.ensures.last ∙ c.in-Ok-eq0.field-0-test) c.loop-feeder.ledger c.loop-feeder.feeder.fragments c.loop-feeder.feeder.machine.counter.tally in (
       record {
         bytes = b;
         fits = i.stands.bytes;
@@ -87,7 +88,7 @@ returns-in-Err-clause-runs g c =
         fits = i.stands.bytes;
         given = Consumes-kept _ _ _ _ i.read c.in-Err.ensures.bytes;
         fragments = c.loop-feeder.feeder.fragments;
-        prompt = prompt-here (reading cut) _ c.args.ledger.now c.requires.marked b undecided c.loop-feeder.ledger c.loop-feeder.feeder.fragments _;
+        prompt = prompt-here (reading cut) _ c.args.ledger.now c.requires.marked b undecided c.in-Err.ensures.last_err c.loop-feeder.ledger c.loop-feeder.feeder.fragments _;
         comes = (tells-all (reading cut) _ c.args.ledger.now c.requires.marked b c.loop-feeder.ledger _ _ _ i.text whole i.counts counted, undecided, i.total, c.in-Err.ensures.failed_err);
         kept = λ _. i.kept;
       },
@@ -127,20 +128,22 @@ returns-in-Err-feed-clause-runs g c =
     let (b, i) = c.loop-feeder.invariant in
     let got = take c.in-Ok.n c.read.new.into in
     let l : Lent = lent (sent g.W.Sink.contents g.W.Sink.has_failed c.loop-feeder.w c.feed.new.w) c.loop-feeder.feeder.fragments c.feed.new.self.fragments c.loop-feeder.ledger c.feed.new.ledger in
-    let ends : Ends = between (received g.R.Source.remaining g.R.Source.has_ended g.R.Source.has_failed c.args.r.now c.read.new.self) (sent g.W.Sink.contents g.W.Sink.has_failed c.args.w.now c.feed.new.w) in
+    let ends : Ends = between (received g.R.Source.remaining g.R.Source.has_ended g.R.Source.has_failed g.R.Source.last_read c.args.r.now c.read.new.self) (sent g.W.Sink.contents g.W.Sink.has_failed c.args.w.now c.feed.new.w) in
     let undecided = subst (λ (x : Cut). early_in (reading x b).outcome ≡ None) i.cut i.stands.undecided in
     let whole = subst (λ (x : Cut). AllWhole (reading x b).effects c.loop-feeder.feeder.fragments) i.cut i.stands.fragments in
     let fed = c.in-Err-feed.ensures.feeds b i.stands in
     let until = subst (λ (x : Cut). FedUntil (reading x) b got l (held_by c.loop-feeder.feeder) (sums_of c.feed.new.self) c.in-Err-feed.stop) i.cut fed.err.0 in
     let same : length c.read.new.into ≡ length c.loop-feeder.copy = search rules in
-    let few : length got ≤ c.args.ledger.now.live = omega (arith, i.room, same, length-take c.in-Ok.n c.read.new.into) in (
+    let few : length got ≤ c.args.ledger.now.live = omega (arith, i.room, same, length-take c.in-Ok.n c.read.new.into) in
+    let gave : length got ≡ g.R.Source.last_read c.read.new.self = omega (arith, length-take c.in-Ok.n c.read.new.into, c.in-Ok.ensures.bound, c.in-Ok.ensures.last) in
+    let one : IsOneRead ends c.args.ledger.now.live got = record { few = few; gave = gave } in (
       record {
         bytes = b ++ got;
         fits = fed.bytes;
         given = Consumes-trans _ _ _ _ _ i.read c.in-Ok.ensures.bytes.0;
         fragments = c.feed.new.self.fragments;
-        prompt = prompt-fed (reading cut) ends c.args.ledger.now c.requires.marked b undecided got c.feed.new.ledger c.feed.new.self.fragments c.feed.new.self.machine.counter.tally few;
-        comes = comes-until (reading cut) ends c.args.ledger.now c.requires.marked b undecided got l (held_by c.loop-feeder.feeder) (sums_of c.feed.new.self) few refl i.text whole i.counts c.in-Err-feed.stop (λ is. c.in-Err-feed.ensures.failed i.stands.running (ap Err is)) until;
+        prompt = prompt-fed (reading cut) ends c.args.ledger.now c.requires.marked b undecided got c.feed.new.ledger c.feed.new.self.fragments c.feed.new.self.machine.counter.tally one;
+        comes = comes-until (reading cut) ends c.args.ledger.now c.requires.marked b undecided got l (held_by c.loop-feeder.feeder) (sums_of c.feed.new.self) one refl i.text whole i.counts c.in-Err-feed.stop (λ is. c.in-Err-feed.ensures.failed i.stands.running (ap Err is)) until;
         kept = λ other. c.in-Err-feed.ensures.kept (λ is. other cc) ∙ i.kept;
       },
       refl,

@@ -12,7 +12,7 @@ returns-in-Err-clause-runs g c =
     let cut = c.args.feeder.now.cut in
     let none = reading-none cut in
     let counted : c.args.feeder.now.machine.counter.tally ≡ uncounted = c.requires.stands.machine.tally ∙ ap (λ r. r.effects.tally) none in
-    let refused = rw c.mark.ensures at c.in-Err.ensures in
+    let refused = rw c.mark.ensures.marked at c.in-Err.ensures in
     let copy : c.from.result ≡ c.args.copy = c.from.ensures in
     let idle = idle-stops (reading cut) _ _ c.args.ledger.now.live c.in-Err.refused none (Consumes-nil _) (Appends-nil _) refl c.requires.idle refl
     (λ e. omega (arith, refused.over_limit.0 (ap Err e), copy))
@@ -22,7 +22,7 @@ returns-in-Err-clause-runs g c =
 
 pub returns-clause-runs : goal.returns-clause-runs
 returns-clause-runs g c =
-    let live : c.buf.new.self.live ≡ c.args.copy = omega (arith, ap (λ a. a.live) c.in-Ok.ensures.ok, ap (λ a. a.live) c.mark.ensures, c.from.ensures, c.requires.idle) in
-    let limit : c.buf.new.self.limit ≡ c.args.ledger.now.limit = ap (λ a. a.limit) c.in-Ok.ensures.ok ∙ ap (λ a. a.limit) c.mark.ensures in
+    let live : c.buf.new.self.live ≡ c.args.copy = omega (arith, ap (λ a. a.live) c.in-Ok.ensures.ok, ap (λ a. a.live) c.mark.ensures.marked, c.from.ensures, c.requires.idle) in
+    let limit : c.buf.new.self.limit ≡ c.args.ledger.now.limit = ap (λ a. a.limit) c.in-Ok.ensures.ok ∙ ap (λ a. a.limit) c.mark.ensures.marked in
     let peak : c.back.new.self.peak ≡ c.push_reads-answer.new.ledger.peak = rw c.back.ensures refl in
     Runs-same live limit (sym peak) c.push_reads-answer.ensures.runs

@@ -1,6 +1,6 @@
 use Rattle.std.proofs.Common.{◌∙◌, ℕ, List, sym, ap, arith, rules}
 use Rattle.mp4_box.specs.Trees.{view}
-use Rattle.mp4_init.specs.Working.OrderedIds.{sought}
+use Rattle.mp4_init.specs.OrderedIds.{sought}
 use Rattle.mp4_frag.specs.Repeats.{trafs_before}
 use Rattle.mp4_frag.proofs.MarkLemmas.{mark_tells}
 use Rattle.mp4_frag.proofs.repeats.Marks.has.Goals as goal

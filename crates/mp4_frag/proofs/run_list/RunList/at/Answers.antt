@@ -1,5 +1,5 @@
 use Rattle.std.proofs.Common.{◌∙◌, ap}
-use Rattle.mp4_frag.specs.Working.ListedRows.{ListedRows}
+use Rattle.mp4_frag.specs.RunLists.{ListedRows}
 use Rattle.mp4_frag.specs.Working.Rereads.{run_of_row}
 use Rattle.mp4_frag.specs.Runs.{MoofBytes}
 use Rattle.mp4_frag.proofs.RunListLemmas.{run_is}

@@ -1,7 +1,7 @@
 use Rattle.std.proofs.Common.{◌≡◌, ◌∙◌, ◌<◌, ℕ, List, length, sym, ap, arith}
 use Rattle.mp4_box.specs.Trees.{view}
 use Rattle.mp4_init.specs.declared.summary.Summary.{Summary}
-use Rattle.mp4_init.specs.Working.OrderedIds.{sought}
+use Rattle.mp4_init.specs.OrderedIds.{sought}
 use Rattle.mp4_init.proofs.SummaryTableLemmas.{length-summaries, summary_at_place}
 use Rattle.mp4_init.proofs.slots.Slots.summary.Goals as goal
 

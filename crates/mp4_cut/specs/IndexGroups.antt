@@ -1,4 +1,4 @@
--- Working: where pieces begin in their run.
+-- A group of pieces for which an index is written, by its first piece and its length.
 use Rattle.std.specs.Prelude.{◌≡◌, ℕ, List, length, take, Some}
 use Rattle.std.specs.List.{AllByRecursion}
 use Rattle.mp4_box.specs.Trees.{first_of}

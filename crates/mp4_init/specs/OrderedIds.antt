@@ -1,4 +1,4 @@
--- Working: seeking a track_ID among some in order.
+-- Where a track_ID stands among some that are in order: a binary search over at most 65,536.
 use Rattle.std.specs.Prelude.{ℕ, zero, suc, List, Option, Some, None, ◌==◌, ◌+◌, ◌/◌, nat_lt, if◌then◌else◌, slice_get}
 use Rattle.std.specs.List.Sorted.{IsPermutation, IsSorted}
 use Rattle.std.specs.Ordering.{nat_cmp}

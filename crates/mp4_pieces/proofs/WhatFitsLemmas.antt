@@ -1,0 +1,68 @@
+-- What fits in one piece, in words.
+use Rattle.std.proofs.Common.{◌≡◌, ◌≤◌, ◌⊎◌, ℕ, Bool, true, false, List, [], ◌∷◌, length, drop, refl, arith, Option, Some, None, inl, inr, sym}
+use Rattle.std.specs.Prelude.{◌&&◌, ◌||◌, not, nat_le}
+use Rattle.std.specs.List.{AllByRecursion, list_all}
+use Rattle.std.proofs.lemmas.Bool.{leb-true, le-leb}
+use Rattle.mp4_frag.specs.declared.rows.Row.{Row}
+use Rattle.mp4_frag.specs.Rows.{sizes}
+use Rattle.mp4_frag.specs.SyncSamples.{is_sync}
+use Rattle.mp4_pieces.specs.declared.cut.Cut.{Cut}
+use Rattle.mp4_pieces.specs.Fitting.{fits, fits_bytes, fits_sync}
+use Rattle.mp4_pieces.specs.Laws.{MayBeOnePiece}
+use Rattle.mp4_pieces.proofs.FitLemmas.{and_is, and_so}
+
+not_is : (b : Bool) → not b ≡ true → b ≡ false
+not_is true e = absurd cc
+not_is false e = refl
+
+is_not : (b : Bool) → b ≡ false → not b ≡ true
+is_not true e = absurd cc
+is_not false e = refl
+
+or_either : (a b : Bool) → (a || b) ≡ true → (a ≡ true) ⊎ (b ≡ true)
+or_either true b e = inl refl
+or_either false b e = inr e
+
+or_so : (a b : Bool) → (a ≡ true) ⊎ (b ≡ true) → (a || b) ≡ true
+or_so true b e = refl
+or_so false b (inl e) = absurd cc
+or_so false b (inr e) = e
+
+none_sync : (rows : List Row) → list_all (λ row. not (is_sync row.flags)) rows ≡ true → AllByRecursion (λ row. is_sync row.flags ≡ false) rows
+none_sync [] e = tt
+none_sync (row ∷ rows) e = let both = and_is (not (is_sync row.flags)) _ e in (not_is (is_sync row.flags) both.0, none_sync rows both.1)
+
+sync_none : (rows : List Row) → AllByRecursion (λ row. is_sync row.flags ≡ false) rows → list_all (λ row. not (is_sync row.flags)) rows ≡ true
+sync_none [] h = refl
+sync_none (row ∷ rows) h = and_so (not (is_sync row.flags)) _ (is_not (is_sync row.flags) h.0) (sync_none rows h.1)
+
+bytes_mean : (most : Option ℕ) (rows : List Row) → fits_bytes most rows ≡ true → (n : ℕ) → most ≡ Some n → (length rows ≤ 1) ⊎ (sizes rows ≤ n)
+bytes_mean None rows e n is = absurd cc
+bytes_mean (Some m) rows e n is = elim (or_either (nat_le (length rows) 1) (nat_le (sizes rows) m) e) [
+  | inl one ↦ inl (leb-true (length rows) 1 one)
+  | inr few ↦ let same : m ≡ n = cc in inr (omega (arith, leb-true (sizes rows) m few, same))
+]
+
+bytes_fit : (most : Option ℕ) (rows : List Row) → ((n : ℕ) → most ≡ Some n → (length rows ≤ 1) ⊎ (sizes rows ≤ n)) → fits_bytes most rows ≡ true
+bytes_fit None rows h = refl
+bytes_fit (Some m) rows h = elim (h m refl) [
+  | inl one ↦ or_so (nat_le (length rows) 1) (nat_le (sizes rows) m) (inl (le-leb (length rows) 1 one))
+  | inr few ↦ or_so (nat_le (length rows) 1) (nat_le (sizes rows) m) (inr (le-leb (sizes rows) m few))
+]
+
+sync_means : (asked : Bool) (rows : List Row) → fits_sync asked rows ≡ true → asked ≡ true → AllByRecursion (λ row. is_sync row.flags ≡ false) (drop 1 rows)
+sync_means true rows e is = none_sync (drop 1 rows) e
+sync_means false rows e is = absurd cc
+
+sync_fits : (asked : Bool) (rows : List Row) → (asked ≡ true → AllByRecursion (λ row. is_sync row.flags ≡ false) (drop 1 rows)) → fits_sync asked rows ≡ true
+sync_fits true rows h = sync_none (drop 1 rows) (h refl)
+sync_fits false rows h = refl
+
+pub fits_means : (cut : Cut) (rows : List Row) → fits cut rows ≡ true → MayBeOnePiece cut rows
+fits_means cut rows e =
+    let count = and_is (nat_le (length rows) cut.samples) _ e in
+    let rest = and_is (fits_bytes cut.bytes rows) _ count.1 in
+    record { samples = leb-true (length rows) cut.samples count.0; bytes = bytes_mean cut.bytes rows rest.0; sync = sync_means cut.sync rows rest.1 }
+
+pub means_fits : (cut : Cut) (rows : List Row) → MayBeOnePiece cut rows → fits cut rows ≡ true
+means_fits cut rows h = and_so (nat_le (length rows) cut.samples) _ (le-leb (length rows) cut.samples h.samples) (and_so (fits_bytes cut.bytes rows) _ (bytes_fit cut.bytes rows h.bytes) (sync_fits cut.sync rows h.sync))
