@@ -12,6 +12,7 @@ mod memory;
 mod rows;
 mod split_stops;
 mod splits;
+mod wanted;
 mod words;
 mod work;
 
