@@ -6,7 +6,7 @@ ghost use Rattle.mp4_stream.specs.Feeders.{held_by};
 
 use super::ends::due_of_split;
 use super::joined;
-use super::split_stops::with_a_large_moof;
+use super::split_stops::{before_a_large_moof, with_a_large_moof};
 use super::splits::{by_two, tracks_by_two};
 use mp4_stream::ends::ToVec;
 use mp4_stream::vectors::{V1, V2};
@@ -59,6 +59,16 @@ impl Pushed {
     pub(super) fn push_each(&mut self, bytes: &[u8]) -> Result<(), Stop> {
         for i in 0..bytes.len() {
             self.push(&bytes[i..i + 1])?;
+        }
+        Ok(())
+    }
+
+    /// And by so many at once.
+    fn push_by(&mut self, step: usize, bytes: &[u8]) -> Result<(), Stop>
+        requires { 0 < step }
+    {
+        for piece in bytes.chunks(step) {
+            self.push(piece)?;
         }
         Ok(())
     }
@@ -303,6 +313,21 @@ fn limits_of_a_feeder(rt: HostRuntime) -> Result<(), Fail> {
             check_within(&rt, alloc, limit, &large, single, over, 364)?;
         }
         check_within(&rt, alloc, 624, &large, single, Ok(()), 627)?;
+    }
+    Ok(())
+}
+
+/// The claim for the runs of a second fragment is refused: the first is written and counted.
+#[test]
+fn fragments_before_a_refused_claim(rt: HostRuntime) -> Result<(), Fail> {
+    let alloc = rt.alloc();
+    let (stream, all) = (before_a_large_moof(alloc)?, by_two(alloc)?);
+    for step in [1, 7, 65_536] {
+        let mut pushed = Pushed::within(&rt, alloc, 1000, 623)?;
+        assert_eq!(&rt; pushed.push_by(step, &stream), Err(Stop::OverLimit));
+        let fragments = pushed.feeder.totals().fragments;
+        assert_eq!(&rt; (pushed.w.bytes(), fragments), (all.as_slice(), 2));
+        assert_eq!(&rt; pushed.finish(), (Err(Stop::OverLimit), 0));
     }
     Ok(())
 }

@@ -1,4 +1,4 @@
-//! Limits while a stream is recut, and what is counted where a write failed.
+//! Limits while a stream is recut, and what is counted where a claim was refused or a write failed.
 
 ghost use Rattle.std.specs.Prelude.{◌≡◌, ◌<◌};
 
@@ -57,6 +57,50 @@ pub(super) fn with_a_large_moof(alloc: Global) -> Result<Vec<u8>, AllocError> {
             &v1[448..],
         ],
     )
+}
+
+/// The first vector, and the fragment with the large moof behind it.
+pub(super) fn before_a_large_moof(alloc: Global) -> Result<Vec<u8>, AllocError> {
+    let large = with_a_large_moof(alloc)?;
+    joined(alloc, &[V1.as_slice(), &large[364.min(large.len())..]])
+}
+
+/// Recuts a stream under a limit that is too little, by reads of so many bytes: what is written, and how many fragments are counted.
+fn check_refused(
+    rt: &impl Abort,
+    alloc: Global,
+    stream: &[u8],
+    limit: u64,
+    step: usize,
+    written: &[u8],
+    fragments: u64,
+) -> Result<(), Fail>
+    requires { 0 < step }
+{
+    let cut = Cut::new(2, None, false).expect(rt, "two samples are allowed");
+    let mut r = FromSlice::new(stream, step, false);
+    let mut w = ToVec::new(alloc, 1000, 1000, true)?;
+    let mut ledger = Ledger::new(alloc, limit);
+    let mut totals = Totals::new();
+    let answer = split(&mut r, &mut w, &mut ledger, &cut, 65_536, &mut totals);
+    assert_eq!(rt;
+        (answer, w.bytes(), totals.fragments, ledger.live()),
+        (Err(Stop::OverLimit), written, fragments, 0),
+        "limit {limit}, reads of {step}"
+    );
+    Ok(())
+}
+
+/// The claim for the runs of the second fragment is refused, one byte too large, and that of the bytes to read into.
+#[test]
+fn fragments_before_a_refused_claim(rt: HostRuntime) -> Result<(), Fail> {
+    let alloc = rt.alloc();
+    let (stream, two) = (before_a_large_moof(alloc)?, by_two(alloc)?);
+    for step in [1, 7, 65_536] {
+        check_refused(&rt, alloc, &stream, 66_159, step, &two, 2)?;
+        check_refused(&rt, alloc, &stream, 65_535, step, b"", 0)?;
+    }
+    Ok(())
 }
 
 /// Recuts a stream under a limit: so many bytes must be written, and where these aren't all of the 627, the limit was passed.
