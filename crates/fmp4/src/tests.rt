@@ -4,6 +4,7 @@ ghost use Rattle.std.specs.Prelude.{◌≡◌, ◌<◌};
 
 mod ends;
 mod feeders;
+mod field_lengths;
 mod fragments;
 mod hostile;
 mod layouts;
