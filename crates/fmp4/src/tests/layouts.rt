@@ -45,6 +45,65 @@ fn headers_and_boxes_around(rt: HostRuntime) -> Result<(), Fail> {
 }
 
 #[test]
+fn free_space_in_a_moof(rt: HostRuntime) -> Result<(), Fail> {
+    let (alloc, v1) = (rt.alloc(), V1.as_slice());
+    let lines = [
+        "track=1 dts=0 cts=0 dur=1024 size=5 flags=02000000 sync desc=1 at=476\n",
+        "track=1 dts=1024 cts=1024 dur=1024 size=7 flags=02000000 sync desc=1 at=481\n",
+        "track=1 dts=2048 cts=2048 dur=1024 size=3 flags=02000000 sync desc=1 at=488\n",
+    ];
+    for space in [b"\0\0\0\x08free", b"\0\0\0\x08skip"] {
+        let stream = [
+            &v1[..364],
+            b"\0\0\0\x68moof".as_slice(),
+            MFHD,
+            space,
+            &v1[388..444],
+            b"\0\0\0\x70",
+            &v1[448..],
+        ];
+        check_sound(&rt, alloc, &stream, &lines, COUNTS)?;
+    }
+    Ok(())
+}
+
+/// The second of two sample entries, and other samples than those of the trex: 500 ticks long, of 6 bytes, and no sync samples.
+#[test]
+fn defaults_of_a_tfhd(rt: HostRuntime) -> Result<(), Fail> {
+    let (alloc, v1) = (rt.alloc(), V1.as_slice());
+    let (start, mvhd, tkhd, mdhd) = (&v1[..20], &v1[28..136], &v1[144..236], &v1[244..276]);
+    let (entry, mvex, tfdt) = (&v1[308..324], &v1[324..364], &v1[412..428]);
+    let stream = [
+        start,
+        b"\0\0\x01\x68moov".as_slice(),
+        mvhd,
+        b"\0\0\0\xcctrak",
+        tkhd,
+        b"\0\0\0\x68mdia",
+        mdhd,
+        b"\0\0\0\x40minf\0\0\0\x38stbl\0\0\0\x30stsd\0\0\0\0\0\0\0\x02",
+        entry,
+        entry,
+        mvex,
+        b"\0\0\0\x64moof",
+        MFHD,
+        b"\0\0\0\x4ctraf\0\0\0\x20tfhd\0\x02\0\x3a\0\0\0\x01",
+        b"\0\0\0\x02\0\0\x01\xf4\0\0\0\x06\x01\x01\0\0",
+        tfdt,
+        b"\0\0\0\x14trun\0\0\0\x01\0\0\0\x03\0\0\0\x6c",
+        b"\0\0\0\x1amdat",
+        &[0; 18],
+    ];
+    let lines = [
+        "track=1 dts=0 cts=0 dur=500 size=6 flags=01010000 - desc=2 at=488\n",
+        "track=1 dts=500 cts=500 dur=500 size=6 flags=01010000 - desc=2 at=494\n",
+        "track=1 dts=1000 cts=1000 dur=500 size=6 flags=01010000 - desc=2 at=500\n",
+    ];
+    let counts = "fragments=1 samples=3 media=18 held=65960\n";
+    check_sound(&rt, alloc, &stream, &lines, counts)
+}
+
+#[test]
 fn flags_of_samples(rt: HostRuntime) -> Result<(), Fail> {
     let (alloc, v1) = (rt.alloc(), V1.as_slice());
     // The flags of the first sample stand in the trun, those of the others in the trex.
