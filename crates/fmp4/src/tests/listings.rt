@@ -152,6 +152,28 @@ fn nested_boxes(rt: HostRuntime) -> Result<(), Fail> {
     )
 }
 
+/// A moov of seven boxes, each in the one before.
+const SEVEN_TRAKS: &str = "moov 64 @0
+  trak 56 @8
+    trak 48 @16
+      trak 40 @24
+        trak 32 @32
+          trak 24 @40
+            trak 16 @48
+              trak 8 @56
+";
+
+#[test]
+fn nested_traks(rt: HostRuntime) -> Result<(), Fail> {
+    let seven =
+        b"\0\0\0\x38trak\0\0\0\x30trak\0\0\0\x28trak\0\0\0\x20trak\0\0\0\x18trak\0\0\0\x10trak\0\0\0\x08trak";
+    let stream = [b"\0\0\0\x40moov".as_slice(), seven.as_slice()];
+    check_rows(&rt, rt.alloc(), &stream, 0, &[SEVEN_TRAKS], "")?;
+    let eight = [b"\0\0\0\x48moov\0\0\0\x40trak".as_slice(), seven.as_slice()];
+    let fault = "fmp4: 8 Depth in trak at 64\n";
+    check_rows(&rt, rt.alloc(), &eight, 2, &[], fault)
+}
+
 /// A user type of the bytes 0x10 to 0x1f.
 const USER: &[u8; 16] = b"\x10\x11\x12\x13\x14\x15\x16\x17\x18\x19\x1a\x1b\x1c\x1d\x1e\x1f";
 

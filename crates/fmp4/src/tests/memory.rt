@@ -2,10 +2,12 @@
 
 ghost use Rattle.std.specs.Prelude.{◌≤◌};
 
+use super::fragments::{COUNTS, SAMPLES};
+use super::split_stops::with_a_large_moof;
 use super::{FTYP, MDAT, MOOF, MOOV, check_words, joined};
 use mp4_stream::ends::{FromSlice, ToVec};
 use mp4_stream::vectors::V1;
-use mp4_stream::{Ledger, Stop, Totals, boxes};
+use mp4_stream::{Cut, Fault, FourCc, Ledger, Rule, Stop, Totals, boxes, check, samples, split};
 use std::alloc::Global;
 use std::process::Abort;
 use std::test::Fail;
@@ -55,6 +57,43 @@ fn limits(rt: HostRuntime) -> Result<(), Fail> {
     )
 }
 
+/// Each claim of the commands that read fragments, one byte too large and just small enough: the bytes that are read into, the moov
+/// of 344 bytes with the table of its track, and the moof of 496 with the list of its runs.
+#[test]
+fn limits_of_listings(rt: HostRuntime) -> Result<(), Fail> {
+    let alloc = rt.alloc();
+    let large = with_a_large_moof(alloc)?;
+    let shifted = [
+        "track=1 dts=0 cts=0 dur=1024 size=5 flags=02000000 sync desc=1 at=868\n",
+        "track=1 dts=1024 cts=1024 dur=1024 size=7 flags=02000000 sync desc=1 at=873\n",
+        "track=1 dts=2048 cts=2048 dur=1024 size=3 flags=02000000 sync desc=1 at=880\n",
+    ];
+    let more = "fragments=1 samples=3 media=15 held=66160\n";
+    for (limit, stream, lines, counts) in [
+        ("65535", V1.as_slice(), [""; 3], ""),
+        ("65536", V1.as_slice(), [""; 3], ""),
+        ("65879", V1.as_slice(), [""; 3], ""),
+        ("65880", V1.as_slice(), [""; 3], ""),
+        ("65943", V1.as_slice(), [""; 3], ""),
+        ("65944", V1.as_slice(), SAMPLES, COUNTS),
+        ("66095", &large, [""; 3], ""),
+        ("66096", &large, [""; 3], ""),
+        ("66159", &large, [""; 3], ""),
+        ("66160", &large, shifted, more),
+    ] {
+        let (status, over) = if counts.is_empty() {
+            (4, "fmp4: over the limit\n")
+        } else {
+            (0, "")
+        };
+        let samples = ["fmp4", "samples", "--max-held", limit];
+        check_words(&rt, alloc, &samples, &[stream], status, &lines, over)?;
+        let check = ["fmp4", "check", "--max-held", limit];
+        check_words(&rt, alloc, &check, &[stream], status, &[counts], over)?;
+    }
+    Ok(())
+}
+
 /// Lists the boxes of these bytes under a limit: the answer, and the most that was claimed at once.
 fn peak_of(
     rt: &impl Abort,
@@ -100,5 +139,39 @@ fn peaks(rt: HostRuntime) -> Result<(), Fail> {
         1 << 62,
     )?;
     assert_eq!(&rt; (answer.is_err(), peak), (true, 65880));
+    Ok(())
+}
+
+/// A moof that states a byte more than it may have isn't claimed: the peak is that of the moov and the table of its track.
+#[test]
+fn peaks_of_a_refused_moof(rt: HostRuntime) -> Result<(), Fail> {
+    let alloc = rt.alloc();
+    let stream = joined(alloc, &[&V1.as_slice()[..364], b"\x04\0\0\x01moof"])?;
+    let too_large = Err(Stop::Stream(Fault {
+        rule: Rule::TooLarge,
+        kind: Some(FourCc(*b"moof")),
+        offset: 364,
+    }));
+    let cut = Cut::new(2, None, false).expect(&rt, "two samples are allowed");
+    for step in [1, 7, 4096] {
+        let mut ledger = Ledger::new(alloc, 1 << 62);
+        let mut w = ToVec::new(alloc, 1000, 1000, true)?;
+        let (mut split_of, mut samples_of, mut check_of) = (
+            Totals::new(),
+            Totals::new(),
+            Totals::new(),
+        );
+        let mut r = FromSlice::new(&stream, step, false);
+        let split = split(&mut r, &mut w, &mut ledger, &cut, 65_536, &mut split_of);
+        let mut r = FromSlice::new(&stream, step, false);
+        let samples = samples(&mut r, &mut w, &mut ledger, 65_536, &mut samples_of);
+        let mut r = FromSlice::new(&stream, step, false);
+        let check = check(&mut r, &mut ledger, 65_536, &mut check_of);
+        assert_eq!(&rt; (split, samples, check), (too_large, too_large, too_large));
+        assert_eq!(&rt;
+            (split_of.peak, samples_of.peak, check_of.peak),
+            (65_944, 65_944, 65_944)
+        );
+    }
     Ok(())
 }

@@ -11,16 +11,35 @@ use std::alloc::{AllocError, Global};
 use std::process::Abort;
 use std::test::Fail;
 
-/// Counts the bytes that it takes.
+/// How many bytes of what it takes a counter keeps.
+const KEPT: usize = 52;
+
+/// Counts the bytes that it takes, and keeps a few of them.
 #[derive(Drop)]
 struct Counter {
     bytes: u64,
+    kept_from: u64,
+    kept: [u8; KEPT],
+}
+
+impl Counter {
+    /// Keeps what it takes of the bytes that stand at this offset.
+    fn keep(&mut self, from: &[u8]) {
+        let first = self.kept_from.saturating_sub(self.bytes) as usize;
+        let at = self.bytes.saturating_sub(self.kept_from) as usize;
+        if first >= from.len() || at >= KEPT {
+            return;
+        }
+        let n = (KEPT - at).min(from.len() - first);
+        self.kept[at..at + n].copy_from_slice(&from[first..first + n]);
+    }
 }
 
 impl Sink for Counter {
     ghost has_failed = { λ _. false };
 
     fn write(&mut self, from: &[u8]) -> Result<usize, Failed> {
+        self.keep(from);
         self.bytes = self.bytes.saturating_add(from.len() as u64);
         Ok(from.len())
     }
@@ -35,7 +54,7 @@ impl Sink for Counter {
 }
 
 /// The first vector with one run of so many samples, which have no bytes: a moof of 84 bytes.
-fn with_empty_samples(alloc: Global, count: u32) -> Result<Vec<u8>, AllocError> {
+pub(super) fn with_empty_samples(alloc: Global, count: u32) -> Result<Vec<u8>, AllocError> {
     let v1 = V1.as_slice();
     joined(
         alloc,
@@ -53,16 +72,49 @@ fn with_empty_samples(alloc: Global, count: u32) -> Result<Vec<u8>, AllocError> 
     )
 }
 
-/// How many bytes are written of a stream by one sample a fragment, and its totals.
-fn by_one(rt: &impl Abort, alloc: Global, stream: &[u8], index: bool) -> (u64, Totals) {
-    let cut = Cut::new(1, None, index).expect(rt, "one sample is allowed");
+/// What of a recut stream is looked at: how many bytes were written, some of them, and the totals.
+#[derive(Drop)]
+struct Looked {
+    bytes: u64,
+    kept: [u8; KEPT],
+    totals: Totals,
+}
+
+/// Recuts a stream by so many samples a fragment, and keeps the bytes at this offset.
+fn recut_by(
+    rt: &impl Abort,
+    alloc: Global,
+    samples: u32,
+    stream: &[u8],
+    index: bool,
+    kept_from: u64,
+) -> Looked {
+    let cut = Cut::new(samples, None, index).expect(rt, "so many samples are allowed");
     let mut r = FromSlice::new(stream, 4096, false);
-    let mut w = Counter { bytes: 0 };
+    let mut w = Counter {
+        bytes: 0,
+        kept_from,
+        kept: [0; KEPT],
+    };
     let mut ledger = Ledger::new(alloc, 1 << 20);
     let mut totals = Totals::new();
     let answer = split(&mut r, &mut w, &mut ledger, &cut, 4096, &mut totals);
     assert_eq!(rt; answer, Ok(()));
-    (w.bytes, totals)
+    Looked {
+        bytes: w.bytes,
+        kept: w.kept,
+        totals,
+    }
+}
+
+/// How many bytes are written of a stream by one sample a fragment, and its totals.
+fn by_one(rt: &impl Abort, alloc: Global, stream: &[u8], index: bool) -> (u64, Totals) {
+    let Looked {
+        bytes,
+        kept: _,
+        totals,
+    } = recut_by(rt, alloc, 1, stream, index, 0);
+    (bytes, totals)
 }
 
 #[test]
@@ -86,6 +138,37 @@ fn rows_of_an_index(rt: HostRuntime) -> Result<(), Fail> {
         (364 + 786_460 + 52 + 65_536 * 116, 65_536)
     );
     assert!(&rt; 65_536 <= totals.rows_read && totals.rows_read <= 983_040);
+    Ok(())
+}
+
+/// The first index stands at 364, behind the moov, and the second behind 65,535 fragments of 116 bytes, whose samples last 1,024
+/// ticks each: 67,107,840 in all.
+#[test]
+fn places_of_indexes(rt: HostRuntime) -> Result<(), Fail> {
+    let alloc = rt.alloc();
+    let stream = with_empty_samples(alloc, 65_536)?;
+    let first =
+        b"\0\x0c\0\x1csidx\x01\0\0\0\0\0\0\x01\0\0\xbb\x80\0\0\0\0\0\0\0\0\0\0\0\0\0\0\0\0\0\0\xff\xff\
+        \0\0\0\x74\0\0\x04\0\0\0\0\0";
+    let second =
+        b"\0\0\0\x34sidx\x01\0\0\0\0\0\0\x01\0\0\xbb\x80\0\0\0\0\x03\xff\xfc\0\0\0\0\0\0\0\0\0\0\0\0\x01\
+        \0\0\0\x74\0\0\x04\0\0\0\0\0";
+    for (at, index) in [(364, first), (8_388_884, second)] {
+        let looked = recut_by(&rt, alloc, 1, &stream, true, at);
+        assert_eq!(&rt;
+            (looked.bytes, looked.kept.as_slice()),
+            (8_389_052, index.as_slice()),
+            "at {at}"
+        );
+    }
+    Ok(())
+}
+
+#[test]
+fn a_million_samples_as_one_piece(rt: HostRuntime) -> Result<(), Fail> {
+    let stream = with_empty_samples(rt.alloc(), 1_000_000)?;
+    let looked = recut_by(&rt, rt.alloc(), 1_000_000, &stream, false, 0);
+    assert_eq!(&rt; (looked.bytes, looked.totals.fragments), (16_000_464, 1));
     Ok(())
 }
 
