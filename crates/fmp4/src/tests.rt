@@ -10,6 +10,7 @@ mod hostile;
 mod layouts;
 mod listings;
 mod memory;
+mod recuts;
 mod rows;
 mod split_stops;
 mod splits;

@@ -1,0 +1,81 @@
+//! Times of new fragments, and new fragments that are read again.
+
+use super::fragments::check_sound;
+use super::layouts::{MFHD, TFHD};
+use super::splits::{BY_TWO, by_two, check_bad, check_good};
+use super::wanted::{SYNC, piece_at, recut};
+use mp4_stream::vectors::V1;
+use std::test::Fail;
+
+#[test]
+fn samples_of_new_fragments(rt: HostRuntime) -> Result<(), Fail> {
+    let two = by_two(rt.alloc())?;
+    let lines = [
+        "track=1 dts=0 cts=0 dur=1024 size=5 flags=02000000 sync desc=1 at=496\n",
+        "track=1 dts=1024 cts=1024 dur=1024 size=7 flags=02000000 sync desc=1 at=501\n",
+        "track=1 dts=2048 cts=2048 dur=1024 size=3 flags=02000000 sync desc=1 at=624\n",
+    ];
+    let counts = "fragments=2 samples=3 media=15 held=65944\n";
+    check_sound(&rt, rt.alloc(), &[&two], &lines, counts)
+}
+
+#[test]
+fn sync_samples_again(rt: HostRuntime) -> Result<(), Fail> {
+    let (alloc, v1) = (rt.alloc(), V1.as_slice());
+    let ones = [
+        piece_at(1, 0, &[[5, SYNC]], &v1[468..473]),
+        piece_at(2, 1024, &[[7, SYNC]], &v1[473..480]),
+        piece_at(3, 2048, &[[3, SYNC]], &v1[480..]),
+    ];
+    let ones = recut(alloc, &[&v1[..364]], &ones)?;
+    let sync = ["--samples", "9", "--sync"];
+    check_good(&rt, alloc, &sync, &[v1], &ones)?;
+    check_good(&rt, alloc, &sync, &[&ones], &ones)
+}
+
+/// A second fragment without tfdt begins where the first ended.
+#[test]
+fn fragments_without_tfdt(rt: HostRuntime) -> Result<(), Fail> {
+    let (alloc, v1) = (rt.alloc(), V1.as_slice());
+    let stream = [
+        v1,
+        b"\0\0\0\x50moof".as_slice(),
+        MFHD,
+        b"\0\0\0\x38traf",
+        TFHD,
+        &v1[428..444],
+        b"\0\0\0\x58",
+        &v1[448..],
+    ];
+    let pair = [[5, SYNC], [7, SYNC]];
+    let all = [
+        piece_at(1, 0, &pair, &v1[468..480]),
+        piece_at(2, 2048, &[[3, SYNC]], &v1[480..]),
+        piece_at(3, 3072, &pair, &v1[468..480]),
+        piece_at(4, 5120, &[[3, SYNC]], &v1[480..]),
+    ];
+    let all = recut(alloc, &[&v1[..364]], &all)?;
+    check_good(&rt, alloc, &BY_TWO, &stream, &all)
+}
+
+/// The last sample may end with the last time that 64 bits hold, and not behind it.
+#[test]
+fn last_times(rt: HostRuntime) -> Result<(), Fail> {
+    let (alloc, v1) = (rt.alloc(), V1.as_slice());
+    let (front, end) = (&v1[..364], &v1[448..]);
+    let head = b"\0\0\0\x64moof\0\0\0\x10mfhd\0\0\0\0\0\0\0\x01\0\0\0\x4ctraf".as_slice();
+    let tfdt = b"\0\0\0\x14tfdt\x01\0\0\0".as_slice();
+    let run = b"\0\0\0\x20trun\0\0\x02\x01\0\0\0\x03\0\0\0\x6c".as_slice();
+    let base = 18_446_744_073_709_548_543u64;
+    let (last, late) = (base.to_be_bytes(), (base + 1).to_be_bytes());
+    let all = [
+        piece_at(1, base, &[[5, SYNC], [7, SYNC]], &v1[468..480]),
+        piece_at(2, base + 2048, &[[3, SYNC]], &v1[480..]),
+    ];
+    let all = recut(alloc, &[front], &all)?;
+    let last = [front, head, TFHD, tfdt, &last, run, end];
+    check_good(&rt, alloc, &BY_TWO, &last, &all)?;
+    let late = [front, head, TFHD, tfdt, &late, run, end];
+    let fault = "fmp4: 21 TimeRange in trun at 432\n";
+    check_bad(&rt, alloc, &late, front, fault)
+}
