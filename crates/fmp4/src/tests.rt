@@ -2,6 +2,7 @@
 
 ghost use Rattle.std.specs.Prelude.{◌≡◌, ◌<◌};
 
+mod boxes_between;
 mod ends;
 mod feeders;
 mod field_lengths;
