@@ -3,6 +3,7 @@
 ghost use Rattle.std.specs.Prelude.{◌≡◌, ◌<◌};
 
 mod boxes_between;
+mod calls;
 mod ends;
 mod feeders;
 mod field_lengths;

@@ -12,14 +12,14 @@ use std::process::Abort;
 use std::test::Fail;
 
 #[derive(Clone, Copy, PartialEq, Eq)]
-enum Command {
+pub(super) enum Command {
     Boxes,
     Samples,
     Check,
     Split,
 }
 
-const COMMANDS: [Command; 4] = [
+pub(super) const COMMANDS: [Command; 4] = [
     Command::Boxes,
     Command::Samples,
     Command::Check,
@@ -27,7 +27,7 @@ const COMMANDS: [Command; 4] = [
 ];
 
 impl Command {
-    fn words(self) -> &'static [&'static str] {
+    pub(super) fn words(self) -> &'static [&'static str] {
         match self {
             Command::Boxes => &["fmp4", "boxes"],
             Command::Samples => &["fmp4", "samples"],
@@ -48,7 +48,7 @@ impl Command {
 
     /// How many bytes of that are due behind the vector's first `k` bytes. The line of a box is due behind its header, those of a
     /// moov or moof behind the box, and those of samples behind their mdat's header.
-    fn due(self, k: usize) -> usize {
+    pub(super) fn due(self, k: usize) -> usize {
         let (ftyp, moov) = (FTYP.len(), FTYP.len() + MOOV.len());
         match (self, k) {
             (Command::Boxes, 0..8) => 0,
