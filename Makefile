@@ -3,7 +3,7 @@
 # make wrong_bodies tries the wrong bodies that the tests leave out
 # make install      puts the program and its manual page below PREFIX
 # All but install and manual need Rattle's toolchain. The targets below install are for working on fmp4.
-IN ?= crates/fmp4/stdin
+IN ?= crates/sound_stream/stdin
 PREFIX ?= /usr/local
 
 .PHONY: demo build moof_runs cut_pieces push_pieces test wrong_bodies install refusals manual bench
