@@ -35,6 +35,8 @@ impl<R: Source> Source for Counted<R> {
 
     ghost has_ended = { λ s. R.has_ended s.inner };
 
+    ghost last_read = { λ s. R.last_read s.inner };
+
     fn read(&mut self, into: &mut [u8]) -> Result<usize, Failed> {
         self.calls = self.calls.saturating_add(1);
         self.inner.read(into)
@@ -159,6 +161,8 @@ impl<'a, R: Source> Source for Looking<'a, R> {
     ghost has_failed = { λ s. R.has_failed s.inner };
 
     ghost has_ended = { λ s. R.has_ended s.inner };
+
+    ghost last_read = { λ s. R.last_read s.inner };
 
     fn read(&mut self, into: &mut [u8]) -> Result<usize, Failed> {
         if self.late.is_none() && self.taken.get() != self.command.due(self.given) {

@@ -1,7 +1,7 @@
 //! Streams that are pushed in piece by piece. What must come of the first vector by two samples a fragment is a table, by how
 //! many of its bytes came.
 
-ghost use Rattle.std.specs.Prelude.{◌≡◌, ◌+◌, ◌≤◌};
+ghost use Rattle.std.specs.Prelude.{◌≡◌, ◌+◌, ◌<◌, ◌≤◌};
 ghost use Rattle.mp4_stream.specs.Feeders.{held_by};
 
 use super::ends::due_of_split;
