@@ -1,9 +1,9 @@
 //! Payloads of a length that their fields don't have. A moof is read in three ways, and each must refuse them: in a straight
 //! line where it has just one traf and one trun, in one pass over its boxes, and rule by rule.
 
-use super::check_words;
 use super::fragments::check_fault;
 use super::layouts::{MFHD, TFHD};
+use super::{check_words, joined};
 use mp4_stream::vectors::V1;
 use std::alloc::{AllocError, Global};
 use std::process::Abort;
@@ -14,15 +14,20 @@ fn box_of(alloc: Global, kind: &[u8; 4], front: &[u8], len: usize) -> Result<Vec
     let mut payload = Vec::new(alloc);
     payload.extend_from_slice(&front[..len.min(front.len())])?;
     payload.resize(len, 0)?;
-    boxed(alloc, kind, &[&payload])
+    boxed(alloc, kind, &payload, b"", b"")
 }
 
 /// A box of these parts.
-fn boxed(alloc: Global, kind: &[u8; 4], parts: &[&[u8]]) -> Result<Vec<u8>, AllocError> {
-    let mut payload = Vec::new(alloc);
-    for part in parts {
-        payload.extend_from_slice(part)?;
-    }
+fn boxed(
+    alloc: Global,
+    kind: &[u8; 4],
+    first: &[u8],
+    second: &[u8],
+    third: &[u8],
+) -> Result<Vec<u8>, AllocError> {
+    let mut payload = first.to_vec(alloc)?;
+    payload.extend_from_slice(second)?;
+    payload.extend_from_slice(third)?;
     let size = u32::try_from(payload.len()).unwrap_or(0).saturating_add(8);
     let mut all = Vec::new(alloc);
     all.extend_from_slice(&size.to_be_bytes())?;
@@ -60,20 +65,23 @@ impl Header {
 
     /// The first vector with this box in its place.
     fn stream(self, alloc: Global, header: &[u8]) -> Result<Vec<u8>, AllocError> {
-        let v1 = V1.as_slice();
-        let (tkhd, mdhd) = match self {
-            Header::Tkhd => (header, &v1[244..276]),
-            Header::Mdhd => (&v1[144..236], header),
-        };
-        let mdia = boxed(alloc, b"mdia", &[mdhd, &v1[276..324]])?;
-        let trak = boxed(alloc, b"trak", &[tkhd, &mdia])?;
-        let moov = boxed(alloc, b"moov", &[&v1[28..136], &trak, &v1[324..364]])?;
-        let mut all = Vec::new(alloc);
-        for part in [&v1[..20], &moov, &v1[364..]] {
-            all.extend_from_slice(part)?;
+        match self {
+            Header::Tkhd => with_headers(alloc, header, &V1.as_slice()[244..276]),
+            Header::Mdhd => with_headers(alloc, &V1.as_slice()[144..236], header),
         }
-        Ok(all)
     }
+}
+
+/// The first vector with these boxes in place of its tkhd and its mdhd.
+fn with_headers(alloc: Global, tkhd: &[u8], mdhd: &[u8]) -> Result<Vec<u8>, AllocError> {
+    let (mvhd, mvex) = (&V1.as_slice()[28..136], &V1.as_slice()[324..364]);
+    let mdia = boxed(alloc, b"mdia", mdhd, &V1.as_slice()[276..324], b"")?;
+    let trak = boxed(alloc, b"trak", tkhd, &mdia, b"")?;
+    let mut all = V1.as_slice()[..20].to_vec(alloc)?;
+    let moov = boxed(alloc, b"moov", mvhd, &trak, mvex)?;
+    all.extend_from_slice(&moov)?;
+    all.extend_from_slice(&V1.as_slice()[364..])?;
+    Ok(all)
 }
 
 /// The front of a header whose payload has this length: up to its track_ID or timescale, behind which zeros are as good as any.
@@ -121,10 +129,12 @@ fn headers_of_tracks(rt: HostRuntime) -> Result<(), Fail> {
         len,
         counts,
     } in FRONTS {
-        let right = of.stream(alloc, &box_of(alloc, of.kind(), bytes, len)?)?;
+        let right = box_of(alloc, of.kind(), bytes, len)?;
+        let right = of.stream(alloc, &right)?;
         check_words(&rt, alloc, &["fmp4", "check"], &[&right], 0, &[counts], "")?;
         for wrong in wrong_lengths(len) {
-            let stream = of.stream(alloc, &box_of(alloc, of.kind(), bytes, wrong)?)?;
+            let wrong = box_of(alloc, of.kind(), bytes, wrong)?;
+            let stream = of.stream(alloc, &wrong)?;
             check_fault(&rt, alloc, &[&stream], &[], of.fault())?;
         }
     }
@@ -171,24 +181,36 @@ impl Part {
         }
     }
 
-    /// The first vector's moof with this box in its place. With a second traf the moof isn't read in a straight line, and with one
-    /// without tfdt not in one pass.
+    /// The first vector's traf with this box in its place, if that is in a traf.
+    fn traf(self, alloc: Global, part: &[u8]) -> Result<Vec<u8>, AllocError> {
+        let (tfdt, trun) = (&V1.as_slice()[412..428], &V1.as_slice()[428..460]);
+        match self {
+            Part::Mfhd => boxed(alloc, b"traf", TFHD, tfdt, trun),
+            Part::Tfhd => boxed(alloc, b"traf", part, tfdt, trun),
+            Part::Tfdt => boxed(alloc, b"traf", TFHD, part, trun),
+            Part::Trun => boxed(alloc, b"traf", TFHD, tfdt, part),
+        }
+    }
+
+    /// Its moof with this box in its place.
     fn moof(self, alloc: Global, way: Way, part: &[u8]) -> Result<Vec<u8>, AllocError> {
-        let v1 = V1.as_slice();
-        let (tfdt, trun) = (&v1[412..428], &v1[428..460]);
-        let (mfhd, tfhd, tfdt, trun) = match self {
-            Part::Mfhd => (part, TFHD, tfdt, trun),
-            Part::Tfhd => (MFHD, part, tfdt, trun),
-            Part::Tfdt => (MFHD, TFHD, part, trun),
-            Part::Trun => (MFHD, TFHD, tfdt, part),
-        };
-        let traf = boxed(alloc, b"traf", &[tfhd, tfdt, trun])?;
-        let timed = boxed(alloc, b"traf", &[TFHD, &v1[412..428]])?;
-        let untimed = boxed(alloc, b"traf", &[TFHD])?;
-        match way {
-            Way::Straight => boxed(alloc, b"moof", &[mfhd, &traf]),
-            Way::OnePass => boxed(alloc, b"moof", &[mfhd, &traf, &timed]),
-            Way::ByRules => boxed(alloc, b"moof", &[mfhd, &untimed, &traf]),
+        let traf = self.traf(alloc, part)?;
+        match self {
+            Part::Mfhd => way.moof(alloc, part, &traf),
+            Part::Tfhd | Part::Tfdt | Part::Trun => way.moof(alloc, MFHD, &traf),
+        }
+    }
+}
+
+impl Way {
+    /// A moof of these boxes. With a second traf it isn't read in a straight line, and with one without tfdt not in one pass.
+    fn moof(self, alloc: Global, mfhd: &[u8], traf: &[u8]) -> Result<Vec<u8>, AllocError> {
+        let timed = boxed(alloc, b"traf", TFHD, &V1.as_slice()[412..428], b"")?;
+        let untimed = boxed(alloc, b"traf", TFHD, b"", b"")?;
+        match self {
+            Way::Straight => boxed(alloc, b"moof", mfhd, traf, b""),
+            Way::OnePass => boxed(alloc, b"moof", mfhd, traf, &timed),
+            Way::ByRules => boxed(alloc, b"moof", mfhd, &untimed, traf),
         }
     }
 }
@@ -207,16 +229,21 @@ const PARTS: [(Part, &[u8], usize); 6] = [
     ),
 ];
 
+/// The first vector with this moof in place of its own.
+fn with_moof(alloc: Global, moof: &[u8]) -> Result<Vec<u8>, AllocError> {
+    joined(alloc, &[&V1.as_slice()[..364], moof, &V1.as_slice()[460..]])
+}
+
 #[test]
 fn boxes_of_moofs(rt: HostRuntime) -> Result<(), Fail> {
-    let (alloc, v1) = (rt.alloc(), V1.as_slice());
+    let alloc = rt.alloc();
     for (part, front, len) in PARTS {
         for way in [Way::Straight, Way::OnePass, Way::ByRules] {
             for wrong in wrong_lengths(len) {
                 let wrong = box_of(alloc, part.kind(), front, wrong)?;
                 let moof = part.moof(alloc, way, &wrong)?;
-                let stream = [&v1[..364], &moof, &v1[460..]];
-                check_fault(&rt, alloc, &stream, &[], part.fault(way))?;
+                let stream = with_moof(alloc, &moof)?;
+                check_fault(&rt, alloc, &[&stream], &[], part.fault(way))?;
             }
         }
     }

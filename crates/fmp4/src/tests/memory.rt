@@ -57,41 +57,46 @@ fn limits(rt: HostRuntime) -> Result<(), Fail> {
     )
 }
 
+/// Lists the samples of a stream and checks it under a limit: its lines and its counts, or none where the limit is passed.
+fn check_listings(
+    rt: &impl Abort,
+    alloc: Global,
+    limit: &'static str,
+    stream: &[u8],
+    lines: &[&str],
+    counts: &'static str,
+) -> Result<(), Fail> {
+    let (status, fault) = if counts.is_empty() {
+        (4, "fmp4: over the limit\n")
+    } else {
+        (0, "")
+    };
+    let samples = ["fmp4", "samples", "--max-held", limit];
+    check_words(rt, alloc, &samples, &[stream], status, lines, fault)?;
+    let check = ["fmp4", "check", "--max-held", limit];
+    check_words(rt, alloc, &check, &[stream], status, &[counts], fault)
+}
+
 /// Each claim of the commands that read fragments, one byte too large and just small enough: the bytes that are read into, the moov
 /// of 344 bytes with the table of its track, and the moof of 496 with the list of its runs.
 #[test]
 fn limits_of_listings(rt: HostRuntime) -> Result<(), Fail> {
     let alloc = rt.alloc();
+    for limit in ["65535", "65536", "65879", "65880", "65943"] {
+        check_listings(&rt, alloc, limit, V1.as_slice(), &[], "")?;
+    }
+    check_listings(&rt, alloc, "65944", V1.as_slice(), &SAMPLES, COUNTS)?;
     let large = with_a_large_moof(alloc)?;
-    let shifted = [
+    for limit in ["66095", "66096", "66159"] {
+        check_listings(&rt, alloc, limit, &large, &[], "")?;
+    }
+    let lines = [
         "track=1 dts=0 cts=0 dur=1024 size=5 flags=02000000 sync desc=1 at=868\n",
         "track=1 dts=1024 cts=1024 dur=1024 size=7 flags=02000000 sync desc=1 at=873\n",
         "track=1 dts=2048 cts=2048 dur=1024 size=3 flags=02000000 sync desc=1 at=880\n",
     ];
-    let more = "fragments=1 samples=3 media=15 held=66160\n";
-    for (limit, stream, lines, counts) in [
-        ("65535", V1.as_slice(), [""; 3], ""),
-        ("65536", V1.as_slice(), [""; 3], ""),
-        ("65879", V1.as_slice(), [""; 3], ""),
-        ("65880", V1.as_slice(), [""; 3], ""),
-        ("65943", V1.as_slice(), [""; 3], ""),
-        ("65944", V1.as_slice(), SAMPLES, COUNTS),
-        ("66095", &large, [""; 3], ""),
-        ("66096", &large, [""; 3], ""),
-        ("66159", &large, [""; 3], ""),
-        ("66160", &large, shifted, more),
-    ] {
-        let (status, over) = if counts.is_empty() {
-            (4, "fmp4: over the limit\n")
-        } else {
-            (0, "")
-        };
-        let samples = ["fmp4", "samples", "--max-held", limit];
-        check_words(&rt, alloc, &samples, &[stream], status, &lines, over)?;
-        let check = ["fmp4", "check", "--max-held", limit];
-        check_words(&rt, alloc, &check, &[stream], status, &[counts], over)?;
-    }
-    Ok(())
+    let counts = "fragments=1 samples=3 media=15 held=66160\n";
+    check_listings(&rt, alloc, "66160", &large, &lines, counts)
 }
 
 /// Lists the boxes of these bytes under a limit: the answer, and the most that was claimed at once.

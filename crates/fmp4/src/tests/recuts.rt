@@ -1,10 +1,12 @@
 //! Times of new fragments, and new fragments that are read again.
 
 use super::fragments::check_sound;
+use super::joined;
 use super::layouts::{MFHD, TFHD};
 use super::splits::{BY_TWO, by_two, check_bad, check_good};
 use super::wanted::{SYNC, piece_at, recut};
 use mp4_stream::vectors::V1;
+use std::alloc::{AllocError, Global};
 use std::test::Fail;
 
 #[test]
@@ -58,24 +60,39 @@ fn fragments_without_tfdt(rt: HostRuntime) -> Result<(), Fail> {
     check_good(&rt, alloc, &BY_TWO, &stream, &all)
 }
 
+/// The first vector with this base time in 64 bits.
+fn with_time(alloc: Global, time: u64) -> Result<Vec<u8>, AllocError> {
+    let v1 = V1.as_slice();
+    joined(
+        alloc,
+        &[
+            &v1[..364],
+            b"\0\0\0\x64moof",
+            MFHD,
+            b"\0\0\0\x4ctraf",
+            TFHD,
+            b"\0\0\0\x14tfdt\x01\0\0\0",
+            &time.to_be_bytes(),
+            &v1[428..444],
+            b"\0\0\0\x6c",
+            &v1[448..],
+        ],
+    )
+}
+
 /// The last sample may end with the last time that 64 bits hold, and not behind it.
 #[test]
 fn last_times(rt: HostRuntime) -> Result<(), Fail> {
     let (alloc, v1) = (rt.alloc(), V1.as_slice());
-    let (front, end) = (&v1[..364], &v1[448..]);
-    let head = b"\0\0\0\x64moof\0\0\0\x10mfhd\0\0\0\0\0\0\0\x01\0\0\0\x4ctraf".as_slice();
-    let tfdt = b"\0\0\0\x14tfdt\x01\0\0\0".as_slice();
-    let run = b"\0\0\0\x20trun\0\0\x02\x01\0\0\0\x03\0\0\0\x6c".as_slice();
-    let base = 18_446_744_073_709_548_543u64;
-    let (last, late) = (base.to_be_bytes(), (base + 1).to_be_bytes());
+    let pair = [[5, SYNC], [7, SYNC]];
     let all = [
-        piece_at(1, base, &[[5, SYNC], [7, SYNC]], &v1[468..480]),
-        piece_at(2, base + 2048, &[[3, SYNC]], &v1[480..]),
+        piece_at(1, 18_446_744_073_709_548_543, &pair, &v1[468..480]),
+        piece_at(2, 18_446_744_073_709_550_591, &[[3, SYNC]], &v1[480..]),
     ];
-    let all = recut(alloc, &[front], &all)?;
-    let last = [front, head, TFHD, tfdt, &last, run, end];
-    check_good(&rt, alloc, &BY_TWO, &last, &all)?;
-    let late = [front, head, TFHD, tfdt, &late, run, end];
+    let all = recut(alloc, &[&v1[..364]], &all)?;
+    let last = with_time(alloc, 18_446_744_073_709_548_543)?;
+    check_good(&rt, alloc, &BY_TWO, &[&last], &all)?;
+    let late = with_time(alloc, 18_446_744_073_709_548_544)?;
     let fault = "fmp4: 21 TimeRange in trun at 432\n";
-    check_bad(&rt, alloc, &late, front, fault)
+    check_bad(&rt, alloc, &[&late], &v1[..364], fault)
 }
