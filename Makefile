@@ -1,15 +1,17 @@
-# make demo         proves and builds the program, and lists the boxes of a small stream (IN=stream.mp4: of yours)
+# make demo         builds the program if it isn't there, and recuts a stream (IN=stream.mp4: yours, SAMPLES=15)
+# make build        proves and builds the program
 # make test         proves everything from nothing, and runs every test
 # make wrong_bodies tries the wrong bodies that the tests leave out
 # make install      puts the program and its manual page below PREFIX
 # All but install and manual need Rattle's toolchain. The targets below install are for working on fmp4.
-IN ?= crates/sound_stream/stdin
+IN ?= crates/real_streams/data/audio.mp4
+SAMPLES ?= 15
 PREFIX ?= /usr/local
 
-.PHONY: demo build moof_runs cut_pieces push_pieces test wrong_bodies install refusals manual bench
+.PHONY: demo build moof_runs cut_pieces push_pieces test wrong_bodies install refusals recipes manual bench
 
-demo: build
-	@crates/fmp4/out/fmp4 boxes < "$(IN)"
+demo:
+	@scripts/demo "$(IN)" "$(SAMPLES)"
 
 build:
 	@scripts/build fmp4 boxes
@@ -27,6 +29,7 @@ test:
 	@scripts/needs_rt
 	@echo "proving everything from nothing and running the tests: about an hour on 4 cores" >&2
 	@rt ci
+	@scripts/refused_allocations
 
 # Tries the wrong bodies in crates/*/wrong, with what is built.
 wrong_bodies: build
@@ -38,9 +41,13 @@ install:
 	install -m 755 crates/fmp4/out/fmp4 "$(DESTDIR)$(PREFIX)/bin/fmp4"
 	install -m 644 docs/fmp4.1 "$(DESTDIR)$(PREFIX)/share/man/man1/fmp4.1"
 
-# Runs the program with each of its allocations refused in turn, and a Feeder.
+# Runs the program with each of its allocations refused in turn, and a Feeder; make test does so too.
 refusals: build push_pieces
 	@scripts/refused_allocations
+
+# Runs the command lines of the recipes and of the front page, and compares what they print.
+recipes: build
+	@scripts/recipes docs/RECIPES.md README.md
 
 # Formats the manual page and looks whether all is there.
 manual:

@@ -44,6 +44,13 @@ impl Sink for Counter {
     }
 }
 
+/// What came of a stream: the totals or why it stopped, and how many bytes are claimed still.
+#[derive(Clone, Copy)]
+struct Outcome {
+    answer: Result<Totals, Stop>,
+    live: u64,
+}
+
 /// A Feeder, and the ledger that serves it.
 struct Pushed {
     feeder: Feeder,
@@ -70,21 +77,19 @@ impl Pushed {
     }
 
     /// Ends the stream.
-    fn finish(self) -> Result<Totals, Stop> {
+    fn finish(self) -> Outcome {
         let Pushed { feeder, ledger } = self;
         let mut ledger = ledger;
-        feeder.finish(&mut ledger)
+        let answer = feeder.finish(&mut ledger);
+        Outcome {
+            answer,
+            live: ledger.live(),
+        }
     }
 }
 
 /// Cuts a stream that comes in pieces of so many bytes.
-fn push_stream(
-    alloc: Global,
-    stream: &[u8],
-    len: usize,
-    cut: Cut,
-    w: &mut Counter,
-) -> Result<Totals, Stop>
+fn push_stream(alloc: Global, stream: &[u8], len: usize, cut: Cut, w: &mut Counter) -> Outcome
     requires { 0 < len }
 {
     let mut pushed = Pushed::new(alloc, cut);
@@ -94,24 +99,22 @@ fn push_stream(
 }
 
 /// Cuts a stream that is read.
-fn read_stream(alloc: Global, stream: &[u8], cut: Cut, w: &mut Counter) -> Result<Totals, Stop> {
+fn read_stream(alloc: Global, stream: &[u8], cut: Cut, w: &mut Counter) -> Outcome {
     let mut ledger = Ledger::new(alloc, LIMIT);
     let mut totals = Totals::new();
     let mut r = FromSlice::new(stream, PIECE as usize, false);
-    match split(&mut r, w, &mut ledger, &cut, PIECE, &mut totals) {
+    let answer = match split(&mut r, w, &mut ledger, &cut, PIECE, &mut totals) {
         Ok(()) => Ok(totals),
         Err(stop) => Err(stop),
+    };
+    Outcome {
+        answer,
+        live: ledger.live(),
     }
 }
 
 /// Cuts a stream, in pieces of so many bytes or as a whole.
-fn cut_stream(
-    alloc: Global,
-    stream: &[u8],
-    len: usize,
-    cut: Cut,
-    w: &mut Counter,
-) -> Result<Totals, Stop> {
+fn cut_stream(alloc: Global, stream: &[u8], len: usize, cut: Cut, w: &mut Counter) -> Outcome {
     if len == 0 {
         read_stream(alloc, stream, cut, w)
     } else {
@@ -132,9 +135,10 @@ fn print_counts(rt: &HostRuntime) -> io::Result<()> {
         let _ = cut_stream(rt.alloc(), stream, len, cut, &mut Counter { bytes: 0 });
     }
     let mut w = Counter { bytes: 0 };
-    match cut_stream(rt.alloc(), stream, len, cut, &mut w) {
+    let Outcome { answer, live } = cut_stream(rt.alloc(), stream, len, cut, &mut w);
+    match answer {
         Ok(totals) => println!(rt; "{} fragments, {} bytes", totals.fragments, w.bytes),
-        Err(_) => println!(rt; "it stops behind {} bytes", w.bytes),
+        Err(stop) => println!(rt; "{stop:?} behind {} bytes, {live} claimed", w.bytes),
     }
 }
 
