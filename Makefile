@@ -2,13 +2,17 @@
 # make build        proves and builds the program
 # make test         proves everything from nothing, and runs every test
 # make wrong_bodies tries the wrong bodies that the tests leave out
-# make install      puts the program and its manual page below PREFIX
+# make install      puts the program, its manual page and completions below PREFIX
+# make dist         packs what install installs: a tar.gz and a Debian package
 # All but install and manual need Rattle's toolchain. The targets below install are for working on fmp4.
 IN ?= crates/real_streams/data/audio.mp4
 SAMPLES ?= 15
 PREFIX ?= /usr/local
+SHARE = $(DESTDIR)$(PREFIX)/share
+VERSION = $(shell cat VERSION)
+COMMIT = $(shell git rev-parse --short HEAD)
 
-.PHONY: demo build moof_runs cut_pieces push_pieces test wrong_bodies install refusals recipes manual bench
+.PHONY: demo build moof_runs cut_pieces push_pieces test wrong_bodies install dist refusals recipes manual bench
 
 demo:
 	@scripts/demo "$(IN)" "$(SAMPLES)"
@@ -37,9 +41,17 @@ wrong_bodies: build
 
 install:
 	@test -x crates/fmp4/out/fmp4 || { echo "there is no crates/fmp4/out/fmp4: run 'make build' first" >&2; exit 1; }
-	install -d "$(DESTDIR)$(PREFIX)/bin" "$(DESTDIR)$(PREFIX)/share/man/man1"
-	install -m 755 crates/fmp4/out/fmp4 "$(DESTDIR)$(PREFIX)/bin/fmp4"
-	install -m 644 docs/fmp4.1 "$(DESTDIR)$(PREFIX)/share/man/man1/fmp4.1"
+	install -d "$(SHARE)/man/man1" "$(SHARE)/bash-completion/completions" "$(SHARE)/zsh/site-functions" \
+	    "$(SHARE)/fish/vendor_completions.d" "$(DESTDIR)$(PREFIX)/bin"
+	install -s -m 755 crates/fmp4/out/fmp4 "$(DESTDIR)$(PREFIX)/bin/fmp4"
+	sed "1s/ fmp4 / \"fmp4 $(VERSION), $(COMMIT)\" /" docs/fmp4.1 > "$(SHARE)/man/man1/fmp4.1"
+	install -m 644 completions/fmp4.bash "$(SHARE)/bash-completion/completions/fmp4"
+	install -m 644 completions/_fmp4 "$(SHARE)/zsh/site-functions/_fmp4"
+	install -m 644 completions/fmp4.fish "$(SHARE)/fish/vendor_completions.d/fmp4.fish"
+
+# Packs what install installs, for machines without Rattle.
+dist: build
+	@scripts/dist
 
 # Runs the program with each of its allocations refused in turn, and a Feeder; make test does so too.
 refusals: build push_pieces

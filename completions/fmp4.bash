@@ -1,0 +1,12 @@
+# bash completion for fmp4
+_fmp4() {
+  local word=${COMP_WORDS[COMP_CWORD]} before=${COMP_WORDS[COMP_CWORD-1]} options='--copy --max-held'
+  if [ "$COMP_CWORD" = 1 ]; then
+    mapfile -t COMPREPLY < <(compgen -W 'split boxes samples check' -- "$word")
+    return
+  fi
+  case $before in --samples | --bytes | --copy | --max-held) return ;; esac
+  [ "${COMP_WORDS[1]}" = split ] && options="--samples --bytes --index --sync $options"
+  mapfile -t COMPREPLY < <(compgen -W "$options" -- "$word")
+}
+complete -F _fmp4 fmp4

@@ -1,0 +1,13 @@
+# fish completion for fmp4
+complete -c fmp4 -f
+complete -c fmp4 -n __fish_use_subcommand -a split -d 'write the stream with shorter fragments'
+complete -c fmp4 -n __fish_use_subcommand -a boxes -d 'list the boxes'
+complete -c fmp4 -n __fish_use_subcommand -a samples -d 'list the samples'
+complete -c fmp4 -n __fish_use_subcommand -a check -d 'check the stream'
+set -l commands split boxes samples check
+complete -c fmp4 -n "__fish_seen_subcommand_from $commands" -l copy -x -d 'the most bytes of a read, 4096 to 1048576'
+complete -c fmp4 -n "__fish_seen_subcommand_from $commands" -l max-held -x -d 'the most memory for the stream'
+complete -c fmp4 -n '__fish_seen_subcommand_from split' -l samples -x -d 'the most samples of a fragment'
+complete -c fmp4 -n '__fish_seen_subcommand_from split' -l bytes -x -d 'the most bytes of media of a fragment'
+complete -c fmp4 -n '__fish_seen_subcommand_from split' -l index -d 'write an sidx before each run'
+complete -c fmp4 -n '__fish_seen_subcommand_from split' -l sync -d 'begin a fragment at each sync sample'
