@@ -33,7 +33,7 @@ test:
 	@scripts/needs_rt
 	@echo "proving everything from nothing and running the tests: about an hour on 4 cores" >&2
 	@rt ci
-	@scripts/refused_allocations
+	@if command -v cc > /dev/null; then scripts/refused_allocations; else echo "no C compiler: refused allocations weren't tried" >&2; fi
 
 # Tries the wrong bodies in crates/*/wrong, with what is built.
 wrong_bodies: build
@@ -57,9 +57,9 @@ dist: build
 refusals: build push_pieces
 	@scripts/refused_allocations
 
-# Runs the command lines of the recipes and of the front page, and compares what they print.
+# Runs the command lines of the recipes and of the front page, compares what they print, and runs the manual page's examples.
 recipes: build
-	@scripts/recipes docs/RECIPES.md README.md
+	@scripts/recipes docs/RECIPES.md README.md docs/fmp4.1
 
 # Formats the manual page and looks whether all is there.
 manual:
