@@ -12,7 +12,7 @@ SHARE = $(DESTDIR)$(PREFIX)/share
 VERSION = $(shell cat VERSION)
 COMMIT = $(shell git rev-parse --short HEAD)
 
-.PHONY: demo build moof_runs cut_pieces push_pieces test wrong_bodies install dist refusals recipes manual bench
+.PHONY: demo build moof_runs cut_pieces push_pieces test wrong_bodies install dist refusals recipes play manual bench
 
 demo:
 	@scripts/demo "$(IN)" "$(SAMPLES)"
@@ -60,6 +60,10 @@ refusals: build push_pieces
 # Runs the command lines of the recipes and of the front page, compares what they print, and runs the manual page's examples.
 recipes: build
 	@scripts/recipes docs/RECIPES.md README.md docs/fmp4.1
+
+# Plays recut streams in the clients that are installed.
+play: build
+	@scripts/play
 
 # Formats the manual page and looks whether all is there.
 manual:
