@@ -1,7 +1,6 @@
 -- Effects of which each fragment ends past some text.
-use Rattle.std.proofs.Common.{◌≡◌, ℕ, zero, suc, ◌+◌, ◌<◌, ◌≤◌, List, [], ◌∷◌, ◌++◌, length, take, drop, Bool, true, false, arith, refl}
-use Rattle.std.specs.List.{AllByRecursion}
-use Rattle.std.specs.Prelude.{nat_lt, if◌then◌else◌}
+use Rattle.std.proofs.Common.{◌≡◌, ℕ, zero, suc, ◌+◌, ◌≤◌, List, [], ◌∷◌, ◌++◌, length, take, Bool, true, false, arith, refl}
+use Rattle.std.specs.Prelude.{nat_lt}
 use Rattle.mp4_box.specs.declared.headers.FourCc.{FourCc}
 use Rattle.mp4_machine.specs.Bodies.{body_item, open_body_item}
 use Rattle.mp4_machine.specs.Readings.{ArePast, Effects, FirstItem, Last, Reading, Whole, after_effects, both, moved, read_all, read_at_most, then_read}

@@ -1,8 +1,8 @@
 -- Of what has no room the lower rule is told: that of an index.
-use Rattle.std.proofs.Common.{◌≡◌, ◌⊎◌, ℕ, Bool, true, false, cond, List, [], ◌∷◌, ◌++◌, Option, Some, refl, sym, ap, subst, inl, inr}
+use Rattle.std.proofs.Common.{◌≡◌, ◌⊎◌, ℕ, Bool, true, false, cond, List, [], ◌∷◌, ◌++◌, Some, refl, sym, ap, subst, inl, inr}
 use Rattle.std.specs.Prelude.{◌&&◌}
 use Rattle.std.specs.List.{AllByRecursion, list_any}
-use Rattle.mp4_box.specs.Order.{IsIn, IsLeast, comes_first, least}
+use Rattle.mp4_box.specs.Order.{IsIn, comes_first}
 use Rattle.mp4_box.specs.declared.rules.Fault.{Fault}
 use Rattle.mp4_box.specs.declared.rules.Rule.TheVariants.{IndexRange, SequenceEnd}
 use Rattle.mp4_box.proofs.OrderLemmas.{least-is}
