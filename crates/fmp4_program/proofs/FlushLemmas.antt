@@ -1,5 +1,5 @@
 -- What a flush behind a run leaves of what the run brought.
-use Rattle.std.proofs.Common.{◌≡◌, Bool, true, false, List, ℕ, Ok, Err, Option, Result, refl}
+use Rattle.std.proofs.Common.{◌≡◌, Bool, true, false, List, ℕ, Ok, Err, Option, Result}
 use Rattle.std.specs.Io.KnownBytes.{Keeps}
 use Rattle.std.specs.Prelude.{IfErr, OnOk}
 use Rattle.mp4_ends.proofs.StreamLemmas.{Appends-kept}
@@ -13,7 +13,7 @@ use Rattle.mp4_recut.specs.declared.plan.Plan.{Plan}
 use Rattle.mp4_stream.specs.Fragments.{ReadsFragments}
 use Rattle.mp4_stream.specs.HeldBoxes.{ReadsBoxes}
 use Rattle.mp4_stream.specs.declared.run.Totals.{Totals}
-use Rattle.fmp4_program.specs.Runs.{Flushes, RunsAndFlushes}
+use Rattle.fmp4_program.specs.Runs.{Flushes}
 
 -- what was written stays written
 Runs-kept : {T : Type 0} {whole : List ℕ → Reading} {ends : Ends} {claims : Claims} {tally : Tally} {t : T} (u : Option (List ℕ)) → ReadsStream {T = T} whole ends claims tally (Ok t) → Keeps ends.written' u → ReadsStream {T = T} whole (record ends { written' = u }) claims tally (Ok t)

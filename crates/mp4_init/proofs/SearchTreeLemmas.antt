@@ -7,7 +7,7 @@ use Rattle.mp4_init.specs.declared.search_tree.Ending.{Ending}
 use Rattle.mp4_init.specs.declared.search_tree.Ending.TheVariants.{Found, Behind, Unasked}
 use Rattle.mp4_init.specs.declared.search_tree.Link.{Link}
 use Rattle.mp4_init.specs.declared.search_tree.Node.{Node}
-use Rattle.mp4_init.specs.Working.SearchTrees.{or_before, ending, ending_from, found_at, link_at, next_by, sought, no_node}
+use Rattle.mp4_init.specs.Working.SearchTrees.{or_before, ending_from, link_at, next_by}
 
 -- ---- numbers that are the same, and lists
 

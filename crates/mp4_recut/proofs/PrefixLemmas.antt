@@ -1,11 +1,9 @@
 -- What is played of a prefix of a payload: the parts of which all bytes came, the next head, and the bytes of its span that came.
-use Rattle.std.proofs.Common.{◌≡◌, ◌∙◌, ℕ, zero, suc, ◌+◌, ◌-◌, ◌<◌, ◌≤◌, List, [], ◌∷◌, ◌++◌, length, take, drop, Bool, true, false, ap, sym, refl, arith, append_assoc, length-drop, length-take, subst}
-use Rattle.std.specs.List.{AllByRecursion}
-use Rattle.std.specs.Prelude.{nat_lt, if◌then◌else◌}
+use Rattle.std.proofs.Common.{◌≡◌, ◌∙◌, ℕ, zero, suc, ◌+◌, ◌-◌, ◌<◌, ◌≤◌, List, [], ◌∷◌, ◌++◌, length, take, drop, Bool, true, false, ap, sym, refl, arith, append_assoc, length-drop, length-take}
+use Rattle.std.specs.Prelude.{nat_lt}
 use Rattle.std.proofs.lemmas.Bool.{ltb-true, ltb-false}
 use Rattle.std.proofs.lemmas.List.{drop-drop}
-use Rattle.mp4_machine.specs.Readings.{Effects, both, says}
-use Rattle.mp4_recut.specs.Parts.{Ascends, ascends_from, CameOf, CameWhole, IsMissing, Part, open_part, opens, played, slices, span_from, span_of}
+use Rattle.mp4_recut.specs.Parts.{Ascends, ascends_from, CameOf, CameWhole, Part, open_part, played, slices, span_from, span_of}
 
 -- what a prefix has from a place on that lies in it is what all has there
 take-inside : (k d n : ℕ) (l : List ℕ) → d + k ≤ n → take k (drop d (take n l)) ≡ take k (drop d l)

@@ -1,5 +1,5 @@
 -- Working: how a track stands in a row of eight numbers: its values in the first five, and the links of its node in two more.
-use Rattle.std.specs.Prelude.{ℕ, List, ◌/◌, ◌%◌, ◌^◌, slice_index, zero, suc, [], ◌∷◌}
+use Rattle.std.specs.Prelude.{ℕ, List, ◌/◌, ◌%◌, ◌^◌, slice_index}
 use Rattle.mp4_init.specs.declared.search_tree.Node.{Node}
 use Rattle.mp4_init.specs.declared.table.Track.{Track}
 

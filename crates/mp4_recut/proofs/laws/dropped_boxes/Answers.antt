@@ -1,4 +1,4 @@
-use Rattle.std.proofs.Common.{◌≡◌, ap}
+use Rattle.std.proofs.Common.{ap}
 use Rattle.mp4_recut.specs.Splitting.{copied}
 use Rattle.mp4_recut.proofs.DroppedLemmas.{dropped, kept}
 use Rattle.mp4_recut.proofs.laws.dropped_boxes.Goals as goal

@@ -1,4 +1,4 @@
-use Rattle.std.proofs.Common.{◌≤◌, arith, length, sym}
+use Rattle.std.proofs.Common.{sym}
 use Rattle.mp4_grammar.specs.Contexts.{first_context}
 use Rattle.mp4_grammar.proofs.ItemLemmas.{reads-grow}
 use Rattle.mp4_machine.proofs.MarkLemmas.{whole_in-before}

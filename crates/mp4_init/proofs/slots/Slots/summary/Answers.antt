@@ -1,4 +1,4 @@
-use Rattle.std.proofs.Common.{◌≡◌, ◌∙◌, ◌<◌, ℕ, List, length, sym, ap, arith}
+use Rattle.std.proofs.Common.{◌≡◌, ◌∙◌, ℕ, List, length, sym, ap, arith}
 use Rattle.mp4_box.specs.Trees.{view}
 use Rattle.mp4_init.specs.declared.summary.Summary.{Summary}
 use Rattle.mp4_init.specs.OrderedIds.{sought}
