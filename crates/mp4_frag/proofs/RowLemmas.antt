@@ -1,14 +1,20 @@
 -- What is left of a run's rows.
-use Rattle.std.proofs.Common.{◌*◌, take, ◌≡◌, ℕ, zero, suc, ◌+◌, ◌-◌, ◌<◌, ◌≤◌, true, List, ◌∷◌, map, drop, length, refl, ap, sym, ◌∙◌, arith, Option, Some, None}
+use Rattle.std.proofs.Common.{◌*◌, take, ◌≡◌, ℕ, zero, suc, ◌+◌, ◌-◌, ◌<◌, ◌≤◌, true, List, ◌∷◌, map, drop, length, refl, ap, sym, ◌∙◌, arith, Option, Some, None, inl, inr, ◌⊎◌}
 use Rattle.std.specs.Option.{is_none}
 use Rattle.std.specs.List.{range_with_len, sum_by}
+use Rattle.std.specs.Prelude.{nat_lt, if◌then◌else◌}
+use Rattle.std.proofs.lemmas.Bool.{cases_lt, lt-ltb, le-ltb}
+use Rattle.std.proofs.lemmas.List.{drop-drop, length-drop}
+use Rattle.byteorder.specs.Endian.{big_number}
+use Rattle.mp4_box.specs.Fields.{number_in}
 use Rattle.std.proofs.lemmas.Int.{ints}
 use Rattle.std.proofs.lemmas.List.FromFn.{length-map-range_with_len, get_or-map-range_with_len}
 use Rattle.std.proofs.lemmas.List.Sums.{sum_by_more, sum_by-cons}
 use Rattle.mp4_frag.specs.declared.run.Run.{Run}
 use Rattle.mp4_frag.specs.declared.rows.Row.{Row}
 use Rattle.mp4_frag.specs.declared.rows.Cursor.{Cursor}
-use Rattle.mp4_frag.specs.Rows.{row_of, rows_of, rows_behind, durations, sizes, IsCursor}
+use Rattle.mp4_frag.specs.Working.Added.{numbers_from}
+use Rattle.mp4_frag.specs.Rows.{field_at, group_at, offset_at, offset_by, row_from, row_of, usual_flags, rows_of, rows_behind, durations, sizes, IsCursor}
 use Rattle.mp4_frag.specs.Cursors.{first_cursor, past}
 
 -- the first of the rows that are left
@@ -82,3 +88,84 @@ cursor_past run held c is h =
 
 pub cursor_first : (run : Run) (held : List ℕ) → IsCursor run held (first_cursor run)
 cursor_first run held = record { row = omega arith; time = omega arith; place = omega (arith, ints) }
+
+-- ---- the bytes from a group on
+
+same_test : (n g k : ℕ) → 0 < k → nat_lt (n - g) k ≡ nat_lt n (g + k)
+same_test n g k some = elim (cases_lt n (g + k)) [
+  | inl less ↦ lt-ltb (n - g) k (omega (arith, less, some)) ∙ sym (lt-ltb n (g + k) less)
+  | inr more ↦ le-ltb (n - g) k (omega (arith, more)) ∙ sym (le-ltb n (g + k) more)
+]
+
+-- a number in them stands as far behind the group
+number_behind : (held : List ℕ) (g at : ℕ) → number_in (drop g held) at ≡ number_in held (g + at)
+number_behind held g at =
+    let short : nat_lt (length (drop g held)) (at + 4) ≡ nat_lt (length held) (g + at + 4) =
+    ap (λ n. nat_lt n (at + 4)) (length-drop g held) ∙ same_test (length held) g (at + 4) (omega arith) ∙ ap (λ n. nat_lt (length held) n) (omega arith) in
+    rw (short, drop-drop at g held) refl
+
+none_more : (n : ℕ) → 0 + n ≡ n
+none_more n = omega arith
+
+field_behind : (held : List ℕ) (g : ℕ) (at : Option ℕ) (usual : ℕ) → field_at (drop g held) 0 at usual ≡ field_at held g at usual
+field_behind held g None usual = refl
+field_behind held g (Some at) usual = ap (λ n. number_in (drop g held) n) (none_more at) ∙ number_behind held g at
+
+offset_behind : (held : List ℕ) (version g : ℕ) (at : Option ℕ) → offset_at (drop g held) version 0 at ≡ offset_at held version g at
+offset_behind held version g None = refl
+offset_behind held version g (Some at) = ap (λ n. offset_by version n) (ap (λ n. number_in (drop g held) n) (none_more at) ∙ number_behind held g at)
+
+-- the row that is read from them
+pub row_behind : (run : Run) (held : List ℕ) (i : ℕ) → row_from run (drop (group_at run i) held) i 0 ≡ row_of run held i
+unfolding row_of
+row_behind run held i =
+    let g = group_at run i in
+    rw (
+      field_behind held g run.fields.sample_duration run.duration,
+      field_behind held g run.fields.sample_size run.size,
+      field_behind held g run.fields.sample_flags (usual_flags run i),
+      offset_behind held run.version g run.fields.sample_composition_time_offset,
+    )
+    refl
+
+-- behind a group the next begins
+pub groups_next : (run : Run) (held : List ℕ) (i : ℕ) → drop run.fields.len (drop (group_at run i) held) ≡ drop (group_at run (i + 1)) held
+unfolding group_at
+groups_next run held i = drop-drop run.fields.len (group_at run i) held ∙ ap (λ n. drop n held) (next run.samples_at run.fields.len i)
+  where
+    next : (a l i : ℕ) → a + l * i + l ≡ a + l * (i + 1)
+    next a l i = omega (arith)
+
+-- ---- sums by places
+
+pub numbers_next : (held : List ℕ) (step at n : ℕ) → 0 < n → numbers_from held step at n ≡ number_in held at + numbers_from held step (at + step) (n - 1)
+unfolding numbers_from
+numbers_next held step at zero some = absurd (omega (arith, some))
+numbers_next held step at (suc n) some = let e : n ≡ suc n - 1 = omega arith in ap (λ k. number_in held at + numbers_from held step (at + step) k) e
+
+pub numbers_none : (held : List ℕ) (step at n : ℕ) → n ≡ 0 → numbers_from held step at n ≡ 0
+unfolding numbers_from
+numbers_none held step at zero e = refl
+numbers_none held step at (suc n) e = absurd (omega (arith, e))
+
+by_place : (f : Row → ℕ) (run : Run) (held : List ℕ) (at i n place : ℕ) → ((j : ℕ) → f (row_of run held j) ≡ number_in held (group_at run j + at)) → place ≡ run.samples_at + run.fields.len * i + at
+    → sum_by f (map (row_of run held) (range_with_len i n)) ≡ numbers_from held run.fields.len place n
+unfolding group_at numbers_from
+by_place f run held at i zero place is e = refl
+by_place f run held at i (suc n) place is e =
+    let next : place + run.fields.len ≡ run.samples_at + run.fields.len * (i + 1) + at = omega (arith, e) in
+    sum_by-cons f (row_of run held i) (map (row_of run held) (range_with_len (i + 1) n))
+    ∙ ap (λ k. k + sum_by f (map (row_of run held) (range_with_len (i + 1) n))) (is i ∙ ap (number_in held) (sym e))
+    ∙ ap (λ k. number_in held place + k) (by_place f run held at (i + 1) n (place + run.fields.len) is next)
+
+pub sizes_by_place : (run : Run) (held : List ℕ) (at : ℕ) → run.fields.sample_size ≡ Some at → sizes (rows_of run held) ≡ numbers_from held run.fields.len (run.samples_at + at) run.count
+unfolding row_of
+sizes_by_place run held at e =
+    by_place (λ (r : Row). r.size) run held at 0 (run.count - 0) (run.samples_at + at) (λ j. ap (λ o. field_at held (group_at run j) o run.size) e) (omega arith)
+    ∙ ap (numbers_from held run.fields.len (run.samples_at + at)) (omega (arith))
+
+pub durations_by_place : (run : Run) (held : List ℕ) (at : ℕ) → run.fields.sample_duration ≡ Some at → durations (rows_of run held) ≡ numbers_from held run.fields.len (run.samples_at + at) run.count
+unfolding row_of
+durations_by_place run held at e =
+    by_place (λ (r : Row). r.duration) run held at 0 (run.count - 0) (run.samples_at + at) (λ j. ap (λ o. field_at held (group_at run j) o run.duration) e) (omega arith)
+    ∙ ap (numbers_from held run.fields.len (run.samples_at + at)) (omega (arith))

@@ -7,7 +7,7 @@ ghost use Rattle.mp4_box.specs.Trees.{first_of, view};
 ghost use Rattle.mp4_frag.specs.Fields.{flags_in, number_or, payload_of, place_if, signed_in, width_if};
 
 use crate::children::children_of;
-use mp4_box::{BoxRef, FourCc, full, i32_at, number_at, u32_at};
+use mp4_box::{BoxRef, FourCc, full, i32_at, number_at};
 
 /// The flags of a full box, 0 where they aren't all there.
 pub(crate) fn flags_of(payload: &[u8]) -> u32
@@ -53,28 +53,6 @@ pub(crate) fn signed_at(payload: &[u8], at: u32) -> i32
         return 0;
     }
     i32_at(payload, at)
-}
-
-/// The number in the four bytes at a place of the bytes of a moof, 0 where they aren't all there.
-pub(crate) fn number_from(held: &[u8], at: u128) -> u32
-    requires { at < 2 ^ 120 }
-    ensures { result ≡ number_in held.now at }
-{
-    if (held.len() as u128) < at + 4 {
-        return 0;
-    }
-    u32_at(held, at as usize)
-}
-
-/// The same as a signed number, in two's complement.
-pub(crate) fn signed_from(held: &[u8], at: u128) -> i64
-    requires { at < 2 ^ 120 }
-    ensures { result ≡ signed_in held.now at }
-{
-    if (held.len() as u128) < at + 4 {
-        return 0;
-    }
-    i64::from(i32_at(held, at as usize))
 }
 
 /// The payload of the first child of this type, empty where there is none.

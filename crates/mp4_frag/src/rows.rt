@@ -3,10 +3,11 @@
 ghost use Rattle.std.specs.Prelude.{◌≡◌, ◌+◌, ◌*◌, ◌+ℤ◌, ◌<ℤ◌, ◌<◌, ◌≤◌, ◌^◌, drop, pos};
 ghost use Rattle.std.specs.Iterator.{YieldsFirst, item_count};
 ghost use Rattle.mp4_frag.specs.Cursors.{first_cursor, past};
-ghost use Rattle.mp4_frag.specs.Rows.{IsCursor, field_at, offset_at, row_of, rows_behind, rows_of, usual_flags};
+ghost use Rattle.mp4_frag.specs.Rows.{IsCursor, field_at, group_at, offset_at, row_from, rows_behind, rows_of, usual_flags};
 
-use crate::fields::{number_from, signed_from};
+use crate::fields::signed_at;
 use crate::run::Run;
+use mp4_box::number_at;
 use std::marker::Model;
 
 /// What a run says of one sample.
@@ -60,47 +61,68 @@ impl Cursor {
 pub struct Rows<'a> {
     run: Run,
     held: &'a [u8],
+    /// The bytes from the group of the next row on.
+    rest: &'a [u8],
     index: u32,
 }
 
 // A contract sees the rows that are left.
 impl<'a> Model for Rows<'a> {
-    ghost use Rattle.std.specs.Prelude.{◌≤◌, List};
+    ghost use Rattle.std.specs.Prelude.{◌≡◌, ◌≤◌, List, drop};
     ghost use Rattle.mp4_frag.specs.declared.rows.Row.{Row};
-    ghost use Rattle.mp4_frag.specs.Rows.{rows_behind};
+    ghost use Rattle.mp4_frag.specs.Rows.{group_at, rows_behind};
 
     ghost Value = { List Row };
 
     ghost view = { λ r. rows_behind r.run r.held.now r.index };
 
-    ghost invariant = { λ r. r.index ≤ r.run.count };
+    ghost invariant = { λ r. (r.index ≤ r.run.count) × (r.rest.now ≡ drop (group_at r.run r.index) r.held.now) };
 }
 
-/// The field of a group at a place, or what stands for a field that isn't there.
-fn field_at(held: &[u8], group: u128, at: Option<u32>, usual: u32) -> u32
-    requires { group < 2 ^ 100 }
-    ensures { result ≡ field_at held.now group at usual }
+/// The field at a place of the group that begins the bytes, or what stands for a field that isn't there.
+#[inline(always)]
+fn field_at(group: &[u8], at: Option<u32>, usual: u32) -> u32
+    ensures { result ≡ field_at group.now 0 at usual }
 {
     match at {
-        Some(at) => number_from(held, group + u128::from(at)),
+        Some(at) => number_at(group, at),
         None => usual,
     }
 }
 
-/// The composition time offset of a group, 0 where it has none: unsigned at version 0.
-fn offset_at(held: &[u8], version: u8, group: u128, at: Option<u32>) -> i64
-    requires { group < 2 ^ 100 }
-    ensures { result ≡ offset_at held.now version group at }
+/// The composition time offset of the group that begins the bytes, 0 where it has none: unsigned at version 0.
+#[inline(always)]
+fn offset_at(group: &[u8], version: u8, at: Option<u32>) -> i64
+    ensures { result ≡ offset_at group.now version 0 at }
 {
     let Some(at) = at else {
         return 0;
     };
-    let at = group + u128::from(at);
     if version == 0 {
-        i64::from(number_from(held, at))
+        i64::from(number_at(group, at))
     } else {
-        signed_from(held, at)
+        i64::from(signed_at(group, at))
     }
+}
+
+/// The bytes behind a group of so many bytes.
+#[inline(always)]
+#[tactic(auto, using(std::proofs::lemmas::List::drop_min))]
+fn behind_group(rest: &[u8], len: u32) -> &[u8]
+    ensures { result.now ≡ drop len rest.now }
+{
+    let (_, behind) = rest.split_at((len as usize).min(rest.len()));
+    behind
+}
+
+/// The bytes from the group of this index on.
+#[tactic(auto, using(std::proofs::lemmas::List::drop_min), unfolding(crate::specs::Rows::group_at))]
+fn groups_from<'a>(run: &Run, held: &'a [u8], i: u32) -> &'a [u8]
+    ensures { result.now ≡ drop (group_at run.now i) held.now }
+{
+    let group = u128::from(run.samples_at) + u128::from(run.fields.len) * u128::from(i);
+    let (_, groups) = held.split_at(group.min(held.len() as u128) as usize);
+    groups
 }
 
 impl Run {
@@ -115,23 +137,17 @@ impl Run {
         }
     }
 
-    /// The row at this index.
-    #[tactic(auto, unfolding(crate::specs::Rows::row_of, crate::specs::Rows::group_at))]
-    fn row(&self, held: &[u8], i: u32) -> Row
-        ensures { result ≡ row_of self.now held.now i }
+    /// The row of this index, whose group begins the bytes.
+    #[inline(always)]
+    fn row_in(&self, group: &[u8], i: u32) -> Row
+        ensures { result ≡ row_from self.now group.now i 0 }
     {
-        let group = u128::from(self.samples_at) + u128::from(self.fields.len) * u128::from(i);
-        let fields = self.fields;
+        let fields = &self.fields;
         Row {
-            duration: field_at(held, group, fields.sample_duration, self.duration),
-            size: field_at(held, group, fields.sample_size, self.size),
-            flags: field_at(held, group, fields.sample_flags, self.usual_flags(i)),
-            offset: offset_at(
-                held,
-                self.version,
-                group,
-                fields.sample_composition_time_offset,
-            ),
+            duration: field_at(group, fields.sample_duration, self.duration),
+            size: field_at(group, fields.sample_size, self.size),
+            flags: field_at(group, fields.sample_flags, self.usual_flags(i)),
+            offset: offset_at(group, self.version, fields.sample_composition_time_offset),
         }
     }
 
@@ -153,6 +169,7 @@ impl Run {
         Rows {
             run: *self,
             held,
+            rest: groups_from(self, held, 0),
             index: 0,
         }
     }
@@ -166,6 +183,7 @@ impl Run {
         Rows {
             run: *self,
             held,
+            rest: groups_from(self, held, cursor.row),
             index: cursor.row,
         }
     }
@@ -178,11 +196,13 @@ impl<'a> Iterator for Rows<'a> {
 
     ghost remaining = { item_count (λ rest. rest) };
 
+    #[inline(always)]
     fn next(&mut self) -> Option<Row> {
         if self.index == self.run.count {
             return None;
         }
-        let row = self.run.row(self.held, self.index);
+        let row = self.run.row_in(self.rest, self.index);
+        self.rest = behind_group(self.rest, self.run.fields.len);
         self.index += 1;
         Some(row)
     }
