@@ -177,3 +177,9 @@ behind_has_room p rows h = record {
 pub grown_takes : (cut : Cut) (p : Piece) (row : Row) (rows : List Row) → takes cut p row ≡ true → grown cut p (row ∷ rows) ≡ grown cut (with_row p row) rows
 unfolding grown
 grown_takes cut p row rows e = rw e refl
+
+-- a piece that has as many samples as it may has no more
+pub grown_full : (cut : Cut) (p : Piece) (rows : List Row) → nat_lt p.count cut.samples ≡ false → grown cut p rows ≡ p ∷ pieces_left cut (cursor_after p) rows
+unfolding grown pieces_left takes
+grown_full cut p [] e = refl
+grown_full cut p (row ∷ rows) e = rw e refl

@@ -91,8 +91,8 @@ struct Filled {
     looked_at: Option<Row>,
 }
 
-/// The piece that begins so, with the rows that fit in it.
-#[tactic(auto, unfolding(crate::specs::Working::Growing::grown, crate::specs::Working::Growing::pieces_left), using(crate::proofs::GrowLemmas::with_row_grows))]
+/// The piece that begins so, with the rows that fit in it. No row is read behind one that has as many as it may.
+#[tactic(auto, unfolding(crate::specs::Working::Growing::grown, crate::specs::Working::Growing::pieces_left), using(crate::proofs::GrowLemmas::with_row_grows, crate::proofs::GrowLemmas::grown_full))]
 fn fill(cut: &Cut, begun: Piece, rows: &mut Rows<'_>) -> Filled
     requires { Grows begun rows.old }
     ensures pieces { grown cut.now begun rows.old ≡ result.piece ∷ pieces_left cut.now
@@ -100,7 +100,7 @@ fn fill(cut: &Cut, begun: Piece, rows: &mut Rows<'_>) -> Filled
     ensures grows { Grows result.piece (option_to_list result.looked_at ++ rows.new) }
 {
     let mut piece = begun;
-    loop {
+    while piece.count < cut.samples {
         let Some(row) = rows.next() else {
             return Filled {
                 piece,
@@ -114,6 +114,10 @@ fn fill(cut: &Cut, begun: Piece, rows: &mut Rows<'_>) -> Filled
             };
         }
         piece = with_row(piece, &row);
+    }
+    Filled {
+        piece,
+        looked_at: None,
     }
 }
 

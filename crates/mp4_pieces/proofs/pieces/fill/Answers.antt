@@ -5,10 +5,10 @@ use Rattle.mp4_pieces.specs.Working.Growing.{Grows, grown}
 use Rattle.mp4_pieces.proofs.GrowLemmas.{grown_takes, with_row_grows}
 use Rattle.mp4_pieces.proofs.pieces.fill.Goals as goal
 
-pub loop-row-preserved : goal.loop-row-preserved
-loop-row-preserved c =
+pub loop-piece-preserved : goal.loop-piece-preserved
+loop-piece-preserved c =
     let cut = c.args.cut.now in
-    let p = c.loop-row.piece in
+    let p = c.loop-piece.piece in
     let row = c.in-Some.row in
     let rest = c.next.new.self in
     let steps = c.in-Some.ensures.steps in
@@ -16,7 +16,7 @@ loop-row-preserved c =
       pieces = ap (λ (q : Piece). grown cut q rest) c.with_row-piece.ensures
           ∙ sym (grown_takes cut p row rest (sym c.takes.ensures ∙ c.if-not-takes.false))
           ∙ ap (λ (rows : List Row). grown cut p rows) (sym steps)
-          ∙ c.loop-row.invariant.pieces;
+          ∙ c.loop-piece.invariant.pieces;
       grows = subst (λ (q : Piece). Grows q rest) (sym c.with_row-piece.ensures)
-          (with_row_grows p row rest (subst (λ (rows : List Row). Grows p rows) steps c.loop-row.invariant.grows));
+          (with_row_grows p row rest (subst (λ (rows : List Row). Grows p rows) steps c.loop-piece.invariant.grows));
     }
