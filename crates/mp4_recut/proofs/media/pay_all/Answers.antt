@@ -28,25 +28,26 @@ loop-count-preserved g c =
     let h = c.args.moof.now in
     let tracks = c.args.tracks.now in
     let a = g.W.Sink.contents c.args.w.now in
-    let d = g.W.Sink.contents c.pay.new.w in
+    let d = g.W.Sink.contents c.pay_in.new.w in
     let m = c.args.fragments.now in
-    let k = c.pay.new.fragments in
+    let k = c.pay_in.new.fragments in
     let piece = c.args.piece.now in
     let i = c.loop-count.count in
-    let taken = c.in-Ok.taken in
+    let taken = c.in-Ok.n in
+    let media = c.pay_in.new.media in
     let first = spot_of cut h tracks c.args.at (m + 1) c.args.from in
-    let there : c.args.at + i + taken.count ≡ c.args.at + (i + taken.count) = omega arith in
+    let there : c.args.at + i + taken ≡ c.args.at + (i + taken) = omega arith in
     let before = c.loop-count.invariant.paid in
     let pays = rw c.split_at.ensures.back at c.in-Ok.ensures.pays in
     let paid = pays.2 in
-    let few : taken.count ≤ length piece - i = omega (arith, c.in-Ok.ensures.pays.1, c.split_at.ensures.back_len) in
-    let all = Plays-more (take i piece) (take taken.count (drop i piece)) before.plays paid.plays in
+    let few : taken ≤ length piece - i = omega (arith, c.in-Ok.ensures.pays.1, c.split_at.ensures.back_len) in
+    let all = Plays-more (take i piece) (take taken (drop i piece)) before.plays paid.plays in
     record {
       within = omega (arith, few, c.loop-count.invariant.within);
       paid = record {
-        plays = subst (λ l. Plays a d c.args.out.now c.pay.new.out m k first l (spot_of cut h tracks (c.args.at + (i + taken.count)) (k + 1) taken.media)) (sym (take-add i taken.count piece))
-            (subst (λ z. Plays a d c.args.out.now c.pay.new.out m k first (take i piece ++ take taken.count (drop i piece)) (spot_of cut h tracks z (k + 1) taken.media)) there all);
-        rises = λ end room r. subst (λ z. Rises end (spot_of cut h tracks z (k + 1) taken.media)) there
+        plays = subst (λ l. Plays a d c.args.out.now c.pay_in.new.out m k first l (spot_of cut h tracks (c.args.at + (i + taken)) (k + 1) media)) (sym (take-add i taken piece))
+            (subst (λ z. Plays a d c.args.out.now c.pay_in.new.out m k first (take i piece ++ take taken (drop i piece)) (spot_of cut h tracks z (k + 1) media)) there all);
+        rises = λ end room r. subst (λ z. Rises end (spot_of cut h tracks z (k + 1) media)) there
             (paid.rises end (omega (arith, room)) (before.rises end (omega (arith, room)) r));
         next = record { settled = paid.next.settled; at = paid.next.at; numbers = paid.next.numbers ∙ before.next.numbers };
         unfailed = paid.unfailed ∙ before.unfailed;
@@ -60,10 +61,10 @@ returns-in-Err-clause-pays g c =
     let tracks = c.args.tracks.now in
     let a = g.W.Sink.contents c.args.w.now in
     let b = g.W.Sink.contents c.loop-count.w in
-    let d = g.W.Sink.contents c.pay.new.w in
+    let d = g.W.Sink.contents c.pay_in.new.w in
     let m = c.args.fragments.now in
     let n = c.loop-count.fragments in
-    let k = c.pay.new.fragments in
+    let k = c.pay_in.new.fragments in
     let piece = c.args.piece.now in
     let i = c.loop-count.count in
     let first = spot_of cut h tracks c.args.at (m + 1) c.args.from in
@@ -72,8 +73,8 @@ returns-in-Err-clause-pays g c =
     record {
       lost = λ later.
           let same : take i piece ++ (drop i piece ++ later) ≡ piece ++ later = sym (append_assoc (take i piece) (drop i piece) later) ∙ ap (λ l. l ++ later) (take-append-drop i piece) in
-          subst (λ l. Lost a d c.args.out.now c.pay.new.out m k (playing first l)) same
-          (Plays-fails a b d c.args.out.now c.loop-count.out c.pay.new.out m n k first (spot_of cut h tracks (c.args.at + i) (n + 1) media) (take i piece) (drop i piece ++ later) c.loop-count.invariant.paid.plays (unpaid.lost later));
+          subst (λ l. Lost a d c.args.out.now c.pay_in.new.out m k (playing first l)) same
+          (Plays-fails a b d c.args.out.now c.loop-count.out c.pay_in.new.out m n k first (spot_of cut h tracks (c.args.at + i) (n + 1) media) (take i piece) (drop i piece ++ later) c.loop-count.invariant.paid.plays (unpaid.lost later));
       failed = unpaid.failed;
     }
 
