@@ -1,6 +1,6 @@
 //! A machine that reads a fragmented stream, which it is fed as it comes.
 
-ghost use Rattle.std.specs.Prelude.{◌≡◌, ℕ, ◌+◌, ◌*◌, ◌-◌, ◌<◌, ◌≤◌, ◌↔◌, [], List, Option, length, take, None, Some, IfOk, IfErr, OnOk, OnErr, IsErrOf, IsTrue};
+ghost use Rattle.std.specs.Prelude.{◌≡◌, ℕ, ◌+◌, ◌*◌, ◌-◌, ◌<◌, ◌≤◌, ◌↔◌, [], List, Option, length, take, None, Some, IfOk, IfErr, OnOk, OnErr, IsErrOf, IsTrue, Ok};
 ghost use Rattle.mp4_init.specs.declared.table.Track.{Track};
 ghost use Rattle.mp4_box.specs.declared.rules.Rule.TheVariants.{MdatMissing};
 ghost use Rattle.mp4_box.specs.declared.headers.FourCc.{FourCc};
@@ -18,6 +18,8 @@ ghost use Rattle.mp4_fragment_machine.specs.Places.{InHeader, IsPlace, Unlent, c
 ghost use Rattle.mp4_fragment_machine.specs.States.{IsState, IsWaiting, begun, kept_by, known, listed_by, place_in, place_of, reads_of, stands_in, stopped};
 ghost use Rattle.mp4_fragment_machine.specs.Working.Feeds.{Feeds, HasEnded};
 ghost use Rattle.mp4_fragment_machine.specs.Working.Wholes.{AreBoxes, IsTakenWhole, StandsFirst};
+ghost use Rattle.mp4_machine.specs.declared.body.Body.{Body};
+ghost use Rattle.mp4_fragment_machine.specs.declared.state.Waiting.{Waiting};
 ghost use Rattle.mp4_grammar.specs.declared.kinds.Kind.TheVariants.{Moof, Other};
 ghost use Rattle.mp4_grammar.specs.Meanings.{Meaning};
 ghost use Rattle.mp4_recut.specs.declared.plan.Plan.{Plan};
@@ -205,6 +207,23 @@ impl FragmentMachine {
         }
     }
 
+    /// Passes over a piece of a body that goes on behind it, and of which nothing is told: how many bytes.
+    #[inline(always)]
+    fn pass_within(&mut self, ledger: &Ledger, piece: &[u8]) -> usize
+        requires some { 0 < length piece.now }
+        requires within { (b : Body) × (w : Option Waiting) × (self.old.state ≡ states.Body b w) ×
+            (length piece.now < b.left) }
+        requires claim { claim_of (place_in self.old) ≤ ledger.now.live }
+        ensures { (u : Unlent) → Feeds (around (unsent u) u.waiting u.waiting
+            ledger.now ledger.now self.old.counter.tally self.new.counter.tally)
+            self.old self.new piece.now (Ok result) }
+    {
+        let _ = ledger;
+        let count = piece.len();
+        go_on(&mut self.state, count as u64);
+        count
+    }
+
     /// Takes a few bytes from the front of a piece, wherever it stands: how many.
     ///
     /// # Errors
@@ -310,6 +329,10 @@ impl FragmentMachine {
                     Kind::Moov | Kind::Mdat => {}
                 }
             }
+        } else if let State::Body(body, _) = &self.state {
+            if (piece.len() as u64) < body.left {
+                return Ok(self.pass_within(ledger, piece));
+            }
         }
         self.take_part(ledger, piece, out, w)
     }
@@ -406,6 +429,20 @@ fn go_to(slot: &mut State, at: u64)
 {
     match slot {
         State::Header { at: next } => *next = at,
+        _ => unreachable!(),
+    }
+}
+
+/// Passes over so many bytes of a body that has more.
+#[inline(always)]
+fn go_on(slot: &mut State, count: u64)
+    requires { (b : Body) × (w : Option Waiting) × (slot.old ≡ states.Body b w) ×
+        (count < b.left) }
+    ensures { (b : Body) (w : Option Waiting) → slot.old ≡ states.Body b w →
+        slot.new ≡ states.Body (record b { left = b.left - count }) w }
+{
+    match slot {
+        State::Body(body, _) => body.left -= count,
         _ => unreachable!(),
     }
 }

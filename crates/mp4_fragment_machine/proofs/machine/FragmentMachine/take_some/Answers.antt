@@ -1,0 +1,5 @@
+use Rattle.mp4_fragment_machine.proofs.machine.FragmentMachine.take_some.Goals as goal
+
+pub returns-then-piece-body : goal.returns-then-piece-body
+returns-then-piece-body g c =
+    c.pass_within.ensures (record { written = g.W.Sink.contents c.args.w.now; waiting = c.args.out.now; failed = g.W.Sink.has_failed c.args.w.now })
