@@ -1,5 +1,5 @@
 -- What a piece brings of a body that goes on behind it.
-use Rattle.std.proofs.Common.{◌≡◌, ℕ, ◌+◌, ◌-◌, ◌<◌, ◌≤◌, List, length, take, Option, arith, refl, sym, subst}
+use Rattle.std.proofs.Common.{ℕ, ◌-◌, ◌<◌, ◌≤◌, List, length, take, Option, arith, refl, sym, subst}
 use Rattle.mp4_init.specs.declared.table.Track.{Track}
 use Rattle.mp4_ledger.specs.Memory.{Account}
 use Rattle.mp4_machine.specs.Pieces.{outside}

@@ -1,6 +1,6 @@
 //! Bodies that are passed over, and what is done behind the mdat of a moof.
 
-ghost use Rattle.std.specs.Prelude.{◌≡◌, ◌+◌, ◌*◌, ◌<◌, ◌≤◌, ◌^◌, [], length, min, Ok, Some};
+ghost use Rattle.std.specs.Prelude.{◌≡◌, ◌+◌, ◌*◌, ◌<◌, ◌≤◌, ◌^◌, [], length, min, take, Ok, Some};
 ghost use Rattle.mp4_frag.specs.Moofs.{moof_of, moof_samples, moof_trafs};
 ghost use Rattle.mp4_frag.specs.Settling.{settled, timed_of};
 ghost use Rattle.mp4_ledger.specs.Memory.{given_back};
@@ -54,6 +54,26 @@ pub(crate) fn back(waiting: Option<Waiting>, ledger: &mut Ledger)
     }
 }
 
+/// Leaves a body of which all came: its moof is done, if one waits.
+pub(crate) fn leave(body: &Body, waiting: Option<Waiting>, kept: &mut Kept, ledger: &mut Ledger)
+    requires none { body.now.left ≡ 0 }
+    requires end { body.now.next ≤ longest }
+    requires waiting { MayWait kept.old.tracks waiting }
+    requires empty { kept.old.head ≡ [] }
+    requires can { CanStep kept.old ledger.old (states.Body body.now waiting) }
+    ensures { (u : Unlent) → GoesTo (lent_ledger u ledger.old ledger.new) kept.old kept.new
+        (at_state kept.old (states.Body body.now waiting)) [] (states.Header body.now.next) }
+{
+    let _ = body;
+    let Some(waiting) = waiting else {
+        return;
+    };
+    match &mut kept.tracks {
+        Some(list) => end_fragment(waiting, list, ledger, &mut kept.counter),
+        None => unreachable!(),
+    }
+}
+
 /// What is taken next where so much of a body is left: where none is, its moof is done, if one waits.
 pub(crate) fn arrive(
     body: Body,
@@ -71,17 +91,29 @@ pub(crate) fn arrive(
     if body.left > 0 {
         return State::Body(body, waiting);
     }
-    let next = State::Header { at: body.next };
-    let Some(waiting) = waiting else {
-        return next;
-    };
-    match &mut kept.tracks {
-        Some(list) => {
-            end_fragment(waiting, list, ledger, &mut kept.counter);
-            next
-        }
-        None => unreachable!(),
-    }
+    leave(&body, waiting, kept, ledger);
+    State::Header { at: body.next }
+}
+
+/// Takes all that is left of a body from the front of a piece: how many bytes.
+pub(crate) fn end_body(
+    body: Body,
+    waiting: Option<Waiting>,
+    piece: &[u8],
+    kept: &mut Kept,
+    ledger: &mut Ledger,
+) -> usize
+    requires within { body.left ≤ length piece.now }
+    requires state { IsState kept.old.tracks kept.old.head (states.Body body waiting) }
+    requires can { CanStep kept.old ledger.old (states.Body body waiting) }
+    ensures { (u : Unlent) → (0 < result) × (result ≤ length piece.now) ×
+        GoesTo (lent_ledger u ledger.old ledger.new) kept.old kept.new
+        (at_state kept.old (states.Body body waiting)) (take result piece.now) (states.Header body.next) }
+{
+    let _ = piece;
+    let count = body.left as usize;
+    leave(&Body { left: 0, ..body }, waiting, kept, ledger);
+    count
 }
 
 /// Takes bytes of a body from the front of a piece: all that are there.

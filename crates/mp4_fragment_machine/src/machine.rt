@@ -14,6 +14,7 @@ ghost use Rattle.mp4_machine.specs.Ends.{sent};
 ghost use Rattle.mp4_machine.specs.Pieces.{IsQuiet, Takes, around, farthest};
 ghost use Rattle.mp4_machine.specs.Readings.{fault_in, uncounted};
 ghost use Rattle.mp4_grammar.specs.Contexts.{first_context};
+ghost use Rattle.mp4_grammar.specs.Kinds.{most_moof};
 ghost use Rattle.mp4_fragment_machine.specs.Places.{InHeader, IsPlace, Unlent, claim_of, standing, unsent};
 ghost use Rattle.mp4_fragment_machine.specs.States.{IsState, IsWaiting, begun, kept_by, known, listed_by, place_in, place_of, reads_of, stands_in, stopped};
 ghost use Rattle.mp4_fragment_machine.specs.Working.Feeds.{Feeds, HasEnded};
@@ -25,18 +26,21 @@ ghost use Rattle.mp4_grammar.specs.Meanings.{Meaning};
 ghost use Rattle.mp4_recut.specs.declared.plan.Plan.{Plan};
 ghost use Rattle.mp4_fragment_machine.specs.declared.state.State.TheVariants as states;
 
+use crate::body::end_body;
+use crate::slot::{LeftBody, go_on, go_to, leave_body, leave_header, put_state, stop_at, stopped};
 use crate::state::{Counter, Kept, State, Taken, Waiting};
 use crate::step::{back_state, take_next};
 use crate::whole_box::{box_at, take_whole_box};
 use crate::whole_fault::refuse_times;
 use crate::whole_fragment::{Boxes, Span, Whole, boxes_in};
+use crate::whole_moof::take_whole_moof;
 use crate::whole_plan::{looks_ahead, take_whole_fragment};
 use mp4_box::{Fault, FourCc, HeaderReader, Rule};
 use mp4_ends::Sink;
 use mp4_frag::{LoneRun, Steps};
-use mp4_grammar::{Kind, kind_of};
+use mp4_grammar::{Kind, MOST_MOOF, kind_of};
 use mp4_ledger::Ledger;
-use mp4_machine::{Block, Machine, OpenBody, Stop, Tally, truncated};
+use mp4_machine::{Block, Body, Machine, OpenBody, Stop, Tally, truncated};
 use mp4_recut::Plan;
 use std::marker::Model;
 use std::mem::replace;
@@ -224,6 +228,57 @@ impl FragmentMachine {
         count
     }
 
+    /// Takes all that is left of a body, of which nothing is told, from the front of a piece: how many bytes.
+    #[inline(always)]
+    fn finish_body(&mut self, ledger: &mut Ledger, piece: &[u8]) -> usize
+        requires within { (b : Body) × (w : Option Waiting) × (self.old.state ≡ states.Body b w) ×
+            (b.left ≤ length piece.now) }
+        requires claim { claim_of (place_in self.old) ≤ ledger.old.live }
+        ensures { (u : Unlent) → Feeds (around (unsent u) u.waiting u.waiting
+            ledger.old ledger.new self.old.counter.tally self.new.counter.tally)
+            self.old self.new piece.now (Ok result) }
+    {
+        let LeftBody { body, waiting } = leave_body(&mut self.state);
+        end_body(body, waiting, piece, &mut self.kept, ledger)
+    }
+
+    /// Takes the moof at the front of a piece, which has all of it, and what the piece has of the header behind it: how many bytes.
+    ///
+    /// # Errors
+    ///
+    /// As [`take_whole_moof`].
+    fn take_moof<W: Sink>(
+        &mut self,
+        at: u64,
+        moof: &Span,
+        ledger: &mut Ledger,
+        piece: &[u8],
+        out: &mut Block,
+        w: &mut W,
+    ) -> Result<usize, Stop>
+        requires is { StandsFirst Moof at piece.now moof.now }
+        requires most { moof.now.size ≤ most_moof }
+        requires state { self.old.state ≡ states.Header at }
+        requires head { self.old.head ≡ [] }
+        requires known { self.old.tracks ≡ Some (known self.old.tracks) }
+        requires claim { claim_of (place_in self.old) ≤ ledger.old.live }
+        ensures { Feeds (around (sent W.contents W.has_failed w.old w.new) out.old out.new
+            ledger.old ledger.new self.old.counter.tally self.new.counter.tally)
+            self.old self.new piece.now result }
+    {
+        match take_whole_moof(at, moof, piece, &mut self.kept, ledger, out, w) {
+            Ok(Taken { count, state }) => {
+                leave_header(&mut self.state, state);
+                Ok(count)
+            }
+            Err(stop) => {
+                stop_at(&mut self.state);
+                self.give_back(ledger);
+                Err(stop)
+            }
+        }
+    }
+
     /// Takes a few bytes from the front of a piece, wherever it stands: how many.
     ///
     /// # Errors
@@ -298,6 +353,9 @@ impl FragmentMachine {
                 }
             }
         }
+        if moof.size <= MOST_MOOF && self.kept.tracks.is_some() {
+            return self.take_moof(at, moof, ledger, piece, out, w);
+        }
         self.take_part(ledger, piece, out, w)
     }
 
@@ -333,6 +391,7 @@ impl FragmentMachine {
             if (piece.len() as u64) < body.left {
                 return Ok(self.pass_within(ledger, piece));
             }
+            return Ok(self.finish_body(ledger, piece));
         }
         self.take_part(ledger, piece, out, w)
     }
@@ -405,72 +464,6 @@ impl Machine for FragmentMachine {
         if let Some(list) = self.kept.tracks.take() {
             list.back(ledger);
         }
-    }
-}
-
-/// What is kept behind a stop: nothing that must be given back.
-fn stopped() -> State
-    ensures { result ≡ stopped }
-{
-    let body = OpenBody {
-        at: 0,
-        kind: FourCc(*b"mdat"),
-        needed: 0,
-        left: 0,
-    };
-    State::OpenBody(body, None)
-}
-
-/// Goes on with the header of the box at `at`, where a header was to come.
-#[inline(always)]
-fn go_to(slot: &mut State, at: u64)
-    requires { (old : ℕ) × (slot.old ≡ states.Header old) }
-    ensures { slot.new ≡ states.Header at }
-{
-    match slot {
-        State::Header { at: next } => *next = at,
-        _ => unreachable!(),
-    }
-}
-
-/// Passes over so many bytes of a body that has more.
-#[inline(always)]
-fn go_on(slot: &mut State, count: u64)
-    requires { (b : Body) × (w : Option Waiting) × (slot.old ≡ states.Body b w) ×
-        (count < b.left) }
-    ensures { (b : Body) (w : Option Waiting) → slot.old ≡ states.Body b w →
-        slot.new ≡ states.Body (record b { left = b.left - count }) w }
-{
-    match slot {
-        State::Body(body, _) => body.left -= count,
-        _ => unreachable!(),
-    }
-}
-
-/// Keeps nothing, where a header was to come.
-fn stop_at(slot: &mut State)
-    requires { (old : ℕ) × (slot.old ≡ states.Header old) }
-    ensures { slot.new ≡ stopped }
-{
-    match replace(slot, stopped()) {
-        State::Header { at } => {
-            let _ = at;
-        }
-        _ => unreachable!(),
-    }
-}
-
-/// Puts what is kept where nothing was.
-fn put_state(slot: &mut State, state: State)
-    requires { slot.old ≡ stopped }
-    ensures { slot.new ≡ state }
-{
-    match replace(slot, state) {
-        State::OpenBody(_, waiting) => match waiting {
-            None => {}
-            Some(_) => unreachable!(),
-        },
-        _ => unreachable!(),
     }
 }
 

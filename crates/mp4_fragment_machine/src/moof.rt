@@ -10,7 +10,7 @@ ghost use Rattle.mp4_machine.specs.Readings.{plus};
 ghost use Rattle.mp4_grammar.specs.Items.{walked};
 ghost use Rattle.mp4_fragment_machine.specs.Places.{Unlent};
 ghost use Rattle.mp4_fragment_machine.specs.States.{known};
-ghost use Rattle.mp4_fragment_machine.specs.Working.Steps.{Advances, CanStep, lent_ledger};
+ghost use Rattle.mp4_fragment_machine.specs.Working.Steps.{Advances, CanStep, Waits, lent_ledger};
 ghost use Rattle.mp4_fragment_machine.specs.declared.state.State.TheVariants as states;
 
 use crate::state::{Counter, Kept, State, Waiting};
@@ -25,14 +25,15 @@ use mp4_machine::{Held, Stop};
 /// # Errors
 ///
 /// `Stream` where it is at fault; `OverLimit` or `Memory` where the claim of the list is refused.
-pub(crate) fn take_moof(held: Held, kept: &mut Kept, ledger: &mut Ledger) -> Result<State, Stop>
+pub(crate) fn wait(held: Held, kept: &mut Kept, ledger: &mut Ledger) -> Result<Waiting, Stop>
     requires known { kept.old.tracks ≡ Some (known kept.old.tracks) }
     requires begins { Begins held.size held.bytes }
     requires near { held.at + held.size ≤ longest }
     requires whole { length held.bytes ≡ held.size }
     requires empty { kept.old.head ≡ [] }
     requires can { CanStep kept.old ledger.old (states.Holding held) }
-    ensures advances { (u : Unlent) → Advances (lent_ledger u ledger.old ledger.new)
+    ensures tracks { OnOk result (kept.new.tracks ≡ kept.old.tracks) }
+    ensures waits { (u : Unlent) → Waits (lent_ledger u ledger.old ledger.new)
         kept.old kept.new (states.Holding held) result }
     ensures walked { OnOk result (kept.new.counter.steps.rows ≡
         kept.old.counter.steps.rows + 2 * moof_samples (moof_at held.bytes held.at)) }
@@ -50,11 +51,33 @@ pub(crate) fn take_moof(held: Held, kept: &mut Kept, ledger: &mut Ledger) -> Res
         }
     };
     match moof.list(ledger, list, &mut kept.counter.steps) {
-        Ok(runs) => Ok(State::Behind(Waiting { moof: held, runs })),
+        Ok(runs) => Ok(Waiting { moof: held, runs }),
         Err(refused) => {
             held.back(ledger);
             Err(Stop::of_refusal(refused))
         }
+    }
+}
+
+/// What is taken next behind a moof of which all came: the header of its mdat.
+///
+/// # Errors
+///
+/// As [`wait`].
+#[inline]
+pub(crate) fn take_moof(held: Held, kept: &mut Kept, ledger: &mut Ledger) -> Result<State, Stop>
+    requires known { kept.old.tracks ≡ Some (known kept.old.tracks) }
+    requires begins { Begins held.size held.bytes }
+    requires near { held.at + held.size ≤ longest }
+    requires whole { length held.bytes ≡ held.size }
+    requires empty { kept.old.head ≡ [] }
+    requires can { CanStep kept.old ledger.old (states.Holding held) }
+    ensures { (u : Unlent) → Advances (lent_ledger u ledger.old ledger.new)
+        kept.old kept.new (states.Holding held) result }
+{
+    match wait(held, kept, ledger) {
+        Ok(waiting) => Ok(State::Behind(waiting)),
+        Err(stop) => Err(stop),
     }
 }
 

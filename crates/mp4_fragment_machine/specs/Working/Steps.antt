@@ -16,6 +16,7 @@ use Rattle.mp4_fragment_machine.specs.declared.state.Kept.{Kept}
 use Rattle.mp4_fragment_machine.specs.declared.state.State.{State}
 use Rattle.mp4_fragment_machine.specs.declared.state.State.TheVariants as states
 use Rattle.mp4_fragment_machine.specs.declared.state.Taken.{Taken}
+use Rattle.mp4_fragment_machine.specs.declared.state.Waiting.{Waiting}
 
 -- ---- what a step is lent, beside what the machine keeps
 
@@ -117,6 +118,16 @@ pub record StopsIn (l : Lent) (old new : Kept) (from : Place) (piece : List ℕ)
 abbrev pub Advances : Lent → (old new : Kept) → State → Result State Stop → Type 0
 Advances l old new from (Ok s) = GoesTo l old new (at_state old from) [] s
 Advances l old new from (Err e) = StopsIn l old new (at_state old from) [] e
+
+-- one that leads to a moof that waits for its mdat
+abbrev pub Waits : Lent → (old new : Kept) → State → Result Waiting Stop → Type 0
+Waits l old new from (Ok w) = GoesTo l old new (at_state old from) [] (states.Behind w)
+Waits l old new from (Err e) = StopsIn l old new (at_state old from) [] e
+
+-- and one that takes so many bytes of a piece before
+abbrev pub WaitsPast : Lent → (old new : Kept) → State → List ℕ → ℕ → Result Waiting Stop → Type 0
+WaitsPast l old new from piece n (Ok w) = GoesTo l old new (at_state old from) (take n piece) (states.Behind w)
+WaitsPast l old new from piece n (Err e) = StopsIn l old new (at_state old from) piece e
 
 -- one that takes some from the front of a piece
 abbrev pub Consumes : Lent → (old new : Kept) → State → List ℕ → Result Taken Stop → Type 0

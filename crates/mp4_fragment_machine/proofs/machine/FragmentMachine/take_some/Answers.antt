@@ -3,3 +3,7 @@ use Rattle.mp4_fragment_machine.proofs.machine.FragmentMachine.take_some.Goals a
 pub returns-then-piece-body : goal.returns-then-piece-body
 returns-then-piece-body g c =
     c.pass_within.ensures (record { written = g.W.Sink.contents c.args.w.now; waiting = c.args.out.now; failed = g.W.Sink.has_failed c.args.w.now })
+
+pub returns-in-Body : goal.returns-in-Body
+returns-in-Body g c =
+    c.finish_body.ensures (record { written = g.W.Sink.contents c.args.w.now; waiting = c.args.out.now; failed = g.W.Sink.has_failed c.args.w.now })

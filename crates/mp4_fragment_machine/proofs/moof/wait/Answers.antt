@@ -10,10 +10,10 @@ use Rattle.mp4_fragment_machine.proofs.CountLemmas.{counted_judged, counted_moof
 use Rattle.mp4_fragment_machine.proofs.HeldLemmas.{GoesOn-moof, Refuses-judged, StopsAt-runs, begins_some, none_of, refused_not_written}
 use Rattle.mp4_fragment_machine.proofs.NumberLemmas.{number_same}
 use Rattle.mp4_fragment_machine.proofs.StepLemmas.{counted_stop}
-use Rattle.mp4_fragment_machine.proofs.moof.take_moof.Goals as goal
+use Rattle.mp4_fragment_machine.proofs.moof.wait.Goals as goal
 
-pub returns-in-Err-clause-advances : goal.returns-in-Err-clause-advances
-returns-in-Err-clause-advances c = λ u.
+pub returns-in-Err-clause-waits : goal.returns-in-Err-clause-waits
+returns-in-Err-clause-waits c = λ u.
     let held = c.args.held in
     let kept = c.args.kept.now in
     let list = c.in-Some.list in
@@ -34,8 +34,8 @@ returns-in-Err-clause-advances c = λ u.
       counted = counted_stop kept.plan c.read_moof.new.counter (held.at + held.size) (counted_judged kept.plan kept.counter c.read_moof.new.counter (moof_at held.bytes held.at) list held.at held.size c.requires.can.counted some c.requires.near judged.few judged.tally judged.rows judged.unwalked);
     })
 
-pub returns-in-Ok-list-clause-advances : goal.returns-in-Ok-list-clause-advances
-returns-in-Ok-list-clause-advances c = λ u.
+pub returns-in-Ok-list-clause-waits : goal.returns-in-Ok-list-clause-waits
+returns-in-Ok-list-clause-waits c = λ u.
     let held = c.args.held in
     let kept = c.args.kept.now in
     let list = c.in-Some.list in
@@ -59,8 +59,8 @@ returns-in-Ok-list-clause-advances c = λ u.
           (omega (arith, listed, judged.rows good.0)) refl (omega arith);
     })
 
-pub returns-in-Err-list-clause-advances : goal.returns-in-Err-list-clause-advances
-returns-in-Err-list-clause-advances c = λ u.
+pub returns-in-Err-list-clause-waits : goal.returns-in-Err-list-clause-waits
+returns-in-Err-list-clause-waits c = λ u.
     let held = c.args.held in
     let kept = c.args.kept.now in
     let list = c.in-Some.list in

@@ -1,0 +1,91 @@
+//! A moof of which a piece has all: it is held at once, and its fragment begun where the piece goes so far.
+
+ghost use Rattle.std.specs.Prelude.{◌≡◌, ◌<◌, ◌≤◌, [], length, Some, OnOk};
+ghost use Rattle.mp4_grammar.specs.Kinds.{most_moof};
+ghost use Rattle.mp4_grammar.specs.declared.kinds.Kind.TheVariants.{Moof};
+ghost use Rattle.mp4_fragment_machine.specs.Places.{Unlent};
+ghost use Rattle.mp4_fragment_machine.specs.States.{known};
+ghost use Rattle.mp4_fragment_machine.specs.Working.Steps.{CanStep, Consumes, WaitsPast, lent, lent_ledger};
+ghost use Rattle.mp4_fragment_machine.specs.Working.Wholes.{StandsFirst};
+ghost use Rattle.mp4_fragment_machine.specs.declared.state.State.TheVariants as states;
+
+use crate::mdat_header::take_mdat_header;
+use crate::moof::wait;
+use crate::state::{Kept, State, Taken, Waiting};
+use crate::whole_fragment::Span;
+use mp4_ends::Sink;
+use mp4_ledger::Ledger;
+use mp4_machine::{Block, Held, Stop};
+
+/// Holds the moof at the front of a piece that has all of it, and claims the list of its runs: it waits for its mdat then.
+///
+/// # Errors
+///
+/// `OverLimit` or `Memory` where a claim is refused, and as [`wait`].
+fn hold_whole(
+    at: u64,
+    moof: &Span,
+    piece: &[u8],
+    kept: &mut Kept,
+    ledger: &mut Ledger,
+) -> Result<Waiting, Stop>
+    requires is { StandsFirst Moof at piece.now moof.now }
+    requires most { moof.now.size ≤ most_moof }
+    requires known { kept.old.tracks ≡ Some (known kept.old.tracks) }
+    requires empty { kept.old.head ≡ [] }
+    requires can { CanStep kept.old ledger.old (states.Header at) }
+    ensures tracks { OnOk result (kept.new.tracks ≡ kept.old.tracks) }
+    ensures waits { (u : Unlent) → WaitsPast (lent_ledger u ledger.old ledger.new) kept.old kept.new
+        (states.Header at) piece.now moof.now.size result }
+{
+    let (bytes, _) = piece.split_at(moof.size as usize);
+    match Held::claim(ledger, at, moof.kind, moof.size, bytes) {
+        Ok(held) => match wait(held, kept, ledger) {
+            Ok(waiting) => Ok(waiting),
+            Err(stop) => Err(stop),
+        },
+        Err(refused) => Err(Stop::of_refusal(refused)),
+    }
+}
+
+/// Takes the moof at the front of a piece that has all of it, and what the piece has of the header behind it.
+///
+/// # Errors
+///
+/// `OverLimit` or `Memory` where a claim is refused, and as [`wait`] and [`take_mdat_header`].
+pub(crate) fn take_whole_moof<W: Sink>(
+    at: u64,
+    moof: &Span,
+    piece: &[u8],
+    kept: &mut Kept,
+    ledger: &mut Ledger,
+    out: &mut Block,
+    w: &mut W,
+) -> Result<Taken, Stop>
+    requires is { StandsFirst Moof at piece.now moof.now }
+    requires most { moof.now.size ≤ most_moof }
+    requires known { kept.old.tracks ≡ Some (known kept.old.tracks) }
+    requires empty { kept.old.head ≡ [] }
+    requires can { CanStep kept.old ledger.old (states.Header at) }
+    ensures { Consumes (lent W.contents W.has_failed w.old w.new out.old out.new ledger.old ledger.new)
+        kept.old kept.new (states.Header at) piece.now result }
+{
+    let waiting = match hold_whole(at, moof, piece, kept, ledger) {
+        Ok(waiting) => waiting,
+        Err(stop) => return Err(stop),
+    };
+    if moof.size == piece.len() as u64 {
+        return Ok(Taken {
+            count: piece.len(),
+            state: State::Behind(waiting),
+        });
+    }
+    let (_, rest) = piece.split_at(moof.size as usize);
+    match take_mdat_header(waiting, rest, kept, ledger, out, w) {
+        Ok(Taken { count, state }) => Ok(Taken {
+            count: moof.size as usize + count,
+            state,
+        }),
+        Err(stop) => Err(stop),
+    }
+}
