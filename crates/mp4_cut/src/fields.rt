@@ -38,6 +38,18 @@ impl Fields {
         self.bytes.as_slice()
     }
 
+    /// The bytes of all fields, where there is no room for more.
+    #[inline(always)]
+    pub(crate) fn whole(self) -> [u8; 92]
+        requires { length self ≡ 92 }
+        ensures { result ≡ self }
+    {
+        match self.bytes.into_inner() {
+            Ok(bytes) => bytes,
+            Err(_) => unreachable!(),
+        }
+    }
+
     /// Puts bytes behind the fields.
     fn put(&mut self, bytes: &[u8])
         requires { length self.old + length bytes.now ≤ 92 }

@@ -1,13 +1,15 @@
 //! The header of the media data, mdat (ISO/IEC 14496-12, 4.2 and 8.1.1).
 
 ghost use Rattle.std.specs.Prelude.{◌≡◌, ◌+◌, ◌≤◌, ◌<◌, ◌^◌, ◌++◌, length};
+ghost use Rattle.byteorder.specs.Endian.{big_bytes};
 ghost use Rattle.mp4_pieces.specs.Sizes.{mdat_header_size};
-ghost use Rattle.mp4_cut.specs.Mdat.{mdat_header};
+ghost use Rattle.mp4_cut.specs.Mdat.{mdat, mdat_header};
 ghost use Rattle.mp4_machine.specs.Ends.{sent};
 ghost use Rattle.mp4_machine.specs.Puts.{Puts, Writes};
 
 use crate::fields::Fields;
 use crate::write_fault::WriteFault;
+use byteorder::{BigEndian, ByteOrder};
 use mp4_box::FourCc;
 use mp4_ends::{Failed, Sink};
 use mp4_machine::Block;
@@ -40,6 +42,19 @@ fn mdat_header(bytes: u64) -> Fields
     header
 }
 
+/// The header of an mdat before so few bytes of media that its size has 32 bits.
+#[inline(always)]
+#[tactic(auto, unfolding(crate::specs::Mdat::mdat_header))]
+fn short_header(bytes: u64) -> [u8; 8]
+    requires { 8 + bytes < 2 ^ 32 }
+    ensures { result ≡ mdat_header bytes }
+{
+    let mut header = [0; 8];
+    BigEndian::write_u32(&mut header, 8 + bytes as u32);
+    header[4..].copy_from_slice(&MDAT.0);
+    header
+}
+
 /// Puts the header of an mdat before so many bytes of media, at most 2^62, into a block that is
 /// lent a sink.
 ///
@@ -51,6 +66,9 @@ pub fn put_mdat_header<W: Sink>(bytes: u64, block: &mut Block, w: &mut W) -> Res
     ensures { Puts (sent W.contents W.has_failed w.old w.new) block.old block.new (mdat_header bytes)
         result }
 {
+    if bytes < LONG {
+        return block.put_array(w, &short_header(bytes));
+    }
     let header = mdat_header(bytes);
     block.put(w, header.as_slice())
 }

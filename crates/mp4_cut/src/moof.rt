@@ -30,7 +30,8 @@ const TRAF: FourCc = FourCc(*b"traf");
 #[tactic(auto, unfolding(crate::specs::Working::Fronts::moof_front))]
 fn moof_front(piece: &Piece, run: &Run, sequence_number: u32) -> Fields
     requires { piece.now.count ≤ 1000000 }
-    ensures { result ≡ moof_front run.now piece.now sequence_number }
+    ensures bytes { result ≡ moof_front run.now piece.now sequence_number }
+    ensures len { length result ≡ 92 }
 {
     let size = 92 + 16 * piece.count;
     let mut front = Fields::new();
@@ -63,8 +64,8 @@ pub fn put_moof<W: Sink>(
     ensures { Puts (sent W.contents W.has_failed w.old w.new) block.old block.new
         (written_moof piece.now run.now held.now sequence_number) result }
 {
-    let front = moof_front(piece, run, sequence_number);
-    match block.put(w, front.as_slice()) {
+    let front = moof_front(piece, run, sequence_number).whole();
+    match block.put_array(w, &front) {
         Ok(()) => {}
         Err(Failed) => return Err(Failed),
     }

@@ -66,7 +66,7 @@ pub(crate) fn put_samples<W: Sink>(
         let Some(row) = rows.next() else {
             return Ok(());
         };
-        match block.put(w, &sample_bytes(&row)) {
+        match block.put_array(w, &sample_bytes(&row)) {
             Ok(()) => {}
             Err(Failed) => return Err(Failed),
         }

@@ -147,6 +147,38 @@ impl Block {
         Ok(())
     }
 
+    /// Puts an array behind the bytes that wait. Where it doesn't fit, what waits is sent first.
+    #[inline(always)]
+    pub fn put_array<const N: usize, W: Sink>(
+        &mut self,
+        w: &mut W,
+        bytes: &[u8; N],
+    ) -> Result<(), Failed>
+        requires { N ≤ LINE_BYTES }
+        ensures { Puts (sent W.contents W.has_failed w.old w.new) self.old self.new bytes.now
+            result }
+    {
+        match self.make_room_for(N, w) {
+            Ok(()) => {}
+            Err(Failed) => return Err(Failed),
+        }
+        self.waiting.push_bytes(bytes);
+        Ok(())
+    }
+
+    /// Makes room for so many bytes: where there is too little, what waits is sent.
+    #[inline(always)]
+    fn make_room_for<W: Sink>(&mut self, count: usize, w: &mut W) -> Result<(), Failed>
+        requires { count ≤ BLOCK_BYTES }
+        ensures puts { Puts (sent W.contents W.has_failed w.old w.new) self.old self.new [] result }
+        ensures room { OnOk result (length self.new.bytes + count ≤ BLOCK_BYTES) }
+    {
+        if count <= BLOCK_BYTES - self.waiting.len() {
+            return Ok(());
+        }
+        self.send(w)
+    }
+
     /// Puts a line behind the bytes that wait. Where there may be no room for it, what waits is sent first.
     #[inline(always)]
     pub fn put_line<L: Line, W: Sink>(&mut self, w: &mut W, line: &L) -> Result<(), Failed>

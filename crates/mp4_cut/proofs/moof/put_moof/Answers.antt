@@ -18,14 +18,14 @@ pub returns-in-Err : goal.returns-in-Err
 returns-in-Err g c =
     let samples = flat_map sample_bytes (rows_in c.args.held.now c.args.run.now c.args.piece.now) in
     let moof = written_moof c.args.piece.now c.args.run.now c.args.held.now c.args.sequence_number in
-    HasFailed-front c.as_slice.result.now samples moof
-    (ap (λ (x : List ℕ). x ++ samples) (c.as_slice.ensures ∙ c.moof_front-front.ensures) ∙ sym (front_is c.args.held.now c.args.run.now c.args.piece.now c.args.sequence_number c.requires.piece))
+    HasFailed-front c.whole-front.result samples moof
+    (ap (λ (x : List ℕ). x ++ samples) (c.whole-front.ensures ∙ c.moof_front.ensures.bytes) ∙ sym (front_is c.args.held.now c.args.run.now c.args.piece.now c.args.sequence_number c.requires.piece))
     c.in-Err.ensures
 
 pub returns : goal.returns
 returns g c =
     let moof = written_moof c.args.piece.now c.args.run.now c.args.held.now c.args.sequence_number in
     let samples = flat_map sample_bytes (take c.args.piece.now.count c.rows_from-rows.result) in
-    let whole = moof_is_put c.args.held.now c.args.run.now c.args.piece.now c.args.sequence_number c.as_slice.result.now c.moof_front-front.result c.start_of.result c.rows_from-rows.result
-    c.requires.piece c.as_slice.ensures c.moof_front-front.ensures c.start_of.ensures c.rows_from-rows.ensures in
+    let whole = moof_is_put c.args.held.now c.args.run.now c.args.piece.now c.args.sequence_number c.whole-front.result c.moof_front.result c.start_of.result c.rows_from-rows.result
+    c.requires.piece c.whole-front.ensures c.moof_front.ensures.bytes c.start_of.ensures c.rows_from-rows.ensures in
     Puts-then c.in-Ok.ensures _ _ _ samples moof whole c.put_samples.result c.put_samples.ensures
