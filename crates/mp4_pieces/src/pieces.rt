@@ -39,6 +39,7 @@ fn has_bytes(most: Option<u64>, piece: &Piece, row: &Row) -> bool
 impl Cut {
     /// Whether one row more fits in a piece.
     #[tactic(auto, unfolding(crate::specs::Working::Growing::takes))]
+    #[inline(always)]
     fn takes(&self, piece: &Piece, row: &Row) -> bool
         requires { piece.now.bytes + row.now.size < 2 ^ 64 }
         ensures { result ≡ takes self.now piece.now row.now }
@@ -51,6 +52,7 @@ impl Cut {
 
 /// The piece of one row, from a cursor on.
 #[tactic(auto, unfolding(crate::specs::Working::Growing::opened))]
+#[inline(always)]
 fn opened(at: Cursor, row: &Row) -> Piece
     ensures { result ≡ opened at row.now }
 {
@@ -67,6 +69,7 @@ fn opened(at: Cursor, row: &Row) -> Piece
 
 /// The piece with one row more.
 #[tactic(auto, unfolding(crate::specs::Working::Growing::with_row))]
+#[inline(always)]
 fn with_row(piece: Piece, row: &Row) -> Piece
     requires count { piece.count + 1 < 2 ^ 32 }
     requires bytes { piece.bytes + row.now.size < 2 ^ 64 }
@@ -93,6 +96,7 @@ struct Filled {
 
 /// The piece that begins so, with the rows that fit in it. No row is read behind one that has as many as it may.
 #[tactic(auto, unfolding(crate::specs::Working::Growing::grown, crate::specs::Working::Growing::pieces_left), using(crate::proofs::GrowLemmas::with_row_grows, crate::proofs::GrowLemmas::grown_full))]
+#[inline(always)]
 fn fill(cut: &Cut, begun: Piece, rows: &mut Rows<'_>) -> Filled
     requires { Grows begun rows.old }
     ensures pieces { grown cut.now begun rows.old ≡ result.piece ∷ pieces_left cut.now
@@ -174,6 +178,7 @@ impl<'a> Pieces<'a> {
 }
 
 /// The next row: the one that was looked at, or else the next of those that are left.
+#[inline(always)]
 fn next_row(looked_at: &mut Option<Row>, rows: &mut Rows<'_>) -> Option<Row>
     ensures taken { looked_at.new ≡ None }
     ensures rows { option_to_list looked_at.old ++ rows.old ≡ option_to_list result ++ rows.new }
@@ -187,6 +192,7 @@ fn next_row(looked_at: &mut Option<Row>, rows: &mut Rows<'_>) -> Option<Row>
 
 /// The next piece. It reads no row twice, and one behind the piece at most.
 #[tactic(auto, using(crate::proofs::GrowLemmas::opened_grows, crate::proofs::GrowLemmas::behind_has_room), unfolding(crate::specs::Working::Growing::pieces_left))]
+#[inline(always)]
 fn next_piece(
     cut: &Cut,
     at: &mut Cursor,
@@ -217,6 +223,7 @@ impl<'a> Iterator for Pieces<'a> {
 
     ghost remaining = { item_count (λ rest. rest) };
 
+    #[inline(always)]
     fn next(&mut self) -> Option<Piece> {
         next_piece(&self.cut, &mut self.at, &mut self.looked_at, &mut self.rows)
     }
