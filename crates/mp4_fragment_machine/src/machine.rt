@@ -20,6 +20,7 @@ ghost use Rattle.mp4_fragment_machine.specs.States.{IsState, IsWaiting, begun, k
 ghost use Rattle.mp4_fragment_machine.specs.Working.Feeds.{Feeds, HasEnded};
 ghost use Rattle.mp4_fragment_machine.specs.Working.Wholes.{AreBoxes, IsTakenWhole, StandsFirst};
 ghost use Rattle.mp4_machine.specs.declared.body.Body.{Body};
+ghost use Rattle.mp4_fragment_machine.specs.declared.state.Recutting.{Recutting};
 ghost use Rattle.mp4_fragment_machine.specs.declared.state.Waiting.{Waiting};
 ghost use Rattle.mp4_grammar.specs.declared.kinds.Kind.TheVariants.{Moof, Other};
 ghost use Rattle.mp4_grammar.specs.Meanings.{Meaning};
@@ -27,6 +28,7 @@ ghost use Rattle.mp4_recut.specs.declared.plan.Plan.{Plan};
 ghost use Rattle.mp4_fragment_machine.specs.declared.state.State.TheVariants as states;
 
 use crate::body::end_body;
+use crate::media::take_within;
 use crate::slot::{LeftBody, go_on, go_to, leave_body, leave_header, put_state, stop_at, stopped};
 use crate::state::{Counter, Kept, State, Taken, Waiting};
 use crate::step::{back_state, take_next};
@@ -36,7 +38,7 @@ use crate::whole_fragment::{Boxes, Span, Whole, boxes_in};
 use crate::whole_moof::take_whole_moof;
 use crate::whole_plan::{looks_ahead, take_whole_fragment};
 use mp4_box::{Fault, FourCc, HeaderReader, Rule};
-use mp4_ends::Sink;
+use mp4_ends::{Failed, Sink};
 use mp4_frag::{LoneRun, Steps};
 use mp4_grammar::{Kind, MOST_MOOF, kind_of};
 use mp4_ledger::Ledger;
@@ -242,6 +244,43 @@ impl FragmentMachine {
         end_body(body, waiting, piece, &mut self.kept, ledger)
     }
 
+    /// Takes a piece of an mdat that is recut and goes on behind it: how many bytes.
+    ///
+    /// # Errors
+    ///
+    /// `Write` where a write failed.
+    fn pay_within<W: Sink>(
+        &mut self,
+        ledger: &mut Ledger,
+        piece: &[u8],
+        out: &mut Block,
+        w: &mut W,
+    ) -> Result<usize, Stop>
+        requires some { 0 < length piece.now }
+        requires within { (r : Recutting) × (self.old.state ≡ states.Media r) ×
+            (length piece.now < r.body.left) }
+        requires claim { claim_of (place_in self.old) ≤ ledger.old.live }
+        ensures { Feeds (around (sent W.contents W.has_failed w.old w.new) out.old out.new
+            ledger.old ledger.new self.old.counter.tally self.new.counter.tally)
+            self.old self.new piece.now result }
+    {
+        let paid = match &mut self.state {
+            State::Media(recutting) => {
+                take_within(recutting, piece, &mut self.kept, ledger, out, w)
+            }
+            _ => unreachable!(),
+        };
+        match paid {
+            Ok(()) => Ok(piece.len()),
+            Err(Failed) => {
+                let last = replace(&mut self.state, stopped());
+                back_state(last, ledger);
+                self.give_back(ledger);
+                Err(Stop::Write)
+            }
+        }
+    }
+
     /// Takes the moof at the front of a piece, which has all of it, and what the piece has of the header behind it: how many bytes.
     ///
     /// # Errors
@@ -392,6 +431,10 @@ impl FragmentMachine {
                 return Ok(self.pass_within(ledger, piece));
             }
             return Ok(self.finish_body(ledger, piece));
+        } else if let State::Media(recutting) = &self.state {
+            if (piece.len() as u64) < recutting.body.left {
+                return self.pay_within(ledger, piece, out, w);
+            }
         }
         self.take_part(ledger, piece, out, w)
     }

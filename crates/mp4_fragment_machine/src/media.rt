@@ -1,11 +1,13 @@
 //! Media that are recut as they come.
 
-ghost use Rattle.std.specs.Prelude.{◌+◌, ◌<◌, ◌≤◌, length};
+ghost use Rattle.std.specs.Prelude.{◌≡◌, ◌+◌, ◌<◌, ◌≤◌, length, take, Some, OnOk, OnErr};
+ghost use Rattle.mp4_ledger.specs.Memory.{given_back};
 ghost use Rattle.mp4_machine.specs.Bodies.{longest};
 ghost use Rattle.mp4_machine.specs.Ends.{sent};
-ghost use Rattle.mp4_fragment_machine.specs.States.{AreMediaOf, IsState};
+ghost use Rattle.mp4_machine.specs.declared.stop.Stop.TheVariants.{Write};
+ghost use Rattle.mp4_fragment_machine.specs.States.{AreMediaOf, IsState, taken_by};
 ghost use Rattle.mp4_fragment_machine.specs.Working.Media.{TakesMedia};
-ghost use Rattle.mp4_fragment_machine.specs.Working.Steps.{CanStep, Consumes, lent};
+ghost use Rattle.mp4_fragment_machine.specs.Working.Steps.{CanStep, Consumes, GoesTo, StopsIn, at_state, lent};
 ghost use Rattle.mp4_fragment_machine.specs.declared.state.State.TheVariants as states;
 
 use crate::body::{back, end_fragment};
@@ -55,6 +57,60 @@ pub(crate) fn take_media<W: Sink>(
         }),
         Err(Failed) => Err(Failed),
     }
+}
+
+/// Takes a piece of an mdat that is recut and goes on behind it: all its bytes, where the machine keeps its place.
+///
+/// # Errors
+///
+/// `Failed` where a write failed: its place is as it was.
+pub(crate) fn take_within<W: Sink>(
+    recutting: &mut Recutting,
+    piece: &[u8],
+    kept: &mut Kept,
+    ledger: &Ledger,
+    out: &mut Block,
+    w: &mut W,
+) -> Result<(), Failed>
+    requires within { length piece.now < recutting.old.body.left }
+    requires state { IsState kept.old.tracks kept.old.head (states.Media recutting.old) }
+    requires can { CanStep kept.old ledger.now (states.Media recutting.old) }
+    ensures ok { OnOk result (GoesTo (lent W.contents W.has_failed w.old w.new out.old out.new
+        ledger.now ledger.now) kept.old kept.new (at_state kept.old (states.Media recutting.old))
+        (take (length piece.now) piece.now) (states.Media recutting.new)) }
+    ensures err { OnErr result (StopsIn (lent W.contents W.has_failed w.old w.new out.old out.new
+        ledger.now (given_back ledger.now (taken_by (Some recutting.old.waiting)))) kept.old kept.new
+        (at_state kept.old (states.Media recutting.old)) piece.now Write) }
+    ensures same { OnErr result (recutting.new ≡ recutting.old) }
+{
+    let _ = ledger;
+    let Some(list) = &kept.tracks else {
+        unreachable!();
+    };
+    let tally = &mut kept.counter.tally;
+    let left = recutting.body.left;
+    let at = recutting.body.next - left;
+    let media = recutting.media;
+    let waiting = &recutting.waiting;
+    let taken = match take_media(
+        at,
+        left,
+        media,
+        waiting,
+        piece,
+        list,
+        &recutting.cut,
+        tally,
+        out,
+        w,
+    ) {
+        Ok(taken) => taken,
+        Err(Failed) => return Err(Failed),
+    };
+    recutting.media = taken.media;
+    recutting.body.left = left - taken.count as u64;
+    recutting.number = tally.fragments + 1;
+    Ok(())
 }
 
 /// Takes bytes of an mdat that is recut from the front of a piece: what is taken next. Where all of it came its tracks end, and its

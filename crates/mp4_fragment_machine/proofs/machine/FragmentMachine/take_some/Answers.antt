@@ -1,3 +1,5 @@
+use Rattle.std.proofs.Common.{◌∙◌, ap, sym}
+use Rattle.mp4_fragment_machine.specs.States.{Progress}
 use Rattle.mp4_fragment_machine.proofs.machine.FragmentMachine.take_some.Goals as goal
 
 pub returns-then-piece-body : goal.returns-then-piece-body
@@ -7,3 +9,11 @@ returns-then-piece-body g c =
 pub returns-in-Body : goal.returns-in-Body
 returns-in-Body g c =
     c.finish_body.ensures (record { written = g.W.Sink.contents c.args.w.now; waiting = c.args.out.now; failed = g.W.Sink.has_failed c.args.w.now })
+
+pub pay_within-requires : goal.pay_within-requires
+pay_within-requires g c =
+    record {
+      some = c.requires.some;
+      within = (c.in-Media.recutting, ap (λ (p : Progress). p.state) (sym c.self.view_is) ∙ c.in-Media.is, c.if-piece-recutting.true);
+      claim = c.requires.claim;
+    }
