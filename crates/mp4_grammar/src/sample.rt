@@ -53,17 +53,28 @@ impl Sample {
 
 impl Sample {
     /// Appends its track and its times.
+    #[inline(always)]
     fn push_times(&self, block: &mut Text<BLOCK_BYTES>)
         requires { length block.old + LINE_BYTES ≤ BLOCK_BYTES }
         ensures text { block.new ≡ block.old ++ times_text self.now }
         ensures len { length block.new ≤ length block.old + 96 }
     {
         push_number(block, b"track=", u64::from(self.track));
-        push_number(block, b" dts=", self.time);
-        push_signed(block, b" cts=", self.composition);
+        block.push_array(b" dts=");
+        let from = block.len();
+        block.push_decimal(self.time);
+        let digits = block.len() - from;
+        block.push_array(b" cts=");
+        // Mostly it is the decode time, whose digits stand there already.
+        if self.composition == i128::from(self.time) {
+            block.push_again(from, digits);
+        } else {
+            block.push_signed_decimal(self.composition);
+        }
     }
 
     /// Appends its duration, size and flags.
+    #[inline(always)]
     fn push_fields(&self, block: &mut Text<BLOCK_BYTES>)
         requires { length block.old + 71 ≤ BLOCK_BYTES }
         ensures text { block.new ≡ block.old ++ fields_text self.now }
@@ -71,26 +82,28 @@ impl Sample {
     {
         push_number(block, b" dur=", u64::from(self.duration));
         push_number(block, b" size=", u64::from(self.size));
-        block.push_bytes(b" flags=");
+        block.push_array(b" flags=");
         block.push_hex(&self.flags.to_be_bytes());
-        block.push_bytes(b" ");
+        block.push_array(b" ");
         push_sync(block, self.flags);
     }
 
     /// Appends its sample entry and place, and ends its line.
+    #[inline(always)]
     fn push_place(&self, block: &mut Text<BLOCK_BYTES>)
         requires { length block.old + 71 ≤ BLOCK_BYTES }
         ensures { block.new ≡ block.old ++ place_text self.now }
     {
         push_number(block, b" desc=", u64::from(self.entry));
         push_signed(block, b" at=", self.place);
-        block.push_bytes(b"\n");
+        block.push_array(b"\n");
     }
 }
 
 impl Line for Sample {
     ghost text = { λ s. sample_line s };
 
+    #[inline(always)]
     #[tactic(auto, unfolding(crate::specs::Samples::sample_line))]
     fn push(&self, block: &mut Text<BLOCK_BYTES>) {
         self.push_times(block);
@@ -101,23 +114,23 @@ impl Line for Sample {
 
 /// Appends a number behind its name.
 #[inline(always)]
-fn push_number(block: &mut Text<BLOCK_BYTES>, name: &[u8], number: u64)
-    requires { length block.old + length name.now + DECIMAL_DIGITS ≤ BLOCK_BYTES }
+fn push_number<const N: usize>(block: &mut Text<BLOCK_BYTES>, name: &[u8; N], number: u64)
+    requires { length block.old + N + DECIMAL_DIGITS ≤ BLOCK_BYTES }
     ensures text { block.new ≡ block.old ++ name.now ++ decimal number }
-    ensures len { length block.new ≤ length block.old + length name.now + DECIMAL_DIGITS }
+    ensures len { length block.new ≤ length block.old + N + DECIMAL_DIGITS }
 {
-    block.push_bytes(name);
+    block.push_array(name);
     block.push_decimal(number);
 }
 
 /// Appends a number with a sign behind its name.
 #[inline(always)]
-fn push_signed(block: &mut Text<BLOCK_BYTES>, name: &[u8], number: i128)
-    requires { length block.old + length name.now + SIGNED_DECIMAL_BYTES ≤ BLOCK_BYTES }
+fn push_signed<const N: usize>(block: &mut Text<BLOCK_BYTES>, name: &[u8; N], number: i128)
+    requires { length block.old + N + SIGNED_DECIMAL_BYTES ≤ BLOCK_BYTES }
     ensures text { block.new ≡ block.old ++ name.now ++ signed_decimal number }
-    ensures len { length block.new ≤ length block.old + length name.now + SIGNED_DECIMAL_BYTES }
+    ensures len { length block.new ≤ length block.old + N + SIGNED_DECIMAL_BYTES }
 {
-    block.push_bytes(name);
+    block.push_array(name);
     block.push_signed_decimal(number);
 }
 
@@ -129,8 +142,8 @@ fn push_sync(block: &mut Text<BLOCK_BYTES>, flags: u32)
     ensures len { length block.new ≤ length block.old + 4 }
 {
     if flags & NON_SYNC == 0 {
-        block.push_bytes(b"sync");
+        block.push_array(b"sync");
     } else {
-        block.push_bytes(b"-");
+        block.push_array(b"-");
     }
 }

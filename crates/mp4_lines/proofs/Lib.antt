@@ -1,2 +1,3 @@
 pub mod DigitLemmas
 pub mod DecimalLemmas
+pub mod AgainLemmas

@@ -1,7 +1,6 @@
-//! How long numbers are in decimal, and the hexadecimal digits.
+//! The digits of small numbers, in decimal and hexadecimal.
 
-ghost use Rattle.std.specs.Prelude.{◌≡◌, ◌≤◌, ◌<◌, ◌*◌, ◌^◌, length};
-ghost use Rattle.std.specs.Fmt.{decimal};
+ghost use Rattle.std.specs.Prelude.{◌≡◌, ◌<◌};
 ghost use Rattle.mp4_lines.specs.Digits as spec;
 
 /// The most digits of a `u64` in decimal.
@@ -13,79 +12,51 @@ pub const WIDE_DECIMAL_DIGITS: usize = 39;
 /// The most bytes of an `i128` in decimal, with its sign.
 pub const SIGNED_DECIMAL_BYTES: usize = 40;
 
-/// How many decimal digits each power of two has that is a `u64`.
-static DIGITS_OF_POWERS: [u8; 64] = [
-    1, 1, 1, 1, 2, 2, 2, 3, 3, 3, 4, 4, 4, 4, 5, 5, 5, 6, 6, 6, 7, 7, 7, 7, 8, 8, 8, 9, 9, 9, 10,
-    10, 10, 10, 11, 11, 11, 12, 12, 12, 13, 13, 13, 13, 14, 14, 14, 15, 15, 15, 16, 16, 16, 16, 17,
-    17, 17, 18, 18, 18, 19, 19, 19, 19,
-];
+/// The two decimal digits of each number below 100.
+static DECIMAL_PAIRS: [u8; 200] = *b"\
+    0001020304050607080910111213141516171819\
+    2021222324252627282930313233343536373839\
+    4041424344454647484950515253545556575859\
+    6061626364656667686970717273747576777879\
+    8081828384858687888990919293949596979899";
 
-/// The powers of ten that are a `u64`.
-static POWERS_OF_TEN: [u64; 20] = [
-    1,
-    10,
-    100,
-    1_000,
-    10_000,
-    100_000,
-    1_000_000,
-    10_000_000,
-    100_000_000,
-    1_000_000_000,
-    10_000_000_000,
-    100_000_000_000,
-    1_000_000_000_000,
-    10_000_000_000_000,
-    100_000_000_000_000,
-    1_000_000_000_000_000,
-    10_000_000_000_000_000,
-    100_000_000_000_000_000,
-    1_000_000_000_000_000_000,
-    10_000_000_000_000_000_000,
-];
+/// The two hexadecimal digits of each byte, in lower case.
+static HEX_PAIRS: [u8; 512] = *b"\
+    000102030405060708090a0b0c0d0e0f101112131415161718191a1b1c1d1e1f\
+    202122232425262728292a2b2c2d2e2f303132333435363738393a3b3c3d3e3f\
+    404142434445464748494a4b4c4d4e4f505152535455565758595a5b5c5d5e5f\
+    606162636465666768696a6b6c6d6e6f707172737475767778797a7b7c7d7e7f\
+    808182838485868788898a8b8c8d8e8f909192939495969798999a9b9c9d9e9f\
+    a0a1a2a3a4a5a6a7a8a9aaabacadaeafb0b1b2b3b4b5b6b7b8b9babbbcbdbebf\
+    c0c1c2c3c4c5c6c7c8c9cacbcccdcecfd0d1d2d3d4d5d6d7d8d9dadbdcdddedf\
+    e0e1e2e3e4e5e6e7e8e9eaebecedeeeff0f1f2f3f4f5f6f7f8f9fafbfcfdfeff";
 
-/// How many digits a number has in decimal.
-pub(crate) fn decimal_len(number: u64) -> usize
-    ensures value { result ≡ length (decimal number) }
-    ensures bound { result ≤ DECIMAL_DIGITS }
-    ensures short { number < 2 ^ 32 → result ≤ 10 }
+/// The two decimal digits of a number below 100.
+#[inline(always)]
+pub(crate) fn decimal_pair(number: u32) -> [u8; 2]
+    requires { number < 100 }
+    ensures { result ≡ spec.decimal_pair number }
 {
-    if number == 0 {
-        return 1;
-    }
-    let fewest = digits_of_power(number.ilog2() as usize);
-    if number < power_of_ten(fewest) {
-        fewest
-    } else {
-        fewest + 1
-    }
+    let from = number as usize * 2;
+    [DECIMAL_PAIRS[from], DECIMAL_PAIRS[from + 1]]
 }
 
-/// How many digits a power of two has. One digit more is enough for the next power of two.
-fn digits_of_power(exponent: usize) -> usize
-    requires { exponent < 64 }
-    ensures least { 10 ^ result ≤ 10 * 2 ^ exponent }
-    ensures most { 2 * 2 ^ exponent ≤ 10 * 10 ^ result }
-    ensures bounds { (1 ≤ result) × (result ≤ 19) }
+/// The four decimal digits of a number below 10,000.
+#[inline(always)]
+pub(crate) fn decimal_four(number: u32) -> [u8; 4]
+    requires { number < 10_000 }
+    ensures { result ≡ spec.decimal_four number }
 {
-    DIGITS_OF_POWERS[exponent] as usize
+    let high = decimal_pair(number / 100);
+    let low = decimal_pair(number % 100);
+    [high[0], high[1], low[0], low[1]]
 }
 
-fn power_of_ten(exponent: usize) -> u64
-    requires { exponent < 20 }
-    ensures { result ≡ 10 ^ exponent }
+/// The two hexadecimal digits of a byte, in lower case.
+#[inline(always)]
+pub(crate) fn hex_pair(byte: u8) -> [u8; 2]
+    ensures { result ≡ spec.hex_pair byte }
 {
-    POWERS_OF_TEN[exponent]
-}
-
-/// The hexadecimal digit of a number below 16, in lower case.
-pub(crate) fn hex_digit(number: u8) -> u8
-    requires { number < 16 }
-    ensures { result ≡ spec.hex_digit number }
-{
-    if number < 10 {
-        b'0' + number
-    } else {
-        b'a' + (number - 10)
-    }
+    let from = byte as usize * 2;
+    [HEX_PAIRS[from], HEX_PAIRS[from + 1]]
 }

@@ -1,7 +1,7 @@
 //! Text under construction: bytes, and numbers in decimal and hexadecimal.
 //!
 //! - [`text`]: [`Text`], which holds up to a number of bytes that its type names, and allocates nothing;
-//! - [`digits`]: how long numbers are in decimal, and the hexadecimal digits.
+//! - [`digits`]: how many digits numbers have at most, and the digits of small numbers.
 //!
 //! Decimals are std's `decimal` and `signed_decimal`. Hexadecimal is defined in `specs/Digits.antt`.
 #![tactic(auto)]
@@ -10,4 +10,4 @@ pub mod digits;
 pub mod text;
 
 pub use digits::{DECIMAL_DIGITS, SIGNED_DECIMAL_BYTES, WIDE_DECIMAL_DIGITS};
-pub use text::Text;
+pub use text::{MOST_AGAIN, Text};

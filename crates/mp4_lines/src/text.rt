@@ -1,14 +1,18 @@
 //! Text under construction.
 
-ghost use Rattle.std.specs.Prelude.{◌≡◌, ◌+◌, ◌*◌, ◌^◌, ◌<◌, ◌≤◌, ◌++◌, [], length, take};
+ghost use Rattle.std.specs.Prelude.{◌≡◌, ◌+◌, ◌*◌, ◌^◌, ◌<◌, ◌≤◌, ◌++◌, [], length, take, drop};
 ghost use Rattle.std.specs.Fmt.{decimal, signed_decimal};
-ghost use Rattle.mp4_lines.specs.Digits.{hex_bytes};
+ghost use Rattle.mp4_lines.specs.Digits.{eight_digits, hex_bytes};
 
 use crate::digits::{
-    DECIMAL_DIGITS, SIGNED_DECIMAL_BYTES, WIDE_DECIMAL_DIGITS, decimal_len, hex_digit,
+    DECIMAL_DIGITS, SIGNED_DECIMAL_BYTES, WIDE_DECIMAL_DIGITS, decimal_four, decimal_pair, hex_pair,
 };
-use itoa::{Buffer, write_digits};
+use itoa::Buffer;
 use std::marker::Model;
+use std::simd::Simd;
+
+/// The most bytes that [`Text::push_again`] appends.
+pub const MOST_AGAIN: usize = 32;
 
 /// Text of at most `CAP` bytes. A contract sees it as the list of its bytes.
 #[derive(Drop)]
@@ -82,16 +86,112 @@ impl<const CAP: usize> Text<CAP> {
         self.len = end;
     }
 
+    /// Appends the bytes of an array. Its type knows how many, so that the copy of a few is a move or two.
+    #[inline(always)]
+    pub fn push_array<const N: usize>(&mut self, bytes: &[u8; N])
+        requires { length self.old + N ≤ CAP }
+        ensures text { self.new ≡ self.old ++ bytes.now }
+        ensures len { length self.new ≡ length self.old + N }
+    {
+        let at = self.len;
+        let all = &mut self.bytes[..];
+        for i in 0..N {
+            all[at + i] = bytes[i];
+        }
+        self.len = at + N;
+    }
+
     /// Appends the number in decimal, at most [`DECIMAL_DIGITS`] bytes, and 10 where it has 32 bits.
+    #[inline(always)]
     pub fn push_decimal(&mut self, number: u64)
         requires { length self.old + DECIMAL_DIGITS ≤ CAP }
         ensures text { self.new ≡ self.old ++ decimal number }
         ensures len { length self.new ≤ length self.old + DECIMAL_DIGITS }
         ensures short { number < 2 ^ 32 → length self.new ≤ length self.old + 10 }
     {
-        let digits = decimal_len(number);
-        write_digits(number, &mut self.bytes, self.len + digits);
-        self.len += digits;
+        if number < 10_000 {
+            self.push_four_at_most(number as u32);
+        } else {
+            self.push_long_decimal(number);
+        }
+    }
+
+    /// Appends the number in decimal: its last eight digits behind those before them, where there are more.
+    fn push_long_decimal(&mut self, number: u64)
+        requires { length self.old + DECIMAL_DIGITS ≤ CAP }
+        ensures { self.new ≡ self.old ++ decimal number }
+    {
+        if number < 100_000_000 {
+            self.push_eight_at_most(number as u32);
+            return;
+        }
+        let last = (number % 100_000_000) as u32;
+        self.push_twelve_at_most(number / 100_000_000);
+        self.push_eight(last);
+    }
+
+    /// Appends a number of at most twelve digits in decimal.
+    #[inline(always)]
+    fn push_twelve_at_most(&mut self, number: u64)
+        requires number { number < 1_000_000_000_000 }
+        requires room { length self.old + 12 ≤ CAP }
+        ensures text { self.new ≡ self.old ++ decimal number }
+        ensures len { length self.new ≤ length self.old + 12 }
+    {
+        if number < 100_000_000 {
+            self.push_eight_at_most(number as u32);
+        } else {
+            self.push_four_at_most((number / 100_000_000) as u32);
+            self.push_eight((number % 100_000_000) as u32);
+        }
+    }
+
+    /// Appends a number of at most four digits in decimal.
+    #[inline(always)]
+    fn push_four_at_most(&mut self, number: u32)
+        requires number { number < 10_000 }
+        requires room { length self.old + 4 ≤ CAP }
+        ensures text { self.new ≡ self.old ++ decimal number }
+        ensures len { length self.new ≤ length self.old + 4 }
+    {
+        if number < 10 {
+            self.push_array(&[b'0' + number as u8]);
+        } else if number < 100 {
+            self.push_array(&decimal_pair(number));
+        } else if number < 1_000 {
+            self.push_array(&[b'0' + (number / 100) as u8]);
+            self.push_array(&decimal_pair(number % 100));
+        } else {
+            self.push_array(&decimal_four(number));
+        }
+    }
+
+    /// Appends a number of at most eight digits in decimal.
+    #[inline(always)]
+    fn push_eight_at_most(&mut self, number: u32)
+        requires number { number < 100_000_000 }
+        requires room { length self.old + 8 ≤ CAP }
+        ensures text { self.new ≡ self.old ++ decimal number }
+        ensures len { length self.new ≤ length self.old + 8 }
+    {
+        if number < 10_000 {
+            self.push_four_at_most(number);
+        } else {
+            self.push_four_at_most(number / 10_000);
+            self.push_array(&decimal_four(number % 10_000));
+        }
+    }
+
+    /// Appends eight digits of a number below 100,000,000: zeros in front where it has fewer.
+    #[inline(always)]
+    fn push_eight(&mut self, number: u32)
+        requires number { number < 100_000_000 }
+        requires room { length self.old + 8 ≤ CAP }
+        ensures text { self.new ≡ self.old ++ eight_digits number }
+        ensures len { length self.new ≡ length self.old + 8 }
+    {
+        self.push_array(&decimal_four(number / 10_000));
+        self.push_array(&decimal_four(number % 10_000));
     }
 
     /// Appends the number in decimal, at most [`WIDE_DECIMAL_DIGITS`] bytes.
@@ -109,7 +209,21 @@ impl<const CAP: usize> Text<CAP> {
     }
 
     /// Appends the number in decimal, a negative one behind a minus sign: at most [`SIGNED_DECIMAL_BYTES`] bytes.
+    #[inline(always)]
     pub fn push_signed_decimal(&mut self, number: i128)
+        requires { length self.old + SIGNED_DECIMAL_BYTES ≤ CAP }
+        ensures text { self.new ≡ self.old ++ signed_decimal number }
+        ensures len { length self.new ≤ length self.old + SIGNED_DECIMAL_BYTES }
+    {
+        if 0 <= number && number <= u64::MAX as i128 {
+            self.push_decimal(number as u64);
+        } else {
+            self.push_long_signed(number);
+        }
+    }
+
+    /// Appends a number in decimal that is negative or has more than 64 bits, or any other.
+    fn push_long_signed(&mut self, number: i128)
         requires { length self.old + SIGNED_DECIMAL_BYTES ≤ CAP }
         ensures text { self.new ≡ self.old ++ signed_decimal number }
         ensures len { length self.new ≤ length self.old + SIGNED_DECIMAL_BYTES }
@@ -120,14 +234,32 @@ impl<const CAP: usize> Text<CAP> {
         self.push_wide_decimal(number.unsigned_abs());
     }
 
+    /// Appends `n` of its bytes once more, those from `from` on. [`MOST_AGAIN`] are moved, whatever `n` is, since a move of
+    /// a length that is known is fast, and the first `n` count.
+    #[inline(always)]
+    pub fn push_again(&mut self, from: usize, n: usize)
+        requires there { from + n ≤ length self.old }
+        requires few { n ≤ MOST_AGAIN }
+        requires room { length self.old + MOST_AGAIN ≤ CAP }
+        ensures text { self.new ≡ self.old ++ take n (drop from self.old) }
+        ensures len { length self.new ≡ length self.old + n }
+    {
+        let more = self.len + n;
+        let all = &mut self.bytes[..];
+        let moved = Simd::<u8, MOST_AGAIN>::from_slice(&all[from..]);
+        moved.copy_to_slice(&mut all[self.len..]);
+        self.len = more;
+    }
+
     /// Appends the bytes in hexadecimal, two digits each, in lower case.
+    #[inline]
     pub fn push_hex(&mut self, bytes: &[u8])
         requires { length self.old + 2 * length bytes.now ≤ CAP }
         ensures text { self.new ≡ self.old ++ hex_bytes bytes.now }
         ensures len { length self.new ≡ length self.old + 2 * length bytes.now }
     {
         for byte in bytes {
-            self.push_bytes(&[hex_digit(*byte / 16), hex_digit(*byte % 16)]);
+            self.push_array(&hex_pair(*byte));
         }
     }
 }

@@ -6,6 +6,6 @@ pub loop-byte-preserved : goal.loop-byte-preserved
 loop-byte-preserved g c =
     let more = hex_bytes-take_more c.loop-byte.byte-index c.args.bytes.now c.loop-byte-test.true in
     record {
-      text = rw (more, c.push_bytes.ensures.text, c.loop-byte.invariant.text, c.hex_digit.ensures, c.hex_digit-in-loop-byte.ensures) (simp append_assoc);
+      text = rw (more, c.push_array.ensures.text, c.loop-byte.invariant.text, c.hex_pair.ensures) (simp append_assoc);
       len = omega arith;
     }
