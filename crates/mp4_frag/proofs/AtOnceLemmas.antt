@@ -1,8 +1,8 @@
 -- Where one pass over a moof finds nothing, nothing is at fault with its boxes and their values.
-use Rattle.std.proofs.Common.{◌≡◌, ◌∙◌, Bool, true, false, not, ℕ, List, [], ◌∷◌, ◌++◌, length, Option, Some, None, refl, sym, ap, arith}
-use Rattle.std.specs.Prelude.{◌==◌, ◌&&◌, ◌||◌}
+use Rattle.std.proofs.Common.{◌≡◌, ◌≢◌, ◌∙◌, Bool, true, false, not, ℕ, List, [], ◌∷◌, ◌++◌, length, Option, Some, None, refl, sym, ap, arith, append-nil}
+use Rattle.std.specs.Prelude.{◌==◌, ◌&&◌, ◌||◌, nat_lt}
 use Rattle.std.specs.List.{AllByRecursion, flat_map, list_all, list_any}
-use Rattle.std.specs.Option.{is_none, is_some, option_or}
+use Rattle.std.specs.Option.{is_none, is_some}
 use Rattle.std.specs.Str.{bytes_eq}
 use Rattle.std.proofs.lemmas.Bool.Decides.{nat_tests}
 use Rattle.std.proofs.lemmas.Grind.{flat_map-append}
@@ -12,16 +12,16 @@ use Rattle.mp4_box.specs.declared.rules.Fault.{Fault}
 use Rattle.mp4_box.specs.declared.rules.Rule.TheVariants.{Unsupported}
 use Rattle.mp4_box.specs.declared.checks.Layout.TheVariants.{Exactly}
 use Rattle.mp4_box.specs.Checks.{along, alone, at_most_one, further, laid_out, one}
-use Rattle.mp4_box.specs.Order.{least, least_from}
+use Rattle.mp4_box.specs.Order.{least_from}
 use Rattle.mp4_box.proofs.OrderLemmas.{least-none}
 use Rattle.mp4_box.specs.Paths.{at_path, of_kind}
 use Rattle.mp4_box.specs.Trees.{Box, children, first_of}
 use Rattle.mp4_init.specs.declared.table.Track.{Track}
-use Rattle.mp4_frag.specs.Working.AtOnce.{HasTicks, IsComplete, TrafHasTicks, by_moof, by_traf, faults_in_moof, faults_in_traf, has_both, has_one, is_complete, is_filled, is_kind, passed_over}
+use Rattle.mp4_frag.specs.Working.AtOnce.{HasTicks, IsComplete, by_moof, by_traf, faults_in_moof, faults_in_traf, has_few, has_heads, has_one, is_complete, is_filled, is_kind, passed_over}
 use Rattle.mp4_frag.specs.Kinds.{mfhd, traf, tfhd, tfdt, trun, free, skip}
 use Rattle.mp4_frag.specs.Mfhd.{mfhd_len}
 use Rattle.mp4_frag.specs.Moofs.{value_faults}
-use Rattle.mp4_frag.specs.Repeats.{lacks_time}
+use Rattle.mp4_frag.specs.Repeats.{lacks_time, repeat_faults}
 use Rattle.mp4_frag.specs.Rules.{child_faults, count_faults, fault_if, form_faults, holds_only, tfhd_faults, tfhd_length, trun_faults, trun_length, unsupported}
 use Rattle.mp4_frag.specs.Tfdt.{tfdt_layout}
 use Rattle.mp4_frag.proofs.MoofLemmas.{last_none, path_kind}
@@ -37,6 +37,10 @@ both_true false b e = absurd cc
 
 true_both : (a b : Bool) → a ≡ true → b ≡ true → a && b ≡ true
 true_both a b e f = ap (λ (u : Bool). u && b) e ∙ f
+
+either_none : (a b : Bool) → a || false ≡ false → b ≡ false → a || b ≡ false
+either_none true b e f = absurd cc
+either_none false b e f = f
 
 -- the first child, and then the others
 pub complete_first : (b : Box) (bs : List Box) → list_all is_complete (of_kind traf (b ∷ bs)) ≡ (list_all is_complete (of_kind traf (b ∷ [])) && list_all is_complete (of_kind traf bs))
@@ -58,10 +62,10 @@ ticks_first tracks b bs here rest = by (is_kind tfhd b) refl
     by true is = rw is (here is, rest)
     by false is = rw is rest
 
-pub trafs_first : (tracks : List Track) (b : Box) (bs : List Box) → AllByRecursion (TrafHasTicks tracks) (of_kind traf (b ∷ [])) → AllByRecursion (TrafHasTicks tracks) (of_kind traf bs) → AllByRecursion (TrafHasTicks tracks) (of_kind traf (b ∷ bs))
-trafs_first tracks b bs here rest = by (is_kind traf b) refl here
+pub trafs_first : (P : Box → Type 0) (b : Box) (bs : List Box) → AllByRecursion P (of_kind traf (b ∷ [])) → AllByRecursion P (of_kind traf bs) → AllByRecursion P (of_kind traf (b ∷ bs))
+trafs_first P b bs here rest = by (is_kind traf b) refl here
   where
-    by : (u : Bool) → is_kind traf b ≡ u → AllByRecursion (TrafHasTicks tracks) (of_kind traf (b ∷ [])) → AllByRecursion (TrafHasTicks tracks) (of_kind traf (b ∷ bs))
+    by : (u : Bool) → is_kind traf b ≡ u → AllByRecursion P (of_kind traf (b ∷ [])) → AllByRecursion P (of_kind traf (b ∷ bs))
     by true is here = let one = rw is at here in rw is (one.0, rest)
     by false is here = rw is rest
 
@@ -158,36 +162,40 @@ alone_none parent [] e = grind (arith, nat_tests)
 alone_none parent (b ∷ []) e = refl
 alone_none parent (b ∷ (c ∷ bs)) e = grind (arith, nat_tests)
 
-further_none : (bs : List Box) → (length bs == 1) ≡ true → further bs ≡ []
+further_none : (bs : List Box) → nat_lt (length bs) 2 ≡ true → further bs ≡ []
 further_none [] e = refl
 further_none (b ∷ []) e = refl
 further_none (b ∷ (c ∷ bs)) e = grind (arith, nat_tests)
 
-one_each : (ts : List Box) → list_all has_both ts ≡ true → flat_map (one tfhd) ts ≡ []
+one_each : (ts : List Box) → list_all has_heads ts ≡ true → flat_map (one tfhd) ts ≡ []
 one_each [] e = refl
 one_each (t ∷ ts) e =
-    let parts = both_true (has_both t) (list_all has_both ts) e in
-    ap (λ (fs : List Fault). fs ++ flat_map (one tfhd) ts) (alone_none t (of_kind tfhd (children t)) (both_true (has_one tfhd t) (has_one tfdt t) parts.0).0) ∙ one_each ts parts.1
+    let parts = both_true (has_heads t) (list_all has_heads ts) e in
+    ap (λ (fs : List Fault). fs ++ flat_map (one tfhd) ts) (alone_none t (of_kind tfhd (children t)) (both_true (has_one tfhd t) (has_few tfdt t) parts.0).0) ∙ one_each ts parts.1
 
-at_most_one_each : (ts : List Box) → list_all has_both ts ≡ true → flat_map (at_most_one tfdt) ts ≡ []
+at_most_one_each : (ts : List Box) → list_all has_heads ts ≡ true → flat_map (at_most_one tfdt) ts ≡ []
 at_most_one_each [] e = refl
 at_most_one_each (t ∷ ts) e =
-    let parts = both_true (has_both t) (list_all has_both ts) e in
-    ap (λ (fs : List Fault). fs ++ flat_map (at_most_one tfdt) ts) (further_none (of_kind tfdt (children t)) (both_true (has_one tfhd t) (has_one tfdt t) parts.0).1) ∙ at_most_one_each ts parts.1
+    let parts = both_true (has_heads t) (list_all has_heads ts) e in
+    ap (λ (fs : List Fault). fs ++ flat_map (at_most_one tfdt) ts) (further_none (of_kind tfdt (children t)) (both_true (has_one tfhd t) (has_few tfdt t) parts.0).1) ∙ at_most_one_each ts parts.1
 
-some_first : (bs : List Box) → (length bs == 1) ≡ true → is_none (first_of bs) ≡ false
-some_first [] e = grind (arith, nat_tests)
-some_first (b ∷ bs) e = refl
+-- ---- trafs with a tfdt
 
-has_time : (t : Box) → has_both t ≡ true → lacks_time t ≡ false
+some_first : (bs : List Box) → length bs ≢ 0 → is_none (first_of bs) ≡ false
+some_first [] some = absurd (some refl)
+some_first (b ∷ bs) some = refl
+
+pub has_time : (t : Box) → length (of_kind tfdt (children t)) ≢ 0 → lacks_time t ≡ false
 unfolding lacks_time
-has_time t e = ap (λ (bs : List Box). is_none (first_of bs)) (path_kind tfdt t) ∙ some_first (of_kind tfdt (children t)) (both_true (has_one tfhd t) (has_one tfdt t) e).1
+has_time t some = ap (λ (bs : List Box). is_none (first_of bs)) (path_kind tfdt t) ∙ some_first (of_kind tfdt (children t)) some
 
-none_lacks_time : (ts : List Box) → list_all has_both ts ≡ true → list_any lacks_time ts ≡ false
-none_lacks_time [] e = refl
-none_lacks_time (t ∷ ts) e =
-    let parts = both_true (has_both t) (list_all has_both ts) e in
-    ap (λ (u : Bool). u || list_any lacks_time ts) (has_time t parts.0) ∙ none_lacks_time ts parts.1
+-- the first child, and then the others
+pub timed_first : (b : Box) (bs : List Box) → list_any lacks_time (of_kind traf (b ∷ [])) ≡ false → list_any lacks_time (of_kind traf bs) ≡ false → list_any lacks_time (of_kind traf (b ∷ bs)) ≡ false
+timed_first b bs here rest = by (is_kind traf b) refl here
+  where
+    by : (u : Bool) → is_kind traf b ≡ u → list_any lacks_time (of_kind traf (b ∷ [])) ≡ false → list_any lacks_time (of_kind traf (b ∷ bs)) ≡ false
+    by true is here = rw is (either_none (lacks_time b) (list_any lacks_time (of_kind traf bs)) (rw is at here) rest)
+    by false is here = rw is rest
 
 -- ---- along the paths of a moof
 
@@ -208,7 +216,7 @@ module _ (tracks : List Track) (m : Box) (none : flat_map (faults_in_moof tracks
       ∙ kind_none (faults_in_moof tracks) (λ t. flat_map g (at_path (kind ∷ []) t)) traf
       (λ t is e. ap (flat_map g) (path_kind kind t) ∙ kind_none (faults_in_traf tracks) g kind h (children t) (traf_is tracks t is e)) (children m) none
 
-  forms_none : has_one mfhd m ≡ true → list_all has_both (of_kind traf (children m)) ≡ true → form_faults m ≡ []
+  forms_none : has_one mfhd m ≡ true → list_all has_heads (of_kind traf (children m)) ≡ true → form_faults m ≡ []
   unfolding form_faults at_path
   forms_none mfhds both =
       rw (
@@ -230,16 +238,15 @@ module _ (tracks : List Track) (m : Box) (none : flat_map (faults_in_moof tracks
             (λ t e. each_none (faults_in_traf tracks) (unsupported (tfhd ∷ tfdt ∷ trun ∷ free ∷ skip ∷ [])) (λ b e. supported_in_traf tracks b e) (children t) e),
       ) refl
 
-  values_none : list_all has_both (of_kind traf (children m)) ≡ true → count_faults m ≡ [] → value_faults tracks m ≡ []
+  values_are : count_faults m ≡ [] → value_faults tracks m ≡ repeat_faults m
   unfolding value_faults
-  values_none both count =
+  values_are count =
       rw (
         children_none,
-        none_lacks [] (of_kind traf (children m)) (none_lacks_time (of_kind traf (children m)) both),
         below_none (tfhd_faults tracks) tfhd (λ b is e. (tfhd_is tracks b is e).1),
         below_none trun_faults trun (λ b is e. (trun_is tracks b is e).1),
         count,
-      ) refl
+      ) (simp append-nil)
 
 -- ---- what the pass tells
 
@@ -254,22 +261,21 @@ pub record Passed (tracks : List Track) (m : Box) : Type 0 where
 pub passed : (tracks : List Track) (m : Box) (best : Option Fault) → best ≡ least_from None (flat_map (faults_in_moof tracks) (children m)) → is_some best ≡ false → IsComplete m → Passed tracks m
 passed tracks m best e none complete = record { none = least-none (flat_map (faults_in_moof tracks) (children m)) (sym e ∙ no_best best none); complete = complete }
 
--- so each traf has its tfhd and its tfdt
-each_both : (ts : List Box) → list_all is_complete ts ≡ true → list_all has_both ts ≡ true
-each_both [] e = refl
-each_both (t ∷ ts) e =
+-- so each traf has its tfhd
+each_heads : (ts : List Box) → list_all is_complete ts ≡ true → list_all has_heads ts ≡ true
+each_heads [] e = refl
+each_heads (t ∷ ts) e =
     let parts = both_true (is_complete t) (list_all is_complete ts) e in
-    true_both (has_both t) (list_all has_both ts) (both_true (has_both t) (is_filled t) parts.0).0 (each_both ts parts.1)
+    true_both (has_heads t) (list_all has_heads ts) (both_true (has_heads t) (is_filled t) parts.0).0 (each_heads ts parts.1)
 
-pub passed_both : (tracks : List Track) (m : Box) → Passed tracks m → list_all has_both (of_kind traf (children m)) ≡ true
-passed_both tracks m p = each_both (of_kind traf (children m)) p.complete.trafs
+pub passed_heads : (tracks : List Track) (m : Box) → Passed tracks m → list_all has_heads (of_kind traf (children m)) ≡ true
+passed_heads tracks m p = each_heads (of_kind traf (children m)) p.complete.trafs
 
 pub no_forms : (tracks : List Track) (m : Box) → Passed tracks m → form_faults m ≡ []
-no_forms tracks m p = forms_none tracks m p.none p.complete.mfhds (passed_both tracks m p)
+no_forms tracks m p = forms_none tracks m p.none p.complete.mfhds (passed_heads tracks m p)
 
-pub no_values : (tracks : List Track) (m : Box) → Passed tracks m → count_faults m ≡ [] → value_faults tracks m ≡ []
-no_values tracks m p count = values_none tracks m p.none (passed_both tracks m p) count
+pub only_repeats : (tracks : List Track) (m : Box) → Passed tracks m → count_faults m ≡ [] → value_faults tracks m ≡ repeat_faults m
+only_repeats tracks m p count = values_are tracks m p.none count
 
-pub none_least : (fs gs : List Fault) → fs ≡ [] → gs ≡ [] → None ≡ option_or (least fs) (least gs)
-unfolding least_from
-none_least fs gs p q = rw (p, q) refl
+pub no_values : (tracks : List Track) (m : Box) → Passed tracks m → list_any lacks_time (of_kind traf (children m)) ≡ false → count_faults m ≡ [] → value_faults tracks m ≡ []
+no_values tracks m p timed count = only_repeats tracks m p count ∙ none_lacks [] (of_kind traf (children m)) timed

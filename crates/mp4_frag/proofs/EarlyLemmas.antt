@@ -1,8 +1,8 @@
 -- No run of a moof ends past 64 bits whose times are early.
 use Rattle.std.proofs.Common.{◌≡◌, ◌∙◌, ◌+◌, ◌*◌, ◌-◌, ◌^◌, ◌<◌, ◌≤◌, ◌++◌, ℕ, pos, Bool, true, false, List, [], ◌∷◌, map, length, Some, None, refl, sym, ap, subst, arith}
-use Rattle.std.specs.Prelude.{◌==◌, ◌&&◌}
-use Rattle.std.specs.List.{AllByRecursion, list_all}
-use Rattle.std.specs.Option.{option_or}
+use Rattle.std.specs.Prelude.{◌==◌, ◌&&◌, ◌||◌}
+use Rattle.std.specs.List.{AllByRecursion, list_all, list_any}
+use Rattle.std.specs.Option.{is_none, option_or}
 use Rattle.std.proofs.lemmas.Bool.{lt-ltb, ltb-true}
 use Rattle.std.proofs.lemmas.Bool.Decides.{nat_tests}
 use Rattle.std.proofs.lemmas.List.Sums.{sum_by-cons}
@@ -15,7 +15,8 @@ use Rattle.mp4_box.specs.Trees.{Box, box_at, children, first_of}
 use Rattle.mp4_init.specs.declared.table.Track.{Track}
 use Rattle.mp4_frag.specs.declared.rows.Row.{Row}
 use Rattle.mp4_frag.specs.declared.run.Run.{Run}
-use Rattle.mp4_frag.specs.Working.AtOnce.{HasTicks, IsEarly, TrafHasTicks, has_both, has_one, is_early, times_early}
+use Rattle.mp4_frag.specs.Working.AtOnce.{HasEarlyEnd, HasTicks, IsEarly, StartsEarly, TrafHasTicks, has_few, has_heads, has_one, is_early, times_early}
+use Rattle.mp4_frag.specs.Repeats.{lacks_time}
 use Rattle.mp4_frag.specs.Fields.{payload_of}
 use Rattle.mp4_frag.specs.Kinds.{tfdt, tfhd, traf, trun}
 use Rattle.mp4_frag.specs.Moofs.{moof_of, moof_trafs, time_faults, time_faults_of, value_faults}
@@ -56,47 +57,67 @@ none_late s time (b ∷ bs) fits small room =
 
 -- ---- the base time and the default duration of a traf
 
-early_base : (next : ℕ) (bs : List Box) → (length bs == 1) ≡ true → list_all is_early bs ≡ true → base_by next (first_of bs) < 2 ^ 63
-early_base next [] one early = absurd (grind (arith, nat_tests))
-early_base next (b ∷ bs) one early = by (is_early b) refl early
+both_true : (a b : Bool) → a && b ≡ true → (a ≡ true) × (b ≡ true)
+both_true true b e = (refl, e)
+both_true false b e = absurd cc
+
+base_early : (next : ℕ) (bs : List Box) → list_all is_early bs ≡ true → (is_none (first_of bs) ≡ true → next < 2 ^ 63) → base_by next (first_of bs) < 2 ^ 63
+base_early next [] early ends = ends refl
+base_early next (b ∷ bs) early ends = by (is_early b) refl early
   where
     by : (u : Bool) → is_early b ≡ u → (u && list_all is_early bs) ≡ true → base_by next (Some b) < 2 ^ 63
     by true is e = ltb-true _ (2 ^ 63) is
     by false is e = absurd cc
 
+starts_early : (tracks : List Track) (t : Box) → times_early t ≡ true → HasEarlyEnd tracks t → StartsEarly tracks t
+unfolding lacks_time
+starts_early tracks t early ends =
+    subst (λ (bs : List Box). base_by (track_of tracks t).next (first_of bs) < 2 ^ 63) (sym (path_kind tfdt t))
+    (base_early (track_of tracks t).next (of_kind tfdt (children t)) early (λ none. ends (ap (λ (bs : List Box). is_none (first_of bs)) (path_kind tfdt t) ∙ none)))
+
+-- each tfdt is early, and so is the end of each track whose traf has none
+pub trafs_start : (tracks : List Track) (ts : List Box) → list_all times_early ts ≡ true → AllByRecursion (HasEarlyEnd tracks) ts → AllByRecursion (StartsEarly tracks) ts
+trafs_start tracks [] early ends = tt
+trafs_start tracks (t ∷ ts) early ends =
+    let soon = both_true (times_early t) (list_all times_early ts) early in
+    (starts_early tracks t soon.0 ends.0, trafs_start tracks ts soon.1 ends.1)
+
+-- each traf has a tfdt
+pub none_untimed : (tracks : List Track) (ts : List Box) → list_any lacks_time ts ≡ false → AllByRecursion (HasEarlyEnd tracks) ts
+none_untimed tracks [] timed = tt
+none_untimed tracks (t ∷ ts) timed = by (lacks_time t) refl (none_untimed tracks ts) timed
+  where
+    by : (u : Bool) → lacks_time t ≡ u → (list_any lacks_time ts ≡ false → AllByRecursion (HasEarlyEnd tracks) ts) → u || list_any lacks_time ts ≡ false → AllByRecursion (HasEarlyEnd tracks) (t ∷ ts)
+    by true is later e = absurd cc
+    by false is later e = (λ lacks. absurd cc, later e)
+
 short : (tracks : List Track) (bs : List Box) → (length bs == 1) ≡ true → AllByRecursion (HasTicks tracks) bs → (known_track (track_id (payload_of (first_of bs))) tracks).duration < 2 ^ 32
 short tracks [] one all = absurd (grind (arith, nat_tests))
 short tracks (b ∷ bs) one all = all.0
 
-both_true : (a b : Bool) → a && b ≡ true → (a ≡ true) × (b ≡ true)
-both_true true b e = (refl, e)
-both_true false b e = absurd cc
-
-traf_in_time : (h : MoofBytes) (tracks : List Track) (t : Box) → IsBytes h.bytes → Lies h t → samples_in (of_kind trun (children t)) ≤ most_samples → has_both t ≡ true → times_early t ≡ true → TrafHasTicks tracks t → time_faults_of (traf_of h tracks t) ≡ []
+traf_in_time : (h : MoofBytes) (tracks : List Track) (t : Box) → IsBytes h.bytes → Lies h t → samples_in (of_kind trun (children t)) ≤ most_samples → has_heads t ≡ true → StartsEarly tracks t → TrafHasTicks tracks t → time_faults_of (traf_of h tracks t) ≡ []
 unfolding traf_of
-traf_in_time h tracks t fits lies few both early ticks =
+traf_in_time h tracks t fits lies few heads early ticks =
     let f = traf_of h tracks t in
-    let ones = both_true (has_one tfhd t) (has_one tfdt t) both in
-    let time : f.time < 2 ^ 63 = subst (λ (bs : List Box). base_by (track_of tracks t).next (first_of bs) < 2 ^ 63) (sym (path_kind tfdt t)) (early_base (track_of tracks t).next (of_kind tfdt (children t)) ones.1 early) in
-    let track : (track_of tracks t).duration < 2 ^ 32 = subst (λ (bs : List Box). (known_track (track_id (payload_of (first_of bs))) tracks).duration < 2 ^ 32) (sym (path_kind tfhd t)) (short tracks (of_kind tfhd (children t)) ones.0 ticks) in
+    let one = (both_true (has_one tfhd t) (has_few tfdt t) heads).0 in
+    let track : (track_of tracks t).duration < 2 ^ 32 = subst (λ (bs : List Box). (known_track (track_id (payload_of (first_of bs))) tracks).duration < 2 ^ 32) (sym (path_kind tfhd t)) (short tracks (of_kind tfhd (children t)) one ticks) in
     let small : f.shared.header.duration < 2 ^ 32 = number_or_small (tfhd_of t) (fields_of (tfhd_of t)).default_sample_duration (track_of tracks t).duration (tfhd_bytes h t lies) track in
-    late_are f.shared f.time (pos h.offset) f.truns ∙ none_late f.shared f.time f.truns fits small (omega (arith, time, few))
+    late_are f.shared f.time (pos h.offset) f.truns ∙ none_late f.shared f.time f.truns fits small (omega (arith, early, few))
 
 -- ---- the trafs of a moof
 
 trafs_in_time : (h : MoofBytes) (tracks : List Track) (ts : List Box) → IsBytes h.bytes → AllByRecursion (Lies h) ts → AllByRecursion (λ (t : Box). samples_in (of_kind trun (children t)) ≤ most_samples) ts
-    → list_all has_both ts ≡ true → list_all times_early ts ≡ true → AllByRecursion (TrafHasTicks tracks) ts → time_faults (map (traf_of h tracks) ts) ≡ []
-trafs_in_time h tracks [] fits lie few both early ticks = refl
-trafs_in_time h tracks (t ∷ ts) fits lie few both early ticks =
-    let has = both_true (has_both t) (list_all has_both ts) both in
-    let soon = both_true (times_early t) (list_all times_early ts) early in
-    ap (λ (fs : List Fault). fs ++ time_faults (map (traf_of h tracks) ts)) (traf_in_time h tracks t fits lie.0 few.0 has.0 soon.0 ticks.0) ∙ trafs_in_time h tracks ts fits lie.1 few.1 has.1 soon.1 ticks.1
+    → list_all has_heads ts ≡ true → AllByRecursion (StartsEarly tracks) ts → AllByRecursion (TrafHasTicks tracks) ts → time_faults (map (traf_of h tracks) ts) ≡ []
+trafs_in_time h tracks [] fits lie few heads early ticks = refl
+trafs_in_time h tracks (t ∷ ts) fits lie few heads early ticks =
+    let has = both_true (has_heads t) (list_all has_heads ts) heads in
+    ap (λ (fs : List Fault). fs ++ time_faults (map (traf_of h tracks) ts)) (traf_in_time h tracks t fits lie.0 few.0 has.0 early.0 ticks.0) ∙ trafs_in_time h tracks ts fits lie.1 few.1 has.1 early.1 ticks.1
 
 pub early_in_time : (h : MoofBytes) (tracks : List Track) (m : Box) → IsWhole h.bytes → IsBytes h.bytes → box_at h.offset h.bytes ≡ Some m → moof_of h ≡ m → count_faults m ≡ [] → IsEarly tracks m → time_faults (moof_trafs h tracks) ≡ []
 early_in_time h tracks m whole fits here is count early =
     let lie = kind_all (Lies h) traf (children m) (children_lie h m (moof_lies h m whole fits here)) in
     ap (λ (b : Box). time_faults (trafs_by h tracks (children b))) is
-    ∙ trafs_in_time h tracks (of_kind traf (children m)) fits lie (trafs_few m count) early.both early.times early.ticks
+    ∙ trafs_in_time h tracks (of_kind traf (children m)) fits lie (trafs_few m count) early.heads early.times early.ticks
 
 -- ---- where nothing else is at fault
 

@@ -190,7 +190,7 @@ none_lacks earlier (t ∷ ts) e = by (lacks_time t) refl (none_lacks (earlier ++
     by true is later e = absurd cc
     by false is later e = ap (λ (u : Bool). fault_if (u && is_listed (traf_id t) earlier) Unsupported t ++ repeats (earlier ++ t ∷ []) ts) is ∙ later e
 
-all_timed : (ts : List Box) → length (untimed_ids ts) ≡ 0 → list_any lacks_time ts ≡ false
+pub all_timed : (ts : List Box) → length (untimed_ids ts) ≡ 0 → list_any lacks_time ts ≡ false
 unfolding untimed_ids
 all_timed [] e = refl
 all_timed (t ∷ ts) e = by (lacks_time t) (all_timed ts) e
@@ -199,9 +199,9 @@ all_timed (t ∷ ts) e = by (lacks_time t) (all_timed ts) e
     by true later e = absurd (omega (arith, e))
     by false later e = later e
 
-pub none_untimed : (m : Box) (best : Option Fault) (count : ℕ) → count ≡ length (untimed_ids (trafs_of m)) → count ≡ 0 → best ≡ least_from best (repeat_faults m)
+pub none_untimed : (m : Box) (best : Option Fault) → list_any lacks_time (trafs_of m) ≡ false → best ≡ least_from best (repeat_faults m)
 unfolding least_from
-none_untimed m best count is none = sym (ap (least_from best) (none_lacks [] (trafs_of m) (all_timed (trafs_of m) (sym is ∙ none))))
+none_untimed m best none = sym (ap (least_from best) (none_lacks [] (trafs_of m) none))
 
 one_alone : (ts : List Box) → length ts < 2 → repeats [] ts ≡ []
 unfolding repeats is_listed

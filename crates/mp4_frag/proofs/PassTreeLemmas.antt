@@ -1,24 +1,29 @@
 -- Where one pass over a moof finds nothing, its tree is good.
-use Rattle.std.proofs.Common.{◌≡◌, ◌∙◌, ◌-◌, ◌<◌, ℕ, Bool, true, false, cond, not, List, [], ◌∷◌, ◌++◌, length, Some, None, refl, sym, ap, arith}
-use Rattle.std.specs.Prelude.{◌&&◌, ◌||◌}
+use Rattle.std.proofs.Common.{◌≡◌, ◌∙◌, ◌-◌, ◌<◌, ℕ, Bool, true, false, cond, not, List, [], ◌∷◌, ◌++◌, length, Option, Some, None, refl, sym, ap, arith}
+use Rattle.std.specs.Prelude.{◌&&◌, ◌||◌, Ok}
+use Rattle.std.specs.Option.{option_or}
 use Rattle.std.specs.List.{AllByRecursion, flat_map, list_all, sum_by}
 use Rattle.std.proofs.lemmas.Bool.Decides.{Decides-eqb}
 use Rattle.std.proofs.lemmas.Slice.Eq.{bytes_eq-Decides}
 use Rattle.mp4_box.specs.declared.headers.FourCc.{FourCc}
 use Rattle.mp4_box.specs.declared.rules.Fault.{Fault}
 use Rattle.mp4_box.specs.declared.rules.Rule.TheVariants.{Unsupported}
+use Rattle.mp4_box.specs.Order.{IsLeast, least, least_from}
 use Rattle.mp4_box.specs.Paths.{of_kind}
-use Rattle.mp4_box.specs.Trees.{Box, bad_below, bad_rest, box_at, box_faults, box_len, children, deep_below, faults_of, is_container, payload_offset, verdict}
+use Rattle.mp4_box.specs.Trees.{Box, bad_below, bad_rest, box_at, box_faults, box_len, children, deep_below, faults_of, is_container, payload_offset, tree_faults, verdict}
 use Rattle.mp4_box.proofs.FilledLemmas.{over-each, over-filled}
+use Rattle.mp4_box.proofs.OrderLemmas.{least-none}
 use Rattle.mp4_box.proofs.TreeLemmas.{bad-leaf, bad-step, deep-leaf, deep-step}
 use Rattle.mp4_init.specs.declared.table.Track.{Track}
-use Rattle.mp4_frag.specs.Working.AtOnce.{by_moof, faults_in_moof, faults_in_traf, has_both, is_complete, is_filled, is_kind, passed_over}
+use Rattle.mp4_frag.specs.Working.AtOnce.{by_moof, faults_in_moof, faults_in_traf, has_heads, is_complete, is_filled, is_kind, passed_over}
 use Rattle.mp4_frag.specs.Kinds.{mfhd, traf, tfhd, tfdt, trun, free, skip}
-use Rattle.mp4_frag.specs.Moofs.{early_fault, moof_of, value_faults}
-use Rattle.mp4_frag.specs.Rules.{fault_if, form_faults, is_among}
+use Rattle.mp4_frag.specs.Moofs.{early_fault, moof_faults, moof_of, value_faults}
+use Rattle.mp4_frag.specs.Repeats.{repeat_faults}
+use Rattle.mp4_frag.specs.Rules.{count_faults, fault_if, form_faults, is_among}
 use Rattle.mp4_frag.specs.Runs.{MoofBytes}
-use Rattle.mp4_frag.proofs.AtOnceLemmas.{Passed, both_true, complete_first, each_none, none_least, supported_in_traf, traf_is}
-use Rattle.mp4_frag.proofs.MoofLemmas.{early_is, last_none}
+use Rattle.mp4_frag.proofs.AtOnceLemmas.{Passed, both_true, complete_first, each_none, supported_in_traf, traf_is}
+use Rattle.mp4_frag.proofs.EarlyLemmas.{none_least, values_count}
+use Rattle.mp4_frag.proofs.MoofLemmas.{early_is, early_least, last_none}
 
 -- ---- boxes that hold no boxes
 
@@ -97,7 +102,7 @@ bad_child tracks b none all = by (is_kind traf b) refl
   where
     by : (u : Bool) → is_kind traf b ≡ u → bad_below 7 b ≡ []
     by true is =
-        bad_none 7 b (omega arith) (both_true (has_both b) (is_filled b) (one_complete b is all)).1
+        bad_none 7 b (omega arith) (both_true (has_heads b) (is_filled b) (one_complete b is all)).1
         (each_none (faults_in_traf tracks) (bad_below 6) (λ c e. bad-leaf 6 c (leaf_in_traf tracks c e)) (children b) (traf_is tracks b is none))
     by false is = bad-leaf 7 b (leaf_in_moof tracks b is none)
 
@@ -116,8 +121,33 @@ no_tree tracks m p =
     let deep = deep_none 8 m (omega arith) (each_none (faults_in_moof tracks) (deep_below 7) (deep_child tracks) (children m) p.none) in
     ap (λ (fs : List Fault). fs ++ deep_below 8 m) bad ∙ deep
 
--- ---- so it has no early fault
+-- ---- so it has no early fault, but for its values
 
-pub none_early : (h : MoofBytes) (tracks : List Track) (m : Box) → box_at h.offset h.bytes ≡ Some m → moof_of h ≡ m → box_faults m ≡ [] → form_faults m ≡ [] → value_faults tracks m ≡ [] → None ≡ early_fault h tracks
-none_early h tracks m here is tree forms values =
-    early_is h tracks m None is (ap verdict (ap faults_of here ∙ tree)) (none_least (form_faults m) (value_faults tracks m) forms values)
+-- what is told where only its values may be at fault
+content_is : (fs gs : List Fault) (o : Option Fault) → fs ≡ [] → o ≡ least gs → o ≡ option_or (least fs) (least gs)
+unfolding least_from
+content_is fs gs o none is = rw none is
+
+module _ (h : MoofBytes) (tracks : List Track) (m : Box) (here : box_at h.offset h.bytes ≡ Some m) (is : moof_of h ≡ m) (tree : box_faults m ≡ []) (forms : form_faults m ≡ []) where
+  tree_ok : verdict (tree_faults h.offset h.bytes) ≡ Ok tt
+  tree_ok = ap verdict (ap faults_of here ∙ tree)
+
+  values_early : (o : Option Fault) → o ≡ least (value_faults tracks m) → o ≡ early_fault h tracks
+  values_early o values = early_is h tracks m o is tree_ok (content_is (form_faults m) (value_faults tracks m) o forms values)
+
+  pub none_early : value_faults tracks m ≡ [] → None ≡ early_fault h tracks
+  none_early values = values_early None (none_least (value_faults tracks m) values)
+
+  -- where a repeat is all that may be at fault with its values
+  module _ (only : value_faults tracks m ≡ repeat_faults m) where
+    repeats_are : (o : Option Fault) → o ≡ least (repeat_faults (moof_of h)) → o ≡ least (value_faults tracks m)
+    repeats_are o e = e ∙ ap (λ (b : Box). least (repeat_faults b)) is ∙ ap least (sym only)
+
+    pub repeats_early : (o : Option Fault) → o ≡ least (repeat_faults (moof_of h)) → o ≡ early_fault h tracks
+    repeats_early o e = values_early o (repeats_are o e)
+
+    pub repeats_least : (f : Fault) → Some f ≡ least (repeat_faults (moof_of h)) → IsLeast f (moof_faults h tracks)
+    repeats_least f e = early_least h tracks f tree_ok (sym (repeats_early (Some f) e))
+
+    pub repeats_count : None ≡ least (repeat_faults (moof_of h)) → count_faults m ≡ []
+    repeats_count e = values_count tracks m (least-none (value_faults tracks m) (sym (repeats_are None e)))

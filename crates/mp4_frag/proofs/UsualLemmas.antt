@@ -3,7 +3,7 @@ use Rattle.std.proofs.Common.{◌≡◌, ◌∙◌, ◌+◌, ◌≤◌, true, fa
 use Rattle.std.specs.Prelude.{slice_range}
 use Rattle.std.proofs.lemmas.List.{drop_all, length-drop}
 use Rattle.std.proofs.lemmas.Slice.Eq.{bytes_eq-Decides}
-use Rattle.std.specs.List.{flat_map, sum_by}
+use Rattle.std.specs.List.{flat_map, list_any, sum_by}
 use Rattle.std.specs.Option.{is_some, option_or}
 use Rattle.std.specs.Str.{bytes_eq}
 use Rattle.std.proofs.lemmas.Bool.Decides.{Decides-eqb}
@@ -25,15 +25,16 @@ use Rattle.mp4_frag.specs.Working.AtOnce.{HasTicks, IsComplete, IsEarly, faults_
 use Rattle.mp4_frag.specs.Kinds.{mfhd, tfdt, tfhd, to_trun, traf, trun}
 use Rattle.mp4_frag.specs.Mfhd.{mfhd_len}
 use Rattle.mp4_frag.specs.Moofs.{IsRead, moof_trafs, time_faults, value_faults}
+use Rattle.mp4_frag.specs.Repeats.{lacks_time}
 use Rattle.mp4_frag.specs.Rules.{count_faults, form_faults, most_samples, samples_in, tfhd_faults, tfhd_length, trun_faults, trun_length}
 use Rattle.mp4_frag.specs.Runs.{MoofBytes}
 use Rattle.mp4_frag.specs.Tfdt.{tfdt_layout}
 use Rattle.mp4_frag.specs.Trun.{sample_count}
 use Rattle.mp4_frag.specs.Working.Usual.{HoldsThree, HoldsTwo, IsUsual, usual_faults}
 use Rattle.mp4_frag.proofs.AddLemmas.{few_enough, moof_truns}
-use Rattle.mp4_frag.proofs.AtOnceLemmas.{Passed, no_forms, no_other, no_values, passed_both}
+use Rattle.mp4_frag.proofs.AtOnceLemmas.{Passed, has_time, no_forms, no_other, no_values, passed_heads}
 use Rattle.mp4_frag.proofs.MoofLemmas.{last_none}
-use Rattle.mp4_frag.proofs.EarlyLemmas.{early_in_time, values_count}
+use Rattle.mp4_frag.proofs.EarlyLemmas.{early_in_time, none_untimed, trafs_start, values_count}
 use Rattle.mp4_frag.proofs.MoofListLemmas.{IsMoof}
 use Rattle.mp4_frag.proofs.PassTreeLemmas.{no_tree, none_early}
 
@@ -119,6 +120,9 @@ module _ (tracks : List Track) (m a t b c d : Box) (u : IsUsual m a t b c d) whe
     none_past few =
         few_enough 0 (at_path to_trun m) (omega (arith, few, ap samples_in all_truns, sum_by-cons (λ (x : Box). sample_count x.payload) d []))
 
+    timed : list_any lacks_time (of_kind traf (children m)) ≡ false
+    timed = rw (of_trafs, has_time t (omega (arith, ap length of_tfdts))) refl
+
     pub usual_forms : form_faults m ≡ []
     usual_forms = no_forms tracks m usual_passed
 
@@ -126,12 +130,12 @@ module _ (tracks : List Track) (m a t b c d : Box) (u : IsUsual m a t b c d) whe
     usual_tree = no_tree tracks m usual_passed
 
     pub usual_values : sample_count d.payload ≤ most_samples → value_faults tracks m ≡ []
-    usual_values few = no_values tracks m usual_passed (none_past few)
+    usual_values few = no_values tracks m usual_passed timed (none_past few)
 
     pub usual_early : is_early c ≡ true → HasTicks tracks b → IsEarly tracks m
     usual_early early ticks = record {
-      both = passed_both tracks m usual_passed;
-      times = rw (of_trafs, of_tfdts, early) refl;
+      heads = passed_heads tracks m usual_passed;
+      times = trafs_start tracks (of_kind traf (children m)) (rw (of_trafs, of_tfdts, early) refl) (none_untimed tracks (of_kind traf (children m)) timed);
       ticks = rw (of_trafs, of_tfhds) ((ticks, tt), tt);
     }
 

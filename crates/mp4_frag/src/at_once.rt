@@ -1,23 +1,27 @@
 //! What is at fault with a moof, looked for in one pass over its boxes.
 //!
 //! The rules are searched one by one, each with a pass of its own, so that of several faults the first is told. Nearly every
-//! moof has none, and one pass says so.
+//! moof has none, and one pass says so. Trafs without tfdt are counted: where there are some, those that stand behind others of
+//! their track are sought besides.
 
-ghost use Rattle.std.specs.Prelude.{◌≡◌, ◌≤◌, ◌∷◌, [], length, true, IfSome, IsSome, IsTrue};
-ghost use Rattle.std.specs.List.{AllByRecursion, flat_map, list_all};
+ghost use Rattle.std.specs.Prelude.{◌≡◌, ◌≢◌, ◌≤◌, ◌∷◌, [], length, true, false, IfSome, IsSome, IsTrue};
+ghost use Rattle.std.specs.List.{AllByRecursion, flat_map, list_all, list_any};
 ghost use Rattle.mp4_box.specs.Order.{least_from};
 ghost use Rattle.mp4_box.specs.Paths.{at_path, of_kind};
 ghost use Rattle.mp4_box.specs.Trees.{box_faults, box_len, children, view};
-ghost use Rattle.mp4_frag.specs.Working.AtOnce.{Adds, HasTicks, IsComplete, IsCount, IsEarly, TrafHasTicks, faults_in_moof, faults_in_traf, in_trafs, is_complete, is_early, is_kind, most_32, most_64, passed_over};
+ghost use Rattle.mp4_frag.specs.Working.AtOnce.{Adds, HasEarlyEnd, HasTicks, IsComplete, IsCount, IsEarly, TrafHasTicks, faults_in_moof, faults_in_traf, in_trafs, is_complete, is_early, is_kind, most_32, most_64, passed_over};
 ghost use Rattle.mp4_frag.specs.Kinds.{free, skip, tfdt, tfhd, to_trun, traf, trun};
 ghost use Rattle.mp4_frag.specs.Moofs.{value_faults};
+ghost use Rattle.mp4_frag.specs.Repeats.{lacks_time, repeat_faults, trafs_of};
 ghost use Rattle.mp4_frag.specs.Rules.{form_faults, most_samples, samples_in, samples_of};
 
 use crate::checks::{FlagsOnce, TfhdLength, TrunLength, note_tfhd};
 use crate::counts::MOST_SAMPLES;
 use crate::kinds::{FREE, MFHD, SKIP, TFDT, TFHD, TRAF, TRUN};
 use crate::mfhd::MFHD_LEN;
+use crate::repeats::lacks_time;
 use crate::tfdt::{LONG_TFDT_LEN, TFDT_LEN, base_media_decode_time};
+use crate::traf::track_of;
 use crate::trun::sample_count;
 use mp4_box::{BoxRef, Check, Fault, FourCc, Layout, Rule, Walk, note};
 use mp4_init::TrackList;
@@ -134,19 +138,33 @@ fn all_hold(first: bool, second: bool, third: bool) -> bool
     first && second && third
 }
 
-/// Notes what is at fault with each child of a traf by itself, and adds what it says to what is told. Where it has just one tfhd
-/// and one tfdt, and no rest, it tells so.
+/// Counts a traf that has so many tfdts, where it has none.
+#[inline(always)]
+fn count_untimed(tfdts: u64, untimed: &mut u64)
+    ensures before { untimed.new ≡ 0 → untimed.old ≡ 0 }
+    ensures here { untimed.new ≡ 0 → tfdts ≢ 0 }
+{
+    if tfdts == 0 {
+        *untimed = untimed.saturating_add(1);
+    }
+}
+
+/// Notes what is at fault with each child of a traf by itself, adds what it says to what is told, and counts the traf where it has
+/// no tfdt. Where it has just one tfhd, at most one tfdt, and no rest, it tells so.
 fn note_traf(
     tracks: &TrackList,
     traf: &BoxRef<'_>,
     best: &mut Option<Fault>,
     sound: &mut Sound,
+    untimed: &mut u64,
 ) -> bool
     ensures best { best.new ≡ least_from best.old
         (flat_map (faults_in_traf tracks.now) (children (view traf.now))) }
     ensures complete { IsTrue result → is_complete (view traf.now) ≡ true }
     ensures adds { Adds (children (view traf.now)) sound.old sound.new }
     ensures ticks { TrafHasTicks tracks.now (view traf.now) }
+    ensures untimed { untimed.new ≡ 0 → untimed.old ≡ 0 }
+    ensures timed { IsTrue result → untimed.new ≡ 0 → lacks_time (view traf.now) ≡ false }
 {
     let mut tfhds = 0;
     let mut tfdts = 0;
@@ -158,11 +176,12 @@ fn note_traf(
         count_kind(TFDT, &child, &mut tfdts);
         add_child(&child, sound);
     }
-    all_hold(tfhds == 1, tfdts == 1, len == traf.payload.len() as u64)
+    count_untimed(tfdts, untimed);
+    all_hold(tfhds == 1, tfdts <= 1, len == traf.payload.len() as u64)
 }
 
 /// Notes what is at fault with a child of a moof by itself, and adds what it says to what is told. Where it is a traf that has
-/// just one tfhd and one tfdt, and no rest, or is no traf, it tells so.
+/// just one tfhd, at most one tfdt, and no rest, or is no traf, it tells so.
 #[inline(always)]
 #[tactic(auto, unfolding(crate::specs::Working::AtOnce::faults_in_moof, mp4_box::specs::Order::least_from))]
 fn note_in_moof(
@@ -170,15 +189,19 @@ fn note_in_moof(
     child: &BoxRef<'_>,
     best: &mut Option<Fault>,
     sound: &mut Sound,
+    untimed: &mut u64,
 ) -> bool
     ensures best { best.new ≡ least_from best.old (faults_in_moof tracks.now (view child.now)) }
     ensures complete { IsTrue result →
         list_all is_complete (of_kind traf (view child.now ∷ [])) ≡ true }
     ensures adds { Adds (in_trafs (view child.now ∷ [])) sound.old sound.new }
     ensures ticks { AllByRecursion (TrafHasTicks tracks.now) (of_kind traf (view child.now ∷ [])) }
+    ensures untimed { untimed.new ≡ 0 → untimed.old ≡ 0 }
+    ensures timed { IsTrue result → untimed.new ≡ 0 →
+        list_any lacks_time (of_kind traf (view child.now ∷ [])) ≡ false }
 {
     if child.header.kind.is(TRAF) {
-        return note_traf(tracks, child, best, sound);
+        return note_traf(tracks, child, best, sound, untimed);
     }
     if child.header.kind.is(MFHD) {
         Layout::Exactly(MFHD_LEN).note_at(child, best);
@@ -188,13 +211,14 @@ fn note_in_moof(
     true
 }
 
-/// Notes what is at fault with each box of a moof by itself, and adds what it says to what is told. Where it has just one mfhd,
-/// each traf just one tfhd and one tfdt, and no rest stands in them, it tells so.
+/// Notes what is at fault with each box of a moof by itself, adds what it says to what is told, and counts the trafs without
+/// tfdt. Where it has just one mfhd, each traf just one tfhd and at most one tfdt, and no rest stands in them, it tells so.
 fn note_moof(
     tracks: &TrackList,
     moof: &BoxRef<'_>,
     best: &mut Option<Fault>,
     sound: &mut Sound,
+    untimed: &mut u64,
 ) -> bool
     ensures best { best.new ≡ least_from best.old
         (flat_map (faults_in_moof tracks.now) (children (view moof.now))) }
@@ -202,30 +226,60 @@ fn note_moof(
     ensures adds { Adds (in_trafs (children (view moof.now))) sound.old sound.new }
     ensures ticks { AllByRecursion (TrafHasTicks tracks.now)
         (of_kind traf (children (view moof.now))) }
+    ensures timed { IsTrue result → untimed.new ≡ 0 →
+        list_any lacks_time (of_kind traf (children (view moof.now))) ≡ false }
 {
     let mut mfhds = 0;
     let mut len = 0;
     let mut complete = true;
     for child in Walk::of(moof) {
-        complete = note_in_moof(tracks, &child, best, sound) && complete;
+        complete = note_in_moof(tracks, &child, best, sound, untimed) && complete;
         add_len(&child, &mut len);
         count_kind(MFHD, &child, &mut mfhds);
     }
     all_hold(complete, mfhds == 1, len == moof.payload.len() as u64)
 }
 
-/// What is told of a moof, where nothing is at fault with its tree, its boxes and their values, times aside, and each traf has
-/// its tfdt.
-pub(crate) fn look_at(tracks: &TrackList, moof: &BoxRef<'_>) -> Option<Sound>
+/// Whether a child of a moof is no traf, or has a tfdt, or its track ended early.
+fn has_early_end(tracks: &TrackList, child: &BoxRef<'_>) -> bool
+    ensures { IsTrue result →
+        AllByRecursion (HasEarlyEnd tracks.now) (of_kind traf (view child.now ∷ [])) }
+{
+    if !child.header.kind.is(TRAF) || !lacks_time(child) {
+        return true;
+    }
+    track_of(tracks, child).next < LATE
+}
+
+/// Whether the track of each traf without tfdt ended early: there the traf begins.
+pub(crate) fn ended_early(tracks: &TrackList, moof: &BoxRef<'_>) -> bool
+    ensures { IsTrue result →
+        AllByRecursion (HasEarlyEnd tracks.now) (trafs_of (view moof.now)) }
+{
+    for child in Walk::of(moof) {
+        if !has_early_end(tracks, &child) {
+            return false;
+        }
+    }
+    true
+}
+
+/// What is told of a moof, where nothing is at fault with its tree, its boxes and their values, times aside, but that a traf without
+/// tfdt may stand behind another of its track: trafs without tfdt are counted, and only the times of tfdts are known to be early.
+pub(crate) fn look_at(tracks: &TrackList, moof: &BoxRef<'_>, untimed: &mut u64) -> Option<Sound>
     ensures tree { IsSome result → box_faults (view moof.now) ≡ [] }
     ensures forms { IsSome result → form_faults (view moof.now) ≡ [] }
-    ensures values { IsSome result → value_faults tracks.now (view moof.now) ≡ [] }
+    ensures values { IsSome result →
+        value_faults tracks.now (view moof.now) ≡ repeat_faults (view moof.now) }
+    ensures timed { IsSome result → untimed.new ≡ 0 →
+        list_any lacks_time (trafs_of (view moof.now)) ≡ false }
     ensures samples { IfSome result (λ s. s.samples ≡ samples_of (view moof.now)) }
     ensures few { IfSome result (λ s. s.samples ≤ most_samples) }
     ensures truns { IfSome result (λ s.
         s.truns ≡ length (at_path to_trun (view moof.now))) }
-    ensures early { IfSome result (λ s.
-        s.is_early ≡ true → IsEarly tracks.now (view moof.now)) }
+    ensures early { IfSome result (λ s. s.is_early ≡ true →
+        AllByRecursion (HasEarlyEnd tracks.now) (trafs_of (view moof.now)) →
+        IsEarly tracks.now (view moof.now)) }
 {
     let mut best = None;
     let mut sound = Sound {
@@ -233,7 +287,7 @@ pub(crate) fn look_at(tracks: &TrackList, moof: &BoxRef<'_>) -> Option<Sound>
         truns: 0,
         is_early: true,
     };
-    if !note_moof(tracks, moof, &mut best, &mut sound) {
+    if !note_moof(tracks, moof, &mut best, &mut sound, untimed) {
         return None;
     }
     if best.is_some() || sound.samples > MOST_SAMPLES || sound.truns > MOST_TRUNS {

@@ -1,22 +1,24 @@
 //! From the bytes of a moof to its runs.
 
 ghost use Rattle.std.specs.Prelude.{◌≡◌, ◌+◌, ◌^◌, ◌<◌, ◌≤◌, ◌↔◌, [], length, true, false, Some, None, Err, IfErr, IfOk, IfSome, OnOk, IsSome};
+ghost use Rattle.std.specs.List.{AllByRecursion};
 ghost use Rattle.std.specs.Option.{is_none, option_or};
 ghost use Rattle.mp4_box.specs.declared.rules.Fault.{Fault};
 ghost use Rattle.mp4_box.specs.Headers.{IsWhole};
 ghost use Rattle.mp4_box.specs.Order.{IsLeast, least, least_from};
 ghost use Rattle.mp4_box.specs.Trees.{view};
-ghost use Rattle.mp4_frag.specs.Working.AtOnce.{told_fault};
+ghost use Rattle.mp4_frag.specs.Working.AtOnce.{HasEarlyEnd, told_fault};
 ghost use Rattle.mp4_frag.specs.Moofs.{IsRead, early_fault, moof_fault, moof_faults, moof_of, moof_samples, moof_trafs, moof_truns, time_faults, value_faults};
+ghost use Rattle.mp4_frag.specs.Repeats.{repeat_faults, trafs_of};
 ghost use Rattle.mp4_frag.specs.Rules.{count_faults, form_faults, most_samples};
 ghost use Rattle.mp4_frag.specs.Runs.{MoofBytes, moof_at};
 ghost use Rattle.mp4_frag.specs.Settling.{settled, timed_of};
 
-use crate::at_once::{Sound, look_at};
+use crate::at_once::{Sound, ended_early, look_at};
 use crate::checks::{FlagsOnce, OfTrack};
 use crate::counts::{samples_in, truns_in};
 use crate::kinds::{TFHD, TRAF, TRUN};
-use crate::repeats::note_repeats;
+use crate::repeats::{note_among, note_repeats};
 use crate::rows::Steps;
 use crate::rules::{note_children, note_count, note_forms};
 use crate::settle::settle_in;
@@ -89,6 +91,7 @@ fn truns_at(held: &[u8], offset: u64) -> u64
 }
 
 /// What is told of the moof that the bytes are, which begins at this offset, or its fault, times aside: rule by rule.
+#[inline(never)]
 #[tactic(auto, using(crate::proofs::MoofLemmas::moof_is), unfolding(crate::specs::Moofs::early_fault))]
 fn early_by_rules(held: &[u8], offset: u64, tracks: &TrackList) -> Result<Sound, Fault>
     requires whole { IsWhole held.now }
@@ -115,6 +118,41 @@ fn early_by_rules(held: &[u8], offset: u64, tracks: &TrackList) -> Result<Sound,
     }
 }
 
+/// What is told of a moof in which about so many trafs have no tfdt, where this was told of it without a look at where they begin.
+// It stands apart, with the moof as its bytes, since in nearly every moof each traf has a tfdt.
+#[inline(never)]
+#[tactic(auto, using(crate::proofs::MoofLemmas::moof_is))]
+fn tell_untimed(
+    held: &[u8],
+    offset: u64,
+    tracks: &TrackList,
+    untimed: u64,
+    sound: Sound,
+) -> Result<Sound, Fault>
+    requires whole { IsWhole held.now }
+    requires room { offset + length held.now ≤ 2 ^ 62 }
+    requires some { 0 < untimed }
+    ensures fault { told_fault result ≡
+        least (repeat_faults (moof_of (moof_at held.now offset))) }
+    ensures samples { IfOk result (λ s. s.samples ≡ sound.samples) }
+    ensures truns { IfOk result (λ s. s.truns ≡ sound.truns) }
+    ensures early { IfOk result (λ s. s.is_early ≡ true → sound.is_early ≡ true) }
+    ensures ends { IfOk result (λ s. s.is_early ≡ true → AllByRecursion
+        (HasEarlyEnd tracks.now) (trafs_of (moof_of (moof_at held.now offset)))) }
+{
+    let moof = whole_box(held, offset);
+    let mut best = None;
+    note_among(untimed, &moof, &mut best);
+    match best {
+        Some(fault) => Err(fault),
+        None => Ok(Sound {
+            samples: sound.samples,
+            truns: sound.truns,
+            is_early: sound.is_early && ended_early(tracks, &moof),
+        }),
+    }
+}
+
 /// What is told of the moof that the bytes are, which begins at this offset, or its fault, times aside.
 fn early(held: &[u8], offset: u64, tracks: &TrackList) -> Result<Sound, Fault>
     requires whole { IsWhole held.now }
@@ -128,8 +166,15 @@ fn early(held: &[u8], offset: u64, tracks: &TrackList) -> Result<Sound, Fault>
     ensures early { IfOk result (λ s. s.is_early ≡ true →
         time_faults (moof_trafs (moof_at held.now offset) tracks.now) ≡ []) }
 {
-    if let Some(sound) = look_at(tracks, &whole_box(held, offset)) {
-        return Ok(sound);
+    let mut untimed = 0;
+    if let Some(sound) = look_at(tracks, &whole_box(held, offset), &mut untimed) {
+        if untimed == 0 {
+            return Ok(sound);
+        }
+        return match tell_untimed(held, offset, tracks, untimed, sound) {
+            Ok(sound) => Ok(sound),
+            Err(fault) => Err(fault),
+        };
     }
     match early_by_rules(held, offset, tracks) {
         Ok(sound) => Ok(sound),

@@ -4,6 +4,7 @@
 //! marked when a traf that has it is passed. The moof is gone over again for each block alone.
 
 ghost use Rattle.std.specs.Prelude.{◌≡◌, ◌≤◌, ◌<◌, ◌+◌, [], ◌∷◌, ◌++◌, true, false, length, take};
+ghost use Rattle.std.specs.List.{list_any};
 ghost use Rattle.mp4_box.specs.Trees.{view};
 ghost use Rattle.mp4_box.specs.Order.{least_from};
 ghost use Rattle.mp4_box.specs.Paths.{of_kind};
@@ -37,7 +38,7 @@ fn traf_id(traf: &BoxRef<'_>) -> u32
 
 /// Whether a traf has no tfdt.
 #[tactic(auto, unfolding(crate::specs::Repeats::lacks_time))]
-fn lacks_time(traf: &BoxRef<'_>) -> bool
+pub(crate) fn lacks_time(traf: &BoxRef<'_>) -> bool
     ensures { result ≡ lacks_time (view traf.now) }
 {
     children_of(TFDT, traf).next().is_none()
@@ -243,16 +244,16 @@ fn untimed_in(moof: &BoxRef<'_>) -> u64
     count
 }
 
-/// Notes the trafs that have no tfdt though one that is listed earlier has their track_ID.
-
-pub(crate) fn note_repeats(moof: &BoxRef<'_>, best: &mut Option<Fault>)
+/// Notes the trafs that have no tfdt though one that is listed earlier has their track_ID, where about so many lack one: 0 only
+/// where none does.
+pub(crate) fn note_among(count: u64, moof: &BoxRef<'_>, best: &mut Option<Fault>)
+    requires { count ≡ 0 → list_any lacks_time (trafs_of (view moof.now)) ≡ false }
     ensures { best.new ≡ least_from best.old (repeat_faults (view moof.now)) }
 {
-    if count_of(TRAF, moof) < 2 {
+    if count == 0 {
         return;
     }
-    let count = untimed_in(moof);
-    if count == 0 {
+    if count_of(TRAF, moof) < 2 {
         return;
     }
     if count <= FEW as u64 {
@@ -262,4 +263,11 @@ pub(crate) fn note_repeats(moof: &BoxRef<'_>, best: &mut Option<Fault>)
     } else {
         note_by::<MANY>(moof, best);
     }
+}
+
+/// Notes the trafs that have no tfdt though one that is listed earlier has their track_ID.
+pub(crate) fn note_repeats(moof: &BoxRef<'_>, best: &mut Option<Fault>)
+    ensures { best.new ≡ least_from best.old (repeat_faults (view moof.now)) }
+{
+    note_among(untimed_in(moof), moof, best);
 }

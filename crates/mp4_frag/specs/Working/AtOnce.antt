@@ -13,8 +13,9 @@ use Rattle.mp4_init.specs.declared.table.Track.{Track}
 use Rattle.mp4_frag.specs.declared.at_once.Sound.{Sound}
 use Rattle.mp4_frag.specs.Kinds.{mfhd, traf, tfhd, tfdt, trun, free, skip}
 use Rattle.mp4_frag.specs.Mfhd.{mfhd_len}
+use Rattle.mp4_frag.specs.Repeats.{lacks_time}
 use Rattle.mp4_frag.specs.Rules.{samples_in, tfhd_faults, tfhd_length, trun_faults, trun_length}
-use Rattle.mp4_frag.specs.Runs.{known_track}
+use Rattle.mp4_frag.specs.Runs.{base_of, known_track, track_of}
 use Rattle.mp4_frag.specs.Tfdt.{base_media_decode_time, tfdt_layout}
 use Rattle.mp4_frag.specs.Tfhd.{track_id}
 
@@ -50,9 +51,13 @@ faults_in_moof tracks b = by_moof tracks b (is_kind traf b) (is_kind mfhd b) (pa
 abbrev pub has_one : FourCc → Box → Bool
 has_one kind b = length (of_kind kind (children b)) == 1
 
--- a traf with just one tfhd and one tfdt
-abbrev pub has_both : Box → Bool
-has_both t = has_one tfhd t && has_one tfdt t
+-- at most one
+abbrev pub has_few : FourCc → Box → Bool
+has_few kind b = nat_lt (length (of_kind kind (children b))) 2
+
+-- a traf with just one tfhd and at most one tfdt
+abbrev pub has_heads : Box → Bool
+has_heads t = has_one tfhd t && has_few tfdt t
 
 -- the boxes in the payload take all of it
 abbrev pub is_filled : Box → Bool
@@ -60,7 +65,7 @@ is_filled b = sum_by box_len (children b) == length b.payload
 
 -- such a traf whose boxes take all of it
 abbrev pub is_complete : Box → Bool
-is_complete t = has_both t && is_filled t
+is_complete t = has_heads t && is_filled t
 
 -- the children of the trafs among these
 abbrev pub in_trafs : List Box → List Box
@@ -82,6 +87,14 @@ is_early b = nat_lt (base_media_decode_time b.payload) (2 ^ 63)
 abbrev pub times_early : Box → Bool
 times_early t = list_all is_early (of_kind tfdt (children t))
 
+-- a traf has a tfdt, or its track ended early
+abbrev pub HasEarlyEnd : List Track → Box → Type 0
+HasEarlyEnd tracks t = lacks_time t ≡ true → (track_of tracks t).next < 2 ^ 63
+
+-- a traf whose base time is early: that of its tfdt, or else where its track ended
+abbrev pub StartsEarly : List Track → Box → Type 0
+StartsEarly tracks t = base_of (track_of tracks t).next t < 2 ^ 63
+
 -- a tfhd whose track has a default duration of 32 bits
 abbrev pub HasTicks : List Track → Box → Type 0
 HasTicks tracks b = (known_track (track_id b.payload) tracks).duration < 2 ^ 32
@@ -90,10 +103,10 @@ HasTicks tracks b = (known_track (track_id b.payload) tracks).duration < 2 ^ 32
 abbrev pub TrafHasTicks : List Track → Box → Type 0
 TrafHasTicks tracks t = AllByRecursion (HasTicks tracks) (of_kind tfhd (children t))
 
--- the trafs of a moof have one tfhd and one early tfdt each
+-- the trafs of a moof have one tfhd each, and begin early
 pub record IsEarly (tracks : List Track) (m : Box) : Type 0 where
-  pub both : list_all has_both (of_kind traf (children m)) ≡ true
-  pub times : list_all times_early (of_kind traf (children m)) ≡ true
+  pub heads : list_all has_heads (of_kind traf (children m)) ≡ true
+  pub times : AllByRecursion (StartsEarly tracks) (of_kind traf (children m))
   pub ticks : AllByRecursion (TrafHasTicks tracks) (of_kind traf (children m))
 
 -- ---- what is counted

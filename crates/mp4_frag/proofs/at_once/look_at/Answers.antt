@@ -2,9 +2,11 @@ use Rattle.std.proofs.Common.{◌≡◌, sym, arith}
 use Rattle.mp4_box.specs.Paths.{at_path}
 use Rattle.mp4_box.specs.Trees.{view}
 use Rattle.mp4_frag.specs.Kinds.{to_trun}
+use Rattle.mp4_frag.specs.Repeats.{trafs_of}
 use Rattle.mp4_frag.specs.Rules.{samples_of}
 use Rattle.mp4_frag.proofs.AddLemmas.{few_enough, told_early, told_samples, told_truns}
-use Rattle.mp4_frag.proofs.AtOnceLemmas.{Passed, no_forms, no_values, passed, passed_both}
+use Rattle.mp4_frag.proofs.AtOnceLemmas.{Passed, no_forms, only_repeats, passed, passed_heads}
+use Rattle.mp4_frag.proofs.EarlyLemmas.{trafs_start}
 use Rattle.mp4_frag.proofs.PassTreeLemmas.{no_tree}
 use Rattle.mp4_frag.proofs.at_once.look_at.Goals as goal
 
@@ -23,7 +25,7 @@ returns-clause-forms c = λ _. no_forms c.args.tracks.now (view c.args.moof.now)
 
 pub returns-clause-values : goal.returns-clause-values
 returns-clause-values c = λ _.
-    no_values c.args.tracks.now (view c.args.moof.now) (pass c) (few_enough 0 (at_path to_trun (view c.args.moof.now)) (omega (arith, samples c, c.if-sound-gt-MOST_SAMPLES.false)))
+    only_repeats c.args.tracks.now (view c.args.moof.now) (pass c) (few_enough 0 (at_path to_trun (view c.args.moof.now)) (omega (arith, samples c, c.if-sound-gt-MOST_SAMPLES.false)))
 
 pub returns-clause-samples : goal.returns-clause-samples
 returns-clause-samples c = samples c
@@ -32,8 +34,10 @@ pub returns-clause-truns : goal.returns-clause-truns
 returns-clause-truns c = told_truns (view c.args.moof.now) c.note_moof.new.sound c.note_moof.ensures.adds (omega (arith, c.if-sound-gt-MOST_TRUNS.false))
 
 pub returns-clause-early : goal.returns-clause-early
-returns-clause-early c = λ sure. record {
-  both = passed_both c.args.tracks.now (view c.args.moof.now) (pass c);
-  times = told_early (view c.args.moof.now) c.note_moof.new.sound c.note_moof.ensures.adds sure;
-  ticks = c.note_moof.ensures.ticks;
-}
+returns-clause-early c = λ sure ends.
+    let m = view c.args.moof.now in
+    record {
+      heads = passed_heads c.args.tracks.now m (pass c);
+      times = trafs_start c.args.tracks.now (trafs_of m) (told_early m c.note_moof.new.sound c.note_moof.ensures.adds sure) ends;
+      ticks = c.note_moof.ensures.ticks;
+    }

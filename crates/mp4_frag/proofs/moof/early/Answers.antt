@@ -1,20 +1,54 @@
-use Rattle.std.proofs.Common.{refl}
-use Rattle.mp4_box.specs.Trees.{view}
-use Rattle.mp4_frag.specs.Runs.{MoofBytes}
-use Rattle.mp4_frag.proofs.EarlyLemmas.{early_in_time, values_count}
+use Rattle.std.proofs.Common.{◌∙◌, [], refl, subst}
+use Rattle.std.specs.List.{AllByRecursion}
+use Rattle.mp4_box.specs.Trees.{Box, view}
+use Rattle.mp4_frag.specs.Repeats.{trafs_of}
+use Rattle.mp4_frag.specs.Runs.{moof_at}
+use Rattle.mp4_frag.specs.Working.AtOnce.{HasEarlyEnd}
+use Rattle.mp4_frag.proofs.EarlyLemmas.{early_in_time, none_untimed, values_count}
 use Rattle.mp4_frag.proofs.MoofLemmas.{moof_is}
-use Rattle.mp4_frag.proofs.PassTreeLemmas.{none_early}
+use Rattle.mp4_frag.proofs.PassLemmas.{none_lacks}
+use Rattle.mp4_frag.proofs.PassTreeLemmas.{none_early, repeats_count, repeats_early, repeats_least}
 use Rattle.mp4_frag.proofs.moof.early.Goals as goal
 
-pub returns-in-Some-clause-fault : goal.returns-in-Some-clause-fault
-returns-in-Some-clause-fault c =
+pub returns-then-untimed-eq0-clause-fault : goal.returns-then-untimed-eq0-clause-fault
+returns-then-untimed-eq0-clause-fault c =
     let m = view c.whole_box.result in
-    none_early (record { bytes = c.args.held.now; offset = c.args.offset }) c.args.tracks.now m c.whole_box.ensures (moof_is c.args.offset c.args.held.now m c.whole_box.ensures) (c.in-Some.ensures.tree refl) (c.in-Some.ensures.forms refl)
-    (c.in-Some.ensures.values refl)
+    let found = c.in-Some.ensures in
+    none_early (moof_at c.args.held.now c.args.offset) c.args.tracks.now m c.whole_box.ensures (moof_is c.args.offset c.args.held.now m c.whole_box.ensures) (found.tree refl) (found.forms refl)
+    (found.values refl ∙ none_lacks [] (trafs_of m) (found.timed refl c.if-untimed-eq0.true))
 
-pub returns-in-Some-clause-early : goal.returns-in-Some-clause-early
-returns-in-Some-clause-early c = λ sure.
-    let h : MoofBytes = record { bytes = c.args.held.now; offset = c.args.offset } in
+pub returns-then-untimed-eq0-clause-early : goal.returns-then-untimed-eq0-clause-early
+returns-then-untimed-eq0-clause-early c = λ sure.
     let m = view c.whole_box.result in
-    early_in_time h c.args.tracks.now m c.requires.whole (λ i. (c.type_inv.held i).fits) c.whole_box.ensures (moof_is c.args.offset c.args.held.now m c.whole_box.ensures)
-    (values_count c.args.tracks.now m (c.in-Some.ensures.values refl)) (c.in-Some.ensures.early sure)
+    let found = c.in-Some.ensures in
+    let timed = found.timed refl c.if-untimed-eq0.true in
+    early_in_time (moof_at c.args.held.now c.args.offset) c.args.tracks.now m c.requires.whole (λ i. (c.type_inv.held i).fits) c.whole_box.ensures (moof_is c.args.offset c.args.held.now m c.whole_box.ensures)
+    (values_count c.args.tracks.now m (found.values refl ∙ none_lacks [] (trafs_of m) timed))
+    (found.early sure (none_untimed c.args.tracks.now (trafs_of m) timed))
+
+pub returns-in-Ok-clause-fault : goal.returns-in-Ok-clause-fault
+returns-in-Ok-clause-fault c =
+    let m = view c.whole_box.result in
+    let found = c.in-Some.ensures in
+    repeats_early (moof_at c.args.held.now c.args.offset) c.args.tracks.now m c.whole_box.ensures (moof_is c.args.offset c.args.held.now m c.whole_box.ensures) (found.tree refl) (found.forms refl) (found.values refl) _ c.in-Ok.ensures.fault
+
+pub returns-in-Ok-clause-early : goal.returns-in-Ok-clause-early
+returns-in-Ok-clause-early c = λ sure.
+    let m = view c.whole_box.result in
+    let is = moof_is c.args.offset c.args.held.now m c.whole_box.ensures in
+    let found = c.in-Some.ensures in
+    early_in_time (moof_at c.args.held.now c.args.offset) c.args.tracks.now m c.requires.whole (λ i. (c.type_inv.held i).fits) c.whole_box.ensures is
+    (repeats_count (moof_at c.args.held.now c.args.offset) c.args.tracks.now m c.whole_box.ensures is (found.tree refl) (found.forms refl) (found.values refl) c.in-Ok.ensures.fault)
+    (found.early (c.in-Ok.ensures.early sure) (subst (λ (b : Box). AllByRecursion (HasEarlyEnd c.args.tracks.now) (trafs_of b)) is (c.in-Ok.ensures.ends sure)))
+
+pub returns-in-Err-clause-fault : goal.returns-in-Err-clause-fault
+returns-in-Err-clause-fault c =
+    let m = view c.whole_box.result in
+    let found = c.in-Some.ensures in
+    repeats_early (moof_at c.args.held.now c.args.offset) c.args.tracks.now m c.whole_box.ensures (moof_is c.args.offset c.args.held.now m c.whole_box.ensures) (found.tree refl) (found.forms refl) (found.values refl) _ c.in-Err.ensures.fault
+
+pub returns-in-Err-clause-least : goal.returns-in-Err-clause-least
+returns-in-Err-clause-least c =
+    let m = view c.whole_box.result in
+    let found = c.in-Some.ensures in
+    repeats_least (moof_at c.args.held.now c.args.offset) c.args.tracks.now m c.whole_box.ensures (moof_is c.args.offset c.args.held.now m c.whole_box.ensures) (found.tree refl) (found.forms refl) (found.values refl) c.in-Err.fault c.in-Err.ensures.fault

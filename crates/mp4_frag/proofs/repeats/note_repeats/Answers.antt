@@ -1,10 +1,8 @@
-use Rattle.std.proofs.Common.{arith}
+use Rattle.std.proofs.Common.{◌∙◌, sym}
 use Rattle.mp4_box.specs.Trees.{view}
-use Rattle.mp4_frag.proofs.PassLemmas.{none_earlier, none_untimed}
+use Rattle.mp4_frag.specs.Repeats.{trafs_of}
+use Rattle.mp4_frag.proofs.PassLemmas.{all_timed}
 use Rattle.mp4_frag.proofs.repeats.note_repeats.Goals as goal
 
-pub returns-then-count_of-lt2 : goal.returns-then-count_of-lt2
-returns-then-count_of-lt2 c = none_earlier (view c.args.moof.now) c.args.best.now (omega (arith, c.count_of.ensures, c.if-count_of-lt2.true))
-
-pub returns-then-count-eq0 : goal.returns-then-count-eq0
-returns-then-count-eq0 c = none_untimed (view c.args.moof.now) c.args.best.now c.untimed_in-count.result c.untimed_in-count.ensures c.if-count-eq0.true
+pub note_among-requires : goal.note_among-requires
+note_among-requires c = λ none. all_timed (trafs_of (view c.args.moof.now)) (sym c.untimed_in.ensures ∙ none)
