@@ -70,6 +70,7 @@ pub(crate) fn run_at(context: &TrafContext<'_>, behind: &Behind, trun: &BoxRef<'
 }
 
 /// The durations of the samples of a trun, added up: by a product where no sample has its own.
+#[inline(always)]
 #[tactic(auto, using(crate::proofs::TimeLemmas::ticks_by_product), unfolding(crate::specs::Working::Times::ticks_in))]
 pub(crate) fn ticks_in(context: &TrafContext<'_>, trun: &BoxRef<'_>) -> u64
     ensures { result ≡ ticks_in (shared_of context.now) (view trun.now) }
@@ -160,6 +161,7 @@ pub(crate) fn behind_run(run: &Run) -> Behind
 }
 
 /// The run of the next trun among the children that are left, behind the runs so far.
+#[inline(always)]
 fn next_run<'a>(context: &TrafContext<'a>, behind: &mut Behind, walk: &mut Walk<'a>) -> Option<Run>
     requires range { AllByRecursion InRange (runs_left context.now behind.old walk.old) }
     ensures first { runs_left context.now behind.old walk.old ≡
@@ -182,6 +184,7 @@ impl<'a> Iterator for Runs<'a> {
 
     ghost remaining = { item_count (λ rest. rest) };
 
+    #[inline(always)]
     fn next(&mut self) -> Option<Run> {
         next_run(&self.context, &mut self.behind, &mut self.walk)
     }

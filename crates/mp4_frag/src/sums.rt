@@ -68,8 +68,23 @@ fn field_sum(run: &Run, held: &[u8], at: u32) -> Option<u64>
     Some(added(held, len, run.samples_at + u64::from(at), run.count))
 }
 
+/// The durations of the samples of a run, added up row by row.
+#[inline(never)]
+#[tactic(auto, using(crate::proofs::RowLemmas::length_rows_of))]
+fn ticks_by_row(run: &Run, held: &[u8]) -> u64
+    ensures ticks { result ≡ durations (rows_of run.now held.now) }
+    ensures few { result ≤ 4294967295 * run.now.count }
+{
+    let mut ticks = 0;
+    for row in run.rows(held) {
+        ticks += u64::from(row.duration);
+    }
+    ticks
+}
+
 /// The durations of the samples of a run, added up: by a product where no sample has its own.
-#[tactic(auto, using(crate::proofs::RowLemmas::length_rows_of, crate::proofs::RowLemmas::durations_by_product, crate::proofs::RowLemmas::durations_by_place))]
+#[inline(always)]
+#[tactic(auto, using(crate::proofs::RowLemmas::durations_by_product, crate::proofs::RowLemmas::durations_by_place))]
 pub(crate) fn ticks_of(run: &Run, held: &[u8]) -> u64
     ensures ticks { result ≡ durations (rows_of run.now held.now) }
     ensures few { result ≤ 4294967295 * run.now.count }
@@ -82,16 +97,28 @@ pub(crate) fn ticks_of(run: &Run, held: &[u8]) -> u64
             return ticks;
         }
     }
-    let mut ticks = 0;
+    // A copy, so that only here the run need be in memory.
+    let run = *run;
+    ticks_by_row(&run, held)
+}
+
+/// The sizes of the samples of a run, added up row by row.
+#[inline(never)]
+#[tactic(auto, using(crate::proofs::RowLemmas::length_rows_of))]
+fn bytes_by_row(run: &Run, held: &[u8]) -> u64
+    ensures bytes { result ≡ sizes (rows_of run.now held.now) }
+    ensures few { result ≤ 4294967295 * run.now.count }
+{
+    let mut bytes = 0;
     for row in run.rows(held) {
-        ticks += u64::from(row.duration);
+        bytes += u64::from(row.size);
     }
-    ticks
+    bytes
 }
 
 /// The sizes of the samples of a run, added up: by a product where no sample has its own.
 #[inline(always)]
-#[tactic(auto, using(crate::proofs::RowLemmas::length_rows_of, crate::proofs::RowLemmas::sizes_by_product, crate::proofs::RowLemmas::sizes_by_place))]
+#[tactic(auto, using(crate::proofs::RowLemmas::sizes_by_product, crate::proofs::RowLemmas::sizes_by_place))]
 fn bytes_of(run: &Run, held: &[u8]) -> u64
     ensures bytes { result ≡ sizes (rows_of run.now held.now) }
     ensures few { result ≤ 4294967295 * run.now.count }
@@ -104,11 +131,8 @@ fn bytes_of(run: &Run, held: &[u8]) -> u64
             return bytes;
         }
     }
-    let mut bytes = 0;
-    for row in run.rows(held) {
-        bytes += u64::from(row.size);
-    }
-    bytes
+    let run = *run;
+    bytes_by_row(&run, held)
 }
 
 /// The sizes and the durations of the samples of a run, added up: by products where no sample has its own.

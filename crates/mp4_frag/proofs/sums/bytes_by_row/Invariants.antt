@@ -1,6 +1,6 @@
 use Rattle.std.proofs.Common.{◌≡◌, ◌+◌, ◌*◌, ◌≤◌, length}
 use Rattle.mp4_frag.specs.Rows.{rows_of, sizes}
-use Rattle.mp4_frag.proofs.sums.bytes_of.Given as goal
+use Rattle.mp4_frag.proofs.sums.bytes_by_row.Given as goal
 
 -- the sizes so far and those of the rows that are left
 abbrev pub invariant-loop-row : goal.invariant-loop-row
