@@ -26,3 +26,4 @@ pub mod ListingLemmas
 pub mod TrackFitLemmas
 pub mod CursorLemmas
 pub mod ReadRunLemmas
+pub mod FollowingLemmas

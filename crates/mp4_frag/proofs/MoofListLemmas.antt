@@ -43,7 +43,7 @@ ends h m f =
     let s = stands h.offset h.bytes m f.fits f.here in
     omega (arith, s.place, whole_len h.offset h.bytes m f.whole f.here, f.room)
 
-runs_are : (h : MoofBytes) (tracks : List Track) (m : Box) → IsMoof h m → moof_runs h tracks ≡ runs_by h tracks (of_kind traf (children m))
+pub runs_are : (h : MoofBytes) (tracks : List Track) (m : Box) → IsMoof h m → moof_runs h tracks ≡ runs_by h tracks (of_kind traf (children m))
 runs_are h tracks m f = ap (λ (b : Box). runs_by h tracks (of_kind traf (children b))) f.is
 
 given : (h : MoofBytes) (tracks : List Track) (m : Box) → IsMoof h m → Given h tracks (rows_of_trafs h tracks (at_path (traf ∷ []) m)) (moof_runs h tracks)

@@ -46,9 +46,9 @@ of_both held (x ∷ xs) ys all = let rest = of_both held xs ys all.1 in ((all.0,
 
 -- ---- their sums
 
-record IsSummed (held : List ℕ) (run : Run) : Type 0 where
-  end : run.end ≡ run.time + durations (rows_of run held)
-  bytes : run.bytes ≡ sizes (rows_of run held)
+pub record IsSummed (held : List ℕ) (run : Run) : Type 0 where
+  pub end : run.end ≡ run.time + durations (rows_of run held)
+  pub bytes : run.bytes ≡ sizes (rows_of run held)
 
 run_summed : (s : Shared) (time : ℕ) (last : ℤ) (b : Box) → IsSummed s.moof.bytes (run_of s time last b)
 unfolding run_of row_of group_at
@@ -63,7 +63,7 @@ traf_summed : (h : MoofBytes) (tracks : List Track) (t : Box) → AllByRecursion
 unfolding traf_of
 traf_summed h tracks t = runs_summed (traf_of h tracks t).shared (traf_of h tracks t).time (pos h.offset) (traf_of h tracks t).truns
 
-trafs_summed : (h : MoofBytes) (tracks : List Track) (ts : List Box) → AllByRecursion (IsSummed h.bytes) (flat_map runs_of (map (traf_of h tracks) ts))
+pub trafs_summed : (h : MoofBytes) (tracks : List Track) (ts : List Box) → AllByRecursion (IsSummed h.bytes) (flat_map runs_of (map (traf_of h tracks) ts))
 trafs_summed h tracks [] = tt
 trafs_summed h tracks (t ∷ ts) =
     all_append (IsSummed h.bytes) (runs_of (traf_of h tracks t)) (flat_map runs_of (map (traf_of h tracks) ts)) (traf_summed h tracks t) (trafs_summed h tracks ts)

@@ -2,6 +2,7 @@
 -- What a stream means is said by the definitions beside this folder, which need none of them.
 pub mod Added
 pub mod AtOnce
+pub mod Following
 pub mod ListedRows
 pub mod RepeatMarks
 pub mod Rereads

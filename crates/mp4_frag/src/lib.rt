@@ -8,6 +8,7 @@
 //! - [`Moof::list`]: a [`RunList`], its runs in the order in which they are taken, in claimed memory;
 //!   [`RunList::at`] gives one of them, [`RunList::listed`] where it stands, and
 //!   [`Moof::places`]: whether they stand where they may in the [`Payload`] of its mdat;
+//! - [`Moof::following`]: what runs come to that follow one another as they are listed ([`Following`]), without a list;
 //! - [`Moof::lone_run`]: a [`LoneRun`], the run of a moof that has no other, without a list; [`LoneRun::read`]: the same from
 //!   the bytes of the moof;
 //! - [`laws`]: what the definitions of `specs/` imply.
@@ -32,6 +33,7 @@ mod children;
 mod counts;
 mod fields;
 mod fill;
+mod following;
 mod kinds;
 pub mod laws;
 mod listed;
@@ -59,6 +61,7 @@ mod trun;
 mod usual;
 
 pub use counts::MOST_SAMPLES;
+pub use following::Following;
 pub use lone::LoneRun;
 pub use moof::Moof;
 pub use mp4_run_order::{ListedRun, Payload};

@@ -173,7 +173,7 @@ impl<'a> Moof<'a> {
 
 /// Whether a run lies in a payload: from its first byte on, and up to its end, where it has one.
 #[inline(always)]
-fn lies_in(run: &Run, payload: Payload) -> bool
+pub(crate) fn lies_in(run: &Run, payload: Payload) -> bool
     ensures { result ≡ lies_in payload (listed_run run.now) }
 {
     if run.place < i128::from(payload.start) {

@@ -21,7 +21,7 @@ use Rattle.mp4_run_order.proofs.SearchLemmas.{offender_means}
 use Rattle.mp4_frag.specs.declared.run.Run.{Run}
 use Rattle.mp4_frag.specs.declared.lone.LoneRun.{LoneRun}
 use Rattle.mp4_frag.specs.LoneRuns.{IsLone}
-use Rattle.mp4_frag.specs.Moofs.{moof_runs, moof_samples, moof_trafs}
+use Rattle.mp4_frag.specs.Moofs.{IsRead, moof_runs, moof_samples, moof_trafs}
 use Rattle.mp4_frag.specs.Settling.{settled}
 use Rattle.mp4_frag.specs.Places.{run_place_fault, place_fault}
 use Rattle.mp4_run_order.specs.Orders.{taken_by}
@@ -154,6 +154,76 @@ boxes_fit at piece b are =
       near = omega (arith, len, are.mdat.near);
     }
 
+module _ (at : ℕ) (tracks : List Track) (piece : List ℕ) (b : Boxes) (are : AreBoxes at piece b) where
+  abbrev m : List ℕ
+  m = b.moof.now
+
+  abbrev g : Header
+  g = are.mdat.header
+
+  abbrev n : ℕ
+  n = length b.moof.now + b.mdat.size
+
+  abbrev runs : List Run
+  runs = moof_runs (moof_at b.moof.now at) tracks
+
+  long : length b.moof.now ≡ are.span.size
+  long = moof_len at piece b are
+
+  -- as it is told
+  abbrev pub told : ℕ → Fragment
+  told number = fragment (context at (Some tracks) number) tracks b.moof.now are.mdat.header
+
+  pub told_payload : (told 1).payload ≡ payload_in (at + are.span.size) b.mdat
+  told_payload =
+      ap (λ k. record { start = at + k + g.header_len; end = end_of (at + k) g.size }) long
+      ∙ ap (λ k. record { start = at + are.span.size + k; end = end_of (at + are.span.size) g.size }) are.mdat.head
+      ∙ ap (λ z. record { start = at + are.span.size + b.mdat.header_len; end = end_of (at + are.span.size) z }) are.mdat.sized
+
+  within : length m ≤ length piece
+  within = omega (arith, long, are.moof.whole)
+
+  front : m ≡ take (length m) piece
+  front = are.bytes ∙ ap (λ k. take k piece) (sym long)
+
+  behind : header_at (drop (length m) piece) ≡ steps.Whole g
+  behind = ap (λ k. header_at (drop k piece)) long ∙ are.mdat.is
+
+  sized : are.moof.header.size ≡ Exact (length m)
+  sized = are.moof.sized ∙ ap Exact (sym long)
+
+  whole : b.mdat.size ≤ length (drop (length m) piece)
+  whole = subst (λ k. b.mdat.size ≤ length (drop k piece)) (sym long) are.mdat.whole
+
+  near : at + length m + b.mdat.size ≤ longest
+  near = omega (arith, long, are.mdat.near)
+
+  most : length m ≤ most_moof
+  most = omega (arith, long, are.most)
+
+  -- its runs stand where they may
+  module _ (read : IsRead (moof_at b.moof.now at) tracks) (stands : place_fault (payload_in (at + are.span.size) b.mdat) (moof_runs (moof_at b.moof.now at) tracks) ≡ None) where
+    told_is_good : (command : Command) (number : ℕ) → fragment_fault (command_meaning command) (told number) ≡ None
+    told_is_good command number = ap (λ o. option_or o None) (ap (λ p. place_fault p runs) told_payload ∙ stands)
+
+    module _ (command : Command) (number : ℕ) (o : Outside) (low : 64 * length tracks ≤ o.account.live) (u : Option (List ℕ)) (v : Pending) (a : Account) (t : Tally)
+        (claim : ℕ) (claims : claim ≡ length b.moof.now + 64 * length (moof_runs (moof_at b.moof.now at) tracks)) (account : a ≡ given_back (claimed o.account claim) claim)
+        (tally : t ≡ plus (plus o.tally (walked (moof_at b.moof.now at))) (counted_in (told number))) where
+      -- it is told
+      pub GoesOn-told : Passes o.written u o.waiting v (accepted command (told number)).text
+          → GoesOn o (outside u v a t) (standing (command_meaning command) (InHeader (context at (Some tracks) number) [])) (take (length b.moof.now + b.mdat.size) piece) (standing (command_meaning command) (InHeader (context (at + (length b.moof.now + b.mdat.size)) (Some (settled tracks (moof_trafs (moof_at b.moof.now at) tracks))) number) []))
+      GoesOn-told passes =
+          let goes = GoesOn-whole command number o at tracks piece m are.moof.header g b.mdat.size claim front within are.moof.is are.moof.is_kind sized most read claims behind are.mdat.is_kind are.mdat.sized whole near low u v a t (told_is_good command number) account tally passes in
+          let end : at + length m + b.mdat.size ≡ at + n = omega arith in
+          subst (λ k. GoesOn o (outside u v a t) (standing (command_meaning command) (InHeader (context at (Some tracks) number) [])) (take n piece) (standing (command_meaning command) (InHeader (context k (Some (settled tracks (moof_trafs (moof_at m at) tracks))) number) []))) end goes
+
+      -- it can't be told
+      pub StopsAt-told : (more : List ℕ) → Breaks o.written u o.waiting v (accepted command (told number)).text → StopsAt o (outside u v (given_back a (64 * length tracks)) t) (standing (command_meaning command) (InHeader (context at (Some tracks) number) [])) (piece ++ more) Write
+      StopsAt-told more p =
+          StopsAt-whole command number o at tracks piece m are.moof.header g b.mdat.size claim front within are.moof.is are.moof.is_kind sized most read claims behind are.mdat.is_kind are.mdat.sized whole near low u v a t (told_is_good command number) account tally more p
+
+-- ---- one with just one run
+
 module _ (at : ℕ) (tracks : List Track) (piece : List ℕ) (b : Boxes) (l : LoneRun) (is : IsFragment at tracks piece b l) where
   len_is : length b.moof.now ≡ is.boxes.span.size
   len_is = moof_len at piece b is.boxes
@@ -185,62 +255,28 @@ module _ (at : ℕ) (tracks : List Track) (piece : List ℕ) (b : Boxes) (l : Lo
       (omega (arith, media_fits), omega (arith, media_fits), omega (arith, is.boxes.mdat.near)) sum (omega (arith, rows)) in
       subst (λ z. IsCounted (plans.List command) c' (at + z + b.mdat.size) 0 0) (sym len_is) (counted_later (plans.List command) c' (at + is.boxes.span.size + b.mdat.size) (at + is.boxes.span.size + b.mdat.size) k 0 (omega arith) (omega arith) (omega (arith, is.boxes.mdat.near)) effects)
 
-  abbrev m : List ℕ
-  m = b.moof.now
-
-  abbrev g : Header
-  g = is.boxes.mdat.header
-
-  abbrev n : ℕ
-  n = length b.moof.now + b.mdat.size
-
   -- as it is told
   abbrev pub it : ℕ → Fragment
   it number = fragment (context at (Some tracks) number) tracks b.moof.now is.boxes.mdat.header
 
   pub payload_same : (it 1).payload ≡ payload_in (at + is.boxes.span.size) b.mdat
-  payload_same =
-      ap (λ k. record { start = at + k + g.header_len; end = end_of (at + k) g.size }) len_is
-      ∙ ap (λ k. record { start = at + is.boxes.span.size + k; end = end_of (at + is.boxes.span.size) g.size }) is.boxes.mdat.head
-      ∙ ap (λ z. record { start = at + is.boxes.span.size + b.mdat.header_len; end = end_of (at + is.boxes.span.size) z }) is.boxes.mdat.sized
+  payload_same = told_payload at tracks piece b is.boxes
 
-  pub it_is_good : (command : Command) (number : ℕ) → fragment_fault (command_meaning command) (it number) ≡ None
-  it_is_good command number =
-      ap (λ o. option_or o None) (ap (λ p. place_fault p (moof_runs (moof_at m at) tracks)) payload_same ∙ ap (place_fault (payload_in (at + is.boxes.span.size) b.mdat)) is.lone.run ∙ is.stands)
+  stands_all : place_fault (payload_in (at + is.boxes.span.size) b.mdat) (moof_runs (moof_at b.moof.now at) tracks) ≡ None
+  stands_all = ap (place_fault (payload_in (at + is.boxes.span.size) b.mdat)) is.lone.run ∙ is.stands
+
+  claims_one : length b.moof.now + 64 ≡ length b.moof.now + 64 * length (moof_runs (moof_at b.moof.now at) tracks)
+  claims_one = let one : length (moof_runs (moof_at b.moof.now at) tracks) ≡ 1 = ap length is.lone.run in omega (arith, one)
 
   module _ (command : Command) (number : ℕ) (o : Outside) (low : 64 * length tracks ≤ o.account.live) (u : Option (List ℕ)) (v : Pending) (a : Account) (t : Tally)
       (account : a ≡ given_back (claimed o.account (length b.moof.now + 64)) (length b.moof.now + 64)) (tally : t ≡ plus (plus o.tally (walked (moof_at b.moof.now at))) (counted_in (it number))) where
-    within : length m ≤ length piece
-    within = omega (arith, len_is, is.boxes.moof.whole)
-
-    front : m ≡ take (length m) piece
-    front = is.boxes.bytes ∙ ap (λ k. take k piece) (sym len_is)
-
-    behind : header_at (drop (length m) piece) ≡ steps.Whole g
-    behind = ap (λ k. header_at (drop k piece)) len_is ∙ is.boxes.mdat.is
-
-    sized : is.boxes.moof.header.size ≡ Exact (length m)
-    sized = is.boxes.moof.sized ∙ ap Exact (sym len_is)
-
-    whole : b.mdat.size ≤ length (drop (length m) piece)
-    whole = subst (λ k. b.mdat.size ≤ length (drop k piece)) (sym len_is) is.boxes.mdat.whole
-
-    near : at + length m + b.mdat.size ≤ longest
-    near = omega (arith, len_is, is.boxes.mdat.near)
-
-    most : length m ≤ most_moof
-    most = omega (arith, len_is, is.boxes.most)
-
     -- it is told
     pub GoesOn-it : Passes o.written u o.waiting v (accepted command (it number)).text
-        → GoesOn o (outside u v a t) (standing (command_meaning command) (InHeader (context at (Some tracks) number) [])) (take n piece) (standing (command_meaning command) (InHeader (context (at + n) (Some (with_next l.track l.run.end tracks)) number) []))
+        → GoesOn o (outside u v a t) (standing (command_meaning command) (InHeader (context at (Some tracks) number) [])) (take (length b.moof.now + b.mdat.size) piece) (standing (command_meaning command) (InHeader (context (at + (length b.moof.now + b.mdat.size)) (Some (with_next l.track l.run.end tracks)) number) []))
     GoesOn-it passes =
-        let goes = GoesOn-whole command number o at tracks piece m is.boxes.moof.header g b.mdat.size l.run front within is.boxes.moof.is is.boxes.moof.is_kind sized most is.lone.read is.lone.run behind is.boxes.mdat.is_kind is.boxes.mdat.sized whole near low u v a t (it_is_good command number) account tally passes in
-        let end : at + length m + b.mdat.size ≡ at + n = omega arith in
-        subst (λ ts. GoesOn o (outside u v a t) (standing (command_meaning command) (InHeader (context at (Some tracks) number) [])) (take n piece) (standing (command_meaning command) (InHeader (context (at + n) (Some ts) number) []))) is.lone.ends
-        (subst (λ k. GoesOn o (outside u v a t) (standing (command_meaning command) (InHeader (context at (Some tracks) number) [])) (take n piece) (standing (command_meaning command) (InHeader (context k (Some (settled tracks (moof_trafs (moof_at m at) tracks))) number) []))) end goes)
+        subst (λ ts. GoesOn o (outside u v a t) (standing (command_meaning command) (InHeader (context at (Some tracks) number) [])) (take (length b.moof.now + b.mdat.size) piece) (standing (command_meaning command) (InHeader (context (at + (length b.moof.now + b.mdat.size)) (Some ts) number) []))) is.lone.ends
+        (GoesOn-told at tracks piece b is.boxes is.lone.read stands_all command number o low u v a t (length b.moof.now + 64) claims_one account tally passes)
 
     -- it can't be told
     pub StopsAt-it : (more : List ℕ) → Breaks o.written u o.waiting v (accepted command (it number)).text → StopsAt o (outside u v (given_back a (64 * length tracks)) t) (standing (command_meaning command) (InHeader (context at (Some tracks) number) [])) (piece ++ more) Write
-    StopsAt-it more p =
-        StopsAt-whole command number o at tracks piece m is.boxes.moof.header g b.mdat.size l.run front within is.boxes.moof.is is.boxes.moof.is_kind sized most is.lone.read is.lone.run behind is.boxes.mdat.is_kind is.boxes.mdat.sized whole near low u v a t (it_is_good command number) account tally more p
+    StopsAt-it = StopsAt-told at tracks piece b is.boxes is.lone.read stands_all command number o low u v a t (length b.moof.now + 64) claims_one account tally

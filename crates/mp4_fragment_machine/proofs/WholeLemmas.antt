@@ -199,9 +199,9 @@ front_is m x h e is room within =
     let same : need m ≡ need x = sym (need-append m y (omega (arith, w.1, room, need-least x))) ∙ ap need all in
     sym (header_at-append m y (omega (arith, same, w.1, room))) ∙ ap header_at all ∙ is
 
-module _ (command : Command) (number : ℕ) (o : Outside) (at : ℕ) (tracks : List Track) (piece m : List ℕ) (h g : Header) (s : ℕ) (run : Run)
+module _ (command : Command) (number : ℕ) (o : Outside) (at : ℕ) (tracks : List Track) (piece m : List ℕ) (h g : Header) (s claim : ℕ)
     (front : m ≡ take (length m) piece) (within : length m ≤ length piece) (is : header_at piece ≡ steps.Whole h) (moof : kind_in h.kind.0 ≡ Moof) (sized : h.size ≡ Exact (length m)) (most : length m ≤ most_moof)
-    (read : IsRead (moof_at m at) tracks) (lone : moof_runs (moof_at m at) tracks ≡ run ∷ [])
+    (read : IsRead (moof_at m at) tracks) (claims : claim ≡ length m + 64 * length (moof_runs (moof_at m at) tracks))
     (behind : header_at (drop (length m) piece) ≡ steps.Whole g) (mdat : kind_in g.kind.0 ≡ Mdat) (stated : g.size ≡ Exact s) (whole : s ≤ length (drop (length m) piece)) (near : at + length m + s ≤ longest)
     (low : 64 * length tracks ≤ o.account.live) where
   abbrev starts : Standing
@@ -209,9 +209,6 @@ module _ (command : Command) (number : ℕ) (o : Outside) (at : ℕ) (tracks : L
 
   begins : header_at m ≡ steps.Whole h
   begins = front_is m piece h front is (subst (λ z. HasRoom z h.header_len) sized (room_of piece h is)) within
-
-  one : length (moof_runs (moof_at m at) tracks) ≡ 1
-  one = ap length lone
 
   abbrev listed_of : Outside
   listed_of = listed (command_meaning command) number o at tracks h m begins moof sized most (omega (arith, near)) low
@@ -221,7 +218,7 @@ module _ (command : Command) (number : ℕ) (o : Outside) (at : ℕ) (tracks : L
 
   module _ (u : Option (List ℕ)) (v : Pending) (a : Account) (t : Tally)
       (good : fragment_fault (command_meaning command) (fragment (context at (Some tracks) number) tracks m g) ≡ None)
-      (account : a ≡ given_back (claimed o.account (length m + 64)) (length m + 64))
+      (account : a ≡ given_back (claimed o.account claim) claim)
       (tally : t ≡ plus (plus o.tally (walked (moof_at m at))) (counted_in (fragment (context at (Some tracks) number) tracks m g))) where
     -- it is told
     pub GoesOn-whole : Passes o.written u o.waiting v (accepted command (fragment (context at (Some tracks) number) tracks m g)).text
@@ -231,9 +228,9 @@ module _ (command : Command) (number : ℕ) (o : Outside) (at : ℕ) (tracks : L
         let r = standing (command_meaning command) (InHeader (context (at + length m + s) (Some (settled tracks (moof_trafs (moof_at m at) tracks))) number) []) in
         let low' : 64 * length tracks + length m + 64 * length (moof_runs (moof_at m at) tracks) ≤ listed_of.account.live = omega (arith, low) in
         let goes = GoesOn-mdat_whole command number listed_of at tracks h.kind m (drop (length m) piece) g s behind mdat stated whole near low' good o' refl tally passes in
-        let rows : length (map (row_of_run 0) (moof_runs (moof_at m at) tracks)) ≡ 1 = length-map (moof_runs (moof_at m at) tracks) (row_of_run 0) ∙ one in
+        let rows : length (map (row_of_run 0) (moof_runs (moof_at m at) tracks)) ≡ length (moof_runs (moof_at m at) tracks) = length-map (moof_runs (moof_at m at) tracks) (row_of_run 0) in
         let same : given_back (given_back listed_of.account (64 * length (map (row_of_run 0) (moof_runs (moof_at m at) tracks)))) (length m) ≡ a =
-        ap (λ n. given_back (given_back listed_of.account (64 * n)) (length m)) (rows ∙ sym one) ∙ claimed_at_once o.account (length m) (64 * length (moof_runs (moof_at m at) tracks)) (length m + 64) (omega (arith, one)) ∙ sym account in
+        ap (λ n. given_back (given_back listed_of.account (64 * n)) (length m)) rows ∙ claimed_at_once o.account (length m) (64 * length (moof_runs (moof_at m at) tracks)) claim claims ∙ sym account in
         subst (λ k. GoesOn o (outside u v k t) starts (take (length m + s) piece) r) same (GoesOn-take_more low (length m) piece to_behind s r goes)
 
     -- it can't be told: all is given back
@@ -243,7 +240,7 @@ module _ (command : Command) (number : ℕ) (o : Outside) (at : ℕ) (tracks : L
         let rows : length (map (row_of_run 0) (moof_runs (moof_at m at) tracks)) ≡ length (moof_runs (moof_at m at) tracks) = length-map (moof_runs (moof_at m at) tracks) (row_of_run 0) in
         let same : given_back a (64 * length tracks) ≡ given_back (given_back listed_of.account (length m + 64 * length (map (row_of_run 0) (moof_runs (moof_at m at) tracks)))) (64 * length tracks) =
         ap (λ b. given_back b (64 * length tracks)) account
-        ∙ back_at_once o.account (length m) (64 * length (moof_runs (moof_at m at) tracks)) (length m + 64) (64 * length tracks) (omega (arith, one))
+        ∙ back_at_once o.account (length m) (64 * length (moof_runs (moof_at m at) tracks)) claim (64 * length tracks) claims
         ∙ ap (λ n. given_back (given_back listed_of.account (length m + 64 * n)) (64 * length tracks)) (sym rows) in
         StopsAt-take_more low (length m) piece to_behind (outside u v (given_back a (64 * length tracks)) t) more Write
         (StopsAt-mdat_whole command number listed_of at tracks h.kind m (drop (length m) piece) g s behind mdat stated whole near low' good u v (given_back a (64 * length tracks)) t more same tally p)

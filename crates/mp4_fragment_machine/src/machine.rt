@@ -1,6 +1,6 @@
 //! A machine that reads a fragmented stream, which it is fed as it comes.
 
-ghost use Rattle.std.specs.Prelude.{◌≡◌, ℕ, ◌+◌, ◌*◌, ◌-◌, ◌<◌, ◌≤◌, ◌↔◌, [], List, Option, length, take, None, Some, IfOk, IfErr, OnOk, OnErr, IsErrOf, IsTrue, Ok};
+ghost use Rattle.std.specs.Prelude.{◌≡◌, ℕ, ◌+◌, ◌*◌, ◌-◌, ◌<◌, ◌≤◌, ◌↔◌, [], List, Option, length, take, None, Some, IfOk, IfErr, IfSome, OnOk, OnErr, IsErrOf, IsTrue, Ok};
 ghost use Rattle.mp4_init.specs.declared.table.Track.{Track};
 ghost use Rattle.mp4_box.specs.declared.rules.Rule.TheVariants.{MdatMissing};
 ghost use Rattle.mp4_box.specs.declared.headers.FourCc.{FourCc};
@@ -33,6 +33,7 @@ use crate::slot::{LeftBody, go_on, go_to, leave_body, leave_header, put_state, s
 use crate::state::{Counter, Kept, State, Taken, Waiting};
 use crate::step::{back_state, take_next};
 use crate::whole_box::{box_at, take_whole_box};
+use crate::whole_check::check_fragment;
 use crate::whole_fault::refuse_times;
 use crate::whole_fragment::{Boxes, Span, Whole, boxes_in};
 use crate::whole_moof::take_whole_moof;
@@ -40,7 +41,7 @@ use crate::whole_plan::{looks_ahead, take_whole_fragment};
 use mp4_box::{Fault, FourCc, HeaderReader, Rule};
 use mp4_ends::{Failed, Sink};
 use mp4_frag::{LoneRun, Steps};
-use mp4_grammar::{Kind, MOST_MOOF, kind_of};
+use mp4_grammar::{Command, Kind, MOST_MOOF, kind_of};
 use mp4_ledger::Ledger;
 use mp4_machine::{Block, Body, Machine, OpenBody, Stop, Tally, truncated};
 use mp4_recut::Plan;
@@ -145,6 +146,37 @@ impl FragmentMachine {
                 Err(stop)
             }
         }
+    }
+
+    /// Takes a fragment that is checked from the front of a piece that has all of it, where it may be taken so: how many bytes.
+    /// Nothing is taken else.
+    #[inline(always)]
+    fn check_whole(
+        &mut self,
+        at: u64,
+        boxes: &Boxes<'_>,
+        ledger: &mut Ledger,
+        piece: &[u8],
+    ) -> Option<usize>
+        requires state { self.old.state ≡ states.Header at }
+        requires head { self.old.head ≡ [] }
+        requires known { self.old.tracks ≡ Some (known self.old.tracks) }
+        requires are { AreBoxes at piece.now boxes.now }
+        requires claim { claim_of (place_in self.old) ≤ ledger.old.live }
+        ensures taken { IfSome result (λ n. (u : Unlent) → Feeds (around (unsent u) u.waiting u.waiting
+            ledger.old ledger.new self.old.counter.tally self.new.counter.tally)
+            self.old self.new piece.now (Ok n)) }
+        ensures none { result ≡ None → (self.new ≡ self.old) × (ledger.new ≡ ledger.old) }
+    {
+        match self.kept.plan {
+            Plan::List(Command::Check) => {}
+            _ => return None,
+        }
+        let Some(size) = check_fragment(at, boxes, piece, &mut self.kept, ledger) else {
+            return None;
+        };
+        go_to(&mut self.state, at + size);
+        Some(size as usize)
     }
 
     /// Stops at a fragment of which a piece has all, whose moof has so many samples, and of which the times alone are at fault.
@@ -385,7 +417,11 @@ impl FragmentMachine {
                         let whole = Whole { boxes, run: &run };
                         return self.take_whole(at, &whole, ledger, piece, out, w);
                     }
-                    Ok(None) => {}
+                    Ok(None) => {
+                        if let Some(count) = self.check_whole(at, &boxes, ledger, piece) {
+                            return Ok(count);
+                        }
+                    }
                     Err(fault) => {
                         return Err(self.refuse(at, &boxes, steps.rows, fault, ledger, piece));
                     }

@@ -115,6 +115,21 @@ pub(crate) fn boxes_in<'a>(
     }
 }
 
+/// The payload of the mdat of a fragment at `at`.
+#[inline(always)]
+pub(crate) fn payload_behind(at: u64, boxes: &Boxes<'_>, piece: &[u8]) -> Payload
+    requires are { AreBoxes at piece.now boxes.now }
+    ensures { (are : AreBoxes at piece.now boxes.now) →
+        result ≡ payload_in (at + are.span.size) boxes.now.mdat }
+{
+    let _ = piece;
+    let next = at + boxes.moof.len() as u64;
+    Payload {
+        start: next + boxes.mdat.header_len,
+        end: Some(next + boxes.mdat.size),
+    }
+}
+
 /// Whether the only run of a fragment at `at` stands where it may in the payload of its mdat.
 ///
 /// # Errors
@@ -133,12 +148,7 @@ pub(crate) fn check_place(
     ensures fault { (are : AreBoxes at piece.now boxes.now) → IfErr result (λ f.
         place_fault (payload_in (at + are.span.size) boxes.now.mdat) (run.now.run ∷ []) ≡ Some f) }
 {
-    let next = at + boxes.moof.len() as u64;
-    let payload = Payload {
-        start: next + boxes.mdat.header_len,
-        end: Some(next + boxes.mdat.size),
-    };
-    match run.places(payload) {
+    match run.places(payload_behind(at, boxes, piece)) {
         Ok(()) => Ok(()),
         Err(fault) => Err(fault),
     }

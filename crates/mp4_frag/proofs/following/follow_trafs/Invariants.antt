@@ -1,0 +1,21 @@
+use Rattle.std.proofs.Common.{◌≡◌, ◌+◌, [], ◌∷◌}
+use Rattle.std.specs.Prelude.{◌≤ℤ◌, pos}
+use Rattle.std.specs.List.{AllByRecursion, sum_by}
+use Rattle.mp4_box.specs.Paths.{at_path}
+use Rattle.mp4_box.specs.Trees.{view}
+use Rattle.mp4_frag.specs.Kinds.{traf}
+use Rattle.mp4_frag.specs.Ranges.{IsSound}
+use Rattle.mp4_frag.specs.Runs.{MoofBytes, traf_of}
+use Rattle.mp4_frag.specs.Working.Following.{all_follow, bytes_with, past_runs, runs_of_trafs}
+use Rattle.mp4_frag.proofs.following.follow_trafs.Given as goal
+
+abbrev pub invariant-loop-traf : goal.invariant-loop-traf
+invariant-loop-traf l =
+    let h : MoofBytes = record { bytes = l.held; offset = l.offset } in
+    (goal.iterator-loop-traf).can_next l.traf-iterator
+    × (goal.iterator-loop-traf).is_finite l.traf-iterator
+    × AllByRecursion (λ t. IsSound (traf_of h l.tracks t)) l.traf-iterator
+    × (all_follow l.payload l.so_far.end (runs_of_trafs h l.tracks l.traf-iterator) ≡ all_follow l.payload l.initial.so_far.end (runs_of_trafs h l.tracks (at_path (traf ∷ []) (view l.moof))))
+    × (past_runs l.so_far.end (runs_of_trafs h l.tracks l.traf-iterator) ≡ past_runs l.initial.so_far.end (runs_of_trafs h l.tracks (at_path (traf ∷ []) (view l.moof))))
+    × (l.so_far.bytes + sum_by bytes_with (runs_of_trafs h l.tracks l.traf-iterator) ≡ l.initial.so_far.bytes + sum_by bytes_with (runs_of_trafs h l.tracks (at_path (traf ∷ []) (view l.moof))))
+    × (pos (l.payload.start + l.so_far.bytes) ≤ℤ l.so_far.end)

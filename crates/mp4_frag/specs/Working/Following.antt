@@ -1,0 +1,37 @@
+-- Working: runs that follow one another as they are listed.
+use Rattle.std.specs.Prelude.{ℕ, ℤ, Bool, true, ◌==◌, ◌&&◌, ◌||◌, if◌then◌else◌, List, [], ◌∷◌, map}
+use Rattle.std.specs.Int.Signed.{le_z}
+use Rattle.std.specs.List.{flat_map}
+use Rattle.mp4_box.specs.Trees.{Box}
+use Rattle.mp4_init.specs.declared.table.Track.{Track}
+use Rattle.mp4_run_order.specs.declared.runs.Payload.{Payload}
+use Rattle.mp4_run_order.specs.Places.{lies_in}
+use Rattle.mp4_frag.specs.declared.run.Run.{Run}
+use Rattle.mp4_frag.specs.Places.{listed_run}
+use Rattle.mp4_frag.specs.Runs.{MoofBytes, end_place, runs_of, traf_of}
+
+-- a run has no samples, or begins at a place or behind it, and lies in the payload
+unfoldable pub follows : Payload → ℤ → Run → Bool
+follows p place run = run.count == 0 || (le_z place run.place && lies_in p (listed_run run))
+
+-- where the runs end behind one more
+unfoldable pub past_run : ℤ → Run → ℤ
+past_run place run = if run.count == 0 then place else end_place run
+
+-- each of these runs follows those before it
+unfoldable pub all_follow : Payload → ℤ → List Run → Bool
+all_follow p place [] = true
+all_follow p place (run ∷ runs) = follows p place run && all_follow p (past_run place run) runs
+
+-- where they end
+unfoldable pub past_runs : ℤ → List Run → ℤ
+past_runs place [] = place
+past_runs place (run ∷ runs) = past_runs (past_run place run) runs
+
+-- the bytes of a run, where it has samples
+unfoldable pub bytes_with : Run → ℕ
+bytes_with run = if run.count == 0 then 0 else run.bytes
+
+-- the runs of some trafs of a moof
+abbrev pub runs_of_trafs : MoofBytes → List Track → List Box → List Run
+runs_of_trafs h tracks ts = flat_map runs_of (map (traf_of h tracks) ts)

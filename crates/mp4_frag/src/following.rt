@@ -1,0 +1,191 @@
+//! Runs that follow one another as they are listed: none is at fault by its place then, and no list of them is needed.
+
+ghost use Rattle.std.specs.Prelude.{ℕ, ◌≡◌, ◌+◌, ◌^◌, ◌<◌, ◌≤◌, ◌≤ℤ◌, ◌∷◌, [], length, pos, true, Some, None, IfSome, IsSome, IsTrue};
+ghost use Rattle.std.specs.List.{AllByRecursion, sum_by};
+ghost use Rattle.mp4_box.specs.Headers.{IsWhole};
+ghost use Rattle.mp4_box.specs.Paths.{at_path};
+ghost use Rattle.mp4_box.specs.Trees.{view};
+ghost use Rattle.mp4_run_order.specs.Takings.{AllFollow};
+ghost use Rattle.mp4_frag.specs.declared.run.Run.{Run};
+ghost use Rattle.mp4_frag.specs.Kinds.{traf};
+ghost use Rattle.mp4_frag.specs.Moofs.{IsRead, moof_runs, moof_samples, moof_truns};
+ghost use Rattle.mp4_frag.specs.Places.{place_fault};
+ghost use Rattle.mp4_frag.specs.Ranges.{InRange, IsSound};
+ghost use Rattle.mp4_frag.specs.RunLists.{moof_listing, taken_runs};
+ghost use Rattle.mp4_frag.specs.Runs.{moof_at, traf_of};
+ghost use Rattle.mp4_frag.specs.Working.Following.{all_follow, bytes_with, follows, past_run, past_runs, runs_of_trafs};
+
+use crate::children::children_of;
+use crate::kinds::TRAF;
+use crate::lone::lies_in;
+use crate::moof::Moof;
+use crate::rows::Steps;
+use crate::run::Run;
+use crate::runs::Runs;
+use crate::start::{RunsOf, runs_of};
+use mp4_box::{BoxRef, whole_box};
+use mp4_init::TrackList;
+use mp4_run_order::Payload;
+
+/// The runs of a moof that follow one another as they are listed.
+#[derive(Clone, Copy, Debug, PartialEq, Eq)]
+pub struct Following {
+    /// How many there are.
+    pub runs: u64,
+    /// How many bytes their samples have.
+    pub bytes: u64,
+}
+
+/// Where the runs so far end, and how many bytes they have.
+#[derive(Clone, Copy)]
+struct Followed {
+    /// The stream offset behind the last of them that has samples.
+    end: i128,
+    /// How many bytes those with samples have.
+    bytes: u64,
+}
+
+/// No run so far, in a payload.
+#[inline(always)]
+fn before_all(payload: Payload) -> Followed
+    ensures end { result.end ≡ pos payload.start }
+    ensures bytes { result.bytes ≡ 0 }
+{
+    Followed {
+        end: i128::from(payload.start),
+        bytes: 0,
+    }
+}
+
+/// Goes on behind a run, if it follows those before it: whether it does.
+#[inline(always)]
+#[tactic(auto, unfolding(crate::specs::Working::Following::follows, crate::specs::Working::Following::past_run, crate::specs::Working::Following::bytes_with))]
+fn follow_run(payload: Payload, run: &Run, so_far: &mut Followed) -> bool
+    requires range { InRange run.now }
+    requires room { pos (payload.start + so_far.old.bytes) ≤ℤ so_far.old.end }
+    ensures is { result ≡ follows payload so_far.old.end run.now }
+    ensures end { IsTrue result → so_far.new.end ≡ past_run so_far.old.end run.now }
+    ensures bytes { IsTrue result → so_far.new.bytes ≡ so_far.old.bytes + bytes_with run.now }
+    ensures room { IsTrue result → pos (payload.start + so_far.new.bytes) ≤ℤ so_far.new.end }
+{
+    if run.count == 0 {
+        return true;
+    }
+    if run.place < so_far.end || !lies_in(run, payload) {
+        return false;
+    }
+    so_far.end = run.place + i128::from(run.bytes);
+    so_far.bytes += run.bytes;
+    true
+}
+
+/// Goes on behind some runs, if each follows those before it: whether they do.
+#[inline(always)]
+#[tactic(auto, unfolding(crate::specs::Working::Following::all_follow, crate::specs::Working::Following::past_runs))]
+fn follow_runs(payload: Payload, runs: Runs<'_>, so_far: &mut Followed) -> bool
+    requires range { AllByRecursion InRange runs }
+    requires room { pos (payload.start + so_far.old.bytes) ≤ℤ so_far.old.end }
+    ensures is { result ≡ all_follow payload so_far.old.end runs.entry }
+    ensures end { IsTrue result → so_far.new.end ≡ past_runs so_far.old.end runs.entry }
+    ensures bytes { IsTrue result →
+        so_far.new.bytes ≡ so_far.old.bytes + sum_by bytes_with runs.entry }
+    ensures room { IsTrue result → pos (payload.start + so_far.new.bytes) ≤ℤ so_far.new.end }
+{
+    for run in runs {
+        if !follow_run(payload, &run, so_far) {
+            return false;
+        }
+    }
+    true
+}
+
+/// Goes on behind the runs of the trafs of a moof that begins at this offset, if each follows those before it: whether they do.
+#[tactic(auto, using(crate::proofs::FollowingLemmas::all_follow_append, crate::proofs::FollowingLemmas::past_runs_append, crate::proofs::FollowingLemmas::bytes_append), unfolding(crate::specs::Working::Following::all_follow, crate::specs::Working::Following::past_runs))]
+fn follow_trafs(
+    payload: Payload,
+    held: &[u8],
+    offset: u64,
+    moof: &BoxRef<'_>,
+    tracks: &TrackList,
+    so_far: &mut Followed,
+) -> bool
+    requires sound { AllByRecursion (λ t. IsSound (traf_of (moof_at held.now offset)
+        tracks.now t)) (at_path (traf ∷ []) (view moof.now)) }
+    requires room { pos (payload.start + so_far.old.bytes) ≤ℤ so_far.old.end }
+    ensures is { result ≡ all_follow payload so_far.old.end (runs_of_trafs
+        (moof_at held.now offset) tracks.now (at_path (traf ∷ []) (view moof.now))) }
+    ensures end { IsTrue result → so_far.new.end ≡ past_runs so_far.old.end (runs_of_trafs
+        (moof_at held.now offset) tracks.now (at_path (traf ∷ []) (view moof.now))) }
+    ensures bytes { IsTrue result → so_far.new.bytes ≡ so_far.old.bytes + sum_by bytes_with
+        (runs_of_trafs (moof_at held.now offset) tracks.now (at_path (traf ∷ []) (view moof.now))) }
+    ensures room { IsTrue result → pos (payload.start + so_far.new.bytes) ≤ℤ so_far.new.end }
+{
+    for traf in children_of(TRAF, moof) {
+        let RunsOf { tfhd: _, runs } = runs_of(held, offset, tracks, &traf);
+        if !follow_runs(payload, runs, so_far) {
+            return false;
+        }
+    }
+    true
+}
+
+/// How many bytes the samples of the moof have that the bytes are, which begin at this offset, if its runs follow one another.
+fn bytes_in_order(held: &[u8], offset: u64, payload: Payload, tracks: &TrackList) -> Option<u64>
+    requires whole { IsWhole held.now }
+    requires room { offset + length held.now ≤ 2 ^ 62 }
+    requires read { IsRead (moof_at held.now offset) tracks.now }
+    ensures some { IsSome result →
+        AllFollow payload (moof_listing (moof_at held.now offset) tracks.now) }
+    ensures all { AllFollow payload (moof_listing (moof_at held.now offset) tracks.now) →
+        IsSome result }
+    ensures placed { IsSome result →
+        place_fault payload (moof_runs (moof_at held.now offset) tracks.now) ≡ None }
+    ensures runs { moof_truns (moof_at held.now offset) ≡
+        length (moof_runs (moof_at held.now offset) tracks.now) }
+    ensures bytes { IfSome result (λ b. b ≡ sum_by (λ (run : Run). run.bytes)
+        (taken_runs (moof_at held.now offset) tracks.now)) }
+    ensures within { IfSome result (λ b. (end : ℕ) → payload.end ≡ Some end →
+        payload.start ≤ end → payload.start + b ≤ end) }
+{
+    let mut so_far = before_all(payload);
+    let moof = whole_box(held, offset);
+    if !follow_trafs(payload, held, offset, &moof, tracks, &mut so_far) {
+        return None;
+    }
+    Some(so_far.bytes)
+}
+
+impl<'a> Moof<'a> {
+    /// What its runs come to, where each with samples lies in the payload and begins where those with samples that are listed
+    /// before it end, or behind that; none where one doesn't. Such runs all stand where they may ([`Moof::places`]), and no list
+    /// of them is claimed to say so. `tracks` are those that it was read with. Its samples are counted in `steps` as rows that
+    /// were read, as [`Moof::list`] counts them; where there is nothing to answer, no row is counted.
+    pub fn following(
+        &self,
+        payload: Payload,
+        tracks: &TrackList,
+        steps: &mut Steps,
+    ) -> Option<Following>
+        requires read { IsRead self.now tracks.now }
+        requires steps { steps.old.rows < 2 ^ 127 }
+        ensures some { IsSome result → AllFollow payload (moof_listing self.now tracks.now) }
+        ensures all { AllFollow payload (moof_listing self.now tracks.now) → IsSome result }
+        ensures placed { IsSome result → place_fault payload (moof_runs self.now tracks.now) ≡ None }
+        ensures runs { IfSome result (λ f. f.runs ≡ length (moof_runs self.now tracks.now)) }
+        ensures bytes { IfSome result (λ f. f.bytes ≡ sum_by (λ (run : Run). run.bytes)
+            (taken_runs self.now tracks.now)) }
+        ensures within { IfSome result (λ f. (end : ℕ) → payload.end ≡ Some end →
+            payload.start ≤ end → payload.start + f.bytes ≤ end) }
+        ensures walked { IsSome result → steps.new.rows ≡ steps.old.rows + moof_samples self.now }
+        ensures unwalked { result ≡ None → steps.new ≡ steps.old }
+    {
+        let Some(bytes) = bytes_in_order(self.held, self.offset, payload, tracks) else {
+            return None;
+        };
+        steps.rows += u128::from(self.samples());
+        Some(Following {
+            runs: self.truns_len(),
+            bytes,
+        })
+    }
+}

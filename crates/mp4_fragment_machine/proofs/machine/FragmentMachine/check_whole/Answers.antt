@@ -1,0 +1,28 @@
+use Rattle.std.proofs.Common.{◌≡◌, ◌∙◌, ◌+◌, ap, arith, [], None, false}
+use Rattle.mp4_fragment_machine.specs.Places.{Unlent}
+use Rattle.mp4_fragment_machine.specs.States.{Progress}
+use Rattle.mp4_fragment_machine.specs.Working.Steps.{lent_ledger}
+use Rattle.mp4_fragment_machine.specs.declared.state.State.TheVariants as states
+use Rattle.mp4_fragment_machine.proofs.FeedLemmas.{fed}
+use Rattle.mp4_fragment_machine.proofs.FragmentLemmas.{boxes_fit}
+use Rattle.mp4_fragment_machine.proofs.machine.FragmentMachine.check_whole.Goals as goal
+
+abbrev no_writer : Unlent
+no_writer = record { written = None; waiting = record { bytes = []; ends = []; whole = 0 }; failed = false }
+
+pub overflow_add-at : goal.overflow_add-at
+overflow_add-at c =
+    let taken = c.in-Some.ensures.taken no_writer in
+    omega (arith, taken.2.state.1)
+
+pub invariant_of-self-2 : goal.invariant_of-self-2
+invariant_of-self-2 c =
+    let taken = c.in-Some.ensures.taken no_writer in
+    rw c.go_to.ensures (taken.2.state, taken.2.counted)
+
+pub returns-clause-taken : goal.returns-clause-taken
+returns-clause-taken c = λ u.
+    let state : c.self.inside.state ≡ states.Header c.args.at = ap (λ (p : Progress). p.state) c.self.view_is ∙ c.requires.state in
+    let new = c.check_fragment.new in
+    rw (← c.self.view_is, state, c.go_to.ensures)
+    (fed (lent_ledger u c.args.ledger.now new.ledger) c.self.inside.kept new.kept (states.Header c.args.at) (states.Header (c.args.at + c.in-Some.size)) c.args.piece.now c.in-Some.size (c.in-Some.ensures.taken u))

@@ -1,0 +1,50 @@
+use Rattle.std.proofs.Common.{◌≡◌, ◌+◌, ◌*◌, [], arith, length, refl, subst}
+use Rattle.mp4_frag.specs.Moofs.{moof_runs, moof_samples}
+use Rattle.mp4_frag.specs.Runs.{moof_at}
+use Rattle.mp4_machine.specs.Pieces.{outside}
+use Rattle.mp4_machine.proofs.BlockLemmas.{Passes-none}
+use Rattle.mp4_grammar.specs.declared.command.Command.TheVariants.{Check}
+use Rattle.mp4_recut.specs.declared.plan.Plan.TheVariants as plans
+use Rattle.mp4_fragment_machine.specs.States.{IsCounted}
+use Rattle.mp4_fragment_machine.specs.declared.state.Counter.{Counter}
+use Rattle.mp4_fragment_machine.proofs.CountLemmas.{counted_ended}
+use Rattle.mp4_fragment_machine.proofs.FragmentLemmas.{GoesOn-told, boxes_fit, moof_len, some_moof}
+use Rattle.mp4_fragment_machine.proofs.StepLemmas.{no_head}
+use Rattle.mp4_fragment_machine.proofs.whole_check.check_fragment.Goals as goal
+
+pub returns-clause-taken : goal.returns-clause-taken
+returns-clause-taken c = λ u.
+    let kept = c.args.kept.now in
+    let list = c.in-Some.list in
+    let b = c.args.boxes.now in
+    let at = c.args.at in
+    let piece = c.args.piece.now in
+    let are = c.requires.are in
+    let h = moof_at b.moof.now at in
+    let low = rw c.in-Some.is at c.requires.can.claim in
+    let o = outside u.written u.waiting c.args.ledger.now kept.counter.tally in
+    let did = c.in-Some-count_checked.ensures in
+    let fit = boxes_fit at piece b are in
+    let some = some_moof at piece b are in
+    let long = moof_len at piece b are in
+    let tracks = rw did.moof at c.settle.ensures.tracks in
+    let len = rw tracks at c.settle.ensures.len in
+    let few = rw did.moof at c.settle.ensures.few in
+    let more = rw did.moof at c.settle.ensures.walked in
+    let account = did.claim cc in
+    let counter : Counter = record { tally = c.count_checked.new.counter.tally; steps = c.settle.new.steps } in
+    let there : at + length b.moof.now + b.mdat.size ≡ at + (length b.moof.now + b.mdat.size) = omega arith in (
+      omega (arith, some, long),
+      omega (arith, fit.whole),
+      rw (c.in-Some.is, c.requires.plan, c.requires.empty, tracks) (record {
+        step = record {
+          goes = GoesOn-told at list piece b are (did.read cc) (did.placed are cc) Check 1 o low u.written u.waiting c.count_checked.new.ledger c.count_checked.new.counter.tally (length b.moof.now + 64 * length (moof_runs h list)) refl account (did.tally are.mdat.header cc) (Passes-none u.written u.waiting);
+          unfailed = refl;
+          claim = rw account (omega (arith, low, len));
+        };
+        plan = refl;
+        state = (no_head [] refl, omega (arith, fit.near));
+        counted = subst (λ k. IsCounted (plans.List Check) counter k 0 0) there
+            (counted_ended (plans.List Check) c.count_checked.new.counter counter (at + length b.moof.now + b.mdat.size) (moof_samples h) (did.counted cc) refl (omega (arith, more)) few);
+      }),
+    )

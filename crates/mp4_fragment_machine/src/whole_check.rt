@@ -1,0 +1,110 @@
+//! A fragment of which a piece has all, whatever runs it has, that is checked: it is taken where it lies.
+//!
+//! Where its runs follow one another as they are listed, as those of nearly all streams do, no list of them is needed. What it
+//! would claim is counted, and no memory is asked for.
+
+ghost use Rattle.std.specs.Prelude.{◌≡◌, ◌+◌, ◌*◌, ◌≤◌, [], length, None, Ok, Some, IfSome, IsSome};
+ghost use Rattle.mp4_box.specs.declared.headers.Header.{Header};
+ghost use Rattle.mp4_frag.specs.Moofs.{IsRead, moof_runs, moof_samples};
+ghost use Rattle.mp4_frag.specs.Places.{place_fault};
+ghost use Rattle.mp4_frag.specs.Runs.{moof_at};
+ghost use Rattle.mp4_ledger.specs.Memory.{claimed, given_back};
+ghost use Rattle.mp4_machine.specs.Readings.{plus};
+ghost use Rattle.mp4_grammar.specs.Contexts.{context};
+ghost use Rattle.mp4_grammar.specs.Items.{fragment, walked};
+ghost use Rattle.mp4_grammar.specs.Meanings.{counted_in};
+ghost use Rattle.mp4_grammar.specs.declared.command.Command.TheVariants.{Check};
+ghost use Rattle.mp4_recut.specs.declared.plan.Plan.TheVariants as plans;
+ghost use Rattle.mp4_fragment_machine.specs.Places.{Unlent};
+ghost use Rattle.mp4_fragment_machine.specs.States.{IsCounted, known};
+ghost use Rattle.mp4_fragment_machine.specs.Working.Steps.{CanStep, TakesWhole, lent_ledger};
+ghost use Rattle.mp4_fragment_machine.specs.Working.Wholes.{AreBoxes, payload_in};
+ghost use Rattle.mp4_fragment_machine.specs.declared.state.State.TheVariants as states;
+
+use crate::listed_fragment::count;
+use crate::state::{Counter, Kept};
+use crate::whole_fragment::{Boxes, ROW, payload_behind};
+use mp4_frag::Moof;
+use mp4_init::TrackList;
+use mp4_ledger::Ledger;
+
+/// No moof that is held has so many runs.
+const MOST_RUNS: u64 = 1 << 32;
+
+/// Reads the moof of a fragment, and counts the fragment, where nothing is at fault with it, its runs follow one another, and the
+/// moof and their list might be claimed: its moof. The tracks don't end yet.
+fn count_checked<'a>(
+    at: u64,
+    boxes: &Boxes<'a>,
+    piece: &[u8],
+    tracks: &TrackList,
+    counter: &mut Counter,
+    ledger: &mut Ledger,
+) -> Option<Moof<'a>>
+    requires are { AreBoxes at piece.now boxes.now }
+    requires counted { IsCounted (plans.List Check) counter.old at 0 0 }
+    ensures moof { IfSome result (λ m. m ≡ moof_at boxes.now.moof.now at) }
+    ensures read { IsSome result → IsRead (moof_at boxes.now.moof.now at) tracks.now }
+    ensures placed { (are : AreBoxes at piece.now boxes.now) → IsSome result → place_fault
+        (payload_in (at + are.span.size) boxes.now.mdat)
+        (moof_runs (moof_at boxes.now.moof.now at) tracks.now) ≡ None }
+    ensures claim { IsSome result → ledger.new ≡ given_back (claimed ledger.old
+        (length boxes.now.moof.now + 64 * length (moof_runs (moof_at boxes.now.moof.now at) tracks.now)))
+        (length boxes.now.moof.now + 64 * length (moof_runs (moof_at boxes.now.moof.now at) tracks.now)) }
+    ensures tally { (g : Header) → IsSome result → counter.new.tally ≡ plus (plus counter.old.tally
+        (walked (moof_at boxes.now.moof.now at))) (counted_in (fragment
+        (context at (Some tracks.now) 1) tracks.now boxes.now.moof.now g)) }
+    ensures counted { IsSome result → IsCounted (plans.List Check) counter.new
+        (at + length boxes.now.moof.now + boxes.now.mdat.size) 0
+        (moof_samples (moof_at boxes.now.moof.now at)) }
+    ensures none { result ≡ None → ledger.new ≡ ledger.old }
+{
+    let moof = match Moof::read(boxes.moof, at, tracks, &mut counter.steps) {
+        Ok(moof) => moof,
+        Err(_) => return None,
+    };
+    let payload = payload_behind(at, boxes, piece);
+    let Some(following) = moof.following(payload, tracks, &mut counter.steps) else {
+        return None;
+    };
+    if following.runs > MOST_RUNS {
+        return None;
+    }
+    match ledger.count_claim(boxes.moof.len() as u64 + following.runs * ROW) {
+        Ok(()) => {}
+        Err(_) => return None,
+    }
+    let samples = u64::from(moof.samples());
+    counter.tally.walked += u128::from(samples);
+    count(counter, samples, following.bytes);
+    Some(moof)
+}
+
+/// Takes a fragment that is checked, where it may be taken so: how many bytes it has. Nothing is taken else.
+pub(crate) fn check_fragment(
+    at: u64,
+    boxes: &Boxes<'_>,
+    piece: &[u8],
+    kept: &mut Kept,
+    ledger: &mut Ledger,
+) -> Option<u64>
+    requires known { kept.old.tracks ≡ Some (known kept.old.tracks) }
+    requires are { AreBoxes at piece.now boxes.now }
+    requires empty { kept.old.head ≡ [] }
+    requires plan { kept.old.plan ≡ plans.List Check }
+    requires can { CanStep kept.old ledger.old (states.Header at) }
+    ensures taken { IfSome result (λ n. (u : Unlent) → TakesWhole (lent_ledger u ledger.old ledger.new)
+        kept.old kept.new at piece.now (Ok n)) }
+    ensures none { result ≡ None → (kept.new ≡ kept.old) × (ledger.new ≡ ledger.old) }
+{
+    let Some(list) = &mut kept.tracks else {
+        unreachable!();
+    };
+    let mut counter = kept.counter;
+    let Some(moof) = count_checked(at, boxes, piece, list, &mut counter, ledger) else {
+        return None;
+    };
+    moof.settle(list, &mut counter.steps);
+    kept.counter = counter;
+    Some(boxes.moof.len() as u64 + boxes.mdat.size)
+}
