@@ -1,5 +1,5 @@
 -- The runs of a moof: their defaults, times and places (ISO/IEC 14496-12, 8.8.4 to 8.8.8 and 8.8.12). Numbers are without limit here.
-use Rattle.std.specs.Prelude.{ℕ, ℤ, pos, List, [], ◌∷◌, Option, Some, None, ◌+◌, ◌-◌, ◌+ℤ◌, length, map}
+use Rattle.std.specs.Prelude.{ℕ, ℤ, pos, List, [], ◌∷◌, Option, Some, None, ◌+◌, ◌-◌, ◌+ℤ◌, length, map, Bool, nat_lt, ◌^◌}
 use Rattle.std.specs.List.{fold}
 use Rattle.std.specs.Option.{unwrap_or}
 use Rattle.mp4_box.specs.Fields.{version_in}
@@ -49,6 +49,10 @@ base_by next (Some b) = base_media_decode_time b.payload
 
 abbrev pub base_of : ℕ → Box → ℕ
 base_of next t = base_by next (first_of (at_path (tfdt ∷ []) t))
+
+-- a traf has a time of its own, before tick 2^63
+abbrev pub begins_early : Box → Bool
+begins_early t = nat_lt (base_of (2 ^ 63) t) (2 ^ 63)
 
 -- a moof that is held: its bytes, and the offset in the stream of the first
 pub record MoofBytes : Type 0 where

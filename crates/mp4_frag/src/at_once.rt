@@ -38,7 +38,7 @@ pub(crate) struct Sound {
 }
 
 /// A moof has so few samples that a traf which begins before this time ends within 64 bits.
-const LATE: u64 = 1 << 63;
+pub(crate) const LATE: u64 = 1 << 63;
 
 /// The bytes of a moof have room for so many truns at most.
 const MOST_TRUNS: u64 = 1 << 62;

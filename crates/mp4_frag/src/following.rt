@@ -1,20 +1,21 @@
 //! Runs that follow one another as they are listed: none is at fault by its place then, and no list of them is needed.
 
 ghost use Rattle.std.specs.Prelude.{ℕ, ◌≡◌, ◌+◌, ◌^◌, ◌<◌, ◌≤◌, ◌≤ℤ◌, ◌∷◌, [], length, pos, true, Some, None, IfSome, IsSome, IsTrue};
-ghost use Rattle.std.specs.List.{AllByRecursion, sum_by};
+ghost use Rattle.std.specs.List.{AllByRecursion, list_all, sum_by};
 ghost use Rattle.mp4_box.specs.Headers.{IsWhole};
 ghost use Rattle.mp4_box.specs.Paths.{at_path};
 ghost use Rattle.mp4_box.specs.Trees.{view};
 ghost use Rattle.mp4_run_order.specs.Takings.{AllFollow};
 ghost use Rattle.mp4_frag.specs.declared.run.Run.{Run};
 ghost use Rattle.mp4_frag.specs.Kinds.{traf};
-ghost use Rattle.mp4_frag.specs.Moofs.{IsRead, moof_runs, moof_samples, moof_truns};
+ghost use Rattle.mp4_frag.specs.Moofs.{IsRead, moof_of, moof_runs, moof_samples, moof_truns};
 ghost use Rattle.mp4_frag.specs.Places.{place_fault};
 ghost use Rattle.mp4_frag.specs.Ranges.{InRange, IsSound};
 ghost use Rattle.mp4_frag.specs.RunLists.{moof_listing, taken_runs};
-ghost use Rattle.mp4_frag.specs.Runs.{moof_at, traf_of};
+ghost use Rattle.mp4_frag.specs.Runs.{begins_early, moof_at, traf_of};
 ghost use Rattle.mp4_frag.specs.Working.Following.{all_follow, bytes_with, follows, past_run, past_runs, runs_of_trafs};
 
+use crate::at_once::LATE;
 use crate::children::children_of;
 use crate::kinds::TRAF;
 use crate::lone::lies_in;
@@ -23,6 +24,7 @@ use crate::rows::Steps;
 use crate::run::Run;
 use crate::runs::Runs;
 use crate::start::{RunsOf, runs_of};
+use crate::traf::base_of;
 use mp4_box::{BoxRef, whole_box};
 use mp4_init::TrackList;
 use mp4_run_order::Payload;
@@ -155,11 +157,35 @@ fn bytes_in_order(held: &[u8], offset: u64, payload: Payload, tracks: &TrackList
     Some(so_far.bytes)
 }
 
+/// Whether each traf of a moof has a time of its own that is early.
+fn all_begin_early(moof: &BoxRef<'_>) -> bool
+    ensures { result ≡ list_all begins_early (at_path (traf ∷ []) (view moof.now)) }
+{
+    for traf in children_of(TRAF, moof) {
+        if base_of(LATE, &traf) >= LATE {
+            return false;
+        }
+    }
+    true
+}
+
 impl<'a> Moof<'a> {
+    /// Whether each traf of the moof that the bytes are, one whole box that begins at `offset` in the stream, has a tfdt whose
+    /// time lies before tick 2^63. To see that the runs of such a moof end within 64 bits no row of it need be read.
+    #[tactic(auto, using(crate::proofs::MoofLemmas::moof_is))]
+    pub fn begins_early(held: &[u8], offset: u64) -> bool
+        requires whole { IsWhole held.now }
+        requires room { offset + length held.now ≤ 2 ^ 62 }
+        ensures { result ≡ list_all begins_early
+            (at_path (traf ∷ []) (moof_of (moof_at held.now offset))) }
+    {
+        all_begin_early(&whole_box(held, offset))
+    }
+
     /// What its runs come to, where each with samples lies in the payload and begins where those with samples that are listed
     /// before it end, or behind that; none where one doesn't. Such runs all stand where they may ([`Moof::places`]), and no list
     /// of them is claimed to say so. `tracks` are those that it was read with. Its samples are counted in `steps` as rows that
-    /// were read, as [`Moof::list`] counts them; where there is nothing to answer, no row is counted.
+    /// were read, as [`Moof::list`] counts them; where there is nothing to answer none is counted, though some may have been read.
     pub fn following(
         &self,
         payload: Payload,

@@ -2,6 +2,8 @@
 //!
 //! Where its runs follow one another as they are listed, as those of nearly all streams do, no list of them is needed. What it
 //! would claim is counted, and no memory is asked for.
+//!
+//! If they don't, it is taken as other fragments are.
 
 ghost use Rattle.std.specs.Prelude.{◌≡◌, ◌+◌, ◌*◌, ◌≤◌, [], length, None, Ok, Some, IfSome, IsSome};
 ghost use Rattle.mp4_box.specs.declared.headers.Header.{Header};
@@ -31,8 +33,8 @@ use mp4_ledger::Ledger;
 /// No moof that is held has so many runs.
 const MOST_RUNS: u64 = 1 << 32;
 
-/// Reads the moof of a fragment, and counts the fragment, where nothing is at fault with it, its runs follow one another, and the
-/// moof and their list might be claimed: its moof. The tracks don't end yet.
+/// Reads the moof of a fragment, and counts the fragment, where its trafs have early times of their own, nothing is at fault with
+/// it, its runs follow one another, and the moof and their list might be claimed: its moof. The tracks don't end yet.
 fn count_checked<'a>(
     at: u64,
     boxes: &Boxes<'a>,
@@ -59,6 +61,10 @@ fn count_checked<'a>(
         (moof_samples (moof_at boxes.now.moof.now at)) }
     ensures none { result ≡ None → ledger.new ≡ ledger.old }
 {
+    // So that no row is read for the rules: if the fragment isn't taken here no more are read of it than are counted.
+    if !Moof::begins_early(boxes.moof, at) {
+        return None;
+    }
     let moof = match Moof::read(boxes.moof, at, tracks, &mut counter.steps) {
         Ok(moof) => moof,
         Err(_) => return None,

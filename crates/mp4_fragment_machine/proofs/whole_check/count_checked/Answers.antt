@@ -6,6 +6,9 @@ use Rattle.mp4_fragment_machine.proofs.CheckLemmas.{counted_check, media_less}
 use Rattle.mp4_fragment_machine.proofs.FragmentLemmas.{moof_whole}
 use Rattle.mp4_fragment_machine.proofs.whole_check.count_checked.Goals as goal
 
+pub begins_early-requires-clause-whole : goal.begins_early-requires-clause-whole
+begins_early-requires-clause-whole c = moof_whole c.args.at c.args.piece.now c.args.boxes.now c.requires.are
+
 pub read-requires-clause-whole : goal.read-requires-clause-whole
 read-requires-clause-whole c = moof_whole c.args.at c.args.piece.now c.args.boxes.now c.requires.are
 
