@@ -1,9 +1,6 @@
 //! A machine that reads a fragmented stream, which it is fed as it comes.
 
-ghost use Rattle.std.specs.Prelude.{◌≡◌, ℕ, ◌+◌, ◌*◌, ◌-◌, ◌<◌, ◌≤◌, ◌↔◌, [], List, Option, length, take, None, Some, IfOk, IfErr, IfSome, OnOk, OnErr, IsErrOf, IsTrue, Ok};
-ghost use Rattle.mp4_init.specs.declared.table.Track.{Track};
-ghost use Rattle.mp4_box.specs.declared.rules.Rule.TheVariants.{MdatMissing};
-ghost use Rattle.mp4_box.specs.declared.headers.FourCc.{FourCc};
+ghost use Rattle.std.specs.Prelude.{◌≡◌, ◌+◌, ◌*◌, ◌-◌, ◌<◌, ◌≤◌, ◌↔◌, [], Option, length, take, None, Some, IfOk, IfErr, OnOk, OnErr, IsErrOf, IsTrue, Ok};
 ghost use Rattle.mp4_box.specs.Headers.{IsBytes};
 ghost use Rattle.mp4_frag.specs.LoneRuns.{IsLone};
 ghost use Rattle.mp4_box.specs.Order.{least};
@@ -12,36 +9,35 @@ ghost use Rattle.mp4_frag.specs.Runs.{moof_at};
 ghost use Rattle.mp4_ledger.specs.Memory.{given_back};
 ghost use Rattle.mp4_machine.specs.Ends.{sent};
 ghost use Rattle.mp4_machine.specs.Pieces.{IsQuiet, Takes, around, farthest};
-ghost use Rattle.mp4_machine.specs.Readings.{fault_in, uncounted};
+ghost use Rattle.mp4_machine.specs.Readings.{uncounted};
 ghost use Rattle.mp4_grammar.specs.Contexts.{first_context};
 ghost use Rattle.mp4_grammar.specs.Kinds.{most_moof};
-ghost use Rattle.mp4_fragment_machine.specs.Places.{InHeader, IsPlace, Unlent, claim_of, standing, unsent};
-ghost use Rattle.mp4_fragment_machine.specs.States.{IsState, IsWaiting, begun, kept_by, known, listed_by, place_in, place_of, reads_of, stands_in, stopped};
+ghost use Rattle.mp4_fragment_machine.specs.Places.{InHeader, IsPlace, Unlent, claim_of, unsent};
+ghost use Rattle.mp4_fragment_machine.specs.States.{begun, kept_by, known, listed_by, place_in, reads_of, stands_in, stopped};
 ghost use Rattle.mp4_fragment_machine.specs.Working.Feeds.{Feeds, HasEnded};
 ghost use Rattle.mp4_fragment_machine.specs.Working.Wholes.{AreBoxes, IsTakenWhole, StandsFirst};
 ghost use Rattle.mp4_machine.specs.declared.body.Body.{Body};
 ghost use Rattle.mp4_fragment_machine.specs.declared.state.Recutting.{Recutting};
 ghost use Rattle.mp4_fragment_machine.specs.declared.state.Waiting.{Waiting};
 ghost use Rattle.mp4_grammar.specs.declared.kinds.Kind.TheVariants.{Moof, Other};
-ghost use Rattle.mp4_grammar.specs.Meanings.{Meaning};
 ghost use Rattle.mp4_recut.specs.declared.plan.Plan.{Plan};
 ghost use Rattle.mp4_fragment_machine.specs.declared.state.State.TheVariants as states;
 
 use crate::body::end_body;
-use crate::media::take_within;
+use crate::mdat_header::unfollowed;
+use crate::media::take_split;
 use crate::slot::{LeftBody, go_on, go_to, leave_body, leave_header, put_state, stop_at, stopped};
-use crate::state::{Counter, Kept, State, Taken, Waiting};
+use crate::state::{Counter, Kept, State, Taken};
 use crate::step::{back_state, take_next};
 use crate::whole_box::{box_at, take_whole_box};
-use crate::whole_check::check_fragment;
 use crate::whole_fault::refuse_times;
 use crate::whole_fragment::{Boxes, Span, Whole, boxes_in};
 use crate::whole_moof::take_whole_moof;
 use crate::whole_plan::{looks_ahead, take_whole_fragment};
-use mp4_box::{Fault, FourCc, HeaderReader, Rule};
-use mp4_ends::{Failed, Sink};
+use mp4_box::{Fault, HeaderReader};
+use mp4_ends::Sink;
 use mp4_frag::{LoneRun, Steps};
-use mp4_grammar::{Command, Kind, MOST_MOOF, kind_of};
+use mp4_grammar::{Kind, MOST_MOOF, kind_of};
 use mp4_ledger::Ledger;
 use mp4_machine::{Block, Body, Machine, OpenBody, Stop, Tally, truncated};
 use mp4_recut::Plan;
@@ -50,8 +46,8 @@ use std::mem::replace;
 
 /// A machine that reads fragments, and makes of them what a command asks for. What it has claimed must be given back.
 pub struct FragmentMachine {
-    kept: Kept,
-    state: State,
+    pub(crate) kept: Kept,
+    pub(crate) state: State,
 }
 
 // A contract sees where it is and what it has counted.
@@ -146,37 +142,6 @@ impl FragmentMachine {
                 Err(stop)
             }
         }
-    }
-
-    /// Takes a fragment that is checked from the front of a piece that has all of it, where it may be taken so: how many bytes.
-    /// Nothing is taken else.
-    #[inline(always)]
-    fn check_whole(
-        &mut self,
-        at: u64,
-        boxes: &Boxes<'_>,
-        ledger: &mut Ledger,
-        piece: &[u8],
-    ) -> Option<usize>
-        requires state { self.old.state ≡ states.Header at }
-        requires head { self.old.head ≡ [] }
-        requires known { self.old.tracks ≡ Some (known self.old.tracks) }
-        requires are { AreBoxes at piece.now boxes.now }
-        requires claim { claim_of (place_in self.old) ≤ ledger.old.live }
-        ensures taken { IfSome result (λ n. (u : Unlent) → Feeds (around (unsent u) u.waiting u.waiting
-            ledger.old ledger.new self.old.counter.tally self.new.counter.tally)
-            self.old self.new piece.now (Ok n)) }
-        ensures none { result ≡ None → (self.new ≡ self.old) × (ledger.new ≡ ledger.old) }
-    {
-        match self.kept.plan {
-            Plan::List(Command::Check) => {}
-            _ => return None,
-        }
-        let Some(size) = check_fragment(at, boxes, piece, &mut self.kept, ledger) else {
-            return None;
-        };
-        go_to(&mut self.state, at + size);
-        Some(size as usize)
     }
 
     /// Stops at a fragment of which a piece has all, whose moof has so many samples, and of which the times alone are at fault.
@@ -276,12 +241,13 @@ impl FragmentMachine {
         end_body(body, waiting, piece, &mut self.kept, ledger)
     }
 
-    /// Takes a piece of an mdat that is recut and goes on behind it: how many bytes.
+    /// Takes bytes of an mdat that is recut from the front of a piece: how many.
     ///
     /// # Errors
     ///
     /// `Write` where a write failed.
-    fn pay_within<W: Sink>(
+    #[inline(never)]
+    fn pay_media<W: Sink>(
         &mut self,
         ledger: &mut Ledger,
         piece: &[u8],
@@ -289,26 +255,17 @@ impl FragmentMachine {
         w: &mut W,
     ) -> Result<usize, Stop>
         requires some { 0 < length piece.now }
-        requires within { (r : Recutting) × (self.old.state ≡ states.Media r) ×
-            (length piece.now < r.body.left) }
+        requires media { (r : Recutting) × (self.old.state ≡ states.Media r) }
         requires claim { claim_of (place_in self.old) ≤ ledger.old.live }
         ensures { Feeds (around (sent W.contents W.has_failed w.old w.new) out.old out.new
             ledger.old ledger.new self.old.counter.tally self.new.counter.tally)
             self.old self.new piece.now result }
     {
-        let paid = match &mut self.state {
-            State::Media(recutting) => {
-                take_within(recutting, piece, &mut self.kept, ledger, out, w)
-            }
-            _ => unreachable!(),
-        };
-        match paid {
-            Ok(()) => Ok(piece.len()),
-            Err(Failed) => {
-                let last = replace(&mut self.state, stopped());
-                back_state(last, ledger);
+        match take_split(&mut self.state, piece, &mut self.kept, ledger, out, w) {
+            Ok(taken) => Ok(taken),
+            Err(stop) => {
                 self.give_back(ledger);
-                Err(Stop::Write)
+                Err(stop)
             }
         }
     }
@@ -350,7 +307,7 @@ impl FragmentMachine {
         }
     }
 
-    /// Takes a few bytes from the front of a piece, wherever it stands: how many.
+    /// Takes a few bytes from the front of a piece, wherever it stands but in an mdat that is recut and states its size: how many.
     ///
     /// # Errors
     ///
@@ -364,6 +321,7 @@ impl FragmentMachine {
     ) -> Result<usize, Stop>
         requires some { 0 < length piece.now }
         requires claim { claim_of (place_in self.old) ≤ ledger.old.live }
+        requires elsewhere { (r : Recutting) → self.old.state ≡ states.Media r → ⊥ }
         ensures { Feeds (around (sent W.contents W.has_failed w.old w.new) out.old out.new
             ledger.old ledger.new self.old.counter.tally self.new.counter.tally)
             self.old self.new piece.now result }
@@ -467,10 +425,8 @@ impl FragmentMachine {
                 return Ok(self.pass_within(ledger, piece));
             }
             return Ok(self.finish_body(ledger, piece));
-        } else if let State::Media(recutting) = &self.state {
-            if (piece.len() as u64) < recutting.body.left {
-                return self.pay_within(ledger, piece, out, w);
-            }
+        } else if let State::Media(_) = &self.state {
+            return self.pay_media(ledger, piece, out, w);
         }
         self.take_part(ledger, piece, out, w)
     }
@@ -544,21 +500,4 @@ impl Machine for FragmentMachine {
             list.back(ledger);
         }
     }
-}
-
-/// The stream ended behind the moof that waits, of which these bytes of a header came.
-fn unfollowed(waiting: &Waiting, head: &HeaderReader) -> Fault
-    requires { (tracks : Option (List Track)) × IsState tracks head.now (states.Behind waiting.now) }
-    ensures { (meaning : Meaning) (number : ℕ) (tracks : Option (List Track)) → IsWaiting tracks waiting.now →
-        fault_in ((standing meaning (place_of number tracks head.now (states.Behind waiting.now))).reads []).outcome ≡
-        Some result }
-{
-    if head.is_empty() {
-        return Fault {
-            rule: Rule::MdatMissing,
-            kind: Some(FourCc(*b"moof")),
-            offset: waiting.moof.offset(),
-        };
-    }
-    truncated(head.kind(), waiting.moof.offset() + waiting.moof.size())
 }

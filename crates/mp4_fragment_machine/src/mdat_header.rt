@@ -1,9 +1,13 @@
-//! How the header of the mdat behind a moof is taken, and its fragment begun.
+//! How the header of the mdat behind a moof is taken, and its fragment begun, or what is at fault where the stream ends before.
 
-ghost use Rattle.std.specs.Prelude.{◌≡◌, ◌+◌, ◌<◌, ◌≤◌, [], length, Some};
+ghost use Rattle.std.specs.Prelude.{◌≡◌, ℕ, ◌+◌, ◌<◌, ◌≤◌, [], List, Option, length, Some};
 ghost use Rattle.mp4_box.specs.Headers.{HasRoom, header_at, need};
 ghost use Rattle.mp4_box.specs.declared.headers.Step.TheVariants as steps;
-ghost use Rattle.mp4_fragment_machine.specs.States.{IsState, IsWaiting};
+ghost use Rattle.mp4_grammar.specs.Meanings.{Meaning};
+ghost use Rattle.mp4_init.specs.declared.table.Track.{Track};
+ghost use Rattle.mp4_machine.specs.Readings.{fault_in};
+ghost use Rattle.mp4_fragment_machine.specs.Places.{standing};
+ghost use Rattle.mp4_fragment_machine.specs.States.{IsState, IsWaiting, place_of};
 ghost use Rattle.mp4_fragment_machine.specs.Working.Steps.{Advances, CanStep, Consumes, lent, with_head};
 ghost use Rattle.mp4_fragment_machine.specs.declared.state.State.TheVariants as states;
 
@@ -11,10 +15,10 @@ use crate::begun::begin_media;
 use crate::body::back;
 use crate::listed_fragment::begin_listed;
 use crate::state::{Kept, State, Taken, Waiting};
-use mp4_box::{Header, HeaderReader, Rule, Step, header_of};
+use mp4_box::{Fault, FourCc, Header, HeaderReader, Rule, Step, header_of};
 use mp4_ends::Sink;
 use mp4_ledger::Ledger;
-use mp4_machine::{Block, Stop, at_fault, take_head};
+use mp4_machine::{Block, Stop, at_fault, take_head, truncated};
 use mp4_recut::Plan;
 use std::mem::replace;
 
@@ -146,4 +150,21 @@ fn begin_fragment<W: Sink>(
         Plan::List(command) => begin_listed(command, waiting, header, head, kept, ledger, out, w),
         Plan::Split(cut) => begin_media(cut, waiting, header, head, kept, ledger, out, w),
     }
+}
+
+/// The stream ended behind the moof that waits, of which these bytes of a header came.
+pub(crate) fn unfollowed(waiting: &Waiting, head: &HeaderReader) -> Fault
+    requires { (tracks : Option (List Track)) × IsState tracks head.now (states.Behind waiting.now) }
+    ensures { (meaning : Meaning) (number : ℕ) (tracks : Option (List Track)) → IsWaiting tracks waiting.now →
+        fault_in ((standing meaning (place_of number tracks head.now (states.Behind waiting.now))).reads []).outcome ≡
+        Some result }
+{
+    if head.is_empty() {
+        return Fault {
+            rule: Rule::MdatMissing,
+            kind: Some(FourCc(*b"moof")),
+            offset: waiting.moof.offset(),
+        };
+    }
+    truncated(head.kind(), waiting.moof.offset() + waiting.moof.size())
 }

@@ -3,10 +3,11 @@
 ghost use Rattle.std.specs.Prelude.{◌≡◌, ℕ, ◌-◌, ◌≤◌, ◌<◌, Option};
 ghost use Rattle.mp4_machine.specs.declared.body.Body.{Body};
 ghost use Rattle.mp4_fragment_machine.specs.States.{stopped};
+ghost use Rattle.mp4_fragment_machine.specs.declared.state.Recutting.{Recutting};
 ghost use Rattle.mp4_fragment_machine.specs.declared.state.State.TheVariants as states;
 ghost use Rattle.mp4_fragment_machine.specs.declared.state.Waiting.{Waiting};
 
-use crate::state::{State, Waiting};
+use crate::state::{Recutting, State, Waiting};
 use mp4_box::FourCc;
 use mp4_machine::{Body, OpenBody};
 use std::mem::replace;
@@ -82,6 +83,31 @@ pub(crate) fn leave_body(slot: &mut State) -> LeftBody
     };
     match replace(slot, State::Header { at: next }) {
         State::Body(body, waiting) => LeftBody { body, waiting },
+        _ => unreachable!(),
+    }
+}
+
+/// Goes on with the header behind an mdat that is recut: the moof that waited for its end.
+#[inline(always)]
+pub(crate) fn leave_media(slot: &mut State) -> Waiting
+    requires { (r : Recutting) × (slot.old ≡ states.Media r) }
+    ensures { (r : Recutting) → slot.old ≡ states.Media r →
+        (result ≡ r.waiting) × (slot.new ≡ states.Header r.body.next) }
+{
+    let next = match slot {
+        State::Media(recutting) => recutting.body.next,
+        _ => unreachable!(),
+    };
+    match replace(slot, State::Header { at: next }) {
+        State::Media(
+            Recutting {
+                cut: _,
+                number: _,
+                body: _,
+                media: _,
+                waiting,
+            },
+        ) => waiting,
         _ => unreachable!(),
     }
 }

@@ -4,25 +4,27 @@ ghost use Rattle.std.specs.Prelude.{◌≡◌, ◌<◌, ◌≤◌, length};
 ghost use Rattle.mp4_ledger.specs.Memory.{given_back};
 ghost use Rattle.mp4_fragment_machine.specs.States.{IsState, kept_by};
 ghost use Rattle.mp4_fragment_machine.specs.Working.Steps.{CanStep, Consumes, lent};
+ghost use Rattle.mp4_fragment_machine.specs.declared.state.Recutting.{Recutting};
+ghost use Rattle.mp4_fragment_machine.specs.declared.state.State.TheVariants as states;
 
 use crate::body::{back, take_body, take_open};
 use crate::copied_box::{take_copied, take_open_copied};
 use crate::header::take_header;
 use crate::held_box::take_held;
 use crate::mdat_header::take_mdat_header;
-use crate::media::take_split;
 use crate::open_media::take_open_split;
 use crate::state::{Kept, OpenRecutting, Recutting, State, Taken};
 use mp4_ends::Sink;
 use mp4_ledger::Ledger;
 use mp4_machine::{Block, Stop};
 
-/// Takes bytes from the front of a piece. Where it stops, all but the table of the tracks is given back.
+/// Takes bytes from the front of a piece, but none of an mdat that is recut and states its size: those are taken in place. Where
+/// it stops, all but the table of the tracks is given back.
 ///
 /// # Errors
 ///
-/// As [`take_header`], [`take_held`], [`take_mdat_header`], [`take_open`], [`take_copied`], [`take_open_copied`],
-/// [`take_split`] and [`take_open_split`].
+/// As [`take_header`], [`take_held`], [`take_mdat_header`], [`take_open`], [`take_copied`], [`take_open_copied`]
+/// and [`take_open_split`].
 #[inline(always)]
 pub(crate) fn take_next<W: Sink>(
     state: State,
@@ -35,6 +37,7 @@ pub(crate) fn take_next<W: Sink>(
     requires some { 0 < length piece.now }
     requires state { IsState kept.old.tracks kept.old.head state }
     requires can { CanStep kept.old ledger.old state }
+    requires elsewhere { (r : Recutting) → state ≡ states.Media r → ⊥ }
     ensures { Consumes (lent W.contents W.has_failed w.old w.new out.old out.new ledger.old ledger.new)
         kept.old kept.new state piece.now result }
 {
@@ -46,8 +49,8 @@ pub(crate) fn take_next<W: Sink>(
         State::OpenBody(body, waiting) => take_open(body, waiting, piece, kept, ledger),
         State::Copied(body) => take_copied(body, piece, kept, out, w),
         State::OpenCopied(body) => take_open_copied(body, piece, kept, out, w),
-        State::Media(recutting) => take_split(recutting, piece, kept, ledger, out, w),
         State::OpenMedia(recutting) => take_open_split(recutting, piece, kept, ledger, out, w),
+        _ => unreachable!(),
     }
 }
 

@@ -11,24 +11,30 @@ ghost use Rattle.mp4_frag.specs.Moofs.{IsRead, moof_runs, moof_samples};
 ghost use Rattle.mp4_frag.specs.Places.{place_fault};
 ghost use Rattle.mp4_frag.specs.Runs.{moof_at};
 ghost use Rattle.mp4_ledger.specs.Memory.{claimed, given_back};
+ghost use Rattle.mp4_machine.specs.Pieces.{around};
 ghost use Rattle.mp4_machine.specs.Readings.{plus};
 ghost use Rattle.mp4_grammar.specs.Contexts.{context};
 ghost use Rattle.mp4_grammar.specs.Items.{fragment, walked};
 ghost use Rattle.mp4_grammar.specs.Meanings.{counted_in};
 ghost use Rattle.mp4_grammar.specs.declared.command.Command.TheVariants.{Check};
 ghost use Rattle.mp4_recut.specs.declared.plan.Plan.TheVariants as plans;
-ghost use Rattle.mp4_fragment_machine.specs.Places.{Unlent};
-ghost use Rattle.mp4_fragment_machine.specs.States.{IsCounted, known};
+ghost use Rattle.mp4_fragment_machine.specs.Places.{Unlent, claim_of, unsent};
+ghost use Rattle.mp4_fragment_machine.specs.States.{IsCounted, known, place_in};
+ghost use Rattle.mp4_fragment_machine.specs.Working.Feeds.{Feeds};
 ghost use Rattle.mp4_fragment_machine.specs.Working.Steps.{CanStep, TakesWhole, lent_ledger};
 ghost use Rattle.mp4_fragment_machine.specs.Working.Wholes.{AreBoxes, payload_in};
 ghost use Rattle.mp4_fragment_machine.specs.declared.state.State.TheVariants as states;
 
 use crate::listed_fragment::count;
+use crate::machine::FragmentMachine;
+use crate::slot::go_to;
 use crate::state::{Counter, Kept};
 use crate::whole_fragment::{Boxes, ROW, payload_behind};
 use mp4_frag::Moof;
+use mp4_grammar::Command;
 use mp4_init::TrackList;
 use mp4_ledger::Ledger;
+use mp4_recut::Plan;
 
 /// No moof that is held has so many runs.
 const MOST_RUNS: u64 = 1 << 32;
@@ -113,4 +119,37 @@ pub(crate) fn check_fragment(
     moof.settle(list, &mut counter.steps);
     kept.counter = counter;
     Some(boxes.moof.len() as u64 + boxes.mdat.size)
+}
+
+impl FragmentMachine {
+    /// Takes a fragment that is checked from the front of a piece that has all of it, where it may be taken so: how many bytes.
+    /// Nothing is taken else.
+    #[inline(always)]
+    pub(crate) fn check_whole(
+        &mut self,
+        at: u64,
+        boxes: &Boxes<'_>,
+        ledger: &mut Ledger,
+        piece: &[u8],
+    ) -> Option<usize>
+        requires state { self.old.state ≡ states.Header at }
+        requires head { self.old.head ≡ [] }
+        requires known { self.old.tracks ≡ Some (known self.old.tracks) }
+        requires are { AreBoxes at piece.now boxes.now }
+        requires claim { claim_of (place_in self.old) ≤ ledger.old.live }
+        ensures taken { IfSome result (λ n. (u : Unlent) → Feeds (around (unsent u) u.waiting u.waiting
+            ledger.old ledger.new self.old.counter.tally self.new.counter.tally)
+            self.old self.new piece.now (Ok n)) }
+        ensures none { result ≡ None → (self.new ≡ self.old) × (ledger.new ≡ ledger.old) }
+    {
+        match self.kept.plan {
+            Plan::List(Command::Check) => {}
+            _ => return None,
+        }
+        let Some(size) = check_fragment(at, boxes, piece, &mut self.kept, ledger) else {
+            return None;
+        };
+        go_to(&mut self.state, at + size);
+        Some(size as usize)
+    }
 }

@@ -11,7 +11,7 @@ use Rattle.mp4_machine.specs.declared.stop.Stop.{Stop}
 use Rattle.mp4_grammar.specs.Contexts.{table_of}
 use Rattle.mp4_recut.specs.Plans.{plan_meaning, number_in}
 use Rattle.mp4_fragment_machine.specs.Places.{Place, Unlent, claim_of, standing}
-use Rattle.mp4_fragment_machine.specs.States.{HasCounted, HasStopped, IsState, place_of}
+use Rattle.mp4_fragment_machine.specs.States.{HasCounted, HasStopped, IsState, place_of, stopped}
 use Rattle.mp4_fragment_machine.specs.declared.state.Kept.{Kept}
 use Rattle.mp4_fragment_machine.specs.declared.state.State.{State}
 use Rattle.mp4_fragment_machine.specs.declared.state.State.TheVariants as states
@@ -133,6 +133,11 @@ WaitsPast l old new from piece n (Err e) = StopsIn l old new (at_state old from)
 abbrev pub Consumes : Lent → (old new : Kept) → State → List ℕ → Result Taken Stop → Type 0
 Consumes l old new from piece (Ok t) = (0 < t.count) × (t.count ≤ length piece) × GoesTo l old new (at_state old from) (take t.count piece) t.state
 Consumes l old new from piece (Err e) = StopsIn l old new (at_state old from) piece e
+
+-- and one that changes the state where that is: how many bytes it takes. Where it stops nothing is kept
+abbrev pub ConsumesInPlace : Lent → (old new : Kept) → (from to : State) → List ℕ → Result ℕ Stop → Type 0
+ConsumesInPlace l old new from to piece (Ok n) = (0 < n) × (n ≤ length piece) × GoesTo l old new (at_state old from) (take n piece) to
+ConsumesInPlace l old new from to piece (Err e) = (to ≡ stopped) × StopsIn l old new (at_state old from) piece e
 
 -- one that takes a fragment from the front of a piece that has all of it, where the header of its moof was to come: how many bytes it has
 abbrev pub TakesWhole : Lent → (old new : Kept) → ℕ → List ℕ → Result ℕ Stop → Type 0

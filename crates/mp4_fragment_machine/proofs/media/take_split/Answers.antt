@@ -20,13 +20,13 @@ use Rattle.mp4_fragment_machine.proofs.media.take_split.Goals as goal
 
 pub returns-in-Err : goal.returns-in-Err
 returns-in-Err g c =
-    let r = c.args.recutting in
+    let r = c.in-Media.recutting in
     let kept = c.args.kept.now in
     let old = kept.counter in
     let w = r.waiting in
     let list = c.in-Some.list in
-    let is = rw c.in-Some.is at c.requires.state in
-    let can = c.requires.can in
+    let is = rw (c.in-Media.is, c.in-Some.is) at c.requires.state in
+    let can = rw c.in-Media.is at c.requires.can in
     let low = rw c.in-Some.is at can.claim in
     let (counted, plan, number) = can.counted in
     let first = old.tally.fragments + 1 in
@@ -39,30 +39,33 @@ returns-in-Err g c =
     let all : given_back (given_back ledger (taken_by (Some w))) (64 * length list) ≡ given_back ledger own =
     back_twice ledger (taken_by (Some w)) (64 * length list) ∙ ap (given_back ledger) (sym apart) in
     let split = rw plan at counted in
-    rw (c.in-Some.is, plan, number, c.back.ensures) (record {
-      step = record {
-        stops = λ more later. rw all
-            (Loses-taken r.cut list w s c.args.out.now c.take_media.new.out old.tally c.take_media.new.tally r.media c.args.piece.now (splitting r.cut) r.body.at r.body.kind own ledger next r.body.left low fails more later);
-        failed = λ _. fails.unpaid.failed;
-        unfailed = λ other. absurd (other refl);
-      };
-      plan = refl;
-      tracks = refl;
-      empty = is.0;
-      left = omega (arith, apart, low);
-      counted = counted_recut r.cut old (record { tally = c.take_media.new.tally; steps = old.steps }) r.body.next most_counted (moof_samples (moof_in w)) 0 split split.far (omega arith)
-          fails.counted.few fails.counted.tally (omega arith) (omega arith);
-    })
+    let given = rw c.replace.ensures.value at c.back_state.ensures in (
+      c.replace.ensures.after ∙ c.stopped.ensures,
+      rw (c.in-Media.is, c.in-Some.is, plan, number, given) (record {
+        step = record {
+          stops = λ more later. rw all
+              (Loses-taken r.cut list w s c.args.out.now c.take_media.new.out old.tally c.take_media.new.tally r.media c.args.piece.now (splitting r.cut) r.body.at r.body.kind own ledger next r.body.left low fails more later);
+          failed = λ _. fails.unpaid.failed;
+          unfailed = λ other. absurd (other refl);
+        };
+        plan = refl;
+        tracks = refl;
+        empty = is.0;
+        left = omega (arith, apart, low);
+        counted = counted_recut r.cut old (record { tally = c.take_media.new.tally; steps = old.steps }) r.body.next most_counted (moof_samples (moof_in w)) 0 split split.far (omega arith)
+            fails.counted.few fails.counted.tally (omega arith) (omega arith);
+      }),
+    )
 
 pub returns-then-left-eq0 : goal.returns-then-left-eq0
 returns-then-left-eq0 g c =
-    let r = c.args.recutting in
+    let r = c.in-Media.recutting in
     let kept = c.args.kept.now in
     let old = kept.counter in
     let w = r.waiting in
     let list = c.in-Some.list in
-    let is = rw c.in-Some.is at c.requires.state in
-    let can = c.requires.can in
+    let is = rw (c.in-Media.is, c.in-Some.is) at c.requires.state in
+    let can = rw c.in-Media.is at c.requires.can in
     let low = rw c.in-Some.is at can.claim in
     let (counted, plan, number) = can.counted in
     let split = rw plan at counted in
@@ -79,7 +82,8 @@ returns-then-left-eq0 g c =
     let left = r.body.left - taken.count in
     let q = spot_of r.cut (moof_in w) list (r.body.next - left) (n + 1) taken.media in
     let o = outside (g.W.Sink.contents c.take_media.new.w) c.take_media.new.out ledger c.take_media.new.tally in
-    let ended = c.end_fragment.ensures in
+    let left_is = c.leave_media.ensures r refl in
+    let ended = rw left_is.0 at c.end_fragment.ensures in
     let table : 64 * length (settled list (moof_trafs (moof_in w) list)) ≡ 64 * length list = ap (λ l. 64 * length l) (sym ended.tracks) ∙ ap (λ k. 64 * k) ended.len in
     let over : r.body.next ≤ r.body.next - left = omega (arith, c.if-left-eq0.true) in
     let ps = parts_left r.cut (moof_in w) list (n + 1) taken.media.later in
@@ -94,7 +98,7 @@ returns-then-left-eq0 g c =
     (Moves-settled o (64 * length list) w.moof.size (64 * length w.runs.rows) (64 * length (settled list (moof_trafs (moof_in w) list))) table low))) in (
       omega (arith, effects.count, recut.some, c.requires.some),
       omega (arith, effects.count),
-      rw (c.in-Some.is, plan, number, is.0, ended.tracks) (record {
+      rw (c.in-Media.is, left_is.1, c.in-Some.is, plan, number, is.0, ended.tracks) (record {
         step = record {
           goes = rw ended.tally
               (subst (λ k. GoesOn (outside (g.W.Sink.contents c.args.w.now) c.args.out.now ledger old.tally) (outside (g.W.Sink.contents c.take_media.new.w) c.take_media.new.out there c.take_media.new.tally) (standing meaning (InBody (playing (spot_of r.cut (moof_in w) list (r.body.next - r.body.left) first r.media)) r.body.at r.body.kind next r.body.left own)) (take taken.count c.args.piece.now) (standing meaning (InHeader (context r.body.next (Some (settled list (moof_trafs (moof_in w) list))) k) []))) same goes);
@@ -110,13 +114,13 @@ returns-then-left-eq0 g c =
 
 pub returns : goal.returns
 returns g c =
-    let r = c.args.recutting in
+    let r = c.in-Media.recutting in
     let kept = c.args.kept.now in
     let old = kept.counter in
     let w = r.waiting in
     let list = c.in-Some.list in
-    let is = rw c.in-Some.is at c.requires.state in
-    let can = c.requires.can in
+    let is = rw (c.in-Media.is, c.in-Some.is) at c.requires.state in
+    let can = rw c.in-Media.is at c.requires.can in
     let low = rw c.in-Some.is at can.claim in
     let (counted, plan, number) = can.counted in
     let split = rw plan at counted in
@@ -142,7 +146,7 @@ returns g c =
     let goes = GoesOn-taken r.cut list w s c.args.out.now c.take_media.new.out old.tally c.take_media.new.tally r.media c.args.piece.now meaning r.body.at r.body.kind own ledger next r.body.left taken recut.within effects in (
       omega (arith, effects.count, recut.some, c.requires.some),
       omega (arith, effects.count),
-      rw (c.in-Some.is, plan, number) (record {
+      rw (c.in-Media.is, c.in-Some.is, plan, number) (record {
         step = record { goes = subst (λ k. GoesOn o o' (standing meaning place) (take taken.count c.args.piece.now) (standing meaning (again (context r.body.next (Some ends) k)))) same goes; unfailed = effects.paid.unfailed; claim = low };
         plan = refl;
         state = (

@@ -10,10 +10,10 @@ pub returns-in-Body : goal.returns-in-Body
 returns-in-Body g c =
     c.finish_body.ensures (record { written = g.W.Sink.contents c.args.w.now; waiting = c.args.out.now; failed = g.W.Sink.has_failed c.args.w.now })
 
-pub pay_within-requires : goal.pay_within-requires
-pay_within-requires g c =
+pub pay_media-requires : goal.pay_media-requires
+pay_media-requires g c =
     record {
       some = c.requires.some;
-      within = (c.in-Media.recutting, ap (λ (p : Progress). p.state) (sym c.self.view_is) ∙ c.in-Media.is, c.if-piece-recutting.true);
+      media = (c.in-Media.field-0, ap (λ (p : Progress). p.state) (sym c.self.view_is) ∙ c.in-Media.is);
       claim = c.requires.claim;
     }
