@@ -69,6 +69,10 @@ pub fn put_moof<W: Sink>(
         Ok(()) => {}
         Err(Failed) => return Err(Failed),
     }
+    // The groups in the moof are those that are to be written, if they have all fields.
+    if let Some(groups) = run.whole_groups(held, piece.first, piece.count) {
+        return block.put(w, groups);
+    }
     let mut rows = run.rows_from(held, start_of(piece));
     put_samples(block, w, &mut rows, piece.count)
 }

@@ -19,6 +19,7 @@ pub mod MoofListLemmas
 pub mod AfterLemmas
 pub mod SettleLemmas
 pub mod GroupLemmas
+pub mod WholeGroupLemmas
 pub mod LoneLemmas
 pub mod UsualLemmas
 pub mod SyncLemmas

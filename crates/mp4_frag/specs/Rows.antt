@@ -1,10 +1,12 @@
 -- The rows of a run: row i is group i of the fields that its flags name, and what isn't there has a default (ISO/IEC 14496-12, 8.8.7 and 8.8.8).
-use Rattle.std.specs.Prelude.{ℕ, ℤ, List, Option, Some, None, pos, ◌≡◌, ◌≤◌, ◌==◌, ◌+◌, ◌-◌, ◌*◌, ◌+ℤ◌, if◌then◌else◌, map, take}
+use Rattle.std.specs.Prelude.{ℕ, ℤ, List, Option, Some, None, pos, ◌≡◌, ◌≤◌, ◌==◌, ◌+◌, ◌-◌, ◌*◌, ◌++◌, ◌+ℤ◌, if◌then◌else◌, drop, length, map, take}
+use Rattle.std.specs.Int.{w64}
 use Rattle.std.specs.List.{range_with_len, sum_by}
 use Rattle.std.specs.Option.{unwrap_or}
-use Rattle.byteorder.specs.Endian.{twos_complement}
+use Rattle.byteorder.specs.Endian.{big_bytes, low_bytes, twos_complement}
 use Rattle.mp4_box.specs.Fields.{number_in}
 use Rattle.mp4_frag.specs.declared.run.Run.{Run}
+use Rattle.mp4_frag.specs.declared.trun.SampleFields.{SampleFields}
 use Rattle.mp4_frag.specs.declared.rows.Row.{Row}
 use Rattle.mp4_frag.specs.declared.rows.Cursor.{Cursor}
 
@@ -62,3 +64,19 @@ pub record IsCursor (run : Run) (held : List ℕ) (c : Cursor) : Type 0 where
   pub row : c.row ≤ run.count
   pub time : c.time ≡ run.time + durations (take c.row (rows_of run held))
   pub place : c.place ≡ run.place +ℤ pos (sizes (take c.row (rows_of run held)))
+
+-- ---- groups with all fields
+
+-- where the fields stand in such a group
+abbrev pub all_fields : SampleFields
+all_fields = record { sample_duration = Some 0; sample_size = Some 4; sample_flags = Some 8; sample_composition_time_offset = Some 12; len = 16 }
+
+-- the groups of `count` rows from row `first` on have all fields, and lie in the bytes
+pub record HasWholeGroups (run : Run) (held : List ℕ) (first count : ℕ) : Type 0 where
+  pub fields : run.fields ≡ all_fields
+  pub rows : first + count ≤ run.count
+  pub bytes : 16 * count ≤ length (drop (group_at run first) held)
+
+-- such a group: sample_duration, sample_size, sample_flags and sample_composition_time_offset (32 bits each)
+abbrev pub row_bytes : Row → List ℕ
+row_bytes row = big_bytes 4 row.duration ++ (big_bytes 4 row.size ++ (big_bytes 4 row.flags ++ big_bytes 4 (low_bytes w64 4 row.offset)))

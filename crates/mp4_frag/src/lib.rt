@@ -4,7 +4,8 @@
 //! - [`Moof::read`]: from the bytes of a moof to a [`Moof`], or the [`Fault`](mp4_box::Fault) that it has;
 //!   [`Moof::settle`]: where its tracks end behind it;
 //! - [`Moof::trafs`], [`Traf::runs`] and [`Run::rows`]: its trafs, their [`Run`]s and the [`Row`] of each sample.
-//!   [`Run::rows_from`] goes on from a [`Cursor`], and [`Run::after`] gives the next run;
+//!   [`Run::rows_from`] goes on from a [`Cursor`], [`Run::whole_groups`] gives the bytes of rows with all four fields,
+//!   and [`Run::after`] gives the next run;
 //! - [`Moof::list`]: a [`RunList`], its runs in the order in which they are taken, in claimed memory;
 //!   [`RunList::at`] gives one of them, [`RunList::listed`] where it stands, and
 //!   [`Moof::places`]: whether they stand where they may in the [`Payload`] of its mdat;

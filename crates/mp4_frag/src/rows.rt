@@ -1,12 +1,14 @@
 //! The rows of a run, one for each sample.
 
-ghost use Rattle.std.specs.Prelude.{◌≡◌, ◌+◌, ◌*◌, ◌+ℤ◌, ◌<ℤ◌, ◌<◌, ◌≤◌, ◌^◌, drop, pos};
+ghost use Rattle.std.specs.Prelude.{◌≡◌, ◌+◌, ◌*◌, ◌+ℤ◌, ◌<ℤ◌, ◌<◌, ◌≤◌, ◌^◌, ◌↔◌, IfSome, IsSome, drop, length, pos, take, true};
+ghost use Rattle.std.specs.List.{flat_map};
 ghost use Rattle.std.specs.Iterator.{YieldsFirst, item_count};
 ghost use Rattle.mp4_frag.specs.Cursors.{first_cursor, past};
-ghost use Rattle.mp4_frag.specs.Rows.{IsCursor, field_at, group_at, offset_at, row_from, rows_behind, rows_of, usual_flags};
+ghost use Rattle.mp4_frag.specs.Rows.{HasWholeGroups, IsCursor, all_fields, field_at, group_at, offset_at, row_bytes, row_from, rows_behind, rows_of, usual_flags};
 
 use crate::fields::signed_at;
 use crate::run::Run;
+use crate::trun::SampleFields;
 use mp4_box::number_at;
 use std::marker::Model;
 
@@ -125,6 +127,17 @@ fn groups_from<'a>(run: &Run, held: &'a [u8], i: u32) -> &'a [u8]
     groups
 }
 
+/// Whether a group has all four fields, which then stand in the standard's order.
+fn has_all(fields: &SampleFields) -> bool
+    ensures { (result ≡ true) ↔ (fields.now ≡ all_fields) }
+{
+    fields.len == 16
+        && fields.sample_duration == Some(0)
+        && fields.sample_size == Some(4)
+        && fields.sample_flags == Some(8)
+        && fields.sample_composition_time_offset == Some(12)
+}
+
 impl Run {
     /// The flags of a sample that has none of its own.
     fn usual_flags(&self, i: u32) -> u32
@@ -186,6 +199,27 @@ impl Run {
             rest: groups_from(self, held, cursor.row),
             index: cursor.row,
         }
+    }
+
+    /// The groups of `count` rows from row `first` on as they stand in the moof, whose bytes are `held`: 16 bytes each, the
+    /// sample's duration, size, flags and composition time offset (ISO/IEC 14496-12, 8.8.8). None where the groups haven't
+    /// all four fields, or aren't all there.
+    pub fn whole_groups<'a>(&self, held: &'a [u8], first: u32, count: u32) -> Option<&'a [u8]>
+        ensures len { IfSome result (λ groups. length groups.now ≡ 16 * count) }
+        ensures rows { IfSome result (λ groups.
+            groups.now ≡ flat_map row_bytes (take count (drop first (rows_of self.now held.now)))) }
+        ensures some { IsSome result ↔ HasWholeGroups self.now held.now first count }
+    {
+        let len = 16 * count as usize;
+        if !has_all(&self.fields) || u64::from(first) + u64::from(count) > u64::from(self.count) {
+            return None;
+        }
+        let groups = groups_from(self, held, first);
+        if groups.len() < len {
+            return None;
+        }
+        let (whole, _) = groups.split_at(len);
+        Some(whole)
     }
 }
 

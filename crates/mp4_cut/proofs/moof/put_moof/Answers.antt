@@ -22,6 +22,15 @@ returns-in-Err g c =
     (ap (λ (x : List ℕ). x ++ samples) (c.whole-front.ensures ∙ c.moof_front.ensures.bytes) ∙ sym (front_is c.args.held.now c.args.run.now c.args.piece.now c.args.sequence_number c.requires.piece))
     c.in-Err.ensures
 
+pub returns-in-Some : goal.returns-in-Some
+returns-in-Some g c =
+    let front = c.whole-front.result in
+    let samples = flat_map sample_bytes (rows_in c.args.held.now c.args.run.now c.args.piece.now) in
+    let moof = written_moof c.args.piece.now c.args.run.now c.args.held.now c.args.sequence_number in
+    let whole = ap (λ (x : List ℕ). front ++ x) c.in-Some.ensures.rows
+    ∙ (ap (λ (x : List ℕ). x ++ samples) (c.whole-front.ensures ∙ c.moof_front.ensures.bytes) ∙ sym (front_is c.args.held.now c.args.run.now c.args.piece.now c.args.sequence_number c.requires.piece)) in
+    Puts-then c.in-Ok.ensures _ _ _ c.in-Some.groups.now moof whole c.put.result c.put.ensures
+
 pub returns : goal.returns
 returns g c =
     let moof = written_moof c.args.piece.now c.args.run.now c.args.held.now c.args.sequence_number in

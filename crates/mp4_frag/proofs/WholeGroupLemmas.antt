@@ -1,0 +1,100 @@
+-- Groups with all fields are the bytes of their rows.
+use Rattle.std.proofs.Common.{◌≡◌, ◌∙◌, ◌+◌, ◌-◌, ◌*◌, ◌<◌, ◌≤◌, ◌^◌, ◌==◌, ℕ, zero, suc, pos, Bool, true, false, cond, ltb, List, ◌++◌, length, map, take, drop, refl, sym, ap, arith, inl, inr}
+use Rattle.std.specs.Int.{w64}
+use Rattle.std.specs.List.{flat_map, range_with_len}
+use Rattle.std.proofs.lemmas.Bool.{cases_lt, le-ltb, lt-ltb}
+use Rattle.std.proofs.lemmas.Int.{ints}
+use Rattle.std.proofs.lemmas.List.{drop-drop, length-drop, length-take}
+use Rattle.std.proofs.lemmas.List.FromFn.{take-map-range_with_len}
+use Rattle.std.proofs.lemmas.Nat.{be_bytes_4}
+use Rattle.std.proofs.Math.Nat.{mod-eq_of_lt}
+use Rattle.std.proofs.Math.Seq.{take-add}
+use Rattle.byteorder.specs.Endian.{big_bytes, big_number, low_bytes, twos_complement}
+use Rattle.byteorder.specs.Numbers.{big_from-take}
+use Rattle.mp4_box.specs.Fields.{number_in}
+use Rattle.mp4_box.specs.Headers.{IsBytes}
+use Rattle.mp4_box.proofs.ByteLemmas.{number_small}
+use Rattle.mp4_box.proofs.HeaderLemmas.{IsBytes-drop, IsBytes-take}
+use Rattle.mp4_frag.specs.declared.run.Run.{Run}
+use Rattle.mp4_frag.specs.declared.rows.Row.{Row}
+use Rattle.mp4_frag.specs.Rows.{HasWholeGroups, all_fields, group_at, offset_by, row_bytes, row_of, rows_of}
+use Rattle.mp4_frag.proofs.RowLemmas.{rows_dropped}
+
+-- ---- a field
+
+-- the four bytes of the number at a place
+field_bytes : (held : List ℕ) (at : ℕ) → IsBytes held → at + 4 ≤ length held → big_bytes 4 (number_in held at) ≡ take 4 (drop at held)
+field_bytes held at fits room =
+    let x = drop at held in
+    ap (λ (t : Bool). big_bytes 4 (cond t 0 (big_number 4 x))) (le-ltb (length held) (at + 4) room)
+    ∙ be_bytes_4 (take 4 x) (big_number 4 x) (omega (arith, length-take 4 x, length-drop at held, room)) (IsBytes-take 4 x (IsBytes-drop at held fits))
+    (sym (big_from-take 0 4 4 x (omega arith)) ∙ omega arith)
+
+-- the 32 bits of an offset are those of its field
+twos_bits : (n : ℕ) → n < 2 ^ 32 → low_bytes w64 4 (twos_complement 4 n) ≡ n
+twos_bits n small = elim (cases_lt n (2 ^ 31)) [
+  | inl less ↦ let t : ltb n (2 ^ 31) ≡ true = lt-ltb _ _ less in rw t (mod-eq_of_lt small)
+  | inr more ↦ let t : ltb n (2 ^ 31) ≡ false = le-ltb _ _ more in rw t (omega (arith, ints))
+]
+
+offset_bits : (version n : ℕ) → n < 2 ^ 32 → low_bytes w64 4 (offset_by version n) ≡ n
+offset_bits version n small = by (version == 0)
+  where
+    by : (t : Bool) → low_bytes w64 4 (cond t (pos n) (twos_complement 4 n)) ≡ n
+    by true = mod-eq_of_lt small
+    by false = twos_bits n small
+
+-- ---- a group
+
+join : {a b c d k l m n : List ℕ} → a ≡ k → b ≡ l → c ≡ m → d ≡ n → a ++ (b ++ (c ++ d)) ≡ k ++ (l ++ (m ++ n))
+join p q r s = cc
+
+four_fields : (x : List ℕ) → take 16 x ≡ take 4 x ++ (take 4 (drop 4 x) ++ (take 4 (drop 8 x) ++ take 4 (drop 12 x)))
+four_fields x =
+    take-add 4 12 x
+    ∙ ap (λ (y : List ℕ). take 4 x ++ y) (take-add 4 8 (drop 4 x) ∙ ap (λ (y : List ℕ). take 4 (drop 4 x) ++ take 8 y) (drop-drop 4 4 x))
+    ∙ ap (λ (y : List ℕ). take 4 x ++ (take 4 (drop 4 x) ++ y)) (take-add 4 4 (drop 8 x) ∙ ap (λ (y : List ℕ). take 4 (drop 8 x) ++ take 4 y) (drop-drop 4 8 x))
+
+-- the field that stands so far behind the beginning of a group
+field_in_group : (held : List ℕ) (g at : ℕ) → IsBytes held → g + at + 4 ≤ length held → big_bytes 4 (number_in held (g + at)) ≡ take 4 (drop at (drop g held))
+field_in_group held g at fits room = field_bytes held (g + at) fits room ∙ ap (take 4) (sym (drop-drop at g held))
+
+fields_at : (held : List ℕ) (g version : ℕ) → IsBytes held → g + 16 ≤ length held
+    → big_bytes 4 (number_in held (g + 0)) ++ (big_bytes 4 (number_in held (g + 4)) ++ (big_bytes 4 (number_in held (g + 8)) ++ big_bytes 4 (low_bytes w64 4 (offset_by version (number_in held (g + 12))))))
+    ≡ take 16 (drop g held)
+fields_at held g version fits room =
+    join (field_in_group held g 0 fits (omega (arith, room))) (field_in_group held g 4 fits (omega (arith, room))) (field_in_group held g 8 fits (omega (arith, room)))
+    (ap (big_bytes 4) (offset_bits version (number_in held (g + 12)) (number_small held (g + 12) fits)) ∙ field_in_group held g 12 fits (omega (arith, room)))
+    ∙ sym (four_fields (drop g held))
+
+row_is_group : (run : Run) (held : List ℕ) (i : ℕ) → IsBytes held → run.fields ≡ all_fields → run.samples_at + 16 * i + 16 ≤ length held → row_bytes (row_of run held i) ≡ take 16 (drop (run.samples_at + 16 * i) held)
+unfolding row_of group_at
+row_is_group run held i fits all room = rw all (fields_at held (run.samples_at + 16 * i) run.version fits room)
+
+-- ---- groups
+
+rows_are_groups : (run : Run) (held : List ℕ) (i n g : ℕ) → IsBytes held → run.fields ≡ all_fields → g ≡ run.samples_at + 16 * i → g + 16 * n ≤ length held → flat_map row_bytes (map (row_of run held) (range_with_len i n)) ≡ take (16 * n) (drop g held)
+rows_are_groups run held i zero g fits all at room = refl
+rows_are_groups run held i (suc n) g fits all at room =
+    let first = row_is_group run held i fits all (omega (arith, at, room)) ∙ ap (λ (k : ℕ). take 16 (drop k held)) (sym at) in
+    let rest = rows_are_groups run held (i + 1) n (g + 16) fits all (omega (arith, at)) (omega (arith, room)) in
+    let taken = take-add 16 (16 * n) (drop g held) in
+    let both : 16 + 16 * n ≡ 16 * suc n = omega arith in
+    ap (λ (x : List ℕ). x ++ flat_map row_bytes (map (row_of run held) (range_with_len (i + 1) n))) first
+    ∙ ap (λ (x : List ℕ). take 16 (drop g held) ++ x) (rest ∙ ap (take (16 * n)) (sym (drop-drop 16 g held)))
+    ∙ sym taken
+    ∙ ap (λ (m : ℕ). take m (drop g held)) both
+
+-- where a group with all fields begins
+begins : (run : Run) (i : ℕ) → run.fields ≡ all_fields → group_at run i ≡ run.samples_at + 16 * i
+unfolding group_at
+begins run i all = rw all refl
+
+-- the groups of some rows are their fields
+pub whole_groups : (run : Run) (held : List ℕ) (first count : ℕ) → IsBytes held → HasWholeGroups run held first count → take (16 * count) (drop (group_at run first) held) ≡ flat_map row_bytes (take count (drop first (rows_of run held)))
+whole_groups run held first zero fits has = refl
+whole_groups run held first (suc n) fits has =
+    let g = group_at run first in
+    sym (rows_are_groups run held first (suc n) g fits has.fields (begins run first has.fields) (omega (arith, has.bytes, length-drop g held)))
+    ∙ ap (flat_map row_bytes) (sym (take-map-range_with_len (row_of run held) first (run.count - first) (suc n) (omega (arith, has.rows))))
+    ∙ ap (λ (rows : List Row). flat_map row_bytes (take (suc n) rows)) (rows_dropped run held first (omega (arith, has.rows)))
