@@ -1,11 +1,10 @@
 -- What is left of a run's rows.
-use Rattle.std.proofs.Common.{◌*◌, take, ◌≡◌, ℕ, zero, suc, ◌+◌, ◌-◌, ◌<◌, ◌≤◌, true, List, ◌∷◌, map, drop, length, refl, ap, sym, ◌∙◌, arith, Option, Some, None, inl, inr, ◌⊎◌}
+use Rattle.std.proofs.Common.{◌*◌, take, ◌≡◌, ℕ, zero, suc, ◌+◌, ◌-◌, ◌<◌, ◌≤◌, true, List, ◌∷◌, map, drop, length, refl, ap, sym, ◌∙◌, arith, Option, Some, None, inl, inr}
 use Rattle.std.specs.Option.{is_none}
 use Rattle.std.specs.List.{range_with_len, sum_by}
-use Rattle.std.specs.Prelude.{nat_lt, if◌then◌else◌}
+use Rattle.std.specs.Prelude.{nat_lt}
 use Rattle.std.proofs.lemmas.Bool.{cases_lt, lt-ltb, le-ltb}
 use Rattle.std.proofs.lemmas.List.{drop-drop, length-drop}
-use Rattle.byteorder.specs.Endian.{big_number}
 use Rattle.mp4_box.specs.Fields.{number_in}
 use Rattle.std.proofs.lemmas.Int.{ints}
 use Rattle.std.proofs.lemmas.List.FromFn.{length-map-range_with_len, get_or-map-range_with_len}

@@ -67,7 +67,7 @@ pub record IsCursor (run : Run) (held : List ℕ) (c : Cursor) : Type 0 where
 
 -- ---- groups with all fields
 
--- where the fields stand in such a group
+-- where the fields stand in such a group, which a trun with the flags 0x000f00 has
 abbrev pub all_fields : SampleFields
 all_fields = record { sample_duration = Some 0; sample_size = Some 4; sample_flags = Some 8; sample_composition_time_offset = Some 12; len = 16 }
 

@@ -1,5 +1,5 @@
 -- What a fragment brings of which a piece has all.
-use Rattle.std.proofs.Common.{◌≡◌, ◌∙◌, ℕ, ◌+◌, ◌-◌, ◌*◌, ◌<◌, ◌≤◌, max, List, [], ◌∷◌, ◌++◌, length, take, drop, take-append-drop, Option, None, Some, ap, sym, refl, arith, subst}
+use Rattle.std.proofs.Common.{◌≡◌, ◌∙◌, ℕ, ◌+◌, ◌-◌, ◌*◌, ◌<◌, ◌≤◌, max, List, [], ◌++◌, length, take, drop, take-append-drop, Option, None, Some, ap, sym, refl, arith, subst}
 use Rattle.std.specs.Prelude.{map}
 use Rattle.std.proofs.lemmas.List.{length-drop, length-map}
 use Rattle.mp4_box.specs.declared.headers.FourCc.{FourCc}
@@ -11,7 +11,6 @@ use Rattle.mp4_box.specs.Order.{least}
 use Rattle.mp4_box.proofs.HeaderLemmas.{header_at-append, need-append, need-least, room_of, whole_is}
 use Rattle.mp4_init.specs.declared.table.Track.{Track}
 use Rattle.mp4_frag.specs.Moofs.{IsRead, early_fault, moof_runs, moof_trafs, time_faults}
-use Rattle.mp4_frag.specs.declared.run.Run.{Run}
 use Rattle.mp4_frag.specs.Working.RunRows.{row_of_run}
 use Rattle.mp4_frag.specs.Runs.{moof_at}
 use Rattle.mp4_frag.specs.Settling.{settled}

@@ -1,4 +1,4 @@
-use Rattle.std.proofs.Common.{◌++◌, ◌∙◌, sym, ap, subst, List, ℕ}
+use Rattle.std.proofs.Common.{rules, ◌≡◌, ◌++◌, ◌∙◌, sym, ap, subst, List, ℕ}
 use Rattle.std.specs.Prelude.{take}
 use Rattle.std.specs.List.{flat_map}
 use Rattle.mp4_frag.specs.declared.rows.Cursor.{Cursor}
@@ -27,7 +27,8 @@ returns-in-Some g c =
     let front = c.whole-front.result in
     let samples = flat_map sample_bytes (rows_in c.args.held.now c.args.run.now c.args.piece.now) in
     let moof = written_moof c.args.piece.now c.args.run.now c.args.held.now c.args.sequence_number in
-    let whole = ap (λ (x : List ℕ). front ++ x) c.in-Some.ensures.rows
+    let same : c.in-Some.groups.now ≡ samples = search rules in
+    let whole = ap (λ (x : List ℕ). front ++ x) same
     ∙ (ap (λ (x : List ℕ). x ++ samples) (c.whole-front.ensures ∙ c.moof_front.ensures.bytes) ∙ sym (front_is c.args.held.now c.args.run.now c.args.piece.now c.args.sequence_number c.requires.piece)) in
     Puts-then c.in-Ok.ensures _ _ _ c.in-Some.groups.now moof whole c.put.result c.put.ensures
 

@@ -1,4 +1,4 @@
-use Rattle.std.proofs.Common.{◌≡◌, ◌∙◌, ℕ, [], ◌∷◌, sym, arith}
+use Rattle.std.proofs.Common.{◌∙◌, [], ◌∷◌, sym, arith}
 use Rattle.mp4_box.specs.Paths.{at_path}
 use Rattle.mp4_frag.specs.Kinds.{traf}
 use Rattle.mp4_frag.specs.Working.Following.{runs_of_trafs}

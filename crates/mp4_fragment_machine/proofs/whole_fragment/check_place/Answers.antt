@@ -1,9 +1,6 @@
-use Rattle.std.proofs.Common.{◌≡◌, ◌+◌, ◌∷◌, [], None, Some, ap, arith, drop, subst, sym, ◌∙◌}
+use Rattle.std.proofs.Common.{◌≡◌, ◌∷◌, [], None, Some, ap, subst, sym, ◌∙◌}
 use Rattle.mp4_init.specs.Moovs.{fault_of}
 use Rattle.mp4_frag.specs.Places.{place_fault}
-use Rattle.mp4_grammar.specs.declared.kinds.Kind.TheVariants.{Mdat}
-use Rattle.mp4_fragment_machine.specs.Working.Wholes.{payload_in}
-use Rattle.mp4_fragment_machine.proofs.FragmentLemmas.{first_fits, moof_len}
 use Rattle.mp4_fragment_machine.proofs.whole_fragment.check_place.Goals as goal
 
 pub returns-in-Ok-clause-good : goal.returns-in-Ok-clause-good

@@ -1,4 +1,4 @@
-use Rattle.std.proofs.Common.{◌≡◌, ◌+◌, Some, ap, arith, drop, sym}
+use Rattle.std.proofs.Common.{◌+◌, ap, arith, drop}
 use Rattle.mp4_grammar.specs.declared.kinds.Kind.TheVariants.{Mdat}
 use Rattle.mp4_fragment_machine.specs.Working.Wholes.{payload_in}
 use Rattle.mp4_fragment_machine.proofs.FragmentLemmas.{first_fits, moof_len}

@@ -4,7 +4,6 @@ use Rattle.mp4_fragment_machine.specs.States.{Progress}
 use Rattle.mp4_fragment_machine.specs.Working.Steps.{lent_ledger}
 use Rattle.mp4_fragment_machine.specs.declared.state.State.TheVariants as states
 use Rattle.mp4_fragment_machine.proofs.FeedLemmas.{fed}
-use Rattle.mp4_fragment_machine.proofs.FragmentLemmas.{boxes_fit}
 use Rattle.mp4_fragment_machine.proofs.machine.FragmentMachine.check_whole.Goals as goal
 
 abbrev no_writer : Unlent
