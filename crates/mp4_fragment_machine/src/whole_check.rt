@@ -1,9 +1,9 @@
 //! A fragment of which a piece has all, whatever runs it has, that is checked: it is taken where it lies.
 //!
-//! Where its runs follow one another as they are listed, as those of nearly all streams do, no list of them is needed. What it
-//! would claim is counted, and no memory is asked for.
+//! Where its runs follow one another as they are listed, no list of them is needed. What it would claim is counted, and no memory is
+//! asked for.
 //!
-//! If they don't, it is taken as other fragments are.
+//! If they don't, as where the runs of two tracks take turns in the mdat, it is taken as other fragments are: the look was in vain.
 
 ghost use Rattle.std.specs.Prelude.{◌≡◌, ◌+◌, ◌*◌, ◌≤◌, [], length, None, Ok, Some, IfSome, IsSome};
 ghost use Rattle.mp4_box.specs.declared.headers.Header.{Header};
