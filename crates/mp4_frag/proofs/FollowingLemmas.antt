@@ -27,8 +27,8 @@ use Rattle.mp4_frag.specs.Moofs.{moof_of, moof_runs, moof_truns}
 use Rattle.mp4_frag.specs.Places.{listed_run, place_fault, run_place_fault}
 use Rattle.mp4_frag.specs.RunLists.{moof_listing, taken_runs}
 use Rattle.mp4_frag.specs.Rows.{rows_of, sizes}
-use Rattle.mp4_frag.specs.Runs.{MoofBytes, end_place}
-use Rattle.mp4_frag.specs.Working.Following.{all_follow, bytes_with, follows, past_run, past_runs, runs_of_trafs}
+use Rattle.mp4_frag.specs.Runs.{MoofBytes, end_place, runs_of, traf_of}
+use Rattle.mp4_frag.specs.Working.Following.{all_follow, bytes_with, follows, past_run, past_runs, runs_of_trafs, timed_run}
 use Rattle.mp4_frag.proofs.ListingLemmas.{is_listing}
 use Rattle.mp4_frag.proofs.MoofListLemmas.{IsMoof, claim_is, runs_are}
 use Rattle.mp4_frag.proofs.ReadRunLemmas.{IsSummed, trafs_summed}
@@ -54,6 +54,30 @@ past_runs_append e (x ∷ xs) ys = past_runs_append (past_run e x) xs ys
 
 pub bytes_append : (xs ys : List Run) → sum_by bytes_with (xs ++ ys) ≡ sum_by bytes_with xs + sum_by bytes_with ys
 bytes_append xs ys = sum_by-append bytes_with xs ys
+
+pub timed_append : (xs ys : List Run) → sum_by timed_run (xs ++ ys) ≡ sum_by timed_run xs + sum_by timed_run ys
+timed_append xs ys = sum_by-append timed_run xs ys
+
+-- past the first of some trafs
+
+module _ (h : MoofBytes) (tracks : List Track) (all rest : List Box) (t : Box) (steps : all ≡ t ∷ rest) where
+  pub follow_on : (p : Payload) (e last : ℤ) (x : Bool) → all_follow p e (runs_of (traf_of h tracks t)) ≡ true → last ≡ past_runs e (runs_of (traf_of h tracks t)) → all_follow p e (runs_of_trafs h tracks all) ≡ x → all_follow p last (runs_of_trafs h tracks rest) ≡ x
+  follow_on p e last x here is whole =
+      ap (λ (n : ℤ). all_follow p n (runs_of_trafs h tracks rest)) is
+      ∙ (ap (λ (b : Bool). b && all_follow p (past_runs e (runs_of (traf_of h tracks t))) (runs_of_trafs h tracks rest)) (sym here)
+      ∙ (sym (all_follow_append p e (runs_of (traf_of h tracks t)) (runs_of_trafs h tracks rest))
+      ∙ (ap (λ (bs : List Box). all_follow p e (runs_of_trafs h tracks bs)) (sym steps) ∙ whole)))
+
+  pub past_on : (e last x : ℤ) → last ≡ past_runs e (runs_of (traf_of h tracks t)) → past_runs e (runs_of_trafs h tracks all) ≡ x → past_runs last (runs_of_trafs h tracks rest) ≡ x
+  past_on e last x is whole =
+      ap (λ (n : ℤ). past_runs n (runs_of_trafs h tracks rest)) is
+      ∙ (sym (past_runs_append e (runs_of (traf_of h tracks t)) (runs_of_trafs h tracks rest))
+      ∙ (ap (λ (bs : List Box). past_runs e (runs_of_trafs h tracks bs)) (sym steps) ∙ whole))
+
+  pub sum_on : (f : Run → ℕ) (n more x : ℕ) → more ≡ n + sum_by f (runs_of (traf_of h tracks t)) → n + sum_by f (runs_of_trafs h tracks all) ≡ x → more + sum_by f (runs_of_trafs h tracks rest) ≡ x
+  sum_on f n more x is whole =
+      let both = ap (λ (bs : List Box). sum_by f (runs_of_trafs h tracks bs)) steps ∙ sum_by-append f (runs_of (traf_of h tracks t)) (runs_of_trafs h tracks rest) in
+      omega (arith, both, is, whole)
 
 -- ---- what that means
 

@@ -28,3 +28,4 @@ pub mod TrackFitLemmas
 pub mod CursorLemmas
 pub mod ReadRunLemmas
 pub mod FollowingLemmas
+pub mod TrafEndLemmas

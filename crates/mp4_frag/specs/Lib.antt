@@ -15,6 +15,7 @@ pub mod ListsOfRuns
 pub mod Ranges
 pub mod After
 pub mod Settling
+pub mod TrafEnds
 pub mod LoneRuns
 pub mod Laws
 pub mod Places

@@ -61,7 +61,12 @@ fn push_traf(rows: &mut Rows64, held: &[u8], moof: u64, tracks: &TrackList, traf
     ensures fits { All FitsKeys (listed_words rows.new.rows) }
     ensures cap { rows.new.cap ≡ rows.old.cap }
 {
-    let RunsOf { tfhd, runs } = runs_of(held, moof, tracks, traf);
+    let RunsOf {
+        tfhd,
+        track: _,
+        time: _,
+        runs,
+    } = runs_of(held, moof, tracks, traf);
     push_runs(rows, tfhd, runs);
 }
 

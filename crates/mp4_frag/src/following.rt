@@ -1,6 +1,6 @@
 //! Runs that follow one another as they are listed: none is at fault by its place then, and no list of them is needed.
 
-ghost use Rattle.std.specs.Prelude.{ℕ, ◌≡◌, ◌+◌, ◌^◌, ◌<◌, ◌≤◌, ◌≤ℤ◌, ◌∷◌, [], length, pos, true, Some, None, IfSome, IsSome, IsTrue};
+ghost use Rattle.std.specs.Prelude.{ℕ, ◌≡◌, ◌+◌, ◌^◌, ◌<◌, ◌≤◌, ◌≤ℤ◌, ◌∷◌, ◌++◌, [], length, map, pos, take, true, Some, None, IfSome, IsSome, IsTrue};
 ghost use Rattle.std.specs.List.{AllByRecursion, list_all, sum_by};
 ghost use Rattle.mp4_box.specs.Headers.{IsWhole};
 ghost use Rattle.mp4_box.specs.Paths.{at_path};
@@ -12,8 +12,9 @@ ghost use Rattle.mp4_frag.specs.Moofs.{IsRead, moof_of, moof_runs, moof_samples,
 ghost use Rattle.mp4_frag.specs.Places.{place_fault};
 ghost use Rattle.mp4_frag.specs.Ranges.{InRange, IsSound};
 ghost use Rattle.mp4_frag.specs.RunLists.{moof_listing, taken_runs};
-ghost use Rattle.mp4_frag.specs.Runs.{begins_early, moof_at, traf_of};
-ghost use Rattle.mp4_frag.specs.Working.Following.{all_follow, bytes_with, follows, past_run, past_runs, runs_of_trafs};
+ghost use Rattle.mp4_frag.specs.Runs.{begins_early, last_end, moof_at, runs_of, traf_of};
+ghost use Rattle.mp4_frag.specs.TrafEnds.{AreEndsOf, few_trafs, traf_end};
+ghost use Rattle.mp4_frag.specs.Working.Following.{all_follow, bytes_with, ends_by, follows, past_run, past_runs, runs_of_trafs, timed_run};
 
 use crate::at_once::LATE;
 use crate::children::children_of;
@@ -25,26 +26,33 @@ use crate::run::Run;
 use crate::runs::Runs;
 use crate::start::{RunsOf, runs_of};
 use crate::traf::base_of;
+use crate::traf_ends::{TrafEnd, TrafEnds};
 use mp4_box::{BoxRef, whole_box};
 use mp4_init::TrackList;
 use mp4_run_order::Payload;
 
 /// The runs of a moof that follow one another as they are listed.
-#[derive(Clone, Copy, Debug, PartialEq, Eq)]
+#[derive(Drop)]
 pub struct Following {
     /// How many there are.
     pub runs: u64,
     /// How many bytes their samples have.
     pub bytes: u64,
+    /// Where its trafs end.
+    pub ends: TrafEnds,
 }
 
-/// Where the runs so far end, and how many bytes they have.
+/// Where the runs so far end, and what they come to.
 #[derive(Clone, Copy)]
 struct Followed {
     /// The stream offset behind the last of them that has samples.
     end: i128,
     /// How many bytes those with samples have.
     bytes: u64,
+    /// When the last of its traf ends, in ticks.
+    time: u64,
+    /// How many samples have durations of their own.
+    timed: u32,
 }
 
 /// No run so far, in a payload.
@@ -52,10 +60,25 @@ struct Followed {
 fn before_all(payload: Payload) -> Followed
     ensures end { result.end ≡ pos payload.start }
     ensures bytes { result.bytes ≡ 0 }
+    ensures timed { result.timed ≡ 0 }
 {
     Followed {
         end: i128::from(payload.start),
         bytes: 0,
+        time: 0,
+        timed: 0,
+    }
+}
+
+/// How many samples of a run have durations of their own: all or none.
+#[inline(always)]
+fn timed_in(run: &Run) -> u32
+    ensures { result ≡ timed_run run.now }
+{
+    if run.fields.sample_duration.is_some() {
+        run.count
+    } else {
+        0
     }
 }
 
@@ -65,11 +88,16 @@ fn before_all(payload: Payload) -> Followed
 fn follow_run(payload: Payload, run: &Run, so_far: &mut Followed) -> bool
     requires range { InRange run.now }
     requires room { pos (payload.start + so_far.old.bytes) ≤ℤ so_far.old.end }
+    requires few { so_far.old.timed + timed_run run.now < 2 ^ 32 }
     ensures is { result ≡ follows payload so_far.old.end run.now }
     ensures end { IsTrue result → so_far.new.end ≡ past_run so_far.old.end run.now }
     ensures bytes { IsTrue result → so_far.new.bytes ≡ so_far.old.bytes + bytes_with run.now }
     ensures room { IsTrue result → pos (payload.start + so_far.new.bytes) ≤ℤ so_far.new.end }
+    ensures time { so_far.new.time ≡ run.now.end }
+    ensures timed { so_far.new.timed ≡ so_far.old.timed + timed_run run.now }
 {
+    so_far.time = run.end;
+    so_far.timed += timed_in(run);
     if run.count == 0 {
         return true;
     }
@@ -87,11 +115,15 @@ fn follow_run(payload: Payload, run: &Run, so_far: &mut Followed) -> bool
 fn follow_runs(payload: Payload, runs: Runs<'_>, so_far: &mut Followed) -> bool
     requires range { AllByRecursion InRange runs }
     requires room { pos (payload.start + so_far.old.bytes) ≤ℤ so_far.old.end }
+    requires few { so_far.old.timed + sum_by timed_run runs < 2 ^ 32 }
     ensures is { result ≡ all_follow payload so_far.old.end runs.entry }
     ensures end { IsTrue result → so_far.new.end ≡ past_runs so_far.old.end runs.entry }
     ensures bytes { IsTrue result →
         so_far.new.bytes ≡ so_far.old.bytes + sum_by bytes_with runs.entry }
     ensures room { IsTrue result → pos (payload.start + so_far.new.bytes) ≤ℤ so_far.new.end }
+    ensures time { IsTrue result → so_far.new.time ≡ last_end so_far.old.time runs.entry }
+    ensures timed { IsTrue result →
+        so_far.new.timed ≡ so_far.old.timed + sum_by timed_run runs.entry }
 {
     for run in runs {
         if !follow_run(payload, &run, so_far) {
@@ -101,8 +133,54 @@ fn follow_runs(payload: Payload, runs: Runs<'_>, so_far: &mut Followed) -> bool
     true
 }
 
+/// Goes on behind the runs of a traf, in the moof that begins at this offset, if each follows those before it: whether they do.
+/// Where the traf ends is kept then.
+#[inline(always)]
+fn follow_traf(
+    payload: Payload,
+    held: &[u8],
+    offset: u64,
+    traf: &BoxRef<'_>,
+    tracks: &TrackList,
+    so_far: &mut Followed,
+    ends: &mut TrafEnds,
+) -> bool
+    requires sound { IsSound (traf_of (moof_at held.now offset) tracks.now (view traf.now)) }
+    requires room { pos (payload.start + so_far.old.bytes) ≤ℤ so_far.old.end }
+    requires few { so_far.old.timed + sum_by timed_run (runs_of
+        (traf_of (moof_at held.now offset) tracks.now (view traf.now))) < 2 ^ 32 }
+    ensures is { result ≡ all_follow payload so_far.old.end (runs_of
+        (traf_of (moof_at held.now offset) tracks.now (view traf.now))) }
+    ensures end { IsTrue result → so_far.new.end ≡ past_runs so_far.old.end (runs_of
+        (traf_of (moof_at held.now offset) tracks.now (view traf.now))) }
+    ensures bytes { IsTrue result → so_far.new.bytes ≡ so_far.old.bytes + sum_by bytes_with
+        (runs_of (traf_of (moof_at held.now offset) tracks.now (view traf.now))) }
+    ensures room { IsTrue result → pos (payload.start + so_far.new.bytes) ≤ℤ so_far.new.end }
+    ensures timed { IsTrue result → so_far.new.timed ≡ so_far.old.timed + sum_by timed_run
+        (runs_of (traf_of (moof_at held.now offset) tracks.now (view traf.now))) }
+    ensures ends { IsTrue result → ends.new.ends.items ≡ take few_trafs (ends.old.ends.items ++
+        traf_end (traf_of (moof_at held.now offset) tracks.now (view traf.now)) ∷ []) }
+{
+    let RunsOf {
+        tfhd: _,
+        track,
+        time,
+        runs,
+    } = runs_of(held, offset, tracks, traf);
+    so_far.time = time;
+    if !follow_runs(payload, runs, so_far) {
+        return false;
+    }
+    ends.push(TrafEnd {
+        track,
+        time: so_far.time,
+    });
+    true
+}
+
 /// Goes on behind the runs of the trafs of a moof that begins at this offset, if each follows those before it: whether they do.
-#[tactic(auto, using(crate::proofs::FollowingLemmas::all_follow_append, crate::proofs::FollowingLemmas::past_runs_append, crate::proofs::FollowingLemmas::bytes_append), unfolding(crate::specs::Working::Following::all_follow, crate::specs::Working::Following::past_runs))]
+/// Where the trafs end is kept then.
+#[tactic(auto, using(crate::proofs::FollowingLemmas::all_follow_append, crate::proofs::FollowingLemmas::past_runs_append, crate::proofs::FollowingLemmas::bytes_append, crate::proofs::FollowingLemmas::timed_append), unfolding(crate::specs::Working::Following::all_follow, crate::specs::Working::Following::past_runs))]
 fn follow_trafs(
     payload: Payload,
     held: &[u8],
@@ -110,10 +188,14 @@ fn follow_trafs(
     moof: &BoxRef<'_>,
     tracks: &TrackList,
     so_far: &mut Followed,
+    ends: &mut TrafEnds,
 ) -> bool
     requires sound { AllByRecursion (λ t. IsSound (traf_of (moof_at held.now offset)
         tracks.now t)) (at_path (traf ∷ []) (view moof.now)) }
     requires room { pos (payload.start + so_far.old.bytes) ≤ℤ so_far.old.end }
+    requires few { so_far.old.timed + sum_by timed_run (runs_of_trafs
+        (moof_at held.now offset) tracks.now (at_path (traf ∷ []) (view moof.now))) < 2 ^ 32 }
+    requires fits { take few_trafs ends.old.ends.items ≡ ends.old.ends.items }
     ensures is { result ≡ all_follow payload so_far.old.end (runs_of_trafs
         (moof_at held.now offset) tracks.now (at_path (traf ∷ []) (view moof.now))) }
     ensures end { IsTrue result → so_far.new.end ≡ past_runs so_far.old.end (runs_of_trafs
@@ -121,21 +203,33 @@ fn follow_trafs(
     ensures bytes { IsTrue result → so_far.new.bytes ≡ so_far.old.bytes + sum_by bytes_with
         (runs_of_trafs (moof_at held.now offset) tracks.now (at_path (traf ∷ []) (view moof.now))) }
     ensures room { IsTrue result → pos (payload.start + so_far.new.bytes) ≤ℤ so_far.new.end }
+    ensures timed { IsTrue result → so_far.new.timed ≡ so_far.old.timed + sum_by timed_run
+        (runs_of_trafs (moof_at held.now offset) tracks.now (at_path (traf ∷ []) (view moof.now))) }
+    ensures ends { IsTrue result → ends.new.ends.items ≡ take few_trafs (ends.old.ends.items ++
+        ends_by (moof_at held.now offset) tracks.now (at_path (traf ∷ []) (view moof.now))) }
 {
     for traf in children_of(TRAF, moof) {
-        let RunsOf { tfhd: _, runs } = runs_of(held, offset, tracks, &traf);
-        if !follow_runs(payload, runs, so_far) {
+        if !follow_traf(payload, held, offset, &traf, tracks, so_far, ends) {
             return false;
         }
     }
     true
 }
 
-/// How many bytes the samples of the moof have that the bytes are, which begin at this offset, if its runs follow one another.
-fn bytes_in_order(held: &[u8], offset: u64, payload: Payload, tracks: &TrackList) -> Option<u64>
+/// How many bytes the samples of the moof have that the bytes are, which begin at this offset, if its runs follow one another. Where
+/// its trafs end is kept then.
+#[inline(always)]
+fn bytes_in_order(
+    held: &[u8],
+    offset: u64,
+    payload: Payload,
+    tracks: &TrackList,
+    ends: &mut TrafEnds,
+) -> Option<u64>
     requires whole { IsWhole held.now }
     requires room { offset + length held.now ≤ 2 ^ 62 }
     requires read { IsRead (moof_at held.now offset) tracks.now }
+    requires empty { ends.old.ends.items ≡ [] }
     ensures some { IsSome result →
         AllFollow payload (moof_listing (moof_at held.now offset) tracks.now) }
     ensures all { AllFollow payload (moof_listing (moof_at held.now offset) tracks.now) →
@@ -148,12 +242,14 @@ fn bytes_in_order(held: &[u8], offset: u64, payload: Payload, tracks: &TrackList
         (taken_runs (moof_at held.now offset) tracks.now)) }
     ensures within { IfSome result (λ b. (end : ℕ) → payload.end ≡ Some end →
         payload.start ≤ end → payload.start + b ≤ end) }
+    ensures ends { IsSome result → AreEndsOf ends.new (moof_at held.now offset) tracks.now }
 {
     let mut so_far = before_all(payload);
     let moof = whole_box(held, offset);
-    if !follow_trafs(payload, held, offset, &moof, tracks, &mut so_far) {
+    if !follow_trafs(payload, held, offset, &moof, tracks, &mut so_far, ends) {
         return None;
     }
+    ends.set_timed(so_far.timed);
     Some(so_far.bytes)
 }
 
@@ -186,6 +282,7 @@ impl<'a> Moof<'a> {
     /// before it end, or behind that; none where one doesn't. Such runs all stand where they may ([`Moof::places`]), and no list
     /// of them is claimed to say so. `tracks` are those that it was read with. Its samples are counted in `steps` as rows that
     /// were read, as [`Moof::list`] counts them; where there is nothing to answer none is counted, though some may have been read.
+    #[inline(always)]
     pub fn following(
         &self,
         payload: Payload,
@@ -202,16 +299,19 @@ impl<'a> Moof<'a> {
             (taken_runs self.now tracks.now)) }
         ensures within { IfSome result (λ f. (end : ℕ) → payload.end ≡ Some end →
             payload.start ≤ end → payload.start + f.bytes ≤ end) }
+        ensures ends { IfSome result (λ f. AreEndsOf f.ends self.now tracks.now) }
         ensures walked { IsSome result → steps.new.rows ≡ steps.old.rows + moof_samples self.now }
         ensures unwalked { result ≡ None → steps.new ≡ steps.old }
     {
-        let Some(bytes) = bytes_in_order(self.held, self.offset, payload, tracks) else {
+        let mut ends = TrafEnds::new();
+        let Some(bytes) = bytes_in_order(self.held, self.offset, payload, tracks, &mut ends) else {
             return None;
         };
         steps.rows += u128::from(self.samples());
         Some(Following {
             runs: self.truns_len(),
             bytes,
+            ends,
         })
     }
 }

@@ -58,6 +58,7 @@ mod tfdt;
 mod tfhd;
 mod times;
 mod traf;
+mod traf_ends;
 mod trun;
 mod usual;
 
@@ -71,3 +72,4 @@ pub use run::Run;
 pub use run_list::RunList;
 pub use runs::Runs;
 pub use traf::{Traf, Trafs};
+pub use traf_ends::TrafEnds;

@@ -13,6 +13,7 @@ ghost use Rattle.mp4_frag.specs.Repeats.{repeat_faults, trafs_of};
 ghost use Rattle.mp4_frag.specs.Rules.{count_faults, form_faults, most_samples};
 ghost use Rattle.mp4_frag.specs.Runs.{MoofBytes, moof_at};
 ghost use Rattle.mp4_frag.specs.Settling.{settled, timed_of};
+ghost use Rattle.mp4_frag.specs.TrafEnds.{AreEndsOf};
 
 use crate::at_once::{Sound, ended_early, look_at};
 use crate::checks::{FlagsOnce, OfTrack};
@@ -24,6 +25,7 @@ use crate::rules::{note_children, note_count, note_forms};
 use crate::settle::settle_in;
 use crate::times::InTime;
 use crate::traf::Trafs;
+use crate::traf_ends::TrafEnds;
 use mp4_box::{BoxRef, Fault, check_tree, note_along, whole_box};
 use mp4_init::TrackList;
 use std::marker::Model;
@@ -396,5 +398,26 @@ impl<'a> Moof<'a> {
     {
         let timed = settle_in(self.held, self.offset, tracks);
         steps.rows += u128::from(timed);
+    }
+
+    /// The same as [`Moof::settle`], where it was kept where the trafs end ([`Moof::following`]): they are gone over only where
+    /// more of them are than are kept.
+    #[inline(always)]
+    #[tactic(auto, using(crate::proofs::SettleLemmas::settled_length))]
+    pub fn settle_by(&self, ends: &TrafEnds, tracks: &mut TrackList, steps: &mut Steps)
+        requires read { IsRead self.now tracks.old }
+        requires ends { AreEndsOf ends.now self.now tracks.old }
+        requires steps { steps.old.rows < 2 ^ 127 }
+        ensures tracks { tracks.new ≡ settled tracks.old (moof_trafs self.now tracks.old) }
+        ensures len { length tracks.new ≡ length tracks.old }
+        ensures walked { steps.new.rows ≡ steps.old.rows + timed_of (moof_of self.now) }
+        ensures few { steps.new.rows ≤ steps.old.rows + moof_samples self.now }
+    {
+        if !ends.has_room() {
+            self.settle(tracks, steps);
+            return;
+        }
+        ends.settle(tracks);
+        steps.rows += u128::from(ends.timed());
     }
 }

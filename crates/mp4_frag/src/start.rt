@@ -138,10 +138,14 @@ pub(crate) fn start_of<'a>(
     }
 }
 
-/// The runs of a traf, and where its tfhd begins.
+/// The runs of a traf, its track and its base time, and where its tfhd begins.
 #[derive(Drop)]
 pub(crate) struct RunsOf<'a> {
     pub(crate) tfhd: u64,
+    /// The track_ID of its track.
+    pub(crate) track: u32,
+    /// Its base time.
+    pub(crate) time: u64,
     pub(crate) runs: Runs<'a>,
 }
 
@@ -168,6 +172,10 @@ pub(crate) fn runs_of<'a>(
     requires { IsSound (traf_of (moof_at held.now moof) tracks.now
         (view traf.now)) }
     ensures tfhd { result.tfhd ≡ tfhd_at (view traf.now) }
+    ensures track { result.track ≡ (traf_of (moof_at held.now moof) tracks.now
+        (view traf.now)).shared.header.track }
+    ensures time { result.time ≡
+        (traf_of (moof_at held.now moof) tracks.now (view traf.now)).time }
     ensures runs { result.runs ≡
         runs_of (traf_of (moof_at held.now moof) tracks.now (view traf.now)) }
 {
@@ -182,6 +190,8 @@ pub(crate) fn runs_of<'a>(
     let behind = before_runs(time, moof);
     RunsOf {
         tfhd,
+        track: context.header.track,
+        time,
         runs: Runs::among(&context, &behind, rest),
     }
 }

@@ -10,6 +10,7 @@ ghost use Rattle.mp4_box.specs.declared.headers.Header.{Header};
 ghost use Rattle.mp4_frag.specs.Moofs.{IsRead, moof_runs, moof_samples};
 ghost use Rattle.mp4_frag.specs.Places.{place_fault};
 ghost use Rattle.mp4_frag.specs.Runs.{moof_at};
+ghost use Rattle.mp4_frag.specs.TrafEnds.{AreEndsOf};
 ghost use Rattle.mp4_ledger.specs.Memory.{claimed, given_back};
 ghost use Rattle.mp4_machine.specs.Pieces.{around};
 ghost use Rattle.mp4_machine.specs.Readings.{plus};
@@ -30,7 +31,7 @@ use crate::machine::FragmentMachine;
 use crate::slot::go_to;
 use crate::state::{Counter, Kept};
 use crate::whole_fragment::{Boxes, ROW, payload_behind};
-use mp4_frag::Moof;
+use mp4_frag::{Moof, TrafEnds};
 use mp4_grammar::Command;
 use mp4_init::TrackList;
 use mp4_ledger::Ledger;
@@ -39,8 +40,16 @@ use mp4_recut::Plan;
 /// No moof that is held has so many runs.
 const MOST_RUNS: u64 = 1 << 32;
 
+/// A fragment that was counted: its moof, and where the trafs of the moof end.
+#[derive(Drop)]
+struct Counted<'a> {
+    moof: Moof<'a>,
+    ends: TrafEnds,
+}
+
 /// Reads the moof of a fragment, and counts the fragment, where its trafs have early times of their own, nothing is at fault with
-/// it, its runs follow one another, and the moof and their list might be claimed: its moof. The tracks don't end yet.
+/// it, its runs follow one another, and the moof and their list might be claimed. The tracks don't end yet.
+#[inline(always)]
 fn count_checked<'a>(
     at: u64,
     boxes: &Boxes<'a>,
@@ -48,10 +57,11 @@ fn count_checked<'a>(
     tracks: &TrackList,
     counter: &mut Counter,
     ledger: &mut Ledger,
-) -> Option<Moof<'a>>
+) -> Option<Counted<'a>>
     requires are { AreBoxes at piece.now boxes.now }
     requires counted { IsCounted (plans.List Check) counter.old at 0 0 }
-    ensures moof { IfSome result (λ m. m ≡ moof_at boxes.now.moof.now at) }
+    ensures moof { IfSome result (λ c. c.moof ≡ moof_at boxes.now.moof.now at) }
+    ensures ends { IfSome result (λ c. AreEndsOf c.ends (moof_at boxes.now.moof.now at) tracks.now) }
     ensures read { IsSome result → IsRead (moof_at boxes.now.moof.now at) tracks.now }
     ensures placed { (are : AreBoxes at piece.now boxes.now) → IsSome result → place_fault
         (payload_in (at + are.span.size) boxes.now.mdat)
@@ -89,7 +99,10 @@ fn count_checked<'a>(
     let samples = u64::from(moof.samples());
     counter.tally.walked += u128::from(samples);
     count(counter, samples, following.bytes);
-    Some(moof)
+    Some(Counted {
+        moof,
+        ends: following.ends,
+    })
 }
 
 /// Takes a fragment that is checked, where it may be taken so: how many bytes it has. Nothing is taken else.
@@ -113,10 +126,11 @@ pub(crate) fn check_fragment(
         unreachable!();
     };
     let mut counter = kept.counter;
-    let Some(moof) = count_checked(at, boxes, piece, list, &mut counter, ledger) else {
+    let Some(Counted { moof, ends }) = count_checked(at, boxes, piece, list, &mut counter, ledger)
+    else {
         return None;
     };
-    moof.settle(list, &mut counter.steps);
+    moof.settle_by(&ends, list, &mut counter.steps);
     kept.counter = counter;
     Some(boxes.moof.len() as u64 + boxes.mdat.size)
 }

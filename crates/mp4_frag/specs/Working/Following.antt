@@ -1,5 +1,5 @@
 -- Working: runs that follow one another as they are listed.
-use Rattle.std.specs.Prelude.{ℕ, ℤ, Bool, true, ◌==◌, ◌&&◌, ◌||◌, if◌then◌else◌, List, [], ◌∷◌, map}
+use Rattle.std.specs.Prelude.{ℕ, ℤ, Option, Some, None, Bool, true, ◌==◌, ◌&&◌, ◌||◌, if◌then◌else◌, List, [], ◌∷◌, map}
 use Rattle.std.specs.Int.Signed.{le_z}
 use Rattle.std.specs.List.{flat_map}
 use Rattle.mp4_box.specs.Trees.{Box}
@@ -8,7 +8,9 @@ use Rattle.mp4_run_order.specs.declared.runs.Payload.{Payload}
 use Rattle.mp4_run_order.specs.Places.{lies_in}
 use Rattle.mp4_frag.specs.declared.run.Run.{Run}
 use Rattle.mp4_frag.specs.Places.{listed_run}
+use Rattle.mp4_frag.specs.declared.traf_ends.TrafEnd.{TrafEnd}
 use Rattle.mp4_frag.specs.Runs.{MoofBytes, end_place, runs_of, traf_of}
+use Rattle.mp4_frag.specs.TrafEnds.{traf_end}
 
 -- a run has no samples, or begins at a place or behind it, and lies in the payload
 unfoldable pub follows : Payload → ℤ → Run → Bool
@@ -35,3 +37,15 @@ bytes_with run = if run.count == 0 then 0 else run.bytes
 -- the runs of some trafs of a moof
 abbrev pub runs_of_trafs : MoofBytes → List Track → List Box → List Run
 runs_of_trafs h tracks ts = flat_map runs_of (map (traf_of h tracks) ts)
+
+-- where some trafs of a moof end
+abbrev pub ends_by : MoofBytes → List Track → List Box → List TrafEnd
+ends_by h tracks ts = map traf_end (map (traf_of h tracks) ts)
+
+-- how many samples of a run have durations of their own
+abbrev pub count_if : Option ℕ → ℕ → ℕ
+count_if None count = 0
+count_if (Some at) count = count
+
+abbrev pub timed_run : Run → ℕ
+timed_run run = count_if run.fields.sample_duration run.count

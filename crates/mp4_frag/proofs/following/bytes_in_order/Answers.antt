@@ -1,11 +1,14 @@
-use Rattle.std.proofs.Common.{◌∙◌, [], ◌∷◌, sym, arith}
+use Rattle.std.proofs.Common.{◌∙◌, [], ◌∷◌, ◌++◌, ap, refl, sym, arith}
+use Rattle.std.specs.Prelude.{take}
 use Rattle.mp4_box.specs.Paths.{at_path}
 use Rattle.mp4_frag.specs.Kinds.{traf}
-use Rattle.mp4_frag.specs.Working.Following.{runs_of_trafs}
+use Rattle.mp4_frag.specs.TrafEnds.{few_trafs}
+use Rattle.mp4_frag.specs.Working.Following.{ends_by, runs_of_trafs}
 use Rattle.mp4_box.specs.Trees.{view}
 use Rattle.mp4_frag.specs.Runs.{MoofBytes}
 use Rattle.mp4_frag.proofs.FollowingLemmas.{bytes_taken, bytes_within, order_found, order_placed, order_told, truns_of}
 use Rattle.mp4_frag.proofs.MoofListLemmas.{is_moof, sound_trafs}
+use Rattle.mp4_frag.proofs.TrafEndLemmas.{ends_are, timed_all, timed_few}
 use Rattle.mp4_frag.proofs.following.bytes_in_order.Goals as goal
 
 pub follow_trafs-requires-clause-sound : goal.follow_trafs-requires-clause-sound
@@ -64,3 +67,27 @@ returns-clause-bytes c =
     let f = is_moof c.args.offset c.args.held.now m c.requires.whole (λ i. (c.type_inv.held i).fits) c.requires.room c.whole_box-moof.ensures in
     let more = c.follow_trafs.ensures.bytes cc in
     bytes_taken h c.args.tracks.now m c.follow_trafs.new.so_far.bytes f (omega (arith, more, c.before_all-so_far.ensures.bytes))
+
+pub follow_trafs-requires-clause-few : goal.follow_trafs-requires-clause-few
+follow_trafs-requires-clause-few c =
+    let h : MoofBytes = record { bytes = c.args.held.now; offset = c.args.offset } in
+    let m = view c.whole_box-moof.result in
+    let f = is_moof c.args.offset c.args.held.now m c.requires.whole (λ i. (c.type_inv.held i).fits) c.requires.room c.whole_box-moof.ensures in
+    let few = timed_few h c.args.tracks.now m f c.requires.read in
+    omega (arith, few, c.before_all-so_far.ensures.timed)
+
+pub follow_trafs-requires-clause-fits : goal.follow_trafs-requires-clause-fits
+follow_trafs-requires-clause-fits c = rw c.requires.empty refl
+
+pub returns-clause-ends : goal.returns-clause-ends
+returns-clause-ends c = λ _.
+    let h : MoofBytes = record { bytes = c.args.held.now; offset = c.args.offset } in
+    let m = view c.whole_box-moof.result in
+    let f = is_moof c.args.offset c.args.held.now m c.requires.whole (λ i. (c.type_inv.held i).fits) c.requires.room c.whole_box-moof.ensures in
+    let more = c.follow_trafs.ensures.timed cc in
+    let timed = timed_all h c.args.tracks.now m f in
+    let ends = c.follow_trafs.ensures.ends cc in
+    record {
+      ends = ap (λ es. es.items) c.set_timed.ensures.ends ∙ (ends ∙ (ap (λ es. take few_trafs (es ++ ends_by h c.args.tracks.now (at_path (traf ∷ []) m))) c.requires.empty ∙ ap (take few_trafs) (ends_are h c.args.tracks.now m f)));
+      timed = omega (arith, more, c.set_timed.ensures.timed, c.before_all-so_far.ensures.timed, timed);
+    }

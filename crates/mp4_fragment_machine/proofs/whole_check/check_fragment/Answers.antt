@@ -27,12 +27,12 @@ returns-clause-taken c = λ u.
     let fit = boxes_fit at piece b are in
     let some = some_moof at piece b are in
     let long = moof_len at piece b are in
-    let tracks = rw did.moof at c.settle.ensures.tracks in
-    let len = rw tracks at c.settle.ensures.len in
-    let few = rw did.moof at c.settle.ensures.few in
-    let more = rw did.moof at c.settle.ensures.walked in
+    let tracks = rw did.moof at c.settle_by.ensures.tracks in
+    let len = rw tracks at c.settle_by.ensures.len in
+    let few = rw did.moof at c.settle_by.ensures.few in
+    let more = rw did.moof at c.settle_by.ensures.walked in
     let account = did.claim cc in
-    let counter : Counter = record { tally = c.count_checked.new.counter.tally; steps = c.settle.new.steps } in
+    let counter : Counter = record { tally = c.count_checked.new.counter.tally; steps = c.settle_by.new.steps } in
     let there : at + length b.moof.now + b.mdat.size ≡ at + (length b.moof.now + b.mdat.size) = omega arith in (
       omega (arith, some, long),
       omega (arith, fit.whole),
