@@ -57,7 +57,7 @@ none_late s time (b ∷ bs) fits small room =
 
 -- ---- the base time and the default duration of a traf
 
-both_true : (a b : Bool) → a && b ≡ true → (a ≡ true) × (b ≡ true)
+pub both_true : (a b : Bool) → a && b ≡ true → (a ≡ true) × (b ≡ true)
 both_true true b e = (refl, e)
 both_true false b e = absurd cc
 
@@ -95,14 +95,18 @@ short : (tracks : List Track) (bs : List Box) → (length bs == 1) ≡ true → 
 short tracks [] one all = absurd (grind (arith, nat_tests))
 short tracks (b ∷ bs) one all = all.0
 
-traf_in_time : (h : MoofBytes) (tracks : List Track) (t : Box) → IsBytes h.bytes → Lies h t → samples_in (of_kind trun (children t)) ≤ most_samples → has_heads t ≡ true → StartsEarly tracks t → TrafHasTicks tracks t → time_faults_of (traf_of h tracks t) ≡ []
+pub begun_in_time : (h : MoofBytes) (tracks : List Track) (t : Box) → IsBytes h.bytes → Lies h t → samples_in (of_kind trun (children t)) ≤ most_samples → StartsEarly tracks t → (track_of tracks t).duration < 2 ^ 32 → time_faults_of (traf_of h tracks t) ≡ []
 unfolding traf_of
-traf_in_time h tracks t fits lies few heads early ticks =
+begun_in_time h tracks t fits lies few early track =
     let f = traf_of h tracks t in
-    let one = (both_true (has_one tfhd t) (has_few tfdt t) heads).0 in
-    let track : (track_of tracks t).duration < 2 ^ 32 = subst (λ (bs : List Box). (known_track (track_id (payload_of (first_of bs))) tracks).duration < 2 ^ 32) (sym (path_kind tfhd t)) (short tracks (of_kind tfhd (children t)) one ticks) in
     let small : f.shared.header.duration < 2 ^ 32 = number_or_small (tfhd_of t) (fields_of (tfhd_of t)).default_sample_duration (track_of tracks t).duration (tfhd_bytes h t lies) track in
     late_are f.shared f.time (pos h.offset) f.truns ∙ none_late f.shared f.time f.truns fits small (omega (arith, early, few))
+
+traf_in_time : (h : MoofBytes) (tracks : List Track) (t : Box) → IsBytes h.bytes → Lies h t → samples_in (of_kind trun (children t)) ≤ most_samples → has_heads t ≡ true → StartsEarly tracks t → TrafHasTicks tracks t → time_faults_of (traf_of h tracks t) ≡ []
+traf_in_time h tracks t fits lies few heads early ticks =
+    let one = (both_true (has_one tfhd t) (has_few tfdt t) heads).0 in
+    begun_in_time h tracks t fits lies few early
+    (subst (λ (bs : List Box). (known_track (track_id (payload_of (first_of bs))) tracks).duration < 2 ^ 32) (sym (path_kind tfhd t)) (short tracks (of_kind tfhd (children t)) one ticks))
 
 -- ---- the trafs of a moof
 

@@ -13,6 +13,7 @@ pub mod RangeLemmas
 pub mod PlaceLemmas
 pub mod SoundLemmas
 pub mod EarlyLemmas
+pub mod BeginLemmas
 pub mod StartLemmas
 pub mod RunLemmas
 pub mod MoofListLemmas

@@ -1,10 +1,10 @@
 //! What the definitions of a moof's rules, runs and rows imply.
 
-ghost use Rattle.std.specs.Prelude.{◌≡◌, ◌<◌, ◌≤◌, ◌^◌, ◌+◌, ◌*◌, ◌==◌, ℕ, List, [], length};
-ghost use Rattle.std.specs.List.{AllByRecursion, AllPairs, flat_map};
+ghost use Rattle.std.specs.Prelude.{◌≡◌, ◌<◌, ◌≤◌, ◌^◌, ◌+◌, ◌*◌, ◌==◌, ◌∷◌, ℕ, List, [], length, true};
+ghost use Rattle.std.specs.List.{AllByRecursion, AllPairs, flat_map, list_all};
 ghost use Rattle.std.specs.List.Sorted.{IsPermutation};
 ghost use Rattle.mp4_box.specs.Headers.{IsBytes, IsWhole};
-ghost use Rattle.mp4_box.specs.Paths.{of_kind};
+ghost use Rattle.mp4_box.specs.Paths.{at_path, of_kind};
 ghost use Rattle.mp4_box.specs.Trees.{children};
 ghost use Rattle.mp4_init.specs.declared.table.Track.{Track};
 ghost use Rattle.mp4_init.specs.TrackFields.{FitsTrackFields};
@@ -15,15 +15,16 @@ ghost use Rattle.mp4_frag.specs.declared.rows.Cursor.{Cursor};
 ghost use Rattle.mp4_frag.specs.Kinds.{traf};
 ghost use Rattle.mp4_frag.specs.Laws.{TrafRowsAreGroups, in_turn};
 ghost use Rattle.mp4_frag.specs.Cursors.{first_cursor, past};
-ghost use Rattle.mp4_frag.specs.Moofs.{IsRead, moof_faults, moof_of, moof_runs, moof_samples, moof_trafs};
+ghost use Rattle.mp4_frag.specs.Moofs.{IsRead, moof_faults, moof_of, moof_runs, moof_samples, moof_trafs, time_faults};
 ghost use Rattle.mp4_frag.specs.Ranges.{InRange};
 ghost use Rattle.mp4_frag.specs.Repeats.{repeat_faults};
 ghost use Rattle.mp4_frag.specs.Rows.{IsCursor, row_of, rows_of};
+ghost use Rattle.mp4_frag.specs.Rules.{count_faults};
 ghost use Rattle.mp4_frag.specs.RunLists.{moof_listing, taken_runs};
 ghost use Rattle.mp4_frag.specs.ListsOfRuns.{IsListOf};
 ghost use Rattle.mp4_frag.specs.RunLists.{ListedRows};
 ghost use Rattle.mp4_frag.specs.Places.{listed_run};
-ghost use Rattle.mp4_frag.specs.Runs.{MoofBytes, TrackFragment};
+ghost use Rattle.mp4_frag.specs.Runs.{MoofBytes, TrackFragment, begins_early};
 ghost use Rattle.mp4_frag.specs.Settling.{settled};
 ghost use Rattle.mp4_frag.specs.SyncSamples.{is_sync};
 
@@ -65,6 +66,15 @@ pub fn runs_are_in_range()
     ensures { (h : MoofBytes) (tracks : List Track) → IsWhole h.bytes → IsBytes h.bytes →
         h.offset + length h.bytes ≤ 2 ^ 62 → AllByRecursion (λ t. t.size < 2 ^ 32) tracks →
         IsRead h tracks → AllByRecursion InRange (moof_runs h tracks) }
+{}
+
+/// Where the samples of a moof aren't too many and each of its trafs has a time of its own before tick 2^63, each run ends within
+/// 64 bits, whatever its rows say.
+pub fn early_trafs_end_in_time()
+    ensures { (h : MoofBytes) (tracks : List Track) → IsWhole h.bytes → IsBytes h.bytes →
+        AllByRecursion FitsTrackFields tracks → count_faults (moof_of h) ≡ [] →
+        list_all begins_early (at_path (traf ∷ []) (moof_of h)) ≡ true →
+        time_faults (moof_trafs h tracks) ≡ [] }
 {}
 
 /// A list of a moof has just its runs, by place, and those at one place as they are listed.
