@@ -48,6 +48,8 @@ use std::mem::replace;
 pub struct FragmentMachine {
     pub(crate) kept: Kept,
     pub(crate) state: State,
+    /// For how many fragments there is no look where they lie, since the last was in vain. No answer depends on it.
+    pub(crate) pause: u8,
 }
 
 // A contract sees where it is and what it has counted.
@@ -81,6 +83,7 @@ impl FragmentMachine {
                 counter: Counter { tally, steps },
             },
             state: State::Header { at: 0 },
+            pause: 0,
         }
     }
 
@@ -270,43 +273,6 @@ impl FragmentMachine {
         }
     }
 
-    /// Takes the moof at the front of a piece, which has all of it, and what the piece has of the header behind it: how many bytes.
-    ///
-    /// # Errors
-    ///
-    /// As [`take_whole_moof`].
-    fn take_moof<W: Sink>(
-        &mut self,
-        at: u64,
-        moof: &Span,
-        ledger: &mut Ledger,
-        piece: &[u8],
-        out: &mut Block,
-        w: &mut W,
-    ) -> Result<usize, Stop>
-        requires is { StandsFirst Moof at piece.now moof.now }
-        requires most { moof.now.size ≤ most_moof }
-        requires state { self.old.state ≡ states.Header at }
-        requires head { self.old.head ≡ [] }
-        requires known { self.old.tracks ≡ Some (known self.old.tracks) }
-        requires claim { claim_of (place_in self.old) ≤ ledger.old.live }
-        ensures { Feeds (around (sent W.contents W.has_failed w.old w.new) out.old out.new
-            ledger.old ledger.new self.old.counter.tally self.new.counter.tally)
-            self.old self.new piece.now result }
-    {
-        match take_whole_moof(at, moof, piece, &mut self.kept, ledger, out, w) {
-            Ok(Taken { count, state }) => {
-                leave_header(&mut self.state, state);
-                Ok(count)
-            }
-            Err(stop) => {
-                stop_at(&mut self.state);
-                self.give_back(ledger);
-                Err(stop)
-            }
-        }
-    }
-
     /// Takes a few bytes from the front of a piece, wherever it stands but in an mdat that is recut and states its size: how many.
     ///
     /// # Errors
@@ -436,7 +402,11 @@ impl FragmentMachine {
         requires { claim_of (place_in self) ≤ ledger.old.live }
         ensures { ledger.new ≡ given_back ledger.old (claim_of (place_in self)) }
     {
-        let FragmentMachine { kept, state } = self;
+        let FragmentMachine {
+            kept,
+            state,
+            pause: _,
+        } = self;
         let Kept {
             plan: _,
             tracks,

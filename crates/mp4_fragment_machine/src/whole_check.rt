@@ -3,7 +3,8 @@
 //! Where its runs follow one another as they are listed, no list of them is needed. What it would claim is counted, and no memory is
 //! asked for.
 //!
-//! If they don't, as where the runs of two tracks take turns in the mdat, it is taken as other fragments are: the look was in vain.
+//! If they don't, as where the runs of two tracks take turns in the mdat, it is taken as other fragments are: the look was in vain. Then
+//! some fragments are taken without one.
 
 ghost use Rattle.std.specs.Prelude.{◌≡◌, ◌+◌, ◌*◌, ◌≤◌, [], length, None, Ok, Some, IfSome, IsSome};
 ghost use Rattle.mp4_box.specs.declared.headers.Header.{Header};
@@ -39,6 +40,9 @@ use mp4_recut::Plan;
 
 /// No moof that is held has so many runs.
 const MOST_RUNS: u64 = 1 << 32;
+
+/// How many fragments are taken without a look behind one that was looked at in vain: its cost is shared among them.
+const PAUSE: u8 = 31;
 
 /// A fragment that was counted: its moof, and where the trafs of the moof end.
 #[derive(Drop)]
@@ -160,7 +164,12 @@ impl FragmentMachine {
             Plan::List(Command::Check) => {}
             _ => return None,
         }
+        if self.pause > 0 {
+            self.pause -= 1;
+            return None;
+        }
         let Some(size) = check_fragment(at, boxes, piece, &mut self.kept, ledger) else {
+            self.pause = PAUSE;
             return None;
         };
         go_to(&mut self.state, at + size);

@@ -3,19 +3,24 @@
 ghost use Rattle.std.specs.Prelude.{◌≡◌, ◌<◌, ◌≤◌, [], length, Some, OnOk};
 ghost use Rattle.mp4_grammar.specs.Kinds.{most_moof};
 ghost use Rattle.mp4_grammar.specs.declared.kinds.Kind.TheVariants.{Moof};
-ghost use Rattle.mp4_fragment_machine.specs.Places.{Unlent};
-ghost use Rattle.mp4_fragment_machine.specs.States.{known};
+ghost use Rattle.mp4_machine.specs.Ends.{sent};
+ghost use Rattle.mp4_machine.specs.Pieces.{around};
+ghost use Rattle.mp4_fragment_machine.specs.Places.{Unlent, claim_of};
+ghost use Rattle.mp4_fragment_machine.specs.States.{known, place_in};
+ghost use Rattle.mp4_fragment_machine.specs.Working.Feeds.{Feeds};
 ghost use Rattle.mp4_fragment_machine.specs.Working.Steps.{CanStep, Consumes, WaitsPast, lent, lent_ledger};
 ghost use Rattle.mp4_fragment_machine.specs.Working.Wholes.{StandsFirst};
 ghost use Rattle.mp4_fragment_machine.specs.declared.state.State.TheVariants as states;
 
+use crate::machine::FragmentMachine;
 use crate::mdat_header::take_mdat_header;
 use crate::moof::wait;
+use crate::slot::{leave_header, stop_at};
 use crate::state::{Kept, State, Taken, Waiting};
 use crate::whole_fragment::Span;
 use mp4_ends::Sink;
 use mp4_ledger::Ledger;
-use mp4_machine::{Block, Held, Stop};
+use mp4_machine::{Block, Held, Machine, Stop};
 
 /// Holds the moof at the front of a piece that has all of it, and claims the list of its runs: it waits for its mdat then.
 ///
@@ -87,5 +92,44 @@ pub(crate) fn take_whole_moof<W: Sink>(
             state,
         }),
         Err(stop) => Err(stop),
+    }
+}
+
+impl FragmentMachine {
+    /// Takes the moof at the front of a piece, which has all of it, and what the piece has of the header behind it: how many bytes.
+    ///
+    /// # Errors
+    ///
+    /// As [`take_whole_moof`].
+    pub(crate) fn take_moof<W: Sink>(
+        &mut self,
+        at: u64,
+        moof: &Span,
+        ledger: &mut Ledger,
+        piece: &[u8],
+        out: &mut Block,
+        w: &mut W,
+    ) -> Result<usize, Stop>
+        requires is { StandsFirst Moof at piece.now moof.now }
+        requires most { moof.now.size ≤ most_moof }
+        requires state { self.old.state ≡ states.Header at }
+        requires head { self.old.head ≡ [] }
+        requires known { self.old.tracks ≡ Some (known self.old.tracks) }
+        requires claim { claim_of (place_in self.old) ≤ ledger.old.live }
+        ensures { Feeds (around (sent W.contents W.has_failed w.old w.new) out.old out.new
+            ledger.old ledger.new self.old.counter.tally self.new.counter.tally)
+            self.old self.new piece.now result }
+    {
+        match take_whole_moof(at, moof, piece, &mut self.kept, ledger, out, w) {
+            Ok(Taken { count, state }) => {
+                leave_header(&mut self.state, state);
+                Ok(count)
+            }
+            Err(stop) => {
+                stop_at(&mut self.state);
+                self.give_back(ledger);
+                Err(stop)
+            }
+        }
     }
 }
