@@ -9,7 +9,9 @@ use Rattle.mp4_frag.specs.declared.rows.Cursor.{Cursor}
 use Rattle.mp4_frag.specs.Kinds.{mfhd, traf, tfhd, tfdt, trun}
 use Rattle.mp4_frag.specs.Rows.{IsCursor, rows_of, sizes}
 use Rattle.mp4_pieces.specs.declared.piece.Piece.{Piece}
+use Rattle.mp4_pieces.specs.declared.plain.PlainPiece.{PlainPiece}
 use Rattle.mp4_pieces.specs.Pieces.{IsPieceOf, piece_at, rows_in}
+use Rattle.mp4_pieces.specs.PlainPieces.{piece_of, plain_start}
 use Rattle.mp4_pieces.specs.Rooms.{moof}
 use Rattle.mp4_pieces.specs.Sizes.{mdat_header_size, moof_size}
 use Rattle.mp4_cut.specs.Boxes.{box_bytes, version_and_flags}
@@ -40,35 +42,36 @@ unfolding piece_at
 bytes_are held run p is = sym (ap (λ (q : Piece). q.bytes) is.is)
 
 -- a front by the numbers in it
-abbrev front_by : Run → Piece → ℕ → ℕ → ℕ → ℕ → ℕ → ℕ → List ℕ
+abbrev front_by : Run → PlainPiece → ℕ → ℕ → ℕ → ℕ → ℕ → ℕ → List ℕ
 front_by run piece seq moof_bytes traf_bytes trun_bytes count offset =
     big_bytes 4 moof_bytes ++ (moof.0 ++ (box_bytes mfhd (mfhd_payload seq)
     ++ (big_bytes 4 traf_bytes ++ (traf.0 ++ (box_bytes tfhd (tfhd_payload run.track run.entry)
     ++ (box_bytes tfdt (tfdt_payload piece.time)
     ++ (big_bytes 4 trun_bytes ++ (trun.0 ++ (version_and_flags run.version trun_flags ++ (big_bytes 4 count ++ big_bytes 4 offset))))))))))
 
-same_front : (run : Run) (piece : Piece) (seq a b c d e k l m n o : ℕ) → a ≡ k → b ≡ l → c ≡ m → d ≡ n → e ≡ o → front_by run piece seq a b c d e ≡ front_by run piece seq k l m n o
+same_front : (run : Run) (piece : PlainPiece) (seq a b c d e k l m n o : ℕ) → a ≡ k → b ≡ l → c ≡ m → d ≡ n → e ≡ o → front_by run piece seq a b c d e ≡ front_by run piece seq k l m n o
 same_front run piece seq a b c d e k l m n o p q r s t =
     ap (λ (x : ℕ). front_by run piece seq x b c d e) p
     ∙ (ap (λ (x : ℕ). front_by run piece seq k x c d e) q
     ∙ (ap (λ (x : ℕ). front_by run piece seq k l x d e) r
     ∙ (ap (λ (x : ℕ). front_by run piece seq k l m x e) s ∙ ap (λ (x : ℕ). front_by run piece seq k l m n x) t)))
 
-pub front_is : (held : List ℕ) (run : Run) (p : Piece) (seq : ℕ) → IsPieceOf held run p → written_moof p run held seq ≡ moof_front run p seq ++ flat_map sample_bytes (rows_in held run p)
+pub front_is : (held : List ℕ) (run : Run) (p : PlainPiece) (seq : ℕ) → IsPieceOf held run (piece_of held run p) → written_moof (piece_of held run p) run held seq ≡ moof_front run p seq ++ flat_map sample_bytes (rows_in held run (piece_of held run p))
 unfolding moof_front
 front_is held run p seq is =
-    let f = written_fragment held run p in
-    let count = count_is held run p is in
+    let whole : Piece = piece_of held run p in
+    let f = written_fragment held run whole in
+    let count : length (rows_in held run whole) ≡ p.count = count_is held run whole is in
     moof_is_front f seq
-    ∙ ap (λ (x : List ℕ). x ++ flat_map sample_bytes (rows_in held run p))
+    ∙ ap (λ (x : List ℕ). x ++ flat_map sample_bytes (rows_in held run whole))
     (same_front run p seq (8 + length (in_moof f seq)) (8 + length (in_traf f)) (8 + length (trun_of f)) (length f.rows) (data_offset f.rows)
     (moof_size p.count) (68 + 16 * p.count) (20 + 16 * p.count) p.count (moof_size p.count + mdat_header_size p.bytes)
     (omega (arith, length_in_moof f seq, count)) (omega (arith, length_traf f, count)) (omega (arith, length_trun f, count)) count
-    (ap (λ (n : ℕ). moof_size n + mdat_header_size (sizes f.rows)) count ∙ ap (λ (n : ℕ). moof_size p.count + mdat_header_size n) (bytes_are held run p is)))
+    (ap (λ (n : ℕ). moof_size n + mdat_header_size (sizes f.rows)) count ∙ ap (λ (n : ℕ). moof_size p.count + mdat_header_size n) (bytes_are held run whole is)))
 
 -- what is put for a piece, one behind the other
-pub moof_is_put : (held : List ℕ) (run : Run) (p : Piece) (seq : ℕ) (slice front : List ℕ) (at : Cursor) (rows : List Row) → IsPieceOf held run p → slice ≡ front → front ≡ moof_front run p seq → at ≡ start_of p → rows ≡ drop at.row (rows_of run held)
-    → slice ++ flat_map sample_bytes (take p.count rows) ≡ written_moof p run held seq
+pub moof_is_put : (held : List ℕ) (run : Run) (p : PlainPiece) (seq : ℕ) (slice front : List ℕ) (at : Cursor) (rows : List Row) → IsPieceOf held run (piece_of held run p) → slice ≡ front → front ≡ moof_front run p seq → at ≡ plain_start p → rows ≡ drop at.row (rows_of run held)
+    → slice ++ flat_map sample_bytes (take p.count rows) ≡ written_moof (piece_of held run p) run held seq
 moof_is_put held run p seq slice front at rows is a b c d =
     let same : rows ≡ drop p.first (rows_of run held) = d ∙ ap (λ (k : Cursor). drop k.row (rows_of run held)) c in
     ap (λ (x : List ℕ). x ++ flat_map sample_bytes (take p.count rows)) (a ∙ b)

@@ -1,14 +1,14 @@
 //! The boxes of an output fragment (ISO/IEC 14496-12): the moof of a piece of a run, the header of
 //! its mdat, and an index of pieces. `CALLING.md` shows a caller.
 //!
-//! - [`put_moof`] and [`write_moof`]: the moof of a piece;
+//! - [`put_moof`], [`put_plain_moof`] and [`write_moof`]: the moof of a piece;
 //! - [`put_mdat_header`] and [`write_mdat_header`]: the header of its mdat;
 //! - [`put_index`] and [`write_index`]: the index of a group of pieces, which [`group_len`] counts;
 //! - [`laws`]: what the definitions of `specs/` imply. What is written is read again as what it was
 //!   written for.
 //!
 //! The `put` functions go through a block that they are lent, and the `write` functions make one
-//! for the call. How runs are cut is handed on: [`Cut`], [`Piece`], [`Pieces`] and [`room`].
+//! for the call. How runs are cut is handed on: [`Cut`], [`Piece`], [`Pieces`], [`PlainPiece`] and [`room`].
 //!
 //! Each box that is written has a file here and one in `specs/`, with its fields by the standard's
 //! names in their order: mfhd, tfhd, tfdt, trun, moof, mdat, sidx. `specs/Boxes.antt` says how any
@@ -30,7 +30,7 @@ mod trun;
 mod write_fault;
 
 pub use mdat::{put_mdat_header, write_mdat_header};
-pub use moof::{put_moof, write_moof};
-pub use mp4_pieces::{Cut, Piece, Pieces, room};
+pub use moof::{put_moof, put_plain_moof, write_moof};
+pub use mp4_pieces::{Cut, Piece, Pieces, PlainPiece, room};
 pub use sidx::{group_len, put_index, write_index};
 pub use write_fault::WriteFault;

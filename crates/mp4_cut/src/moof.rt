@@ -2,6 +2,7 @@
 
 ghost use Rattle.std.specs.Prelude.{◌≡◌, ◌+◌, ◌≤◌, ◌++◌, length};
 ghost use Rattle.mp4_pieces.specs.Pieces.{IsPieceOf};
+ghost use Rattle.mp4_pieces.specs.PlainPieces.{piece_of};
 ghost use Rattle.mp4_frag.specs.Ranges.{IsRunOf};
 ghost use Rattle.mp4_cut.specs.Working.Fronts.{moof_front};
 ghost use Rattle.mp4_cut.specs.Moof.{written_moof};
@@ -11,7 +12,6 @@ ghost use Rattle.mp4_machine.specs.Puts.{Puts, Writes};
 use crate::fields::Fields;
 use crate::mdat::mdat_header_size;
 use crate::mfhd::put_mfhd;
-use crate::start::start_of;
 use crate::tfdt::put_tfdt;
 use crate::tfhd::put_tfhd;
 use crate::trun::{put_samples, put_trun_front};
@@ -20,7 +20,7 @@ use mp4_box::FourCc;
 use mp4_ends::{Failed, Sink};
 use mp4_frag::Run;
 use mp4_machine::Block;
-use mp4_pieces::Piece;
+use mp4_pieces::{Piece, PlainPiece};
 
 const MOOF: FourCc = FourCc(*b"moof");
 
@@ -28,7 +28,7 @@ const TRAF: FourCc = FourCc(*b"traf");
 
 /// The moof of a piece, as far as its samples.
 #[tactic(auto, unfolding(crate::specs::Working::Fronts::moof_front))]
-fn moof_front(piece: &Piece, run: &Run, sequence_number: u32) -> Fields
+fn moof_front(piece: &PlainPiece, run: &Run, sequence_number: u32) -> Fields
     requires { piece.now.count ≤ 1000000 }
     ensures bytes { result ≡ moof_front run.now piece.now sequence_number }
     ensures len { length result ≡ 92 }
@@ -64,6 +64,28 @@ pub fn put_moof<W: Sink>(
     ensures { Puts (sent W.contents W.has_failed w.old w.new) block.old block.new
         (written_moof piece.now run.now held.now sequence_number) result }
 {
+    put_plain_moof(&PlainPiece::of(piece), run, held, sequence_number, block, w)
+}
+
+/// As [`put_moof`], of a piece without its least composition time, which no moof has.
+///
+/// # Errors
+///
+/// `Failed` where the sink failed.
+pub fn put_plain_moof<W: Sink>(
+    piece: &PlainPiece,
+    run: &Run,
+    held: &[u8],
+    sequence_number: u32,
+    block: &mut Block,
+    w: &mut W,
+) -> Result<(), Failed>
+    requires run { IsRunOf held.now run.now }
+    requires piece { IsPieceOf held.now run.now (piece_of held.now run.now piece.now) }
+    ensures { Puts (sent W.contents W.has_failed w.old w.new) block.old block.new
+        (written_moof (piece_of held.now run.now piece.now) run.now held.now sequence_number)
+        result }
+{
     let front = moof_front(piece, run, sequence_number).whole();
     match block.put_array(w, &front) {
         Ok(()) => {}
@@ -73,7 +95,7 @@ pub fn put_moof<W: Sink>(
     if let Some(groups) = run.whole_groups(held, piece.first, piece.count) {
         return block.put(w, groups);
     }
-    let mut rows = run.rows_from(held, start_of(piece));
+    let mut rows = run.rows_from(held, piece.cursor());
     put_samples(block, w, &mut rows, piece.count)
 }
 

@@ -1,6 +1,7 @@
 pub mod MarkLemmas
 pub mod PassLemmas
 pub mod RowLemmas
+pub mod BetweenLemmas
 pub mod TimeLemmas
 pub mod MoofLemmas
 pub mod AtOnceLemmas

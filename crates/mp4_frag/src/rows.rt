@@ -4,10 +4,11 @@ ghost use Rattle.std.specs.Prelude.{◌≡◌, ◌+◌, ◌*◌, ◌+ℤ◌, ◌
 ghost use Rattle.std.specs.List.{flat_map};
 ghost use Rattle.std.specs.Iterator.{YieldsFirst, item_count};
 ghost use Rattle.mp4_frag.specs.Cursors.{first_cursor, past};
-ghost use Rattle.mp4_frag.specs.Rows.{HasWholeGroups, IsCursor, all_fields, field_at, group_at, offset_at, row_bytes, row_from, rows_behind, rows_of, usual_flags};
+ghost use Rattle.mp4_frag.specs.Rows.{HasWholeGroups, IsCursor, all_fields, durations, field_at, group_at, offset_at, row_bytes, row_from, rows_behind, rows_of, sizes, usual_flags};
 
 use crate::fields::signed_at;
 use crate::run::Run;
+use crate::sums::Sums;
 use crate::trun::SampleFields;
 use mp4_box::number_at;
 use std::marker::Model;
@@ -220,6 +221,28 @@ impl Run {
         }
         let (whole, _) = groups.split_at(len);
         Some(whole)
+    }
+
+    /// The sizes and the durations of `count` rows from row `first` on, added up; nothing else of them is read. `held` are
+    /// the bytes of its moof.
+    #[inline(always)]
+    pub fn sums_between(&self, held: &[u8], first: u32, count: u32) -> Sums
+        requires rows { first + count ≤ self.now.count }
+        ensures bytes { result.bytes ≡ sizes (take count (drop first (rows_of self.now held.now))) }
+        ensures ticks { result.ticks ≡ durations (take count (drop first (rows_of self.now held.now))) }
+    {
+        let mut rest = groups_from(self, held, first);
+        let end = first + count;
+        let mut bytes = 0;
+        let mut ticks = 0;
+        let mut i = first;
+        while i < end {
+            bytes += u64::from(field_at(rest, self.fields.sample_size, self.size));
+            ticks += u64::from(field_at(rest, self.fields.sample_duration, self.duration));
+            rest = behind_group(rest, self.fields.len);
+            i += 1;
+        }
+        Sums { bytes, ticks }
     }
 }
 

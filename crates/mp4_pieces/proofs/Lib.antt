@@ -3,6 +3,7 @@ pub mod FitLemmas
 mod WhatFitsLemmas
 pub mod GrowLemmas
 pub mod PieceLemmas
+pub mod PlainLemmas
 pub mod GroupLemmas
 pub mod RoomLemmas
 pub mod FitsLemmas

@@ -2,6 +2,7 @@ pub mod Allowed
 pub mod Cutting
 pub mod Fitting
 pub mod Pieces
+pub mod PlainPieces
 pub mod Groups
 pub mod Sizes
 pub mod Rooms

@@ -4,6 +4,7 @@ use Rattle.byteorder.specs.Endian.{big_bytes}
 use Rattle.mp4_frag.specs.declared.run.Run.{Run}
 use Rattle.mp4_frag.specs.Kinds.{mfhd, traf, tfhd, tfdt, trun}
 use Rattle.mp4_pieces.specs.declared.piece.Piece.{Piece}
+use Rattle.mp4_pieces.specs.declared.plain.PlainPiece.{PlainPiece}
 use Rattle.mp4_pieces.specs.Rooms.{moof}
 use Rattle.mp4_pieces.specs.Sizes.{mdat_header_size, moof_size}
 use Rattle.mp4_cut.specs.Boxes.{box_bytes, version_and_flags}
@@ -19,7 +20,7 @@ trun_front version samples data_offset =
     big_bytes 4 (20 + 16 * samples) ++ (trun.0 ++ (version_and_flags version trun_flags ++ (big_bytes 4 samples ++ big_bytes 4 data_offset)))
 
 -- the moof of a piece, before its samples
-unfoldable pub moof_front : Run → Piece → ℕ → List ℕ
+unfoldable pub moof_front : Run → PlainPiece → ℕ → List ℕ
 moof_front run piece sequence_number =
     big_bytes 4 (moof_size piece.count) ++ (moof.0 ++ (box_bytes mfhd (mfhd_payload sequence_number)
     ++ (big_bytes 4 (68 + 16 * piece.count) ++ (traf.0 ++ (box_bytes tfhd (tfhd_payload run.track run.entry)

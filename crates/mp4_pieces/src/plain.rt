@@ -1,0 +1,121 @@
+//! A piece of a run without what only an index needs.
+
+ghost use Rattle.std.specs.Prelude.{◌≡◌, ◌+◌, ◌+ℤ◌, ◌<ℤ◌, ◌^◌, ◌<◌, ◌∷◌, pos};
+ghost use Rattle.mp4_frag.specs.Ranges.{IsRunOf};
+ghost use Rattle.mp4_frag.specs.Rows.{IsCursor};
+ghost use Rattle.mp4_pieces.specs.Pieces.{cursor_after, pieces_from};
+ghost use Rattle.mp4_pieces.specs.PlainPieces.{piece_of, plain_at, plain_end, plain_of, plain_start};
+
+use crate::cut::Cut;
+use crate::piece::Piece;
+use crate::pieces::Pieces;
+use mp4_frag::{Cursor, Run};
+
+/// A [`Piece`] without the least composition time of its samples, which only an index needs.
+#[derive(Clone, Copy, Debug, PartialEq, Eq)]
+pub struct PlainPiece {
+    /// The index in the run of its first sample.
+    pub first: u32,
+    /// How many samples it has.
+    pub count: u32,
+    /// The decode time of its first sample.
+    pub time: u64,
+    /// The offset in the stream of its first byte.
+    pub place: i128,
+    /// The sizes of its samples in bytes, added up.
+    pub bytes: u64,
+    /// The durations of its samples, added up.
+    pub duration: u64,
+}
+
+/// The first piece from a cursor on, row by row.
+#[inline(never)]
+fn first_by_row(run: &Run, held: &[u8], cut: &Cut, at: &Cursor) -> PlainPiece
+    requires run { IsRunOf held.now run.now }
+    requires cursor { IsCursor run.now held.now at.now }
+    requires some { at.now.row < run.now.count }
+    ensures { pieces_from cut.now held.now run.now at.now ≡ piece_of held.now run.now result ∷
+        pieces_from cut.now held.now run.now (plain_end result) }
+{
+    let Some(piece) = Pieces::at(run, held, cut, *at).next() else {
+        unreachable!();
+    };
+    PlainPiece::of(&piece)
+}
+
+/// The piece of so many samples from a cursor on, which come to this.
+#[inline(always)]
+fn plain_at(at: &Cursor, count: u32, bytes: u64, duration: u64) -> PlainPiece
+    ensures { result ≡ plain_at at.now count bytes duration }
+{
+    PlainPiece {
+        first: at.row,
+        count,
+        time: at.time,
+        place: at.place,
+        bytes,
+        duration,
+    }
+}
+
+impl PlainPiece {
+    /// A piece without its least composition time.
+    #[inline(always)]
+    pub fn of(piece: &Piece) -> PlainPiece
+        ensures { result ≡ plain_of piece.now }
+    {
+        PlainPiece {
+            first: piece.first,
+            count: piece.count,
+            time: piece.time,
+            place: piece.place,
+            bytes: piece.bytes,
+            duration: piece.duration,
+        }
+    }
+
+    /// The first piece of a run from a cursor on. `held` are the bytes of its moof. Where only the number of samples
+    /// bounds it, nothing but their sizes and durations is read.
+    #[inline(always)]
+    pub fn first(run: &Run, held: &[u8], cut: &Cut, at: &Cursor) -> PlainPiece
+        requires run { IsRunOf held.now run.now }
+        requires cursor { IsCursor run.now held.now at.now }
+        requires some { at.now.row < run.now.count }
+        ensures { pieces_from cut.now held.now run.now at.now ≡ piece_of held.now run.now result ∷
+            pieces_from cut.now held.now run.now (plain_end result) }
+    {
+        if cut.bytes.is_some() || cut.sync {
+            return first_by_row(run, held, cut, at);
+        }
+        let count = cut.samples.min(run.count - at.row);
+        let sums = run.sums_between(held, at.row, count);
+        plain_at(at, count, sums.bytes, sums.ticks)
+    }
+
+    /// The cursor before its first sample.
+    #[inline(always)]
+    pub fn cursor(&self) -> Cursor
+        ensures { result ≡ plain_start self.now }
+    {
+        Cursor {
+            row: self.first,
+            time: self.time,
+            place: self.place,
+        }
+    }
+
+    /// The cursor behind it, where the next piece begins. Each piece of a run ends in range.
+    #[inline(always)]
+    pub fn cursor_after(&self) -> Cursor
+        requires row { self.now.first + self.now.count < 2 ^ 32 }
+        requires time { self.now.time + self.now.duration < 2 ^ 64 }
+        requires place { (self.now.place +ℤ pos self.now.bytes) <ℤ pos (2 ^ 63) }
+        ensures { result ≡ plain_end self.now }
+    {
+        Cursor {
+            row: self.first + self.count,
+            time: self.time + self.duration,
+            place: self.place + i128::from(self.bytes),
+        }
+    }
+}
