@@ -1,32 +1,59 @@
--- Some rows of a run, one after the other.
-use Rattle.std.proofs.Common.{◌≡◌, ℕ, zero, suc, ◌+◌, ◌-◌, ◌<◌, ◌≤◌, List, map, drop, take, refl, ap, sym, ◌∙◌, arith}
+-- The sizes and the durations of some rows of a run, added up by places.
+use Rattle.std.proofs.Common.{◌≡◌, ℕ, zero, suc, ◌+◌, ◌*◌, ◌-◌, ◌<◌, ◌≤◌, List, map, drop, take, refl, ap, sym, ◌∙◌, arith, Option, Some, None}
 use Rattle.std.specs.List.{range_with_len, sum_by}
 use Rattle.std.proofs.lemmas.List.FromFn.{take-map-range_with_len}
-use Rattle.std.proofs.lemmas.List.Sums.{sum_by-cons}
+use Rattle.mp4_box.specs.Fields.{number_in}
 use Rattle.mp4_frag.specs.declared.run.Run.{Run}
 use Rattle.mp4_frag.specs.declared.rows.Row.{Row}
-use Rattle.mp4_frag.specs.Rows.{group_at, row_from, row_of, rows_of}
-use Rattle.mp4_frag.proofs.RowLemmas.{row_behind, rows_dropped}
+use Rattle.mp4_frag.specs.Rows.{durations, field_at, group_at, row_of, rows_of, sizes}
+use Rattle.mp4_frag.specs.Working.Added.{field_numbers, numbers_from}
+use Rattle.mp4_frag.proofs.RowLemmas.{by_place, number_behind, rows_dropped, same_sum}
 
-pub rows_between : (run : Run) (held : List ℕ) (first count : ℕ) → first + count ≤ run.count → take count (drop first (rows_of run held)) ≡ map (row_of run held) (range_with_len first count)
+rows_between : (run : Run) (held : List ℕ) (first count : ℕ) → first + count ≤ run.count → take count (drop first (rows_of run held)) ≡ map (row_of run held) (range_with_len first count)
 rows_between run held first count h =
     ap (take count) (sym (rows_dropped run held first (omega (arith, h))))
     ∙ take-map-range_with_len (row_of run held) first (run.count - first) count (omega (arith, h))
 
--- a number of each, added up: the first and those behind it
-sum_next : (f : Row → ℕ) (run : Run) (held : List ℕ) (i n : ℕ) → 0 < n → sum_by f (map (row_of run held) (range_with_len i n)) ≡ f (row_of run held i) + sum_by f (map (row_of run held) (range_with_len (i + 1) (n - 1)))
-sum_next f run held i zero some = absurd (omega (arith, some))
-sum_next f run held i (suc n) some =
-    let e : n ≡ suc n - 1 = omega arith in
-    sum_by-cons f (row_of run held i) (map (row_of run held) (range_with_len (i + 1) n))
-    ∙ ap (λ (k : ℕ). f (row_of run held i) + sum_by f (map (row_of run held) (range_with_len (i + 1) k))) e
+-- numbers stand as far behind the bytes before them
+numbers_behind : (held : List ℕ) (step g at n : ℕ) → numbers_from (drop g held) step at n ≡ numbers_from held step (g + at) n
+unfolding numbers_from
+numbers_behind held step g at zero = refl
+numbers_behind held step g at (suc n) =
+    ap (λ (k : ℕ). k + numbers_from (drop g held) step (at + step) n) (number_behind held g at)
+    ∙ ap (λ (k : ℕ). number_in held (g + at) + k) (numbers_behind held step g (at + step) n ∙ ap (λ (k : ℕ). numbers_from held step k n) (on g at step))
+  where
+    on : (g at step : ℕ) → g + (at + step) ≡ g + at + step
+    on g at step = omega arith
 
--- the same, where the bytes begin with the group of the first
-pub sum_behind : (f : Row → ℕ) (run : Run) (held rest : List ℕ) (i end now : ℕ) → rest ≡ drop (group_at run i) held → i < end → now ≡ f (row_from run rest i 0)
-    → sum_by f (map (row_of run held) (range_with_len i (end - i))) ≡ now + sum_by f (map (row_of run held) (range_with_len (i + 1) (end - (i + 1))))
-sum_behind f run held rest i end now is some e =
-    let n : end - i - 1 ≡ end - (i + 1) = omega (arith, some) in
-    let row : f (row_of run held i) ≡ now = ap f (sym (row_behind run held i)) ∙ ap (λ (bytes : List ℕ). f (row_from run bytes i 0)) (sym is) ∙ sym e in
-    sum_next f run held i (end - i) (omega (arith, some))
-    ∙ ap (λ (k : ℕ). k + sum_by f (map (row_of run held) (range_with_len (i + 1) (end - i - 1)))) row
-    ∙ ap (λ (k : ℕ). now + sum_by f (map (row_of run held) (range_with_len (i + 1) k))) n
+at_places : (f : Row → ℕ) (run : Run) (held : List ℕ) (at first n : ℕ) → ((j : ℕ) → f (row_of run held j) ≡ number_in held (group_at run j + at))
+    → sum_by f (map (row_of run held) (range_with_len first n)) ≡ numbers_from (drop (group_at run first) held) run.fields.len at n
+unfolding group_at
+at_places f run held at first n is =
+    by_place f run held at first n (run.samples_at + run.fields.len * first + at) is refl
+    ∙ sym (numbers_behind held run.fields.len (run.samples_at + run.fields.len * first) at n)
+
+-- a field of the rows between two, which stands in their groups or has a default
+field_between : (f : Row → ℕ) (run : Run) (held groups : List ℕ) (o : Option ℕ) (usual first n : ℕ) → groups ≡ drop (group_at run first) held → first + n ≤ run.count → ((j : ℕ) → f (row_of run held j) ≡ field_at held (group_at run j) o usual)
+    → field_numbers groups o usual run.fields.len n ≡ sum_by f (take n (drop first (rows_of run held)))
+field_between f run held groups None usual first n e h is = sym (same_sum f (row_of run held) usual first n is) ∙ ap (sum_by f) (sym (rows_between run held first n h))
+field_between f run held groups (Some at) usual first n e h is =
+    ap (λ (bytes : List ℕ). numbers_from bytes run.fields.len at n) e
+    ∙ sym (at_places f run held at first n is)
+    ∙ ap (sum_by f) (sym (rows_between run held first n h))
+
+pub sizes_between : (run : Run) (held groups : List ℕ) (first n : ℕ) → groups ≡ drop (group_at run first) held → first + n ≤ run.count → field_numbers groups run.fields.sample_size run.size run.fields.len n ≡ sizes (take n (drop first (rows_of run held)))
+unfolding row_of
+sizes_between run held groups first n e h = field_between (λ (r : Row). r.size) run held groups run.fields.sample_size run.size first n e h (λ j. refl)
+
+pub durations_between : (run : Run) (held groups : List ℕ) (first n : ℕ) → groups ≡ drop (group_at run first) held → first + n ≤ run.count → field_numbers groups run.fields.sample_duration run.duration run.fields.len n ≡ durations (take n (drop first (rows_of run held)))
+unfolding row_of
+durations_between run held groups first n e h = field_between (λ (r : Row). r.duration) run held groups run.fields.sample_duration run.duration first n e h (λ j. refl)
+
+-- ---- one group less
+
+pub one_less : (a n : ℕ) → 0 < n → a * n ≡ a + a * (n - 1)
+one_less a zero some = absurd (omega (arith, some))
+one_less a (suc n) some = let e : n ≡ suc n - 1 = omega arith in ap (λ (k : ℕ). a * suc k) e ∙ product a (suc n - 1)
+  where
+    product : (a n : ℕ) → a * suc n ≡ a + a * n
+    product a n = omega arith

@@ -48,7 +48,7 @@ length_rows_of run held = length-map-range_with_len (row_of run held) 0 (run.cou
 
 -- ---- sums without a walk
 
-same_sum : {X : Type 0} (f : X → ℕ) (g : ℕ → X) (v a n : ℕ) → ((i : ℕ) → f (g i) ≡ v) → sum_by f (map g (range_with_len a n)) ≡ v * n
+pub same_sum : {X : Type 0} (f : X → ℕ) (g : ℕ → X) (v a n : ℕ) → ((i : ℕ) → f (g i) ≡ v) → sum_by f (map g (range_with_len a n)) ≡ v * n
 same_sum f g v a zero same = omega arith
 same_sum f g v a (suc n) same =
     let e = sum_by-cons f (g a) (map g (range_with_len (a + 1) n)) in
@@ -97,7 +97,7 @@ same_test n g k some = elim (cases_lt n (g + k)) [
 ]
 
 -- a number in them stands as far behind the group
-number_behind : (held : List ℕ) (g at : ℕ) → number_in (drop g held) at ≡ number_in held (g + at)
+pub number_behind : (held : List ℕ) (g at : ℕ) → number_in (drop g held) at ≡ number_in held (g + at)
 number_behind held g at =
     let short : nat_lt (length (drop g held)) (at + 4) ≡ nat_lt (length held) (g + at + 4) =
     ap (λ n. nat_lt n (at + 4)) (length-drop g held) ∙ same_test (length held) g (at + 4) (omega arith) ∙ ap (λ n. nat_lt (length held) n) (omega arith) in
@@ -147,7 +147,7 @@ unfolding numbers_from
 numbers_none held step at zero e = refl
 numbers_none held step at (suc n) e = absurd (omega (arith, e))
 
-by_place : (f : Row → ℕ) (run : Run) (held : List ℕ) (at i n place : ℕ) → ((j : ℕ) → f (row_of run held j) ≡ number_in held (group_at run j + at)) → place ≡ run.samples_at + run.fields.len * i + at
+pub by_place : (f : Row → ℕ) (run : Run) (held : List ℕ) (at i n place : ℕ) → ((j : ℕ) → f (row_of run held j) ≡ number_in held (group_at run j + at)) → place ≡ run.samples_at + run.fields.len * i + at
     → sum_by f (map (row_of run held) (range_with_len i n)) ≡ numbers_from held run.fields.len place n
 unfolding group_at numbers_from
 by_place f run held at i zero place is e = refl

@@ -1,5 +1,5 @@
 -- A piece without its least composition time, and the first piece where only the number of samples bounds it.
-use Rattle.std.proofs.Common.{◌≡◌, ℕ, ℤ, zero, suc, ◌+◌, ◌-◌, ◌<◌, ◌≤◌, Bool, true, false, List, [], ◌∷◌, ◌++◌, length, take, drop, refl, sym, ap, subst, ◌∙◌, arith, inl, inr, append_assoc, append-nil, Option, None, Some}
+use Rattle.std.proofs.Common.{◌≡◌, ℕ, ℤ, zero, suc, ◌+◌, ◌-◌, ◌<◌, ◌≤◌, Bool, true, false, List, [], ◌∷◌, ◌++◌, length, take, drop, refl, sym, ap, ◌∙◌, arith, inl, inr, append_assoc, append-nil, Option, None, Some}
 use Rattle.std.specs.Prelude.{◌&&◌, nat_le}
 use Rattle.std.specs.Option.{is_some}
 use Rattle.std.proofs.lemmas.Bool.{cases_lt, le-leb, leb-true}
@@ -127,6 +127,14 @@ piece_is : (held : List ℕ) (run : Run) (c : Cursor) (count bytes ticks : ℕ) 
 unfolding piece_at
 piece_is held run c count bytes ticks q same len size ticks_are = rw (same, len, size, ticks_are) refl
 
+-- a piece of these samples, and those behind it
+followed_by : (cut : Cut) (held : List ℕ) (run : Run) (c : Cursor) (x : Piece) (q : List Row) (rest : List (List Row)) → IsCursor run held c → cut_rows cut (drop c.row (rows_of run held)) ≡ q ∷ rest → x ≡ piece_at c q → pieces_from cut held run c ≡ x ∷ pieces_from cut held run (cursor_after x)
+unfolding pieces_at
+followed_by cut held run c x q rest at found is =
+    let ps : List Piece = pieces_at (past_rows c q) rest in
+    let e : pieces_from cut held run c ≡ x ∷ ps = ap (pieces_at c) found ∙ ap (λ (y : Piece). y ∷ ps) (sym is) in
+    e ∙ ap (λ (xs : List Piece). x ∷ xs) (sym (goes_on cut held run c x ps at e).rest)
+
 -- the first piece has as many samples as it may, or all that are left
 pub first_counted : (cut : Cut) (held : List ℕ) (run : Run) (c : Cursor) (count bytes ticks : ℕ) → cut.bytes ≡ None → cut.sync ≡ false → 0 < cut.samples → IsCursor run held c → c.row < run.count
     → count ≤ cut.samples → count + c.row ≤ run.count → (count < cut.samples → count + c.row ≡ run.count)
@@ -134,7 +142,6 @@ pub first_counted : (cut : Cut) (held : List ℕ) (run : Run) (c : Cursor) (coun
     → pieces_from cut held run c
     ≡ piece_of held run (plain_at c count bytes ticks)
     ∷ pieces_from cut held run (plain_end (plain_at c count bytes ticks))
-unfolding pieces_at
 first_counted cut held run c count bytes ticks b s some at h few within all bytes_are ticks_are =
     let rows : List Row = drop c.row (rows_of run held) in
     let n : length rows ≡ run.count - c.row = length-drop c.row (rows_of run held) ∙ omega (arith, length_rows_of run held) in
@@ -144,7 +151,4 @@ first_counted cut held run c count bytes ticks b s some at h few within all byte
     let same : take count rows ≡ q = ap (λ (k : ℕ). take k rows) len ∙ take_len cut.samples rows in
     let found = counted_rows cut rows b s some (omega (arith, n, h)) in
     let is = piece_is held run c count bytes ticks q same len (bytes_are ∙ ap sizes same) (ticks_are ∙ ap durations same) in
-    let e : pieces_from cut held run c ≡ piece_at c q ∷ pieces_at (past_rows c q) found.0 = ap (pieces_at c) found.1 in
-    let next = goes_on cut held run c (piece_at c q) (pieces_at (past_rows c q) found.0) at e in
-    let on : pieces_from cut held run c ≡ piece_at c q ∷ pieces_from cut held run (cursor_after (piece_at c q)) = e ∙ ap (λ (xs : List Piece). piece_at c q ∷ xs) (sym next.rest) in
-    subst (λ (x : Piece). pieces_from cut held run c ≡ x ∷ pieces_from cut held run (cursor_after x)) (sym is) on
+    followed_by cut held run c (piece_of held run (plain_at c count bytes ticks)) q found.0 at found.1 is

@@ -85,7 +85,9 @@ impl PlainPiece {
             pieces_from cut.now held.now run.now (plain_end result) }
     {
         if cut.bytes.is_some() || cut.sync {
-            return first_by_row(run, held, cut, at);
+            // A copy, so that only here the piece need be in memory.
+            let piece = first_by_row(run, held, cut, at);
+            return piece;
         }
         let count = cut.samples.min(run.count - at.row);
         let sums = run.sums_between(held, at.row, count);
