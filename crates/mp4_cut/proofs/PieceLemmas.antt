@@ -1,5 +1,5 @@
 -- The moof of a piece is its front and the fields of its samples.
-use Rattle.std.proofs.Common.{◌≡◌, ℕ, ◌+◌, ◌*◌, List, ◌++◌, length, drop, sym, ap, ◌∙◌, arith}
+use Rattle.std.proofs.Common.{◌≡◌, ℕ, ◌+◌, ◌*◌, List, ◌∷◌, ◌++◌, append-nil, length, drop, sym, ap, ◌∙◌, arith}
 use Rattle.std.specs.Prelude.{take}
 use Rattle.std.specs.List.{flat_map}
 use Rattle.byteorder.specs.Endian.{big_bytes}
@@ -7,7 +7,8 @@ use Rattle.mp4_frag.specs.declared.run.Run.{Run}
 use Rattle.mp4_frag.specs.declared.rows.Row.{Row}
 use Rattle.mp4_frag.specs.declared.rows.Cursor.{Cursor}
 use Rattle.mp4_frag.specs.Kinds.{mfhd, traf, tfhd, tfdt, trun}
-use Rattle.mp4_frag.specs.Rows.{IsCursor, rows_of, sizes}
+use Rattle.mp4_frag.specs.Rows.{IsCursor, row_of, rows_behind, rows_of, sizes}
+use Rattle.mp4_frag.proofs.RowLemmas.{rows_dropped, rows_next}
 use Rattle.mp4_pieces.specs.declared.piece.Piece.{Piece}
 use Rattle.mp4_pieces.specs.declared.plain.PlainPiece.{PlainPiece}
 use Rattle.mp4_pieces.specs.Pieces.{IsPieceOf, piece_at, rows_in}
@@ -76,3 +77,15 @@ moof_is_put held run p seq slice front at rows is a b c d =
     let same : rows ≡ drop p.first (rows_of run held) = d ∙ ap (λ (k : Cursor). drop k.row (rows_of run held)) c in
     ap (λ (x : List ℕ). x ++ flat_map sample_bytes (take p.count rows)) (a ∙ b)
     ∙ (ap (λ (rs : List Row). moof_front run p seq ++ flat_map sample_bytes (take p.count rs)) same ∙ sym (front_is held run p seq is))
+
+-- a piece of one sample has its fields alone
+pub one_sample : (held : List ℕ) (run : Run) (p : PlainPiece) (row : Row) → IsPieceOf held run (piece_of held run p) → p.count ≡ 1 → row ≡ row_of run held p.first → sample_bytes row ≡ flat_map sample_bytes (rows_in held run (piece_of held run p))
+one_sample held run p row is one e =
+    let within = is.within in
+    let some = is.some in
+    let first : drop p.first (rows_of run held) ≡ row_of run held p.first ∷ rows_behind run held (p.first + 1) =
+    sym (rows_dropped run held p.first (omega (arith, within))) ∙ rows_next run held p.first (omega (arith, within, some)) in
+    ap sample_bytes e
+    ∙ sym (append-nil (sample_bytes (row_of run held p.first)))
+    ∙ ap (λ (rows : List Row). flat_map sample_bytes (take 1 rows)) (sym first)
+    ∙ ap (λ (n : ℕ). flat_map sample_bytes (take n (drop p.first (rows_of run held)))) (sym one)

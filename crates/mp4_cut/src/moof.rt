@@ -14,7 +14,7 @@ use crate::mdat::mdat_header_size;
 use crate::mfhd::put_mfhd;
 use crate::tfdt::put_tfdt;
 use crate::tfhd::put_tfhd;
-use crate::trun::{put_samples, put_trun_front};
+use crate::trun::{put_samples, put_trun_front, sample_bytes};
 use crate::write_fault::WriteFault;
 use mp4_box::FourCc;
 use mp4_ends::{Failed, Sink};
@@ -90,6 +90,9 @@ pub fn put_plain_moof<W: Sink>(
     match block.put_array(w, &front) {
         Ok(()) => {}
         Err(Failed) => return Err(Failed),
+    }
+    if piece.count == 1 {
+        return block.put_array(w, &sample_bytes(&run.row(held, piece.first)));
     }
     // The groups in the moof are those that are to be written, if they have all fields.
     if let Some(groups) = run.whole_groups(held, piece.first, piece.count) {

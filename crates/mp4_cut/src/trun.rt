@@ -40,7 +40,8 @@ fn offset_bits(offset: i64) -> u32
 }
 
 /// The fields of a sample.
-fn sample_bytes(row: &Row) -> [u8; 16]
+#[inline(always)]
+pub(crate) fn sample_bytes(row: &Row) -> [u8; 16]
     ensures { result ≡ sample_bytes row.now }
 {
     let mut bytes = [0; 16];

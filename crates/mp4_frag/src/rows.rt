@@ -6,7 +6,7 @@ ghost use Rattle.std.specs.Iterator.{YieldsFirst, item_count};
 ghost use Rattle.mp4_box.specs.Fields.{number_in};
 ghost use Rattle.mp4_frag.specs.Cursors.{first_cursor, past};
 ghost use Rattle.mp4_frag.specs.Working.Added.{field_numbers, numbers_from};
-ghost use Rattle.mp4_frag.specs.Rows.{HasWholeGroups, IsCursor, all_fields, durations, field_at, group_at, offset_at, row_bytes, row_from, rows_behind, rows_of, sizes, usual_flags};
+ghost use Rattle.mp4_frag.specs.Rows.{HasWholeGroups, IsCursor, all_fields, durations, field_at, group_at, offset_at, row_bytes, row_from, row_of, rows_behind, rows_of, sizes, usual_flags};
 
 use crate::fields::signed_at;
 use crate::run::Run;
@@ -245,6 +245,16 @@ impl Run {
         }
     }
 
+    /// The row of this index. `held` are the bytes of its moof.
+    #[inline(always)]
+    #[tactic(auto, using(crate::proofs::RowLemmas::row_behind))]
+    pub fn row(&self, held: &[u8], i: u32) -> Row
+        requires { i < self.now.count }
+        ensures { result ≡ row_of self.now held.now i }
+    {
+        self.row_in(groups_from(self, held, i), i)
+    }
+
     /// The groups of `count` rows from row `first` on as they stand in the moof, whose bytes are `held`: 16 bytes each, the
     /// sample's duration, size, flags and composition time offset (ISO/IEC 14496-12, 8.8.8). None where the groups haven't
     /// all four fields, or aren't all there.
@@ -279,7 +289,13 @@ impl Run {
         let fields = &self.fields;
         Sums {
             bytes: field_sum(groups, fields.sample_size, self.size, fields.len, count),
-            ticks: field_sum(groups, fields.sample_duration, self.duration, fields.len, count),
+            ticks: field_sum(
+                groups,
+                fields.sample_duration,
+                self.duration,
+                fields.len,
+                count,
+            ),
         }
     }
 }

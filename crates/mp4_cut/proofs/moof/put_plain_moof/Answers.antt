@@ -1,13 +1,13 @@
-use Rattle.std.proofs.Common.{rules, ◌≡◌, ◌++◌, ◌∙◌, sym, ap, subst, List, ℕ}
+use Rattle.std.proofs.Common.{rules, arith, ◌≡◌, ◌++◌, ◌∙◌, sym, ap, subst, List, ℕ}
 use Rattle.std.specs.Prelude.{take}
 use Rattle.std.specs.List.{flat_map}
 use Rattle.mp4_frag.specs.declared.rows.Cursor.{Cursor}
-use Rattle.mp4_frag.specs.Rows.{IsCursor}
+use Rattle.mp4_frag.specs.Rows.{IsCursor, row_of}
 use Rattle.mp4_pieces.specs.Pieces.{rows_in}
 use Rattle.mp4_pieces.specs.PlainPieces.{piece_of}
 use Rattle.mp4_cut.specs.Moof.{written_moof}
 use Rattle.mp4_cut.specs.Trun.{sample_bytes}
-use Rattle.mp4_cut.proofs.PieceLemmas.{front_is, moof_is_put, start_is}
+use Rattle.mp4_cut.proofs.PieceLemmas.{front_is, moof_is_put, one_sample, start_is}
 use Rattle.mp4_machine.proofs.PutLemmas.{HasFailed-front, Puts-then}
 use Rattle.mp4_cut.proofs.moof.put_plain_moof.Goals as goal
 
@@ -22,6 +22,20 @@ returns-in-Err g c =
     HasFailed-front c.whole-front.result samples moof
     (ap (λ (x : List ℕ). x ++ samples) (c.whole-front.ensures ∙ c.moof_front.ensures.bytes) ∙ sym (front_is c.args.held.now c.args.run.now c.args.piece.now c.args.sequence_number c.requires.piece))
     c.in-Err.ensures
+
+pub returns-then-piece-eq1 : goal.returns-then-piece-eq1
+returns-then-piece-eq1 g c =
+    let held = c.args.held.now in
+    let run = c.args.run.now in
+    let piece = c.args.piece.now in
+    let front = c.whole-front.result in
+    let samples = flat_map sample_bytes (rows_in held run (piece_of held run piece)) in
+    let moof = written_moof (piece_of held run piece) run held c.args.sequence_number in
+    let one : piece.count ≡ 1 = c.if-piece-eq1.true in
+    let same : c.sample_bytes.result ≡ samples = c.sample_bytes.ensures ∙ one_sample held run piece c.row.result c.requires.piece one (c.row.ensures ∙ ap (row_of run held) (omega arith)) in
+    let whole = ap (λ (x : List ℕ). front ++ x) same
+    ∙ (ap (λ (x : List ℕ). x ++ samples) (c.whole-front.ensures ∙ c.moof_front.ensures.bytes) ∙ sym (front_is held run piece c.args.sequence_number c.requires.piece)) in
+    Puts-then c.in-Ok.ensures _ _ _ c.sample_bytes.result moof whole c.put_array-then-piece-eq1.result c.put_array-then-piece-eq1.ensures
 
 pub returns-in-Some : goal.returns-in-Some
 returns-in-Some g c =
