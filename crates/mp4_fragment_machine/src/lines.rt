@@ -12,9 +12,12 @@ ghost use Rattle.mp4_fragment_machine.specs.States.{IsWaiting, lines_of, moof_in
 use crate::state::Waiting;
 use mp4_ends::{Failed, Sink};
 use mp4_frag::{Cursor, Moof, Row, Rows, Run, Steps};
-use mp4_grammar::Sample;
+use mp4_grammar::{KeptLine, Sample};
 use mp4_init::TrackList;
 use mp4_machine::Block;
+
+/// From so many rows on the lines of a run keep what stays from line to line. Fewer may not spare what it costs to begin.
+const MANY: u32 = 16;
 
 /// The sample of a row of a run that stands at this cursor.
 fn sample_at(run: &Run, row: &Row, at: Cursor) -> Sample
@@ -49,6 +52,56 @@ fn put_rows<W: Sink>(
     }
 }
 
+/// The line of a sample that is in all as the run says of those that say nothing themselves.
+fn usual_line(run: &Run, at: Cursor) -> KeptLine {
+    let row = Row {
+        duration: run.duration,
+        size: run.size,
+        flags: run.flags,
+        offset: 0,
+    };
+    KeptLine::of(&sample_at(run, &row, at))
+}
+
+/// Puts the same lines as `put_rows`, and keeps what stays from line to line.
+#[tactic(auto, using(mp4_frag::proofs::CursorLemmas::row_fits, mp4_frag::proofs::CursorLemmas::time_fits, mp4_frag::proofs::CursorLemmas::place_fits))]
+fn put_many_rows<W: Sink>(
+    run: &Run,
+    rows: &mut Rows<'_>,
+    from: Cursor,
+    out: &mut Block,
+    w: &mut W,
+) -> Result<(), Failed>
+    requires { HasRoom from rows.old }
+    ensures { Puts (sent W.contents W.has_failed w.old w.new) out.old out.new
+        (sample_lines (samples_from run.now rows.old from.time from.place)) result }
+{
+    let mut line = usual_line(run, from);
+    let mut cursor = from;
+    loop {
+        let Some(row) = rows.next() else {
+            return Ok(());
+        };
+        line.set(&sample_at(run, &row, cursor));
+        match out.put_line(w, &line) {
+            Ok(()) => {}
+            Err(Failed) => return Err(Failed),
+        }
+        cursor = cursor.past(&row);
+    }
+}
+
+/// Puts the lines of the samples of a run that are many. It is called, so that a run of few has no place to clear for what is
+/// kept.
+#[inline(never)]
+fn put_many<W: Sink>(run: &Run, held: &[u8], out: &mut Block, w: &mut W) -> Result<(), Failed>
+    requires { IsRunOf held.now run.now }
+    ensures { Puts (sent W.contents W.has_failed w.old w.new) out.old out.new
+        (sample_lines (samples_of_run held.now run.now)) result }
+{
+    put_many_rows(run, &mut run.rows(held), run.first_cursor(), out, w)
+}
+
 /// Puts the lines of the samples of a run. `held` are the bytes of its moof.
 pub(crate) fn put_run<W: Sink>(
     run: &Run,
@@ -60,6 +113,9 @@ pub(crate) fn put_run<W: Sink>(
     ensures { Puts (sent W.contents W.has_failed w.old w.new) out.old out.new
         (sample_lines (samples_of_run held.now run.now)) result }
 {
+    if MANY <= run.count {
+        return put_many(run, held, out, w);
+    }
     put_rows(run, &mut run.rows(held), run.first_cursor(), out, w)
 }
 

@@ -13,3 +13,4 @@ pub mod RestLemmas
 pub mod SplitLemmas
 pub mod HeldSizeLemmas
 pub mod TextLemmas
+pub mod LineLemmas

@@ -3,6 +3,7 @@
 //! - [`kinds`]: [`Kind`], the kinds of boxes at the top of a stream;
 //! - [`command`]: [`Command`], what is made of fragments;
 //! - [`sample`]: [`Sample`], and its line in a listing;
+//! - [`kept_line`]: [`KeptLine`], the lines of samples that follow one another;
 //! - [`laws`]: what the definitions of `specs/` imply.
 //!
 //! The definitions: `specs/Items.antt` (what stands at the front of some bytes, and what is told of it) with
@@ -14,10 +15,12 @@
 #![tactic(auto)]
 
 pub mod command;
+pub mod kept_line;
 pub mod kinds;
 pub mod laws;
 pub mod sample;
 
 pub use command::Command;
+pub use kept_line::KeptLine;
 pub use kinds::{Kind, MOST_MOOF, MOST_MOOV, kind_of};
 pub use sample::Sample;

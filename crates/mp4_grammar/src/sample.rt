@@ -114,13 +114,17 @@ impl Line for Sample {
 
 /// Appends a number behind its name.
 #[inline(always)]
-fn push_number<const N: usize>(block: &mut Text<BLOCK_BYTES>, name: &[u8; N], number: u64)
-    requires { length block.old + N + DECIMAL_DIGITS ≤ BLOCK_BYTES }
-    ensures text { block.new ≡ block.old ++ name.now ++ decimal number }
-    ensures len { length block.new ≤ length block.old + N + DECIMAL_DIGITS }
+pub(crate) fn push_number<const N: usize, const CAP: usize>(
+    text: &mut Text<CAP>,
+    name: &[u8; N],
+    number: u64,
+)
+    requires { length text.old + N + DECIMAL_DIGITS ≤ CAP }
+    ensures text { text.new ≡ text.old ++ name.now ++ decimal number }
+    ensures len { length text.new ≤ length text.old + N + DECIMAL_DIGITS }
 {
-    block.push_array(name);
-    block.push_decimal(number);
+    text.push_array(name);
+    text.push_decimal(number);
 }
 
 /// Appends a number with a sign behind its name.
@@ -136,14 +140,14 @@ fn push_signed<const N: usize>(block: &mut Text<BLOCK_BYTES>, name: &[u8; N], nu
 
 /// Appends whether it is a sync sample.
 #[inline]
-fn push_sync(block: &mut Text<BLOCK_BYTES>, flags: u32)
-    requires { length block.old + 4 ≤ BLOCK_BYTES }
-    ensures text { block.new ≡ block.old ++ sync_text flags }
-    ensures len { length block.new ≤ length block.old + 4 }
+pub(crate) fn push_sync<const CAP: usize>(text: &mut Text<CAP>, flags: u32)
+    requires { length text.old + 4 ≤ CAP }
+    ensures text { text.new ≡ text.old ++ sync_text flags }
+    ensures len { length text.new ≤ length text.old + 4 }
 {
     if flags & NON_SYNC == 0 {
-        block.push_array(b"sync");
+        text.push_array(b"sync");
     } else {
-        block.push_array(b"-");
+        text.push_array(b"-");
     }
 }

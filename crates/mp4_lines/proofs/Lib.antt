@@ -1,3 +1,4 @@
 pub mod DigitLemmas
 pub mod DecimalLemmas
 pub mod AgainLemmas
+pub mod MoreLemmas

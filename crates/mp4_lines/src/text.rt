@@ -101,6 +101,21 @@ impl<const CAP: usize> Text<CAP> {
         self.len = at + N;
     }
 
+    /// Appends another text. All of its place is moved, since a move of a length that is known is fast, and the bytes that it
+    /// has count.
+    #[inline(always)]
+    pub fn push_text<const MORE: usize>(&mut self, more: &Text<MORE>)
+        requires { length self.old + MORE ≤ CAP }
+        ensures text { self.new ≡ self.old ++ more.now }
+        ensures len { length self.new ≡ length self.old + length more.now }
+        ensures within { length self.new ≤ length self.old + MORE }
+    {
+        let at = self.len;
+        let all = &mut self.bytes[..];
+        all[at..at + MORE].copy_from_slice(&more.bytes);
+        self.len = at + more.len;
+    }
+
     /// Appends the number in decimal, at most [`DECIMAL_DIGITS`] bytes, and 10 where it has 32 bits.
     #[inline(always)]
     pub fn push_decimal(&mut self, number: u64)
@@ -146,9 +161,23 @@ impl<const CAP: usize> Text<CAP> {
         }
     }
 
+    /// Appends a number of at most sixteen digits in decimal.
+    pub(crate) fn push_sixteen_at_most(&mut self, number: u64)
+        requires number { number < 10_000_000_000_000_000 }
+        requires room { length self.old + 16 ≤ CAP }
+        ensures { self.new ≡ self.old ++ decimal number }
+    {
+        if number < 100_000_000 {
+            self.push_eight_at_most(number as u32);
+        } else {
+            self.push_eight_at_most((number / 100_000_000) as u32);
+            self.push_eight((number % 100_000_000) as u32);
+        }
+    }
+
     /// Appends a number of at most four digits in decimal.
     #[inline(always)]
-    fn push_four_at_most(&mut self, number: u32)
+    pub(crate) fn push_four_at_most(&mut self, number: u32)
         requires number { number < 10_000 }
         requires room { length self.old + 4 ≤ CAP }
         ensures text { self.new ≡ self.old ++ decimal number }
