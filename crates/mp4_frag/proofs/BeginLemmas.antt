@@ -1,6 +1,6 @@
 -- No run of a moof ends past 64 bits whose trafs have early times of their own.
-use Rattle.std.proofs.Common.{◌≡◌, ◌∙◌, ◌^◌, ◌<◌, ◌≤◌, ◌++◌, ℕ, zero, suc, Bool, true, false, List, [], ◌∷◌, map, Option, Some, None, refl, sym, ap, subst, arith, inl, inr}
-use Rattle.std.specs.Prelude.{◌==◌, ◌&&◌, slice_get, nat_lt}
+use Rattle.std.proofs.Common.{◌≡◌, ◌∙◌, ◌^◌, ◌<◌, ◌≤◌, ◌++◌, ℕ, zero, suc, true, List, [], ◌∷◌, map, Option, Some, None, refl, ap, subst, arith, inl, inr}
+use Rattle.std.specs.Prelude.{◌==◌, slice_get, nat_lt}
 use Rattle.std.specs.List.{AllByRecursion, list_all, position}
 use Rattle.std.specs.Option.{option_and_then, unwrap_or}
 use Rattle.std.proofs.lemmas.Bool.{ltb-true}
@@ -15,7 +15,7 @@ use Rattle.mp4_frag.specs.Working.AtOnce.{StartsEarly}
 use Rattle.mp4_frag.specs.Kinds.{tfdt, traf, trun}
 use Rattle.mp4_frag.specs.Moofs.{moof_of, moof_trafs, time_faults}
 use Rattle.mp4_frag.specs.Rules.{count_faults, most_samples, samples_in}
-use Rattle.mp4_frag.specs.Runs.{MoofBytes, base_by, base_of, begins_early, no_track, tfhd_of, track_of, traf_of, trafs_by}
+use Rattle.mp4_frag.specs.Runs.{MoofBytes, base_by, begins_early, no_track, tfhd_of, track_of, traf_of, trafs_by}
 use Rattle.mp4_frag.specs.Tfdt.{base_media_decode_time}
 use Rattle.mp4_frag.specs.Tfhd.{track_id}
 use Rattle.mp4_frag.proofs.EarlyLemmas.{begun_in_time, both_true}

@@ -1,13 +1,14 @@
 -- The sizes and the durations of some rows of a run, added up by places.
 use Rattle.std.proofs.Common.{◌≡◌, ℕ, zero, suc, ◌+◌, ◌*◌, ◌-◌, ◌<◌, ◌≤◌, List, map, drop, take, refl, ap, sym, ◌∙◌, arith, Option, Some, None}
 use Rattle.std.specs.List.{range_with_len, sum_by}
+use Rattle.std.proofs.lemmas.List.{take_all}
 use Rattle.std.proofs.lemmas.List.FromFn.{take-map-range_with_len}
 use Rattle.mp4_box.specs.Fields.{number_in}
 use Rattle.mp4_frag.specs.declared.run.Run.{Run}
 use Rattle.mp4_frag.specs.declared.rows.Row.{Row}
 use Rattle.mp4_frag.specs.Rows.{durations, field_at, group_at, row_of, rows_of, sizes}
 use Rattle.mp4_frag.specs.Working.Added.{field_numbers, numbers_from}
-use Rattle.mp4_frag.proofs.RowLemmas.{by_place, number_behind, rows_dropped, same_sum}
+use Rattle.mp4_frag.proofs.RowLemmas.{by_place, length_rows_of, number_behind, rows_dropped, same_sum}
 
 rows_between : (run : Run) (held : List ℕ) (first count : ℕ) → first + count ≤ run.count → take count (drop first (rows_of run held)) ≡ map (row_of run held) (range_with_len first count)
 rows_between run held first count h =
@@ -48,6 +49,17 @@ sizes_between run held groups first n e h = field_between (λ (r : Row). r.size)
 pub durations_between : (run : Run) (held groups : List ℕ) (first n : ℕ) → groups ≡ drop (group_at run first) held → first + n ≤ run.count → field_numbers groups run.fields.sample_duration run.duration run.fields.len n ≡ durations (take n (drop first (rows_of run held)))
 unfolding row_of
 durations_between run held groups first n e h = field_between (λ (r : Row). r.duration) run held groups run.fields.sample_duration run.duration first n e h (λ j. refl)
+
+-- ---- all rows of a run
+
+all_rows : (run : Run) (held : List ℕ) → take run.count (drop 0 (rows_of run held)) ≡ rows_of run held
+all_rows run held = let n = length_rows_of run held in take_all run.count (rows_of run held) (omega (arith, n))
+
+pub all_sizes : (run : Run) (held groups : List ℕ) → groups ≡ drop (group_at run 0) held → field_numbers groups run.fields.sample_size run.size run.fields.len run.count ≡ sizes (rows_of run held)
+all_sizes run held groups e = sizes_between run held groups 0 run.count e (omega arith) ∙ ap sizes (all_rows run held)
+
+pub all_durations : (run : Run) (held groups : List ℕ) → groups ≡ drop (group_at run 0) held → field_numbers groups run.fields.sample_duration run.duration run.fields.len run.count ≡ durations (rows_of run held)
+all_durations run held groups e = durations_between run held groups 0 run.count e (omega arith) ∙ ap durations (all_rows run held)
 
 -- ---- one group less
 

@@ -13,7 +13,7 @@ use Rattle.mp4_frag.specs.declared.run.Run.{Run}
 use Rattle.mp4_frag.specs.declared.rows.Row.{Row}
 use Rattle.mp4_frag.specs.declared.rows.Cursor.{Cursor}
 use Rattle.mp4_frag.specs.Working.Added.{numbers_from}
-use Rattle.mp4_frag.specs.Rows.{field_at, group_at, offset_at, offset_by, row_from, row_of, usual_flags, rows_of, rows_behind, durations, sizes, IsCursor}
+use Rattle.mp4_frag.specs.Rows.{field_at, group_at, offset_at, offset_by, row_from, row_of, usual_flags, rows_of, rows_behind, durations, IsCursor}
 use Rattle.mp4_frag.specs.Cursors.{first_cursor, past}
 
 -- the first of the rows that are left
@@ -59,11 +59,6 @@ same_sum f g v a (suc n) same =
 none_there : (o : Option ℕ) → is_none o ≡ true → o ≡ None
 none_there None e = refl
 none_there (Some at) e = absurd cc
-
-pub sizes_by_product : (run : Run) (held : List ℕ) → is_none run.fields.sample_size ≡ true → sizes (rows_of run held) ≡ run.size * run.count
-unfolding row_of
-sizes_by_product run held e =
-    same_sum (λ (r : Row). r.size) (row_of run held) run.size 0 (run.count - 0) (λ i. rw (none_there run.fields.sample_size e) refl) ∙ ap (λ (n : ℕ). run.size * n) (omega (arith))
 
 pub durations_by_product : (run : Run) (held : List ℕ) → is_none run.fields.sample_duration ≡ true → durations (rows_of run held) ≡ run.duration * run.count
 unfolding row_of
@@ -156,15 +151,3 @@ by_place f run held at i (suc n) place is e =
     sum_by-cons f (row_of run held i) (map (row_of run held) (range_with_len (i + 1) n))
     ∙ ap (λ k. k + sum_by f (map (row_of run held) (range_with_len (i + 1) n))) (is i ∙ ap (number_in held) (sym e))
     ∙ ap (λ k. number_in held place + k) (by_place f run held at (i + 1) n (place + run.fields.len) is next)
-
-pub sizes_by_place : (run : Run) (held : List ℕ) (at : ℕ) → run.fields.sample_size ≡ Some at → sizes (rows_of run held) ≡ numbers_from held run.fields.len (run.samples_at + at) run.count
-unfolding row_of
-sizes_by_place run held at e =
-    by_place (λ (r : Row). r.size) run held at 0 (run.count - 0) (run.samples_at + at) (λ j. ap (λ o. field_at held (group_at run j) o run.size) e) (omega arith)
-    ∙ ap (numbers_from held run.fields.len (run.samples_at + at)) (omega (arith))
-
-pub durations_by_place : (run : Run) (held : List ℕ) (at : ℕ) → run.fields.sample_duration ≡ Some at → durations (rows_of run held) ≡ numbers_from held run.fields.len (run.samples_at + at) run.count
-unfolding row_of
-durations_by_place run held at e =
-    by_place (λ (r : Row). r.duration) run held at 0 (run.count - 0) (run.samples_at + at) (λ j. ap (λ o. field_at held (group_at run j) o run.duration) e) (omega arith)
-    ∙ ap (numbers_from held run.fields.len (run.samples_at + at)) (omega (arith))

@@ -1,5 +1,5 @@
 -- Where the trafs of a moof end, as it is kept while its runs are gone over.
-use Rattle.std.proofs.Common.{◌≡◌, ◌∙◌, ◌+◌, ◌<◌, ◌≤◌, ◌^◌, ℕ, ℤ, pos, zero, suc, List, [], ◌∷◌, ◌++◌, length, refl, sym, ap, arith}
+use Rattle.std.proofs.Common.{◌≡◌, ◌∙◌, ◌<◌, ◌^◌, ℕ, ℤ, pos, zero, suc, List, [], ◌∷◌, ◌++◌, length, refl, sym, ap, arith}
 use Rattle.std.specs.Prelude.{map, take, true, false, Bool, if◌then◌else◌}
 use Rattle.std.specs.List.{fold, sum_by}
 use Rattle.std.proofs.lemmas.List.Folds.{fold-map}
@@ -7,13 +7,12 @@ use Rattle.std.proofs.lemmas.List.Sums.{sum_by-append, sum_by-cons}
 use Rattle.mp4_box.specs.Paths.{at_path, of_kind, paths_below}
 use Rattle.mp4_box.specs.Trees.{Box, children}
 use Rattle.mp4_init.specs.declared.table.Track.{Track}
-use Rattle.mp4_frag.specs.declared.run.Run.{Run}
 use Rattle.mp4_frag.specs.declared.traf_ends.TrafEnd.{TrafEnd}
-use Rattle.mp4_frag.specs.Fields.{flags_in, width_if, place_if}
+use Rattle.mp4_frag.specs.Fields.{flags_in, place_if}
 use Rattle.mp4_frag.specs.Kinds.{traf, trun}
 use Rattle.mp4_frag.specs.Moofs.{IsRead, moof_of, moof_trafs}
 use Rattle.mp4_frag.specs.Runs.{MoofBytes, Shared, TrackFragment, end_place, run_at, run_of, runs_from, runs_of, traf_of}
-use Rattle.mp4_frag.specs.Settling.{ended, settled, timed, timed_in, timed_of}
+use Rattle.mp4_frag.specs.Settling.{settled, timed, timed_in, timed_of}
 use Rattle.mp4_frag.specs.TrafEnds.{ended_by, few_trafs, traf_end}
 use Rattle.mp4_frag.specs.Trun.{sample_count, sample_duration_present, sample_fields}
 use Rattle.mp4_frag.specs.Working.Following.{count_if, ends_by, runs_of_trafs, timed_run}

@@ -3,16 +3,13 @@
 ghost use Rattle.std.specs.Prelude.{◌≡◌, ◌+◌, ◌*◌, ◌+ℤ◌, ◌<ℤ◌, ◌<◌, ◌≤◌, ◌^◌, ◌↔◌, IfSome, IsSome, drop, length, pos, take, true};
 ghost use Rattle.std.specs.List.{flat_map};
 ghost use Rattle.std.specs.Iterator.{YieldsFirst, item_count};
-ghost use Rattle.mp4_box.specs.Fields.{number_in};
 ghost use Rattle.mp4_frag.specs.Cursors.{first_cursor, past};
-ghost use Rattle.mp4_frag.specs.Working.Added.{field_numbers, numbers_from};
-ghost use Rattle.mp4_frag.specs.Rows.{HasWholeGroups, IsCursor, all_fields, durations, field_at, group_at, offset_at, row_bytes, row_from, row_of, rows_behind, rows_of, sizes, usual_flags};
+ghost use Rattle.mp4_frag.specs.Rows.{HasWholeGroups, IsCursor, all_fields, field_at, group_at, offset_at, row_bytes, row_from, row_of, rows_behind, rows_of, usual_flags};
 
 use crate::fields::signed_at;
 use crate::run::Run;
-use crate::sums::Sums;
 use crate::trun::SampleFields;
-use mp4_box::{number_at, u32_at};
+use mp4_box::number_at;
 use std::marker::Model;
 
 /// What a run says of one sample.
@@ -122,53 +119,12 @@ fn behind_group(rest: &[u8], len: u32) -> &[u8]
 
 /// The bytes from the group of this index on.
 #[tactic(auto, using(std::proofs::lemmas::List::drop_min), unfolding(crate::specs::Rows::group_at))]
-fn groups_from<'a>(run: &Run, held: &'a [u8], i: u32) -> &'a [u8]
+pub(crate) fn groups_from<'a>(run: &Run, held: &'a [u8], i: u32) -> &'a [u8]
     ensures { result.now ≡ drop (group_at run.now i) held.now }
 {
     let group = u128::from(run.samples_at) + u128::from(run.fields.len) * u128::from(i);
     let (_, groups) = held.split_at(group.min(held.len() as u128) as usize);
     groups
-}
-
-/// The number in the four bytes at a place, 0 where they aren't all there.
-#[inline(always)]
-fn number_in(groups: &[u8], place: u64) -> u32
-    requires { place + 4 < 2 ^ 64 }
-    ensures { result ≡ number_in groups.now place }
-{
-    if (groups.len() as u64) < place + 4 {
-        return 0;
-    }
-    u32_at(groups, place as usize)
-}
-
-/// The numbers at a place of each of `count` groups of `len` bytes, of which the first begins the bytes, added up.
-#[inline(always)]
-fn numbers_sum(groups: &[u8], at: u32, len: u32, count: u32) -> u64
-    ensures { result ≡ numbers_from groups.now len at count }
-{
-    let step = u64::from(len);
-    let mut place = u64::from(at);
-    let mut total = 0;
-    let mut left = count;
-    while left > 0 {
-        total += u64::from(number_in(groups, place));
-        place += step;
-        left -= 1;
-    }
-    total
-}
-
-/// The numbers of a field of `count` groups of `len` bytes, of which the first begins the bytes, added up: by a product
-/// where they haven't the field.
-#[inline(always)]
-fn field_sum(groups: &[u8], at: Option<u32>, usual: u32, len: u32, count: u32) -> u64
-    ensures { result ≡ field_numbers groups.now at usual len count }
-{
-    match at {
-        Some(at) => numbers_sum(groups, at, len, count),
-        None => u64::from(usual) * u64::from(count),
-    }
 }
 
 /// Whether a group has all four fields, which then stand in the standard's order.
@@ -274,29 +230,6 @@ impl Run {
         }
         let (whole, _) = groups.split_at(len);
         Some(whole)
-    }
-
-    /// The sizes and the durations of `count` rows from row `first` on, added up; nothing else of them is read. `held` are
-    /// the bytes of its moof.
-    #[inline(always)]
-    #[tactic(auto, using(crate::proofs::BetweenLemmas::sizes_between, crate::proofs::BetweenLemmas::durations_between))]
-    pub fn sums_between(&self, held: &[u8], first: u32, count: u32) -> Sums
-        requires rows { first + count ≤ self.now.count }
-        ensures bytes { result.bytes ≡ sizes (take count (drop first (rows_of self.now held.now))) }
-        ensures ticks { result.ticks ≡ durations (take count (drop first (rows_of self.now held.now))) }
-    {
-        let groups = groups_from(self, held, first);
-        let fields = &self.fields;
-        Sums {
-            bytes: field_sum(groups, fields.sample_size, self.size, fields.len, count),
-            ticks: field_sum(
-                groups,
-                fields.sample_duration,
-                self.duration,
-                fields.len,
-                count,
-            ),
-        }
     }
 }
 

@@ -1,15 +1,15 @@
 //! What the samples of a run come to.
 
-ghost use Rattle.std.specs.Prelude.{◌≡◌, ◌+◌, ◌*◌, ◌<◌, ◌≤◌, ◌^◌, Some, IfSome, None};
-ghost use Rattle.std.specs.Option.{is_none};
+ghost use Rattle.std.specs.Prelude.{◌≡◌, ◌+◌, ◌*◌, ◌<◌, ◌≤◌, ◌^◌, drop, take};
 ghost use Rattle.mp4_box.specs.Fields.{number_in};
 ghost use Rattle.mp4_frag.specs.Rows.{durations, rows_of, sizes};
-ghost use Rattle.mp4_frag.specs.Working.Added.{numbers_from};
+ghost use Rattle.mp4_frag.specs.Working.Added.{field_numbers, numbers_from};
 
+use crate::rows::groups_from;
 use crate::run::Run;
 use mp4_box::u32_at;
 
-/// What the samples of a run come to.
+/// What some samples of a run come to.
 #[derive(Clone, Copy)]
 pub struct Sums {
     /// Their bytes.
@@ -20,131 +20,115 @@ pub struct Sums {
 
 /// The number in the four bytes at a place, 0 where they aren't all there.
 #[inline(always)]
-fn number_at(held: &[u8], at: u64) -> u32
-    requires { at < 2 ^ 63 }
-    ensures { result ≡ number_in held.now at }
+fn number_in(groups: &[u8], place: u64) -> u32
+    requires { place + 4 < 2 ^ 64 }
+    ensures { result ≡ number_in groups.now place }
 {
-    if (held.len() as u64) < at + 4 {
+    if (groups.len() as u64) < place + 4 {
         return 0;
     }
-    u32_at(held, at as usize)
+    u32_at(groups, place as usize)
 }
 
-/// So many numbers of four bytes, of which the first stands at a place, and each so far behind the one before it, added up.
+/// The numbers at a place of each of `count` groups of `len` bytes, of which the first begins the bytes, added up.
 #[inline(always)]
-#[tactic(auto, using(crate::proofs::RowLemmas::numbers_next, crate::proofs::RowLemmas::numbers_none))]
-fn added(held: &[u8], step: u32, at: u64, count: u32) -> u64
-    requires at { at < 2 ^ 62 }
-    requires step { step ≤ 16 }
-    ensures sum { result ≡ numbers_from held.now step at count }
+fn numbers_sum(groups: &[u8], at: u32, len: u32, count: u32) -> u64
+    ensures sum { result ≡ numbers_from groups.now len at count }
     ensures few { result ≤ 4294967295 * count }
 {
-    let step = u64::from(step);
-    let mut at = at;
+    let step = u64::from(len);
+    let mut place = u64::from(at);
     let mut total = 0;
     let mut left = count;
     while left > 0 {
-        total += u64::from(number_at(held, at));
-        at += step;
+        total += u64::from(number_in(groups, place));
+        place += step;
         left -= 1;
     }
     total
 }
 
-/// The last place of the first group of a run whose groups are gone over place by place.
-const NEAR: u64 = 1 << 61;
-
-/// The numbers of a field of the rows of a run that stands at a place of each group, added up, where the first isn't too far.
+/// The numbers of a field of `count` groups of `len` bytes, of which the first begins the bytes, added up: by a product
+/// where they haven't the field.
 #[inline(always)]
-fn field_sum(run: &Run, held: &[u8], at: u32) -> Option<u64>
-    ensures sum { IfSome result (λ s.
-        s ≡ numbers_from held.now run.now.fields.len (run.now.samples_at + at) run.now.count) }
-    ensures few { IfSome result (λ s. s ≤ 4294967295 * run.now.count) }
+fn field_sum(groups: &[u8], at: Option<u32>, usual: u32, len: u32, count: u32) -> u64
+    ensures sum { result ≡ field_numbers groups.now at usual len count }
+    ensures few { result ≤ 4294967295 * count }
 {
-    let len = run.fields.len;
-    if len > 16 || run.samples_at > NEAR {
-        return None;
+    match at {
+        Some(at) => numbers_sum(groups, at, len, count),
+        None => u64::from(usual) * u64::from(count),
     }
-    Some(added(held, len, run.samples_at + u64::from(at), run.count))
 }
 
-/// The durations of the samples of a run, added up row by row.
-#[inline(never)]
-#[tactic(auto, using(crate::proofs::RowLemmas::length_rows_of))]
-fn ticks_by_row(run: &Run, held: &[u8]) -> u64
-    ensures ticks { result ≡ durations (rows_of run.now held.now) }
-    ensures few { result ≤ 4294967295 * run.now.count }
+/// The sizes of `count` rows of a run, added up, of which the first group begins the bytes.
+#[inline(always)]
+fn bytes_in(run: &Run, groups: &[u8], count: u32) -> u64
+    ensures sum { result ≡ field_numbers groups.now run.now.fields.sample_size run.now.size
+        run.now.fields.len count }
+    ensures few { result ≤ 4294967295 * count }
 {
-    let mut ticks = 0;
-    for row in run.rows(held) {
-        ticks += u64::from(row.duration);
-    }
-    ticks
+    let fields = &run.fields;
+    field_sum(groups, fields.sample_size, run.size, fields.len, count)
 }
 
-/// The durations of the samples of a run, added up: by a product where no sample has its own.
+/// The durations of `count` rows of a run, added up, of which the first group begins the bytes.
 #[inline(always)]
-#[tactic(auto, using(crate::proofs::RowLemmas::durations_by_product, crate::proofs::RowLemmas::durations_by_place))]
+fn ticks_in(run: &Run, groups: &[u8], count: u32) -> u64
+    ensures sum { result ≡ field_numbers groups.now run.now.fields.sample_duration run.now.duration
+        run.now.fields.len count }
+    ensures few { result ≤ 4294967295 * count }
+{
+    let fields = &run.fields;
+    field_sum(
+        groups,
+        fields.sample_duration,
+        run.duration,
+        fields.len,
+        count,
+    )
+}
+
+/// The durations of the samples of a run, added up.
+#[inline(always)]
+#[tactic(auto, using(crate::proofs::BetweenLemmas::all_durations))]
 pub(crate) fn ticks_of(run: &Run, held: &[u8]) -> u64
     ensures ticks { result ≡ durations (rows_of run.now held.now) }
     ensures few { result ≤ 4294967295 * run.now.count }
 {
-    if run.fields.sample_duration.is_none() {
-        return u64::from(run.duration) * u64::from(run.count);
-    }
-    if let Some(at) = run.fields.sample_duration {
-        if let Some(ticks) = field_sum(run, held, at) {
-            return ticks;
-        }
-    }
-    // A copy, so that only here the run need be in memory.
-    let run = *run;
-    ticks_by_row(&run, held)
+    ticks_in(run, groups_from(run, held, 0), run.count)
 }
 
-/// The sizes of the samples of a run, added up row by row.
-#[inline(never)]
-#[tactic(auto, using(crate::proofs::RowLemmas::length_rows_of))]
-fn bytes_by_row(run: &Run, held: &[u8]) -> u64
-    ensures bytes { result ≡ sizes (rows_of run.now held.now) }
-    ensures few { result ≤ 4294967295 * run.now.count }
-{
-    let mut bytes = 0;
-    for row in run.rows(held) {
-        bytes += u64::from(row.size);
-    }
-    bytes
-}
-
-/// The sizes of the samples of a run, added up: by a product where no sample has its own.
+/// The sizes and the durations of the samples of a run, added up.
 #[inline(always)]
-#[tactic(auto, using(crate::proofs::RowLemmas::sizes_by_product, crate::proofs::RowLemmas::sizes_by_place))]
-fn bytes_of(run: &Run, held: &[u8]) -> u64
-    ensures bytes { result ≡ sizes (rows_of run.now held.now) }
-    ensures few { result ≤ 4294967295 * run.now.count }
-{
-    if run.fields.sample_size.is_none() {
-        return u64::from(run.size) * u64::from(run.count);
-    }
-    if let Some(at) = run.fields.sample_size {
-        if let Some(bytes) = field_sum(run, held, at) {
-            return bytes;
-        }
-    }
-    let run = *run;
-    bytes_by_row(&run, held)
-}
-
-/// The sizes and the durations of the samples of a run, added up: by products where no sample has its own.
-#[inline(always)]
+#[tactic(auto, using(crate::proofs::BetweenLemmas::all_sizes, crate::proofs::BetweenLemmas::all_durations))]
 pub(crate) fn sums_of(run: &Run, held: &[u8]) -> Sums
     ensures bytes { result.bytes ≡ sizes (rows_of run.now held.now) }
     ensures ticks { result.ticks ≡ durations (rows_of run.now held.now) }
     ensures few_bytes { result.bytes ≤ 4294967295 * run.now.count }
     ensures few_ticks { result.ticks ≤ 4294967295 * run.now.count }
 {
+    let groups = groups_from(run, held, 0);
     Sums {
-        bytes: bytes_of(run, held),
-        ticks: ticks_of(run, held),
+        bytes: bytes_in(run, groups, run.count),
+        ticks: ticks_in(run, groups, run.count),
+    }
+}
+
+impl Run {
+    /// The sizes and the durations of `count` rows from row `first` on, added up; nothing else of them is read. `held` are
+    /// the bytes of its moof.
+    #[inline(always)]
+    #[tactic(auto, using(crate::proofs::BetweenLemmas::sizes_between, crate::proofs::BetweenLemmas::durations_between))]
+    pub fn sums_between(&self, held: &[u8], first: u32, count: u32) -> Sums
+        requires rows { first + count ≤ self.now.count }
+        ensures bytes { result.bytes ≡ sizes (take count (drop first (rows_of self.now held.now))) }
+        ensures ticks { result.ticks ≡ durations (take count (drop first (rows_of self.now held.now))) }
+    {
+        let groups = groups_from(self, held, first);
+        Sums {
+            bytes: bytes_in(self, groups, count),
+            ticks: ticks_in(self, groups, count),
+        }
     }
 }

@@ -1,4 +1,4 @@
-use Rattle.std.proofs.Common.{◌≡◌, ◌∷◌, [], arith, rules, true, ◌==◌, ℕ, length}
+use Rattle.std.proofs.Common.{◌≡◌, ◌∷◌, [], rules, true, ◌==◌, length}
 use Rattle.std.proofs.lemmas.Bool.{eqb-true}
 use Rattle.mp4_frag.specs.TrafEnds.{few_trafs}
 use Rattle.mp4_frag.proofs.TrafEndLemmas.{full_taken}

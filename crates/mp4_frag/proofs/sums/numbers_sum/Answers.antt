@@ -2,7 +2,7 @@ use Rattle.std.proofs.Common.{arith, ℕ, ◌+◌, ◌-◌, ap}
 use Rattle.mp4_frag.specs.Working.Added.{numbers_from}
 use Rattle.mp4_frag.proofs.BetweenLemmas.{one_less}
 use Rattle.mp4_frag.proofs.RowLemmas.{numbers_next, numbers_none}
-use Rattle.mp4_frag.proofs.rows.numbers_sum.Goals as goal
+use Rattle.mp4_frag.proofs.sums.numbers_sum.Goals as goal
 
 pub loop-left-preserved : goal.loop-left-preserved
 loop-left-preserved c =
@@ -22,8 +22,8 @@ loop-left-preserved c =
       near = omega (arith, at.near, less, c.from-step.ensures);
     }
 
-pub returns : goal.returns
-returns c =
+pub returns-clause-sum : goal.returns-clause-sum
+returns-clause-sum c =
     let over = c.loop-left-test.false in
     let none = numbers_none c.args.groups.now c.args.len c.loop-left.place c.loop-left.left (omega (arith, over)) in
     omega (arith, c.loop-left.invariant.sum, none)
