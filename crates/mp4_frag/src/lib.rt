@@ -5,11 +5,12 @@
 //!   [`Moof::settle`]: where its tracks end behind it;
 //! - [`Moof::trafs`], [`Traf::runs`] and [`Run::rows`]: its trafs, their [`Run`]s and the [`Row`] of each sample.
 //!   [`Run::rows_from`] goes on from a [`Cursor`], [`Run::whole_groups`] gives the bytes of rows with all four fields,
-//!   and [`Run::after`] gives the next run;
+//!   [`Run::sums_between`] adds some of them up ([`Sums`]), and [`Run::after`] gives the next run;
 //! - [`Moof::list`]: a [`RunList`], its runs in the order in which they are taken, in claimed memory;
 //!   [`RunList::at`] gives one of them, [`RunList::listed`] where it stands, and
 //!   [`Moof::places`]: whether they stand where they may in the [`Payload`] of its mdat;
-//! - [`Moof::following`]: what runs come to that follow one another as they are listed ([`Following`]), without a list;
+//! - [`Moof::following`]: what runs come to that follow one another as they are listed ([`Following`]), without a list, and
+//!   [`Moof::settle_by`]: where the tracks end behind them;
 //! - [`Moof::lone_run`]: a [`LoneRun`], the run of a moof that has no other, without a list; [`LoneRun::read`]: the same from
 //!   the bytes of the moof;
 //! - [`laws`]: what the definitions of `specs/` imply.
@@ -20,8 +21,8 @@
 //! `specs/Moofs.antt` what a moof comes to, `specs/Ranges.antt` what holds of its runs, `specs/RunLists.antt` in which
 //! order they are taken, `specs/LoneRuns.antt` what a run is that has no other, `specs/Places.antt` which run is at
 //! fault by its place, `specs/After.antt` what stands behind a run, `specs/Settling.antt` where the tracks end behind a
-//! moof, and `specs/SyncSamples.antt` which samples are sync samples. How all this is worked out is said in
-//! `specs/Working/`.
+//! moof, `specs/TrafEnds.antt` what of that is kept, and `specs/SyncSamples.antt` which samples are sync samples. How all
+//! this is worked out is said in `specs/Working/`.
 //!
 //! `children.rt` goes over the boxes of a moof by their types, `at_once.rt` looks at all of them in one pass, `usual.rt` reads a
 //! moof of the form that most have, and `start.rt` reads what stands before the runs of a traf.
@@ -71,5 +72,6 @@ pub use rows::{Cursor, Row, Rows, Steps};
 pub use run::Run;
 pub use run_list::RunList;
 pub use runs::Runs;
+pub use sums::Sums;
 pub use traf::{Traf, Trafs};
 pub use traf_ends::TrafEnds;
