@@ -281,7 +281,7 @@ impl<'a> Moof<'a> {
     /// What its runs come to, where each with samples lies in the payload and begins where those with samples that are listed
     /// before it end, or behind that; none where one doesn't. Such runs all stand where they may ([`Moof::places`]), and no list
     /// of them is claimed to say so. `tracks` are those that it was read with. Its samples are counted in `steps` as rows that
-    /// were read, as [`Moof::list`] counts them; where there is nothing to answer none is counted, though some may have been read.
+    /// were read, as [`Moof::list`] counts them, also where there is nothing to answer.
     #[inline(always)]
     pub fn following(
         &self,
@@ -300,14 +300,13 @@ impl<'a> Moof<'a> {
         ensures within { IfSome result (λ f. (end : ℕ) → payload.end ≡ Some end →
             payload.start ≤ end → payload.start + f.bytes ≤ end) }
         ensures ends { IfSome result (λ f. AreEndsOf f.ends self.now tracks.now) }
-        ensures walked { IsSome result → steps.new.rows ≡ steps.old.rows + moof_samples self.now }
-        ensures unwalked { result ≡ None → steps.new ≡ steps.old }
+        ensures walked { steps.new.rows ≡ steps.old.rows + moof_samples self.now }
     {
+        steps.rows += u128::from(self.samples());
         let mut ends = TrafEnds::new();
         let Some(bytes) = bytes_in_order(self.held, self.offset, payload, tracks, &mut ends) else {
             return None;
         };
-        steps.rows += u128::from(self.samples());
         Some(Following {
             runs: self.truns_len(),
             bytes,

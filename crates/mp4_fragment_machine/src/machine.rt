@@ -341,11 +341,12 @@ impl FragmentMachine {
                         let whole = Whole { boxes, run: &run };
                         return self.take_whole(at, &whole, ledger, piece, out, w);
                     }
-                    Ok(None) => {
-                        if let Some(count) = self.check_whole(at, &boxes, ledger, piece) {
-                            return Ok(count);
-                        }
-                    }
+                    Ok(None) => match self.check_whole(at, &boxes, ledger, piece) {
+                        Ok(count) => return Ok(count),
+                        Err(looked) => return self.take_moof(
+                            at, moof, looked, ledger, piece, out, w,
+                        ),
+                    },
                     Err(fault) => {
                         return Err(self.refuse(at, &boxes, steps.rows, fault, ledger, piece));
                     }
@@ -353,7 +354,7 @@ impl FragmentMachine {
             }
         }
         if moof.size <= MOST_MOOF && self.kept.tracks.is_some() {
-            return self.take_moof(at, moof, ledger, piece, out, w);
+            return self.take_moof(at, moof, None, ledger, piece, out, w);
         }
         self.take_part(ledger, piece, out, w)
     }

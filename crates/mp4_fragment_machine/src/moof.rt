@@ -1,6 +1,6 @@
 //! A moof of which all came.
 
-ghost use Rattle.std.specs.Prelude.{◌≡◌, ◌+◌, ◌*◌, ◌<◌, ◌≤◌, ◌^◌, [], length, None, Some, IfOk, IfErr, OnOk, OnErr, IsSome};
+ghost use Rattle.std.specs.Prelude.{◌≡◌, ◌+◌, ◌*◌, ◌<◌, ◌≤◌, ◌^◌, [], length, None, Some, IfOk, IfErr, IfSome, OnOk, OnErr, IsSome};
 ghost use Rattle.mp4_frag.specs.Moofs.{IsRead, early_fault, moof_fault, moof_samples};
 ghost use Rattle.mp4_frag.specs.Rules.{most_samples};
 ghost use Rattle.mp4_frag.specs.Runs.{moof_at};
@@ -11,27 +11,35 @@ ghost use Rattle.mp4_grammar.specs.Items.{walked};
 ghost use Rattle.mp4_fragment_machine.specs.Places.{Unlent};
 ghost use Rattle.mp4_fragment_machine.specs.States.{known};
 ghost use Rattle.mp4_fragment_machine.specs.Working.Steps.{Advances, CanStep, Waits, lent_ledger};
+ghost use Rattle.mp4_fragment_machine.specs.Working.Wholes.{WasLookedAt};
 ghost use Rattle.mp4_fragment_machine.specs.declared.state.State.TheVariants as states;
 
 use crate::state::{Counter, Kept, State, Waiting};
 use mp4_box::Fault;
-use mp4_frag::Moof;
+use mp4_frag::{Moof, Steps};
 use mp4_init::TrackList;
 use mp4_ledger::Ledger;
 use mp4_machine::{Held, Stop};
 
-/// Reads a moof, and claims the list of its runs: it waits for its mdat then. Where it is refused it is given back.
+/// Reads a moof, and claims the list of its runs: it waits for its mdat then. Where it is refused it is given back. `looked` are the
+/// rows that were looked at in vain where it lies, if some were.
 ///
 /// # Errors
 ///
 /// `Stream` where it is at fault; `OverLimit` or `Memory` where the claim of the list is refused.
-pub(crate) fn wait(held: Held, kept: &mut Kept, ledger: &mut Ledger) -> Result<Waiting, Stop>
+pub(crate) fn wait(
+    held: Held,
+    looked: Option<Steps>,
+    kept: &mut Kept,
+    ledger: &mut Ledger,
+) -> Result<Waiting, Stop>
     requires known { kept.old.tracks ≡ Some (known kept.old.tracks) }
     requires begins { Begins held.size held.bytes }
     requires near { held.at + held.size ≤ longest }
     requires whole { length held.bytes ≡ held.size }
     requires empty { kept.old.head ≡ [] }
     requires can { CanStep kept.old ledger.old (states.Holding held) }
+    requires looked { IfSome looked (WasLookedAt (moof_at held.bytes held.at) (known kept.old.tracks)) }
     ensures tracks { OnOk result (kept.new.tracks ≡ kept.old.tracks) }
     ensures waits { (u : Unlent) → Waits (lent_ledger u ledger.old ledger.new)
         kept.old kept.new (states.Holding held) result }
@@ -43,7 +51,7 @@ pub(crate) fn wait(held: Held, kept: &mut Kept, ledger: &mut Ledger) -> Result<W
     let Some(list) = &kept.tracks else {
         unreachable!();
     };
-    let moof = match read_moof(&held, list, &mut kept.counter) {
+    let moof = match read_moof(&held, looked, list, &mut kept.counter) {
         Ok(moof) => moof,
         Err(fault) => {
             held.back(ledger);
@@ -75,19 +83,21 @@ pub(crate) fn take_moof(held: Held, kept: &mut Kept, ledger: &mut Ledger) -> Res
     ensures { (u : Unlent) → Advances (lent_ledger u ledger.old ledger.new)
         kept.old kept.new (states.Holding held) result }
 {
-    match wait(held, kept, ledger) {
+    match wait(held, None, kept, ledger) {
         Ok(waiting) => Ok(State::Behind(waiting)),
         Err(stop) => Err(stop),
     }
 }
 
-/// Reads a moof of which all came, and counts its samples as walked, once they were looked at.
+/// Reads a moof of which all came, and counts its samples as walked, once they were looked at. Where that was done in vain where it
+/// lies, nothing is at fault with it; those rows are counted then, and it is only told again.
 ///
 /// # Errors
 ///
 /// What is at fault with it.
 fn read_moof<'a>(
     held: &'a Held,
+    looked: Option<Steps>,
     tracks: &TrackList,
     counter: &mut Counter,
 ) -> Result<Moof<'a>, Fault>
@@ -95,6 +105,7 @@ fn read_moof<'a>(
     requires whole { length held.now.bytes ≡ held.now.size }
     requires steps { counter.old.steps.rows < 2 ^ 127 }
     requires walked { counter.old.tally.walked < 2 ^ 127 }
+    requires looked { IfSome looked (WasLookedAt (moof_at held.now.bytes held.now.at) tracks.now) }
     ensures moof { IfOk result (λ m. m ≡ moof_at held.now.bytes held.now.at) }
     ensures good { OnOk result (IsRead (moof_at held.now.bytes held.now.at) tracks.now) }
     ensures fault { IfErr result (λ f.
@@ -113,6 +124,11 @@ fn read_moof<'a>(
         moof_samples (moof_at held.now.bytes held.now.at) ≤ most_samples }
     ensures fragments { counter.new.tally.fragments ≡ counter.old.tally.fragments }
 {
+    if let Some(steps) = looked {
+        counter.steps.rows += steps.rows;
+        counter.tally.walked += steps.rows;
+        return Ok(Moof::again(held.bytes(), held.offset(), tracks));
+    }
     let before = counter.steps.rows;
     let read = Moof::read(held.bytes(), held.offset(), tracks, &mut counter.steps);
     counter.tally.walked += counter.steps.rows - before;

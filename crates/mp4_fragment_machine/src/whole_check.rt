@@ -3,10 +3,10 @@
 //! Where its runs follow one another as they are listed, no list of them is needed. What it would claim is counted, and no memory is
 //! asked for.
 //!
-//! If they don't, as where the runs of two tracks take turns in the mdat, it is taken as other fragments are: the look was in vain. Then
-//! some fragments are taken without one.
+//! If they don't, as where the runs of two tracks take turns in the mdat, the look was in vain. Its rows are counted, and the fragment
+//! is taken as others are, but that its rules aren't gone over again. Then some fragments are taken without a look.
 
-ghost use Rattle.std.specs.Prelude.{◌≡◌, ◌+◌, ◌*◌, ◌≤◌, [], length, None, Ok, Some, IfSome, IsSome};
+ghost use Rattle.std.specs.Prelude.{◌≡◌, ◌+◌, ◌*◌, ◌≤◌, [], length, None, Ok, Some, IfErr, IfOk, IfSome, OnErr, OnOk};
 ghost use Rattle.mp4_box.specs.declared.headers.Header.{Header};
 ghost use Rattle.mp4_frag.specs.Moofs.{IsRead, moof_runs, moof_samples};
 ghost use Rattle.mp4_frag.specs.Places.{place_fault};
@@ -24,7 +24,7 @@ ghost use Rattle.mp4_fragment_machine.specs.Places.{Unlent, claim_of, unsent};
 ghost use Rattle.mp4_fragment_machine.specs.States.{IsCounted, known, place_in};
 ghost use Rattle.mp4_fragment_machine.specs.Working.Feeds.{Feeds};
 ghost use Rattle.mp4_fragment_machine.specs.Working.Steps.{CanStep, TakesWhole, lent_ledger};
-ghost use Rattle.mp4_fragment_machine.specs.Working.Wholes.{AreBoxes, payload_in};
+ghost use Rattle.mp4_fragment_machine.specs.Working.Wholes.{AreBoxes, WasLookedAt, payload_in};
 ghost use Rattle.mp4_fragment_machine.specs.declared.state.State.TheVariants as states;
 
 use crate::listed_fragment::count;
@@ -32,7 +32,7 @@ use crate::machine::FragmentMachine;
 use crate::slot::go_to;
 use crate::state::{Counter, Kept};
 use crate::whole_fragment::{Boxes, ROW, payload_behind};
-use mp4_frag::{Moof, TrafEnds};
+use mp4_frag::{Moof, Steps, TrafEnds};
 use mp4_grammar::Command;
 use mp4_init::TrackList;
 use mp4_ledger::Ledger;
@@ -53,6 +53,10 @@ struct Counted<'a> {
 
 /// Reads the moof of a fragment, and counts the fragment, where its trafs have early times of their own, nothing is at fault with
 /// it, its runs follow one another, and the moof and their list might be claimed. The tracks don't end yet.
+///
+/// # Errors
+///
+/// Where it isn't counted, with the rows that were looked at in vain, if some were.
 #[inline(always)]
 fn count_checked<'a>(
     at: u64,
@@ -61,87 +65,100 @@ fn count_checked<'a>(
     tracks: &TrackList,
     counter: &mut Counter,
     ledger: &mut Ledger,
-) -> Option<Counted<'a>>
+) -> Result<Counted<'a>, Option<Steps>>
     requires are { AreBoxes at piece.now boxes.now }
     requires counted { IsCounted (plans.List Check) counter.old at 0 0 }
-    ensures moof { IfSome result (λ c. c.moof ≡ moof_at boxes.now.moof.now at) }
-    ensures ends { IfSome result (λ c. AreEndsOf c.ends (moof_at boxes.now.moof.now at) tracks.now) }
-    ensures read { IsSome result → IsRead (moof_at boxes.now.moof.now at) tracks.now }
-    ensures placed { (are : AreBoxes at piece.now boxes.now) → IsSome result → place_fault
+    ensures moof { IfOk result (λ c. c.moof ≡ moof_at boxes.now.moof.now at) }
+    ensures ends { IfOk result (λ c. AreEndsOf c.ends (moof_at boxes.now.moof.now at) tracks.now) }
+    ensures read { OnOk result (IsRead (moof_at boxes.now.moof.now at) tracks.now) }
+    ensures placed { (are : AreBoxes at piece.now boxes.now) → OnOk result (place_fault
         (payload_in (at + are.span.size) boxes.now.mdat)
-        (moof_runs (moof_at boxes.now.moof.now at) tracks.now) ≡ None }
-    ensures claim { IsSome result → ledger.new ≡ given_back (claimed ledger.old
+        (moof_runs (moof_at boxes.now.moof.now at) tracks.now) ≡ None) }
+    ensures claim { OnOk result (ledger.new ≡ given_back (claimed ledger.old
         (length boxes.now.moof.now + 64 * length (moof_runs (moof_at boxes.now.moof.now at) tracks.now)))
-        (length boxes.now.moof.now + 64 * length (moof_runs (moof_at boxes.now.moof.now at) tracks.now)) }
-    ensures tally { (g : Header) → IsSome result → counter.new.tally ≡ plus (plus counter.old.tally
+        (length boxes.now.moof.now + 64 * length (moof_runs (moof_at boxes.now.moof.now at) tracks.now))) }
+    ensures tally { (g : Header) → OnOk result (counter.new.tally ≡ plus (plus counter.old.tally
         (walked (moof_at boxes.now.moof.now at))) (counted_in (fragment
-        (context at (Some tracks.now) 1) tracks.now boxes.now.moof.now g)) }
-    ensures counted { IsSome result → IsCounted (plans.List Check) counter.new
+        (context at (Some tracks.now) 1) tracks.now boxes.now.moof.now g))) }
+    ensures counted { OnOk result (IsCounted (plans.List Check) counter.new
         (at + length boxes.now.moof.now + boxes.now.mdat.size) 0
-        (moof_samples (moof_at boxes.now.moof.now at)) }
-    ensures none { result ≡ None → ledger.new ≡ ledger.old }
+        (moof_samples (moof_at boxes.now.moof.now at))) }
+    ensures none { OnErr result (ledger.new ≡ ledger.old) }
+    ensures looked { IfErr result (λ l. IfSome l
+        (WasLookedAt (moof_at boxes.now.moof.now at) tracks.now)) }
 {
-    // So that no row is read for the rules: if the fragment isn't taken here no more are read of it than are counted.
+    // So that no row is read for the rules, but only where the runs are looked at.
     if !Moof::begins_early(boxes.moof, at) {
-        return None;
+        return Err(None);
     }
     let moof = match Moof::read(boxes.moof, at, tracks, &mut counter.steps) {
         Ok(moof) => moof,
-        Err(_) => return None,
+        Err(_) => return Err(None),
     };
+    let mut looked = Steps { rows: 0 };
     let payload = payload_behind(at, boxes, piece);
-    let Some(following) = moof.following(payload, tracks, &mut counter.steps) else {
-        return None;
+    let Some(following) = moof.following(payload, tracks, &mut looked) else {
+        return Err(Some(looked));
     };
     if following.runs > MOST_RUNS {
-        return None;
+        return Err(Some(looked));
     }
     match ledger.count_claim(boxes.moof.len() as u64 + following.runs * ROW) {
         Ok(()) => {}
-        Err(_) => return None,
+        Err(_) => return Err(Some(looked)),
     }
+    counter.steps.rows += looked.rows;
     let samples = u64::from(moof.samples());
     counter.tally.walked += u128::from(samples);
     count(counter, samples, following.bytes);
-    Some(Counted {
+    Ok(Counted {
         moof,
         ends: following.ends,
     })
 }
 
-/// Takes a fragment that is checked, where it may be taken so: how many bytes it has. Nothing is taken else.
+/// Takes a fragment that is checked, where it may be taken so: how many bytes it has.
+///
+/// # Errors
+///
+/// As [`count_checked`]: nothing is taken.
 pub(crate) fn check_fragment(
     at: u64,
     boxes: &Boxes<'_>,
     piece: &[u8],
     kept: &mut Kept,
     ledger: &mut Ledger,
-) -> Option<u64>
+) -> Result<u64, Option<Steps>>
     requires known { kept.old.tracks ≡ Some (known kept.old.tracks) }
     requires are { AreBoxes at piece.now boxes.now }
     requires empty { kept.old.head ≡ [] }
     requires plan { kept.old.plan ≡ plans.List Check }
     requires can { CanStep kept.old ledger.old (states.Header at) }
-    ensures taken { IfSome result (λ n. (u : Unlent) → TakesWhole (lent_ledger u ledger.old ledger.new)
+    ensures taken { IfOk result (λ n. (u : Unlent) → TakesWhole (lent_ledger u ledger.old ledger.new)
         kept.old kept.new at piece.now (Ok n)) }
-    ensures none { result ≡ None → (kept.new ≡ kept.old) × (ledger.new ≡ ledger.old) }
+    ensures none { OnErr result ((kept.new ≡ kept.old) × (ledger.new ≡ ledger.old)) }
+    ensures looked { IfErr result (λ l. IfSome l
+        (WasLookedAt (moof_at boxes.now.moof.now at) (known kept.old.tracks))) }
 {
     let Some(list) = &mut kept.tracks else {
         unreachable!();
     };
     let mut counter = kept.counter;
-    let Some(Counted { moof, ends }) = count_checked(at, boxes, piece, list, &mut counter, ledger)
-    else {
-        return None;
+    let Counted { moof, ends } = match count_checked(at, boxes, piece, list, &mut counter, ledger) {
+        Ok(counted) => counted,
+        Err(looked) => return Err(looked),
     };
     moof.settle_by(&ends, list, &mut counter.steps);
     kept.counter = counter;
-    Some(boxes.moof.len() as u64 + boxes.mdat.size)
+    Ok(boxes.moof.len() as u64 + boxes.mdat.size)
 }
 
 impl FragmentMachine {
     /// Takes a fragment that is checked from the front of a piece that has all of it, where it may be taken so: how many bytes.
-    /// Nothing is taken else.
+    ///
+    /// # Errors
+    ///
+    /// Where nothing is taken, with the rows that were looked at in vain, if some were.
     #[inline(always)]
     pub(crate) fn check_whole(
         &mut self,
@@ -149,30 +166,36 @@ impl FragmentMachine {
         boxes: &Boxes<'_>,
         ledger: &mut Ledger,
         piece: &[u8],
-    ) -> Option<usize>
+    ) -> Result<usize, Option<Steps>>
         requires state { self.old.state ≡ states.Header at }
         requires head { self.old.head ≡ [] }
         requires known { self.old.tracks ≡ Some (known self.old.tracks) }
         requires are { AreBoxes at piece.now boxes.now }
         requires claim { claim_of (place_in self.old) ≤ ledger.old.live }
-        ensures taken { IfSome result (λ n. (u : Unlent) → Feeds (around (unsent u) u.waiting u.waiting
+        ensures taken { IfOk result (λ n. (u : Unlent) → Feeds (around (unsent u) u.waiting u.waiting
             ledger.old ledger.new self.old.counter.tally self.new.counter.tally)
             self.old self.new piece.now (Ok n)) }
-        ensures none { result ≡ None → (self.new ≡ self.old) × (ledger.new ≡ ledger.old) }
+        ensures none { OnErr result ((self.new ≡ self.old) × (ledger.new ≡ ledger.old)) }
+        ensures looked { IfErr result (λ l. IfSome l
+            (WasLookedAt (moof_at boxes.now.moof.now at) (known self.old.tracks))) }
     {
         match self.kept.plan {
             Plan::List(Command::Check) => {}
-            _ => return None,
+            _ => return Err(None),
         }
         if self.pause > 0 {
             self.pause -= 1;
-            return None;
+            return Err(None);
         }
-        let Some(size) = check_fragment(at, boxes, piece, &mut self.kept, ledger) else {
-            self.pause = PAUSE;
-            return None;
-        };
-        go_to(&mut self.state, at + size);
-        Some(size as usize)
+        match check_fragment(at, boxes, piece, &mut self.kept, ledger) {
+            Ok(size) => {
+                go_to(&mut self.state, at + size);
+                Ok(size as usize)
+            }
+            Err(looked) => {
+                self.pause = PAUSE;
+                Err(looked)
+            }
+        }
     }
 }

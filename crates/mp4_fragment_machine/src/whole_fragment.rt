@@ -2,7 +2,7 @@
 //!
 //! Most fragments of live streams are such. What they would claim is counted, and no memory is asked for.
 
-ghost use Rattle.std.specs.Prelude.{◌≡◌, ◌+◌, ◌*◌, ◌<◌, ◌≤◌, ◌∷◌, [], List, length, Some, IfErr, IfSome, OnOk};
+ghost use Rattle.std.specs.Prelude.{◌≡◌, ◌+◌, ◌*◌, ◌<◌, ◌≤◌, ◌∷◌, [], List, length, take, Some, IfErr, IfSome, IsSome, OnOk};
 ghost use Rattle.mp4_box.specs.declared.headers.Header.{Header};
 ghost use Rattle.mp4_init.specs.declared.table.Track.{Track};
 ghost use Rattle.mp4_frag.specs.LoneRuns.{IsLone};
@@ -15,7 +15,7 @@ ghost use Rattle.mp4_machine.specs.Readings.{plus};
 ghost use Rattle.mp4_grammar.specs.Commands.{accepted};
 ghost use Rattle.mp4_grammar.specs.Contexts.{context};
 ghost use Rattle.mp4_grammar.specs.Items.{fragment, walked};
-ghost use Rattle.mp4_grammar.specs.Kinds.{kind_in};
+ghost use Rattle.mp4_grammar.specs.Kinds.{kind_in, most_moof};
 ghost use Rattle.mp4_grammar.specs.Meanings.{counted_in};
 ghost use Rattle.mp4_grammar.specs.declared.kinds.Kind.TheVariants.{Moof};
 ghost use Rattle.mp4_recut.specs.declared.plan.Plan.TheVariants as plans;
@@ -99,6 +99,8 @@ pub(crate) fn boxes_in<'a>(
 ) -> Option<Boxes<'a>>
     requires moof { StandsFirst Moof at piece.now moof.now }
     ensures are { IfSome result (λ b. AreBoxes at piece.now b) }
+    ensures bytes { IfSome result (λ b. b.moof.now ≡ take moof.now.size piece.now) }
+    ensures most { IsSome result → moof.now.size ≤ most_moof }
     ensures room { IfSome result (λ b.
         ledger.now.live + (length b.moof.now + 64) ≤ ledger.now.limit) }
 {

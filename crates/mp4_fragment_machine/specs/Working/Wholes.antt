@@ -6,8 +6,11 @@ use Rattle.mp4_box.specs.declared.headers.Size.TheVariants.{Exact}
 use Rattle.mp4_box.specs.declared.headers.Step.TheVariants as steps
 use Rattle.mp4_init.specs.declared.table.Track.{Track}
 use Rattle.mp4_frag.specs.LoneRuns.{IsLone}
+use Rattle.mp4_frag.specs.Moofs.{IsRead, moof_samples}
 use Rattle.mp4_frag.specs.Places.{place_fault}
-use Rattle.mp4_frag.specs.Runs.{moof_at}
+use Rattle.mp4_frag.specs.Rules.{most_samples}
+use Rattle.mp4_frag.specs.Runs.{MoofBytes, moof_at}
+use Rattle.mp4_frag.specs.declared.rows.Steps.{Steps}
 use Rattle.mp4_frag.specs.declared.lone.LoneRun.{LoneRun}
 use Rattle.mp4_run_order.specs.declared.runs.Payload.{Payload}
 use Rattle.mp4_machine.specs.Bodies.{longest}
@@ -42,6 +45,12 @@ pub record AreBoxes (at : ℕ) (piece : List ℕ) (b : Boxes) : Type 0 where
   pub bytes : b.moof.now ≡ take span.size piece
   pub valid : IsBytes b.moof.now
   pub mdat : StandsFirst Mdat (at + span.size) (drop span.size piece) b.mdat
+
+-- nothing is at fault with a moof, and the rows of its samples were looked at where it lies: each once
+pub record WasLookedAt (h : MoofBytes) (tracks : List Track) (s : Steps) : Type 0 where
+  pub rows : s.rows ≡ moof_samples h
+  pub few : moof_samples h ≤ most_samples
+  pub read : IsRead h tracks
 
 -- a fragment at an offset, of which a piece has all, has these boxes, and its moof just this run, which stands where it may
 pub record IsFragment (at : ℕ) (tracks : List Track) (piece : List ℕ) (b : Boxes) (l : LoneRun) : Type 0 where

@@ -1,12 +1,17 @@
 use Rattle.mp4_machine.proofs.HoldingLemmas.{begins_whole}
 use Rattle.mp4_fragment_machine.proofs.moof.read_moof.Goals as goal
 
-pub read-read-requires-clause-whole : goal.read-read-requires-clause-whole
-read-read-requires-clause-whole c =
+pub again-requires-clause-whole : goal.again-requires-clause-whole
+again-requires-clause-whole c =
     let held = c.args.held.now in
     rw c.bytes.ensures.bytes (begins_whole held.size held.bytes c.bytes.ensures.valid c.requires.begins c.requires.whole)
 
+pub read-read-requires-clause-whole : goal.read-read-requires-clause-whole
+read-read-requires-clause-whole c =
+    let held = c.args.held.now in
+    rw c.bytes-2.ensures.bytes (begins_whole held.size held.bytes c.bytes-2.ensures.valid c.requires.begins c.requires.whole)
+
 pub returns-in-Err-clause-fault : goal.returns-in-Err-clause-fault
 returns-in-Err-clause-fault c =
-    let fault = rw (c.bytes.ensures.bytes, c.offset.ensures.at) at c.read-read.ensures.fault in
+    let fault = rw (c.bytes-2.ensures.bytes, c.offset-2.ensures.at) at c.read-read.ensures.fault in
     (fault c.in-Err.fault).0 c.in-Err.is

@@ -23,7 +23,7 @@ returns-clause-taken c = λ u.
     let h = moof_at b.moof.now at in
     let low = rw c.in-Some.is at c.requires.can.claim in
     let o = outside u.written u.waiting c.args.ledger.now kept.counter.tally in
-    let did = c.in-Some-count_checked.ensures in
+    let did = c.in-Ok.ensures in
     let fit = boxes_fit at piece b are in
     let some = some_moof at piece b are in
     let long = moof_len at piece b are in
@@ -31,20 +31,20 @@ returns-clause-taken c = λ u.
     let len = rw tracks at c.settle_by.ensures.len in
     let few = rw did.moof at c.settle_by.ensures.few in
     let more = rw did.moof at c.settle_by.ensures.walked in
-    let account = did.claim cc in
+    let account = did.claim in
     let counter : Counter = record { tally = c.count_checked.new.counter.tally; steps = c.settle_by.new.steps } in
     let there : at + length b.moof.now + b.mdat.size ≡ at + (length b.moof.now + b.mdat.size) = omega arith in (
       omega (arith, some, long),
       omega (arith, fit.whole),
       rw (c.in-Some.is, c.requires.plan, c.requires.empty, tracks) (record {
         step = record {
-          goes = GoesOn-told at list piece b are (did.read cc) (did.placed are cc) Check 1 o low u.written u.waiting c.count_checked.new.ledger c.count_checked.new.counter.tally (length b.moof.now + 64 * length (moof_runs h list)) refl account (did.tally are.mdat.header cc) (Passes-none u.written u.waiting);
+          goes = GoesOn-told at list piece b are did.read (did.placed are) Check 1 o low u.written u.waiting c.count_checked.new.ledger c.count_checked.new.counter.tally (length b.moof.now + 64 * length (moof_runs h list)) refl account (did.tally are.mdat.header) (Passes-none u.written u.waiting);
           unfailed = refl;
           claim = rw account (omega (arith, low, len));
         };
         plan = refl;
         state = (no_head [] refl, omega (arith, fit.near));
         counted = subst (λ k. IsCounted (plans.List Check) counter k 0 0) there
-            (counted_ended (plans.List Check) c.count_checked.new.counter counter (at + length b.moof.now + b.mdat.size) (moof_samples h) (did.counted cc) refl (omega (arith, more)) few);
+            (counted_ended (plans.List Check) c.count_checked.new.counter counter (at + length b.moof.now + b.mdat.size) (moof_samples h) did.counted refl (omega (arith, more)) few);
       }),
     )

@@ -19,17 +19,17 @@ count-requires-clause-media c =
     omega (arith, c.requires.counted.media, less, are.mdat.near)
 
 pub returns-clause-placed : goal.returns-clause-placed
-returns-clause-placed c = λ are _.
+returns-clause-placed c = λ are.
     let placed = rw c.in-Ok.ensures.moof at (c.in-Some.ensures.placed cc) in
     subst (λ p. place_fault p (moof_runs (moof_at c.args.boxes.now.moof.now c.args.at) c.args.tracks.now) ≡ None) (c.payload_behind-payload.ensures are) placed
 
 pub returns-clause-counted : goal.returns-clause-counted
-returns-clause-counted c = λ _.
+returns-clause-counted c =
     let are = c.requires.are in
     let less = media_less c.args.at c.args.piece.now c.args.boxes.now are c.payload_behind-payload.result c.in-Some.following.bytes (c.payload_behind-payload.ensures are) c.in-Some.ensures.within in
     let samples = rw c.in-Ok.ensures.moof at c.samples.ensures.samples in
     let same = c.from-samples.ensures ∙ samples in
-    let more = rw c.in-Ok.ensures.moof at (c.in-Some.ensures.walked cc) in
+    let more = rw c.in-Ok.ensures.moof at c.in-Some.ensures.walked in
     counted_check c.args.at c.args.piece.now c.args.boxes.now are c.args.counter.now c.count.new.counter c.from.result c.from-samples.result c.in-Some.following.bytes c.requires.counted (c.from.ensures ∙ same) same
     (omega (arith, c.from-samples.ensures, c.samples.ensures.few)) less c.count.ensures.tally
     (omega (arith, ap (λ k. k.rows) c.count.ensures.steps, more, c.in-Ok.ensures.ok, same))

@@ -11,17 +11,17 @@ no_writer = record { written = None; waiting = record { bytes = []; ends = []; w
 
 pub overflow_add-at : goal.overflow_add-at
 overflow_add-at c =
-    let taken = c.in-Some.ensures.taken no_writer in
+    let taken = c.in-Ok.ensures.taken no_writer in
     omega (arith, taken.2.state.1)
 
-pub invariant_of-self-2 : goal.invariant_of-self-2
-invariant_of-self-2 c =
-    let taken = c.in-Some.ensures.taken no_writer in
+pub invariant_of-self-in-Ok : goal.invariant_of-self-in-Ok
+invariant_of-self-in-Ok c =
+    let taken = c.in-Ok.ensures.taken no_writer in
     rw c.go_to.ensures (taken.2.state, taken.2.counted)
 
-pub returns-clause-taken : goal.returns-clause-taken
-returns-clause-taken c = λ u.
+pub returns-in-Ok-clause-taken : goal.returns-in-Ok-clause-taken
+returns-in-Ok-clause-taken c = λ u.
     let state : c.self.inside.state ≡ states.Header c.args.at = ap (λ (p : Progress). p.state) c.self.view_is ∙ c.requires.state in
     let new = c.check_fragment.new in
     rw (← c.self.view_is, state, c.go_to.ensures)
-    (fed (lent_ledger u c.args.ledger.now new.ledger) c.self.inside.kept new.kept (states.Header c.args.at) (states.Header (c.args.at + c.in-Some.size)) c.args.piece.now c.in-Some.size (c.in-Some.ensures.taken u))
+    (fed (lent_ledger u c.args.ledger.now new.ledger) c.self.inside.kept new.kept (states.Header c.args.at) (states.Header (c.args.at + c.in-Ok.size)) c.args.piece.now c.in-Ok.size (c.in-Ok.ensures.taken u))

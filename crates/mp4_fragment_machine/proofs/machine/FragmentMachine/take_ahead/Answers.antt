@@ -34,6 +34,6 @@ pub returns-in-Err : goal.returns-in-Err
 returns-in-Err g c =
     c.refuse.ensures (record { written = g.W.Sink.contents c.args.w.now; waiting = c.args.out.now; failed = g.W.Sink.has_failed c.args.w.now })
 
-pub returns-in-Some : goal.returns-in-Some
-returns-in-Some g c =
-    c.in-Some.ensures.taken (record { written = g.W.Sink.contents c.args.w.now; waiting = c.args.out.now; failed = g.W.Sink.has_failed c.args.w.now })
+pub returns-in-Ok : goal.returns-in-Ok
+returns-in-Ok g c =
+    c.in-Ok.ensures.taken (record { written = g.W.Sink.contents c.args.w.now; waiting = c.args.out.now; failed = g.W.Sink.has_failed c.args.w.now })
