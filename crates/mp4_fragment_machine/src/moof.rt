@@ -16,20 +16,20 @@ ghost use Rattle.mp4_fragment_machine.specs.declared.state.State.TheVariants as 
 
 use crate::state::{Counter, Kept, State, Waiting};
 use mp4_box::Fault;
-use mp4_frag::{Moof, Steps};
+use mp4_frag::Moof;
 use mp4_init::TrackList;
 use mp4_ledger::Ledger;
 use mp4_machine::{Held, Stop};
 
-/// Reads a moof, and claims the list of its runs: it waits for its mdat then. Where it is refused it is given back. `looked` are the
-/// rows that were looked at in vain where it lies, if some were.
+/// Reads a moof, and claims the list of its runs: it waits for its mdat then. Where it is refused it is given back. `looked`: how
+/// many rows were looked at in vain where it lies, if some were.
 ///
 /// # Errors
 ///
 /// `Stream` where it is at fault; `OverLimit` or `Memory` where the claim of the list is refused.
 pub(crate) fn wait(
     held: Held,
-    looked: Option<Steps>,
+    looked: Option<u32>,
     kept: &mut Kept,
     ledger: &mut Ledger,
 ) -> Result<Waiting, Stop>
@@ -97,7 +97,7 @@ pub(crate) fn take_moof(held: Held, kept: &mut Kept, ledger: &mut Ledger) -> Res
 /// What is at fault with it.
 fn read_moof<'a>(
     held: &'a Held,
-    looked: Option<Steps>,
+    looked: Option<u32>,
     tracks: &TrackList,
     counter: &mut Counter,
 ) -> Result<Moof<'a>, Fault>
@@ -124,9 +124,9 @@ fn read_moof<'a>(
         moof_samples (moof_at held.now.bytes held.now.at) ≤ most_samples }
     ensures fragments { counter.new.tally.fragments ≡ counter.old.tally.fragments }
 {
-    if let Some(steps) = looked {
-        counter.steps.rows += steps.rows;
-        counter.tally.walked += steps.rows;
+    if let Some(rows) = looked {
+        counter.steps.rows += u128::from(rows);
+        counter.tally.walked += u128::from(rows);
         return Ok(Moof::again(held.bytes(), held.offset(), tracks));
     }
     let before = counter.steps.rows;

@@ -6,7 +6,7 @@
 //! If they don't, as where the runs of two tracks take turns in the mdat, the look was in vain. Its rows are counted, and the fragment
 //! is taken as others are, but that its rules aren't gone over again. Then some fragments are taken without a look.
 
-ghost use Rattle.std.specs.Prelude.{◌≡◌, ◌+◌, ◌*◌, ◌≤◌, [], length, None, Ok, Some, IfErr, IfOk, IfSome, OnErr, OnOk};
+ghost use Rattle.std.specs.Prelude.{◌≡◌, ◌+◌, ◌*◌, ◌≤◌, [], length, Err, None, Ok, Some, IfErr, IfOk, IfSome, OnErr, OnOk};
 ghost use Rattle.mp4_box.specs.declared.headers.Header.{Header};
 ghost use Rattle.mp4_frag.specs.Moofs.{IsRead, moof_runs, moof_samples};
 ghost use Rattle.mp4_frag.specs.Places.{place_fault};
@@ -24,7 +24,7 @@ ghost use Rattle.mp4_fragment_machine.specs.Places.{Unlent, claim_of, unsent};
 ghost use Rattle.mp4_fragment_machine.specs.States.{IsCounted, known, place_in};
 ghost use Rattle.mp4_fragment_machine.specs.Working.Feeds.{Feeds};
 ghost use Rattle.mp4_fragment_machine.specs.Working.Steps.{CanStep, TakesWhole, lent_ledger};
-ghost use Rattle.mp4_fragment_machine.specs.Working.Wholes.{AreBoxes, WasLookedAt, payload_in};
+ghost use Rattle.mp4_fragment_machine.specs.Working.Wholes.{AreBoxes, MayBeLookedAt, WasLookedAt, payload_in};
 ghost use Rattle.mp4_fragment_machine.specs.declared.state.State.TheVariants as states;
 
 use crate::listed_fragment::count;
@@ -56,7 +56,7 @@ struct Counted<'a> {
 ///
 /// # Errors
 ///
-/// Where it isn't counted, with the rows that were looked at in vain, if some were.
+/// Where it isn't counted: how many rows were looked at in vain, if some were.
 #[inline(always)]
 fn count_checked<'a>(
     at: u64,
@@ -65,7 +65,7 @@ fn count_checked<'a>(
     tracks: &TrackList,
     counter: &mut Counter,
     ledger: &mut Ledger,
-) -> Result<Counted<'a>, Option<Steps>>
+) -> Result<Counted<'a>, Option<u32>>
     requires are { AreBoxes at piece.now boxes.now }
     requires counted { IsCounted (plans.List Check) counter.old at 0 0 }
     ensures moof { IfOk result (λ c. c.moof ≡ moof_at boxes.now.moof.now at) }
@@ -86,6 +86,7 @@ fn count_checked<'a>(
     ensures none { OnErr result (ledger.new ≡ ledger.old) }
     ensures looked { IfErr result (λ l. IfSome l
         (WasLookedAt (moof_at boxes.now.moof.now at) tracks.now)) }
+    ensures unlooked { result ≡ Err None → MayBeLookedAt (moof_at boxes.now.moof.now at) tracks.now → ⊥ }
 {
     // So that no row is read for the rules, but only where the runs are looked at.
     if !Moof::begins_early(boxes.moof, at) {
@@ -98,14 +99,14 @@ fn count_checked<'a>(
     let mut looked = Steps { rows: 0 };
     let payload = payload_behind(at, boxes, piece);
     let Some(following) = moof.following(payload, tracks, &mut looked) else {
-        return Err(Some(looked));
+        return Err(Some(looked.rows as u32));
     };
     if following.runs > MOST_RUNS {
-        return Err(Some(looked));
+        return Err(Some(looked.rows as u32));
     }
     match ledger.count_claim(boxes.moof.len() as u64 + following.runs * ROW) {
         Ok(()) => {}
-        Err(_) => return Err(Some(looked)),
+        Err(_) => return Err(Some(looked.rows as u32)),
     }
     counter.steps.rows += looked.rows;
     let samples = u64::from(moof.samples());
@@ -128,7 +129,7 @@ pub(crate) fn check_fragment(
     piece: &[u8],
     kept: &mut Kept,
     ledger: &mut Ledger,
-) -> Result<u64, Option<Steps>>
+) -> Result<u64, Option<u32>>
     requires known { kept.old.tracks ≡ Some (known kept.old.tracks) }
     requires are { AreBoxes at piece.now boxes.now }
     requires empty { kept.old.head ≡ [] }
@@ -139,6 +140,8 @@ pub(crate) fn check_fragment(
     ensures none { OnErr result ((kept.new ≡ kept.old) × (ledger.new ≡ ledger.old)) }
     ensures looked { IfErr result (λ l. IfSome l
         (WasLookedAt (moof_at boxes.now.moof.now at) (known kept.old.tracks))) }
+    ensures unlooked { result ≡ Err None →
+        MayBeLookedAt (moof_at boxes.now.moof.now at) (known kept.old.tracks) → ⊥ }
 {
     let Some(list) = &mut kept.tracks else {
         unreachable!();
@@ -158,7 +161,7 @@ impl FragmentMachine {
     ///
     /// # Errors
     ///
-    /// Where nothing is taken, with the rows that were looked at in vain, if some were.
+    /// Where nothing is taken: how many rows were looked at in vain, if some were.
     #[inline(always)]
     pub(crate) fn check_whole(
         &mut self,
@@ -166,7 +169,7 @@ impl FragmentMachine {
         boxes: &Boxes<'_>,
         ledger: &mut Ledger,
         piece: &[u8],
-    ) -> Result<usize, Option<Steps>>
+    ) -> Result<usize, Option<u32>>
         requires state { self.old.state ≡ states.Header at }
         requires head { self.old.head ≡ [] }
         requires known { self.old.tracks ≡ Some (known self.old.tracks) }

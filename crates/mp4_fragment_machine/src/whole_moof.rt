@@ -20,7 +20,6 @@ use crate::slot::{leave_header, stop_at};
 use crate::state::{Kept, State, Taken, Waiting};
 use crate::whole_fragment::Span;
 use mp4_ends::Sink;
-use mp4_frag::Steps;
 use mp4_ledger::Ledger;
 use mp4_machine::{Block, Held, Machine, Stop};
 
@@ -34,7 +33,7 @@ fn hold_whole(
     at: u64,
     moof: &Span,
     piece: &[u8],
-    looked: Option<Steps>,
+    looked: Option<u32>,
     kept: &mut Kept,
     ledger: &mut Ledger,
 ) -> Result<Waiting, Stop>
@@ -68,7 +67,7 @@ pub(crate) fn take_whole_moof<W: Sink>(
     at: u64,
     moof: &Span,
     piece: &[u8],
-    looked: Option<Steps>,
+    looked: Option<u32>,
     kept: &mut Kept,
     ledger: &mut Ledger,
     out: &mut Block,
@@ -115,7 +114,7 @@ impl FragmentMachine {
         &mut self,
         at: u64,
         moof: &Span,
-        looked: Option<Steps>,
+        looked: Option<u32>,
         ledger: &mut Ledger,
         piece: &[u8],
         out: &mut Block,

@@ -1,16 +1,18 @@
 -- Working: a fragment of which a piece has all: a moof with one run, and its mdat.
-use Rattle.std.specs.Prelude.{◌≡◌, ℕ, ◌+◌, ◌-◌, ◌≤◌, ◌^◌, false, List, [], ◌∷◌, length, take, drop, Some, None}
+use Rattle.std.specs.Prelude.{◌≡◌, ℕ, ◌+◌, ◌-◌, ◌≤◌, ◌^◌, false, List, [], ◌∷◌, length, take, drop, true, Some, None}
+use Rattle.std.specs.List.{list_all}
 use Rattle.mp4_box.specs.Headers.{IsBytes, header_at}
+use Rattle.mp4_box.specs.Paths.{at_path}
 use Rattle.mp4_box.specs.declared.headers.Header.{Header}
 use Rattle.mp4_box.specs.declared.headers.Size.TheVariants.{Exact}
 use Rattle.mp4_box.specs.declared.headers.Step.TheVariants as steps
 use Rattle.mp4_init.specs.declared.table.Track.{Track}
+use Rattle.mp4_frag.specs.Kinds.{traf}
 use Rattle.mp4_frag.specs.LoneRuns.{IsLone}
-use Rattle.mp4_frag.specs.Moofs.{IsRead, moof_samples}
+use Rattle.mp4_frag.specs.Moofs.{IsRead, moof_of, moof_samples}
 use Rattle.mp4_frag.specs.Places.{place_fault}
 use Rattle.mp4_frag.specs.Rules.{most_samples}
-use Rattle.mp4_frag.specs.Runs.{MoofBytes, moof_at}
-use Rattle.mp4_frag.specs.declared.rows.Steps.{Steps}
+use Rattle.mp4_frag.specs.Runs.{MoofBytes, begins_early, moof_at}
 use Rattle.mp4_frag.specs.declared.lone.LoneRun.{LoneRun}
 use Rattle.mp4_run_order.specs.declared.runs.Payload.{Payload}
 use Rattle.mp4_machine.specs.Bodies.{longest}
@@ -46,9 +48,14 @@ pub record AreBoxes (at : ℕ) (piece : List ℕ) (b : Boxes) : Type 0 where
   pub valid : IsBytes b.moof.now
   pub mdat : StandsFirst Mdat (at + span.size) (drop span.size piece) b.mdat
 
--- nothing is at fault with a moof, and the rows of its samples were looked at where it lies: each once
-pub record WasLookedAt (h : MoofBytes) (tracks : List Track) (s : Steps) : Type 0 where
-  pub rows : s.rows ≡ moof_samples h
+-- the runs of a moof are looked at where it lies: nothing is at fault with it, and each traf has a time of its own before tick 2^63
+pub record MayBeLookedAt (h : MoofBytes) (tracks : List Track) : Type 0 where
+  pub read : IsRead h tracks
+  pub early : list_all begins_early (at_path (traf ∷ []) (moof_of h)) ≡ true
+
+-- nothing is at fault with a moof, and its rows were looked at where it lies, so many: that of each sample once
+pub record WasLookedAt (h : MoofBytes) (tracks : List Track) (rows : ℕ) : Type 0 where
+  pub all : rows ≡ moof_samples h
   pub few : moof_samples h ≤ most_samples
   pub read : IsRead h tracks
 

@@ -1,4 +1,4 @@
-use Rattle.std.proofs.Common.{◌≡◌, ◌∙◌, None, ap, arith, subst}
+use Rattle.std.proofs.Common.{◌≡◌, ◌∙◌, None, ap, arith, subst, sym}
 use Rattle.mp4_frag.specs.Moofs.{moof_runs}
 use Rattle.mp4_frag.specs.Places.{place_fault}
 use Rattle.mp4_frag.specs.Runs.{moof_at}
@@ -33,3 +33,9 @@ returns-clause-counted c =
     counted_check c.args.at c.args.piece.now c.args.boxes.now are c.args.counter.now c.count.new.counter c.from.result c.from-samples.result c.in-Some.following.bytes c.requires.counted (c.from.ensures ∙ same) same
     (omega (arith, c.from-samples.ensures, c.samples.ensures.few)) less c.count.ensures.tally
     (omega (arith, ap (λ k. k.rows) c.count.ensures.steps, more, c.in-Ok.ensures.ok, same))
+
+pub returns-in-Err-clause-unlooked : goal.returns-in-Err-clause-unlooked
+returns-in-Err-clause-unlooked c = λ _ may.
+    let fault = (c.read.ensures.fault c.in-Err.field-0).0 c.in-Err.is in
+    let none = sym may.read ∙ fault in
+    absurd cc
