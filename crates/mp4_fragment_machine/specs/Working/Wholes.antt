@@ -53,11 +53,12 @@ pub record MayBeLookedAt (h : MoofBytes) (tracks : List Track) : Type 0 where
   pub read : IsRead h tracks
   pub early : list_all begins_early (at_path (traf ∷ []) (moof_of h)) ≡ true
 
--- nothing is at fault with a moof, and its rows were looked at where it lies, so many: that of each sample once
+-- it was so looked at: for its rules no row was read, and for its runs so many, that of each sample once
 pub record WasLookedAt (h : MoofBytes) (tracks : List Track) (rows : ℕ) : Type 0 where
   pub all : rows ≡ moof_samples h
   pub few : moof_samples h ≤ most_samples
   pub read : IsRead h tracks
+  pub early : list_all begins_early (at_path (traf ∷ []) (moof_of h)) ≡ true
 
 -- a fragment at an offset, of which a piece has all, has these boxes, and its moof just this run, which stands where it may
 pub record IsFragment (at : ℕ) (tracks : List Track) (piece : List ℕ) (b : Boxes) (l : LoneRun) : Type 0 where
