@@ -9,10 +9,8 @@ IN ?= crates/real_streams/data/audio.mp4
 SAMPLES ?= 15
 PREFIX ?= /usr/local
 SHARE = $(DESTDIR)$(PREFIX)/share
-VERSION = $(shell cat VERSION)
-COMMIT = $(shell git rev-parse --short HEAD)
 
-.PHONY: demo build moof_runs cut_pieces push_pieces test wrong_bodies install dist refusals recipes play manual bench
+.PHONY: demo build moof_runs cut_pieces push_pieces test wrong_bodies install dist refusals recipes play manual bench bench_instructions
 
 demo:
 	@scripts/demo "$(IN)" "$(SAMPLES)"
@@ -44,7 +42,7 @@ install:
 	install -d "$(SHARE)/man/man1" "$(SHARE)/bash-completion/completions" "$(SHARE)/zsh/site-functions" \
 	    "$(SHARE)/fish/vendor_completions.d" "$(DESTDIR)$(PREFIX)/bin"
 	install -s -m 755 crates/fmp4/out/fmp4 "$(DESTDIR)$(PREFIX)/bin/fmp4"
-	sed "1s/ fmp4 / \"fmp4 $(VERSION), $(COMMIT)\" /" docs/fmp4.1 > "$(SHARE)/man/man1/fmp4.1"
+	sed "1s/ fmp4 / \"fmp4 $$(cat VERSION)\" /; s/^The number in VERSION.*/fmp4 $$(scripts/version)/" docs/fmp4.1 > "$(SHARE)/man/man1/fmp4.1"
 	install -m 644 completions/fmp4.bash "$(SHARE)/bash-completion/completions/fmp4"
 	install -m 644 completions/_fmp4 "$(SHARE)/zsh/site-functions/_fmp4"
 	install -m 644 completions/fmp4.fish "$(SHARE)/fish/vendor_completions.d/fmp4.fish"
@@ -80,3 +78,7 @@ bench: build moof_runs cut_pieces push_pieces
 	@bench/split
 	@bench/feeder
 	@bench/hostile_streams
+
+# Counts instructions by callgrind, and says where they are over 5 in 100 more than bench/instructions.txt keeps.
+bench_instructions: build push_pieces
+	@bench/instructions
