@@ -1,5 +1,5 @@
 -- What a Pusher's calls do to what an engine is.
-use Rattle.std.proofs.Common.{◌≡◌, ◌∙◌, ℕ, ◌+◌, List, [], ◌∷◌, ◌++◌, append_assoc, length, take, drop, Option, Some, None, Ok, Err, refl, sym, ap, subst, arith}
+use Rattle.std.proofs.Common.{◌≡◌, ◌∙◌, ℕ, ◌+◌, List, [], ◌∷◌, ◌++◌, append_assoc, length, length-append, take, drop, Option, Some, None, Ok, Err, refl, sym, ap, subst, arith}
 use Rattle.std.proofs.lemmas.List.{take-append-drop}
 use Rattle.std.specs.Io.KnownBytes.{Appends}
 use Rattle.mp4_ledger.specs.Memory.{Account}
@@ -7,12 +7,14 @@ use Rattle.mp4_machine.specs.Fed.{AllWhole, FedUntil, Lent, StarvesBehind, Tells
 use Rattle.mp4_machine.specs.Readings.{Effects, Reading, both, whole_in}
 use Rattle.mp4_machine.specs.declared.stop.Stop.{Stop}
 use Rattle.mp4_machine.specs.declared.stop.Stop.TheVariants.{Stream, Read, Write, OverLimit, Memory}
+use Rattle.mp4_machine.proofs.MarkLemmas.{whole_in-before, whole_in-both}
 use Rattle.mp4_push.specs.Pushing.{Feeds, IsAfter, Pushing, WritesBefore, held_by, live, sums_of, totals_of}
 use Rattle.mp4_push.proofs.PusherLemmas.{reading-none}
 use Rattle.mp4_recut.specs.Plans.{reads_of}
 use Rattle.mp4_recut.specs.declared.plan.Plan.{Plan}
-use Rattle.fmp4_c.specs.Answers.{answer_to}
-use Rattle.fmp4_c.specs.Engines.{Fed, Holds, IsRefused, Run, Stopped, StopsIn, totals_in}
+use Rattle.mp4_push.specs.declared.totals.Totals.{Totals}
+use Rattle.fmp4_c.specs.Answers.{answer_to, fault_of, told_by}
+use Rattle.fmp4_c.specs.Engines.{Fed, Holds, IsRefused, Run, Stopped, StopsIn, report_of, totals_in}
 use Rattle.fmp4_c.specs.declared.answer.Answer.{Answer}
 
 some-is : {A : Type 0} (x y : A) → ◌≡◌ {A = Option A} (Some x) (Some y) → x ≡ y
@@ -116,20 +118,60 @@ module _ (b given chunk : List ℕ) (r r' : Run) (p p' : Pushing) (l : Lent) (is
             ∙ append_assoc (live p.plan b) until.text.0 until.text.1
             ∙ ap (λ (x : List ℕ). live p.plan b ++ x) (sym until.text.3)
             ∙ ap (λ (e : Effects). e.text) (sym until.all);
+        counted = until.most;
+        claimed = until.peak_most;
       }
       stops-in OverLimit until before = (refused until.0 before, omega (arith, until.1, same-limit, same-live, idle))
       stops-in Memory until before = (refused until.0 before, omega (arith, until.1, same-limit, same-live, idle))
 
-      pub stopped : (e : Stop) → p'.stop ≡ Some e → Feeds {T = Unit {0}} b chunk p p' l (Err e) → Stopped p.plan (b ++ chunk) given (answer_to e) r'
-      stopped e stop feeds = record {
-        pushing = p';
-        stop = e;
-        runs = is';
-        planned = same;
-        stops = stop;
-        answers = refl;
-        written = stops-in e feeds.err.0 feeds.err.1;
-      }
+      -- the fragments that are whole in what was written
+      module _ (stands : IsAfter p b) (before : l.whole ≡ p.fragments) (after : l.whole' ≡ p'.fragments) where
+        abbrev t : Effects
+        t = (reads_of p.plan b).effects
+
+        at-front : (brought : Effects) (n : ℕ) → whole_in (length t.text + n) 0 (both t brought).marks ≡ whole_in n l.whole brought.marks
+        at-front brought n = whole_in-both (length t.text) 0 l.whole t.marks brought.marks (subst (AllWhole t) (sym before) stands.fragments) n
+
+        length-joined : (more : List ℕ) → Appends l.written l.written' more → length (given ++ r'.waiting.bytes) ≡ length t.text + length more
+        length-joined more a = ap (λ (x : List ℕ). length x) (joined more a) ∙ length-append t.text more
+
+        whole-rest : (told : TellsRest (reads_of p.plan) b (b ++ chunk) l (held_by p) 0) → p'.fragments ≡ whole_in (length (given ++ r'.waiting.bytes)) 0 (reads_of p.plan (b ++ chunk)).effects.marks
+        whole-rest told =
+            let long : length (given ++ r'.waiting.bytes) ≡ length t.text + (length told.effects.text + 0) = omega (arith, length-joined told.effects.text told.text) in
+            sym after ∙ sym (told.fragments 0) ∙ sym (at-front told.effects (length told.effects.text + 0))
+            ∙ ap (λ k. whole_in k 0 (both t told.effects).marks) (sym long)
+            ∙ ap (λ (e : Effects). whole_in (length (given ++ r'.waiting.bytes)) 0 e.marks) (sym told.all)
+
+        whole-refused : (s : StarvesBehind (reads_of p.plan) b (b ++ chunk) l (held_by p) (sums_of p')) → p'.fragments ≡ whole_in (length (given ++ r'.waiting.bytes)) 0 (reads_of p.plan (b ++ chunk)).effects.marks
+        whole-refused s =
+            let long : length (given ++ r'.waiting.bytes) ≡ s.request.text_before = omega (arith, length-joined s.effects.text s.text, s.placed) in
+            let n : s.request.text_before ≡ length t.text + (length s.effects.text + 0) = omega (arith, s.placed) in
+            sym after ∙ sym (s.fragments 0) ∙ sym (at-front s.effects (length s.effects.text + 0))
+            ∙ ap (λ k. whole_in k 0 (both t s.effects).marks) (sym n)
+            ∙ whole_in-before s.request.text_before 0 (both t s.effects).marks s.marked.0 (reads_of p.plan (b ++ chunk)).effects.marks s.marked.1 s.marked.2
+            ∙ ap (λ k. whole_in k 0 (reads_of p.plan (b ++ chunk)).effects.marks) (sym long)
+
+        whole-stopped : (e : Stop) → FedUntil (reads_of p.plan) b chunk l (held_by p) (sums_of p') e → p'.fragments ≡ whole_in (length (given ++ r'.waiting.bytes)) 0 (reads_of p.plan (b ++ chunk)).effects.marks
+        whole-stopped (Stream f) until = whole-rest until.0
+        whole-stopped (Read at) until = absurd until
+        whole-stopped Write until =
+            sym after ∙ until.fragments ∙ sym (at-front until.effects (length until.text.0))
+            ∙ ap (λ k. whole_in k 0 (both t until.effects).marks) (sym (length-joined until.text.0 until.text.2))
+            ∙ ap (λ (e : Effects). whole_in (length (given ++ r'.waiting.bytes)) 0 e.marks) (sym until.all)
+        whole-stopped OverLimit until = whole-refused until.0
+        whole-stopped Memory until = whole-refused until.0
+
+        pub stopped : (e : Stop) → p'.stop ≡ Some e → Feeds {T = Unit {0}} b chunk p p' l (Err e) → Stopped p.plan (b ++ chunk) given (answer_to e) r'
+        stopped e stop feeds = record {
+          pushing = p';
+          stop = e;
+          runs = is';
+          planned = same;
+          stops = stop;
+          answers = refl;
+          written = stops-in e feeds.err.0 feeds.err.1;
+          fragments = whole-stopped e feeds.err.0;
+        }
 
 -- what a feed that stopped answers
 pub fed-stopped : (plan : Plan) (b given : List ℕ) (r : Run) (e : Stop) → Stopped plan b given (answer_to e) r → Fed plan b given (answer_to e) r
@@ -183,7 +225,7 @@ module _ (plan : Plan) (b given out : List ℕ) (n : ℕ) (r r' : Run) (front : 
     stops-taken : (e : Stop) → StopsIn plan b given e p r → StopsIn plan b (given ++ take n out) e p r'
     stops-taken (Stream f) h = record { early = h.early; text = taken given r.waiting.bytes out r'.waiting.bytes (live plan b) n front left h.text; sums = h.sums }
     stops-taken (Read at) h = absurd h
-    stops-taken Write h = record { rest = h.rest; text = taken-rest given r.waiting.bytes out r'.waiting.bytes h.rest (live plan b) n front left h.text }
+    stops-taken Write h = record { rest = h.rest; text = taken-rest given r.waiting.bytes out r'.waiting.bytes h.rest (live plan b) n front left h.text; counted = h.counted; claimed = h.claimed }
     stops-taken OverLimit h = (refused-taken h.0, omega (arith, h.1, same-limit-taken))
     stops-taken Memory h = (refused-taken h.0, omega (arith, h.1, same-limit-taken))
 
@@ -196,6 +238,7 @@ module _ (plan : Plan) (b given out : List ℕ) (n : ℕ) (r r' : Run) (front : 
     stops = h.stops;
     answers = h.answers;
     written = stops-taken account h.pushing h.stop h.written;
+    fragments = h.fragments ∙ ap (λ (x : List ℕ). whole_in (length x) 0 (reads_of plan b).effects.marks) (sym (taken given r.waiting.bytes out r'.waiting.bytes (given ++ r.waiting.bytes) n front left refl));
   }
 
 -- ---- what is counted
@@ -210,6 +253,13 @@ totals-are p b h =
     let tally : p.machine.counter.tally ≡ t.tally = ap (λ s. s.tally) h.sums in
     let peak = ap (λ s. s.peak) h.sums in
     rw (whole-now t p.fragments h.fragments, tally, peak) refl
+
+-- the report of one that goes on
+pub report-holds : (plan : Plan) (b given : List ℕ) (r : Run) (h : Holds plan b given r) → report_of h.pushing ≡ told_by (totals_in plan b) None
+report-holds plan b given r h =
+    ap (λ (s : Option Stop). told_by (totals_of h.pushing) (fault_of s)) h.stands.running
+    ∙ ap (λ (t : Totals). told_by t None) (totals-are h.pushing b h.stands)
+    ∙ ap (λ (k : Plan). told_by (totals_in k b) None) h.planned
 
 -- ---- what a handle held is what was in its box
 

@@ -5,7 +5,7 @@ use Rattle.mp4_grammar.specs.Contexts.{first_context}
 use Rattle.mp4_grammar.specs.HeldSizes.{HoldsWithin}
 use Rattle.mp4_ledger.specs.Memory.{Account}
 use Rattle.mp4_machine.specs.Fed.{sums_in}
-use Rattle.mp4_machine.specs.Readings.{Request, early_in, fault_in, greatest, most_of, whole_in}
+use Rattle.mp4_machine.specs.Readings.{AtMost, Request, early_in, fault_in, greatest, most_of, whole_in}
 use Rattle.mp4_machine.specs.declared.stop.Stop.{Stop}
 use Rattle.mp4_machine.specs.declared.stop.Stop.TheVariants as stops
 use Rattle.mp4_push.specs.Pushing.{IsAfter, Pushing, fragments_of, held_by, live, sums_of, totals_of}
@@ -60,20 +60,23 @@ pub record IsRefused (plan : Plan) (b given : List ℕ) (p : Pushing) (r : Run) 
   pub text : given ++ r.waiting.bytes ≡ live plan (take request.at b)
   pub sums : sums_of p ≡ record { tally = request.counted; peak = greatest earlier }
 
--- the output of the bytes b found no room: what was given out and what waits is the front of it
-pub record HasNoRoom (plan : Plan) (b given : List ℕ) (r : Run) : Type 0 where
+-- the output of the bytes b found no room: what was given out and what waits is the front of it, and no more was counted
+-- and claimed than these bytes do
+pub record HasNoRoom (plan : Plan) (b given : List ℕ) (p : Pushing) (r : Run) : Type 0 where
   pub rest : List ℕ
   pub text : (given ++ r.waiting.bytes) ++ rest ≡ live plan b
+  pub counted : AtMost p.machine.counter.tally (reads_of plan b).effects.tally
+  pub claimed : p.peak ≤ most_of (reads_of plan b).effects
 
 -- how a stream stopped in the bytes b
 abbrev pub StopsIn : Plan → (b given : List ℕ) → Stop → Pushing → Run → Type 0
 StopsIn plan b given (stops.Stream fault) p r = IsAtFault plan b given fault p r
 StopsIn plan b given stops.OverLimit p r = (refused : IsRefused plan b given p r) × (r.account.limit < refused.request.sum)
 StopsIn plan b given stops.Memory p r = (refused : IsRefused plan b given p r) × (refused.request.sum ≤ r.account.limit)
-StopsIn plan b given stops.Write p r = HasNoRoom plan b given r
+StopsIn plan b given stops.Write p r = HasNoRoom plan b given p r
 StopsIn plan b given (stops.Read at) p r = ⊥
 
--- it stopped in the bytes b, with this answer
+-- it stopped in the bytes b, with this answer. The fragments that are whole in what was given out and what waits are counted
 pub record Stopped (plan : Plan) (b given : List ℕ) (answer : Answer) (r : Run) : Type 0 where
   pub pushing : Pushing
   pub stop : Stop
@@ -82,6 +85,7 @@ pub record Stopped (plan : Plan) (b given : List ℕ) (answer : Answer) (r : Run
   pub stops : pushing.stop ≡ Some stop
   pub answers : answer ≡ answer_to stop
   pub written : StopsIn plan b given stop pushing r
+  pub fragments : pushing.fragments ≡ whole_in (length (given ++ r.waiting.bytes)) 0 (reads_of plan b).effects.marks
 
 -- by what a feed answered
 abbrev pub Fed : Plan → (b given : List ℕ) → Answer → Run → Type 0

@@ -4,9 +4,9 @@ ghost use Rattle.std.specs.Prelude.{◌≡◌, ℕ, ◌<◌, ◌≤◌, List, []
 ghost use Rattle.mp4_push.specs.Pushing.{Pushing};
 ghost use Rattle.mp4_recut.specs.declared.plan.Plan as plans;
 ghost use Rattle.mp4_machine.specs.declared.stop.Stop as stops;
-ghost use Rattle.fmp4_c.specs.Answers.{answer_to, at_rest, number_of};
+ghost use Rattle.fmp4_c.specs.Answers.{answer_to, at_rest, number_of, told_by};
 ghost use Rattle.fmp4_c.specs.Calls.{ClaimsIn, FedIn, FinishedIn, HoldsIn, StoppedIn};
-ghost use Rattle.fmp4_c.specs.Engines.{FitsIn, Holds, IsKept, IsPortion, Run, report_of};
+ghost use Rattle.fmp4_c.specs.Engines.{FitsIn, Holds, IsKept, IsPortion, Run, report_of, totals_in};
 ghost use Rattle.fmp4_c.specs.declared.answer.Answer as answers;
 
 use crate::answer::Answer;
@@ -112,6 +112,8 @@ pub extern "C" fn fmp4_take(
 pub extern "C" fn fmp4_totals(alloc: Global, stream: &mut Stream, report: &mut Report) -> u32
     ensures tells { (r : Run) → (p : Pushing) → stream.old.handle.held ≡ Some r →
         r.pushing ≡ Some p → (result ≡ number_of Answer.Done) × (report.new ≡ report_of p) }
+    ensures counts { (plan : plans.Plan) → (b given : List ℕ) →
+        HoldsIn plan b given stream.old.handle.held → report.new ≡ told_by (totals_in plan b) None }
     ensures ended { (r : Run) → stream.old.handle.held ≡ Some r → r.pushing ≡ None →
         (result ≡ number_of Answer.Ended) × (report.new ≡ report.old) }
     ensures closed { stream.old.handle.held ≡ None →
