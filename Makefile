@@ -91,7 +91,7 @@ manual:
 	@scripts/check_manual
 
 # Measures the program beside others; see bench/README.md.
-bench: build moof_runs cut_pieces push_pieces
+bench: build lib moof_runs cut_pieces push_pieces
 	@bench/large_boxes
 	@bench/small_boxes
 	@bench/many_tracks
@@ -100,4 +100,5 @@ bench: build moof_runs cut_pieces push_pieces
 	@bench/samples
 	@bench/split
 	@bench/feeder
+	@bench/c_library
 	@bench/hostile_streams

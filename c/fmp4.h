@@ -78,7 +78,9 @@ enum fmp4_flags {
 
 /* Opens a stream that is cut into fragments of at most `samples` samples (1 to 1,000,000), and of at most `bytes` bytes of
  * media (0: any number; a larger sample is a fragment by itself). `limit`: the most bytes that it may take. `room` of them
- * are allocated at once for the output that waits: 1 MiB serves well. A stream that was closed can be opened again.
+ * are allocated at once for the output that waits. What one feed determines must fit there: 2 MiB serve where output is
+ * taken after each feed. A moov comes at once (most have less than 64 KiB; 16 MiB are allowed), and a head of 92 bytes and 16
+ * a sample with each new fragment. A stream that was closed can be opened again.
  *   FMP4_OVER_LIMIT: room is more than limit; FMP4_NO_MEMORY; FMP4_IS_OPEN; FMP4_BAD_SAMPLES, _BYTES, _FLAGS, _ROOM */
 uint32_t fmp4_split_open(struct fmp4_stream *stream, uint32_t samples, uint64_t bytes, uint32_t flags, uint64_t limit,
                          size_t room);

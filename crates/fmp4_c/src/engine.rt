@@ -1,12 +1,14 @@
 //! A Pusher with its memory and its output.
 
-ghost use Rattle.std.specs.Prelude.{◌≡◌, ℕ, ◌+◌, ◌*◌, ◌<◌, ◌≤◌, ◌↔◌, List, [], ◌++◌, length, take, drop, min, None, Some, IfOk, IsErrOf};
+ghost use Rattle.std.specs.Prelude.{◌≡◌, ℕ, ◌+◌, ◌*◌, ◌<◌, ◌≤◌, ◌↔◌, List, ◌++◌, length, take, drop, min};
+ghost use Rattle.std.specs.Prelude.{None, Some, IfOk, IsErrOf};
 ghost use Rattle.mp4_push.specs.Pushing.{Pushing};
 ghost use Rattle.mp4_recut.specs.declared.plan.Plan as plans;
 ghost use Rattle.mp4_machine.specs.declared.stop.Stop as stops;
 ghost use Rattle.fmp4_c.specs.Answers.{answer_to, number_of};
 ghost use Rattle.fmp4_c.specs.Calls.{IsOpened};
-ghost use Rattle.fmp4_c.specs.Engines.{ClaimsWithin, Fed, Finished, FitsIn, Holds, IsKept, IsPortion, Stopped, held_in, report_of};
+ghost use Rattle.fmp4_c.specs.Engines.{ClaimsWithin, Fed, Finished, FitsIn, Holds, IsKept, IsPortion, Stopped};
+ghost use Rattle.fmp4_c.specs.Engines.{held_in, report_of};
 ghost use Rattle.fmp4_c.specs.declared.answer.Answer as answers;
 
 use crate::answer::Answer;
@@ -50,7 +52,8 @@ pub struct Feed {
 }
 
 impl Engine {
-    /// One to which no byte has come. The room for the output is allocated, and the rest of the limit is for the stream's memory.
+    /// One to which no byte has come. The room for the output is allocated, and the rest of the limit is for the stream's
+    /// memory.
     ///
     /// # Errors
     ///

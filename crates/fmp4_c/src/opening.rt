@@ -15,8 +15,9 @@ use mp4_ledger::Refused;
 use std::alloc::Global;
 use std::mem::replace;
 
-/// Opens a stream that is cut into fragments of at most so many samples and so many bytes of media (0: any number), by flags 1 for
-/// an index and 2 for a cut before each sync sample. It takes at most `limit` bytes, `room` of them for the output that waits.
+/// Opens a stream that is cut into fragments of at most so many samples and so many bytes of media (0: any number), by
+/// flags 1 for an index and 2 for a cut before each sync sample. It takes at most `limit` bytes, `room` of them for the
+/// output that waits.
 #[unsafe(no_mangle)]
 pub extern "C" fn fmp4_split_open(
     alloc: Global,

@@ -1,6 +1,7 @@
 //! What waits to be taken.
 
-ghost use Rattle.std.specs.Prelude.{◌≡◌, ◌-◌, ◌+◌, ◌<◌, ◌≤◌, min, [], ◌∷◌, ◌++◌, length, take, drop, Some, true, false, IfOk, OnOk, OnErr, vec_capacity, vec_len};
+ghost use Rattle.std.specs.Prelude.{◌≡◌, ◌-◌, ◌+◌, ◌<◌, ◌≤◌, min, [], ◌∷◌, ◌++◌, length, take, drop};
+ghost use Rattle.std.specs.Prelude.{Some, true, false, IfOk, OnOk, OnErr, vec_capacity, vec_len};
 ghost use Rattle.std.specs.Io.KnownBytes.{WriteAppends, Keeps};
 ghost use Rattle.fmp4_c.specs.Waiting.{empty};
 
@@ -80,6 +81,11 @@ impl Output {
         let count = out.len().min(self.bytes.len() - self.at);
         out[..count].copy_from_slice(&self.bytes[self.at..self.at + count]);
         self.at += count;
+        if self.at == self.bytes.len() {
+            // So the next bytes go to memory that was just used.
+            self.bytes.clear();
+            self.at = 0;
+        }
         count
     }
 

@@ -1,9 +1,9 @@
-//! A fragmented stream that is pushed in chunk by chunk, whatever is made of it: its fragments are cut into shorter ones, its
-//! samples are listed, or it is checked.
+//! A fragmented stream that is pushed in chunk by chunk, whatever is made of it: its fragments are cut into shorter ones,
+//! its samples are listed, or it is checked.
 //!
 //! - [`pusher`]: [`Pusher`], which takes the chunks, and [`totals`]: what it counts.
 //!
-//! The definitions: `specs/Pushing.antt` (what a Pusher is after the bytes that it was fed, and what a call of it does).
+//! The definitions: `specs/Pushing.antt` (what a Pusher is after the bytes that it was fed, and what its calls do).
 #![tactic(auto)]
 
 pub mod pusher;

@@ -1,6 +1,7 @@
 //! A stream that is pushed in chunk by chunk.
 
-ghost use Rattle.std.specs.Prelude.{◌≡◌, ℕ, List, ◌+◌, ◌-◌, ◌*◌, ◌≤◌, [], None, Some, Err, Ok, IfErr, IfOk, OnOk, OnErr, IsErrOf, true};
+ghost use Rattle.std.specs.Prelude.{◌≡◌, ℕ, List, ◌+◌, ◌-◌, ◌≤◌, [], None, Some, Err, Ok};
+ghost use Rattle.std.specs.Prelude.{IfErr, IfOk, OnOk, OnErr, IsErrOf, true};
 ghost use Rattle.mp4_fragment_machine.specs.States.{begun};
 ghost use Rattle.mp4_ledger.specs.Memory.{given_back};
 ghost use Rattle.mp4_machine.specs.Ends.{sent};
@@ -32,8 +33,8 @@ pub struct Pusher {
     peak: u64,
 }
 
-// A contract sees its plan, where it is in the stream, why it stopped, the most that it had claimed, and how many fragments are
-// whole in what it wrote.
+// A contract sees its plan, where it is in the stream, why it stopped, the most that it had claimed, and how many
+// fragments are whole in what it wrote.
 impl Model for Pusher {
     ghost use Rattle.mp4_push.specs.Pushing.{IsPusher, Pushing};
 
@@ -42,8 +43,9 @@ impl Model for Pusher {
     ghost view = { λ p. record
         { plan = p.plan; machine = p.machine; stop = p.stop; peak = p.peak; fragments = p.block.whole } };
 
-    ghost invariant = { λ p. IsPusher
-        (record { plan = p.plan; machine = p.machine; stop = p.stop; peak = p.peak; fragments = p.block.whole }) p.held p.block };
+    ghost invariant = { λ p. IsPusher (record
+        { plan = p.plan; machine = p.machine; stop = p.stop; peak = p.peak; fragments = p.block.whole })
+        p.held p.block };
 }
 
 impl Pusher {
@@ -96,14 +98,14 @@ impl Pusher {
         }
     }
 
-    /// Takes the next chunk of the stream, and writes all that the bytes so far determine and that wasn't written yet. A chunk
-    /// without bytes changes nothing.
+    /// Takes the next chunk of the stream, and writes all that the bytes so far determine and that wasn't written yet. A
+    /// chunk without bytes changes nothing.
     ///
     /// # Errors
     ///
-    /// `Stream` where the bytes so far break a rule, with all before written; `Write` where a write failed, with a prefix of it
-    /// written; `OverLimit` and `Memory` where a claim was refused, with exactly the output of the bytes before that box
-    /// written. All that was claimed is given back then, and each later call answers the same and writes nothing.
+    /// `Stream` where the bytes so far break a rule, with all before written; `Write` where a write failed, with a prefix of
+    /// it written; `OverLimit` and `Memory` where a claim was refused, with exactly the output of the bytes before that
+    /// box written. All that was claimed is given back then, and each later call answers the same and writes nothing.
     pub fn feed<W: Sink>(
         &mut self,
         ledger: &mut Ledger,
