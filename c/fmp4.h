@@ -12,7 +12,7 @@
  *
  * Ownership. The caller owns struct fmp4_stream, chunks, buffers and reports; no call keeps a pointer to them. What an
  * open stream allocates is freed by fmp4_close. No pointer may be NULL, also where its length is 0, and no two that are
- * given to one call may overlap. Bytes of a buffer are read before they are written: give initialised memory.
+ * given to one call may overlap. Buffers must be initialised memory, also those that are written.
  *
  * Threads. Streams share nothing. Calls with different streams may run at once; those with one stream one at a time, and
  * all in the thread that opened it. No call may be made in a signal handler, or in the forked child of a process with
