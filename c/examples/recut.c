@@ -1,0 +1,56 @@
+/* recut SAMPLES [CHUNK [BYTES [FLAGS [LIMIT [ROOM]]]]]: recuts standard input, CHUNK bytes at a time, as fmp4 split does.
+ * cc recut.c -lfmp4 */
+#include <fmp4.h>
+#include <stdio.h>
+#include <stdlib.h>
+
+/* Writes all output that waits; 0 where that fails. */
+static int drain(struct fmp4_stream *stream, unsigned char *buffer, size_t size) {
+    size_t n;
+    do {
+        fmp4_take(stream, buffer, size, &n);
+        if (fwrite(buffer, 1, n, stdout) != n) return 0;
+    } while (n == size);
+    return 1;
+}
+
+/* Says what a stop means. */
+static void tell(uint32_t answer, const struct fmp4_report *report) {
+    char name[16], type[5] = {0};
+    if (answer == FMP4_FAULT) {
+        fmp4_rule_name(report->rule, name, sizeof name);
+        for (int i = 0; i < 4; i++) type[i] = (char)(report->type >> (24 - 8 * i));
+        fprintf(stderr, "recut: %u %s in %s at %llu\n", (unsigned)report->rule, name, report->type ? type : "-",
+                (unsigned long long)report->offset);
+    } else if (answer == FMP4_OVER_LIMIT) fputs("recut: over the limit\n", stderr);
+    else if (answer == FMP4_NO_MEMORY) fputs("recut: out of memory\n", stderr);
+    else if (answer == FMP4_NO_ROOM) fputs("recut: the room is too small\n", stderr);
+}
+
+int main(int argc, char **argv) {
+    unsigned long long with[6] = {0, 65536, 0, 0, 512ull << 20, 2 << 20};
+    if (argc < 2 || argc > 7) return fputs("recut SAMPLES [CHUNK [BYTES [FLAGS [LIMIT [ROOM]]]]]\n", stderr), 64;
+    for (int i = 1; i < argc; i++) with[i - 1] = strtoull(argv[i], NULL, 10);
+    size_t size = with[1] ? with[1] : 1, len = 0, n;
+    unsigned char *chunk = calloc(size, 1), *out = calloc(65536, 1);
+    if (!chunk || !out) return 4;
+    struct fmp4_stream stream = {0};
+    struct fmp4_report report = {0};
+    uint32_t answer = fmp4_split_open(&stream, (uint32_t)with[0], with[2], (uint32_t)with[3], with[4], with[5]);
+    if (answer != FMP4_OK) return fprintf(stderr, "recut: the stream isn't opened: %u\n", (unsigned)answer), 64;
+    int is_written = 1;
+    while (is_written && answer == FMP4_OK && (len = fread(chunk, 1, size, stdin)) > 0)
+        for (size_t at = 0; is_written && at < len && (answer == FMP4_OK || answer == FMP4_FULL); at += n) {
+            answer = fmp4_feed(&stream, chunk + at, len - at, &n);
+            is_written = drain(&stream, out, 65536);
+            if (answer == FMP4_FULL) answer = FMP4_OK;
+        }
+    answer = fmp4_finish(&stream, &report);
+    if (is_written) is_written = drain(&stream, out, 65536) && fflush(stdout) == 0;
+    fmp4_close(&stream);
+    free(chunk);
+    free(out);
+    if (!is_written || ferror(stdin)) return fputs("recut: a read or a write failed\n", stderr), 3;
+    tell(answer, &report);
+    return answer == FMP4_OK ? 0 : answer == FMP4_FAULT ? 2 : answer == FMP4_NO_ROOM ? 3 : 4;
+}

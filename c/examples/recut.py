@@ -1,0 +1,20 @@
+# recut.py LIBFMP4.SO SAMPLES [CHUNK]: recuts standard input by ctypes
+import ctypes, sys
+from ctypes import byref, c_size_t, c_uint32, c_uint64, c_void_p, create_string_buffer as buffer
+class Stream(ctypes.Structure): _fields_ = [("state", c_void_p), ("closed", c_uint32)]
+class Report(ctypes.Structure):
+    _fields_ = [(it, c_uint64) for it in ("fragments", "samples", "media_bytes", "peak", "offset")] + [("rule", c_uint32), ("type", c_uint32)]
+lib, stream, report, n, out = ctypes.CDLL(sys.argv[1]), Stream(), Report(), c_size_t(), buffer(65536)
+def drain():
+    while lib.fmp4_take(byref(stream), out, c_size_t(65536), byref(n)) == 0 and n.value: sys.stdout.buffer.write(out.raw[:n.value])
+if lib.fmp4_split_open(byref(stream), c_uint32(int(sys.argv[2])), c_uint64(0), c_uint32(0), c_uint64(512 << 20), c_size_t(2 << 20)): sys.exit(64)
+answer, size = 0, int(sys.argv[3]) if len(sys.argv) > 3 else 65536
+while answer < 2 and (chunk := sys.stdin.buffer.read(size)):
+    while answer < 2 and chunk:
+        answer = lib.fmp4_feed(byref(stream), chunk, c_size_t(len(chunk)), byref(n))
+        chunk = chunk[n.value:]
+        drain()
+answer = lib.fmp4_finish(byref(stream), byref(report))
+drain()
+lib.fmp4_close(byref(stream))
+sys.exit(answer)

@@ -1,0 +1,124 @@
+/* fmp4.h: cuts the fragments of a fragmented MP4 stream (ISO/IEC 14496-12) into shorter ones, or checks such a stream.
+ *
+ * A stream is fed chunk by chunk, however it is cut into chunks, and the output is taken from the front:
+ *
+ *     struct fmp4_stream s = {0};
+ *     fmp4_split_open(&s, 15, 0, 0, 64 << 20, 1 << 20);
+ *     while (fmp4_feed(&s, chunk, len, &n) ..)  take with fmp4_take, go on with chunk + n
+ *     fmp4_finish(&s, &report);                 take what is left
+ *     fmp4_close(&s);
+ *
+ * docs/fmp4.3 is the manual page, and c/examples/recut.c a whole program.
+ *
+ * Ownership. The caller owns struct fmp4_stream, chunks, buffers and reports; no call keeps a pointer to them. What an
+ * open stream allocates is freed by fmp4_close. No pointer may be NULL, also where its length is 0, and no two that are
+ * given to one call may overlap. Buffers must be initialised memory, also those that are written.
+ *
+ * Threads. Streams share nothing. Calls with different streams may run at once; those with one stream one at a time, and
+ * all in the thread that opened it. No call may be made in a signal handler, or in the forked child of a process with
+ * threads. A call needs at most 256 KiB of stack, blocks on nothing, and ends.
+ *
+ * Memory comes from malloc, realloc and free. A stream takes at most `limit` bytes for its boxes and its output together,
+ * and some 20 KiB beside them for its state. No media is kept but in the output that waits.
+ */
+#ifndef FMP4_H
+#define FMP4_H
+
+#include <stddef.h>
+#include <stdint.h>
+
+#ifdef __cplusplus
+extern "C" {
+#endif
+
+/* A stream. It begins as zeros, and its fields are the library's: never read, change or copy them. */
+struct fmp4_stream {
+    void *state;
+    uint32_t closed;
+};
+
+/* What was counted of a stream, and which rule it breaks. */
+struct fmp4_report {
+    uint64_t fragments;   /* of a stream that is cut: the new ones whose moof was written; of a check: those accepted */
+    uint64_t samples;     /* those of accepted fragments; 2^64 - 1 where there are more */
+    uint64_t media_bytes; /* the bytes of these samples */
+    uint64_t peak;        /* the most bytes that the boxes of the stream had claimed at once, without the output */
+    uint64_t offset;      /* where the box at fault begins in the stream; 0: no fault */
+    uint32_t rule;        /* the number of the broken rule, 1 to 25 (docs/FORMAT.md); 0: no fault */
+    uint32_t type;        /* the type of the box at fault, 'moof' as 0x6d6f6f66; 0: not known */
+};
+
+/* What a call answers. */
+enum fmp4_answer {
+    FMP4_OK = 0,
+    FMP4_FULL = 1,          /* take output first: nothing of the chunk was taken. Nothing is lost, feed it again */
+
+    /* The stream has stopped for good. Each feed, and finish, answers the same from then on */
+    FMP4_FAULT = 2,         /* it breaks a rule: the report says which. All output before the fault was written */
+    FMP4_NO_ROOM = 3,       /* the output didn't fit the room, which is full. What fitted can be taken, and is a prefix */
+    FMP4_OVER_LIMIT = 4,    /* a moov or moof asks for more than the limit. All output before this box was written */
+    FMP4_NO_MEMORY = 5,     /* malloc has none for it. The same */
+
+    /* Misuse: the call did nothing */
+    FMP4_NOT_OPEN = 16,     /* before fmp4_split_open or fmp4_check_open */
+    FMP4_CLOSED = 17,       /* after fmp4_close */
+    FMP4_IS_OPEN = 18,      /* an open of a stream that is open */
+    FMP4_ENDED = 19,        /* a feed, finish or totals after fmp4_finish */
+    FMP4_BAD_SAMPLES = 20,  /* samples not in 1 to 1,000,000 */
+    FMP4_BAD_BYTES = 21,    /* bytes above 2^62 */
+    FMP4_BAD_FLAGS = 22,    /* flags that aren't known */
+    FMP4_BAD_ROOM = 23      /* a room of 0 */
+};
+
+/* Flags of fmp4_split_open. */
+enum fmp4_flags {
+    FMP4_INDEX = 1,         /* an sidx before the fragments that each run is cut into */
+    FMP4_SYNC = 2           /* a fragment also ends before a sync sample */
+};
+
+/* Opens a stream that is cut into fragments of at most `samples` samples (1 to 1,000,000), and of at most `bytes` bytes of
+ * media (0: any number; a larger sample is a fragment by itself). `limit`: the most bytes that it may take. `room` of them
+ * are allocated at once for the output that waits. What one feed determines must fit there: 2 MiB serve where output is
+ * taken after each feed. A moov comes at once (most have less than 64 KiB; 16 MiB are allowed), and a head of 92 bytes and 16
+ * a sample with each new fragment. A stream that was closed can be opened again.
+ *   FMP4_OVER_LIMIT: room is more than limit; FMP4_NO_MEMORY; FMP4_IS_OPEN; FMP4_BAD_SAMPLES, _BYTES, _FLAGS, _ROOM */
+uint32_t fmp4_split_open(struct fmp4_stream *stream, uint32_t samples, uint64_t bytes, uint32_t flags, uint64_t limit,
+                         size_t room);
+
+/* Opens a stream that is only checked and counted. It has no output, and each chunk is taken as a whole.
+ *   FMP4_NO_MEMORY; FMP4_IS_OPEN */
+uint32_t fmp4_check_open(struct fmp4_stream *stream, uint64_t limit);
+
+/* Feeds the next `len` bytes of the stream, or the first *taken of them: go on with the rest. A sixteenth of the room is
+ * taken at once, and nothing (FMP4_FULL) while more than half of the room is filled. All output that the bytes so far
+ * determine waits to be taken when this returns. *taken is 0 where it misuses the stream, and after a stop.
+ *   FMP4_FULL; FMP4_FAULT, FMP4_NO_ROOM, FMP4_OVER_LIMIT, FMP4_NO_MEMORY; FMP4_NOT_OPEN, FMP4_CLOSED, FMP4_ENDED */
+uint32_t fmp4_feed(struct fmp4_stream *stream, const uint8_t *chunk, size_t len, size_t *taken);
+
+/* Copies output to `out`: *taken says how many bytes, less than `len` only where no more wait. After a stop and after
+ * fmp4_finish too, until the stream is closed.
+ *   FMP4_NOT_OPEN, FMP4_CLOSED */
+uint32_t fmp4_take(struct fmp4_stream *stream, uint8_t *out, size_t len, size_t *taken);
+
+/* Says what was counted so far, and the fault where the stream has stopped for one.
+ *   FMP4_NOT_OPEN, FMP4_CLOSED, FMP4_ENDED: the report is left as it was */
+uint32_t fmp4_totals(struct fmp4_stream *stream, struct fmp4_report *report);
+
+/* The stream has ended: FMP4_OK only where it breaks no rule. What the stream had claimed is freed; what waits can still be
+ * taken.
+ *   FMP4_FAULT, or as it stopped before; FMP4_NOT_OPEN, FMP4_CLOSED, FMP4_ENDED: the report is left as it was */
+uint32_t fmp4_finish(struct fmp4_stream *stream, struct fmp4_report *report);
+
+/* Frees all. Output that waits is lost.
+ *   FMP4_NOT_OPEN, FMP4_CLOSED */
+uint32_t fmp4_close(struct fmp4_stream *stream);
+
+/* Writes the name of a rule, such as "Truncated", and a zero: at most `len` bytes. Returns the length of the name without
+ * the zero, 0 where no rule has this number. 16 bytes are enough. */
+size_t fmp4_rule_name(uint32_t rule, char *name, size_t len);
+
+#ifdef __cplusplus
+}
+#endif
+
+#endif

@@ -1,0 +1,126 @@
+/* fuzz SEED SECONDS < STREAM: calls in any order, with chunks of a stream some of whose bytes were changed. Each answer is one that
+ * the state allows, a stop stays, and what was taken of an unchanged stream is a prefix of its output. */
+#include "tests.h"
+#include <time.h>
+
+enum { STREAMS = 4 };
+enum state { NEW, OPEN, STOPPED, ENDED, CLOSED };
+
+static uint64_t random_state;
+static uint64_t random_to(uint64_t n) {
+    random_state = random_state * 6364136223846793005u + 1442695040888963407u;
+    return (random_state >> 33) % n;
+}
+
+struct one {
+    struct fmp4_stream stream;
+    enum state state;
+    uint32_t stop;
+    int is_changed, is_check;
+    size_t at;
+    struct bytes out;
+};
+
+static struct bytes in, whole;
+
+static void open_one(struct one *s) {
+    static const uint64_t limits[] = {0, 100, 5000, 100000, 64u << 20};
+    uint32_t samples = random_to(8) ? 2 : (uint32_t)random_to(3), flags = random_to(8) ? 0 : (uint32_t)random_to(6);
+    size_t room = random_to(3) ? 1u << 20 : random_to(5000);
+    uint64_t limit = random_to(3) ? 64u << 20 : limits[random_to(5)];
+    int is_check = random_to(4) == 0, was_open = s->state != NEW && s->state != CLOSED;
+    uint32_t answer = is_check ? fmp4_check_open(&s->stream, limit) : fmp4_split_open(&s->stream, samples, 0, flags, limit, room);
+    if (was_open) { WANT(answer == FMP4_IS_OPEN); return; }
+    if (!is_check && (room == 0 || samples == 0 || flags > 3)) { WANT(answer >= FMP4_BAD_SAMPLES && answer <= FMP4_BAD_ROOM); return; }
+    if (!is_check && room > limit) { WANT(answer == FMP4_OVER_LIMIT); return; }
+    WANT(answer == FMP4_OK);
+    s->state = OPEN;
+    s->is_check = is_check;
+    s->is_changed = random_to(2) || (!is_check && (samples != 2 || flags != 0));
+    s->at = s->out.len = 0;
+}
+
+static void feed_one(struct one *s) {
+    size_t len = random_to(3) ? random_to(3000) : random_to(70000), n = 77;
+    if (s->at + len > in.len) len = in.len - s->at;
+    unsigned char *chunk = malloc(len + 1);
+    memcpy(chunk, in.at + s->at, len);
+    if (s->is_changed && len && random_to(2)) chunk[random_to(len)] = (unsigned char)random_to(256);
+    uint32_t answer = fmp4_feed(&s->stream, chunk, len, &n);
+    free(chunk);
+    WANT(n <= len);
+    switch (s->state) {
+    case NEW: WANT(answer == FMP4_NOT_OPEN && n == 0); break;
+    case CLOSED: WANT(answer == FMP4_CLOSED && n == 0); break;
+    case ENDED: WANT(answer == FMP4_ENDED && n == 0); break;
+    case STOPPED: WANT(answer == s->stop && n == 0); break;
+    case OPEN:
+        WANT(answer <= FMP4_NO_MEMORY && answer != FMP4_NO_MEMORY);
+        WANT(answer != FMP4_FULL || (n == 0 && !s->is_check));
+        if (!s->is_changed) WANT(answer != FMP4_FAULT);
+        if (answer > FMP4_FULL) s->state = STOPPED, s->stop = answer;
+        else s->at += n;
+    }
+}
+
+static void take_one(struct one *s) {
+    size_t len = random_to(4) ? random_to(5000) : random_to(3), n = 77;
+    unsigned char *out = calloc(len + 1, 1);
+    uint32_t answer = fmp4_take(&s->stream, out, len, &n);
+    WANT(answer == (s->state == NEW ? FMP4_NOT_OPEN : s->state == CLOSED ? FMP4_CLOSED : FMP4_OK) && n <= len);
+    if (answer == FMP4_OK) append(&s->out, out, n);
+    if (answer == FMP4_OK && s->is_check) WANT(n == 0);
+    if (answer == FMP4_OK && !s->is_changed) WANT(s->out.len <= whole.len && memcmp(s->out.at, whole.at, s->out.len) == 0);
+    free(out);
+}
+
+static void end_one(struct one *s, int is_finish) {
+    struct fmp4_report report;
+    uint32_t answer = is_finish ? fmp4_finish(&s->stream, &report) : fmp4_totals(&s->stream, &report);
+    switch (s->state) {
+    case NEW: WANT(answer == FMP4_NOT_OPEN); break;
+    case CLOSED: WANT(answer == FMP4_CLOSED); break;
+    case ENDED: WANT(answer == FMP4_ENDED); break;
+    case STOPPED:
+        WANT(answer == (is_finish ? s->stop : FMP4_OK) && (s->stop == FMP4_FAULT) == (report.rule > 0));
+        if (is_finish) s->state = ENDED;
+        break;
+    case OPEN:
+        WANT(answer == FMP4_OK || (is_finish && answer == FMP4_FAULT && report.rule > 0));
+        if (is_finish) s->state = ENDED;
+    }
+}
+
+static void close_one(struct one *s) {
+    uint32_t answer = fmp4_close(&s->stream);
+    WANT(answer == (s->state == NEW ? FMP4_NOT_OPEN : s->state == CLOSED ? FMP4_CLOSED : FMP4_OK));
+    if (s->state != NEW) s->state = CLOSED;
+}
+
+int main(int argc, char **argv) {
+    if (argc < 3) return 64;
+    random_state = strtoull(argv[1], NULL, 10);
+    in = read_all(stdin);
+    struct cut cut = {2, 0, 0, 512u << 20, 4u << 20, 65536, 4096};
+    WANT(run(&cut, in.at, in.len, &whole).finish == FMP4_OK);
+    static struct one all[STREAMS];
+    unsigned long long calls = 0, stops[6] = {0};
+    for (time_t end = time(NULL) + atoi(argv[2]); time(NULL) < end;)
+        for (int i = 0; i < 1000; i++, calls++) {
+            struct one *s = &all[random_to(STREAMS)];
+            enum state before = s->state;
+            uint64_t which = random_to(100);
+            if (which < 5) open_one(s);
+            else if (which < 55) feed_one(s);
+            else if (which < 92) take_one(s);
+            else if (which < 96) end_one(s, 0);
+            else if (which < 98) end_one(s, 1);
+            else close_one(s);
+            if (before == OPEN && s->state == STOPPED) stops[s->stop]++;
+        }
+    for (int i = 0; i < STREAMS; i++) close_one(&all[i]), free(all[i].out.at);
+    free(in.at);
+    free(whole.at);
+    printf("fuzz: %llu calls; stopped at a fault %llu times, without room %llu, over the limit %llu\n", calls, stops[2], stops[3], stops[4]);
+    return 0;
+}

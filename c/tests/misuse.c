@@ -1,0 +1,66 @@
+/* Each misuse has its number, and does nothing. */
+#include "tests.h"
+
+static unsigned char chunk[64], out[64];
+static struct fmp4_report report, other;
+static size_t n;
+
+static void all_answer(struct fmp4_stream *s, uint32_t wanted) {
+    memset(&report, 7, sizeof report);
+    other = report;
+    n = 9;
+    WANT(fmp4_feed(s, chunk, sizeof chunk, &n) == wanted && n == 0);
+    if (wanted != FMP4_ENDED) {
+        n = 9;
+        WANT(fmp4_take(s, out, sizeof out, &n) == wanted && n == 0);
+        WANT(fmp4_close(s) == wanted);
+    }
+    WANT(fmp4_totals(s, &report) == wanted);
+    WANT(fmp4_finish(s, &report) == wanted);
+    WANT(memcmp(&report, &other, sizeof report) == 0);
+}
+
+int main(void) {
+    struct fmp4_stream s = {0};
+    all_answer(&s, FMP4_NOT_OPEN);
+    WANT(fmp4_split_open(&s, 0, 0, 0, 1 << 20, 4096) == FMP4_BAD_SAMPLES);
+    WANT(fmp4_split_open(&s, 1000001, 0, 0, 1 << 20, 4096) == FMP4_BAD_SAMPLES);
+    WANT(fmp4_split_open(&s, 1, ((uint64_t)1 << 62) + 1, 0, 1 << 20, 4096) == FMP4_BAD_BYTES);
+    WANT(fmp4_split_open(&s, 1, 0, 4, 1 << 20, 4096) == FMP4_BAD_FLAGS);
+    WANT(fmp4_split_open(&s, 1, 0, 0, 1 << 20, 0) == FMP4_BAD_ROOM);
+    WANT(fmp4_split_open(&s, 1, 0, 0, 4095, 4096) == FMP4_OVER_LIMIT);
+    all_answer(&s, FMP4_NOT_OPEN);
+    for (int twice = 0; twice < 2; twice++) {
+        WANT(fmp4_split_open(&s, 1000000, (uint64_t)1 << 62, FMP4_INDEX | FMP4_SYNC, 4096, 4096) == FMP4_OK);
+        WANT(fmp4_split_open(&s, 1, 0, 0, 1 << 20, 4096) == FMP4_IS_OPEN);
+        WANT(fmp4_split_open(&s, 0, 0, 9, 0, 0) == FMP4_IS_OPEN);
+        WANT(fmp4_check_open(&s, 1 << 20) == FMP4_IS_OPEN);
+        WANT(fmp4_totals(&s, &report) == FMP4_OK && report.samples == 0 && report.rule == 0);
+        WANT(fmp4_feed(&s, chunk, 0, &n) == FMP4_OK && n == 0);
+        WANT(fmp4_finish(&s, &report) == FMP4_OK && report.samples == 0 && report.peak == 0);
+        all_answer(&s, FMP4_ENDED);
+        WANT(fmp4_take(&s, out, sizeof out, &n) == FMP4_OK && n == 0);
+        WANT(fmp4_split_open(&s, 1, 0, 0, 1 << 20, 4096) == FMP4_IS_OPEN);
+        WANT(fmp4_close(&s) == FMP4_OK);
+        all_answer(&s, FMP4_CLOSED);
+        WANT(fmp4_split_open(&s, 0, 0, 0, 0, 1) == FMP4_BAD_SAMPLES);
+        all_answer(&s, FMP4_CLOSED);
+        WANT(fmp4_check_open(&s, 0) == FMP4_OK);
+        WANT(fmp4_close(&s) == FMP4_OK);
+    }
+    char name[16];
+    static const char *const names[] = {"", "Truncated", "BadSize", "NoMoov", "SecondMoov", "StrayMdat", "MdatMissing", "TooLarge",
+        "Depth", "Missing", "Twice", "Version", "FieldLength", "SamplesInMoov", "Unsupported", "BaseNotMoof", "EmptyDuration",
+        "FlagsConflict", "UnknownTrack", "EntryIndex", "TooManySamples", "TimeRange", "RunPlace", "IndexRange", "SequenceEnd",
+        "StreamTooLong", "", ""};
+    for (uint32_t rule = 0; rule < 28; rule++) {
+        memset(name, 'x', sizeof name);
+        WANT(fmp4_rule_name(rule, name, sizeof name) == strlen(names[rule]) && strcmp(name, names[rule]) == 0);
+    }
+    memset(name, 'x', sizeof name);
+    WANT(fmp4_rule_name(4, name, 4) == 10 && memcmp(name, "Sec\0xx", 6) == 0);
+    WANT(fmp4_rule_name(4, name, 1) == 10 && name[0] == 0);
+    WANT(fmp4_rule_name(UINT32_MAX, name, 0) == 0);
+    puts("misuse: each number as the header says");
+    return 0;
+}

@@ -1,0 +1,270 @@
+-- What a Pusher's calls do to what an engine is.
+use Rattle.std.proofs.Common.{◌≡◌, ◌∙◌, ℕ, ◌+◌, List, [], ◌∷◌, ◌++◌, append_assoc, length, length-append, take, drop, Option, Some, None, Ok, Err, refl, sym, ap, subst, arith}
+use Rattle.std.proofs.lemmas.List.{take-append-drop}
+use Rattle.std.specs.Io.KnownBytes.{Appends}
+use Rattle.mp4_ledger.specs.Memory.{Account}
+use Rattle.mp4_machine.specs.Fed.{AllWhole, FedUntil, Lent, StarvesBehind, TellsRest}
+use Rattle.mp4_machine.specs.Readings.{Effects, Reading, both, whole_in}
+use Rattle.mp4_machine.specs.declared.stop.Stop.{Stop}
+use Rattle.mp4_machine.specs.declared.stop.Stop.TheVariants.{Stream, Read, Write, OverLimit, Memory}
+use Rattle.mp4_machine.proofs.MarkLemmas.{whole_in-before, whole_in-both}
+use Rattle.mp4_push.specs.Pushing.{Feeds, IsAfter, Pushing, WritesBefore, held_by, live, sums_of, totals_of}
+use Rattle.mp4_push.proofs.PusherLemmas.{reading-none}
+use Rattle.mp4_recut.specs.Plans.{reads_of}
+use Rattle.mp4_recut.specs.declared.plan.Plan.{Plan}
+use Rattle.mp4_push.specs.declared.totals.Totals.{Totals}
+use Rattle.fmp4_c.specs.Answers.{answer_to, fault_of, told_by}
+use Rattle.fmp4_c.specs.Engines.{Fed, Holds, IsRefused, Run, Stopped, StopsIn, report_of, totals_in}
+use Rattle.fmp4_c.specs.declared.answer.Answer.{Answer}
+
+some-is : {A : Type 0} (x y : A) → ◌≡◌ {A = Option A} (Some x) (Some y) → x ≡ y
+some-is x y h = cc
+
+head-is : (x y : ℕ) (xs ys : List ℕ) → ◌≡◌ {A = List ℕ} (x ∷ xs) (y ∷ ys) → x ≡ y
+head-is x y xs ys h = cc
+
+tail-is : (x y : ℕ) (xs ys : List ℕ) → ◌≡◌ {A = List ℕ} (x ∷ xs) (y ∷ ys) → xs ≡ ys
+tail-is x y xs ys h = cc
+
+-- no bytes have no output
+pub live-none : (plan : Plan) → live plan [] ≡ []
+live-none plan = ap (λ (r : Reading). r.effects.text) (reading-none plan)
+
+-- ---- the Pusher of an engine that holds so
+
+module _ (plan : Plan) (b given : List ℕ) (r : Run) (p : Pushing) (is : r.pushing ≡ Some p) (h : Holds plan b given r) where
+  its : h.pushing ≡ p
+  its = some-is h.pushing p (sym h.runs ∙ is)
+
+  pub after-its : IsAfter p b
+  after-its = subst (λ (x : Pushing). IsAfter x b) its h.stands
+
+  pub plan-its : p.plan ≡ plan
+  plan-its = sym (ap (λ (x : Pushing). x.plan) its) ∙ h.planned
+
+  pub text-its : given ++ r.waiting.bytes ≡ live p.plan b
+  text-its = h.text ∙ ap (λ (k : Plan). live k b) (sym plan-its)
+
+  pub runs-its : p.stop ≡ None
+  runs-its = after-its.running
+
+-- ---- a chunk was fed
+
+module _ (b given chunk : List ℕ) (r r' : Run) (p p' : Pushing) (l : Lent) (is' : r'.pushing ≡ Some p') (same : p'.plan ≡ p.plan) (here : l.written ≡ Some (r.waiting.room ∷ r.waiting.bytes)) (there : l.written' ≡ Some (r'.waiting.room ∷ r'.waiting.bytes)) where
+  appended : (more : List ℕ) → Appends l.written l.written' more → Appends (Some (r.waiting.room ∷ r.waiting.bytes)) (Some (r'.waiting.room ∷ r'.waiting.bytes)) more
+  appended more a = subst (λ (o : Option (List ℕ)). Appends (Some (r.waiting.room ∷ r.waiting.bytes)) o more) there (subst (λ (o : Option (List ℕ)). Appends o l.written' more) here a)
+
+  same-room : (more : List ℕ) → Appends l.written l.written' more → r'.waiting.room ≡ r.waiting.room
+  same-room more a = head-is r'.waiting.room r.waiting.room r'.waiting.bytes (r.waiting.bytes ++ more) (appended more a)
+
+  -- no write changes the room
+  pub room-ok : Feeds {T = Unit {0}} b chunk p p' l (Ok tt) → r'.waiting.room ≡ r.waiting.room
+  room-ok feeds = same-room feeds.ok.1.effects.text feeds.ok.1.text
+
+  room-until : (e : Stop) → FedUntil (reads_of p.plan) b chunk l (held_by p) (sums_of p') e → r'.waiting.room ≡ r.waiting.room
+  room-until (Stream f) until = same-room until.0.effects.text until.0.text
+  room-until (Read at) until = absurd until
+  room-until Write until = same-room until.text.0 until.text.2
+  room-until OverLimit until = same-room until.0.effects.text until.0.text
+  room-until Memory until = same-room until.0.effects.text until.0.text
+
+  pub room-err : (e : Stop) → Feeds {T = Unit {0}} b chunk p p' l (Err e) → r'.waiting.room ≡ r.waiting.room
+  room-err e feeds = room-until e feeds.err.0
+
+  module _ (text : given ++ r.waiting.bytes ≡ live p.plan b) where
+    joined : (more : List ℕ) → Appends l.written l.written' more → given ++ r'.waiting.bytes ≡ live p.plan b ++ more
+    joined more a =
+        let grown : r'.waiting.bytes ≡ r.waiting.bytes ++ more = tail-is r'.waiting.room r.waiting.room r'.waiting.bytes (r.waiting.bytes ++ more) (appended more a) in
+        ap (λ (x : List ℕ). given ++ x) grown ∙ sym (append_assoc given r.waiting.bytes more) ∙ ap (λ (x : List ℕ). x ++ more) text
+
+    by-text : (own own' : ℕ) (told : TellsRest (reads_of p.plan) b (b ++ chunk) l own own') → given ++ r'.waiting.bytes ≡ live p.plan (b ++ chunk)
+    by-text own own' told = joined told.effects.text told.text ∙ ap (λ (e : Effects). e.text) (sym told.all)
+
+    -- no fault is decided
+    pub fed : Feeds {T = Unit {0}} b chunk p p' l (Ok tt) → Holds p.plan (b ++ chunk) given r'
+    fed feeds = record {
+      pushing = p';
+      runs = is';
+      planned = same;
+      stands = feeds.ok.0;
+      text = by-text (held_by p) (held_by p') feeds.ok.1;
+    }
+
+    abbrev refused : (s : StarvesBehind (reads_of p.plan) b (b ++ chunk) l (held_by p) (sums_of p')) → live p.plan (take s.request.at (b ++ chunk)) ≡ live p.plan b ++ s.effects.text → IsRefused p.plan (b ++ chunk) given p' r'
+    refused s before = record {
+      request = s.request;
+      earlier = (both (reads_of p.plan b).effects s.effects).requests;
+      later = s.requested.0;
+      requests = s.requested.1;
+      text = joined s.effects.text s.text ∙ sym before;
+      sums = s.sums;
+    }
+
+    -- it stopped
+    module _ (account : l.account' ≡ r'.account) (idle : r'.account.live ≡ 0) where
+      same-limit : l.account'.limit ≡ r'.account.limit
+      same-limit = ap (λ (a : Account). a.limit) account
+
+      same-live : l.account'.live ≡ r'.account.live
+      same-live = ap (λ (a : Account). a.live) account
+
+      stops-in : (e : Stop) (until : FedUntil (reads_of p.plan) b chunk l (held_by p) (sums_of p') e) → WritesBefore p.plan b chunk l (held_by p) (sums_of p') e until → StopsIn p.plan (b ++ chunk) given e p' r'
+      stops-in (Stream f) until before = record { early = until.1; text = by-text (held_by p) 0 until.0; sums = until.2 }
+      stops-in (Read at) until before = absurd until
+      stops-in Write until before = record {
+        rest = until.text.1;
+        text =
+            ap (λ (x : List ℕ). x ++ until.text.1) (joined until.text.0 until.text.2)
+            ∙ append_assoc (live p.plan b) until.text.0 until.text.1
+            ∙ ap (λ (x : List ℕ). live p.plan b ++ x) (sym until.text.3)
+            ∙ ap (λ (e : Effects). e.text) (sym until.all);
+        counted = until.most;
+        claimed = until.peak_most;
+      }
+      stops-in OverLimit until before = (refused until.0 before, omega (arith, until.1, same-limit, same-live, idle))
+      stops-in Memory until before = (refused until.0 before, omega (arith, until.1, same-limit, same-live, idle))
+
+      -- the fragments that are whole in what was written
+      module _ (stands : IsAfter p b) (before : l.whole ≡ p.fragments) (after : l.whole' ≡ p'.fragments) where
+        abbrev t : Effects
+        t = (reads_of p.plan b).effects
+
+        at-front : (brought : Effects) (n : ℕ) → whole_in (length t.text + n) 0 (both t brought).marks ≡ whole_in n l.whole brought.marks
+        at-front brought n = whole_in-both (length t.text) 0 l.whole t.marks brought.marks (subst (AllWhole t) (sym before) stands.fragments) n
+
+        length-joined : (more : List ℕ) → Appends l.written l.written' more → length (given ++ r'.waiting.bytes) ≡ length t.text + length more
+        length-joined more a = ap (λ (x : List ℕ). length x) (joined more a) ∙ length-append t.text more
+
+        whole-rest : (told : TellsRest (reads_of p.plan) b (b ++ chunk) l (held_by p) 0) → p'.fragments ≡ whole_in (length (given ++ r'.waiting.bytes)) 0 (reads_of p.plan (b ++ chunk)).effects.marks
+        whole-rest told =
+            let long : length (given ++ r'.waiting.bytes) ≡ length t.text + (length told.effects.text + 0) = omega (arith, length-joined told.effects.text told.text) in
+            sym after ∙ sym (told.fragments 0) ∙ sym (at-front told.effects (length told.effects.text + 0))
+            ∙ ap (λ k. whole_in k 0 (both t told.effects).marks) (sym long)
+            ∙ ap (λ (e : Effects). whole_in (length (given ++ r'.waiting.bytes)) 0 e.marks) (sym told.all)
+
+        whole-refused : (s : StarvesBehind (reads_of p.plan) b (b ++ chunk) l (held_by p) (sums_of p')) → p'.fragments ≡ whole_in (length (given ++ r'.waiting.bytes)) 0 (reads_of p.plan (b ++ chunk)).effects.marks
+        whole-refused s =
+            let long : length (given ++ r'.waiting.bytes) ≡ s.request.text_before = omega (arith, length-joined s.effects.text s.text, s.placed) in
+            let n : s.request.text_before ≡ length t.text + (length s.effects.text + 0) = omega (arith, s.placed) in
+            sym after ∙ sym (s.fragments 0) ∙ sym (at-front s.effects (length s.effects.text + 0))
+            ∙ ap (λ k. whole_in k 0 (both t s.effects).marks) (sym n)
+            ∙ whole_in-before s.request.text_before 0 (both t s.effects).marks s.marked.0 (reads_of p.plan (b ++ chunk)).effects.marks s.marked.1 s.marked.2
+            ∙ ap (λ k. whole_in k 0 (reads_of p.plan (b ++ chunk)).effects.marks) (sym long)
+
+        whole-stopped : (e : Stop) → FedUntil (reads_of p.plan) b chunk l (held_by p) (sums_of p') e → p'.fragments ≡ whole_in (length (given ++ r'.waiting.bytes)) 0 (reads_of p.plan (b ++ chunk)).effects.marks
+        whole-stopped (Stream f) until = whole-rest until.0
+        whole-stopped (Read at) until = absurd until
+        whole-stopped Write until =
+            sym after ∙ until.fragments ∙ sym (at-front until.effects (length until.text.0))
+            ∙ ap (λ k. whole_in k 0 (both t until.effects).marks) (sym (length-joined until.text.0 until.text.2))
+            ∙ ap (λ (e : Effects). whole_in (length (given ++ r'.waiting.bytes)) 0 e.marks) (sym until.all)
+        whole-stopped OverLimit until = whole-refused until.0
+        whole-stopped Memory until = whole-refused until.0
+
+        pub stopped : (e : Stop) → p'.stop ≡ Some e → Feeds {T = Unit {0}} b chunk p p' l (Err e) → Stopped p.plan (b ++ chunk) given (answer_to e) r'
+        stopped e stop feeds = record {
+          pushing = p';
+          stop = e;
+          runs = is';
+          planned = same;
+          stops = stop;
+          answers = refl;
+          written = stops-in e feeds.err.0 feeds.err.1;
+          fragments = whole-stopped e feeds.err.0;
+        }
+
+-- what a feed that stopped answers
+pub fed-stopped : (plan : Plan) (b given : List ℕ) (r : Run) (e : Stop) → Stopped plan b given (answer_to e) r → Fed plan b given (answer_to e) r
+fed-stopped plan b given r (Stream f) h = h
+fed-stopped plan b given r (Read at) h = h
+fed-stopped plan b given r Write h = h
+fed-stopped plan b given r OverLimit h = h
+fed-stopped plan b given r Memory h = h
+
+-- why it stopped before
+pub stop-its : (plan : Plan) (b given : List ℕ) (a : Answer) (r : Run) (p : Pushing) → r.pushing ≡ Some p → (h : Stopped plan b given a r) → p.stop ≡ Some h.stop
+stop-its plan b given a r p is h = sym (ap (λ (x : Pushing). x.stop) (some-is h.pushing p (sym h.runs ∙ is))) ∙ h.stops
+
+pub answer-its : (plan : Plan) (b given : List ℕ) (a : Answer) (r : Run) (p : Pushing) (e : Stop) → r.pushing ≡ Some p → p.stop ≡ Some e → Stopped plan b given a r → answer_to e ≡ a
+answer-its plan b given a r p e is stop h = ap answer_to (some-is e h.stop (sym stop ∙ stop-its plan b given a r p is h)) ∙ sym h.answers
+
+-- ---- output was taken
+
+-- bytes from the front
+pub taken : (given old out left all : List ℕ) (n : ℕ) → take n out ≡ take n old → left ≡ drop n old → given ++ old ≡ all → (given ++ take n out) ++ left ≡ all
+taken given old out left all n front rest text = rw (front, rest) (append_assoc given (take n old) (drop n old) ∙ ap (λ (x : List ℕ). given ++ x) (take-append-drop n old) ∙ text)
+
+-- and more is to come
+taken-rest : (given old out left more all : List ℕ) (n : ℕ) → take n out ≡ take n old → left ≡ drop n old → (given ++ old) ++ more ≡ all → ((given ++ take n out) ++ left) ++ more ≡ all
+taken-rest given old out left more all n front rest text = ap (λ (x : List ℕ). x ++ more) (taken given old out left (given ++ old) n front rest refl) ∙ text
+
+module _ (plan : Plan) (b given out : List ℕ) (n : ℕ) (r r' : Run) (front : take n out ≡ take n r.waiting.bytes) (left : r'.waiting.bytes ≡ drop n r.waiting.bytes) (pushes : r'.pushing ≡ r.pushing) where
+  pub holds-taken : Holds plan b given r → Holds plan b (given ++ take n out) r'
+  holds-taken h = record {
+    pushing = h.pushing;
+    runs = pushes ∙ h.runs;
+    planned = h.planned;
+    stands = h.stands;
+    text = taken given r.waiting.bytes out r'.waiting.bytes (live plan b) n front left h.text;
+  }
+
+  module _ (account : r'.account ≡ r.account) (p : Pushing) where
+    same-limit-taken : r'.account.limit ≡ r.account.limit
+    same-limit-taken = ap (λ (a : Account). a.limit) account
+
+    abbrev refused-taken : IsRefused plan b given p r → IsRefused plan b (given ++ take n out) p r'
+    refused-taken h = record {
+      request = h.request;
+      earlier = h.earlier;
+      later = h.later;
+      requests = h.requests;
+      text = taken given r.waiting.bytes out r'.waiting.bytes (live plan (take h.request.at b)) n front left h.text;
+      sums = h.sums;
+    }
+
+    stops-taken : (e : Stop) → StopsIn plan b given e p r → StopsIn plan b (given ++ take n out) e p r'
+    stops-taken (Stream f) h = record { early = h.early; text = taken given r.waiting.bytes out r'.waiting.bytes (live plan b) n front left h.text; sums = h.sums }
+    stops-taken (Read at) h = absurd h
+    stops-taken Write h = record { rest = h.rest; text = taken-rest given r.waiting.bytes out r'.waiting.bytes h.rest (live plan b) n front left h.text; counted = h.counted; claimed = h.claimed }
+    stops-taken OverLimit h = (refused-taken h.0, omega (arith, h.1, same-limit-taken))
+    stops-taken Memory h = (refused-taken h.0, omega (arith, h.1, same-limit-taken))
+
+  pub stopped-taken : r'.account ≡ r.account → (a : Answer) → Stopped plan b given a r → Stopped plan b (given ++ take n out) a r'
+  stopped-taken account a h = record {
+    pushing = h.pushing;
+    stop = h.stop;
+    runs = pushes ∙ h.runs;
+    planned = h.planned;
+    stops = h.stops;
+    answers = h.answers;
+    written = stops-taken account h.pushing h.stop h.written;
+    fragments = h.fragments ∙ ap (λ (x : List ℕ). whole_in (length x) 0 (reads_of plan b).effects.marks) (sym (taken given r.waiting.bytes out r'.waiting.bytes (given ++ r.waiting.bytes) n front left refl));
+  }
+
+-- ---- what is counted
+
+-- how many fragments are whole in the text, where these are all
+whole-now : (t : Effects) (fragments : ℕ) → AllWhole t fragments → fragments ≡ whole_in (length t.text) 0 t.marks
+whole-now t fragments h = let all : length t.text + 0 ≡ length t.text = omega arith in sym (h 0) ∙ ap (λ k. whole_in k 0 t.marks) all
+
+pub totals-are : (p : Pushing) (b : List ℕ) → IsAfter p b → totals_of p ≡ totals_in p.plan b
+totals-are p b h =
+    let t = (reads_of p.plan b).effects in
+    let tally : p.machine.counter.tally ≡ t.tally = ap (λ s. s.tally) h.sums in
+    let peak = ap (λ s. s.peak) h.sums in
+    rw (whole-now t p.fragments h.fragments, tally, peak) refl
+
+-- the report of one that goes on
+pub report-holds : (plan : Plan) (b given : List ℕ) (r : Run) (h : Holds plan b given r) → report_of h.pushing ≡ told_by (totals_in plan b) None
+report-holds plan b given r h =
+    ap (λ (s : Option Stop). told_by (totals_of h.pushing) (fault_of s)) h.stands.running
+    ∙ ap (λ (t : Totals). told_by t None) (totals-are h.pushing b h.stands)
+    ∙ ap (λ (k : Plan). told_by (totals_in k b) None) h.planned
+
+-- ---- what a handle held is what was in its box
+
+pub in-box : (old before : Option Run) (x y : Run) → Some x ≡ before → before ≡ old → y ≡ x → old ≡ Some y
+in-box old before x y opens same is = sym same ∙ sym opens ∙ ap (λ (r : Run). Some r) (sym is)
+
+pub the-run : (old before : Option Run) (x y r : Run) → Some x ≡ before → before ≡ old → y ≡ x → old ≡ Some r → r ≡ y
+the-run old before x y r opens same is here = sym (some-is y r (sym (in-box old before x y opens same is) ∙ here))

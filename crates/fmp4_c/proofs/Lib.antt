@@ -1,0 +1,4 @@
+pub mod Values
+pub mod Glue
+pub mod HoldLemmas
+pub mod OpenLemmas

@@ -1,0 +1,61 @@
+-- The numbers by which C is told.
+use Rattle.std.specs.Prelude.{ℕ, suc, zero, ◌-◌, ◌^◌, min, Option, None, Some}
+use Rattle.std.specs.Int.{w32, from_be_bytes}
+use Rattle.mp4_box.specs.Rules as rules
+use Rattle.mp4_box.specs.declared.headers.FourCc.{FourCc}
+use Rattle.mp4_box.specs.declared.rules.Fault as faults
+use Rattle.mp4_machine.specs.declared.stop.Stop.{Stop}
+use Rattle.mp4_machine.specs.declared.stop.Stop.TheVariants as stops
+use Rattle.mp4_push.specs.declared.totals.Totals.{Totals}
+use Rattle.fmp4_c.specs.declared.answer.Answer.{Answer}
+use Rattle.fmp4_c.specs.declared.answer.Answer.TheVariants.{Done, Full, Fault, NoRoom, OverLimit, NoMemory, NotOpen, Closed, IsOpen, Ended, BadSamples, BadBytes, BadFlags, BadRoom}
+use Rattle.fmp4_c.specs.declared.report.Report.{Report}
+
+-- no two answers have one number
+abbrev pub number_of : Answer → ℕ
+number_of Done = 0
+number_of Full = 1
+number_of Fault = 2
+number_of NoRoom = 3
+number_of OverLimit = 4
+number_of NoMemory = 5
+number_of NotOpen = 16
+number_of Closed = 17
+number_of IsOpen = 18
+number_of Ended = 19
+number_of BadSamples = 20
+number_of BadBytes = 21
+number_of BadFlags = 22
+number_of BadRoom = 23
+
+-- the answer where a stream stopped so: the one write that can fail is that into the room
+abbrev pub answer_to : Stop → Answer
+answer_to (stops.Stream f) = Fault
+answer_to (stops.Read at) = NoRoom
+answer_to stops.Write = NoRoom
+answer_to stops.OverLimit = OverLimit
+answer_to stops.Memory = NoMemory
+
+-- the answer where no stream is open
+abbrev pub at_rest : ℕ → Answer
+at_rest zero = NotOpen
+at_rest (suc n) = Closed
+
+-- the fault for which a stream stopped
+abbrev pub fault_of : Option Stop → Option faults.Fault
+fault_of None = None
+fault_of (Some (stops.Stream f)) = Some f
+fault_of (Some (stops.Read at)) = None
+fault_of (Some stops.Write) = None
+fault_of (Some stops.OverLimit) = None
+fault_of (Some stops.Memory) = None
+
+-- a type as a number, 0 where it isn't known
+abbrev pub kind_number : Option FourCc → ℕ
+kind_number None = 0
+kind_number (Some kind) = from_be_bytes w32 kind.0
+
+-- the report of what was counted, and of a fault where there is one
+abbrev pub told_by : Totals → Option faults.Fault → Report
+told_by t None = record { fragments = t.fragments; samples = min t.samples (2 ^ 64 - 1); media_bytes = t.media_bytes; peak = t.peak; offset = 0; rule = 0; kind = 0 }
+told_by t (Some f) = record { fragments = t.fragments; samples = min t.samples (2 ^ 64 - 1); media_bytes = t.media_bytes; peak = t.peak; offset = f.offset; rule = rules.number_of f.rule; kind = kind_number f.kind }

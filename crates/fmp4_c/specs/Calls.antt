@@ -1,0 +1,123 @@
+-- What C asks for, and what a call does to the stream that C keeps.
+use Rattle.std.specs.Prelude.{◌≡◌, ℕ, ◌+◌, ◌-◌, ◌/◌, ◌%◌, ◌^◌, ◌<◌, ◌≤◌, eqb, List, [], ◌∷◌, ◌++◌, length, take, drop, min, max, Option, None, Some, Result, Ok, Err}
+use Rattle.mp4_grammar.specs.declared.command.Command.TheVariants.{Check}
+use Rattle.mp4_pieces.specs.declared.cut.Cut.{Cut}
+use Rattle.mp4_recut.specs.declared.plan.Plan.{Plan}
+use Rattle.mp4_recut.specs.declared.plan.Plan.TheVariants as plans
+use Rattle.fmp4_c.specs.Answers.{number_of}
+use Rattle.fmp4_c.specs.Engines.{ClaimsWithin, Fed, Finished, Holds, Run, Stopped}
+use Rattle.fmp4_c.specs.Waiting.{empty}
+use Rattle.fmp4_c.specs.declared.answer.Answer.{Answer}
+use Rattle.fmp4_c.specs.declared.answer.Answer.TheVariants.{Done, Full, Fault, NoRoom, OverLimit, NoMemory, NotOpen, Closed, IsOpen, Ended, BadSamples, BadBytes, BadFlags, BadRoom}
+use Rattle.fmp4_c.specs.declared.asked.Asked.{Asked}
+use Rattle.fmp4_c.specs.declared.report.Report.{Report}
+
+-- ---- what C asks for
+
+-- the cut: bytes 0 for any number, and flags 1 for an index, 2 for a cut before each sync sample, 3 for both
+pub record IsCutBy (samples bytes flags : ℕ) (cut : Cut) : Type 0 where
+  pub most : cut.samples ≡ samples
+  pub any : bytes ≡ 0 → cut.bytes ≡ None
+  pub some : 0 < bytes → cut.bytes ≡ Some bytes
+  pub index : cut.index ≡ eqb (flags % 2) 1
+  pub sync : cut.sync ≡ eqb (flags / 2) 1
+
+-- how many bytes of a chunk are taken at once, by the room for the output
+abbrev pub step_of : ℕ → ℕ
+step_of room = max 1 (room / 16)
+
+-- why a cut can't be asked for with this room
+abbrev pub IsOutOfRange : (samples bytes flags room : ℕ) → Answer → Type 0
+IsOutOfRange samples bytes flags room BadSamples = (1 ≤ samples) × (samples ≤ 1000000) → ⊥
+IsOutOfRange samples bytes flags room BadBytes = 2 ^ 62 < bytes
+IsOutOfRange samples bytes flags room BadFlags = 3 < flags
+IsOutOfRange samples bytes flags room BadRoom = room ≡ 0
+IsOutOfRange samples bytes flags room Done = ⊥
+IsOutOfRange samples bytes flags room Full = ⊥
+IsOutOfRange samples bytes flags room Fault = ⊥
+IsOutOfRange samples bytes flags room NoRoom = ⊥
+IsOutOfRange samples bytes flags room OverLimit = ⊥
+IsOutOfRange samples bytes flags room NoMemory = ⊥
+IsOutOfRange samples bytes flags room NotOpen = ⊥
+IsOutOfRange samples bytes flags room Closed = ⊥
+IsOutOfRange samples bytes flags room IsOpen = ⊥
+IsOutOfRange samples bytes flags room Ended = ⊥
+
+-- a stream is asked for so that it is cut by these numbers
+pub record IsSplitBy (samples bytes flags limit room : ℕ) (asked : Asked) : Type 0 where
+  pub cut : Cut
+  pub by : IsCutBy samples bytes flags cut
+  pub plan : asked.plan ≡ plans.Split cut
+  pub takes : asked.limit ≡ limit
+  pub waits : asked.room ≡ room
+  pub step : asked.step ≡ step_of room
+
+-- ---- how it is opened
+
+-- no byte has come, and the limit is that of the stream's memory and of the room together
+pub record IsOpened (asked : Asked) (held : Option Run) : Type 0 where
+  pub run : Run
+  pub is : held ≡ Some run
+  pub holds : Holds asked.plan [] [] run
+  pub waiting : run.waiting ≡ empty asked.room
+  pub limit : run.account.limit + asked.room ≡ asked.limit
+  pub step : run.step ≡ asked.step
+
+-- what an open answers that is asked for this
+abbrev pub Opens : Asked → Answer → Option Run → Type 0
+Opens asked Done held = IsOpened asked held
+Opens asked OverLimit held = (asked.limit < asked.room) × (held ≡ None)
+Opens asked NoMemory held = held ≡ None
+Opens asked Full held = ⊥
+Opens asked Fault held = ⊥
+Opens asked NoRoom held = ⊥
+Opens asked NotOpen held = ⊥
+Opens asked Closed held = ⊥
+Opens asked IsOpen held = ⊥
+Opens asked Ended held = ⊥
+Opens asked BadSamples held = ⊥
+Opens asked BadBytes held = ⊥
+Opens asked BadFlags held = ⊥
+Opens asked BadRoom held = ⊥
+
+-- or that is asked for what is out of range
+abbrev pub OpensOr : Result Asked Answer → Answer → Option Run → Type 0
+OpensOr (Ok asked) answer held = Opens asked answer held
+OpensOr (Err out) answer held = (answer ≡ out) × (held ≡ None)
+
+-- what C is answered that asks for a cut
+pub data SplitOpens (samples bytes flags limit room : ℕ) (answer : Answer) (held : Option Run) : Type 0 where
+  Asks : (asked : Asked) → IsSplitBy samples bytes flags limit room asked → Opens asked answer held → SplitOpens samples bytes flags limit room answer held
+  Refuses : IsOutOfRange samples bytes flags room answer → held ≡ None → SplitOpens samples bytes flags limit room answer held
+
+-- a check has no output, and takes chunks as a whole
+abbrev pub checked_by : ℕ → Asked
+checked_by limit = record { plan = plans.List Check; limit = limit; room = 0; step = 2 ^ 64 - 1 }
+
+-- ---- what C keeps
+
+-- what is open holds so
+abbrev pub HoldsIn : Plan → (b given : List ℕ) → Option Run → Type 0
+HoldsIn plan b given held = (r : Run) × (held ≡ Some r) × Holds plan b given r
+
+-- or has stopped so
+abbrev pub StoppedIn : Plan → (b given : List ℕ) → Answer → Option Run → Type 0
+StoppedIn plan b given answer held = (r : Run) × (held ≡ Some r) × Stopped plan b given answer r
+
+-- what is open never had more claimed than the largest boxes ask for
+abbrev pub ClaimsIn : Plan → List ℕ → Option Run → Type 0
+ClaimsIn plan b held = (r : Run) × (held ≡ Some r) × ClaimsWithin plan b r.pushing
+
+-- a feed answered this number
+abbrev pub FedIn : Plan → (b given : List ℕ) → (number : ℕ) → Option Run → Type 0
+FedIn plan b given number held = (answer : Answer) × (number ≡ number_of answer) × (r : Run) × (held ≡ Some r) × Fed plan b given answer r
+
+-- and so did a finish
+abbrev pub FinishedIn : Plan → (b : List ℕ) → (number : ℕ) → Report → Type 0
+FinishedIn plan b number report = (answer : Answer) × (number ≡ number_of answer) × Finished plan b answer report
+
+-- ---- texts for C
+
+-- a text with a zero behind it in the place of the front of a buffer, cut where it doesn't fit
+abbrev pub zero_ended : (text buffer : List ℕ) → List ℕ
+zero_ended text buffer = take (min (length text) (length buffer - 1)) text ++ 0 ∷ drop (min (length text) (length buffer - 1) + 1) buffer

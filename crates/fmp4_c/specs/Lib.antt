@@ -1,0 +1,5 @@
+pub mod Waiting
+pub mod Answers
+pub mod Engines
+pub mod Calls
+pub mod Handles

@@ -1,0 +1,85 @@
+//! What a call answers.
+
+ghost use Rattle.std.specs.Prelude.{◌≡◌};
+ghost use Rattle.fmp4_c.specs.Answers.{answer_to, at_rest, number_of};
+
+use mp4_push::Stop;
+
+/// What a call answers.
+#[derive(Clone, Copy, Debug, PartialEq, Eq)]
+pub enum Answer {
+    /// It was done.
+    Done,
+    /// More than half of the room is filled: nothing was taken of the chunk.
+    Full,
+    /// The stream breaks a rule.
+    Fault,
+    /// The output found no room.
+    NoRoom,
+    /// A claim would pass the limit.
+    OverLimit,
+    /// The allocator gave no memory.
+    NoMemory,
+    /// No stream was opened yet.
+    NotOpen,
+    /// The stream is closed.
+    Closed,
+    /// A stream is open already.
+    IsOpen,
+    /// The stream has ended.
+    Ended,
+    /// No number of samples from 1 to 1,000,000.
+    BadSamples,
+    /// More than 2^62 bytes.
+    BadBytes,
+    /// A flag that isn't known.
+    BadFlags,
+    /// A room of no bytes.
+    BadRoom,
+}
+
+impl Answer {
+    /// The number by which C is told.
+    pub fn number(self) -> u32
+        ensures { result ≡ number_of self }
+    {
+        match self {
+            Answer::Done => 0,
+            Answer::Full => 1,
+            Answer::Fault => 2,
+            Answer::NoRoom => 3,
+            Answer::OverLimit => 4,
+            Answer::NoMemory => 5,
+            Answer::NotOpen => 16,
+            Answer::Closed => 17,
+            Answer::IsOpen => 18,
+            Answer::Ended => 19,
+            Answer::BadSamples => 20,
+            Answer::BadBytes => 21,
+            Answer::BadFlags => 22,
+            Answer::BadRoom => 23,
+        }
+    }
+
+    /// The answer where the stream stopped so. No read can fail here.
+    pub(crate) fn of_stop(stop: Stop) -> Answer
+        ensures { result ≡ answer_to stop }
+    {
+        match stop {
+            Stop::Stream(_) => Answer::Fault,
+            Stop::OverLimit => Answer::OverLimit,
+            Stop::Memory => Answer::NoMemory,
+            Stop::Read { .. } | Stop::Write => Answer::NoRoom,
+        }
+    }
+
+    /// The answer where no stream is open: `closed` is 0 where none was.
+    pub(crate) fn at_rest(closed: u32) -> Answer
+        ensures { result ≡ at_rest closed }
+    {
+        if closed == 0 {
+            return Answer::NotOpen;
+        }
+        Answer::Closed
+    }
+}

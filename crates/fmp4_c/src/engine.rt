@@ -1,0 +1,229 @@
+//! A Pusher with its memory and its output.
+
+ghost use Rattle.std.specs.Prelude.{◌≡◌, ℕ, ◌+◌, ◌*◌, ◌<◌, ◌≤◌, ◌↔◌, List, ◌++◌, length, take, drop, min};
+ghost use Rattle.std.specs.Prelude.{None, Some, IfOk, IsErrOf};
+ghost use Rattle.mp4_push.specs.Pushing.{Pushing};
+ghost use Rattle.mp4_recut.specs.declared.plan.Plan as plans;
+ghost use Rattle.mp4_machine.specs.declared.stop.Stop as stops;
+ghost use Rattle.fmp4_c.specs.Answers.{answer_to, number_of};
+ghost use Rattle.fmp4_c.specs.Calls.{IsOpened};
+ghost use Rattle.fmp4_c.specs.Engines.{ClaimsWithin, Fed, Finished, FitsIn, Holds, IsKept, IsPortion, Stopped};
+ghost use Rattle.fmp4_c.specs.Engines.{held_in, report_of};
+ghost use Rattle.fmp4_c.specs.declared.answer.Answer as answers;
+
+use crate::answer::Answer;
+use crate::asked::Asked;
+use crate::output::Output;
+use crate::report::{Report, fault_in};
+use mp4_ledger::Refused;
+use mp4_push::{Ledger, Pusher};
+use std::alloc::Global;
+use std::marker::Model;
+use std::mem::replace;
+
+/// A Pusher with the ledger that it claims from, until its stream ends, and its output.
+pub struct Engine {
+    ledger: Ledger,
+    pusher: Option<Pusher>,
+    out: Output,
+    /// How many bytes of a chunk are taken at once.
+    step: usize,
+}
+
+// A contract sees the account, the Pusher, what waits to be taken, and the step.
+impl Model for Engine {
+    ghost use Rattle.std.specs.Prelude.{◌≡◌, ◌<◌};
+    ghost use Rattle.fmp4_c.specs.Engines.{Run, held_in};
+
+    ghost Value = { Run };
+
+    ghost view = { λ e. record { account = e.ledger; pushing = e.pusher; waiting = e.out; step = e.step } };
+
+    ghost invariant = { λ e. (e.ledger.live ≡ held_in e.pusher) × (0 < e.step) };
+}
+
+/// What a feed did.
+#[derive(Clone, Copy)]
+pub struct Feed {
+    /// How many bytes of the chunk it took.
+    pub taken: usize,
+    /// What it answers.
+    pub answer: Answer,
+}
+
+impl Engine {
+    /// One to which no byte has come. The room for the output is allocated, and the rest of the limit is for the stream's
+    /// memory.
+    ///
+    /// # Errors
+    ///
+    /// `OverLimit` where the room passes the limit; else `Memory` where the allocator has none for it.
+    pub fn new(alloc: Global, asked: Asked) -> Result<Engine, Refused>
+        requires { 0 < asked.step }
+        ensures opened { IfOk result (λ e. IsOpened asked (Some e)) }
+        ensures over_limit { IsErrOf result Refused.OverLimit ↔ (asked.limit < asked.room) }
+    {
+        if asked.room as u64 > asked.limit {
+            return Err(Refused::OverLimit);
+        }
+        match Output::new(alloc, asked.room) {
+            Ok(out) => Ok(Engine {
+                ledger: Ledger::new(alloc, asked.limit - asked.room as u64),
+                pusher: Some(Pusher::new(asked.plan)),
+                out,
+                step: asked.step,
+            }),
+            Err(_) => Err(Refused::Memory),
+        }
+    }
+
+    /// How many bytes of a chunk are taken at once: none while more than half of the room is filled.
+    fn portion(&self, chunk: usize) -> usize
+        ensures filled { self.now.waiting.room < 2 * length self.now.waiting.bytes → result ≡ 0 }
+        ensures free { 2 * length self.now.waiting.bytes ≤ self.now.waiting.room →
+            result ≡ min chunk self.now.step }
+        ensures within { result ≤ chunk }
+    {
+        if self.out.len() > self.out.free() {
+            return 0;
+        }
+        chunk.min(self.step)
+    }
+
+    /// Feeds a chunk of the stream, or the front of one. After a stop it answers the same, and takes nothing.
+    pub fn feed(&mut self, chunk: &[u8]) -> Feed
+        ensures feeds { (plan : plans.Plan) → (b given : List ℕ) → Holds plan b given self.old →
+            Fed plan (b ++ take result.taken chunk.now) given result.answer self.new }
+        ensures portion { (p : Pushing) → self.old.pushing ≡ Some p → p.stop ≡ None →
+            IsPortion self.old chunk.now result.taken result.answer }
+        ensures stopped { (plan : plans.Plan) → (b given : List ℕ) → (a : answers.Answer) →
+            Stopped plan b given a self.old →
+            (result ≡ record { taken = 0; answer = a }) × (self.new ≡ self.old) }
+        ensures ended { self.old.pushing ≡ None →
+            (result ≡ record { taken = 0; answer = Answer.Ended }) × (self.new ≡ self.old) }
+        ensures claims { (plan : plans.Plan) → (b given : List ℕ) → Holds plan b given self.old →
+            ClaimsWithin plan (b ++ take result.taken chunk.now) self.new.pushing }
+        ensures fits { (plan : plans.Plan) → (b given : List ℕ) → Holds plan b given self.old →
+            FitsIn plan (b ++ take result.taken chunk.now) self.old (number_of result.answer) }
+        ensures room { (plan : plans.Plan) → (b given : List ℕ) → Holds plan b given self.old →
+            self.new.waiting.room ≡ self.old.waiting.room }
+        ensures kept { IsKept self.old self.new }
+    {
+        let taken = self.portion(chunk.len());
+        match &mut self.pusher {
+            Some(pusher) => {
+                if let Some(stop) = pusher.stop() {
+                    return self.fed(0, Answer::of_stop(stop));
+                }
+                match pusher.feed(&mut self.ledger, &chunk[..taken], &mut self.out) {
+                    Ok(()) => {
+                        if taken == 0 && !chunk.is_empty() {
+                            return self.fed(taken, Answer::Full);
+                        }
+                        self.fed(taken, Answer::Done)
+                    }
+                    Err(stop) => self.fed(taken, Answer::of_stop(stop)),
+                }
+            }
+            None => self.fed(0, Answer::Ended),
+        }
+    }
+
+    /// What a feed did. No more waits than the room holds, and no more is claimed than the limit allows.
+    fn fed(&self, taken: usize, answer: Answer) -> Feed
+        ensures is { result ≡ record { taken = taken; answer = answer } }
+        ensures waits { length self.now.waiting.bytes ≤ self.now.waiting.room }
+        ensures claims { self.now.account.live ≤ self.now.account.limit }
+    {
+        let _ = (self.out.len(), self.ledger.live());
+        Feed { taken, answer }
+    }
+
+    /// Takes output from the front: how many bytes.
+    pub fn take(&mut self, out: &mut [u8]) -> usize
+        ensures holds { (plan : plans.Plan) → (b given : List ℕ) → Holds plan b given self.old →
+            Holds plan b (given ++ take result out.new) self.new }
+        ensures stopped { (plan : plans.Plan) → (b given : List ℕ) → (a : answers.Answer) →
+            Stopped plan b given a self.old →
+            Stopped plan b (given ++ take result out.new) a self.new }
+        ensures count { result ≡ min (length out.old) (length self.old.waiting.bytes) }
+        ensures front { take result out.new ≡ take result self.old.waiting.bytes }
+        ensures left { self.new.waiting.bytes ≡ drop result self.old.waiting.bytes }
+        ensures rest { drop result out.new ≡ drop result out.old }
+        ensures kept { (self.new.pushing ≡ self.old.pushing) ×
+            (self.new.waiting.room ≡ self.old.waiting.room) ×
+            (self.new.account ≡ self.old.account) × (self.new.step ≡ self.old.step) }
+    {
+        self.out.take(out)
+    }
+
+    /// Says what was counted so far, and for which fault the stream stopped, if it did.
+    pub fn totals(&mut self, report: &mut Report) -> Answer
+        ensures tells { (p : Pushing) → self.old.pushing ≡ Some p →
+            (result ≡ Answer.Done) × (report.new ≡ report_of p) }
+        ensures ended { self.old.pushing ≡ None →
+            (result ≡ Answer.Ended) × (report.new ≡ report.old) }
+        ensures kept { self.new ≡ self.old }
+    {
+        match &self.pusher {
+            Some(pusher) => {
+                *report = Report::of(&pusher.totals(), fault_in(pusher.stop()));
+                Answer::Done
+            }
+            None => Answer::Ended,
+        }
+    }
+
+    /// Ends the stream, and says what was counted, and the fault where it has one. What waits can still be taken.
+    pub fn finish(&mut self, report: &mut Report) -> Answer
+        ensures finishes { (plan : plans.Plan) → (b given : List ℕ) → Holds plan b given self.old →
+            Finished plan b result report.new }
+        ensures stopped { (p : Pushing) → (e : stops.Stop) → self.old.pushing ≡ Some p →
+            p.stop ≡ Some e → (result ≡ answer_to e) × (report.new ≡ report_of p) }
+        ensures ended { self.old.pushing ≡ None →
+            (result ≡ Answer.Ended) × (report.new ≡ report.old) }
+        ensures waits { self.new.waiting ≡ self.old.waiting }
+        ensures ends { self.new.pushing ≡ None }
+        ensures back { self.new.account.live ≡ 0 }
+    {
+        match replace(&mut self.pusher, None) {
+            Some(pusher) => {
+                let totals = pusher.totals();
+                match pusher.finish(&mut self.ledger) {
+                    Ok(_) => {
+                        *report = Report::of(&totals, None);
+                        Answer::Done
+                    }
+                    Err(stop) => {
+                        *report = Report::of(&totals, fault_in(Some(stop)));
+                        Answer::of_stop(stop)
+                    }
+                }
+            }
+            None => Answer::Ended,
+        }
+    }
+}
+
+impl Drop for Engine {
+    fn drop(self) {
+        let Engine {
+            ledger,
+            pusher,
+            out: _,
+            step: _,
+        } = self;
+        let mut ledger = ledger;
+        give_back(pusher, &mut ledger);
+    }
+}
+
+/// Gives back all that a Pusher has claimed.
+fn give_back(pusher: Option<Pusher>, ledger: &mut Ledger)
+    requires { ledger.old.live ≡ held_in pusher }
+    ensures { ledger.new.live ≡ 0 }
+{
+    if let Some(pusher) = pusher {
+        pusher.give_up(ledger);
+    }
+}

@@ -1,0 +1,178 @@
+//! What C calls of a stream that is open.
+
+ghost use Rattle.std.specs.Prelude.{◌≡◌, ℕ, ◌<◌, ◌≤◌, List, [], ◌++◌, length, take, drop, min, None, Some, IfSome};
+ghost use Rattle.mp4_push.specs.Pushing.{Pushing};
+ghost use Rattle.mp4_recut.specs.declared.plan.Plan as plans;
+ghost use Rattle.mp4_machine.specs.declared.stop.Stop as stops;
+ghost use Rattle.fmp4_c.specs.Answers.{answer_to, at_rest, number_of, told_by};
+ghost use Rattle.fmp4_c.specs.Calls.{ClaimsIn, FedIn, FinishedIn, HoldsIn, StoppedIn};
+ghost use Rattle.fmp4_c.specs.Engines.{FitsIn, Holds, IsKept, IsPortion, Run, report_of, totals_in};
+ghost use Rattle.fmp4_c.specs.declared.answer.Answer as answers;
+
+use crate::answer::Answer;
+use crate::handle::Handle;
+use crate::report::Report;
+use crate::stream::Stream;
+use std::alloc::Global;
+use std::mem::replace;
+
+/// Feeds a chunk of the stream, or the front of one: `taken` says how many bytes.
+#[unsafe(no_mangle)]
+pub extern "C" fn fmp4_feed(
+    alloc: Global,
+    stream: &mut Stream,
+    chunk: &[u8],
+    taken: &mut usize,
+) -> u32
+    ensures feeds { (plan : plans.Plan) → (b given : List ℕ) →
+        HoldsIn plan b given stream.old.handle.held →
+        FedIn plan (b ++ take taken.new chunk.now) given result stream.new.handle.held }
+    ensures portion { (r : Run) → (p : Pushing) → stream.old.handle.held ≡ Some r →
+        r.pushing ≡ Some p → p.stop ≡ None → (answer : answers.Answer) ×
+        (result ≡ number_of answer) × IsPortion r chunk.now taken.new answer }
+    ensures stopped { (plan : plans.Plan) → (b given : List ℕ) → (a : answers.Answer) →
+        StoppedIn plan b given a stream.old.handle.held →
+        (result ≡ number_of a) × (taken.new ≡ 0) ×
+        (stream.new.handle.held ≡ stream.old.handle.held) }
+    ensures claims { (plan : plans.Plan) → (b given : List ℕ) →
+        HoldsIn plan b given stream.old.handle.held →
+        ClaimsIn plan (b ++ take taken.new chunk.now) stream.new.handle.held }
+    ensures fits { (plan : plans.Plan) → (b given : List ℕ) → (r : Run) →
+        stream.old.handle.held ≡ Some r → Holds plan b given r →
+        FitsIn plan (b ++ take taken.new chunk.now) r result }
+    ensures room { (plan : plans.Plan) → (b given : List ℕ) → (r : Run) →
+        stream.old.handle.held ≡ Some r → Holds plan b given r →
+        IfSome stream.new.handle.held (λ r'. r'.waiting.room ≡ r.waiting.room) }
+    ensures kept { (r : Run) → stream.old.handle.held ≡ Some r →
+        IfSome stream.new.handle.held (IsKept r) }
+    ensures ended { (r : Run) → stream.old.handle.held ≡ Some r → r.pushing ≡ None →
+        (result ≡ number_of Answer.Ended) × (taken.new ≡ 0) ×
+        (stream.new.handle.held ≡ Some r) }
+    ensures closed { stream.old.handle.held ≡ None →
+        (result ≡ number_of (at_rest stream.old.closed)) × (taken.new ≡ 0) ×
+        (stream.new.handle.held ≡ None) }
+{
+    match replace(&mut stream.handle, Handle::none()).into_box(alloc) {
+        Some(engine) => {
+            let mut engine = engine;
+            let fed = engine.feed(chunk);
+            stream.handle = Handle::of(engine);
+            *taken = fed.taken;
+            fed.answer.number()
+        }
+        None => {
+            *taken = 0;
+            Answer::at_rest(stream.closed).number()
+        }
+    }
+}
+
+/// Takes output from the front: `taken` says how many bytes.
+#[unsafe(no_mangle)]
+pub extern "C" fn fmp4_take(
+    alloc: Global,
+    stream: &mut Stream,
+    out: &mut [u8],
+    taken: &mut usize,
+) -> u32
+    ensures holds { (plan : plans.Plan) → (b given : List ℕ) →
+        HoldsIn plan b given stream.old.handle.held →
+        HoldsIn plan b (given ++ take taken.new out.new) stream.new.handle.held }
+    ensures stopped { (plan : plans.Plan) → (b given : List ℕ) → (a : answers.Answer) →
+        StoppedIn plan b given a stream.old.handle.held →
+        StoppedIn plan b (given ++ take taken.new out.new) a stream.new.handle.held }
+    ensures done { (r : Run) → stream.old.handle.held ≡ Some r → result ≡ number_of Answer.Done }
+    ensures count { (r : Run) → stream.old.handle.held ≡ Some r →
+        taken.new ≡ min (length out.old) (length r.waiting.bytes) }
+    ensures front { (r : Run) → stream.old.handle.held ≡ Some r →
+        take taken.new out.new ≡ take taken.new r.waiting.bytes }
+    ensures left { (r : Run) → stream.old.handle.held ≡ Some r →
+        IfSome stream.new.handle.held (λ r'. r'.waiting.bytes ≡ drop taken.new r.waiting.bytes) }
+    ensures rest { drop taken.new out.new ≡ drop taken.new out.old }
+    ensures closed { stream.old.handle.held ≡ None →
+        (result ≡ number_of (at_rest stream.old.closed)) × (taken.new ≡ 0) ×
+        (stream.new.handle.held ≡ None) }
+{
+    match replace(&mut stream.handle, Handle::none()).into_box(alloc) {
+        Some(engine) => {
+            let mut engine = engine;
+            *taken = engine.take(out);
+            stream.handle = Handle::of(engine);
+            Answer::Done.number()
+        }
+        None => {
+            *taken = 0;
+            Answer::at_rest(stream.closed).number()
+        }
+    }
+}
+
+/// Says what was counted so far, and for which fault the stream stopped, if it did.
+#[unsafe(no_mangle)]
+pub extern "C" fn fmp4_totals(alloc: Global, stream: &mut Stream, report: &mut Report) -> u32
+    ensures tells { (r : Run) → (p : Pushing) → stream.old.handle.held ≡ Some r →
+        r.pushing ≡ Some p → (result ≡ number_of Answer.Done) × (report.new ≡ report_of p) }
+    ensures counts { (plan : plans.Plan) → (b given : List ℕ) →
+        HoldsIn plan b given stream.old.handle.held → report.new ≡ told_by (totals_in plan b) None }
+    ensures ended { (r : Run) → stream.old.handle.held ≡ Some r → r.pushing ≡ None →
+        (result ≡ number_of Answer.Ended) × (report.new ≡ report.old) }
+    ensures closed { stream.old.handle.held ≡ None →
+        (result ≡ number_of (at_rest stream.old.closed)) × (report.new ≡ report.old) }
+    ensures kept { stream.new.handle.held ≡ stream.old.handle.held }
+{
+    match replace(&mut stream.handle, Handle::none()).into_box(alloc) {
+        Some(engine) => {
+            let mut engine = engine;
+            let answer = engine.totals(report);
+            stream.handle = Handle::of(engine);
+            answer.number()
+        }
+        None => Answer::at_rest(stream.closed).number(),
+    }
+}
+
+/// Ends the stream, and says what was counted, and which rule it breaks, if it does. What waits can still be taken.
+#[unsafe(no_mangle)]
+pub extern "C" fn fmp4_finish(alloc: Global, stream: &mut Stream, report: &mut Report) -> u32
+    ensures finishes { (plan : plans.Plan) → (b given : List ℕ) →
+        HoldsIn plan b given stream.old.handle.held → FinishedIn plan b result report.new }
+    ensures stopped { (r : Run) → (p : Pushing) → (e : stops.Stop) →
+        stream.old.handle.held ≡ Some r → r.pushing ≡ Some p → p.stop ≡ Some e →
+        (result ≡ number_of (answer_to e)) × (report.new ≡ report_of p) }
+    ensures ended { (r : Run) → stream.old.handle.held ≡ Some r → r.pushing ≡ None →
+        (result ≡ number_of Answer.Ended) × (report.new ≡ report.old) }
+    ensures waits { (r : Run) → stream.old.handle.held ≡ Some r →
+        IfSome stream.new.handle.held (λ r'. (r'.waiting ≡ r.waiting) × (r'.pushing ≡ None) ×
+        (r'.account.live ≡ 0)) }
+    ensures closed { stream.old.handle.held ≡ None →
+        (result ≡ number_of (at_rest stream.old.closed)) × (report.new ≡ report.old) ×
+        (stream.new.handle.held ≡ None) }
+{
+    match replace(&mut stream.handle, Handle::none()).into_box(alloc) {
+        Some(engine) => {
+            let mut engine = engine;
+            let answer = engine.finish(report);
+            stream.handle = Handle::of(engine);
+            answer.number()
+        }
+        None => Answer::at_rest(stream.closed).number(),
+    }
+}
+
+/// Frees all that the stream takes. Output that waits is lost.
+#[unsafe(no_mangle)]
+pub extern "C" fn fmp4_close(alloc: Global, stream: &mut Stream) -> u32
+    ensures none { stream.new.handle.held ≡ None }
+    ensures open { (r : Run) → stream.old.handle.held ≡ Some r →
+        (result ≡ number_of Answer.Done) × (stream.new.closed ≡ 1) }
+    ensures closed { stream.old.handle.held ≡ None →
+        (result ≡ number_of (at_rest stream.old.closed)) × (stream.new.closed ≡ stream.old.closed) }
+{
+    match replace(&mut stream.handle, Handle::none()).into_box(alloc) {
+        Some(_) => {
+            stream.closed = 1;
+            Answer::Done.number()
+        }
+        None => Answer::at_rest(stream.closed).number(),
+    }
+}

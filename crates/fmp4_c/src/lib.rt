@@ -1,0 +1,32 @@
+//! The C library of fmp4: a fragmented stream is fed chunk by chunk, and recut or checked; the output is taken from the front.
+//!
+//! - [`exports`]: what C calls, [`opening`]: how a stream is opened, by what is [`asked`] for; [`names`]: those of the rules;
+//! - [`answer`]: what a call answers, as a number, and [`report`]: what was counted, and which rule is broken;
+//! - [`stream`]: what C keeps, with [`handle`]: the pointer in it, and [`engine`]: what that points to;
+//! - [`output`]: what waits to be taken.
+//!
+//! The definitions: `specs/Engines.antt` (what an engine is after the bytes that it was fed, and what its calls do),
+//! `specs/Calls.antt` (the same of what C keeps, and what C asks for), `specs/Answers.antt` (numbers and reports),
+//! `specs/Waiting.antt` (what waits) and `specs/Handles.antt` (what a handle owns).
+#![tactic(auto)]
+
+mod answer;
+mod asked;
+mod engine;
+mod exports;
+mod handle;
+mod names;
+mod opening;
+mod output;
+mod report;
+mod stream;
+
+pub use answer::Answer;
+pub use asked::Asked;
+pub use engine::{Engine, Feed};
+pub use exports::{fmp4_close, fmp4_feed, fmp4_finish, fmp4_take, fmp4_totals};
+pub use handle::Handle;
+pub use names::fmp4_rule_name;
+pub use opening::{fmp4_check_open, fmp4_split_open};
+pub use report::Report;
+pub use stream::Stream;

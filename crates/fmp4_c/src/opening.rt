@@ -1,0 +1,102 @@
+//! How a stream is opened.
+
+ghost use Rattle.std.specs.Prelude.{◌≡◌, ℕ, ◌<◌, None, Some, IfErr, IfOk};
+ghost use Rattle.fmp4_c.specs.Answers.{number_of};
+ghost use Rattle.fmp4_c.specs.Calls.{IsOpened, Opens, OpensOr, SplitOpens, checked_by};
+ghost use Rattle.fmp4_c.specs.Engines.{Run};
+ghost use Rattle.fmp4_c.specs.declared.answer.Answer as answers;
+
+use crate::answer::Answer;
+use crate::asked::Asked;
+use crate::engine::Engine;
+use crate::handle::Handle;
+use crate::stream::Stream;
+use mp4_ledger::Refused;
+use std::alloc::Global;
+use std::mem::replace;
+
+/// Opens a stream that is cut into fragments of at most so many samples and so many bytes of media (0: any number), by
+/// flags 1 for an index and 2 for a cut before each sync sample. It takes at most `limit` bytes, `room` of them for the
+/// output that waits.
+#[unsafe(no_mangle)]
+pub extern "C" fn fmp4_split_open(
+    alloc: Global,
+    stream: &mut Stream,
+    samples: u32,
+    bytes: u64,
+    flags: u32,
+    limit: u64,
+    room: usize,
+) -> u32
+    ensures opens { stream.old.handle.held ≡ None →
+        (answer : answers.Answer) × (result ≡ number_of answer) ×
+        SplitOpens samples bytes flags limit room answer stream.new.handle.held }
+    ensures open { (r : Run) → stream.old.handle.held ≡ Some r →
+        (result ≡ number_of Answer.IsOpen) × (stream.new.handle.held ≡ Some r) }
+{
+    open(
+        alloc,
+        stream,
+        Asked::split(samples, bytes, flags, limit, room),
+    )
+    .number()
+}
+
+/// Opens a stream that is checked, and that takes at most `limit` bytes.
+#[unsafe(no_mangle)]
+pub extern "C" fn fmp4_check_open(alloc: Global, stream: &mut Stream, limit: u64) -> u32
+    ensures opens { stream.old.handle.held ≡ None →
+        (answer : answers.Answer) × (result ≡ number_of answer) ×
+        Opens (checked_by limit) answer stream.new.handle.held }
+    ensures open { (r : Run) → stream.old.handle.held ≡ Some r →
+        (result ≡ number_of Answer.IsOpen) × (stream.new.handle.held ≡ Some r) }
+{
+    open(alloc, stream, Ok(Asked::check(limit))).number()
+}
+
+/// Opens a stream, where none is open and what is asked for is in range.
+fn open(alloc: Global, stream: &mut Stream, asked: Result<Asked, Answer>) -> Answer
+    requires { IfOk asked (λ q. 0 < q.step) }
+    ensures opens { stream.old.handle.held ≡ None →
+        OpensOr asked result stream.new.handle.held }
+    ensures open { (r : Run) → stream.old.handle.held ≡ Some r →
+        (result ≡ Answer.IsOpen) × (stream.new.handle.held ≡ Some r) }
+{
+    match replace(&mut stream.handle, Handle::none()).into_box(alloc) {
+        Some(engine) => {
+            stream.handle = Handle::of(engine);
+            Answer::IsOpen
+        }
+        None => match asked {
+            Ok(asked) => match new_box(alloc, asked) {
+                Ok(engine) => {
+                    stream.handle = Handle::of(engine);
+                    stream.closed = 0;
+                    Answer::Done
+                }
+                Err(answer) => answer,
+            },
+            Err(out) => out,
+        },
+    }
+}
+
+/// An engine to which no byte has come.
+///
+/// # Errors
+///
+/// `OverLimit` where the room passes the limit; else `NoMemory`.
+fn new_box(alloc: Global, asked: Asked) -> Result<Box<Engine>, Answer>
+    requires { 0 < asked.step }
+    ensures ok { IfOk result (λ e. IsOpened asked (Some e.value)) }
+    ensures err { IfErr result (λ a. Opens asked a None) }
+{
+    match Engine::new(alloc, asked) {
+        Ok(engine) => match Box::new(alloc, engine) {
+            Ok(engine) => Ok(engine),
+            Err(_) => Err(Answer::NoMemory),
+        },
+        Err(Refused::OverLimit) => Err(Answer::OverLimit),
+        Err(Refused::Memory) => Err(Answer::NoMemory),
+    }
+}

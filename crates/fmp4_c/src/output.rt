@@ -1,0 +1,149 @@
+//! What waits to be taken.
+
+ghost use Rattle.std.specs.Prelude.{◌≡◌, ◌-◌, ◌+◌, ◌<◌, ◌≤◌, min, [], ◌∷◌, ◌++◌, length, take, drop};
+ghost use Rattle.std.specs.Prelude.{Some, true, false, IfOk, OnOk, OnErr, vec_capacity, vec_len};
+ghost use Rattle.std.specs.Io.KnownBytes.{WriteAppends, Keeps};
+ghost use Rattle.fmp4_c.specs.Waiting.{empty};
+
+use mp4_ends::{Failed, Sink};
+use std::alloc::{AllocError, Global};
+use std::marker::Model;
+
+/// Bytes that are written one after the other, and taken from the front. Their room is there from the beginning.
+#[derive(Drop)]
+pub(crate) struct Output {
+    bytes: Vec<u8>,
+    /// How many of them were taken.
+    at: usize,
+    /// How many may be there at once.
+    room: usize,
+    /// Whether a write found no room.
+    failed: bool,
+}
+
+// A contract sees the bytes that wait, how many may, and whether a write found no room.
+impl Model for Output {
+    ghost use Rattle.std.specs.Prelude.{◌≤◌, drop, vec_capacity, vec_len};
+    ghost use Rattle.fmp4_c.specs.Waiting.{Waiting};
+
+    ghost Value = { Waiting };
+
+    ghost view = { λ o. record { bytes = drop o.at o.bytes.items; room = o.room; failed = o.failed } };
+
+    ghost invariant = { λ o. (o.at ≤ vec_len o.bytes) × (vec_len o.bytes ≤ o.room) ×
+        (o.room ≤ vec_capacity o.bytes) };
+}
+
+impl Output {
+    /// None yet, with room for so many bytes.
+    ///
+    /// # Errors
+    ///
+    /// The allocator has no memory for them.
+    pub(crate) fn new(alloc: Global, room: usize) -> Result<Output, AllocError>
+        ensures { IfOk result (λ o. o ≡ empty room) }
+    {
+        match Vec::with_capacity(alloc, room) {
+            Ok(bytes) => Ok(Output {
+                bytes,
+                at: 0,
+                room,
+                failed: false,
+            }),
+            Err(error) => Err(error),
+        }
+    }
+
+    /// How many bytes wait.
+    pub(crate) fn len(&self) -> usize
+        ensures len { result ≡ length self.now.bytes }
+        ensures within { length self.now.bytes ≤ self.now.room }
+    {
+        self.bytes.len() - self.at
+    }
+
+    /// For how many more there is room.
+    pub(crate) fn free(&self) -> usize
+        ensures { result ≡ self.now.room - length self.now.bytes }
+    {
+        self.room - self.len()
+    }
+
+    /// Takes bytes from the front: as many as wait, or as fit.
+    pub(crate) fn take(&mut self, out: &mut [u8]) -> usize
+        ensures count { result ≡ min (length out.old) (length self.old.bytes) }
+        ensures front { take result out.new ≡ take result self.old.bytes }
+        ensures rest { drop result out.new ≡ drop result out.old }
+        ensures left { self.new.bytes ≡ drop result self.old.bytes }
+        ensures room { self.new.room ≡ self.old.room }
+        ensures failed { self.new.failed ≡ self.old.failed }
+    {
+        let count = out.len().min(self.bytes.len() - self.at);
+        out[..count].copy_from_slice(&self.bytes[self.at..self.at + count]);
+        self.at += count;
+        if self.at == self.bytes.len() {
+            // So the next bytes go to memory that was just used.
+            self.bytes.clear();
+            self.at = 0;
+        }
+        count
+    }
+
+    /// Appends bytes for which there is room. Where the end has none, what waits is moved to the front first.
+    fn append(&mut self, more: &[u8])
+        requires { length self.old.bytes + length more.now ≤ self.old.room }
+        ensures { self.new ≡ record self.old { bytes = self.old.bytes ++ more.now } }
+    {
+        if self.room - self.bytes.len() < more.len() {
+            close_up(&mut self.bytes, self.at);
+            self.at = 0;
+        }
+        match self.bytes.extend_from_slice(more) {
+            Ok(()) => {}
+            Err(_) => unreachable!(),
+        }
+    }
+}
+
+/// Moves the bytes from `at` on to the front, and forgets those before.
+fn close_up(bytes: &mut Vec<u8>, at: usize)
+    requires { at ≤ vec_len bytes.old }
+    ensures items { bytes.new.items ≡ drop at bytes.old.items }
+    ensures len { vec_len bytes.new ≡ vec_len bytes.old - at }
+    ensures capacity { vec_capacity bytes.new ≡ vec_capacity bytes.old }
+{
+    let left = bytes.len() - at;
+    bytes.copy_within(at.., 0);
+    bytes.truncate(left);
+}
+
+impl Sink for Output {
+    // The room stands before the bytes, so that no write changes it.
+    ghost contents = { λ o. Some (o.room ∷ o.bytes) };
+
+    ghost has_failed = { λ o. o.failed };
+
+    fn write(&mut self, from: &[u8]) -> Result<usize, Failed> {
+        if self.failed {
+            return Err(Failed);
+        }
+        let count = from.len().min(self.free());
+        if count == 0 {
+            self.failed = true;
+            return Err(Failed);
+        }
+        self.append(&from[..count]);
+        Ok(count)
+    }
+
+    fn flush(&mut self) -> Result<(), Failed> {
+        if self.failed {
+            return Err(Failed);
+        }
+        Ok(())
+    }
+
+    fn failed(&self) -> bool {
+        self.failed
+    }
+}
