@@ -123,7 +123,19 @@ impl Sink for Output {
 
     ghost has_failed = { λ o. o.failed };
 
-    fn write(&mut self, from: &[u8]) -> Result<usize, Failed> {
+    // It fails only where the room is full, and takes what fits.
+    fn write(&mut self, from: &[u8]) -> Result<usize, Failed>
+        requires { 0 < length from.now }
+        ensures bound { IfOk result (λ n. (0 < n) × (n ≤ length from.now)) }
+        ensures bytes { WriteAppends (Some (self.old.room ∷ self.old.bytes))
+            (Some (self.new.room ∷ self.new.bytes)) result from.now }
+        ensures failed_ok { OnOk result ((self.old.failed ≡ false) × (self.new.failed ≡ false)) }
+        ensures failed_err { OnErr result (self.new.failed ≡ true) }
+        ensures full { OnErr result (self.old.failed ≡ false →
+            length self.old.bytes ≡ self.old.room) }
+        ensures fits { IfOk result (λ n.
+            n ≡ min (length from.now) (self.old.room - length self.old.bytes)) }
+    {
         if self.failed {
             return Err(Failed);
         }
