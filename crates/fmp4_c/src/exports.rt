@@ -89,6 +89,9 @@ pub extern "C" fn fmp4_take(
     ensures left { (r : Run) → stream.old.handle.held ≡ Some r →
         IfSome stream.new.handle.held (λ r'. r'.waiting.bytes ≡ drop taken.new r.waiting.bytes) }
     ensures rest { drop taken.new out.new ≡ drop taken.new out.old }
+    ensures kept { (r : Run) → stream.old.handle.held ≡ Some r →
+        IfSome stream.new.handle.held (λ r'. (r'.pushing ≡ r.pushing) ×
+        (r'.waiting.room ≡ r.waiting.room) × (r'.account ≡ r.account) × (r'.step ≡ r.step)) }
     ensures closed { stream.old.handle.held ≡ None →
         (result ≡ number_of (at_rest stream.old.closed)) × (taken.new ≡ 0) ×
         (stream.new.handle.held ≡ None) }
