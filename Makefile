@@ -66,7 +66,7 @@ install_lib:
 	install -m 644 c/out/libfmp4.a "$(LIB)/libfmp4.a"
 	@if [ -e c/out/libfmp4.so.0 ]; then install -m 755 c/out/libfmp4.so.0 "$(LIB)/libfmp4.so.0" && ln -sf libfmp4.so.0 "$(LIB)/libfmp4.so"; fi
 	install -m 644 c/fmp4.h "$(DESTDIR)$(PREFIX)/include/fmp4.h"
-	sed "s|@PREFIX@|$(PREFIX)|; s|@VERSION@|$$(cat VERSION)|" c/fmp4.pc.in > "$(LIB)/pkgconfig/fmp4.pc"
+	sed "s|@VERSION@|$$(cat VERSION)|" c/fmp4.pc.in > "$(LIB)/pkgconfig/fmp4.pc"
 	sed "1s/ fmp4 / \"fmp4 $$(cat VERSION)\" /; s/^The number in VERSION.*/fmp4 $$(scripts/version)/" docs/fmp4.3 > "$(SHARE)/man/man3/fmp4.3"
 
 # Packs what install installs, for machines without Rattle.
