@@ -40,7 +40,7 @@ push_pieces:
 
 test:
 	@scripts/needs_rt
-	@echo "proving everything from nothing and running the tests: about an hour on 4 cores" >&2
+	@echo "proving everything from nothing and running the tests: over an hour on 4 cores" >&2
 	@rt ci
 	@if command -v cc > /dev/null; then scripts/refused_allocations; else echo "no C compiler: refused allocations weren't tried" >&2; fi
 
