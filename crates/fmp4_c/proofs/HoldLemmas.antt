@@ -1,4 +1,4 @@
--- What a Pusher's calls do to what an engine is.
+-- What a Feeder's calls do to what an engine is.
 use Rattle.std.proofs.Common.{◌≡◌, ◌∙◌, ℕ, ◌+◌, List, [], ◌∷◌, ◌++◌, append_assoc, length, length-append, take, drop, Option, Some, None, Ok, Err, refl, sym, ap, subst, arith}
 use Rattle.std.proofs.lemmas.List.{take-append-drop}
 use Rattle.std.specs.Io.KnownBytes.{Appends}
@@ -8,13 +8,12 @@ use Rattle.mp4_machine.specs.Readings.{Effects, Reading, both, whole_in}
 use Rattle.mp4_machine.specs.declared.stop.Stop.{Stop}
 use Rattle.mp4_machine.specs.declared.stop.Stop.TheVariants.{Stream, Read, Write, OverLimit, Memory}
 use Rattle.mp4_machine.proofs.MarkLemmas.{whole_in-before, whole_in-both}
-use Rattle.mp4_push.specs.Pushing.{Feeds, IsAfter, Pushing, WritesBefore, held_by, live, sums_of, totals_of}
-use Rattle.mp4_push.proofs.PusherLemmas.{reading-none}
+use Rattle.mp4_push.specs.Feeders.{Feeds, IsAfter, Feeding, WritesBefore, held_by, live, sums_of, totals_of}
+use Rattle.mp4_push.proofs.FeederLemmas.{reading-none}
 use Rattle.mp4_recut.specs.Plans.{reads_of}
 use Rattle.mp4_recut.specs.declared.plan.Plan.{Plan}
-use Rattle.mp4_push.specs.declared.totals.Totals.{Totals}
-use Rattle.fmp4_c.specs.Answers.{answer_to, fault_of, told_by}
-use Rattle.fmp4_c.specs.Engines.{Fed, Holds, IsRefused, Run, Stopped, StopsIn, report_of, totals_in}
+use Rattle.fmp4_c.specs.Answers.{Counted, answer_to, counted_of, fault_of, told_by}
+use Rattle.fmp4_c.specs.Engines.{Fed, Holds, IsRefused, Run, Stopped, StopsIn, counted_in, report_of}
 use Rattle.fmp4_c.specs.declared.answer.Answer.{Answer}
 
 some-is : {A : Type 0} (x y : A) → ◌≡◌ {A = Option A} (Some x) (Some y) → x ≡ y
@@ -30,17 +29,17 @@ tail-is x y xs ys h = cc
 pub live-none : (plan : Plan) → live plan [] ≡ []
 live-none plan = ap (λ (r : Reading). r.effects.text) (reading-none plan)
 
--- ---- the Pusher of an engine that holds so
+-- ---- the Feeder of an engine that holds so
 
-module _ (plan : Plan) (b given : List ℕ) (r : Run) (p : Pushing) (is : r.pushing ≡ Some p) (h : Holds plan b given r) where
-  its : h.pushing ≡ p
-  its = some-is h.pushing p (sym h.runs ∙ is)
+module _ (plan : Plan) (b given : List ℕ) (r : Run) (p : Feeding) (is : r.feeding ≡ Some p) (h : Holds plan b given r) where
+  its : h.feeding ≡ p
+  its = some-is h.feeding p (sym h.runs ∙ is)
 
   pub after-its : IsAfter p b
-  after-its = subst (λ (x : Pushing). IsAfter x b) its h.stands
+  after-its = subst (λ (x : Feeding). IsAfter x b) its h.stands
 
   pub plan-its : p.plan ≡ plan
-  plan-its = sym (ap (λ (x : Pushing). x.plan) its) ∙ h.planned
+  plan-its = sym (ap (λ (x : Feeding). x.plan) its) ∙ h.planned
 
   pub text-its : given ++ r.waiting.bytes ≡ live p.plan b
   text-its = h.text ∙ ap (λ (k : Plan). live k b) (sym plan-its)
@@ -50,7 +49,7 @@ module _ (plan : Plan) (b given : List ℕ) (r : Run) (p : Pushing) (is : r.push
 
 -- ---- a chunk was fed
 
-module _ (b given chunk : List ℕ) (r r' : Run) (p p' : Pushing) (l : Lent) (is' : r'.pushing ≡ Some p') (same : p'.plan ≡ p.plan) (here : l.written ≡ Some (r.waiting.room ∷ r.waiting.bytes)) (there : l.written' ≡ Some (r'.waiting.room ∷ r'.waiting.bytes)) where
+module _ (b given chunk : List ℕ) (r r' : Run) (p p' : Feeding) (l : Lent) (is' : r'.feeding ≡ Some p') (same : p'.plan ≡ p.plan) (here : l.written ≡ Some (r.waiting.room ∷ r.waiting.bytes)) (there : l.written' ≡ Some (r'.waiting.room ∷ r'.waiting.bytes)) where
   appended : (more : List ℕ) → Appends l.written l.written' more → Appends (Some (r.waiting.room ∷ r.waiting.bytes)) (Some (r'.waiting.room ∷ r'.waiting.bytes)) more
   appended more a = subst (λ (o : Option (List ℕ)). Appends (Some (r.waiting.room ∷ r.waiting.bytes)) o more) there (subst (λ (o : Option (List ℕ)). Appends o l.written' more) here a)
 
@@ -83,7 +82,7 @@ module _ (b given chunk : List ℕ) (r r' : Run) (p p' : Pushing) (l : Lent) (is
     -- no fault is decided
     pub fed : Feeds {T = Unit {0}} b chunk p p' l (Ok tt) → Holds p.plan (b ++ chunk) given r'
     fed feeds = record {
-      pushing = p';
+      feeding = p';
       runs = is';
       planned = same;
       stands = feeds.ok.0;
@@ -163,7 +162,7 @@ module _ (b given chunk : List ℕ) (r r' : Run) (p p' : Pushing) (l : Lent) (is
 
         pub stopped : (e : Stop) → p'.stop ≡ Some e → Feeds {T = Unit {0}} b chunk p p' l (Err e) → Stopped p.plan (b ++ chunk) given (answer_to e) r'
         stopped e stop feeds = record {
-          pushing = p';
+          feeding = p';
           stop = e;
           runs = is';
           planned = same;
@@ -182,10 +181,10 @@ fed-stopped plan b given r OverLimit h = h
 fed-stopped plan b given r Memory h = h
 
 -- why it stopped before
-pub stop-its : (plan : Plan) (b given : List ℕ) (a : Answer) (r : Run) (p : Pushing) → r.pushing ≡ Some p → (h : Stopped plan b given a r) → p.stop ≡ Some h.stop
-stop-its plan b given a r p is h = sym (ap (λ (x : Pushing). x.stop) (some-is h.pushing p (sym h.runs ∙ is))) ∙ h.stops
+pub stop-its : (plan : Plan) (b given : List ℕ) (a : Answer) (r : Run) (p : Feeding) → r.feeding ≡ Some p → (h : Stopped plan b given a r) → p.stop ≡ Some h.stop
+stop-its plan b given a r p is h = sym (ap (λ (x : Feeding). x.stop) (some-is h.feeding p (sym h.runs ∙ is))) ∙ h.stops
 
-pub answer-its : (plan : Plan) (b given : List ℕ) (a : Answer) (r : Run) (p : Pushing) (e : Stop) → r.pushing ≡ Some p → p.stop ≡ Some e → Stopped plan b given a r → answer_to e ≡ a
+pub answer-its : (plan : Plan) (b given : List ℕ) (a : Answer) (r : Run) (p : Feeding) (e : Stop) → r.feeding ≡ Some p → p.stop ≡ Some e → Stopped plan b given a r → answer_to e ≡ a
 answer-its plan b given a r p e is stop h = ap answer_to (some-is e h.stop (sym stop ∙ stop-its plan b given a r p is h)) ∙ sym h.answers
 
 -- ---- output was taken
@@ -198,17 +197,17 @@ taken given old out left all n front rest text = rw (front, rest) (append_assoc 
 taken-rest : (given old out left more all : List ℕ) (n : ℕ) → take n out ≡ take n old → left ≡ drop n old → (given ++ old) ++ more ≡ all → ((given ++ take n out) ++ left) ++ more ≡ all
 taken-rest given old out left more all n front rest text = ap (λ (x : List ℕ). x ++ more) (taken given old out left (given ++ old) n front rest refl) ∙ text
 
-module _ (plan : Plan) (b given out : List ℕ) (n : ℕ) (r r' : Run) (front : take n out ≡ take n r.waiting.bytes) (left : r'.waiting.bytes ≡ drop n r.waiting.bytes) (pushes : r'.pushing ≡ r.pushing) where
+module _ (plan : Plan) (b given out : List ℕ) (n : ℕ) (r r' : Run) (front : take n out ≡ take n r.waiting.bytes) (left : r'.waiting.bytes ≡ drop n r.waiting.bytes) (pushes : r'.feeding ≡ r.feeding) where
   pub holds-taken : Holds plan b given r → Holds plan b (given ++ take n out) r'
   holds-taken h = record {
-    pushing = h.pushing;
+    feeding = h.feeding;
     runs = pushes ∙ h.runs;
     planned = h.planned;
     stands = h.stands;
     text = taken given r.waiting.bytes out r'.waiting.bytes (live plan b) n front left h.text;
   }
 
-  module _ (account : r'.account ≡ r.account) (p : Pushing) where
+  module _ (account : r'.account ≡ r.account) (p : Feeding) where
     same-limit-taken : r'.account.limit ≡ r.account.limit
     same-limit-taken = ap (λ (a : Account). a.limit) account
 
@@ -231,13 +230,13 @@ module _ (plan : Plan) (b given out : List ℕ) (n : ℕ) (r r' : Run) (front : 
 
   pub stopped-taken : r'.account ≡ r.account → (a : Answer) → Stopped plan b given a r → Stopped plan b (given ++ take n out) a r'
   stopped-taken account a h = record {
-    pushing = h.pushing;
+    feeding = h.feeding;
     stop = h.stop;
     runs = pushes ∙ h.runs;
     planned = h.planned;
     stops = h.stops;
     answers = h.answers;
-    written = stops-taken account h.pushing h.stop h.written;
+    written = stops-taken account h.feeding h.stop h.written;
     fragments = h.fragments ∙ ap (λ (x : List ℕ). whole_in (length x) 0 (reads_of plan b).effects.marks) (sym (taken given r.waiting.bytes out r'.waiting.bytes (given ++ r.waiting.bytes) n front left refl));
   }
 
@@ -247,7 +246,7 @@ module _ (plan : Plan) (b given out : List ℕ) (n : ℕ) (r r' : Run) (front : 
 whole-now : (t : Effects) (fragments : ℕ) → AllWhole t fragments → fragments ≡ whole_in (length t.text) 0 t.marks
 whole-now t fragments h = let all : length t.text + 0 ≡ length t.text = omega arith in sym (h 0) ∙ ap (λ k. whole_in k 0 t.marks) all
 
-pub totals-are : (p : Pushing) (b : List ℕ) → IsAfter p b → totals_of p ≡ totals_in p.plan b
+pub totals-are : (p : Feeding) (b : List ℕ) → IsAfter p b → counted_of (totals_of p) ≡ counted_in p.plan b
 totals-are p b h =
     let t = (reads_of p.plan b).effects in
     let tally : p.machine.counter.tally ≡ t.tally = ap (λ s. s.tally) h.sums in
@@ -255,11 +254,11 @@ totals-are p b h =
     rw (whole-now t p.fragments h.fragments, tally, peak) refl
 
 -- the report of one that goes on
-pub report-holds : (plan : Plan) (b given : List ℕ) (r : Run) (h : Holds plan b given r) → report_of h.pushing ≡ told_by (totals_in plan b) None
+pub report-holds : (plan : Plan) (b given : List ℕ) (r : Run) (h : Holds plan b given r) → report_of h.feeding ≡ told_by (counted_in plan b) None
 report-holds plan b given r h =
-    ap (λ (s : Option Stop). told_by (totals_of h.pushing) (fault_of s)) h.stands.running
-    ∙ ap (λ (t : Totals). told_by t None) (totals-are h.pushing b h.stands)
-    ∙ ap (λ (k : Plan). told_by (totals_in k b) None) h.planned
+    ap (λ (s : Option Stop). told_by (counted_of (totals_of h.feeding)) (fault_of s)) h.stands.running
+    ∙ ap (λ (t : Counted). told_by t None) (totals-are h.feeding b h.stands)
+    ∙ ap (λ (k : Plan). told_by (counted_in k b) None) h.planned
 
 -- ---- what a handle held is what was in its box
 

@@ -55,7 +55,18 @@ abbrev pub kind_number : Option FourCc → ℕ
 kind_number None = 0
 kind_number (Some kind) = from_be_bytes w32 kind.0
 
+-- what a report says of a stream beside its fault
+pub record Counted : Type 0 where
+  pub fragments : ℕ
+  pub samples : ℕ
+  pub media_bytes : ℕ
+  pub peak : ℕ
+
+-- the same of its totals
+abbrev pub counted_of : Totals → Counted
+counted_of t = record { fragments = t.fragments; samples = t.samples; media_bytes = t.media_bytes; peak = t.peak }
+
 -- the report of what was counted, and of a fault where there is one
-abbrev pub told_by : Totals → Option faults.Fault → Report
+abbrev pub told_by : Counted → Option faults.Fault → Report
 told_by t None = record { fragments = t.fragments; samples = min t.samples (2 ^ 64 - 1); media_bytes = t.media_bytes; peak = t.peak; offset = 0; rule = 0; kind = 0 }
 told_by t (Some f) = record { fragments = t.fragments; samples = min t.samples (2 ^ 64 - 1); media_bytes = t.media_bytes; peak = t.peak; offset = f.offset; rule = rules.number_of f.rule; kind = kind_number f.kind }

@@ -106,7 +106,7 @@ StoppedIn plan b given answer held = (r : Run) × (held ≡ Some r) × Stopped p
 
 -- what is open never had more claimed than the largest boxes ask for
 abbrev pub ClaimsIn : Plan → List ℕ → Option Run → Type 0
-ClaimsIn plan b held = (r : Run) × (held ≡ Some r) × ClaimsWithin plan b r.pushing
+ClaimsIn plan b held = (r : Run) × (held ≡ Some r) × ClaimsWithin plan b r.feeding
 
 -- a feed answered this number
 abbrev pub FedIn : Plan → (b given : List ℕ) → (number : ℕ) → Option Run → Type 0

@@ -8,11 +8,10 @@ use Rattle.mp4_machine.specs.Fed.{sums_in}
 use Rattle.mp4_machine.specs.Readings.{AtMost, Request, early_in, fault_in, greatest, most_of, whole_in}
 use Rattle.mp4_machine.specs.declared.stop.Stop.{Stop}
 use Rattle.mp4_machine.specs.declared.stop.Stop.TheVariants as stops
-use Rattle.mp4_push.specs.Pushing.{IsAfter, Pushing, fragments_of, held_by, live, sums_of, totals_of}
-use Rattle.mp4_push.specs.declared.totals.Totals.{Totals}
+use Rattle.mp4_push.specs.Feeders.{IsAfter, Feeding, fragments_of, held_by, live, sums_of, totals_of}
 use Rattle.mp4_recut.specs.Plans.{plan_meaning, reads_of}
 use Rattle.mp4_recut.specs.declared.plan.Plan.{Plan}
-use Rattle.fmp4_c.specs.Answers.{answer_to, fault_of, number_of, told_by}
+use Rattle.fmp4_c.specs.Answers.{Counted, answer_to, counted_of, fault_of, number_of, told_by}
 use Rattle.fmp4_c.specs.Waiting.{Waiting}
 use Rattle.fmp4_c.specs.declared.answer.Answer.{Answer}
 use Rattle.fmp4_c.specs.declared.answer.Answer.TheVariants.{Done, Full, Fault, NoRoom, OverLimit, NoMemory, NotOpen, Closed, IsOpen, Ended, BadSamples, BadBytes, BadFlags, BadRoom}
@@ -20,16 +19,16 @@ use Rattle.fmp4_c.specs.declared.report.Report.{Report}
 
 -- ---- what is seen of an engine
 
--- the account of its ledger, its Pusher until the stream ends, what waits to be taken, and how many bytes of a chunk it
+-- the account of its ledger, its Feeder until the stream ends, what waits to be taken, and how many bytes of a chunk it
 -- takes at once
 pub record Run : Type 0 where
   pub account : Account
-  pub pushing : Option Pushing
+  pub feeding : Option Feeding
   pub waiting : Waiting
   pub step : ℕ
 
--- what a Pusher has claimed, where there is one
-abbrev pub held_in : Option Pushing → ℕ
+-- what a Feeder has claimed, where there is one
+abbrev pub held_in : Option Feeding → ℕ
 held_in None = 0
 held_in (Some p) = held_by p
 
@@ -38,21 +37,21 @@ held_in (Some p) = held_by p
 -- it was fed the bytes b under a plan, in whatever chunks. They decide no fault, and those that were given out and those
 -- that wait are all output that they determine
 pub record Holds (plan : Plan) (b given : List ℕ) (r : Run) : Type 0 where
-  pub pushing : Pushing
-  pub runs : r.pushing ≡ Some pushing
-  pub planned : pushing.plan ≡ plan
-  pub stands : IsAfter pushing b
+  pub feeding : Feeding
+  pub runs : r.feeding ≡ Some feeding
+  pub planned : feeding.plan ≡ plan
+  pub stands : IsAfter feeding b
   pub text : given ++ r.waiting.bytes ≡ live plan b
 
 -- the bytes b decide a fault: all output before it was given out or waits, and all before it was counted
-pub record IsAtFault (plan : Plan) (b given : List ℕ) (fault : faults.Fault) (p : Pushing) (r : Run) : Type 0 where
+pub record IsAtFault (plan : Plan) (b given : List ℕ) (fault : faults.Fault) (p : Feeding) (r : Run) : Type 0 where
   pub early : early_in (reads_of plan b).outcome ≡ Some fault
   pub text : given ++ r.waiting.bytes ≡ live plan b
   pub sums : sums_of p ≡ sums_in (reads_of plan b).effects
 
 -- a box of the bytes b requested memory that it didn't get: what was given out and what waits is the output of the bytes
 -- before this box, what is counted is what stands before it, and the requests before it were the most that was claimed
-pub record IsRefused (plan : Plan) (b given : List ℕ) (p : Pushing) (r : Run) : Type 0 where
+pub record IsRefused (plan : Plan) (b given : List ℕ) (p : Feeding) (r : Run) : Type 0 where
   pub request : Request
   pub earlier : List Request
   pub later : List Request
@@ -62,14 +61,14 @@ pub record IsRefused (plan : Plan) (b given : List ℕ) (p : Pushing) (r : Run) 
 
 -- the output of the bytes b found no room: what was given out and what waits is the front of it, and no more was counted
 -- and claimed than these bytes do
-pub record HasNoRoom (plan : Plan) (b given : List ℕ) (p : Pushing) (r : Run) : Type 0 where
+pub record HasNoRoom (plan : Plan) (b given : List ℕ) (p : Feeding) (r : Run) : Type 0 where
   pub rest : List ℕ
   pub text : (given ++ r.waiting.bytes) ++ rest ≡ live plan b
   pub counted : AtMost p.machine.counter.tally (reads_of plan b).effects.tally
   pub claimed : p.peak ≤ most_of (reads_of plan b).effects
 
 -- how a stream stopped in the bytes b
-abbrev pub StopsIn : Plan → (b given : List ℕ) → Stop → Pushing → Run → Type 0
+abbrev pub StopsIn : Plan → (b given : List ℕ) → Stop → Feeding → Run → Type 0
 StopsIn plan b given (stops.Stream fault) p r = IsAtFault plan b given fault p r
 StopsIn plan b given stops.OverLimit p r = (refused : IsRefused plan b given p r) × (r.account.limit < refused.request.sum)
 StopsIn plan b given stops.Memory p r = (refused : IsRefused plan b given p r) × (refused.request.sum ≤ r.account.limit)
@@ -78,14 +77,14 @@ StopsIn plan b given (stops.Read at) p r = ⊥
 
 -- it stopped in the bytes b, with this answer. The fragments that are whole in what was given out and what waits are counted
 pub record Stopped (plan : Plan) (b given : List ℕ) (answer : Answer) (r : Run) : Type 0 where
-  pub pushing : Pushing
+  pub feeding : Feeding
   pub stop : Stop
-  pub runs : r.pushing ≡ Some pushing
-  pub planned : pushing.plan ≡ plan
-  pub stops : pushing.stop ≡ Some stop
+  pub runs : r.feeding ≡ Some feeding
+  pub planned : feeding.plan ≡ plan
+  pub stops : feeding.stop ≡ Some stop
   pub answers : answer ≡ answer_to stop
-  pub written : StopsIn plan b given stop pushing r
-  pub fragments : pushing.fragments ≡ whole_in (length (given ++ r.waiting.bytes)) 0 (reads_of plan b).effects.marks
+  pub written : StopsIn plan b given stop feeding r
+  pub fragments : feeding.fragments ≡ whole_in (length (given ++ r.waiting.bytes)) 0 (reads_of plan b).effects.marks
 
 -- by what a feed answered
 abbrev pub Fed : Plan → (b given : List ℕ) → Answer → Run → Type 0
@@ -114,8 +113,8 @@ pub record IsPortion (r : Run) (chunk : List ℕ) (taken : ℕ) (answer : Answer
 -- ---- what is told
 
 -- what is counted of the bytes b
-abbrev pub totals_in : Plan → List ℕ → Totals
-totals_in plan b = record {
+abbrev pub counted_in : Plan → List ℕ → Counted
+counted_in plan b = record {
   fragments = fragments_of plan (reads_of plan b).effects.tally.fragments (whole_in (length (live plan b)) 0 (reads_of plan b).effects.marks);
   samples = (reads_of plan b).effects.tally.samples;
   media_bytes = (reads_of plan b).effects.tally.media_bytes;
@@ -124,19 +123,19 @@ totals_in plan b = record {
 
 -- at the end of a stream of the bytes b: its fault, if it has one, and what is counted of it
 pub record Finished (plan : Plan) (b : List ℕ) (answer : Answer) (report : Report) : Type 0 where
-  pub sound : fault_in (reads_of plan b).outcome ≡ None → (answer ≡ Done) × (report ≡ told_by (totals_in plan b) None)
-  pub faulty : (fault : faults.Fault) → fault_in (reads_of plan b).outcome ≡ Some fault → (answer ≡ Fault) × (report ≡ told_by (totals_in plan b) (Some fault))
+  pub sound : fault_in (reads_of plan b).outcome ≡ None → (answer ≡ Done) × (report ≡ told_by (counted_in plan b) None)
+  pub faulty : (fault : faults.Fault) → fault_in (reads_of plan b).outcome ≡ Some fault → (answer ≡ Fault) × (report ≡ told_by (counted_in plan b) (Some fault))
 
 -- the report of a stream that goes on or has stopped
-abbrev pub report_of : Pushing → Report
-report_of p = told_by (totals_of p) (fault_of p.stop)
+abbrev pub report_of : Feeding → Report
+report_of p = told_by (counted_of (totals_of p)) (fault_of p.stop)
 
 -- ---- what is claimed
 
 -- where each moov of the bytes b that is held has at most so many bytes, and each moof, the stream never had more claimed
 -- than twice the one and five times the other
-abbrev pub ClaimsWithin : Plan → List ℕ → Option Pushing → Type 0
-ClaimsWithin plan b pushing = (p : Pushing) → pushing ≡ Some p → (moov moof : ℕ) → HoldsWithin (plan_meaning plan) first_context b moov moof → p.peak ≤ 2 * moov + 5 * moof
+abbrev pub ClaimsWithin : Plan → List ℕ → Option Feeding → Type 0
+ClaimsWithin plan b feeding = (p : Feeding) → feeding ≡ Some p → (moov moof : ℕ) → HoldsWithin (plan_meaning plan) first_context b moov moof → p.peak ≤ 2 * moov + 5 * moof
 
 -- and a limit that allows so much is never passed
 abbrev pub FitsIn : Plan → List ℕ → Run → (number : ℕ) → Type 0

@@ -1,8 +1,8 @@
-//! A Pusher with its memory and its output.
+//! A Feeder with its memory and its output.
 
 ghost use Rattle.std.specs.Prelude.{◌≡◌, ℕ, ◌+◌, ◌*◌, ◌<◌, ◌≤◌, ◌↔◌, List, ◌++◌, length, take, drop, min};
 ghost use Rattle.std.specs.Prelude.{None, Some, IfOk, IsErrOf};
-ghost use Rattle.mp4_push.specs.Pushing.{Pushing};
+ghost use Rattle.mp4_push.specs.Feeders.{Feeding};
 ghost use Rattle.mp4_recut.specs.declared.plan.Plan as plans;
 ghost use Rattle.mp4_machine.specs.declared.stop.Stop as stops;
 ghost use Rattle.fmp4_c.specs.Answers.{answer_to, number_of};
@@ -16,30 +16,30 @@ use crate::asked::Asked;
 use crate::output::Output;
 use crate::report::{Report, fault_in};
 use mp4_ledger::Refused;
-use mp4_push::{Ledger, Pusher};
+use mp4_push::{Feeder, Ledger};
 use std::alloc::Global;
 use std::marker::Model;
 use std::mem::replace;
 
-/// A Pusher with the ledger that it claims from, until its stream ends, and its output.
+/// A Feeder with the ledger that it claims from, until its stream ends, and its output.
 pub struct Engine {
     ledger: Ledger,
-    pusher: Option<Pusher>,
+    feeder: Option<Feeder>,
     out: Output,
     /// How many bytes of a chunk are taken at once.
     step: usize,
 }
 
-// A contract sees the account, the Pusher, what waits to be taken, and the step.
+// A contract sees the account, the Feeder, what waits to be taken, and the step.
 impl Model for Engine {
     ghost use Rattle.std.specs.Prelude.{◌≡◌, ◌<◌};
     ghost use Rattle.fmp4_c.specs.Engines.{Run, held_in};
 
     ghost Value = { Run };
 
-    ghost view = { λ e. record { account = e.ledger; pushing = e.pusher; waiting = e.out; step = e.step } };
+    ghost view = { λ e. record { account = e.ledger; feeding = e.feeder; waiting = e.out; step = e.step } };
 
-    ghost invariant = { λ e. (e.ledger.live ≡ held_in e.pusher) × (0 < e.step) };
+    ghost invariant = { λ e. (e.ledger.live ≡ held_in e.feeder) × (0 < e.step) };
 }
 
 /// What a feed did.
@@ -69,7 +69,7 @@ impl Engine {
         match Output::new(alloc, asked.room) {
             Ok(out) => Ok(Engine {
                 ledger: Ledger::new(alloc, asked.limit - asked.room as u64),
-                pusher: Some(Pusher::new(asked.plan)),
+                feeder: Some(Feeder::with_plan(asked.plan)),
                 out,
                 step: asked.step,
             }),
@@ -94,15 +94,15 @@ impl Engine {
     pub fn feed(&mut self, chunk: &[u8]) -> Feed
         ensures feeds { (plan : plans.Plan) → (b given : List ℕ) → Holds plan b given self.old →
             Fed plan (b ++ take result.taken chunk.now) given result.answer self.new }
-        ensures portion { (p : Pushing) → self.old.pushing ≡ Some p → p.stop ≡ None →
+        ensures portion { (p : Feeding) → self.old.feeding ≡ Some p → p.stop ≡ None →
             IsPortion self.old chunk.now result.taken result.answer }
         ensures stopped { (plan : plans.Plan) → (b given : List ℕ) → (a : answers.Answer) →
             Stopped plan b given a self.old →
             (result ≡ record { taken = 0; answer = a }) × (self.new ≡ self.old) }
-        ensures ended { self.old.pushing ≡ None →
+        ensures ended { self.old.feeding ≡ None →
             (result ≡ record { taken = 0; answer = Answer.Ended }) × (self.new ≡ self.old) }
         ensures claims { (plan : plans.Plan) → (b given : List ℕ) → Holds plan b given self.old →
-            ClaimsWithin plan (b ++ take result.taken chunk.now) self.new.pushing }
+            ClaimsWithin plan (b ++ take result.taken chunk.now) self.new.feeding }
         ensures fits { (plan : plans.Plan) → (b given : List ℕ) → Holds plan b given self.old →
             FitsIn plan (b ++ take result.taken chunk.now) self.old (number_of result.answer) }
         ensures room { (plan : plans.Plan) → (b given : List ℕ) → Holds plan b given self.old →
@@ -110,12 +110,12 @@ impl Engine {
         ensures kept { IsKept self.old self.new }
     {
         let taken = self.portion(chunk.len());
-        match &mut self.pusher {
-            Some(pusher) => {
-                if let Some(stop) = pusher.stop() {
+        match &mut self.feeder {
+            Some(feeder) => {
+                if let Some(stop) = feeder.stop() {
                     return self.fed(0, Answer::of_stop(stop));
                 }
-                match pusher.feed(&mut self.ledger, &chunk[..taken], &mut self.out) {
+                match feeder.feed(&mut self.ledger, &chunk[..taken], &mut self.out) {
                     Ok(()) => {
                         if taken == 0 && !chunk.is_empty() {
                             return self.fed(taken, Answer::Full);
@@ -150,7 +150,7 @@ impl Engine {
         ensures front { take result out.new ≡ take result self.old.waiting.bytes }
         ensures left { self.new.waiting.bytes ≡ drop result self.old.waiting.bytes }
         ensures rest { drop result out.new ≡ drop result out.old }
-        ensures kept { (self.new.pushing ≡ self.old.pushing) ×
+        ensures kept { (self.new.feeding ≡ self.old.feeding) ×
             (self.new.waiting.room ≡ self.old.waiting.room) ×
             (self.new.account ≡ self.old.account) × (self.new.step ≡ self.old.step) }
     {
@@ -159,15 +159,15 @@ impl Engine {
 
     /// Says what was counted so far, and for which fault the stream stopped, if it did.
     pub fn totals(&mut self, report: &mut Report) -> Answer
-        ensures tells { (p : Pushing) → self.old.pushing ≡ Some p →
+        ensures tells { (p : Feeding) → self.old.feeding ≡ Some p →
             (result ≡ Answer.Done) × (report.new ≡ report_of p) }
-        ensures ended { self.old.pushing ≡ None →
+        ensures ended { self.old.feeding ≡ None →
             (result ≡ Answer.Ended) × (report.new ≡ report.old) }
         ensures kept { self.new ≡ self.old }
     {
-        match &self.pusher {
-            Some(pusher) => {
-                *report = Report::of(&pusher.totals(), fault_in(pusher.stop()));
+        match &self.feeder {
+            Some(feeder) => {
+                *report = Report::of(&feeder.totals(), fault_in(feeder.stop()));
                 Answer::Done
             }
             None => Answer::Ended,
@@ -178,18 +178,18 @@ impl Engine {
     pub fn finish(&mut self, report: &mut Report) -> Answer
         ensures finishes { (plan : plans.Plan) → (b given : List ℕ) → Holds plan b given self.old →
             Finished plan b result report.new }
-        ensures stopped { (p : Pushing) → (e : stops.Stop) → self.old.pushing ≡ Some p →
+        ensures stopped { (p : Feeding) → (e : stops.Stop) → self.old.feeding ≡ Some p →
             p.stop ≡ Some e → (result ≡ answer_to e) × (report.new ≡ report_of p) }
-        ensures ended { self.old.pushing ≡ None →
+        ensures ended { self.old.feeding ≡ None →
             (result ≡ Answer.Ended) × (report.new ≡ report.old) }
         ensures waits { self.new.waiting ≡ self.old.waiting }
-        ensures ends { self.new.pushing ≡ None }
+        ensures ends { self.new.feeding ≡ None }
         ensures back { self.new.account.live ≡ 0 }
     {
-        match replace(&mut self.pusher, None) {
-            Some(pusher) => {
-                let totals = pusher.totals();
-                match pusher.finish(&mut self.ledger) {
+        match replace(&mut self.feeder, None) {
+            Some(feeder) => {
+                let totals = feeder.totals();
+                match feeder.finish(&mut self.ledger) {
                     Ok(_) => {
                         *report = Report::of(&totals, None);
                         Answer::Done
@@ -209,21 +209,21 @@ impl Drop for Engine {
     fn drop(self) {
         let Engine {
             ledger,
-            pusher,
+            feeder,
             out: _,
             step: _,
         } = self;
         let mut ledger = ledger;
-        give_back(pusher, &mut ledger);
+        give_back(feeder, &mut ledger);
     }
 }
 
-/// Gives back all that a Pusher has claimed.
-fn give_back(pusher: Option<Pusher>, ledger: &mut Ledger)
-    requires { ledger.old.live ≡ held_in pusher }
+/// Gives back all that a Feeder has claimed.
+fn give_back(feeder: Option<Feeder>, ledger: &mut Ledger)
+    requires { ledger.old.live ≡ held_in feeder }
     ensures { ledger.new.live ≡ 0 }
 {
-    if let Some(pusher) = pusher {
-        pusher.give_up(ledger);
+    if let Some(feeder) = feeder {
+        feeder.give_up(ledger);
     }
 }

@@ -1,12 +1,12 @@
 //! What C calls of a stream that is open.
 
 ghost use Rattle.std.specs.Prelude.{◌≡◌, ℕ, ◌<◌, ◌≤◌, List, [], ◌++◌, length, take, drop, min, None, Some, IfSome};
-ghost use Rattle.mp4_push.specs.Pushing.{Pushing};
+ghost use Rattle.mp4_push.specs.Feeders.{Feeding};
 ghost use Rattle.mp4_recut.specs.declared.plan.Plan as plans;
 ghost use Rattle.mp4_machine.specs.declared.stop.Stop as stops;
 ghost use Rattle.fmp4_c.specs.Answers.{answer_to, at_rest, number_of, told_by};
 ghost use Rattle.fmp4_c.specs.Calls.{ClaimsIn, FedIn, FinishedIn, HoldsIn, StoppedIn};
-ghost use Rattle.fmp4_c.specs.Engines.{FitsIn, Holds, IsKept, IsPortion, Run, report_of, totals_in};
+ghost use Rattle.fmp4_c.specs.Engines.{FitsIn, Holds, IsKept, IsPortion, Run, counted_in, report_of};
 ghost use Rattle.fmp4_c.specs.declared.answer.Answer as answers;
 
 use crate::answer::Answer;
@@ -27,8 +27,8 @@ pub extern "C" fn fmp4_feed(
     ensures feeds { (plan : plans.Plan) → (b given : List ℕ) →
         HoldsIn plan b given stream.old.handle.held →
         FedIn plan (b ++ take taken.new chunk.now) given result stream.new.handle.held }
-    ensures portion { (r : Run) → (p : Pushing) → stream.old.handle.held ≡ Some r →
-        r.pushing ≡ Some p → p.stop ≡ None → (answer : answers.Answer) ×
+    ensures portion { (r : Run) → (p : Feeding) → stream.old.handle.held ≡ Some r →
+        r.feeding ≡ Some p → p.stop ≡ None → (answer : answers.Answer) ×
         (result ≡ number_of answer) × IsPortion r chunk.now taken.new answer }
     ensures stopped { (plan : plans.Plan) → (b given : List ℕ) → (a : answers.Answer) →
         StoppedIn plan b given a stream.old.handle.held →
@@ -45,7 +45,7 @@ pub extern "C" fn fmp4_feed(
         IfSome stream.new.handle.held (λ r'. r'.waiting.room ≡ r.waiting.room) }
     ensures kept { (r : Run) → stream.old.handle.held ≡ Some r →
         IfSome stream.new.handle.held (IsKept r) }
-    ensures ended { (r : Run) → stream.old.handle.held ≡ Some r → r.pushing ≡ None →
+    ensures ended { (r : Run) → stream.old.handle.held ≡ Some r → r.feeding ≡ None →
         (result ≡ number_of Answer.Ended) × (taken.new ≡ 0) ×
         (stream.new.handle.held ≡ Some r) }
     ensures closed { stream.old.handle.held ≡ None →
@@ -90,7 +90,7 @@ pub extern "C" fn fmp4_take(
         IfSome stream.new.handle.held (λ r'. r'.waiting.bytes ≡ drop taken.new r.waiting.bytes) }
     ensures rest { drop taken.new out.new ≡ drop taken.new out.old }
     ensures kept { (r : Run) → stream.old.handle.held ≡ Some r →
-        IfSome stream.new.handle.held (λ r'. (r'.pushing ≡ r.pushing) ×
+        IfSome stream.new.handle.held (λ r'. (r'.feeding ≡ r.feeding) ×
         (r'.waiting.room ≡ r.waiting.room) × (r'.account ≡ r.account) × (r'.step ≡ r.step)) }
     ensures closed { stream.old.handle.held ≡ None →
         (result ≡ number_of (at_rest stream.old.closed)) × (taken.new ≡ 0) ×
@@ -113,11 +113,11 @@ pub extern "C" fn fmp4_take(
 /// Says what was counted so far, and for which fault the stream stopped, if it did.
 #[unsafe(no_mangle)]
 pub extern "C" fn fmp4_totals(alloc: Global, stream: &mut Stream, report: &mut Report) -> u32
-    ensures tells { (r : Run) → (p : Pushing) → stream.old.handle.held ≡ Some r →
-        r.pushing ≡ Some p → (result ≡ number_of Answer.Done) × (report.new ≡ report_of p) }
+    ensures tells { (r : Run) → (p : Feeding) → stream.old.handle.held ≡ Some r →
+        r.feeding ≡ Some p → (result ≡ number_of Answer.Done) × (report.new ≡ report_of p) }
     ensures counts { (plan : plans.Plan) → (b given : List ℕ) →
-        HoldsIn plan b given stream.old.handle.held → report.new ≡ told_by (totals_in plan b) None }
-    ensures ended { (r : Run) → stream.old.handle.held ≡ Some r → r.pushing ≡ None →
+        HoldsIn plan b given stream.old.handle.held → report.new ≡ told_by (counted_in plan b) None }
+    ensures ended { (r : Run) → stream.old.handle.held ≡ Some r → r.feeding ≡ None →
         (result ≡ number_of Answer.Ended) × (report.new ≡ report.old) }
     ensures closed { stream.old.handle.held ≡ None →
         (result ≡ number_of (at_rest stream.old.closed)) × (report.new ≡ report.old) }
@@ -139,13 +139,13 @@ pub extern "C" fn fmp4_totals(alloc: Global, stream: &mut Stream, report: &mut R
 pub extern "C" fn fmp4_finish(alloc: Global, stream: &mut Stream, report: &mut Report) -> u32
     ensures finishes { (plan : plans.Plan) → (b given : List ℕ) →
         HoldsIn plan b given stream.old.handle.held → FinishedIn plan b result report.new }
-    ensures stopped { (r : Run) → (p : Pushing) → (e : stops.Stop) →
-        stream.old.handle.held ≡ Some r → r.pushing ≡ Some p → p.stop ≡ Some e →
+    ensures stopped { (r : Run) → (p : Feeding) → (e : stops.Stop) →
+        stream.old.handle.held ≡ Some r → r.feeding ≡ Some p → p.stop ≡ Some e →
         (result ≡ number_of (answer_to e)) × (report.new ≡ report_of p) }
-    ensures ended { (r : Run) → stream.old.handle.held ≡ Some r → r.pushing ≡ None →
+    ensures ended { (r : Run) → stream.old.handle.held ≡ Some r → r.feeding ≡ None →
         (result ≡ number_of Answer.Ended) × (report.new ≡ report.old) }
     ensures waits { (r : Run) → stream.old.handle.held ≡ Some r →
-        IfSome stream.new.handle.held (λ r'. (r'.waiting ≡ r.waiting) × (r'.pushing ≡ None) ×
+        IfSome stream.new.handle.held (λ r'. (r'.waiting ≡ r.waiting) × (r'.feeding ≡ None) ×
         (r'.account.live ≡ 0)) }
     ensures closed { stream.old.handle.held ≡ None →
         (result ≡ number_of (at_rest stream.old.closed)) × (report.new ≡ report.old) ×

@@ -1,7 +1,7 @@
 //! What C is told of a stream.
 
 ghost use Rattle.std.specs.Prelude.{◌≡◌, ◌-◌, ◌^◌, min};
-ghost use Rattle.fmp4_c.specs.Answers.{fault_of, kind_number, told_by};
+ghost use Rattle.fmp4_c.specs.Answers.{counted_of, fault_of, kind_number, told_by};
 
 use mp4_push::{Fault, FourCc, Stop, Totals};
 
@@ -28,7 +28,7 @@ pub struct Report {
 impl Report {
     /// What was counted, and the fault where there is one.
     pub(crate) fn of(totals: &Totals, fault: Option<Fault>) -> Report
-        ensures { result ≡ told_by totals.now fault }
+        ensures { result ≡ told_by (counted_of totals.now) fault }
     {
         let mut report = Report {
             fragments: totals.fragments,

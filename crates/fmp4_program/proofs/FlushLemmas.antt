@@ -12,7 +12,7 @@ use Rattle.mp4_machine.specs.declared.tally.Tally.{Tally}
 use Rattle.mp4_recut.specs.declared.plan.Plan.{Plan}
 use Rattle.mp4_stream.specs.Fragments.{ReadsFragments}
 use Rattle.mp4_stream.specs.HeldBoxes.{ReadsBoxes}
-use Rattle.mp4_stream.specs.declared.run.Totals.{Totals}
+use Rattle.mp4_push.specs.declared.totals.Totals.{Totals}
 use Rattle.fmp4_program.specs.Runs.{Flushes}
 
 -- what was written stays written

@@ -9,7 +9,7 @@ use Rattle.mp4_machine.specs.declared.stop.Stop.TheVariants.{Stream, Read, Write
 use Rattle.mp4_grammar.specs.declared.command.Command.TheVariants as commands
 use Rattle.mp4_stream.specs.Fragments.{ReadsFragments}
 use Rattle.mp4_stream.specs.HeldBoxes.{ReadsBoxes}
-use Rattle.mp4_stream.specs.declared.run.Totals.{Totals}
+use Rattle.mp4_push.specs.declared.totals.Totals.{Totals}
 use Rattle.mp4_pieces.specs.declared.cut.Cut.{Cut}
 use Rattle.mp4_recut.specs.declared.plan.Plan.TheVariants as plans
 use Rattle.fmp4_program.specs.declared.asked.SplitOptions.{SplitOptions}

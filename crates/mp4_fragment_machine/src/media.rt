@@ -4,6 +4,7 @@ ghost use Rattle.std.specs.Prelude.{◌≡◌, ◌+◌, ◌<◌, ◌≤◌, leng
 ghost use Rattle.mp4_machine.specs.Bodies.{longest};
 ghost use Rattle.mp4_machine.specs.Ends.{sent};
 ghost use Rattle.mp4_fragment_machine.specs.States.{AreMediaOf, IsState};
+ghost use Rattle.mp4_recut.specs.Media.{paid};
 ghost use Rattle.mp4_fragment_machine.specs.Working.Media.{TakesMedia};
 ghost use Rattle.mp4_fragment_machine.specs.Working.Steps.{CanStep, ConsumesInPlace, lent};
 ghost use Rattle.mp4_fragment_machine.specs.declared.state.Recutting.{Recutting};
@@ -19,11 +20,11 @@ use mp4_frag::Moof;
 use mp4_init::TrackList;
 use mp4_ledger::Ledger;
 use mp4_machine::{Block, Stop, Tally};
-use mp4_recut::media::{Media, Taken, pay_all};
+use mp4_recut::media::{Media, pay_all_in};
 use std::mem::replace;
 
 /// Takes bytes of an mdat that is recut from the front of a piece, which begins at the stream offset `at`: all that are there of
-/// those that are `left` of it.
+/// those that are `left` of it, and so many. The media are where they are kept.
 ///
 /// # Errors
 ///
@@ -31,7 +32,7 @@ use std::mem::replace;
 pub(crate) fn take_media<W: Sink>(
     at: u64,
     left: u64,
-    media: Media,
+    media: &mut Media,
     waiting: &Waiting,
     piece: &[u8],
     tracks: &TrackList,
@@ -39,24 +40,21 @@ pub(crate) fn take_media<W: Sink>(
     tally: &mut Tally,
     out: &mut Block,
     w: &mut W,
-) -> Result<Taken, Failed>
+) -> Result<usize, Failed>
     requires end { at + left ≤ longest }
-    requires media { AreMediaOf cut.now tracks.now waiting.now (tally.old.fragments + 1) media }
+    requires media { AreMediaOf cut.now tracks.now waiting.now (tally.old.fragments + 1) media.old }
     ensures { TakesMedia cut.now tracks.now waiting.now (sent W.contents W.has_failed w.old w.new)
-        out.old out.new tally.old tally.new at left media piece.now result }
+        out.old out.new tally.old tally.new at left media.old piece.now (paid media.new result) }
 {
     let most = left.min(piece.len() as u64);
     let (front, _) = piece.split_at(most as usize);
     let moof = Moof::again(waiting.moof.bytes(), waiting.moof.offset(), tracks);
     let fragments = &mut tally.fragments;
     let runs = &waiting.runs;
-    match pay_all(
+    match pay_all_in(
         at, media, front, &moof, runs, tracks, cut, fragments, out, w,
     ) {
-        Ok(media) => Ok(Taken {
-            count: most as usize,
-            media,
-        }),
+        Ok(()) => Ok(most as usize),
         Err(Failed) => Err(Failed),
     }
 }
@@ -91,23 +89,21 @@ pub(crate) fn take_split<W: Sink>(
     let tally = &mut kept.counter.tally;
     let left = recutting.body.left;
     let at = recutting.body.next - left;
-    let media = recutting.media;
+    let media = &mut recutting.media;
     let waiting = &recutting.waiting;
     let cut = &recutting.cut;
-    let taken = match take_media(at, left, media, waiting, piece, list, cut, tally, out, w) {
-        Ok(taken) => taken,
+    let count = match take_media(at, left, media, waiting, piece, list, cut, tally, out, w) {
+        Ok(count) => count,
         Err(Failed) => {
             back_state(replace(slot, stopped()), ledger);
             return Err(Stop::Write);
         }
     };
-    let count = taken.count;
     let left = left - count as u64;
     if left == 0 {
         end_fragment(leave_media(slot), list, ledger, &mut kept.counter);
         return Ok(count);
     }
-    recutting.media = taken.media;
     recutting.body.left = left;
     recutting.number = tally.fragments + 1;
     Ok(count)

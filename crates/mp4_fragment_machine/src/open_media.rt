@@ -47,18 +47,18 @@ pub(crate) fn take_open_split<W: Sink>(
         back(Some(waiting), ledger);
         return Err(at_fault(Rule::StreamTooLong, Some(body.kind), body.at));
     }
+    let mut media = media;
     let tally = &mut kept.counter.tally;
     let at = LONGEST - body.left;
-    let taken = match take_media(
-        at, body.left, media, &waiting, piece, list, &cut, tally, out, w,
+    let count = match take_media(
+        at, body.left, &mut media, &waiting, piece, list, &cut, tally, out, w,
     ) {
-        Ok(taken) => taken,
+        Ok(count) => count,
         Err(Failed) => {
             back(Some(waiting), ledger);
             return Err(Stop::Write);
         }
     };
-    let count = taken.count;
     let body = OpenBody {
         needed: body.needed.saturating_sub(count as u64),
         left: body.left - count as u64,
@@ -68,7 +68,7 @@ pub(crate) fn take_open_split<W: Sink>(
         cut,
         number: kept.counter.tally.fragments + 1,
         body,
-        media: taken.media,
+        media,
         waiting,
     });
     Ok(Taken { count, state })

@@ -1,1 +1,1 @@
-pub mod PusherLemmas
+pub mod FeederLemmas

@@ -1,1 +1,1 @@
-pub mod Pushing
+pub mod Feeders

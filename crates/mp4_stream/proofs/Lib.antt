@@ -10,7 +10,6 @@ pub mod ClaimLemmas
 pub mod HeldBoxLemmas
 pub mod FragmentLemmas
 pub mod CheckLemmas
-pub mod FeederLemmas
 pub mod PushLemmas
 pub mod EmptyLemmas
 pub mod PastLemmas

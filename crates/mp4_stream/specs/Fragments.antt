@@ -7,22 +7,16 @@ use Rattle.mp4_machine.specs.Ends.{Ends, Sent}
 use Rattle.mp4_machine.specs.StreamRuns.{Claims, ReadsStream}
 use Rattle.mp4_machine.specs.declared.stop.Stop.{Stop}
 use Rattle.mp4_machine.specs.declared.stop.Stop.TheVariants.{OverLimit}
+use Rattle.mp4_push.specs.Feeders.{fragments_of}
+use Rattle.mp4_push.specs.declared.totals.Totals.{Totals}
 use Rattle.mp4_recut.specs.Plans as readings
 use Rattle.mp4_recut.specs.declared.plan.Plan.{Plan}
-use Rattle.mp4_recut.specs.declared.plan.Plan.TheVariants as plans
-use Rattle.mp4_stream.specs.declared.run.Totals.{Totals}
 
 -- where each moov that the bytes hold has at most so many bytes, and each moof. Beside the bytes to read into no more
 -- is claimed than twice the one and five times the other, and a limit that allows so much is never passed
 pub record ClaimsByBoxes {T : Type 0} (plan : Plan) (bytes : List ℕ) (claims : Claims) (result : Result T Stop) : Type 0 where
   pub most : (moov moof : ℕ) → HoldsWithin (readings.plan_meaning plan) first_context bytes moov moof → claims.peak ≤ claims.copy + (2 * moov + 5 * moof)
   pub enough : (moov moof : ℕ) → HoldsWithin (readings.plan_meaning plan) first_context bytes moov moof → claims.copy + (2 * moov + 5 * moof) ≤ claims.limit → IsErrOf result OverLimit → ⊥
-
--- how many fragments are counted, where so many were told, and so many of them are whole in what was written.
--- Those of the input count as they are accepted, and those of an output once the writer has their moofs
-abbrev pub fragments_of : Plan → (effects whole : ℕ) → ℕ
-fragments_of (plans.List command) effects whole = effects
-fragments_of (plans.Split cut) effects whole = whole
 
 -- by the reading of a plan, with its totals. The samples that are counted are among those of moofs that were looked
 -- at. Each of these was read once, a counted one once more, and again where it is listed or recut. None was read more

@@ -7,5 +7,4 @@ pub mod HeldBoxes
 pub mod States
 pub mod Steps
 pub mod Fragments
-pub mod Feeders
 pub mod Pushes

@@ -7,9 +7,7 @@ ghost use Rattle.mp4_machine.specs.Ends.{between, received, sent};
 ghost use Rattle.mp4_recut.specs.declared.plan.Plan.TheVariants as plans;
 ghost use Rattle.mp4_stream.specs.Fragments.{ReadsFragments, unsent};
 
-use crate::feeder::Feeder;
 use crate::pushed::push_stream;
-use crate::run::Totals;
 use crate::silent::Silent;
 use mp4_cut::Cut;
 use mp4_ends::{Sink, Source};
@@ -17,6 +15,7 @@ use mp4_fragment_machine::FragmentMachine;
 use mp4_grammar::Command;
 use mp4_ledger::Ledger;
 use mp4_machine::{Stop, read_stream};
+use mp4_push::{Feeder, Totals};
 use mp4_recut::Plan;
 
 /// Lists the samples of a fragmented stream, however its reads cut it: a line for each, fragment by fragment, the runs of a

@@ -1,10 +1,10 @@
 //! Runs over a stream: its boxes, its samples, whether it breaks a rule, and its fragments cut into shorter ones; and a stream
-//! that is pushed in piece by piece.
+//! that is pushed in chunk by chunk.
 //!
-//! - [`run`]: [`boxes`], which lists the boxes of a stream, and [`Totals`];
+//! - [`run`]: [`boxes`], which lists the boxes of a stream;
 //! - [`fragments`]: [`samples`], [`check`] and [`split`], which read its fragments by the machine of `mp4_fragment_machine`;
-//! - [`feeder`]: [`Feeder`], which cuts the fragments of a stream as it is pushed in, and [`pushed`]: the loops over it, whose
-//!   pieces are the reads of a whole stream ([`split`] calls it) or those of a list ([`split_pieces`]);
+//! - [`pushed`]: the loops over a [`Feeder`] of `mp4_push`, whose chunks are the reads of a whole stream ([`split`] calls it) or
+//!   those of a list ([`split_pieces`]);
 //! - [`machine`]: what is fed the stream piece by piece to list its boxes, [`state`]: what it takes next, and
 //!   [`step`]: how;
 //! - [`header`]: how a header is taken and its box begun, [`held_box`]: a moov or moof while it comes, and [`body`]: a
@@ -18,13 +18,12 @@
 //! laws speak) with `specs/Rests.antt` (what is left behind them) and `specs/HeldBoxes.antt` (how large those are that are
 //! held, and what a run claims by them), `specs/States.antt` (where the machine is in a stream, and what that means)
 //! with `specs/Steps.antt` (what a step of it brings),
-//! `specs/Fragments.antt` (what a run brings that reads fragments), `specs/Feeders.antt` (what a Feeder is behind the bytes
-//! that it was fed, and what a call of it brings) with `specs/Pushes.antt` (what pieces bring, one after the other). What a
-//! run answers, writes and claims is said by `mp4_machine`, in `specs/StreamRuns.antt`.
+//! `specs/Fragments.antt` (what a run brings that reads fragments), `specs/Pushes.antt` (what chunks do that are pushed in one
+//! after the other). What a run answers, writes and claims is said by `mp4_machine`, in `specs/StreamRuns.antt`, and what a
+//! Feeder does by `mp4_push`, in `specs/Feeders.antt`.
 #![tactic(auto)]
 
 mod body;
-pub mod feeder;
 pub mod fragments;
 mod header;
 mod held_box;
@@ -38,12 +37,12 @@ mod silent;
 mod state;
 mod step;
 
-pub use feeder::Feeder;
 pub use fragments::{check, samples, split};
 pub use mp4_box::{Fault, FourCc, Rule, vectors};
 pub use mp4_cut::Cut;
 pub use mp4_ends::{Failed, FromRead, IntoWrite, Sink, Source, ends, write_all};
 pub use mp4_ledger::Ledger;
 pub use mp4_machine::Stop;
+pub use mp4_push::{Feeder, Totals};
 pub use pushed::split_pieces;
-pub use run::{Totals, boxes};
+pub use run::boxes;

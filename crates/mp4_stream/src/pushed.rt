@@ -4,15 +4,16 @@ ghost use Rattle.std.specs.List.{flat_map};
 ghost use Rattle.std.specs.Prelude.{◌≡◌, ◌+◌, ◌<◌, [], length};
 ghost use Rattle.mp4_machine.specs.Ends.{between, received, sent};
 ghost use Rattle.mp4_machine.specs.StreamRuns.{ReadsStream};
-ghost use Rattle.mp4_stream.specs.Feeders.{Stands, held_by, reading};
+ghost use Rattle.mp4_push.specs.Feeders.{IsAfter, held_by};
+ghost use Rattle.mp4_recut.specs.Plans.{reads_of};
+ghost use Rattle.mp4_recut.specs.declared.plan.Plan.TheVariants.{Split};
 ghost use Rattle.mp4_stream.specs.Pushes.{Pushes};
 
-use crate::feeder::Feeder;
-use crate::run::Totals;
 use mp4_cut::Cut;
 use mp4_ends::{Failed, Sink, Source};
 use mp4_ledger::Ledger;
 use mp4_machine::Stop;
+use mp4_push::{Feeder, Totals};
 
 /// Reads a stream to its end, however its reads cut it, and pushes each read into a Feeder to which no byte has come. `copy` bytes
 /// are claimed to read into. What the Feeder has claimed at the end is still to be given back.
@@ -29,16 +30,16 @@ pub(crate) fn push_stream<R: Source, W: Sink>(
 ) -> Result<(), Stop>
     requires some { 0 < copy }
     requires idle { ledger.old.live ≡ 0 }
-    requires stands { Stands feeder.old [] }
+    requires after { IsAfter feeder.old [] }
     requires none { held_by feeder.old ≡ 0 }
-    ensures runs { (run : ReadsStream (reading feeder.old.cut) (between
+    ensures runs { (run : ReadsStream (reads_of feeder.old.plan) (between
         (received R.remaining R.has_ended R.has_failed R.last_read r.old r.new)
         (sent W.contents W.has_failed w.old w.new))
         (record { copy = copy; limit = ledger.old.limit; peak = ledger.new.peak })
         feeder.new.machine.counter.tally result) × (run.fragments ≡ feeder.new.fragments) }
     ensures live { ledger.new.live ≡ held_by feeder.new }
     ensures limit { ledger.new.limit ≡ ledger.old.limit }
-    ensures cut { feeder.new.cut ≡ feeder.old.cut }
+    ensures plan { feeder.new.plan ≡ feeder.old.plan }
 {
     ledger.mark().forget();
     let mut buf = match ledger.buf(u64::from(copy)) {
@@ -66,16 +67,16 @@ fn push_reads<R: Source, W: Sink>(
     requires some { 0 < length copy.old }
     requires marked { ledger.old.peak ≡ ledger.old.live }
     requires claimed { length copy.old ≡ ledger.old.live }
-    requires stands { Stands feeder.old [] }
+    requires after { IsAfter feeder.old [] }
     requires idle { held_by feeder.old ≡ 0 }
-    ensures runs { (run : ReadsStream (reading feeder.old.cut) (between
+    ensures runs { (run : ReadsStream (reads_of feeder.old.plan) (between
         (received R.remaining R.has_ended R.has_failed R.last_read r.old r.new)
         (sent W.contents W.has_failed w.old w.new))
         (record { copy = ledger.old.live; limit = ledger.old.limit; peak = ledger.new.peak })
         feeder.new.machine.counter.tally result) × (run.fragments ≡ feeder.new.fragments) }
     ensures live { ledger.new.live ≡ ledger.old.live + held_by feeder.new }
     ensures limit { ledger.new.limit ≡ ledger.old.limit }
-    ensures cut { feeder.new.cut ≡ feeder.old.cut }
+    ensures plan { feeder.new.plan ≡ feeder.old.plan }
 {
     let mut total: u64 = 0;
     loop {
@@ -108,7 +109,7 @@ pub fn split_pieces<W: Sink>(
     ledger: &mut Ledger,
     cut: Cut,
 ) -> Result<Totals, Stop>
-    ensures pushes { Pushes cut (flat_map (λ piece. piece.now) pieces.now)
+    ensures pushes { Pushes (Split cut) (flat_map (λ piece. piece.now) pieces.now)
         (sent W.contents W.has_failed w.old w.new) ledger.old.live ledger.old.limit result }
     ensures back { ledger.new.live ≡ ledger.old.live }
     ensures limit { ledger.new.limit ≡ ledger.old.limit }

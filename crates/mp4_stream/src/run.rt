@@ -9,38 +9,7 @@ use crate::machine::BoxMachine;
 use mp4_ends::{Sink, Source};
 use mp4_ledger::Ledger;
 use mp4_machine::{Stop, read_stream};
-
-/// What a run counts. A listing of boxes counts no samples: all but its peak are 0.
-#[derive(Clone, Copy, Debug, PartialEq, Eq)]
-pub struct Totals {
-    /// How many fragments, moofs with their mdats, were accepted: one that is at fault, or whose mdat is refused, isn't counted. For
-    /// [`split`](crate::split) of how many moofs the writer took the last byte.
-    pub fragments: u64,
-    /// How many samples the accepted fragments have.
-    pub samples: u128,
-    /// How many bytes of media: those of these samples.
-    pub media_bytes: u64,
-    /// How many rows of samples were read, each time that one was.
-    pub rows_read: u128,
-    /// The most bytes that were claimed at once.
-    pub peak: u64,
-}
-
-impl Totals {
-    /// Those of a run that has counted nothing yet.
-    pub fn new() -> Totals
-        ensures { result ≡ record
-            { fragments = 0; samples = 0; media_bytes = 0; rows_read = 0; peak = 0 } }
-    {
-        Totals {
-            fragments: 0,
-            samples: 0,
-            media_bytes: 0,
-            rows_read: 0,
-            peak: 0,
-        }
-    }
-}
+use mp4_push::Totals;
 
 /// Lists the boxes of a stream, however its reads cut it: their types, sizes and offsets, a line for each. A moov
 /// or a moof is held while it comes, and listed with the boxes below it once it is known to be good. `copy` bytes

@@ -4,7 +4,7 @@
 #![tactic(auto)]
 
 ghost use Rattle.std.specs.Prelude.{◌<◌, ◌≤◌, false};
-ghost use Rattle.mp4_stream.specs.Feeders.{held_by};
+ghost use Rattle.mp4_push.specs.Feeders.{held_by};
 
 use mp4_box::number_at;
 use mp4_ends::{Failed, Sink};

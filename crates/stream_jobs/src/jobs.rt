@@ -1,7 +1,7 @@
 //! The jobs: what is done to which stream.
 
 ghost use Rattle.std.specs.Prelude.{◌≡◌, ◌<◌, ◌≤◌};
-ghost use Rattle.mp4_stream.specs.Feeders.{held_by};
+ghost use Rattle.mp4_push.specs.Feeders.{held_by};
 
 use crate::digest::Digest;
 use crate::fragments::{COMPOSITION, DURATION, FIRST_FLAGS, FLAGS, Layout, SIZE};

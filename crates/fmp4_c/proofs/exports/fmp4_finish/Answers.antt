@@ -14,5 +14,5 @@ returns-in-Some-clause-finishes c = λ plan b given h. (
 
 pub returns-in-Some-clause-stopped : goal.returns-in-Some-clause-stopped
 returns-in-Some-clause-stopped c = λ r p e here pushes stop.
-    let told = c.finish-answer.ensures.stopped p e (subst (λ (x : Run). x.pushing ≡ Some p) (the-run _ _ _ _ r c.in-Some.ensures (ap (λ (x : Handle). x.held) c.replace.ensures.value) c.deref_mut.ensures.value here) pushes) stop in
+    let told = c.finish-answer.ensures.stopped p e (subst (λ (x : Run). x.feeding ≡ Some p) (the-run _ _ _ _ r c.in-Some.ensures (ap (λ (x : Handle). x.held) c.replace.ensures.value) c.deref_mut.ensures.value here) pushes) stop in
     (c.number.ensures ∙ ap number_of told.0, told.1)

@@ -8,6 +8,7 @@ use Rattle.mp4_grammar.specs.Contexts.{Context, context}
 use Rattle.mp4_recut.specs.Cursors.{parts_left}
 use Rattle.mp4_recut.specs.Media.{playing, spot_of}
 use Rattle.mp4_recut.specs.Splitting.{splitting}
+use Rattle.mp4_recut.specs.declared.media.Taken.{Taken}
 use Rattle.mp4_recut.proofs.RiseLemmas.{rises-over}
 use Rattle.mp4_fragment_machine.specs.Places.{InBody, InHeader, standing}
 use Rattle.mp4_fragment_machine.specs.States.{claimed_in, moof_in, most_counted, taken_by}
@@ -57,6 +58,9 @@ returns-in-Err g c =
       }),
     )
 
+pub leave_media-requires : goal.leave_media-requires
+leave_media-requires g c = (record c.in-Media.recutting { media = c.take_media.new.media }, refl)
+
 pub returns-then-left-eq0 : goal.returns-then-left-eq0
 returns-then-left-eq0 g c =
     let r = c.in-Media.recutting in
@@ -75,14 +79,14 @@ returns-then-left-eq0 g c =
     let next = context r.body.next (Some (settled list (moof_trafs (moof_in w) list))) (first + length (parts_left r.cut (moof_in w) list first r.media.later)) in
     let ledger = c.args.ledger.now in
     let own = claimed_in (Some list) (Some w) in
-    let taken = c.in-Ok.taken in
+    let taken : Taken = record { count = c.in-Ok.count; media = c.take_media.new.media } in
     let effects = c.in-Ok.ensures in
     let meaning = splitting r.cut in
     let s = sent g.W.Sink.contents g.W.Sink.has_failed c.args.w.now c.take_media.new.w in
     let left = r.body.left - taken.count in
     let q = spot_of r.cut (moof_in w) list (r.body.next - left) (n + 1) taken.media in
     let o = outside (g.W.Sink.contents c.take_media.new.w) c.take_media.new.out ledger c.take_media.new.tally in
-    let left_is = c.leave_media.ensures r refl in
+    let left_is = c.leave_media.ensures (record r { media = c.take_media.new.media }) refl in
     let ended = rw left_is.0 at c.end_fragment.ensures in
     let table : 64 * length (settled list (moof_trafs (moof_in w) list)) ≡ 64 * length list = ap (λ l. 64 * length l) (sym ended.tracks) ∙ ap (λ k. 64 * k) ended.len in
     let over : r.body.next ≤ r.body.next - left = omega (arith, c.if-left-eq0.true) in
@@ -131,7 +135,7 @@ returns g c =
     let next = context r.body.next (Some ends) (first + length (parts_left r.cut (moof_in w) list first r.media.later)) in
     let ledger = c.args.ledger.now in
     let own = claimed_in (Some list) (Some w) in
-    let taken = c.in-Ok.taken in
+    let taken : Taken = record { count = c.in-Ok.count; media = c.take_media.new.media } in
     let effects = c.in-Ok.ensures in
     let meaning = splitting r.cut in
     let s = sent g.W.Sink.contents g.W.Sink.has_failed c.args.w.now c.take_media.new.w in

@@ -6,6 +6,7 @@ use Rattle.mp4_machine.specs.Pieces.{outside}
 use Rattle.mp4_frag.specs.Moofs.{moof_samples}
 use Rattle.mp4_recut.specs.Media.{spot_of}
 use Rattle.mp4_recut.specs.Splitting.{splitting}
+use Rattle.mp4_recut.specs.declared.media.Taken.{Taken}
 use Rattle.mp4_fragment_machine.specs.States.{claimed_in, moof_in, most_counted, taken_by}
 use Rattle.mp4_fragment_machine.proofs.BodyLemmas.{back_twice, claimed_apart}
 use Rattle.mp4_fragment_machine.proofs.CountLemmas.{counted_later, counted_recut}
@@ -39,7 +40,7 @@ returns g c =
     let split = rw plan at counted in
     let recut = rw number at is.2 in
     let effects = c.in-Ok.ensures in
-    let taken = c.in-Ok.taken in
+    let taken : Taken = record { count = c.in-Ok.count; media = c.take_media.new.media } in
     let s = sent g.W.Sink.contents g.W.Sink.has_failed c.args.w.now c.take_media.new.w in
     let n = moof_samples (moof_in r.waiting) in (
       omega (arith, effects.count, c.if-body-eq0.false, c.requires.some),

@@ -1,5 +1,7 @@
-use Rattle.std.proofs.Common.{◌≡◌, ap, arith, refl, sym}
+use Rattle.std.proofs.Common.{◌≡◌, ◌∙◌, ap, arith, refl, sym}
 use Rattle.mp4_machine.proofs.RunLemmas.{Runs-same}
+use Rattle.mp4_push.specs.Feeders.{fragments_of}
+use Rattle.mp4_recut.specs.declared.plan.Plan.{Plan}
 use Rattle.mp4_recut.specs.declared.plan.Plan.TheVariants.{Split}
 use Rattle.mp4_stream.proofs.FragmentLemmas.{claims_by_boxes, never_over, peak_bound}
 use Rattle.mp4_stream.proofs.fragments.split.Goals as goal
@@ -7,7 +9,7 @@ use Rattle.mp4_stream.proofs.fragments.split.Goals as goal
 pub returns-clause-runs : goal.returns-clause-runs
 returns-clause-runs g c =
     let peak : c.give_up.new.ledger.peak ≡ c.push_stream-answer.new.ledger.peak = rw c.give_up.ensures refl in
-    let cut = rw c.new-feeder.ensures.begun at c.push_stream-answer.ensures.cut in
+    let cut = rw c.new-feeder.ensures.begun at c.push_stream-answer.ensures.plan in
     let ran = rw c.new-feeder.ensures.begun at c.push_stream-answer.ensures.runs in
     let same = Runs-same refl refl (sym peak) ran in
     let runs = same.0 in
@@ -15,7 +17,7 @@ returns-clause-runs g c =
       effects = c.push_stream-answer.new.feeder.machine.counter.tally.fragments;
       walked = c.push_stream-answer.new.feeder.machine.counter.tally.walked;
       runs = runs;
-      fragments = sym same.1;
+      fragments = ap (λ (p : Plan). fragments_of p c.push_stream-answer.new.feeder.machine.counter.tally.fragments c.push_stream-answer.new.feeder.fragments) cut ∙ sym same.1;
       all = rw c.totals.ensures.totals at c.totals.ensures.all;
       some = rw (cut, c.totals.ensures.totals) at c.totals.ensures.some;
       few = rw (cut, c.totals.ensures.totals) at c.totals.ensures.few;

@@ -6,22 +6,23 @@ use Rattle.std.specs.Io.KnownBytes.{Appends}
 use Rattle.mp4_machine.specs.Ends.{sent}
 use Rattle.mp4_machine.specs.Fed.{Lent, lent}
 use Rattle.mp4_machine.specs.Readings.{Reading}
-use Rattle.mp4_stream.specs.Feeders.{Feeding}
+use Rattle.mp4_push.specs.Feeders.{Feeding}
 use Rattle.mp4_stream.specs.Pushes.{Pushes}
-use Rattle.mp4_stream.proofs.FeederLemmas.{joined-more, reading-none}
-use Rattle.mp4_stream.proofs.PushLemmas.{SoFar, ended, pushed}
+use Rattle.mp4_push.proofs.FeederLemmas.{reading-none}
+use Rattle.mp4_recut.specs.declared.plan.Plan.TheVariants.{Split}
+use Rattle.mp4_stream.proofs.PushLemmas.{SoFar, ended, joined-more, pushed}
 use Rattle.mp4_stream.proofs.pushed.split_pieces.Goals as goal
 
 pub loop-piece-init : goal.loop-piece-init
 loop-piece-init g c =
-    let cut = c.new-feeder.result.cut in
+    let plan = c.new-feeder.result.plan in
     let w = g.W.Sink.contents c.args.w.now in
     record {
       back = omega (arith, c.new-feeder.ensures.idle);
       limit = refl;
-      cut = refl;
+      plan = refl;
       so_far = record {
-        running = λ _. (c.new-feeder.ensures.stands, subst (λ (r : Reading). Appends w w r.effects.text) (sym (reading-none cut)) (Appends-nil w));
+        running = λ _. (c.new-feeder.ensures.after, subst (λ (r : Reading). Appends w w r.effects.text) (sym (reading-none plan)) (Appends-nil w));
         stopped = λ e is. absurd cc;
       };
     }
@@ -29,7 +30,7 @@ loop-piece-init g c =
 pub loop-piece-preserved : goal.loop-piece-preserved
 loop-piece-preserved g c =
     let i = c.loop-piece.invariant in
-    let cut = c.new-feeder.result.cut in
+    let plan = c.new-feeder.result.plan in
     let joined = joined-more (λ p. p.now) c.args.pieces.now c.loop-piece.piece-index _ (omega (arith, c.loop-piece-test.true)) in
     let l : Lent = lent (sent g.W.Sink.contents g.W.Sink.has_failed c.loop-piece.w c.feed.new.w) c.loop-piece.feeder.fragments c.feed.new.self.fragments c.loop-piece.ledger c.feed.new.ledger in
     let s = sent g.W.Sink.contents g.W.Sink.has_failed c.args.w.now c.loop-piece.w in
@@ -38,10 +39,10 @@ loop-piece-preserved g c =
     record {
       back = omega (arith, i.back, c.feed.ensures.live);
       limit = c.feed.ensures.limit ∙ i.limit;
-      cut = c.feed.ensures.cut ∙ i.cut;
+      plan = c.feed.ensures.plan ∙ i.plan;
       so_far =
-          subst (λ x. SoFar cut x s' c.args.ledger.now.live c.args.ledger.now.limit c.feed.new.self) (sym joined)
-          (pushed cut before _ s s' c.args.ledger.now.live c.args.ledger.now.limit c.loop-piece.feeder c.feed.new.self l i.cut i.back i.limit refl refl refl i.so_far
+          subst (λ x. SoFar plan x s' c.args.ledger.now.live c.args.ledger.now.limit c.feed.new.self) (sym joined)
+          (pushed plan before _ s s' c.args.ledger.now.live c.args.ledger.now.limit c.loop-piece.feeder c.feed.new.self l i.plan i.back i.limit refl refl refl i.so_far
           c.feed.result (c.feed.ensures.feeds before) c.feed.ensures.runs c.feed.ensures.stops c.feed.ensures.failed
           (λ e is. let stays = c.feed.ensures.stopped e is in record { answer = stays.0; same = stays.1; ends = ap (λ w. sent g.W.Sink.contents g.W.Sink.has_failed c.args.w.now w) stays.2 }));
     }
@@ -50,10 +51,10 @@ pub returns-clause-pushes : goal.returns-clause-pushes
 returns-clause-pushes g c =
     let i = c.loop-piece.invariant in
     let all = ap (flat_map (λ p. p.now)) (take_all c.loop-piece.piece-index c.args.pieces.now (omega (arith, c.loop-piece-test.false))) in
-    let cut : c.new-feeder.result.cut ≡ c.args.cut = ap (λ (f : Feeding). f.cut) c.new-feeder.ensures.begun in
+    let plan : c.new-feeder.result.plan ≡ Split c.args.cut = ap (λ (f : Feeding). f.plan) c.new-feeder.ensures.begun in
     let s = sent g.W.Sink.contents g.W.Sink.has_failed c.args.w.now c.loop-piece.w in
     let before = flat_map (λ p. p.now) (take c.loop-piece.piece-index c.args.pieces.now) in
     let r = c.finish.result in
-    subst (λ x. Pushes c.args.cut x s c.args.ledger.now.live c.args.ledger.now.limit r) all
-    (subst (λ x. Pushes x before s c.args.ledger.now.live c.args.ledger.now.limit r) cut
-    (ended c.new-feeder.result.cut before s c.args.ledger.now.live c.args.ledger.now.limit c.loop-piece.feeder i.cut i.so_far r (c.finish.ensures.finishes before) c.finish.ensures.stopped c.finish.ensures.some c.finish.ensures.few))
+    subst (λ x. Pushes (Split c.args.cut) x s c.args.ledger.now.live c.args.ledger.now.limit r) all
+    (subst (λ x. Pushes x before s c.args.ledger.now.live c.args.ledger.now.limit r) plan
+    (ended c.new-feeder.result.plan before s c.args.ledger.now.live c.args.ledger.now.limit c.loop-piece.feeder i.plan i.so_far r (c.finish.ensures.finishes before) c.finish.ensures.stopped c.finish.ensures.totals c.finish.ensures.some c.finish.ensures.few))

@@ -1,7 +1,7 @@
 use Rattle.std.proofs.Common.{◌≡◌, ◌+◌, take}
 use Rattle.std.specs.List.{flat_map}
 use Rattle.mp4_machine.specs.Ends.{sent}
-use Rattle.mp4_stream.specs.Feeders.{held_by}
+use Rattle.mp4_push.specs.Feeders.{held_by}
 use Rattle.mp4_stream.proofs.PushLemmas.{SoFar}
 use Rattle.mp4_stream.proofs.pushed.split_pieces.Given as goal
 
@@ -9,6 +9,6 @@ abbrev pub invariant-loop-piece : goal.invariant-loop-piece
 invariant-loop-piece g l = record {
   back : l.ledger.live ≡ l.initial.ledger.live + held_by l.feeder;
   limit : l.ledger.limit ≡ l.initial.ledger.limit;
-  cut : l.feeder.cut ≡ l.initial.feeder.cut;
-  so_far : SoFar l.initial.feeder.cut (flat_map (λ p. p.now) (take l.piece-index l.pieces)) (sent g.W.Sink.contents g.W.Sink.has_failed l.initial.w l.w) l.initial.ledger.live l.initial.ledger.limit l.feeder;
+  plan : l.feeder.plan ≡ l.initial.feeder.plan;
+  so_far : SoFar l.initial.feeder.plan (flat_map (λ p. p.now) (take l.piece-index l.pieces)) (sent g.W.Sink.contents g.W.Sink.has_failed l.initial.w l.w) l.initial.ledger.live l.initial.ledger.limit l.feeder;
 }

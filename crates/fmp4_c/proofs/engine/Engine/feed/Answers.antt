@@ -9,9 +9,9 @@ use Rattle.fmp4_c.proofs.engine.Engine.feed.Goals as goal
 pub returns-in-Err-clause-feeds : goal.returns-in-Err-clause-feeds
 returns-in-Err-clause-feeds c = rw (c.fed-in-Err.ensures.is, c.of_stop-in-Err.ensures) (λ plan b given h.
     let chunk = take c.portion-taken.result c.args.chunk.now in
-    let p = c.in-Some.pusher in
-    let now : Run = record { account = c.self.inside.ledger; pushing = c.self.inside.pusher; waiting = c.self.inside.out; step = c.self.inside.step } in
-    let next : Run = record { account = c.feed.new.ledger; pushing = Some c.feed.new.self; waiting = c.feed.new.w; step = c.self.inside.step } in
+    let p = c.in-Some.feeder in
+    let now : Run = record { account = c.self.inside.ledger; feeding = c.self.inside.feeder; waiting = c.self.inside.out; step = c.self.inside.step } in
+    let next : Run = record { account = c.feed.new.ledger; feeding = Some c.feed.new.self; waiting = c.feed.new.w; step = c.self.inside.step } in
     let l : Lent = record {
       written = Some (c.self.inside.out.room ∷ c.self.inside.out.bytes);
       written' = Some (c.feed.new.w.room ∷ c.feed.new.w.bytes);

@@ -1,4 +1,4 @@
--- What a Pusher is after the bytes of a stream that it was fed, and what a call of it does.
+-- What a Feeder is after the bytes of a stream that it was fed, and what a call of it does.
 use Rattle.std.specs.Prelude.{◌≡◌, ℕ, ◌+◌, ◌-◌, ◌*◌, ◌≤◌, List, ◌++◌, length, take, Option, None, Some, Result, Ok, Err, IfErr, OnOk, IsErrOf}
 use Rattle.mp4_box.specs.Headers.{IsBytes}
 use Rattle.mp4_fragment_machine.specs.Places.{claim_of}
@@ -28,11 +28,11 @@ abbrev pub fragments_of : Plan → (accepted whole : ℕ) → ℕ
 fragments_of (plans.List command) accepted whole = accepted
 fragments_of (plans.Split cut) accepted whole = whole
 
--- ---- what a Pusher is
+-- ---- what a Feeder is
 
 -- what is seen of it: its plan, where its machine is, and why it stopped; the most that it had claimed at once, and how
 -- many fragments are whole in its output
-pub record Pushing : Type 0 where
+pub record Feeding : Type 0 where
   pub plan : Plan
   pub machine : Progress
   pub stop : Option Stop
@@ -40,30 +40,31 @@ pub record Pushing : Type 0 where
   pub fragments : ℕ
 
 -- one to which no byte has come
-abbrev pub begun : Plan → Progress → Pushing
+abbrev pub begun : Plan → Progress → Feeding
 begun plan machine = record { plan = plan; machine = machine; stop = None; peak = 0; fragments = 0 }
 
 -- how many bytes it has claimed: those of the table of its tracks, and those of a moov or moof that it holds with the list of its runs
-abbrev pub held_by : Pushing → ℕ
+abbrev pub held_by : Feeding → ℕ
 held_by p = claim_of (place_in p.machine)
 
 -- what it has counted of the bytes that came, and the most that it had claimed at once
-abbrev pub sums_of : Pushing → Sums
+abbrev pub sums_of : Feeding → Sums
 sums_of p = record { tally = p.machine.counter.tally; peak = p.peak }
 
 -- its totals
-abbrev pub totals_of : Pushing → Totals
+abbrev pub totals_of : Feeding → Totals
 totals_of p = record {
   fragments = fragments_of p.plan p.machine.counter.tally.fragments p.fragments;
   samples = p.machine.counter.tally.samples;
   media_bytes = p.machine.counter.tally.media_bytes;
+  rows_read = p.machine.counter.steps.rows;
   peak = p.peak;
 }
 
 -- after the bytes b of a stream, in whatever chunks they came. It hasn't stopped, since they decide no fault and don't
 -- go past the longest stream. The output of the remaining bytes follows from where it is, it has counted and claimed
 -- what b does, and so many fragments are whole in the output of b as it says
-pub record IsAfter (p : Pushing) (b : List ℕ) : Type 0 where
+pub record IsAfter (p : Feeding) (b : List ℕ) : Type 0 where
   pub running : p.stop ≡ None
   pub bytes : IsBytes b
   pub undecided : early_in (reads_of p.plan b).outcome ≡ None
@@ -72,9 +73,9 @@ pub record IsAfter (p : Pushing) (b : List ℕ) : Type 0 where
   pub sums : sums_of p ≡ sums_in (reads_of p.plan b).effects
   pub fragments : AllWhole (reads_of p.plan b).effects p.fragments
 
--- what a Pusher keeps: its machine has its plan, so many bytes are claimed, nothing waits to be sent between two calls,
+-- what a Feeder keeps: its machine has its plan, so many bytes are claimed, nothing waits to be sent between two calls,
 -- and nothing is claimed after a stop
-pub record IsPusher (p : Pushing) (claimed : ℕ) (waiting : Pending) : Type 0 where
+pub record IsFeeder (p : Feeding) (claimed : ℕ) (waiting : Pending) : Type 0 where
   pub plan : p.machine.plan ≡ p.plan
   pub held : claimed ≡ held_by p
   pub within : held_by p ≤ p.peak
@@ -99,16 +100,16 @@ WritesBefore plan b chunk l own s (Stream f) until = Unit {0}
 WritesBefore plan b chunk l own s (Read at) until = Unit {0}
 WritesBefore plan b chunk l own s Write until = Unit {0}
 
--- a Pusher after the bytes b is fed a chunk. It is Ok where no fault is decided, and then all output that these bytes
+-- a Feeder after the bytes b is fed a chunk. It is Ok where no fault is decided, and then all output that these bytes
 -- add was written; else it stops
-pub record Feeds {T : Type 0} (b chunk : List ℕ) (p p' : Pushing) (l : Lent) (result : Result T Stop) : Type 0 where
+pub record Feeds {T : Type 0} (b chunk : List ℕ) (p p' : Feeding) (l : Lent) (result : Result T Stop) : Type 0 where
   pub bytes : IsBytes (b ++ chunk)
   pub ok : OnOk result (IsAfter p' (b ++ chunk) × TellsRest (reads_of p.plan) b (b ++ chunk) l (held_by p) (held_by p'))
   pub err : IfErr result (λ e. (until : FedUntil (reads_of p.plan) b chunk l (held_by p) (sums_of p') e) × WritesBefore p.plan b chunk l (held_by p) (sums_of p') e until)
   pub claims : ClaimsWithin p.plan (b ++ chunk) p'.peak (l.account.live - held_by p) l.account.limit result
 
 -- the end of a stream of the bytes b
-abbrev pub Finishes : (p : Pushing) → (b : List ℕ) → Result Totals Stop → Type 0
+abbrev pub Finishes : (p : Feeding) → (b : List ℕ) → Result Totals Stop → Type 0
 Finishes p b (Ok totals) = fault_in (reads_of p.plan b).outcome ≡ None
 Finishes p b (Err (Stream fault)) = fault_in (reads_of p.plan b).outcome ≡ Some fault
 Finishes p b (Err (Read at)) = ⊥

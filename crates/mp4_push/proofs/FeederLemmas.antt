@@ -1,4 +1,4 @@
--- What a Pusher is after the bytes of a stream that it was fed, and what the next chunk brings.
+-- What a Feeder is after the bytes of a stream that it was fed, and what the next chunk brings.
 use Rattle.std.proofs.Common.{◌≡◌, ◌∙◌, ℕ, ◌+◌, ◌-◌, ◌*◌, ◌≤◌, ◌<◌, List, [], ◌∷◌, ◌++◌, length, take, max, Option, None, Some, Ok, Err, ap, sym, refl, arith, append-nil, subst}
 use Rattle.std.proofs.KnownBytes.{Appends-nil}
 use Rattle.mp4_box.specs.Headers.{IsBytes}
@@ -29,8 +29,8 @@ use Rattle.mp4_recut.specs.Plans.{number_in, plan_meaning, reads_of}
 use Rattle.mp4_recut.specs.declared.plan.Plan.{Plan}
 use Rattle.mp4_recut.specs.declared.plan.Plan.TheVariants as plans
 use Rattle.mp4_recut.proofs.SplitLemmas.{splitting-quiet}
-use Rattle.mp4_push.specs.Pushing.{ClaimsWithin, Feeds, IsAfter, IsPusher, Pushing, WritesBefore, held_by, live, sums_of}
-use Rattle.mp4_push.specs.Pushing as pushing
+use Rattle.mp4_push.specs.Feeders.{ClaimsWithin, Feeds, IsAfter, IsFeeder, Feeding, WritesBefore, held_by, live, sums_of}
+use Rattle.mp4_push.specs.Feeders as feeders
 
 -- ---- no byte has come
 
@@ -51,8 +51,8 @@ machine-begun : (plan : Plan) → machines.Stands (reads_of plan) [] (stands_in 
 machine-begun (plans.List command) = Stands-begun (stands_in (begun (plans.List command))) (begun-is (plans.List command))
 machine-begun (plans.Split cut) = Stands-begun (stands_in (begun (plans.Split cut))) (begun-is (plans.Split cut))
 
-pub begun-pusher : (plan : Plan) → IsPusher (pushing.begun plan (begun plan)) 0 unused
-begun-pusher plan = record {
+pub begun-feeder : (plan : Plan) → IsFeeder (feeders.begun plan (begun plan)) 0 unused
+begun-feeder plan = record {
   plan = refl;
   held = refl;
   within = omega arith;
@@ -62,7 +62,7 @@ begun-pusher plan = record {
   spent = λ e stop. absurd cc;
 }
 
-pub begun-after : (plan : Plan) → IsAfter (pushing.begun plan (begun plan)) []
+pub begun-after : (plan : Plan) → IsAfter (feeders.begun plan (begun plan)) []
 begun-after plan = record {
   running = refl;
   bytes = λ i. omega arith;
@@ -131,7 +131,7 @@ module _ (plan : Plan) (b chunk : List ℕ) (l : Lent) (own : ℕ) (s : Sums) (f
 
 -- ---- a chunk without bytes
 
-pub feeds-none : {T : Type 0} (t : T) (f : Pushing) (b : List ℕ) (written : Option (List ℕ)) (account : Account) → IsAfter f b → Feeds b [] f f (record { written = written; written' = written; whole = f.fragments; whole' = f.fragments; account = account; account' = account }) (Ok t)
+pub feeds-none : {T : Type 0} (t : T) (f : Feeding) (b : List ℕ) (written : Option (List ℕ)) (account : Account) → IsAfter f b → Feeds b [] f f (record { written = written; written' = written; whole = f.fragments; whole' = f.fragments; account = account; account' = account }) (Ok t)
 feeds-none t f b written account s =
     let same : b ≡ b ++ [] = sym (append-nil b) in
     record {
@@ -152,11 +152,11 @@ feeds-none t f b written account s =
 
 -- ---- a chunk
 
--- what a Pusher is after a chunk, with its machine so, the account of its ledger so before and after, and so many fragments
-abbrev pub fed : Pushing → Progress → (a k : Account) → Option Stop → ℕ → Pushing
+-- what a Feeder is after a chunk, with its machine so, the account of its ledger so before and after, and so many fragments
+abbrev pub fed : Feeding → Progress → (a k : Account) → Option Stop → ℕ → Feeding
 fed f m a k stop n = record { plan = f.plan; machine = m; stop = stop; peak = peak_behind f.peak (a.live - held_by f) k.peak; fragments = n }
 
-module _ (f : Pushing) (m : Progress) (s : Sent) (a k : Account) (running : f.stop ≡ None) (few : held_by f ≤ f.peak) (low : held_by f ≤ a.live) (high : a.live ≤ a.peak) (chunk : List ℕ) (fits : IsBytes chunk) (v v' : Pending) (clear : IsSent v) (here : v.whole ≡ f.fragments) where
+module _ (f : Feeding) (m : Progress) (s : Sent) (a k : Account) (running : f.stop ≡ None) (few : held_by f ≤ f.peak) (low : held_by f ≤ a.live) (high : a.live ≤ a.peak) (chunk : List ℕ) (fits : IsBytes chunk) (v v' : Pending) (clear : IsSent v) (here : v.whole ≡ f.fragments) where
   module _ (b : List ℕ) (st : IsAfter f b) where
     most : f.peak ≡ most_of (reads_of f.plan b).effects
     most = ap (λ (x : Sums). x.peak) st.sums

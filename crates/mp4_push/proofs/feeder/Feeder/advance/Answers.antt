@@ -1,9 +1,9 @@
 use Rattle.std.proofs.Common.{◌≡◌, ◌∙◌, ◌-◌, None, refl, arith}
 use Rattle.mp4_machine.specs.Ends.{sent}
 use Rattle.mp4_machine.proofs.FedLemmas.{peak_behind, takes-live}
-use Rattle.mp4_stream.specs.Feeders.{Feeding, held_by}
-use Rattle.mp4_stream.proofs.FeederLemmas.{feeds-err, feeds-ok}
-use Rattle.mp4_stream.proofs.feeder.Feeder.advance.Goals as goal
+use Rattle.mp4_push.specs.Feeders.{Feeding, held_by}
+use Rattle.mp4_push.proofs.FeederLemmas.{feeds-err, feeds-ok}
+use Rattle.mp4_push.proofs.feeder.Feeder.advance.Goals as goal
 
 pub overflow_sub-self : goal.overflow_sub-self
 overflow_sub-self g c =
@@ -47,10 +47,10 @@ returns-in-Ok-clause-feeds g c =
     let runs = rw (← c.self.view_is) at c.requires.runs in
     let taken = rw c.mark-earlier.ensures.marked at c.in-Ok.ensures.takes in
     let i = c.self.inside in
-    let f : Feeding = record { cut = i.cut; machine = i.machine; stop = None; peak = i.peak; fragments = i.block.whole } in
+    let f : Feeding = record { plan = i.plan; machine = i.machine; stop = None; peak = i.peak; fragments = i.block.whole } in
     let peak : c.max-self-inside.result ≡ peak_behind i.peak (c.args.ledger.now.live - held_by f) c.feed-answer.new.ledger.peak = rw (c.max-self-inside.ensures, c.peak.ensures.peak, c.live.ensures.live, c.self.invariant.held) refl in
     rw (← c.self.view_is, c.lift.ensures, c.mark-earlier.ensures.earlier, peak, runs)
-    (λ b s. feeds-ok f c.feed-answer.new.machine (sent g.W.Sink.contents g.W.Sink.has_failed c.args.w.now c.feed-answer.new.w) c.args.ledger.now c.feed-answer.new.ledger refl c.self.invariant.within low c.mark-earlier.ensures.most c.args.piece.now c.feed-answer.ensures.bytes _ _ (c.self.invariant.sent runs) refl b s _ (c.in-Ok.ensures.sent (λ e. absurd cc)) taken.ok c.in-Ok.ensures.quiet c.in-Ok.ensures.near)
+    (λ b s. feeds-ok f c.feed-answer.new.machine (sent g.W.Sink.contents g.W.Sink.has_failed c.args.w.now c.feed-answer.new.w) c.args.ledger.now c.feed-answer.new.ledger refl c.self.invariant.within low c.mark-earlier.ensures.most c.args.chunk.now c.feed-answer.ensures.bytes _ _ (c.self.invariant.sent runs) refl b s _ (c.in-Ok.ensures.sent (λ e. absurd cc)) taken.ok c.in-Ok.ensures.quiet c.in-Ok.ensures.near)
 
 pub returns-in-Err-clause-feeds : goal.returns-in-Err-clause-feeds
 returns-in-Err-clause-feeds g c =
@@ -58,10 +58,10 @@ returns-in-Err-clause-feeds g c =
     let runs = rw (← c.self.view_is) at c.requires.runs in
     let taken = rw c.mark-earlier.ensures.marked at c.in-Err.ensures.takes in
     let i = c.self.inside in
-    let f : Feeding = record { cut = i.cut; machine = i.machine; stop = i.stop; peak = i.peak; fragments = i.block.whole } in
+    let f : Feeding = record { plan = i.plan; machine = i.machine; stop = i.stop; peak = i.peak; fragments = i.block.whole } in
     let peak : c.max-self-inside.result ≡ peak_behind i.peak (c.args.ledger.now.live - held_by f) c.feed-answer.new.ledger.peak = rw (c.max-self-inside.ensures, c.peak.ensures.peak, c.live.ensures.live, c.self.invariant.held) refl in
     rw (← c.self.view_is, c.lift.ensures, c.mark-earlier.ensures.earlier, peak)
-    (λ b s. feeds-err f c.feed-answer.new.machine (sent g.W.Sink.contents g.W.Sink.has_failed c.args.w.now c.feed-answer.new.w) c.args.ledger.now c.feed-answer.new.ledger runs c.self.invariant.within low c.mark-earlier.ensures.most c.args.piece.now c.feed-answer.ensures.bytes _ _ (c.self.invariant.sent runs) refl b s c.in-Err.stop (λ other. c.in-Err.ensures.sent (λ is. other cc)) taken.err)
+    (λ b s. feeds-err f c.feed-answer.new.machine (sent g.W.Sink.contents g.W.Sink.has_failed c.args.w.now c.feed-answer.new.w) c.args.ledger.now c.feed-answer.new.ledger runs c.self.invariant.within low c.mark-earlier.ensures.most c.args.chunk.now c.feed-answer.ensures.bytes _ _ (c.self.invariant.sent runs) refl b s c.in-Err.stop (λ other. c.in-Err.ensures.sent (λ is. other cc)) taken.err)
 
 pub returns-in-Err-clause-live : goal.returns-in-Err-clause-live
 returns-in-Err-clause-live g c =

@@ -1,8 +1,8 @@
 use Rattle.std.proofs.Common.{◌≡◌, ◌∙◌, [], sym}
 use Rattle.std.proofs.lemmas.Bool.{eqb-true}
 use Rattle.std.proofs.lemmas.List.{nil_from_length}
-use Rattle.mp4_push.proofs.PusherLemmas.{feeds-none}
-use Rattle.mp4_push.proofs.pusher.Pusher.feed.Goals as goal
+use Rattle.mp4_push.proofs.FeederLemmas.{feeds-none}
+use Rattle.mp4_push.proofs.feeder.Feeder.feed.Goals as goal
 
 pub returns-then-is_empty-clause-feeds : goal.returns-then-is_empty-clause-feeds
 returns-then-is_empty-clause-feeds g c =

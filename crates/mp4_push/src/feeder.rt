@@ -1,16 +1,18 @@
 //! A stream that is pushed in chunk by chunk.
 
-ghost use Rattle.std.specs.Prelude.{◌≡◌, ℕ, List, ◌+◌, ◌-◌, ◌≤◌, [], None, Some, Err, Ok};
+ghost use Rattle.std.specs.Prelude.{◌≡◌, ℕ, List, ◌+◌, ◌-◌, ◌*◌, ◌≤◌, [], None, Some, Err, Ok};
 ghost use Rattle.std.specs.Prelude.{IfErr, IfOk, OnOk, OnErr, IsErrOf, true};
-ghost use Rattle.mp4_fragment_machine.specs.States.{begun};
+ghost use Rattle.mp4_fragment_machine.specs.States.{begun, listed_by, reads_of};
 ghost use Rattle.mp4_ledger.specs.Memory.{given_back};
+ghost use Rattle.mp4_recut.specs.declared.plan.Plan.TheVariants.{Split};
 ghost use Rattle.mp4_machine.specs.Ends.{sent};
 ghost use Rattle.mp4_machine.specs.Fed.{lent};
-ghost use Rattle.mp4_push.specs.Pushing.{Feeds, Finishes, IsAfter, held_by, totals_of};
-ghost use Rattle.mp4_push.specs.Pushing as pushing;
+ghost use Rattle.mp4_push.specs.Feeders.{Feeds, Finishes, IsAfter, held_by, totals_of};
+ghost use Rattle.mp4_push.specs.Feeders as feeders;
 ghost use Rattle.mp4_machine.specs.declared.stop.Stop.{Stop};
 
 use crate::totals::Totals;
+use mp4_cut::Cut;
 use mp4_ends::Sink;
 use mp4_fragment_machine::FragmentMachine;
 use mp4_ledger::Ledger;
@@ -18,9 +20,9 @@ use mp4_machine::{Block, Machine, Stop, feed};
 use mp4_recut::Plan;
 use std::marker::Model;
 
-/// Takes a fragmented stream chunk by chunk, and writes what a plan makes of it as it comes. It must be spent by
-/// [`Pusher::finish`] or [`Pusher::give_up`].
-pub struct Pusher {
+/// Takes a fragmented stream chunk by chunk, and writes as it comes what a plan makes of it: shorter fragments, the lines
+/// of its samples, or nothing. It must be spent by [`Feeder::finish`] or [`Feeder::give_up`].
+pub struct Feeder {
     plan: Plan,
     machine: FragmentMachine,
     /// What is on its way to the writer of a call.
@@ -35,27 +37,36 @@ pub struct Pusher {
 
 // A contract sees its plan, where it is in the stream, why it stopped, the most that it had claimed, and how many
 // fragments are whole in what it wrote.
-impl Model for Pusher {
-    ghost use Rattle.mp4_push.specs.Pushing.{IsPusher, Pushing};
+impl Model for Feeder {
+    ghost use Rattle.mp4_push.specs.Feeders.{IsFeeder, Feeding};
 
-    ghost Value = { Pushing };
+    ghost Value = { Feeding };
 
-    ghost view = { λ p. record
-        { plan = p.plan; machine = p.machine; stop = p.stop; peak = p.peak; fragments = p.block.whole } };
+    ghost view = { λ f. record
+        { plan = f.plan; machine = f.machine; stop = f.stop; peak = f.peak; fragments = f.block.whole } };
 
-    ghost invariant = { λ p. IsPusher (record
-        { plan = p.plan; machine = p.machine; stop = p.stop; peak = p.peak; fragments = p.block.whole })
-        p.held p.block };
+    ghost invariant = { λ f. IsFeeder (record
+        { plan = f.plan; machine = f.machine; stop = f.stop; peak = f.peak; fragments = f.block.whole })
+        f.held f.block };
 }
 
-impl Pusher {
-    /// One to which no byte has come.
-    pub fn new(plan: Plan) -> Pusher
-        ensures begun { result ≡ pushing.begun plan (begun plan) }
+impl Feeder {
+    /// One that cuts the fragments of a stream into shorter ones, and to which no byte has come.
+    pub fn new(cut: Cut) -> Feeder
+        ensures begun { result ≡ feeders.begun (Split cut) (begun (Split cut)) }
         ensures after { IsAfter result [] }
         ensures idle { held_by result ≡ 0 }
     {
-        Pusher {
+        Feeder::with_plan(Plan::Split(cut))
+    }
+
+    /// One of any plan, to which no byte has come.
+    pub fn with_plan(plan: Plan) -> Feeder
+        ensures begun { result ≡ feeders.begun plan (begun plan) }
+        ensures after { IsAfter result [] }
+        ensures idle { held_by result ≡ 0 }
+    {
+        Feeder {
             plan,
             machine: FragmentMachine::new(plan),
             block: Block::new(),
@@ -83,7 +94,12 @@ impl Pusher {
 
     /// What it has counted so far, and the most bytes that it had claimed at once, whatever else its ledger serves.
     pub fn totals(&self) -> Totals
-        ensures { result ≡ totals_of self.now }
+        ensures totals { result ≡ totals_of self.now }
+        ensures all { result.samples ≤ self.now.machine.counter.tally.walked }
+        ensures some { self.now.machine.counter.tally.walked + result.samples +
+            listed_by self.now.plan result.samples ≤ result.rows_read }
+        ensures few { result.rows_read ≤
+            reads_of self.now.plan * self.now.machine.counter.tally.walked }
     {
         let tally = self.machine.tally();
         let fragments = match self.plan {
@@ -94,6 +110,7 @@ impl Pusher {
             fragments,
             samples: tally.samples,
             media_bytes: tally.media_bytes,
+            rows_read: self.machine.rows_read(),
             peak: self.peak,
         }
     }
@@ -143,7 +160,7 @@ impl Pusher {
     ///
     /// # Errors
     ///
-    /// As [`Pusher::feed`].
+    /// As [`Feeder::feed`].
     fn advance<W: Sink>(&mut self, ledger: &mut Ledger, chunk: &[u8], w: &mut W) -> Result<(), Stop>
         requires runs { self.old.stop ≡ None }
         requires claim { held_by self.old ≤ ledger.old.live }
@@ -184,6 +201,10 @@ impl Pusher {
         requires claim { held_by self ≤ ledger.old.live }
         ensures finishes { (b : List ℕ) → IsAfter self b → Finishes self b result }
         ensures totals { IfOk result (λ t. t ≡ totals_of self) }
+        ensures some { IfOk result (λ t. self.machine.counter.tally.walked + t.samples +
+            listed_by self.plan t.samples ≤ t.rows_read) }
+        ensures few { IfOk result (λ t. t.rows_read ≤
+            reads_of self.plan * self.machine.counter.tally.walked) }
         ensures stopped { (e : Stop) → self.stop ≡ Some e → result ≡ Err e }
         ensures back { ledger.new ≡ given_back ledger.old (held_by self) }
     {
@@ -196,10 +217,14 @@ impl Pusher {
     ///
     /// # Errors
     ///
-    /// As [`Pusher::finish`].
-    fn ending(&self) -> Result<Totals, Stop>
+    /// As [`Feeder::finish`].
+    pub fn ending(&self) -> Result<Totals, Stop>
         ensures finishes { (b : List ℕ) → IsAfter self.now b → Finishes self.now b result }
         ensures totals { IfOk result (λ t. t ≡ totals_of self.now) }
+        ensures some { IfOk result (λ t. self.now.machine.counter.tally.walked + t.samples +
+            listed_by self.now.plan t.samples ≤ t.rows_read) }
+        ensures few { IfOk result (λ t. t.rows_read ≤
+            reads_of self.now.plan * self.now.machine.counter.tally.walked) }
         ensures stopped { (e : Stop) → self.now.stop ≡ Some e → result ≡ Err e }
     {
         if let Some(stop) = self.stop {
@@ -216,7 +241,7 @@ impl Pusher {
         requires { held_by self ≤ ledger.old.live }
         ensures { ledger.new ≡ given_back ledger.old (held_by self) }
     {
-        let Pusher {
+        let Feeder {
             plan: _,
             machine,
             block: _,

@@ -2,7 +2,7 @@ use Rattle.std.proofs.Common.{arith, ◌≡◌, ◌∙◌, ◌+◌, ◌++◌, �
 use Rattle.std.proofs.Math.Seq.{take-add, take-length}
 use Rattle.mp4_recut.specs.Media.{Lost, Plays, Rises, playing, spot_of}
 use Rattle.mp4_recut.proofs.MediaLemmas.{Plays-fails, Plays-more, Plays-none}
-use Rattle.mp4_recut.proofs.media.pay_all.Goals as goal
+use Rattle.mp4_recut.proofs.media.pay_all_in.Goals as goal
 
 pub loop-count-init : goal.loop-count-init
 loop-count-init g c =
@@ -15,8 +15,8 @@ loop-count-init g c =
     record {
       within = omega arith;
       paid = record {
-        plays = subst (λ k. Plays a a c.args.out.now c.args.out.now n n (spot_of cut h tracks c.args.at (n + 1) c.args.from) [] (spot_of cut h tracks k (n + 1) c.args.from)) here (Plays-none a c.args.out.now n (spot_of cut h tracks c.args.at (n + 1) c.args.from));
-        rises = λ end room r. subst (λ k. Rises end (spot_of cut h tracks k (n + 1) c.args.from)) here r;
+        plays = subst (λ k. Plays a a c.args.out.now c.args.out.now n n (spot_of cut h tracks c.args.at (n + 1) c.args.media.now) [] (spot_of cut h tracks k (n + 1) c.args.media.now)) here (Plays-none a c.args.out.now n (spot_of cut h tracks c.args.at (n + 1) c.args.media.now));
+        rises = λ end room r. subst (λ k. Rises end (spot_of cut h tracks k (n + 1) c.args.media.now)) here r;
         next = record { settled = c.requires.settled; at = c.requires.at; numbers = refl };
         unfailed = refl;
       };
@@ -35,7 +35,7 @@ loop-count-preserved g c =
     let i = c.loop-count.count in
     let taken = c.in-Ok.n in
     let media = c.pay_in.new.media in
-    let first = spot_of cut h tracks c.args.at (m + 1) c.args.from in
+    let first = spot_of cut h tracks c.args.at (m + 1) c.args.media.now in
     let there : c.args.at + i + taken ≡ c.args.at + (i + taken) = omega arith in
     let before = c.loop-count.invariant.paid in
     let pays = rw c.split_at.ensures.back at c.in-Ok.ensures.pays in
@@ -67,7 +67,7 @@ returns-in-Err-clause-pays g c =
     let k = c.pay_in.new.fragments in
     let piece = c.args.piece.now in
     let i = c.loop-count.count in
-    let first = spot_of cut h tracks c.args.at (m + 1) c.args.from in
+    let first = spot_of cut h tracks c.args.at (m + 1) c.args.media.now in
     let media = c.loop-count.media in
     let unpaid = rw c.split_at.ensures.back at c.in-Err.ensures.pays in
     record {

@@ -1,13 +1,13 @@
 use Rattle.std.proofs.Common.{◌≤◌, ◌+◌, ◌-◌, length, take}
 use Rattle.mp4_machine.specs.Ends.{sent}
 use Rattle.mp4_recut.specs.Media.{HasPaid}
-use Rattle.mp4_recut.proofs.media.pay_all.Given as goal
+use Rattle.mp4_recut.proofs.media.pay_all_in.Given as goal
 
 -- so many bytes were taken
 abbrev pub invariant-loop-count : goal.invariant-loop-count
 invariant-loop-count g l = record {
   within : l.count ≤ length l.fn.piece;
-  paid : HasPaid l.fn.cut l.fn.moof l.fn.tracks (sent g.W.Sink.contents g.W.Sink.has_failed l.fn.w l.w) l.fn.out l.out l.fn.fragments l.fragments l.fn.at (l.fn.at + l.count) l.fn.from (take l.count l.fn.piece) l.media;
+  paid : HasPaid l.fn.cut l.fn.moof l.fn.tracks (sent g.W.Sink.contents g.W.Sink.has_failed l.fn.w l.w) l.fn.out l.out l.fn.fragments l.fragments l.fn.at (l.fn.at + l.count) l.fn.media (take l.count l.fn.piece) l.media;
 }
 
 abbrev pub decreases-loop-count : goal.decreases-loop-count
