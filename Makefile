@@ -43,6 +43,7 @@ test:
 	@echo "proving everything from nothing and running the tests: over an hour on 4 cores" >&2
 	@rt ci
 	@if command -v cc > /dev/null; then scripts/refused_allocations; else echo "no C compiler: refused allocations weren't tried" >&2; fi
+	@if command -v valgrind > /dev/null; then bench/instructions "as written" --room 20; else echo "no valgrind: reads of rows that no count has weren't looked for" >&2; fi
 
 # Tries the wrong bodies in crates/*/wrong, with what is built.
 wrong_bodies: build
