@@ -3,11 +3,14 @@
 //!
 //! - [`claims`]: that claims succeed where memory is ample;
 //! - [`ends`]: what an adapter makes of std's errors;
+//! - [`blocks`]: when groups of bytes go out that are put into a block;
 //! - [`boxes`]: worked headers, fields and trees, and [`flags`]: worked flag words;
 //! - [`moovs`]: worked moovs, and [`moofs`]: worked moofs;
 //! - [`callers`]: callers of the libraries, for their pages.
 #![tactic(auto)]
 
+#[cfg(test)]
+mod blocks;
 #[cfg(test)]
 mod boxes;
 pub mod callers;

@@ -96,7 +96,7 @@ pub fn put_plain_moof<W: Sink>(
     }
     // The groups in the moof are those that are to be written, if they have all fields.
     if let Some(groups) = run.whole_groups(held, piece.first, piece.count) {
-        return block.put(w, groups);
+        return block.put_groups(w, groups);
     }
     let mut rows = run.rows_from(held, piece.cursor());
     put_samples(block, w, &mut rows, piece.count)

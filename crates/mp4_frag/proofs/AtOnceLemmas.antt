@@ -1,5 +1,5 @@
 -- Where one pass over a moof finds nothing, nothing is at fault with its boxes and their values.
-use Rattle.std.proofs.Common.{◌≡◌, ◌≢◌, ◌∙◌, Bool, true, false, not, ℕ, List, [], ◌∷◌, ◌++◌, length, Option, Some, None, refl, sym, ap, arith, append-nil}
+use Rattle.std.proofs.Common.{◌≡◌, ◌≢◌, ◌∙◌, Bool, true, false, cond, not, ℕ, zero, suc, List, [], ◌∷◌, ◌++◌, length, Option, Some, None, refl, sym, ap, arith, append-nil}
 use Rattle.std.specs.Prelude.{◌==◌, ◌&&◌, ◌||◌, nat_lt}
 use Rattle.std.specs.List.{AllByRecursion, flat_map, list_all, list_any}
 use Rattle.std.specs.Option.{is_none, is_some}
@@ -17,11 +17,11 @@ use Rattle.mp4_box.proofs.OrderLemmas.{least-none}
 use Rattle.mp4_box.specs.Paths.{at_path, of_kind}
 use Rattle.mp4_box.specs.Trees.{Box, children, first_of}
 use Rattle.mp4_init.specs.declared.table.Track.{Track}
-use Rattle.mp4_frag.specs.Working.AtOnce.{HasTicks, IsComplete, by_moof, by_traf, faults_in_moof, faults_in_traf, has_few, has_heads, has_one, is_complete, is_filled, is_kind, passed_over}
+use Rattle.mp4_frag.specs.Working.AtOnce.{HasTicks, IsComplete, IsCount, by_moof, by_traf, faults_in_moof, faults_in_traf, has_few, has_heads, has_one, is_complete, is_filled, is_kind, most_64, passed_over}
 use Rattle.mp4_frag.specs.Kinds.{mfhd, traf, tfhd, tfdt, trun, free, skip}
 use Rattle.mp4_frag.specs.Mfhd.{mfhd_len}
 use Rattle.mp4_frag.specs.Moofs.{value_faults}
-use Rattle.mp4_frag.specs.Repeats.{lacks_time, repeat_faults}
+use Rattle.mp4_frag.specs.Repeats.{lacks_time, repeat_faults, untimed_ids}
 use Rattle.mp4_frag.specs.Rules.{child_faults, count_faults, fault_if, form_faults, holds_only, tfhd_faults, tfhd_length, trun_faults, trun_length, unsupported}
 use Rattle.mp4_frag.specs.Tfdt.{tfdt_layout}
 use Rattle.mp4_frag.proofs.MoofLemmas.{last_none, path_kind}
@@ -37,10 +37,6 @@ both_true false b e = absurd cc
 
 true_both : (a b : Bool) → a ≡ true → b ≡ true → a && b ≡ true
 true_both a b e f = ap (λ (u : Bool). u && b) e ∙ f
-
-either_none : (a b : Bool) → a || false ≡ false → b ≡ false → a || b ≡ false
-either_none true b e f = absurd cc
-either_none false b e f = f
 
 -- the first child, and then the others
 pub complete_first : (b : Box) (bs : List Box) → list_all is_complete (of_kind traf (b ∷ bs)) ≡ (list_all is_complete (of_kind traf (b ∷ [])) && list_all is_complete (of_kind traf bs))
@@ -189,13 +185,28 @@ pub has_time : (t : Box) → length (of_kind tfdt (children t)) ≢ 0 → lacks_
 unfolding lacks_time
 has_time t some = ap (λ (bs : List Box). is_none (first_of bs)) (path_kind tfdt t) ∙ some_first (of_kind tfdt (children t)) some
 
--- the first child, and then the others
-pub timed_first : (b : Box) (bs : List Box) → list_any lacks_time (of_kind traf (b ∷ [])) ≡ false → list_any lacks_time (of_kind traf bs) ≡ false → list_any lacks_time (of_kind traf (b ∷ bs)) ≡ false
-timed_first b bs here rest = by (is_kind traf b) refl here
-  where
-    by : (u : Bool) → is_kind traf b ≡ u → list_any lacks_time (of_kind traf (b ∷ [])) ≡ false → list_any lacks_time (of_kind traf (b ∷ bs)) ≡ false
-    by true is here = rw is (either_none (lacks_time b) (list_any lacks_time (of_kind traf bs)) (rw is at here) rest)
-    by false is here = rw is rest
+none_first : (bs : List Box) → length bs ≡ 0 → is_none (first_of bs) ≡ true
+none_first [] e = refl
+none_first (b ∷ bs) e = absurd (omega (arith, e))
+
+has_no_time : (t : Box) → length (of_kind tfdt (children t)) ≡ 0 → lacks_time t ≡ true
+unfolding lacks_time
+has_no_time t none = ap (λ (bs : List Box). is_none (first_of bs)) (path_kind tfdt t) ∙ none_first (of_kind tfdt (children t)) none
+
+-- a traf is counted among those without a tfdt where it has none
+untimed_where : (t : Box) (u : Bool) → lacks_time t ≡ u → length (untimed_ids (t ∷ [])) ≡ cond u 1 0
+unfolding untimed_ids
+untimed_where t true is = rw is refl
+untimed_where t false is = rw is refl
+
+pub untimed_one : (t : Box) (n old new : ℕ) → n ≡ length (of_kind tfdt (children t)) → (n ≡ 0 → IsCount most_64 old 1 new) → (n ≢ 0 → new ≡ old) → IsCount most_64 old (length (untimed_ids (t ∷ []))) new
+untimed_one t zero old new e none some = λ small.
+    let one : length (untimed_ids (t ∷ [])) ≡ 1 = untimed_where t true (has_no_time t (sym e)) in
+    omega (arith, one, none refl small)
+untimed_one t (suc n) old new e none some = λ small.
+    let same : new ≡ old = some (λ z. absurd (omega (arith, z))) in
+    let nothing : length (untimed_ids (t ∷ [])) ≡ 0 = untimed_where t false (has_time t (λ z. absurd (omega (arith, e, z)))) in
+    omega (arith, same, nothing)
 
 -- ---- along the paths of a moof
 

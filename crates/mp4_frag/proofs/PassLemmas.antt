@@ -15,6 +15,7 @@ use Rattle.mp4_init.specs.OrderedIds.{sought}
 use Rattle.mp4_frag.specs.Kinds.{traf}
 use Rattle.mp4_frag.specs.Rules.{fault_if}
 use Rattle.mp4_frag.specs.Repeats.{traf_id, is_listed, is_repeat, lacks_time, repeat_faults, repeats, trafs_before, trafs_of, untimed_ids}
+use Rattle.mp4_frag.specs.Working.AtOnce.{IsCount, most_64}
 use Rattle.mp4_frag.specs.Working.RepeatMarks.{marked_at, all_marked, marks}
 
 abbrev pub trafs : List Box → List Box
@@ -190,7 +191,7 @@ none_lacks earlier (t ∷ ts) e = by (lacks_time t) refl (none_lacks (earlier ++
     by true is later e = absurd cc
     by false is later e = ap (λ (u : Bool). fault_if (u && is_listed (traf_id t) earlier) Unsupported t ++ repeats (earlier ++ t ∷ []) ts) is ∙ later e
 
-pub all_timed : (ts : List Box) → length (untimed_ids ts) ≡ 0 → list_any lacks_time ts ≡ false
+all_timed : (ts : List Box) → length (untimed_ids ts) ≡ 0 → list_any lacks_time ts ≡ false
 unfolding untimed_ids
 all_timed [] e = refl
 all_timed (t ∷ ts) e = by (lacks_time t) (all_timed ts) e
@@ -198,6 +199,10 @@ all_timed (t ∷ ts) e = by (lacks_time t) (all_timed ts) e
     by : (u : Bool) → (length (untimed_ids ts) ≡ 0 → list_any lacks_time ts ≡ false) → length (cond u (traf_id t ∷ untimed_ids ts) (untimed_ids ts)) ≡ 0 → u || list_any lacks_time ts ≡ false
     by true later e = absurd (omega (arith, e))
     by false later e = later e
+
+-- by a count of them
+pub no_traf_lacks : (ts : List Box) (n : ℕ) → IsCount most_64 0 (length (untimed_ids ts)) n → n ≡ 0 → list_any lacks_time ts ≡ false
+no_traf_lacks ts n counted none = let all = counted (omega (arith, none)) in all_timed ts (omega (arith, all, none))
 
 pub none_untimed : (m : Box) (best : Option Fault) → list_any lacks_time (trafs_of m) ≡ false → best ≡ least_from best (repeat_faults m)
 unfolding least_from

@@ -4,15 +4,15 @@
 //! moof has none, and one pass says so. Trafs without tfdt are counted: where there are some, those that stand behind others of
 //! their track are sought besides.
 
-ghost use Rattle.std.specs.Prelude.{◌≡◌, ◌≢◌, ◌≤◌, ◌∷◌, [], length, true, false, IfSome, IsSome, IsTrue};
-ghost use Rattle.std.specs.List.{AllByRecursion, flat_map, list_all, list_any};
+ghost use Rattle.std.specs.Prelude.{◌≡◌, ◌≢◌, ◌≤◌, ◌∷◌, [], length, true, IfSome, IsSome, IsTrue};
+ghost use Rattle.std.specs.List.{AllByRecursion, flat_map, list_all};
 ghost use Rattle.mp4_box.specs.Order.{least_from};
 ghost use Rattle.mp4_box.specs.Paths.{at_path, of_kind};
 ghost use Rattle.mp4_box.specs.Trees.{box_faults, box_len, children, view};
 ghost use Rattle.mp4_frag.specs.Working.AtOnce.{Adds, HasEarlyEnd, HasTicks, IsComplete, IsCount, IsEarly, TrafHasTicks, faults_in_moof, faults_in_traf, in_trafs, is_complete, is_early, is_kind, most_32, most_64, passed_over};
 ghost use Rattle.mp4_frag.specs.Kinds.{free, skip, tfdt, tfhd, to_trun, traf, trun};
 ghost use Rattle.mp4_frag.specs.Moofs.{value_faults};
-ghost use Rattle.mp4_frag.specs.Repeats.{lacks_time, repeat_faults, trafs_of};
+ghost use Rattle.mp4_frag.specs.Repeats.{repeat_faults, trafs_of, untimed_ids};
 ghost use Rattle.mp4_frag.specs.Rules.{form_faults, most_samples, samples_in, samples_of};
 
 use crate::checks::{FlagsOnce, TfhdLength, TrunLength, note_tfhd};
@@ -141,8 +141,8 @@ fn all_hold(first: bool, second: bool, third: bool) -> bool
 /// Counts a traf that has so many tfdts, where it has none.
 #[inline(always)]
 fn count_untimed(tfdts: u64, untimed: &mut u64)
-    ensures before { untimed.new ≡ 0 → untimed.old ≡ 0 }
-    ensures here { untimed.new ≡ 0 → tfdts ≢ 0 }
+    ensures none { tfdts ≡ 0 → IsCount most_64 untimed.old 1 untimed.new }
+    ensures some { tfdts ≢ 0 → untimed.new ≡ untimed.old }
 {
     if tfdts == 0 {
         *untimed = untimed.saturating_add(1);
@@ -163,8 +163,8 @@ fn note_traf(
     ensures complete { IsTrue result → is_complete (view traf.now) ≡ true }
     ensures adds { Adds (children (view traf.now)) sound.old sound.new }
     ensures ticks { TrafHasTicks tracks.now (view traf.now) }
-    ensures untimed { untimed.new ≡ 0 → untimed.old ≡ 0 }
-    ensures timed { IsTrue result → untimed.new ≡ 0 → lacks_time (view traf.now) ≡ false }
+    ensures count { IsTrue result → IsCount most_64 untimed.old
+        (length (untimed_ids (view traf.now ∷ []))) untimed.new }
 {
     let mut tfhds = 0;
     let mut tfdts = 0;
@@ -183,7 +183,7 @@ fn note_traf(
 /// Notes what is at fault with a child of a moof by itself, and adds what it says to what is told. Where it is a traf that has
 /// just one tfhd, at most one tfdt, and no rest, or is no traf, it tells so.
 #[inline(always)]
-#[tactic(auto, unfolding(crate::specs::Working::AtOnce::faults_in_moof, mp4_box::specs::Order::least_from))]
+#[tactic(auto, unfolding(crate::specs::Working::AtOnce::faults_in_moof, crate::specs::Repeats::untimed_ids, mp4_box::specs::Order::least_from))]
 fn note_in_moof(
     tracks: &TrackList,
     child: &BoxRef<'_>,
@@ -196,9 +196,8 @@ fn note_in_moof(
         list_all is_complete (of_kind traf (view child.now ∷ [])) ≡ true }
     ensures adds { Adds (in_trafs (view child.now ∷ [])) sound.old sound.new }
     ensures ticks { AllByRecursion (TrafHasTicks tracks.now) (of_kind traf (view child.now ∷ [])) }
-    ensures untimed { untimed.new ≡ 0 → untimed.old ≡ 0 }
-    ensures timed { IsTrue result → untimed.new ≡ 0 →
-        list_any lacks_time (of_kind traf (view child.now ∷ [])) ≡ false }
+    ensures count { IsTrue result → IsCount most_64 untimed.old
+        (length (untimed_ids (of_kind traf (view child.now ∷ [])))) untimed.new }
 {
     if child.header.kind.is(TRAF) {
         return note_traf(tracks, child, best, sound, untimed);
@@ -226,8 +225,8 @@ fn note_moof(
     ensures adds { Adds (in_trafs (children (view moof.now))) sound.old sound.new }
     ensures ticks { AllByRecursion (TrafHasTicks tracks.now)
         (of_kind traf (children (view moof.now))) }
-    ensures timed { IsTrue result → untimed.new ≡ 0 →
-        list_any lacks_time (of_kind traf (children (view moof.now))) ≡ false }
+    ensures count { IsTrue result → IsCount most_64 untimed.old
+        (length (untimed_ids (of_kind traf (children (view moof.now))))) untimed.new }
 {
     let mut mfhds = 0;
     let mut len = 0;
@@ -271,8 +270,8 @@ pub(crate) fn look_at(tracks: &TrackList, moof: &BoxRef<'_>, untimed: &mut u64) 
     ensures forms { IsSome result → form_faults (view moof.now) ≡ [] }
     ensures values { IsSome result →
         value_faults tracks.now (view moof.now) ≡ repeat_faults (view moof.now) }
-    ensures timed { IsSome result → untimed.new ≡ 0 →
-        list_any lacks_time (trafs_of (view moof.now)) ≡ false }
+    ensures count { IsSome result → IsCount most_64 untimed.old
+        (length (untimed_ids (trafs_of (view moof.now)))) untimed.new }
     ensures samples { IfSome result (λ s. s.samples ≡ samples_of (view moof.now)) }
     ensures few { IfSome result (λ s. s.samples ≤ most_samples) }
     ensures truns { IfSome result (λ s.

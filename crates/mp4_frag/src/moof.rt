@@ -7,9 +7,9 @@ ghost use Rattle.mp4_box.specs.declared.rules.Fault.{Fault};
 ghost use Rattle.mp4_box.specs.Headers.{IsWhole};
 ghost use Rattle.mp4_box.specs.Order.{IsLeast, least, least_from};
 ghost use Rattle.mp4_box.specs.Trees.{view};
-ghost use Rattle.mp4_frag.specs.Working.AtOnce.{HasEarlyEnd, told_fault};
+ghost use Rattle.mp4_frag.specs.Working.AtOnce.{HasEarlyEnd, IsCount, most_64, told_fault};
 ghost use Rattle.mp4_frag.specs.Moofs.{IsRead, early_fault, moof_fault, moof_faults, moof_of, moof_samples, moof_trafs, moof_truns, time_faults, value_faults};
-ghost use Rattle.mp4_frag.specs.Repeats.{repeat_faults, trafs_of};
+ghost use Rattle.mp4_frag.specs.Repeats.{repeat_faults, trafs_of, untimed_ids};
 ghost use Rattle.mp4_frag.specs.Rules.{count_faults, form_faults, most_samples};
 ghost use Rattle.mp4_frag.specs.Runs.{MoofBytes, moof_at};
 ghost use Rattle.mp4_frag.specs.Settling.{settled, timed_of};
@@ -120,7 +120,7 @@ fn early_by_rules(held: &[u8], offset: u64, tracks: &TrackList) -> Result<Sound,
     }
 }
 
-/// What is told of a moof in which about so many trafs have no tfdt, where this was told of it without a look at where they begin.
+/// What is told of a moof in which so many trafs have no tfdt, where this was told of it without a look at where they begin.
 // It stands apart, with the moof as its bytes, since in nearly every moof each traf has a tfdt.
 #[inline(never)]
 #[tactic(auto, using(crate::proofs::MoofLemmas::moof_is))]
@@ -133,7 +133,8 @@ fn tell_untimed(
 ) -> Result<Sound, Fault>
     requires whole { IsWhole held.now }
     requires room { offset + length held.now ≤ 2 ^ 62 }
-    requires some { 0 < untimed }
+    requires count { IsCount most_64 0
+        (length (untimed_ids (trafs_of (moof_of (moof_at held.now offset))))) untimed }
     ensures fault { told_fault result ≡
         least (repeat_faults (moof_of (moof_at held.now offset))) }
     ensures samples { IfOk result (λ s. s.samples ≡ sound.samples) }
@@ -365,8 +366,8 @@ impl<'a> Moof<'a> {
         }
     }
 
-    /// How many truns it has.
-    pub(crate) fn truns_len(&self) -> u64
+    /// How many truns it has: so many runs. It reads no row.
+    pub fn truns_len(&self) -> u64
         ensures { result ≡ moof_truns self.now }
     {
         match self.told {

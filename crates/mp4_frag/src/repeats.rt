@@ -4,13 +4,13 @@
 //! marked when a traf that has it is passed. The moof is gone over again for each block alone.
 
 ghost use Rattle.std.specs.Prelude.{◌≡◌, ◌≤◌, ◌<◌, ◌+◌, [], ◌∷◌, ◌++◌, true, false, length, take};
-ghost use Rattle.std.specs.List.{list_any};
 ghost use Rattle.mp4_box.specs.Trees.{view};
 ghost use Rattle.mp4_box.specs.Order.{least_from};
 ghost use Rattle.mp4_box.specs.Paths.{of_kind};
 ghost use Rattle.mp4_init.specs.OrderedIds.{AreInOrder, sought};
 ghost use Rattle.mp4_frag.specs.Kinds.{traf};
 ghost use Rattle.mp4_frag.specs.Repeats.{is_listed, is_repeat, lacks_time, repeat_faults, repeats, traf_id, trafs_before, trafs_behind, trafs_of, untimed_ids};
+ghost use Rattle.mp4_frag.specs.Working.AtOnce.{IsCount, most_64};
 ghost use Rattle.mp4_frag.specs.Working.RepeatMarks.{all_marked, marked_at, marks};
 
 use crate::children::children_of;
@@ -244,10 +244,9 @@ fn untimed_in(moof: &BoxRef<'_>) -> u64
     count
 }
 
-/// Notes the trafs that have no tfdt though one that is listed earlier has their track_ID, where about so many lack one: 0 only
-/// where none does.
+/// Notes the trafs that have no tfdt though one that is listed earlier has their track_ID, where so many lack one.
 pub(crate) fn note_among(count: u64, moof: &BoxRef<'_>, best: &mut Option<Fault>)
-    requires { count ≡ 0 → list_any lacks_time (trafs_of (view moof.now)) ≡ false }
+    requires { IsCount most_64 0 (length (untimed_ids (trafs_of (view moof.now)))) count }
     ensures { best.new ≡ least_from best.old (repeat_faults (view moof.now)) }
 {
     if count == 0 {

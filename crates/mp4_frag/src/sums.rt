@@ -48,6 +48,31 @@ fn numbers_sum(groups: &[u8], at: u32, len: u32, count: u32) -> u64
     total
 }
 
+/// The numbers at two places of each of `count` groups of `len` bytes, of which the first begins the bytes, added up, those at
+/// each place by themselves: the groups are gone over once.
+#[inline(always)]
+fn both_sums(groups: &[u8], size_at: u32, duration_at: u32, len: u32, count: u32) -> Sums
+    ensures bytes { result.bytes ≡ numbers_from groups.now len size_at count }
+    ensures ticks { result.ticks ≡ numbers_from groups.now len duration_at count }
+    ensures few_bytes { result.bytes ≤ 4294967295 * count }
+    ensures few_ticks { result.ticks ≤ 4294967295 * count }
+{
+    let step = u64::from(len);
+    let mut size_place = u64::from(size_at);
+    let mut duration_place = u64::from(duration_at);
+    let mut bytes = 0;
+    let mut ticks = 0;
+    let mut groups_left = count;
+    while groups_left > 0 {
+        bytes += u64::from(number_in(groups, size_place));
+        ticks += u64::from(number_in(groups, duration_place));
+        size_place += step;
+        duration_place += step;
+        groups_left -= 1;
+    }
+    Sums { bytes, ticks }
+}
+
 /// The numbers of a field of `count` groups of `len` bytes, of which the first begins the bytes, added up: by a product
 /// where they haven't the field.
 #[inline(always)]
@@ -89,6 +114,27 @@ fn ticks_in(run: &Run, groups: &[u8], count: u32) -> u64
     )
 }
 
+/// The sizes and the durations of `count` rows of a run, added up, of which the first group begins the bytes. The rows are gone
+/// over once at most: where both are the samples' own, both are added up on the way.
+#[inline(always)]
+fn sums_in(run: &Run, groups: &[u8], count: u32) -> Sums
+    ensures bytes { result.bytes ≡ field_numbers groups.now run.now.fields.sample_size run.now.size
+        run.now.fields.len count }
+    ensures ticks { result.ticks ≡ field_numbers groups.now run.now.fields.sample_duration
+        run.now.duration run.now.fields.len count }
+    ensures few_bytes { result.bytes ≤ 4294967295 * count }
+    ensures few_ticks { result.ticks ≤ 4294967295 * count }
+{
+    let fields = &run.fields;
+    match (fields.sample_size, fields.sample_duration) {
+        (Some(size), Some(duration)) => both_sums(groups, size, duration, fields.len, count),
+        _ => Sums {
+            bytes: bytes_in(run, groups, count),
+            ticks: ticks_in(run, groups, count),
+        },
+    }
+}
+
 /// The durations of the samples of a run, added up.
 #[inline(always)]
 #[tactic(auto, using(crate::proofs::BetweenLemmas::all_durations))]
@@ -108,11 +154,7 @@ pub(crate) fn sums_of(run: &Run, held: &[u8]) -> Sums
     ensures few_bytes { result.bytes ≤ 4294967295 * run.now.count }
     ensures few_ticks { result.ticks ≤ 4294967295 * run.now.count }
 {
-    let groups = groups_from(run, held, 0);
-    Sums {
-        bytes: bytes_in(run, groups, run.count),
-        ticks: ticks_in(run, groups, run.count),
-    }
+    sums_in(run, groups_from(run, held, 0), run.count)
 }
 
 impl Run {
@@ -125,10 +167,6 @@ impl Run {
         ensures bytes { result.bytes ≡ sizes (take count (drop first (rows_of self.now held.now))) }
         ensures ticks { result.ticks ≡ durations (take count (drop first (rows_of self.now held.now))) }
     {
-        let groups = groups_from(self, held, first);
-        Sums {
-            bytes: bytes_in(self, groups, count),
-            ticks: ticks_in(self, groups, count),
-        }
+        sums_in(self, groups_from(self, held, first), count)
     }
 }

@@ -6,7 +6,7 @@
 //! If they don't, as where the runs of two tracks take turns in the mdat, the look was in vain. Its rows are counted, and the fragment
 //! is taken as others are, but that its rules aren't gone over again. Then some fragments are taken without a look.
 
-ghost use Rattle.std.specs.Prelude.{◌≡◌, ◌+◌, ◌*◌, ◌≤◌, [], length, Err, None, Ok, Some, IfErr, IfOk, IfSome, OnErr, OnOk};
+ghost use Rattle.std.specs.Prelude.{◌≡◌, ◌+◌, ◌*◌, ◌≤◌, ◌↔◌, [], length, true, Err, None, Ok, Some, IfErr, IfOk, IfSome, OnErr, OnOk};
 ghost use Rattle.mp4_box.specs.declared.headers.Header.{Header};
 ghost use Rattle.mp4_frag.specs.Moofs.{IsRead, moof_runs, moof_samples};
 ghost use Rattle.mp4_frag.specs.Places.{place_fault};
@@ -24,7 +24,7 @@ ghost use Rattle.mp4_fragment_machine.specs.Places.{Unlent, claim_of, unsent};
 ghost use Rattle.mp4_fragment_machine.specs.States.{IsCounted, known, place_in};
 ghost use Rattle.mp4_fragment_machine.specs.Working.Feeds.{Feeds};
 ghost use Rattle.mp4_fragment_machine.specs.Working.Steps.{CanStep, TakesWhole, lent_ledger};
-ghost use Rattle.mp4_fragment_machine.specs.Working.Wholes.{AreBoxes, MayBeLookedAt, WasLookedAt, payload_in};
+ghost use Rattle.mp4_fragment_machine.specs.Working.Wholes.{AreBoxes, MayBeListed, MayBeLookedAt, WasLookedAt, payload_in};
 ghost use Rattle.mp4_fragment_machine.specs.declared.state.State.TheVariants as states;
 
 use crate::listed_fragment::count;
@@ -49,6 +49,16 @@ const PAUSE: u8 = 31;
 struct Counted<'a> {
     moof: Moof<'a>,
     ends: TrafEnds,
+}
+
+/// Whether a moof and the list of its runs may be claimed.
+#[inline(always)]
+fn may_be_listed(moof: &Moof<'_>, ledger: &Ledger) -> bool
+    ensures { (result ≡ true) ↔ MayBeListed moof.now ledger.now }
+{
+    let room = ledger.limit() - ledger.live();
+    let held = moof.bytes().len() as u64;
+    held <= room && moof.truns_len() <= (room - held) / ROW
 }
 
 /// Reads the moof of a fragment, and counts the fragment, where its trafs have early times of their own, nothing is at fault with
@@ -86,7 +96,10 @@ fn count_checked<'a>(
     ensures none { OnErr result (ledger.new ≡ ledger.old) }
     ensures looked { IfErr result (λ l. IfSome l
         (WasLookedAt (moof_at boxes.now.moof.now at) tracks.now)) }
-    ensures unlooked { result ≡ Err None → MayBeLookedAt (moof_at boxes.now.moof.now at) tracks.now → ⊥ }
+    ensures listed { IfErr result (λ l. IfSome l (λ _.
+        MayBeListed (moof_at boxes.now.moof.now at) ledger.old)) }
+    ensures unlooked { result ≡ Err None →
+        MayBeLookedAt (moof_at boxes.now.moof.now at) tracks.now ledger.old → ⊥ }
 {
     // So that no row is read for the rules, but only where the runs are looked at.
     if !Moof::begins_early(boxes.moof, at) {
@@ -96,6 +109,10 @@ fn count_checked<'a>(
         Ok(moof) => moof,
         Err(_) => return Err(None),
     };
+    // A list that would pass the limit is refused before a row is read.
+    if !may_be_listed(&moof, ledger) {
+        return Err(None);
+    }
     let mut looked = Steps { rows: 0 };
     let payload = payload_behind(at, boxes, piece);
     let Some(following) = moof.following(payload, tracks, &mut looked) else {
@@ -140,8 +157,10 @@ pub(crate) fn check_fragment(
     ensures none { OnErr result ((kept.new ≡ kept.old) × (ledger.new ≡ ledger.old)) }
     ensures looked { IfErr result (λ l. IfSome l
         (WasLookedAt (moof_at boxes.now.moof.now at) (known kept.old.tracks))) }
+    ensures listed { IfErr result (λ l. IfSome l (λ _.
+        MayBeListed (moof_at boxes.now.moof.now at) ledger.old)) }
     ensures unlooked { result ≡ Err None →
-        MayBeLookedAt (moof_at boxes.now.moof.now at) (known kept.old.tracks) → ⊥ }
+        MayBeLookedAt (moof_at boxes.now.moof.now at) (known kept.old.tracks) ledger.old → ⊥ }
 {
     let Some(list) = &mut kept.tracks else {
         unreachable!();

@@ -7,6 +7,7 @@ pub mod BodyLemmas
 pub mod AccountLemmas
 pub mod MarkLemmas
 pub mod BlockLemmas
+pub mod GroupLemmas
 pub mod PutLemmas
 pub mod PieceLemmas
 pub mod StepLemmas

@@ -1,5 +1,5 @@
 -- What one call puts behind another.
-use Rattle.std.proofs.Common.{◌≡◌, ℕ, List, [], ◌++◌, length, Bool, Option, ap, ◌∙◌, refl, subst}
+use Rattle.std.proofs.Common.{◌≡◌, ℕ, List, [], ◌++◌, length, take, drop, Bool, Option, ap, ◌∙◌, append_assoc, take-append-drop, refl, subst}
 use Rattle.std.specs.Prelude.{Result, Ok, Err}
 use Rattle.mp4_ends.specs.Streams.{AppendsPrefix}
 use Rattle.mp4_machine.specs.Blocks.{IsSent, Pending, unused}
@@ -47,6 +47,10 @@ pub Puts-then : {a b : Option (List ℕ)} {f g : Bool} {v w : Pending} {s : List
     → {T E : Type 0} (c : Option (List ℕ)) (h : Bool) (u : Pending) (t whole : List ℕ) → s ++ t ≡ whole → (r : Result T E) → Puts (sink b c g h) w u t r
     → Puts (sink a c f h) v u whole r
 Puts-then {a = a} {f = f} {v = v} p c h u t whole e r q = subst (λ l. Puts (sink a c f h) v u l r) e (PutsMarked-then p c h u t [] r q)
+
+-- a text is put in two parts
+pub cut_on : (n : ℕ) (text rest front behind all : List ℕ) → front ≡ take n rest → behind ≡ drop n rest → text ++ rest ≡ all → (text ++ front) ++ behind ≡ all
+cut_on n text rest front behind all p q e = append_assoc text front behind ∙ ap (λ l. text ++ l) (ap (λ l. l ++ behind) p ∙ ap (λ l. take n rest ++ l) q ∙ take-append-drop n rest) ∙ e
 
 -- ---- what is written by way of a new block
 

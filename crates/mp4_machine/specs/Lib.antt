@@ -2,6 +2,7 @@ pub mod Readings
 pub mod Bodies
 pub mod Accounts
 pub mod Blocks
+pub mod Groups
 pub mod Ends
 pub mod Puts
 pub mod Pieces

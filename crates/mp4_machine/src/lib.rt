@@ -31,7 +31,7 @@ pub mod run;
 pub mod stop;
 pub mod tally;
 
-pub use block::{BLOCK_BYTES, Block, LINE_BYTES, Line};
+pub use block::{BLOCK_BYTES, Block, GROUP_BYTES, LINE_BYTES, Line};
 pub use body::{AnyBody, Body, OpenBody, body_of, truncated};
 pub use header_bytes::{HeadTaken, take_head};
 pub use held::Held;

@@ -13,13 +13,14 @@ use super::{TFDT, TFHD, TRUN, one_traf, push_box};
 use mp4_box::is_box;
 use mp4_box::vectors::V1;
 use mp4_cut::{
-    Cut, Pieces, WriteFault, group_len, room, write_index, write_mdat_header, write_moof,
+    Cut, Pieces, WriteFault, group_len, put_moof, room, write_index, write_mdat_header, write_moof,
 };
-use mp4_ends::Sink;
 use mp4_ends::ends::ToVec;
+use mp4_ends::{Failed, Sink};
 use mp4_frag::{Moof, Run, Steps, Traf};
 use mp4_init::{TrackList, tracks};
 use mp4_ledger::Ledger;
+use mp4_machine::{BLOCK_BYTES, Block};
 use std::alloc::Global;
 use std::process::Abort;
 use std::test::Fail;
@@ -311,6 +312,123 @@ fn an_mdat_has_a_header(rt: HostRuntime) -> Result<(), Fail> {
         let mut w = ToVec::new(rt.alloc(), 100, 3, true)?;
         assert_eq!(rt; write_mdat_header(media, &mut w), Ok(()));
         assert_eq!(rt; w.bytes(), expected);
+    }
+    Ok(())
+}
+
+/// Puts the moof of the first piece behind what waits.
+fn put_first<W: Sink>(
+    run: &Run,
+    held: &[u8],
+    cut: &Cut,
+    block: &mut Block,
+    w: &mut W,
+) -> Result<(), Failed>
+    requires { IsRunOf held.now run.now }
+{
+    let Some(first) = Pieces::of(run, held, cut).next() else {
+        return Ok(());
+    };
+    put_moof(&first, run, held, 1, block, w)
+}
+
+/// What became of a moof that was put behind bytes that wait.
+#[derive(Clone, Copy, Debug, PartialEq, Eq)]
+struct Gone {
+    /// Whether the sink failed meanwhile.
+    failed: bool,
+    /// How many bytes had gone out when it was put.
+    out: usize,
+    /// How many bytes waited then.
+    waits: usize,
+}
+
+/// Puts the moof of the first piece of a moof behind so many bytes that wait, on its way to a sink with so much room.
+fn gone_by(
+    alloc: Global,
+    list: &TrackList,
+    moof: &[u8],
+    cut: &Cut,
+    waiting: usize,
+    room: usize,
+) -> Result<Gone, Fail> {
+    if moof.len() > 67_108_864 || !is_box(moof) {
+        return Err("no box".into());
+    }
+    let mut steps = Steps { rows: 0 };
+    let Ok(read) = Moof::read(moof, 364, list, &mut steps) else {
+        return Err("a fault".into());
+    };
+    let Some(run) = first_run(&read, moof, list, cut) else {
+        return Err("no run".into());
+    };
+    let mut w = ToVec::new(alloc, room, 1 << 20, true)?;
+    let mut block = Block::new();
+    let filler = [b'-'; BLOCK_BYTES];
+    let (filler, _) = filler.as_slice().split_at(waiting.min(BLOCK_BYTES));
+    let _ = block.put(&mut w, filler);
+    let failed = put_first(&run, moof, cut, &mut block, &mut w).is_err();
+    let out = w.bytes().len();
+    let _ = block.send(&mut w);
+    let waits = w.bytes().len().saturating_sub(out);
+    Ok(Gone { failed, out, waits })
+}
+
+/// The same of a piece of so many samples, which have all fields.
+fn gone_of(alloc: Global, samples: u32, waiting: usize, room: usize) -> Result<Gone, Fail> {
+    let mut fields = Vec::new(alloc);
+    fields.extend_from_slice(b"\0\0\x0f\x01")?;
+    fields.extend_from_slice(&samples.to_be_bytes())?;
+    fields.extend_from_slice(b"\0\0\0\x68")?;
+    for _ in 0..samples {
+        fields.extend_from_slice(b"\0\0\x04\0\0\0\0\x05\x02\0\0\0\0\0\0\0")?;
+    }
+    let mut trun = Vec::new(alloc);
+    push_box(&mut trun, b"trun", &[fields.as_slice()])?;
+    let moof = one_traf(alloc, &[TFHD, TFDT, trun.as_slice()])?;
+    let moov = &V1.as_slice()[20..364];
+    if !is_box(moov) {
+        return Err("no box".into());
+    }
+    let Some(cut) = Cut::new(samples, None, false) else {
+        return Err("no such cut".into());
+    };
+    let mut ledger = Ledger::new(alloc, 1000);
+    match tracks(&mut ledger, moov, 20) {
+        Ok(list) => {
+            let told = gone_by(alloc, &list, moof.as_slice(), &cut, waiting, room);
+            list.back(&mut ledger);
+            told
+        }
+        Err(_) => Err("no tracks".into()),
+    }
+}
+
+// As where the fields of each sample are put by themselves.
+#[test]
+fn a_moof_goes_out_sample_by_sample(rt: HostRuntime) -> Result<(), Fail> {
+    let alloc = rt.alloc();
+    for (samples, waiting, room, failed, out, waits) in [
+        // 200 bytes of room: the front and six samples fill it.
+        (10, 16_184, 100_000, false, 16_372, 64),
+        (255, 12_216, 100_000, false, 16_372, 16),
+        (50, 16_000, 16_092, true, 16_092, 0),
+        (50, 16_000, 16_379, true, 16_379, 0),
+        (50, 16_000, 16_380, false, 16_380, 0),
+        // All fill the block, and wait.
+        (10, 16_132, 100_000, false, 0, 16_384),
+        (11, 16_132, 100_000, false, 16_384, 16),
+        // The front leaves two bytes of room.
+        (10, 16_290, 100_000, false, 16_382, 160),
+        (2_100, 0, 100_000, false, 32_764, 928),
+        (2_100, 0, 32_763, true, 32_763, 0),
+    ] {
+        let told = gone_of(alloc, samples, waiting, room)?;
+        assert_eq!(rt;
+            told,
+            Gone { failed, out, waits },
+            "{samples} behind {waiting} into {room}"
+        );
     }
     Ok(())
 }

@@ -1,5 +1,5 @@
 -- Working: a fragment of which a piece has all: a moof with one run, and its mdat.
-use Rattle.std.specs.Prelude.{◌≡◌, ℕ, ◌+◌, ◌-◌, ◌≤◌, ◌^◌, false, List, [], ◌∷◌, length, take, drop, true, Some, None}
+use Rattle.std.specs.Prelude.{◌≡◌, ℕ, ◌+◌, ◌-◌, ◌*◌, ◌≤◌, ◌^◌, false, List, [], ◌∷◌, length, take, drop, true, Some, None}
 use Rattle.std.specs.List.{list_all}
 use Rattle.mp4_box.specs.Headers.{IsBytes, header_at}
 use Rattle.mp4_box.specs.Paths.{at_path}
@@ -9,11 +9,12 @@ use Rattle.mp4_box.specs.declared.headers.Step.TheVariants as steps
 use Rattle.mp4_init.specs.declared.table.Track.{Track}
 use Rattle.mp4_frag.specs.Kinds.{traf}
 use Rattle.mp4_frag.specs.LoneRuns.{IsLone}
-use Rattle.mp4_frag.specs.Moofs.{IsRead, moof_of, moof_samples}
+use Rattle.mp4_frag.specs.Moofs.{IsRead, moof_of, moof_samples, moof_truns}
 use Rattle.mp4_frag.specs.Places.{place_fault}
 use Rattle.mp4_frag.specs.Rules.{most_samples}
 use Rattle.mp4_frag.specs.Runs.{MoofBytes, begins_early, moof_at}
 use Rattle.mp4_frag.specs.declared.lone.LoneRun.{LoneRun}
+use Rattle.mp4_ledger.specs.Memory.{Account}
 use Rattle.mp4_run_order.specs.declared.runs.Payload.{Payload}
 use Rattle.mp4_machine.specs.Bodies.{longest}
 use Rattle.mp4_grammar.specs.Kinds.{kind_in, most_moof}
@@ -48,10 +49,16 @@ pub record AreBoxes (at : ℕ) (piece : List ℕ) (b : Boxes) : Type 0 where
   pub valid : IsBytes b.moof.now
   pub mdat : StandsFirst Mdat (at + span.size) (drop span.size piece) b.mdat
 
--- the runs of a moof are looked at where it lies: nothing is at fault with it, and each traf has a time of its own before tick 2^63
-pub record MayBeLookedAt (h : MoofBytes) (tracks : List Track) : Type 0 where
+-- a moof and the list of its runs may be claimed
+abbrev pub MayBeListed : MoofBytes → Account → Type 0
+MayBeListed h a = a.live + (length h.bytes + 64 * moof_truns h) ≤ a.limit
+
+-- the runs of a moof are looked at where it lies: nothing is at fault with it, each traf has a time of its own before tick 2^63, and the
+-- list of its runs wouldn't pass the limit
+pub record MayBeLookedAt (h : MoofBytes) (tracks : List Track) (a : Account) : Type 0 where
   pub read : IsRead h tracks
   pub early : list_all begins_early (at_path (traf ∷ []) (moof_of h)) ≡ true
+  pub listed : MayBeListed h a
 
 -- it was so looked at: for its rules no row was read, and for its runs so many, that of each sample once
 pub record WasLookedAt (h : MoofBytes) (tracks : List Track) (rows : ℕ) : Type 0 where

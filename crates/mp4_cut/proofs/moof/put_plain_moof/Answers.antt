@@ -45,7 +45,7 @@ returns-in-Some g c =
     let same : c.in-Some.groups.now ≡ samples = search rules in
     let whole = ap (λ (x : List ℕ). front ++ x) same
     ∙ (ap (λ (x : List ℕ). x ++ samples) (c.whole-front.ensures ∙ c.moof_front.ensures.bytes) ∙ sym (front_is c.args.held.now c.args.run.now c.args.piece.now c.args.sequence_number c.requires.piece)) in
-    Puts-then c.in-Ok.ensures _ _ _ c.in-Some.groups.now moof whole c.put.result c.put.ensures
+    Puts-then c.in-Ok.ensures _ _ _ c.in-Some.groups.now moof whole c.put_groups.result c.put_groups.ensures.puts
 
 pub returns : goal.returns
 returns g c =

@@ -1,5 +1,5 @@
-use Rattle.std.proofs.Common.{◌≡◌, ◌∙◌, ◌∷◌, [], Bool, true, false, length, List, Option, sym, ap, subst}
-use Rattle.std.specs.List.{AllByRecursion, flat_map, list_all, list_any, sum_by}
+use Rattle.std.proofs.Common.{◌≡◌, ◌∙◌, ◌∷◌, [], Bool, true, false, length, List, Option, sym, ap, subst, arith}
+use Rattle.std.specs.List.{AllByRecursion, flat_map, list_all, sum_by}
 use Rattle.std.proofs.lemmas.List.Sums.{sum_by-cons}
 use Rattle.mp4_box.specs.declared.rules.Fault.{Fault}
 use Rattle.mp4_box.specs.Order.{least_from}
@@ -8,9 +8,10 @@ use Rattle.mp4_box.specs.Trees.{Box, box_len, view}
 use Rattle.mp4_box.proofs.OrderLemmas.{least_from_append}
 use Rattle.mp4_frag.specs.Working.AtOnce.{Adds, TrafHasTicks, faults_in_moof, in_trafs, is_complete, most_64}
 use Rattle.mp4_frag.specs.Kinds.{mfhd, traf}
-use Rattle.mp4_frag.specs.Repeats.{lacks_time}
+use Rattle.mp4_frag.specs.Repeats.{untimed_ids}
 use Rattle.mp4_frag.proofs.AddLemmas.{adds_nothing, adds_on, count_append, moof_adds}
-use Rattle.mp4_frag.proofs.AtOnceLemmas.{complete_more, timed_first, trafs_first}
+use Rattle.mp4_frag.proofs.AtOnceLemmas.{complete_more, trafs_first}
+use Rattle.mp4_frag.proofs.PassLemmas.{count_next, no_more}
 use Rattle.mp4_frag.proofs.at_once.note_moof.Goals as goal
 use Rattle.mp4_frag.proofs.at_once.note_moof.Goals.{then-note_in_moof, else-note_in_moof}
 
@@ -42,9 +43,8 @@ loop-child-preserved c =
       adds = λ s rest. old.invariant.adds s (subst (λ (zs : List Box). Adds (in_trafs zs) old.sound s) (sym first) (moof_adds b bs old.sound c.note_in_moof.new.sound s here.adds rest));
       trafs = λ so rest.
           old.invariant.trafs (both c so).1 (ap (λ (zs : List Box). list_all is_complete (of_kind traf zs)) first ∙ complete_more b bs (here.complete (both c so).0) rest);
-      timed = λ so none rest.
-          old.invariant.timed (both c so).1 (here.untimed none)
-          (ap (λ (zs : List Box). list_any lacks_time (of_kind traf zs)) first ∙ timed_first b bs (here.timed (both c so).0 none) rest);
+      untimed = λ so.
+          adds_on most_64 old.untimed _ _ _ _ _ (ap (λ (zs : List Box). length (untimed_ids (of_kind traf zs))) first ∙ count_next b bs) (here.count (both c so).0) (old.invariant.untimed (both c so).1);
       mfhds = adds_on most_64 old.mfhds _ _ _ _ _ (ap (λ (zs : List Box). length (of_kind mfhd zs)) first ∙ count_append mfhd (b ∷ []) bs) c.count_kind.ensures old.invariant.mfhds;
       len = adds_on most_64 old.len _ _ _ _ _ (ap (sum_by box_len) first ∙ sum_by-cons box_len b bs) c.add_len.ensures old.invariant.len;
     }
@@ -57,3 +57,9 @@ returns-clause-best c =
 pub returns-clause-adds : goal.returns-clause-adds
 returns-clause-adds c =
     c.loop-child.invariant.adds c.loop-child.sound (subst (λ (zs : List Box). Adds (in_trafs zs) c.loop-child.sound c.loop-child.sound) (sym c.in-None.ensures.steps.0) (adds_nothing c.loop-child.sound))
+
+pub returns-clause-count : goal.returns-clause-count
+returns-clause-count c = λ so small.
+    let all = c.loop-child.invariant.untimed (c.all_hold.ensures so).0 small in
+    let over = ap (λ (zs : List Box). length (untimed_ids (of_kind traf zs))) c.in-None.ensures.steps.0 in
+    omega (arith, all, over, no_more 0)

@@ -1,12 +1,12 @@
-use Rattle.std.proofs.Common.{◌≡◌, true, false, length}
-use Rattle.std.specs.List.{AllByRecursion, flat_map, list_all, list_any, sum_by}
+use Rattle.std.proofs.Common.{◌≡◌, ◌+◌, true, length}
+use Rattle.std.specs.List.{AllByRecursion, flat_map, list_all, sum_by}
 use Rattle.mp4_box.specs.Order.{least_from}
 use Rattle.mp4_box.specs.Paths.{of_kind}
 use Rattle.mp4_box.specs.Trees.{view, box_len, children}
 use Rattle.mp4_frag.specs.declared.at_once.Sound.{Sound}
 use Rattle.mp4_frag.specs.Working.AtOnce.{Adds, TrafHasTicks, faults_in_moof, in_trafs, is_complete, most_64}
 use Rattle.mp4_frag.specs.Kinds.{mfhd, traf}
-use Rattle.mp4_frag.specs.Repeats.{lacks_time}
+use Rattle.mp4_frag.specs.Repeats.{untimed_ids}
 use Rattle.mp4_frag.proofs.AddLemmas.{AddsUp}
 use Rattle.mp4_frag.proofs.at_once.note_moof.Given as goal
 
@@ -16,7 +16,7 @@ invariant-loop-child l = record {
   ticks : AllByRecursion (TrafHasTicks l.tracks) (of_kind traf l.child-iterator) → AllByRecursion (TrafHasTicks l.tracks) (of_kind traf (children (view l.moof)));
   adds : (s : Sound) → Adds (in_trafs l.child-iterator) l.sound s → Adds (in_trafs (children (view l.moof))) l.fn.sound s;
   trafs : l.complete ≡ true → list_all is_complete (of_kind traf l.child-iterator) ≡ true → list_all is_complete (of_kind traf (children (view l.moof))) ≡ true;
-  timed : l.complete ≡ true → l.untimed ≡ 0 → list_any lacks_time (of_kind traf l.child-iterator) ≡ false → list_any lacks_time (of_kind traf (children (view l.moof))) ≡ false;
+  untimed : l.complete ≡ true → AddsUp most_64 l.untimed (length (untimed_ids (of_kind traf l.child-iterator))) (l.fn.untimed + length (untimed_ids (of_kind traf (children (view l.moof)))));
   mfhds : AddsUp most_64 l.mfhds (length (of_kind mfhd l.child-iterator)) (length (of_kind mfhd (children (view l.moof))));
   len : AddsUp most_64 l.len (sum_by box_len l.child-iterator) (sum_by box_len (children (view l.moof)));
 }

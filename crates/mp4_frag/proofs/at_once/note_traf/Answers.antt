@@ -10,7 +10,7 @@ use Rattle.mp4_box.proofs.OrderLemmas.{least_from_append}
 use Rattle.mp4_frag.specs.Working.AtOnce.{Adds, HasTicks, faults_in_traf, most_64}
 use Rattle.mp4_frag.specs.Kinds.{tfdt, tfhd}
 use Rattle.mp4_frag.proofs.AddLemmas.{adds_append, adds_nothing, adds_on, count_append}
-use Rattle.mp4_frag.proofs.AtOnceLemmas.{has_time, ticks_first}
+use Rattle.mp4_frag.proofs.AtOnceLemmas.{ticks_first, untimed_one}
 use Rattle.mp4_frag.proofs.at_once.note_traf.Goals as goal
 
 pub loop-child-preserved : goal.loop-child-preserved
@@ -43,11 +43,11 @@ pub returns-clause-adds : goal.returns-clause-adds
 returns-clause-adds c =
     c.loop-child.invariant.adds c.loop-child.sound (subst (λ (zs : List Box). Adds zs c.loop-child.sound c.loop-child.sound) (sym c.in-None.ensures.steps.0) (adds_nothing c.loop-child.sound))
 
-pub returns-clause-timed : goal.returns-clause-timed
-returns-clause-timed c = λ so none.
+pub returns-clause-count : goal.returns-clause-count
+returns-clause-count c = λ so.
     let t = view c.args.traf.now in
     let held = (c.all_hold.ensures so).1 in
     let few : c.loop-child.tfdts ≤ 1 = grind (arith, nat_tests) in
     let all = c.loop-child.invariant.tfdts (omega (arith, few)) in
     let counted : c.loop-child.tfdts ≡ length (of_kind tfdt (children t)) = omega (arith, all, ap (λ (zs : List Box). length (of_kind tfdt zs)) c.in-None.ensures.steps.0) in
-    has_time t (λ (e : length (of_kind tfdt (children t)) ≡ 0). c.count_untimed.ensures.here none (counted ∙ e))
+    untimed_one t c.loop-child.tfdts c.args.untimed.now c.count_untimed.new.untimed counted c.count_untimed.ensures.none c.count_untimed.ensures.some
