@@ -280,8 +280,9 @@ impl<'a> Moof<'a> {
 
     /// What its runs come to, where each with samples lies in the payload and begins where those with samples that are listed
     /// before it end, or behind that; none where one doesn't. Such runs all stand where they may ([`Moof::places`]), and no list
-    /// of them is claimed to say so. `tracks` are those that it was read with. Its samples are counted in `steps` as rows that
-    /// were read, as [`Moof::list`] counts them, also where there is nothing to answer.
+    /// of them is claimed to say so. `tracks` are those that it was read with, and each of its trafs begins early
+    /// ([`Moof::begins_early`]). Its samples are counted in `steps` as rows that were read, as [`Moof::list`] counts them, also
+    /// where there is nothing to answer.
     #[inline(always)]
     pub fn following(
         &self,
@@ -290,6 +291,7 @@ impl<'a> Moof<'a> {
         steps: &mut Steps,
     ) -> Option<Following>
         requires read { IsRead self.now tracks.now }
+        requires early { list_all begins_early (at_path (traf ∷ []) (moof_of self.now)) ≡ true }
         requires steps { steps.old.rows < 2 ^ 127 }
         ensures some { IsSome result → AllFollow payload (moof_listing self.now tracks.now) }
         ensures all { AllFollow payload (moof_listing self.now tracks.now) → IsSome result }
