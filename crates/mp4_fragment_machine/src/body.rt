@@ -116,27 +116,6 @@ pub(crate) fn end_body(
     count
 }
 
-/// Takes bytes of a body from the front of a piece: all that are there.
-pub(crate) fn take_body(
-    body: Body,
-    waiting: Option<Waiting>,
-    piece: &[u8],
-    kept: &mut Kept,
-    ledger: &mut Ledger,
-) -> Taken
-    requires some { 0 < length piece.now }
-    requires state { IsState kept.old.tracks kept.old.head (states.Body body waiting) }
-    requires can { CanStep kept.old ledger.old (states.Body body waiting) }
-    ensures consumes { (u : Unlent) → Consumes (lent_ledger u ledger.old ledger.new)
-        kept.old kept.new (states.Body body waiting) piece.now (Ok result) }
-    ensures count { result.count ≡ min body.left (length piece.now) }
-{
-    let mut body = body;
-    let count = body.take(piece);
-    let state = arrive(body, waiting, kept, ledger);
-    Taken { count, state }
-}
-
 /// Takes a piece of a body that goes to the end of the stream.
 ///
 /// # Errors

@@ -48,8 +48,8 @@ use std::mem::replace;
 pub struct FragmentMachine {
     pub(crate) kept: Kept,
     pub(crate) state: State,
-    /// For how many fragments there is no look where they lie, since the last was in vain. No answer depends on it.
-    pub(crate) pause: u8,
+    /// For how many bytes of moofs there is no look where they lie, since the last was in vain. No answer depends on it.
+    pub(crate) pause: u64,
 }
 
 // A contract sees where it is and what it has counted.
@@ -273,7 +273,8 @@ impl FragmentMachine {
         }
     }
 
-    /// Takes a few bytes from the front of a piece, wherever it stands but in an mdat that is recut and states its size: how many.
+    /// Takes a few bytes from the front of a piece, wherever it stands but in a body that states its size and is passed over or
+    /// recut: how many.
     ///
     /// # Errors
     ///
@@ -287,7 +288,8 @@ impl FragmentMachine {
     ) -> Result<usize, Stop>
         requires some { 0 < length piece.now }
         requires claim { claim_of (place_in self.old) ≤ ledger.old.live }
-        requires elsewhere { (r : Recutting) → self.old.state ≡ states.Media r → ⊥ }
+        requires body { (b : Body) (w : Option Waiting) → self.old.state ≡ states.Body b w → ⊥ }
+        requires media { (r : Recutting) → self.old.state ≡ states.Media r → ⊥ }
         ensures { Feeds (around (sent W.contents W.has_failed w.old w.new) out.old out.new
             ledger.old ledger.new self.old.counter.tally self.new.counter.tally)
             self.old self.new piece.now result }

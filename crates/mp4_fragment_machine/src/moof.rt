@@ -14,6 +14,7 @@ ghost use Rattle.mp4_fragment_machine.specs.Working.Steps.{Advances, CanStep, Wa
 ghost use Rattle.mp4_fragment_machine.specs.Working.Wholes.{WasLookedAt};
 ghost use Rattle.mp4_fragment_machine.specs.declared.state.State.TheVariants as states;
 
+use crate::look::Looked;
 use crate::state::{Counter, Kept, State, Waiting};
 use mp4_box::Fault;
 use mp4_frag::Moof;
@@ -21,15 +22,15 @@ use mp4_init::TrackList;
 use mp4_ledger::Ledger;
 use mp4_machine::{Held, Stop};
 
-/// Reads a moof, and claims the list of its runs: it waits for its mdat then. Where it is refused it is given back. `looked`: how
-/// many rows were looked at in vain where it lies, if some were.
+/// Reads a moof, and claims the list of its runs: it waits for its mdat then. Where it is refused it is given back. `looked`: what
+/// was found in it where it lies, if it was looked at there.
 ///
 /// # Errors
 ///
 /// `Stream` where it is at fault; `OverLimit` or `Memory` where the claim of the list is refused.
 pub(crate) fn wait(
     held: Held,
-    looked: Option<u32>,
+    looked: Option<Looked>,
     kept: &mut Kept,
     ledger: &mut Ledger,
 ) -> Result<Waiting, Stop>
@@ -89,15 +90,15 @@ pub(crate) fn take_moof(held: Held, kept: &mut Kept, ledger: &mut Ledger) -> Res
     }
 }
 
-/// Reads a moof of which all came, and counts its samples as walked, once they were looked at. Where that was done in vain where it
-/// lies, nothing is at fault with it; those rows are counted then, and it is only told again.
+/// Reads a moof of which all came, and counts its samples as walked, once they were looked at. Where it was looked at where it lies,
+/// those rows are counted, and what was found is told again.
 ///
 /// # Errors
 ///
 /// What is at fault with it.
 fn read_moof<'a>(
     held: &'a Held,
-    looked: Option<u32>,
+    looked: Option<Looked>,
     tracks: &TrackList,
     counter: &mut Counter,
 ) -> Result<Moof<'a>, Fault>
@@ -124,10 +125,11 @@ fn read_moof<'a>(
         moof_samples (moof_at held.now.bytes held.now.at) ≤ most_samples }
     ensures fragments { counter.new.tally.fragments ≡ counter.old.tally.fragments }
 {
-    if let Some(rows) = looked {
-        counter.steps.rows += u128::from(rows);
-        counter.tally.walked += u128::from(rows);
-        return Ok(Moof::again(held.bytes(), held.offset(), tracks));
+    if let Some(looked) = looked {
+        return match looked.count(counter) {
+            Ok(()) => Ok(Moof::again(held.bytes(), held.offset(), tracks)),
+            Err(fault) => Err(fault),
+        };
     }
     let before = counter.steps.rows;
     let read = Moof::read(held.bytes(), held.offset(), tracks, &mut counter.steps);

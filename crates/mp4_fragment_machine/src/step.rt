@@ -1,13 +1,15 @@
 //! How a machine takes bytes, by its state.
 
-ghost use Rattle.std.specs.Prelude.{◌≡◌, ◌<◌, ◌≤◌, length};
+ghost use Rattle.std.specs.Prelude.{◌≡◌, ◌<◌, ◌≤◌, Option, length};
 ghost use Rattle.mp4_ledger.specs.Memory.{given_back};
+ghost use Rattle.mp4_machine.specs.declared.body.Body.{Body};
 ghost use Rattle.mp4_fragment_machine.specs.States.{IsState, kept_by};
 ghost use Rattle.mp4_fragment_machine.specs.Working.Steps.{CanStep, Consumes, lent};
 ghost use Rattle.mp4_fragment_machine.specs.declared.state.Recutting.{Recutting};
 ghost use Rattle.mp4_fragment_machine.specs.declared.state.State.TheVariants as states;
+ghost use Rattle.mp4_fragment_machine.specs.declared.state.Waiting.{Waiting};
 
-use crate::body::{back, take_body, take_open};
+use crate::body::{back, take_open};
 use crate::copied_box::{take_copied, take_open_copied};
 use crate::header::take_header;
 use crate::held_box::take_held;
@@ -18,8 +20,8 @@ use mp4_ends::Sink;
 use mp4_ledger::Ledger;
 use mp4_machine::{Block, Stop};
 
-/// Takes bytes from the front of a piece, but none of an mdat that is recut and states its size: those are taken in place. Where
-/// it stops, all but the table of the tracks is given back.
+/// Takes bytes from the front of a piece, but none of a body that states its size and is passed over or recut: those are taken in
+/// place. Where it stops, all but the table of the tracks is given back.
 ///
 /// # Errors
 ///
@@ -37,7 +39,8 @@ pub(crate) fn take_next<W: Sink>(
     requires some { 0 < length piece.now }
     requires state { IsState kept.old.tracks kept.old.head state }
     requires can { CanStep kept.old ledger.old state }
-    requires elsewhere { (r : Recutting) → state ≡ states.Media r → ⊥ }
+    requires body { (b : Body) (w : Option Waiting) → state ≡ states.Body b w → ⊥ }
+    requires media { (r : Recutting) → state ≡ states.Media r → ⊥ }
     ensures { Consumes (lent W.contents W.has_failed w.old w.new out.old out.new ledger.old ledger.new)
         kept.old kept.new state piece.now result }
 {
@@ -45,7 +48,6 @@ pub(crate) fn take_next<W: Sink>(
         State::Header { at } => take_header(at, piece, kept, ledger, out, w),
         State::Holding(held) => take_held(held, piece, kept, ledger, out, w),
         State::Behind(waiting) => take_mdat_header(waiting, piece, kept, ledger, out, w),
-        State::Body(body, waiting) => Ok(take_body(body, waiting, piece, kept, ledger)),
         State::OpenBody(body, waiting) => take_open(body, waiting, piece, kept, ledger),
         State::Copied(body) => take_copied(body, piece, kept, out, w),
         State::OpenCopied(body) => take_open_copied(body, piece, kept, out, w),

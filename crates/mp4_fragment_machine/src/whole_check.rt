@@ -4,7 +4,8 @@
 //! asked for.
 //!
 //! If they don't, as where the runs of two tracks take turns in the mdat, the look was in vain. Its rows are counted, and the fragment
-//! is taken as others are, but that its rules aren't gone over again. Then some fragments are taken without a look.
+//! is taken as others are, but that its rules aren't gone over again. Then some fragments are taken without a look. Nor are the rules
+//! gone over again where the moof breaks one.
 
 ghost use Rattle.std.specs.Prelude.{◌≡◌, ◌+◌, ◌*◌, ◌≤◌, ◌↔◌, [], length, true, Err, None, Ok, Some, IfErr, IfOk, IfSome, OnErr, OnOk};
 ghost use Rattle.mp4_box.specs.declared.headers.Header.{Header};
@@ -28,6 +29,7 @@ ghost use Rattle.mp4_fragment_machine.specs.Working.Wholes.{AreBoxes, MayBeListe
 ghost use Rattle.mp4_fragment_machine.specs.declared.state.State.TheVariants as states;
 
 use crate::listed_fragment::count;
+use crate::look::Looked;
 use crate::machine::FragmentMachine;
 use crate::slot::go_to;
 use crate::state::{Counter, Kept};
@@ -41,8 +43,9 @@ use mp4_recut::Plan;
 /// No moof that is held has so many runs.
 const MOST_RUNS: u64 = 1 << 32;
 
-/// How many fragments are taken without a look behind one that was looked at in vain: its cost is shared among them.
-const PAUSE: u8 = 31;
+/// Behind a moof that was looked at in vain, moofs of so many times its bytes are taken without a look: its cost is shared among
+/// them.
+const PAUSE: u64 = 31;
 
 /// A fragment that was counted: its moof, and where the trafs of the moof end.
 #[derive(Drop)]
@@ -66,7 +69,7 @@ fn may_be_listed(moof: &Moof<'_>, ledger: &Ledger) -> bool
 ///
 /// # Errors
 ///
-/// Where it isn't counted: how many rows were looked at in vain, if some were.
+/// Where it isn't counted: what was found in its moof, if that was looked at.
 #[inline(always)]
 fn count_checked<'a>(
     at: u64,
@@ -75,7 +78,7 @@ fn count_checked<'a>(
     tracks: &TrackList,
     counter: &mut Counter,
     ledger: &mut Ledger,
-) -> Result<Counted<'a>, Option<u32>>
+) -> Result<Counted<'a>, Option<Looked>>
     requires are { AreBoxes at piece.now boxes.now }
     requires counted { IsCounted (plans.List Check) counter.old at 0 0 }
     ensures moof { IfOk result (λ c. c.moof ≡ moof_at boxes.now.moof.now at) }
@@ -96,18 +99,22 @@ fn count_checked<'a>(
     ensures none { OnErr result (ledger.new ≡ ledger.old) }
     ensures looked { IfErr result (λ l. IfSome l
         (WasLookedAt (moof_at boxes.now.moof.now at) tracks.now)) }
-    ensures listed { IfErr result (λ l. IfSome l (λ _.
+    ensures listed { IfErr result (λ l. IfSome l (λ looked. looked.fault ≡ None →
         MayBeListed (moof_at boxes.now.moof.now at) ledger.old)) }
-    ensures unlooked { result ≡ Err None →
-        MayBeLookedAt (moof_at boxes.now.moof.now at) tracks.now ledger.old → ⊥ }
+    ensures unlooked { result ≡ Err None → MayBeListed (moof_at boxes.now.moof.now at) ledger.old →
+        MayBeLookedAt (moof_at boxes.now.moof.now at) → ⊥ }
 {
     // So that no row is read for the rules, but only where the runs are looked at.
     if !Moof::begins_early(boxes.moof, at) {
         return Err(None);
     }
+    let before = counter.steps.rows;
     let moof = match Moof::read(boxes.moof, at, tracks, &mut counter.steps) {
         Ok(moof) => moof,
-        Err(_) => return Err(None),
+        Err(fault) => {
+            let rows = counter.steps.rows - before;
+            return Err(Some(Looked::of(rows as u32, Some(fault))));
+        }
     };
     // A list that would pass the limit is refused before a row is read.
     if !may_be_listed(&moof, ledger) {
@@ -116,14 +123,14 @@ fn count_checked<'a>(
     let mut looked = Steps { rows: 0 };
     let payload = payload_behind(at, boxes, piece);
     let Some(following) = moof.following(payload, tracks, &mut looked) else {
-        return Err(Some(looked.rows as u32));
+        return Err(Some(Looked::of(looked.rows as u32, None)));
     };
     if following.runs > MOST_RUNS {
-        return Err(Some(looked.rows as u32));
+        return Err(Some(Looked::of(looked.rows as u32, None)));
     }
     match ledger.count_claim(boxes.moof.len() as u64 + following.runs * ROW) {
         Ok(()) => {}
-        Err(_) => return Err(Some(looked.rows as u32)),
+        Err(_) => return Err(Some(Looked::of(looked.rows as u32, None))),
     }
     counter.steps.rows += looked.rows;
     let samples = u64::from(moof.samples());
@@ -146,7 +153,7 @@ pub(crate) fn check_fragment(
     piece: &[u8],
     kept: &mut Kept,
     ledger: &mut Ledger,
-) -> Result<u64, Option<u32>>
+) -> Result<u64, Option<Looked>>
     requires known { kept.old.tracks ≡ Some (known kept.old.tracks) }
     requires are { AreBoxes at piece.now boxes.now }
     requires empty { kept.old.head ≡ [] }
@@ -157,10 +164,10 @@ pub(crate) fn check_fragment(
     ensures none { OnErr result ((kept.new ≡ kept.old) × (ledger.new ≡ ledger.old)) }
     ensures looked { IfErr result (λ l. IfSome l
         (WasLookedAt (moof_at boxes.now.moof.now at) (known kept.old.tracks))) }
-    ensures listed { IfErr result (λ l. IfSome l (λ _.
+    ensures listed { IfErr result (λ l. IfSome l (λ looked. looked.fault ≡ None →
         MayBeListed (moof_at boxes.now.moof.now at) ledger.old)) }
-    ensures unlooked { result ≡ Err None →
-        MayBeLookedAt (moof_at boxes.now.moof.now at) (known kept.old.tracks) ledger.old → ⊥ }
+    ensures unlooked { result ≡ Err None → MayBeListed (moof_at boxes.now.moof.now at) ledger.old →
+        MayBeLookedAt (moof_at boxes.now.moof.now at) → ⊥ }
 {
     let Some(list) = &mut kept.tracks else {
         unreachable!();
@@ -180,7 +187,7 @@ impl FragmentMachine {
     ///
     /// # Errors
     ///
-    /// Where nothing is taken: how many rows were looked at in vain, if some were.
+    /// Where nothing is taken: what was found in the moof, if that was looked at.
     #[inline(always)]
     pub(crate) fn check_whole(
         &mut self,
@@ -188,7 +195,7 @@ impl FragmentMachine {
         boxes: &Boxes<'_>,
         ledger: &mut Ledger,
         piece: &[u8],
-    ) -> Result<usize, Option<u32>>
+    ) -> Result<usize, Option<Looked>>
         requires state { self.old.state ≡ states.Header at }
         requires head { self.old.head ≡ [] }
         requires known { self.old.tracks ≡ Some (known self.old.tracks) }
@@ -206,7 +213,7 @@ impl FragmentMachine {
             _ => return Err(None),
         }
         if self.pause > 0 {
-            self.pause -= 1;
+            self.pause = self.pause.saturating_sub(boxes.moof.len() as u64);
             return Err(None);
         }
         match check_fragment(at, boxes, piece, &mut self.kept, ledger) {
@@ -215,7 +222,7 @@ impl FragmentMachine {
                 Ok(size as usize)
             }
             Err(looked) => {
-                self.pause = PAUSE;
+                self.pause = PAUSE.saturating_mul(boxes.moof.len() as u64);
                 Err(looked)
             }
         }

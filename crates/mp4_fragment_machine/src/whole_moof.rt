@@ -13,6 +13,7 @@ ghost use Rattle.mp4_fragment_machine.specs.Working.Steps.{CanStep, Consumes, Wa
 ghost use Rattle.mp4_fragment_machine.specs.Working.Wholes.{StandsFirst, WasLookedAt};
 ghost use Rattle.mp4_fragment_machine.specs.declared.state.State.TheVariants as states;
 
+use crate::look::Looked;
 use crate::machine::FragmentMachine;
 use crate::mdat_header::take_mdat_header;
 use crate::moof::wait;
@@ -33,7 +34,7 @@ fn hold_whole(
     at: u64,
     moof: &Span,
     piece: &[u8],
-    looked: Option<u32>,
+    looked: Option<Looked>,
     kept: &mut Kept,
     ledger: &mut Ledger,
 ) -> Result<Waiting, Stop>
@@ -54,7 +55,10 @@ fn hold_whole(
             Ok(waiting) => Ok(waiting),
             Err(stop) => Err(stop),
         },
-        Err(refused) => Err(Stop::of_refusal(refused)),
+        Err(refused) => {
+            Looked::leave_out(looked, &refused);
+            Err(Stop::of_refusal(refused))
+        }
     }
 }
 
@@ -67,7 +71,7 @@ pub(crate) fn take_whole_moof<W: Sink>(
     at: u64,
     moof: &Span,
     piece: &[u8],
-    looked: Option<u32>,
+    looked: Option<Looked>,
     kept: &mut Kept,
     ledger: &mut Ledger,
     out: &mut Block,
@@ -114,7 +118,7 @@ impl FragmentMachine {
         &mut self,
         at: u64,
         moof: &Span,
-        looked: Option<u32>,
+        looked: Option<Looked>,
         ledger: &mut Ledger,
         piece: &[u8],
         out: &mut Block,

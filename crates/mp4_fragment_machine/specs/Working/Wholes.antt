@@ -1,5 +1,5 @@
 -- Working: a fragment of which a piece has all: a moof with one run, and its mdat.
-use Rattle.std.specs.Prelude.{◌≡◌, ℕ, ◌+◌, ◌-◌, ◌*◌, ◌≤◌, ◌^◌, false, List, [], ◌∷◌, length, take, drop, true, Some, None}
+use Rattle.std.specs.Prelude.{◌≡◌, ℕ, ◌+◌, ◌-◌, ◌*◌, ◌≤◌, ◌^◌, false, List, [], ◌∷◌, length, take, drop, true, Some, None, IsSome}
 use Rattle.std.specs.List.{list_all}
 use Rattle.mp4_box.specs.Headers.{IsBytes, header_at}
 use Rattle.mp4_box.specs.Paths.{at_path}
@@ -9,7 +9,7 @@ use Rattle.mp4_box.specs.declared.headers.Step.TheVariants as steps
 use Rattle.mp4_init.specs.declared.table.Track.{Track}
 use Rattle.mp4_frag.specs.Kinds.{traf}
 use Rattle.mp4_frag.specs.LoneRuns.{IsLone}
-use Rattle.mp4_frag.specs.Moofs.{IsRead, moof_of, moof_samples, moof_truns}
+use Rattle.mp4_frag.specs.Moofs.{early_fault, moof_fault, moof_of, moof_samples, moof_truns}
 use Rattle.mp4_frag.specs.Places.{place_fault}
 use Rattle.mp4_frag.specs.Rules.{most_samples}
 use Rattle.mp4_frag.specs.Runs.{MoofBytes, begins_early, moof_at}
@@ -22,6 +22,7 @@ use Rattle.mp4_grammar.specs.declared.kinds.Kind.{Kind}
 use Rattle.mp4_grammar.specs.declared.kinds.Kind.TheVariants.{Moof, Mdat}
 use Rattle.mp4_recut.specs.declared.plan.Plan.{Plan}
 use Rattle.mp4_recut.specs.declared.plan.Plan.TheVariants as plans
+use Rattle.mp4_fragment_machine.specs.declared.look.Looked.{Looked}
 use Rattle.mp4_fragment_machine.specs.declared.whole_fragment.Boxes.{Boxes}
 use Rattle.mp4_fragment_machine.specs.declared.whole_fragment.Span.{Span}
 
@@ -53,19 +54,18 @@ pub record AreBoxes (at : ℕ) (piece : List ℕ) (b : Boxes) : Type 0 where
 abbrev pub MayBeListed : MoofBytes → Account → Type 0
 MayBeListed h a = a.live + (length h.bytes + 64 * moof_truns h) ≤ a.limit
 
--- the runs of a moof are looked at where it lies: nothing is at fault with it, each traf has a time of its own before tick 2^63, and the
--- list of its runs wouldn't pass the limit
-pub record MayBeLookedAt (h : MoofBytes) (tracks : List Track) (a : Account) : Type 0 where
-  pub read : IsRead h tracks
-  pub early : list_all begins_early (at_path (traf ∷ []) (moof_of h)) ≡ true
-  pub listed : MayBeListed h a
+-- a moof is looked at where it lies: each traf has a time of its own before tick 2^63
+abbrev pub MayBeLookedAt : MoofBytes → Type 0
+MayBeLookedAt h = list_all begins_early (at_path (traf ∷ []) (moof_of h)) ≡ true
 
--- it was so looked at: for its rules no row was read, and for its runs so many, that of each sample once
-pub record WasLookedAt (h : MoofBytes) (tracks : List Track) (rows : ℕ) : Type 0 where
-  pub all : rows ≡ moof_samples h
-  pub few : moof_samples h ≤ most_samples
-  pub read : IsRead h tracks
-  pub early : list_all begins_early (at_path (traf ∷ []) (moof_of h)) ≡ true
+-- it was so looked at, and this was found: its fault by all rules, and so many rows, that of each sample once where the rules but that
+-- of times are kept
+pub record WasLookedAt (h : MoofBytes) (tracks : List Track) (l : Looked) : Type 0 where
+  pub may : MayBeLookedAt h
+  pub fault : moof_fault h tracks ≡ l.fault
+  pub all : early_fault h tracks ≡ None → l.rows ≡ moof_samples h
+  pub few : early_fault h tracks ≡ None → moof_samples h ≤ most_samples
+  pub none : IsSome (early_fault h tracks) → l.rows ≡ 0
 
 -- a fragment at an offset, of which a piece has all, has these boxes, and its moof just this run, which stands where it may
 pub record IsFragment (at : ℕ) (tracks : List Track) (piece : List ℕ) (b : Boxes) (l : LoneRun) : Type 0 where

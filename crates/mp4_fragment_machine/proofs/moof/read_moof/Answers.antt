@@ -11,7 +11,7 @@ read-read-requires-clause-whole c =
     let held = c.args.held.now in
     rw c.bytes-2.ensures.bytes (begins_whole held.size held.bytes c.bytes-2.ensures.valid c.requires.begins c.requires.whole)
 
-pub returns-in-Err-clause-fault : goal.returns-in-Err-clause-fault
-returns-in-Err-clause-fault c =
+pub returns-in-Err-read-clause-fault : goal.returns-in-Err-read-clause-fault
+returns-in-Err-read-clause-fault c =
     let fault = rw (c.bytes-2.ensures.bytes, c.offset-2.ensures.at) at c.read-read.ensures.fault in
-    (fault c.in-Err.fault).0 c.in-Err.is
+    (fault c.in-Err-read.fault).0 c.in-Err-read.is

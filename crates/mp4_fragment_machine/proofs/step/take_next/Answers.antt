@@ -1,9 +1,5 @@
 use Rattle.mp4_fragment_machine.proofs.step.take_next.Goals as goal
 
-pub returns-in-Body : goal.returns-in-Body
-returns-in-Body g c =
-    rw c.in-Body.is (c.take_body.ensures.consumes (record { written = g.W.Sink.contents c.args.w.now; waiting = c.args.out.now; failed = g.W.Sink.has_failed c.args.w.now }))
-
 pub returns-in-OpenBody : goal.returns-in-OpenBody
 returns-in-OpenBody g c =
     rw c.in-OpenBody.is (c.take_open.ensures (record { written = g.W.Sink.contents c.args.w.now; waiting = c.args.out.now; failed = g.W.Sink.has_failed c.args.w.now }))

@@ -34,8 +34,13 @@ returns-clause-counted c =
     (omega (arith, c.from-samples.ensures, c.samples.ensures.few)) less c.count.ensures.tally
     (omega (arith, ap (λ k. k.rows) c.count.ensures.steps, more, c.in-Ok.ensures.ok, same))
 
-pub returns-in-Err-clause-unlooked : goal.returns-in-Err-clause-unlooked
-returns-in-Err-clause-unlooked c = λ _ may.
-    let fault = (c.read.ensures.fault c.in-Err.field-0).0 c.in-Err.is in
-    let none = sym may.read ∙ fault in
-    absurd cc
+pub returns-in-Err-clause-looked : goal.returns-in-Err-clause-looked
+returns-in-Err-clause-looked c =
+    let read = c.read.ensures in
+    record {
+      may = sym c.begins_early.ensures ∙ c.if-not-begins_early.false;
+      fault = (read.fault c.in-Err.fault).0 c.in-Err.is ∙ sym c.of.ensures.fault;
+      all = λ good. omega (arith, c.of.ensures.rows, read.walked good);
+      few = λ good. omega (arith, read.walked good, read.few);
+      none = λ bad. omega (arith, c.of.ensures.rows, ap (λ k. k.rows) (read.unwalked bad));
+    }
