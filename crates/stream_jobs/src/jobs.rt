@@ -1,7 +1,8 @@
 //! The jobs: what is done to which stream.
 
 ghost use Rattle.std.specs.Prelude.{◌≡◌, ◌<◌, ◌≤◌};
-ghost use Rattle.mp4_push.specs.Feeders.{held_by};
+ghost use Rattle.mp4_fragment_machine.specs.Places.{claim_of};
+ghost use Rattle.mp4_fragment_machine.specs.States.{place_in};
 
 use crate::digest::Digest;
 use crate::fragments::{COMPOSITION, DURATION, FIRST_FLAGS, FLAGS, Layout, SIZE};
@@ -106,7 +107,7 @@ pub struct Outcome {
 struct Pushed {
     feeder: Feeder,
     ledger: Ledger,
-    ghost claim: { held_by feeder ≤ ledger.live },
+    ghost claim: { claim_of (place_in feeder.machine) ≤ ledger.live },
 }
 
 impl Pushed {

@@ -57,8 +57,8 @@ fn print_job(rt: &HostRuntime, name: &str, words: &Words) -> io::Result<()> {
     let (bytes, digest) = written.answer();
     match answer {
         Ok(totals) => println!(rt;
-            "{name}: {} fragments, {} samples, {} bytes of media, {} claimed; {bytes} bytes, {digest:016x}",
-            totals.fragments, totals.samples, totals.media_bytes, totals.peak
+            "{name}: {} fragments, {} samples, {} bytes of media, {} rows read, {} claimed; {bytes} bytes, {digest:016x}",
+            totals.fragments, totals.samples, totals.media_bytes, totals.rows_read, totals.peak
         ),
         Err(stop) => println!(rt; "{name}: {stop:?}; {bytes} bytes, {digest:016x}"),
     }
