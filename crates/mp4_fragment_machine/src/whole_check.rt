@@ -7,12 +7,15 @@
 //! is taken as others are, but that its rules aren't gone over again. Then some fragments are taken without a look. Nor are the rules
 //! gone over again where the moof breaks one.
 
-ghost use Rattle.std.specs.Prelude.{◌≡◌, ◌+◌, ◌*◌, ◌≤◌, ◌↔◌, [], length, true, Err, None, Ok, Some, IfErr, IfOk, IfSome, OnErr, OnOk};
+ghost use Rattle.std.specs.Prelude.{◌≡◌, ◌+◌, ◌*◌, ◌≤◌, ◌<◌, ◌^◌, ◌↔◌, [], length, true, Err, None, Ok, Some, IfErr, IfOk, IfSome, IsSome, OnErr, OnOk};
+ghost use Rattle.std.specs.List.{sum_by};
 ghost use Rattle.mp4_box.specs.declared.headers.Header.{Header};
 ghost use Rattle.mp4_frag.specs.Moofs.{IsRead, moof_runs, moof_samples};
 ghost use Rattle.mp4_frag.specs.Places.{place_fault};
+ghost use Rattle.mp4_frag.specs.RunLists.{taken_runs};
 ghost use Rattle.mp4_frag.specs.Runs.{moof_at};
 ghost use Rattle.mp4_frag.specs.TrafEnds.{AreEndsOf};
+ghost use Rattle.mp4_frag.specs.declared.run.Run.{Run};
 ghost use Rattle.mp4_ledger.specs.Memory.{claimed, given_back};
 ghost use Rattle.mp4_machine.specs.Pieces.{around};
 ghost use Rattle.mp4_machine.specs.Readings.{plus};
@@ -34,7 +37,7 @@ use crate::machine::FragmentMachine;
 use crate::slot::go_to;
 use crate::state::{Counter, Kept};
 use crate::whole_fragment::{Boxes, ROW, payload_behind};
-use mp4_frag::{Moof, Steps, TrafEnds};
+use mp4_frag::{Following, Moof, Steps, TrafEnds};
 use mp4_grammar::Command;
 use mp4_init::TrackList;
 use mp4_ledger::Ledger;
@@ -62,6 +65,37 @@ fn may_be_listed(moof: &Moof<'_>, ledger: &Ledger) -> bool
     let room = ledger.limit() - ledger.live();
     let held = moof.bytes().len() as u64;
     held <= room && moof.truns_len() <= (room - held) / ROW
+}
+
+/// What the runs of a moof come to, and where its trafs end, where they follow one another in the mdat behind it; it reads each row once.
+/// Their list might be claimed, so that no row is read of one that is refused.
+#[inline(always)]
+fn runs_in_order(
+    at: u64,
+    boxes: &Boxes<'_>,
+    piece: &[u8],
+    moof: &Moof<'_>,
+    tracks: &TrackList,
+    ledger: &Ledger,
+    looked: &mut Steps,
+) -> Option<Following>
+    requires are { AreBoxes at piece.now boxes.now }
+    requires read { IsRead moof.now tracks.now }
+    requires may { MayBeLookedAt moof.now }
+    requires listed { MayBeListed moof.now ledger.now }
+    requires steps { looked.old.rows < 2 ^ 127 }
+    ensures placed { (are : AreBoxes at piece.now boxes.now) → IsSome result → place_fault
+        (payload_in (at + are.span.size) boxes.now.mdat) (moof_runs moof.now tracks.now) ≡ None }
+    ensures runs { IfSome result (λ f. f.runs ≡ length (moof_runs moof.now tracks.now)) }
+    ensures bytes { IfSome result (λ f. f.bytes ≡ sum_by (λ (run : Run). run.bytes)
+        (taken_runs moof.now tracks.now)) }
+    ensures media { (are : AreBoxes at piece.now boxes.now) → IfSome result (λ f.
+        at + are.span.size + f.bytes + 8 ≤ at + are.span.size + boxes.now.mdat.size) }
+    ensures ends { IfSome result (λ f. AreEndsOf f.ends moof.now tracks.now) }
+    ensures walked { looked.new.rows ≡ looked.old.rows + moof_samples moof.now }
+{
+    let _ = ledger;
+    moof.following(payload_behind(at, boxes, piece), tracks, looked)
 }
 
 /// Reads the moof of a fragment, and counts the fragment, where its trafs have early times of their own, nothing is at fault with
@@ -99,10 +133,7 @@ fn count_checked<'a>(
     ensures none { OnErr result (ledger.new ≡ ledger.old) }
     ensures looked { IfErr result (λ l. IfSome l
         (WasLookedAt (moof_at boxes.now.moof.now at) tracks.now)) }
-    ensures listed { IfErr result (λ l. IfSome l (λ looked. looked.fault ≡ None →
-        MayBeListed (moof_at boxes.now.moof.now at) ledger.old)) }
-    ensures unlooked { result ≡ Err None → MayBeListed (moof_at boxes.now.moof.now at) ledger.old →
-        MayBeLookedAt (moof_at boxes.now.moof.now at) → ⊥ }
+    ensures unlooked { result ≡ Err None → MayBeLookedAt (moof_at boxes.now.moof.now at) → ⊥ }
 {
     // So that no row is read for the rules, but only where the runs are looked at.
     if !Moof::begins_early(boxes.moof, at) {
@@ -116,13 +147,12 @@ fn count_checked<'a>(
             return Err(Some(Looked::of(rows as u32, Some(fault))));
         }
     };
-    // A list that would pass the limit is refused before a row is read.
     if !may_be_listed(&moof, ledger) {
-        return Err(None);
+        let rows = counter.steps.rows - before;
+        return Err(Some(Looked::of(rows as u32, None)));
     }
     let mut looked = Steps { rows: 0 };
-    let payload = payload_behind(at, boxes, piece);
-    let Some(following) = moof.following(payload, tracks, &mut looked) else {
+    let Some(following) = runs_in_order(at, boxes, piece, &moof, tracks, ledger, &mut looked) else {
         return Err(Some(Looked::of(looked.rows as u32, None)));
     };
     if following.runs > MOST_RUNS {
@@ -164,10 +194,7 @@ pub(crate) fn check_fragment(
     ensures none { OnErr result ((kept.new ≡ kept.old) × (ledger.new ≡ ledger.old)) }
     ensures looked { IfErr result (λ l. IfSome l
         (WasLookedAt (moof_at boxes.now.moof.now at) (known kept.old.tracks))) }
-    ensures listed { IfErr result (λ l. IfSome l (λ looked. looked.fault ≡ None →
-        MayBeListed (moof_at boxes.now.moof.now at) ledger.old)) }
-    ensures unlooked { result ≡ Err None → MayBeListed (moof_at boxes.now.moof.now at) ledger.old →
-        MayBeLookedAt (moof_at boxes.now.moof.now at) → ⊥ }
+    ensures unlooked { result ≡ Err None → MayBeLookedAt (moof_at boxes.now.moof.now at) → ⊥ }
 {
     let Some(list) = &mut kept.tracks else {
         unreachable!();

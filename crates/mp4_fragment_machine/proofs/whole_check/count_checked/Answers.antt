@@ -1,8 +1,5 @@
-use Rattle.std.proofs.Common.{◌≡◌, ◌∙◌, None, ap, arith, subst, sym}
-use Rattle.mp4_frag.specs.Moofs.{moof_runs}
-use Rattle.mp4_frag.specs.Places.{place_fault}
-use Rattle.mp4_frag.specs.Runs.{moof_at}
-use Rattle.mp4_fragment_machine.proofs.CheckLemmas.{counted_check, media_less}
+use Rattle.std.proofs.Common.{◌∙◌, ap, arith, sym}
+use Rattle.mp4_fragment_machine.proofs.CheckLemmas.{counted_check}
 use Rattle.mp4_fragment_machine.proofs.FragmentLemmas.{moof_whole}
 use Rattle.mp4_fragment_machine.proofs.whole_check.count_checked.Goals as goal
 
@@ -15,18 +12,15 @@ read-requires-clause-whole c = moof_whole c.args.at c.args.piece.now c.args.boxe
 pub count-requires-clause-media : goal.count-requires-clause-media
 count-requires-clause-media c =
     let are = c.requires.are in
-    let less = media_less c.args.at c.args.piece.now c.args.boxes.now are c.payload_behind-payload.result c.in-Some.following.bytes (c.payload_behind-payload.ensures are) c.in-Some.ensures.within in
-    omega (arith, c.requires.counted.media, less, are.mdat.near)
+    omega (arith, c.requires.counted.media, c.in-Some.ensures.media are, are.mdat.near)
 
 pub returns-clause-placed : goal.returns-clause-placed
-returns-clause-placed c = λ are.
-    let placed = rw c.in-Ok.ensures.moof at (c.in-Some.ensures.placed cc) in
-    subst (λ p. place_fault p (moof_runs (moof_at c.args.boxes.now.moof.now c.args.at) c.args.tracks.now) ≡ None) (c.payload_behind-payload.ensures are) placed
+returns-clause-placed c = λ are. rw c.in-Ok.ensures.moof at (c.in-Some.ensures.placed are cc)
 
 pub returns-clause-counted : goal.returns-clause-counted
 returns-clause-counted c =
     let are = c.requires.are in
-    let less = media_less c.args.at c.args.piece.now c.args.boxes.now are c.payload_behind-payload.result c.in-Some.following.bytes (c.payload_behind-payload.ensures are) c.in-Some.ensures.within in
+    let less = c.in-Some.ensures.media are in
     let samples = rw c.in-Ok.ensures.moof at c.samples.ensures.samples in
     let same = c.from-samples.ensures ∙ samples in
     let more = rw c.in-Ok.ensures.moof at c.in-Some.ensures.walked in
