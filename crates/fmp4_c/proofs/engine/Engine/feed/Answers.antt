@@ -10,8 +10,8 @@ pub returns-in-Err-clause-feeds : goal.returns-in-Err-clause-feeds
 returns-in-Err-clause-feeds c = rw (c.fed-in-Err.ensures.is, c.of_stop-in-Err.ensures) (λ plan b given h.
     let chunk = take c.portion-taken.result c.args.chunk.now in
     let p = c.in-Some.feeder in
-    let now : Run = record { account = c.self.inside.ledger; feeding = c.self.inside.feeder; waiting = c.self.inside.out; step = c.self.inside.step } in
-    let next : Run = record { account = c.feed.new.ledger; feeding = Some c.feed.new.self; waiting = c.feed.new.w; step = c.self.inside.step } in
+    let now : Run = record { account = c.self.inside.ledger; feeding = c.self.inside.feeder; waiting = c.self.inside.out; share = c.self.inside.share; told = c.self.inside.told } in
+    let next : Run = record { account = c.feed.new.ledger; feeding = Some c.feed.new.self; waiting = c.feed.new.w; share = c.self.inside.share; told = c.self.inside.told } in
     let l : Lent = record {
       written = Some (c.self.inside.out.room ∷ c.self.inside.out.bytes);
       written' = Some (c.feed.new.w.room ∷ c.feed.new.w.bytes);
