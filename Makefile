@@ -5,16 +5,28 @@
 # make lib          proves and builds the C library: c/out/libfmp4.a and libfmp4.so
 # make c_tests      runs the tests and examples of the C library
 # make install      puts the program, its manual page and completions below PREFIX, and the C library where it is built
-# make dist         packs what install installs: a tar.gz and a Debian package
-# All but install and manual need Rattle's toolchain. The targets below install are for working on fmp4.
+# make uninstall    removes these
+# make dist         packs what install installs: a tar.gz, and Debian packages
+# make clean        removes all that was built
+# install, uninstall, clean and manual need no Rattle, nor does c_tests where program and library are built. The other
+# targets are for working on fmp4.
 IN ?= crates/real_streams/data/audio.mp4
 SAMPLES ?= 15
 PREFIX ?= /usr/local
+# Where libraries are below PREFIX.
+LIBDIR ?= lib
+BIN = $(DESTDIR)$(PREFIX)/bin
+INCLUDE = $(DESTDIR)$(PREFIX)/include
 SHARE = $(DESTDIR)$(PREFIX)/share
-LIB = $(DESTDIR)$(PREFIX)/lib
+LIB = $(DESTDIR)$(PREFIX)/$(LIBDIR)
+# The way from fmp4.pc to PREFIX.
+UP = $(shell echo "$(LIBDIR)/pkgconfig" | sed 's|[^/][^/]*|..|g')
+# A manual page with the version; and a file that all may read, whatever the umask.
+WITH_VERSION = sed "1s/ fmp4 / \"fmp4 $$(cat VERSION)\" /; s/^The number in VERSION.*/fmp4 $$(scripts/version)/"
+PUT = install -m 644 /dev/stdin
 
-.PHONY: demo build lib c_tests moof_runs cut_pieces push_pieces test wrong_bodies install install_lib dist refusals recipes play manual bench \
-    bench_instructions
+.PHONY: demo build lib c_tests moof_runs cut_pieces push_pieces test wrong_bodies install install_lib uninstall dist \
+    clean refusals recipes play manual bench bench_instructions
 
 demo:
 	@scripts/demo "$(IN)" "$(SAMPLES)"
@@ -25,8 +37,9 @@ build:
 lib:
 	@scripts/lib
 
-# Compares the C library with the program, and tries its calls.
-c_tests: build lib
+# Compares the C library with the program, and tries its calls: those that are built, where there is no rt.
+c_tests:
+	@if command -v rt > /dev/null; then $(MAKE) -s build lib; fi
 	@scripts/c_tests
 
 moof_runs:
@@ -42,8 +55,10 @@ test:
 	@scripts/needs_rt
 	@echo "proving everything from nothing and running the tests: over an hour on 4 cores" >&2
 	@rt ci
-	@if command -v cc > /dev/null; then scripts/refused_allocations; else echo "no C compiler: refused allocations weren't tried" >&2; fi
-	@if command -v valgrind > /dev/null; then bench/instructions "as written" --room 20; else echo "no valgrind: reads of rows that no count has weren't looked for" >&2; fi
+	@if command -v cc > /dev/null; then scripts/refused_allocations; \
+	    else echo "no C compiler: refused allocations weren't tried" >&2; fi
+	@if command -v valgrind > /dev/null; then bench/instructions "as written" --room 20; \
+	    else echo "no valgrind: reads of rows that no count has weren't looked for" >&2; fi
 
 # Tries the wrong bodies in crates/*/wrong, with what is built.
 wrong_bodies: build
@@ -52,9 +67,9 @@ wrong_bodies: build
 install:
 	@test -x crates/fmp4/out/fmp4 || { echo "there is no crates/fmp4/out/fmp4: run 'make build' first" >&2; exit 1; }
 	install -d "$(SHARE)/man/man1" "$(SHARE)/bash-completion/completions" "$(SHARE)/zsh/site-functions" \
-	    "$(SHARE)/fish/vendor_completions.d" "$(DESTDIR)$(PREFIX)/bin"
-	install -s -m 755 crates/fmp4/out/fmp4 "$(DESTDIR)$(PREFIX)/bin/fmp4"
-	sed "1s/ fmp4 / \"fmp4 $$(cat VERSION)\" /; s/^The number in VERSION.*/fmp4 $$(scripts/version)/" docs/fmp4.1 > "$(SHARE)/man/man1/fmp4.1"
+	    "$(SHARE)/fish/vendor_completions.d" "$(BIN)"
+	install -s -m 755 crates/fmp4/out/fmp4 "$(BIN)/fmp4"
+	$(WITH_VERSION) docs/fmp4.1 | $(PUT) "$(SHARE)/man/man1/fmp4.1"
 	install -m 644 completions/fmp4.bash "$(SHARE)/bash-completion/completions/fmp4"
 	install -m 644 completions/_fmp4 "$(SHARE)/zsh/site-functions/_fmp4"
 	install -m 644 completions/fmp4.fish "$(SHARE)/fish/vendor_completions.d/fmp4.fish"
@@ -63,22 +78,38 @@ install:
 # Puts the C library with its header, manual page and fmp4.pc below PREFIX.
 install_lib:
 	@test -e c/out/libfmp4.a || { echo "there is no c/out/libfmp4.a: run 'make lib' first" >&2; exit 1; }
-	install -d "$(LIB)/pkgconfig" "$(DESTDIR)$(PREFIX)/include" "$(SHARE)/man/man3"
+	install -d "$(LIB)/pkgconfig" "$(INCLUDE)" "$(SHARE)/man/man3"
 	install -m 644 c/out/libfmp4.a "$(LIB)/libfmp4.a"
-	@if [ -e c/out/libfmp4.so.0 ]; then install -m 755 c/out/libfmp4.so.0 "$(LIB)/libfmp4.so.0" && ln -sf libfmp4.so.0 "$(LIB)/libfmp4.so"; fi
-	install -m 644 c/fmp4.h "$(DESTDIR)$(PREFIX)/include/fmp4.h"
-	sed "s|@VERSION@|$$(cat VERSION)|" c/fmp4.pc.in > "$(LIB)/pkgconfig/fmp4.pc"
-	sed "1s/ fmp4 / \"fmp4 $$(cat VERSION)\" /; s/^The number in VERSION.*/fmp4 $$(scripts/version)/" docs/fmp4.3 > "$(SHARE)/man/man3/fmp4.3"
+	strip --strip-debug "$(LIB)/libfmp4.a"
+	@if [ -e c/out/libfmp4.so.0 ]; then \
+	    install -m 644 c/out/libfmp4.so.0 "$(LIB)/libfmp4.so.0" && strip --strip-unneeded "$(LIB)/libfmp4.so.0" && \
+	    ln -sf libfmp4.so.0 "$(LIB)/libfmp4.so"; fi
+	install -m 644 c/fmp4.h "$(INCLUDE)/fmp4.h"
+	sed "s|@VERSION@|$$(cat VERSION)|; s|@LIBDIR@|$(LIBDIR)|; s|@UP@|$(UP)|" c/fmp4.pc.in | \
+	    $(PUT) "$(LIB)/pkgconfig/fmp4.pc"
+	$(WITH_VERSION) docs/fmp4.3 | $(PUT) "$(SHARE)/man/man3/fmp4.3"
+	@if [ -z "$(DESTDIR)" ]; then echo "run ldconfig, as root: then programs find $(LIB)/libfmp4.so.0" >&2; fi
+
+# Removes what install and install_lib put there.
+uninstall:
+	rm -f "$(BIN)/fmp4" "$(SHARE)/man/man1/fmp4.1" "$(SHARE)/bash-completion/completions/fmp4" \
+	    "$(SHARE)/zsh/site-functions/_fmp4" "$(SHARE)/fish/vendor_completions.d/fmp4.fish" "$(LIB)/libfmp4.a" \
+	    "$(LIB)/libfmp4.so" "$(LIB)/libfmp4.so.0" "$(LIB)/pkgconfig/fmp4.pc" "$(INCLUDE)/fmp4.h" "$(SHARE)/man/man3/fmp4.3"
 
 # Packs what install installs, for machines without Rattle.
 dist: build lib
 	@scripts/dist
 
+# Removes programs, libraries and packages, and what was kept of the proofs.
+clean:
+	rm -rf crates/*/out c/out dist
+
 # Runs the program with each of its allocations refused in turn, and a Feeder; make test does so too.
 refusals: build push_pieces
 	@scripts/refused_allocations
 
-# Runs the command lines of the recipes and of the front page, compares what they print, and runs the manual page's examples.
+# Runs the command lines of the recipes and of the front page, compares what they print, and runs the manual page's
+# examples.
 recipes: build
 	@scripts/recipes docs/RECIPES.md README.md docs/fmp4.1
 

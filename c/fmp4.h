@@ -14,12 +14,13 @@
  * open stream allocates is freed by fmp4_close. No pointer may be NULL, also where its length is 0, and no two that are
  * given to one call may overlap. Buffers must be initialised memory, also those that are written.
  *
- * Threads. Streams share nothing. Calls with different streams may run at once; those with one stream one at a time, and
- * all in the thread that opened it. No call may be made in a signal handler, or in the forked child of a process with
- * threads. A call needs at most 256 KiB of stack, blocks on nothing, and ends.
+ * Threads. Streams share nothing. Calls with different streams may run at once; those with one stream one at a time,
+ * and all in the thread that opened it. No call may be made in a signal handler, or in the forked child of a process
+ * with threads. A call blocks on nothing, and ends. It needs at most 256 KiB of stack: threads of musl have 128 KiB if
+ * they aren't given more.
  *
- * Memory comes from malloc, realloc and free. A stream takes at most `limit` bytes for its boxes and its output together,
- * and some 20 KiB beside them for its state. No media is kept but in the output that waits.
+ * Memory comes from malloc, realloc and free. A stream takes at most `limit` bytes for its boxes and its output
+ * together, and some 20 KiB beside them for its state. No media is kept but in the output that waits.
  */
 #ifndef FMP4_H
 #define FMP4_H
@@ -63,7 +64,7 @@ enum fmp4_answer {
     FMP4_NOT_OPEN = 16,     /* before fmp4_split_open or fmp4_check_open */
     FMP4_CLOSED = 17,       /* after fmp4_close */
     FMP4_IS_OPEN = 18,      /* an open of a stream that is open */
-    FMP4_ENDED = 19,        /* a feed, finish or totals after fmp4_finish */
+    FMP4_ENDED = 19,        /* a feed or finish after fmp4_finish */
     FMP4_BAD_SAMPLES = 20,  /* samples not in 1 to 1,000,000 */
     FMP4_BAD_BYTES = 21,    /* bytes above 2^62 */
     FMP4_BAD_FLAGS = 22,    /* flags that aren't known */
@@ -76,11 +77,12 @@ enum fmp4_flags {
     FMP4_SYNC = 2           /* a fragment also ends before a sync sample */
 };
 
-/* Opens a stream that is cut into fragments of at most `samples` samples (1 to 1,000,000), and of at most `bytes` bytes of
- * media (0: any number; a larger sample is a fragment by itself). `limit`: the most bytes that it may take. `room` of them
- * are allocated at once for the output that waits. What one feed determines must fit there: 2 MiB serve where output is
- * taken after each feed. A moov comes at once (most have less than 64 KiB; 16 MiB are allowed), and a head of 92 bytes and 16
- * a sample with each new fragment. A stream that was closed can be opened again.
+/* Opens a stream that is cut into fragments of at most `samples` samples (1 to 1,000,000), and of at most `bytes`
+ * bytes of media (0: any number; a larger sample is a fragment by itself). `limit`: the most bytes that it may take.
+ * `room` of them are allocated at once for the output that waits. 2 MiB serve where output is taken after each feed.
+ * What comes at once must fit what is free, or the stream ends with FMP4_NO_ROOM: a moov (most have less than 64 KiB;
+ * 16 MiB are allowed); the head of a new fragment, 92 bytes and 16 a sample; an index, up to 786,460 bytes; and the
+ * heads of all samples without bytes that follow each other. A stream that was closed can be opened again.
  *   FMP4_OVER_LIMIT: room is more than limit; FMP4_NO_MEMORY; FMP4_IS_OPEN; FMP4_BAD_SAMPLES, _BYTES, _FLAGS, _ROOM */
 uint32_t fmp4_split_open(struct fmp4_stream *stream, uint32_t samples, uint64_t bytes, uint32_t flags, uint64_t limit,
                          size_t room);
@@ -89,9 +91,10 @@ uint32_t fmp4_split_open(struct fmp4_stream *stream, uint32_t samples, uint64_t 
  *   FMP4_NO_MEMORY; FMP4_IS_OPEN */
 uint32_t fmp4_check_open(struct fmp4_stream *stream, uint64_t limit);
 
-/* Feeds the next `len` bytes of the stream, or the first *taken of them: go on with the rest. A sixteenth of the room is
- * taken at once, and nothing (FMP4_FULL) while more than half of the room is filled. All output that the bytes so far
- * determine waits to be taken when this returns. *taken is 0 where it misuses the stream, and after a stop.
+/* Feeds the next `len` bytes of the stream, or the first *taken of them: go on with the rest. A cut takes at most a
+ * 128th of what is free in the room at once (a 512th with an index), a byte at the least, and nothing (FMP4_FULL)
+ * while more than half of the room is filled. All output that the bytes so far determine waits to be taken when this
+ * returns. *taken is 0 where it misuses the stream, and after a stop.
  *   FMP4_FULL; FMP4_FAULT, FMP4_NO_ROOM, FMP4_OVER_LIMIT, FMP4_NO_MEMORY; FMP4_NOT_OPEN, FMP4_CLOSED, FMP4_ENDED */
 uint32_t fmp4_feed(struct fmp4_stream *stream, const uint8_t *chunk, size_t len, size_t *taken);
 
@@ -100,12 +103,13 @@ uint32_t fmp4_feed(struct fmp4_stream *stream, const uint8_t *chunk, size_t len,
  *   FMP4_NOT_OPEN, FMP4_CLOSED */
 uint32_t fmp4_take(struct fmp4_stream *stream, uint8_t *out, size_t len, size_t *taken);
 
-/* Says what was counted so far, and the fault where the stream has stopped for one.
- *   FMP4_NOT_OPEN, FMP4_CLOSED, FMP4_ENDED: the report is left as it was */
+/* Says what was counted so far, and the fault where the stream has stopped for one; after fmp4_finish, what that
+ * reported.
+ *   FMP4_NOT_OPEN, FMP4_CLOSED: the report is left as it was */
 uint32_t fmp4_totals(struct fmp4_stream *stream, struct fmp4_report *report);
 
-/* The stream has ended: FMP4_OK only where it breaks no rule. What the stream had claimed is freed; what waits can still be
- * taken.
+/* The stream has ended: FMP4_OK only where it breaks no rule. What the stream had claimed is freed; what waits can
+ * still be taken.
  *   FMP4_FAULT, or as it stopped before; FMP4_NOT_OPEN, FMP4_CLOSED, FMP4_ENDED: the report is left as it was */
 uint32_t fmp4_finish(struct fmp4_stream *stream, struct fmp4_report *report);
 
@@ -113,8 +117,8 @@ uint32_t fmp4_finish(struct fmp4_stream *stream, struct fmp4_report *report);
  *   FMP4_NOT_OPEN, FMP4_CLOSED */
 uint32_t fmp4_close(struct fmp4_stream *stream);
 
-/* Writes the name of a rule, such as "Truncated", and a zero: at most `len` bytes. Returns the length of the name without
- * the zero, 0 where no rule has this number. 16 bytes are enough. */
+/* Writes the name of a rule, such as "Truncated", and a zero: at most `len` bytes. Returns the length of the name
+ * without the zero, 0 where no rule has this number. 16 bytes are enough. */
 size_t fmp4_rule_name(uint32_t rule, char *name, size_t len);
 
 #ifdef __cplusplus

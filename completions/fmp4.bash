@@ -5,6 +5,7 @@ _fmp4() {
     mapfile -t COMPREPLY < <(compgen -W 'split boxes samples check' -- "$word")
     return
   fi
+  case $before in *'<' | *'>') compopt -o default; return ;; esac
   case $before in --samples | --bytes | --copy | --max-held) return ;; esac
   [ "${COMP_WORDS[1]}" = split ] && options="--samples --bytes --index --sync $options"
   mapfile -t COMPREPLY < <(compgen -W "$options" -- "$word")

@@ -1,7 +1,8 @@
 /* origin PORT SAMPLES...: a fan-out origin on loopback. One live stream comes on standard input; each client of
- * http://127.0.0.1:PORT/SAMPLES gets it recut by so many samples a fragment: the moov and what stands before it, and then
- * all from the next fragment on. One thread. Memory is bounded: LIMIT for each cut, BACKLOG for each of CLIENTS clients; a
- * client that falls further behind is dropped.
+ * http://127.0.0.1:PORT/SAMPLES gets it recut by so many samples a fragment: the moov and what stands before it, and
+ * then all from the next fragment on. One thread. Memory is bounded: LIMIT for each cut, BACKLOG for each of CLIENTS
+ * clients; a client that falls further behind is dropped. A cut that isn't there is 404, and a HEAD is answered by
+ * the header alone.
  * cc origin.c -lfmp4 */
 #include <arpa/inet.h>
 #include <errno.h>
@@ -113,7 +114,7 @@ static void go_through(struct cut *cut, const unsigned char *bytes, size_t len) 
 
 static void drain(struct cut *cut) {
     static unsigned char out[CHUNK];
-    size_t n;
+    size_t n = 0;
     do {
         fmp4_take(&cut->stream, out, sizeof out, &n);
         go_through(cut, out, n);
@@ -124,9 +125,9 @@ static void drain(struct cut *cut) {
 static void feed_all(const unsigned char *chunk, size_t len) {
     for (int i = 0; i < cut_count; i++) {
         struct cut *cut = &cuts[i];
-        struct fmp4_report report;
+        struct fmp4_report report = {0};
         uint32_t answer = FMP4_OK;
-        for (size_t at = 0, n; at < len && answer <= FMP4_FULL && !cut->is_over; at += n) {
+        for (size_t at = 0, n = 0; at < len && answer <= FMP4_FULL && !cut->is_over; at += n) {
             answer = fmp4_feed(&cut->stream, chunk + at, len - at, &n);
             drain(cut);
         }
@@ -136,6 +137,14 @@ static void feed_all(const unsigned char *chunk, size_t len) {
         if (answer == FMP4_FAULT) fprintf(stderr, "origin: rule %u at %llu\n", (unsigned)report.rule, (unsigned long long)report.offset);
         cut->is_over = 1;
     }
+}
+
+#define WITHOUT_BODY(status) "HTTP/1.1 " status "\r\nContent-Length: 0\r\nConnection: close\r\n\r\n"
+
+/* Answers a client by a header alone, and is done with it. */
+static void reply(struct client *client, const char *header) {
+    send(client->fd, header, strlen(header), MSG_NOSIGNAL | MSG_DONTWAIT);
+    drop(client);
 }
 
 /* Reads a request, such as GET /15 HTTP/1.1. */
@@ -151,11 +160,16 @@ static void read_request(struct client *client) {
         if (client->request_len + 1 == sizeof client->request) drop(client);
         return;
     }
-    unsigned long samples = strncmp(client->request, "GET /", 5) == 0 ? strtoul(client->request + 5, NULL, 10) : 0;
+    int is_head = strncmp(client->request, "HEAD /", 6) == 0, cut = -1;
+    if (!is_head && strncmp(client->request, "GET /", 5) != 0) { reply(client, WITHOUT_BODY("501 Not Implemented")); return; }
+    unsigned long samples = strtoul(client->request + (is_head ? 6 : 5), NULL, 10);
     for (int i = 0; i < cut_count; i++)
-        if (cuts[i].samples == samples && !cuts[i].is_over) client->cut = i;
+        if (cuts[i].samples == samples && !cuts[i].is_over) cut = i;
     client->request_len = 0;
-    if (client->cut < 0 || !(client->queue = malloc(BACKLOG))) { drop(client); return; }
+    if (cut < 0) { reply(client, WITHOUT_BODY("404 Not Found")); return; }
+    if (is_head) { reply(client, ok); return; }
+    if (!(client->queue = malloc(BACKLOG))) { reply(client, WITHOUT_BODY("503 Service Unavailable")); return; }
+    client->cut = cut;
     queue(client, (const unsigned char *)ok, sizeof ok - 1);
 }
 

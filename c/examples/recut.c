@@ -6,7 +6,7 @@
 
 /* Writes all output that waits; 0 where that fails. */
 static int drain(struct fmp4_stream *stream, unsigned char *buffer, size_t size) {
-    size_t n;
+    size_t n = 0;
     do {
         fmp4_take(stream, buffer, size, &n);
         if (fwrite(buffer, 1, n, stdout) != n) return 0;
@@ -16,7 +16,7 @@ static int drain(struct fmp4_stream *stream, unsigned char *buffer, size_t size)
 
 /* Says what a stop means. */
 static void tell(uint32_t answer, const struct fmp4_report *report) {
-    char name[16], type[5] = {0};
+    char name[16] = {0}, type[5] = {0};
     if (answer == FMP4_FAULT) {
         fmp4_rule_name(report->rule, name, sizeof name);
         for (int i = 0; i < 4; i++) type[i] = (char)(report->type >> (24 - 8 * i));
@@ -31,7 +31,7 @@ int main(int argc, char **argv) {
     unsigned long long with[6] = {0, 65536, 0, 0, 512ull << 20, 2 << 20};
     if (argc < 2 || argc > 7) return fputs("recut SAMPLES [CHUNK [BYTES [FLAGS [LIMIT [ROOM]]]]]\n", stderr), 64;
     for (int i = 1; i < argc; i++) with[i - 1] = strtoull(argv[i], NULL, 10);
-    size_t size = with[1] ? with[1] : 1, len = 0, n;
+    size_t size = with[1] ? with[1] : 1, len = 0, n = 0;
     unsigned char *chunk = calloc(size, 1), *out = calloc(65536, 1);
     if (!chunk || !out) return 4;
     struct fmp4_stream stream = {0};

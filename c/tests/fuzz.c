@@ -1,5 +1,6 @@
-/* fuzz SEED SECONDS < STREAM: calls in any order, with chunks of a stream some of whose bytes were changed. Each answer is one that
- * the state allows, a stop stays, and what was taken of an unchanged stream is a prefix of its output. */
+/* fuzz SEED SECONDS < STREAM: calls in any order, with chunks of a stream some of whose bytes were changed. Each
+ * answer is one that the state allows, a stop stays, and what was taken of an unchanged stream is a prefix of its
+ * output. */
 #include "tests.h"
 #include <time.h>
 
@@ -19,6 +20,7 @@ struct one {
     int is_changed, is_check;
     size_t at;
     struct bytes out;
+    struct fmp4_report last; /* what finish reported */
 };
 
 static struct bytes in, whole;
@@ -75,19 +77,22 @@ static void take_one(struct one *s) {
 }
 
 static void end_one(struct one *s, int is_finish) {
-    struct fmp4_report report;
+    struct fmp4_report report = {0};
     uint32_t answer = is_finish ? fmp4_finish(&s->stream, &report) : fmp4_totals(&s->stream, &report);
     switch (s->state) {
     case NEW: WANT(answer == FMP4_NOT_OPEN); break;
     case CLOSED: WANT(answer == FMP4_CLOSED); break;
-    case ENDED: WANT(answer == FMP4_ENDED); break;
+    case ENDED:
+        WANT(answer == (is_finish ? FMP4_ENDED : FMP4_OK));
+        WANT(is_finish || memcmp(&report, &s->last, sizeof report) == 0);
+        break;
     case STOPPED:
         WANT(answer == (is_finish ? s->stop : FMP4_OK) && (s->stop == FMP4_FAULT) == (report.rule > 0));
-        if (is_finish) s->state = ENDED;
+        if (is_finish) s->state = ENDED, s->last = report;
         break;
     case OPEN:
         WANT(answer == FMP4_OK || (is_finish && answer == FMP4_FAULT && report.rule > 0));
-        if (is_finish) s->state = ENDED;
+        if (is_finish) s->state = ENDED, s->last = report;
     }
 }
 

@@ -14,22 +14,30 @@ static void all_answer(struct fmp4_stream *s, uint32_t wanted) {
         n = 9;
         WANT(fmp4_take(s, out, sizeof out, &n) == wanted && n == 0);
         WANT(fmp4_close(s) == wanted);
+        WANT(fmp4_totals(s, &report) == wanted);
     }
-    WANT(fmp4_totals(s, &report) == wanted);
     WANT(fmp4_finish(s, &report) == wanted);
     WANT(memcmp(&report, &other, sizeof report) == 0);
+}
+
+/* What is out of range is refused by its number, and the stream stays as it was. */
+static void none_opens(struct fmp4_stream *s, uint32_t answer) {
+    WANT(fmp4_split_open(s, 0, 0, 0, 1 << 20, 4096) == FMP4_BAD_SAMPLES);
+    WANT(fmp4_split_open(s, 1000001, 0, 0, 1 << 20, 4096) == FMP4_BAD_SAMPLES);
+    WANT(fmp4_split_open(s, UINT32_MAX, 0, 0, 1 << 20, 4096) == FMP4_BAD_SAMPLES);
+    WANT(fmp4_split_open(s, 1, ((uint64_t)1 << 62) + 1, 0, 1 << 20, 4096) == FMP4_BAD_BYTES);
+    for (uint32_t flags = 4; flags < 9; flags++) WANT(fmp4_split_open(s, 1, 0, flags, 1 << 20, 4096) == FMP4_BAD_FLAGS);
+    WANT(fmp4_split_open(s, 1, 0, UINT32_MAX, 1 << 20, 4096) == FMP4_BAD_FLAGS);
+    WANT(fmp4_split_open(s, 1, 0, 0, 1 << 20, 0) == FMP4_BAD_ROOM);
+    WANT(fmp4_split_open(s, 1, 0, 0, 4095, 4096) == FMP4_OVER_LIMIT);
+    WANT(fmp4_split_open(s, 1, 0, 0, 0, SIZE_MAX) == FMP4_OVER_LIMIT);
+    all_answer(s, answer);
 }
 
 int main(void) {
     struct fmp4_stream s = {0};
     all_answer(&s, FMP4_NOT_OPEN);
-    WANT(fmp4_split_open(&s, 0, 0, 0, 1 << 20, 4096) == FMP4_BAD_SAMPLES);
-    WANT(fmp4_split_open(&s, 1000001, 0, 0, 1 << 20, 4096) == FMP4_BAD_SAMPLES);
-    WANT(fmp4_split_open(&s, 1, ((uint64_t)1 << 62) + 1, 0, 1 << 20, 4096) == FMP4_BAD_BYTES);
-    WANT(fmp4_split_open(&s, 1, 0, 4, 1 << 20, 4096) == FMP4_BAD_FLAGS);
-    WANT(fmp4_split_open(&s, 1, 0, 0, 1 << 20, 0) == FMP4_BAD_ROOM);
-    WANT(fmp4_split_open(&s, 1, 0, 0, 4095, 4096) == FMP4_OVER_LIMIT);
-    all_answer(&s, FMP4_NOT_OPEN);
+    none_opens(&s, FMP4_NOT_OPEN);
     for (int twice = 0; twice < 2; twice++) {
         WANT(fmp4_split_open(&s, 1000000, (uint64_t)1 << 62, FMP4_INDEX | FMP4_SYNC, 4096, 4096) == FMP4_OK);
         WANT(fmp4_split_open(&s, 1, 0, 0, 1 << 20, 4096) == FMP4_IS_OPEN);
@@ -39,12 +47,12 @@ int main(void) {
         WANT(fmp4_feed(&s, chunk, 0, &n) == FMP4_OK && n == 0);
         WANT(fmp4_finish(&s, &report) == FMP4_OK && report.samples == 0 && report.peak == 0);
         all_answer(&s, FMP4_ENDED);
+        WANT(fmp4_totals(&s, &report) == FMP4_OK && report.samples == 0 && report.rule == 0);
         WANT(fmp4_take(&s, out, sizeof out, &n) == FMP4_OK && n == 0);
         WANT(fmp4_split_open(&s, 1, 0, 0, 1 << 20, 4096) == FMP4_IS_OPEN);
         WANT(fmp4_close(&s) == FMP4_OK);
         all_answer(&s, FMP4_CLOSED);
-        WANT(fmp4_split_open(&s, 0, 0, 0, 0, 1) == FMP4_BAD_SAMPLES);
-        all_answer(&s, FMP4_CLOSED);
+        none_opens(&s, FMP4_CLOSED);
         WANT(fmp4_check_open(&s, 0) == FMP4_OK);
         WANT(fmp4_close(&s) == FMP4_OK);
     }

@@ -1,5 +1,5 @@
-/* refuse < STREAM: each malloc and realloc is refused in turn (linked with -Wl,--wrap=malloc,--wrap=realloc). What was taken is a
- * prefix of the whole output, and valgrind sees that all is freed. */
+/* refuse < STREAM: each malloc and realloc is refused in turn (linked with -Wl,--wrap=malloc,--wrap=realloc). What
+ * was taken is a prefix of the whole output, and valgrind sees that all is freed. */
 #include "tests.h"
 
 static long left = -1;

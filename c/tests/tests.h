@@ -44,7 +44,7 @@ static inline struct bytes read_all(FILE *file) {
 
 static inline void drain(struct fmp4_stream *stream, struct bytes *to, size_t take) {
     unsigned char out[4096];
-    size_t n;
+    size_t n = 0;
     if (take > sizeof out) take = sizeof out;
     memset(out, 0, sizeof out);
     do {
@@ -57,7 +57,7 @@ static inline void drain(struct fmp4_stream *stream, struct bytes *to, size_t ta
 static inline struct result run(const struct cut *cut, const unsigned char *in, size_t len, struct bytes *to) {
     struct fmp4_stream stream = {0};
     struct result r = {0};
-    size_t n;
+    size_t n = 0;
     r.open = cut->samples ? fmp4_split_open(&stream, cut->samples, cut->bytes, cut->flags, cut->limit, cut->room) : fmp4_check_open(&stream, cut->limit);
     if (r.open) return r;
     while (r.fed < len && r.feed <= FMP4_FULL) {
@@ -74,6 +74,7 @@ static inline struct result run(const struct cut *cut, const unsigned char *in, 
     struct fmp4_report before = r.report;
     r.finish = fmp4_finish(&stream, &r.report);
     if (r.feed) WANT(r.finish == r.feed && memcmp(&before, &r.report, sizeof before) == 0);
+    WANT(fmp4_totals(&stream, &before) == FMP4_OK && memcmp(&before, &r.report, sizeof before) == 0);
     drain(&stream, to, 4096);
     WANT(fmp4_close(&stream) == FMP4_OK);
     return r;

@@ -1,4 +1,5 @@
-/* threads < STREAM: as many threads as cuts, each with a stack of 512 KiB and a stream of its own, give what one gives. */
+/* threads < STREAM: as many threads as cuts, each with a stack of 256 KiB and a stream of its own, give what one
+ * gives. */
 #include "tests.h"
 #include <pthread.h>
 
@@ -25,7 +26,7 @@ int main(void) {
     struct job jobs[THREADS] = {0};
     pthread_t threads[THREADS];
     pthread_attr_t attr;
-    WANT(pthread_attr_init(&attr) == 0 && pthread_attr_setstacksize(&attr, 512 << 10) == 0);
+    WANT(pthread_attr_init(&attr) == 0 && pthread_attr_setstacksize(&attr, 256 << 10) == 0);
     for (unsigned i = 0; i < THREADS; i++) {
         jobs[i].cut = (struct cut){i % 4 + 1, i % 4, i % 2 ? 3000 : 0, 512u << 20, 2u << 20, 1000 * i + 7, 4096};
         WANT(pthread_create(&threads[i], &attr, work, &jobs[i]) == 0);
@@ -40,6 +41,6 @@ int main(void) {
         free(jobs[i].out.at);
     }
     free(in.at);
-    puts("threads: 8 with 512 KiB of stack, each with a stream of its own");
+    puts("threads: 8 with 256 KiB of stack, each with a stream of its own");
     return 0;
 }

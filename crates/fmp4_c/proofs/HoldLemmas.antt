@@ -1,20 +1,23 @@
 -- What a Feeder's calls do to what an engine is.
 use Rattle.std.proofs.Common.{◌≡◌, ◌∙◌, ℕ, ◌+◌, List, [], ◌∷◌, ◌++◌, append_assoc, length, length-append, take, drop, Option, Some, None, Ok, Err, refl, sym, ap, subst, arith}
 use Rattle.std.proofs.lemmas.List.{take-append-drop}
+use Rattle.std.proofs.lemmas.Option.{none-some}
 use Rattle.std.specs.Io.KnownBytes.{Appends}
 use Rattle.mp4_ledger.specs.Memory.{Account}
 use Rattle.mp4_machine.specs.Fed.{AllWhole, FedUntil, Lent, StarvesBehind, TellsRest}
-use Rattle.mp4_machine.specs.Readings.{Effects, Reading, both, whole_in}
+use Rattle.mp4_box.specs.declared.rules.Fault as faults
+use Rattle.mp4_machine.specs.Readings.{Effects, Reading, both, whole_in, fault_in as faults_in}
 use Rattle.mp4_machine.specs.declared.stop.Stop.{Stop}
 use Rattle.mp4_machine.specs.declared.stop.Stop.TheVariants.{Stream, Read, Write, OverLimit, Memory}
 use Rattle.mp4_machine.proofs.MarkLemmas.{whole_in-before, whole_in-both}
-use Rattle.mp4_push.specs.Feeders.{Feeds, IsAfter, Feeding, WritesBefore, held_by, live, sums_of, totals_of}
+use Rattle.mp4_push.specs.Feeders.{Feeds, Finishes, IsAfter, Feeding, WritesBefore, held_by, live, sums_of, totals_of}
 use Rattle.mp4_push.proofs.FeederLemmas.{reading-none}
 use Rattle.mp4_recut.specs.Plans.{reads_of}
 use Rattle.mp4_recut.specs.declared.plan.Plan.{Plan}
 use Rattle.fmp4_c.specs.Answers.{Counted, answer_to, counted_of, fault_of, told_by}
-use Rattle.fmp4_c.specs.Engines.{Fed, Holds, IsRefused, Run, Stopped, StopsIn, counted_in, report_of}
+use Rattle.fmp4_c.specs.Engines.{Fed, Finished, Holds, IsRefused, Run, Stopped, StopsIn, counted_in, report_of}
 use Rattle.fmp4_c.specs.declared.answer.Answer.{Answer}
+use Rattle.fmp4_c.specs.declared.report.Report.{Report}
 
 some-is : {A : Type 0} (x y : A) → ◌≡◌ {A = Option A} (Some x) (Some y) → x ≡ y
 some-is x y h = cc
@@ -259,6 +262,21 @@ report-holds plan b given r h =
     ap (λ (s : Option Stop). told_by (counted_of (totals_of h.feeding)) (fault_of s)) h.stands.running
     ∙ ap (λ (t : Counted). told_by t None) (totals-are h.feeding b h.stands)
     ∙ ap (λ (k : Plan). told_by (counted_in k b) None) h.planned
+
+-- ---- what the end tells where the stream has a fault
+
+pub finished-err : (plan : Plan) (b given : List ℕ) (r : Run) (p : Feeding) (e : Stop) (is : r.feeding ≡ Some p) (h : Holds plan b given r) → Finishes p b (Err e) → (report : Report) → report ≡ told_by (counted_of (totals_of p)) (fault_of (Some e)) → Finished plan b (answer_to e) report
+finished-err plan b given r p (Stream f) is h ends report told =
+    let here : faults_in (reads_of plan b).outcome ≡ Some f = subst (λ (k : Plan). faults_in (reads_of k b).outcome ≡ Some f) (plan-its plan b given r p is h) ends in
+    let counted : counted_of (totals_of p) ≡ counted_in plan b = totals-are p b (after-its plan b given r p is h) ∙ ap (λ (k : Plan). counted_in k b) (plan-its plan b given r p is h) in
+    record {
+      sound = λ none. absurd (none-some f (sym none ∙ here));
+      faulty = λ fault at. (refl, told ∙ ap (λ (t : Counted). told_by t (Some f)) counted ∙ ap (λ (x : faults.Fault). told_by (counted_in plan b) (Some x)) (some-is f fault (sym here ∙ at)));
+    }
+finished-err plan b given r p (Read at) is h ends report told = absurd ends
+finished-err plan b given r p Write is h ends report told = absurd ends
+finished-err plan b given r p OverLimit is h ends report told = absurd ends
+finished-err plan b given r p Memory is h ends report told = absurd ends
 
 -- ---- what a handle held is what was in its box
 

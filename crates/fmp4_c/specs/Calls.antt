@@ -1,5 +1,5 @@
 -- What C asks for, and what a call does to the stream that C keeps.
-use Rattle.std.specs.Prelude.{◌≡◌, ℕ, ◌+◌, ◌-◌, ◌/◌, ◌%◌, ◌^◌, ◌<◌, ◌≤◌, eqb, List, [], ◌∷◌, ◌++◌, length, take, drop, min, max, Option, None, Some, Result, Ok, Err}
+use Rattle.std.specs.Prelude.{◌≡◌, if◌then◌else◌, ℕ, ◌+◌, ◌-◌, ◌/◌, ◌%◌, ◌^◌, ◌<◌, ◌≤◌, eqb, List, [], ◌∷◌, ◌++◌, length, take, drop, min, Option, None, Some, Result, Ok, Err}
 use Rattle.mp4_grammar.specs.declared.command.Command.TheVariants.{Check}
 use Rattle.mp4_pieces.specs.declared.cut.Cut.{Cut}
 use Rattle.mp4_recut.specs.declared.plan.Plan.{Plan}
@@ -22,9 +22,17 @@ pub record IsCutBy (samples bytes flags : ℕ) (cut : Cut) : Type 0 where
   pub index : cut.index ≡ eqb (flags % 2) 1
   pub sync : cut.sync ≡ eqb (flags / 2) 1
 
--- how many bytes of a chunk are taken at once, by the room for the output
-abbrev pub step_of : ℕ → ℕ
-step_of room = max 1 (room / 16)
+-- which share of what is free in the room a feed takes of a chunk, by the flags: with an index the output of a byte is more
+abbrev pub share_of : ℕ → ℕ
+share_of flags = if eqb (flags % 2) 1 then 512 else 128
+
+-- what can be asked for
+pub record IsInRange (samples bytes flags room : ℕ) : Type 0 where
+  pub some : 1 ≤ samples
+  pub most : samples ≤ 1000000
+  pub size : bytes ≤ 2 ^ 62
+  pub known : flags ≤ 3
+  pub holds : 1 ≤ room
 
 -- why a cut can't be asked for with this room
 abbrev pub IsOutOfRange : (samples bytes flags room : ℕ) → Answer → Type 0
@@ -50,7 +58,7 @@ pub record IsSplitBy (samples bytes flags limit room : ℕ) (asked : Asked) : Ty
   pub plan : asked.plan ≡ plans.Split cut
   pub takes : asked.limit ≡ limit
   pub waits : asked.room ≡ room
-  pub step : asked.step ≡ step_of room
+  pub share : asked.share ≡ share_of flags
 
 -- ---- how it is opened
 
@@ -61,13 +69,13 @@ pub record IsOpened (asked : Asked) (held : Option Run) : Type 0 where
   pub holds : Holds asked.plan [] [] run
   pub waiting : run.waiting ≡ empty asked.room
   pub limit : run.account.limit + asked.room ≡ asked.limit
-  pub step : run.step ≡ asked.step
+  pub share : run.share ≡ asked.share
 
 -- what an open answers that is asked for this
 abbrev pub Opens : Asked → Answer → Option Run → Type 0
 Opens asked Done held = IsOpened asked held
 Opens asked OverLimit held = (asked.limit < asked.room) × (held ≡ None)
-Opens asked NoMemory held = held ≡ None
+Opens asked NoMemory held = (asked.room ≤ asked.limit) × (held ≡ None)
 Opens asked Full held = ⊥
 Opens asked Fault held = ⊥
 Opens asked NoRoom held = ⊥
@@ -85,14 +93,14 @@ abbrev pub OpensOr : Result Asked Answer → Answer → Option Run → Type 0
 OpensOr (Ok asked) answer held = Opens asked answer held
 OpensOr (Err out) answer held = (answer ≡ out) × (held ≡ None)
 
--- what C is answered that asks for a cut
+-- what C is answered that asks for a cut: it is in range, or the answer has the number of what isn't
 pub data SplitOpens (samples bytes flags limit room : ℕ) (answer : Answer) (held : Option Run) : Type 0 where
-  Asks : (asked : Asked) → IsSplitBy samples bytes flags limit room asked → Opens asked answer held → SplitOpens samples bytes flags limit room answer held
+  Asks : (asked : Asked) → IsInRange samples bytes flags room → IsSplitBy samples bytes flags limit room asked → Opens asked answer held → SplitOpens samples bytes flags limit room answer held
   Refuses : IsOutOfRange samples bytes flags room answer → held ≡ None → SplitOpens samples bytes flags limit room answer held
 
 -- a check has no output, and takes chunks as a whole
 abbrev pub checked_by : ℕ → Asked
-checked_by limit = record { plan = plans.List Check; limit = limit; room = 0; step = 2 ^ 64 - 1 }
+checked_by limit = record { plan = plans.List Check; limit = limit; room = 0; share = 0 }
 
 -- ---- what C keeps
 

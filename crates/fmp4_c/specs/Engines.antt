@@ -1,5 +1,5 @@
 -- What an engine is after the bytes of a stream that it was fed, and what a call of it does.
-use Rattle.std.specs.Prelude.{◌≡◌, ℕ, ◌+◌, ◌*◌, ◌<◌, ◌≤◌, List, [], ◌∷◌, ◌++◌, length, take, min, Option, None, Some}
+use Rattle.std.specs.Prelude.{◌≡◌, if◌then◌else◌, ℕ, ◌+◌, ◌-◌, ◌*◌, ◌/◌, ◌^◌, ◌<◌, ◌≤◌, eqb, List, [], ◌∷◌, ◌++◌, length, take, min, max, Option, None, Some}
 use Rattle.mp4_box.specs.declared.rules.Fault as faults
 use Rattle.mp4_grammar.specs.Contexts.{first_context}
 use Rattle.mp4_grammar.specs.HeldSizes.{HoldsWithin}
@@ -19,13 +19,14 @@ use Rattle.fmp4_c.specs.declared.report.Report.{Report}
 
 -- ---- what is seen of an engine
 
--- the account of its ledger, its Feeder until the stream ends, what waits to be taken, and how many bytes of a chunk it
--- takes at once
+-- the account of its ledger, its Feeder until the stream ends, what waits to be taken, which share of what is free in the
+-- room it takes of a chunk, and what it reported at the end
 pub record Run : Type 0 where
   pub account : Account
   pub feeding : Option Feeding
   pub waiting : Waiting
-  pub step : ℕ
+  pub share : ℕ
+  pub told : Report
 
 -- what a Feeder has claimed, where there is one
 abbrev pub held_in : Option Feeding → ℕ
@@ -103,10 +104,15 @@ Fed plan b given BadBytes r = ⊥
 Fed plan b given BadFlags r = ⊥
 Fed plan b given BadRoom r = ⊥
 
+-- how many bytes are taken at once where so many are free in the room: a share of these, and one at the least; any number
+-- where there is no share
+abbrev pub step_of : (share free : ℕ) → ℕ
+step_of share free = if eqb share 0 then 2 ^ 64 - 1 else max 1 (free / share)
+
 -- how many bytes a feed takes of a chunk where the stream goes on: none while more than half of the room is filled
 pub record IsPortion (r : Run) (chunk : List ℕ) (taken : ℕ) (answer : Answer) : Type 0 where
   pub filled : r.waiting.room < 2 * length r.waiting.bytes → taken ≡ 0
-  pub free : 2 * length r.waiting.bytes ≤ r.waiting.room → taken ≡ min (length chunk) r.step
+  pub free : 2 * length r.waiting.bytes ≤ r.waiting.room → taken ≡ min (length chunk) (step_of r.share (r.waiting.room - length r.waiting.bytes))
   pub done : answer ≡ Done → taken ≡ 0 → chunk ≡ []
   pub full : answer ≡ Full → (taken ≡ 0) × (r.waiting.room < 2 * length r.waiting.bytes)
 
@@ -146,4 +152,5 @@ pub record IsKept (r r' : Run) : Type 0 where
   pub waits : length r'.waiting.bytes ≤ r'.waiting.room
   pub claims : r'.account.live ≤ r'.account.limit
   pub limit : r'.account.limit ≡ r.account.limit
-  pub step : r'.step ≡ r.step
+  pub share : r'.share ≡ r.share
+  pub told : r'.told ≡ r.told

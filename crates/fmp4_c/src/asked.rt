@@ -1,7 +1,7 @@
 //! What C asks for.
 
-ghost use Rattle.std.specs.Prelude.{◌≡◌, ℕ, ◌<◌, IfErr, IfOk};
-ghost use Rattle.fmp4_c.specs.Calls.{IsCutBy, IsOutOfRange, IsSplitBy, checked_by, step_of};
+ghost use Rattle.std.specs.Prelude.{◌≡◌, ℕ, ◌≤◌, IfErr, IfOk};
+ghost use Rattle.fmp4_c.specs.Calls.{IsCutBy, IsInRange, IsOutOfRange, IsSplitBy, checked_by, share_of};
 
 use crate::answer::Answer;
 use mp4_push::{Command, Cut, Plan};
@@ -15,6 +15,12 @@ const SYNC: u32 = 2;
 /// The most samples of a piece.
 const MOST_SAMPLES: u32 = 1_000_000;
 
+/// A feed takes a 128th of what is free in the room: a byte of a sample becomes at most 117 of output.
+const SHARE: usize = 128;
+
+/// And with an index a 512th: a byte may be a run of its own, with an index of its own.
+const SHARE_WITH_INDEX: usize = 512;
+
 /// What a stream is opened for.
 #[derive(Clone, Copy)]
 pub struct Asked {
@@ -24,8 +30,8 @@ pub struct Asked {
     pub limit: u64,
     /// How many bytes of output may wait.
     pub room: usize,
-    /// How many bytes of a chunk are taken at once.
-    pub step: usize,
+    /// Which share of what is free in the room is taken of a chunk at once, as 128 for a 128th; 0: the chunk as a whole.
+    pub share: usize,
 }
 
 impl Asked {
@@ -43,7 +49,7 @@ impl Asked {
     ) -> Result<Asked, Answer>
         ensures ok { IfOk result (IsSplitBy samples bytes flags limit room) }
         ensures err { IfErr result (IsOutOfRange samples bytes flags room) }
-        ensures some { IfOk result (λ q. 0 < q.step) }
+        ensures in_range { IfOk result (λ q. IsInRange samples bytes flags room) }
     {
         if room == 0 {
             return Err(Answer::BadRoom);
@@ -53,7 +59,7 @@ impl Asked {
                 plan: Plan::Split(cut),
                 limit,
                 room,
-                step: step_by(room),
+                share: share_by(flags),
             }),
             Err(out) => Err(out),
         }
@@ -67,17 +73,19 @@ impl Asked {
             plan: Plan::List(Command::Check),
             limit,
             room: 0,
-            step: usize::MAX,
+            share: 0,
         }
     }
 }
 
-/// How many bytes of a chunk are taken at once.
-fn step_by(room: usize) -> usize
-    ensures is { result ≡ step_of room }
-    ensures some { 0 < result }
+/// Which share of what is free in the room is taken of a chunk.
+fn share_by(flags: u32) -> usize
+    ensures { result ≡ share_of flags }
 {
-    (room / 16).max(1)
+    if flags % 2 == 1 {
+        return SHARE_WITH_INDEX;
+    }
+    SHARE
 }
 
 /// The cut of these numbers.
@@ -88,6 +96,8 @@ fn step_by(room: usize) -> usize
 fn cut_by(samples: u32, bytes: u64, flags: u32) -> Result<Cut, Answer>
     ensures ok { IfOk result (IsCutBy samples bytes flags) }
     ensures err { IfErr result (λ a. (room : ℕ) → IsOutOfRange samples bytes flags room a) }
+    ensures in_range { IfOk result (λ cut. (room : ℕ) → 1 ≤ room →
+        IsInRange samples bytes flags room) }
 {
     if flags > (INDEX | SYNC) {
         return Err(Answer::BadFlags);

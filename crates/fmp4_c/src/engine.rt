@@ -1,6 +1,6 @@
 //! A Feeder with its memory and its output.
 
-ghost use Rattle.std.specs.Prelude.{◌≡◌, ℕ, ◌+◌, ◌*◌, ◌<◌, ◌≤◌, ◌↔◌, List, ◌++◌, length, take, drop, min};
+ghost use Rattle.std.specs.Prelude.{◌≡◌, ℕ, ◌+◌, ◌-◌, ◌*◌, ◌<◌, ◌≤◌, ◌↔◌, List, ◌++◌, length, take, drop, min};
 ghost use Rattle.std.specs.Prelude.{None, Some, IfOk, IsErrOf};
 ghost use Rattle.mp4_push.specs.Feeders.{Feeding};
 ghost use Rattle.mp4_recut.specs.declared.plan.Plan as plans;
@@ -8,7 +8,7 @@ ghost use Rattle.mp4_machine.specs.declared.stop.Stop as stops;
 ghost use Rattle.fmp4_c.specs.Answers.{answer_to, number_of};
 ghost use Rattle.fmp4_c.specs.Calls.{IsOpened};
 ghost use Rattle.fmp4_c.specs.Engines.{ClaimsWithin, Fed, Finished, FitsIn, Holds, IsKept, IsPortion, Stopped};
-ghost use Rattle.fmp4_c.specs.Engines.{held_in, report_of};
+ghost use Rattle.fmp4_c.specs.Engines.{held_in, report_of, step_of};
 ghost use Rattle.fmp4_c.specs.declared.answer.Answer as answers;
 
 use crate::answer::Answer;
@@ -26,20 +26,22 @@ pub struct Engine {
     ledger: Ledger,
     feeder: Option<Feeder>,
     out: Output,
-    /// How many bytes of a chunk are taken at once.
-    step: usize,
+    /// Which share of what is free in the room is taken of a chunk at once; 0: the chunk as a whole.
+    share: usize,
+    /// What was reported at the end.
+    told: Report,
 }
 
-// A contract sees the account, the Feeder, what waits to be taken, and the step.
+// A contract sees the account, the Feeder, what waits to be taken, the share, and what was reported at the end.
 impl Model for Engine {
-    ghost use Rattle.std.specs.Prelude.{◌≡◌, ◌<◌};
+    ghost use Rattle.std.specs.Prelude.{◌≡◌};
     ghost use Rattle.fmp4_c.specs.Engines.{Run, held_in};
 
     ghost Value = { Run };
 
-    ghost view = { λ e. record { account = e.ledger; feeding = e.feeder; waiting = e.out; step = e.step } };
+    ghost view = { λ e. record { account = e.ledger; feeding = e.feeder; waiting = e.out; share = e.share; told = e.told } };
 
-    ghost invariant = { λ e. (e.ledger.live ≡ held_in e.feeder) × (0 < e.step) };
+    ghost invariant = { λ e. e.ledger.live ≡ held_in e.feeder };
 }
 
 /// What a feed did.
@@ -59,7 +61,6 @@ impl Engine {
     ///
     /// `OverLimit` where the room passes the limit; else `Memory` where the allocator has none for it.
     pub fn new(alloc: Global, asked: Asked) -> Result<Engine, Refused>
-        requires { 0 < asked.step }
         ensures opened { IfOk result (λ e. IsOpened asked (Some e)) }
         ensures over_limit { IsErrOf result Refused.OverLimit ↔ (asked.limit < asked.room) }
     {
@@ -71,7 +72,8 @@ impl Engine {
                 ledger: Ledger::new(alloc, asked.limit - asked.room as u64),
                 feeder: Some(Feeder::with_plan(asked.plan)),
                 out,
-                step: asked.step,
+                share: asked.share,
+                told: Report::none(),
             }),
             Err(_) => Err(Refused::Memory),
         }
@@ -81,13 +83,16 @@ impl Engine {
     fn portion(&self, chunk: usize) -> usize
         ensures filled { self.now.waiting.room < 2 * length self.now.waiting.bytes → result ≡ 0 }
         ensures free { 2 * length self.now.waiting.bytes ≤ self.now.waiting.room →
-            result ≡ min chunk self.now.step }
+            result ≡ min chunk
+                (step_of self.now.share (self.now.waiting.room - length self.now.waiting.bytes)) }
+        ensures some { 2 * length self.now.waiting.bytes ≤ self.now.waiting.room → 0 < chunk →
+            0 < result }
         ensures within { result ≤ chunk }
     {
         if self.out.len() > self.out.free() {
             return 0;
         }
-        chunk.min(self.step)
+        chunk.min(step_by(self.share, self.out.free()))
     }
 
     /// Feeds a chunk of the stream, or the front of one. After a stop it answers the same, and takes nothing.
@@ -152,17 +157,18 @@ impl Engine {
         ensures rest { drop result out.new ≡ drop result out.old }
         ensures kept { (self.new.feeding ≡ self.old.feeding) ×
             (self.new.waiting.room ≡ self.old.waiting.room) ×
-            (self.new.account ≡ self.old.account) × (self.new.step ≡ self.old.step) }
+            (self.new.account ≡ self.old.account) × (self.new.share ≡ self.old.share) ×
+            (self.new.told ≡ self.old.told) }
     {
         self.out.take(out)
     }
 
-    /// Says what was counted so far, and for which fault the stream stopped, if it did.
+    /// Says what was counted so far, and for which fault the stream stopped, if it did; at its end, what was reported there.
     pub fn totals(&mut self, report: &mut Report) -> Answer
         ensures tells { (p : Feeding) → self.old.feeding ≡ Some p →
             (result ≡ Answer.Done) × (report.new ≡ report_of p) }
         ensures ended { self.old.feeding ≡ None →
-            (result ≡ Answer.Ended) × (report.new ≡ report.old) }
+            (result ≡ Answer.Done) × (report.new ≡ self.old.told) }
         ensures kept { self.new ≡ self.old }
     {
         match &self.feeder {
@@ -170,7 +176,10 @@ impl Engine {
                 *report = Report::of(&feeder.totals(), fault_in(feeder.stop()));
                 Answer::Done
             }
-            None => Answer::Ended,
+            None => {
+                *report = self.told;
+                Answer::Done
+            }
         }
     }
 
@@ -182,6 +191,8 @@ impl Engine {
             p.stop ≡ Some e → (result ≡ answer_to e) × (report.new ≡ report_of p) }
         ensures ended { self.old.feeding ≡ None →
             (result ≡ Answer.Ended) × (report.new ≡ report.old) }
+        ensures told { (p : Feeding) → self.old.feeding ≡ Some p → self.new.told ≡ report.new }
+        ensures told_before { self.old.feeding ≡ None → self.new.told ≡ self.old.told }
         ensures waits { self.new.waiting ≡ self.old.waiting }
         ensures ends { self.new.feeding ≡ None }
         ensures back { self.new.account.live ≡ 0 }
@@ -192,10 +203,12 @@ impl Engine {
                 match feeder.finish(&mut self.ledger) {
                     Ok(_) => {
                         *report = Report::of(&totals, None);
+                        self.told = *report;
                         Answer::Done
                     }
                     Err(stop) => {
                         *report = Report::of(&totals, fault_in(Some(stop)));
+                        self.told = *report;
                         Answer::of_stop(stop)
                     }
                 }
@@ -211,11 +224,23 @@ impl Drop for Engine {
             ledger,
             feeder,
             out: _,
-            step: _,
+            share: _,
+            told: _,
         } = self;
         let mut ledger = ledger;
         give_back(feeder, &mut ledger);
     }
+}
+
+/// How many bytes of a chunk are taken at once, where so many are free in the room.
+fn step_by(share: usize, free: usize) -> usize
+    ensures is { result ≡ step_of share free }
+    ensures some { 0 < result }
+{
+    if share == 0 {
+        return usize::MAX;
+    }
+    (free / share).max(1)
 }
 
 /// Gives back all that a Feeder has claimed.

@@ -51,6 +51,7 @@ pub extern "C" fn fmp4_feed(
     ensures closed { stream.old.handle.held ≡ None →
         (result ≡ number_of (at_rest stream.old.closed)) × (taken.new ≡ 0) ×
         (stream.new.handle.held ≡ None) }
+    ensures rests { stream.new.closed ≡ stream.old.closed }
 {
     match replace(&mut stream.handle, Handle::none()).into_box(alloc) {
         Some(engine) => {
@@ -91,10 +92,12 @@ pub extern "C" fn fmp4_take(
     ensures rest { drop taken.new out.new ≡ drop taken.new out.old }
     ensures kept { (r : Run) → stream.old.handle.held ≡ Some r →
         IfSome stream.new.handle.held (λ r'. (r'.feeding ≡ r.feeding) ×
-        (r'.waiting.room ≡ r.waiting.room) × (r'.account ≡ r.account) × (r'.step ≡ r.step)) }
+        (r'.waiting.room ≡ r.waiting.room) × (r'.account ≡ r.account) × (r'.share ≡ r.share) ×
+        (r'.told ≡ r.told)) }
     ensures closed { stream.old.handle.held ≡ None →
         (result ≡ number_of (at_rest stream.old.closed)) × (taken.new ≡ 0) ×
         (stream.new.handle.held ≡ None) }
+    ensures rests { stream.new.closed ≡ stream.old.closed }
 {
     match replace(&mut stream.handle, Handle::none()).into_box(alloc) {
         Some(engine) => {
@@ -110,7 +113,7 @@ pub extern "C" fn fmp4_take(
     }
 }
 
-/// Says what was counted so far, and for which fault the stream stopped, if it did.
+/// Says what was counted so far, and for which fault the stream stopped, if it did; at its end, what was reported there.
 #[unsafe(no_mangle)]
 pub extern "C" fn fmp4_totals(alloc: Global, stream: &mut Stream, report: &mut Report) -> u32
     ensures tells { (r : Run) → (p : Feeding) → stream.old.handle.held ≡ Some r →
@@ -118,10 +121,11 @@ pub extern "C" fn fmp4_totals(alloc: Global, stream: &mut Stream, report: &mut R
     ensures counts { (plan : plans.Plan) → (b given : List ℕ) →
         HoldsIn plan b given stream.old.handle.held → report.new ≡ told_by (counted_in plan b) None }
     ensures ended { (r : Run) → stream.old.handle.held ≡ Some r → r.feeding ≡ None →
-        (result ≡ number_of Answer.Ended) × (report.new ≡ report.old) }
+        (result ≡ number_of Answer.Done) × (report.new ≡ r.told) }
     ensures closed { stream.old.handle.held ≡ None →
         (result ≡ number_of (at_rest stream.old.closed)) × (report.new ≡ report.old) }
     ensures kept { stream.new.handle.held ≡ stream.old.handle.held }
+    ensures rests { stream.new.closed ≡ stream.old.closed }
 {
     match replace(&mut stream.handle, Handle::none()).into_box(alloc) {
         Some(engine) => {
@@ -144,12 +148,17 @@ pub extern "C" fn fmp4_finish(alloc: Global, stream: &mut Stream, report: &mut R
         (result ≡ number_of (answer_to e)) × (report.new ≡ report_of p) }
     ensures ended { (r : Run) → stream.old.handle.held ≡ Some r → r.feeding ≡ None →
         (result ≡ number_of Answer.Ended) × (report.new ≡ report.old) }
+    ensures told { (r : Run) → (p : Feeding) → stream.old.handle.held ≡ Some r →
+        r.feeding ≡ Some p → IfSome stream.new.handle.held (λ r'. r'.told ≡ report.new) }
+    ensures told_before { (r : Run) → stream.old.handle.held ≡ Some r → r.feeding ≡ None →
+        IfSome stream.new.handle.held (λ r'. r'.told ≡ r.told) }
     ensures waits { (r : Run) → stream.old.handle.held ≡ Some r →
         IfSome stream.new.handle.held (λ r'. (r'.waiting ≡ r.waiting) × (r'.feeding ≡ None) ×
         (r'.account.live ≡ 0)) }
     ensures closed { stream.old.handle.held ≡ None →
         (result ≡ number_of (at_rest stream.old.closed)) × (report.new ≡ report.old) ×
         (stream.new.handle.held ≡ None) }
+    ensures rests { stream.new.closed ≡ stream.old.closed }
 {
     match replace(&mut stream.handle, Handle::none()).into_box(alloc) {
         Some(engine) => {

@@ -1,6 +1,6 @@
 //! How a stream is opened.
 
-ghost use Rattle.std.specs.Prelude.{◌≡◌, ℕ, ◌<◌, None, Some, IfErr, IfOk};
+ghost use Rattle.std.specs.Prelude.{◌≡◌, ℕ, None, Some, IfErr, IfOk};
 ghost use Rattle.fmp4_c.specs.Answers.{number_of};
 ghost use Rattle.fmp4_c.specs.Calls.{IsOpened, Opens, OpensOr, SplitOpens, checked_by};
 ghost use Rattle.fmp4_c.specs.Engines.{Run};
@@ -32,7 +32,9 @@ pub extern "C" fn fmp4_split_open(
         (answer : answers.Answer) × (result ≡ number_of answer) ×
         SplitOpens samples bytes flags limit room answer stream.new.handle.held }
     ensures open { (r : Run) → stream.old.handle.held ≡ Some r →
-        (result ≡ number_of Answer.IsOpen) × (stream.new.handle.held ≡ Some r) }
+        (result ≡ number_of Answer.IsOpen) × (stream.new.handle.held ≡ Some r) ×
+        (stream.new.closed ≡ stream.old.closed) }
+    ensures rests { stream.new.handle.held ≡ None → stream.new.closed ≡ stream.old.closed }
 {
     open(
         alloc,
@@ -49,18 +51,21 @@ pub extern "C" fn fmp4_check_open(alloc: Global, stream: &mut Stream, limit: u64
         (answer : answers.Answer) × (result ≡ number_of answer) ×
         Opens (checked_by limit) answer stream.new.handle.held }
     ensures open { (r : Run) → stream.old.handle.held ≡ Some r →
-        (result ≡ number_of Answer.IsOpen) × (stream.new.handle.held ≡ Some r) }
+        (result ≡ number_of Answer.IsOpen) × (stream.new.handle.held ≡ Some r) ×
+        (stream.new.closed ≡ stream.old.closed) }
+    ensures rests { stream.new.handle.held ≡ None → stream.new.closed ≡ stream.old.closed }
 {
     open(alloc, stream, Ok(Asked::check(limit))).number()
 }
 
 /// Opens a stream, where none is open and what is asked for is in range.
 fn open(alloc: Global, stream: &mut Stream, asked: Result<Asked, Answer>) -> Answer
-    requires { IfOk asked (λ q. 0 < q.step) }
     ensures opens { stream.old.handle.held ≡ None →
         OpensOr asked result stream.new.handle.held }
     ensures open { (r : Run) → stream.old.handle.held ≡ Some r →
-        (result ≡ Answer.IsOpen) × (stream.new.handle.held ≡ Some r) }
+        (result ≡ Answer.IsOpen) × (stream.new.handle.held ≡ Some r) ×
+        (stream.new.closed ≡ stream.old.closed) }
+    ensures rests { stream.new.handle.held ≡ None → stream.new.closed ≡ stream.old.closed }
 {
     match replace(&mut stream.handle, Handle::none()).into_box(alloc) {
         Some(engine) => {
@@ -87,7 +92,6 @@ fn open(alloc: Global, stream: &mut Stream, asked: Result<Asked, Answer>) -> Ans
 ///
 /// `OverLimit` where the room passes the limit; else `NoMemory`.
 fn new_box(alloc: Global, asked: Asked) -> Result<Box<Engine>, Answer>
-    requires { 0 < asked.step }
     ensures ok { IfOk result (λ e. IsOpened asked (Some e.value)) }
     ensures err { IfErr result (λ a. Opens asked a None) }
 {

@@ -26,6 +26,19 @@ pub struct Report {
 }
 
 impl Report {
+    /// None yet.
+    pub(crate) fn none() -> Report {
+        Report {
+            fragments: 0,
+            samples: 0,
+            media_bytes: 0,
+            peak: 0,
+            offset: 0,
+            rule: 0,
+            kind: 0,
+        }
+    }
+
     /// What was counted, and the fault where there is one.
     pub(crate) fn of(totals: &Totals, fault: Option<Fault>) -> Report
         ensures { result ≡ told_by (counted_of totals.now) fault }

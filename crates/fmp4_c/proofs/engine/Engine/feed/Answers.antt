@@ -10,8 +10,8 @@ pub returns-in-Err-clause-feeds : goal.returns-in-Err-clause-feeds
 returns-in-Err-clause-feeds c = rw (c.fed-in-Err.ensures.is, c.of_stop-in-Err.ensures) (λ plan b given h.
     let chunk = take c.portion-taken.result c.args.chunk.now in
     let p = c.in-Some.feeder in
-    let now : Run = record { account = c.self.inside.ledger; feeding = c.self.inside.feeder; waiting = c.self.inside.out; step = c.self.inside.step } in
-    let next : Run = record { account = c.feed.new.ledger; feeding = Some c.feed.new.self; waiting = c.feed.new.w; step = c.self.inside.step } in
+    let now : Run = record { account = c.self.inside.ledger; feeding = c.self.inside.feeder; waiting = c.self.inside.out; share = c.self.inside.share; told = c.self.inside.told } in
+    let next : Run = record { account = c.feed.new.ledger; feeding = Some c.feed.new.self; waiting = c.feed.new.w; share = c.self.inside.share; told = c.self.inside.told } in
     let l : Lent = record {
       written = Some (c.self.inside.out.room ∷ c.self.inside.out.bytes);
       written' = Some (c.feed.new.w.room ∷ c.feed.new.w.bytes);
@@ -21,7 +21,7 @@ returns-in-Err-clause-feeds c = rw (c.fed-in-Err.ensures.is, c.of_stop-in-Err.en
       account' = c.feed.new.ledger;
     } in
     let before : Holds plan b given now = subst (λ (r : Run). Holds plan b given r) (sym c.self.view_is) h in
-    let had = c.self.invariant.0 ∙ ap held_in c.in-Some.is in
+    let had = c.self.invariant ∙ ap held_in c.in-Some.is in
     let idle : c.feed.new.ledger.live ≡ 0 = omega (arith, c.in-Err.ensures.live, c.in-Err.ensures.spent, had) in
     let fed = stopped b given chunk now next p c.feed.new.self l refl c.feed.ensures.plan refl refl (text-its plan b given now p c.in-Some.is before) refl idle (after-its plan b given now p c.in-Some.is before) refl refl c.in-Err.stop c.in-Err.ensures.stops (c.in-Err.ensures.feeds b (after-its plan b given now p c.in-Some.is before)) in
     fed-stopped plan (b ++ chunk) given next c.in-Err.stop (subst (λ (k : Plan). Stopped k (b ++ chunk) given (answer_to c.in-Err.stop) next) (plan-its plan b given now p c.in-Some.is before) fed))

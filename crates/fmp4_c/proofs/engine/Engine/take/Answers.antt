@@ -5,7 +5,7 @@ use Rattle.fmp4_c.proofs.engine.Engine.take.Goals as goal
 
 pub returns-clause-stopped : goal.returns-clause-stopped
 returns-clause-stopped c = λ plan b given a h.
-    let now : Run = record { account = c.self.inside.ledger; feeding = c.self.inside.feeder; waiting = c.self.inside.out; step = c.self.inside.step } in
-    let next : Run = record { account = c.self.inside.ledger; feeding = c.self.inside.feeder; waiting = c.take.new.self; step = c.self.inside.step } in
+    let now : Run = record { account = c.self.inside.ledger; feeding = c.self.inside.feeder; waiting = c.self.inside.out; share = c.self.inside.share; told = c.self.inside.told } in
+    let next : Run = record { account = c.self.inside.ledger; feeding = c.self.inside.feeder; waiting = c.take.new.self; share = c.self.inside.share; told = c.self.inside.told } in
     let before : Stopped plan b given a now = subst (λ (r : Run). Stopped plan b given a r) (sym c.self.view_is) h in
     stopped-taken plan b given c.take.new.out c.take.result now next c.take.ensures.front c.take.ensures.left refl refl a before
