@@ -96,19 +96,37 @@ static void too_large(void) {
     WANT(cut(100000, 0, 4096, 1610000, 0) == FMP4_OK);
     WANT(cut(1, FMP4_INDEX, 4096, 786459, 0) == FMP4_NO_ROOM);
     WANT(cut(1, FMP4_INDEX, 4096, ROOM, 0) == FMP4_OK);
-    make(1, 100000, 0, 0);
-    WANT(cut(1, 0, 4096, ROOM, 0) == FMP4_NO_ROOM);
-    make(1, 10000, 0, 0);
-    WANT(cut(1, 0, 4096, ROOM, 0) == FMP4_OK);
+}
+
+/* How many bytes are written of a fragment of samples without bytes: heads, mdats and indexes. */
+static size_t written_of(uint32_t count, uint32_t samples, uint32_t flags) {
+    size_t pieces = (count + samples - 1) / samples, groups = (pieces + 65534) / 65535;
+    return 100 * pieces + 16 * (size_t)count + (flags & FMP4_INDEX ? 40 * groups + 12 * pieces : 0);
+}
+
+/* As many of them as fit with the front of the stream, which comes in the same chunk, and one more. */
+static unsigned without_bytes(void) {
+    static const uint32_t cuts[] = {1, 2, 5, 7, 15, 50, 1000};
+    unsigned fit = 0;
+    for (int k = 0; k < 7; k++)
+        for (uint32_t flags = 0; flags < 2; flags++, fit++) {
+            uint32_t count = 1;
+            while (FRONT + written_of(count + 1, cuts[k], flags) <= ROOM) count++;
+            make(1, count, 0, 0);
+            WANT(cut(cuts[k], flags, 4096, ROOM, 0) == FMP4_OK);
+            make(1, count + 1, 0, 0);
+            WANT(cut(cuts[k], flags, 4096, ROOM, 0) == FMP4_NO_ROOM);
+        }
+    return fit;
 }
 
 int main(void) {
     given = read_all(stdin);
     WANT(given.len == 483);
-    unsigned one = in_one_fragment(), many = in_many_fragments();
+    unsigned fit = in_one_fragment() + in_many_fragments(), edges = without_bytes();
     too_large();
-    printf("room: %u cuts of small samples find it; too large a moov, head or index and samples of no bytes don't\n",
-           one + many);
+    printf("room: %u cuts of small samples find it; a moov, head or index that is larger doesn't, nor do more samples "
+           "without bytes than %u cuts have room for\n", fit, edges);
     free(given.at);
     free(in.at);
     return 0;
