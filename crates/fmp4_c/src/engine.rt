@@ -84,7 +84,7 @@ impl Engine {
         ensures filled { self.now.waiting.room < 2 * length self.now.waiting.bytes → result ≡ 0 }
         ensures free { 2 * length self.now.waiting.bytes ≤ self.now.waiting.room →
             result ≡ min chunk
-                (step_of self.now.share (self.now.waiting.room - length self.now.waiting.bytes)) }
+            (step_of self.now.share (self.now.waiting.room - length self.now.waiting.bytes)) }
         ensures some { 2 * length self.now.waiting.bytes ≤ self.now.waiting.room → 0 < chunk →
             0 < result }
         ensures within { result ≤ chunk }

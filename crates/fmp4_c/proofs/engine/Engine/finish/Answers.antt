@@ -11,5 +11,5 @@ returns-in-Err-clause-finishes c = λ plan b given h.
     let before : Holds plan b given now = subst (λ (r : Run). Holds plan b given r) (sym c.self.view_is) h in
     let is = sym c.in-Some.ensures.value in
     subst (λ (a : Answer). Finished plan b a c.of-in-Err.result) (sym c.of_stop.ensures)
-      (finished-err plan b given now p c.in-Err.stop is before (c.in-Err.ensures.finishes b (after-its plan b given now p is before)) c.of-in-Err.result
-      (rw (c.of-in-Err.ensures, c.totals-totals.ensures.totals, c.fault_in.ensures) refl))
+    (finished-err plan b given now p c.in-Err.stop is before (c.in-Err.ensures.finishes b (after-its plan b given now p is before)) c.of-in-Err.result
+    (rw (c.of-in-Err.ensures, c.totals-totals.ensures.totals, c.fault_in.ensures) refl))
