@@ -215,7 +215,7 @@ impl FragmentMachine {
     /// # Errors
     ///
     /// Where nothing is taken: what was found in the moof, if that was looked at.
-    #[inline(always)]
+    #[inline(never)]
     pub(crate) fn check_whole(
         &mut self,
         at: u64,
