@@ -1,7 +1,7 @@
 //! Cuts the first run of a moof and counts the bytes that are written for its pieces: their moofs,
 //! and the headers of their mdats. Standard input has the greatest number of samples of a piece, in
 //! four bytes with the highest first, a moov and a moof. What it must print for the first test
-//! vector, cut by two samples, stands in the file stdout.
+//! vector, cut by two samples, is in the file stdout.
 #![tactic(auto)]
 
 ghost use Rattle.std.specs.Prelude.{◌≡◌, ◌+◌, ◌^◌, ◌≤◌, length, Option, List, ℕ, None, Bool, true, false, IfOk, IfSome, OnErr, OnOk};
@@ -137,9 +137,9 @@ fn print_counts(rt: &HostRuntime) -> io::Result<()> {
         bytes: 0,
         writes: 0,
     };
-    let told = cut_first(&list, moof, &cut, &mut w);
+    let outcome = cut_first(&list, moof, &cut, &mut w);
     list.back(&mut ledger);
-    match told {
+    match outcome {
         Some(pieces) => println!(rt; "{} pieces, {} bytes, {} writes", pieces, w.bytes, w.writes),
         None => println!(rt; "no run"),
     }

@@ -120,9 +120,9 @@ fn check_run(
     let mut w = ToVec::new(alloc, given.room, given.step, given.flushes)?;
     let mut fault_w = ToVec::new(alloc, given.fault_room, given.step, true)?;
     let got = run(alloc, words_of(alloc, words)?, &mut r, &mut w, &mut fault_w);
-    let told = (got, w.bytes(), fault_w.bytes());
+    let seen = (got, w.bytes(), fault_w.bytes());
     assert_eq!(rt;
-        told,
+        seen,
         (status, listing, fault),
         "{words:?}, room for {}",
         given.room

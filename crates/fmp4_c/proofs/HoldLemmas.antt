@@ -4,7 +4,7 @@ use Rattle.std.proofs.lemmas.List.{take-append-drop}
 use Rattle.std.proofs.lemmas.Option.{none-some}
 use Rattle.std.specs.Io.KnownBytes.{Appends}
 use Rattle.mp4_ledger.specs.Memory.{Account}
-use Rattle.mp4_machine.specs.Fed.{AllWhole, FedUntil, Lent, StarvesBehind, TellsRest}
+use Rattle.mp4_machine.specs.Fed.{AllWhole, FedUntil, Borrowed, ClaimRefusedAfter, WritesRest}
 use Rattle.mp4_box.specs.declared.rules.Fault as faults
 use Rattle.mp4_machine.specs.Readings.{Effects, Reading, both, whole_in, fault_in as faults_in}
 use Rattle.mp4_machine.specs.declared.stop.Stop.{Stop}
@@ -12,9 +12,9 @@ use Rattle.mp4_machine.specs.declared.stop.Stop.TheVariants.{Stream, Read, Write
 use Rattle.mp4_machine.proofs.MarkLemmas.{whole_in-before, whole_in-both}
 use Rattle.mp4_push.specs.Feeders.{Feeds, Finishes, IsAfter, Feeding, WritesBefore, held_by, live, sums_of, totals_of}
 use Rattle.mp4_push.proofs.FeederLemmas.{reading-none}
-use Rattle.mp4_recut.specs.Plans.{reads_of}
-use Rattle.mp4_recut.specs.declared.plan.Plan.{Plan}
-use Rattle.fmp4_c.specs.Answers.{Counted, answer_to, counted_of, fault_of, told_by}
+use Rattle.mp4_recut.specs.Operations.{reads_of}
+use Rattle.mp4_recut.specs.declared.operation.Operation.{Operation}
+use Rattle.fmp4_c.specs.Answers.{Counted, answer_to, counted_of, fault_of, report_from}
 use Rattle.fmp4_c.specs.Engines.{Fed, Finished, Holds, IsRefused, Run, Stopped, StopsIn, counted_in, report_of}
 use Rattle.fmp4_c.specs.declared.answer.Answer.{Answer}
 use Rattle.fmp4_c.specs.declared.report.Report.{Report}
@@ -29,30 +29,30 @@ tail-is : (x y : ℕ) (xs ys : List ℕ) → ◌≡◌ {A = List ℕ} (x ∷ xs)
 tail-is x y xs ys h = cc
 
 -- no bytes have no output
-pub live-none : (plan : Plan) → live plan [] ≡ []
-live-none plan = ap (λ (r : Reading). r.effects.text) (reading-none plan)
+pub live-none : (operation : Operation) → live operation [] ≡ []
+live-none operation = ap (λ (r : Reading). r.effects.text) (reading-none operation)
 
 -- ---- the Feeder of an engine that holds so
 
-module _ (plan : Plan) (b given : List ℕ) (r : Run) (p : Feeding) (is : r.feeding ≡ Some p) (h : Holds plan b given r) where
+module _ (operation : Operation) (b given : List ℕ) (r : Run) (p : Feeding) (is : r.feeding ≡ Some p) (h : Holds operation b given r) where
   its : h.feeding ≡ p
   its = some-is h.feeding p (sym h.runs ∙ is)
 
   pub after-its : IsAfter p b
-  after-its = subst (λ (x : Feeding). IsAfter x b) its h.stands
+  after-its = subst (λ (x : Feeding). IsAfter x b) its h.is_after
 
-  pub plan-its : p.plan ≡ plan
-  plan-its = sym (ap (λ (x : Feeding). x.plan) its) ∙ h.planned
+  pub operation-its : p.operation ≡ operation
+  operation-its = sym (ap (λ (x : Feeding). x.operation) its) ∙ h.is_operation
 
-  pub text-its : given ++ r.waiting.bytes ≡ live p.plan b
-  text-its = h.text ∙ ap (λ (k : Plan). live k b) (sym plan-its)
+  pub text-its : given ++ r.waiting.bytes ≡ live p.operation b
+  text-its = h.text ∙ ap (λ (k : Operation). live k b) (sym operation-its)
 
   pub runs-its : p.stop ≡ None
   runs-its = after-its.running
 
--- ---- a chunk was fed
+-- ---- the input was fed
 
-module _ (b given chunk : List ℕ) (r r' : Run) (p p' : Feeding) (l : Lent) (is' : r'.feeding ≡ Some p') (same : p'.plan ≡ p.plan) (here : l.written ≡ Some (r.waiting.room ∷ r.waiting.bytes)) (there : l.written' ≡ Some (r'.waiting.room ∷ r'.waiting.bytes)) where
+module _ (b given input : List ℕ) (r r' : Run) (p p' : Feeding) (l : Borrowed) (is' : r'.feeding ≡ Some p') (same : p'.operation ≡ p.operation) (here : l.written ≡ Some (r.waiting.room ∷ r.waiting.bytes)) (there : l.written' ≡ Some (r'.waiting.room ∷ r'.waiting.bytes)) where
   appended : (more : List ℕ) → Appends l.written l.written' more → Appends (Some (r.waiting.room ∷ r.waiting.bytes)) (Some (r'.waiting.room ∷ r'.waiting.bytes)) more
   appended more a = subst (λ (o : Option (List ℕ)). Appends (Some (r.waiting.room ∷ r.waiting.bytes)) o more) there (subst (λ (o : Option (List ℕ)). Appends o l.written' more) here a)
 
@@ -60,42 +60,42 @@ module _ (b given chunk : List ℕ) (r r' : Run) (p p' : Feeding) (l : Lent) (is
   same-room more a = head-is r'.waiting.room r.waiting.room r'.waiting.bytes (r.waiting.bytes ++ more) (appended more a)
 
   -- no write changes the room
-  pub room-ok : Feeds {T = Unit {0}} b chunk p p' l (Ok tt) → r'.waiting.room ≡ r.waiting.room
+  pub room-ok : Feeds {T = Unit {0}} b input p p' l (Ok tt) → r'.waiting.room ≡ r.waiting.room
   room-ok feeds = same-room feeds.ok.1.effects.text feeds.ok.1.text
 
-  room-until : (e : Stop) → FedUntil (reads_of p.plan) b chunk l (held_by p) (sums_of p') e → r'.waiting.room ≡ r.waiting.room
+  room-until : (e : Stop) → FedUntil (reads_of p.operation) b input l (held_by p) (sums_of p') e → r'.waiting.room ≡ r.waiting.room
   room-until (Stream f) until = same-room until.0.effects.text until.0.text
   room-until (Read at) until = absurd until
   room-until Write until = same-room until.text.0 until.text.2
   room-until OverLimit until = same-room until.0.effects.text until.0.text
   room-until Memory until = same-room until.0.effects.text until.0.text
 
-  pub room-err : (e : Stop) → Feeds {T = Unit {0}} b chunk p p' l (Err e) → r'.waiting.room ≡ r.waiting.room
+  pub room-err : (e : Stop) → Feeds {T = Unit {0}} b input p p' l (Err e) → r'.waiting.room ≡ r.waiting.room
   room-err e feeds = room-until e feeds.err.0
 
-  module _ (text : given ++ r.waiting.bytes ≡ live p.plan b) where
-    joined : (more : List ℕ) → Appends l.written l.written' more → given ++ r'.waiting.bytes ≡ live p.plan b ++ more
+  module _ (text : given ++ r.waiting.bytes ≡ live p.operation b) where
+    joined : (more : List ℕ) → Appends l.written l.written' more → given ++ r'.waiting.bytes ≡ live p.operation b ++ more
     joined more a =
         let grown : r'.waiting.bytes ≡ r.waiting.bytes ++ more = tail-is r'.waiting.room r.waiting.room r'.waiting.bytes (r.waiting.bytes ++ more) (appended more a) in
         ap (λ (x : List ℕ). given ++ x) grown ∙ sym (append_assoc given r.waiting.bytes more) ∙ ap (λ (x : List ℕ). x ++ more) text
 
-    by-text : (own own' : ℕ) (told : TellsRest (reads_of p.plan) b (b ++ chunk) l own own') → given ++ r'.waiting.bytes ≡ live p.plan (b ++ chunk)
-    by-text own own' told = joined told.effects.text told.text ∙ ap (λ (e : Effects). e.text) (sym told.all)
+    by-text : (own own' : ℕ) (reported : WritesRest (reads_of p.operation) b (b ++ input) l own own') → given ++ r'.waiting.bytes ≡ live p.operation (b ++ input)
+    by-text own own' reported = joined reported.effects.text reported.text ∙ ap (λ (e : Effects). e.text) (sym reported.all)
 
     -- no fault is decided
-    pub fed : Feeds {T = Unit {0}} b chunk p p' l (Ok tt) → Holds p.plan (b ++ chunk) given r'
+    pub fed : Feeds {T = Unit {0}} b input p p' l (Ok tt) → Holds p.operation (b ++ input) given r'
     fed feeds = record {
       feeding = p';
       runs = is';
-      planned = same;
-      stands = feeds.ok.0;
+      is_operation = same;
+      is_after = feeds.ok.0;
       text = by-text (held_by p) (held_by p') feeds.ok.1;
     }
 
-    abbrev refused : (s : StarvesBehind (reads_of p.plan) b (b ++ chunk) l (held_by p) (sums_of p')) → live p.plan (take s.request.at (b ++ chunk)) ≡ live p.plan b ++ s.effects.text → IsRefused p.plan (b ++ chunk) given p' r'
+    abbrev refused : (s : ClaimRefusedAfter (reads_of p.operation) b (b ++ input) l (held_by p) (sums_of p')) → live p.operation (take s.request.at (b ++ input)) ≡ live p.operation b ++ s.effects.text → IsRefused p.operation (b ++ input) given p' r'
     refused s before = record {
       request = s.request;
-      earlier = (both (reads_of p.plan b).effects s.effects).requests;
+      earlier = (both (reads_of p.operation b).effects s.effects).requests;
       later = s.requested.0;
       requests = s.requested.1;
       text = joined s.effects.text s.text ∙ sym before;
@@ -110,15 +110,15 @@ module _ (b given chunk : List ℕ) (r r' : Run) (p p' : Feeding) (l : Lent) (is
       same-live : l.account'.live ≡ r'.account.live
       same-live = ap (λ (a : Account). a.live) account
 
-      stops-in : (e : Stop) (until : FedUntil (reads_of p.plan) b chunk l (held_by p) (sums_of p') e) → WritesBefore p.plan b chunk l (held_by p) (sums_of p') e until → StopsIn p.plan (b ++ chunk) given e p' r'
+      stops-in : (e : Stop) (until : FedUntil (reads_of p.operation) b input l (held_by p) (sums_of p') e) → WritesBefore p.operation b input l (held_by p) (sums_of p') e until → StopsIn p.operation (b ++ input) given e p' r'
       stops-in (Stream f) until before = record { early = until.1; text = by-text (held_by p) 0 until.0; sums = until.2 }
       stops-in (Read at) until before = absurd until
       stops-in Write until before = record {
         rest = until.text.1;
         text =
             ap (λ (x : List ℕ). x ++ until.text.1) (joined until.text.0 until.text.2)
-            ∙ append_assoc (live p.plan b) until.text.0 until.text.1
-            ∙ ap (λ (x : List ℕ). live p.plan b ++ x) (sym until.text.3)
+            ∙ append_assoc (live p.operation b) until.text.0 until.text.1
+            ∙ ap (λ (x : List ℕ). live p.operation b ++ x) (sym until.text.3)
             ∙ ap (λ (e : Effects). e.text) (sym until.all);
         counted = until.most;
         claimed = until.peak_most;
@@ -127,48 +127,48 @@ module _ (b given chunk : List ℕ) (r r' : Run) (p p' : Feeding) (l : Lent) (is
       stops-in Memory until before = (refused until.0 before, omega (arith, until.1, same-limit, same-live, idle))
 
       -- the fragments that are whole in what was written
-      module _ (stands : IsAfter p b) (before : l.whole ≡ p.fragments) (after : l.whole' ≡ p'.fragments) where
+      module _ (is_after : IsAfter p b) (before : l.whole ≡ p.fragments) (after : l.whole' ≡ p'.fragments) where
         abbrev t : Effects
-        t = (reads_of p.plan b).effects
+        t = (reads_of p.operation b).effects
 
-        at-front : (brought : Effects) (n : ℕ) → whole_in (length t.text + n) 0 (both t brought).marks ≡ whole_in n l.whole brought.marks
-        at-front brought n = whole_in-both (length t.text) 0 l.whole t.marks brought.marks (subst (AllWhole t) (sym before) stands.fragments) n
+        at-front : (produced : Effects) (n : ℕ) → whole_in (length t.text + n) 0 (both t produced).fragment_ends ≡ whole_in n l.whole produced.fragment_ends
+        at-front produced n = whole_in-both (length t.text) 0 l.whole t.fragment_ends produced.fragment_ends (subst (AllWhole t) (sym before) is_after.fragments) n
 
         length-joined : (more : List ℕ) → Appends l.written l.written' more → length (given ++ r'.waiting.bytes) ≡ length t.text + length more
         length-joined more a = ap (λ (x : List ℕ). length x) (joined more a) ∙ length-append t.text more
 
-        whole-rest : (told : TellsRest (reads_of p.plan) b (b ++ chunk) l (held_by p) 0) → p'.fragments ≡ whole_in (length (given ++ r'.waiting.bytes)) 0 (reads_of p.plan (b ++ chunk)).effects.marks
-        whole-rest told =
-            let long : length (given ++ r'.waiting.bytes) ≡ length t.text + (length told.effects.text + 0) = omega (arith, length-joined told.effects.text told.text) in
-            sym after ∙ sym (told.fragments 0) ∙ sym (at-front told.effects (length told.effects.text + 0))
-            ∙ ap (λ k. whole_in k 0 (both t told.effects).marks) (sym long)
-            ∙ ap (λ (e : Effects). whole_in (length (given ++ r'.waiting.bytes)) 0 e.marks) (sym told.all)
+        whole-rest : (reported : WritesRest (reads_of p.operation) b (b ++ input) l (held_by p) 0) → p'.fragments ≡ whole_in (length (given ++ r'.waiting.bytes)) 0 (reads_of p.operation (b ++ input)).effects.fragment_ends
+        whole-rest reported =
+            let long : length (given ++ r'.waiting.bytes) ≡ length t.text + (length reported.effects.text + 0) = omega (arith, length-joined reported.effects.text reported.text) in
+            sym after ∙ sym (reported.fragments 0) ∙ sym (at-front reported.effects (length reported.effects.text + 0))
+            ∙ ap (λ k. whole_in k 0 (both t reported.effects).fragment_ends) (sym long)
+            ∙ ap (λ (e : Effects). whole_in (length (given ++ r'.waiting.bytes)) 0 e.fragment_ends) (sym reported.all)
 
-        whole-refused : (s : StarvesBehind (reads_of p.plan) b (b ++ chunk) l (held_by p) (sums_of p')) → p'.fragments ≡ whole_in (length (given ++ r'.waiting.bytes)) 0 (reads_of p.plan (b ++ chunk)).effects.marks
+        whole-refused : (s : ClaimRefusedAfter (reads_of p.operation) b (b ++ input) l (held_by p) (sums_of p')) → p'.fragments ≡ whole_in (length (given ++ r'.waiting.bytes)) 0 (reads_of p.operation (b ++ input)).effects.fragment_ends
         whole-refused s =
             let long : length (given ++ r'.waiting.bytes) ≡ s.request.text_before = omega (arith, length-joined s.effects.text s.text, s.placed) in
             let n : s.request.text_before ≡ length t.text + (length s.effects.text + 0) = omega (arith, s.placed) in
             sym after ∙ sym (s.fragments 0) ∙ sym (at-front s.effects (length s.effects.text + 0))
-            ∙ ap (λ k. whole_in k 0 (both t s.effects).marks) (sym n)
-            ∙ whole_in-before s.request.text_before 0 (both t s.effects).marks s.marked.0 (reads_of p.plan (b ++ chunk)).effects.marks s.marked.1 s.marked.2
-            ∙ ap (λ k. whole_in k 0 (reads_of p.plan (b ++ chunk)).effects.marks) (sym long)
+            ∙ ap (λ k. whole_in k 0 (both t s.effects).fragment_ends) (sym n)
+            ∙ whole_in-before s.request.text_before 0 (both t s.effects).fragment_ends s.marked.0 (reads_of p.operation (b ++ input)).effects.fragment_ends s.marked.1 s.marked.2
+            ∙ ap (λ k. whole_in k 0 (reads_of p.operation (b ++ input)).effects.fragment_ends) (sym long)
 
-        whole-stopped : (e : Stop) → FedUntil (reads_of p.plan) b chunk l (held_by p) (sums_of p') e → p'.fragments ≡ whole_in (length (given ++ r'.waiting.bytes)) 0 (reads_of p.plan (b ++ chunk)).effects.marks
+        whole-stopped : (e : Stop) → FedUntil (reads_of p.operation) b input l (held_by p) (sums_of p') e → p'.fragments ≡ whole_in (length (given ++ r'.waiting.bytes)) 0 (reads_of p.operation (b ++ input)).effects.fragment_ends
         whole-stopped (Stream f) until = whole-rest until.0
         whole-stopped (Read at) until = absurd until
         whole-stopped Write until =
             sym after ∙ until.fragments ∙ sym (at-front until.effects (length until.text.0))
-            ∙ ap (λ k. whole_in k 0 (both t until.effects).marks) (sym (length-joined until.text.0 until.text.2))
-            ∙ ap (λ (e : Effects). whole_in (length (given ++ r'.waiting.bytes)) 0 e.marks) (sym until.all)
+            ∙ ap (λ k. whole_in k 0 (both t until.effects).fragment_ends) (sym (length-joined until.text.0 until.text.2))
+            ∙ ap (λ (e : Effects). whole_in (length (given ++ r'.waiting.bytes)) 0 e.fragment_ends) (sym until.all)
         whole-stopped OverLimit until = whole-refused until.0
         whole-stopped Memory until = whole-refused until.0
 
-        pub stopped : (e : Stop) → p'.stop ≡ Some e → Feeds {T = Unit {0}} b chunk p p' l (Err e) → Stopped p.plan (b ++ chunk) given (answer_to e) r'
+        pub stopped : (e : Stop) → p'.stop ≡ Some e → Feeds {T = Unit {0}} b input p p' l (Err e) → Stopped p.operation (b ++ input) given (answer_to e) r'
         stopped e stop feeds = record {
           feeding = p';
           stop = e;
           runs = is';
-          planned = same;
+          is_operation = same;
           stops = stop;
           answers = refl;
           written = stops-in e feeds.err.0 feeds.err.1;
@@ -176,19 +176,19 @@ module _ (b given chunk : List ℕ) (r r' : Run) (p p' : Feeding) (l : Lent) (is
         }
 
 -- what a feed that stopped answers
-pub fed-stopped : (plan : Plan) (b given : List ℕ) (r : Run) (e : Stop) → Stopped plan b given (answer_to e) r → Fed plan b given (answer_to e) r
-fed-stopped plan b given r (Stream f) h = h
-fed-stopped plan b given r (Read at) h = h
-fed-stopped plan b given r Write h = h
-fed-stopped plan b given r OverLimit h = h
-fed-stopped plan b given r Memory h = h
+pub fed-stopped : (operation : Operation) (b given : List ℕ) (r : Run) (e : Stop) → Stopped operation b given (answer_to e) r → Fed operation b given (answer_to e) r
+fed-stopped operation b given r (Stream f) h = h
+fed-stopped operation b given r (Read at) h = h
+fed-stopped operation b given r Write h = h
+fed-stopped operation b given r OverLimit h = h
+fed-stopped operation b given r Memory h = h
 
 -- why it stopped before
-pub stop-its : (plan : Plan) (b given : List ℕ) (a : Answer) (r : Run) (p : Feeding) → r.feeding ≡ Some p → (h : Stopped plan b given a r) → p.stop ≡ Some h.stop
-stop-its plan b given a r p is h = sym (ap (λ (x : Feeding). x.stop) (some-is h.feeding p (sym h.runs ∙ is))) ∙ h.stops
+pub stop-its : (operation : Operation) (b given : List ℕ) (a : Answer) (r : Run) (p : Feeding) → r.feeding ≡ Some p → (h : Stopped operation b given a r) → p.stop ≡ Some h.stop
+stop-its operation b given a r p is h = sym (ap (λ (x : Feeding). x.stop) (some-is h.feeding p (sym h.runs ∙ is))) ∙ h.stops
 
-pub answer-its : (plan : Plan) (b given : List ℕ) (a : Answer) (r : Run) (p : Feeding) (e : Stop) → r.feeding ≡ Some p → p.stop ≡ Some e → Stopped plan b given a r → answer_to e ≡ a
-answer-its plan b given a r p e is stop h = ap answer_to (some-is e h.stop (sym stop ∙ stop-its plan b given a r p is h)) ∙ sym h.answers
+pub answer-its : (operation : Operation) (b given : List ℕ) (a : Answer) (r : Run) (p : Feeding) (e : Stop) → r.feeding ≡ Some p → p.stop ≡ Some e → Stopped operation b given a r → answer_to e ≡ a
+answer-its operation b given a r p e is stop h = ap answer_to (some-is e h.stop (sym stop ∙ stop-its operation b given a r p is h)) ∙ sym h.answers
 
 -- ---- output was taken
 
@@ -200,83 +200,83 @@ taken given old out left all n front rest text = rw (front, rest) (append_assoc 
 taken-rest : (given old out left more all : List ℕ) (n : ℕ) → take n out ≡ take n old → left ≡ drop n old → (given ++ old) ++ more ≡ all → ((given ++ take n out) ++ left) ++ more ≡ all
 taken-rest given old out left more all n front rest text = ap (λ (x : List ℕ). x ++ more) (taken given old out left (given ++ old) n front rest refl) ∙ text
 
-module _ (plan : Plan) (b given out : List ℕ) (n : ℕ) (r r' : Run) (front : take n out ≡ take n r.waiting.bytes) (left : r'.waiting.bytes ≡ drop n r.waiting.bytes) (pushes : r'.feeding ≡ r.feeding) where
-  pub holds-taken : Holds plan b given r → Holds plan b (given ++ take n out) r'
+module _ (operation : Operation) (b given out : List ℕ) (n : ℕ) (r r' : Run) (front : take n out ≡ take n r.waiting.bytes) (left : r'.waiting.bytes ≡ drop n r.waiting.bytes) (pushes : r'.feeding ≡ r.feeding) where
+  pub holds-taken : Holds operation b given r → Holds operation b (given ++ take n out) r'
   holds-taken h = record {
     feeding = h.feeding;
     runs = pushes ∙ h.runs;
-    planned = h.planned;
-    stands = h.stands;
-    text = taken given r.waiting.bytes out r'.waiting.bytes (live plan b) n front left h.text;
+    is_operation = h.is_operation;
+    is_after = h.is_after;
+    text = taken given r.waiting.bytes out r'.waiting.bytes (live operation b) n front left h.text;
   }
 
   module _ (account : r'.account ≡ r.account) (p : Feeding) where
     same-limit-taken : r'.account.limit ≡ r.account.limit
     same-limit-taken = ap (λ (a : Account). a.limit) account
 
-    abbrev refused-taken : IsRefused plan b given p r → IsRefused plan b (given ++ take n out) p r'
+    abbrev refused-taken : IsRefused operation b given p r → IsRefused operation b (given ++ take n out) p r'
     refused-taken h = record {
       request = h.request;
       earlier = h.earlier;
       later = h.later;
       requests = h.requests;
-      text = taken given r.waiting.bytes out r'.waiting.bytes (live plan (take h.request.at b)) n front left h.text;
+      text = taken given r.waiting.bytes out r'.waiting.bytes (live operation (take h.request.at b)) n front left h.text;
       sums = h.sums;
     }
 
-    stops-taken : (e : Stop) → StopsIn plan b given e p r → StopsIn plan b (given ++ take n out) e p r'
-    stops-taken (Stream f) h = record { early = h.early; text = taken given r.waiting.bytes out r'.waiting.bytes (live plan b) n front left h.text; sums = h.sums }
+    stops-taken : (e : Stop) → StopsIn operation b given e p r → StopsIn operation b (given ++ take n out) e p r'
+    stops-taken (Stream f) h = record { early = h.early; text = taken given r.waiting.bytes out r'.waiting.bytes (live operation b) n front left h.text; sums = h.sums }
     stops-taken (Read at) h = absurd h
-    stops-taken Write h = record { rest = h.rest; text = taken-rest given r.waiting.bytes out r'.waiting.bytes h.rest (live plan b) n front left h.text; counted = h.counted; claimed = h.claimed }
+    stops-taken Write h = record { rest = h.rest; text = taken-rest given r.waiting.bytes out r'.waiting.bytes h.rest (live operation b) n front left h.text; counted = h.counted; claimed = h.claimed }
     stops-taken OverLimit h = (refused-taken h.0, omega (arith, h.1, same-limit-taken))
     stops-taken Memory h = (refused-taken h.0, omega (arith, h.1, same-limit-taken))
 
-  pub stopped-taken : r'.account ≡ r.account → (a : Answer) → Stopped plan b given a r → Stopped plan b (given ++ take n out) a r'
+  pub stopped-taken : r'.account ≡ r.account → (a : Answer) → Stopped operation b given a r → Stopped operation b (given ++ take n out) a r'
   stopped-taken account a h = record {
     feeding = h.feeding;
     stop = h.stop;
     runs = pushes ∙ h.runs;
-    planned = h.planned;
+    is_operation = h.is_operation;
     stops = h.stops;
     answers = h.answers;
     written = stops-taken account h.feeding h.stop h.written;
-    fragments = h.fragments ∙ ap (λ (x : List ℕ). whole_in (length x) 0 (reads_of plan b).effects.marks) (sym (taken given r.waiting.bytes out r'.waiting.bytes (given ++ r.waiting.bytes) n front left refl));
+    fragments = h.fragments ∙ ap (λ (x : List ℕ). whole_in (length x) 0 (reads_of operation b).effects.fragment_ends) (sym (taken given r.waiting.bytes out r'.waiting.bytes (given ++ r.waiting.bytes) n front left refl));
   }
 
 -- ---- what is counted
 
 -- how many fragments are whole in the text, where these are all
-whole-now : (t : Effects) (fragments : ℕ) → AllWhole t fragments → fragments ≡ whole_in (length t.text) 0 t.marks
-whole-now t fragments h = let all : length t.text + 0 ≡ length t.text = omega arith in sym (h 0) ∙ ap (λ k. whole_in k 0 t.marks) all
+whole-now : (t : Effects) (fragments : ℕ) → AllWhole t fragments → fragments ≡ whole_in (length t.text) 0 t.fragment_ends
+whole-now t fragments h = let all : length t.text + 0 ≡ length t.text = omega arith in sym (h 0) ∙ ap (λ k. whole_in k 0 t.fragment_ends) all
 
-pub totals-are : (p : Feeding) (b : List ℕ) → IsAfter p b → counted_of (totals_of p) ≡ counted_in p.plan b
+pub totals-are : (p : Feeding) (b : List ℕ) → IsAfter p b → counted_of (totals_of p) ≡ counted_in p.operation b
 totals-are p b h =
-    let t = (reads_of p.plan b).effects in
+    let t = (reads_of p.operation b).effects in
     let tally : p.machine.counter.tally ≡ t.tally = ap (λ s. s.tally) h.sums in
     let peak = ap (λ s. s.peak) h.sums in
     rw (whole-now t p.fragments h.fragments, tally, peak) refl
 
 -- the report of one that goes on
-pub report-holds : (plan : Plan) (b given : List ℕ) (r : Run) (h : Holds plan b given r) → report_of h.feeding ≡ told_by (counted_in plan b) None
-report-holds plan b given r h =
-    ap (λ (s : Option Stop). told_by (counted_of (totals_of h.feeding)) (fault_of s)) h.stands.running
-    ∙ ap (λ (t : Counted). told_by t None) (totals-are h.feeding b h.stands)
-    ∙ ap (λ (k : Plan). told_by (counted_in k b) None) h.planned
+pub report-holds : (operation : Operation) (b given : List ℕ) (r : Run) (h : Holds operation b given r) → report_of h.feeding ≡ report_from (counted_in operation b) None
+report-holds operation b given r h =
+    ap (λ (s : Option Stop). report_from (counted_of (totals_of h.feeding)) (fault_of s)) h.is_after.running
+    ∙ ap (λ (t : Counted). report_from t None) (totals-are h.feeding b h.is_after)
+    ∙ ap (λ (k : Operation). report_from (counted_in k b) None) h.is_operation
 
--- ---- what the end tells where the stream has a fault
+-- ---- what the end reports where the stream has a fault
 
-pub finished-err : (plan : Plan) (b given : List ℕ) (r : Run) (p : Feeding) (e : Stop) (is : r.feeding ≡ Some p) (h : Holds plan b given r) → Finishes p b (Err e) → (report : Report) → report ≡ told_by (counted_of (totals_of p)) (fault_of (Some e)) → Finished plan b (answer_to e) report
-finished-err plan b given r p (Stream f) is h ends report told =
-    let here : faults_in (reads_of plan b).outcome ≡ Some f = subst (λ (k : Plan). faults_in (reads_of k b).outcome ≡ Some f) (plan-its plan b given r p is h) ends in
-    let counted : counted_of (totals_of p) ≡ counted_in plan b = totals-are p b (after-its plan b given r p is h) ∙ ap (λ (k : Plan). counted_in k b) (plan-its plan b given r p is h) in
+pub finished-err : (operation : Operation) (b given : List ℕ) (r : Run) (p : Feeding) (e : Stop) (is : r.feeding ≡ Some p) (h : Holds operation b given r) → Finishes p b (Err e) → (report : Report) → report ≡ report_from (counted_of (totals_of p)) (fault_of (Some e)) → Finished operation b (answer_to e) report
+finished-err operation b given r p (Stream f) is h ends report reported =
+    let here : faults_in (reads_of operation b).outcome ≡ Some f = subst (λ (k : Operation). faults_in (reads_of k b).outcome ≡ Some f) (operation-its operation b given r p is h) ends in
+    let counted : counted_of (totals_of p) ≡ counted_in operation b = totals-are p b (after-its operation b given r p is h) ∙ ap (λ (k : Operation). counted_in k b) (operation-its operation b given r p is h) in
     record {
       sound = λ none. absurd (none-some f (sym none ∙ here));
-      faulty = λ fault at. (refl, told ∙ ap (λ (t : Counted). told_by t (Some f)) counted ∙ ap (λ (x : faults.Fault). told_by (counted_in plan b) (Some x)) (some-is f fault (sym here ∙ at)));
+      faulty = λ fault at. (refl, reported ∙ ap (λ (t : Counted). report_from t (Some f)) counted ∙ ap (λ (x : faults.Fault). report_from (counted_in operation b) (Some x)) (some-is f fault (sym here ∙ at)));
     }
-finished-err plan b given r p (Read at) is h ends report told = absurd ends
-finished-err plan b given r p Write is h ends report told = absurd ends
-finished-err plan b given r p OverLimit is h ends report told = absurd ends
-finished-err plan b given r p Memory is h ends report told = absurd ends
+finished-err operation b given r p (Read at) is h ends report reported = absurd ends
+finished-err operation b given r p Write is h ends report reported = absurd ends
+finished-err operation b given r p OverLimit is h ends report reported = absurd ends
+finished-err operation b given r p Memory is h ends report reported = absurd ends
 
 -- ---- what a handle held is what was in its box
 

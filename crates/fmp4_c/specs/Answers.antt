@@ -1,4 +1,4 @@
--- The numbers by which C is told.
+-- The numbers of the answers to C.
 use Rattle.std.specs.Prelude.{ℕ, suc, zero, ◌-◌, ◌^◌, min, Option, None, Some}
 use Rattle.std.specs.Int.{w32, from_be_bytes}
 use Rattle.mp4_box.specs.Rules as rules
@@ -55,7 +55,7 @@ abbrev pub kind_number : Option FourCc → ℕ
 kind_number None = 0
 kind_number (Some kind) = from_be_bytes w32 kind.0
 
--- what a report says of a stream beside its fault
+-- what a report says of a stream besides its fault
 pub record Counted : Type 0 where
   pub fragments : ℕ
   pub samples : ℕ
@@ -67,6 +67,6 @@ abbrev pub counted_of : Totals → Counted
 counted_of t = record { fragments = t.fragments; samples = t.samples; media_bytes = t.media_bytes; peak = t.peak }
 
 -- the report of what was counted, and of a fault where there is one
-abbrev pub told_by : Counted → Option faults.Fault → Report
-told_by t None = record { fragments = t.fragments; samples = min t.samples (2 ^ 64 - 1); media_bytes = t.media_bytes; peak = t.peak; offset = 0; rule = 0; kind = 0 }
-told_by t (Some f) = record { fragments = t.fragments; samples = min t.samples (2 ^ 64 - 1); media_bytes = t.media_bytes; peak = t.peak; offset = f.offset; rule = rules.number_of f.rule; kind = kind_number f.kind }
+abbrev pub report_from : Counted → Option faults.Fault → Report
+report_from t None = record { fragments = t.fragments; samples = min t.samples (2 ^ 64 - 1); media_bytes = t.media_bytes; peak = t.peak; offset = 0; rule = 0; kind = 0 }
+report_from t (Some f) = record { fragments = t.fragments; samples = min t.samples (2 ^ 64 - 1); media_bytes = t.media_bytes; peak = t.peak; offset = f.offset; rule = rules.number_of f.rule; kind = kind_number f.kind }

@@ -1,18 +1,19 @@
--- What C asks for, and what a call does to the stream that C keeps.
+-- What C requests, and what a call does to the stream of a handle.
 use Rattle.std.specs.Prelude.{◌≡◌, if◌then◌else◌, ℕ, ◌+◌, ◌-◌, ◌/◌, ◌%◌, ◌^◌, ◌<◌, ◌≤◌, eqb, List, [], ◌∷◌, ◌++◌, length, take, drop, min, Option, None, Some, Result, Ok, Err}
 use Rattle.mp4_grammar.specs.declared.command.Command.TheVariants.{Check}
+use Rattle.mp4_pieces.specs.Allowed.{most_in_piece}
 use Rattle.mp4_pieces.specs.declared.cut.Cut.{Cut}
-use Rattle.mp4_recut.specs.declared.plan.Plan.{Plan}
-use Rattle.mp4_recut.specs.declared.plan.Plan.TheVariants as plans
+use Rattle.mp4_recut.specs.declared.operation.Operation.{Operation}
+use Rattle.mp4_recut.specs.declared.operation.Operation.TheVariants as operations
 use Rattle.fmp4_c.specs.Answers.{number_of}
 use Rattle.fmp4_c.specs.Engines.{ClaimsWithin, Fed, Finished, Holds, Run, Stopped}
-use Rattle.fmp4_c.specs.Waiting.{empty}
+use Rattle.fmp4_c.specs.PendingOutput.{empty}
 use Rattle.fmp4_c.specs.declared.answer.Answer.{Answer}
 use Rattle.fmp4_c.specs.declared.answer.Answer.TheVariants.{Done, Full, Fault, NoRoom, OverLimit, NoMemory, NotOpen, Closed, IsOpen, Ended, BadSamples, BadBytes, BadFlags, BadRoom}
 use Rattle.fmp4_c.specs.declared.asked.Asked.{Asked}
 use Rattle.fmp4_c.specs.declared.report.Report.{Report}
 
--- ---- what C asks for
+-- ---- what C requests
 
 -- the cut: bytes 0 for any number, and flags 1 for an index, 2 for a cut before each sync sample, 3 for both
 pub record IsCutBy (samples bytes flags : ℕ) (cut : Cut) : Type 0 where
@@ -22,21 +23,21 @@ pub record IsCutBy (samples bytes flags : ℕ) (cut : Cut) : Type 0 where
   pub index : cut.index ≡ eqb (flags % 2) 1
   pub sync : cut.sync ≡ eqb (flags / 2) 1
 
--- which share of what is free in the room a feed takes of a chunk, by the flags: with an index the output of a byte is more
+-- which share of the free room a feed takes of the input, by the flags: with an index a byte can lead to more output
 abbrev pub share_of : ℕ → ℕ
 share_of flags = if eqb (flags % 2) 1 then 512 else 128
 
--- what can be asked for
+-- the requests that are in range
 pub record IsInRange (samples bytes flags room : ℕ) : Type 0 where
   pub some : 1 ≤ samples
-  pub most : samples ≤ 1000000
+  pub most : samples ≤ most_in_piece
   pub size : bytes ≤ 2 ^ 62
   pub known : flags ≤ 3
   pub holds : 1 ≤ room
 
--- why a cut can't be asked for with this room
+-- why such a cut is refused with this room
 abbrev pub IsOutOfRange : (samples bytes flags room : ℕ) → Answer → Type 0
-IsOutOfRange samples bytes flags room BadSamples = (1 ≤ samples) × (samples ≤ 1000000) → ⊥
+IsOutOfRange samples bytes flags room BadSamples = (1 ≤ samples) × (samples ≤ most_in_piece) → ⊥
 IsOutOfRange samples bytes flags room BadBytes = 2 ^ 62 < bytes
 IsOutOfRange samples bytes flags room BadFlags = 3 < flags
 IsOutOfRange samples bytes flags room BadRoom = room ≡ 0
@@ -51,27 +52,27 @@ IsOutOfRange samples bytes flags room Closed = ⊥
 IsOutOfRange samples bytes flags room IsOpen = ⊥
 IsOutOfRange samples bytes flags room Ended = ⊥
 
--- a stream is asked for so that it is cut by these numbers
+-- these numbers open a stream that is split so
 pub record IsSplitBy (samples bytes flags limit room : ℕ) (asked : Asked) : Type 0 where
   pub cut : Cut
   pub by : IsCutBy samples bytes flags cut
-  pub plan : asked.plan ≡ plans.Split cut
+  pub operation : asked.operation ≡ operations.Split cut
   pub takes : asked.limit ≡ limit
   pub waits : asked.room ≡ room
   pub share : asked.share ≡ share_of flags
 
--- ---- how it is opened
+-- ---- opening a stream
 
 -- no byte has come, and the limit is that of the stream's memory and of the room together
 pub record IsOpened (asked : Asked) (held : Option Run) : Type 0 where
   pub run : Run
   pub is : held ≡ Some run
-  pub holds : Holds asked.plan [] [] run
+  pub holds : Holds asked.operation [] [] run
   pub waiting : run.waiting ≡ empty asked.room
   pub limit : run.account.limit + asked.room ≡ asked.limit
   pub share : run.share ≡ asked.share
 
--- what an open answers that is asked for this
+-- the answer of an open for this request
 abbrev pub Opens : Asked → Answer → Option Run → Type 0
 Opens asked Done held = IsOpened asked held
 Opens asked OverLimit held = (asked.limit < asked.room) × (held ≡ None)
@@ -88,44 +89,44 @@ Opens asked BadBytes held = ⊥
 Opens asked BadFlags held = ⊥
 Opens asked BadRoom held = ⊥
 
--- or that is asked for what is out of range
+-- or for a request that is out of range
 abbrev pub OpensOr : Result Asked Answer → Answer → Option Run → Type 0
 OpensOr (Ok asked) answer held = Opens asked answer held
 OpensOr (Err out) answer held = (answer ≡ out) × (held ≡ None)
 
--- what C is answered that asks for a cut: it is in range, or the answer has the number of what isn't
+-- the answer to C for a cut: the request is in range, or the answer has the number of what isn't
 pub data SplitOpens (samples bytes flags limit room : ℕ) (answer : Answer) (held : Option Run) : Type 0 where
   Asks : (asked : Asked) → IsInRange samples bytes flags room → IsSplitBy samples bytes flags limit room asked → Opens asked answer held → SplitOpens samples bytes flags limit room answer held
   Refuses : IsOutOfRange samples bytes flags room answer → held ≡ None → SplitOpens samples bytes flags limit room answer held
 
--- a check has no output, and takes chunks as a whole
+-- a check has no output, and takes inputs as a whole
 abbrev pub checked_by : ℕ → Asked
-checked_by limit = record { plan = plans.List Check; limit = limit; room = 0; share = 0 }
+checked_by limit = record { operation = operations.List Check; limit = limit; room = 0; share = 0 }
 
--- ---- what C keeps
+-- ---- the stream of a handle
 
--- what is open holds so
-abbrev pub HoldsIn : Plan → (b given : List ℕ) → Option Run → Type 0
-HoldsIn plan b given held = (r : Run) × (held ≡ Some r) × Holds plan b given r
+-- the open stream holds so
+abbrev pub HoldsIn : Operation → (b given : List ℕ) → Option Run → Type 0
+HoldsIn operation b given held = (r : Run) × (held ≡ Some r) × Holds operation b given r
 
--- or has stopped so
-abbrev pub StoppedIn : Plan → (b given : List ℕ) → Answer → Option Run → Type 0
-StoppedIn plan b given answer held = (r : Run) × (held ≡ Some r) × Stopped plan b given answer r
+-- or it has stopped so
+abbrev pub StoppedIn : Operation → (b given : List ℕ) → Answer → Option Run → Type 0
+StoppedIn operation b given answer held = (r : Run) × (held ≡ Some r) × Stopped operation b given answer r
 
--- what is open never had more claimed than the largest boxes ask for
-abbrev pub ClaimsIn : Plan → List ℕ → Option Run → Type 0
-ClaimsIn plan b held = (r : Run) × (held ≡ Some r) × ClaimsWithin plan b r.feeding
+-- the open stream never had more claimed than the largest boxes request
+abbrev pub ClaimsIn : Operation → List ℕ → Option Run → Type 0
+ClaimsIn operation b held = (r : Run) × (held ≡ Some r) × ClaimsWithin operation b r.feeding
 
--- a feed answered this number
-abbrev pub FedIn : Plan → (b given : List ℕ) → (number : ℕ) → Option Run → Type 0
-FedIn plan b given number held = (answer : Answer) × (number ≡ number_of answer) × (r : Run) × (held ≡ Some r) × Fed plan b given answer r
+-- the number that a feed returned
+abbrev pub FedIn : Operation → (b given : List ℕ) → (number : ℕ) → Option Run → Type 0
+FedIn operation b given number held = (answer : Answer) × (number ≡ number_of answer) × (r : Run) × (held ≡ Some r) × Fed operation b given answer r
 
--- and so did a finish
-abbrev pub FinishedIn : Plan → (b : List ℕ) → (number : ℕ) → Report → Type 0
-FinishedIn plan b number report = (answer : Answer) × (number ≡ number_of answer) × Finished plan b answer report
+-- the number that a finish returned
+abbrev pub FinishedIn : Operation → (b : List ℕ) → (number : ℕ) → Report → Type 0
+FinishedIn operation b number report = (answer : Answer) × (number ≡ number_of answer) × Finished operation b answer report
 
 -- ---- texts for C
 
--- a text with a zero behind it in the place of the front of a buffer, cut where it doesn't fit
+-- a text with a zero after it in the place of the front of a buffer, cut where it doesn't fit
 abbrev pub zero_ended : (text buffer : List ℕ) → List ℕ
 zero_ended text buffer = take (min (length text) (length buffer - 1)) text ++ 0 ∷ drop (min (length text) (length buffer - 1) + 1) buffer

@@ -1,4 +1,4 @@
-pub mod Waiting
+pub mod PendingOutput
 pub mod Answers
 pub mod Engines
 pub mod Calls

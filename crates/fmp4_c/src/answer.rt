@@ -1,16 +1,16 @@
-//! What a call answers.
+//! The result of a call.
 
 ghost use Rattle.std.specs.Prelude.{◌≡◌};
 ghost use Rattle.fmp4_c.specs.Answers.{answer_to, at_rest, number_of};
 
 use mp4_push::Stop;
 
-/// What a call answers.
+/// The result of a call.
 #[derive(Clone, Copy, Debug, PartialEq, Eq)]
 pub enum Answer {
     /// It was done.
     Done,
-    /// More than half of the room is filled: nothing was taken of the chunk.
+    /// More than half of the room is filled: nothing was taken of the input.
     Full,
     /// The stream breaks a rule.
     Fault,
@@ -39,7 +39,7 @@ pub enum Answer {
 }
 
 impl Answer {
-    /// The number by which C is told.
+    /// The number of the answer for C.
     pub fn number(self) -> u32
         ensures { result ≡ number_of self }
     {

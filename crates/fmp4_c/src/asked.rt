@@ -1,19 +1,17 @@
-//! What C asks for.
+//! Requests of C.
 
 ghost use Rattle.std.specs.Prelude.{◌≡◌, ℕ, ◌≤◌, IfErr, IfOk};
 ghost use Rattle.fmp4_c.specs.Calls.{IsCutBy, IsInRange, IsOutOfRange, IsSplitBy, checked_by, share_of};
 
 use crate::answer::Answer;
-use mp4_push::{Command, Cut, Plan};
+use mp4_pieces::MOST_IN_PIECE;
+use mp4_push::{Command, Cut, Operation};
 
-/// The flag that asks for an index.
+/// The flag for an index.
 const INDEX: u32 = 1;
 
-/// The flag that asks for a cut before each sync sample.
+/// The flag for a cut before each sync sample.
 const SYNC: u32 = 2;
-
-/// The most samples of a piece.
-const MOST_SAMPLES: u32 = 1_000_000;
 
 /// A feed takes a 128th of what is free in the room: a byte of a sample becomes at most 117 of output.
 const SHARE: usize = 128;
@@ -24,13 +22,13 @@ const SHARE_WITH_INDEX: usize = 512;
 /// What a stream is opened for.
 #[derive(Clone, Copy)]
 pub struct Asked {
-    /// What is made of it.
-    pub plan: Plan,
+    /// The operation on it.
+    pub operation: Operation,
     /// The most bytes that it may take, with the room.
     pub limit: u64,
     /// How many bytes of output may wait.
     pub room: usize,
-    /// Which share of what is free in the room is taken of a chunk at once, as 128 for a 128th; 0: the chunk as a whole.
+    /// Which share of what is free in the room is taken of the input at once, as 128 for a 128th; 0: the input as a whole.
     pub share: usize,
 }
 
@@ -56,7 +54,7 @@ impl Asked {
         }
         match cut_by(samples, bytes, flags) {
             Ok(cut) => Ok(Asked {
-                plan: Plan::Split(cut),
+                operation: Operation::Split(cut),
                 limit,
                 room,
                 share: share_by(flags),
@@ -70,7 +68,7 @@ impl Asked {
         ensures { result ≡ checked_by limit }
     {
         Asked {
-            plan: Plan::List(Command::Check),
+            operation: Operation::List(Command::Check),
             limit,
             room: 0,
             share: 0,
@@ -78,7 +76,7 @@ impl Asked {
     }
 }
 
-/// Which share of what is free in the room is taken of a chunk.
+/// Which share of what is free in the room is taken of the input.
 fn share_by(flags: u32) -> usize
     ensures { result ≡ share_of flags }
 {
@@ -102,7 +100,7 @@ fn cut_by(samples: u32, bytes: u64, flags: u32) -> Result<Cut, Answer>
     if flags > (INDEX | SYNC) {
         return Err(Answer::BadFlags);
     }
-    if samples == 0 || samples > MOST_SAMPLES {
+    if samples == 0 || samples > MOST_IN_PIECE {
         return Err(Answer::BadSamples);
     }
     let most = if bytes == 0 { None } else { Some(bytes) };

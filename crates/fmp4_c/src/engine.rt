@@ -3,7 +3,7 @@
 ghost use Rattle.std.specs.Prelude.{◌≡◌, ℕ, ◌+◌, ◌-◌, ◌*◌, ◌<◌, ◌≤◌, ◌↔◌, List, ◌++◌, length, take, drop, min};
 ghost use Rattle.std.specs.Prelude.{None, Some, IfOk, IsErrOf};
 ghost use Rattle.mp4_push.specs.Feeders.{Feeding};
-ghost use Rattle.mp4_recut.specs.declared.plan.Plan as plans;
+ghost use Rattle.mp4_recut.specs.declared.operation.Operation as operations;
 ghost use Rattle.mp4_machine.specs.declared.stop.Stop as stops;
 ghost use Rattle.fmp4_c.specs.Answers.{answer_to, number_of};
 ghost use Rattle.fmp4_c.specs.Calls.{IsOpened};
@@ -26,10 +26,10 @@ pub struct Engine {
     ledger: Ledger,
     feeder: Option<Feeder>,
     out: Output,
-    /// Which share of what is free in the room is taken of a chunk at once; 0: the chunk as a whole.
+    /// Which share of what is free in the room is taken of the input at once; 0: the input as a whole.
     share: usize,
     /// What was reported at the end.
-    told: Report,
+    reported: Report,
 }
 
 // A contract sees the account, the Feeder, what waits to be taken, the share, and what was reported at the end.
@@ -39,7 +39,7 @@ impl Model for Engine {
 
     ghost Value = { Run };
 
-    ghost view = { λ e. record { account = e.ledger; feeding = e.feeder; waiting = e.out; share = e.share; told = e.told } };
+    ghost view = { λ e. record { account = e.ledger; feeding = e.feeder; waiting = e.out; share = e.share; reported = e.reported } };
 
     ghost invariant = { λ e. e.ledger.live ≡ held_in e.feeder };
 }
@@ -47,9 +47,9 @@ impl Model for Engine {
 /// What a feed did.
 #[derive(Clone, Copy)]
 pub struct Feed {
-    /// How many bytes of the chunk it took.
+    /// How many bytes of the input it took.
     pub taken: usize,
-    /// What it answers.
+    /// The answer.
     pub answer: Answer,
 }
 
@@ -70,59 +70,59 @@ impl Engine {
         match Output::new(alloc, asked.room) {
             Ok(out) => Ok(Engine {
                 ledger: Ledger::new(alloc, asked.limit - asked.room as u64),
-                feeder: Some(Feeder::with_plan(asked.plan)),
+                feeder: Some(Feeder::with_operation(asked.operation)),
                 out,
                 share: asked.share,
-                told: Report::none(),
+                reported: Report::none(),
             }),
             Err(_) => Err(Refused::Memory),
         }
     }
 
-    /// How many bytes of a chunk are taken at once: none while more than half of the room is filled.
-    fn portion(&self, chunk: usize) -> usize
+    /// How many bytes of the input are taken at once: none while more than half of the room is filled.
+    fn portion(&self, input: usize) -> usize
         ensures filled { self.now.waiting.room < 2 * length self.now.waiting.bytes → result ≡ 0 }
         ensures free { 2 * length self.now.waiting.bytes ≤ self.now.waiting.room →
-            result ≡ min chunk
+            result ≡ min input
             (step_of self.now.share (self.now.waiting.room - length self.now.waiting.bytes)) }
-        ensures some { 2 * length self.now.waiting.bytes ≤ self.now.waiting.room → 0 < chunk →
+        ensures some { 2 * length self.now.waiting.bytes ≤ self.now.waiting.room → 0 < input →
             0 < result }
-        ensures within { result ≤ chunk }
+        ensures within { result ≤ input }
     {
         if self.out.len() > self.out.free() {
             return 0;
         }
-        chunk.min(step_by(self.share, self.out.free()))
+        input.min(step_by(self.share, self.out.free()))
     }
 
-    /// Feeds a chunk of the stream, or the front of one. After a stop it answers the same, and takes nothing.
-    pub fn feed(&mut self, chunk: &[u8]) -> Feed
-        ensures feeds { (plan : plans.Plan) → (b given : List ℕ) → Holds plan b given self.old →
-            Fed plan (b ++ take result.taken chunk.now) given result.answer self.new }
+    /// Feeds the input of the stream, or the front of one. After a stop it returns the same, and takes nothing.
+    pub fn feed(&mut self, input: &[u8]) -> Feed
+        ensures feeds { (operation : operations.Operation) → (b given : List ℕ) → Holds operation b given self.old →
+            Fed operation (b ++ take result.taken input.now) given result.answer self.new }
         ensures portion { (p : Feeding) → self.old.feeding ≡ Some p → p.stop ≡ None →
-            IsPortion self.old chunk.now result.taken result.answer }
-        ensures stopped { (plan : plans.Plan) → (b given : List ℕ) → (a : answers.Answer) →
-            Stopped plan b given a self.old →
+            IsPortion self.old input.now result.taken result.answer }
+        ensures stopped { (operation : operations.Operation) → (b given : List ℕ) → (a : answers.Answer) →
+            Stopped operation b given a self.old →
             (result ≡ record { taken = 0; answer = a }) × (self.new ≡ self.old) }
         ensures ended { self.old.feeding ≡ None →
             (result ≡ record { taken = 0; answer = Answer.Ended }) × (self.new ≡ self.old) }
-        ensures claims { (plan : plans.Plan) → (b given : List ℕ) → Holds plan b given self.old →
-            ClaimsWithin plan (b ++ take result.taken chunk.now) self.new.feeding }
-        ensures fits { (plan : plans.Plan) → (b given : List ℕ) → Holds plan b given self.old →
-            FitsIn plan (b ++ take result.taken chunk.now) self.old (number_of result.answer) }
-        ensures room { (plan : plans.Plan) → (b given : List ℕ) → Holds plan b given self.old →
+        ensures claims { (operation : operations.Operation) → (b given : List ℕ) → Holds operation b given self.old →
+            ClaimsWithin operation (b ++ take result.taken input.now) self.new.feeding }
+        ensures fits { (operation : operations.Operation) → (b given : List ℕ) → Holds operation b given self.old →
+            FitsIn operation (b ++ take result.taken input.now) self.old (number_of result.answer) }
+        ensures room { (operation : operations.Operation) → (b given : List ℕ) → Holds operation b given self.old →
             self.new.waiting.room ≡ self.old.waiting.room }
         ensures kept { IsKept self.old self.new }
     {
-        let taken = self.portion(chunk.len());
+        let taken = self.portion(input.len());
         match &mut self.feeder {
             Some(feeder) => {
                 if let Some(stop) = feeder.stop() {
                     return self.fed(0, Answer::of_stop(stop));
                 }
-                match feeder.feed(&mut self.ledger, &chunk[..taken], &mut self.out) {
+                match feeder.feed(&mut self.ledger, &input[..taken], &mut self.out) {
                     Ok(()) => {
-                        if taken == 0 && !chunk.is_empty() {
+                        if taken == 0 && !input.is_empty() {
                             return self.fed(taken, Answer::Full);
                         }
                         self.fed(taken, Answer::Done)
@@ -146,11 +146,11 @@ impl Engine {
 
     /// Takes output from the front: how many bytes.
     pub fn take(&mut self, out: &mut [u8]) -> usize
-        ensures holds { (plan : plans.Plan) → (b given : List ℕ) → Holds plan b given self.old →
-            Holds plan b (given ++ take result out.new) self.new }
-        ensures stopped { (plan : plans.Plan) → (b given : List ℕ) → (a : answers.Answer) →
-            Stopped plan b given a self.old →
-            Stopped plan b (given ++ take result out.new) a self.new }
+        ensures holds { (operation : operations.Operation) → (b given : List ℕ) → Holds operation b given self.old →
+            Holds operation b (given ++ take result out.new) self.new }
+        ensures stopped { (operation : operations.Operation) → (b given : List ℕ) → (a : answers.Answer) →
+            Stopped operation b given a self.old →
+            Stopped operation b (given ++ take result out.new) a self.new }
         ensures count { result ≡ min (length out.old) (length self.old.waiting.bytes) }
         ensures front { take result out.new ≡ take result self.old.waiting.bytes }
         ensures left { self.new.waiting.bytes ≡ drop result self.old.waiting.bytes }
@@ -158,17 +158,17 @@ impl Engine {
         ensures kept { (self.new.feeding ≡ self.old.feeding) ×
             (self.new.waiting.room ≡ self.old.waiting.room) ×
             (self.new.account ≡ self.old.account) × (self.new.share ≡ self.old.share) ×
-            (self.new.told ≡ self.old.told) }
+            (self.new.reported ≡ self.old.reported) }
     {
         self.out.take(out)
     }
 
     /// Says what was counted so far, and for which fault the stream stopped, if it did; at its end, what was reported there.
     pub fn totals(&mut self, report: &mut Report) -> Answer
-        ensures tells { (p : Feeding) → self.old.feeding ≡ Some p →
+        ensures reports { (p : Feeding) → self.old.feeding ≡ Some p →
             (result ≡ Answer.Done) × (report.new ≡ report_of p) }
         ensures ended { self.old.feeding ≡ None →
-            (result ≡ Answer.Done) × (report.new ≡ self.old.told) }
+            (result ≡ Answer.Done) × (report.new ≡ self.old.reported) }
         ensures kept { self.new ≡ self.old }
     {
         match &self.feeder {
@@ -177,7 +177,7 @@ impl Engine {
                 Answer::Done
             }
             None => {
-                *report = self.told;
+                *report = self.reported;
                 Answer::Done
             }
         }
@@ -185,14 +185,14 @@ impl Engine {
 
     /// Ends the stream, and says what was counted, and the fault where it has one. What waits can still be taken.
     pub fn finish(&mut self, report: &mut Report) -> Answer
-        ensures finishes { (plan : plans.Plan) → (b given : List ℕ) → Holds plan b given self.old →
-            Finished plan b result report.new }
+        ensures finishes { (operation : operations.Operation) → (b given : List ℕ) → Holds operation b given self.old →
+            Finished operation b result report.new }
         ensures stopped { (p : Feeding) → (e : stops.Stop) → self.old.feeding ≡ Some p →
             p.stop ≡ Some e → (result ≡ answer_to e) × (report.new ≡ report_of p) }
         ensures ended { self.old.feeding ≡ None →
             (result ≡ Answer.Ended) × (report.new ≡ report.old) }
-        ensures told { (p : Feeding) → self.old.feeding ≡ Some p → self.new.told ≡ report.new }
-        ensures told_before { self.old.feeding ≡ None → self.new.told ≡ self.old.told }
+        ensures reported { (p : Feeding) → self.old.feeding ≡ Some p → self.new.reported ≡ report.new }
+        ensures reported_before { self.old.feeding ≡ None → self.new.reported ≡ self.old.reported }
         ensures waits { self.new.waiting ≡ self.old.waiting }
         ensures ends { self.new.feeding ≡ None }
         ensures back { self.new.account.live ≡ 0 }
@@ -203,12 +203,12 @@ impl Engine {
                 match feeder.finish(&mut self.ledger) {
                     Ok(_) => {
                         *report = Report::of(&totals, None);
-                        self.told = *report;
+                        self.reported = *report;
                         Answer::Done
                     }
                     Err(stop) => {
                         *report = Report::of(&totals, fault_in(Some(stop)));
-                        self.told = *report;
+                        self.reported = *report;
                         Answer::of_stop(stop)
                     }
                 }
@@ -225,14 +225,14 @@ impl Drop for Engine {
             feeder,
             out: _,
             share: _,
-            told: _,
+            reported: _,
         } = self;
         let mut ledger = ledger;
         give_back(feeder, &mut ledger);
     }
 }
 
-/// How many bytes of a chunk are taken at once, where so many are free in the room.
+/// How many bytes of the input are taken at once, where so many are free in the room.
 fn step_by(share: usize, free: usize) -> usize
     ensures is { result ≡ step_of share free }
     ensures some { 0 < result }

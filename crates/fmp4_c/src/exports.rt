@@ -2,9 +2,9 @@
 
 ghost use Rattle.std.specs.Prelude.{◌≡◌, ℕ, ◌<◌, ◌≤◌, List, [], ◌++◌, length, take, drop, min, None, Some, IfSome};
 ghost use Rattle.mp4_push.specs.Feeders.{Feeding};
-ghost use Rattle.mp4_recut.specs.declared.plan.Plan as plans;
+ghost use Rattle.mp4_recut.specs.declared.operation.Operation as operations;
 ghost use Rattle.mp4_machine.specs.declared.stop.Stop as stops;
-ghost use Rattle.fmp4_c.specs.Answers.{answer_to, at_rest, number_of, told_by};
+ghost use Rattle.fmp4_c.specs.Answers.{answer_to, at_rest, number_of, report_from};
 ghost use Rattle.fmp4_c.specs.Calls.{ClaimsIn, FedIn, FinishedIn, HoldsIn, StoppedIn};
 ghost use Rattle.fmp4_c.specs.Engines.{FitsIn, Holds, IsKept, IsPortion, Run, counted_in, report_of};
 ghost use Rattle.fmp4_c.specs.declared.answer.Answer as answers;
@@ -16,32 +16,32 @@ use crate::stream::Stream;
 use std::alloc::Global;
 use std::mem::replace;
 
-/// Feeds a chunk of the stream, or the front of one: `taken` says how many bytes.
+/// Feeds the input of the stream, or the front of one: `taken` says how many bytes.
 #[unsafe(no_mangle)]
 pub extern "C" fn fmp4_feed(
     alloc: Global,
     stream: &mut Stream,
-    chunk: &[u8],
+    input: &[u8],
     taken: &mut usize,
 ) -> u32
-    ensures feeds { (plan : plans.Plan) → (b given : List ℕ) →
-        HoldsIn plan b given stream.old.handle.held →
-        FedIn plan (b ++ take taken.new chunk.now) given result stream.new.handle.held }
+    ensures feeds { (operation : operations.Operation) → (b given : List ℕ) →
+        HoldsIn operation b given stream.old.handle.held →
+        FedIn operation (b ++ take taken.new input.now) given result stream.new.handle.held }
     ensures portion { (r : Run) → (p : Feeding) → stream.old.handle.held ≡ Some r →
         r.feeding ≡ Some p → p.stop ≡ None → (answer : answers.Answer) ×
-        (result ≡ number_of answer) × IsPortion r chunk.now taken.new answer }
-    ensures stopped { (plan : plans.Plan) → (b given : List ℕ) → (a : answers.Answer) →
-        StoppedIn plan b given a stream.old.handle.held →
+        (result ≡ number_of answer) × IsPortion r input.now taken.new answer }
+    ensures stopped { (operation : operations.Operation) → (b given : List ℕ) → (a : answers.Answer) →
+        StoppedIn operation b given a stream.old.handle.held →
         (result ≡ number_of a) × (taken.new ≡ 0) ×
         (stream.new.handle.held ≡ stream.old.handle.held) }
-    ensures claims { (plan : plans.Plan) → (b given : List ℕ) →
-        HoldsIn plan b given stream.old.handle.held →
-        ClaimsIn plan (b ++ take taken.new chunk.now) stream.new.handle.held }
-    ensures fits { (plan : plans.Plan) → (b given : List ℕ) → (r : Run) →
-        stream.old.handle.held ≡ Some r → Holds plan b given r →
-        FitsIn plan (b ++ take taken.new chunk.now) r result }
-    ensures room { (plan : plans.Plan) → (b given : List ℕ) → (r : Run) →
-        stream.old.handle.held ≡ Some r → Holds plan b given r →
+    ensures claims { (operation : operations.Operation) → (b given : List ℕ) →
+        HoldsIn operation b given stream.old.handle.held →
+        ClaimsIn operation (b ++ take taken.new input.now) stream.new.handle.held }
+    ensures fits { (operation : operations.Operation) → (b given : List ℕ) → (r : Run) →
+        stream.old.handle.held ≡ Some r → Holds operation b given r →
+        FitsIn operation (b ++ take taken.new input.now) r result }
+    ensures room { (operation : operations.Operation) → (b given : List ℕ) → (r : Run) →
+        stream.old.handle.held ≡ Some r → Holds operation b given r →
         IfSome stream.new.handle.held (λ r'. r'.waiting.room ≡ r.waiting.room) }
     ensures kept { (r : Run) → stream.old.handle.held ≡ Some r →
         IfSome stream.new.handle.held (IsKept r) }
@@ -56,7 +56,7 @@ pub extern "C" fn fmp4_feed(
     match replace(&mut stream.handle, Handle::none()).into_box(alloc) {
         Some(engine) => {
             let mut engine = engine;
-            let fed = engine.feed(chunk);
+            let fed = engine.feed(input);
             stream.handle = Handle::of(engine);
             *taken = fed.taken;
             fed.answer.number()
@@ -76,12 +76,12 @@ pub extern "C" fn fmp4_take(
     out: &mut [u8],
     taken: &mut usize,
 ) -> u32
-    ensures holds { (plan : plans.Plan) → (b given : List ℕ) →
-        HoldsIn plan b given stream.old.handle.held →
-        HoldsIn plan b (given ++ take taken.new out.new) stream.new.handle.held }
-    ensures stopped { (plan : plans.Plan) → (b given : List ℕ) → (a : answers.Answer) →
-        StoppedIn plan b given a stream.old.handle.held →
-        StoppedIn plan b (given ++ take taken.new out.new) a stream.new.handle.held }
+    ensures holds { (operation : operations.Operation) → (b given : List ℕ) →
+        HoldsIn operation b given stream.old.handle.held →
+        HoldsIn operation b (given ++ take taken.new out.new) stream.new.handle.held }
+    ensures stopped { (operation : operations.Operation) → (b given : List ℕ) → (a : answers.Answer) →
+        StoppedIn operation b given a stream.old.handle.held →
+        StoppedIn operation b (given ++ take taken.new out.new) a stream.new.handle.held }
     ensures done { (r : Run) → stream.old.handle.held ≡ Some r → result ≡ number_of Answer.Done }
     ensures count { (r : Run) → stream.old.handle.held ≡ Some r →
         taken.new ≡ min (length out.old) (length r.waiting.bytes) }
@@ -93,7 +93,7 @@ pub extern "C" fn fmp4_take(
     ensures kept { (r : Run) → stream.old.handle.held ≡ Some r →
         IfSome stream.new.handle.held (λ r'. (r'.feeding ≡ r.feeding) ×
         (r'.waiting.room ≡ r.waiting.room) × (r'.account ≡ r.account) × (r'.share ≡ r.share) ×
-        (r'.told ≡ r.told)) }
+        (r'.reported ≡ r.reported)) }
     ensures closed { stream.old.handle.held ≡ None →
         (result ≡ number_of (at_rest stream.old.closed)) × (taken.new ≡ 0) ×
         (stream.new.handle.held ≡ None) }
@@ -116,12 +116,12 @@ pub extern "C" fn fmp4_take(
 /// Says what was counted so far, and for which fault the stream stopped, if it did; at its end, what was reported there.
 #[unsafe(no_mangle)]
 pub extern "C" fn fmp4_totals(alloc: Global, stream: &mut Stream, report: &mut Report) -> u32
-    ensures tells { (r : Run) → (p : Feeding) → stream.old.handle.held ≡ Some r →
+    ensures reports { (r : Run) → (p : Feeding) → stream.old.handle.held ≡ Some r →
         r.feeding ≡ Some p → (result ≡ number_of Answer.Done) × (report.new ≡ report_of p) }
-    ensures counts { (plan : plans.Plan) → (b given : List ℕ) →
-        HoldsIn plan b given stream.old.handle.held → report.new ≡ told_by (counted_in plan b) None }
+    ensures counts { (operation : operations.Operation) → (b given : List ℕ) →
+        HoldsIn operation b given stream.old.handle.held → report.new ≡ report_from (counted_in operation b) None }
     ensures ended { (r : Run) → stream.old.handle.held ≡ Some r → r.feeding ≡ None →
-        (result ≡ number_of Answer.Done) × (report.new ≡ r.told) }
+        (result ≡ number_of Answer.Done) × (report.new ≡ r.reported) }
     ensures closed { stream.old.handle.held ≡ None →
         (result ≡ number_of (at_rest stream.old.closed)) × (report.new ≡ report.old) }
     ensures kept { stream.new.handle.held ≡ stream.old.handle.held }
@@ -141,17 +141,17 @@ pub extern "C" fn fmp4_totals(alloc: Global, stream: &mut Stream, report: &mut R
 /// Ends the stream, and says what was counted, and which rule it breaks, if it does. What waits can still be taken.
 #[unsafe(no_mangle)]
 pub extern "C" fn fmp4_finish(alloc: Global, stream: &mut Stream, report: &mut Report) -> u32
-    ensures finishes { (plan : plans.Plan) → (b given : List ℕ) →
-        HoldsIn plan b given stream.old.handle.held → FinishedIn plan b result report.new }
+    ensures finishes { (operation : operations.Operation) → (b given : List ℕ) →
+        HoldsIn operation b given stream.old.handle.held → FinishedIn operation b result report.new }
     ensures stopped { (r : Run) → (p : Feeding) → (e : stops.Stop) →
         stream.old.handle.held ≡ Some r → r.feeding ≡ Some p → p.stop ≡ Some e →
         (result ≡ number_of (answer_to e)) × (report.new ≡ report_of p) }
     ensures ended { (r : Run) → stream.old.handle.held ≡ Some r → r.feeding ≡ None →
         (result ≡ number_of Answer.Ended) × (report.new ≡ report.old) }
-    ensures told { (r : Run) → (p : Feeding) → stream.old.handle.held ≡ Some r →
-        r.feeding ≡ Some p → IfSome stream.new.handle.held (λ r'. r'.told ≡ report.new) }
-    ensures told_before { (r : Run) → stream.old.handle.held ≡ Some r → r.feeding ≡ None →
-        IfSome stream.new.handle.held (λ r'. r'.told ≡ r.told) }
+    ensures reported { (r : Run) → (p : Feeding) → stream.old.handle.held ≡ Some r →
+        r.feeding ≡ Some p → IfSome stream.new.handle.held (λ r'. r'.reported ≡ report.new) }
+    ensures reported_before { (r : Run) → stream.old.handle.held ≡ Some r → r.feeding ≡ None →
+        IfSome stream.new.handle.held (λ r'. r'.reported ≡ r.reported) }
     ensures waits { (r : Run) → stream.old.handle.held ≡ Some r →
         IfSome stream.new.handle.held (λ r'. (r'.waiting ≡ r.waiting) × (r'.feeding ≡ None) ×
         (r'.account.live ≡ 0)) }
@@ -171,7 +171,7 @@ pub extern "C" fn fmp4_finish(alloc: Global, stream: &mut Stream, report: &mut R
     }
 }
 
-/// Frees all that the stream takes. Output that waits is lost.
+/// Frees everything that the stream has claimed. Output that waits is dropped.
 #[unsafe(no_mangle)]
 pub extern "C" fn fmp4_close(alloc: Global, stream: &mut Stream) -> u32
     ensures none { stream.new.handle.held ≡ None }

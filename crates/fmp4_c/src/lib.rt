@@ -1,13 +1,13 @@
-//! The C library of fmp4: a fragmented stream is fed chunk by chunk, and recut or checked; the output is taken from the front.
+//! The C library of fmp4: a fragmented stream is fed as it comes, and recut or checked; the output is taken from the front.
 //!
 //! - [`exports`]: what C calls, [`opening`]: how a stream is opened, by what is [`asked`] for; [`names`]: those of the rules;
-//! - [`answer`]: what a call answers, as a number, and [`report`]: what was counted, and which rule is broken;
+//! - [`answer`]: the result of a call, as a number, and [`report`]: what was counted, and which rule is broken;
 //! - [`stream`]: what C keeps, with [`handle`]: the pointer in it, and [`engine`]: what that points to;
 //! - [`output`]: what waits to be taken.
 //!
 //! The definitions: `specs/Engines.antt` (what an engine is after the bytes that it was fed, and what its calls do),
 //! `specs/Calls.antt` (the same of what C keeps, and what C asks for), `specs/Answers.antt` (numbers and reports),
-//! `specs/Waiting.antt` (what waits) and `specs/Handles.antt` (what a handle owns).
+//! `specs/PendingOutput.antt` (what waits) and `specs/Handles.antt` (what a handle owns).
 #![tactic(auto)]
 
 mod answer;

@@ -8,8 +8,8 @@ ghost use Rattle.fmp4_c.specs.Calls.{zero_ended};
 
 use mp4_push::Rule;
 
-/// Writes the name of a rule with a zero behind it, cut where it doesn't fit: how many bytes the whole name has. Where no
-/// rule has this number, it has none.
+/// Writes the name of a rule with a zero after it, cut where it doesn't fit: how many bytes the whole name has. Where
+/// no rule has this number, it has none.
 #[unsafe(no_mangle)]
 pub extern "C" fn fmp4_rule_name(rule: u32, name: &mut [u8]) -> usize
     ensures known { 1 ≤ rule → rule ≤ 25 → (r : kinds.Rule) × (rules.number_of r ≡ rule) ×
@@ -27,7 +27,7 @@ pub extern "C" fn fmp4_rule_name(rule: u32, name: &mut [u8]) -> usize
     }
 }
 
-/// Puts a text with a zero behind it in the place of the front of a buffer, cut where it doesn't fit: how many bytes it
+/// Puts a text with a zero after it in the place of the front of a buffer, cut where it doesn't fit: how many bytes it
 /// has.
 fn put_text(text: &[u8], buffer: &mut [u8]) -> usize
     ensures len { result ≡ length text.now }

@@ -58,7 +58,7 @@ pub extern "C" fn fmp4_check_open(alloc: Global, stream: &mut Stream, limit: u64
     open(alloc, stream, Ok(Asked::check(limit))).number()
 }
 
-/// Opens a stream, where none is open and what is asked for is in range.
+/// Opens a stream, if none is open and the request is in range.
 fn open(alloc: Global, stream: &mut Stream, asked: Result<Asked, Answer>) -> Answer
     ensures opens { stream.old.handle.held ≡ None →
         OpensOr asked result stream.new.handle.held }

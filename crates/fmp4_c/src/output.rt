@@ -1,9 +1,9 @@
-//! What waits to be taken.
+//! Output that waits to be taken.
 
 ghost use Rattle.std.specs.Prelude.{◌≡◌, ◌-◌, ◌+◌, ◌<◌, ◌≤◌, min, [], ◌∷◌, ◌++◌, length, take, drop};
 ghost use Rattle.std.specs.Prelude.{Some, true, false, IfOk, OnOk, OnErr, vec_capacity, vec_len};
 ghost use Rattle.std.specs.Io.KnownBytes.{WriteAppends, Keeps};
-ghost use Rattle.fmp4_c.specs.Waiting.{empty};
+ghost use Rattle.fmp4_c.specs.PendingOutput.{empty};
 
 use mp4_ends::{Failed, Sink};
 use std::alloc::{AllocError, Global};
@@ -24,9 +24,9 @@ pub(crate) struct Output {
 // A contract sees the bytes that wait, how many may, and whether a write found no room.
 impl Model for Output {
     ghost use Rattle.std.specs.Prelude.{◌≤◌, drop, vec_capacity, vec_len};
-    ghost use Rattle.fmp4_c.specs.Waiting.{Waiting};
+    ghost use Rattle.fmp4_c.specs.PendingOutput.{PendingOutput};
 
-    ghost Value = { Waiting };
+    ghost Value = { PendingOutput };
 
     ghost view = { λ o. record { bytes = drop o.at o.bytes.items; room = o.room; failed = o.failed } };
 
@@ -118,7 +118,7 @@ fn close_up(bytes: &mut Vec<u8>, at: usize)
 }
 
 impl Sink for Output {
-    // The room stands before the bytes, so that no write changes it.
+    // The room is before the bytes, so that no write changes it.
     ghost contents = { λ o. Some (o.room ∷ o.bytes) };
 
     ghost has_failed = { λ o. o.failed };

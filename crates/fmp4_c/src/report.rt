@@ -1,7 +1,7 @@
-//! What C is told of a stream.
+//! Reports on a stream for C.
 
 ghost use Rattle.std.specs.Prelude.{◌≡◌, ◌-◌, ◌^◌, min};
-ghost use Rattle.fmp4_c.specs.Answers.{counted_of, fault_of, kind_number, told_by};
+ghost use Rattle.fmp4_c.specs.Answers.{counted_of, fault_of, kind_number, report_from};
 
 use mp4_push::{Fault, FourCc, Stop, Totals};
 
@@ -41,7 +41,7 @@ impl Report {
 
     /// What was counted, and the fault where there is one.
     pub(crate) fn of(totals: &Totals, fault: Option<Fault>) -> Report
-        ensures { result ≡ told_by (counted_of totals.now) fault }
+        ensures { result ≡ report_from (counted_of totals.now) fault }
     {
         let mut report = Report {
             fragments: totals.fragments,

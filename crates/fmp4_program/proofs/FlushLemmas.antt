@@ -1,4 +1,4 @@
--- What a flush behind a run leaves of what the run brought.
+-- What a flush after a run keeps of the effects of the run.
 use Rattle.std.proofs.Common.{◌≡◌, Bool, true, false, List, ℕ, Ok, Err, Option, Result}
 use Rattle.std.specs.Io.KnownBytes.{Keeps}
 use Rattle.std.specs.Prelude.{IfErr, OnOk}
@@ -9,7 +9,7 @@ use Rattle.mp4_machine.specs.StreamRuns.{Claims, ReadsStream}
 use Rattle.mp4_machine.specs.declared.stop.Stop.{Stop}
 use Rattle.mp4_machine.specs.declared.stop.Stop.TheVariants.{Write}
 use Rattle.mp4_machine.specs.declared.tally.Tally.{Tally}
-use Rattle.mp4_recut.specs.declared.plan.Plan.{Plan}
+use Rattle.mp4_recut.specs.declared.operation.Operation.{Operation}
 use Rattle.mp4_stream.specs.Fragments.{ReadsFragments}
 use Rattle.mp4_stream.specs.HeldBoxes.{ReadsBoxes}
 use Rattle.mp4_push.specs.declared.totals.Totals.{Totals}
@@ -23,7 +23,7 @@ Runs-kept {ends = ends} u r kept = record {
   given = r.given;
   fragments = r.fragments;
   prompt = record { early = r.prompt.early; last = r.prompt.last; cut = r.prompt.cut; read = λ some. let one = r.prompt.read some in record { few = one.few; gave = one.gave }; undecided = r.prompt.undecided };
-  comes = (record { text = Appends-kept ends.written ends.written' u _ r.comes.0.text kept; fragments = r.comes.0.fragments; peak = r.comes.0.peak; tally = r.comes.0.tally }, r.comes.1, r.comes.2);
+  gives = (record { text = Appends-kept ends.written ends.written' u _ r.gives.0.text kept; fragments = r.gives.0.fragments; peak = r.gives.0.peak; tally = r.gives.0.tally }, r.gives.1, r.gives.2);
   kept = r.kept;
 }
 
@@ -31,11 +31,11 @@ pub boxes-kept : {T : Type 0} {ends : Ends} {claims : Claims} {t : T} (u : Optio
 unfolding Runs-kept
 boxes-kept u r kept = record { runs = Runs-kept u r.runs kept; by_boxes = record { most = r.by_boxes.most; enough = r.by_boxes.enough } }
 
-pub reads-kept : {T : Type 0} {plan : Plan} {ends : Ends} {claims : Claims} {totals : Totals} {t : T} (u : Option (List ℕ)) → ReadsFragments {T = T} plan ends claims totals (Ok t) → Keeps ends.written' u → ReadsFragments {T = T} plan (record ends { written' = u }) claims totals (Ok t)
+pub reads-kept : {T : Type 0} {operation : Operation} {ends : Ends} {claims : Claims} {totals : Totals} {t : T} (u : Option (List ℕ)) → ReadsFragments {T = T} operation ends claims totals (Ok t) → Keeps ends.written' u → ReadsFragments {T = T} operation (record ends { written' = u }) claims totals (Ok t)
 unfolding Runs-kept
 reads-kept u r kept = record {
   effects = r.effects;
-  walked = r.walked;
+  inspected = r.inspected;
   runs = Runs-kept u r.runs kept;
   fragments = r.fragments;
   all = r.all;

@@ -1,4 +1,4 @@
--- What the text of a number comes to, by whether it can be read and where it lies.
+-- The value of the text of a number, by whether it can be read and in which range it is.
 use Rattle.std.proofs.Common.{◌≡◌, ◌⊎◌, ◌<◌, ◌≤◌, ◌^◌, ℕ, Bool, true, false, Some, None, refl, ap, arith, inl, inr}
 use Rattle.std.specs.Str.Parse.{IsNumeral, digits_value, without_leading_plus}
 use Rattle.clap.specs.ValueTests.{is_unsigned_in}

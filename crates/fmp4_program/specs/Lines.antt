@@ -1,4 +1,4 @@
--- What the program says of a stop, on its fault writer, and of a stream that it has checked.
+-- Lines of the program: of a stop, on its fault writer, and of a stream that it has checked.
 use Rattle.std.specs.Prelude.{◌++◌, ℕ, List, Option, Some, None, codes, map}
 use Rattle.std.specs.Fmt.{decimal}
 use Rattle.mp4_box.specs.Rules.{number_of, name_of}

@@ -11,33 +11,33 @@ use Rattle.mp4_stream.specs.Fragments.{ReadsFragments}
 use Rattle.mp4_stream.specs.HeldBoxes.{ReadsBoxes}
 use Rattle.mp4_push.specs.declared.totals.Totals.{Totals}
 use Rattle.mp4_pieces.specs.declared.cut.Cut.{Cut}
-use Rattle.mp4_recut.specs.declared.plan.Plan.TheVariants as plans
+use Rattle.mp4_recut.specs.declared.operation.Operation.TheVariants as operations
 use Rattle.fmp4_program.specs.declared.asked.SplitOptions.{SplitOptions}
 use Rattle.fmp4_program.specs.declared.asked.Invocation.{Invocation}
 use Rattle.fmp4_program.specs.declared.asked.Invocation.TheVariants.{Boxes, Samples, Check, Split}
 use Rattle.fmp4_program.specs.declared.asked.Settings.{Settings}
 use Rattle.fmp4_program.specs.Lines.{check_text, line, stop_text}
 
--- what is seen of a run: what the two ends of the stream tell, and the exit status.
+-- the visible part of a run: both ends of the stream, and the exit status.
 -- What the fault writer was given is known before and after, and whether it has failed
 pub record Seen : Type 0 where
   pub ends : Ends
-  pub told : Option (List ℕ)
-  pub told' : Option (List ℕ)
+  pub reported : Option (List ℕ)
+  pub reported' : Option (List ℕ)
   pub fault_failed : Bool
   pub status : ℕ
 
 -- ---- the fault writer
 
--- a line was written, where the fault writer doesn't fail, and else a prefix of it
-pub record Tells (told told' : Option (List ℕ)) (failed : Bool) (text : List ℕ) : Type 0 where
-  pub front : AppendsPrefix told told' text
-  pub whole : failed ≡ false → Appends told told' text
+-- a line was written if the fault writer doesn't fail, else a prefix of it
+pub record WritesLine (reported reported' : Option (List ℕ)) (failed : Bool) (text : List ℕ) : Type 0 where
+  pub front : AppendsPrefix reported reported' text
+  pub whole : failed ≡ false → Appends reported reported' text
 
--- what is told of an answer: nothing of a success
-abbrev pub TellsOf : Option (List ℕ) → Option (List ℕ) → Bool → Result (Unit {0}) Stop → Type 0
-TellsOf told told' failed (Ok _) = Keeps told told'
-TellsOf told told' failed (Err stop) = Tells told told' failed (line (stop_text stop))
+-- the report of an answer: nothing for a success
+abbrev pub ReportsStop : Option (List ℕ) → Option (List ℕ) → Bool → Result (Unit {0}) Stop → Type 0
+ReportsStop reported reported' failed (Ok _) = Keeps reported reported'
+ReportsStop reported reported' failed (Err stop) = WritesLine reported reported' failed (line (stop_text stop))
 
 -- ---- a command
 
@@ -50,34 +50,34 @@ status_of (Err Write) = 3
 status_of (Err OverLimit) = 4
 status_of (Err Memory) = 4
 
--- the answer of a run and of the flush behind it, by whether the writer had failed when the run was over, and has:
+-- the answer of a run and of the flush after it, by whether the writer had failed when the run was over, and has:
 -- only a success is flushed
 abbrev pub Flushes : (ran answer : Result (Unit {0}) Stop) → (failed failed' : Bool) → Type 0
 Flushes (Ok _) (Ok _) failed failed' = (failed ≡ false) × (failed' ≡ false)
 Flushes (Ok _) (Err stop) failed failed' = (stop ≡ Write) × (failed' ≡ true)
 Flushes (Err stop) answer failed failed' = (answer ≡ Err stop) × (failed' ≡ failed)
 
--- a run, with all that it brings whether the flush behind it fails or not
-pub record RunsAndFlushes (brings : Ends → Result (Unit {0}) Stop → Type 0) (ends : Ends) (answer : Result (Unit {0}) Stop) : Type 0 where
+-- a run with this property, whether the flush after it fails or not
+pub record RunsAndFlushes (property : Ends → Result (Unit {0}) Stop → Type 0) (ends : Ends) (answer : Result (Unit {0}) Stop) : Type 0 where
   pub ran : Result (Unit {0}) Stop
   pub failed : Bool
-  pub runs : brings (record ends { write_failed' = failed }) ran
+  pub runs : property (record ends { write_failed' = failed }) ran
   pub flushed : Flushes ran answer failed ends.write_failed'
 
--- what a run brings is written, and a success is flushed
-pub record Delivers (settings : Settings) (seen : Seen) (brings : Claims → Ends → Result (Unit {0}) Stop → Type 0) : Type 0 where
+-- the output of a run is written, and a success is flushed
+pub record Delivers (settings : Settings) (seen : Seen) (property : Claims → Ends → Result (Unit {0}) Stop → Type 0) : Type 0 where
   pub answer : Result (Unit {0}) Stop
   pub peak : ℕ
-  pub runs : RunsAndFlushes (brings (record { copy = settings.copy; limit = settings.max_held; peak = peak })) seen.ends answer
+  pub runs : RunsAndFlushes (property (record { copy = settings.copy; limit = settings.max_held; peak = peak })) seen.ends answer
   pub within : peak ≤ settings.max_held
   pub exits : seen.status ≡ status_of answer
-  pub tells : TellsOf seen.told seen.told' seen.fault_failed answer
+  pub reports : ReportsStop seen.reported seen.reported' seen.fault_failed answer
 
 abbrev pub ListsBoxes : Settings → Seen → Type 0
 ListsBoxes settings seen = Delivers settings seen (λ claims ends answer. ReadsBoxes ends claims answer)
 
 abbrev pub ListsSamples : Settings → Seen → Type 0
-ListsSamples settings seen = Delivers settings seen (λ claims ends answer. (totals : Totals) × ReadsFragments (plans.List commands.Samples) ends claims totals answer)
+ListsSamples settings seen = Delivers settings seen (λ claims ends answer. (totals : Totals) × ReadsFragments (operations.List commands.Samples) ends claims totals answer)
 
 -- these are the options of a cut
 pub record IsCutBy (options : SplitOptions) (cut : Cut) : Type 0 where
@@ -88,27 +88,27 @@ pub record IsCutBy (options : SplitOptions) (cut : Cut) : Type 0 where
 
 -- the fragments of the stream are cut so
 abbrev pub SplitsBy : SplitOptions → Ends → Claims → Result (Unit {0}) Stop → Type 0
-SplitsBy options ends claims answer = (cut : Cut) × IsCutBy options cut × ((totals : Totals) × ReadsFragments (plans.Split cut) ends claims totals answer)
+SplitsBy options ends claims answer = (cut : Cut) × IsCutBy options cut × ((totals : Totals) × ReadsFragments (operations.Split cut) ends claims totals answer)
 
 abbrev pub Splits : Settings → SplitOptions → Seen → Type 0
 Splits settings options seen = Delivers settings seen (λ claims ends answer. SplitsBy options ends claims answer)
 
--- behind a good stream its line is written and flushed; behind another nothing
+-- for a sound stream its line is written and flushed; for another nothing
 abbrev pub Writes : Ends → Result (Unit {0}) Stop → Result (Unit {0}) Stop → Totals → Type 0
 Writes ends (Ok _) (Ok _) totals = Appends ends.written ends.written' (check_text totals) × (ends.write_failed' ≡ false)
 Writes ends (Ok _) (Err stop) totals = AppendsPrefix ends.written ends.written' (check_text totals) × (stop ≡ Write) × (ends.write_failed' ≡ true)
 Writes ends (Err stop) answer totals = Keeps ends.written ends.written' × (answer ≡ Err stop)
 
--- the stream is checked: what comes of it, and the answer with the line that is written
+-- the stream is checked: the result, and the answer with the line that is written
 pub record Checks (settings : Settings) (seen : Seen) : Type 0 where
   pub checked : Result (Unit {0}) Stop
   pub answer : Result (Unit {0}) Stop
   pub totals : Totals
-  pub runs : ReadsFragments (plans.List commands.Check) (record seen.ends { written = None; written' = None; write_failed = false; write_failed' = false }) (record { copy = settings.copy; limit = settings.max_held; peak = totals.peak }) totals checked
+  pub runs : ReadsFragments (operations.List commands.Check) (record seen.ends { written = None; written' = None; write_failed = false; write_failed' = false }) (record { copy = settings.copy; limit = settings.max_held; peak = totals.peak }) totals checked
   pub within : totals.peak ≤ settings.max_held
   pub writes : Writes seen.ends checked answer totals
   pub exits : seen.status ≡ status_of answer
-  pub tells : TellsOf seen.told seen.told' seen.fault_failed answer
+  pub reports : ReportsStop seen.reported seen.reported' seen.fault_failed answer
 
 abbrev pub Does : Invocation → Seen → Type 0
 Does (Boxes settings) seen = ListsBoxes settings seen
@@ -118,17 +118,17 @@ Does (Split settings options) seen = Splits settings options seen
 
 -- ---- the program
 
--- the stream is left alone, and a line says why
+-- the stream isn't read, and a line says why
 pub record Declines (untouched : Type 0) (seen : Seen) (status : ℕ) (why : List ℕ) : Type 0 where
   pub alone : untouched
   pub exits : seen.status ≡ status
-  pub tells : Tells seen.told seen.told' seen.fault_failed (line why)
+  pub reports : WritesLine seen.reported seen.reported' seen.fault_failed (line why)
 
--- what the words ask for is done, or they ask for nothing
+-- what the words request is done, or they request nothing
 abbrev pub Obeys : (untouched : Type 0) → Option Invocation → Seen → Type 0
 Obeys untouched None seen = Declines untouched seen 1 (codes "bad command line")
 Obeys untouched (Some asked) seen = Does asked seen
 
--- or there was no memory to read the words
+-- or memory ran out before the words were read
 abbrev pub Ran : (untouched : Type 0) → Option Invocation → Seen → Type 0
 Ran untouched asked seen = Declines untouched seen 4 (codes "out of memory") ⊎ Obeys untouched asked seen

@@ -1,4 +1,4 @@
--- What a command line asks for.
+-- The meaning of a command line.
 use Rattle.std.specs.Prelude.{◌≤◌, ◌==◌, ◌^◌, ℕ, Bool, false, List, Option, Some, None, codes, option_map, option_and_then, if◌then◌else◌, length}
 use Rattle.std.specs.Option.{option_map_or}
 use Rattle.std.specs.Str.{bytes_eq}
@@ -12,7 +12,7 @@ use Rattle.fmp4_program.specs.declared.asked.SplitOptions.{SplitOptions}
 use Rattle.fmp4_program.specs.declared.asked.Invocation.{Invocation}
 use Rattle.fmp4_program.specs.declared.asked.Invocation.TheVariants.{Boxes, Samples, Check, Split}
 
--- ---- which commands and options there are
+-- ---- the commands and options
 
 -- an option `--name` that takes a value
 abbrev pub valued_rule : Text → Rule
@@ -36,20 +36,20 @@ program_app = with_subcommand (with_subcommand (with_subcommand (with_subcommand
 
 -- ---- numbers
 
--- the number that a text of digits writes, after a plus sign or none, if it is in the range
+-- the number in a text of digits, after a plus sign or none, if it is in the range
 unfoldable pub number_in : ℕ → ℕ → Text → Option ℕ
 number_in least most text =
     if is_unsigned_in least most text then Some (digits_value 10 (without_leading_plus text)) else None
 
--- the number that is written after the option, or the usual one where the option is left out
+-- the number after the option, or the default if the option is left out
 unfoldable pub number_or : ℕ → ℕ → ℕ → Text → List Row → Option ℕ
-number_or usual least most id rows = option_map_or (number_in least most) (first_of id rows) (Some usual)
+number_or default_value least most id rows = option_map_or (number_in least most) (first_of id rows) (Some default_value)
 
--- the number that is written after an option that may not be left out
+-- the number after a required option
 unfoldable pub needed_number : ℕ → ℕ → Text → List Row → Option ℕ
 needed_number least most id rows = option_and_then (number_in least most) (first_of id rows)
 
--- the number that is written after an option, or that it is left out
+-- the number after an option, or none if it is left out
 unfoldable pub number_if : ℕ → ℕ → Text → List Row → Option (Option ℕ)
 number_if least most id rows = option_map_or (λ text. option_map Some (number_in least most text)) (first_of id rows) (Some None)
 
@@ -57,7 +57,7 @@ number_if least most id rows = option_map_or (λ text. option_map Some (number_i
 unfoldable pub has_flag : Text → List Row → Bool
 has_flag id rows = option_map_or (λ text. bytes_eq text (codes "true")) (first_of id rows) false
 
--- ---- what is asked for
+-- ---- the meaning of the words
 
 -- each setting lies in its range; both are in bytes
 pub record IsAllowed (settings : Settings) : Type 0 where
@@ -90,18 +90,18 @@ invocation_of name rows =
     else if bytes_eq name (codes "split") then split_of rows
     else None
 
--- so do the numbers of `split`
+-- the same for the numbers of `split`
 abbrev pub MayCut : SplitOptions → Type 0
 MayCut options = pieces.IsAllowed options.samples options.bytes
 
--- what came with a command lies in its range
+-- the numbers of a command are in range
 abbrev pub IsInRange : Invocation → Type 0
 IsInRange (Boxes settings) = IsAllowed settings
 IsInRange (Samples settings) = IsAllowed settings
 IsInRange (Check settings) = IsAllowed settings
 IsInRange (Split settings options) = IsAllowed settings × MayCut options
 
--- what the words ask for: nothing where they break a rule of the command line, or a number is out of its range
+-- the command of the words: none if they break a rule of the command line, or a number is out of range
 unfoldable pub command_of : List Text → Option Invocation
 command_of words = if length (fault_of program_app words) == 0
     then option_and_then (λ entered. invocation_of entered.0 entered.1) (subcommand_of program_app words) else None

@@ -14,9 +14,9 @@ pub struct Settings {
 pub struct SplitOptions {
     /// The most samples that a fragment of the output may have.
     pub samples: u32,
-    /// The most bytes of media that one of several samples may have, where that is asked for.
+    /// The most bytes of media of a piece with several samples, if there is a limit.
     pub bytes: Option<u64>,
-    /// Whether an index stands before each group of fragments.
+    /// Whether each group of fragments has an index before it.
     pub index: bool,
     /// Whether a fragment ends before each sync sample.
     pub sync: bool,

@@ -36,16 +36,22 @@ fn entered_text<'b>(matches: &ArgMatches<'b>, id: &str) -> Option<&'b str>
     matches.get_str(id)
 }
 
-fn number_or(matches: &ArgMatches<'_>, id: &str, usual: u64, least: u64, most: u64) -> Option<u64>
-    requires low { least ≤ usual }
-    requires high { usual ≤ most }
-    ensures value { result ≡ number_or usual least most id.now (rows_of (found_of matches.now)) }
+fn number_or(
+    matches: &ArgMatches<'_>,
+    id: &str,
+    default_value: u64,
+    least: u64,
+    most: u64,
+) -> Option<u64>
+    requires low { least ≤ default_value }
+    requires high { default_value ≤ most }
+    ensures value { result ≡ number_or default_value least most id.now (rows_of (found_of matches.now)) }
     ensures low { IfSome result (λ number. least ≤ number) }
     ensures high { IfSome result (λ number. number ≤ most) }
 {
     match entered_text(matches, id) {
         Some(text) => number_in(text, least, most),
-        None => Some(usual),
+        None => Some(default_value),
     }
 }
 

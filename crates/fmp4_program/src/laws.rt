@@ -4,9 +4,9 @@ ghost use Rattle.fmp4_program.specs.Words.{command_of};
 
 use crate::asked::Invocation;
 
-/// Worked examples, which show what the definition of a command line comes to.
+/// Worked examples of the definition of a command line.
 pub fn worked_words()
-    ensures usual_copy { command_of (codes "fmp4" ∷ codes "boxes" ∷ []) ≡ Some
+    ensures default_copy { command_of (codes "fmp4" ∷ codes "boxes" ∷ []) ≡ Some
         (Invocation.Boxes (record { copy = 65536; max_held = 536870912 })) }
     ensures least_copy { command_of (codes "fmp4" ∷ codes "boxes" ∷ codes "--copy" ∷ codes "4096" ∷
         []) ≡ Some (Invocation.Boxes (record { copy = 4096; max_held = 536870912 })) }

@@ -7,9 +7,9 @@ ghost use Rattle.mp4_ends.specs.Streams.{AppendsPrefix};
 ghost use Rattle.std.specs.Io.KnownBytes.{Appends, Keeps};
 ghost use Rattle.mp4_stream.specs.Fragments.{ReadsFragments, unsent};
 ghost use Rattle.mp4_stream.specs.HeldBoxes.{ReadsBoxes};
-ghost use Rattle.mp4_recut.specs.declared.plan.Plan.TheVariants as plans;
+ghost use Rattle.mp4_recut.specs.declared.operation.Operation.TheVariants as operations;
 ghost use Rattle.fmp4_program.specs.Words.{MayCut, command_of};
-ghost use Rattle.fmp4_program.specs.Runs.{IsCutBy, Ran, RunsAndFlushes, SplitsBy, Tells, TellsOf, Writes, status_of};
+ghost use Rattle.fmp4_program.specs.Runs.{IsCutBy, Ran, ReportsStop, RunsAndFlushes, SplitsBy, Writes, WritesLine, status_of};
 
 use crate::asked::{Invocation, SplitOptions};
 use crate::command::{NoCommand, read_words};
@@ -22,7 +22,7 @@ use std::alloc::Global;
 /// Runs the command that the words name, the first of which is the program's name. Bytes are read from `r`,
 /// what the command writes goes to `w`, and one line on what stopped it to `fault_w`. The result is the exit
 /// status: 0 after a success, 1 for words that are no command line, 2 for a stream with a fault, 3 for an end
-/// that failed, 4 for want of memory or where more would have to be claimed than may be.
+/// that failed, 4 for out of memory or a claim past the limit.
 pub fn run<R: Source, W: Sink, F: Sink>(
     alloc: Global,
     words: Vec<String>,
@@ -34,8 +34,8 @@ pub fn run<R: Source, W: Sink, F: Sink>(
         (record {
           ends = between (received R.remaining R.has_ended R.has_failed R.last_read r.old r.new)
               (sent W.contents W.has_failed w.old w.new);
-          told = F.contents fault_w.old;
-          told' = F.contents fault_w.new;
+          reported = F.contents fault_w.old;
+          reported' = F.contents fault_w.new;
           fault_failed = F.has_failed fault_w.new;
           status = result;
         }) }
@@ -43,11 +43,11 @@ pub fn run<R: Source, W: Sink, F: Sink>(
     let asked = match read_words(alloc, words.as_slice()) {
         Ok(asked) => asked,
         Err(NoCommand::BadWords) => {
-            tell(fault_w, b"fmp4: bad command line\n");
+            write_line(fault_w, b"fmp4: bad command line\n");
             return 1;
         }
         Err(NoCommand::Memory) => {
-            tell(fault_w, b"fmp4: out of memory\n");
+            write_line(fault_w, b"fmp4: out of memory\n");
             return 4;
         }
     };
@@ -69,7 +69,7 @@ pub fn run<R: Source, W: Sink, F: Sink>(
             split_stream(r, w, &mut ledger, settings.copy, &options)
         }
     };
-    tell_answer(fault_w, &answer);
+    report_answer(fault_w, &answer);
     status_for(&answer)
 }
 
@@ -104,7 +104,7 @@ fn list_samples<R: Source, W: Sink>(
     requires copy { (4096 ≤ copy) × (copy ≤ 1048576) }
     requires idle { ledger.old.live ≡ 0 }
     ensures runs { RunsAndFlushes (λ ends ran. (totals : Totals) ×
-        ReadsFragments (plans.List commands.Samples) ends
+        ReadsFragments (operations.List commands.Samples) ends
         (record { copy = copy; limit = ledger.old.limit; peak = ledger.new.peak }) totals ran) (between
         (received R.remaining R.has_ended R.has_failed R.last_read r.old r.new)
         (sent W.contents W.has_failed w.old w.new)) result }
@@ -126,7 +126,7 @@ fn check_stream<R: Source, W: Sink>(
     requires copy { (4096 ≤ copy) × (copy ≤ 1048576) }
     requires idle { ledger.old.live ≡ 0 }
     ensures checks { (checked : Result (Unit {0}) Stop) × (totals : Totals) ×
-        ReadsFragments (plans.List commands.Check) (between
+        ReadsFragments (operations.List commands.Check) (between
         (received R.remaining R.has_ended R.has_failed R.last_read r.old r.new) unsent)
         (record { copy = copy; limit = ledger.old.limit; peak = totals.peak }) totals checked ×
         (totals.peak ≤ ledger.old.limit) × Writes (between
@@ -217,20 +217,20 @@ fn status_for(answer: &Result<(), Stop>) -> u8
     }
 }
 
-/// Writes a line. Where its writer fails, there is no one to tell.
-fn tell<F: Sink>(fault_w: &mut F, text: &[u8])
-    ensures { Tells (F.contents fault_w.old) (F.contents fault_w.new) (F.has_failed fault_w.new)
+/// Writes a line. If its writer fails, the failure can't be reported.
+fn write_line<F: Sink>(fault_w: &mut F, text: &[u8])
+    ensures { WritesLine (F.contents fault_w.old) (F.contents fault_w.new) (F.has_failed fault_w.new)
         text.now }
 {
     let _ = write_all(fault_w, text);
 }
 
-fn tell_answer<F: Sink>(fault_w: &mut F, answer: &Result<(), Stop>)
-    ensures { TellsOf (F.contents fault_w.old) (F.contents fault_w.new) (F.has_failed fault_w.new)
+fn report_answer<F: Sink>(fault_w: &mut F, answer: &Result<(), Stop>)
+    ensures { ReportsStop (F.contents fault_w.old) (F.contents fault_w.new) (F.has_failed fault_w.new)
         answer.now }
 {
     match answer {
         Ok(()) => {}
-        Err(stop) => tell(fault_w, stop_line(stop).bytes()),
+        Err(stop) => write_line(fault_w, stop_line(stop).bytes()),
     }
 }

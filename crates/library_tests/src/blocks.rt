@@ -16,7 +16,7 @@ fn put_by_one<W: Sink>(block: &mut Block, w: &mut W, groups: &[u8]) -> Result<()
     Ok(())
 }
 
-/// What became of groups that were put behind bytes that wait.
+/// What became of groups that were put after bytes that wait.
 #[derive(Clone, Copy, Debug, PartialEq, Eq)]
 struct Gone {
     /// Whether the sink failed meanwhile.
@@ -36,7 +36,7 @@ fn groups_of(alloc: Global, count: usize) -> Result<Vec<u8>, Fail> {
     Ok(bytes)
 }
 
-/// Puts groups, all at once or one by one, behind so many bytes that wait, on their way to a sink with so much room: what became of
+/// Puts groups, all at once or one by one, after so many bytes that wait, on their way to a sink with so much room: what became of
 /// them, and the bytes that went out in the end.
 fn put_groups(
     alloc: Global,

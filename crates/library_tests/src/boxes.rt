@@ -78,7 +78,7 @@ fn nested_boxes(rt: HostRuntime) -> Result<(), Fail> {
     let eight = b"\0\0\0\x40moov\0\0\0\x38trak\0\0\0\x30trak\0\0\0\x28trak\
         \0\0\0\x20trak\0\0\0\x18trak\0\0\0\x10trak\0\0\0\x08trak";
     check(&rt, eight, 0, Some(Ok(())))?;
-    // A bad size comes before a box that stands too deep, though that stands before it.
+    // A bad size comes before a box that is too deep, even if that is earlier.
     let both = b"\0\0\0\x50moov\0\0\0\x40trak\0\0\0\x38trak\0\0\0\x30trak\0\0\0\x28trak\
         \0\0\0\x20trak\0\0\0\x18trak\0\0\0\x10trak\0\0\0\x08trak\0\0\0\x07free";
     check(&rt, both, 0, fault(Rule::BadSize, b"free", 72))?;
@@ -123,7 +123,7 @@ fn good_children(rt: HostRuntime) -> Result<(), Fail> {
     // A leaf's payload is no tree, whatever it looks like.
     let bytes = b"\0\0\0\x18moov\0\0\0\x10udta\0\0\0\x07trak";
     check(&rt, bytes, 0, Some(Ok(())))?;
-    // A container is walked where it has no place, too.
+    // A container is read where it may not be, too.
     let bytes = b"\0\0\0\x18moov\0\0\0\x10traf\0\0\0\x07free";
     check(&rt, bytes, 0, fault(Rule::BadSize, b"free", 16))?;
     Ok(())

@@ -24,13 +24,13 @@ ghost use Rattle.mp4_machine.specs.Ends.{sent};
 ghost use Rattle.mp4_machine.specs.Puts.{Writes};
 ghost use Rattle.mp4_machine.specs.Readings.{Effects, both};
 ghost use Rattle.mp4_recut.specs.Cursors.{AreCut};
-ghost use Rattle.mp4_recut.specs.Media.{Tells, playing, spot_of};
-ghost use Rattle.mp4_recut.specs.Parts.{played};
-ghost use Rattle.mp4_recut.specs.Splitting.{runs_parts};
+ghost use Rattle.mp4_recut.specs.Media.{Emits, output_from, media_position};
+ghost use Rattle.mp4_recut.specs.OutputFragments.{output_of};
+ghost use Rattle.mp4_recut.specs.Splitting.{runs_fragments};
 ghost use Rattle.mp4_run_order.specs.Orders.{FitsKeys, taken};
 ghost use Rattle.mp4_run_order.specs.Places.{first_offender};
 ghost use Rattle.mp4_run_order.specs.Runs.{IsListing};
-ghost use Rattle.mp4_run_order.specs.Working.Searches.{found_by_place, found_by_track};
+ghost use Rattle.mp4_run_order.specs.Implementation.Searches.{found_by_place, found_by_track};
 ghost use Rattle.library_tests.specs.Kinds.{to_trun, traf};
 
 use mp4_box::{Along, BoxRef, Fault, FourCc, check_tree, count_of, number_at, whole_box};
@@ -41,7 +41,7 @@ use mp4_init::{InitStop, TrackList, tracks};
 use mp4_ledger::Ledger;
 use mp4_machine::Block;
 use mp4_pieces::{Cut, Piece, Pieces};
-use mp4_recut::media::{Media, begin, settle};
+use mp4_recut::media::{Media, begin, write_ready_heads};
 use mp4_run_order::{ListedRun, Payload, PlaceSearch, TrackSearch};
 
 const TRAF: FourCc = FourCc(*b"traf");
@@ -171,7 +171,7 @@ pub fn ends_by<'a>(
     Ok(true)
 }
 
-/// The next piece of a run from a cursor on. The cursor is behind it then, so that no list of pieces is kept.
+/// The next piece of a run from a cursor on. The cursor is after it then, so that no list of pieces is kept.
 pub fn next_piece(run: &Run, held: &[u8], cut: &Cut, at: &mut Cursor) -> Option<Piece>
     requires run { IsRunOf held.now run.now }
     requires cursor { IsCursor run.now held.now at.old }
@@ -185,7 +185,7 @@ pub fn next_piece(run: &Run, held: &[u8], cut: &Cut, at: &mut Cursor) -> Option<
     Some(piece)
 }
 
-/// Writes all that stands before the media of a piece: its moof, and the header of its mdat.
+/// Writes everything that comes before the media of a piece: its moof, and the header of its mdat.
 pub fn write_front<W: Sink>(
     piece: &Piece,
     run: &Run,
@@ -211,7 +211,7 @@ pub fn write_front<W: Sink>(
 }
 
 /// Puts all that is written of a moof before its first media byte: the head of its first piece, and of
-/// those behind it as long as no media byte is needed. Gives where the media begin then.
+/// those after it as long as no media byte is needed. Gives where the media begin then.
 pub fn put_first_heads<W: Sink>(
     moof: &Moof<'_>,
     runs: &RunList,
@@ -223,18 +223,18 @@ pub fn put_first_heads<W: Sink>(
 ) -> Result<Media, Failed>
     requires list { IsListOf moof.now tracks.now runs.now }
     requires cut { AreCut cut.now moof.now tracks.now }
-    requires numbers { fragments.old + 1 + length (runs_parts cut.now moof.now.bytes tracks.now
+    requires numbers { fragments.old + 1 + length (runs_fragments cut.now moof.now.bytes tracks.now
         (fragments.old + 1) (taken_runs moof.now tracks.now)) ≤ 2 ^ 32 }
-    ensures told { IfOk result (λ media. (at : ℕ) → (told : Effects) ×
-        Tells (W.contents w.old) (W.contents w.new) block.old block.new fragments.old
-        fragments.new told × ((bytes : List ℕ) →
-        played at (runs_parts cut.now moof.now.bytes tracks.now (fragments.old + 1)
-        (taken_runs moof.now tracks.now)) bytes ≡ both told (playing (spot_of cut.now moof.now
+    ensures emitted { IfOk result (λ media. (at : ℕ) → (emitted : Effects) ×
+        Emits (W.contents w.old) (W.contents w.new) block.old block.new fragments.old
+        fragments.new emitted × ((bytes : List ℕ) →
+        output_of at (runs_fragments cut.now moof.now.bytes tracks.now (fragments.old + 1)
+        (taken_runs moof.now tracks.now)) bytes ≡ both emitted (output_from (media_position cut.now moof.now
         tracks.now at (fragments.new + 1) media) bytes))) }
     ensures failed { OnErr result (W.has_failed w.new ≡ true) }
 {
     let media = begin(moof, runs, tracks, cut);
-    match settle(media, moof, runs, tracks, cut, fragments, block, w) {
+    match write_ready_heads(media, moof, runs, tracks, cut, fragments, block, w) {
         Ok(media) => Ok(media),
         Err(Failed) => Err(Failed),
     }

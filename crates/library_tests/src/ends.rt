@@ -126,7 +126,7 @@ impl<'c> io::Write for Counting<'c> {
     }
 }
 
-/// What three reads came to.
+/// The results of three reads.
 #[derive(Clone, Copy, Debug, PartialEq, Eq)]
 struct Reads {
     answers: [Result<usize, Failed>; 3],
@@ -176,7 +176,7 @@ fn a_reader_that_failed_or_ended_is_not_asked_again(rt: HostRuntime) {
     assert_eq!(rt; later, came_to([Ok(1), Err(Failed), Err(Failed)], 1, 2));
 }
 
-/// What a write, a flush and a write came to.
+/// The results of a write, a flush and a write.
 #[derive(Clone, Copy, Debug, PartialEq, Eq)]
 struct Writes {
     first: Result<usize, Failed>,

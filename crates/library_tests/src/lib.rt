@@ -2,7 +2,7 @@
 //! can say.
 //!
 //! - [`claims`]: that claims succeed where memory is ample;
-//! - [`ends`]: what an adapter makes of std's errors;
+//! - [`ends`]: how an adapter maps std's errors;
 //! - [`blocks`]: when groups of bytes go out that are put into a block;
 //! - [`boxes`]: worked headers, fields and trees, and [`flags`]: worked flag words;
 //! - [`moovs`]: worked moovs, and [`moofs`]: worked moofs;

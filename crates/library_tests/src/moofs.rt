@@ -1,9 +1,9 @@
 //! Worked moofs: what no clause says is which of their bytes are which sample or fault.
 //!
 //! - [`faults`]: moofs with one thing wrong, or two, and what is at fault then;
-//! - [`order`]: the order in which runs are taken, and where they may stand;
+//! - [`order`]: the order in which runs are taken, and where they may lie;
 //! - [`pieces`]: how runs are cut, and [`room`]: whether their pieces have room for their numbers;
-//! - [`runs`]: the runs of moofs, and the run behind a run;
+//! - [`runs`]: the runs of moofs, and the run after a run;
 //! - [`samples`]: the samples of moofs, and where their tracks end;
 //! - [`written`]: the moofs and indexes that are written for the pieces of a run.
 
@@ -45,7 +45,7 @@ fn push_box(bytes: &mut Vec<u8>, kind: &[u8; 4], parts: &[&[u8]]) -> Result<(), 
     Ok(())
 }
 
-/// A moof of these boxes behind its mfhd.
+/// A moof of these boxes after its mfhd.
 fn moof_of(alloc: Global, boxes: &[&[u8]]) -> Result<Vec<u8>, Fail> {
     let mut content = MFHD.to_vec(alloc)?;
     for each in boxes {

@@ -13,10 +13,10 @@ use std::alloc::Global;
 use std::process::Abort;
 use std::test::Fail;
 
-/// What a moov at 20 comes to: how many tracks, or its fault; none for bytes that are no box.
-type Told = Option<Result<usize, InitStop>>;
+/// Result of reading a moov at 20: how many tracks, or its fault; none for bytes that are no box.
+type Outcome = Option<Result<usize, InitStop>>;
 
-fn told(alloc: Global, moov: &[u8]) -> Told {
+fn outcome(alloc: Global, moov: &[u8]) -> Outcome {
     if moov.len() > 16_777_216 || !is_box(moov) {
         return None;
     }
@@ -31,13 +31,13 @@ fn told(alloc: Global, moov: &[u8]) -> Told {
     }
 }
 
-fn fault(rule: Rule, kind: &[u8; 4], offset: u64) -> Told {
+fn fault(rule: Rule, kind: &[u8; 4], offset: u64) -> Outcome {
     let kind = Some(FourCc(*kind));
     Some(Err(InitStop::Fault(Fault { rule, kind, offset })))
 }
 
-fn check(rt: &impl Abort, alloc: Global, moov: &[u8], expected: Told) -> Result<(), Fail> {
-    assert_eq!(rt; told(alloc, moov), expected);
+fn check(rt: &impl Abort, alloc: Global, moov: &[u8], expected: Outcome) -> Result<(), Fail> {
+    assert_eq!(rt; outcome(alloc, moov), expected);
     Ok(())
 }
 

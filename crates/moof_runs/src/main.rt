@@ -1,6 +1,6 @@
-//! Prints what a moof comes to, which is read from standard input behind its moov: how many runs and samples it has, and how
-//! many rows were read for it; or the number and the place of what is at fault. Its mdat is taken to go to the end of the
-//! stream. What it must print for the first test vector stands in the file stdout.
+//! Prints the result of reading a moof, which comes from standard input after its moov: how many runs and samples it
+//! has, and how many rows were read for it; or the number and the place of what is at fault. Its mdat is taken to go to
+//! the end of the stream. What it must print for the first test vector is in the file stdout.
 #![tactic(auto)]
 
 ghost use Rattle.std.specs.Prelude.{◌≡◌, ◌^◌, ◌≤◌, length};
@@ -26,7 +26,7 @@ enum Stop {
     Refused(Refused),
 }
 
-/// What a moof comes to.
+/// Result of reading a moof.
 #[derive(Clone, Copy)]
 struct Counts {
     runs: usize,
@@ -34,7 +34,7 @@ struct Counts {
     rows: u128,
 }
 
-/// Reads a moof at offset 0, lists its runs, looks where they stand, and settles its tracks.
+/// Reads a moof at offset 0, lists its runs, checks where they lie, and settles its tracks.
 fn count(ledger: &mut Ledger, list: &mut TrackList, moof: &[u8]) -> Result<Counts, Stop>
     requires whole { IsWhole moof.now }
     requires room { length moof.now ≤ 2 ^ 62 }
@@ -95,9 +95,9 @@ fn print_runs(rt: &HostRuntime) -> io::Result<()> {
         return println!(rt; "no tracks");
     };
     let mut list = list;
-    let told = count(&mut ledger, &mut list, moof);
+    let outcome = count(&mut ledger, &mut list, moof);
     list.back(&mut ledger);
-    match told {
+    match outcome {
         Ok(counts) => println!(rt;
             "{} runs, {} samples, {} rows",
             counts.runs, counts.samples, counts.rows

@@ -1,4 +1,4 @@
--- Boxes that stand in bytes have payloads of bytes, whose numbers fit their fields.
+-- Boxes that lie in bytes have payloads of bytes, whose numbers fit their fields.
 use Rattle.std.proofs.Common.{◌+◌, ◌<◌, ◌≤◌, ◌^◌, ℕ, zero, suc, Bool, true, false, cond, ltb, List, [], ◌∷◌, ◌++◌, length, drop, sym, subst, arith, inl, inr}
 use Rattle.std.specs.Prelude.{filter}
 use Rattle.std.specs.List.{AllByRecursion, flat_map}
@@ -11,7 +11,7 @@ use Rattle.mp4_box.specs.Headers.{IsBytes}
 use Rattle.mp4_box.specs.Paths as paths
 use Rattle.mp4_box.specs.Paths.{at_path, of_kind}
 use Rattle.mp4_box.specs.Trees.{Box, box_at, box_len, boxes, children, payload_offset}
-use Rattle.mp4_box.proofs.GrammarLemmas.{option_is, stands}
+use Rattle.mp4_box.proofs.GrammarLemmas.{lies_at, option_is}
 use Rattle.mp4_box.proofs.HeaderLemmas.{IsBytes-drop}
 use Rattle.mp4_box.proofs.TreeLemmas.{boxes_end, boxes_more, over-end}
 
@@ -41,7 +41,7 @@ boxes_of_bytes o x (suc fuel) held few =
       | inl none ↦ subst (λ (bs : List Box). AllByRecursion OfBytes bs) (sym (boxes_end o x none)) tt
       | inr some ↦
           let b = some.0 in
-          let s = stands o x b held some.1 in
+          let s = lies_at o x b held some.1 in
           subst (λ (bs : List Box). AllByRecursion OfBytes bs) (sym (boxes_more o x b some.1 s.low s.high))
           (s.bytes, boxes_of_bytes (o + box_len b) (drop (box_len b) x) fuel (IsBytes-drop (box_len b) x held) (omega (arith, few, s.low, s.high, length-drop (box_len b) x)))
     ]

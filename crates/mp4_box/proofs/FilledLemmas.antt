@@ -1,4 +1,4 @@
--- What is made of the boxes of a payload, and of no rest where they have all of its bytes.
+-- Going over the boxes of a payload, without a rest where they have all of its bytes.
 use Rattle.std.proofs.Common.{◌≡◌, ◌∙◌, ◌≤◌, ◌+◌, ◌-◌, ℕ, zero, suc, ltb, List, [], ◌∷◌, ◌++◌, drop, length, Option, Some, None, refl, ap, subst, arith}
 use Rattle.std.specs.Prelude.{slice_range}
 use Rattle.std.specs.List.{flat_map, sum_by}
@@ -15,7 +15,7 @@ use Rattle.mp4_box.specs.Trees.{Box, box_at, box_by, box_len, box_then, boxes, o
 use Rattle.mp4_box.proofs.GrammarLemmas.{cond_some, mk}
 use Rattle.mp4_box.proofs.HeaderLemmas.{need-least, room_of, whole_is}
 
--- a box has a header, and no more bytes than it stands in
+-- a box has a header, and no more bytes than are there
 record IsWithin (x : List ℕ) (b : Box) : Type 0 where
   low : 8 ≤ box_len b
   high : box_len b ≤ length x
@@ -38,7 +38,7 @@ within : (o : ℕ) (x : List ℕ) (b : Box) → box_at o x ≡ Some b → IsWith
 unfolding box_at
 within o x b e = within_by o x (header_at x) b refl e
 
--- ---- what is made of each box
+-- ---- one result for each box
 
 each_over : {R : Type 0} (f : Box → List R) (x : List ℕ) (k o : ℕ) → over f (λ _ _. []) x k o ≡ flat_map f (over (λ b. b ∷ []) (λ _ _. []) x k o)
 unfolding over

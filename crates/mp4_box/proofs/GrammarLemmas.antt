@@ -22,7 +22,7 @@ abbrev pub mk : Header → ℕ → List ℕ → Box
 mk h o p = record { header = h; offset = o; payload = p }
 
 -- the parts of a box at the front of the bytes
-pub record Stands (o : ℕ) (x : List ℕ) (b : Box) : Type 0 where
+pub record LiesAt (o : ℕ) (x : List ℕ) (b : Box) : Type 0 where
   pub box : IsBox b.header b.payload (take (box_len b) x)
   pub low : 8 ≤ box_len b
   pub high : box_len b ≤ length x
@@ -42,9 +42,9 @@ room_by (Exact s) kind user x n e (inl h) = omega (arith, e, h.1)
 room_by (Exact s) kind user x n e (inr h) = omega (arith, e, h.1)
 room_by ToEnd kind user x n e h = tt
 
-sized_stands : (o : ℕ) (x : List ℕ) (h : Header) (size : Size) (b : Box) → IsBytes x → h.size ≡ size → header_at x ≡ steps.Whole h → sized_box o x h size ≡ Some b → Stands o x b
-sized_stands o x h ToEnd b fits is e s = absurd cc
-sized_stands o x h (Exact n) b fits is e s =
+sized_lies : (o : ℕ) (x : List ℕ) (h : Header) (size : Size) (b : Box) → IsBytes x → h.size ≡ size → header_at x ≡ steps.Whole h → sized_box o x h size ≡ Some b → LiesAt o x b
+sized_lies o x h ToEnd b fits is e s = absurd cc
+sized_lies o x h (Exact n) b fits is e s =
     let t = cond_some (ltb (length x) n) (mk h o (slice_range x h.header_len n)) b s in
     let enough : n ≤ length x = ltb-false _ _ t.0 in
     let w = whole_is x h e in
@@ -55,7 +55,7 @@ sized_stands o x h (Exact n) b fits is e s =
     let len : length p ≡ n - h.header_len = length-take (n - h.header_len) (drop h.header_len x) ∙ omega (arith, length-drop h.header_len x) in
     let all : h.header_len + length p ≡ n = omega (arith, len, room) in
     let split : take (h.header_len + length p) x ≡ take h.header_len x ++ p = take-add h.header_len (length p) x ∙ ap (λ (k : ℕ). take h.header_len x ++ take k (drop h.header_len x)) len in
-    subst (Stands o x) t.1 (record {
+    subst (LiesAt o x) t.1 (record {
       box = record {
         head = take h.header_len x;
         spelled = spelled;
@@ -68,14 +68,14 @@ sized_stands o x h (Exact n) b fits is e s =
       bytes = IsBytes-take (n - h.header_len) (drop h.header_len x) (IsBytes-drop h.header_len x fits);
     })
 
-by_stands : (o : ℕ) (x : List ℕ) (r : Step) (b : Box) → IsBytes x → header_at x ≡ r → box_by o x r ≡ Some b → Stands o x b
-by_stands o x (steps.Whole h) b fits e s = sized_stands o x h h.size b fits refl e s
-by_stands o x steps.More b fits e s = absurd cc
-by_stands o x steps.BadSize b fits e s = absurd cc
+by_lies : (o : ℕ) (x : List ℕ) (r : Step) (b : Box) → IsBytes x → header_at x ≡ r → box_by o x r ≡ Some b → LiesAt o x b
+by_lies o x (steps.Whole h) b fits e s = sized_lies o x h h.size b fits refl e s
+by_lies o x steps.More b fits e s = absurd cc
+by_lies o x steps.BadSize b fits e s = absurd cc
 
-pub stands : (o : ℕ) (x : List ℕ) (b : Box) → IsBytes x → box_at o x ≡ Some b → Stands o x b
+pub lies_at : (o : ℕ) (x : List ℕ) (b : Box) → IsBytes x → box_at o x ≡ Some b → LiesAt o x b
 unfolding box_at
-stands o x b fits e = by_stands o x (header_at x) b fits refl e
+lies_at o x b fits e = by_lies o x (header_at x) b fits refl e
 
 -- a box is found, whatever follows
 pub found : (h : Header) (p x rest : List ℕ) (o : ℕ) → IsBox h p x → (box_at o (x ++ rest) ≡ Some (mk h o p)) × (box_len (mk h o p) ≡ length x)
@@ -121,7 +121,7 @@ joined n p (suc fuel) (a ∷ xs) o h fits bad deep =
       | inl none ↦ let e = sym (over-none (bad_below n) bad_rest x o none (omega arith)) ∙ bad in absurd cc
       | inr some ↦
           let b = some.0 in
-          let s = stands o x b fits some.1 in
+          let s = lies_at o x b fits some.1 in
           let bads = no_fault (bad_below n b) _ (sym (over-box (bad_below n) bad_rest x o b some.1 (omega (arith, s.low)) s.high) ∙ bad) in
           let deeps = no_fault (deep_below n b) _ (sym (over-box (deep_below n) no_rest x o b some.1 (omega (arith, s.low)) s.high) ∙ deep) in
           let rest = joined n p fuel (drop (box_len b) x) (o + box_len b) (omega (arith, length-drop (box_len b) x, s.low)) (IsBytes-drop (box_len b) x fits) bads.1 deeps.1 in
@@ -132,7 +132,7 @@ sound : (n : ℕ) → Sound n
 unfolding IsTree bad_below deep_below
 sound zero o x b fits e bad deep = absurd cc
 sound (suc n) o x b fits e bad deep =
-    let s = stands o x b fits e in (
+    let s = lies_at o x b fits e in (
       b.header,
       b.payload,
       s.box,
@@ -252,16 +252,16 @@ children_are xs o all =
     ap (boxes o) (sym (append-nil (concat xs))) ∙ (f.2 ∙ (ap (λ (bs : List Box). flat_map (λ b. b ∷ []) f.0 ++ bs) (over-end (λ b. b ∷ []) (λ _ _. []) [] (o + length (concat xs)) refl) ∙ (append-nil _ ∙ each_is f.0))) in
     subst (AreBoxes o xs) (sym is) f.1
 
--- where no box is found none stands, and where none stands none is found
-pub none_stands : (o : ℕ) (y : List ℕ) → IsBytes y → (box_at o y ≡ None → NoBox y) × (NoBox y → box_at o y ≡ None)
-none_stands o y fits = (
+-- if no box is found there is none, and if there is none no box is found
+pub none_lies : (o : ℕ) (y : List ℕ) → IsBytes y → (box_at o y ≡ None → NoBox y) × (NoBox y → box_at o y ≡ None)
+none_lies o y fits = (
   λ e n w.
       let f = found w.0 w.1 (take n y) (drop n y) o w.2 in
       let at : box_at o y ≡ Some (mk w.0 o w.1) = ap (box_at o) (sym (take-append-drop n y)) ∙ f.0 in
       absurd cc,
   λ no. elim (option_is (box_at o y)) [
     | inl none ↦ none
-    | inr some ↦ let s = stands o y some.0 fits some.1 in absurd (no (box_len some.0) (some.0.header, some.0.payload, s.box))
+    | inr some ↦ let s = lies_at o y some.0 fits some.1 in absurd (no (box_len some.0) (some.0.header, some.0.payload, s.box))
   ],
 )
 
@@ -275,7 +275,7 @@ whole_found o x w e =
 -- a box that takes all of the bytes
 pub is_whole : (x : List ℕ) (b : Box) → IsBytes x → box_at 0 x ≡ Some b → box_len b ≡ length x → IsWhole x
 is_whole x b fits e all =
-    let s = stands 0 x b fits e in
+    let s = lies_at 0 x b fits e in
     (b.header, b.payload, subst (IsBox b.header b.payload) (take_all (box_len b) x (omega (arith, all))) s.box)
 
 -- bytes that are a box are all of it
@@ -298,10 +298,10 @@ split_of zero (a ∷ xs) h fits = absurd (omega arith)
 split_of (suc fuel) (a ∷ xs) h fits =
     let x : List ℕ = a ∷ xs in
     elim (option_is (box_at 0 x)) [
-      | inl none ↦ ([], x, refl, tt, inr (omega arith, (none_stands 0 x fits).0 none))
+      | inl none ↦ ([], x, refl, tt, inr (omega arith, (none_lies 0 x fits).0 none))
       | inr some ↦
           let b = some.0 in
-          let s = stands 0 x b fits some.1 in
+          let s = lies_at 0 x b fits some.1 in
           let rest = split_of fuel (drop (box_len b) x) (omega (arith, length-drop (box_len b) x, s.low)) (IsBytes-drop (box_len b) x fits) in (
             take (box_len b) x ∷ rest.0,
             rest.1,
@@ -329,4 +329,4 @@ pub gone_over_rest : {R : Type 0} (f : Box → List R) (g : ℕ → List ℕ →
 gone_over_rest {R} f g xs y o all fits long none =
     let p = found_all f g xs y o all in
     let at = o + length (concat xs) in
-    (p.0, p.1, p.2 ∙ ap (λ (rs : List R). flat_map f p.0 ++ rs) (over-none f g y at ((none_stands at y fits).1 none) long))
+    (p.0, p.1, p.2 ∙ ap (λ (rs : List R). flat_map f p.0 ++ rs) (over-none f g y at ((none_lies at y fits).1 none) long))

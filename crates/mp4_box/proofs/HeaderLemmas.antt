@@ -54,7 +54,7 @@ same_header k l u v s t m n a b c d =
 
 -- ---- what is spelled is read
 
--- the type and the rest behind four bytes
+-- the type and the rest after four bytes
 parts : (a kind t : List ℕ) → length a ≡ 4 → length kind ≡ 4 →
     (take 4 (drop 4 (a ++ (kind ++ t))) ≡ kind) × (drop 8 (a ++ (kind ++ t)) ≡ t) × (length (a ++ (kind ++ t)) ≡ 8 + length t)
 parts a kind t p q =
@@ -81,7 +81,7 @@ abbrev IfUser : Option (List ℕ) → Type 0
 IfUser None = Unit {0}
 IfUser (Some u) = length u ≡ 16
 
--- a user type that stands at m is read
+-- a user type at m is read
 user_reads : (x rest : List ℕ) (user : Option (List ℕ)) (m : ℕ) → has_user x ≡ given user → need x ≡ m + length (user_bytes user) → IfUser user → drop m x ≡ user_bytes user ++ rest → user_field x ≡ user
 user_reads x rest None m t n l d = rw t refl
 user_reads x rest (Some u) m t n l d =
@@ -128,12 +128,12 @@ least false b c = omega arith
 pub need-least : (x : List ℕ) → 8 ≤ need x
 need-least x = least (ltb (length x) 8) (is_long x) (has_user x)
 
--- bytes behind the first eight do not change how many are needed
+-- bytes after the first eight do not change how many are needed
 pub need-append : (x y : List ℕ) → 8 ≤ length x → need (x ++ y) ≡ need x
 need-append x y long =
     let number : size_field (x ++ y) ≡ size_field x = big_from-append 4 x y (omega arith) in
-    let behind : drop 4 (x ++ y) ≡ drop 4 x ++ y = drop-append-le 4 x y (omega arith) in
-    let type : kind_field (x ++ y) ≡ kind_field x = ap (take 4) behind ∙ take-append-le 4 (drop 4 x) y (omega (arith, length-drop 4 x)) in
+    let after : drop 4 (x ++ y) ≡ drop 4 x ++ y = drop-append-le 4 x y (omega arith) in
+    let type : kind_field (x ++ y) ≡ kind_field x = ap (take 4) after ∙ take-append-le 4 (drop 4 x) y (omega (arith, length-drop 4 x)) in
     need_by (x ++ y) (is_long x) (has_user x) (omega (arith, length-append x y)) (ap (λ (n : ℕ). n == 1) number) (ap (λ (k : List ℕ). bytes_eq k uuid) type)
     ∙ sym (need_by x (is_long x) (has_user x) long refl refl)
 
@@ -214,11 +214,11 @@ again (Exact s) kind user x rest four has (inr h) =
     let b8 = length-bytes_high_first 8 s in
     let same : x ++ rest ≡ a ++ (kind ++ (b ++ (u ++ rest))) = ap (λ (z : List ℕ). z ++ rest) h.0 ∙ regroup5 a kind b u rest in
     let p = parts a kind (b ++ (u ++ rest)) refl four in
-    let behind : drop 8 (x ++ rest) ≡ b ++ (u ++ rest) = ap (drop 8) same ∙ p.1 in
+    let after : drop 8 (x ++ rest) ≡ b ++ (u ++ rest) = ap (drop 8) same ∙ p.1 in
     long_is (x ++ rest) kind rest user s (length x)
     (ap (big_number 4) same)
-    (ap kind_field same ∙ p.0) (ap (big_number 8) behind ∙ big_number-reads_back 8 s (u ++ rest) (omega (arith, h.2)))
-    (sym (drop-drop 8 8 (x ++ rest)) ∙ ap (drop 8) behind ∙ drop_at b (u ++ rest) 8 b8) (omega (arith, length-append x rest)) has
+    (ap kind_field same ∙ p.0) (ap (big_number 8) after ∙ big_number-reads_back 8 s (u ++ rest) (omega (arith, h.2)))
+    (sym (drop-drop 8 8 (x ++ rest)) ∙ ap (drop 8) after ∙ drop_at b (u ++ rest) 8 b8) (omega (arith, length-append x rest)) has
     (omega (arith, ap length h.0, length-append ((a ++ kind) ++ b) u, length-append (a ++ kind) b, length-append a kind, b8, four)) h.1
 again ToEnd kind user x rest four has h =
     let a = big_bytes 4 0 in
@@ -251,7 +251,7 @@ cond_or false a r h p = inr (refl, p)
 pub whole_one : (h k : Header) → ◌≡◌ {A = Step} (Whole h) (Whole k) → h ≡ k
 whole_one h k e = cc
 
--- the bytes of the numbers that stand in front
+-- the bytes of the numbers at the front
 front4 : (x : List ℕ) → IsBytes x → 4 ≤ length x → big_bytes 4 (big_number 4 x) ≡ take 4 x
 front4 x fits enough =
     be_bytes_4 (take 4 x) (big_number 4 x) (omega (arith, length-take 4 x)) (IsBytes-take 4 x fits)
@@ -266,7 +266,7 @@ front8 x fits enough =
 need_split : (x : List ℕ) → need x ≤ length x → need x ≡ 8 + cond (is_long x) 8 0 + cond (has_user x) 16 0
 need_split x whole = need_by x (is_long x) (has_user x) (omega (arith, need-least x)) refl refl
 
--- ---- bytes behind those that are needed change nothing
+-- ---- bytes after those that are needed change nothing
 
 -- what is read, by the fields
 by_fields : ℕ → ℕ → ℕ → List ℕ → Option (List ℕ) → Step
@@ -281,16 +281,16 @@ header_at-fields x whole =
 user-append : (x y : List ℕ) (c : Bool) → has_user x ≡ c → has_user (x ++ y) ≡ has_user x → need (x ++ y) ≡ need x → need x ≤ length x → user_field (x ++ y) ≡ user_field x
 user-append x y true t same n whole =
     let long : 24 ≤ need x = omega (arith, need_split x whole, cond-true {A = ℕ} (has_user x) 16 0 t) in
-    let behind : drop (need x - 16) (x ++ y) ≡ drop (need x - 16) x ++ y = drop-append-le (need x - 16) x y (omega arith) in
+    let after : drop (need x - 16) (x ++ y) ≡ drop (need x - 16) x ++ y = drop-append-le (need x - 16) x y (omega arith) in
     let user : take 16 (drop (need x - 16) x ++ y) ≡ take 16 (drop (need x - 16) x) = take-append-le 16 (drop (need x - 16) x) y (omega (arith, length-drop (need x - 16) x)) in
-    cond-true (has_user (x ++ y)) _ _ (same ∙ t) ∙ ap Some (ap (λ (k : ℕ). take 16 (drop (k - 16) (x ++ y))) n ∙ ap (take 16) behind ∙ user) ∙ sym (cond-true (has_user x) _ _ t)
+    cond-true (has_user (x ++ y)) _ _ (same ∙ t) ∙ ap Some (ap (λ (k : ℕ). take 16 (drop (k - 16) (x ++ y))) n ∙ ap (take 16) after ∙ user) ∙ sym (cond-true (has_user x) _ _ t)
 user-append x y false t same n whole = cond-false (has_user (x ++ y)) _ _ (same ∙ t) ∙ sym (cond-false (has_user x) _ _ t)
 
 stated-append : (x y : List ℕ) (c : Bool) → is_long x ≡ c → is_long (x ++ y) ≡ is_long x → size_field (x ++ y) ≡ size_field x → need x ≤ length x → stated_size (x ++ y) ≡ stated_size x
 stated-append x y true t same number whole =
     let long : 16 ≤ need x = omega (arith, need_split x whole, cond-true {A = ℕ} (is_long x) 8 0 t) in
-    let behind : drop 8 (x ++ y) ≡ drop 8 x ++ y = drop-append-le 8 x y (omega arith) in
-    cond-true (is_long (x ++ y)) _ _ (same ∙ t) ∙ ap (big_number 8) behind ∙ big_from-append 8 (drop 8 x) y (omega (arith, length-drop 8 x)) ∙ sym (cond-true (is_long x) _ _ t)
+    let after : drop 8 (x ++ y) ≡ drop 8 x ++ y = drop-append-le 8 x y (omega arith) in
+    cond-true (is_long (x ++ y)) _ _ (same ∙ t) ∙ ap (big_number 8) after ∙ big_from-append 8 (drop 8 x) y (omega (arith, length-drop 8 x)) ∙ sym (cond-true (is_long x) _ _ t)
 stated-append x y false t same number whole = cond-false (is_long (x ++ y)) _ _ (same ∙ t) ∙ number ∙ sym (cond-false (is_long x) _ _ t)
 
 pub header_at-append : (x y : List ℕ) → need x ≤ length x → header_at (x ++ y) ≡ header_at x
@@ -298,8 +298,8 @@ header_at-append x y whole =
     let eight : 8 ≤ length x = omega (arith, need-least x) in
     let n = need-append x y eight in
     let number : size_field (x ++ y) ≡ size_field x = big_from-append 4 x y (omega arith) in
-    let behind : drop 4 (x ++ y) ≡ drop 4 x ++ y = drop-append-le 4 x y (omega arith) in
-    let kind : kind_field (x ++ y) ≡ kind_field x = ap (take 4) behind ∙ take-append-le 4 (drop 4 x) y (omega (arith, length-drop 4 x)) in
+    let after : drop 4 (x ++ y) ≡ drop 4 x ++ y = drop-append-le 4 x y (omega arith) in
+    let kind : kind_field (x ++ y) ≡ kind_field x = ap (take 4) after ∙ take-append-le 4 (drop 4 x) y (omega (arith, length-drop 4 x)) in
     let long : is_long (x ++ y) ≡ is_long x = ap (λ (k : ℕ). k == 1) number in
     let has : has_user (x ++ y) ≡ has_user x = ap (λ (k : List ℕ). bytes_eq k uuid) kind in
     let stated = stated-append x y (is_long x) refl long number whole in
@@ -323,7 +323,7 @@ most false false false = omega arith
 pub need-most : (x : List ℕ) → need x ≤ 32
 need-most x = most (ltb (length x) 8) (is_long x) (has_user x)
 
--- the user type is what is left of the header behind m bytes
+-- the user type is what is left of the header after m bytes
 user_tail : (x : List ℕ) (m : ℕ) (c : Bool) → has_user x ≡ c → need x ≤ length x → need x ≡ m + cond c 16 0 → take (need x - m) (drop m x) ≡ user_bytes (user_field x)
 user_tail x m true t whole n =
     let at : need x - 16 ≡ m = omega (arith, n) in

@@ -65,7 +65,7 @@ unfolding least_from
 least-none [] e = refl
 least-none (x ∷ fs) e = let b = best_of x fs in let z : Some b.0 ≡ None = sym b.1.is ∙ e in absurd cc
 
--- keeping the best goes on behind a part of the list
+-- keeping the best continues after a part of the list
 pub least_from_append : (best : Option Fault) (fs gs : List Fault) → least_from best (fs ++ gs) ≡ least_from (least_from best fs) gs
 unfolding least_from
 least_from_append best [] gs = refl

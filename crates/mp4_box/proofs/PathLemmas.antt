@@ -114,52 +114,52 @@ left_below path levels kind next below b bs e same =
     ∙ ap (λ (cs : List Box). paths_below below (of_kind next (children b)) ++ cs) (sym (left_append path levels kind (next ∷ below) bs e)))
     ∙ sym (left_append path (levels ++ bs ∷ []) next below (children b) deeper)
 
--- ---- how many boxes are looked at
+-- ---- how many boxes are read
 
 pub total : (Box → ℕ) → List Box → ℕ
 total f [] = 0
 total f (b ∷ bs) = f b + total f bs
 
 -- at these boxes and below them, and a turn more for each level
-pub looks : List FourCc → List Box → ℕ
-looks [] bs = 0
-looks (kind ∷ path) bs = total (λ b. 2 + looks path (children b)) bs
+pub reads : List FourCc → List Box → ℕ
+reads [] bs = 0
+reads (kind ∷ path) bs = total (λ b. 2 + reads path (children b)) bs
 
-unfoldable pub looks_on : List FourCc → List (List Box) → ℕ
-looks_on path [] = 0
-looks_on [] (bs ∷ levels) = 0
-looks_on (kind ∷ path) (bs ∷ levels) = 1 + looks (kind ∷ path) bs + looks_on path levels
+unfoldable pub reads_on : List FourCc → List (List Box) → ℕ
+reads_on path [] = 0
+reads_on [] (bs ∷ levels) = 0
+reads_on (kind ∷ path) (bs ∷ levels) = 1 + reads (kind ∷ path) bs + reads_on path levels
 
-looks_append : (path : List FourCc) (levels : List (List Box)) (kind : FourCc) (below : List FourCc) (bs : List Box) → drop (length levels) path ≡ kind ∷ below
-    → looks_on path (levels ++ bs ∷ []) ≡ 1 + looks (kind ∷ below) bs + looks_on path levels
-unfolding looks_on
-looks_append [] [] kind below bs e = absurd cc
-looks_append [] (cs ∷ levels) kind below bs e = absurd cc
-looks_append (k ∷ path) [] kind below bs e = ap (λ (p : List FourCc). looks_on p (bs ∷ [])) e
-looks_append (k ∷ path) (cs ∷ levels) kind below bs e = let more = looks_append path levels kind below bs e in omega (arith, more)
+reads_append : (path : List FourCc) (levels : List (List Box)) (kind : FourCc) (below : List FourCc) (bs : List Box) → drop (length levels) path ≡ kind ∷ below
+    → reads_on path (levels ++ bs ∷ []) ≡ 1 + reads (kind ∷ below) bs + reads_on path levels
+unfolding reads_on
+reads_append [] [] kind below bs e = absurd cc
+reads_append [] (cs ∷ levels) kind below bs e = absurd cc
+reads_append (k ∷ path) [] kind below bs e = ap (λ (p : List FourCc). reads_on p (bs ∷ [])) e
+reads_append (k ∷ path) (cs ∷ levels) kind below bs e = let more = reads_append path levels kind below bs e in omega (arith, more)
 
-looks_more : (kind : FourCc) (path : List FourCc) (b : Box) (bs : List Box) → looks (kind ∷ path) (b ∷ bs) ≡ 2 + looks path (children b) + looks (kind ∷ path) bs
-unfolding looks total
-looks_more kind path b bs = refl
+reads_more : (kind : FourCc) (path : List FourCc) (b : Box) (bs : List Box) → reads (kind ∷ path) (b ∷ bs) ≡ 2 + reads path (children b) + reads (kind ∷ path) bs
+unfolding reads total
+reads_more kind path b bs = refl
 
--- each turn of a walk looks at one
-pub looks_none : (path : List FourCc) (levels : List (List Box)) (kind : FourCc) (below : List FourCc) → drop (length levels) path ≡ kind ∷ below → looks_on path levels < looks_on path (levels ++ [] ∷ [])
-looks_none path levels kind below e = let one = looks_append path levels kind below [] e in omega (arith, one)
+-- each turn of the loop reads one
+pub reads_none : (path : List FourCc) (levels : List (List Box)) (kind : FourCc) (below : List FourCc) → drop (length levels) path ≡ kind ∷ below → reads_on path levels < reads_on path (levels ++ [] ∷ [])
+reads_none path levels kind below e = let one = reads_append path levels kind below [] e in omega (arith, one)
 
-pub looks_box : (path : List FourCc) (levels : List (List Box)) (kind : FourCc) (below : List FourCc) (b : Box) (bs : List Box) → drop (length levels) path ≡ kind ∷ below
-    → looks_on path (levels ++ bs ∷ []) < looks_on path (levels ++ (b ∷ bs) ∷ [])
-looks_box path levels kind below b bs e =
-    let old = looks_append path levels kind below (b ∷ bs) e in
-    let new = looks_append path levels kind below bs e in
-    let more = looks_more kind below b bs in
+pub reads_box : (path : List FourCc) (levels : List (List Box)) (kind : FourCc) (below : List FourCc) (b : Box) (bs : List Box) → drop (length levels) path ≡ kind ∷ below
+    → reads_on path (levels ++ bs ∷ []) < reads_on path (levels ++ (b ∷ bs) ∷ [])
+reads_box path levels kind below b bs e =
+    let old = reads_append path levels kind below (b ∷ bs) e in
+    let new = reads_append path levels kind below bs e in
+    let more = reads_more kind below b bs in
     omega (arith, old, new, more)
 
-pub looks_below : (path : List FourCc) (levels : List (List Box)) (kind : FourCc) (below : List FourCc) (b : Box) (bs : List Box) → drop (length levels) path ≡ kind ∷ below → false ≡ (length below == 0)
-    → looks_on path ((levels ++ bs ∷ []) ++ children b ∷ []) < looks_on path (levels ++ (b ∷ bs) ∷ [])
-looks_below path levels kind [] b bs e some = absurd cc
-looks_below path levels kind (next ∷ below) b bs e some =
-    let old = looks_append path levels kind (next ∷ below) (b ∷ bs) e in
-    let rest = looks_append path levels kind (next ∷ below) bs e in
-    let new = looks_append path (levels ++ bs ∷ []) next below (children b) (level_below path levels kind (next ∷ below) bs e) in
-    let more = looks_more kind (next ∷ below) b bs in
+pub reads_below : (path : List FourCc) (levels : List (List Box)) (kind : FourCc) (below : List FourCc) (b : Box) (bs : List Box) → drop (length levels) path ≡ kind ∷ below → false ≡ (length below == 0)
+    → reads_on path ((levels ++ bs ∷ []) ++ children b ∷ []) < reads_on path (levels ++ (b ∷ bs) ∷ [])
+reads_below path levels kind [] b bs e some = absurd cc
+reads_below path levels kind (next ∷ below) b bs e some =
+    let old = reads_append path levels kind (next ∷ below) (b ∷ bs) e in
+    let rest = reads_append path levels kind (next ∷ below) bs e in
+    let new = reads_append path (levels ++ bs ∷ []) next below (children b) (level_below path levels kind (next ∷ below) bs e) in
+    let more = reads_more kind (next ∷ below) b bs in
     omega (arith, old, rest, new, more)

@@ -1,4 +1,4 @@
--- How many bytes the boxes that stand in some bytes have together, and what is known of each where nothing is at fault along a path.
+-- The sum of the sizes of the boxes in some bytes, and what is known of each where nothing is at fault along a path.
 use Rattle.std.proofs.Common.{◌≡◌, ◌∙◌, ◌≤◌, ◌+◌, ◌-◌, ℕ, zero, suc, Bool, true, false, cond, List, [], ◌∷◌, ◌++◌, length, Option, Some, None, refl, sym, arith}
 use Rattle.std.specs.Prelude.{option_map, option_to_list}
 use Rattle.std.specs.List.{flat_map, AllByRecursion}
@@ -11,7 +11,7 @@ use Rattle.mp4_box.specs.Checks.{unless}
 use Rattle.mp4_box.specs.Headers.{IsBytes}
 use Rattle.mp4_box.specs.Paths.{of_kind, at_path}
 use Rattle.mp4_box.specs.Trees.{Box, box_at, box_len, box_then, over, children, payload_offset, fault_at}
-use Rattle.mp4_box.proofs.GrammarLemmas.{stands, Stands}
+use Rattle.mp4_box.proofs.GrammarLemmas.{lies_at, LiesAt}
 use Rattle.mp4_box.proofs.HeaderAnswers.{head-need}
 use Rattle.mp4_box.proofs.HeaderLemmas.{need-least}
 
@@ -33,7 +33,7 @@ pub record Fits (n : ℕ) (bs : List Box) : Type 0 where
 tail_bytes : (a : ℕ) (xs : List ℕ) → IsBytes (a ∷ xs) → IsBytes xs
 tail_bytes a xs fits i = fits (suc i)
 
-laid_of : (o : ℕ) (x : List ℕ) (b : Box) → Stands o x b → IsLaid b
+laid_of : (o : ℕ) (x : List ℕ) (b : Box) → LiesAt o x b → IsLaid b
 laid_of o x b s = record {
   bytes = s.bytes;
   head = omega (arith, s.box.spelled.header_len, head-need b.header s.box.head s.box.spelled, need-least s.box.head);
@@ -48,7 +48,7 @@ fits_over (a ∷ xs) zero o fits = by (box_at o (a ∷ xs)) refl (λ k. fits_ove
         → Fits (length (a ∷ xs) - 0) (box_then m (λ b. b ∷ []) [] (λ k. over (λ b. b ∷ []) (λ _ _. []) xs k (o + 1)))
     by None e later = record { all = tt; sum = omega arith }
     by (Some b) e later =
-        let s = stands o (a ∷ xs) b fits e in
+        let s = lies_at o (a ∷ xs) b fits e in
         let rest = later (box_len b - 1) in
         record { all = (laid_of o (a ∷ xs) b s, rest.all); sum = omega (arith, s.low, s.high, rest.sum) }
 fits_over (a ∷ xs) (suc k) o fits =

@@ -23,7 +23,7 @@ over-box {R} f g (a ∷ xs) o b e low high =
     ap (λ (p : Option Box). box_then {R = R} p f (g o (a ∷ xs)) (λ k. over f g xs k (o + 1))) e
     ∙ ap (λ (ys : List R). f b ++ ys) (rest ∙ ap (λ (n : ℕ). over f g (drop n (a ∷ xs)) 0 (o + n)) back)
 
--- no box stands here
+-- no box lies here
 pub over-none : {R : Type 0} (f : Box → List R) (g : ℕ → List ℕ → List R) (x : List ℕ) (o : ℕ) → box_at o x ≡ None → 0 < length x → over f g x 0 o ≡ g o x
 unfolding over
 over-none f g [] o e h = absurd (omega arith)

@@ -12,7 +12,7 @@ use Rattle.mp4_box.specs.Order.{comes_first, IsIn, IsLeast}
 use Rattle.mp4_box.specs.Trees.{Box, box_len, box_at, over, is_container, bad_rest, no_rest, bad_below, deep_below, payload_offset, verdict, tree_faults, faults_of}
 use Rattle.mp4_box.proofs.HeaderLemmas.{IsBytes-drop, bool_is}
 use Rattle.mp4_box.proofs.TreeLemmas.{over-box, over-none, over-end, bad-leaf, deep-leaf, bad-step, deep-step}
-use Rattle.mp4_box.proofs.GrammarLemmas.{stands, option_is}
+use Rattle.mp4_box.proofs.GrammarLemmas.{lies_at, option_is}
 
 -- faults of one rule in the order of their offsets, from one offset on and before another
 abbrev IsRun : Rule → ℕ → ℕ → List Fault → Type 0
@@ -44,7 +44,7 @@ over-run rule f g p q (suc fuel) (a ∷ xs) o h fits =
       | inl none ↦ subst (IsRun rule o (o + length x)) (sym (over-none f g x o none (omega arith))) (q o x (omega arith))
       | inr some ↦
           let b = some.0 in
-          let s = stands o x b fits some.1 in
+          let s = lies_at o x b fits some.1 in
           let rest = drop (box_len b) x in
           let len : length rest ≡ length x - box_len b = length-drop (box_len b) x in
           let more = over-run rule f g p q fuel rest (o + box_len b) (omega (arith, len, s.low)) (IsBytes-drop (box_len b) x fits) in
@@ -63,7 +63,7 @@ no_rest-run o y h = tt
 below-run : (rule : Rule) (f : Box → List Fault) (g : ℕ → List ℕ → List Fault) → InBox rule f → InRest rule g
     → (o : ℕ) (x : List ℕ) (b : Box) → IsBytes x → box_at o x ≡ Some b → IsRun rule o (o + box_len b) (over f g b.payload 0 (payload_offset b))
 below-run rule f g p q o x b fits e =
-    let s = stands o x b fits e in
+    let s = lies_at o x b fits e in
     IsRun-wider rule o (payload_offset b) (payload_offset b + length b.payload) (o + box_len b) (over f g b.payload 0 (payload_offset b)) (omega (arith, s.place)) (omega (arith, s.place))
     (over-run rule f g p q (length b.payload) b.payload (payload_offset b) (omega arith) s.bytes)
 
@@ -79,7 +79,7 @@ bad-run (suc n) o x b fits e =
 
 deep-run : (n : ℕ) → InBox Depth (deep_below n)
 unfolding deep_below
-deep-run zero o x b fits e = let s = stands o x b fits e in (refl, omega (arith, s.place), omega (arith, s.place, s.low), tt)
+deep-run zero o x b fits e = let s = lies_at o x b fits e in (refl, omega (arith, s.place), omega (arith, s.place, s.low), tt)
 deep-run (suc n) o x b fits e =
     elim (bool_is (is_container b.header.kind.0)) [
       | inl holds ↦ subst (IsRun Depth o (o + box_len b)) (sym (deep-step (suc n) b (omega arith) holds ∙ ap (λ (k : ℕ). over (deep_below k) no_rest b.payload 0 (payload_offset b)) (omega arith)))

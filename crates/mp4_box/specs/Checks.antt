@@ -1,4 +1,4 @@
--- What a box can be asked for: just one child of a type, or at most one; a payload that is laid out so. Each is a list of what is at fault.
+-- Requirements of a box: just one child of a type, or at most one; a payload of a layout. Each is a list of faults.
 use Rattle.std.specs.Prelude.{ℕ, Bool, true, false, List, [], ◌∷◌, ◌==◌, nat_lt, if◌then◌else◌, length, map, Option, Some, None, option_map, option_to_list}
 use Rattle.std.specs.List.{flat_map}
 use Rattle.mp4_box.specs.declared.headers.FourCc.{FourCc}
@@ -11,7 +11,7 @@ use Rattle.mp4_box.specs.Fields.{version_in}
 use Rattle.mp4_box.specs.Paths.{of_kind, at_path}
 use Rattle.mp4_box.specs.Trees.{Box, children, fault_at}
 
--- what is at fault with the boxes on a path
+-- faults of the boxes on a path
 abbrev pub along : (Box → List Fault) → List FourCc → Box → List Fault
 along faults path b = flat_map faults (at_path path b)
 
@@ -22,7 +22,7 @@ abbrev pub further : List Box → List Fault
 further [] = []
 further (b ∷ bs) = map (fault_at Twice) bs
 
--- just one of them must stand in the parent: where there is none the parent is at fault
+-- the parent must have just one of them: where there is none the parent is at fault
 abbrev pub alone : Box → List Box → List Fault
 alone parent [] = fault_at Missing parent ∷ []
 alone parent (b ∷ bs) = further (b ∷ bs)
@@ -35,13 +35,13 @@ one kind b = alone b (of_kind kind (children b))
 abbrev pub at_most_one : FourCc → Box → List Fault
 at_most_one kind b = further (of_kind kind (children b))
 
--- ---- how a payload is laid out
+-- ---- the layout of a payload
 
 abbrev pub unless : Bool → Rule → Option Rule
 unless true rule = None
 unless false rule = Some rule
 
--- the rule that a payload breaks which isn't laid out so
+-- the rule that a payload without this layout breaks
 unfoldable pub broken : Layout → List ℕ → Option Rule
 broken (Versioned short long) x =
     if nat_lt (length x) 4 then Some FieldLength
@@ -54,6 +54,6 @@ broken (AtLeast n) x = if nat_lt (length x) n then Some FieldLength else None
 abbrev pub fault_by : Option Rule → Box → List Fault
 fault_by rule b = option_to_list (option_map (λ rule. fault_at rule b) rule)
 
--- the payload must be laid out so
+-- the payload must have this layout
 abbrev pub laid_out : Layout → Box → List Fault
 laid_out layout b = fault_by (broken layout b.payload) b

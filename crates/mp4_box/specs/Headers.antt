@@ -26,7 +26,7 @@ abbrev pub user_bytes : Option (List ℕ) → List ℕ
 user_bytes None = []
 user_bytes (Some user) = user
 
--- the three forms of a size, each before a user type or none: 32 bits; the number 1 and, behind the type, 64 bits; the number 0
+-- the three forms of a size, each before a user type or none: 32 bits; the number 1 and, after the type, 64 bits; the number 0
 abbrev pub Spells : Size → List ℕ → List ℕ → List ℕ → Type 0
 Spells (Exact s) kind user x =
     ((x ≡ big_bytes 4 s ++ kind ++ user) × (length x ≤ s) × (s < 2 ^ 32))
@@ -64,7 +64,7 @@ IsWhole x = (h : Header) × (payload : List ℕ) × IsBox h payload x
 
 -- ---- how it is read
 
--- a number below 256 at each place
+-- each number is below 256
 abbrev pub IsBytes : List ℕ → Type 0
 IsBytes x = (i : ℕ) → slice_index x i < 256
 
@@ -80,7 +80,7 @@ is_long x = size_field x == 1
 abbrev pub has_user : List ℕ → Bool
 has_user x = bytes_eq (kind_field x) uuid
 
--- how many bytes the header has that these bytes begin: 8 until so many came
+-- the length of the header that these bytes begin: 8 until there are eight bytes
 abbrev pub need : List ℕ → ℕ
 need x = if nat_lt (length x) 8 then 8 else 8 + (if is_long x then 8 else 0) + (if has_user x then 16 else 0)
 
@@ -97,7 +97,7 @@ with_size x size = record { kind = record { 0 = kind_field x }; user = user_fiel
 abbrev pub plain_header : List ℕ → Header
 plain_header x = record { kind = record { 0 = kind_field x }; user = None; size = Exact (size_field x); header_len = 8 }
 
--- what the first bytes of a box come to
+-- result of reading the first bytes of a box
 unfoldable pub header_at : List ℕ → Step
 header_at x =
     if nat_lt (length x) (need x) then More
@@ -105,13 +105,13 @@ header_at x =
     else if nat_lt (stated_size x) (need x) then BadSize
     else Whole (with_size x (Exact (stated_size x)))
 
--- the same as the answer of a reader of slices
+-- the same as the result of a reader of slices
 abbrev pub result_of : Step → Result Header Rule
 result_of More = Err rules.Truncated
 result_of (Whole h) = Ok h
 result_of BadSize = Err rules.BadSize
 
--- a fact of the header, where it is whole
+-- a fact of the header, if it is whole
 abbrev pub IfWhole : Step → (Header → Type 0) → Type 0
 IfWhole More P = Unit {0}
 IfWhole (Whole h) P = P h

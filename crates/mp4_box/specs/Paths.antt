@@ -10,7 +10,7 @@ use Rattle.mp4_box.specs.Trees.{Box, children, view}
 abbrev pub of_kind : FourCc → List Box → List Box
 of_kind kind bs = filter (λ b. bytes_eq b.header.kind.0 kind.0) bs
 
--- the boxes that a path of types leads to from the box, in the order in which they stand
+-- the boxes that a path of types leads to from the box, in the order in which they lie
 unfoldable pub at_path : List FourCc → Box → List Box
 at_path [] b = b ∷ []
 at_path (kind ∷ path) b = flat_map (at_path path) (of_kind kind (children b))
@@ -19,7 +19,7 @@ at_path (kind ∷ path) b = flat_map (at_path path) (of_kind kind (children b))
 abbrev pub paths_below : List FourCc → List Box → List Box
 paths_below path bs = flat_map (at_path path) bs
 
--- the boxes on a path that are left, where at each level these are the boxes that are left: the deepest come first
+-- the boxes that are left on a path, from the boxes that are left at each level: the deepest come first
 unfoldable pub left_on : List FourCc → List (List Box) → List Box
 left_on path [] = []
 left_on [] (bs ∷ levels) = []

@@ -1,4 +1,4 @@
--- The boxes that stand in a payload, and what is at fault below a box (ISO/IEC 14496-12, 4.2).
+-- The boxes that lie in a payload, and what is at fault below a box (ISO/IEC 14496-12, 4.2).
 use Rattle.std.specs.Prelude.{◌+◌, ◌-◌, ◌++◌, ℕ, zero, suc, List, [], ◌∷◌, Bool, length, slice_range, codes, nat_lt, if◌then◌else◌, Option, Some, None, Result, Ok, Err}
 use Rattle.std.specs.Str.{bytes_eq}
 use Rattle.std.specs.List.{list_any}
@@ -55,13 +55,13 @@ abbrev pub box_then : {R : Type 0} → Option Box → (Box → List R) → List 
 box_then None f stop go = stop
 box_then (Some b) f stop go = f b ++ go (box_len b - 1)
 
--- what f makes of each box that stands in the bytes, one after the other, and g of the rest in which none stands; `skip` bytes are passed over first
+-- the join of f of each box in the bytes, one after the other, and g of the rest without a box; `skip` bytes are passed over first
 unfoldable pub over : {R : Type 0} → (Box → List R) → (ℕ → List ℕ → List R) → List ℕ → ℕ → ℕ → List R
 over f g [] skip o = []
 over f g (a ∷ xs) zero o = box_then (box_at o (a ∷ xs)) f (g o (a ∷ xs)) (λ k. over f g xs k (o + 1))
 over f g (a ∷ xs) (suc k) o = over f g xs k (o + 1)
 
--- the boxes that stand in the bytes one after the other
+-- the boxes that lie in the bytes one after the other
 abbrev pub boxes : ℕ → List ℕ → List Box
 boxes o x = over (λ b. b ∷ []) (λ _ _. []) x 0 o
 
@@ -71,7 +71,7 @@ children b = boxes (payload_offset b) b.payload
 
 -- ---- what is at fault
 
--- no whole box stands where these bytes begin
+-- no whole box begins here
 abbrev pub bad_size : ℕ → List ℕ → Fault
 bad_size o y = record { rule = BadSize; kind = kind_of y; offset = o }
 
@@ -79,14 +79,14 @@ bad_size o y = record { rule = BadSize; kind = kind_of y; offset = o }
 abbrev pub fault_at : Rule → Box → Fault
 fault_at rule b = record { rule = rule; kind = Some b.header.kind; offset = b.offset }
 
--- what a rest in which no box stands adds
+-- what a rest without a box adds
 abbrev pub bad_rest : ℕ → List ℕ → List Fault
 bad_rest o y = bad_size o y ∷ []
 
 abbrev pub no_rest : ℕ → List ℕ → List Fault
 no_rest o y = []
 
--- each rest below the box in which no box stands, in order, as far as so many levels go
+-- each rest without a box below the box, in order, as far as so many levels go
 unfoldable pub bad_below : ℕ → Box → List Fault
 bad_below zero b = []
 bad_below (suc levels) b = if is_container b.header.kind.0 then over (bad_below levels) bad_rest b.payload 0 (payload_offset b) else []
@@ -113,6 +113,6 @@ abbrev pub faults_of : Option Box → List Fault
 faults_of None = []
 faults_of (Some b) = box_faults b
 
--- what is at fault in the tree of the box that the bytes are: first bad sizes, and then boxes that stand too deep
+-- what is at fault in the tree of the box that the bytes are: first bad sizes, and then boxes that are too deep
 abbrev pub tree_faults : ℕ → List ℕ → List Fault
 tree_faults o x = faults_of (box_at o x)

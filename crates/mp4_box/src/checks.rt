@@ -13,7 +13,7 @@ use crate::order::note;
 use crate::rules::{Fault, Rule};
 use crate::walk::Walk;
 
-/// What is asked of a box.
+/// A requirement of a box.
 pub trait Check {
     // What is at fault with a box.
     ghost faults: { Self → Box → List Fault };

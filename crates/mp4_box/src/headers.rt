@@ -72,7 +72,7 @@ pub struct Header {
     pub header_len: u64,
 }
 
-/// What the first bytes of a box come to.
+/// Result of reading the first bytes of a box.
 #[derive(Clone, Copy, Debug, PartialEq, Eq)]
 pub enum Step {
     /// They are fewer than the header needs.
@@ -103,7 +103,7 @@ fn need_of(bytes: &[u8]) -> usize
     8 + long + user
 }
 
-/// What these first bytes of a box come to.
+/// Reads these first bytes of a box.
 #[tactic(auto, unfolding(crate::specs::Headers::header_at))]
 pub(crate) fn read_header(bytes: &[u8]) -> Step
     ensures exact { result ≡ header_at bytes.now }

@@ -21,7 +21,7 @@ pub fn no_prefix()
 {}
 
 /// The boxes of a payload that is a join of whole boxes are these boxes, each at its offset.
-pub fn children_stand()
+pub fn children_lie()
     ensures { (xs : List (List ℕ)) (offset : ℕ) → AllByRecursion IsWhole xs → AreBoxes offset xs
         (boxes offset (concat xs)) }
 {}
@@ -32,7 +32,7 @@ pub fn boxes_and_rest()
         × AllByRecursion IsWhole xs × ((y ≡ []) ⊎ ((0 < length y) × NoBox y)) }
 {}
 
-/// What is found by going over such bytes is what is made of each of these boxes, each at its offset, and then
+/// Going over such bytes finds exactly these boxes, each at its offset, and then
 /// of the rest.
 pub fn boxes_are_gone_over()
     ensures whole { (f : Box → List Fault) (g : ℕ → List ℕ → List Fault) (xs : List (List ℕ))

@@ -5,15 +5,15 @@
 //! - [`reader`]: [`HeaderReader`], which reads it byte by byte;
 //! - [`tree`]: [`check_tree`], which checks the tree of a held box, and [`BoxRef`] and [`Walk`], by which one goes
 //!   over it;
-//! - [`fields`]: the numbers in a payload;
+//! - [`types`]: the types of boxes by their names, and [`fields`]: the numbers in a payload;
 //! - [`rules`]: the rules, and the [`Fault`] of a stream that breaks one;
 //! - [`paths`]: the boxes on a path of types, [`Along`], and [`checks`]: what a box can be asked for, and asking it of
-//!   the boxes on a path, where [`note`] keeps the fault that is told;
+//!   the boxes on a path, where [`note`] keeps the fault that is reported;
 //! - [`vectors`]: three small streams, for tests;
 //! - [`laws`]: what the definitions of `specs/` imply.
 //!
-//! It hands on the ends of a stream, from [`Source`] to [`ends`], and the flag words of tfhd and trun, [`TfhdFlags`] and
-//! [`TrunFlags`]: their users name this crate.
+//! It re-exports the ends of a stream, from [`Source`] to [`ends`], and the flag words of tfhd and trun, [`TfhdFlags`]
+//! and [`TrunFlags`]: their users name this crate.
 #![tactic(auto)]
 
 mod box_ref;
@@ -26,6 +26,7 @@ pub mod paths;
 pub mod reader;
 pub mod rules;
 pub mod tree;
+pub mod types;
 pub mod vectors;
 mod walk;
 

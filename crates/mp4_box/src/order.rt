@@ -1,11 +1,11 @@
-//! Which of several faults is told: of the lowest rule, and then of the box that begins first.
+//! Which of several faults is reported: the one of the lowest rule, and of these the one whose box begins first.
 
 ghost use Rattle.std.specs.Prelude.{◌≡◌};
 ghost use Rattle.mp4_box.specs.Order.{comes_first, noted};
 
 use crate::rules::Fault;
 
-/// Whether the first fault is told and not the second.
+/// Whether the first fault is reported rather than the second.
 #[tactic(auto, unfolding(crate::specs::Order::comes_first))]
 fn is_before(first: &Fault, second: &Fault) -> bool
     ensures { result ≡ comes_first first.now second.now }

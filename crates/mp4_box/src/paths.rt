@@ -15,7 +15,7 @@ use std::mem;
 /// A path may have so many types.
 const LEVELS: usize = 8;
 
-/// Goes over the boxes that a path of types leads to from a box, in the order in which they stand.
+/// Goes over the boxes that a path of types leads to from a box, in the order in which they lie.
 #[derive(Drop)]
 pub struct Along<'p, 'a> {
     path: &'p [FourCc],
@@ -66,7 +66,7 @@ impl<'p, 'a> Along<'p, 'a> {
 }
 
 /// The next of the boxes that are left.
-#[tactic(auto, using(crate::proofs::PathLemmas::left_none, crate::proofs::PathLemmas::left_nowhere, crate::proofs::PathLemmas::left_other, crate::proofs::PathLemmas::left_end, crate::proofs::PathLemmas::left_below, crate::proofs::PathLemmas::looks_none, crate::proofs::PathLemmas::looks_box, crate::proofs::PathLemmas::looks_below))]
+#[tactic(auto, using(crate::proofs::PathLemmas::left_none, crate::proofs::PathLemmas::left_nowhere, crate::proofs::PathLemmas::left_other, crate::proofs::PathLemmas::left_end, crate::proofs::PathLemmas::left_below, crate::proofs::PathLemmas::reads_none, crate::proofs::PathLemmas::reads_box, crate::proofs::PathLemmas::reads_below))]
 fn next_on<'a>(
     path: &[FourCc],
     above: &mut ArrayVec<Walk<'a>, LEVELS>,

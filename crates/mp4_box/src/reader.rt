@@ -33,7 +33,7 @@ impl HeaderReader {
         }
     }
 
-    /// Takes the next byte of the header, which wasn't whole yet, and tells what the bytes so far come to.
+    /// Takes the next byte of the header, which wasn't whole yet, and returns the result of the bytes so far.
     #[tactic(auto, using(crate::proofs::HeaderLemmas::need_more))]
     pub fn feed(&mut self, byte: u8) -> Step
         requires { length self.old < need self.old }
@@ -77,7 +77,7 @@ impl HeaderReader {
     }
 }
 
-/// What a reader answers once these bytes came.
+/// The result of a reader after these bytes.
 fn step_for(bytes: &[u8]) -> Step
     requires { length bytes.now ≤ need bytes.now }
     ensures whole { (h : Header) → (result ≡ Whole h) ↔ Head h bytes.now }

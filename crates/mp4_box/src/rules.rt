@@ -16,7 +16,7 @@ pub enum Rule {
     NoMoov,
     /// A moov after a moov.
     SecondMoov,
-    /// An mdat that doesn't stand directly after a moof.
+    /// An mdat that doesn't directly follow a moof.
     StrayMdat,
     /// A moof that no mdat follows.
     MdatMissing,
@@ -26,7 +26,7 @@ pub enum Rule {
     Depth,
     /// A box lacks a child that it must have.
     Missing,
-    /// A child stands a second time.
+    /// A child occurs a second time.
     Twice,
     /// A version that isn't known.
     Version,
@@ -61,7 +61,7 @@ pub enum Rule {
 }
 
 impl Rule {
-    /// The number by which the rule is told.
+    /// The number of the rule in reports.
     pub fn number(self) -> u8
         ensures { result ≡ number_of self }
     {
@@ -94,7 +94,7 @@ impl Rule {
         }
     }
 
-    /// The name by which the rule is told.
+    /// The name of the rule in reports.
     pub fn name(self) -> &'static str
         ensures name { result.now ≡ name_of self }
         ensures short { length result.now ≤ 14 }

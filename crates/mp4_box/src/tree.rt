@@ -12,30 +12,7 @@ use crate::box_ref::BoxRef;
 use crate::fields::{array_at, u32_at};
 use crate::headers::{FourCc, Header, Size, Step, read_header};
 use crate::rules::{Fault, Rule};
-
-/// The one type whose boxes carry a user type.
-const UUID: FourCc = FourCc(*b"uuid");
-
-// The types of the boxes that hold boxes.
-const MOOV: FourCc = FourCc(*b"moov");
-
-const TRAK: FourCc = FourCc(*b"trak");
-
-const EDTS: FourCc = FourCc(*b"edts");
-
-const MDIA: FourCc = FourCc(*b"mdia");
-
-const MINF: FourCc = FourCc(*b"minf");
-
-const DINF: FourCc = FourCc(*b"dinf");
-
-const STBL: FourCc = FourCc(*b"stbl");
-
-const MVEX: FourCc = FourCc(*b"mvex");
-
-const MOOF: FourCc = FourCc(*b"moof");
-
-const TRAF: FourCc = FourCc(*b"traf");
+use crate::types::{DINF, EDTS, MDIA, MINF, MOOF, MOOV, MVEX, STBL, TRAF, TRAK, UUID};
 
 /// A box at the top may have so many levels, its own among them.
 const LEVELS: u8 = 8;
@@ -156,7 +133,7 @@ impl<'a> BoxRef<'a> {
         }
     }
 
-    /// Checks the tree of this box, which stands at the top.
+    /// Checks the tree of this box, which is at the top.
     ///
     /// # Errors
     ///
@@ -188,8 +165,8 @@ fn is_leaf(this: &BoxRef, levels: u8) -> bool
     !holds_boxes(this.header.kind)
 }
 
-/// What is at fault below a box, `levels` levels down: the first rest in which no box stands. A box that
-/// stands too deep is kept in `deep`.
+/// The fault below a box, `levels` levels down: the first rest without a box. A box that
+/// is too deep is kept in `deep`.
 fn check_below(this: &BoxRef, levels: u8, deep: &mut Option<Fault>) -> Result<(), Fault>
     ensures exact { result ≡ verdict (bad_below levels (view this.now)) }
     ensures deep { OnOk result (deep.new ≡ option_or deep.old
@@ -252,7 +229,7 @@ pub fn whole_box<'a>(bytes: &'a [u8], offset: u64) -> BoxRef<'a>
 ///
 /// # Errors
 ///
-/// `BadSize` for the first rest of a container in which no whole box stands: it names the type that stands
+/// `BadSize` for the first rest of a container that begins with no whole box: it names the type that is
 /// there, where that has come. Else `Depth` for the first box nine levels down.
 pub fn check_tree(bytes: &[u8], offset: u64) -> Result<(), Fault>
     requires whole { IsWhole bytes.now }

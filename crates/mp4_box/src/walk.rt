@@ -8,7 +8,7 @@ use crate::box_ref::BoxRef;
 use crate::tree::first_box;
 use std::marker::Model;
 
-/// Goes over the boxes that stand in a payload, one after the other.
+/// Goes over the boxes that lie in a payload, one after the other.
 #[derive(Drop)]
 pub struct Walk<'a> {
     rest: &'a [u8],

@@ -48,7 +48,7 @@ is_box kind p s = record {
 pub found_box : (kind : FourCc) (p rest : List ℕ) (o : ℕ) → IsShort kind p → box_at o (box_bytes kind p ++ rest) ≡ Some (box_of o kind p)
 found_box kind p rest o s = (found (header_of kind (8 + length p) 8) p (box_bytes kind p) rest o (is_box kind p s)).0
 
--- what is made of a box that was written, and then of what stands behind it
+-- reading a box that was written, and then what follows it
 pub over_written : {R : Type 0} (f : Box → List R) (g : ℕ → List ℕ → List R) (kind : FourCc) (p rest : List ℕ) (o : ℕ) → IsShort kind p → over f g (box_bytes kind p ++ rest) 0 o ≡ f (box_of o kind p) ++ over f g rest 0 (o + (8 + length p))
 over_written f g kind p rest o s =
     let len = length_box kind p s.four in

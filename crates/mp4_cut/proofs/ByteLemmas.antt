@@ -83,5 +83,5 @@ index_small [] all i = omega arith
 index_small (b ∷ x) all zero = all.each.0
 index_small (b ∷ x) all (suc i) = index_small x (record { each = all.each.1 }) i
 
-pub moof_bytes : (f : WrittenFragment) (seq : ℕ) → FitsFields f → IsBytes (moof_box f seq)
-moof_bytes f seq fits i = index_small (moof_box f seq) (moof_is f seq fits) i
+pub moof_box_bytes : (f : WrittenFragment) (seq : ℕ) → FitsFields f → IsBytes (moof_box f seq)
+moof_box_bytes f seq fits i = index_small (moof_box f seq) (moof_is f seq fits) i

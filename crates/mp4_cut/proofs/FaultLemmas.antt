@@ -10,13 +10,13 @@ use Rattle.mp4_frag.specs.Kinds.{to_tfhd, to_trun}
 use Rattle.mp4_frag.specs.Tfhd.{tfhd_fields}
 use Rattle.mp4_frag.specs.Trun.{sample_count, sample_fields, trun_broken, trun_fields}
 use Rattle.mp4_frag.specs.Repeats.{is_listed, lacks_time, repeat_faults, repeats}
-use Rattle.mp4_frag.specs.Rules.{child_faults, count_faults, form_faults, most_samples, tfhd_faults, too_many, track_with, trun_faults}
-use Rattle.mp4_frag.specs.Moofs.{IsRead, early_fault, late, moof_of, moof_trafs, time_faults, value_faults}
+use Rattle.mp4_frag.specs.Rules.{child_faults, count_faults, form_faults, most_in_moof, tfhd_faults, too_many, track_with, trun_faults}
+use Rattle.mp4_frag.specs.Moofs.{IsRead, fault_before_times, late, moof_of, moof_trafs, time_faults, value_faults}
 use Rattle.mp4_frag.specs.Runs.{runs_of}
 use Rattle.mp4_cut.specs.Moof.{WrittenFragment}
 use Rattle.mp4_cut.specs.Reads.{FitsFields, held_moof}
 use Rattle.mp4_cut.proofs.MoofLemmas.{length_trun, moof_at, moof_children, tfhd_at, traf_children, tree_is_good, trun_at, trun_of}
-use Rattle.mp4_cut.proofs.RunLemmas.{count_back, entry_back, flags_back, id_back, moof_back, one_run_back, run_in, tells, trafs_back, traf_in}
+use Rattle.mp4_cut.proofs.RunLemmas.{count_back, entry_back, flags_back, id_back, moof_back, one_run_back, run_in, describes, trafs_back, traf_in}
 
 trun_is_good : (f : WrittenFragment) → FitsFields f → trun_broken (trun_of f) ≡ None
 unfolding trun_broken trun_fields sample_fields
@@ -42,7 +42,7 @@ tfhd_is_good f o tracks t fits there low high =
 trun_is_fair : (f : WrittenFragment) (o : ℕ) → trun_faults (trun_at f o) ≡ []
 trun_is_fair f o = rw (flags_back f) refl
 
-few_samples : (f : WrittenFragment) → FitsFields f → ltb most_samples (0 + sample_count (trun_of f)) ≡ false
+few_samples : (f : WrittenFragment) → FitsFields f → ltb most_in_moof (0 + sample_count (trun_of f)) ≡ false
 few_samples f fits = le-ltb _ _ (omega (arith, count_back f fits, fits.count))
 
 child_is_good : (f : WrittenFragment) (seq o : ℕ) → FitsFields f → child_faults (moof_at f seq o) ≡ []
@@ -74,13 +74,13 @@ value_is_good f seq o tracks t fits there low high =
 times_are_good : (f : WrittenFragment) (seq o : ℕ) (tracks : List Track) (t : Track) → FitsFields f → track_with f.track tracks ≡ Some t → time_faults (moof_trafs (held_moof f seq o) tracks) ≡ []
 times_are_good f seq o tracks t fits there =
     let run = run_in (held_moof f seq o) t f in
-    let early : ltb run.end (2 ^ 64) ≡ true = lt-ltb _ _ (omega (arith, (tells f seq o t fits).end, fits.end)) in
+    let early : ltb run.end (2 ^ 64) ≡ true = lt-ltb _ _ (omega (arith, (describes f seq o t fits).end, fits.end)) in
     ap time_faults (trafs_back f seq o tracks t fits there)
     ∙ (append-nil (flat_map late (runs_of (traf_in (held_moof f seq o) t f)))
     ∙ (ap (flat_map late) (one_run_back f seq o t) ∙ rw early refl))
 
 pub moof_is_good : (f : WrittenFragment) (seq o : ℕ) (tracks : List Track) (t : Track) → FitsFields f → track_with f.track tracks ≡ Some t → 1 ≤ f.entry → f.entry ≤ t.entries → IsRead (held_moof f seq o) tracks
-unfolding early_fault least_from
+unfolding fault_before_times least_from
 moof_is_good f seq o tracks t fits there low high =
     let form : form_faults (moof_of (held_moof f seq o)) ≡ [] = ap form_faults (moof_back f seq o fits) ∙ form_is_good f seq o fits in
     let value : value_faults tracks (moof_of (held_moof f seq o)) ≡ [] = ap (value_faults tracks) (moof_back f seq o fits) ∙ value_is_good f seq o tracks t fits there low high in

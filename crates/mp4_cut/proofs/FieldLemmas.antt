@@ -18,7 +18,7 @@ use Rattle.mp4_cut.specs.Boxes.{version_and_flags}
 use Rattle.mp4_cut.specs.Trun.{offset_bits, sample_bytes, trun_flags}
 use Rattle.mp4_cut.specs.Reads.{FitsOffset, FitsRow}
 
--- a number of 32 bits that stands behind so many bytes
+-- a number of 32 bits that follows so many bytes
 pub number_back : (front rest : List ℕ) (at v : ℕ) → length front ≡ at → v < 2 ^ 32 → number_in (front ++ (big_bytes 4 v ++ rest)) at ≡ v
 number_back front rest at v e small =
     let x : List ℕ = front ++ (big_bytes 4 v ++ rest) in
@@ -73,42 +73,42 @@ mk_row a b c z = record { duration = a; size = b; flags = c; offset = z }
 same_row : (a b c k l m : ℕ) (y z : ℤ) → a ≡ k → b ≡ l → c ≡ m → y ≡ z → mk_row a b c y ≡ mk_row k l m z
 same_row a b c k l m y z p q r s = cc
 
--- a field of a group, which stands so far behind the front
-field_back : (front held rest : List ℕ) (group at v : ℕ) → held ≡ front ++ (big_bytes 4 v ++ rest) → length front ≡ group + at → v < 2 ^ 32 → number_in held (group + at) ≡ v
-field_back front held rest group at v e len small = ap (λ (x : List ℕ). number_in x (group + at)) e ∙ number_back front rest (group + at) v len small
+-- a field of a group, so far after its front
+field_back : (front moof_bytes rest : List ℕ) (group at v : ℕ) → moof_bytes ≡ front ++ (big_bytes 4 v ++ rest) → length front ≡ group + at → v < 2 ^ 32 → number_in moof_bytes (group + at) ≡ v
+field_back front moof_bytes rest group at v e len small = ap (λ (x : List ℕ). number_in x (group + at)) e ∙ number_back front rest (group + at) v len small
 
 -- group i of a run with all fields is a row
-group : (run : Run) (held front rest : List ℕ) (i : ℕ) (r : Row) → run.fields ≡ sample_fields trun_flags → FitsRow run.version r → held ≡ front ++ (sample_bytes r ++ rest) → length front ≡ run.samples_at + 16 * i → row_of run held i ≡ r
+group : (run : Run) (moof_bytes front rest : List ℕ) (i : ℕ) (r : Row) → run.fields ≡ sample_fields trun_flags → FitsRow run.version r → moof_bytes ≡ front ++ (sample_bytes r ++ rest) → length front ≡ run.samples_at + 16 * i → row_of run moof_bytes i ≡ r
 unfolding row_of group_at sample_fields
-group run held front rest i r all f e len =
+group run moof_bytes front rest i r all f e len =
     let g : ℕ = run.samples_at + 16 * i in
     let d : List ℕ = big_bytes 4 r.duration in
     let s : List ℕ = big_bytes 4 r.size in
     let fl : List ℕ = big_bytes 4 r.flags in
     let b : ℕ = offset_bits r.offset in
     let o : List ℕ = big_bytes 4 b ++ rest in
-    let e4 : held ≡ (front ++ d) ++ (s ++ (fl ++ o)) = e ∙ sym (append_assoc front d (s ++ (fl ++ o))) in
-    let e8 : held ≡ (front ++ (d ++ s)) ++ (fl ++ o) = e ∙ sym (append_assoc front (d ++ s) (fl ++ o)) in
-    let e12 : held ≡ (front ++ (d ++ (s ++ fl))) ++ o = e ∙ sym (append_assoc front (d ++ (s ++ fl)) o) in
-    rw all (same_row (number_in held (g + 0)) (number_in held (g + 4)) (number_in held (g + 8)) r.duration r.size r.flags (offset_by run.version (number_in held (g + 12))) r.offset
-    (field_back front held (s ++ (fl ++ o)) g 0 r.duration e (omega (arith, len)) f.duration)
-    (field_back (front ++ d) held (fl ++ o) g 4 r.size e4 (omega (arith, len, length-append front d)) f.size)
-    (field_back (front ++ (d ++ s)) held o g 8 r.flags e8 (omega (arith, len, length-append front (d ++ s))) f.flags)
-    (ap (offset_by run.version) (field_back (front ++ (d ++ (s ++ fl))) held rest g 12 b e12 (omega (arith, len, length-append front (d ++ (s ++ fl)))) (bits_small run.version r.offset f.offset)) ∙ bits_read run.version r.offset f.offset))
+    let e4 : moof_bytes ≡ (front ++ d) ++ (s ++ (fl ++ o)) = e ∙ sym (append_assoc front d (s ++ (fl ++ o))) in
+    let e8 : moof_bytes ≡ (front ++ (d ++ s)) ++ (fl ++ o) = e ∙ sym (append_assoc front (d ++ s) (fl ++ o)) in
+    let e12 : moof_bytes ≡ (front ++ (d ++ (s ++ fl))) ++ o = e ∙ sym (append_assoc front (d ++ (s ++ fl)) o) in
+    rw all (same_row (number_in moof_bytes (g + 0)) (number_in moof_bytes (g + 4)) (number_in moof_bytes (g + 8)) r.duration r.size r.flags (offset_by run.version (number_in moof_bytes (g + 12))) r.offset
+    (field_back front moof_bytes (s ++ (fl ++ o)) g 0 r.duration e (omega (arith, len)) f.duration)
+    (field_back (front ++ d) moof_bytes (fl ++ o) g 4 r.size e4 (omega (arith, len, length-append front d)) f.size)
+    (field_back (front ++ (d ++ s)) moof_bytes o g 8 r.flags e8 (omega (arith, len, length-append front (d ++ s))) f.flags)
+    (ap (offset_by run.version) (field_back (front ++ (d ++ (s ++ fl))) moof_bytes rest g 12 b e12 (omega (arith, len, length-append front (d ++ (s ++ fl)))) (bits_small run.version r.offset f.offset)) ∙ bits_read run.version r.offset f.offset))
 
-pub groups : (run : Run) (held front rest : List ℕ) (i : ℕ) (rows : List Row) → run.fields ≡ sample_fields trun_flags → AllByRecursion (FitsRow run.version) rows → held ≡ front ++ (flat_map sample_bytes rows ++ rest) → length front ≡ run.samples_at + 16 * i
-    → map (row_of run held) (range_with_len i (length rows)) ≡ rows
-groups run held front rest i [] all f e len = refl
-groups run held front rest i (r ∷ rows) all f e len =
+pub groups : (run : Run) (moof_bytes front rest : List ℕ) (i : ℕ) (rows : List Row) → run.fields ≡ sample_fields trun_flags → AllByRecursion (FitsRow run.version) rows → moof_bytes ≡ front ++ (flat_map sample_bytes rows ++ rest) → length front ≡ run.samples_at + 16 * i
+    → map (row_of run moof_bytes) (range_with_len i (length rows)) ≡ rows
+groups run moof_bytes front rest i [] all f e len = refl
+groups run moof_bytes front rest i (r ∷ rows) all f e len =
     let more : List ℕ = flat_map sample_bytes rows ++ rest in
-    let head : row_of run held i ≡ r = group run held front more i r all f.0 e len in
-    let tail = groups run held (front ++ sample_bytes r) rest (i + 1) rows all f.1 (e ∙ sym (append_assoc front (sample_bytes r) more)) (omega (arith, len, length-append front (sample_bytes r))) in
+    let head : row_of run moof_bytes i ≡ r = group run moof_bytes front more i r all f.0 e len in
+    let tail = groups run moof_bytes (front ++ sample_bytes r) rest (i + 1) rows all f.1 (e ∙ sym (append_assoc front (sample_bytes r) more)) (omega (arith, len, length-append front (sample_bytes r))) in
     cc
 
 pub length_samples : (rows : List Row) → length (flat_map sample_bytes rows) ≡ 16 * length rows
 length_samples [] = refl
 length_samples (r ∷ rows) = let e = length_samples rows in omega (arith, e)
 
--- the flags of a trun that was written, whatever stands behind them
+-- the flags of a trun that was written, whatever follows them
 pub trun_flags_back : (version : ℕ) (rest : List ℕ) → flags_in (version_and_flags version trun_flags ++ rest) ≡ trun_flags
 trun_flags_back version rest = ap (λ (t : Bool). cond t 0 (big_number 3 (drop 1 (version_and_flags version trun_flags ++ rest)))) (le-ltb (length (version_and_flags version trun_flags ++ rest)) 4 (omega arith))

@@ -20,13 +20,13 @@ use Rattle.mp4_box.specs.Trees.{Box, box_at, children, first_of}
 use Rattle.mp4_box.proofs.GrammarLemmas.{option_is, whole_found}
 use Rattle.mp4_init.specs.declared.table.Track.{Track}
 use Rattle.mp4_frag.specs.declared.run.Run.{Run}
-use Rattle.mp4_frag.specs.After.{StandsIn}
+use Rattle.mp4_frag.specs.After.{IsOneOf}
 use Rattle.mp4_frag.specs.Kinds.{tfhd, traf, trun, to_tfhd, to_trun}
 use Rattle.mp4_frag.specs.Fields.{flags_in, number_or, payload_of}
 use Rattle.mp4_frag.specs.Tfhd.{fields_of, track_id}
 use Rattle.mp4_frag.specs.Trun.{trun_broken, trun_fields}
 use Rattle.mp4_frag.specs.Rules.{entry_of, fault_if, form_faults, has_entry, tfhd_faults, track_faults, track_with, trun_length}
-use Rattle.mp4_frag.specs.Rows.{durations, field_at, group_at, offset_at, offset_by, row_of, rows_of, usual_flags}
+use Rattle.mp4_frag.specs.Rows.{durations, field_at, group_at, offset_at, offset_by, row_of, rows_of, default_flags_of}
 use Rattle.mp4_frag.specs.Runs.{MoofBytes, base_of, end_place, no_track, run_at, run_of, runs_from, runs_of, shared_by, tfhd_of, track_of, traf_of, trafs_by}
 use Rattle.mp4_frag.specs.Moofs.{IsRead, moof_of, moof_runs}
 use Rattle.mp4_frag.proofs.MoofLemmas.{early, last_none, moof_is, on_path, read_early, values}
@@ -65,13 +65,13 @@ none_fits : (v : ℕ) → FitsOffset v (pos 0)
 none_fits zero = omega arith
 none_fits (suc v) = omega arith
 
-offset_at_fits : (held : List ℕ) (v g : ℕ) (at : Option ℕ) → IsBytes held → FitsOffset v (offset_at held v g at)
-offset_at_fits held v g None fits = none_fits v
-offset_at_fits held v g (Some at) fits = offset_fits v (number_in held (g + at)) (number_small held (g + at) fits)
+offset_at_fits : (moof_bytes : List ℕ) (v g : ℕ) (at : Option ℕ) → IsBytes moof_bytes → FitsOffset v (offset_at moof_bytes v g at)
+offset_at_fits moof_bytes v g None fits = none_fits v
+offset_at_fits moof_bytes v g (Some at) fits = offset_fits v (number_in moof_bytes (g + at)) (number_small moof_bytes (g + at) fits)
 
-field_small : (held : List ℕ) (g : ℕ) (at : Option ℕ) (usual : ℕ) → IsBytes held → usual < 2 ^ 32 → field_at held g at usual < 2 ^ 32
-field_small held g None usual fits small = small
-field_small held g (Some at) usual fits small = number_small held (g + at) fits
+field_small : (moof_bytes : List ℕ) (g : ℕ) (at : Option ℕ) (default_value : ℕ) → IsBytes moof_bytes → default_value < 2 ^ 32 → field_at moof_bytes g at default_value < 2 ^ 32
+field_small moof_bytes g None default_value fits small = small
+field_small moof_bytes g (Some at) default_value fits small = number_small moof_bytes (g + at) fits
 
 -- the defaults of a run
 record HasDefaults (run : Run) : Type 0 where
@@ -80,22 +80,22 @@ record HasDefaults (run : Run) : Type 0 where
   flags : run.flags < 2 ^ 32
   first : unwrap_or run.first_sample_flags run.flags < 2 ^ 32
 
-usual_small : (t : Bool) (m n : ℕ) → m < 2 ^ 32 → n < 2 ^ 32 → cond t m n < 2 ^ 32
-usual_small true m n p q = p
-usual_small false m n p q = q
+default_small : (t : Bool) (m n : ℕ) → m < 2 ^ 32 → n < 2 ^ 32 → cond t m n < 2 ^ 32
+default_small true m n p q = p
+default_small false m n p q = q
 
-row_fits : (run : Run) (held : List ℕ) (i : ℕ) → IsBytes held → HasDefaults run → FitsRow run.version (row_of run held i)
+row_fits : (run : Run) (moof_bytes : List ℕ) (i : ℕ) → IsBytes moof_bytes → HasDefaults run → FitsRow run.version (row_of run moof_bytes i)
 unfolding row_of
-row_fits run held i fits d = record {
-  duration = field_small held (group_at run i) run.fields.sample_duration run.duration fits d.duration;
-  size = field_small held (group_at run i) run.fields.sample_size run.size fits d.size;
-  flags = field_small held (group_at run i) run.fields.sample_flags (usual_flags run i) fits (usual_small (i == 0) _ _ d.first d.flags);
-  offset = offset_at_fits held run.version (group_at run i) run.fields.sample_composition_time_offset fits;
+row_fits run moof_bytes i fits d = record {
+  duration = field_small moof_bytes (group_at run i) run.fields.sample_duration run.duration fits d.duration;
+  size = field_small moof_bytes (group_at run i) run.fields.sample_size run.size fits d.size;
+  flags = field_small moof_bytes (group_at run i) run.fields.sample_flags (default_flags_of run i) fits (default_small (i == 0) _ _ d.first d.flags);
+  offset = offset_at_fits moof_bytes run.version (group_at run i) run.fields.sample_composition_time_offset fits;
 }
 
-rows_fit_from : (run : Run) (held : List ℕ) (i n : ℕ) → IsBytes held → HasDefaults run → AllByRecursion (FitsRow run.version) (map (row_of run held) (range_with_len i n))
-rows_fit_from run held i zero fits d = tt
-rows_fit_from run held i (suc n) fits d = (row_fits run held i fits d, rows_fit_from run held (i + 1) n fits d)
+rows_fit_from : (run : Run) (moof_bytes : List ℕ) (i n : ℕ) → IsBytes moof_bytes → HasDefaults run → AllByRecursion (FitsRow run.version) (map (row_of run moof_bytes) (range_with_len i n))
+rows_fit_from run moof_bytes i zero fits d = tt
+rows_fit_from run moof_bytes i (suc n) fits d = (row_fits run moof_bytes i fits d, rows_fit_from run moof_bytes (i + 1) n fits d)
 
 -- ---- a run
 
@@ -136,20 +136,20 @@ entry_is of index e =
     let both = both_true (ltb 0 index) (not (ltb of.entries index)) e in
     record { low = ltb-true _ _ both.0; high = ltb-false _ _ (not_true (ltb of.entries index) both.1) }
 
-number_or_small : (p : List ℕ) (o : Option ℕ) (usual : ℕ) → IsBytes p → usual < 2 ^ 32 → number_or p o usual < 2 ^ 32
-number_or_small p None usual fits small = small
-number_or_small p (Some at) usual fits small = number_small p at fits
+number_or_small : (p : List ℕ) (o : Option ℕ) (default_value : ℕ) → IsBytes p → default_value < 2 ^ 32 → number_or p o default_value < 2 ^ 32
+number_or_small p None default_value fits small = small
+number_or_small p (Some at) default_value fits small = number_small p at fits
 
-first_small : (p : List ℕ) (o : Option ℕ) (usual : ℕ) → IsBytes p → usual < 2 ^ 32 → unwrap_or (option_map (number_in p) o) usual < 2 ^ 32
-first_small p None usual fits small = small
-first_small p (Some at) usual fits small = number_small p at fits
+first_small : (p : List ℕ) (o : Option ℕ) (default_value : ℕ) → IsBytes p → default_value < 2 ^ 32 → unwrap_or (option_map (number_in p) o) default_value < 2 ^ 32
+first_small p None default_value fits small = small
+first_small p (Some at) default_value fits small = number_small p at fits
 
 track_is : (tracks : List Track) (t : Box) (of : Track) → track_with (track_id (tfhd_of t)) tracks ≡ Some of → track_of tracks t ≡ of
 track_is tracks t of e = ap (λ (x : Option Track). unwrap_or x no_track) e
 
 run_sound : (h : MoofBytes) (tracks : List Track) (t : Box) (sound : IsSoundTraf tracks t) (time : ℕ) (last : ℤ) (b : Box) → IsBytes h.bytes → IsBytes b.payload → trun_broken b.payload ≡ None → IsSoundRun tracks h.bytes (run_of (shared_by h sound.of t) time last b)
 unfolding run_of run_at
-run_sound h tracks t sound time last b held fits good =
+run_sound h tracks t sound time last b moof_bytes fits good =
     let p = tfhd_of t in
     let f = fields_of p in
     let run = run_of (shared_by h sound.of t) time last b in
@@ -165,7 +165,7 @@ run_sound h tracks t sound time last b held fits good =
       high = entry.high;
       most = sound.fits.entries;
       size = size;
-      rows = rows_fit_from run h.bytes 0 _ held (record {
+      rows = rows_fit_from run h.bytes 0 _ moof_bytes (record {
         duration = number_or_small p f.default_sample_duration sound.of.duration sound.bytes sound.fits.duration;
         size = size;
         flags = flags;
@@ -176,10 +176,10 @@ run_sound h tracks t sound time last b held fits good =
 runs_sound : (h : MoofBytes) (tracks : List Track) (t : Box) (sound : IsSoundTraf tracks t) (time : ℕ) (last : ℤ) (bs : List Box) → IsBytes h.bytes → AllByRecursion (λ (b : Box). IsBytes b.payload) bs → AllByRecursion (λ (b : Box). trun_broken b.payload ≡ None) bs
     → AllByRecursion (IsSoundRun tracks h.bytes) (runs_from (shared_by h sound.of t) time last bs)
 unfolding runs_from
-runs_sound h tracks t sound time last [] held fits good = tt
-runs_sound h tracks t sound time last (b ∷ bs) held fits good =
+runs_sound h tracks t sound time last [] moof_bytes fits good = tt
+runs_sound h tracks t sound time last (b ∷ bs) moof_bytes fits good =
     let run = run_of (shared_by h sound.of t) time last b in
-    (run_sound h tracks t sound time last b held fits.0 good.0, runs_sound h tracks t sound run.end (end_place run) bs held fits.1 good.1)
+    (run_sound h tracks t sound time last b moof_bytes fits.0 good.0, runs_sound h tracks t sound run.end (end_place run) bs moof_bytes fits.1 good.1)
 
 -- ---- a moof
 
@@ -250,18 +250,18 @@ all_append P (x ∷ xs) ys all rest = (all.0, all_append P xs ys all.1 rest)
 
 traf_runs : (tracks : List Track) (h : MoofBytes) (t : Box) → IsBytes h.bytes → Lies h t → IsSoundTraf tracks t → flat_map trun_length (of_kind trun (children t)) ≡ [] → AllByRecursion (IsSoundRun tracks h.bytes) (runs_of (traf_of h tracks t))
 unfolding traf_of
-traf_runs tracks h t held lies sound good =
+traf_runs tracks h t moof_bytes lies sound good =
     let truns = of_kind trun (children t) in
     subst (λ (of : Track). AllByRecursion (IsSoundRun tracks h.bytes) (runs_from (shared_by h of t) (base_of (track_of tracks t).next t) (pos h.offset) truns)) (sym (track_is tracks t sound.of sound.known))
-    (runs_sound h tracks t sound (base_of (track_of tracks t).next t) (pos h.offset) truns held (bytes_of h truns (kind_all (Lies h) trun (children t) (children_lie h t lies))) (truns_in truns good))
+    (runs_sound h tracks t sound (base_of (track_of tracks t).next t) (pos h.offset) truns moof_bytes (bytes_of h truns (kind_all (Lies h) trun (children t) (children_lie h t lies))) (truns_in truns good))
 
 trafs_runs : (tracks : List Track) (h : MoofBytes) (ts : List Box) → AllByRecursion FitsTrack tracks → IsBytes h.bytes → AllByRecursion (Lies h) ts → AllByRecursion (λ (t : Box). one tfhd t ≡ []) ts
     → AllByRecursion (λ (t : Box). flat_map (tfhd_faults tracks) (of_kind tfhd (children t)) ≡ []) ts → AllByRecursion (λ (t : Box). flat_map trun_length (of_kind trun (children t)) ≡ []) ts
     → AllByRecursion (IsSoundRun tracks h.bytes) (flat_map runs_of (map (traf_of h tracks) ts))
-trafs_runs tracks h [] all held lie ones tfhds truns = tt
-trafs_runs tracks h (t ∷ ts) all held lie ones tfhds truns =
+trafs_runs tracks h [] all moof_bytes lie ones tfhds truns = tt
+trafs_runs tracks h (t ∷ ts) all moof_bytes lie ones tfhds truns =
     all_append (IsSoundRun tracks h.bytes) (runs_of (traf_of h tracks t)) (flat_map runs_of (map (traf_of h tracks) ts))
-    (traf_runs tracks h t held lie.0 (traf_sound tracks h t all lie.0 ones.0 tfhds.0) truns.0) (trafs_runs tracks h ts all held lie.1 ones.1 tfhds.1 truns.1)
+    (traf_runs tracks h t moof_bytes lie.0 (traf_sound tracks h t all lie.0 ones.0 tfhds.0) truns.0) (trafs_runs tracks h ts all moof_bytes lie.1 ones.1 tfhds.1 truns.1)
 
 -- what is asked of the boxes of a moof
 record IsSoundMoof (tracks : List Track) (m : Box) : Type 0 where
@@ -285,7 +285,7 @@ moof_sound tracks m form tfhds =
     }
 
 pub all_sound : (h : MoofBytes) (tracks : List Track) → IsWhole h.bytes → IsBytes h.bytes → AllByRecursion FitsTrack tracks → IsRead h tracks → AllByRecursion (IsSoundRun tracks h.bytes) (moof_runs h tracks)
-all_sound h tracks whole held all read =
+all_sound h tracks whole moof_bytes all read =
     elim (option_is (box_at h.offset h.bytes)) [
       | inl none ↦ absurd (whole_found h.offset h.bytes whole none)
       | inr some ↦
@@ -293,9 +293,9 @@ all_sound h tracks whole held all read =
           let is = moof_is h.offset h.bytes m some.1 in
           let e = early h tracks (read_early h tracks read) in
           let sound = moof_sound tracks m (ap form_faults (sym is) ∙ e.form) (ap (along (tfhd_faults tracks) to_tfhd) (sym is) ∙ (values tracks (moof_of h) e.value).tfhds) in
-          let lie = kind_all (Lies h) traf (children m) (children_lie h m (moof_lies h m whole held some.1)) in
+          let lie = kind_all (Lies h) traf (children m) (children_lie h m (moof_lies h m whole moof_bytes some.1)) in
           subst (λ (b : Box). AllByRecursion (IsSoundRun tracks h.bytes) (flat_map runs_of (trafs_by h tracks (children b)))) (sym is)
-          (trafs_runs tracks h (of_kind traf (children m)) all held lie sound.ones sound.tfhds sound.truns)
+          (trafs_runs tracks h (of_kind traf (children m)) all moof_bytes lie sound.ones sound.tfhds sound.truns)
     ]
 
 -- ---- a piece
@@ -310,21 +310,21 @@ all_drop P zero xs all = all
 all_drop P (suc n) [] all = tt
 all_drop P (suc n) (x ∷ xs) all = all_drop P n xs all.1
 
-duration_is : (held : List ℕ) (run : Run) (p : Piece) → IsPieceOf held run p → durations (rows_in held run p) ≡ p.duration
+duration_is : (moof_bytes : List ℕ) (run : Run) (p : Piece) → IsPieceOf moof_bytes run p → durations (rows_in moof_bytes run p) ≡ p.duration
 unfolding piece_at
-duration_is held run p is = sym (ap (λ (q : Piece). q.duration) is.is)
+duration_is moof_bytes run p is = sym (ap (λ (q : Piece). q.duration) is.is)
 
-pub can_be_read : (tracks : List Track) (held : List ℕ) (run : Run) (p : Piece) → IsSoundRun tracks held run → IsRunOf held run → IsPieceOf held run p → CanBeRead tracks (written_fragment held run p)
-can_be_read tracks held run p sound of is =
-    let range = piece_ends held run p of is in
+pub can_be_read : (tracks : List Track) (moof_bytes : List ℕ) (run : Run) (p : Piece) → IsSoundRun tracks moof_bytes run → IsRunOf moof_bytes run → IsPieceOf moof_bytes run p → CanBeRead tracks (written_fragment moof_bytes run p)
+can_be_read tracks moof_bytes run p sound of is =
+    let range = piece_ends moof_bytes run p of is in
     record {
       fits = record {
         track = sound.track;
         entry = omega (arith, sound.high, sound.most);
         version = sound.version;
-        end = omega (arith, range.time, duration_is held run p is);
-        count = omega (arith, count_is held run p is, is.within, of.few);
-        rows = all_take (FitsRow run.version) p.count (drop p.first (rows_of run held)) (all_drop (FitsRow run.version) p.first (rows_of run held) sound.rows);
+        end = omega (arith, range.time, duration_is moof_bytes run p is);
+        count = omega (arith, count_is moof_bytes run p is, is.within, of.few);
+        rows = all_take (FitsRow run.version) p.count (drop p.first (rows_of run moof_bytes)) (all_drop (FitsRow run.version) p.first (rows_of run moof_bytes) sound.rows);
       };
       track = sound.of;
       known = sound.known;
@@ -336,9 +336,9 @@ all_middle : (P : Run → Type 0) (before : List Run) (run : Run) (after : List 
 all_middle P [] run after all = all.0
 all_middle P (b ∷ before) run after all = all_middle P before run after all.1
 
-pub piece_can_be_read : (h : MoofBytes) (tracks : List Track) (run : Run) (p : Piece) → IsWhole h.bytes → IsBytes h.bytes → h.offset + length h.bytes ≤ 2 ^ 62 → AllByRecursion FitsTrack tracks → IsRead h tracks → StandsIn run (moof_runs h tracks) → IsPieceOf h.bytes run p
+pub piece_can_be_read : (h : MoofBytes) (tracks : List Track) (run : Run) (p : Piece) → IsWhole h.bytes → IsBytes h.bytes → h.offset + length h.bytes ≤ 2 ^ 62 → AllByRecursion FitsTrack tracks → IsRead h tracks → IsOneOf run (moof_runs h tracks) → IsPieceOf h.bytes run p
     → CanBeRead tracks (written_fragment h.bytes run p)
-piece_can_be_read h tracks run p whole held room all read (before, after, s) is =
-    let sound = all_middle (IsSoundRun tracks h.bytes) before run after (subst (λ (rs : List Run). AllByRecursion (IsSoundRun tracks h.bytes) rs) s.is (all_sound h tracks whole held all read)) in
-    let are = all_middle (λ (r : Run). r.size < 2 ^ 32 → IsRunOf h.bytes r) before run after (subst (λ (rs : List Run). AllByRecursion (λ (r : Run). r.size < 2 ^ 32 → IsRunOf h.bytes r) rs) s.is (runs_are h tracks (omega (arith, room)) whole held read)) in
+piece_can_be_read h tracks run p whole moof_bytes room all read (before, after, s) is =
+    let sound = all_middle (IsSoundRun tracks h.bytes) before run after (subst (λ (rs : List Run). AllByRecursion (IsSoundRun tracks h.bytes) rs) s.is (all_sound h tracks whole moof_bytes all read)) in
+    let are = all_middle (λ (r : Run). r.size < 2 ^ 32 → IsRunOf h.bytes r) before run after (subst (λ (rs : List Run). AllByRecursion (λ (r : Run). r.size < 2 ^ 32 → IsRunOf h.bytes r) rs) s.is (runs_are h tracks (omega (arith, room)) whole moof_bytes read)) in
     can_be_read tracks h.bytes run p sound (are sound.size) is

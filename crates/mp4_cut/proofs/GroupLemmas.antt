@@ -28,8 +28,8 @@ unfolding pieces_at piece_at
 begins_by c [] p ps e = absurd cc
 begins_by c (rows ∷ rest) p ps e = sym (ap start_of (cons_is (piece_at c rows) p _ ps e).0)
 
-begins_at : (cut : Cut) (held : List ℕ) (run : Run) (c : Cursor) (p : Piece) (ps : List Piece) → pieces_from cut held run c ≡ p ∷ ps → start_of p ≡ c
-begins_at cut held run c p ps e = begins_by c (cut_rows cut (drop c.row (rows_of run held))) p ps e
+begins_at : (cut : Cut) (moof_bytes : List ℕ) (run : Run) (c : Cursor) (p : Piece) (ps : List Piece) → pieces_from cut moof_bytes run c ≡ p ∷ ps → start_of p ≡ c
+begins_at cut moof_bytes run c p ps e = begins_by c (cut_rows cut (drop c.row (rows_of run moof_bytes))) p ps e
 
 -- ---- the groups
 
@@ -44,15 +44,15 @@ all_take P (suc n) [] all = tt
 all_take P (suc n) (x ∷ xs) all = (all.0, all_take P n xs all.1)
 
 -- the group of at most n + 1 pieces with which these begin
-first_is : (cut : Cut) (held : List ℕ) (run : Run) (c : Cursor) (n : ℕ) (p : Piece) (ps : List Piece) → IsCursor run held c → pieces_from cut held run c ≡ p ∷ ps → BeginsInTime (take (suc n) (p ∷ ps)) → AllByRecursion FitsReference (p ∷ ps)
-    → IsGroup cut held run p (length (take (suc n) (p ∷ ps))) × (group_from cut held run p (length (take (suc n) (p ∷ ps))) ≡ take (suc n) (p ∷ ps))
-first_is cut held run c n p ps at e time fit =
+first_is : (cut : Cut) (moof_bytes : List ℕ) (run : Run) (c : Cursor) (n : ℕ) (p : Piece) (ps : List Piece) → IsCursor run moof_bytes c → pieces_from cut moof_bytes run c ≡ p ∷ ps → BeginsInTime (take (suc n) (p ∷ ps)) → AllByRecursion FitsReference (p ∷ ps)
+    → IsGroup cut moof_bytes run p (length (take (suc n) (p ∷ ps))) × (group_from cut moof_bytes run p (length (take (suc n) (p ∷ ps))) ≡ take (suc n) (p ∷ ps))
+first_is cut moof_bytes run c n p ps at e time fit =
     let group : List Piece = take (suc n) (p ∷ ps) in
-    let start = begins_at cut held run c p ps e in
-    let here : pieces_from cut held run (start_of p) ≡ p ∷ ps = ap (pieces_from cut held run) start ∙ e in
-    let same : group_from cut held run p (length group) ≡ group = ap (take (length group)) here ∙ take_taken (suc n) (p ∷ ps) in (
+    let start = begins_at cut moof_bytes run c p ps e in
+    let here : pieces_from cut moof_bytes run (start_of p) ≡ p ∷ ps = ap (pieces_from cut moof_bytes run) start ∙ e in
+    let same : group_from cut moof_bytes run p (length group) ≡ group = ap (take (length group)) here ∙ take_taken (suc n) (p ∷ ps) in (
       record {
-        cursor = subst (IsCursor run held) (sym start) at;
+        cursor = subst (IsCursor run moof_bytes) (sym start) at;
         begins = ap first_of same;
         all = ap length same;
         time = time;
@@ -61,25 +61,25 @@ first_is cut held run c n p ps at e time fit =
       same,
     )
 
-first_group : (cut : Cut) (held : List ℕ) (run : Run) (c : Cursor) (n : ℕ) (p : Piece) (ps : List Piece) → IsCursor run held c → pieces_from cut held run c ≡ p ∷ ps → BeginsInTime (take (suc n) (p ∷ ps)) → AllByRecursion FitsReference (p ∷ ps)
-    → IsGroupOf cut held run (take (suc n) (p ∷ ps))
-first_group cut held run c n p ps at e time fit =
-    let both = first_is cut held run c n p ps at e time fit in
+first_group : (cut : Cut) (moof_bytes : List ℕ) (run : Run) (c : Cursor) (n : ℕ) (p : Piece) (ps : List Piece) → IsCursor run moof_bytes c → pieces_from cut moof_bytes run c ≡ p ∷ ps → BeginsInTime (take (suc n) (p ∷ ps)) → AllByRecursion FitsReference (p ∷ ps)
+    → IsGroupOf cut moof_bytes run (take (suc n) (p ∷ ps))
+first_group cut moof_bytes run c n p ps at e time fit =
+    let both = first_is cut moof_bytes run c n p ps at e time fit in
     record { first = p; begins = refl; is = both.0; same = both.1 }
 
-groups_by : (cut : Cut) (held : List ℕ) (run : Run) (k : ℕ) (c : Cursor) (ps : List Piece) → IsCursor run held c → pieces_from cut held run c ≡ ps → AllByRecursion BeginsInTime (groups_from k ps) → AllByRecursion FitsReference ps → AllByRecursion (IsGroupOf cut held run) (groups_from k ps)
+groups_by : (cut : Cut) (moof_bytes : List ℕ) (run : Run) (k : ℕ) (c : Cursor) (ps : List Piece) → IsCursor run moof_bytes c → pieces_from cut moof_bytes run c ≡ ps → AllByRecursion BeginsInTime (groups_from k ps) → AllByRecursion FitsReference ps → AllByRecursion (IsGroupOf cut moof_bytes run) (groups_from k ps)
 unfolding groups_from
-groups_by cut held run zero c [] at e times fit = tt
-groups_by cut held run (suc k) c [] at e times fit = tt
-groups_by cut held run zero c (p ∷ ps) at e times fit =
-    let next = goes_on cut held run c p ps at e in
-    (first_group cut held run c 65534 p ps at e times.0 fit, groups_by cut held run 65534 (cursor_after p) ps next.cursor next.rest times.1 fit.1)
-groups_by cut held run (suc k) c (p ∷ ps) at e times fit =
-    let next = goes_on cut held run c p ps at e in
-    groups_by cut held run k (cursor_after p) ps next.cursor next.rest times fit.1
+groups_by cut moof_bytes run zero c [] at e times fit = tt
+groups_by cut moof_bytes run (suc k) c [] at e times fit = tt
+groups_by cut moof_bytes run zero c (p ∷ ps) at e times fit =
+    let next = goes_on cut moof_bytes run c p ps at e in
+    (first_group cut moof_bytes run c 65534 p ps at e times.0 fit, groups_by cut moof_bytes run 65534 (cursor_after p) ps next.cursor next.rest times.1 fit.1)
+groups_by cut moof_bytes run (suc k) c (p ∷ ps) at e times fit =
+    let next = goes_on cut moof_bytes run c p ps at e in
+    groups_by cut moof_bytes run k (cursor_after p) ps next.cursor next.rest times fit.1
 
-pub groups_are : (cut : Cut) (held : List ℕ) (run : Run) → FitsIndex (pieces_of cut held run) → AllByRecursion (IsGroupOf cut held run) (groups (pieces_of cut held run))
-groups_are cut held run fits = groups_by cut held run 0 (first_cursor run) (pieces_of cut held run) (cursor_first run held) refl fits.times fits.references
+pub groups_are : (cut : Cut) (moof_bytes : List ℕ) (run : Run) → FitsIndex (pieces_of cut moof_bytes run) → AllByRecursion (IsGroupOf cut moof_bytes run) (groups (pieces_of cut moof_bytes run))
+groups_are cut moof_bytes run fits = groups_by cut moof_bytes run 0 (first_cursor run) (pieces_of cut moof_bytes run) (cursor_first run moof_bytes) refl fits.times fits.references
 
 -- ---- how many pieces a group has
 
@@ -108,9 +108,9 @@ counted_most all rest count c e =
     sym (length-take group_length all ∙ omega (arith, ap length c.split, length-append c.done rest, c.len))
 
 -- the first group of the pieces of a run
-pub first_is_group : (cut : Cut) (held : List ℕ) (run : Run) (p : Piece) (ps : List Piece) (count : ℕ) → FitsIndex (pieces_of cut held run) → pieces_of cut held run ≡ p ∷ ps → count ≡ length (take group_length (pieces_of cut held run)) → IsGroup cut held run p count
+pub first_is_group : (cut : Cut) (moof_bytes : List ℕ) (run : Run) (p : Piece) (ps : List Piece) (count : ℕ) → FitsIndex (pieces_of cut moof_bytes run) → pieces_of cut moof_bytes run ≡ p ∷ ps → count ≡ length (take group_length (pieces_of cut moof_bytes run)) → IsGroup cut moof_bytes run p count
 unfolding groups_from
-first_is_group cut held run p ps count fits e len =
+first_is_group cut moof_bytes run p ps count fits e len =
     let f : FitsIndex (p ∷ ps) = subst FitsIndex e fits in
-    let g = first_is cut held run (first_cursor run) 65534 p ps (cursor_first run held) e f.times.0 f.references in
-    subst (IsGroup cut held run p) (sym (len ∙ ap (λ (qs : List Piece). length (take group_length qs)) e)) g.0
+    let g = first_is cut moof_bytes run (first_cursor run) 65534 p ps (cursor_first run moof_bytes) e f.times.0 f.references in
+    subst (IsGroup cut moof_bytes run p) (sym (len ∙ ap (λ (qs : List Piece). length (take group_length qs)) e)) g.0

@@ -1,4 +1,4 @@
--- Fields that are put one behind the other.
+-- Fields that are put one after the other.
 use Rattle.std.proofs.Common.{◌≡◌, ℕ, List, ◌++◌, ap, ◌∙◌, append_assoc}
 
 pub joined : (w x y a b : List ℕ) → x ≡ w ++ a → y ≡ x ++ b → y ≡ w ++ (a ++ b)

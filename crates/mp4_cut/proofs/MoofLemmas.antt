@@ -1,4 +1,4 @@
--- The boxes of a moof that was written, and what they tell.
+-- The boxes of a moof that was written, and their values.
 use Rattle.std.proofs.Common.{◌≡◌, ℕ, ◌+◌, ◌*◌, ◌<◌, List, [], ◌∷◌, length, ◌++◌, Some, refl, sym, ap, ◌∙◌, arith, append-nil}
 use Rattle.mp4_box.specs.declared.rules.Fault.{Fault}
 use Rattle.mp4_box.specs.Trees.{Box, bad_below, bad_rest, box_at, boxes, children, deep_below, faults_of, is_container, no_rest, over, tree_faults}
@@ -76,7 +76,7 @@ pub moof_found : (f : WrittenFragment) (seq o : ℕ) (rest : List ℕ) → FitsF
 unfolding moof_box
 moof_found f seq o rest fits = found_box moof (in_moof f seq) rest o (short_moof f seq fits)
 
--- what is made of the boxes of the moof, and of those of the traf
+-- going over the boxes of the moof, and those of the traf
 over_moof : {R : Type 0} (g : Box → List R) (h : ℕ → List ℕ → List R) (f : WrittenFragment) (seq o : ℕ) → FitsFields f → over g h (in_moof f seq) 0 (o + 8) ≡ g (mfhd_at seq o) ++ (g (traf_at f o) ++ [])
 over_moof {R} g h f seq o fits =
     over_written g h mfhd (mfhd_payload seq) (box_bytes traf (in_traf f)) (o + 8) (short_mfhd seq)

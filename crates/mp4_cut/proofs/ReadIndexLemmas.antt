@@ -35,23 +35,23 @@ pub natural_is : (z : ℤ) → FitsTime z → (pos (natural z) ≡ z) × (natura
 natural_is (pos n) h = (refl, omega (arith, ints, h.high))
 natural_is (negsuc n) h = absurd (omega (arith, ints, h.low))
 
-module _ (held : List ℕ) (run : Run) where
-  size_is : (p : Piece) (number : ℕ) → IsPieceOf held run p → fragment_size p ≡ length (written_moof p run held number) + (length (mdat_header (sizes (rows_in held run p))) + sizes (rows_in held run p))
+module _ (moof_bytes : List ℕ) (run : Run) where
+  size_is : (p : Piece) (number : ℕ) → IsPieceOf moof_bytes run p → fragment_size p ≡ length (written_moof p run moof_bytes number) + (length (mdat_header (sizes (rows_in moof_bytes run p))) + sizes (rows_in moof_bytes run p))
   size_is p number is =
-      let bytes = bytes_are held run p is in
-      omega (arith, length_moof (written_fragment held run p) number, count_is held run p is, length_mdat (sizes (rows_in held run p)), bytes, ap mdat_header_size bytes)
+      let bytes = bytes_are moof_bytes run p is in
+      omega (arith, length_moof (written_fragment moof_bytes run p) number, count_is moof_bytes run p is, length_mdat (sizes (rows_in moof_bytes run p)), bytes, ap mdat_header_size bytes)
 
-  duration_is : (p : Piece) → IsPieceOf held run p → p.duration ≡ durations (rows_in held run p)
+  duration_is : (p : Piece) → IsPieceOf moof_bytes run p → p.duration ≡ durations (rows_in moof_bytes run p)
   unfolding piece_at
   duration_is p is = ap (λ (q : Piece). q.duration) is.is
 
-  least_is : (p : Piece) → IsPieceOf held run p → p.least ≡ least_of (composition_times p.time (rows_in held run p))
+  least_is : (p : Piece) → IsPieceOf moof_bytes run p → p.least ≡ least_of (composition_times p.time (rows_in moof_bytes run p))
   unfolding piece_at
   least_is p is =
-      let time : (cursor_at held run p.first).time ≡ p.time = sym (ap (λ (q : Piece). q.time) is.is) in
-      ap (λ (q : Piece). q.least) is.is ∙ ap (λ (t : ℕ). least_of (composition_times t (rows_in held run p))) time
+      let time : (cursor_at moof_bytes run p.first).time ≡ p.time = sym (ap (λ (q : Piece). q.time) is.is) in
+      ap (λ (q : Piece). q.least) is.is ∙ ap (λ (t : ℕ). least_of (composition_times t (rows_in moof_bytes run p))) time
 
-  references_back : (number : ℕ) (ps : List Piece) → AllByRecursion (IsPieceOf held run) ps → AllByRecursion FitsReference ps → references_in (length ps) (flat_map reference_bytes ps) ≡ map (reference_to held run number) ps
+  references_back : (number : ℕ) (ps : List Piece) → AllByRecursion (IsPieceOf moof_bytes run) ps → AllByRecursion FitsReference ps → references_in (length ps) (flat_map reference_bytes ps) ≡ map (reference_to moof_bytes run number) ps
   references_back number [] is fits = refl
   references_back number (p ∷ ps) is fits =
       let rest = flat_map reference_bytes ps in
@@ -62,7 +62,7 @@ module _ (held : List ℕ) (run : Run) where
       (big_number-reads_back 4 0 rest (omega arith))
       (references_back number ps is.1 fits.1)
 
-  pub index_back : (timescale number : ℕ) (p : Piece) (ps : List Piece) → run.track < 2 ^ 32 → timescale < 2 ^ 32 → CanBeIndexed held run p ps → IsIndexReadAs held run timescale number p ps (index_in (drop 8 (written_index run timescale (p ∷ ps))))
+  pub index_back : (timescale number : ℕ) (p : Piece) (ps : List Piece) → run.track < 2 ^ 32 → timescale < 2 ^ 32 → CanBeIndexed moof_bytes run p ps → IsIndexReadAs moof_bytes run timescale number p ps (index_in (drop 8 (written_index run timescale (p ∷ ps))))
   unfolding written_index
   index_back timescale number p ps small scale can =
       let g = p ∷ ps in

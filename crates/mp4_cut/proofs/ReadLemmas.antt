@@ -32,11 +32,11 @@ use Rattle.mp4_pieces.specs.Sizes.{mdat_header_size, moof_size}
 use Rattle.mp4_cut.specs.Boxes.{box_bytes}
 use Rattle.mp4_cut.specs.Mdat.{mdat, mdat_header}
 use Rattle.mp4_cut.specs.Moof.{written_fragment, WrittenFragment, data_offset, in_moof, moof_box}
-use Rattle.mp4_cut.specs.Reads.{Tells, CanBeRead, FitsFields, IsHeaded, IsReadAs, header_of, held_moof}
+use Rattle.mp4_cut.specs.Reads.{Describes, CanBeRead, FitsFields, IsHeaded, IsReadAs, header_of, held_moof}
 use Rattle.mp4_cut.proofs.BoxLemmas.{IsShort, head_is, is_box}
 use Rattle.mp4_cut.proofs.FaultLemmas.{moof_is_good}
 use Rattle.mp4_cut.proofs.MoofLemmas.{length_in_moof, short_moof}
-use Rattle.mp4_cut.proofs.RunLemmas.{one_run_back, run_in, runs_back, tells, traf_in, trafs_back}
+use Rattle.mp4_cut.proofs.RunLemmas.{describes, one_run_back, run_in, runs_back, traf_in, trafs_back}
 
 -- ---- headers
 
@@ -123,7 +123,7 @@ is_read_as f seq o tracks can =
     let t = can.track in
     let traf = traf_in h t f in
     let run = run_in h t f in
-    let told = tells f seq o t can.fits in
+    let described = describes f seq o t can.fits in
     let trafs = trafs_back f seq o tracks t can.fits can.known in
     let runs = runs_back f seq o tracks t can.fits can.known in
     record {
@@ -134,10 +134,10 @@ is_read_as f seq o tracks can =
       runs = one_run_back f seq o t;
       all = runs;
       taken = ap (taken_by listed_run) runs;
-      tells = told;
-      samples = sym (rows_are_samples h tracks) ∙ (ap (λ (rs : List Run). length (flat_map (λ (r : Run). rows_of r h.bytes) rs)) runs ∙ (ap length (append-nil (rows_of run h.bytes)) ∙ ap length told.rows));
-      placed = placed_one run (o + data_offset f.rows) (o + data_offset f.rows + sizes f.rows) told.place (omega (arith, told.bytes));
-      settled = ap (settled tracks) trafs ∙ (settled_one tracks traf run (one_run_back f seq o t) ∙ ap (λ (n : ℕ). with_end f.track n tracks) told.end);
+      describes = described;
+      samples = sym (rows_are_samples h tracks) ∙ (ap (λ (rs : List Run). length (flat_map (λ (r : Run). rows_of r h.bytes) rs)) runs ∙ (ap length (append-nil (rows_of run h.bytes)) ∙ ap length described.rows));
+      placed = placed_one run (o + data_offset f.rows) (o + data_offset f.rows + sizes f.rows) described.place (omega (arith, described.bytes));
+      settled = ap (settled tracks) trafs ∙ (settled_one tracks traf run (one_run_back f seq o t) ∙ ap (λ (n : ℕ). with_end f.track n tracks) described.end);
     }
 
 -- ---- the same fragment again
@@ -152,7 +152,7 @@ same_fragment a b c d k l m n xs ys p q r s t =
     ∙ (ap (λ (x : ℕ). mk_fragment k l x d xs) r
     ∙ (ap (λ (x : ℕ). mk_fragment k l m x xs) s ∙ ap (mk_fragment k l m n) t)))
 
-pub fragment_again : (f : WrittenFragment) (h : MoofBytes) (run : Run) → Tells f h run → written_fragment h.bytes run (piece_at (first_cursor run) f.rows) ≡ f
+pub fragment_again : (f : WrittenFragment) (h : MoofBytes) (run : Run) → Describes f h run → written_fragment h.bytes run (piece_at (first_cursor run) f.rows) ≡ f
 unfolding piece_at mk_fragment
 fragment_again f h run t =
     same_fragment run.track run.entry run.version run.time f.track f.entry f.version f.time (take (length f.rows) (rows_of run h.bytes)) f.rows

@@ -28,7 +28,7 @@ use Rattle.mp4_cut.specs.Tfhd.{tfhd_payload}
 use Rattle.mp4_cut.specs.Tfdt.{tfdt_payload}
 use Rattle.mp4_cut.specs.Trun.{sample_bytes, trun_flags}
 use Rattle.mp4_cut.specs.Moof.{WrittenFragment, data_offset, in_moof, in_traf, moof_box}
-use Rattle.mp4_cut.specs.Reads.{FitsFields, FitsRow, Tells, held_moof}
+use Rattle.mp4_cut.specs.Reads.{Describes, FitsFields, FitsRow, held_moof}
 use Rattle.mp4_pieces.specs.Rooms.{moof}
 use Rattle.mp4_pieces.specs.Sizes.{moof_size}
 use Rattle.mp4_cut.proofs.FieldLemmas.{groups, long_number_back, number_back, small_twos, trun_flags_back}
@@ -119,7 +119,7 @@ runs_back f seq o tracks t fits there =
     ap (flat_map runs_of) (trafs_back f seq o tracks t fits there)
     ∙ (append-nil (runs_of (traf_in h t f)) ∙ one_run_back f seq o t)
 
--- ---- what the run tells
+-- ---- the values of the run
 
 pub flags_back : (f : WrittenFragment) → flags_in (trun_of f) ≡ trun_flags
 flags_back f = trun_flags_back f.version (big_bytes 4 (length f.rows) ++ (big_bytes 4 (data_offset f.rows) ++ flat_map sample_bytes f.rows))
@@ -146,7 +146,7 @@ unfolding trun_fields
 offset_back f fits =
     ap (λ (flags : ℕ). option_map (signed_in (trun_of f)) (trun_fields flags).data_offset) (flags_back f) ∙ ap Some (place_in f fits)
 
--- the first 92 bytes of the moof, behind which the fields of its samples stand
+-- the first 92 bytes of the moof, followed by the fields of its samples
 abbrev pub front_of : WrittenFragment → ℕ → List ℕ
 front_of f seq =
     big_bytes 4 (8 + length (in_moof f seq)) ++ (moof.0 ++ (box_bytes mfhd (mfhd_payload seq)
@@ -166,9 +166,9 @@ rows_by f seq run fits fields version at count =
     ∙ groups run x (front_of f seq) [] 0 f.rows fields (subst (λ (v : ℕ). AllByRecursion (FitsRow v) f.rows) (sym version) fits.rows)
     (moof_is_front f seq ∙ ap (λ (y : List ℕ). front_of f seq ++ y) (sym (append-nil (flat_map sample_bytes f.rows)))) (omega (arith, at))
 
-pub tells : (f : WrittenFragment) (seq o : ℕ) (t : Track) → FitsFields f → Tells f (held_moof f seq o) (run_in (held_moof f seq o) t f)
+pub describes : (f : WrittenFragment) (seq o : ℕ) (t : Track) → FitsFields f → Describes f (held_moof f seq o) (run_in (held_moof f seq o) t f)
 unfolding run_of run_at trun_fields
-tells f seq o t fits =
+describes f seq o t fits =
     let h = held_moof f seq o in
     let run = run_in h t f in
     let bare = run_at (shared_in h t f) f.time (pos o) (trun_at f o) in

@@ -16,19 +16,19 @@ start_of piece = record { row = piece.first; time = piece.time; place = piece.pl
 
 -- so many pieces of a run as it is cut, from this one on
 abbrev pub group_from : Cut → List ℕ → Run → Piece → ℕ → List Piece
-group_from cut held run first count = take count (pieces_from cut held run (start_of first))
+group_from cut moof_bytes run first count = take count (pieces_from cut moof_bytes run (start_of first))
 
 -- there are so many, this is the first of them, and an index has room for them
-pub record IsGroup (cut : Cut) (held : List ℕ) (run : Run) (first : Piece) (count : ℕ) : Type 0 where
-  pub cursor : IsCursor run held (start_of first)
-  pub begins : first_of (group_from cut held run first count) ≡ Some first
-  pub all : length (group_from cut held run first count) ≡ count
+pub record IsGroup (cut : Cut) (moof_bytes : List ℕ) (run : Run) (first : Piece) (count : ℕ) : Type 0 where
+  pub cursor : IsCursor run moof_bytes (start_of first)
+  pub begins : first_of (group_from cut moof_bytes run first count) ≡ Some first
+  pub all : length (group_from cut moof_bytes run first count) ≡ count
   pub time : FitsTime first.least
-  pub references : AllByRecursion FitsReference (group_from cut held run first count)
+  pub references : AllByRecursion FitsReference (group_from cut moof_bytes run first count)
 
 -- these pieces are such a group
-pub record IsGroupOf (cut : Cut) (held : List ℕ) (run : Run) (group : List Piece) : Type 0 where
+pub record IsGroupOf (cut : Cut) (moof_bytes : List ℕ) (run : Run) (group : List Piece) : Type 0 where
   pub first : Piece
   pub begins : first_of group ≡ Some first
-  pub is : IsGroup cut held run first (length group)
-  pub same : group_from cut held run first (length group) ≡ group
+  pub is : IsGroup cut moof_bytes run first (length group)
+  pub same : group_from cut moof_bytes run first (length group) ≡ group

@@ -14,8 +14,8 @@ use Rattle.mp4_cut.specs.Moof.{written_moof}
 
 -- ---- the fields of a sidx of version 1
 
--- one reference of an index: referenced_size, which has 31 bits behind the bit reference_type (0: media),
--- subsegment_duration, and the 32 bits of what is said of access points
+-- one reference of an index: referenced_size, which has 31 bits after the bit reference_type (0: media),
+-- subsegment_duration, and the 32 bits about access points
 pub record Reference : Type 0 where
   pub size : ℕ
   pub duration : ℕ
@@ -52,32 +52,32 @@ index_in p = record {
   references = references_in (big_number 2 (drop 30 p)) (drop 32 p);
 }
 
--- ---- what it must say
+-- ---- requirements of an index
 
 -- an index has room for these pieces of a run
-pub record CanBeIndexed (held : List ℕ) (run : Run) (p : Piece) (ps : List Piece) : Type 0 where
+pub record CanBeIndexed (moof_bytes : List ℕ) (run : Run) (p : Piece) (ps : List Piece) : Type 0 where
   pub few : length (p ∷ ps) ≤ group_length
   pub time : FitsTime p.least
-  pub pieces : AllByRecursion (IsPieceOf held run) (p ∷ ps)
+  pub pieces : AllByRecursion (IsPieceOf moof_bytes run) (p ∷ ps)
   pub references : AllByRecursion FitsReference (p ∷ ps)
 
--- what a reference to a piece must say, whose moof has this sequence_number: how many bytes its moof and its mdat
+-- requirements of a reference to a piece, whose moof has this sequence_number: how many bytes its moof and its mdat
 -- have, and the sum of the durations of its samples
 abbrev pub reference_to : List ℕ → Run → ℕ → Piece → Reference
-reference_to held run sequence_number p = record {
-  size = length (written_moof p run held sequence_number) + (length (mdat_header (sizes (rows_in held run p))) + sizes (rows_in held run p));
-  duration = durations (rows_in held run p);
+reference_to moof_bytes run sequence_number p = record {
+  size = length (written_moof p run moof_bytes sequence_number) + (length (mdat_header (sizes (rows_in moof_bytes run p))) + sizes (rows_in moof_bytes run p));
+  duration = durations (rows_in moof_bytes run p);
   access = 0;
 }
 
--- the index says so of these pieces, which stand directly behind it, with the timescale that was given.
+-- the index says so of these pieces, which directly follow it, with the timescale that was given.
 -- Its earliest time is the least composition time of the samples of the first
-pub record IsIndexReadAs (held : List ℕ) (run : Run) (given sequence_number : ℕ) (p : Piece) (ps : List Piece) (x : Index) : Type 0 where
+pub record IsIndexReadAs (moof_bytes : List ℕ) (run : Run) (given sequence_number : ℕ) (p : Piece) (ps : List Piece) (x : Index) : Type 0 where
   pub version : x.version ≡ 1
   pub flags : x.flags ≡ 0
   pub track : x.track ≡ run.track
   pub timescale : x.timescale ≡ given
-  pub earliest : pos x.earliest ≡ least_of (composition_times p.time (rows_in held run p))
+  pub earliest : pos x.earliest ≡ least_of (composition_times p.time (rows_in moof_bytes run p))
   pub offset : x.first_offset ≡ 0
   pub reserved : x.reserved ≡ 0
-  pub references : x.references ≡ map (reference_to held run sequence_number) (p ∷ ps)
+  pub references : x.references ≡ map (reference_to moof_bytes run sequence_number) (p ∷ ps)

@@ -9,4 +9,4 @@ pub mod Sidx
 pub mod Reads
 pub mod Indexes
 pub mod IndexGroups
-pub mod Working
+pub mod Implementation

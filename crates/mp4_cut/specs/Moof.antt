@@ -14,7 +14,7 @@ use Rattle.mp4_pieces.specs.Pieces.{rows_in}
 use Rattle.mp4_pieces.specs.Rooms.{moof}
 use Rattle.mp4_pieces.specs.Sizes.{mdat_header_size, moof_size}
 
--- what a fragment tells: its track_ID, the index of its sample entry, the version of its trun, the decode time of its first sample, and its rows
+-- what a fragment is written from: its track_ID, the index of its sample entry, the version of its trun, the decode time of its first sample, and its rows
 pub record WrittenFragment : Type 0 where
   pub track : ℕ
   pub entry : ℕ
@@ -22,7 +22,7 @@ pub record WrittenFragment : Type 0 where
   pub time : ℕ
   pub rows : List Row
 
--- the media stands behind the moof and the header of its mdat
+-- the media follow the moof and the header of its mdat
 abbrev pub data_offset : List Row → ℕ
 data_offset rows = moof_size (length rows) + mdat_header_size (sizes rows)
 
@@ -43,8 +43,8 @@ moof_box f sequence_number = box_bytes moof (in_moof f sequence_number)
 
 -- the fragment of a piece has its rows, and what all rows of its run share
 abbrev pub written_fragment : List ℕ → Run → Piece → WrittenFragment
-written_fragment held run piece = record { track = run.track; entry = run.entry; version = run.version; time = piece.time; rows = rows_in held run piece }
+written_fragment moof_bytes run piece = record { track = run.track; entry = run.entry; version = run.version; time = piece.time; rows = rows_in moof_bytes run piece }
 
 -- the moof of a piece
 abbrev pub written_moof : Piece → Run → List ℕ → ℕ → List ℕ
-written_moof piece run held sequence_number = moof_box (written_fragment held run piece) sequence_number
+written_moof piece run moof_bytes sequence_number = moof_box (written_fragment moof_bytes run piece) sequence_number

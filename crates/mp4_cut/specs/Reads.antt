@@ -10,7 +10,7 @@ use Rattle.mp4_init.specs.declared.table.Track.{Track}
 use Rattle.mp4_frag.specs.declared.run.Run.{Run}
 use Rattle.mp4_frag.specs.declared.rows.Row.{Row}
 use Rattle.mp4_frag.specs.Rows.{durations, rows_of, sizes}
-use Rattle.mp4_frag.specs.Rules.{most_samples, track_with}
+use Rattle.mp4_frag.specs.Rules.{most_in_moof, track_with}
 use Rattle.mp4_frag.specs.Runs.{MoofBytes, TrackFragment, runs_of}
 use Rattle.mp4_frag.specs.Moofs.{IsRead, moof_runs, moof_samples, moof_trafs}
 use Rattle.mp4_frag.specs.RunLists.{taken_runs}
@@ -35,16 +35,16 @@ pub record FitsRow (version : ℕ) (row : Row) : Type 0 where
   pub flags : row.flags < 2 ^ 32
   pub offset : FitsOffset version row.offset
 
--- what a fragment tells fits its fields, and it ends within 64 bits
+-- its values fit their fields, and it ends within 64 bits
 pub record FitsFields (f : WrittenFragment) : Type 0 where
   pub track : f.track < 2 ^ 32
   pub entry : f.entry < 2 ^ 32
   pub version : f.version ≤ 1
   pub end : f.time + durations f.rows < 2 ^ 64
-  pub count : length f.rows ≤ most_samples
+  pub count : length f.rows ≤ most_in_moof
   pub rows : AllByRecursion (FitsRow f.version) f.rows
 
--- it can be read behind tracks that have its track with its sample entry
+-- it can be read after tracks that have its track with its sample entry
 pub record CanBeRead (tracks : List Track) (f : WrittenFragment) : Type 0 where
   pub fits : FitsFields f
   pub track : Track
@@ -61,7 +61,7 @@ pub record FitsTrack (t : Track) : Type 0 where
 
 -- what holds of a run of a moof without a fault: its track_ID, version and default size fit their fields.
 -- The tracks have its track with its sample entry, and its rows fit their fields
-pub record IsSoundRun (tracks : List Track) (held : List ℕ) (run : Run) : Type 0 where
+pub record IsSoundRun (tracks : List Track) (moof_bytes : List ℕ) (run : Run) : Type 0 where
   pub track : run.track < 2 ^ 32
   pub version : run.version ≤ 1
   pub of : Track
@@ -70,7 +70,7 @@ pub record IsSoundRun (tracks : List Track) (held : List ℕ) (run : Run) : Type
   pub high : run.entry ≤ of.entries
   pub most : of.entries < 2 ^ 32
   pub size : run.size < 2 ^ 32
-  pub rows : AllByRecursion (FitsRow run.version) (rows_of run held)
+  pub rows : AllByRecursion (FitsRow run.version) (rows_of run moof_bytes)
 
 -- ---- what is read
 
@@ -78,24 +78,24 @@ pub record IsSoundRun (tracks : List Track) (held : List ℕ) (run : Run) : Type
 abbrev pub held_moof : WrittenFragment → ℕ → ℕ → MoofBytes
 held_moof f sequence_number offset = record { bytes = moof_box f sequence_number; offset = offset }
 
--- a run tells what a fragment tells, whose moof is at an offset in the stream: its samples stand at data_offset
-pub record Tells (f : WrittenFragment) (held : MoofBytes) (run : Run) : Type 0 where
+-- a run has the values of a fragment whose moof is at an offset in the stream: its samples lie at data_offset
+pub record Describes (f : WrittenFragment) (moof_bytes : MoofBytes) (run : Run) : Type 0 where
   pub track : run.track ≡ f.track
   pub entry : run.entry ≡ f.entry
   pub version : run.version ≡ f.version
   pub count : run.count ≡ length f.rows
   pub time : run.time ≡ f.time
   pub end : run.end ≡ f.time + durations f.rows
-  pub place : run.place ≡ pos (held.offset + data_offset f.rows)
+  pub place : run.place ≡ pos (moof_bytes.offset + data_offset f.rows)
   pub bytes : run.bytes ≡ sizes f.rows
-  pub rows : rows_of run held.bytes ≡ f.rows
+  pub rows : rows_of run moof_bytes.bytes ≡ f.rows
 
--- the payload of the mdat behind its moof
+-- the payload of the mdat after its moof
 abbrev pub media_of : WrittenFragment → MoofBytes → Payload
 media_of f h = record { start = h.offset + data_offset f.rows; end = Some (h.offset + data_offset f.rows + sizes f.rows) }
 
--- a moof without a fault is read, with one traf of one run, which tells what the fragment tells, and stands in the
--- mdat behind the moof. Behind the moof its track ends where the fragment ends
+-- a moof without a fault is read, with one traf of one run, which has the values of the fragment, and lies in the
+-- mdat after the moof. After the moof its track ends where the fragment ends
 pub record IsReadAs (tracks : List Track) (f : WrittenFragment) (h : MoofBytes) : Type 0 where
   pub read : IsRead h tracks
   pub traf : TrackFragment
@@ -104,7 +104,7 @@ pub record IsReadAs (tracks : List Track) (f : WrittenFragment) (h : MoofBytes) 
   pub runs : runs_of traf ≡ run ∷ []
   pub all : moof_runs h tracks ≡ run ∷ []
   pub taken : taken_runs h tracks ≡ run ∷ []
-  pub tells : Tells f h run
+  pub describes : Describes f h run
   pub samples : moof_samples h ≡ length f.rows
   pub placed : place_fault (media_of f h) (run ∷ []) ≡ None
   pub settled : settled tracks (moof_trafs h tracks) ≡ with_end f.track (f.time + durations f.rows) tracks

@@ -8,7 +8,7 @@ use byteorder::{BigEndian, ByteOrder};
 use mp4_box::FourCc;
 use std::marker::Model;
 
-/// Fields, one behind the other: room for those of a moof before its samples.
+/// Fields, one after the other: room for those of a moof before its samples.
 #[derive(Drop)]
 pub(crate) struct Fields {
     bytes: ArrayVec<u8, 92>,
@@ -50,7 +50,7 @@ impl Fields {
         }
     }
 
-    /// Puts bytes behind the fields.
+    /// Puts bytes after the fields.
     fn put(&mut self, bytes: &[u8])
         requires { length self.old + length bytes.now ≤ 92 }
         ensures { self.new ≡ self.old ++ bytes.now }

@@ -8,7 +8,7 @@ ghost use Rattle.mp4_box.specs.Paths.{of_kind};
 ghost use Rattle.mp4_box.specs.Trees.{children};
 ghost use Rattle.mp4_init.specs.declared.table.Track.{Track};
 ghost use Rattle.mp4_frag.specs.declared.run.Run.{Run};
-ghost use Rattle.mp4_frag.specs.After.{StandsIn};
+ghost use Rattle.mp4_frag.specs.After.{IsOneOf};
 ghost use Rattle.mp4_frag.specs.Kinds.{mfhd};
 ghost use Rattle.mp4_frag.specs.declared.rows.Row.{Row};
 ghost use Rattle.mp4_frag.specs.Cursors.{first_cursor};
@@ -24,7 +24,7 @@ ghost use Rattle.mp4_pieces.specs.Sizes.{mdat_header_size, moof_size};
 ghost use Rattle.mp4_cut.specs.Indexes.{CanBeIndexed, IsIndexReadAs, index_in};
 ghost use Rattle.mp4_cut.specs.Mdat.{mdat, mdat_header};
 ghost use Rattle.mp4_cut.specs.Moof.{WrittenFragment, written_fragment, moof_box, written_moof};
-ghost use Rattle.mp4_cut.specs.Reads.{CanBeRead, FitsFields, FitsTrack, IsHeaded, IsReadAs, Tells, header_of, held_moof};
+ghost use Rattle.mp4_cut.specs.Reads.{CanBeRead, Describes, FitsFields, FitsTrack, IsHeaded, IsReadAs, header_of, held_moof};
 ghost use Rattle.mp4_cut.specs.Mfhd.{mfhd_payload};
 ghost use Rattle.mp4_cut.specs.Sidx.{sidx, sidx_payload, written_index};
 ghost use Rattle.mp4_cut.specs.Tfdt.{tfdt_payload};
@@ -35,9 +35,9 @@ ghost use Rattle.mp4_cut.specs.IndexGroups.{IsGroupOf};
 /// A moof of n samples has 92 + 16 n bytes, the header of an mdat 8 or 16, and an index of r pieces
 /// 40 + 12 r.
 pub fn sizes()
-    ensures moof { (piece : Piece) (run : Run) (held : List ℕ) (sequence_number : ℕ) →
-        IsPieceOf held run piece →
-        length (written_moof piece run held sequence_number) ≡ moof_size piece.count }
+    ensures moof { (piece : Piece) (run : Run) (moof_bytes : List ℕ) (sequence_number : ℕ) →
+        IsPieceOf moof_bytes run piece →
+        length (written_moof piece run moof_bytes sequence_number) ≡ moof_size piece.count }
     ensures mdat { (bytes : ℕ) → length (mdat_header bytes) ≡ mdat_header_size bytes }
     ensures index { (run : Run) (timescale : ℕ) (pieces : List Piece) →
         length (written_index run timescale pieces) ≡ 40 + 12 * length pieces }
@@ -77,22 +77,22 @@ pub fn moofs_are_read_again()
         IsBytes (moof_box f sequence_number) }
     ensures read { (tracks : List Track) (f : WrittenFragment) (sequence_number offset : ℕ) →
         CanBeRead tracks f → IsReadAs tracks f (held_moof f sequence_number offset) }
-    ensures again { (f : WrittenFragment) (h : MoofBytes) (run : Run) → Tells f h run →
+    ensures again { (f : WrittenFragment) (h : MoofBytes) (run : Run) → Describes f h run →
         written_fragment h.bytes run (piece_at (first_cursor run) f.rows) ≡ f }
 {}
 
-/// So it is with each piece of each run of a moof without a fault, behind the same tracks.
+/// The same holds for each piece of each run of a moof without a fault, after the same tracks.
 pub fn pieces_can_be_read_again()
     ensures { (h : MoofBytes) (tracks : List Track) (run : Run) (piece : Piece) → IsWhole h.bytes →
         IsBytes h.bytes → h.offset + length h.bytes ≤ 2 ^ 62 → AllByRecursion FitsTrack tracks →
-        IsRead h tracks → StandsIn run (moof_runs h tracks) → IsPieceOf h.bytes run piece →
+        IsRead h tracks → IsOneOf run (moof_runs h tracks) → IsPieceOf h.bytes run piece →
         CanBeRead tracks (written_fragment h.bytes run piece) }
 {}
 
 /// Each group of the pieces of a run can be written, where an index has room for them.
 pub fn groups_can_be_written()
-    ensures { (cut : Cut) (held : List ℕ) (run : Run) → FitsIndex (pieces_of cut held run) →
-        AllByRecursion (IsGroupOf cut held run) (groups (pieces_of cut held run)) }
+    ensures { (cut : Cut) (moof_bytes : List ℕ) (run : Run) → FitsIndex (pieces_of cut moof_bytes run) →
+        AllByRecursion (IsGroupOf cut moof_bytes run) (groups (pieces_of cut moof_bytes run)) }
 {}
 
 /// An mdat that is written is one whole box, with its media as its payload.
@@ -106,9 +106,9 @@ pub fn mdats_are_whole_boxes()
 /// written for: of each piece how many bytes its moof and its mdat have, and the sum of the durations
 /// of its samples; the least composition time of the first piece; the track, and the timescale.
 pub fn indexes_are_read_again()
-    ensures { (held : List ℕ) (run : Run) (timescale sequence_number : ℕ) (p : Piece)
+    ensures { (moof_bytes : List ℕ) (run : Run) (timescale sequence_number : ℕ) (p : Piece)
         (ps : List Piece) → run.track < 2 ^ 32 → timescale < 2 ^ 32 →
-        CanBeIndexed held run p ps → IsIndexReadAs held run timescale sequence_number p ps
+        CanBeIndexed moof_bytes run p ps → IsIndexReadAs moof_bytes run timescale sequence_number p ps
         (index_in (drop 8 (written_index run timescale (p ∷ ps)))) }
 {}
 

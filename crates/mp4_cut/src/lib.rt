@@ -7,14 +7,14 @@
 //! - [`laws`]: what the definitions of `specs/` imply. What is written is read again as what it was
 //!   written for.
 //!
-//! The `put` functions go through a block that they are lent, and the `write` functions make one
-//! for the call. How runs are cut is handed on: [`Cut`], [`Piece`], [`Pieces`], [`PlainPiece`] and [`room`].
+//! The `put` functions go through a block that borrows a sink, and the `write` functions make one
+//! for the call. It re-exports how runs are cut: [`Cut`], [`Piece`], [`Pieces`], [`PlainPiece`] and [`room`].
 //!
 //! Each box that is written has a file here and one in `specs/`, with its fields by the standard's
 //! names in their order: mfhd, tfhd, tfdt, trun, moof, mdat, sidx. `specs/Boxes.antt` says how any
 //! box is written, `specs/IndexGroups.antt` where pieces and groups begin, and `specs/Reads.antt` and
-//! `specs/Indexes.antt` what is read again. `specs/Working/Fronts.antt` says how a moof and an index are
-//! worked out. What a call does to a block and a sink is `Puts` and `Writes` of `mp4_machine`.
+//! `specs/Indexes.antt` what is read again. `specs/Implementation/Fronts.antt` says how a moof and an index are
+//! computed. What a call does to a block and a sink is `Puts` and `Writes` of `mp4_machine`.
 #![tactic(auto)]
 
 mod fields;

@@ -2,7 +2,6 @@
 
 ghost use Rattle.std.specs.Prelude.{◌≡◌, ◌+◌, ◌≤◌, ◌<◌, ◌^◌, ◌++◌, length};
 ghost use Rattle.byteorder.specs.Endian.{big_bytes};
-ghost use Rattle.mp4_pieces.specs.Sizes.{mdat_header_size};
 ghost use Rattle.mp4_cut.specs.Mdat.{mdat, mdat_header};
 ghost use Rattle.mp4_machine.specs.Ends.{sent};
 ghost use Rattle.mp4_machine.specs.Puts.{Puts, Writes};
@@ -10,21 +9,10 @@ ghost use Rattle.mp4_machine.specs.Puts.{Puts, Writes};
 use crate::fields::Fields;
 use crate::write_fault::WriteFault;
 use byteorder::{BigEndian, ByteOrder};
-use mp4_box::FourCc;
+use mp4_box::types::MDAT;
 use mp4_ends::{Failed, Sink};
 use mp4_machine::Block;
-
-const MDAT: FourCc = FourCc(*b"mdat");
-
-/// From so many bytes of media on the size of an mdat takes 64 bits.
-const LONG: u64 = (1 << 32) - 8;
-
-/// How many bytes the header of an mdat has before so many bytes of media.
-pub(crate) fn mdat_header_size(bytes: u64) -> u32
-    ensures { result ≡ mdat_header_size bytes }
-{
-    if bytes < LONG { 8 } else { 16 }
-}
+use mp4_pieces::LONG_MEDIA;
 
 /// The header of an mdat before so many bytes of media.
 #[tactic(auto, unfolding(crate::specs::Mdat::mdat_header))]
@@ -33,7 +21,7 @@ fn mdat_header(bytes: u64) -> Fields
     ensures { result ≡ mdat_header bytes }
 {
     let mut header = Fields::new();
-    if bytes < LONG {
+    if bytes < LONG_MEDIA {
         header.put_header(8 + bytes as u32, MDAT);
     } else {
         header.put_header(1, MDAT);
@@ -56,7 +44,7 @@ fn short_header(bytes: u64) -> [u8; 8]
 }
 
 /// Puts the header of an mdat before so many bytes of media, at most 2^62, into a block that is
-/// lent a sink.
+/// borrows a sink.
 ///
 /// # Errors
 ///
@@ -66,7 +54,7 @@ pub fn put_mdat_header<W: Sink>(bytes: u64, block: &mut Block, w: &mut W) -> Res
     ensures { Puts (sent W.contents W.has_failed w.old w.new) block.old block.new (mdat_header bytes)
         result }
 {
-    if bytes < LONG {
+    if bytes < LONG_MEDIA {
         return block.put_array(w, &short_header(bytes));
     }
     let header = mdat_header(bytes);

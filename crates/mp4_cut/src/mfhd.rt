@@ -6,9 +6,7 @@ ghost use Rattle.mp4_cut.specs.Boxes.{box_bytes};
 ghost use Rattle.mp4_cut.specs.Mfhd.{mfhd_payload};
 
 use crate::fields::Fields;
-use mp4_box::FourCc;
-
-const MFHD: FourCc = FourCc(*b"mfhd");
+use mp4_box::types::MFHD;
 
 /// Puts an mfhd with this sequence_number.
 pub(crate) fn put_mfhd(head: &mut Fields, sequence_number: u32)

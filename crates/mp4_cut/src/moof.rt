@@ -4,48 +4,44 @@ ghost use Rattle.std.specs.Prelude.{◌≡◌, ◌+◌, ◌≤◌, ◌++◌, len
 ghost use Rattle.mp4_pieces.specs.Pieces.{IsPieceOf};
 ghost use Rattle.mp4_pieces.specs.PlainPieces.{piece_of};
 ghost use Rattle.mp4_frag.specs.Ranges.{IsRunOf};
-ghost use Rattle.mp4_cut.specs.Working.Fronts.{moof_front};
+ghost use Rattle.mp4_cut.specs.Implementation.Fronts.{moof_front};
 ghost use Rattle.mp4_cut.specs.Moof.{written_moof};
 ghost use Rattle.mp4_machine.specs.Ends.{sent};
 ghost use Rattle.mp4_machine.specs.Puts.{Puts, Writes};
+ghost use Rattle.mp4_pieces.specs.Allowed.{most_in_piece};
 
 use crate::fields::Fields;
-use crate::mdat::mdat_header_size;
 use crate::mfhd::put_mfhd;
 use crate::tfdt::put_tfdt;
 use crate::tfhd::put_tfhd;
 use crate::trun::{put_samples, put_trun_front, sample_bytes};
 use crate::write_fault::WriteFault;
-use mp4_box::FourCc;
+use mp4_box::types::{MOOF, TRAF};
 use mp4_ends::{Failed, Sink};
 use mp4_frag::Run;
 use mp4_machine::Block;
-use mp4_pieces::{Piece, PlainPiece};
-
-const MOOF: FourCc = FourCc(*b"moof");
-
-const TRAF: FourCc = FourCc(*b"traf");
+use mp4_pieces::{Piece, PlainPiece, mdat_header_size, moof_size};
 
 /// The moof of a piece, as far as its samples.
-#[tactic(auto, unfolding(crate::specs::Working::Fronts::moof_front))]
+#[tactic(auto, unfolding(crate::specs::Implementation::Fronts::moof_front))]
 fn moof_front(piece: &PlainPiece, run: &Run, sequence_number: u32) -> Fields
-    requires { piece.now.count ≤ 1000000 }
+    requires { piece.now.count ≤ most_in_piece }
     ensures bytes { result ≡ moof_front run.now piece.now sequence_number }
     ensures len { length result ≡ 92 }
 {
-    let size = 92 + 16 * piece.count;
+    let size = moof_size(piece.count) as u32;
     let mut front = Fields::new();
     front.put_header(size, MOOF);
     put_mfhd(&mut front, sequence_number);
     front.put_header(68 + 16 * piece.count, TRAF);
     put_tfhd(&mut front, run.track, run.entry);
     put_tfdt(&mut front, piece.time);
-    let data_offset = size + mdat_header_size(piece.bytes);
+    let data_offset = size + mdat_header_size(piece.bytes) as u32;
     put_trun_front(&mut front, run.version, piece.count, data_offset);
     front
 }
 
-/// Puts the moof of a piece of a run into a block that is lent a sink. `held` are the bytes of the
+/// Puts the moof of a piece of a run into a block that borrows a sink. `moof_bytes` are the bytes of the
 /// run's moof.
 ///
 /// # Errors
@@ -54,17 +50,24 @@ fn moof_front(piece: &PlainPiece, run: &Run, sequence_number: u32) -> Fields
 pub fn put_moof<W: Sink>(
     piece: &Piece,
     run: &Run,
-    held: &[u8],
+    moof_bytes: &[u8],
     sequence_number: u32,
     block: &mut Block,
     w: &mut W,
 ) -> Result<(), Failed>
-    requires run { IsRunOf held.now run.now }
-    requires piece { IsPieceOf held.now run.now piece.now }
+    requires run { IsRunOf moof_bytes.now run.now }
+    requires piece { IsPieceOf moof_bytes.now run.now piece.now }
     ensures { Puts (sent W.contents W.has_failed w.old w.new) block.old block.new
-        (written_moof piece.now run.now held.now sequence_number) result }
+        (written_moof piece.now run.now moof_bytes.now sequence_number) result }
 {
-    put_plain_moof(&PlainPiece::of(piece), run, held, sequence_number, block, w)
+    put_plain_moof(
+        &PlainPiece::of(piece),
+        run,
+        moof_bytes,
+        sequence_number,
+        block,
+        w,
+    )
 }
 
 /// As [`put_moof`], of a piece without its least composition time, which no moof has.
@@ -75,15 +78,15 @@ pub fn put_moof<W: Sink>(
 pub fn put_plain_moof<W: Sink>(
     piece: &PlainPiece,
     run: &Run,
-    held: &[u8],
+    moof_bytes: &[u8],
     sequence_number: u32,
     block: &mut Block,
     w: &mut W,
 ) -> Result<(), Failed>
-    requires run { IsRunOf held.now run.now }
-    requires piece { IsPieceOf held.now run.now (piece_of held.now run.now piece.now) }
+    requires run { IsRunOf moof_bytes.now run.now }
+    requires piece { IsPieceOf moof_bytes.now run.now (piece_of moof_bytes.now run.now piece.now) }
     ensures { Puts (sent W.contents W.has_failed w.old w.new) block.old block.new
-        (written_moof (piece_of held.now run.now piece.now) run.now held.now sequence_number)
+        (written_moof (piece_of moof_bytes.now run.now piece.now) run.now moof_bytes.now sequence_number)
         result }
 {
     let front = moof_front(piece, run, sequence_number).whole();
@@ -92,17 +95,17 @@ pub fn put_plain_moof<W: Sink>(
         Err(Failed) => return Err(Failed),
     }
     if piece.count == 1 {
-        return block.put_array(w, &sample_bytes(&run.row(held, piece.first)));
+        return block.put_array(w, &sample_bytes(&run.row(moof_bytes, piece.first)));
     }
     // The groups in the moof are those that are to be written, if they have all fields.
-    if let Some(groups) = run.whole_groups(held, piece.first, piece.count) {
+    if let Some(groups) = run.whole_groups(moof_bytes, piece.first, piece.count) {
         return block.put_groups(w, groups);
     }
-    let mut rows = run.rows_from(held, piece.cursor());
+    let mut rows = run.rows_from(moof_bytes, piece.cursor());
     put_samples(block, w, &mut rows, piece.count)
 }
 
-/// Writes the moof of a piece of a run, 92 bytes and 16 for each sample. `held` are the bytes of
+/// Writes the moof of a piece of a run, 92 bytes and 16 for each sample. `moof_bytes` are the bytes of
 /// the run's moof.
 ///
 /// # Errors
@@ -111,17 +114,17 @@ pub fn put_plain_moof<W: Sink>(
 pub fn write_moof<W: Sink>(
     piece: &Piece,
     run: &Run,
-    held: &[u8],
+    moof_bytes: &[u8],
     sequence_number: u32,
     w: &mut W,
 ) -> Result<(), WriteFault>
-    requires run { IsRunOf held.now run.now }
-    requires piece { IsPieceOf held.now run.now piece.now }
+    requires run { IsRunOf moof_bytes.now run.now }
+    requires piece { IsPieceOf moof_bytes.now run.now piece.now }
     ensures { Writes (sent W.contents W.has_failed w.old w.new)
-        (written_moof piece.now run.now held.now sequence_number) result }
+        (written_moof piece.now run.now moof_bytes.now sequence_number) result }
 {
     let mut block = Block::new();
-    match put_moof(piece, run, held, sequence_number, &mut block, w) {
+    match put_moof(piece, run, moof_bytes, sequence_number, &mut block, w) {
         Ok(()) => {}
         Err(Failed) => return Err(WriteFault),
     }

@@ -6,24 +6,21 @@ ghost use Rattle.mp4_pieces.specs.Groups.{group_length};
 ghost use Rattle.mp4_frag.specs.Ranges.{IsRunOf};
 ghost use Rattle.mp4_pieces.specs.Fits.{FitsReference, FitsTime};
 ghost use Rattle.mp4_pieces.specs.Sizes.{fragment_size};
-ghost use Rattle.mp4_cut.specs.Working.Fronts.{index_front};
+ghost use Rattle.mp4_cut.specs.Implementation.Fronts.{index_front};
 ghost use Rattle.mp4_machine.specs.Ends.{sent};
 ghost use Rattle.mp4_machine.specs.Puts.{Puts, Writes};
 ghost use Rattle.mp4_cut.specs.Sidx.{natural, reference_bytes, written_index};
 ghost use Rattle.mp4_cut.specs.IndexGroups.{IsGroup, group_from};
 
 use crate::fields::Fields;
-use crate::mdat::mdat_header_size;
 use crate::start::start_of;
 use crate::write_fault::WriteFault;
 use byteorder::{BigEndian, ByteOrder};
-use mp4_box::FourCc;
+use mp4_box::types::SIDX;
 use mp4_ends::{Failed, Sink};
 use mp4_frag::Run;
 use mp4_machine::Block;
-use mp4_pieces::{Cut, Piece, Pieces};
-
-const SIDX: FourCc = FourCc(*b"sidx");
+use mp4_pieces::{Cut, Piece, Pieces, fragment_size};
 
 /// A number that isn't below 0.
 fn natural(z: i128) -> u64
@@ -34,7 +31,7 @@ fn natural(z: i128) -> u64
 }
 
 /// The index of so many pieces, of which this is the first, as far as its references.
-#[tactic(auto, unfolding(crate::specs::Working::Fronts::index_front))]
+#[tactic(auto, unfolding(crate::specs::Implementation::Fronts::index_front))]
 fn index_front(run: &Run, timescale: u32, first: &Piece, count: u16) -> Fields
     requires { FitsTime first.now.least }
     ensures { result ≡ index_front run.now timescale first.now count }
@@ -51,21 +48,13 @@ fn index_front(run: &Run, timescale: u32, first: &Piece, count: u16) -> Fields
     front
 }
 
-/// How many bytes the moof and the mdat of a piece have.
-fn fragment_size(piece: &Piece) -> u32
-    requires { fragment_size piece.now < 2 ^ 31 }
-    ensures { result ≡ fragment_size piece.now }
-{
-    92 + 16 * piece.count + (mdat_header_size(piece.bytes) + piece.bytes as u32)
-}
-
 /// A reference to a piece.
 fn reference_bytes(piece: &Piece) -> [u8; 12]
     requires { FitsReference piece.now }
     ensures { result ≡ reference_bytes piece.now }
 {
     let mut bytes = [0; 12];
-    BigEndian::write_u32(&mut bytes[..4], fragment_size(piece));
+    BigEndian::write_u32(&mut bytes[..4], fragment_size(piece) as u32);
     BigEndian::write_u32(&mut bytes[4..8], piece.duration as u32);
     bytes
 }
@@ -109,8 +98,8 @@ pub fn group_len(pieces: Pieces<'_>) -> u16
     count
 }
 
-/// Puts the index of a group of `count` pieces of a run, as it is cut, into a block that is lent a
-/// sink. `first` is the first of them, `held` are the bytes of the run's moof, and `timescale` is
+/// Puts the index of a group of `count` pieces of a run, as it is cut, into a block that borrows a
+/// sink. `first` is the first of them, `moof_bytes` are the bytes of the run's moof, and `timescale` is
 /// that of its track.
 ///
 /// # Errors
@@ -118,7 +107,7 @@ pub fn group_len(pieces: Pieces<'_>) -> u16
 /// `Failed` where the sink failed.
 pub fn put_index<W: Sink>(
     run: &Run,
-    held: &[u8],
+    moof_bytes: &[u8],
     first: &Piece,
     count: u16,
     timescale: u32,
@@ -126,22 +115,22 @@ pub fn put_index<W: Sink>(
     block: &mut Block,
     w: &mut W,
 ) -> Result<(), Failed>
-    requires run { IsRunOf held.now run.now }
-    requires group { IsGroup cut.now held.now run.now first.now count }
+    requires run { IsRunOf moof_bytes.now run.now }
+    requires group { IsGroup cut.now moof_bytes.now run.now first.now count }
     ensures { Puts (sent W.contents W.has_failed w.old w.new) block.old block.new (written_index run.now
-        timescale (group_from cut.now held.now run.now first.now count)) result }
+        timescale (group_from cut.now moof_bytes.now run.now first.now count)) result }
 {
     let front = index_front(run, timescale, first, count);
     match block.put(w, front.as_slice()) {
         Ok(()) => {}
         Err(Failed) => return Err(Failed),
     }
-    let mut pieces = Pieces::at(run, held, cut, start_of(first));
+    let mut pieces = Pieces::at(run, moof_bytes, cut, start_of(first));
     put_references(block, w, &mut pieces, count)
 }
 
 /// Writes the index of a group of `count` pieces of a run, as it is cut: 40 bytes and 12 for each
-/// piece. `first` is the first of them, `held` are the bytes of the run's moof, and `timescale` is
+/// piece. `first` is the first of them, `moof_bytes` are the bytes of the run's moof, and `timescale` is
 /// that of its track.
 ///
 /// # Errors
@@ -149,20 +138,20 @@ pub fn put_index<W: Sink>(
 /// `WriteFault` where the sink failed; it may have taken some of the bytes, from the first on.
 pub fn write_index<W: Sink>(
     run: &Run,
-    held: &[u8],
+    moof_bytes: &[u8],
     first: &Piece,
     count: u16,
     timescale: u32,
     cut: &Cut,
     w: &mut W,
 ) -> Result<(), WriteFault>
-    requires run { IsRunOf held.now run.now }
-    requires group { IsGroup cut.now held.now run.now first.now count }
+    requires run { IsRunOf moof_bytes.now run.now }
+    requires group { IsGroup cut.now moof_bytes.now run.now first.now count }
     ensures { Writes (sent W.contents W.has_failed w.old w.new) (written_index run.now timescale
-        (group_from cut.now held.now run.now first.now count)) result }
+        (group_from cut.now moof_bytes.now run.now first.now count)) result }
 {
     let mut block = Block::new();
-    match put_index(run, held, first, count, timescale, cut, &mut block, w) {
+    match put_index(run, moof_bytes, first, count, timescale, cut, &mut block, w) {
         Ok(()) => {}
         Err(Failed) => return Err(WriteFault),
     }

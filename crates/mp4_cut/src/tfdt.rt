@@ -6,9 +6,7 @@ ghost use Rattle.mp4_cut.specs.Boxes.{box_bytes};
 ghost use Rattle.mp4_cut.specs.Tfdt.{tfdt_payload};
 
 use crate::fields::Fields;
-use mp4_box::FourCc;
-
-const TFDT: FourCc = FourCc(*b"tfdt");
+use mp4_box::types::TFDT;
 
 /// Puts a tfdt of version 1 with this base_media_decode_time.
 pub(crate) fn put_tfdt(head: &mut Fields, base_media_decode_time: u64)

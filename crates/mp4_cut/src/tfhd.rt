@@ -6,9 +6,7 @@ ghost use Rattle.mp4_cut.specs.Boxes.{box_bytes};
 ghost use Rattle.mp4_cut.specs.Tfhd.{tfhd_payload};
 
 use crate::fields::Fields;
-use mp4_box::FourCc;
-
-const TFHD: FourCc = FourCc(*b"tfhd");
+use mp4_box::types::TFHD;
 
 /// default-base-is-moof, and sample_description_index is present.
 const FLAGS: u32 = 0x02_0002;

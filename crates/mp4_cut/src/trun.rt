@@ -2,19 +2,18 @@
 
 ghost use Rattle.std.specs.Prelude.{◌≡◌, ◌+◌, ◌≤◌, ◌++◌, length, take};
 ghost use Rattle.std.specs.List.{flat_map};
-ghost use Rattle.mp4_cut.specs.Working.Fronts.{trun_front};
+ghost use Rattle.mp4_cut.specs.Implementation.Fronts.{trun_front};
 ghost use Rattle.mp4_machine.specs.Ends.{sent};
 ghost use Rattle.mp4_machine.specs.Puts.{Puts};
 ghost use Rattle.mp4_cut.specs.Trun.{offset_bits, sample_bytes};
+ghost use Rattle.mp4_pieces.specs.Allowed.{most_in_piece};
 
 use crate::fields::Fields;
 use byteorder::{BigEndian, ByteOrder};
-use mp4_box::FourCc;
+use mp4_box::types::TRUN;
 use mp4_ends::{Failed, Sink};
 use mp4_frag::{Row, Rows};
 use mp4_machine::Block;
-
-const TRUN: FourCc = FourCc(*b"trun");
 
 /// data_offset is present, and duration, size, flags and composition time offset of each sample.
 const FLAGS: u32 = 0x00_0f01;
@@ -22,7 +21,7 @@ const FLAGS: u32 = 0x00_0f01;
 /// Puts a trun of so many samples, as far as its samples.
 pub(crate) fn put_trun_front(head: &mut Fields, version: u8, samples: u32, data_offset: u32)
     requires room { length head.old + 20 ≤ 92 }
-    requires samples { samples ≤ 1000000 }
+    requires samples { samples ≤ most_in_piece }
     ensures bytes { head.new ≡ head.old ++ trun_front version samples data_offset }
     ensures len { length head.new ≡ length head.old + 20 }
 {

@@ -1,4 +1,4 @@
--- How the ends of this crate stand.
+-- State of the sources and sinks of this crate.
 use Rattle.std.specs.Prelude.{ℕ, List, [], Bool, true, false, Option, Some}
 use Rattle.mp4_ends.specs.declared.adapters.State.{State}
 use Rattle.mp4_ends.specs.declared.adapters.State.TheVariants.{Open, Ended, Broken}
@@ -13,7 +13,7 @@ state_ended Open = false
 state_ended Ended = true
 state_ended Broken = false
 
--- the bytes that reads will still give: none after the end, else those that the reader within tells
+-- the bytes that reads will still give: none after the end, else those of the reader within
 abbrev pub left_in : State → Option (List ℕ) → Option (List ℕ)
 left_in Open known = known
 left_in Ended known = Some []
@@ -25,13 +25,13 @@ last_in Open n = n
 last_in Ended n = 0
 last_in Broken n = 0
 
--- a reader of std's, how it stands, and how many bytes the last read gave that gave any
+-- a reader of std's, its state, and how many bytes the last read gave that gave any
 pub record AdaptedReader (A : Type 0) : Type 0 where
   pub inner : A
   pub state : State
   pub last : ℕ
 
--- a writer of std's, and how it stands
+-- a writer of std's, and its state
 pub record AdaptedWriter (A : Type 0) : Type 0 where
   pub inner : A
   pub state : State

@@ -6,7 +6,7 @@ mod into_write;
 pub use from_read::FromRead;
 pub use into_write::IntoWrite;
 
-/// How an end stands.
+/// State of a source or a sink.
 #[derive(Clone, Copy, Debug, PartialEq, Eq)]
 pub enum State {
     /// It goes on.

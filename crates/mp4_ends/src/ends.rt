@@ -1,4 +1,4 @@
-//! Ends in memory, for tests: they give and take few bytes at a time, and fail where they are told to.
+//! Sources and sinks in memory, for tests: they give and take few bytes at a time, and fail on demand.
 
 mod from_slice;
 mod to_vec;

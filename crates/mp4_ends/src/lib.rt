@@ -1,6 +1,6 @@
 //! The two ends of a stream: what its bytes are read from, and what bytes are written to. They know nothing of boxes.
 //!
-//! - [`streams`]: [`Source`] and [`Sink`], with what each tells of its failures, [`write_all`] and [`write_front`];
+//! - [`streams`]: [`Source`] and [`Sink`], with their failures, [`write_all`] and [`write_front`];
 //! - [`adapters`]: std's readers and writers as such ends;
 //! - [`ends`]: ends in memory, for tests.
 #![tactic(auto)]

@@ -5,7 +5,7 @@ ghost use Rattle.std.specs.Io.{ReadsAtMost};
 ghost use Rattle.std.specs.Io.KnownBytes.{ReadConsumes, WriteAppends, Keeps, Appends};
 ghost use Rattle.mp4_ends.specs.Streams.{AppendsPrefix};
 
-/// An end has failed: it answers so from then on.
+/// A source or a sink has failed: it returns this from then on.
 #[derive(Clone, Copy, Debug, PartialEq, Eq)]
 pub struct Failed;
 
@@ -20,21 +20,21 @@ pub trait Source {
     // A read has answered 0.
     ghost has_ended: { Self → Bool };
 
-    // How many bytes the last read gave: 0 where none was made yet, behind the end, and behind a failure.
+    // How many bytes the last read gave: 0 where none was made yet, after the end, and after a failure.
     ghost last_read: { Self → ℕ };
 
     /// Reads some bytes into the front of `into`, at least one: how many. 0 is the end of the stream, and
-    /// from then on each read answers 0.
+    /// from then on each read returns 0.
     ///
     /// # Errors
     ///
-    /// `Failed`, with no byte read; from then on each read answers so.
+    /// `Failed`, with no byte read; from then on each read returns this.
     fn read(&mut self, into: &mut [u8]) -> Result<usize, Failed>
         requires { 0 < length into.old }
         ensures bound { ReadsAtMost result into.new }
         ensures bytes { ReadConsumes (remaining self.old) (remaining self.new) result into.new }
 
-        // What is to be told of failures and of the end is told by the answer.
+        // Failures and the end are reported by the result.
         ensures failed_ok { OnOk result ((has_failed self.old ≡ false) ×
             (has_failed self.new ≡ false)) }
         ensures failed_err { OnErr result (has_failed self.new ≡ true) }
@@ -68,7 +68,7 @@ pub trait Sink {
     ///
     /// # Errors
     ///
-    /// `Failed`, with no byte taken; from then on each call answers so.
+    /// `Failed`, with no byte taken; from then on each call returns this.
     fn write(&mut self, from: &[u8]) -> Result<usize, Failed>
         requires { 0 < length from.now }
         ensures bound { IfOk result (λ n. (0 < n) × (n ≤ length from.now)) }
@@ -81,7 +81,7 @@ pub trait Sink {
     ///
     /// # Errors
     ///
-    /// `Failed`; from then on each call answers so.
+    /// `Failed`; from then on each call returns this.
     fn flush(&mut self) -> Result<(), Failed>
         ensures bytes { Keeps (contents self.old) (contents self.new) }
         ensures failed_ok { OnOk result ((has_failed self.old ≡ false) ×

@@ -24,7 +24,7 @@ bitflag_items! {
         const DEFAULT_SAMPLE_SIZE = 0x000010;
         /// There is a default for the flags of a sample.
         const DEFAULT_SAMPLE_FLAGS = 0x000020;
-        /// No samples stand for the time that the fragment takes.
+        /// There are no samples for the time of the fragment.
         const DURATION_IS_EMPTY = 0x010000;
         /// With no base data offset, the data offsets of the runs count from the moof's first byte.
         const DEFAULT_BASE_IS_MOOF = 0x020000;

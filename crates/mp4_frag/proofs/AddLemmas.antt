@@ -1,4 +1,4 @@
--- What the children of trafs add to what is told of a moof.
+-- What the children of trafs add to the findings on a moof.
 use Rattle.std.proofs.Common.{◌≡◌, ◌∙◌, ◌+◌, ◌<◌, ◌≤◌, ℕ, Bool, true, false, List, [], ◌∷◌, ◌++◌, length, refl, sym, ap, subst, arith, append_assoc}
 use Rattle.std.specs.Prelude.{◌&&◌}
 use Rattle.std.specs.List.{flat_map, list_all}
@@ -10,16 +10,16 @@ use Rattle.std.proofs.lemmas.List.Sums.{sum_by-append, sum_by-cons}
 use Rattle.mp4_box.specs.declared.headers.FourCc.{FourCc}
 use Rattle.mp4_box.specs.Paths.{at_path, of_kind}
 use Rattle.mp4_box.specs.Trees.{Box, children}
-use Rattle.mp4_frag.specs.declared.at_once.Sound.{Sound}
-use Rattle.mp4_frag.specs.Working.AtOnce.{Adds, IsCount, in_trafs, is_early, is_kind, most_32, most_64, times_early}
+use Rattle.mp4_frag.specs.declared.at_once.MoofCounts.{MoofCounts}
+use Rattle.mp4_frag.specs.Implementation.AtOnce.{Adds, IsCount, in_trafs, is_early, is_kind, most_32, most_64, times_early}
 use Rattle.mp4_frag.specs.Kinds.{tfdt, to_trun, traf, trun}
-use Rattle.mp4_frag.specs.Rules.{most_samples, samples_in, samples_of, too_many}
+use Rattle.mp4_frag.specs.Rules.{most_in_moof, samples_in, samples_of, too_many}
 use Rattle.mp4_frag.specs.Trun.{sample_count}
 use Rattle.mp4_frag.proofs.MoofLemmas.{path_kind}
 
 -- ---- counts
 
--- one count behind another
+-- one count after another
 count_past : (most old m mid n new : ℕ) → IsCount most old m mid → IsCount most mid n new → IsCount most old (m + n) new
 count_past most old m mid n new p q small =
     let e = q small in
@@ -58,11 +58,11 @@ and_true : (a : Bool) → a ≡ (a && true)
 and_true true = refl
 and_true false = refl
 
-pub adds_nothing : (s : Sound) → Adds [] s s
+pub adds_nothing : (s : MoofCounts) → Adds [] s s
 adds_nothing s = record { samples = λ small. omega arith; truns = λ small. omega arith; early = and_true s.is_early }
 
 -- these children, and then others
-pub adds_append : (xs ys : List Box) (r s t : Sound) → Adds xs r s → Adds ys s t → Adds (xs ++ ys) r t
+pub adds_append : (xs ys : List Box) (r s t : MoofCounts) → Adds xs r s → Adds ys s t → Adds (xs ++ ys) r t
 adds_append xs ys r s t p q = record {
   samples = λ small. count_past most_32 r.samples _ s.samples _ t.samples p.samples q.samples small ∙ ap (λ (n : ℕ). r.samples + n) (sym (samples_append xs ys));
   truns = λ small. count_past most_64 r.truns _ s.truns _ t.truns p.truns q.truns small ∙ ap (λ (n : ℕ). r.truns + n) (sym (count_append trun xs ys));
@@ -83,7 +83,7 @@ trafs_append (x ∷ xs) ys = by (is_kind traf x) refl (trafs_append xs ys)
     by true is e = rw is (ap (λ (bs : List Box). children x ++ bs) e ∙ sym (append_assoc (children x) (in_trafs xs) (in_trafs ys)))
     by false is e = rw is e
 
-pub moof_adds : (b : Box) (bs : List Box) (r s t : Sound) → Adds (in_trafs (b ∷ [])) r s → Adds (in_trafs bs) s t → Adds (in_trafs (b ∷ bs)) r t
+pub moof_adds : (b : Box) (bs : List Box) (r s t : MoofCounts) → Adds (in_trafs (b ∷ [])) r s → Adds (in_trafs bs) s t → Adds (in_trafs (b ∷ bs)) r t
 moof_adds b bs r s t p q = subst (λ (cs : List Box). Adds cs r t) (sym (trafs_append (b ∷ []) bs)) (adds_append (in_trafs (b ∷ [])) (in_trafs bs) r s t p q)
 
 truns_are : (ts : List Box) → of_kind trun (flat_map children ts) ≡ flat_map (at_path (trun ∷ [])) ts
@@ -107,25 +107,25 @@ times_are (t ∷ ts) e =
     let parts = both_true (times_early t) (list_all is_early (of_kind tfdt (flat_map children ts))) (sym (early_append (children t) (flat_map children ts)) ∙ e) in
     rw parts.0 (times_are ts parts.1)
 
--- ---- what is told, from nothing on
+-- ---- the findings, from none on
 
-abbrev pub nothing_told : Sound
-nothing_told = record { samples = 0; truns = 0; is_early = true }
+abbrev pub nothing_found : MoofCounts
+nothing_found = record { samples = 0; truns = 0; is_early = true }
 
-pub told_samples : (m : Box) (s : Sound) → Adds (in_trafs (children m)) nothing_told s → s.samples < most_32 → s.samples ≡ samples_of m
-told_samples m s p small = let e : s.samples ≡ 0 + samples_in (of_kind trun (in_trafs (children m))) = p.samples small in omega (arith, e, ap samples_in (moof_truns m))
+pub samples_found : (m : Box) (s : MoofCounts) → Adds (in_trafs (children m)) nothing_found s → s.samples < most_32 → s.samples ≡ samples_of m
+samples_found m s p small = let e : s.samples ≡ 0 + samples_in (of_kind trun (in_trafs (children m))) = p.samples small in omega (arith, e, ap samples_in (moof_truns m))
 
-pub told_truns : (m : Box) (s : Sound) → Adds (in_trafs (children m)) nothing_told s → s.truns < most_64 → s.truns ≡ length (at_path to_trun m)
-told_truns m s p small = let e : s.truns ≡ 0 + length (of_kind trun (in_trafs (children m))) = p.truns small in omega (arith, e, ap length (moof_truns m))
+pub truns_found : (m : Box) (s : MoofCounts) → Adds (in_trafs (children m)) nothing_found s → s.truns < most_64 → s.truns ≡ length (at_path to_trun m)
+truns_found m s p small = let e : s.truns ≡ 0 + length (of_kind trun (in_trafs (children m))) = p.truns small in omega (arith, e, ap length (moof_truns m))
 
-pub told_early : (m : Box) (s : Sound) → Adds (in_trafs (children m)) nothing_told s → s.is_early ≡ true → list_all times_early (of_kind traf (children m)) ≡ true
-told_early m s p e = times_are (of_kind traf (children m)) (sym p.early ∙ e)
+pub early_found : (m : Box) (s : MoofCounts) → Adds (in_trafs (children m)) nothing_found s → s.is_early ≡ true → list_all times_early (of_kind traf (children m)) ≡ true
+early_found m s p e = times_are (of_kind traf (children m)) (sym p.early ∙ e)
 
 -- ---- few samples
 
-pub few_enough : (n : ℕ) (bs : List Box) → n + samples_in bs ≤ most_samples → too_many n bs ≡ []
+pub few_enough : (n : ℕ) (bs : List Box) → n + samples_in bs ≤ most_in_moof → too_many n bs ≡ []
 unfolding too_many
 few_enough n [] few = refl
 few_enough n (b ∷ bs) few =
     let sum = sum_by-cons (λ (b : Box). sample_count b.payload) b bs in
-    rw (le-ltb most_samples (n + sample_count b.payload) (omega (arith, sum, few))) (few_enough (n + sample_count b.payload) bs (omega (arith, sum, few)))
+    rw (le-ltb most_in_moof (n + sample_count b.payload) (omega (arith, sum, few))) (few_enough (n + sample_count b.payload) bs (omega (arith, sum, few)))

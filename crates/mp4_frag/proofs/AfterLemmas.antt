@@ -1,4 +1,4 @@
--- The runs behind a run of a moof.
+-- The runs after a run of a moof.
 use Rattle.std.proofs.Common.{◌≡◌, ◌∙◌, ◌+◌, ◌-◌, ◌^◌, ◌<◌, ◌≤◌, ◌⊎◌, ℕ, ℤ, pos, Bool, true, false, cond, List, [], ◌∷◌, ◌++◌, map, length, take, drop, Option, Some, refl, sym, ap, subst, arith, inl, inr, append_assoc}
 use Rattle.std.specs.Prelude.{slice_range, IfSome}
 use Rattle.std.specs.List.{AllByRecursion, flat_map}
@@ -7,7 +7,7 @@ use Rattle.std.proofs.lemmas.List.{drop-take, drop-drop, length-drop}
 use Rattle.mp4_box.specs.Headers.{IsBytes, IsWhole}
 use Rattle.mp4_box.specs.Paths.{of_kind}
 use Rattle.mp4_box.specs.Trees.{Box, box_at, box_len, boxes, children, first_of, payload_offset}
-use Rattle.mp4_box.proofs.GrammarLemmas.{option_is, stands, whole_found, whole_len}
+use Rattle.mp4_box.proofs.GrammarLemmas.{lies_at, option_is, whole_found, whole_len}
 use Rattle.mp4_box.proofs.HeaderLemmas.{IsBytes-drop}
 use Rattle.mp4_box.proofs.TreeLemmas.{boxes_more, boxes_end}
 use Rattle.mp4_init.specs.declared.table.Track.{Track}
@@ -16,15 +16,15 @@ use Rattle.mp4_frag.specs.declared.traf.TrafHeader.{TrafHeader}
 use Rattle.mp4_frag.specs.Kinds.{traf, trun}
 use Rattle.mp4_frag.specs.Ranges.{InRange, IsSound}
 use Rattle.mp4_frag.specs.Runs.{MoofBytes, Shared, TrackFragment, end_in, end_place, run_at, run_of, runs_from, runs_of, shared_by, track_of, base_of, traf_of, trafs_by}
-use Rattle.mp4_frag.specs.After.{StandsBetween, StandsIn}
-use Rattle.mp4_frag.specs.Working.RunsBehind.{all_behind, boxes_between, header_behind, runs_behind, shared_behind, trafs_behind}
+use Rattle.mp4_frag.specs.After.{IsBetween, IsOneOf}
+use Rattle.mp4_frag.specs.Implementation.LaterRuns.{all_after, boxes_between, header_after, runs_after, shared_after, trafs_after}
 use Rattle.mp4_frag.specs.Moofs.{IsRead, moof_of, moof_runs}
 use Rattle.mp4_frag.proofs.MoofLemmas.{moof_is}
 use Rattle.mp4_frag.proofs.PlaceLemmas.{Lies, children_lie, moof_lies}
 use Rattle.mp4_frag.proofs.SoundLemmas.{all_sound}
 use Rattle.mp4_frag.proofs.RangeLemmas.{in_range}
 
--- ---- the boxes behind a box
+-- ---- the boxes after a box
 
 record Rest (o : ℕ) (x : List ℕ) (b : Box) (ys : List Box) : Type 0 where
   k : ℕ
@@ -35,25 +35,25 @@ record Rest (o : ℕ) (x : List ℕ) (b : Box) (ys : List Box) : Type 0 where
 head_is : (b c : Box) (bs cs : List Box) → b ∷ bs ≡ c ∷ cs → (b ≡ c) × (bs ≡ cs)
 head_is b c bs cs e = (cc, cc)
 
-behind : (xs : List Box) (o : ℕ) (x : List ℕ) (b : Box) (ys : List Box) → IsBytes x → boxes o x ≡ xs ++ b ∷ ys → Rest o x b ys
-behind [] o x b ys fits e =
+following : (xs : List Box) (o : ℕ) (x : List ℕ) (b : Box) (ys : List Box) → IsBytes x → boxes o x ≡ xs ++ b ∷ ys → Rest o x b ys
+following [] o x b ys fits e =
     elim (option_is (box_at o x)) [
       | inl none ↦ let f : [] ≡ b ∷ ys = sym (boxes_end o x none) ∙ e in absurd cc
       | inr some ↦
           let c = some.0 in
-          let s = stands o x c fits some.1 in
+          let s = lies_at o x c fits some.1 in
           let both = head_is c b (boxes (o + box_len c) (drop (box_len c) x)) ys (sym (boxes_more o x c some.1 s.low s.high) ∙ e) in
           subst (λ (z : Box). Rest o x z ys) both.0 (record { k = box_len c; end = omega (arith, s.place); within = s.high; rest = both.1 })
     ]
-behind (d ∷ xs) o x b ys fits e =
+following (d ∷ xs) o x b ys fits e =
     elim (option_is (box_at o x)) [
       | inl none ↦ let f : [] ≡ d ∷ (xs ++ b ∷ ys) = sym (boxes_end o x none) ∙ e in absurd cc
       | inr some ↦
           let c = some.0 in
           let n : ℕ = box_len c in
-          let s = stands o x c fits some.1 in
+          let s = lies_at o x c fits some.1 in
           let both = head_is c d (boxes (o + n) (drop n x)) (xs ++ b ∷ ys) (sym (boxes_more o x c some.1 s.low s.high) ∙ e) in
-          let r = behind xs (o + n) (drop n x) b ys (IsBytes-drop n x fits) both.1 in
+          let r = following xs (o + n) (drop n x) b ys (IsBytes-drop n x fits) both.1 in
           record {
             k = n + r.k;
             end = omega (arith, r.end);
@@ -70,10 +70,10 @@ record RestIn (h : MoofBytes) (p b : Box) (ys : List Box) : Type 0 where
 ends_at : (h : MoofBytes) (p : Box) (lies : Lies h p) → end_in h p ≡ lies.at + length p.payload
 ends_at h p lies = omega (arith, lies.place)
 
-behind_in : (h : MoofBytes) (p b : Box) (xs ys : List Box) → Lies h p → children p ≡ xs ++ b ∷ ys → RestIn h p b ys
-behind_in h p b xs ys lies e =
+after_in : (h : MoofBytes) (p b : Box) (xs ys : List Box) → Lies h p → children p ≡ xs ++ b ∷ ys → RestIn h p b ys
+after_in h p b xs ys lies e =
     let n : ℕ = length p.payload in
-    let r = behind xs (payload_offset p) p.payload b ys lies.bytes e in
+    let r = following xs (payload_offset p) p.payload b ys lies.bytes e in
     let here : end_in h b ≡ lies.at + r.k = omega (arith, lies.place, r.end) in
     let there = ends_at h p lies in
     let all : n ≡ r.k + (n - r.k) = omega (arith, r.within) in
@@ -96,7 +96,7 @@ behind_in h p b xs ys lies e =
 -- ---- in a traf
 
 record InTraf (h : MoofBytes) (s : Shared) (t : Box) (run : Run) (after : List Run) : Type 0 where
-  header : header_behind run ≡ s.header
+  header : header_after run ≡ s.header
   ends : run.traf_ends_at ≡ s.ends_at
   within : run.ends_at ≤ end_in h t
   is : after ≡ runs_from s run.end (end_place run) (of_kind trun (boxes_between h run.ends_at (end_in h t)))
@@ -108,7 +108,7 @@ none_is run (x ∷ before) after e = absurd cc
 run_head : (x y : Run) (xs ys : List Run) → x ∷ xs ≡ y ∷ ys → (x ≡ y) × (xs ≡ ys)
 run_head x y xs ys e = (cc, cc)
 
-of_trun : (h : MoofBytes) (s : Shared) (time : ℕ) (last : ℤ) (b : Box) → s.moof ≡ h → (header_behind (run_of s time last b) ≡ s.header) × ((run_of s time last b).traf_ends_at ≡ s.ends_at) × ((run_of s time last b).ends_at ≡ end_in h b)
+of_trun : (h : MoofBytes) (s : Shared) (time : ℕ) (last : ℤ) (b : Box) → s.moof ≡ h → (header_after (run_of s time last b) ≡ s.header) × ((run_of s time last b).traf_ends_at ≡ s.ends_at) × ((run_of s time last b).ends_at ≡ end_in h b)
 unfolding run_of run_at
 of_trun h s time last b e = (refl, refl, ap (λ (m : MoofBytes). end_in m b) e)
 
@@ -117,7 +117,7 @@ this_trun : (h : MoofBytes) (s : Shared) (t c : Box) (pre cs : List Box) (time :
     → runs_from s (run_of s time last c).end (end_place (run_of s time last c)) (of_kind trun cs) ≡ after → InTraf h s t run after
 this_trun h s t c pre cs time last run after lies m split is rest =
     let parts = of_trun h s time last c m in
-    let r = behind_in h t c pre cs lies split in
+    let r = after_in h t c pre cs lies split in
     let here : InTraf h s t (run_of s time last c) after = record {
       header = parts.0;
       ends = parts.1;
@@ -161,11 +161,11 @@ pub record AfterIn (h : MoofBytes) (tracks : List Track) (run : Run) (after : Li
   pub low : run.ends_at ≤ run.traf_ends_at
   pub high : run.traf_ends_at ≤ length h.bytes
   pub here : run.size < 2 ^ 32 → InRange run
-  pub range : run.size < 2 ^ 32 → AllByRecursion InRange (runs_behind h run)
-  pub sound : AllByRecursion IsSound (trafs_behind h tracks run)
-  pub is : after ≡ all_behind h tracks run
+  pub range : run.size < 2 ^ 32 → AllByRecursion InRange (runs_after h run)
+  pub sound : AllByRecursion IsSound (trafs_after h tracks run)
+  pub is : after ≡ all_after h tracks run
 
--- where a run stands among the runs of two lists
+-- the place of a run among the runs of two lists
 split_first : (xs ys before after : List Run) (run : Run) → xs ++ ys ≡ before ++ run ∷ after
     → ((a : List Run) × (xs ≡ before ++ run ∷ a) × (after ≡ a ++ ys)) ⊎ ((b : List Run) × (ys ≡ b ++ run ∷ after))
 split_first [] ys before after run e = inr (before, e)
@@ -182,19 +182,19 @@ all_last [] run after all = all
 all_last (b ∷ before) run after all = all_last before run after all.1
 
 -- what the runs of its traf share
-shared_is : (h : MoofBytes) (s : Shared) (run : Run) → s.moof ≡ h → header_behind run ≡ s.header → run.traf_ends_at ≡ s.ends_at → shared_behind h run ≡ s
+shared_is : (h : MoofBytes) (s : Shared) (run : Run) → s.moof ≡ h → header_after run ≡ s.header → run.traf_ends_at ≡ s.ends_at → shared_after h run ≡ s
 shared_is h s run m header ends = rw (← m, header, ends) refl
 
-runs_behind_are : (h : MoofBytes) (s : Shared) (t : Box) (run : Run) (a : List Run) → s.moof ≡ h → s.ends_at ≡ end_in h t → InTraf h s t run a → runs_behind h run ≡ a
-unfolding runs_behind
-runs_behind_are h s t run a m at i =
+runs_after_are : (h : MoofBytes) (s : Shared) (t : Box) (run : Run) (a : List Run) → s.moof ≡ h → s.ends_at ≡ end_in h t → InTraf h s t run a → runs_after h run ≡ a
+unfolding runs_after
+runs_after_are h s t run a m at i =
     ap (λ (x : Shared). runs_from x run.end (end_place run) (of_kind trun (boxes_between h run.ends_at run.traf_ends_at))) (shared_is h s run m i.header i.ends)
     ∙ ap (λ (n : ℕ). runs_from s run.end (end_place run) (of_kind trun (boxes_between h run.ends_at n))) (i.ends ∙ at)
     ∙ sym i.is
 
-trafs_behind_are : (h : MoofBytes) (tracks : List Track) (m t : Box) (run : Run) (bs : List Box) → run.traf_ends_at ≡ end_in h t → end_in h m ≡ length h.bytes → boxes_between h (end_in h t) (end_in h m) ≡ bs → trafs_behind h tracks run ≡ trafs_by h tracks bs
-unfolding trafs_behind
-trafs_behind_are h tracks m t run bs ends all e =
+trafs_after_are : (h : MoofBytes) (tracks : List Track) (m t : Box) (run : Run) (bs : List Box) → run.traf_ends_at ≡ end_in h t → end_in h m ≡ length h.bytes → boxes_between h (end_in h t) (end_in h m) ≡ bs → trafs_after h tracks run ≡ trafs_by h tracks bs
+unfolding trafs_after
+trafs_after_are h tracks m t run bs ends all e =
     ap (λ (n : ℕ). trafs_by h tracks (boxes_between h n (length h.bytes))) ends
     ∙ ap (λ (n : ℕ). trafs_by h tracks (boxes_between h (end_in h t) n)) (sym all)
     ∙ ap (trafs_by h tracks) e
@@ -205,9 +205,9 @@ unfolding traf_of
 this_traf h tracks m t pre bs before after a run lies here all split sound sounds e rest =
     let s : Shared = shared_by h (track_of tracks t) t in
     let i = in_traf h s t here refl [] (children t) (base_of (track_of tracks t).next t) (pos h.offset) before a run refl e in
-    let r = behind_in h m t pre bs lies split in
-    let runs : runs_behind h run ≡ a = runs_behind_are h s t run a refl refl i in
-    let trafs : trafs_behind h tracks run ≡ trafs_by h tracks bs = trafs_behind_are h tracks m t run bs i.ends all r.rest in
+    let r = after_in h m t pre bs lies split in
+    let runs : runs_after h run ≡ a = runs_after_are h s t run a refl refl i in
+    let trafs : trafs_after h tracks run ≡ trafs_by h tracks bs = trafs_after_are h tracks m t run bs i.ends all r.rest in
     let size : run.size ≡ s.header.size = ap (λ (x : TrafHeader). x.size) i.header in
     let ranges = λ (small : run.size < 2 ^ 32). all_last before run a (subst (λ (xs : List Run). AllByRecursion InRange xs) e (in_range (traf_of h tracks t) (omega (arith, small, size)) sound)) in
     record {
@@ -216,7 +216,7 @@ this_traf h tracks m t pre bs before after a run lies here all split sound sound
       here = λ small. (ranges small).0;
       range = λ small. subst (λ (xs : List Run). AllByRecursion InRange xs) (sym runs) (ranges small).1;
       sound = subst (λ (ts : List TrackFragment). AllByRecursion IsSound ts) (sym trafs) sounds;
-      is = rest ∙ ap (λ (ts : List TrackFragment). a ++ flat_map runs_of ts) (sym trafs) ∙ ap (λ (xs : List Run). xs ++ flat_map runs_of (trafs_behind h tracks run)) (sym runs);
+      is = rest ∙ ap (λ (ts : List TrackFragment). a ++ flat_map runs_of ts) (sym trafs) ∙ ap (λ (xs : List Run). xs ++ flat_map runs_of (trafs_after h tracks run)) (sym runs);
     }
 
 in_moof : (h : MoofBytes) (tracks : List Track) (m : Box) → Lies h m → end_in h m ≡ length h.bytes → (pre bs : List Box) → AllByRecursion (Lies h) bs → AllByRecursion IsSound (trafs_by h tracks bs) → (before after : List Run) (run : Run)
@@ -241,12 +241,12 @@ pub after_is : (h : MoofBytes) (tracks : List Track) (m : Box) → h.offset ≤ 
     → moof_runs h tracks ≡ before ++ run ∷ after → AfterIn h tracks run after
 after_is h tracks m near whole fits here is read before after run e =
     let lies = moof_lies h m whole fits here in
-    let all : end_in h m ≡ length h.bytes = ends_at h m lies ∙ omega (arith, whole_len h.offset h.bytes m whole here, lies.place, (stands h.offset h.bytes m fits here).place) in
+    let all : end_in h m ≡ length h.bytes = ends_at h m lies ∙ omega (arith, whole_len h.offset h.bytes m whole here, lies.place, (lies_at h.offset h.bytes m fits here).place) in
     let sound : AllByRecursion IsSound (trafs_by h tracks (children m)) = subst (λ (b : Box). AllByRecursion IsSound (trafs_by h tracks (children b))) is (all_sound h tracks m near whole fits here is read) in
     let runs : flat_map runs_of (trafs_by h tracks (children m)) ≡ before ++ run ∷ after = ap (λ (b : Box). flat_map runs_of (trafs_by h tracks (children b))) (sym is) ∙ e in
     in_moof h tracks m lies all [] (children m) (children_lie h m lies) sound before after run refl runs
 
-pub after_run : (h : MoofBytes) (tracks : List Track) → h.offset ≤ 2 ^ 62 → IsWhole h.bytes → IsBytes h.bytes → IsRead h tracks → (before after : List Run) (run : Run) → StandsBetween (moof_runs h tracks) before run after → AfterIn h tracks run after
+pub after_run : (h : MoofBytes) (tracks : List Track) → h.offset ≤ 2 ^ 62 → IsWhole h.bytes → IsBytes h.bytes → IsRead h tracks → (before after : List Run) (run : Run) → IsBetween (moof_runs h tracks) before run after → AfterIn h tracks run after
 after_run h tracks near whole fits read before after run s =
     elim (option_is (box_at h.offset h.bytes)) [
       | inl none ↦ absurd (whole_found h.offset h.bytes whole none)
@@ -260,11 +260,11 @@ first_of_both xs ys x rest e = ap (λ (zs : List Run). first_of (zs ++ ys)) (sym
 pub first_of_last : (xs ys : List Run) (r : Option Run) → xs ≡ [] → r ≡ first_of ys → r ≡ first_of (xs ++ ys)
 first_of_last xs ys r e f = f ∙ ap (λ (zs : List Run). first_of (zs ++ ys)) (sym e)
 
--- where the run behind a run stands, too
-pub stands_on : (runs : List Run) (run : Run) (r : Option Run) → StandsIn run runs → ((before after : List Run) → StandsBetween runs before run after → r ≡ first_of after) → IfSome r (λ (next : Run). StandsIn next runs)
-stands_on runs run r stands is = by stands.0 stands.1 stands.2 (is stands.0 stands.1 stands.2)
+-- the place of the run after a run, too
+pub is_one_of : (runs : List Run) (run : Run) (r : Option Run) → IsOneOf run runs → ((before after : List Run) → IsBetween runs before run after → r ≡ first_of after) → IfSome r (λ (next : Run). IsOneOf next runs)
+is_one_of runs run r lies_at is = by lies_at.0 lies_at.1 lies_at.2 (is lies_at.0 lies_at.1 lies_at.2)
   where
-    by : (before after : List Run) → StandsBetween runs before run after → r ≡ first_of after → IfSome r (λ (next : Run). StandsIn next runs)
-    by before [] s e = subst (λ (o : Option Run). IfSome o (λ (next : Run). StandsIn next runs)) (sym e) tt
+    by : (before after : List Run) → IsBetween runs before run after → r ≡ first_of after → IfSome r (λ (next : Run). IsOneOf next runs)
+    by before [] s e = subst (λ (o : Option Run). IfSome o (λ (next : Run). IsOneOf next runs)) (sym e) tt
     by before (x ∷ rest) s e =
-        subst (λ (o : Option Run). IfSome o (λ (next : Run). StandsIn next runs)) (sym e) (before ++ run ∷ [], rest, record { is = s.is ∙ sym (append_assoc before (run ∷ []) (x ∷ rest)) })
+        subst (λ (o : Option Run). IfSome o (λ (next : Run). IsOneOf next runs)) (sym e) (before ++ run ∷ [], rest, record { is = s.is ∙ sym (append_assoc before (run ∷ []) (x ∷ rest)) })

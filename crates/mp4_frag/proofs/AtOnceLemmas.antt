@@ -17,7 +17,7 @@ use Rattle.mp4_box.proofs.OrderLemmas.{least-none}
 use Rattle.mp4_box.specs.Paths.{at_path, of_kind}
 use Rattle.mp4_box.specs.Trees.{Box, children, first_of}
 use Rattle.mp4_init.specs.declared.table.Track.{Track}
-use Rattle.mp4_frag.specs.Working.AtOnce.{HasTicks, IsComplete, IsCount, by_moof, by_traf, faults_in_moof, faults_in_traf, has_few, has_heads, has_one, is_complete, is_filled, is_kind, most_64, passed_over}
+use Rattle.mp4_frag.specs.Implementation.AtOnce.{HasTicks, IsComplete, IsCount, by_moof, by_traf, faults_in_moof, faults_in_traf, has_few, has_heads, has_one, is_complete, is_filled, is_kind, most_64, passed_over}
 use Rattle.mp4_frag.specs.Kinds.{mfhd, traf, tfhd, tfdt, trun, free, skip}
 use Rattle.mp4_frag.specs.Mfhd.{mfhd_len}
 use Rattle.mp4_frag.specs.Moofs.{value_faults}
@@ -112,7 +112,7 @@ tfdt_is tracks b is e =
     ∙ ap (λ (u : Bool). by_traf tracks b u (is_kind tfhd b) (is_kind tfdt b) others) (sym (no_other b tfdt trun refl is))
     ∙ e
 
--- a type that is passed over is one of those that may stand there
+-- a type that is passed over is one of those that may be there
 in_traf_by : (tracks : List Track) (b : Box) (r h d f s : Bool) → by_traf tracks b r h d (passed_over f s b) ≡ [] → fault_if (not (h || (d || (r || (f || (s || false)))))) Unsupported b ≡ []
 in_traf_by tracks b true true d f s e = refl
 in_traf_by tracks b true false true f s e = refl
@@ -259,7 +259,7 @@ module _ (tracks : List Track) (m : Box) (none : flat_map (faults_in_moof tracks
         count,
       ) (simp append-nil)
 
--- ---- what the pass tells
+-- ---- the findings of the pass
 
 no_best : (best : Option Fault) → is_some best ≡ false → best ≡ None
 no_best None e = refl

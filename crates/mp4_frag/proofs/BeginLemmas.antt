@@ -11,10 +11,10 @@ use Rattle.mp4_box.specs.Paths.{at_path, of_kind}
 use Rattle.mp4_box.specs.Trees.{Box, box_at, children, first_of}
 use Rattle.mp4_init.specs.declared.table.Track.{Track}
 use Rattle.mp4_init.specs.TrackFields.{FitsTrackFields}
-use Rattle.mp4_frag.specs.Working.AtOnce.{StartsEarly}
+use Rattle.mp4_frag.specs.Implementation.AtOnce.{StartsEarly}
 use Rattle.mp4_frag.specs.Kinds.{tfdt, traf, trun}
 use Rattle.mp4_frag.specs.Moofs.{moof_of, moof_trafs, time_faults}
-use Rattle.mp4_frag.specs.Rules.{count_faults, most_samples, samples_in}
+use Rattle.mp4_frag.specs.Rules.{count_faults, most_in_moof, samples_in}
 use Rattle.mp4_frag.specs.Runs.{MoofBytes, base_by, begins_early, no_track, tfhd_of, track_of, traf_of, trafs_by}
 use Rattle.mp4_frag.specs.Tfdt.{base_media_decode_time}
 use Rattle.mp4_frag.specs.Tfhd.{track_id}
@@ -42,7 +42,7 @@ by_own next (Some b) early = ltb-true (base_media_decode_time b.payload) (2 ^ 63
 
 -- ---- the trafs of a moof
 
-trafs_begin : (h : MoofBytes) (tracks : List Track) (ts : List Box) → IsBytes h.bytes → AllByRecursion FitsTrackFields tracks → AllByRecursion (Lies h) ts → AllByRecursion (λ (t : Box). samples_in (of_kind trun (children t)) ≤ most_samples) ts
+trafs_begin : (h : MoofBytes) (tracks : List Track) (ts : List Box) → IsBytes h.bytes → AllByRecursion FitsTrackFields tracks → AllByRecursion (Lies h) ts → AllByRecursion (λ (t : Box). samples_in (of_kind trun (children t)) ≤ most_in_moof) ts
     → list_all begins_early ts ≡ true → time_faults (map (traf_of h tracks) ts) ≡ []
 trafs_begin h tracks [] fits small lie few early = refl
 trafs_begin h tracks (t ∷ ts) fits small lie few early =

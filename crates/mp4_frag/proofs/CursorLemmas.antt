@@ -20,10 +20,10 @@ high_on : (z y : ℤ) (n m all : ℕ) → y ≡ z +ℤ pos n → n + m ≡ all �
 high_on z y n m all e sum h = omega (arith, ints, e, sum, h)
 
 -- the numbers of what is left from a cursor on fit their types
-pub cursor_has_room : (held : List ℕ) (run : Run) (c : Cursor) → IsRunOf held run → IsCursor run held c → HasRoom c (drop c.row (rows_of run held))
-cursor_has_room held run c of at =
-    let rows : List Row = rows_of run held in
-    let n : length rows ≡ run.count = length_rows_of run held in
+pub cursor_has_room : (moof_bytes : List ℕ) (run : Run) (c : Cursor) → IsRunOf moof_bytes run → IsCursor run moof_bytes c → HasRoom c (drop c.row (rows_of run moof_bytes))
+cursor_has_room moof_bytes run c of at =
+    let rows : List Row = rows_of run moof_bytes in
+    let n : length rows ≡ run.count = length_rows_of run moof_bytes in
     let ticks = sum_by-take-drop (λ (r : Row). r.duration) rows c.row in
     let bytes : sizes (take c.row rows) + sizes (drop c.row rows) ≡ run.bytes = sum_by-take-drop (λ (r : Row). r.size) rows c.row ∙ sym of.bytes in
     let few = of.few in
@@ -38,7 +38,7 @@ cursor_has_room held run c of at =
       high = high_on run.place c.place (sizes (take c.row rows)) (sizes (drop c.row rows)) run.bytes at.place bytes of.range.high;
     }
 
--- ---- a row has room, and so has what is left behind it
+-- ---- a row has room, and so has what is left after it
 
 next_on : (z : ℤ) (n m all : ℕ) → n + m ≡ all → (z +ℤ pos all) <ℤ pos (2 ^ 63) → (z +ℤ pos n) <ℤ pos (2 ^ 63)
 next_on z n m all sum h = omega (arith, ints, sum, h)

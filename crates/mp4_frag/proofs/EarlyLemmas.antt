@@ -15,16 +15,16 @@ use Rattle.mp4_box.specs.Trees.{Box, box_at, children, first_of}
 use Rattle.mp4_init.specs.declared.table.Track.{Track}
 use Rattle.mp4_frag.specs.declared.rows.Row.{Row}
 use Rattle.mp4_frag.specs.declared.run.Run.{Run}
-use Rattle.mp4_frag.specs.Working.AtOnce.{HasEarlyEnd, HasTicks, IsEarly, StartsEarly, TrafHasTicks, has_few, has_heads, has_one, is_early, times_early}
+use Rattle.mp4_frag.specs.Implementation.AtOnce.{HasEarlyEnd, HasTicks, IsEarly, StartsEarly, TrafHasTicks, has_few, has_heads, has_one, is_early, times_early}
 use Rattle.mp4_frag.specs.Repeats.{lacks_time}
 use Rattle.mp4_frag.specs.Fields.{payload_of}
 use Rattle.mp4_frag.specs.Kinds.{tfdt, tfhd, traf, trun}
 use Rattle.mp4_frag.specs.Moofs.{moof_of, moof_trafs, time_faults, time_faults_of, value_faults}
 use Rattle.mp4_frag.specs.Rows.{group_at, row_of}
-use Rattle.mp4_frag.specs.Rules.{count_faults, form_faults, most_samples, samples_in}
+use Rattle.mp4_frag.specs.Rules.{count_faults, form_faults, most_in_moof, samples_in}
 use Rattle.mp4_frag.specs.Runs.{MoofBytes, Shared, base_by, known_track, run_at, tfhd_of, track_of, traf_of, trafs_by}
 use Rattle.mp4_frag.specs.Tfhd.{fields_of, track_id}
-use Rattle.mp4_frag.specs.Working.Times.{late_from, ticks_in}
+use Rattle.mp4_frag.specs.Implementation.Times.{late_from, ticks_in}
 use Rattle.mp4_frag.specs.Trun.{sample_count}
 use Rattle.mp4_frag.proofs.MoofLemmas.{both_none, path_kind, values}
 use Rattle.mp4_frag.proofs.PlaceLemmas.{Lies, children_lie, kind_all, moof_lies}
@@ -34,9 +34,9 @@ use Rattle.mp4_frag.proofs.TimeLemmas.{late_are}
 
 -- ---- the ticks of a run
 
-ticks_small : (run : Run) (held : List ℕ) (i : ℕ) → IsBytes held → run.duration < 2 ^ 32 → (row_of run held i).duration < 2 ^ 32
+ticks_small : (run : Run) (moof_bytes : List ℕ) (i : ℕ) → IsBytes moof_bytes → run.duration < 2 ^ 32 → (row_of run moof_bytes i).duration < 2 ^ 32
 unfolding row_of
-ticks_small run held i fits small = field_small held (group_at run i) run.fields.sample_duration run.duration fits small
+ticks_small run moof_bytes i fits small = field_small moof_bytes (group_at run i) run.fields.sample_duration run.duration fits small
 
 few_ticks : (s : Shared) (b : Box) → IsBytes s.moof.bytes → s.header.duration < 2 ^ 32 → ticks_in s b ≤ 4294967295 * sample_count b.payload
 unfolding run_at ticks_in
@@ -95,14 +95,14 @@ short : (tracks : List Track) (bs : List Box) → (length bs == 1) ≡ true → 
 short tracks [] one all = absurd (grind (arith, nat_tests))
 short tracks (b ∷ bs) one all = all.0
 
-pub begun_in_time : (h : MoofBytes) (tracks : List Track) (t : Box) → IsBytes h.bytes → Lies h t → samples_in (of_kind trun (children t)) ≤ most_samples → StartsEarly tracks t → (track_of tracks t).duration < 2 ^ 32 → time_faults_of (traf_of h tracks t) ≡ []
+pub begun_in_time : (h : MoofBytes) (tracks : List Track) (t : Box) → IsBytes h.bytes → Lies h t → samples_in (of_kind trun (children t)) ≤ most_in_moof → StartsEarly tracks t → (track_of tracks t).duration < 2 ^ 32 → time_faults_of (traf_of h tracks t) ≡ []
 unfolding traf_of
 begun_in_time h tracks t fits lies few early track =
     let f = traf_of h tracks t in
     let small : f.shared.header.duration < 2 ^ 32 = number_or_small (tfhd_of t) (fields_of (tfhd_of t)).default_sample_duration (track_of tracks t).duration (tfhd_bytes h t lies) track in
     late_are f.shared f.time (pos h.offset) f.truns ∙ none_late f.shared f.time f.truns fits small (omega (arith, early, few))
 
-traf_in_time : (h : MoofBytes) (tracks : List Track) (t : Box) → IsBytes h.bytes → Lies h t → samples_in (of_kind trun (children t)) ≤ most_samples → has_heads t ≡ true → StartsEarly tracks t → TrafHasTicks tracks t → time_faults_of (traf_of h tracks t) ≡ []
+traf_in_time : (h : MoofBytes) (tracks : List Track) (t : Box) → IsBytes h.bytes → Lies h t → samples_in (of_kind trun (children t)) ≤ most_in_moof → has_heads t ≡ true → StartsEarly tracks t → TrafHasTicks tracks t → time_faults_of (traf_of h tracks t) ≡ []
 traf_in_time h tracks t fits lies few heads early ticks =
     let one = (both_true (has_one tfhd t) (has_few tfdt t) heads).0 in
     begun_in_time h tracks t fits lies few early
@@ -110,7 +110,7 @@ traf_in_time h tracks t fits lies few heads early ticks =
 
 -- ---- the trafs of a moof
 
-trafs_in_time : (h : MoofBytes) (tracks : List Track) (ts : List Box) → IsBytes h.bytes → AllByRecursion (Lies h) ts → AllByRecursion (λ (t : Box). samples_in (of_kind trun (children t)) ≤ most_samples) ts
+trafs_in_time : (h : MoofBytes) (tracks : List Track) (ts : List Box) → IsBytes h.bytes → AllByRecursion (Lies h) ts → AllByRecursion (λ (t : Box). samples_in (of_kind trun (children t)) ≤ most_in_moof) ts
     → list_all has_heads ts ≡ true → AllByRecursion (StartsEarly tracks) ts → AllByRecursion (TrafHasTicks tracks) ts → time_faults (map (traf_of h tracks) ts) ≡ []
 trafs_in_time h tracks [] fits lie few heads early ticks = refl
 trafs_in_time h tracks (t ∷ ts) fits lie few heads early ticks =

@@ -13,14 +13,14 @@ use Rattle.mp4_box.specs.Trees.{Box, children}
 use Rattle.mp4_init.specs.declared.table.Track.{Track}
 use Rattle.mp4_run_order.specs.declared.runs.ListedRun.{ListedRun}
 use Rattle.mp4_run_order.specs.declared.runs.Payload.{Payload}
-use Rattle.mp4_run_order.specs.Places.{IsOffender, LiesIn, MayStand, Placed, first_offender, lies_in}
+use Rattle.mp4_run_order.specs.Places.{IsOffender, LiesIn, MayBePlaced, Placed, first_offender, lies_in}
 use Rattle.mp4_run_order.specs.Runs.{IsListing, end_of}
 use Rattle.mp4_run_order.specs.Takings.{AllFollow, Follows}
 use Rattle.mp4_run_order.proofs.ListLemmas.{Each, Pairs, all_of_each, both_ways, each_always, each_at, each_both, each_of_all, each_weaker, pairs_both, pairs_of_all}
 use Rattle.mp4_run_order.proofs.OrderLemmas.{taken_permutes}
 use Rattle.mp4_run_order.proofs.RunLemmas.{le_from, le_to, lies_from, lies_to}
 use Rattle.mp4_run_order.proofs.SearchLemmas.{offender_means}
-use Rattle.mp4_run_order.proofs.TakingLemmas.{follows_stands}
+use Rattle.mp4_run_order.proofs.TakingLemmas.{follows_placed}
 use Rattle.mp4_frag.specs.declared.run.Run.{Run}
 use Rattle.mp4_frag.specs.Kinds.{to_trun, traf}
 use Rattle.mp4_frag.specs.Moofs.{moof_of, moof_runs, moof_truns}
@@ -28,7 +28,7 @@ use Rattle.mp4_frag.specs.Places.{listed_run, place_fault, run_place_fault}
 use Rattle.mp4_frag.specs.RunLists.{moof_listing, taken_runs}
 use Rattle.mp4_frag.specs.Rows.{rows_of, sizes}
 use Rattle.mp4_frag.specs.Runs.{MoofBytes, end_place, runs_of, traf_of}
-use Rattle.mp4_frag.specs.Working.Following.{all_follow, bytes_with, follows, past_run, past_runs, runs_of_trafs, timed_run}
+use Rattle.mp4_frag.specs.Implementation.Following.{all_follow, bytes_with, follows, past_run, past_runs, runs_of_trafs, timed_run}
 use Rattle.mp4_frag.proofs.ListingLemmas.{is_listing}
 use Rattle.mp4_frag.proofs.MoofListLemmas.{IsMoof, claim_is, runs_are}
 use Rattle.mp4_frag.proofs.ReadRunLemmas.{IsSummed, trafs_summed}
@@ -81,14 +81,14 @@ module _ (h : MoofBytes) (tracks : List Track) (all rest : List Box) (t : Box) (
 
 -- ---- what that means
 
--- it begins at a place or behind it
+-- it begins at a place or after it
 abbrev From : ℤ → ListedRun → Type 0
 From e r = r.count ≢ 0 → e ≤ℤ r.place
 
 abbrev Lies : Payload → ListedRun → Type 0
 Lies p r = r.count ≢ 0 → LiesIn p r
 
--- the second begins where the first ends, or behind that
+-- the second begins where the first ends, or after that
 abbrev After : ListedRun → ListedRun → Type 0
 After a b = a.count ≢ 0 → b.count ≢ 0 → end_of a ≤ℤ b.place
 
@@ -210,22 +210,22 @@ runs_in h tracks m f = ap (runs_by h tracks) (on_path traf m) ∙ sym (runs_are 
 
 no_offender : (p : Payload) (runs : List ListedRun) (o : Option ListedRun) → IsOffender p runs o → Placed p runs → o ≡ None
 no_offender p runs None h placed = refl
-no_offender p runs (Some run) h placed = absurd (h.offends (each_at (MayStand p runs) runs run (each_of_all (MayStand p runs) runs placed) h.listed))
+no_offender p runs (Some run) h placed = absurd (h.offends (each_at (MayBePlaced p runs) runs run (each_of_all (MayBePlaced p runs) runs placed) h.listed))
 
 pub order_placed : (h : MoofBytes) (tracks : List Track) (p : Payload) → IsBytes h.bytes → AllFollow p (moof_listing h tracks) → place_fault p (moof_runs h tracks) ≡ None
 order_placed h tracks p fits all =
     let runs = moof_listing h tracks in
     ap (option_map (λ (run : ListedRun). run_place_fault run.number))
-    (no_offender p runs (first_offender p runs) (offender_means p runs (is_listing h tracks fits)) (follows_stands p runs all))
+    (no_offender p runs (first_offender p runs) (offender_means p runs (is_listing h tracks fits)) (follows_placed p runs all))
 
 module _ (h : MoofBytes) (tracks : List Track) (m : Box) (p : Payload) (f : IsMoof h m) (e : ℤ) (start : e ≡ pos p.start) (r : Bool)
     (is : r ≡ all_follow p e (runs_of_trafs h tracks (at_path (traf ∷ []) m))) where
   here : r ≡ all_follow p (pos p.start) (moof_runs h tracks)
   here = is ∙ (ap (λ (x : ℤ). all_follow p x (runs_of_trafs h tracks (at_path (traf ∷ []) m))) start ∙ ap (all_follow p (pos p.start)) (runs_in h tracks m f))
 
-  pub order_told : r ≡ true → AllFollow p (moof_listing h tracks)
-  order_told told =
-      all_from p (pos p.start) (moof_listing h tracks) (is_listing h tracks f.fits) (in_order p (pos p.start) (moof_runs h tracks) (sym here ∙ told))
+  pub order_known : r ≡ true → AllFollow p (moof_listing h tracks)
+  order_known found =
+      all_from p (pos p.start) (moof_listing h tracks) (is_listing h tracks f.fits) (in_order p (pos p.start) (moof_runs h tracks) (sym here ∙ found))
 
   pub order_found : AllFollow p (moof_listing h tracks) → r ≡ true
   order_found all =
@@ -237,24 +237,24 @@ truns_of h tracks m f = claim_is h tracks m (moof_truns h) f (ap (λ (b : Box). 
 
 -- ---- their bytes
 
-no_bytes : (held : List ℕ) (run : Run) → IsSummed held run → run.count ≡ 0 → run.bytes ≡ 0
-no_bytes held run s z = let e = length_rows_of run held in s.bytes ∙ none (rows_of run held) (omega (arith, e, z))
+no_bytes : (moof_bytes : List ℕ) (run : Run) → IsSummed moof_bytes run → run.count ≡ 0 → run.bytes ≡ 0
+no_bytes moof_bytes run s z = let e = length_rows_of run moof_bytes in s.bytes ∙ none (rows_of run moof_bytes) (omega (arith, e, z))
   where
     none : (rows : List _) → length rows ≡ 0 → sizes rows ≡ 0
     none [] e = refl
     none (row ∷ rows) e = absurd (omega (arith, e))
 
-bytes_step : (held : List ℕ) (run : Run) (b : Bool) → (run.count == 0) ≡ b → IsSummed held run → bytes_with run ≡ run.bytes
+bytes_step : (moof_bytes : List ℕ) (run : Run) (b : Bool) → (run.count == 0) ≡ b → IsSummed moof_bytes run → bytes_with run ≡ run.bytes
 unfolding bytes_with
-bytes_step held run true z s = rw z (sym (no_bytes held run s (eqb-true run.count 0 z)))
-bytes_step held run false z s = rw z refl
+bytes_step moof_bytes run true z s = rw z (sym (no_bytes moof_bytes run s (eqb-true run.count 0 z)))
+bytes_step moof_bytes run false z s = rw z refl
 
-bytes_all : (held : List ℕ) (runs : List Run) → AllByRecursion (IsSummed held) runs → sum_by bytes_with runs ≡ sum_by (λ (run : Run). run.bytes) runs
-bytes_all held [] s = refl
-bytes_all held (run ∷ runs) s =
+bytes_all : (moof_bytes : List ℕ) (runs : List Run) → AllByRecursion (IsSummed moof_bytes) runs → sum_by bytes_with runs ≡ sum_by (λ (run : Run). run.bytes) runs
+bytes_all moof_bytes [] s = refl
+bytes_all moof_bytes (run ∷ runs) s =
     let with = sum_by-cons bytes_with run runs in
     let all = sum_by-cons (λ (run : Run). run.bytes) run runs in
-    omega (arith, with, all, bytes_step held run (run.count == 0) refl s.0, bytes_all held runs s.1)
+    omega (arith, with, all, bytes_step moof_bytes run (run.count == 0) refl s.0, bytes_all moof_bytes runs s.1)
 
 pub bytes_taken : (h : MoofBytes) (tracks : List Track) (m : Box) (b : ℕ) → IsMoof h m → b ≡ sum_by bytes_with (runs_of_trafs h tracks (at_path (traf ∷ []) m)) → b ≡ sum_by (λ (run : Run). run.bytes) (taken_runs h tracks)
 bytes_taken h tracks m b f e =

@@ -21,7 +21,7 @@ use Rattle.mp4_frag.specs.Kinds.{traf, trun, to_trun}
 use Rattle.mp4_frag.specs.Fields.{flags_in, place_if, width_if}
 use Rattle.mp4_frag.specs.Trun.{sample_count, sample_fields, trun_broken, trun_fields, trun_len, sample_duration_present, sample_size_present, sample_flags_present, sample_composition_time_offset_present, sample_size_at, sample_flags_at, sample_composition_time_offset_at}
 use Rattle.mp4_frag.specs.Rules.{form_faults, trun_length}
-use Rattle.mp4_frag.specs.Rows.{field_at, group_at, offset_at, offset_by, row_from, row_of, usual_flags}
+use Rattle.mp4_frag.specs.Rows.{field_at, group_at, offset_at, offset_by, row_from, row_of, default_flags_of}
 use Rattle.mp4_frag.specs.Runs.{MoofBytes, Shared, run_at, run_of, shared_by, track_of}
 use Rattle.mp4_frag.specs.Moofs.{IsRead, moof_of}
 use Rattle.mp4_frag.specs.Laws.{RowsAreGroups, TrafRowsAreGroups}
@@ -78,9 +78,9 @@ fields_within flags =
       offset = place_within (sample_composition_time_offset_present flags) (sample_composition_time_offset_at flags) len (omega arith);
     }
 
-field_same : (h : MoofBytes) (b : Box) (lies : Lies h b) (g len usual : ℕ) (o : Option ℕ) → Within o len → g + len ≤ length b.payload → field_at h.bytes (lies.at + g) o usual ≡ field_at b.payload g o usual
-field_same h b lies g len usual None w room = refl
-field_same h b lies g len usual (Some f) w room =
+field_same : (h : MoofBytes) (b : Box) (lies : Lies h b) (g len common_layout : ℕ) (o : Option ℕ) → Within o len → g + len ≤ length b.payload → field_at h.bytes (lies.at + g) o common_layout ≡ field_at b.payload g o common_layout
+field_same h b lies g len common_layout None w room = refl
+field_same h b lies g len common_layout (Some f) w room =
     ap (number_in h.bytes) (omega arith) ∙ number_same h b lies (g + f) (omega (arith, w.all f refl, room))
 
 offset_same : (h : MoofBytes) (b : Box) (lies : Lies h b) (version g len : ℕ) (o : Option ℕ) → Within o len → g + len ≤ length b.payload → offset_at h.bytes version (lies.at + g) o ≡ offset_at b.payload version g o
@@ -120,7 +120,7 @@ same_group run h b lies flags g i e room =
     let len : ℕ = (sample_fields flags).len in
     let d = field_same h b lies g len run.duration (sample_fields flags).sample_duration w.duration room in
     let s = field_same h b lies g len run.size (sample_fields flags).sample_size w.size room in
-    let f = field_same h b lies g len (usual_flags run i) (sample_fields flags).sample_flags w.flags_field room in
+    let f = field_same h b lies g len (default_flags_of run i) (sample_fields flags).sample_flags w.flags_field room in
     let o = offset_same h b lies run.version g len (sample_fields flags).sample_composition_time_offset w.offset room in
     rw (e, d, s, f, o) refl
 

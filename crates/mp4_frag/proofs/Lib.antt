@@ -22,8 +22,8 @@ pub mod AfterLemmas
 pub mod SettleLemmas
 pub mod GroupLemmas
 pub mod WholeGroupLemmas
-pub mod LoneLemmas
-pub mod UsualLemmas
+pub mod SingleRunLemmas
+pub mod CommonLayoutLemmas
 pub mod SyncLemmas
 pub mod ListingLemmas
 pub mod TrackFitLemmas

@@ -3,7 +3,7 @@ use Rattle.std.proofs.Common.{◌≡◌, ◌<◌, List, [], ◌∷◌, map, Opti
 use Rattle.std.specs.Option.{unwrap_or}
 use Rattle.mp4_box.specs.Headers.{IsBytes}
 use Rattle.mp4_box.specs.Trees.{Box, box_at}
-use Rattle.mp4_box.proofs.GrammarLemmas.{stands}
+use Rattle.mp4_box.proofs.GrammarLemmas.{lies_at}
 use Rattle.mp4_box.proofs.HeaderLemmas.{IsBytes-take}
 use Rattle.mp4_init.specs.declared.table.Track.{Track}
 use Rattle.mp4_run_order.specs.declared.runs.ListedRun.{ListedRun}
@@ -18,7 +18,7 @@ use Rattle.mp4_frag.proofs.RunRowLemmas.{Earlier, moof_runs_rise}
 
 payload_by : (h : MoofBytes) → IsBytes h.bytes → (o : Option Box) → box_at h.offset h.bytes ≡ o → IsBytes (unwrap_or o no_box).payload
 payload_by h fits None e = IsBytes-take 0 h.bytes fits
-payload_by h fits (Some m) e = (stands h.offset h.bytes m fits e).bytes
+payload_by h fits (Some m) e = (lies_at h.offset h.bytes m fits e).bytes
 
 each_listed : (P : ListedRun → Type 0) (runs : List Run) → Each (λ (run : Run). P (listed_run run)) runs → Each P (map listed_run runs)
 each_listed P [] h = tt

@@ -8,7 +8,7 @@ use Rattle.mp4_init.specs.OrderedIds.{sought}
 use Rattle.mp4_init.proofs.SearchTreeLemmas.{is_same}
 use Rattle.mp4_init.proofs.OrderedIdLemmas.{same_id}
 use Rattle.mp4_frag.specs.Repeats.{traf_id, is_listed}
-use Rattle.mp4_frag.specs.Working.RepeatMarks.{marked_at, all_marked, marks}
+use Rattle.mp4_frag.specs.Implementation.RepeatMarks.{marked_at, all_marked, marks}
 
 pub length-marked_at : (seen : List Bool) (o : Option ℕ) → length (marked_at seen o) ≡ length seen
 length-marked_at seen None = refl
@@ -29,13 +29,13 @@ or_true : (t : Bool) → true ≡ cond t true true
 or_true true = refl
 or_true false = refl
 
-pub told : (ids : List ℕ) (seen : List Bool) (ts : List Box) (id k : ℕ) → sought ids id ≡ Some k → k < length seen
+pub found : (ids : List ℕ) (seen : List Bool) (ts : List Box) (id k : ℕ) → sought ids id ≡ Some k → k < length seen
     → slice_index_or (all_marked ids seen ts) k false ≡ cond (slice_index_or seen k false) true (is_listed id ts)
 unfolding all_marked is_listed
-told ids seen [] id k here within = or_false (slice_index_or seen k false)
-told ids seen (t ∷ ts) id k here within =
+found ids seen [] id k here within = or_false (slice_index_or seen k false)
+found ids seen (t ∷ ts) id k here within =
     let next = marked_at seen (sought ids (traf_id t)) in
-    told ids next ts id k here (omega (arith, within, length-marked_at seen (sought ids (traf_id t)))) ∙ by (traf_id t == id) refl
+    found ids next ts id k here (omega (arith, within, length-marked_at seen (sought ids (traf_id t)))) ∙ by (traf_id t == id) refl
   where
     by : (u : Bool) → (traf_id t == id) ≡ u → cond (slice_index_or (marked_at seen (sought ids (traf_id t))) k false) true (is_listed id ts) ≡ cond (slice_index_or seen k false) true (cond u true (is_listed id ts))
     by true e =
@@ -44,11 +44,11 @@ told ids seen (t ∷ ts) id k here within =
         ∙ or_true (slice_index_or seen k false)
     by false e = ap (λ (b : Bool). cond b true (is_listed id ts)) (away ids seen (traf_id t) id k (sought ids (traf_id t)) here refl (apart (traf_id t) id e))
 
--- a mark tells whether one of these has the track_ID
-pub mark_tells : (n : ℕ) (ids : List ℕ) (seen : List Bool) (ts : List Box) (id k : ℕ) (d : Bool) → sought ids id ≡ Some k → length seen ≡ n → k < n → seen ≡ marks n ids ts → slice_index_or seen k d ≡ is_listed id ts
+-- a mark is whether one of these has the track_ID
+pub mark_states : (n : ℕ) (ids : List ℕ) (seen : List Bool) (ts : List Box) (id k : ℕ) (d : Bool) → sought ids id ≡ Some k → length seen ≡ n → k < n → seen ≡ marks n ids ts → slice_index_or seen k d ≡ is_listed id ts
 unfolding marks
-mark_tells n ids seen ts id k d here len within e =
+mark_states n ids seen ts id k d here len within e =
     get_or_default seen k d false (omega (arith, len, within))
     ∙ ap (λ (xs : List Bool). slice_index_or xs k false) e
-    ∙ told ids (replicate n false) ts id k here (omega (arith, within, length-replicate n false))
+    ∙ found ids (replicate n false) ts id k here (omega (arith, within, length-replicate n false))
     ∙ ap (λ (b : Bool). cond b true (is_listed id ts)) (get_or-replicate n k false false within)

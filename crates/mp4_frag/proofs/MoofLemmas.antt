@@ -15,7 +15,7 @@ use Rattle.mp4_init.specs.Moovs.{fault_of, or_else}
 use Rattle.mp4_frag.specs.Kinds.{traf, trun, to_tfhd, to_trun}
 use Rattle.mp4_frag.specs.Repeats.{repeat_faults}
 use Rattle.mp4_frag.specs.Rules.{child_faults, count_faults, form_faults, tfhd_faults, trun_faults}
-use Rattle.mp4_frag.specs.Moofs.{IsRead, early_fault, moof_fault, moof_faults, moof_of, no_box, moof_trafs, time_faults, time_faults_of, value_faults}
+use Rattle.mp4_frag.specs.Moofs.{IsRead, fault_before_times, moof_fault, moof_faults, moof_of, no_box, moof_trafs, time_faults, time_faults_of, value_faults}
 use Rattle.mp4_frag.specs.Runs.{MoofBytes, traf_of, trafs_by}
 
 pub moof_is : (o : ℕ) (x : List ℕ) (b : Box) → box_at o x ≡ Some b → moof_of (record { bytes = x; offset = o }) ≡ b
@@ -76,8 +76,8 @@ pub record Early (h : MoofBytes) (tracks : List Track) : Type 0 where
   pub form : form_faults (moof_of h) ≡ []
   pub value : value_faults tracks (moof_of h) ≡ []
 
-pub early : (h : MoofBytes) (tracks : List Track) → early_fault h tracks ≡ None → Early h tracks
-unfolding early_fault
+pub early : (h : MoofBytes) (tracks : List Track) → fault_before_times h tracks ≡ None → Early h tracks
+unfolding fault_before_times
 early h tracks e =
     let a = both_none (fault_of (verdict (tree_faults h.offset h.bytes))) (option_or (least (form_faults (moof_of h))) (least (value_faults tracks (moof_of h)))) e in
     let b = both_none (least (form_faults (moof_of h))) (least (value_faults tracks (moof_of h))) a.1 in
@@ -104,14 +104,14 @@ values tracks m e =
     let d = last_none (child_faults m) (repeat_faults m) c.0 in
     record { children = d.0; repeats = d.1; tfhds = c.1; truns = b.1; count = a.1 }
 
-pub count_none : (h : MoofBytes) (tracks : List Track) → early_fault h tracks ≡ None → count_faults (moof_of h) ≡ []
+pub count_none : (h : MoofBytes) (tracks : List Track) → fault_before_times h tracks ≡ None → count_faults (moof_of h) ≡ []
 count_none h tracks e = (values tracks (moof_of h) (early h tracks e).value).count
 
-pub read_early : (h : MoofBytes) (tracks : List Track) → IsRead h tracks → early_fault h tracks ≡ None
-read_early h tracks e = (both_none (early_fault h tracks) (least (time_faults (moof_trafs h tracks))) e).0
+pub read_early : (h : MoofBytes) (tracks : List Track) → IsRead h tracks → fault_before_times h tracks ≡ None
+read_early h tracks e = (both_none (fault_before_times h tracks) (least (time_faults (moof_trafs h tracks))) e).0
 
 pub read_times : (h : MoofBytes) (tracks : List Track) → IsRead h tracks → time_faults (moof_trafs h tracks) ≡ []
-read_times h tracks e = least-none (time_faults (moof_trafs h tracks)) (both_none (early_fault h tracks) (least (time_faults (moof_trafs h tracks))) e).1
+read_times h tracks e = least-none (time_faults (moof_trafs h tracks)) (both_none (fault_before_times h tracks) (least (time_faults (moof_trafs h tracks))) e).1
 
 pub read_count : (h : MoofBytes) (tracks : List Track) → IsRead h tracks → count_faults (moof_of h) ≡ []
 read_count h tracks e = count_none h tracks (read_early h tracks e)
@@ -146,7 +146,7 @@ or-assoc (Some a) b c = refl
 
 -- where the tree is good the fault is the least of the content
 pub sound_least : (h : MoofBytes) (tracks : List Track) (f : Fault) → tree_faults h.offset h.bytes ≡ [] → moof_fault h tracks ≡ Some f → IsLeast f (moof_faults h tracks)
-unfolding early_fault
+unfolding fault_before_times
 sound_least h tracks f none e =
     let m = moof_of h in
     let times = time_faults (moof_trafs h tracks) in
@@ -163,14 +163,14 @@ verdict_ok : (fs : List Fault) → verdict fs ≡ Ok tt → fs ≡ []
 verdict_ok [] e = refl
 verdict_ok (f ∷ fs) e = absurd cc
 
-pub early_least : (h : MoofBytes) (tracks : List Track) (f : Fault) → verdict (tree_faults h.offset h.bytes) ≡ Ok tt → early_fault h tracks ≡ Some f → IsLeast f (moof_faults h tracks)
+pub early_least : (h : MoofBytes) (tracks : List Track) (f : Fault) → verdict (tree_faults h.offset h.bytes) ≡ Ok tt → fault_before_times h tracks ≡ Some f → IsLeast f (moof_faults h tracks)
 early_least h tracks f good e = sound_least h tracks f (verdict_ok (tree_faults h.offset h.bytes) good) (ap (λ (o : Option Fault). option_or o (least (time_faults (moof_trafs h tracks)))) e)
 
-pub late_least : (h : MoofBytes) (tracks : List Track) (f : Fault) → early_fault h tracks ≡ None → least (time_faults (moof_trafs h tracks)) ≡ Some f → IsLeast f (moof_faults h tracks)
+pub late_least : (h : MoofBytes) (tracks : List Track) (f : Fault) → fault_before_times h tracks ≡ None → least (time_faults (moof_trafs h tracks)) ≡ Some f → IsLeast f (moof_faults h tracks)
 late_least h tracks f none e = sound_least h tracks f (early h tracks none).tree (ap (λ (o : Option Fault). option_or o (least (time_faults (moof_trafs h tracks)))) none ∙ e)
 
-pub early_is : (h : MoofBytes) (tracks : List Track) (m : Box) (o : Option Fault) → moof_of h ≡ m → verdict (tree_faults h.offset h.bytes) ≡ Ok tt → o ≡ option_or (least (form_faults m)) (least (value_faults tracks m)) → o ≡ early_fault h tracks
-unfolding early_fault
+pub early_is : (h : MoofBytes) (tracks : List Track) (m : Box) (o : Option Fault) → moof_of h ≡ m → verdict (tree_faults h.offset h.bytes) ≡ Ok tt → o ≡ option_or (least (form_faults m)) (least (value_faults tracks m)) → o ≡ fault_before_times h tracks
+unfolding fault_before_times
 early_is h tracks m o is good e =
     e
     ∙ ap (λ (b : Box). option_or (least (form_faults b)) (least (value_faults tracks b))) (sym is)

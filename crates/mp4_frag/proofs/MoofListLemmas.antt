@@ -7,7 +7,7 @@ use Rattle.std.proofs.lemmas.List.{length-map}
 use Rattle.mp4_box.specs.Headers.{IsBytes, IsWhole}
 use Rattle.mp4_box.specs.Paths.{of_kind, at_path}
 use Rattle.mp4_box.specs.Trees.{Box, box_at, box_len, children}
-use Rattle.mp4_box.proofs.GrammarLemmas.{stands, whole_len}
+use Rattle.mp4_box.proofs.GrammarLemmas.{lies_at, whole_len}
 use Rattle.mp4_init.specs.declared.table.Track.{Track}
 use Rattle.mp4_run_order.specs.declared.runs.ListedRun.{ListedRun}
 use Rattle.mp4_run_order.specs.Orders.{FitsKeys}
@@ -15,8 +15,8 @@ use Rattle.mp4_frag.specs.declared.run_row.RunRow.{RunRow}
 use Rattle.mp4_frag.specs.Kinds.{to_trun, traf}
 use Rattle.mp4_frag.specs.Moofs.{IsRead, moof_of, moof_runs}
 use Rattle.mp4_frag.specs.Ranges.{IsSound}
-use Rattle.mp4_frag.specs.Working.Rereads.{run_of_row}
-use Rattle.mp4_frag.specs.Working.RunRows.{listed_row, listed_words, row_of_words, rows_of_trafs, rows_of_words}
+use Rattle.mp4_frag.specs.Implementation.Rereads.{run_of_row}
+use Rattle.mp4_frag.specs.Implementation.RunRows.{listed_row, listed_words, row_of_words, rows_of_trafs, rows_of_words}
 use Rattle.mp4_frag.specs.Runs.{MoofBytes, traf_of, trafs_by}
 use Rattle.mp4_frag.proofs.MoofLemmas.{moof_is}
 use Rattle.mp4_frag.proofs.PlaceLemmas.{Lies, moof_lies}
@@ -40,7 +40,7 @@ lies h m f = moof_lies h m f.whole f.fits f.here
 
 ends : (h : MoofBytes) (m : Box) → IsMoof h m → m.offset + box_len m ≤ 2 ^ 62
 ends h m f =
-    let s = stands h.offset h.bytes m f.fits f.here in
+    let s = lies_at h.offset h.bytes m f.fits f.here in
     omega (arith, s.place, whole_len h.offset h.bytes m f.whole f.here, f.room)
 
 pub runs_are : (h : MoofBytes) (tracks : List Track) (m : Box) → IsMoof h m → moof_runs h tracks ≡ runs_by h tracks (of_kind traf (children m))

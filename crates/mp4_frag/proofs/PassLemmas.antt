@@ -15,8 +15,8 @@ use Rattle.mp4_init.specs.OrderedIds.{sought}
 use Rattle.mp4_frag.specs.Kinds.{traf}
 use Rattle.mp4_frag.specs.Rules.{fault_if}
 use Rattle.mp4_frag.specs.Repeats.{traf_id, is_listed, is_repeat, lacks_time, repeat_faults, repeats, trafs_before, trafs_of, untimed_ids}
-use Rattle.mp4_frag.specs.Working.AtOnce.{IsCount, most_64}
-use Rattle.mp4_frag.specs.Working.RepeatMarks.{marked_at, all_marked, marks}
+use Rattle.mp4_frag.specs.Implementation.AtOnce.{IsCount, most_64}
+use Rattle.mp4_frag.specs.Implementation.RepeatMarks.{marked_at, all_marked, marks}
 
 abbrev pub trafs : List Box → List Box
 trafs bs = of_kind traf bs
@@ -144,7 +144,7 @@ untimed-append (x ∷ xs) ys = by (lacks_time x) (untimed-append xs ys)
     by true e = ap (λ (ids : List ℕ). traf_id x ∷ ids) e
     by false e = e
 
--- the first of some, and those behind it
+-- the first of some, and those after it
 pub untimed_next : (so_far : List ℕ) (x : Box) (xs : List Box) → so_far ++ untimed_ids (trafs (x ∷ [])) ++ untimed_ids (trafs xs) ≡ so_far ++ untimed_ids (trafs (x ∷ xs))
 untimed_next so_far x xs =
     append_assoc so_far (untimed_ids (trafs (x ∷ []))) (untimed_ids (trafs xs))
@@ -180,7 +180,7 @@ pub no_more : (n : ℕ) → n ≡ n + count_of_trafs []
 unfolding untimed_ids
 no_more n = omega arith
 
--- ---- where no traf lacks a tfdt, or none stands before another
+-- ---- if no traf lacks a tfdt, or none comes before another
 
 pub none_lacks : (earlier ts : List Box) → list_any lacks_time ts ≡ false → repeats earlier ts ≡ []
 unfolding repeats

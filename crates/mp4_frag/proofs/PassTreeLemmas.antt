@@ -15,9 +15,9 @@ use Rattle.mp4_box.proofs.FilledLemmas.{over-each, over-filled}
 use Rattle.mp4_box.proofs.OrderLemmas.{least-none}
 use Rattle.mp4_box.proofs.TreeLemmas.{bad-leaf, bad-step, deep-leaf, deep-step}
 use Rattle.mp4_init.specs.declared.table.Track.{Track}
-use Rattle.mp4_frag.specs.Working.AtOnce.{by_moof, faults_in_moof, faults_in_traf, has_heads, is_complete, is_filled, is_kind, passed_over}
+use Rattle.mp4_frag.specs.Implementation.AtOnce.{by_moof, faults_in_moof, faults_in_traf, has_heads, is_complete, is_filled, is_kind, passed_over}
 use Rattle.mp4_frag.specs.Kinds.{mfhd, traf, tfhd, tfdt, trun, free, skip}
-use Rattle.mp4_frag.specs.Moofs.{early_fault, moof_faults, moof_of, value_faults}
+use Rattle.mp4_frag.specs.Moofs.{fault_before_times, moof_faults, moof_of, value_faults}
 use Rattle.mp4_frag.specs.Repeats.{repeat_faults}
 use Rattle.mp4_frag.specs.Rules.{count_faults, fault_if, form_faults, is_among}
 use Rattle.mp4_frag.specs.Runs.{MoofBytes}
@@ -123,7 +123,7 @@ no_tree tracks m p =
 
 -- ---- so it has no early fault, but for its values
 
--- what is told where only its values may be at fault
+-- the findings where only its values may be at fault
 content_is : (fs gs : List Fault) (o : Option Fault) → fs ≡ [] → o ≡ least gs → o ≡ option_or (least fs) (least gs)
 unfolding least_from
 content_is fs gs o none is = rw none is
@@ -132,10 +132,10 @@ module _ (h : MoofBytes) (tracks : List Track) (m : Box) (here : box_at h.offset
   tree_ok : verdict (tree_faults h.offset h.bytes) ≡ Ok tt
   tree_ok = ap verdict (ap faults_of here ∙ tree)
 
-  values_early : (o : Option Fault) → o ≡ least (value_faults tracks m) → o ≡ early_fault h tracks
+  values_early : (o : Option Fault) → o ≡ least (value_faults tracks m) → o ≡ fault_before_times h tracks
   values_early o values = early_is h tracks m o is tree_ok (content_is (form_faults m) (value_faults tracks m) o forms values)
 
-  pub none_early : value_faults tracks m ≡ [] → None ≡ early_fault h tracks
+  pub none_early : value_faults tracks m ≡ [] → None ≡ fault_before_times h tracks
   none_early values = values_early None (none_least (value_faults tracks m) values)
 
   -- where a repeat is all that may be at fault with its values
@@ -143,7 +143,7 @@ module _ (h : MoofBytes) (tracks : List Track) (m : Box) (here : box_at h.offset
     repeats_are : (o : Option Fault) → o ≡ least (repeat_faults (moof_of h)) → o ≡ least (value_faults tracks m)
     repeats_are o e = e ∙ ap (λ (b : Box). least (repeat_faults b)) is ∙ ap least (sym only)
 
-    pub repeats_early : (o : Option Fault) → o ≡ least (repeat_faults (moof_of h)) → o ≡ early_fault h tracks
+    pub repeats_early : (o : Option Fault) → o ≡ least (repeat_faults (moof_of h)) → o ≡ fault_before_times h tracks
     repeats_early o e = values_early o (repeats_are o e)
 
     pub repeats_least : (f : Fault) → Some f ≡ least (repeat_faults (moof_of h)) → IsLeast f (moof_faults h tracks)

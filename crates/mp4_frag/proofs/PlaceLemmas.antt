@@ -7,7 +7,7 @@ use Rattle.mp4_box.specs.declared.headers.FourCc.{FourCc}
 use Rattle.mp4_box.specs.Headers.{IsBytes, IsWhole}
 use Rattle.mp4_box.specs.Paths.{of_kind}
 use Rattle.mp4_box.specs.Trees.{Box, box_at, box_len, boxes, children, payload_offset}
-use Rattle.mp4_box.proofs.GrammarLemmas.{option_is, stands, whole_len}
+use Rattle.mp4_box.proofs.GrammarLemmas.{lies_at, option_is, whole_len}
 use Rattle.mp4_box.proofs.HeaderLemmas.{IsBytes-drop}
 use Rattle.mp4_box.proofs.TreeLemmas.{boxes_more, boxes_end, over-end}
 use Rattle.mp4_frag.specs.Runs.{MoofBytes}
@@ -29,18 +29,18 @@ inner x at n j m fits =
     ∙ take-take m (n - j) (drop j (drop at x)) (omega arith)
     ∙ ap (take m) (drop-drop j at x)
 
--- what stands behind a head
-behind_head : (whole head payload : List ℕ) (n : ℕ) → whole ≡ head ++ payload → n ≡ length head → payload ≡ drop n whole
-behind_head whole head payload n e is = sym (drop_at head payload n (sym is)) ∙ ap (drop n) (sym e)
+-- what follows a head
+after_head : (whole head payload : List ℕ) (n : ℕ) → whole ≡ head ++ payload → n ≡ length head → payload ≡ drop n whole
+after_head whole head payload n e is = sym (drop_at head payload n (sym is)) ∙ ap (drop n) (sym e)
 
 child_lies : (h : MoofBytes) (p b : Box) (k : ℕ) → Lies h p → k ≤ length p.payload → box_at (payload_offset p + k) (drop k p.payload) ≡ Some b → Lies h b
 child_lies h p b k lies within e =
     let x : List ℕ = drop k p.payload in
-    let s = stands (payload_offset p + k) x b (IsBytes-drop k p.payload lies.bytes) e in
+    let s = lies_at (payload_offset p + k) x b (IsBytes-drop k p.payload lies.bytes) e in
     let n : ℕ = b.header.header_len in
     let len : ℕ = length b.payload in
     let tail : b.payload ≡ take len (drop (k + n) p.payload) =
-    behind_head (take (box_len b) x) s.box.head b.payload n s.box.whole s.box.spelled.header_len
+    after_head (take (box_len b) x) s.box.head b.payload n s.box.whole s.box.spelled.header_len
     ∙ drop-take n len x
     ∙ ap (take len) (drop-drop n k p.payload) in
     let room : k + n + len ≤ length p.payload = omega (arith, s.high, length-drop k p.payload, within) in
@@ -65,7 +65,7 @@ rest_lie h p lies (suc fuel) k e =
       | inl none ↦ subst (λ (bs : List Box). AllByRecursion (Lies h) bs) (sym (boxes_end o x none)) tt
       | inr some ↦
           let b = some.0 in
-          let s = stands o x b (IsBytes-drop k p.payload lies.bytes) some.1 in
+          let s = lies_at o x b (IsBytes-drop k p.payload lies.bytes) some.1 in
           let within : k ≤ length p.payload = omega (arith, s.low, s.high, length-drop k p.payload) in
           let next : ℕ = k + box_len b in
           let rest = rest_lie h p lies fuel next (omega (arith, e, s.low)) in
@@ -95,7 +95,7 @@ kind_all P kind (b ∷ bs) all = by (bytes_eq b.header.kind.0 kind.0) (kind_all 
 -- the moof itself
 pub moof_lies : (h : MoofBytes) (m : Box) → IsWhole h.bytes → IsBytes h.bytes → box_at h.offset h.bytes ≡ Some m → Lies h m
 moof_lies h m whole fits e =
-    let s = stands h.offset h.bytes m fits e in
+    let s = lies_at h.offset h.bytes m fits e in
     let n : ℕ = m.header.header_len in
     let len : ℕ = length m.payload in
     let all : box_len m ≡ length h.bytes = whole_len h.offset h.bytes m whole e in
@@ -103,6 +103,6 @@ moof_lies h m whole fits e =
       at = n;
       place = omega (arith, s.place);
       within = omega (arith, all);
-      is = behind_head (take (box_len m) h.bytes) s.box.head m.payload n s.box.whole s.box.spelled.header_len ∙ drop-take n len h.bytes;
+      is = after_head (take (box_len m) h.bytes) s.box.head m.payload n s.box.whole s.box.spelled.header_len ∙ drop-take n len h.bytes;
       bytes = s.bytes;
     }

@@ -39,17 +39,17 @@ small_sum f g a (suc n) small =
     let e = sum_by-cons f (g a) (map g (range_with_len (a + 1) n)) in
     omega (arith, e, small a, small_sum f g (a + 1) n small)
 
-pub field_small : (held : List ℕ) (g : ℕ) (o : Option ℕ) (usual : ℕ) → IsBytes held → usual < 2 ^ 32 → field_at held g o usual < 2 ^ 32
-field_small held g None usual fits small = small
-field_small held g (Some at) usual fits small = number_small held (g + at) fits
+pub field_small : (moof_bytes : List ℕ) (g : ℕ) (o : Option ℕ) (common_layout : ℕ) → IsBytes moof_bytes → common_layout < 2 ^ 32 → field_at moof_bytes g o common_layout < 2 ^ 32
+field_small moof_bytes g None common_layout fits small = small
+field_small moof_bytes g (Some at) common_layout fits small = number_small moof_bytes (g + at) fits
 
-size_small : (run : Run) (held : List ℕ) (i : ℕ) → IsBytes held → run.size < 2 ^ 32 → (row_of run held i).size < 2 ^ 32
+size_small : (run : Run) (moof_bytes : List ℕ) (i : ℕ) → IsBytes moof_bytes → run.size < 2 ^ 32 → (row_of run moof_bytes i).size < 2 ^ 32
 unfolding row_of
-size_small run held i fits small = field_small held (group_at run i) run.fields.sample_size run.size fits small
+size_small run moof_bytes i fits small = field_small moof_bytes (group_at run i) run.fields.sample_size run.size fits small
 
-pub few_bytes : (run : Run) (held : List ℕ) → IsBytes held → run.size < 2 ^ 32 → sizes (rows_of run held) ≤ 4294967295 * run.count
-few_bytes run held fits small =
-    let s = small_sum (λ (row : Row). row.size) (row_of run held) 0 (run.count - 0) (λ i. size_small run held i fits small) in
+pub few_bytes : (run : Run) (moof_bytes : List ℕ) → IsBytes moof_bytes → run.size < 2 ^ 32 → sizes (rows_of run moof_bytes) ≤ 4294967295 * run.count
+few_bytes run moof_bytes fits small =
+    let s = small_sum (λ (row : Row). row.size) (row_of run moof_bytes) 0 (run.count - 0) (λ i. size_small run moof_bytes i fits small) in
     omega (arith, s)
 
 -- ---- the place of a run
@@ -83,9 +83,9 @@ placed z n bytes count h few = omega (arith, ints, h, few)
 
 place_of : (s : Shared) (time : ℕ) (last : ℤ) (n : ℕ) (b : Box) → s.header.size < 2 ^ 32 → IsBytes s.moof.bytes → IsBytes b.payload → s.moof.offset + 2 ^ 31 ≤ n → Begins last n → Place (run_of s time last b) n b
 unfolding run_of run_at
-place_of s time last n b small held fits near begins =
+place_of s time last n b small moof_bytes fits near begins =
     let at = start_range s.moof.offset last n (data_offset b.payload) (trun_fields (flags_in b.payload)).data_offset b.payload refl fits near begins in
-    let few = few_bytes (run_at s time last b) s.moof.bytes held small in
+    let few = few_bytes (run_at s time last b) s.moof.bytes moof_bytes small in
     record { low = at.low; high = placed (start_by s.moof.offset last (data_offset b.payload)) n (sizes (rows_of (run_at s time last b) s.moof.bytes)) (sample_count b.payload) at.high few }
 
 end_low : (z : ℤ) (bytes : ℕ) → pos 0 ≤ℤ (z +ℤ pos (2 ^ 31)) → pos 0 ≤ℤ ((z +ℤ pos bytes) +ℤ pos (2 ^ 31))
@@ -97,22 +97,22 @@ below z n h l = omega (arith, ints, h, l)
 ranges : (s : Shared) (time : ℕ) (last : ℤ) (n : ℕ) (bs : List Box) → s.header.size < 2 ^ 32 → IsBytes s.moof.bytes → AllByRecursion (λ (b : Box). IsBytes b.payload) bs → s.moof.offset + 2 ^ 31 ≤ n → Begins last n
     → n + 2 ^ 32 * samples_in bs < 2 ^ 63 → AllByRecursion (λ (run : Run). run.end < 2 ^ 64) (runs_from s time last bs) → AllByRecursion InRange (runs_from s time last bs)
 unfolding runs_from
-ranges s time last n [] small held fits near begins room ends = tt
-ranges s time last n (b ∷ bs) small held fits near begins room ends =
+ranges s time last n [] small moof_bytes fits near begins room ends = tt
+ranges s time last n (b ∷ bs) small moof_bytes fits near begins room ends =
     let run = run_of s time last b in
     let count : ℕ = sample_count b.payload in
-    let place = place_of s time last n b small held fits.0 near begins in
+    let place = place_of s time last n b small moof_bytes fits.0 near begins in
     let sum : samples_in (b ∷ bs) ≡ count + samples_in bs = sum_by-cons (λ (b : Box). sample_count b.payload) b bs in
     let next : ℕ = n + 2 ^ 32 * count in
     let begins' : Begins (end_place run) next = record { low = end_low run.place run.bytes place.low; high = place.high } in (
       record { end = ends.0; low = place.low; high = below (end_place run) next place.high (omega (arith, room, sum)) },
-      ranges s run.end (end_place run) next bs small held fits.1 (omega (arith, near)) begins' (omega (arith, room, sum)) ends.1,
+      ranges s run.end (end_place run) next bs small moof_bytes fits.1 (omega (arith, near)) begins' (omega (arith, room, sum)) ends.1,
     )
 
 pub in_range : (t : TrackFragment) → t.shared.header.size < 2 ^ 32 → IsSound t → AllByRecursion InRange (runs_of t)
 in_range t small sound =
     let n : ℕ = t.shared.moof.offset + 2 ^ 31 in
-    ranges t.shared t.time (pos t.shared.moof.offset) n t.truns small sound.held sound.truns (omega arith) (record { low = from_start t.shared.moof.offset; high = to_start t.shared.moof.offset }) (omega (arith, sound.near, sound.few)) sound.ends
+    ranges t.shared t.time (pos t.shared.moof.offset) n t.truns small sound.moof_bytes sound.truns (omega arith) (record { low = from_start t.shared.moof.offset; high = to_start t.shared.moof.offset }) (omega (arith, sound.near, sound.few)) sound.ends
   where
     from_start : (m : ℕ) → pos 0 ≤ℤ (pos m +ℤ pos (2 ^ 31))
     from_start m = omega (arith, ints)

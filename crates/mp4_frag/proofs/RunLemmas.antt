@@ -8,7 +8,7 @@ use Rattle.mp4_frag.specs.declared.run.Run.{Run}
 use Rattle.mp4_frag.specs.Kinds.{trun}
 use Rattle.mp4_frag.specs.Ranges.{InRange}
 use Rattle.mp4_frag.specs.Runs.{MoofBytes, Shared, TrackFragment, base_of, end_place, run_of, runs_from, runs_of, shared_by, track_of, traf_of, trafs_by}
-use Rattle.mp4_frag.specs.Working.Times.{ticks_in}
+use Rattle.mp4_frag.specs.Implementation.Times.{ticks_in}
 use Rattle.mp4_frag.proofs.TimeLemmas.{end_is}
 
 pub runs_none : (s : Shared) (time : ℕ) (last : ℤ) (bs : List Box) → bs ≡ [] → runs_from s time last bs ≡ []
@@ -40,8 +40,3 @@ pub traf_is : (h : MoofBytes) (tracks : List Track) (b : Box) (track : Track) (s
     → record { shared = s; time = time; truns = of_kind trun (children b) } ≡ traf_of h tracks b
 unfolding traf_of
 traf_is h tracks b track s time is e t = rw (e, t, is) refl
-
--- the fragment t that is first, and sound
-pub record FirstTraf (h : MoofBytes) (tracks : List Track) (t : TrackFragment) (bs cs : List Box) : Type 0 where
-  pub is : trafs_by h tracks bs ≡ t ∷ trafs_by h tracks cs
-  pub range : AllByRecursion InRange (runs_of t)

@@ -13,7 +13,7 @@ use Rattle.mp4_run_order.specs.Orders.{FitsKeys, IsTakenBefore, IsTakingOrder, I
 use Rattle.mp4_box.specs.declared.rules.Fault.{Fault}
 use Rattle.mp4_run_order.specs.Places.{IsOffender, first_offender}
 use Rattle.mp4_run_order.specs.Runs.{IsListing}
-use Rattle.mp4_run_order.specs.Working.Searches.{found_by_place, found_by_track}
+use Rattle.mp4_run_order.specs.Implementation.Searches.{found_by_place, found_by_track}
 use Rattle.mp4_run_order.proofs.ListLemmas.{Each, Pairs, all_of_pairs, each_moved, pairs_of_all, pairs_of_map, pairs_with}
 use Rattle.mp4_run_order.proofs.OrderLemmas.{TakenBefore, order_is_taken, place_keys_order, taken_alone, taken_is_order, taken_map, track_keys_order}
 use Rattle.mp4_run_order.proofs.SearchLemmas.{offender_means, search_is}
@@ -21,14 +21,14 @@ use Rattle.mp4_frag.specs.declared.run.Run.{Run}
 use Rattle.mp4_frag.specs.declared.run_row.RunRow.{RunRow}
 use Rattle.mp4_frag.specs.Moofs.{moof_runs}
 use Rattle.mp4_frag.specs.Runs.{MoofBytes}
-use Rattle.mp4_frag.specs.Working.Rereads.{run_of_row}
-use Rattle.mp4_frag.specs.Working.RunRows.{listed_row, listed_words, place_word, row_of_words, rows_of_words, track_word}
+use Rattle.mp4_frag.specs.Implementation.Rereads.{run_of_row}
+use Rattle.mp4_frag.specs.Implementation.RunRows.{listed_row, listed_words, place_word, row_of_words, rows_of_words, track_word}
 use Rattle.mp4_frag.specs.Places.{listed_run}
 use Rattle.mp4_frag.specs.Places.{IsPlaceFault, run_place_fault, place_fault}
 use Rattle.mp4_frag.specs.RunLists.{moof_listing, taken_runs}
 use Rattle.mp4_frag.specs.ListsOfRuns.{IsListOf}
 use Rattle.mp4_frag.specs.RunLists.{ListedRows}
-use Rattle.mp4_frag.specs.Working.ListedRows.{IsLate, IsSorted}
+use Rattle.mp4_frag.specs.Implementation.ListedRows.{IsLate, IsSorted}
 use Rattle.mp4_frag.proofs.RunRowLemmas.{Earlier, Given}
 
 -- ---- maps
@@ -207,7 +207,7 @@ listed_is h tracks l ws i w run of e lt at is =
     ∙ (map_at listed_run (taken_runs h tracks) i (listed_run run) run (omega (arith, k, length-map l.rows (run_of_row h tracks)))
     ∙ ap listed_run (sym is)))))
 
--- ---- what is lent comes back
+-- ---- the borrow ends
 
 pub overwritten_all : (xs w : List (List ℕ)) → length w ≡ length xs → overwritten xs w ≡ w
 overwritten_all xs w e =

@@ -9,7 +9,7 @@ use Rattle.mp4_box.specs.Headers.{IsBytes}
 use Rattle.mp4_box.specs.Paths.{of_kind, at_path}
 use Rattle.mp4_box.specs.Trees.{Box, box_at, box_len, boxes, children, first_of, payload_offset}
 use Rattle.mp4_box.proofs.TreeLemmas.{boxes_more}
-use Rattle.mp4_box.proofs.GrammarLemmas.{stands, found}
+use Rattle.mp4_box.proofs.GrammarLemmas.{lies_at, found}
 use Rattle.mp4_box.proofs.HeaderLemmas.{IsBytes-drop}
 use Rattle.mp4_init.specs.declared.table.Track.{Track}
 use Rattle.mp4_run_order.proofs.ListLemmas.{Each, Pairs, each_always, each_weaker}
@@ -20,11 +20,11 @@ use Rattle.mp4_frag.specs.Fields.{payload_of}
 use Rattle.mp4_frag.specs.Kinds.{tfhd, to_trun, traf, trun}
 use Rattle.mp4_frag.specs.Runs.{MoofBytes, Shared, end_place, header_by, known_track, run_at, run_of, runs_from, runs_of, shared_by, tfhd_of, track_of, traf_of}
 use Rattle.mp4_frag.specs.Tfhd.{track_id}
-use Rattle.mp4_frag.specs.Working.Rereads.{box_behind, box_in, absent_box, run_of_row}
-use Rattle.mp4_frag.specs.Working.RunRows.{listed_row, offset_or_none, row_of_run, rows_of_traf, rows_of_trafs, tfhd_at}
+use Rattle.mp4_frag.specs.Implementation.Rereads.{box_after, box_in, absent_box, run_of_row}
+use Rattle.mp4_frag.specs.Implementation.RunRows.{listed_row, offset_or_none, row_of_run, rows_of_traf, rows_of_trafs, tfhd_at}
 use Rattle.mp4_frag.specs.Places.{listed_run}
 use Rattle.mp4_frag.proofs.PlaceLemmas.{Lies, children_lie, inner, kind_all}
-use Rattle.mp4_frag.proofs.BoxOrderLemmas.{FoundIn, Behind, none_left, boxes_found, boxes_rise, kind_found, kind_rise}
+use Rattle.mp4_frag.proofs.BoxOrderLemmas.{FoundIn, IsBoxAfter, none_left, boxes_found, boxes_rise, kind_found, kind_rise}
 
 -- ---- boxes are found again
 
@@ -35,7 +35,7 @@ refound h p b lies f =
     let n : ℕ = box_len b in
     let at : ℕ = lies.at + f.at in
     let y : List ℕ = drop at h.bytes in
-    let s = stands (payload_offset p + f.at) x b (IsBytes-drop f.at p.payload lies.bytes) f.here in
+    let s = lies_at (payload_offset p + f.at) x b (IsBytes-drop f.at p.payload lies.bytes) f.here in
     let within = f.within in
     let place = f.place in
     let there = lies.place in
@@ -47,7 +47,7 @@ refound h p b lies f =
     let k : b.offset - h.offset ≡ at = omega arith in
     let o : h.offset + at ≡ b.offset = omega arith in
     let more = boxes_more b.offset y b whole f.low (omega (arith, length-drop at h.bytes)) in
-    ap (box_behind h) k
+    ap (box_after h) k
     ∙ (ap (λ (m : ℕ). unwrap_or (first_of (boxes m y)) absent_box) o
     ∙ ap (λ (bs : List Box). unwrap_or (first_of bs) absent_box) more)
 
@@ -56,9 +56,9 @@ pub found_nothing : (h : MoofBytes) (offset at : ℕ) (b : Box) → at ≡ offse
 unfolding box_in
 found_nothing h offset at b e far is =
     let none : boxes (h.offset + at) (drop at h.bytes) ≡ [] = none_left (h.offset + at) (drop at h.bytes) (omega (arith, length-drop at h.bytes)) in
-    is ∙ sym (ap (box_behind h) (sym e) ∙ ap (λ (bs : List Box). unwrap_or (first_of bs) absent_box) none)
+    is ∙ sym (ap (box_after h) (sym e) ∙ ap (λ (bs : List Box). unwrap_or (first_of bs) absent_box) none)
 
--- what stands behind a place, as the payload of a box without a header
+-- what follows a place, as the payload of a box without a header
 part_boxes : (h : MoofBytes) (at : ℕ) (part : Box) → part ≡ record absent_box { offset = h.offset + at; payload = drop at h.bytes } → children part ≡ boxes (h.offset + at) (drop at h.bytes)
 part_boxes h at part e =
     let z : h.offset + at + 0 ≡ h.offset + at = omega arith in
@@ -67,7 +67,7 @@ part_boxes h at part e =
 pub found_by : (h : MoofBytes) (offset at : ℕ) (part b : Box) (bs : List Box) → at ≡ offset - h.offset → part ≡ record absent_box { offset = h.offset + at; payload = drop at h.bytes } → bs ≡ children part → unwrap_or (first_of bs) absent_box ≡ b → b ≡ box_in h offset
 unfolding box_in
 found_by h offset at part b bs e is all first =
-    sym (ap (box_behind h) (sym e) ∙ (ap (λ (cs : List Box). unwrap_or (first_of cs) absent_box) (sym (all ∙ part_boxes h at part is)) ∙ first))
+    sym (ap (box_after h) (sym e) ∙ (ap (λ (cs : List Box). unwrap_or (first_of cs) absent_box) (sym (all ∙ part_boxes h at part is)) ∙ first))
 
 -- ---- so are runs
 
@@ -106,7 +106,7 @@ rise_truns s time last (b ∷ bs) h =
     let run = run_of s time last b in
     (at_truns (λ n. b.offset < n) s run.end (end_place run) bs h.0, rise_truns s run.end (end_place run) bs h.1)
 
--- the trun stands between these offsets
+-- the trun lies between these offsets
 abbrev Between : ℕ → ℕ → ℕ → Type 0
 Between from to n = (from ≤ n) × (n < to)
 
@@ -129,9 +129,9 @@ traf_runs h tracks t fits =
       rise = rise_truns s r.time (pos h.offset) bs (pairs_both_found o t.payload bs found rise);
     }
   where
-    pairs_both_found : (o : ℕ) (x : List ℕ) (bs : List Box) → Each (FoundIn o x) bs → Pairs Behind bs → Pairs (λ a b. a.offset < b.offset) bs
+    pairs_both_found : (o : ℕ) (x : List ℕ) (bs : List Box) → Each (FoundIn o x) bs → Pairs IsBoxAfter bs → Pairs (λ a b. a.offset < b.offset) bs
     pairs_both_found o x [] f h = tt
-    pairs_both_found o x (b ∷ bs) f h = (each_weaker (Behind b) (λ c. b.offset < c.offset) (λ c g. let l = f.0.low in omega arith) bs h.0, pairs_both_found o x bs f.1 h.1)
+    pairs_both_found o x (b ∷ bs) f h = (each_weaker (IsBoxAfter b) (λ c. b.offset < c.offset) (λ c g. let l = f.0.low in omega arith) bs h.0, pairs_both_found o x bs f.1 h.1)
 
 each_append : {X : Type 0} (P : X → Type 0) (xs ys : List X) → Each P xs → Each P ys → Each P (xs ++ ys)
 each_append P [] ys h k = k
@@ -144,12 +144,12 @@ pairs_append R (x ∷ xs) ys h k c = (each_append (R x) xs ys h.0 c.0, pairs_app
 abbrev pub runs_by : MoofBytes → List Track → List Box → List Run
 runs_by h tracks ts = flat_map runs_of (map (traf_of h tracks) ts)
 
-runs_behind : (h : MoofBytes) (tracks : List Track) (n : ℕ) (ts : List Box) → Each (λ t. RunsOf t (runs_of (traf_of h tracks t))) ts → Each (λ t. n ≤ t.offset) ts → Each (λ run. n ≤ run.offset) (runs_by h tracks ts)
-runs_behind h tracks n [] r b = tt
-runs_behind h tracks n (t ∷ ts) r b =
+runs_after : (h : MoofBytes) (tracks : List Track) (n : ℕ) (ts : List Box) → Each (λ t. RunsOf t (runs_of (traf_of h tracks t))) ts → Each (λ t. n ≤ t.offset) ts → Each (λ run. n ≤ run.offset) (runs_by h tracks ts)
+runs_after h tracks n [] r b = tt
+runs_after h tracks n (t ∷ ts) r b =
     each_append (λ run. n ≤ run.offset) (runs_of (traf_of h tracks t)) (runs_by h tracks ts)
     (each_weaker (λ run. Between t.offset (t.offset + box_len t) run.offset) (λ run. n ≤ run.offset) (λ run w. let from = w.0 in let le = b.0 in omega arith) (runs_of (traf_of h tracks t)) r.0.between)
-    (runs_behind h tracks n ts r.1 b.1)
+    (runs_after h tracks n ts r.1 b.1)
 
 runs_before : (h : MoofBytes) (tracks : List Track) (n : ℕ) (ts : List Box) → Each (λ t. RunsOf t (runs_of (traf_of h tracks t))) ts → Each (λ t. t.offset + box_len t ≤ n) ts → Each (λ run. run.offset < n) (runs_by h tracks ts)
 runs_before h tracks n [] r b = tt
@@ -158,10 +158,10 @@ runs_before h tracks n (t ∷ ts) r b =
     (each_weaker (λ run. Between t.offset (t.offset + box_len t) run.offset) (λ run. run.offset < n) (λ run w. let to = w.1 in let le = b.0 in omega arith) (runs_of (traf_of h tracks t)) r.0.between)
     (runs_before h tracks n ts r.1 b.1)
 
-runs_rise : (h : MoofBytes) (tracks : List Track) (ts : List Box) → Each (λ t. RunsOf t (runs_of (traf_of h tracks t))) ts → Pairs Behind ts → Pairs Earlier (runs_by h tracks ts)
+runs_rise : (h : MoofBytes) (tracks : List Track) (ts : List Box) → Each (λ t. RunsOf t (runs_of (traf_of h tracks t))) ts → Pairs IsBoxAfter ts → Pairs Earlier (runs_by h tracks ts)
 runs_rise h tracks [] r b = tt
 runs_rise h tracks (t ∷ ts) r b =
-    let later = runs_behind h tracks (t.offset + box_len t) ts r.1 b.0 in
+    let later = runs_after h tracks (t.offset + box_len t) ts r.1 b.0 in
     pairs_append Earlier (runs_of (traf_of h tracks t)) (runs_by h tracks ts) r.0.rise (runs_rise h tracks ts r.1 b.1)
     (each_weaker (λ run. Between t.offset (t.offset + box_len t) run.offset) (λ a. Each (Earlier a) (runs_by h tracks ts))
     (λ a w. each_weaker (λ run. t.offset + box_len t ≤ run.offset) (Earlier a) (λ run le. let to = w.1 in omega arith) (runs_by h tracks ts) later) (runs_of (traf_of h tracks t)) r.0.between)
@@ -176,7 +176,7 @@ moof_runs_rise h tracks m fits =
     let o = payload_offset m in
     let ts = of_kind traf (children m) in
     let found = kind_found (FoundIn o m.payload) traf (children m) (boxes_found o m.payload fits) in
-    let runs = each_weaker (FoundIn o m.payload) (λ t. RunsOf t (runs_of (traf_of h tracks t))) (λ t f. traf_runs h tracks t (stands (o + f.at) (drop f.at m.payload) t (IsBytes-drop f.at m.payload fits) f.here).bytes) ts found in
+    let runs = each_weaker (FoundIn o m.payload) (λ t. RunsOf t (runs_of (traf_of h tracks t))) (λ t f. traf_runs h tracks t (lies_at (o + f.at) (drop f.at m.payload) t (IsBytes-drop f.at m.payload fits) f.here).bytes) ts found in
     record {
       rise = runs_rise h tracks ts runs (kind_rise traf (children m) (boxes_rise o m.payload fits));
       before = runs_before h tracks (m.offset + box_len m) ts runs (each_weaker (FoundIn o m.payload) (λ t. t.offset + box_len t ≤ m.offset + box_len m) (λ t f. let p = f.place in let w = f.within in omega arith) ts found);

@@ -1,4 +1,4 @@
--- The tracks behind a moof: the ends before it serve each traf that has no tfdt.
+-- The tracks after a moof: the ends before it serve each traf that has no tfdt.
 use Rattle.std.proofs.Common.{◌≡◌, ◌∙◌, ◌+◌, ◌^◌, ◌<◌, ◌≤◌, ◌==◌, ◌&&◌, ℕ, ℤ, pos, suc, Bool, true, false, cond, ltb, List, [], ◌∷◌, ◌++◌, map, Option, Some, None, refl, sym, ap, subst, arith, length}
 use Rattle.std.specs.Prelude.{option_map, slice_get}
 use Rattle.std.specs.List.{AllByRecursion, flat_map, fold, position, position_from}
@@ -24,8 +24,8 @@ use Rattle.mp4_frag.specs.Ranges.{IsSound}
 use Rattle.mp4_frag.specs.Moofs.{IsRead, late, moof_of, moof_trafs}
 use Rattle.mp4_frag.specs.Repeats.{traf_id, lacks_time, is_listed, is_repeat, repeat_faults, repeats}
 use Rattle.mp4_frag.specs.Settling.{ended, ended_at, settled, timed, timed_in, with_end}
-use Rattle.mp4_frag.specs.Working.SettlingSteps.{EachInTime, EndsInTime, settled_on, ticks_from}
-use Rattle.mp4_frag.specs.Working.Times.{late_from, late_trun, ticks_in}
+use Rattle.mp4_frag.specs.Implementation.SettlingSteps.{EachInTime, EndsInTime, settled_on, ticks_from}
+use Rattle.mp4_frag.specs.Implementation.Times.{late_from, late_trun, ticks_in}
 use Rattle.mp4_frag.specs.Laws.{in_turn}
 use Rattle.mp4_frag.proofs.MoofLemmas.{on_path, early, read_early, values}
 use Rattle.mp4_frag.proofs.PassLemmas.{listed-append}

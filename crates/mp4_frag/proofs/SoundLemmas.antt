@@ -19,7 +19,7 @@ use Rattle.mp4_frag.specs.Fields.{flags_in, number_or, payload_of}
 use Rattle.mp4_frag.specs.Tfhd.{fields_of, track_id}
 use Rattle.mp4_frag.specs.Trun.{sample_count, sample_duration_present}
 use Rattle.mp4_frag.specs.Settling.{timed, timed_in, timed_of}
-use Rattle.mp4_frag.specs.Rules.{count_faults, most_samples, samples_in, samples_of, too_many}
+use Rattle.mp4_frag.specs.Rules.{count_faults, most_in_moof, samples_in, samples_of, too_many}
 use Rattle.mp4_frag.specs.Rows.{rows_of}
 use Rattle.mp4_frag.specs.Runs.{MoofBytes, Shared, end_place, run_at, no_track, run_of, runs_from, runs_of, tfhd_of, track_of, traf_of, trafs_by}
 use Rattle.mp4_frag.specs.Moofs.{IsRead, late, late_fault, moof_of, moof_runs, moof_samples, moof_trafs, time_faults, time_faults_of}
@@ -45,15 +45,15 @@ none_late (run ∷ runs) e = let both = last_none (late run) (flat_map late runs
 
 -- ---- counts
 
-few_from : (n : ℕ) (bs : List Box) → n ≤ most_samples → too_many n bs ≡ [] → n + samples_in bs ≤ most_samples
+few_from : (n : ℕ) (bs : List Box) → n ≤ most_in_moof → too_many n bs ≡ [] → n + samples_in bs ≤ most_in_moof
 unfolding too_many
 few_from n [] h e = omega (arith, h)
-few_from n (b ∷ bs) h e = by (ltb most_samples (n + sample_count b.payload)) refl (few_from (n + sample_count b.payload) bs) e
+few_from n (b ∷ bs) h e = by (ltb most_in_moof (n + sample_count b.payload)) refl (few_from (n + sample_count b.payload) bs) e
   where
-    by : (t : Bool) → ltb most_samples (n + sample_count b.payload) ≡ t → (n + sample_count b.payload ≤ most_samples → too_many (n + sample_count b.payload) bs ≡ [] → n + sample_count b.payload + samples_in bs ≤ most_samples) → cond t (fault_at TooManySamples b ∷ []) (too_many (n + sample_count b.payload) bs) ≡ [] → n + samples_in (b ∷ bs) ≤ most_samples
+    by : (t : Bool) → ltb most_in_moof (n + sample_count b.payload) ≡ t → (n + sample_count b.payload ≤ most_in_moof → too_many (n + sample_count b.payload) bs ≡ [] → n + sample_count b.payload + samples_in bs ≤ most_in_moof) → cond t (fault_at TooManySamples b ∷ []) (too_many (n + sample_count b.payload) bs) ≡ [] → n + samples_in (b ∷ bs) ≤ most_in_moof
     by true t later e = absurd cc
     by false t later e =
-        omega (arith, later (ltb-false most_samples (n + sample_count b.payload) t) e, sum_by-cons (λ (b : Box). sample_count b.payload) b bs)
+        omega (arith, later (ltb-false most_in_moof (n + sample_count b.payload) t) e, sum_by-cons (λ (b : Box). sample_count b.payload) b bs)
 
 path_one : (bs : List Box) → flat_map (at_path []) bs ≡ bs
 unfolding at_path
@@ -73,9 +73,9 @@ all_few n (t ∷ ts) h =
       all_few n ts (omega (arith, h, sum)),
     )
 
-pub trafs_few : (m : Box) → count_faults m ≡ [] → AllByRecursion (λ (t : Box). samples_in (of_kind trun (children t)) ≤ most_samples) (of_kind traf (children m))
+pub trafs_few : (m : Box) → count_faults m ≡ [] → AllByRecursion (λ (t : Box). samples_in (of_kind trun (children t)) ≤ most_in_moof) (of_kind traf (children m))
 unfolding at_path
-trafs_few m e = all_few most_samples (of_kind traf (children m)) (omega (arith, few_from 0 (at_path to_trun m) (omega arith) e))
+trafs_few m e = all_few most_in_moof (of_kind traf (children m)) (omega (arith, few_from 0 (at_path to_trun m) (omega arith) e))
 
 -- ---- all
 
@@ -83,17 +83,17 @@ lies_bytes : (h : MoofBytes) (bs : List Box) → AllByRecursion (Lies h) bs → 
 lies_bytes h [] all = tt
 lies_bytes h (b ∷ bs) all = (all.0.bytes, lies_bytes h bs all.1)
 
-traf_sound : (h : MoofBytes) (tracks : List Track) (t : Box) → h.offset ≤ 2 ^ 62 → IsBytes h.bytes → Lies h t → samples_in (of_kind trun (children t)) ≤ most_samples → time_faults_of (traf_of h tracks t) ≡ [] → IsSound (traf_of h tracks t)
+traf_sound : (h : MoofBytes) (tracks : List Track) (t : Box) → h.offset ≤ 2 ^ 62 → IsBytes h.bytes → Lies h t → samples_in (of_kind trun (children t)) ≤ most_in_moof → time_faults_of (traf_of h tracks t) ≡ [] → IsSound (traf_of h tracks t)
 unfolding traf_of
 traf_sound h tracks t near fits lies few times = record {
   near = near;
-  held = fits;
+  moof_bytes = fits;
   truns = lies_bytes h (of_kind trun (children t)) (kind_all (Lies h) trun (children t) (children_lie h t lies));
   few = few;
   ends = none_late (runs_of (traf_of h tracks t)) times;
 }
 
-trafs_sound : (h : MoofBytes) (tracks : List Track) (ts : List Box) → h.offset ≤ 2 ^ 62 → IsBytes h.bytes → AllByRecursion (Lies h) ts → AllByRecursion (λ (t : Box). samples_in (of_kind trun (children t)) ≤ most_samples) ts
+trafs_sound : (h : MoofBytes) (tracks : List Track) (ts : List Box) → h.offset ≤ 2 ^ 62 → IsBytes h.bytes → AllByRecursion (Lies h) ts → AllByRecursion (λ (t : Box). samples_in (of_kind trun (children t)) ≤ most_in_moof) ts
     → time_faults (map (traf_of h tracks) ts) ≡ [] → AllByRecursion IsSound (map (traf_of h tracks) ts)
 trafs_sound h tracks [] near fits lie few times = tt
 trafs_sound h tracks (t ∷ ts) near fits lie few times =
@@ -125,7 +125,7 @@ all_timed_few (b ∷ bs) =
 -- they are few, as all samples are
 pub record FewTimed (m : Box) : Type 0 where
   pub timed : timed_of m ≤ samples_of m
-  pub most : samples_of m ≤ most_samples
+  pub most : samples_of m ≤ most_in_moof
 
 pub few_timed : (m : Box) → count_faults m ≡ [] → FewTimed m
 few_timed m e = record { timed = all_timed_few (at_path to_trun m); most = omega (arith, few_from 0 (at_path to_trun m) (omega arith) e) }
@@ -138,20 +138,20 @@ run_count s time last b = refl
 
 -- how many rows runs have
 abbrev pub rows_in : List ℕ → List Run → ℕ
-rows_in held runs = length (flat_map (λ (run : Run). rows_of run held) runs)
+rows_in moof_bytes runs = length (flat_map (λ (run : Run). rows_of run moof_bytes) runs)
 
-rows_append : (held : List ℕ) (xs ys : List Run) → rows_in held (xs ++ ys) ≡ rows_in held xs + rows_in held ys
-rows_append held xs ys =
-    ap length (flat_map-append (λ (run : Run). rows_of run held) xs ys) ∙ length-append (flat_map (λ (run : Run). rows_of run held) xs) (flat_map (λ (run : Run). rows_of run held) ys)
+rows_append : (moof_bytes : List ℕ) (xs ys : List Run) → rows_in moof_bytes (xs ++ ys) ≡ rows_in moof_bytes xs + rows_in moof_bytes ys
+rows_append moof_bytes xs ys =
+    ap length (flat_map-append (λ (run : Run). rows_of run moof_bytes) xs ys) ∙ length-append (flat_map (λ (run : Run). rows_of run moof_bytes) xs) (flat_map (λ (run : Run). rows_of run moof_bytes) ys)
 
-count_runs : (held : List ℕ) (s : Shared) (time : ℕ) (last : ℤ) (bs : List Box) → rows_in held (runs_from s time last bs) ≡ samples_in bs
+count_runs : (moof_bytes : List ℕ) (s : Shared) (time : ℕ) (last : ℤ) (bs : List Box) → rows_in moof_bytes (runs_from s time last bs) ≡ samples_in bs
 unfolding runs_from
-count_runs held s time last [] = refl
-count_runs held s time last (b ∷ bs) =
+count_runs moof_bytes s time last [] = refl
+count_runs moof_bytes s time last (b ∷ bs) =
     let run = run_of s time last b in
-    let rest = count_runs held s run.end (end_place run) bs in
-    let more = length-append (rows_of run held) (flat_map (λ (run : Run). rows_of run held) (runs_from s run.end (end_place run) bs)) in
-    omega (arith, more, rest, length_rows_of run held, run_count s time last b, sum_by-cons (λ (b : Box). sample_count b.payload) b bs)
+    let rest = count_runs moof_bytes s run.end (end_place run) bs in
+    let more = length-append (rows_of run moof_bytes) (flat_map (λ (run : Run). rows_of run moof_bytes) (runs_from s run.end (end_place run) bs)) in
+    omega (arith, more, rest, length_rows_of run moof_bytes, run_count s time last b, sum_by-cons (λ (b : Box). sample_count b.payload) b bs)
 
 count_traf : (h : MoofBytes) (tracks : List Track) (t : Box) → rows_in h.bytes (runs_of (traf_of h tracks t)) ≡ samples_in (of_kind trun (children t))
 unfolding traf_of
@@ -171,9 +171,9 @@ rows_are_samples h tracks = count_trafs h tracks (of_kind traf (children (moof_o
 
 -- ---- the range of all runs
 
-pub number_or_small : (p : List ℕ) (o : Option ℕ) (usual : ℕ) → IsBytes p → usual < 2 ^ 32 → number_or p o usual < 2 ^ 32
-number_or_small p None usual fits small = small
-number_or_small p (Some at) usual fits small = number_small p at fits
+pub number_or_small : (p : List ℕ) (o : Option ℕ) (common_layout : ℕ) → IsBytes p → common_layout < 2 ^ 32 → number_or p o common_layout < 2 ^ 32
+number_or_small p None common_layout fits small = small
+number_or_small p (Some at) common_layout fits small = number_small p at fits
 
 found_small : (tracks : List Track) (i : ℕ) → AllByRecursion (λ (t : Track). t.size < 2 ^ 32) tracks → (unwrap_or (slice_get tracks i) no_track).size < 2 ^ 32
 found_small [] i small = omega arith

@@ -3,11 +3,11 @@ use Rattle.std.proofs.Common.{◌≡◌, ◌∙◌, ◌<◌, ◌^◌, ℕ, ℤ, 
 use Rattle.std.specs.List.{AllByRecursion}
 use Rattle.mp4_box.specs.Paths.{at_path, of_kind}
 use Rattle.mp4_box.specs.Trees.{Box, children, first_of}
-use Rattle.mp4_frag.specs.Working.AtOnce.{is_kind}
+use Rattle.mp4_frag.specs.Implementation.AtOnce.{is_kind}
 use Rattle.mp4_init.specs.declared.table.Track.{Track}
 use Rattle.mp4_frag.specs.Kinds.{tfdt, tfhd, trun}
 use Rattle.mp4_frag.specs.Fields.{payload_of}
-use Rattle.mp4_frag.specs.Working.RunRows.{offset_or_none, tfhd_at}
+use Rattle.mp4_frag.specs.Implementation.RunRows.{offset_or_none, tfhd_at}
 use Rattle.mp4_frag.specs.Ranges.{InRange, IsSound}
 use Rattle.mp4_frag.specs.Runs.{MoofBytes, Shared, base_by, base_of, runs_from, runs_of, shared_by, tfhd_of, track_of, traf_of}
 use Rattle.mp4_frag.specs.Tfdt.{base_media_decode_time}

@@ -10,7 +10,7 @@ lowest zero h = and_zero_l 1
 lowest (suc zero) h = and_self 1
 lowest (suc (suc n)) h = absurd (omega (arith, h))
 
--- the bit is found wherever it stands
+-- the bit is found wherever it is
 bit_is : (above bit priority : ℕ) → bit < 2 → priority < 2 ^ 16 → bit_and ((above * 2 + bit) * 65536 + priority) non_sync ≡ bit * 65536
 bit_is above bit priority one low =
     let high = and_block 16 (above * 2 + bit) 1 priority 0 low (omega arith) in

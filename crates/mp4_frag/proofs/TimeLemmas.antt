@@ -11,7 +11,7 @@ use Rattle.mp4_frag.proofs.RowLemmas.{durations_by_product}
 use Rattle.mp4_frag.specs.Rows.{row_of, group_at, rows_of, durations, sizes}
 use Rattle.mp4_frag.specs.Runs.{Shared, run_at, run_of, runs_from, end_place}
 use Rattle.mp4_frag.specs.Moofs.{late}
-use Rattle.mp4_frag.specs.Working.Times.{ticks_in, late_at, late_from}
+use Rattle.mp4_frag.specs.Implementation.Times.{ticks_in, late_at, late_from}
 
 -- the durations of a run don't depend on its time or its place
 pub ticks_are : (s : Shared) (time : ℕ) (last : ℤ) (b : Box) → durations (rows_of (run_at s time last b) s.moof.bytes) ≡ ticks_in s b
@@ -22,10 +22,10 @@ pub ticks_by_product : (s : Shared) (b : Box) → is_none (sample_fields (flags_
 unfolding run_at ticks_in
 ticks_by_product s b none = sym (durations_by_product (run_at s 0 (pos 0) b) s.moof.bytes none)
 
-pub none_told : (o : Option ℕ) (told : Bool) → is_some o ≡ not told → told ≡ true → is_none o ≡ true
-none_told None told e is = refl
-none_told (Some n) true e is = absurd cc
-none_told (Some n) false e is = absurd cc
+pub none_found : (o : Option ℕ) (found : Bool) → is_some o ≡ not found → found ≡ true → is_none o ≡ true
+none_found None found e is = refl
+none_found (Some n) true e is = absurd cc
+none_found (Some n) false e is = absurd cc
 
 pub end_is : (s : Shared) (time : ℕ) (last : ℤ) (b : Box) → (run_of s time last b).end ≡ time + ticks_in s b
 unfolding run_of run_at row_of group_at ticks_in

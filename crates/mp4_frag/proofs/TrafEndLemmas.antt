@@ -15,7 +15,7 @@ use Rattle.mp4_frag.specs.Runs.{MoofBytes, Shared, TrackFragment, end_place, run
 use Rattle.mp4_frag.specs.Settling.{settled, timed, timed_in, timed_of}
 use Rattle.mp4_frag.specs.TrafEnds.{ended_by, few_trafs, traf_end}
 use Rattle.mp4_frag.specs.Trun.{sample_count, sample_duration_present, sample_fields}
-use Rattle.mp4_frag.specs.Working.Following.{count_if, ends_by, runs_of_trafs, timed_run}
+use Rattle.mp4_frag.specs.Implementation.Following.{count_if, ends_by, runs_of_trafs, timed_run}
 use Rattle.mp4_frag.proofs.MoofLemmas.{path_kind, read_count, truns_first}
 use Rattle.mp4_frag.proofs.MoofListLemmas.{IsMoof}
 use Rattle.mp4_frag.proofs.RunRowLemmas.{on_path}

@@ -1,4 +1,4 @@
--- Cursors of a run: before a row, or behind the last.
+-- Cursors of a run: before a row, or after the last.
 use Rattle.std.specs.Prelude.{pos, ◌<◌, ◌+◌, ◌^◌, ◌+ℤ◌, ◌≤ℤ◌, ◌<ℤ◌, List, length}
 use Rattle.mp4_frag.specs.declared.run.Run.{Run}
 use Rattle.mp4_frag.specs.declared.rows.Row.{Row}
@@ -9,7 +9,7 @@ use Rattle.mp4_frag.specs.Rows.{durations, sizes}
 abbrev pub first_cursor : Run → Cursor
 first_cursor run = record { row = 0; time = run.time; place = run.place }
 
--- the cursor behind a row
+-- the cursor after a row
 abbrev pub past : Cursor → Row → Cursor
 past c row = record { row = c.row + 1; time = c.time + row.duration; place = c.place +ℤ pos row.size }
 

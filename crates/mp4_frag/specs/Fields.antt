@@ -1,10 +1,10 @@
--- Fields that are there where a flag says so (ISO/IEC 14496-12, 4.2).
+-- Fields that a flag announces (ISO/IEC 14496-12, 4.2).
 use Rattle.std.specs.Prelude.{ℕ, ℤ, Bool, List, [], Option, Some, None, nat_lt, if◌then◌else◌, length, drop}
 use Rattle.byteorder.specs.Endian.{big_number, twos_complement}
 use Rattle.mp4_box.specs.Fields.{number_in}
 use Rattle.mp4_box.specs.Trees.{Box}
 
--- the flags of a full box, which stand in the three bytes behind its version; 0 where they aren't all there
+-- the flags of a full box, which are the three bytes after its version; 0 if they aren't all there
 abbrev pub flags_in : List ℕ → ℕ
 flags_in payload = if nat_lt (length payload) 4 then 0 else big_number 3 (drop 1 payload)
 
@@ -12,14 +12,14 @@ flags_in payload = if nat_lt (length payload) 4 then 0 else big_number 3 (drop 1
 abbrev pub width_if : Bool → ℕ
 width_if is_there = if is_there then 4 else 0
 
--- where a field stands that is there
+-- place of a field that is there
 abbrev pub place_if : Bool → ℕ → Option ℕ
 place_if is_there at = if is_there then Some at else None
 
--- the number of the field at a place, or what stands for a field that isn't there
+-- the number of the field at a place, or a default if the field isn't there
 abbrev pub number_or : List ℕ → Option ℕ → ℕ → ℕ
-number_or payload None usual = usual
-number_or payload (Some at) usual = number_in payload at
+number_or payload None common_layout = common_layout
+number_or payload (Some at) common_layout = number_in payload at
 
 -- the signed number in the four bytes at a place, in two's complement; 0 where they aren't all there
 abbrev pub signed_in : List ℕ → ℕ → ℤ

@@ -1,4 +1,4 @@
--- What the laws speak of beside the definitions.
+-- Definitions that only the laws need.
 use Rattle.std.specs.Prelude.{◌≡◌, ℕ, ℤ, List, [], ◌∷◌, ◌+◌, ◌*◌, ◌<◌}
 use Rattle.std.specs.List.{AllByRecursion}
 use Rattle.mp4_box.specs.Trees.{Box, children}
@@ -21,11 +21,11 @@ group_in payload i = (trun_fields (flags_in payload)).samples + (sample_fields (
 abbrev pub group_row : Run → List ℕ → ℕ → Row
 group_row run payload i = row_from run payload i (group_in payload i)
 
--- each row of the run of a trun is what stands in its group
+-- each row of the run of a trun has the fields of its group
 abbrev pub RowsAreGroups : Shared → Box → Type 0
 RowsAreGroups s b = (time : ℕ) (last : ℤ) (i : ℕ) → i < sample_count b.payload → row_of (run_of s time last b) s.moof.bytes i ≡ group_row (run_of s time last b) b.payload i
 
--- so it is with the truns of a traf
+-- the same for the truns of a traf
 abbrev pub TrafRowsAreGroups : MoofBytes → List Track → Box → Type 0
 TrafRowsAreGroups h tracks t = AllByRecursion (RowsAreGroups (shared_by h (track_of tracks t) t)) (of_kind trun (children t))
 

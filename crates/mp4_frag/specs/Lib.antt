@@ -16,8 +16,8 @@ pub mod Ranges
 pub mod After
 pub mod Settling
 pub mod TrafEnds
-pub mod LoneRuns
+pub mod SingleRuns
 pub mod Laws
 pub mod Places
 pub mod SyncSamples
-pub mod Working
+pub mod Implementation

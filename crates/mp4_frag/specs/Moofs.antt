@@ -1,4 +1,4 @@
--- What a moof comes to: its trafs, its runs and its samples, or its fault.
+-- Result of reading a moof: its trafs, its runs and its samples, or its fault.
 use Rattle.std.specs.Prelude.{◌≡◌, ℕ, List, [], ◌∷◌, ◌++◌, ◌^◌, nat_lt, if◌then◌else◌, Option, Some, None, length}
 use Rattle.std.specs.List.{flat_map}
 use Rattle.std.specs.Option.{option_or, unwrap_or}
@@ -17,7 +17,7 @@ use Rattle.mp4_frag.specs.Repeats.{repeat_faults}
 use Rattle.mp4_frag.specs.Runs.{MoofBytes, TrackFragment, runs_of, trafs_by}
 use Rattle.mp4_frag.specs.declared.run.Run.{Run}
 
--- what stands for a box where the bytes are none
+-- an empty box, where the bytes are no box
 abbrev pub no_box : Box
 no_box = record { header = record { kind = record { 0 = [] }; user = None; size = ToEnd; header_len = 0 }; offset = 0; payload = [] }
 
@@ -43,7 +43,7 @@ moof_truns h = length (at_path to_trun (moof_of h))
 
 -- ---- its fault
 
--- what is at fault with the values of a moof whose boxes are as they must be, times aside
+-- faults of the values of a moof whose boxes are as they must be, times aside
 unfoldable pub value_faults : List Track → Box → List Fault
 value_faults tracks m =
     child_faults m
@@ -68,16 +68,16 @@ abbrev pub time_faults : List TrackFragment → List Fault
 time_faults ts = flat_map time_faults_of ts
 
 -- the fault by all rules but the last, that of times: of its tree; else of its boxes; else of their values
-unfoldable pub early_fault : MoofBytes → List Track → Option Fault
-early_fault h tracks =
+unfoldable pub fault_before_times : MoofBytes → List Track → Option Fault
+fault_before_times h tracks =
     option_or (fault_of (verdict (tree_faults h.offset h.bytes)))
     (option_or (least (form_faults (moof_of h))) (least (value_faults tracks (moof_of h))))
 
--- the fault of the moof that the bytes are: times are looked at only where all else is good
+-- fault of the moof that the bytes are: times are checked only if all else is sound
 abbrev pub moof_fault : MoofBytes → List Track → Option Fault
-moof_fault h tracks = option_or (early_fault h tracks) (least (time_faults (moof_trafs h tracks)))
+moof_fault h tracks = option_or (fault_before_times h tracks) (least (time_faults (moof_trafs h tracks)))
 
--- all that is at fault with it, as far as it is looked at
+-- all its faults, as far as it is checked
 abbrev pub moof_faults : MoofBytes → List Track → List Fault
 moof_faults h tracks =
     or_else (tree_faults h.offset h.bytes) (or_else (form_faults (moof_of h)) (or_else (value_faults tracks (moof_of h)) (time_faults (moof_trafs h tracks))))

@@ -11,11 +11,11 @@ use Rattle.mp4_frag.specs.Kinds.{trun}
 abbrev pub listed_run : Run → ListedRun
 listed_run run = record { number = run.offset; track = run.track; count = run.count; place = run.place; bytes = run.bytes }
 
--- the trun that begins at this offset may not stand where it does
+-- fault of the trun that begins at this offset and may not lie where it does
 abbrev pub run_place_fault : ℕ → Fault
 run_place_fault offset = record { rule = RunPlace; kind = Some trun; offset = offset }
 
--- the fault of the first run in the listing that may not stand where it does, where there is one
+-- the fault of the first run in the listing that may not lie where it does, where there is one
 abbrev pub place_fault : Payload → List Run → Option Fault
 place_fault payload runs = option_map (λ run. run_place_fault run.number) (first_offender payload (map listed_run runs))
 
@@ -25,7 +25,7 @@ pub record IsMisplaced (payload : Payload) (runs : List ListedRun) (fault : Faul
   pub first : IsFirstOffender payload runs run
   pub is : fault ≡ run_place_fault run.number
 
--- what is answered: that fault, or none where all runs may stand where they do
+-- the result: that fault, or none where all runs may lie where they do
 abbrev pub IsPlaceFault : Payload → List ListedRun → Option Fault → Type 0
 IsPlaceFault payload runs None = Placed payload runs
 IsPlaceFault payload runs (Some fault) = IsMisplaced payload runs fault

@@ -1,4 +1,4 @@
--- Track fragments without a base time of their own, behind others of their track.
+-- Track fragments without a base time of their own, after others of their track.
 use Rattle.std.specs.Prelude.{ℕ, Bool, true, false, List, [], ◌∷◌, ◌++◌, ◌==◌, ◌&&◌, if◌then◌else◌, take, drop}
 use Rattle.std.specs.Option.{is_none}
 use Rattle.mp4_box.specs.declared.rules.Fault.{Fault}
@@ -27,7 +27,7 @@ is_listed id (t ∷ ts) = if traf_id t == id then true else is_listed id ts
 abbrev pub is_repeat : List Box → Box → Bool
 is_repeat earlier t = lacks_time t && is_listed (traf_id t) earlier
 
--- the trafs of which this holds, behind these
+-- the trafs of which this holds, after these
 unfoldable pub repeats : List Box → List Box → List Fault
 repeats earlier [] = []
 repeats earlier (t ∷ ts) = fault_if (is_repeat earlier t) Unsupported t ++ repeats (earlier ++ t ∷ []) ts
@@ -39,9 +39,9 @@ trafs_of m = of_kind traf (children m)
 abbrev pub trafs_before : ℕ → Box → List Box
 trafs_before n m = of_kind traf (take n (children m))
 
--- those behind the first n children
-abbrev pub trafs_behind : ℕ → Box → List Box
-trafs_behind n m = of_kind traf (drop n (children m))
+-- those after the first n children
+abbrev pub trafs_after : ℕ → Box → List Box
+trafs_after n m = of_kind traf (drop n (children m))
 
 abbrev pub repeat_faults : Box → List Fault
 repeat_faults m = repeats [] (trafs_of m)

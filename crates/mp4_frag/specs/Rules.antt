@@ -24,7 +24,7 @@ abbrev pub fault_if : Bool → Rule → Box → List Fault
 fault_if true rule b = fault_at rule b ∷ []
 fault_if false rule b = []
 
--- ---- which boxes there are, and their lengths
+-- ---- which boxes there must be, and their lengths
 
 -- the payload is as long as its flags say
 abbrev pub tfhd_length : Box → List Fault
@@ -34,7 +34,7 @@ tfhd_length b = fault_if (not (length b.payload == (fields_of b.payload).len)) F
 abbrev pub trun_length : Box → List Fault
 trun_length b = fault_by (trun_broken b.payload) b
 
--- boxes that are missing, that stand a second time, or whose version or length is wrong
+-- boxes that are missing, that occur a second time, or whose version or length is wrong
 unfoldable pub form_faults : Box → List Fault
 form_faults m =
     along (one mfhd) [] m
@@ -58,13 +58,13 @@ unsupported kinds b = fault_if (not (is_among kinds b)) Unsupported b
 abbrev pub holds_only : List FourCc → Box → List Fault
 holds_only kinds b = flat_map (unsupported kinds) (children b)
 
--- children of a moof or of a traf that may not stand there
+-- children of a moof or of a traf that may not be there
 unfoldable pub child_faults : Box → List Fault
 child_faults m =
     along (holds_only (mfhd ∷ traf ∷ free ∷ skip ∷ [])) [] m
     ++ along (holds_only (tfhd ∷ tfdt ∷ trun ∷ free ∷ skip ∷ [])) (traf ∷ []) m
 
--- ---- what is asked of a tfhd and of a trun
+-- ---- requirements of a tfhd and of a trun
 
 -- the track with this track_ID
 abbrev pub track_with : ℕ → List Track → Option Track
@@ -95,18 +95,18 @@ trun_faults b = fault_if (flags_conflict (flags_in b.payload)) FlagsConflict b
 
 -- ---- how many samples there are
 
--- so many samples may a moof have
-abbrev pub most_samples : ℕ
-most_samples = 1000000
+-- the most samples of a moof
+abbrev pub most_in_moof : ℕ
+most_in_moof = 1000000
 
--- behind so many samples, the first of these truns with which there are too many
+-- after so many samples, the first of these truns with which there are too many
 unfoldable pub too_many : ℕ → List Box → List Fault
 too_many n [] = []
 too_many n (b ∷ bs) =
-    if nat_lt most_samples (n + sample_count b.payload) then fault_at TooManySamples b ∷ []
+    if nat_lt most_in_moof (n + sample_count b.payload) then fault_at TooManySamples b ∷ []
     else too_many (n + sample_count b.payload) bs
 
--- in the order in which the truns of a moof stand
+-- in the order of the truns of a moof
 abbrev pub count_faults : Box → List Fault
 count_faults m = too_many 0 (at_path to_trun m)
 

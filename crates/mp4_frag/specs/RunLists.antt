@@ -17,7 +17,7 @@ moof_listing h tracks = map listed_run (moof_runs h tracks)
 abbrev pub taken_runs : MoofBytes → List Track → List Run
 taken_runs h tracks = taken_by listed_run (moof_runs h tracks)
 
--- what is seen of a list: a row for each run, and what was found while they were sorted
+-- the visible part of a list: a row for each run, and what was found while they were sorted
 pub record ListedRows : Type 0 where
   pub rows : List RunRow
   pub late : Option ℕ

@@ -16,16 +16,16 @@ use Rattle.mp4_frag.specs.Trun.{data_offset, first_sample_flags, sample_count, s
 use Rattle.mp4_frag.specs.Rules.{entry_of, track_with}
 use Rattle.mp4_frag.specs.Rows.{rows_of, durations, sizes}
 
--- ---- what a traf says
+-- ---- the header of a traf
 
--- what stands for a track that isn't there, which is refused
+-- the track of a run whose track isn't there, which is refused
 abbrev pub no_track : Track
 no_track = record { id = 0; timescale = 0; entries = 0; desc = 0; duration = 0; size = 0; flags = 0; next = 0 }
 
 abbrev pub known_track : ℕ → List Track → Track
 known_track id tracks = unwrap_or (track_with id tracks) no_track
 
--- what the tfhd says, and else the track
+-- the fields of the tfhd, else the defaults of the track
 abbrev pub header_by : Track → List ℕ → TrafHeader
 header_by t payload = record {
   track = track_id payload;
@@ -91,7 +91,7 @@ traf_of h tracks t = record {
 
 -- ---- runs
 
--- where a run begins: so far behind the first byte of the moof, or where the run before it ends
+-- where a run begins: so far after the first byte of the moof, or where the run before it ends
 abbrev pub start_by : ℕ → ℤ → Option ℤ → ℤ
 start_by moof last None = last
 start_by moof last (Some d) = pos moof +ℤ d
@@ -118,15 +118,15 @@ run_at s time last b = record {
   traf_ends_at = s.ends_at;
 }
 
--- it ends behind the durations of its samples, and has the bytes of their sizes
+-- it ends after the durations of its samples, and has the bytes of their sizes
 abbrev pub summed : List ℕ → Run → Run
-summed held run = record run { end = run.time + durations (rows_of run held); bytes = sizes (rows_of run held) }
+summed moof_bytes run = record run { end = run.time + durations (rows_of run moof_bytes); bytes = sizes (rows_of run moof_bytes) }
 
 -- the run of a trun, where the one before ends at this time and this place
 unfoldable pub run_of : Shared → ℕ → ℤ → Box → Run
 run_of s time last b = summed s.moof.bytes (run_at s time last b)
 
--- where the next run begins, if it doesn't say
+-- the place of the next run, if it has no data_offset
 abbrev pub end_place : Run → ℤ
 end_place run = run.place +ℤ pos run.bytes
 
@@ -136,7 +136,7 @@ runs_from s time last [] = []
 runs_from s time last (b ∷ bs) =
     run_of s time last b ∷ runs_from s (run_of s time last b).end (end_place (run_of s time last b)) bs
 
--- the runs of a traf: the first begins at the first byte of the moof, if it doesn't say another place
+-- the runs of a traf: the first begins at the first byte of the moof, unless it has a data_offset
 abbrev pub runs_of : TrackFragment → List Run
 runs_of t = runs_from t.shared t.time (pos t.shared.moof.offset) t.truns
 

@@ -1,4 +1,4 @@
--- Where the tracks end behind a moof.
+-- Where the tracks end after a moof.
 use Rattle.std.specs.Prelude.{ℕ, List, Option, Some, None, ◌==◌, if◌then◌else◌}
 use Rattle.std.specs.List.{fold, position, sum_by}
 use Rattle.mp4_box.specs.Trees.{Box}
@@ -19,11 +19,11 @@ ended_at (Some i) next tracks = with_next i next tracks
 abbrev pub with_end : ℕ → ℕ → List Track → List Track
 with_end id next tracks = ended_at (position (λ (t : Track). t.id == id) tracks) next tracks
 
--- behind a traf its track has ended where the traf ends
+-- after a traf its track has ended where the traf ends
 abbrev pub ended : List Track → TrackFragment → List Track
 ended tracks t = with_end t.shared.header.track (end_of t) tracks
 
--- behind all trafs each track has ended where its last traf ends
+-- after all trafs each track has ended where its last traf ends
 abbrev pub settled : List Track → List TrackFragment → List Track
 settled tracks ts = fold ended tracks ts
 

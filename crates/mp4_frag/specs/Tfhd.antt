@@ -29,9 +29,9 @@ duration_is_empty flags = has_flag flags 0x010000
 abbrev pub default_base_is_moof : ℕ → Bool
 default_base_is_moof flags = has_flag flags 0x020000
 
--- ---- where the fields stand, in this order
+-- ---- places of the fields, in this order
 
--- behind version and flags, track_ID, and base_data_offset (64 bits)
+-- after version and flags, track_ID, and base_data_offset (64 bits)
 abbrev pub sample_description_index_at : ℕ → ℕ
 sample_description_index_at flags = if base_data_offset_present flags then 16 else 8
 

@@ -7,7 +7,7 @@ use Rattle.mp4_frag.specs.Moofs.{moof_of, moof_trafs}
 use Rattle.mp4_frag.specs.Runs.{MoofBytes, TrackFragment, end_of}
 use Rattle.mp4_frag.specs.Settling.{timed_of, with_end}
 
--- for how many trafs that is kept
+-- for how many trafs the ends are kept
 abbrev pub few_trafs : ℕ
 few_trafs = 4
 
@@ -20,6 +20,6 @@ pub record AreEndsOf (e : TrafEnds) (h : MoofBytes) (tracks : List Track) : Type
   pub ends : e.ends.items ≡ take few_trafs (map traf_end (moof_trafs h tracks))
   pub timed : e.timed ≡ timed_of (moof_of h)
 
--- behind such a traf its track has ended there
+-- after such a traf its track has ended there
 abbrev pub ended_by : List Track → TrafEnd → List Track
 ended_by tracks e = with_end e.track e.time tracks

@@ -31,9 +31,9 @@ sample_flags_present flags = has_flag flags 0x000400
 abbrev pub sample_composition_time_offset_present : ℕ → Bool
 sample_composition_time_offset_present flags = has_flag flags 0x000800
 
--- ---- where the fields stand, in this order
+-- ---- places of the fields, in this order
 
--- behind version and flags, sample_count and data_offset
+-- after version and flags, sample_count and data_offset
 abbrev pub first_sample_flags_at : ℕ → ℕ
 first_sample_flags_at flags = 8 + width_if (data_offset_present flags)
 
@@ -48,7 +48,7 @@ trun_fields flags = record {
   samples = samples_at flags;
 }
 
--- ---- where the fields of a sample stand in its group, in this order
+-- ---- places of the fields of a sample in its group, in this order
 
 abbrev pub sample_size_at : ℕ → ℕ
 sample_size_at flags = width_if (sample_duration_present flags)

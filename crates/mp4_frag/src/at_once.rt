@@ -1,34 +1,34 @@
-//! What is at fault with a moof, looked for in one pass over its boxes.
+//! Checks a moof in one pass over its boxes.
 //!
-//! The rules are searched one by one, each with a pass of its own, so that of several faults the first is told. Nearly every
-//! moof has none, and one pass says so. Trafs without tfdt are counted: where there are some, those that stand behind others of
-//! their track are sought besides.
+//! The rules are checked one by one, each with a pass of its own, so that of several faults the first is reported.
+//! Nearly every moof has none, and one pass shows that. Trafs without tfdt are counted: if there are some, those that
+//! follow others of their track are searched for too.
 
 ghost use Rattle.std.specs.Prelude.{◌≡◌, ◌≢◌, ◌≤◌, ◌∷◌, [], length, true, IfSome, IsSome, IsTrue};
 ghost use Rattle.std.specs.List.{AllByRecursion, flat_map, list_all};
 ghost use Rattle.mp4_box.specs.Order.{least_from};
 ghost use Rattle.mp4_box.specs.Paths.{at_path, of_kind};
 ghost use Rattle.mp4_box.specs.Trees.{box_faults, box_len, children, view};
-ghost use Rattle.mp4_frag.specs.Working.AtOnce.{Adds, HasEarlyEnd, HasTicks, IsComplete, IsCount, IsEarly, TrafHasTicks, faults_in_moof, faults_in_traf, in_trafs, is_complete, is_early, is_kind, most_32, most_64, passed_over};
+ghost use Rattle.mp4_frag.specs.Implementation.AtOnce.{Adds, HasEarlyEnd, HasTicks, IsComplete, IsCount, IsEarly, TrafHasTicks, faults_in_moof, faults_in_traf, in_trafs, is_complete, is_early, is_kind, most_32, most_64, passed_over};
 ghost use Rattle.mp4_frag.specs.Kinds.{free, skip, tfdt, tfhd, to_trun, traf, trun};
 ghost use Rattle.mp4_frag.specs.Moofs.{value_faults};
 ghost use Rattle.mp4_frag.specs.Repeats.{repeat_faults, trafs_of, untimed_ids};
-ghost use Rattle.mp4_frag.specs.Rules.{form_faults, most_samples, samples_in, samples_of};
+ghost use Rattle.mp4_frag.specs.Rules.{form_faults, most_in_moof, samples_in, samples_of};
 
 use crate::checks::{FlagsOnce, TfhdLength, TrunLength, note_tfhd};
-use crate::counts::MOST_SAMPLES;
-use crate::kinds::{FREE, MFHD, SKIP, TFDT, TFHD, TRAF, TRUN};
+use crate::counts::MOST_IN_MOOF;
 use crate::mfhd::MFHD_LEN;
 use crate::repeats::lacks_time;
 use crate::tfdt::{LONG_TFDT_LEN, TFDT_LEN, base_media_decode_time};
 use crate::traf::track_of;
 use crate::trun::sample_count;
+use mp4_box::types::{FREE, MFHD, SKIP, TFDT, TFHD, TRAF, TRUN};
 use mp4_box::{BoxRef, Check, Fault, FourCc, Layout, Rule, Walk, note};
 use mp4_init::TrackList;
 
-/// What is told of a moof in which nothing is at fault with its tree, its boxes and their values.
+/// Findings on a moof that has no fault in its tree, its boxes and their values.
 #[derive(Clone, Copy)]
-pub(crate) struct Sound {
+pub(crate) struct MoofCounts {
     /// How many samples it has.
     pub(crate) samples: u32,
     /// How many truns it has.
@@ -43,7 +43,7 @@ pub(crate) const LATE: u64 = 1 << 63;
 /// The bytes of a moof have room for so many truns at most.
 const MOST_TRUNS: u64 = 1 << 62;
 
-/// Notes a box that may not stand where it does.
+/// Notes a box that may not be where it is.
 #[inline]
 #[tactic(auto, unfolding(mp4_box::specs::Order::least_from))]
 fn note_other(child: &BoxRef<'_>, best: &mut Option<Fault>)
@@ -58,7 +58,7 @@ fn note_other(child: &BoxRef<'_>, best: &mut Option<Fault>)
 
 /// Notes what is at fault with a child of a traf by itself.
 #[inline]
-#[tactic(auto, using(mp4_box::proofs::OrderLemmas::least_from_append), unfolding(crate::specs::Working::AtOnce::faults_in_traf, mp4_box::specs::Order::least_from))]
+#[tactic(auto, using(mp4_box::proofs::OrderLemmas::least_from_append), unfolding(crate::specs::Implementation::AtOnce::faults_in_traf, mp4_box::specs::Order::least_from))]
 fn note_in_traf(tracks: &TrackList, child: &BoxRef<'_>, best: &mut Option<Fault>)
     ensures best { best.new ≡ least_from best.old (faults_in_traf tracks.now (view child.now)) }
     ensures ticks { is_kind tfhd (view child.now) ≡ true → HasTicks tracks.now (view child.now) }
@@ -120,9 +120,9 @@ fn is_in_time(child: &BoxRef<'_>) -> bool
     !child.header.kind.is(TFDT) || is_early(child)
 }
 
-/// Adds what a child of a traf says to what is told of the moof.
+/// Adds a child of a traf to the findings on the moof.
 #[inline(always)]
-fn add_child(child: &BoxRef<'_>, sound: &mut Sound)
+fn add_child(child: &BoxRef<'_>, sound: &mut MoofCounts)
     ensures { Adds (view child.now ∷ []) sound.old sound.new }
 {
     count_samples_of(child, &mut sound.samples);
@@ -149,13 +149,13 @@ fn count_untimed(tfdts: u64, untimed: &mut u64)
     }
 }
 
-/// Notes what is at fault with each child of a traf by itself, adds what it says to what is told, and counts the traf where it has
-/// no tfdt. Where it has just one tfhd, at most one tfdt, and no rest, it tells so.
+/// Notes the faults of each child of a traf by itself, adds the child to the findings, and counts the traf if it has
+/// no tfdt. Returns whether it has just one tfhd, at most one tfdt, and no rest.
 fn note_traf(
     tracks: &TrackList,
     traf: &BoxRef<'_>,
     best: &mut Option<Fault>,
-    sound: &mut Sound,
+    sound: &mut MoofCounts,
     untimed: &mut u64,
 ) -> bool
     ensures best { best.new ≡ least_from best.old
@@ -180,15 +180,15 @@ fn note_traf(
     all_hold(tfhds == 1, tfdts <= 1, len == traf.payload.len() as u64)
 }
 
-/// Notes what is at fault with a child of a moof by itself, and adds what it says to what is told. Where it is a traf that has
-/// just one tfhd, at most one tfdt, and no rest, or is no traf, it tells so.
+/// Notes the faults of a child of a moof by itself, and adds the child to the findings. Returns whether it is a traf
+/// with just one tfhd, at most one tfdt, and no rest, or is no traf.
 #[inline(always)]
-#[tactic(auto, unfolding(crate::specs::Working::AtOnce::faults_in_moof, crate::specs::Repeats::untimed_ids, mp4_box::specs::Order::least_from))]
+#[tactic(auto, unfolding(crate::specs::Implementation::AtOnce::faults_in_moof, crate::specs::Repeats::untimed_ids, mp4_box::specs::Order::least_from))]
 fn note_in_moof(
     tracks: &TrackList,
     child: &BoxRef<'_>,
     best: &mut Option<Fault>,
-    sound: &mut Sound,
+    sound: &mut MoofCounts,
     untimed: &mut u64,
 ) -> bool
     ensures best { best.new ≡ least_from best.old (faults_in_moof tracks.now (view child.now)) }
@@ -210,13 +210,13 @@ fn note_in_moof(
     true
 }
 
-/// Notes what is at fault with each box of a moof by itself, adds what it says to what is told, and counts the trafs without
-/// tfdt. Where it has just one mfhd, each traf just one tfhd and at most one tfdt, and no rest stands in them, it tells so.
+/// Notes the faults of each box of a moof by itself, adds the box to the findings, and counts the trafs without tfdt.
+/// Returns whether the moof has just one mfhd, each traf just one tfhd and at most one tfdt, and none of them a rest.
 fn note_moof(
     tracks: &TrackList,
     moof: &BoxRef<'_>,
     best: &mut Option<Fault>,
-    sound: &mut Sound,
+    sound: &mut MoofCounts,
     untimed: &mut u64,
 ) -> bool
     ensures best { best.new ≡ least_from best.old
@@ -263,9 +263,14 @@ pub(crate) fn ended_early(tracks: &TrackList, moof: &BoxRef<'_>) -> bool
     true
 }
 
-/// What is told of a moof, where nothing is at fault with its tree, its boxes and their values, times aside, but that a traf without
-/// tfdt may stand behind another of its track: trafs without tfdt are counted, and only the times of tfdts are known to be early.
-pub(crate) fn look_at(tracks: &TrackList, moof: &BoxRef<'_>, untimed: &mut u64) -> Option<Sound>
+/// Findings on a moof without a fault in its tree, its boxes and their values, times aside, except that a traf without
+/// tfdt may follow another of its track: trafs without tfdt are counted, and only the times of tfdts are known to be
+/// early.
+pub(crate) fn read_moof(
+    tracks: &TrackList,
+    moof: &BoxRef<'_>,
+    untimed: &mut u64,
+) -> Option<MoofCounts>
     ensures tree { IsSome result → box_faults (view moof.now) ≡ [] }
     ensures forms { IsSome result → form_faults (view moof.now) ≡ [] }
     ensures values { IsSome result →
@@ -273,7 +278,7 @@ pub(crate) fn look_at(tracks: &TrackList, moof: &BoxRef<'_>, untimed: &mut u64) 
     ensures count { IsSome result → IsCount most_64 untimed.old
         (length (untimed_ids (trafs_of (view moof.now)))) untimed.new }
     ensures samples { IfSome result (λ s. s.samples ≡ samples_of (view moof.now)) }
-    ensures few { IfSome result (λ s. s.samples ≤ most_samples) }
+    ensures few { IfSome result (λ s. s.samples ≤ most_in_moof) }
     ensures truns { IfSome result (λ s.
         s.truns ≡ length (at_path to_trun (view moof.now))) }
     ensures early { IfSome result (λ s. s.is_early ≡ true →
@@ -281,7 +286,7 @@ pub(crate) fn look_at(tracks: &TrackList, moof: &BoxRef<'_>, untimed: &mut u64) 
         IsEarly tracks.now (view moof.now)) }
 {
     let mut best = None;
-    let mut sound = Sound {
+    let mut sound = MoofCounts {
         samples: 0,
         truns: 0,
         is_early: true,
@@ -289,7 +294,7 @@ pub(crate) fn look_at(tracks: &TrackList, moof: &BoxRef<'_>, untimed: &mut u64) 
     if !note_moof(tracks, moof, &mut best, &mut sound, untimed) {
         return None;
     }
-    if best.is_some() || sound.samples > MOST_SAMPLES || sound.truns > MOST_TRUNS {
+    if best.is_some() || sound.samples > MOST_IN_MOOF || sound.truns > MOST_TRUNS {
         return None;
     }
     Some(sound)

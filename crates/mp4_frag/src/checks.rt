@@ -1,4 +1,4 @@
-//! What is asked of one box of a moof.
+//! Requirements of one box of a moof.
 
 ghost use Rattle.std.specs.Prelude.{◌≡◌, ◌<◌, ◌^◌, ◌==◌, Option, IfSome, length, slice_get};
 ghost use Rattle.std.specs.List.{position};
@@ -6,7 +6,7 @@ ghost use Rattle.std.specs.Option.{option_and_then, unwrap_or};
 ghost use Rattle.mp4_box.specs.Trees.{view};
 ghost use Rattle.mp4_box.specs.Order.{least_from};
 ghost use Rattle.mp4_box.specs.declared.headers.FourCc.{FourCc};
-ghost use Rattle.mp4_frag.specs.Working.AtOnce.{HasTicks};
+ghost use Rattle.mp4_frag.specs.Implementation.AtOnce.{HasTicks};
 ghost use Rattle.mp4_frag.specs.Rules.{entry_of, holds_only, is_among, tfhd_faults, tfhd_length, track_faults, track_with, trun_faults, trun_length, unsupported};
 ghost use Rattle.mp4_frag.specs.Runs.{no_track};
 ghost use Rattle.mp4_frag.specs.Tfhd.{track_id};

@@ -6,7 +6,7 @@ ghost use Rattle.mp4_box.specs.Paths.{at_path, of_kind, paths_below, seen_of};
 ghost use Rattle.mp4_box.specs.Trees.{view};
 ghost use Rattle.mp4_frag.specs.Kinds.{to_trun, trun};
 
-use crate::kinds::{TRAF, TRUN};
+use mp4_box::types::{TRAF, TRUN};
 use mp4_box::{BoxRef, FourCc, Walk};
 use std::marker::Model;
 

@@ -1,4 +1,4 @@
-//! Fields that are there where a flag says so (ISO/IEC 14496-12, 4.2).
+//! Fields that a flag announces (ISO/IEC 14496-12, 4.2).
 
 ghost use Rattle.std.specs.Prelude.{◌≡◌, ◌≤◌, ◌<◌, ◌^◌, [], ◌∷◌};
 ghost use Rattle.mp4_box.specs.Fields.{number_in};
@@ -27,20 +27,20 @@ pub(crate) fn width_if(is_there: bool) -> u32
     if is_there { 4 } else { 0 }
 }
 
-/// Where a field stands that is there.
+/// The place of a field that is there.
 pub(crate) fn place_if(is_there: bool, at: u32) -> Option<u32>
     ensures { result ≡ place_if is_there at }
 {
     if is_there { Some(at) } else { None }
 }
 
-/// The number of the field at a place, or what stands for a field that isn't there.
-pub(crate) fn number_or(payload: &[u8], at: Option<u32>, usual: u32) -> u32
-    ensures { result ≡ number_or payload.now at usual }
+/// The number of the field at a place, or a default if the field isn't there.
+pub(crate) fn number_or(payload: &[u8], at: Option<u32>, common_layout: u32) -> u32
+    ensures { result ≡ number_or payload.now at common_layout }
 {
     match at {
         Some(at) => number_at(payload, at),
-        None => usual,
+        None => common_layout,
     }
 }
 

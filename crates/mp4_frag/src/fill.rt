@@ -7,16 +7,16 @@ ghost use Rattle.mp4_box.specs.Trees.{view};
 ghost use Rattle.mp4_run_order.specs.Orders.{FitsKeys};
 ghost use Rattle.mp4_frag.specs.Kinds.{traf};
 ghost use Rattle.mp4_frag.specs.Ranges.{InRange, IsSound};
-ghost use Rattle.mp4_frag.specs.Working.RunRows.{listed_words, row_of_run, rows_of_traf, rows_of_trafs, rows_of_words};
+ghost use Rattle.mp4_frag.specs.Implementation.RunRows.{listed_words, row_of_run, rows_of_traf, rows_of_trafs, rows_of_words};
 ghost use Rattle.mp4_frag.specs.Runs.{moof_at, traf_of};
 
 use crate::children::children_of;
-use crate::kinds::TRAF;
 use crate::run::Run;
 use crate::run_row::{row_of_run, words_of};
 use crate::runs::Runs;
 use crate::start::{RunsOf, runs_of};
 use mp4_box::BoxRef;
+use mp4_box::types::TRAF;
 use mp4_init::TrackList;
 use mp4_ledger::Rows64;
 
@@ -50,14 +50,14 @@ fn push_runs(rows: &mut Rows64, tfhd: u64, runs: Runs<'_>)
 }
 
 /// Appends the rows of the runs of a traf, of which the moof begins at this offset.
-fn push_traf(rows: &mut Rows64, held: &[u8], moof: u64, tracks: &TrackList, traf: &BoxRef<'_>)
-    requires room { length rows.old.rows + length (rows_of_traf (moof_at held.now moof)
+fn push_traf(rows: &mut Rows64, moof_bytes: &[u8], moof: u64, tracks: &TrackList, traf: &BoxRef<'_>)
+    requires room { length rows.old.rows + length (rows_of_traf (moof_at moof_bytes.now moof)
         tracks.now (view traf.now)) ≤ rows.old.cap }
-    requires sound { IsSound (traf_of (moof_at held.now moof) tracks.now
+    requires sound { IsSound (traf_of (moof_at moof_bytes.now moof) tracks.now
         (view traf.now)) }
     requires fits { All FitsKeys (listed_words rows.old.rows) }
     ensures rows { rows_of_words rows.new.rows ≡ rows_of_words rows.old.rows ++
-        rows_of_traf (moof_at held.now moof) tracks.now (view traf.now) }
+        rows_of_traf (moof_at moof_bytes.now moof) tracks.now (view traf.now) }
     ensures fits { All FitsKeys (listed_words rows.new.rows) }
     ensures cap { rows.new.cap ≡ rows.old.cap }
 {
@@ -66,30 +66,30 @@ fn push_traf(rows: &mut Rows64, held: &[u8], moof: u64, tracks: &TrackList, traf
         track: _,
         time: _,
         runs,
-    } = runs_of(held, moof, tracks, traf);
+    } = runs_of(moof_bytes, moof, tracks, traf);
     push_runs(rows, tfhd, runs);
 }
 
 /// Appends the rows of all runs of a moof that begins at this offset, in listing order.
 pub(crate) fn fill(
     rows: &mut Rows64,
-    held: &[u8],
+    moof_bytes: &[u8],
     offset: u64,
     moof: &BoxRef<'_>,
     tracks: &TrackList,
 )
-    requires room { length rows.old.rows + length (rows_of_trafs (moof_at held.now offset)
+    requires room { length rows.old.rows + length (rows_of_trafs (moof_at moof_bytes.now offset)
         tracks.now (at_path (traf ∷ []) (view moof.now))) ≤ rows.old.cap }
-    requires sound { AllByRecursion (λ t. IsSound (traf_of (moof_at held.now offset)
+    requires sound { AllByRecursion (λ t. IsSound (traf_of (moof_at moof_bytes.now offset)
         tracks.now t)) (at_path (traf ∷ []) (view moof.now)) }
     requires fits { All FitsKeys (listed_words rows.old.rows) }
     ensures rows { rows_of_words rows.new.rows ≡ rows_of_words rows.old.rows ++
-        rows_of_trafs (moof_at held.now offset) tracks.now
+        rows_of_trafs (moof_at moof_bytes.now offset) tracks.now
         (at_path (traf ∷ []) (view moof.now)) }
     ensures fits { All FitsKeys (listed_words rows.new.rows) }
     ensures cap { rows.new.cap ≡ rows.old.cap }
 {
     for traf in children_of(TRAF, moof) {
-        push_traf(rows, held, offset, tracks, &traf);
+        push_traf(rows, moof_bytes, offset, tracks, &traf);
     }
 }

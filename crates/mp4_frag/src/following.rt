@@ -14,19 +14,19 @@ ghost use Rattle.mp4_frag.specs.Ranges.{InRange, IsSound};
 ghost use Rattle.mp4_frag.specs.RunLists.{moof_listing, taken_runs};
 ghost use Rattle.mp4_frag.specs.Runs.{begins_early, last_end, moof_at, runs_of, traf_of};
 ghost use Rattle.mp4_frag.specs.TrafEnds.{AreEndsOf, few_trafs, traf_end};
-ghost use Rattle.mp4_frag.specs.Working.Following.{all_follow, bytes_with, ends_by, follows, past_run, past_runs, runs_of_trafs, timed_run};
+ghost use Rattle.mp4_frag.specs.Implementation.Following.{all_follow, bytes_with, ends_by, follows, past_run, past_runs, runs_of_trafs, timed_run};
 
 use crate::at_once::LATE;
 use crate::children::children_of;
-use crate::kinds::TRAF;
-use crate::lone::lies_in;
 use crate::moof::Moof;
 use crate::rows::Steps;
 use crate::run::Run;
 use crate::runs::Runs;
+use crate::single_run::lies_in;
 use crate::start::{RunsOf, runs_of};
 use crate::traf::base_of;
 use crate::traf_ends::{TrafEnd, TrafEnds};
+use mp4_box::types::TRAF;
 use mp4_box::{BoxRef, whole_box};
 use mp4_init::TrackList;
 use mp4_run_order::Payload;
@@ -42,10 +42,10 @@ pub struct Following {
     pub ends: TrafEnds,
 }
 
-/// Where the runs so far end, and what they come to.
+/// The end of the runs so far, and their sums.
 #[derive(Clone, Copy)]
 struct Followed {
-    /// The stream offset behind the last of them that has samples.
+    /// The stream offset after the last of them that has samples.
     end: i128,
     /// How many bytes those with samples have.
     bytes: u64,
@@ -82,9 +82,9 @@ fn timed_in(run: &Run) -> u32
     }
 }
 
-/// Goes on behind a run, if it follows those before it: whether it does.
+/// Adds a run, if it follows those before it. Returns whether it does.
 #[inline(always)]
-#[tactic(auto, unfolding(crate::specs::Working::Following::follows, crate::specs::Working::Following::past_run, crate::specs::Working::Following::bytes_with))]
+#[tactic(auto, unfolding(crate::specs::Implementation::Following::follows, crate::specs::Implementation::Following::past_run, crate::specs::Implementation::Following::bytes_with))]
 fn follow_run(payload: Payload, run: &Run, so_far: &mut Followed) -> bool
     requires range { InRange run.now }
     requires room { pos (payload.start + so_far.old.bytes) ≤ℤ so_far.old.end }
@@ -109,9 +109,9 @@ fn follow_run(payload: Payload, run: &Run, so_far: &mut Followed) -> bool
     true
 }
 
-/// Goes on behind some runs, if each follows those before it: whether they do.
+/// Adds some runs, if each follows those before it. Returns whether they do.
 #[inline(always)]
-#[tactic(auto, unfolding(crate::specs::Working::Following::all_follow, crate::specs::Working::Following::past_runs))]
+#[tactic(auto, unfolding(crate::specs::Implementation::Following::all_follow, crate::specs::Implementation::Following::past_runs))]
 fn follow_runs(payload: Payload, runs: Runs<'_>, so_far: &mut Followed) -> bool
     requires range { AllByRecursion InRange runs }
     requires room { pos (payload.start + so_far.old.bytes) ≤ℤ so_far.old.end }
@@ -133,40 +133,40 @@ fn follow_runs(payload: Payload, runs: Runs<'_>, so_far: &mut Followed) -> bool
     true
 }
 
-/// Goes on behind the runs of a traf, in the moof that begins at this offset, if each follows those before it: whether they do.
-/// Where the traf ends is kept then.
+/// Adds the runs of a traf, in the moof that begins at this offset, if each follows those before it. Returns whether
+/// they do. Where the traf ends is kept then.
 #[inline(always)]
 fn follow_traf(
     payload: Payload,
-    held: &[u8],
+    moof_bytes: &[u8],
     offset: u64,
     traf: &BoxRef<'_>,
     tracks: &TrackList,
     so_far: &mut Followed,
     ends: &mut TrafEnds,
 ) -> bool
-    requires sound { IsSound (traf_of (moof_at held.now offset) tracks.now (view traf.now)) }
+    requires sound { IsSound (traf_of (moof_at moof_bytes.now offset) tracks.now (view traf.now)) }
     requires room { pos (payload.start + so_far.old.bytes) ≤ℤ so_far.old.end }
     requires few { so_far.old.timed + sum_by timed_run (runs_of
-        (traf_of (moof_at held.now offset) tracks.now (view traf.now))) < 2 ^ 32 }
+        (traf_of (moof_at moof_bytes.now offset) tracks.now (view traf.now))) < 2 ^ 32 }
     ensures is { result ≡ all_follow payload so_far.old.end (runs_of
-        (traf_of (moof_at held.now offset) tracks.now (view traf.now))) }
+        (traf_of (moof_at moof_bytes.now offset) tracks.now (view traf.now))) }
     ensures end { IsTrue result → so_far.new.end ≡ past_runs so_far.old.end (runs_of
-        (traf_of (moof_at held.now offset) tracks.now (view traf.now))) }
+        (traf_of (moof_at moof_bytes.now offset) tracks.now (view traf.now))) }
     ensures bytes { IsTrue result → so_far.new.bytes ≡ so_far.old.bytes + sum_by bytes_with
-        (runs_of (traf_of (moof_at held.now offset) tracks.now (view traf.now))) }
+        (runs_of (traf_of (moof_at moof_bytes.now offset) tracks.now (view traf.now))) }
     ensures room { IsTrue result → pos (payload.start + so_far.new.bytes) ≤ℤ so_far.new.end }
     ensures timed { IsTrue result → so_far.new.timed ≡ so_far.old.timed + sum_by timed_run
-        (runs_of (traf_of (moof_at held.now offset) tracks.now (view traf.now))) }
+        (runs_of (traf_of (moof_at moof_bytes.now offset) tracks.now (view traf.now))) }
     ensures ends { IsTrue result → ends.new.ends.items ≡ take few_trafs (ends.old.ends.items ++
-        traf_end (traf_of (moof_at held.now offset) tracks.now (view traf.now)) ∷ []) }
+        traf_end (traf_of (moof_at moof_bytes.now offset) tracks.now (view traf.now)) ∷ []) }
 {
     let RunsOf {
         tfhd: _,
         track,
         time,
         runs,
-    } = runs_of(held, offset, tracks, traf);
+    } = runs_of(moof_bytes, offset, tracks, traf);
     so_far.time = time;
     if !follow_runs(payload, runs, so_far) {
         return false;
@@ -178,38 +178,38 @@ fn follow_traf(
     true
 }
 
-/// Goes on behind the runs of the trafs of a moof that begins at this offset, if each follows those before it: whether they do.
-/// Where the trafs end is kept then.
-#[tactic(auto, using(crate::proofs::FollowingLemmas::all_follow_append, crate::proofs::FollowingLemmas::past_runs_append, crate::proofs::FollowingLemmas::bytes_append, crate::proofs::FollowingLemmas::timed_append), unfolding(crate::specs::Working::Following::all_follow, crate::specs::Working::Following::past_runs))]
+/// Adds the runs of the trafs of a moof that begins at this offset, if each follows those before it. Returns whether
+/// they do. Where the trafs end is kept then.
+#[tactic(auto, using(crate::proofs::FollowingLemmas::all_follow_append, crate::proofs::FollowingLemmas::past_runs_append, crate::proofs::FollowingLemmas::bytes_append, crate::proofs::FollowingLemmas::timed_append), unfolding(crate::specs::Implementation::Following::all_follow, crate::specs::Implementation::Following::past_runs))]
 fn follow_trafs(
     payload: Payload,
-    held: &[u8],
+    moof_bytes: &[u8],
     offset: u64,
     moof: &BoxRef<'_>,
     tracks: &TrackList,
     so_far: &mut Followed,
     ends: &mut TrafEnds,
 ) -> bool
-    requires sound { AllByRecursion (λ t. IsSound (traf_of (moof_at held.now offset)
+    requires sound { AllByRecursion (λ t. IsSound (traf_of (moof_at moof_bytes.now offset)
         tracks.now t)) (at_path (traf ∷ []) (view moof.now)) }
     requires room { pos (payload.start + so_far.old.bytes) ≤ℤ so_far.old.end }
     requires few { so_far.old.timed + sum_by timed_run (runs_of_trafs
-        (moof_at held.now offset) tracks.now (at_path (traf ∷ []) (view moof.now))) < 2 ^ 32 }
+        (moof_at moof_bytes.now offset) tracks.now (at_path (traf ∷ []) (view moof.now))) < 2 ^ 32 }
     requires fits { take few_trafs ends.old.ends.items ≡ ends.old.ends.items }
     ensures is { result ≡ all_follow payload so_far.old.end (runs_of_trafs
-        (moof_at held.now offset) tracks.now (at_path (traf ∷ []) (view moof.now))) }
+        (moof_at moof_bytes.now offset) tracks.now (at_path (traf ∷ []) (view moof.now))) }
     ensures end { IsTrue result → so_far.new.end ≡ past_runs so_far.old.end (runs_of_trafs
-        (moof_at held.now offset) tracks.now (at_path (traf ∷ []) (view moof.now))) }
+        (moof_at moof_bytes.now offset) tracks.now (at_path (traf ∷ []) (view moof.now))) }
     ensures bytes { IsTrue result → so_far.new.bytes ≡ so_far.old.bytes + sum_by bytes_with
-        (runs_of_trafs (moof_at held.now offset) tracks.now (at_path (traf ∷ []) (view moof.now))) }
+        (runs_of_trafs (moof_at moof_bytes.now offset) tracks.now (at_path (traf ∷ []) (view moof.now))) }
     ensures room { IsTrue result → pos (payload.start + so_far.new.bytes) ≤ℤ so_far.new.end }
     ensures timed { IsTrue result → so_far.new.timed ≡ so_far.old.timed + sum_by timed_run
-        (runs_of_trafs (moof_at held.now offset) tracks.now (at_path (traf ∷ []) (view moof.now))) }
+        (runs_of_trafs (moof_at moof_bytes.now offset) tracks.now (at_path (traf ∷ []) (view moof.now))) }
     ensures ends { IsTrue result → ends.new.ends.items ≡ take few_trafs (ends.old.ends.items ++
-        ends_by (moof_at held.now offset) tracks.now (at_path (traf ∷ []) (view moof.now))) }
+        ends_by (moof_at moof_bytes.now offset) tracks.now (at_path (traf ∷ []) (view moof.now))) }
 {
     for traf in children_of(TRAF, moof) {
-        if !follow_traf(payload, held, offset, &traf, tracks, so_far, ends) {
+        if !follow_traf(payload, moof_bytes, offset, &traf, tracks, so_far, ends) {
             return false;
         }
     }
@@ -220,33 +220,41 @@ fn follow_trafs(
 /// its trafs end is kept then.
 #[inline(always)]
 fn bytes_in_order(
-    held: &[u8],
+    moof_bytes: &[u8],
     offset: u64,
     payload: Payload,
     tracks: &TrackList,
     ends: &mut TrafEnds,
 ) -> Option<u64>
-    requires whole { IsWhole held.now }
-    requires room { offset + length held.now ≤ 2 ^ 62 }
-    requires read { IsRead (moof_at held.now offset) tracks.now }
+    requires whole { IsWhole moof_bytes.now }
+    requires room { offset + length moof_bytes.now ≤ 2 ^ 62 }
+    requires read { IsRead (moof_at moof_bytes.now offset) tracks.now }
     requires empty { ends.old.ends.items ≡ [] }
     ensures some { IsSome result →
-        AllFollow payload (moof_listing (moof_at held.now offset) tracks.now) }
-    ensures all { AllFollow payload (moof_listing (moof_at held.now offset) tracks.now) →
+        AllFollow payload (moof_listing (moof_at moof_bytes.now offset) tracks.now) }
+    ensures all { AllFollow payload (moof_listing (moof_at moof_bytes.now offset) tracks.now) →
         IsSome result }
     ensures placed { IsSome result →
-        place_fault payload (moof_runs (moof_at held.now offset) tracks.now) ≡ None }
-    ensures runs { moof_truns (moof_at held.now offset) ≡
-        length (moof_runs (moof_at held.now offset) tracks.now) }
+        place_fault payload (moof_runs (moof_at moof_bytes.now offset) tracks.now) ≡ None }
+    ensures runs { moof_truns (moof_at moof_bytes.now offset) ≡
+        length (moof_runs (moof_at moof_bytes.now offset) tracks.now) }
     ensures bytes { IfSome result (λ b. b ≡ sum_by (λ (run : Run). run.bytes)
-        (taken_runs (moof_at held.now offset) tracks.now)) }
+        (taken_runs (moof_at moof_bytes.now offset) tracks.now)) }
     ensures within { IfSome result (λ b. (end : ℕ) → payload.end ≡ Some end →
         payload.start ≤ end → payload.start + b ≤ end) }
-    ensures ends { IsSome result → AreEndsOf ends.new (moof_at held.now offset) tracks.now }
+    ensures ends { IsSome result → AreEndsOf ends.new (moof_at moof_bytes.now offset) tracks.now }
 {
     let mut so_far = before_all(payload);
-    let moof = whole_box(held, offset);
-    if !follow_trafs(payload, held, offset, &moof, tracks, &mut so_far, ends) {
+    let moof = whole_box(moof_bytes, offset);
+    if !follow_trafs(
+        payload,
+        moof_bytes,
+        offset,
+        &moof,
+        tracks,
+        &mut so_far,
+        ends,
+    ) {
         return None;
     }
     ends.set_timed(so_far.timed);
@@ -269,20 +277,20 @@ impl<'a> Moof<'a> {
     /// Whether each traf of the moof that the bytes are, one whole box that begins at `offset` in the stream, has a tfdt whose
     /// time lies before tick 2^63. To see that the runs of such a moof end within 64 bits no row of it need be read.
     #[tactic(auto, using(crate::proofs::MoofLemmas::moof_is))]
-    pub fn begins_early(held: &[u8], offset: u64) -> bool
-        requires whole { IsWhole held.now }
-        requires room { offset + length held.now ≤ 2 ^ 62 }
+    pub fn begins_early(moof_bytes: &[u8], offset: u64) -> bool
+        requires whole { IsWhole moof_bytes.now }
+        requires room { offset + length moof_bytes.now ≤ 2 ^ 62 }
         ensures { result ≡ list_all begins_early
-            (at_path (traf ∷ []) (moof_of (moof_at held.now offset))) }
+            (at_path (traf ∷ []) (moof_of (moof_at moof_bytes.now offset))) }
     {
-        all_begin_early(&whole_box(held, offset))
+        all_begin_early(&whole_box(moof_bytes, offset))
     }
 
-    /// What its runs come to, where each with samples lies in the payload and begins where those with samples that are listed
-    /// before it end, or behind that; none where one doesn't. Such runs all stand where they may ([`Moof::places`]), and no list
-    /// of them is claimed to say so. `tracks` are those that it was read with, and each of its trafs begins early
-    /// ([`Moof::begins_early`]). Its samples are counted in `steps` as rows that were read, as [`Moof::list`] counts them, also
-    /// where there is nothing to answer.
+    /// Sums over its runs, if each with samples lies in the payload and begins where those with samples that are listed
+    /// before it end, or after that; none if one doesn't. Such runs may all lie where they do ([`Moof::places`]), and
+    /// no list of them is claimed to say so. `tracks` are those that it was read with, and each of its trafs begins
+    /// early ([`Moof::begins_early`]). Its samples are counted in `steps` as rows that were read, as [`Moof::list`]
+    /// counts them, also where there is nothing to answer.
     #[inline(always)]
     pub fn following(
         &self,
@@ -302,11 +310,12 @@ impl<'a> Moof<'a> {
         ensures within { IfSome result (λ f. (end : ℕ) → payload.end ≡ Some end →
             payload.start ≤ end → payload.start + f.bytes ≤ end) }
         ensures ends { IfSome result (λ f. AreEndsOf f.ends self.now tracks.now) }
-        ensures walked { steps.new.rows ≡ steps.old.rows + moof_samples self.now }
+        ensures rows_read { steps.new.rows ≡ steps.old.rows + moof_samples self.now }
     {
         steps.rows += u128::from(self.samples());
         let mut ends = TrafEnds::new();
-        let Some(bytes) = bytes_in_order(self.held, self.offset, payload, tracks, &mut ends) else {
+        let Some(bytes) = bytes_in_order(self.moof_bytes, self.offset, payload, tracks, &mut ends)
+        else {
             return None;
         };
         Some(Following {

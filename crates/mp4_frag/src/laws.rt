@@ -28,12 +28,12 @@ ghost use Rattle.mp4_frag.specs.Runs.{MoofBytes, TrackFragment, begins_early};
 ghost use Rattle.mp4_frag.specs.Settling.{settled};
 ghost use Rattle.mp4_frag.specs.SyncSamples.{is_sync};
 
-/// In a moof without a fault nothing is at fault, as far as it is looked at.
+/// A moof without a fault has no fault, as far as it is checked.
 pub fn no_fault()
     ensures { (h : MoofBytes) (tracks : List Track) → IsRead h tracks → moof_faults h tracks ≡ [] }
 {}
 
-/// In a moof without a fault row i of the run of each trun is what stands in group i of the trun's payload.
+/// In a moof without a fault row i of the run of each trun has the fields of group i of the trun's payload.
 pub fn rows_are_groups()
     ensures { (h : MoofBytes) (tracks : List Track) → IsWhole h.bytes → IsBytes h.bytes →
         IsRead h tracks → AllByRecursion (TrafRowsAreGroups h tracks)
@@ -48,13 +48,13 @@ pub fn samples_are_rows()
 
 /// A run's time and place are a cursor at its first row, and a cursor that has gone past a row is a cursor.
 pub fn cursors_go_on()
-    ensures first { (run : Run) (held : List ℕ) → IsCursor run held (first_cursor run) }
-    ensures past { (run : Run) (held : List ℕ) (c : Cursor) → IsCursor run held c →
-        c.row < run.count → IsCursor run held (past c (row_of run held c.row)) }
+    ensures first { (run : Run) (moof_bytes : List ℕ) → IsCursor run moof_bytes (first_cursor run) }
+    ensures past { (run : Run) (moof_bytes : List ℕ) (c : Cursor) → IsCursor run moof_bytes c →
+        c.row < run.count → IsCursor run moof_bytes (past c (row_of run moof_bytes c.row)) }
 {}
 
 /// Where no traf without tfdt has the track_ID of an earlier one, the ends of the tracks before the moof are all that base
-/// times need: each traf is as it is where the trafs are gone over in turn, and each sets where its track ended.
+/// times need: each traf is as if the trafs were gone over in turn, and each set where its track ended.
 pub fn ends_before_serve()
     ensures { (h : MoofBytes) (tracks : List Track) → repeat_faults (moof_of h) ≡ [] →
         in_turn h tracks (of_kind traf (children (moof_of h))) ≡ moof_trafs h tracks }
@@ -99,8 +99,8 @@ pub fn settled_tracks_fit()
 {}
 
 /// A sample is a sync sample exactly where the bit sample_is_non_sync_sample of its flags is 0, which
-/// stands above the 16 bits of sample_degradation_priority (ISO/IEC 14496-12, 8.8.3).
-pub fn sync_samples_are_told_by_a_bit()
+/// is above the 16 bits of sample_degradation_priority (ISO/IEC 14496-12, 8.8.3).
+pub fn one_bit_marks_sync_samples()
     ensures { (above bit priority : ℕ) → bit < 2 → priority < 2 ^ 16 →
         is_sync ((above * 2 + bit) * 2 ^ 16 + priority) ≡ (bit == 0) }
 {}

@@ -3,8 +3,8 @@
 ghost use Rattle.std.specs.Prelude.{◌≡◌, map, length};
 ghost use Rattle.std.specs.Iterator.{YieldsFirst, item_count};
 ghost use Rattle.std.specs.List.Sorted.{IsNonDecreasingBy, IsPermutation};
-ghost use Rattle.mp4_run_order.specs.Working.Searches.{found_by_place, found_by_track};
-ghost use Rattle.mp4_frag.specs.Working.RunRows.{listed_row, listed_words, place_word, row_of_words, track_word};
+ghost use Rattle.mp4_run_order.specs.Implementation.Searches.{found_by_place, found_by_track};
+ghost use Rattle.mp4_frag.specs.Implementation.RunRows.{listed_row, listed_words, place_word, row_of_words, track_word};
 
 use crate::run_row::{RunRow, row_of_words};
 use mp4_ledger::Rows64;
@@ -35,7 +35,7 @@ struct Listed<'a> {
 impl<'a> Model for Listed<'a> {
     ghost use Rattle.std.specs.Prelude.{◌≤◌, List, drop, length};
     ghost use Rattle.mp4_run_order.specs.declared.runs.ListedRun.{ListedRun};
-    ghost use Rattle.mp4_frag.specs.Working.RunRows.{listed_words};
+    ghost use Rattle.mp4_frag.specs.Implementation.RunRows.{listed_words};
 
     ghost Value = { List ListedRun };
 

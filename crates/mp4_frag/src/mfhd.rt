@@ -3,7 +3,7 @@
 //! | Field | Offset in the payload | Bits |
 //! |---|---|---|
 //! | version and flags | 0 | 32 |
-//! | sequence_number, which isn't looked at | 4 | 32 |
+//! | sequence_number, which isn't read | 4 | 32 |
 
 /// How long the payload is.
 pub(crate) const MFHD_LEN: usize = 8;

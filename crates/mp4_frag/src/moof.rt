@@ -7,18 +7,17 @@ ghost use Rattle.mp4_box.specs.declared.rules.Fault.{Fault};
 ghost use Rattle.mp4_box.specs.Headers.{IsWhole};
 ghost use Rattle.mp4_box.specs.Order.{IsLeast, least, least_from};
 ghost use Rattle.mp4_box.specs.Trees.{view};
-ghost use Rattle.mp4_frag.specs.Working.AtOnce.{HasEarlyEnd, IsCount, most_64, told_fault};
-ghost use Rattle.mp4_frag.specs.Moofs.{IsRead, early_fault, moof_fault, moof_faults, moof_of, moof_samples, moof_trafs, moof_truns, time_faults, value_faults};
+ghost use Rattle.mp4_frag.specs.Implementation.AtOnce.{HasEarlyEnd, IsCount, fault_of, most_64};
+ghost use Rattle.mp4_frag.specs.Moofs.{IsRead, fault_before_times, moof_fault, moof_faults, moof_of, moof_samples, moof_trafs, moof_truns, time_faults, value_faults};
 ghost use Rattle.mp4_frag.specs.Repeats.{repeat_faults, trafs_of, untimed_ids};
-ghost use Rattle.mp4_frag.specs.Rules.{count_faults, form_faults, most_samples};
+ghost use Rattle.mp4_frag.specs.Rules.{count_faults, form_faults, most_in_moof};
 ghost use Rattle.mp4_frag.specs.Runs.{MoofBytes, moof_at};
 ghost use Rattle.mp4_frag.specs.Settling.{settled, timed_of};
 ghost use Rattle.mp4_frag.specs.TrafEnds.{AreEndsOf};
 
-use crate::at_once::{Sound, ended_early, look_at};
+use crate::at_once::{MoofCounts, ended_early, read_moof};
 use crate::checks::{FlagsOnce, OfTrack};
 use crate::counts::{samples_in, truns_in};
-use crate::kinds::{TFHD, TRAF, TRUN};
 use crate::repeats::{note_among, note_repeats};
 use crate::rows::Steps;
 use crate::rules::{note_children, note_count, note_forms};
@@ -26,6 +25,7 @@ use crate::settle::settle_in;
 use crate::times::InTime;
 use crate::traf::Trafs;
 use crate::traf_ends::TrafEnds;
+use mp4_box::types::{TFHD, TRAF, TRUN};
 use mp4_box::{BoxRef, Fault, check_tree, note_along, whole_box};
 use mp4_init::TrackList;
 use std::marker::Model;
@@ -33,10 +33,10 @@ use std::marker::Model;
 /// A moof without a fault (ISO/IEC 14496-12, 8.8.4). It borrows its bytes, and nothing else.
 #[derive(Drop)]
 pub struct Moof<'a> {
-    pub(crate) held: &'a [u8],
+    pub(crate) moof_bytes: &'a [u8],
     pub(crate) offset: u64,
-    /// What was told of it when it was read, where that is known.
-    told: Option<Sound>,
+    /// Findings from reading it, if they are known.
+    findings: Option<MoofCounts>,
 }
 
 // A contract sees its bytes, and the offset of the first of them.
@@ -44,17 +44,17 @@ impl<'a> Model for Moof<'a> {
     ghost use Rattle.std.specs.Prelude.{◌≡◌, ◌+◌, ◌^◌, ◌≤◌, [], length, IfSome};
     ghost use Rattle.mp4_box.specs.Headers.{IsWhole};
     ghost use Rattle.mp4_frag.specs.Moofs.{moof_of, moof_samples, moof_truns};
-    ghost use Rattle.mp4_frag.specs.Rules.{count_faults, most_samples};
+    ghost use Rattle.mp4_frag.specs.Rules.{count_faults, most_in_moof};
     ghost use Rattle.mp4_frag.specs.Runs.{MoofBytes, moof_at};
 
     ghost Value = { MoofBytes };
 
-    ghost view = { λ m. moof_at m.held.now m.offset };
+    ghost view = { λ m. moof_at m.moof_bytes.now m.offset };
 
-    ghost invariant = { λ m. IsWhole m.held.now × (m.offset + length m.held.now ≤ 2 ^ 62) ×
-        (count_faults (moof_of (moof_at m.held.now m.offset)) ≡ []) ×
-        IfSome m.told (λ s. (s.samples ≡ moof_samples (moof_at m.held.now m.offset)) ×
-        (s.samples ≤ most_samples) × (s.truns ≡ moof_truns (moof_at m.held.now m.offset))) };
+    ghost invariant = { λ m. IsWhole m.moof_bytes.now × (m.offset + length m.moof_bytes.now ≤ 2 ^ 62) ×
+        (count_faults (moof_of (moof_at m.moof_bytes.now m.offset)) ≡ []) ×
+        IfSome m.findings (λ s. (s.samples ≡ moof_samples (moof_at m.moof_bytes.now m.offset)) ×
+        (s.samples ≤ most_in_moof) × (s.truns ≡ moof_truns (moof_at m.moof_bytes.now m.offset))) };
 }
 
 /// What is at fault with the values, times aside.
@@ -84,71 +84,71 @@ fn content_fault(tracks: &TrackList, moof: &BoxRef<'_>) -> Option<Fault>
 
 /// How many truns the moof has that the bytes are, which begins at this offset.
 #[tactic(auto, using(crate::proofs::MoofLemmas::moof_is))]
-fn truns_at(held: &[u8], offset: u64) -> u64
-    requires whole { IsWhole held.now }
-    requires room { offset + length held.now ≤ 2 ^ 62 }
-    ensures { result ≡ moof_truns (moof_at held.now offset) }
+fn truns_at(moof_bytes: &[u8], offset: u64) -> u64
+    requires whole { IsWhole moof_bytes.now }
+    requires room { offset + length moof_bytes.now ≤ 2 ^ 62 }
+    ensures { result ≡ moof_truns (moof_at moof_bytes.now offset) }
 {
-    truns_in(&whole_box(held, offset))
+    truns_in(&whole_box(moof_bytes, offset))
 }
 
-/// What is told of the moof that the bytes are, which begins at this offset, or its fault, times aside: rule by rule.
+/// Findings on the moof that the bytes are, which begins at this offset, or its fault, times aside: rule by rule.
 #[inline(never)]
-#[tactic(auto, using(crate::proofs::MoofLemmas::moof_is), unfolding(crate::specs::Moofs::early_fault))]
-fn early_by_rules(held: &[u8], offset: u64, tracks: &TrackList) -> Result<Sound, Fault>
-    requires whole { IsWhole held.now }
-    requires room { offset + length held.now ≤ 2 ^ 62 }
-    ensures fault { told_fault result ≡ early_fault (moof_at held.now offset) tracks.now }
+#[tactic(auto, using(crate::proofs::MoofLemmas::moof_is), unfolding(crate::specs::Moofs::fault_before_times))]
+fn early_by_rules(moof_bytes: &[u8], offset: u64, tracks: &TrackList) -> Result<MoofCounts, Fault>
+    requires whole { IsWhole moof_bytes.now }
+    requires room { offset + length moof_bytes.now ≤ 2 ^ 62 }
+    ensures fault { fault_of result ≡ fault_before_times (moof_at moof_bytes.now offset) tracks.now }
     ensures least { IfErr result (λ f. IsLeast f
-        (moof_faults (moof_at held.now offset) tracks.now)) }
-    ensures samples { IfOk result (λ s. s.samples ≡ moof_samples (moof_at held.now offset)) }
-    ensures few { IfOk result (λ s. s.samples ≤ most_samples) }
-    ensures truns { IfOk result (λ s. s.truns ≡ moof_truns (moof_at held.now offset)) }
+        (moof_faults (moof_at moof_bytes.now offset) tracks.now)) }
+    ensures samples { IfOk result (λ s. s.samples ≡ moof_samples (moof_at moof_bytes.now offset)) }
+    ensures few { IfOk result (λ s. s.samples ≤ most_in_moof) }
+    ensures truns { IfOk result (λ s. s.truns ≡ moof_truns (moof_at moof_bytes.now offset)) }
     ensures late { IfOk result (λ s. s.is_early ≡ false) }
 {
-    if let Err(fault) = check_tree(held, offset) {
+    if let Err(fault) = check_tree(moof_bytes, offset) {
         return Err(fault);
     }
-    let moof = whole_box(held, offset);
+    let moof = whole_box(moof_bytes, offset);
     match content_fault(tracks, &moof) {
         Some(fault) => Err(fault),
-        None => Ok(Sound {
+        None => Ok(MoofCounts {
             samples: samples_in(&moof),
-            truns: truns_at(held, offset),
+            truns: truns_at(moof_bytes, offset),
             is_early: false,
         }),
     }
 }
 
-/// What is told of a moof in which so many trafs have no tfdt, where this was told of it without a look at where they begin.
-// It stands apart, with the moof as its bytes, since in nearly every moof each traf has a tfdt.
+/// Findings on a moof in which so many trafs have no tfdt, from findings that ignore where these begin.
+// A function of its own, with the moof as its bytes, since in nearly every moof each traf has a tfdt.
 #[inline(never)]
 #[tactic(auto, using(crate::proofs::MoofLemmas::moof_is))]
-fn tell_untimed(
-    held: &[u8],
+fn untimed_findings(
+    moof_bytes: &[u8],
     offset: u64,
     tracks: &TrackList,
     untimed: u64,
-    sound: Sound,
-) -> Result<Sound, Fault>
-    requires whole { IsWhole held.now }
-    requires room { offset + length held.now ≤ 2 ^ 62 }
+    sound: MoofCounts,
+) -> Result<MoofCounts, Fault>
+    requires whole { IsWhole moof_bytes.now }
+    requires room { offset + length moof_bytes.now ≤ 2 ^ 62 }
     requires count { IsCount most_64 0
-        (length (untimed_ids (trafs_of (moof_of (moof_at held.now offset))))) untimed }
-    ensures fault { told_fault result ≡
-        least (repeat_faults (moof_of (moof_at held.now offset))) }
+        (length (untimed_ids (trafs_of (moof_of (moof_at moof_bytes.now offset))))) untimed }
+    ensures fault { fault_of result ≡
+        least (repeat_faults (moof_of (moof_at moof_bytes.now offset))) }
     ensures samples { IfOk result (λ s. s.samples ≡ sound.samples) }
     ensures truns { IfOk result (λ s. s.truns ≡ sound.truns) }
     ensures early { IfOk result (λ s. s.is_early ≡ true → sound.is_early ≡ true) }
     ensures ends { IfOk result (λ s. s.is_early ≡ true → AllByRecursion
-        (HasEarlyEnd tracks.now) (trafs_of (moof_of (moof_at held.now offset)))) }
+        (HasEarlyEnd tracks.now) (trafs_of (moof_of (moof_at moof_bytes.now offset)))) }
 {
-    let moof = whole_box(held, offset);
+    let moof = whole_box(moof_bytes, offset);
     let mut best = None;
     note_among(untimed, &moof, &mut best);
     match best {
         Some(fault) => Err(fault),
-        None => Ok(Sound {
+        None => Ok(MoofCounts {
             samples: sound.samples,
             truns: sound.truns,
             is_early: sound.is_early && ended_early(tracks, &moof),
@@ -156,49 +156,49 @@ fn tell_untimed(
     }
 }
 
-/// What is told of the moof that the bytes are, which begins at this offset, or its fault, times aside.
-fn early(held: &[u8], offset: u64, tracks: &TrackList) -> Result<Sound, Fault>
-    requires whole { IsWhole held.now }
-    requires room { offset + length held.now ≤ 2 ^ 62 }
-    ensures fault { told_fault result ≡ early_fault (moof_at held.now offset) tracks.now }
+/// Findings on the moof that the bytes are, which begins at this offset, or its fault, times aside.
+fn early(moof_bytes: &[u8], offset: u64, tracks: &TrackList) -> Result<MoofCounts, Fault>
+    requires whole { IsWhole moof_bytes.now }
+    requires room { offset + length moof_bytes.now ≤ 2 ^ 62 }
+    ensures fault { fault_of result ≡ fault_before_times (moof_at moof_bytes.now offset) tracks.now }
     ensures least { IfErr result (λ f. IsLeast f
-        (moof_faults (moof_at held.now offset) tracks.now)) }
-    ensures samples { IfOk result (λ s. s.samples ≡ moof_samples (moof_at held.now offset)) }
-    ensures few { IfOk result (λ s. s.samples ≤ most_samples) }
-    ensures truns { IfOk result (λ s. s.truns ≡ moof_truns (moof_at held.now offset)) }
+        (moof_faults (moof_at moof_bytes.now offset) tracks.now)) }
+    ensures samples { IfOk result (λ s. s.samples ≡ moof_samples (moof_at moof_bytes.now offset)) }
+    ensures few { IfOk result (λ s. s.samples ≤ most_in_moof) }
+    ensures truns { IfOk result (λ s. s.truns ≡ moof_truns (moof_at moof_bytes.now offset)) }
     ensures early { IfOk result (λ s. s.is_early ≡ true →
-        time_faults (moof_trafs (moof_at held.now offset) tracks.now) ≡ []) }
+        time_faults (moof_trafs (moof_at moof_bytes.now offset) tracks.now) ≡ []) }
 {
     let mut untimed = 0;
-    if let Some(sound) = look_at(tracks, &whole_box(held, offset), &mut untimed) {
+    if let Some(sound) = read_moof(tracks, &whole_box(moof_bytes, offset), &mut untimed) {
         if untimed == 0 {
             return Ok(sound);
         }
-        return match tell_untimed(held, offset, tracks, untimed, sound) {
+        return match untimed_findings(moof_bytes, offset, tracks, untimed, sound) {
             Ok(sound) => Ok(sound),
             Err(fault) => Err(fault),
         };
     }
-    match early_by_rules(held, offset, tracks) {
+    match early_by_rules(moof_bytes, offset, tracks) {
         Ok(sound) => Ok(sound),
         Err(fault) => Err(fault),
     }
 }
 
 /// Which of the runs end past 64 bits: the first. They are gone over, unless all times are known to be early.
-fn late_fault(is_early: bool, held: &[u8], offset: u64, tracks: &TrackList) -> Option<Fault>
-    requires whole { IsWhole held.now }
-    requires room { offset + length held.now ≤ 2 ^ 62 }
+fn late_fault(is_early: bool, moof_bytes: &[u8], offset: u64, tracks: &TrackList) -> Option<Fault>
+    requires whole { IsWhole moof_bytes.now }
+    requires room { offset + length moof_bytes.now ≤ 2 ^ 62 }
     requires early { is_early ≡ true →
-        time_faults (moof_trafs (moof_at held.now offset) tracks.now) ≡ [] }
-    ensures { result ≡ least (time_faults (moof_trafs (moof_at held.now offset) tracks.now)) }
+        time_faults (moof_trafs (moof_at moof_bytes.now offset) tracks.now) ≡ [] }
+    ensures { result ≡ least (time_faults (moof_trafs (moof_at moof_bytes.now offset) tracks.now)) }
 {
     if is_early {
         return None;
     }
-    let moof = whole_box(held, offset);
+    let moof = whole_box(moof_bytes, offset);
     let check = InTime {
-        held,
+        moof_bytes,
         moof: offset,
         tracks,
     };
@@ -210,10 +210,10 @@ fn late_fault(is_early: bool, held: &[u8], offset: u64, tracks: &TrackList) -> O
 /// What is at fault with a moof.
 #[derive(Clone, Copy, Drop)]
 pub(crate) struct MoofFault {
-    /// The fault that is told.
+    /// The fault that is reported.
     pub(crate) fault: Fault,
     /// It is that of times: all other rules hold, and rows were read.
-    pub(crate) is_late: bool,
+    pub(crate) is_time_fault: bool,
 }
 
 /// The moof that the bytes are, one whole box of stated size that begins at this offset. Its samples are counted in `steps` as
@@ -224,72 +224,76 @@ pub(crate) struct MoofFault {
 /// The fault of the lowest rule that it breaks, at the box that begins first.
 #[inline(always)]
 pub(crate) fn read_by_rules<'a>(
-    held: &'a [u8],
+    moof_bytes: &'a [u8],
     offset: u64,
     tracks: &TrackList,
     steps: &mut Steps,
 ) -> Result<Moof<'a>, MoofFault>
-    requires whole { IsWhole held.now }
-    requires room { offset + length held.now ≤ 2 ^ 62 }
+    requires whole { IsWhole moof_bytes.now }
+    requires room { offset + length moof_bytes.now ≤ 2 ^ 62 }
     requires steps { steps.old.rows < 2 ^ 127 }
-    ensures moof { IfOk result (λ m. m ≡ moof_at held.now offset) }
-    ensures good { OnOk result (IsRead (moof_at held.now offset) tracks.now) }
-    ensures fault { IfErr result (λ f. moof_fault (moof_at held.now offset) tracks.now ≡
+    ensures moof { IfOk result (λ m. m ≡ moof_at moof_bytes.now offset) }
+    ensures good { OnOk result (IsRead (moof_at moof_bytes.now offset) tracks.now) }
+    ensures fault { IfErr result (λ f. moof_fault (moof_at moof_bytes.now offset) tracks.now ≡
         Some f.fault) }
     ensures least { IfErr result (λ f. IsLeast f.fault
-        (moof_faults (moof_at held.now offset) tracks.now)) }
-    ensures late { IfErr result (λ f. f.is_late ≡
-        is_none (early_fault (moof_at held.now offset) tracks.now)) }
-    ensures walked { early_fault (moof_at held.now offset) tracks.now ≡ None →
-        steps.new.rows ≡ steps.old.rows + moof_samples (moof_at held.now offset) }
+        (moof_faults (moof_at moof_bytes.now offset) tracks.now)) }
+    ensures late { IfErr result (λ f. f.is_time_fault ≡
+        is_none (fault_before_times (moof_at moof_bytes.now offset) tracks.now)) }
+    ensures rows_read { fault_before_times (moof_at moof_bytes.now offset) tracks.now ≡ None →
+        steps.new.rows ≡ steps.old.rows + moof_samples (moof_at moof_bytes.now offset) }
     ensures ok { OnOk result (steps.new.rows ≡ steps.old.rows +
-        moof_samples (moof_at held.now offset)) }
-    ensures few { steps.new.rows ≤ steps.old.rows + most_samples }
-    ensures unwalked { IsSome (early_fault (moof_at held.now offset) tracks.now) →
+        moof_samples (moof_at moof_bytes.now offset)) }
+    ensures few { steps.new.rows ≤ steps.old.rows + most_in_moof }
+    ensures unread { IsSome (fault_before_times (moof_at moof_bytes.now offset) tracks.now) →
         steps.new ≡ steps.old }
 {
-    let sound = match early(held, offset, tracks) {
+    let sound = match early(moof_bytes, offset, tracks) {
         Ok(sound) => sound,
         Err(fault) => {
             return Err(MoofFault {
                 fault,
-                is_late: false,
+                is_time_fault: false,
             });
         }
     };
     steps.rows += u128::from(sound.samples);
-    if let Some(fault) = late_fault(sound.is_early, held, offset, tracks) {
+    if let Some(fault) = late_fault(sound.is_early, moof_bytes, offset, tracks) {
         return Err(MoofFault {
             fault,
-            is_late: true,
+            is_time_fault: true,
         });
     }
-    Ok(Moof::of(held, offset, Some(sound)))
+    Ok(Moof::of(moof_bytes, offset, Some(sound)))
 }
 
 /// The trafs of the moof that the bytes are, which begins at this offset.
 #[tactic(auto, using(crate::proofs::MoofLemmas::moof_is))]
-fn trafs_in<'a>(held: &'a [u8], offset: u64, tracks: &'a TrackList) -> Trafs<'a>
-    requires whole { IsWhole held.now }
-    requires room { offset + length held.now ≤ 2 ^ 62 }
-    requires read { IsRead (moof_at held.now offset) tracks.now }
-    ensures { result ≡ moof_trafs (moof_at held.now offset) tracks.now }
+fn trafs_in<'a>(moof_bytes: &'a [u8], offset: u64, tracks: &'a TrackList) -> Trafs<'a>
+    requires whole { IsWhole moof_bytes.now }
+    requires room { offset + length moof_bytes.now ≤ 2 ^ 62 }
+    requires read { IsRead (moof_at moof_bytes.now offset) tracks.now }
+    ensures { result ≡ moof_trafs (moof_at moof_bytes.now offset) tracks.now }
 {
-    Trafs::of(held, offset, tracks, &whole_box(held, offset))
+    Trafs::of(moof_bytes, offset, tracks, &whole_box(moof_bytes, offset))
 }
 
 impl<'a> Moof<'a> {
-    /// The moof that the bytes are, of which this was told, or nothing.
+    /// The moof that the bytes are, with these findings, or none.
     #[inline]
-    fn of(held: &'a [u8], offset: u64, told: Option<Sound>) -> Moof<'a>
-        requires whole { IsWhole held.now }
-        requires room { offset + length held.now ≤ 2 ^ 62 }
-        requires count { count_faults (moof_of (moof_at held.now offset)) ≡ [] }
-        requires told { IfSome told (λ s. (s.samples ≡ moof_samples (moof_at held.now offset)) ×
-            (s.samples ≤ most_samples) × (s.truns ≡ moof_truns (moof_at held.now offset))) }
-        ensures { result ≡ moof_at held.now offset }
+    fn of(moof_bytes: &'a [u8], offset: u64, findings: Option<MoofCounts>) -> Moof<'a>
+        requires whole { IsWhole moof_bytes.now }
+        requires room { offset + length moof_bytes.now ≤ 2 ^ 62 }
+        requires count { count_faults (moof_of (moof_at moof_bytes.now offset)) ≡ [] }
+        requires findings { IfSome findings (λ s. (s.samples ≡ moof_samples (moof_at moof_bytes.now offset)) ×
+            (s.samples ≤ most_in_moof) × (s.truns ≡ moof_truns (moof_at moof_bytes.now offset))) }
+        ensures { result ≡ moof_at moof_bytes.now offset }
     {
-        Moof { held, offset, told }
+        Moof {
+            moof_bytes,
+            offset,
+            findings,
+        }
     }
 
     /// The moof that the bytes are, one whole box of stated size that begins at `offset` in the stream. `tracks` are those
@@ -298,45 +302,45 @@ impl<'a> Moof<'a> {
     /// # Errors
     ///
     /// The fault of the lowest rule that it breaks, at the box that begins first of those that break it. The rules of
-    /// its tree come first, then those of its boxes; their values are looked at only where the boxes are as they must
+    /// its tree come first, then those of its boxes; their values are checked only if the boxes are as they must
     /// be, and the times of its runs only where the values are too.
     pub fn read(
-        held: &'a [u8],
+        moof_bytes: &'a [u8],
         offset: u64,
         tracks: &TrackList,
         steps: &mut Steps,
     ) -> Result<Moof<'a>, Fault>
-        requires whole { IsWhole held.now }
-        requires room { offset + length held.now ≤ 2 ^ 62 }
+        requires whole { IsWhole moof_bytes.now }
+        requires room { offset + length moof_bytes.now ≤ 2 ^ 62 }
         requires steps { steps.old.rows < 2 ^ 127 }
-        ensures moof { IfOk result (λ m. m ≡ moof_at held.now offset) }
-        ensures good { OnOk result (IsRead (moof_at held.now offset) tracks.now) }
+        ensures moof { IfOk result (λ m. m ≡ moof_at moof_bytes.now offset) }
+        ensures good { OnOk result (IsRead (moof_at moof_bytes.now offset) tracks.now) }
         ensures fault { (f : Fault) → (result ≡ Err f) ↔
-            (moof_fault (moof_at held.now offset) tracks.now ≡ Some f) }
+            (moof_fault (moof_at moof_bytes.now offset) tracks.now ≡ Some f) }
         ensures least { IfErr result (λ f. IsLeast f
-            (moof_faults (moof_at held.now offset) tracks.now)) }
-        ensures walked { early_fault (moof_at held.now offset) tracks.now ≡ None →
-            steps.new.rows ≡ steps.old.rows + moof_samples (moof_at held.now offset) }
+            (moof_faults (moof_at moof_bytes.now offset) tracks.now)) }
+        ensures rows_read { fault_before_times (moof_at moof_bytes.now offset) tracks.now ≡ None →
+            steps.new.rows ≡ steps.old.rows + moof_samples (moof_at moof_bytes.now offset) }
         ensures ok { OnOk result (steps.new.rows ≡ steps.old.rows +
-            moof_samples (moof_at held.now offset)) }
-        ensures few { steps.new.rows ≤ steps.old.rows + most_samples }
-        ensures unwalked { IsSome (early_fault (moof_at held.now offset) tracks.now) →
+            moof_samples (moof_at moof_bytes.now offset)) }
+        ensures few { steps.new.rows ≤ steps.old.rows + most_in_moof }
+        ensures unread { IsSome (fault_before_times (moof_at moof_bytes.now offset) tracks.now) →
             steps.new ≡ steps.old }
     {
-        match read_by_rules(held, offset, tracks, steps) {
+        match read_by_rules(moof_bytes, offset, tracks, steps) {
             Ok(moof) => Ok(moof),
             Err(found) => Err(found.fault),
         }
     }
 
     /// The moof again that was read from these bytes with these tracks. It reads no row.
-    pub fn again(held: &'a [u8], offset: u64, tracks: &TrackList) -> Moof<'a>
-        requires whole { IsWhole held.now }
-        requires room { offset + length held.now ≤ 2 ^ 62 }
-        requires read { IsRead (moof_at held.now offset) tracks.now }
-        ensures { result ≡ moof_at held.now offset }
+    pub fn again(moof_bytes: &'a [u8], offset: u64, tracks: &TrackList) -> Moof<'a>
+        requires whole { IsWhole moof_bytes.now }
+        requires room { offset + length moof_bytes.now ≤ 2 ^ 62 }
+        requires read { IsRead (moof_at moof_bytes.now offset) tracks.now }
+        ensures { result ≡ moof_at moof_bytes.now offset }
     {
-        Moof::of(held, offset, None)
+        Moof::of(moof_bytes, offset, None)
     }
 
     /// Its bytes: one whole box, which ends at or before byte 2^62 of the stream.
@@ -345,7 +349,7 @@ impl<'a> Moof<'a> {
         ensures whole { IsWhole self.now.bytes }
         ensures room { self.now.offset + length self.now.bytes ≤ 2 ^ 62 }
     {
-        self.held
+        self.moof_bytes
     }
 
     /// The offset in the stream of its first byte.
@@ -358,11 +362,11 @@ impl<'a> Moof<'a> {
     /// How many samples it has.
     pub fn samples(&self) -> u32
         ensures samples { result ≡ moof_samples self.now }
-        ensures few { result ≤ most_samples }
+        ensures few { result ≤ most_in_moof }
     {
-        match self.told {
-            Some(told) => told.samples,
-            None => samples_in(&whole_box(self.held, self.offset)),
+        match self.findings {
+            Some(findings) => findings.samples,
+            None => samples_in(&whole_box(self.moof_bytes, self.offset)),
         }
     }
 
@@ -370,9 +374,9 @@ impl<'a> Moof<'a> {
     pub fn truns_len(&self) -> u64
         ensures { result ≡ moof_truns self.now }
     {
-        match self.told {
-            Some(told) => told.truns,
-            None => truns_at(self.held, self.offset),
+        match self.findings {
+            Some(findings) => findings.truns,
+            None => truns_at(self.moof_bytes, self.offset),
         }
     }
 
@@ -382,7 +386,7 @@ impl<'a> Moof<'a> {
         requires { IsRead self.now tracks.now }
         ensures { result ≡ moof_trafs self.now tracks.now }
     {
-        trafs_in(self.held, self.offset, tracks)
+        trafs_in(self.moof_bytes, self.offset, tracks)
     }
 
     /// Sets where each track ends: its `next` becomes the end of its last traf in the moof, in ticks, and that of the others stays.
@@ -394,10 +398,10 @@ impl<'a> Moof<'a> {
         requires steps { steps.old.rows < 2 ^ 127 }
         ensures tracks { tracks.new ≡ settled tracks.old (moof_trafs self.now tracks.old) }
         ensures len { length tracks.new ≡ length tracks.old }
-        ensures walked { steps.new.rows ≡ steps.old.rows + timed_of (moof_of self.now) }
+        ensures rows_read { steps.new.rows ≡ steps.old.rows + timed_of (moof_of self.now) }
         ensures few { steps.new.rows ≤ steps.old.rows + moof_samples self.now }
     {
-        let timed = settle_in(self.held, self.offset, tracks);
+        let timed = settle_in(self.moof_bytes, self.offset, tracks);
         steps.rows += u128::from(timed);
     }
 
@@ -411,7 +415,7 @@ impl<'a> Moof<'a> {
         requires steps { steps.old.rows < 2 ^ 127 }
         ensures tracks { tracks.new ≡ settled tracks.old (moof_trafs self.now tracks.old) }
         ensures len { length tracks.new ≡ length tracks.old }
-        ensures walked { steps.new.rows ≡ steps.old.rows + timed_of (moof_of self.now) }
+        ensures rows_read { steps.new.rows ≡ steps.old.rows + timed_of (moof_of self.now) }
         ensures few { steps.new.rows ≤ steps.old.rows + moof_samples self.now }
     {
         if !ends.has_room() {

@@ -2,9 +2,9 @@
 
 ghost use Rattle.std.specs.Prelude.{◌≡◌, ◌+◌, ◌^◌, ◌<◌, length};
 ghost use Rattle.mp4_box.specs.Trees.{view};
-ghost use Rattle.mp4_frag.specs.Working.Rereads.{absent_box};
+ghost use Rattle.mp4_frag.specs.Implementation.Rereads.{absent_box};
 
-use crate::kinds::FREE;
+use mp4_box::types::FREE;
 use mp4_box::{BoxRef, Header, Size};
 
 /// These bytes, which begin at an offset in the stream, as the payload of a box without a header.

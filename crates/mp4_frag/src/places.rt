@@ -1,4 +1,4 @@
-//! Where the runs of a moof may stand: the rule RunPlace.
+//! Where the runs of a moof may lie: the rule RunPlace.
 
 ghost use Rattle.std.specs.Prelude.{◌≡◌, List};
 ghost use Rattle.mp4_init.specs.declared.table.Track.{Track};
@@ -8,15 +8,15 @@ ghost use Rattle.mp4_frag.specs.Places.{IsPlaceFault, place_fault, run_place_fau
 ghost use Rattle.mp4_frag.specs.RunLists.{moof_listing};
 ghost use Rattle.mp4_frag.specs.ListsOfRuns.{IsListOf};
 
-use crate::kinds::TRUN;
 use crate::listed::find_by_place;
 use crate::moof::Moof;
 use crate::rows::Steps;
 use crate::run_list::RunList;
+use mp4_box::types::TRUN;
 use mp4_box::{Fault, Rule};
 use mp4_run_order::Payload;
 
-/// The trun that begins at this offset may not stand where it does.
+/// Fault of the trun that begins at this offset and may not lie where it does.
 pub(crate) fn run_place_fault(offset: u64) -> Fault
     ensures { result ≡ run_place_fault offset }
 {
@@ -28,7 +28,7 @@ pub(crate) fn run_place_fault(offset: u64) -> Fault
 }
 
 impl<'a> Moof<'a> {
-    /// Whether its runs stand where they may in the payload of its mdat. The list is that of this moof, with the
+    /// Whether its runs may lie where they do in the payload of its mdat. The list is that of this moof, with the
     /// tracks that it was read with. No row is read.
     ///
     /// # Errors

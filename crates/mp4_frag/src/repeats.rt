@@ -1,7 +1,7 @@
-//! Trafs without a base time of their own, behind others of their track.
+//! Trafs without a base time of their own, after others of their track.
 //!
-//! A moof of 64 MiB may have millions of trafs. The track_IDs of trafs without tfdt are looked at in blocks of a fixed size: each is
-//! marked when a traf that has it is passed. The moof is gone over again for each block alone.
+//! A moof of 64 MiB may have millions of trafs. The track_IDs of trafs without tfdt are read in blocks of a fixed size:
+//! each is marked when a traf that has it is passed. The moof is gone over again for each block alone.
 
 ghost use Rattle.std.specs.Prelude.{◌≡◌, ◌≤◌, ◌<◌, ◌+◌, [], ◌∷◌, ◌++◌, true, false, length, take};
 ghost use Rattle.mp4_box.specs.Trees.{view};
@@ -9,15 +9,15 @@ ghost use Rattle.mp4_box.specs.Order.{least_from};
 ghost use Rattle.mp4_box.specs.Paths.{of_kind};
 ghost use Rattle.mp4_init.specs.OrderedIds.{AreInOrder, sought};
 ghost use Rattle.mp4_frag.specs.Kinds.{traf};
-ghost use Rattle.mp4_frag.specs.Repeats.{is_listed, is_repeat, lacks_time, repeat_faults, repeats, traf_id, trafs_before, trafs_behind, trafs_of, untimed_ids};
-ghost use Rattle.mp4_frag.specs.Working.AtOnce.{IsCount, most_64};
-ghost use Rattle.mp4_frag.specs.Working.RepeatMarks.{all_marked, marked_at, marks};
+ghost use Rattle.mp4_frag.specs.Repeats.{is_listed, is_repeat, lacks_time, repeat_faults, repeats, traf_id, trafs_after, trafs_before, trafs_of, untimed_ids};
+ghost use Rattle.mp4_frag.specs.Implementation.AtOnce.{IsCount, most_64};
+ghost use Rattle.mp4_frag.specs.Implementation.RepeatMarks.{all_marked, marked_at, marks};
 
 use crate::children::children_of;
 use crate::fields::payload_at;
-use crate::kinds::{TFDT, TFHD, TRAF};
 use crate::tfhd::track_id;
 use arrayvec::ArrayVec;
+use mp4_box::types::{TFDT, TFHD, TRAF};
 use mp4_box::{BoxRef, Fault, Rule, Walk, count_of, note};
 use mp4_init::seek_in_order;
 
@@ -59,10 +59,10 @@ fn push_id<const N: usize>(child: &BoxRef<'_>, ids: &mut ArrayVec<u32, N>)
     }
 }
 
-/// Adds the track_IDs of the trafs without tfdt behind so many children of the moof, as many as there is room for.
+/// Adds the track_IDs of the trafs without tfdt after so many children of the moof, as many as there is room for.
 fn push_ids<const N: usize>(moof: &BoxRef<'_>, passed: usize, ids: &mut ArrayVec<u32, N>)
     requires empty { ids.old.items ≡ [] }
-    ensures { ids.new.items ≡ take N (untimed_ids (trafs_behind passed (view moof.now))) }
+    ensures { ids.new.items ≡ take N (untimed_ids (trafs_after passed (view moof.now))) }
 {
     let mut left = passed;
     for child in Walk::of(moof) {
@@ -79,7 +79,7 @@ fn push_ids<const N: usize>(moof: &BoxRef<'_>, passed: usize, ids: &mut ArrayVec
 
 /// Takes these in order in the places of all.
 fn take_ids<const N: usize>(moof: &BoxRef<'_>, passed: usize, ids: &mut ArrayVec<u32, N>)
-    ensures { AreInOrder (take N (untimed_ids (trafs_behind passed (view moof.now)))) ids.new.items }
+    ensures { AreInOrder (take N (untimed_ids (trafs_after passed (view moof.now)))) ids.new.items }
 {
     ids.clear();
     push_ids(moof, passed, ids);
@@ -104,8 +104,8 @@ impl<const N: usize> Marks<N> {
         }
     }
 
-    /// Marks the track_ID of a child of the moof that is passed, where it is a traf. Tells whether it is this one.
-    #[tactic(auto, unfolding(crate::specs::Working::RepeatMarks::all_marked, crate::specs::Repeats::is_listed))]
+    /// Marks the track_ID of a child of the moof that is passed, if it is a traf. Returns whether it is this one.
+    #[tactic(auto, unfolding(crate::specs::Implementation::RepeatMarks::all_marked, crate::specs::Repeats::is_listed))]
     fn pass(&mut self, child: &BoxRef<'_>, id: u32) -> bool
         ensures seen { self.new.seen ≡ all_marked self.old.ids.items self.old.seen
             (of_kind traf (view child.now ∷ [])) }
@@ -120,9 +120,9 @@ impl<const N: usize> Marks<N> {
         other == id
     }
 
-    /// Takes other track_IDs: those of the trafs from here on. Tells whether a traf that was passed has this one.
-    // It stands apart since a function pays for the size of its locals each time that it is called.
-    #[tactic(auto, using(crate::proofs::PassLemmas::marked_next, crate::proofs::PassLemmas::listed_next, crate::proofs::PassLemmas::marked_none, crate::proofs::PassLemmas::listed_none), unfolding(crate::specs::Working::RepeatMarks::marks))]
+    /// Takes other track_IDs: those of the trafs from here on. Returns whether an earlier traf has this track_ID.
+    // A function of its own, since a function clears its locals at each call.
+    #[tactic(auto, using(crate::proofs::PassLemmas::marked_next, crate::proofs::PassLemmas::listed_next, crate::proofs::PassLemmas::marked_none, crate::proofs::PassLemmas::listed_none), unfolding(crate::specs::Implementation::RepeatMarks::marks))]
     fn refill(&mut self, moof: &BoxRef<'_>, passed: usize, id: u32) -> bool
         ensures seen { self.new.seen ≡ marks N self.new.ids.items (trafs_before passed (view moof.now)) }
         ensures listed { result ≡ is_listed id (trafs_before passed (view moof.now)) }
@@ -203,9 +203,9 @@ impl<const N: usize> Marks<N> {
 }
 
 /// The same, with room for so many track_IDs.
-// Its room is no part of the frame of its caller, which is made for each moof.
+// It is a call of its own so that its room is no part of the frame of its caller, which handles every moof.
 #[inline(never)]
-#[tactic(auto, unfolding(crate::specs::Working::RepeatMarks::marks, crate::specs::Working::RepeatMarks::all_marked))]
+#[tactic(auto, unfolding(crate::specs::Implementation::RepeatMarks::marks, crate::specs::Implementation::RepeatMarks::all_marked))]
 fn note_by<const N: usize>(moof: &BoxRef<'_>, best: &mut Option<Fault>)
     requires { N ≤ MANY }
     ensures { best.new ≡ least_from best.old (repeat_faults (view moof.now)) }

@@ -4,7 +4,7 @@ ghost use Rattle.std.specs.Prelude.{◌≡◌, ◌+◌, ◌*◌, ◌+ℤ◌, ◌
 ghost use Rattle.std.specs.List.{flat_map};
 ghost use Rattle.std.specs.Iterator.{YieldsFirst, item_count};
 ghost use Rattle.mp4_frag.specs.Cursors.{first_cursor, past};
-ghost use Rattle.mp4_frag.specs.Rows.{HasWholeGroups, IsCursor, all_fields, field_at, group_at, offset_at, row_bytes, row_from, row_of, rows_behind, rows_of, usual_flags};
+ghost use Rattle.mp4_frag.specs.Rows.{HasWholeGroups, IsCursor, all_fields, field_at, group_at, offset_at, row_bytes, row_from, row_of, rows_after, rows_of, default_flags_of};
 
 use crate::fields::signed_at;
 use crate::run::Run;
@@ -21,7 +21,7 @@ pub struct Row {
     pub size: u32,
     /// Its flags (ISO/IEC 14496-12, 8.8.3).
     pub flags: u32,
-    /// How far its composition time lies behind its decode time, in ticks.
+    /// The difference of its composition time and its decode time, in ticks.
     pub offset: i64,
 }
 
@@ -31,7 +31,7 @@ pub struct Steps {
     pub rows: u128,
 }
 
-/// A place in a run: before a row, or behind the last.
+/// A place in a run: before a row, or after the last.
 #[derive(Clone, Copy, Debug, PartialEq, Eq)]
 pub struct Cursor {
     /// The index of the row, from 0 on.
@@ -43,7 +43,7 @@ pub struct Cursor {
 }
 
 impl Cursor {
-    /// The cursor behind a row that stands here.
+    /// The cursor after a row at this cursor.
     pub fn past(self, row: &Row) -> Cursor
         requires row { self.row + 1 < 2 ^ 32 }
         requires time { self.time + row.now.duration < 2 ^ 64 }
@@ -62,7 +62,7 @@ impl Cursor {
 #[derive(Drop)]
 pub struct Rows<'a> {
     run: Run,
-    held: &'a [u8],
+    moof_bytes: &'a [u8],
     /// The bytes from the group of the next row on.
     rest: &'a [u8],
     index: u32,
@@ -72,23 +72,23 @@ pub struct Rows<'a> {
 impl<'a> Model for Rows<'a> {
     ghost use Rattle.std.specs.Prelude.{◌≡◌, ◌≤◌, List, drop};
     ghost use Rattle.mp4_frag.specs.declared.rows.Row.{Row};
-    ghost use Rattle.mp4_frag.specs.Rows.{group_at, rows_behind};
+    ghost use Rattle.mp4_frag.specs.Rows.{group_at, rows_after};
 
     ghost Value = { List Row };
 
-    ghost view = { λ r. rows_behind r.run r.held.now r.index };
+    ghost view = { λ r. rows_after r.run r.moof_bytes.now r.index };
 
-    ghost invariant = { λ r. (r.index ≤ r.run.count) × (r.rest.now ≡ drop (group_at r.run r.index) r.held.now) };
+    ghost invariant = { λ r. (r.index ≤ r.run.count) × (r.rest.now ≡ drop (group_at r.run r.index) r.moof_bytes.now) };
 }
 
-/// The field at a place of the group that begins the bytes, or what stands for a field that isn't there.
+/// The field at a place of the group that begins the bytes, or a default if the field isn't there.
 #[inline(always)]
-fn field_at(group: &[u8], at: Option<u32>, usual: u32) -> u32
-    ensures { result ≡ field_at group.now 0 at usual }
+fn field_at(group: &[u8], at: Option<u32>, default_value: u32) -> u32
+    ensures { result ≡ field_at group.now 0 at default_value }
 {
     match at {
         Some(at) => number_at(group, at),
-        None => usual,
+        None => default_value,
     }
 }
 
@@ -107,27 +107,27 @@ fn offset_at(group: &[u8], version: u8, at: Option<u32>) -> i64
     }
 }
 
-/// The bytes behind a group of so many bytes.
+/// The bytes after a group of so many bytes.
 #[inline(always)]
 #[tactic(auto, using(std::proofs::lemmas::List::drop_min))]
-fn behind_group(rest: &[u8], len: u32) -> &[u8]
+fn after_group(rest: &[u8], len: u32) -> &[u8]
     ensures { result.now ≡ drop len rest.now }
 {
-    let (_, behind) = rest.split_at((len as usize).min(rest.len()));
-    behind
+    let (_, after) = rest.split_at((len as usize).min(rest.len()));
+    after
 }
 
 /// The bytes from the group of this index on.
 #[tactic(auto, using(std::proofs::lemmas::List::drop_min), unfolding(crate::specs::Rows::group_at))]
-pub(crate) fn groups_from<'a>(run: &Run, held: &'a [u8], i: u32) -> &'a [u8]
-    ensures { result.now ≡ drop (group_at run.now i) held.now }
+pub(crate) fn groups_from<'a>(run: &Run, moof_bytes: &'a [u8], i: u32) -> &'a [u8]
+    ensures { result.now ≡ drop (group_at run.now i) moof_bytes.now }
 {
     let group = u128::from(run.samples_at) + u128::from(run.fields.len) * u128::from(i);
-    let (_, groups) = held.split_at(group.min(held.len() as u128) as usize);
+    let (_, groups) = moof_bytes.split_at(group.min(moof_bytes.len() as u128) as usize);
     groups
 }
 
-/// Whether a group has all four fields, which then stand in the standard's order.
+/// Whether a group has all four fields, which are in the standard's order then.
 fn has_all(fields: &SampleFields) -> bool
     ensures { (result ≡ true) ↔ (fields.now ≡ all_fields) }
 {
@@ -140,8 +140,8 @@ fn has_all(fields: &SampleFields) -> bool
 
 impl Run {
     /// The flags of a sample that has none of its own.
-    fn usual_flags(&self, i: u32) -> u32
-        ensures { result ≡ usual_flags self.now i }
+    fn default_flags_of(&self, i: u32) -> u32
+        ensures { result ≡ default_flags_of self.now i }
     {
         if i == 0 {
             self.first_sample_flags.unwrap_or(self.flags)
@@ -159,7 +159,7 @@ impl Run {
         Row {
             duration: field_at(group, fields.sample_duration, self.duration),
             size: field_at(group, fields.sample_size, self.size),
-            flags: field_at(group, fields.sample_flags, self.usual_flags(i)),
+            flags: field_at(group, fields.sample_flags, self.default_flags_of(i)),
             offset: offset_at(group, self.version, fields.sample_composition_time_offset),
         }
     }
@@ -175,56 +175,56 @@ impl Run {
         }
     }
 
-    /// The rows of the run, in order. `held` are the bytes of its moof.
-    pub fn rows<'a>(&self, held: &'a [u8]) -> Rows<'a>
-        ensures { result ≡ rows_of self.now held.now }
+    /// The rows of the run, in order. `moof_bytes` are the bytes of its moof.
+    pub fn rows<'a>(&self, moof_bytes: &'a [u8]) -> Rows<'a>
+        ensures { result ≡ rows_of self.now moof_bytes.now }
     {
         Rows {
             run: *self,
-            held,
-            rest: groups_from(self, held, 0),
+            moof_bytes,
+            rest: groups_from(self, moof_bytes, 0),
             index: 0,
         }
     }
 
-    /// The rows of the run from a cursor on. `held` are the bytes of its moof.
+    /// The rows of the run from a cursor on. `moof_bytes` are the bytes of its moof.
     #[tactic(auto, using(crate::proofs::RowLemmas::rows_dropped))]
-    pub fn rows_from<'a>(&self, held: &'a [u8], cursor: Cursor) -> Rows<'a>
-        requires cursor { IsCursor self.now held.now cursor }
-        ensures { result ≡ drop cursor.row (rows_of self.now held.now) }
+    pub fn rows_from<'a>(&self, moof_bytes: &'a [u8], cursor: Cursor) -> Rows<'a>
+        requires cursor { IsCursor self.now moof_bytes.now cursor }
+        ensures { result ≡ drop cursor.row (rows_of self.now moof_bytes.now) }
     {
         Rows {
             run: *self,
-            held,
-            rest: groups_from(self, held, cursor.row),
+            moof_bytes,
+            rest: groups_from(self, moof_bytes, cursor.row),
             index: cursor.row,
         }
     }
 
-    /// The row of this index. `held` are the bytes of its moof.
+    /// The row of this index. `moof_bytes` are the bytes of its moof.
     #[inline(always)]
-    #[tactic(auto, using(crate::proofs::RowLemmas::row_behind))]
-    pub fn row(&self, held: &[u8], i: u32) -> Row
+    #[tactic(auto, using(crate::proofs::RowLemmas::row_after))]
+    pub fn row(&self, moof_bytes: &[u8], i: u32) -> Row
         requires { i < self.now.count }
-        ensures { result ≡ row_of self.now held.now i }
+        ensures { result ≡ row_of self.now moof_bytes.now i }
     {
-        self.row_in(groups_from(self, held, i), i)
+        self.row_in(groups_from(self, moof_bytes, i), i)
     }
 
-    /// The groups of `count` rows from row `first` on as they stand in the moof, whose bytes are `held`: 16 bytes each, the
-    /// sample's duration, size, flags and composition time offset (ISO/IEC 14496-12, 8.8.8). None where the groups haven't
-    /// all four fields, or aren't all there.
-    pub fn whole_groups<'a>(&self, held: &'a [u8], first: u32, count: u32) -> Option<&'a [u8]>
+    /// The groups of `count` rows from row `first` on as they are in the moof, whose bytes are `moof_bytes`: 16 bytes each,
+    /// the sample's duration, size, flags and composition time offset (ISO/IEC 14496-12, 8.8.8). None where the groups
+    /// haven't all four fields, or aren't all there.
+    pub fn whole_groups<'a>(&self, moof_bytes: &'a [u8], first: u32, count: u32) -> Option<&'a [u8]>
         ensures len { IfSome result (λ groups. length groups.now ≡ 16 * count) }
         ensures rows { IfSome result (λ groups.
-            groups.now ≡ flat_map row_bytes (take count (drop first (rows_of self.now held.now)))) }
-        ensures some { IsSome result ↔ HasWholeGroups self.now held.now first count }
+            groups.now ≡ flat_map row_bytes (take count (drop first (rows_of self.now moof_bytes.now)))) }
+        ensures some { IsSome result ↔ HasWholeGroups self.now moof_bytes.now first count }
     {
         let len = 16 * count as usize;
         if !has_all(&self.fields) || u64::from(first) + u64::from(count) > u64::from(self.count) {
             return None;
         }
-        let groups = groups_from(self, held, first);
+        let groups = groups_from(self, moof_bytes, first);
         if groups.len() < len {
             return None;
         }
@@ -246,7 +246,7 @@ impl<'a> Iterator for Rows<'a> {
             return None;
         }
         let row = self.run.row_in(self.rest, self.index);
-        self.rest = behind_group(self.rest, self.run.fields.len);
+        self.rest = after_group(self.rest, self.run.fields.len);
         self.index += 1;
         Some(row)
     }

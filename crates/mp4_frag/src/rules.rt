@@ -7,12 +7,12 @@ ghost use Rattle.mp4_frag.specs.Rules.{child_faults, count_faults, form_faults};
 
 use crate::checks::{HoldsOnly, TfhdLength, TrunLength};
 use crate::counts::count_samples;
-use crate::kinds::{FREE, MFHD, SKIP, TFDT, TFHD, TRAF, TRUN};
 use crate::mfhd::MFHD_LEN;
 use crate::tfdt::{LONG_TFDT_LEN, TFDT_LEN};
+use mp4_box::types::{FREE, MFHD, SKIP, TFDT, TFHD, TRAF, TRUN};
 use mp4_box::{AtMostOne, BoxRef, Fault, Layout, One, note, note_along};
 
-/// Boxes that are missing, that stand a second time, or whose version or length is wrong.
+/// Boxes that are missing, that occur a second time, or whose version or length is wrong.
 #[tactic(auto, using(mp4_box::proofs::OrderLemmas::least_from_append), unfolding(crate::specs::Rules::form_faults))]
 pub(crate) fn note_forms(moof: &BoxRef<'_>, best: &mut Option<Fault>)
     ensures { best.new ≡ least_from best.old (form_faults (view moof.now)) }
@@ -31,7 +31,7 @@ pub(crate) fn note_forms(moof: &BoxRef<'_>, best: &mut Option<Fault>)
     note_along(&TrunLength, &[TRAF, TRUN], moof, best);
 }
 
-/// Children that may not stand there.
+/// Children that may not be there.
 #[tactic(auto, using(mp4_box::proofs::OrderLemmas::least_from_append), unfolding(crate::specs::Rules::child_faults))]
 pub(crate) fn note_children(moof: &BoxRef<'_>, best: &mut Option<Fault>)
     ensures { best.new ≡ least_from best.old (child_faults (view moof.now)) }

@@ -2,7 +2,7 @@
 
 use crate::trun::SampleFields;
 
-/// A run of samples, which a trun tells (ISO/IEC 14496-12, 8.8.8). Times are ticks of the track's timescale. Its rows
+/// A run of samples, as a trun has it (ISO/IEC 14496-12, 8.8.8). Times are ticks of the track's timescale. Its rows
 /// are read from the bytes of its moof.
 #[derive(Clone, Copy, Debug)]
 pub struct Run {
@@ -32,7 +32,7 @@ pub struct Run {
     pub flags: u32,
     /// The flags of sample 0 where it has none of its own, if the trun has any for it.
     pub(crate) first_sample_flags: Option<u32>,
-    /// Where the fields of a sample stand in its group.
+    /// Places of the fields of a sample in its group.
     pub(crate) fields: SampleFields,
     /// Where in the moof the first group begins.
     pub(crate) samples_at: u64,

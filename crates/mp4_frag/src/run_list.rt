@@ -10,7 +10,7 @@ ghost use Rattle.mp4_frag.specs.Places.{listed_run};
 ghost use Rattle.mp4_frag.specs.Runs.{MoofBytes, moof_at};
 ghost use Rattle.mp4_frag.specs.RunLists.{taken_runs};
 ghost use Rattle.mp4_frag.specs.ListsOfRuns.{IsListOf};
-ghost use Rattle.mp4_frag.specs.Working.ListedRows.{IsLate, IsSorted};
+ghost use Rattle.mp4_frag.specs.Implementation.ListedRows.{IsLate, IsSorted};
 
 use crate::fill::fill;
 use crate::listed::{find_by_track, listed_row, sort_by_place, sort_by_track};
@@ -38,7 +38,7 @@ pub struct RunList {
 impl Model for RunList {
     ghost use Rattle.std.specs.Prelude.{◌≡◌, length};
     ghost use Rattle.mp4_frag.specs.RunLists.{ListedRows};
-    ghost use Rattle.mp4_frag.specs.Working.RunRows.{rows_of_words};
+    ghost use Rattle.mp4_frag.specs.Implementation.RunRows.{rows_of_words};
 
     ghost Value = { ListedRows };
 
@@ -64,15 +64,15 @@ impl RunList {
         ensures { result ≡ slice_index_or (taken_runs moof.now tracks.now) i result }
     {
         run_of_row(
-            moof.held,
+            moof.moof_bytes,
             moof.offset,
             tracks,
             &row_of_words(self.rows.get(i)),
         )
     }
 
-    /// What the order of runs depends on, of the run at this index: where it stands, and how many samples and bytes it has. It
-    /// reads no box.
+    /// What the order of runs depends on, of the run at this index: where it lies, and how many samples and bytes it
+    /// has. It reads no box.
     pub fn listed(&self, i: usize) -> ListedRun
         requires { i < length self.now.rows }
         ensures { (h : MoofBytes) (tracks : List Track) (run : Run) → IsListOf h tracks self.now →
@@ -92,7 +92,7 @@ impl RunList {
     }
 }
 
-/// Sorts rows as they are taken, and tells what was found by track before.
+/// Sorts rows as they are taken, and returns what was found by track before.
 fn put_in_order(rows: &mut Rows64) -> Option<u64>
     ensures late { IsLate rows.old.rows result }
     ensures sorted { IsSorted rows.old.rows rows.new.rows }
@@ -108,31 +108,31 @@ fn put_in_order(rows: &mut Rows64) -> Option<u64>
 /// The list of the runs of the moof that the bytes are, which begins at this offset and has so many truns.
 fn list_in(
     ledger: &mut Ledger,
-    held: &[u8],
+    moof_bytes: &[u8],
     offset: u64,
     tracks: &TrackList,
     truns: u64,
 ) -> Result<RunList, Refused>
-    requires whole { IsWhole held.now }
-    requires room { offset + length held.now ≤ 2 ^ 62 }
-    requires read { IsRead (moof_at held.now offset) tracks.now }
-    requires truns { truns ≡ moof_truns (moof_at held.now offset) }
+    requires whole { IsWhole moof_bytes.now }
+    requires room { offset + length moof_bytes.now ≤ 2 ^ 62 }
+    requires read { IsRead (moof_at moof_bytes.now offset) tracks.now }
+    requires truns { truns ≡ moof_truns (moof_at moof_bytes.now offset) }
     ensures list { IfOk result (λ l.
-        IsListOf (moof_at held.now offset) tracks.now l) }
+        IsListOf (moof_at moof_bytes.now offset) tracks.now l) }
     ensures len { IfOk result (λ l. length l.rows ≡
-        length (moof_runs (moof_at held.now offset) tracks.now)) }
+        length (moof_runs (moof_at moof_bytes.now offset) tracks.now)) }
     ensures ok { OnOk result (ledger.new ≡ claimed ledger.old (64 *
-        length (moof_runs (moof_at held.now offset) tracks.now))) }
+        length (moof_runs (moof_at moof_bytes.now offset) tracks.now))) }
     ensures over_limit { IsErrOf result Refused.OverLimit ↔ (ledger.old.limit <
-        ledger.old.live + 64 * length (moof_runs (moof_at held.now offset) tracks.now)) }
+        ledger.old.live + 64 * length (moof_runs (moof_at moof_bytes.now offset) tracks.now)) }
     ensures err { OnErr result (ledger.new ≡ ledger.old) }
 {
-    let moof = whole_box(held, offset);
+    let moof = whole_box(moof_bytes, offset);
     let mut rows = match ledger.rows(truns) {
         Ok(rows) => rows,
         Err(refused) => return Err(refused),
     };
-    fill(&mut rows, held, offset, &moof, tracks);
+    fill(&mut rows, moof_bytes, offset, &moof, tracks);
     let late = put_in_order(&mut rows);
     Ok(RunList { rows, late })
 }
@@ -157,13 +157,19 @@ impl<'a> Moof<'a> {
         ensures len { IfOk result (λ l. length l.rows ≡ length (moof_runs self.now tracks.now)) }
         ensures ok { OnOk result (ledger.new ≡
             claimed ledger.old (64 * length (moof_runs self.now tracks.now))) }
-        ensures walked { OnOk result (steps.new.rows ≡ steps.old.rows + moof_samples self.now) }
+        ensures rows_read { OnOk result (steps.new.rows ≡ steps.old.rows + moof_samples self.now) }
         ensures over_limit { IsErrOf result Refused.OverLimit ↔ (ledger.old.limit <
             ledger.old.live + 64 * length (moof_runs self.now tracks.now)) }
         ensures err { OnErr result (ledger.new ≡ ledger.old) }
-        ensures unwalked { OnErr result (steps.new ≡ steps.old) }
+        ensures unread { OnErr result (steps.new ≡ steps.old) }
     {
-        let list = match list_in(ledger, self.held, self.offset, tracks, self.truns_len()) {
+        let list = match list_in(
+            ledger,
+            self.moof_bytes,
+            self.offset,
+            tracks,
+            self.truns_len(),
+        ) {
             Ok(list) => list,
             Err(why) => return Err(why),
         };

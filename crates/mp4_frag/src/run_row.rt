@@ -2,7 +2,7 @@
 
 ghost use Rattle.std.specs.Prelude.{◌≡◌};
 ghost use Rattle.mp4_frag.specs.Ranges.{InRange};
-ghost use Rattle.mp4_frag.specs.Working.RunRows.{row_of_run, row_of_words};
+ghost use Rattle.mp4_frag.specs.Implementation.RunRows.{row_of_run, row_of_words};
 
 use crate::run::Run;
 
@@ -34,7 +34,7 @@ pub struct RunRow {
 }
 
 /// The eight numbers of a row.
-#[tactic(auto, unfolding(crate::specs::Working::RunRows::row_of_words))]
+#[tactic(auto, unfolding(crate::specs::Implementation::RunRows::row_of_words))]
 pub(crate) fn words_of(row: RunRow) -> [u64; 8]
     ensures { row_of_words result ≡ row }
 {
@@ -52,7 +52,7 @@ pub(crate) fn words_of(row: RunRow) -> [u64; 8]
 }
 
 /// The row that eight numbers are.
-#[tactic(auto, unfolding(crate::specs::Working::RunRows::row_of_words))]
+#[tactic(auto, unfolding(crate::specs::Implementation::RunRows::row_of_words))]
 pub(crate) fn row_of_words(words: [u64; 8]) -> RunRow
     ensures { result ≡ row_of_words words }
 {

@@ -7,29 +7,29 @@ ghost use Rattle.mp4_box.specs.Trees.{children, view};
 ghost use Rattle.mp4_frag.specs.Kinds.{trun};
 ghost use Rattle.mp4_frag.specs.Ranges.{InRange};
 ghost use Rattle.mp4_frag.specs.Runs.{end_place, run_at, run_of, start_by};
-ghost use Rattle.mp4_frag.specs.Working.TrafContexts.{runs_left, shared_of};
-ghost use Rattle.mp4_frag.specs.Working.Times.{ticks_in};
+ghost use Rattle.mp4_frag.specs.Implementation.TrafContexts.{runs_left, shared_of};
+ghost use Rattle.mp4_frag.specs.Implementation.Times.{ticks_in};
 
 use crate::children::next_of;
 use crate::fields::flags_of;
-use crate::kinds::TRUN;
 use crate::run::Run;
 use crate::sums::{sums_of, ticks_of};
 use crate::traf::{TrafContext, end_in};
 use crate::trun::{data_offset, first_sample_flags, sample_count, sample_fields, trun_fields};
+use mp4_box::types::TRUN;
 use mp4_box::{BoxRef, Walk, version_of};
 use std::marker::Model;
 
 /// Where the runs of a traf end so far, and the next may begin.
 #[derive(Clone, Copy)]
-pub struct Behind {
+pub struct RunStart {
     /// In time, in ticks.
     pub time: u64,
     /// The offset in the stream.
     pub place: i128,
 }
 
-/// Where a run begins: so far behind the first byte of the moof, or where the run before it ends.
+/// Where a run begins: so far after the first byte of the moof, or where the run before it ends.
 fn start_by(moof: u64, last: i128, offset: Option<i32>) -> i128
     ensures { result ≡ start_by moof last offset }
 {
@@ -42,8 +42,8 @@ fn start_by(moof: u64, last: i128, offset: Option<i32>) -> i128
 /// The run of a trun, but for its end and its bytes.
 #[inline(always)]
 #[tactic(auto, unfolding(crate::specs::Runs::run_at))]
-pub(crate) fn run_at(context: &TrafContext<'_>, behind: &Behind, trun: &BoxRef<'_>) -> Run
-    ensures { result ≡ run_at (shared_of context.now) behind.now.time behind.now.place
+pub(crate) fn run_at(context: &TrafContext<'_>, run_start: &RunStart, trun: &BoxRef<'_>) -> Run
+    ensures { result ≡ run_at (shared_of context.now) run_start.now.time run_start.now.place
         (view trun.now) }
 {
     let flags = flags_of(trun.payload);
@@ -53,9 +53,9 @@ pub(crate) fn run_at(context: &TrafContext<'_>, behind: &Behind, trun: &BoxRef<'
         entry: context.header.entry,
         version: version_of(trun.payload),
         count: sample_count(trun.payload),
-        time: behind.time,
-        end: behind.time,
-        place: start_by(context.moof, behind.place, data_offset(trun.payload)),
+        time: run_start.time,
+        end: run_start.time,
+        place: start_by(context.moof, run_start.place, data_offset(trun.payload)),
         bytes: 0,
         offset: trun.offset,
         duration: context.header.duration,
@@ -71,7 +71,7 @@ pub(crate) fn run_at(context: &TrafContext<'_>, behind: &Behind, trun: &BoxRef<'
 
 /// The durations of the samples of a trun, added up: by a product where no sample has its own.
 #[inline(always)]
-#[tactic(auto, using(crate::proofs::TimeLemmas::ticks_by_product), unfolding(crate::specs::Working::Times::ticks_in))]
+#[tactic(auto, using(crate::proofs::TimeLemmas::ticks_by_product), unfolding(crate::specs::Implementation::Times::ticks_in))]
 pub(crate) fn ticks_in(context: &TrafContext<'_>, trun: &BoxRef<'_>) -> u64
     ensures { result ≡ ticks_in (shared_of context.now) (view trun.now) }
 {
@@ -81,21 +81,21 @@ pub(crate) fn ticks_in(context: &TrafContext<'_>, trun: &BoxRef<'_>) -> u64
     {
         return u64::from(context.header.duration) * u64::from(sample_count(trun.payload));
     }
-    let start = Behind { time: 0, place: 0 };
-    ticks_of(&run_at(context, &start, trun), context.held)
+    let start = RunStart { time: 0, place: 0 };
+    ticks_of(&run_at(context, &start, trun), context.moof_bytes)
 }
 
 /// The run of a trun.
 #[inline(always)]
 #[tactic(auto, unfolding(crate::specs::Runs::run_of))]
-pub(crate) fn run_of(context: &TrafContext<'_>, behind: &Behind, trun: &BoxRef<'_>) -> Run
-    requires { behind.now.time + ticks_in (shared_of context.now) (view trun.now) < 2 ^ 64 }
-    ensures { result ≡ run_of (shared_of context.now) behind.now.time behind.now.place
+pub(crate) fn run_of(context: &TrafContext<'_>, run_start: &RunStart, trun: &BoxRef<'_>) -> Run
+    requires { run_start.now.time + ticks_in (shared_of context.now) (view trun.now) < 2 ^ 64 }
+    ensures { result ≡ run_of (shared_of context.now) run_start.now.time run_start.now.place
         (view trun.now) }
 {
-    let mut run = run_at(context, behind, trun);
-    let sums = sums_of(&run, context.held);
-    run.end = behind.time + sums.ticks;
+    let mut run = run_at(context, run_start, trun);
+    let sums = sums_of(&run, context.moof_bytes);
+    run.end = run_start.time + sums.ticks;
     run.bytes = sums.bytes;
     run
 }
@@ -105,7 +105,7 @@ pub(crate) fn run_of(context: &TrafContext<'_>, behind: &Behind, trun: &BoxRef<'
 pub struct Runs<'a> {
     context: TrafContext<'a>,
     /// Where the runs so far end.
-    behind: Behind,
+    run_start: RunStart,
     /// The children that are left.
     walk: Walk<'a>,
 }
@@ -116,64 +116,68 @@ impl<'a> Model for Runs<'a> {
     ghost use Rattle.std.specs.List.{AllByRecursion};
     ghost use Rattle.mp4_frag.specs.declared.run.Run.{Run};
     ghost use Rattle.mp4_frag.specs.Ranges.{InRange};
-    ghost use Rattle.mp4_frag.specs.Working.TrafContexts.{runs_left};
+    ghost use Rattle.mp4_frag.specs.Implementation.TrafContexts.{runs_left};
 
     ghost Value = { List Run };
 
-    ghost view = { λ r. runs_left r.context r.behind r.walk };
+    ghost view = { λ r. runs_left r.context r.run_start r.walk };
 
-    ghost invariant = { λ r. AllByRecursion InRange (runs_left r.context r.behind r.walk) };
+    ghost invariant = { λ r. AllByRecursion InRange (runs_left r.context r.run_start r.walk) };
 }
 
 impl<'a> Runs<'a> {
-    /// The runs of the truns among the children of a box, behind the runs so far.
-    pub(crate) fn of(context: &TrafContext<'a>, behind: &Behind, this: &BoxRef<'a>) -> Runs<'a>
+    /// The runs of the truns among the children of a box, after the runs so far.
+    pub(crate) fn of(context: &TrafContext<'a>, run_start: &RunStart, this: &BoxRef<'a>) -> Runs<'a>
         requires { AllByRecursion InRange
-            (runs_left context.now behind.now (children (view this.now))) }
-        ensures { result ≡ runs_left context.now behind.now (children (view this.now)) }
+            (runs_left context.now run_start.now (children (view this.now))) }
+        ensures { result ≡ runs_left context.now run_start.now (children (view this.now)) }
     {
-        Runs::among(context, behind, Walk::of(this))
+        Runs::among(context, run_start, Walk::of(this))
     }
 
-    /// The runs of the truns among some boxes, behind the runs so far.
-    pub(crate) fn among(context: &TrafContext<'a>, behind: &Behind, walk: Walk<'a>) -> Runs<'a>
-        requires { AllByRecursion InRange (runs_left context.now behind.now walk) }
-        ensures { result ≡ runs_left context.now behind.now walk.entry }
+    /// The runs of the truns among some boxes, after the runs so far.
+    pub(crate) fn among(context: &TrafContext<'a>, run_start: &RunStart, walk: Walk<'a>) -> Runs<'a>
+        requires { AllByRecursion InRange (runs_left context.now run_start.now walk) }
+        ensures { result ≡ runs_left context.now run_start.now walk.entry }
     {
         Runs {
             context: *context,
-            behind: *behind,
+            run_start: *run_start,
             walk,
         }
     }
 }
 
 /// Where a run ends.
-pub(crate) fn behind_run(run: &Run) -> Behind
+pub(crate) fn run_end(run: &Run) -> RunStart
     requires { InRange run.now }
     ensures time { result.time ≡ run.now.end }
     ensures place { result.place ≡ end_place run.now }
 {
-    Behind {
+    RunStart {
         time: run.end,
         place: run.place + i128::from(run.bytes),
     }
 }
 
-/// The run of the next trun among the children that are left, behind the runs so far.
+/// The run of the next trun among the children that are left, after the runs so far.
 #[inline(always)]
-fn next_run<'a>(context: &TrafContext<'a>, behind: &mut Behind, walk: &mut Walk<'a>) -> Option<Run>
-    requires range { AllByRecursion InRange (runs_left context.now behind.old walk.old) }
-    ensures first { runs_left context.now behind.old walk.old ≡
-        option_to_list result ++ runs_left context.now behind.new walk.new }
-    ensures none { IfNone result (runs_left context.now behind.new walk.new ≡ []) }
-    ensures range { AllByRecursion InRange (runs_left context.now behind.new walk.new) }
+fn next_run<'a>(
+    context: &TrafContext<'a>,
+    run_start: &mut RunStart,
+    walk: &mut Walk<'a>,
+) -> Option<Run>
+    requires range { AllByRecursion InRange (runs_left context.now run_start.old walk.old) }
+    ensures first { runs_left context.now run_start.old walk.old ≡
+        option_to_list result ++ runs_left context.now run_start.new walk.new }
+    ensures none { IfNone result (runs_left context.now run_start.new walk.new ≡ []) }
+    ensures range { AllByRecursion InRange (runs_left context.now run_start.new walk.new) }
 {
     let Some(trun) = next_of(TRUN, walk) else {
         return None;
     };
-    let run = run_of(context, behind, &trun);
-    *behind = behind_run(&run);
+    let run = run_of(context, run_start, &trun);
+    *run_start = run_end(&run);
     Some(run)
 }
 
@@ -186,6 +190,6 @@ impl<'a> Iterator for Runs<'a> {
 
     #[inline(always)]
     fn next(&mut self) -> Option<Run> {
-        next_run(&self.context, &mut self.behind, &mut self.walk)
+        next_run(&self.context, &mut self.run_start, &mut self.walk)
     }
 }

@@ -1,4 +1,4 @@
-//! Where the tracks end behind a moof.
+//! Where the tracks end after a moof.
 
 ghost use Rattle.std.specs.Prelude.{◌≡◌, ◌+◌, ◌^◌, ◌<◌, ◌≤◌, [], ◌∷◌, length};
 ghost use Rattle.mp4_box.specs.Headers.{IsWhole};
@@ -7,18 +7,18 @@ ghost use Rattle.mp4_box.specs.Trees.{view};
 ghost use Rattle.mp4_frag.specs.Kinds.{trun};
 ghost use Rattle.mp4_frag.specs.Moofs.{IsRead, moof_of, moof_samples, moof_trafs};
 ghost use Rattle.mp4_frag.specs.Runs.{moof_at, traf_of};
-ghost use Rattle.mp4_frag.specs.Working.TrafContexts.{shared_of};
+ghost use Rattle.mp4_frag.specs.Implementation.TrafContexts.{shared_of};
 ghost use Rattle.mp4_frag.specs.Settling.{ended, settled, timed, timed_in, timed_of};
-ghost use Rattle.mp4_frag.specs.Working.SettlingSteps.{EndsInTime, ticks_from};
-ghost use Rattle.mp4_frag.specs.Working.Times.{late_from};
+ghost use Rattle.mp4_frag.specs.Implementation.SettlingSteps.{EndsInTime, ticks_from};
+ghost use Rattle.mp4_frag.specs.Implementation.Times.{late_from};
 
 use crate::children::children_of;
 use crate::fields::flags_of;
-use crate::kinds::{TRAF, TRUN};
 use crate::runs::ticks_in;
 use crate::start::{Start, start_of};
 use crate::traf::TrafContext;
 use crate::trun::{sample_count, sample_fields};
+use mp4_box::types::{TRAF, TRUN};
 use mp4_box::{BoxRef, Walk, whole_box};
 use mp4_init::TrackList;
 
@@ -36,7 +36,7 @@ fn timed(payload: &[u8]) -> u32
 
 /// Where a traf ends that begins at a time, of which these children are left. Those of its samples that have durations of their
 /// own are counted.
-#[tactic(auto, using(crate::proofs::SettleLemmas::tick_fits, crate::proofs::SettleLemmas::tick_more), unfolding(crate::specs::Working::SettlingSteps::ticks_from))]
+#[tactic(auto, using(crate::proofs::SettleLemmas::tick_fits, crate::proofs::SettleLemmas::tick_more), unfolding(crate::specs::Implementation::SettlingSteps::ticks_from))]
 fn end_of<'a>(context: &TrafContext<'_>, time: u64, rest: Walk<'a>, count: &mut u32) -> u64
     requires late { late_from (shared_of context.now) time (of_kind trun rest) ≡ [] }
     requires few { count.old + timed_in (of_kind trun rest) < 2 ^ 32 }
@@ -55,15 +55,21 @@ fn end_of<'a>(context: &TrafContext<'_>, time: u64, rest: Walk<'a>, count: &mut 
 
 /// Sets where the track of a traf ends: where the traf does. Those of its samples that have durations of their own are counted.
 #[tactic(auto, unfolding(crate::specs::Runs::traf_of))]
-fn end_traf(held: &[u8], moof: u64, traf: &BoxRef<'_>, tracks: &mut TrackList, count: &mut u32)
-    requires time { EndsInTime (traf_of (moof_at held.now moof) tracks.old
+fn end_traf(
+    moof_bytes: &[u8],
+    moof: u64,
+    traf: &BoxRef<'_>,
+    tracks: &mut TrackList,
+    count: &mut u32,
+)
+    requires time { EndsInTime (traf_of (moof_at moof_bytes.now moof) tracks.old
         (view traf.now)) }
     requires few { count.old + timed_in (at_path (trun ∷ []) (view traf.now)) < 2 ^ 32 }
-    ensures tracks { tracks.new ≡ ended tracks.old (traf_of (moof_at held.now moof)
+    ensures tracks { tracks.new ≡ ended tracks.old (traf_of (moof_at moof_bytes.now moof)
         tracks.old (view traf.now)) }
     ensures count { count.new ≡ count.old + timed_in (at_path (trun ∷ []) (view traf.now)) }
 {
-    let start = start_of(held, moof, tracks, traf);
+    let start = start_of(moof_bytes, moof, tracks, traf);
     let Start {
         context,
         time,
@@ -77,22 +83,22 @@ fn end_traf(held: &[u8], moof: u64, traf: &BoxRef<'_>, tracks: &mut TrackList, c
     }
 }
 
-/// Sets where each track ends behind the moof that the bytes are, which begin at this offset: how many of its samples have
-/// durations of their own.
+/// Sets where each track ends after the moof that the bytes are, which begin at this offset. Returns how many of its
+/// samples have durations of their own.
 #[tactic(auto, using(crate::proofs::SettleLemmas::each_first, crate::proofs::SettleLemmas::each_more, crate::proofs::SettleLemmas::settled_more, crate::proofs::SettleLemmas::settled_none, crate::proofs::SettleLemmas::timed_past))]
-pub(crate) fn settle_in(held: &[u8], moof: u64, tracks: &mut TrackList) -> u32
-    requires whole { IsWhole held.now }
-    requires room { moof + length held.now ≤ 2 ^ 62 }
-    requires read { IsRead (moof_at held.now moof) tracks.old }
+pub(crate) fn settle_in(moof_bytes: &[u8], moof: u64, tracks: &mut TrackList) -> u32
+    requires whole { IsWhole moof_bytes.now }
+    requires room { moof + length moof_bytes.now ≤ 2 ^ 62 }
+    requires read { IsRead (moof_at moof_bytes.now moof) tracks.old }
     ensures tracks { tracks.new ≡ settled tracks.old
-        (moof_trafs (moof_at held.now moof) tracks.old) }
-    ensures timed { result ≡ timed_of (moof_of (moof_at held.now moof)) }
-    ensures few { result ≤ moof_samples (moof_at held.now moof) }
+        (moof_trafs (moof_at moof_bytes.now moof) tracks.old) }
+    ensures timed { result ≡ timed_of (moof_of (moof_at moof_bytes.now moof)) }
+    ensures few { result ≤ moof_samples (moof_at moof_bytes.now moof) }
 {
-    let this = whole_box(held, moof);
+    let this = whole_box(moof_bytes, moof);
     let mut count = 0;
     for traf in children_of(TRAF, &this) {
-        end_traf(held, moof, &traf, tracks, &mut count);
+        end_traf(moof_bytes, moof, &traf, tracks, &mut count);
     }
     count
 }

@@ -6,22 +6,22 @@ ghost use Rattle.std.specs.Option.{unwrap_or};
 ghost use Rattle.mp4_box.specs.Paths.{of_kind};
 ghost use Rattle.mp4_box.specs.Trees.{children, view};
 ghost use Rattle.mp4_frag.specs.Kinds.{trun};
-ghost use Rattle.mp4_frag.specs.Working.RunRows.{tfhd_at};
+ghost use Rattle.mp4_frag.specs.Implementation.RunRows.{tfhd_at};
 ghost use Rattle.mp4_frag.specs.Ranges.{IsSound};
 ghost use Rattle.mp4_frag.specs.Runs.{base_of, moof_at, runs_of, shared_by, tfhd_of, track_of, traf_of};
-ghost use Rattle.mp4_frag.specs.Working.TrafContexts.{shared_of};
+ghost use Rattle.mp4_frag.specs.Implementation.TrafContexts.{shared_of};
 ghost use Rattle.mp4_frag.specs.Tfhd.{track_id};
 
 use crate::children::children_of;
-use crate::kinds::{TFDT, TFHD};
-use crate::runs::{Behind, Runs};
+use crate::runs::{RunStart, Runs};
 use crate::tfdt::base_media_decode_time;
 use crate::tfhd::track_id;
 use crate::traf::{TrafContext, end_in, header_by, track_at};
+use mp4_box::types::{TFDT, TFHD};
 use mp4_box::{BoxRef, Walk};
 use mp4_init::TrackList;
 
-/// What stands for the offset of a tfhd where there is none.
+/// The offset of a tfhd where there is none.
 const NOWHERE: u64 = u64::MAX;
 
 /// The tfhd and the tfdt of a traf, and what else it holds.
@@ -52,7 +52,7 @@ pub(crate) struct Start<'a> {
     pub(crate) rest: Walk<'a>,
 }
 
-/// The heads of a traf, wherever they stand.
+/// The heads of a traf, wherever they are.
 #[inline(never)]
 fn heads_anywhere<'a>(traf: &BoxRef<'a>) -> Heads<'a>
     ensures tfhd { result.tfhd.now ≡ tfhd_of (view traf.now) }
@@ -105,12 +105,12 @@ pub(crate) fn heads_of<'a>(traf: &BoxRef<'a>) -> Heads<'a>
 /// What is read of a traf before its runs, in the moof that begins at this offset.
 #[inline(always)]
 pub(crate) fn start_of<'a>(
-    held: &'a [u8],
+    moof_bytes: &'a [u8],
     moof: u64,
     tracks: &TrackList,
     traf: &BoxRef<'a>,
 ) -> Start<'a>
-    ensures shared { shared_of result.context ≡ shared_by (moof_at held.now moof)
+    ensures shared { shared_of result.context ≡ shared_by (moof_at moof_bytes.now moof)
         (track_of tracks.now (view traf.now)) (view traf.now) }
     ensures small { result.context.header.size < 2 ^ 32 }
     ensures time { result.time ≡
@@ -126,7 +126,7 @@ pub(crate) fn start_of<'a>(
     let track = track_at(tracks, at);
     Start {
         context: TrafContext {
-            held,
+            moof_bytes,
             moof,
             header: header_by(track, heads.tfhd),
             ends_at: end_in(moof, traf),
@@ -151,11 +151,11 @@ pub(crate) struct RunsOf<'a> {
 
 /// Where the first run of a traf may begin, in the moof that begins at this offset.
 #[inline]
-pub(crate) fn before_runs(time: u64, moof: u64) -> Behind
+pub(crate) fn before_runs(time: u64, moof: u64) -> RunStart
     ensures time { result.time ≡ time }
     ensures place { result.place ≡ pos moof }
 {
-    Behind {
+    RunStart {
         time,
         place: i128::from(moof),
     }
@@ -164,22 +164,22 @@ pub(crate) fn before_runs(time: u64, moof: u64) -> Behind
 /// The runs of a traf, in the moof that begins at this offset.
 #[inline(always)]
 pub(crate) fn runs_of<'a>(
-    held: &'a [u8],
+    moof_bytes: &'a [u8],
     moof: u64,
     tracks: &TrackList,
     traf: &BoxRef<'a>,
 ) -> RunsOf<'a>
-    requires { IsSound (traf_of (moof_at held.now moof) tracks.now
+    requires { IsSound (traf_of (moof_at moof_bytes.now moof) tracks.now
         (view traf.now)) }
     ensures tfhd { result.tfhd ≡ tfhd_at (view traf.now) }
-    ensures track { result.track ≡ (traf_of (moof_at held.now moof) tracks.now
+    ensures track { result.track ≡ (traf_of (moof_at moof_bytes.now moof) tracks.now
         (view traf.now)).shared.header.track }
     ensures time { result.time ≡
-        (traf_of (moof_at held.now moof) tracks.now (view traf.now)).time }
+        (traf_of (moof_at moof_bytes.now moof) tracks.now (view traf.now)).time }
     ensures runs { result.runs ≡
-        runs_of (traf_of (moof_at held.now moof) tracks.now (view traf.now)) }
+        runs_of (traf_of (moof_at moof_bytes.now moof) tracks.now (view traf.now)) }
 {
-    let start = start_of(held, moof, tracks, traf);
+    let start = start_of(moof_bytes, moof, tracks, traf);
     let Start {
         context,
         time,
@@ -187,11 +187,11 @@ pub(crate) fn runs_of<'a>(
         tfhd,
         rest,
     } = start;
-    let behind = before_runs(time, moof);
+    let run_start = before_runs(time, moof);
     RunsOf {
         tfhd,
         track: context.header.track,
         time,
-        runs: Runs::among(&context, &behind, rest),
+        runs: Runs::among(&context, &run_start, rest),
     }
 }

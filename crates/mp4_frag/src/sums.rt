@@ -1,15 +1,15 @@
-//! What the samples of a run come to.
+//! Sums over the samples of a run.
 
 ghost use Rattle.std.specs.Prelude.{◌≡◌, ◌+◌, ◌*◌, ◌<◌, ◌≤◌, ◌^◌, drop, take};
 ghost use Rattle.mp4_box.specs.Fields.{number_in};
 ghost use Rattle.mp4_frag.specs.Rows.{durations, rows_of, sizes};
-ghost use Rattle.mp4_frag.specs.Working.Added.{field_numbers, numbers_from};
+ghost use Rattle.mp4_frag.specs.Implementation.Added.{field_numbers, numbers_from};
 
 use crate::rows::groups_from;
 use crate::run::Run;
 use mp4_box::u32_at;
 
-/// What some samples of a run come to.
+/// Sums over some samples of a run.
 #[derive(Clone, Copy)]
 pub struct Sums {
     /// Their bytes.
@@ -76,13 +76,13 @@ fn both_sums(groups: &[u8], size_at: u32, duration_at: u32, len: u32, count: u32
 /// The numbers of a field of `count` groups of `len` bytes, of which the first begins the bytes, added up: by a product
 /// where they haven't the field.
 #[inline(always)]
-fn field_sum(groups: &[u8], at: Option<u32>, usual: u32, len: u32, count: u32) -> u64
-    ensures sum { result ≡ field_numbers groups.now at usual len count }
+fn field_sum(groups: &[u8], at: Option<u32>, common_layout: u32, len: u32, count: u32) -> u64
+    ensures sum { result ≡ field_numbers groups.now at common_layout len count }
     ensures few { result ≤ 4294967295 * count }
 {
     match at {
         Some(at) => numbers_sum(groups, at, len, count),
-        None => u64::from(usual) * u64::from(count),
+        None => u64::from(common_layout) * u64::from(count),
     }
 }
 
@@ -138,35 +138,35 @@ fn sums_in(run: &Run, groups: &[u8], count: u32) -> Sums
 /// The durations of the samples of a run, added up.
 #[inline(always)]
 #[tactic(auto, using(crate::proofs::BetweenLemmas::all_durations))]
-pub(crate) fn ticks_of(run: &Run, held: &[u8]) -> u64
-    ensures ticks { result ≡ durations (rows_of run.now held.now) }
+pub(crate) fn ticks_of(run: &Run, moof_bytes: &[u8]) -> u64
+    ensures ticks { result ≡ durations (rows_of run.now moof_bytes.now) }
     ensures few { result ≤ 4294967295 * run.now.count }
 {
-    ticks_in(run, groups_from(run, held, 0), run.count)
+    ticks_in(run, groups_from(run, moof_bytes, 0), run.count)
 }
 
 /// The sizes and the durations of the samples of a run, added up.
 #[inline(always)]
 #[tactic(auto, using(crate::proofs::BetweenLemmas::all_sizes, crate::proofs::BetweenLemmas::all_durations))]
-pub(crate) fn sums_of(run: &Run, held: &[u8]) -> Sums
-    ensures bytes { result.bytes ≡ sizes (rows_of run.now held.now) }
-    ensures ticks { result.ticks ≡ durations (rows_of run.now held.now) }
+pub(crate) fn sums_of(run: &Run, moof_bytes: &[u8]) -> Sums
+    ensures bytes { result.bytes ≡ sizes (rows_of run.now moof_bytes.now) }
+    ensures ticks { result.ticks ≡ durations (rows_of run.now moof_bytes.now) }
     ensures few_bytes { result.bytes ≤ 4294967295 * run.now.count }
     ensures few_ticks { result.ticks ≤ 4294967295 * run.now.count }
 {
-    sums_in(run, groups_from(run, held, 0), run.count)
+    sums_in(run, groups_from(run, moof_bytes, 0), run.count)
 }
 
 impl Run {
-    /// The sizes and the durations of `count` rows from row `first` on, added up; nothing else of them is read. `held` are
+    /// The sizes and the durations of `count` rows from row `first` on, added up; nothing else of them is read. `moof_bytes` are
     /// the bytes of its moof.
     #[inline(always)]
     #[tactic(auto, using(crate::proofs::BetweenLemmas::sizes_between, crate::proofs::BetweenLemmas::durations_between))]
-    pub fn sums_between(&self, held: &[u8], first: u32, count: u32) -> Sums
+    pub fn sums_between(&self, moof_bytes: &[u8], first: u32, count: u32) -> Sums
         requires rows { first + count ≤ self.now.count }
-        ensures bytes { result.bytes ≡ sizes (take count (drop first (rows_of self.now held.now))) }
-        ensures ticks { result.ticks ≡ durations (take count (drop first (rows_of self.now held.now))) }
+        ensures bytes { result.bytes ≡ sizes (take count (drop first (rows_of self.now moof_bytes.now))) }
+        ensures ticks { result.ticks ≡ durations (take count (drop first (rows_of self.now moof_bytes.now))) }
     {
-        sums_in(self, groups_from(self, held, first), count)
+        sums_in(self, groups_from(self, moof_bytes, first), count)
     }
 }

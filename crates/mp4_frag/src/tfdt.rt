@@ -10,7 +10,7 @@ ghost use Rattle.mp4_frag.specs.Tfdt.{base_media_decode_time};
 
 use mp4_box::{long_number_at, number_at, version_of};
 
-/// Where base_media_decode_time stands.
+/// Place of base_media_decode_time.
 const BASE_MEDIA_DECODE_TIME: u32 = 4;
 
 /// How long the payload is at version 0.

@@ -16,10 +16,10 @@ ghost use Rattle.mp4_frag.specs.Tfhd.{counts_from_moof, duration_is_empty, tfhd_
 use crate::fields::{place_if, width_if};
 use mp4_box::{Flags, TfhdFlags, number_at};
 
-/// Where track_ID stands.
+/// Place of track_ID.
 const TRACK_ID: u32 = 4;
 
-/// Where the optional fields of a tfhd stand in its payload, and how long that is.
+/// Places of the optional fields of a tfhd in its payload, and its length.
 #[derive(Clone, Copy)]
 pub struct TfhdFields {
     pub sample_description_index: Option<u32>,
@@ -72,7 +72,7 @@ pub(crate) fn counts_from_moof(word: u32) -> bool
     !flags.contains(TfhdFlags::BASE_DATA_OFFSET) && flags.contains(TfhdFlags::DEFAULT_BASE_IS_MOOF)
 }
 
-/// Whether no samples stand for the time that the fragment takes.
+/// Whether there are no samples for the time of the fragment.
 #[tactic(auto, using(mp4_flags::proofs::FlagLemmas::mask_keeps_flag))]
 pub(crate) fn duration_is_empty(word: u32) -> bool
     ensures { result ≡ duration_is_empty word }

@@ -7,15 +7,15 @@ ghost use Rattle.std.specs.List.{AllByRecursion};
 ghost use Rattle.mp4_box.specs.Trees.{children, view};
 ghost use Rattle.mp4_frag.specs.Ranges.{InRange, IsSound};
 ghost use Rattle.mp4_frag.specs.Runs.{base_of, end_in, header_by, moof_at, known_track, no_track, runs_of, shared_by, track_of, traf_of, trafs_by};
-ghost use Rattle.mp4_frag.specs.Working.TrafContexts.{track_fragment, shared_of};
+ghost use Rattle.mp4_frag.specs.Implementation.TrafContexts.{track_fragment, shared_of};
 
 use crate::checks::{entry_of, track_with};
 use crate::children::{children_of, next_of};
 use crate::fields::{flags_of, number_or, payload_at};
-use crate::kinds::{TFDT, TFHD, TRAF};
-use crate::runs::{Behind, Runs};
+use crate::runs::{RunStart, Runs};
 use crate::tfdt::base_media_decode_time;
 use crate::tfhd::{tfhd_fields, track_id};
+use mp4_box::types::{TFDT, TFHD, TRAF};
 use mp4_box::{BoxRef, Walk};
 use mp4_init::{Track, TrackList};
 use std::marker::Model;
@@ -39,7 +39,7 @@ pub struct TrafHeader {
 #[derive(Clone, Copy)]
 pub struct TrafContext<'a> {
     /// The bytes of the moof.
-    pub held: &'a [u8],
+    pub moof_bytes: &'a [u8],
     /// The offset in the stream of the first of them.
     pub moof: u64,
     /// What the tfhd of the traf says, and else its track.
@@ -48,7 +48,7 @@ pub struct TrafContext<'a> {
     pub ends_at: u64,
 }
 
-/// What stands for a track that isn't there.
+/// The track where there is none.
 const NO_TRACK: Track = Track {
     id: 0,
     timescale: 0,
@@ -120,17 +120,17 @@ pub(crate) fn track_of(tracks: &TrackList, traf: &BoxRef<'_>) -> Track
 
 /// What the runs of a traf share, in the moof that begins at this offset.
 pub(crate) fn context_of<'a>(
-    held: &'a [u8],
+    moof_bytes: &'a [u8],
     moof: u64,
     track: Track,
     traf: &BoxRef<'_>,
 ) -> TrafContext<'a>
-    ensures shared { shared_of result ≡ shared_by (moof_at held.now moof) track
+    ensures shared { shared_of result ≡ shared_by (moof_at moof_bytes.now moof) track
         (view traf.now) }
     ensures small { result.header.size < 2 ^ 32 }
 {
     TrafContext {
-        held,
+        moof_bytes,
         moof,
         header: header_by(track, payload_at(TFHD, traf)),
         ends_at: end_in(moof, traf),
@@ -151,7 +151,7 @@ impl<'a> Model for Traf<'a> {
     ghost use Rattle.std.specs.List.{AllByRecursion};
     ghost use Rattle.mp4_frag.specs.Ranges.{InRange};
     ghost use Rattle.mp4_frag.specs.Runs.{moof_at, runs_of, TrackFragment};
-    ghost use Rattle.mp4_frag.specs.Working.TrafContexts.{track_fragment};
+    ghost use Rattle.mp4_frag.specs.Implementation.TrafContexts.{track_fragment};
 
     ghost Value = { TrackFragment };
 
@@ -178,35 +178,35 @@ impl<'a> Traf<'a> {
     pub fn runs(&self) -> Runs<'a>
         ensures { result ≡ runs_of self.now }
     {
-        let behind = Behind {
+        let run_start = RunStart {
             time: self.time,
             place: i128::from(self.context.moof),
         };
-        Runs::of(&self.context, &behind, &self.this)
+        Runs::of(&self.context, &run_start, &self.this)
     }
 }
 
 /// The traf that a box is, in the moof that begins at this offset.
 pub(crate) fn traf_of<'a>(
-    held: &'a [u8],
+    moof_bytes: &'a [u8],
     moof: u64,
     tracks: &TrackList,
     this: &BoxRef<'a>,
 ) -> Traf<'a>
-    requires { IsSound (traf_of (moof_at held.now moof) tracks.now
+    requires { IsSound (traf_of (moof_at moof_bytes.now moof) tracks.now
         (view this.now)) }
-    ensures { result ≡ traf_of (moof_at held.now moof) tracks.now
+    ensures { result ≡ traf_of (moof_at moof_bytes.now moof) tracks.now
         (view this.now) }
 {
     let track = track_of(tracks, this);
-    let context = context_of(held, moof, track, this);
+    let context = context_of(moof_bytes, moof, track, this);
     Traf::of(&context, base_of(track.next, this), this)
 }
 
 /// Goes over the trafs of a moof.
 #[derive(Drop)]
 pub struct Trafs<'a> {
-    held: &'a [u8],
+    moof_bytes: &'a [u8],
     moof: u64,
     tracks: &'a TrackList,
     /// The children that are left.
@@ -222,27 +222,27 @@ impl<'a> Model for Trafs<'a> {
 
     ghost Value = { List TrackFragment };
 
-    ghost view = { λ t. trafs_by (moof_at t.held.now t.moof) t.tracks.now t.walk };
+    ghost view = { λ t. trafs_by (moof_at t.moof_bytes.now t.moof) t.tracks.now t.walk };
 
     ghost invariant = { λ t. AllByRecursion IsSound
-        (trafs_by (moof_at t.held.now t.moof) t.tracks.now t.walk) };
+        (trafs_by (moof_at t.moof_bytes.now t.moof) t.tracks.now t.walk) };
 }
 
 impl<'a> Trafs<'a> {
     /// The trafs among the children of a box, in the moof that begins at this offset.
     pub(crate) fn of(
-        held: &'a [u8],
+        moof_bytes: &'a [u8],
         moof: u64,
         tracks: &'a TrackList,
         this: &BoxRef<'a>,
     ) -> Trafs<'a>
-        requires { AllByRecursion IsSound (trafs_by (moof_at held.now moof)
+        requires { AllByRecursion IsSound (trafs_by (moof_at moof_bytes.now moof)
             tracks.now (children (view this.now))) }
-        ensures { result ≡ trafs_by (moof_at held.now moof) tracks.now
+        ensures { result ≡ trafs_by (moof_at moof_bytes.now moof) tracks.now
             (children (view this.now)) }
     {
         Trafs {
-            held,
+            moof_bytes,
             moof,
             tracks,
             walk: Walk::of(this),
@@ -252,24 +252,24 @@ impl<'a> Trafs<'a> {
 
 /// The next traf among the children that are left.
 fn next_traf<'a>(
-    held: &'a [u8],
+    moof_bytes: &'a [u8],
     moof: u64,
     tracks: &TrackList,
     walk: &mut Walk<'a>,
 ) -> Option<Traf<'a>>
     requires sound { AllByRecursion IsSound
-        (trafs_by (moof_at held.now moof) tracks.now walk.old) }
-    ensures first { trafs_by (moof_at held.now moof) tracks.now walk.old ≡
-        option_to_list result ++ trafs_by (moof_at held.now moof) tracks.now walk.new }
+        (trafs_by (moof_at moof_bytes.now moof) tracks.now walk.old) }
+    ensures first { trafs_by (moof_at moof_bytes.now moof) tracks.now walk.old ≡
+        option_to_list result ++ trafs_by (moof_at moof_bytes.now moof) tracks.now walk.new }
     ensures none { IfNone result
-        (trafs_by (moof_at held.now moof) tracks.now walk.new ≡ []) }
+        (trafs_by (moof_at moof_bytes.now moof) tracks.now walk.new ≡ []) }
     ensures sound { AllByRecursion IsSound
-        (trafs_by (moof_at held.now moof) tracks.now walk.new) }
+        (trafs_by (moof_at moof_bytes.now moof) tracks.now walk.new) }
 {
     let Some(this) = next_of(TRAF, walk) else {
         return None;
     };
-    Some(traf_of(held, moof, tracks, &this))
+    Some(traf_of(moof_bytes, moof, tracks, &this))
 }
 
 impl<'a> Iterator for Trafs<'a> {
@@ -280,6 +280,6 @@ impl<'a> Iterator for Trafs<'a> {
     ghost remaining = { item_count (λ rest. rest) };
 
     fn next(&mut self) -> Option<Traf<'a>> {
-        next_traf(self.held, self.moof, self.tracks, &mut self.walk)
+        next_traf(self.moof_bytes, self.moof, self.tracks, &mut self.walk)
     }
 }

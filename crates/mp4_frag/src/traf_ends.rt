@@ -1,4 +1,5 @@
-//! Where the trafs of a moof end, kept while its runs are gone over, so that for the tracks' ends they needn't be once more.
+//! Where the trafs of a moof end, kept while its runs are gone over, so that they needn't be gone over again to settle
+//! the tracks.
 
 ghost use Rattle.std.specs.Prelude.{◌≡◌, ◌<◌, ◌++◌, ◌∷◌, [], length, take, IsTrue};
 ghost use Rattle.std.specs.List.{fold};

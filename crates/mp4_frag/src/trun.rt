@@ -18,13 +18,13 @@ ghost use Rattle.mp4_frag.specs.Trun.{data_offset, first_sample_flags, flags_con
 use crate::fields::{flags_of, place_if, signed_at, width_if};
 use mp4_box::{Flags, Rule, TrunFlags, number_at};
 
-/// Where sample_count stands.
+/// Place of sample_count.
 const SAMPLE_COUNT: u32 = 4;
 
-/// Where data_offset stands, where there is one.
+/// Place of data_offset, if there is one.
 const DATA_OFFSET: u32 = 8;
 
-/// Where the optional fields of a trun stand in its payload, and where those of its samples begin.
+/// Places of the optional fields of a trun in its payload, and of those of its samples.
 #[derive(Clone, Copy)]
 pub struct TrunFields {
     pub data_offset: Option<u32>,
@@ -32,7 +32,7 @@ pub struct TrunFields {
     pub samples: u32,
 }
 
-/// Where the fields of a sample stand in its group, and how many bytes a group has.
+/// Places of the fields of a sample in its group, and the length of a group.
 #[derive(Clone, Copy, Debug)]
 pub struct SampleFields {
     pub sample_duration: Option<u32>,

@@ -1,4 +1,4 @@
--- What is counted of a fragment of which a piece has all, whatever runs it has, that is checked.
+-- The counts of a fragment that is checked and whole in the input, whatever runs it has.
 use Rattle.std.proofs.Common.{◌≡◌, ◌∙◌, ℕ, ◌+◌, ◌≤◌, List, drop, length, Some, ap, arith, subst, sym, refl}
 use Rattle.mp4_box.proofs.HeaderLemmas.{need-least, whole_is}
 use Rattle.mp4_frag.specs.Moofs.{moof_samples}
@@ -6,40 +6,40 @@ use Rattle.mp4_frag.specs.Runs.{MoofBytes, moof_at}
 use Rattle.mp4_run_order.specs.declared.runs.Payload.{Payload}
 use Rattle.mp4_machine.specs.Bodies.{longest}
 use Rattle.mp4_machine.specs.Readings.{plus}
-use Rattle.mp4_grammar.specs.Items.{walked}
+use Rattle.mp4_grammar.specs.Items.{inspected}
 use Rattle.mp4_grammar.specs.declared.command.Command.TheVariants.{Check}
 use Rattle.mp4_grammar.specs.declared.kinds.Kind.TheVariants.{Mdat}
-use Rattle.mp4_recut.specs.declared.plan.Plan.TheVariants as plans
+use Rattle.mp4_recut.specs.declared.operation.Operation.TheVariants as operations
 use Rattle.mp4_fragment_machine.specs.States.{IsCounted}
-use Rattle.mp4_fragment_machine.specs.Working.Wholes.{AreBoxes, payload_in}
+use Rattle.mp4_fragment_machine.specs.Implementation.InPlace.{AreBoxes, payload_in}
 use Rattle.mp4_fragment_machine.specs.declared.state.Counter.{Counter}
-use Rattle.mp4_fragment_machine.specs.declared.whole_fragment.Boxes.{Boxes}
-use Rattle.mp4_fragment_machine.proofs.CountLemmas.{counted_moof, counted_told}
-use Rattle.mp4_fragment_machine.proofs.FragmentLemmas.{first_fits, moof_len, some_moof, walked_more}
+use Rattle.mp4_fragment_machine.specs.declared.boxes_in_place.Boxes.{Boxes}
+use Rattle.mp4_fragment_machine.proofs.CountLemmas.{counted_emitted, counted_moof}
+use Rattle.mp4_fragment_machine.proofs.FragmentLemmas.{first_fits, inspected_more, moof_len, some_moof}
 
-module _ (at : ℕ) (piece : List ℕ) (b : Boxes) (are : AreBoxes at piece b) where
+module _ (at : ℕ) (input : List ℕ) (b : Boxes) (are : AreBoxes at input b) where
   -- bytes that lie in the payload of its mdat lie in the mdat
   pub media_less : (p : Payload) (bytes : ℕ) → p ≡ payload_in (at + are.span.size) b.mdat → ((end : ℕ) → p.end ≡ Some end → p.start ≤ end → p.start + bytes ≤ end) → at + are.span.size + bytes + 8 ≤ at + are.span.size + b.mdat.size
   media_less p bytes is within =
-      let room = first_fits Mdat (at + are.span.size) (drop are.span.size piece) b.mdat are.mdat in
-      let w = whole_is (drop are.span.size piece) are.mdat.header are.mdat.is in
+      let room = first_fits Mdat (at + are.span.size) (drop are.span.size input) b.mdat are.mdat in
+      let w = whole_is (drop are.span.size input) are.mdat.header are.mdat.is in
       let start : p.start ≡ at + are.span.size + b.mdat.header_len = ap (λ (q : Payload). q.start) is in
       let last = within (at + are.span.size + b.mdat.size) (ap (λ (q : Payload). q.end) is) (omega (arith, start, room)) in
-      omega (arith, last, start, w.1, need-least (drop are.span.size piece), are.mdat.head)
+      omega (arith, last, start, w.1, need-least (drop are.span.size input), are.mdat.head)
 
   abbrev h : MoofBytes
   h = moof_at b.moof.now at
 
   -- it is counted; its samples wait for its end
-  pub counted_check : (c c' : Counter) (n k bytes : ℕ) → IsCounted (plans.List Check) c at 0 0 → n ≡ moof_samples (moof_at b.moof.now at) → k ≡ moof_samples (moof_at b.moof.now at) → k ≤ 1000000 → at + are.span.size + bytes + 8 ≤ at + are.span.size + b.mdat.size
-      → c'.tally ≡ plus (record { fragments = c.tally.fragments; samples = c.tally.samples; media_bytes = c.tally.media_bytes; walked = c.tally.walked + n }) (record { fragments = 1; samples = k; media_bytes = bytes; walked = 0 })
-      → c'.steps.rows ≡ c.steps.rows + (k + k) → IsCounted (plans.List Check) c' (at + length b.moof.now + b.mdat.size) 0 (moof_samples (moof_at b.moof.now at))
+  pub counted_check : (c c' : Counter) (n k bytes : ℕ) → IsCounted (operations.List Check) c at 0 0 → n ≡ moof_samples (moof_at b.moof.now at) → k ≡ moof_samples (moof_at b.moof.now at) → k ≤ 1000000 → at + are.span.size + bytes + 8 ≤ at + are.span.size + b.mdat.size
+      → c'.tally ≡ plus (record { fragments = c.tally.fragments; samples = c.tally.samples; media_bytes = c.tally.media_bytes; inspected = c.tally.inspected + n }) (record { fragments = 1; samples = k; media_bytes = bytes; inspected = 0 })
+      → c'.steps.rows ≡ c.steps.rows + (k + k) → IsCounted (operations.List Check) c' (at + length b.moof.now + b.mdat.size) 0 (moof_samples (moof_at b.moof.now at))
   counted_check c c' n k bytes i all same few fits tally rows =
-      let c1 : Counter = record { tally = plus c.tally (walked h); steps = record { rows = c.steps.rows + (k + k) } } in
+      let c1 : Counter = record { tally = plus c.tally (inspected h); steps = record { rows = c.steps.rows + (k + k) } } in
       let near : at + are.span.size ≤ longest = are.moof.near in
-      let waits : IsCounted (plans.List Check) c1 (at + are.span.size) k k = counted_moof (plans.List Check) c c1 h at are.span.size (k + k) k i (some_moof at piece b are) near (omega (arith, same, few)) refl refl (omega (arith, same)) (omega (arith, same)) in
-      let sum = tally ∙ ap (λ t. plus t (record { fragments = 1; samples = k; media_bytes = bytes; walked = 0 })) (walked_more c.tally h n all) in
-      let effects : IsCounted (plans.List Check) c' (at + are.span.size + b.mdat.size) 0 k = counted_told Check c1 c' (at + are.span.size) (at + are.span.size + b.mdat.size) k bytes waits few
+      let waits : IsCounted (operations.List Check) c1 (at + are.span.size) k k = counted_moof (operations.List Check) c c1 h at are.span.size (k + k) k i (some_moof at input b are) near (omega (arith, same, few)) refl refl (omega (arith, same)) (omega (arith, same)) in
+      let sum = tally ∙ ap (λ t. plus t (record { fragments = 1; samples = k; media_bytes = bytes; inspected = 0 })) (inspected_more c.tally h n all) in
+      let effects : IsCounted (operations.List Check) c' (at + are.span.size + b.mdat.size) 0 k = counted_emitted Check c1 c' (at + are.span.size) (at + are.span.size + b.mdat.size) k bytes waits few
       (omega (arith, fits), omega (arith, fits), omega (arith, are.mdat.near)) sum (omega (arith, rows)) in
-      subst (λ z. IsCounted (plans.List Check) c' (at + z + b.mdat.size) 0 (moof_samples h)) (sym (moof_len at piece b are))
-      (subst (λ z. IsCounted (plans.List Check) c' (at + are.span.size + b.mdat.size) 0 z) same effects)
+      subst (λ z. IsCounted (operations.List Check) c' (at + z + b.mdat.size) 0 (moof_samples h)) (sym (moof_len at input b are))
+      (subst (λ z. IsCounted (operations.List Check) c' (at + are.span.size + b.mdat.size) 0 z) same effects)

@@ -1,4 +1,4 @@
--- What a box brings that is copied.
+-- A box that is copied.
 use Rattle.std.proofs.Common.{◌≡◌, ◌∙◌, ℕ, ◌+◌, ◌-◌, ◌<◌, ◌≤◌, List, [], ◌++◌, length, take, drop, length-append, append_assoc, Option, Some, ap, sym, refl, arith, subst}
 use Rattle.std.proofs.lemmas.List.{length-take-le, take-append-drop}
 use Rattle.std.proofs.Math.Seq.{take-append-le}
@@ -15,12 +15,12 @@ use Rattle.mp4_init.specs.declared.table.Track.{Track}
 use Rattle.mp4_machine.specs.Accounts.{Counts, Spends}
 use Rattle.mp4_machine.specs.Blocks.{Breaks, Passes, Pending}
 use Rattle.mp4_machine.specs.Bodies.{fault, least_end, longest, body_item, open_body_item}
-use Rattle.mp4_machine.specs.Readings.{Faulty, Reading, after, says, silent, then_read}
-use Rattle.mp4_machine.specs.Pieces.{Outside, Moves, GoesOn, Refuses, Loses, outside}
+use Rattle.mp4_machine.specs.Readings.{Faulty, Reading, after, says, no_effects, then_read}
+use Rattle.mp4_machine.specs.Inputs.{Environment, Moves, GoesOn, Refuses, WriteFailed, environment}
 use Rattle.mp4_machine.specs.declared.tally.Tally.{Tally}
 use Rattle.mp4_machine.proofs.AccountLemmas.{Counts-back, Counts-none, Spends-counts}
 use Rattle.mp4_machine.proofs.BodyLemmas.{body-some, body-over, open-some, open-far}
-use Rattle.mp4_machine.proofs.PieceLemmas.{Moves-none, Loses-told}
+use Rattle.mp4_machine.proofs.InputLemmas.{Moves-none, WriteFailed-emitted}
 use Rattle.mp4_machine.proofs.ReadingLemmas.{after-silent}
 use Rattle.mp4_machine.proofs.ReadingAskLemmas.{plus-none}
 use Rattle.mp4_grammar.specs.Contexts.{Context, context, first_context, table_of}
@@ -28,7 +28,7 @@ use Rattle.mp4_grammar.specs.Items.{passing, reads_in}
 use Rattle.mp4_grammar.specs.Kinds.{kind_in}
 use Rattle.mp4_grammar.specs.Meanings.{Meaning}
 use Rattle.mp4_grammar.specs.declared.kinds.Kind.TheVariants.{Other}
-use Rattle.mp4_fragment_machine.specs.Places.{InBody, InHeader, InOpenBody, reads_at, standing}
+use Rattle.mp4_fragment_machine.specs.Places.{InBody, InHeader, InOpenBody, continuation_at, reads_at}
 use Rattle.mp4_fragment_machine.proofs.HeadLemmas.{reads-kind}
 
 -- what is claimed is given back
@@ -38,56 +38,56 @@ spends-back account own low =
     subst (λ k. Spends account (given_back account own) own k 0) none (Spends-counts account (given_back account own) own (own - own) 0 (Counts-back account own own (omega arith) low))
 
 module _ (meaning : Meaning) (at : ℕ) (kind : FourCc) (a b : Option (List ℕ)) (v w : Pending) (account : Account) (tally : Tally) where
-  pub Moves-says : (own : ℕ) (x : List ℕ) → Passes a b v w x → Moves (outside a v account tally) (outside b w account tally) own own (says x)
+  pub Moves-says : (own : ℕ) (x : List ℕ) → Passes a b v w x → Moves (environment a v account tally) (environment b w account tally) own own (says x)
   Moves-says own x p = record { passes = p; counts = Counts-none account own; tallied = sym (plus-none tally) }
 
   -- some bytes of its body came
   pub GoesOn-says : (next : Context) (x : List ℕ) (left own : ℕ) → length x ≤ left → left ≤ next.at → Passes a b v w x
-      → GoesOn (outside a v account tally) (outside b w account tally) (standing meaning (InBody (λ l. says l) at kind next left own)) x (standing meaning (InBody (λ l. says l) at kind next (left - length x) own))
+      → GoesOn (environment a v account tally) (environment b w account tally) (continuation_at meaning (InBody (λ l. says l) at kind next left own)) x (continuation_at meaning (InBody (λ l. says l) at kind next (left - length x) own))
   GoesOn-says next x left own h low p = record {
-    brought = says x;
+    produced = says x;
     moves = Moves-says own x p;
     reached = omega (arith, h, low);
     rest = body-some (reads_in meaning) at kind next (λ l. says l) (λ l. says l) (says x) x left (λ later. refl) h;
   }
 
   pub GoesOn-open_says : (x : List ℕ) (needed left own : ℕ) → length x ≤ left → left ≤ longest → Passes a b v w x
-      → GoesOn (outside a v account tally) (outside b w account tally) (standing meaning (InOpenBody (λ l. says l) at kind needed left own)) x (standing meaning (InOpenBody (λ l. says l) at kind (needed - length x) (left - length x) own))
+      → GoesOn (environment a v account tally) (environment b w account tally) (continuation_at meaning (InOpenBody (λ l. says l) at kind needed left own)) x (continuation_at meaning (InOpenBody (λ l. says l) at kind (needed - length x) (left - length x) own))
   GoesOn-open_says x needed left own h low p = record {
-    brought = says x;
+    produced = says x;
     moves = Moves-says own x p;
     reached = omega (arith, h, low);
     rest = open-some (reads_in meaning) at kind first_context (λ l. says l) (λ l. says l) (says x) x needed left (λ later. refl) h;
   }
 
-  cut_at : (n : ℕ) (piece later : List ℕ) → piece ++ later ≡ take n piece ++ (drop n piece ++ later)
-  cut_at n piece later = ap (λ l. l ++ later) (sym (take-append-drop n piece)) ∙ append_assoc (take n piece) (drop n piece) later
+  cut_at : (n : ℕ) (input later : List ℕ) → input ++ later ≡ take n input ++ (drop n input ++ later)
+  cut_at n input later = ap (λ l. l ++ later) (sym (take-append-drop n input)) ∙ append_assoc (take n input) (drop n input) later
 
   -- they could not be written
-  pub Loses-says : (next : Context) (left own n : ℕ) (piece later : List ℕ) → n ≤ left → n ≤ length piece → own ≤ account.live → Breaks a b v w (take n piece)
-      → Loses (outside a v account tally) (outside b w (given_back account own) tally) own (reads_at meaning (InBody (λ l. says l) at kind next left own) (piece ++ later))
-  Loses-says next left own n piece later few within low p =
-      let x = take n piece in
-      let len : length x ≡ n = length-take-le n piece within in
+  pub WriteFailed-says : (next : Context) (left own n : ℕ) (input later : List ℕ) → n ≤ left → n ≤ length input → own ≤ account.live → Breaks a b v w (take n input)
+      → WriteFailed (environment a v account tally) (environment b w (given_back account own) tally) own (reads_at meaning (InBody (λ l. says l) at kind next left own) (input ++ later))
+  WriteFailed-says next left own n input later few within low p =
+      let x = take n input in
+      let len : length x ≡ n = length-take-le n input within in
       let place = λ (l : ℕ). InBody (λ l. says l) at kind next l own in
-      Loses-told (outside a v account tally) (outside b w (given_back account own) tally) own (says x) (reads_at meaning (place (left - length x)) (drop n piece ++ later)) (reads_at meaning (place left) (piece ++ later))
-      (ap (reads_at meaning (place left)) (cut_at n piece later) ∙ body-some (reads_in meaning) at kind next (λ l. says l) (λ l. says l) (says x) x left (λ later. refl) (omega (arith, len, few)) (drop n piece ++ later))
+      WriteFailed-emitted (environment a v account tally) (environment b w (given_back account own) tally) own (says x) (reads_at meaning (place (left - length x)) (drop n input ++ later)) (reads_at meaning (place left) (input ++ later))
+      (ap (reads_at meaning (place left)) (cut_at n input later) ∙ body-some (reads_in meaning) at kind next (λ l. says l) (λ l. says l) (says x) x left (λ later. refl) (omega (arith, len, few)) (drop n input ++ later))
       p (spends-back account own low) (sym (plus-none tally))
 
-  pub Loses-open_says : (needed left own n : ℕ) (piece later : List ℕ) → n ≤ left → n ≤ length piece → own ≤ account.live → Breaks a b v w (take n piece)
-      → Loses (outside a v account tally) (outside b w (given_back account own) tally) own (reads_at meaning (InOpenBody (λ l. says l) at kind needed left own) (piece ++ later))
-  Loses-open_says needed left own n piece later few within low p =
-      let x = take n piece in
-      let len : length x ≡ n = length-take-le n piece within in
-      Loses-told (outside a v account tally) (outside b w (given_back account own) tally) own (says x) (reads_at meaning (InOpenBody (λ l. says l) at kind (needed - length x) (left - length x) own) (drop n piece ++ later)) (reads_at meaning (InOpenBody (λ l. says l) at kind needed left own) (piece ++ later))
-      (ap (reads_at meaning (InOpenBody (λ l. says l) at kind needed left own)) (cut_at n piece later) ∙ open-some (reads_in meaning) at kind first_context (λ l. says l) (λ l. says l) (says x) x needed left (λ later. refl) (omega (arith, len, few)) (drop n piece ++ later))
+  pub WriteFailed-open_says : (needed left own n : ℕ) (input later : List ℕ) → n ≤ left → n ≤ length input → own ≤ account.live → Breaks a b v w (take n input)
+      → WriteFailed (environment a v account tally) (environment b w (given_back account own) tally) own (reads_at meaning (InOpenBody (λ l. says l) at kind needed left own) (input ++ later))
+  WriteFailed-open_says needed left own n input later few within low p =
+      let x = take n input in
+      let len : length x ≡ n = length-take-le n input within in
+      WriteFailed-emitted (environment a v account tally) (environment b w (given_back account own) tally) own (says x) (reads_at meaning (InOpenBody (λ l. says l) at kind (needed - length x) (left - length x) own) (drop n input ++ later)) (reads_at meaning (InOpenBody (λ l. says l) at kind needed left own) (input ++ later))
+      (ap (reads_at meaning (InOpenBody (λ l. says l) at kind needed left own)) (cut_at n input later) ∙ open-some (reads_in meaning) at kind first_context (λ l. says l) (λ l. says l) (says x) x needed left (λ later. refl) (omega (arith, len, few)) (drop n input ++ later))
       p (spends-back account own low) (sym (plus-none tally))
 
 -- all of its body came
-pub GoesOn-says_over : (meaning : Meaning) (at : ℕ) (kind : FourCc) (o : Outside) (next : Context) (left : ℕ) → left ≡ 0
-    → GoesOn o o (standing meaning (InBody (λ l. says l) at kind next left (table_of next.tracks))) [] (standing meaning (InHeader next []))
+pub GoesOn-says_over : (meaning : Meaning) (at : ℕ) (kind : FourCc) (o : Environment) (next : Context) (left : ℕ) → left ≡ 0
+    → GoesOn o o (continuation_at meaning (InBody (λ l. says l) at kind next left (table_of next.tracks))) [] (continuation_at meaning (InHeader next []))
 GoesOn-says_over meaning at kind o next left e = record {
-  brought = silent;
+  produced = no_effects;
   moves = Moves-none o (table_of next.tracks);
   reached = omega (arith, e);
   rest = λ later. body-over (reads_in meaning) at kind next (λ l. says l) left later e refl ∙ sym (after-silent (reads_in meaning next later));
@@ -95,7 +95,7 @@ GoesOn-says_over meaning at kind o next left e = record {
 
 -- ---- it begins, with the bytes of its header
 
-module _ (meaning : Meaning) (o : Outside) (at number : ℕ) (tracks : Option (List Track)) (h : Header) (x : List ℕ) (len : length x ≡ need x) (is : header_at x ≡ steps.Whole h)
+module _ (meaning : Meaning) (o : Environment) (at number : ℕ) (tracks : Option (List Track)) (h : Header) (x : List ℕ) (len : length x ≡ need x) (is : header_at x ≡ steps.Whole h)
     (near : least_end at h h.size ≤ longest) (other : kind_in h.kind.0 ≡ Other) (effects : (b : List ℕ) → meaning.passed h.kind b ≡ says b) where
   long : h.header_len ≡ length x
   long = omega (arith, (whole_is x h is).1, len)
@@ -122,31 +122,31 @@ module _ (meaning : Meaning) (o : Outside) (at number : ℕ) (tracks : Option (L
       ∙ ap (λ n. after (says x) (then_read (reads_in meaning) (open_body_item (λ l. says l) at h.kind n (longest - (at + h.header_len)) later))) none
 
   pub GoesOn-copy : (s : ℕ) → h.size ≡ Exact s → h.header_len ≤ s → (a : Option (List ℕ)) (v : Pending) → Passes o.written a o.waiting v x
-      → GoesOn o (outside a v o.account o.tally) (standing meaning (InHeader (context at tracks number) x)) [] (standing meaning (InBody (λ l. says l) at h.kind (context (at + s) tracks number) (s - h.header_len) (table_of tracks)))
+      → GoesOn o (environment a v o.account o.tally) (continuation_at meaning (InHeader (context at tracks number) x)) [] (continuation_at meaning (InBody (λ l. says l) at h.kind (context (at + s) tracks number) (s - h.header_len) (table_of tracks)))
   GoesOn-copy s size room a v p = record {
-    brought = says x;
+    produced = says x;
     moves = Moves-says meaning at h.kind o.written a o.waiting v o.account o.tally (table_of tracks) x p;
     reached = omega (arith, room, long);
     rest = rest-copy s size room;
   }
 
   pub GoesOn-copy_open : h.size ≡ ToEnd → (a : Option (List ℕ)) (v : Pending) → Passes o.written a o.waiting v x
-      → GoesOn o (outside a v o.account o.tally) (standing meaning (InHeader (context at tracks number) x)) [] (standing meaning (InOpenBody (λ l. says l) at h.kind 0 (longest - (at + h.header_len)) (table_of tracks)))
+      → GoesOn o (environment a v o.account o.tally) (continuation_at meaning (InHeader (context at tracks number) x)) [] (continuation_at meaning (InOpenBody (λ l. says l) at h.kind 0 (longest - (at + h.header_len)) (table_of tracks)))
   GoesOn-copy_open size a v p =
       let far : at + h.header_len ≤ longest = subst (λ z. least_end at h z ≤ longest) size near in
       record {
-        brought = says x;
+        produced = says x;
         moves = Moves-says meaning at h.kind o.written a o.waiting v o.account o.tally (table_of tracks) x p;
         reached = omega (arith, far, long);
         rest = rest-copy_open size;
       }
 
   -- its header could not be written
-  pub Loses-copy : HasRoom h.size h.header_len → (a : Option (List ℕ)) (v : Pending) → Breaks o.written a o.waiting v x → table_of tracks ≤ o.account.live → (later : List ℕ)
-      → Loses o (outside a v (given_back o.account (table_of tracks)) o.tally) (table_of tracks) ((standing meaning (InHeader (context at tracks number) x)).reads later)
-  Loses-copy room a v p low later =
+  pub WriteFailed-copy : HasRoom h.size h.header_len → (a : Option (List ℕ)) (v : Pending) → Breaks o.written a o.waiting v x → table_of tracks ≤ o.account.live → (later : List ℕ)
+      → WriteFailed o (environment a v (given_back o.account (table_of tracks)) o.tally) (table_of tracks) ((continuation_at meaning (InHeader (context at tracks number) x)).reads later)
+  WriteFailed-copy room a v p low later =
       let first = by h.size refl room in
-      Loses-told o (outside a v (given_back o.account (table_of tracks)) o.tally) (table_of tracks) (says x) first.0 ((standing meaning (InHeader (context at tracks number) x)).reads later) first.1 p (spends-back o.account (table_of tracks) low) (sym (plus-none o.tally))
+      WriteFailed-emitted o (environment a v (given_back o.account (table_of tracks)) o.tally) (table_of tracks) (says x) first.0 ((continuation_at meaning (InHeader (context at tracks number) x)).reads later) first.1 p (spends-back o.account (table_of tracks) low) (sym (plus-none o.tally))
     where
       by : (z : Size) → h.size ≡ z → HasRoom z h.header_len → (r : Reading) × (reads_in meaning (context at tracks number) (x ++ later) ≡ after (says x) r)
       by (Exact s) e fits = (reads_at meaning (InBody (λ l. says l) at h.kind (context (at + s) tracks number) (s - h.header_len) (table_of tracks)) later, rest-copy s e fits later)
@@ -154,19 +154,19 @@ module _ (meaning : Meaning) (o : Outside) (at number : ℕ) (tracks : Option (L
 
 -- ---- it goes too far
 
--- what may come of it was put, and the table of the tracks is given back
-pub Refuses-open_says : (meaning : Meaning) (at : ℕ) (kind : FourCc) (a b : Option (List ℕ)) (v w : Pending) (account : Account) (tally : Tally) (needed left own : ℕ) (piece more : List ℕ) → own ≤ account.live → left < length piece → Passes a b v w (take left piece)
-    → Refuses (outside a v account tally) (outside b w (given_back account own) tally) (standing meaning (InOpenBody (λ l. says l) at kind needed left own)) (piece ++ more) (fault StreamTooLong (Some kind) at)
-Refuses-open_says meaning at kind a b v w account tally needed left own piece more low far p =
+-- the bytes before the fault were put, and the track table is given back
+pub Refuses-open_says : (meaning : Meaning) (at : ℕ) (kind : FourCc) (a b : Option (List ℕ)) (v w : Pending) (account : Account) (tally : Tally) (needed left own : ℕ) (input more : List ℕ) → own ≤ account.live → left < length input → Passes a b v w (take left input)
+    → Refuses (environment a v account tally) (environment b w (given_back account own) tally) (continuation_at meaning (InOpenBody (λ l. says l) at kind needed left own)) (input ++ more) (fault StreamTooLong (Some kind) at)
+Refuses-open_says meaning at kind a b v w account tally needed left own input more low far p =
     let none : own - own ≡ 0 = omega arith in
     record {
-      brought = says (take left piece);
+      produced = says (take left input);
       moves = record {
         passes = p;
         counts = subst (λ k. Counts account (given_back account own) own k 0) none (Counts-back account own own (omega arith) low);
         tallied = sym (plus-none tally);
       };
       rest = λ later.
-          open-far (reads_in meaning) at kind first_context (λ l. says l) needed left ((piece ++ more) ++ later) (omega (arith, far, length-append piece more, length-append (piece ++ more) later))
-          ∙ ap (λ l. record { effects = says l; outcome = Faulty (fault StreamTooLong (Some kind) at) }) (ap (take left) (append_assoc piece more later) ∙ take-append-le left piece (more ++ later) (omega (arith, far)));
+          open-far (reads_in meaning) at kind first_context (λ l. says l) needed left ((input ++ more) ++ later) (omega (arith, far, length-append input more, length-append (input ++ more) later))
+          ∙ ap (λ l. record { effects = says l; outcome = Faulty (fault StreamTooLong (Some kind) at) }) (ap (take left) (append_assoc input more later) ∙ take-append-le left input (more ++ later) (omega (arith, far)));
     }

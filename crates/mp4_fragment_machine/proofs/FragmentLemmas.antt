@@ -1,4 +1,4 @@
--- What is known of a fragment of which a piece has all.
+-- A fragment that is whole in the input.
 use Rattle.std.proofs.Common.{◌≡◌, ◌∙◌, ℕ, ◌+◌, ◌*◌, ◌<◌, ◌≤◌, ◌==◌, true, false, not, append-nil, List, [], ◌∷◌, ◌++◌, length, take, drop, Option, None, Some, ap, sym, refl, arith, subst}
 use Rattle.std.proofs.lemmas.List.{length-drop, length-take-le}
 use Rattle.std.proofs.lemmas.List.Sums.{sum_by-cons}
@@ -19,8 +19,8 @@ use Rattle.mp4_run_order.specs.Places.{IsOffender, LiesIn, Placed, first_offende
 use Rattle.mp4_run_order.specs.Takings.{has_samples}
 use Rattle.mp4_run_order.proofs.SearchLemmas.{offender_means}
 use Rattle.mp4_frag.specs.declared.run.Run.{Run}
-use Rattle.mp4_frag.specs.declared.lone.LoneRun.{LoneRun}
-use Rattle.mp4_frag.specs.LoneRuns.{IsLone}
+use Rattle.mp4_frag.specs.declared.single_run.SingleRun.{SingleRun}
+use Rattle.mp4_frag.specs.SingleRuns.{IsSingle}
 use Rattle.mp4_frag.specs.Moofs.{IsRead, moof_runs, moof_samples, moof_trafs}
 use Rattle.mp4_frag.specs.Settling.{settled}
 use Rattle.mp4_frag.specs.Places.{run_place_fault, place_fault}
@@ -32,35 +32,35 @@ use Rattle.mp4_frag.specs.Ranges.{IsRunOf}
 use Rattle.mp4_frag.proofs.ReadRunLemmas.{ranged_run}
 use Rattle.mp4_machine.proofs.HoldingLemmas.{begins_whole}
 use Rattle.mp4_grammar.specs.Commands.{accepted, command_meaning}
-use Rattle.mp4_grammar.specs.Items.{end_of, fragment, walked}
+use Rattle.mp4_grammar.specs.Items.{end_of, fragment, inspected}
 use Rattle.mp4_grammar.specs.Kinds.{most_moof}
 use Rattle.mp4_grammar.specs.Meanings.{Fragment, counted_in, fragment_fault}
 use Rattle.mp4_grammar.specs.Contexts.{Context, context}
 use Rattle.mp4_grammar.specs.Samples.{sample_lines, samples_of_run}
-use Rattle.mp4_recut.specs.declared.plan.Plan.TheVariants as plans
+use Rattle.mp4_recut.specs.declared.operation.Operation.TheVariants as operations
 use Rattle.mp4_grammar.specs.declared.command.Command.{Command}
 use Rattle.mp4_grammar.specs.declared.command.Command.TheVariants.{Samples}
 use Rattle.mp4_grammar.specs.declared.kinds.Kind.{Kind}
 use Rattle.mp4_grammar.specs.declared.kinds.Kind.TheVariants.{Moof, Mdat}
 use Rattle.mp4_machine.specs.Bodies.{longest}
 use Rattle.mp4_machine.specs.Blocks.{Breaks, Passes, Pending}
-use Rattle.mp4_machine.specs.Pieces.{GoesOn, Outside, StopsAt, outside}
+use Rattle.mp4_machine.specs.Inputs.{Environment, GoesOn, StopsAt, environment}
 use Rattle.mp4_machine.specs.Readings.{plus}
 use Rattle.mp4_machine.specs.declared.stop.Stop.TheVariants.{Write}
 use Rattle.mp4_machine.specs.declared.tally.Tally.{Tally}
-use Rattle.mp4_fragment_machine.specs.Places.{InHeader, standing}
+use Rattle.mp4_fragment_machine.specs.Places.{InHeader, continuation_at}
 use Rattle.mp4_fragment_machine.specs.States.{IsCounted, listed_by}
 use Rattle.mp4_fragment_machine.specs.declared.state.Counter.{Counter}
-use Rattle.mp4_fragment_machine.proofs.CountLemmas.{counted_later, counted_moof, counted_told}
-use Rattle.mp4_fragment_machine.specs.Working.Wholes.{AreBoxes, IsFragment, StandsFirst, payload_in}
-use Rattle.mp4_fragment_machine.specs.declared.whole_fragment.Boxes.{Boxes}
-use Rattle.mp4_fragment_machine.specs.declared.whole_fragment.Span.{Span}
+use Rattle.mp4_fragment_machine.proofs.CountLemmas.{counted_emitted, counted_later, counted_moof}
+use Rattle.mp4_fragment_machine.specs.Implementation.InPlace.{AreBoxes, IsFirstBox, IsFragment, payload_in}
+use Rattle.mp4_fragment_machine.specs.declared.boxes_in_place.Boxes.{Boxes}
+use Rattle.mp4_fragment_machine.specs.declared.boxes_in_place.Span.{Span}
 use Rattle.mp4_fragment_machine.proofs.MediaLemmas.{AreIn, media_in}
-use Rattle.mp4_fragment_machine.proofs.WholeLemmas.{GoesOn-whole, StopsAt-whole, front_is}
+use Rattle.mp4_fragment_machine.proofs.InPlaceLemmas.{GoesOn-whole, StopsAt-whole, front_is}
 
 -- ---- a box at the front
 
-module _ (kind : Kind) (at : ℕ) (x : List ℕ) (b : Span) (first : StandsFirst kind at x b) where
+module _ (kind : Kind) (at : ℕ) (x : List ℕ) (b : Span) (first : IsFirstBox kind at x b) where
   -- its header has room
   pub first_fits : b.header_len ≤ b.size
   first_fits = omega (arith, first.head, subst (λ z. HasRoom z first.header.header_len) first.sized (room_of x first.header first.is))
@@ -83,10 +83,10 @@ none_blamed : (o : Option ListedRun) → option_map (λ run. run_place_fault run
 none_blamed None e = refl
 none_blamed (Some run) e = absurd cc
 
-module _ (p : Payload) (run : Run) (stands : place_fault p (run ∷ []) ≡ None) where
+module _ (p : Payload) (run : Run) (is_placed : place_fault p (run ∷ []) ≡ None) where
   placed : Placed p (listed_run run ∷ [])
   placed =
-      subst (IsOffender p (listed_run run ∷ [])) (none_blamed (first_offender p (listed_run run ∷ [])) stands) (offender_means p (listed_run run ∷ []) (λ i j d low high. absurd (omega (arith, low, high))))
+      subst (IsOffender p (listed_run run ∷ [])) (none_blamed (first_offender p (listed_run run ∷ [])) is_placed) (offender_means p (listed_run run ∷ []) (λ i j d low high. absurd (omega (arith, low, high))))
 
   pub lies : has_samples (listed_run run) ≡ true → LiesIn p (listed_run run)
   lies some = (placed 0 (listed_run run) (omega arith) (λ e. none_has e some)).lies
@@ -95,66 +95,66 @@ module _ (p : Payload) (run : Run) (stands : place_fault p (run ∷ []) ≡ None
       none_has e t = let no : has_samples (listed_run run) ≡ false = ap (λ n. not (n == 0)) e in absurd cc
 
   -- it has no more bytes than the payload
-  pub lone_fits : (held : List ℕ) (end : ℕ) → p.end ≡ Some end → p.start ≤ end → IsRunOf held run → p.start + run.bytes ≤ end
-  lone_fits held end e room is =
+  pub single_fits : (held : List ℕ) (end : ℕ) → p.end ≡ Some end → p.start ≤ end → IsRunOf held run → p.start + run.bytes ≤ end
+  single_fits held end e room is =
       let one : AreIn p (run ∷ []) = record { rise = (tt, tt); lie = (lies, tt) } in
       omega (arith, media_in held p end (run ∷ []) 1 e room one (is, tt), sum_by-cons (λ (r : Run). r.bytes) run [])
 
 -- ---- a fragment
 
--- samples that were looked at
-pub walked_more : (t : Tally) (h : MoofBytes) (n : ℕ) → n ≡ moof_samples h → record { fragments = t.fragments; samples = t.samples; media_bytes = t.media_bytes; walked = t.walked + n } ≡ plus t (walked h)
-walked_more t h n e =
+-- samples that were inspected
+pub inspected_more : (t : Tally) (h : MoofBytes) (n : ℕ) → n ≡ moof_samples h → record { fragments = t.fragments; samples = t.samples; media_bytes = t.media_bytes; inspected = t.inspected + n } ≡ plus t (inspected h)
+inspected_more t h n e =
     let f : t.fragments ≡ t.fragments + 0 = omega arith in
     let s : t.samples ≡ t.samples + 0 = omega arith in
     let m : t.media_bytes ≡ t.media_bytes + 0 = omega arith in
-    ap (λ k. record { fragments = k; samples = t.samples; media_bytes = t.media_bytes; walked = t.walked + n }) f
-    ∙ ap (λ k. record { fragments = t.fragments + 0; samples = k; media_bytes = t.media_bytes; walked = t.walked + n }) s
-    ∙ ap (λ k. record { fragments = t.fragments + 0; samples = t.samples + 0; media_bytes = k; walked = t.walked + n }) m
-    ∙ ap (λ k. record { fragments = t.fragments + 0; samples = t.samples + 0; media_bytes = t.media_bytes + 0; walked = t.walked + k }) e
+    ap (λ k. record { fragments = k; samples = t.samples; media_bytes = t.media_bytes; inspected = t.inspected + n }) f
+    ∙ ap (λ k. record { fragments = t.fragments + 0; samples = k; media_bytes = t.media_bytes; inspected = t.inspected + n }) s
+    ∙ ap (λ k. record { fragments = t.fragments + 0; samples = t.samples + 0; media_bytes = k; inspected = t.inspected + n }) m
+    ∙ ap (λ k. record { fragments = t.fragments + 0; samples = t.samples + 0; media_bytes = t.media_bytes + 0; inspected = t.inspected + k }) e
 
-module _ (h : MoofBytes) (tracks : List Track) (l : LoneRun) (lone : IsLone h tracks l) where
+module _ (h : MoofBytes) (tracks : List Track) (l : SingleRun) (single_run : IsSingle h tracks l) where
   pub one_taken : taken_runs h tracks ≡ l.run ∷ []
-  one_taken = ap (taken_by listed_run) lone.run
+  one_taken = ap (taken_by listed_run) single_run.run
 
-  pub lone_is : IsRunOf h.bytes l.run
-  lone_is = ranged_run h tracks lone.read [] [] l.run (record { is = lone.run }) lone.range
+  pub single_is : IsRunOf h.bytes l.run
+  single_is = ranged_run h tracks single_run.read [] [] l.run (record { is = single_run.run }) single_run.range
 
   -- its lines are those of the run
-  pub lone_text : (c : Context) (g : Header) → h ≡ (fragment c tracks h.bytes g).moof → (accepted Samples (fragment c tracks h.bytes g)).text ≡ sample_lines (samples_of_run h.bytes l.run)
-  lone_text c g same =
+  pub single_text : (c : Context) (g : Header) → h ≡ (fragment c tracks h.bytes g).moof → (accepted Samples (fragment c tracks h.bytes g)).text ≡ sample_lines (samples_of_run h.bytes l.run)
+  single_text c g same =
       let f = fragment c tracks h.bytes g in
       ap (λ runs. sample_lines (flat_map (samples_of_run h.bytes) runs)) (ap (λ k. taken_runs k tracks) (sym same) ∙ one_taken)
       ∙ ap sample_lines (append-nil (samples_of_run h.bytes l.run))
 
-module _ (at : ℕ) (piece : List ℕ) (b : Boxes) (are : AreBoxes at piece b) where
+module _ (at : ℕ) (input : List ℕ) (b : Boxes) (are : AreBoxes at input b) where
   pub moof_len : length b.moof.now ≡ are.span.size
-  moof_len = first_len Moof at piece are.span are.moof b.moof.now are.bytes
+  moof_len = first_len Moof at input are.span are.moof b.moof.now are.bytes
 
   pub moof_whole : IsWhole b.moof.now
-  moof_whole = first_whole Moof at piece are.span are.moof b.moof.now are.bytes are.valid
+  moof_whole = first_whole Moof at input are.span are.moof b.moof.now are.bytes are.valid
 
   pub some_moof : 0 < are.span.size
   some_moof =
-      let w = whole_is piece are.moof.header are.moof.is in
-      omega (arith, w.1, need-least piece, are.moof.head, first_fits Moof at piece are.span are.moof)
+      let w = whole_is input are.moof.header are.moof.is in
+      omega (arith, w.1, need-least input, are.moof.head, first_fits Moof at input are.span are.moof)
 
--- its boxes have room for their headers, and the piece for them
-pub record BoxesFit (at : ℕ) (piece : List ℕ) (b : Boxes) : Type 0 where
+-- its boxes have room for their headers, and the input for them
+pub record BoxesFit (at : ℕ) (input : List ℕ) (b : Boxes) : Type 0 where
   pub head : b.mdat.header_len ≤ b.mdat.size
-  pub whole : length b.moof.now + b.mdat.size ≤ length piece
+  pub whole : length b.moof.now + b.mdat.size ≤ length input
   pub near : at + length b.moof.now + b.mdat.size ≤ longest
 
-pub boxes_fit : (at : ℕ) (piece : List ℕ) (b : Boxes) → AreBoxes at piece b → BoxesFit at piece b
-boxes_fit at piece b are =
-    let len = moof_len at piece b are in
+pub boxes_fit : (at : ℕ) (input : List ℕ) (b : Boxes) → AreBoxes at input b → BoxesFit at input b
+boxes_fit at input b are =
+    let len = moof_len at input b are in
     record {
-      head = first_fits Mdat (at + are.span.size) (drop are.span.size piece) b.mdat are.mdat;
-      whole = omega (arith, len, are.moof.whole, are.mdat.whole, length-drop are.span.size piece);
+      head = first_fits Mdat (at + are.span.size) (drop are.span.size input) b.mdat are.mdat;
+      whole = omega (arith, len, are.moof.whole, are.mdat.whole, length-drop are.span.size input);
       near = omega (arith, len, are.mdat.near);
     }
 
-module _ (at : ℕ) (tracks : List Track) (piece : List ℕ) (b : Boxes) (are : AreBoxes at piece b) where
+module _ (at : ℕ) (tracks : List Track) (input : List ℕ) (b : Boxes) (are : AreBoxes at input b) where
   abbrev m : List ℕ
   m = b.moof.now
 
@@ -168,32 +168,32 @@ module _ (at : ℕ) (tracks : List Track) (piece : List ℕ) (b : Boxes) (are : 
   runs = moof_runs (moof_at b.moof.now at) tracks
 
   long : length b.moof.now ≡ are.span.size
-  long = moof_len at piece b are
+  long = moof_len at input b are
 
-  -- as it is told
-  abbrev pub told : ℕ → Fragment
-  told number = fragment (context at (Some tracks) number) tracks b.moof.now are.mdat.header
+  -- the fragment with its number
+  abbrev pub emitted : ℕ → Fragment
+  emitted number = fragment (context at (Some tracks) number) tracks b.moof.now are.mdat.header
 
-  pub told_payload : (told 1).payload ≡ payload_in (at + are.span.size) b.mdat
-  told_payload =
+  pub emitted_payload : (emitted 1).payload ≡ payload_in (at + are.span.size) b.mdat
+  emitted_payload =
       ap (λ k. record { start = at + k + g.header_len; end = end_of (at + k) g.size }) long
       ∙ ap (λ k. record { start = at + are.span.size + k; end = end_of (at + are.span.size) g.size }) are.mdat.head
       ∙ ap (λ z. record { start = at + are.span.size + b.mdat.header_len; end = end_of (at + are.span.size) z }) are.mdat.sized
 
-  within : length m ≤ length piece
+  within : length m ≤ length input
   within = omega (arith, long, are.moof.whole)
 
-  front : m ≡ take (length m) piece
-  front = are.bytes ∙ ap (λ k. take k piece) (sym long)
+  front : m ≡ take (length m) input
+  front = are.bytes ∙ ap (λ k. take k input) (sym long)
 
-  behind : header_at (drop (length m) piece) ≡ steps.Whole g
-  behind = ap (λ k. header_at (drop k piece)) long ∙ are.mdat.is
+  after : header_at (drop (length m) input) ≡ steps.Whole g
+  after = ap (λ k. header_at (drop k input)) long ∙ are.mdat.is
 
   sized : are.moof.header.size ≡ Exact (length m)
   sized = are.moof.sized ∙ ap Exact (sym long)
 
-  whole : b.mdat.size ≤ length (drop (length m) piece)
-  whole = subst (λ k. b.mdat.size ≤ length (drop k piece)) (sym long) are.mdat.whole
+  whole : b.mdat.size ≤ length (drop (length m) input)
+  whole = subst (λ k. b.mdat.size ≤ length (drop k input)) (sym long) are.mdat.whole
 
   near : at + length m + b.mdat.size ≤ longest
   near = omega (arith, long, are.mdat.near)
@@ -201,82 +201,82 @@ module _ (at : ℕ) (tracks : List Track) (piece : List ℕ) (b : Boxes) (are : 
   most : length m ≤ most_moof
   most = omega (arith, long, are.most)
 
-  -- its runs stand where they may
-  module _ (read : IsRead (moof_at b.moof.now at) tracks) (stands : place_fault (payload_in (at + are.span.size) b.mdat) (moof_runs (moof_at b.moof.now at) tracks) ≡ None) where
-    told_is_good : (command : Command) (number : ℕ) → fragment_fault (command_meaning command) (told number) ≡ None
-    told_is_good command number = ap (λ o. option_or o None) (ap (λ p. place_fault p runs) told_payload ∙ stands)
+  -- its runs may lie where they do
+  module _ (read : IsRead (moof_at b.moof.now at) tracks) (is_placed : place_fault (payload_in (at + are.span.size) b.mdat) (moof_runs (moof_at b.moof.now at) tracks) ≡ None) where
+    emitted_is_good : (command : Command) (number : ℕ) → fragment_fault (command_meaning command) (emitted number) ≡ None
+    emitted_is_good command number = ap (λ o. option_or o None) (ap (λ p. place_fault p runs) emitted_payload ∙ is_placed)
 
-    module _ (command : Command) (number : ℕ) (o : Outside) (low : 64 * length tracks ≤ o.account.live) (u : Option (List ℕ)) (v : Pending) (a : Account) (t : Tally)
+    module _ (command : Command) (number : ℕ) (o : Environment) (low : 64 * length tracks ≤ o.account.live) (u : Option (List ℕ)) (v : Pending) (a : Account) (t : Tally)
         (claim : ℕ) (claims : claim ≡ length b.moof.now + 64 * length (moof_runs (moof_at b.moof.now at) tracks)) (account : a ≡ given_back (claimed o.account claim) claim)
-        (tally : t ≡ plus (plus o.tally (walked (moof_at b.moof.now at))) (counted_in (told number))) where
-      -- it is told
-      pub GoesOn-told : Passes o.written u o.waiting v (accepted command (told number)).text
-          → GoesOn o (outside u v a t) (standing (command_meaning command) (InHeader (context at (Some tracks) number) [])) (take (length b.moof.now + b.mdat.size) piece) (standing (command_meaning command) (InHeader (context (at + (length b.moof.now + b.mdat.size)) (Some (settled tracks (moof_trafs (moof_at b.moof.now at) tracks))) number) []))
-      GoesOn-told passes =
-          let goes = GoesOn-whole command number o at tracks piece m are.moof.header g b.mdat.size claim front within are.moof.is are.moof.is_kind sized most read claims behind are.mdat.is_kind are.mdat.sized whole near low u v a t (told_is_good command number) account tally passes in
+        (tally : t ≡ plus (plus o.tally (inspected (moof_at b.moof.now at))) (counted_in (emitted number))) where
+      -- it is written
+      pub GoesOn-emitted : Passes o.written u o.waiting v (accepted command (emitted number)).text
+          → GoesOn o (environment u v a t) (continuation_at (command_meaning command) (InHeader (context at (Some tracks) number) [])) (take (length b.moof.now + b.mdat.size) input) (continuation_at (command_meaning command) (InHeader (context (at + (length b.moof.now + b.mdat.size)) (Some (settled tracks (moof_trafs (moof_at b.moof.now at) tracks))) number) []))
+      GoesOn-emitted passes =
+          let goes = GoesOn-whole command number o at tracks input m are.moof.header g b.mdat.size claim front within are.moof.is are.moof.is_kind sized most read claims after are.mdat.is_kind are.mdat.sized whole near low u v a t (emitted_is_good command number) account tally passes in
           let end : at + length m + b.mdat.size ≡ at + n = omega arith in
-          subst (λ k. GoesOn o (outside u v a t) (standing (command_meaning command) (InHeader (context at (Some tracks) number) [])) (take n piece) (standing (command_meaning command) (InHeader (context k (Some (settled tracks (moof_trafs (moof_at m at) tracks))) number) []))) end goes
+          subst (λ k. GoesOn o (environment u v a t) (continuation_at (command_meaning command) (InHeader (context at (Some tracks) number) [])) (take n input) (continuation_at (command_meaning command) (InHeader (context k (Some (settled tracks (moof_trafs (moof_at m at) tracks))) number) []))) end goes
 
-      -- it can't be told
-      pub StopsAt-told : (more : List ℕ) → Breaks o.written u o.waiting v (accepted command (told number)).text → StopsAt o (outside u v (given_back a (64 * length tracks)) t) (standing (command_meaning command) (InHeader (context at (Some tracks) number) [])) (piece ++ more) Write
-      StopsAt-told more p =
-          StopsAt-whole command number o at tracks piece m are.moof.header g b.mdat.size claim front within are.moof.is are.moof.is_kind sized most read claims behind are.mdat.is_kind are.mdat.sized whole near low u v a t (told_is_good command number) account tally more p
+      -- it can't be written
+      pub StopsAt-emitted : (more : List ℕ) → Breaks o.written u o.waiting v (accepted command (emitted number)).text → StopsAt o (environment u v (given_back a (64 * length tracks)) t) (continuation_at (command_meaning command) (InHeader (context at (Some tracks) number) [])) (input ++ more) Write
+      StopsAt-emitted more p =
+          StopsAt-whole command number o at tracks input m are.moof.header g b.mdat.size claim front within are.moof.is are.moof.is_kind sized most read claims after are.mdat.is_kind are.mdat.sized whole near low u v a t (emitted_is_good command number) account tally more p
 
 -- ---- one with just one run
 
-module _ (at : ℕ) (tracks : List Track) (piece : List ℕ) (b : Boxes) (l : LoneRun) (is : IsFragment at tracks piece b l) where
+module _ (at : ℕ) (tracks : List Track) (input : List ℕ) (b : Boxes) (l : SingleRun) (is : IsFragment at tracks input b l) where
   len_is : length b.moof.now ≡ is.boxes.span.size
-  len_is = moof_len at piece b is.boxes
+  len_is = moof_len at input b is.boxes
 
   pub run_is : IsRunOf b.moof.now l.run
-  run_is = lone_is (moof_at b.moof.now at) tracks l is.lone
+  run_is = single_is (moof_at b.moof.now at) tracks l is.single_run
 
   -- its media lie in its mdat
   pub media_fits : at + is.boxes.span.size + l.run.bytes + 8 ≤ at + is.boxes.span.size + b.mdat.size
   media_fits =
-      let room = first_fits Mdat (at + is.boxes.span.size) (drop is.boxes.span.size piece) b.mdat is.boxes.mdat in
-      let w = whole_is (drop is.boxes.span.size piece) is.boxes.mdat.header is.boxes.mdat.is in
-      let last = lone_fits (payload_in (at + is.boxes.span.size) b.mdat) l.run is.stands b.moof.now (at + is.boxes.span.size + b.mdat.size) refl (omega (arith, room)) run_is in
-      omega (arith, last, w.1, need-least (drop is.boxes.span.size piece), is.boxes.mdat.head)
+      let room = first_fits Mdat (at + is.boxes.span.size) (drop is.boxes.span.size input) b.mdat is.boxes.mdat in
+      let w = whole_is (drop is.boxes.span.size input) is.boxes.mdat.header is.boxes.mdat.is in
+      let last = single_fits (payload_in (at + is.boxes.span.size) b.mdat) l.run is.is_placed b.moof.now (at + is.boxes.span.size + b.mdat.size) refl (omega (arith, room)) run_is in
+      omega (arith, last, w.1, need-least (drop is.boxes.span.size input), is.boxes.mdat.head)
 
   -- it is counted, and no sample waits
-  pub counted_whole : (command : Command) (c c' : Counter) (n k : ℕ) → IsCounted (plans.List command) c at 0 0 → n ≡ l.run.count → k ≡ l.run.count
-      → c'.tally ≡ plus (record { fragments = c.tally.fragments; samples = c.tally.samples; media_bytes = c.tally.media_bytes; walked = c.tally.walked + n }) (record { fragments = 1; samples = k; media_bytes = l.run.bytes; walked = 0 })
-      → c'.steps.rows ≡ c.steps.rows + 2 * k + listed_by (plans.List command) k → IsCounted (plans.List command) c' (at + length b.moof.now + b.mdat.size) 0 0
-  counted_whole command c c' n k i all one tally rows =
+  pub counted_in_place : (command : Command) (c c' : Counter) (n k : ℕ) → IsCounted (operations.List command) c at 0 0 → n ≡ l.run.count → k ≡ l.run.count
+      → c'.tally ≡ plus (record { fragments = c.tally.fragments; samples = c.tally.samples; media_bytes = c.tally.media_bytes; inspected = c.tally.inspected + n }) (record { fragments = 1; samples = k; media_bytes = l.run.bytes; inspected = 0 })
+      → c'.steps.rows ≡ c.steps.rows + 2 * k + listed_by (operations.List command) k → IsCounted (operations.List command) c' (at + length b.moof.now + b.mdat.size) 0 0
+  counted_in_place command c c' n k i all one tally rows =
       let h = moof_at b.moof.now at in
       let few : k ≤ 1000000 = omega (arith, one, run_is.few) in
-      let same : k ≡ moof_samples h = one ∙ is.lone.samples in
-      let c1 : Counter = record { tally = plus c.tally (walked h); steps = record { rows = c.steps.rows + (k + k) } } in
+      let same : k ≡ moof_samples h = one ∙ is.single_run.samples in
+      let c1 : Counter = record { tally = plus c.tally (inspected h); steps = record { rows = c.steps.rows + (k + k) } } in
       let near : at + is.boxes.span.size ≤ longest = is.boxes.moof.near in
-      let waits : IsCounted (plans.List command) c1 (at + is.boxes.span.size) k k = counted_moof (plans.List command) c c1 h at is.boxes.span.size (k + k) k i (some_moof at piece b is.boxes) near (omega (arith, same, few)) refl refl (omega (arith, same)) (omega (arith, same)) in
-      let sum = tally ∙ ap (λ t. plus t (record { fragments = 1; samples = k; media_bytes = l.run.bytes; walked = 0 })) (walked_more c.tally h n (all ∙ is.lone.samples)) in
-      let effects : IsCounted (plans.List command) c' (at + is.boxes.span.size + b.mdat.size) 0 k = counted_told command c1 c' (at + is.boxes.span.size) (at + is.boxes.span.size + b.mdat.size) k l.run.bytes waits few
+      let waits : IsCounted (operations.List command) c1 (at + is.boxes.span.size) k k = counted_moof (operations.List command) c c1 h at is.boxes.span.size (k + k) k i (some_moof at input b is.boxes) near (omega (arith, same, few)) refl refl (omega (arith, same)) (omega (arith, same)) in
+      let sum = tally ∙ ap (λ t. plus t (record { fragments = 1; samples = k; media_bytes = l.run.bytes; inspected = 0 })) (inspected_more c.tally h n (all ∙ is.single_run.samples)) in
+      let effects : IsCounted (operations.List command) c' (at + is.boxes.span.size + b.mdat.size) 0 k = counted_emitted command c1 c' (at + is.boxes.span.size) (at + is.boxes.span.size + b.mdat.size) k l.run.bytes waits few
       (omega (arith, media_fits), omega (arith, media_fits), omega (arith, is.boxes.mdat.near)) sum (omega (arith, rows)) in
-      subst (λ z. IsCounted (plans.List command) c' (at + z + b.mdat.size) 0 0) (sym len_is) (counted_later (plans.List command) c' (at + is.boxes.span.size + b.mdat.size) (at + is.boxes.span.size + b.mdat.size) k 0 (omega arith) (omega arith) (omega (arith, is.boxes.mdat.near)) effects)
+      subst (λ z. IsCounted (operations.List command) c' (at + z + b.mdat.size) 0 0) (sym len_is) (counted_later (operations.List command) c' (at + is.boxes.span.size + b.mdat.size) (at + is.boxes.span.size + b.mdat.size) k 0 (omega arith) (omega arith) (omega (arith, is.boxes.mdat.near)) effects)
 
-  -- as it is told
+  -- the fragment with its number
   abbrev pub it : ℕ → Fragment
   it number = fragment (context at (Some tracks) number) tracks b.moof.now is.boxes.mdat.header
 
   pub payload_same : (it 1).payload ≡ payload_in (at + is.boxes.span.size) b.mdat
-  payload_same = told_payload at tracks piece b is.boxes
+  payload_same = emitted_payload at tracks input b is.boxes
 
-  stands_all : place_fault (payload_in (at + is.boxes.span.size) b.mdat) (moof_runs (moof_at b.moof.now at) tracks) ≡ None
-  stands_all = ap (place_fault (payload_in (at + is.boxes.span.size) b.mdat)) is.lone.run ∙ is.stands
+  placed_all : place_fault (payload_in (at + is.boxes.span.size) b.mdat) (moof_runs (moof_at b.moof.now at) tracks) ≡ None
+  placed_all = ap (place_fault (payload_in (at + is.boxes.span.size) b.mdat)) is.single_run.run ∙ is.is_placed
 
   claims_one : length b.moof.now + 64 ≡ length b.moof.now + 64 * length (moof_runs (moof_at b.moof.now at) tracks)
-  claims_one = let one : length (moof_runs (moof_at b.moof.now at) tracks) ≡ 1 = ap length is.lone.run in omega (arith, one)
+  claims_one = let one : length (moof_runs (moof_at b.moof.now at) tracks) ≡ 1 = ap length is.single_run.run in omega (arith, one)
 
-  module _ (command : Command) (number : ℕ) (o : Outside) (low : 64 * length tracks ≤ o.account.live) (u : Option (List ℕ)) (v : Pending) (a : Account) (t : Tally)
-      (account : a ≡ given_back (claimed o.account (length b.moof.now + 64)) (length b.moof.now + 64)) (tally : t ≡ plus (plus o.tally (walked (moof_at b.moof.now at))) (counted_in (it number))) where
-    -- it is told
+  module _ (command : Command) (number : ℕ) (o : Environment) (low : 64 * length tracks ≤ o.account.live) (u : Option (List ℕ)) (v : Pending) (a : Account) (t : Tally)
+      (account : a ≡ given_back (claimed o.account (length b.moof.now + 64)) (length b.moof.now + 64)) (tally : t ≡ plus (plus o.tally (inspected (moof_at b.moof.now at))) (counted_in (it number))) where
+    -- it is written
     pub GoesOn-it : Passes o.written u o.waiting v (accepted command (it number)).text
-        → GoesOn o (outside u v a t) (standing (command_meaning command) (InHeader (context at (Some tracks) number) [])) (take (length b.moof.now + b.mdat.size) piece) (standing (command_meaning command) (InHeader (context (at + (length b.moof.now + b.mdat.size)) (Some (with_next l.track l.run.end tracks)) number) []))
+        → GoesOn o (environment u v a t) (continuation_at (command_meaning command) (InHeader (context at (Some tracks) number) [])) (take (length b.moof.now + b.mdat.size) input) (continuation_at (command_meaning command) (InHeader (context (at + (length b.moof.now + b.mdat.size)) (Some (with_next l.track l.run.end tracks)) number) []))
     GoesOn-it passes =
-        subst (λ ts. GoesOn o (outside u v a t) (standing (command_meaning command) (InHeader (context at (Some tracks) number) [])) (take (length b.moof.now + b.mdat.size) piece) (standing (command_meaning command) (InHeader (context (at + (length b.moof.now + b.mdat.size)) (Some ts) number) []))) is.lone.ends
-        (GoesOn-told at tracks piece b is.boxes is.lone.read stands_all command number o low u v a t (length b.moof.now + 64) claims_one account tally passes)
+        subst (λ ts. GoesOn o (environment u v a t) (continuation_at (command_meaning command) (InHeader (context at (Some tracks) number) [])) (take (length b.moof.now + b.mdat.size) input) (continuation_at (command_meaning command) (InHeader (context (at + (length b.moof.now + b.mdat.size)) (Some ts) number) []))) is.single_run.ends
+        (GoesOn-emitted at tracks input b is.boxes is.single_run.read placed_all command number o low u v a t (length b.moof.now + 64) claims_one account tally passes)
 
-    -- it can't be told
-    pub StopsAt-it : (more : List ℕ) → Breaks o.written u o.waiting v (accepted command (it number)).text → StopsAt o (outside u v (given_back a (64 * length tracks)) t) (standing (command_meaning command) (InHeader (context at (Some tracks) number) [])) (piece ++ more) Write
-    StopsAt-it = StopsAt-told at tracks piece b is.boxes is.lone.read stands_all command number o low u v a t (length b.moof.now + 64) claims_one account tally
+    -- it can't be written
+    pub StopsAt-it : (more : List ℕ) → Breaks o.written u o.waiting v (accepted command (it number)).text → StopsAt o (environment u v (given_back a (64 * length tracks)) t) (continuation_at (command_meaning command) (InHeader (context at (Some tracks) number) [])) (input ++ more) Write
+    StopsAt-it = StopsAt-emitted at tracks input b is.boxes is.single_run.read placed_all command number o low u v a t (length b.moof.now + 64) claims_one account tally

@@ -1,4 +1,4 @@
--- What the header of a box at the front of a fragmented stream brings.
+-- The header of a box at the front of a fragmented stream.
 use Rattle.std.proofs.Common.{◌≡◌, ◌∙◌, ℕ, ◌+◌, ◌-◌, ◌<◌, ◌≤◌, List, [], ◌∷◌, ◌++◌, length, take, drop, Option, None, Some, append-nil, ap, sym, refl, arith, length-append, subst}
 use Rattle.std.proofs.Math.Seq.{take-append_seam, drop-append_seam}
 use Rattle.mp4_box.specs.declared.headers.Header.{Header}
@@ -14,23 +14,23 @@ use Rattle.mp4_init.specs.declared.table.Track.{Track}
 use Rattle.mp4_ledger.specs.declared.ledger.Refused.{Refused}
 use Rattle.mp4_ledger.specs.declared.ledger.Refused.TheVariants as refusals
 use Rattle.mp4_machine.specs.Bodies.{longest, fault, at_fault, cut_off, least_end, body_item, open_body_item}
-use Rattle.mp4_machine.specs.Readings.{fault_in, empty_reading, Faulty, Last, Effects, silent, requests_memory, after, then_read}
-use Rattle.mp4_machine.specs.Pieces.{Outside, Standing, Moves, GoesOn, Refuses, Starves, StopsAt, refusal_of}
+use Rattle.mp4_machine.specs.Readings.{fault_in, empty_reading, Faulty, Last, Effects, no_effects, requests_memory, after, then_read}
+use Rattle.mp4_machine.specs.Inputs.{Environment, Continuation, Moves, GoesOn, Refuses, ClaimRefused, StopsAt, refusal_of}
 use Rattle.mp4_machine.proofs.BodyLemmas.{body-some, open-some, nat_lt_true, nat_lt_false}
 use Rattle.mp4_machine.proofs.HeadLemmas.{kind_of-append}
-use Rattle.mp4_machine.proofs.StandingLemmas.{GoesOn-gathered}
-use Rattle.mp4_machine.proofs.ReadingLemmas.{read_all-front, then_read-told, after-silent}
-use Rattle.mp4_machine.proofs.PieceLemmas.{claimed_from, back_to, Moves-claim, Moves-back, GoesOn-silent, GoesOn-more}
+use Rattle.mp4_machine.proofs.ContinuationLemmas.{GoesOn-gathered}
+use Rattle.mp4_machine.proofs.ReadingLemmas.{read_all-front, then_read-emitted, after-silent}
+use Rattle.mp4_machine.proofs.InputLemmas.{claimed_from, back_to, Moves-claim, Moves-back, GoesOn-silent, GoesOn-more}
 use Rattle.mp4_grammar.specs.declared.kinds.Kind.{Kind}
 use Rattle.mp4_grammar.specs.declared.kinds.Kind.TheVariants.{Other}
 use Rattle.mp4_grammar.specs.Contexts.{Context, context, table_of}
-use Rattle.mp4_grammar.specs.Items.{box_from, box_in, item, item_by, kept_body, keeping, passing, reads_in}
+use Rattle.mp4_grammar.specs.Items.{box_from, box_in, item, item_by, buffered_body, keeping, passing, reads_in}
 use Rattle.mp4_grammar.specs.Kinds.{kind_in}
 use Rattle.mp4_grammar.specs.Meanings.{Meaning}
 use Rattle.mp4_grammar.proofs.ItemLemmas.{item-items}
-use Rattle.mp4_grammar.specs.Meanings.{MarksPast}
+use Rattle.mp4_grammar.specs.Meanings.{FragmentEndsPast}
 use Rattle.mp4_grammar.proofs.PastLemmas.{kept-past}
-use Rattle.mp4_fragment_machine.specs.Places.{InBody, InHeader, InHeld, InOpenBody, standing}
+use Rattle.mp4_fragment_machine.specs.Places.{InBody, InHeader, InBuffered, InOpenBody, continuation_at}
 
 -- ---- what the bytes are read as
 
@@ -75,92 +75,92 @@ module _ (meaning : Meaning) (c : Context) where
 
 -- ---- bytes of it
 
-pub GoesOn-head : (meaning : Meaning) (o : Outside) (c : Context) (held x new : List ℕ) → new ≡ held ++ x → GoesOn o o (standing meaning (InHeader c held)) x (standing meaning (InHeader c new))
+pub GoesOn-head : (meaning : Meaning) (o : Environment) (c : Context) (held x new : List ℕ) → new ≡ held ++ x → GoesOn o o (continuation_at meaning (InHeader c held)) x (continuation_at meaning (InHeader c new))
 GoesOn-head meaning o c held x new e =
     GoesOn-gathered o (reads_in meaning c) c.at (table_of c.tracks) held x new e
 
--- whatever comes behind, a fault is read: the table of the tracks is given back
-pub Refuses-at : (o : Outside) (p : Standing) (table : ℕ) (more : List ℕ) (f : Fault) → p.claim ≡ table → table ≤ o.account.live → ((later : List ℕ) → p.reads later ≡ record { effects = silent; outcome = Faulty f }) → Refuses o (back_to o table) p more f
+-- whatever follows, a fault is read: the track table is given back
+pub Refuses-at : (o : Environment) (p : Continuation) (table : ℕ) (more : List ℕ) (f : Fault) → p.claim ≡ table → table ≤ o.account.live → ((later : List ℕ) → p.reads later ≡ record { effects = no_effects; outcome = Faulty f }) → Refuses o (back_to o table) p more f
 Refuses-at o p table more f same low r = record {
-  brought = silent;
+  produced = no_effects;
   moves = rw same (subst (λ n. Moves' n) (omega arith) (Moves-back o table table (omega arith) low));
   rest = λ later. r (more ++ later);
 }
   where
     Moves' : ℕ → Type 0
-    Moves' n = Moves o (back_to o table) table n silent
+    Moves' n = Moves o (back_to o table) table n no_effects
 
-pub Refuses-bad : (meaning : Meaning) (o : Outside) (at number : ℕ) (tracks : Option (List Track)) (x : List ℕ) → length x ≡ need x → table_of tracks ≤ o.account.live → (more : List ℕ) → header_at x ≡ steps.BadSize
-    → Refuses o (back_to o (table_of tracks)) (standing meaning (InHeader (context at tracks number) x)) more (fault BadSize (kind_of x) at)
+pub Refuses-bad : (meaning : Meaning) (o : Environment) (at number : ℕ) (tracks : Option (List Track)) (x : List ℕ) → length x ≡ need x → table_of tracks ≤ o.account.live → (more : List ℕ) → header_at x ≡ steps.BadSize
+    → Refuses o (back_to o (table_of tracks)) (continuation_at meaning (InHeader (context at tracks number) x)) more (fault BadSize (kind_of x) at)
 Refuses-bad meaning o at number tracks x len low more bad =
-    Refuses-at o (standing meaning (InHeader (context at tracks number) x)) (table_of tracks) more (fault BadSize (kind_of x) at) refl low (λ later. reads-bad meaning (context at tracks number) x later len bad)
+    Refuses-at o (continuation_at meaning (InHeader (context at tracks number) x)) (table_of tracks) more (fault BadSize (kind_of x) at) refl low (λ later. reads-bad meaning (context at tracks number) x later len bad)
 
-module _ (meaning : Meaning) (o : Outside) (at number : ℕ) (tracks : Option (List Track)) (h : Header) (x : List ℕ) (len : length x ≡ need x) (low : table_of tracks ≤ o.account.live) where
+module _ (meaning : Meaning) (o : Environment) (at number : ℕ) (tracks : Option (List Track)) (h : Header) (x : List ℕ) (len : length x ≡ need x) (low : table_of tracks ≤ o.account.live) where
   module _ (is : header_at x ≡ steps.Whole h) where
-    pub Refuses-far : (more : List ℕ) → longest < least_end at h h.size → Refuses o (back_to o (table_of tracks)) (standing meaning (InHeader (context at tracks number) x)) more (fault StreamTooLong (Some h.kind) at)
+    pub Refuses-far : (more : List ℕ) → longest < least_end at h h.size → Refuses o (back_to o (table_of tracks)) (continuation_at meaning (InHeader (context at tracks number) x)) more (fault StreamTooLong (Some h.kind) at)
     Refuses-far more far =
-        Refuses-at o (standing meaning (InHeader (context at tracks number) x)) (table_of tracks) more (fault StreamTooLong (Some h.kind) at) refl low (λ later. reads-far meaning (context at tracks number) h x len is later far)
+        Refuses-at o (continuation_at meaning (InHeader (context at tracks number) x)) (table_of tracks) more (fault StreamTooLong (Some h.kind) at) refl low (λ later. reads-far meaning (context at tracks number) h x len is later far)
 
-    -- a box that may not stand here
+    -- a box that may not be here
     pub Refuses-box : (more : List ℕ) (k : Kind) (rule : Rule) → least_end at h h.size ≤ longest → kind_in h.kind.0 ≡ k
         → ((later : List ℕ) → box_in meaning (context at tracks number) h x later k tracks ≡ Last (at_fault rule (Some h.kind) at))
-        → Refuses o (back_to o (table_of tracks)) (standing meaning (InHeader (context at tracks number) x)) more (fault rule (Some h.kind) at)
+        → Refuses o (back_to o (table_of tracks)) (continuation_at meaning (InHeader (context at tracks number) x)) more (fault rule (Some h.kind) at)
     Refuses-box more k rule near kind r =
-        Refuses-at o (standing meaning (InHeader (context at tracks number) x)) (table_of tracks) more (fault rule (Some h.kind) at) refl low
+        Refuses-at o (continuation_at meaning (InHeader (context at tracks number) x)) (table_of tracks) more (fault rule (Some h.kind) at) refl low
         (λ later. reads-kind meaning (context at tracks number) h x len is k tracks later near kind refl ∙ ap (then_read (reads_in meaning)) (r later))
 
 -- ---- a box that is to be held
 
-module _ (meaning : Meaning) (o : Outside) (at number : ℕ) (tracks : Option (List Track)) (h : Header) (x : List ℕ) (limit : ℕ) (low : table_of tracks ≤ o.account.live)
+module _ (meaning : Meaning) (o : Environment) (at number : ℕ) (tracks : Option (List Track)) (h : Header) (x : List ℕ) (limit : ℕ) (low : table_of tracks ≤ o.account.live)
     (reads : (later : List ℕ) → reads_in meaning (context at tracks number) (x ++ later) ≡ then_read (reads_in meaning) (keeping meaning (context at tracks number) h limit (x ++ later) h.size)) where
-  pub Refuses-unsized : (more : List ℕ) → h.size ≡ ToEnd → Refuses o (back_to o (table_of tracks)) (standing meaning (InHeader (context at tracks number) x)) more (fault TooLarge (Some h.kind) at)
+  pub Refuses-unsized : (more : List ℕ) → h.size ≡ ToEnd → Refuses o (back_to o (table_of tracks)) (continuation_at meaning (InHeader (context at tracks number) x)) more (fault TooLarge (Some h.kind) at)
   Refuses-unsized more e =
-      Refuses-at o (standing meaning (InHeader (context at tracks number) x)) (table_of tracks) more (fault TooLarge (Some h.kind) at) refl low
+      Refuses-at o (continuation_at meaning (InHeader (context at tracks number) x)) (table_of tracks) more (fault TooLarge (Some h.kind) at) refl low
       (λ later. reads later ∙ ap (λ z. then_read (reads_in meaning) (keeping meaning (context at tracks number) h limit (x ++ later) z)) e)
 
   module _ (s : ℕ) (size : h.size ≡ Exact s) where
-    pub Refuses-large : (more : List ℕ) → limit < s → Refuses o (back_to o (table_of tracks)) (standing meaning (InHeader (context at tracks number) x)) more (fault TooLarge (Some h.kind) at)
+    pub Refuses-large : (more : List ℕ) → limit < s → Refuses o (back_to o (table_of tracks)) (continuation_at meaning (InHeader (context at tracks number) x)) more (fault TooLarge (Some h.kind) at)
     Refuses-large more large =
-        Refuses-at o (standing meaning (InHeader (context at tracks number) x)) (table_of tracks) more (fault TooLarge (Some h.kind) at) refl low
+        Refuses-at o (continuation_at meaning (InHeader (context at tracks number) x)) (table_of tracks) more (fault TooLarge (Some h.kind) at) refl low
         (λ later. reads later ∙ ap (λ z. then_read (reads_in meaning) (keeping meaning (context at tracks number) h limit (x ++ later) z)) size ∙ rw (nat_lt_true limit s large) refl)
 
     module _ (fits : s ≤ limit) where
-      reads-kept : (later : List ℕ) → reads_in meaning (context at tracks number) (x ++ later) ≡ after (requests_memory at (table_of tracks + s)) (then_read (reads_in meaning) (kept_body meaning (context at tracks number) h.kind s (x ++ later)))
+      reads-kept : (later : List ℕ) → reads_in meaning (context at tracks number) (x ++ later) ≡ after (requests_memory at (table_of tracks + s)) (then_read (reads_in meaning) (buffered_body meaning (context at tracks number) h.kind s (x ++ later)))
       reads-kept later =
           reads later ∙ ap (λ z. then_read (reads_in meaning) (keeping meaning (context at tracks number) h limit (x ++ later) z)) size
-          ∙ rw (nat_lt_false limit s fits) (then_read-told (reads_in meaning) (requests_memory at (table_of tracks + s)) (kept_body meaning (context at tracks number) h.kind s (x ++ later)))
+          ∙ rw (nat_lt_false limit s fits) (then_read-emitted (reads_in meaning) (requests_memory at (table_of tracks + s)) (buffered_body meaning (context at tracks number) h.kind s (x ++ later)))
 
-      pub GoesOn-keep : 0 < s → GoesOn o (claimed_from o s) (standing meaning (InHeader (context at tracks number) x)) [] (standing meaning (InHeld (context at tracks number) h.kind s x))
+      pub GoesOn-keep : 0 < s → GoesOn o (claimed_from o s) (continuation_at meaning (InHeader (context at tracks number) x)) [] (continuation_at meaning (InBuffered (context at tracks number) h.kind s x))
       GoesOn-keep some = record {
-        brought = requests_memory at (table_of tracks + s);
+        produced = requests_memory at (table_of tracks + s);
         moves = Moves-claim o (table_of tracks) s at low (omega (arith, some));
         reached = omega arith;
         rest = λ later. reads-kept later;
       }
 
-      Starves-keep : MarksPast meaning → (more : List ℕ) → Starves o (back_to o (table_of tracks)) (standing meaning (InHeader (context at tracks number) x)) more
-      Starves-keep past more = record {
-        brought = silent;
-        moves = subst (λ n. Moves o (back_to o (table_of tracks)) (table_of tracks) n silent) (omega arith) (Moves-back o (table_of tracks) (table_of tracks) (omega arith) low);
+      ClaimRefused-keep : FragmentEndsPast meaning → (more : List ℕ) → ClaimRefused o (back_to o (table_of tracks)) (continuation_at meaning (InHeader (context at tracks number) x)) more
+      ClaimRefused-keep past more = record {
+        produced = no_effects;
+        moves = subst (λ n. Moves o (back_to o (table_of tracks)) (table_of tracks) n no_effects) (omega arith) (Moves-back o (table_of tracks) (table_of tracks) (omega arith) low);
         at = at;
         sum = table_of tracks + s;
-        continues = λ later. then_read (reads_in meaning) (kept_body meaning (context at tracks number) h.kind s (x ++ (more ++ later)));
+        continues = λ later. then_read (reads_in meaning) (buffered_body meaning (context at tracks number) h.kind s (x ++ (more ++ later)));
         past = λ later. kept-past meaning past (context at tracks number) h.kind s (x ++ (more ++ later));
         rest = λ later. reads-kept (more ++ later) ∙ sym (after-silent _);
       }
 
-      pub StopsAt-keep : MarksPast meaning → (more : List ℕ) (r : Refused) → (r ≡ refusals.OverLimit → o.account.limit < o.account.live + s) → (r ≡ refusals.Memory → o.account.live + s ≤ o.account.limit)
-          → StopsAt o (back_to o (table_of tracks)) (standing meaning (InHeader (context at tracks number) x)) more (refusal_of r)
-      unfolding Starves-keep
-      StopsAt-keep past more refusals.OverLimit over within = (Starves-keep past more, omega (arith, over refl, low))
-      StopsAt-keep past more refusals.Memory over within = (Starves-keep past more, omega (arith, within refl, low))
+      pub StopsAt-keep : FragmentEndsPast meaning → (more : List ℕ) (r : Refused) → (r ≡ refusals.OverLimit → o.account.limit < o.account.live + s) → (r ≡ refusals.Memory → o.account.live + s ≤ o.account.limit)
+          → StopsAt o (back_to o (table_of tracks)) (continuation_at meaning (InHeader (context at tracks number) x)) more (refusal_of r)
+      unfolding ClaimRefused-keep
+      StopsAt-keep past more refusals.OverLimit over within = (ClaimRefused-keep past more, omega (arith, over refl, low))
+      StopsAt-keep past more refusals.Memory over within = (ClaimRefused-keep past more, omega (arith, within refl, low))
 
 -- ---- a box that is passed over
 
-module _ (meaning : Meaning) (o : Outside) (at number : ℕ) (tracks : Option (List Track)) (h : Header) (x : List ℕ) (len : length x ≡ need x) (is : header_at x ≡ steps.Whole h)
-    (near : least_end at h h.size ≤ longest) (other : kind_in h.kind.0 ≡ Other) (silence : (b : List ℕ) → meaning.passed h.kind b ≡ silent) where
-  tell : List ℕ → Effects
-  tell = λ _. silent
+module _ (meaning : Meaning) (o : Environment) (at number : ℕ) (tracks : Option (List Track)) (h : Header) (x : List ℕ) (len : length x ≡ need x) (is : header_at x ≡ steps.Whole h)
+    (near : least_end at h h.size ≤ longest) (other : kind_in h.kind.0 ≡ Other) (silence : (b : List ℕ) → meaning.passed h.kind b ≡ no_effects) where
+  emit : List ℕ → Effects
+  emit = λ _. no_effects
 
   long : h.header_len ≡ length x
   long = omega (arith, (whole_is x h is).1, len)
@@ -169,23 +169,23 @@ module _ (meaning : Meaning) (o : Outside) (at number : ℕ) (tracks : Option (L
   passes later = reads-kind meaning (context at tracks number) h x len is Other tracks later near other refl
 
   pub GoesOn-other : (s : ℕ) → h.size ≡ Exact s → h.header_len ≤ s
-      → GoesOn o o (standing meaning (InHeader (context at tracks number) x)) [] (standing meaning (InBody (λ _. silent) at h.kind (context (at + s) tracks number) (s - h.header_len) (table_of tracks)))
+      → GoesOn o o (continuation_at meaning (InHeader (context at tracks number) x)) [] (continuation_at meaning (InBody (λ _. no_effects) at h.kind (context (at + s) tracks number) (s - h.header_len) (table_of tracks)))
   GoesOn-other s size room =
-      GoesOn-silent o (standing meaning (InHeader (context at tracks number) x)) (standing meaning (InBody (λ _. silent) at h.kind (context (at + s) tracks number) (s - h.header_len) (table_of tracks))) [] refl (omega (arith, room, long))
+      GoesOn-silent o (continuation_at meaning (InHeader (context at tracks number) x)) (continuation_at meaning (InBody (λ _. no_effects) at h.kind (context (at + s) tracks number) (s - h.header_len) (table_of tracks))) [] refl (omega (arith, room, long))
       (λ later. passes later ∙ ap (λ z. then_read (reads_in meaning) (passing meaning (context at tracks number) h.kind (x ++ later) z)) size
-      ∙ body-some (reads_in meaning) at h.kind (context (at + s) tracks number) (meaning.passed h.kind) (λ _. silent) silent x s (λ l. silence (x ++ l)) (omega (arith, room, long)) later
-      ∙ after-silent _ ∙ ap (λ n. then_read (reads_in meaning) (body_item (λ _. silent) at h.kind (context (at + s) tracks number) (s - n) later)) (sym long))
+      ∙ body-some (reads_in meaning) at h.kind (context (at + s) tracks number) (meaning.passed h.kind) (λ _. no_effects) no_effects x s (λ l. silence (x ++ l)) (omega (arith, room, long)) later
+      ∙ after-silent _ ∙ ap (λ n. then_read (reads_in meaning) (body_item (λ _. no_effects) at h.kind (context (at + s) tracks number) (s - n) later)) (sym long))
 
-  pub GoesOn-other_open : h.size ≡ ToEnd → GoesOn o o (standing meaning (InHeader (context at tracks number) x)) [] (standing meaning (InOpenBody (λ _. silent) at h.kind 0 (longest - (at + h.header_len)) (table_of tracks)))
+  pub GoesOn-other_open : h.size ≡ ToEnd → GoesOn o o (continuation_at meaning (InHeader (context at tracks number) x)) [] (continuation_at meaning (InOpenBody (λ _. no_effects) at h.kind 0 (longest - (at + h.header_len)) (table_of tracks)))
   GoesOn-other_open size =
       let far : at + h.header_len ≤ longest = subst (λ z. least_end at h z ≤ longest) size near in
       let less : longest - at - length x ≡ longest - (at + h.header_len) = omega (arith, long) in
       let none : 0 - length x ≡ 0 = omega arith in
-      GoesOn-silent o (standing meaning (InHeader (context at tracks number) x)) (standing meaning (InOpenBody (λ _. silent) at h.kind 0 (longest - (at + h.header_len)) (table_of tracks))) [] refl (omega (arith, far, long))
+      GoesOn-silent o (continuation_at meaning (InHeader (context at tracks number) x)) (continuation_at meaning (InOpenBody (λ _. no_effects) at h.kind 0 (longest - (at + h.header_len)) (table_of tracks))) [] refl (omega (arith, far, long))
       (λ later. passes later ∙ ap (λ z. then_read (reads_in meaning) (passing meaning (context at tracks number) h.kind (x ++ later) z)) size
-      ∙ open-some (reads_in meaning) at h.kind (context at tracks number) (meaning.passed h.kind) (λ _. silent) silent x 0 (longest - at) (λ l. silence (x ++ l)) (omega (arith, far, long)) later
-      ∙ after-silent _ ∙ ap (λ n. then_read (reads_in meaning) (open_body_item (λ _. silent) at h.kind (0 - length x) n later)) less
-      ∙ ap (λ n. then_read (reads_in meaning) (open_body_item (λ _. silent) at h.kind n (longest - (at + h.header_len)) later)) none)
+      ∙ open-some (reads_in meaning) at h.kind (context at tracks number) (meaning.passed h.kind) (λ _. no_effects) no_effects x 0 (longest - at) (λ l. silence (x ++ l)) (omega (arith, far, long)) later
+      ∙ after-silent _ ∙ ap (λ n. then_read (reads_in meaning) (open_body_item (λ _. no_effects) at h.kind (0 - length x) n later)) less
+      ∙ ap (λ n. then_read (reads_in meaning) (open_body_item (λ _. no_effects) at h.kind n (longest - (at + h.header_len)) later)) none)
 
 -- ---- the end of the stream
 
@@ -198,5 +198,5 @@ module _ (meaning : Meaning) (c : Context) where
 
 -- ---- two steps without a byte
 
-pub GoesOn-both : {o o' o'' : Outside} {p q r : Standing} → p.claim ≤ o.account.live → GoesOn o o' p [] q → GoesOn o' o'' q [] r → GoesOn o o'' p [] r
+pub GoesOn-both : {o o' o'' : Environment} {p q r : Continuation} → p.claim ≤ o.account.live → GoesOn o o' p [] q → GoesOn o' o'' q [] r → GoesOn o o'' p [] r
 GoesOn-both {p = p} {r = r} low g h = GoesOn-more {p = p} low g [] r h

@@ -8,7 +8,7 @@ use Rattle.mp4_box.specs.Headers.{IsBytes, IsWhole}
 use Rattle.mp4_init.specs.declared.table.Track.{Track}
 use Rattle.mp4_run_order.proofs.OrderLemmas.{taken_permutes}
 use Rattle.mp4_frag.specs.Moofs.{IsRead, moof_runs}
-use Rattle.mp4_frag.specs.Working.Rereads.{run_of_row}
+use Rattle.mp4_frag.specs.Implementation.Rereads.{run_of_row}
 use Rattle.mp4_frag.specs.RunLists.{taken_runs}
 use Rattle.mp4_frag.specs.ListsOfRuns.{IsListOf}
 use Rattle.mp4_frag.specs.RunLists.{ListedRows}

@@ -1,4 +1,4 @@
--- What the runs of a moof come to in a payload in which they stand where they may.
+-- Sums over the runs of a moof in a payload in which they may lie where they do.
 use lib.IntN.{negsuc}
 use Rattle.std.proofs.Common.{◌≡◌, ◌∙◌, ℕ, ℤ, zero, suc, pos, ◌+◌, ◌-◌, ◌<◌, ◌≤◌, ◌^◌, ◌==◌, ◌+ℤ◌, ◌<ℤ◌, ◌≤ℤ◌, max, if◌then◌else◌, Bool, true, false, not, List, [], ◌∷◌, ◌++◌, length, length-append, take, drop, get_or, Option, None, Some, inl, inr, ap, sym, refl, subst, arith}
 use Rattle.std.specs.Prelude.{map}
@@ -22,7 +22,7 @@ use Rattle.mp4_run_order.proofs.TakingLemmas.{taken_well}
 use Rattle.mp4_frag.specs.declared.rows.Row.{Row}
 use Rattle.mp4_frag.specs.declared.run.Run.{Run}
 use Rattle.mp4_frag.specs.Moofs.{moof_of, moof_runs, moof_samples}
-use Rattle.mp4_frag.specs.Rules.{most_samples}
+use Rattle.mp4_frag.specs.Rules.{most_in_moof}
 use Rattle.mp4_frag.specs.Places.{place_fault}
 use Rattle.mp4_frag.specs.Rows.{rows_of, sizes}
 use Rattle.mp4_frag.specs.RunLists.{moof_listing, taken_runs}
@@ -36,8 +36,8 @@ use Rattle.mp4_frag.proofs.MoofLemmas.{read_count}
 use Rattle.mp4_frag.proofs.SoundLemmas.{all_small, few_timed, rows_are_samples}
 use Rattle.mp4_grammar.specs.Meanings.{beyond, reach}
 use Rattle.mp4_frag.specs.Ranges.{AreRunsOf, IsRunOf}
-use Rattle.mp4_fragment_machine.specs.States.{IsWaiting, moof_in}
-use Rattle.mp4_fragment_machine.specs.declared.state.Waiting.{Waiting}
+use Rattle.mp4_fragment_machine.specs.States.{IsPendingMoof, moof_in}
+use Rattle.mp4_fragment_machine.specs.declared.state.PendingMoof.{PendingMoof}
 use Rattle.mp4_fragment_machine.proofs.LineLemmas.{rows_taken, taken_are}
 
 -- how many bytes some runs have
@@ -97,7 +97,7 @@ pairs_first R xs zero h = tt
 pairs_first R [] (suc n) h = tt
 pairs_first R (x ∷ xs) (suc n) h = (each_first (R x) xs n h.0, pairs_first R xs n h.1)
 
--- ---- runs that stand where they may, in the order in which they are taken
+-- ---- runs that may lie where they do, in the order in which they are taken
 
 -- of two runs with bytes the first ends before the second begins
 abbrev Rises : Run → Run → Type 0
@@ -125,7 +125,7 @@ taken_in p h tracks l list good =
     }
 
 first_in : (p : Payload) (runs : List Run) (n : ℕ) → AreIn p runs → AreIn p (take n runs)
-first_in p runs n stand = record { rise = pairs_first Rises runs n stand.rise; lie = each_first (Lies p) runs n stand.lie }
+first_in p runs n placed = record { rise = pairs_first Rises runs n placed.rise; lie = each_first (Lies p) runs n placed.lie }
 
 -- ---- the sum of their bytes
 
@@ -145,8 +145,8 @@ media_fits z y (run ∷ runs) room lie up =
     let sum = sum_by-cons (λ (r : Run). r.bytes) run runs in
     elim (cases_lt 0 run.bytes) [
       | inl some ↦
-          let behind = each_both (Clear run) (Between z y) (Between (end_place run) y) (λ b from l more. (from some more, (l more).1)) runs up.0 lie.1 in
-          media_step z run.place y run.bytes (media_of runs) (media_of (run ∷ runs)) (lie.0 some).0 sum (media_fits (end_place run) y runs (lie.0 some).1 behind up.1)
+          let after = each_both (Clear run) (Between z y) (Between (end_place run) y) (λ b from l more. (from some more, (l more).1)) runs up.0 lie.1 in
+          media_step z run.place y run.bytes (media_of runs) (media_of (run ∷ runs)) (lie.0 some).0 sum (media_fits (end_place run) y runs (lie.0 some).1 after up.1)
       | inr none ↦
           let same : media_of runs ≡ media_of (run ∷ runs) = omega (arith, sum, none) in
           subst (λ n. (z +ℤ pos n) ≤ℤ y) same (media_fits z y runs room lie.1 up.1)
@@ -181,22 +181,22 @@ module _ (held : List ℕ) where
   -- they have no more bytes than lie between the start of the payload and y
   media_within : (p : Payload) (y : ℤ) (runs : List Run) → pos p.start ≤ℤ y → ((run : Run) → IsRunOf held run → LiesIn p (listed_run run) → end_place run ≤ℤ y)
       → AreIn p runs → Each (IsRunOf held) runs → (pos p.start +ℤ pos (media_of runs)) ≤ℤ y
-  media_within p y runs room ends stand are =
+  media_within p y runs room ends placed are =
       media_fits (pos p.start) y runs room
-      (each_both (IsRunOf held) (Lies p) (Between (pos p.start) y) (λ run is lies some. let l = lies (some_samples run is some) in (l.from, ends run is l)) runs are stand.lie)
-      (pairs_with (IsRunOf held) Rises Clear (λ a b m n r x y. r (some_bytes a m x) (some_bytes b n y)) runs are stand.rise)
+      (each_both (IsRunOf held) (Lies p) (Between (pos p.start) y) (λ run is lies some. let l = lies (some_samples run is some) in (l.from, ends run is l)) runs are placed.lie)
+      (pairs_with (IsRunOf held) Rises Clear (λ a b m n r x y. r (some_bytes a m x) (some_bytes b n y)) runs are placed.rise)
 
   -- the first of them lie in a payload with an end
   pub media_in : (p : Payload) (end : ℕ) (runs : List Run) (n : ℕ) → p.end ≡ Some end → p.start ≤ end → AreIn p runs → Each (IsRunOf held) (take n runs) → p.start + media_of (take n runs) ≤ end
-  media_in p end runs n e room stand are =
+  media_in p end runs n e room placed are =
       ends_at p.start (media_of (take n runs)) end (media_within p (pos end) (take n runs) (no_less p.start end room)
-      (λ run is lies. subst (λ (o : Option ℕ). IfSome o (λ z. end_place run ≤ℤ pos z)) e lies.to) (first_in p runs n stand) are)
+      (λ run is lies. subst (λ (o : Option ℕ). IfSome o (λ z. end_place run ≤ℤ pos z)) e lies.to) (first_in p runs n placed) are)
 
   -- and in any below byte 2^63
   pub media_far : (p : Payload) (runs : List Run) (n : ℕ) → p.start ≤ 2 ^ 62 → AreIn p runs → Each (IsRunOf held) (take n runs) → p.start + media_of (take n runs) ≤ 2 ^ 63
-  media_far p runs n near stand are =
+  media_far p runs n near placed are =
       ends_at p.start (media_of (take n runs)) (2 ^ 63) (media_within p (pos (2 ^ 63)) (take n runs) (no_less p.start (2 ^ 63) (omega (arith, near)))
-      (λ run is lies. no_later (end_place run) (pos (2 ^ 63)) is.range.high) (first_in p runs n stand) are)
+      (λ run is lies. no_later (end_place run) (pos (2 ^ 63)) is.range.high) (first_in p runs n placed) are)
 
 -- ---- how far they reach
 
@@ -215,7 +215,7 @@ reach_most p end (run ∷ runs) e lie =
     (λ some. subst (λ (o : Option ℕ). IfSome o (λ z. end_place run ≤ℤ pos z)) e (lie.0 (not_from_false (run.count == 0) some)).to)
 
 pub reach_in : (p : Payload) (end : ℕ) (runs : List Run) → p.end ≡ Some end → p.start ≤ end → AreIn p runs → p.start + reach p.start runs ≤ end
-reach_in p end runs e room stand = omega (arith, room, reach_most p end runs e stand.lie)
+reach_in p end runs e room placed = omega (arith, room, reach_most p end runs e placed.lie)
 
 -- ---- run after run
 
@@ -271,9 +271,9 @@ both_hold : (held : List ℕ) (runs : List Run) → AreRunsOf held runs → Each
 both_hold held [] are small = tt
 both_hold held (x ∷ runs) are small = (are.0 small.0, both_hold held runs are.1 small.1)
 
--- ---- the runs of the moof that waits
+-- ---- the runs of the pending moof
 
-module _ (w : Waiting) (tracks : List Track) (waits : IsWaiting (Some tracks) w) where
+module _ (w : PendingMoof) (tracks : List Track) (waits : IsPendingMoof (Some tracks) w) where
   pub listed : (i : ℕ) → i < length w.runs.rows → i < length (taken_runs (moof_in w) tracks)
   listed i h = omega (arith, h, rows_taken (moof_in w) tracks w.runs waits.list)
 
@@ -284,7 +284,7 @@ module _ (w : Waiting) (tracks : List Track) (waits : IsWaiting (Some tracks) w)
       sum_by-IsPermutation (λ (run : Run). run.count) (moof_runs h tracks) (taken_runs h tracks) (taken_permutes listed_run (moof_runs h tracks))
       ∙ counts_are_rows h.bytes (moof_runs h tracks) ∙ rows_are_samples h tracks
 
-  pub few_samples : moof_samples (moof_in w) ≤ most_samples
+  pub few_samples : moof_samples (moof_in w) ≤ most_in_moof
   few_samples = (few_timed (moof_of (moof_in w)) (read_count (moof_in w) tracks waits.read)).most
 
   -- they are sound
@@ -294,5 +294,5 @@ module _ (w : Waiting) (tracks : List Track) (waits : IsWaiting (Some tracks) w)
       both_hold w.moof.bytes (taken_runs h tracks) (taken_are h tracks (omega (arith, waits.size, waits.near)) waits.whole fits waits.read)
       (each_moved (λ (run : Run). run.size < 2 ^ 32) (moof_runs h tracks) (taken_runs h tracks) (taken_permutes listed_run (moof_runs h tracks)) (all_each (λ (run : Run). run.size < 2 ^ 32) (moof_runs h tracks) (all_small h tracks waits.whole fits small)))
 
-  pub stand_in : (p : Payload) → place_fault p (moof_runs (moof_in w) tracks) ≡ None → AreIn p (taken_runs (moof_in w) tracks)
-  stand_in p good = taken_in p (moof_in w) tracks w.runs waits.list good
+  pub placed_in : (p : Payload) → place_fault p (moof_runs (moof_in w) tracks) ≡ None → AreIn p (taken_runs (moof_in w) tracks)
+  placed_in p good = taken_in p (moof_in w) tracks w.runs waits.list good

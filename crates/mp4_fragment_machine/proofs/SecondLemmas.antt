@@ -1,4 +1,4 @@
--- What the header of the box behind a moof brings.
+-- The header of the box after a moof.
 use Rattle.std.proofs.Common.{◌≡◌, ◌∙◌, ℕ, ◌+◌, ◌<◌, ◌≤◌, List, [], ◌∷◌, ◌++◌, length, drop, None, Some, ap, sym, refl, arith, length-append, subst}
 use Rattle.std.proofs.Math.Seq.{drop-append_seam}
 use Rattle.mp4_box.specs.declared.headers.Header.{Header}
@@ -27,37 +27,37 @@ use Rattle.mp4_grammar.specs.Kinds.{kind_in, moof}
 use Rattle.mp4_grammar.specs.Meanings.{Fragment, Meaning, fragment_fault}
 
 module _ (meaning : Meaning) (c : Context) (tracks : List Track) (m : List ℕ) where
-  behind-some : (x : List ℕ) → 0 < length x → after_moof meaning c tracks m x ≡ after_moof_by meaning c tracks m x (header_at x)
+  after-some : (x : List ℕ) → 0 < length x → after_moof meaning c tracks m x ≡ after_moof_by meaning c tracks m x (header_at x)
   unfolding after_moof
-  behind-some [] h = absurd (omega arith)
-  behind-some (b ∷ x) h = refl
+  after-some [] h = absurd (omega arith)
+  after-some (b ∷ x) h = refl
 
-  behind-header : (x later : List ℕ) (s : Step) → length x ≡ need x → header_at x ≡ s → after_moof meaning c tracks m (x ++ later) ≡ after_moof_by meaning c tracks m (x ++ later) s
-  behind-header x later s len e =
-      behind-some (x ++ later) (omega (arith, need-least x, length-append x later)) ∙ ap (after_moof_by meaning c tracks m (x ++ later)) (header_at-append x later (omega arith) ∙ e)
+  after-header : (x later : List ℕ) (s : Step) → length x ≡ need x → header_at x ≡ s → after_moof meaning c tracks m (x ++ later) ≡ after_moof_by meaning c tracks m (x ++ later) s
+  after-header x later s len e =
+      after-some (x ++ later) (omega (arith, need-least x, length-append x later)) ∙ ap (after_moof_by meaning c tracks m (x ++ later)) (header_at-append x later (omega arith) ∙ e)
 
-  behind-whole : (x later : List ℕ) (h : Header) → length x ≡ need x → header_at x ≡ steps.Whole h → after_moof meaning c tracks m (x ++ later) ≡ second meaning c tracks m h later
-  behind-whole x later h len e =
+  after-whole : (x later : List ℕ) (h : Header) → length x ≡ need x → header_at x ≡ steps.Whole h → after_moof meaning c tracks m (x ++ later) ≡ second meaning c tracks m h later
+  after-whole x later h len e =
       let w = whole_is x h e in
       let same : h.header_len ≡ length x = omega (arith, w.1) in
-      behind-header x later (steps.Whole h) len e ∙ ap (second meaning c tracks m h) (ap (λ n. drop n (x ++ later)) same ∙ drop-append_seam x later)
+      after-header x later (steps.Whole h) len e ∙ ap (second meaning c tracks m h) (ap (λ n. drop n (x ++ later)) same ∙ drop-append_seam x later)
 
-  pub behind-bad : (x later : List ℕ) → length x ≡ need x → header_at x ≡ steps.BadSize → after_moof meaning c tracks m (x ++ later) ≡ Last (at_fault BadSize (kind_of x) (c.at + length m))
-  behind-bad x later len e = behind-header x later steps.BadSize len e ∙ ap (λ k. Last (at_fault BadSize k (c.at + length m))) (kind_of-append x later (omega (arith, need-least x)))
+  pub after-bad : (x later : List ℕ) → length x ≡ need x → header_at x ≡ steps.BadSize → after_moof meaning c tracks m (x ++ later) ≡ Last (at_fault BadSize (kind_of x) (c.at + length m))
+  after-bad x later len e = after-header x later steps.BadSize len e ∙ ap (λ k. Last (at_fault BadSize k (c.at + length m))) (kind_of-append x later (omega (arith, need-least x)))
 
-  pub behind-more : (x : List ℕ) → 0 < length x → length x < need x → after_moof meaning c tracks m x ≡ Last (cut_off Truncated (kind_of x) (c.at + length m))
-  behind-more x some short = behind-some x some ∙ ap (after_moof_by meaning c tracks m x) (is_cut x short)
+  pub after-more : (x : List ℕ) → 0 < length x → length x < need x → after_moof meaning c tracks m x ≡ Last (cut_off Truncated (kind_of x) (c.at + length m))
+  after-more x some short = after-some x some ∙ ap (after_moof_by meaning c tracks m x) (is_cut x short)
 
-  pub behind-none : after_moof meaning c tracks m [] ≡ Last (cut_off MdatMissing (Some moof) c.at)
+  pub after-none : after_moof meaning c tracks m [] ≡ Last (cut_off MdatMissing (Some moof) c.at)
   unfolding after_moof
-  behind-none = refl
+  after-none = refl
 
   module _ (h : Header) (x : List ℕ) (len : length x ≡ need x) (is : header_at x ≡ steps.Whole h) (later : List ℕ) where
     pub second-far : longest < least_end (c.at + length m) h h.size → after_moof meaning c tracks m (x ++ later) ≡ faulty (fault StreamTooLong (Some h.kind) (c.at + length m))
-    second-far far = behind-whole x later h len is ∙ rw (nat_lt_true longest (least_end (c.at + length m) h h.size) far) refl
+    second-far far = after-whole x later h len is ∙ rw (nat_lt_true longest (least_end (c.at + length m) h h.size) far) refl
 
     second-near : (k : Kind) → least_end (c.at + length m) h h.size ≤ longest → kind_in h.kind.0 ≡ k → after_moof meaning c tracks m (x ++ later) ≡ second_by meaning c tracks m h later k
-    second-near k near e = behind-whole x later h len is ∙ rw (nat_lt_false longest (least_end (c.at + length m) h h.size) near) (ap (second_by meaning c tracks m h later) e)
+    second-near k near e = after-whole x later h len is ∙ rw (nat_lt_false longest (least_end (c.at + length m) h h.size) near) (ap (second_by meaning c tracks m h later) e)
 
     missing : (k : Kind) → (k ≡ Mdat → ⊥) → second_by meaning c tracks m h later k ≡ faulty (fault MdatMissing (Some moof) c.at)
     missing Moov other = refl
@@ -77,28 +77,28 @@ module _ (meaning : Meaning) (c : Context) (tracks : List Track) (m : List ℕ) 
 
 -- the same, where the box begins at `next`
 module _ (meaning : Meaning) (c : Context) (tracks : List Track) (m : List ℕ) (next : ℕ) (same : next ≡ c.at + length m) (h : Header) (x : List ℕ) (len : length x ≡ need x) (is : header_at x ≡ steps.Whole h) (later : List ℕ) where
-  pub far-behind : longest < least_end next h h.size → after_moof meaning c tracks m (x ++ later) ≡ faulty (fault StreamTooLong (Some h.kind) next)
-  far-behind far = second-far meaning c tracks m h x len is later (subst (λ n. longest < least_end n h h.size) same far) ∙ ap (λ n. faulty (fault StreamTooLong (Some h.kind) n)) (sym same)
+  pub far-after : longest < least_end next h h.size → after_moof meaning c tracks m (x ++ later) ≡ faulty (fault StreamTooLong (Some h.kind) next)
+  far-after far = second-far meaning c tracks m h x len is later (subst (λ n. longest < least_end n h h.size) same far) ∙ ap (λ n. faulty (fault StreamTooLong (Some h.kind) n)) (sym same)
 
-  near-behind : least_end next h h.size ≤ longest → least_end (c.at + length m) h h.size ≤ longest
-  near-behind near = subst (λ n. least_end n h h.size ≤ longest) same near
+  near-after : least_end next h h.size ≤ longest → least_end (c.at + length m) h h.size ≤ longest
+  near-after near = subst (λ n. least_end n h h.size ≤ longest) same near
 
-  pub missing-behind : least_end next h h.size ≤ longest → (kind_in h.kind.0 ≡ Mdat → ⊥) → after_moof meaning c tracks m (x ++ later) ≡ faulty (fault MdatMissing (Some moof) c.at)
-  missing-behind near other = second-missing meaning c tracks m h x len is later (near-behind near) other
+  pub missing-after : least_end next h h.size ≤ longest → (kind_in h.kind.0 ≡ Mdat → ⊥) → after_moof meaning c tracks m (x ++ later) ≡ faulty (fault MdatMissing (Some moof) c.at)
+  missing-after near other = second-missing meaning c tracks m h x len is later (near-after near) other
 
-  pub misplaced-behind : (f : Fault) → least_end next h h.size ≤ longest → kind_in h.kind.0 ≡ Mdat → fragment_fault meaning (fragment c tracks m h) ≡ Some f → after_moof meaning c tracks m (x ++ later) ≡ faulty f
-  misplaced-behind f near mdat bad = second-misplaced meaning c tracks m h x len is later f (near-behind near) mdat bad
+  pub misplaced-after : (f : Fault) → least_end next h h.size ≤ longest → kind_in h.kind.0 ≡ Mdat → fragment_fault meaning (fragment c tracks m h) ≡ Some f → after_moof meaning c tracks m (x ++ later) ≡ faulty f
+  misplaced-after f near mdat bad = second-misplaced meaning c tracks m h x len is later f (near-after near) mdat bad
 
 -- a box that doesn't go too far has a header that doesn't
 pub head-end : (at : ℕ) (h : Header) (size : Size) → HasRoom size h.header_len → least_end at h size ≤ longest → at + h.header_len ≤ longest
 head-end at h (Exact s) room near = omega (arith, room, near)
 head-end at h ToEnd room near = near
 
--- the payload of an mdat behind a moof
+-- the payload of an mdat after a moof
 pub payload-of : (p : Payload) (c : Context) (tracks : List Track) (m : List ℕ) (next : ℕ) (h : Header) → next ≡ c.at + length m → p.start ≡ next + h.header_len → p.end ≡ end_of next h.size → p ≡ (fragment c tracks m h).payload
 payload-of p c tracks m next h same start end =
     ap (λ n. record { start = n; end = p.end }) (start ∙ ap (λ n. n + h.header_len) same) ∙ ap (λ e. record { start = c.at + length m + h.header_len; end = e }) (end ∙ ap (λ n. end_of n h.size) same)
 
--- a run that doesn't stand where it may is at fault
+-- a run that may not lie where it does is at fault
 pub misplaced-run : (meaning : Meaning) (p : Payload) (f : Fragment) (g : Fault) → p ≡ f.payload → place_fault p (moof_runs f.moof f.tracks) ≡ Some g → fragment_fault meaning f ≡ Some g
 misplaced-run meaning p f g same bad = ap (λ r. option_or r (meaning.refuses f)) (ap (λ q. place_fault q (moof_runs f.moof f.tracks)) (sym same) ∙ bad)

@@ -1,4 +1,4 @@
--- What bytes bring that a machine takes from the front of a piece.
+-- Bytes that a machine takes from the front of the input.
 use Rattle.std.proofs.Common.{◌≡◌, ℕ, ◌+◌, ◌≤◌, List, ◌++◌, length, refl, arith, None, Some, Option}
 use Rattle.mp4_box.specs.declared.headers.FourCc.{FourCc}
 use Rattle.mp4_box.specs.declared.headers.Header.{Header}
@@ -6,20 +6,20 @@ use Rattle.mp4_box.specs.declared.headers.Step.TheVariants as steps
 use Rattle.mp4_box.specs.Headers.{header_at, need}
 use Rattle.mp4_box.proofs.HeaderLemmas.{bad_is, whole_is}
 use Rattle.mp4_init.specs.declared.table.Track.{Track}
-use Rattle.mp4_machine.specs.Pieces.{GoesOn, Outside}
+use Rattle.mp4_machine.specs.Inputs.{Environment, GoesOn}
 use Rattle.mp4_machine.specs.Readings.{then_read}
-use Rattle.mp4_machine.proofs.StandingLemmas.{GoesOn-gathered}
+use Rattle.mp4_machine.proofs.ContinuationLemmas.{GoesOn-gathered}
 use Rattle.mp4_grammar.specs.Contexts.{Context, table_of}
-use Rattle.mp4_grammar.specs.Items.{kept_body, reads_in}
+use Rattle.mp4_grammar.specs.Items.{buffered_body, reads_in}
 use Rattle.mp4_grammar.specs.Meanings.{Meaning}
-use Rattle.mp4_fragment_machine.specs.Places.{InHeld, standing}
-use Rattle.mp4_fragment_machine.specs.States.{behind_body}
-use Rattle.mp4_fragment_machine.specs.declared.state.Waiting.{Waiting}
+use Rattle.mp4_fragment_machine.specs.Places.{InBuffered, continuation_at}
+use Rattle.mp4_fragment_machine.specs.States.{after_body}
+use Rattle.mp4_fragment_machine.specs.declared.state.PendingMoof.{PendingMoof}
 
 -- bytes of a box came that is held
-pub GoesOn-held : (meaning : Meaning) (o : Outside) (c : Context) (kind : FourCc) (size : ℕ) (held x : List ℕ) → GoesOn o o (standing meaning (InHeld c kind size held)) x (standing meaning (InHeld c kind size (held ++ x)))
+pub GoesOn-held : (meaning : Meaning) (o : Environment) (c : Context) (kind : FourCc) (size : ℕ) (held x : List ℕ) → GoesOn o o (continuation_at meaning (InBuffered c kind size held)) x (continuation_at meaning (InBuffered c kind size (held ++ x)))
 GoesOn-held meaning o c kind size held x =
-    GoesOn-gathered o (λ l. then_read (reads_in meaning) (kept_body meaning c kind size l)) c.at (table_of c.tracks + size) held x (held ++ x) refl
+    GoesOn-gathered o (λ l. then_read (reads_in meaning) (buffered_body meaning c kind size l)) c.at (table_of c.tracks + size) held x (held ++ x) refl
 
 -- bytes that are no header, or are one, are just those that are needed
 pub len_of_bad : (x : List ℕ) → length x ≤ need x → header_at x ≡ steps.BadSize → length x ≡ need x
@@ -28,7 +28,7 @@ len_of_bad x most e = omega (arith, most, bad_is x e)
 pub len_of_whole : (x : List ℕ) (h : Header) → length x ≤ need x → header_at x ≡ steps.Whole h → length x ≡ need x
 len_of_whole x h most e = omega (arith, most, (whole_is x h e).0)
 
--- behind a body the next box begins
-pub behind_at : (number : ℕ) (tracks : Option (List Track)) (w : Option Waiting) (next : ℕ) → (behind_body number tracks w next).at ≡ next
-behind_at number tracks None next = refl
-behind_at number tracks (Some w) next = refl
+-- after a body the next box begins
+pub after_at : (number : ℕ) (tracks : Option (List Track)) (w : Option PendingMoof) (next : ℕ) → (after_body number tracks w next).at ≡ next
+after_at number tracks None next = refl
+after_at number tracks (Some w) next = refl

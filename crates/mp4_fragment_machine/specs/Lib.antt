@@ -1,3 +1,3 @@
 pub mod Places
 pub mod States
-pub mod Working
+pub mod Implementation

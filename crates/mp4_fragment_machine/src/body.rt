@@ -1,148 +1,153 @@
-//! Bodies that are passed over, and what is done behind the mdat of a moof.
+//! Bodies that are passed over, and the end of the mdat of a moof.
 
 ghost use Rattle.std.specs.Prelude.{◌≡◌, ◌+◌, ◌*◌, ◌<◌, ◌≤◌, ◌^◌, [], length, min, take, Ok, Some};
 ghost use Rattle.mp4_frag.specs.Moofs.{moof_of, moof_samples, moof_trafs};
 ghost use Rattle.mp4_frag.specs.Settling.{settled, timed_of};
 ghost use Rattle.mp4_ledger.specs.Memory.{given_back};
 ghost use Rattle.mp4_machine.specs.Bodies.{longest};
-ghost use Rattle.mp4_fragment_machine.specs.Places.{Unlent};
-ghost use Rattle.mp4_fragment_machine.specs.States.{IsState, IsWaiting, MayWait, moof_in, taken_by};
-ghost use Rattle.mp4_fragment_machine.specs.Working.Steps.{CanStep, Consumes, GoesTo, at_state, lent_ledger};
+ghost use Rattle.mp4_fragment_machine.specs.Places.{Untouched};
+ghost use Rattle.mp4_fragment_machine.specs.States.{IsPendingMoof, IsState, MayBePending, moof_in, taken_by};
+ghost use Rattle.mp4_fragment_machine.specs.Implementation.Steps.{CanStep, Consumes, GoesTo, at_state, ledger_alone};
 ghost use Rattle.mp4_fragment_machine.specs.declared.state.State.TheVariants as states;
 
-use crate::state::{Counter, Kept, State, Taken, Waiting};
+use crate::state::{Counter, PendingMoof, Session, State, Taken};
 use mp4_frag::Moof;
 use mp4_init::TrackList;
 use mp4_ledger::Ledger;
 use mp4_machine::{Body, OpenBody, Stop};
 
-/// Ends the tracks behind a moof and its mdat, and gives the moof and its list back.
+/// Ends the tracks after a moof and its mdat, and gives the moof and its list back.
 pub(crate) fn end_fragment(
-    waiting: Waiting,
+    pending_moof: PendingMoof,
     tracks: &mut TrackList,
     ledger: &mut Ledger,
     counter: &mut Counter,
 )
-    requires waiting { IsWaiting (Some tracks.old) waiting }
-    requires claim { waiting.moof.size + 64 * length waiting.runs.rows ≤ ledger.old.live }
+    requires pending_moof { IsPendingMoof (Some tracks.old) pending_moof }
+    requires claim { pending_moof.moof.size + 64 * length pending_moof.runs.rows ≤ ledger.old.live }
     requires steps { counter.old.steps.rows < 2 ^ 127 }
-    ensures tracks { tracks.new ≡ settled tracks.old (moof_trafs (moof_in waiting) tracks.old) }
+    ensures tracks { tracks.new ≡ settled tracks.old (moof_trafs (moof_in pending_moof) tracks.old) }
     ensures len { length tracks.new ≡ length tracks.old }
     ensures back { ledger.new ≡ given_back (given_back ledger.old
-        (64 * length waiting.runs.rows)) waiting.moof.size }
+        (64 * length pending_moof.runs.rows)) pending_moof.moof.size }
     ensures tally { counter.new.tally ≡ counter.old.tally }
-    ensures walked { counter.new.steps.rows ≡
-        counter.old.steps.rows + timed_of (moof_of (moof_in waiting)) }
+    ensures rows_read { counter.new.steps.rows ≡
+        counter.old.steps.rows + timed_of (moof_of (moof_in pending_moof)) }
     ensures few { counter.new.steps.rows ≤
-        counter.old.steps.rows + moof_samples (moof_in waiting) }
+        counter.old.steps.rows + moof_samples (moof_in pending_moof) }
 {
-    let Waiting { moof, runs } = waiting;
+    let PendingMoof { moof, runs } = pending_moof;
     let again = Moof::again(moof.bytes(), moof.offset(), tracks);
     again.settle(tracks, &mut counter.steps);
     runs.back(ledger);
     moof.back(ledger);
 }
 
-/// Gives the moof back that waits, if one does, and its list.
-pub(crate) fn back(waiting: Option<Waiting>, ledger: &mut Ledger)
-    requires { taken_by waiting ≤ ledger.old.live }
-    ensures { ledger.new ≡ given_back ledger.old (taken_by waiting) }
+/// Gives a pending moof and its list back, if there is one.
+pub(crate) fn back(pending_moof: Option<PendingMoof>, ledger: &mut Ledger)
+    requires { taken_by pending_moof ≤ ledger.old.live }
+    ensures { ledger.new ≡ given_back ledger.old (taken_by pending_moof) }
 {
-    if let Some(Waiting { moof, runs }) = waiting {
+    if let Some(PendingMoof { moof, runs }) = pending_moof {
         runs.back(ledger);
         moof.back(ledger);
     }
 }
 
-/// Leaves a body of which all came: its moof is done, if one waits.
-pub(crate) fn leave(body: &Body, waiting: Option<Waiting>, kept: &mut Kept, ledger: &mut Ledger)
+/// Leaves a body of which all bytes came: a pending moof is done.
+pub(crate) fn leave(
+    body: &Body,
+    pending_moof: Option<PendingMoof>,
+    session: &mut Session,
+    ledger: &mut Ledger,
+)
     requires none { body.now.left ≡ 0 }
     requires end { body.now.next ≤ longest }
-    requires waiting { MayWait kept.old.tracks waiting }
-    requires empty { kept.old.head ≡ [] }
-    requires can { CanStep kept.old ledger.old (states.Body body.now waiting) }
-    ensures { (u : Unlent) → GoesTo (lent_ledger u ledger.old ledger.new) kept.old kept.new
-        (at_state kept.old (states.Body body.now waiting)) [] (states.Header body.now.next) }
+    requires pending_moof { MayBePending session.old.tracks pending_moof }
+    requires empty { session.old.head ≡ [] }
+    requires can { CanStep session.old ledger.old (states.Body body.now pending_moof) }
+    ensures { (u : Untouched) → GoesTo (ledger_alone u ledger.old ledger.new) session.old session.new
+        (at_state session.old (states.Body body.now pending_moof)) [] (states.Header body.now.next) }
 {
     let _ = body;
-    let Some(waiting) = waiting else {
+    let Some(pending_moof) = pending_moof else {
         return;
     };
-    match &mut kept.tracks {
-        Some(list) => end_fragment(waiting, list, ledger, &mut kept.counter),
+    match &mut session.tracks {
+        Some(list) => end_fragment(pending_moof, list, ledger, &mut session.counter),
         None => unreachable!(),
     }
 }
 
-/// What is taken next where so much of a body is left: where none is, its moof is done, if one waits.
+/// The state where so much of a body is left: where nothing is, a pending moof is done.
 pub(crate) fn arrive(
     body: Body,
-    waiting: Option<Waiting>,
-    kept: &mut Kept,
+    pending_moof: Option<PendingMoof>,
+    session: &mut Session,
     ledger: &mut Ledger,
 ) -> State
     requires body { (body.left ≤ body.next) × (body.next ≤ longest) }
-    requires waiting { MayWait kept.old.tracks waiting }
-    requires empty { kept.old.head ≡ [] }
-    requires can { CanStep kept.old ledger.old (states.Body body waiting) }
-    ensures { (u : Unlent) → GoesTo (lent_ledger u ledger.old ledger.new) kept.old kept.new
-        (at_state kept.old (states.Body body waiting)) [] result }
+    requires pending_moof { MayBePending session.old.tracks pending_moof }
+    requires empty { session.old.head ≡ [] }
+    requires can { CanStep session.old ledger.old (states.Body body pending_moof) }
+    ensures { (u : Untouched) → GoesTo (ledger_alone u ledger.old ledger.new) session.old session.new
+        (at_state session.old (states.Body body pending_moof)) [] result }
 {
     if body.left > 0 {
-        return State::Body(body, waiting);
+        return State::Body(body, pending_moof);
     }
-    leave(&body, waiting, kept, ledger);
+    leave(&body, pending_moof, session, ledger);
     State::Header { at: body.next }
 }
 
-/// Takes all that is left of a body from the front of a piece: how many bytes.
+/// Takes the rest of a body from the front of the input. Returns how many bytes.
 pub(crate) fn end_body(
     body: Body,
-    waiting: Option<Waiting>,
-    piece: &[u8],
-    kept: &mut Kept,
+    pending_moof: Option<PendingMoof>,
+    input: &[u8],
+    session: &mut Session,
     ledger: &mut Ledger,
 ) -> usize
-    requires within { body.left ≤ length piece.now }
-    requires state { IsState kept.old.tracks kept.old.head (states.Body body waiting) }
-    requires can { CanStep kept.old ledger.old (states.Body body waiting) }
-    ensures { (u : Unlent) → (0 < result) × (result ≤ length piece.now) ×
-        GoesTo (lent_ledger u ledger.old ledger.new) kept.old kept.new
-        (at_state kept.old (states.Body body waiting)) (take result piece.now) (states.Header body.next) }
+    requires within { body.left ≤ length input.now }
+    requires state { IsState session.old.tracks session.old.head (states.Body body pending_moof) }
+    requires can { CanStep session.old ledger.old (states.Body body pending_moof) }
+    ensures { (u : Untouched) → (0 < result) × (result ≤ length input.now) ×
+        GoesTo (ledger_alone u ledger.old ledger.new) session.old session.new
+        (at_state session.old (states.Body body pending_moof)) (take result input.now) (states.Header body.next) }
 {
-    let _ = piece;
+    let _ = input;
     let count = body.left as usize;
-    leave(&Body { left: 0, ..body }, waiting, kept, ledger);
+    leave(&Body { left: 0, ..body }, pending_moof, session, ledger);
     count
 }
 
-/// Takes a piece of a body that goes to the end of the stream.
+/// Takes the input of a body that goes to the end of the stream.
 ///
 /// # Errors
 ///
-/// `Stream` where it goes too far: the moof that waits is given back then.
+/// `Stream` where it goes too far: a pending moof is given back then.
 pub(crate) fn take_open(
     body: OpenBody,
-    waiting: Option<Waiting>,
-    piece: &[u8],
-    kept: &Kept,
+    pending_moof: Option<PendingMoof>,
+    input: &[u8],
+    session: &Session,
     ledger: &mut Ledger,
 ) -> Result<Taken, Stop>
-    requires some { 0 < length piece.now }
-    requires state { IsState kept.now.tracks kept.now.head (states.OpenBody body waiting) }
-    requires can { CanStep kept.now ledger.old (states.OpenBody body waiting) }
-    ensures { (u : Unlent) → Consumes (lent_ledger u ledger.old ledger.new)
-        kept.now kept.now (states.OpenBody body waiting) piece.now result }
+    requires some { 0 < length input.now }
+    requires state { IsState session.now.tracks session.now.head (states.OpenBody body pending_moof) }
+    requires can { CanStep session.now ledger.old (states.OpenBody body pending_moof) }
+    ensures { (u : Untouched) → Consumes (ledger_alone u ledger.old ledger.new)
+        session.now session.now (states.OpenBody body pending_moof) input.now result }
 {
-    let _ = kept;
+    let _ = session;
     let mut body = body;
-    match body.take(piece) {
+    match body.take(input) {
         Ok(()) => Ok(Taken {
-            count: piece.len(),
-            state: State::OpenBody(body, waiting),
+            count: input.len(),
+            state: State::OpenBody(body, pending_moof),
         }),
         Err(stop) => {
-            back(waiting, ledger);
+            back(pending_moof, ledger);
             Err(stop)
         }
     }

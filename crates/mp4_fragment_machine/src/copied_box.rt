@@ -3,36 +3,36 @@
 ghost use Rattle.std.specs.Prelude.{◌<◌, length};
 ghost use Rattle.mp4_ledger.specs.Memory.{Account};
 ghost use Rattle.mp4_fragment_machine.specs.States.{IsState};
-ghost use Rattle.mp4_fragment_machine.specs.Working.Steps.{CanStep, Consumes, lent};
+ghost use Rattle.mp4_fragment_machine.specs.Implementation.Steps.{CanStep, Consumes, borrowed};
 ghost use Rattle.mp4_fragment_machine.specs.declared.state.State.TheVariants as states;
 
-use crate::state::{Kept, State, Taken};
+use crate::state::{Session, State, Taken};
 use mp4_box::Rule;
 use mp4_ends::{Failed, Sink};
 use mp4_machine::{Block, Body, OpenBody, Stop, at_fault};
 
-/// Takes bytes of a body that is copied from the front of a piece.
+/// Takes bytes of a body that is copied from the front of the input.
 ///
 /// # Errors
 ///
 /// `Write` where a write failed.
 pub(crate) fn take_copied<W: Sink>(
     body: Body,
-    piece: &[u8],
-    kept: &Kept,
+    input: &[u8],
+    session: &Session,
     out: &mut Block,
     w: &mut W,
 ) -> Result<Taken, Stop>
-    requires some { 0 < length piece.now }
-    requires state { IsState kept.now.tracks kept.now.head (states.Copied body) }
-    ensures { (account : Account) → CanStep kept.now account (states.Copied body) →
-        Consumes (lent W.contents W.has_failed w.old w.new out.old out.new account account)
-        kept.now kept.now (states.Copied body) piece.now result }
+    requires some { 0 < length input.now }
+    requires state { IsState session.now.tracks session.now.head (states.Copied body) }
+    ensures { (account : Account) → CanStep session.now account (states.Copied body) →
+        Consumes (borrowed W.contents W.has_failed w.old w.new out.old out.new account account)
+        session.now session.now (states.Copied body) input.now result }
 {
-    let _ = kept;
+    let _ = session;
     let mut body = body;
-    let count = body.take(piece);
-    let (front, _) = piece.split_at(count);
+    let count = body.take(input);
+    let (front, _) = input.split_at(count);
     match out.put(w, front) {
         Ok(()) => {}
         Err(Failed) => return Err(Stop::Write),
@@ -49,28 +49,28 @@ pub(crate) fn take_copied<W: Sink>(
     })
 }
 
-/// Takes a piece of a body that is copied to the end of the stream.
+/// Takes the input of a body that is copied to the end of the stream.
 ///
 /// # Errors
 ///
-/// `Stream` where it goes too far: what may come of it is copied; `Write` where a write failed.
+/// `Stream` where it goes too far: the bytes before that are copied; `Write` where a write failed.
 pub(crate) fn take_open_copied<W: Sink>(
     body: OpenBody,
-    piece: &[u8],
-    kept: &Kept,
+    input: &[u8],
+    session: &Session,
     out: &mut Block,
     w: &mut W,
 ) -> Result<Taken, Stop>
-    requires some { 0 < length piece.now }
-    requires state { IsState kept.now.tracks kept.now.head (states.OpenCopied body) }
-    ensures { (account : Account) → CanStep kept.now account (states.OpenCopied body) →
-        Consumes (lent W.contents W.has_failed w.old w.new out.old out.new account account)
-        kept.now kept.now (states.OpenCopied body) piece.now result }
+    requires some { 0 < length input.now }
+    requires state { IsState session.now.tracks session.now.head (states.OpenCopied body) }
+    ensures { (account : Account) → CanStep session.now account (states.OpenCopied body) →
+        Consumes (borrowed W.contents W.has_failed w.old w.new out.old out.new account account)
+        session.now session.now (states.OpenCopied body) input.now result }
 {
-    let _ = kept;
-    let len = piece.len() as u64;
+    let _ = session;
+    let len = input.len() as u64;
     let most = body.left.min(len) as usize;
-    let (front, _) = piece.split_at(most);
+    let (front, _) = input.split_at(most);
     match out.put(w, front) {
         Ok(()) => {}
         Err(Failed) => return Err(Stop::Write),
@@ -85,7 +85,7 @@ pub(crate) fn take_open_copied<W: Sink>(
         left: body.left - len,
     };
     Ok(Taken {
-        count: piece.len(),
+        count: input.len(),
         state: State::OpenCopied(body),
     })
 }

@@ -7,26 +7,26 @@ ghost use Rattle.mp4_frag.specs.Ranges.{IsRunOf};
 ghost use Rattle.mp4_machine.specs.Ends.{sent};
 ghost use Rattle.mp4_machine.specs.Puts.{Puts};
 ghost use Rattle.mp4_grammar.specs.Samples.{sample_lines, sample_of, samples_from, samples_of_run};
-ghost use Rattle.mp4_fragment_machine.specs.States.{IsWaiting, lines_of, moof_in};
+ghost use Rattle.mp4_fragment_machine.specs.States.{IsPendingMoof, lines_of, moof_in};
 
-use crate::state::Waiting;
+use crate::state::PendingMoof;
 use mp4_ends::{Failed, Sink};
 use mp4_frag::{Cursor, Moof, Row, Rows, Run, Steps};
-use mp4_grammar::{KeptLine, Sample};
+use mp4_grammar::{CachedLine, Sample};
 use mp4_init::TrackList;
 use mp4_machine::Block;
 
-/// From so many rows on the lines of a run keep what stays from line to line. Fewer may not spare what it costs to begin.
+/// From so many rows on it is faster to keep the fields that rarely change from line to line.
 const MANY: u32 = 16;
 
-/// The sample of a row of a run that stands at this cursor.
+/// The sample of a row of a run at this cursor.
 fn sample_at(run: &Run, row: &Row, at: Cursor) -> Sample
     ensures { result ≡ sample_of run.now row.now at.time at.place }
 {
     Sample::of(run, row, at.time, at.place)
 }
 
-/// Puts the lines of the samples that these rows of a run are, of which the first stands at this cursor.
+/// Puts the lines of the samples of these rows of a run, the first of which is at this cursor.
 #[tactic(auto, using(mp4_frag::proofs::CursorLemmas::row_fits, mp4_frag::proofs::CursorLemmas::time_fits, mp4_frag::proofs::CursorLemmas::place_fits))]
 fn put_rows<W: Sink>(
     run: &Run,
@@ -52,18 +52,18 @@ fn put_rows<W: Sink>(
     }
 }
 
-/// The line of a sample that is in all as the run says of those that say nothing themselves.
-fn usual_line(run: &Run, at: Cursor) -> KeptLine {
+/// The line of a sample that has only the defaults of its run.
+fn common_line(run: &Run, at: Cursor) -> CachedLine {
     let row = Row {
         duration: run.duration,
         size: run.size,
         flags: run.flags,
         offset: 0,
     };
-    KeptLine::of(&sample_at(run, &row, at))
+    CachedLine::of(&sample_at(run, &row, at))
 }
 
-/// Puts the same lines as `put_rows`, and keeps what stays from line to line.
+/// Puts the same lines as `put_rows`, and keeps the text that rarely changes from line to line.
 #[tactic(auto, using(mp4_frag::proofs::CursorLemmas::row_fits, mp4_frag::proofs::CursorLemmas::time_fits, mp4_frag::proofs::CursorLemmas::place_fits))]
 fn put_many_rows<W: Sink>(
     run: &Run,
@@ -76,7 +76,7 @@ fn put_many_rows<W: Sink>(
     ensures { Puts (sent W.contents W.has_failed w.old w.new) out.old out.new
         (sample_lines (samples_from run.now rows.old from.time from.place)) result }
 {
-    let mut line = usual_line(run, from);
+    let mut line = common_line(run, from);
     let mut cursor = from;
     loop {
         let Some(row) = rows.next() else {
@@ -91,8 +91,8 @@ fn put_many_rows<W: Sink>(
     }
 }
 
-/// Puts the lines of the samples of a run that are many. It is called, so that a run of few has no place to clear for what is
-/// kept.
+/// Puts the lines of the samples of a long run. It is a call, so that a short run needn't clear the space for the kept
+/// text.
 #[inline(never)]
 fn put_many<W: Sink>(run: &Run, held: &[u8], out: &mut Block, w: &mut W) -> Result<(), Failed>
     requires { IsRunOf held.now run.now }
@@ -119,30 +119,34 @@ pub(crate) fn put_run<W: Sink>(
     put_rows(run, &mut run.rows(held), run.first_cursor(), out, w)
 }
 
-/// Puts the lines of the samples of the moof that waits, its runs in the order in which they are taken. They are so many, and
-/// are counted in `steps` as rows that were read.
+/// Puts the lines of the samples of the pending moof, its runs in the order in which they are taken. They are so many,
+/// and are counted in `steps` as rows that were read.
 pub(crate) fn put_runs<W: Sink>(
-    waiting: &Waiting,
+    pending_moof: &PendingMoof,
     samples: u64,
     tracks: &TrackList,
     steps: &mut Steps,
     out: &mut Block,
     w: &mut W,
 ) -> Result<(), Failed>
-    requires waiting { IsWaiting (Some tracks.now) waiting.now }
+    requires pending_moof { IsPendingMoof (Some tracks.now) pending_moof.now }
     requires steps { steps.old.rows < 2 ^ 127 }
-    requires samples { samples ≡ moof_samples (moof_in waiting.now) }
-    ensures walked { steps.new.rows ≡
-        steps.old.rows + moof_samples (moof_in waiting.now) }
+    requires samples { samples ≡ moof_samples (moof_in pending_moof.now) }
+    ensures rows_read { steps.new.rows ≡
+        steps.old.rows + moof_samples (moof_in pending_moof.now) }
     ensures puts { Puts (sent W.contents W.has_failed w.old w.new) out.old out.new
-        (lines_of waiting.now tracks.now) result }
+        (lines_of pending_moof.now tracks.now) result }
 {
-    let moof = Moof::again(waiting.moof.bytes(), waiting.moof.offset(), tracks);
+    let moof = Moof::again(
+        pending_moof.moof.bytes(),
+        pending_moof.moof.offset(),
+        tracks,
+    );
     steps.rows += u128::from(samples);
     let mut i = 0;
-    while i < waiting.runs.len() {
-        let run = waiting.runs.at(i, &moof, tracks);
-        match put_run(&run, waiting.moof.bytes(), out, w) {
+    while i < pending_moof.runs.len() {
+        let run = pending_moof.runs.at(i, &moof, tracks);
+        match put_run(&run, pending_moof.moof.bytes(), out, w) {
             Ok(()) => {}
             Err(Failed) => return Err(Failed),
         }

@@ -1,4 +1,4 @@
-//! The box behind a moof, which must be an mdat.
+//! The box after a moof, which must be an mdat.
 
 ghost use Rattle.std.specs.Prelude.{◌≡◌, ℕ, ◌+◌, ◌-◌, ◌*◌, ◌<◌, ◌≤◌, [], ◌++◌, List, length, Some, None, IfErr, OnOk};
 ghost use Rattle.mp4_box.specs.Headers.{HasRoom, header_at, need};
@@ -12,42 +12,44 @@ ghost use Rattle.mp4_grammar.specs.Kinds.{kind_in, moof};
 ghost use Rattle.mp4_grammar.specs.Meanings.{Meaning};
 ghost use Rattle.mp4_grammar.specs.declared.kinds.Kind.TheVariants.{Mdat};
 ghost use Rattle.mp4_machine.specs.Bodies.{fault, least_end, longest};
-ghost use Rattle.mp4_fragment_machine.specs.States.{IsWaiting, moof_in};
+ghost use Rattle.mp4_fragment_machine.specs.States.{IsPendingMoof, moof_in};
 
-use crate::state::Waiting;
-use mp4_box::{Fault, FourCc, Header, Rule, Size};
+use crate::state::PendingMoof;
+use mp4_box::types::MOOF;
+use mp4_box::{Fault, Header, Rule, Size};
 use mp4_frag::{Moof, Payload, Steps};
 use mp4_grammar::{Kind, kind_of};
 use mp4_init::TrackList;
 use mp4_machine::is_too_long;
 
-/// Whether the box with this header may stand behind the moof that waits, and the runs of the moof in it.
+/// Checks the box with this header after the pending moof, and where the runs of the moof lie in it.
 ///
 /// # Errors
 ///
-/// `StreamTooLong` where it goes too far, `MdatMissing` where it is no mdat, `RunPlace` where a run doesn't stand where it may.
+/// `StreamTooLong` where it goes too far, `MdatMissing` where it is no mdat, `RunPlace` where a run may not lie where
+/// it does.
 #[inline]
 pub(crate) fn check_mdat(
-    waiting: &Waiting,
+    pending_moof: &PendingMoof,
     header: &Header,
     tracks: &TrackList,
 ) -> Result<(), Fault>
-    requires waiting { IsWaiting (Some tracks.now) waiting.now }
+    requires pending_moof { IsPendingMoof (Some tracks.now) pending_moof.now }
     requires room { HasRoom header.now.size header.now.header_len }
-    ensures near { OnOk result (least_end (waiting.now.moof.at + waiting.now.moof.size)
+    ensures near { OnOk result (least_end (pending_moof.now.moof.at + pending_moof.now.moof.size)
         header.now header.now.size ≤ longest) }
     ensures mdat { OnOk result (kind_in header.now.kind.0 ≡ Mdat) }
     ensures good { OnOk result ((number : ℕ) → place_fault
-        (fragment (context waiting.now.moof.at (Some tracks.now) number) tracks.now
-        waiting.now.moof.bytes header.now).payload
-        (moof_runs (moof_in waiting.now) tracks.now) ≡ None) }
+        (fragment (context pending_moof.now.moof.at (Some tracks.now) number) tracks.now
+        pending_moof.now.moof.bytes header.now).payload
+        (moof_runs (moof_in pending_moof.now) tracks.now) ≡ None) }
     ensures fault { IfErr result (λ f. (meaning : Meaning) (number : ℕ) (x later : List ℕ) →
         length x ≡ need x → header_at x ≡ steps.Whole header.now →
-        after_moof meaning (context waiting.now.moof.at (Some tracks.now) number) tracks.now
-        waiting.now.moof.bytes (x ++ later) ≡ faulty f) }
+        after_moof meaning (context pending_moof.now.moof.at (Some tracks.now) number) tracks.now
+        pending_moof.now.moof.bytes (x ++ later) ≡ faulty f) }
 {
-    let at = waiting.moof.offset();
-    let next = at + waiting.moof.size();
+    let at = pending_moof.moof.offset();
+    let next = at + pending_moof.moof.size();
     if is_too_long(next, header) {
         return Err(Fault {
             rule: Rule::StreamTooLong,
@@ -56,13 +58,13 @@ pub(crate) fn check_mdat(
         });
     }
     match kind_of(header.kind) {
-        Kind::Mdat => match check_places(waiting, payload_of(next, header), tracks) {
+        Kind::Mdat => match check_places(pending_moof, payload_of(next, header), tracks) {
             Ok(()) => Ok(()),
             Err(fault) => Err(fault),
         },
         _ => Err(Fault {
             rule: Rule::MdatMissing,
-            kind: Some(FourCc(*b"moof")),
+            kind: Some(MOOF),
             offset: at,
         }),
     }
@@ -85,16 +87,24 @@ pub(crate) fn payload_of(at: u64, header: &Header) -> Payload
     }
 }
 
-/// Whether the runs of the moof that waits stand where they may in this payload.
+/// Whether the runs of the pending moof may lie where they do in this payload.
 ///
 /// # Errors
 ///
 /// `RunPlace` at the first trun that is at fault.
-fn check_places(waiting: &Waiting, payload: Payload, tracks: &TrackList) -> Result<(), Fault>
-    requires waiting { IsWaiting (Some tracks.now) waiting.now }
+fn check_places(
+    pending_moof: &PendingMoof,
+    payload: Payload,
+    tracks: &TrackList,
+) -> Result<(), Fault>
+    requires pending_moof { IsPendingMoof (Some tracks.now) pending_moof.now }
     ensures { fault_of result ≡
-        place_fault payload (moof_runs (moof_in waiting.now) tracks.now) }
+        place_fault payload (moof_runs (moof_in pending_moof.now) tracks.now) }
 {
-    let again = Moof::again(waiting.moof.bytes(), waiting.moof.offset(), tracks);
-    again.places(payload, &waiting.runs, &mut Steps { rows: 0 })
+    let again = Moof::again(
+        pending_moof.moof.bytes(),
+        pending_moof.moof.offset(),
+        tracks,
+    );
+    again.places(payload, &pending_moof.runs, &mut Steps { rows: 0 })
 }

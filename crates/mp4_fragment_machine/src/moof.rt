@@ -1,66 +1,66 @@
-//! A moof of which all came.
+//! A moof of which all bytes came.
 
 ghost use Rattle.std.specs.Prelude.{◌≡◌, ◌+◌, ◌*◌, ◌<◌, ◌≤◌, ◌^◌, [], length, None, Some, IfOk, IfErr, IfSome, OnOk, OnErr, IsSome};
-ghost use Rattle.mp4_frag.specs.Moofs.{IsRead, early_fault, moof_fault, moof_samples};
-ghost use Rattle.mp4_frag.specs.Rules.{most_samples};
+ghost use Rattle.mp4_frag.specs.Moofs.{IsRead, fault_before_times, moof_fault, moof_samples};
+ghost use Rattle.mp4_frag.specs.Rules.{most_in_moof};
 ghost use Rattle.mp4_frag.specs.Runs.{moof_at};
 ghost use Rattle.mp4_machine.specs.Bodies.{longest};
-ghost use Rattle.mp4_machine.specs.Holding.{Begins};
+ghost use Rattle.mp4_machine.specs.Buffering.{Begins};
 ghost use Rattle.mp4_machine.specs.Readings.{plus};
-ghost use Rattle.mp4_grammar.specs.Items.{walked};
-ghost use Rattle.mp4_fragment_machine.specs.Places.{Unlent};
+ghost use Rattle.mp4_grammar.specs.Items.{inspected};
+ghost use Rattle.mp4_fragment_machine.specs.Places.{Untouched};
 ghost use Rattle.mp4_fragment_machine.specs.States.{known};
-ghost use Rattle.mp4_fragment_machine.specs.Working.Steps.{Advances, CanStep, Waits, lent_ledger};
-ghost use Rattle.mp4_fragment_machine.specs.Working.Wholes.{WasLookedAt};
+ghost use Rattle.mp4_fragment_machine.specs.Implementation.Steps.{Advances, CanStep, AcceptsMoof, ledger_alone};
+ghost use Rattle.mp4_fragment_machine.specs.Implementation.InPlace.{WasReadInPlace};
 ghost use Rattle.mp4_fragment_machine.specs.declared.state.State.TheVariants as states;
 
-use crate::look::Looked;
-use crate::state::{Counter, Kept, State, Waiting};
+use crate::in_place_read::InPlaceRead;
+use crate::state::{Counter, PendingMoof, Session, State};
 use mp4_box::Fault;
 use mp4_frag::Moof;
 use mp4_init::TrackList;
 use mp4_ledger::Ledger;
-use mp4_machine::{Held, Stop};
+use mp4_machine::{BufferedBox, Stop};
 
-/// Reads a moof, and claims the list of its runs: it waits for its mdat then. Where it is refused it is given back. `looked`: what
-/// was found in it where it lies, if it was looked at there.
+/// Reads a moof, and claims the list of its runs: it is kept for its mdat then, and given back where it is refused.
+/// `found`: what was found in it in place, if it was read there.
 ///
 /// # Errors
 ///
 /// `Stream` where it is at fault; `OverLimit` or `Memory` where the claim of the list is refused.
-pub(crate) fn wait(
-    held: Held,
-    looked: Option<Looked>,
-    kept: &mut Kept,
+pub(crate) fn accept_moof(
+    held: BufferedBox,
+    found: Option<InPlaceRead>,
+    session: &mut Session,
     ledger: &mut Ledger,
-) -> Result<Waiting, Stop>
-    requires known { kept.old.tracks ≡ Some (known kept.old.tracks) }
+) -> Result<PendingMoof, Stop>
+    requires known { session.old.tracks ≡ Some (known session.old.tracks) }
     requires begins { Begins held.size held.bytes }
     requires near { held.at + held.size ≤ longest }
     requires whole { length held.bytes ≡ held.size }
-    requires empty { kept.old.head ≡ [] }
-    requires can { CanStep kept.old ledger.old (states.Holding held) }
-    requires looked { IfSome looked (WasLookedAt (moof_at held.bytes held.at) (known kept.old.tracks)) }
-    ensures tracks { OnOk result (kept.new.tracks ≡ kept.old.tracks) }
-    ensures waits { (u : Unlent) → Waits (lent_ledger u ledger.old ledger.new)
-        kept.old kept.new (states.Holding held) result }
-    ensures walked { OnOk result (kept.new.counter.steps.rows ≡
-        kept.old.counter.steps.rows + 2 * moof_samples (moof_at held.bytes held.at)) }
-    ensures once { OnErr result (kept.new.counter.steps.rows + kept.old.counter.tally.walked ≡
-        kept.old.counter.steps.rows + kept.new.counter.tally.walked) }
+    requires empty { session.old.head ≡ [] }
+    requires can { CanStep session.old ledger.old (states.Buffering held) }
+    requires found { IfSome found (WasReadInPlace (moof_at held.bytes held.at) (known session.old.tracks)) }
+    ensures tracks { OnOk result (session.new.tracks ≡ session.old.tracks) }
+    ensures waits { (u : Untouched) → AcceptsMoof (ledger_alone u ledger.old ledger.new)
+        session.old session.new (states.Buffering held) result }
+    ensures rows_read { OnOk result (session.new.counter.steps.rows ≡
+        session.old.counter.steps.rows + 2 * moof_samples (moof_at held.bytes held.at)) }
+    ensures once { OnErr result (session.new.counter.steps.rows + session.old.counter.tally.inspected ≡
+        session.old.counter.steps.rows + session.new.counter.tally.inspected) }
 {
-    let Some(list) = &kept.tracks else {
+    let Some(list) = &session.tracks else {
         unreachable!();
     };
-    let moof = match read_moof(&held, looked, list, &mut kept.counter) {
+    let moof = match read_moof(&held, found, list, &mut session.counter) {
         Ok(moof) => moof,
         Err(fault) => {
             held.back(ledger);
             return Err(Stop::Stream(fault));
         }
     };
-    match moof.list(ledger, list, &mut kept.counter.steps) {
-        Ok(runs) => Ok(Waiting { moof: held, runs }),
+    match moof.list(ledger, list, &mut session.counter.steps) {
+        Ok(runs) => Ok(PendingMoof { moof: held, runs }),
         Err(refused) => {
             held.back(ledger);
             Err(Stop::of_refusal(refused))
@@ -68,72 +68,76 @@ pub(crate) fn wait(
     }
 }
 
-/// What is taken next behind a moof of which all came: the header of its mdat.
+/// The state after a moof of which all bytes came: the header of its mdat is next.
 ///
 /// # Errors
 ///
-/// As [`wait`].
+/// As [`accept_moof`].
 #[inline]
-pub(crate) fn take_moof(held: Held, kept: &mut Kept, ledger: &mut Ledger) -> Result<State, Stop>
-    requires known { kept.old.tracks ≡ Some (known kept.old.tracks) }
+pub(crate) fn take_moof(
+    held: BufferedBox,
+    session: &mut Session,
+    ledger: &mut Ledger,
+) -> Result<State, Stop>
+    requires known { session.old.tracks ≡ Some (known session.old.tracks) }
     requires begins { Begins held.size held.bytes }
     requires near { held.at + held.size ≤ longest }
     requires whole { length held.bytes ≡ held.size }
-    requires empty { kept.old.head ≡ [] }
-    requires can { CanStep kept.old ledger.old (states.Holding held) }
-    ensures { (u : Unlent) → Advances (lent_ledger u ledger.old ledger.new)
-        kept.old kept.new (states.Holding held) result }
+    requires empty { session.old.head ≡ [] }
+    requires can { CanStep session.old ledger.old (states.Buffering held) }
+    ensures { (u : Untouched) → Advances (ledger_alone u ledger.old ledger.new)
+        session.old session.new (states.Buffering held) result }
 {
-    match wait(held, None, kept, ledger) {
-        Ok(waiting) => Ok(State::Behind(waiting)),
+    match accept_moof(held, None, session, ledger) {
+        Ok(pending_moof) => Ok(State::MdatHeader(pending_moof)),
         Err(stop) => Err(stop),
     }
 }
 
-/// Reads a moof of which all came, and counts its samples as walked, once they were looked at. Where it was looked at where it lies,
-/// those rows are counted, and what was found is told again.
+/// Reads a moof of which all bytes came, and counts its samples as inspected once they were read. Where it was read in
+/// place, those rows are counted, and what was found is reported.
 ///
 /// # Errors
 ///
 /// What is at fault with it.
 fn read_moof<'a>(
-    held: &'a Held,
-    looked: Option<Looked>,
+    held: &'a BufferedBox,
+    found: Option<InPlaceRead>,
     tracks: &TrackList,
     counter: &mut Counter,
 ) -> Result<Moof<'a>, Fault>
     requires begins { Begins held.now.size held.now.bytes }
     requires whole { length held.now.bytes ≡ held.now.size }
     requires steps { counter.old.steps.rows < 2 ^ 127 }
-    requires walked { counter.old.tally.walked < 2 ^ 127 }
-    requires looked { IfSome looked (WasLookedAt (moof_at held.now.bytes held.now.at) tracks.now) }
+    requires inspected { counter.old.tally.inspected < 2 ^ 127 }
+    requires found { IfSome found (WasReadInPlace (moof_at held.now.bytes held.now.at) tracks.now) }
     ensures moof { IfOk result (λ m. m ≡ moof_at held.now.bytes held.now.at) }
     ensures good { OnOk result (IsRead (moof_at held.now.bytes held.now.at) tracks.now) }
     ensures fault { IfErr result (λ f.
         moof_fault (moof_at held.now.bytes held.now.at) tracks.now ≡ Some f) }
-    ensures tally { early_fault (moof_at held.now.bytes held.now.at) tracks.now ≡ None →
+    ensures tally { fault_before_times (moof_at held.now.bytes held.now.at) tracks.now ≡ None →
         counter.new.tally ≡
-        plus counter.old.tally (walked (moof_at held.now.bytes held.now.at)) }
-    ensures rows { early_fault (moof_at held.now.bytes held.now.at) tracks.now ≡ None →
+        plus counter.old.tally (inspected (moof_at held.now.bytes held.now.at)) }
+    ensures rows { fault_before_times (moof_at held.now.bytes held.now.at) tracks.now ≡ None →
         counter.new.steps.rows ≡
         counter.old.steps.rows + moof_samples (moof_at held.now.bytes held.now.at) }
-    ensures once { counter.new.steps.rows + counter.old.tally.walked ≡
-        counter.old.steps.rows + counter.new.tally.walked }
-    ensures unwalked { IsSome (early_fault (moof_at held.now.bytes held.now.at) tracks.now) →
+    ensures once { counter.new.steps.rows + counter.old.tally.inspected ≡
+        counter.old.steps.rows + counter.new.tally.inspected }
+    ensures unread { IsSome (fault_before_times (moof_at held.now.bytes held.now.at) tracks.now) →
         counter.new ≡ counter.old }
-    ensures few { early_fault (moof_at held.now.bytes held.now.at) tracks.now ≡ None →
-        moof_samples (moof_at held.now.bytes held.now.at) ≤ most_samples }
+    ensures few { fault_before_times (moof_at held.now.bytes held.now.at) tracks.now ≡ None →
+        moof_samples (moof_at held.now.bytes held.now.at) ≤ most_in_moof }
     ensures fragments { counter.new.tally.fragments ≡ counter.old.tally.fragments }
 {
-    if let Some(looked) = looked {
-        return match looked.count(counter) {
+    if let Some(found) = found {
+        return match found.count(counter) {
             Ok(()) => Ok(Moof::again(held.bytes(), held.offset(), tracks)),
             Err(fault) => Err(fault),
         };
     }
     let before = counter.steps.rows;
     let read = Moof::read(held.bytes(), held.offset(), tracks, &mut counter.steps);
-    counter.tally.walked += counter.steps.rows - before;
+    counter.tally.inspected += counter.steps.rows - before;
     match read {
         Ok(moof) => Ok(moof),
         Err(fault) => Err(fault),

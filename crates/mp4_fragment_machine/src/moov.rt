@@ -1,45 +1,46 @@
-//! A moov of which all came.
+//! A moov of which all bytes came.
 
 ghost use Rattle.std.specs.Prelude.{◌≡◌, ◌+◌, ◌≤◌, [], length, None, Some};
 ghost use Rattle.mp4_machine.specs.Ends.{sent};
 ghost use Rattle.mp4_machine.specs.Puts.{Puts};
 ghost use Rattle.mp4_machine.specs.Bodies.{longest};
-ghost use Rattle.mp4_machine.specs.Holding.{Begins};
-ghost use Rattle.mp4_recut.specs.Plans.{plan_meaning};
-ghost use Rattle.mp4_fragment_machine.specs.Working.Steps.{Advances, CanStep, lent};
-ghost use Rattle.mp4_fragment_machine.specs.Working.Stops.{stop_of};
+ghost use Rattle.mp4_machine.specs.Buffering.{Begins};
+ghost use Rattle.mp4_recut.specs.Operations.{operation_meaning};
+ghost use Rattle.mp4_fragment_machine.specs.Implementation.Steps.{Advances, CanStep, borrowed};
+ghost use Rattle.mp4_fragment_machine.specs.Implementation.Stops.{stop_of};
 ghost use Rattle.mp4_fragment_machine.specs.declared.state.State.TheVariants as states;
 
-use crate::state::{Kept, State};
+use crate::state::{Session, State};
 use mp4_ends::{Failed, Sink};
 use mp4_init::{InitStop, TrackList, tracks};
 use mp4_ledger::Ledger;
-use mp4_machine::{Block, Held, Stop};
-use mp4_recut::Plan;
+use mp4_machine::{Block, BufferedBox, Stop};
+use mp4_recut::Operation;
 use std::mem::replace;
 
-/// Takes the tracks of a moov, which is put into the block where it is written, and given back: what is taken next.
+/// Reads the tracks of a moov, puts the moov into the block if it is written, and gives it back. Returns the next
+/// state.
 ///
 /// # Errors
 ///
 /// `Stream` where it is at fault; `OverLimit` or `Memory` where the claim of the table is refused; `Write` where a write failed.
-// Its room is no part of the frame of its caller, which is made for each box.
+// It is a call of its own so that its room is no part of the frame of its caller, which handles every box.
 #[inline(never)]
 pub(crate) fn take_moov<W: Sink>(
-    held: Held,
-    kept: &mut Kept,
+    held: BufferedBox,
+    session: &mut Session,
     ledger: &mut Ledger,
     out: &mut Block,
     w: &mut W,
 ) -> Result<State, Stop>
-    requires none { kept.old.tracks ≡ None }
+    requires none { session.old.tracks ≡ None }
     requires begins { Begins held.size held.bytes }
     requires near { held.at + held.size ≤ longest }
     requires whole { length held.bytes ≡ held.size }
-    requires empty { kept.old.head ≡ [] }
-    requires can { CanStep kept.old ledger.old (states.Holding held) }
-    ensures { Advances (lent W.contents W.has_failed w.old w.new out.old out.new ledger.old ledger.new)
-        kept.old kept.new (states.Holding held) result }
+    requires empty { session.old.head ≡ [] }
+    requires can { CanStep session.old ledger.old (states.Buffering held) }
+    ensures { Advances (borrowed W.contents W.has_failed w.old w.new out.old out.new ledger.old ledger.new)
+        session.old session.new (states.Buffering held) result }
 {
     let list = match tracks(ledger, held.bytes(), held.offset()) {
         Ok(list) => list,
@@ -49,10 +50,10 @@ pub(crate) fn take_moov<W: Sink>(
         }
     };
     let at = held.offset() + held.size();
-    match put_moov(kept.plan, held.bytes(), out, w) {
+    match put_moov(session.operation, held.bytes(), out, w) {
         Ok(()) => {
             held.back(ledger);
-            put_tracks(&mut kept.tracks, list);
+            put_tracks(&mut session.tracks, list);
             Ok(State::Header { at })
         }
         Err(Failed) => {
@@ -63,7 +64,7 @@ pub(crate) fn take_moov<W: Sink>(
     }
 }
 
-/// Puts the tracks where none are.
+/// Puts the tracks where there are none.
 fn put_tracks(tracks: &mut Option<TrackList>, list: TrackList)
     requires { tracks.old ≡ None }
     ensures { tracks.new ≡ Some list }
@@ -79,17 +80,22 @@ fn put_tracks(tracks: &mut Option<TrackList>, list: TrackList)
 /// # Errors
 ///
 /// `Failed` where a write failed.
-fn put_moov<W: Sink>(plan: Plan, moov: &[u8], out: &mut Block, w: &mut W) -> Result<(), Failed>
+fn put_moov<W: Sink>(
+    operation: Operation,
+    moov: &[u8],
+    out: &mut Block,
+    w: &mut W,
+) -> Result<(), Failed>
     ensures { Puts (sent W.contents W.has_failed w.old w.new) out.old out.new
-        ((plan_meaning plan).of_moov moov.now) result }
+        ((operation_meaning operation).of_moov moov.now) result }
 {
-    match plan {
-        Plan::List(_) => Ok(()),
-        Plan::Split(_) => out.put(w, moov),
+    match operation {
+        Operation::List(_) => Ok(()),
+        Operation::Split(_) => out.put(w, moov),
     }
 }
 
-/// Why a machine stops at a moov whose tracks can't be had.
+/// The stop at a moov whose tracks can't be read.
 fn stop_of(why: InitStop) -> Stop
     ensures { result ≡ stop_of why }
 {

@@ -4,24 +4,23 @@ ghost use Rattle.std.specs.Prelude.{◌≡◌, ℕ, ◌≤◌, [], List};
 ghost use Rattle.mp4_box.specs.Headers.{HasRoom};
 ghost use Rattle.mp4_machine.specs.Blocks.{Passes};
 ghost use Rattle.mp4_machine.specs.Bodies.{least_end, longest};
-ghost use Rattle.mp4_machine.specs.Readings.{says, silent};
+ghost use Rattle.mp4_machine.specs.Readings.{says, no_effects};
 ghost use Rattle.mp4_grammar.specs.Kinds.{kind_in};
 ghost use Rattle.mp4_grammar.specs.declared.kinds.Kind.TheVariants.{Other};
 ghost use Rattle.mp4_ledger.specs.Memory.{Account};
-ghost use Rattle.mp4_recut.specs.Plans.{plan_meaning};
-ghost use Rattle.mp4_recut.specs.Splitting.{is_dropped};
-ghost use Rattle.mp4_fragment_machine.specs.Places.{Unlent};
-ghost use Rattle.mp4_fragment_machine.specs.Working.Steps.{Advances, CanPass, GoesTo, Lent, at_state, lent, lent_ledger, with_head};
-ghost use Rattle.mp4_fragment_machine.specs.declared.state.Kept.{Kept};
+ghost use Rattle.mp4_recut.specs.Operations.{operation_meaning};
+ghost use Rattle.mp4_fragment_machine.specs.Places.{Untouched};
+ghost use Rattle.mp4_fragment_machine.specs.Implementation.Steps.{Advances, Borrowed, CanPass, GoesTo, at_state, borrowed, ledger_alone, with_head};
+ghost use Rattle.mp4_fragment_machine.specs.declared.state.Session.{Session};
 ghost use Rattle.mp4_fragment_machine.specs.declared.state.State.TheVariants as states;
 
-use crate::state::{Kept, State};
-use mp4_box::{FourCc, Header};
+use crate::state::{Session, State};
+use mp4_box::Header;
 use mp4_ends::{Failed, Sink};
 use mp4_machine::{AnyBody, Block, Stop, body_of};
-use mp4_recut::Plan;
+use mp4_recut::{Operation, is_dropped};
 
-/// What is taken behind the header of the box at `at`, which is passed over, or copied with these bytes of its header.
+/// The state after the header of the box at `at`, which is passed over, or copied with these bytes of its header.
 ///
 /// # Errors
 ///
@@ -30,20 +29,20 @@ pub(crate) fn pass_over<W: Sink>(
     at: u64,
     header: &Header,
     head: &[u8],
-    kept: &Kept,
+    session: &Session,
     out: &mut Block,
     w: &mut W,
 ) -> Result<State, Stop>
     requires room { HasRoom header.now.size header.now.header_len }
     requires end { least_end at header.now header.now.size ≤ longest }
     requires other { kind_in header.now.kind.0 ≡ Other }
-    ensures { (account : Account) → CanPass kept.now account at header.now head.now →
-        Advances (lent W.contents W.has_failed w.old w.new out.old out.new account account)
-        (with_head head.now kept.now) kept.now (states.Header at) result }
+    ensures { (account : Account) → CanPass session.now account at header.now head.now →
+        Advances (borrowed W.contents W.has_failed w.old w.new out.old out.new account account)
+        (with_head head.now session.now) session.now (states.Header at) result }
 {
-    match kept.plan {
-        Plan::List(_) => Ok(leave_out(at, header)),
-        Plan::Split(_) => {
+    match session.operation {
+        Operation::List(_) => Ok(leave_out(at, header)),
+        Operation::Split(_) => {
             if is_dropped(header.kind) {
                 return Ok(leave_out(at, header));
             }
@@ -55,22 +54,14 @@ pub(crate) fn pass_over<W: Sink>(
     }
 }
 
-/// Whether a box of this type is left out of what is written.
-#[tactic(auto, unfolding(mp4_recut::specs::Splitting::is_dropped))]
-pub(crate) fn is_dropped(kind: FourCc) -> bool
-    ensures { result ≡ is_dropped kind.0 }
-{
-    matches!(&kind.0, b"sidx" | b"ssix" | b"mfra")
-}
-
-/// What is taken behind the header of the box at `at`, which is copied.
+/// The state after the header of the box at `at`, which is copied.
 fn copy(at: u64, header: &Header) -> State
     requires room { HasRoom header.now.size header.now.header_len }
     requires end { least_end at header.now header.now.size ≤ longest }
     requires other { kind_in header.now.kind.0 ≡ Other }
-    ensures { (l : Lent) (k : Kept) (x : List ℕ) → CanPass k l.account at header.now x →
+    ensures { (l : Borrowed) (k : Session) (x : List ℕ) → CanPass k l.account at header.now x →
         l.account' ≡ l.account → l.failed' ≡ l.failed →
-        ((b : List ℕ) → (plan_meaning k.plan).passed header.now.kind b ≡ says b) →
+        ((b : List ℕ) → (operation_meaning k.operation).passed header.now.kind b ≡ says b) →
         Passes l.written l.written' l.waiting l.waiting' x →
         GoesTo l (with_head x k) k (at_state (with_head x k) (states.Header at)) [] result }
 {
@@ -81,15 +72,15 @@ fn copy(at: u64, header: &Header) -> State
     }
 }
 
-/// What is taken behind the header of the box at `at`, which is passed over, and no byte of it told.
+/// The state after the header of the box at `at`, which is passed over without output.
 fn leave_out(at: u64, header: &Header) -> State
     requires room { HasRoom header.now.size header.now.header_len }
     requires end { least_end at header.now header.now.size ≤ longest }
     requires other { kind_in header.now.kind.0 ≡ Other }
-    ensures { (u : Unlent) (account : Account) (k : Kept) (x : List ℕ) →
+    ensures { (u : Untouched) (account : Account) (k : Session) (x : List ℕ) →
         CanPass k account at header.now x →
-        ((b : List ℕ) → (plan_meaning k.plan).passed header.now.kind b ≡ silent) →
-        GoesTo (lent_ledger u account account) (with_head x k) k
+        ((b : List ℕ) → (operation_meaning k.operation).passed header.now.kind b ≡ no_effects) →
+        GoesTo (ledger_alone u account account) (with_head x k) k
         (at_state (with_head x k) (states.Header at)) [] result }
 {
     match body_of(at, header) {

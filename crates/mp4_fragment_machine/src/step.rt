@@ -1,27 +1,27 @@
-//! How a machine takes bytes, by its state.
+//! Takes bytes, by the state of a machine.
 
 ghost use Rattle.std.specs.Prelude.{◌≡◌, ◌<◌, ◌≤◌, Option, length};
 ghost use Rattle.mp4_ledger.specs.Memory.{given_back};
 ghost use Rattle.mp4_machine.specs.declared.body.Body.{Body};
 ghost use Rattle.mp4_fragment_machine.specs.States.{IsState, kept_by};
-ghost use Rattle.mp4_fragment_machine.specs.Working.Steps.{CanStep, Consumes, lent};
+ghost use Rattle.mp4_fragment_machine.specs.Implementation.Steps.{CanStep, Consumes, borrowed};
 ghost use Rattle.mp4_fragment_machine.specs.declared.state.Recutting.{Recutting};
 ghost use Rattle.mp4_fragment_machine.specs.declared.state.State.TheVariants as states;
-ghost use Rattle.mp4_fragment_machine.specs.declared.state.Waiting.{Waiting};
+ghost use Rattle.mp4_fragment_machine.specs.declared.state.PendingMoof.{PendingMoof};
 
 use crate::body::{back, take_open};
+use crate::buffered_box::take_held;
 use crate::copied_box::{take_copied, take_open_copied};
 use crate::header::take_header;
-use crate::held_box::take_held;
 use crate::mdat_header::take_mdat_header;
 use crate::open_media::take_open_split;
-use crate::state::{Kept, OpenRecutting, Recutting, State, Taken};
+use crate::state::{OpenRecutting, Recutting, Session, State, Taken};
 use mp4_ends::Sink;
 use mp4_ledger::Ledger;
 use mp4_machine::{Block, Stop};
 
-/// Takes bytes from the front of a piece, but none of a body that states its size and is passed over or recut: those are taken in
-/// place. Where it stops, all but the table of the tracks is given back.
+/// Takes bytes from the front of the input, but none of a body of stated size that is passed over or recut: those are
+/// taken in place. At a stop everything but the track table is given back.
 ///
 /// # Errors
 ///
@@ -30,28 +30,41 @@ use mp4_machine::{Block, Stop};
 #[inline(always)]
 pub(crate) fn take_next<W: Sink>(
     state: State,
-    piece: &[u8],
-    kept: &mut Kept,
+    input: &[u8],
+    session: &mut Session,
     ledger: &mut Ledger,
     out: &mut Block,
     w: &mut W,
 ) -> Result<Taken, Stop>
-    requires some { 0 < length piece.now }
-    requires state { IsState kept.old.tracks kept.old.head state }
-    requires can { CanStep kept.old ledger.old state }
-    requires body { (b : Body) (w : Option Waiting) → state ≡ states.Body b w → ⊥ }
+    requires some { 0 < length input.now }
+    requires state { IsState session.old.tracks session.old.head state }
+    requires can { CanStep session.old ledger.old state }
+    requires body { (b : Body) (w : Option PendingMoof) → state ≡ states.Body b w → ⊥ }
     requires media { (r : Recutting) → state ≡ states.Media r → ⊥ }
-    ensures { Consumes (lent W.contents W.has_failed w.old w.new out.old out.new ledger.old ledger.new)
-        kept.old kept.new state piece.now result }
+    ensures { Consumes (borrowed W.contents W.has_failed w.old w.new out.old out.new ledger.old ledger.new)
+        session.old session.new state input.now result }
 {
     match state {
-        State::Header { at } => take_header(at, piece, kept, ledger, out, w),
-        State::Holding(held) => take_held(held, piece, kept, ledger, out, w),
-        State::Behind(waiting) => take_mdat_header(waiting, piece, kept, ledger, out, w),
-        State::OpenBody(body, waiting) => take_open(body, waiting, piece, kept, ledger),
-        State::Copied(body) => take_copied(body, piece, kept, out, w),
-        State::OpenCopied(body) => take_open_copied(body, piece, kept, out, w),
-        State::OpenMedia(recutting) => take_open_split(recutting, piece, kept, ledger, out, w),
+        State::Header { at } => take_header(at, input, session, ledger, out, w),
+        State::Buffering(held) => take_held(held, input, session, ledger, out, w),
+        State::MdatHeader(pending_moof) => take_mdat_header(
+            pending_moof,
+            input,
+            session,
+            ledger,
+            out,
+            w,
+        ),
+        State::OpenBody(body, pending_moof) => take_open(
+            body,
+            pending_moof,
+            input,
+            session,
+            ledger,
+        ),
+        State::Copied(body) => take_copied(body, input, session, out, w),
+        State::OpenCopied(body) => take_open_copied(body, input, session, out, w),
+        State::OpenMedia(recutting) => take_open_split(recutting, input, session, ledger, out, w),
         _ => unreachable!(),
     }
 }
@@ -65,10 +78,10 @@ pub(crate) fn back_state(state: State, ledger: &mut Ledger)
         State::Header { at } => {
             let _ = at;
         }
-        State::Holding(held) => held.back(ledger),
-        State::Behind(waiting) => back(Some(waiting), ledger),
-        State::Body(_, waiting) => back(waiting, ledger),
-        State::OpenBody(_, waiting) => back(waiting, ledger),
+        State::Buffering(held) => held.back(ledger),
+        State::MdatHeader(pending_moof) => back(Some(pending_moof), ledger),
+        State::Body(_, pending_moof) => back(pending_moof, ledger),
+        State::OpenBody(_, pending_moof) => back(pending_moof, ledger),
         State::Copied(_) | State::OpenCopied(_) => {}
         State::Media(
             Recutting {
@@ -76,17 +89,17 @@ pub(crate) fn back_state(state: State, ledger: &mut Ledger)
                 number: _,
                 body: _,
                 media: _,
-                waiting,
+                pending_moof,
             },
-        ) => back(Some(waiting), ledger),
+        ) => back(Some(pending_moof), ledger),
         State::OpenMedia(
             OpenRecutting {
                 cut: _,
                 number: _,
                 body: _,
                 media: _,
-                waiting,
+                pending_moof,
             },
-        ) => back(Some(waiting), ledger),
+        ) => back(Some(pending_moof), ledger),
     }
 }

@@ -6,7 +6,7 @@ use Rattle.mp4_machine.specs.declared.tally.Tally.{Tally}
 use Rattle.mp4_machine.proofs.ReadingLemmas.{Below, Below-more, IsItemwise, read_all-front}
 use Rattle.mp4_machine.proofs.PastLemmas.{effects_of}
 use Rattle.mp4_machine.proofs.ReadingItemLemmas.{Each, IsItem, IsItemAt}
-use Rattle.mp4_grammar.specs.Counts.{WalksOn}
+use Rattle.mp4_grammar.specs.Counts.{InspectsOn}
 
 pub Each-append : (P : Request → Type 0) (xs ys : List Request) → Each P xs → Each P ys → Each P (xs ++ ys)
 Each-append P [] ys h k = k
@@ -50,7 +50,7 @@ module _ {C : Type 0} (first_item : C → List ℕ → FirstItem C) (items : IsI
 
 -- ---- what is counted before
 
--- what an item asks for it asks for before it counts anything but samples that were looked at
+-- an item requests memory before it counts anything but samples that were inspected
 pub record IsUncounted (t : Tally) : Type 0 where
   pub fragments : t.fragments ≡ 0
   pub samples : t.samples ≡ 0
@@ -59,21 +59,21 @@ pub record IsUncounted (t : Tally) : Type 0 where
 -- what is counted before an ask is what is counted of the bytes before the box
 pub record IsCountBefore {C : Type 0} (reads : C → List ℕ → Reading) (at : C → ℕ) (c : C) (bytes : List ℕ) (a : Request) : Type 0 where
   pub near : at c ≤ a.at
-  pub counted : WalksOn (reads c (take (a.at - at c) bytes)).effects.tally a.counted
+  pub counted : InspectsOn (reads c (take (a.at - at c) bytes)).effects.tally a.counted
 
 pub record IsCountedFirst (at : ℕ) (a : Request) : Type 0 where
   pub place : a.at ≡ at
   pub counted : IsUncounted a.counted
 
-walks-first : (t : Tally) → IsUncounted t → WalksOn uncounted t
-walks-first t u = record { fragments = u.fragments; samples = u.samples; media_bytes = u.media_bytes; walked = omega arith }
+inspects-first : (t : Tally) → IsUncounted t → InspectsOn uncounted t
+inspects-first t u = record { fragments = u.fragments; samples = u.samples; media_bytes = u.media_bytes; inspected = omega arith }
 
-walks-behind : (u s t : Tally) → WalksOn s t → WalksOn (plus u s) (plus u t)
-walks-behind u s t w = record {
+inspects-after : (u s t : Tally) → InspectsOn s t → InspectsOn (plus u s) (plus u t)
+inspects-after u s t w = record {
   fragments = ap (λ n. u.fragments + n) w.fragments;
   samples = ap (λ n. u.samples + n) w.samples;
   media_bytes = ap (λ n. u.media_bytes + n) w.media_bytes;
-  walked = omega (arith, w.walked);
+  inspected = omega (arith, w.inspected);
 }
 
 module _ {C : Type 0} (first_item : C → List ℕ → FirstItem C) (at : C → ℕ) (items : IsItemwise first_item)
@@ -86,7 +86,7 @@ module _ {C : Type 0} (first_item : C → List ℕ → FirstItem C) (at : C → 
       let none : a.at - at c ≡ 0 = omega (arith, h.place) in
       record {
         near = omega (arith, h.place);
-        counted = subst (λ t. WalksOn t a.counted) (sym (ap (λ n. (read_all first_item c (take n b)).effects.tally) none ∙ nothing_read c)) (walks-first a.counted h.counted);
+        counted = subst (λ t. InspectsOn t a.counted) (sym (ap (λ n. (read_all first_item c (take n b)).effects.tally) none ∙ nothing_read c)) (inspects-first a.counted h.counted);
       }
 
   counted_later : (c next : C) (b rest : List ℕ) (effects : Effects) → first_item c b ≡ Whole effects next rest → (a : Request) → IsCountBefore (read_all first_item) at next rest a → IsCountBefore (read_all first_item) at c b (shifted_by effects a)
@@ -98,8 +98,8 @@ module _ {C : Type 0} (first_item : C → List ℕ → FirstItem C) (at : C → 
       ap (read_all first_item c) front_of ∙ read_all-front first_item items c (i.own ++ take (a.at - at next) rest) ∙ ap (then_read (read_all first_item)) (i.same (take (a.at - at next) rest)) in
       record {
         near = omega (arith, i.ends, s.near);
-        counted = subst (λ r. WalksOn r.effects.tally (plus effects.tally a.counted)) (sym all)
-            (walks-behind effects.tally (read_all first_item next (take (a.at - at next) rest)).effects.tally a.counted s.counted);
+        counted = subst (λ r. InspectsOn r.effects.tally (plus effects.tally a.counted)) (sym all)
+            (inspects-after effects.tally (read_all first_item next (take (a.at - at next) rest)).effects.tally a.counted s.counted);
       }
 
   pub counted_before : (c : C) (b : List ℕ) → Each (IsCountBefore (read_all first_item) at c b) (read_all first_item c b).effects.requests

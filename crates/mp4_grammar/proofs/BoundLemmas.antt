@@ -16,7 +16,7 @@ use Rattle.mp4_box.proofs.HeaderLemmas.{IsBytes-drop, IsBytes-take}
 use Rattle.mp4_init.specs.Moovs.{moov_fault}
 use Rattle.mp4_init.specs.declared.table.Track.{Track}
 use Rattle.mp4_init.proofs.TrackLemmas.{table_small}
-use Rattle.mp4_frag.specs.Moofs.{early_fault, moof_trafs, time_faults}
+use Rattle.mp4_frag.specs.Moofs.{fault_before_times, moof_trafs, time_faults}
 use Rattle.mp4_frag.specs.Runs.{moof_at}
 use Rattle.mp4_frag.proofs.SettleLemmas.{settled_length}
 use Rattle.mp4_machine.specs.Bodies.{least_end, longest, body_item, open_body_item}
@@ -28,9 +28,9 @@ use Rattle.mp4_grammar.specs.declared.kinds.Kind.TheVariants.{Moov, Moof, Mdat, 
 use Rattle.mp4_grammar.specs.Kinds.{kind_in, most_moof, most_moov}
 use Rattle.mp4_grammar.specs.Contexts.{Context, context, first_context, table_of}
 use Rattle.mp4_grammar.specs.Meanings.{Fragment, Meaning, fragment_fault, needed_in}
-use Rattle.mp4_grammar.specs.Items.{media_body, context_after_fragment, fragment, mdat_by, second_by, second, after_moof_by, after_moof, moov_box, walked, with_runs, timed_box, moof_box, whole_box_by, kept_body, keeping, passing, box_in, box_from, item_by, item, reads_in}
+use Rattle.mp4_grammar.specs.Items.{media_body, context_after_fragment, fragment, mdat_by, second_by, second, after_moof_by, after_moof, moov_box, inspected, with_runs, timed_box, moof_box, whole_box_by, buffered_body, keeping, passing, box_in, box_from, item_by, item, reads_in}
 use Rattle.mp4_grammar.proofs.AskLemmas.{Each-append, Each-shifted, asks-after, each_ask}
-use Rattle.mp4_grammar.proofs.ItemAskLemmas.{IsQuiet, IsSilent, behind-silent, passing-silent}
+use Rattle.mp4_grammar.proofs.ItemAskLemmas.{HasNoEffects, MakesNoEffects, after-silent, passing-silent}
 use Rattle.mp4_grammar.proofs.ItemLemmas.{item-items}
 use Rattle.mp4_grammar.proofs.RunCountLemmas.{runs_small}
 use Rattle.mp4_grammar.proofs.TakenLemmas.{item-own}
@@ -51,32 +51,32 @@ record IsModest (f : FirstItem Context) : Type 0 where
   requests : Each IsBounded (effects_of f).requests
   next : NextIs f
 
-next-told : (t : Effects) (f : FirstItem Context) → NextIs f → NextIs (after_effects t f)
-next-told t (Last r) h = tt
-next-told t (Whole effects next rest) h = h
+next-emitted : (t : Effects) (f : FirstItem Context) → NextIs f → NextIs (after_effects t f)
+next-emitted t (Last r) h = tt
+next-emitted t (Whole effects next rest) h = h
 
-modest-told : (t : Effects) (f : FirstItem Context) → Each IsBounded t.requests → IsModest f → IsModest (after_effects t f)
-modest-told t f h m = record {
+modest-emitted : (t : Effects) (f : FirstItem Context) → Each IsBounded t.requests → IsModest f → IsModest (after_effects t f)
+modest-emitted t f h m = record {
   requests = subst (Each IsBounded) (sym (asks-after t f)) (Each-append IsBounded t.requests _ h (Each-shifted IsBounded IsBounded t (λ a p. p) (effects_of f).requests m.requests));
-  next = next-told t f m.next;
+  next = next-emitted t f m.next;
 }
 
-modest-silent : (f : FirstItem Context) → IsSilent f → NextIs f → IsModest f
+modest-silent : (f : FirstItem Context) → MakesNoEffects f → NextIs f → IsModest f
 modest-silent f e h = record { requests = subst (Each IsBounded) (sym e) tt; next = h }
 
 modest-first : (at sum : ℕ) (f : FirstItem Context) → sum ≤ most_moov + 5 * most_moof → IsModest f → IsModest (after_effects (requests_memory at sum) f)
-modest-first at sum f h m = modest-told (requests_memory at sum) f (h, tt) m
+modest-first at sum f h m = modest-emitted (requests_memory at sum) f (h, tt) m
 
 -- ---- a fragment
 
-sized-next : (tell : List ℕ → Effects) (at : ℕ) (kind : FourCc) (next : Context) (left : ℕ) (b : List ℕ) (t : Bool) → nat_lt (length b) left ≡ t → IsTable next.tracks → NextIs (body_item tell at kind next left b)
-sized-next tell at kind next left b true e h = rw e tt
-sized-next tell at kind next left b false e h = rw e h
+sized-next : (emit : List ℕ → Effects) (at : ℕ) (kind : FourCc) (next : Context) (left : ℕ) (b : List ℕ) (t : Bool) → nat_lt (length b) left ≡ t → IsTable next.tracks → NextIs (body_item emit at kind next left b)
+sized-next emit at kind next left b true e h = rw e tt
+sized-next emit at kind next left b false e h = rw e h
 
-open-next : (tell : List ℕ → Effects) (at : ℕ) (kind : FourCc) (needed left : ℕ) (b : List ℕ) (t u : Bool) → nat_lt left (length b) ≡ t → nat_lt (length b) needed ≡ u → NextIs (open_body_item tell at kind needed left b)
-open-next tell at kind needed left b true u e d = rw e tt
-open-next tell at kind needed left b false true e d = rw (e, d) tt
-open-next tell at kind needed left b false false e d = rw (e, d) tt
+open-next : (emit : List ℕ → Effects) (at : ℕ) (kind : FourCc) (needed left : ℕ) (b : List ℕ) (t u : Bool) → nat_lt left (length b) ≡ t → nat_lt (length b) needed ≡ u → NextIs (open_body_item emit at kind needed left b)
+open-next emit at kind needed left b true u e d = rw e tt
+open-next emit at kind needed left b false true e d = rw (e, d) tt
+open-next emit at kind needed left b false false e d = rw (e, d) tt
 
 module _ (meaning : Meaning) where
   media-next : (f : Fragment) (next : ℕ) (h : Header) (size : Size) (b : List ℕ) → IsTable (Some f.tracks) → NextIs (media_body meaning f next h size b)
@@ -85,7 +85,7 @@ module _ (meaning : Meaning) where
 
   mdat-next : (f : Fragment) (next : ℕ) (h : Header) (b : List ℕ) (g : Option Fault) → IsTable (Some f.tracks) → NextIs (mdat_by meaning f next h b g)
   mdat-next f next h b (Some g) small = tt
-  mdat-next f next h b None small = next-told (meaning.accepted f) (media_body meaning f next h h.size b) (media-next f next h h.size b small)
+  mdat-next f next h b None small = next-emitted (meaning.accepted f) (media_body meaning f next h h.size b) (media-next f next h h.size b small)
 
   second_by-next : (c : Context) (tracks : List Track) (x : List ℕ) (h : Header) (b : List ℕ) (kind : Kind) → IsTable (Some tracks) → NextIs (second_by meaning c tracks x h b kind)
   second_by-next c tracks x h b Moov small = tt
@@ -97,36 +97,36 @@ module _ (meaning : Meaning) where
   second-next c tracks x h b true e small = rw e tt
   second-next c tracks x h b false e small = rw e (second_by-next c tracks x h b (kind_in h.kind.0) small)
 
-  behind_by-next : (c : Context) (tracks : List Track) (x b : List ℕ) (s : Step) → IsTable (Some tracks) → NextIs (after_moof_by meaning c tracks x b s)
-  behind_by-next c tracks x b steps.More small = tt
-  behind_by-next c tracks x b steps.BadSize small = tt
-  behind_by-next c tracks x b (steps.Whole h) small = second-next c tracks x h (drop h.header_len b) _ refl small
+  after_by-next : (c : Context) (tracks : List Track) (x b : List ℕ) (s : Step) → IsTable (Some tracks) → NextIs (after_moof_by meaning c tracks x b s)
+  after_by-next c tracks x b steps.More small = tt
+  after_by-next c tracks x b steps.BadSize small = tt
+  after_by-next c tracks x b (steps.Whole h) small = second-next c tracks x h (drop h.header_len b) _ refl small
 
-  behind-next : (c : Context) (tracks : List Track) (x b : List ℕ) → IsTable (Some tracks) → NextIs (after_moof meaning c tracks x b)
+  after-next : (c : Context) (tracks : List Track) (x b : List ℕ) → IsTable (Some tracks) → NextIs (after_moof meaning c tracks x b)
   unfolding after_moof
-  behind-next c tracks x [] small = tt
-  behind-next c tracks x (a ∷ b) small = behind_by-next c tracks x (a ∷ b) (header_at (a ∷ b)) small
+  after-next c tracks x [] small = tt
+  after-next c tracks x (a ∷ b) small = after_by-next c tracks x (a ∷ b) (header_at (a ∷ b)) small
 
 -- ---- a box that is held
 
-module _ (meaning : Meaning) (quiet : IsQuiet meaning) where
+module _ (meaning : Meaning) (quiet : HasNoEffects meaning) where
   moov-modest : (c : Context) (x rest : List ℕ) (f : Option Fault) → moov_fault c.at x ≡ f → IsBytes x → length x ≤ most_moov → IsModest (moov_box meaning c x rest f)
   moov-modest c x rest (Some f) e fits few = record { requests = tt; next = tt }
   moov-modest c x rest None e fits few =
       let small = table_small c.at x fits e in
       record { requests = (omega (arith, small, few), tt); next = omega (arith, small, few) }
 
-  timed-modest : (c : Context) (tracks : List Track) (x rest : List ℕ) (f : Option Fault) → early_fault (moof_at x c.at) tracks ≡ None → IsBytes x → length x ≤ most_moof → IsTable (Some tracks) → IsModest (timed_box meaning c tracks x rest f)
+  timed-modest : (c : Context) (tracks : List Track) (x rest : List ℕ) (f : Option Fault) → fault_before_times (moof_at x c.at) tracks ≡ None → IsBytes x → length x ≤ most_moof → IsTable (Some tracks) → IsModest (timed_box meaning c tracks x rest f)
   timed-modest c tracks x rest (Some f) e fits few small = record { requests = tt; next = tt }
   timed-modest c tracks x rest None e fits few small =
       modest-first c.at (with_runs c tracks x) (after_moof meaning c tracks x rest) (omega (arith, small, few, runs_small (moof_at x c.at) tracks fits e))
-      (modest-silent (after_moof meaning c tracks x rest) (behind-silent meaning quiet c tracks x rest) (behind-next meaning c tracks x rest small))
+      (modest-silent (after_moof meaning c tracks x rest) (after-silent meaning quiet c tracks x rest) (after-next meaning c tracks x rest small))
 
-  moof-modest : (c : Context) (tracks : List Track) (x rest : List ℕ) (f : Option Fault) → early_fault (moof_at x c.at) tracks ≡ f → IsBytes x → length x ≤ most_moof → IsTable (Some tracks) → IsModest (moof_box meaning c tracks x rest f)
+  moof-modest : (c : Context) (tracks : List Track) (x rest : List ℕ) (f : Option Fault) → fault_before_times (moof_at x c.at) tracks ≡ f → IsBytes x → length x ≤ most_moof → IsTable (Some tracks) → IsModest (moof_box meaning c tracks x rest f)
   moof-modest c tracks x rest (Some f) e fits few small = record { requests = tt; next = tt }
   moof-modest c tracks x rest None e fits few small =
       let late = least (time_faults (moof_trafs (moof_at x c.at) tracks)) in
-      modest-told (counts (walked (moof_at x c.at))) (timed_box meaning c tracks x rest late) tt (timed-modest c tracks x rest late e fits few small)
+      modest-emitted (counts (inspected (moof_at x c.at))) (timed_box meaning c tracks x rest late) tt (timed-modest c tracks x rest late e fits few small)
 
   -- how large it may be
   abbrev IsWithin : Option (List Track) → ℕ → Type 0
@@ -135,7 +135,7 @@ module _ (meaning : Meaning) (quiet : IsQuiet meaning) where
 
   whole-modest : (c : Context) (x rest : List ℕ) (tracks : Option (List Track)) → IsBytes x → IsWithin tracks (length x) → IsTable tracks → IsModest (whole_box_by meaning c x rest tracks)
   whole-modest c x rest None fits few small = moov-modest c x rest (moov_fault c.at x) refl fits few
-  whole-modest c x rest (Some tracks) fits few small = moof-modest c tracks x rest (early_fault (moof_at x c.at) tracks) refl fits few small
+  whole-modest c x rest (Some tracks) fits few small = moof-modest c tracks x rest (fault_before_times (moof_at x c.at) tracks) refl fits few small
 
   within-less : (tracks : Option (List Track)) (m n : ℕ) → m ≤ n → IsWithin tracks n → IsWithin tracks m
   within-less None m n less h = omega (arith, less, h)
@@ -145,7 +145,7 @@ module _ (meaning : Meaning) (quiet : IsQuiet meaning) where
   within-sum None s h small = omega (arith, h)
   within-sum (Some tracks) s h small = omega (arith, h, small)
 
-  kept-modest : (c : Context) (kind : FourCc) (size : ℕ) (b : List ℕ) (t : Bool) → nat_lt (length b) size ≡ t → IsBytes b → IsWithin c.tracks size → IsTable c.tracks → IsModest (kept_body meaning c kind size b)
+  kept-modest : (c : Context) (kind : FourCc) (size : ℕ) (b : List ℕ) (t : Bool) → nat_lt (length b) size ≡ t → IsBytes b → IsWithin c.tracks size → IsTable c.tracks → IsModest (buffered_body meaning c kind size b)
   kept-modest c kind size b true e fits few small = rw e (record { requests = tt; next = tt })
   kept-modest c kind size b false e fits few small =
       rw e (whole-modest c (take size b) (drop size b) c.tracks (IsBytes-take size b fits) (within-less c.tracks (length (take size b)) size (omega (arith, length-take size b)) few) small)
@@ -154,7 +154,7 @@ module _ (meaning : Meaning) (quiet : IsQuiet meaning) where
   keeping-modest c h limit s b true e fits few small = rw e (record { requests = tt; next = tt })
   keeping-modest c h limit s b false e fits few small =
       let within = within-less c.tracks s limit (ltb-false _ _ e) few in
-      rw e (modest-first c.at (table_of c.tracks + s) (kept_body meaning c h.kind s b) (within-sum c.tracks s within small) (kept-modest c h.kind s b _ refl fits within small))
+      rw e (modest-first c.at (table_of c.tracks + s) (buffered_body meaning c h.kind s b) (within-sum c.tracks s within small) (kept-modest c h.kind s b _ refl fits within small))
 
   keeping-modest_by : (c : Context) (h : Header) (limit : ℕ) (b : List ℕ) (size : Size) → IsBytes b → IsWithin c.tracks limit → IsTable c.tracks → IsModest (keeping meaning c h limit b size)
   keeping-modest_by c h limit b (Exact s) fits few small = keeping-modest c h limit s b _ refl fits few small

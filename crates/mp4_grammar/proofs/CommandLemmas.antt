@@ -1,36 +1,36 @@
--- What the commands tell grows with the bytes, asks for nothing beside the items, and counts no more samples than these have; and one tells what the other does but for the text.
+-- The effects of a command grow with the bytes, request nothing but what the items do, and count no more samples than these have; and a check has those of a listing without the text.
 use Rattle.std.proofs.Common.{ap, arith, refl, sym}
-use Rattle.mp4_machine.specs.Readings.{counts, silent}
+use Rattle.mp4_machine.specs.Readings.{counts, no_effects}
 use Rattle.mp4_machine.proofs.ReadingAskLemmas.{plus-none}
-use Rattle.mp4_machine.proofs.ReadingGrowthLemmas.{TellsMore-same}
+use Rattle.mp4_machine.proofs.ReadingGrowthLemmas.{Extends-same}
 use Rattle.mp4_grammar.specs.Commands.{command_meaning}
-use Rattle.mp4_grammar.specs.Meanings.{IsGrowing, MarksPast, counted_in}
+use Rattle.mp4_grammar.specs.Meanings.{IsGrowing, FragmentEndsPast, counted_in}
 use Rattle.mp4_grammar.specs.WithoutText.{IsWithoutText}
 use Rattle.mp4_grammar.specs.declared.command.Command.{Command}
 use Rattle.mp4_grammar.specs.declared.command.Command.TheVariants.{Samples, Check}
-use Rattle.mp4_grammar.proofs.ItemAskLemmas.{IsQuiet}
-use Rattle.mp4_grammar.proofs.WalkLemmas.{CountsSamplesOnce}
+use Rattle.mp4_grammar.proofs.ItemAskLemmas.{HasNoEffects}
+use Rattle.mp4_grammar.proofs.InspectionLemmas.{CountsSamplesOnce}
 
-making-past : (command : Command) → MarksPast (command_meaning command)
-making-past Samples = record { passed = λ kind b. tt; accepted = λ f. tt; media = λ f b. tt }
-making-past Check = record { passed = λ kind b. tt; accepted = λ f. tt; media = λ f b. tt }
+command_meaning-past : (command : Command) → FragmentEndsPast (command_meaning command)
+command_meaning-past Samples = record { passed = λ kind b. tt; accepted = λ f. tt; media = λ f b. tt }
+command_meaning-past Check = record { passed = λ kind b. tt; accepted = λ f. tt; media = λ f b. tt }
 
-pub making-growing : (command : Command) → IsGrowing (command_meaning command)
-making-growing command = record {
-  marks = making-past command;
-  media = λ f b x. TellsMore-same silent;
-  passed = λ kind b x. TellsMore-same silent;
+pub command_meaning-growing : (command : Command) → IsGrowing (command_meaning command)
+command_meaning-growing command = record {
+  fragment_ends = command_meaning-past command;
+  media = λ f b x. Extends-same no_effects;
+  passed = λ kind b x. Extends-same no_effects;
 }
 
-pub making-quiet : (command : Command) → IsQuiet (command_meaning command)
-making-quiet Samples = record { accepted = λ f. refl; media = λ f b. refl; passed = λ kind b. refl }
-making-quiet Check = record { accepted = λ f. refl; media = λ f b. refl; passed = λ kind b. refl }
+pub command_meaning-quiet : (command : Command) → HasNoEffects (command_meaning command)
+command_meaning-quiet Samples = record { accepted = λ f. refl; media = λ f b. refl; passed = λ kind b. refl }
+command_meaning-quiet Check = record { accepted = λ f. refl; media = λ f b. refl; passed = λ kind b. refl }
 
-pub making-once : (command : Command) → CountsSamplesOnce (command_meaning command)
-making-once Samples = record { accepted = λ f. omega arith; media = λ f b. refl; passed = λ kind b. refl }
-making-once Check = record { accepted = λ f. omega arith; media = λ f b. refl; passed = λ kind b. refl }
+pub command_meaning-once : (command : Command) → CountsSamplesOnce (command_meaning command)
+command_meaning-once Samples = record { accepted = λ f. omega arith; media = λ f b. refl; passed = λ kind b. refl }
+command_meaning-once Check = record { accepted = λ f. omega arith; media = λ f b. refl; passed = λ kind b. refl }
 
--- a check makes of each stream what a listing of its samples makes of it, and tells no text
+-- a check reads each stream as a listing of its samples does, and writes no text
 pub check-without : IsWithoutText (command_meaning Samples) (command_meaning Check)
 check-without = record {
   of_moov = λ x. refl;

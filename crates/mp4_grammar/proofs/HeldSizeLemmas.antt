@@ -5,7 +5,7 @@ use Rattle.mp4_box.specs.Headers.{Headed, IsBytes}
 use Rattle.mp4_box.specs.Order.{least}
 use Rattle.mp4_box.proofs.HeaderLemmas.{IsBytes-drop, IsBytes-take}
 use Rattle.mp4_init.proofs.TrackLemmas.{table_small}
-use Rattle.mp4_frag.specs.Moofs.{early_fault, moof_trafs, time_faults, IsRead}
+use Rattle.mp4_frag.specs.Moofs.{fault_before_times, moof_trafs, time_faults, IsRead}
 use Rattle.mp4_frag.specs.Runs.{moof_at}
 use Rattle.mp4_frag.proofs.SettleLemmas.{settled_length}
 use Rattle.mp4_machine.specs.Bodies.{longest}
@@ -19,9 +19,9 @@ use Rattle.mp4_grammar.specs.Items.{reads_in, with_runs}
 use Rattle.mp4_grammar.specs.Joined.{AreSound, IsMoofHere, IsMoovHere, IsOne, IsSound, Item, Movie, MovieFragment, OneBox, PassedOver, context_after, context_after_all, bytes_of, fragment_in, fragment_here, joined, item_effects, items_effects, moof_effects, tracks_in}
 use Rattle.mp4_grammar.specs.Kinds.{kind_in, most_moof, most_moov}
 use Rattle.mp4_grammar.specs.Meanings.{Fragment, Meaning}
-use Rattle.mp4_grammar.specs.Rests.{BadFragment, BadHeader, BadMoof, BadMoov, BehindMoof, CutInBody, CutInHeader, CutInHeld, CutInMedia, Ended, IsAfterMoof, IsHeld, IsRest, Large, LateMoof, NoMdat, NotMdat, Open, OpenMedia, OpenMediaCut, OpenMediaTooFar, OpenTooFar, OutOfPlace, SecondBadHeader, SecondCutInHeader, SecondTooFar, TooFar, Unsized}
-use Rattle.mp4_grammar.proofs.ItemAskLemmas.{IsQuiet}
-use Rattle.mp4_grammar.proofs.JoinLemmas.{behind-at, either-none}
+use Rattle.mp4_grammar.specs.Rests.{AfterMoof, BadFragment, BadHeader, BadMoof, BadMoov, CutInBody, CutInHeader, CutInHeld, CutInMedia, Ended, IsAfterMoof, IsBuffered, IsRest, Large, LateMoof, NoMdat, NotMdat, Open, OpenMedia, OpenMediaCut, OpenMediaTooFar, OpenTooFar, OutOfPlace, SecondBadHeader, SecondCutInHeader, SecondTooFar, TooFar, Unsized}
+use Rattle.mp4_grammar.proofs.ItemAskLemmas.{HasNoEffects}
+use Rattle.mp4_grammar.proofs.JoinLemmas.{after-at, either-none}
 use Rattle.mp4_grammar.proofs.RunCountLemmas.{runs_small}
 use Rattle.mp4_grammar.proofs.SplitLemmas.{every-stream}
 
@@ -41,11 +41,11 @@ headed_of kind b y one = record {
   cut = ap (λ l. l ++ y) one.is.whole ∙ append_assoc one.is.head one.payload y;
 }
 
--- where a moof stands the tracks are known
+-- where there is a moof the tracks are known
 table_is : (c : Context) (b : OneBox) → IsMoofHere c b → table_of c.tracks ≡ 64 * length (tracks_in c)
 table_is c b m = ap table_of m.known
 
-module _ (meaning : Meaning) (quiet : IsQuiet meaning) (moov moof : ℕ) where
+module _ (meaning : Meaning) (quiet : HasNoEffects meaning) (moov moof : ℕ) where
   abbrev IsTable : Context → Type 0
   IsTable c = table_of c.tracks ≤ moov
 
@@ -88,14 +88,14 @@ module _ (meaning : Meaning) (quiet : IsQuiet meaning) (moov moof : ℕ) where
     })
 
     -- a good moof
-    told_moof-modest : IsMoofHere c b → IsTable c → IsBytes b.bytes → IsRead (moof_at b.bytes c.at) (tracks_in c) → IsModest (moof_effects c b.bytes)
-    told_moof-modest m table fits read =
-        let early = (either-none (early_fault (moof_at b.bytes c.at) (tracks_in c)) (least (time_faults (moof_trafs (moof_at b.bytes c.at) (tracks_in c)))) read).0 in
+    emitted_moof-modest : IsMoofHere c b → IsTable c → IsBytes b.bytes → IsRead (moof_at b.bytes c.at) (tracks_in c) → IsModest (moof_effects c b.bytes)
+    emitted_moof-modest m table fits read =
+        let early = (either-none (fault_before_times (moof_at b.bytes c.at) (tracks_in c)) (least (time_faults (moof_trafs (moof_at b.bytes c.at) (tracks_in c)))) read).0 in
         let sums : most_of (moof_effects c b.bytes) ≡ max (64 * length (tracks_in c) + length b.bytes) (max (with_runs c (tracks_in c) b.bytes) 0) = refl in
         omega (arith, sums, table, table_is c b m, moof-within m, runs_small (moof_at b.bytes c.at) (tracks_in c) fits early)
 
   -- the header of one
-  held-modest : (c : Context) (y : List ℕ) (b : Headed y) (s limit : ℕ) → HoldsWithin meaning c y moov moof → IsTable c → IsHeld c s limit b.header → s ≤ limit → table_of c.tracks + s ≤ 2 * moov + 5 * moof
+  held-modest : (c : Context) (y : List ℕ) (b : Headed y) (s limit : ℕ) → HoldsWithin meaning c y moov moof → IsTable c → IsBuffered c s limit b.header → s ≤ limit → table_of c.tracks + s ≤ 2 * moov + 5 * moof
   held-modest c y b s limit w table held small = by (kind_in b.header.kind.0) refl
     where
       holds : (kind : Kind) → kind_in b.header.kind.0 ≡ kind → Holds meaning c y kind s
@@ -119,19 +119,19 @@ module _ (meaning : Meaning) (quiet : IsQuiet meaning) (moov moof : ℕ) where
       let len = length-append x.bytes mdat.bytes in
       let own = subst (λ l. HoldsWithin meaning c l moov moof) (append_assoc x.bytes mdat.bytes y) w in
       both-modest (moof_effects c x.bytes) (both (meaning.accepted (fragment_in c x mdat)) (meaning.media (fragment_in c x mdat) (drop mdat.header.header_len mdat.bytes)))
-      (told_moof-modest c x (mdat.bytes ++ y) own (omega (arith, near, len)) here table (front_bytes x.bytes mdat.bytes fits) good)
+      (emitted_moof-modest c x (mdat.bytes ++ y) own (omega (arith, near, len)) here table (front_bytes x.bytes mdat.bytes fits) good)
       (fragment-modest (fragment_in c x mdat) (drop mdat.header.header_len mdat.bytes))
 
-  -- the table behind it
+  -- the table after it
   item-table : (c : Context) (i : Item) (y : List ℕ) → HoldsWithin meaning c (bytes_of i ++ y) moov moof → IsTable c → IsBytes (bytes_of i) → IsSound meaning c i → c.at + length (bytes_of i) ≤ longest → IsTable (context_after meaning c i)
   item-table c (PassedOver b) y w table fits one near = table
   item-table c (Movie b) y w table fits (here, good) near = omega (arith, moov-within c b y w near here, table_small c.at b.bytes fits good)
   item-table c (MovieFragment x mdat) y w table fits (here, good, one, none) near =
       omega (arith, table, table_is c x here, settled_length (tracks_in c) (moof_trafs (moof_at x.bytes c.at) (tracks_in c)))
 
-  -- the boxes behind it
-  holds-behind : (c : Context) (i : Item) (y : List ℕ) (kind : Kind) (size : ℕ) → IsSound meaning c i → Holds meaning (context_after meaning c i) y kind size → Holds meaning c (bytes_of i ++ y) kind size
-  holds-behind c i y kind size sound h = record {
+  -- the boxes after it
+  holds-after : (c : Context) (i : Item) (y : List ℕ) (kind : Kind) (size : ℕ) → IsSound meaning c i → Holds meaning (context_after meaning c i) y kind size → Holds meaning c (bytes_of i ++ y) kind size
+  holds-after c i y kind size sound h = record {
     items = i ∷ h.items;
     rest = h.rest;
     cut = ap (λ l. bytes_of i ++ l) h.cut ∙ sym (append_assoc (bytes_of i) (joined h.items) h.rest);
@@ -143,10 +143,10 @@ module _ (meaning : Meaning) (quiet : IsQuiet meaning) (moov moof : ℕ) where
     small = h.small;
   }
 
-  within-behind : (c : Context) (i : Item) (y : List ℕ) → IsSound meaning c i → HoldsWithin meaning c (bytes_of i ++ y) moov moof → HoldsWithin meaning (context_after meaning c i) y moov moof
-  within-behind c i y sound w = record {
-    moovs = λ size h. w.moovs size (holds-behind c i y Moov size sound h);
-    moofs = λ size h. w.moofs size (holds-behind c i y Moof size sound h);
+  within-after : (c : Context) (i : Item) (y : List ℕ) → IsSound meaning c i → HoldsWithin meaning c (bytes_of i ++ y) moov moof → HoldsWithin meaning (context_after meaning c i) y moov moof
+  within-after c i y sound w = record {
+    moovs = λ size h. w.moovs size (holds-after c i y Moov size sound h);
+    moofs = λ size h. w.moofs size (holds-after c i y Moof size sound h);
   }
 
   -- ---- items, one after the other
@@ -162,12 +162,12 @@ module _ (meaning : Meaning) (quiet : IsQuiet meaning) (moov moof : ℕ) where
       let len = length-append (bytes_of i) (joined is) in
       let own = subst (λ l. HoldsWithin meaning c l moov moof) (append_assoc (bytes_of i) (joined is) y) w in
       let mine = front_bytes (bytes_of i) (joined is) fits in
-      let behind = items-modest is (context_after meaning c i) y (within-behind c i (joined is ++ y) first own) (item-table c i (joined is ++ y) own table mine first (omega (arith, near, len)))
-      (rest_bytes (bytes_of i) (joined is) fits) more (omega (arith, near, len, behind-at meaning c i)) in
+      let after = items-modest is (context_after meaning c i) y (within-after c i (joined is ++ y) first own) (item-table c i (joined is ++ y) own table mine first (omega (arith, near, len)))
+      (rest_bytes (bytes_of i) (joined is) fits) more (omega (arith, near, len, after-at meaning c i)) in
       record {
-        requests = both-modest (item_effects meaning c i) (items_effects meaning (context_after meaning c i) is) (item-modest c i (joined is ++ y) own table mine first (omega (arith, near, len))) behind.requests;
-        table = behind.table;
-        within = behind.within;
+        requests = both-modest (item_effects meaning c i) (items_effects meaning (context_after meaning c i) is) (item-modest c i (joined is ++ y) own table mine first (omega (arith, near, len))) after.requests;
+        table = after.table;
+        within = after.within;
       }
 
   -- ---- the rest
@@ -175,17 +175,17 @@ module _ (meaning : Meaning) (quiet : IsQuiet meaning) (moov moof : ℕ) where
   reads-modest : (r s : Reading) → r ≡ s → IsModest s.effects → IsModest r.effects
   reads-modest r s e h = rw e h
 
-  behind-modest : (c : Context) (x z : List ℕ) (r : Reading) → IsAfterMoof meaning c x z r → IsModest r.effects
-  behind-modest c x z r (NoMdat none e) = reads-modest r _ e (omega arith)
-  behind-modest c x z r (SecondCutInHeader some short e) = reads-modest r _ e (omega arith)
-  behind-modest c x z r (SecondBadHeader whole none e) = reads-modest r _ e (omega arith)
-  behind-modest c x z r (SecondTooFar b far e) = reads-modest r _ e (omega arith)
-  behind-modest c x z r (NotMdat b other near e) = reads-modest r _ e (omega arith)
-  behind-modest c x z r (BadFragment b f is near bad e) = reads-modest r _ e (omega arith)
-  behind-modest c x z r (CutInMedia b s is good short e) = reads-modest r _ e (fragment-modest (fragment_here c x b.header) b.more)
-  behind-modest c x z r (OpenMedia b goes good near enough e) = reads-modest r _ e (fragment-modest (fragment_here c x b.header) b.more)
-  behind-modest c x z r (OpenMediaCut b goes good near short e) = reads-modest r _ e (fragment-modest (fragment_here c x b.header) b.more)
-  behind-modest c x z r (OpenMediaTooFar b goes good near far e) = reads-modest r _ e (fragment-modest (fragment_here c x b.header) (take _ b.more))
+  after-modest : (c : Context) (x z : List ℕ) (r : Reading) → IsAfterMoof meaning c x z r → IsModest r.effects
+  after-modest c x z r (NoMdat none e) = reads-modest r _ e (omega arith)
+  after-modest c x z r (SecondCutInHeader some short e) = reads-modest r _ e (omega arith)
+  after-modest c x z r (SecondBadHeader whole none e) = reads-modest r _ e (omega arith)
+  after-modest c x z r (SecondTooFar b far e) = reads-modest r _ e (omega arith)
+  after-modest c x z r (NotMdat b other near e) = reads-modest r _ e (omega arith)
+  after-modest c x z r (BadFragment b f is near bad e) = reads-modest r _ e (omega arith)
+  after-modest c x z r (CutInMedia b s is good short e) = reads-modest r _ e (fragment-modest (fragment_here c x b.header) b.more)
+  after-modest c x z r (OpenMedia b goes good near enough e) = reads-modest r _ e (fragment-modest (fragment_here c x b.header) b.more)
+  after-modest c x z r (OpenMediaCut b goes good near short e) = reads-modest r _ e (fragment-modest (fragment_here c x b.header) b.more)
+  after-modest c x z r (OpenMediaTooFar b goes good near far e) = reads-modest r _ e (fragment-modest (fragment_here c x b.header) (take _ b.more))
 
   rest-modest : (c : Context) (y : List ℕ) (r : Reading) → HoldsWithin meaning c y moov moof → IsTable c → IsBytes y → IsRest meaning c y r → IsModest r.effects
   rest-modest c y r w table fits (Ended none e) = reads-modest r _ e (omega arith)
@@ -208,10 +208,10 @@ module _ (meaning : Meaning) (quiet : IsQuiet meaning) (moov moof : ℕ) where
   rest-modest c y r w table fits (LateMoof b f here near good late e) =
       let own = subst (λ l. HoldsWithin meaning c l moov moof) b.cut w in
       reads-modest r _ e (omega (arith, table, table_is c b.box here, moof-within c b.box b.more own near here))
-  rest-modest c y r w table fits (BehindMoof b s here near good behind e) =
+  rest-modest c y r w table fits (AfterMoof b s here near good after e) =
       let own = subst (λ l. HoldsWithin meaning c l moov moof) b.cut w in
       let mine = front_bytes b.box.bytes b.more (subst IsBytes b.cut fits) in
-      reads-modest r _ e (both-modest (moof_effects c b.box.bytes) s.effects (told_moof-modest c b.box b.more own near here table mine good) (behind-modest c b.box.bytes b.more s behind))
+      reads-modest r _ e (both-modest (moof_effects c b.box.bytes) s.effects (emitted_moof-modest c b.box b.more own near here table mine good) (after-modest c b.box.bytes b.more s after))
 
   -- ---- the whole
 

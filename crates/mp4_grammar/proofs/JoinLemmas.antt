@@ -11,7 +11,7 @@ use Rattle.mp4_box.specs.Order.{least}
 use Rattle.mp4_box.proofs.HeaderAnswers.{head-whole, head-need}
 use Rattle.mp4_init.specs.Moovs.{moov_fault}
 use Rattle.mp4_init.specs.declared.table.Track.{Track}
-use Rattle.mp4_frag.specs.Moofs.{early_fault, moof_trafs, time_faults, IsRead}
+use Rattle.mp4_frag.specs.Moofs.{fault_before_times, moof_trafs, time_faults, IsRead}
 use Rattle.mp4_frag.specs.Runs.{moof_at}
 use Rattle.mp4_machine.specs.Bodies.{least_end, longest, at_fault, body_item}
 use Rattle.mp4_machine.specs.Readings.{Effects, counts, requests_memory, both, FirstItem, Last, Whole, after, after_effects, then_read}
@@ -21,15 +21,15 @@ use Rattle.mp4_grammar.specs.declared.kinds.Kind.{Kind}
 use Rattle.mp4_grammar.specs.declared.kinds.Kind.TheVariants.{Moov, Moof, Mdat, Other}
 use Rattle.mp4_grammar.specs.Kinds.{kind_in, most_moof, most_moov}
 use Rattle.mp4_grammar.specs.Contexts.{Context, table_of}
-use Rattle.mp4_grammar.specs.Items.{media_body, context_after_fragment, fragment, mdat_by, second_by, after_moof, moov_box, walked, with_runs, timed_box, moof_box, whole_box_by, kept_body, keeping, passing, box_in, item, reads_in}
+use Rattle.mp4_grammar.specs.Items.{media_body, context_after_fragment, fragment, mdat_by, second_by, after_moof, moov_box, inspected, with_runs, timed_box, moof_box, whole_box_by, buffered_body, keeping, passing, box_in, item, reads_in}
 use Rattle.mp4_grammar.specs.Joined.{AreSound, IsMoofHere, IsMoovHere, IsOne, IsSound, Item, PassedOver, Movie, MovieFragment, OneBox, context_after, context_after_all, bytes_of, fragment_in, joined, item_effects, items_effects, moof_effects, tracks_in}
 use Rattle.mp4_grammar.specs.Meanings.{Meaning, fragment_fault}
 use Rattle.mp4_grammar.proofs.ItemLemmas.{item-items}
-use Rattle.mp4_grammar.proofs.TakenLemmas.{behind-headed, item-headed, kept-whole, sized-whole}
+use Rattle.mp4_grammar.proofs.TakenLemmas.{after-headed, item-headed, kept-whole, sized-whole}
 
-pub told-both : {C : Type 0} (s t : Effects) (f : FirstItem C) → after_effects s (after_effects t f) ≡ after_effects (both s t) f
-told-both s t (Last r) = ap Last (after-both s t r)
-told-both s t (Whole effects next rest) = ap (λ u. Whole u next rest) (sym (both-assoc s t effects))
+pub emitted-both : {C : Type 0} (s t : Effects) (f : FirstItem C) → after_effects s (after_effects t f) ≡ after_effects (both s t) f
+emitted-both s t (Last r) = ap Last (after-both s t r)
+emitted-both s t (Whole effects next rest) = ap (λ u. Whole u next rest) (sym (both-assoc s t effects))
 
 pub either-none : (a b : Option Fault) → option_or a b ≡ None → (a ≡ None) × (b ≡ None)
 either-none None b e = (refl, e)
@@ -38,7 +38,7 @@ either-none (Some f) b e = absurd cc
 module _ (meaning : Meaning) where
   -- ---- how a box begins
 
-  -- a header x, and the bytes behind it, where the box doesn't go too far
+  -- a header x, and the bytes after it, where the box doesn't go too far
   pub item-in : (c : Context) (h : Header) (x z : List ℕ) (kind : Kind) (tracks : Option (List Track)) → Head h x → kind_in h.kind.0 ≡ kind → c.tracks ≡ tracks → least_end c.at h h.size ≤ longest
       → item meaning c (x ++ z) ≡ box_in meaning c h x z kind tracks
   item-in c h x z kind tracks p is known near =
@@ -50,7 +50,7 @@ module _ (meaning : Meaning) where
   item-far c h x z p far =
       item-headed meaning c x z h (head-need h x p) (head-whole h x p) ∙ rw (nat_lt_true longest (least_end c.at h h.size) far) refl
 
-  pub keeping-small : (c : Context) (h : Header) (limit s : ℕ) (b : List ℕ) → h.size ≡ Exact s → s ≤ limit → keeping meaning c h limit b h.size ≡ after_effects (requests_memory c.at (table_of c.tracks + s)) (kept_body meaning c h.kind s b)
+  pub keeping-small : (c : Context) (h : Header) (limit s : ℕ) (b : List ℕ) → h.size ≡ Exact s → s ≤ limit → keeping meaning c h limit b h.size ≡ after_effects (requests_memory c.at (table_of c.tracks + s)) (buffered_body meaning c h.kind s b)
   keeping-small c h limit s b size small = ap (keeping meaning c h limit b) size ∙ rw (nat_lt_false limit s small) refl
 
   -- the same of a whole box
@@ -78,7 +78,7 @@ module _ (meaning : Meaning) where
       ∙ ap (λ t. after_effects (requests_memory c.at (length b.bytes)) (whole_box_by meaning c b.bytes y t)) m.none
 
   pub item-moof : (c : Context) (b : OneBox) (y : List ℕ) → IsMoofHere c b → c.at + length b.bytes ≤ longest
-      → item meaning c (b.bytes ++ y) ≡ after_effects (requests_memory c.at (64 * length (tracks_in c) + length b.bytes)) (moof_box meaning c (tracks_in c) b.bytes y (early_fault (moof_at b.bytes c.at) (tracks_in c)))
+      → item meaning c (b.bytes ++ y) ≡ after_effects (requests_memory c.at (64 * length (tracks_in c) + length b.bytes)) (moof_box meaning c (tracks_in c) b.bytes y (fault_before_times (moof_at b.bytes c.at) (tracks_in c)))
   item-moof c b y m near =
       let sum : table_of c.tracks + length b.bytes ≡ 64 * length (tracks_in c) + length b.bytes = ap (λ t. table_of t + length b.bytes) m.known in
       item-box c b m.one.payload y Moof (Some (tracks_in c)) m.one.is m.one.type m.known near
@@ -93,29 +93,29 @@ module _ (meaning : Meaning) where
       let x = b.bytes in
       let tracks = tracks_in c in
       let late = least (time_faults (moof_trafs (moof_at x c.at) tracks)) in
-      let none = either-none (early_fault (moof_at x c.at) tracks) late good in
+      let none = either-none (fault_before_times (moof_at x c.at) tracks) late good in
       let requested = requests_memory c.at (64 * length tracks + length x) in
-      let looked = counts (walked (moof_at x c.at)) in
+      let inspection = counts (inspected (moof_at x c.at)) in
       let list = requests_memory c.at (with_runs c tracks x) in
       item-moof c b y m near
       ∙ ap (λ f. after_effects requested (moof_box meaning c tracks x y f)) none.0
-      ∙ ap (λ f. after_effects requested (after_effects looked (timed_box meaning c tracks x y f))) none.1
-      ∙ ap (after_effects requested) (told-both looked list (after_moof meaning c tracks x y))
-      ∙ told-both requested (both looked list) (after_moof meaning c tracks x y)
+      ∙ ap (λ f. after_effects requested (after_effects inspection (timed_box meaning c tracks x y f))) none.1
+      ∙ ap (after_effects requested) (emitted-both inspection list (after_moof meaning c tracks x y))
+      ∙ emitted-both requested (both inspection list) (after_moof meaning c tracks x y)
 
-  -- ---- directly behind a moof
+  -- ---- directly after a moof
 
   pub second-in : (c : Context) (moof : List ℕ) (h : Header) (x z : List ℕ) (kind : Kind) → Head h x → kind_in h.kind.0 ≡ kind → least_end (c.at + length moof) h h.size ≤ longest
       → after_moof meaning c (tracks_in c) moof (x ++ z) ≡ second_by meaning c (tracks_in c) moof h z kind
   second-in c moof h x z kind p is near =
-      behind-headed meaning c (tracks_in c) moof x z h (head-need h x p) (head-whole h x p)
+      after-headed meaning c (tracks_in c) moof x z h (head-need h x p) (head-whole h x p)
       ∙ rw (nat_lt_false longest (least_end (c.at + length moof) h h.size) near) refl
       ∙ ap (second_by meaning c (tracks_in c) moof h z) is
 
   pub second-far : (c : Context) (moof : List ℕ) (h : Header) (x z : List ℕ) → Head h x → longest < least_end (c.at + length moof) h h.size
       → after_moof meaning c (tracks_in c) moof (x ++ z) ≡ Last (at_fault StreamTooLong (Some h.kind) (c.at + length moof))
   second-far c moof h x z p far =
-      behind-headed meaning c (tracks_in c) moof x z h (head-need h x p) (head-whole h x p) ∙ rw (nat_lt_true longest (least_end (c.at + length moof) h h.size) far) refl
+      after-headed meaning c (tracks_in c) moof x z h (head-need h x p) (head-whole h x p) ∙ rw (nat_lt_true longest (least_end (c.at + length moof) h h.size) far) refl
 
   -- an mdat: what is at fault with the fragment, or it is accepted
   pub second-mdat : (c : Context) (moof : List ℕ) (h : Header) (x z : List ℕ) (g : Option Fault) → Head h x → kind_in h.kind.0 ≡ Mdat → least_end (c.at + length moof) h h.size ≤ longest → fragment_fault meaning (fragment c (tracks_in c) moof h) ≡ g
@@ -169,10 +169,10 @@ module _ (meaning : Meaning) where
   pub reads-front : (c : Context) (b : List ℕ) → reads_in meaning c b ≡ then_read (reads_in meaning) (item meaning c b)
   reads-front c b = read_all-front (item meaning) (item-items meaning) c b
 
-  pub behind-at : (c : Context) (i : Item) → (context_after meaning c i).at ≡ c.at + length (bytes_of i)
-  behind-at c (PassedOver b) = refl
-  behind-at c (Movie b) = refl
-  behind-at c (MovieFragment moof mdat) = omega (arith, length-append moof.bytes mdat.bytes)
+  pub after-at : (c : Context) (i : Item) → (context_after meaning c i).at ≡ c.at + length (bytes_of i)
+  after-at c (PassedOver b) = refl
+  after-at c (Movie b) = refl
+  after-at c (MovieFragment moof mdat) = omega (arith, length-append moof.bytes mdat.bytes)
 
   pub reads-items : (is : List Item) (c : Context) (later : List ℕ) → AreSound meaning c is → c.at + length (joined is) ≤ longest
       → reads_in meaning c (joined is ++ later) ≡ after (items_effects meaning c is) (reads_in meaning (context_after_all meaning c is) later)
@@ -183,5 +183,5 @@ module _ (meaning : Meaning) where
       ap (reads_in meaning c) (append_assoc (bytes_of i) (joined is) later)
       ∙ reads-front c (bytes_of i ++ (joined is ++ later))
       ∙ ap (then_read (reads_in meaning)) (item-whole c i (joined is ++ later) first (omega (arith, near, len)))
-      ∙ ap (after (item_effects meaning c i)) (reads-items is next later more (omega (arith, near, len, behind-at c i)))
+      ∙ ap (after (item_effects meaning c i)) (reads-items is next later more (omega (arith, near, len, after-at c i)))
       ∙ after-both (item_effects meaning c i) (items_effects meaning next is) (reads_in meaning (context_after_all meaning next is) later)

@@ -7,7 +7,7 @@ pub mod TakenLemmas
 pub mod BeforeLemmas
 pub mod RunCountLemmas
 pub mod BoundLemmas
-pub mod WalkLemmas
+pub mod InspectionLemmas
 pub mod JoinLemmas
 pub mod RestLemmas
 pub mod SplitLemmas

@@ -18,14 +18,14 @@ use Rattle.mp4_machine.proofs.BodyLemmas.{nat_lt_true, nat_lt_false}
 use Rattle.mp4_grammar.specs.declared.kinds.Kind.{Kind}
 use Rattle.mp4_grammar.specs.declared.kinds.Kind.TheVariants.{Mdat, Moof, Moov, Other}
 use Rattle.mp4_grammar.specs.Contexts.{Context}
-use Rattle.mp4_grammar.specs.Items.{after_moof, after_moof_by, box_in, item, item_by, keeping, media_body, moof_box, moov_box, passing, reads_in, second_by, timed_box, walked}
+use Rattle.mp4_grammar.specs.Items.{after_moof, after_moof_by, box_in, inspected, item, item_by, keeping, media_body, moof_box, moov_box, passing, reads_in, second_by, timed_box}
 use Rattle.mp4_grammar.specs.Joined.{IsGood, fragment_here, moof_requests, moof_effects, tracks_in}
 use Rattle.mp4_grammar.specs.Kinds.{kind_in, moof}
 use Rattle.mp4_grammar.specs.Meanings.{Meaning, needed_in}
-use Rattle.mp4_grammar.specs.Rests.{BadFragment, BadHeader, BadMoof, BadMoov, BehindMoof, CutInBody, CutInHeader, CutInHeld, CutInMedia, Ended, IsAfterMoof, IsOpen, IsRest, Large, LateMoof, NoMdat, NotMdat, Open, OpenMedia, OpenMediaCut, OpenMediaTooFar, OpenTooFar, OutOfPlace, SecondBadHeader, SecondCutInHeader, SecondTooFar, TooFar, Unsized, ends, media_ends, place_rule, most_here}
+use Rattle.mp4_grammar.specs.Rests.{BadFragment, BadHeader, BadMoof, BadMoov, AfterMoof, CutInBody, CutInHeader, CutInHeld, CutInMedia, Ended, IsAfterMoof, IsOpen, IsRest, Large, LateMoof, NoMdat, NotMdat, Open, OpenMedia, OpenMediaCut, OpenMediaTooFar, OpenTooFar, OutOfPlace, SecondBadHeader, SecondCutInHeader, SecondTooFar, TooFar, Unsized, ends, media_ends, place_rule, most_here}
 use Rattle.mp4_grammar.proofs.ItemLemmas.{item-items}
 use Rattle.mp4_grammar.proofs.JoinLemmas.{item-far, item-good, item-in, item-moof, item-moov, keeping-small, reads-front, second-far, second-in, second-mdat}
-use Rattle.mp4_grammar.proofs.TakenLemmas.{behind-some, item-some}
+use Rattle.mp4_grammar.proofs.TakenLemmas.{after-some, item-some}
 
 -- the lengths of a header and what follows it
 headed-len : (y : List ℕ) (b : Headed y) → length y ≡ b.header.header_len + length b.more
@@ -33,17 +33,17 @@ headed-len y b = omega (arith, ap length b.cut, length-append b.head b.more, b.s
 
 -- ---- one to the end of the stream
 
-open-good : (C : Type 0) (tell : List ℕ → Effects) (at : ℕ) (kind : FourCc) (needed left : ℕ) (b : List ℕ) → length b ≤ left → needed ≤ length b → open_body_item {C = C} tell at kind needed left b ≡ Last (ends (tell b) Sound)
-open-good C tell at kind needed left b near enough = rw (nat_lt_false left (length b) near, nat_lt_false (length b) needed enough) refl
+open-good : (C : Type 0) (emit : List ℕ → Effects) (at : ℕ) (kind : FourCc) (needed left : ℕ) (b : List ℕ) → length b ≤ left → needed ≤ length b → open_body_item {C = C} emit at kind needed left b ≡ Last (ends (emit b) Sound)
+open-good C emit at kind needed left b near enough = rw (nat_lt_false left (length b) near, nat_lt_false (length b) needed enough) refl
 
-open-cut : (C : Type 0) (tell : List ℕ → Effects) (at : ℕ) (kind : FourCc) (needed left : ℕ) (b : List ℕ) → length b ≤ left → length b < needed → open_body_item {C = C} tell at kind needed left b ≡ Last (ends (tell b) (CutOff (fault Truncated (Some kind) at)))
-open-cut C tell at kind needed left b near short = rw (nat_lt_false left (length b) near, nat_lt_true (length b) needed short) refl
+open-cut : (C : Type 0) (emit : List ℕ → Effects) (at : ℕ) (kind : FourCc) (needed left : ℕ) (b : List ℕ) → length b ≤ left → length b < needed → open_body_item {C = C} emit at kind needed left b ≡ Last (ends (emit b) (CutOff (fault Truncated (Some kind) at)))
+open-cut C emit at kind needed left b near short = rw (nat_lt_false left (length b) near, nat_lt_true (length b) needed short) refl
 
-open-far : (C : Type 0) (tell : List ℕ → Effects) (at : ℕ) (kind : FourCc) (needed left : ℕ) (b : List ℕ) → left < length b → open_body_item {C = C} tell at kind needed left b ≡ Last (ends (tell (take left b)) (Faulty (fault StreamTooLong (Some kind) at)))
-open-far C tell at kind needed left b far = rw (nat_lt_true left (length b) far) refl
+open-far : (C : Type 0) (emit : List ℕ → Effects) (at : ℕ) (kind : FourCc) (needed left : ℕ) (b : List ℕ) → left < length b → open_body_item {C = C} emit at kind needed left b ≡ Last (ends (emit (take left b)) (Faulty (fault StreamTooLong (Some kind) at)))
+open-far C emit at kind needed left b far = rw (nat_lt_true left (length b) far) refl
 
 module _ (meaning : Meaning) (c : Context) where
-  -- ---- behind a good moof x
+  -- ---- after a sound moof x
 
   module _ (x z : List ℕ) where
     -- by the header that it begins with
@@ -70,32 +70,32 @@ module _ (meaning : Meaning) (c : Context) where
         → after_moof meaning c (tracks_in c) x z ≡ after_effects (meaning.accepted (fragment_here c x b.header)) (Last v)
     open-media b v (is, size) good near e = good-media b ToEnd is size near good ∙ ap (after_effects (meaning.accepted (fragment_here c x b.header))) e
 
-    none-behind : after_moof meaning c (tracks_in c) x [] ≡ Last (cut_off MdatMissing (Some moof) c.at)
+    none-after : after_moof meaning c (tracks_in c) x [] ≡ Last (cut_off MdatMissing (Some moof) c.at)
     unfolding after_moof
-    none-behind = refl
+    none-after = refl
 
-    pub behind-reads : (r : Reading) → IsBytes z → IsAfterMoof meaning c x z r → after_moof meaning c (tracks_in c) x z ≡ Last r
-    behind-reads r fits (NoMdat none e) = ap (after_moof meaning c (tracks_in c) x) none ∙ none-behind ∙ ap Last (sym e)
-    behind-reads r fits (SecondCutInHeader some short e) = behind-some meaning c (tracks_in c) x z some ∙ ap (after_moof_by meaning c (tracks_in c) x z) (is_cut z short) ∙ ap Last (sym e)
-    behind-reads r fits (SecondBadHeader whole none e) =
-        behind-some meaning c (tracks_in c) x z (omega (arith, need-least z, whole)) ∙ ap (after_moof_by meaning c (tracks_in c) x z) (header-none z fits whole none) ∙ ap Last (sym e)
-    behind-reads r fits (SecondTooFar b far e) = ap (after_moof meaning c (tracks_in c) x) b.cut ∙ second-far meaning c x b.header b.head b.more b.spelled far ∙ ap Last (sym e)
-    behind-reads r fits (NotMdat b other near e) = second-of b (kind_in b.header.kind.0) refl near ∙ not-mdat b.header b.more (kind_in b.header.kind.0) other ∙ ap Last (sym e)
-    behind-reads r fits (BadFragment b f is near bad e) = ap (after_moof meaning c (tracks_in c) x) b.cut ∙ second-mdat meaning c x b.header b.head b.more (Some f) b.spelled is near bad ∙ ap Last (sym e)
-    behind-reads r fits (CutInMedia b s (is, size, near) good short e) =
+    pub after-reads : (r : Reading) → IsBytes z → IsAfterMoof meaning c x z r → after_moof meaning c (tracks_in c) x z ≡ Last r
+    after-reads r fits (NoMdat none e) = ap (after_moof meaning c (tracks_in c) x) none ∙ none-after ∙ ap Last (sym e)
+    after-reads r fits (SecondCutInHeader some short e) = after-some meaning c (tracks_in c) x z some ∙ ap (after_moof_by meaning c (tracks_in c) x z) (is_cut z short) ∙ ap Last (sym e)
+    after-reads r fits (SecondBadHeader whole none e) =
+        after-some meaning c (tracks_in c) x z (omega (arith, need-least z, whole)) ∙ ap (after_moof_by meaning c (tracks_in c) x z) (header-none z fits whole none) ∙ ap Last (sym e)
+    after-reads r fits (SecondTooFar b far e) = ap (after_moof meaning c (tracks_in c) x) b.cut ∙ second-far meaning c x b.header b.head b.more b.spelled far ∙ ap Last (sym e)
+    after-reads r fits (NotMdat b other near e) = second-of b (kind_in b.header.kind.0) refl near ∙ not-mdat b.header b.more (kind_in b.header.kind.0) other ∙ ap Last (sym e)
+    after-reads r fits (BadFragment b f is near bad e) = ap (after_moof meaning c (tracks_in c) x) b.cut ∙ second-mdat meaning c x b.header b.head b.more (Some f) b.spelled is near bad ∙ ap Last (sym e)
+    after-reads r fits (CutInMedia b s (is, size, near) good short e) =
         good-media b (Exact s) is size near good
         ∙ rw (nat_lt_true (length b.more) (s - b.header.header_len) (omega (arith, headed-len z b, short))) refl ∙ ap Last (sym e)
-    behind-reads r fits (OpenMedia b goes good near enough e) =
+    after-reads r fits (OpenMedia b goes good near enough e) =
         let len = headed-len z b in
         open-media b (ends (meaning.media (fragment_here c x b.header) b.more) Sound) goes good (omega (arith, len, near))
         (open-good Context (meaning.media (fragment_here c x b.header)) (c.at + length x) b.header.kind (needed_in (fragment_here c x b.header)) (longest - (c.at + length x + b.header.header_len)) b.more (omega (arith, len, near)) enough)
         ∙ ap Last (sym e)
-    behind-reads r fits (OpenMediaCut b goes good near short e) =
+    after-reads r fits (OpenMediaCut b goes good near short e) =
         let len = headed-len z b in
         open-media b (ends (meaning.media (fragment_here c x b.header) b.more) (CutOff (fault Truncated (Some b.header.kind) (c.at + length x)))) goes good (omega (arith, len, near))
         (open-cut Context (meaning.media (fragment_here c x b.header)) (c.at + length x) b.header.kind (needed_in (fragment_here c x b.header)) (longest - (c.at + length x + b.header.header_len)) b.more (omega (arith, len, near)) short)
         ∙ ap Last (sym e)
-    behind-reads r fits (OpenMediaTooFar b goes good near far e) =
+    after-reads r fits (OpenMediaTooFar b goes good near far e) =
         let len = headed-len z b in
         let f = fragment_here c x b.header in
         let at = c.at + length x in
@@ -112,7 +112,7 @@ module _ (meaning : Meaning) (c : Context) where
     first-of : (b : Headed y) (kind : Kind) (tracks : Option (List Track)) → kind_in b.header.kind.0 ≡ kind → c.tracks ≡ tracks → least_end c.at b.header b.header.size ≤ longest → item meaning c y ≡ box_in meaning c b.header b.head b.more kind tracks
     first-of b kind tracks is known near = ap (item meaning c) b.cut ∙ item-in meaning c b.header b.head b.more kind tracks b.spelled is known near
 
-    -- a box that may not stand here
+    -- a box that may not be here
     not-here : (h : Header) (head more : List ℕ) (kind : Kind) (tracks : Option (List Track)) (rule : Rule) → place_rule kind tracks ≡ Some rule → box_in meaning c h head more kind tracks ≡ Last (at_fault rule (Some h.kind) c.at)
     not-here h head more Moov None rule e = absurd cc
     not-here h head more Moov (Some tracks) rule e = ap (λ k. Last (at_fault k (Some h.kind) c.at)) cc
@@ -171,11 +171,11 @@ module _ (meaning : Meaning) (c : Context) where
         let x = b.box.bytes in
         ap (item meaning c) b.cut ∙ item-moof meaning c b.box b.more here near
         ∙ ap (λ g. after_effects (moof_requests c x) (moof_box meaning c (tracks_in c) x b.more g)) good
-        ∙ ap (λ g. after_effects (moof_requests c x) (after_effects (counts (walked (moof_at x c.at))) (timed_box meaning c (tracks_in c) x b.more g))) late ∙ ap Last (sym e)
-    item-reads r fits (BehindMoof b s here near good after_moof e) =
+        ∙ ap (λ g. after_effects (moof_requests c x) (after_effects (counts (inspected (moof_at x c.at))) (timed_box meaning c (tracks_in c) x b.more g))) late ∙ ap Last (sym e)
+    item-reads r fits (AfterMoof b s here near good after_moof e) =
         let rest : b.more ≡ drop (length b.box.bytes) y = sym (drop-append_seam b.box.bytes b.more) ∙ ap (drop (length b.box.bytes)) (sym b.cut) in
         ap (item meaning c) b.cut ∙ item-good meaning c b.box b.more here good near
-        ∙ ap (after_effects (moof_effects c b.box.bytes)) (behind-reads b.box.bytes b.more s (subst IsBytes (sym rest) (IsBytes-drop (length b.box.bytes) y fits)) after_moof) ∙ ap Last (sym e)
+        ∙ ap (after_effects (moof_effects c b.box.bytes)) (after-reads b.box.bytes b.more s (subst IsBytes (sym rest) (IsBytes-drop (length b.box.bytes) y fits)) after_moof) ∙ ap Last (sym e)
 
     pub rest-reads : (r : Reading) → IsBytes y → IsRest meaning c y r → reads_in meaning c y ≡ r
     rest-reads r fits is = reads-front meaning c y ∙ ap (λ v. then_read (reads_in meaning) v) (item-reads r fits is)

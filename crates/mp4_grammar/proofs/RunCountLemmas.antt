@@ -9,11 +9,11 @@ use Rattle.mp4_box.specs.Headers.{IsBytes}
 use Rattle.mp4_box.specs.Paths.{of_kind, at_path}
 use Rattle.mp4_box.specs.Trees.{Box, box_at, children}
 use Rattle.mp4_box.proofs.SizeLemmas.{IsLaid, total, fits_children, kind_fits, both_none, none_below, laid_by}
-use Rattle.mp4_box.proofs.GrammarLemmas.{stands, option_is}
+use Rattle.mp4_box.proofs.GrammarLemmas.{lies_at, option_is}
 use Rattle.mp4_init.specs.declared.table.Track.{Track}
 use Rattle.mp4_frag.specs.Fields.{flags_in, width_if}
 use Rattle.mp4_frag.specs.Kinds.{traf, trun}
-use Rattle.mp4_frag.specs.Moofs.{early_fault, moof_of, moof_runs, no_box}
+use Rattle.mp4_frag.specs.Moofs.{fault_before_times, moof_of, moof_runs, no_box}
 use Rattle.mp4_frag.specs.Rules.{form_faults, trun_length}
 use Rattle.mp4_frag.specs.Runs.{MoofBytes, Shared, end_place, run_of, runs_from, runs_of, traf_of, trafs_by}
 use Rattle.mp4_frag.specs.Trun.{data_offset_present, first_sample_flags_present, sample_count, sample_fields, trun_broken, trun_fields, trun_len}
@@ -70,7 +70,7 @@ none_bytes : IsBytes []
 none_bytes i = omega arith
 
 -- the list of the runs of a moof without a fault takes no more than four times its bytes
-pub runs_small : (h : MoofBytes) (tracks : List Track) → IsBytes h.bytes → early_fault h tracks ≡ None → 64 * length (moof_runs h tracks) ≤ 4 * length h.bytes
+pub runs_small : (h : MoofBytes) (tracks : List Track) → IsBytes h.bytes → fault_before_times h tracks ≡ None → 64 * length (moof_runs h tracks) ≤ 4 * length h.bytes
 runs_small h tracks fits e = elim (option_is (box_at h.offset h.bytes)) [
   | inl none ↦
       let is : moof_of h ≡ no_box = ap (λ (m : Option Box). unwrap_or m no_box) none in
@@ -78,7 +78,7 @@ runs_small h tracks fits e = elim (option_is (box_at h.offset h.bytes)) [
       omega (arith, all, ap (λ (m : Box). length m.payload) is)
   | inr some ↦
       let m = some.0 in
-      let s = stands h.offset h.bytes m fits some.1 in
+      let s = lies_at h.offset h.bytes m fits some.1 in
       let is : moof_of h ≡ m = moof_is h.offset h.bytes m some.1 in
       let all = subst (λ (b : Box). 16 * length (flat_map runs_of (trafs_by h tracks (children b))) ≤ length b.payload) (sym is) (moof_small h tracks m s.bytes (ap form_faults (sym is) ∙ (early h tracks e).form)) in
       omega (arith, all, ap (λ (b : Box). length b.payload) is, s.high)

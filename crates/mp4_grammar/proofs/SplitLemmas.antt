@@ -17,7 +17,7 @@ use Rattle.mp4_box.proofs.HeaderLemmas.{IsBytes-drop, bad_is, cut_is, need-least
 use Rattle.mp4_box.proofs.HeaderAnswers.{head-need, header-begins}
 use Rattle.mp4_init.specs.Moovs.{moov_fault}
 use Rattle.mp4_init.specs.declared.table.Track.{Track}
-use Rattle.mp4_frag.specs.Moofs.{early_fault, moof_trafs, time_faults}
+use Rattle.mp4_frag.specs.Moofs.{fault_before_times, moof_trafs, time_faults}
 use Rattle.mp4_frag.specs.Runs.{moof_at}
 use Rattle.mp4_machine.specs.Bodies.{least_end, longest}
 use Rattle.mp4_machine.specs.Readings.{Reading, after}
@@ -28,8 +28,8 @@ use Rattle.mp4_grammar.specs.Items.{reads_in}
 use Rattle.mp4_grammar.specs.Joined.{IsGood, IsMoofHere, IsMoovHere, IsOne, IsSound, Item, Movie, MovieFragment, OneBox, PassedOver, context_after, context_after_all, bytes_of, fragment_here, joined, listed, items_effects, tracks_in}
 use Rattle.mp4_grammar.specs.Kinds.{kind_in, most_moof, most_moov}
 use Rattle.mp4_grammar.specs.Meanings.{Meaning, fragment_fault, needed_in}
-use Rattle.mp4_grammar.specs.Rests.{BadFragment, BadHeader, BadMoof, BadMoov, BehindMoof, Boxed, CutInBody, CutInHeader, CutInHeld, CutInMedia, Ended, IsAfterMoof, IsRest, Large, LateMoof, NoMdat, NotMdat, Open, OpenMedia, OpenMediaCut, OpenMediaTooFar, OpenTooFar, OutOfPlace, SecondBadHeader, SecondCutInHeader, SecondTooFar, Split, TooFar, Unsized, most_here}
-use Rattle.mp4_grammar.proofs.JoinLemmas.{behind-at, reads-items}
+use Rattle.mp4_grammar.specs.Rests.{AfterMoof, BadFragment, BadHeader, BadMoof, BadMoov, Boxed, CutInBody, CutInHeader, CutInHeld, CutInMedia, Ended, IsAfterMoof, IsRest, Large, LateMoof, NoMdat, NotMdat, Open, OpenMedia, OpenMediaCut, OpenMediaTooFar, OpenTooFar, OutOfPlace, SecondBadHeader, SecondCutInHeader, SecondTooFar, Split, TooFar, Unsized, most_here}
+use Rattle.mp4_grammar.proofs.JoinLemmas.{after-at, reads-items}
 use Rattle.mp4_grammar.proofs.RestLemmas.{rest-reads}
 
 -- ---- a box at the front
@@ -68,9 +68,9 @@ module _ (b : List ℕ) (fits : IsBytes b) (h : Header) (whole : header_at b ≡
 no_header : (b : List ℕ) → IsBytes b → header_at b ≡ steps.BadSize → (h : Header) → BeginsWith h b → ⊥
 no_header b fits e h p = let found = sym (ap result_of e) ∙ (header-begins b h fits).1 p in absurd cc
 
--- ---- behind a good moof x
+-- ---- after a sound moof x
 
--- one of the rests stands there, or a whole mdat with which the fragment is good
+-- one of the rests, or a whole mdat with which the fragment is sound
 data Second (meaning : Meaning) (c : Context) (x z : List ℕ) : Type 0 where
   Stops : (s : Reading) → IsAfterMoof meaning c x z s → Second meaning c x z
   Follows : (mdat : OneBox) (more : List ℕ) → z ≡ mdat.bytes ++ more → IsOne Mdat mdat → IsGood meaning c x mdat.header → c.at + length x + length mdat.bytes ≤ longest → Second meaning c x z
@@ -125,7 +125,7 @@ first meaning c i b more cut sound split = record {
   rest = split.rest;
   cut = cut ∙ ap (λ l. bytes_of i ++ l) split.cut ∙ sym (append_assoc (bytes_of i) (joined split.items) split.rest);
   sound = (sound, split.sound);
-  near = omega (arith, split.near, behind-at meaning c i, length-append (bytes_of i) (joined split.items));
+  near = omega (arith, split.near, after-at meaning c i, length-append (bytes_of i) (joined split.items));
   reading = split.reading;
   is = split.is;
 }
@@ -138,7 +138,7 @@ item_some meaning c (PassedOver b) one = one_some Other b one
 item_some meaning c (Movie b) (here, good) = one_some Moov b here.one
 item_some meaning c (MovieFragment moof mdat) (here, good, one, none) = omega (arith, one_some Moof moof here.one, length-append moof.bytes mdat.bytes)
 
--- how it goes on behind an item
+-- how it goes on after an item
 abbrev GoesOn : Meaning → Context → List ℕ → Type 0
 GoesOn meaning c b = (i : Item) (more : List ℕ) → b ≡ bytes_of i ++ more → IsSound meaning c i → c.at + length (bytes_of i) ≤ longest → Split meaning c b
 
@@ -147,20 +147,20 @@ known_is c tracks e = e ∙ ap Some (sym (ap listed e))
 
 module _ (meaning : Meaning) (c : Context) (b : List ℕ) (near : c.at ≤ longest) (fits : IsBytes b) (go : GoesOn meaning c b) where
   -- a good moof
-  good_moof : (x : Boxed b) → IsMoofHere c x.box → c.at + length x.box.bytes ≤ longest → early_fault (moof_at x.box.bytes c.at) (tracks_in c) ≡ None → least (time_faults (moof_trafs (moof_at x.box.bytes c.at) (tracks_in c))) ≡ None → Second meaning c x.box.bytes x.more → Split meaning c b
+  good_moof : (x : Boxed b) → IsMoofHere c x.box → c.at + length x.box.bytes ≤ longest → fault_before_times (moof_at x.box.bytes c.at) (tracks_in c) ≡ None → least (time_faults (moof_trafs (moof_at x.box.bytes c.at) (tracks_in c))) ≡ None → Second meaning c x.box.bytes x.more → Split meaning c b
   good_moof x here end good late (Stops s is) =
-      only meaning c b _ near (BehindMoof x s here end (ap (λ o. option_or o (least (time_faults (moof_trafs (moof_at x.box.bytes c.at) (tracks_in c))))) good ∙ late) is refl)
+      only meaning c b _ near (AfterMoof x s here end (ap (λ o. option_or o (least (time_faults (moof_trafs (moof_at x.box.bytes c.at) (tracks_in c))))) good ∙ late) is refl)
   good_moof x here end good late (Follows mdat more cut one none far) =
       go (MovieFragment x.box mdat) more (x.cut ∙ ap (λ l. x.box.bytes ++ l) cut ∙ sym (append_assoc x.box.bytes mdat.bytes more))
       (here, ap (λ o. option_or o (least (time_faults (moof_trafs (moof_at x.box.bytes c.at) (tracks_in c))))) good ∙ late, one, none) (omega (arith, far, length-append x.box.bytes mdat.bytes))
 
-  late_moof : (x : Boxed b) (g : Option Fault) → IsMoofHere c x.box → c.at + length x.box.bytes ≤ longest → early_fault (moof_at x.box.bytes c.at) (tracks_in c) ≡ None → least (time_faults (moof_trafs (moof_at x.box.bytes c.at) (tracks_in c))) ≡ g → Split meaning c b
+  late_moof : (x : Boxed b) (g : Option Fault) → IsMoofHere c x.box → c.at + length x.box.bytes ≤ longest → fault_before_times (moof_at x.box.bytes c.at) (tracks_in c) ≡ None → least (time_faults (moof_trafs (moof_at x.box.bytes c.at) (tracks_in c))) ≡ g → Split meaning c b
   late_moof x (Some f) here end good late = only meaning c b _ near (LateMoof x f here end good late refl)
   late_moof x None here end good late =
       let rest : x.more ≡ drop (length x.box.bytes) b = sym (drop-append_seam x.box.bytes x.more) ∙ ap (drop (length x.box.bytes)) (sym x.cut) in
       good_moof x here end good late (second_of meaning c x.box.bytes x.more (subst IsBytes (sym rest) (IsBytes-drop (length x.box.bytes) b fits)))
 
-  early_moof : (x : Boxed b) (g : Option Fault) → IsMoofHere c x.box → c.at + length x.box.bytes ≤ longest → early_fault (moof_at x.box.bytes c.at) (tracks_in c) ≡ g → Split meaning c b
+  early_moof : (x : Boxed b) (g : Option Fault) → IsMoofHere c x.box → c.at + length x.box.bytes ≤ longest → fault_before_times (moof_at x.box.bytes c.at) (tracks_in c) ≡ g → Split meaning c b
   early_moof x (Some f) here end bad = only meaning c b _ near (BadMoof x f here end bad refl)
   early_moof x None here end good = late_moof x (least (time_faults (moof_trafs (moof_at x.box.bytes c.at) (tracks_in c)))) here end good refl
 
@@ -178,7 +178,7 @@ module _ (meaning : Meaning) (c : Context) (b : List ℕ) (near : c.at ≤ longe
     held_whole Moof (Some tracks) limit s is known here size small enough end =
         let len = length-take-le s b enough in
         let limit_is : most_moof ≡ limit = cc in
-        early_moof (boxed b fits h whole s) (early_fault (moof_at (take s b) c.at) (tracks_in c))
+        early_moof (boxed b fits h whole s) (fault_before_times (moof_at (take s b) c.at) (tracks_in c))
         (record { one = one_of b fits h whole Moof s is size enough; known = known_is c tracks known; small = omega (arith, len, small, limit_is) }) (omega (arith, len, end)) refl
     held_whole Moov (Some tracks) limit s is known here size small enough end = absurd cc
     held_whole Moof None limit s is known here size small enough end = absurd cc
@@ -231,7 +231,7 @@ split_of meaning (suc n) c (a ∷ b) low near fits =
     (λ i more cut sound end.
     let rest : more ≡ drop (length (bytes_of i)) (a ∷ b) = sym (drop-append_seam (bytes_of i) more) ∙ ap (drop (length (bytes_of i))) (sym cut) in
     first meaning c i (a ∷ b) more cut sound
-    (split_of meaning n (context_after meaning c i) more (omega (arith, low, ap length cut, length-append (bytes_of i) more, item_some meaning c i sound)) (omega (arith, end, behind-at meaning c i))
+    (split_of meaning n (context_after meaning c i) more (omega (arith, low, ap length cut, length-append (bytes_of i) more, item_some meaning c i sound)) (omega (arith, end, after-at meaning c i))
     (subst IsBytes (sym rest) (IsBytes-drop (length (bytes_of i)) (a ∷ b) fits))))
     (header_at (a ∷ b)) refl (omega arith)
 

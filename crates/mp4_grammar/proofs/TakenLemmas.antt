@@ -1,4 +1,4 @@
--- A whole item of a fragmented stream is made of bytes of its own, and is the same whatever follows.
+-- A whole item of a fragmented stream has bytes of its own, and is the same whatever follows.
 use Rattle.std.proofs.Common.{◌≡◌, ◌∙◌, ℕ, ◌+◌, ◌-◌, ◌<◌, ◌≤◌, List, [], ◌∷◌, ◌++◌, length, take, drop, Option, None, Some, append_assoc, Bool, true, false, ap, sym, refl, arith, length-append, length-drop, length-take-le, take-append-drop, subst}
 use Rattle.std.proofs.Math.Seq.{take-append_seam, drop-append_seam}
 use Rattle.std.specs.Prelude.{nat_lt, if◌then◌else◌}
@@ -17,7 +17,7 @@ use Rattle.mp4_box.specs.Order.{least}
 use Rattle.mp4_box.proofs.HeaderLemmas.{header_at-append, whole_is, need-least}
 use Rattle.mp4_init.specs.Moovs.{moov_fault}
 use Rattle.mp4_init.specs.declared.table.Track.{Track}
-use Rattle.mp4_frag.specs.Moofs.{early_fault, moof_trafs, time_faults}
+use Rattle.mp4_frag.specs.Moofs.{fault_before_times, moof_trafs, time_faults}
 use Rattle.mp4_frag.specs.Runs.{moof_at}
 use Rattle.mp4_machine.specs.Bodies.{least_end, longest, at_fault, body_item, open_body_item}
 use Rattle.mp4_machine.specs.Readings.{Effects, counts, requests_memory, FirstItem, Last, Whole, after_effects}
@@ -30,7 +30,7 @@ use Rattle.mp4_grammar.specs.declared.kinds.Kind.TheVariants.{Moov, Moof, Mdat, 
 use Rattle.mp4_grammar.specs.Kinds.{kind_in, most_moof, most_moov}
 use Rattle.mp4_grammar.specs.Contexts.{Context, context, table_of}
 use Rattle.mp4_grammar.specs.Meanings.{Fragment, Meaning, fragment_fault, needed_in}
-use Rattle.mp4_grammar.specs.Items.{media_body, context_after_fragment, fragment, mdat_by, second_by, second, after_moof_by, after_moof, moov_box, walked, with_runs, timed_box, moof_box, whole_box_by, kept_body, keeping, passing, box_in, box_from, item_by, item}
+use Rattle.mp4_grammar.specs.Items.{media_body, context_after_fragment, fragment, mdat_by, second_by, second, after_moof_by, after_moof, moov_box, inspected, with_runs, timed_box, moof_box, whole_box_by, buffered_body, keeping, passing, box_in, box_from, item_by, item}
 use Rattle.mp4_grammar.proofs.ItemLemmas.{item-items, keeping-below, passing-below}
 
 -- ---- any bytes that are taken
@@ -50,9 +50,9 @@ IsTaken f base b (Whole effects next rest) = IsOwn f base b effects next rest
 none-taken : (f : List ℕ → FirstItem Context) (base : ℕ) (b : List ℕ) (effects : Effects) (next : Context) → next.at ≡ base → ((y : List ℕ) → f y ≡ Whole effects next y) → IsOwn f base b effects next b
 none-taken f base b effects next e same = record { own = []; cut = refl; ends = omega (arith, e); same = same }
 
-told-taken : (t : Effects) (f : List ℕ → FirstItem Context) (base : ℕ) (b : List ℕ) (v : FirstItem Context) → IsTaken f base b v → IsTaken (λ y. after_effects t (f y)) base b (after_effects t v)
-told-taken t f base b (Last r) h = tt
-told-taken t f base b (Whole effects next rest) h = record { own = h.own; cut = h.cut; ends = h.ends; same = λ y. ap (after_effects t) (h.same y) }
+emitted-taken : (t : Effects) (f : List ℕ → FirstItem Context) (base : ℕ) (b : List ℕ) (v : FirstItem Context) → IsTaken f base b v → IsTaken (λ y. after_effects t (f y)) base b (after_effects t v)
+emitted-taken t f base b (Last r) h = tt
+emitted-taken t f base b (Whole effects next rest) h = record { own = h.own; cut = h.cut; ends = h.ends; same = λ y. ap (after_effects t) (h.same y) }
 
 -- the bytes x come first
 front-taken : (f g : List ℕ → FirstItem Context) (base : ℕ) (x b : List ℕ) (v : FirstItem Context) → ((y : List ℕ) → f (x ++ y) ≡ g y) → IsTaken g (base + length x) b v → IsTaken f base (x ++ b) v
@@ -64,10 +64,10 @@ front-taken f g base x b (Whole effects next rest) same h = record {
   same = λ y. ap f (append_assoc x h.own y) ∙ same (h.own ++ y) ∙ h.same y;
 }
 
--- the same, behind bytes that all of it begins with
-behind-taken : (f : List ℕ → FirstItem Context) (base : ℕ) (x b : List ℕ) (v : FirstItem Context) → Below v (length b) → IsTaken f base (x ++ b) v → IsTaken (λ z. f (x ++ z)) (base + length x) b v
-behind-taken f base x b (Last r) short h = tt
-behind-taken f base x b (Whole effects next rest) short h =
+-- the same, after bytes that all of it begins with
+after-taken : (f : List ℕ → FirstItem Context) (base : ℕ) (x b : List ℕ) (v : FirstItem Context) → Below v (length b) → IsTaken f base (x ++ b) v → IsTaken (λ z. f (x ++ z)) (base + length x) b v
+after-taken f base x b (Last r) short h = tt
+after-taken f base x b (Whole effects next rest) short h =
     let all : length x + length b ≡ length h.own + length rest = sym (length-append x b) ∙ ap length h.cut ∙ length-append h.own rest in
     let less : length x ≤ length h.own = omega (arith, all, short) in
     let front : take (length x) h.own ≡ x = sym (take-append-le (length x) h.own rest less) ∙ ap (take (length x)) (sym h.cut) ∙ take-append_seam x b in
@@ -81,25 +81,25 @@ behind-taken f base x b (Whole effects next rest) short h =
 
 -- ---- bodies
 
-pub sized-whole : (tell : List ℕ → Effects) (at : ℕ) (kind : FourCc) (next : Context) (x y : List ℕ) → body_item tell at kind next (length x) (x ++ y) ≡ Whole (tell x) next y
-sized-whole tell at kind next x y = rw (nat_lt_false (length (x ++ y)) (length x) (omega (arith, length-append x y)), take-append_seam x y, drop-append_seam x y) refl
+pub sized-whole : (emit : List ℕ → Effects) (at : ℕ) (kind : FourCc) (next : Context) (x y : List ℕ) → body_item emit at kind next (length x) (x ++ y) ≡ Whole (emit x) next y
+sized-whole emit at kind next x y = rw (nat_lt_false (length (x ++ y)) (length x) (omega (arith, length-append x y)), take-append_seam x y, drop-append_seam x y) refl
 
-sized-taken : (tell : List ℕ → Effects) (at : ℕ) (kind : FourCc) (base : ℕ) (next : Context) (left : ℕ) (b : List ℕ) (t : Bool) → next.at ≡ base + left → nat_lt (length b) left ≡ t → IsTaken (body_item tell at kind next left) base b (body_item tell at kind next left b)
-sized-taken tell at kind base next left b true n e = rw e tt
-sized-taken tell at kind base next left b false n e =
+sized-taken : (emit : List ℕ → Effects) (at : ℕ) (kind : FourCc) (base : ℕ) (next : Context) (left : ℕ) (b : List ℕ) (t : Bool) → next.at ≡ base + left → nat_lt (length b) left ≡ t → IsTaken (body_item emit at kind next left) base b (body_item emit at kind next left b)
+sized-taken emit at kind base next left b true n e = rw e tt
+sized-taken emit at kind base next left b false n e =
     let len : length (take left b) ≡ left = length-take-le left b (ltb-false _ _ e) in
-    let taken : IsOwn (body_item tell at kind next left) base b (tell (take left b)) next (drop left b) = record {
+    let taken : IsOwn (body_item emit at kind next left) base b (emit (take left b)) next (drop left b) = record {
       own = take left b;
       cut = sym (take-append-drop left b);
       ends = omega (arith, len, n);
-      same = λ y. ap (λ k. body_item tell at kind next k (take left b ++ y)) (sym len) ∙ sized-whole tell at kind next (take left b) y;
+      same = λ y. ap (λ k. body_item emit at kind next k (take left b ++ y)) (sym len) ∙ sized-whole emit at kind next (take left b) y;
     } in
     rw e taken
 
-open-taken : (tell : List ℕ → Effects) (at : ℕ) (kind : FourCc) (needed left base : ℕ) (b : List ℕ) (t u : Bool) → nat_lt left (length b) ≡ t → nat_lt (length b) needed ≡ u → IsTaken (open_body_item tell at kind needed left) base b (open_body_item tell at kind needed left b)
-open-taken tell at kind needed left base b true u e d = rw e tt
-open-taken tell at kind needed left base b false true e d = rw (e, d) tt
-open-taken tell at kind needed left base b false false e d = rw (e, d) tt
+open-taken : (emit : List ℕ → Effects) (at : ℕ) (kind : FourCc) (needed left base : ℕ) (b : List ℕ) (t u : Bool) → nat_lt left (length b) ≡ t → nat_lt (length b) needed ≡ u → IsTaken (open_body_item emit at kind needed left) base b (open_body_item emit at kind needed left b)
+open-taken emit at kind needed left base b true u e d = rw e tt
+open-taken emit at kind needed left base b false true e d = rw (e, d) tt
+open-taken emit at kind needed left base b false false e d = rw (e, d) tt
 
 -- ---- the header at the front
 
@@ -109,12 +109,12 @@ module _ (meaning : Meaning) where
   item-some c [] some = absurd (omega arith)
   item-some c (a ∷ b) some = refl
 
-  pub behind-some : (c : Context) (tracks : List Track) (x b : List ℕ) → 0 < length b → after_moof meaning c tracks x b ≡ after_moof_by meaning c tracks x b (header_at b)
+  pub after-some : (c : Context) (tracks : List Track) (x b : List ℕ) → 0 < length b → after_moof meaning c tracks x b ≡ after_moof_by meaning c tracks x b (header_at b)
   unfolding after_moof
-  behind-some c tracks x [] some = absurd (omega arith)
-  behind-some c tracks x (a ∷ b) some = refl
+  after-some c tracks x [] some = absurd (omega arith)
+  after-some c tracks x (a ∷ b) some = refl
 
-  -- a header x, and the bytes behind it
+  -- a header x, and the bytes after it
   pub item-headed : (c : Context) (x z : List ℕ) (h : Header) → length x ≡ need x → header_at x ≡ steps.Whole h → item meaning c (x ++ z) ≡ box_from meaning c h x z
   item-headed c x z h len e =
       let w = whole_is x h e in
@@ -122,12 +122,12 @@ module _ (meaning : Meaning) where
       item-some c (x ++ z) (omega (arith, need-least x, length-append x z, len)) ∙ ap (item_by meaning c (x ++ z)) (header_at-append x z (omega (arith, len)) ∙ e)
       ∙ ap (λ l. box_from meaning c h l (drop h.header_len (x ++ z))) (ap (λ n. take n (x ++ z)) same ∙ take-append_seam x z) ∙ ap (box_from meaning c h x) (ap (λ n. drop n (x ++ z)) same ∙ drop-append_seam x z)
 
-  -- the same, directly behind a moof
-  pub behind-headed : (c : Context) (tracks : List Track) (moof x z : List ℕ) (h : Header) → length x ≡ need x → header_at x ≡ steps.Whole h → after_moof meaning c tracks moof (x ++ z) ≡ second meaning c tracks moof h z
-  behind-headed c tracks moof x z h len e =
+  -- the same, directly after a moof
+  pub after-headed : (c : Context) (tracks : List Track) (moof x z : List ℕ) (h : Header) → length x ≡ need x → header_at x ≡ steps.Whole h → after_moof meaning c tracks moof (x ++ z) ≡ second meaning c tracks moof h z
+  after-headed c tracks moof x z h len e =
       let w = whole_is x h e in
       let same : h.header_len ≡ length x = omega (arith, w.1, len) in
-      behind-some c tracks moof (x ++ z) (omega (arith, need-least x, length-append x z, len)) ∙ ap (after_moof_by meaning c tracks moof (x ++ z)) (header_at-append x z (omega (arith, len)) ∙ e)
+      after-some c tracks moof (x ++ z) (omega (arith, need-least x, length-append x z, len)) ∙ ap (after_moof_by meaning c tracks moof (x ++ z)) (header_at-append x z (omega (arith, len)) ∙ e)
       ∙ ap (second meaning c tracks moof h) (ap (λ n. drop n (x ++ z)) same ∙ drop-append_seam x z)
 
   -- ---- a fragment
@@ -138,7 +138,7 @@ module _ (meaning : Meaning) where
 
   mdat-taken : (f : Fragment) (next : ℕ) (h : Header) (b : List ℕ) (g : Option Fault) → HasRoom h.size h.header_len → IsTaken (λ z. mdat_by meaning f next h z g) (next + h.header_len) b (mdat_by meaning f next h b g)
   mdat-taken f next h b (Some g) room = tt
-  mdat-taken f next h b None room = told-taken (meaning.accepted f) (media_body meaning f next h h.size) (next + h.header_len) b (media_body meaning f next h h.size b) (media-taken f next h h.size b room)
+  mdat-taken f next h b None room = emitted-taken (meaning.accepted f) (media_body meaning f next h h.size) (next + h.header_len) b (media_body meaning f next h h.size b) (media-taken f next h h.size b room)
 
   second_by-taken : (c : Context) (tracks : List Track) (x : List ℕ) (h : Header) (b : List ℕ) (kind : Kind) → HasRoom h.size h.header_len → IsTaken (λ z. second_by meaning c tracks x h z kind) (c.at + length x + h.header_len) b (second_by meaning c tracks x h b kind)
   second_by-taken c tracks x h b Moov room = tt
@@ -151,10 +151,10 @@ module _ (meaning : Meaning) where
   second-taken c tracks x h b true e room = rw e tt
   second-taken c tracks x h b false e room = rw e (second_by-taken c tracks x h b (kind_in h.kind.0) room)
 
-  behind_by-taken : (c : Context) (tracks : List Track) (x b : List ℕ) (s : Step) → header_at b ≡ s → IsTaken (after_moof meaning c tracks x) (c.at + length x) b (after_moof_by meaning c tracks x b s)
-  behind_by-taken c tracks x b steps.More e = tt
-  behind_by-taken c tracks x b steps.BadSize e = tt
-  behind_by-taken c tracks x b (steps.Whole h) e =
+  after_by-taken : (c : Context) (tracks : List Track) (x b : List ℕ) (s : Step) → header_at b ≡ s → IsTaken (after_moof meaning c tracks x) (c.at + length x) b (after_moof_by meaning c tracks x b s)
+  after_by-taken c tracks x b steps.More e = tt
+  after_by-taken c tracks x b steps.BadSize e = tt
+  after_by-taken c tracks x b (steps.Whole h) e =
       let w = whole_is b h e in
       let head = take h.header_len b in
       let len : length (take h.header_len b) ≡ h.header_len = length-take-le h.header_len b (omega (arith, w.0, w.1)) in
@@ -162,12 +162,12 @@ module _ (meaning : Meaning) where
       let second-own : IsTaken (second meaning c tracks x h) (c.at + length x + length head) rest (second meaning c tracks x h rest) =
       subst (λ n. IsTaken (second meaning c tracks x h) (c.at + length x + n) rest (second meaning c tracks x h rest)) (sym len) (second-taken c tracks x h rest _ refl (subst (HasRoom h.size) len (head-room b h e))) in
       subst (λ l. IsTaken (after_moof meaning c tracks x) (c.at + length x) l (second meaning c tracks x h rest)) (take-append-drop h.header_len b)
-      (front-taken (after_moof meaning c tracks x) (second meaning c tracks x h) (c.at + length x) head rest (second meaning c tracks x h rest) (λ y. behind-headed c tracks x head y h (front-len b h e) (front-is b h e)) second-own)
+      (front-taken (after_moof meaning c tracks x) (second meaning c tracks x h) (c.at + length x) head rest (second meaning c tracks x h rest) (λ y. after-headed c tracks x head y h (front-len b h e) (front-is b h e)) second-own)
 
-  pub behind-own : (c : Context) (tracks : List Track) (x b : List ℕ) → IsTaken (after_moof meaning c tracks x) (c.at + length x) b (after_moof meaning c tracks x b)
+  pub after-own : (c : Context) (tracks : List Track) (x b : List ℕ) → IsTaken (after_moof meaning c tracks x) (c.at + length x) b (after_moof meaning c tracks x b)
   unfolding after_moof
-  behind-own c tracks x [] = tt
-  behind-own c tracks x (a ∷ b) = behind_by-taken c tracks x (a ∷ b) (header_at (a ∷ b)) refl
+  after-own c tracks x [] = tt
+  after-own c tracks x (a ∷ b) = after_by-taken c tracks x (a ∷ b) (header_at (a ∷ b)) refl
 
   -- ---- a moov or a moof
 
@@ -177,36 +177,36 @@ module _ (meaning : Meaning) where
 
   timed-taken : (c : Context) (tracks : List Track) (x b : List ℕ) (f : Option Fault) → IsTaken (λ z. timed_box meaning c tracks x z f) (c.at + length x) b (timed_box meaning c tracks x b f)
   timed-taken c tracks x b (Some f) = tt
-  timed-taken c tracks x b None = told-taken (requests_memory c.at (with_runs c tracks x)) (after_moof meaning c tracks x) (c.at + length x) b (after_moof meaning c tracks x b) (behind-own c tracks x b)
+  timed-taken c tracks x b None = emitted-taken (requests_memory c.at (with_runs c tracks x)) (after_moof meaning c tracks x) (c.at + length x) b (after_moof meaning c tracks x b) (after-own c tracks x b)
 
   moof-taken : (c : Context) (tracks : List Track) (x b : List ℕ) (f : Option Fault) → IsTaken (λ z. moof_box meaning c tracks x z f) (c.at + length x) b (moof_box meaning c tracks x b f)
   moof-taken c tracks x b (Some f) = tt
   moof-taken c tracks x b None =
       let late = least (time_faults (moof_trafs (moof_at x c.at) tracks)) in
-      told-taken (counts (walked (moof_at x c.at))) (λ z. timed_box meaning c tracks x z late) (c.at + length x) b (timed_box meaning c tracks x b late) (timed-taken c tracks x b late)
+      emitted-taken (counts (inspected (moof_at x c.at))) (λ z. timed_box meaning c tracks x z late) (c.at + length x) b (timed_box meaning c tracks x b late) (timed-taken c tracks x b late)
 
   whole-taken : (c : Context) (x b : List ℕ) (tracks : Option (List Track)) → IsTaken (λ z. whole_box_by meaning c x z tracks) (c.at + length x) b (whole_box_by meaning c x b tracks)
   whole-taken c x b None = moov-taken c x b (moov_fault c.at x)
-  whole-taken c x b (Some tracks) = moof-taken c tracks x b (early_fault (moof_at x c.at) tracks)
+  whole-taken c x b (Some tracks) = moof-taken c tracks x b (fault_before_times (moof_at x c.at) tracks)
 
   -- all of it came
-  pub kept-whole : (c : Context) (kind : FourCc) (x y : List ℕ) → kept_body meaning c kind (length x) (x ++ y) ≡ whole_box_by meaning c x y c.tracks
+  pub kept-whole : (c : Context) (kind : FourCc) (x y : List ℕ) → buffered_body meaning c kind (length x) (x ++ y) ≡ whole_box_by meaning c x y c.tracks
   kept-whole c kind x y = rw (nat_lt_false (length (x ++ y)) (length x) (omega (arith, length-append x y)), take-append_seam x y, drop-append_seam x y) refl
 
-  kept-taken : (c : Context) (kind : FourCc) (size : ℕ) (b : List ℕ) (t : Bool) → nat_lt (length b) size ≡ t → IsTaken (kept_body meaning c kind size) c.at b (kept_body meaning c kind size b)
+  kept-taken : (c : Context) (kind : FourCc) (size : ℕ) (b : List ℕ) (t : Bool) → nat_lt (length b) size ≡ t → IsTaken (buffered_body meaning c kind size) c.at b (buffered_body meaning c kind size b)
   kept-taken c kind size b true e = rw e tt
   kept-taken c kind size b false e =
       let x = take size b in
       let len : length (take size b) ≡ size = length-take-le size b (ltb-false _ _ e) in
       let v = whole_box_by meaning c x (drop size b) c.tracks in
-      let own : IsTaken (kept_body meaning c kind size) c.at (take size b ++ drop size b) v =
-      front-taken (kept_body meaning c kind size) (λ z. whole_box_by meaning c x z c.tracks) c.at x (drop size b) v
-      (λ y. ap (λ n. kept_body meaning c kind n (x ++ y)) (sym len) ∙ kept-whole c kind x y) (whole-taken c x (drop size b) c.tracks) in
-      rw e (subst (λ l. IsTaken (kept_body meaning c kind size) c.at l v) (take-append-drop size b) own)
+      let own : IsTaken (buffered_body meaning c kind size) c.at (take size b ++ drop size b) v =
+      front-taken (buffered_body meaning c kind size) (λ z. whole_box_by meaning c x z c.tracks) c.at x (drop size b) v
+      (λ y. ap (λ n. buffered_body meaning c kind n (x ++ y)) (sym len) ∙ kept-whole c kind x y) (whole-taken c x (drop size b) c.tracks) in
+      rw e (subst (λ l. IsTaken (buffered_body meaning c kind size) c.at l v) (take-append-drop size b) own)
 
   keeping-taken : (c : Context) (h : Header) (limit s : ℕ) (b : List ℕ) (t : Bool) → nat_lt limit s ≡ t → IsTaken (λ z. keeping meaning c h limit z (Exact s)) c.at b (keeping meaning c h limit b (Exact s))
   keeping-taken c h limit s b true e = rw e tt
-  keeping-taken c h limit s b false e = rw e (told-taken (requests_memory c.at (table_of c.tracks + s)) (kept_body meaning c h.kind s) c.at b (kept_body meaning c h.kind s b) (kept-taken c h.kind s b _ refl))
+  keeping-taken c h limit s b false e = rw e (emitted-taken (requests_memory c.at (table_of c.tracks + s)) (buffered_body meaning c h.kind s) c.at b (buffered_body meaning c h.kind s b) (kept-taken c h.kind s b _ refl))
 
   keeping-taken_by : (c : Context) (h : Header) (limit : ℕ) (b : List ℕ) (size : Size) → IsTaken (λ z. keeping meaning c h limit z size) c.at b (keeping meaning c h limit b size)
   keeping-taken_by c h limit b (Exact s) = keeping-taken c h limit s b _ refl
@@ -219,12 +219,12 @@ module _ (meaning : Meaning) where
   -- ---- the whole
 
   box_in-taken : (c : Context) (h : Header) (x b : List ℕ) (kind : Kind) (tracks : Option (List Track)) → HasRoom h.size (length x) → IsTaken (λ z. box_in meaning c h x z kind tracks) (c.at + length x) b (box_in meaning c h x b kind tracks)
-  box_in-taken c h x b Moov None room = behind-taken (λ z. keeping meaning c h most_moov z h.size) c.at x b (keeping meaning c h most_moov (x ++ b) h.size) (keeping-below meaning c h most_moov x b h.size room) (keeping-taken_by c h most_moov (x ++ b) h.size)
+  box_in-taken c h x b Moov None room = after-taken (λ z. keeping meaning c h most_moov z h.size) c.at x b (keeping meaning c h most_moov (x ++ b) h.size) (keeping-below meaning c h most_moov x b h.size room) (keeping-taken_by c h most_moov (x ++ b) h.size)
   box_in-taken c h x b Moov (Some tracks) room = tt
   box_in-taken c h x b Moof None room = tt
-  box_in-taken c h x b Moof (Some tracks) room = behind-taken (λ z. keeping meaning c h most_moof z h.size) c.at x b (keeping meaning c h most_moof (x ++ b) h.size) (keeping-below meaning c h most_moof x b h.size room) (keeping-taken_by c h most_moof (x ++ b) h.size)
+  box_in-taken c h x b Moof (Some tracks) room = after-taken (λ z. keeping meaning c h most_moof z h.size) c.at x b (keeping meaning c h most_moof (x ++ b) h.size) (keeping-below meaning c h most_moof x b h.size room) (keeping-taken_by c h most_moof (x ++ b) h.size)
   box_in-taken c h x b Mdat tracks room = tt
-  box_in-taken c h x b Other tracks room = behind-taken (λ z. passing meaning c h.kind z h.size) c.at x b (passing meaning c h.kind (x ++ b) h.size) (passing-below meaning c h.kind x b h.size room) (passing-taken c h.kind (x ++ b) h.size)
+  box_in-taken c h x b Other tracks room = after-taken (λ z. passing meaning c h.kind z h.size) c.at x b (passing meaning c h.kind (x ++ b) h.size) (passing-below meaning c h.kind x b h.size room) (passing-taken c h.kind (x ++ b) h.size)
 
   box_from-taken : (c : Context) (h : Header) (x b : List ℕ) (t : Bool) → nat_lt longest (least_end c.at h h.size) ≡ t → HasRoom h.size (length x)
       → IsTaken (λ z. if nat_lt longest (least_end c.at h h.size) then Last (at_fault StreamTooLong (Some h.kind) c.at) else box_in meaning c h x z (kind_in h.kind.0) c.tracks) (c.at + length x) b (box_from meaning c h x b)

@@ -1,4 +1,4 @@
--- What is known of a fragmented stream where one of its boxes begins.
+-- The context of a fragmented stream where one of its boxes begins.
 use Rattle.std.specs.Prelude.{ℕ, ◌*◌, List, length, Option, Some, None}
 use Rattle.mp4_init.specs.declared.table.Track.{Track}
 
@@ -12,7 +12,7 @@ pub record Context : Type 0 where
 abbrev pub context : ℕ → Option (List Track) → ℕ → Context
 context at tracks number = record { at = at; tracks = tracks; number = number }
 
--- where a stream begins
+-- the context at the start of a stream
 abbrev pub first_context : Context
 first_context = context 0 None 1
 

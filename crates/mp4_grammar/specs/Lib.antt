@@ -9,4 +9,4 @@ pub mod Joined
 pub mod Rests
 pub mod HeldSizes
 pub mod WithoutText
-pub mod Working
+pub mod Implementation

@@ -1,4 +1,4 @@
--- What is left of a fragmented stream behind whole items that break no rule, and what it is read as.
+-- What is left of a fragmented stream after whole items that break no rule, and how it is read.
 use Rattle.std.specs.Prelude.{◌≡◌, ◌≢◌, ℕ, ◌+◌, ◌-◌, ◌<◌, ◌≤◌, List, [], ◌++◌, length, take, Option, Some, None}
 use Rattle.mp4_box.specs.Headers.{BeginsWith, Headed, kind_of, need}
 use Rattle.mp4_box.specs.Order.{least}
@@ -9,12 +9,12 @@ use Rattle.mp4_box.specs.declared.rules.Rule.{Rule}
 use Rattle.mp4_box.specs.declared.rules.Rule.TheVariants.{BadSize, MdatMissing, NoMoov, SecondMoov, StrayMdat, StreamTooLong, TooLarge, Truncated}
 use Rattle.mp4_init.specs.Moovs.{moov_fault}
 use Rattle.mp4_init.specs.declared.table.Track.{Track}
-use Rattle.mp4_frag.specs.Moofs.{early_fault, IsRead, moof_trafs, time_faults}
+use Rattle.mp4_frag.specs.Moofs.{fault_before_times, IsRead, moof_trafs, time_faults}
 use Rattle.mp4_frag.specs.Runs.{moof_at}
 use Rattle.mp4_machine.specs.Bodies.{cut_off, fault, least_end, longest, at_fault}
-use Rattle.mp4_machine.specs.Readings.{CutOff, Faulty, Outcome, Reading, Sound, Effects, after, requests_memory, counts, empty_reading, silent}
+use Rattle.mp4_machine.specs.Readings.{CutOff, Faulty, Outcome, Reading, Sound, Effects, after, requests_memory, counts, empty_reading, no_effects}
 use Rattle.mp4_grammar.specs.Contexts.{Context, table_of}
-use Rattle.mp4_grammar.specs.Items.{walked}
+use Rattle.mp4_grammar.specs.Items.{inspected}
 use Rattle.mp4_grammar.specs.Joined.{AreSound, IsGood, IsMoofHere, IsMoovHere, Item, OneBox, context_after_all, fragment_here, joined, moof_requests, moof_effects, tracks_in}
 use Rattle.mp4_grammar.specs.Kinds.{kind_in, moof, most_moof, most_moov}
 use Rattle.mp4_grammar.specs.Meanings.{Fragment, Meaning, fragment_fault, needed_in}
@@ -27,7 +27,7 @@ pub record Boxed (y : List ℕ) : Type 0 where
   pub more : List ℕ
   pub cut : y ≡ box.bytes ++ more
 
--- this is told, and the reading ends so
+-- these effects, and the reading ends so
 abbrev pub ends : Effects → Outcome → Reading
 ends effects outcome = record { effects = effects; outcome = outcome }
 
@@ -41,7 +41,7 @@ HasSize kind at s h = (kind_in h.kind.0 ≡ kind) × (h.size ≡ Exact s) × (at
 abbrev pub IsOpen : Kind → Header → Type 0
 IsOpen kind h = (kind_in h.kind.0 ≡ kind) × (h.size ≡ ToEnd)
 
--- how many bytes a box that is held may have: a moov before there are tracks, and a moof behind it
+-- how many bytes a box that is held may have: a moov before there are tracks, and a moof after it
 abbrev pub most_here : Kind → Option (List Track) → Option ℕ
 most_here Moov None = Some most_moov
 most_here Moov (Some tracks) = None
@@ -50,10 +50,10 @@ most_here Moof (Some tracks) = Some most_moof
 most_here Mdat tracks = None
 most_here Other tracks = None
 
-abbrev pub IsHeld : Context → ℕ → ℕ → Header → Type 0
-IsHeld c s limit h = (most_here (kind_in h.kind.0) c.tracks ≡ Some limit) × (h.size ≡ Exact s) × (c.at + s ≤ longest)
+abbrev pub IsBuffered : Context → ℕ → ℕ → Header → Type 0
+IsBuffered c s limit h = (most_here (kind_in h.kind.0) c.tracks ≡ Some limit) × (h.size ≡ Exact s) × (c.at + s ≤ longest)
 
--- the rule that it breaks where it stands: a second moov, a moof before the moov, or an mdat that is behind no moof
+-- the rule that it breaks at its place: a second moov, a moof before the moov, or an mdat that follows no moof
 abbrev pub place_rule : Kind → Option (List Track) → Option Rule
 place_rule Moov None = None
 place_rule Moov (Some tracks) = Some SecondMoov
@@ -62,13 +62,13 @@ place_rule Moof (Some tracks) = None
 place_rule Mdat tracks = Some StrayMdat
 place_rule Other tracks = None
 
--- ---- behind a moof
+-- ---- after a moof
 
--- what is told of a good fragment, of whose media these bytes came, and how its reading ends
+-- effects of a sound fragment, of whose media these bytes came, and how its reading ends
 abbrev pub media_ends : Meaning → Fragment → List ℕ → Outcome → Reading
 media_ends meaning f bytes outcome = after (meaning.accepted f) (ends (meaning.media f bytes) outcome)
 
--- the bytes z stand behind a good moof x in a context, and are read so: they begin with no whole mdat with which the fragment is good
+-- the bytes z follow a sound moof x in a context, and are read so: they begin with no whole mdat with which the fragment is sound
 pub data IsAfterMoof (meaning : Meaning) (c : Context) (x z : List ℕ) (r : Reading) : Type 0 where
   -- nothing is left
   NoMdat :
@@ -95,7 +95,7 @@ pub data IsAfterMoof (meaning : Meaning) (c : Context) (x z : List ℕ) (r : Rea
       (b : Headed z) (f : Fault) → kind_in b.header.kind.0 ≡ Mdat
       → least_end (c.at + length x) b.header b.header.size ≤ longest
       → fragment_fault meaning (fragment_here c x b.header) ≡ Some f
-      → r ≡ ends silent (Faulty f) → IsAfterMoof meaning c x z r
+      → r ≡ ends no_effects (Faulty f) → IsAfterMoof meaning c x z r
   -- an mdat that isn't whole
   CutInMedia :
       (b : Headed z) (s : ℕ) → HasSize Mdat (c.at + length x) s b.header → IsGood meaning c x b.header → length z < s
@@ -119,7 +119,7 @@ pub data IsAfterMoof (meaning : Meaning) (c : Context) (x z : List ℕ) (r : Rea
 
 -- ---- the rest
 
--- the rest y stands in a context, and is read so
+-- the rest y in a context is read so
 pub data IsRest (meaning : Meaning) (c : Context) (y : List ℕ) (r : Reading) : Type 0 where
   -- nothing is left
   Ended :
@@ -137,7 +137,7 @@ pub data IsRest (meaning : Meaning) (c : Context) (y : List ℕ) (r : Reading) :
   TooFar :
       (b : Headed y) → longest < least_end c.at b.header b.header.size
       → r ≡ at_fault StreamTooLong (Some b.header.kind) c.at → IsRest meaning c y r
-  -- a box that may not stand here
+  -- a box that may not be here
   OutOfPlace :
       (b : Headed y) (rule : Rule) → place_rule (kind_in b.header.kind.0) c.tracks ≡ Some rule
       → least_end c.at b.header b.header.size ≤ longest
@@ -157,7 +157,7 @@ pub data IsRest (meaning : Meaning) (c : Context) (y : List ℕ) (r : Reading) :
       → IsRest meaning c y r
   -- a moov or moof that is too large, or states no size
   Large :
-      (b : Headed y) (s limit : ℕ) → IsHeld c s limit b.header → limit < s
+      (b : Headed y) (s limit : ℕ) → IsBuffered c s limit b.header → limit < s
       → r ≡ at_fault TooLarge (Some b.header.kind) c.at → IsRest meaning c y r
   Unsized :
       (b : Headed y) (limit : ℕ) → most_here (kind_in b.header.kind.0) c.tracks ≡ Some limit → b.header.size ≡ ToEnd
@@ -165,27 +165,27 @@ pub data IsRest (meaning : Meaning) (c : Context) (y : List ℕ) (r : Reading) :
       → r ≡ at_fault TooLarge (Some b.header.kind) c.at → IsRest meaning c y r
   -- one that isn't whole
   CutInHeld :
-      (b : Headed y) (s limit : ℕ) → IsHeld c s limit b.header → s ≤ limit → length y < s
+      (b : Headed y) (s limit : ℕ) → IsBuffered c s limit b.header → s ≤ limit → length y < s
       → r ≡ after (requests_memory c.at (table_of c.tracks + s)) (cut_off Truncated (Some b.header.kind) c.at)
       → IsRest meaning c y r
   -- a moov with a fault
   BadMoov :
       (b : Boxed y) (f : Fault) → IsMoovHere c b.box → c.at + length b.box.bytes ≤ longest
       → moov_fault c.at b.box.bytes ≡ Some f
-      → r ≡ after (requests_memory c.at (length b.box.bytes)) (ends silent (Faulty f)) → IsRest meaning c y r
-  -- a moof with a fault by any rule but that of times; or else by that one, once its samples were looked at
+      → r ≡ after (requests_memory c.at (length b.box.bytes)) (ends no_effects (Faulty f)) → IsRest meaning c y r
+  -- a moof with a fault by any rule but that of times; or else by that one, once its samples were inspected
   BadMoof :
       (b : Boxed y) (f : Fault) → IsMoofHere c b.box → c.at + length b.box.bytes ≤ longest
-      → early_fault (moof_at b.box.bytes c.at) (tracks_in c) ≡ Some f
-      → r ≡ after (moof_requests c b.box.bytes) (ends silent (Faulty f)) → IsRest meaning c y r
+      → fault_before_times (moof_at b.box.bytes c.at) (tracks_in c) ≡ Some f
+      → r ≡ after (moof_requests c b.box.bytes) (ends no_effects (Faulty f)) → IsRest meaning c y r
   LateMoof :
       (b : Boxed y) (f : Fault) → IsMoofHere c b.box → c.at + length b.box.bytes ≤ longest
-      → early_fault (moof_at b.box.bytes c.at) (tracks_in c) ≡ None
+      → fault_before_times (moof_at b.box.bytes c.at) (tracks_in c) ≡ None
       → least (time_faults (moof_trafs (moof_at b.box.bytes c.at) (tracks_in c))) ≡ Some f
-      → r ≡ after (moof_requests c b.box.bytes) (after (counts (walked (moof_at b.box.bytes c.at))) (ends silent (Faulty f)))
+      → r ≡ after (moof_requests c b.box.bytes) (after (counts (inspected (moof_at b.box.bytes c.at))) (ends no_effects (Faulty f)))
       → IsRest meaning c y r
-  -- a good moof, and no whole mdat behind it with which the fragment is good
-  BehindMoof :
+  -- a sound moof, and no whole mdat after it with which the fragment is sound
+  AfterMoof :
       (b : Boxed y) (s : Reading) → IsMoofHere c b.box → c.at + length b.box.bytes ≤ longest
       → IsRead (moof_at b.box.bytes c.at) (tracks_in c) → IsAfterMoof meaning c b.box.bytes b.more s
       → r ≡ after (moof_effects c b.box.bytes) s → IsRest meaning c y r

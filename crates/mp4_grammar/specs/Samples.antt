@@ -11,7 +11,7 @@ use Rattle.mp4_frag.specs.SyncSamples.{is_sync}
 use Rattle.mp4_grammar.specs.Meanings.{Fragment, runs_in}
 use Rattle.mp4_grammar.specs.declared.sample.Sample.{Sample}
 
--- the sample of a row of a run that is decoded at a time, and whose bytes stand at a place
+-- the sample of a row of a run that is decoded at a time, and whose bytes lie at a place
 abbrev pub sample_of : Run → Row → ℕ → ℤ → Sample
 sample_of run row time place = record {
   track = run.track;
@@ -24,7 +24,7 @@ sample_of run row time place = record {
   place = place;
 }
 
--- the samples of these rows: each is decoded when the one before it ends, and its bytes stand behind those of that
+-- the samples of these rows: each is decoded when the one before it ends, and its bytes follow those of that
 abbrev pub samples_from : Run → List Row → ℕ → ℤ → List Sample
 samples_from run [] time place = []
 samples_from run (row ∷ rows) time place = sample_of run row time place ∷ samples_from run rows (time + row.duration) (place +ℤ pos row.size)

@@ -1,4 +1,4 @@
-//! What is made of the fragments of a stream.
+//! Operations that read fragments and write none.
 
 /// A command that reads fragments.
 #[derive(Clone, Copy, Debug, PartialEq, Eq)]

@@ -4,6 +4,7 @@ ghost use Rattle.std.specs.Prelude.{◌≡◌};
 ghost use Rattle.mp4_grammar.specs.Kinds.{kind_in};
 
 use mp4_box::FourCc;
+use mp4_box::types::{MDAT, MOOF, MOOV};
 
 /// The most bytes that a moov may have.
 pub const MOST_MOOV: u64 = 16_777_216;
@@ -30,13 +31,13 @@ pub enum Kind {
 pub fn kind_of(kind: FourCc) -> Kind
     ensures { result ≡ kind_in kind.0 }
 {
-    if kind.is(FourCc(*b"moov")) {
+    if kind.is(MOOV) {
         return Kind::Moov;
     }
-    if kind.is(FourCc(*b"moof")) {
+    if kind.is(MOOF) {
         return Kind::Moof;
     }
-    if kind.is(FourCc(*b"mdat")) {
+    if kind.is(MDAT) {
         return Kind::Mdat;
     }
     Kind::Other

@@ -6,7 +6,7 @@ ghost use Rattle.mp4_machine.specs.Bodies.{longest};
 ghost use Rattle.mp4_machine.specs.Readings.{Request, GrowsTo, Reading, after, most_of};
 ghost use Rattle.mp4_grammar.specs.Commands.{command_meaning, reading};
 ghost use Rattle.mp4_grammar.specs.Contexts.{Context, first_context};
-ghost use Rattle.mp4_grammar.specs.Counts.{WalksOn};
+ghost use Rattle.mp4_grammar.specs.Counts.{InspectsOn};
 ghost use Rattle.mp4_grammar.specs.HeldSizes.{HoldsWithin};
 ghost use Rattle.mp4_grammar.specs.Items.{reads_in};
 ghost use Rattle.mp4_grammar.specs.Joined.{AreSound, Item, context_after_all, joined, items_effects};
@@ -18,14 +18,14 @@ ghost use Rattle.mp4_grammar.specs.declared.command.Command.{Command};
 
 /// Each stream is whole items that break no rule, one after the other, and then one of the rests that `IsRest` names:
 /// nothing, or a box or a fragment that is cut, that goes too far, that breaks a rule, or that goes to the end of the
-/// stream. It is read as these items tell, and then as the rest says, whatever a command makes of it.
+/// stream. It is read as these items say, and then as the rest says, for each operation.
 pub fn every_stream()
     ensures { (meaning : Meaning) (b : List ℕ) → IsBytes b → (s : Split meaning first_context b) ×
         (reads_in meaning first_context b ≡ after (items_effects meaning first_context s.items) s.reading) }
 {}
 
-/// Whole items that break no rule are told one after the other, and the bytes behind them are read in the context behind
-/// them: a moov makes the tracks known, and a fragment settles where they end.
+/// Whole items that break no rule have their effects one after the other, and the bytes after them are read in the
+/// context after them: a moov makes the tracks known, and a fragment settles where they end.
 pub fn whole_items()
     ensures { (meaning : Meaning) (c : Context) (is : List Item) (later : List ℕ) →
         AreSound meaning c is → c.at + length (joined is) ≤ longest →
@@ -39,22 +39,22 @@ pub fn each_rest()
         IsRest meaning c y r → reads_in meaning c y ≡ r }
 {}
 
-/// What more bytes tell begins with what fewer tell, and a fault that these decide is that of every stream
+/// More bytes extend the output of fewer, and a fault that these decide is that of every stream
 /// that begins with them.
 pub fn more_bytes()
     ensures { (command : Command) (b later : List ℕ) →
         GrowsTo (reading command b) (reading command (b ++ later)) }
 {}
 
-/// Where a box asks for memory, the text before is exactly that of the bytes before it, and so are the counts, but that
-/// the samples of a moof are looked at before a list of its runs is asked for.
+/// Where a box requests memory, the text before the request is exactly that of the bytes before the box. So are the
+/// counts, except that the samples of a moof are inspected before a list of its runs is requested.
 pub fn lines_before()
     ensures text { (command : Command) (b : List ℕ) (before : List Request) (a : Request)
         (later : List Request) → (reading command b).effects.requests ≡ before ++ a ∷ later →
         take a.text_before (reading command b).effects.text ≡ (reading command (take a.at b)).effects.text }
     ensures counted { (command : Command) (b : List ℕ) (before : List Request) (a : Request)
         (later : List Request) → (reading command b).effects.requests ≡ before ++ a ∷ later →
-        WalksOn (reading command (take a.at b)).effects.tally a.counted }
+        InspectsOn (reading command (take a.at b)).effects.tally a.counted }
 {}
 
 /// A moov may have 16 MiB, and a moof 64 MiB.
@@ -63,31 +63,32 @@ pub fn limits()
     ensures moof { most_moof ≡ 2 ^ 26 }
 {}
 
-/// No stream asks for more than a table as large as the largest moov, the largest moof and a list of its runs, which takes
-/// at most four times its bytes.
+/// No stream requests more than a table as large as the largest moov, the largest moof and a list of its runs, which
+/// takes at most four times its bytes.
 pub fn requests_bound()
     ensures { (command : Command) (b : List ℕ) → IsBytes b →
         most_of (reading command b).effects ≤ most_moov + 5 * most_moof }
 {}
 
-/// No stream asks for more than twice the bytes of its largest moov and five times those of its largest moof: the table of the
-/// tracks takes no more than the moov, and a list of runs no more than four times its moof. These are boxes that are asked for:
-/// whole items that break no rule stand before, and their header is good and states no more than they may have.
+/// No stream requests more than twice the bytes of its largest moov and five times those of its largest moof: the table
+/// of the tracks takes no more than the moov, and a list of runs no more than four times its moof. These are boxes that
+/// are asked for: whole items that break no rule come before, and their header is good and states no more than they may
+/// have.
 pub fn requests_within()
     ensures { (command : Command) (b : List ℕ) (moov moof : ℕ) → IsBytes b →
         HoldsWithin (command_meaning command) first_context b moov moof →
         most_of (reading command b).effects ≤ 2 * moov + 5 * moof }
 {}
 
-/// All samples that are counted were looked at.
-pub fn samples_are_walked()
+/// All samples that are counted were inspected.
+pub fn samples_are_inspected()
     ensures { (command : Command) (b : List ℕ) →
-        (reading command b).effects.tally.samples ≤ (reading command b).effects.tally.walked }
+        (reading command b).effects.tally.samples ≤ (reading command b).effects.tally.inspected }
 {}
 
-/// A command that makes of each stream what another makes of it, but tells no text, reads each stream as the other: with the
-/// same outcome, the same asks and the same counts.
+/// An operation that reads each stream as another does, but writes no text, reads each stream as the other: with the
+/// same outcome, the same requests and the same counts.
 pub fn text_alone()
-    ensures { (meaning : Meaning) (silent : Meaning) (c : Context) (b : List ℕ) →
-        IsWithoutText meaning silent → reads_in silent c b ≡ without_text (reads_in meaning c b) }
+    ensures { (meaning : Meaning) (no_effects : Meaning) (c : Context) (b : List ℕ) →
+        IsWithoutText meaning no_effects → reads_in no_effects c b ≡ without_text (reads_in meaning c b) }
 {}

@@ -1,26 +1,26 @@
 //! The items of a fragmented stream and what its bytes are read as: a moov, fragments, and other boxes between them.
 //!
 //! - [`kinds`]: [`Kind`], the kinds of boxes at the top of a stream;
-//! - [`command`]: [`Command`], what is made of fragments;
+//! - [`command`]: [`Command`], the operations on fragments;
 //! - [`sample`]: [`Sample`], and its line in a listing;
-//! - [`kept_line`]: [`KeptLine`], the lines of samples that follow one another;
+//! - [`cached_line`]: [`CachedLine`], the lines of samples that follow one another;
 //! - [`laws`]: what the definitions of `specs/` imply.
 //!
-//! The definitions: `specs/Items.antt` (what stands at the front of some bytes, and what is told of it) with
-//! `specs/Contexts.antt` (what is known where an item begins) and `specs/Kinds.antt`; `specs/Meanings.antt` (what a
-//! command makes of a fragment), `specs/Samples.antt` (the samples of a fragment and their lines), `specs/Commands.antt`
-//! (the commands). The laws speak of `specs/Joined.antt` (whole items one after the other), `specs/Rests.antt` (what may be
-//! left behind them), `specs/HeldSizes.antt` (how large the boxes are that are held), `specs/Counts.antt` (what is counted
-//! before a box that asks for memory) and `specs/WithoutText.antt` (what is told without its text) too.
+//! The definitions: `specs/Items.antt` (what is at the front of some bytes, and its effects) with `specs/Contexts.antt`
+//! (what is known where an item begins) and `specs/Kinds.antt`; `specs/Meanings.antt` (what a command makes of a
+//! fragment), `specs/Samples.antt` (the samples of a fragment and their lines), `specs/Commands.antt` (the commands).
+//! The laws speak of `specs/Joined.antt` (whole items one after the other), `specs/Rests.antt` (what may be left after
+//! them), `specs/HeldSizes.antt` (how large the boxes are that are held), `specs/Counts.antt` (what is counted before a
+//! box that requests memory) and `specs/WithoutText.antt` (effects without their text) too.
 #![tactic(auto)]
 
+pub mod cached_line;
 pub mod command;
-pub mod kept_line;
 pub mod kinds;
 pub mod laws;
 pub mod sample;
 
+pub use cached_line::CachedLine;
 pub use command::Command;
-pub use kept_line::KeptLine;
 pub use kinds::{Kind, MOST_MOOF, MOST_MOOV, kind_of};
 pub use sample::Sample;

@@ -34,7 +34,7 @@ pub struct Sample {
 }
 
 impl Sample {
-    /// The sample of a row of a run that is decoded at a time, and whose bytes stand at a place.
+    /// The sample of a row of a run that is decoded at a time, and whose bytes lie at a place.
     pub fn of(run: &Run, row: &Row, time: u64, place: i128) -> Sample
         ensures { result ≡ sample_of run.now row.now time place }
     {
@@ -65,7 +65,7 @@ impl Sample {
         block.push_decimal(self.time);
         let digits = block.len() - from;
         block.push_array(b" cts=");
-        // Mostly it is the decode time, whose digits stand there already.
+        // Mostly it is the decode time, whose digits are there already.
         if self.composition == i128::from(self.time) {
             block.push_again(from, digits);
         } else {
@@ -112,7 +112,7 @@ impl Line for Sample {
     }
 }
 
-/// Appends a number behind its name.
+/// Appends a number after its name.
 #[inline(always)]
 pub(crate) fn push_number<const N: usize, const CAP: usize>(
     text: &mut Text<CAP>,
@@ -127,7 +127,7 @@ pub(crate) fn push_number<const N: usize, const CAP: usize>(
     text.push_decimal(number);
 }
 
-/// Appends a number with a sign behind its name.
+/// Appends a number with a sign after its name.
 #[inline(always)]
 fn push_signed<const N: usize>(block: &mut Text<BLOCK_BYTES>, name: &[u8; N], number: i128)
     requires { length block.old + N + SIGNED_DECIMAL_BYTES ≤ BLOCK_BYTES }

@@ -1,33 +1,33 @@
--- What searches find when one more node was linked behind the others.
+-- What searches find when one more node was linked after the others.
 use Rattle.std.proofs.Common.{◌≡◌, ◌∙◌, ◌≤◌, ◌+◌, ◌-◌, ◌/◌, ◌%◌, ◌==◌, ℕ, zero, suc, Bool, true, false, cond, List, [], ◌∷◌, ◌++◌, length, Option, Some, None, refl, sym, ap, subst, arith}
 use Rattle.std.specs.Prelude.{slice_index_or, slice_set}
 use Rattle.std.specs.List.{position_from}
 use Rattle.std.proofs.lemmas.List.{length-set}
 use Rattle.std.proofs.lemmas.Iterator.Adapters.{position_from-zero}
 use Rattle.mp4_init.specs.declared.search_tree.Ending.{Ending}
-use Rattle.mp4_init.specs.declared.search_tree.Ending.TheVariants.{Found, Behind, Unasked}
+use Rattle.mp4_init.specs.declared.search_tree.Ending.TheVariants.{Found, After, Unasked}
 use Rattle.mp4_init.specs.declared.search_tree.Link.{Link}
 use Rattle.mp4_init.specs.declared.search_tree.Node.{Node}
-use Rattle.mp4_init.specs.Working.SearchTrees.{or_before, ending, ending_from, found_at, link_at, link_of, next_by, with_link, sought, no_node, IsIndexed}
+use Rattle.mp4_init.specs.Implementation.SearchTrees.{or_before, ending, ending_from, found_at, link_at, link_of, next_by, with_link, sought, no_node, IsIndexed}
 use Rattle.mp4_init.proofs.SearchTreeLemmas.{is_same, same_test, other_test, past, after, by_cases, stops, goes_on, passes}
 
 -- ---- where a search ends
 
--- the link behind which it ends is one of the nodes that were gone over
-behind_from : (ns : List Node) (here at id bits : ℕ) (l : Link) → ending_from ns here at id bits ≡ Behind l → here ≤ l.at
+-- the link after which it ends is one of the nodes that were gone over
+after_from : (ns : List Node) (here at id bits : ℕ) (l : Link) → ending_from ns here at id bits ≡ After l → here ≤ l.at
 unfolding ending_from
-behind_from [] here at id bits l e = absurd cc
-behind_from (n ∷ ns) here at id bits l e =
-    by_cases (λ f. f ≡ Behind l → here ≤ l.at) n ns here at id bits
+after_from [] here at id bits l e = absurd cc
+after_from (n ∷ ns) here at id bits l e =
+    by_cases (λ f. f ≡ After l → here ≤ l.at) n ns here at id bits
     (λ _ _ e. absurd cc)
-    (λ _ _ e. by (behind_from ns (here + 1) (next_by bits n) id (bits / 2) l) (after n ns here id bits) refl e)
-    (λ _ e. omega (arith, behind_from ns (here + 1) at id bits l e))
+    (λ _ _ e. by (after_from ns (here + 1) (next_by bits n) id (bits / 2) l) (after n ns here id bits) refl e)
+    (λ _ e. omega (arith, after_from ns (here + 1) at id bits l e))
     e
   where
-    by : (after n ns here id bits ≡ Behind l → here + 1 ≤ l.at)
-        → (f : Ending) → after n ns here id bits ≡ f → or_before (Behind (link_at here bits)) f ≡ Behind l → here ≤ l.at
+    by : (after n ns here id bits ≡ After l → here + 1 ≤ l.at)
+        → (f : Ending) → after n ns here id bits ≡ f → or_before (After (link_at here bits)) f ≡ After l → here ≤ l.at
     by later (Found k) is e = absurd cc
-    by later (Behind m) is e = omega (arith, later (is ∙ e))
+    by later (After m) is e = omega (arith, later (is ∙ e))
     by later Unasked is e = let same : here ≡ l.at = cc in omega arith
 
 -- where it asks no node, it asks none for another track_ID
@@ -41,12 +41,12 @@ unasked (n ∷ ns) here at id bits y b e =
     (λ other e. passes n ns here at y b other ∙ unasked ns (here + 1) at id bits y b e)
     e
   where
-    by : (f : Ending) → or_before (Behind (link_at here bits)) f ≡ Unasked → ending_from (n ∷ ns) here at y b ≡ Unasked
+    by : (f : Ending) → or_before (After (link_at here bits)) f ≡ Unasked → ending_from (n ∷ ns) here at y b ≡ Unasked
     by (Found k) e = absurd cc
-    by (Behind m) e = absurd cc
+    by (After m) e = absurd cc
     by Unasked e = absurd cc
 
--- a node that waits behind all others is found
+-- a node that waits after all others is found
 pub waits : (ns : List Node) (here at id bits : ℕ) (x : Node) → here + length ns ≡ at → x.id ≡ id → ending_from (ns ++ x ∷ []) here at id bits ≡ Found at
 waits [] here at id bits x there same =
     let here_is : here ≡ at = omega (arith, there) in
@@ -54,7 +54,7 @@ waits [] here at id bits x there same =
 waits (n ∷ ns) here at id bits x there same =
     passes n (ns ++ x ∷ []) here at id bits (λ e. omega (arith, there)) ∙ waits ns (here + 1) at id bits x (omega (arith, there)) same
 
--- ---- one more node behind the others
+-- ---- one more node after the others
 
 -- what was found is found
 pub kept : (ns : List Node) (here at id bits k : ℕ) (x : Node) → ending_from ns here at id bits ≡ Found k → ending_from (ns ++ x ∷ []) here at id bits ≡ Found k
@@ -69,24 +69,24 @@ kept (n ∷ ns) here at id bits k x e =
   where
     by : (n.id ≡ id → ⊥) → here ≡ at
         → (after n ns here id bits ≡ Found k → ending_from (ns ++ x ∷ []) (here + 1) (next_by bits n) id (bits / 2) ≡ Found k)
-        → (f : Ending) → after n ns here id bits ≡ f → or_before (Behind (link_at here bits)) f ≡ Found k
+        → (f : Ending) → after n ns here id bits ≡ f → or_before (After (link_at here bits)) f ≡ Found k
         → ending_from (n ∷ (ns ++ x ∷ [])) here at id bits ≡ Found k
     by other here_is later (Found j) is e =
-        goes_on n (ns ++ x ∷ []) here at id bits here_is other ∙ ap (or_before (Behind (link_at here bits))) (later (is ∙ e))
-    by other here_is later (Behind m) is e = absurd cc
+        goes_on n (ns ++ x ∷ []) here at id bits here_is other ∙ ap (or_before (After (link_at here bits))) (later (is ∙ e))
+    by other here_is later (After m) is e = absurd cc
     by other here_is later Unasked is e = absurd cc
 
-found_later : (link : Link) (f : Ending) → found_at (or_before (Behind link) f) ≡ found_at f
+found_later : (link : Link) (f : Ending) → found_at (or_before (After link) f) ≡ found_at f
 found_later link (Found k) = refl
-found_later link (Behind l) = refl
+found_later link (After l) = refl
 found_later link Unasked = refl
 
--- two searches that find the same behind a node, and the same past it, find the same from it on
+-- two searches that find the same after a node, and the same past it, find the same from it on
 alike : (t u : Bool) (k : ℕ) (link : Link) (e f g h : Ending) → found_at e ≡ found_at f → found_at g ≡ found_at h
-    → found_at (cond t (cond u (Found k) (or_before (Behind link) e)) g) ≡ found_at (cond t (cond u (Found k) (or_before (Behind link) f)) h)
-alike true true k link e f g h behind over = refl
-alike true false k link e f g h behind over = found_later link e ∙ behind ∙ sym (found_later link f)
-alike false u k link e f g h behind over = over
+    → found_at (cond t (cond u (Found k) (or_before (After link) e)) g) ≡ found_at (cond t (cond u (Found k) (or_before (After link) f)) h)
+alike true true k link e f g h following over = refl
+alike true false k link e f g h following over = found_later link e ∙ following ∙ sym (found_later link f)
+alike false u k link e f g h following over = over
 
 -- of one more node no search for another track_ID takes notice
 pub others : (ns : List Node) (here at id bits : ℕ) (x : Node) → (x.id ≡ id → ⊥) → found_at (ending_from (ns ++ x ∷ []) here at id bits) ≡ found_at (ending_from ns here at id bits)
@@ -111,7 +111,7 @@ leads : (odd : Bool) (to : ℕ) (n : Node) → link_of odd (with_link odd to n) 
 leads true to n = refl
 leads false to n = refl
 
--- behind a node that leads on as before
+-- after a node that leads on as before
 shifted : (n : Node) (ns : List Node) (here to : ℕ) (l : Link) → here + 1 ≤ l.at → relinked (n ∷ ns) (l.at - here) l.is_odd to ≡ n ∷ relinked ns (l.at - (here + 1)) l.is_odd to
 shifted n ns here to l far = let more : l.at - here ≡ suc (l.at - (here + 1)) = omega (arith, far) in rw more refl
 
@@ -120,53 +120,53 @@ abbrev Reaches : List Node → ℕ → ℕ → ℕ → ℕ → Link → Node →
 Reaches ns here at id bits l x to = ending_from (relinked ns (l.at - here) l.is_odd to ++ x ∷ []) here at id bits ≡ Found to
 
 -- where a search ends it goes on to the new node, where that is linked there
-pub reaches : (ns : List Node) (here at id bits to : ℕ) (l : Link) (x : Node) → to ≡ here + length ns → x.id ≡ id → ending_from ns here at id bits ≡ Behind l
+pub reaches : (ns : List Node) (here at id bits to : ℕ) (l : Link) (x : Node) → to ≡ here + length ns → x.id ≡ id → ending_from ns here at id bits ≡ After l
     → Reaches ns here at id bits l x to
 unfolding ending_from
 reaches [] here at id bits to l x there same e = absurd cc
 reaches (n ∷ ns) here at id bits to l x there same e =
-    by_cases (λ f. f ≡ Behind l → Reaches (n ∷ ns) here at id bits l x to) n ns here at id bits
+    by_cases (λ f. f ≡ After l → Reaches (n ∷ ns) here at id bits l x to) n ns here at id bits
     (λ _ _ e. absurd cc)
     (λ here_is other e. by here_is other (reaches ns (here + 1) (next_by bits n) id (bits / 2) to l x (omega (arith, there)) same) (after n ns here id bits) refl e)
     (λ other e.
-    rw (shifted n ns here to l (behind_from ns (here + 1) at id bits l e))
+    rw (shifted n ns here to l (after_from ns (here + 1) at id bits l e))
     (passes n (relinked ns (l.at - (here + 1)) l.is_odd to ++ x ∷ []) here at id bits other ∙ reaches ns (here + 1) at id bits to l x (omega (arith, there)) same e))
     e
   where
     by : here ≡ at → (n.id ≡ id → ⊥)
-        → (after n ns here id bits ≡ Behind l → Reaches ns (here + 1) (next_by bits n) id (bits / 2) l x to)
-        → (f : Ending) → after n ns here id bits ≡ f → or_before (Behind (link_at here bits)) f ≡ Behind l
+        → (after n ns here id bits ≡ After l → Reaches ns (here + 1) (next_by bits n) id (bits / 2) l x to)
+        → (f : Ending) → after n ns here id bits ≡ f → or_before (After (link_at here bits)) f ≡ After l
         → Reaches (n ∷ ns) here at id bits l x to
     by here_is other later (Found k) is e = absurd cc
-    by here_is other later (Behind m) is e =
-        rw (shifted n ns here to l (behind_from ns (here + 1) (next_by bits n) id (bits / 2) l (is ∙ e)))
+    by here_is other later (After m) is e =
+        rw (shifted n ns here to l (after_from ns (here + 1) (next_by bits n) id (bits / 2) l (is ∙ e)))
         (goes_on n (relinked ns (l.at - (here + 1)) l.is_odd to ++ x ∷ []) here at id bits here_is other
-        ∙ ap (or_before (Behind (link_at here bits))) (later (is ∙ e)))
+        ∙ ap (or_before (After (link_at here bits))) (later (is ∙ e)))
     by here_is other later Unasked is e =
         let last : link_at here bits ≡ l = cc in
         let front : here - here ≡ 0 = omega arith in
         subst (λ (l : Link). Reaches (n ∷ ns) here at id bits l x to) last
         (rw front
         (goes_on (with_link (bits % 2 == 1) to n) (ns ++ x ∷ []) here at id bits here_is (λ e. other (sym (id_kept (bits % 2 == 1) to n) ∙ e))
-        ∙ rw (leads (bits % 2 == 1) to n) (ap (or_before (Behind (link_at here bits))) (waits ns (here + 1) to id (bits / 2) x (omega (arith, there)) same))))
+        ∙ rw (leads (bits % 2 == 1) to n) (ap (or_before (After (link_at here bits))) (waits ns (here + 1) to id (bits / 2) x (omega (arith, there)) same))))
 
 -- with that link set, each search for another track_ID finds what it found
 abbrev Unmoved : List Node → ℕ → Link → Node → ℕ → ℕ → Type 0
 Unmoved ns here l x to y = (at b : ℕ) → found_at (ending_from (relinked ns (l.at - here) l.is_odd to ++ x ∷ []) here at y b) ≡ found_at (ending_from ns here at y b)
 
 -- of the link no search for another track_ID takes notice
-pub unmoved : (ns : List Node) (here at id bits to y : ℕ) (l : Link) (x : Node) → to ≡ here + length ns → (x.id ≡ y → ⊥) → ending_from ns here at id bits ≡ Behind l → Unmoved ns here l x to y
+pub unmoved : (ns : List Node) (here at id bits to y : ℕ) (l : Link) (x : Node) → to ≡ here + length ns → (x.id ≡ y → ⊥) → ending_from ns here at id bits ≡ After l → Unmoved ns here l x to y
 unfolding ending_from
 unmoved [] here at id bits to y l x there apart e = absurd cc
 unmoved (n ∷ ns) here at id bits to y l x there apart e =
-    by_cases (λ f. f ≡ Behind l → Unmoved (n ∷ ns) here l x to y) n ns here at id bits
+    by_cases (λ f. f ≡ After l → Unmoved (n ∷ ns) here l x to y) n ns here at id bits
     (λ _ _ e. absurd cc)
     (λ _ _ e. by (unmoved ns (here + 1) (next_by bits n) id (bits / 2) to y l x (omega (arith, there)) apart) (after n ns here id bits) refl e)
-    (λ _ e. behind_one (behind_from ns (here + 1) at id bits l e) (unmoved ns (here + 1) at id bits to y l x (omega (arith, there)) apart e))
+    (λ _ e. after_one (after_from ns (here + 1) at id bits l e) (unmoved ns (here + 1) at id bits to y l x (omega (arith, there)) apart e))
     e
   where
-    behind_one : here + 1 ≤ l.at → Unmoved ns (here + 1) l x to y → Unmoved (n ∷ ns) here l x to y
-    behind_one far later at b =
+    after_one : here + 1 ≤ l.at → Unmoved ns (here + 1) l x to y → Unmoved (n ∷ ns) here l x to y
+    after_one far later at b =
         rw (shifted n ns here to l far)
         (alike (here == at) (n.id == y) here (link_at here b) _ _ _ _ (later (next_by b n) (b / 2)) (later at b))
 
@@ -179,11 +179,11 @@ unmoved (n ∷ ns) here at id bits to y l x there apart e =
     leads_on false false b none =
         others ns (here + 1) to y b x apart ∙ ap found_at (past ns (here + 1) to y b (omega (arith, there)) ∙ sym (none y b))
 
-    by : (after n ns here id bits ≡ Behind l → Unmoved ns (here + 1) l x to y)
-        → (f : Ending) → after n ns here id bits ≡ f → or_before (Behind (link_at here bits)) f ≡ Behind l
+    by : (after n ns here id bits ≡ After l → Unmoved ns (here + 1) l x to y)
+        → (f : Ending) → after n ns here id bits ≡ f → or_before (After (link_at here bits)) f ≡ After l
         → Unmoved (n ∷ ns) here l x to y
     by later (Found k) is e = absurd cc
-    by later (Behind m) is e = behind_one (behind_from ns (here + 1) (next_by bits n) id (bits / 2) l (is ∙ e)) (later (is ∙ e))
+    by later (After m) is e = after_one (after_from ns (here + 1) (next_by bits n) id (bits / 2) l (is ∙ e)) (later (is ∙ e))
     by later Unasked is e =
         let last : link_at here bits ≡ l = cc in
         let front : here - here ≡ 0 = omega arith in
@@ -195,7 +195,7 @@ unmoved (n ∷ ns) here at id bits to y l x there apart e =
 
 -- ---- the first node of a track_ID
 
--- where it stands from a place on
+-- where it is from a place on
 abbrev first_from : ℕ → ℕ → List Node → Option ℕ
 first_from id i ns = position_from (λ n. n.id == id) i ns
 
@@ -258,7 +258,7 @@ indexed_again ns x k ix e = indexed (ns ++ x ∷ []) (λ id. decided (sought (ns
     other id apart = others ns 0 0 id id x apart ∙ is_first ns id ix ∙ sym (first_of_others ns 0 id x apart)
 
 -- with one more that is linked where the search for its track_ID ended
-pub indexed_more : (ns : List Node) (x : Node) (l : Link) → IsIndexed ns → ending ns x.id ≡ Behind l → IsIndexed (relinked ns l.at l.is_odd (length ns) ++ x ∷ [])
+pub indexed_more : (ns : List Node) (x : Node) (l : Link) → IsIndexed ns → ending ns x.id ≡ After l → IsIndexed (relinked ns l.at l.is_odd (length ns) ++ x ∷ [])
 indexed_more ns x l ix e = indexed more (λ id. decided (sought more id ≡ first_from id 0 more) x.id id (same id) (other id))
   where
     more : List Node
@@ -296,7 +296,7 @@ indexed_first (n ∷ ns) x e = absurd (
     (λ other e. other refl)
     e)
   where
-    by : (f : Ending) → or_before (Behind (link_at 0 x.id)) f ≡ Unasked → ⊥
+    by : (f : Ending) → or_before (After (link_at 0 x.id)) f ≡ Unasked → ⊥
     by (Found k) e = absurd cc
-    by (Behind m) e = absurd cc
+    by (After m) e = absurd cc
     by Unasked e = absurd cc

@@ -19,7 +19,7 @@ use Rattle.mp4_box.proofs.OffsetLemmas.{along_moved, box_moved, boxes_moved, chi
 use Rattle.mp4_box.proofs.OrderLemmas.{least-none}
 use Rattle.mp4_init.specs.declared.summary.Defaults.{Defaults}
 use Rattle.mp4_init.specs.declared.table.Track.{Track}
-use Rattle.mp4_init.specs.Fields.{begin_with, behind_times, has_entries, tkhd_id, trex_id}
+use Rattle.mp4_init.specs.Fields.{after_times, begin_with, has_entries, tkhd_id, trex_id}
 use Rattle.mp4_init.specs.Fields as fields
 use Rattle.mp4_init.specs.Kinds.{mdhd, mdia, minf, mvex, stbl, stsd, tkhd, to_stbl, to_tkhd, to_trex, trak}
 use Rattle.mp4_init.specs.Moovs as moovs
@@ -160,8 +160,8 @@ module _ (k : ℕ) where
   track_moved : (m t : Box) → track_of (later k m) (later k t) ≡ track_of m t
   unfolding tracks.track_of
   track_moved m t =
-      let id : id_of (later k t) ≡ id_of t = on_path behind_times (λ b. refl) (tkhd ∷ []) t in
-      same_track _ _ _ _ _ _ _ _ id (on_path behind_times (λ b. refl) (mdia ∷ mdhd ∷ []) t) (on_path (λ b. number_in b.payload 4) (λ b. refl) (mdia ∷ minf ∷ stbl ∷ stsd ∷ []) t)
+      let id : id_of (later k t) ≡ id_of t = on_path after_times (λ b. refl) (tkhd ∷ []) t in
+      same_track _ _ _ _ _ _ _ _ id (on_path after_times (λ b. refl) (mdia ∷ mdhd ∷ []) t) (on_path (λ b. number_in b.payload 4) (λ b. refl) (mdia ∷ minf ∷ stbl ∷ stsd ∷ []) t)
       (ap (λ (n : ℕ). defaults_of (first_of (trexes_of (later k m) n))) id ∙ (ap (λ (bs : List Box). defaults_of (first_of bs)) (trexes_moved m (id_of t)) ∙ defaults_moved (trexes_of m (id_of t))))
 
   map_moved : (m : Box) (bs : List Box) → map (track_of (later k m)) (map (later k) bs) ≡ map (track_of m) bs

@@ -20,21 +20,21 @@ placed ids (Some x) id at k g e = by (x == id) refl
     by true s = let f : Some at ≡ Some k = ap (λ (u : Bool). cond u (Some at) None) (sym s) ∙ e in ap (slice_get ids) (sym (some_same at k f)) ∙ g ∙ ap (λ (n : ℕ). Some n) (is_same x id s)
     by false s = let f : None ≡ Some k = ap (λ (u : Bool). cond u (Some at) None) (sym s) ∙ e in absurd cc
 
--- the id stands where it is found
-pub stands : (ids : List ℕ) (id k : ℕ) → sought ids id ≡ Some k → slice_get ids k ≡ Some id
+-- the id is where it is found
+pub holds_id : (ids : List ℕ) (id k : ℕ) → sought ids id ≡ Some k → slice_get ids k ≡ Some id
 unfolding sought
-stands ids id k e = let at = descend 16 32768 ids id 0 in placed ids (slice_get ids at) id at k refl e
+holds_id ids id k e = let at = descend 16 32768 ids id 0 in placed ids (slice_get ids at) id at k refl e
 
 -- at one place only one id is found
 pub same_id : (ids : List ℕ) (x id k : ℕ) → sought ids x ≡ Some k → sought ids id ≡ Some k → x ≡ id
-same_id ids x id k e f = some_same x id (sym (stands ids x k e) ∙ stands ids id k f)
+same_id ids x id k e f = some_same x id (sym (holds_id ids x k e) ∙ holds_id ids id k f)
 
 -- among none no id is found
 pub none_sought : (id : ℕ) → sought [] id ≡ None
 unfolding sought descend
 none_sought id = refl
 
--- ---- an id that stands among ids in order is found
+-- ---- an id among ids in order is found
 
 got_none : (ids : List ℕ) (i : ℕ) → slice_get ids i ≡ None → length ids ≤ i
 got_none [] i e = omega arith
@@ -51,7 +51,7 @@ got_within [] i h = absurd (omega (arith, h))
 got_within (y ∷ ys) zero h = refl
 got_within (y ∷ ys) (suc i) h = got_within ys i (omega (arith, h))
 
--- how many places so many steps tell apart, and how long the first of them is
+-- how many places so many steps can distinguish, and how long the first of them is
 unfoldable width : ℕ → ℕ
 width zero = 1
 width (suc n) = 2 * width n
@@ -65,7 +65,7 @@ unfolding width first_step
 halved zero = refl
 halved (suc n) = omega arith
 
--- what stands at a place is no greater, and what stands at another, if any does, is
+-- the id at a place is no greater, and that at another, if there is one, is
 record Reaches (ids : List ℕ) (id at : ℕ) : Type 0 where
   within : at < length ids
   low : slice_index_or ids at 0 ≤ id
@@ -107,9 +107,9 @@ is_there : (ids : List ℕ) (id r k : ℕ) → ((i j : ℕ) → i ≤ j → j < 
 is_there ids id r k rises got last = by (ltb r k) refl
   where
     by : (t : Bool) → ltb r k ≡ t → slice_index_or ids r 0 ≡ id
-    by true behind =
+    by true after =
         let at = got_some ids k id got in
-        let next : r + 1 ≤ k = omega (arith, ltb-true r k behind) in
+        let next : r + 1 ≤ k = omega (arith, ltb-true r k after) in
         let low : slice_index_or ids (r + 1) 0 ≤ slice_index_or ids k 0 = rises (r + 1) k next at.0 in
         let high : id < slice_index_or ids (r + 1) 0 = last.1.high (omega (arith, next, at.0)) in
         absurd (omega (arith, low, high, at.1))

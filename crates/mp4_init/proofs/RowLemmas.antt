@@ -8,11 +8,11 @@ use Rattle.std.proofs.lemmas.Iterator.Adapters.{position_from-zero}
 use Rattle.mp4_init.specs.declared.search_tree.Node.{Node}
 use Rattle.mp4_init.specs.declared.table.Track.{Track}
 use Rattle.mp4_init.specs.declared.search_tree.Ending.{Ending}
-use Rattle.mp4_init.specs.declared.search_tree.Ending.TheVariants.{Found, Behind, Unasked}
+use Rattle.mp4_init.specs.declared.search_tree.Ending.TheVariants.{Found, After, Unasked}
 use Rattle.mp4_init.specs.declared.search_tree.Link.{Link}
-use Rattle.mp4_init.specs.Working.SearchTrees.{ending, sought, with_link, no_node, IsIndexed}
+use Rattle.mp4_init.specs.Implementation.SearchTrees.{ending, sought, with_link, no_node, IsIndexed}
 use Rattle.mp4_init.proofs.LinkLemmas.{relinked, indexed_again, indexed_first, indexed_more}
-use Rattle.mp4_init.specs.Working.Rows.{node_of_row, track_of_row, upper}
+use Rattle.mp4_init.specs.Implementation.Rows.{node_of_row, track_of_row, upper}
 use Rattle.mp4_init.specs.Tracks.{with_next}
 
 -- the track of a row
@@ -64,17 +64,17 @@ pub tracks_linked : (rows : List (List ℕ)) (r s e : List ℕ) (t : Track) (at 
 tracks_linked rows r s e t at is same = map-set_same track_of_row (rows ++ r ∷ []) at s e same ∙ tracks_more rows r t is
 
 pub nodes_more : (rows : List (List ℕ)) (r : List ℕ) (t : Track) (f : Ending) → track_of_row r ≡ t → IsIndexed (map node_of_row rows) → f ≡ ending (map node_of_row rows) t.id
-    → ((l : Link) → f ≡ Behind l → ⊥) → IsIndexed (map node_of_row (rows ++ r ∷ []))
+    → ((l : Link) → f ≡ After l → ⊥) → IsIndexed (map node_of_row (rows ++ r ∷ []))
 nodes_more rows r t f is ix e none =
     subst (λ (ns : List Node). IsIndexed ns) (sym (map-append node_of_row rows (r ∷ [])))
     (by f (rw (row_id r t is) at e) none)
   where
-    by : (f : Ending) → f ≡ ending (map node_of_row rows) (node_of_row r).id → ((l : Link) → f ≡ Behind l → ⊥) → IsIndexed (map node_of_row rows ++ node_of_row r ∷ [])
+    by : (f : Ending) → f ≡ ending (map node_of_row rows) (node_of_row r).id → ((l : Link) → f ≡ After l → ⊥) → IsIndexed (map node_of_row rows ++ node_of_row r ∷ [])
     by (Found k) e none = indexed_again (map node_of_row rows) (node_of_row r) k ix (sym e)
-    by (Behind l) e none = absurd (none l refl)
+    by (After l) e none = absurd (none l refl)
     by Unasked e none = indexed_first (map node_of_row rows) (node_of_row r) (sym e)
 
-pub nodes_linked : (rows : List (List ℕ)) (r s e : List ℕ) (t : Track) (l : Link) → track_of_row r ≡ t → IsIndexed (map node_of_row rows) → Behind l ≡ ending (map node_of_row rows) t.id → l.at < length rows
+pub nodes_linked : (rows : List (List ℕ)) (r s e : List ℕ) (t : Track) (l : Link) → track_of_row r ≡ t → IsIndexed (map node_of_row rows) → After l ≡ ending (map node_of_row rows) t.id → l.at < length rows
     → node_of_row s ≡ with_link l.is_odd (length rows) (node_of_row (slice_index_or (rows ++ r ∷ []) l.at e)) → IsIndexed (map node_of_row (slice_set (rows ++ r ∷ []) l.at s))
 nodes_linked rows r s e t l is ix ends h links =
     let old : slice_index_or (rows ++ r ∷ []) l.at e ≡ slice_index_or rows l.at e = get_or_append_left rows (r ∷ []) e l.at h in
@@ -90,7 +90,7 @@ unfolding track_of_row node_of_row
 first_of_rows [] i id = refl
 first_of_rows (r ∷ rows) i id = ap (cond (upper (slice_index r 0) == id) (Some i)) (first_of_rows rows (i + 1) id)
 
--- where nodes are indexed a search finds where the track stands
+-- where nodes are indexed a search finds the place of the track
 pub sought_is : (rows : List (List ℕ)) (id : ℕ) → IsIndexed (map node_of_row rows) → sought (map node_of_row rows) id ≡ position (λ t. t.id == id) (map track_of_row rows)
 sought_is rows id ix =
     ix.each id

@@ -4,10 +4,10 @@ use Rattle.std.specs.Prelude.{slice_get, slice_index_or}
 use Rattle.std.proofs.lemmas.Bool.Decides.{nat_tests}
 use Rattle.std.proofs.lemmas.List.{drop-drop}
 use Rattle.mp4_init.specs.declared.search_tree.Ending.{Ending}
-use Rattle.mp4_init.specs.declared.search_tree.Ending.TheVariants.{Found, Behind, Unasked}
+use Rattle.mp4_init.specs.declared.search_tree.Ending.TheVariants.{Found, After, Unasked}
 use Rattle.mp4_init.specs.declared.search_tree.Link.{Link}
 use Rattle.mp4_init.specs.declared.search_tree.Node.{Node}
-use Rattle.mp4_init.specs.Working.SearchTrees.{or_before, ending_from, link_at, next_by}
+use Rattle.mp4_init.specs.Implementation.SearchTrees.{or_before, ending_from, link_at, next_by}
 
 -- ---- numbers that are the same, and lists
 
@@ -24,7 +24,7 @@ other_test x id h = by (x == id) refl
     by true e = absurd (h (is_same x id e))
     by false e = e
 
--- within a list it doesn't matter what stands for what isn't there
+-- within a list the default for what isn't there doesn't matter
 pub any_default : {A : Type 0} (xs : List A) (k : ℕ) (d e : A) → k < length xs → slice_index_or xs k d ≡ slice_index_or xs k e
 any_default [] k d e h = absurd (omega arith)
 any_default (x ∷ xs) zero d e h = refl
@@ -32,21 +32,21 @@ any_default (x ∷ xs) (suc k) d e h = any_default xs k d e (omega arith)
 
 -- ---- a search among a node and others
 
--- behind a node that was asked
+-- after a node that was compared
 abbrev pub after : Node → List Node → ℕ → ℕ → ℕ → Ending
 after n ns here id bits = ending_from ns (here + 1) (next_by bits n) id (bits / 2)
 
 -- it finds the node, goes on from there, or passes it over
 pub by_cases : (P : Ending → Type 0) (n : Node) (ns : List Node) (here at id bits : ℕ)
     → (here ≡ at → n.id ≡ id → P (Found here))
-    → (here ≡ at → (n.id ≡ id → ⊥) → P (or_before (Behind (link_at here bits)) (after n ns here id bits)))
+    → (here ≡ at → (n.id ≡ id → ⊥) → P (or_before (After (link_at here bits)) (after n ns here id bits)))
     → ((here ≡ at → ⊥) → P (ending_from ns (here + 1) at id bits))
     → P (ending_from (n ∷ ns) here at id bits)
 unfolding ending_from
 by_cases P n ns here at id bits found on over = by (here == at) (n.id == id) refl refl
   where
     by : (t u : Bool) → (here == at) ≡ t → (n.id == id) ≡ u
-        → P (cond t (cond u (Found here) (or_before (Behind (link_at here bits)) (after n ns here id bits))) (ending_from ns (here + 1) at id bits))
+        → P (cond t (cond u (Found here) (or_before (After (link_at here bits)) (after n ns here id bits))) (ending_from ns (here + 1) at id bits))
     by true true here_is id_is = found (is_same here at here_is) (is_same n.id id id_is)
     by true false here_is id_is = on (is_same here at here_is) (λ e. let clash : true ≡ false = sym (same_test n.id id e) ∙ id_is in absurd cc)
     by false u here_is id_is = over (λ e. let clash : true ≡ false = sym (same_test here at e) ∙ here_is in absurd cc)
@@ -56,7 +56,7 @@ unfolding ending_from
 stops n ns here at id bits here_is id_is = rw (same_test here at here_is, same_test n.id id id_is) refl
 
 pub goes_on : (n : Node) (ns : List Node) (here at id bits : ℕ) → here ≡ at → (n.id ≡ id → ⊥)
-    → ending_from (n ∷ ns) here at id bits ≡ or_before (Behind (link_at here bits)) (after n ns here id bits)
+    → ending_from (n ∷ ns) here at id bits ≡ or_before (After (link_at here bits)) (after n ns here id bits)
 unfolding ending_from
 goes_on n ns here at id bits here_is other = rw (same_test here at here_is, other_test n.id id other) refl
 
@@ -91,9 +91,9 @@ passed (n ∷ ns) here (suc d) id bits =
 
 -- ---- the turns of a search
 
-last_before : (early : Ending) (link : Link) (later : Ending) → or_before early (or_before (Behind link) later) ≡ or_before (Behind link) later
+last_before : (early : Ending) (link : Link) (later : Ending) → or_before early (or_before (After link) later) ≡ or_before (After link) later
 last_before early link (Found k) = refl
-last_before early link (Behind l) = refl
+last_before early link (After l) = refl
 last_before early link Unasked = refl
 
 at_front : (nodes : List Node) (at : ℕ) (n : Node) → slice_get nodes at ≡ Some n → drop at nodes ≡ n ∷ drop (at + 1) nodes
@@ -116,24 +116,24 @@ unfolding ending_from
 turn_found nodes id bits at early n e same = rw (at_front nodes at n e, same_test at at refl, same_test n.id id same) refl
 
 asked : (nodes : List Node) (id bits at : ℕ) (early : Ending) (n : Node) → slice_get nodes at ≡ Some n → (n.id ≡ id → ⊥)
-    → or_before early (ending_from (drop at nodes) at at id bits) ≡ or_before (Behind (link_at at bits)) (ending_from (drop (at + 1) nodes) (at + 1) (next_by bits n) id (bits / 2))
+    → or_before early (ending_from (drop at nodes) at at id bits) ≡ or_before (After (link_at at bits)) (ending_from (drop (at + 1) nodes) (at + 1) (next_by bits n) id (bits / 2))
 unfolding ending_from
 asked nodes id bits at early n e other =
     rw (at_front nodes at n e, same_test at at refl, other_test n.id id other) (last_before early (link_at at bits) (ending_from (drop (at + 1) nodes) (at + 1) (next_by bits n) id (bits / 2)))
 
 pub turn_back : (nodes : List Node) (id bits at : ℕ) (early : Ending) (n : Node) → slice_get nodes at ≡ Some n → (n.id ≡ id → ⊥) → next_by bits n ≤ at
-    → or_before early (ending_from (drop at nodes) at at id bits) ≡ Behind (link_at at bits)
+    → or_before early (ending_from (drop at nodes) at at id bits) ≡ After (link_at at bits)
 turn_back nodes id bits at early n e other back =
     asked nodes id bits at early n e other
-    ∙ ap (or_before (Behind (link_at at bits))) (before (drop (at + 1) nodes) (at + 1) (next_by bits n) id (bits / 2) (omega (arith, back)))
+    ∙ ap (or_before (After (link_at at bits))) (before (drop (at + 1) nodes) (at + 1) (next_by bits n) id (bits / 2) (omega (arith, back)))
 
 pub turn_on : (nodes : List Node) (id bits at next : ℕ) (early : Ending) (n : Node) → slice_get nodes at ≡ Some n → (n.id ≡ id → ⊥) → next ≡ next_by bits n → at < next
-    → or_before (Behind (link_at at bits)) (ending_from (drop next nodes) next next id (bits / 2)) ≡ or_before early (ending_from (drop at nodes) at at id bits)
+    → or_before (After (link_at at bits)) (ending_from (drop next nodes) next next id (bits / 2)) ≡ or_before early (ending_from (drop at nodes) at at id bits)
 turn_on nodes id bits at next early n e other leads on =
     let d : ℕ = next - (at + 1) in
     let there : at + 1 + d ≡ next = omega (arith, on) in
     sym (asked nodes id bits at early n e other
-    ∙ ap (or_before (Behind (link_at at bits)))
+    ∙ ap (or_before (After (link_at at bits)))
     (ap (λ (k : ℕ). ending_from (drop (at + 1) nodes) (at + 1) k id (bits / 2)) (sym (there ∙ leads))
     ∙ passed (drop (at + 1) nodes) (at + 1) d id (bits / 2)
     ∙ rw (drop-drop d (at + 1) nodes, there) refl))

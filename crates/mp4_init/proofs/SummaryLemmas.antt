@@ -10,7 +10,7 @@ use Rattle.mp4_init.specs.Kinds.{to_tkhd, to_trex}
 use Rattle.mp4_init.specs.Fields.{tkhd_id, trex_id}
 use Rattle.mp4_init.specs.Rules.{with_id, before, is_known, tkhds_of, trexes_of}
 use Rattle.mp4_init.specs.Tracks.{defaults_of}
-use Rattle.mp4_init.specs.Working.Summaries.{empty_summary, told, gathered, summary_in}
+use Rattle.mp4_init.specs.Implementation.Summaries.{empty_summary, added, gathered, summary_in}
 
 abbrev with_all : ℕ → ℕ → Defaults → Summary
 with_all first trexes defaults = record { first = first; trexes = trexes; defaults = defaults }
@@ -19,10 +19,10 @@ with_all first trexes defaults = record { first = first; trexes = trexes; defaul
 tkhds_keep : (id : ℕ) (s : Summary) (bs : List Box) → gathered Tkhd id s bs ≡ record s { first = (gathered Tkhd id s bs).first }
 unfolding gathered
 tkhds_keep id s [] = refl
-tkhds_keep id s (b ∷ bs) = by (tkhd_id b == id) (tkhds_keep id (told Tkhd s b) bs) (tkhds_keep id s bs)
+tkhds_keep id s (b ∷ bs) = by (tkhd_id b == id) (tkhds_keep id (added Tkhd s b) bs) (tkhds_keep id s bs)
   where
-    by : (t : Bool) → gathered Tkhd id (told Tkhd s b) bs ≡ record s { first = (gathered Tkhd id (told Tkhd s b) bs).first } → gathered Tkhd id s bs ≡ record s { first = (gathered Tkhd id s bs).first }
-        → gathered Tkhd id (cond t (told Tkhd s b) s) bs ≡ record s { first = (gathered Tkhd id (cond t (told Tkhd s b) s) bs).first }
+    by : (t : Bool) → gathered Tkhd id (added Tkhd s b) bs ≡ record s { first = (gathered Tkhd id (added Tkhd s b) bs).first } → gathered Tkhd id s bs ≡ record s { first = (gathered Tkhd id s bs).first }
+        → gathered Tkhd id (cond t (added Tkhd s b) s) bs ≡ record s { first = (gathered Tkhd id (cond t (added Tkhd s b) s) bs).first }
     by true e f = e
     by false e f = f
 
@@ -47,12 +47,12 @@ first_before id o s [] = by (ltb s.first o)
     by : (t : Bool) → t ≡ cond t true false
     by true = refl
     by false = refl
-first_before id o s (b ∷ bs) = by (tkhd_id b == id) (first_before id o (told Tkhd s b) bs) (first_before id o s bs)
+first_before id o s (b ∷ bs) = by (tkhd_id b == id) (first_before id o (added Tkhd s b) bs) (first_before id o s bs)
   where
     by : (t : Bool)
-        → ltb (gathered Tkhd id (told Tkhd s b) bs).first o ≡ cond (ltb (told Tkhd s b).first o) true (not (length (before o (with_id tkhd_id id bs)) == 0))
+        → ltb (gathered Tkhd id (added Tkhd s b) bs).first o ≡ cond (ltb (added Tkhd s b).first o) true (not (length (before o (with_id tkhd_id id bs)) == 0))
         → ltb (gathered Tkhd id s bs).first o ≡ cond (ltb s.first o) true (not (length (before o (with_id tkhd_id id bs)) == 0))
-        → ltb (gathered Tkhd id (cond t (told Tkhd s b) s) bs).first o ≡ cond (ltb s.first o) true (not (length (before o (cond t (b ∷ with_id tkhd_id id bs) (with_id tkhd_id id bs))) == 0))
+        → ltb (gathered Tkhd id (cond t (added Tkhd s b) s) bs).first o ≡ cond (ltb s.first o) true (not (length (before o (cond t (b ∷ with_id tkhd_id id bs) (with_id tkhd_id id bs))) == 0))
     by true e f =
         e ∙ ap (λ (t : Bool). cond t true (not (length (before o (with_id tkhd_id id bs)) == 0))) (lesser b.offset s.first o)
         ∙ one_before (ltb b.offset o) (ltb s.first o) b (before o (with_id tkhd_id id bs))

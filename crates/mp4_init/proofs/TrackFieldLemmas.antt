@@ -7,8 +7,8 @@ use Rattle.mp4_box.specs.Headers.{IsBytes}
 use Rattle.mp4_box.specs.Paths.{at_path, of_kind}
 use Rattle.mp4_box.specs.Trees.{Box, box_at, children, first_of}
 use Rattle.mp4_box.proofs.ByteLemmas.{OfBytes, children_of_bytes, kept_of_bytes, kind_of_bytes, number_small, path_of_bytes}
-use Rattle.mp4_box.proofs.GrammarLemmas.{stands}
-use Rattle.mp4_init.specs.Fields.{behind_times, trex_id}
+use Rattle.mp4_box.proofs.GrammarLemmas.{lies_at}
+use Rattle.mp4_init.specs.Fields.{after_times, trex_id}
 use Rattle.mp4_init.specs.Kinds.{mdhd, mdia, minf, stbl, stsd, tkhd, to_trex, trak}
 use Rattle.mp4_init.specs.Moovs.{moov_tracks, of_moov}
 use Rattle.mp4_init.specs.TrackFields.{FitsTrackFields}
@@ -19,7 +19,7 @@ field_small : (n : ℕ) (bs : List Box) → AllByRecursion OfBytes bs → field_
 field_small n [] all = omega arith
 field_small n (b ∷ bs) all = number_small b.payload n all.0
 
-times_small : (bs : List Box) → AllByRecursion OfBytes bs → field_of behind_times (first_of bs) < 2 ^ 32
+times_small : (bs : List Box) → AllByRecursion OfBytes bs → field_of after_times (first_of bs) < 2 ^ 32
 times_small [] all = omega arith
 times_small (b ∷ bs) all = number_small b.payload _ all.0
 
@@ -44,9 +44,9 @@ all_fit m (t ∷ ts) hm all = (track_fits m t hm all.0, all_fit m ts hm all.1)
 tracks_fit : (o : ℕ) (x : List ℕ) (m : Option Box) → IsBytes x → box_at o x ≡ m → AllByRecursion FitsTrackFields (of_moov [] tracks_of m)
 tracks_fit o x None held e = tt
 tracks_fit o x (Some m) held e =
-    let s = stands o x m held e in
+    let s = lies_at o x m held e in
     all_fit m (of_kind trak (children m)) s.bytes (kind_of_bytes trak (children m) (children_of_bytes m s.bytes))
 
--- each track that a moov tells
+-- each track of a moov
 pub moov_tracks_fit : (o : ℕ) (x : List ℕ) → IsBytes x → AllByRecursion FitsTrackFields (moov_tracks o x)
 moov_tracks_fit o x held = tracks_fit o x (box_at o x) held refl

@@ -12,11 +12,11 @@ use Rattle.mp4_box.specs.Fields.{version_in}
 use Rattle.mp4_box.specs.Paths.{of_kind, at_path}
 use Rattle.mp4_box.specs.declared.checks.Layout.TheVariants.{Versioned}
 use Rattle.mp4_box.specs.Trees.{Box, box_at, box_len, children, tree_faults, verdict, first_of, fault_at}
-use Rattle.mp4_box.proofs.GrammarLemmas.{stands}
+use Rattle.mp4_box.proofs.GrammarLemmas.{lies_at}
 use Rattle.mp4_box.proofs.OrderLemmas.{least-none}
 use Rattle.mp4_box.proofs.SizeLemmas.{IsLaid, total, fits_children, kind_fits, both_none, none_here, none_below, laid_by}
 use Rattle.mp4_init.specs.Kinds.{trak, tkhd, to_tkhd}
-use Rattle.mp4_init.specs.Fields.{behind_times, tkhd_id}
+use Rattle.mp4_init.specs.Fields.{after_times, tkhd_id}
 use Rattle.mp4_init.specs.Rules.{number_faults, field_faults, sample_faults, track_faults, before, tkhds_of, trexes_of, is_known, known}
 use Rattle.mp4_init.specs.Tracks.{track_of, tracks_of, field_of, id_of}
 use Rattle.mp4_init.specs.Moovs.{form_faults, value_faults, content_fault, moov_fault, moov_tracks, of_moov, fault_of}
@@ -79,7 +79,7 @@ table_small o x fits e = by (box_at o x) refl (first_none (fault_of (verdict (tr
     by : (m : Option Box) → box_at o x ≡ m → of_moov None content_fault m ≡ None → 64 * length (of_moov [] tracks_of m) ≤ length x
     by None is e = omega arith
     by (Some m) is e =
-        let s = stands o x m fits is in
+        let s = lies_at o x m fits is in
         omega (arith, s.high, content_small m s.bytes e)
 
 -- ---- each trak has one trex
@@ -101,7 +101,7 @@ known_one m b e =
 
 first_id : (t b : Box) (bs : List Box) → of_kind tkhd (children t) ≡ b ∷ bs → id_of t ≡ tkhd_id b
 unfolding at_path
-first_id t b bs e = ap (λ (cs : List Box). field_of behind_times (first_of (flat_map (at_path []) cs))) e
+first_id t b bs e = ap (λ (cs : List Box). field_of after_times (first_of (flat_map (at_path []) cs))) e
 
 trak_one : (m t : Box) → one tkhd t ≡ [] → AllByRecursion (λ b. known m b ≡ []) (of_kind tkhd (children t)) → length (trexes_of m (id_of t)) ≡ 1
 trak_one m t e all = by (of_kind tkhd (children t)) refl e all

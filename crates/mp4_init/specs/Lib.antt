@@ -5,4 +5,4 @@ pub mod Tracks
 pub mod Moovs
 pub mod TrackFields
 pub mod OrderedIds
-pub mod Working
+pub mod Implementation

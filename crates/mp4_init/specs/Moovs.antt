@@ -1,4 +1,4 @@
--- What a moov comes to: its tracks, or its fault.
+-- Result of reading a moov: its tracks, or its fault.
 use Rattle.std.specs.Prelude.{ℕ, List, [], ◌∷◌, ◌++◌, Option, Some, None, Result, Ok, Err}
 use Rattle.std.specs.Option.{option_or}
 use Rattle.mp4_box.specs.declared.rules.Fault.{Fault}
@@ -8,19 +8,19 @@ use Rattle.mp4_init.specs.declared.table.Track.{Track}
 use Rattle.mp4_init.specs.Rules.{number_faults, field_faults, sample_faults, track_faults}
 use Rattle.mp4_init.specs.Tracks.{tracks_of}
 
--- what is at fault with the boxes of a moov
+-- faults of the boxes of a moov
 unfoldable pub form_faults : Box → List Fault
 form_faults moov = number_faults moov ++ field_faults moov
 
--- what is at fault with the values of a moov whose boxes are as they must be
+-- faults of the values of a moov whose boxes are as they must be
 unfoldable pub value_faults : Box → List Fault
 value_faults moov = sample_faults moov ++ track_faults moov
 
--- the fault of the content: values are looked at only where the boxes are as they must be
+-- fault of the content: values are checked only if the boxes are as they must be
 unfoldable pub content_fault : Box → Option Fault
 content_fault moov = option_or (least (form_faults moov)) (least (value_faults moov))
 
--- what f makes of a moov, or another answer where the bytes are no box
+-- f of a moov, or a default where the bytes are no box
 abbrev pub of_moov : {A : Type 0} → A → (Box → A) → Option Box → A
 of_moov other f None = other
 of_moov other f (Some moov) = f moov
@@ -42,6 +42,6 @@ abbrev pub or_else : List Fault → List Fault → List Fault
 or_else [] gs = gs
 or_else (f ∷ fs) gs = f ∷ fs
 
--- all that is at fault with the moov that the bytes are, as far as it is looked at: with its tree; else with its boxes; else with their values
+-- all faults of the moov that the bytes are, as far as it is checked: of its tree; else of its boxes; else of their values
 abbrev pub moov_faults : ℕ → List ℕ → List Fault
 moov_faults o x = or_else (tree_faults o x) (of_moov [] (λ moov. or_else (form_faults moov) (value_faults moov)) (box_at o x))

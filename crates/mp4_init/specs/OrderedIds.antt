@@ -1,4 +1,4 @@
--- Where a track_ID stands among some that are in order: a binary search over at most 65,536.
+-- Where a track_ID is among some that are in order: a binary search over at most 65,536.
 use Rattle.std.specs.Prelude.{ℕ, zero, suc, List, Option, Some, None, ◌==◌, ◌+◌, ◌/◌, nat_lt, if◌then◌else◌, slice_get}
 use Rattle.std.specs.List.Sorted.{IsPermutation, IsSorted}
 use Rattle.std.specs.Ordering.{nat_cmp}
@@ -8,7 +8,7 @@ pub record AreInOrder (given ids : List ℕ) : Type 0 where
   pub same : IsPermutation given ids
   pub sorted : IsSorted nat_cmp ids
 
--- a step ahead where what stands there is no greater
+-- a step ahead if the id there is no greater
 abbrev pub step_to : Option ℕ → ℕ → ℕ → ℕ → ℕ
 step_to None id next at = at
 step_to (Some x) id next at = if nat_lt id x then at else next
@@ -22,6 +22,6 @@ abbrev pub place_if : Option ℕ → ℕ → ℕ → Option ℕ
 place_if None id at = None
 place_if (Some x) id at = if x == id then Some at else None
 
--- where an id stands among at most 65,536 in order
+-- where an id is among at most 65,536 in order
 unfoldable pub sought : List ℕ → ℕ → Option ℕ
 sought ids id = let at = descend 16 32768 ids id 0 in place_if (slice_get ids at) id at

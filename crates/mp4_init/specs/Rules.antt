@@ -11,9 +11,9 @@ use Rattle.mp4_box.specs.Paths.{at_path}
 use Rattle.mp4_init.specs.Kinds.{kind, trak, tkhd, mdia, mdhd, minf, stbl, stsd, mvex, to_stbl, to_tkhd, to_trex}
 use Rattle.mp4_init.specs.Fields.{has_entries, tkhd_id, trex_id}
 
--- ---- what is asked of one box
+-- ---- requirements of one box
 
--- an stsd must have its count, and behind it so many entries
+-- an stsd must have its count, and after it so many entries
 abbrev pub entries_faults : Box → List Fault
 entries_faults b =
     if nat_lt (length b.payload) 8 then fault_at FieldLength b ∷ []
@@ -49,9 +49,9 @@ is_known moov b =
 abbrev pub known : Box → Box → List Fault
 known moov b = if is_known moov b then [] else fault_at UnknownTrack b ∷ []
 
--- ---- what is asked of a moov
+-- ---- requirements of a moov
 
--- boxes that are missing, or stand a second time
+-- boxes that are missing, or occur a second time
 unfoldable pub number_faults : Box → List Fault
 number_faults m =
     along (one mvex) [] m
@@ -80,7 +80,7 @@ field_faults m =
     ++ along (laid_out (AtLeast 12)) (below_stbl (codes "stz2")) m
     ++ along (laid_out (Exactly 24)) to_trex m
 
--- tables that tell of samples
+-- tables of samples
 unfoldable pub sample_faults : Box → List Fault
 sample_faults m =
     along (no_samples 4) (below_stbl (codes "stts")) m

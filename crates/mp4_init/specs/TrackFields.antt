@@ -1,4 +1,4 @@
--- How large the numbers of a track are.
+-- Bounds of the numbers of a track.
 use Rattle.std.specs.Prelude.{◌<◌, ◌^◌}
 use Rattle.mp4_init.specs.declared.table.Track.{Track}
 

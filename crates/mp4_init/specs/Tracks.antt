@@ -6,7 +6,7 @@ use Rattle.mp4_init.specs.declared.table.Track.{Track}
 use Rattle.mp4_init.specs.declared.summary.Defaults.{Defaults}
 use Rattle.mp4_init.specs.Kinds.{trak, tkhd, mdia, mdhd, minf, stbl, stsd}
 use Rattle.mp4_box.specs.Fields.{number_in}
-use Rattle.mp4_init.specs.Fields.{behind_times}
+use Rattle.mp4_init.specs.Fields.{after_times}
 use Rattle.mp4_init.specs.Rules.{trexes_of}
 
 -- the tracks, where the last fragment of the track at this index ended at `next`
@@ -31,11 +31,11 @@ defaults_of trex = record {
 
 -- track_ID of the tkhd of a trak (8.3.2)
 abbrev pub id_of : Box → ℕ
-id_of t = field_of behind_times (first_of (at_path (tkhd ∷ []) t))
+id_of t = field_of after_times (first_of (at_path (tkhd ∷ []) t))
 
 -- timescale of its mdhd (8.4.2)
 abbrev pub timescale_of : Box → ℕ
-timescale_of t = field_of behind_times (first_of (at_path (mdia ∷ mdhd ∷ []) t))
+timescale_of t = field_of after_times (first_of (at_path (mdia ∷ mdhd ∷ []) t))
 
 -- entry_count of its stsd (8.5.2)
 abbrev pub entries_of : Box → ℕ
@@ -57,6 +57,6 @@ with_defaults id timescale entries d = record {
 unfoldable pub track_of : Box → Box → Track
 track_of moov t = with_defaults (id_of t) (timescale_of t) (entries_of t) (defaults_of (first_of (trexes_of moov (id_of t))))
 
--- the tracks of a moov: one for each trak that stands directly in it, in order
+-- the tracks of a moov: one for each trak directly in it, in order
 abbrev pub tracks_of : Box → List Track
 tracks_of moov = map (track_of moov) (of_kind trak (children moov))

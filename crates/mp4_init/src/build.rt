@@ -4,27 +4,27 @@ ghost use Rattle.std.specs.Prelude.{◌≡◌, ◌+◌, ◌*◌, ◌<◌, ◌≤
 ghost use Rattle.mp4_ledger.specs.Memory.{claimed};
 ghost use Rattle.mp4_box.specs.Paths.{at_path, of_kind};
 ghost use Rattle.mp4_box.specs.Trees.{children, view, first_of};
-ghost use Rattle.mp4_init.specs.Fields.{behind_times};
-ghost use Rattle.mp4_init.specs.Working.Rows.{node_of_row, track_of_row};
-ghost use Rattle.mp4_init.specs.Working.SearchTrees.{IsIndexed};
-ghost use Rattle.mp4_init.specs.Working.Summaries.{summaries_in};
+ghost use Rattle.mp4_init.specs.Fields.{after_times};
+ghost use Rattle.mp4_init.specs.Implementation.Rows.{node_of_row, track_of_row};
+ghost use Rattle.mp4_init.specs.Implementation.SearchTrees.{IsIndexed};
+ghost use Rattle.mp4_init.specs.Implementation.Summaries.{summaries_in};
 ghost use Rattle.mp4_init.specs.Tracks.{entries_of, field_of, id_of, timescale_of, track_of, tracks_of};
 
-use crate::fields::number_behind_times;
-use crate::kinds::{MDHD, MDIA, MINF, STBL, STSD, TKHD, TRAK};
+use crate::fields::number_after_times;
 use crate::slots::{FEW_SLOTS, SLOTS, Slots};
 use crate::table::{Track, TrackList, push_track};
 use arrayvec::ArrayVec;
+use mp4_box::types::{MDHD, MDIA, MINF, STBL, STSD, TKHD, TRAK};
 use mp4_box::{BoxRef, FourCc, Walk, count_of, first_at, number_at};
 use mp4_ledger::{Ledger, Refused, Rows64};
 
-/// The field behind the times of the first tkhd or mdhd on the path, 0 where there is none.
-fn behind_times_at(path: &[FourCc], trak: &BoxRef<'_>) -> u32
+/// The field after the times of the first tkhd or mdhd on the path, 0 where there is none.
+fn after_times_at(path: &[FourCc], trak: &BoxRef<'_>) -> u32
     requires { length path.now ≤ 8 }
-    ensures { result ≡ field_of behind_times (first_of (at_path path.now (view trak.now))) }
+    ensures { result ≡ field_of after_times (first_of (at_path path.now (view trak.now))) }
 {
     match first_at(path, trak) {
-        Some(this) => number_behind_times(&this),
+        Some(this) => number_after_times(&this),
         None => 0,
     }
 }
@@ -43,15 +43,15 @@ fn entries_in(trak: &BoxRef<'_>) -> u32
 #[tactic(auto, using(crate::proofs::SummaryLemmas::defaults_by), unfolding(crate::specs::Tracks::track_of))]
 fn track_in<const N: usize>(moov: &BoxRef<'_>, trak: &BoxRef<'_>, slots: &mut Slots<N>) -> Track
     requires some { 0 < N }
-    requires told { slots.old.summaries.items ≡ summaries_in (view moov.now) slots.old.ids.items }
+    requires added { slots.old.summaries.items ≡ summaries_in (view moov.now) slots.old.ids.items }
     ensures track { result ≡ track_of (view moov.now) (view trak.now) }
-    ensures told { slots.new.summaries.items ≡ summaries_in (view moov.now) slots.new.ids.items }
+    ensures added { slots.new.summaries.items ≡ summaries_in (view moov.now) slots.new.ids.items }
 {
-    let id = behind_times_at(&[TKHD], trak);
+    let id = after_times_at(&[TKHD], trak);
     let defaults = slots.summary(moov, trak.offset, id).defaults;
     Track {
         id,
-        timescale: behind_times_at(&[MDIA, MDHD], trak),
+        timescale: after_times_at(&[MDIA, MDHD], trak),
         entries: entries_in(trak),
         desc: defaults.desc,
         duration: defaults.duration,
@@ -62,7 +62,7 @@ fn track_in<const N: usize>(moov: &BoxRef<'_>, trak: &BoxRef<'_>, slots: &mut Sl
 }
 
 /// Puts the tracks of a moov into a table that has just the room for them, with summaries of `N` track_IDs at once.
-// It stands apart since a function pays for the size of its locals each time that it is called.
+// A function of its own, since a function clears its locals at each call.
 #[inline(never)]
 fn push_tracks<const N: usize>(rows: &mut Rows64, moov: &BoxRef<'_>)
     requires some { 0 < N }
@@ -88,7 +88,7 @@ fn push_tracks<const N: usize>(rows: &mut Rows64, moov: &BoxRef<'_>)
 ///
 /// # Errors
 ///
-/// As the ledger refuses the claim: nothing is claimed then.
+/// As the ledger refuses the claim; nothing is claimed then.
 pub(crate) fn list_of(ledger: &mut Ledger, moov: &BoxRef<'_>) -> Result<TrackList, Refused>
     ensures list { IfOk result (λ l. l ≡ tracks_of (view moov.now)) }
     ensures ok { OnOk result (ledger.new ≡ claimed ledger.old

@@ -2,13 +2,13 @@
 
 ghost use Rattle.std.specs.Prelude.{◌≡◌};
 ghost use Rattle.mp4_box.specs.Trees.{view};
-ghost use Rattle.mp4_init.specs.Fields.{behind_times};
+ghost use Rattle.mp4_init.specs.Fields.{after_times};
 
 use mp4_box::{BoxRef, number_at, version_of};
 
-/// The field behind the times of a tkhd or mdhd: its track_ID, or its timescale.
-pub(crate) fn number_behind_times(this: &BoxRef<'_>) -> u32
-    ensures { result ≡ behind_times (view this.now) }
+/// The field after the times of a tkhd or mdhd: its track_ID, or its timescale.
+pub(crate) fn number_after_times(this: &BoxRef<'_>) -> u32
+    ensures { result ≡ after_times (view this.now) }
 {
     let at = if version_of(this.payload) == 0 {
         12

@@ -15,7 +15,7 @@ ghost use Rattle.mp4_init.specs.OrderedIds.{sought};
 ghost use Rattle.mp4_init.specs.Rules.{trexes_of};
 ghost use Rattle.mp4_init.specs.Tracks.{id_of};
 
-/// A moov has no fault only where nothing is at fault with it, as far as it is looked at.
+/// A moov has no fault only where nothing is at fault with it, as far as it is checked.
 pub fn no_fault()
     ensures { (o : ℕ) (x : List ℕ) → moov_fault o x ≡ None → moov_faults o x ≡ [] }
 {}
@@ -44,9 +44,9 @@ pub fn moovs_are_good_anywhere()
     ensures tracks { (o to : ℕ) (x : List ℕ) → moov_tracks to x ≡ moov_tracks o x }
 {}
 
-/// A track_ID that stands among at most 65,536 in order is found, and found nowhere else: what stands at its place is it.
+/// A track_ID that is among at most 65,536 in order is found, and found nowhere else: the id at its place is it.
 pub fn ids_in_order_are_found()
     ensures found { (ids : List ℕ) (id k : ℕ) → IsSorted nat_cmp ids → length ids ≤ 65536 →
         slice_get ids k ≡ Some id → is_some (sought ids id) ≡ true }
-    ensures stands { (ids : List ℕ) (id k : ℕ) → sought ids id ≡ Some k → slice_get ids k ≡ Some id }
+    ensures holds_id { (ids : List ℕ) (id k : ℕ) → sought ids id ≡ Some k → slice_get ids k ≡ Some id }
 {}

@@ -26,13 +26,13 @@ pub enum InitStop {
 }
 
 /// The tracks of the moov that the bytes are, one whole box of stated size that begins at `offset` in the stream:
-/// one for each trak that stands directly in it, in order, each `next` 0 (ISO/IEC 14496-12, 8.2.1 to 8.8.3). The
+/// one for each trak directly in it, in order, each `next` 0 (ISO/IEC 14496-12, 8.2.1 to 8.8.3). The
 /// table takes 64 bytes for each.
 ///
 /// # Errors
 ///
 /// `Fault` where the moov breaks a rule: of the lowest that it breaks, at the box that begins first of those that
-/// break it. The rules of its tree come first, then those of its boxes; their values are looked at only where the
+/// break it. The rules of its tree come first, then those of its boxes; their values are checked only if the
 /// boxes are as they must be. Else `Refused` where the table is refused. Nothing is claimed then.
 pub fn tracks(ledger: &mut Ledger, moov: &[u8], offset: u64) -> Result<TrackList, InitStop>
     requires whole { IsWhole moov.now }

@@ -3,7 +3,7 @@
 ghost use Rattle.std.specs.Prelude.{◌≡◌, ◌≤◌, ◌<◌, length, IfSome};
 ghost use Rattle.mp4_init.specs.OrderedIds.{descend, sought};
 
-/// A search takes so many steps, the first of them this long: half of the 65,536 that it tells apart.
+/// A search takes so many steps, the first of them this long: half of the 65,536 that it can distinguish.
 const LEVELS: u8 = 16;
 
 const FIRST_STEP: usize = 32_768;

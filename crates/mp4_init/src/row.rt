@@ -1,8 +1,8 @@
-//! How a track and its node stand in a row of eight numbers.
+//! A track and its node as a row of eight numbers.
 
 ghost use Rattle.std.specs.Prelude.{◌≡◌, slice_index};
-ghost use Rattle.mp4_init.specs.Working.Rows.{lower, node_of_row, track_of_row, upper};
-ghost use Rattle.mp4_init.specs.Working.SearchTrees.{with_link};
+ghost use Rattle.mp4_init.specs.Implementation.Rows.{lower, node_of_row, track_of_row, upper};
+ghost use Rattle.mp4_init.specs.Implementation.SearchTrees.{with_link};
 
 use crate::search_tree::{NOWHERE, Node};
 use crate::table::Track;
@@ -28,7 +28,7 @@ fn lower_of(word: u64) -> u32
 }
 
 /// The row of a track whose node leads nowhere.
-#[tactic(auto, unfolding(crate::specs::Working::Rows::track_of_row))]
+#[tactic(auto, unfolding(crate::specs::Implementation::Rows::track_of_row))]
 pub(crate) fn row_for(track: Track) -> [u64; 8]
     ensures { track_of_row result ≡ track }
 {
@@ -44,8 +44,8 @@ pub(crate) fn row_for(track: Track) -> [u64; 8]
     ]
 }
 
-/// The track that a row tells.
-#[tactic(auto, unfolding(crate::specs::Working::Rows::track_of_row))]
+/// The track of a row.
+#[tactic(auto, unfolding(crate::specs::Implementation::Rows::track_of_row))]
 pub(crate) fn track_for(row: [u64; 8]) -> Track
     ensures { result ≡ track_of_row row }
 {
@@ -62,7 +62,7 @@ pub(crate) fn track_for(row: [u64; 8]) -> Track
 }
 
 /// The node of a row.
-#[tactic(auto, unfolding(crate::specs::Working::Rows::node_of_row))]
+#[tactic(auto, unfolding(crate::specs::Implementation::Rows::node_of_row))]
 pub(crate) fn node_for(row: [u64; 8]) -> Node
     ensures { result ≡ node_of_row row }
 {
@@ -74,7 +74,7 @@ pub(crate) fn node_for(row: [u64; 8]) -> Node
 }
 
 /// The row of the same track, whose node leads to another place.
-#[tactic(auto, unfolding(crate::specs::Working::Rows::track_of_row, crate::specs::Working::Rows::node_of_row))]
+#[tactic(auto, unfolding(crate::specs::Implementation::Rows::track_of_row, crate::specs::Implementation::Rows::node_of_row))]
 pub(crate) fn linked_row(row: [u64; 8], is_odd: bool, to: usize) -> [u64; 8]
     ensures track { track_of_row result ≡ track_of_row row }
     ensures node { node_of_row result ≡ with_link is_odd to (node_of_row row) }
@@ -85,7 +85,7 @@ pub(crate) fn linked_row(row: [u64; 8], is_odd: bool, to: usize) -> [u64; 8]
 }
 
 /// The row of the same track, where its last fragment ended at `next`.
-#[tactic(auto, unfolding(crate::specs::Working::Rows::track_of_row, crate::specs::Working::Rows::node_of_row))]
+#[tactic(auto, unfolding(crate::specs::Implementation::Rows::track_of_row, crate::specs::Implementation::Rows::node_of_row))]
 pub(crate) fn ended_row(row: [u64; 8], next: u64) -> [u64; 8]
     ensures track { track_of_row result ≡ record (track_of_row row) { next = next } }
     ensures node { node_of_row result ≡ node_of_row row }

@@ -6,18 +6,18 @@ ghost use Rattle.mp4_box.specs.Order.{least_from, least};
 ghost use Rattle.mp4_box.specs.Checks.{along};
 ghost use Rattle.mp4_init.specs.Moovs.{content_fault, form_faults, value_faults};
 ghost use Rattle.mp4_init.specs.Rules.{below_stbl, field_faults, is_known, known, number_faults, sample_faults, track_faults};
-ghost use Rattle.mp4_init.specs.Working.Summaries.{summaries_in};
+ghost use Rattle.mp4_init.specs.Implementation.Summaries.{summaries_in};
 
-use crate::fields::number_behind_times;
-use crate::kinds::{
-    CO64, MDHD, MDIA, MINF, MVEX, STBL, STCO, STSC, STSD, STSZ, STTS, STZ2, TKHD, TRAK, TREX,
-};
+use crate::fields::number_after_times;
 use crate::sample_tables::{Entries, NoSamples};
 use crate::slots::{FEW_SLOTS, SLOTS, Slots};
 use arrayvec::ArrayVec;
+use mp4_box::types::{
+    CO64, MDHD, MDIA, MINF, MVEX, STBL, STCO, STSC, STSD, STSZ, STTS, STZ2, TKHD, TRAK, TREX,
+};
 use mp4_box::{Along, BoxRef, Check, Fault, FourCc, Layout, One, Rule, count_of, note, note_along};
 
-/// Boxes that are missing, or stand a second time.
+/// Boxes that are missing, or occur a second time.
 #[tactic(auto, using(mp4_box::proofs::OrderLemmas::least_from_append), unfolding(crate::specs::Rules::number_faults))]
 fn note_numbers(moov: &BoxRef<'_>, best: &mut Option<Fault>)
     ensures { best.new ≡ least_from best.old (number_faults (view moov.now)) }
@@ -31,7 +31,7 @@ fn note_numbers(moov: &BoxRef<'_>, best: &mut Option<Fault>)
     note_along(&One(STSD), &[TRAK, MDIA, MINF, STBL], moov, best);
 }
 
-/// Checks the boxes of a type that stand in the stbl of a track.
+/// Checks the boxes of a type in the stbl of a track.
 fn note_in_stbl<C: Check>(check: &C, kind: FourCc, moov: &BoxRef<'_>, best: &mut Option<Fault>)
     ensures { best.new ≡ least_from best.old (along (C.faults check.now) (below_stbl kind.0)
         (view moov.now)) }
@@ -56,7 +56,7 @@ fn note_fields(moov: &BoxRef<'_>, best: &mut Option<Fault>)
     note_along(&Layout::Exactly(24), &[MVEX, TREX], moov, best);
 }
 
-/// Tables that tell of samples.
+/// Tables of samples.
 #[tactic(auto, using(mp4_box::proofs::OrderLemmas::least_from_append), unfolding(crate::specs::Rules::sample_faults))]
 fn note_samples(moov: &BoxRef<'_>, best: &mut Option<Fault>)
     ensures { best.new ≡ least_from best.old (sample_faults (view moov.now)) }
@@ -72,11 +72,11 @@ fn note_samples(moov: &BoxRef<'_>, best: &mut Option<Fault>)
 /// Whether no tkhd before this one has its track_ID, and just one trex has it.
 fn is_known_in<const N: usize>(moov: &BoxRef<'_>, tkhd: &BoxRef<'_>, slots: &mut Slots<N>) -> bool
     requires some { 0 < N }
-    requires told { slots.old.summaries.items ≡ summaries_in (view moov.now) slots.old.ids.items }
+    requires added { slots.old.summaries.items ≡ summaries_in (view moov.now) slots.old.ids.items }
     ensures known { result ≡ is_known (view moov.now) (view tkhd.now) }
-    ensures told { slots.new.summaries.items ≡ summaries_in (view moov.now) slots.new.ids.items }
+    ensures added { slots.new.summaries.items ≡ summaries_in (view moov.now) slots.new.ids.items }
 {
-    let summary = slots.summary(moov, tkhd.offset, number_behind_times(tkhd));
+    let summary = slots.summary(moov, tkhd.offset, number_after_times(tkhd));
     if summary.first < tkhd.offset {
         return false;
     }
@@ -87,7 +87,7 @@ fn is_known_in<const N: usize>(moov: &BoxRef<'_>, tkhd: &BoxRef<'_>, slots: &mut
 #[tactic(auto, unfolding(mp4_box::specs::Order::least_from, crate::specs::Rules::track_faults))]
 fn note_unknown<const N: usize>(moov: &BoxRef<'_>, slots: &mut Slots<N>, best: &mut Option<Fault>)
     requires some { 0 < N }
-    requires told { slots.old.summaries.items ≡ summaries_in (view moov.now) slots.old.ids.items }
+    requires added { slots.old.summaries.items ≡ summaries_in (view moov.now) slots.old.ids.items }
     ensures { best.new ≡ least_from best.old (track_faults (view moov.now)) }
 {
     for tkhd in Along::of(&[TRAK, TKHD], moov) {
@@ -98,7 +98,7 @@ fn note_unknown<const N: usize>(moov: &BoxRef<'_>, slots: &mut Slots<N>, best: &
 }
 
 /// The same, with summaries of `N` track_IDs at once.
-// It stands apart since a function pays for the size of its locals each time that it is called.
+// A function of its own, since a function clears its locals at each call.
 #[inline(never)]
 #[tactic(auto, using(crate::proofs::SummaryTableLemmas::summaries_of_none))]
 fn note_unknown_by<const N: usize>(moov: &BoxRef<'_>, best: &mut Option<Fault>)

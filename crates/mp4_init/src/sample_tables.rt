@@ -1,4 +1,4 @@
-//! The sample tables of a moov: the entries of an stsd, and tables that tell of no samples.
+//! The sample tables of a moov: the entries of an stsd, and tables of no samples.
 
 ghost use Rattle.std.specs.Prelude.{◌≡◌, ◌≤◌, length};
 ghost use Rattle.mp4_box.specs.Trees.{view};
@@ -8,7 +8,7 @@ ghost use Rattle.mp4_init.specs.Rules.{entries_faults, no_samples};
 
 use mp4_box::{BoxRef, Check, Fault, Rule, Walk, note, number_at};
 
-/// An stsd has its count, and behind it so many sample entries.
+/// An stsd has its count, and after it so many sample entries.
 pub struct Entries;
 
 /// The count at this place is 0.

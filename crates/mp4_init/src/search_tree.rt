@@ -2,7 +2,7 @@
 
 ghost use Rattle.std.specs.Prelude.{◌≡◌, ◌<◌, List, length, slice_get, IfSome};
 ghost use Rattle.mp4_init.specs.declared.search_tree.Node.{Node};
-ghost use Rattle.mp4_init.specs.Working.SearchTrees.{ending, link_of, sought, EndsWithin};
+ghost use Rattle.mp4_init.specs.Implementation.SearchTrees.{ending, link_of, sought, EndsWithin};
 
 /// A track_ID, and where to go on from here for another: by the next bit of that, the lowest first. A node leads only
 /// ahead: any other place is none.
@@ -28,8 +28,8 @@ pub(crate) struct Link {
 pub(crate) enum Ending {
     /// At the node of the track_ID.
     Found(usize),
-    /// Behind the last node that was asked, by the link that leads to none.
-    Behind(Link),
+    /// After the last node that was compared, by the link that leads to none.
+    After(Link),
     /// No node was asked.
     Unasked,
 }
@@ -66,7 +66,7 @@ pub(crate) fn search<N: Nodes>(nodes: &N, id: u32) -> Ending
             return Ending::Found(at);
         }
         let is_odd = bits % 2 == 1;
-        ending = Ending::Behind(Link { at, is_odd });
+        ending = Ending::After(Link { at, is_odd });
         let next = next_of(node, is_odd);
         if next <= at {
             return ending;
@@ -83,6 +83,6 @@ pub(crate) fn seek<N: Nodes>(nodes: &N, id: u32) -> Option<usize>
 {
     match search(nodes, id) {
         Ending::Found(at) => Some(at),
-        Ending::Behind(_) | Ending::Unasked => None,
+        Ending::After(_) | Ending::Unasked => None,
     }
 }

@@ -5,16 +5,16 @@ ghost use Rattle.mp4_box.specs.Paths.{at_path};
 ghost use Rattle.mp4_box.specs.Trees.{view};
 ghost use Rattle.mp4_init.specs.Kinds.{to_tkhd};
 ghost use Rattle.mp4_init.specs.OrderedIds.{AreInOrder, sought};
-ghost use Rattle.mp4_init.specs.Working.Summaries.{all_told, gathered, id_by, ids_from, empty_summary, summaries_in, summary_in, told_at, told_if};
+ghost use Rattle.mp4_init.specs.Implementation.Summaries.{all_added, gathered, id_by, ids_from, empty_summary, summaries_in, summary_in, added_at, added_if};
 
-use crate::fields::number_behind_times;
-use crate::kinds::{MVEX, TKHD, TRAK, TREX};
+use crate::fields::number_after_times;
 use crate::ordered_ids::seek_in_order;
-use crate::summary::{NOTHING, Source, Summary, id_in, tell};
+use crate::summary::{NOTHING, Source, Summary, add_box, id_in};
 use arrayvec::ArrayVec;
+use mp4_box::types::{MVEX, TKHD, TRAK, TREX};
 use mp4_box::{Along, BoxRef, FourCc};
 
-/// Adds the track_IDs of the tkhds that begin at the offset or behind it, as many as there is room for.
+/// Adds the track_IDs of the tkhds that begin at the offset or after it, as many as there is room for.
 fn push_ids<const N: usize>(moov: &BoxRef<'_>, from: u64, ids: &mut ArrayVec<u32, N>)
     requires empty { ids.old.items ≡ [] }
     ensures { ids.new.items ≡ take N (ids_from from (at_path to_tkhd (view moov.now))) }
@@ -24,7 +24,7 @@ fn push_ids<const N: usize>(moov: &BoxRef<'_>, from: u64, ids: &mut ArrayVec<u32
             return;
         }
         if tkhd.offset >= from {
-            ids.push(number_behind_times(&tkhd));
+            ids.push(number_after_times(&tkhd));
         }
     }
 }
@@ -49,29 +49,29 @@ fn clear<const N: usize>(count: usize, summaries: &mut ArrayVec<Summary, N>)
     }
 }
 
-/// Tells a box to the summary of its track_ID, where that has a place.
-fn tell_placed(source: Source, ids: &[u32], this: &BoxRef<'_>, summaries: &mut [Summary])
+/// Adds a box to the summary of its track_ID, if that has a place.
+fn add_placed(source: Source, ids: &[u32], this: &BoxRef<'_>, summaries: &mut [Summary])
     requires { length summaries.old ≡ length ids.now }
-    ensures { summaries.new ≡ told_at source (view this.now) summaries.old
+    ensures { summaries.new ≡ added_at source (view this.now) summaries.old
         (sought ids.now (id_by source (view this.now))) }
 {
     if let Some(at) = seek_in_order(ids, id_in(source, this)) {
-        tell(&mut summaries[at], source, this);
+        add_box(&mut summaries[at], source, this);
     }
 }
 
-/// Tells a box to the summary of this track_ID, where the box has it.
-fn tell_own(source: Source, id: u32, this: &BoxRef<'_>, own: &mut Summary)
-    ensures { own.new ≡ told_if source id own.old (view this.now) }
+/// Adds a box to the summary of this track_ID, if the box has it.
+fn add_own(source: Source, id: u32, this: &BoxRef<'_>, own: &mut Summary)
+    ensures { own.new ≡ added_if source id own.old (view this.now) }
 {
     if id_in(source, this) == id {
-        tell(own, source, this);
+        add_box(own, source, this);
     }
 }
 
-/// Tells the boxes on a path to the summaries of their track_IDs, and to that of this one.
-#[tactic(auto, unfolding(crate::specs::Working::Summaries::all_told, crate::specs::Working::Summaries::gathered))]
-fn tell_along(
+/// Adds the boxes on a path to the summaries of their track_IDs, and to that of this one.
+#[tactic(auto, unfolding(crate::specs::Implementation::Summaries::all_added, crate::specs::Implementation::Summaries::gathered))]
+fn add_along(
     source: Source,
     path: &[FourCc],
     moov: &BoxRef<'_>,
@@ -82,13 +82,13 @@ fn tell_along(
 )
     requires size { length summaries.old ≡ length ids.now }
     requires path { length path.now ≤ 8 }
-    ensures all { summaries.new ≡ all_told source ids.now summaries.old
+    ensures all { summaries.new ≡ all_added source ids.now summaries.old
         (at_path path.now (view moov.now)) }
     ensures own { own.new ≡ gathered source id own.old (at_path path.now (view moov.now)) }
 {
     for this in Along::of(path, moov) {
-        tell_placed(source, ids, &this, summaries);
-        tell_own(source, id, &this, own);
+        add_placed(source, ids, &this, summaries);
+        add_own(source, id, &this, own);
     }
 }
 
@@ -98,7 +98,8 @@ pub(crate) const SLOTS: usize = 6144;
 /// The same for a moov of as many tracks at most.
 pub(crate) const FEW_SLOTS: usize = 64;
 
-/// Some track_IDs in order, none at first, and what a moov says of each. It is gone over again only where another is asked for.
+/// Some track_IDs in order, none at first, and the summary of each. The moov is gone over again only for another
+/// track_ID.
 #[derive(Drop)]
 pub(crate) struct Slots<const N: usize> {
     pub(crate) ids: ArrayVec<u32, N>,
@@ -106,12 +107,12 @@ pub(crate) struct Slots<const N: usize> {
 }
 
 impl<const N: usize> Slots<N> {
-    /// Puts the track_IDs of the tkhds that begin at the offset or behind it in the places of all. Tells what the moov says of
-    /// this one.
-    // It stands apart since a function pays for the size of its locals each time that it is called.
-    #[tactic(auto, unfolding(crate::specs::Working::Summaries::summaries_in, crate::specs::Working::Summaries::summary_in))]
+    /// Puts the track_IDs of the tkhds that begin at the offset or after it in the places of all. Returns what the moov
+    /// says of this one.
+    // A function of its own, since a function clears its locals at each call.
+    #[tactic(auto, unfolding(crate::specs::Implementation::Summaries::summaries_in, crate::specs::Implementation::Summaries::summary_in))]
     fn refill(&mut self, moov: &BoxRef<'_>, from: u64, id: u32) -> Summary
-        ensures told { self.new.summaries.items ≡ summaries_in (view moov.now) self.new.ids.items }
+        ensures added { self.new.summaries.items ≡ summaries_in (view moov.now) self.new.ids.items }
         ensures summary { result ≡ summary_in (view moov.now) id }
     {
         take_ids(moov, from, &mut self.ids);
@@ -119,7 +120,7 @@ impl<const N: usize> Slots<N> {
         let ids = self.ids.as_slice();
         let summaries = self.summaries.as_mut_slice();
         let mut own = NOTHING;
-        tell_along(
+        add_along(
             Source::Tkhd,
             &[TRAK, TKHD],
             moov,
@@ -128,7 +129,7 @@ impl<const N: usize> Slots<N> {
             id,
             &mut own,
         );
-        tell_along(
+        add_along(
             Source::Trex,
             &[MVEX, TREX],
             moov,
@@ -140,11 +141,11 @@ impl<const N: usize> Slots<N> {
         own
     }
 
-    /// What the moov says of a track_ID. Those of tkhds that begin at the offset or behind it will be asked for next.
+    /// What the moov says of a track_ID. Those of tkhds that begin at the offset or after it will be asked for next.
     pub(crate) fn summary(&mut self, moov: &BoxRef<'_>, from: u64, id: u32) -> Summary
         requires { self.old.summaries.items ≡ summaries_in (view moov.now) self.old.ids.items }
         ensures summary { result ≡ summary_in (view moov.now) id }
-        ensures told { self.new.summaries.items ≡ summaries_in (view moov.now) self.new.ids.items }
+        ensures added { self.new.summaries.items ≡ summaries_in (view moov.now) self.new.ids.items }
     {
         match seek_in_order(self.ids.as_slice(), id) {
             Some(at) => self.summaries.as_slice()[at],

@@ -2,10 +2,10 @@
 
 ghost use Rattle.std.specs.Prelude.{◌≡◌, Some};
 ghost use Rattle.mp4_box.specs.Trees.{view};
-ghost use Rattle.mp4_init.specs.Working.Summaries.{id_by, told};
+ghost use Rattle.mp4_init.specs.Implementation.Summaries.{added, id_by};
 ghost use Rattle.mp4_init.specs.Tracks.{defaults_of};
 
-use crate::fields::number_behind_times;
+use crate::fields::number_after_times;
 use mp4_box::{BoxRef, number_at};
 
 /// The four defaults of a trex (ISO/IEC 14496-12, 8.8.3).
@@ -47,7 +47,7 @@ pub enum Source {
     Trex,
 }
 
-/// The defaults that a trex tells.
+/// The defaults of a trex.
 fn defaults_in(trex: &BoxRef<'_>) -> Defaults
     ensures { result ≡ defaults_of (Some (view trex.now)) }
 {
@@ -64,14 +64,14 @@ pub(crate) fn id_in(source: Source, this: &BoxRef<'_>) -> u32
     ensures { result ≡ id_by source (view this.now) }
 {
     match source {
-        Source::Tkhd => number_behind_times(this),
+        Source::Tkhd => number_after_times(this),
         Source::Trex => number_at(this.payload, 4),
     }
 }
 
-/// Adds what a box of the track_ID tells.
-pub(crate) fn tell(summary: &mut Summary, source: Source, this: &BoxRef<'_>)
-    ensures { summary.new ≡ told source summary.old (view this.now) }
+/// Adds a box of the track_ID.
+pub(crate) fn add_box(summary: &mut Summary, source: Source, this: &BoxRef<'_>)
+    ensures { summary.new ≡ added source summary.old (view this.now) }
 {
     match source {
         Source::Tkhd => {

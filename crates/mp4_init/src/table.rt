@@ -3,9 +3,9 @@
 ghost use Rattle.std.specs.Prelude.{◌≡◌, ◌+◌, ◌*◌, ◌^◌, ◌<◌, ◌≤◌, ◌==◌, ◌↔◌, [], ◌++◌, ◌∷◌, length, map, slice_index_or, IfSome, IsTrue};
 ghost use Rattle.std.specs.List.{AllByRecursion, position};
 ghost use Rattle.mp4_ledger.specs.Memory.{given_back};
-ghost use Rattle.mp4_init.specs.Working.Rows.{node_of_row, track_of_row};
+ghost use Rattle.mp4_init.specs.Implementation.Rows.{node_of_row, track_of_row};
 ghost use Rattle.mp4_init.specs.Tracks.{with_next};
-ghost use Rattle.mp4_init.specs.Working.SearchTrees.{IsIndexed};
+ghost use Rattle.mp4_init.specs.Implementation.SearchTrees.{IsIndexed};
 
 use crate::row::{ended_row, linked_row, node_for, row_for, track_for};
 use crate::search_tree::{Ending, Node, Nodes, search, seek};
@@ -21,13 +21,13 @@ pub struct Track {
     pub timescale: u32,
     /// How many sample entries it has (8.5.2).
     pub entries: u32,
-    /// The index of the sample entry of a fragment's samples, where the fragment tells none (8.8.3).
+    /// The index of the sample entry of a fragment's samples, if the fragment has none (8.8.3).
     pub desc: u32,
-    /// The duration of a sample, where its fragment tells none (8.8.3).
+    /// The duration of a sample, if its fragment has none (8.8.3).
     pub duration: u32,
-    /// The size of a sample in bytes, where its fragment tells none (8.8.3).
+    /// The size of a sample in bytes, if its fragment has none (8.8.3).
     pub size: u32,
-    /// The flags of a sample, where its fragment tells none (8.8.3).
+    /// The flags of a sample, if its fragment has none (8.8.3).
     pub flags: u32,
     /// The decode time at which the last of its fragments ended, 0 before the first.
     pub next: u64,
@@ -43,8 +43,8 @@ pub struct TrackList {
 impl Model for TrackList {
     ghost use Rattle.std.specs.Prelude.{◌≡◌, List, map, length};
     ghost use Rattle.mp4_init.specs.declared.table.Track.{Track};
-    ghost use Rattle.mp4_init.specs.Working.Rows.{node_of_row, track_of_row};
-    ghost use Rattle.mp4_init.specs.Working.SearchTrees.{IsIndexed};
+    ghost use Rattle.mp4_init.specs.Implementation.Rows.{node_of_row, track_of_row};
+    ghost use Rattle.mp4_init.specs.Implementation.SearchTrees.{IsIndexed};
 
     ghost Value = { List Track };
 
@@ -89,8 +89,8 @@ impl TrackList {
         TrackList { rows }
     }
 
-    /// The index of the track with this track_ID; none where no track has it. It asks one track for each of the 32 bits of
-    /// a track_ID at most, and one more.
+    /// The index of the track with this track_ID; none where no track has it. It reads one track for each of the 32
+    /// bits of a track_ID at most, and one more.
     pub fn find(&self, id: u32) -> Option<usize>
         ensures first { result ≡ position (λ t. t.id == id) self.now }
         ensures within { IfSome result (λ i. i < length self.now) }
@@ -144,7 +144,7 @@ pub(crate) fn push_track(rows: &mut Rows64, track: Track)
     let ending = search(rows, track.id);
     let last = rows.len();
     rows.push(row_for(track));
-    if let Ending::Behind(link) = ending {
+    if let Ending::After(link) = ending {
         let row = linked_row(rows.get(link.at), link.is_odd, last);
         rows.set(link.at, row);
     }

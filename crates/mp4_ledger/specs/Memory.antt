@@ -1,18 +1,18 @@
--- What is seen of a ledger, and of the memory that is claimed from it.
+-- The visible part of a ledger, and of the memory that is claimed from it.
 use Rattle.std.specs.Prelude.{ℕ, ◌+◌, ◌-◌, ◌*◌, List, ◌++◌, length, take, drop, replicate, max, Option, Some, None}
 
--- how many bytes may be out, how many are, and the most that were since the last mark
+-- the limit in bytes, how many bytes are claimed, and the most that were claimed at once since the last mark
 pub record Account : Type 0 where
   pub limit : ℕ
   pub live : ℕ
   pub peak : ℕ
 
--- bytes, and for how many of them there is room
+-- a buffer: its bytes and its capacity
 pub record Bytes : Type 0 where
   pub bytes : List ℕ
   pub cap : ℕ
 
--- rows of eight numbers, and for how many of them there is room
+-- a table: its rows of eight numbers and its capacity
 pub record Rows : Type 0 where
   pub rows : List (List ℕ)
   pub cap : ℕ
@@ -29,11 +29,11 @@ given_back a n = record a { live = a.live - n }
 abbrev pub fitted : List ℕ → ℕ → List ℕ
 fitted xs n = take n xs ++ replicate (n - length xs) 0
 
--- what stands in the place of xs once w was written there: it is w where the lengths are equal
+-- xs once w was written over it: w where the lengths are equal
 abbrev pub overwritten : {X : Type 0} → List X → List X → List X
 overwritten xs w = take (length xs) (w ++ drop (length w) xs)
 
--- what a buffer and a table have out, where there is one
+-- how many bytes a buffer and a table have claimed, if there is one
 abbrev pub bytes_out : Option Bytes → ℕ
 bytes_out None = 0
 bytes_out (Some b) = b.cap

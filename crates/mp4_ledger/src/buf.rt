@@ -7,13 +7,13 @@ ghost use Rattle.mp4_ledger.specs.Memory.{fitted};
 
 use std::marker::Model;
 
-/// A buffer whose room is claimed. It must be given back to its ledger, and can't be dropped.
+/// A buffer in claimed memory. It must be given back to its ledger, and can't be dropped.
 pub struct Buf {
     pub(crate) bytes: Vec<u8>,
     pub(crate) cap: usize,
 }
 
-// A contract sees the bytes, and for how many there is room.
+// A contract sees the bytes and the capacity.
 impl Model for Buf {
     ghost use Rattle.std.specs.Prelude.{◌≤◌, length, vec_capacity};
     ghost use Rattle.mp4_ledger.specs.Memory.{Bytes};
@@ -41,7 +41,7 @@ impl Buf {
         self.bytes.is_empty()
     }
 
-    /// For how many bytes its room was claimed.
+    /// Its capacity, for which it was claimed.
     pub fn cap(&self) -> usize
         ensures { result ≡ self.now.cap }
     {
@@ -55,7 +55,7 @@ impl Buf {
         self.bytes.as_slice()
     }
 
-    /// Appends bytes for which there is room.
+    /// Appends bytes, for which there must be room.
     pub fn push_slice(&mut self, more: &[u8])
         requires { length self.old.bytes + length more.now ≤ self.old.cap }
         ensures { self.new ≡ record self.old { bytes = self.old.bytes ++ more.now } }
@@ -66,7 +66,7 @@ impl Buf {
         }
     }
 
-    /// Cuts it, or fills it with zeros, to the length `n`, and lends its bytes.
+    /// Cuts it, or fills it with zeros, to the length `n`, and returns its bytes as a borrow.
     pub fn room_mut(&mut self, n: usize) -> &mut [u8]
         requires { n ≤ self.old.cap }
         ensures* writes_back { sem 𝓛 (LendsBytes self.entry result) }
@@ -80,14 +80,14 @@ impl Buf {
         self.bytes.as_mut_slice()
     }
 
-    /// Keeps the first `n` bytes, or all where there are fewer.
+    /// Keeps the first `n` bytes, or all if there are fewer.
     pub fn shorten(&mut self, n: usize)
         ensures { self.new ≡ record self.old { bytes = take n self.old.bytes } }
     {
         self.bytes.truncate(n);
     }
 
-    /// Forgets its bytes, and keeps its room.
+    /// Removes its bytes, and keeps its capacity.
     pub fn clear(&mut self)
         ensures { self.new ≡ record self.old { bytes = [] } }
     {

@@ -1,4 +1,4 @@
-//! What is claimed, and how much may be.
+//! How much memory is claimed, and how much may be.
 
 ghost use Rattle.std.specs.Prelude.{◌≡◌, ◌+◌, ◌-◌, ◌*◌, ◌<◌, ◌≤◌, ◌↔◌, [], max, OnOk, OnErr, IfErr, IfOk, IsErrOf};
 ghost use Rattle.mp4_ledger.specs.Memory.{claimed, given_back};
@@ -11,7 +11,7 @@ use std::marker::Model;
 /// Why a claim was refused.
 #[derive(Clone, Copy, Debug, PartialEq, Eq)]
 pub enum Refused {
-    /// What is out and the claim would pass the limit.
+    /// The claim would pass the limit.
     OverLimit,
     /// The allocator gave no memory.
     Memory,
@@ -53,14 +53,14 @@ impl Model for EarlierPeak {
 }
 
 impl EarlierPeak {
-    /// Lets it go: the ledger counts from its mark on.
+    /// Forgets it: the ledger counts from its mark on.
     pub fn forget(self) {
         let EarlierPeak { peak: _ } = self;
     }
 }
 
 impl Ledger {
-    /// A ledger of which nothing is out, and of which at most `limit` bytes may be.
+    /// A ledger without claims, and with this limit in bytes.
     pub fn new(alloc: Global, limit: u64) -> Ledger
         ensures { result ≡ record { limit = limit; live = 0; peak = 0 } }
     {
@@ -72,7 +72,7 @@ impl Ledger {
         }
     }
 
-    /// How many bytes are out.
+    /// How many bytes are claimed.
     pub fn live(&self) -> u64
         ensures live { result ≡ self.now.live }
         ensures within { self.now.live ≤ self.now.limit }
@@ -80,7 +80,7 @@ impl Ledger {
         self.live
     }
 
-    /// The most bytes that were out since the ledger was made, or last marked.
+    /// The most bytes that were claimed at once since the ledger was made, or last marked.
     pub fn peak(&self) -> u64
         ensures peak { result ≡ self.now.peak }
         ensures most { self.now.live ≤ self.now.peak }
@@ -89,7 +89,7 @@ impl Ledger {
         self.peak
     }
 
-    /// How many bytes may be out.
+    /// The limit in bytes.
     pub fn limit(&self) -> u64
         ensures limit { result ≡ self.now.limit }
         ensures within { self.now.live ≤ self.now.limit }
@@ -97,7 +97,7 @@ impl Ledger {
         self.limit
     }
 
-    /// Begins a new peak: it counts from what is out now. What it was is answered, to be lifted back or forgotten.
+    /// Begins a new peak, which counts from what is claimed now. Returns the old one, to be lifted back or forgotten.
     pub fn mark(&mut self) -> EarlierPeak
         ensures marked { self.new ≡ record self.old { peak = self.old.live } }
         ensures earlier { result ≡ self.old.peak }
@@ -173,8 +173,8 @@ impl Ledger {
         })
     }
 
-    /// Counts a claim of so many bytes, for which room is elsewhere, and gives it back at once: the peak is that of a claim
-    /// that was made.
+    /// Counts a claim of so many bytes, for which there is room elsewhere, and gives it back at once: the peak is that
+    /// of a claim that was made.
     ///
     /// # Errors
     ///

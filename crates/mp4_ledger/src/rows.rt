@@ -6,13 +6,13 @@ ghost use Rattle.mp4_ledger.specs.Lending.{LendsRows};
 
 use std::marker::Model;
 
-/// A table whose room is claimed, 64 bytes a row. It must be given back to its ledger, and can't be dropped.
+/// A table in claimed memory, 64 bytes a row. It must be given back to its ledger, and can't be dropped.
 pub struct Rows64 {
     pub(crate) rows: Vec<[u64; 8]>,
     pub(crate) cap: usize,
 }
 
-// A contract sees the rows, and for how many there is room.
+// A contract sees the rows and the capacity.
 impl Model for Rows64 {
     ghost use Rattle.std.specs.Prelude.{◌≡◌, ◌≤◌, length, vec_capacity};
     ghost use Rattle.mp4_ledger.specs.Memory.{Rows};
@@ -40,14 +40,14 @@ impl Rows64 {
         self.rows.is_empty()
     }
 
-    /// For how many rows its room was claimed.
+    /// Its capacity, for which it was claimed.
     pub fn cap(&self) -> usize
         ensures { result ≡ self.now.cap }
     {
         self.cap
     }
 
-    /// Appends a row for which there is room.
+    /// Appends a row, for which there must be room.
     pub fn push(&mut self, row: [u64; 8])
         requires { length self.old.rows < self.old.cap }
         ensures { self.new ≡ record self.old { rows = self.old.rows ++ row ∷ [] } }
@@ -71,7 +71,7 @@ impl Rows64 {
         self.rows[i] = row;
     }
 
-    /// Lends all rows.
+    /// All rows, as a borrow.
     pub fn all_mut(&mut self) -> &mut [[u64; 8]]
         ensures* writes_back { sem 𝓛 (LendsRows self.entry result) }
         ensures value { result.now ≡ self.old.rows }

@@ -12,7 +12,7 @@ of_text bytes len from n there =
     let whole : from + (len - from) ≡ len = omega (arith, there) in
     sym (ap (λ k. take n (drop from (take k bytes))) (sym whole) ∙ ap (take n) (drop-take from (len - from) bytes) ∙ take-take n (len - from) (drop from bytes) within)
 
--- a chunk that begins in the text, at `from`, and is put behind it: the first n bytes of it count
+-- a chunk that begins in the text, at `from`, and is put after it: the first n bytes of it count
 pub again : (room : ℕ) (bytes : List ℕ) (len from n at : ℕ) → at ≡ from → from + n ≤ len → n ≤ room → len + room ≤ length bytes
     → take (len + n) (put_chunk len bytes (chunk at room bytes)) ≡ take len bytes ++ take n (drop from (take len bytes))
 again room bytes len from n at same there few fits =

@@ -54,7 +54,7 @@ decimal_three n from below = rw (itoa.decimal_pair n from (omega arith), decimal
 pub decimal_as_four : (n : ℕ) → 1000 ≤ n → n < 10000 → decimal n ≡ decimal_four n
 decimal_as_four n from below = rw (itoa.decimal_pair n (omega arith) (omega arith), itoa.decimal_two (n / 100) (omega arith) (omega arith))
 
--- with four digits behind the others, and with eight
+-- with four digits after the others, and with eight
 pub decimal_split : (n : ℕ) → 10000 ≤ n → n < 2 ^ 64 → decimal n ≡ decimal (n / 10000) ++ decimal_four (n % 10000)
 decimal_split n from fits = itoa.decimal_four n from fits
 

@@ -6,7 +6,7 @@ use Rattle.std.specs.Fmt.{decimal}
 use Rattle.mp4_lines.specs.Digits.{decimal_four}
 use Rattle.mp4_lines.proofs.DecimalLemmas.{decimal_split}
 
--- ys was put behind the first `at` bytes: of all that is there the first n count
+-- ys was put after the first `at` bytes: of all that is there the first n count
 pub more : (all bytes ys : List ℕ) (at n : ℕ) → take (at + length ys) all ≡ take at bytes ++ ys → n ≤ length ys → at + length ys ≤ length bytes
     → take (at + n) all ≡ take at bytes ++ take n ys
 more all bytes ys at n put few fits =
@@ -16,7 +16,7 @@ more all bytes ys at n put few fits =
     ∙ ap (λ m. take (m + n) (take at bytes ++ ys)) (sym text)
     ∙ take-append-add (take at bytes) ys n
 
--- a number of five digits or more has four behind the others
+-- a number of five digits or more has four after the others
 pub has_four : (n : ℕ) → 10000 ≤ n → n < 2 ^ 64 → length (decimal n) ≡ length (decimal (n / 10000)) + 4
 has_four n from fits = ap length (decimal_split n from fits) ∙ length-append (decimal (n / 10000)) (decimal_four (n % 10000))
 

@@ -1,16 +1,16 @@
 //! Text under construction: bytes, and numbers in decimal and hexadecimal.
 //!
 //! - [`text`]: [`Text`], which holds up to a number of bytes that its type names, and allocates nothing;
-//! - [`kept`]: [`KeptNumber`], a number whose digits are kept for when it is written again with others at its end;
+//! - [`cached_number`]: [`CachedNumber`], a number whose digits are kept for when it is written again with others at its end;
 //! - [`digits`]: how many digits numbers have at most, and the digits of small numbers.
 //!
 //! Decimals are std's `decimal` and `signed_decimal`. Hexadecimal is defined in `specs/Digits.antt`.
 #![tactic(auto)]
 
+pub mod cached_number;
 pub mod digits;
-pub mod kept;
 pub mod text;
 
+pub use cached_number::CachedNumber;
 pub use digits::{DECIMAL_DIGITS, SIGNED_DECIMAL_BYTES, WIDE_DECIMAL_DIGITS};
-pub use kept::KeptNumber;
 pub use text::{MOST_AGAIN, Text};

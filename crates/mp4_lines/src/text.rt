@@ -65,7 +65,7 @@ impl<const CAP: usize> Text<CAP> {
         self.len = 0;
     }
 
-    /// Keeps the first `n` bytes, or all where there are fewer.
+    /// Keeps the first `n` bytes, or all if there are fewer.
     #[inline]
     pub fn truncate(&mut self, n: usize)
         ensures { self.new ≡ take n self.old }
@@ -131,7 +131,7 @@ impl<const CAP: usize> Text<CAP> {
         }
     }
 
-    /// Appends the number in decimal: its last eight digits behind those before them, where there are more.
+    /// Appends the number in decimal: its last eight digits after those before them, where there are more.
     fn push_long_decimal(&mut self, number: u64)
         requires { length self.old + DECIMAL_DIGITS ≤ CAP }
         ensures { self.new ≡ self.old ++ decimal number }
@@ -237,7 +237,7 @@ impl<const CAP: usize> Text<CAP> {
         self.push_bytes(digits.format(number).as_bytes());
     }
 
-    /// Appends the number in decimal, a negative one behind a minus sign: at most [`SIGNED_DECIMAL_BYTES`] bytes.
+    /// Appends the number in decimal, a negative one after a minus sign: at most [`SIGNED_DECIMAL_BYTES`] bytes.
     #[inline(always)]
     pub fn push_signed_decimal(&mut self, number: i128)
         requires { length self.old + SIGNED_DECIMAL_BYTES ≤ CAP }

@@ -1,4 +1,4 @@
--- Accounts, piece after piece.
+-- Accounts, input after input.
 use Rattle.std.proofs.Common.{◌≡◌, ◌∙◌, ℕ, zero, suc, ◌+◌, ◌-◌, ◌≤◌, ◌<◌, max, Result, Err, inl, inr, ap, sym, refl, arith}
 use Rattle.std.proofs.lemmas.Bool.{cases_lt}
 use Rattle.mp4_ledger.specs.declared.ledger.Refused.{Refused}

@@ -7,7 +7,7 @@ use Rattle.std.specs.List.{AllByRecursion}
 use Rattle.mp4_ends.specs.Streams.{AppendsPrefix}
 use Rattle.mp4_machine.specs.Blocks.{IsSent, Pending, unused, whole_by, Passes, PassesMarked, Breaks, BreaksMarked}
 use Rattle.mp4_machine.specs.Readings.{moved, whole_in}
-use Rattle.mp4_machine.specs.declared.mark.Mark.{Mark}
+use Rattle.mp4_machine.specs.declared.fragment_end.FragmentEnd.{FragmentEnd}
 use Rattle.mp4_machine.proofs.MarkLemmas.{moved-append, moved-moved, moved-none, whole_in-append, whole_in-early, whole_in-late, whole_in-moved}
 
 -- no byte was sent, and no mark put
@@ -19,22 +19,22 @@ alike-none v n =
 pub Passes-none : (a : Option (List ℕ)) (v : Pending) → Passes a a v v []
 Passes-none a v = record { sent = []; written = Appends-nil a; all = append-nil v.bytes; alike = alike-none v }
 
--- ---- one text behind the other
+-- ---- one text after the other
 
--- what is whole in the first n bytes by the marks of a text and of one behind it
-whole-both : (n : ℕ) (v : Pending) (s : List ℕ) (xs ys : List Mark) → whole_by n v (xs ++ moved (length s) ys) ≡ whole_in n (whole_by n v xs) (moved (length v.bytes + length s) ys)
+-- what is whole in the first n bytes by the marks of a text and of one after it
+whole-both : (n : ℕ) (v : Pending) (s : List ℕ) (xs ys : List FragmentEnd) → whole_by n v (xs ++ moved (length s) ys) ≡ whole_in n (whole_by n v xs) (moved (length v.bytes + length s) ys)
 whole-both n v s xs ys =
     let k = length v.bytes in
     ap (λ l. whole_in n v.whole (v.ends ++ l)) (moved-append k xs (moved (length s) ys) ∙ ap (λ l. moved k xs ++ l) (moved-moved k (length s) ys))
     ∙ ap (whole_in n v.whole) (sym (append_assoc v.ends (moved k xs) (moved (k + length s) ys)))
     ∙ whole_in-append n v.whole (v.ends ++ moved k xs) (moved (k + length s) ys)
 
-module _ {a b : Option (List ℕ)} {v w : Pending} {s : List ℕ} {xs : List Mark} (p : PassesMarked a b v w s xs) where
+module _ {a b : Option (List ℕ)} {v w : Pending} {s : List ℕ} {xs : List FragmentEnd} (p : PassesMarked a b v w s xs) where
   lengths : length v.bytes + length s ≡ length p.sent + length w.bytes
   lengths = sym (length-append v.bytes s) ∙ ap length p.all ∙ length-append p.sent w.bytes
 
-  -- what is whole by both texts, behind what was sent
-  alike-both : (n : ℕ) (ys : List Mark) → whole_by (length p.sent + n) v (xs ++ moved (length s) ys) ≡ whole_by n w ys
+  -- what is whole by both texts, after what was sent
+  alike-both : (n : ℕ) (ys : List FragmentEnd) → whole_by (length p.sent + n) v (xs ++ moved (length s) ys) ≡ whole_by n w ys
   alike-both n ys =
       let j = length p.sent in
       whole-both (j + n) v s xs ys
@@ -47,7 +47,7 @@ module _ {a b : Option (List ℕ)} {v w : Pending} {s : List ℕ} {xs : List Mar
   all-both : (t rest : List ℕ) (sent : List ℕ) → w.bytes ++ t ≡ sent ++ rest → v.bytes ++ (s ++ t) ≡ (p.sent ++ sent) ++ rest
   all-both t rest sent e = sym (append_assoc v.bytes s t) ∙ ap (λ l. l ++ t) p.all ∙ append_assoc p.sent w.bytes t ∙ ap (λ l. p.sent ++ l) e ∙ sym (append_assoc p.sent sent rest)
 
-  pub PassesMarked-more : {c : Option (List ℕ)} {u : Pending} {t : List ℕ} {ys : List Mark} → PassesMarked b c w u t ys → PassesMarked a c v u (s ++ t) (xs ++ moved (length s) ys)
+  pub PassesMarked-more : {c : Option (List ℕ)} {u : Pending} {t : List ℕ} {ys : List FragmentEnd} → PassesMarked b c w u t ys → PassesMarked a c v u (s ++ t) (xs ++ moved (length s) ys)
   PassesMarked-more {c = c} {u = u} {t = t} {ys = ys} q = record {
     sent = p.sent ++ q.sent;
     written = Appends-trans a b c p.sent q.sent p.written q.written;
@@ -58,7 +58,7 @@ module _ {a b : Option (List ℕ)} {v w : Pending} {s : List ℕ} {xs : List Mar
   }
 
   -- some text passed, and of the next a front of what was to be sent
-  pub BreaksMarked-passed : {c : Option (List ℕ)} {u : Pending} {t : List ℕ} {ys : List Mark} → BreaksMarked b c w u t ys → BreaksMarked a c v u (s ++ t) (xs ++ moved (length s) ys)
+  pub BreaksMarked-passed : {c : Option (List ℕ)} {u : Pending} {t : List ℕ} {ys : List FragmentEnd} → BreaksMarked b c w u t ys → BreaksMarked a c v u (s ++ t) (xs ++ moved (length s) ys)
   BreaksMarked-passed {c = c} {u = u} {t = t} {ys = ys} q = record {
     front = p.sent ++ q.front;
     rest = q.rest;
@@ -69,7 +69,7 @@ module _ {a b : Option (List ℕ)} {v w : Pending} {s : List ℕ} {xs : List Mar
   }
 
 -- a front of some text is one of more text
-pub BreaksMarked-longer : {a b : Option (List ℕ)} {v w : Pending} {s : List ℕ} {xs : List Mark} (t : List ℕ) (ys : List Mark) → BreaksMarked a b v w s xs → BreaksMarked a b v w (s ++ t) (xs ++ moved (length s) ys)
+pub BreaksMarked-longer : {a b : Option (List ℕ)} {v w : Pending} {s : List ℕ} {xs : List FragmentEnd} (t : List ℕ) (ys : List FragmentEnd) → BreaksMarked a b v w s xs → BreaksMarked a b v w (s ++ t) (xs ++ moved (length s) ys)
 BreaksMarked-longer {v = v} {w = w} {s = s} {xs = xs} t ys p =
     let less : length p.front < length v.bytes + length s = omega (arith, p.short, sym (length-append v.bytes s) ∙ ap length p.all ∙ length-append p.front p.rest) in
     record {
@@ -97,38 +97,38 @@ Breaks-front {a = a} {b = b} {v = v} {w = w} text rest whole e p = subst (Breaks
 -- ---- what is written
 
 -- what began and ended with no bytes that wait was written
-pub Appends-passed : {a b : Option (List ℕ)} {v w : Pending} {s : List ℕ} {xs : List Mark} → PassesMarked a b v w s xs → v.bytes ≡ [] → w.bytes ≡ [] → Appends a b s
+pub Appends-passed : {a b : Option (List ℕ)} {v w : Pending} {s : List ℕ} {xs : List FragmentEnd} → PassesMarked a b v w s xs → v.bytes ≡ [] → w.bytes ≡ [] → Appends a b s
 Appends-passed {a = a} {b = b} {s = s} p e f =
     subst (Appends a b) (sym (sym (ap (λ l. l ++ s) e) ∙ p.all ∙ ap (λ l. p.sent ++ l) f ∙ append-nil p.sent)) p.written
 
--- where all was sent before and behind, of each more bytes as many fragments are whole
-pub whole-passed : {a b : Option (List ℕ)} {v w : Pending} {s : List ℕ} {xs : List Mark} → PassesMarked a b v w s xs → IsSent v → IsSent w → (n : ℕ) → whole_in (length s + n) v.whole xs ≡ w.whole
-whole-passed {v = v} {w = w} {s = s} {xs = xs} p before behind n =
-    let all : length s + n ≡ length p.sent + n = omega (arith, ap length p.all, length-append p.sent w.bytes, length-append v.bytes s, ap length before.bytes, ap length behind.bytes) in
+-- where all was sent before and after, of each more bytes as many fragments are whole
+pub whole-passed : {a b : Option (List ℕ)} {v w : Pending} {s : List ℕ} {xs : List FragmentEnd} → PassesMarked a b v w s xs → IsSent v → IsSent w → (n : ℕ) → whole_in (length s + n) v.whole xs ≡ w.whole
+whole-passed {v = v} {w = w} {s = s} {xs = xs} p before after n =
+    let all : length s + n ≡ length p.sent + n = omega (arith, ap length p.all, length-append p.sent w.bytes, length-append v.bytes s, ap length before.bytes, ap length after.bytes) in
     ap (λ k. whole_in k v.whole xs) all
     ∙ ap (whole_in (length p.sent + n) v.whole) (sym (ap (λ l. moved (length l) xs) before.bytes ∙ moved-none xs))
     ∙ ap (λ l. whole_in (length p.sent + n) v.whole (l ++ moved (length v.bytes) xs)) (sym before.ends)
-    ∙ p.alike n ∙ ap (whole_in n w.whole) behind.ends
+    ∙ p.alike n ∙ ap (whole_in n w.whole) after.ends
 
 -- of what was put into a new block, and sent, so many fragments are whole
-pub whole-sent : {a b : Option (List ℕ)} {w : Pending} {s : List ℕ} {xs : List Mark} → PassesMarked a b unused w s xs → IsSent w → w.whole ≡ whole_in (length s) 0 xs
+pub whole-sent : {a b : Option (List ℕ)} {w : Pending} {s : List ℕ} {xs : List FragmentEnd} → PassesMarked a b unused w s xs → IsSent w → w.whole ≡ whole_in (length s) 0 xs
 whole-sent {s = s} {xs = xs} p done =
     let all : length s + 0 ≡ length s = omega arith in
     sym (whole-passed p (record { bytes = refl; ends = refl }) done 0) ∙ ap (λ k. whole_in k 0 xs) all
 
 -- so many are whole in the front that was written where a write failed
-pub whole-broken : {a b : Option (List ℕ)} {v w : Pending} {s : List ℕ} {xs : List Mark} (p : BreaksMarked a b v w s xs) → IsSent v → w.whole ≡ whole_in (length p.front) v.whole xs
+pub whole-broken : {a b : Option (List ℕ)} {v w : Pending} {s : List ℕ} {xs : List FragmentEnd} (p : BreaksMarked a b v w s xs) → IsSent v → w.whole ≡ whole_in (length p.front) v.whole xs
 whole-broken {v = v} {xs = xs} p before =
     p.whole ∙ ap (λ l. whole_in (length p.front) v.whole (l ++ moved (length v.bytes) xs)) before.ends
     ∙ ap (whole_in (length p.front) v.whole) (ap (λ l. moved (length l) xs) before.bytes ∙ moved-none xs)
 
 -- and where a write failed a front of it
-pub AppendsPrefix-broken : {a b : Option (List ℕ)} {v w : Pending} {s : List ℕ} {xs : List Mark} → BreaksMarked a b v w s xs → AppendsPrefix a b (v.bytes ++ s)
+pub AppendsPrefix-broken : {a b : Option (List ℕ)} {v w : Pending} {s : List ℕ} {xs : List FragmentEnd} → BreaksMarked a b v w s xs → AppendsPrefix a b (v.bytes ++ s)
 AppendsPrefix-broken p = (p.front, p.rest, p.written, p.all)
 
 -- ---- one call
 
--- bytes were put behind those that wait
+-- bytes were appended to the buffered bytes
 pub Passes-put : (a : Option (List ℕ)) (v : Pending) (t : List ℕ) → Passes a a v (record { bytes = v.bytes ++ t; ends = v.ends; whole = v.whole }) t
 Passes-put a v t = record { sent = []; written = Appends-nil a; all = refl; alike = alike-none v }
 
@@ -153,12 +153,12 @@ Breaks-through a b v t n e f short p = record {
 }
 
 -- some text passed, and then what waited was sent on
-pub Passes-sent_on : {a b c : Option (List ℕ)} {v w u : Pending} {t : List ℕ} {xs : List Mark} → PassesMarked a b v w t xs → Passes b c w u [] → PassesMarked a c v u t xs
+pub Passes-sent_on : {a b c : Option (List ℕ)} {v w u : Pending} {t : List ℕ} {xs : List FragmentEnd} → PassesMarked a b v w t xs → Passes b c w u [] → PassesMarked a c v u t xs
 Passes-sent_on {a = a} {c = c} {v = v} {u = u} {t = t} {xs = xs} p q =
     subst (λ l. PassesMarked a c v u l xs) (append-nil t) (subst (PassesMarked a c v u (t ++ [])) (append-nil xs) (PassesMarked-more p q))
 
 -- or of it a front
-pub Breaks-sent_on : {a b : Option (List ℕ)} {c : Option (List ℕ)} {v w u : Pending} {t : List ℕ} {xs : List Mark} → PassesMarked a b v w t xs → Breaks b c w u [] → BreaksMarked a c v u t xs
+pub Breaks-sent_on : {a b : Option (List ℕ)} {c : Option (List ℕ)} {v w u : Pending} {t : List ℕ} {xs : List FragmentEnd} → PassesMarked a b v w t xs → Breaks b c w u [] → BreaksMarked a c v u t xs
 Breaks-sent_on {a = a} {c = c} {v = v} {u = u} {t = t} {xs = xs} p q =
     subst (λ l. BreaksMarked a c v u l xs) (append-nil t) (subst (BreaksMarked a c v u (t ++ [])) (append-nil xs) (BreaksMarked-passed p q))
 
@@ -184,7 +184,7 @@ Breaks-sent a b v w n short p e = record {
       e ∙ sym (ap (λ j. whole_in j v.whole (v.ends ++ [])) k ∙ ap (whole_in n v.whole) (append-nil v.ends));
 }
 
--- an end was put behind all that waits
+-- an end was put after all buffered bytes
 pub PassesMarked-end : (a : Option (List ℕ)) (v : Pending) (n count : ℕ) → n ≡ length v.bytes → PassesMarked a a v (record { bytes = v.bytes; ends = v.ends ++ record { end = n; count = count } ∷ []; whole = v.whole }) [] (record { end = 0; count = count } ∷ [])
 PassesMarked-end a v n count is = record {
   sent = [];

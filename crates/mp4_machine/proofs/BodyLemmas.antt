@@ -1,4 +1,4 @@
--- Bytes of a body that is told as it comes, whatever is told of it and whatever is read behind it.
+-- Bytes of a body with effects as they come, whatever these are and whatever is read after it.
 use Rattle.std.proofs.Common.{◌≡◌, ◌∙◌, ℕ, ◌-◌, ◌<◌, ◌≤◌, List, [], ◌++◌, length, take, drop, Bool, true, false, Some, ap, sym, refl, arith, length-append}
 use Rattle.std.proofs.Math.Seq.{take-append-add, drop-append-add}
 use Rattle.std.proofs.lemmas.Bool.{ltb-true, ltb-false}
@@ -7,7 +7,7 @@ use Rattle.std.specs.Prelude.{nat_lt}
 use Rattle.mp4_box.specs.declared.headers.FourCc.{FourCc}
 use Rattle.mp4_box.specs.declared.rules.Rule.TheVariants.{Truncated, StreamTooLong}
 use Rattle.mp4_machine.specs.Bodies.{fault, body_item, open_body_item}
-use Rattle.mp4_machine.specs.Readings.{Reading, Effects, silent, both, after, Sound, Faulty, CutOff, then_read}
+use Rattle.mp4_machine.specs.Readings.{Reading, Effects, no_effects, both, after, Sound, Faulty, CutOff, then_read}
 use Rattle.mp4_machine.proofs.ReadingLemmas.{after-silent, after-both}
 
 pub nat_lt_true : (m n : ℕ) → m < n → nat_lt m n ≡ true
@@ -17,7 +17,7 @@ pub nat_lt_false : (m n : ℕ) → n ≤ m → nat_lt m n ≡ false
 nat_lt_false m n h = grind (arith, nat_tests)
 
 module _ {C : Type 0} (rest_of : C → List ℕ → Reading) (at : ℕ) (kind : FourCc) (next : C) where
-  -- some of it came, of which this is told
+  -- some of it came, with these effects
   pub body-some : (f g : List ℕ → Effects) (t : Effects) (x : List ℕ) (left : ℕ) → ((later : List ℕ) → f (x ++ later) ≡ both t (g later)) → length x ≤ left
       → (later : List ℕ) → then_read rest_of (body_item f at kind next left (x ++ later)) ≡ after t (then_read rest_of (body_item g at kind next (left - length x) later))
   body-some f g t x left same h later = by (nat_lt (length later) (left - length x)) refl
@@ -29,16 +29,16 @@ module _ {C : Type 0} (rest_of : C → List ℕ → Reading) (at : ℕ) (kind : 
       by false e =
           let enough : left - length x ≤ length later = ltb-false _ _ e in
           let front : take left (x ++ later) ≡ x ++ take (left - length x) later = ap (λ n. take n (x ++ later)) (omega arith) ∙ take-append-add x later (left - length x) in
-          let behind : drop left (x ++ later) ≡ drop (left - length x) later = ap (λ n. drop n (x ++ later)) (omega arith) ∙ drop-append-add x later (left - length x) in
-          rw (e, nat_lt_false (length (x ++ later)) left (omega (arith, length-append x later)), front, behind)
+          let following : drop left (x ++ later) ≡ drop (left - length x) later = ap (λ n. drop n (x ++ later)) (omega arith) ∙ drop-append-add x later (left - length x) in
+          rw (e, nat_lt_false (length (x ++ later)) left (omega (arith, length-append x later)), front, following)
           (ap (λ s. after s (rest_of next (drop (left - length x) later))) (same (take (left - length x) later)) ∙ sym (after-both t (g (take (left - length x) later)) (rest_of next (drop (left - length x) later))))
 
-  -- of a body that is passed over nothing is told
-  pub body-passed : (x later : List ℕ) (left : ℕ) → length x ≤ left → then_read rest_of (body_item (λ _. silent) at kind next left (x ++ later)) ≡ then_read rest_of (body_item (λ _. silent) at kind next (left - length x) later)
-  body-passed x later left h = body-some (λ _. silent) (λ _. silent) silent x left (λ l. refl) h later ∙ after-silent (then_read rest_of (body_item (λ _. silent) at kind next (left - length x) later))
+  -- a body that is passed over has no effects
+  pub body-passed : (x later : List ℕ) (left : ℕ) → length x ≤ left → then_read rest_of (body_item (λ _. no_effects) at kind next left (x ++ later)) ≡ then_read rest_of (body_item (λ _. no_effects) at kind next (left - length x) later)
+  body-passed x later left h = body-some (λ _. no_effects) (λ _. no_effects) no_effects x left (λ l. refl) h later ∙ after-silent (then_read rest_of (body_item (λ _. no_effects) at kind next (left - length x) later))
 
   -- all of it came
-  pub body-over : (f : List ℕ → Effects) (left : ℕ) (later : List ℕ) → left ≡ 0 → f [] ≡ silent → then_read rest_of (body_item f at kind next left later) ≡ rest_of next later
+  pub body-over : (f : List ℕ → Effects) (left : ℕ) (later : List ℕ) → left ≡ 0 → f [] ≡ no_effects → then_read rest_of (body_item f at kind next left later) ≡ rest_of next later
   body-over f left later e none = rw (e, nat_lt_false (length later) 0 (omega arith)) (ap (λ s. after s (rest_of next later)) none ∙ after-silent (rest_of next later))
 
   -- none of it came

@@ -12,8 +12,8 @@ use Rattle.mp4_machine.proofs.BodyLemmas.{nat_lt_false}
 
 pub kind_of-append : (x y : List ℕ) → 8 ≤ length x → kind_of (x ++ y) ≡ kind_of x
 kind_of-append x y eight =
-    let behind : drop 4 (x ++ y) ≡ drop 4 x ++ y = drop-append-le 4 x y (omega arith) in
-    let kind : kind_field (x ++ y) ≡ kind_field x = ap (take 4) behind ∙ take-append-le 4 (drop 4 x) y (omega (arith, length-drop 4 x)) in
+    let after : drop 4 (x ++ y) ≡ drop 4 x ++ y = drop-append-le 4 x y (omega arith) in
+    let kind : kind_field (x ++ y) ≡ kind_field x = ap (take 4) after ∙ take-append-le 4 (drop 4 x) y (omega (arith, length-drop 4 x)) in
     rw (nat_lt_false (length (x ++ y)) 8 (omega (arith, length-append x y)), nat_lt_false (length x) 8 eight, kind) refl
 
 -- a header has room in the box that it begins
@@ -23,7 +23,7 @@ head-room x h e =
     let len : length (take h.header_len x) ≡ h.header_len = omega (arith, length-take h.header_len x, w.0, w.1) in
     rw len (rw e at (header-room x))
 
--- a header that is read from the front of a piece
+-- a header that is read from the front of the input
 pub header_is : {step : Step} {h : Header} → result_of step ≡ Ok h → step ≡ steps.Whole h
 header_is {step = steps.Whole k} e = cc
 header_is {step = steps.More} e = absurd cc
@@ -53,8 +53,12 @@ take-is n x h is far =
     let whole : need (take h.header_len x) ≤ length (take h.header_len x) = omega (arith, front-len x h is) in
     ap header_at (sym (take-append-drop h.header_len (take n x)) ∙ ap (λ l. l ++ drop h.header_len (take n x)) front) ∙ header_at-append (take h.header_len x) (drop h.header_len (take n x)) whole ∙ front-is x h is
 
--- a header at the front, with more behind it
+-- a header at the front, with more after it
 pub header-grows : (b x : List ℕ) (h : Header) → header_at b ≡ steps.Whole h → (header_at (b ++ x) ≡ steps.Whole h) × (take h.header_len (b ++ x) ≡ take h.header_len b) × (drop h.header_len (b ++ x) ≡ drop h.header_len b ++ x)
 header-grows b x h e =
     let w = whole_is b h e in
     (header_at-append b x w.0 ∙ e, take-append-le h.header_len b x (omega (arith, w.0, w.1)), drop-append-le h.header_len b x (omega (arith, w.0, w.1)))
+
+-- it is at the front of all bytes that begin so
+pub is-further : (n : ℕ) (x : List ℕ) (h : Header) → header_at (take n x) ≡ steps.Whole h → header_at x ≡ steps.Whole h
+is-further n x h e = ap header_at (sym (take-append-drop n x)) ∙ (header-grows (take n x) (drop n x) h e).0

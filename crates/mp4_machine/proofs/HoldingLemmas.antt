@@ -8,7 +8,7 @@ use Rattle.mp4_box.specs.Headers.{header_at, IsBytes, IsWhole}
 use Rattle.mp4_box.specs.Trees.{Box, box_at, box_by}
 use Rattle.mp4_box.proofs.HeaderLemmas.{whole_is, header_at-append}
 use Rattle.mp4_box.proofs.GrammarLemmas.{is_whole}
-use Rattle.mp4_machine.specs.Holding.{Begins}
+use Rattle.mp4_machine.specs.Buffering.{Begins}
 use Rattle.mp4_machine.proofs.BodyLemmas.{nat_lt_false}
 
 pub found : (at : ℕ) (x : List ℕ) (h : Header) → header_at x ≡ steps.Whole h → h.size ≡ Exact (length x) → box_at at x ≡ Some (record { header = h; offset = at; payload = slice_range x h.header_len (length x) })

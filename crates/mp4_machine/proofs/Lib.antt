@@ -9,9 +9,9 @@ pub mod MarkLemmas
 pub mod BlockLemmas
 pub mod GroupLemmas
 pub mod PutLemmas
-pub mod PieceLemmas
+pub mod InputLemmas
 pub mod StepLemmas
-pub mod StandingLemmas
+pub mod ContinuationLemmas
 pub mod RunLemmas
 pub mod FedLemmas
 pub mod FedRunLemmas

@@ -1,6 +1,6 @@
 -- What boxes ask for, and what is counted, one after the other.
 use Rattle.std.proofs.Common.{◌≡◌, ◌∙◌, ℕ, ◌+◌, ◌≤◌, List, [], ◌∷◌, ◌++◌, length, max, ap, sym, refl, arith, append_assoc, length-append}
-use Rattle.mp4_machine.specs.Readings.{Request, AtMost, shifted_by, shifted, greatest, uncounted, plus, silent, Effects, both, most_of}
+use Rattle.mp4_machine.specs.Readings.{Request, AtMost, shifted_by, shifted, greatest, uncounted, plus, no_effects, Effects, both, most_of}
 use Rattle.mp4_machine.specs.declared.tally.Tally.{Tally}
 
 pub max_none : (n : ℕ) → max n 0 ≡ n
@@ -19,7 +19,7 @@ plus-none t =
     let f : t.fragments + 0 ≡ t.fragments = omega arith in
     let s : t.samples + 0 ≡ t.samples = omega arith in
     let m : t.media_bytes + 0 ≡ t.media_bytes = omega arith in
-    let w : t.walked + 0 ≡ t.walked = omega arith in
+    let w : t.inspected + 0 ≡ t.inspected = omega arith in
     rw (f, s, m, w) refl
 
 pub none-plus : (t : Tally) → plus uncounted t ≡ t
@@ -27,7 +27,7 @@ none-plus t =
     let f : 0 + t.fragments ≡ t.fragments = omega arith in
     let s : 0 + t.samples ≡ t.samples = omega arith in
     let m : 0 + t.media_bytes ≡ t.media_bytes = omega arith in
-    let w : 0 + t.walked ≡ t.walked = omega arith in
+    let w : 0 + t.inspected ≡ t.inspected = omega arith in
     rw (f, s, m, w) refl
 
 pub plus-assoc : (s t u : Tally) → plus (plus s t) u ≡ plus s (plus t u)
@@ -35,41 +35,41 @@ plus-assoc s t u =
     let f : s.fragments + t.fragments + u.fragments ≡ s.fragments + (t.fragments + u.fragments) = omega arith in
     let n : s.samples + t.samples + u.samples ≡ s.samples + (t.samples + u.samples) = omega arith in
     let m : s.media_bytes + t.media_bytes + u.media_bytes ≡ s.media_bytes + (t.media_bytes + u.media_bytes) = omega arith in
-    let w : s.walked + t.walked + u.walked ≡ s.walked + (t.walked + u.walked) = omega arith in
+    let w : s.inspected + t.inspected + u.inspected ≡ s.inspected + (t.inspected + u.inspected) = omega arith in
     rw (f, n, m, w) refl
 
 pub AtMost-same : (t : Tally) → AtMost t t
-AtMost-same t = record { fragments = omega arith; samples = omega arith; media_bytes = omega arith; walked = omega arith }
+AtMost-same t = record { fragments = omega arith; samples = omega arith; media_bytes = omega arith; inspected = omega arith }
 
 pub AtMost-trans : (s t u : Tally) → AtMost s t → AtMost t u → AtMost s u
 AtMost-trans s t u h k = record {
   fragments = omega (arith, h.fragments, k.fragments);
   samples = omega (arith, h.samples, k.samples);
   media_bytes = omega (arith, h.media_bytes, k.media_bytes);
-  walked = omega (arith, h.walked, k.walked);
+  inspected = omega (arith, h.inspected, k.inspected);
 }
 
--- more is counted behind
+-- more is counted after
 pub AtMost-plus : (s t : Tally) → AtMost s (plus s t)
-AtMost-plus s t = record { fragments = omega arith; samples = omega arith; media_bytes = omega arith; walked = omega arith }
+AtMost-plus s t = record { fragments = omega arith; samples = omega arith; media_bytes = omega arith; inspected = omega arith }
 
--- and so behind what was counted before
-pub AtMost-behind : (s t u : Tally) → AtMost t u → AtMost (plus s t) (plus s u)
-AtMost-behind s t u h = record {
+-- and so after what was counted before
+pub AtMost-after : (s t u : Tally) → AtMost t u → AtMost (plus s t) (plus s u)
+AtMost-after s t u h = record {
   fragments = omega (arith, h.fragments);
   samples = omega (arith, h.samples);
   media_bytes = omega (arith, h.media_bytes);
-  walked = omega (arith, h.walked);
+  inspected = omega (arith, h.inspected);
 }
 
 -- ---- asks
 
-pub shifted-none : (requests : List Request) → shifted silent requests ≡ requests
+pub shifted-none : (requests : List Request) → shifted no_effects requests ≡ requests
 shifted-none [] = refl
 shifted-none (a ∷ requests) =
     let none : 0 + a.text_before ≡ a.text_before = omega arith in
-    ap (λ k. record { at = a.at; sum = a.sum; text_before = k; counted = plus uncounted a.counted } ∷ shifted silent requests) none
-    ∙ ap (λ t. record { at = a.at; sum = a.sum; text_before = a.text_before; counted = t } ∷ shifted silent requests) (none-plus a.counted) ∙ ap (λ l. a ∷ l) (shifted-none requests)
+    ap (λ k. record { at = a.at; sum = a.sum; text_before = k; counted = plus uncounted a.counted } ∷ shifted no_effects requests) none
+    ∙ ap (λ t. record { at = a.at; sum = a.sum; text_before = a.text_before; counted = t } ∷ shifted no_effects requests) (none-plus a.counted) ∙ ap (λ l. a ∷ l) (shifted-none requests)
 
 pub shifted-append : (s : Effects) (xs ys : List Request) → shifted s (xs ++ ys) ≡ shifted s xs ++ shifted s ys
 shifted-append s [] ys = refl

@@ -26,7 +26,7 @@ pub Each-at : (P : Request → Type 0) (xs : List Request) (a : Request) (ys : L
 Each-at P [] a ys h = h.0
 Each-at P (x ∷ xs) a ys h = Each-at P xs a ys h.1
 
--- a whole item is made of bytes of its own, and is the same whatever follows
+-- a whole item has bytes of its own, and is the same whatever follows
 pub record IsItem {C : Type 0} (first_item : C → List ℕ → FirstItem C) (at : C → ℕ) (c : C) (bytes : List ℕ) (effects : Effects) (next : C) (rest : List ℕ) : Type 0 where
   pub own : List ℕ
   pub cut : bytes ≡ own ++ rest
@@ -37,7 +37,7 @@ abbrev pub IsItemAt : {C : Type 0} → (C → List ℕ → FirstItem C) → (C �
 IsItemAt first_item at c bytes (Last r) = Unit {0}
 IsItemAt first_item at c bytes (Whole effects next rest) = IsItem first_item at c bytes effects next rest
 
--- what an item asks for it asks for at its beginning, before its text
+-- an item requests memory at its beginning, before its text
 pub record IsFirst (at : ℕ) (a : Request) : Type 0 where
   pub place : a.at ≡ at
   pub none_before : a.text_before ≡ 0
@@ -52,16 +52,16 @@ module _ {C : Type 0} (first_item : C → List ℕ → FirstItem C) (at : C → 
   none : (c : C) → (read_all first_item c []).effects.text ≡ []
   none c = ap (λ r. r.effects.text) (read_all-front first_item items c [] ∙ ap (then_read (read_all first_item)) (items.empty c))
 
-  stands_first : (c : C) (b : List ℕ) (a : Request) → IsFirst (at c) a → IsTextBefore (read_all first_item) at c b a
-  stands_first c b a h =
+  holds_first : (c : C) (b : List ℕ) (a : Request) → IsFirst (at c) a → IsTextBefore (read_all first_item) at c b a
+  holds_first c b a h =
       let zero : a.at - at c ≡ 0 = omega (arith, h.place) in
       record {
         near = omega (arith, h.place);
         text = ap (λ n. take n (read_all first_item c b).effects.text) h.none_before ∙ sym (ap (λ n. (read_all first_item c (take n b)).effects.text) zero ∙ none c);
       }
 
-  stands_later : (c next : C) (b rest : List ℕ) (effects : Effects) → first_item c b ≡ Whole effects next rest → IsItem first_item at c b effects next rest → (a : Request) → IsTextBefore (read_all first_item) at next rest a → IsTextBefore (read_all first_item) at c b (shifted_by effects a)
-  stands_later c next b rest effects e i a s =
+  holds_later : (c next : C) (b rest : List ℕ) (effects : Effects) → first_item c b ≡ Whole effects next rest → IsItem first_item at c b effects next rest → (a : Request) → IsTextBefore (read_all first_item) at next rest a → IsTextBefore (read_all first_item) at c b (shifted_by effects a)
+  holds_later c next b rest effects e i a s =
       let all : read_all first_item c b ≡ after effects (read_all first_item next rest) = read_all-front first_item items c b ∙ ap (then_read (read_all first_item)) e in
       let far : a.at - at c ≡ length i.own + (a.at - at next) = omega (arith, i.ends, s.near) in
       let front_of : take (a.at - at c) b ≡ i.own ++ take (a.at - at next) rest = ap (take (a.at - at c)) i.cut ∙ ap (λ n. take n (i.own ++ rest)) far ∙ take-append-add i.own rest (a.at - at next) in
@@ -73,11 +73,11 @@ module _ {C : Type 0} (first_item : C → List ℕ → FirstItem C) (at : C → 
 
   by_front : (n : ℕ) → ((c : C) (b : List ℕ) → length b ≤ n → Each (IsTextBefore (read_all first_item) at c b) (read_all first_item c b).effects.requests)
       → (c : C) (b : List ℕ) (v : FirstItem C) → first_item c b ≡ v → Below v n → IsItemAt first_item at c b v → Each (IsFirst (at c)) (effects_of v).requests → Each (IsTextBefore (read_all first_item) at c b) (then_read (read_all first_item) v).effects.requests
-  by_front n more c b (Last r) e below i h = Each-all (IsFirst (at c)) (IsTextBefore (read_all first_item) at c b) (stands_first c b) r.effects.requests h
+  by_front n more c b (Last r) e below i h = Each-all (IsFirst (at c)) (IsTextBefore (read_all first_item) at c b) (holds_first c b) r.effects.requests h
   by_front n more c b (Whole effects next rest) e below i h =
       Each-append (IsTextBefore (read_all first_item) at c b) effects.requests (shifted effects (read_all first_item next rest).effects.requests)
-      (Each-all (IsFirst (at c)) (IsTextBefore (read_all first_item) at c b) (stands_first c b) effects.requests h)
-      (Each-shifted (IsTextBefore (read_all first_item) at next rest) (IsTextBefore (read_all first_item) at c b) effects (stands_later c next b rest effects e i) (read_all first_item next rest).effects.requests (more next rest below))
+      (Each-all (IsFirst (at c)) (IsTextBefore (read_all first_item) at c b) (holds_first c b) effects.requests h)
+      (Each-shifted (IsTextBefore (read_all first_item) at next rest) (IsTextBefore (read_all first_item) at c b) effects (holds_later c next b rest effects e i) (read_all first_item next rest).effects.requests (more next rest below))
 
   asks_for_length : (n : ℕ) (c : C) (b : List ℕ) → length b ≤ n → Each (IsTextBefore (read_all first_item) at c b) (read_all first_item c b).effects.requests
   asks_for_length n c [] h = subst (λ r. Each (IsTextBefore (read_all first_item) at c []) r.effects.requests) (sym (read_all-front first_item items c [] ∙ ap (then_read (read_all first_item)) (items.empty c))) tt
@@ -91,5 +91,5 @@ module _ {C : Type 0} (first_item : C → List ℕ → FirstItem C) (at : C → 
       Below_less (Whole text next rest) k m p q = omega arith
 
   -- the text before an ask is that of the bytes before the box that asks
-  pub asks_stand : (c : C) (b : List ℕ) (before : List Request) (a : Request) (behind : List Request) → (read_all first_item c b).effects.requests ≡ before ++ a ∷ behind → IsTextBefore (read_all first_item) at c b a
-  asks_stand c b before a behind e = Each-at (IsTextBefore (read_all first_item) at c b) before a behind (subst (Each (IsTextBefore (read_all first_item) at c b)) e (asks_for_length (length b) c b (omega arith)))
+  pub asks_hold : (c : C) (b : List ℕ) (before : List Request) (a : Request) (following : List Request) → (read_all first_item c b).effects.requests ≡ before ++ a ∷ following → IsTextBefore (read_all first_item) at c b a
+  asks_hold c b before a following e = Each-at (IsTextBefore (read_all first_item) at c b) before a following (subst (Each (IsTextBefore (read_all first_item) at c b)) e (asks_for_length (length b) c b (omega arith)))

@@ -1,4 +1,4 @@
--- What a run brings that stops behind some bytes, or at the next piece.
+-- A run that stops after some bytes, or at the next input.
 use Rattle.std.proofs.Common.{◌≡◌, ℕ, zero, suc, ◌+◌, ◌≤◌, ◌<◌, List, [], ◌∷◌, ◌++◌, length, take, true, Some, None, Result, Err, inl, inr, ap, sym, ◌∙◌, refl, arith, append-nil, append_assoc, length-append, subst}
 use Rattle.std.proofs.Math.Seq.{take-append-add}
 use Rattle.std.specs.Io.KnownBytes.{Appends, Consumes}
@@ -9,19 +9,19 @@ use Rattle.mp4_box.specs.Headers.{IsBytes}
 use Rattle.mp4_box.specs.declared.rules.Fault.{Fault}
 use Rattle.mp4_machine.specs.Accounts.{Counts, Spends}
 use Rattle.mp4_machine.specs.Blocks.{BreaksMarked, IsSent, PassesMarked, unused}
-use Rattle.mp4_machine.specs.Readings.{moved, whole_in, Request, AtMost, greatest, Effects, Reading, empty_reading, uncounted, plus, fault_in, early_in, after, both, requests_memory, shifted, most_of}
-use Rattle.mp4_machine.specs.Pieces.{Outside, Standing, Refuses, Starves, StopsAt, Around, Takes, IsFed, refusal_of}
+use Rattle.mp4_machine.specs.Readings.{moved, whole_in, Request, AtMost, greatest, Effects, Reading, empty_reading, uncounted, plus, fault_in, decided_in, after, both, requests_memory, shifted, most_of}
+use Rattle.mp4_machine.specs.Inputs.{Environment, Continuation, Refuses, ClaimRefused, StopsAt, Change, Takes, IsFed, refusal_of}
 use Rattle.mp4_machine.specs.Ends.{Ends}
-use Rattle.mp4_machine.specs.StreamRuns.{Claims, StreamRun, IsOneRead, TellsAll, TellsSome, IsPrompt, StarvesAt, ComesUntil, ReadsStream}
+use Rattle.mp4_machine.specs.StreamRuns.{Claims, StreamRun, IsOneRead, WritesAll, WritesPrefix, IsPrompt, ClaimRefusedAt, StopsWith, ReadsStream}
 use Rattle.mp4_machine.specs.declared.stop.Stop.{Stop}
 use Rattle.mp4_machine.specs.declared.tally.Tally.{Tally}
 use Rattle.mp4_machine.specs.declared.stop.Stop.TheVariants.{Stream, Read, Write, OverLimit, Memory}
-use Rattle.mp4_machine.proofs.ReadingAskLemmas.{AtMost-behind, AtMost-plus, most-both, plus-none, shifted-append}
+use Rattle.mp4_machine.proofs.ReadingAskLemmas.{AtMost-after, AtMost-plus, most-both, plus-none, shifted-append}
 use Rattle.mp4_machine.proofs.AccountLemmas.{Counts-more, Spends-after}
 use Rattle.mp4_machine.proofs.BlockLemmas.{Appends-passed, BreaksMarked-passed, PassesMarked-more, whole-sent}
 use Rattle.mp4_machine.proofs.MarkLemmas.{moved-append, moved-none, moved-past, whole_in-before}
 
--- ---- how much was out
+-- ---- how much was claimed
 
 peak-exact : (k l : Account) (claim m : ℕ) → k.peak ≡ k.live → Counts k l 0 claim m → l.peak ≡ k.live + m
 peak-exact k l claim zero z c = omega (arith, c.peak, z)
@@ -34,7 +34,7 @@ peak-most k l claim (suc m) z c = omega (arith, c.at_most, z)
 -- ---- a run over a machine that was fed all of the bytes b
 
 -- the run that is seen where it began and ended so
-abbrev pub run_of : (List ℕ → Reading) → List ℕ → Outside → Outside → Ends → StreamRun
+abbrev pub run_of : (List ℕ → Reading) → List ℕ → Environment → Environment → Ends → StreamRun
 run_of whole b start now ends = record {
   whole = whole;
   bytes = b;
@@ -44,149 +44,149 @@ run_of whole b start now ends = record {
   tally = now.tally;
 }
 
-module _ (whole : List ℕ → Reading) (b : List ℕ) (start : Outside) (fresh : start.waiting ≡ unused) (marked : start.account.peak ≡ start.account.live) where
+module _ (whole : List ℕ → Reading) (b : List ℕ) (start : Environment) (fresh : start.waiting ≡ unused) (marked : start.account.peak ≡ start.account.live) where
   -- at first nothing waited
   clear : start.waiting.bytes ≡ []
   clear = ap (λ v. v.bytes) fresh
 
-  module _ {now : Outside} {p : Standing} (s : IsFed whole b start now p) where
+  module _ {now : Environment} {p : Continuation} (s : IsFed whole b start now p) where
     -- what all of the bytes are read as
     reads-all : whole b ≡ after (whole b).effects (p.reads [])
-    reads-all = ap whole (sym (append-nil b)) ∙ s.stands.rest []
+    reads-all = ap whole (sym (append-nil b)) ∙ s.is_after.rest []
 
     pub fed-fault : fault_in (whole b).outcome ≡ fault_in (p.reads []).outcome
     fed-fault = ap (λ r. fault_in r.outcome) reads-all
 
-    pub fed-undecided : early_in (whole b).outcome ≡ None
-    fed-undecided = ap (λ r. early_in r.outcome) reads-all ∙ s.quiet.early
+    pub fed-undecided : decided_in (whole b).outcome ≡ None
+    fed-undecided = ap (λ r. decided_in r.outcome) reads-all ∙ s.quiet.early
 
-    pub fed-tells : (ends : Ends) → ends.written ≡ start.written → ends.written' ≡ now.written → TellsAll (run_of whole b start now ends)
-    fed-tells ends from to = record {
+    pub fed-emits : (ends : Ends) → ends.written ≡ start.written → ends.written' ≡ now.written → WritesAll (run_of whole b start now ends)
+    fed-emits ends from to = record {
       text = subst (λ w. Appends ends.written w (whole b).effects.text) (sym to) (subst (λ w. Appends w now.written (whole b).effects.text) (sym from) (Appends-passed s.text clear s.sent.bytes));
-      fragments = whole-sent (subst (λ v. PassesMarked start.written now.written v now.waiting (whole b).effects.text (whole b).effects.marks) fresh s.text) s.sent;
+      fragments = whole-sent (subst (λ v. PassesMarked start.written now.written v now.waiting (whole b).effects.text (whole b).effects.fragment_ends) fresh s.text) s.sent;
       peak = peak-exact start.account now.account p.claim (most_of (whole b).effects) marked s.counts;
-      tally = s.stands.tally;
+      tally = s.is_after.tally;
     }
 
     -- no byte came since, or the bytes of one read
     abbrev pub prompt-now : (ends : Ends) → ends.last_read ≡ 0 → IsPrompt (run_of whole b start now ends)
     prompt-now ends none = record { early = b; last = []; cut = sym (append-nil b); read = λ some. record { few = omega arith; gave = sym none }; undecided = fed-undecided }
 
-    abbrev pub prompt-read : (got : List ℕ) (later : Outside) (ends : Ends) → IsOneRead ends start.account.live got → IsPrompt (run_of whole (b ++ got) start later ends)
+    abbrev pub prompt-read : (got : List ℕ) (later : Environment) (ends : Ends) → IsOneRead ends start.account.live got → IsPrompt (run_of whole (b ++ got) start later ends)
     prompt-read got later ends one = record { early = b; last = got; cut = refl; read = λ some. one; undecided = fed-undecided }
 
-    -- ---- the next piece stops it
+    -- ---- the next input stops it
 
-    module _ (then : Outside) (piece : List ℕ) (low : p.claim ≤ now.account.live) where
-      -- what was told of the bytes before, and of some more
-      passes-both : (effects : Effects) → PassesMarked now.written then.written now.waiting then.waiting effects.text effects.marks → PassesMarked start.written then.written start.waiting then.waiting (both (whole b).effects effects).text (both (whole b).effects effects).marks
+    module _ (then : Environment) (input : List ℕ) (low : p.claim ≤ now.account.live) where
+      -- the effects of the bytes before, and of some more
+      passes-both : (effects : Effects) → PassesMarked now.written then.written now.waiting then.waiting effects.text effects.fragment_ends → PassesMarked start.written then.written start.waiting then.waiting (both (whole b).effects effects).text (both (whole b).effects effects).fragment_ends
       passes-both effects q = PassesMarked-more s.text q
 
       -- so many fragments are whole in it, where all was sent
-      whole-both : (effects : Effects) → PassesMarked now.written then.written now.waiting then.waiting effects.text effects.marks → IsSent then.waiting → then.waiting.whole ≡ whole_in (length (both (whole b).effects effects).text) 0 (both (whole b).effects effects).marks
-      whole-both effects q done = whole-sent (subst (λ v. PassesMarked start.written then.written v then.waiting (both (whole b).effects effects).text (both (whole b).effects effects).marks) fresh (passes-both effects q)) done
+      whole-both : (effects : Effects) → PassesMarked now.written then.written now.waiting then.waiting effects.text effects.fragment_ends → IsSent then.waiting → then.waiting.whole ≡ whole_in (length (both (whole b).effects effects).text) 0 (both (whole b).effects effects).fragment_ends
+      whole-both effects q done = whole-sent (subst (λ v. PassesMarked start.written then.written v then.waiting (both (whole b).effects effects).text (both (whole b).effects effects).fragment_ends) fresh (passes-both effects q)) done
 
-      reads-both : whole (b ++ piece) ≡ after (whole b).effects (p.reads (piece ++ []))
-      reads-both = ap whole (ap (λ l. b ++ l) (sym (append-nil piece))) ∙ s.stands.rest (piece ++ [])
+      reads-both : whole (b ++ input) ≡ after (whole b).effects (p.reads (input ++ []))
+      reads-both = ap whole (ap (λ l. b ++ l) (sym (append-nil input))) ∙ s.is_after.rest (input ++ [])
 
       counts-both : (effects : Effects) → Counts now.account then.account p.claim 0 (most_of effects) → Counts start.account then.account 0 0 (most_of (both (whole b).effects effects))
       counts-both effects c = subst (Counts start.account then.account 0 0) (sym (most-both (whole b).effects effects))
           (Counts-more start.account now.account then.account 0 p.claim 0 (most_of (whole b).effects) (most_of effects) (omega arith) s.counts c)
 
-      refuses-tells : (f : Fault) (ends : Ends) → ends.written ≡ start.written → ends.written' ≡ then.written → IsSent then.waiting → Refuses now then p piece f → TellsAll (run_of whole (b ++ piece) start then ends)
-      refuses-tells f ends from to none g =
-          let effects : (whole (b ++ piece)).effects ≡ both (whole b).effects g.brought = ap (λ r. r.effects) (reads-both ∙ ap (after (whole b).effects) (g.rest [])) in
-          let text = Appends-passed (passes-both g.brought g.moves.passes) clear none.bytes in
+      refuses-emits : (f : Fault) (ends : Ends) → ends.written ≡ start.written → ends.written' ≡ then.written → IsSent then.waiting → Refuses now then p input f → WritesAll (run_of whole (b ++ input) start then ends)
+      refuses-emits f ends from to none g =
+          let effects : (whole (b ++ input)).effects ≡ both (whole b).effects g.produced = ap (λ r. r.effects) (reads-both ∙ ap (after (whole b).effects) (g.rest [])) in
+          let text = Appends-passed (passes-both g.produced g.moves.passes) clear none.bytes in
           record {
-            text = subst (λ t. Appends ends.written ends.written' t.text) (sym effects) (subst (λ w. Appends ends.written w ((whole b).effects.text ++ g.brought.text)) (sym to) (subst (λ w. Appends w then.written ((whole b).effects.text ++ g.brought.text)) (sym from) text));
-            fragments = whole-both g.brought g.moves.passes none ∙ ap (λ t. whole_in (length t.text) 0 t.marks) (sym effects);
-            peak = peak-exact start.account then.account 0 (most_of (both (whole b).effects g.brought)) marked (counts-both g.brought g.moves.counts) ∙ ap (λ t. start.account.live + most_of t) (sym effects);
-            tally = g.moves.tallied ∙ ap (λ t. plus t g.brought.tally) s.stands.tally ∙ ap (λ t. t.tally) (sym effects);
+            text = subst (λ t. Appends ends.written ends.written' t.text) (sym effects) (subst (λ w. Appends ends.written w ((whole b).effects.text ++ g.produced.text)) (sym to) (subst (λ w. Appends w then.written ((whole b).effects.text ++ g.produced.text)) (sym from) text));
+            fragments = whole-both g.produced g.moves.passes none ∙ ap (λ t. whole_in (length t.text) 0 t.fragment_ends) (sym effects);
+            peak = peak-exact start.account then.account 0 (most_of (both (whole b).effects g.produced)) marked (counts-both g.produced g.moves.counts) ∙ ap (λ t. start.account.live + most_of t) (sym effects);
+            tally = g.moves.tallied ∙ ap (λ t. plus t g.produced.tally) s.is_after.tally ∙ ap (λ t. t.tally) (sym effects);
           }
 
-      refuses-outcome : (f : Fault) → Refuses now then p piece f → (whole (b ++ piece)).outcome ≡ (after (whole b).effects (p.reads (piece ++ []))).outcome
+      refuses-outcome : (f : Fault) → Refuses now then p input f → (whole (b ++ input)).outcome ≡ (after (whole b).effects (p.reads (input ++ []))).outcome
       refuses-outcome f g = ap (λ r. r.outcome) reads-both
 
       -- what is asked for before the box whose claim is refused
-      asks_before : Starves now then p piece → List Request
-      asks_before g = (both (whole b).effects g.brought).requests
+      asks_before : ClaimRefused now then p input → List Request
+      asks_before g = (both (whole b).effects g.produced).requests
 
-      starves : (ends : Ends) (one : IsOneRead ends start.account.live piece) → ends.written ≡ start.written → ends.written' ≡ then.written → IsSent then.waiting → (g : Starves now then p piece)
-          → (r : StarvesAt (run_of whole (b ++ piece) start then ends) (prompt-read piece then ends one)) × (r.request.sum ≡ g.sum)
-      starves ends one from to none g =
+      claim_refused : (ends : Ends) (one : IsOneRead ends start.account.live input) → ends.written ≡ start.written → ends.written' ≡ then.written → IsSent then.waiting → (g : ClaimRefused now then p input)
+          → (r : ClaimRefusedAt (run_of whole (b ++ input) start then ends) (prompt-read input then ends one)) × (r.request.sum ≡ g.sum)
+      claim_refused ends one from to none g =
           let more = (g.continues []).effects in
           let n = length (whole b).effects.text in
-          let k = length g.brought.text in
-          let counted = plus (whole b).effects.tally (plus g.brought.tally uncounted) in
-          let tally : then.tally ≡ counted = g.moves.tallied ∙ ap (λ t. plus t g.brought.tally) s.stands.tally ∙ ap (plus (whole b).effects.tally) (sym (plus-none g.brought.tally)) in
-          let effects : (whole (b ++ piece)).effects ≡ both (whole b).effects (both g.brought (both (requests_memory g.at g.sum) more)) = ap (λ r. r.effects) (reads-both ∙ ap (after (whole b).effects) (g.rest [])) in
-          let text = Appends-passed (passes-both g.brought g.moves.passes) clear none.bytes in
-          let front : take (n + (k + 0)) (whole (b ++ piece)).effects.text ≡ (whole b).effects.text ++ g.brought.text =
+          let k = length g.produced.text in
+          let counted = plus (whole b).effects.tally (plus g.produced.tally uncounted) in
+          let tally : then.tally ≡ counted = g.moves.tallied ∙ ap (λ t. plus t g.produced.tally) s.is_after.tally ∙ ap (plus (whole b).effects.tally) (sym (plus-none g.produced.tally)) in
+          let effects : (whole (b ++ input)).effects ≡ both (whole b).effects (both g.produced (both (requests_memory g.at g.sum) more)) = ap (λ r. r.effects) (reads-both ∙ ap (after (whole b).effects) (g.rest [])) in
+          let text = Appends-passed (passes-both g.produced g.moves.passes) clear none.bytes in
+          let front : take (n + (k + 0)) (whole (b ++ input)).effects.text ≡ (whole b).effects.text ++ g.produced.text =
           ap (λ t. take (n + (k + 0)) t.text) effects
-          ∙ take-append-add (whole b).effects.text (g.brought.text ++ more.text) (k + 0)
-          ∙ ap (λ l. (whole b).effects.text ++ l) (take-append-add g.brought.text more.text 0 ∙ append-nil g.brought.text) in (
+          ∙ take-append-add (whole b).effects.text (g.produced.text ++ more.text) (k + 0)
+          ∙ ap (λ l. (whole b).effects.text ++ l) (take-append-add g.produced.text more.text 0 ∙ append-nil g.produced.text) in (
             record {
               request = record { at = g.at; sum = g.sum; text_before = n + (k + 0); counted = counted };
-              before = (whole b).effects.requests ++ shifted (whole b).effects g.brought.requests;
+              before = (whole b).effects.requests ++ shifted (whole b).effects g.produced.requests;
               requested = (
-                shifted (whole b).effects (shifted g.brought (shifted (requests_memory g.at g.sum) more.requests)),
+                shifted (whole b).effects (shifted g.produced (shifted (requests_memory g.at g.sum) more.requests)),
                 ap (λ t. t.requests) effects
-                    ∙ ap (λ l. (whole b).effects.requests ++ l) (shifted-append (whole b).effects g.brought.requests (shifted g.brought (both (requests_memory g.at g.sum) more).requests))
-                    ∙ sym (append_assoc (whole b).effects.requests (shifted (whole b).effects g.brought.requests) _),
+                    ∙ ap (λ l. (whole b).effects.requests ++ l) (shifted-append (whole b).effects g.produced.requests (shifted g.produced (both (requests_memory g.at g.sum) more).requests))
+                    ∙ sym (append_assoc (whole b).effects.requests (shifted (whole b).effects g.produced.requests) _),
               );
-              new = (shifted (whole b).effects g.brought.requests, refl);
-              text = subst (λ l. Appends ends.written ends.written' l) (sym front) (subst (λ w. Appends ends.written w ((whole b).effects.text ++ g.brought.text)) (sym to) (subst (λ w. Appends w then.written ((whole b).effects.text ++ g.brought.text)) (sym from) text));
+              new = (shifted (whole b).effects g.produced.requests, refl);
+              text = subst (λ l. Appends ends.written ends.written' l) (sym front) (subst (λ w. Appends ends.written w ((whole b).effects.text ++ g.produced.text)) (sym to) (subst (λ w. Appends w then.written ((whole b).effects.text ++ g.produced.text)) (sym from) text));
               fragments =
-                  let marked : (whole (b ++ piece)).effects.marks ≡ (both (whole b).effects g.brought).marks ++ moved n (moved k (moved 0 more.marks)) =
-                  ap (λ t. t.marks) effects
-                  ∙ ap (λ l. (whole b).effects.marks ++ l) (moved-append n g.brought.marks (moved k (moved 0 more.marks)))
-                  ∙ sym (append_assoc (whole b).effects.marks (moved n g.brought.marks) (moved n (moved k (moved 0 more.marks)))) in
-                  let len : length ((whole b).effects.text ++ g.brought.text) ≡ n + (k + 0) = omega (arith, length-append (whole b).effects.text g.brought.text) in
-                  whole-both g.brought g.moves.passes none ∙ ap (λ l. whole_in l 0 (both (whole b).effects g.brought).marks) len
-                  ∙ whole_in-before (n + (k + 0)) 0 (both (whole b).effects g.brought).marks (moved n (moved k (moved 0 more.marks))) (whole (b ++ piece)).effects.marks marked (moved-past n k more.marks (g.past []));
-              peak = peak-exact start.account then.account 0 (greatest ((whole b).effects.requests ++ shifted (whole b).effects g.brought.requests)) marked (counts-both g.brought g.moves.counts);
+                  let marked : (whole (b ++ input)).effects.fragment_ends ≡ (both (whole b).effects g.produced).fragment_ends ++ moved n (moved k (moved 0 more.fragment_ends)) =
+                  ap (λ t. t.fragment_ends) effects
+                  ∙ ap (λ l. (whole b).effects.fragment_ends ++ l) (moved-append n g.produced.fragment_ends (moved k (moved 0 more.fragment_ends)))
+                  ∙ sym (append_assoc (whole b).effects.fragment_ends (moved n g.produced.fragment_ends) (moved n (moved k (moved 0 more.fragment_ends)))) in
+                  let len : length ((whole b).effects.text ++ g.produced.text) ≡ n + (k + 0) = omega (arith, length-append (whole b).effects.text g.produced.text) in
+                  whole-both g.produced g.moves.passes none ∙ ap (λ l. whole_in l 0 (both (whole b).effects g.produced).fragment_ends) len
+                  ∙ whole_in-before (n + (k + 0)) 0 (both (whole b).effects g.produced).fragment_ends (moved n (moved k (moved 0 more.fragment_ends))) (whole (b ++ input)).effects.fragment_ends marked (moved-past n k more.fragment_ends (g.past []));
+              peak = peak-exact start.account then.account 0 (greatest ((whole b).effects.requests ++ shifted (whole b).effects g.produced.requests)) marked (counts-both g.produced g.moves.counts);
               tally = tally;
-              most = subst (λ t. AtMost t (whole (b ++ piece)).effects.tally) (sym tally) (subst (λ t. AtMost counted t.tally) (sym effects) (AtMost-behind (whole b).effects.tally (plus g.brought.tally uncounted) (plus g.brought.tally (plus uncounted more.tally)) (AtMost-behind g.brought.tally uncounted (plus uncounted more.tally) (AtMost-plus uncounted more.tally))));
+              most = subst (λ t. AtMost t (whole (b ++ input)).effects.tally) (sym tally) (subst (λ t. AtMost counted t.tally) (sym effects) (AtMost-after (whole b).effects.tally (plus g.produced.tally uncounted) (plus g.produced.tally (plus uncounted more.tally)) (AtMost-after g.produced.tally uncounted (plus uncounted more.tally) (AtMost-plus uncounted more.tally))));
             },
             refl,
           )
 
-      loses : (ends : Ends) → ends.written ≡ start.written → ends.written' ≡ then.written → StopsAt now then p piece Write → TellsSome (run_of whole (b ++ piece) start then ends)
-      loses ends from to g =
-          let r = p.reads (piece ++ []) in
-          let effects : (whole (b ++ piece)).effects ≡ both (whole b).effects r.effects = ap (λ r. r.effects) reads-both in
-          let broken = subst (λ t. BreaksMarked start.written then.written start.waiting then.waiting t.text t.marks) (sym effects) (BreaksMarked-passed s.text (g []).text) in
-          let lost = subst (λ v. BreaksMarked start.written then.written v then.waiting (whole (b ++ piece)).effects.text (whole (b ++ piece)).effects.marks) fresh broken in
+      write_fails : (ends : Ends) → ends.written ≡ start.written → ends.written' ≡ then.written → StopsAt now then p input Write → WritesPrefix (run_of whole (b ++ input) start then ends)
+      write_fails ends from to g =
+          let r = p.reads (input ++ []) in
+          let effects : (whole (b ++ input)).effects ≡ both (whole b).effects r.effects = ap (λ r. r.effects) reads-both in
+          let broken = subst (λ t. BreaksMarked start.written then.written start.waiting then.waiting t.text t.fragment_ends) (sym effects) (BreaksMarked-passed s.text (g []).text) in
+          let cut_short = subst (λ v. BreaksMarked start.written then.written v then.waiting (whole (b ++ input)).effects.text (whole (b ++ input)).effects.fragment_ends) fresh broken in
           let spends = subst (Spends start.account then.account 0 0) (sym (most-both (whole b).effects r.effects) ∙ ap most_of (sym effects))
           (Spends-after start.account now.account then.account 0 p.claim 0 (most_of (whole b).effects) (most_of r.effects) (omega arith) s.counts (g []).spends) in
           record {
-            text = (lost.front, lost.rest, subst (λ w. Appends ends.written w lost.front) (sym to) (subst (λ w. Appends w then.written lost.front) (sym from) lost.written), lost.all);
-            fragments = lost.whole ∙ ap (λ l. whole_in (length lost.front) 0 l) (moved-none (whole (b ++ piece)).effects.marks);
+            text = (cut_short.front, cut_short.rest, subst (λ w. Appends ends.written w cut_short.front) (sym to) (subst (λ w. Appends w then.written cut_short.front) (sym from) cut_short.written), cut_short.all);
+            fragments = cut_short.whole ∙ ap (λ l. whole_in (length cut_short.front) 0 l) (moved-none (whole (b ++ input)).effects.fragment_ends);
             least = omega (arith, spends.at_least, marked);
-            most = peak-most start.account then.account 0 (most_of (whole (b ++ piece)).effects) marked spends;
-            counted = subst (AtMost then.tally) (ap (λ t. plus t r.effects.tally) s.stands.tally ∙ ap (λ t. t.tally) (sym effects)) (g []).most;
+            most = peak-most start.account then.account 0 (most_of (whole (b ++ input)).effects) marked spends;
+            counted = subst (AtMost then.tally) (ap (λ t. plus t r.effects.tally) s.is_after.tally ∙ ap (λ t. t.tally) (sym effects)) (g []).most;
           }
 
       -- how it stops
-      pub fed-stops : (ends : Ends) (one : IsOneRead ends start.account.live piece) → ends.written ≡ start.written → ends.written' ≡ then.written → (e : Stop) → ((e ≡ Write → ⊥) → IsSent then.waiting) → (e ≡ Write → ends.write_failed' ≡ true) → StopsAt now then p piece e
-          → ComesUntil (run_of whole (b ++ piece) start then ends) (prompt-read piece then ends one) e
-      unfolding starves
+      pub fed-stops : (ends : Ends) (one : IsOneRead ends start.account.live input) → ends.written ≡ start.written → ends.written' ≡ then.written → (e : Stop) → ((e ≡ Write → ⊥) → IsSent then.waiting) → (e ≡ Write → ends.write_failed' ≡ true) → StopsAt now then p input e
+          → StopsWith (run_of whole (b ++ input) start then ends) (prompt-read input then ends one) e
+      unfolding claim_refused
       fed-stops ends one from to (Stream f) none failed g =
           let is = ap (λ r. r.outcome) (reads-both ∙ ap (after (whole b).effects) (g.rest [])) in (
-            refuses-tells f ends from to (none (λ is. absurd cc)) g,
+            refuses-emits f ends from to (none (λ is. absurd cc)) g,
             ap fault_in is,
-            λ none. let some : early_in (whole (b ++ piece)).outcome ≡ Some f = ap early_in is in absurd cc,
+            λ none. let some : decided_in (whole (b ++ input)).outcome ≡ Some f = ap decided_in is in absurd cc,
           )
       fed-stops ends one from to (Read at) none failed g = absurd g
-      fed-stops ends one from to Write none failed g = (loses ends from to g, failed refl)
+      fed-stops ends one from to Write none failed g = (write_fails ends from to g, failed refl)
       fed-stops ends one from to OverLimit none failed (g, far) =
-          let requested = starves ends one from to (none (λ is. absurd cc)) g in inr (requested.0, omega (arith, far, requested.1, g.moves.counts.live, s.counts.live, g.moves.counts.limit, s.counts.limit, low))
+          let requested = claim_refused ends one from to (none (λ is. absurd cc)) g in inr (requested.0, omega (arith, far, requested.1, g.moves.counts.live, s.counts.live, g.moves.counts.limit, s.counts.limit, low))
       fed-stops ends one from to Memory none failed (g, near) =
-          let requested = starves ends one from to (none (λ is. absurd cc)) g in inr (requested.0, omega (arith, near, requested.1, g.moves.counts.live, s.counts.live, g.moves.counts.limit, s.counts.limit, low))
+          let requested = claim_refused ends one from to (none (λ is. absurd cc)) g in inr (requested.0, omega (arith, near, requested.1, g.moves.counts.live, s.counts.live, g.moves.counts.limit, s.counts.limit, low))
 
 -- ---- a call that stops
 
-left_by : (o o' : Outside) (p : Standing) (bs : List ℕ) (e : Stop) → p.claim ≤ o.account.live → StopsAt o o' p bs e → (o'.account.live + p.claim ≡ o.account.live) × (o'.account.limit ≡ o.account.limit)
+left_by : (o o' : Environment) (p : Continuation) (bs : List ℕ) (e : Stop) → p.claim ≤ o.account.live → StopsAt o o' p bs e → (o'.account.live + p.claim ≡ o.account.live) × (o'.account.limit ≡ o.account.limit)
 left_by o o' p bs (Stream f) low g = (omega (arith, g.moves.counts.live), g.moves.counts.limit)
 left_by o o' p bs (Read at) low g = absurd g
 left_by o o' p bs Write low g = (omega (arith, (g []).spends.live), (g []).spends.limit)
@@ -194,18 +194,18 @@ left_by o o' p bs OverLimit low (g, far) = (omega (arith, g.moves.counts.live), 
 left_by o o' p bs Memory low (g, near) = (omega (arith, g.moves.counts.live), g.moves.counts.limit)
 
 -- all is given back but what others have
-pub takes-left : {T : Type 0} {around : Around} {p : Standing} {piece : List ℕ} {taken : T → List ℕ} {new : T → Standing} {e : Stop} → p.claim ≤ around.before.account.live → Takes around p piece taken new (Err e)
-    → (around.after.account.live + p.claim ≡ around.before.account.live) × (around.after.account.limit ≡ around.before.account.limit)
-takes-left {around = around} {p = p} {piece = piece} {e = e} low t = left_by around.before around.after p (piece ++ []) e low (t.err [])
+pub takes-left : {T : Type 0} {change : Change} {p : Continuation} {input : List ℕ} {taken : T → List ℕ} {new : T → Continuation} {e : Stop} → p.claim ≤ change.before.account.live → Takes change p input taken new (Err e)
+    → (change.after.account.live + p.claim ≡ change.before.account.live) × (change.after.account.limit ≡ change.before.account.limit)
+takes-left {change = change} {p = p} {input = input} {e = e} low t = left_by change.before change.after p (input ++ []) e low (t.err [])
 
 -- and so does a run that was fed the bytes before
-pub fed-takes : {T : Type 0} {around : Around} {p : Standing} {piece : List ℕ} {taken : T → List ℕ} {new : T → Standing} {e : Stop} (whole : List ℕ → Reading) (b : List ℕ) (start : Outside) (fresh : start.waiting ≡ unused) (marked : start.account.peak ≡ start.account.live) (s : IsFed whole b start around.before p) → p.claim ≤ around.before.account.live
-    → (ends : Ends) (one : IsOneRead ends start.account.live piece) → ends.written ≡ start.written → ends.written' ≡ around.after.written → ((e ≡ Write → ⊥) → IsSent around.after.waiting) → ends.write_failed' ≡ around.failed' → Takes around p piece taken new (Err e)
-    → ComesUntil (run_of whole (b ++ piece) start around.after ends) (prompt-read whole b start fresh marked s piece around.after ends one) e
-fed-takes {around = around} {p = p} {piece = piece} {e = e} whole b start fresh marked s low ends one from to none failed t =
-    fed-stops whole b start fresh marked s around.after piece low ends one from to e none (λ is. failed ∙ t.failed (ap Err is)) (subst (λ l. StopsAt around.before around.after p l e) (append-nil piece) (t.err []))
+pub fed-takes : {T : Type 0} {change : Change} {p : Continuation} {input : List ℕ} {taken : T → List ℕ} {new : T → Continuation} {e : Stop} (whole : List ℕ → Reading) (b : List ℕ) (start : Environment) (fresh : start.waiting ≡ unused) (marked : start.account.peak ≡ start.account.live) (s : IsFed whole b start change.before p) → p.claim ≤ change.before.account.live
+    → (ends : Ends) (one : IsOneRead ends start.account.live input) → ends.written ≡ start.written → ends.written' ≡ change.after.written → ((e ≡ Write → ⊥) → IsSent change.after.waiting) → ends.write_failed' ≡ change.failed' → Takes change p input taken new (Err e)
+    → StopsWith (run_of whole (b ++ input) start change.after ends) (prompt-read whole b start fresh marked s input change.after ends one) e
+fed-takes {change = change} {p = p} {input = input} {e = e} whole b start fresh marked s low ends one from to none failed t =
+    fed-stops whole b start fresh marked s change.after input low ends one from to e none (λ is. failed ∙ t.failed (ap Err is)) (subst (λ l. StopsAt change.before change.after p l e) (append-nil input) (t.err []))
 
--- bytes behind bytes
+-- bytes after bytes
 pub bytes-more : (a b : List ℕ) → IsBytes a → IsBytes b → IsBytes (a ++ b)
 bytes-more [] b fits more i = more i
 bytes-more (x ∷ a) b fits more zero = fits zero
@@ -221,8 +221,8 @@ idle-stops whole ends claims live refusals.OverLimit none given kept failed idle
     fits = λ i. omega arith;
     given = given;
     fragments = 0;
-    prompt = record { early = []; last = []; cut = refl; read = λ some. absurd (omega (arith, some)); undecided = ap (λ r. early_in r.outcome) none };
-    comes = inl (record { bytes = refl; text = kept; fragments = refl; peak = peak ∙ idle; tally = refl }, omega (arith, over refl, idle));
+    prompt = record { early = []; last = []; cut = refl; read = λ some. absurd (omega (arith, some)); undecided = ap (λ r. decided_in r.outcome) none };
+    gives = inl (record { bytes = refl; text = kept; fragments = refl; peak = peak ∙ idle; tally = refl }, omega (arith, over refl, idle));
     kept = λ _. failed;
   },
   refl,
@@ -233,8 +233,8 @@ idle-stops whole ends claims live refusals.Memory none given kept failed idle pe
     fits = λ i. omega arith;
     given = given;
     fragments = 0;
-    prompt = record { early = []; last = []; cut = refl; read = λ some. absurd (omega (arith, some)); undecided = ap (λ r. early_in r.outcome) none };
-    comes = inl (record { bytes = refl; text = kept; fragments = refl; peak = peak ∙ idle; tally = refl }, omega (arith, within refl, idle));
+    prompt = record { early = []; last = []; cut = refl; read = λ some. absurd (omega (arith, some)); undecided = ap (λ r. decided_in r.outcome) none };
+    gives = inl (record { bytes = refl; text = kept; fragments = refl; peak = peak ∙ idle; tally = refl }, omega (arith, within refl, idle));
     kept = λ _. failed;
   },
   refl,

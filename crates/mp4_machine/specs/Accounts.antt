@@ -1,19 +1,19 @@
--- What a machine that claims memory does to the account of a ledger.
+-- What a machine that claims memory changes in the account of a ledger.
 use Rattle.std.specs.Prelude.{◌≡◌, ℕ, zero, suc, ◌+◌, ◌-◌, ◌≤◌, max}
 use Rattle.mp4_ledger.specs.Memory.{Account}
 
--- the most that was out where `base` bytes are out for others, and `most` at once for the machine: none where it had none
+-- peak of the ledger where `base` bytes are claimed by others, and at most `most` at once by the machine; 0 where the machine claims none
 abbrev pub top_of : ℕ → ℕ → ℕ
 top_of base zero = 0
 top_of base (suc n) = base + suc n
 
--- `own` bytes of what is out were the machine's, and now `own'` are; at once it had at most `most` more claimed
+-- of the claimed bytes, `own` were the machine's before and `own'` are now; it claimed at most `most` at once
 pub record Counts (a a' : Account) (own own' most : ℕ) : Type 0 where
   pub limit : a'.limit ≡ a.limit
   pub live : a'.live + own ≡ a.live + own'
   pub peak : a'.peak ≡ max a.peak (top_of (a.live - own) most)
 
--- the same, where less may have been claimed
+-- the same, but it may have claimed less
 pub record Spends (a a' : Account) (own own' most : ℕ) : Type 0 where
   pub limit : a'.limit ≡ a.limit
   pub live : a'.live + own ≡ a.live + own'

@@ -1,4 +1,4 @@
--- A body whose bytes have effects as they come: some bytes of it, from its first byte on, have these.
+-- The body of a box, whose bytes have effects as they come: some of its bytes, from the first on, have these.
 use Rattle.std.specs.Prelude.{◌≡◌, ℕ, ◌+◌, ◌-◌, ◌<◌, ◌≤◌, ◌^◌, List, length, take, drop, nat_lt, if◌then◌else◌, Option, Some}
 use Rattle.mp4_box.specs.declared.headers.FourCc.{FourCc}
 use Rattle.mp4_box.specs.declared.headers.Header.{Header}
@@ -9,7 +9,7 @@ use Rattle.mp4_box.specs.declared.rules.Rule.{Rule}
 use Rattle.mp4_box.specs.declared.rules.Rule.TheVariants.{Truncated, StreamTooLong}
 use Rattle.mp4_machine.specs.declared.body.AnyBody.{AnyBody}
 use Rattle.mp4_machine.specs.declared.body.AnyBody.TheVariants as bodies
-use Rattle.mp4_machine.specs.Readings.{Effects, silent, Sound, Faulty, CutOff, Reading, FirstItem, Last, Whole}
+use Rattle.mp4_machine.specs.Readings.{Effects, no_effects, Sound, Faulty, CutOff, Reading, FirstItem, Last, Whole}
 
 -- no stream is followed further than this
 abbrev pub longest : ℕ
@@ -20,31 +20,31 @@ fault rule kind at = record { rule = rule; kind = kind; offset = at }
 
 -- no effects, and the box at `at` breaks a rule
 abbrev pub at_fault : Rule → Option FourCc → ℕ → Reading
-at_fault rule kind at = record { effects = silent; outcome = Faulty (fault rule kind at) }
+at_fault rule kind at = record { effects = no_effects; outcome = Faulty (fault rule kind at) }
 
--- or it is cut off there
+-- the box is cut off there
 abbrev pub cut_off : Rule → Option FourCc → ℕ → Reading
-cut_off rule kind at = record { effects = silent; outcome = CutOff (fault rule kind at) }
+cut_off rule kind at = record { effects = no_effects; outcome = CutOff (fault rule kind at) }
 
--- where a box at `at` ends at the least
+-- the least offset at which a box at `at` ends
 abbrev pub least_end : ℕ → Header → Size → ℕ
 least_end at h (Exact s) = at + s
 least_end at h ToEnd = at + h.header_len
 
--- the body of the box at `at`, of which `left` bytes are to come, and the context behind it
+-- body of the box at `at`, `left` bytes of which are to come, followed by items in the context `next`
 abbrev pub body_item : {C : Type 0} → (List ℕ → Effects) → ℕ → FourCc → C → ℕ → List ℕ → FirstItem C
-body_item tell at kind next left bytes =
-    if nat_lt (length bytes) left then Last (record { effects = tell bytes; outcome = CutOff (fault Truncated (Some kind) at) })
-    else Whole (tell (take left bytes)) next (drop left bytes)
+body_item emit at kind next left bytes =
+    if nat_lt (length bytes) left then Last (record { effects = emit bytes; outcome = CutOff (fault Truncated (Some kind) at) })
+    else Whole (emit (take left bytes)) next (drop left bytes)
 
--- one that goes to the end of the stream, of which at most `left` bytes may come, and `needed` must
+-- body that goes to the end of the stream: at least `needed` and at most `left` bytes must come
 abbrev pub open_body_item : {C : Type 0} → (List ℕ → Effects) → ℕ → FourCc → (needed left : ℕ) → List ℕ → FirstItem C
-open_body_item tell at kind needed left bytes =
-    if nat_lt left (length bytes) then Last (record { effects = tell (take left bytes); outcome = Faulty (fault StreamTooLong (Some kind) at) })
-    else if nat_lt (length bytes) needed then Last (record { effects = tell bytes; outcome = CutOff (fault Truncated (Some kind) at) })
-    else Last (record { effects = tell bytes; outcome = Sound })
+open_body_item emit at kind needed left bytes =
+    if nat_lt left (length bytes) then Last (record { effects = emit (take left bytes); outcome = Faulty (fault StreamTooLong (Some kind) at) })
+    else if nat_lt (length bytes) needed then Last (record { effects = emit bytes; outcome = CutOff (fault Truncated (Some kind) at) })
+    else Last (record { effects = emit bytes; outcome = Sound })
 
--- the body behind the header of a box at `at`, by the size that it states
+-- the body after the header of a box at `at`, by the stated size
 abbrev pub IsBodyOf : ℕ → Header → AnyBody → Type 0
 IsBodyOf at h (bodies.Empty next) = (size : ℕ) × (h.size ≡ Exact size) × (size ≡ h.header_len) × (next ≡ at + size) × (next ≤ longest)
 IsBodyOf at h (bodies.Sized b) = (size : ℕ) × (h.size ≡ Exact size) × (h.header_len < size) × (b ≡ record { at = at; kind = h.kind; next = at + size; left = size - h.header_len }) × (at + size ≤ longest)

@@ -1,8 +1,8 @@
--- What the two ends of a run tell.
+-- The source and the sink of a run.
 use Rattle.std.specs.Prelude.{ℕ, List, Bool, Option}
 
--- what a source tells before a call and behind it: the bytes that its reads will give.
--- Behind it, also whether it has ended, and failed, and how many bytes its last read gave
+-- a source before and after a call: the bytes that its reads will give.
+-- After the call also whether it has ended or failed, and how many bytes its last read gave
 pub record Received : Type 0 where
   pub left : Option (List ℕ)
   pub left' : Option (List ℕ)
@@ -13,7 +13,7 @@ pub record Received : Type 0 where
 abbrev pub received : {R : Type 0} → (remaining : R → Option (List ℕ)) → (has_ended has_failed : R → Bool) → (last_read : R → ℕ) → (r r' : R) → Received
 received remaining has_ended has_failed last_read r r' = record { left = remaining r; left' = remaining r'; ended = has_ended r'; failed = has_failed r'; last = last_read r' }
 
--- what a sink tells before a call and behind it: the bytes that were written, and whether it had failed
+-- a sink before and after a call: the bytes that it took, and whether it had failed
 pub record Sent : Type 0 where
   pub written : Option (List ℕ)
   pub written' : Option (List ℕ)
@@ -23,7 +23,7 @@ pub record Sent : Type 0 where
 abbrev pub sent : {W : Type 0} → (contents : W → Option (List ℕ)) → (has_failed : W → Bool) → (w w' : W) → Sent
 sent contents has_failed w w' = record { written = contents w; written' = contents w'; failed = has_failed w; failed' = has_failed w' }
 
--- what both ends of a run tell
+-- both ends of a run
 pub record Ends : Type 0 where
   pub left : Option (List ℕ)
   pub left' : Option (List ℕ)

@@ -5,9 +5,10 @@ pub mod Blocks
 pub mod Groups
 pub mod Ends
 pub mod Puts
-pub mod Pieces
+pub mod Inputs
 pub mod Steps
-pub mod Standings
+pub mod Continuations
 pub mod StreamRuns
 pub mod Fed
-pub mod Holding
+pub mod Buffering
+pub mod HeaderBytes

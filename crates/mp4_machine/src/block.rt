@@ -1,34 +1,34 @@
-//! Bytes on their way to a sink.
+//! Bytes that are buffered for a sink.
 
 ghost use Rattle.std.specs.Prelude.{◌≡◌, ℕ, List, ◌+◌, ◌*◌, ◌<◌, ◌≤◌, [], ◌∷◌, ◌++◌, length, OnOk};
 ghost use Rattle.mp4_machine.specs.Blocks.{IsSent, unused};
 ghost use Rattle.mp4_machine.specs.Ends.{sent};
-ghost use Rattle.mp4_machine.specs.Groups.{waiting_behind};
+ghost use Rattle.mp4_machine.specs.Groups.{waiting_after};
 ghost use Rattle.mp4_machine.specs.Puts.{Puts, PutsMarked};
 ghost use Rattle.mp4_machine.specs.Readings.{whole_in};
 
-use crate::mark::Mark;
+use crate::fragment_end::FragmentEnd;
 use arrayvec::ArrayVec;
 use mp4_ends::{Failed, Sink, write_front};
 use mp4_lines::Text;
 use std::marker::Model;
 
-/// From so many bytes on a slice that doesn't fit behind what waits is sent by itself and not gathered.
+/// A slice of at least so many bytes that doesn't fit in the buffer is sent by itself.
 const LARGE: usize = 4096;
 
-/// So many bytes may wait in a block.
+/// Capacity of a block in bytes.
 pub const BLOCK_BYTES: usize = 16_384;
 
 /// So many bytes has a group of those that [`Block::put_groups`] puts.
 pub const GROUP_BYTES: usize = 16;
 
-/// So many ends of fragments may wait with them.
+/// Capacity of a block in ends of fragments.
 const MOST_ENDS: usize = 160;
 
 /// The most bytes of a line.
 pub const LINE_BYTES: usize = 256;
 
-/// What is put into a block as a line, and is built there.
+/// A line that is built before it is put into a block.
 pub trait Line {
     // Its text.
     ghost text: { Self → List ℕ };
@@ -39,15 +39,15 @@ pub trait Line {
         ensures { block.new ≡ block.old ++ text self.now };
 }
 
-/// Gathers bytes, so that a sink is given few large writes, and knows of how many fragments the sink has all bytes.
+/// Buffers bytes, so that a sink gets few large writes, and knows how many fragments the sink has taken completely.
 #[derive(Drop)]
 pub struct Block {
     waiting: Text<BLOCK_BYTES>,
-    ends: ArrayVec<Mark, MOST_ENDS>,
+    ends: ArrayVec<FragmentEnd, MOST_ENDS>,
     whole: u64,
 }
 
-// A contract sees the bytes that wait, where fragments end in them, and how many are whole in what was sent.
+// A contract sees the buffered bytes, where fragments end in them, and how many are whole in what was sent.
 impl Model for Block {
     ghost use Rattle.std.specs.Prelude.{◌≤◌, length};
     ghost use Rattle.std.specs.List.{AllByRecursion};
@@ -61,7 +61,7 @@ impl Model for Block {
 }
 
 impl Block {
-    /// A block in which nothing waits.
+    /// An empty block.
     pub fn new() -> Self
         ensures { result ≡ unused }
     {
@@ -79,7 +79,7 @@ impl Block {
         self.whole
     }
 
-    /// Sends all that waits.
+    /// Sends everything that is buffered.
     pub fn send<W: Sink>(&mut self, w: &mut W) -> Result<(), Failed>
         ensures puts { Puts (sent W.contents W.has_failed w.old w.new) self.old self.new [] result }
         ensures sent { OnOk result (IsSent self.new) }
@@ -98,7 +98,7 @@ impl Block {
         }
     }
 
-    /// How many fragments are whole where the first `n` bytes of those that wait are sent.
+    /// How many fragments are whole once the first `n` buffered bytes are sent.
     fn whole_in_first(&self, n: usize) -> u64
         ensures { result ≡ whole_in n self.now.whole self.now.ends }
     {
@@ -111,7 +111,8 @@ impl Block {
         whole
     }
 
-    /// Says that `count` fragments are whole in all that was put. Where too many ends wait, what waits is sent first.
+    /// Marks that `count` fragments are whole in everything that was put. The buffer is sent first where its ends are
+    /// full.
     pub fn mark<W: Sink>(&mut self, w: &mut W, count: u64) -> Result<(), Failed>
         ensures { PutsMarked (sent W.contents W.has_failed w.old w.new) self.old self.new []
             (record { end = 0; count = count } ∷ []) result }
@@ -120,14 +121,14 @@ impl Block {
             Ok(()) => {}
             Err(Failed) => return Err(Failed),
         }
-        self.ends.push(Mark {
+        self.ends.push(FragmentEnd {
             end: self.waiting.len(),
             count,
         });
         Ok(())
     }
 
-    /// Makes room for the end of a fragment: where there is none, what waits is sent.
+    /// Makes room for the end of a fragment: sends the buffer where there is none.
     #[inline(always)]
     fn make_room_for_end<W: Sink>(&mut self, w: &mut W) -> Result<(), Failed>
         ensures puts { Puts (sent W.contents W.has_failed w.old w.new) self.old self.new [] result }
@@ -139,7 +140,7 @@ impl Block {
         self.send(w)
     }
 
-    /// Puts these bytes behind those that wait. Where they don't fit, what waits is sent first.
+    /// Appends these bytes to the buffer, which is sent first where they don't fit.
     pub fn put<W: Sink>(&mut self, w: &mut W, bytes: &[u8]) -> Result<(), Failed>
         ensures { Puts (sent W.contents W.has_failed w.old w.new) self.old self.new bytes.now
             result }
@@ -151,7 +152,7 @@ impl Block {
         Ok(())
     }
 
-    /// Puts an array behind the bytes that wait. Where it doesn't fit, what waits is sent first.
+    /// Appends an array to the buffer, which is sent first where it doesn't fit.
     #[inline(always)]
     pub fn put_array<const N: usize, W: Sink>(
         &mut self,
@@ -170,14 +171,14 @@ impl Block {
         Ok(())
     }
 
-    /// Puts groups of [`GROUP_BYTES`] bytes behind those that wait, and what is sent goes out as if each was put by itself: as many
+    /// Puts groups of [`GROUP_BYTES`] bytes after those that wait, and what is sent goes out as if each was put by itself: as many
     /// whole groups are put as there is room for, then what waits is sent, and so on.
     #[inline(never)]
     pub fn put_groups<W: Sink>(&mut self, w: &mut W, groups: &[u8]) -> Result<(), Failed>
         ensures puts { Puts (sent W.contents W.has_failed w.old w.new) self.old self.new groups.now
             result }
         ensures waits { (count : ℕ) → length groups.now ≡ GROUP_BYTES * count →
-            OnOk result (length self.new.bytes ≡ waiting_behind (length self.old.bytes) count) }
+            OnOk result (length self.new.bytes ≡ waiting_after (length self.old.bytes) count) }
     {
         let room = (BLOCK_BYTES - self.waiting.len()) / GROUP_BYTES * GROUP_BYTES;
         if groups.len() <= room {
@@ -198,22 +199,22 @@ impl Block {
         ensures puts { Puts (sent W.contents W.has_failed w.old w.new) self.old self.new bytes.now
             result }
         ensures waits { (count : ℕ) → length bytes.now ≡ GROUP_BYTES * count →
-            OnOk result (length self.new.bytes ≡ waiting_behind 0 count) }
+            OnOk result (length self.new.bytes ≡ waiting_after 0 count) }
     {
         let mut rest = bytes;
         while rest.len() > BLOCK_BYTES {
-            let (front, behind) = rest.split_at(BLOCK_BYTES);
+            let (front, later) = rest.split_at(BLOCK_BYTES);
             match self.fill(w, front) {
                 Ok(()) => {}
                 Err(Failed) => return Err(Failed),
             }
-            rest = behind;
+            rest = later;
         }
         self.gather(rest);
         Ok(())
     }
 
-    /// Puts bytes for which there is room behind those that wait.
+    /// Puts bytes for which there is room after those that wait.
     #[inline(always)]
     fn gather(&mut self, bytes: &[u8])
         requires { length self.old.bytes + length bytes.now ≤ BLOCK_BYTES }
@@ -222,7 +223,7 @@ impl Block {
         self.waiting.push_bytes(bytes);
     }
 
-    /// Puts bytes for which there is room behind those that wait, and sends all of them.
+    /// Puts bytes for which there is room after those that wait, and sends all of them.
     fn fill<W: Sink>(&mut self, w: &mut W, bytes: &[u8]) -> Result<(), Failed>
         requires { length self.old.bytes + length bytes.now ≤ BLOCK_BYTES }
         ensures puts { Puts (sent W.contents W.has_failed w.old w.new) self.old self.new bytes.now
@@ -236,7 +237,7 @@ impl Block {
         }
     }
 
-    /// Makes room for so many bytes: where there is too little, what waits is sent.
+    /// Makes room for so many bytes: sends the buffer where there is too little.
     #[inline(always)]
     fn make_room_for<W: Sink>(&mut self, count: usize, w: &mut W) -> Result<(), Failed>
         requires { count ≤ BLOCK_BYTES }
@@ -249,7 +250,7 @@ impl Block {
         self.send(w)
     }
 
-    /// Puts a line behind the bytes that wait. Where there may be no room for it, what waits is sent first.
+    /// Appends a line to the buffer, which is sent first where there may be no room for it.
     #[inline(always)]
     pub fn put_line<L: Line, W: Sink>(&mut self, w: &mut W, line: &L) -> Result<(), Failed>
         ensures { Puts (sent W.contents W.has_failed w.old w.new) self.old self.new
@@ -263,7 +264,7 @@ impl Block {
         Ok(())
     }
 
-    /// Makes room for a line: where there may be none, what waits is sent.
+    /// Makes room for a line: sends the buffer where there may be none.
     #[inline(always)]
     fn make_room<W: Sink>(&mut self, w: &mut W) -> Result<(), Failed>
         ensures puts { Puts (sent W.contents W.has_failed w.old w.new) self.old self.new [] result }

@@ -1,4 +1,4 @@
-//! Bodies of boxes, while they come.
+//! Bodies of boxes, taken as their bytes come.
 
 ghost use Rattle.std.specs.Prelude.{◌≡◌, ◌+◌, ◌-◌, ◌<◌, ◌≤◌, length, min, Some, IfErr, OnErr, OnOk};
 ghost use Rattle.mp4_box.specs.Headers.{HasRoom};
@@ -9,7 +9,7 @@ use crate::limits::{LONGEST, at_fault};
 use crate::stop::Stop;
 use mp4_box::{Fault, FourCc, Header, Rule, Size};
 
-/// The body of the box at `at`, of which some bytes are left; the next box begins at `next`.
+/// The body of the box at `at`, with some bytes left; the next box begins at `next`.
 #[derive(Clone, Copy)]
 pub struct Body {
     pub at: u64,
@@ -18,7 +18,8 @@ pub struct Body {
     pub left: u64,
 }
 
-/// The body of the box at `at`, which goes to the end of the stream: so many bytes of it must come, and so many may.
+/// The body of the box at `at`, which goes to the end of the stream: at least `needed` and at most `left` bytes must
+/// come.
 #[derive(Clone, Copy)]
 pub struct OpenBody {
     pub at: u64,
@@ -38,7 +39,7 @@ pub enum AnyBody {
     Open(OpenBody),
 }
 
-/// The body behind the header of the box at `at`.
+/// The body after the header of the box at `at`.
 #[inline(always)]
 pub fn body_of(at: u64, header: &Header) -> AnyBody
     requires room { HasRoom header.now.size header.now.header_len }
@@ -68,34 +69,34 @@ pub fn body_of(at: u64, header: &Header) -> AnyBody
 }
 
 impl Body {
-    /// Takes bytes from the front of a piece, all that belong to the body: how many.
+    /// Takes the bytes at the front of the input that belong to the body. Returns how many.
     #[inline(always)]
-    pub fn take(&mut self, piece: &[u8]) -> usize
-        ensures taken { result ≡ min self.old.left (length piece.now) }
+    pub fn take(&mut self, input: &[u8]) -> usize
+        ensures taken { result ≡ min self.old.left (length input.now) }
         ensures left { self.new ≡ record self.old { left = self.old.left - result } }
     {
-        let taken = self.left.min(piece.len() as u64);
+        let taken = self.left.min(input.len() as u64);
         self.left -= taken;
         taken as usize
     }
 }
 
 impl OpenBody {
-    /// Takes a piece.
+    /// Takes the input.
     ///
     /// # Errors
     ///
     /// `Stream` where the body goes too far.
     #[inline(always)]
-    pub fn take(&mut self, piece: &[u8]) -> Result<(), Stop>
-        ensures ok { OnOk result (length piece.now ≤ self.old.left) }
+    pub fn take(&mut self, input: &[u8]) -> Result<(), Stop>
+        ensures ok { OnOk result (length input.now ≤ self.old.left) }
         ensures left { OnOk result (self.new ≡ record self.old
-            { needed = self.old.needed - length piece.now; left = self.old.left - length piece.now }) }
-        ensures far { OnErr result (self.old.left < length piece.now) }
+            { needed = self.old.needed - length input.now; left = self.old.left - length input.now }) }
+        ensures far { OnErr result (self.old.left < length input.now) }
         ensures err { IfErr result (λ e. e ≡
             Stop.Stream (fault StreamTooLong (Some self.old.kind) self.old.at)) }
     {
-        let len = piece.len() as u64;
+        let len = input.len() as u64;
         if len > self.left {
             return Err(at_fault(Rule::StreamTooLong, Some(self.kind), self.at));
         }
@@ -104,7 +105,7 @@ impl OpenBody {
         Ok(())
     }
 
-    /// What the end of the stream means in it.
+    /// What the end of the stream means within it.
     ///
     /// # Errors
     ///

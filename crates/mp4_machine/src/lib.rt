@@ -1,43 +1,45 @@
-//! How a stream is read item by item, as it comes, whatever its items are: the theory on which each command rests.
+//! Reads a stream item by item as it comes, whatever its items are: the theory on which each command rests.
 //!
 //! - [`stop`]: [`Stop`], why a run stops, and [`tally`]: [`Tally`], what is counted of a stream;
 //! - [`limits`]: how far a stream is followed, and what is refused;
 //! - [`block`]: [`Block`], which gathers bytes and lines on their way to a sink ([`Line`]), with the ends of fragments among
-//!   them ([`mark`]: [`Mark`]), and [`held`]: [`Held`], a box in
+//!   them ([`fragment_end`]: [`FragmentEnd`]), and [`buffered_box`]: [`BufferedBox`], a box in
 //!   claimed memory while it comes;
-//! - [`header_bytes`]: which bytes of a piece are a header's, and [`body`]: the bodies behind headers ([`Body`],
+//! - [`header_bytes`]: [`next_header`], which reads a header as its bytes come (`specs/HeaderBytes.antt`), and [`body`]:
+//!   the bodies after headers ([`Body`],
 //!   [`OpenBody`]);
-//! - [`machine`]: [`Machine`], what takes the bytes of a stream as they come, and [`feed`], which feeds it the next piece;
+//! - [`machine`]: [`Machine`], which takes the bytes of a stream as they come, and [`feed`], which feeds it the next
+//!   input;
 //! - [`run`]: [`read_stream`], which feeds it a whole stream.
 //!
-//! The definitions: `specs/Readings.antt` (what some bytes are read as, item by item), `specs/Bodies.antt` (a body that
-//! is told as it comes), `specs/Holding.antt` (a box that is held while it comes), `specs/Pieces.antt` (what a machine
-//! brings that is fed the stream piece by piece), with `specs/Accounts.antt` (what it does to a ledger) and
-//! `specs/Blocks.antt` (what goes by way of a block) and `specs/Fed.antt` (the same by the bytes that came so far),
-//! `specs/StreamRuns.antt` (what a run over a whole stream brings) with `specs/Ends.antt` (what its two ends tell), and
-//! `specs/Puts.antt` (what a call does that puts text into a block). Within a machine `specs/Steps.antt` says what a step
-//! brings, and `specs/Standings.antt` where machines stand alike. They name no command: a command says what stands at the
-//! front of some bytes, and its machine keeps the clauses of [`Machine`].
+//! The definitions: `specs/Readings.antt` (how some bytes are read, item by item), `specs/Bodies.antt` (a body with
+//! effects as it comes), `specs/Buffering.antt` (a box that is buffered until it is whole), `specs/Inputs.antt` (a
+//! machine that is fed the stream in inputs), with `specs/Accounts.antt` (how it changes a ledger) and
+//! `specs/Blocks.antt` (text that goes through a block) and `specs/Fed.antt` (the same for the bytes so far),
+//! `specs/StreamRuns.antt` (a run over a whole stream) with `specs/Ends.antt` (its source and sink), and
+//! `specs/Puts.antt` (calls that put text into a block). Within a machine `specs/Steps.antt` describes one step, and
+//! `specs/Continuations.antt` what all machines have in common. They name no command: a command says what is at the
+//! front of some bytes, and its machine meets the clauses of [`Machine`].
 #![tactic(auto)]
 
 pub mod block;
 pub mod body;
+pub mod buffered_box;
+pub mod fragment_end;
 pub mod header_bytes;
-pub mod held;
 pub mod limits;
 pub mod machine;
-pub mod mark;
 pub mod run;
 pub mod stop;
 pub mod tally;
 
 pub use block::{BLOCK_BYTES, Block, GROUP_BYTES, LINE_BYTES, Line};
 pub use body::{AnyBody, Body, OpenBody, body_of, truncated};
-pub use header_bytes::{HeadTaken, take_head};
-pub use held::Held;
+pub use buffered_box::BufferedBox;
+pub use fragment_end::FragmentEnd;
+pub use header_bytes::{HeaderBytes, HeaderStatus, next_header};
 pub use limits::{LONGEST, at_fault, is_too_long};
 pub use machine::{Machine, feed};
-pub use mark::Mark;
 pub use run::read_stream;
 pub use stop::Stop;
 pub use tally::Tally;

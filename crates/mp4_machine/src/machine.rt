@@ -1,11 +1,9 @@
-//! Machines that are fed a stream piece by piece, whatever they read it as.
+//! Machines that are fed a stream in inputs, whatever they read.
 
 ghost use Rattle.std.specs.Prelude.{◌≡◌, ◌<◌, ◌≤◌, ◌↔◌, [], length, take, None, Some, IfOk, IfErr, OnOk, OnErr, IsErrOf, IsTrue};
-ghost use Rattle.mp4_box.specs.Headers.{IsBytes};
 ghost use Rattle.mp4_ledger.specs.Memory.{given_back};
-ghost use Rattle.mp4_machine.specs.Blocks.{IsSent};
 ghost use Rattle.mp4_machine.specs.Ends.{sent};
-ghost use Rattle.mp4_machine.specs.Pieces.{IsQuiet, Standing, Takes, around, farthest};
+ghost use Rattle.mp4_machine.specs.Inputs.{Continuation, HasNoEffects, Takes, TakesAll, change, farthest};
 ghost use Rattle.mp4_machine.specs.Readings.{fault_in};
 ghost use Rattle.mp4_machine.specs.declared.tally.Tally.{Tally};
 
@@ -22,14 +20,14 @@ pub trait Machine {
 
     ghost task: { Self → Self.Task };
 
-    // Where it stands in the stream.
-    ghost stands: { Self → Standing };
+    // Where it is in the stream, and how the rest is read.
+    ghost continuation: { Self → Continuation };
 
     // What it has counted.
     ghost counted: { Self → Tally };
 
-    /// Takes some bytes from the front of a piece, and puts what they tell into `out`, which is sent to `w` as it fills:
-    /// how many bytes it took.
+    /// Takes some bytes from the front of the input, and puts their output into `out`, which is sent to `w` as it fills.
+    /// Returns how many bytes it took.
     ///
     /// # Errors
     ///
@@ -38,20 +36,20 @@ pub trait Machine {
     fn take<W: Sink>(
         &mut self,
         ledger: &mut Ledger,
-        piece: &[u8],
+        input: &[u8],
         out: &mut Block,
         w: &mut W,
     ) -> Result<usize, Stop>
-        requires some { 0 < length piece.now }
-        requires claim { (stands self.old).claim ≤ ledger.old.live }
-        ensures takes { Takes (around (sent W.contents W.has_failed w.old w.new) out.old out.new
+        requires some { 0 < length input.now }
+        requires claim { (continuation self.old).claim ≤ ledger.old.live }
+        ensures takes { Takes (change (sent W.contents W.has_failed w.old w.new) out.old out.new
             ledger.old ledger.new (counted self.old) (counted self.new))
-            (stands self.old) piece.now (λ n. take n piece.now) (λ _. stands self.new) result }
-        ensures taken { IfOk result (λ n. (0 < n) × (n ≤ length piece.now)) }
-        ensures claim { (stands self.new).claim ≤ ledger.new.live }
-        ensures quiet { OnOk result (IsQuiet (stands self.new)) }
-        ensures near { OnOk result ((stands self.new).reached ≤ farthest) }
-        ensures spent { OnErr result ((stands self.new).claim ≡ 0) }
+            (continuation self.old) input.now (λ n. take n input.now) (λ _. continuation self.new) result }
+        ensures taken { IfOk result (λ n. (0 < n) × (n ≤ length input.now)) }
+        ensures claim { (continuation self.new).claim ≤ ledger.new.live }
+        ensures quiet { OnOk result (HasNoEffects (continuation self.new)) }
+        ensures near { OnOk result ((continuation self.new).reached ≤ farthest) }
+        ensures spent { OnErr result ((continuation self.new).claim ≡ 0) }
         ensures task { task self.new ≡ task self.old };
 
     /// What the end of the stream means here.
@@ -60,20 +58,20 @@ pub trait Machine {
     ///
     /// The fault of a stream that ends here.
     fn finish(&self) -> Result<(), Fault>
-        ensures ok { OnOk result (fault_in ((stands self.now).reads []).outcome ≡ None) }
+        ensures ok { OnOk result (fault_in ((continuation self.now).reads []).outcome ≡ None) }
         ensures err { IfErr result (λ f.
-            fault_in ((stands self.now).reads []).outcome ≡ Some f) };
+            fault_in ((continuation self.now).reads []).outcome ≡ Some f) };
 
-    /// Gives back what is claimed. Where it stands in the stream then isn't said.
+    /// Gives back what is claimed. Its place in the stream is not specified then.
     fn give_back(&mut self, ledger: &mut Ledger)
-        requires { (stands self.old).claim ≤ ledger.old.live }
-        ensures back { ledger.new ≡ given_back ledger.old (stands self.old).claim }
-        ensures spent { (stands self.new).claim ≡ 0 }
+        requires { (continuation self.old).claim ≤ ledger.old.live }
+        ensures back { ledger.new ≡ given_back ledger.old (continuation self.old).claim }
+        ensures spent { (continuation self.new).claim ≡ 0 }
         ensures counted { counted self.new ≡ counted self.old }
         ensures task { task self.new ≡ task self.old };
 }
 
-/// Feeds a machine the next piece of the stream, and writes all that it determines: nothing waits between two pieces.
+/// Feeds a machine the next input of the stream, and writes all output that it determines: nothing stays in the buffer.
 ///
 /// # Errors
 ///
@@ -81,27 +79,21 @@ pub trait Machine {
 pub fn feed<M: Machine, W: Sink>(
     machine: &mut M,
     ledger: &mut Ledger,
-    piece: &[u8],
+    input: &[u8],
     out: &mut Block,
     w: &mut W,
 ) -> Result<(), Stop>
-    requires claim { (M.stands machine.old).claim ≤ ledger.old.live }
-    requires quiet { IsQuiet (M.stands machine.old) }
-    requires near { (M.stands machine.old).reached ≤ farthest }
-    ensures takes { Takes (around (sent W.contents W.has_failed w.old w.new) out.old out.new
+    requires claim { (M.continuation machine.old).claim ≤ ledger.old.live }
+    requires quiet { HasNoEffects (M.continuation machine.old) }
+    requires near { (M.continuation machine.old).reached ≤ farthest }
+    ensures { TakesAll (change (sent W.contents W.has_failed w.old w.new) out.old out.new
         ledger.old ledger.new (M.counted machine.old) (M.counted machine.new))
-        (M.stands machine.old) piece.now (λ _. piece.now) (λ _. M.stands machine.new) result }
-    ensures claim { (M.stands machine.new).claim ≤ ledger.new.live }
-    ensures quiet { OnOk result (IsQuiet (M.stands machine.new)) }
-    ensures near { OnOk result ((M.stands machine.new).reached ≤ farthest) }
-    ensures sent { (IsErrOf result Stop.Write → ⊥) → IsSent out.new }
-    ensures bytes { IsBytes piece.now }
-    ensures spent { OnErr result ((M.stands machine.new).claim ≡ 0) }
-    ensures task { M.task machine.new ≡ M.task machine.old }
+        (M.continuation machine.old) input.now (M.continuation machine.new)
+        (M.task machine.old) (M.task machine.new) result }
 {
-    let answer = take_all(machine, ledger, piece, out, w);
-    // After a failed write what waits can't be sent any more.
-    if is_lost(&answer) {
+    let answer = take_all(machine, ledger, input, out, w);
+    // After a failed write the buffer can't be sent.
+    if is_failed_write(&answer) {
         return answer;
     }
     match out.send(w) {
@@ -113,29 +105,29 @@ pub fn feed<M: Machine, W: Sink>(
     }
 }
 
-/// Has a machine take all of a piece.
+/// Has a machine take a whole input.
 fn take_all<M: Machine, W: Sink>(
     machine: &mut M,
     ledger: &mut Ledger,
-    piece: &[u8],
+    input: &[u8],
     out: &mut Block,
     w: &mut W,
 ) -> Result<(), Stop>
-    requires claim { (M.stands machine.old).claim ≤ ledger.old.live }
-    requires quiet { IsQuiet (M.stands machine.old) }
-    requires near { (M.stands machine.old).reached ≤ farthest }
-    ensures takes { Takes (around (sent W.contents W.has_failed w.old w.new) out.old out.new
+    requires claim { (M.continuation machine.old).claim ≤ ledger.old.live }
+    requires quiet { HasNoEffects (M.continuation machine.old) }
+    requires near { (M.continuation machine.old).reached ≤ farthest }
+    ensures takes { Takes (change (sent W.contents W.has_failed w.old w.new) out.old out.new
         ledger.old ledger.new (M.counted machine.old) (M.counted machine.new))
-        (M.stands machine.old) piece.now (λ _. piece.now) (λ _. M.stands machine.new) result }
-    ensures claim { (M.stands machine.new).claim ≤ ledger.new.live }
-    ensures quiet { OnOk result (IsQuiet (M.stands machine.new)) }
-    ensures near { OnOk result ((M.stands machine.new).reached ≤ farthest) }
-    ensures spent { OnErr result ((M.stands machine.new).claim ≡ 0) }
+        (M.continuation machine.old) input.now (λ _. input.now) (λ _. M.continuation machine.new) result }
+    ensures claim { (M.continuation machine.new).claim ≤ ledger.new.live }
+    ensures quiet { OnOk result (HasNoEffects (M.continuation machine.new)) }
+    ensures near { OnOk result ((M.continuation machine.new).reached ≤ farthest) }
+    ensures spent { OnErr result ((M.continuation machine.new).claim ≡ 0) }
     ensures task { M.task machine.new ≡ M.task machine.old }
 {
     let mut at = 0;
-    while at < piece.len() {
-        match machine.take(ledger, &piece[at..], out, w) {
+    while at < input.len() {
+        match machine.take(ledger, &input[at..], out, w) {
             Ok(count) => at += count,
             Err(stop) => return Err(stop),
         }
@@ -144,7 +136,7 @@ fn take_all<M: Machine, W: Sink>(
 }
 
 /// Whether a write failed.
-fn is_lost(answer: &Result<(), Stop>) -> bool
+fn is_failed_write(answer: &Result<(), Stop>) -> bool
     ensures { IsTrue result ↔ IsErrOf answer.now Stop.Write }
 {
     matches!(answer, Err(Stop::Write))

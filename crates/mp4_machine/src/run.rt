@@ -3,7 +3,7 @@
 ghost use Rattle.std.specs.Prelude.{◌≡◌, ◌+◌, ◌<◌, length};
 ghost use Rattle.mp4_machine.specs.Blocks.{unused};
 ghost use Rattle.mp4_machine.specs.Ends.{between, received, sent};
-ghost use Rattle.mp4_machine.specs.Pieces.{IsBegun};
+ghost use Rattle.mp4_machine.specs.Inputs.{IsBegun};
 ghost use Rattle.mp4_machine.specs.StreamRuns.{ReadsStream};
 
 use crate::block::Block;
@@ -12,9 +12,9 @@ use crate::stop::Stop;
 use mp4_ends::{Failed, Sink, Source};
 use mp4_ledger::Ledger;
 
-/// Reads a stream to its end, however its reads cut it, and feeds it to a machine to which no byte has come. `copy` bytes are
-/// claimed to read into. What the machine has claimed at the end is still to be given back. `fragments` says of how many of the
-/// fragments that the machine marked the writer took all bytes.
+/// Reads a stream to its end, whatever its reads give, and feeds it to a machine to which no byte has come. The read
+/// buffer of `copy` bytes is claimed. What the machine has claimed at the end must still be given back. `fragments` is
+/// how many of the fragments that the machine marked the writer took completely.
 ///
 /// # Errors
 ///
@@ -30,13 +30,13 @@ pub fn read_stream<R: Source, W: Sink, M: Machine>(
 ) -> Result<(), Stop>
     requires some { 0 < copy }
     requires idle { ledger.old.live ≡ 0 }
-    requires begun { IsBegun (M.stands machine.old) (M.counted machine.old) }
-    ensures runs { (run : ReadsStream (M.stands machine.old).reads (between
+    requires begun { IsBegun (M.continuation machine.old) (M.counted machine.old) }
+    ensures runs { (run : ReadsStream (M.continuation machine.old).reads (between
         (received R.remaining R.has_ended R.has_failed R.last_read r.old r.new)
         (sent W.contents W.has_failed w.old w.new))
         (record { copy = copy; limit = ledger.old.limit; peak = ledger.new.peak })
         (M.counted machine.new) result) × (run.fragments ≡ fragments.new) }
-    ensures live { ledger.new.live ≡ (M.stands machine.new).claim }
+    ensures live { ledger.new.live ≡ (M.continuation machine.new).claim }
     ensures limit { ledger.new.limit ≡ ledger.old.limit }
     ensures task { M.task machine.new ≡ M.task machine.old }
 {
@@ -53,7 +53,7 @@ pub fn read_stream<R: Source, W: Sink, M: Machine>(
     answer
 }
 
-/// Reads the stream to its end into `copy`, which is all that is claimed.
+/// Reads the stream to its end into `copy`, the only memory that is claimed.
 fn read_on<R: Source, W: Sink, M: Machine>(
     r: &mut R,
     w: &mut W,
@@ -65,14 +65,14 @@ fn read_on<R: Source, W: Sink, M: Machine>(
     requires some { 0 < length copy.old }
     requires marked { ledger.old.peak ≡ ledger.old.live }
     requires claimed { length copy.old ≡ ledger.old.live }
-    requires begun { IsBegun (M.stands machine.old) (M.counted machine.old) }
+    requires begun { IsBegun (M.continuation machine.old) (M.counted machine.old) }
     requires unused { out.old ≡ unused }
-    ensures runs { (run : ReadsStream (M.stands machine.old).reads (between
+    ensures runs { (run : ReadsStream (M.continuation machine.old).reads (between
         (received R.remaining R.has_ended R.has_failed R.last_read r.old r.new)
         (sent W.contents W.has_failed w.old w.new))
         (record { copy = ledger.old.live; limit = ledger.old.limit; peak = ledger.new.peak })
         (M.counted machine.new) result) × (run.fragments ≡ out.new.whole) }
-    ensures live { ledger.new.live ≡ ledger.old.live + (M.stands machine.new).claim }
+    ensures live { ledger.new.live ≡ ledger.old.live + (M.continuation machine.new).claim }
     ensures limit { ledger.new.limit ≡ ledger.old.limit }
     ensures task { M.task machine.new ≡ M.task machine.old }
 {

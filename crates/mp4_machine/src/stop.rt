@@ -1,7 +1,7 @@
 //! Why a run stops.
 
 ghost use Rattle.std.specs.Prelude.{◌≡◌};
-ghost use Rattle.mp4_machine.specs.Pieces.{refusal_of};
+ghost use Rattle.mp4_machine.specs.Inputs.{refusal_of};
 
 use mp4_box::Fault;
 use mp4_ledger::Refused;

@@ -9,6 +9,6 @@ pub struct Tally {
     pub samples: u128,
     /// How many bytes of media.
     pub media_bytes: u64,
-    /// How many samples the moofs had whose samples were looked at.
-    pub walked: u128,
+    /// How many samples the moofs had whose samples were read.
+    pub inspected: u128,
 }

@@ -35,14 +35,14 @@ and_so : (a b : Bool) → (a ≡ true → b ≡ false) → (a && b) ≡ false
 and_so true b f = f refl
 and_so false b f = refl
 
--- a fault is told where a test passes
-none_told : (t : Bool) (f : Fault) → cond t (f ∷ []) [] ≡ [] → t ≡ false
-none_told true f e = absurd cc
-none_told false f e = refl
+-- a fault is reported where a test passes
+none_given : (t : Bool) (f : Fault) → cond t (f ∷ []) [] ≡ [] → t ≡ false
+none_given true f e = absurd cc
+none_given false f e = refl
 
-told_none : (t : Bool) (f : Fault) → t ≡ false → cond t (f ∷ []) [] ≡ []
-told_none true f e = absurd cc
-told_none false f e = refl
+given_none : (t : Bool) (f : Fault) → t ≡ false → cond t (f ∷ []) [] ≡ []
+given_none true f e = absurd cc
+given_none false f e = refl
 
 -- no element passes
 none_pass : {A : Type 0} (P : A → Type 0) (p : A → Bool) (xs : List A) → ((x : A) → p x ≡ false → P x) → list_any p xs ≡ false → AllByRecursion P xs
@@ -120,18 +120,18 @@ index_fits ps fit =
 
 -- ---- all
 
-runs_fit : (cut : Cut) (held : List ℕ) (runs : List Run) → index_faults cut held runs ≡ [] → cut.index ≡ true → AllByRecursion (λ (run : Run). FitsIndex (pieces_of cut held run)) runs
-runs_fit cut held [] e t = tt
-runs_fit cut held (run ∷ runs) e t =
-    let both = last_none (index_faults_of cut held run) (index_faults cut held runs) e in
-    let none = none_told (cut.index && passes_index (pieces_of cut held run)) (index_fault run) both.0 in
-    (fits_index (pieces_of cut held run) (and_off cut.index (passes_index (pieces_of cut held run)) none t), runs_fit cut held runs both.1 t)
+runs_fit : (cut : Cut) (moof_bytes : List ℕ) (runs : List Run) → index_faults cut moof_bytes runs ≡ [] → cut.index ≡ true → AllByRecursion (λ (run : Run). FitsIndex (pieces_of cut moof_bytes run)) runs
+runs_fit cut moof_bytes [] e t = tt
+runs_fit cut moof_bytes (run ∷ runs) e t =
+    let both = last_none (index_faults_of cut moof_bytes run) (index_faults cut moof_bytes runs) e in
+    let none = none_given (cut.index && passes_index (pieces_of cut moof_bytes run)) (index_fault run) both.0 in
+    (fits_index (pieces_of cut moof_bytes run) (and_off cut.index (passes_index (pieces_of cut moof_bytes run)) none t), runs_fit cut moof_bytes runs both.1 t)
 
-fit_runs : (cut : Cut) (held : List ℕ) (runs : List Run) → (cut.index ≡ true → AllByRecursion (λ (run : Run). FitsIndex (pieces_of cut held run)) runs) → index_faults cut held runs ≡ []
-fit_runs cut held [] f = refl
-fit_runs cut held (run ∷ runs) f =
-    let none = and_so cut.index (passes_index (pieces_of cut held run)) (λ t. index_fits (pieces_of cut held run) (f t).0) in
-    ap (λ (fs : List Fault). fs ++ index_faults cut held runs) (told_none (cut.index && passes_index (pieces_of cut held run)) (index_fault run) none) ∙ fit_runs cut held runs (λ t. (f t).1)
+fit_runs : (cut : Cut) (moof_bytes : List ℕ) (runs : List Run) → (cut.index ≡ true → AllByRecursion (λ (run : Run). FitsIndex (pieces_of cut moof_bytes run)) runs) → index_faults cut moof_bytes runs ≡ []
+fit_runs cut moof_bytes [] f = refl
+fit_runs cut moof_bytes (run ∷ runs) f =
+    let none = and_so cut.index (passes_index (pieces_of cut moof_bytes run)) (λ t. index_fits (pieces_of cut moof_bytes run) (f t).0) in
+    ap (λ (fs : List Fault). fs ++ index_faults cut moof_bytes runs) (given_none (cut.index && passes_index (pieces_of cut moof_bytes run)) (index_fault run) none) ∙ fit_runs cut moof_bytes runs (λ t. (f t).1)
 
 number_fits : (n : ℕ) → n < 4294967296 → nat_lt 4294967295 n ≡ false
 number_fits n h = le-ltb 4294967295 n (omega (arith, h))
@@ -143,7 +143,7 @@ room_from cut h runs seq e =
     let both = last_none (index_faults cut h.bytes runs) (sequence_faults h.offset ns) e in
     record {
       indexes = λ t. runs_fit cut h.bytes runs both.0 t;
-      numbers = none_pass (λ (n : ℕ). n < 2 ^ 32) (nat_lt 4294967295) ns below_long (none_told (list_any (nat_lt 4294967295) ns) (sequence_fault h.offset) both.1);
+      numbers = none_pass (λ (n : ℕ). n < 2 ^ 32) (nat_lt 4294967295) ns below_long (none_given (list_any (nat_lt 4294967295) ns) (sequence_fault h.offset) both.1);
     }
 
 pub room_to : (cut : Cut) (h : MoofBytes) (runs : List Run) (seq : ℕ) → HasRoomFor cut h runs seq → room_faults cut h runs seq ≡ []
@@ -151,4 +151,4 @@ unfolding room_faults
 room_to cut h runs seq has =
     let ns = numbers seq (piece_count cut h.bytes runs) in
     ap (λ (fs : List Fault). fs ++ sequence_faults h.offset ns) (fit_runs cut h.bytes runs has.indexes)
-    ∙ told_none (list_any (nat_lt 4294967295) ns) (sequence_fault h.offset) (pass_none (λ (n : ℕ). n < 2 ^ 32) (nat_lt 4294967295) ns number_fits has.numbers)
+    ∙ given_none (list_any (nat_lt 4294967295) ns) (sequence_fault h.offset) (pass_none (λ (n : ℕ). n < 2 ^ 32) (nat_lt 4294967295) ns number_fits has.numbers)

@@ -29,7 +29,7 @@ groups_most k [] = tt
 groups_most zero (p ∷ ps) = (take_most group_length (p ∷ ps), groups_most 65534 ps)
 groups_most (suc k) (p ∷ ps) = groups_most k ps
 
--- where a group begins behind the first k, there are more than k
+-- where a group begins after the first k, there are more than k
 more : {A : Type 0} (k : ℕ) (ps : List A) (g : List A) (gs : List (List A)) → groups_from k ps ≡ g ∷ gs → k < length ps
 unfolding groups_from
 more zero [] g gs e = absurd cc
@@ -54,7 +54,7 @@ groups_filled (suc k) (p ∷ ps) = groups_filled k ps
 pub groups_are : {A : Type 0} (ps : List A) → AreGroups ps (groups ps)
 groups_are ps = record { some = groups_some 0 ps; most = groups_most 0 ps; filled = groups_filled 0 ps; joined = groups_joined 0 ps }
 
--- the groups that begin behind the first k are those of the rest
+-- the groups that begin after the first k are those of the rest
 groups_past : {A : Type 0} (k : ℕ) (ps : List A) → groups_from k ps ≡ groups (drop k ps)
 unfolding groups_from
 groups_past zero ps = refl

@@ -17,7 +17,7 @@ use Rattle.mp4_pieces.specs.Cutting.{cut_by, cut_from}
 use Rattle.mp4_frag.specs.SyncSamples.{is_sync}
 use Rattle.mp4_pieces.specs.Fitting.{fits, fits_bytes, fits_sync}
 use Rattle.mp4_pieces.specs.Pieces.{cursor_after, composition_times, cut_rows, least_of, past_rows, piece_at, pieces_at}
-use Rattle.mp4_pieces.specs.Working.Growing.{Grows, grown, has_bytes, opened, pieces_left, takes, with_row}
+use Rattle.mp4_pieces.specs.Implementation.Growing.{Grows, grown, has_bytes, opened, pieces_left, takes, with_row}
 use Rattle.mp4_frag.specs.Cursors.{HasRoom}
 use Rattle.mp4_pieces.proofs.FitLemmas.{and_is, is_limit}
 
@@ -69,9 +69,9 @@ unfolding piece_at with_row
 with_row_is c x rows row =
     rw (length-append (x ∷ rows) (row ∷ []), sizes-more (x ∷ rows) row, durations-more (x ∷ rows) row, least_time c.time x rows row) refl
 
-pub behind_is : (c : Cursor) (rows : List Row) → cursor_after (piece_at c rows) ≡ past_rows c rows
+pub after_is : (c : Cursor) (rows : List Row) → cursor_after (piece_at c rows) ≡ past_rows c rows
 unfolding piece_at
-behind_is c rows = refl
+after_is c rows = refl
 
 -- ---- whether it fits
 
@@ -128,7 +128,7 @@ grown_is cut c x p (row ∷ rows) fit =
           (ap (λ (ps : List Piece). piece_at c (x ∷ p) ∷ ps)
           (grown_is cut (past_rows c (x ∷ p)) row [] rows ((is_limit cut).one row)
           ∙ ap (λ (q : Piece). grown cut q rows) (opened_is (past_rows c (x ∷ p)) row)
-          ∙ ap (λ (d : Cursor). grown cut (opened d row) rows) (sym (behind_is c (x ∷ p)))))
+          ∙ ap (λ (d : Cursor). grown cut (opened d row) rows) (sym (after_is c (x ∷ p)))))
     ]
 
 pub pieces_left_are : (cut : Cut) (c : Cursor) (rows : List Row) → pieces_at c (cut_rows cut rows) ≡ pieces_left cut c rows
@@ -158,8 +158,8 @@ with_row_grows p row rows h =
     let n : p.bytes + sizes (row ∷ rows) ≡ p.bytes + row.size + sizes rows = omega (arith, s) in
     record { row = omega (arith, r); time = omega (arith, d, t); low = h.low; high = subst (λ (n : ℕ). (p.place +ℤ pos n) <ℤ pos (2 ^ 63)) n h.high }
 
-pub behind_has_room : (p : Piece) (rows : List Row) → Grows p rows → HasRoom (cursor_after p) rows
-behind_has_room p rows h = record {
+pub after_has_room : (p : Piece) (rows : List Row) → Grows p rows → HasRoom (cursor_after p) rows
+after_has_room p rows h = record {
   row = h.row;
   time = h.time;
   low = low_on p.place p.bytes h.low;

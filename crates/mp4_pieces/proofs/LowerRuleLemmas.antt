@@ -1,4 +1,4 @@
--- Of what has no room the lower rule is told: that of an index.
+-- Where there is no room the lower rule is reported: that of an index.
 use Rattle.std.proofs.Common.{◌≡◌, ◌⊎◌, ℕ, Bool, true, false, cond, List, [], ◌∷◌, ◌++◌, Some, refl, sym, ap, subst, inl, inr}
 use Rattle.std.specs.Prelude.{◌&&◌}
 use Rattle.std.specs.List.{AllByRecursion, list_any}
@@ -26,15 +26,15 @@ in_first true g x (inr h) = absurd h
 in_first false g x h = absurd h
 
 -- the faults of indexes are of that rule
-of_index : (cut : Cut) (held : List ℕ) (runs : List Run) (g : Fault) → IsIn g (index_faults cut held runs) → g.rule ≡ IndexRange
+of_index : (cut : Cut) (moof_bytes : List ℕ) (runs : List Run) (g : Fault) → IsIn g (index_faults cut moof_bytes runs) → g.rule ≡ IndexRange
 unfolding IsIn
-of_index cut held [] g h = absurd h
-of_index cut held (run ∷ runs) g h = elim (in_either g (index_faults_of cut held run) (index_faults cut held runs) h) [
-  | inl here ↦ ap (λ (x : Fault). x.rule) (in_first (cut.index && passes_index (pieces_of cut held run)) g (index_fault run) here)
-  | inr later ↦ of_index cut held runs g later
+of_index cut moof_bytes [] g h = absurd h
+of_index cut moof_bytes (run ∷ runs) g h = elim (in_either g (index_faults_of cut moof_bytes run) (index_faults cut moof_bytes runs) h) [
+  | inl here ↦ ap (λ (x : Fault). x.rule) (in_first (cut.index && passes_index (pieces_of cut moof_bytes run)) g (index_fault run) here)
+  | inr later ↦ of_index cut moof_bytes runs g later
 ]
 
--- that of the numbers comes behind the first
+-- the fault of the numbers comes after the first
 of_number : (offset : ℕ) (ns : List ℕ) (f g : Fault) → f.rule ≡ IndexRange → IsIn g (sequence_faults offset ns) → comes_first f g ≡ true
 unfolding comes_first
 of_number offset ns f g e h =

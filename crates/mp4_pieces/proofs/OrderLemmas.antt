@@ -14,8 +14,8 @@ use Rattle.mp4_pieces.specs.Rooms.{numbers}
 all_kept : (P : Run → Type 0) (xs ys : List Run) → IsPermutation xs ys → AllByRecursion P xs → AllByRecursion P ys
 all_kept P xs ys same all = recursion_from_All P ys (All-permutation P xs ys same (All-from_recursion P xs all))
 
-pub count_kept : (cut : Cut) (held : List ℕ) (xs ys : List Run) → IsPermutation xs ys → piece_count cut held ys ≡ piece_count cut held xs
-count_kept cut held xs ys same = sum_by-IsPermutation (λ (run : Run). length (pieces_of cut held run)) xs ys same
+pub count_kept : (cut : Cut) (moof_bytes : List ℕ) (xs ys : List Run) → IsPermutation xs ys → piece_count cut moof_bytes ys ≡ piece_count cut moof_bytes xs
+count_kept cut moof_bytes xs ys same = sum_by-IsPermutation (λ (run : Run). length (pieces_of cut moof_bytes run)) xs ys same
 
 pub room_kept : (cut : Cut) (h : MoofBytes) (xs ys : List Run) (seq : ℕ) → IsPermutation xs ys → HasRoomFor cut h xs seq → HasRoomFor cut h ys seq
 room_kept cut h xs ys seq same has = record {

@@ -1,4 +1,4 @@
--- The pieces of a run are pieces of it, and behind each the run goes on.
+-- The pieces of a run are pieces of it, and after each the run goes on.
 use Rattle.std.proofs.Common.{◌≡◌, ℕ, ℤ, suc, pos, ◌<◌, ◌≤◌, ◌+◌, ◌^◌, List, [], ◌∷◌, ◌++◌, length, take, drop, refl, sym, ap, subst, ◌∙◌, arith, inl, inr}
 use Rattle.std.specs.Prelude.{◌+ℤ◌, ◌≤ℤ◌, ◌<ℤ◌}
 use Rattle.std.specs.Int.{int_min}
@@ -52,19 +52,19 @@ drop_on xs i q rest h e =
 
 -- ---- cursors
 
-cursor_is : (held : List ℕ) (run : Run) (c : Cursor) → IsCursor run held c → cursor_at held run c.row ≡ c
-cursor_is held run c at =
-    let n : length (take c.row (rows_of run held)) ≡ c.row = taken_len (rows_of run held) c.row (omega (arith, at.row, length_rows_of run held)) in
-    let row : 0 + length (take c.row (rows_of run held)) ≡ c.row = omega (arith, n) in
+cursor_is : (moof_bytes : List ℕ) (run : Run) (c : Cursor) → IsCursor run moof_bytes c → cursor_at moof_bytes run c.row ≡ c
+cursor_is moof_bytes run c at =
+    let n : length (take c.row (rows_of run moof_bytes)) ≡ c.row = taken_len (rows_of run moof_bytes) c.row (omega (arith, at.row, length_rows_of run moof_bytes)) in
+    let row : 0 + length (take c.row (rows_of run moof_bytes)) ≡ c.row = omega (arith, n) in
     rw (row, ← at.time, ← at.place) refl
 
 moved : (x y z : ℤ) (n m : ℕ) → x ≡ y +ℤ pos n → x +ℤ pos m ≡ y +ℤ pos (n + m)
 moved x y z n m e = omega (arith, ints, e)
 
-cursor_on : (held : List ℕ) (run : Run) (c : Cursor) (q rest : List Row) → IsCursor run held c → drop c.row (rows_of run held) ≡ q ++ rest → IsCursor run held (past_rows c q)
-cursor_on held run c q rest at e =
-    let rows : List Row = rows_of run held in
-    let n : length rows ≡ run.count = length_rows_of run held in
+cursor_on : (moof_bytes : List ℕ) (run : Run) (c : Cursor) (q rest : List Row) → IsCursor run moof_bytes c → drop c.row (rows_of run moof_bytes) ≡ q ++ rest → IsCursor run moof_bytes (past_rows c q)
+cursor_on moof_bytes run c q rest at e =
+    let rows : List Row = rows_of run moof_bytes in
+    let n : length rows ≡ run.count = length_rows_of run moof_bytes in
     let low = at.row in
     let time = at.time in
     let taken : take (c.row + length q) rows ≡ take c.row rows ++ q = take_on rows c.row q rest (omega (arith, low, n)) e in
@@ -78,66 +78,66 @@ cursor_on held run c q rest at e =
 
 -- ---- one piece, and what follows it
 
-is_piece : (held : List ℕ) (run : Run) (c : Cursor) (q rest : List Row) → IsCursor run held c → 0 < length q → drop c.row (rows_of run held) ≡ q ++ rest → IsPieceOf held run (piece_at c q)
+is_piece : (moof_bytes : List ℕ) (run : Run) (c : Cursor) (q rest : List Row) → IsCursor run moof_bytes c → 0 < length q → drop c.row (rows_of run moof_bytes) ≡ q ++ rest → IsPieceOf moof_bytes run (piece_at c q)
 unfolding piece_at
-is_piece held run c q rest at some e =
-    let rows : List Row = rows_of run held in
+is_piece moof_bytes run c q rest at some e =
+    let rows : List Row = rows_of run moof_bytes in
     let low = at.row in
     let here : take (length q) (drop c.row rows) ≡ q = ap (take (length q)) e ∙ take-append_seam q rest in
     record {
       some = some;
-      within = omega (arith, low, length_rows_of run held, length-drop c.row rows, ap length e, length-append q rest);
-      is = ap (λ (d : Cursor). piece_at d q) (sym (cursor_is held run c at)) ∙ ap (λ (ys : List Row). piece_at (cursor_at held run c.row) ys) (sym here);
+      within = omega (arith, low, length_rows_of run moof_bytes, length-drop c.row rows, ap length e, length-append q rest);
+      is = ap (λ (d : Cursor). piece_at d q) (sym (cursor_is moof_bytes run c at)) ∙ ap (λ (ys : List Row). piece_at (cursor_at moof_bytes run c.row) ys) (sym here);
     }
 
-followed : (cut : Cut) (held : List ℕ) (run : Run) (c : Cursor) (q : List Row) (qs : List (List Row)) → IsCursor run held c → ArePieces (fits cut) (drop c.row (rows_of run held)) (q ∷ qs)
-    → IsFollowedBy cut held run (piece_at c q) (pieces_at (past_rows c q) qs)
+followed : (cut : Cut) (moof_bytes : List ℕ) (run : Run) (c : Cursor) (q : List Row) (qs : List (List Row)) → IsCursor run moof_bytes c → ArePieces (fits cut) (drop c.row (rows_of run moof_bytes)) (q ∷ qs)
+    → IsFollowedBy cut moof_bytes run (piece_at c q) (pieces_at (past_rows c q) qs)
 unfolding piece_at
-followed cut held run c q qs at are =
-    let rows : List Row = rows_of run held in
+followed cut moof_bytes run c q qs at are =
+    let rows : List Row = rows_of run moof_bytes in
     let low = at.row in
     let e : drop c.row rows ≡ q ++ join qs = sym are.joined in
-    let rest : drop (c.row + length q) rows ≡ join qs = drop_on rows c.row q (join qs) (omega (arith, low, length_rows_of run held)) e in
+    let rest : drop (c.row + length q) rows ≡ join qs = drop_on rows c.row q (join qs) (omega (arith, low, length_rows_of run moof_bytes)) e in
     let same : qs ≡ cut_rows cut (join qs) = pieces_only (fits cut) (join qs) qs (is_limit cut) (record { some = are.some.1; joined = refl; fit = are.fit.1; full = are.full.1 }) in
     record {
-      piece = is_piece held run c q (join qs) at are.some.0 e;
-      cursor = cursor_on held run c q (join qs) at e;
+      piece = is_piece moof_bytes run c q (join qs) at are.some.0 e;
+      cursor = cursor_on moof_bytes run c q (join qs) at e;
       rest = ap (λ (ys : List Row). pieces_at (past_rows c q) (cut_rows cut ys)) rest ∙ ap (pieces_at (past_rows c q)) (sym same);
     }
 
 cons_is : {A : Type 0} (x y : A) (xs ys : List A) → x ∷ xs ≡ y ∷ ys → (x ≡ y) × (xs ≡ ys)
 cons_is x y xs ys e = (cc, cc)
 
-pub goes_on : (cut : Cut) (held : List ℕ) (run : Run) (c : Cursor) (p : Piece) (ps : List Piece) → IsCursor run held c → pieces_from cut held run c ≡ p ∷ ps → IsFollowedBy cut held run p ps
+pub goes_on : (cut : Cut) (moof_bytes : List ℕ) (run : Run) (c : Cursor) (p : Piece) (ps : List Piece) → IsCursor run moof_bytes c → pieces_from cut moof_bytes run c ≡ p ∷ ps → IsFollowedBy cut moof_bytes run p ps
 unfolding pieces_at
-goes_on cut held run c p ps at e = by (cut_rows cut (drop c.row (rows_of run held))) (pieces_are (fits cut) (drop c.row (rows_of run held)) (is_limit cut)) e
+goes_on cut moof_bytes run c p ps at e = by (cut_rows cut (drop c.row (rows_of run moof_bytes))) (pieces_are (fits cut) (drop c.row (rows_of run moof_bytes)) (is_limit cut)) e
   where
-    by : (parts : List (List Row)) → ArePieces (fits cut) (drop c.row (rows_of run held)) parts → pieces_at c parts ≡ p ∷ ps → IsFollowedBy cut held run p ps
+    by : (parts : List (List Row)) → ArePieces (fits cut) (drop c.row (rows_of run moof_bytes)) parts → pieces_at c parts ≡ p ∷ ps → IsFollowedBy cut moof_bytes run p ps
     by [] are e = absurd cc
     by (q ∷ qs) are e =
         let both = cons_is (piece_at c q) p (pieces_at (past_rows c q) qs) ps e in
-        subst (λ (x : Piece). IsFollowedBy cut held run x ps) both.0 (subst (λ (xs : List Piece). IsFollowedBy cut held run (piece_at c q) xs) both.1 (followed cut held run c q qs at are))
+        subst (λ (x : Piece). IsFollowedBy cut moof_bytes run x ps) both.0 (subst (λ (xs : List Piece). IsFollowedBy cut moof_bytes run (piece_at c q) xs) both.1 (followed cut moof_bytes run c q qs at are))
 
 -- ---- all pieces
 
-all_pieces : (cut : Cut) (held : List ℕ) (run : Run) (ps : List Piece) (c : Cursor) → IsCursor run held c → pieces_from cut held run c ≡ ps → AllByRecursion (IsPieceOf held run) ps
-all_pieces cut held run [] c at e = tt
-all_pieces cut held run (p ∷ ps) c at e =
-    let next = goes_on cut held run c p ps at e in
-    (next.piece, all_pieces cut held run ps (cursor_after p) next.cursor next.rest)
+all_pieces : (cut : Cut) (moof_bytes : List ℕ) (run : Run) (ps : List Piece) (c : Cursor) → IsCursor run moof_bytes c → pieces_from cut moof_bytes run c ≡ ps → AllByRecursion (IsPieceOf moof_bytes run) ps
+all_pieces cut moof_bytes run [] c at e = tt
+all_pieces cut moof_bytes run (p ∷ ps) c at e =
+    let next = goes_on cut moof_bytes run c p ps at e in
+    (next.piece, all_pieces cut moof_bytes run ps (cursor_after p) next.cursor next.rest)
 
-pub pieces_are_of : (cut : Cut) (held : List ℕ) (run : Run) → AllByRecursion (IsPieceOf held run) (pieces_of cut held run)
-pieces_are_of cut held run = all_pieces cut held run (pieces_of cut held run) (first_cursor run) (cursor_first run held) refl
+pub pieces_are_of : (cut : Cut) (moof_bytes : List ℕ) (run : Run) → AllByRecursion (IsPieceOf moof_bytes run) (pieces_of cut moof_bytes run)
+pieces_are_of cut moof_bytes run = all_pieces cut moof_bytes run (pieces_of cut moof_bytes run) (first_cursor run) (cursor_first run moof_bytes) refl
 
 -- ---- where a piece ends
 
 high_on : (z y : ℤ) (n m all : ℕ) → y ≡ z +ℤ pos n → n + m ≤ all → (z +ℤ pos all) <ℤ pos (2 ^ 63) → (y +ℤ pos m) <ℤ pos (2 ^ 63)
 high_on z y n m all e sum h = omega (arith, ints, e, sum, h)
 
-ends_at : (held : List ℕ) (run : Run) (i n : ℕ) → IsRunOf held run → i + n ≤ run.count → EndsInRange (piece_at (cursor_at held run i) (take n (drop i (rows_of run held))))
+ends_at : (moof_bytes : List ℕ) (run : Run) (i n : ℕ) → IsRunOf moof_bytes run → i + n ≤ run.count → EndsInRange (piece_at (cursor_at moof_bytes run i) (take n (drop i (rows_of run moof_bytes))))
 unfolding piece_at
-ends_at held run i n of within =
-    let rows : List Row = rows_of run held in
+ends_at moof_bytes run i n of within =
+    let rows : List Row = rows_of run moof_bytes in
     let few = of.few in
     let end = of.end in
     let bytes = of.bytes in
@@ -146,15 +146,15 @@ ends_at held run i n of within =
     let more_ticks = sum_by-take-le (λ (r : Row). r.duration) (drop i rows) n in
     let size = sum_by-take-drop (λ (r : Row). r.size) rows i in
     let more_size = sum_by-take-le (λ (r : Row). r.size) (drop i rows) n in
-    let len = length_rows_of run held in
+    let len = length_rows_of run moof_bytes in
     record {
       row = omega (arith, few, within, length-take n (drop i rows), length-drop i rows, length-take i rows, len);
       time = omega (arith, end, range, ticks, more_ticks);
       place = high_on run.place (run.place +ℤ pos (sizes (take i rows))) (sizes (take i rows)) (sizes (take n (drop i rows))) run.bytes refl (omega (arith, bytes, size, more_size)) of.range.high;
     }
 
-pub piece_ends : (held : List ℕ) (run : Run) (p : Piece) → IsRunOf held run → IsPieceOf held run p → EndsInRange p
-piece_ends held run p of is = subst EndsInRange (sym is.is) (ends_at held run p.first p.count of is.within)
+pub piece_ends : (moof_bytes : List ℕ) (run : Run) (p : Piece) → IsRunOf moof_bytes run → IsPieceOf moof_bytes run p → EndsInRange p
+piece_ends moof_bytes run p of is = subst EndsInRange (sym is.is) (ends_at moof_bytes run p.first p.count of is.within)
 
 -- ---- the least composition time
 
@@ -179,14 +179,14 @@ least_at : (c : Cursor) (rows : List Row) → 0 < length rows → IsLeastOf (com
 unfolding piece_at
 least_at c rows h = least_of_all (composition_times c.time rows) (omega (arith, h, length_times c.time rows))
 
-pub least_is : (held : List ℕ) (run : Run) (p : Piece) → IsPieceOf held run p → IsLeastOf (composition_times p.time (rows_in held run p)) p.least
+pub least_is : (moof_bytes : List ℕ) (run : Run) (p : Piece) → IsPieceOf moof_bytes run p → IsLeastOf (composition_times p.time (rows_in moof_bytes run p)) p.least
 unfolding piece_at
-least_is held run p is =
-    let c : Cursor = cursor_at held run p.first in
-    let rows : List Row = rows_in held run p in
+least_is moof_bytes run p is =
+    let c : Cursor = cursor_at moof_bytes run p.first in
+    let rows : List Row = rows_in moof_bytes run p in
     let some = is.some in
     let within = is.within in
     let time : p.time ≡ c.time = ap (λ (x : Piece). x.time) is.is in
     let least : p.least ≡ (piece_at c rows).least = ap (λ (x : Piece). x.least) is.is in
-    let len : 0 < length rows = omega (arith, some, within, length-take p.count (drop p.first (rows_of run held)), length-drop p.first (rows_of run held), length_rows_of run held) in
+    let len : 0 < length rows = omega (arith, some, within, length-take p.count (drop p.first (rows_of run moof_bytes)), length-drop p.first (rows_of run moof_bytes), length_rows_of run moof_bytes) in
     subst (λ (t : ℕ). IsLeastOf (composition_times t rows) p.least) (sym time) (subst (IsLeastOf (composition_times c.time rows)) (sym least) (least_at c rows len))

@@ -21,11 +21,11 @@ use Rattle.mp4_pieces.proofs.PieceLemmas.{goes_on}
 
 -- ---- a piece without its least composition time
 
-pub plain_is : (held : List ℕ) (run : Run) (p : Piece) → IsPieceOf held run p → piece_of held run (plain_of p) ≡ p
+pub plain_is : (moof_bytes : List ℕ) (run : Run) (p : Piece) → IsPieceOf moof_bytes run p → piece_of moof_bytes run (plain_of p) ≡ p
 unfolding piece_at
-plain_is held run p is =
-    let rows : List Row = rows_in held run p in
-    let c : Cursor = cursor_at held run p.first in
+plain_is moof_bytes run p is =
+    let rows : List Row = rows_in moof_bytes run p in
+    let c : Cursor = cursor_at moof_bytes run p.first in
     let time : p.time ≡ c.time = ap (λ (x : Piece). x.time) is.is in
     let least : p.least ≡ least_of (composition_times c.time rows) = ap (λ (x : Piece). x.least) is.is in
     let same : least_of (composition_times p.time rows) ≡ p.least = ap (λ (t : ℕ). least_of (composition_times t rows)) time ∙ sym least in
@@ -35,11 +35,11 @@ plain_is held run p is =
     with_least e = rw e refl
 
 -- what is found of a piece holds of it without its least composition time
-pub plain_first : (cut : Cut) (held : List ℕ) (run : Run) (c : Cursor) (p : Piece) (ps : List Piece) → IsCursor run held c → pieces_from cut held run c ≡ p ∷ ps
-    → pieces_from cut held run c ≡ piece_of held run (plain_of p) ∷ pieces_from cut held run (plain_end (plain_of p))
-plain_first cut held run c p ps at e =
-    let next = goes_on cut held run c p ps at e in
-    e ∙ ap (λ (x : Piece). x ∷ ps) (sym (plain_is held run p next.piece)) ∙ ap (λ (xs : List Piece). piece_of held run (plain_of p) ∷ xs) (sym next.rest)
+pub plain_first : (cut : Cut) (moof_bytes : List ℕ) (run : Run) (c : Cursor) (p : Piece) (ps : List Piece) → IsCursor run moof_bytes c → pieces_from cut moof_bytes run c ≡ p ∷ ps
+    → pieces_from cut moof_bytes run c ≡ piece_of moof_bytes run (plain_of p) ∷ pieces_from cut moof_bytes run (plain_end (plain_of p))
+plain_first cut moof_bytes run c p ps at e =
+    let next = goes_on cut moof_bytes run c p ps at e in
+    e ∙ ap (λ (x : Piece). x ∷ ps) (sym (plain_is moof_bytes run p next.piece)) ∙ ap (λ (xs : List Piece). piece_of moof_bytes run (plain_of p) ∷ xs) (sym next.rest)
 
 at_none : (c : Cursor) (q : List (List Row)) → pieces_at c q ≡ [] → q ≡ []
 unfolding pieces_at
@@ -47,11 +47,11 @@ at_none c [] e = refl
 at_none c (x ∷ q) e = absurd cc
 
 -- where rows are left there is a first piece
-pub some_first : (cut : Cut) (held : List ℕ) (run : Run) (c : Cursor) → c.row < run.count → pieces_from cut held run c ≡ [] → ⊥
-some_first cut held run c h e =
-    let rows : List Row = drop c.row (rows_of run held) in
+pub some_first : (cut : Cut) (moof_bytes : List ℕ) (run : Run) (c : Cursor) → c.row < run.count → pieces_from cut moof_bytes run c ≡ [] → ⊥
+some_first cut moof_bytes run c h e =
+    let rows : List Row = drop c.row (rows_of run moof_bytes) in
     let none : [] ≡ rows = sym (ap join (at_none c (cut_rows cut rows) e)) ∙ (pieces_are (fits cut) rows (is_limit cut)).joined in
-    absurd (omega (arith, ap length none, length-drop c.row (rows_of run held), length_rows_of run held, h))
+    absurd (omega (arith, ap length none, length-drop c.row (rows_of run moof_bytes), length_rows_of run moof_bytes, h))
 
 -- ---- where only the number of samples bounds a piece
 
@@ -122,33 +122,33 @@ take_len zero xs = refl
 take_len (suc n) [] = refl
 take_len (suc n) (x ∷ xs) = ap (λ l. x ∷ l) (take_len n xs)
 
-piece_is : (held : List ℕ) (run : Run) (c : Cursor) (count bytes ticks : ℕ) (q : List Row) → take count (drop c.row (rows_of run held)) ≡ q → count ≡ length q → bytes ≡ sizes q → ticks ≡ durations q
-    → piece_of held run (plain_at c count bytes ticks) ≡ piece_at c q
+piece_is : (moof_bytes : List ℕ) (run : Run) (c : Cursor) (count bytes ticks : ℕ) (q : List Row) → take count (drop c.row (rows_of run moof_bytes)) ≡ q → count ≡ length q → bytes ≡ sizes q → ticks ≡ durations q
+    → piece_of moof_bytes run (plain_at c count bytes ticks) ≡ piece_at c q
 unfolding piece_at
-piece_is held run c count bytes ticks q same len size ticks_are = rw (same, len, size, ticks_are) refl
+piece_is moof_bytes run c count bytes ticks q same len size ticks_are = rw (same, len, size, ticks_are) refl
 
--- a piece of these samples, and those behind it
-followed_by : (cut : Cut) (held : List ℕ) (run : Run) (c : Cursor) (x : Piece) (q : List Row) (rest : List (List Row)) → IsCursor run held c → cut_rows cut (drop c.row (rows_of run held)) ≡ q ∷ rest → x ≡ piece_at c q → pieces_from cut held run c ≡ x ∷ pieces_from cut held run (cursor_after x)
+-- a piece of these samples, and those after it
+followed_by : (cut : Cut) (moof_bytes : List ℕ) (run : Run) (c : Cursor) (x : Piece) (q : List Row) (rest : List (List Row)) → IsCursor run moof_bytes c → cut_rows cut (drop c.row (rows_of run moof_bytes)) ≡ q ∷ rest → x ≡ piece_at c q → pieces_from cut moof_bytes run c ≡ x ∷ pieces_from cut moof_bytes run (cursor_after x)
 unfolding pieces_at
-followed_by cut held run c x q rest at found is =
+followed_by cut moof_bytes run c x q rest at found is =
     let ps : List Piece = pieces_at (past_rows c q) rest in
-    let e : pieces_from cut held run c ≡ x ∷ ps = ap (pieces_at c) found ∙ ap (λ (y : Piece). y ∷ ps) (sym is) in
-    e ∙ ap (λ (xs : List Piece). x ∷ xs) (sym (goes_on cut held run c x ps at e).rest)
+    let e : pieces_from cut moof_bytes run c ≡ x ∷ ps = ap (pieces_at c) found ∙ ap (λ (y : Piece). y ∷ ps) (sym is) in
+    e ∙ ap (λ (xs : List Piece). x ∷ xs) (sym (goes_on cut moof_bytes run c x ps at e).rest)
 
 -- the first piece has as many samples as it may, or all that are left
-pub first_counted : (cut : Cut) (held : List ℕ) (run : Run) (c : Cursor) (count bytes ticks : ℕ) → cut.bytes ≡ None → cut.sync ≡ false → 0 < cut.samples → IsCursor run held c → c.row < run.count
+pub first_counted : (cut : Cut) (moof_bytes : List ℕ) (run : Run) (c : Cursor) (count bytes ticks : ℕ) → cut.bytes ≡ None → cut.sync ≡ false → 0 < cut.samples → IsCursor run moof_bytes c → c.row < run.count
     → count ≤ cut.samples → count + c.row ≤ run.count → (count < cut.samples → count + c.row ≡ run.count)
-    → bytes ≡ sizes (take count (drop c.row (rows_of run held))) → ticks ≡ durations (take count (drop c.row (rows_of run held)))
-    → pieces_from cut held run c
-    ≡ piece_of held run (plain_at c count bytes ticks)
-    ∷ pieces_from cut held run (plain_end (plain_at c count bytes ticks))
-first_counted cut held run c count bytes ticks b s some at h few within all bytes_are ticks_are =
-    let rows : List Row = drop c.row (rows_of run held) in
-    let n : length rows ≡ run.count - c.row = length-drop c.row (rows_of run held) ∙ omega (arith, length_rows_of run held) in
+    → bytes ≡ sizes (take count (drop c.row (rows_of run moof_bytes))) → ticks ≡ durations (take count (drop c.row (rows_of run moof_bytes)))
+    → pieces_from cut moof_bytes run c
+    ≡ piece_of moof_bytes run (plain_at c count bytes ticks)
+    ∷ pieces_from cut moof_bytes run (plain_end (plain_at c count bytes ticks))
+first_counted cut moof_bytes run c count bytes ticks b s some at h few within all bytes_are ticks_are =
+    let rows : List Row = drop c.row (rows_of run moof_bytes) in
+    let n : length rows ≡ run.count - c.row = length-drop c.row (rows_of run moof_bytes) ∙ omega (arith, length_rows_of run moof_bytes) in
     let q : List Row = take cut.samples rows in
     let taken = length-take cut.samples rows in
     let len : count ≡ length q = elim (cases_lt count cut.samples) [ inl less ↦ omega (arith, taken, n, all less, h) | inr more ↦ omega (arith, taken, n, few, within, more) ] in
     let same : take count rows ≡ q = ap (λ (k : ℕ). take k rows) len ∙ take_len cut.samples rows in
     let found = counted_rows cut rows b s some (omega (arith, n, h)) in
-    let is = piece_is held run c count bytes ticks q same len (bytes_are ∙ ap sizes same) (ticks_are ∙ ap durations same) in
-    followed_by cut held run c (piece_of held run (plain_at c count bytes ticks)) q found.0 at found.1 is
+    let is = piece_is moof_bytes run c count bytes ticks q same len (bytes_are ∙ ap sizes same) (ticks_are ∙ ap durations same) in
+    followed_by cut moof_bytes run c (piece_of moof_bytes run (plain_at c count bytes ticks)) q found.0 at found.1 is

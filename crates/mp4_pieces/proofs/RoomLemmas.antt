@@ -28,7 +28,7 @@ use Rattle.mp4_pieces.specs.Fitting.{fits}
 use Rattle.mp4_pieces.specs.Groups.{groups_from}
 use Rattle.mp4_pieces.specs.Pieces.{cut_rows, past_rows, piece_count, pieces_at, pieces_of}
 use Rattle.mp4_pieces.specs.Rooms.{index_faults, index_faults_of, numbers, passes_reference, passes_time, room_fault, room_faults, sequence_faults}
-use Rattle.mp4_pieces.specs.Working.Rooming.{check_past, passes_from}
+use Rattle.mp4_pieces.specs.Implementation.Rooming.{check_past, passes_from}
 
 bool_is : (b : Bool) → (b ≡ true) ⊎ (b ≡ false)
 bool_is true = inl refl
@@ -89,21 +89,21 @@ unfolding cut_by
 few_by fits [] = omega arith
 few_by fits (x ∷ xs) = few_from fits (x ∷ []) xs
 
-pub few_pieces : (cut : Cut) (held : List ℕ) (run : Run) → length (pieces_of cut held run) ≤ run.count
-few_pieces cut held run =
-    let rows : List Row = drop 0 (rows_of run held) in
-    omega (arith, length_pieces (first_cursor run) (cut_rows cut rows), few_by (fits cut) rows, length-drop 0 (rows_of run held), length_rows_of run held)
+pub few_pieces : (cut : Cut) (moof_bytes : List ℕ) (run : Run) → length (pieces_of cut moof_bytes run) ≤ run.count
+few_pieces cut moof_bytes run =
+    let rows : List Row = drop 0 (rows_of run moof_bytes) in
+    omega (arith, length_pieces (first_cursor run) (cut_rows cut rows), few_by (fits cut) rows, length-drop 0 (rows_of run moof_bytes), length_rows_of run moof_bytes)
 
-count-cons : (cut : Cut) (held : List ℕ) (run : Run) (runs : List Run) → piece_count cut held (run ∷ runs) ≡ length (pieces_of cut held run) + piece_count cut held runs
-count-cons cut held run runs = sum_by-cons (λ (r : Run). length (pieces_of cut held r)) run runs
+count-cons : (cut : Cut) (moof_bytes : List ℕ) (run : Run) (runs : List Run) → piece_count cut moof_bytes (run ∷ runs) ≡ length (pieces_of cut moof_bytes run) + piece_count cut moof_bytes runs
+count-cons cut moof_bytes run runs = sum_by-cons (λ (r : Run). length (pieces_of cut moof_bytes r)) run runs
 
-pub count-append : (cut : Cut) (held : List ℕ) (xs ys : List Run) → piece_count cut held (xs ++ ys) ≡ piece_count cut held xs + piece_count cut held ys
-count-append cut held xs ys = sum_by-append (λ (r : Run). length (pieces_of cut held r)) xs ys
+pub count-append : (cut : Cut) (moof_bytes : List ℕ) (xs ys : List Run) → piece_count cut moof_bytes (xs ++ ys) ≡ piece_count cut moof_bytes xs + piece_count cut moof_bytes ys
+count-append cut moof_bytes xs ys = sum_by-append (λ (r : Run). length (pieces_of cut moof_bytes r)) xs ys
 
-count_few : (cut : Cut) (held : List ℕ) (runs : List Run) → piece_count cut held runs ≤ length (flat_map (λ (run : Run). rows_of run held) runs)
-count_few cut held [] = omega arith
-count_few cut held (run ∷ runs) =
-    omega (arith, count-cons cut held run runs, few_pieces cut held run, length_rows_of run held, length-append (rows_of run held) (flat_map (λ (run : Run). rows_of run held) runs), count_few cut held runs)
+count_few : (cut : Cut) (moof_bytes : List ℕ) (runs : List Run) → piece_count cut moof_bytes runs ≤ length (flat_map (λ (run : Run). rows_of run moof_bytes) runs)
+count_few cut moof_bytes [] = omega arith
+count_few cut moof_bytes (run ∷ runs) =
+    omega (arith, count-cons cut moof_bytes run runs, few_pieces cut moof_bytes run, length_rows_of run moof_bytes, length-append (rows_of run moof_bytes) (flat_map (λ (run : Run). rows_of run moof_bytes) runs), count_few cut moof_bytes runs)
 
 pub moof_count_few : (cut : Cut) (h : MoofBytes) (tracks : List Track) → piece_count cut h.bytes (moof_runs h tracks) ≤ moof_samples h
 moof_count_few cut h tracks = omega (arith, count_few cut h.bytes (moof_runs h tracks), rows_are_samples h tracks)
@@ -128,38 +128,38 @@ past_last seq (suc n) h =
 
 -- ---- run by run
 
-pub faults-append : (cut : Cut) (held : List ℕ) (xs ys : List Run) → index_faults cut held (xs ++ ys) ≡ index_faults cut held xs ++ index_faults cut held ys
-faults-append cut held xs ys = flat_map-append (index_faults_of cut held) xs ys
+pub faults-append : (cut : Cut) (moof_bytes : List ℕ) (xs ys : List Run) → index_faults cut moof_bytes (xs ++ ys) ≡ index_faults cut moof_bytes xs ++ index_faults cut moof_bytes ys
+faults-append cut moof_bytes xs ys = flat_map-append (index_faults_of cut moof_bytes) xs ys
 
 -- some of the runs that are left were gone over
-pub best_past : (cut : Cut) (held : List ℕ) (left xs ys : List Run) (best new : Option Fault) → left ≡ xs ++ ys → new ≡ least_from best (index_faults cut held xs) → least_from new (index_faults cut held ys) ≡ least_from best (index_faults cut held left)
-best_past cut held left xs ys best new e is =
-    ap (λ (b : Option Fault). least_from b (index_faults cut held ys)) is
-    ∙ sym (least_from_append best (index_faults cut held xs) (index_faults cut held ys))
-    ∙ ap (least_from best) (sym (faults-append cut held xs ys))
-    ∙ ap (λ (zs : List Run). least_from best (index_faults cut held zs)) (sym e)
+pub best_past : (cut : Cut) (moof_bytes : List ℕ) (left xs ys : List Run) (best new : Option Fault) → left ≡ xs ++ ys → new ≡ least_from best (index_faults cut moof_bytes xs) → least_from new (index_faults cut moof_bytes ys) ≡ least_from best (index_faults cut moof_bytes left)
+best_past cut moof_bytes left xs ys best new e is =
+    ap (λ (b : Option Fault). least_from b (index_faults cut moof_bytes ys)) is
+    ∙ sym (least_from_append best (index_faults cut moof_bytes xs) (index_faults cut moof_bytes ys))
+    ∙ ap (least_from best) (sym (faults-append cut moof_bytes xs ys))
+    ∙ ap (λ (zs : List Run). least_from best (index_faults cut moof_bytes zs)) (sym e)
 
-pub count_past : (cut : Cut) (held : List ℕ) (left xs ys : List Run) (all sum n : ℕ) → left ≡ xs ++ ys → sum + piece_count cut held left ≡ all → n ≡ piece_count cut held xs → sum + n + piece_count cut held ys ≡ all
-count_past cut held left xs ys all sum n e so is = omega (arith, so, is, ap (piece_count cut held) e, count-append cut held xs ys)
+pub count_past : (cut : Cut) (moof_bytes : List ℕ) (left xs ys : List Run) (all sum n : ℕ) → left ≡ xs ++ ys → sum + piece_count cut moof_bytes left ≡ all → n ≡ piece_count cut moof_bytes xs → sum + n + piece_count cut moof_bytes ys ≡ all
+count_past cut moof_bytes left xs ys all sum n e so is = omega (arith, so, is, ap (piece_count cut moof_bytes) e, count-append cut moof_bytes xs ys)
 
-pub best_end : (cut : Cut) (held : List ℕ) (left : List Run) (best all : Option Fault) → left ≡ [] → least_from best (index_faults cut held left) ≡ all → best ≡ all
+pub best_end : (cut : Cut) (moof_bytes : List ℕ) (left : List Run) (best all : Option Fault) → left ≡ [] → least_from best (index_faults cut moof_bytes left) ≡ all → best ≡ all
 unfolding least_from
-best_end cut held left best all e is = sym (ap (λ (zs : List Run). least_from best (index_faults cut held zs)) e) ∙ is
+best_end cut moof_bytes left best all e is = sym (ap (λ (zs : List Run). least_from best (index_faults cut moof_bytes zs)) e) ∙ is
 
 -- one run by itself
-pub count_one : (cut : Cut) (held : List ℕ) (run : Run) → piece_count cut held (run ∷ []) ≡ length (pieces_of cut held run)
-count_one cut held run = omega (arith, count-cons cut held run [])
+pub count_one : (cut : Cut) (moof_bytes : List ℕ) (run : Run) → piece_count cut moof_bytes (run ∷ []) ≡ length (pieces_of cut moof_bytes run)
+count_one cut moof_bytes run = omega (arith, count-cons cut moof_bytes run [])
 
-pub faults_one : (cut : Cut) (held : List ℕ) (run : Run) → index_faults cut held (run ∷ []) ≡ index_faults_of cut held run
-faults_one cut held run = append-nil (index_faults_of cut held run)
+pub faults_one : (cut : Cut) (moof_bytes : List ℕ) (run : Run) → index_faults cut moof_bytes (run ∷ []) ≡ index_faults_of cut moof_bytes run
+faults_one cut moof_bytes run = append-nil (index_faults_of cut moof_bytes run)
 
 -- ---- all of a moof
 
-pub fault_is : (cut : Cut) (h : MoofBytes) (held : List ℕ) (runs : List Run) (seq count offset : ℕ) (first best : Option Fault) → held ≡ h.bytes → first ≡ least_from None (index_faults cut held runs) → count ≡ piece_count cut held runs → offset ≡ h.offset
+pub fault_is : (cut : Cut) (h : MoofBytes) (moof_bytes : List ℕ) (runs : List Run) (seq count offset : ℕ) (first best : Option Fault) → moof_bytes ≡ h.bytes → first ≡ least_from None (index_faults cut moof_bytes runs) → count ≡ piece_count cut moof_bytes runs → offset ≡ h.offset
     → best ≡ least_from first (sequence_faults offset (numbers seq count)) → best ≡ room_fault cut h runs seq
 unfolding room_faults
-fault_is cut h held runs seq count offset first best at is n o told =
-    told
+fault_is cut h moof_bytes runs seq count offset first best at is n o given =
+    given
     ∙ ap (λ (k : ℕ). least_from first (sequence_faults k (numbers seq count))) o
     ∙ ap (λ (k : ℕ). least_from first (sequence_faults h.offset (numbers seq k))) (n ∙ ap (λ (xs : List ℕ). piece_count cut xs runs) at)
     ∙ ap (λ (b : Option Fault). least_from b (sequence_faults h.offset (numbers seq (piece_count cut h.bytes runs)))) (is ∙ ap (λ (xs : List ℕ). least_from None (index_faults cut xs runs)) at)

@@ -11,12 +11,12 @@ use Rattle.mp4_pieces.specs.declared.piece.Piece.{Piece}
 use Rattle.mp4_pieces.specs.Pieces.{IsPieceOf, piece_at, rows_in}
 use Rattle.mp4_frag.specs.Ranges.{IsRunOf}
 
-module _ (held : List ℕ) (run : Run) (p : Piece) (is : IsRunOf held run) (of : IsPieceOf held run p) where
-  place_is : p.place ≡ run.place +ℤ pos (sizes (take p.first (rows_of run held)))
+module _ (moof_bytes : List ℕ) (run : Run) (p : Piece) (is : IsRunOf moof_bytes run) (of : IsPieceOf moof_bytes run p) where
+  place_is : p.place ≡ run.place +ℤ pos (sizes (take p.first (rows_of run moof_bytes)))
   unfolding piece_at
   place_is = ap (λ (q : Piece). q.place) of.is
 
-  bytes_are : p.bytes ≡ sizes (rows_in held run p)
+  bytes_are : p.bytes ≡ sizes (rows_in moof_bytes run p)
   unfolding piece_at
   bytes_are = ap (λ (q : Piece). q.bytes) of.is
 
@@ -25,6 +25,6 @@ module _ (held : List ℕ) (run : Run) (p : Piece) (is : IsRunOf held run) (of :
 
   pub piece_to : (p.place +ℤ pos p.bytes) ≤ℤ end_place run
   piece_to =
-      let first = sum_by-take-drop (λ (r : Row). r.size) (rows_of run held) p.first in
-      let next = sum_by-take-le (λ (r : Row). r.size) (drop p.first (rows_of run held)) p.count in
+      let first = sum_by-take-drop (λ (r : Row). r.size) (rows_of run moof_bytes) p.first in
+      let next = sum_by-take-le (λ (r : Row). r.size) (drop p.first (rows_of run moof_bytes)) p.count in
       omega (arith, ints, place_is, bytes_are, first, next, is.bytes)

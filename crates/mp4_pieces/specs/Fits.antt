@@ -1,4 +1,4 @@
--- When the pieces of a moof have room for their numbers, in words of its own: exactly where there is no fault of specs/Rooms.antt.
+-- When there is room for the numbers of the pieces of a moof, without faults: exactly where there is no fault of specs/Rooms.antt.
 use Rattle.std.specs.Prelude.{◌≡◌, ◌<◌, ◌^◌, ◌≤ℤ◌, ◌<ℤ◌, ℕ, ℤ, pos, true, List, [], ◌∷◌}
 use Rattle.std.specs.List.{AllByRecursion}
 use Rattle.mp4_frag.specs.declared.run.Run.{Run}
@@ -20,17 +20,17 @@ pub record FitsTime (z : ℤ) : Type 0 where
   pub low : pos 0 ≤ℤ z
   pub high : z <ℤ pos (2 ^ 64)
 
--- an index has room for that of a group: the least of its first piece
+-- an index has room for the time of a group: the least of its first piece
 abbrev pub BeginsInTime : List Piece → Type 0
 BeginsInTime [] = Unit {0}
 BeginsInTime (p ∷ ps) = FitsTime p.least
 
--- the indexes of a run have room for these, its pieces
+-- the indexes of a run have room for its pieces
 pub record FitsIndex (ps : List Piece) : Type 0 where
   pub times : AllByRecursion BeginsInTime (groups ps)
   pub references : AllByRecursion FitsReference ps
 
--- where an index is asked for, those of all runs have room; and each piece has a number of 32 bits
+-- the indexes of all runs have room, where they are asked for; and each piece has a number of 32 bits
 pub record HasRoomFor (cut : Cut) (h : MoofBytes) (runs : List Run) (seq : ℕ) : Type 0 where
   pub indexes : cut.index ≡ true → AllByRecursion (λ run. FitsIndex (pieces_of cut h.bytes run)) runs
   pub numbers : AllByRecursion (λ n. n < 2 ^ 32) (numbers seq (piece_count cut h.bytes runs))

@@ -11,7 +11,7 @@ abbrev pub fits_bytes : Option ℕ → List Row → Bool
 fits_bytes None rows = true
 fits_bytes (Some most) rows = nat_le (length rows) 1 || nat_le (sizes rows) most
 
--- no sync sample but the first, where that is asked for
+-- no sync sample but the first, if that is asked for
 abbrev pub fits_sync : Bool → List Row → Bool
 fits_sync asked rows = not asked || list_all (λ row. not (is_sync row.flags)) (drop 1 rows)
 

@@ -3,17 +3,17 @@ use Rattle.std.specs.Prelude.{◌≡◌, ◌<◌, ◌≤◌, ℕ, zero, suc, Lis
 use Rattle.std.specs.List.{AllByRecursion}
 use Rattle.mp4_pieces.specs.Cutting.{join}
 
--- so many pieces has a group, since reference_count of sidx has 16 bits (ISO/IEC 14496-12, 8.16.3)
+-- the length of a group, since reference_count of sidx has 16 bits (ISO/IEC 14496-12, 8.16.3)
 abbrev pub group_length : ℕ
 group_length = 65535
 
--- each group that another one follows has just so many
+-- each group that is followed by another has this length
 abbrev pub AllFilled : {A : Type 0} → List (List A) → Type 0
 AllFilled [] = Unit {0}
 AllFilled (g ∷ []) = Unit {0}
 AllFilled (g ∷ h ∷ gs) = (length g ≡ group_length) × AllFilled (h ∷ gs)
 
--- gs are the groups of some pieces: none is empty, none has more, all but the last have just so many, and together they are the pieces
+-- gs are the groups of some pieces: none is empty, none is longer, all but the last have this length, and together they are the pieces
 pub record AreGroups {A : Type 0} (ps : List A) (gs : List (List A)) : Type 0 where
   pub some : AllByRecursion (λ g. 0 < length g) gs
   pub most : AllByRecursion (λ g. length g ≤ group_length) gs
@@ -22,7 +22,7 @@ pub record AreGroups {A : Type 0} (ps : List A) (gs : List (List A)) : Type 0 wh
 
 -- ---- the same, computed
 
--- the groups that begin in a list, of which the first k are of a group that began before
+-- groups that start after the first k pieces
 unfoldable pub groups_from : {A : Type 0} → ℕ → List A → List (List A)
 groups_from k [] = []
 groups_from zero (p ∷ ps) = take group_length (p ∷ ps) ∷ groups_from 65534 ps

@@ -1,4 +1,4 @@
--- What the laws speak of beside the definitions.
+-- Definitions that only the laws need.
 use Rattle.std.specs.Prelude.{◌≡◌, ◌⊎◌, ◌≤◌, ◌≤ℤ◌, ℕ, ℤ, List, Some, drop, false, length, true}
 use Rattle.std.specs.List.{All, AllByRecursion, Contains}
 use Rattle.mp4_frag.specs.declared.run.Run.{Run}
@@ -9,18 +9,18 @@ use Rattle.mp4_pieces.specs.declared.cut.Cut.{Cut}
 use Rattle.mp4_pieces.specs.declared.piece.Piece.{Piece}
 use Rattle.mp4_pieces.specs.Pieces.{IsPieceOf, cursor_after, pieces_from}
 
--- p is a piece of the run, and behind it there is a cursor, from which on the run has the pieces ps
-pub record IsFollowedBy (cut : Cut) (held : List ℕ) (run : Run) (p : Piece) (ps : List Piece) : Type 0 where
-  pub piece : IsPieceOf held run p
-  pub cursor : IsCursor run held (cursor_after p)
-  pub rest : pieces_from cut held run (cursor_after p) ≡ ps
+-- p is a piece of the run, and after it there is a cursor, from which on the run has the pieces ps
+pub record IsFollowedBy (cut : Cut) (moof_bytes : List ℕ) (run : Run) (p : Piece) (ps : List Piece) : Type 0 where
+  pub piece : IsPieceOf moof_bytes run p
+  pub cursor : IsCursor run moof_bytes (cursor_after p)
+  pub rest : pieces_from cut moof_bytes run (cursor_after p) ≡ ps
 
 -- the number is one of these, and none of these is less
 pub record IsLeastOf (zs : List ℤ) (z : ℤ) : Type 0 where
   pub among : Contains zs z
   pub least : All (λ y. z ≤ℤ y) zs
 
--- samples may be one piece: they are at most as many as are asked for, they have at most so many bytes or are one sample, and
+-- samples may be one piece: they are at most as many as are allowed, they have at most so many bytes or are one sample, and
 -- none but the first is a sync sample where a piece ends before each
 pub record MayBeOnePiece (cut : Cut) (rows : List Row) : Type 0 where
   pub samples : length rows ≤ cut.samples

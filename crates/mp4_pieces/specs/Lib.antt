@@ -8,4 +8,4 @@ pub mod Sizes
 pub mod Rooms
 pub mod Fits
 pub mod Laws
-pub mod Working
+pub mod Implementation

@@ -1,4 +1,4 @@
--- The pieces of a run, with what their samples come to.
+-- The pieces of a run, with the sums over their samples.
 use Rattle.std.specs.Prelude.{◌≡◌, ◌<◌, ◌≤◌, ◌+◌, ◌^◌, ◌+ℤ◌, ◌<ℤ◌, ℕ, ℤ, pos, List, [], ◌∷◌, length, take, drop}
 use Rattle.std.specs.List.{fold, sum_by}
 use Rattle.std.specs.Int.{int_min}
@@ -12,7 +12,7 @@ use Rattle.mp4_pieces.specs.declared.piece.Piece.{Piece}
 use Rattle.mp4_pieces.specs.Cutting.{cut_by}
 use Rattle.mp4_pieces.specs.Fitting.{fits}
 
--- the composition times of samples, of which the first has this decode time
+-- composition times of samples, the first of which has this decode time
 unfoldable pub composition_times : ℕ → List Row → List ℤ
 composition_times time [] = []
 composition_times time (row ∷ rows) = (pos time +ℤ row.offset) ∷ composition_times (time + row.duration) rows
@@ -22,7 +22,7 @@ abbrev pub least_of : List ℤ → ℤ
 least_of [] = pos 0
 least_of (z ∷ zs) = fold int_min z zs
 
--- the piece that these samples are, from a cursor on
+-- the piece with these samples, from a cursor on
 unfoldable pub piece_at : Cursor → List Row → Piece
 piece_at c rows = record {
   first = c.row;
@@ -34,11 +34,11 @@ piece_at c rows = record {
   least = least_of (composition_times c.time rows);
 }
 
--- the cursor behind these samples
+-- the cursor after these samples
 abbrev pub past_rows : Cursor → List Row → Cursor
 past_rows c rows = record { row = c.row + length rows; time = c.time + durations rows; place = c.place +ℤ pos (sizes rows) }
 
--- the pieces that these lists of samples are, one behind the other
+-- the pieces with these lists of samples, one after the other
 unfoldable pub pieces_at : Cursor → List (List Row) → List Piece
 pieces_at c [] = []
 pieces_at c (rows ∷ rest) = piece_at c rows ∷ pieces_at (past_rows c rows) rest
@@ -49,38 +49,38 @@ cut_rows cut rows = cut_by (fits cut) rows
 
 -- the pieces of a run from a cursor on
 abbrev pub pieces_from : Cut → List ℕ → Run → Cursor → List Piece
-pieces_from cut held run c = pieces_at c (cut_rows cut (drop c.row (rows_of run held)))
+pieces_from cut moof_bytes run c = pieces_at c (cut_rows cut (drop c.row (rows_of run moof_bytes)))
 
 -- the pieces of a run
 abbrev pub pieces_of : Cut → List ℕ → Run → List Piece
-pieces_of cut held run = pieces_from cut held run (first_cursor run)
+pieces_of cut moof_bytes run = pieces_from cut moof_bytes run (first_cursor run)
 
 -- how many pieces these runs have
 abbrev pub piece_count : Cut → List ℕ → List Run → ℕ
-piece_count cut held runs = sum_by (λ run. length (pieces_of cut held run)) runs
+piece_count cut moof_bytes runs = sum_by (λ run. length (pieces_of cut moof_bytes run)) runs
 
 -- ---- a piece of a run, however it is cut
 
 -- the cursor before row i of a run
 abbrev pub cursor_at : List ℕ → Run → ℕ → Cursor
-cursor_at held run i = past_rows (first_cursor run) (take i (rows_of run held))
+cursor_at moof_bytes run i = past_rows (first_cursor run) (take i (rows_of run moof_bytes))
 
--- the samples of a run that a piece names
+-- the samples of a piece
 abbrev pub rows_in : List ℕ → Run → Piece → List Row
-rows_in held run p = take p.count (drop p.first (rows_of run held))
+rows_in moof_bytes run p = take p.count (drop p.first (rows_of run moof_bytes))
 
--- the piece has samples of the run, and what they come to
-pub record IsPieceOf (held : List ℕ) (run : Run) (p : Piece) : Type 0 where
+-- the piece has samples of the run, and their sums
+pub record IsPieceOf (moof_bytes : List ℕ) (run : Run) (p : Piece) : Type 0 where
   pub some : 0 < p.count
   pub within : p.first + p.count ≤ run.count
-  pub is : p ≡ piece_at (cursor_at held run p.first) (rows_in held run p)
+  pub is : p ≡ piece_at (cursor_at moof_bytes run p.first) (rows_in moof_bytes run p)
 
--- the numbers of the cursor behind a piece fit their types
+-- the numbers of the cursor after a piece fit their types
 pub record EndsInRange (p : Piece) : Type 0 where
   pub row : p.first + p.count < 2 ^ 32
   pub time : p.time + p.duration < 2 ^ 64
   pub place : (p.place +ℤ pos p.bytes) <ℤ pos (2 ^ 63)
 
--- the cursor behind a piece
+-- the cursor after a piece
 abbrev pub cursor_after : Piece → Cursor
 cursor_after p = record { row = p.first + p.count; time = p.time + p.duration; place = p.place +ℤ pos p.bytes }

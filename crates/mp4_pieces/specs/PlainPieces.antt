@@ -7,29 +7,29 @@ use Rattle.mp4_pieces.specs.declared.piece.Piece.{Piece}
 use Rattle.mp4_pieces.specs.declared.plain.PlainPiece.{PlainPiece}
 use Rattle.mp4_pieces.specs.Pieces.{composition_times, least_of}
 
--- the piece of a run that has these numbers
+-- the piece of a run with these numbers
 abbrev pub piece_of : List ℕ → Run → PlainPiece → Piece
-piece_of held run p = record {
+piece_of moof_bytes run p = record {
   first = p.first;
   count = p.count;
   time = p.time;
   place = p.place;
   bytes = p.bytes;
   duration = p.duration;
-  least = least_of (composition_times p.time (take p.count (drop p.first (rows_of run held))));
+  least = least_of (composition_times p.time (take p.count (drop p.first (rows_of run moof_bytes))));
 }
 
 -- a piece without its least composition time
 abbrev pub plain_of : Piece → PlainPiece
 plain_of p = record { first = p.first; count = p.count; time = p.time; place = p.place; bytes = p.bytes; duration = p.duration }
 
--- the cursors before its first sample, and behind its last
+-- the cursors before its first sample, and after its last
 abbrev pub plain_start : PlainPiece → Cursor
 plain_start p = record { row = p.first; time = p.time; place = p.place }
 
 abbrev pub plain_end : PlainPiece → Cursor
 plain_end p = record { row = p.first + p.count; time = p.time + p.duration; place = p.place +ℤ pos p.bytes }
 
--- the piece from a cursor on that has so many samples, which come to this
+-- the piece from a cursor on that has so many samples, with these sums
 abbrev pub plain_at : Cursor → (count bytes duration : ℕ) → PlainPiece
 plain_at c count bytes duration = record { first = c.row; count = count; time = c.time; place = c.place; bytes = bytes; duration = duration }

@@ -1,4 +1,4 @@
--- What has no room for its numbers: the fields of an index (the rule IndexRange), and the sequence number of a moof (the rule SequenceEnd).
+-- Numbers for which there is no room: in the fields of an index (the rule IndexRange), and the sequence number of a moof (the rule SequenceEnd).
 use Rattle.std.specs.Prelude.{◌-◌, ◌^◌, ℕ, pos, Bool, false, ◌&&◌, ◌||◌, nat_lt, if◌then◌else◌, List, [], ◌∷◌, ◌++◌, codes, Option, Some}
 use Rattle.std.specs.List.{flat_map, list_any, range_with_len}
 use Rattle.std.specs.Int.Signed.{lt_z}
@@ -30,7 +30,7 @@ abbrev pub passes_time : List Piece → Bool
 passes_time [] = false
 passes_time (p ∷ ps) = lt_z p.least (pos 0) || lt_z (pos (2 ^ 64 - 1)) p.least
 
--- the indexes of a run have no room for these, its pieces
+-- the indexes of a run have no room for its pieces
 abbrev pub passes_index : List Piece → Bool
 passes_index ps = list_any passes_time (groups ps) || list_any passes_reference ps
 
@@ -40,29 +40,29 @@ index_fault run = record { rule = IndexRange; kind = Some trun; offset = run.off
 
 -- where an index is asked for
 abbrev pub index_faults_of : Cut → List ℕ → Run → List Fault
-index_faults_of cut held run = if cut.index && passes_index (pieces_of cut held run) then index_fault run ∷ [] else []
+index_faults_of cut moof_bytes run = if cut.index && passes_index (pieces_of cut moof_bytes run) then index_fault run ∷ [] else []
 
 abbrev pub index_faults : Cut → List ℕ → List Run → List Fault
-index_faults cut held runs = flat_map (index_faults_of cut held) runs
+index_faults cut moof_bytes runs = flat_map (index_faults_of cut moof_bytes) runs
 
 -- ---- the sequence number of a moof (mfhd, 8.8.5)
 
--- the numbers of so many pieces, of which the first has the number seq
+-- the numbers of so many pieces, from seq on
 abbrev pub numbers : ℕ → ℕ → List ℕ
 numbers seq count = range_with_len seq count
 
--- the fault of a moof of which a piece would have a number past 32 bits: the moof begins at this offset
+-- fault of a moof with a piece whose number would be past 32 bits: the moof begins at this offset
 abbrev pub sequence_fault : ℕ → Fault
 sequence_fault offset = record { rule = SequenceEnd; kind = Some moof; offset = offset }
 
 abbrev pub sequence_faults : ℕ → List ℕ → List Fault
 sequence_faults offset ns = if list_any (nat_lt (2 ^ 32 - 1)) ns then sequence_fault offset ∷ [] else []
 
--- ---- both, for some runs of a moof, of which the first piece has the number seq
+-- ---- both, for some runs of a moof, the first piece of which has the number seq
 
 unfoldable pub room_faults : Cut → MoofBytes → List Run → ℕ → List Fault
 room_faults cut h runs seq = index_faults cut h.bytes runs ++ sequence_faults h.offset (numbers seq (piece_count cut h.bytes runs))
 
--- the fault that is told
+-- the fault that is reported
 abbrev pub room_fault : Cut → MoofBytes → List Run → ℕ → Option Fault
 room_fault cut h runs seq = least (room_faults cut h runs seq)

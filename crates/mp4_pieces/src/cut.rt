@@ -4,26 +4,26 @@ ghost use Rattle.std.specs.Prelude.{◌≡◌, ◌<◌, ◌↔◌, false, true, 
 ghost use Rattle.mp4_pieces.specs.Allowed.{IsAllowed, IsAllowedSize};
 
 /// The most samples that a piece may be allowed.
-const MOST_SAMPLES: u32 = 1_000_000;
+pub const MOST_IN_PIECE: u32 = 1_000_000;
 
 /// The most bytes that a piece may be allowed.
 const MOST_BYTES: u64 = 1 << 62;
 
-/// How a run is cut: what a piece has at most, and what else is asked for.
+/// How a run is cut: the limits of a piece, and further options.
 #[derive(Clone, Copy, Debug)]
 pub struct Cut {
-    /// How many samples a piece has at most.
+    /// The most samples of a piece.
     pub(crate) samples: u32,
-    /// How many bytes a piece of more than one sample has at most, where that is asked for.
+    /// The most bytes of a piece with more than one sample, if there is a limit.
     pub(crate) bytes: Option<u64>,
-    /// Whether an index stands before each group of pieces.
+    /// Whether each group of pieces has an index before it.
     pub(crate) index: bool,
     /// Whether a piece ends before each sync sample.
     pub(crate) sync: bool,
     ghost some: { 0 < samples },
 }
 
-/// Whether so many bytes may be asked for.
+/// Whether so many bytes are allowed.
 fn is_allowed(bytes: Option<u64>) -> bool
     ensures { IsTrue result ↔ IfSome bytes IsAllowedSize }
 {
@@ -35,7 +35,7 @@ fn is_allowed(bytes: Option<u64>) -> bool
 
 impl Cut {
     /// A cut into pieces of at most so many samples, and of at most so many bytes where that is
-    /// asked for: a sample that has more is a piece by itself. With `index` an index stands before
+    /// asked for: a sample that has more is a piece by itself. With `index` there is an index before
     /// each group of pieces. None where `samples` isn't in 1 to 1,000,000, or `bytes` isn't in 1 to
     /// 2^62.
     pub fn new(samples: u32, bytes: Option<u64>, index: bool) -> Option<Cut>
@@ -45,7 +45,7 @@ impl Cut {
         ensures index { IfSome result (λ cut. cut.index ≡ index) }
         ensures sync { IfSome result (λ cut. cut.sync ≡ false) }
     {
-        if samples == 0 || samples > MOST_SAMPLES || !is_allowed(bytes) {
+        if samples == 0 || samples > MOST_IN_PIECE || !is_allowed(bytes) {
             return None;
         }
         Some(Cut {
@@ -68,7 +68,7 @@ impl Cut {
         cut
     }
 
-    /// Whether an index stands before each group of pieces.
+    /// Whether each group of pieces has an index before it.
     pub fn has_index(self) -> bool
         ensures { result ≡ self.index }
     {

@@ -1,41 +1,21 @@
 //! Whether an index of the pieces of a run has room for its numbers.
 
 ghost use Rattle.std.specs.Prelude.{◌≡◌, ◌+◌, ◌^◌, ◌<◌, ◌∷◌, [], length};
-ghost use Rattle.mp4_pieces.specs.Working.Rooming.{check_past};
+ghost use Rattle.mp4_pieces.specs.Implementation.Rooming.{check_past};
 ghost use Rattle.mp4_pieces.specs.Rooms.{passes_index, passes_reference, passes_time};
-ghost use Rattle.mp4_pieces.specs.Sizes.{fragment_size, mdat_header_size};
 
 use crate::piece::Piece;
 use crate::pieces::Pieces;
+use crate::sizes::fragment_size;
 
-/// So many pieces share an index: reference_count of sidx has 16 bits (ISO/IEC 14496-12, 8.16.3).
-const GROUP: u32 = 65_535;
+/// The most pieces of an index: reference_count of sidx has 16 bits (ISO/IEC 14496-12, 8.16.3).
+pub const MOST_IN_INDEX: u32 = 65_535;
 
 /// The greatest referenced_size, which has 31 bits.
 const MOST_SIZE: u128 = (1 << 31) - 1;
 
 /// The greatest subsegment_duration.
 const MOST_DURATION: u64 = (1 << 32) - 1;
-
-/// From so many bytes of media on an mdat has a size of 64 bits: 2^32 less the 8 bytes of its
-/// header.
-const LONG_MEDIA: u64 = (1 << 32) - 8;
-
-/// How many bytes the header of an mdat has, with so many bytes of media.
-fn mdat_header_size(bytes: u64) -> u64
-    ensures size { result ≡ mdat_header_size bytes }
-    ensures small { result < 2 ^ 5 }
-{
-    if bytes < LONG_MEDIA { 8 } else { 16 }
-}
-
-/// How many bytes the moof and the mdat of a piece have.
-fn fragment_size(piece: &Piece) -> u128
-    ensures { result ≡ fragment_size piece.now }
-{
-    let moof = 92 + 16 * u128::from(piece.count);
-    moof + (u128::from(mdat_header_size(piece.bytes)) + u128::from(piece.bytes))
-}
 
 /// Whether a reference has no room for a piece.
 fn passes_reference(piece: &Piece) -> bool
@@ -51,24 +31,24 @@ fn passes_time(piece: &Piece) -> bool
     piece.least < 0 || piece.least > i128::from(u64::MAX)
 }
 
-/// What is found while the pieces of a run are gone over.
+/// The state of the check while the pieces of a run are gone over.
 #[derive(Clone, Copy)]
 struct IndexCheck {
-    /// How many pieces are to come before the next group begins.
+    /// How many pieces come before the next group.
     left: u32,
-    /// Whether an index has no room for one so far.
+    /// Whether an index had no room for a piece so far.
     passes: bool,
 }
 
 impl IndexCheck {
     /// The check after one more piece.
-    #[tactic(auto, unfolding(crate::specs::Working::Rooming::check_past))]
+    #[tactic(auto, unfolding(crate::specs::Implementation::Rooming::check_past))]
     fn past(self, piece: &Piece) -> IndexCheck
         ensures { result ≡ check_past self piece.now }
     {
         if self.left == 0 {
             IndexCheck {
-                left: GROUP - 1,
+                left: MOST_IN_INDEX - 1,
                 passes: self.passes || passes_time(piece) || passes_reference(piece),
             }
         } else {
@@ -80,7 +60,7 @@ impl IndexCheck {
     }
 }
 
-/// What the pieces of a run come to.
+/// Sums over the pieces of a run.
 #[derive(Clone, Copy)]
 pub(crate) struct Outcome {
     /// How many there are.
@@ -89,7 +69,7 @@ pub(crate) struct Outcome {
     pub(crate) passes: bool,
 }
 
-/// What the pieces of a run come to.
+/// The sums over the pieces of a run.
 #[tactic(auto, using(crate::proofs::RoomLemmas::check_more, crate::proofs::RoomLemmas::check_none))]
 pub(crate) fn outcome_of(pieces: Pieces<'_>) -> Outcome
     requires { length pieces < 2 ^ 32 }

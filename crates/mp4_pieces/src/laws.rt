@@ -24,7 +24,7 @@ ghost use Rattle.mp4_pieces.specs.Pieces.{EndsInRange, IsPieceOf, composition_ti
 ghost use Rattle.mp4_frag.specs.Ranges.{AreRunsOf, IsRunOf};
 ghost use Rattle.mp4_pieces.specs.Rooms.{index_faults, room_fault, room_faults};
 
-/// There is just one way to cut samples into pieces, and it is that which is computed.
+/// There is just one way to cut samples into pieces, and it is the computed one.
 pub fn pieces_are_one()
     ensures exists { (cut : Cut) (rows : List Row) →
         ArePieces (fits cut) rows (cut_rows cut rows) }
@@ -38,7 +38,7 @@ pub fn what_fits()
     ensures { (cut : Cut) (rows : List Row) → (fits cut rows ≡ true) ↔ MayBeOnePiece cut rows }
 {}
 
-/// One sample fits, and so does each beginning of what fits. So samples that fit together are one
+/// One sample fits, and so does each prefix of what fits. So samples that fit together are one
 /// piece.
 pub fn what_fits_is_one_piece()
     ensures limit { (cut : Cut) → IsLimit (fits cut) }
@@ -48,36 +48,36 @@ pub fn what_fits_is_one_piece()
 
 /// Each piece of a run names samples of it, and has their sums. It ends in range.
 pub fn pieces_name_samples()
-    ensures pieces { (cut : Cut) (held : List ℕ) (run : Run) →
-        AllByRecursion (IsPieceOf held run) (pieces_of cut held run) }
-    ensures least { (held : List ℕ) (run : Run) (p : Piece) → IsPieceOf held run p →
-        IsLeastOf (composition_times p.time (rows_in held run p)) p.least }
-    ensures range { (held : List ℕ) (run : Run) (p : Piece) → IsRunOf held run →
-        IsPieceOf held run p → EndsInRange p }
+    ensures pieces { (cut : Cut) (moof_bytes : List ℕ) (run : Run) →
+        AllByRecursion (IsPieceOf moof_bytes run) (pieces_of cut moof_bytes run) }
+    ensures least { (moof_bytes : List ℕ) (run : Run) (p : Piece) → IsPieceOf moof_bytes run p →
+        IsLeastOf (composition_times p.time (rows_in moof_bytes run p)) p.least }
+    ensures range { (moof_bytes : List ℕ) (run : Run) (p : Piece) → IsRunOf moof_bytes run →
+        IsPieceOf moof_bytes run p → EndsInRange p }
 {}
 
-/// Behind the first piece from a cursor on there is a cursor of the run, and from there on it has
+/// After the first piece from a cursor on there is a cursor of the run, and from there on it has
 /// the other pieces. So no list of pieces need be kept.
 pub fn cursors_go_on()
-    ensures { (cut : Cut) (held : List ℕ) (run : Run) (c : Cursor) (p : Piece) (ps : List Piece) →
-        IsCursor run held c → pieces_from cut held run c ≡ p ∷ ps →
-        IsFollowedBy cut held run p ps }
+    ensures { (cut : Cut) (moof_bytes : List ℕ) (run : Run) (c : Cursor) (p : Piece) (ps : List Piece) →
+        IsCursor run moof_bytes c → pieces_from cut moof_bytes run c ≡ p ∷ ps →
+        IsFollowedBy cut moof_bytes run p ps }
 {}
 
-/// There is just one way to put pieces into groups, and it is that which is computed.
+/// There is just one way to put pieces into groups, and it is the computed one.
 pub fn groups_are_one()
     ensures exists { (ps : List Piece) → AreGroups ps (groups ps) }
     ensures alone { (ps : List Piece) (gs : List (List Piece)) → AreGroups ps gs →
         gs ≡ groups ps }
 {}
 
-/// There is no fault exactly where all pieces have room for their numbers.
+/// There is no fault exactly where there is room for the numbers of all pieces.
 pub fn no_fault_is_room()
     ensures { (cut : Cut) (h : MoofBytes) (runs : List Run) (seq : ℕ) →
         (room_faults cut h runs seq ≡ []) ↔ HasRoomFor cut h runs seq }
 {}
 
-/// Where an index has no room, that is the fault, and not the numbers of the pieces: the lower rule is told.
+/// Where an index has no room, that is the fault, and not the numbers of the pieces: the lower rule is reported.
 pub fn index_before_numbers()
     ensures { (cut : Cut) (h : MoofBytes) (runs : List Run) (seq : ℕ) (f g : Fault) (fs : List Fault) →
         index_faults cut h.bytes runs ≡ f ∷ fs → room_fault cut h runs seq ≡ Some g →
@@ -87,10 +87,10 @@ pub fn index_before_numbers()
 /// It doesn't matter in which order runs are taken: they can be cut, have as many pieces, and have
 /// room.
 pub fn order_is_free()
-    ensures runs { (held : List ℕ) (xs ys : List Run) → IsPermutation xs ys →
-        AreRunsOf held xs → AreRunsOf held ys }
-    ensures count { (cut : Cut) (held : List ℕ) (xs ys : List Run) → IsPermutation xs ys →
-        piece_count cut held ys ≡ piece_count cut held xs }
+    ensures runs { (moof_bytes : List ℕ) (xs ys : List Run) → IsPermutation xs ys →
+        AreRunsOf moof_bytes xs → AreRunsOf moof_bytes ys }
+    ensures count { (cut : Cut) (moof_bytes : List ℕ) (xs ys : List Run) → IsPermutation xs ys →
+        piece_count cut moof_bytes ys ≡ piece_count cut moof_bytes xs }
     ensures room { (cut : Cut) (h : MoofBytes) (xs ys : List Run) (seq : ℕ) → IsPermutation xs ys →
         HasRoomFor cut h xs seq → HasRoomFor cut h ys seq }
 {}
@@ -101,7 +101,7 @@ pub fn pieces_are_few()
         piece_count cut h.bytes (moof_runs h tracks) ≤ moof_samples h }
 {}
 
-/// The runs of a moof that was read are such that they can be cut.
+/// The runs of a moof that was read can be cut.
 pub fn runs_of_a_moof_can_be_cut()
     ensures { (h : MoofBytes) (tracks : List Track) → IsWhole h.bytes → IsBytes h.bytes →
         h.offset + length h.bytes ≤ 2 ^ 62 → IsRead h tracks →
@@ -118,8 +118,8 @@ pub fn groups_begin_with_the_first()
 
 /// The bytes of a piece lie among those of its run.
 pub fn pieces_lie_in_their_run()
-    ensures from { (held : List ℕ) (run : Run) (p : Piece) → IsRunOf held run →
-        IsPieceOf held run p → run.place ≤ℤ p.place }
-    ensures to { (held : List ℕ) (run : Run) (p : Piece) → IsRunOf held run →
-        IsPieceOf held run p → (p.place +ℤ pos p.bytes) ≤ℤ end_place run }
+    ensures from { (moof_bytes : List ℕ) (run : Run) (p : Piece) → IsRunOf moof_bytes run →
+        IsPieceOf moof_bytes run p → run.place ≤ℤ p.place }
+    ensures to { (moof_bytes : List ℕ) (run : Run) (p : Piece) → IsRunOf moof_bytes run →
+        IsPieceOf moof_bytes run p → (p.place +ℤ pos p.bytes) ≤ℤ end_place run }
 {}

@@ -1,19 +1,20 @@
 //! How the samples of a movie fragment are cut: the pieces of each run (ISO/IEC 14496-12, 8.8.8).
 //!
-//! - [`Cut`]: how many samples and bytes a piece has at most, and what else is asked for;
+//! - [`Cut`]: the limits of a piece, and further options;
 //! - [`Piece`]: some samples of a run that follow each other, with their sums;
 //! - [`Pieces`], which goes over the pieces of a run, from its first sample or a cursor on;
 //! - [`PlainPiece`], a piece without what only an index needs; [`PlainPiece::first`] is the first from a cursor on;
-//! - [`room`]: whether what is written of a moof has room for its numbers;
+//! - [`room`]: whether there is room for the numbers in the output of a moof;
+//! - [`moof_size`], [`mdat_header_size`] and [`fragment_size`]: how many bytes a piece has when it is written;
 //! - [`laws`]: what the definitions of `specs/` imply.
 //!
-//! `specs/Cutting.antt` says how any list is cut by a test of what fits, `specs/Fitting.antt` which
+//! `specs/Cutting.antt` cuts any list by a test of what fits, `specs/Fitting.antt` says which
 //! samples fit in a piece, `specs/Pieces.antt` what the pieces of a run are, `specs/PlainPieces.antt` what they are without
 //! their least composition times, `specs/Groups.antt`
 //! which of them share an index, `specs/Sizes.antt` how many bytes a piece has when it is written,
-//! `specs/Rooms.antt` what has no room for its numbers, and `specs/Fits.antt` when all has room.
-//! `specs/Allowed.antt` says what may be asked of a cut. How pieces and their room are found, row by row, is said in
-//! `specs/Working/`.
+//! `specs/Rooms.antt` for which numbers there is no room, and `specs/Fits.antt` when there is room for all.
+//! `specs/Allowed.antt` has the arguments of a cut. How pieces and their room are found, row by row, is said in
+//! `specs/Implementation/`.
 #![tactic(auto)]
 
 mod cut;
@@ -23,9 +24,12 @@ mod piece;
 mod pieces;
 mod plain;
 mod rooms;
+mod sizes;
 
-pub use cut::Cut;
+pub use cut::{Cut, MOST_IN_PIECE};
+pub use index::MOST_IN_INDEX;
 pub use piece::Piece;
 pub use pieces::Pieces;
 pub use plain::PlainPiece;
 pub use rooms::room;
+pub use sizes::{LONG_MEDIA, fragment_size, mdat_header_size, moof_size};

@@ -26,7 +26,7 @@ pub struct Piece {
 }
 
 impl Piece {
-    /// The cursor behind it, where the next piece begins. Each piece of a run ends in range.
+    /// The cursor after it, where the next piece begins. Each piece of a run ends in range.
     pub fn cursor_after(self) -> Cursor
         requires { EndsInRange self }
         ensures { result ≡ cursor_after self }

@@ -4,7 +4,7 @@ ghost use Rattle.std.specs.Prelude.{◌≡◌, ◌+◌, ◌^◌, ◌<◌, ◌∷
 ghost use Rattle.std.specs.Iterator.{YieldsFirst, item_count};
 ghost use Rattle.mp4_frag.specs.Rows.{IsCursor};
 ghost use Rattle.mp4_frag.specs.SyncSamples.{is_sync};
-ghost use Rattle.mp4_pieces.specs.Working.Growing.{Grows, grown, has_bytes, opened, pieces_left, takes, with_row};
+ghost use Rattle.mp4_pieces.specs.Implementation.Growing.{Grows, grown, has_bytes, opened, pieces_left, takes, with_row};
 ghost use Rattle.mp4_frag.specs.Cursors.{HasRoom};
 ghost use Rattle.mp4_pieces.specs.Pieces.{cursor_after, pieces_from, pieces_of};
 ghost use Rattle.mp4_frag.specs.Ranges.{IsRunOf};
@@ -25,7 +25,7 @@ fn is_sync(row: &Row) -> bool
     row.flags & NON_SYNC == 0
 }
 
-/// Whether the bytes of one row more fit in a piece.
+/// Whether the bytes of one more row fit in a piece.
 fn has_bytes(most: Option<u64>, piece: &Piece, row: &Row) -> bool
     requires { piece.now.bytes + row.now.size < 2 ^ 64 }
     ensures { result ≡ has_bytes most piece.now row.now }
@@ -37,8 +37,8 @@ fn has_bytes(most: Option<u64>, piece: &Piece, row: &Row) -> bool
 }
 
 impl Cut {
-    /// Whether one row more fits in a piece.
-    #[tactic(auto, unfolding(crate::specs::Working::Growing::takes))]
+    /// Whether one more row fits in a piece.
+    #[tactic(auto, unfolding(crate::specs::Implementation::Growing::takes))]
     #[inline(always)]
     fn takes(&self, piece: &Piece, row: &Row) -> bool
         requires { piece.now.bytes + row.now.size < 2 ^ 64 }
@@ -51,7 +51,7 @@ impl Cut {
 }
 
 /// The piece of one row, from a cursor on.
-#[tactic(auto, unfolding(crate::specs::Working::Growing::opened))]
+#[tactic(auto, unfolding(crate::specs::Implementation::Growing::opened))]
 #[inline(always)]
 fn opened(at: Cursor, row: &Row) -> Piece
     ensures { result ≡ opened at row.now }
@@ -67,8 +67,8 @@ fn opened(at: Cursor, row: &Row) -> Piece
     }
 }
 
-/// The piece with one row more.
-#[tactic(auto, unfolding(crate::specs::Working::Growing::with_row))]
+/// The piece with one more row.
+#[tactic(auto, unfolding(crate::specs::Implementation::Growing::with_row))]
 #[inline(always)]
 fn with_row(piece: Piece, row: &Row) -> Piece
     requires count { piece.count + 1 < 2 ^ 32 }
@@ -87,41 +87,41 @@ fn with_row(piece: Piece, row: &Row) -> Piece
     }
 }
 
-/// A piece, and the row behind it, which didn't fit.
+/// A piece, and the row after it, which didn't fit.
 #[derive(Clone, Copy)]
 struct Filled {
     piece: Piece,
-    looked_at: Option<Row>,
+    peeked: Option<Row>,
 }
 
-/// The piece that begins so, with the rows that fit in it. No row is read behind one that has as many as it may.
-#[tactic(auto, unfolding(crate::specs::Working::Growing::grown, crate::specs::Working::Growing::pieces_left), using(crate::proofs::GrowLemmas::with_row_grows, crate::proofs::GrowLemmas::grown_full))]
+/// The piece that begins so, with the rows that fit in it. No row is read after one that has as many as it may.
+#[tactic(auto, unfolding(crate::specs::Implementation::Growing::grown, crate::specs::Implementation::Growing::pieces_left), using(crate::proofs::GrowLemmas::with_row_grows, crate::proofs::GrowLemmas::grown_full))]
 #[inline(always)]
 fn fill(cut: &Cut, begun: Piece, rows: &mut Rows<'_>) -> Filled
     requires { Grows begun rows.old }
     ensures pieces { grown cut.now begun rows.old ≡ result.piece ∷ pieces_left cut.now
-        (cursor_after result.piece) (option_to_list result.looked_at ++ rows.new) }
-    ensures grows { Grows result.piece (option_to_list result.looked_at ++ rows.new) }
+        (cursor_after result.piece) (option_to_list result.peeked ++ rows.new) }
+    ensures grows { Grows result.piece (option_to_list result.peeked ++ rows.new) }
 {
     let mut piece = begun;
     while piece.count < cut.samples {
         let Some(row) = rows.next() else {
             return Filled {
                 piece,
-                looked_at: None,
+                peeked: None,
             };
         };
         if !cut.takes(&piece, &row) {
             return Filled {
                 piece,
-                looked_at: Some(row),
+                peeked: Some(row),
             };
         }
         piece = with_row(piece, &row);
     }
     Filled {
         piece,
-        looked_at: None,
+        peeked: None,
     }
 }
 
@@ -131,8 +131,8 @@ pub struct Pieces<'a> {
     cut: Cut,
     /// Where the next piece begins.
     at: Cursor,
-    /// The first of its rows, where it was read to see that the piece before it ends.
-    looked_at: Option<Row>,
+    /// The first of its rows, if it was read to find the end of the piece before it.
+    peeked: Option<Row>,
     /// The rows that are left.
     rows: Rows<'a>,
 }
@@ -141,78 +141,78 @@ pub struct Pieces<'a> {
 impl<'a> Model for Pieces<'a> {
     ghost use Rattle.std.specs.Prelude.{List, ◌++◌, option_to_list};
     ghost use Rattle.mp4_pieces.specs.declared.piece.Piece.{Piece};
-    ghost use Rattle.mp4_pieces.specs.Working.Growing.{pieces_left};
+    ghost use Rattle.mp4_pieces.specs.Implementation.Growing.{pieces_left};
     ghost use Rattle.mp4_frag.specs.Cursors.{HasRoom};
 
     ghost Value = { List Piece };
 
-    ghost view = { λ p. pieces_left p.cut p.at (option_to_list p.looked_at ++ p.rows) };
+    ghost view = { λ p. pieces_left p.cut p.at (option_to_list p.peeked ++ p.rows) };
 
-    ghost invariant = { λ p. HasRoom p.at (option_to_list p.looked_at ++ p.rows) };
+    ghost invariant = { λ p. HasRoom p.at (option_to_list p.peeked ++ p.rows) };
 }
 
 impl<'a> Pieces<'a> {
-    /// The pieces of a run. `held` are the bytes of its moof.
+    /// The pieces of a run. `moof_bytes` are the bytes of its moof.
     #[tactic(auto, using(mp4_frag::proofs::RowLemmas::cursor_first))]
-    pub fn of(run: &Run, held: &'a [u8], cut: &Cut) -> Pieces<'a>
-        requires run { IsRunOf held.now run.now }
-        ensures { result ≡ pieces_of cut.now held.now run.now }
+    pub fn of(run: &Run, moof_bytes: &'a [u8], cut: &Cut) -> Pieces<'a>
+        requires run { IsRunOf moof_bytes.now run.now }
+        ensures { result ≡ pieces_of cut.now moof_bytes.now run.now }
     {
-        Pieces::at(run, held, cut, run.first_cursor())
+        Pieces::at(run, moof_bytes, cut, run.first_cursor())
     }
 
-    /// The pieces of a run from a cursor on, as if its rows began there. `held` are the bytes of
+    /// The pieces of a run from a cursor on, as if its rows began there. `moof_bytes` are the bytes of
     /// its moof.
-    pub fn at(run: &Run, held: &'a [u8], cut: &Cut, cursor: Cursor) -> Pieces<'a>
-        requires run { IsRunOf held.now run.now }
-        requires cursor { IsCursor run.now held.now cursor }
-        ensures { result ≡ pieces_from cut.now held.now run.now cursor }
+    pub fn at(run: &Run, moof_bytes: &'a [u8], cut: &Cut, cursor: Cursor) -> Pieces<'a>
+        requires run { IsRunOf moof_bytes.now run.now }
+        requires cursor { IsCursor run.now moof_bytes.now cursor }
+        ensures { result ≡ pieces_from cut.now moof_bytes.now run.now cursor }
     {
         Pieces {
             cut: *cut,
             at: cursor,
-            looked_at: None,
-            rows: run.rows_from(held, cursor),
+            peeked: None,
+            rows: run.rows_from(moof_bytes, cursor),
         }
     }
 }
 
-/// The next row: the one that was looked at, or else the next of those that are left.
+/// The next row: the one that was read ahead, or else the next of those that are left.
 #[inline(always)]
-fn next_row(looked_at: &mut Option<Row>, rows: &mut Rows<'_>) -> Option<Row>
-    ensures taken { looked_at.new ≡ None }
-    ensures rows { option_to_list looked_at.old ++ rows.old ≡ option_to_list result ++ rows.new }
+fn next_row(peeked: &mut Option<Row>, rows: &mut Rows<'_>) -> Option<Row>
+    ensures taken { peeked.new ≡ None }
+    ensures rows { option_to_list peeked.old ++ rows.old ≡ option_to_list result ++ rows.new }
     ensures none { IfNone result (rows.new ≡ []) }
 {
-    match looked_at.take() {
+    match peeked.take() {
         Some(row) => Some(row),
         None => rows.next(),
     }
 }
 
-/// The next piece. It reads no row twice, and one behind the piece at most.
-#[tactic(auto, using(crate::proofs::GrowLemmas::opened_grows, crate::proofs::GrowLemmas::behind_has_room), unfolding(crate::specs::Working::Growing::pieces_left))]
+/// The next piece. It reads no row twice, and at most one after the piece.
+#[tactic(auto, using(crate::proofs::GrowLemmas::opened_grows, crate::proofs::GrowLemmas::after_has_room), unfolding(crate::specs::Implementation::Growing::pieces_left))]
 #[inline(always)]
 fn next_piece(
     cut: &Cut,
     at: &mut Cursor,
-    looked_at: &mut Option<Row>,
+    peeked: &mut Option<Row>,
     rows: &mut Rows<'_>,
 ) -> Option<Piece>
-    requires { HasRoom at.old (option_to_list looked_at.old ++ rows.old) }
-    ensures first { pieces_left cut.now at.old (option_to_list looked_at.old ++ rows.old) ≡
+    requires { HasRoom at.old (option_to_list peeked.old ++ rows.old) }
+    ensures first { pieces_left cut.now at.old (option_to_list peeked.old ++ rows.old) ≡
         option_to_list result ++ pieces_left cut.now at.new
-        (option_to_list looked_at.new ++ rows.new) }
+        (option_to_list peeked.new ++ rows.new) }
     ensures none { IfNone result (pieces_left cut.now at.new
-        (option_to_list looked_at.new ++ rows.new) ≡ []) }
-    ensures room { HasRoom at.new (option_to_list looked_at.new ++ rows.new) }
+        (option_to_list peeked.new ++ rows.new) ≡ []) }
+    ensures room { HasRoom at.new (option_to_list peeked.new ++ rows.new) }
 {
-    let Some(first) = next_row(looked_at, rows) else {
+    let Some(first) = next_row(peeked, rows) else {
         return None;
     };
     let filled = fill(cut, opened(*at, &first), rows);
     *at = filled.piece.cursor_after();
-    *looked_at = filled.looked_at;
+    *peeked = filled.peeked;
     Some(filled.piece)
 }
 
@@ -225,6 +225,6 @@ impl<'a> Iterator for Pieces<'a> {
 
     #[inline(always)]
     fn next(&mut self) -> Option<Piece> {
-        next_piece(&self.cut, &mut self.at, &mut self.looked_at, &mut self.rows)
+        next_piece(&self.cut, &mut self.at, &mut self.peeked, &mut self.rows)
     }
 }

@@ -1,4 +1,4 @@
-//! A piece of a run without what only an index needs.
+//! A piece of a run without the number that only an index needs.
 
 ghost use Rattle.std.specs.Prelude.{◌≡◌, ◌+◌, ◌+ℤ◌, ◌<ℤ◌, ◌^◌, ◌<◌, ◌∷◌, pos};
 ghost use Rattle.mp4_frag.specs.Ranges.{IsRunOf};
@@ -30,20 +30,20 @@ pub struct PlainPiece {
 
 /// The first piece from a cursor on, row by row.
 #[inline(never)]
-fn first_by_row(run: &Run, held: &[u8], cut: &Cut, at: &Cursor) -> PlainPiece
-    requires run { IsRunOf held.now run.now }
-    requires cursor { IsCursor run.now held.now at.now }
+fn first_by_row(run: &Run, moof_bytes: &[u8], cut: &Cut, at: &Cursor) -> PlainPiece
+    requires run { IsRunOf moof_bytes.now run.now }
+    requires cursor { IsCursor run.now moof_bytes.now at.now }
     requires some { at.now.row < run.now.count }
-    ensures { pieces_from cut.now held.now run.now at.now ≡ piece_of held.now run.now result ∷
-        pieces_from cut.now held.now run.now (plain_end result) }
+    ensures { pieces_from cut.now moof_bytes.now run.now at.now ≡ piece_of moof_bytes.now run.now result ∷
+        pieces_from cut.now moof_bytes.now run.now (plain_end result) }
 {
-    let Some(piece) = Pieces::at(run, held, cut, *at).next() else {
+    let Some(piece) = Pieces::at(run, moof_bytes, cut, *at).next() else {
         unreachable!();
     };
     PlainPiece::of(&piece)
 }
 
-/// The piece of so many samples from a cursor on, which come to this.
+/// The piece of so many samples from a cursor on, with these sums.
 #[inline(always)]
 fn plain_at(at: &Cursor, count: u32, bytes: u64, duration: u64) -> PlainPiece
     ensures { result ≡ plain_at at.now count bytes duration }
@@ -74,23 +74,23 @@ impl PlainPiece {
         }
     }
 
-    /// The first piece of a run from a cursor on. `held` are the bytes of its moof. Where only the number of samples
+    /// The first piece of a run from a cursor on. `moof_bytes` are the bytes of its moof. Where only the number of samples
     /// bounds it, nothing but their sizes and durations is read.
     #[inline(always)]
-    pub fn first(run: &Run, held: &[u8], cut: &Cut, at: &Cursor) -> PlainPiece
-        requires run { IsRunOf held.now run.now }
-        requires cursor { IsCursor run.now held.now at.now }
+    pub fn first(run: &Run, moof_bytes: &[u8], cut: &Cut, at: &Cursor) -> PlainPiece
+        requires run { IsRunOf moof_bytes.now run.now }
+        requires cursor { IsCursor run.now moof_bytes.now at.now }
         requires some { at.now.row < run.now.count }
-        ensures { pieces_from cut.now held.now run.now at.now ≡ piece_of held.now run.now result ∷
-            pieces_from cut.now held.now run.now (plain_end result) }
+        ensures { pieces_from cut.now moof_bytes.now run.now at.now ≡ piece_of moof_bytes.now run.now result ∷
+            pieces_from cut.now moof_bytes.now run.now (plain_end result) }
     {
         if cut.bytes.is_some() || cut.sync {
             // A copy, so that only here the piece need be in memory.
-            let piece = first_by_row(run, held, cut, at);
+            let piece = first_by_row(run, moof_bytes, cut, at);
             return piece;
         }
         let count = cut.samples.min(run.count - at.row);
-        let sums = run.sums_between(held, at.row, count);
+        let sums = run.sums_between(moof_bytes, at.row, count);
         plain_at(at, count, sums.bytes, sums.ticks)
     }
 
@@ -106,7 +106,7 @@ impl PlainPiece {
         }
     }
 
-    /// The cursor behind it, where the next piece begins. Each piece of a run ends in range.
+    /// The cursor after it, where the next piece begins. Each piece of a run ends in range.
     #[inline(always)]
     pub fn cursor_after(&self) -> Cursor
         requires row { self.now.first + self.now.count < 2 ^ 32 }

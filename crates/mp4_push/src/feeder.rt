@@ -1,12 +1,12 @@
-//! A stream that is pushed in chunk by chunk.
+//! A stream that is pushed in as inputs.
 
-ghost use Rattle.std.specs.Prelude.{◌≡◌, ℕ, List, ◌+◌, ◌-◌, ◌*◌, ◌≤◌, [], None, Some, Err, Ok};
+ghost use Rattle.std.specs.Prelude.{◌≡◌, ℕ, List, ◌+◌, ◌-◌, ◌*◌, ◌≤◌, [], None, Some, Err, Ok, max};
 ghost use Rattle.std.specs.Prelude.{IfErr, IfOk, OnOk, OnErr, IsErrOf, true};
 ghost use Rattle.mp4_fragment_machine.specs.States.{begun, listed_by, reads_of};
 ghost use Rattle.mp4_ledger.specs.Memory.{given_back};
-ghost use Rattle.mp4_recut.specs.declared.plan.Plan.TheVariants.{Split};
+ghost use Rattle.mp4_recut.specs.declared.operation.Operation.TheVariants.{Split};
 ghost use Rattle.mp4_machine.specs.Ends.{sent};
-ghost use Rattle.mp4_machine.specs.Fed.{lent};
+ghost use Rattle.mp4_machine.specs.Fed.{borrowed};
 ghost use Rattle.mp4_push.specs.Feeders.{Feeds, Finishes, IsAfter, held_by, totals_of};
 ghost use Rattle.mp4_push.specs.Feeders as feeders;
 ghost use Rattle.mp4_machine.specs.declared.stop.Stop.{Stop};
@@ -15,60 +15,68 @@ use crate::totals::Totals;
 use mp4_cut::Cut;
 use mp4_ends::Sink;
 use mp4_fragment_machine::FragmentMachine;
-use mp4_ledger::Ledger;
+use mp4_ledger::{EarlierPeak, Ledger};
 use mp4_machine::{Block, Machine, Stop, feed};
-use mp4_recut::Plan;
+use mp4_recut::Operation;
 use std::marker::Model;
 
-/// Takes a fragmented stream chunk by chunk, and writes as it comes what a plan makes of it: shorter fragments, the lines
+/// Takes a fragmented stream as inputs, and writes the output of an operation as it comes: shorter fragments, the lines
 /// of its samples, or nothing. It must be spent by [`Feeder::finish`] or [`Feeder::give_up`].
 pub struct Feeder {
-    plan: Plan,
+    operation: Operation,
     machine: FragmentMachine,
-    /// What is on its way to the writer of a call.
+    /// Buffer for the writer of a call.
     block: Block,
     /// Why it stopped, if it did.
     stop: Option<Stop>,
     /// How many bytes are claimed.
     held: u64,
-    /// The most that were at once.
+    /// The most that were claimed at once.
     peak: u64,
 }
 
-// A contract sees its plan, where it is in the stream, why it stopped, the most that it had claimed, and how many
-// fragments are whole in what it wrote.
+// A contract sees its operation, where it is in the stream, why it stopped, the most that it had claimed, and how many
+// fragments are whole in its output.
 impl Model for Feeder {
     ghost use Rattle.mp4_push.specs.Feeders.{IsFeeder, Feeding};
 
     ghost Value = { Feeding };
 
     ghost view = { λ f. record
-        { plan = f.plan; machine = f.machine; stop = f.stop; peak = f.peak; fragments = f.block.whole } };
+        { operation = f.operation; machine = f.machine; stop = f.stop; peak = f.peak; fragments = f.block.whole } };
 
     ghost invariant = { λ f. IsFeeder (record
-        { plan = f.plan; machine = f.machine; stop = f.stop; peak = f.peak; fragments = f.block.whole })
+        { operation = f.operation; machine = f.machine; stop = f.stop; peak = f.peak; fragments = f.block.whole })
         f.held f.block };
 }
 
+/// Raises the peak of a ledger to what it was before the mark.
+fn lift_back(ledger: &mut Ledger, earlier: EarlierPeak)
+    requires { earlier ≤ ledger.old.limit }
+    ensures { ledger.new ≡ record ledger.old { peak = max ledger.old.peak earlier } }
+{
+    ledger.lift(earlier);
+}
+
 impl Feeder {
-    /// One that cuts the fragments of a stream into shorter ones, and to which no byte has come.
+    /// A Feeder that cuts the fragments of a stream into shorter ones, and to which no byte has come.
     pub fn new(cut: Cut) -> Feeder
         ensures begun { result ≡ feeders.begun (Split cut) (begun (Split cut)) }
         ensures after { IsAfter result [] }
         ensures idle { held_by result ≡ 0 }
     {
-        Feeder::with_plan(Plan::Split(cut))
+        Feeder::with_operation(Operation::Split(cut))
     }
 
-    /// One of any plan, to which no byte has come.
-    pub fn with_plan(plan: Plan) -> Feeder
-        ensures begun { result ≡ feeders.begun plan (begun plan) }
+    /// A Feeder for any operation, to which no byte has come.
+    pub fn with_operation(operation: Operation) -> Feeder
+        ensures begun { result ≡ feeders.begun operation (begun operation) }
         ensures after { IsAfter result [] }
         ensures idle { held_by result ≡ 0 }
     {
         Feeder {
-            plan,
-            machine: FragmentMachine::new(plan),
+            operation,
+            machine: FragmentMachine::new(operation),
             block: Block::new(),
             stop: None,
             held: 0,
@@ -95,16 +103,16 @@ impl Feeder {
     /// What it has counted so far, and the most bytes that it had claimed at once, whatever else its ledger serves.
     pub fn totals(&self) -> Totals
         ensures totals { result ≡ totals_of self.now }
-        ensures all { result.samples ≤ self.now.machine.counter.tally.walked }
-        ensures some { self.now.machine.counter.tally.walked + result.samples +
-            listed_by self.now.plan result.samples ≤ result.rows_read }
+        ensures all { result.samples ≤ self.now.machine.counter.tally.inspected }
+        ensures some { self.now.machine.counter.tally.inspected + result.samples +
+            listed_by self.now.operation result.samples ≤ result.rows_read }
         ensures few { result.rows_read ≤
-            reads_of self.now.plan * self.now.machine.counter.tally.walked }
+            reads_of self.now.operation * self.now.machine.counter.tally.inspected }
     {
         let tally = self.machine.tally();
-        let fragments = match self.plan {
-            Plan::List(_) => tally.fragments,
-            Plan::Split(_) => self.block.whole(),
+        let fragments = match self.operation {
+            Operation::List(_) => tally.fragments,
+            Operation::Split(_) => self.block.whole(),
         };
         Totals {
             fragments,
@@ -115,31 +123,32 @@ impl Feeder {
         }
     }
 
-    /// Takes the next chunk of the stream, and writes all that the bytes so far determine and that wasn't written yet. A
-    /// chunk without bytes changes nothing.
+    /// Takes the next input of the stream, and writes all output that the bytes so far determine. A
+    /// input without bytes changes nothing.
     ///
     /// # Errors
     ///
-    /// `Stream` where the bytes so far break a rule, with all before written; `Write` where a write failed, with a prefix of
-    /// it written; `OverLimit` and `Memory` where a claim was refused, with exactly the output of the bytes before that
-    /// box written. All that was claimed is given back then, and each later call answers the same and writes nothing.
+    /// `Stream` where the bytes so far break a rule, with everything before it written; `Write` where a write failed,
+    /// with a prefix written; `OverLimit` and `Memory` where a claim was refused, with exactly the output of the bytes
+    /// before that box written. Everything claimed is given back then, and each later call returns the same and writes
+    /// nothing.
     pub fn feed<W: Sink>(
         &mut self,
         ledger: &mut Ledger,
-        chunk: &[u8],
+        input: &[u8],
         w: &mut W,
     ) -> Result<(), Stop>
         requires claim { held_by self.old ≤ ledger.old.live }
-        ensures feeds { (b : List ℕ) → IsAfter self.old b → Feeds b chunk.now self.old self.new
-            (lent (sent W.contents W.has_failed w.old w.new) self.old.fragments
+        ensures feeds { (b : List ℕ) → IsAfter self.old b → Feeds b input.now self.old self.new
+            (borrowed (sent W.contents W.has_failed w.old w.new) self.old.fragments
             self.new.fragments ledger.old ledger.new) result }
-        ensures plan { self.new.plan ≡ self.old.plan }
+        ensures operation { self.new.operation ≡ self.old.operation }
         ensures runs { OnOk result (self.new.stop ≡ None) }
         ensures stops { IfErr result (λ e. self.new.stop ≡ Some e) }
         ensures spent { OnErr result (held_by self.new ≡ 0) }
         ensures stopped { (e : Stop) → self.old.stop ≡ Some e → (result ≡ Err e) ×
             (self.new ≡ self.old) × (w.new ≡ w.old) × (ledger.new ≡ ledger.old) }
-        ensures empty { chunk.now ≡ [] →
+        ensures empty { input.now ≡ [] →
             (self.new ≡ self.old) × (w.new ≡ w.old) × (ledger.new ≡ ledger.old) }
         ensures failed { self.old.stop ≡ None → IsErrOf result Stop.Write → W.has_failed w.new ≡ true }
         ensures kept { (IsErrOf result Stop.Write → ⊥) → W.has_failed w.new ≡ W.has_failed w.old }
@@ -150,24 +159,24 @@ impl Feeder {
         if let Some(stop) = self.stop {
             return Err(stop);
         }
-        if chunk.is_empty() {
+        if input.is_empty() {
             return Ok(());
         }
-        self.advance(ledger, chunk, w)
+        self.advance(ledger, input, w)
     }
 
-    /// Feeds its machine the next chunk, and counts the most that was claimed at once by itself.
+    /// Feeds its machine the next input, and counts the most that it claimed at once.
     ///
     /// # Errors
     ///
     /// As [`Feeder::feed`].
-    fn advance<W: Sink>(&mut self, ledger: &mut Ledger, chunk: &[u8], w: &mut W) -> Result<(), Stop>
+    fn advance<W: Sink>(&mut self, ledger: &mut Ledger, input: &[u8], w: &mut W) -> Result<(), Stop>
         requires runs { self.old.stop ≡ None }
         requires claim { held_by self.old ≤ ledger.old.live }
-        ensures feeds { (b : List ℕ) → IsAfter self.old b → Feeds b chunk.now self.old self.new
-            (lent (sent W.contents W.has_failed w.old w.new) self.old.fragments
+        ensures feeds { (b : List ℕ) → IsAfter self.old b → Feeds b input.now self.old self.new
+            (borrowed (sent W.contents W.has_failed w.old w.new) self.old.fragments
             self.new.fragments ledger.old ledger.new) result }
-        ensures plan { self.new.plan ≡ self.old.plan }
+        ensures operation { self.new.operation ≡ self.old.operation }
         ensures runs { OnOk result (self.new.stop ≡ None) }
         ensures stops { IfErr result (λ e. self.new.stop ≡ Some e) }
         ensures spent { OnErr result (held_by self.new ≡ 0) }
@@ -179,10 +188,12 @@ impl Feeder {
     {
         let others = ledger.live() - self.held;
         let earlier = ledger.mark();
-        let answer = feed(&mut self.machine, ledger, chunk, &mut self.block, w);
+        let answer = feed(&mut self.machine, ledger, input, &mut self.block, w);
         self.held = ledger.live() - others;
-        self.peak = self.peak.max(ledger.peak() - others);
-        ledger.lift(earlier);
+        let most = ledger.peak();
+        let own = most - others;
+        self.peak = self.peak.max(own);
+        lift_back(ledger, earlier);
         match answer {
             Ok(()) => Ok(()),
             Err(stop) => {
@@ -192,7 +203,7 @@ impl Feeder {
         }
     }
 
-    /// The stream ended: what was counted of it. All that it has claimed is given back.
+    /// The stream ended: returns what was counted of it. Everything that it has claimed is given back.
     ///
     /// # Errors
     ///
@@ -201,10 +212,10 @@ impl Feeder {
         requires claim { held_by self ≤ ledger.old.live }
         ensures finishes { (b : List ℕ) → IsAfter self b → Finishes self b result }
         ensures totals { IfOk result (λ t. t ≡ totals_of self) }
-        ensures some { IfOk result (λ t. self.machine.counter.tally.walked + t.samples +
-            listed_by self.plan t.samples ≤ t.rows_read) }
+        ensures some { IfOk result (λ t. self.machine.counter.tally.inspected + t.samples +
+            listed_by self.operation t.samples ≤ t.rows_read) }
         ensures few { IfOk result (λ t. t.rows_read ≤
-            reads_of self.plan * self.machine.counter.tally.walked) }
+            reads_of self.operation * self.machine.counter.tally.inspected) }
         ensures stopped { (e : Stop) → self.stop ≡ Some e → result ≡ Err e }
         ensures back { ledger.new ≡ given_back ledger.old (held_by self) }
     {
@@ -221,10 +232,10 @@ impl Feeder {
     pub fn ending(&self) -> Result<Totals, Stop>
         ensures finishes { (b : List ℕ) → IsAfter self.now b → Finishes self.now b result }
         ensures totals { IfOk result (λ t. t ≡ totals_of self.now) }
-        ensures some { IfOk result (λ t. self.now.machine.counter.tally.walked + t.samples +
-            listed_by self.now.plan t.samples ≤ t.rows_read) }
+        ensures some { IfOk result (λ t. self.now.machine.counter.tally.inspected + t.samples +
+            listed_by self.now.operation t.samples ≤ t.rows_read) }
         ensures few { IfOk result (λ t. t.rows_read ≤
-            reads_of self.now.plan * self.now.machine.counter.tally.walked) }
+            reads_of self.now.operation * self.now.machine.counter.tally.inspected) }
         ensures stopped { (e : Stop) → self.now.stop ≡ Some e → result ≡ Err e }
     {
         if let Some(stop) = self.stop {
@@ -242,7 +253,7 @@ impl Feeder {
         ensures { ledger.new ≡ given_back ledger.old (held_by self) }
     {
         let Feeder {
-            plan: _,
+            operation: _,
             machine,
             block: _,
             stop: _,

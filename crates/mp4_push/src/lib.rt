@@ -1,7 +1,7 @@
-//! A fragmented stream that is pushed in chunk by chunk, whatever is made of it: its fragments are cut into shorter ones,
+//! A fragmented stream that is pushed in as inputs, for any operation: its fragments are cut into shorter ones,
 //! its samples are listed, or it is checked.
 //!
-//! - [`feeder`]: [`Feeder`], which takes the chunks, and [`totals`]: what it counts.
+//! - [`feeder`]: [`Feeder`], which takes the inputs, and [`totals`]: what it counts.
 //!
 //! The definitions: `specs/Feeders.antt` (what a Feeder is after the bytes that it was fed, and what its calls do).
 #![tactic(auto)]
@@ -16,5 +16,5 @@ pub use mp4_ends::{Failed, Sink};
 pub use mp4_grammar::Command;
 pub use mp4_ledger::Ledger;
 pub use mp4_machine::Stop;
-pub use mp4_recut::Plan;
+pub use mp4_recut::Operation;
 pub use totals::Totals;

@@ -28,15 +28,15 @@ use Rattle.mp4_frag.proofs.RowLemmas.{length_rows_of}
 use Rattle.mp4_frag.proofs.ListingLemmas.{is_listing}
 use Rattle.mp4_pieces.specs.declared.cut.Cut.{Cut}
 use Rattle.mp4_frag.specs.Ranges.{IsRunOf}
-use Rattle.mp4_recut.specs.Parts.{Ascends}
-use Rattle.mp4_recut.specs.Splitting.{runs_parts}
+use Rattle.mp4_recut.specs.OutputFragments.{Ascends}
+use Rattle.mp4_recut.specs.Splitting.{runs_fragments}
 use Rattle.mp4_recut.proofs.AscendLemmas.{Between, Clear, runs_ascend}
 use Rattle.mp4_recut.proofs.FragmentLemmas.{pairs_unfiltered}
 use Rattle.mp4_recut_laws.specs.PieceItems.{LiesIn}
 use Rattle.mp4_recut_laws.specs.Premises.{IsRunIn}
 use Rattle.mp4_recut_laws.proofs.FragmentLemmas.{map_none}
 
--- ---- its runs stand where they may
+-- ---- its runs may lie where they do
 
 placed : (p : Payload) (h : MoofBytes) (tracks : List Track) → IsBytes h.bytes → place_fault p (moof_runs h tracks) ≡ None → Placed p (moof_listing h tracks)
 placed p h tracks fits good =
@@ -91,9 +91,9 @@ module _ (cut : Cut) (tracks : List Track) (start : ℕ) (payload held : List �
   all_clear (run ∷ runs) are rise = (clear_of run are.0 runs are.1 rise.0, all_clear runs are.1 rise.1)
 
 -- the parts of a fragment without a fault ascend, whatever its payload states of its end, where all media that its runs need came
-pub parts_ascend : (cut : Cut) (h : MoofBytes) (tracks : List Track) (number start : ℕ) (payload : List ℕ) (p : Payload) → IsBytes h.bytes → place_fault p (moof_runs h tracks) ≡ None → AllByRecursion (IsRunIn tracks start payload h.bytes) (taken_runs h tracks)
-    → Ascends start (start + length payload) (runs_parts cut h.bytes tracks number (taken_runs h tracks))
-parts_ascend cut h tracks number start payload p fits good given =
+pub fragments_ascend : (cut : Cut) (h : MoofBytes) (tracks : List Track) (number start : ℕ) (payload : List ℕ) (p : Payload) → IsBytes h.bytes → place_fault p (moof_runs h tracks) ≡ None → AllByRecursion (IsRunIn tracks start payload h.bytes) (taken_runs h tracks)
+    → Ascends start (start + length payload) (runs_fragments cut h.bytes tracks number (taken_runs h tracks))
+fragments_ascend cut h tracks number start payload p fits good given =
     let runs = taken_runs h tracks in
     let are = each_run cut tracks start payload h.bytes runs given in
     runs_ascend cut h.bytes tracks number start (start + length payload) runs (omega arith) are (each_between cut tracks start payload h.bytes runs given)

@@ -24,7 +24,7 @@ use Rattle.mp4_cut.specs.Mdat.{mdat_header}
 use Rattle.mp4_cut.specs.Moof.{written_fragment}
 use Rattle.mp4_cut.specs.Reads.{FitsFields, FitsTrack}
 use Rattle.mp4_cut.specs.Sidx.{earliest, natural, reference_bytes, sidx_payload, written_index}
-use Rattle.mp4_cut.proofs.ByteLemmas.{moof_bytes}
+use Rattle.mp4_cut.proofs.ByteLemmas.{moof_box_bytes}
 use Rattle.mp4_cut.specs.Reads.{IsSoundRun}
 use Rattle.mp4_cut.proofs.GivenLemmas.{can_be_read}
 use Rattle.mp4_pieces.specs.Sizes.{fragment_size}
@@ -35,10 +35,10 @@ use Rattle.mp4_recut.specs.Splitting.{is_dropped, splitting, timescale_of}
 use Rattle.mp4_recut.specs.Texts.{box_text, groups_text, item_text, items_text, pieces_text, runs_text}
 use Rattle.mp4_recut_laws.specs.Premises.{CanAllBeRecut, CanBeRecut, IsRunIn}
 use Rattle.mp4_recut_laws.specs.Streams.{Ending, IsSoundEnding, IsSoundStream, NothingMore, OpenBox, OpenFragment, Stream, ending_context, ending_bytes, ending_text, stream_text}
-use Rattle.mp4_recut_laws.proofs.PremiseLemmas.{all_can_be_recut, behind_good, bytes_back, bytes_front}
+use Rattle.mp4_recut_laws.proofs.PremiseLemmas.{after_good, all_can_be_recut, bytes_back, bytes_front}
 use Rattle.mp4_recut_laws.proofs.FragmentLemmas.{fragment_runs}
 use Rattle.mp4_recut_laws.proofs.OpenFragmentLemmas.{open_runs}
-use Rattle.mp4_recut_laws.proofs.StreamLemmas.{behind_at}
+use Rattle.mp4_recut_laws.proofs.StreamLemmas.{after_at}
 use Rattle.mp4_pieces.proofs.PieceLemmas.{pieces_are_of}
 
 -- ---- bytes
@@ -117,7 +117,7 @@ module _ (cut : Cut) (held : List ℕ) (start : ℕ) (payload : List ℕ) (fits 
   pieces_bytes : (run : Run) (number : ℕ) (ps : List Piece) → AllByRecursion (Fits run) ps → Are (pieces_text cut held start payload run number ps)
   pieces_bytes run number [] all = none
   pieces_bytes run number (p ∷ ps) all =
-      join_both (join_both (record { is = moof_bytes (written_fragment held run p) number all.0 }) (header p.bytes))
+      join_both (join_both (record { is = moof_box_bytes (written_fragment held run p) number all.0 }) (header p.bytes))
       (join_both (record { is = IsBytes-take p.bytes (drop (natural p.place - start) payload) (IsBytes-drop (natural p.place - start) payload fits) }) (pieces_bytes run (number + 1) ps all.1))
 
   groups_bytes : (run : Run) (timescale number : ℕ) (gs : List (List Piece)) → AllByRecursion (Fits run) (join gs) → Are (groups_text cut held start payload run timescale number gs)
@@ -189,6 +189,6 @@ text_bytes cut s is =
     let front = bytes_front (joined s.items) e is.bytes in
     let back = bytes_back (joined s.items) e is.bytes in
     let fine = all_can_be_recut cut first_context s.items is.sound front (omega (arith, is.near, len)) (omega arith) tt in
-    let good = behind_good cut first_context s.items is.sound front (omega (arith, is.near, len)) (omega arith) tt in
+    let good = after_good cut first_context s.items is.sound front (omega (arith, is.near, len)) (omega arith) tt in
     bytes_both _ _ (items_bytes cut first_context s.items is.sound fine front).is
-    (end_bytes cut (ending_context cut s) s.ending is.ending back (omega (arith, is.near, len, behind_at (splitting cut) first_context s.items)) good.0 good.1).is
+    (end_bytes cut (ending_context cut s) s.ending is.ending back (omega (arith, is.near, len, after_at (splitting cut) first_context s.items)) good.0 good.1).is

@@ -30,7 +30,7 @@ use Rattle.mp4_recut_laws.specs.MediaSamples.{media_samples_from, media_samples_
 use Rattle.mp4_recut.specs.Texts.{media_of}
 use Rattle.mp4_recut_laws.proofs.SampleLemmas.{cut_samples, drop_on, join_same}
 
--- the rows of a piece, where they stand in the run
+-- the rows of a piece, where they lie in the run
 rows_back : (held : List ℕ) (run : Run) (c : Cursor) (rows more : List Row) → drop c.row (rows_of run held) ≡ rows ++ more → rows_in held run (piece_at c rows) ≡ rows
 unfolding piece_at
 rows_back held run c rows more e = ap (take (length rows)) e ∙ take_at rows more (length rows) refl

@@ -26,7 +26,7 @@ use Rattle.mp4_recut_laws.specs.MediaSamples.{media_samples_in}
 use Rattle.mp4_recut_laws.proofs.RunLemmas.{runs_recut, runs_count, runs_out}
 use Rattle.mp4_run_order.specs.declared.runs.ListedRun.{ListedRun}
 use Rattle.mp4_run_order.specs.declared.runs.Payload.{Payload}
-use Rattle.mp4_run_order.specs.Places.{first_offender, lies_in, may_stand}
+use Rattle.mp4_run_order.specs.Places.{first_offender, lies_in, may_be_placed}
 use Rattle.mp4_run_order.proofs.OrderLemmas.{taken_permutes}
 use Rattle.mp4_run_order.proofs.RunLemmas.{le_from}
 use Rattle.mp4_frag.specs.declared.run.Run.{Run}
@@ -76,28 +76,28 @@ pub and_both : (a b : Bool) → (a && b) ≡ true → (a ≡ true) × (b ≡ tru
 and_both true b e = (refl, e)
 and_both false b e = absurd cc
 
-abbrev pub pay : ℕ → ℕ → Payload
-pay start end = record { start = start; end = Some end }
+abbrev pub copy_media : ℕ → ℕ → Payload
+copy_media start end = record { start = start; end = Some end }
 
 record Lies (start end : ℕ) (run : Run) : Type 0 where
   from : pos start ≤ℤ run.place
   to : (run.place +ℤ pos run.bytes) ≤ℤ pos end
 
-lies_by : (start end : ℕ) (runs : List ListedRun) (run : Run) → not (may_stand (pay start end) runs (listed_run run)) ≡ false → (run.count ≡ 0) ⊎ Lies start end run
+lies_by : (start end : ℕ) (runs : List ListedRun) (run : Run) → not (may_be_placed (copy_media start end) runs (listed_run run)) ≡ false → (run.count ≡ 0) ⊎ Lies start end run
 lies_by start end runs run e =
-    elim (or_true (run.count == 0) _ (not_false (may_stand (pay start end) runs (listed_run run)) e)) [
+    elim (or_true (run.count == 0) _ (not_false (may_be_placed (copy_media start end) runs (listed_run run)) e)) [
       | inl none ↦ inl (is_same run.count 0 none)
       | inr some ↦
-          let lies = and_both _ _ (and_both (lies_in (pay start end) (listed_run run)) _ some).0 in
+          let lies = and_both _ _ (and_both (lies_in (copy_media start end) (listed_run run)) _ some).0 in
           inr (record { from = le_from (pos start) run.place lies.0; to = le_from (run.place +ℤ pos run.bytes) (pos end) lies.1 })
     ]
 
-all_lie : (start end : ℕ) (all : List ListedRun) (runs : List Run) → AllByRecursion (λ (r : ListedRun). not (may_stand (pay start end) all r) ≡ false) (map listed_run runs) → AllByRecursion (λ (run : Run). (run.count ≡ 0) ⊎ Lies start end run) runs
+all_lie : (start end : ℕ) (all : List ListedRun) (runs : List Run) → AllByRecursion (λ (r : ListedRun). not (may_be_placed (copy_media start end) all r) ≡ false) (map listed_run runs) → AllByRecursion (λ (run : Run). (run.count ≡ 0) ⊎ Lies start end run) runs
 all_lie start end all [] h = tt
 all_lie start end all (run ∷ runs) h = (lies_by start end all run h.0, all_lie start end all runs h.1)
 
-runs_lie : (start end : ℕ) (runs : List Run) → place_fault (pay start end) runs ≡ None → AllByRecursion (λ (run : Run). (run.count ≡ 0) ⊎ Lies start end run) runs
-runs_lie start end runs e = all_lie start end (map listed_run runs) runs (find_none _ (map listed_run runs) (map_none (λ (run : ListedRun). run_place_fault run.number) (first_offender (pay start end) (map listed_run runs)) e))
+runs_lie : (start end : ℕ) (runs : List Run) → place_fault (copy_media start end) runs ≡ None → AllByRecursion (λ (run : Run). (run.count ≡ 0) ⊎ Lies start end run) runs
+runs_lie start end runs e = all_lie start end (map listed_run runs) runs (find_none _ (map listed_run runs) (map_none (λ (run : ListedRun). run_place_fault run.number) (first_offender (copy_media start end) (map listed_run runs)) e))
 
 -- ---- what is asked of them
 
@@ -122,7 +122,7 @@ pub all_kept : (P : Run → Type 0) (xs ys : List Run) → IsPermutation xs ys �
 all_kept P xs ys same all = recursion_from_All P ys (All-permutation P xs ys same (All-from_recursion P xs all))
 
 -- the runs of a fragment without a fault
-pub runs_in_payload : (h : MoofBytes) (tracks : List Track) (start : ℕ) (payload : List ℕ) → IsWhole h.bytes → IsBytes h.bytes → h.offset + length h.bytes ≤ 2 ^ 62 → AllByRecursion FitsTrack tracks → IsRead h tracks → place_fault (pay start (start + length payload)) (moof_runs h tracks) ≡ None
+pub runs_in_payload : (h : MoofBytes) (tracks : List Track) (start : ℕ) (payload : List ℕ) → IsWhole h.bytes → IsBytes h.bytes → h.offset + length h.bytes ≤ 2 ^ 62 → AllByRecursion FitsTrack tracks → IsRead h tracks → place_fault (copy_media start (start + length payload)) (moof_runs h tracks) ≡ None
     → AllByRecursion (IsRunIn tracks start payload h.bytes) (taken_runs h tracks)
 runs_in_payload h tracks start payload whole held room all read placed =
     all_kept (IsRunIn tracks start payload h.bytes) (moof_runs h tracks) (taken_runs h tracks) (taken_permutes listed_run (moof_runs h tracks))
@@ -130,9 +130,9 @@ runs_in_payload h tracks start payload whole held room all read placed =
 
 -- ---- their numbers
 
-told_none : (t : Bool) (f : Fault) → cond t (f ∷ []) [] ≡ [] → t ≡ false
-told_none true f e = absurd cc
-told_none false f e = refl
+given_none : (t : Bool) (f : Fault) → cond t (f ∷ []) [] ≡ [] → t ≡ false
+given_none true f e = absurd cc
+given_none false f e = refl
 
 last_none : {X : Type 0} (xs ys : List X) → xs ++ ys ≡ [] → ys ≡ []
 last_none [] ys e = e
@@ -142,7 +142,7 @@ pub has_numbers : (cut : Cut) (h : MoofBytes) (runs : List Run) (number : ℕ) �
 unfolding rooms.room_faults
 has_numbers cut h runs number low e =
     let none = last_none (rooms.index_faults cut h.bytes runs) _ (least-none (rooms.room_faults cut h runs number) e) in
-    ltb-false _ _ (sym (past_last number (piece_count cut h.bytes runs) low) ∙ told_none (list_any (nat_lt 4294967295) (numbers number (piece_count cut h.bytes runs))) (sequence_fault h.offset) none)
+    ltb-false _ _ (sym (past_last number (piece_count cut h.bytes runs) low) ∙ given_none (list_any (nat_lt 4294967295) (numbers number (piece_count cut h.bytes runs))) (sequence_fault h.offset) none)
 
 pub counts_same : (cut : Cut) (held : List ℕ) (start : ℕ) (payload : List ℕ) (tracks : List Track) (runs : List Run) → runs_count cut held start payload tracks runs ≡ piece_count cut held runs
 counts_same cut held start payload tracks [] = refl
@@ -150,10 +150,10 @@ counts_same cut held start payload tracks (run ∷ runs) = omega (arith, counts_
 
 -- ---- a fragment
 
-same_end : (start a b : ℕ) → a ≡ b → ◌≡◌ {A = Payload} (record { start = start; end = Some a }) (pay start b)
+same_end : (start a b : ℕ) → a ≡ b → ◌≡◌ {A = Payload} (record { start = start; end = Some a }) (copy_media start b)
 same_end start a b e = cc
 
-payload_is : (n : ℕ) (mdat : OneBox) → IsOne Mdat mdat → ◌≡◌ {A = Payload} (record { start = n + mdat.header.header_len; end = end_of n mdat.header.size }) (pay (n + mdat.header.header_len) (n + mdat.header.header_len + length (drop mdat.header.header_len mdat.bytes)))
+payload_is : (n : ℕ) (mdat : OneBox) → IsOne Mdat mdat → ◌≡◌ {A = Payload} (record { start = n + mdat.header.header_len; end = end_of n mdat.header.size }) (copy_media (n + mdat.header.header_len) (n + mdat.header.header_len + length (drop mdat.header.header_len mdat.bytes)))
 payload_is n mdat one =
     let len : mdat.header.header_len ≤ length mdat.bytes = omega (arith, one.is.spelled.header_len, ap length one.is.whole, length-append one.is.head one.payload) in
     ap (λ (s : Size). record { start = n + mdat.header.header_len; end = end_of n s }) one.is.size

@@ -1,4 +1,4 @@
--- An index that is written tells the truth of the fragments behind it.
+-- An index that is written is true of the fragments after it.
 use Rattle.std.proofs.Common.{◌≡◌, ◌∙◌, ℕ, ℤ, zero, suc, pos, negsuc, ◌+◌, ◌<◌, ◌≤◌, ◌^◌, ◌+ℤ◌, List, [], ◌∷◌, ◌++◌, length, length-append, Option, Some, None, inl, inr, refl, sym, ap, arith, subst, map}
 use Rattle.std.specs.Prelude.{◌==◌, drop, slice_get, take}
 use Rattle.std.specs.List.{AllByRecursion, flat_map, position, sum_by}
@@ -42,7 +42,7 @@ use Rattle.mp4_recut_laws.proofs.CutLemmas.{run_long}
 use Rattle.mp4_cut.proofs.ReadLemmas.{length_media}
 use Rattle.mp4_recut_laws.proofs.RunLemmas.{none_of}
 
--- ---- what samples come to
+-- ---- sums over samples
 
 sample_durations : (track entry : ℕ) (rows : List Row) (time : ℕ) (media : List ℕ) → sum_by (λ (s : MediaSample). s.duration) (media_samples_from track entry rows time media) ≡ durations rows
 sample_durations track entry [] time media = refl
@@ -59,7 +59,7 @@ sample_times track entry (row ∷ rows) time media = ap (λ (zs : List ℤ). (po
 
 -- ---- a piece
 
--- what is known of a piece that stands behind an index
+-- what is known of a piece that follows an index
 record Good (held : List ℕ) (start : ℕ) (payload : List ℕ) (run : Run) (p : Piece) : Type 0 where
   is : IsPieceOf held run p
   long : length (media_of start payload p) ≡ p.bytes
@@ -119,9 +119,9 @@ module _ (held : List ℕ) (start : ℕ) (payload : List ℕ) (run : Run) where
   earliest_is [] time all = (refl, omega arith)
   earliest_is (p ∷ g) time all = let n = natural_is p.least time in (n.0 ∙ piece_least p all.0, n.1)
 
-  index_tells : (timescale number : ℕ) (g : List Piece) → run.track < 2 ^ 32 → timescale < 2 ^ 32 → length g ≤ 65535 → BeginsInTime g → AllByRecursion (Good held start payload run) g → IsIndexOf run.track timescale number (drop 8 (index_as_box run timescale g).bytes) (map media_piece g)
+  index_states : (timescale number : ℕ) (g : List Piece) → run.track < 2 ^ 32 → timescale < 2 ^ 32 → length g ≤ 65535 → BeginsInTime g → AllByRecursion (Good held start payload run) g → IsIndexOf run.track timescale number (drop 8 (index_as_box run timescale g).bytes) (map media_piece g)
   unfolding sidx_specs.written_index
-  index_tells timescale number g small scale few time all =
+  index_states timescale number g small scale few time all =
       let v = version_and_flags 1 0 in
       let refs = flat_map reference_bytes g in
       let count = big_bytes 2 0 ++ (big_bytes 2 (length g) ++ refs) in
@@ -170,7 +170,7 @@ module _ (cut : Cut) (held : List ℕ) (start : ℕ) (payload : List ℕ) (track
       → GroupsAreIndexed cut held start payload run timescale number gs
   groups_indexed run timescale number [] small scale few time all = tt
   groups_indexed run timescale number (g ∷ gs) small scale few time all = (
-    index_tells held start payload run timescale number g small scale few.0 time.0 (all_first (Good held start payload run) g (join gs) all),
+    index_states held start payload run timescale number g small scale few.0 time.0 (all_first (Good held start payload run) g (join gs) all),
     groups_indexed run timescale (number + length g) gs small scale few.1 time.1 (all_last (Good held start payload run) g (join gs) all),
   )
 

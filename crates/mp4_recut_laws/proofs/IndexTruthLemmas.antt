@@ -1,4 +1,4 @@
--- Each sidx of a recut text, as it is read, tells the truth of the items directly behind it.
+-- Each sidx of a recut text, as it is read, is true of the items directly after it.
 use Rattle.std.proofs.Common.{◌≡◌, ◌∙◌, ℕ, ◌+◌, ◌<◌, ◌≤◌, ◌^◌, Bool, true, false, List, [], ◌∷◌, ◌++◌, length, length-append, append-nil, append_assoc, Option, Some, None, inl, inr, refl, sym, ap, arith, subst, map}
 use Rattle.std.specs.Prelude.{codes, drop, option_map}
 use Rattle.std.specs.List.{AllByRecursion, sum_by}
@@ -30,14 +30,14 @@ use Rattle.mp4_recut.specs.Splitting as splits
 use Rattle.mp4_recut.specs.Splitting.{is_dropped, scale_of, splitting, timescale_of}
 use Rattle.mp4_recut_laws.specs.PieceItems.{IsOnePiece, PieceWithMedia, piece_item, piece_samples, piece_with_media, pieces_items, without_end, without_ends}
 use Rattle.mp4_recut_laws.specs.Premises.{CanAllBeRecut, CanBeRecut, IsRunIn}
-use Rattle.mp4_recut_laws.specs.RecutItems.{groups_items, index_as_box, index_items, item_recut, items_recut, kept_items, runs_items, without_index}
+use Rattle.mp4_recut_laws.specs.RecutItems.{groups_items, index_as_box, index_items, item_recut, items_recut, copied_items, runs_items, without_index}
 use Rattle.mp4_cut.specs.Indexes.{Reference, index_in}
 use Rattle.mp4_recut_laws.specs.Indexes.{GroupsAreIndexed, IsIndexOf, references_of}
 use Rattle.mp4_recut_laws.specs.MediaSamples.{MediaSample, item_samples, media_samples_from}
 use Rattle.mp4_recut_laws.specs.Streams.{Ending, IsSoundEnding, IsSoundStream, NothingMore, OpenBox, OpenFragment, Stream, ending_context, ending_bytes, ending_items, recut}
 use Rattle.mp4_recut_laws.specs.IndexTruth.{IndexesAreTrue, IndexIsTrue, first_references, samples_of_first}
 use Rattle.mp4_recut_laws.proofs.CutLemmas.{run_pieces}
-use Rattle.mp4_recut_laws.proofs.PremiseLemmas.{all_can_be_recut, behind_good, bytes_back, bytes_front}
+use Rattle.mp4_recut_laws.proofs.PremiseLemmas.{after_good, all_can_be_recut, bytes_back, bytes_front}
 use Rattle.mp4_recut_laws.proofs.FragmentLemmas.{fragment_runs}
 use Rattle.mp4_recut_laws.proofs.IndexLemmas.{run_indexed, scale_small}
 use Rattle.mp4_recut_laws.proofs.ItemLemmas.{some_same}
@@ -45,7 +45,7 @@ use Rattle.mp4_recut_laws.proofs.PieceListLemmas.{still}
 use Rattle.mp4_recut_laws.proofs.OnePieceLemmas.{one_samples}
 use Rattle.mp4_recut_laws.proofs.OpenFragmentLemmas.{open_runs}
 use Rattle.mp4_recut_laws.proofs.RunLemmas.{none_of}
-use Rattle.mp4_recut_laws.proofs.StreamLemmas.{behind_at}
+use Rattle.mp4_recut_laws.proofs.StreamLemmas.{after_at}
 use Rattle.mp4_recut_laws.proofs.TrackLemmas.{ends_settled, track_ends}
 use Rattle.mp4_recut_laws.proofs.WrittenIndexLemmas.{AreScaled, all_index, item_scaled, items_indexed}
 
@@ -87,7 +87,7 @@ module _ (cut : Cut) (tracks : List Track) where
   abbrev IsPieceHere : PieceWithMedia → Type 0
   IsPieceHere q = IsOnePiece (without_index cut) tracks q.written q.media
 
-  -- behind all tracks that differ in their ends alone
+  -- after all tracks that differ only in their ends
   abbrev TrueAnywhere : List Item → Type 0
   TrueAnywhere is = (at n : ℕ) (us : List Track) → without_ends us ≡ without_ends tracks → IndexesAreTrue cut (context at (Some us) n) is
 
@@ -200,7 +200,7 @@ module _ (cut : Cut) (index : cut.index ≡ true) where
   abbrev Later : Option (List Track) → List Item → Type 0
   Later o more = (d : Context) → option_map without_ends d.tracks ≡ option_map without_ends o → IndexesAreTrue cut d more
 
-  kept_true : (o : Option (List Track)) (d : Context) (t : Bool) (b : OneBox) (more : List Item) → is_dropped b.header.kind.0 ≡ t → option_map without_ends d.tracks ≡ option_map without_ends o → Later o more → IndexesAreTrue cut d (kept_items t b ++ more)
+  kept_true : (o : Option (List Track)) (d : Context) (t : Bool) (b : OneBox) (more : List Item) → is_dropped b.header.kind.0 ≡ t → option_map without_ends d.tracks ≡ option_map without_ends o → Later o more → IndexesAreTrue cut d (copied_items t b ++ more)
   kept_true o d true b more t e later = later d e
   kept_true o d false b more t e later = (λ kind. absurd (false≢true (sym t ∙ (ap is_dropped kind ∙ sidx_dropped))), later (context_after (splitting cut) d (PassedOver b)) e)
 
@@ -260,7 +260,7 @@ module _ (cut : Cut) (index : cut.index ≡ true) where
       let front = bytes_front (joined s.items) e is.bytes in
       let back = bytes_back (joined s.items) e is.bytes in
       let fine = all_can_be_recut cut first_context s.items is.sound front (omega (arith, is.near, len)) (omega arith) tt in
-      let good = behind_good cut first_context s.items is.sound front (omega (arith, is.near, len)) (omega arith) tt in
+      let good = after_good cut first_context s.items is.sound front (omega (arith, is.near, len)) (omega arith) tt in
       let scaled = (items_indexed cut index first_context s.items tt is.sound fine front).1 in
       items_true_here first_context first_context s.items (ending_items cut (ending_context cut s) s.ending) refl tt is.sound fine front
-      (λ d k. ending_true_here (ending_context cut s) d s.ending k scaled is.ending back (omega (arith, is.near, len, behind_at (splitting cut) first_context s.items)) good.0 good.1)
+      (λ d k. ending_true_here (ending_context cut s) d s.ending k scaled is.ending back (omega (arith, is.near, len, after_at (splitting cut) first_context s.items)) good.0 good.1)

@@ -10,7 +10,7 @@ use Rattle.mp4_grammar.specs.Contexts.{Context, context}
 use Rattle.mp4_grammar.specs.Joined.{AreSound, IsSound, Item, Movie, MovieFragment, OneBox, PassedOver, context_after, context_after_all, fragment_in, joined}
 use Rattle.mp4_recut_laws.specs.PieceItems.{without_ends}
 use Rattle.mp4_recut_laws.specs.Premises.{CanAllBeRecut, CanBeRecut, RecutAgrees, SameButEnds}
-use Rattle.mp4_recut_laws.specs.RecutItems.{item_recut, items_recut, kept_items, without_index}
+use Rattle.mp4_recut_laws.specs.RecutItems.{item_recut, items_recut, copied_items, without_index}
 use Rattle.mp4_recut_laws.specs.MediaSamples.{MediaSample, item_samples, items_samples}
 use Rattle.mp4_recut.specs.Splitting.{is_dropped, splitting}
 use Rattle.mp4_recut.specs.Texts.{box_text, item_text, items_text}
@@ -32,7 +32,7 @@ none_back : (o : Option (List Track)) → option_map without_ends o ≡ None →
 none_back None e = refl
 none_back (Some ts) e = absurd cc
 
-passed : (cut : Cut) (c d : Context) (b : OneBox) (t : Bool) → is_dropped b.header.kind.0 ≡ t → SameButEnds c d → IsSound (splitting cut) c (PassedOver b) → ItemAgrees cut c d (PassedOver b) (kept_items t b)
+passed : (cut : Cut) (c d : Context) (b : OneBox) (t : Bool) → is_dropped b.header.kind.0 ≡ t → SameButEnds c d → IsSound (splitting cut) c (PassedOver b) → ItemAgrees cut c d (PassedOver b) (copied_items t b)
 passed cut c d b true e a s = record { sound = tt; text = ap (λ (t : Bool). box_text t b.bytes) (sym e); same = refl; same_tracks = record { number = a.number; tracks = a.tracks }; join = ap (λ (t : Bool). box_text t b.bytes) (sym e) }
 passed cut c d b false e a s = record {
   sound = (s, tt);
@@ -77,8 +77,8 @@ fragment_by cut at number (Some tracks) to now (Some us) moof mdat n e s fine =
       text = again.text ∙ out_is cut moof.bytes f.payload.start payload tracks tracks number (taken_runs h tracks) given;
       same = again.same;
       same_tracks = record {
-        number = ap (λ (x : Context). x.number) again.behind ∙ omega (arith, count);
-        tracks = ap (λ (x : Context). option_map without_ends x.tracks) again.behind ∙ ap (λ (ts : List Track). Some ts) (again.same_tracks ∙ (some_same (without_ends us) (without_ends tracks) e ∙ sym (ends_settled tracks (moof_trafs h tracks))));
+        number = ap (λ (x : Context). x.number) again.after ∙ omega (arith, count);
+        tracks = ap (λ (x : Context). option_map without_ends x.tracks) again.after ∙ ap (λ (ts : List Track). Some ts) (again.same_tracks ∙ (some_same (without_ends us) (without_ends tracks) e ∙ sym (ends_settled tracks (moof_trafs h tracks))));
       };
       join = runs_joined cut moof.bytes f.payload.start payload tracks tracks number (taken_runs h tracks) given;
     })
@@ -98,9 +98,9 @@ pub text_join : (cut : Cut) (c : Context) (xs ys : List Item) → items_text cut
 text_join cut c [] ys = refl
 text_join cut c (x ∷ xs) ys = ap (λ (z : List ℕ). item_text cut c x ++ z) (text_join cut (context_after (splitting cut) c x) xs ys) ∙ sym (append_assoc (item_text cut c x) _ _)
 
-pub behind_join : (cut : Cut) (c : Context) (xs ys : List Item) → context_after_all (splitting cut) c (xs ++ ys) ≡ context_after_all (splitting cut) (context_after_all (splitting cut) c xs) ys
-behind_join cut c [] ys = refl
-behind_join cut c (x ∷ xs) ys = behind_join cut (context_after (splitting cut) c x) xs ys
+pub after_join : (cut : Cut) (c : Context) (xs ys : List Item) → context_after_all (splitting cut) c (xs ++ ys) ≡ context_after_all (splitting cut) (context_after_all (splitting cut) c xs) ys
+after_join cut c [] ys = refl
+after_join cut c (x ∷ xs) ys = after_join cut (context_after (splitting cut) c x) xs ys
 
 pub samples_join : (cut : Cut) (c : Context) (xs ys : List Item) → items_samples cut c (xs ++ ys) ≡ items_samples cut c xs ++ items_samples cut (context_after_all (splitting cut) c xs) ys
 samples_join cut c [] ys = refl
@@ -123,7 +123,7 @@ items_agree cut c d (i ∷ is) a s fine =
       sound = sound_join (without_index cut) d now more one.sound rest.sound;
       text = text_join (without_index cut) d now more ∙ same_bytes _ _ _ _ one.text rest.text;
       same = samples_join (without_index cut) d now more ∙ same_samples _ _ _ _ one.same rest.same;
-      same_tracks = subst (λ (x : Context). SameButEnds (context_after_all (splitting cut) (context_after (splitting cut) c i) is) x) (sym (behind_join (without_index cut) d now more)) rest.same_tracks;
+      same_tracks = subst (λ (x : Context). SameButEnds (context_after_all (splitting cut) (context_after (splitting cut) c i) is) x) (sym (after_join (without_index cut) d now more)) rest.same_tracks;
     }
 
 pub items_joined : (cut : Cut) (c : Context) (is : List Item) → AreSound (splitting cut) c is → CanAllBeRecut cut c is → joined (items_recut cut c is) ≡ items_text cut c is

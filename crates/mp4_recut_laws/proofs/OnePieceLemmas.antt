@@ -31,7 +31,7 @@ use Rattle.mp4_box.specs.Order.{least}
 use Rattle.mp4_box.specs.Order as order
 use Rattle.mp4_cut.specs.Mdat.{mdat_header}
 use Rattle.mp4_cut.specs.Moof.{WrittenFragment, data_offset, in_moof, moof_box, written_fragment}
-use Rattle.mp4_cut.specs.Reads.{FitsFields, IsReadAs, Tells, header_of, held_moof, media_of}
+use Rattle.mp4_cut.specs.Reads.{Describes, FitsFields, IsReadAs, header_of, held_moof, media_of}
 use Rattle.mp4_cut.specs.Sidx.{natural}
 use Rattle.mp4_cut.proofs.BoxLemmas.{is_box}
 use Rattle.mp4_cut.proofs.MoofLemmas.{length_in_moof, length_moof, short_moof}
@@ -69,7 +69,7 @@ one_piece cut [] some e = absurd (omega arith)
 one_piece cut (x ∷ rows) some e = piece_again (fits cut) x rows (is_limit cut) e
 
 -- the run of a moof that was written has one piece
-pub its_piece : (cut : Cut) (f : WrittenFragment) (h : MoofBytes) (run : Run) → Tells f h run → 0 < length f.rows → fits cut f.rows ≡ true → pieces_of cut h.bytes run ≡ piece_at (first_cursor run) f.rows ∷ []
+pub its_piece : (cut : Cut) (f : WrittenFragment) (h : MoofBytes) (run : Run) → Describes f h run → 0 < length f.rows → fits cut f.rows ≡ true → pieces_of cut h.bytes run ≡ piece_at (first_cursor run) f.rows ∷ []
 unfolding pieces_at
 its_piece cut f h run t some e =
     ap (λ (rows : List Row). pieces_at (first_cursor run) (cut_rows cut rows)) t.rows ∙ ap (pieces_at (first_cursor run)) (one_piece cut f.rows some e)
@@ -88,18 +88,18 @@ has_room cut h run p number none small e =
 
 -- ---- what is at fault
 
-pay : ℕ → Option ℕ → Payload
-pay start end = record { start = start; end = end }
+copy_media : ℕ → Option ℕ → Payload
+copy_media start end = record { start = start; end = end }
 
-same_pay : (a b c d : ℕ) → a ≡ b → c ≡ d → pay a (Some c) ≡ pay b (Some d)
-same_pay a b c d p q = cc
+same_copy : (a b c d : ℕ) → a ≡ b → c ≡ d → copy_media a (Some c) ≡ copy_media b (Some d)
+same_copy a b c d p q = cc
 
 payload_is : (at number : ℕ) (tracks : List Track) (f : WrittenFragment) (media : List ℕ) → length media ≡ sizes f.rows
     → (fragment_in (context at (Some tracks) number) (moof_as_box f number) (mdat_as_box media)).payload ≡ media_of f (held_moof f number at)
-unfolding pay
+unfolding copy_media
 payload_is at number tracks f media all =
     let header : mdat_header_size (length media) ≡ mdat_header_size (sizes f.rows) = ap mdat_header_size all in
-    same_pay _ _ _ _ (omega (arith, length_moof f number, header)) (omega (arith, length_moof f number, header, all))
+    same_copy _ _ _ _ (omega (arith, length_moof f number, header)) (omega (arith, length_moof f number, header, all))
 
 good_by : (a b : Option Fault) → a ≡ None → b ≡ None → option_or a b ≡ None
 good_by a b p q = rw (p, q) refl
@@ -111,7 +111,7 @@ is_good cut at number tracks f media none small one r =
     let payload = (fragment_in (context at (Some tracks) number) (moof_as_box f number) (mdat_as_box media)).payload in
     good_by (place_fault payload (moof_runs h tracks)) (room_fault cut h (moof_runs h tracks) number)
     (ap (place_fault payload) r.all ∙ (ap (λ (p : Payload). place_fault p (r.run ∷ [])) (payload_is at number tracks f media one.all) ∙ r.placed))
-    (ap (λ (rs : List Run). room_fault cut h rs number) r.all ∙ has_room cut h r.run (piece_at (first_cursor r.run) f.rows) number none small (its_piece cut f h r.run r.tells one.some one.fits))
+    (ap (λ (rs : List Run). room_fault cut h rs number) r.all ∙ has_room cut h r.run (piece_at (first_cursor r.run) f.rows) number none small (its_piece cut f h r.run r.describes one.some one.fits))
 
 -- ---- the text
 
@@ -126,7 +126,7 @@ tidy : (a b c : List ℕ) → (((a ++ b) ++ (c ++ [])) ++ []) ++ [] ≡ a ++ (b 
 tidy a b c = append-nil (((a ++ b) ++ (c ++ [])) ++ []) ∙ (append-nil ((a ++ b) ++ (c ++ [])) ∙ (ap (λ (x : List ℕ). (a ++ b) ++ x) (append-nil c) ∙ append_assoc a b c))
 
 -- the text of one piece
-piece_text : (cut : Cut) (f : WrittenFragment) (h : MoofBytes) (run : Run) (start number timescale : ℕ) (media : List ℕ) → cut.index ≡ false → Tells f h run → start ≡ h.offset + data_offset f.rows → length media ≡ sizes f.rows → pieces_of cut h.bytes run ≡ piece_at (first_cursor run) f.rows ∷ []
+piece_text : (cut : Cut) (f : WrittenFragment) (h : MoofBytes) (run : Run) (start number timescale : ℕ) (media : List ℕ) → cut.index ≡ false → Describes f h run → start ≡ h.offset + data_offset f.rows → length media ≡ sizes f.rows → pieces_of cut h.bytes run ≡ piece_at (first_cursor run) f.rows ∷ []
     → texts.groups_text cut h.bytes start media run timescale number (groups (pieces_of cut h.bytes run)) ++ [] ≡ moof_box f number ++ (mdat_header (length media) ++ media)
 unfolding piece_at
 piece_text cut f h run start number timescale media none t s all e =
@@ -157,7 +157,7 @@ one_recut cut at number tracks f media none small one =
     let fits = one.can.fits in
     let r = is_read_as f number at tracks one.can in
     let p = piece_at (first_cursor r.run) f.rows in
-    let its = its_piece cut f h r.run r.tells one.some one.fits in
+    let its = its_piece cut f h r.run r.describes one.some one.fits in
     let c = context at (Some tracks) number in
     let frag = fragment_in c (moof_as_box f number) (mdat_as_box media) in
     let start = frag.payload.start in
@@ -173,8 +173,8 @@ one_recut cut at number tracks f media none small one =
       text =
           ap (λ (m : List ℕ). fragment_text cut frag m) payload
           ∙ (ap (λ (rs : List Run). texts.runs_text cut h.bytes start media tracks number rs) r.taken
-          ∙ piece_text cut f h r.run start number (timescale_of tracks r.run.track) media none r.tells (omega (arith, length_moof f number, header)) one.all its);
-      behind = same_context _ _ _ _ _ _
+          ∙ piece_text cut f h r.run start number (timescale_of tracks r.run.track) media none r.describes (omega (arith, length_moof f number, header)) one.all its);
+      after = same_context _ _ _ _ _ _
           (omega (arith, length-append (moof_box f number) (mdat_header (length media) ++ media)))
           r.settled
           (at_same number (piece_count cut h.bytes (runs_in frag)) 1 (ap (piece_count cut h.bytes) r.taken ∙ its_count cut h.bytes r.run p its));
@@ -191,9 +191,9 @@ one_samples cut at number tracks f media one =
     let start = frag.payload.start in
     let payload : drop (mdat_header_size (length media)) (mdat_header (length media) ++ media) ≡ media = drop_at (mdat_header (length media)) media (mdat_header_size (length media)) (length_mdat (length media)) in
     let header : mdat_header_size (length media) ≡ mdat_header_size (sizes f.rows) = ap mdat_header_size one.all in
-    let here : natural r.run.place - start ≡ 0 = place_back r.run f.rows (at + data_offset f.rows) start r.tells.place (omega (arith, length_moof f number, header)) in
+    let here : natural r.run.place - start ≡ 0 = place_back r.run f.rows (at + data_offset f.rows) start r.describes.place (omega (arith, length_moof f number, header)) in
     ap (λ (m : List ℕ). media_samples_in frag m) payload
     ∙ (ap (λ (rs : List Run). flat_map (media_samples_of_run h.bytes start media) rs) r.taken
     ∙ (append-nil (media_samples_of_run h.bytes start media r.run)
     ∙ (ap (λ (n : ℕ). media_samples_from r.run.track r.run.entry (rows_of r.run h.bytes) r.run.time (drop n media)) here
-    ∙ (rw (r.tells.track, r.tells.entry, r.tells.rows, r.tells.time) refl))))
+    ∙ (rw (r.describes.track, r.describes.entry, r.describes.rows, r.describes.time) refl))))

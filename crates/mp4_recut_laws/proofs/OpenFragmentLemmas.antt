@@ -12,7 +12,7 @@ use Rattle.mp4_init.proofs.MoovLemmas.{first_none}
 use Rattle.mp4_init.proofs.SearchTreeLemmas.{is_same}
 use Rattle.mp4_run_order.specs.declared.runs.ListedRun.{ListedRun}
 use Rattle.mp4_run_order.specs.declared.runs.Payload.{Payload}
-use Rattle.mp4_run_order.specs.Places.{first_offender, lies_in, may_stand}
+use Rattle.mp4_run_order.specs.Places.{first_offender, lies_in, may_be_placed}
 use Rattle.mp4_run_order.proofs.OrderLemmas.{taken_permutes}
 use Rattle.mp4_run_order.proofs.RunLemmas.{le_from}
 use Rattle.mp4_frag.specs.declared.run.Run.{Run}
@@ -40,22 +40,22 @@ use Rattle.mp4_recut.specs.Splitting.{splitting}
 use Rattle.mp4_recut_laws.proofs.FragmentLemmas.{all_kept, and_both, counts_same, find_none, from_place, has_numbers, map_none, no_rows, not_false, or_true}
 use Rattle.mp4_recut_laws.proofs.RunLemmas.{runs_recut, runs_count, runs_out}
 
-abbrev open_pay : ℕ → Payload
-open_pay start = record { start = start; end = None }
+abbrev open_copy : ℕ → Payload
+open_copy start = record { start = start; end = None }
 
-lies_by : (start : ℕ) (runs : List ListedRun) (run : Run) → not (may_stand (open_pay start) runs (listed_run run)) ≡ false → (run.count ≡ 0) ⊎ (pos start ≤ℤ run.place)
+lies_by : (start : ℕ) (runs : List ListedRun) (run : Run) → not (may_be_placed (open_copy start) runs (listed_run run)) ≡ false → (run.count ≡ 0) ⊎ (pos start ≤ℤ run.place)
 lies_by start runs run e =
-    elim (or_true (run.count == 0) _ (not_false (may_stand (open_pay start) runs (listed_run run)) e)) [
+    elim (or_true (run.count == 0) _ (not_false (may_be_placed (open_copy start) runs (listed_run run)) e)) [
       | inl none ↦ inl (is_same run.count 0 none)
-      | inr some ↦ inr (le_from (pos start) run.place (and_both _ _ (and_both (lies_in (open_pay start) (listed_run run)) _ some).0).0)
+      | inr some ↦ inr (le_from (pos start) run.place (and_both _ _ (and_both (lies_in (open_copy start) (listed_run run)) _ some).0).0)
     ]
 
-all_lie : (start : ℕ) (all : List ListedRun) (runs : List Run) → AllByRecursion (λ (r : ListedRun). not (may_stand (open_pay start) all r) ≡ false) (map listed_run runs) → AllByRecursion (λ (run : Run). (run.count ≡ 0) ⊎ (pos start ≤ℤ run.place)) runs
+all_lie : (start : ℕ) (all : List ListedRun) (runs : List Run) → AllByRecursion (λ (r : ListedRun). not (may_be_placed (open_copy start) all r) ≡ false) (map listed_run runs) → AllByRecursion (λ (run : Run). (run.count ≡ 0) ⊎ (pos start ≤ℤ run.place)) runs
 all_lie start all [] h = tt
 all_lie start all (run ∷ runs) h = (lies_by start all run h.0, all_lie start all runs h.1)
 
-runs_lie : (start : ℕ) (runs : List Run) → place_fault (open_pay start) runs ≡ None → AllByRecursion (λ (run : Run). (run.count ≡ 0) ⊎ (pos start ≤ℤ run.place)) runs
-runs_lie start runs e = all_lie start (map listed_run runs) runs (find_none _ (map listed_run runs) (map_none (λ (run : ListedRun). run_place_fault run.number) (first_offender (open_pay start) (map listed_run runs)) e))
+runs_lie : (start : ℕ) (runs : List Run) → place_fault (open_copy start) runs ≡ None → AllByRecursion (λ (run : Run). (run.count ≡ 0) ⊎ (pos start ≤ℤ run.place)) runs
+runs_lie start runs e = all_lie start (map listed_run runs) runs (find_none _ (map listed_run runs) (map_none (λ (run : ListedRun). run_place_fault run.number) (first_offender (open_copy start) (map listed_run runs)) e))
 
 -- how far they reach
 reach_by : (t : Bool) (n b r : ℕ) (run : Run) → (run.count == 0) ≡ t → cond t r (max b r) ≤ n → ((run.count ≡ 0) ⊎ (b ≤ n)) × (r ≤ n)
@@ -78,7 +78,7 @@ all_in : (tracks : List Track) (start : ℕ) (payload held : List ℕ) (runs : L
 all_in tracks start payload held [] a b c d = tt
 all_in tracks start payload held (run ∷ runs) a b c d = (one_run_in tracks start payload held run a.0 b.0 c.0 d.0, all_in tracks start payload held runs a.1 b.1 c.1 d.1)
 
-payload_is : (n : ℕ) (h : Header) → h.size ≡ ToEnd → ◌≡◌ {A = Payload} (record { start = n + h.header_len; end = end_of n h.size }) (open_pay (n + h.header_len))
+payload_is : (n : ℕ) (h : Header) → h.size ≡ ToEnd → ◌≡◌ {A = Payload} (record { start = n + h.header_len; end = end_of n h.size }) (open_copy (n + h.header_len))
 payload_is n h e = ap (λ (s : Size). record { start = n + h.header_len; end = end_of n s }) e
 
 module _ (cut : Cut) (at number : ℕ) (tracks : List Track) (x more : List ℕ) (h : Header) (is_open : h.size ≡ ToEnd) (whole : IsWhole x) (held : IsBytes x) (room : at + length x + length more ≤ 2 ^ 62) (all : AllByRecursion FitsTrack tracks) (low : number ≤ 4294967296)

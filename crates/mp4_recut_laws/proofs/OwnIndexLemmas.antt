@@ -29,7 +29,7 @@ use Rattle.mp4_pieces.proofs.FitsLemmas.{room_from, room_to}
 use Rattle.mp4_pieces.proofs.GroupLemmas.{groups_are}
 use Rattle.mp4_pieces.proofs.PieceLemmas.{pieces_are_of}
 use Rattle.mp4_cut.specs.Moof.{WrittenFragment, written_fragment}
-use Rattle.mp4_cut.specs.Reads.{Tells, held_moof}
+use Rattle.mp4_cut.specs.Reads.{Describes, held_moof}
 use Rattle.mp4_cut.proofs.PieceLemmas.{bytes_are, count_is}
 use Rattle.mp4_cut.proofs.ReadLemmas.{is_read_as}
 use Rattle.mp4_grammar.specs.Contexts.{Context, context}
@@ -42,13 +42,13 @@ use Rattle.mp4_recut_laws.specs.RecutItems.{groups_items, index_items, runs_item
 use Rattle.mp4_recut_laws.specs.PieceTimes.{FitsOwnIndex, RunTimesFit}
 use Rattle.mp4_recut_laws.proofs.CutLemmas.{run_pieces}
 use Rattle.mp4_recut_laws.proofs.OnePieceLemmas.{its_count, its_piece, one_group}
-use Rattle.mp4_recut_laws.proofs.WithoutIndexLemmas.{both_none, last_none, same_behind}
+use Rattle.mp4_recut_laws.proofs.WithoutIndexLemmas.{both_none, last_none, same_after}
 use Rattle.mp4_recut_laws.proofs.RunLemmas.{none_of}
 use Rattle.mp4_recut_laws.proofs.TrackLemmas.{ends_settled, can_still}
 
 -- ---- one piece
 
-its_index : (cut : Cut) (f : WrittenFragment) (h : MoofBytes) (run : Run) → Tells f h run → 0 < length f.rows → fits cut f.rows ≡ true → FitsOwnIndex f → FitsIndex (pieces_of cut h.bytes run)
+its_index : (cut : Cut) (f : WrittenFragment) (h : MoofBytes) (run : Run) → Describes f h run → 0 < length f.rows → fits cut f.rows ≡ true → FitsOwnIndex f → FitsIndex (pieces_of cut h.bytes run)
 unfolding piece_specs.piece_at
 its_index cut f h run t some e one =
     let p = piece_at (first_cursor run) f.rows in
@@ -62,7 +62,7 @@ first_nil : {X : Type 0} (xs ys : List X) → xs ++ ys ≡ [] → xs ≡ []
 first_nil [] ys e = refl
 first_nil (x ∷ xs) ys e = absurd cc
 
-no_fault : (cut : Cut) (f : WrittenFragment) (h : MoofBytes) (run : Run) → Tells f h run → 0 < length f.rows → fits cut f.rows ≡ true → FitsOwnIndex f → index_faults cut h.bytes (run ∷ []) ≡ []
+no_fault : (cut : Cut) (f : WrittenFragment) (h : MoofBytes) (run : Run) → Describes f h run → 0 < length f.rows → fits cut f.rows ≡ true → FitsOwnIndex f → index_faults cut h.bytes (run ∷ []) ≡ []
 unfolding rooms.room_faults
 no_fault cut f h run t some e one =
     let count : piece_count cut h.bytes (run ∷ []) ≡ 1 = its_count cut h.bytes run (piece_at (first_cursor run) f.rows) (its_piece cut f h run t some e) in
@@ -72,7 +72,7 @@ no_fault cut f h run t some e one =
       numbers = subst (λ (n : ℕ). AllByRecursion (λ (k : ℕ). k < 2 ^ 32) (numbers 0 n)) (sym count) (omega arith, tt);
     }))
 
-index_means : (cut : Cut) (f : WrittenFragment) (h : MoofBytes) (run : Run) → Tells f h run → 0 < length f.rows → fits cut f.rows ≡ true → FitsIndex (pieces_of cut h.bytes run) → FitsOwnIndex f
+index_means : (cut : Cut) (f : WrittenFragment) (h : MoofBytes) (run : Run) → Describes f h run → 0 < length f.rows → fits cut f.rows ≡ true → FitsIndex (pieces_of cut h.bytes run) → FitsOwnIndex f
 unfolding piece_specs.piece_at
 index_means cut f h run t some e has =
     let p = piece_at (first_cursor run) f.rows in
@@ -91,16 +91,16 @@ unfolding order.least_from
 one_fits_index cut at number tracks f media index small one =
     let h = held_moof f number at in
     let r = is_read_as f number at tracks one.can in
-    let count : piece_count cut h.bytes (r.run ∷ []) ≡ 1 = its_count cut h.bytes r.run (piece_at (first_cursor r.run) f.rows) (its_piece cut f h r.run r.tells one.some one.fits) in (
-      λ none. index_means cut f h r.run r.tells one.some one.fits
+    let count : piece_count cut h.bytes (r.run ∷ []) ≡ 1 = its_count cut h.bytes r.run (piece_at (first_cursor r.run) f.rows) (its_piece cut f h r.run r.describes one.some one.fits) in (
+      λ none. index_means cut f h r.run r.describes one.some one.fits
           ((room_from cut h (r.run ∷ []) number (least-none (rooms.room_faults cut h (r.run ∷ []) number) (ap (λ (rs : List Run). room_fault cut h rs number) (sym r.all) ∙ none))).indexes index).0,
       λ fit. ap (λ (rs : List Run). room_fault cut h rs number) r.all ∙ ap least (room_to cut h (r.run ∷ []) number (record {
-        indexes = λ _. (its_index cut f h r.run r.tells one.some one.fits fit, tt);
+        indexes = λ _. (its_index cut f h r.run r.describes one.some one.fits fit, tt);
         numbers = subst (λ (n : ℕ). AllByRecursion (λ (k : ℕ). k < 2 ^ 32) (numbers number n)) (sym count) (small, tt);
       })),
     )
 
--- ---- items, wherever they stand
+-- ---- items, wherever they are
 
 -- an index has room for each run of a fragment
 abbrev pub RoomAnywhere : Cut → List Track → Item → Type 0
@@ -150,7 +150,7 @@ index_item cut c (MovieFragment moof mdat) room s = (s.0, s.1, s.2, index_good c
 pub index_sound : (cut : Cut) (c : Context) (is : List Item) → HaveRoom cut c is → AreSound (splitting (without_index cut)) c is → AreSound (splitting cut) c is
 index_sound cut c [] room s = tt
 index_sound cut c (i ∷ is) room s =
-    (index_item cut c i room.0 s.0, subst (λ (d : Context). AreSound (splitting cut) d is) (sym (same_behind cut c i)) (index_sound cut (context_after (splitting (without_index cut)) c i) is room.1 s.1))
+    (index_item cut c i room.0 s.0, subst (λ (d : Context). AreSound (splitting cut) d is) (sym (same_after cut c i)) (index_sound cut (context_after (splitting (without_index cut)) c i) is room.1 s.1))
 
 -- ---- the fragments of a recut text
 
@@ -175,7 +175,7 @@ one_room cut tracks q number fine at us e =
     let f = q.written in
     let h = held_moof f number at in
     let r = is_read_as f number at us (can_still f tracks us e fine.one.can) in
-    ap (index_faults cut h.bytes) r.all ∙ no_fault cut f h r.run r.tells fine.one.some fine.one.fits fine.fits
+    ap (index_faults cut h.bytes) r.all ∙ no_fault cut f h r.run r.describes fine.one.some fine.one.fits fine.fits
 
 pieces_room : (cut : Cut) (tracks : List Track) (number : ℕ) (qs : List PieceWithMedia) → AllByRecursion (Fine cut tracks) qs → AllByRecursion (RoomAnywhere cut tracks) (pieces_items number qs)
 pieces_room cut tracks number [] all = tt

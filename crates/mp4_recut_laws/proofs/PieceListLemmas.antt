@@ -31,38 +31,38 @@ make_context at tracks number = context at (Some tracks) number
 same_context : (a b m n : ℕ) (s : List Track) → a ≡ b → m ≡ n → make_context a s m ≡ make_context b s n
 same_context a b m n s p r = cc
 
--- an item, and those behind it
+-- an item, and those after it
 pub cons_recut : (cut : Cut) (at number : ℕ) (tracks next : List Track) (i : Item) (is : List Item) (mine out : List ℕ) (one count total : ℕ) (its samples : List MediaSample) → total ≡ one + count
     → IsSound (splitting cut) (context at (Some tracks) number) i → item_text cut (context at (Some tracks) number) i ≡ mine → context_after (splitting cut) (context at (Some tracks) number) i ≡ context (at + length (bytes_of i)) (Some next) (number + one)
     → without_ends next ≡ without_ends tracks → item_samples (context at (Some tracks) number) i ≡ its → AreRecutHere cut (at + length (bytes_of i)) (number + one) next is out count samples → AreRecutHere cut at number tracks (i ∷ is) (mine ++ out) total (its ++ samples)
 unfolding make_context
-cons_recut cut at number tracks next i is mine out one count total its samples sum sound text behind ends_same here more =
+cons_recut cut at number tracks next i is mine out one count total its samples sum sound text after ends_same here more =
     record {
-      sound = (sound, subst (λ (e : Context). AreSound (splitting cut) e is) (sym behind) more.sound);
-      text = join_bytes _ _ _ _ text (ap (λ (e : Context). items_text cut e is) behind ∙ more.text);
+      sound = (sound, subst (λ (e : Context). AreSound (splitting cut) e is) (sym after) more.sound);
+      text = join_bytes _ _ _ _ text (ap (λ (e : Context). items_text cut e is) after ∙ more.text);
       ended = more.ended;
-      behind = ap (λ (e : Context). context_after_all (splitting cut) e is) behind ∙ (more.behind ∙ same_context _ _ _ _ more.ended (omega (arith, length-append (bytes_of i) (joined is))) (omega (arith, sum)));
+      after = ap (λ (e : Context). context_after_all (splitting cut) e is) after ∙ (more.after ∙ same_context _ _ _ _ more.ended (omega (arith, length-append (bytes_of i) (joined is))) (omega (arith, sum)));
       same_tracks = more.same_tracks ∙ ends_same;
-      same = join_samples _ _ _ _ here (ap (λ (e : Context). items_samples cut e is) behind ∙ more.same);
+      same = join_samples _ _ _ _ here (ap (λ (e : Context). items_samples cut e is) after ∙ more.same);
     }
 
 pub none_recut : (cut : Cut) (number : ℕ) (tracks : List Track) → AreRecutAnywhere cut number tracks [] [] 0 []
 unfolding make_context
-none_recut cut number tracks at us e = record { sound = tt; text = refl; ended = us; behind = same_context _ _ _ _ us (omega arith) (omega arith); same_tracks = refl; same = refl }
+none_recut cut number tracks at us e = record { sound = tt; text = refl; ended = us; after = same_context _ _ _ _ us (omega arith) (omega arith); same_tracks = refl; same = refl }
 
--- some items, and those behind them
+-- some items, and those after them
 pub append_recut : (cut : Cut) (number : ℕ) (tracks : List Track) (xs ys : List Item) (out more : List ℕ) (m n : ℕ) (its samples : List MediaSample) → AreRecutAnywhere cut number tracks xs out m its → AreRecutAnywhere cut (number + m) tracks ys more n samples → AreRecutAnywhere cut number tracks (xs ++ ys) (out ++ more) (m + n) (its ++ samples)
 unfolding make_context
 append_recut cut number tracks xs ys out more m n its samples p q at us e =
     let a = p at us e in
     let b = q (at + length (joined xs)) a.ended (a.same_tracks ∙ e) in
     record {
-      sound = sound_join cut _ xs ys a.sound (subst (λ (c : Context). AreSound (splitting cut) c ys) (sym a.behind) b.sound);
-      text = text_join cut _ xs ys ∙ join_bytes _ _ _ _ a.text (ap (λ (c : Context). items_text cut c ys) a.behind ∙ b.text);
+      sound = sound_join cut _ xs ys a.sound (subst (λ (c : Context). AreSound (splitting cut) c ys) (sym a.after) b.sound);
+      text = text_join cut _ xs ys ∙ join_bytes _ _ _ _ a.text (ap (λ (c : Context). items_text cut c ys) a.after ∙ b.text);
       ended = b.ended;
-      behind = behind_join cut _ xs ys ∙ (ap (λ (c : Context). context_after_all (splitting cut) c ys) a.behind ∙ (b.behind ∙ moved at (length (joined xs)) (length (joined ys)) (length (joined (xs ++ ys))) number m n b.ended (joined_length xs ys)));
+      after = after_join cut _ xs ys ∙ (ap (λ (c : Context). context_after_all (splitting cut) c ys) a.after ∙ (b.after ∙ moved at (length (joined xs)) (length (joined ys)) (length (joined (xs ++ ys))) number m n b.ended (joined_length xs ys)));
       same_tracks = b.same_tracks ∙ a.same_tracks;
-      same = samples_join cut _ xs ys ∙ join_samples _ _ _ _ a.same (ap (λ (c : Context). items_samples cut c ys) a.behind ∙ b.same);
+      same = samples_join cut _ xs ys ∙ join_samples _ _ _ _ a.same (ap (λ (c : Context). items_samples cut c ys) a.after ∙ b.same);
     }
   where
     sound_join : (cut : Cut) (c : Context) (xs ys : List Item) → AreSound (splitting cut) c xs → AreSound (splitting cut) (context_after_all (splitting cut) c xs) ys → AreSound (splitting cut) c (xs ++ ys)
@@ -73,9 +73,9 @@ append_recut cut number tracks xs ys out more m n its samples p q at us e =
     text_join cut c [] ys = refl
     text_join cut c (x ∷ xs) ys = ap (λ (z : List ℕ). item_text cut c x ++ z) (text_join cut (context_after (splitting cut) c x) xs ys) ∙ sym (append_assoc (item_text cut c x) _ _)
 
-    behind_join : (cut : Cut) (c : Context) (xs ys : List Item) → context_after_all (splitting cut) c (xs ++ ys) ≡ context_after_all (splitting cut) (context_after_all (splitting cut) c xs) ys
-    behind_join cut c [] ys = refl
-    behind_join cut c (x ∷ xs) ys = behind_join cut (context_after (splitting cut) c x) xs ys
+    after_join : (cut : Cut) (c : Context) (xs ys : List Item) → context_after_all (splitting cut) c (xs ++ ys) ≡ context_after_all (splitting cut) (context_after_all (splitting cut) c xs) ys
+    after_join cut c [] ys = refl
+    after_join cut c (x ∷ xs) ys = after_join cut (context_after (splitting cut) c x) xs ys
 
     samples_join : (cut : Cut) (c : Context) (xs ys : List Item) → items_samples cut c (xs ++ ys) ≡ items_samples cut c xs ++ items_samples cut (context_after_all (splitting cut) c xs) ys
     samples_join cut c [] ys = refl
@@ -99,7 +99,7 @@ pieces_own_recut cut number tracks (q ∷ qs) none room all at us e =
     let i = piece_item f number q.media in
     let one = one_recut cut at number us f q.media none (omega (arith, room)) mine.0 in
     cons_recut cut at number us next i (pieces_items (number + 1) qs) (bytes_of i) (joined (pieces_items (number + 1) qs)) 1 (length qs) (length (q ∷ qs)) (piece_samples q) (flat_map piece_samples qs) (omega arith)
-    one.sound one.text one.behind same (one_samples cut at number us f q.media mine.0)
+    one.sound one.text one.after same (one_samples cut at number us f q.media mine.0)
     (pieces_own_recut cut (number + 1) tracks qs none (omega (arith, room)) all.1 (at + length (bytes_of i)) next (same ∙ e))
 
 pub recut_is : (cut : Cut) (number number' : ℕ) (tracks : List Track) (is : List Item) (out out' : List ℕ) (n n' : ℕ) (samples samples' : List MediaSample) → AreRecutAnywhere cut number tracks is out n samples → number ≡ number' → out ≡ out' → n ≡ n' → samples ≡ samples' → AreRecutAnywhere cut number' tracks is out' n' samples'

@@ -20,17 +20,17 @@ use Rattle.mp4_grammar.specs.Joined.{AreSound, IsSound, Item, Movie, MovieFragme
 use Rattle.mp4_recut.specs.Splitting.{is_dropped, reading, splitting}
 use Rattle.mp4_recut_laws.specs.PieceItems.{without_ends}
 use Rattle.mp4_recut_laws.specs.Premises.{CanAllBeRecut, CanBeRecut, SameButEnds}
-use Rattle.mp4_recut_laws.specs.RecutItems.{item_recut, items_recut, kept_items, without_index}
+use Rattle.mp4_recut_laws.specs.RecutItems.{item_recut, items_recut, copied_items, without_index}
 use Rattle.mp4_recut_laws.specs.Streams.{Ending, IsSoundEnding, IsSoundStream, NothingMore, OpenBox, OpenFragment, Stream, ending_context, ending_bytes, ending_recut, ending_items, kept_ending, recut, stream_text}
 use Rattle.mp4_recut_laws.specs.PieceTimes.{EndingTimesFit, ItemTimesFit, ItemsTimesFit}
 use Rattle.mp4_recut_laws.specs.RecutText.{recut_text}
 use Rattle.mp4_recut_laws.proofs.StreamBytesLemmas.{text_stream}
-use Rattle.mp4_recut_laws.proofs.PremiseLemmas.{all_can_be_recut, behind_good, bytes_back, bytes_front}
+use Rattle.mp4_recut_laws.proofs.PremiseLemmas.{after_good, all_can_be_recut, bytes_back, bytes_front}
 use Rattle.mp4_recut_laws.proofs.FragmentLemmas.{fragment_runs}
 use Rattle.mp4_recut_laws.proofs.ItemLemmas.{items_agree, one_item, some_same}
 use Rattle.mp4_recut_laws.proofs.OpenFragmentLemmas.{open_runs}
 use Rattle.mp4_recut_laws.proofs.OwnIndexLemmas.{HaveRoom, have_room, index_sound, room_join, runs_room}
-use Rattle.mp4_recut_laws.proofs.StreamLemmas.{behind_at, laws}
+use Rattle.mp4_recut_laws.proofs.StreamLemmas.{after_at, laws}
 use Rattle.mp4_recut_laws.proofs.ReadStreamLemmas.{recut_text_of_a_stream}
 use Rattle.mp4_recut_laws.proofs.WrittenIndexLemmas.{all_index}
 
@@ -40,7 +40,7 @@ nothing_known e = absurd cc
 nothing_same : {X : Type 0} (ts : List Track) → ◌≡◌ {A = Option (List Track)} None (Some ts) → X
 nothing_same ts e = absurd cc
 
-kept_room : (cut : Cut) (d : Context) (t : Bool) (b : OneBox) → HaveRoom cut d (kept_items t b)
+kept_room : (cut : Cut) (d : Context) (t : Bool) (b : OneBox) → HaveRoom cut d (copied_items t b)
 kept_room cut d true b = tt
 kept_room cut d false b = (tt, tt)
 
@@ -106,13 +106,13 @@ module _ (cut : Cut) (index : cut.index ≡ true) where
       let front = bytes_front (joined s.items) e is.bytes in
       let back = bytes_back (joined s.items) e is.bytes in
       let fine = all_can_be_recut cut first_context s.items is.sound front (omega (arith, is.near, len)) (omega arith) tt in
-      let good = behind_good cut first_context s.items is.sound front (omega (arith, is.near, len)) (omega arith) tt in
+      let good = after_good cut first_context s.items is.sound front (omega (arith, is.near, len)) (omega arith) tt in
       let same_tracks : SameButEnds first_context first_context = record { number = refl; tracks = refl } in
       let survive = items_agree cut first_context first_context s.items same_tracks is.sound fine in
       let now = items_recut cut first_context s.items in
       let d = context_after_all (splitting (without_index cut)) first_context now in
       let room = room_join cut first_context now (ending_items cut (ending_context cut s) s.ending) (items_room first_context first_context s.items same_tracks is.sound fine times)
-      (end_room (ending_context cut s) d s.ending survive.same_tracks is.ending back (omega (arith, is.near, len, behind_at (splitting cut) first_context s.items)) good.0 good.1 last) in
+      (end_room (ending_context cut s) d s.ending survive.same_tracks is.ending back (omega (arith, is.near, len, after_at (splitting cut) first_context s.items)) good.0 good.1 last) in
       let plain = text_stream cut s is near in
       record {
         sound = index_sound cut first_context (recut cut s).items room plain.sound;

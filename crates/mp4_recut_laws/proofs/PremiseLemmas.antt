@@ -113,9 +113,9 @@ all_can_be_recut cut c (i ∷ is) s held room low fit =
     let g = item_premises cut c i s.0 (bytes_front (bytes_of i) (joined is) held) (omega (arith, room, len)) low fit in
     (g.fine, all_can_be_recut cut (context_after (splitting cut) c i) is s.1 (bytes_back (bytes_of i) (joined is) held) (omega (arith, room, len, g.at)) g.number g.tracks)
 
-pub behind_good : (cut : Cut) (c : Context) (is : List Item) → AreSound (splitting cut) c is → IsBytes (joined is) → c.at + length (joined is) ≤ 2 ^ 62 → c.number ≤ 2 ^ 32 → AllByRecursion FitsTrack (tracks_in c) → ((context_after_all (splitting cut) c is).number ≤ 2 ^ 32) × AllByRecursion FitsTrack (tracks_in (context_after_all (splitting cut) c is))
-behind_good cut c [] s held room low fit = (low, fit)
-behind_good cut c (i ∷ is) s held room low fit =
+pub after_good : (cut : Cut) (c : Context) (is : List Item) → AreSound (splitting cut) c is → IsBytes (joined is) → c.at + length (joined is) ≤ 2 ^ 62 → c.number ≤ 2 ^ 32 → AllByRecursion FitsTrack (tracks_in c) → ((context_after_all (splitting cut) c is).number ≤ 2 ^ 32) × AllByRecursion FitsTrack (tracks_in (context_after_all (splitting cut) c is))
+after_good cut c [] s held room low fit = (low, fit)
+after_good cut c (i ∷ is) s held room low fit =
     let len = length-append (bytes_of i) (joined is) in
     let g = item_premises cut c i s.0 (bytes_front (bytes_of i) (joined is) held) (omega (arith, room, len)) low fit in
-    behind_good cut (context_after (splitting cut) c i) is s.1 (bytes_back (bytes_of i) (joined is) held) (omega (arith, room, len, g.at)) g.number g.tracks
+    after_good cut (context_after (splitting cut) c i) is s.1 (bytes_back (bytes_of i) (joined is) held) (omega (arith, room, len, g.at)) g.number g.tracks

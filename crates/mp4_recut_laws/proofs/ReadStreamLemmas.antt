@@ -1,4 +1,4 @@
--- What is told of a stream without a fault is its recut text.
+-- The output of a stream without a fault is its recut text.
 use Rattle.std.proofs.Common.{◌≡◌, ◌∙◌, ℕ, ◌+◌, ◌≤◌, ◌^◌, Bool, true, false, List, [], ◌∷◌, ◌++◌, length, length-append, Option, Some, None, refl, ap, arith}
 use Rattle.std.specs.Prelude.{drop}
 use Rattle.std.specs.List.{AllByRecursion}
@@ -18,24 +18,24 @@ use Rattle.mp4_grammar.specs.Contexts.{Context, context, first_context}
 use Rattle.mp4_grammar.specs.Items.{reads_in}
 use Rattle.mp4_grammar.specs.Joined.{AreSound, IsSound, Item, Movie, MovieFragment, OneBox, PassedOver, context_after, context_after_all, fragment_in, fragment_here, joined, item_effects, items_effects, moof_effects, tracks_in}
 use Rattle.mp4_grammar.specs.Meanings.{Fragment, Meaning}
-use Rattle.mp4_grammar.specs.Rests.{BehindMoof, Boxed, Open, OpenMedia, ends, media_ends}
+use Rattle.mp4_grammar.specs.Rests.{AfterMoof, Boxed, Open, OpenMedia, ends, media_ends}
 use Rattle.mp4_grammar.proofs.JoinLemmas.{reads-items}
 use Rattle.mp4_grammar.proofs.RestLemmas.{rest-reads}
-use Rattle.mp4_recut.specs.Parts.{Ascends, played}
-use Rattle.mp4_recut.specs.Splitting.{copied, is_dropped, parts_of, reading, splitting}
+use Rattle.mp4_recut.specs.OutputFragments.{Ascends, output_of}
+use Rattle.mp4_recut.specs.Splitting.{copied, is_dropped, output_fragments, reading, splitting}
 use Rattle.mp4_recut.specs.Texts.{box_text, fragment_text, item_text, items_text}
-use Rattle.mp4_recut.proofs.PartLemmas.{played-slices}
-use Rattle.mp4_recut.proofs.TextLemmas.{parts-text}
+use Rattle.mp4_recut.proofs.OutputFragmentLemmas.{output_of-slices}
+use Rattle.mp4_recut.proofs.TextLemmas.{ahead-text}
 use Rattle.mp4_recut_laws.specs.Premises.{CanAllBeRecut, CanBeRecut}
 use Rattle.mp4_recut_laws.specs.Streams.{Ending, IsSoundEnding, IsSoundStream, NothingMore, OpenBox, OpenFragment, Stream, ending_context, ending_bytes, ending_text, stream_bytes, stream_text}
-use Rattle.mp4_recut_laws.proofs.PremiseLemmas.{all_can_be_recut, behind_good, bytes_back, bytes_front}
+use Rattle.mp4_recut_laws.proofs.PremiseLemmas.{after_good, all_can_be_recut, bytes_back, bytes_front}
 use Rattle.mp4_recut_laws.proofs.FragmentLemmas.{fragment_runs}
 use Rattle.mp4_recut_laws.proofs.ItemLemmas.{same_bytes}
 use Rattle.mp4_recut_laws.proofs.OpenFragmentLemmas.{open_runs}
-use Rattle.mp4_recut_laws.proofs.AscendLemmas.{parts_ascend}
-use Rattle.mp4_recut_laws.proofs.StreamLemmas.{behind_at}
+use Rattle.mp4_recut_laws.proofs.AscendLemmas.{fragments_ascend}
+use Rattle.mp4_recut_laws.proofs.StreamLemmas.{after_at}
 
--- ---- how the end of a stream is read, whatever is made of it
+-- ---- how the end of a stream is read, for any operation
 
 abbrev pub ended : Meaning → Context → Ending → Reading
 ended meaning c NothingMore = empty_reading
@@ -54,7 +54,7 @@ ending_reads meaning c (OpenFragment moof h head more) s held room =
     let r = media_ends meaning (fragment_here c moof.bytes h) more Sound in
     let len = length-append moof.bytes (head ++ more) in
     rest-reads meaning c (moof.bytes ++ (head ++ more)) (after (moof_effects c moof.bytes) r) held
-    (BehindMoof b r s.2 (omega (arith, room, len)) s.3 (OpenMedia z s.1 s.4 (omega (arith, room, len)) s.5 refl) refl)
+    (AfterMoof b r s.2 (omega (arith, room, len)) s.3 (OpenMedia z s.1 s.4 (omega (arith, room, len)) s.5 refl) refl)
 
 -- and a stream
 pub stream_reads : (meaning : Meaning) (s : Stream) → AreSound meaning first_context s.items → IsSoundEnding meaning (context_after_all meaning first_context s.items) s.ending → IsBytes (ending_bytes s.ending) → length (stream_bytes s) ≤ 2 ^ 62
@@ -64,7 +64,7 @@ stream_reads meaning s sound ending held near =
     let c = context_after_all meaning first_context s.items in
     let len = length-append (joined s.items) e in
     reads-items meaning s.items first_context e sound (omega (arith, near, len))
-    ∙ ap (after (items_effects meaning first_context s.items)) (ending_reads meaning c s.ending ending held (omega (arith, near, len, behind_at meaning first_context s.items)))
+    ∙ ap (after (items_effects meaning first_context s.items)) (ending_reads meaning c s.ending ending held (omega (arith, near, len, after_at meaning first_context s.items)))
 
 pub ended_sound : (meaning : Meaning) (c : Context) (e : Ending) → (ended meaning c e).outcome ≡ Sound
 ended_sound meaning c NothingMore = refl
@@ -73,8 +73,8 @@ ended_sound meaning c (OpenFragment moof h head more) = refl
 
 -- ---- the text
 
-media_text : (cut : Cut) (f : Fragment) (payload : List ℕ) → Ascends f.payload.start (f.payload.start + length payload) (parts_of cut f) → (played f.payload.start (parts_of cut f) payload).text ≡ fragment_text cut f payload
-media_text cut f payload up = ap (λ (t : Effects). t.text) (played-slices f.payload.start payload (parts_of cut f) up) ∙ parts-text cut f payload
+media_text : (cut : Cut) (f : Fragment) (payload : List ℕ) → Ascends f.payload.start (f.payload.start + length payload) (output_fragments cut f) → (output_of f.payload.start (output_fragments cut f) payload).text ≡ fragment_text cut f payload
+media_text cut f payload up = ap (λ (t : Effects). t.text) (output_of-slices f.payload.start payload (output_fragments cut f) up) ∙ ahead-text cut f payload
 
 copied_text : (t : Bool) (b : List ℕ) → (copied t b).text ≡ box_text t b
 copied_text true b = refl
@@ -92,16 +92,16 @@ fragment_by cut at number (Some tracks) moof mdat s fine =
     let payload = drop mdat.header.header_len mdat.bytes in
     let good = first_none (place_fault f.payload (moof_runs h tracks)) (room_fault cut h (moof_runs h tracks) number) s.3 in
     media_text cut f payload
-    (parts_ascend cut h tracks number f.payload.start payload f.payload fine.0 good.0 (fragment_runs cut at number tracks moof mdat s fine.0 fine.1 fine.2 fine.3))
+    (fragments_ascend cut h tracks number f.payload.start payload f.payload fine.0 good.0 (fragment_runs cut at number tracks moof mdat s fine.0 fine.1 fine.2 fine.3))
 
-pub item_told : (cut : Cut) (c : Context) (i : Item) → IsSound (splitting cut) c i → CanBeRecut c i → (item_effects (splitting cut) c i).text ≡ item_text cut c i
-item_told cut c (PassedOver b) s fine = copied_text (is_dropped b.header.kind.0) b.bytes
-item_told cut c (Movie b) s fine = refl
-item_told cut c (MovieFragment moof mdat) s fine = fragment_by cut c.at c.number c.tracks moof mdat s fine
+pub item_reported : (cut : Cut) (c : Context) (i : Item) → IsSound (splitting cut) c i → CanBeRecut c i → (item_effects (splitting cut) c i).text ≡ item_text cut c i
+item_reported cut c (PassedOver b) s fine = copied_text (is_dropped b.header.kind.0) b.bytes
+item_reported cut c (Movie b) s fine = refl
+item_reported cut c (MovieFragment moof mdat) s fine = fragment_by cut c.at c.number c.tracks moof mdat s fine
 
-pub items_told : (cut : Cut) (c : Context) (is : List Item) → AreSound (splitting cut) c is → CanAllBeRecut cut c is → (items_effects (splitting cut) c is).text ≡ items_text cut c is
-items_told cut c [] s fine = refl
-items_told cut c (i ∷ is) s fine = same_bytes _ _ _ _ (item_told cut c i s.0 fine.0) (items_told cut (context_after (splitting cut) c i) is s.1 fine.1)
+pub items_reported : (cut : Cut) (c : Context) (is : List Item) → AreSound (splitting cut) c is → CanAllBeRecut cut c is → (items_effects (splitting cut) c is).text ≡ items_text cut c is
+items_reported cut c [] s fine = refl
+items_reported cut c (i ∷ is) s fine = same_bytes _ _ _ _ (item_reported cut c i s.0 fine.0) (items_reported cut (context_after (splitting cut) c i) is s.1 fine.1)
 
 open_by : (cut : Cut) (at number : ℕ) (o : Option (List Track)) (moof : OneBox) (h : Header) (head more : List ℕ) → IsSoundEnding (splitting cut) (context at o number) (OpenFragment moof h head more) → IsBytes moof.bytes → at + length moof.bytes + length more ≤ 2 ^ 62 → number ≤ 2 ^ 32 → AllByRecursion FitsTrack (tracks_in (context at o number))
     → (ended (splitting cut) (context at o number) (OpenFragment moof h head more)).effects.text ≡ ending_text cut (context at o number) (OpenFragment moof h head more)
@@ -115,21 +115,21 @@ open_by cut at number (Some tracks) moof h head more s held room low fit =
     let whole : IsWhole moof.bytes = (moof.header, s.2.one.payload, s.2.one.is) in
     let good = first_none (place_fault f.payload (moof_runs m tracks)) (room_fault cut m (moof_runs m tracks) number) s.4 in
     media_text cut f more
-    (parts_ascend cut m tracks number f.payload.start more f.payload held good.0 (open_runs cut at number tracks moof.bytes more h s.1.1 whole held room fit low s.3 s.4 s.5))
+    (fragments_ascend cut m tracks number f.payload.start more f.payload held good.0 (open_runs cut at number tracks moof.bytes more h s.1.1 whole held room fit low s.3 s.4 s.5))
 
-pub ending_told : (cut : Cut) (c : Context) (e : Ending) → IsSoundEnding (splitting cut) c e → IsBytes (ending_bytes e) → c.at + length (ending_bytes e) ≤ 2 ^ 62 → c.number ≤ 2 ^ 32 → AllByRecursion FitsTrack (tracks_in c) → (ended (splitting cut) c e).effects.text ≡ ending_text cut c e
-ending_told cut c NothingMore s held room low fit = refl
-ending_told cut c (OpenBox h head more) s held room low fit = copied_text (is_dropped h.kind.0) (head ++ more)
-ending_told cut c (OpenFragment moof h head more) s held room low fit =
+pub ending_reported : (cut : Cut) (c : Context) (e : Ending) → IsSoundEnding (splitting cut) c e → IsBytes (ending_bytes e) → c.at + length (ending_bytes e) ≤ 2 ^ 62 → c.number ≤ 2 ^ 32 → AllByRecursion FitsTrack (tracks_in c) → (ended (splitting cut) c e).effects.text ≡ ending_text cut c e
+ending_reported cut c NothingMore s held room low fit = refl
+ending_reported cut c (OpenBox h head more) s held room low fit = copied_text (is_dropped h.kind.0) (head ++ more)
+ending_reported cut c (OpenFragment moof h head more) s held room low fit =
     open_by cut c.at c.number c.tracks moof h head more s (bytes_front moof.bytes (head ++ more) held) (omega (arith, room, length-append moof.bytes (head ++ more), length-append head more)) low fit
 
 -- ---- streams
 
-pub record IsToldAs (cut : Cut) (s : Stream) : Type 0 where
+pub record IsOutputAs (cut : Cut) (s : Stream) : Type 0 where
   pub text : (reading cut (stream_bytes s)).effects.text ≡ stream_text cut s
   pub sound : (reading cut (stream_bytes s)).outcome ≡ Sound
 
-pub recut_text_of_a_stream : (cut : Cut) (s : Stream) → IsSoundStream cut s → IsToldAs cut s
+pub recut_text_of_a_stream : (cut : Cut) (s : Stream) → IsSoundStream cut s → IsOutputAs cut s
 recut_text_of_a_stream cut s is =
     let meaning = splitting cut in
     let c = ending_context cut s in
@@ -138,11 +138,11 @@ recut_text_of_a_stream cut s is =
     let front = bytes_front (joined s.items) e is.bytes in
     let back = bytes_back (joined s.items) e is.bytes in
     let fine = all_can_be_recut cut first_context s.items is.sound front (omega (arith, is.near, len)) (omega arith) tt in
-    let good = behind_good cut first_context s.items is.sound front (omega (arith, is.near, len)) (omega arith) tt in
+    let good = after_good cut first_context s.items is.sound front (omega (arith, is.near, len)) (omega arith) tt in
     let read = stream_reads meaning s is.sound is.ending back is.near in
     record {
       text = ap (λ (r : Reading). r.effects.text) read
-          ∙ same_bytes _ _ _ _ (items_told cut first_context s.items is.sound fine)
-          (ending_told cut c s.ending is.ending back (omega (arith, is.near, len, behind_at meaning first_context s.items)) good.0 good.1);
+          ∙ same_bytes _ _ _ _ (items_reported cut first_context s.items is.sound fine)
+          (ending_reported cut c s.ending is.ending back (omega (arith, is.near, len, after_at meaning first_context s.items)) good.0 good.1);
       sound = ap (λ (r : Reading). r.outcome) read ∙ ended_sound meaning c s.ending;
     }

@@ -112,14 +112,14 @@ module _ (cut : Cut) (held : List ℕ) (start : ℕ) (payload : List ℕ) (track
   unfolding cut_by pieces_at
   none_of run e = ap (λ (rows : List Row). pieces_at (first_cursor run) (cut_rows cut rows)) e
 
-  no_samples_told : (run : Run) (rows : List Row) (media : List ℕ) → rows ≡ [] → media_samples_from run.track run.entry rows run.time media ≡ []
-  no_samples_told run rows media e = ap (λ (rs : List Row). media_samples_from run.track run.entry rs run.time media) e
+  no_samples_reported : (run : Run) (rows : List Row) (media : List ℕ) → rows ≡ [] → media_samples_from run.track run.entry rows run.time media ≡ []
+  no_samples_reported run rows media e = ap (λ (rs : List Row). media_samples_from run.track run.entry rs run.time media) e
 
   given : length payload ≤ 2 ^ 62 → (run : Run) → IsRunIn tracks start payload held run → Given run
   given small run g = elim g.lies [
     | inl none ↦ record {
       ok = subst (λ (ps : List Piece). AllByRecursion IsPieceHere (media_pieces run ps)) (sym (none_of run none)) tt;
-      samples_are = ap (λ (ps : List Piece). flat_map piece_samples (media_pieces run ps)) (none_of run none) ∙ sym (no_samples_told run (rows_of run held) (drop (natural run.place - start) payload) none);
+      samples_are = ap (λ (ps : List Piece). flat_map piece_samples (media_pieces run ps)) (none_of run none) ∙ sym (no_samples_reported run (rows_of run held) (drop (natural run.place - start) payload) none);
     }
     | inr lies ↦ record { ok = run_pieces cut tracks held start payload run small g.sound g.of lies; samples_are = run_samples cut held start payload run lies }
   ]

@@ -1,4 +1,4 @@
--- Lists of samples of which the same is told, whatever is told of each, are the same list.
+-- Lists of samples with the same reports, whatever is reported of each, are the same list.
 use Rattle.std.proofs.Common.{◌≡◌, ◌∙◌, ℕ, ℤ, pos, negsuc, zero, suc, List, [], ◌∷◌, ◌++◌, length, drop, ap, arith, sym, refl}
 use Rattle.std.specs.List.{flat_map}
 use Rattle.mp4_recut_laws.specs.MediaSamples.{MediaSample}
@@ -28,7 +28,7 @@ number n [] = 0
 number zero (x ∷ xs) = x
 number (suc n) (x ∷ xs) = number n xs
 
--- lists of one length that stand before others
+-- lists of one length before others
 split : (xs ys r q : List ℕ) → length xs ≡ length ys → xs ++ r ≡ ys ++ q → (xs ≡ ys) × (r ≡ q)
 split [] [] r q l e = (refl, e)
 split [] (y ∷ ys) r q l e = absurd (omega (arith, l))
@@ -57,5 +57,5 @@ same_spelled (x ∷ xs) (y ∷ ys) e =
     let first : x ≡ y = same_sample x y (ap (number 0) e) (ap (number 1) e) (same_number x.composition y.composition (ap (number 2) e) (ap (number 3) e)) (ap (number 4) e) (ap (number 5) e) (ap (number 6) e) bytes in
     ap (λ s. s ∷ xs) first ∙ ap (λ l. y ∷ l) (same_spelled xs ys rest)
 
-pub same_samples : (xs ys : List MediaSample) → ((tell : MediaSample → List ℕ) → flat_map tell xs ≡ flat_map tell ys) → xs ≡ ys
+pub same_samples : (xs ys : List MediaSample) → ((report : MediaSample → List ℕ) → flat_map report xs ≡ flat_map report ys) → xs ≡ ys
 same_samples xs ys same = same_spelled xs ys (same spelled)

@@ -9,14 +9,14 @@ use Rattle.mp4_recut.specs.Splitting.{reading}
 use Rattle.mp4_recut_laws.specs.RecutItems.{without_index}
 use Rattle.mp4_recut_laws.specs.MediaSamples.{MediaSample}
 use Rattle.mp4_recut_laws.specs.Streams.{IsSoundStream, IsWellFormed, Stream, ending_bytes, recut, stream_bytes, stream_samples, stream_text}
-use Rattle.mp4_recut_laws.specs.RecutText.{recut_text, told_by}
+use Rattle.mp4_recut_laws.specs.RecutText.{recut_text, reported_by}
 use Rattle.mp4_recut_laws.proofs.ByteLemmas.{text_bytes}
 use Rattle.mp4_recut_laws.proofs.PremiseLemmas.{bytes_back}
 use Rattle.mp4_recut_laws.proofs.WithoutIndexLemmas.{stream_without_index}
 use Rattle.mp4_recut_laws.proofs.EveryStreamLemmas.{every_sound_stream}
 use Rattle.mp4_recut_laws.proofs.StreamLemmas.{laws, text_reads}
 use Rattle.mp4_recut_laws.proofs.SameSampleLemmas.{same_samples}
-use Rattle.mp4_recut_laws.proofs.TellingLemmas.{stream_told_by}
+use Rattle.mp4_recut_laws.proofs.ReportLemmas.{stream_reported_by}
 use Rattle.mp4_recut_laws.proofs.ReadStreamLemmas.{recut_text_of_a_stream}
 
 -- the recut text of a stream is that of a stream too
@@ -37,15 +37,15 @@ text_recut cut s is near =
     ∙ (laws cut s is).text
     ∙ sym (recut_text_of_a_stream (without_index cut) s (stream_without_index cut s is)).text
 
-pub told_by_samples : (cut : Cut) (s : Stream) (tell : MediaSample → List ℕ) → IsSoundStream cut s → told_by tell (stream_bytes s) ≡ flat_map tell (stream_samples cut s)
-told_by_samples cut s tell is = stream_told_by tell cut s is.sound is.ending (bytes_back (joined s.items) (ending_bytes s.ending) is.bytes) is.near
+pub reported_by_samples : (cut : Cut) (s : Stream) (report : MediaSample → List ℕ) → IsSoundStream cut s → reported_by report (stream_bytes s) ≡ flat_map report (stream_samples cut s)
+reported_by_samples cut s report is = stream_reported_by report cut s is.sound is.ending (bytes_back (joined s.items) (ending_bytes s.ending) is.bytes) is.near
 
-samples_agree : (cut : Cut) (s : Stream) (tell : MediaSample → List ℕ) → IsSoundStream cut s → length (stream_text cut s) ≤ 2 ^ 62 → told_by tell (stream_text cut s) ≡ told_by tell (stream_bytes s)
-samples_agree cut s tell is near =
-    ap (told_by tell) (sym (laws cut s is).join)
-    ∙ told_by_samples (without_index cut) (recut cut s) tell (text_stream cut s is near)
-    ∙ ap (flat_map tell) (laws cut s is).same
-    ∙ sym (told_by_samples cut s tell is)
+samples_agree : (cut : Cut) (s : Stream) (report : MediaSample → List ℕ) → IsSoundStream cut s → length (stream_text cut s) ≤ 2 ^ 62 → reported_by report (stream_text cut s) ≡ reported_by report (stream_bytes s)
+samples_agree cut s report is near =
+    ap (reported_by report) (sym (laws cut s is).join)
+    ∙ reported_by_samples (without_index cut) (recut cut s) report (text_stream cut s is near)
+    ∙ ap (flat_map report) (laws cut s is).same
+    ∙ sym (reported_by_samples cut s report is)
 
 -- ---- by the bytes alone
 
@@ -53,12 +53,12 @@ pub record TextLaws (cut : Cut) (b : List ℕ) : Type 0 where
   pub bytes : IsBytes (recut_text cut b)
   pub sound : length (recut_text cut b) ≤ 2 ^ 62 → (reading (without_index cut) (recut_text cut b)).outcome ≡ Sound
   pub again : length (recut_text cut b) ≤ 2 ^ 62 → recut_text (without_index cut) (recut_text cut b) ≡ recut_text (without_index cut) b
-  pub samples : (tell : MediaSample → List ℕ) → length (recut_text cut b) ≤ 2 ^ 62 → told_by tell (recut_text cut b) ≡ told_by tell b
+  pub samples : (report : MediaSample → List ℕ) → length (recut_text cut b) ≤ 2 ^ 62 → reported_by report (recut_text cut b) ≡ reported_by report b
 
-text_laws_of : (cut : Cut) (s : Stream) (x : List ℕ) → IsSoundStream cut s → stream_text cut s ≡ x → IsBytes x × (length x ≤ 2 ^ 62 → (reading (without_index cut) x).outcome ≡ Sound) × (length x ≤ 2 ^ 62 → recut_text (without_index cut) x ≡ recut_text (without_index cut) (stream_bytes s)) × ((tell : MediaSample → List ℕ) → length x ≤ 2 ^ 62 → told_by tell x ≡ told_by tell (stream_bytes s))
+text_laws_of : (cut : Cut) (s : Stream) (x : List ℕ) → IsSoundStream cut s → stream_text cut s ≡ x → IsBytes x × (length x ≤ 2 ^ 62 → (reading (without_index cut) x).outcome ≡ Sound) × (length x ≤ 2 ^ 62 → recut_text (without_index cut) x ≡ recut_text (without_index cut) (stream_bytes s)) × ((report : MediaSample → List ℕ) → length x ≤ 2 ^ 62 → reported_by report x ≡ reported_by report (stream_bytes s))
 text_laws_of cut s x is e =
-    subst (λ (x : List ℕ). IsBytes x × (length x ≤ 2 ^ 62 → (reading (without_index cut) x).outcome ≡ Sound) × (length x ≤ 2 ^ 62 → recut_text (without_index cut) x ≡ recut_text (without_index cut) (stream_bytes s)) × ((tell : MediaSample → List ℕ) → length x ≤ 2 ^ 62 → told_by tell x ≡ told_by tell (stream_bytes s))) e
-    (text_bytes cut s is, text_reads cut s is, text_recut cut s is, λ tell near. samples_agree cut s tell is near)
+    subst (λ (x : List ℕ). IsBytes x × (length x ≤ 2 ^ 62 → (reading (without_index cut) x).outcome ≡ Sound) × (length x ≤ 2 ^ 62 → recut_text (without_index cut) x ≡ recut_text (without_index cut) (stream_bytes s)) × ((report : MediaSample → List ℕ) → length x ≤ 2 ^ 62 → reported_by report x ≡ reported_by report (stream_bytes s))) e
+    (text_bytes cut s is, text_reads cut s is, text_recut cut s is, λ report near. samples_agree cut s report is near)
 
 pub text_laws : (cut : Cut) (b : List ℕ) → IsBytes b → (reading cut b).outcome ≡ Sound → TextLaws cut b
 text_laws cut b held sound =
@@ -96,4 +96,4 @@ pub one_list : (cut : Cut) (b : List ℕ) (s t : Stream) → IsBytes b → (read
     → stream_samples (without_index cut) t ≡ stream_samples cut s
 one_list cut b s t held sound near is e are f =
     same_samples (stream_samples (without_index cut) t) (stream_samples cut s)
-    (λ tell. sym (told_by_samples (without_index cut) t tell are) ∙ ap (told_by tell) f ∙ (text_laws cut b held sound).samples tell near ∙ ap (told_by tell) (sym e) ∙ told_by_samples cut s tell is)
+    (λ report. sym (reported_by_samples (without_index cut) t report are) ∙ ap (reported_by report) f ∙ (text_laws cut b held sound).samples report near ∙ ap (reported_by report) (sym e) ∙ reported_by_samples cut s report is)

@@ -25,16 +25,16 @@ use Rattle.mp4_recut_laws.specs.MediaSamples.{MediaSample, items_samples}
 use Rattle.mp4_recut.specs.Splitting.{is_dropped, reading, splitting}
 use Rattle.mp4_recut_laws.specs.Streams.{Ending, IsSoundEnding, IsSoundStream, NothingMore, OpenBox, OpenFragment, Stream, ending_context, ending_bytes, ending_samples, ending_text, ending_recut, ending_items, kept_ending, recut, stream_bytes, stream_samples, stream_text}
 use Rattle.mp4_recut.specs.Texts.{box_text, items_text}
-use Rattle.mp4_recut_laws.proofs.PremiseLemmas.{all_can_be_recut, bytes_back, bytes_front, behind_good}
-use Rattle.mp4_recut_laws.proofs.ItemLemmas.{items_joined, items_agree, samples_join, same_bytes, same_samples, some_same, sound_join, text_join, behind_join}
+use Rattle.mp4_recut_laws.proofs.PremiseLemmas.{all_can_be_recut, bytes_back, bytes_front, after_good}
+use Rattle.mp4_recut_laws.proofs.ItemLemmas.{items_joined, items_agree, samples_join, same_bytes, same_samples, some_same, sound_join, text_join, after_join}
 use Rattle.mp4_recut_laws.proofs.OpenFragmentLemmas.{open_recut, open_runs}
 use Rattle.mp4_recut_laws.proofs.TextLemmas.{joined_append, out_is, runs_joined}
 
-pub behind_at : (meaning : Meaning) (c : Context) (is : List Item) → (context_after_all meaning c is).at ≡ c.at + length (joined is)
-behind_at meaning c [] = omega arith
-behind_at meaning c (PassedOver b ∷ is) = omega (arith, behind_at meaning (context_after meaning c (PassedOver b)) is, length-append b.bytes (joined is))
-behind_at meaning c (Movie b ∷ is) = omega (arith, behind_at meaning (context_after meaning c (Movie b)) is, length-append b.bytes (joined is))
-behind_at meaning c (MovieFragment moof mdat ∷ is) = omega (arith, behind_at meaning (context_after meaning c (MovieFragment moof mdat)) is, length-append (moof.bytes ++ mdat.bytes) (joined is), length-append moof.bytes mdat.bytes)
+pub after_at : (meaning : Meaning) (c : Context) (is : List Item) → (context_after_all meaning c is).at ≡ c.at + length (joined is)
+after_at meaning c [] = omega arith
+after_at meaning c (PassedOver b ∷ is) = omega (arith, after_at meaning (context_after meaning c (PassedOver b)) is, length-append b.bytes (joined is))
+after_at meaning c (Movie b ∷ is) = omega (arith, after_at meaning (context_after meaning c (Movie b)) is, length-append b.bytes (joined is))
+after_at meaning c (MovieFragment moof mdat ∷ is) = omega (arith, after_at meaning (context_after meaning c (MovieFragment moof mdat)) is, length-append (moof.bytes ++ mdat.bytes) (joined is), length-append moof.bytes mdat.bytes)
 
 -- the end, and that of its recut text
 record EndingAgrees (cut : Cut) (c d : Context) (e : Ending) : Type 0 where
@@ -98,13 +98,13 @@ laws cut s is =
     let front = bytes_front (joined s.items) (ending_bytes s.ending) is.bytes in
     let len = length-append (joined s.items) (ending_bytes s.ending) in
     let fine = all_can_be_recut cut first_context s.items is.sound front (omega (arith, is.near, len)) (omega arith) tt in
-    let good = behind_good cut first_context s.items is.sound front (omega (arith, is.near, len)) (omega arith) tt in
+    let good = after_good cut first_context s.items is.sound front (omega (arith, is.near, len)) (omega arith) tt in
     let survive = items_agree cut first_context first_context s.items (record { number = refl; tracks = refl }) is.sound fine in
     let now = items_recut cut first_context s.items in
     let d = context_after_all meaning first_context now in
-    let last = ending_agrees cut c d s.ending survive.same_tracks is.ending (bytes_back (joined s.items) (ending_bytes s.ending) is.bytes) (omega (arith, is.near, len, behind_at (splitting cut) first_context s.items)) good.0 good.1 in
+    let last = ending_agrees cut c d s.ending survive.same_tracks is.ending (bytes_back (joined s.items) (ending_bytes s.ending) is.bytes) (omega (arith, is.near, len, after_at (splitting cut) first_context s.items)) good.0 good.1 in
     let more = ending_items cut c s.ending in
-    let there = behind_join (without_index cut) first_context now more in
+    let there = after_join (without_index cut) first_context now more in
     record {
       join = ap (λ (x : List ℕ). x ++ ending_bytes (ending_recut s.ending)) (joined_append now more) ∙ (append_assoc (joined now) (joined more) (ending_bytes (ending_recut s.ending)) ∙ same_bytes _ _ _ _ (items_joined cut first_context s.items is.sound fine) last.join);
       sound = sound_join (without_index cut) first_context now more survive.sound last.sound;
@@ -153,7 +153,7 @@ text_reads cut s is room =
     let e = ending_bytes r.ending in
     let len = length-append (joined r.items) e in
     let near = ap length l.join in
-    let at = behind_at meaning first_context r.items in
+    let at = after_at meaning first_context r.items in
     ap (λ (b : List ℕ). (reading (without_index cut) b).outcome) (sym l.join)
     ∙ (ap (λ (x : Reading). x.outcome) (reads-items meaning r.items first_context e l.sound (omega (arith, room, near, len)))
     ∙ open_ends meaning (ending_context (without_index cut) r) s.ending l.ending (last_bytes s.ending (bytes_back (joined s.items) (ending_bytes s.ending) is.bytes)) (omega (arith, room, near, len, at)))

@@ -15,9 +15,6 @@ use Rattle.mp4_cut.specs.Moof.{WrittenFragment}
 use Rattle.mp4_cut.specs.Reads.{CanBeRead}
 use Rattle.mp4_recut_laws.specs.PieceItems.{without_end, without_ends}
 
-has_id : ℕ → Track → Bool
-has_id id t = t.id == id
-
 found_by : (t : Bool) (at n : ℕ) (ts : List Track) → nat_lt at n ≡ t → n ≡ length ts → option_and_then (slice_get ts) (cond t (Some at) None) ≡ slice_get ts at
 found_by true at n ts e l = refl
 found_by false at n ts e l = sym (slice_get_past ts at (omega (arith, ltb-false _ _ e, l)))
@@ -46,7 +43,7 @@ some_back : (o : Option Track) (t : Track) → option_map without_end o ≡ Some
 some_back None t e = absurd cc
 some_back (Some u) t e = record { track = u; is = refl; entries = let same : without_end u ≡ without_end t = cc in ap (λ (x : Track). x.entries) same }
 
--- what can be read behind some tracks can be read behind others that differ in their ends alone
+-- what can be read after some tracks can be read after others that differ only in their ends
 pub can_still : (f : WrittenFragment) (ts us : List Track) → without_ends us ≡ without_ends ts → CanBeRead ts f → CanBeRead us f
 can_still f ts us e can =
     let there = some_back (track_with f.track us) can.track (track_ends f.track us ∙ (ap (track_with f.track) e ∙ (sym (track_ends f.track ts) ∙ ap (option_map without_end) can.known))) in

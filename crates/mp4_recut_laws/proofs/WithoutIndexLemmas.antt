@@ -52,10 +52,10 @@ item_without_index cut c (PassedOver b) s = s
 item_without_index cut c (Movie b) s = s
 item_without_index cut c (MovieFragment moof mdat) s = (s.0, s.1, s.2, good_without_index cut c moof.bytes mdat.header s.3)
 
-pub same_behind : (cut : Cut) (c : Context) (i : Item) → context_after (splitting cut) c i ≡ context_after (splitting (without_index cut)) c i
-same_behind cut c (PassedOver b) = refl
-same_behind cut c (Movie b) = refl
-same_behind cut c (MovieFragment moof mdat) = refl
+pub same_after : (cut : Cut) (c : Context) (i : Item) → context_after (splitting cut) c i ≡ context_after (splitting (without_index cut)) c i
+same_after cut c (PassedOver b) = refl
+same_after cut c (Movie b) = refl
+same_after cut c (MovieFragment moof mdat) = refl
 
 ending_without_index : (cut : Cut) (c : Context) (e : Ending) → IsSoundEnding (splitting cut) c e → IsSoundEnding (splitting (without_index cut)) c e
 ending_without_index cut c NothingMore s = s
@@ -69,7 +69,7 @@ record AreWithoutIndex (cut : Cut) (c : Context) (is : List Item) (e : Ending) :
 are_without_index : (cut : Cut) (c : Context) (is : List Item) (e : Ending) → AreSound (splitting cut) c is → IsSoundEnding (splitting cut) (context_after_all (splitting cut) c is) e → AreWithoutIndex cut c is e
 are_without_index cut c [] e s z = record { sound = tt; ending = ending_without_index cut c e z }
 are_without_index cut c (i ∷ is) e s z =
-    let rest = subst (λ (d : Context). AreWithoutIndex cut d is e) (same_behind cut c i) (are_without_index cut (context_after (splitting cut) c i) is e s.1 z) in
+    let rest = subst (λ (d : Context). AreWithoutIndex cut d is e) (same_after cut c i) (are_without_index cut (context_after (splitting cut) c i) is e s.1 z) in
     record { sound = (item_without_index cut c i s.0, rest.sound); ending = rest.ending }
 
 pub stream_without_index : (cut : Cut) (s : Stream) → IsSoundStream cut s → IsSoundStream (without_index cut) s

@@ -1,4 +1,4 @@
--- Each index in the recut text of a stream tells the truth.
+-- Each index in the recut text of a stream is true.
 use Rattle.std.proofs.Common.{◌≡◌, ℕ, ◌+◌, ◌<◌, ◌≤◌, ◌^◌, true, List, [], ◌∷◌, ◌++◌, length, length-append, Option, Some, None, sym, arith}
 use Rattle.std.specs.Prelude.{drop}
 use Rattle.std.specs.List.{AllByRecursion}
@@ -28,11 +28,11 @@ use Rattle.mp4_recut.specs.Splitting.{splitting}
 use Rattle.mp4_recut_laws.specs.Premises.{CanAllBeRecut, CanBeRecut}
 use Rattle.mp4_recut_laws.specs.Indexes.{EndingIsIndexed, ItemIsIndexed, ItemsAreIndexed}
 use Rattle.mp4_recut_laws.specs.Streams.{Ending, IsSoundEnding, IsSoundStream, NothingMore, OpenBox, OpenFragment, Stream, ending_context, ending_bytes}
-use Rattle.mp4_recut_laws.proofs.PremiseLemmas.{all_can_be_recut, behind_good, bytes_back, bytes_front, moov_scaled, scaled_ends}
+use Rattle.mp4_recut_laws.proofs.PremiseLemmas.{after_good, all_can_be_recut, bytes_back, bytes_front, moov_scaled, scaled_ends}
 use Rattle.mp4_recut_laws.proofs.FragmentLemmas.{fragment_runs}
 use Rattle.mp4_recut_laws.proofs.IndexLemmas.{runs_indexed}
 use Rattle.mp4_recut_laws.proofs.OpenFragmentLemmas.{open_runs}
-use Rattle.mp4_recut_laws.proofs.StreamLemmas.{behind_at}
+use Rattle.mp4_recut_laws.proofs.StreamLemmas.{after_at}
 use Rattle.mp4_recut_laws.proofs.TrackLemmas.{ends_settled}
 
 abbrev pub AreScaled : List Track → Type 0
@@ -98,6 +98,6 @@ module _ (cut : Cut) (index : cut.index ≡ true) where
       let front = bytes_front (joined s.items) e is.bytes in
       let back = bytes_back (joined s.items) e is.bytes in
       let fine = all_can_be_recut cut first_context s.items is.sound front (omega (arith, is.near, len)) (omega arith) tt in
-      let good = behind_good cut first_context s.items is.sound front (omega (arith, is.near, len)) (omega arith) tt in
+      let good = after_good cut first_context s.items is.sound front (omega (arith, is.near, len)) (omega arith) tt in
       let items = items_indexed first_context s.items tt is.sound fine front in
-      (items.0, ending_indexed (ending_context cut s) s.ending items.1 is.ending back (omega (arith, is.near, len, behind_at (splitting cut) first_context s.items)) good.0 good.1)
+      (items.0, ending_indexed (ending_context cut s) s.ending items.1 is.ending back (omega (arith, is.near, len, after_at (splitting cut) first_context s.items)) good.0 good.1)

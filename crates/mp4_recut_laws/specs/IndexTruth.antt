@@ -1,4 +1,4 @@
--- When each sidx of a stream (ISO/IEC 14496-12, 8.16.3) tells the truth of the items directly behind it, whoever wrote it.
+-- When each sidx of a stream (ISO/IEC 14496-12, 8.16.3) is true of the items directly after it, whoever wrote it.
 use Rattle.std.specs.Prelude.{◌≡◌, ◌<◌, ◌^◌, ℕ, zero, suc, pos, List, [], ◌∷◌, length, map, drop, codes}
 use Rattle.std.specs.List.{AllByRecursion, sum_by}
 use Rattle.mp4_pieces.specs.declared.cut.Cut.{Cut}
@@ -9,7 +9,7 @@ use Rattle.mp4_grammar.specs.Joined.{Item, Movie, MovieFragment, PassedOver, con
 use Rattle.mp4_recut.specs.Splitting.{splitting, timescale_of}
 use Rattle.mp4_recut_laws.specs.MediaSamples.{MediaSample, item_samples}
 
--- what references to the first n of these items must say: of each how many bytes it has, and the sum of the durations of its samples
+-- requirements of references to the first n of these items: of each how many bytes it has, and the sum of the durations of its samples
 abbrev pub first_references : Cut → Context → ℕ → List Item → List Reference
 first_references cut c zero is = []
 first_references cut c (suc n) [] = []
@@ -21,7 +21,7 @@ abbrev pub samples_of_first : Context → List Item → List MediaSample
 samples_of_first c [] = []
 samples_of_first c (i ∷ is) = item_samples c i
 
--- the index tells the truth of the items directly behind it. It has a reference to each of the first items, with its
+-- the index is true of the items directly after it. It has a reference to each of the first items, with its
 -- size and duration. Its track is that of the samples of the first item, with the timescale of that track, and its
 -- earliest time is the least composition time of these samples. It refers to media alone
 pub record IndexIsTrue (cut : Cut) (c : Context) (x : Index) (is : List Item) : Type 0 where
@@ -36,13 +36,13 @@ pub record IndexIsTrue (cut : Cut) (c : Context) (x : Index) (is : List Item) : 
   pub references : x.references ≡ first_references cut c (length x.references) is
   pub media : AllByRecursion (λ (r : Reference). r.size < 2 ^ 31) x.references
 
--- if the item is a sidx, its payload tells the truth of the items behind it
+-- if the item is a sidx, its payload is true of the items after it
 abbrev pub SidxIsTrue : Cut → Context → Item → List Item → Type 0
 SidxIsTrue cut c (PassedOver b) is = b.header.kind.0 ≡ codes "sidx" → IndexIsTrue cut c (index_in (drop b.header.header_len b.bytes)) is
 SidxIsTrue cut c (Movie b) is = Unit {0}
 SidxIsTrue cut c (MovieFragment moof mdat) is = Unit {0}
 
--- each sidx among these items does
+-- the same for each sidx among these items
 abbrev pub IndexesAreTrue : Cut → Context → List Item → Type 0
 IndexesAreTrue cut c [] = Unit {0}
 IndexesAreTrue cut c (i ∷ is) = SidxIsTrue cut (context_after (splitting cut) c i) i is × IndexesAreTrue cut (context_after (splitting cut) c i) is

@@ -1,4 +1,4 @@
--- When a segment index, sidx (ISO/IEC 14496-12, 8.16.3), tells the truth of the pieces that it is written for.
+-- When a segment index, sidx (ISO/IEC 14496-12, 8.16.3), is true of the pieces that it is written for.
 use Rattle.std.specs.Prelude.{◌≡◌, ◌<◌, ◌^◌, ℕ, pos, ◌+◌, List, [], ◌∷◌, length, map, drop}
 use Rattle.std.specs.List.{AllByRecursion, sum_by}
 use Rattle.mp4_init.specs.declared.table.Track.{Track}
@@ -18,9 +18,9 @@ use Rattle.mp4_recut_laws.specs.RecutItems.{index_as_box}
 use Rattle.mp4_recut_laws.specs.MediaSamples.{MediaSample}
 use Rattle.mp4_recut_laws.specs.Streams.{Ending, NothingMore, OpenBox, OpenFragment}
 
--- ---- the truth
+-- ---- true indexes
 
--- what references to these pieces must say: of each how many bytes its moof and mdat have, and the sum of the durations of its samples
+-- requirements of references to these pieces: of each how many bytes its moof and mdat have, and the sum of the durations of its samples
 abbrev pub references_of : ℕ → List PieceWithMedia → List Reference
 references_of number [] = []
 references_of number (q ∷ qs) =
@@ -31,7 +31,7 @@ abbrev pub first_samples : List PieceWithMedia → List MediaSample
 first_samples [] = []
 first_samples (q ∷ qs) = piece_samples q
 
--- the payload p of a sidx says the truth of the pieces qs, which stand directly behind it: their sizes and durations,
+-- the payload p of a sidx is true of the pieces qs, which directly follow it: their sizes and durations,
 -- the least composition time of the first, the track and its timescale. It refers to media alone
 pub record IsIndexOf (id scale number : ℕ) (p : List ℕ) (qs : List PieceWithMedia) : Type 0 where
   pub version : (index_in p).version ≡ 1
@@ -47,34 +47,34 @@ pub record IsIndexOf (id scale number : ℕ) (p : List ℕ) (qs : List PieceWith
 -- ---- the indexes of a recut text
 
 module _ (cut : Cut) (held : List ℕ) (start : ℕ) (payload : List ℕ) where
-  -- the index of each group of pieces tells the truth of the group
+  -- the index of each group of pieces is true of the group
   abbrev pub GroupsAreIndexed : Run → (timescale number : ℕ) → List (List Piece) → Type 0
   GroupsAreIndexed run timescale number [] = Unit {0}
   GroupsAreIndexed run timescale number (g ∷ gs) =
       IsIndexOf run.track timescale number (drop 8 (index_as_box run timescale g).bytes) (map (piece_with_media held start payload run) g) × GroupsAreIndexed run timescale (number + length g) gs
 
-  -- so do the indexes of all these runs
+  -- the same for the indexes of all these runs
   abbrev pub RunsAreIndexed : List Track → ℕ → List Run → Type 0
   RunsAreIndexed tracks number [] = Unit {0}
   RunsAreIndexed tracks number (run ∷ runs) =
       GroupsAreIndexed run (timescale_of tracks run.track) number (groups (pieces_of cut held run)) × RunsAreIndexed tracks (number + length (pieces_of cut held run)) runs
 
--- so do the indexes that a fragment is recut with
+-- the same for the indexes of a recut fragment
 abbrev pub FragmentIsIndexed : Cut → Fragment → List ℕ → Type 0
 FragmentIsIndexed cut f payload = RunsAreIndexed cut f.moof.bytes f.payload.start payload f.tracks f.number (runs_in f)
 
--- so do those of an item
+-- the same for those of an item
 abbrev pub ItemIsIndexed : Cut → Context → Item → Type 0
 ItemIsIndexed cut c (PassedOver b) = Unit {0}
 ItemIsIndexed cut c (Movie b) = Unit {0}
 ItemIsIndexed cut c (MovieFragment moof mdat) = FragmentIsIndexed cut (fragment_in c moof mdat) (drop mdat.header.header_len mdat.bytes)
 
--- so do those of items, one after the other
+-- the same for those of items, one after the other
 abbrev pub ItemsAreIndexed : Cut → Context → List Item → Type 0
 ItemsAreIndexed cut c [] = Unit {0}
 ItemsAreIndexed cut c (i ∷ is) = ItemIsIndexed cut c i × ItemsAreIndexed cut (context_after (splitting cut) c i) is
 
--- so do those of an ending
+-- the same for those of an ending
 abbrev pub EndingIsIndexed : Cut → Context → Ending → Type 0
 EndingIsIndexed cut c NothingMore = Unit {0}
 EndingIsIndexed cut c (OpenBox h head more) = Unit {0}

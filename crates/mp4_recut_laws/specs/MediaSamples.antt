@@ -22,7 +22,7 @@ pub record MediaSample : Type 0 where
   pub entry : ℕ
   pub bytes : List ℕ
 
--- the samples of these rows: the first is decoded at `time`, each other when the one before it ends; their bytes stand one behind the other in `media`
+-- the samples of these rows: the first is decoded at `time`, each other when the one before it ends; their bytes lie one after the other in `media`
 abbrev pub media_samples_from : (track entry : ℕ) → List Row → ℕ → List ℕ → List MediaSample
 media_samples_from track entry [] time media = []
 media_samples_from track entry (row ∷ rows) time media =

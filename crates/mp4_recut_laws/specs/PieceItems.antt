@@ -49,7 +49,7 @@ pub record IsOnePiece (cut : Cut) (tracks : List Track) (f : Written) (media : L
 pub record IsOwnRecut (cut : Cut) (c : Context) (i : Item) (next : Context) : Type 0 where
   pub sound : IsSound (splitting cut) c i
   pub text : item_text cut c i ≡ bytes_of i
-  pub behind : context_after (splitting cut) c i ≡ next
+  pub after : context_after (splitting cut) c i ≡ next
 
 -- ---- pieces, one after the other
 

@@ -28,22 +28,22 @@ pub record FitsOwnIndex (f : Written) : Type 0 where
 abbrev pub RunTimesFit : Cut → List ℕ → Run → Type 0
 RunTimesFit cut held run = AllByRecursion (λ (p : Piece). FitsTime p.least) (pieces_of cut held run)
 
--- so it is with each run of a fragment
+-- the same for each run of a fragment
 abbrev pub FragmentTimesFit : Cut → Fragment → Type 0
 FragmentTimesFit cut f = AllByRecursion (RunTimesFit cut f.moof.bytes) (runs_in f)
 
--- so it is with an item
+-- the same for an item
 abbrev pub ItemTimesFit : Cut → Context → Item → Type 0
 ItemTimesFit cut c (PassedOver b) = Unit {0}
 ItemTimesFit cut c (Movie b) = Unit {0}
 ItemTimesFit cut c (MovieFragment moof mdat) = FragmentTimesFit cut (fragment_in c moof mdat)
 
--- so it is with items, one after the other
+-- the same for items, one after the other
 abbrev pub ItemsTimesFit : Cut → Context → List Item → Type 0
 ItemsTimesFit cut c [] = Unit {0}
 ItemsTimesFit cut c (i ∷ is) = ItemTimesFit cut c i × ItemsTimesFit cut (context_after (splitting cut) c i) is
 
--- so it is with an ending
+-- the same for an ending
 abbrev pub EndingTimesFit : Cut → Context → Ending → Type 0
 EndingTimesFit cut c NothingMore = Unit {0}
 EndingTimesFit cut c (OpenBox h head more) = Unit {0}

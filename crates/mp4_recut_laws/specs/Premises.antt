@@ -1,4 +1,4 @@
--- What the laws ask of the items of a stream beside that they break no rule, and what an item and its recut text have in common.
+-- What the laws require of the items of a stream in addition to breaking no rule, and what an item and its recut text have in common.
 use Rattle.std.specs.Prelude.{◌≡◌, ◌⊎◌, ℕ, ◌+◌, ◌≤◌, ◌^◌, List, [], ◌∷◌, length, None, option_map}
 use Rattle.std.specs.List.{AllByRecursion}
 use Rattle.mp4_box.specs.Headers.{IsBytes}
@@ -17,7 +17,7 @@ use Rattle.mp4_recut_laws.specs.MediaSamples.{items_samples}
 use Rattle.mp4_recut_laws.specs.PieceItems.{LiesIn, without_ends}
 use Rattle.mp4_recut_laws.specs.RecutItems.{without_index}
 
--- ---- what is asked
+-- ---- premises
 
 -- a run of a moof that was read, which has no samples or lies in the payload
 pub record IsRunIn (tracks : List Track) (start : ℕ) (payload held : List ℕ) (run : Run) : Type 0 where
@@ -32,7 +32,7 @@ CanBeRecut c (PassedOver b) = Unit {0}
 CanBeRecut c (Movie b) = (at : ℕ) → (moov_fault at b.bytes ≡ None) × (without_ends (moov_tracks at b.bytes) ≡ without_ends (moov_tracks c.at b.bytes))
 CanBeRecut c (MovieFragment moof mdat) = IsBytes moof.bytes × (c.at + length moof.bytes + length mdat.bytes ≤ 2 ^ 62) × AllByRecursion FitsTrack (tracks_in c) × (c.number ≤ 2 ^ 32)
 
--- all of these items can be, one after the other
+-- the same for all of these items, one after the other
 abbrev pub CanAllBeRecut : Cut → Context → List Item → Type 0
 CanAllBeRecut cut c [] = Unit {0}
 CanAllBeRecut cut c (i ∷ is) = CanBeRecut c i × CanAllBeRecut cut (context_after (splitting cut) c i) is
@@ -43,7 +43,7 @@ pub record AreFirstItems (cut : Cut) (is : List Item) : Type 0 where
   pub bytes : IsBytes (joined is)
   pub near : length (joined is) ≤ 2 ^ 62
 
--- ---- what is in common
+-- ---- what they have in common
 
 -- contexts that differ only in the stream offset and in the times at which the tracks end
 pub record SameButEnds (c d : Context) : Type 0 where

@@ -51,13 +51,13 @@ fragment_items cut f payload = runs_items cut f.moof.bytes f.payload.start paylo
 -- ---- a stream
 
 -- a box that is left out or kept
-abbrev pub kept_items : Bool → OneBox → List Item
-kept_items true b = []
-kept_items false b = PassedOver b ∷ []
+abbrev pub copied_items : Bool → OneBox → List Item
+copied_items true b = []
+copied_items false b = PassedOver b ∷ []
 
 -- the recut text of an item, as items
 abbrev pub item_recut : Cut → Context → Item → List Item
-item_recut cut c (PassedOver b) = kept_items (is_dropped b.header.kind.0) b
+item_recut cut c (PassedOver b) = copied_items (is_dropped b.header.kind.0) b
 item_recut cut c (Movie b) = Movie b ∷ []
 item_recut cut c (MovieFragment moof mdat) = fragment_items cut (fragment_in c moof mdat) (drop mdat.header.header_len mdat.bytes)
 
@@ -66,15 +66,15 @@ abbrev pub items_recut : Cut → Context → List Item → List Item
 items_recut cut c [] = []
 items_recut cut c (i ∷ is) = item_recut cut c i ++ items_recut cut (context_after (splitting cut) c i) is
 
--- ---- what items are recut to
+-- ---- the recut text of items
 
 -- in this context the items break no rule. Their recut text is `out`, of `count` fragments, and these are their
--- samples. Behind them only the times at which the tracks end differ
+-- samples. After them only the times at which the tracks end differ
 pub record AreRecutHere (cut : Cut) (at number : ℕ) (tracks : List Track) (is : List Item) (out : List ℕ) (count : ℕ) (samples : List MediaSample) : Type 0 where
   pub sound : AreSound (splitting cut) (context at (Some tracks) number) is
   pub text : items_text cut (context at (Some tracks) number) is ≡ out
   pub ended : List Track
-  pub behind : context_after_all (splitting cut) (context at (Some tracks) number) is ≡ context (at + length (joined is)) (Some ended) (number + count)
+  pub after : context_after_all (splitting cut) (context at (Some tracks) number) is ≡ context (at + length (joined is)) (Some ended) (number + count)
   pub same_tracks : without_ends ended ≡ without_ends tracks
   pub same : items_samples cut (context at (Some tracks) number) is ≡ samples
 

@@ -1,4 +1,4 @@
--- Streams without a fault, by their items; and what they are recut to.
+-- Streams without a fault, by their items; and their recut text.
 use Rattle.std.specs.Prelude.{ℕ, ◌≤◌, ◌^◌, Bool, true, false, List, [], ◌++◌, length}
 use Rattle.mp4_box.specs.declared.headers.Header.{Header}
 use Rattle.mp4_box.specs.Headers.{Head, IsBytes}
@@ -15,8 +15,8 @@ use Rattle.mp4_recut_laws.specs.MediaSamples.{MediaSample, items_samples, media_
 use Rattle.mp4_recut.specs.Splitting.{is_dropped, splitting}
 use Rattle.mp4_recut.specs.Texts.{box_text, fragment_text, items_text}
 
--- what stands behind the whole items of a stream: nothing; or a box that goes to the end of the stream, by its header,
--- the bytes of the header, and those behind it; or a moof, and an mdat that goes to the end
+-- what follows the whole items of a stream: nothing; or a box that goes to the end of the stream, by its header,
+-- the bytes of the header, and those after it; or a moof, and an mdat that goes to the end
 pub data Ending : Type 0 where
   NothingMore : Ending
   OpenBox : (h : Header) (head more : List ℕ) → Ending
@@ -56,7 +56,7 @@ pub record Stream : Type 0 where
 abbrev pub stream_bytes : Stream → List ℕ
 stream_bytes s = joined s.items ++ ending_bytes s.ending
 
--- what is known where the ending of a stream begins
+-- the context where the ending of a stream begins
 abbrev pub ending_context : Cut → Stream → Context
 ending_context cut s = context_after_all (splitting cut) first_context s.items
 
@@ -83,7 +83,7 @@ stream_samples cut s = items_samples cut first_context s.items ++ ending_samples
 
 -- ---- its recut text, as a stream
 
--- the whole items that an ending is recut to
+-- the whole items of the recut text of an ending
 abbrev pub ending_items : Cut → Context → Ending → List Item
 ending_items cut c NothingMore = []
 ending_items cut c (OpenBox h head more) = []
@@ -94,7 +94,7 @@ abbrev pub kept_ending : Bool → Header → List ℕ → List ℕ → Ending
 kept_ending true h head more = NothingMore
 kept_ending false h head more = OpenBox h head more
 
--- the ending that an ending is recut to: a fragment becomes whole items, and leaves none
+-- the ending of the recut text of an ending: a fragment becomes whole items, and leaves none
 abbrev pub ending_recut : Ending → Ending
 ending_recut NothingMore = NothingMore
 ending_recut (OpenBox h head more) = kept_ending (is_dropped h.kind.0) h head more

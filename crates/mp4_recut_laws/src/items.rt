@@ -31,7 +31,7 @@ pub fn piece_is_its_own_recut()
         (Some (with_end f.track (f.time + durations f.rows) tracks)) (number + 1)) }
 {}
 
-/// Pieces that stand one behind the other and are numbered on are their own recut text, and their
+/// Pieces that follow one another and are numbered on are their own recut text, and their
 /// samples stay. Where the tracks ended before doesn't matter.
 pub fn pieces_are_their_own_recut()
     ensures { (cut : Cut) (number : ℕ) (tracks : List Track) (qs : List PieceWithMedia) →

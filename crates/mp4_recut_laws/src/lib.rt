@@ -1,20 +1,20 @@
 //! Laws of the recut text: what `split` writes of a stream that is read without a fault.
 //!
-//! - [`recut_text_of_a_stream`]: the recut text, item by item; no reader and no machine stands in it;
+//! - [`recut_text_of_a_stream`]: the recut text, item by item, without a reader or a machine;
 //! - [`recut_text_is_a_stream`]: it is read without a fault, it is its own recut text, and it has the
 //!   samples of the stream;
-//! - [`indexes_are_true`]: each index in it tells the truth of the fragments behind it;
+//! - [`indexes_are_true`]: each index in it is true of the fragments after it;
 //! - [`recut_text_with_an_index`]: when it is read without a fault with the same cut and an index;
-//! - [`items`]: the laws over pieces, runs and items on which these stand.
+//! - [`items`]: the laws over pieces, runs and items on which these rest.
 //!
-//! The definitions: `specs/RecutText.antt` (the recut text, and what can be told of samples, by the
+//! The definitions: `specs/RecutText.antt` (the recut text, and reports on samples, by the
 //! bytes of a stream alone), `specs/Streams.antt` (a stream without a fault, by its items, and the
 //! stream that it is recut to), `specs/MediaSamples.antt` (a sample with its bytes),
 //! `specs/MoofEnds.antt` (where the moofs of a stream end, and their numbers),
-//! `specs/IndexTruth.antt` (when an index tells the truth of the items behind it) and
+//! `specs/IndexTruth.antt` (when an index is true of the items after it) and
 //! `specs/PieceTimes.antt` (when an index has room for the time of each piece). The laws of
 //! [`items`] speak of `specs/PieceItems.antt` and `specs/RecutItems.antt` (pieces, and the recut
-//! text, as items), `specs/Premises.antt` (what is asked of items) and `specs/Indexes.antt` (what an
+//! text, as items), `specs/Premises.antt` (premises on items) and `specs/Indexes.antt` (what an
 //! index says, and of which pieces) too.
 //!
 //! No function here has a body: each clause is a law.
@@ -39,13 +39,13 @@ ghost use Rattle.mp4_recut_laws.specs.MoofEnds.{moof_ends};
 ghost use Rattle.mp4_recut_laws.specs.PieceItems.{IsOnePiece};
 ghost use Rattle.mp4_recut_laws.specs.PieceTimes.{EndingTimesFit, FitsOwnIndex, ItemsTimesFit};
 ghost use Rattle.mp4_recut_laws.specs.RecutItems.{without_index};
-ghost use Rattle.mp4_recut_laws.specs.RecutText.{recut_text, told_by};
+ghost use Rattle.mp4_recut_laws.specs.RecutText.{recut_text, reported_by};
 ghost use Rattle.mp4_recut_laws.specs.Streams.{IsSoundStream, IsWellFormed, Stream, ending_context, recut, stream_bytes, stream_samples, stream_text};
 
 pub mod items;
 
 /// What `split` writes of a stream that is read without a fault is exactly its recut text: the texts
-/// of its items, one after the other, and that of its ending. What is told of its samples is told of
+/// of its items, one after the other, and that of its ending. A report on its samples is a report on
 /// those of its items and of its ending, in order. Each such stream has these items and this ending. The
 /// fragments that are counted are the moofs of the recut text, numbered from 1 on: just where each of them
 /// ends it is whole, and all are in the whole text.
@@ -57,23 +57,23 @@ pub fn recut_text_of_a_stream()
     ensures each { (cut : Cut) (b : List ℕ) → IsBytes b → (reading cut b).outcome ≡ Sound →
         (s : Stream) × IsSoundStream cut s × (stream_bytes s ≡ b) ×
         (recut_text cut b ≡ stream_text cut s) }
-    ensures samples { (cut : Cut) (s : Stream) (tell : MediaSample → List ℕ) →
+    ensures samples { (cut : Cut) (s : Stream) (report : MediaSample → List ℕ) →
         IsSoundStream cut s →
-        told_by tell (stream_bytes s) ≡ flat_map tell (stream_samples cut s) }
+        reported_by report (stream_bytes s) ≡ flat_map report (stream_samples cut s) }
     ensures moofs { (cut : Cut) (s : Stream) → IsSoundStream cut s →
-        (reading cut (stream_bytes s)).effects.marks ≡ moof_ends 0 1 (recut cut s).items }
+        (reading cut (stream_bytes s)).effects.fragment_ends ≡ moof_ends 0 1 (recut cut s).items }
     ensures counted { (cut : Cut) (s : Stream) → IsSoundStream cut s →
         (reading cut (stream_bytes s)).effects.tally.fragments ≡
         length (moof_ends 0 1 (recut cut s).items) }
     ensures whole { (cut : Cut) (s : Stream) (n : ℕ) → IsSoundStream cut s →
-        whole_in (length (stream_text cut s) + n) 0 (reading cut (stream_bytes s)).effects.marks ≡
+        whole_in (length (stream_text cut s) + n) 0 (reading cut (stream_bytes s)).effects.fragment_ends ≡
         length (moof_ends 0 1 (recut cut s).items) }
 {}
 
 /// The recut text of bytes that are read without a fault is the bytes of a stream that breaks no rule but that it may be longer
 /// than 2^62 bytes, and the list of its samples is that of the stream. If it has at most 2^62 bytes, it is read without a
 /// fault, and without an index it is its own recut text; however it is taken apart into items, its samples are those of the stream,
-/// and whatever is told of each sample of the stream, in order, is told of each sample of the text.
+/// and any report on each sample of the stream, in order, is a report on each sample of the text.
 pub fn recut_text_is_a_stream()
     ensures bytes { (cut : Cut) (b : List ℕ) → IsBytes b → (reading cut b).outcome ≡ Sound →
         IsBytes (recut_text cut b) }
@@ -96,13 +96,13 @@ pub fn recut_text_is_a_stream()
         IsSoundStream cut s → stream_bytes s ≡ b →
         IsSoundStream (without_index cut) t → stream_bytes t ≡ recut_text cut b →
         stream_samples (without_index cut) t ≡ stream_samples cut s }
-    ensures told { (cut : Cut) (b : List ℕ) (tell : MediaSample → List ℕ) → IsBytes b →
+    ensures reported { (cut : Cut) (b : List ℕ) (report : MediaSample → List ℕ) → IsBytes b →
         (reading cut b).outcome ≡ Sound → length (recut_text cut b) ≤ 2 ^ 62 →
-        told_by tell (recut_text cut b) ≡ told_by tell b }
+        reported_by report (recut_text cut b) ≡ reported_by report b }
 {}
 
-/// Where an index is asked for, each sidx of the recut text tells the truth: what is read in it holds
-/// of the items directly behind it, as many as it has references. The recut text of bytes that are
+/// Where an index is asked for, each sidx of the recut text is true: what is read in it holds
+/// of the items directly after it, as many as it has references. The recut text of bytes that are
 /// read without a fault has such items, and each index was written for its group of pieces.
 pub fn indexes_are_true()
     ensures bytes { (cut : Cut) (b : List ℕ) → IsBytes b → (reading cut b).outcome ≡ Sound →

@@ -5,17 +5,17 @@ use Rattle.std.proofs.lemmas.List.Elements.{All-contains}
 use Rattle.mp4_run_order.specs.declared.runs.ListedRun.{ListedRun}
 use Rattle.mp4_run_order.specs.declared.runs.Payload.{Payload}
 use Rattle.mp4_run_order.specs.Runs.{SharesNoByte, IsInTurn}
-use Rattle.mp4_run_order.specs.Places.{LiesIn, MayStand}
+use Rattle.mp4_run_order.specs.Places.{LiesIn, MayBePlaced}
 
--- the number is that of a run that may not stand where it does
+-- the number is that of a run that may not lie where it does
 pub record Blamed (p : Payload) (runs : List ListedRun) (r : Option ℕ) : Type 0 where
   pub run : ListedRun
   pub listed : Contains runs run
   pub number : r ≡ Some run.number
-  pub offends : MayStand p runs run → ⊥
+  pub offends : MayBePlaced p runs run → ⊥
 
-pub blamed_outside : (p : Payload) (runs : List ListedRun) (r : Option ℕ) (b : ListedRun) → Contains runs b → r ≡ Some b.number → b.count ≢ 0 → (LiesIn p b → ⊥) → Blamed p runs r
-blamed_outside p runs r b c e ne out = record { run = b; listed = c; number = e; offends = λ h. out (h ne).lies }
+pub blamed_out_of_place : (p : Payload) (runs : List ListedRun) (r : Option ℕ) (b : ListedRun) → Contains runs b → r ≡ Some b.number → b.count ≢ 0 → (LiesIn p b → ⊥) → Blamed p runs r
+blamed_out_of_place p runs r b c e ne out = record { run = b; listed = c; number = e; offends = λ h. out (h ne).lies }
 
 pub blamed_sharing : (p : Payload) (runs : List ListedRun) (r : Option ℕ) (a b : ListedRun) → Contains runs a → Contains runs b → a.number < b.number → r ≡ Some b.number → b.count ≢ 0 → (SharesNoByte a b → ⊥) → Blamed p runs r
 blamed_sharing p runs r a b ca cb lt e ne out = record {

@@ -2,7 +2,7 @@
 use Rattle.std.proofs.Common.{if◌then◌else◌, ◌≡◌, ◌<◌, ℕ, Bool, true, false, Option, Some, None, nat_lt, refl, arith}
 use Rattle.std.proofs.lemmas.Bool.{ltb-true, ltb-false, lt-ltb}
 use mathlib.Core.Logic.{◌⊎◌, inl, inr}
-use Rattle.mp4_run_order.specs.Working.Searches.{is_below, lower_of}
+use Rattle.mp4_run_order.specs.Implementation.Searches.{is_below, lower_of}
 
 abbrev pub IsBelow : ℕ → Option ℕ → Type 0
 IsBelow n None = Unit {0}

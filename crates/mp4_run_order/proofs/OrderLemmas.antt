@@ -147,7 +147,7 @@ track_by_key a b fa fb ne le =
 no_fall : {X : Type 0} (key : X → ℕ) (xs : List X) → IsNonDecreasingBy key xs → Pairs (λ a b. key a ≤ key b) xs
 no_fall key xs h = pairs_of_all (λ a b. key a ≤ key b) xs (λ i j d lt le. h i j d (omega arith) le)
 
--- what is sorted by a key is in the order that the key tells of
+-- what is sorted by a key is in the order of the key
 sorted_order : {X : Type 0} (run_of : X → ListedRun) (key : ListedRun → ℕ) (R : ListedRun → ListedRun → Type 0) → ((a b : ListedRun) → FitsKeys a → FitsKeys b → Differ a b → key a ≤ key b → R a b)
     → (xs ys : List X) → Listed run_of xs → Each (λ x. FitsKeys (run_of x)) xs → IsPermutation xs ys → IsNonDecreasingBy (λ x. key (run_of x)) ys → Pairs (λ a b. R (run_of a) (run_of b)) ys
 sorted_order run_of key R f xs ys l fits m up =

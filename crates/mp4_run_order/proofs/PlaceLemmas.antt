@@ -10,13 +10,13 @@ use Rattle.mp4_run_order.specs.declared.runs.Payload.{Payload}
 use Rattle.mp4_run_order.specs.declared.place_search.PlaceSearch.{PlaceSearch}
 use Rattle.mp4_run_order.specs.Runs.{end_of}
 use Rattle.mp4_run_order.specs.Places.{LiesIn, lies_in}
-use Rattle.mp4_run_order.specs.Working.Searches.{is_below, may_be_first, lower_of, bytes_step, place_step}
+use Rattle.mp4_run_order.specs.Implementation.Searches.{is_below, may_be_first, lower_of, bytes_step, place_step}
 use Rattle.mp4_run_order.proofs.ListLemmas.{Each, Pairs, each_always, each_weaker}
 use Rattle.mp4_run_order.proofs.RunLemmas.{some_from, lies_from, lies_to, lt_from, ge_from, apart_flip, both_have}
 use Rattle.mp4_run_order.proofs.BoundLemmas.{IsBelow, below_from, below_to, below_less, below_lower, lower_which}
-use Rattle.mp4_run_order.proofs.BlameLemmas.{Blamed, blamed_outside, blamed_sharing}
+use Rattle.mp4_run_order.proofs.BlameLemmas.{Blamed, blamed_out_of_place, blamed_sharing}
 
--- a search that found this, behind this run
+-- a search that found this, after this run
 abbrev at_state : Payload → Option ℕ → Option ListedRun → PlaceSearch
 at_state p found last = record { payload = p; offender = found; last = last }
 
@@ -81,7 +81,7 @@ not_judged found x h b n =
     let j : may_be_first found x ≡ true = and_from (not (x.count == 0)) (is_below x.number found) (not_from_false (x.count == 0) (ne_eqb x.count 0 n)) (below_to x.number found b) in
     absurd (cc)
 
--- behind a run that was found at fault
+-- after a run that was found at fault
 after_found : (p : Payload) (runs : List ListedRun) (found : Option ℕ) (last : Option ListedRun) (x : ListedRun) (xs : List ListedRun) (r : Option ℕ) → IsBelow x.number found → Passed p runs (Some x.number) last xs r → (r ≡ Some x.number → Blamed p runs r) → Passed p runs found last (x ∷ xs) r
 after_found p runs found last x xs r b f blame =
     skipped p runs found (Some x.number) last x xs r f
@@ -89,7 +89,7 @@ after_found p runs found last x xs r b f blame =
     (λ k n. let h : x.number < x.number = f.upto x.number k in absurd (omega arith))
     (elim f.is [ inl e ↦ inr (blame e) | inr h ↦ inr h ])
 
--- behind a run that was kept, with what is clear of the last
+-- after a run that was kept, with what is clear of the last
 after_kept : (p : Payload) (runs : List ListedRun) (found found' : Option ℕ) (last : Option ListedRun) (x : ListedRun) (xs : List ListedRun) (r : Option ℕ) → LiesIn p x → Passed p runs found' (Some x) xs r
     → ((n : ℕ) → IsBelow n r → IsBelow n found) → Each (ClearAt r last) (x ∷ xs) → (r ≡ found) ⊎ Blamed p runs r → Passed p runs found last (x ∷ xs) r
 after_kept p runs found found' last x xs r lies f upto at is = record {
@@ -130,12 +130,12 @@ between_step p runs found a x xs c nx yx b lies over next l ih false e =
       ]
     ])
 
-beside_step : (p : Payload) (runs : List ListedRun) (found : Option ℕ) (a x : ListedRun) (xs : List ListedRun) → Contains runs x → x.count ≢ 0 → x.bytes ≢ 0 → IsBelow x.number found → LiesIn p x → Each (Follows x) xs → IsLast runs (Some a) (x ∷ xs)
+sharing_step : (p : Payload) (runs : List ListedRun) (found : Option ℕ) (a x : ListedRun) (xs : List ListedRun) → Contains runs x → x.count ≢ 0 → x.bytes ≢ 0 → IsBelow x.number found → LiesIn p x → Each (Follows x) xs → IsLast runs (Some a) (x ∷ xs)
     → NextIs p runs xs → (v : Bool) → lt_z x.place (end_of a) ≡ v → (w : Bool) → nat_lt a.number x.number ≡ w
     → Passed p runs found (Some a) (x ∷ xs) (fold place_step (if v then if w then at_state p (Some x.number) (Some a) else at_state p (Some (lower_of a.number found)) (Some x) else at_state p found (Some x)) xs).offender
-beside_step p runs found a x xs c nx yx b lies next l ih true e w ew =
+sharing_step p runs found a x xs c nx yx b lies next l ih true e w ew =
     between_step p runs found a x xs c nx yx b lies (lt_from x.place (end_of a) e) next l ih w ew
-beside_step p runs found a x xs c nx yx b lies next l ih false e w ew =
+sharing_step p runs found a x xs c nx yx b lies next l ih false e w ew =
     let f = ih found (Some x) (c, nx, yx, next) in
     let r = found_from p found (Some x) xs in
     let ge = ge_from x.place (end_of a) e in
@@ -148,7 +148,7 @@ kept_step p runs found None x xs c nx yx b lies next l ih =
     let f = ih found (Some x) (c, nx, yx, next) in
     after_kept p runs found found None x xs (found_from p found (Some x) xs) lies f f.upto (tt, each_always (ClearAt (found_from p found (Some x) xs) None) (λ y. tt) xs) f.is
 kept_step p runs found (Some a) x xs c nx yx b lies next l ih =
-    beside_step p runs found a x xs c nx yx b lies next l ih (lt_z x.place (end_of a)) refl (nat_lt a.number x.number) refl
+    sharing_step p runs found a x xs c nx yx b lies next l ih (lt_z x.place (end_of a)) refl (nat_lt a.number x.number) refl
 
 passed_step : (p : Payload) (runs : List ListedRun) (found : Option ℕ) (last : Option ListedRun) (x : ListedRun) (xs : List ListedRun) → Contains runs x → Each (Follows x) xs → IsLast runs last (x ∷ xs) → NextIs p runs xs
     → (t : Bool) → not (may_be_first found x) ≡ t → (u : Bool) → not (lies_in p x) ≡ u → (v : Bool) → (x.bytes == 0) ≡ v
@@ -160,7 +160,7 @@ passed_step p runs found last x xs c next l ih false et true eu v ev =
     let j = judged_from found x et in
     let r = found_from p (Some x.number) last xs in
     after_found p runs found last x xs r j.1 (ih (Some x.number) last (rest_is runs last x xs l))
-    (λ q. blamed_outside p runs r x c q j.0 (λ h. let e = lies_to p x h in let g = not-true (lies_in p x) eu in absurd (cc)))
+    (λ q. blamed_out_of_place p runs r x c q j.0 (λ h. let e = lies_to p x h in let g = not-true (lies_in p x) eu in absurd (cc)))
 passed_step p runs found last x xs c next l ih false et false eu true ev =
     let f = ih found last (rest_is runs last x xs l) in
     let r = found_from p found last xs in

@@ -10,7 +10,7 @@ use mathlib.Core.Logic.{inl, inr}
 use Rattle.mp4_run_order.specs.declared.runs.ListedRun.{ListedRun}
 use Rattle.mp4_run_order.specs.declared.runs.Payload.{Payload}
 use Rattle.mp4_run_order.specs.Runs.{end_of, HasByte, SharesNoByte, IsInTurn}
-use Rattle.mp4_run_order.specs.Places.{LiesIn, MayStand, ends_by, lies_in, shares, overtakes, may_stand}
+use Rattle.mp4_run_order.specs.Places.{LiesIn, MayBePlaced, ends_by, lies_in, shares, overtakes, may_be_placed}
 use Rattle.mp4_run_order.proofs.ListLemmas.{Each, each_weaker, each_of_all, all_of_each}
 
 -- ---- places as numbers
@@ -131,11 +131,11 @@ apart_to a b nb s = false_from_ne_true (shares a b) (λ e.
 
 -- ---- the test of a run among others
 
--- a is no reason why the run may not stand
+-- a is no reason why the run may not be there
 abbrev no_reason : ListedRun → ListedRun → Bool
 no_reason run a = not (nat_lt a.number run.number && (shares a run || overtakes run a))
 
-record Beside (run a : ListedRun) : Type 0 where
+record NoConflict (run a : ListedRun) : Type 0 where
   pub apart : a.number < run.number → SharesNoByte a run
   pub in_turn : a.number < run.number → IsInTurn a run
 
@@ -147,14 +147,14 @@ and_false : (a b : Bool) → a ≡ true → (a && b) ≡ false → b ≡ false
 and_false true b h e = e
 and_false false b h e = absurd (cc)
 
-beside_from : (run a : ListedRun) → no_reason run a ≡ true → Beside run a
-beside_from run a h =
+no_conflict_from : (run a : ListedRun) → no_reason run a ≡ true → NoConflict run a
+no_conflict_from run a h =
     let n = not-true (nat_lt a.number run.number && (shares a run || overtakes run a)) h in
     let both : a.number < run.number → (shares a run ≡ false) × (overtakes run a ≡ false) = λ lt. or_false (shares a run) (overtakes run a) (and_false (nat_lt a.number run.number) (shares a run || overtakes run a) (lt-ltb a.number run.number lt) n) in
     record { apart = λ lt. apart_from a run (both lt).0; in_turn = λ lt. turn_from run a (both lt).1 }
 
-beside_to : (run a : ListedRun) → run.count ≢ 0 → Beside run a → no_reason run a ≡ true
-beside_to run a ne h =
+no_conflict_to : (run a : ListedRun) → run.count ≢ 0 → NoConflict run a → no_reason run a ≡ true
+no_conflict_to run a ne h =
     not_from_false (nat_lt a.number run.number && (shares a run || overtakes run a)) (false_from_ne_true (nat_lt a.number run.number && (shares a run || overtakes run a)) (λ e.
     let r = and_parts (nat_lt a.number run.number) (shares a run || overtakes run a) e in
     let lt = ltb-true a.number run.number r.0 in
@@ -171,27 +171,27 @@ each_to_all : {X : Type 0} (f : X → Bool) (xs : List X) → Each (λ x. f x �
 each_to_all f [] h = refl
 each_to_all f (x ∷ xs) h = and_from (f x) (list_all f xs) h.0 (each_to_all f xs h.1)
 
-stands_to_step : (p : Payload) (runs : List ListedRun) (run : ListedRun) → MayStand p runs run → (t : Bool) → (run.count == 0) ≡ t → may_stand p runs run ≡ true
-stands_to_step p runs run h true e = or_left (run.count == 0) (lies_in p run && list_all (no_reason run) runs) e
-stands_to_step p runs run h false e =
+placed_to_step : (p : Payload) (runs : List ListedRun) (run : ListedRun) → MayBePlaced p runs run → (t : Bool) → (run.count == 0) ≡ t → may_be_placed p runs run ≡ true
+placed_to_step p runs run h true e = or_left (run.count == 0) (lies_in p run && list_all (no_reason run) runs) e
+placed_to_step p runs run h false e =
     let ne = eqb-false run.count 0 e in
     let s = h ne in
-    let each = each_of_all (Beside run) runs (λ k d lt. record { apart = s.apart k d lt; in_turn = s.in_turn k d lt }) in
+    let each = each_of_all (NoConflict run) runs (λ k d lt. record { apart = s.apart k d lt; in_turn = s.in_turn k d lt }) in
     or_right (run.count == 0) (lies_in p run && list_all (no_reason run) runs)
-    (and_from (lies_in p run) (list_all (no_reason run) runs) (lies_to p run s.lies) (each_to_all (no_reason run) runs (each_weaker (Beside run) (λ a. no_reason run a ≡ true) (λ a b. beside_to run a ne b) runs each)))
+    (and_from (lies_in p run) (list_all (no_reason run) runs) (lies_to p run s.lies) (each_to_all (no_reason run) runs (each_weaker (NoConflict run) (λ a. no_reason run a ≡ true) (λ a b. no_conflict_to run a ne b) runs each)))
 
-pub stands_to : (p : Payload) (runs : List ListedRun) (run : ListedRun) → MayStand p runs run → may_stand p runs run ≡ true
-stands_to p runs run h = stands_to_step p runs run h (run.count == 0) refl
+pub placed_to : (p : Payload) (runs : List ListedRun) (run : ListedRun) → MayBePlaced p runs run → may_be_placed p runs run ≡ true
+placed_to p runs run h = placed_to_step p runs run h (run.count == 0) refl
 
-pub stands_from : (p : Payload) (runs : List ListedRun) (run : ListedRun) → may_stand p runs run ≡ true → MayStand p runs run
-stands_from p runs run h ne = elim (or_cases (run.count == 0) (lies_in p run && list_all (no_reason run) runs) h) [
+pub placed_from : (p : Payload) (runs : List ListedRun) (run : ListedRun) → may_be_placed p runs run ≡ true → MayBePlaced p runs run
+placed_from p runs run h ne = elim (or_cases (run.count == 0) (lies_in p run && list_all (no_reason run) runs) h) [
   | inl e ↦ absurd (ne (eqb-true run.count 0 e))
   | inr e ↦
       let r = and_parts (lies_in p run) (list_all (no_reason run) runs) e in
-      let each = each_weaker (λ a. no_reason run a ≡ true) (Beside run) (λ a b. beside_from run a b) runs (each_from_all (no_reason run) runs r.1) in
+      let each = each_weaker (λ a. no_reason run a ≡ true) (NoConflict run) (λ a b. no_conflict_from run a b) runs (each_from_all (no_reason run) runs r.1) in
       record {
         lies = lies_from p run r.0;
-        apart = all_of_each (λ a. a.number < run.number → SharesNoByte a run) runs (each_weaker (Beside run) (λ a. a.number < run.number → SharesNoByte a run) (λ a b. b.apart) runs each);
-        in_turn = all_of_each (λ a. a.number < run.number → IsInTurn a run) runs (each_weaker (Beside run) (λ a. a.number < run.number → IsInTurn a run) (λ a b. b.in_turn) runs each);
+        apart = all_of_each (λ a. a.number < run.number → SharesNoByte a run) runs (each_weaker (NoConflict run) (λ a. a.number < run.number → SharesNoByte a run) (λ a b. b.apart) runs each);
+        in_turn = all_of_each (λ a. a.number < run.number → IsInTurn a run) runs (each_weaker (NoConflict run) (λ a. a.number < run.number → IsInTurn a run) (λ a b. b.in_turn) runs each);
       }
 ]

@@ -8,7 +8,7 @@ use Rattle.std.proofs.lemmas.List.Sorted.{IsPermutation-sym, IsPermutation-refl}
 use Rattle.mp4_run_order.specs.declared.runs.ListedRun.{ListedRun}
 use Rattle.mp4_run_order.specs.declared.runs.Payload.{Payload}
 use Rattle.mp4_run_order.specs.Runs.{end_of, SharesNoByte, IsInTurn, IsListing}
-use Rattle.mp4_run_order.specs.Places.{LiesIn, MayStand, Placed}
+use Rattle.mp4_run_order.specs.Places.{LiesIn, MayBePlaced, Placed}
 use Rattle.mp4_run_order.specs.Orders.{IsTakenBefore, IsTakingOrder, taken}
 use Rattle.mp4_run_order.specs.Takings.{has_samples, has_bytes, has_samples_of, IsTakenWell, AllFollow}
 use Rattle.mp4_run_order.proofs.ListLemmas.{Each, Pairs, each_weaker, each_of_all, all_of_each, each_moved, each_two_moved, each_filter, each_passes, pairs_of_all, all_of_pairs, pairs_both, pairs_filter, pairs_with, each_both}
@@ -78,23 +78,23 @@ kept_order p runs xs l t h =
 
 -- ---- runs that break no rule
 
-abbrev Stood : ListedRun → ListedRun → Type 0
-Stood a b = a.number < b.number → b.count ≢ 0 → SharesNoByte a b
+abbrev KeptApart : ListedRun → ListedRun → Type 0
+KeptApart a b = a.number < b.number → b.count ≢ 0 → SharesNoByte a b
 
 clear_by : (a b : ListedRun) → (a.count ≢ 0) × (a.bytes ≢ 0) → (b.count ≢ 0) × (b.bytes ≢ 0) → a.place ≤ℤ b.place → SharesNoByte a b → (t : Bool) → lt_z b.place (end_of a) ≡ t → end_of a ≤ℤ b.place
 clear_by a b ha hb le s true e = absurd (both_have a b ha.0 hb.0 hb.1 le (lt_from b.place (end_of a) e) s)
 clear_by a b ha hb le s false e = ge_from b.place (end_of a) e
 
-apart_by : (a b : ListedRun) → Differ a b → b.count ≢ 0 → a.count ≢ 0 → Stood a b → Stood b a → (t : Bool) → nat_lt a.number b.number ≡ t → SharesNoByte a b
+apart_by : (a b : ListedRun) → Differ a b → b.count ≢ 0 → a.count ≢ 0 → KeptApart a b → KeptApart b a → (t : Bool) → nat_lt a.number b.number ≡ t → SharesNoByte a b
 apart_by a b d nb na h k true e = h (ltb-true a.number b.number e) nb
 apart_by a b d nb na h k false e = let g = ltb-false a.number b.number e in apart_flip b a (k (omega arith) na)
 
-clear_two : (a b : ListedRun) → Two a b → Stood a b × Stood b a → (a.count ≢ 0) × (a.bytes ≢ 0) → (b.count ≢ 0) × (b.bytes ≢ 0) → end_of a ≤ℤ b.place
+clear_two : (a b : ListedRun) → Two a b → KeptApart a b × KeptApart b a → (a.count ≢ 0) × (a.bytes ≢ 0) → (b.count ≢ 0) × (b.bytes ≢ 0) → end_of a ≤ℤ b.place
 clear_two a b w s ha hb =
     clear_by a b ha hb w.before.place (apart_by a b w.differ hb.0 ha.0 s.0 s.1 (nat_lt a.number b.number) refl) (lt_z b.place (end_of a)) refl
 
-stood_all : (p : Payload) (runs : List ListedRun) → Placed p runs → All (λ b. All (λ a. Stood a b) runs) runs
-stood_all p runs h = λ j d lt i e le less ne. (h j d lt ne).apart i e le less
+kept_apart_all : (p : Payload) (runs : List ListedRun) → Placed p runs → All (λ b. All (λ a. KeptApart a b) runs) runs
+kept_apart_all p runs h = λ j d lt i e le less ne. (h j d lt ne).apart i e le less
 
 turn_rises : (track : ℕ) (a b : ListedRun) → (b.count ≢ 0 → IsInTurn a b) → has_samples_of track a ≡ true → has_samples_of track b ≡ true → a.place ≤ℤ b.place
 turn_rises track a b h x y =
@@ -109,16 +109,16 @@ rising_all p runs track h = λ j d lt i e le x y less. turn_rises track (get_or 
 pub taken_well : (p : Payload) (runs xs : List ListedRun) → IsListing runs → IsTakingOrder runs xs → Placed p runs → IsTakenWell p runs xs
 taken_well p runs xs l t h =
     let two = pairs_both IsTakenBefore Differ Two (λ a b x y. record { before = x; differ = y }) xs (pairs_of_all IsTakenBefore xs t.order) (differ_of_listing runs xs l t.same) in
-    let stood = two_in Stood runs xs t.same (stood_all p runs h) in
-    let clear = pairs_both Two (λ a b. Stood a b × Stood b a) (λ a b. Two a b × (Stood a b × Stood b a)) (λ a b x y. (x, y)) xs two stood in
+    let kept_apart = two_in KeptApart runs xs t.same (kept_apart_all p runs h) in
+    let clear = pairs_both Two (λ a b. KeptApart a b × KeptApart b a) (λ a b. Two a b × (KeptApart a b × KeptApart b a)) (λ a b x y. (x, y)) xs two kept_apart in
     record {
       ascend = all_of_pairs (λ a b. end_of a ≤ℤ b.place) (filter has_bytes xs)
-          (pairs_with (λ a. has_bytes a ≡ true) (λ a b. Two a b × (Stood a b × Stood b a)) (λ a b. end_of a ≤ℤ b.place)
+          (pairs_with (λ a. has_bytes a ≡ true) (λ a b. Two a b × (KeptApart a b × KeptApart b a)) (λ a b. end_of a ≤ℤ b.place)
           (λ a b x y c. clear_two a b c.0 c.1 (bytes_from a x) (bytes_from b y)) (filter has_bytes xs) (each_passes has_bytes xs)
-          (pairs_filter has_bytes (λ a b. Two a b × (Stood a b × Stood b a)) xs clear));
+          (pairs_filter has_bytes (λ a b. Two a b × (KeptApart a b × KeptApart b a)) xs clear));
       lie = all_of_each (LiesIn p) (filter has_samples xs)
-          (each_both (MayStand p runs) (λ a. has_samples a ≡ true) (LiesIn p) (λ a m e. (m (samples_from a e)).lies) (filter has_samples xs)
-          (each_filter has_samples (MayStand p runs) xs (each_moved (MayStand p runs) runs xs t.same (each_of_all (MayStand p runs) runs h))) (each_passes has_samples xs));
+          (each_both (MayBePlaced p runs) (λ a. has_samples a ≡ true) (LiesIn p) (λ a m e. (m (samples_from a e)).lies) (filter has_samples xs)
+          (each_filter has_samples (MayBePlaced p runs) xs (each_moved (MayBePlaced p runs) runs xs t.same (each_of_all (MayBePlaced p runs) runs h))) (each_passes has_samples xs));
       turns = λ track. kept_order (has_samples_of track) runs xs l t (rising_all p runs track h);
     }
 
@@ -135,8 +135,8 @@ ascending_is_taken runs l up =
 apart_after : (a b : ListedRun) → (a.count ≢ 0 → end_of a ≤ℤ b.place) → SharesNoByte a b
 apart_after a b h = record { no_byte = λ x i j. let g = h i.samples in let f = i.to in let k = j.from in absurd (omega (arith, ints)) }
 
-pub follows_stands : (p : Payload) (runs : List ListedRun) → AllFollow p runs → Placed p runs
-follows_stands p runs h = λ j d lt ne.
+pub follows_placed : (p : Payload) (runs : List ListedRun) → AllFollow p runs → Placed p runs
+follows_placed p runs h = λ j d lt ne.
     let f = h j d lt ne in
     record {
       lies = f.lies;

@@ -3,4 +3,4 @@ pub mod Places
 pub mod Orders
 pub mod Takings
 pub mod Worked
-pub mod Working
+pub mod Implementation

@@ -28,12 +28,12 @@ pub record IsTrackOrder (runs sorted : List ListedRun) : Type 0 where
 
 -- ---- the same, computed
 
--- x stands before the first that it may precede
+-- x comes before the first that it may precede
 abbrev pub put_by : {X : Type 0} → (X → X → Bool) → X → List X → List X
 put_by may x [] = x ∷ []
 put_by may x (y ∷ ys) = if may x y then x ∷ y ∷ ys else y ∷ put_by may x ys
 
--- each stands before the first that it may precede
+-- each comes before the first that it may precede
 abbrev pub ordered_by : {X : Type 0} → (X → X → Bool) → List X → List X
 ordered_by may [] = []
 ordered_by may (x ∷ xs) = put_by may x (ordered_by may xs)

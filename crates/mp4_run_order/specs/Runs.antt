@@ -3,7 +3,7 @@ use Rattle.std.specs.Prelude.{ℤ, pos, ◌+ℤ◌, ◌≤ℤ◌, ◌<ℤ◌, �
 use Rattle.std.specs.List.{AllPairs}
 use Rattle.mp4_run_order.specs.declared.runs.ListedRun.{ListedRun}
 
--- the stream offset behind its last byte
+-- the stream offset after its last byte
 abbrev pub end_of : ListedRun → ℤ
 end_of run = run.place +ℤ pos run.bytes
 

@@ -1,4 +1,4 @@
--- What holds of runs in the order in which they are taken, and runs that keep a stricter rule.
+-- Properties of runs in taking order, and runs that keep a stricter rule.
 use Rattle.std.specs.Prelude.{ℕ, ◌≤ℤ◌, ◌≡◌, ◌≢◌, ◌<◌, ◌==◌, Bool, not, ◌&&◌, List}
 use Rattle.std.specs.List.{All, AllPairs, filter}
 use Rattle.mp4_run_order.specs.declared.runs.ListedRun.{ListedRun}

@@ -22,11 +22,11 @@ numbers runs = map (λ run. run.number) runs
 abbrev pub offender_of : List ListedRun → Option ℕ
 offender_of runs = option_map (λ run. run.number) (first_offender payload runs)
 
--- a run of track 3 whose sample has no bytes, behind the four
+-- a run of track 3 whose sample has no bytes, after the four
 abbrev pub with_empty : ℕ → List ListedRun
 with_empty place = one 648 1 792 5 ∷ one 672 1 801 7 ∷ one 736 2 797 4 ∷ one 760 2 808 4 ∷ one 800 3 place 0 ∷ []
 
--- the runs of two tracks in turn fill the payload, each from the byte behind another
+-- the runs of two tracks in turn fill the payload, each from the byte after another
 pub record AreTakenInTurns : Type 0 where
   pub order : numbers (taken (in_turns 797 808)) ≡ 648 ∷ 736 ∷ 672 ∷ 760 ∷ []
   pub placed : offender_of (in_turns 797 808) ≡ None
@@ -41,4 +41,4 @@ pub record AreAtFault : Type 0 where
 pub record AreWithoutBytes : Type 0 where
   pub among : offender_of (with_empty 803) ≡ None
   pub at_end : offender_of (with_empty 812) ≡ None
-  pub behind : offender_of (with_empty 813) ≡ Some 800
+  pub after : offender_of (with_empty 813) ≡ Some 800

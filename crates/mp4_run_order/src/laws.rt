@@ -1,4 +1,4 @@
-//! What the definitions of where runs stand, how they are searched and how they are taken imply.
+//! What the definitions of where runs lie, how they are searched and how they are taken imply.
 
 ghost use Rattle.std.specs.Prelude.{ℕ, List, ◌≡◌, ◌≤ℤ◌, option_map};
 ghost use Rattle.std.specs.List.{All, AllPairs, filter};
@@ -8,7 +8,7 @@ ghost use Rattle.mp4_run_order.specs.declared.runs.Payload.{Payload};
 ghost use Rattle.mp4_run_order.specs.Orders.{FitsKeys, IsTakingOrder, IsTrackOrder, place_key, taken, track_key};
 ghost use Rattle.mp4_run_order.specs.Places.{IsOffender, Placed, first_offender};
 ghost use Rattle.mp4_run_order.specs.Runs.{IsListing};
-ghost use Rattle.mp4_run_order.specs.Working.Searches.{found_by_place, found_by_track};
+ghost use Rattle.mp4_run_order.specs.Implementation.Searches.{found_by_place, found_by_track};
 ghost use Rattle.mp4_run_order.specs.Worked.{AreAtFault, AreTakenInTurns, AreWithoutBytes};
 ghost use Rattle.mp4_run_order.specs.Takings.{AllFollow, IsTakenWell, has_samples};
 
@@ -20,7 +20,7 @@ pub fn search_finds_the_first()
         ≡ option_map (λ run. run.number) (first_offender p runs) }
 {}
 
-/// What is answered is the first run in the listing that may not stand where it does, or none where all may.
+/// The result is the first run in the listing that may not lie where it does, or none where all may.
 pub fn offender_is_the_first()
     ensures { (p : Payload) (runs : List ListedRun) → IsListing runs →
         IsOffender p runs (first_offender p runs) }
@@ -34,7 +34,7 @@ pub fn taking_order_is_one()
 {}
 
 /// Runs that are sorted by their keys are in taking order, or in order by track.
-pub fn keys_tell_the_orders()
+pub fn keys_determine_the_orders()
     ensures place { (runs xs : List ListedRun) → IsListing runs → All FitsKeys runs →
         IsPermutation runs xs → IsNonDecreasingBy place_key xs → IsTakingOrder runs xs }
     ensures track { (runs xs : List ListedRun) → IsListing runs → All FitsKeys runs →

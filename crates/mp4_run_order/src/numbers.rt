@@ -1,7 +1,7 @@
-//! A number beside another that may be there.
+//! A number and another that may be there.
 
 ghost use Rattle.std.specs.Prelude.{◌≡◌};
-ghost use Rattle.mp4_run_order.specs.Working.Searches.{is_below, lower_of};
+ghost use Rattle.mp4_run_order.specs.Implementation.Searches.{is_below, lower_of};
 
 /// Whether it is lower than the other, where there is one.
 pub(crate) fn is_below(number: u64, other: Option<u64>) -> bool

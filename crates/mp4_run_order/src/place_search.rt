@@ -1,13 +1,13 @@
 //! The search in taking order.
 
 ghost use Rattle.std.specs.Prelude.{◌≡◌};
-ghost use Rattle.mp4_run_order.specs.Working.Searches.{bytes_step, may_be_first, place_start, place_step, shared_step};
+ghost use Rattle.mp4_run_order.specs.Implementation.Searches.{bytes_step, may_be_first, place_start, place_step, shared_step};
 
 use crate::numbers::{is_below, lower_of};
 use crate::runs::{ListedRun, Payload};
 
 /// The search, among runs that are gone over in taking order, for the first in the listing that is at fault. It is
-/// the second of two passes, behind [`TrackSearch`](crate::TrackSearch).
+/// the second of two passes, after [`TrackSearch`](crate::TrackSearch).
 #[derive(Clone, Copy, Debug)]
 pub struct PlaceSearch {
     /// Where runs must lie.

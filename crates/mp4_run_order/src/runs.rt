@@ -32,7 +32,7 @@ pub struct Payload {
 }
 
 impl ListedRun {
-    /// The stream offset behind its last byte.
+    /// The stream offset after its last byte.
     pub fn end(self) -> i128
         ensures { result ≡ end_of self }
     {

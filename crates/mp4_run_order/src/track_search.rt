@@ -1,7 +1,7 @@
 //! The search by track.
 
 ghost use Rattle.std.specs.Prelude.{◌≡◌};
-ghost use Rattle.mp4_run_order.specs.Working.Searches.{is_late, track_start, track_step};
+ghost use Rattle.mp4_run_order.specs.Implementation.Searches.{is_time_fault, track_start, track_step};
 
 use crate::numbers::lower_of;
 use crate::runs::ListedRun;
@@ -28,8 +28,8 @@ impl TrackSearch {
         }
     }
 
-    fn is_late(self, run: ListedRun) -> bool
-        ensures { result ≡ is_late self.last run }
+    fn is_time_fault(self, run: ListedRun) -> bool
+        ensures { result ≡ is_time_fault self.last run }
     {
         match self.last {
             None => false,
@@ -46,7 +46,7 @@ impl TrackSearch {
     {
         if run.count == 0 {
             self
-        } else if self.is_late(run) {
+        } else if self.is_time_fault(run) {
             TrackSearch {
                 offender: Some(lower_of(run.number, self.offender)),
                 ..self

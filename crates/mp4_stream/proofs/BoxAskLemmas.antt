@@ -1,4 +1,4 @@
--- Where a box of a listing asks for memory, exactly the listing of the bytes before it was told.
+-- Where a box of a listing requests memory, exactly the listing of the bytes before it was written.
 use Rattle.std.proofs.Common.{◌≡◌, ◌∙◌, ℕ, ◌+◌, ◌-◌, ◌<◌, ◌≤◌, List, [], ◌∷◌, ◌++◌, length, take, drop, Option, None, Some, append_assoc, Bool, true, false, ap, sym, refl, arith, length-append, length-drop, length-take-le, take-append-drop, subst}
 use Rattle.std.proofs.Math.Seq.{take-append_seam, drop-append_seam}
 use Rattle.std.specs.Prelude.{nat_lt, if◌then◌else◌}
@@ -15,14 +15,14 @@ use Rattle.mp4_box.specs.Headers.{need, header_at, HasRoom}
 use Rattle.mp4_box.proofs.HeaderLemmas.{header_at-append, whole_is, need-least}
 use Rattle.mp4_box.specs.declared.rules.Fault.{Fault}
 use Rattle.mp4_box.specs.Trees.{tree_faults}
-use Rattle.mp4_stream.specs.Holding.{most_held}
+use Rattle.mp4_stream.specs.Buffering.{most_held}
 use Rattle.mp4_stream.specs.Listing.{box_line}
-use Rattle.mp4_machine.specs.Readings.{Request, shifted, Effects, silent, says, requests_memory, FirstItem, Last, Whole, after_effects}
-use Rattle.mp4_machine.proofs.ReadingItemLemmas.{Each, IsFirst, IsItemAt, asks_stand}
+use Rattle.mp4_machine.specs.Readings.{Request, shifted, Effects, no_effects, says, requests_memory, FirstItem, Last, Whole, after_effects}
+use Rattle.mp4_machine.proofs.ReadingItemLemmas.{Each, IsFirst, IsItemAt, asks_hold}
 use Rattle.mp4_machine.proofs.PastLemmas.{effects_of}
 use Rattle.mp4_machine.proofs.ReadingLemmas.{Below}
 use Rattle.mp4_machine.specs.Bodies.{least_end, longest, at_fault, body_item, open_body_item}
-use Rattle.mp4_stream.specs.Boxes.{passed, body, held_box, held_body, holding, box_by, box, top_box_by, top_box, reading, listing}
+use Rattle.mp4_stream.specs.Boxes.{passed, body, buffered_box, held_body, holding, box_by, box, top_box_by, top_box, reading, listing}
 use Rattle.mp4_machine.proofs.BodyLemmas.{nat_lt_false}
 use Rattle.mp4_stream.proofs.BoxLemmas.{front-items, front-some, front-none, held-below}
 use Rattle.mp4_machine.proofs.HeadLemmas.{front-is, front-len, head-room}
@@ -45,7 +45,7 @@ body-silent : (at : ℕ) (h : Header) (size : Size) (b : List ℕ) → (effects_
 body-silent at h (Exact s) b = sized-silent at h.kind (at + s) (s - h.header_len) b _ refl
 body-silent at h ToEnd b = open-silent at h.kind (longest - (at + h.header_len)) b _ refl
 
-held_box-silent : (at next : ℕ) (x rest : List ℕ) (fs : List Fault) → (effects_of (held_box at next x rest fs)).requests ≡ []
+held_box-silent : (at next : ℕ) (x rest : List ℕ) (fs : List Fault) → (effects_of (buffered_box at next x rest fs)).requests ≡ []
 held_box-silent at next x rest [] = refl
 held_box-silent at next x rest (f ∷ fs) = refl
 
@@ -85,7 +85,7 @@ front-first at (a ∷ b) = front_by-first at (a ∷ b) (header_at (a ∷ b))
 abbrev pub IsTaken : (List ℕ → FirstItem ℕ) → ℕ → List ℕ → FirstItem ℕ → Type 0
 IsTaken f base b v = IsItemAt (λ n. f) (λ n. n) base b v
 
-sized-whole : (at : ℕ) (kind : FourCc) (next left : ℕ) (b : List ℕ) → left ≤ length b → body_item passed at kind next left b ≡ Whole silent next (drop left b)
+sized-whole : (at : ℕ) (kind : FourCc) (next left : ℕ) (b : List ℕ) → left ≤ length b → body_item passed at kind next left b ≡ Whole no_effects next (drop left b)
 sized-whole at kind next left b h = rw (nat_lt_false (length b) left h) refl
 
 sized-taken : (at : ℕ) (kind : FourCc) (base next left : ℕ) (b : List ℕ) (t : Bool) → next ≡ base + left → nat_lt (length b) left ≡ t → IsTaken (body_item passed at kind next left) base b (body_item passed at kind next left b)
@@ -97,22 +97,22 @@ sized-taken at kind base next left b false n e =
       own = take left b;
       cut = sym (take-append-drop left b);
       ends = omega (arith, len, n);
-      same = λ y. sized-whole at kind next left (take left b ++ y) (omega (arith, len, length-append (take left b) y)) ∙ ap (λ k. Whole silent next (drop k (take left b ++ y))) (sym len) ∙ ap (Whole silent next) (drop-append_seam (take left b) y);
+      same = λ y. sized-whole at kind next left (take left b ++ y) (omega (arith, len, length-append (take left b) y)) ∙ ap (λ k. Whole no_effects next (drop k (take left b ++ y))) (sym len) ∙ ap (Whole no_effects next) (drop-append_seam (take left b) y);
     })
 
 open-taken : (at : ℕ) (kind : FourCc) (left base : ℕ) (b : List ℕ) (t : Bool) → nat_lt left (length b) ≡ t → IsTaken (open_body_item passed at kind 0 left) base b (open_body_item passed at kind 0 left b)
 open-taken at kind left base b true e = rw e tt
 open-taken at kind left base b false e = rw (e, nat_lt_false (length b) 0 (omega arith)) tt
 
-told-taken : (t : Effects) (f : List ℕ → FirstItem ℕ) (base : ℕ) (b : List ℕ) (v : FirstItem ℕ) → IsTaken f base b v → IsTaken (λ y. after_effects t (f y)) base b (after_effects t v)
-told-taken t f base b (Last r) h = tt
-told-taken t f base b (Whole effects next rest) h = record { own = h.own; cut = h.cut; ends = h.ends; same = λ y. ap (after_effects t) (h.same y) }
+emitted-taken : (t : Effects) (f : List ℕ → FirstItem ℕ) (base : ℕ) (b : List ℕ) (v : FirstItem ℕ) → IsTaken f base b v → IsTaken (λ y. after_effects t (f y)) base b (after_effects t v)
+emitted-taken t f base b (Last r) h = tt
+emitted-taken t f base b (Whole effects next rest) h = record { own = h.own; cut = h.cut; ends = h.ends; same = λ y. ap (after_effects t) (h.same y) }
 
 body-taken : (at : ℕ) (h : Header) (size : Size) (b : List ℕ) → HasRoom size h.header_len → IsTaken (body at h size) (at + h.header_len) b (body at h size b)
 body-taken at h (Exact s) b room = sized-taken at h.kind (at + h.header_len) (at + s) (s - h.header_len) b _ (omega (arith, room)) refl
 body-taken at h ToEnd b room = open-taken at h.kind (longest - (at + h.header_len)) (at + h.header_len) b _ refl
 
-held_box-taken : (at size : ℕ) (kind : FourCc) (b : List ℕ) (fs : List Fault) → size ≤ length b → tree_faults at (take size b) ≡ fs → IsTaken (held_body at kind size) at b (held_box at (at + size) (take size b) (drop size b) fs)
+held_box-taken : (at size : ℕ) (kind : FourCc) (b : List ℕ) (fs : List Fault) → size ≤ length b → tree_faults at (take size b) ≡ fs → IsTaken (held_body at kind size) at b (buffered_box at (at + size) (take size b) (drop size b) fs)
 held_box-taken at size kind b (f ∷ fs) enough e = tt
 held_box-taken at size kind b [] enough e =
     let len : length (take size b) ≡ size = length-take-le size b enough in
@@ -122,18 +122,18 @@ held_box-taken at size kind b [] enough e =
       ends = omega (arith, len);
       same = λ y.
           let top_box : take size (take size b ++ y) ≡ take size b = ap (λ k. take k (take size b ++ y)) (sym len) ∙ take-append_seam (take size b) y in
-          let behind : drop size (take size b ++ y) ≡ y = ap (λ k. drop k (take size b ++ y)) (sym len) ∙ drop-append_seam (take size b) y in
-          rw (nat_lt_false (length (take size b ++ y)) size (omega (arith, len, length-append (take size b) y)), top_box, behind, e) refl;
+          let after : drop size (take size b ++ y) ≡ y = ap (λ k. drop k (take size b ++ y)) (sym len) ∙ drop-append_seam (take size b) y in
+          rw (nat_lt_false (length (take size b ++ y)) size (omega (arith, len, length-append (take size b) y)), top_box, after, e) refl;
     }
 
 held-taken : (at : ℕ) (kind : FourCc) (size : ℕ) (b : List ℕ) (t : Bool) → nat_lt (length b) size ≡ t → IsTaken (held_body at kind size) at b (held_body at kind size b)
 held-taken at kind size b true e = rw e tt
 held-taken at kind size b false e = rw e (held_box-taken at size kind b (tree_faults at (take size b)) (ltb-false _ _ e) refl)
 
--- the same, behind bytes that all of it begins with
-behind-taken : (f : List ℕ → FirstItem ℕ) (base : ℕ) (x b : List ℕ) (v : FirstItem ℕ) → ((effects : Effects) (next : ℕ) (rest : List ℕ) → v ≡ Whole effects next rest → length rest ≤ length b) → IsTaken f base (x ++ b) v → IsTaken (λ z. f (x ++ z)) (base + length x) b v
-behind-taken f base x b (Last r) short h = tt
-behind-taken f base x b (Whole effects next rest) short h =
+-- the same, after bytes that all of it begins with
+after-taken : (f : List ℕ → FirstItem ℕ) (base : ℕ) (x b : List ℕ) (v : FirstItem ℕ) → ((effects : Effects) (next : ℕ) (rest : List ℕ) → v ≡ Whole effects next rest → length rest ≤ length b) → IsTaken f base (x ++ b) v → IsTaken (λ z. f (x ++ z)) (base + length x) b v
+after-taken f base x b (Last r) short h = tt
+after-taken f base x b (Whole effects next rest) short h =
     let all : length x + length b ≡ length h.own + length rest = sym (length-append x b) ∙ ap length h.cut ∙ length-append h.own rest in
     let less : length x ≤ length h.own = omega (arith, all, short effects next rest refl) in
     let top_box : take (length x) h.own ≡ x = sym (take-append-le (length x) h.own rest less) ∙ ap (take (length x)) (sym h.cut) ∙ take-append_seam x b in
@@ -158,13 +158,13 @@ below-rest v n h effects next rest e = subst (λ w. Below w n) e h
 
 kept-taken : (at : ℕ) (kind : FourCc) (s : ℕ) (x b : List ℕ) → length x ≤ s → IsTaken (λ z. held_body at kind s (x ++ z)) (at + length x) b (held_body at kind s (x ++ b))
 kept-taken at kind s x b h =
-    behind-taken (held_body at kind s) at x b (held_body at kind s (x ++ b))
+    after-taken (held_body at kind s) at x b (held_body at kind s (x ++ b))
     (below-rest (held_body at kind s (x ++ b)) (length b) (held-below at kind s (x ++ b) (length b) (omega (arith, length-append x b))))
     (held-taken at kind s (x ++ b) _ refl)
 
 holding-taken : (at : ℕ) (h : Header) (limit s : ℕ) (x b : List ℕ) (t : Bool) → nat_lt limit s ≡ t → length x ≤ s → IsTaken (λ z. holding at h limit (x ++ z) (Exact s)) (at + length x) b (holding at h limit (x ++ b) (Exact s))
 holding-taken at h limit s x b true e fits = rw e tt
-holding-taken at h limit s x b false e fits = rw e (told-taken (requests_memory at s) (λ z. held_body at h.kind s (x ++ z)) (at + length x) b (held_body at h.kind s (x ++ b)) (kept-taken at h.kind s x b fits))
+holding-taken at h limit s x b false e fits = rw e (emitted-taken (requests_memory at s) (λ z. held_body at h.kind s (x ++ z)) (at + length x) b (held_body at h.kind s (x ++ b)) (kept-taken at h.kind s x b fits))
 
 holding-taken_by : (at : ℕ) (h : Header) (limit : ℕ) (x b : List ℕ) (size : Size) → HasRoom size (length x) → IsTaken (λ z. holding at h limit (x ++ z) size) (at + length x) b (holding at h limit (x ++ b) size)
 holding-taken_by at h limit x b (Exact s) room = holding-taken at h limit s x b _ refl room
@@ -173,14 +173,14 @@ holding-taken_by at h limit x b ToEnd room = tt
 box_by-taken : (at : ℕ) (h : Header) (x b : List ℕ) (most : Option ℕ) → h.header_len ≡ length x → HasRoom h.size (length x) → IsTaken (λ z. box_by at h x z most) (at + length x) b (box_by at h x b most)
 box_by-taken at h x b None len room =
     subst (λ n. IsTaken (λ z. after_effects (says (box_line at h)) (body at h h.size z)) (at + n) b (after_effects (says (box_line at h)) (body at h h.size b))) len
-    (told-taken (says (box_line at h)) (body at h h.size) (at + h.header_len) b (body at h h.size b) (body-taken at h h.size b (subst (HasRoom h.size) (sym len) room)))
+    (emitted-taken (says (box_line at h)) (body at h h.size) (at + h.header_len) b (body at h h.size b) (body-taken at h h.size b (subst (HasRoom h.size) (sym len) room)))
 box_by-taken at h x b (Some limit) len room = holding-taken_by at h limit x b h.size room
 
 box-taken : (at : ℕ) (h : Header) (x b : List ℕ) (t : Bool) → nat_lt longest (least_end at h h.size) ≡ t → h.header_len ≡ length x → HasRoom h.size (length x) → IsTaken (λ z. if nat_lt longest (least_end at h h.size) then Last (at_fault StreamTooLong (Some h.kind) at) else box_by at h x z (most_held h.kind.0)) (at + length x) b (box at h x b)
 box-taken at h x b true e len room = rw e tt
 box-taken at h x b false e len room = rw e (box_by-taken at h x b (most_held h.kind.0) len room)
 
--- behind its header
+-- after its header
 headed : (at : ℕ) (x b : List ℕ) (h : Header) (v : FirstItem ℕ) → length x ≡ need x → header_at x ≡ steps.Whole h → IsTaken (box at h x) (at + length x) b v → IsItemAt top_box (λ n. n) at (x ++ b) v
 headed at x b h (Last r) len e i = tt
 headed at x b h (Whole effects next rest) len e i = record {
@@ -205,7 +205,7 @@ front-whole at [] = subst (IsItemAt top_box (λ n. n) at []) (sym (front-none at
 front-whole at (a ∷ b) = subst (IsItemAt top_box (λ n. n) at (a ∷ b)) (sym (front-some at (a ∷ b) (omega arith))) (front_by-whole at (a ∷ b) (header_at (a ∷ b)) refl)
 
 -- the listing before a box that asks is that of the bytes before it
-pub listing-before : (b : List ℕ) (before : List Request) (a : Request) (behind : List Request) → (reading 0 b).effects.requests ≡ before ++ a ∷ behind → take a.text_before (listing b) ≡ listing (take a.at b)
-listing-before b before a behind e =
+pub listing-before : (b : List ℕ) (before : List Request) (a : Request) (after : List Request) → (reading 0 b).effects.requests ≡ before ++ a ∷ after → take a.text_before (listing b) ≡ listing (take a.at b)
+listing-before b before a after e =
     let none : a.at - 0 ≡ a.at = omega arith in
-    (asks_stand top_box (λ n. n) front-items front-first front-whole 0 b before a behind e).text ∙ ap (λ n. listing (take n b)) none
+    (asks_hold top_box (λ n. n) front-items front-first front-whole 0 b before a after e).text ∙ ap (λ n. listing (take n b)) none

@@ -13,18 +13,18 @@ use Rattle.mp4_box.specs.Headers.{need, header_at, kind_of, HasRoom}
 use Rattle.mp4_box.proofs.HeaderLemmas.{header_at-append, whole_is, need-least, is_cut}
 use Rattle.mp4_box.specs.declared.rules.Fault.{Fault}
 use Rattle.mp4_box.specs.Trees.{tree_faults}
-use Rattle.mp4_stream.specs.Holding.{held_lines, most_held}
+use Rattle.mp4_stream.specs.Buffering.{held_lines, most_held}
 use Rattle.mp4_stream.specs.Listing.{box_line}
-use Rattle.mp4_machine.specs.Readings.{empty_reading, Last, after, after_effects, silent, says, requests_memory, Faulty, Sound, then_read, fault_in, early_in}
+use Rattle.mp4_machine.specs.Readings.{empty_reading, Last, after, after_effects, no_effects, says, requests_memory, Faulty, Sound, then_read, fault_in, decided_in}
 use Rattle.mp4_machine.specs.Bodies.{cut_off, fault, least_end, longest, at_fault, open_body_item}
-use Rattle.mp4_stream.specs.Boxes.{passed, body, held_box, held_body, holding, box_by, box, top_box_by, top_box, reading}
-use Rattle.mp4_stream.specs.States.{IsState, in_header, standing}
+use Rattle.mp4_stream.specs.Boxes.{passed, body, buffered_box, held_body, holding, box_by, box, top_box_by, top_box, reading}
+use Rattle.mp4_stream.specs.States.{IsState, continuation_at, in_header}
 use Rattle.mp4_stream.specs.declared.state.State.{State}
 use Rattle.mp4_stream.specs.declared.state.State.TheVariants as states
-use Rattle.mp4_machine.specs.Pieces.{IsQuiet}
-use Rattle.mp4_machine.proofs.ReadingLemmas.{Below, Below-more, Below-told, IsItemwise, read_all-front, then_read-told}
+use Rattle.mp4_machine.specs.Inputs.{HasNoEffects}
+use Rattle.mp4_machine.proofs.ReadingLemmas.{Below, Below-emitted, Below-more, IsItemwise, read_all-front, then_read-emitted}
 use Rattle.mp4_machine.proofs.BodyLemmas.{nat_lt_true, nat_lt_false, body-none, open-none}
-use Rattle.mp4_machine.proofs.BodyGrowthLemmas.{told-below, told_open-below}
+use Rattle.mp4_machine.proofs.BodyGrowthLemmas.{emitted-below, emitted_open-below}
 use Rattle.mp4_machine.proofs.HeadLemmas.{head-room, kind_of-append}
 
 pub some_bytes : (xs : List ℕ) → (xs ≡ [] → ⊥) → 0 < length xs
@@ -34,15 +34,15 @@ some_bytes (x ∷ xs) f = omega arith
 -- ---- the boxes are items
 
 pub body-below : (at : ℕ) (h : Header) (size : Size) (bytes : List ℕ) → Below (body at h size bytes) (length bytes)
-body-below at h (Exact s) bytes = told-below passed at h.kind (at + s) (s - h.header_len) (length bytes) bytes (omega arith)
-body-below at h ToEnd bytes = told_open-below ℕ passed at h.kind 0 (longest - (at + h.header_len)) (length bytes) bytes
+body-below at h (Exact s) bytes = emitted-below passed at h.kind (at + s) (s - h.header_len) (length bytes) bytes (omega arith)
+body-below at h ToEnd bytes = emitted_open-below ℕ passed at h.kind 0 (longest - (at + h.header_len)) (length bytes) bytes
 
-held_box-below : (at next : ℕ) (x rest : List ℕ) (fs : List Fault) (n : ℕ) → length rest ≤ n → Below (held_box at next x rest fs) n
+held_box-below : (at next : ℕ) (x rest : List ℕ) (fs : List Fault) (n : ℕ) → length rest ≤ n → Below (buffered_box at next x rest fs) n
 held_box-below at next x rest [] n h = h
 held_box-below at next x rest (f ∷ fs) n h = tt
 
 pub held-below : (at : ℕ) (kind : FourCc) (size : ℕ) (bytes : List ℕ) (n : ℕ) → length bytes ≤ n + size → Below (held_body at kind size bytes) n
-held-below at kind size bytes n h = elim (nat_lt (length bytes) size) as (λ v. Below (if v then Last (cut_off Truncated (Some kind) at) else held_box at (at + size) (take size bytes) (drop size bytes) (tree_faults at (take size bytes))) n) [
+held-below at kind size bytes n h = elim (nat_lt (length bytes) size) as (λ v. Below (if v then Last (cut_off Truncated (Some kind) at) else buffered_box at (at + size) (take size bytes) (drop size bytes) (tree_faults at (take size bytes))) n) [
   | true ↦ tt
   | false ↦ held_box-below at (at + size) (take size bytes) (drop size bytes) (tree_faults at (take size bytes)) n (omega (arith, length-drop size bytes))
 ]
@@ -50,12 +50,12 @@ held-below at kind size bytes n h = elim (nat_lt (length bytes) size) as (λ v. 
 holding-below : (at : ℕ) (h : Header) (limit : ℕ) (x bytes : List ℕ) (size : Size) → HasRoom size (length x) → Below (holding at h limit (x ++ bytes) size) (length bytes)
 holding-below at h limit x bytes (Exact s) room = elim (nat_lt limit s) as (λ v. Below (if v then Last (at_fault TooLarge (Some h.kind) at) else after_effects (requests_memory at s) (held_body at h.kind s (x ++ bytes))) (length bytes)) [
   | true ↦ tt
-  | false ↦ Below-told (requests_memory at s) (held_body at h.kind s (x ++ bytes)) (length bytes) (held-below at h.kind s (x ++ bytes) (length bytes) (omega (arith, length-append x bytes)))
+  | false ↦ Below-emitted (requests_memory at s) (held_body at h.kind s (x ++ bytes)) (length bytes) (held-below at h.kind s (x ++ bytes) (length bytes) (omega (arith, length-append x bytes)))
 ]
 holding-below at h limit x bytes ToEnd room = tt
 
 box_by-below : (at : ℕ) (h : Header) (x bytes : List ℕ) (most : Option ℕ) → HasRoom h.size (length x) → Below (box_by at h x bytes most) (length bytes)
-box_by-below at h x bytes None room = Below-told (says (box_line at h)) (body at h h.size bytes) (length bytes) (body-below at h h.size bytes)
+box_by-below at h x bytes None room = Below-emitted (says (box_line at h)) (body at h h.size bytes) (length bytes) (body-below at h h.size bytes)
 box_by-below at h x bytes (Some limit) room = holding-below at h limit x bytes h.size room
 
 box-below : (at : ℕ) (h : Header) (x bytes : List ℕ) → HasRoom h.size (length x) → Below (box at h x bytes) (length bytes)
@@ -120,14 +120,14 @@ reading-bad at x later len e =
 pub reading-more : (at : ℕ) (x : List ℕ) → 0 < length x → length x < need x → reading at x ≡ cut_off Truncated (kind_of x) at
 reading-more at x some short = reading-by at x steps.More some (is_cut x short)
 
--- ---- behind a header
+-- ---- after a header
 
 pub reading-too_long : (at : ℕ) (h : Header) (x later : List ℕ) → longest < least_end at h h.size → then_read reading (box at h x later) ≡ at_fault StreamTooLong (Some h.kind) at
 reading-too_long at h x later far = rw (nat_lt_true longest (least_end at h h.size) far) refl
 
 pub reading-begun : (at : ℕ) (h : Header) (x later : List ℕ) → least_end at h h.size ≤ longest → most_held h.kind.0 ≡ None
     → then_read reading (box at h x later) ≡ after (says (box_line at h)) (then_read reading (body at h h.size later))
-reading-begun at h x later near loose = rw (nat_lt_false longest (least_end at h h.size) near, loose) (then_read-told reading (says (box_line at h)) (body at h h.size later))
+reading-begun at h x later near loose = rw (nat_lt_false longest (least_end at h h.size) near, loose) (then_read-emitted reading (says (box_line at h)) (body at h h.size later))
 
 -- a box that is held
 pub reading-too_large : (at : ℕ) (h : Header) (x later : List ℕ) (limit s : ℕ) → at + s ≤ longest → most_held h.kind.0 ≡ Some limit → h.size ≡ Exact s → limit < s
@@ -141,18 +141,18 @@ reading-held_to_end at h x later limit near held size = rw (size, nat_lt_false l
 pub reading-holds : (at : ℕ) (h : Header) (x later : List ℕ) (limit s : ℕ) → at + s ≤ longest → most_held h.kind.0 ≡ Some limit → h.size ≡ Exact s → s ≤ limit
     → then_read reading (box at h x later) ≡ after (requests_memory at s) (then_read reading (held_body at h.kind s (x ++ later)))
 reading-holds at h x later limit s near held size fits =
-    rw (size, nat_lt_false longest (at + s) near, held, nat_lt_false limit s fits) (then_read-told reading (requests_memory at s) (held_body at h.kind s (x ++ later)))
+    rw (size, nat_lt_false longest (at + s) near, held, nat_lt_false limit s fits) (then_read-emitted reading (requests_memory at s) (held_body at h.kind s (x ++ later)))
 
 -- all of a held box came
 pub reading-good : (at : ℕ) (kind : FourCc) (size : ℕ) (x later : List ℕ) → length x ≡ size → tree_faults at x ≡ []
     → then_read reading (held_body at kind size (x ++ later)) ≡ after (says (held_lines at x)) (reading (at + size) later)
 reading-good at kind size x later len good =
     let top_box : take size (x ++ later) ≡ x = ap (λ n. take n (x ++ later)) (sym len) ∙ take-append_seam x later in
-    let behind : drop size (x ++ later) ≡ later = ap (λ n. drop n (x ++ later)) (sym len) ∙ drop-append_seam x later in
-    rw (nat_lt_false (length (x ++ later)) size (omega (arith, length-append x later)), top_box, behind, good) refl
+    let following : drop size (x ++ later) ≡ later = ap (λ n. drop n (x ++ later)) (sym len) ∙ drop-append_seam x later in
+    rw (nat_lt_false (length (x ++ later)) size (omega (arith, length-append x later)), top_box, following, good) refl
 
 pub reading-bad_tree : (at : ℕ) (kind : FourCc) (size : ℕ) (x later : List ℕ) (f : Fault) (fs : List Fault) → length x ≡ size → tree_faults at x ≡ f ∷ fs
-    → then_read reading (held_body at kind size (x ++ later)) ≡ record { effects = silent; outcome = Faulty f }
+    → then_read reading (held_body at kind size (x ++ later)) ≡ record { effects = no_effects; outcome = Faulty f }
 reading-bad_tree at kind size x later f fs len bad =
     let top_box : take size (x ++ later) ≡ x = ap (λ n. take n (x ++ later)) (sym len) ∙ take-append_seam x later in
     rw (nat_lt_false (length (x ++ later)) size (omega (arith, length-append x later)), top_box, bad) refl
@@ -165,20 +165,20 @@ end-held at held some short = ap (λ r. fault_in r.outcome) (ap (reading at) (ap
 pub end-none : (at : ℕ) (held : List ℕ) → held ≡ [] → fault_in ((in_header at held).reads []).outcome ≡ None
 end-none at held e = ap (λ l. fault_in ((in_header at l).reads []).outcome) e ∙ ap (λ r. fault_in r.outcome) (reading-none at)
 
--- the end of the stream tells nothing wherever a machine stands, and no fault is decided
-quiet-head : (at : ℕ) (head : List ℕ) → length head < need head → ((reading at head).effects ≡ silent) × (early_in (reading at head).outcome ≡ None)
-quiet-head at [] short = (ap (λ r. r.effects) (reading-none at), ap (λ r. early_in r.outcome) (reading-none at))
+-- the end of the stream has no effects in any state of a machine, and no fault is decided
+quiet-head : (at : ℕ) (head : List ℕ) → length head < need head → ((reading at head).effects ≡ no_effects) × (decided_in (reading at head).outcome ≡ None)
+quiet-head at [] short = (ap (λ r. r.effects) (reading-none at), ap (λ r. decided_in r.outcome) (reading-none at))
 quiet-head at (b ∷ head) short =
-    let cut = reading-more at (b ∷ head) (omega arith) short in (ap (λ r. r.effects) cut, ap (λ r. early_in r.outcome) cut)
+    let cut = reading-more at (b ∷ head) (omega arith) short in (ap (λ r. r.effects) cut, ap (λ r. decided_in r.outcome) cut)
 
-pub state-quiet : (head : List ℕ) (s : State) → IsState head s → IsQuiet (standing head s)
+pub state-quiet : (head : List ℕ) (s : State) → IsState head s → HasNoEffects (continuation_at head s)
 state-quiet head (states.Header at) i =
     let quiet = quiet-head at head i.0 in
     let same = append-nil head in
-    record { effects = ap (λ l. (reading at l).effects) same ∙ quiet.0; early = ap (λ l. early_in (reading at l).outcome) same ∙ quiet.1 }
-state-quiet head (states.Holding h) i =
+    record { effects = ap (λ l. (reading at l).effects) same ∙ quiet.0; early = ap (λ l. decided_in (reading at l).outcome) same ∙ quiet.1 }
+state-quiet head (states.Buffering h) i =
     let short = nat_lt_true (length (h.bytes ++ [])) h.size (omega (arith, length-append h.bytes [], i.1)) in record { effects = rw short refl; early = rw short refl }
 state-quiet head (states.Body b) i =
-    let none = body-none reading b.at b.kind b.next passed b.left i.1 in record { effects = ap (λ r. r.effects) none; early = ap (λ r. early_in r.outcome) none }
+    let none = body-none reading b.at b.kind b.next passed b.left i.1 in record { effects = ap (λ r. r.effects) none; early = ap (λ r. decided_in r.outcome) none }
 state-quiet head (states.OpenBody b) i =
-    let none : then_read reading (open_body_item passed b.at b.kind b.needed b.left []) ≡ record { effects = silent; outcome = Sound } = rw i.2 (open-none reading b.at b.kind 0 passed b.left) in record { effects = ap (λ r. r.effects) none; early = ap (λ r. early_in r.outcome) none }
+    let none : then_read reading (open_body_item passed b.at b.kind b.needed b.left []) ≡ record { effects = no_effects; outcome = Sound } = rw i.2 (open-none reading b.at b.kind 0 passed b.left) in record { effects = ap (λ r. r.effects) none; early = ap (λ r. decided_in r.outcome) none }

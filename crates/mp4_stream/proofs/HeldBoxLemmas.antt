@@ -15,8 +15,8 @@ use Rattle.mp4_machine.specs.declared.tally.Tally.{Tally}
 use Rattle.mp4_machine.proofs.ReadingAskLemmas.{most-both}
 use Rattle.mp4_stream.specs.Boxes.{held_body, reading}
 use Rattle.mp4_stream.specs.HeldBoxes.{ClaimsByLargest, HoldsAtMost, HoldsBox}
-use Rattle.mp4_stream.specs.Holding.{most_held}
-use Rattle.mp4_stream.specs.Joined.{AreSound, Item, MayStand, joined, box_effects, boxes_effects}
+use Rattle.mp4_stream.specs.Buffering.{most_held}
+use Rattle.mp4_stream.specs.Joined.{AreSound, Item, IsAllowed, joined, box_effects, boxes_effects}
 use Rattle.mp4_stream.specs.Rests.{BadHeader, BadTree, CutInBody, CutInHeader, CutInHeld, Ended, IsRest, Large, Open, OpenTooFar, TooFar, Unsized}
 use Rattle.mp4_stream.proofs.ClaimLemmas.{asked_bound, asked_enough}
 use Rattle.mp4_stream.proofs.JoinLemmas.{reading-boxes, reading-held}
@@ -37,13 +37,13 @@ module _ (most : ℕ) where
         small = small;
       })
 
-  box-most : (at : ℕ) (b : Item) (payload y : List ℕ) (held : Option ℕ) → most_held b.header.kind.0 ≡ held → IsBox b.header payload b.bytes → MayStand at b.bytes held → at + length b.bytes ≤ longest → HoldsAtMost at (b.bytes ++ y) most → most_of (box_effects at b held) ≤ most
+  box-most : (at : ℕ) (b : Item) (payload y : List ℕ) (held : Option ℕ) → most_held b.header.kind.0 ≡ held → IsBox b.header payload b.bytes → IsAllowed at b.bytes held → at + length b.bytes ≤ longest → HoldsAtMost at (b.bytes ++ y) most → most_of (box_effects at b held) ≤ most
   box-most at b payload y None e is may near w = omega arith
   box-most at b payload y (Some limit) e is may near w = omega (arith, front-most at b payload y limit is e may.0 near w)
 
-  -- the boxes behind it
-  behind-most : (at : ℕ) (b : Item) (payload y : List ℕ) → IsBox b.header payload b.bytes → MayStand at b.bytes (most_held b.header.kind.0) → HoldsAtMost at (b.bytes ++ y) most → HoldsAtMost (at + length b.bytes) y most
-  behind-most at b payload y is may w = record {
+  -- the boxes after it
+  after-most : (at : ℕ) (b : Item) (payload y : List ℕ) → IsBox b.header payload b.bytes → IsAllowed at b.bytes (most_held b.header.kind.0) → HoldsAtMost at (b.bytes ++ y) most → HoldsAtMost (at + length b.bytes) y most
+  after-most at b payload y is may w = record {
     each = λ size h. w.each size (record {
       boxes = b ∷ h.boxes;
       rest = h.rest;
@@ -56,7 +56,7 @@ module _ (most : ℕ) where
     });
   }
 
-  -- whole boxes, and the bytes behind them
+  -- whole boxes, and the bytes after them
   record AreModest (at : ℕ) (bs : List Item) (y : List ℕ) : Type 0 where
     requests : most_of (boxes_effects at bs) ≤ most
     rest : HoldsAtMost (at + length (joined bs)) y most
@@ -66,11 +66,11 @@ module _ (most : ℕ) where
   boxes-most (b ∷ bs) at y w (box, may, more) near =
       let len = length-append b.bytes (joined bs) in
       let own = subst (λ l. HoldsAtMost at l most) (append_assoc b.bytes (joined bs) y) w in
-      let behind = boxes-most bs (at + length b.bytes) y (behind-most at b box.0 (joined bs ++ y) box.1 may own) more (omega (arith, near, len)) in
+      let following = boxes-most bs (at + length b.bytes) y (after-most at b box.0 (joined bs ++ y) box.1 may own) more (omega (arith, near, len)) in
       let here = box-most at b box.0 (joined bs ++ y) (most_held b.header.kind.0) refl box.1 may (omega (arith, near, len)) own in
       record {
-        requests = omega (arith, most-both (box_effects at b (most_held b.header.kind.0)) (boxes_effects (at + length b.bytes) bs), here, behind.requests);
-        rest = subst (λ n. HoldsAtMost n y most) (omega (arith, len)) behind.rest;
+        requests = omega (arith, most-both (box_effects at b (most_held b.header.kind.0)) (boxes_effects (at + length b.bytes) bs), here, following.requests);
+        rest = subst (λ n. HoldsAtMost n y most) (omega (arith, len)) following.rest;
       }
 
   -- the rest
@@ -104,17 +104,17 @@ module _ (most : ℕ) where
       (omega (arith, most-both (boxes_effects 0 s.boxes) s.reading.effects, all.requests, rest-most (0 + length (joined s.boxes)) s.rest s.reading all.rest s.is))
 
 -- and for each of them is asked
-asked-behind : (r s u : Reading) (t : Effects) (at size : ℕ) → r ≡ after t s → s ≡ after (requests_memory at size) u → size ≤ most_of r.effects
-asked-behind r s u t at size e f = rw (e, f) (omega (arith, most-both t (both (requests_memory at size) u.effects), most-both (requests_memory at size) u.effects))
+asked-after : (r s u : Reading) (t : Effects) (at size : ℕ) → r ≡ after t s → s ≡ after (requests_memory at size) u → size ≤ most_of r.effects
+asked-after r s u t at size e f = rw (e, f) (omega (arith, most-both t (both (requests_memory at size) u.effects), most-both (requests_memory at size) u.effects))
 
 pub held-asks : (b : List ℕ) (size : ℕ) → HoldsBox 0 b size → size ≤ most_of (reading 0 b).effects
 held-asks b size h =
     let (held, is, near) = h.here in
     let at = 0 + length (joined h.boxes) in
-    let behind = reading-boxes h.boxes 0 h.rest h.sound (omega (arith, near)) in
+    let following = reading-boxes h.boxes 0 h.rest h.sound (omega (arith, near)) in
     let there = reading-held at h.box.header h.limit size h.box.head h.box.more h.box.spelled held is near h.small in
-    asked-behind (reading 0 b) (reading at h.rest) (then_read reading (held_body at h.box.header.kind size (h.box.head ++ h.box.more))) (boxes_effects 0 h.boxes) at size
-    (ap (reading 0) h.cut ∙ behind) (ap (reading at) h.box.cut ∙ there)
+    asked-after (reading 0 b) (reading at h.rest) (then_read reading (held_body at h.box.header.kind size (h.box.head ++ h.box.more))) (boxes_effects 0 h.boxes) at size
+    (ap (reading 0) h.cut ∙ following) (ap (reading at) h.box.cut ∙ there)
 
 pub asks-exactly : (b : List ℕ) (most : ℕ) → IsBytes b → (most_of (reading 0 b).effects ≤ most) ↔ HoldsAtMost 0 b most
 asks-exactly b most fits = (λ low. record { each = λ size h. omega (arith, low, held-asks b size h) }, asks-most most b fits)

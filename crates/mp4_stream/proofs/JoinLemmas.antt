@@ -1,4 +1,4 @@
--- How whole boxes, and what is left behind them, are read.
+-- How whole boxes, and what is left after them, are read.
 use Rattle.std.proofs.Common.{◌≡◌, ℕ, ◌+◌, ◌-◌, ◌<◌, ◌≤◌, List, [], ◌∷◌, ◌++◌, length, Option, Some, None, ap, sym, ◌∙◌, refl, arith, append_assoc, length-append}
 use Rattle.std.proofs.Math.Seq.{drop-append_seam}
 use Rattle.mp4_box.specs.declared.headers.Header.{Header}
@@ -10,18 +10,18 @@ use Rattle.mp4_box.specs.Headers.{Head, IsBox, IsBytes, BeginsWith, need, kind_o
 use Rattle.mp4_box.proofs.HeaderLemmas.{need-least}
 use Rattle.mp4_box.proofs.HeaderAnswers.{head-whole, head-need, header-none}
 use Rattle.mp4_stream.specs.Listing.{box_line}
-use Rattle.mp4_machine.specs.Readings.{Faulty, silent, after, says, requests_memory, empty_reading, then_read}
+use Rattle.mp4_machine.specs.Readings.{Faulty, no_effects, after, says, requests_memory, empty_reading, then_read}
 use Rattle.mp4_machine.specs.Bodies.{cut_off, least_end, longest, at_fault, body_item}
 use Rattle.mp4_stream.specs.Boxes.{passed, held_body, body, box, reading}
 use Rattle.mp4_box.specs.declared.rules.Fault.{Fault}
 use Rattle.mp4_box.specs.Trees.{tree_faults}
-use Rattle.mp4_stream.specs.Holding.{held_lines, most_held}
-use Rattle.mp4_stream.specs.Joined.{Item, MayStand, AreSound, joined, box_effects, boxes_effects}
+use Rattle.mp4_stream.specs.Buffering.{held_lines, most_held}
+use Rattle.mp4_stream.specs.Joined.{Item, IsAllowed, AreSound, joined, box_effects, boxes_effects}
 use Rattle.mp4_machine.proofs.ReadingLemmas.{after-both, after-silent}
 use Rattle.mp4_machine.proofs.BodyLemmas.{nat_lt_true, nat_lt_false}
 use Rattle.mp4_stream.proofs.BoxLemmas.{reading-whole, reading-begun, reading-holds, reading-good, reading-bad_tree, reading-by}
 
--- a header x, and the bytes behind it
+-- a header x, and the bytes after it
 reading-headed : (at : ℕ) (h : Header) (x y : List ℕ) → Head h x → reading at (x ++ y) ≡ then_read reading (box at h x y)
 reading-headed at h x y p = reading-whole at x y h (head-need h x p) (head-whole h x p)
 
@@ -58,7 +58,7 @@ held_all at h limit payload x later is held near fits =
     ap (reading at) apart ∙ reading-held at h limit (length x) is.head (payload ++ later) is.spelled held is.size near fits
     ∙ ap (λ l. after (requests_memory at (length x)) (then_read reading (held_body at h.kind (length x) l))) (sym apart)
 
-box_by_limit : (at : ℕ) (b : Item) (payload later : List ℕ) (most : Option ℕ) → most_held b.header.kind.0 ≡ most → IsBox b.header payload b.bytes → MayStand at b.bytes most → at + length b.bytes ≤ longest
+box_by_limit : (at : ℕ) (b : Item) (payload later : List ℕ) (most : Option ℕ) → most_held b.header.kind.0 ≡ most → IsBox b.header payload b.bytes → IsAllowed at b.bytes most → at + length b.bytes ≤ longest
     → reading at (b.bytes ++ later) ≡ after (box_effects at b most) (reading (at + length b.bytes) later)
 box_by_limit at b payload later None e is may near = loose_box at b.header payload b.bytes later is e near
 box_by_limit at b payload later (Some limit) e is may near =
@@ -108,7 +108,7 @@ pub reading-cut_held : (at limit s : ℕ) (h : Header) (x y : List ℕ) → Head
 reading-cut_held at limit s h x y p held e near fits short = reading-held at h limit s x y p held e near fits ∙ rw (nat_lt_true (length (x ++ y)) s short) refl
 
 pub reading-bad_held : (at limit : ℕ) (h : Header) (payload x later : List ℕ) (f : Fault) (fs : List Fault) → IsBox h payload x → most_held h.kind.0 ≡ Some limit → at + length x ≤ longest → length x ≤ limit → tree_faults at x ≡ f ∷ fs
-    → reading at (x ++ later) ≡ after (requests_memory at (length x)) (record { effects = silent; outcome = Faulty f })
+    → reading at (x ++ later) ≡ after (requests_memory at (length x)) (record { effects = no_effects; outcome = Faulty f })
 reading-bad_held at limit h payload x later f fs is held near fits bad =
     held_all at h limit payload x later is held near fits
     ∙ ap (after (requests_memory at (length x))) (reading-bad_tree at h.kind (length x) x later f fs refl bad)

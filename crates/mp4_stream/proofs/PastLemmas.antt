@@ -13,15 +13,15 @@ use Rattle.mp4_box.specs.Trees.{tree_faults}
 use Rattle.mp4_machine.specs.Bodies.{least_end, longest}
 use Rattle.mp4_machine.specs.Readings.{ArePast, requests_memory, says, then_read}
 use Rattle.mp4_machine.proofs.PastLemmas.{IsPast, after-past, all-past, body-past, open-past, then-past}
-use Rattle.mp4_stream.specs.Boxes.{body, box, box_by, held_body, held_box, holding, passed, reading, top_box, top_box_by}
-use Rattle.mp4_stream.specs.Holding.{most_held}
+use Rattle.mp4_stream.specs.Boxes.{body, box, box_by, held_body, buffered_box, holding, passed, reading, top_box, top_box_by}
+use Rattle.mp4_stream.specs.Buffering.{most_held}
 use Rattle.mp4_stream.specs.Listing.{box_line}
 
 body_past : (at : ℕ) (h : Header) (s : Size) (b : List ℕ) → IsPast (body at h s b)
 body_past at h (Exact s) b = body-past passed (λ b. tt) at h.kind (at + s) (s - h.header_len) b
 body_past at h ToEnd b = open-past passed (λ b. tt) at h.kind ℕ 0 (longest - (at + h.header_len)) b
 
-whole_past : (at next : ℕ) (x rest : List ℕ) (fs : List Fault) → IsPast (held_box at next x rest fs)
+whole_past : (at next : ℕ) (x rest : List ℕ) (fs : List Fault) → IsPast (buffered_box at next x rest fs)
 whole_past at next x rest [] = tt
 whole_past at next x rest (f ∷ fs) = tt
 
@@ -58,5 +58,5 @@ unfolding top_box
 top_past at [] = tt
 top_past at (a ∷ b) = step_past at (a ∷ b) (header_at (a ∷ b))
 
-pub held_past : (at : ℕ) (kind : FourCc) (size : ℕ) (b : List ℕ) → ArePast 0 (then_read reading (held_body at kind size b)).effects.marks
+pub held_past : (at : ℕ) (kind : FourCc) (size : ℕ) (b : List ℕ) → ArePast 0 (then_read reading (held_body at kind size b)).effects.fragment_ends
 held_past at kind size b = then-past reading (all-past top_box top_past) (held_body at kind size b) (held_by at kind size b _ refl)

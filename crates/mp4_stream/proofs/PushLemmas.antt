@@ -17,18 +17,18 @@ use Rattle.mp4_grammar.specs.HeldSizes.{Holds, HoldsWithin}
 use Rattle.mp4_grammar.specs.Joined.{joined}
 use Rattle.mp4_grammar.specs.Meanings.{IsGrowing, Meaning}
 use Rattle.mp4_grammar.specs.declared.kinds.Kind.{Kind}
-use Rattle.mp4_grammar.proofs.CommandLemmas.{making-growing}
+use Rattle.mp4_grammar.proofs.CommandLemmas.{command_meaning-growing}
 use Rattle.mp4_grammar.proofs.ItemLemmas.{reads-grow}
 use Rattle.mp4_machine.specs.Ends.{Sent}
-use Rattle.mp4_machine.specs.Fed.{AllWhole, FedUntil, Lent, StarvesBehind, Sums, TellsRest, sums_in}
-use Rattle.mp4_machine.specs.Readings.{GrowsTo, Outcome, Sound, Faulty, CutOff, Reading, Effects, early_in, fault_in}
+use Rattle.mp4_machine.specs.Fed.{AllWhole, Borrowed, ClaimRefusedAfter, FedUntil, Sums, WritesRest, sums_in}
+use Rattle.mp4_machine.specs.Readings.{GrowsTo, Outcome, Sound, Faulty, CutOff, Reading, Effects, decided_in, fault_in}
 use Rattle.mp4_machine.specs.declared.stop.Stop.{Stop}
 use Rattle.mp4_machine.specs.declared.stop.Stop.TheVariants.{Stream, Read, Write, OverLimit, Memory}
-use Rattle.mp4_machine.specs.StreamRuns.{ComesUntil, IsPrompt, StreamRun, TellsAll}
+use Rattle.mp4_machine.specs.StreamRuns.{IsPrompt, StopsWith, StreamRun, WritesAll}
 use Rattle.mp4_machine.proofs.FedRunLemmas.{text-more}
-use Rattle.mp4_recut.specs.Plans as readings
-use Rattle.mp4_recut.specs.declared.plan.Plan.{Plan}
-use Rattle.mp4_recut.specs.declared.plan.Plan.TheVariants as plans
+use Rattle.mp4_recut.specs.Operations as readings
+use Rattle.mp4_recut.specs.declared.operation.Operation.{Operation}
+use Rattle.mp4_recut.specs.declared.operation.Operation.TheVariants as operations
 use Rattle.mp4_recut.proofs.SplitLemmas.{splitting-growing}
 use Rattle.mp4_push.specs.Feeders.{ClaimsWithin, Feeding, Feeds, Finishes, IsAfter, fragments_of, held_by, live, sums_of, totals_of}
 use Rattle.mp4_stream.specs.Pushes.{HasNoRoom, Pushes, StopsIn}
@@ -36,9 +36,9 @@ use Rattle.mp4_push.specs.declared.totals.Totals.{Totals}
 
 -- ---- more bytes
 
-plan-growing : (plan : Plan) → IsGrowing (readings.plan_meaning plan)
-plan-growing (plans.List command) = making-growing command
-plan-growing (plans.Split cut) = splitting-growing cut
+operation-growing : (operation : Operation) → IsGrowing (readings.operation_meaning operation)
+operation-growing (operations.List command) = command_meaning-growing command
+operation-growing (operations.Split cut) = splitting-growing cut
 
 holds-more : (meaning : Meaning) (c : Context) (b x : List ℕ) (kind : Kind) (size : ℕ) → Holds meaning c b kind size → Holds meaning c (b ++ x) kind size
 holds-more meaning c b x kind size h = record {
@@ -59,26 +59,26 @@ within-front meaning c b x moov moof w = record {
   moofs = λ size h. w.moofs size (holds-more meaning c b x _ size h);
 }
 
-module _ (plan : Plan) (b x : List ℕ) where
-  grows : GrowsTo (readings.reads_of plan b) (readings.reads_of plan (b ++ x))
-  grows = reads-grow (readings.plan_meaning plan) (plan-growing plan) first_context b x
+module _ (operation : Operation) (b x : List ℕ) where
+  grows : GrowsTo (readings.reads_of operation b) (readings.reads_of operation (b ++ x))
+  grows = reads-grow (readings.operation_meaning operation) (operation-growing operation) first_context b x
 
-  prefix-more : (o n : Option (List ℕ)) → AppendsPrefix o n (live plan b) → AppendsPrefix o n (live plan (b ++ x))
-  prefix-more o n h = AppendsPrefix-longer o n (live plan b) grows.effects.text.0 (live plan (b ++ x)) h (sym grows.effects.text.1)
+  prefix-more : (o n : Option (List ℕ)) → AppendsPrefix o n (live operation b) → AppendsPrefix o n (live operation (b ++ x))
+  prefix-more o n h = AppendsPrefix-longer o n (live operation b) grows.effects.text.0 (live operation (b ++ x)) h (sym grows.effects.text.1)
 
-  no-room-more : (others limit : ℕ) → HasNoRoom plan b others limit → HasNoRoom plan (b ++ x) others limit
-  no-room-more others limit h moov moof w = h moov moof (within-front (readings.plan_meaning plan) first_context b x moov moof w)
+  no-room-more : (others limit : ℕ) → HasNoRoom operation b others limit → HasNoRoom operation (b ++ x) others limit
+  no-room-more others limit h moov moof w = h moov moof (within-front (readings.operation_meaning operation) first_context b x moov moof w)
 
-  stops-more : (s : Sent) (others limit : ℕ) (e : Stop) → StopsIn plan b s others limit (early_in (readings.reads_of plan b).outcome) e → StopsIn plan (b ++ x) s others limit (early_in (readings.reads_of plan (b ++ x)).outcome) e
+  stops-more : (s : Sent) (others limit : ℕ) (e : Stop) → StopsIn operation b s others limit (decided_in (readings.reads_of operation b).outcome) e → StopsIn operation (b ++ x) s others limit (decided_in (readings.reads_of operation (b ++ x)).outcome) e
   stops-more s others limit (Stream f) h =
-      let same : readings.reads_of plan (b ++ x) ≡ readings.reads_of plan b = grows.early f h.0 in
-      (ap (λ (r : Reading). early_in r.outcome) same ∙ h.0, subst (λ (r : Reading). Appends s.written s.written' r.effects.text) (sym same) h.1)
+      let same : readings.reads_of operation (b ++ x) ≡ readings.reads_of operation b = grows.early f h.0 in
+      (ap (λ (r : Reading). decided_in r.outcome) same ∙ h.0, subst (λ (r : Reading). Appends s.written s.written' r.effects.text) (sym same) h.1)
   stops-more s others limit (Read at) h = h
   stops-more s others limit Write h = (h.0, prefix-more s.written s.written' h.1)
   stops-more s others limit OverLimit h = (no-room-more others limit h.0, prefix-more s.written s.written' h.1)
   stops-more s others limit Memory h = prefix-more s.written s.written' h
 
--- ---- chunks, one after the other
+-- ---- inputs, one after the other
 
 pub joined-more : {X : Type 0} (bytes : X → List ℕ) (pieces : List X) (i : ℕ) (d : X) → i < length pieces → flat_map bytes (take (i + 1) pieces) ≡ flat_map bytes (take i pieces) ++ bytes (get_or pieces i d)
 joined-more bytes pieces i d h =
@@ -86,39 +86,39 @@ joined-more bytes pieces i d h =
     ap (λ n. flat_map bytes (take n pieces)) next ∙ ap (flat_map bytes) (take-suc pieces i d h) ∙ flat_map-append bytes (take i pieces) (get_or pieces i d ∷ [])
     ∙ ap (λ x. flat_map bytes (take i pieces) ++ x) (append-nil (bytes (get_or pieces i d)))
 
--- ---- a chunk at which it stops
+-- ---- the input at which it stops
 
-module _ (plan : Plan) (b piece : List ℕ) (l : Lent) (own : ℕ) (sums : Sums) (first : Option (List ℕ)) (before : Appends first l.written (live plan b)) where
-  starved : StarvesBehind (readings.reads_of plan) b (b ++ piece) l own sums → AppendsPrefix first l.written' (live plan (b ++ piece))
-  starved r =
+module _ (operation : Operation) (b input : List ℕ) (l : Borrowed) (own : ℕ) (sums : Sums) (first : Option (List ℕ)) (before : Appends first l.written (live operation b)) where
+  refused_claim : ClaimRefusedAfter (readings.reads_of operation) b (b ++ input) l own sums → AppendsPrefix first l.written' (live operation (b ++ input))
+  refused_claim r =
       let n = r.request.text_before in
-      let all = live plan (b ++ piece) in
-      (live plan b ++ r.effects.text, drop n all, Appends-trans first l.written l.written' (live plan b) r.effects.text before r.text, sym (take-append-drop n all) ∙ ap (λ (y : List ℕ). y ++ drop n all) r.front)
+      let all = live operation (b ++ input) in
+      (live operation b ++ r.effects.text, drop n all, Appends-trans first l.written l.written' (live operation b) r.effects.text before r.text, sym (take-append-drop n all) ∙ ap (λ (y : List ℕ). y ++ drop n all) r.front)
 
-  stops-now : (s : Sent) (others limit : ℕ) (e : Stop) → s.written ≡ first → s.written' ≡ l.written' → (e ≡ Write → s.failed' ≡ true) → (e ≡ OverLimit → HasNoRoom plan (b ++ piece) others limit) → FedUntil (readings.reads_of plan) b piece l own sums e
-      → StopsIn plan (b ++ piece) s others limit (early_in (readings.reads_of plan (b ++ piece)).outcome) e
-  stops-now s others limit (Stream f) p q failed over until = (until.1, rw (p, q) (text-more (readings.reads_of plan) b (b ++ piece) l own 0 until.0 first before))
+  stops-now : (s : Sent) (others limit : ℕ) (e : Stop) → s.written ≡ first → s.written' ≡ l.written' → (e ≡ Write → s.failed' ≡ true) → (e ≡ OverLimit → HasNoRoom operation (b ++ input) others limit) → FedUntil (readings.reads_of operation) b input l own sums e
+      → StopsIn operation (b ++ input) s others limit (decided_in (readings.reads_of operation (b ++ input)).outcome) e
+  stops-now s others limit (Stream f) p q failed over until = (until.1, rw (p, q) (text-more (readings.reads_of operation) b (b ++ input) l own 0 until.0 first before))
   stops-now s others limit (Read at) p q failed over until = absurd until
   stops-now s others limit Write p q failed over until =
-      (failed refl, rw (p, q, ap (λ (t : Effects). t.text) until.all) (AppendsPrefix-more first l.written l.written' (live plan b) until.effects.text before until.text))
-  stops-now s others limit OverLimit p q failed over until = (over refl, rw (p, q) (starved until.0))
-  stops-now s others limit Memory p q failed over until = rw (p, q) (starved until.0)
+      (failed refl, rw (p, q, ap (λ (t : Effects). t.text) until.all) (AppendsPrefix-more first l.written l.written' (live operation b) until.effects.text before until.text))
+  stops-now s others limit OverLimit p q failed over until = (over refl, rw (p, q) (refused_claim until.0))
+  stops-now s others limit Memory p q failed over until = rw (p, q) (refused_claim until.0)
 
 abbrev as-err : {T : Type 0} → Stop → Result T Stop
 as-err x = Err x
 
-over-means : {T : Type 0} (plan : Plan) (b : List ℕ) (peak others limit : ℕ) (e : Stop) → ClaimsWithin {T = T} plan b peak others limit (Err e) → e ≡ OverLimit → HasNoRoom plan b others limit
-over-means {T = T} plan b peak others limit e claims is moov moof w = ⊎_elim
+over-means : {T : Type 0} (operation : Operation) (b : List ℕ) (peak others limit : ℕ) (e : Stop) → ClaimsWithin {T = T} operation b peak others limit (Err e) → e ≡ OverLimit → HasNoRoom operation b others limit
+over-means {T = T} operation b peak others limit e claims is moov moof w = ⊎_elim
     (λ (short : limit < others + (2 * moov + 5 * moof)). short)
     (λ (room : others + (2 * moov + 5 * moof) ≤ limit). absurd (claims.enough moov moof w room (ap (as-err {T = T}) is)))
     (cases_lt limit (others + (2 * moov + 5 * moof)))
 
--- ---- behind pieces whose join is b
+-- ---- after inputs whose join is b
 
--- a Feeder that runs stands behind them with their text written; one that has stopped has stopped within them
-pub record SoFar (plan : Plan) (b : List ℕ) (s : Sent) (others limit : ℕ) (f : Feeding) : Type 0 where
-  pub running : f.stop ≡ None → IsAfter f b × Appends s.written s.written' (live plan b)
-  pub stopped : (e : Stop) → f.stop ≡ Some e → StopsIn plan b s others limit (early_in (readings.reads_of plan b).outcome) e
+-- a Feeder that runs is after them with their text written; one that has stopped has stopped within them
+pub record SoFar (operation : Operation) (b : List ℕ) (s : Sent) (others limit : ℕ) (f : Feeding) : Type 0 where
+  pub running : f.stop ≡ None → IsAfter f b × Appends s.written s.written' (live operation b)
+  pub stopped : (e : Stop) → f.stop ≡ Some e → StopsIn operation b s others limit (decided_in (readings.reads_of operation b).outcome) e
 
 -- what a call to a Feeder that has stopped leaves
 pub record StaysSo {T : Type 0} (f f' : Feeding) (s s' : Sent) (r : Result T Stop) (e : Stop) : Type 0 where
@@ -129,39 +129,39 @@ pub record StaysSo {T : Type 0} (f f' : Feeding) (s s' : Sent) (r : Result T Sto
 some-is : (e k : Stop) → ◌≡◌ {A = Option Stop} (Some e) (Some k) → e ≡ k
 some-is e k h = cc
 
-module _ {T : Type 0} (plan : Plan) (b piece : List ℕ) (s s' : Sent) (others limit : ℕ) (f f' : Feeding) (l : Lent) (same : f.plan ≡ plan) (low : l.account.live ≡ others + held_by f) (of : l.account.limit ≡ limit)
-    (from : s'.written ≡ s.written) (here : l.written ≡ s.written') (there : s'.written' ≡ l.written') (so_far : SoFar plan b s others limit f) where
-  pushed-ok : (t : T) → f.stop ≡ None → Feeds {T = T} b piece f f' l (Ok t) → f'.stop ≡ None → SoFar plan (b ++ piece) s' others limit f'
+module _ {T : Type 0} (operation : Operation) (b input : List ℕ) (s s' : Sent) (others limit : ℕ) (f f' : Feeding) (l : Borrowed) (same : f.operation ≡ operation) (low : l.account.live ≡ others + held_by f) (of : l.account.limit ≡ limit)
+    (from : s'.written ≡ s.written) (here : l.written ≡ s.written') (there : s'.written' ≡ l.written') (so_far : SoFar operation b s others limit f) where
+  pushed-ok : (t : T) → f.stop ≡ None → Feeds {T = T} b input f f' l (Ok t) → f'.stop ≡ None → SoFar operation (b ++ input) s' others limit f'
   pushed-ok t runs fed on = record {
     running = λ _.
-        let before : Appends s.written l.written (live plan b) = rw here (so_far.running runs).1 in
-        (fed.ok.0, rw (from, there) (text-more (readings.reads_of plan) b (b ++ piece) l (held_by f) (held_by f') (subst (λ (x : Plan). TellsRest (readings.reads_of x) b (b ++ piece) l (held_by f) (held_by f')) same fed.ok.1) s.written before));
+        let before : Appends s.written l.written (live operation b) = rw here (so_far.running runs).1 in
+        (fed.ok.0, rw (from, there) (text-more (readings.reads_of operation) b (b ++ input) l (held_by f) (held_by f') (subst (λ (x : Operation). WritesRest (readings.reads_of x) b (b ++ input) l (held_by f) (held_by f')) same fed.ok.1) s.written before));
     stopped = λ e is. let no : ◌≡◌ {A = Option Stop} None (Some e) = sym on ∙ is in absurd cc;
   }
 
-  pushed-err : (e : Stop) → f.stop ≡ None → Feeds {T = T} b piece f f' l (Err e) → f'.stop ≡ Some e → (e ≡ Write → s'.failed' ≡ true) → SoFar plan (b ++ piece) s' others limit f'
+  pushed-err : (e : Stop) → f.stop ≡ None → Feeds {T = T} b input f f' l (Err e) → f'.stop ≡ Some e → (e ≡ Write → s'.failed' ≡ true) → SoFar operation (b ++ input) s' others limit f'
   pushed-err e runs fed off failed = record {
     running = λ is. let no : ◌≡◌ {A = Option Stop} None (Some e) = sym is ∙ off in absurd cc;
     stopped = λ k is.
-        let before : Appends s.written l.written (live plan b) = rw here (so_far.running runs).1 in
-        let until = subst (λ (x : Plan). FedUntil (readings.reads_of x) b piece l (held_by f) (sums_of f') e) same fed.err.0 in
-        let claims = subst (λ (x : Plan). ClaimsWithin {T = T} x (b ++ piece) f'.peak (l.account.live - held_by f) l.account.limit (Err e)) same fed.claims in
+        let before : Appends s.written l.written (live operation b) = rw here (so_far.running runs).1 in
+        let until = subst (λ (x : Operation). FedUntil (readings.reads_of x) b input l (held_by f) (sums_of f') e) same fed.err.0 in
+        let claims = subst (λ (x : Operation). ClaimsWithin {T = T} x (b ++ input) f'.peak (l.account.live - held_by f) l.account.limit (Err e)) same fed.claims in
         let rest : l.account.live - held_by f ≡ others = omega (arith, low) in
-        let claimed = subst (λ (n : ℕ). ClaimsWithin {T = T} plan (b ++ piece) f'.peak n l.account.limit (Err e)) rest claims in
-        let known = subst (λ (n : ℕ). ClaimsWithin {T = T} plan (b ++ piece) f'.peak others n (Err e)) of claimed in
-        subst (StopsIn plan (b ++ piece) s' others limit (early_in (readings.reads_of plan (b ++ piece)).outcome)) (some-is e k (sym off ∙ is))
-        (stops-now plan b piece l (held_by f) (sums_of f') s.written before s' others limit e from there failed (over-means plan (b ++ piece) f'.peak others limit e known) until);
+        let claimed = subst (λ (n : ℕ). ClaimsWithin {T = T} operation (b ++ input) f'.peak n l.account.limit (Err e)) rest claims in
+        let known = subst (λ (n : ℕ). ClaimsWithin {T = T} operation (b ++ input) f'.peak others n (Err e)) of claimed in
+        subst (StopsIn operation (b ++ input) s' others limit (decided_in (readings.reads_of operation (b ++ input)).outcome)) (some-is e k (sym off ∙ is))
+        (stops-now operation b input l (held_by f) (sums_of f') s.written before s' others limit e from there failed (over-means operation (b ++ input) f'.peak others limit e known) until);
   }
 
-  pushed-on : (r : Result T Stop) → f.stop ≡ None → Feeds b piece f f' l r → OnOk r (f'.stop ≡ None) → IfErr r (λ e. f'.stop ≡ Some e) → (IsErrOf r Write → s'.failed' ≡ true) → SoFar plan (b ++ piece) s' others limit f'
+  pushed-on : (r : Result T Stop) → f.stop ≡ None → Feeds b input f f' l r → OnOk r (f'.stop ≡ None) → IfErr r (λ e. f'.stop ≡ Some e) → (IsErrOf r Write → s'.failed' ≡ true) → SoFar operation (b ++ input) s' others limit f'
   pushed-on (Ok t) runs fed on off failed = pushed-ok t runs fed on
   pushed-on (Err e) runs fed on off failed = pushed-err e runs fed off (λ is. failed (ap (as-err {T = T}) is))
 
-  -- a piece that is pushed in, whatever came before
-  pub pushed : (r : Result T Stop) → (IsAfter f b → Feeds b piece f f' l r) → OnOk r (f'.stop ≡ None) → IfErr r (λ e. f'.stop ≡ Some e) → (f.stop ≡ None → IsErrOf r Write → s'.failed' ≡ true) → ((e : Stop) → f.stop ≡ Some e → StaysSo f f' s s' r e) → SoFar plan (b ++ piece) s' others limit f'
+  -- the input that is pushed in, whatever came before
+  pub pushed : (r : Result T Stop) → (IsAfter f b → Feeds b input f f' l r) → OnOk r (f'.stop ≡ None) → IfErr r (λ e. f'.stop ≡ Some e) → (f.stop ≡ None → IsErrOf r Write → s'.failed' ≡ true) → ((e : Stop) → f.stop ≡ Some e → StaysSo f f' s s' r e) → SoFar operation (b ++ input) s' others limit f'
   pushed r feeds on off failed stays = by f.stop refl
     where
-      by : (o : Option Stop) → f.stop ≡ o → SoFar plan (b ++ piece) s' others limit f'
+      by : (o : Option Stop) → f.stop ≡ o → SoFar operation (b ++ input) s' others limit f'
       by None is = pushed-on r is (feeds (so_far.running is).0) on off (failed is)
       by (Some e) is =
           let stay = stays e is in
@@ -169,67 +169,67 @@ module _ {T : Type 0} (plan : Plan) (b piece : List ℕ) (s s' : Sent) (others l
             running = λ none. let no : ◌≡◌ {A = Option Stop} (Some e) None = sym is ∙ (sym (ap (λ (x : Feeding). x.stop) stay.same) ∙ none) in absurd cc;
             stopped = λ k at.
                 let known : f.stop ≡ Some k = sym (ap (λ (x : Feeding). x.stop) stay.same) ∙ at in
-                stops-more plan b piece s' others limit k (subst (λ (x : Sent). StopsIn plan b x others limit (early_in (readings.reads_of plan b).outcome) k) (sym stay.ends) (so_far.stopped k known));
+                stops-more operation b input s' others limit k (subst (λ (x : Sent). StopsIn operation b x others limit (decided_in (readings.reads_of operation b).outcome) k) (sym stay.ends) (so_far.stopped k known));
           }
 
 -- ---- the end of the stream
 
 -- where a run ends at a fault
-pub finish-comes : (f : Feeding) (b : List ℕ) (run : StreamRun) (prompt : IsPrompt run) (stop : Stop) → run.whole ≡ readings.reads_of f.plan → run.bytes ≡ b → TellsAll run → run.ends.ended ≡ true → Finishes f b (Err stop) → ComesUntil run prompt stop
-finish-comes f b run prompt (Stream fault) whole bytes tells ended is =
-    (tells, ap (λ (w : List ℕ → Reading). fault_in (w run.bytes).outcome) whole ∙ ap (λ x. fault_in (readings.reads_of f.plan x).outcome) bytes ∙ is, λ _. ended)
-finish-comes f b run prompt (Read at) whole bytes tells ended is = absurd is
-finish-comes f b run prompt Write whole bytes tells ended is = absurd is
-finish-comes f b run prompt OverLimit whole bytes tells ended is = absurd is
-finish-comes f b run prompt Memory whole bytes tells ended is = absurd is
+pub finish-gives : (f : Feeding) (b : List ℕ) (run : StreamRun) (prompt : IsPrompt run) (stop : Stop) → run.whole ≡ readings.reads_of f.operation → run.bytes ≡ b → WritesAll run → run.ends.ended ≡ true → Finishes f b (Err stop) → StopsWith run prompt stop
+finish-gives f b run prompt (Stream fault) whole bytes emits ended is =
+    (emits, ap (λ (w : List ℕ → Reading). fault_in (w run.bytes).outcome) whole ∙ ap (λ x. fault_in (readings.reads_of f.operation x).outcome) bytes ∙ is, λ _. ended)
+finish-gives f b run prompt (Read at) whole bytes emits ended is = absurd is
+finish-gives f b run prompt Write whole bytes emits ended is = absurd is
+finish-gives f b run prompt OverLimit whole bytes emits ended is = absurd is
+finish-gives f b run prompt Memory whole bytes emits ended is = absurd is
 
-early-fault : (o : Outcome) (f : Fault) → early_in o ≡ Some f → fault_in o ≡ Some f
+early-fault : (o : Outcome) (f : Fault) → decided_in o ≡ Some f → fault_in o ≡ Some f
 early-fault Sound f h = absurd cc
 early-fault (Faulty g) f h = h
 early-fault (CutOff g) f h = absurd cc
 
-module _ (plan : Plan) (b : List ℕ) (s : Sent) (others limit : ℕ) where
-  stops-ended : (e : Stop) → StopsIn plan b s others limit (early_in (readings.reads_of plan b).outcome) e → StopsIn plan b s others limit (fault_in (readings.reads_of plan b).outcome) e
-  stops-ended (Stream f) h = (early-fault (readings.reads_of plan b).outcome f h.0, h.1)
+module _ (operation : Operation) (b : List ℕ) (s : Sent) (others limit : ℕ) where
+  stops-ended : (e : Stop) → StopsIn operation b s others limit (decided_in (readings.reads_of operation b).outcome) e → StopsIn operation b s others limit (fault_in (readings.reads_of operation b).outcome) e
+  stops-ended (Stream f) h = (early-fault (readings.reads_of operation b).outcome f h.0, h.1)
   stops-ended (Read at) h = h
   stops-ended Write h = h
   stops-ended OverLimit h = h
   stops-ended Memory h = h
 
-  module _ (f : Feeding) (same : f.plan ≡ plan) (so_far : SoFar plan b s others limit f) where
-    ended-ok : (t : Totals) → f.stop ≡ None → Finishes f b (Ok t) → t ≡ totals_of f → f.machine.counter.tally.walked + t.samples + listed_by f.plan t.samples ≤ t.rows_read → t.rows_read ≤ reads_of f.plan * f.machine.counter.tally.walked → Pushes plan b s others limit (Ok t)
+  module _ (f : Feeding) (same : f.operation ≡ operation) (so_far : SoFar operation b s others limit f) where
+    ended-ok : (t : Totals) → f.stop ≡ None → Finishes f b (Ok t) → t ≡ totals_of f → f.machine.counter.tally.inspected + t.samples + listed_by f.operation t.samples ≤ t.rows_read → t.rows_read ≤ reads_of f.operation * f.machine.counter.tally.inspected → Pushes operation b s others limit (Ok t)
     ended-ok t runs fin is some few =
         let now = so_far.running runs in
-        let sums = subst (λ (x : Plan). sums_of f ≡ sums_in (readings.reads_of x b).effects) same now.0.sums in
-        let tally : f.machine.counter.tally ≡ (readings.reads_of plan b).effects.tally = ap (λ (k : Sums). k.tally) sums in (
-          subst (λ (x : Plan). fault_in (readings.reads_of x b).outcome ≡ None) same fin,
+        let sums = subst (λ (x : Operation). sums_of f ≡ sums_in (readings.reads_of x b).effects) same now.0.sums in
+        let tally : f.machine.counter.tally ≡ (readings.reads_of operation b).effects.tally = ap (λ (k : Sums). k.tally) sums in (
+          subst (λ (x : Operation). fault_in (readings.reads_of x b).outcome ≡ None) same fin,
           now.1,
           record {
             whole = f.fragments;
-            all = subst (λ (x : Plan). AllWhole (readings.reads_of x b).effects f.fragments) same now.0.fragments;
-            fragments = ap (λ (x : Totals). x.fragments) is ∙ ap (λ (x : Plan). fragments_of x f.machine.counter.tally.fragments f.fragments) same ∙ ap (λ (n : ℕ). fragments_of plan n f.fragments) (ap (λ x. x.fragments) tally);
+            all = subst (λ (x : Operation). AllWhole (readings.reads_of x b).effects f.fragments) same now.0.fragments;
+            fragments = ap (λ (x : Totals). x.fragments) is ∙ ap (λ (x : Operation). fragments_of x f.machine.counter.tally.fragments f.fragments) same ∙ ap (λ (n : ℕ). fragments_of operation n f.fragments) (ap (λ x. x.fragments) tally);
             samples = ap (λ (x : Totals). x.samples) is ∙ ap (λ x. x.samples) tally;
             media_bytes = ap (λ (x : Totals). x.media_bytes) is ∙ ap (λ x. x.media_bytes) tally;
             peak = ap (λ (x : Totals). x.peak) is ∙ ap (λ (k : Sums). k.peak) sums;
-            some = subst (λ (x : Plan). (readings.reads_of plan b).effects.tally.walked + t.samples + listed_by x t.samples ≤ t.rows_read) same (subst (λ n. n + t.samples + listed_by f.plan t.samples ≤ t.rows_read) (ap (λ x. x.walked) tally) some);
-            few = subst (λ (x : Plan). t.rows_read ≤ reads_of x * (readings.reads_of plan b).effects.tally.walked) same (subst (λ n. t.rows_read ≤ reads_of f.plan * n) (ap (λ x. x.walked) tally) few);
+            some = subst (λ (x : Operation). (readings.reads_of operation b).effects.tally.inspected + t.samples + listed_by x t.samples ≤ t.rows_read) same (subst (λ n. n + t.samples + listed_by f.operation t.samples ≤ t.rows_read) (ap (λ x. x.inspected) tally) some);
+            few = subst (λ (x : Operation). t.rows_read ≤ reads_of x * (readings.reads_of operation b).effects.tally.inspected) same (subst (λ n. t.rows_read ≤ reads_of f.operation * n) (ap (λ x. x.inspected) tally) few);
           },
         )
 
-    ended-err : (e : Stop) → f.stop ≡ None → Finishes f b (Err e) → Pushes plan b s others limit (Err e)
-    ended-err (Stream fault) runs fin = (subst (λ (x : Plan). fault_in (readings.reads_of x b).outcome ≡ Some fault) same fin, (so_far.running runs).1)
+    ended-err : (e : Stop) → f.stop ≡ None → Finishes f b (Err e) → Pushes operation b s others limit (Err e)
+    ended-err (Stream fault) runs fin = (subst (λ (x : Operation). fault_in (readings.reads_of x b).outcome ≡ Some fault) same fin, (so_far.running runs).1)
     ended-err (Read at) runs fin = absurd fin
     ended-err Write runs fin = absurd fin
     ended-err OverLimit runs fin = absurd fin
     ended-err Memory runs fin = absurd fin
 
-    ended-runs : (r : Result Totals Stop) → f.stop ≡ None → Finishes f b r → IfOk r (λ t. t ≡ totals_of f) → IfOk r (λ t. f.machine.counter.tally.walked + t.samples + listed_by f.plan t.samples ≤ t.rows_read) → IfOk r (λ t. t.rows_read ≤ reads_of f.plan * f.machine.counter.tally.walked) → Pushes plan b s others limit r
+    ended-runs : (r : Result Totals Stop) → f.stop ≡ None → Finishes f b r → IfOk r (λ t. t ≡ totals_of f) → IfOk r (λ t. f.machine.counter.tally.inspected + t.samples + listed_by f.operation t.samples ≤ t.rows_read) → IfOk r (λ t. t.rows_read ≤ reads_of f.operation * f.machine.counter.tally.inspected) → Pushes operation b s others limit r
     ended-runs (Ok t) runs fin totals some few = ended-ok t runs fin totals some few
     ended-runs (Err e) runs fin totals some few = ended-err e runs fin
 
-    pub ended : (r : Result Totals Stop) → (IsAfter f b → Finishes f b r) → ((e : Stop) → f.stop ≡ Some e → r ≡ Err e) → IfOk r (λ t. t ≡ totals_of f) → IfOk r (λ t. f.machine.counter.tally.walked + t.samples + listed_by f.plan t.samples ≤ t.rows_read) → IfOk r (λ t. t.rows_read ≤ reads_of f.plan * f.machine.counter.tally.walked) → Pushes plan b s others limit r
+    pub ended : (r : Result Totals Stop) → (IsAfter f b → Finishes f b r) → ((e : Stop) → f.stop ≡ Some e → r ≡ Err e) → IfOk r (λ t. t ≡ totals_of f) → IfOk r (λ t. f.machine.counter.tally.inspected + t.samples + listed_by f.operation t.samples ≤ t.rows_read) → IfOk r (λ t. t.rows_read ≤ reads_of f.operation * f.machine.counter.tally.inspected) → Pushes operation b s others limit r
     ended r finishes stopped totals some few = by f.stop refl
       where
-        by : (o : Option Stop) → f.stop ≡ o → Pushes plan b s others limit r
+        by : (o : Option Stop) → f.stop ≡ o → Pushes operation b s others limit r
         by None is = ended-runs r is (finishes (so_far.running is).0) totals some few
-        by (Some e) is = subst (Pushes plan b s others limit) (sym (stopped e is)) (stops-ended e (so_far.stopped e is))
+        by (Some e) is = subst (Pushes operation b s others limit) (sym (stopped e is)) (stops-ended e (so_far.stopped e is))

@@ -16,8 +16,8 @@ use Rattle.mp4_box.proofs.HeaderAnswers.{head-need, head-whole, header-begins}
 use Rattle.mp4_machine.specs.Bodies.{least_end, longest}
 use Rattle.mp4_machine.specs.Readings.{Reading, after, empty_reading}
 use Rattle.mp4_stream.specs.Boxes.{reading}
-use Rattle.mp4_stream.specs.Holding.{most_held}
-use Rattle.mp4_stream.specs.Joined.{AreSound, Item, MayStand, joined, boxes_effects}
+use Rattle.mp4_stream.specs.Buffering.{most_held}
+use Rattle.mp4_stream.specs.Joined.{AreSound, Item, IsAllowed, joined, boxes_effects}
 use Rattle.mp4_stream.specs.Rests.{Boxed, IsRest, Ended, CutInHeader, BadHeader, TooFar, CutInBody, Open, OpenTooFar, Large, Unsized, CutInHeld, BadTree, Split}
 use Rattle.mp4_stream.proofs.BoxLemmas.{reading-more, reading-none, reading-whole, reading-too_long, reading-too_large, reading-held_to_end}
 use Rattle.mp4_stream.proofs.JoinLemmas.{reading-boxes, reading-unheaded, reading-cut, reading-open, reading-open_long, reading-cut_held, reading-bad_held}
@@ -63,17 +63,17 @@ only at y r near is = record {
   is = subst (λ n. IsRest n y r) (omega arith) is;
 }
 
-first : (at s : ℕ) (b : List ℕ) (item : Item) (payload : List ℕ) → item.bytes ≡ take s b → length item.bytes ≡ s → IsBox item.header payload item.bytes → MayStand at item.bytes (most_held item.header.kind.0) → Split (at + s) (drop s b) → Split at b
+first : (at s : ℕ) (b : List ℕ) (item : Item) (payload : List ℕ) → item.bytes ≡ take s b → length item.bytes ≡ s → IsBox item.header payload item.bytes → IsAllowed at item.bytes (most_held item.header.kind.0) → Split (at + s) (drop s b) → Split at b
 first at s b item payload own len is may split =
-    let behind : at + s + length (joined split.boxes) ≡ at + length (item.bytes ++ joined split.boxes) = omega (arith, len, length-append item.bytes (joined split.boxes)) in
+    let following : at + s + length (joined split.boxes) ≡ at + length (item.bytes ++ joined split.boxes) = omega (arith, len, length-append item.bytes (joined split.boxes)) in
     record {
       boxes = item ∷ split.boxes;
       rest = split.rest;
       cut = sym (take-append-drop s b) ∙ ap (λ l. l ++ drop s b) (sym own) ∙ ap (λ l. item.bytes ++ l) split.cut ∙ sym (append_assoc item.bytes (joined split.boxes) split.rest);
       sound = ((payload, is), may, subst (λ n. AreSound (at + n) split.boxes) (sym len) split.sound);
-      near = omega (arith, split.near, behind);
+      near = omega (arith, split.near, following);
       reading = split.reading;
-      is = subst (λ n. IsRest n split.rest split.reading) behind split.is;
+      is = subst (λ n. IsRest n split.rest split.reading) following split.is;
     }
 
 -- ---- by the header at the front
@@ -112,7 +112,7 @@ module _ (at : ℕ) (b : List ℕ) (near : at ≤ longest) (fits : IsBytes b) (h
     | inr enough ↦
         let some : 0 < s = omega (arith, subst (λ z. HasRoom z h.header_len) size (room_of b h whole), w.1, need-least b) in
         let item : Item = record { header = h; bytes = take s b } in
-        first at s b item (drop h.header_len (take s b)) refl (length-take-le s b enough) (box_of s size enough) (subst (MayStand at (take s b)) (sym none) tt) (go s some enough end)
+        first at s b item (drop h.header_len (take s b)) refl (length-take-le s b enough) (box_of s size enough) (subst (IsAllowed at (take s b)) (sym none) tt) (go s some enough end)
   ]
 
   open_box : h.size ≡ ToEnd → most_held h.kind.0 ≡ None → at + h.header_len ≤ longest → Split at b
@@ -127,15 +127,15 @@ module _ (at : ℕ) (b : List ℕ) (near : at ≤ longest) (fits : IsBytes b) (h
       let some : 0 < s = omega (arith, subst (λ z. HasRoom z h.header_len) size (room_of b h whole), w.1, need-least b) in
       let len = length-take-le s b enough in
       let item : Item = record { header = h; bytes = take s b } in
-      first at s b item (drop h.header_len (take s b)) refl len (box_of s size enough) (subst (MayStand at (take s b)) (sym held) (omega (arith, len, small), good)) (go s some enough end)
+      first at s b item (drop h.header_len (take s b)) refl len (box_of s size enough) (subst (IsAllowed at (take s b)) (sym held) (omega (arith, len, small), good)) (go s some enough end)
   good_tree limit s size held end small enough (f ∷ fs) bad =
       let len = length-take-le s b enough in
       let whole : Boxed b = record { header = h; payload = drop h.header_len (take s b); bytes = take s b; more = drop s b; is = box_of s size enough; cut = sym (take-append-drop s b) } in
       only at b _ near (BadTree whole limit f fs (held, size ∙ ap Exact (sym len), omega (arith, len, end)) (omega (arith, len, small)) bad refl)
 
-  held_box : (limit s : ℕ) → h.size ≡ Exact s → most_held h.kind.0 ≡ Some limit → at + s ≤ longest → Split at b
+  buffered_box : (limit s : ℕ) → h.size ≡ Exact s → most_held h.kind.0 ≡ Some limit → at + s ≤ longest → Split at b
   unfolding begins x
-  held_box limit s size held end = elim (cases_lt limit s) [
+  buffered_box limit s size held end = elim (cases_lt limit s) [
     | inl large ↦ only at b _ near (Large begins s limit (held, size, end) large refl)
     | inr small ↦ elim (cases_lt (length b) s) [
       | inl short ↦ only at b _ near (CutInHeld begins s limit (held, size, end) small short refl)
@@ -147,7 +147,7 @@ module _ (at : ℕ) (b : List ℕ) (near : at ≤ longest) (fits : IsBytes b) (h
   unfolding begins x
   by_size (Exact s) None e held end = loose s e held end
   by_size ToEnd None e held end = open_box e held end
-  by_size (Exact s) (Some limit) e held end = held_box limit s e held end
+  by_size (Exact s) (Some limit) e held end = buffered_box limit s e held end
   by_size ToEnd (Some limit) e held end = only at b _ near (Unsized begins limit held e (omega (arith, end, x_len)) refl)
 
   pub by_header : Split at b

@@ -10,44 +10,44 @@ use Rattle.mp4_box.specs.declared.rules.Fault.{Fault}
 use Rattle.mp4_box.specs.declared.rules.Rule.TheVariants.{Truncated, BadSize, TooLarge, StreamTooLong}
 use Rattle.mp4_box.specs.Headers.{header_at, kind_of}
 use Rattle.mp4_box.specs.Trees.{tree_faults}
-use Rattle.mp4_stream.specs.Holding.{held_lines, most_held}
+use Rattle.mp4_stream.specs.Buffering.{held_lines, most_held}
 use Rattle.mp4_stream.specs.Listing.{box_line}
 use Rattle.mp4_machine.specs.Bodies.{longest, at_fault, cut_off, least_end, body_item, open_body_item}
-use Rattle.mp4_machine.specs.Readings.{Effects, Faulty, Reading, empty_reading, FirstItem, Last, Whole, after_effects, silent, says, requests_memory, read_all}
+use Rattle.mp4_machine.specs.Readings.{Effects, Faulty, Reading, empty_reading, FirstItem, Last, Whole, after_effects, no_effects, says, requests_memory, read_all}
 
--- nothing is told of a body that is passed over
+-- a body that is passed over has no effects
 abbrev pub passed : List ℕ → Effects
-passed bytes = silent
+passed bytes = no_effects
 
--- a box at `at` by the size that it states, behind its header
+-- the box at `at` with this header, by its stated size: the bytes are those after the header
 abbrev pub body : ℕ → Header → Size → List ℕ → FirstItem ℕ
 body at h (Exact s) bytes = body_item passed at h.kind (at + s) (s - h.header_len) bytes
 body at h ToEnd bytes = open_body_item passed at h.kind 0 (longest - (at + h.header_len)) bytes
 
--- a box x at `at` that was held, what is at fault in its tree, and the bytes behind it
-abbrev pub held_box : ℕ → ℕ → List ℕ → List ℕ → List Fault → FirstItem ℕ
-held_box at next x rest [] = Whole (says (held_lines at x)) next rest
-held_box at next x rest (f ∷ fs) = Last (record { effects = silent; outcome = Faulty f })
+-- a box x at `at` that was held, with the faults of its tree, and the bytes after it
+abbrev pub buffered_box : ℕ → ℕ → List ℕ → List ℕ → List Fault → FirstItem ℕ
+buffered_box at next x rest [] = Whole (says (held_lines at x)) next rest
+buffered_box at next x rest (f ∷ fs) = Last (record { effects = no_effects; outcome = Faulty f })
 
--- a box at `at` of `size` bytes that is held: the bytes are its own, and those behind it
+-- a box at `at` of `size` bytes that is held: the bytes are its own, and those after it
 abbrev pub held_body : ℕ → FourCc → ℕ → List ℕ → FirstItem ℕ
 held_body at kind size bytes =
     if nat_lt (length bytes) size then Last (cut_off Truncated (Some kind) at)
-    else held_box at (at + size) (take size bytes) (drop size bytes) (tree_faults at (take size bytes))
+    else buffered_box at (at + size) (take size bytes) (drop size bytes) (tree_faults at (take size bytes))
 
--- a box at `at` that is to be held, and may have so many bytes
+-- a box at `at` that is to be held, and may have at most `limit` bytes
 abbrev pub holding : ℕ → Header → ℕ → List ℕ → Size → FirstItem ℕ
 holding at h limit bytes (Exact s) =
     if nat_lt limit s then Last (at_fault TooLarge (Some h.kind) at)
     else after_effects (requests_memory at s) (held_body at h.kind s bytes)
 holding at h limit bytes ToEnd = Last (at_fault TooLarge (Some h.kind) at)
 
--- a box at `at` with the header x, and the bytes behind it, by the most bytes that it may have where it is held
+-- a box at `at` with the header x, and the bytes after it, by the most bytes that it may have where it is held
 abbrev pub box_by : ℕ → Header → List ℕ → List ℕ → Option ℕ → FirstItem ℕ
 box_by at h x bytes None = after_effects (says (box_line at h)) (body at h h.size bytes)
 box_by at h x bytes (Some limit) = holding at h limit (x ++ bytes) h.size
 
--- a box at `at` with the header x, and the bytes behind it
+-- a box at `at` with the header x, and the bytes after it
 abbrev pub box : ℕ → Header → List ℕ → List ℕ → FirstItem ℕ
 box at h x bytes =
     if nat_lt longest (least_end at h h.size) then Last (at_fault StreamTooLong (Some h.kind) at)
@@ -64,7 +64,7 @@ unfoldable pub top_box : ℕ → List ℕ → FirstItem ℕ
 top_box at [] = Last empty_reading
 top_box at (b ∷ bytes) = top_box_by at (b ∷ bytes) (header_at (b ∷ bytes))
 
--- what the bytes from the offset `at` on are read as
+-- how the bytes from the offset `at` on are read
 abbrev pub reading : ℕ → List ℕ → Reading
 reading at bytes = read_all top_box at bytes
 

@@ -1,4 +1,4 @@
--- What a run brings that reads fragments.
+-- A run that reads fragments.
 use Rattle.std.specs.Prelude.{◌≡◌, ℕ, ◌+◌, ◌*◌, ◌≤◌, List, None, false, Result, IsErrOf}
 use Rattle.mp4_fragment_machine.specs.States.{listed_by, reads_of}
 use Rattle.mp4_grammar.specs.Contexts.{first_context}
@@ -9,27 +9,27 @@ use Rattle.mp4_machine.specs.declared.stop.Stop.{Stop}
 use Rattle.mp4_machine.specs.declared.stop.Stop.TheVariants.{OverLimit}
 use Rattle.mp4_push.specs.Feeders.{fragments_of}
 use Rattle.mp4_push.specs.declared.totals.Totals.{Totals}
-use Rattle.mp4_recut.specs.Plans as readings
-use Rattle.mp4_recut.specs.declared.plan.Plan.{Plan}
+use Rattle.mp4_recut.specs.Operations as readings
+use Rattle.mp4_recut.specs.declared.operation.Operation.{Operation}
 
--- where each moov that the bytes hold has at most so many bytes, and each moof. Beside the bytes to read into no more
+-- where each moov that the bytes hold has at most so many bytes, and each moof. In addition to the read buffer no more
 -- is claimed than twice the one and five times the other, and a limit that allows so much is never passed
-pub record ClaimsByBoxes {T : Type 0} (plan : Plan) (bytes : List ℕ) (claims : Claims) (result : Result T Stop) : Type 0 where
-  pub most : (moov moof : ℕ) → HoldsWithin (readings.plan_meaning plan) first_context bytes moov moof → claims.peak ≤ claims.copy + (2 * moov + 5 * moof)
-  pub enough : (moov moof : ℕ) → HoldsWithin (readings.plan_meaning plan) first_context bytes moov moof → claims.copy + (2 * moov + 5 * moof) ≤ claims.limit → IsErrOf result OverLimit → ⊥
+pub record ClaimsByBoxes {T : Type 0} (operation : Operation) (bytes : List ℕ) (claims : Claims) (result : Result T Stop) : Type 0 where
+  pub most : (moov moof : ℕ) → HoldsWithin (readings.operation_meaning operation) first_context bytes moov moof → claims.peak ≤ claims.copy + (2 * moov + 5 * moof)
+  pub enough : (moov moof : ℕ) → HoldsWithin (readings.operation_meaning operation) first_context bytes moov moof → claims.copy + (2 * moov + 5 * moof) ≤ claims.limit → IsErrOf result OverLimit → ⊥
 
--- by the reading of a plan, with its totals. The samples that are counted are among those of moofs that were looked
--- at. Each of these was read once, a counted one once more, and again where it is listed or recut. None was read more
--- often than the plan allows
-pub record ReadsFragments {T : Type 0} (plan : Plan) (ends : Ends) (claims : Claims) (totals : Totals) (result : Result T Stop) : Type 0 where
+-- how an operation reads, with its totals. The samples that are counted are among those of inspected moofs.
+-- Each of these was read once, a counted one once more, and again where it is listed or recut. None was read more
+-- often than the operation allows
+pub record ReadsFragments {T : Type 0} (operation : Operation) (ends : Ends) (claims : Claims) (totals : Totals) (result : Result T Stop) : Type 0 where
   pub effects : ℕ
-  pub walked : ℕ
-  pub runs : ReadsStream (readings.reads_of plan) ends claims (record { fragments = effects; samples = totals.samples; media_bytes = totals.media_bytes; walked = walked }) result
-  pub fragments : totals.fragments ≡ fragments_of plan effects runs.fragments
-  pub all : totals.samples ≤ walked
-  pub some : walked + totals.samples + listed_by plan totals.samples ≤ totals.rows_read
-  pub few : totals.rows_read ≤ reads_of plan * walked
-  pub by_boxes : ClaimsByBoxes plan runs.bytes claims result
+  pub inspected : ℕ
+  pub runs : ReadsStream (readings.reads_of operation) ends claims (record { fragments = effects; samples = totals.samples; media_bytes = totals.media_bytes; inspected = inspected }) result
+  pub fragments : totals.fragments ≡ fragments_of operation effects runs.fragments
+  pub all : totals.samples ≤ inspected
+  pub some : inspected + totals.samples + listed_by operation totals.samples ≤ totals.rows_read
+  pub few : totals.rows_read ≤ reads_of operation * inspected
+  pub by_boxes : ClaimsByBoxes operation runs.bytes claims result
 
 -- nothing is written
 abbrev pub unsent : Sent

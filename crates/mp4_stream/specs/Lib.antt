@@ -1,5 +1,5 @@
 pub mod Listing
-pub mod Holding
+pub mod Buffering
 pub mod Boxes
 pub mod Joined
 pub mod Rests

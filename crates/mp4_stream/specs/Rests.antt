@@ -1,4 +1,4 @@
--- What is left of a stream behind whole boxes that break no rule, and what it is read as.
+-- What is left of a stream after whole boxes that break no rule, and how it is read.
 use Rattle.std.specs.Prelude.{◌≡◌, ℕ, ◌+◌, ◌<◌, ◌≤◌, List, [], ◌∷◌, ◌++◌, length, Some, None}
 use Rattle.mp4_box.specs.Headers.{BeginsWith, Headed, IsBox, kind_of, need}
 use Rattle.mp4_box.specs.Trees.{tree_faults}
@@ -7,8 +7,8 @@ use Rattle.mp4_box.specs.declared.headers.Size.TheVariants.{Exact, ToEnd}
 use Rattle.mp4_box.specs.declared.rules.Fault.{Fault}
 use Rattle.mp4_box.specs.declared.rules.Rule.TheVariants.{BadSize, StreamTooLong, TooLarge, Truncated}
 use Rattle.mp4_machine.specs.Bodies.{cut_off, least_end, longest, at_fault}
-use Rattle.mp4_machine.specs.Readings.{Faulty, Reading, after, requests_memory, empty_reading, says, silent}
-use Rattle.mp4_stream.specs.Holding.{most_held}
+use Rattle.mp4_machine.specs.Readings.{Faulty, Reading, after, requests_memory, empty_reading, says, no_effects}
+use Rattle.mp4_stream.specs.Buffering.{most_held}
 use Rattle.mp4_stream.specs.Joined.{AreSound, Item, joined}
 use Rattle.mp4_stream.specs.Listing.{box_line}
 
@@ -30,10 +30,10 @@ abbrev pub IsOpen : Header → Type 0
 IsOpen h = (most_held h.kind.0 ≡ None) × (h.size ≡ ToEnd)
 
 -- it is to be held, has so many bytes, and may have so many
-abbrev pub IsHeld : ℕ → ℕ → ℕ → Header → Type 0
-IsHeld at s limit h = (most_held h.kind.0 ≡ Some limit) × (h.size ≡ Exact s) × (at + s ≤ longest)
+abbrev pub IsBuffered : ℕ → ℕ → ℕ → Header → Type 0
+IsBuffered at s limit h = (most_held h.kind.0 ≡ Some limit) × (h.size ≡ Exact s) × (at + s ≤ longest)
 
--- the rest y stands at an offset, and is read so
+-- the rest y begins at an offset, and is read so
 pub data IsRest (at : ℕ) (y : List ℕ) (r : Reading) : Type 0 where
   -- nothing is left
   Ended :
@@ -64,7 +64,7 @@ pub data IsRest (at : ℕ) (y : List ℕ) (r : Reading) : Type 0 where
       → r ≡ after (says (box_line at b.header)) (at_fault StreamTooLong (Some b.header.kind) at) → IsRest at y r
   -- a moov or moof that is too large, or states no size
   Large :
-      (b : Headed y) (s limit : ℕ) → IsHeld at s limit b.header → limit < s
+      (b : Headed y) (s limit : ℕ) → IsBuffered at s limit b.header → limit < s
       → r ≡ at_fault TooLarge (Some b.header.kind) at → IsRest at y r
   Unsized :
       (b : Headed y) (limit : ℕ) → most_held b.header.kind.0 ≡ Some limit → b.header.size ≡ ToEnd
@@ -72,12 +72,12 @@ pub data IsRest (at : ℕ) (y : List ℕ) (r : Reading) : Type 0 where
       → r ≡ at_fault TooLarge (Some b.header.kind) at → IsRest at y r
   -- one that isn't whole, or has a fault in its tree
   CutInHeld :
-      (b : Headed y) (s limit : ℕ) → IsHeld at s limit b.header → s ≤ limit → length y < s
+      (b : Headed y) (s limit : ℕ) → IsBuffered at s limit b.header → s ≤ limit → length y < s
       → r ≡ after (requests_memory at s) (cut_off Truncated (Some b.header.kind) at) → IsRest at y r
   BadTree :
-      (b : Boxed y) (limit : ℕ) (f : Fault) (fs : List Fault) → IsHeld at (length b.bytes) limit b.header
+      (b : Boxed y) (limit : ℕ) (f : Fault) (fs : List Fault) → IsBuffered at (length b.bytes) limit b.header
       → length b.bytes ≤ limit → tree_faults at b.bytes ≡ f ∷ fs
-      → r ≡ after (requests_memory at (length b.bytes)) (record { effects = silent; outcome = Faulty f })
+      → r ≡ after (requests_memory at (length b.bytes)) (record { effects = no_effects; outcome = Faulty f })
       → IsRest at y r
 
 -- the bytes b from an offset on are whole boxes that break no rule, and then one of the rests

@@ -4,23 +4,22 @@ ghost use Rattle.std.specs.Prelude.{◌≡◌, ◌+◌, ◌*◌, ◌<◌, ◌≤
 ghost use Rattle.mp4_grammar.specs.Kinds.{most_moof, most_moov};
 ghost use Rattle.mp4_grammar.specs.declared.command.Command.TheVariants.{Check, Samples};
 ghost use Rattle.mp4_machine.specs.Ends.{between, received, sent};
-ghost use Rattle.mp4_recut.specs.declared.plan.Plan.TheVariants as plans;
+ghost use Rattle.mp4_recut.specs.declared.operation.Operation.TheVariants as operations;
 ghost use Rattle.mp4_stream.specs.Fragments.{ReadsFragments, unsent};
 
+use crate::null_sink::NullSink;
 use crate::pushed::push_stream;
-use crate::silent::Silent;
 use mp4_cut::Cut;
 use mp4_ends::{Sink, Source};
-use mp4_fragment_machine::FragmentMachine;
 use mp4_grammar::Command;
 use mp4_ledger::Ledger;
-use mp4_machine::{Stop, read_stream};
+use mp4_machine::Stop;
 use mp4_push::{Feeder, Totals};
-use mp4_recut::Plan;
+use mp4_recut::Operation;
 
 /// Lists the samples of a fragmented stream, however its reads cut it: a line for each, fragment by fragment, the runs of a
-/// fragment in the order in which their media stand. The lines of a fragment are written once the header of its mdat is
-/// accepted. `copy` bytes are claimed to read into.
+/// fragment in the order in which their media lie. The lines of a fragment are written once the header of its mdat is
+/// accepted. The read buffer of `copy` bytes is claimed.
 ///
 /// # Errors
 ///
@@ -36,7 +35,7 @@ pub fn samples<R: Source, W: Sink>(
 ) -> Result<(), Stop>
     requires copy { (4096 ≤ copy) × (copy ≤ 1048576) }
     requires idle { ledger.old.live ≡ 0 }
-    ensures runs { ReadsFragments (plans.List Samples) (between
+    ensures runs { ReadsFragments (operations.List Samples) (between
         (received R.remaining R.has_ended R.has_failed R.last_read r.old r.new)
         (sent W.contents W.has_failed w.old w.new))
         (record { copy = copy; limit = ledger.old.limit; peak = ledger.new.peak })
@@ -48,7 +47,14 @@ pub fn samples<R: Source, W: Sink>(
     ensures enough { copy + (most_moov + 5 * most_moof) ≤ ledger.old.limit →
         IsErrOf result Stop.OverLimit → ⊥ }
 {
-    run_fragments(Command::Samples, r, w, ledger, copy, totals)
+    run_operation(
+        Operation::List(Command::Samples),
+        r,
+        w,
+        ledger,
+        copy,
+        totals,
+    )
 }
 
 /// Checks a fragmented stream, and counts its fragments, samples and bytes of media.
@@ -64,7 +70,7 @@ pub fn check<R: Source>(
 ) -> Result<(), Stop>
     requires copy { (4096 ≤ copy) × (copy ≤ 1048576) }
     requires idle { ledger.old.live ≡ 0 }
-    ensures runs { ReadsFragments (plans.List Check) (between
+    ensures runs { ReadsFragments (operations.List Check) (between
         (received R.remaining R.has_ended R.has_failed R.last_read r.old r.new) unsent)
         (record { copy = copy; limit = ledger.old.limit; peak = ledger.new.peak })
         totals.new result }
@@ -75,18 +81,25 @@ pub fn check<R: Source>(
     ensures enough { copy + (most_moov + 5 * most_moof) ≤ ledger.old.limit →
         IsErrOf result Stop.OverLimit → ⊥ }
 {
-    run_fragments(Command::Check, r, &mut Silent, ledger, copy, totals)
+    run_operation(
+        Operation::List(Command::Check),
+        r,
+        &mut NullSink,
+        ledger,
+        copy,
+        totals,
+    )
 }
 
 /// Cuts the fragments of a fragmented stream into shorter ones, however its reads cut it: each run into pieces, each of which
 /// becomes a moof with an mdat, numbered from 1 on. Its moov and other boxes are written as they are, but for indexes, which
 /// are left out. No byte of media is changed, and none is kept back: a fragment is written, once the header of its mdat is
-/// accepted, up to the first byte of media that hasn't come. `copy` bytes are claimed to read into.
+/// accepted, up to the first byte of media that hasn't come. The read buffer of `copy` bytes is claimed.
 ///
 /// # Errors
 ///
-/// As [`samples`], with what the stream before is cut into written; `IndexRange` and `SequenceEnd` too, where what would have
-/// to be written has no room in its fields.
+/// As [`samples`], with the output of the stream before written; `IndexRange` and `SequenceEnd` too, where what would
+/// have to be written has no room in its fields.
 pub fn split<R: Source, W: Sink>(
     r: &mut R,
     w: &mut W,
@@ -97,7 +110,7 @@ pub fn split<R: Source, W: Sink>(
 ) -> Result<(), Stop>
     requires copy { (4096 ≤ copy) × (copy ≤ 1048576) }
     requires idle { ledger.old.live ≡ 0 }
-    ensures runs { ReadsFragments (plans.Split cut.now) (between
+    ensures runs { ReadsFragments (operations.Split cut.now) (between
         (received R.remaining R.has_ended R.has_failed R.last_read r.old r.new)
         (sent W.contents W.has_failed w.old w.new))
         (record { copy = copy; limit = ledger.old.limit; peak = ledger.new.peak })
@@ -109,17 +122,12 @@ pub fn split<R: Source, W: Sink>(
     ensures enough { copy + (most_moov + 5 * most_moof) ≤ ledger.old.limit →
         IsErrOf result Stop.OverLimit → ⊥ }
 {
-    let mut feeder = Feeder::new(*cut);
-    let answer = push_stream(r, w, ledger, copy, &mut feeder);
-    *totals = feeder.totals();
-    feeder.give_up(ledger);
-    totals.peak = ledger.peak();
-    answer
+    run_operation(Operation::Split(*cut), r, w, ledger, copy, totals)
 }
 
-/// Reads the fragments of a stream for a command that writes none.
-fn run_fragments<R: Source, W: Sink>(
-    command: Command,
+/// Reads the fragments of a stream for an operation, by a Feeder.
+fn run_operation<R: Source, W: Sink>(
+    operation: Operation,
     r: &mut R,
     w: &mut W,
     ledger: &mut Ledger,
@@ -128,7 +136,7 @@ fn run_fragments<R: Source, W: Sink>(
 ) -> Result<(), Stop>
     requires copy { (4096 ≤ copy) × (copy ≤ 1048576) }
     requires idle { ledger.old.live ≡ 0 }
-    ensures runs { ReadsFragments (plans.List command) (between
+    ensures runs { ReadsFragments operation (between
         (received R.remaining R.has_ended R.has_failed R.last_read r.old r.new)
         (sent W.contents W.has_failed w.old w.new))
         (record { copy = copy; limit = ledger.old.limit; peak = ledger.new.peak })
@@ -140,17 +148,10 @@ fn run_fragments<R: Source, W: Sink>(
     ensures enough { copy + (most_moov + 5 * most_moof) ≤ ledger.old.limit →
         IsErrOf result Stop.OverLimit → ⊥ }
 {
-    let mut machine = FragmentMachine::new(Plan::List(command));
-    let answer = read_stream(r, w, ledger, copy, &mut machine, &mut 0);
-    let tally = machine.tally();
-    let rows_read = machine.rows_read();
-    machine.give_up(ledger);
-    *totals = Totals {
-        fragments: tally.fragments,
-        samples: tally.samples,
-        media_bytes: tally.media_bytes,
-        rows_read,
-        peak: ledger.peak(),
-    };
+    let mut feeder = Feeder::with_operation(operation);
+    let answer = push_stream(r, w, ledger, copy, &mut feeder);
+    *totals = feeder.totals();
+    feeder.give_up(ledger);
+    totals.peak = ledger.peak();
     answer
 }

@@ -6,8 +6,8 @@ ghost use Rattle.mp4_grammar.specs.WithoutText.{request_without_text};
 ghost use Rattle.mp4_grammar.specs.declared.command.Command.TheVariants.{Check, Samples};
 ghost use Rattle.mp4_machine.specs.Bodies.{longest};
 ghost use Rattle.mp4_machine.specs.Readings.{Request, GrowsTo, Reading, after, most_of};
-ghost use Rattle.mp4_recut.specs.Plans.{reads_of};
-ghost use Rattle.mp4_recut.specs.declared.plan.Plan.TheVariants as plans;
+ghost use Rattle.mp4_recut.specs.Operations.{reads_of};
+ghost use Rattle.mp4_recut.specs.declared.operation.Operation.TheVariants as operations;
 ghost use Rattle.mp4_stream.specs.Boxes.{listing, reading};
 ghost use Rattle.mp4_stream.specs.HeldBoxes.{HoldsAtMost};
 ghost use Rattle.mp4_stream.specs.Joined.{AreSound, Item, joined, boxes_effects};
@@ -21,8 +21,8 @@ pub fn every_stream()
         (reading 0 b ≡ after (boxes_effects 0 s.boxes) s.reading) }
 {}
 
-/// Whole boxes that break no rule are told one after the other, a moov or moof by its tree and each other
-/// by its line, and the bytes behind them are read as if they came first.
+/// Whole boxes that break no rule have their output one after the other, a moov or moof by its tree and each other
+/// by its line, and the bytes after them are read as if they came first.
 pub fn whole_boxes()
     ensures { (bs : List Item) (at : ℕ) (later : List ℕ) →
         AreSound at bs → at + length (joined bs) ≤ longest →
@@ -35,36 +35,36 @@ pub fn each_rest()
     ensures { (at : ℕ) (y : List ℕ) (r : Reading) → IsBytes y → IsRest at y r → reading at y ≡ r }
 {}
 
-/// What more bytes write begins with what fewer write, and a fault that these decide is that of every stream
+/// More bytes extend the output of fewer, and a fault that these decide is that of every stream
 /// that begins with them.
 pub fn more_bytes()
     ensures { (at : ℕ) (b later : List ℕ) → GrowsTo (reading at b) (reading at (b ++ later)) }
 {}
 
-/// Where a box asks for memory, the lines before are exactly those of the bytes before it.
+/// Where a box requests memory, the lines before the request are exactly those of the bytes before the box.
 pub fn lines_before()
     ensures { (b : List ℕ) (before : List Request) (a : Request) (later : List Request) →
         (reading 0 b).effects.requests ≡ before ++ a ∷ later →
         take a.text_before (listing b) ≡ listing (take a.at b) }
 {}
 
-/// The most that a stream asks for is the size of its largest moov or moof that is held. Before such a box stand whole boxes that
-/// break no rule; its header is good, and states no more than it may have.
+/// The most that a stream requests is the size of its largest moov or moof that is held. Before such a box are whole
+/// boxes that break no rule; its header is good, and states no more than it may have.
 pub fn requests_are_held_boxes()
     ensures { (b : List ℕ) (most : ℕ) → IsBytes b →
         (most_of (reading 0 b).effects ≤ most) ↔ HoldsAtMost 0 b most }
 {}
 
-/// `check` answers as `samples` does, whatever the stream: it finds the same fault or none, and counts and claims the same. It
-/// tells no text.
+/// `check` returns what `samples` does, whatever the stream: it finds the same fault or none, and counts and claims the
+/// same. It writes no text.
 pub fn check_is_samples_without_text()
     ensures outcome { (b : List ℕ) →
-        (reads_of (plans.List Check) b).outcome ≡ (reads_of (plans.List Samples) b).outcome }
+        (reads_of (operations.List Check) b).outcome ≡ (reads_of (operations.List Samples) b).outcome }
     ensures tally { (b : List ℕ) →
-        (reads_of (plans.List Check) b).effects.tally ≡ (reads_of (plans.List Samples) b).effects.tally }
-    ensures requests { (b : List ℕ) → (reads_of (plans.List Check) b).effects.requests ≡
-        map request_without_text (reads_of (plans.List Samples) b).effects.requests }
-    ensures most { (b : List ℕ) → most_of (reads_of (plans.List Check) b).effects ≡
-        most_of (reads_of (plans.List Samples) b).effects }
-    ensures text { (b : List ℕ) → (reads_of (plans.List Check) b).effects.text ≡ [] }
+        (reads_of (operations.List Check) b).effects.tally ≡ (reads_of (operations.List Samples) b).effects.tally }
+    ensures requests { (b : List ℕ) → (reads_of (operations.List Check) b).effects.requests ≡
+        map request_without_text (reads_of (operations.List Samples) b).effects.requests }
+    ensures most { (b : List ℕ) → most_of (reads_of (operations.List Check) b).effects ≡
+        most_of (reads_of (operations.List Samples) b).effects }
+    ensures text { (b : List ℕ) → (reads_of (operations.List Check) b).effects.text ≡ [] }
 {}

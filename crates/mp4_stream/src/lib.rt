@@ -1,39 +1,38 @@
 //! Runs over a stream: its boxes, its samples, whether it breaks a rule, and its fragments cut into shorter ones; and a stream
-//! that is pushed in chunk by chunk.
+//! that is pushed in as inputs.
 //!
 //! - [`run`]: [`boxes`], which lists the boxes of a stream;
 //! - [`fragments`]: [`samples`], [`check`] and [`split`], which read its fragments by the machine of `mp4_fragment_machine`;
-//! - [`pushed`]: the loops over a [`Feeder`] of `mp4_push`, whose chunks are the reads of a whole stream ([`split`] calls it) or
-//!   those of a list ([`split_pieces`]);
-//! - [`machine`]: what is fed the stream piece by piece to list its boxes, [`state`]: what it takes next, and
+//! - [`pushed`]: the loops over a [`Feeder`] of `mp4_push`, whose inputs are the reads of a whole stream ([`split`]
+//!   calls it) or those of a list ([`split_pieces`]);
+//! - [`machine`]: lists the boxes of a stream that it is fed in inputs, [`state`]: its states, and
 //!   [`step`]: how;
-//! - [`header`]: how a header is taken and its box begun, [`held_box`]: a moov or moof while it comes, and [`body`]: a
+//! - [`header`]: takes a header and begins its box, [`buffered_box`]: a moov or moof until it is whole, and [`body`]: a
 //!   body that is passed over;
-//! - [`listed_box`]: a moov or moof of which all came, and [`listing`]: the line of a box, and those of a tree of
+//! - [`listed_box`]: a moov or moof of which all bytes came, and [`listing`]: the line of a box, and those of a tree of
 //!   boxes;
 //! - [`laws`]: what the definitions of `specs/` imply.
 //!
-//! The definitions: `specs/Boxes.antt` (what the bytes of a stream are read as) with `specs/Holding.antt` (the boxes that
-//! are held) and `specs/Listing.antt` (the lines), `specs/Joined.antt` (whole boxes one after the other, of which the
-//! laws speak) with `specs/Rests.antt` (what is left behind them) and `specs/HeldBoxes.antt` (how large those are that are
-//! held, and what a run claims by them), `specs/States.antt` (where the machine is in a stream, and what that means)
-//! with `specs/Steps.antt` (what a step of it brings),
-//! `specs/Fragments.antt` (what a run brings that reads fragments), `specs/Pushes.antt` (what chunks do that are pushed in one
-//! after the other). What a run answers, writes and claims is said by `mp4_machine`, in `specs/StreamRuns.antt`, and what a
-//! Feeder does by `mp4_push`, in `specs/Feeders.antt`.
+//! The definitions: `specs/Boxes.antt` (how the bytes of a stream are read) with `specs/Buffering.antt` (the boxes that
+//! are held) and `specs/Listing.antt` (the lines), `specs/Joined.antt` (whole boxes one after the other, for the laws)
+//! with `specs/Rests.antt` (what is left after them) and `specs/HeldBoxes.antt` (the sizes of those that are held, and
+//! what a run claims by them), `specs/States.antt` (where the machine is in a stream, and what that means) with
+//! `specs/Steps.antt` (a step of it), `specs/Fragments.antt` (a run that reads fragments), `specs/Pushes.antt` (inputs
+//! that are pushed in, one after the other). What a run returns, writes and claims is defined in `mp4_machine`, in
+//! `specs/StreamRuns.antt`, and what a Feeder does in `mp4_push`, in `specs/Feeders.antt`.
 #![tactic(auto)]
 
 mod body;
+mod buffered_box;
 pub mod fragments;
 mod header;
-mod held_box;
 pub mod laws;
 mod listed_box;
 mod listing;
 mod machine;
+mod null_sink;
 pub mod pushed;
 pub mod run;
-mod silent;
 mod state;
 mod step;
 

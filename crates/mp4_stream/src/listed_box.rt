@@ -1,4 +1,4 @@
-//! A box of which all came, which is listed.
+//! Lists a box of which all bytes came.
 
 ghost use Rattle.std.specs.Prelude.{◌≡◌, ◌+◌, ◌^◌, ◌≤◌, [], length, Some};
 ghost use Rattle.mp4_box.specs.declared.headers.Size.TheVariants.{Exact};
@@ -7,25 +7,25 @@ ghost use Rattle.mp4_box.specs.Headers.{header_at};
 ghost use Rattle.mp4_box.specs.Trees.{box_at, view};
 ghost use Rattle.mp4_ledger.specs.Memory.{Account, given_back};
 ghost use Rattle.mp4_machine.specs.Ends.{sent};
-ghost use Rattle.mp4_machine.specs.Holding.{Begins, Holding};
+ghost use Rattle.mp4_machine.specs.Buffering.{Begins, Buffering};
 ghost use Rattle.mp4_machine.specs.Steps.{Leads};
-ghost use Rattle.mp4_stream.specs.States.{HasCome, around, at_header, box_of, in_box};
+ghost use Rattle.mp4_stream.specs.States.{HasCome, at_header, box_of, change, in_box};
 
 use crate::listing::{put_box, put_tree};
 use mp4_box::{BoxRef, Header, whole_box};
 use mp4_ends::{Failed, Sink};
-use mp4_machine::{Block, Held, Stop};
+use mp4_machine::{Block, BufferedBox, Stop};
 
-/// Lists the box, all of which came. What is claimed for it is to be given back behind.
+/// Lists a box of which all bytes came. Its claim is given back by the caller.
 ///
 /// # Errors
 ///
 /// As [`list_box`].
-pub(crate) fn list_held<W: Sink>(held: &Held, out: &mut Block, w: &mut W) -> Result<(), Stop>
+pub(crate) fn list_held<W: Sink>(held: &BufferedBox, out: &mut Block, w: &mut W) -> Result<(), Stop>
     requires begins { Begins held.now.size held.now.bytes }
     requires whole { length held.now.bytes ≡ held.now.size }
     ensures { (a : Account) → held.now.size ≤ a.live →
-        Leads (around (sent W.contents W.has_failed w.old w.new)
+        Leads (change (sent W.contents W.has_failed w.old w.new)
         out.old out.new a (given_back a held.now.size))
         (in_box held.now) (at_header (held.now.at + held.now.size)) result }
 {
@@ -41,7 +41,7 @@ fn whole_held<'a>(bytes: &'a [u8], at: u64) -> BoxRef<'a>
     whole_box(bytes, at)
 }
 
-/// Lists the box at `at` with this header: `bytes` are all of it. What is claimed for it is to be given back behind.
+/// Lists the box at `at` with this header: `bytes` are all of it. Its claim is given back by the caller.
 ///
 /// # Errors
 ///
@@ -57,8 +57,8 @@ pub(crate) fn list_whole<W: Sink>(
     requires is { header_at bytes.now ≡ steps.Whole header.now }
     requires size { header.now.size ≡ Exact (length bytes.now) }
     requires room { at + length bytes.now ≤ 2 ^ 62 }
-    ensures { (h : Holding) → (a : Account) → HasCome h a (box_of at header.now bytes.now) →
-        Leads (around (sent W.contents W.has_failed w.old w.new)
+    ensures { (h : Buffering) → (a : Account) → HasCome h a (box_of at header.now bytes.now) →
+        Leads (change (sent W.contents W.has_failed w.old w.new)
         out.old out.new a (given_back a h.size)) (in_box h) (at_header (h.at + h.size)) result }
 {
     if header.header_len == bytes.len() as u64 {
@@ -67,16 +67,16 @@ pub(crate) fn list_whole<W: Sink>(
     list_box(&whole_held(bytes, at), out, w)
 }
 
-/// Lists the box at `at` with this header, which has no payload. What is claimed for it is to be given back behind.
+/// Lists the box at `at` with this header, which has no payload. Its claim is given back by the caller.
 ///
 /// # Errors
 ///
 /// `Write` where the writer has failed.
 #[inline]
 fn list_empty<W: Sink>(at: u64, header: &Header, out: &mut Block, w: &mut W) -> Result<(), Stop>
-    ensures { (h : Holding) → (a : Account) →
+    ensures { (h : Buffering) → (a : Account) →
         HasCome h a (record { header = header.now; offset = at; payload = [] }) →
-        Leads (around (sent W.contents W.has_failed w.old w.new)
+        Leads (change (sent W.contents W.has_failed w.old w.new)
         out.old out.new a (given_back a h.size)) (in_box h) (at_header (h.at + h.size)) result }
 {
     match put_box(at, header, out, w) {
@@ -85,15 +85,14 @@ fn list_empty<W: Sink>(at: u64, header: &Header, out: &mut Block, w: &mut W) -> 
     }
 }
 
-/// Checks the tree of a box and puts its line and those of the boxes below it. What is claimed for it is to be given back
-/// behind.
+/// Checks the tree of a box and puts its line and those of the boxes below it. Its claim is given back by the caller.
 ///
 /// # Errors
 ///
 /// `Stream` where the tree is at fault; nothing is put then. `Write` where the writer has failed.
 fn list_box<W: Sink>(this: &BoxRef<'_>, out: &mut Block, w: &mut W) -> Result<(), Stop>
-    ensures { (h : Holding) → (a : Account) → HasCome h a (view this.now) →
-        Leads (around (sent W.contents W.has_failed w.old w.new)
+    ensures { (h : Buffering) → (a : Account) → HasCome h a (view this.now) →
+        Leads (change (sent W.contents W.has_failed w.old w.new)
         out.old out.new a (given_back a h.size)) (in_box h) (at_header (h.at + h.size)) result }
 {
     match this.check() {

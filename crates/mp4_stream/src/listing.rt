@@ -21,7 +21,7 @@ struct BoxLine<'a> {
     header: &'a Header,
     /// The offset of its first byte.
     at: u64,
-    /// How many levels it stands below the top.
+    /// Its level below the top.
     level: u8,
 }
 
@@ -49,7 +49,7 @@ impl<'a> Line for BoxLine<'a> {
     }
 }
 
-/// Appends the line of the box with this header that begins at `at`, behind its indent.
+/// Appends the line of the box with this header that begins at `at`, after its indent.
 #[inline(always)]
 #[tactic(auto, unfolding(crate::specs::Listing::box_line))]
 fn push_box(block: &mut Text<BLOCK_BYTES>, at: u64, header: &Header)
@@ -94,7 +94,7 @@ fn has_lines_below(this: &BoxRef<'_>, levels: u8) -> bool
     holds_boxes(this.header.kind)
 }
 
-/// Puts the lines of a box, which stands so many levels below the top, and of the boxes below it: as far as `levels` go.
+/// Puts the lines of a box so many levels below the top, and of the boxes below it: as far as `levels` go.
 #[inline(always)]
 pub(crate) fn put_tree<W: Sink>(
     this: &BoxRef<'_>,
@@ -117,7 +117,7 @@ pub(crate) fn put_tree<W: Sink>(
     put_below(this, levels - 1, level + 1, out, w)
 }
 
-/// Puts the lines of the boxes below a box: its children stand so many levels below the top.
+/// Puts the lines of the boxes below a box: its children are so many levels below the top.
 fn put_below<W: Sink>(
     this: &BoxRef<'_>,
     levels: u8,
@@ -144,7 +144,7 @@ fn put_below<W: Sink>(
     Ok(())
 }
 
-/// Puts the line of a box that stands so many levels below the top.
+/// Puts the line of a box so many levels below the top.
 #[inline(always)]
 fn put_line<W: Sink>(this: &BoxRef<'_>, level: u8, out: &mut Block, w: &mut W) -> Result<(), Failed>
     requires { level ≤ 7 }
@@ -170,7 +170,7 @@ fn push_size(block: &mut Text<BLOCK_BYTES>, size: Size)
     }
 }
 
-/// A user type stands behind a space.
+/// A user type is written after a space.
 fn push_user(block: &mut Text<BLOCK_BYTES>, user: Option<[u8; 16]>)
     requires { length block.old + 33 ≤ BLOCK_BYTES }
     ensures text { block.new ≡ block.old ++ user_text user }

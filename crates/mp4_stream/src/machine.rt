@@ -1,9 +1,9 @@
-//! A machine that lists the boxes of a stream, which it is fed as it comes.
+//! A machine that lists the boxes of a stream as it comes.
 
 ghost use Rattle.std.specs.Prelude.{◌≡◌, ◌+◌, ◌-◌, ◌<◌, ◌≤◌, ◌↔◌, [], length, take, None, Some, IfOk, IfErr, OnOk, OnErr, IsErrOf, IsTrue};
 ghost use Rattle.mp4_ledger.specs.Memory.{given_back};
 ghost use Rattle.mp4_machine.specs.Readings.{fault_in, uncounted};
-ghost use Rattle.mp4_stream.specs.States.{begun, standing};
+ghost use Rattle.mp4_stream.specs.States.{begun, continuation_at};
 ghost use Rattle.mp4_stream.specs.declared.state.State.TheVariants as states;
 
 use crate::state::{State, Taken};
@@ -17,7 +17,7 @@ use std::mem::replace;
 
 /// A machine that lists boxes. What it has claimed must be given back.
 pub(crate) struct BoxMachine {
-    /// The bytes that came of a header.
+    /// The bytes of a header so far.
     head: HeaderReader,
     state: State,
 }
@@ -46,8 +46,8 @@ impl BoxMachine {
 
     /// Gives back all that is claimed.
     pub(crate) fn give_up(self, ledger: &mut Ledger)
-        requires { (standing self.head self.state).claim ≤ ledger.old.live }
-        ensures { ledger.new ≡ given_back ledger.old (standing self.head self.state).claim }
+        requires { (continuation_at self.head self.state).claim ≤ ledger.old.live }
+        ensures { ledger.new ≡ given_back ledger.old (continuation_at self.head self.state).claim }
     {
         let BoxMachine { head: _, state } = self;
         back_state(state, ledger);
@@ -57,19 +57,19 @@ impl BoxMachine {
 impl Machine for BoxMachine {
     ghost task = { λ _. tt };
 
-    ghost stands = { λ m. standing m.head m.state };
+    ghost continuation = { λ m. continuation_at m.head m.state };
 
     ghost counted = { λ _. uncounted };
 
     fn take<W: Sink>(
         &mut self,
         ledger: &mut Ledger,
-        piece: &[u8],
+        input: &[u8],
         out: &mut Block,
         w: &mut W,
     ) -> Result<usize, Stop> {
         let state = replace(&mut self.state, nothing_held());
-        match take_next(state, piece, &mut self.head, ledger, out, w) {
+        match take_next(state, input, &mut self.head, ledger, out, w) {
             Ok(Taken { count, state }) => {
                 put_state(&mut self.state, state);
                 Ok(count)
@@ -86,7 +86,7 @@ impl Machine for BoxMachine {
                 }
                 Err(truncated(self.head.kind(), *at))
             }
-            State::Holding(held) => Err(truncated(Some(held.kind()), held.offset())),
+            State::Buffering(held) => Err(truncated(Some(held.kind()), held.offset())),
             State::Body(body) => Err(truncated(Some(body.kind), body.at)),
             State::OpenBody(body) => body.end(),
         }
@@ -98,7 +98,7 @@ impl Machine for BoxMachine {
     }
 }
 
-/// What is taken first, and kept behind a stop.
+/// The state at the start, and after a stop.
 #[inline(always)]
 fn nothing_held() -> State
     ensures { result ≡ states.Header 0 }
@@ -106,7 +106,7 @@ fn nothing_held() -> State
     State::Header { at: 0 }
 }
 
-/// Puts what is taken next where nothing was held.
+/// Puts a state where nothing was held.
 #[inline(always)]
 fn put_state(slot: &mut State, state: State)
     requires { slot.old ≡ states.Header 0 }

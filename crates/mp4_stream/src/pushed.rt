@@ -5,8 +5,8 @@ ghost use Rattle.std.specs.Prelude.{◌≡◌, ◌+◌, ◌<◌, [], length};
 ghost use Rattle.mp4_machine.specs.Ends.{between, received, sent};
 ghost use Rattle.mp4_machine.specs.StreamRuns.{ReadsStream};
 ghost use Rattle.mp4_push.specs.Feeders.{IsAfter, held_by};
-ghost use Rattle.mp4_recut.specs.Plans.{reads_of};
-ghost use Rattle.mp4_recut.specs.declared.plan.Plan.TheVariants.{Split};
+ghost use Rattle.mp4_recut.specs.Operations.{reads_of};
+ghost use Rattle.mp4_recut.specs.declared.operation.Operation.TheVariants.{Split};
 ghost use Rattle.mp4_stream.specs.Pushes.{Pushes};
 
 use mp4_cut::Cut;
@@ -15,12 +15,12 @@ use mp4_ledger::Ledger;
 use mp4_machine::Stop;
 use mp4_push::{Feeder, Totals};
 
-/// Reads a stream to its end, however its reads cut it, and pushes each read into a Feeder to which no byte has come. `copy` bytes
-/// are claimed to read into. What the Feeder has claimed at the end is still to be given back.
+/// Reads a stream to its end, whatever its reads give, and pushes each read into a Feeder to which no byte has come.
+/// The read buffer of `copy` bytes is claimed. What the Feeder has claimed at the end must still be given back.
 ///
 /// # Errors
 ///
-/// As [`push_reads`]; and `OverLimit` and `Memory` where the bytes to read into were refused.
+/// As [`push_reads`]; and `OverLimit` and `Memory` where the read buffer was refused.
 pub(crate) fn push_stream<R: Source, W: Sink>(
     r: &mut R,
     w: &mut W,
@@ -32,14 +32,14 @@ pub(crate) fn push_stream<R: Source, W: Sink>(
     requires idle { ledger.old.live ≡ 0 }
     requires after { IsAfter feeder.old [] }
     requires none { held_by feeder.old ≡ 0 }
-    ensures runs { (run : ReadsStream (reads_of feeder.old.plan) (between
+    ensures runs { (run : ReadsStream (reads_of feeder.old.operation) (between
         (received R.remaining R.has_ended R.has_failed R.last_read r.old r.new)
         (sent W.contents W.has_failed w.old w.new))
         (record { copy = copy; limit = ledger.old.limit; peak = ledger.new.peak })
         feeder.new.machine.counter.tally result) × (run.fragments ≡ feeder.new.fragments) }
     ensures live { ledger.new.live ≡ held_by feeder.new }
     ensures limit { ledger.new.limit ≡ ledger.old.limit }
-    ensures plan { feeder.new.plan ≡ feeder.old.plan }
+    ensures operation { feeder.new.operation ≡ feeder.old.operation }
 {
     ledger.mark().forget();
     let mut buf = match ledger.buf(u64::from(copy)) {
@@ -51,8 +51,8 @@ pub(crate) fn push_stream<R: Source, W: Sink>(
     answer
 }
 
-/// Reads a stream to its end into `copy`, which is all that is claimed, and pushes each read into a Feeder to which no byte has
-/// come. What that has claimed at the end is still to be given back.
+/// Reads a stream to its end into `copy`, the only memory that is claimed, and pushes each read into a Feeder to which
+/// no byte has come. What that has claimed at the end must still be given back.
 ///
 /// # Errors
 ///
@@ -69,14 +69,14 @@ fn push_reads<R: Source, W: Sink>(
     requires claimed { length copy.old ≡ ledger.old.live }
     requires after { IsAfter feeder.old [] }
     requires idle { held_by feeder.old ≡ 0 }
-    ensures runs { (run : ReadsStream (reads_of feeder.old.plan) (between
+    ensures runs { (run : ReadsStream (reads_of feeder.old.operation) (between
         (received R.remaining R.has_ended R.has_failed R.last_read r.old r.new)
         (sent W.contents W.has_failed w.old w.new))
         (record { copy = ledger.old.live; limit = ledger.old.limit; peak = ledger.new.peak })
         feeder.new.machine.counter.tally result) × (run.fragments ≡ feeder.new.fragments) }
     ensures live { ledger.new.live ≡ ledger.old.live + held_by feeder.new }
     ensures limit { ledger.new.limit ≡ ledger.old.limit }
-    ensures plan { feeder.new.plan ≡ feeder.old.plan }
+    ensures operation { feeder.new.operation ≡ feeder.old.operation }
 {
     let mut total: u64 = 0;
     loop {
@@ -97,8 +97,8 @@ fn push_reads<R: Source, W: Sink>(
     }
 }
 
-/// Pushes pieces in as they come, and ends the stream behind them. What is written doesn't depend on how the stream was cut into
-/// pieces: it is what their join is cut into.
+/// Pushes inputs in as they come, and ends the stream after them. The output doesn't depend on how the stream was cut
+/// into inputs: it is that of their join.
 ///
 /// # Errors
 ///
@@ -109,15 +109,15 @@ pub fn split_pieces<W: Sink>(
     ledger: &mut Ledger,
     cut: Cut,
 ) -> Result<Totals, Stop>
-    ensures pushes { Pushes (Split cut) (flat_map (λ piece. piece.now) pieces.now)
+    ensures pushes { Pushes (Split cut) (flat_map (λ input. input.now) pieces.now)
         (sent W.contents W.has_failed w.old w.new) ledger.old.live ledger.old.limit result }
     ensures back { ledger.new.live ≡ ledger.old.live }
     ensures limit { ledger.new.limit ≡ ledger.old.limit }
 {
     let mut feeder = Feeder::new(cut);
-    for piece in pieces {
-        // Behind a stop it writes nothing, and `finish` answers the same.
-        let _ = feeder.feed(ledger, piece, w);
+    for input in pieces {
+        // After a stop it writes nothing, and `finish` returns the same.
+        let _ = feeder.feed(ledger, input, w);
     }
     feeder.finish(ledger)
 }

@@ -1,20 +1,20 @@
 //! What a machine takes next that lists boxes.
 
-use mp4_machine::{Body, Held, OpenBody};
+use mp4_machine::{Body, BufferedBox, OpenBody};
 
 /// What a machine takes next.
 pub(crate) enum State {
     /// A byte of the header of the box at `at`.
     Header { at: u64 },
     /// Bytes of a moov or moof.
-    Holding(Held),
+    Buffering(BufferedBox),
     /// Bytes of a body.
     Body(Body),
     /// Bytes of a body that goes to the end of the stream.
     OpenBody(OpenBody),
 }
 
-/// Bytes that were taken from the front of a piece: how many, and what is taken next.
+/// Bytes that were taken from the front of the input: how many, and the next state.
 pub(crate) struct Taken {
     pub(crate) count: usize,
     pub(crate) state: State,

@@ -1,21 +1,21 @@
-//! How a machine takes bytes, by its state.
+//! Takes bytes, by the state of a machine.
 
 ghost use Rattle.std.specs.Prelude.{◌≡◌, ◌<◌, ◌≤◌, [], length};
 ghost use Rattle.mp4_ledger.specs.Memory.{given_back};
 ghost use Rattle.mp4_machine.specs.Ends.{sent};
-ghost use Rattle.mp4_stream.specs.States.{IsState, around, standing};
+ghost use Rattle.mp4_stream.specs.States.{IsState, change, continuation_at};
 ghost use Rattle.mp4_stream.specs.Steps.{Consumes};
 
 use crate::body::{take_body, take_open};
+use crate::buffered_box::take_held;
 use crate::header::take_header;
-use crate::held_box::take_held;
 use crate::state::{State, Taken};
 use mp4_box::HeaderReader;
 use mp4_ends::Sink;
 use mp4_ledger::Ledger;
 use mp4_machine::{Block, Stop};
 
-/// Takes bytes from the front of a piece. Where it stops, all is given back.
+/// Takes bytes from the front of the input. At a stop everything is given back.
 ///
 /// # Errors
 ///
@@ -23,36 +23,36 @@ use mp4_machine::{Block, Stop};
 #[inline(always)]
 pub(crate) fn take_next<W: Sink>(
     state: State,
-    piece: &[u8],
+    input: &[u8],
     head: &mut HeaderReader,
     ledger: &mut Ledger,
     out: &mut Block,
     w: &mut W,
 ) -> Result<Taken, Stop>
-    requires some { 0 < length piece.now }
+    requires some { 0 < length input.now }
     requires state { IsState head.old state }
-    requires claim { (standing head.old state).claim ≤ ledger.old.live }
-    ensures { Consumes (around (sent W.contents W.has_failed w.old w.new)
-        out.old out.new ledger.old ledger.new) head.old head.new state piece.now result }
+    requires claim { (continuation_at head.old state).claim ≤ ledger.old.live }
+    ensures { Consumes (change (sent W.contents W.has_failed w.old w.new)
+        out.old out.new ledger.old ledger.new) head.old head.new state input.now result }
 {
     match state {
-        State::Header { at } => take_header(at, piece, head, ledger, out, w),
-        State::Holding(held) => take_held(held, piece, ledger, out, w),
-        State::Body(body) => Ok(take_body(body, piece)),
-        State::OpenBody(body) => take_open(body, piece),
+        State::Header { at } => take_header(at, input, head, ledger, out, w),
+        State::Buffering(held) => take_held(held, input, ledger, out, w),
+        State::Body(body) => Ok(take_body(body, input)),
+        State::OpenBody(body) => take_open(body, input),
     }
 }
 
 /// Gives back what is held.
 pub(crate) fn back_state(state: State, ledger: &mut Ledger)
-    requires { (standing [] state).claim ≤ ledger.old.live }
-    ensures { ledger.new ≡ given_back ledger.old (standing [] state).claim }
+    requires { (continuation_at [] state).claim ≤ ledger.old.live }
+    ensures { ledger.new ≡ given_back ledger.old (continuation_at [] state).claim }
 {
     match state {
         State::Header { at } => {
             let _ = at;
         }
-        State::Holding(held) => held.back(ledger),
+        State::Buffering(held) => held.back(ledger),
         State::Body(_) | State::OpenBody(_) => {}
     }
 }

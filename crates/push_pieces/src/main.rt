@@ -1,6 +1,7 @@
-//! Pushes a stream into a Feeder piece by piece, as often as it is told, and counts the bytes that are written. Standard input
-//! has three numbers of four bytes, the highest first: the greatest number of samples of a fragment, how many bytes a piece has, and
-//! how many times; then the stream. With pieces of 0 bytes the stream is read by `split`, 65,536 bytes a read.
+//! Pushes a stream into a Feeder in inputs, as often as asked, and counts the bytes that are written. Standard input
+//! has three numbers of four bytes, the highest first: the greatest number of samples of a fragment, how many bytes an
+//! input has, and how many times; then the stream. With inputs of 0 bytes the stream is read by `split`, 65,536 bytes
+//! at a time.
 #![tactic(auto)]
 
 ghost use Rattle.std.specs.Prelude.{◌<◌, ◌≤◌, false};
@@ -66,12 +67,12 @@ impl Pushed {
         }
     }
 
-    /// Pushes a stream in, in pieces of so many bytes.
+    /// Pushes a stream in, in inputs of so many bytes.
     fn push_all(&mut self, stream: &[u8], len: usize, w: &mut Counter) -> Result<(), Stop>
         requires { 0 < len }
     {
-        for piece in stream.chunks(len) {
-            self.feeder.feed(&mut self.ledger, piece, w)?;
+        for input in stream.chunks(len) {
+            self.feeder.feed(&mut self.ledger, input, w)?;
         }
         Ok(())
     }
@@ -88,12 +89,12 @@ impl Pushed {
     }
 }
 
-/// Cuts a stream that comes in pieces of so many bytes.
+/// Cuts a stream that comes in inputs of so many bytes.
 fn push_stream(alloc: Global, stream: &[u8], len: usize, cut: Cut, w: &mut Counter) -> Outcome
     requires { 0 < len }
 {
     let mut pushed = Pushed::new(alloc, cut);
-    // Behind a stop `finish` answers the same.
+    // After a stop `finish` answers the same.
     let _ = pushed.push_all(stream, len, w);
     pushed.finish()
 }
@@ -113,7 +114,7 @@ fn read_stream(alloc: Global, stream: &[u8], cut: Cut, w: &mut Counter) -> Outco
     }
 }
 
-/// Cuts a stream, in pieces of so many bytes or as a whole.
+/// Cuts a stream, in inputs of so many bytes or as a whole.
 fn cut_stream(alloc: Global, stream: &[u8], len: usize, cut: Cut, w: &mut Counter) -> Outcome {
     if len == 0 {
         read_stream(alloc, stream, cut, w)

@@ -1,5 +1,5 @@
 //! Lists the boxes and the samples of two real streams, which ffmpeg's muxer wrote: data/audio.mp4, a fragment each
-//! second, and data/every_frame.mp4, a fragment each frame. What it must write stands in the file stdout, and
+//! second, and data/every_frame.mp4, a fragment each frame. What it must write is in the file stdout, and
 //! is what another reader found. The counts of both streams are those of another reader too.
 #![tactic(auto)]
 
@@ -7,7 +7,7 @@ use mp4_stream::{FromRead, IntoWrite, Ledger, Totals, boxes, check, samples};
 use std::fs::File;
 use std::process::ExitCode;
 
-/// A stream, and what it comes to.
+/// A stream, and its result.
 struct Stream {
     name: &'static str,
     fragments: u64,

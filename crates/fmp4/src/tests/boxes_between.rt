@@ -8,7 +8,7 @@ use std::alloc::Global;
 use std::process::Abort;
 use std::test::Fail;
 
-/// The first vector, a box behind it, and its fragment again: what is left of the box.
+/// The first vector, a box after it, and its fragment again: what is left of the box.
 fn check_between(rt: &impl Abort, alloc: Global, between: &[u8], left: &[u8]) -> Result<(), Fail> {
     let v1 = V1.as_slice();
     let mut all = by_two(alloc)?;
@@ -23,7 +23,7 @@ fn check_between(rt: &impl Abort, alloc: Global, between: &[u8], left: &[u8]) ->
     check_good(rt, alloc, &BY_TWO, &[&stream], &all)
 }
 
-/// Indexes go, since their offsets would be wrong. What stands in the boxes isn't looked at.
+/// Indexes go, since their offsets would be wrong. The contents of the boxes aren't read.
 #[test]
 fn boxes_that_are_dropped(rt: HostRuntime) -> Result<(), Fail> {
     for between in [

@@ -1,5 +1,6 @@
-//! Calls of the two ends, which no clause counts: reads take all that there is room for, writes are few and large, and before each
-//! read all is written that the bytes before it determine. That no byte of media is looked at by itself shows only in time.
+//! Calls of the two ends, which no clause counts: reads take all that there is room for, writes are few and large, and
+//! before each read all is written that the bytes before it determine. That no byte of media is handled by itself shows
+//! only in time.
 
 ghost use Rattle.std.specs.Prelude.{◌≡◌, ◌<◌};
 
@@ -138,7 +139,7 @@ fn reads_and_writes(rt: HostRuntime) -> Result<(), Fail> {
     Ok(())
 }
 
-/// A reader that looks at each read whether the writer has what is due.
+/// A reader that checks at each read whether the writer has what is due.
 #[derive(Drop)]
 struct Looking<'a, R> {
     inner: R,
@@ -148,9 +149,9 @@ struct Looking<'a, R> {
     late: Option<usize>,
 }
 
-/// A writer that tells it how many bytes it took.
+/// A writer that reports how many bytes it took.
 #[derive(Drop)]
-struct Telling<'a, W> {
+struct Counting<'a, W> {
     inner: W,
     taken: &'a Cell<usize>,
 }
@@ -184,7 +185,7 @@ impl<'a, R: Source> Source for Looking<'a, R> {
     }
 }
 
-impl<'a, W: Sink> Sink for Telling<'a, W> {
+impl<'a, W: Sink> Sink for Counting<'a, W> {
     ghost contents = { λ s. W.contents s.inner };
 
     ghost has_failed = { λ s. W.has_failed s.inner };
@@ -220,7 +221,7 @@ fn writes_before_each_read(rt: HostRuntime) -> Result<(), Fail> {
                 taken: &taken,
                 late: None,
             };
-            let mut w = Telling {
+            let mut w = Counting {
                 inner: ToVec::new(alloc, 8192, 3, true)?,
                 taken: &taken,
             };

@@ -1,4 +1,4 @@
-//! The first vector cut behind each of its bytes, and readers and writers that fail behind each, by every command.
+//! The first vector cut after each of its bytes, and readers and writers that fail after each, by every command.
 
 ghost use Rattle.std.specs.Prelude.{◌≡◌};
 
@@ -46,8 +46,8 @@ impl Command {
         }
     }
 
-    /// How many bytes of that are due behind the vector's first `k` bytes. The line of a box is due behind its header, those of a
-    /// moov or moof behind the box, and those of samples behind their mdat's header.
+    /// How many bytes of that are due after the vector's first `k` bytes. The line of a box is due after its header,
+    /// those of a moov or moof after the box, and those of samples after their mdat's header.
     pub(super) fn due(self, k: usize) -> usize {
         let (ftyp, moov) = (FTYP.len(), FTYP.len() + MOOV.len());
         match (self, k) {
@@ -64,7 +64,7 @@ impl Command {
     }
 }
 
-/// So it is with the new fragments: what stands before a byte of media is due with the byte before it.
+/// The same for the new fragments: what comes before a byte of media is due with the byte before it.
 pub(super) fn due_of_split(k: usize) -> usize {
     match k {
         0..8 => 0,
@@ -78,7 +78,7 @@ pub(super) fn due_of_split(k: usize) -> usize {
 }
 
 /// The fault of the vector's first `k` bytes.
-fn fault_behind(k: usize) -> &'static str {
+fn fault_after(k: usize) -> &'static str {
     match k {
         1..8 => "fmp4: 1 Truncated in (none) at 0\n",
         8..20 => "fmp4: 1 Truncated in ftyp at 0\n",
@@ -109,7 +109,7 @@ fn streams_that_end_anywhere(rt: HostRuntime) -> Result<(), Fail> {
             let fault = match (command, k) {
                 // It asks no mdat of a moof.
                 (Command::Boxes, 460) => "",
-                _ => fault_behind(k),
+                _ => fault_after(k),
             };
             let status = if fault.is_empty() { 0 } else { 2 };
             let counts = match (command, k) {
@@ -183,7 +183,7 @@ fn failing_writers_of_faults(rt: HostRuntime) -> Result<(), Fail> {
             let mut given = first(482);
             given.fault_room = fault_room;
             let written = &all[..command.due(482).min(all.len())];
-            let fault = fault_behind(482).as_bytes();
+            let fault = fault_after(482).as_bytes();
             let fault = &fault[..fault_room.min(fault.len())];
             check_run(&rt, alloc, command.words(), given, 2, written, fault)?;
             let mut given = first(483);

@@ -1,5 +1,5 @@
-//! Streams that are pushed in piece by piece. What must come of the first vector by two samples a fragment is a table, by how
-//! many of its bytes came.
+//! Streams that are pushed in as inputs. The expected output of the first vector by two samples a fragment is a table,
+//! by how many of its bytes came.
 
 ghost use Rattle.std.specs.Prelude.{◌≡◌, ◌+◌, ◌<◌, ◌≤◌};
 ghost use Rattle.mp4_push.specs.Feeders.{held_by};
@@ -50,9 +50,9 @@ impl Pushed {
         })
     }
 
-    /// Pushes these bytes in as one piece.
-    pub(super) fn push(&mut self, piece: &[u8]) -> Result<(), Stop> {
-        self.feeder.feed(&mut self.ledger, piece, &mut self.w)
+    /// Pushes these bytes in as one input.
+    pub(super) fn push(&mut self, input: &[u8]) -> Result<(), Stop> {
+        self.feeder.feed(&mut self.ledger, input, &mut self.w)
     }
 
     /// And each of them by itself.
@@ -67,13 +67,13 @@ impl Pushed {
     fn push_by(&mut self, step: usize, bytes: &[u8]) -> Result<(), Stop>
         requires { 0 < step }
     {
-        for piece in bytes.chunks(step) {
-            self.push(piece)?;
+        for input in bytes.chunks(step) {
+            self.push(input)?;
         }
         Ok(())
     }
 
-    /// What must have come of these first bytes of a stream, and nothing else: the text, how much is held, and how the stream
+    /// The exact output of these first bytes of a stream: the text, how much is held, and how the stream
     /// ends here.
     fn check(self, rt: &impl Abort, k: usize, all: &[u8]) -> Result<(), Fail> {
         let (written, held, fault) = due(k);
@@ -88,7 +88,7 @@ impl Pushed {
             "after {k} bytes"
         );
         let (answer, live) = self.finish();
-        let told = match answer {
+        let seen = match answer {
             Ok(_) => Ok(()),
             Err(stop) => Err(stop),
         };
@@ -96,11 +96,11 @@ impl Pushed {
             None => Ok(()),
             Some(fault) => Err(Stop::Stream(fault)),
         };
-        assert_eq!(rt; (told, live), (wanted, 0), "after {k} bytes");
+        assert_eq!(rt; (seen, live), (wanted, 0), "after {k} bytes");
         Ok(())
     }
 
-    /// The stream ended: the answer, and how much is out then.
+    /// The stream ended: the answer, and how much is claimed then.
     pub(super) fn finish(self) -> (Result<Totals, Stop>, u64) {
         let Pushed {
             feeder,
@@ -112,7 +112,7 @@ impl Pushed {
         (answer, ledger.live())
     }
 
-    /// How much is out behind a stream that is given up.
+    /// How much is claimed after a stream that is given up.
     fn give_up(self) -> u64 {
         let Pushed {
             feeder,
@@ -192,8 +192,8 @@ fn totals_of_a_stream(rt: HostRuntime) -> Result<(), Fail> {
     let counted = (totals.fragments, totals.samples, totals.media_bytes);
     assert_eq!(&rt; (counted, totals.peak, live), ((2, 3, 15), 408, 0));
     assert_eq!(&rt; so_far, totals);
-    // Each of the three samples at most fifteen times.
-    assert!(&rt; totals.rows_read <= 45);
+    // Each of the three samples 5 to 8 times.
+    assert!(&rt; 15 <= totals.rows_read && totals.rows_read <= 24);
     Ok(())
 }
 
@@ -260,8 +260,8 @@ fn a_writer_that_is_mended(rt: HostRuntime) -> Result<(), Fail> {
     Ok(())
 }
 
-/// A stream is pushed in under a limit, by single bytes or whole: the answer, and how many bytes it must have written. Behind a
-/// stop nothing is out, and it answers the same.
+/// A stream is pushed in under a limit, by single bytes or whole: the answer, and how many bytes it must have written.
+/// After a stop nothing is claimed, and it answers the same.
 fn check_within(
     rt: &impl Abort,
     alloc: Global,
@@ -379,16 +379,16 @@ impl Pair {
         })
     }
 
-    fn push_first(&mut self, piece: &[u8]) -> Result<(), Stop> {
-        self.first.feed(&mut self.ledger, piece, &mut self.first_w)
+    fn push_first(&mut self, input: &[u8]) -> Result<(), Stop> {
+        self.first.feed(&mut self.ledger, input, &mut self.first_w)
     }
 
-    fn push_second(&mut self, piece: &[u8]) -> Result<(), Stop> {
+    fn push_second(&mut self, input: &[u8]) -> Result<(), Stop> {
         self.second
-            .feed(&mut self.ledger, piece, &mut self.second_w)
+            .feed(&mut self.ledger, input, &mut self.second_w)
     }
 
-    /// Gives both up: how much is out then.
+    /// Gives both up: how much is claimed then.
     fn give_up(self) -> u64 {
         let Pair {
             first,

@@ -9,7 +9,7 @@ use std::alloc::{AllocError, Global};
 use std::process::Abort;
 use std::test::Fail;
 
-/// A box of this type whose payload has so many bytes: these, and zeros behind them.
+/// A box of this type whose payload has so many bytes: these, and zeros after them.
 fn box_of(alloc: Global, kind: &[u8; 4], front: &[u8], len: usize) -> Result<Vec<u8>, AllocError> {
     let mut payload = Vec::new(alloc);
     payload.extend_from_slice(&front[..len.min(front.len())])?;
@@ -84,7 +84,8 @@ fn with_headers(alloc: Global, tkhd: &[u8], mdhd: &[u8]) -> Result<Vec<u8>, Allo
     Ok(all)
 }
 
-/// The front of a header whose payload has this length: up to its track_ID or timescale, behind which zeros are as good as any.
+/// The front of a header whose payload has this length: up to its track_ID or timescale, after which zeros are as good
+/// as any.
 #[derive(Clone, Copy)]
 struct Front {
     of: Header,
@@ -168,7 +169,7 @@ impl Part {
         }
     }
 
-    /// A traf of 24 bytes stands before that of the box where the rules are searched one by one.
+    /// A traf of 24 bytes comes before that of the box where the rules are searched one by one.
     fn fault(self, way: Way) -> &'static str {
         match (self, way) {
             (Part::Mfhd, _) => "fmp4: 12 FieldLength in mfhd at 372\n",

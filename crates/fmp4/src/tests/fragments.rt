@@ -13,7 +13,7 @@ pub(super) const SAMPLES: [&str; 3] = [
     "track=1 dts=2048 cts=2048 dur=1024 size=3 flags=02000000 sync desc=1 at=480\n",
 ];
 
-/// What it comes to.
+/// Its result.
 pub(super) const COUNTS: &str = "fragments=1 samples=3 media=15 held=65944\n";
 
 const HEADER_TO_END: &[u8] = b"\0\0\0\0mdat";

@@ -11,7 +11,7 @@ use std::alloc::Global;
 use std::process::Abort;
 use std::test::Fail;
 
-/// A fault, and the line that tells it.
+/// A fault, and its line.
 #[derive(Clone, Copy)]
 struct FaultLine {
     fault: Fault,
@@ -50,7 +50,7 @@ fn check_hostile(
     check_stop(rt, single, due, written)
 }
 
-/// This was written, the fault is the answer, and nothing is out.
+/// This was written, the fault is the answer, and nothing is claimed.
 fn check_stop(rt: &impl Abort, pushed: Pushed, due: FaultLine, written: &[u8]) -> Result<(), Fail> {
     assert_eq!(rt; pushed.w.bytes(), written, "{}", due.line);
     let stop = Stop::Stream(due.fault);

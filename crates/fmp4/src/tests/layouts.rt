@@ -13,7 +13,7 @@ pub(super) const TFHD: &[u8] = b"\0\0\0\x10tfhd\0\x02\0\0\0\0\0\x01";
 #[test]
 fn headers_and_boxes_around(rt: HostRuntime) -> Result<(), Fail> {
     let (alloc, v1) = (rt.alloc(), V1.as_slice());
-    // An mdat with a long header, and the run behind that.
+    // An mdat with a long header, and the run after that.
     let long = [
         &v1[..444],
         b"\0\0\0\x70".as_slice(),
@@ -106,7 +106,7 @@ fn defaults_of_a_tfhd(rt: HostRuntime) -> Result<(), Fail> {
 #[test]
 fn flags_of_samples(rt: HostRuntime) -> Result<(), Fail> {
     let (alloc, v1) = (rt.alloc(), V1.as_slice());
-    // The flags of the first sample stand in the trun, those of the others in the trex.
+    // The flags of the first sample are in the trun, those of the others in the trex.
     let first = [
         &v1[..360],
         b"\x01\x01\0\0\0\0\0\x64moof".as_slice(),
@@ -123,7 +123,7 @@ fn flags_of_samples(rt: HostRuntime) -> Result<(), Fail> {
         "track=1 dts=2048 cts=2048 dur=1024 size=3 flags=01010000 - desc=1 at=484\n",
     ];
     check_sound(&rt, alloc, &first, &lines, COUNTS)?;
-    // They stand in two places.
+    // They are in two places.
     let twice = [
         &v1[..364],
         b"\0\0\0\x70moof".as_slice(),
@@ -194,7 +194,7 @@ fn times_to_the_last(rt: HostRuntime) -> Result<(), Fail> {
     let (alloc, v1) = (rt.alloc(), V1.as_slice());
     let (front, tfdt) = (&v1[..364], b"\0\0\0\x14tfdt\x01\0\0\0".as_slice());
     let (moof, traf) = (b"\0\0\0\x64moof".as_slice(), b"\0\0\0\x4ctraf".as_slice());
-    let (run, behind) = (&v1[428..444], b"\0\0\0\x6c".as_slice());
+    let (run, after) = (&v1[428..444], b"\0\0\0\x6c".as_slice());
     let base = b"\xff\xff\xff\xff\xff\xff\xf3\xff".as_slice();
     let last = [
         front,
@@ -205,7 +205,7 @@ fn times_to_the_last(rt: HostRuntime) -> Result<(), Fail> {
         tfdt,
         base,
         run,
-        behind,
+        after,
         &v1[448..],
     ];
     let lines = [
@@ -224,7 +224,7 @@ fn times_to_the_last(rt: HostRuntime) -> Result<(), Fail> {
         tfdt,
         base,
         run,
-        behind,
+        after,
         &v1[448..],
     ];
     check_fault(
@@ -255,7 +255,7 @@ fn counts_of_samples(rt: HostRuntime) -> Result<(), Fail> {
         &[],
         "fmp4: 20 TooManySamples in trun at 428\n",
     )?;
-    // A run without samples stands anywhere.
+    // A run without samples may lie anywhere.
     let run = b"\0\0\0\x14trun\0\0\x02\x01\0\0\0\0\x80\0\0\0".as_slice();
     let none = [front, moof, MFHD, traf, TFHD, tfdt, run, &v1[460..]];
     let counts = "fragments=1 samples=0 media=0 held=65944\n";

@@ -80,7 +80,7 @@ fn with_time(alloc: Global, time: u64) -> Result<Vec<u8>, AllocError> {
     )
 }
 
-/// The last sample may end with the last time that 64 bits hold, and not behind it.
+/// The last sample may end with the last time that 64 bits hold, and not after it.
 #[test]
 fn last_times(rt: HostRuntime) -> Result<(), Fail> {
     let (alloc, v1) = (rt.alloc(), V1.as_slice());

@@ -1,4 +1,4 @@
-//! Rows of samples that are read while a stream is recut: no run is walked again for each of its pieces.
+//! Rows of samples that are read while a stream is recut: no run is read again for each of its pieces.
 
 ghost use Rattle.std.specs.Prelude.{◌≡◌, ◌<◌, false};
 
@@ -23,7 +23,7 @@ struct Counter {
 }
 
 impl Counter {
-    /// Keeps what it takes of the bytes that stand at this offset.
+    /// Keeps what it takes of the bytes that lie at this offset.
     fn keep(&mut self, from: &[u8]) {
         let first = self.kept_from.saturating_sub(self.bytes) as usize;
         let at = self.bytes.saturating_sub(self.kept_from) as usize;
@@ -72,9 +72,9 @@ pub(super) fn with_empty_samples(alloc: Global, count: u32) -> Result<Vec<u8>, A
     )
 }
 
-/// What of a recut stream is looked at: how many bytes were written, some of them, and the totals.
+/// What is checked of a recut stream: how many bytes were written, some of them, and the totals.
 #[derive(Drop)]
-struct Looked {
+struct Recut {
     bytes: u64,
     kept: [u8; KEPT],
     totals: Totals,
@@ -88,7 +88,7 @@ fn recut_by(
     stream: &[u8],
     index: bool,
     kept_from: u64,
-) -> Looked {
+) -> Recut {
     let cut = Cut::new(samples, None, index).expect(rt, "so many samples are allowed");
     let mut r = FromSlice::new(stream, 4096, false);
     let mut w = Counter {
@@ -100,7 +100,7 @@ fn recut_by(
     let mut totals = Totals::new();
     let answer = split(&mut r, &mut w, &mut ledger, &cut, 4096, &mut totals);
     assert_eq!(rt; answer, Ok(()));
-    Looked {
+    Recut {
         bytes: w.bytes,
         kept: w.kept,
         totals,
@@ -109,7 +109,7 @@ fn recut_by(
 
 /// How many bytes are written of a stream by one sample a fragment, and its totals.
 fn by_one(rt: &impl Abort, alloc: Global, stream: &[u8], index: bool) -> (u64, Totals) {
-    let Looked {
+    let Recut {
         bytes,
         kept: _,
         totals,
@@ -124,7 +124,8 @@ fn rows_of_few_pieces(rt: HostRuntime) -> Result<(), Fail> {
         (totals.fragments, totals.samples, totals.media_bytes),
         (3, 3, 15)
     );
-    assert!(&rt; 3 <= totals.rows_read && totals.rows_read <= 45);
+    // With an index, 11 to 12 times each.
+    assert!(&rt; 33 <= totals.rows_read && totals.rows_read <= 36);
     Ok(())
 }
 
@@ -137,23 +138,23 @@ fn rows_of_an_index(rt: HostRuntime) -> Result<(), Fail> {
         (bytes, totals.fragments),
         (364 + 786_460 + 52 + 65_536 * 116, 65_536)
     );
-    assert!(&rt; 65_536 <= totals.rows_read && totals.rows_read <= 983_040);
+    assert!(&rt; 720_896 <= totals.rows_read && totals.rows_read <= 786_432);
     Ok(())
 }
 
 /// By one sample a fragment, an index begins so at this offset.
 fn check_index(rt: &impl Abort, alloc: Global, stream: &[u8], at: u64, index: &[u8; KEPT]) {
-    let looked = recut_by(rt, alloc, 1, stream, true, at);
-    let kept = looked.kept;
+    let recut = recut_by(rt, alloc, 1, stream, true, at);
+    let kept = recut.kept;
     assert_eq!(rt;
-        (looked.bytes, kept.as_slice()),
+        (recut.bytes, kept.as_slice()),
         (8_389_052, index.as_slice()),
         "at {at}"
     );
 }
 
-/// The first index stands at 364, behind the moov, and the second behind 65,535 fragments of 116 bytes, whose samples last 1,024
-/// ticks each: 67,107,840 in all.
+/// The first index is at 364, after the moov, and the second after 65,535 fragments of 116 bytes, whose samples last
+/// 1,024 ticks each: 67,107,840 in all.
 #[test]
 fn places_of_indexes(rt: HostRuntime) -> Result<(), Fail> {
     let alloc = rt.alloc();
@@ -172,17 +173,18 @@ fn places_of_indexes(rt: HostRuntime) -> Result<(), Fail> {
 #[test]
 fn a_million_samples_as_one_piece(rt: HostRuntime) -> Result<(), Fail> {
     let stream = with_empty_samples(rt.alloc(), 1_000_000)?;
-    let looked = recut_by(&rt, rt.alloc(), 1_000_000, &stream, false, 0);
-    assert_eq!(&rt; (looked.bytes, looked.totals.fragments), (16_000_464, 1));
+    let recut = recut_by(&rt, rt.alloc(), 1_000_000, &stream, false, 0);
+    assert_eq!(&rt; (recut.bytes, recut.totals.fragments), (16_000_464, 1));
     Ok(())
 }
 
-/// Walked from its first row for each piece, a run of 1,000,000 samples would take hours.
+/// Read from its first row for each piece, a run of 1,000,000 samples would take hours.
 #[test]
 fn a_million_pieces(rt: HostRuntime) -> Result<(), Fail> {
     let stream = with_empty_samples(rt.alloc(), 1_000_000)?;
     let (bytes, totals) = by_one(&rt, rt.alloc(), &stream, false);
     assert_eq!(&rt; (bytes, totals.fragments), (116_000_364, 1_000_000));
-    assert!(&rt; 1_000_000 <= totals.rows_read && totals.rows_read <= 15_000_000);
+    // Without an index, 5 to 8 times each.
+    assert!(&rt; 5_000_000 <= totals.rows_read && totals.rows_read <= 8_000_000);
     Ok(())
 }

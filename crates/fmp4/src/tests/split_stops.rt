@@ -12,8 +12,8 @@ use std::alloc::{AllocError, Global};
 use std::process::Abort;
 use std::test::Fail;
 
-/// The first vector by two samples a fragment, in 627 bytes: behind its first 364 a moof of 124 bytes with an mdat of 20, and a
-/// moof of 108 bytes with one of 11.
+/// The first vector by two samples a fragment, in 627 bytes: after its first 364 a moof of 124 bytes with an mdat of
+/// 20, and a moof of 108 bytes with one of 11.
 #[test]
 fn fragments_that_a_writer_took(rt: HostRuntime) -> Result<(), Fail> {
     let alloc = rt.alloc();
@@ -41,7 +41,7 @@ fn fragments_that_a_writer_took(rt: HostRuntime) -> Result<(), Fail> {
     Ok(())
 }
 
-/// The first vector with a moof of 496 bytes: a free box of 400 stands behind its mfhd.
+/// The first vector with a moof of 496 bytes: a free box of 400 follows its mfhd.
 pub(super) fn with_a_large_moof(alloc: Global) -> Result<Vec<u8>, AllocError> {
     let v1 = V1.as_slice();
     joined(
@@ -59,7 +59,7 @@ pub(super) fn with_a_large_moof(alloc: Global) -> Result<Vec<u8>, AllocError> {
     )
 }
 
-/// The first vector, and the fragment with the large moof behind it.
+/// The first vector, and the fragment with the large moof after it.
 pub(super) fn before_a_large_moof(alloc: Global) -> Result<Vec<u8>, AllocError> {
     let large = with_a_large_moof(alloc)?;
     joined(alloc, &[V1.as_slice(), &large[364.min(large.len())..]])

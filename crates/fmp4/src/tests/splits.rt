@@ -48,8 +48,8 @@ pub(super) fn check_bad(
     check_split(rt, alloc, &BY_TWO, parts, 2, written, fault)
 }
 
-/// The fragments of the first vector by two samples each, behind these bytes.
-fn two_behind(alloc: Global, front: &[&[u8]]) -> Result<Vec<u8>, AllocError> {
+/// The fragments of the first vector by two samples each, after these bytes.
+fn two_after(alloc: Global, front: &[&[u8]]) -> Result<Vec<u8>, AllocError> {
     let v1 = V1.as_slice();
     let fragments = [
         piece_at(1, 0, &[[5, SYNC], [7, SYNC]], &v1[468..480]),
@@ -60,7 +60,7 @@ fn two_behind(alloc: Global, front: &[&[u8]]) -> Result<Vec<u8>, AllocError> {
 
 /// The first vector by two samples a fragment.
 pub(super) fn by_two(alloc: Global) -> Result<Vec<u8>, AllocError> {
-    two_behind(alloc, &[&V1.as_slice()[..364]])
+    two_after(alloc, &[&V1.as_slice()[..364]])
 }
 
 /// And by one.
@@ -78,11 +78,11 @@ fn by_one(alloc: Global) -> Result<Vec<u8>, AllocError> {
 fn pieces(rt: HostRuntime) -> Result<(), Fail> {
     let (alloc, v1) = (rt.alloc(), V1.as_slice());
     let (two, one) = (by_two(alloc)?, by_one(alloc)?);
-    let behind = [
+    let after = [
         piece_at(1, 0, &[[5, SYNC]], &v1[468..473]),
         piece_at(2, 1024, &[[7, SYNC], [3, SYNC]], &v1[473..]),
     ];
-    let behind = recut(alloc, &[&v1[..364]], &behind)?;
+    let after = recut(alloc, &[&v1[..364]], &after)?;
     let (v1, again) = ([v1], [two.as_slice()]);
     check_good(&rt, alloc, &BY_TWO, &v1, &two)?;
     check_good(&rt, alloc, &["--samples", "9", "--bytes", "12"], &v1, &two)?;
@@ -91,10 +91,10 @@ fn pieces(rt: HostRuntime) -> Result<(), Fail> {
         alloc,
         &["--samples", "9", "--bytes", "10"],
         &v1,
-        &behind,
+        &after,
     )?;
     check_good(&rt, alloc, &["--samples", "9", "--bytes", "9"], &v1, &one)?;
-    // A sample with more bytes stands alone.
+    // A sample with more bytes is a fragment by itself.
     check_good(&rt, alloc, &["--samples", "9", "--bytes", "4"], &v1, &one)?;
     check_good(&rt, alloc, &["--samples", "9", "--sync"], &v1, &one)?;
     check_good(&rt, alloc, &BY_TWO, &again, &two)
@@ -109,13 +109,13 @@ fn indexes(rt: HostRuntime) -> Result<(), Fail> {
         b"\0\0\0\x40sidx\x01\0\0\0\0\0\0\x01\0\0\xbb\x80\0\0\0\0\0\0\0\0\0\0\0\0\0\0\0\0\0\0\0\x02\
         \0\0\0\x90\0\0\x08\0\0\0\0\0\0\0\0\x77\0\0\x04\0\0\0\0\0"
             .as_slice();
-    let indexed = two_behind(alloc, &[&v1[..364], sidx])?;
-    // One of 140 bytes stands before the fragment of the second track.
+    let indexed = two_after(alloc, &[&v1[..364], sidx])?;
+    // One of 140 bytes comes before the fragment of the second track.
     let second =
         b"\0\0\0\x34sidx\x01\0\0\0\0\0\0\x02\0\0\xbb\x80\0\0\0\0\0\0\0\0\0\0\0\0\0\0\0\0\0\0\0\x01\
         \0\0\0\x8c\0\0\x08\0\0\0\0\0"
             .as_slice();
-    let mut tracks = two_behind(alloc, &[&v2[..584], sidx])?;
+    let mut tracks = two_after(alloc, &[&v2[..584], sidx])?;
     tracks.extend_from_slice(second)?;
     let last = Wanted {
         track: 2,
@@ -193,7 +193,7 @@ fn boxes_around_fragments(rt: HostRuntime) -> Result<(), Fail> {
         &v1[364..],
         b"\0\0\0\x10mfra\0\0\0\0\0\0\0\0",
     ];
-    let kept = two_behind(alloc, &[&v1[..364], user])?;
+    let kept = two_after(alloc, &[&v1[..364], user])?;
     // A run without samples gives no fragment.
     let none = [
         &v1[..364],
@@ -216,7 +216,7 @@ fn boxes_around_fragments(rt: HostRuntime) -> Result<(), Fail> {
 #[test]
 fn sync_samples(rt: HostRuntime) -> Result<(), Fail> {
     let (alloc, v1) = (rt.alloc(), V1.as_slice());
-    // The flags of the first sample stand in the trun, those of the others in the trex.
+    // The flags of the first sample are in the trun, those of the others in the trex.
     let (front, media) = ([&v1[..360], b"\x01\x01\0\0".as_slice()], &v1[468..]);
     let first = [
         front[0],

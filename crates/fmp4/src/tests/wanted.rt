@@ -45,7 +45,7 @@ pub(super) fn lasting<'a>(short: Wanted<'a>) -> Wanted<'a> {
     }
 }
 
-/// Its bytes, behind those.
+/// Its bytes, after those.
 pub(super) fn push_fragment(all: &mut Vec<u8>, wanted: &Wanted<'_>) -> Result<(), AllocError> {
     let count = u32::try_from(wanted.rows.len()).unwrap_or(0);
     let table = count.saturating_mul(16);
@@ -76,7 +76,7 @@ fn push_numbers(all: &mut Vec<u8>, numbers: &[u32]) -> Result<(), AllocError> {
     Ok(())
 }
 
-/// These bytes, and behind them the fragments.
+/// These bytes, and after them the fragments.
 pub(super) fn recut(
     alloc: Global,
     front: &[&[u8]],

@@ -10,7 +10,7 @@ use std::alloc::Global;
 use std::process::Abort;
 use std::test::Fail;
 
-/// What is at fault with a moof that begins at this offset, and how many rows are charged.
+/// The fault of a moof that begins at this offset, and how many rows are counted.
 fn read(list: &TrackList, moof: &[u8], at: u32) -> Result<(Option<Fault>, u128), Fail> {
     if moof.len() > 67_108_864 || !is_box(moof) {
         return Err("no box".into());
@@ -24,22 +24,27 @@ fn read(list: &TrackList, moof: &[u8], at: u32) -> Result<(Option<Fault>, u128),
 }
 
 /// The same, with the tracks of a moov that begins at 20.
-fn told(alloc: Global, moov: &[u8], moof: &[u8], at: u32) -> Result<(Option<Fault>, u128), Fail> {
+fn outcome(
+    alloc: Global,
+    moov: &[u8],
+    moof: &[u8],
+    at: u32,
+) -> Result<(Option<Fault>, u128), Fail> {
     if moov.len() > 16_777_216 || !is_box(moov) {
         return Err("no box".into());
     }
     let mut ledger = Ledger::new(alloc, 1 << 30);
     match tracks(&mut ledger, moov, 20) {
         Ok(list) => {
-            let told = read(&list, moof, at);
+            let outcome = read(&list, moof, at);
             list.back(&mut ledger);
-            told
+            outcome
         }
         Err(_) => Err("no tracks".into()),
     }
 }
 
-/// What a moof at 364 comes to, of which these are the boxes of its only traf, with V1's track.
+/// Result of reading a moof at 364, of which these are the boxes of its only traf, with V1's track.
 fn check_trafs(
     rt: &impl Abort,
     alloc: Global,
@@ -47,7 +52,7 @@ fn check_trafs(
 ) -> Result<(), Fail> {
     for (boxes, expected) in rows {
         let moof = one_traf(alloc, boxes)?;
-        let (fault, _) = told(alloc, &V1.as_slice()[20..364], moof.as_slice(), 364)?;
+        let (fault, _) = outcome(alloc, &V1.as_slice()[20..364], moof.as_slice(), 364)?;
         assert_eq!(rt; fault, *expected, "{boxes:?}");
     }
     Ok(())
@@ -65,7 +70,7 @@ fn check_moofs(
             push_box(&mut content, b"traf", boxes)?;
         }
         let moof = moof_of(alloc, &[content.as_slice()])?;
-        let (fault, _) = told(alloc, &V1.as_slice()[20..364], moof.as_slice(), 364)?;
+        let (fault, _) = outcome(alloc, &V1.as_slice()[20..364], moof.as_slice(), 364)?;
         assert_eq!(rt; fault, *expected, "{trafs:?}");
     }
     Ok(())
@@ -101,11 +106,11 @@ fn boxes_are_missing_or_twice(rt: HostRuntime) -> Result<(), Fail> {
     )?;
     let mut no_mfhd = Vec::new(rt.alloc());
     push_box(&mut no_mfhd, b"moof", &[])?;
-    let (fault_of, rows) = told(rt.alloc(), &V1.as_slice()[20..364], no_mfhd.as_slice(), 364)?;
+    let (fault_of, rows) = outcome(rt.alloc(), &V1.as_slice()[20..364], no_mfhd.as_slice(), 364)?;
     assert_eq!(rt; fault_of, fault(Rule::Missing, b"moof", 364));
     assert_eq!(rt; rows, 0);
     let two = moof_of(rt.alloc(), &[MFHD])?;
-    let (fault_of, _) = told(rt.alloc(), &V1.as_slice()[20..364], two.as_slice(), 364)?;
+    let (fault_of, _) = outcome(rt.alloc(), &V1.as_slice()[20..364], two.as_slice(), 364)?;
     assert_eq!(rt; fault_of, fault(Rule::Twice, b"mfhd", 388));
     Ok(())
 }
@@ -154,9 +159,9 @@ fn boxes_are_unsupported(rt: HostRuntime) -> Result<(), Fail> {
             (&[TFHD, TRAF], fault(Rule::Unsupported, b"traf", 412)),
         ],
     )?;
-    // A trun that stands in no traf isn't read.
+    // A trun that is in no traf isn't read.
     let moof = moof_of(rt.alloc(), &[SHORT_TRUN])?;
-    let (fault_of, _) = told(rt.alloc(), &V1.as_slice()[20..364], moof.as_slice(), 364)?;
+    let (fault_of, _) = outcome(rt.alloc(), &V1.as_slice()[20..364], moof.as_slice(), 364)?;
     assert_eq!(rt; fault_of, fault(Rule::Unsupported, b"trun", 388));
     Ok(())
 }
@@ -174,7 +179,7 @@ fn trafs_are_nested(rt: HostRuntime) -> Result<(), Fail> {
         }
         let mut moof = Vec::new(rt.alloc());
         push_box(&mut moof, b"moof", &[inner.as_slice()])?;
-        let (fault_of, _) = told(rt.alloc(), &V1.as_slice()[20..364], moof.as_slice(), 364)?;
+        let (fault_of, _) = outcome(rt.alloc(), &V1.as_slice()[20..364], moof.as_slice(), 364)?;
         assert_eq!(rt; fault_of, expected);
     }
     Ok(())
@@ -257,7 +262,7 @@ fn track_ids_repeat(rt: HostRuntime) -> Result<(), Fail> {
     }
     moof.as_mut_slice()[119] = 1;
     moof.as_mut_slice()[124..128].copy_from_slice(b"free");
-    let (fault_of, rows) = told(rt.alloc(), &V2.as_slice()[20..584], moof.as_slice(), 584)?;
+    let (fault_of, rows) = outcome(rt.alloc(), &V2.as_slice()[20..584], moof.as_slice(), 584)?;
     assert_eq!(rt; fault_of, fault(Rule::Unsupported, b"traf", 680));
     assert_eq!(rt; rows, 0);
     Ok(())
@@ -317,9 +322,9 @@ fn times_pass_64_bits(rt: HostRuntime) -> Result<(), Fail> {
             ),
         ],
     )?;
-    // Its samples are charged all the same.
+    // Its samples are counted all the same.
     let moof = one_traf(rt.alloc(), &[TFHD, PAST, TRUN])?;
-    let (_, rows) = told(rt.alloc(), &V1.as_slice()[20..364], moof.as_slice(), 364)?;
+    let (_, rows) = outcome(rt.alloc(), &V1.as_slice()[20..364], moof.as_slice(), 364)?;
     assert_eq!(rt; rows, 3);
     Ok(())
 }

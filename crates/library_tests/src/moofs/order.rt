@@ -1,4 +1,4 @@
-//! The order in which the runs of a moof are taken, and where they may stand.
+//! The order in which the runs of a moof are taken, and where they may lie.
 
 use super::{TFDT, TFHD, fault, moof_of, push_box};
 use mp4_box::vectors::{V1, V2, V3};
@@ -10,8 +10,8 @@ use std::alloc::Global;
 use std::process::Abort;
 use std::test::Fail;
 
-/// What is taken, by track_ID and place, and the first run that may not stand where it does; or why there is no list.
-type Told = Result<(Vec<(u32, i128)>, Option<Fault>), Refused>;
+/// What is taken, by track_ID and place, and the first run that may not lie where it does; or why there is no list.
+type Outcome = Result<(Vec<(u32, i128)>, Option<Fault>), Refused>;
 
 /// The runs of a moof that begins at this offset, and what is at fault where the payload of its mdat is this.
 fn read(
@@ -21,7 +21,7 @@ fn read(
     moof: &[u8],
     at: u32,
     payload: Payload,
-) -> Result<Told, Fail> {
+) -> Result<Outcome, Fail> {
     if moof.len() > 67_108_864 || !is_box(moof) {
         return Err("no box".into());
     }
@@ -51,21 +51,21 @@ fn read(
 }
 
 /// The same, with the tracks of a moov that begins at 20, and so many bytes to claim for the list.
-fn told(
+fn outcome(
     alloc: Global,
     limit: u64,
     moov: &[u8],
     moof: &[u8],
     at: u32,
     payload: Payload,
-) -> Result<Told, Fail> {
+) -> Result<Outcome, Fail> {
     if moov.len() > 16_777_216 || !is_box(moov) {
         return Err("no box".into());
     }
     let mut ledger = Ledger::new(alloc, 1 << 30);
     match tracks(&mut ledger, moov, 20) {
         Ok(list) => {
-            let told = read(
+            let outcome = read(
                 alloc,
                 &mut Ledger::new(alloc, limit),
                 &list,
@@ -74,7 +74,7 @@ fn told(
                 payload,
             );
             list.back(&mut ledger);
-            told
+            outcome
         }
         Err(_) => Err("no tracks".into()),
     }
@@ -97,7 +97,7 @@ fn check_two_tracks(
             }
             bytes.as_mut_slice()[at - 584] = *byte;
         }
-        let told = told(
+        let outcome = outcome(
             alloc,
             1 << 30,
             &V2.as_slice()[20..584],
@@ -105,7 +105,7 @@ fn check_two_tracks(
             584,
             payload,
         )?;
-        let Ok((taken, found)) = told else {
+        let Ok((taken, found)) = outcome else {
             return Err("a refusal".into());
         };
         assert_eq!(rt; taken.as_slice(), *expected, "{changes:?}");
@@ -124,7 +124,7 @@ fn one_run_takes_64_bytes(rt: HostRuntime) -> Result<(), Fail> {
         (63, Some(483), Err(Refused::OverLimit)),
     ] {
         let payload = Payload { start: 468, end };
-        match told(rt.alloc(), limit, &v1[20..364], &v1[364..460], 364, payload)? {
+        match outcome(rt.alloc(), limit, &v1[20..364], &v1[364..460], 364, payload)? {
             Ok((taken, misplaced)) => {
                 assert_eq!(rt; taken.as_slice(), &[(1, 468)][..]);
                 assert_eq!(rt; Ok(misplaced), expected);
@@ -171,7 +171,7 @@ fn runs_lie_in_turn(rt: HostRuntime) -> Result<(), Fail> {
 }
 
 #[test]
-fn runs_lie_one_behind_the_other(rt: HostRuntime) -> Result<(), Fail> {
+fn runs_follow_each_other(rt: HostRuntime) -> Result<(), Fail> {
     let moof = &V2.as_slice()[584..748];
     let payload = Payload {
         start: 756,
@@ -232,8 +232,8 @@ fn runs_lie_far_away(rt: HostRuntime) -> Result<(), Fail> {
             return Err("no such moof".into());
         }
         moof.as_mut_slice()[80..84].copy_from_slice(&offset);
-        let told = told(rt.alloc(), 64, &v1[20..364], moof.as_slice(), 364, payload)?;
-        let Ok((taken, misplaced)) = told else {
+        let outcome = outcome(rt.alloc(), 64, &v1[20..364], moof.as_slice(), 364, payload)?;
+        let Ok((taken, misplaced)) = outcome else {
             return Err("a refusal".into());
         };
         assert_eq!(rt; taken.as_slice(), &[(1, place)][..]);
@@ -246,7 +246,7 @@ fn runs_lie_far_away(rt: HostRuntime) -> Result<(), Fail> {
 const FIVE: &[u8] = b"\0\0\0\x18trun\0\0\x02\x01\0\0\0\x01\0\0\0\x64\0\0\0\x05";
 
 #[test]
-fn a_run_without_bytes_stands_behind_its_track(rt: HostRuntime) -> Result<(), Fail> {
+fn a_run_without_bytes_follows_its_track(rt: HostRuntime) -> Result<(), Fail> {
     let payload = Payload {
         start: 684,
         end: None,
@@ -258,8 +258,8 @@ fn a_run_without_bytes_stands_behind_its_track(rt: HostRuntime) -> Result<(), Fa
         push_box(&mut trafs, b"traf", &[TFHD, TFDT, FIVE, &empty])?;
         let moof = moof_of(rt.alloc(), &[trafs.as_slice()])?;
         let moov = &V2.as_slice()[20..584];
-        let told = told(rt.alloc(), 128, moov, moof.as_slice(), 584, payload)?;
-        let Ok((taken, misplaced)) = told else {
+        let outcome = outcome(rt.alloc(), 128, moov, moof.as_slice(), 584, payload)?;
+        let Ok((taken, misplaced)) = outcome else {
             return Err("a refusal".into());
         };
         let place = 584 + i128::from(offset);
@@ -288,7 +288,7 @@ fn runs_without_bytes_share_none(rt: HostRuntime) -> Result<(), Fail> {
         push_box(&mut trafs, b"traf", &[TFHD, TFDT, FIVE, own])?;
         push_box(&mut trafs, b"traf", &[OF_2, TFDT, other])?;
         let moof = moof_of(rt.alloc(), &[trafs.as_slice()])?;
-        let told = told(
+        let outcome = outcome(
             rt.alloc(),
             192,
             &V2.as_slice()[20..584],
@@ -296,7 +296,7 @@ fn runs_without_bytes_share_none(rt: HostRuntime) -> Result<(), Fail> {
             584,
             payload,
         )?;
-        let Ok((taken, misplaced)) = told else {
+        let Ok((taken, misplaced)) = outcome else {
             return Err("a refusal".into());
         };
         // Those at one place are taken as they are listed.

@@ -42,7 +42,7 @@ fn first_run<'a>(moof: &Moof<'a>, held: &[u8], list: &'a TrackList) -> Option<Ru
     first_of(traf.runs(), held)
 }
 
-/// The pieces of a run. Those that are found from a cursor behind each are the same.
+/// The pieces of a run. Those that are found from a cursor after each are the same.
 fn pieces_of(alloc: Global, run: &Run, held: &[u8], cut: &Cut) -> Result<Vec<Piece>, Fail>
     requires { IsRunOf held.now run.now }
 {
@@ -55,7 +55,7 @@ fn pieces_of(alloc: Global, run: &Run, held: &[u8], cut: &Cut) -> Result<Vec<Pie
     for piece in Pieces::of(run, held, cut) {
         pieces.push(piece)?;
         if next_piece(run, held, cut, &mut at) != Some(piece) {
-            return Err("another piece behind a cursor".into());
+            return Err("another piece after a cursor".into());
         }
     }
     if next_piece(run, held, cut, &mut at).is_some() {
@@ -80,7 +80,7 @@ fn read(alloc: Global, list: &TrackList, moof: &[u8], cut: &Cut) -> Result<Vec<P
 }
 
 /// The same, with the tracks of V1.
-fn told(alloc: Global, moof: &[u8], cut: &Cut) -> Result<Vec<Piece>, Fail> {
+fn outcome(alloc: Global, moof: &[u8], cut: &Cut) -> Result<Vec<Piece>, Fail> {
     let moov = &V1.as_slice()[20..364];
     if !is_box(moov) {
         return Err("no box".into());
@@ -88,9 +88,9 @@ fn told(alloc: Global, moof: &[u8], cut: &Cut) -> Result<Vec<Piece>, Fail> {
     let mut ledger = Ledger::new(alloc, 1000);
     match tracks(&mut ledger, moov, 20) {
         Ok(list) => {
-            let told = read(alloc, &list, moof, cut);
+            let outcome = read(alloc, &list, moof, cut);
             list.back(&mut ledger);
-            told
+            outcome
         }
         Err(_) => Err("no tracks".into()),
     }
@@ -106,7 +106,7 @@ fn cut_by((samples, bytes, sync): Asked) -> Result<Cut, Fail> {
     }
 }
 
-/// A trun with a data_offset of 104: its version and flags, its count, and the fields behind the
+/// A trun with a data_offset of 104: its version and flags, its count, and the fields after the
 /// data_offset.
 fn trun_of(alloc: Global, full: u32, count: u32, fields: &[u32]) -> Result<Vec<u8>, Fail> {
     let mut content = Vec::new(alloc);
@@ -146,7 +146,7 @@ fn check(
         })?;
     }
     assert_eq!(rt;
-        told(alloc, moof.as_slice(), &cut)?.as_slice(),
+        outcome(alloc, moof.as_slice(), &cut)?.as_slice(),
         pieces.as_slice(),
         "{asked:?}"
     );
@@ -255,7 +255,7 @@ fn check_least(
     let moof = one_traf(alloc, &[TFHD, TFDT, trun.as_slice()])?;
     let cut = cut_by((samples, None, false))?;
     let mut least = Vec::new(alloc);
-    for piece in told(alloc, moof.as_slice(), &cut)? {
+    for piece in outcome(alloc, moof.as_slice(), &cut)? {
         least.push(piece.least)?;
     }
     assert_eq!(rt; least.as_slice(), expected);

@@ -1,4 +1,4 @@
-//! Whether the pieces of a moof have room for their numbers.
+//! Whether there is room for the numbers of the pieces of a moof.
 
 use super::{TFDT, TFHD, TRUN, fault, moof_of, one_traf, push_box, traf_of};
 use mp4_box::vectors::{V1, V2};
@@ -11,12 +11,12 @@ use std::alloc::Global;
 use std::process::Abort;
 use std::test::Fail;
 
-/// The number behind the pieces of a moof, or its fault, and how many rows are counted as read for
+/// The number after the pieces of a moof, or its fault, and how many rows are counted as read for
 /// it.
-type Told = (Result<u64, Fault>, u128);
+type Outcome = (Result<u64, Fault>, u128);
 
-/// What a moof comes to that begins at this offset, where its first piece has this number.
-fn read(list: &TrackList, moof: &[u8], at: u32, cut: &Cut, seq: u64) -> Result<Told, Fail> {
+/// Result of reading a moof that begins at this offset, where its first piece has this number.
+fn read(list: &TrackList, moof: &[u8], at: u32, cut: &Cut, seq: u64) -> Result<Outcome, Fail> {
     if seq > 1 << 32 || moof.len() > 67_108_864 || !is_box(moof) {
         return Err("no box".into());
     }
@@ -30,14 +30,14 @@ fn read(list: &TrackList, moof: &[u8], at: u32, cut: &Cut, seq: u64) -> Result<T
 }
 
 /// The same, with the tracks of a moov that begins at 20.
-fn told(
+fn outcome(
     alloc: Global,
     moov: &[u8],
     moof: &[u8],
     at: u32,
     asked: (u32, bool),
     seq: u64,
-) -> Result<Told, Fail> {
+) -> Result<Outcome, Fail> {
     if moov.len() > 16_777_216 || !is_box(moov) {
         return Err("no box".into());
     }
@@ -47,19 +47,19 @@ fn told(
     let mut ledger = Ledger::new(alloc, 1000);
     match tracks(&mut ledger, moov, 20) {
         Ok(list) => {
-            let told = read(&list, moof, at, &cut, seq);
+            let outcome = read(&list, moof, at, &cut, seq);
             list.back(&mut ledger);
-            told
+            outcome
         }
         Err(_) => Err("no tracks".into()),
     }
 }
 
 /// How many samples a piece has and whether an index is asked for; the number of the first piece;
-/// and the number behind the last, or the fault.
+/// and the number after the last, or the fault.
 type Case = ((u32, bool), u64, Result<u64, Option<Fault>>);
 
-/// What a moof at 364 comes to, with V1's track. Its samples are counted twice.
+/// Result of reading a moof at 364, with V1's track. Its samples are counted twice.
 fn check(
     rt: &impl Abort,
     alloc: Global,
@@ -68,7 +68,7 @@ fn check(
     cases: &[Case],
 ) -> Result<(), Fail> {
     for (asked, seq, expected) in cases {
-        let (next, rows) = told(alloc, &V1.as_slice()[20..364], moof, 364, *asked, *seq)?;
+        let (next, rows) = outcome(alloc, &V1.as_slice()[20..364], moof, 364, *asked, *seq)?;
         assert_eq!(rt; next.map_err(Some), *expected, "{asked:?} {seq}");
         assert_eq!(rt; rows, samples.saturating_mul(2));
     }
@@ -127,7 +127,7 @@ fn numbers_have_an_end(rt: HostRuntime) -> Result<(), Fail> {
 #[test]
 fn runs_are_counted_together(rt: HostRuntime) -> Result<(), Fail> {
     let v2 = V2.as_slice();
-    let (next, rows) = told(rt.alloc(), &v2[20..584], &v2[584..748], 584, (2, true), 1)?;
+    let (next, rows) = outcome(rt.alloc(), &v2[20..584], &v2[584..748], 584, (2, true), 1)?;
     assert_eq!(rt; next, Ok(4));
     assert_eq!(rt; rows, 10);
     Ok(())
@@ -147,11 +147,11 @@ fn groups_begin_in_time(rt: HostRuntime) -> Result<(), Fail> {
         &[
             ((2, true), 1, index_range(428)),
             ((2, false), 1, Ok(3)),
-            // The lower rule is told.
+            // The lower rule is reported.
             ((1, true), 4_294_967_295, index_range(428)),
         ],
     )?;
-    // The first piece of a group alone is looked at.
+    // Only the first piece of a group is checked.
     let second = words_of(alloc, b"trun", &[0x0100_0801, 3, 104, 0, 0xffff_f000, 0])?;
     let moof = one_traf(alloc, &[TFHD, TFDT, second.as_slice()])?;
     check(

@@ -1,11 +1,11 @@
-//! The first and the last run of a moof, the run behind the first, and a run that has no other.
+//! The first and the last run of a moof, the run after the first, and a run that has no other.
 
 ghost use Rattle.std.specs.Prelude.{◌≡◌, ◌<◌, ◌+◌, ◌*◌, ◌^◌, ◌≤◌, length};
 ghost use Rattle.mp4_frag.specs.Moofs.{IsRead};
 
 use mp4_box::is_box;
 use mp4_box::vectors::{V1, V2, V3};
-use mp4_frag::{LoneRun, Moof, Payload, Run, Steps};
+use mp4_frag::{Moof, Payload, Run, SingleRun, Steps};
 use mp4_init::{TrackList, tracks};
 use mp4_ledger::Ledger;
 use std::alloc::Global;
@@ -13,7 +13,7 @@ use std::test::Fail;
 
 /// A run as far as it is compared.
 #[derive(Clone, Copy, Debug, PartialEq, Eq)]
-struct Told {
+struct Outcome {
     track: u32,
     time: u64,
     end: u64,
@@ -27,7 +27,7 @@ struct Told {
     sizes: (u32, u32),
 }
 
-const NONE: Told = Told {
+const NONE: Outcome = Outcome {
     track: 0,
     time: 0,
     end: 0,
@@ -40,29 +40,29 @@ const NONE: Told = Told {
 };
 
 /// A run, and how many samples the next has.
-fn tell_run(held: &[u8], run: &Run, next: Option<Run>) -> Told {
-    let mut told = NONE;
-    told.track = run.track;
-    told.time = run.time;
-    told.end = run.end;
-    told.place = run.place;
-    told.bytes = run.bytes;
-    told.offset = run.offset;
-    told.counts = (run.count, next.map_or(0, |next| next.count));
+fn outcome_of_run(held: &[u8], run: &Run, next: Option<Run>) -> Outcome {
+    let mut outcome = NONE;
+    outcome.track = run.track;
+    outcome.time = run.time;
+    outcome.end = run.end;
+    outcome.place = run.place;
+    outcome.bytes = run.bytes;
+    outcome.offset = run.offset;
+    outcome.counts = (run.count, next.map_or(0, |next| next.count));
     let mut rows = run.rows(held);
     if let Some(first) = rows.next() {
-        told.flags = (first.flags, first.flags);
-        told.sizes = (first.size, first.size);
+        outcome.flags = (first.flags, first.flags);
+        outcome.sizes = (first.size, first.size);
     }
     for row in rows {
-        told.flags.1 = row.flags;
-        told.sizes.1 = row.size;
+        outcome.flags.1 = row.flags;
+        outcome.sizes.1 = row.size;
     }
-    told
+    outcome
 }
 
 /// The first run of a moof whose first traf has one, and the last run of its last traf.
-fn tell_runs<'a>(moof: &Moof<'a>, held: &[u8], list: &'a TrackList) -> (Told, Told)
+fn outcome_of_runs<'a>(moof: &Moof<'a>, held: &[u8], list: &'a TrackList) -> (Outcome, Outcome)
     requires { IsRead moof.now list.now }
 {
     let mut first = NONE;
@@ -70,21 +70,25 @@ fn tell_runs<'a>(moof: &Moof<'a>, held: &[u8], list: &'a TrackList) -> (Told, To
     if let Some(traf) = trafs.next() {
         let mut runs = traf.runs();
         if let Some(run) = runs.next() {
-            first = tell_run(held, &run, run.after(moof, list));
+            first = outcome_of_run(held, &run, run.after(moof, list));
         }
     }
     let mut last = first;
     for traf in moof.trafs(list) {
         for run in traf.runs() {
-            last = tell_run(held, &run, None);
+            last = outcome_of_run(held, &run, None);
         }
     }
     (first, last)
 }
 
-/// The first run and the last of the moof of a stream, which is its bytes from one offset to another. Its moov stands
+/// The first run and the last of the moof of a stream, which is its bytes from one offset to another. Its moov is
 /// before it.
-fn first_and_last(alloc: Global, stream: &[u8], moof: (usize, usize)) -> Option<(Told, Told)> {
+fn first_and_last(
+    alloc: Global,
+    stream: &[u8],
+    moof: (usize, usize),
+) -> Option<(Outcome, Outcome)> {
     let (begin, end) = moof;
     if stream.len() > 1000 || begin < 20 || begin > end || end > stream.len() {
         return None;
@@ -96,33 +100,34 @@ fn first_and_last(alloc: Global, stream: &[u8], moof: (usize, usize)) -> Option<
     let mut ledger = Ledger::new(alloc, 1000);
     let list = tracks(&mut ledger, moov, 20).ok()?;
     let mut steps = Steps { rows: 0 };
-    let told = match Moof::read(held, begin as u64, &list, &mut steps) {
-        Ok(moof) => Some(tell_runs(&moof, held, &list)),
+    let outcome = match Moof::read(held, begin as u64, &list, &mut steps) {
+        Ok(moof) => Some(outcome_of_runs(&moof, held, &list)),
         Err(_) => None,
     };
     list.back(&mut ledger);
-    told
+    outcome
 }
 
 /// A run that has no other.
 #[derive(Clone, Copy, Debug, PartialEq, Eq)]
-struct Lone {
-    run: Told,
-    /// Whether it stands where it may in the payload of its mdat.
-    stands: bool,
-    /// Where its track ends behind it.
+struct Single {
+    run: Outcome,
+    /// Whether it may lie where it does in the payload of its mdat.
+    is_placed: bool,
+    /// Where its track ends after it.
     next: u64,
     /// How many rows were counted.
     rows: u128,
 }
 
-/// The run of the moof of a stream, where it has no other. The payload of its mdat begins 8 bytes behind it, and ends at an offset.
-fn lone_of(
+/// The run of the moof of a stream, where it has no other. The payload of its mdat begins 8 bytes after it, and ends at
+/// an offset.
+fn single_of(
     alloc: Global,
     stream: &[u8],
     (begin, end): (usize, usize),
     payload_end: u64,
-) -> Option<Lone> {
+) -> Option<Single> {
     if stream.len() > 1000 || begin < 20 || begin > end || end > stream.len() {
         return None;
     }
@@ -133,36 +138,36 @@ fn lone_of(
     let mut ledger = Ledger::new(alloc, 1000);
     let mut list = tracks(&mut ledger, moov, 20).ok()?;
     let mut steps = Steps { rows: 0 };
-    let mut lone = None;
-    if let Ok(Some(found)) = LoneRun::read(held, begin as u64, &list, &mut steps) {
+    let mut single = None;
+    if let Ok(Some(found)) = SingleRun::read(held, begin as u64, &list, &mut steps) {
         let payload = Payload {
             start: end as u64 + 8,
             end: Some(payload_end),
         };
         if found.track < list.len() {
             found.settle(&mut list);
-            lone = Some(Lone {
-                run: tell_run(held, &found.run, None),
-                stands: found.places(payload).is_ok(),
+            single = Some(Single {
+                run: outcome_of_run(held, &found.run, None),
+                is_placed: found.places(payload).is_ok(),
                 next: list.at(found.track).next,
                 rows: steps.rows,
             });
         }
     }
     list.back(&mut ledger);
-    lone
+    single
 }
 
-/// A run of V1's usual flags: its track, time and end; its place, bytes and trun; its count, and that of the next run; the
+/// A run of V1's common flags: its track, time and end; its place, bytes and trun; its count, and that of the next run; the
 /// sizes of its first sample and of its last.
-fn usual(
+fn common_run(
     track: u32,
     (time, end): (u64, u64),
     (place, bytes, offset): (i128, u64, u64),
     counts: (u32, u32),
     sizes: (u32, u32),
-) -> Told {
-    Told {
+) -> Outcome {
+    Outcome {
         track,
         time,
         end,
@@ -177,7 +182,7 @@ fn usual(
 
 #[test]
 fn one_run(rt: HostRuntime) {
-    let run = usual(1, (0, 3072), (468, 15, 428), (3, 0), (5, 3));
+    let run = common_run(1, (0, 3072), (468, 15, 428), (3, 0), (5, 3));
     assert_eq!(rt;
         first_and_last(rt.alloc(), V1.as_slice(), (364, 460)),
         Some((run, run))
@@ -186,8 +191,8 @@ fn one_run(rt: HostRuntime) {
 
 #[test]
 fn two_trafs(rt: HostRuntime) {
-    let first = usual(1, (0, 3072), (756, 15, 648), (3, 2), (5, 3));
-    let last = usual(2, (0, 2048), (771, 8, 720), (2, 0), (4, 4));
+    let first = common_run(1, (0, 3072), (756, 15, 648), (3, 2), (5, 3));
+    let last = common_run(2, (0, 2048), (771, 8, 720), (2, 0), (4, 4));
     assert_eq!(rt;
         first_and_last(rt.alloc(), V2.as_slice(), (584, 748)),
         Some((first, last))
@@ -196,8 +201,8 @@ fn two_trafs(rt: HostRuntime) {
 
 #[test]
 fn two_runs_in_a_traf(rt: HostRuntime) {
-    let first = usual(1, (0, 1024), (792, 5, 648), (1, 1), (5, 5));
-    let last = usual(2, (1024, 2048), (808, 4, 760), (1, 0), (4, 4));
+    let first = common_run(1, (0, 1024), (792, 5, 648), (1, 1), (5, 5));
+    let last = common_run(2, (1024, 2048), (808, 4, 760), (1, 0), (4, 4));
     assert_eq!(rt;
         first_and_last(rt.alloc(), V3.as_slice(), (584, 784)),
         Some((first, last))
@@ -207,19 +212,25 @@ fn two_runs_in_a_traf(rt: HostRuntime) {
 #[test]
 fn a_run_that_has_no_other(rt: HostRuntime) {
     let stream = V1.as_slice();
-    let mut lone = Lone {
-        run: usual(1, (0, 3072), (468, 15, 428), (3, 0), (5, 3)),
-        stands: true,
+    let mut single = Single {
+        run: common_run(1, (0, 3072), (468, 15, 428), (3, 0), (5, 3)),
+        is_placed: true,
         next: 3072,
         rows: 6,
     };
-    assert_eq!(rt; lone_of(rt.alloc(), stream, (364, 460), 483), Some(lone));
-    lone.stands = false;
-    assert_eq!(rt; lone_of(rt.alloc(), stream, (364, 460), 482), Some(lone));
+    assert_eq!(rt;
+        single_of(rt.alloc(), stream, (364, 460), 483),
+        Some(single)
+    );
+    single.is_placed = false;
+    assert_eq!(rt;
+        single_of(rt.alloc(), stream, (364, 460), 482),
+        Some(single)
+    );
 }
 
 #[test]
 fn runs_that_have_others(rt: HostRuntime) {
-    assert_eq!(rt; lone_of(rt.alloc(), V2.as_slice(), (584, 748), 779), None);
-    assert_eq!(rt; lone_of(rt.alloc(), V3.as_slice(), (584, 784), 812), None);
+    assert_eq!(rt; single_of(rt.alloc(), V2.as_slice(), (584, 748), 779), None);
+    assert_eq!(rt; single_of(rt.alloc(), V3.as_slice(), (584, 784), 812), None);
 }

@@ -12,7 +12,7 @@ use std::alloc::Global;
 use std::process::Abort;
 use std::test::Fail;
 
-/// A sample as its moof tells it.
+/// A sample as its moof has it.
 #[derive(Clone, Copy, Debug, PartialEq, Eq)]
 struct Sample {
     track: u32,
@@ -25,7 +25,7 @@ struct Sample {
     place: i128,
 }
 
-/// A sample of V1's track, with its usual duration, flags and entry.
+/// A sample of V1's track, with its default duration, flags and entry.
 fn of_1(time: u64, size: u32, place: i128) -> Sample {
     Sample {
         track: 1,
@@ -108,9 +108,9 @@ fn read(
             push_run(&run, moof, &mut samples)?;
         }
     }
-    // What was read is charged, and no more.
+    // What was read is counted, and no more.
     if steps.rows != u128::from(read.samples()) || samples.len() as u128 != steps.rows {
-        return Err("other rows are charged".into());
+        return Err("other rows are counted".into());
     }
     read.settle(list, &mut steps);
     let mut ends = Vec::new(alloc);
@@ -121,7 +121,12 @@ fn read(
 }
 
 /// The same, with the tracks of a moov that begins at 20.
-fn told(alloc: Global, moov: &[u8], moof: &[u8], at: u32) -> Result<(Vec<Sample>, Vec<u64>), Fail> {
+fn outcome(
+    alloc: Global,
+    moov: &[u8],
+    moof: &[u8],
+    at: u32,
+) -> Result<(Vec<Sample>, Vec<u64>), Fail> {
     if moov.len() > 16_777_216 || !is_box(moov) {
         return Err("no box".into());
     }
@@ -129,15 +134,15 @@ fn told(alloc: Global, moov: &[u8], moof: &[u8], at: u32) -> Result<(Vec<Sample>
     match tracks(&mut ledger, moov, 20) {
         Ok(list) => {
             let mut list = list;
-            let told = read(alloc, &mut list, moof, at);
+            let outcome = read(alloc, &mut list, moof, at);
             list.back(&mut ledger);
-            told
+            outcome
         }
         Err(_) => Err("no tracks".into()),
     }
 }
 
-/// What a moof at 364 comes to, of which these are the boxes of its only traf, with V1's track.
+/// Result of reading a moof at 364, of which these are the boxes of its only traf, with V1's track.
 fn check_traf(
     rt: &impl Abort,
     alloc: Global,
@@ -146,7 +151,7 @@ fn check_traf(
     end: u64,
 ) -> Result<(), Fail> {
     let moof = one_traf(alloc, boxes)?;
-    let (samples, ends) = told(alloc, &V1.as_slice()[20..364], moof.as_slice(), 364)?;
+    let (samples, ends) = outcome(alloc, &V1.as_slice()[20..364], moof.as_slice(), 364)?;
     assert_eq!(rt; samples.as_slice(), expected, "{boxes:?}");
     assert_eq!(rt; ends.as_slice(), &[end][..]);
     Ok(())
@@ -155,13 +160,13 @@ fn check_traf(
 #[test]
 fn vectors_have_these_samples(rt: HostRuntime) -> Result<(), Fail> {
     let v1 = V1.as_slice();
-    let (samples, ends) = told(rt.alloc(), &v1[20..364], &v1[364..460], 364)?;
+    let (samples, ends) = outcome(rt.alloc(), &v1[20..364], &v1[364..460], 364)?;
     let first = [of_1(0, 5, 468), of_1(1024, 7, 473), of_1(2048, 3, 480)];
     assert_eq!(rt; samples.as_slice(), &first[..]);
     assert_eq!(rt; ends.as_slice(), &[3072][..]);
 
     let v2 = V2.as_slice();
-    let (samples, ends) = told(rt.alloc(), &v2[20..584], &v2[584..748], 584)?;
+    let (samples, ends) = outcome(rt.alloc(), &v2[20..584], &v2[584..748], 584)?;
     let both = [
         of_1(0, 5, 756),
         of_1(1024, 7, 761),
@@ -173,7 +178,7 @@ fn vectors_have_these_samples(rt: HostRuntime) -> Result<(), Fail> {
     assert_eq!(rt; ends.as_slice(), &[3072, 2048][..]);
 
     let v3 = V3.as_slice();
-    let (samples, ends) = told(rt.alloc(), &v3[20..584], &v3[584..784], 584)?;
+    let (samples, ends) = outcome(rt.alloc(), &v3[20..584], &v3[584..784], 584)?;
     let listed = [
         of_1(0, 5, 792),
         of_1(1024, 7, 801),
@@ -186,7 +191,7 @@ fn vectors_have_these_samples(rt: HostRuntime) -> Result<(), Fail> {
 }
 
 #[test]
-fn defaults_stand_in(rt: HostRuntime) -> Result<(), Fail> {
+fn defaults_serve(rt: HostRuntime) -> Result<(), Fail> {
     const TICKS_512: &[u8] = b"\0\0\0\x14tfhd\0\x02\0\x08\0\0\0\x01\0\0\x02\0";
     const SIZE_9: &[u8] = b"\0\0\0\x14tfhd\0\x02\0\x10\0\0\0\x01\0\0\0\x09";
     const NO_SYNC: &[u8] = b"\0\0\0\x14tfhd\0\x02\0\x20\0\0\0\x01\x01\x01\0\0";
@@ -360,7 +365,7 @@ fn times_begin_with_the_tfdt_or_follow(rt: HostRuntime) -> Result<(), Fail> {
     push_box(&mut trafs, b"traf", &[TFHD, AT_9000, ONE])?;
     push_box(&mut trafs, b"traf", &[TFHD, TFDT, TRUN])?;
     let moof = moof_of(rt.alloc(), &[trafs.as_slice()])?;
-    let (samples, ends) = told(rt.alloc(), &V1.as_slice()[20..364], moof.as_slice(), 364)?;
+    let (samples, ends) = outcome(rt.alloc(), &V1.as_slice()[20..364], moof.as_slice(), 364)?;
     let both = [
         of_1(9000, 0, 468),
         of_1(0, 5, 468),
@@ -374,7 +379,7 @@ fn times_begin_with_the_tfdt_or_follow(rt: HostRuntime) -> Result<(), Fail> {
 
 #[test]
 fn a_fragment_follows(rt: HostRuntime) -> Result<(), Fail> {
-    // V1's moof without its tfdt, behind another that ended at 3,072.
+    // V1's moof without its tfdt, after another that ended at 3,072.
     let moof = one_traf(rt.alloc(), &[TFHD, TRUN])?;
     let mut ledger = Ledger::new(rt.alloc(), 1 << 30);
     let moov = &V1.as_slice()[20..364];
@@ -388,9 +393,9 @@ fn a_fragment_follows(rt: HostRuntime) -> Result<(), Fail> {
     if !list.is_empty() {
         list.set_next(0, 3072);
     }
-    let told = read(rt.alloc(), &mut list, moof.as_slice(), 483);
+    let outcome = read(rt.alloc(), &mut list, moof.as_slice(), 483);
     list.back(&mut ledger);
-    let (samples, ends) = told?;
+    let (samples, ends) = outcome?;
     let first = [of_1(3072, 5, 587), of_1(4096, 7, 592), of_1(5120, 3, 599)];
     assert_eq!(rt; samples.as_slice(), &first[..]);
     assert_eq!(rt; ends.as_slice(), &[6144][..]);

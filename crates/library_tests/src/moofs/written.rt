@@ -131,9 +131,9 @@ fn written(
     let mut ledger = Ledger::new(alloc, 1000);
     match tracks(&mut ledger, moov, 20) {
         Ok(list) => {
-            let told = written_by(alloc, &list, moof, &cut, room);
+            let outcome = written_by(alloc, &list, moof, &cut, room);
             list.back(&mut ledger);
-            told
+            outcome
         }
         Err(_) => Err("no tracks".into()),
     }
@@ -204,7 +204,7 @@ fn check_fields(
 }
 
 #[test]
-fn data_stands_behind_its_header(rt: HostRuntime) -> Result<(), Fail> {
+fn data_follows_its_header(rt: HostRuntime) -> Result<(), Fail> {
     const LONG: &[u8] =
         b"\0\0\0\x20trun\0\0\x02\x01\0\0\0\x03\0\0\0\x68\x80\0\0\0\x7f\xff\xff\xf8\0\0\0\0";
     const SHORT: &[u8] =
@@ -316,7 +316,7 @@ fn an_mdat_has_a_header(rt: HostRuntime) -> Result<(), Fail> {
     Ok(())
 }
 
-/// Puts the moof of the first piece behind what waits.
+/// Puts the moof of the first piece after what waits.
 fn put_first<W: Sink>(
     run: &Run,
     held: &[u8],
@@ -332,7 +332,7 @@ fn put_first<W: Sink>(
     put_moof(&first, run, held, 1, block, w)
 }
 
-/// What became of a moof that was put behind bytes that wait.
+/// What became of a moof that was put after bytes that wait.
 #[derive(Clone, Copy, Debug, PartialEq, Eq)]
 struct Gone {
     /// Whether the sink failed meanwhile.
@@ -343,7 +343,7 @@ struct Gone {
     waits: usize,
 }
 
-/// Puts the moof of the first piece of a moof behind so many bytes that wait, on its way to a sink with so much room.
+/// Puts the moof of the first piece of a moof after so many bytes that wait, on its way to a sink with so much room.
 fn gone_by(
     alloc: Global,
     list: &TrackList,
@@ -396,9 +396,9 @@ fn gone_of(alloc: Global, samples: u32, waiting: usize, room: usize) -> Result<G
     let mut ledger = Ledger::new(alloc, 1000);
     match tracks(&mut ledger, moov, 20) {
         Ok(list) => {
-            let told = gone_by(alloc, &list, moof.as_slice(), &cut, waiting, room);
+            let outcome = gone_by(alloc, &list, moof.as_slice(), &cut, waiting, room);
             list.back(&mut ledger);
-            told
+            outcome
         }
         Err(_) => Err("no tracks".into()),
     }
@@ -423,11 +423,11 @@ fn a_moof_goes_out_sample_by_sample(rt: HostRuntime) -> Result<(), Fail> {
         (2_100, 0, 100_000, false, 32_764, 928),
         (2_100, 0, 32_763, true, 32_763, 0),
     ] {
-        let told = gone_of(alloc, samples, waiting, room)?;
+        let outcome = gone_of(alloc, samples, waiting, room)?;
         assert_eq!(rt;
-            told,
+            outcome,
             Gone { failed, out, waits },
-            "{samples} behind {waiting} into {room}"
+            "{samples} after {waiting} into {room}"
         );
     }
     Ok(())

@@ -1,6 +1,6 @@
 //! What is at fault with a moov.
 
-use super::{Told, fault, grown, told};
+use super::{Outcome, fault, grown, outcome};
 use mp4_box::Rule;
 use mp4_box::vectors::{V1, V2};
 use std::alloc::Global;
@@ -20,29 +20,33 @@ fn changed(alloc: Global, moov: &[u8], changes: &[(usize, u8)]) -> Result<Vec<u8
     Ok(bytes)
 }
 
-/// What a moov comes to with each of these changes.
+/// Result of reading a moov with each of these changes.
 fn check_changed(
     rt: &impl Abort,
     alloc: Global,
     moov: &[u8],
-    rows: &[(&[(usize, u8)], Told)],
+    rows: &[(&[(usize, u8)], Outcome)],
 ) -> Result<(), Fail> {
     for (changes, expected) in rows {
         let bytes = changed(alloc, moov, changes)?;
-        assert_eq!(rt; told(alloc, bytes.as_slice()), *expected, "{changes:?}");
+        assert_eq!(rt; outcome(alloc, bytes.as_slice()), *expected, "{changes:?}");
     }
     Ok(())
 }
 
-/// What V1's moov comes to with more bytes at an offset, in boxes that grow by them.
+/// Result of reading V1's moov with more bytes at an offset, in boxes that grow by them.
 fn check_more(
     rt: &impl Abort,
     alloc: Global,
-    rows: &[(usize, &[u8], &[usize], Told)],
+    rows: &[(usize, &[u8], &[usize], Outcome)],
 ) -> Result<(), Fail> {
     for (at, more, parents, expected) in rows {
         let moov = grown(alloc, &V1.as_slice()[20..364], *at, more, parents)?;
-        assert_eq!(rt; told(alloc, moov.as_slice()), *expected, "{more:?} at {at}");
+        assert_eq!(rt;
+            outcome(alloc, moov.as_slice()),
+            *expected,
+            "{more:?} at {at}"
+        );
     }
     Ok(())
 }
@@ -53,7 +57,7 @@ const TABLES: &[usize] = &[20, 136, 236, 276, 284];
 #[test]
 fn boxes_are_missing(rt: HostRuntime) -> Result<(), Fail> {
     // Each is missing in its parent, with one letter of its type changed. Without a trex the track is not known.
-    // A version that isn't known comes after what is missing, wherever that stands.
+    // A version that isn't known comes after what is missing, wherever that is.
     check_changed(
         &rt,
         rt.alloc(),
@@ -73,9 +77,9 @@ fn boxes_are_missing(rt: HostRuntime) -> Result<(), Fail> {
 }
 
 #[test]
-fn boxes_stand_twice(rt: HostRuntime) -> Result<(), Fail> {
+fn boxes_occur_twice(rt: HostRuntime) -> Result<(), Fail> {
     let v1 = V1.as_slice();
-    // A tkhd in another place is looked at by no rule but those of the tree.
+    // A tkhd in another place is checked by no rule but those of the tree.
     check_more(
         &rt,
         rt.alloc(),
@@ -107,7 +111,7 @@ fn boxes_stand_twice(rt: HostRuntime) -> Result<(), Fail> {
 
 #[test]
 fn versions(rt: HostRuntime) -> Result<(), Fail> {
-    // Version 1 is longer. The versions of an stsd and of a trex aren't looked at.
+    // Version 1 is longer. The versions of an stsd and of a trex aren't read.
     check_changed(
         &rt,
         rt.alloc(),
@@ -146,7 +150,7 @@ fn table(alloc: Global, kind: &[u8; 4], len: u8, one: Option<u8>) -> Result<Vec<
     Ok(bytes)
 }
 
-/// The tables that tell of samples, and how long their payloads are at least. Their counts stand at the end of that.
+/// The tables of samples, and how long their payloads are at least. Their counts are at the end of that.
 const SAMPLE_TABLES: [(&[u8; 4], u8); 6] = [
     (b"stts", 8),
     (b"stsc", 8),
@@ -180,7 +184,7 @@ fn lengths(rt: HostRuntime) -> Result<(), Fail> {
 #[test]
 fn sample_entries(rt: HostRuntime) -> Result<(), Fail> {
     let all = &[(304, 255), (305, 255), (306, 255), (307, 255)];
-    // More are counted than stand there, or fewer. Then the entry has no room for its header, runs to the end, passes
+    // More are counted than there are, or fewer. Then the entry has no room for its header, runs to the end, passes
     // the end, or has a payload of seven bytes.
     check_changed(
         &rt,
@@ -225,7 +229,7 @@ fn tables_of_samples(rt: HostRuntime) -> Result<(), Fail> {
 #[test]
 fn track_ids(rt: HostRuntime) -> Result<(), Fail> {
     let v1 = V1.as_slice();
-    // Values are looked at after the boxes.
+    // Values are checked after the boxes.
     check_changed(
         &rt,
         rt.alloc(),

@@ -99,7 +99,7 @@ impl<R: io::Read> Source for FromRead<R> {
     }
 }
 
-/// What a read of std's comes to: each of its errors is a failure.
+/// Result of a read of std's: each of its errors is a failure.
 fn read_answer(answer: io::Result<usize>) -> Result<usize, Failed>
     ensures ok { IfOk answer (λ n. result ≡ Ok n) }
     ensures err { OnErr answer (IsErr result) }

@@ -96,7 +96,7 @@ impl<W: io::Write> Sink for IntoWrite<W> {
     }
 }
 
-/// What a write of std's comes to: each of its errors is a failure, and so is a write that takes nothing.
+/// Result of a write of std's: each of its errors is a failure, and so is a write that takes nothing.
 fn write_answer(answer: io::Result<usize>) -> Result<usize, Failed>
     ensures some { IfOk answer (λ n. 0 < n → result ≡ Ok n) }
     ensures none { IfOk answer (λ n. n ≡ 0 → IsErr result) }
@@ -108,7 +108,7 @@ fn write_answer(answer: io::Result<usize>) -> Result<usize, Failed>
     }
 }
 
-/// What a flush of std's comes to: each of its errors is a failure.
+/// Result of a flush of std's: each of its errors is a failure.
 fn flush_answer(answer: io::Result<()>) -> Result<(), Failed>
     ensures ok { OnOk answer (result ≡ Ok tt) }
     ensures err { OnErr answer (IsErr result) }

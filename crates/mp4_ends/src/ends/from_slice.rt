@@ -77,7 +77,7 @@ impl<'a> Source for FromSlice<'a> {
         ensures last { IfOk result (λ n. last_in self.new.state self.new.last ≡ n) }
         ensures last_err { OnErr result (last_in self.new.state self.new.last ≡ 0) }
 
-        // How many, when it fails, and how it stands afterwards.
+        // How many, when it fails, and its state afterwards.
         ensures count { IfOk result (λ n. self.old.state ≡ Open → n ≡ min
             (min (length self.old.left) self.old.step) (length into.old)) }
         ensures step { IfOk result (λ n. n ≤ self.old.step) }

@@ -67,7 +67,7 @@ impl Sink for ToVec {
         ensures failed_ok { OnOk result ((self.old.broken ≡ false) × (self.new.broken ≡ false)) }
         ensures failed_err { OnErr result (self.new.broken ≡ true) }
 
-        // How many, when it fails, and how it stands afterwards.
+        // How many, when it fails, and its state afterwards.
         ensures count { IfOk result (λ n. n ≡ min (min (length from.now) self.old.step)
             (self.old.room - length self.old.taken)) }
         ensures fails { OnErr result ((self.old.broken ≡ true) ⊎
@@ -96,7 +96,7 @@ impl Sink for ToVec {
         ensures failed_ok { OnOk result ((self.old.broken ≡ false) × (self.new.broken ≡ false)) }
         ensures failed_err { OnErr result (self.new.broken ≡ true) }
 
-        // When it fails, and how it stands afterwards.
+        // When it fails, and its state afterwards.
         ensures flushes { IsOk result ↔ ((self.old.broken ≡ false) × (self.old.flushes ≡ true)) }
         ensures after { OnOk result (self.new ≡ self.old) }
         ensures after_err { OnErr result (self.new ≡ record self.old { broken = true }) }

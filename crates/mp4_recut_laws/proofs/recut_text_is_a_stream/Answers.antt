@@ -19,5 +19,5 @@ returns-clause-samples c = samples_stay
 pub returns-clause-one_list : goal.returns-clause-one_list
 returns-clause-one_list c = one_list
 
-pub returns-clause-told : goal.returns-clause-told
-returns-clause-told c = λ cut b tell held sound. (text_laws cut b held sound).samples tell
+pub returns-clause-reported : goal.returns-clause-reported
+returns-clause-reported c = λ cut b report held sound. (text_laws cut b held sound).samples report

@@ -6,13 +6,13 @@ use Rattle.fmp4_c.proofs.HoldLemmas.{the-run}
 use Rattle.fmp4_c.proofs.exports.fmp4_finish.Goals as goal
 
 pub returns-in-Some-clause-finishes : goal.returns-in-Some-clause-finishes
-returns-in-Some-clause-finishes c = λ plan b given h. (
+returns-in-Some-clause-finishes c = λ operation b given h. (
   c.finish-answer.result,
   c.number.ensures,
-  c.finish-answer.ensures.finishes plan b given (subst (λ (x : Run). Holds plan b given x) (the-run _ _ _ _ h.0 c.in-Some.ensures (ap (λ (x : Handle). x.held) c.replace.ensures.value) c.deref_mut.ensures.value h.1) h.2),
+  c.finish-answer.ensures.finishes operation b given (subst (λ (x : Run). Holds operation b given x) (the-run _ _ _ _ h.0 c.in-Some.ensures (ap (λ (x : Handle). x.held) c.replace.ensures.value) c.deref_mut.ensures.value h.1) h.2),
 )
 
 pub returns-in-Some-clause-stopped : goal.returns-in-Some-clause-stopped
 returns-in-Some-clause-stopped c = λ r p e here pushes stop.
-    let told = c.finish-answer.ensures.stopped p e (subst (λ (x : Run). x.feeding ≡ Some p) (the-run _ _ _ _ r c.in-Some.ensures (ap (λ (x : Handle). x.held) c.replace.ensures.value) c.deref_mut.ensures.value here) pushes) stop in
-    (c.number.ensures ∙ ap number_of told.0, told.1)
+    let reported = c.finish-answer.ensures.stopped p e (subst (λ (x : Run). x.feeding ≡ Some p) (the-run _ _ _ _ r c.in-Some.ensures (ap (λ (x : Handle). x.held) c.replace.ensures.value) c.deref_mut.ensures.value here) pushes) stop in
+    (c.number.ensures ∙ ap number_of reported.0, reported.1)

@@ -3,9 +3,9 @@ use Rattle.clap.proofs.OnLiterals.{clap_on_literals}
 use Rattle.fmp4_program.specs.Words.{command_of, has_flag, invocation_of, needed_number, number_if, number_in, number_or, options_of, program_app, settings_of, split_of}
 use Rattle.fmp4_program.proofs.laws.worked_words.Goals as goal
 
-pub returns-clause-usual_copy : goal.returns-clause-usual_copy
+pub returns-clause-default_copy : goal.returns-clause-default_copy
 unfolding clap_on_literals program_app command_of invocation_of settings_of number_or number_in
-returns-clause-usual_copy c = refl
+returns-clause-default_copy c = refl
 
 pub returns-clause-least_copy : goal.returns-clause-least_copy
 unfolding clap_on_literals program_app command_of invocation_of settings_of number_or number_in

@@ -17,6 +17,6 @@ returns g c =
             runs = rw w.answer-is (rw w.new-ledger-in-Split.ensures at ran.runs);
             within = rw w.new-ledger-in-Split.ensures at ran.within;
             exits = c.status_for.ensures;
-            tells = c.tell_answer.ensures;
+            reports = c.report_answer.ensures;
           })
     ]))

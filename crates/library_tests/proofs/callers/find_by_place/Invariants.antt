@@ -1,9 +1,9 @@
 use Rattle.std.proofs.Common.{◌≡◌, ◌≤◌, length, drop}
 use Rattle.std.specs.List.{fold}
-use Rattle.mp4_run_order.specs.Working.Searches.{place_start, place_step}
+use Rattle.mp4_run_order.specs.Implementation.Searches.{place_start, place_step}
 use Rattle.library_tests.proofs.callers.find_by_place.Given as goal
 
--- what is made of the runs that are left is what is made of all
+-- the result for the runs that are left is the result for all
 abbrev pub invariant-loop-run : goal.invariant-loop-run
 invariant-loop-run l =
     (l.run-index ≤ length l.runs)

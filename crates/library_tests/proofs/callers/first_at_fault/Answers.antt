@@ -2,7 +2,7 @@ use Rattle.std.proofs.Common.{rules, ◌∙◌, ap, ℕ, Option}
 use Rattle.std.specs.List.Sorted.{IsNonDecreasingBy}
 use Rattle.std.proofs.lemmas.List.Sorted.{IsPermutation-trans, IsNonDecreasingBy-from_sort_by_key}
 use Rattle.mp4_run_order.specs.Orders.{place_key, track_key}
-use Rattle.mp4_run_order.specs.Working.Searches.{found_by_place}
+use Rattle.mp4_run_order.specs.Implementation.Searches.{found_by_place}
 use Rattle.mp4_run_order.proofs.OrderLemmas.{order_is_taken, place_keys_order, track_keys_order}
 use Rattle.mp4_run_order.proofs.SearchLemmas.{search_is}
 use Rattle.library_tests.proofs.callers.first_at_fault.Goals as goal

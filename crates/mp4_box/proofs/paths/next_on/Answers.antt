@@ -1,7 +1,7 @@
 use Rattle.std.proofs.Common.{rules, ◌≡◌, ◌∙◌, ◌++◌, ◌<◌, [], ◌∷◌, ℕ, List, drop, sym, ap, subst}
 use Rattle.mp4_box.specs.Trees.{Box, children, view}
 use Rattle.mp4_box.specs.Paths.{left_on}
-use Rattle.mp4_box.proofs.PathLemmas.{left_end, path_from, looks_below, looks_on}
+use Rattle.mp4_box.proofs.PathLemmas.{left_end, path_from, reads_below, reads_on}
 use Rattle.mp4_box.proofs.paths.next_on.Goals as goal
 
 pub returns-then-is_empty-clause-first : goal.returns-then-is_empty-clause-first
@@ -27,6 +27,6 @@ loop-first-smaller-then-is c =
     let new : c.push.new.self.items ++ c.replace.new.dest ∷ [] ≡ (above ++ left ∷ []) ++ children child ∷ [] =
     ap (λ (levels : List (List Box)). levels ++ c.replace.new.dest ∷ []) (c.push.ensures.items ∙ ap (λ (bs : List Box). above ++ bs ∷ []) out)
     ∙ ap (λ (bs : List Box). (above ++ left ∷ []) ++ bs ∷ []) in_place in
-    subst (λ (levels : List (List Box)). looks_on path levels < looks_on path (above ++ c.loop-first.walk ∷ [])) (sym new)
-    (subst (λ (bs : List Box). looks_on path ((above ++ left ∷ []) ++ children child ∷ []) < looks_on path (above ++ bs ∷ [])) (sym old)
-    (looks_below path above c.in-Some.first.0.now c.in-Some.first.1.now child left (ap (λ (n : ℕ). drop n path) (sym c.len.ensures.value) ∙ path_from path c.len.result _ c.in-Some.ensures.cases.0) (search rules)))
+    subst (λ (levels : List (List Box)). reads_on path levels < reads_on path (above ++ c.loop-first.walk ∷ [])) (sym new)
+    (subst (λ (bs : List Box). reads_on path ((above ++ left ∷ []) ++ children child ∷ []) < reads_on path (above ++ bs ∷ [])) (sym old)
+    (reads_below path above c.in-Some.first.0.now c.in-Some.first.1.now child left (ap (λ (n : ℕ). drop n path) (sym c.len.ensures.value) ∙ path_from path c.len.result _ c.in-Some.ensures.cases.0) (search rules)))

@@ -1,6 +1,6 @@
 use Rattle.std.proofs.Common.{◌≡◌, ◌<◌, ◌++◌, ◌∷◌, [], length}
 use Rattle.mp4_box.specs.Paths.{left_on}
-use Rattle.mp4_box.proofs.PathLemmas.{looks_on}
+use Rattle.mp4_box.proofs.PathLemmas.{reads_on}
 use Rattle.mp4_box.proofs.paths.next_on.Given as goal
 
 abbrev pub invariant-loop-first : goal.invariant-loop-first
@@ -10,4 +10,4 @@ invariant-loop-first l = record {
 }
 
 abbrev pub decreases-loop-first : goal.decreases-loop-first
-decreases-loop-first l = looks_on l.path (l.above.items ++ l.walk ∷ [])
+decreases-loop-first l = reads_on l.path (l.above.items ++ l.walk ∷ [])

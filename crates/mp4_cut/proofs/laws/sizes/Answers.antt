@@ -8,7 +8,7 @@ use Rattle.mp4_cut.proofs.ReadLemmas.{length_mdat}
 use Rattle.mp4_cut.proofs.laws.sizes.Goals as goal
 
 pub returns-clause-moof : goal.returns-clause-moof
-returns-clause-moof c piece run held seq is = length_moof (written_fragment held run piece) seq ∙ ap moof_size (count_is held run piece is)
+returns-clause-moof c piece run moof_bytes seq is = length_moof (written_fragment moof_bytes run piece) seq ∙ ap moof_size (count_is moof_bytes run piece is)
 
 pub returns-clause-mdat : goal.returns-clause-mdat
 returns-clause-mdat c bytes = length_mdat bytes

@@ -10,13 +10,13 @@ use Rattle.mp4_cut.proofs.moof.put_moof.Goals as goal
 
 pub put_plain_moof-requires-clause-piece : goal.put_plain_moof-requires-clause-piece
 put_plain_moof-requires-clause-piece g c =
-    let held = c.args.held.now in
+    let moof_bytes = c.args.moof_bytes.now in
     let run = c.args.run.now in
-    subst (λ (p : Piece). IsPieceOf held run p) (sym (ap (piece_of held run) c.of.ensures ∙ plain_is held run c.args.piece.now c.requires.piece)) c.requires.piece
+    subst (λ (p : Piece). IsPieceOf moof_bytes run p) (sym (ap (piece_of moof_bytes run) c.of.ensures ∙ plain_is moof_bytes run c.args.piece.now c.requires.piece)) c.requires.piece
 
 pub returns : goal.returns
 returns g c =
-    let held = c.args.held.now in
+    let moof_bytes = c.args.moof_bytes.now in
     let run = c.args.run.now in
-    subst (λ (p : Piece). Puts (sent g.W.Sink.contents g.W.Sink.has_failed c.args.w.now c.put_plain_moof.new.w) c.args.block.now c.put_plain_moof.new.block (written_moof p run held c.args.sequence_number) c.put_plain_moof.result)
-    (ap (piece_of held run) c.of.ensures ∙ plain_is held run c.args.piece.now c.requires.piece) c.put_plain_moof.ensures
+    subst (λ (p : Piece). Puts (sent g.W.Sink.contents g.W.Sink.has_failed c.args.w.now c.put_plain_moof.new.w) c.args.block.now c.put_plain_moof.new.block (written_moof p run moof_bytes c.args.sequence_number) c.put_plain_moof.result)
+    (ap (piece_of moof_bytes run) c.of.ensures ∙ plain_is moof_bytes run c.args.piece.now c.requires.piece) c.put_plain_moof.ensures

@@ -2,7 +2,7 @@ use Rattle.std.proofs.Common.{List, sym, subst}
 use Rattle.std.specs.List.{AllByRecursion}
 use Rattle.mp4_box.specs.Paths.{of_kind}
 use Rattle.mp4_box.specs.Trees.{Box, view}
-use Rattle.mp4_frag.specs.Working.AtOnce.{HasEarlyEnd}
+use Rattle.mp4_frag.specs.Implementation.AtOnce.{HasEarlyEnd}
 use Rattle.mp4_frag.specs.Kinds.{traf}
 use Rattle.mp4_frag.proofs.AtOnceLemmas.{trafs_first}
 use Rattle.mp4_frag.proofs.at_once.ended_early.Goals as goal

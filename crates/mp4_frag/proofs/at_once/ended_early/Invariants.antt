@@ -1,7 +1,7 @@
 use Rattle.std.specs.List.{AllByRecursion}
 use Rattle.mp4_box.specs.Paths.{of_kind}
 use Rattle.mp4_box.specs.Trees.{view, children}
-use Rattle.mp4_frag.specs.Working.AtOnce.{HasEarlyEnd}
+use Rattle.mp4_frag.specs.Implementation.AtOnce.{HasEarlyEnd}
 use Rattle.mp4_frag.specs.Kinds.{traf}
 use Rattle.mp4_frag.proofs.at_once.ended_early.Given as goal
 

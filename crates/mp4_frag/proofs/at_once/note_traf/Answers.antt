@@ -7,7 +7,7 @@ use Rattle.mp4_box.specs.Order.{least_from}
 use Rattle.mp4_box.specs.Paths.{of_kind}
 use Rattle.mp4_box.specs.Trees.{Box, box_len, children, view}
 use Rattle.mp4_box.proofs.OrderLemmas.{least_from_append}
-use Rattle.mp4_frag.specs.Working.AtOnce.{Adds, HasTicks, faults_in_traf, most_64}
+use Rattle.mp4_frag.specs.Implementation.AtOnce.{Adds, HasTicks, faults_in_traf, most_64}
 use Rattle.mp4_frag.specs.Kinds.{tfdt, tfhd}
 use Rattle.mp4_frag.proofs.AddLemmas.{adds_append, adds_nothing, adds_on, count_append}
 use Rattle.mp4_frag.proofs.AtOnceLemmas.{ticks_first, untimed_one}
@@ -46,7 +46,7 @@ returns-clause-adds c =
 pub returns-clause-count : goal.returns-clause-count
 returns-clause-count c = λ so.
     let t = view c.args.traf.now in
-    let held = (c.all_hold.ensures so).1 in
+    let moof_bytes = (c.all_hold.ensures so).1 in
     let few : c.loop-child.tfdts ≤ 1 = grind (arith, nat_tests) in
     let all = c.loop-child.invariant.tfdts (omega (arith, few)) in
     let counted : c.loop-child.tfdts ≡ length (of_kind tfdt (children t)) = omega (arith, all, ap (λ (zs : List Box). length (of_kind tfdt zs)) c.in-None.ensures.steps.0) in

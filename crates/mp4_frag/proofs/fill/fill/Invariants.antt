@@ -5,13 +5,13 @@ use Rattle.mp4_box.specs.Trees.{view}
 use Rattle.mp4_run_order.specs.Orders.{FitsKeys}
 use Rattle.mp4_frag.specs.Kinds.{traf}
 use Rattle.mp4_frag.specs.Ranges.{IsSound}
-use Rattle.mp4_frag.specs.Working.RunRows.{listed_words, rows_of_trafs, rows_of_words}
+use Rattle.mp4_frag.specs.Implementation.RunRows.{listed_words, rows_of_trafs, rows_of_words}
 use Rattle.mp4_frag.specs.Runs.{MoofBytes, traf_of}
 use Rattle.mp4_frag.proofs.fill.fill.Given as goal
 
 abbrev pub invariant-loop-traf : goal.invariant-loop-traf
 invariant-loop-traf l =
-    let h : MoofBytes = record { bytes = l.held; offset = l.offset } in
+    let h : MoofBytes = record { bytes = l.moof_bytes; offset = l.offset } in
     (goal.iterator-loop-traf).can_next l.traf-iterator
     × (goal.iterator-loop-traf).is_finite l.traf-iterator
     × AllByRecursion (λ t. IsSound (traf_of h l.tracks t)) l.traf-iterator

@@ -3,7 +3,7 @@ use Rattle.std.specs.Prelude.{◌≤ℤ◌, pos}
 use Rattle.std.specs.List.{AllByRecursion, sum_by}
 use Rattle.mp4_frag.specs.Ranges.{InRange}
 use Rattle.mp4_frag.specs.Runs.{last_end}
-use Rattle.mp4_frag.specs.Working.Following.{all_follow, bytes_with, past_runs, timed_run}
+use Rattle.mp4_frag.specs.Implementation.Following.{all_follow, bytes_with, past_runs, timed_run}
 use Rattle.mp4_frag.proofs.following.follow_runs.Given as goal
 
 abbrev pub invariant-loop-run : goal.invariant-loop-run

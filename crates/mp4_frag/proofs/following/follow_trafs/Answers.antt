@@ -6,14 +6,14 @@ use Rattle.mp4_frag.specs.Kinds.{traf}
 use Rattle.mp4_box.specs.Trees.{view}
 use Rattle.mp4_frag.specs.Runs.{MoofBytes, traf_of}
 use Rattle.mp4_frag.specs.TrafEnds.{few_trafs, traf_end}
-use Rattle.mp4_frag.specs.Working.Following.{all_follow, bytes_with, ends_by, past_runs, runs_of_trafs, timed_run}
+use Rattle.mp4_frag.specs.Implementation.Following.{all_follow, bytes_with, ends_by, past_runs, runs_of_trafs, timed_run}
 use Rattle.mp4_frag.proofs.FollowingLemmas.{follow_on, past_on, sum_on}
 use Rattle.mp4_frag.proofs.TrafEndLemmas.{kept_first, kept_on}
 use Rattle.mp4_frag.proofs.following.follow_trafs.Goals as goal
 
 pub loop-traf-preserved : goal.loop-traf-preserved
 loop-traf-preserved c =
-    let h : MoofBytes = record { bytes = c.args.held.now; offset = c.args.offset } in
+    let h : MoofBytes = record { bytes = c.args.moof_bytes.now; offset = c.args.offset } in
     let tracks = c.args.tracks.now in
     let bs = c.loop-traf.traf-iterator in
     let rest = c.next.new.self in

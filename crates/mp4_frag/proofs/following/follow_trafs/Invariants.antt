@@ -7,12 +7,12 @@ use Rattle.mp4_frag.specs.Kinds.{traf}
 use Rattle.mp4_frag.specs.Ranges.{IsSound}
 use Rattle.mp4_frag.specs.Runs.{MoofBytes, traf_of}
 use Rattle.mp4_frag.specs.TrafEnds.{few_trafs}
-use Rattle.mp4_frag.specs.Working.Following.{all_follow, bytes_with, ends_by, past_runs, runs_of_trafs, timed_run}
+use Rattle.mp4_frag.specs.Implementation.Following.{all_follow, bytes_with, ends_by, past_runs, runs_of_trafs, timed_run}
 use Rattle.mp4_frag.proofs.following.follow_trafs.Given as goal
 
 abbrev pub invariant-loop-traf : goal.invariant-loop-traf
 invariant-loop-traf l =
-    let h : MoofBytes = record { bytes = l.held; offset = l.offset } in
+    let h : MoofBytes = record { bytes = l.moof_bytes; offset = l.offset } in
     (goal.iterator-loop-traf).can_next l.traf-iterator
     × (goal.iterator-loop-traf).is_finite l.traf-iterator
     × AllByRecursion (λ t. IsSound (traf_of h l.tracks t)) l.traf-iterator

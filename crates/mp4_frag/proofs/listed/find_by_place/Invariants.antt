@@ -1,10 +1,10 @@
 use Rattle.std.proofs.Common.{◌≡◌}
 use Rattle.std.specs.List.{fold}
-use Rattle.mp4_run_order.specs.Working.Searches.{place_start, place_step}
-use Rattle.mp4_frag.specs.Working.RunRows.{listed_words}
+use Rattle.mp4_run_order.specs.Implementation.Searches.{place_start, place_step}
+use Rattle.mp4_frag.specs.Implementation.RunRows.{listed_words}
 use Rattle.mp4_frag.proofs.listed.find_by_place.Given as goal
 
--- what is made of the runs that are left is what is made of all
+-- the result for the runs that are left is the result for all
 abbrev pub invariant-loop-taken : goal.invariant-loop-taken
 invariant-loop-taken l =
     (goal.iterator-loop-taken).can_next l.taken-iterator

@@ -1,6 +1,6 @@
 use Rattle.std.proofs.Common.{subst, sym, List, ℕ}
 use Rattle.std.specs.List.Sorted.{IsNonDecreasingBy}
-use Rattle.mp4_frag.specs.Working.RunRows.{track_word}
+use Rattle.mp4_frag.specs.Implementation.RunRows.{track_word}
 use Rattle.mp4_frag.proofs.RunListLemmas.{overwritten_all}
 use Rattle.mp4_frag.proofs.listed.sort_by_track.Goals as goal
 

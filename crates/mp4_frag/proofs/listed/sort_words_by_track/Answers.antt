@@ -1,6 +1,6 @@
 use Rattle.std.proofs.Common.{rules}
 use Rattle.std.proofs.lemmas.List.Sorted.{IsNonDecreasingBy-from_sort_by_key}
-use Rattle.mp4_frag.specs.Working.RunRows.{track_word}
+use Rattle.mp4_frag.specs.Implementation.RunRows.{track_word}
 use Rattle.mp4_frag.proofs.listed.sort_words_by_track.Goals as goal
 
 pub returns-clause-up : goal.returns-clause-up

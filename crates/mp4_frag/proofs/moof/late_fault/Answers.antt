@@ -9,7 +9,7 @@ use Rattle.mp4_frag.proofs.moof.late_fault.Goals as goal
 pub returns : goal.returns
 returns c =
     let m = view c.whole_box-moof.result in
-    c.note_along.ensures ∙ ap least (times_along (record { bytes = c.args.held.now; offset = c.args.offset }) c.args.tracks.now m (moof_is c.args.offset c.args.held.now m c.whole_box-moof.ensures))
+    c.note_along.ensures ∙ ap least (times_along (record { bytes = c.args.moof_bytes.now; offset = c.args.offset }) c.args.tracks.now m (moof_is c.args.offset c.args.moof_bytes.now m c.whole_box-moof.ensures))
 
 pub returns-then-is_early : goal.returns-then-is_early
-returns-then-is_early c = none_least (time_faults (moof_trafs (record { bytes = c.args.held.now; offset = c.args.offset }) c.args.tracks.now)) (c.requires.early c.if-is_early.true)
+returns-then-is_early c = none_least (time_faults (moof_trafs (record { bytes = c.args.moof_bytes.now; offset = c.args.offset }) c.args.tracks.now)) (c.requires.early c.if-is_early.true)

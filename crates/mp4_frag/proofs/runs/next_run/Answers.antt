@@ -6,32 +6,32 @@ use Rattle.mp4_frag.specs.declared.run.Run.{Run}
 use Rattle.mp4_frag.specs.Kinds.{trun}
 use Rattle.mp4_frag.specs.Ranges.{InRange}
 use Rattle.mp4_frag.specs.Runs.{runs_from}
-use Rattle.mp4_frag.specs.Working.TrafContexts.{shared_of}
+use Rattle.mp4_frag.specs.Implementation.TrafContexts.{shared_of}
 use Rattle.mp4_frag.proofs.RunLemmas.{first_in_range, next_is, runs_none}
 use Rattle.mp4_frag.proofs.runs.next_run.Goals as goal
 
 pub returns-in_default-clause-first : goal.returns-in_default-clause-first
-returns-in_default-clause-first c = ap (runs_from (shared_of c.args.context.now) c.args.behind.now.time c.args.behind.now.place) c.in_default.ensures.first
+returns-in_default-clause-first c = ap (runs_from (shared_of c.args.context.now) c.args.run_start.now.time c.args.run_start.now.place) c.in_default.ensures.first
 
 pub returns-in_default-clause-none : goal.returns-in_default-clause-none
-returns-in_default-clause-none c = runs_none (shared_of c.args.context.now) c.args.behind.now.time c.args.behind.now.place (of_kind trun c.next_of.new.walk) c.in_default.ensures.none
+returns-in_default-clause-none c = runs_none (shared_of c.args.context.now) c.args.run_start.now.time c.args.run_start.now.place (of_kind trun c.next_of.new.walk) c.in_default.ensures.none
 
 pub returns-in_default-clause-range : goal.returns-in_default-clause-range
 returns-in_default-clause-range c = subst (λ (runs : List Run). AllByRecursion InRange runs) (returns-in_default-clause-first c) c.requires.range
 
 pub run_of-run-requires : goal.run_of-run-requires
 run_of-run-requires c =
-    (first_in_range (shared_of c.args.context.now) c.args.behind.now.time c.args.behind.now.place (view c.in-Some.trun) (of_kind trun c.args.walk.now) (of_kind trun c.next_of.new.walk) c.in-Some.ensures.first c.requires.range).fits
+    (first_in_range (shared_of c.args.context.now) c.args.run_start.now.time c.args.run_start.now.place (view c.in-Some.trun) (of_kind trun c.args.walk.now) (of_kind trun c.next_of.new.walk) c.in-Some.ensures.first c.requires.range).fits
 
-pub behind_run-requires : goal.behind_run-requires
-behind_run-requires c =
+pub run_end-requires : goal.run_end-requires
+run_end-requires c =
     subst InRange (sym c.run_of-run.ensures)
-    (first_in_range (shared_of c.args.context.now) c.args.behind.now.time c.args.behind.now.place (view c.in-Some.trun) (of_kind trun c.args.walk.now) (of_kind trun c.next_of.new.walk) c.in-Some.ensures.first c.requires.range).here
+    (first_in_range (shared_of c.args.context.now) c.args.run_start.now.time c.args.run_start.now.place (view c.in-Some.trun) (of_kind trun c.args.walk.now) (of_kind trun c.next_of.new.walk) c.in-Some.ensures.first c.requires.range).here
 
 pub returns-clause-first : goal.returns-clause-first
 returns-clause-first c =
-    next_is (shared_of c.args.context.now) c.args.behind.now.time c.args.behind.now.place (view c.in-Some.trun) (of_kind trun c.args.walk.now) (of_kind trun c.next_of.new.walk)
-    c.run_of-run.result c.behind_run.result.time c.behind_run.result.place c.in-Some.ensures.first c.run_of-run.ensures c.behind_run.ensures.time c.behind_run.ensures.place
+    next_is (shared_of c.args.context.now) c.args.run_start.now.time c.args.run_start.now.place (view c.in-Some.trun) (of_kind trun c.args.walk.now) (of_kind trun c.next_of.new.walk)
+    c.run_of-run.result c.run_end.result.time c.run_end.result.place c.in-Some.ensures.first c.run_of-run.ensures c.run_end.ensures.time c.run_end.ensures.place
 
 pub returns-clause-range : goal.returns-clause-range
 returns-clause-range c = (subst (λ (runs : List Run). AllByRecursion InRange runs) (returns-clause-first c) c.requires.range).1

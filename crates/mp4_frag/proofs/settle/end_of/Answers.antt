@@ -1,9 +1,9 @@
 use Rattle.std.proofs.Common.{◌≡◌, ◌∙◌, ◌∷◌, ap, arith, refl, rules, true}
 use Rattle.mp4_box.specs.Paths.{of_kind}
 use Rattle.mp4_box.specs.Trees.{view}
-use Rattle.mp4_frag.specs.Working.AtOnce.{is_kind}
+use Rattle.mp4_frag.specs.Implementation.AtOnce.{is_kind}
 use Rattle.mp4_frag.specs.Kinds.{trun}
-use Rattle.mp4_frag.specs.Working.TrafContexts.{shared_of}
+use Rattle.mp4_frag.specs.Implementation.TrafContexts.{shared_of}
 use Rattle.mp4_frag.proofs.SettleLemmas.{late_on, ticks_on, timed_on}
 use Rattle.mp4_frag.proofs.settle.end_of.Goals as goal
 

@@ -1,10 +1,10 @@
 use Rattle.std.proofs.Common.{◌≡◌, ◌+◌, []}
 use Rattle.mp4_box.specs.Paths.{of_kind}
 use Rattle.mp4_frag.specs.Kinds.{trun}
-use Rattle.mp4_frag.specs.Working.TrafContexts.{shared_of}
+use Rattle.mp4_frag.specs.Implementation.TrafContexts.{shared_of}
 use Rattle.mp4_frag.specs.Settling.{timed_in}
-use Rattle.mp4_frag.specs.Working.SettlingSteps.{ticks_from}
-use Rattle.mp4_frag.specs.Working.Times.{late_from}
+use Rattle.mp4_frag.specs.Implementation.SettlingSteps.{ticks_from}
+use Rattle.mp4_frag.specs.Implementation.Times.{late_from}
 use Rattle.mp4_frag.proofs.settle.end_of.Given as goal
 
 -- the truns that are left end where all end, and in time; their samples and those so far are all

@@ -4,9 +4,9 @@ use Rattle.mp4_box.specs.Trees.{Box, view}
 use Rattle.mp4_init.specs.declared.table.Track.{Track}
 use Rattle.mp4_frag.specs.Kinds.{trun}
 use Rattle.mp4_frag.specs.Runs.{Shared, moof_at, track_of}
-use Rattle.mp4_frag.specs.Working.TrafContexts.{shared_of}
+use Rattle.mp4_frag.specs.Implementation.TrafContexts.{shared_of}
 use Rattle.mp4_frag.specs.Settling.{timed_in}
-use Rattle.mp4_frag.specs.Working.SettlingSteps.{ticks_from}
+use Rattle.mp4_frag.specs.Implementation.SettlingSteps.{ticks_from}
 use Rattle.mp4_frag.proofs.MoofLemmas.{path_kind}
 use Rattle.mp4_frag.proofs.SettleLemmas.{ended_is}
 use Rattle.mp4_frag.proofs.settle.end_traf.Goals as goal
@@ -33,6 +33,6 @@ returns-in-Some-clause-tracks c =
     let s = shared_of c.start_of-start.result.context in
     let start = c.start_of-start in
     c.set_next.ensures.next
-    ∙ ended_is (moof_at c.args.held.now c.args.moof) tracks t (track_of tracks t) s start.result.time c.end_of-end.result c.in-Some.i refl start.ensures.shared start.ensures.time
+    ∙ ended_is (moof_at c.args.moof_bytes.now c.args.moof) tracks t (track_of tracks t) s start.result.time c.end_of-end.result c.in-Some.i refl start.ensures.shared start.ensures.time
     (c.end_of-end.ensures.end ∙ ap (λ (bs : List Box). ticks_from s start.result.time bs) start.ensures.truns)
     (ap (λ (x : Shared). position (λ (u : Track). u.id == x.header.track) tracks) start.ensures.shared ∙ sym start.ensures.track ∙ c.in-Some.is)

@@ -12,11 +12,11 @@ use Rattle.mp4_frag.proofs.settle.settle_in.Goals as goal
 
 pub loop-traf-init : goal.loop-traf-init
 loop-traf-init c =
-    let h : MoofBytes = record { bytes = c.args.held.now; offset = c.args.moof } in
+    let h : MoofBytes = record { bytes = c.args.moof_bytes.now; offset = c.args.moof } in
     let m : Box = view c.whole_box-this.result in
-    let all = settles h c.args.tracks.now m (omega (arith, c.requires.room)) c.requires.whole (λ i. (c.type_inv.held i).fits) c.whole_box-this.ensures (moof_is c.args.moof c.args.held.now m c.whole_box-this.ensures) c.requires.read in
+    let all = settles h c.args.tracks.now m (omega (arith, c.requires.room)) c.requires.whole (λ i. (c.type_inv.moof_bytes i).fits) c.whole_box-this.ensures (moof_is c.args.moof c.args.moof_bytes.now m c.whole_box-this.ensures) c.requires.read in
     let here = subst (λ (ts : List Box). Settles h c.args.tracks.now ts) (sym (c.into_iter-traf-iterator.ensures.into_iter_gives ∙ c.children_of-traf-items.ensures)) all in
-    let is = moof_is c.args.moof c.args.held.now m c.whole_box-this.ensures in
+    let is = moof_is c.args.moof c.args.moof_bytes.now m c.whole_box-this.ensures in
     record {
       left = here.is;
       each = here.each;

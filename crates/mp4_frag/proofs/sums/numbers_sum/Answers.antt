@@ -1,5 +1,5 @@
 use Rattle.std.proofs.Common.{arith, ℕ, ◌+◌, ◌-◌, ap}
-use Rattle.mp4_frag.specs.Working.Added.{numbers_from}
+use Rattle.mp4_frag.specs.Implementation.Added.{numbers_from}
 use Rattle.mp4_frag.proofs.BetweenLemmas.{one_less}
 use Rattle.mp4_frag.proofs.RowLemmas.{numbers_next, numbers_none}
 use Rattle.mp4_frag.proofs.sums.numbers_sum.Goals as goal

@@ -1,5 +1,5 @@
 use Rattle.std.proofs.Common.{◌≡◌, ◌+◌, ◌*◌, ◌≤◌}
-use Rattle.mp4_frag.specs.Working.Added.{numbers_from}
+use Rattle.mp4_frag.specs.Implementation.Added.{numbers_from}
 use Rattle.mp4_frag.proofs.sums.numbers_sum.Given as goal
 
 abbrev pub decreases-loop-left : goal.decreases-loop-left

@@ -3,8 +3,8 @@ use Rattle.mp4_box.specs.Order.{least_from}
 use Rattle.mp4_box.specs.Paths.{of_kind}
 use Rattle.mp4_box.specs.Trees.{children, view}
 use Rattle.mp4_frag.specs.Kinds.{trun}
-use Rattle.mp4_frag.specs.Working.TrafContexts.{shared_of}
-use Rattle.mp4_frag.specs.Working.Times.{late_from}
+use Rattle.mp4_frag.specs.Implementation.TrafContexts.{shared_of}
+use Rattle.mp4_frag.specs.Implementation.Times.{late_from}
 use Rattle.mp4_frag.proofs.times.note_ends.Given as goal
 
 -- what is left to note is what is late of the truns that are left

@@ -1,14 +1,14 @@
 use Rattle.std.proofs.Common.{◌*◌, [], None, Some, ap, arith, length, refl}
 use Rattle.mp4_frag.specs.Moofs.{moof_samples}
-use Rattle.mp4_machine.proofs.PieceLemmas.{Moves-none}
-use Rattle.mp4_machine.specs.Pieces.{outside}
-use Rattle.mp4_recut.specs.Plans.{plan_meaning, number_in}
+use Rattle.mp4_machine.proofs.InputLemmas.{Moves-none}
+use Rattle.mp4_machine.specs.Inputs.{environment}
+use Rattle.mp4_recut.specs.Operations.{operation_meaning, number_in}
 use Rattle.mp4_grammar.specs.Contexts.{table_of}
-use Rattle.mp4_fragment_machine.specs.States.{behind_body, claimed_in, moof_in}
-use Rattle.mp4_machine.proofs.StandingLemmas.{GoesOn-over}
-use Rattle.mp4_machine.specs.Readings.{silent}
+use Rattle.mp4_fragment_machine.specs.States.{after_body, claimed_in, moof_in}
+use Rattle.mp4_machine.proofs.ContinuationLemmas.{GoesOn-over}
+use Rattle.mp4_machine.specs.Readings.{no_effects}
 use Rattle.mp4_grammar.specs.Items.{reads_in}
-use Rattle.mp4_fragment_machine.specs.Places.{InHeader, standing}
+use Rattle.mp4_fragment_machine.specs.Places.{InHeader, continuation_at}
 use Rattle.mp4_fragment_machine.proofs.BodyLemmas.{Moves-settled}
 use Rattle.mp4_fragment_machine.proofs.CountLemmas.{counted_ended}
 use Rattle.mp4_fragment_machine.proofs.StepLemmas.{no_head}
@@ -17,35 +17,35 @@ use Rattle.mp4_fragment_machine.proofs.body.leave.Goals as goal
 pub returns-in_default : goal.returns-in_default
 returns-in_default c = λ u.
     let body = c.args.body.now in
-    let kept = c.args.kept.now in
-    let o = outside u.written u.waiting c.args.ledger.now kept.counter.tally in
+    let session = c.args.session.now in
+    let o = environment u.written u.waiting c.args.ledger.now session.counter.tally in
     let can = rw c.in_default.is at c.requires.can in
-    let meaning = plan_meaning kept.plan in
-    let next = behind_body (number_in kept.plan kept.counter.tally) kept.tracks None body.next in
-    rw (c.in_default.is, c.requires.empty) (record { step = record { goes = GoesOn-over (reads_in meaning) next (table_of kept.tracks) o o (λ _. silent) body (standing meaning (InHeader next [])) c.requires.none refl (Moves-none o (table_of kept.tracks)) (omega arith) (λ later. refl); unfailed = refl; claim = can.claim }; plan = refl; state = (no_head [] refl, c.requires.end); counted = can.counted })
+    let meaning = operation_meaning session.operation in
+    let next = after_body (number_in session.operation session.counter.tally) session.tracks None body.next in
+    rw (c.in_default.is, c.requires.empty) (record { step = record { goes = GoesOn-over (reads_in meaning) next (table_of session.tracks) o o (λ _. no_effects) body (continuation_at meaning (InHeader next [])) c.requires.none refl (Moves-none o (table_of session.tracks)) (omega arith) (λ later. refl); unfailed = refl; claim = can.claim }; operation = refl; state = (no_head [] refl, c.requires.end); counted = can.counted })
 
 pub returns : goal.returns
 returns c = λ u.
     let body = c.args.body.now in
-    let kept = c.args.kept.now in
+    let session = c.args.session.now in
     let list = c.in-Some-tracks.list in
-    let w = c.in-Some.waiting in
+    let w = c.in-Some.pending_moof in
     let ended = c.end_fragment.ensures in
-    let o = outside u.written u.waiting c.args.ledger.now kept.counter.tally in
+    let o = environment u.written u.waiting c.args.ledger.now session.counter.tally in
     let can = rw c.in-Some.is at c.requires.can in
     let low = rw c.in-Some-tracks.is at can.claim in
     let len = rw ended.tracks at ended.len in
-    let meaning = plan_meaning kept.plan in
-    let next = behind_body (number_in kept.plan kept.counter.tally) (Some list) (Some w) body.next in
+    let meaning = operation_meaning session.operation in
+    let next = after_body (number_in session.operation session.counter.tally) (Some list) (Some w) body.next in
     rw (c.in-Some.is, c.in-Some-tracks.is, c.requires.empty, ended.tracks, ended.back) (record {
       step = record {
         goes = rw ended.tally
-            (GoesOn-over (reads_in meaning) next (claimed_in (Some list) (Some w)) o _ (λ _. silent) body (standing meaning (InHeader next [])) c.requires.none refl
+            (GoesOn-over (reads_in meaning) next (claimed_in (Some list) (Some w)) o _ (λ _. no_effects) body (continuation_at meaning (InHeader next [])) c.requires.none refl
             (Moves-settled o (64 * length list) w.moof.size (64 * length w.runs.rows) _ (ap (λ n. 64 * n) len) low) (omega arith) (λ later. refl));
         unfailed = refl;
         claim = omega (arith, low, len);
       };
-      plan = refl;
+      operation = refl;
       state = (no_head [] refl, c.requires.end);
-      counted = counted_ended kept.plan kept.counter c.end_fragment.new.counter body.next (moof_samples (moof_in w)) can.counted ended.tally (omega (arith, ended.walked)) ended.few;
+      counted = counted_ended session.operation session.counter c.end_fragment.new.counter body.next (moof_samples (moof_in w)) can.counted ended.tally (omega (arith, ended.rows_read)) ended.few;
     })

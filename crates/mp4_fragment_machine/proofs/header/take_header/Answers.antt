@@ -1,25 +1,38 @@
-use Rattle.std.proofs.Common.{◌∙◌, arith, refl, sym}
-use Rattle.std.proofs.lemmas.List.{length-take-le}
-use Rattle.mp4_fragment_machine.proofs.StepLemmas.{comes_head, GoesTo-then, StopsIn-then}
-use Rattle.mp4_machine.proofs.HeadLemmas.{front-is, front-len, header_is}
+use Rattle.std.proofs.Common.{◌++◌, arith, refl, take}
+use Rattle.mp4_machine.specs.Inputs.{environment}
+use Rattle.mp4_machine.proofs.InputLemmas.{GoesOn-none}
+use Rattle.mp4_recut.specs.Operations.{operation_meaning, number_in}
+use Rattle.mp4_fragment_machine.specs.Implementation.Steps.{with_head}
+use Rattle.mp4_fragment_machine.proofs.HeadLemmas.{Refuses-bad}
+use Rattle.mp4_fragment_machine.proofs.StepLemmas.{GoesTo-then, StopsIn-refused, StopsIn-then, accepts_head}
 use Rattle.mp4_fragment_machine.proofs.header.take_header.Goals as goal
 
-pub returns-in-Ok-begin_box : goal.returns-in-Ok-begin_box
-returns-in-Ok-begin_box g c =
-    let front = c.in-Ok.ensures.within in
-    let none = c.is_empty.ensures.0 c.if-is_empty.true in
-    (omega (arith, front), omega (arith, front), GoesTo-then (comes_head c.args.kept.now c.args.at c.requires.can.claim (rw none refl)) c.in-Ok-begin_box.ensures)
+pub returns-in-More : goal.returns-in-More
+returns-in-More g c =
+    let more = c.in-More.ensures in (
+      more.some,
+      more.most,
+      GoesTo-then (accepts_head c.args.session.now c.args.at c.requires.can.claim more.bytes)
+          (record { step = record { goes = GoesOn-none _ _; unfailed = refl; claim = c.requires.can.claim }; operation = refl; state = (more.short, c.requires.state.1); counted = c.requires.can.counted }),
+    )
+
+pub returns-in-BadSize : goal.returns-in-BadSize
+returns-in-BadSize g c =
+    let session = c.args.session.now in
+    let can = c.requires.can in
+    let bad = c.in-BadSize.ensures in
+    let head = session.head ++ take bad.count c.args.input.now in
+    rw (c.at_fault.ensures, bad.kind)
+    (StopsIn-then bad.count c.args.input.now (accepts_head session c.args.at {head = head} can.claim refl)
+    (StopsIn-refused c.args.at refl refl refl bad.empty can.claim can.counted
+    (λ more. Refuses-bad (operation_meaning session.operation) (environment (g.W.Sink.contents c.args.w.now) c.args.out.now c.args.ledger.now session.counter.tally) c.args.at (number_in session.operation session.counter.tally) session.tracks head bad.len can.claim more bad.is)))
+
+pub returns-in-Ok : goal.returns-in-Ok
+returns-in-Ok g c =
+    let all = c.in-Complete.ensures.0 in
+    (all.some, all.most, GoesTo-then (accepts_head c.args.session.now c.args.at c.requires.can.claim all.are) (rw c.bytes.ensures at c.in-Ok.ensures))
 
 pub returns-in-Err : goal.returns-in-Err
 returns-in-Err g c =
-    let none = c.is_empty.ensures.0 c.if-is_empty.true in
-    StopsIn-then c.in-Ok.header.header_len c.args.piece.now (comes_head c.args.kept.now c.args.at c.requires.can.claim (rw none refl)) c.in-Err.ensures
-
-pub begin_box-requires-clause-len : goal.begin_box-requires-clause-len
-begin_box-requires-clause-len g c = front-len c.args.piece.now c.in-Ok.header (header_is (sym c.header_of.ensures.computed ∙ c.in-Ok.is))
-
-pub begin_box-requires-clause-is : goal.begin_box-requires-clause-is
-begin_box-requires-clause-is g c = front-is c.args.piece.now c.in-Ok.header (header_is (sym c.header_of.ensures.computed ∙ c.in-Ok.is))
-
-pub slice_bounds-begin_box-end : goal.slice_bounds-begin_box-end
-slice_bounds-begin_box-end g c = sym (length-take-le c.in-Ok.header.header_len c.args.piece.now c.in-Ok.ensures.within.1)
+    let all = c.in-Complete.ensures.0 in
+    StopsIn-then c.in-Complete.count c.args.input.now (accepts_head c.args.session.now c.args.at c.requires.can.claim all.are) (rw c.bytes.ensures at c.in-Err.ensures)

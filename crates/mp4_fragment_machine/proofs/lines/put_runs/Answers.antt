@@ -9,21 +9,21 @@ use Rattle.mp4_fragment_machine.proofs.lines.put_runs.Goals as goal
 
 pub put_run-requires : goal.put_run-requires
 put_run-requires g c =
-    let w = c.args.waiting.now in
+    let w = c.args.pending_moof.now in
     let h = moof_in w in
     let tracks = c.args.tracks.now in
-    let here : c.loop-i.i < length (taken_runs h tracks) = omega (arith, c.loop-i-test.true, c.len.ensures, rows_taken h tracks w.runs c.requires.waiting.list) in
-    let all = taken_are h tracks (omega (arith, c.requires.waiting.size, c.requires.waiting.near)) c.requires.waiting.whole c.bytes.ensures.valid c.requires.waiting.read in
+    let here : c.loop-i.i < length (taken_runs h tracks) = omega (arith, c.loop-i-test.true, c.len.ensures, rows_taken h tracks w.runs c.requires.pending_moof.list) in
+    let all = taken_are h tracks (omega (arith, c.requires.pending_moof.size, c.requires.pending_moof.near)) c.requires.pending_moof.whole c.bytes.ensures.valid c.requires.pending_moof.read in
     rw c.bytes-in-loop-i.ensures.bytes (run_of_all w.moof.bytes (taken_runs h tracks) c.loop-i.i c.at-run.result all here (rw (c.again-moof.ensures, c.bytes.ensures.bytes, c.offset.ensures.at) at c.at-run.ensures) (omega arith))
 
 pub returns-in-Err-clause-puts : goal.returns-in-Err-clause-puts
 returns-in-Err-clause-puts g c =
-    let w = c.args.waiting.now in
+    let w = c.args.pending_moof.now in
     let h = moof_in w in
     let tracks = c.args.tracks.now in
     let run = c.at-run.result in
     let text = c.loop-i.invariant.text in
-    let here : c.loop-i.i < length (taken_runs h tracks) = omega (arith, c.loop-i-test.true, c.len.ensures, rows_taken h tracks w.runs c.requires.waiting.list) in
+    let here : c.loop-i.i < length (taken_runs h tracks) = omega (arith, c.loop-i-test.true, c.len.ensures, rows_taken h tracks w.runs c.requires.pending_moof.list) in
     let at = rw (c.again-moof.ensures, c.bytes.ensures.bytes, c.offset.ensures.at) at c.at-run.ensures in
     let put = rw c.bytes-in-loop-i.ensures.bytes at c.in-Err.ensures in
     HasFailed-front (text ++ sample_lines (samples_of_run w.moof.bytes run)) (sample_lines (flat_map (samples_of_run w.moof.bytes) (drop (c.loop-i.i + 1) (taken_runs h tracks)))) (lines_of w tracks)
@@ -32,12 +32,12 @@ returns-in-Err-clause-puts g c =
 
 pub loop-i-preserved : goal.loop-i-preserved
 loop-i-preserved g c =
-    let w = c.args.waiting.now in
+    let w = c.args.pending_moof.now in
     let h = moof_in w in
     let tracks = c.args.tracks.now in
     let run = c.at-run.result in
     let text = c.loop-i.invariant.text in
-    let here : c.loop-i.i < length (taken_runs h tracks) = omega (arith, c.loop-i-test.true, c.len.ensures, rows_taken h tracks w.runs c.requires.waiting.list) in
+    let here : c.loop-i.i < length (taken_runs h tracks) = omega (arith, c.loop-i-test.true, c.len.ensures, rows_taken h tracks w.runs c.requires.pending_moof.list) in
     let at = rw (c.again-moof.ensures, c.bytes.ensures.bytes, c.offset.ensures.at) at c.at-run.ensures in
     let put = rw c.bytes-in-loop-i.ensures.bytes at c.in-Ok.ensures in
     record {

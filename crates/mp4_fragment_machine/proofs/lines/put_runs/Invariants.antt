@@ -10,11 +10,11 @@ use Rattle.mp4_fragment_machine.proofs.lines.put_runs.Given as goal
 -- what was put, and the lines of the runs that are left, are those of all
 abbrev pub invariant-loop-i : goal.invariant-loop-i
 invariant-loop-i g l = record {
-  within : l.i ≤ length l.fn.waiting.runs.rows;
+  within : l.i ≤ length l.fn.pending_moof.runs.rows;
   text : List ℕ;
   put : HasPut (sent g.W.Sink.contents g.W.Sink.has_failed l.fn.w l.w) l.fn.out l.out text [];
-  left : text ++ sample_lines (flat_map (samples_of_run l.fn.waiting.moof.bytes) (drop l.i (taken_runs (moof_in l.fn.waiting) l.fn.tracks))) ≡ lines_of l.fn.waiting l.fn.tracks;
+  left : text ++ sample_lines (flat_map (samples_of_run l.fn.pending_moof.moof.bytes) (drop l.i (taken_runs (moof_in l.fn.pending_moof) l.fn.tracks))) ≡ lines_of l.fn.pending_moof l.fn.tracks;
 }
 
 abbrev pub decreases-loop-i : goal.decreases-loop-i
-decreases-loop-i g l = length l.fn.waiting.runs.rows - l.i
+decreases-loop-i g l = length l.fn.pending_moof.runs.rows - l.i

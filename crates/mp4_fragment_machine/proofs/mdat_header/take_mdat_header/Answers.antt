@@ -1,25 +1,44 @@
-use Rattle.std.proofs.Common.{◌∙◌, arith, refl, sym}
-use Rattle.std.proofs.lemmas.List.{length-take-le}
-use Rattle.mp4_fragment_machine.proofs.StepLemmas.{comes_behind, GoesTo-then, StopsIn-then}
-use Rattle.mp4_machine.proofs.HeadLemmas.{front-is, front-len, header_is}
+use Rattle.std.proofs.Common.{◌≡◌, ◌+◌, ◌++◌, Some, arith, refl, take}
+use Rattle.mp4_machine.proofs.InputLemmas.{GoesOn-none}
+use Rattle.mp4_machine.specs.Inputs.{environment}
+use Rattle.mp4_frag.specs.Moofs.{moof_samples}
+use Rattle.mp4_recut.specs.Operations.{operation_meaning, number_in}
+use Rattle.mp4_fragment_machine.specs.States.{moof_in}
+use Rattle.mp4_fragment_machine.proofs.MdatHeaderLemmas.{Refuses-after, claimed_after}
+use Rattle.mp4_fragment_machine.proofs.BodyLemmas.{claimed_apart}
+use Rattle.mp4_fragment_machine.proofs.CountLemmas.{counted_unlisted}
+use Rattle.mp4_fragment_machine.proofs.StepLemmas.{GoesTo-then, StopsIn-then, accepts_mdat_header}
 use Rattle.mp4_fragment_machine.proofs.mdat_header.take_mdat_header.Goals as goal
 
-pub returns-in-Ok-begin_fragment : goal.returns-in-Ok-begin_fragment
-returns-in-Ok-begin_fragment g c =
-    let front = c.in-Ok.ensures.within in
-    let none = c.is_empty.ensures.0 c.if-is_empty.true in
-    (omega (arith, front), omega (arith, front), GoesTo-then (comes_behind c.args.kept.now c.args.waiting c.requires.state.1 c.requires.can.claim (rw none refl)) c.in-Ok-begin_fragment.ensures)
+pub returns-in-More : goal.returns-in-More
+returns-in-More g c =
+    let more = c.in-More.ensures in (
+      more.some,
+      more.most,
+      GoesTo-then (accepts_mdat_header c.args.session.now c.args.pending_moof c.requires.state.1 c.requires.can.claim more.bytes)
+          (record { step = record { goes = GoesOn-none _ _; unfailed = refl; claim = c.requires.can.claim }; operation = refl; state = (more.short, c.requires.state.1); counted = c.requires.can.counted }),
+    )
+
+pub returns-in-BadSize : goal.returns-in-BadSize
+returns-in-BadSize g c =
+    let session = c.args.session.now in
+    let can = c.requires.can in
+    let w = c.args.pending_moof in
+    let number = number_in session.operation session.counter.tally in
+    let bad = c.in-BadSize.ensures in
+    let head = session.head ++ take bad.count c.args.input.now in
+    let low = rw (claimed_after number w session.tracks c.requires.state.1 session.head) at can.claim in
+    let at : c.offset.result + c.size.result ≡ w.moof.at + w.moof.size = omega (arith, c.offset.ensures.at, c.size.ensures) in
+    rw (c.at_fault.ensures, bad.kind, c.back.ensures)
+    (StopsIn-then bad.count c.args.input.now (accepts_mdat_header session w {head = head} c.requires.state.1 can.claim refl)
+    (record { step = record { stops = λ more. Refuses-after (operation_meaning session.operation) number (environment (g.W.Sink.contents c.args.w.now) c.args.out.now c.args.ledger.now session.counter.tally) w session.tracks c.requires.state.1 low head more _ at bad.len bad.is; failed = λ is. absurd cc; unfailed = λ _. refl }; operation = refl; tracks = refl; empty = bad.empty; left = omega (arith, claimed_apart session.tracks (Some w), low); counted = counted_unlisted session.operation session.counter (w.moof.at + w.moof.size) (moof_samples (moof_in w)) can.counted }))
+
+pub returns-in-Ok : goal.returns-in-Ok
+returns-in-Ok g c =
+    let all = c.in-Complete.ensures.0 in
+    (all.some, all.most, GoesTo-then (accepts_mdat_header c.args.session.now c.args.pending_moof c.requires.state.1 c.requires.can.claim all.are) (rw c.bytes.ensures at c.in-Ok.ensures))
 
 pub returns-in-Err : goal.returns-in-Err
 returns-in-Err g c =
-    let none = c.is_empty.ensures.0 c.if-is_empty.true in
-    StopsIn-then c.in-Ok.header.header_len c.args.piece.now (comes_behind c.args.kept.now c.args.waiting c.requires.state.1 c.requires.can.claim (rw none refl)) c.in-Err.ensures
-
-pub begin_fragment-requires-clause-len : goal.begin_fragment-requires-clause-len
-begin_fragment-requires-clause-len g c = front-len c.args.piece.now c.in-Ok.header (header_is (sym c.header_of.ensures.computed ∙ c.in-Ok.is))
-
-pub begin_fragment-requires-clause-is : goal.begin_fragment-requires-clause-is
-begin_fragment-requires-clause-is g c = front-is c.args.piece.now c.in-Ok.header (header_is (sym c.header_of.ensures.computed ∙ c.in-Ok.is))
-
-pub slice_bounds-begin_fragment-end : goal.slice_bounds-begin_fragment-end
-slice_bounds-begin_fragment-end g c = sym (length-take-le c.in-Ok.header.header_len c.args.piece.now c.in-Ok.ensures.within.1)
+    let all = c.in-Complete.ensures.0 in
+    StopsIn-then c.in-Complete.count c.args.input.now (accepts_mdat_header c.args.session.now c.args.pending_moof c.requires.state.1 c.requires.can.claim all.are) (rw c.bytes.ensures at c.in-Err.ensures)

@@ -3,11 +3,11 @@ use Rattle.mp4_init.specs.declared.moov.InitStop.TheVariants as init
 use Rattle.mp4_init.specs.Moovs.{moov_tracks}
 use Rattle.mp4_ledger.specs.Memory.{claimed, given_back}
 use Rattle.mp4_machine.proofs.HoldingLemmas.{begins_whole}
-use Rattle.mp4_machine.specs.Pieces.{outside}
-use Rattle.mp4_recut.specs.Plans.{plan_meaning, number_in}
-use Rattle.mp4_recut.proofs.PastLemmas.{plan-past}
+use Rattle.mp4_machine.specs.Inputs.{environment}
+use Rattle.mp4_recut.specs.Operations.{operation_meaning, number_in}
+use Rattle.mp4_recut.proofs.PastLemmas.{operation-past}
 use Rattle.mp4_fragment_machine.proofs.CountLemmas.{counted_later}
-use Rattle.mp4_fragment_machine.proofs.HeldLemmas.{GoesOn-moov_put, Loses-moov, StopsAt-moov, begins_some, not_written, table_within}
+use Rattle.mp4_fragment_machine.proofs.BufferedBoxLemmas.{GoesOn-moov_put, StopsAt-moov, WriteFailed-moov, begins_some, not_written, table_within}
 use Rattle.mp4_fragment_machine.proofs.StepLemmas.{counted_stop, given_back-none}
 use Rattle.mp4_fragment_machine.proofs.moov.take_moov.Goals as goal
 
@@ -19,7 +19,7 @@ tracks-requires-clause-whole g c =
 pub returns-in-Err : goal.returns-in-Err
 returns-in-Err g c =
     let held = c.args.held in
-    let kept = c.args.kept.now in
+    let session = c.args.session.now in
     let low : held.size ≤ c.args.ledger.now.live = omega (arith, rw c.requires.none at c.requires.can.claim) in
     let said = rw (c.bytes.ensures.bytes, c.offset.ensures.at) at c.tracks.ensures.fault in
     let refused = rw (c.bytes.ensures.bytes, c.offset.ensures.at) at c.tracks.ensures.refused in
@@ -28,43 +28,43 @@ returns-in-Err g c =
     rw (c.stop_of.ensures, c.back.ensures, err, c.requires.none) (record {
       step = record {
         stops = λ more. rw (given_back-none (given_back c.args.ledger.now held.size))
-            (StopsAt-moov (plan_meaning kept.plan) (outside (g.W.Sink.contents c.args.w.now) c.args.out.now c.args.ledger.now kept.counter.tally) held.at (number_in kept.plan kept.counter.tally) held.kind held.size held.bytes c.requires.whole low (plan-past kept.plan) more c.in-Err.why
+            (StopsAt-moov (operation_meaning session.operation) (environment (g.W.Sink.contents c.args.w.now) c.args.out.now c.args.ledger.now session.counter.tally) held.at (number_in session.operation session.counter.tally) held.kind held.size held.bytes c.requires.whole low (operation-past session.operation) more c.in-Err.why
             (λ f e. (said f).0 (c.in-Err.is ∙ ap Err e))
             (λ r e. (refused r (c.in-Err.is ∙ ap Err e), λ is. (over.0 (c.in-Err.is ∙ ap Err e ∙ ap (λ q. Err (init.Refused q)) is)).1, λ is. table_within c.args.ledger.now.limit (c.args.ledger.now.live + 64 * length (moov_tracks held.at held.bytes)) (c.in-Err.is ∙ ap Err e ∙ ap (λ q. Err (init.Refused q)) is) (refused r (c.in-Err.is ∙ ap Err e)) over.1)));
         failed = λ is. absurd (not_written c.in-Err.why is);
         unfailed = λ _. refl;
       };
-      plan = refl;
+      operation = refl;
       tracks = refl;
       empty = c.requires.empty;
       left = omega arith;
-      counted = counted_stop kept.plan kept.counter held.at c.requires.can.counted;
+      counted = counted_stop session.operation session.counter held.at c.requires.can.counted;
     })
 
 pub returns-in-Ok-put_moov : goal.returns-in-Ok-put_moov
 returns-in-Ok-put_moov g c =
     let held = c.args.held in
-    let kept = c.args.kept.now in
+    let session = c.args.session.now in
     let low : held.size ≤ c.args.ledger.now.live = omega (arith, rw c.requires.none at c.requires.can.claim) in
     let list = rw (c.bytes.ensures.bytes, c.offset.ensures.at) at c.in-Ok.ensures.list in
     let good = rw (c.bytes.ensures.bytes, c.offset.ensures.at) at c.in-Ok.ensures.good in
     let put = rw c.bytes-2.ensures.bytes at c.in-Ok-put_moov.ensures in
     rw (c.requires.none, c.requires.empty, c.put_tracks.ensures, c.offset-2.ensures.at, c.size.ensures, c.back-in-Ok-put_moov.ensures, c.in-Ok.ensures.ok, list) (record {
       step = record {
-        goes = GoesOn-moov_put (plan_meaning kept.plan) (outside (g.W.Sink.contents c.args.w.now) c.args.out.now c.args.ledger.now kept.counter.tally) held.at (number_in kept.plan kept.counter.tally) held.kind held.size held.bytes c.requires.whole low (begins_some held.size held.bytes c.requires.begins c.requires.whole) good
+        goes = GoesOn-moov_put (operation_meaning session.operation) (environment (g.W.Sink.contents c.args.w.now) c.args.out.now c.args.ledger.now session.counter.tally) held.at (number_in session.operation session.counter.tally) held.kind held.size held.bytes c.requires.whole low (begins_some held.size held.bytes c.requires.begins c.requires.whole) good
             (g.W.Sink.contents c.put_moov.new.w) c.put_moov.new.out put.passes;
         unfailed = put.unfailed;
         claim = omega (arith, low);
       };
-      plan = refl;
+      operation = refl;
       state = (omega arith, c.requires.near);
-      counted = counted_later kept.plan kept.counter held.at (held.at + held.size) 0 0 (omega arith) (omega arith) (omega (arith, c.requires.near)) c.requires.can.counted;
+      counted = counted_later session.operation session.counter held.at (held.at + held.size) 0 0 (omega arith) (omega arith) (omega (arith, c.requires.near)) c.requires.can.counted;
     })
 
 pub returns-in-Err-put_moov : goal.returns-in-Err-put_moov
 returns-in-Err-put_moov g c =
     let held = c.args.held in
-    let kept = c.args.kept.now in
+    let session = c.args.session.now in
     let low : held.size ≤ c.args.ledger.now.live = omega (arith, rw c.requires.none at c.requires.can.claim) in
     let list = rw (c.bytes.ensures.bytes, c.offset.ensures.at) at c.in-Ok.ensures.list in
     let good = rw (c.bytes.ensures.bytes, c.offset.ensures.at) at c.in-Ok.ensures.good in
@@ -73,14 +73,14 @@ returns-in-Err-put_moov g c =
     rw (c.requires.none, c.back-in-Err-put_moov-2.ensures, c.back-in-Err-put_moov.ensures, c.in-Ok.ensures.ok, list) (record {
       step = record {
         stops = λ more later. rw (given_back-none (given_back (given_back (claimed c.args.ledger.now n) held.size) n))
-            (Loses-moov (plan_meaning kept.plan) (outside (g.W.Sink.contents c.args.w.now) c.args.out.now c.args.ledger.now kept.counter.tally) held.at (number_in kept.plan kept.counter.tally) held.kind held.size held.bytes c.requires.whole low (begins_some held.size held.bytes c.requires.begins c.requires.whole) good
+            (WriteFailed-moov (operation_meaning session.operation) (environment (g.W.Sink.contents c.args.w.now) c.args.out.now c.args.ledger.now session.counter.tally) held.at (number_in session.operation session.counter.tally) held.kind held.size held.bytes c.requires.whole low (begins_some held.size held.bytes c.requires.begins c.requires.whole) good
             (g.W.Sink.contents c.put_moov.new.w) c.put_moov.new.out put.breaks (more ++ later));
         failed = λ _. put.failed;
         unfailed = λ other. absurd (other refl);
       };
-      plan = refl;
+      operation = refl;
       tracks = refl;
       empty = c.requires.empty;
       left = omega arith;
-      counted = counted_stop kept.plan kept.counter held.at c.requires.can.counted;
+      counted = counted_stop session.operation session.counter held.at c.requires.can.counted;
     })

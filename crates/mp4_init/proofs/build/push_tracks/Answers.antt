@@ -20,5 +20,5 @@ loop-trak-init g c = record {
         c.requires.cap,
         length-map (of_kind trak (children (view c.args.moov.now))) (track_of (view c.args.moov.now)),
       );
-  told = summaries_of_none (view c.args.moov.now) c.new.result.items c.new-2.result.items c.new.ensures c.new-2.ensures;
+  added = summaries_of_none (view c.args.moov.now) c.new.result.items c.new-2.result.items c.new.ensures c.new-2.ensures;
 }

@@ -1,5 +1,5 @@
 use Rattle.std.proofs.Common.{◌≡◌, ◌-◌, drop, length}
-use Rattle.mp4_init.specs.Working.SearchTrees.{ending, ending_from, or_before, EndsWithin}
+use Rattle.mp4_init.specs.Implementation.SearchTrees.{ending, ending_from, or_before, EndsWithin}
 use Rattle.mp4_init.proofs.search_tree.search.Given as goal
 
 -- with what is left to ask the search ends as the whole does

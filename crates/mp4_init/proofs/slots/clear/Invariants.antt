@@ -1,6 +1,6 @@
 use Rattle.std.proofs.Common.{◌≡◌, ◌≤◌, ◌-◌, length}
 use Rattle.std.specs.Prelude.{replicate}
-use Rattle.mp4_init.specs.Working.Summaries.{empty_summary}
+use Rattle.mp4_init.specs.Implementation.Summaries.{empty_summary}
 use Rattle.mp4_init.proofs.slots.clear.Given as goal
 
 abbrev pub invariant-loop-summaries : goal.invariant-loop-summaries

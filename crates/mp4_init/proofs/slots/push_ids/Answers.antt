@@ -2,7 +2,7 @@ use Rattle.std.proofs.Common.{◌≡◌, ◌∙◌, ◌++◌, ◌∷◌, [], ℕ
 use Rattle.mp4_box.specs.Trees.{Box, view}
 use Rattle.mp4_box.specs.Paths.{at_path}
 use Rattle.mp4_init.specs.Kinds.{to_tkhd}
-use Rattle.mp4_init.specs.Working.Summaries.{ids_from}
+use Rattle.mp4_init.specs.Implementation.Summaries.{ids_from}
 use Rattle.mp4_init.proofs.SummaryTableLemmas.{id_before, id_here, no_ids, room_for_all, room_for_one}
 use Rattle.mp4_init.proofs.slots.push_ids.Goals as goal
 
@@ -16,8 +16,8 @@ loop-tkhd-preserved-then-tkhd-from g c =
       fits = omega (arith, c.push.ensures.len, room_for_one c.is_full.result (length so_far) g.row.N c.is_full.ensures.value c.if-is_full.false c.is_full.ensures.fits);
       left =
           ap (λ (xs : List ℕ). xs ++ ids_from from left) c.push.ensures.items
-          ∙ append_assoc so_far (c.number_behind_times.result ∷ []) (ids_from from left)
-          ∙ ap (λ (id : ℕ). so_far ++ (id ∷ ids_from from left)) c.number_behind_times.ensures
+          ∙ append_assoc so_far (c.number_after_times.result ∷ []) (ids_from from left)
+          ∙ ap (λ (id : ℕ). so_far ++ (id ∷ ids_from from left)) c.number_after_times.ensures
           ∙ ap (λ (xs : List ℕ). so_far ++ xs) (sym (id_here from here left c.if-tkhd-from.true))
           ∙ ap (λ (bs : List Box). so_far ++ ids_from from bs) (sym c.in-Some.ensures.steps)
           ∙ c.loop-tkhd.invariant.left;

@@ -2,7 +2,7 @@ use Rattle.std.proofs.Common.{◌≡◌, ◌≤◌, ◌++◌, length}
 use Rattle.mp4_box.specs.Trees.{view}
 use Rattle.mp4_box.specs.Paths.{at_path}
 use Rattle.mp4_init.specs.Kinds.{to_tkhd}
-use Rattle.mp4_init.specs.Working.Summaries.{ids_from}
+use Rattle.mp4_init.specs.Implementation.Summaries.{ids_from}
 use Rattle.mp4_init.proofs.slots.push_ids.Given as goal
 
 -- those so far, and those of the tkhds that are left

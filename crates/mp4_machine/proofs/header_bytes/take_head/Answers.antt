@@ -4,8 +4,8 @@ use Rattle.mp4_box.proofs.HeaderLemmas.{is_cut, need_more}
 use Rattle.mp4_machine.proofs.header_bytes.take_head.Goals as goal
 
 -- one byte more
-one_more : (old new next piece : List ℕ) (n : ℕ) → n < length piece → new ≡ old ++ take n piece → next ≡ new ++ get_or piece n 0 ∷ [] → next ≡ old ++ take (n + 1) piece
-one_more old new next piece n h e f = f ∙ ap (λ l. l ++ get_or piece n 0 ∷ []) e ∙ append_assoc old (take n piece) (get_or piece n 0 ∷ []) ∙ ap (λ l. old ++ l) (sym (take_more piece n 0 h))
+one_more : (old new next input : List ℕ) (n : ℕ) → n < length input → new ≡ old ++ take n input → next ≡ new ++ get_or input n 0 ∷ [] → next ≡ old ++ take (n + 1) input
+one_more old new next input n h e f = f ∙ ap (λ l. l ++ get_or input n 0 ∷ []) e ∙ append_assoc old (take n input) (get_or input n 0 ∷ []) ∙ ap (λ l. old ++ l) (sym (take_more input n 0 h))
 
 pub loop-count-init : goal.loop-count-init
 loop-count-init c = record { within = omega arith; bytes = sym (append-nil c.args.head.now); short = c.requires.short }
@@ -15,16 +15,16 @@ feed-step-requires c = c.loop-count.invariant.short
 
 pub returns-then-not-is_more-clause-bytes : goal.returns-then-not-is_more-clause-bytes
 returns-then-not-is_more-clause-bytes c =
-    one_more c.args.head.now c.loop-count.head c.feed-step.new.self c.args.piece.now c.loop-count.count c.loop-count-test.true c.loop-count.invariant.bytes c.feed-step.ensures.bytes
+    one_more c.args.head.now c.loop-count.head c.feed-step.new.self c.args.input.now c.loop-count.count c.loop-count-test.true c.loop-count.invariant.bytes c.feed-step.ensures.bytes
 
 pub returns-then-not-is_more-clause-len : goal.returns-then-not-is_more-clause-len
 returns-then-not-is_more-clause-len c =
-    rw c.feed-step.ensures.bytes (need_more c.loop-count.head (get_or c.args.piece.now c.loop-count.count 0) c.loop-count.invariant.short)
+    rw c.feed-step.ensures.bytes (need_more c.loop-count.head (get_or c.args.input.now c.loop-count.count 0) c.loop-count.invariant.short)
 
 pub loop-count-preserved : goal.loop-count-preserved
 loop-count-preserved c = record {
   within = omega (arith, c.loop-count-test.true);
-  bytes = one_more c.args.head.now c.loop-count.head c.feed-step.new.self c.args.piece.now c.loop-count.count c.loop-count-test.true c.loop-count.invariant.bytes c.feed-step.ensures.bytes;
+  bytes = one_more c.args.head.now c.loop-count.head c.feed-step.new.self c.args.input.now c.loop-count.count c.loop-count-test.true c.loop-count.invariant.bytes c.feed-step.ensures.bytes;
   short = c.feed-step.ensures.more.0 (c.is_more.ensures.0 c.if-not-is_more.false);
 }
 

@@ -4,10 +4,10 @@ use Rattle.mp4_machine.proofs.header_bytes.take_head.Given as goal
 
 abbrev pub invariant-loop-count : goal.invariant-loop-count
 invariant-loop-count l = record {
-  within : l.count ≤ length l.piece;
-  bytes : l.head ≡ l.initial.head ++ take l.count l.piece;
+  within : l.count ≤ length l.input;
+  bytes : l.head ≡ l.initial.head ++ take l.count l.input;
   short : length l.head < need l.head;
 }
 
 abbrev pub decreases-loop-count : goal.decreases-loop-count
-decreases-loop-count l = length l.piece - l.count
+decreases-loop-count l = length l.input - l.count

@@ -2,10 +2,10 @@ use Rattle.std.proofs.Common.{rules, arith, ◌≡◌, ◌++◌, [], take, lengt
 use Rattle.std.proofs.KnownBytes.{Consumes-nil, Consumes-trans, Consumes-kept}
 use Rattle.mp4_ends.proofs.StreamLemmas.{Consumes-then_none}
 use Rattle.mp4_machine.specs.Blocks.{unused}
-use Rattle.mp4_machine.specs.Pieces.{outside}
+use Rattle.mp4_machine.specs.Inputs.{environment}
 use Rattle.mp4_machine.specs.Readings.{uncounted}
-use Rattle.mp4_machine.proofs.PieceLemmas.{IsFed-begun, IsFed-more}
-use Rattle.mp4_machine.proofs.RunLemmas.{bytes-more, fed-fault, fed-undecided, fed-tells, fed-takes, prompt-now, prompt-read, takes-left}
+use Rattle.mp4_machine.proofs.InputLemmas.{IsFed-begun, IsFed-more}
+use Rattle.mp4_machine.proofs.RunLemmas.{bytes-more, fed-fault, fed-undecided, fed-emits, fed-takes, prompt-now, prompt-read, takes-left}
 use Rattle.mp4_machine.proofs.run.read_on.Goals as goal
 
 pub loop-machine-init : goal.loop-machine-init
@@ -14,7 +14,7 @@ loop-machine-init g c =
       [],
       record {
         read = Consumes-nil _;
-        fed = rw (begun.counted, c.requires.unused) (IsFed-begun (g.W.Sink.contents c.args.w.now) c.args.ledger.now (g.M.Machine.stands c.args.machine.now) (rw begun.counted at begun));
+        fed = rw (begun.counted, c.requires.unused) (IsFed-begun (g.W.Sink.contents c.args.w.now) c.args.ledger.now (g.M.Machine.continuation c.args.machine.now) (rw begun.counted at begun));
         task = refl;
         claim = omega (arith, begun.claim);
         near = omega (arith, begun.reached);
@@ -28,8 +28,8 @@ loop-machine-init g c =
 
 pub returns-in-Ok-finish-clause-runs : goal.returns-in-Ok-finish-clause-runs
 returns-in-Ok-finish-clause-runs g c =
-    let whole = (g.M.Machine.stands c.args.machine.now).reads in
-    let start = outside (g.W.Sink.contents c.args.w.now) unused c.args.ledger.now uncounted in
+    let whole = (g.M.Machine.continuation c.args.machine.now).reads in
+    let start = environment (g.W.Sink.contents c.args.w.now) unused c.args.ledger.now uncounted in
     let (b, i) = c.loop-machine.invariant in (
       record {
         bytes = b;
@@ -37,7 +37,7 @@ returns-in-Ok-finish-clause-runs g c =
         given = Consumes-then_none _ _ _ _ _ _ i.read c.in-Ok-eq0.ensures.bytes.0 c.in-Ok-eq0.field-0-test;
         fragments = c.loop-machine.out.whole;
         prompt = prompt-now whole b start refl c.requires.marked i.fed _ (c.in-Ok-eq0.ensures.last ∙ c.in-Ok-eq0.field-0-test);
-        comes = (fed-tells whole b start refl c.requires.marked i.fed _ refl refl, fed-fault whole b start refl c.requires.marked i.fed ∙ c.in-Ok-finish.ensures.ok, search rules);
+        gives = (fed-emits whole b start refl c.requires.marked i.fed _ refl refl, fed-fault whole b start refl c.requires.marked i.fed ∙ c.in-Ok-finish.ensures.ok, search rules);
         kept = λ _. i.kept;
       },
       refl,
@@ -45,8 +45,8 @@ returns-in-Ok-finish-clause-runs g c =
 
 pub returns-in-Err-finish-clause-runs : goal.returns-in-Err-finish-clause-runs
 returns-in-Err-finish-clause-runs g c =
-    let whole = (g.M.Machine.stands c.args.machine.now).reads in
-    let start = outside (g.W.Sink.contents c.args.w.now) unused c.args.ledger.now uncounted in
+    let whole = (g.M.Machine.continuation c.args.machine.now).reads in
+    let start = environment (g.W.Sink.contents c.args.w.now) unused c.args.ledger.now uncounted in
     let (b, i) = c.loop-machine.invariant in (
       record {
         bytes = b;
@@ -54,7 +54,7 @@ returns-in-Err-finish-clause-runs g c =
         given = Consumes-then_none _ _ _ _ _ _ i.read c.in-Ok-eq0.ensures.bytes.0 c.in-Ok-eq0.field-0-test;
         fragments = c.loop-machine.out.whole;
         prompt = prompt-now whole b start refl c.requires.marked i.fed _ (c.in-Ok-eq0.ensures.last ∙ c.in-Ok-eq0.field-0-test);
-        comes = (fed-tells whole b start refl c.requires.marked i.fed _ refl refl, fed-fault whole b start refl c.requires.marked i.fed ∙ c.in-Err-finish.ensures.err, λ _. search rules);
+        gives = (fed-emits whole b start refl c.requires.marked i.fed _ refl refl, fed-fault whole b start refl c.requires.marked i.fed ∙ c.in-Err-finish.ensures.err, λ _. search rules);
         kept = λ _. i.kept;
       },
       refl,
@@ -62,8 +62,8 @@ returns-in-Err-finish-clause-runs g c =
 
 pub returns-in-Err-clause-runs : goal.returns-in-Err-clause-runs
 returns-in-Err-clause-runs g c =
-    let whole = (g.M.Machine.stands c.args.machine.now).reads in
-    let start = outside (g.W.Sink.contents c.args.w.now) unused c.args.ledger.now uncounted in
+    let whole = (g.M.Machine.continuation c.args.machine.now).reads in
+    let start = environment (g.W.Sink.contents c.args.w.now) unused c.args.ledger.now uncounted in
     let (b, i) = c.loop-machine.invariant in (
       record {
         bytes = b;
@@ -71,7 +71,7 @@ returns-in-Err-clause-runs g c =
         given = Consumes-kept _ _ _ _ i.read c.in-Err.ensures.bytes;
         fragments = c.loop-machine.out.whole;
         prompt = prompt-now whole b start refl c.requires.marked i.fed _ c.in-Err.ensures.last_err;
-        comes = (fed-tells whole b start refl c.requires.marked i.fed _ refl refl, fed-undecided whole b start refl c.requires.marked i.fed, i.total, c.in-Err.ensures.failed_err);
+        gives = (fed-emits whole b start refl c.requires.marked i.fed _ refl refl, fed-undecided whole b start refl c.requires.marked i.fed, i.total, c.in-Err.ensures.failed_err);
         kept = λ _. i.kept;
       },
       refl,
@@ -79,7 +79,7 @@ returns-in-Err-clause-runs g c =
 
 pub loop-machine-preserved : goal.loop-machine-preserved
 loop-machine-preserved g c =
-    let whole = (g.M.Machine.stands c.args.machine.now).reads in
+    let whole = (g.M.Machine.continuation c.args.machine.now).reads in
     let (b, i) = c.loop-machine.invariant in
     let fed = c.in-Ok-feed.ensures in
     let got = take c.in-Ok.n c.read.new.into in
@@ -97,19 +97,19 @@ loop-machine-preserved g c =
         kept = fed.takes.kept (λ e. absurd cc) ∙ i.kept;
         total = omega (arith, i.total, length-append b got);
         bytes = bytes-more b got i.bytes fed.bytes;
-        bound = omega (arith, i.total, goes.reached, i.fed.stands.reached, length-append b got, fed.near);
+        bound = omega (arith, i.total, goes.reached, i.fed.is_after.reached, length-append b got, fed.near);
       },
     )
 
 pub returns-in-Err-feed-clause-runs : goal.returns-in-Err-feed-clause-runs
 returns-in-Err-feed-clause-runs g c =
-    let whole = (g.M.Machine.stands c.args.machine.now).reads in
+    let whole = (g.M.Machine.continuation c.args.machine.now).reads in
     let (b, i) = c.loop-machine.invariant in
     let got = take c.in-Ok.n c.read.new.into in
     let kept : length c.read.new.into ≡ length c.loop-machine.copy = search rules in
-    let start = outside (g.W.Sink.contents c.args.w.now) unused c.args.ledger.now uncounted in
-    let before = outside (g.W.Sink.contents c.loop-machine.w) c.loop-machine.out c.loop-machine.ledger (g.M.Machine.counted c.loop-machine.machine) in
-    let behind = outside (g.W.Sink.contents c.feed.new.w) c.feed.new.out c.feed.new.ledger (g.M.Machine.counted c.feed.new.machine) in
+    let start = environment (g.W.Sink.contents c.args.w.now) unused c.args.ledger.now uncounted in
+    let before = environment (g.W.Sink.contents c.loop-machine.w) c.loop-machine.out c.loop-machine.ledger (g.M.Machine.counted c.loop-machine.machine) in
+    let following = environment (g.W.Sink.contents c.feed.new.w) c.feed.new.out c.feed.new.ledger (g.M.Machine.counted c.feed.new.machine) in
     let few : length got ≤ c.args.ledger.now.live = omega (arith, i.room, kept, length-take c.in-Ok.n c.read.new.into) in
     let gave : length got ≡ g.R.Source.last_read c.read.new.self = omega (arith, length-take c.in-Ok.n c.read.new.into, c.in-Ok.ensures.bound, c.in-Ok.ensures.last) in (
       record {
@@ -117,8 +117,8 @@ returns-in-Err-feed-clause-runs g c =
         fits = bytes-more b got i.bytes c.in-Err-feed.ensures.bytes;
         given = Consumes-trans _ _ _ _ _ i.read c.in-Ok.ensures.bytes.0;
         fragments = c.feed.new.out.whole;
-        prompt = prompt-read whole b start refl c.requires.marked i.fed got behind _ (record { few = few; gave = gave });
-        comes = fed-takes {around = record { before = before; after = behind; failed = g.W.Sink.has_failed c.loop-machine.w; failed' = g.W.Sink.has_failed c.feed.new.w }} whole b start refl c.requires.marked i.fed i.claim _ (record { few = few; gave = gave }) refl refl (λ other. c.in-Err-feed.ensures.sent (λ is. other cc)) refl c.in-Err-feed.ensures.takes;
+        prompt = prompt-read whole b start refl c.requires.marked i.fed got following _ (record { few = few; gave = gave });
+        gives = fed-takes {change = record { before = before; after = following; failed = g.W.Sink.has_failed c.loop-machine.w; failed' = g.W.Sink.has_failed c.feed.new.w }} whole b start refl c.requires.marked i.fed i.claim _ (record { few = few; gave = gave }) refl refl (λ other. c.in-Err-feed.ensures.sent (λ is. other cc)) refl c.in-Err-feed.ensures.takes;
         kept = λ other. c.in-Err-feed.ensures.takes.kept (λ is. other cc) ∙ i.kept;
       },
       refl,

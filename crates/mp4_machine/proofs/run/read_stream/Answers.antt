@@ -10,7 +10,7 @@ returns-in-Err-clause-runs g c =
     let refused = rw c.mark.ensures.marked at c.in-Err.ensures in
     let copy : c.from.result ≡ c.args.copy = c.from.ensures in
     rw (c.of_refusal.ensures, refused.err, begun.counted)
-    (idle-stops (g.M.Machine.stands c.args.machine.now).reads _ _ c.args.ledger.now.live c.in-Err.refused begun.none (Consumes-nil _) (Appends-nil _) refl c.requires.idle refl
+    (idle-stops (g.M.Machine.continuation c.args.machine.now).reads _ _ c.args.ledger.now.live c.in-Err.refused begun.none (Consumes-nil _) (Appends-nil _) refl c.requires.idle refl
     (λ e. omega (arith, refused.over_limit.0 (ap Err e), copy))
     (λ e. omega (arith, within_limit c.args.ledger.now.limit (c.args.ledger.now.live + c.from.result) (ap Err e) refused.over_limit.1, copy)))
 

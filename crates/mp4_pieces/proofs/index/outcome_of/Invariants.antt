@@ -1,5 +1,5 @@
 use Rattle.std.proofs.Common.{◌≡◌, ◌+◌, length}
-use Rattle.mp4_pieces.specs.Working.Rooming.{passes_from}
+use Rattle.mp4_pieces.specs.Implementation.Rooming.{passes_from}
 use Rattle.mp4_pieces.specs.Rooms.{passes_index}
 use Rattle.mp4_pieces.proofs.index.outcome_of.Given as goal
 

@@ -1,7 +1,7 @@
 use Rattle.std.proofs.Common.{arith}
 use Rattle.std.proofs.lemmas.Grind.{common_steps}
 use Rattle.std.proofs.lemmas.Int.{to_z-of_z}
-use Rattle.mp4_pieces.specs.Working.Growing.{with_row}
+use Rattle.mp4_pieces.specs.Implementation.Growing.{with_row}
 use Rattle.mp4_pieces.proofs.pieces.with_row.Goals as goal
 
 pub returns : goal.returns

@@ -6,12 +6,12 @@ use Rattle.mp4_pieces.proofs.PlainLemmas.{plain_first, some_first}
 use Rattle.mp4_pieces.proofs.plain.first_by_row.Goals as goal
 
 pub unreachable-requires : goal.unreachable-requires
-unreachable-requires c = some_first c.args.cut.now c.args.held.now c.args.run.now c.args.at.now c.requires.some (sym c.at.ensures ∙ c.in_default.ensures.steps.0)
+unreachable-requires c = some_first c.args.cut.now c.args.moof_bytes.now c.args.run.now c.args.at.now c.requires.some (sym c.at.ensures ∙ c.in_default.ensures.steps.0)
 
 pub returns : goal.returns
 returns c =
     let cut = c.args.cut.now in
-    let held = c.args.held.now in
+    let moof_bytes = c.args.moof_bytes.now in
     let run = c.args.run.now in
-    plain_first cut held run c.args.at.now c.in-Some.piece c.next.new.self c.requires.cursor (sym c.at.ensures ∙ c.in-Some.ensures.steps)
-    ∙ ap (λ (p : PlainPiece). piece_of held run p ∷ pieces_from cut held run (plain_end p)) (sym c.of.ensures)
+    plain_first cut moof_bytes run c.args.at.now c.in-Some.piece c.next.new.self c.requires.cursor (sym c.at.ensures ∙ c.in-Some.ensures.steps)
+    ∙ ap (λ (p : PlainPiece). piece_of moof_bytes run p ∷ pieces_from cut moof_bytes run (plain_end p)) (sym c.of.ensures)

@@ -8,7 +8,7 @@ use Rattle.mp4_pieces.proofs.rooms.note_runs.Given as goal
 -- those so far and those of the runs that are left
 abbrev pub invariant-loop-run : goal.invariant-loop-run
 invariant-loop-run l = record {
-  runs : AreRunsOf l.held l.run-iterator;
-  count : l.count + piece_count l.cut l.held l.run-iterator ≡ piece_count l.cut l.held l.fn.runs;
-  best : least_from l.best (index_faults l.cut l.held l.run-iterator) ≡ least_from l.fn.best (index_faults l.cut l.held l.fn.runs);
+  runs : AreRunsOf l.moof_bytes l.run-iterator;
+  count : l.count + piece_count l.cut l.moof_bytes l.run-iterator ≡ piece_count l.cut l.moof_bytes l.fn.runs;
+  best : least_from l.best (index_faults l.cut l.moof_bytes l.run-iterator) ≡ least_from l.fn.best (index_faults l.cut l.moof_bytes l.fn.runs);
 }

@@ -13,21 +13,21 @@ use Rattle.mp4_pieces.proofs.rooms.note_trafs.Goals as goal
 pub note_runs-count-requires-clause-runs : goal.note_runs-count-requires-clause-runs
 note_runs-count-requires-clause-runs c =
     let steps = ap (λ (ts : List TrackFragment). flat_map runs_of ts) c.in-Some.ensures.steps in
-    subst (AreRunsOf c.args.held.now) (sym c.runs.ensures) (of_both c.args.held.now (runs_of c.in-Some.traf) (flat_map runs_of c.next.new.self) (subst (AreRunsOf c.args.held.now) steps c.loop-traf.invariant.runs)).0
+    subst (AreRunsOf c.args.moof_bytes.now) (sym c.runs.ensures) (of_both c.args.moof_bytes.now (runs_of c.in-Some.traf) (flat_map runs_of c.next.new.self) (subst (AreRunsOf c.args.moof_bytes.now) steps c.loop-traf.invariant.runs)).0
 
 pub loop-traf-preserved : goal.loop-traf-preserved
 loop-traf-preserved c =
     let cut = c.args.cut.now in
-    let held = c.args.held.now in
+    let moof_bytes = c.args.moof_bytes.now in
     let rest = flat_map runs_of c.next.new.self in
     let steps = ap (λ (ts : List TrackFragment). flat_map runs_of ts) c.in-Some.ensures.steps in
     let before = c.loop-traf.invariant in
     record {
-      runs = (of_both held (runs_of c.in-Some.traf) rest (subst (AreRunsOf held) steps before.runs)).1;
-      count = count_past cut held (flat_map runs_of c.loop-traf.traf-iterator) (runs_of c.in-Some.traf) rest _ c.loop-traf.count c.note_runs-count.result steps before.count (c.note_runs-count.ensures.count ∙ ap (piece_count cut held) c.runs.ensures);
-      best = best_past cut held (flat_map runs_of c.loop-traf.traf-iterator) (runs_of c.in-Some.traf) rest c.loop-traf.best c.note_runs-count.new.best steps (c.note_runs-count.ensures.best ∙ ap (λ (xs : List Run). least_from c.loop-traf.best (index_faults cut held xs)) c.runs.ensures) ∙ before.best;
+      runs = (of_both moof_bytes (runs_of c.in-Some.traf) rest (subst (AreRunsOf moof_bytes) steps before.runs)).1;
+      count = count_past cut moof_bytes (flat_map runs_of c.loop-traf.traf-iterator) (runs_of c.in-Some.traf) rest _ c.loop-traf.count c.note_runs-count.result steps before.count (c.note_runs-count.ensures.count ∙ ap (piece_count cut moof_bytes) c.runs.ensures);
+      best = best_past cut moof_bytes (flat_map runs_of c.loop-traf.traf-iterator) (runs_of c.in-Some.traf) rest c.loop-traf.best c.note_runs-count.new.best steps (c.note_runs-count.ensures.best ∙ ap (λ (xs : List Run). least_from c.loop-traf.best (index_faults cut moof_bytes xs)) c.runs.ensures) ∙ before.best;
     }
 
 pub returns-clause-best : goal.returns-clause-best
 returns-clause-best c =
-    best_end c.args.cut.now c.args.held.now (flat_map runs_of c.loop-traf.traf-iterator) c.loop-traf.best _ (ap (λ (ts : List TrackFragment). flat_map runs_of ts) c.in-None.ensures.steps.0) c.loop-traf.invariant.best
+    best_end c.args.cut.now c.args.moof_bytes.now (flat_map runs_of c.loop-traf.traf-iterator) c.loop-traf.best _ (ap (λ (ts : List TrackFragment). flat_map runs_of ts) c.in-None.ensures.steps.0) c.loop-traf.invariant.best

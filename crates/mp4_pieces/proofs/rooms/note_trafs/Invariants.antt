@@ -10,7 +10,7 @@ use Rattle.mp4_pieces.proofs.rooms.note_trafs.Given as goal
 -- those so far and those of the trafs that are left
 abbrev pub invariant-loop-traf : goal.invariant-loop-traf
 invariant-loop-traf l = record {
-  runs : AreRunsOf l.held (flat_map runs_of l.traf-iterator);
-  count : l.count + piece_count l.cut l.held (flat_map runs_of l.traf-iterator) ≡ piece_count l.cut l.held (flat_map runs_of l.fn.trafs);
-  best : least_from l.best (index_faults l.cut l.held (flat_map runs_of l.traf-iterator)) ≡ least_from l.fn.best (index_faults l.cut l.held (flat_map runs_of l.fn.trafs));
+  runs : AreRunsOf l.moof_bytes (flat_map runs_of l.traf-iterator);
+  count : l.count + piece_count l.cut l.moof_bytes (flat_map runs_of l.traf-iterator) ≡ piece_count l.cut l.moof_bytes (flat_map runs_of l.fn.trafs);
+  best : least_from l.best (index_faults l.cut l.moof_bytes (flat_map runs_of l.traf-iterator)) ≡ least_from l.fn.best (index_faults l.cut l.moof_bytes (flat_map runs_of l.fn.trafs));
 }

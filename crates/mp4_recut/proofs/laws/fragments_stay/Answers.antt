@@ -9,5 +9,5 @@ use Rattle.mp4_recut.proofs.laws.fragments_stay.Goals as goal
 
 pub returns : goal.returns
 returns c cut b later n few =
-    let (more, all, past) = (reads-grow (splitting cut) (splitting-growing cut) first_context b later).effects.marks in
-    sym (whole_in-before n 0 (reading cut b).effects.marks more _ (sym all) (ArePast-fewer _ n more few past))
+    let (more, all, past) = (reads-grow (splitting cut) (splitting-growing cut) first_context b later).effects.fragment_ends in
+    sym (whole_in-before n 0 (reading cut b).effects.fragment_ends more _ (sym all) (ArePast-fewer _ n more few past))

@@ -1,7 +1,7 @@
 use Rattle.std.proofs.Common.{◌-◌, ap, arith, refl}
 use Rattle.mp4_machine.specs.declared.body.Body.{Body}
-use Rattle.mp4_machine.proofs.PieceLemmas.{Moves-none}
-use Rattle.mp4_machine.proofs.StandingLemmas.{GoesOn-over, GoesOn-passed}
+use Rattle.mp4_machine.proofs.InputLemmas.{Moves-none}
+use Rattle.mp4_machine.proofs.ContinuationLemmas.{GoesOn-over, GoesOn-passed}
 use Rattle.mp4_machine.proofs.StepLemmas.{GoesOn-then}
 use Rattle.mp4_stream.specs.Boxes.{passed, reading}
 use Rattle.mp4_stream.specs.States.{at_header}
@@ -15,7 +15,7 @@ returns-then-body-gt0 c = λ o failed.
     let is = c.requires.state in (
       omega (arith, came.taken, c.requires.some, is.1),
       omega (arith, came.taken),
-      record { goes = rw came.left (GoesOn-passed reading b.next 0 o b c.take-count.result c.args.piece.now came.taken is.2); unfailed = refl; claim = omega arith },
+      record { goes = rw came.left (GoesOn-passed reading b.next 0 o b c.take-count.result c.args.input.now came.taken is.2); unfailed = refl; claim = omega arith },
       rw came.left (refl, omega (arith, left_is, c.if-body-gt0.true), omega (arith, is.2), is.3),
     )
 
@@ -30,7 +30,7 @@ returns c = λ o failed.
       omega (arith, came.taken, c.requires.some, is.1),
       omega (arith, came.taken),
       record {
-        goes = rw came.left (GoesOn-then (omega arith) (GoesOn-passed reading b.next 0 o b n c.args.piece.now came.taken is.2) (at_header b.next)
+        goes = rw came.left (GoesOn-then (omega arith) (GoesOn-passed reading b.next 0 o b n c.args.input.now came.taken is.2) (at_header b.next)
             (GoesOn-over reading b.next 0 o o passed left (at_header b.next) (omega (arith, left_is, c.if-body-gt0.false)) refl (Moves-none o 0) (omega arith) (λ later. refl)));
         unfailed = refl;
         claim = omega arith;

@@ -2,4 +2,4 @@ use Rattle.mp4_stream.proofs.BoxAskLemmas.{listing-before}
 use Rattle.mp4_stream.proofs.laws.lines_before.Goals as goal
 
 pub returns : goal.returns
-returns c b before a behind e = listing-before b before a behind e
+returns c b before a after e = listing-before b before a after e

@@ -1,9 +1,9 @@
 use Rattle.std.proofs.Common.{◌++◌, ap, arith, refl, ◌∙◌}
 use Rattle.mp4_machine.proofs.StepLemmas.{StopsIn-refused}
 use Rattle.mp4_box.specs.Trees.{faults_of}
-use Rattle.mp4_stream.specs.States.{outside}
+use Rattle.mp4_stream.specs.States.{environment}
 use Rattle.mp4_stream.proofs.HoldingLemmas.{verdict_good, verdict_bad}
-use Rattle.mp4_stream.proofs.StateLemmas.{GoesOn-good, Loses-good, Refuses-tree}
+use Rattle.mp4_stream.proofs.StateLemmas.{GoesOn-good, Refuses-tree, WriteFailed-good}
 use Rattle.mp4_stream.proofs.listed_box.list_box.Goals as goal
 
 pub returns-in-Err : goal.returns-in-Err
@@ -20,7 +20,7 @@ pub returns-in-Err-put_tree : goal.returns-in-Err-put_tree
 returns-in-Err-put_tree g c h a came =
     let good = ap faults_of came.is ∙ verdict_good c.check.ensures c.in-Ok.is in
     record {
-      stops = λ more later. Loses-good (outside (g.W.Sink.contents c.args.w.now) c.args.out.now a) h came.claim came.len _ _ (more ++ later) good (rw came.is c.in-Err-put_tree.ensures.breaks);
+      stops = λ more later. WriteFailed-good (environment (g.W.Sink.contents c.args.w.now) c.args.out.now a) h came.claim came.len _ _ (more ++ later) good (rw came.is c.in-Err-put_tree.ensures.breaks);
       failed = λ e. c.in-Err-put_tree.ensures.failed;
       unfailed = λ other. absurd (other refl);
     }

@@ -1,12 +1,12 @@
-use Rattle.mp4_stream.specs.States.{outside}
+use Rattle.mp4_stream.specs.States.{environment}
 use Rattle.mp4_stream.proofs.step.take_next.Goals as goal
 
 pub returns-in-Body : goal.returns-in-Body
 returns-in-Body g c =
     let is = rw c.in-Body.is at c.requires.state in
-    rw (c.in-Body.is, is.0) (c.take_body.ensures (outside (g.W.Sink.contents c.args.w.now) c.args.out.now c.args.ledger.now) (g.W.Sink.has_failed c.args.w.now))
+    rw (c.in-Body.is, is.0) (c.take_body.ensures (environment (g.W.Sink.contents c.args.w.now) c.args.out.now c.args.ledger.now) (g.W.Sink.has_failed c.args.w.now))
 
 pub returns-in-OpenBody : goal.returns-in-OpenBody
 returns-in-OpenBody g c =
     let is = rw c.in-OpenBody.is at c.requires.state in
-    rw (c.in-OpenBody.is, is.0) (c.take_open.ensures (outside (g.W.Sink.contents c.args.w.now) c.args.out.now c.args.ledger.now) (g.W.Sink.has_failed c.args.w.now))
+    rw (c.in-OpenBody.is, is.0) (c.take_open.ensures (environment (g.W.Sink.contents c.args.w.now) c.args.out.now c.args.ledger.now) (g.W.Sink.has_failed c.args.w.now))

@@ -1,18 +1,18 @@
 use Rattle.std.proofs.Common.{◌≡◌, ◌∙◌, ◌∷◌, ◌++◌, Some, ap, arith, refl, sym, subst, take}
-use Rattle.mp4_machine.specs.Fed.{Lent}
-use Rattle.mp4_recut.specs.declared.plan.Plan.{Plan}
+use Rattle.mp4_machine.specs.Fed.{Borrowed}
+use Rattle.mp4_recut.specs.declared.operation.Operation.{Operation}
 use Rattle.fmp4_c.specs.Answers.{answer_to}
 use Rattle.fmp4_c.specs.Engines.{Holds, Run, Stopped, held_in}
-use Rattle.fmp4_c.proofs.HoldLemmas.{after-its, fed-stopped, plan-its, stopped, text-its}
+use Rattle.fmp4_c.proofs.HoldLemmas.{after-its, fed-stopped, operation-its, stopped, text-its}
 use Rattle.fmp4_c.proofs.engine.Engine.feed.Goals as goal
 
 pub returns-in-Err-clause-feeds : goal.returns-in-Err-clause-feeds
-returns-in-Err-clause-feeds c = rw (c.fed-in-Err.ensures.is, c.of_stop-in-Err.ensures) (λ plan b given h.
-    let chunk = take c.portion-taken.result c.args.chunk.now in
+returns-in-Err-clause-feeds c = rw (c.fed-in-Err.ensures.is, c.of_stop-in-Err.ensures) (λ operation b given h.
+    let input = take c.portion-taken.result c.args.input.now in
     let p = c.in-Some.feeder in
-    let now : Run = record { account = c.self.inside.ledger; feeding = c.self.inside.feeder; waiting = c.self.inside.out; share = c.self.inside.share; told = c.self.inside.told } in
-    let next : Run = record { account = c.feed.new.ledger; feeding = Some c.feed.new.self; waiting = c.feed.new.w; share = c.self.inside.share; told = c.self.inside.told } in
-    let l : Lent = record {
+    let now : Run = record { account = c.self.inside.ledger; feeding = c.self.inside.feeder; waiting = c.self.inside.out; share = c.self.inside.share; reported = c.self.inside.reported } in
+    let next : Run = record { account = c.feed.new.ledger; feeding = Some c.feed.new.self; waiting = c.feed.new.w; share = c.self.inside.share; reported = c.self.inside.reported } in
+    let l : Borrowed = record {
       written = Some (c.self.inside.out.room ∷ c.self.inside.out.bytes);
       written' = Some (c.feed.new.w.room ∷ c.feed.new.w.bytes);
       whole = p.fragments;
@@ -20,8 +20,8 @@ returns-in-Err-clause-feeds c = rw (c.fed-in-Err.ensures.is, c.of_stop-in-Err.en
       account = c.self.inside.ledger;
       account' = c.feed.new.ledger;
     } in
-    let before : Holds plan b given now = subst (λ (r : Run). Holds plan b given r) (sym c.self.view_is) h in
+    let before : Holds operation b given now = subst (λ (r : Run). Holds operation b given r) (sym c.self.view_is) h in
     let had = c.self.invariant ∙ ap held_in c.in-Some.is in
     let idle : c.feed.new.ledger.live ≡ 0 = omega (arith, c.in-Err.ensures.live, c.in-Err.ensures.spent, had) in
-    let fed = stopped b given chunk now next p c.feed.new.self l refl c.feed.ensures.plan refl refl (text-its plan b given now p c.in-Some.is before) refl idle (after-its plan b given now p c.in-Some.is before) refl refl c.in-Err.stop c.in-Err.ensures.stops (c.in-Err.ensures.feeds b (after-its plan b given now p c.in-Some.is before)) in
-    fed-stopped plan (b ++ chunk) given next c.in-Err.stop (subst (λ (k : Plan). Stopped k (b ++ chunk) given (answer_to c.in-Err.stop) next) (plan-its plan b given now p c.in-Some.is before) fed))
+    let fed = stopped b given input now next p c.feed.new.self l refl c.feed.ensures.operation refl refl (text-its operation b given now p c.in-Some.is before) refl idle (after-its operation b given now p c.in-Some.is before) refl refl c.in-Err.stop c.in-Err.ensures.stops (c.in-Err.ensures.feeds b (after-its operation b given now p c.in-Some.is before)) in
+    fed-stopped operation (b ++ input) given next c.in-Err.stop (subst (λ (k : Operation). Stopped k (b ++ input) given (answer_to c.in-Err.stop) next) (operation-its operation b given now p c.in-Some.is before) fed))

@@ -5,11 +5,11 @@ use Rattle.fmp4_c.proofs.HoldLemmas.{after-its, finished-err}
 use Rattle.fmp4_c.proofs.engine.Engine.finish.Goals as goal
 
 pub returns-in-Err-clause-finishes : goal.returns-in-Err-clause-finishes
-returns-in-Err-clause-finishes c = λ plan b given h.
+returns-in-Err-clause-finishes c = λ operation b given h.
     let p = c.in-Some.feeder in
-    let now : Run = record { account = c.self.inside.ledger; feeding = c.self.inside.feeder; waiting = c.self.inside.out; share = c.self.inside.share; told = c.self.inside.told } in
-    let before : Holds plan b given now = subst (λ (r : Run). Holds plan b given r) (sym c.self.view_is) h in
+    let now : Run = record { account = c.self.inside.ledger; feeding = c.self.inside.feeder; waiting = c.self.inside.out; share = c.self.inside.share; reported = c.self.inside.reported } in
+    let before : Holds operation b given now = subst (λ (r : Run). Holds operation b given r) (sym c.self.view_is) h in
     let is = sym c.in-Some.ensures.value in
-    subst (λ (a : Answer). Finished plan b a c.of-in-Err.result) (sym c.of_stop.ensures)
-    (finished-err plan b given now p c.in-Err.stop is before (c.in-Err.ensures.finishes b (after-its plan b given now p is before)) c.of-in-Err.result
+    subst (λ (a : Answer). Finished operation b a c.of-in-Err.result) (sym c.of_stop.ensures)
+    (finished-err operation b given now p c.in-Err.stop is before (c.in-Err.ensures.finishes b (after-its operation b given now p is before)) c.of-in-Err.result
     (rw (c.of-in-Err.ensures, c.totals-totals.ensures.totals, c.fault_in.ensures) refl))

@@ -4,8 +4,8 @@ use Rattle.fmp4_c.proofs.HoldLemmas.{stopped-taken}
 use Rattle.fmp4_c.proofs.engine.Engine.take.Goals as goal
 
 pub returns-clause-stopped : goal.returns-clause-stopped
-returns-clause-stopped c = λ plan b given a h.
-    let now : Run = record { account = c.self.inside.ledger; feeding = c.self.inside.feeder; waiting = c.self.inside.out; share = c.self.inside.share; told = c.self.inside.told } in
-    let next : Run = record { account = c.self.inside.ledger; feeding = c.self.inside.feeder; waiting = c.take.new.self; share = c.self.inside.share; told = c.self.inside.told } in
-    let before : Stopped plan b given a now = subst (λ (r : Run). Stopped plan b given a r) (sym c.self.view_is) h in
-    stopped-taken plan b given c.take.new.out c.take.result now next c.take.ensures.front c.take.ensures.left refl refl a before
+returns-clause-stopped c = λ operation b given a h.
+    let now : Run = record { account = c.self.inside.ledger; feeding = c.self.inside.feeder; waiting = c.self.inside.out; share = c.self.inside.share; reported = c.self.inside.reported } in
+    let next : Run = record { account = c.self.inside.ledger; feeding = c.self.inside.feeder; waiting = c.take.new.self; share = c.self.inside.share; reported = c.self.inside.reported } in
+    let before : Stopped operation b given a now = subst (λ (r : Run). Stopped operation b given a r) (sym c.self.view_is) h in
+    stopped-taken operation b given c.take.new.out c.take.result now next c.take.ensures.front c.take.ensures.left refl refl a before

@@ -3,7 +3,7 @@ use Rattle.mp4_box.specs.declared.rules.Fault.{Fault}
 use Rattle.mp4_box.specs.Trees.{Box, view, children}
 use Rattle.mp4_box.specs.Order.{least_from}
 use Rattle.mp4_frag.specs.Repeats.{repeats, trafs_before}
-use Rattle.mp4_frag.specs.Working.RepeatMarks.{marks}
+use Rattle.mp4_frag.specs.Implementation.RepeatMarks.{marks}
 use Rattle.mp4_frag.proofs.PassLemmas.{trafs, before_more, after_more, marks_more, repeats_more}
 use Rattle.mp4_frag.proofs.repeats.Marks.note_all.Goals as goal
 

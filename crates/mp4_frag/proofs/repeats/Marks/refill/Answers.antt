@@ -1,7 +1,7 @@
 use Rattle.std.proofs.Common.{◌∙◌, List, cond, true, take, sym, ap}
 use Rattle.mp4_box.specs.Trees.{Box}
 use Rattle.mp4_frag.specs.Repeats.{is_listed}
-use Rattle.mp4_frag.specs.Working.RepeatMarks.{all_marked}
+use Rattle.mp4_frag.specs.Implementation.RepeatMarks.{all_marked}
 use Rattle.mp4_frag.proofs.PassLemmas.{trafs, listed_none_left, marked_none_left}
 use Rattle.mp4_frag.proofs.repeats.Marks.refill.Goals as goal
 

@@ -6,4 +6,4 @@ pub returns-clause-rows : goal.returns-clause-rows
 returns-clause-rows c =
     c.split_at.ensures.front
     ∙ ap (take (16 * c.args.count)) c.groups_from-groups.ensures
-    ∙ whole_groups c.args.self.now c.args.held.now c.args.first c.args.count (λ i. (c.type_inv.held i).fits) (search rules)
+    ∙ whole_groups c.args.self.now c.args.moof_bytes.now c.args.first c.args.count (λ i. (c.type_inv.moof_bytes i).fits) (search rules)

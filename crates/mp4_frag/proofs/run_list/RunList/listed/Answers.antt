@@ -1,6 +1,6 @@
 use Rattle.std.proofs.Common.{◌∙◌, ap}
 use Rattle.mp4_frag.specs.RunLists.{ListedRows}
-use Rattle.mp4_frag.specs.Working.RunRows.{listed_row}
+use Rattle.mp4_frag.specs.Implementation.RunRows.{listed_row}
 use Rattle.mp4_frag.proofs.RunListLemmas.{listed_is}
 use Rattle.mp4_frag.proofs.run_list.RunList.listed.Goals as goal
 

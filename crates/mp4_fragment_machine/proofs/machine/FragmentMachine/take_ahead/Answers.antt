@@ -1,26 +1,26 @@
 use Rattle.std.proofs.Common.{ap, arith}
 use Rattle.std.specs.Prelude.{Ok}
 use Rattle.mp4_frag.specs.Runs.{moof_at}
-use Rattle.mp4_fragment_machine.proofs.FragmentLemmas.{lone_is, moof_len, moof_whole}
+use Rattle.mp4_fragment_machine.proofs.FragmentLemmas.{single_is, moof_len, moof_whole}
 use Rattle.mp4_fragment_machine.proofs.machine.FragmentMachine.take_ahead.Goals as goal
 
 pub read-requires-clause-whole : goal.read-requires-clause-whole
 read-requires-clause-whole g c =
-    moof_whole c.args.at c.args.piece.now c.in-Some-Some.boxes c.in-Some-Some.ensures.are
+    moof_whole c.args.at c.args.input.now c.in-Some-Some.boxes c.in-Some-Some.ensures.are
 
 pub read-requires-clause-room : goal.read-requires-clause-room
 read-requires-clause-room g c =
     let are = c.in-Some-Some.ensures.are in
-    omega (arith, moof_len c.args.at c.args.piece.now c.in-Some-Some.boxes are, are.moof.near)
+    omega (arith, moof_len c.args.at c.args.input.now c.in-Some-Some.boxes are, are.moof.near)
 
-pub take_whole-requires-clause-lone : goal.take_whole-requires-clause-lone
-take_whole-requires-clause-lone g c =
-    rw (← c.self.view_is, c.in-Some-Some.is-1, c.in-Ok-Some.run-is) (c.in-Ok-Some.ensures.lone c.in-Ok-Some.run' (ap Ok c.in-Ok-Some.field-0-is))
+pub take_in_place-requires-clause-single_run : goal.take_in_place-requires-clause-single_run
+take_in_place-requires-clause-single_run g c =
+    rw (← c.self.view_is, c.in-Some-Some.is-1, c.in-Ok-Some.run-is) (c.in-Ok-Some.ensures.single_run c.in-Ok-Some.run' (ap Ok c.in-Ok-Some.field-0-is))
 
-pub take_whole-requires-clause-taken : goal.take_whole-requires-clause-taken
-take_whole-requires-clause-taken g c =
-    let lone = c.in-Ok-Some.ensures.lone c.in-Ok-Some.run' (ap Ok c.in-Ok-Some.field-0-is) in
-    rw (← c.self.view_is, c.in-Ok-Some.run-is) (c.looks_ahead.ensures c.in-Ok-Some.run' c.if-looks_ahead.true (lone_is (moof_at c.in-Some-Some.boxes.moof.now c.args.at) c.in-Some-Some.list c.in-Ok-Some.run' lone).few)
+pub take_in_place-requires-clause-taken : goal.take_in_place-requires-clause-taken
+take_in_place-requires-clause-taken g c =
+    let single_run = c.in-Ok-Some.ensures.single_run c.in-Ok-Some.run' (ap Ok c.in-Ok-Some.field-0-is) in
+    rw (← c.self.view_is, c.in-Ok-Some.run-is) (c.tries_in_place.ensures c.in-Ok-Some.run' c.if-tries_in_place.true (single_is (moof_at c.in-Some-Some.boxes.moof.now c.args.at) c.in-Some-Some.list c.in-Ok-Some.run' single_run).few)
 
 pub refuse-requires-clause-good : goal.refuse-requires-clause-good
 refuse-requires-clause-good g c =

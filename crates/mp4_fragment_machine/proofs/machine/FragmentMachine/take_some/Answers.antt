@@ -2,16 +2,16 @@ use Rattle.std.proofs.Common.{◌∙◌, ap, sym}
 use Rattle.mp4_fragment_machine.specs.States.{Progress}
 use Rattle.mp4_fragment_machine.proofs.machine.FragmentMachine.take_some.Goals as goal
 
-pub returns-then-piece-body : goal.returns-then-piece-body
-returns-then-piece-body g c =
+pub returns-then-input-body : goal.returns-then-input-body
+returns-then-input-body g c =
     c.pass_within.ensures (record { written = g.W.Sink.contents c.args.w.now; waiting = c.args.out.now; failed = g.W.Sink.has_failed c.args.w.now })
 
 pub returns-in-Body : goal.returns-in-Body
 returns-in-Body g c =
     c.finish_body.ensures (record { written = g.W.Sink.contents c.args.w.now; waiting = c.args.out.now; failed = g.W.Sink.has_failed c.args.w.now })
 
-pub pay_media-requires : goal.pay_media-requires
-pay_media-requires g c =
+pub copy_media-requires : goal.copy_media-requires
+copy_media-requires g c =
     record {
       some = c.requires.some;
       media = (c.in-Media.field-0, ap (λ (p : Progress). p.state) (sym c.self.view_is) ∙ c.in-Media.is);

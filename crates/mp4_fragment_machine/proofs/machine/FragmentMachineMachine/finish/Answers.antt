@@ -1,4 +1,4 @@
-use Rattle.mp4_recut.specs.Plans.{plan_meaning, number_in}
+use Rattle.mp4_recut.specs.Operations.{operation_meaning, number_in}
 use Rattle.std.proofs.Common.{refl}
 use Rattle.std.proofs.lemmas.Bool.{false≢true}
 use Rattle.mp4_grammar.specs.Contexts.{context}
@@ -9,11 +9,11 @@ use Rattle.mp4_fragment_machine.proofs.machine.FragmentMachineMachine.finish.Goa
 pub returns-then-is_empty-clause-ok : goal.returns-then-is_empty-clause-ok
 returns-then-is_empty-clause-ok c =
     let m = c.self.inside in
-    rw (← c.self.view_is, c.in-Header.is) (ends-none (plan_meaning m.kept.plan) (context c.in-Header.at m.kept.tracks (number_in m.kept.plan m.kept.counter.tally)) m.kept.head (c.if-is_empty.ensures.0 refl))
+    rw (← c.self.view_is, c.in-Header.is) (ends-none (operation_meaning m.session.operation) (context c.in-Header.at m.session.tracks (number_in m.session.operation m.session.counter.tally)) m.session.head (c.if-is_empty.ensures.0 refl))
 
 pub returns-else-is_empty-clause-err : goal.returns-else-is_empty-clause-err
 returns-else-is_empty-clause-err c =
     let m = c.self.inside in
     let is = rw c.in-Header.is at c.self.invariant in
     rw (← c.self.view_is, c.in-Header.is, c.truncated.ensures, c.kind.ensures.computed)
-    (ends-header (plan_meaning m.kept.plan) (context c.in-Header.at m.kept.tracks (number_in m.kept.plan m.kept.counter.tally)) m.kept.head (some_bytes m.kept.head (λ e. false≢true (c.if-is_empty.ensures.1 e))) is.0.0)
+    (ends-header (operation_meaning m.session.operation) (context c.in-Header.at m.session.tracks (number_in m.session.operation m.session.counter.tally)) m.session.head (some_bytes m.session.head (λ e. false≢true (c.if-is_empty.ensures.1 e))) is.0.0)

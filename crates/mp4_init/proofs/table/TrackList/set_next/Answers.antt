@@ -3,8 +3,8 @@ use Rattle.std.specs.Prelude.{map}
 use Rattle.std.proofs.lemmas.List.{length-map}
 use Rattle.mp4_ledger.specs.Memory.{Rows}
 use Rattle.mp4_init.specs.declared.search_tree.Node.{Node}
-use Rattle.mp4_init.specs.Working.SearchTrees.{IsIndexed}
-use Rattle.mp4_init.specs.Working.Rows.{track_of_row, node_of_row}
+use Rattle.mp4_init.specs.Implementation.SearchTrees.{IsIndexed}
+use Rattle.mp4_init.specs.Implementation.Rows.{track_of_row, node_of_row}
 use Rattle.mp4_init.specs.Tracks.{with_next}
 use Rattle.std.proofs.Math.Seq.{map-set_same}
 use Rattle.mp4_init.proofs.RowLemmas.{set_row}

@@ -1,6 +1,6 @@
 use Rattle.std.proofs.Common.{◌≡◌, ◌+◌, ◌*◌, ◌++◌, ℕ, List, [], length}
 use Rattle.mp4_machine.specs.Ends.{sent}
-use Rattle.mp4_machine.specs.Groups.{waiting_behind}
+use Rattle.mp4_machine.specs.Groups.{waiting_after}
 use Rattle.mp4_machine.specs.Puts.{HasPut}
 use Rattle.mp4_machine.proofs.block.Block.put_by_blocks.Given as goal
 
@@ -16,5 +16,5 @@ invariant-loop-rest g l = record {
   empty : l.self.bytes ≡ [];
   rounds : ℕ;
   long : length l.fn.bytes ≡ 16384 * rounds + length l.rest;
-  waits : (count groups : ℕ) → length l.fn.bytes ≡ 16 * count → length l.rest ≡ 16 * groups → waiting_behind 0 count ≡ waiting_behind 0 groups;
+  waits : (count groups : ℕ) → length l.fn.bytes ≡ 16 * count → length l.rest ≡ 16 * groups → waiting_after 0 count ≡ waiting_after 0 groups;
 }

@@ -9,7 +9,7 @@ use Rattle.mp4_pieces.proofs.pieces.Pieces.at.Goals as goal
 pub invariant_of-result : goal.invariant_of-result
 invariant_of-result c =
     subst (λ (rows : List Row). HasRoom c.args.cursor rows) (sym c.rows_from.ensures)
-    (cursor_has_room c.args.held.now c.args.run.now c.args.cursor c.requires.run c.requires.cursor)
+    (cursor_has_room c.args.moof_bytes.now c.args.run.now c.args.cursor c.requires.run c.requires.cursor)
 
 pub returns : goal.returns
 returns c =

@@ -9,6 +9,6 @@ returns c =
     let count = c.min-count.ensures in
     let few = c.requires.some in
     rw c.plain_at.ensures
-    (first_counted cut c.args.held.now c.args.run.now at c.min-count.result c.sums_between-sums.result.bytes c.sums_between-sums.result.ticks
+    (first_counted cut c.args.moof_bytes.now c.args.run.now at c.min-count.result c.sums_between-sums.result.bytes c.sums_between-sums.result.ticks
     (not_some cut.bytes (sym c.is_some.ensures ∙ c.if-is_some.false)) c.if-cut.false cut.some c.requires.cursor few (omega (arith, count)) (omega (arith, count, few)) (λ less. omega (arith, count, few, less))
     c.sums_between-sums.ensures.bytes c.sums_between-sums.ensures.ticks)

@@ -6,5 +6,5 @@ use Rattle.mp4_push.proofs.feeder.Feeder.feed.Goals as goal
 
 pub returns-then-is_empty-clause-feeds : goal.returns-then-is_empty-clause-feeds
 returns-then-is_empty-clause-feeds g c =
-    let none : c.args.chunk.now ≡ [] = nil_from_length _ (eqb-true _ 0 (sym c.is_empty.ensures ∙ c.if-is_empty.true)) in
+    let none : c.args.input.now ≡ [] = nil_from_length _ (eqb-true _ 0 (sym c.is_empty.ensures ∙ c.if-is_empty.true)) in
     rw none (λ b s. feeds-none _ c.args.self.now b (g.W.Sink.contents c.args.w.now) c.args.ledger.now s)

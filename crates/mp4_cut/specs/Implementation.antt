@@ -1,0 +1,3 @@
+-- Only the code's own way; no public clause needs this.
+-- What a stream means is defined in the folder above, without these.
+pub mod Fronts

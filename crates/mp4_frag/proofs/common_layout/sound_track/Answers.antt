@@ -1,0 +1,30 @@
+use Rattle.std.proofs.Common.{◌≡◌, ◌∙◌, [], arith, sym}
+use Rattle.mp4_box.specs.Trees.{view}
+use Rattle.mp4_frag.specs.Implementation.CommonLayout.{common_faults}
+use Rattle.mp4_frag.proofs.CommonLayoutLemmas.{none_noted, common_early, common_forms, common_tree, common_values}
+use Rattle.mp4_frag.proofs.common_layout.sound_track.Goals as goal
+
+none : (c : goal.Else-not-is_early) → common_faults c.args.tracks.now (view c.args.common_layout.now.mfhd) (view c.args.common_layout.now.tfhd) (view c.args.common_layout.now.tfdt) (view c.args.common_layout.now.trun) ≡ []
+none c =
+    let u = c.args.common_layout.now in
+    none_noted (common_faults c.args.tracks.now (view u.mfhd) (view u.tfhd) (view u.tfdt) (view u.trun)) c.note_common-found.new.best c.note_common-found.ensures.best (sym c.if-is_some.ensures)
+
+pub returns-clause-tree : goal.returns-clause-tree
+returns-clause-tree c = λ _.
+    let u = c.args.common_layout.now in
+    common_tree c.args.tracks.now (view c.args.moof.now) (view u.mfhd) (view u.traf) (view u.tfhd) (view u.tfdt) (view u.trun) c.requires (none c)
+
+pub returns-clause-forms : goal.returns-clause-forms
+returns-clause-forms c = λ _.
+    let u = c.args.common_layout.now in
+    common_forms c.args.tracks.now (view c.args.moof.now) (view u.mfhd) (view u.traf) (view u.tfhd) (view u.tfdt) (view u.trun) c.requires (none c)
+
+pub returns-clause-values : goal.returns-clause-values
+returns-clause-values c = λ _.
+    let u = c.args.common_layout.now in
+    common_values c.args.tracks.now (view c.args.moof.now) (view u.mfhd) (view u.traf) (view u.tfhd) (view u.tfdt) (view u.trun) c.requires (none c) (omega (arith, c.sample_count.ensures, c.if-sample_count-gt-MOST_IN_MOOF.false))
+
+pub returns-clause-early : goal.returns-clause-early
+returns-clause-early c = λ _.
+    let u = c.args.common_layout.now in
+    common_early c.args.tracks.now (view c.args.moof.now) (view u.mfhd) (view u.traf) (view u.tfhd) (view u.tfdt) (view u.trun) c.requires (none c) (sym c.is_early.ensures ∙ c.if-not-is_early.false) c.note_common-found.ensures.ticks

@@ -1,0 +1,251 @@
+//! A moof of the common layout, read in one straight line: it holds an mfhd and a traf, and that a tfhd, a tfdt and a trun.
+//!
+//! Nearly all moofs of live streams with one track have this form. The findings are the same as those of the general
+//! way.
+
+ghost use Rattle.std.specs.Prelude.{◌≡◌, ◌∷◌, ◌≤◌, ◌^◌, ◌+◌, ◌<◌, ◌==◌, [], not, true, drop, length, Some, IfSome, IsSome};
+ghost use Rattle.std.specs.List.{position};
+ghost use Rattle.std.specs.Str.{bytes_eq};
+ghost use Rattle.mp4_box.specs.Headers.{IsWhole, uuid};
+ghost use Rattle.mp4_box.specs.Order.{least_from};
+ghost use Rattle.mp4_box.specs.Trees.{box_at, box_faults, box_len, view};
+ghost use Rattle.mp4_frag.specs.Implementation.AtOnce.{HasTicks, IsEarly, is_kind};
+ghost use Rattle.mp4_frag.specs.Kinds.{mfhd, tfdt, tfhd, traf, trun};
+ghost use Rattle.mp4_frag.specs.SingleRuns.{IsSingle};
+ghost use Rattle.mp4_frag.specs.Moofs.{value_faults};
+ghost use Rattle.mp4_frag.specs.Rules.{form_faults};
+ghost use Rattle.mp4_frag.specs.Runs.{moof_at};
+ghost use Rattle.mp4_frag.specs.Tfhd.{track_id};
+ghost use Rattle.mp4_frag.specs.Implementation.CommonLayout.{HoldsThree, HoldsTwo, HasCommonLayout, common_faults};
+
+use crate::at_once::is_early;
+use crate::checks::{FlagsOnce, TfhdLength, TrunLength, note_tfhd};
+use crate::counts::MOST_IN_MOOF;
+use crate::mfhd::MFHD_LEN;
+use crate::single_run::{SingleRun, run_with};
+use crate::tfdt::{LONG_TFDT_LEN, TFDT_LEN, base_media_decode_time};
+use crate::trun::sample_count;
+use mp4_box::types::{MFHD, MOOF, TFDT, TFHD, TRAF, TRUN};
+use mp4_box::{BoxRef, Check, Fault, FourCc, Header, Layout, Size, array_at, u32_at};
+use mp4_init::TrackList;
+
+/// The boxes in a moof.
+#[derive(Clone, Copy)]
+struct Two<'a> {
+    mfhd: BoxRef<'a>,
+    traf: BoxRef<'a>,
+}
+
+/// The boxes in a traf.
+#[derive(Clone, Copy)]
+struct Three<'a> {
+    tfhd: BoxRef<'a>,
+    tfdt: BoxRef<'a>,
+    trun: BoxRef<'a>,
+}
+
+/// The boxes of a moof of the common layout.
+#[derive(Clone, Copy)]
+struct CommonLayout<'a> {
+    mfhd: BoxRef<'a>,
+    traf: BoxRef<'a>,
+    tfhd: BoxRef<'a>,
+    tfdt: BoxRef<'a>,
+    trun: BoxRef<'a>,
+}
+
+/// The box at the front of the bytes, which begin at `offset`, where it is of this type and its header has eight bytes and states
+/// a size.
+#[inline(always)]
+fn plain_first<'a>(kind: FourCc, bytes: &'a [u8], offset: u64) -> Option<BoxRef<'a>>
+    requires room { offset + length bytes.now < 2 ^ 63 }
+    requires plain { not (bytes_eq kind.0 uuid) ≡ true }
+    ensures here { IfSome result (λ b. box_at offset bytes.now ≡ Some (view b)) }
+    ensures within { IfSome result (λ b. (8 ≤ box_len (view b)) ×
+        (box_len (view b) ≤ length bytes.now)) }
+    ensures head { IfSome result (λ b. b.header.header_len ≡ 8) }
+    ensures kind { IfSome result (λ b. is_kind kind (view b) ≡ true) }
+{
+    if bytes.len() < 8 {
+        return None;
+    }
+    let size = u32_at(bytes, 0) as usize;
+    if size < 8 || size > bytes.len() || !FourCc(array_at::<4>(bytes, 4)).is(kind) {
+        return None;
+    }
+    Some(BoxRef {
+        header: Header {
+            kind,
+            user: None,
+            size: Size::Exact(size as u64),
+            header_len: 8,
+        },
+        offset,
+        payload: &bytes[8..size],
+    })
+}
+
+/// The bytes of a payload after the box with which it begins.
+#[inline(always)]
+fn rest_after<'a>(bytes: &'a [u8], this: &BoxRef<'_>) -> &'a [u8]
+    requires { box_len (view this.now) ≤ length bytes.now }
+    ensures { result.now ≡ drop (box_len (view this.now)) bytes.now }
+{
+    let (_, rest) = bytes.split_at(this.header.header_len as usize + this.payload.len());
+    rest
+}
+
+/// The boxes in a moof that has just an mfhd and a traf, which take all of its payload.
+#[inline(always)]
+fn two_in<'a>(moof: &BoxRef<'a>) -> Option<Two<'a>>
+    ensures holds { IfSome result (λ two.
+        HoldsTwo (view moof.now) (view two.mfhd) (view two.traf)) }
+    ensures mfhd { IfSome result (λ two. is_kind mfhd (view two.mfhd) ≡ true) }
+    ensures traf { IfSome result (λ two. is_kind traf (view two.traf) ≡ true) }
+{
+    let at = moof.offset + moof.header.header_len;
+    let Some(mfhd) = plain_first(MFHD, moof.payload, at) else {
+        return None;
+    };
+    let rest = rest_after(moof.payload, &mfhd);
+    let Some(traf) = plain_first(TRAF, rest, at + 8 + mfhd.payload.len() as u64) else {
+        return None;
+    };
+    if traf.payload.len() + 8 != rest.len() {
+        return None;
+    }
+    Some(Two { mfhd, traf })
+}
+
+/// The boxes in a traf that has just a tfhd, a tfdt and a trun, which take all of its payload.
+#[inline(always)]
+fn three_in<'a>(traf: &BoxRef<'a>) -> Option<Three<'a>>
+    ensures holds { IfSome result (λ three. HoldsThree (view traf.now)
+        (view three.tfhd) (view three.tfdt) (view three.trun)) }
+    ensures tfhd { IfSome result (λ three. is_kind tfhd (view three.tfhd) ≡ true) }
+    ensures tfdt { IfSome result (λ three. is_kind tfdt (view three.tfdt) ≡ true) }
+    ensures trun { IfSome result (λ three. is_kind trun (view three.trun) ≡ true) }
+{
+    let at = traf.offset + traf.header.header_len;
+    let Some(tfhd) = plain_first(TFHD, traf.payload, at) else {
+        return None;
+    };
+    let rest = rest_after(traf.payload, &tfhd);
+    let at = at + 8 + tfhd.payload.len() as u64;
+    let Some(tfdt) = plain_first(TFDT, rest, at) else {
+        return None;
+    };
+    let rest = rest_after(rest, &tfdt);
+    let Some(trun) = plain_first(TRUN, rest, at + 8 + tfdt.payload.len() as u64) else {
+        return None;
+    };
+    if trun.payload.len() + 8 != rest.len() {
+        return None;
+    }
+    Some(Three { tfhd, tfdt, trun })
+}
+
+/// The boxes of a moof, where it has the common layout.
+#[inline(always)]
+fn common_of<'a>(moof: &BoxRef<'a>) -> Option<CommonLayout<'a>>
+    ensures { IfSome result (λ u. HasCommonLayout (view moof.now) (view u.mfhd) (view u.traf)
+        (view u.tfhd) (view u.tfdt) (view u.trun)) }
+{
+    let Some(Two { mfhd, traf }) = two_in(moof) else {
+        return None;
+    };
+    let Some(Three { tfhd, tfdt, trun }) = three_in(&traf) else {
+        return None;
+    };
+    Some(CommonLayout {
+        mfhd,
+        traf,
+        tfhd,
+        tfdt,
+        trun,
+    })
+}
+
+/// Notes what is at fault with each box of a moof of the common layout by itself. The index of its track, where there is one.
+#[inline(always)]
+#[tactic(auto, using(mp4_box::proofs::OrderLemmas::least_from_append), unfolding(mp4_box::specs::Order::least_from))]
+fn note_common(
+    tracks: &TrackList,
+    common_layout: &CommonLayout<'_>,
+    best: &mut Option<Fault>,
+) -> Option<usize>
+    ensures found { result ≡
+        position (λ t. t.id == track_id common_layout.now.tfhd.payload.now) tracks.now }
+    ensures within { IfSome result (λ i. i < length tracks.now) }
+    ensures best { best.new ≡ least_from best.old (common_faults tracks.now (view common_layout.now.mfhd)
+        (view common_layout.now.tfhd) (view common_layout.now.tfdt) (view common_layout.now.trun)) }
+    ensures ticks { HasTicks tracks.now (view common_layout.now.tfhd) }
+{
+    Layout::Exactly(MFHD_LEN).note_at(&common_layout.mfhd, best);
+    TfhdLength.note_at(&common_layout.tfhd, best);
+    let found = note_tfhd(tracks, &common_layout.tfhd, best);
+    Layout::Versioned(TFDT_LEN, LONG_TFDT_LEN).note_at(&common_layout.tfdt, best);
+    TrunLength.note_at(&common_layout.trun, best);
+    FlagsOnce.note_at(&common_layout.trun, best);
+    found
+}
+
+/// The index of the track of a moof of the common layout, where nothing is at fault with it and its time is early.
+#[inline(always)]
+fn sound_track(
+    tracks: &TrackList,
+    moof: &BoxRef<'_>,
+    common_layout: &CommonLayout<'_>,
+) -> Option<usize>
+    requires { HasCommonLayout (view moof.now) (view common_layout.now.mfhd) (view common_layout.now.traf)
+        (view common_layout.now.tfhd) (view common_layout.now.tfdt) (view common_layout.now.trun) }
+    ensures tree { IsSome result → box_faults (view moof.now) ≡ [] }
+    ensures forms { IsSome result → form_faults (view moof.now) ≡ [] }
+    ensures values { IsSome result → value_faults tracks.now (view moof.now) ≡ [] }
+    ensures early { IsSome result → IsEarly tracks.now (view moof.now) }
+    ensures found { IfSome result (λ i.
+        position (λ t. t.id == track_id common_layout.now.tfhd.payload.now) tracks.now ≡ Some i) }
+    ensures within { IfSome result (λ i. i < length tracks.now) }
+{
+    let mut best = None;
+    let found = note_common(tracks, common_layout, &mut best);
+    if best.is_some() || sample_count(common_layout.trun.payload) > MOST_IN_MOOF {
+        return None;
+    }
+    if !is_early(&common_layout.tfdt) {
+        return None;
+    }
+    found
+}
+
+/// The run of the moof that the bytes are, which begin at this offset, where it has the common layout, nothing is at fault with it
+/// and its time is early.
+#[inline(always)]
+pub(crate) fn common_run(moof_bytes: &[u8], offset: u64, tracks: &TrackList) -> Option<SingleRun>
+    requires whole { IsWhole moof_bytes.now }
+    requires room { offset + length moof_bytes.now ≤ 2 ^ 62 }
+    ensures { IfSome result (λ l. IsSingle (moof_at moof_bytes.now offset) tracks.now l) }
+{
+    let Some(moof) = plain_first(MOOF, moof_bytes, offset) else {
+        return None;
+    };
+    let Some(common_layout) = common_of(&moof) else {
+        return None;
+    };
+    let Some(track) = sound_track(tracks, &moof, &common_layout) else {
+        return None;
+    };
+    let time = base_media_decode_time(common_layout.tfdt.payload);
+    // A copy, so that the other boxes need not be in memory.
+    let trun = common_layout.trun;
+    Some(run_with(
+        moof_bytes,
+        offset,
+        tracks,
+        track,
+        &common_layout.traf,
+        common_layout.tfhd.payload,
+        Some(time),
+        &trun,
+    ))
+}

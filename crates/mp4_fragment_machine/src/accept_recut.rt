@@ -1,0 +1,222 @@
+//! Begins a fragment whose media are recut.
+
+ghost use Rattle.std.specs.Prelude.{◌≡◌, ◌+◌, ◌<◌, ◌≤◌, ◌^◌, length, None, Some, OnOk};
+ghost use Rattle.std.specs.List.{sum_by};
+ghost use Rattle.mp4_box.specs.Headers.{HasRoom, header_at, need};
+ghost use Rattle.mp4_box.specs.declared.headers.Step.TheVariants as steps;
+ghost use Rattle.mp4_init.specs.Moovs.{fault_of};
+ghost use Rattle.mp4_frag.specs.Moofs.{moof_runs, moof_samples};
+ghost use Rattle.mp4_frag.specs.RunLists.{taken_runs};
+ghost use Rattle.mp4_frag.specs.declared.run.Run.{Run};
+ghost use Rattle.mp4_machine.specs.Ends.{sent};
+ghost use Rattle.mp4_grammar.specs.Meanings.{fragment_fault};
+ghost use Rattle.mp4_pieces.specs.Rooms.{room_fault};
+ghost use Rattle.mp4_recut.specs.Splitting.{output_fragments, runs_fragments, splitting};
+ghost use Rattle.mp4_recut.specs.Cursors.{AreCut};
+ghost use Rattle.mp4_fragment_machine.specs.Implementation.Media.{BeginsMedia};
+ghost use Rattle.mp4_fragment_machine.specs.Implementation.Recuts.{recut_fragment};
+ghost use Rattle.mp4_fragment_machine.specs.Implementation.Splits.{BeginsSplit};
+ghost use Rattle.mp4_fragment_machine.specs.Implementation.Steps.{borrowed};
+ghost use Rattle.mp4_fragment_machine.specs.States.{IsPendingMoof, claimed_in, cut_least, cut_most, moof_in, reads_per_row};
+ghost use Rattle.mp4_frag.specs.Rules.{most_in_moof};
+
+use crate::body::back;
+use crate::mdat_check::{check_mdat, payload_of};
+use crate::moof_totals::{MoofTotals, add_up_runs};
+use crate::state::{Counter, PendingMoof};
+use mp4_box::{Fault, Header};
+use mp4_cut::Cut;
+use mp4_ends::{Failed, Sink};
+use mp4_frag::{Moof, Steps};
+use mp4_init::TrackList;
+use mp4_ledger::Ledger;
+use mp4_machine::{Block, Stop, Tally};
+use mp4_recut::media::{Media, begin, write_ready_heads};
+use mp4_recut::room::check_room;
+
+/// A fragment that was begun: its moof, its media, and how many bytes of its mdat's payload are needed.
+pub(crate) struct Split {
+    pub(crate) pending_moof: PendingMoof,
+    pub(crate) media: Media,
+    pub(crate) needed: u64,
+}
+
+/// Begins the media of the pending moof, whose mdat has this header and is accepted: counts its samples, and writes
+/// everything that needs no media yet.
+///
+/// # Errors
+///
+/// `Failed` where a write failed.
+fn begin_recut<W: Sink>(
+    pending_moof: &PendingMoof,
+    moof_totals: MoofTotals,
+    header: &Header,
+    tracks: &TrackList,
+    cut: &Cut,
+    tally: &mut Tally,
+    out: &mut Block,
+    w: &mut W,
+) -> Result<Media, Failed>
+    requires pending_moof { IsPendingMoof (Some tracks.now) pending_moof.now }
+    requires room { HasRoom header.now.size header.now.header_len }
+    requires good { fragment_fault (splitting cut.now) (recut_fragment pending_moof.now tracks.now
+        (tally.old.fragments + 1) header.now) ≡ None }
+    requires cut { AreCut cut.now (moof_in pending_moof.now) tracks.now }
+    requires numbers { tally.old.fragments + 1 + length (output_fragments cut.now (recut_fragment
+        pending_moof.now tracks.now (tally.old.fragments + 1) header.now)) ≤ 2 ^ 32 }
+    requires samples { moof_totals.samples ≡ moof_samples (moof_in pending_moof.now) }
+    requires bytes { moof_totals.bytes ≡ sum_by (λ (run : Run). run.bytes)
+        (taken_runs (moof_in pending_moof.now) tracks.now) }
+    requires few { tally.old.samples + moof_totals.samples < 2 ^ 128 }
+    requires small { tally.old.media_bytes + moof_totals.bytes < 2 ^ 64 }
+    ensures { BeginsMedia cut.now (recut_fragment pending_moof.now tracks.now (tally.old.fragments + 1)
+        header.now) pending_moof.now (sent W.contents W.has_failed w.old w.new) out.old out.new
+        tally.old tally.new result }
+{
+    tally.samples += u128::from(moof_totals.samples);
+    tally.media_bytes += moof_totals.bytes;
+    let moof = Moof::again(
+        pending_moof.moof.bytes(),
+        pending_moof.moof.offset(),
+        tracks,
+    );
+    let runs = &pending_moof.runs;
+    let media = begin(&moof, runs, tracks, cut);
+    let fragments = &mut tally.fragments;
+    match write_ready_heads(media, &moof, runs, tracks, cut, fragments, out, w) {
+        Ok(media) => Ok(media),
+        Err(Failed) => Err(Failed),
+    }
+}
+
+/// Checks that there is room for the numbers of the pieces of the pending moof, if the next fragment has this one: then
+/// its runs can be cut. The rows that are read for this, and while its samples are recut, are counted.
+///
+/// # Errors
+///
+/// As [`check_room`].
+fn check_fragment(
+    pending_moof: &PendingMoof,
+    tracks: &TrackList,
+    cut: &Cut,
+    number: u64,
+    samples: u64,
+    steps: &mut Steps,
+) -> Result<(), Fault>
+    requires pending_moof { IsPendingMoof (Some tracks.now) pending_moof.now }
+    requires numbers { number ≤ 2 ^ 32 }
+    requires samples { samples ≡ moof_samples (moof_in pending_moof.now) }
+    requires few { samples ≤ most_in_moof }
+    requires steps { steps.old.rows < 2 ^ 120 }
+    ensures cut { OnOk result (AreCut cut.now (moof_in pending_moof.now) tracks.now) }
+    ensures numbers { OnOk result (number + length (runs_fragments cut.now pending_moof.now.moof.bytes
+        tracks.now number (taken_runs (moof_in pending_moof.now) tracks.now)) ≤ 2 ^ 32) }
+    ensures fault { fault_of result ≡ room_fault cut.now (moof_in pending_moof.now)
+        (moof_runs (moof_in pending_moof.now) tracks.now) number }
+    ensures least { OnOk result (steps.old.rows + cut_least cut.now.index samples ≤
+        steps.new.rows) }
+    ensures low { steps.old.rows ≤ steps.new.rows }
+    ensures most { steps.new.rows ≤ steps.old.rows + cut_most cut.now.index samples }
+{
+    let moof = Moof::again(
+        pending_moof.moof.bytes(),
+        pending_moof.moof.offset(),
+        tracks,
+    );
+    match check_room(&moof, tracks, cut, number, samples, steps) {
+        Ok(()) => {
+            steps.rows += u128::from(samples * reads_per_row(cut));
+            Ok(())
+        }
+        Err(fault) => Err(fault),
+    }
+}
+
+/// The greatest number of reads of each row while its run is recut: for its piece, for the number of pieces, and for
+/// its moof; with an index again for its group, for the number of its pieces, and twice for the reference.
+fn reads_per_row(cut: &Cut) -> u64
+    ensures { result ≡ reads_per_row cut.now.index }
+{
+    if cut.has_index() { 7 } else { 3 }
+}
+
+/// Begins to recut the fragment of the pending moof, followed by the box with this header: counts its samples, and
+/// writes everything that needs no media yet. The moof and its list are given back where it is refused.
+///
+/// # Errors
+///
+/// `Stream` where that box may not follow, the runs of the moof don't lie in it, or there is no room for the numbers of
+/// its pieces; `Write` where a write failed.
+pub(crate) fn begin_split<W: Sink>(
+    pending_moof: PendingMoof,
+    header: &Header,
+    head: &[u8],
+    tracks: &TrackList,
+    cut: &Cut,
+    ledger: &mut Ledger,
+    counter: &mut Counter,
+    out: &mut Block,
+    w: &mut W,
+) -> Result<Split, Stop>
+    requires room { HasRoom header.now.size header.now.header_len }
+    requires len { length head.now ≡ need head.now }
+    requires is { header_at head.now ≡ steps.Whole header.now }
+    requires pending_moof { IsPendingMoof (Some tracks.now) pending_moof }
+    requires claim { claimed_in (Some tracks.now) (Some pending_moof) ≤ ledger.old.live }
+    requires numbers { counter.old.tally.fragments + 1 ≤ 2 ^ 32 }
+    requires steps { counter.old.steps.rows < 2 ^ 120 }
+    requires few { counter.old.tally.samples < 2 ^ 100 }
+    requires small { counter.old.tally.media_bytes < 2 ^ 63 }
+    ensures { BeginsSplit cut.now (recut_fragment pending_moof tracks.now
+        (counter.old.tally.fragments + 1) header.now) pending_moof header.now head.now
+        (borrowed W.contents W.has_failed w.old w.new out.old out.new ledger.old ledger.new)
+        counter.old counter.new result }
+{
+    match check_mdat(&pending_moof, header, tracks) {
+        Ok(()) => {}
+        Err(fault) => {
+            back(Some(pending_moof), ledger);
+            return Err(Stop::Stream(fault));
+        }
+    }
+    let next = pending_moof.moof.offset() + pending_moof.moof.size();
+    let moof_totals = add_up_runs(&pending_moof, payload_of(next, header), tracks);
+    let samples = moof_totals.samples;
+    let number = counter.tally.fragments + 1;
+    match check_fragment(
+        &pending_moof,
+        tracks,
+        cut,
+        number,
+        samples,
+        &mut counter.steps,
+    ) {
+        Ok(()) => {}
+        Err(fault) => {
+            back(Some(pending_moof), ledger);
+            return Err(Stop::Stream(fault));
+        }
+    }
+    let needed = moof_totals.needed;
+    let tally = &mut counter.tally;
+    match begin_recut(
+        &pending_moof,
+        moof_totals,
+        header,
+        tracks,
+        cut,
+        tally,
+        out,
+        w,
+    ) {
+        Ok(media) => Ok(Split {
+            pending_moof,
+            media,
+            needed,
+        }),
+        Err(Failed) => {
+            back(Some(pending_moof), ledger);
+            Err(Stop::Write)
+        }
+    }
+}

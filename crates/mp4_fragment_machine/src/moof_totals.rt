@@ -1,0 +1,112 @@
+//! How many bytes and samples the runs of a moof have, and how far they reach into the payload of its mdat.
+
+ghost use Rattle.std.specs.Prelude.{◌≡◌, ◌+◌, ◌≤◌, ◌<◌, ◌<ℤ◌, ◌^◌, ◌==◌, if◌then◌else◌, ℕ, pos, max, None, Some};
+ghost use Rattle.std.specs.List.{AllByRecursion, sum_by};
+ghost use Rattle.mp4_frag.specs.Moofs.{moof_runs, moof_samples};
+ghost use Rattle.mp4_frag.specs.Rules.{most_in_moof};
+ghost use Rattle.mp4_frag.specs.Places.{place_fault};
+ghost use Rattle.mp4_frag.specs.RunLists.{taken_runs};
+ghost use Rattle.mp4_run_order.specs.Runs.{end_of};
+ghost use Rattle.mp4_frag.specs.declared.run.Run.{Run};
+ghost use Rattle.mp4_grammar.specs.Meanings.{beyond, reach};
+ghost use Rattle.mp4_frag.specs.Ranges.{IsRunOf};
+ghost use Rattle.mp4_machine.specs.Bodies.{longest};
+ghost use Rattle.mp4_fragment_machine.specs.States.{IsPendingMoof, moof_in};
+
+use crate::state::PendingMoof;
+use mp4_frag::{ListedRun, Payload};
+use mp4_init::TrackList;
+
+/// How many bytes and samples some runs of a moof have, and how far they reach into the payload of its mdat.
+#[derive(Clone, Copy)]
+pub(crate) struct MoofTotals {
+    /// How many bytes their samples have.
+    pub(crate) bytes: u64,
+    /// How many samples they have.
+    pub(crate) samples: u64,
+    /// How many bytes the payload must have at the least, so that each run with samples lies in it.
+    pub(crate) needed: u64,
+}
+
+/// How far after `start` a run ends, 0 where it ends before.
+fn beyond(start: u64, run: ListedRun) -> u64
+    requires { end_of run <ℤ pos (2 ^ 63) }
+    ensures { result ≡ beyond start (end_of run) }
+{
+    let end = i128::from(run.place) + i128::from(run.bytes);
+    let start = i128::from(start);
+    if end <= start {
+        return 0;
+    }
+    (end - start) as u64
+}
+
+/// The measure of one run more, in a payload that begins at `start`.
+fn with_run(so_far: MoofTotals, start: u64, run: ListedRun) -> MoofTotals
+    requires place { end_of run <ℤ pos (2 ^ 63) }
+    requires room { so_far.bytes + run.bytes < 2 ^ 64 }
+    requires few { so_far.samples + run.count < 2 ^ 64 }
+    ensures bytes { result.bytes ≡ so_far.bytes + run.bytes }
+    ensures samples { result.samples ≡ so_far.samples + run.count }
+    ensures needed { result.needed ≡ (if run.count == 0 then so_far.needed
+        else max so_far.needed (beyond start (end_of run))) }
+{
+    let bytes = so_far.bytes + run.bytes;
+    let mut needed = so_far.needed;
+    if run.count > 0 {
+        needed = needed.max(beyond(start, run));
+    }
+    let samples = so_far.samples + u64::from(run.count);
+    MoofTotals {
+        bytes,
+        samples,
+        needed,
+    }
+}
+
+/// The runs of the pending moof are sound: the bytes of a moof are bytes, and no track has a default size past 32 bits.
+#[inline(always)]
+fn runs_are_sound(pending_moof: &PendingMoof, tracks: &TrackList)
+    requires { IsPendingMoof (Some tracks.now) pending_moof.now }
+    ensures { AllByRecursion (IsRunOf pending_moof.now.moof.bytes)
+        (taken_runs (moof_in pending_moof.now) tracks.now) }
+{
+    let _ = pending_moof.moof.bytes();
+    let _ = tracks.len();
+}
+
+/// How many bytes and samples the runs of the pending moof have, and how far they reach into a payload where they may
+/// lie. No row is read.
+pub(crate) fn add_up_runs(
+    pending_moof: &PendingMoof,
+    payload: Payload,
+    tracks: &TrackList,
+) -> MoofTotals
+    requires pending_moof { IsPendingMoof (Some tracks.now) pending_moof.now }
+    requires good { place_fault payload
+        (moof_runs (moof_in pending_moof.now) tracks.now) ≡ None }
+    requires start { payload.start ≤ longest }
+    requires end { (e : ℕ) → payload.end ≡ Some e → payload.start ≤ e }
+    ensures bytes { result.bytes ≡ sum_by (λ (run : Run). run.bytes)
+        (taken_runs (moof_in pending_moof.now) tracks.now) }
+    ensures samples { result.samples ≡ moof_samples (moof_in pending_moof.now) }
+    ensures few { result.samples ≤ most_in_moof }
+    ensures needed { result.needed ≡
+        reach payload.start (taken_runs (moof_in pending_moof.now) tracks.now) }
+    ensures within { (e : ℕ) → payload.end ≡ Some e → payload.start + result.bytes ≤ e }
+    ensures reach { (e : ℕ) → payload.end ≡ Some e → payload.start + result.needed ≤ e }
+    ensures open { result.bytes ≤ 2 ^ 63 }
+{
+    runs_are_sound(pending_moof, tracks);
+    let mut so_far = MoofTotals {
+        bytes: 0,
+        samples: 0,
+        needed: 0,
+    };
+    let mut i = 0;
+    while i < pending_moof.runs.len() {
+        so_far = with_run(so_far, payload.start, pending_moof.runs.listed(i));
+        i += 1;
+    }
+    so_far
+}

@@ -1,0 +1,115 @@
+//! Goes on with a fragment that was begun, whose media are recut.
+
+ghost use Rattle.std.specs.Prelude.{◌≡◌, ℕ, ◌+◌, ◌≤◌, [], length};
+ghost use Rattle.mp4_box.specs.Headers.{HasRoom};
+ghost use Rattle.mp4_frag.specs.Moofs.{moof_samples};
+ghost use Rattle.mp4_machine.specs.Bodies.{least_end, longest};
+ghost use Rattle.mp4_recut.specs.declared.operation.Operation.TheVariants as operations;
+ghost use Rattle.mp4_fragment_machine.specs.Places.{Untouched};
+ghost use Rattle.mp4_fragment_machine.specs.States.{IsCounted, IsPendingMoof, bound_after, claimed_in, known, moof_in};
+ghost use Rattle.mp4_fragment_machine.specs.Implementation.Recuts.{recut_fragment};
+ghost use Rattle.mp4_fragment_machine.specs.Implementation.Splits.{EntersMedia};
+ghost use Rattle.mp4_fragment_machine.specs.Implementation.Steps.{Advances, MayBeginFragment, borrowed, ledger_alone, with_head};
+ghost use Rattle.mp4_fragment_machine.specs.declared.state.State.TheVariants as states;
+
+use crate::accept_recut::{Split, begin_split};
+use crate::body::end_fragment;
+use crate::state::{OpenRecutting, PendingMoof, Recutting, Session, State};
+use mp4_box::Header;
+use mp4_cut::Cut;
+use mp4_ends::Sink;
+use mp4_ledger::Ledger;
+use mp4_machine::{AnyBody, Block, OpenBody, Stop, body_of};
+
+/// The state after the header of the mdat at `at`, whose media were begun.
+fn enter_split(
+    at: u64,
+    header: &Header,
+    split: Split,
+    cut: Cut,
+    session: &mut Session,
+    ledger: &mut Ledger,
+) -> State
+    requires room { HasRoom header.now.size header.now.header_len }
+    requires near { least_end at header.now header.now.size ≤ longest }
+    requires at { at ≡ split.pending_moof.moof.at + length split.pending_moof.moof.bytes }
+    requires operation { session.old.operation ≡ operations.Split cut }
+    requires empty { session.old.head ≡ [] }
+    requires pending_moof { IsPendingMoof session.old.tracks split.pending_moof }
+    requires claim { claimed_in session.old.tracks (Some split.pending_moof) ≤ ledger.old.live }
+    requires counted { IsCounted (operations.Split cut) session.old.counter (bound_after at header.now.size)
+        0 (moof_samples (moof_in split.pending_moof)) }
+    ensures { (number : ℕ) (u : Untouched) → EntersMedia cut (recut_fragment split.pending_moof
+        (known session.old.tracks) number header.now) header.now split
+        (ledger_alone u ledger.old ledger.new) session.old session.new result }
+{
+    let Split {
+        pending_moof,
+        media,
+        needed,
+    } = split;
+    let Some(list) = &mut session.tracks else {
+        unreachable!();
+    };
+    let number = session.counter.tally.fragments + 1;
+    match body_of(at, header) {
+        AnyBody::Empty { next } => {
+            end_fragment(pending_moof, list, ledger, &mut session.counter);
+            State::Header { at: next }
+        }
+        AnyBody::Sized(body) => State::Media(Recutting {
+            cut,
+            number,
+            body,
+            media,
+            pending_moof,
+        }),
+        AnyBody::Open(body) => State::OpenMedia(OpenRecutting {
+            cut,
+            number,
+            body: OpenBody { needed, ..body },
+            media,
+            pending_moof,
+        }),
+    }
+}
+
+/// Begins to recut the fragment of the pending moof, followed by the box with this header. Returns the next state. The
+/// moof and its list are given back where it is refused.
+///
+/// # Errors
+///
+/// As [`begin_split`].
+pub(crate) fn begin_media<W: Sink>(
+    cut: Cut,
+    pending_moof: PendingMoof,
+    header: &Header,
+    head: &[u8],
+    session: &mut Session,
+    ledger: &mut Ledger,
+    out: &mut Block,
+    w: &mut W,
+) -> Result<State, Stop>
+    requires { MayBeginFragment (operations.Split cut) session.old ledger.old pending_moof header.now head.now }
+    ensures { Advances (borrowed W.contents W.has_failed w.old w.new out.old out.new ledger.old ledger.new)
+        (with_head head.now session.old) session.new (states.MdatHeader pending_moof) result }
+{
+    let Some(list) = &session.tracks else {
+        unreachable!();
+    };
+    let at = pending_moof.moof.offset() + pending_moof.moof.size();
+    match begin_split(
+        pending_moof,
+        header,
+        head,
+        list,
+        &cut,
+        ledger,
+        &mut session.counter,
+        out,
+        w,
+    ) {
+        Ok(split) => Ok(enter_split(at, header, split, cut, session, ledger)),
+        Err(stop) => Err(stop),
+    }
+}

@@ -1,6 +1,0 @@
-use Rattle.mp4_grammar.proofs.LineLemmas.{behind_times}
-use Rattle.mp4_grammar.proofs.kept_line.KeptLine.push_rest.Goals as goal
-
-pub returns : goal.returns
-returns c =
-    rw (c.push_array.ensures.text, c.push_place.ensures.text, c.push_text-2.ensures.text, c.push_decimal.ensures.text, c.from.ensures, c.push_text.ensures.text, c.self.invariant.1, c.self.invariant.2, c.self.view_is) (behind_times c.args.block.now c.args.self.now)

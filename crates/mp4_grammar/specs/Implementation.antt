@@ -1,0 +1,2 @@
+-- Only the code's own way; no public clause needs this.
+pub mod SampleWords

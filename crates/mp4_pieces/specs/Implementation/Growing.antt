@@ -1,0 +1,58 @@
+-- Only the code's own way; no public clause needs this.
+-- Pieces of some rows, row by row: a piece grows until a row doesn't fit in it.
+use Rattle.std.specs.Prelude.{◌<◌, ◌+◌, ◌^◌, ◌+ℤ◌, ◌≤ℤ◌, ◌<ℤ◌, ℕ, pos, Bool, true, not, ◌&&◌, ◌||◌, nat_lt, nat_le, if◌then◌else◌, List, [], ◌∷◌, length, Option, Some, None}
+use Rattle.std.specs.Int.{int_min}
+use Rattle.mp4_frag.specs.declared.rows.Row.{Row}
+use Rattle.mp4_frag.specs.declared.rows.Cursor.{Cursor}
+use Rattle.mp4_frag.specs.Rows.{durations, sizes}
+use Rattle.mp4_pieces.specs.declared.cut.Cut.{Cut}
+use Rattle.mp4_pieces.specs.declared.piece.Piece.{Piece}
+use Rattle.mp4_frag.specs.SyncSamples.{is_sync}
+use Rattle.mp4_pieces.specs.Pieces.{cursor_after}
+
+-- the piece of one row, from a cursor on
+unfoldable pub opened : Cursor → Row → Piece
+opened c row = record {
+  first = c.row;
+  count = 1;
+  time = c.time;
+  place = c.place;
+  bytes = row.size;
+  duration = row.duration;
+  least = pos c.time +ℤ row.offset;
+}
+
+-- the piece with one row more
+unfoldable pub with_row : Piece → Row → Piece
+with_row p row = record p {
+  count = p.count + 1;
+  bytes = p.bytes + row.size;
+  duration = p.duration + row.duration;
+  least = int_min p.least (pos (p.time + p.duration) +ℤ row.offset);
+}
+
+-- the bytes of one more row fit in it
+abbrev pub has_bytes : Option ℕ → Piece → Row → Bool
+has_bytes None p row = true
+has_bytes (Some most) p row = nat_le (p.bytes + row.size) most
+
+-- one more row fits in it
+unfoldable pub takes : Cut → Piece → Row → Bool
+takes cut p row = nat_lt p.count cut.samples && (has_bytes cut.bytes p row && (not cut.sync || not (is_sync row.flags)))
+
+-- pieces of these rows, if the next piece so far is this one
+unfoldable pub grown : Cut → Piece → List Row → List Piece
+grown cut p [] = p ∷ []
+grown cut p (row ∷ rows) = if takes cut p row then grown cut (with_row p row) rows else p ∷ grown cut (opened (cursor_after p) row) rows
+
+-- the pieces of these rows, from a cursor on
+unfoldable pub pieces_left : Cut → Cursor → List Row → List Piece
+pieces_left cut c [] = []
+pieces_left cut c (row ∷ rows) = grown cut (opened c row) rows
+
+-- the numbers of these rows fit their types, from a piece on
+pub record Grows (p : Piece) (rows : List Row) : Type 0 where
+  pub row : p.first + p.count + length rows < 2 ^ 32
+  pub time : p.time + p.duration + durations rows < 2 ^ 64
+  pub low : pos 0 ≤ℤ (p.place +ℤ pos (2 ^ 31))
+  pub high : (p.place +ℤ pos (p.bytes + sizes rows)) <ℤ pos (2 ^ 63)

@@ -1,0 +1,14 @@
+use Rattle.std.proofs.Common.{◌≡◌, ℕ, ◌-◌, length}
+use Rattle.mp4_frag.specs.RunLists.{taken_runs}
+use Rattle.mp4_recut.specs.Cursors.{IsAt, left_in}
+use Rattle.mp4_recut.proofs.cursor.seek_run.Given as goal
+
+-- as much is left as at first
+abbrev pub invariant-loop-c : goal.invariant-loop-c
+invariant-loop-c l = record {
+  same : (number : ℕ) → left_in l.fn.cut l.fn.moof l.fn.tracks number l.fn.c ≡ left_in l.fn.cut l.fn.moof l.fn.tracks number l.c;
+  at : IsAt l.fn.cut l.fn.moof l.fn.tracks l.c;
+}
+
+abbrev pub decreases-loop-c : goal.decreases-loop-c
+decreases-loop-c l = length (taken_runs l.fn.moof l.fn.tracks) - l.c.index

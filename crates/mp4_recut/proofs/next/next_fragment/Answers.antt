@@ -1,0 +1,47 @@
+use Rattle.std.proofs.Common.{arith, ◌≡◌, ◌∙◌, ◌+◌, ap, refl, sym, length}
+use Rattle.mp4_cut.specs.Sidx.{natural}
+use Rattle.mp4_pieces.specs.declared.piece.Piece.{Piece}
+use Rattle.mp4_pieces.specs.Pieces.{cursor_after}
+use Rattle.mp4_recut.specs.Cursors.{left_in, pieces_ahead}
+use Rattle.mp4_recut.specs.Splitting.{index_before, next_group, output_fragment, timescale_of}
+use Rattle.mp4_recut.specs.declared.cursor.FragmentCursor.{FragmentCursor}
+use Rattle.mp4_recut.proofs.CursorLemmas.{fragment_is, past_placed}
+use Rattle.mp4_recut.proofs.next.next_fragment.Goals as goal
+
+pub put_first-requires-clause-number : goal.put_first-requires-clause-number
+put_first-requires-clause-number g c = omega (arith, c.requires.number, ap length (c.seek.ensures.same c.if-not-seek.false c.args.number))
+
+pub returns-in-Err : goal.returns-in-Err
+returns-in-Err g c =
+    let cut = c.args.cut.now in
+    let h = c.args.moof.now in
+    let tracks = c.args.tracks.now in
+    let at = c.seek.new.c in
+    let puts = c.in-Err.ensures in
+    let p = puts.piece in
+    let d : FragmentCursor = record { index = at.index; run = at.run; at = cursor_after p; group = next_group at.group } in
+    record {
+      fragment = output_fragment (index_before cut at.run (timescale_of tracks at.run.track) at.group (pieces_ahead cut h at)) h.bytes at.run p c.args.number;
+      later = left_in cut h tracks (c.args.number + 1) d;
+      is = c.seek.ensures.same c.if-not-seek.false c.args.number ∙ fragment_is cut h tracks at p (c.seek.ensures.at c.if-not-seek.false) puts.first d refl refl refl refl c.args.number;
+      front = puts.put;
+    }
+
+pub returns : goal.returns
+returns g c =
+    let cut = c.args.cut.now in
+    let h = c.args.moof.now in
+    let tracks = c.args.tracks.now in
+    let at = c.seek.new.c in
+    let puts = c.in-Ok.ensures in
+    let p = puts.piece in
+    let cursor_past = c.go_after.ensures in
+    let there : c.go_after.new.c.at ≡ cursor_after p = cursor_past.at ∙ ap cursor_after (sym puts.is) in
+    record {
+      fragment = output_fragment (index_before cut at.run (timescale_of tracks at.run.track) at.group (pieces_ahead cut h at)) h.bytes at.run p c.args.number;
+      is = c.seek.ensures.same c.if-not-seek.false c.args.number ∙ fragment_is cut h tracks at p (c.seek.ensures.at c.if-not-seek.false) puts.first c.go_after.new.c cursor_past.index cursor_past.run there cursor_past.group c.args.number;
+      put = puts.put;
+      place = c.media_offset.ensures ∙ sym (ap (λ (x : Piece). natural x.place) puts.is);
+      len = sym (ap (λ (x : Piece). x.bytes) puts.is);
+      at = past_placed cut h tracks at p (c.seek.ensures.at c.if-not-seek.false) puts.first c.go_after.new.c cursor_past.index cursor_past.run there cursor_past.group puts.later;
+    }
