@@ -1,7 +1,7 @@
 # make demo         builds the program if it isn't there, and recuts a stream (IN=stream.mp4: yours, SAMPLES=15)
 # make build        proves and builds the program
 # make test         proves everything from nothing, and runs every test
-# make wrong_bodies tries the wrong bodies that the tests leave out
+# make mutants      tries the mutants that the tests leave out
 # make lib          proves and builds the C library: c/out/libfmp4.a and libfmp4.so
 # make c_tests      runs the tests and examples of the C library
 # make install      puts the program, its manual page and completions below PREFIX, and the C library where it is built
@@ -25,7 +25,7 @@ UP = $(shell echo "$(LIBDIR)/pkgconfig" | sed 's|[^/][^/]*|..|g')
 WITH_VERSION = sed "1s/ fmp4 / \"fmp4 $$(cat VERSION)\" /; s/^The number in VERSION.*/fmp4 $$(scripts/version)/"
 PUT = install -m 644 /dev/stdin
 
-.PHONY: demo build lib c_tests moof_runs cut_pieces push_pieces test wrong_bodies install install_lib uninstall dist \
+.PHONY: demo build lib c_tests moof_runs cut_pieces push_pieces test mutants install install_lib uninstall dist \
     clean refusals recipes play manual bench bench_instructions
 
 demo:
@@ -53,16 +53,17 @@ push_pieces:
 
 test:
 	@scripts/needs_rt
+	@if command -v python3 > /dev/null; then \
+	    scripts/words && scripts/edit_index --check && scripts/pictures --check crates states inputs; fi
 	@echo "proving everything from nothing and running the tests: over an hour on 4 cores" >&2
 	@rt ci
-	@if command -v cc > /dev/null; then scripts/refused_allocations; \
-	    else echo "no C compiler: refused allocations weren't tried" >&2; fi
-	@if command -v valgrind > /dev/null; then bench/instructions "as written" --room 20; \
-	    else echo "no valgrind: reads of rows that no count has weren't looked for" >&2; fi
+	@if command -v cc > /dev/null; then scripts/refused_allocations; fi
+	@if command -v valgrind > /dev/null; then bench/instructions "as written" --room 3; fi
+	@scripts/left_out
 
-# Tries the wrong bodies in crates/*/wrong, with what is built.
-wrong_bodies: build
-	@scripts/wrong_bodies
+# Tries the mutants in crates/*/wrong, with what is built.
+mutants: build
+	@scripts/mutants
 
 install:
 	@test -x crates/fmp4/out/fmp4 || { echo "there is no crates/fmp4/out/fmp4: run 'make build' first" >&2; exit 1; }
@@ -117,7 +118,7 @@ recipes: build
 play: build
 	@scripts/play
 
-# Formats the manual page and looks whether all is there.
+# Formats the manual page and checks that all is there.
 manual:
 	@scripts/check_manual
 

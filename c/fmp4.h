@@ -1,16 +1,16 @@
 /* fmp4.h: cuts the fragments of a fragmented MP4 stream (ISO/IEC 14496-12) into shorter ones, or checks such a stream.
  *
- * A stream is fed chunk by chunk, however it is cut into chunks, and the output is taken from the front:
+ * A stream is fed as it comes, in inputs of any size, and the output is taken from the front:
  *
  *     struct fmp4_stream s = {0};
  *     fmp4_split_open(&s, 15, 0, 0, 64 << 20, 1 << 20);
- *     while (fmp4_feed(&s, chunk, len, &n) ..)  take with fmp4_take, go on with chunk + n
+ *     while (fmp4_feed(&s, input, len, &n) ..)  take with fmp4_take, go on with input + n
  *     fmp4_finish(&s, &report);                 take what is left
  *     fmp4_close(&s);
  *
  * docs/fmp4.3 is the manual page, and c/examples/recut.c a whole program.
  *
- * Ownership. The caller owns struct fmp4_stream, chunks, buffers and reports; no call keeps a pointer to them. What an
+ * Ownership. The caller owns struct fmp4_stream, inputs, buffers and reports; no call keeps a pointer to them. What an
  * open stream allocates is freed by fmp4_close. No pointer may be NULL, also where its length is 0, and no two that are
  * given to one call may overlap. Buffers must be initialised memory, also those that are written.
  *
@@ -52,7 +52,7 @@ struct fmp4_report {
 /* What a call answers. */
 enum fmp4_answer {
     FMP4_OK = 0,
-    FMP4_FULL = 1,          /* take output first: nothing of the chunk was taken. Nothing is lost, feed it again */
+    FMP4_FULL = 1,          /* take output first: nothing of the input was taken. Nothing is lost, feed it again */
 
     /* The stream has stopped for good. Each feed, and finish, answers the same from then on */
     FMP4_FAULT = 2,         /* it breaks a rule: the report says which. All output before the fault was written */
@@ -87,7 +87,7 @@ enum fmp4_flags {
 uint32_t fmp4_split_open(struct fmp4_stream *stream, uint32_t samples, uint64_t bytes, uint32_t flags, uint64_t limit,
                          size_t room);
 
-/* Opens a stream that is only checked and counted. It has no output, and each chunk is taken as a whole.
+/* Opens a stream that is only checked and counted. It has no output, and each input is taken as a whole.
  *   FMP4_NO_MEMORY; FMP4_IS_OPEN */
 uint32_t fmp4_check_open(struct fmp4_stream *stream, uint64_t limit);
 
@@ -96,7 +96,7 @@ uint32_t fmp4_check_open(struct fmp4_stream *stream, uint64_t limit);
  * while more than half of the room is filled. All output that the bytes so far determine waits to be taken when this
  * returns. *taken is 0 where it misuses the stream, and after a stop.
  *   FMP4_FULL; FMP4_FAULT, FMP4_NO_ROOM, FMP4_OVER_LIMIT, FMP4_NO_MEMORY; FMP4_NOT_OPEN, FMP4_CLOSED, FMP4_ENDED */
-uint32_t fmp4_feed(struct fmp4_stream *stream, const uint8_t *chunk, size_t len, size_t *taken);
+uint32_t fmp4_feed(struct fmp4_stream *stream, const uint8_t *input, size_t len, size_t *taken);
 
 /* Copies output to `out`: *taken says how many bytes, less than `len` only where no more wait. After a stop and after
  * fmp4_finish too, until the stream is closed.

@@ -14,9 +14,9 @@ const PIECE: usize = 65_536;
 const LONGEST_HEADER: usize = 32;
 /// The spaces in front of the lowest box.
 const INDENT: &[u8; 2 * (DEEPEST - 1)] = b"              ";
-/// The longest line: a type, two numbers of 64 bits, a user type and what stands between.
+/// The longest line: a type, two numbers of 64 bits, a user type and what is between.
 const LONGEST_LINE: usize = INDENT.len() + 4 + 1 + 20 + 2 + 20 + 1 + 32 + 1;
-/// How deep boxes may stand; a box at the top has depth 1.
+/// How deep boxes may be; a box at the top has depth 1.
 const DEEPEST: usize = 8;
 /// No stream is followed further.
 const LONGEST_STREAM: u64 = 1 << 62;
@@ -124,11 +124,11 @@ impl Header {
         let mut size = if size == 0 { None } else { Some(size) };
         let mut user = None;
         if size == Some(1) {
-            let Some((long, behind)) = rest.split_first_chunk() else {
+            let Some((long, after)) = rest.split_first_chunk() else {
                 return Err(NoHeader::Cut(Some(kind)));
             };
             size = Some(u64::from_be_bytes(*long));
-            rest = behind;
+            rest = after;
             len += 8;
         }
         if kind == FourCc::UUID {
@@ -228,7 +228,7 @@ impl<R: Read> Input<R> {
         self.skip_far(count - there)
     }
 
-    /// Passes over the whole buffer and so many bytes behind it.
+    /// Passes over the whole buffer and so many bytes after it.
     #[cold]
     fn skip_far(&mut self, mut left: u64) -> io::Result<bool> {
         loop {
@@ -291,7 +291,7 @@ impl<W: Write> Lines<W> {
         Ok(())
     }
 
-    /// Adds the line of a box that stands so many levels below the top.
+    /// Adds the line of a box so many levels below the top.
     #[inline]
     fn add(&mut self, level: usize, at: u64, header: &Header) -> io::Result<()> {
         if self.text.len() - self.len < LONGEST_LINE {
@@ -353,7 +353,7 @@ static POWERS_OF_TEN: [u64; 20] = {
     powers
 };
 
-/// Puts a number in decimal at the front of the place, and tells how many digits it has.
+/// Puts a number in decimal at the front of the place, and returns how many digits it has.
 #[inline]
 fn put_decimal(place: &mut [u8], number: u64) -> usize {
     // So many digits that its highest bit makes sure of, less one: 1233 / 4096 is just above the logarithm of two.
@@ -414,7 +414,7 @@ impl<'a> Iterator for Children<'a> {
     }
 }
 
-/// Checks that the boxes below a container are whole, and keeps the first that stands too deep.
+/// Checks that the boxes below a container are whole, and keeps the first that is too deep.
 fn check_below(
     payload: &[u8],
     at: u64,

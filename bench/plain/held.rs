@@ -3,7 +3,7 @@
 use crate::headers::{Header, Kind, NoHeader};
 use crate::rules::{Broken, Fault, Rule};
 
-/// How deep boxes may stand; a box at the top has depth 1.
+/// How deep boxes may be; a box at the top has depth 1.
 const DEEPEST: usize = 8;
 
 /// A box whose bytes are held.
@@ -51,7 +51,7 @@ impl From<BadSize> for Broken {
 }
 
 impl<'a> Children<'a> {
-    /// The boxes in bytes that stand so far behind the front of what is held.
+    /// The boxes in bytes so far after the front of what is held.
     pub fn of(bytes: &'a [u8], at: usize) -> Children<'a> {
         Children { bytes, at }
     }
@@ -86,7 +86,7 @@ impl<'a> Iterator for Children<'a> {
     }
 }
 
-/// Checks that all boxes below one that begins at an offset are whole, and then that none stands too deep.
+/// Checks that all boxes below one that begins at an offset are whole, and then that none is too deep.
 pub fn check_tree(top: &Child, base: u64) -> Result<(), Fault> {
     let fault = |rule, kind, at| Fault { rule, kind, at: base + at as u64 };
     let mut too_deep = None;
@@ -96,7 +96,7 @@ pub fn check_tree(top: &Child, base: u64) -> Result<(), Fault> {
     }
 }
 
-/// Checks the boxes below a parent, which stand at a depth, and notes the first that stands too deep.
+/// Checks the boxes below a parent, which are at a depth, and notes the first that is too deep.
 fn check_below(
     parent: &Child,
     depth: usize,
@@ -113,7 +113,7 @@ fn check_below(
     Ok(())
 }
 
-/// The number of 32 bits that stands so many bytes behind the front.
+/// The number of 32 bits so many bytes after the front.
 #[inline]
 pub fn number(bytes: &[u8], at: usize) -> Option<u32> {
     Some(u32::from_be_bytes(*bytes.get(at..)?.first_chunk()?))

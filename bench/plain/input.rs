@@ -46,7 +46,7 @@ impl<R: Read> Input<R> {
         }
     }
 
-    /// The offset of the first byte behind what was passed and what is held.
+    /// The offset of the first byte after what was passed and what is held.
     #[inline(always)]
     pub fn at(&self) -> u64 {
         self.at + self.in_buffer as u64
@@ -153,7 +153,7 @@ impl<R: Read> Input<R> {
         }
     }
 
-    /// Passes the box that is held, if there is one, and so many bytes behind it; false where the stream ends before.
+    /// Passes the box that is held, if there is one, and so many bytes after it; false where the stream ends before.
     #[inline(always)]
     pub fn pass(&mut self, count: u64) -> Result<bool, Stop> {
         let there = (self.end - self.start) as u64;
@@ -191,7 +191,7 @@ impl<R: Read> Input<R> {
 /// For programs that copy bytes of the stream.
 #[allow(dead_code)]
 impl<R: Read> Input<R> {
-    /// The box that is held, the bytes behind it that came, and the stream.
+    /// The box that is held, the bytes after it that came, and the stream.
     #[inline(always)]
     pub fn lend(&mut self) -> (&[u8], &[u8], &mut R) {
         let (held, came) = self.buffer.0[self.start..self.end].split_at(self.in_buffer);
@@ -199,7 +199,7 @@ impl<R: Read> Input<R> {
         (held, came, &mut self.stream)
     }
 
-    /// Passes the box that is held. Its bytes stand at the front of a block, which is to be given back.
+    /// Passes the box that is held. Its bytes are at the front of a block, which is to be given back.
     pub fn take_held(&mut self) -> (Vec<u8>, usize) {
         let mut block = std::mem::take(&mut self.block);
         let mut len = self.in_block;

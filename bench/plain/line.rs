@@ -88,7 +88,7 @@ static POWERS_OF_TEN: [u64; 20] = {
     powers
 };
 
-/// Puts a number in decimal at the front of the place, and tells how many digits it has.
+/// Puts a number in decimal at the front of the place, and returns how many digits it has.
 #[inline]
 fn put_decimal(place: &mut [u8], number: u64) -> usize {
     // So many digits that its highest bit makes sure of, less one: 1233 / 4096 is just above the logarithm of two.

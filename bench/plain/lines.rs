@@ -45,11 +45,11 @@ impl<W: Write> Lines<W> {
     }
 }
 
-/// What a line tells of a sample.
+/// What a line says of a sample.
 struct Sample {
     track: u32,
     time: u64,
-    /// How far its composition time lies behind its time.
+    /// How far its composition time lies after its decode time.
     offset: i64,
     duration: u32,
     size: u32,
@@ -59,7 +59,7 @@ struct Sample {
 }
 
 impl Sample {
-    /// Builds its line at the front of a place, and tells how long that is.
+    /// Builds its line at the front of a place, and returns how long that is.
     #[inline]
     fn put(&self, place: &mut [u8]) -> usize {
         let mut line = Line::new(place);
@@ -97,14 +97,14 @@ impl<W: Write> Listing for Lines<W> {
         let columns = Columns::of(run.form);
         let rows = run.rows(held);
         let signed = run.form >> 24 != 0;
-        let mut usual_flags = run.first_flags;
+        let mut default_flags = run.first_flags;
         let (mut time, mut place) = (run.time, run.place as u64);
         for i in 0..run.count as usize {
             let row = &rows[i * columns.len..(i + 1) * columns.len];
-            let at = |column: Option<usize>, usual| column.map_or(usual, |at| field(row, at));
-            let duration = at(columns.duration, run.usual.duration);
-            let size = at(columns.size, run.usual.size);
-            let flags = at(columns.flags, usual_flags);
+            let at = |column: Option<usize>, defaults| column.map_or(defaults, |at| field(row, at));
+            let duration = at(columns.duration, run.defaults.duration);
+            let size = at(columns.size, run.defaults.size);
+            let flags = at(columns.flags, default_flags);
             let offset = at(columns.offset, 0);
             let offset = if signed { i64::from(offset as i32) } else { i64::from(offset) };
             let sample = Sample {
@@ -114,14 +114,14 @@ impl<W: Write> Listing for Lines<W> {
                 duration,
                 size,
                 flags,
-                entry: run.usual.entry,
+                entry: run.defaults.entry,
                 place,
             };
             if self.text.len() - self.len < LONGEST_LINE {
                 self.send()?;
             }
             self.len += sample.put(&mut self.text[self.len..self.len + LONGEST_LINE]);
-            usual_flags = run.usual.flags;
+            default_flags = run.defaults.flags;
             time = time.wrapping_add(u64::from(duration));
             place = place.wrapping_add(u64::from(size));
         }

@@ -2,7 +2,7 @@
 
 use crate::headers::Kind;
 use crate::held::{Child, Children};
-use crate::moov::{Track, Tracks, Usual};
+use crate::moov::{Track, Tracks, Defaults};
 use crate::rules::Broken;
 
 /// The most samples of a moof.
@@ -20,7 +20,7 @@ pub const OWN_FLAGS: u32 = 0x0400;
 pub struct Run {
     /// The place of its track among the tracks.
     pub track: u32,
-    pub usual: Usual,
+    pub defaults: Defaults,
     /// The flags of its first sample, where these have no field.
     pub first_flags: u32,
     pub count: u32,
@@ -49,7 +49,7 @@ impl Run {
     }
 }
 
-/// Where the fields stand in a row, for each that is there.
+/// Where the fields are in a row, for each that is there.
 #[derive(Clone, Copy)]
 pub struct Columns {
     pub duration: Option<usize>,
@@ -89,11 +89,11 @@ static COLUMNS: [Columns; 16] = {
     columns
 };
 
-/// The sum of a field over rows, or the usual number so many times.
+/// The sum of a field over rows, or the default so many times.
 #[inline]
-pub fn sum(rows: &[u8], len: usize, column: Option<usize>, usual: u32, count: u32) -> u64 {
+pub fn sum(rows: &[u8], len: usize, column: Option<usize>, defaults: u32, count: u32) -> u64 {
     match (len, column) {
-        (_, None) => u64::from(usual) * u64::from(count),
+        (_, None) => u64::from(defaults) * u64::from(count),
         (4, Some(_)) => sum_at::<4, 0>(rows),
         (8, Some(0)) => sum_at::<8, 0>(rows),
         (8, Some(_)) => sum_at::<8, 4>(rows),
@@ -111,7 +111,7 @@ fn sum_at<const LEN: usize, const AT: usize>(rows: &[u8]) -> u64 {
         .sum()
 }
 
-/// The fields behind the first eight bytes of a payload.
+/// The fields after the first eight bytes of a payload.
 pub struct Fields<'a> {
     pub word: u32,
     pub number: u32,
@@ -119,7 +119,7 @@ pub struct Fields<'a> {
 }
 
 impl<'a> Fields<'a> {
-    /// The version and flags, the number behind them, and the rest.
+    /// The version and flags, the number after them, and the rest.
     #[inline]
     pub fn of(payload: &'a [u8]) -> Option<Fields<'a>> {
         let (first, left) = payload.split_first_chunk()?;
@@ -127,11 +127,11 @@ impl<'a> Fields<'a> {
         Some(Fields { word: (first >> 32) as u32, number: first as u32, left })
     }
 
-    /// The next field if its flag is set, or else the usual number; none where it isn't there.
+    /// The next field if its flag is set, or else the default; none where it isn't there.
     #[inline]
-    pub fn next_or(&mut self, flag: u32, usual: u32) -> Option<u32> {
+    pub fn next_or(&mut self, flag: u32, defaults: u32) -> Option<u32> {
         if self.word & flag == 0 {
-            return Some(usual);
+            return Some(defaults);
         }
         let (field, left) = self.left.split_first_chunk()?;
         self.left = left;
@@ -237,7 +237,7 @@ impl Runs {
             let offset = fields.next_or(DATA_OFFSET, 0).ok_or(Broken)?;
             next.place = self.at as i64 + i64::from(offset as i32);
         }
-        let first_flags = fields.next_or(FIRST_FLAGS, next.usual.flags).ok_or(Broken)?;
+        let first_flags = fields.next_or(FIRST_FLAGS, next.defaults.flags).ok_or(Broken)?;
         let (columns, rows) = (Columns::of(form), fields.left);
         self.count += 1;
         self.samples += u64::from(count);
@@ -248,10 +248,10 @@ impl Runs {
         if count == 0 {
             return Ok(());
         }
-        let duration = sum(rows, columns.len, columns.duration, next.usual.duration, count);
+        let duration = sum(rows, columns.len, columns.duration, next.defaults.duration, count);
         let run = Run {
             track: next.track,
-            usual: next.usual,
+            defaults: next.defaults,
             first_flags,
             count,
             form,
@@ -259,7 +259,7 @@ impl Runs {
             rows: (trun.payload_at + trun.payload.len() - rows.len()) as u32,
             time: next.time,
             place: next.place,
-            bytes: sum(rows, columns.len, columns.size, next.usual.size, count),
+            bytes: sum(rows, columns.len, columns.size, next.defaults.size, count),
         };
         next.time = run.time.checked_add(duration).ok_or(Broken)?;
         next.place = run.end();
@@ -280,7 +280,7 @@ impl Runs {
 /// What the next run of a traf begins with.
 struct Next {
     track: u32,
-    usual: Usual,
+    defaults: Defaults,
     time: u64,
     place: i64,
 }
@@ -338,8 +338,8 @@ impl<'a> Heads<'a> {
         }
         let place = tracks.find(fields.number).ok_or(Broken)?;
         let track = tracks.at_mut(place);
-        let usual = usual_of(&mut fields, &track.usual).ok_or(Broken)?;
-        if !fields.left.is_empty() || usual.entry.wrapping_sub(1) >= track.entries {
+        let defaults = defaults_of(&mut fields, &track.defaults).ok_or(Broken)?;
+        if !fields.left.is_empty() || defaults.entry.wrapping_sub(1) >= track.entries {
             return Err(Broken);
         }
         let time = match self.tfdt {
@@ -351,14 +351,14 @@ impl<'a> Heads<'a> {
             track.moof = runs.moof;
             track.end_before = track.end;
         }
-        Ok(Next { track: place as u32, usual, time, place: runs.at as i64 })
+        Ok(Next { track: place as u32, defaults, time, place: runs.at as i64 })
     }
 }
 
 /// What samples have by the fields of a tfhd, or else by their track.
 #[inline]
-pub fn usual_of(fields: &mut Fields, track: &Usual) -> Option<Usual> {
-    Some(Usual {
+pub fn defaults_of(fields: &mut Fields, track: &Defaults) -> Option<Defaults> {
+    Some(Defaults {
         entry: fields.next_or(0x02, track.entry)?,
         duration: fields.next_or(0x08, track.duration)?,
         size: fields.next_or(0x10, track.size)?,

@@ -2,11 +2,11 @@
 
 use crate::headers::Kind;
 use crate::held::{check_tree, Child};
-use crate::moof::{sum, time_of, usual_of, Columns, Fields, Runs, MOST_SAMPLES};
+use crate::moof::{sum, time_of, defaults_of, Columns, Fields, Runs, MOST_SAMPLES};
 use crate::moof::{
     BASE_DATA_OFFSET, BASE_IS_MOOF, DATA_OFFSET, DURATION_IS_EMPTY, FIRST_FLAGS, OWN_FLAGS,
 };
-use crate::moov::{at_most_one, one_each, version_of, Track, Tracks, Usual};
+use crate::moov::{at_most_one, one_each, version_of, Track, Tracks, Defaults};
 use crate::rules::{Fault, Least, Rule};
 use std::collections::HashSet;
 
@@ -54,9 +54,9 @@ fn note_shapes(moof: &Child, least: &mut Least) {
     }
 }
 
-/// Whether a payload has eight bytes, and behind them as many as these ask for.
-fn has_length(of: &Child, behind: impl Fn(&Fields) -> u64) -> bool {
-    Fields::of(of.payload).is_some_and(|fields| fields.left.len() as u64 == behind(&fields))
+/// Whether a payload has eight bytes, and after them as many as these ask for.
+fn has_length(of: &Child, after: impl Fn(&Fields) -> u64) -> bool {
+    Fields::of(of.payload).is_some_and(|fields| fields.left.len() as u64 == after(&fields))
 }
 
 fn length_of_tfhd(tfhd: &Fields) -> u64 {
@@ -110,14 +110,14 @@ impl Contents<'_> {
         let track = self.tracks.find(fields.number).map(|place| self.tracks.at(place));
         let Some(track) = track else {
             self.note(Rule::UnknownTrack, &tfhd);
-            return self.note_truns(traf, 0, &Usual::default());
+            return self.note_truns(traf, 0, &Defaults::default());
         };
-        let usual = usual_of(&mut fields, &track.usual).unwrap_or_default();
-        if usual.entry == 0 || usual.entry > track.entries {
+        let defaults = defaults_of(&mut fields, &track.defaults).unwrap_or_default();
+        if defaults.entry == 0 || defaults.entry > track.entries {
             self.note(Rule::EntryIndex, &tfhd);
         }
         let time = tfdt.map_or(Some(self.end_before(track)), |tfdt| time_of(tfdt.payload));
-        self.note_truns(traf, time.unwrap_or(0), &usual);
+        self.note_truns(traf, time.unwrap_or(0), &defaults);
     }
 
     /// When a track ended before the moof.
@@ -130,7 +130,7 @@ impl Contents<'_> {
     }
 
     /// Notes what is at fault with the truns of a traf that begins at a time.
-    fn note_truns(&mut self, traf: &Child, time: u64, usual: &Usual) {
+    fn note_truns(&mut self, traf: &Child, time: u64, defaults: &Defaults) {
         let mut time = u128::from(time);
         for trun in traf.all(Kind::TRUN) {
             let Some(mut fields) = Fields::of(trun.payload) else { return };
@@ -145,7 +145,7 @@ impl Contents<'_> {
             fields.next_or(FIRST_FLAGS, 0);
             let columns = Columns::of(fields.word);
             let duration =
-                sum(fields.left, columns.len, columns.duration, usual.duration, fields.number);
+                sum(fields.left, columns.len, columns.duration, defaults.duration, fields.number);
             time += u128::from(duration);
             if time > u128::from(u64::MAX) {
                 self.note(Rule::TimeRange, &trun);

@@ -6,7 +6,7 @@ use crate::rules::{Fault, Least, Rule};
 
 /// What a sample has where its run doesn't say.
 #[derive(Clone, Copy, Default)]
-pub struct Usual {
+pub struct Defaults {
     pub entry: u32,
     pub duration: u32,
     pub size: u32,
@@ -20,7 +20,7 @@ pub struct Track {
     pub timescale: u32,
     /// How many sample descriptions it has.
     pub entries: u32,
-    pub usual: Usual,
+    pub defaults: Defaults,
     /// When the last of its track fragments ended.
     pub end: u64,
     /// The number of the last moof that has it, and when it ended before that.
@@ -76,28 +76,28 @@ pub fn tracks_of(moov: &Child, base: u64) -> Result<Tracks, Fault> {
     check_tree(moov, base)?;
     let mut least = Least::new(base);
     one_each(moov, &[Kind::MVEX], &mut least);
-    let mut usual = Vec::new();
+    let mut defaults = Vec::new();
     for trex in moov.all(Kind::MVEX).flat_map(|mvex| mvex.all(Kind::TREX)) {
         match fields_of_trex(trex.payload) {
-            Some(fields) => usual.push(fields),
+            Some(fields) => defaults.push(fields),
             None => least.note(Rule::FieldLength, Some(trex.kind), trex.at),
         }
     }
     let mut traks: Vec<Trak> =
         moov.all(Kind::TRAK).map(|trak| read_trak(&trak, &mut least)).collect();
     least.stop()?;
-    usual.sort_unstable_by_key(|(id, _)| *id);
+    defaults.sort_unstable_by_key(|(id, _)| *id);
     traks.sort_unstable_by_key(|trak| (trak.id, trak.tkhd));
-    note_unknown(&traks, &usual, &mut least);
+    note_unknown(&traks, &defaults, &mut least);
     least.stop()?;
-    let mut usual = usual.into_iter();
+    let mut defaults = defaults.into_iter();
     let all = traks.iter().filter_map(|trak| {
-        let (id, usual) = usual.find(|(id, _)| *id == trak.id)?;
+        let (id, defaults) = defaults.find(|(id, _)| *id == trak.id)?;
         Some(Track {
             id,
             timescale: trak.timescale,
             entries: trak.entries,
-            usual,
+            defaults,
             end: 0,
             moof: 0,
             end_before: 0,
@@ -109,11 +109,11 @@ pub fn tracks_of(moov: &Child, base: u64) -> Result<Tracks, Fault> {
 
 /// Notes each tkhd whose track_ID an earlier one has, or not just one trex. Both lists rise by track_ID, and the traks
 /// then by place.
-fn note_unknown(traks: &[Trak], usual: &[(u32, Usual)], least: &mut Least) {
+fn note_unknown(traks: &[Trak], defaults: &[(u32, Defaults)], least: &mut Least) {
     let mut before = None;
     for trak in traks {
-        let first = usual.partition_point(|(id, _)| *id < trak.id);
-        let trexes = usual[first..].iter().take(2).filter(|(id, _)| *id == trak.id).count();
+        let first = defaults.partition_point(|(id, _)| *id < trak.id);
+        let trexes = defaults[first..].iter().take(2).filter(|(id, _)| *id == trak.id).count();
         if before == Some(trak.id) || trexes != 1 {
             least.note(Rule::UnknownTrack, Some(Kind::TKHD), trak.tkhd);
         }
@@ -139,14 +139,14 @@ pub fn at_most_one(parent: &Child, kind: Kind, least: &mut Least) {
 }
 
 /// The track_ID of a trex and what it says of samples; none where it has another length.
-fn fields_of_trex(trex: &[u8]) -> Option<(u32, Usual)> {
-    let usual = Usual {
+fn fields_of_trex(trex: &[u8]) -> Option<(u32, Defaults)> {
+    let defaults = Defaults {
         entry: number(trex, 8)?,
         duration: number(trex, 12)?,
         size: number(trex, 16)?,
         flags: number(trex, 20)?,
     };
-    (trex.len() == 24).then_some((number(trex, 4)?, usual))
+    (trex.len() == 24).then_some((number(trex, 4)?, defaults))
 }
 
 /// Reads a trak along its paths, and notes what it breaks.

@@ -31,7 +31,7 @@ impl<W: Write> Out<W> {
         Ok(())
     }
 
-    /// Room for so many bytes, at most those of a block. They are put once it is told how many they are.
+    /// Room for so many bytes, at most those of a block. They are put once it is known how many they are.
     #[inline(always)]
     pub fn room(&mut self, count: usize) -> Result<&mut [u8], Stop> {
         if self.block.len() - self.len < count {
@@ -40,7 +40,7 @@ impl<W: Write> Out<W> {
         Ok(&mut self.block[self.len..][..count])
     }
 
-    /// Puts so many bytes, which stand in the room.
+    /// Puts so many bytes, which are in the room.
     #[inline(always)]
     pub fn took(&mut self, count: usize) {
         self.len += count;

@@ -22,7 +22,7 @@ fn find<'a>(mut bytes: &'a [u8], kind: &[u8; 4]) -> &'a [u8] {
     }
 }
 
-/// What a run has, and where the fields of its samples stand.
+/// What a run has, and where the fields of its samples are.
 struct Run<'a> {
     track: u32,
     entry: u32,
@@ -52,18 +52,18 @@ impl Run<'_> {
 
     fn row(&self, i: u32) -> Row {
         let mut at = self.group() * i as usize;
-        let mut field = |flag: u32, usual: u32| {
+        let mut field = |flag: u32, defaults: u32| {
             if self.fields & flag == 0 {
-                return usual;
+                return defaults;
             }
             at += 4;
             number(self.samples, at - 4)
         };
-        let usual = if i == 0 { self.first_flags.unwrap_or(self.flags) } else { self.flags };
+        let defaults = if i == 0 { self.first_flags.unwrap_or(self.flags) } else { self.flags };
         Row {
             duration: field(0x100, self.duration),
             size: field(0x200, self.size),
-            flags: field(0x400, usual),
+            flags: field(0x400, defaults),
             offset: field(0x800, 0),
         }
     }
@@ -75,9 +75,9 @@ fn read<'a>(moov: &[u8], moof: &'a [u8]) -> Run<'a> {
     let tfhd = find(traf, b"tfhd");
     let flags = number(tfhd, 0) & 0xff_ffff;
     let mut at = 8;
-    let mut field = |flag: u32, usual: u32| {
+    let mut field = |flag: u32, defaults: u32| {
         if flags & flag == 0 {
-            return usual;
+            return defaults;
         }
         at += 4;
         number(tfhd, at - 4)
@@ -93,11 +93,11 @@ fn read<'a>(moov: &[u8], moof: &'a [u8]) -> Run<'a> {
     };
     let trun = find(traf, b"trun");
     let fields = number(trun, 0) & 0xff_ffff;
-    let mut behind = 8 + 4 * (fields & 1) as usize;
+    let mut after = 8 + 4 * (fields & 1) as usize;
     let mut first_flags = None;
     if fields & 4 != 0 {
-        first_flags = Some(number(trun, behind));
-        behind += 4;
+        first_flags = Some(number(trun, after));
+        after += 4;
     }
     Run {
         track: number(tfhd, 4),
@@ -110,7 +110,7 @@ fn read<'a>(moov: &[u8], moof: &'a [u8]) -> Run<'a> {
         flags: sample_flags,
         first_flags,
         fields,
-        samples: &trun[behind..],
+        samples: &trun[after..],
     }
 }
 

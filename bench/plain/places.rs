@@ -1,4 +1,4 @@
-//! Where the runs of a moof may stand, and the order in which they are taken.
+//! Where the runs of a moof may lie, and the order in which they are taken.
 
 use crate::headers::Kind;
 use crate::moof::Runs;
@@ -7,7 +7,7 @@ use crate::rules::{Broken, Fault, Rule};
 use std::collections::{BTreeMap, HashMap};
 
 impl Runs {
-    /// Puts the runs in the order of their places, unless one of them may not stand where it does: the payload of the mdat
+    /// Puts the runs in the order of their places, unless one of them may not lie where it does: the payload of the mdat
     /// has such a start and end.
     #[inline]
     pub fn place(&mut self, start: i64, end: i64, tracks: &mut Tracks) -> Result<(), Broken> {
@@ -41,7 +41,7 @@ impl Runs {
         }
     }
 
-    /// The first run in the listing that may not stand where it does, of a moof at an offset.
+    /// The first run in the listing that may not lie where it does, of a moof at an offset.
     #[cold]
     pub fn misplaced(&mut self, base: u64, start: i64, end: i64) -> Option<Fault> {
         self.list.sort_unstable_by_key(|run| run.trun);
@@ -50,7 +50,7 @@ impl Runs {
         let mut taken: BTreeMap<i64, i64> = BTreeMap::new();
         let wrong = self.list.iter().find(|run| {
             let outside = run.place < start || run.end() > end;
-            let behind =
+            let after =
                 tracks.insert(run.track, run.end()).is_some_and(|before| run.place < before);
             let mut shared = false;
             if run.bytes > 0 {
@@ -60,7 +60,7 @@ impl Runs {
                     .is_some_and(|(_, before)| *before > run.place);
                 taken.insert(run.place, run.end());
             }
-            outside || behind || shared
+            outside || after || shared
         });
         wrong.map(|run| Fault {
             rule: Rule::RunPlace,

@@ -97,7 +97,7 @@ impl<R: Read, M: Making<R>> Reader<R, M> {
         Ok(())
     }
 
-    /// Reads a moof and the mdat behind it.
+    /// Reads a moof and the mdat after it.
     fn fragment(&mut self, moof: &Header) -> Result<(), Stop> {
         let at = self.input.at();
         if !self.has_moov {

@@ -112,7 +112,7 @@ impl<'a> Next<'a> {
     fn of(run: &Run, track: u32, cut: &'a Cut, number: u64) -> Next<'a> {
         let mut front = MOOF;
         front[44..48].copy_from_slice(&track.to_be_bytes());
-        front[48..52].copy_from_slice(&run.usual.entry.to_be_bytes());
+        front[48..52].copy_from_slice(&run.defaults.entry.to_be_bytes());
         front[80] = (run.form >> 24) as u8;
         Next { cut, front, first: 0, time: run.time, number }
     }
@@ -141,11 +141,11 @@ impl<'a> Next<'a> {
     ) -> Result<Piece, Stop> {
         let most = self.cut.samples.min(rows.run.count - self.first);
         let room = out.room(FRONT + 16 * most as usize + 16)?;
-        let (front, behind) = room.split_first_chunk_mut().expect("there is room");
-        let piece = rows.put(self.first, self.cut, &mut behind.as_chunks_mut().0[..most as usize]);
+        let (front, after) = room.split_first_chunk_mut().expect("there is room");
+        let piece = rows.put(self.first, self.cut, &mut after.as_chunks_mut().0[..most as usize]);
         self.put_front(front, &piece);
         let len = 16 * piece.count as usize;
-        let header = behind[len..].first_chunk_mut().expect("there is room");
+        let header = after[len..].first_chunk_mut().expect("there is room");
         put_header(header, &piece);
         out.took(FRONT + len + piece.header_len() as usize);
         Ok(piece)

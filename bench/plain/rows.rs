@@ -5,7 +5,7 @@ use crate::moof::{Columns, Run};
 /// The bit of a sample's flags that says that it isn't a sync sample.
 const NOT_SYNC: u32 = 0x0001_0000;
 
-/// Calls a function for the four bits that tell which fields the rows of a run have.
+/// Calls a function for the four bits that say which fields the rows of a run have.
 macro_rules! by_fields {
     ($run:expr, $name:ident $([$more:ty])?, $($given:expr),*) => {
         match $run.form >> 8 & 15 {
@@ -81,21 +81,21 @@ impl<'a, const FIELDS: usize> Rows<'a, FIELDS> {
     #[inline(always)]
     pub fn row(&self, i: u32) -> Row {
         let len = Self::COLUMNS.len;
-        let usual = if i == 0 { self.run.first_flags } else { self.run.usual.flags };
-        self.read(&self.bytes[i as usize * len..][..len], usual)
+        let defaults = if i == 0 { self.run.first_flags } else { self.run.defaults.flags };
+        self.read(&self.bytes[i as usize * len..][..len], defaults)
     }
 
     /// A row by its bytes, with these flags where it has none.
     #[inline(always)]
     fn read(&self, row: &[u8], flags: u32) -> Row {
-        let at = |column: Option<usize>, usual| match column {
+        let at = |column: Option<usize>, defaults| match column {
             Some(at) => u32::from_be_bytes([row[at], row[at + 1], row[at + 2], row[at + 3]]),
-            None => usual,
+            None => defaults,
         };
-        let (columns, usual) = (Self::COLUMNS, &self.run.usual);
+        let (columns, defaults) = (Self::COLUMNS, &self.run.defaults);
         Row {
-            duration: at(columns.duration, usual.duration),
-            size: at(columns.size, usual.size),
+            duration: at(columns.duration, defaults.duration),
+            size: at(columns.size, defaults.size),
             flags: at(columns.flags, flags),
             offset: at(columns.offset, 0),
         }
@@ -122,10 +122,10 @@ impl<'a, const FIELDS: usize> Rows<'a, FIELDS> {
     #[inline(always)]
     fn put_all(&self, first: u32, places: &mut [[u8; 16]]) -> Piece {
         let len = Self::COLUMNS.len;
-        let usual = self.run.usual.flags;
+        let defaults = self.run.defaults.flags;
         let mut piece = Piece { count: places.len() as u32, ..Piece::default() };
         let mut put = |row: &[u8], place: &mut [u8; 16]| {
-            let row = self.read(row, usual);
+            let row = self.read(row, defaults);
             piece.bytes += u64::from(row.size);
             piece.duration += u64::from(row.duration);
             row.put(place);

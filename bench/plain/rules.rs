@@ -1,4 +1,4 @@
-//! What a stream may break, and how that is told.
+//! What a stream may break, and how that is reported.
 
 use crate::headers::Kind;
 use std::fmt;
@@ -64,7 +64,7 @@ impl Least {
         Least { base, fault: None }
     }
 
-    /// Notes that the box so many bytes behind the base breaks a rule.
+    /// Notes that the box so many bytes after the base breaks a rule.
     pub fn note(&mut self, rule: Rule, kind: Option<Kind>, at: usize) {
         let fault = Fault { rule, kind, at: self.base + at as u64 };
         if self.fault.is_none_or(|least| (rule, fault.at) < (least.rule, least.at)) {

@@ -3,7 +3,7 @@
 //!
 //! It asks for the same rules and names the same fault. A moov or moof is read where it lies in the buffer that the stream is
 //! read into, or in a block of its own where it is larger. One pass over a moof takes its runs, and stops where any rule is
-//! broken; only then another finds the least fault. The runs of a moof are listed once the header of the mdat behind it has come;
+//! broken; only then another finds the least fault. The runs of a moof are listed once the header of the mdat after it has come;
 //! media is passed over. Each line is built in the buffer that is written.
 
 mod headers;

@@ -2,7 +2,7 @@
 //! made to be fast.
 //!
 //! It asks for the same rules, names the same fault and writes the same bytes; it takes --copy and --max-held, and makes nothing of
-//! them. The rows of a piece are put where they are written from, and then what stands before them. Media that came with its moof
+//! them. The rows of a piece are put where they are written from, and then what is before them. Media that came with its moof
 //! is taken from the buffer that the stream is read into; else the moof is put in a block first, and media goes out as it comes.
 
 mod cutting;
@@ -56,7 +56,7 @@ fn set(place: &mut Option<u64>, number: Option<u64>) -> Option<()> {
     place.replace(number?).is_none().then_some(())
 }
 
-/// How to cut, by the words behind the program's name.
+/// How to cut, by the words after the program's name.
 fn cut_of(words: &[String]) -> Option<Cut> {
     let (command, words) = words.split_first()?;
     let mut words = words.iter().map(String::as_str);

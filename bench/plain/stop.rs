@@ -1,4 +1,4 @@
-//! Why a stream isn't read to its end, and how that is told.
+//! Why a stream isn't read to its end, and how that is reported.
 
 use crate::rules::Fault;
 use std::fmt;
@@ -27,7 +27,7 @@ impl fmt::Display for Stop {
     }
 }
 
-/// Tells on standard error how a run ended, if not well. Its status; none where the words weren't understood.
+/// Reports on standard error how a run ended, if not well. Its status; none where the words weren't understood.
 pub fn status_of(done: Option<Result<(), Stop>>) -> ExitCode {
     match done {
         None => {

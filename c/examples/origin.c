@@ -1,5 +1,5 @@
 /* origin PORT SAMPLES...: a fan-out origin on loopback. One live stream comes on standard input; each client of
- * http://127.0.0.1:PORT/SAMPLES gets it recut by so many samples a fragment: the moov and what stands before it, and
+ * http://127.0.0.1:PORT/SAMPLES gets it recut by so many samples a fragment: the moov and what is before it, and
  * then all from the next fragment on. One thread. Memory is bounded: LIMIT for each cut, BACKLOG for each of CLIENTS
  * clients; a client that falls further behind is dropped. A cut that isn't there is 404, and a HEAD is answered by
  * the header alone.
@@ -16,7 +16,7 @@
 #include <sys/socket.h>
 #include <unistd.h>
 
-enum { CUTS = 8, CLIENTS = 64, CHUNK = 65536, ROOM = 1 << 20, LIMIT = 64 << 20, BACKLOG = 4 << 20, HEAD = 1 << 20 };
+enum { CUTS = 8, CLIENTS = 64, INPUT = 65536, ROOM = 1 << 20, LIMIT = 64 << 20, BACKLOG = 4 << 20, HEAD = 1 << 20 };
 
 /* A cut of the live stream. Its output is gone through box by box: `left` bytes of one are still to come. */
 struct cut {
@@ -113,7 +113,7 @@ static void go_through(struct cut *cut, const unsigned char *bytes, size_t len) 
 }
 
 static void drain(struct cut *cut) {
-    static unsigned char out[CHUNK];
+    static unsigned char out[INPUT];
     size_t n = 0;
     do {
         fmp4_take(&cut->stream, out, sizeof out, &n);
@@ -121,14 +121,14 @@ static void drain(struct cut *cut) {
     } while (n == sizeof out);
 }
 
-/* The next chunk of the live stream, or its end. */
-static void feed_all(const unsigned char *chunk, size_t len) {
+/* The next input of the live stream, or its end. */
+static void feed_all(const unsigned char *input, size_t len) {
     for (int i = 0; i < cut_count; i++) {
         struct cut *cut = &cuts[i];
         struct fmp4_report report = {0};
         uint32_t answer = FMP4_OK;
         for (size_t at = 0, n = 0; at < len && answer <= FMP4_FULL && !cut->is_over; at += n) {
-            answer = fmp4_feed(&cut->stream, chunk + at, len - at, &n);
+            answer = fmp4_feed(&cut->stream, input + at, len - at, &n);
             drain(cut);
         }
         if (len > 0 && answer <= FMP4_FULL) continue;
@@ -195,7 +195,7 @@ static int are_waiting(void) {
 }
 
 static void serve(int listener) {
-    static unsigned char chunk[CHUNK];
+    static unsigned char input[INPUT];
     int is_fed = 1;
     while (is_fed || are_waiting()) {
         struct pollfd polls[CLIENTS + 2] = {{.fd = listener, .events = POLLIN}, {.fd = is_fed ? 0 : -1, .events = POLLIN}};
@@ -206,10 +206,10 @@ static void serve(int listener) {
         if (poll(polls, CLIENTS + 2, 10000) < 0 && errno != EINTR) return;
         if (polls[0].revents & POLLIN) take_client(listener);
         if (polls[1].revents & (POLLIN | POLLHUP)) {
-            ssize_t n = read(0, chunk, sizeof chunk);
+            ssize_t n = read(0, input, sizeof input);
             if (n < 0 && errno == EINTR) continue;
             is_fed = n > 0;
-            feed_all(chunk, n > 0 ? (size_t)n : 0);
+            feed_all(input, n > 0 ? (size_t)n : 0);
         }
         for (int i = 0; i < CLIENTS; i++) {
             struct client *c = &clients[i];

@@ -1,4 +1,4 @@
-/* recut SAMPLES [CHUNK [BYTES [FLAGS [LIMIT [ROOM]]]]]: recuts standard input, CHUNK bytes at a time, as fmp4 split does.
+/* recut SAMPLES [INPUT [BYTES [FLAGS [LIMIT [ROOM]]]]]: recuts standard input, INPUT bytes at a time, as fmp4 split does.
  * cc recut.c -lfmp4 */
 #include <fmp4.h>
 #include <stdio.h>
@@ -15,7 +15,7 @@ static int drain(struct fmp4_stream *stream, unsigned char *buffer, size_t size)
 }
 
 /* Says what a stop means. */
-static void tell(uint32_t answer, const struct fmp4_report *report) {
+static void report_end(uint32_t answer, const struct fmp4_report *report) {
     char name[16] = {0}, type[5] = {0};
     if (answer == FMP4_FAULT) {
         fmp4_rule_name(report->rule, name, sizeof name);
@@ -29,28 +29,28 @@ static void tell(uint32_t answer, const struct fmp4_report *report) {
 
 int main(int argc, char **argv) {
     unsigned long long with[6] = {0, 65536, 0, 0, 512ull << 20, 2 << 20};
-    if (argc < 2 || argc > 7) return fputs("recut SAMPLES [CHUNK [BYTES [FLAGS [LIMIT [ROOM]]]]]\n", stderr), 64;
+    if (argc < 2 || argc > 7) return fputs("recut SAMPLES [INPUT [BYTES [FLAGS [LIMIT [ROOM]]]]]\n", stderr), 64;
     for (int i = 1; i < argc; i++) with[i - 1] = strtoull(argv[i], NULL, 10);
     size_t size = with[1] ? with[1] : 1, len = 0, n = 0;
-    unsigned char *chunk = calloc(size, 1), *out = calloc(65536, 1);
-    if (!chunk || !out) return 4;
+    unsigned char *input = calloc(size, 1), *out = calloc(65536, 1);
+    if (!input || !out) return 4;
     struct fmp4_stream stream = {0};
     struct fmp4_report report = {0};
     uint32_t answer = fmp4_split_open(&stream, (uint32_t)with[0], with[2], (uint32_t)with[3], with[4], with[5]);
     if (answer != FMP4_OK) return fprintf(stderr, "recut: the stream isn't opened: %u\n", (unsigned)answer), 64;
     int is_written = 1;
-    while (is_written && answer == FMP4_OK && (len = fread(chunk, 1, size, stdin)) > 0)
+    while (is_written && answer == FMP4_OK && (len = fread(input, 1, size, stdin)) > 0)
         for (size_t at = 0; is_written && at < len && (answer == FMP4_OK || answer == FMP4_FULL); at += n) {
-            answer = fmp4_feed(&stream, chunk + at, len - at, &n);
+            answer = fmp4_feed(&stream, input + at, len - at, &n);
             is_written = drain(&stream, out, 65536);
             if (answer == FMP4_FULL) answer = FMP4_OK;
         }
     answer = fmp4_finish(&stream, &report);
     if (is_written) is_written = drain(&stream, out, 65536) && fflush(stdout) == 0;
     fmp4_close(&stream);
-    free(chunk);
+    free(input);
     free(out);
     if (!is_written || ferror(stdin)) return fputs("recut: a read or a write failed\n", stderr), 3;
-    tell(answer, &report);
+    report_end(answer, &report);
     return answer == FMP4_OK ? 0 : answer == FMP4_FAULT ? 2 : answer == FMP4_NO_ROOM ? 3 : 4;
 }

@@ -1,4 +1,4 @@
-# recut.py LIBFMP4.SO SAMPLES [CHUNK]: recuts standard input by ctypes
+# recut.py LIBFMP4.SO SAMPLES [INPUT]: recuts standard input by ctypes
 import ctypes, sys
 from ctypes import byref, c_size_t, c_uint32, c_uint64, c_void_p, create_string_buffer as buffer
 class Stream(ctypes.Structure): _fields_ = [("state", c_void_p), ("closed", c_uint32)]
@@ -9,10 +9,10 @@ def drain():
     while lib.fmp4_take(byref(stream), out, c_size_t(65536), byref(n)) == 0 and n.value: sys.stdout.buffer.write(out.raw[:n.value])
 if lib.fmp4_split_open(byref(stream), c_uint32(int(sys.argv[2])), c_uint64(0), c_uint32(0), c_uint64(512 << 20), c_size_t(2 << 20)): sys.exit(64)
 answer, size = 0, int(sys.argv[3]) if len(sys.argv) > 3 else 65536
-while answer < 2 and (chunk := sys.stdin.buffer.read(size)):
-    while answer < 2 and chunk:
-        answer = lib.fmp4_feed(byref(stream), chunk, c_size_t(len(chunk)), byref(n))
-        chunk = chunk[n.value:]
+while answer < 2 and (input := sys.stdin.buffer.read(size)):
+    while answer < 2 and input:
+        answer = lib.fmp4_feed(byref(stream), input, c_size_t(len(input)), byref(n))
+        input = input[n.value:]
         drain()
 answer = lib.fmp4_finish(byref(stream), byref(report))
 drain()

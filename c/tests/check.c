@@ -1,4 +1,4 @@
-/* check CHUNK < STREAM: what `fmp4 check` prints, and its status, by a stream that is checked CHUNK bytes at a time. */
+/* check INPUT < STREAM: what `fmp4 check` prints, and its status, by a stream that is checked INPUT bytes at a time. */
 #include "tests.h"
 
 enum { COPY = 65536 };

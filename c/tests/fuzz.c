@@ -1,4 +1,4 @@
-/* fuzz SEED SECONDS < STREAM: calls in any order, with chunks of a stream some of whose bytes were changed. Each
+/* fuzz SEED SECONDS < STREAM: calls in any order, with inputs of a stream some of whose bytes were changed. Each
  * answer is one that the state allows, a stop stays, and what was taken of an unchanged stream is a prefix of its
  * output. */
 #include "tests.h"
@@ -45,11 +45,11 @@ static void open_one(struct one *s) {
 static void feed_one(struct one *s) {
     size_t len = random_to(3) ? random_to(3000) : random_to(70000), n = 77;
     if (s->at + len > in.len) len = in.len - s->at;
-    unsigned char *chunk = malloc(len + 1);
-    memcpy(chunk, in.at + s->at, len);
-    if (s->is_changed && len && random_to(2)) chunk[random_to(len)] = (unsigned char)random_to(256);
-    uint32_t answer = fmp4_feed(&s->stream, chunk, len, &n);
-    free(chunk);
+    unsigned char *input = malloc(len + 1);
+    memcpy(input, in.at + s->at, len);
+    if (s->is_changed && len && random_to(2)) input[random_to(len)] = (unsigned char)random_to(256);
+    uint32_t answer = fmp4_feed(&s->stream, input, len, &n);
+    free(input);
     WANT(n <= len);
     switch (s->state) {
     case NEW: WANT(answer == FMP4_NOT_OPEN && n == 0); break;

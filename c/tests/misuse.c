@@ -1,7 +1,7 @@
 /* Each misuse has its number, and does nothing. */
 #include "tests.h"
 
-static unsigned char chunk[64], out[64];
+static unsigned char input[64], out[64];
 static struct fmp4_report report, other;
 static size_t n;
 
@@ -9,7 +9,7 @@ static void all_answer(struct fmp4_stream *s, uint32_t wanted) {
     memset(&report, 7, sizeof report);
     other = report;
     n = 9;
-    WANT(fmp4_feed(s, chunk, sizeof chunk, &n) == wanted && n == 0);
+    WANT(fmp4_feed(s, input, sizeof input, &n) == wanted && n == 0);
     if (wanted != FMP4_ENDED) {
         n = 9;
         WANT(fmp4_take(s, out, sizeof out, &n) == wanted && n == 0);
@@ -44,7 +44,7 @@ int main(void) {
         WANT(fmp4_split_open(&s, 0, 0, 9, 0, 0) == FMP4_IS_OPEN);
         WANT(fmp4_check_open(&s, 1 << 20) == FMP4_IS_OPEN);
         WANT(fmp4_totals(&s, &report) == FMP4_OK && report.samples == 0 && report.rule == 0);
-        WANT(fmp4_feed(&s, chunk, 0, &n) == FMP4_OK && n == 0);
+        WANT(fmp4_feed(&s, input, 0, &n) == FMP4_OK && n == 0);
         WANT(fmp4_finish(&s, &report) == FMP4_OK && report.samples == 0 && report.peak == 0);
         all_answer(&s, FMP4_ENDED);
         WANT(fmp4_totals(&s, &report) == FMP4_OK && report.samples == 0 && report.rule == 0);

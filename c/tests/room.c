@@ -1,6 +1,6 @@
 /* room < crates/sound_stream/stdin: which streams find room in the 2 MiB that serve where output is taken after each
  * feed, and where it is taken only when a feed answers FMP4_FULL: samples of 1 to 24 bytes in one fragment and in
- * many, cut by 1 to 1,000, with an index and without, in chunks of 4 to 128 KiB. And what a stream still stops for,
+ * many, cut by 1 to 1,000, with an index and without, in inputs of 4 to 128 KiB. And what a stream still stops for,
  * on each side: a moov, a head and an index that are larger than what is free, and samples without bytes. The moov,
  * mfhd and tfdt are those of the stream. */
 #include "tests.h"
@@ -43,7 +43,7 @@ static void make(uint32_t fragments, uint32_t count, uint32_t size, int of_each)
 }
 
 /* What the last call answers where the stream is cut; output is taken after each feed, or only where one is full. */
-static uint32_t cut(uint32_t samples, uint32_t flags, size_t chunk, size_t room, int until_full) {
+static uint32_t cut(uint32_t samples, uint32_t flags, size_t input, size_t room, int until_full) {
     static unsigned char out[65536];
     struct fmp4_stream stream = {0};
     struct fmp4_report report = {0};
@@ -51,7 +51,7 @@ static uint32_t cut(uint32_t samples, uint32_t flags, size_t chunk, size_t room,
     WANT(fmp4_split_open(&stream, samples, 0, flags, 512u << 20, room) == FMP4_OK);
     uint32_t answer = FMP4_OK;
     while (answer <= FMP4_FULL && at < in.len) {
-        answer = fmp4_feed(&stream, in.at + at, in.len - at < chunk ? in.len - at : chunk, &n);
+        answer = fmp4_feed(&stream, in.at + at, in.len - at < input ? in.len - at : input, &n);
         at += n;
         if (!until_full || answer == FMP4_FULL)
             do fmp4_take(&stream, out, sizeof out, &got); while (got == sizeof out);
@@ -63,14 +63,14 @@ static uint32_t cut(uint32_t samples, uint32_t flags, size_t chunk, size_t room,
 
 static unsigned in_one_fragment(void) {
     static const uint32_t sizes[] = {1, 2, 3, 4, 6, 8, 12, 16}, cuts[] = {1, 2, 5, 7, 15, 50, 1000};
-    static const size_t chunks[] = {4096, 16384, 65536, 131072};
+    static const size_t inputs[] = {4096, 16384, 65536, 131072};
     unsigned fit = 0;
     for (int i = 0; i < 8; i++) {
         make(1, 600000 / sizes[i], sizes[i], 0);
         for (int k = 0; k < 7; k++)
             for (int c = 0; c < 4; c++)
                 for (int way = 0; way < 4; way++, fit++)
-                    WANT(cut(cuts[k], way & 1, chunks[c], ROOM, way >> 1) == FMP4_OK);
+                    WANT(cut(cuts[k], way & 1, inputs[c], ROOM, way >> 1) == FMP4_OK);
     }
     return fit;
 }
@@ -104,7 +104,7 @@ static size_t written_of(uint32_t count, uint32_t samples, uint32_t flags) {
     return 100 * pieces + 16 * (size_t)count + (flags & FMP4_INDEX ? 40 * groups + 12 * pieces : 0);
 }
 
-/* As many of them as fit with the front of the stream, which comes in the same chunk, and one more. */
+/* As many of them as fit with the front of the stream, which comes in the same input, and one more. */
 static unsigned without_bytes(void) {
     static const uint32_t cuts[] = {1, 2, 5, 7, 15, 50, 1000};
     unsigned fit = 0;

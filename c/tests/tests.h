@@ -11,7 +11,7 @@ struct bytes {
     size_t len, room;
 };
 
-/* How a stream is cut: a chunk is `step` bytes, and `take` bytes of output are taken at once. */
+/* How a stream is cut: an input is `step` bytes, and `take` bytes of output are taken at once. */
 struct cut {
     uint32_t samples, flags;
     uint64_t bytes, limit;
@@ -36,9 +36,9 @@ static inline void append(struct bytes *to, const unsigned char *from, size_t le
 }
 
 static inline struct bytes read_all(FILE *file) {
-    static unsigned char chunk[65536];
+    static unsigned char input[65536];
     struct bytes all = {calloc(1, 1), 0, 1};
-    for (size_t n; (n = fread(chunk, 1, sizeof chunk, file)) > 0;) append(&all, chunk, n);
+    for (size_t n; (n = fread(input, 1, sizeof input, file)) > 0;) append(&all, input, n);
     return all;
 }
 
