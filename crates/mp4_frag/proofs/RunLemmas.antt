@@ -7,7 +7,7 @@ use Rattle.mp4_init.specs.declared.table.Track.{Track}
 use Rattle.mp4_frag.specs.declared.run.Run.{Run}
 use Rattle.mp4_frag.specs.Kinds.{trun}
 use Rattle.mp4_frag.specs.Ranges.{InRange}
-use Rattle.mp4_frag.specs.Runs.{MoofBytes, Shared, TrackFragment, base_of, end_place, run_of, runs_from, runs_of, shared_by, track_of, traf_of, trafs_by}
+use Rattle.mp4_frag.specs.Runs.{MoofBytes, Shared, base_of, end_place, run_of, runs_from, shared_by, track_of, traf_of}
 use Rattle.mp4_frag.specs.Implementation.Times.{ticks_in}
 use Rattle.mp4_frag.proofs.TimeLemmas.{end_is}
 

@@ -8,6 +8,7 @@ use Rattle.mp4_frag.specs.declared.run_row.RunRow.{RunRow}
 use Rattle.mp4_frag.specs.Moofs.{moof_runs}
 use Rattle.mp4_frag.specs.Runs.{MoofBytes}
 use Rattle.mp4_frag.specs.Places.{listed_run}
+use Rattle.mp4_frag.specs.Implementation.Rereads.{run_of_row}
 
 -- the runs of a moof as the rule of their places sees them, in listing order
 abbrev pub moof_listing : MoofBytes → List Track → List ListedRun
@@ -21,3 +22,7 @@ taken_runs h tracks = taken_by listed_run (moof_runs h tracks)
 pub record ListedRows : Type 0 where
   pub rows : List RunRow
   pub late : Option ℕ
+
+-- the runs of a list: each is read again from the bytes of its moof, by its row
+abbrev pub listed_runs : MoofBytes → List Track → ListedRows → List Run
+listed_runs h tracks l = map (run_of_row h tracks) l.rows

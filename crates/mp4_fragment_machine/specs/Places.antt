@@ -1,15 +1,13 @@
 -- Where a machine is in a fragmented stream, whatever it does with fragments.
-use Rattle.std.specs.Prelude.{◌≡◌, ℕ, ◌+◌, ◌-◌, ◌<◌, ◌≤◌, List, [], ◌++◌, length, Bool, Option, Result, Ok, Err}
+use Rattle.std.specs.Prelude.{◌≡◌, ℕ, ◌+◌, ◌-◌, ◌<◌, ◌≤◌, List, [], ◌++◌, length, Bool, Option}
 use Rattle.mp4_box.specs.declared.headers.FourCc.{FourCc}
 use Rattle.mp4_box.specs.Headers.{need}
 use Rattle.mp4_init.specs.declared.table.Track.{Track}
-use Rattle.mp4_ledger.specs.Memory.{Account, given_back}
 use Rattle.mp4_machine.specs.Blocks.{Pending}
 use Rattle.mp4_machine.specs.Ends.{Sent}
 use Rattle.mp4_machine.specs.Bodies.{longest, body_item, open_body_item}
 use Rattle.mp4_machine.specs.Inputs.{Continuation}
 use Rattle.mp4_machine.specs.Readings.{Reading, Effects, no_effects, then_read}
-use Rattle.mp4_machine.specs.declared.stop.Stop.{Stop}
 use Rattle.mp4_grammar.specs.Contexts.{Context, table_of}
 use Rattle.mp4_grammar.specs.Items.{after_moof, buffered_body, reads_in, with_runs}
 use Rattle.mp4_grammar.specs.Meanings.{Meaning}

@@ -109,7 +109,8 @@ impl Ledger {
         earlier
     }
 
-    /// Counts a peak that was reached before a mark: the peak is at least so much then.
+    /// Counts a peak that was reached before a mark: the peak is at least so much then. The token doesn't say of which
+    /// ledger it is: that of another one is counted too, where it is within the limit.
     pub fn lift(&mut self, earlier: EarlierPeak)
         requires { earlier ≤ self.old.limit }
         ensures { self.new ≡ record self.old { peak = max self.old.peak earlier } }

@@ -43,7 +43,7 @@ operation-quiet (operations.Split cut) = splitting-quiet cut
 pub reading-none : (operation : Operation) → reads_of operation [] ≡ empty_reading
 reading-none operation = reads-none (operation_meaning operation) first_context
 
-begun-is : (operation : Operation) → IsBegun (continuation_in (begun operation)) uncounted
+pub begun-is : (operation : Operation) → IsBegun (continuation_in (begun operation)) uncounted
 begun-is operation = record { reached = refl; claim = refl; none = reads-none (operation_meaning operation) (context 0 None (number_in operation uncounted)); counted = refl }
 
 -- the first fragment that is written has the number 1

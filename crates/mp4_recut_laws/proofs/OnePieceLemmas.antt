@@ -46,7 +46,7 @@ use Rattle.std.specs.List.{flat_map}
 use Rattle.mp4_recut_laws.specs.MediaSamples.{item_samples, media_samples_from, media_samples_in, media_samples_of_run}
 use Rattle.mp4_recut.specs.Splitting.{splitting, timescale_of}
 use Rattle.mp4_recut.specs.Texts as texts
-use Rattle.mp4_recut.specs.Texts.{fragment_text, item_text}
+use Rattle.mp4_recut.specs.Texts.{fragment_text}
 
 -- ---- the boxes
 

@@ -1,5 +1,5 @@
 -- Lists of samples with the same reports, whatever is reported of each, are the same list.
-use Rattle.std.proofs.Common.{◌≡◌, ◌∙◌, ℕ, ℤ, pos, negsuc, zero, suc, List, [], ◌∷◌, ◌++◌, length, drop, ap, arith, sym, refl}
+use Rattle.std.proofs.Common.{◌≡◌, ◌∙◌, ℕ, ℤ, pos, negsuc, zero, suc, List, [], ◌∷◌, ◌++◌, length, drop, ap, arith, refl}
 use Rattle.std.specs.List.{flat_map}
 use Rattle.mp4_recut_laws.specs.MediaSamples.{MediaSample}
 

@@ -1,5 +1,5 @@
 -- What a run claims and counts that reads fragments.
-use Rattle.std.proofs.Common.{◌+◌, ◌*◌, ◌≤◌, Result}
+use Rattle.std.proofs.Common.{◌≡◌, ◌+◌, ◌*◌, ◌≤◌, Result, refl}
 use Rattle.std.specs.Prelude.{IsErrOf}
 use Rattle.mp4_grammar.specs.Kinds.{most_moof, most_moov}
 use Rattle.mp4_grammar.proofs.BoundLemmas.{asks-bound}
@@ -7,11 +7,12 @@ use Rattle.mp4_grammar.proofs.CommandLemmas.{command_meaning-quiet}
 use Rattle.mp4_grammar.proofs.HeldSizeLemmas.{asks-within}
 use Rattle.mp4_grammar.proofs.ItemAskLemmas.{HasNoEffects}
 use Rattle.mp4_machine.specs.Ends.{Ends}
+use Rattle.mp4_machine.specs.Readings.{uncounted}
 use Rattle.mp4_machine.specs.StreamRuns.{Claims, ReadsStream}
 use Rattle.mp4_machine.specs.declared.stop.Stop.{Stop}
 use Rattle.mp4_machine.specs.declared.stop.Stop.TheVariants.{OverLimit}
 use Rattle.mp4_machine.specs.declared.tally.Tally.{Tally}
-use Rattle.mp4_recut.specs.Operations.{operation_meaning, reads_of}
+use Rattle.mp4_recut.specs.Operations.{number_in, operation_meaning, reads_of}
 use Rattle.mp4_recut.specs.declared.operation.Operation.{Operation}
 use Rattle.mp4_recut.specs.declared.operation.Operation.TheVariants as operations
 use Rattle.mp4_recut.proofs.SplitLemmas.{splitting-quiet}
@@ -22,6 +23,10 @@ use Rattle.mp4_stream.proofs.ClaimLemmas.{asked_bound, asked_enough}
 operation-quiet : (operation : Operation) → HasNoEffects (operation_meaning operation)
 operation-quiet (operations.List command) = command_meaning-quiet command
 operation-quiet (operations.Split cut) = splitting-quiet cut
+
+pub first_number : (operation : Operation) → number_in operation uncounted ≡ 1
+first_number (operations.List command) = refl
+first_number (operations.Split cut) = refl
 
 module _ {T : Type 0} (operation : Operation) {ends : Ends} (claims : Claims) {tally : Tally} where
   -- by what any stream asks for

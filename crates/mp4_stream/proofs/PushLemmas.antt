@@ -24,7 +24,6 @@ use Rattle.mp4_machine.specs.Fed.{AllWhole, Borrowed, ClaimRefusedAfter, FedUnti
 use Rattle.mp4_machine.specs.Readings.{GrowsTo, Outcome, Sound, Faulty, CutOff, Reading, Effects, decided_in, fault_in}
 use Rattle.mp4_machine.specs.declared.stop.Stop.{Stop}
 use Rattle.mp4_machine.specs.declared.stop.Stop.TheVariants.{Stream, Read, Write, OverLimit, Memory}
-use Rattle.mp4_machine.specs.StreamRuns.{IsPrompt, StopsWith, StreamRun, WritesAll}
 use Rattle.mp4_machine.proofs.FedRunLemmas.{text-more}
 use Rattle.mp4_recut.specs.Operations as readings
 use Rattle.mp4_recut.specs.declared.operation.Operation.{Operation}
@@ -173,15 +172,6 @@ module _ {T : Type 0} (operation : Operation) (b input : List ℕ) (s s' : Sent)
           }
 
 -- ---- the end of the stream
-
--- where a run ends at a fault
-pub finish-gives : (f : Feeding) (b : List ℕ) (run : StreamRun) (prompt : IsPrompt run) (stop : Stop) → run.whole ≡ readings.reads_of f.operation → run.bytes ≡ b → WritesAll run → run.ends.ended ≡ true → Finishes f b (Err stop) → StopsWith run prompt stop
-finish-gives f b run prompt (Stream fault) whole bytes emits ended is =
-    (emits, ap (λ (w : List ℕ → Reading). fault_in (w run.bytes).outcome) whole ∙ ap (λ x. fault_in (readings.reads_of f.operation x).outcome) bytes ∙ is, λ _. ended)
-finish-gives f b run prompt (Read at) whole bytes emits ended is = absurd is
-finish-gives f b run prompt Write whole bytes emits ended is = absurd is
-finish-gives f b run prompt OverLimit whole bytes emits ended is = absurd is
-finish-gives f b run prompt Memory whole bytes emits ended is = absurd is
 
 early-fault : (o : Outcome) (f : Fault) → decided_in o ≡ Some f → fault_in o ≡ Some f
 early-fault Sound f h = absurd cc

@@ -4,17 +4,18 @@ ghost use Rattle.std.specs.Prelude.{◌≡◌, ◌+◌, ◌*◌, ◌<◌, ◌≤
 ghost use Rattle.mp4_grammar.specs.Kinds.{most_moof, most_moov};
 ghost use Rattle.mp4_grammar.specs.declared.command.Command.TheVariants.{Check, Samples};
 ghost use Rattle.mp4_machine.specs.Ends.{between, received, sent};
+ghost use Rattle.mp4_push.specs.Feeders as feeders;
 ghost use Rattle.mp4_recut.specs.declared.operation.Operation.TheVariants as operations;
 ghost use Rattle.mp4_stream.specs.Fragments.{ReadsFragments, unsent};
 
 use crate::null_sink::NullSink;
-use crate::pushed::push_stream;
 use mp4_cut::Cut;
 use mp4_ends::{Sink, Source};
+use mp4_fragment_machine::FragmentMachine;
 use mp4_grammar::Command;
 use mp4_ledger::Ledger;
-use mp4_machine::Stop;
-use mp4_push::{Feeder, Totals};
+use mp4_machine::{Stop, read_stream};
+use mp4_push::Totals;
 use mp4_recut::Operation;
 
 /// Lists the samples of a fragmented stream, however its reads cut it: a line for each, fragment by fragment, the runs of a
@@ -125,7 +126,7 @@ pub fn split<R: Source, W: Sink>(
     run_operation(Operation::Split(*cut), r, w, ledger, copy, totals)
 }
 
-/// Reads the fragments of a stream for an operation, by a Feeder.
+/// Reads the fragments of a stream for an operation.
 fn run_operation<R: Source, W: Sink>(
     operation: Operation,
     r: &mut R,
@@ -148,10 +149,28 @@ fn run_operation<R: Source, W: Sink>(
     ensures enough { copy + (most_moov + 5 * most_moof) ≤ ledger.old.limit →
         IsErrOf result Stop.OverLimit → ⊥ }
 {
-    let mut feeder = Feeder::with_operation(operation);
-    let answer = push_stream(r, w, ledger, copy, &mut feeder);
-    *totals = feeder.totals();
-    feeder.give_up(ledger);
-    totals.peak = ledger.peak();
+    let mut machine = FragmentMachine::new(operation);
+    let mut whole = 0;
+    let answer = read_stream(r, w, ledger, copy, &mut machine, &mut whole);
+    let tally = machine.tally();
+    let rows_read = machine.rows_read();
+    machine.give_up(ledger);
+    *totals = Totals {
+        fragments: fragments_of(&operation, tally.fragments, whole),
+        samples: tally.samples,
+        media_bytes: tally.media_bytes,
+        rows_read,
+        peak: ledger.peak(),
+    };
     answer
+}
+
+/// How many fragments an operation counts: where it cuts, those that are whole in its output, else those that were accepted.
+fn fragments_of(operation: &Operation, accepted: u64, whole: u64) -> u64
+    ensures { result ≡ feeders.fragments_of operation.now accepted whole }
+{
+    match operation {
+        Operation::List(_) => accepted,
+        Operation::Split(_) => whole,
+    }
 }

@@ -3,8 +3,7 @@
 //!
 //! - [`run`]: [`boxes`], which lists the boxes of a stream;
 //! - [`fragments`]: [`samples`], [`check`] and [`split`], which read its fragments by the machine of `mp4_fragment_machine`;
-//! - [`pushed`]: the loops over a [`Feeder`] of `mp4_push`, whose inputs are the reads of a whole stream ([`split`]
-//!   calls it) or those of a list ([`split_pieces`]);
+//! - [`pushed`]: [`split_pieces`], a loop over a [`Feeder`] of `mp4_push`, whose inputs are those of a list;
 //! - [`machine`]: lists the boxes of a stream that it is fed in inputs, [`state`]: its states, and
 //!   [`step`]: how;
 //! - [`header`]: takes a header and begins its box, [`buffered_box`]: a moov or moof until it is whole, and [`body`]: a

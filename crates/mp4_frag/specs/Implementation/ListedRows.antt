@@ -7,10 +7,7 @@ use Rattle.mp4_run_order.specs.declared.runs.ListedRun.{ListedRun}
 use Rattle.mp4_run_order.specs.Orders.{IsTrackOrder, taken}
 use Rattle.mp4_run_order.specs.Runs.{IsListing}
 use Rattle.mp4_run_order.specs.Implementation.Searches.{found_by_track}
-use Rattle.mp4_frag.specs.declared.run.Run.{Run}
-use Rattle.mp4_frag.specs.declared.run_row.RunRow.{RunRow}
 use Rattle.mp4_frag.specs.Runs.{MoofBytes}
-use Rattle.mp4_frag.specs.Implementation.Rereads.{run_of_row}
 use Rattle.mp4_frag.specs.Implementation.RunRows.{listed_row, listed_words, place_word, track_word}
 use Rattle.mp4_frag.specs.RunLists.{ListedRows, moof_listing}
 
@@ -31,10 +28,6 @@ pub record IsLate (words : List (List ℕ)) (late : Option ℕ) : Type 0 where
 pub record IsSorted (words sorted : List (List ℕ)) : Type 0 where
   pub same : IsPermutation words sorted
   pub up : IsNonDecreasingBy place_word sorted
-
--- the runs of a moof that are read again from these rows
-abbrev pub runs_of_rows : MoofBytes → List Track → List RunRow → List Run
-runs_of_rows h tracks rows = map (run_of_row h tracks) rows
 
 -- the rows have the places of the runs of the moof, and what was found by track was found in these
 pub record AreOrdered (h : MoofBytes) (tracks : List Track) (l : ListedRows) : Type 0 where

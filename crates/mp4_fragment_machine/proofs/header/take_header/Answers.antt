@@ -1,8 +1,7 @@
-use Rattle.std.proofs.Common.{◌++◌, arith, refl, take}
+use Rattle.std.proofs.Common.{◌++◌, refl, take}
 use Rattle.mp4_machine.specs.Inputs.{environment}
 use Rattle.mp4_machine.proofs.InputLemmas.{GoesOn-none}
 use Rattle.mp4_recut.specs.Operations.{operation_meaning, number_in}
-use Rattle.mp4_fragment_machine.specs.Implementation.Steps.{with_head}
 use Rattle.mp4_fragment_machine.proofs.HeadLemmas.{Refuses-bad}
 use Rattle.mp4_fragment_machine.proofs.StepLemmas.{GoesTo-then, StopsIn-refused, StopsIn-then, accepts_head}
 use Rattle.mp4_fragment_machine.proofs.header.take_header.Goals as goal

@@ -1,4 +1,4 @@
-use Rattle.std.proofs.Common.{rules, ◌≡◌, ◌∙◌, ◌+◌, ◌∷◌, [], false, ap, arith, length, refl, subst, sym}
+use Rattle.std.proofs.Common.{rules, ◌≡◌, ◌∷◌, [], false, ap, arith, length, refl, subst}
 use Rattle.mp4_machine.specs.Ends.{sent}
 use Rattle.mp4_machine.specs.Puts.{HasFailed, HasPut}
 use Rattle.mp4_pieces.specs.Pieces.{cursor_after}

@@ -1,34 +1,37 @@
 use Rattle.std.proofs.Common.{◌≡◌, ◌∙◌, ap, arith, refl, sym}
 use Rattle.mp4_machine.proofs.RunLemmas.{Runs-same}
 use Rattle.mp4_push.specs.Feeders.{fragments_of}
-use Rattle.mp4_recut.specs.declared.operation.Operation.{Operation}
-use Rattle.mp4_stream.proofs.FragmentLemmas.{claims_by_boxes, never_over, peak_bound}
+use Rattle.mp4_push.proofs.FeederLemmas.{begun-is}
+use Rattle.mp4_stream.proofs.FragmentLemmas.{claims_by_boxes, first_number, never_over, peak_bound}
 use Rattle.mp4_stream.proofs.fragments.run_operation.Goals as goal
+
+pub read_stream-answer-requires-clause-begun : goal.read_stream-answer-requires-clause-begun
+read_stream-answer-requires-clause-begun g c = rw c.new-machine.ensures (begun-is c.args.operation)
 
 pub returns-clause-runs : goal.returns-clause-runs
 returns-clause-runs g c =
-    let peak : c.give_up.new.ledger.peak ≡ c.push_stream-answer.new.ledger.peak = rw c.give_up.ensures refl in
-    let operation = rw c.with_operation-feeder.ensures.begun at c.push_stream-answer.ensures.operation in
-    let ran = rw c.with_operation-feeder.ensures.begun at c.push_stream-answer.ensures.runs in
+    let peak : c.give_up.new.ledger.peak ≡ c.read_stream-answer.new.ledger.peak = rw c.give_up.ensures refl in
+    let ran = rw (c.new-machine.ensures, first_number c.args.operation, ← c.tally-tally.ensures.tally) at c.read_stream-answer.ensures.runs in
+    let operation = rw c.new-machine.ensures at c.read_stream-answer.ensures.task in
+    let read = c.rows_read-rows_read.ensures in
     let same = Runs-same refl refl (sym peak) ran in
-    let runs = same.0 in
-    rw c.totals.ensures.totals (record {
-      effects = c.push_stream-answer.new.feeder.machine.counter.tally.fragments;
-      inspected = c.push_stream-answer.new.feeder.machine.counter.tally.inspected;
-      runs = runs;
-      fragments = ap (λ (p : Operation). fragments_of p c.push_stream-answer.new.feeder.machine.counter.tally.fragments c.push_stream-answer.new.feeder.fragments) operation ∙ ap (λ n. fragments_of c.args.operation c.push_stream-answer.new.feeder.machine.counter.tally.fragments n) (sym same.1);
-      all = rw c.totals.ensures.totals at c.totals.ensures.all;
-      some = rw (operation, c.totals.ensures.totals) at c.totals.ensures.some;
-      few = rw (operation, c.totals.ensures.totals) at c.totals.ensures.few;
-      by_boxes = claims_by_boxes c.args.operation _ c.push_stream-answer.result runs;
-    })
+    record {
+      effects = c.tally-tally.result.fragments;
+      inspected = c.tally-tally.result.inspected;
+      runs = same.0;
+      fragments = c.fragments_of.ensures ∙ ap (fragments_of c.args.operation c.tally-tally.result.fragments) (sym same.1);
+      all = c.tally-tally.ensures.all;
+      some = rw (operation, ← c.tally-tally.ensures.tally) at read.some;
+      few = rw (operation, ← c.tally-tally.ensures.tally) at read.few;
+      by_boxes = claims_by_boxes c.args.operation _ c.read_stream-answer.result same.0;
+    }
 
 pub returns-clause-bound : goal.returns-clause-bound
 returns-clause-bound g c =
-    let ran = rw c.with_operation-feeder.ensures.begun at c.push_stream-answer.ensures.runs in
-    omega (arith, ap (λ a. a.peak) c.give_up.ensures, peak_bound c.args.operation _ c.push_stream-answer.result ran.0)
+    let ran = rw (c.new-machine.ensures, first_number c.args.operation) at c.read_stream-answer.ensures.runs in
+    omega (arith, ap (λ a. a.peak) c.give_up.ensures, peak_bound c.args.operation _ c.read_stream-answer.result ran.0)
 
 pub returns-clause-enough : goal.returns-clause-enough
 returns-clause-enough g c =
-    let ran = rw c.with_operation-feeder.ensures.begun at c.push_stream-answer.ensures.runs in
-    never_over c.args.operation _ c.push_stream-answer.result ran.0
+    let ran = rw (c.new-machine.ensures, first_number c.args.operation) at c.read_stream-answer.ensures.runs in
+    never_over c.args.operation _ c.read_stream-answer.result ran.0
