@@ -1,7 +1,7 @@
 //! Takes the header of the mdat after a moof, and begins its fragment; or reports the fault where the stream ends
 //! before.
 
-ghost use Rattle.std.specs.Prelude.{◌≡◌, ℕ, ◌+◌, ◌<◌, ◌≤◌, [], List, Option, length, Some};
+ghost use Rattle.std.specs.Prelude.{◌≡◌, ℕ, ◌+◌, ◌<◌, ◌≤◌, [], List, Ok, Option, length, Some};
 ghost use Rattle.mp4_grammar.specs.Meanings.{Meaning};
 ghost use Rattle.mp4_init.specs.declared.table.Track.{Track};
 ghost use Rattle.mp4_machine.specs.Readings.{fault_in};
@@ -42,10 +42,7 @@ pub(crate) fn take_mdat_header<W: Sink>(
         session.old session.new (states.MdatHeader pending_moof) input.now result }
 {
     match next_header(&mut session.head, input) {
-        HeaderStatus::More { count } => Ok(Taken {
-            count,
-            state: State::MdatHeader(pending_moof),
-        }),
+        HeaderStatus::More { count } => wait_on(pending_moof, count),
         HeaderStatus::BadSize { kind } => {
             let at = pending_moof.moof.offset() + pending_moof.moof.size();
             back(Some(pending_moof), ledger);
@@ -68,6 +65,18 @@ pub(crate) fn take_mdat_header<W: Sink>(
             Err(stop) => Err(stop),
         },
     }
+}
+
+/// The state where so many bytes of the header were taken, and more must come.
+// Its room is no part of the frame of its caller, which takes most headers as a whole.
+#[inline(never)]
+fn wait_on(pending_moof: PendingMoof, count: usize) -> Result<Taken, Stop>
+    ensures { result ≡ Ok (record { count = count; state = states.MdatHeader pending_moof }) }
+{
+    Ok(Taken {
+        count,
+        state: State::MdatHeader(pending_moof),
+    })
 }
 
 /// Begins the fragment of the pending moof, followed by the box with this header. Returns the next state. The moof and

@@ -12,7 +12,8 @@ use Rattle.mp4_fragment_machine.proofs.mdat_header.take_mdat_header.Goals as goa
 
 pub returns-in-More : goal.returns-in-More
 returns-in-More g c =
-    let more = c.in-More.ensures in (
+    let more = c.in-More.ensures in
+    rw c.wait_on.ensures (
       more.some,
       more.most,
       GoesTo-then (accepts_mdat_header c.args.session.now c.args.pending_moof c.requires.state.1 c.requires.can.claim more.bytes)
