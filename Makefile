@@ -61,9 +61,10 @@ test:
 	@if command -v valgrind > /dev/null; then bench/instructions "as written" --room 3; fi
 	@scripts/left_out
 
-# Tries the mutants in crates/*/wrong, with what is built.
+# Tries the mutants in crates/*/wrong and crates/*/uncompiled, with what is built.
 mutants: build
 	@scripts/mutants
+	@scripts/uncompiled
 
 install:
 	@test -x crates/fmp4/out/fmp4 || { echo "there is no crates/fmp4/out/fmp4: run 'make build' first" >&2; exit 1; }

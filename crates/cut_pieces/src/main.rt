@@ -53,35 +53,35 @@ impl Sink for Counter {
 }
 
 /// The first run of a traf, if it has one.
-fn first_of(traf: &Traf<'_>, held: &[u8]) -> Option<Run>
-    requires { AreRunsOf held.now (runs_of traf.now) }
-    ensures { IfSome result (λ run. IsRunOf held.now run) }
+fn first_of(traf: &Traf<'_>, moof_bytes: &[u8]) -> Option<Run>
+    requires { AreRunsOf moof_bytes.now (runs_of traf.now) }
+    ensures { IfSome result (λ run. IsRunOf moof_bytes.now run) }
 {
     traf.runs().next()
 }
 
 /// The first run of the first traf, if it has one.
-fn first_run<'a>(moof: &Moof<'a>, held: &[u8], list: &'a TrackList) -> Option<Run>
-    requires held { held.now ≡ moof.now.bytes }
-    requires whole { IsWhole held.now }
-    requires near { moof.now.offset + length held.now ≤ 2 ^ 62 }
+fn first_run<'a>(moof: &Moof<'a>, moof_bytes: &[u8], list: &'a TrackList) -> Option<Run>
+    requires moof_bytes { moof_bytes.now ≡ moof.now.bytes }
+    requires whole { IsWhole moof_bytes.now }
+    requires near { moof.now.offset + length moof_bytes.now ≤ 2 ^ 62 }
     requires read { IsRead moof.now list.now }
-    ensures { IfSome result (λ run. IsRunOf held.now run) }
+    ensures { IfSome result (λ run. IsRunOf moof_bytes.now run) }
 {
     let traf = moof.trafs(list).next()?;
-    first_of(&traf, held)
+    first_of(&traf, moof_bytes)
 }
 
 /// Puts the moof of each piece and the header of its mdat into a block on their way to a counter:
 /// how many pieces there are.
-fn put_all(run: &Run, held: &[u8], cut: &Cut, w: &mut Counter) -> Result<u32, Failed>
-    requires { IsRunOf held.now run.now }
+fn put_all(run: &Run, moof_bytes: &[u8], cut: &Cut, w: &mut Counter) -> Result<u32, Failed>
+    requires { IsRunOf moof_bytes.now run.now }
 {
     let mut block = Block::new();
     let mut number: u32 = 0;
-    for piece in Pieces::of(run, held, cut) {
+    for piece in Pieces::of(run, moof_bytes, cut) {
         number = number.saturating_add(1);
-        put_moof(&piece, run, held, number, &mut block, w)?;
+        put_moof(&piece, run, moof_bytes, number, &mut block, w)?;
         put_mdat_header(piece.bytes.min(1 << 62), &mut block, w)?;
     }
     block.send(w)?;

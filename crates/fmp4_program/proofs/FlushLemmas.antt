@@ -16,7 +16,7 @@ use Rattle.mp4_push.specs.declared.totals.Totals.{Totals}
 use Rattle.fmp4_program.specs.Runs.{Flushes}
 
 -- what was written stays written
-Runs-kept : {T : Type 0} {whole : List ℕ → Reading} {ends : Ends} {claims : Claims} {tally : Tally} {t : T} (u : Option (List ℕ)) → ReadsStream {T = T} whole ends claims tally (Ok t) → Keeps ends.written' u → ReadsStream {T = T} whole (record ends { written' = u }) claims tally (Ok t)
+Runs-kept : {T : Type 0} {reads : List ℕ → Reading} {ends : Ends} {claims : Claims} {tally : Tally} {t : T} (u : Option (List ℕ)) → ReadsStream {T = T} reads ends claims tally (Ok t) → Keeps ends.written' u → ReadsStream {T = T} reads (record ends { written' = u }) claims tally (Ok t)
 Runs-kept {ends = ends} u r kept = record {
   bytes = r.bytes;
   fits = r.fits;

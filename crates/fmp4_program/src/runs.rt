@@ -94,28 +94,6 @@ fn list_boxes<R: Source, W: Sink>(
     }
 }
 
-/// Lists the samples of the stream, and flushes the listing.
-fn list_samples<R: Source, W: Sink>(
-    r: &mut R,
-    w: &mut W,
-    ledger: &mut Ledger,
-    copy: u32,
-) -> Result<(), Stop>
-    requires copy { (4096 ≤ copy) × (copy ≤ 1048576) }
-    requires idle { ledger.old.live ≡ 0 }
-    ensures runs { RunsAndFlushes (λ ends ran. (totals : Totals) ×
-        ReadsFragments (operations.List commands.Samples) ends
-        (record { copy = copy; limit = ledger.old.limit; peak = ledger.new.peak }) totals ran) (between
-        (received R.remaining R.has_ended R.has_failed R.last_read r.old r.new)
-        (sent W.contents W.has_failed w.old w.new)) result }
-    ensures within { ledger.new.peak ≤ ledger.old.limit }
-{
-    match samples(r, w, ledger, copy, &mut Totals::new()) {
-        Ok(()) => flush(w),
-        Err(stop) => Err(stop),
-    }
-}
-
 /// Checks the stream, and writes and flushes the line of what it counted.
 fn check_stream<R: Source, W: Sink>(
     r: &mut R,
@@ -136,6 +114,28 @@ fn check_stream<R: Source, W: Sink>(
     let mut totals = Totals::new();
     match check(r, ledger, copy, &mut totals) {
         Ok(()) => send(w, check_line(&totals).bytes()),
+        Err(stop) => Err(stop),
+    }
+}
+
+/// Lists the samples of the stream, and flushes the listing.
+fn list_samples<R: Source, W: Sink>(
+    r: &mut R,
+    w: &mut W,
+    ledger: &mut Ledger,
+    copy: u32,
+) -> Result<(), Stop>
+    requires copy { (4096 ≤ copy) × (copy ≤ 1048576) }
+    requires idle { ledger.old.live ≡ 0 }
+    ensures runs { RunsAndFlushes (λ ends ran. (totals : Totals) ×
+        ReadsFragments (operations.List commands.Samples) ends
+        (record { copy = copy; limit = ledger.old.limit; peak = ledger.new.peak }) totals ran) (between
+        (received R.remaining R.has_ended R.has_failed R.last_read r.old r.new)
+        (sent W.contents W.has_failed w.old w.new)) result }
+    ensures within { ledger.new.peak ≤ ledger.old.limit }
+{
+    match samples(r, w, ledger, copy, &mut Totals::new()) {
+        Ok(()) => flush(w),
         Err(stop) => Err(stop),
     }
 }

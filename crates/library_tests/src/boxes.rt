@@ -4,7 +4,7 @@ ghost use Rattle.std.specs.Prelude.{◌≡◌, count_by};
 ghost use Rattle.std.specs.Str.{bytes_eq};
 ghost use Rattle.mp4_box.specs.Trees.{children, view};
 
-use mp4_box::vectors::V1;
+use mp4_vectors::V1;
 use mp4_box::{
     BoxRef, Fault, FourCc, Header, Rule, Size, Walk, check_tree, full, header_of, i32_at, is_box,
     u32_at, u64_at, whole_box,

@@ -57,7 +57,7 @@ sized_lies o x h (Exact n) b fits is e s =
     let split : take (h.header_len + length p) x ≡ take h.header_len x ++ p = take-add h.header_len (length p) x ∙ ap (λ (k : ℕ). take h.header_len x ++ take k (drop h.header_len x)) len in
     subst (LiesAt o x) t.1 (record {
       box = record {
-        head = take h.header_len x;
+        header_bytes = take h.header_len x;
         spelled = spelled;
         whole = split;
         size = is ∙ ap Exact (sym all ∙ omega (arith, length-take (h.header_len + length p) x));
@@ -82,14 +82,14 @@ pub found : (h : Header) (p x rest : List ℕ) (o : ℕ) → IsBox h p x → (bo
 unfolding box_at
 found h p x rest o b =
     let y = x ++ rest in
-    let same : y ≡ b.head ++ (p ++ rest) = ap (λ (z : List ℕ). z ++ rest) b.whole ∙ append_assoc b.head p rest in
-    let read : header_at y ≡ steps.Whole h = ap header_at same ∙ read_again h b.head (p ++ rest) b.spelled in
+    let same : y ≡ b.header_bytes ++ (p ++ rest) = ap (λ (z : List ℕ). z ++ rest) b.whole ∙ append_assoc b.header_bytes p rest in
+    let read : header_at y ≡ steps.Whole h = ap header_at same ∙ read_again h b.header_bytes (p ++ rest) b.spelled in
     let n : ℕ = length x in
-    let lens : n ≡ h.header_len + length p = omega (arith, ap length b.whole, length-append b.head p, b.spelled.header_len) in
+    let lens : n ≡ h.header_len + length p = omega (arith, ap length b.whole, length-append b.header_bytes p, b.spelled.header_len) in
     let t : ltb (length y) n ≡ false = le-ltb _ _ (omega (arith, length-append x rest)) in
     let cut : slice_range y h.header_len n ≡ p =
     ap (λ (z : List ℕ). take (n - h.header_len) (drop h.header_len z)) same
-    ∙ (ap (take (n - h.header_len)) (drop_at b.head (p ++ rest) h.header_len (sym b.spelled.header_len))
+    ∙ (ap (take (n - h.header_len)) (drop_at b.header_bytes (p ++ rest) h.header_len (sym b.spelled.header_len))
     ∙ take_at p rest (n - h.header_len) (omega (arith, lens))) in (
       ap (box_by o y) read ∙ (ap (sized_box o y h) b.size ∙ (cond-false {A = Option Box} (ltb (length y) n) None (Some (mk h o (slice_range y h.header_len n))) t ∙ ap (λ (z : List ℕ). Some (mk h o z)) cut)),
       sym lens,
@@ -164,8 +164,8 @@ clean_join n q (x ∷ xs) o all =
 -- a box is as long as its header at least
 box_long : (h : Header) (p x : List ℕ) → IsBox h p x → 8 ≤ length x
 box_long h p x b =
-    let w = whole_is b.head h (ap header_at (sym (append-nil b.head)) ∙ read_again h b.head [] b.spelled) in
-    omega (arith, w.0, need-least b.head, ap length b.whole, length-append b.head p)
+    let w = whole_is b.header_bytes h (ap header_at (sym (append-nil b.header_bytes)) ∙ read_again h b.header_bytes [] b.spelled) in
+    omega (arith, w.0, need-least b.header_bytes, ap length b.whole, length-append b.header_bytes p)
 
 clean : (n : ℕ) → Clean n
 unfolding IsTree

@@ -23,7 +23,7 @@ total (b ∷ bs) = box_len b + total bs
 
 pub record IsLaid (b : Box) : Type 0 where
   pub bytes : IsBytes b.payload
-  pub head : 8 ≤ b.header.header_len
+  pub header_len : 8 ≤ b.header.header_len
 
 -- they are laid out, and have no more bytes than n
 pub record Fits (n : ℕ) (bs : List Box) : Type 0 where
@@ -36,7 +36,7 @@ tail_bytes a xs fits i = fits (suc i)
 laid_of : (o : ℕ) (x : List ℕ) (b : Box) → LiesAt o x b → IsLaid b
 laid_of o x b s = record {
   bytes = s.bytes;
-  head = omega (arith, s.box.spelled.header_len, head-need b.header s.box.head s.box.spelled, need-least s.box.head);
+  header_len = omega (arith, s.box.spelled.header_len, head-need b.header s.box.header_bytes s.box.spelled, need-least s.box.header_bytes);
 }
 
 fits_over : (x : List ℕ) (k o : ℕ) → IsBytes x → Fits (length x - k) (over (λ b. b ∷ []) (λ _ _. []) x k o)

@@ -47,16 +47,16 @@ BeginsWith h x = (n : ℕ) × Head h (take n x)
 -- bytes that begin with a header
 pub record Headed (y : List ℕ) : Type 0 where
   pub header : Header
-  pub head : List ℕ
+  pub header_bytes : List ℕ
   pub more : List ℕ
-  pub spelled : Head header head
-  pub cut : y ≡ head ++ more
+  pub spelled : Head header header_bytes
+  pub cut : y ≡ header_bytes ++ more
 
 -- the bytes x are one whole box of stated size with this header and this payload
 pub record IsBox (h : Header) (payload x : List ℕ) : Type 0 where
-  pub head : List ℕ
-  pub spelled : Head h head
-  pub whole : x ≡ head ++ payload
+  pub header_bytes : List ℕ
+  pub spelled : Head h header_bytes
+  pub whole : x ≡ header_bytes ++ payload
   pub size : h.size ≡ Exact (length x)
 
 abbrev pub IsWhole : List ℕ → Type 0

@@ -9,7 +9,6 @@
 //! - [`rules`]: the rules, and the [`Fault`] of a stream that breaks one;
 //! - [`paths`]: the boxes on a path of types, [`Along`], and [`checks`]: what a box can be asked for, and asking it of
 //!   the boxes on a path, where [`note`] keeps the fault that is reported;
-//! - [`vectors`]: three small streams, for tests;
 //! - [`laws`]: what the definitions of `specs/` imply.
 //!
 //! It re-exports the ends of a stream, from [`Source`] to [`ends`], and the flag words of tfhd and trun, [`TfhdFlags`]
@@ -27,7 +26,6 @@ pub mod reader;
 pub mod rules;
 pub mod tree;
 pub mod types;
-pub mod vectors;
 mod walk;
 
 pub use box_ref::BoxRef;

@@ -39,7 +39,7 @@ length_box kind payload four = omega (arith, length-append kind.0 payload, four)
 
 pub is_box : (kind : FourCc) (p : List ℕ) → IsShort kind p → IsBox (header_of kind (8 + length p) 8) p (box_bytes kind p)
 is_box kind p s = record {
-  head = big_bytes 4 (8 + length p) ++ kind.0;
+  header_bytes = big_bytes 4 (8 + length p) ++ kind.0;
   spelled = head_is kind (8 + length p) s.four s.other (omega arith) s.small;
   whole = sym (append_assoc (big_bytes 4 (8 + length p)) kind.0 p);
   size = ap Exact (sym (length_box kind p s.four));

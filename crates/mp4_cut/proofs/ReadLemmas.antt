@@ -95,7 +95,7 @@ length_media media = length-append (mdat_header (length media)) media ∙ ap (λ
 -- an mdat that is written is a whole box
 pub mdat_is_box : (media : List ℕ) → length media ≤ 2 ^ 62 → IsBox (header_of mdat (mdat_header_size (length media) + length media) (mdat_header_size (length media))) media (mdat_header (length media) ++ media)
 mdat_is_box media small = record {
-  head = mdat_header (length media);
+  header_bytes = mdat_header (length media);
   spelled = mdat_head (length media) small;
   whole = refl;
   size = ap Exact (sym (length_media media));

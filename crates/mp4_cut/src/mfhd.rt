@@ -9,12 +9,12 @@ use crate::fields::Fields;
 use mp4_box::types::MFHD;
 
 /// Puts an mfhd with this sequence_number.
-pub(crate) fn put_mfhd(head: &mut Fields, sequence_number: u32)
-    requires { length head.old + 16 ≤ 92 }
-    ensures bytes { head.new ≡ head.old ++ box_bytes mfhd (mfhd_payload sequence_number) }
-    ensures len { length head.new ≡ length head.old + 16 }
+pub(crate) fn put_mfhd(fields: &mut Fields, sequence_number: u32)
+    requires { length fields.old + 16 ≤ 92 }
+    ensures bytes { fields.new ≡ fields.old ++ box_bytes mfhd (mfhd_payload sequence_number) }
+    ensures len { length fields.new ≡ length fields.old + 16 }
 {
-    head.put_header(16, MFHD);
-    head.put_version_and_flags(0, 0);
-    head.put_u32(sequence_number);
+    fields.put_header(16, MFHD);
+    fields.put_version_and_flags(0, 0);
+    fields.put_u32(sequence_number);
 }

@@ -9,12 +9,12 @@ use crate::fields::Fields;
 use mp4_box::types::TFDT;
 
 /// Puts a tfdt of version 1 with this base_media_decode_time.
-pub(crate) fn put_tfdt(head: &mut Fields, base_media_decode_time: u64)
-    requires { length head.old + 20 ≤ 92 }
-    ensures bytes { head.new ≡ head.old ++ box_bytes tfdt (tfdt_payload base_media_decode_time) }
-    ensures len { length head.new ≡ length head.old + 20 }
+pub(crate) fn put_tfdt(fields: &mut Fields, base_media_decode_time: u64)
+    requires { length fields.old + 20 ≤ 92 }
+    ensures bytes { fields.new ≡ fields.old ++ box_bytes tfdt (tfdt_payload base_media_decode_time) }
+    ensures len { length fields.new ≡ length fields.old + 20 }
 {
-    head.put_header(20, TFDT);
-    head.put_version_and_flags(1, 0);
-    head.put_u64(base_media_decode_time);
+    fields.put_header(20, TFDT);
+    fields.put_version_and_flags(1, 0);
+    fields.put_u64(base_media_decode_time);
 }

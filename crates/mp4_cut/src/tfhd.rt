@@ -12,13 +12,13 @@ use mp4_box::types::TFHD;
 const FLAGS: u32 = 0x02_0002;
 
 /// Puts a tfhd with this track_ID and this sample_description_index.
-pub(crate) fn put_tfhd(head: &mut Fields, track_id: u32, index: u32)
-    requires { length head.old + 20 ≤ 92 }
-    ensures bytes { head.new ≡ head.old ++ box_bytes tfhd (tfhd_payload track_id index) }
-    ensures len { length head.new ≡ length head.old + 20 }
+pub(crate) fn put_tfhd(fields: &mut Fields, track_id: u32, index: u32)
+    requires { length fields.old + 20 ≤ 92 }
+    ensures bytes { fields.new ≡ fields.old ++ box_bytes tfhd (tfhd_payload track_id index) }
+    ensures len { length fields.new ≡ length fields.old + 20 }
 {
-    head.put_header(20, TFHD);
-    head.put_version_and_flags(0, FLAGS);
-    head.put_u32(track_id);
-    head.put_u32(index);
+    fields.put_header(20, TFHD);
+    fields.put_version_and_flags(0, FLAGS);
+    fields.put_u32(track_id);
+    fields.put_u32(index);
 }

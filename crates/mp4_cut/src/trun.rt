@@ -19,16 +19,16 @@ use mp4_machine::Block;
 const FLAGS: u32 = 0x00_0f01;
 
 /// Puts a trun of so many samples, as far as its samples.
-pub(crate) fn put_trun_front(head: &mut Fields, version: u8, samples: u32, data_offset: u32)
-    requires room { length head.old + 20 ≤ 92 }
+pub(crate) fn put_trun_front(fields: &mut Fields, version: u8, samples: u32, data_offset: u32)
+    requires room { length fields.old + 20 ≤ 92 }
     requires samples { samples ≤ most_in_piece }
-    ensures bytes { head.new ≡ head.old ++ trun_front version samples data_offset }
-    ensures len { length head.new ≡ length head.old + 20 }
+    ensures bytes { fields.new ≡ fields.old ++ trun_front version samples data_offset }
+    ensures len { length fields.new ≡ length fields.old + 20 }
 {
-    head.put_header(20 + 16 * samples, TRUN);
-    head.put_version_and_flags(version, FLAGS);
-    head.put_u32(samples);
-    head.put_u32(data_offset);
+    fields.put_header(20 + 16 * samples, TRUN);
+    fields.put_version_and_flags(version, FLAGS);
+    fields.put_u32(samples);
+    fields.put_u32(data_offset);
 }
 
 /// The 32 bits of a composition time offset.

@@ -40,7 +40,7 @@ child_lies h p b k lies within e =
     let n : ℕ = b.header.header_len in
     let len : ℕ = length b.payload in
     let tail : b.payload ≡ take len (drop (k + n) p.payload) =
-    after_head (take (box_len b) x) s.box.head b.payload n s.box.whole s.box.spelled.header_len
+    after_head (take (box_len b) x) s.box.header_bytes b.payload n s.box.whole s.box.spelled.header_len
     ∙ drop-take n len x
     ∙ ap (take len) (drop-drop n k p.payload) in
     let room : k + n + len ≤ length p.payload = omega (arith, s.high, length-drop k p.payload, within) in
@@ -103,6 +103,6 @@ moof_lies h m whole fits e =
       at = n;
       place = omega (arith, s.place);
       within = omega (arith, all);
-      is = after_head (take (box_len m) h.bytes) s.box.head m.payload n s.box.whole s.box.spelled.header_len ∙ drop-take n len h.bytes;
+      is = after_head (take (box_len m) h.bytes) s.box.header_bytes m.payload n s.box.whole s.box.spelled.header_len ∙ drop-take n len h.bytes;
       bytes = s.bytes;
     }

@@ -28,7 +28,7 @@ use Rattle.mp4_frag.specs.Places.{IsPlaceFault, run_place_fault, place_fault}
 use Rattle.mp4_frag.specs.RunLists.{moof_listing, taken_runs}
 use Rattle.mp4_frag.specs.ListsOfRuns.{IsListOf}
 use Rattle.mp4_frag.specs.RunLists.{ListedRows}
-use Rattle.mp4_frag.specs.Implementation.ListedRows.{IsLate, IsSorted}
+use Rattle.mp4_frag.specs.Implementation.ListedRows.{IsFaultyByTrack, IsSorted}
 use Rattle.mp4_frag.proofs.RunRowLemmas.{Earlier, Given}
 
 -- ---- maps
@@ -124,8 +124,8 @@ runs_taken h tracks from to k f m o =
     (given_order h tracks to (each_moved (Gives h tracks) from to m (each_gives h tracks from f)) o)
 
 -- rows of a moof that were sorted by track and then by place
-pub list_is : (h : MoofBytes) (tracks : List Track) (filled placed : List (List ℕ)) (late : Option ℕ) → Known h tracks → Filled h tracks (rows_of_words filled) → IsLate filled late → IsSorted filled placed → IsListOf h tracks (record { rows = rows_of_words placed; late = late })
-list_is h tracks filled placed late k f l s =
+pub list_is : (h : MoofBytes) (tracks : List Track) (filled placed : List (List ℕ)) (faulty_by_track : Option ℕ) → Known h tracks → Filled h tracks (rows_of_words filled) → IsFaultyByTrack filled faulty_by_track → IsSorted filled placed → IsListOf h tracks (record { rows = rows_of_words placed; faulty_by_track = faulty_by_track })
+list_is h tracks filled placed faulty_by_track k f l s =
     let order = by_place h tracks filled placed k f s.same s.up in
     let rows = rows_of_words placed in
     let same : listed_words placed ≡ map listed_row rows = sym (map_map row_of_words listed_row placed) in
@@ -135,7 +135,7 @@ list_is h tracks filled placed late k f l s =
       ordered = record {
         listing = is_listing h tracks k;
         taken = sym same ∙ order_is_taken (moof_listing h tracks) (listed_words placed) (is_listing h tracks k) order;
-        late = record { sorted = listed_words l.sorted; order = by_track h tracks filled l.sorted k f l.same l.up; is = l.is };
+        faulty_by_track = record { sorted = listed_words l.sorted; order = by_track h tracks filled l.sorted k f l.same l.up; is = l.is };
       };
     }
 
@@ -148,20 +148,20 @@ both_maps : (o : Option ListedRun) → option_map run_place_fault (option_map (�
 both_maps None = refl
 both_maps (Some run) = refl
 
-pub place_is : (p : Payload) (h : MoofBytes) (tracks : List Track) (l : ListedRows) (r : Option ℕ) → IsListOf h tracks l → r ≡ found_by_place p l.late (map listed_row l.rows) → option_map run_place_fault r ≡ place_fault p (moof_runs h tracks)
+pub place_is : (p : Payload) (h : MoofBytes) (tracks : List Track) (l : ListedRows) (r : Option ℕ) → IsListOf h tracks l → r ≡ found_by_place p l.faulty_by_track (map listed_row l.rows) → option_map run_place_fault r ≡ place_fault p (moof_runs h tracks)
 place_is p h tracks l r of e =
     let listing = moof_listing h tracks in
-    let late = of.ordered.late in
-    let s = search_is p listing late.sorted (taken listing) of.ordered.listing late.order (taken_is_order listing of.ordered.listing) in
+    let faulty_by_track = of.ordered.faulty_by_track in
+    let s = search_is p listing faulty_by_track.sorted (taken listing) of.ordered.listing faulty_by_track.order (taken_is_order listing of.ordered.listing) in
     let found : r ≡ option_map (λ run. run.number) (first_offender p listing) =
-    e ∙ (ap (λ (o : Option ℕ). found_by_place p o (map listed_row l.rows)) late.is ∙ (ap (found_by_place p (found_by_track late.sorted)) of.ordered.taken ∙ s)) in
+    e ∙ (ap (λ (o : Option ℕ). found_by_place p o (map listed_row l.rows)) faulty_by_track.is ∙ (ap (found_by_place p (found_by_track faulty_by_track.sorted)) of.ordered.taken ∙ s)) in
     ap (option_map run_place_fault) found ∙ both_maps (first_offender p listing)
 
-pub place_found : (p : Payload) (h : MoofBytes) (tracks : List Track) (l : ListedRows) (ws : List (List ℕ)) (late r : Option ℕ) → IsListOf h tracks l → record { rows = rows_of_words ws; late = late } ≡ l → r ≡ found_by_place p late (listed_words ws)
+pub place_found : (p : Payload) (h : MoofBytes) (tracks : List Track) (l : ListedRows) (ws : List (List ℕ)) (faulty_by_track r : Option ℕ) → IsListOf h tracks l → record { rows = rows_of_words ws; faulty_by_track = faulty_by_track } ≡ l → r ≡ found_by_place p faulty_by_track (listed_words ws)
     → option_map run_place_fault r ≡ place_fault p (moof_runs h tracks)
-place_found p h tracks l ws late r of e found =
-    place_is p h tracks (record { rows = rows_of_words ws; late = late }) r (subst (IsListOf h tracks) (sym e) of)
-    (found ∙ ap (found_by_place p late) (sym (map_map row_of_words listed_row ws)))
+place_found p h tracks l ws faulty_by_track r of e found =
+    place_is p h tracks (record { rows = rows_of_words ws; faulty_by_track = faulty_by_track }) r (subst (IsListOf h tracks) (sym e) of)
+    (found ∙ ap (found_by_place p faulty_by_track) (sym (map_map row_of_words listed_row ws)))
 
 -- what the fault means
 

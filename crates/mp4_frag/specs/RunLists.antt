@@ -21,7 +21,7 @@ taken_runs h tracks = taken_by listed_run (moof_runs h tracks)
 -- the visible part of a list: a row for each run, and what was found while they were sorted
 pub record ListedRows : Type 0 where
   pub rows : List RunRow
-  pub late : Option ℕ
+  pub faulty_by_track : Option ℕ
 
 -- the runs of a list: each is read again from the bytes of its moof, by its row
 abbrev pub listed_runs : MoofBytes → List Track → ListedRows → List Run

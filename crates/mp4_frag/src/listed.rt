@@ -80,10 +80,14 @@ pub(crate) fn find_by_track(rows: &Rows64) -> Option<u64>
 }
 
 /// What a pass over rows in taking order finds, with what was found by track.
-pub(crate) fn find_by_place(payload: Payload, late: Option<u64>, rows: &Rows64) -> Option<u64>
-    ensures { result ≡ found_by_place payload late (listed_words rows.now.rows) }
+pub(crate) fn find_by_place(
+    payload: Payload,
+    faulty_by_track: Option<u64>,
+    rows: &Rows64,
+) -> Option<u64>
+    ensures { result ≡ found_by_place payload faulty_by_track (listed_words rows.now.rows) }
 {
-    let mut search = PlaceSearch::new(payload, late);
+    let mut search = PlaceSearch::new(payload, faulty_by_track);
     for taken in runs_of(rows) {
         search = search.past(taken);
     }

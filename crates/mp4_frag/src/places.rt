@@ -43,7 +43,7 @@ impl<'a> Moof<'a> {
             IsPlaceFault payload (moof_listing self.now tracks) (fault_of result) }
         ensures steps { steps.new ≡ steps.old }
     {
-        match find_by_place(payload, list.late, &list.rows) {
+        match find_by_place(payload, list.faulty_by_track, &list.rows) {
             None => Ok(()),
             Some(offset) => Err(run_place_fault(offset)),
         }

@@ -10,7 +10,7 @@ ghost use Rattle.mp4_frag.specs.Places.{listed_run};
 ghost use Rattle.mp4_frag.specs.Runs.{MoofBytes, moof_at};
 ghost use Rattle.mp4_frag.specs.RunLists.{taken_runs};
 ghost use Rattle.mp4_frag.specs.ListsOfRuns.{IsListOf};
-ghost use Rattle.mp4_frag.specs.Implementation.ListedRows.{IsLate, IsSorted};
+ghost use Rattle.mp4_frag.specs.Implementation.ListedRows.{IsFaultyByTrack, IsSorted};
 
 use crate::fill::fill;
 use crate::listed::{find_by_track, listed_row, sort_by_place, sort_by_track};
@@ -31,7 +31,7 @@ use std::marker::Model;
 pub struct RunList {
     pub(crate) rows: Rows64,
     /// The offset of the first trun in the listing that begins before the end of an earlier one of its track.
-    pub(crate) late: Option<u64>,
+    pub(crate) faulty_by_track: Option<u64>,
 }
 
 // A contract sees what its rows keep of the runs, and what was found by track.
@@ -42,7 +42,7 @@ impl Model for RunList {
 
     ghost Value = { ListedRows };
 
-    ghost view = { λ l. record { rows = rows_of_words l.rows.rows; late = l.late } };
+    ghost view = { λ l. record { rows = rows_of_words l.rows.rows; faulty_by_track = l.faulty_by_track } };
 
     ghost invariant = { λ l. length l.rows.rows ≡ l.rows.cap };
 }
@@ -87,22 +87,25 @@ impl RunList {
         requires { 64 * length self.rows ≤ ledger.old.live }
         ensures { ledger.new ≡ given_back ledger.old (64 * length self.rows) }
     {
-        let RunList { rows, late: _ } = self;
+        let RunList {
+            rows,
+            faulty_by_track: _,
+        } = self;
         ledger.back_rows(rows);
     }
 }
 
 /// Sorts rows as they are taken, and returns what was found by track before.
 fn put_in_order(rows: &mut Rows64) -> Option<u64>
-    ensures late { IsLate rows.old.rows result }
+    ensures faulty_by_track { IsFaultyByTrack rows.old.rows result }
     ensures sorted { IsSorted rows.old.rows rows.new.rows }
     ensures len { length rows.new.rows ≡ length rows.old.rows }
     ensures cap { rows.new.cap ≡ rows.old.cap }
 {
     sort_by_track(rows);
-    let late = find_by_track(rows);
+    let faulty_by_track = find_by_track(rows);
     sort_by_place(rows);
-    late
+    faulty_by_track
 }
 
 /// The list of the runs of the moof that the bytes are, which begins at this offset and has so many truns.
@@ -133,8 +136,11 @@ fn list_in(
         Err(refused) => return Err(refused),
     };
     fill(&mut rows, moof_bytes, offset, &moof, tracks);
-    let late = put_in_order(&mut rows);
-    Ok(RunList { rows, late })
+    let faulty_by_track = put_in_order(&mut rows);
+    Ok(RunList {
+        rows,
+        faulty_by_track,
+    })
 }
 
 impl<'a> Moof<'a> {

@@ -25,7 +25,7 @@ module _ (at : ℕ) (input : List ℕ) (b : Boxes) (are : AreBoxes at input b) w
       let w = whole_is (drop are.span.size input) are.mdat.header are.mdat.is in
       let start : p.start ≡ at + are.span.size + b.mdat.header_len = ap (λ (q : Payload). q.start) is in
       let last = within (at + are.span.size + b.mdat.size) (ap (λ (q : Payload). q.end) is) (omega (arith, start, room)) in
-      omega (arith, last, start, w.1, need-least (drop are.span.size input), are.mdat.head)
+      omega (arith, last, start, w.1, need-least (drop are.span.size input), are.mdat.header_len)
 
   abbrev h : MoofBytes
   h = moof_at b.moof.now at

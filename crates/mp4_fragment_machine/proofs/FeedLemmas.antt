@@ -4,18 +4,18 @@ use Rattle.mp4_recut.specs.Operations.{operation_meaning, number_in}
 use Rattle.mp4_fragment_machine.specs.States.{Progress}
 use Rattle.mp4_fragment_machine.specs.Implementation.Feeds.{HasFed}
 use Rattle.mp4_fragment_machine.specs.Implementation.Steps.{Borrowed, GoesTo, at_state, change_of}
-use Rattle.mp4_fragment_machine.specs.declared.state.Session.{Session}
+use Rattle.mp4_fragment_machine.specs.declared.state.Carried.{Carried}
 use Rattle.mp4_fragment_machine.specs.declared.state.State.{State}
 use Rattle.mp4_fragment_machine.proofs.QuietLemmas.{at-place, quiet, reached-most}
 
 -- what is seen of a machine in a state
-abbrev pub seen : Session → State → Progress
-seen k s = record { operation = k.operation; tracks = k.tracks; head = k.head; state = s; counter = k.counter }
+abbrev pub seen : Carried → State → Progress
+seen k s = record { operation = k.operation; tracks = k.tracks; header_bytes = k.header_bytes; state = s; counter = k.counter }
 
 -- where a step goes a machine may be fed more
-pub fed : (l : Borrowed) (old new : Session) (from to : State) (input : List ℕ) (n : ℕ) → (0 < n) × (n ≤ length input) × GoesTo l old new (at_state old from) (take n input) to → HasFed (change_of l old new) (seen old from) (seen new to) input n
+pub fed : (l : Borrowed) (old new : Carried) (from to : State) (input : List ℕ) (n : ℕ) → (0 < n) × (n ≤ length input) × GoesTo l old new (at_state old from) (take n input) to → HasFed (change_of l old new) (seen old from) (seen new to) input n
 fed l old new from to input n taken =
-    let is = at-place (number_in new.operation new.counter.tally) new.tracks new.head to taken.2.state in
+    let is = at-place (number_in new.operation new.counter.tally) new.tracks new.header_bytes to taken.2.state in
     record {
       some = taken.0;
       most = taken.1;

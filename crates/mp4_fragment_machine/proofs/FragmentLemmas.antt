@@ -63,7 +63,7 @@ use Rattle.mp4_fragment_machine.proofs.InPlaceLemmas.{GoesOn-whole, StopsAt-whol
 module _ (kind : Kind) (at : ℕ) (x : List ℕ) (b : Span) (first : IsFirstBox kind at x b) where
   -- its header has room
   pub first_fits : b.header_len ≤ b.size
-  first_fits = omega (arith, first.head, subst (λ z. HasRoom z first.header.header_len) first.sized (room_of x first.header first.is))
+  first_fits = omega (arith, first.header_len, subst (λ z. HasRoom z first.header.header_len) first.sized (room_of x first.header first.is))
 
   module _ (m : List ℕ) (is : m ≡ take b.size x) where
     pub first_len : length m ≡ b.size
@@ -72,7 +72,7 @@ module _ (kind : Kind) (at : ℕ) (x : List ℕ) (b : Span) (first : IsFirstBox 
     -- its bytes begin with its header
     pub first_is : header_at m ≡ steps.Whole first.header
     first_is =
-        front_is m x first.header (is ∙ ap (λ n. take n x) (sym first_len)) first.is (omega (arith, first_fits, first.head, first_len)) (omega (arith, first.whole, first_len))
+        front_is m x first.header (is ∙ ap (λ n. take n x) (sym first_len)) first.is (omega (arith, first_fits, first.header_len, first_len)) (omega (arith, first.whole, first_len))
 
     pub first_whole : IsBytes m → IsWhole m
     first_whole fits = begins_whole b.size m fits (first.header, first_is, first.sized) first_len
@@ -95,10 +95,10 @@ module _ (p : Payload) (run : Run) (is_placed : place_fault p (run ∷ []) ≡ N
       none_has e t = let no : has_samples (listed_run run) ≡ false = ap (λ n. not (n == 0)) e in absurd cc
 
   -- it has no more bytes than the payload
-  pub single_fits : (held : List ℕ) (end : ℕ) → p.end ≡ Some end → p.start ≤ end → IsRunOf held run → p.start + run.bytes ≤ end
-  single_fits held end e room is =
+  pub single_fits : (moof_bytes : List ℕ) (end : ℕ) → p.end ≡ Some end → p.start ≤ end → IsRunOf moof_bytes run → p.start + run.bytes ≤ end
+  single_fits moof_bytes end e room is =
       let one : AreIn p (run ∷ []) = record { rise = (tt, tt); lie = (lies, tt) } in
-      omega (arith, media_in held p end (run ∷ []) 1 e room one (is, tt), sum_by-cons (λ (r : Run). r.bytes) run [])
+      omega (arith, media_in moof_bytes p end (run ∷ []) 1 e room one (is, tt), sum_by-cons (λ (r : Run). r.bytes) run [])
 
 -- ---- a fragment
 
@@ -137,11 +137,11 @@ module _ (at : ℕ) (input : List ℕ) (b : Boxes) (are : AreBoxes at input b) w
   pub some_moof : 0 < are.span.size
   some_moof =
       let w = whole_is input are.moof.header are.moof.is in
-      omega (arith, w.1, need-least input, are.moof.head, first_fits Moof at input are.span are.moof)
+      omega (arith, w.1, need-least input, are.moof.header_len, first_fits Moof at input are.span are.moof)
 
 -- its boxes have room for their headers, and the input for them
 pub record BoxesFit (at : ℕ) (input : List ℕ) (b : Boxes) : Type 0 where
-  pub head : b.mdat.header_len ≤ b.mdat.size
+  pub header_len : b.mdat.header_len ≤ b.mdat.size
   pub whole : length b.moof.now + b.mdat.size ≤ length input
   pub near : at + length b.moof.now + b.mdat.size ≤ longest
 
@@ -149,7 +149,7 @@ pub boxes_fit : (at : ℕ) (input : List ℕ) (b : Boxes) → AreBoxes at input 
 boxes_fit at input b are =
     let len = moof_len at input b are in
     record {
-      head = first_fits Mdat (at + are.span.size) (drop are.span.size input) b.mdat are.mdat;
+      header_len = first_fits Mdat (at + are.span.size) (drop are.span.size input) b.mdat are.mdat;
       whole = omega (arith, len, are.moof.whole, are.mdat.whole, length-drop are.span.size input);
       near = omega (arith, len, are.mdat.near);
     }
@@ -177,7 +177,7 @@ module _ (at : ℕ) (tracks : List Track) (input : List ℕ) (b : Boxes) (are : 
   pub emitted_payload : (emitted 1).payload ≡ payload_in (at + are.span.size) b.mdat
   emitted_payload =
       ap (λ k. record { start = at + k + g.header_len; end = end_of (at + k) g.size }) long
-      ∙ ap (λ k. record { start = at + are.span.size + k; end = end_of (at + are.span.size) g.size }) are.mdat.head
+      ∙ ap (λ k. record { start = at + are.span.size + k; end = end_of (at + are.span.size) g.size }) are.mdat.header_len
       ∙ ap (λ z. record { start = at + are.span.size + b.mdat.header_len; end = end_of (at + are.span.size) z }) are.mdat.sized
 
   within : length m ≤ length input
@@ -237,7 +237,7 @@ module _ (at : ℕ) (tracks : List Track) (input : List ℕ) (b : Boxes) (l : Si
       let room = first_fits Mdat (at + is.boxes.span.size) (drop is.boxes.span.size input) b.mdat is.boxes.mdat in
       let w = whole_is (drop is.boxes.span.size input) is.boxes.mdat.header is.boxes.mdat.is in
       let last = single_fits (payload_in (at + is.boxes.span.size) b.mdat) l.run is.is_placed b.moof.now (at + is.boxes.span.size + b.mdat.size) refl (omega (arith, room)) run_is in
-      omega (arith, last, w.1, need-least (drop is.boxes.span.size input), is.boxes.mdat.head)
+      omega (arith, last, w.1, need-least (drop is.boxes.span.size input), is.boxes.mdat.header_len)
 
   -- it is counted, and no sample waits
   pub counted_in_place : (command : Command) (c c' : Counter) (n k : ℕ) → IsCounted (operations.List command) c at 0 0 → n ≡ l.run.count → k ≡ l.run.count

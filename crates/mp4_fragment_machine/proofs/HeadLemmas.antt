@@ -75,9 +75,9 @@ module _ (meaning : Meaning) (c : Context) where
 
 -- ---- bytes of it
 
-pub GoesOn-head : (meaning : Meaning) (o : Environment) (c : Context) (held x new : List ℕ) → new ≡ held ++ x → GoesOn o o (continuation_at meaning (InHeader c held)) x (continuation_at meaning (InHeader c new))
-GoesOn-head meaning o c held x new e =
-    GoesOn-gathered o (reads_in meaning c) c.at (table_of c.tracks) held x new e
+pub GoesOn-head : (meaning : Meaning) (o : Environment) (c : Context) (buffered x new : List ℕ) → new ≡ buffered ++ x → GoesOn o o (continuation_at meaning (InHeader c buffered)) x (continuation_at meaning (InHeader c new))
+GoesOn-head meaning o c buffered x new e =
+    GoesOn-gathered o (reads_in meaning c) c.at (table_of c.tracks) buffered x new e
 
 -- whatever follows, a fault is read: the track table is given back
 pub Refuses-at : (o : Environment) (p : Continuation) (table : ℕ) (more : List ℕ) (f : Fault) → p.claim ≡ table → table ≤ o.account.live → ((later : List ℕ) → p.reads later ≡ record { effects = no_effects; outcome = Faulty f }) → Refuses o (back_to o table) p more f
@@ -190,11 +190,11 @@ module _ (meaning : Meaning) (o : Environment) (at number : ℕ) (tracks : Optio
 -- ---- the end of the stream
 
 module _ (meaning : Meaning) (c : Context) where
-  pub ends-header : (held : List ℕ) → 0 < length held → length held < need held → fault_in (reads_in meaning c (held ++ [])).outcome ≡ Some (fault Truncated (kind_of held) c.at)
-  ends-header held some short = ap (λ r. fault_in r.outcome) (ap (reads_in meaning c) (append-nil held) ∙ reads-more meaning c held some short)
+  pub ends-header : (buffered : List ℕ) → 0 < length buffered → length buffered < need buffered → fault_in (reads_in meaning c (buffered ++ [])).outcome ≡ Some (fault Truncated (kind_of buffered) c.at)
+  ends-header buffered some short = ap (λ r. fault_in r.outcome) (ap (reads_in meaning c) (append-nil buffered) ∙ reads-more meaning c buffered some short)
 
-  pub ends-none : (held : List ℕ) → held ≡ [] → fault_in (reads_in meaning c (held ++ [])).outcome ≡ None
-  ends-none held e = ap (λ l. fault_in (reads_in meaning c (l ++ [])).outcome) e ∙ ap (λ r. fault_in r.outcome) (reads-none meaning c)
+  pub ends-none : (buffered : List ℕ) → buffered ≡ [] → fault_in (reads_in meaning c (buffered ++ [])).outcome ≡ None
+  ends-none buffered e = ap (λ l. fault_in (reads_in meaning c (l ++ [])).outcome) e ∙ ap (λ r. fault_in r.outcome) (reads-none meaning c)
 
 -- ---- two steps without a byte
 

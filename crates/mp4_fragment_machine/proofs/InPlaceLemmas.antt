@@ -50,8 +50,8 @@ module _ (meaning : Meaning) (number : ℕ) (o : Environment) (at : ℕ) (tracks
   abbrev pub c : Context
   c = context at (Some tracks) number
 
-  abbrev pub head : List ℕ
-  head = take h.header_len x
+  abbrev pub header_bytes : List ℕ
+  header_bytes = take h.header_len x
 
   abbrev pub rest : List ℕ
   rest = drop h.header_len x
@@ -66,20 +66,20 @@ module _ (meaning : Meaning) (number : ℕ) (o : Environment) (at : ℕ) (tracks
   abbrev pub listed : Environment
   listed = claimed_from (inspection meaning (claimed_from o (length x)) at number tracks h.kind (length x) x refl) (64 * length (moof_runs (moof_at x at) tracks))
 
-  to_header : GoesOn o o (continuation_at meaning (InHeader c [])) head (continuation_at meaning (InHeader c head))
-  to_header = GoesOn-head meaning o c [] head head refl
+  to_header : GoesOn o o (continuation_at meaning (InHeader c [])) header_bytes (continuation_at meaning (InHeader c header_bytes))
+  to_header = GoesOn-head meaning o c [] header_bytes header_bytes refl
 
-  to_held : GoesOn o held (continuation_at meaning (InHeader c head)) [] (continuation_at meaning (InBuffered c h.kind (length x) head))
+  to_held : GoesOn o held (continuation_at meaning (InHeader c header_bytes)) [] (continuation_at meaning (InBuffered c h.kind (length x) header_bytes))
   to_held =
-      GoesOn-keep meaning o at number (Some tracks) h head most_moof low
-      (λ later. reads-kind meaning c h head (front-len x h is) (front-is x h is) Moof (Some tracks) later (subst (λ s. least_end at h s ≤ longest) (sym sized) near) kind refl) (length x) sized most some
+      GoesOn-keep meaning o at number (Some tracks) h header_bytes most_moof low
+      (λ later. reads-kind meaning c h header_bytes (front-len x h is) (front-is x h is) Moof (Some tracks) later (subst (λ s. least_end at h s ≤ longest) (sym sized) near) kind refl) (length x) sized most some
 
   -- all of it came, and is held
   pub GoesOn-held_whole : GoesOn o (claimed_from o (length x)) (continuation_at meaning (InHeader c [])) x (continuation_at meaning (InBuffered c h.kind (length x) x))
   GoesOn-held_whole =
-      let all : head ++ rest ≡ x = take-append-drop h.header_len x in
-      let begun = GoesOn-then low to_header (continuation_at meaning (InBuffered c h.kind (length x) head)) to_held in
-      let more = GoesOn-more low begun rest (continuation_at meaning (InBuffered c h.kind (length x) (head ++ rest))) (GoesOn-held meaning held c h.kind (length x) head rest) in
+      let all : header_bytes ++ rest ≡ x = take-append-drop h.header_len x in
+      let begun = GoesOn-then low to_header (continuation_at meaning (InBuffered c h.kind (length x) header_bytes)) to_held in
+      let more = GoesOn-more low begun rest (continuation_at meaning (InBuffered c h.kind (length x) (header_bytes ++ rest))) (GoesOn-held meaning held c h.kind (length x) header_bytes rest) in
       subst (λ l. GoesOn o held (continuation_at meaning (InHeader c [])) l (continuation_at meaning (InBuffered c h.kind (length x) l))) all more
 
   -- it is good, and waits for its mdat
@@ -103,7 +103,7 @@ module _ (command : Command) (number : ℕ) (o : Environment) (at : ℕ) (tracks
   abbrev w : PendingMoof
   w = record {
     moof = record { at = at; kind = kind; size = length m; bytes = m };
-    runs = record { rows = map (row_of_run 0) (moof_runs (moof_at m at) tracks); late = None };
+    runs = record { rows = map (row_of_run 0) (moof_runs (moof_at m at) tracks); faulty_by_track = None };
   }
 
   abbrev pub f : Fragment

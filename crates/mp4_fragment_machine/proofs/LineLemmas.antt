@@ -41,21 +41,21 @@ put_all {s = s} {v = v} {w = w} {text = text} run rows c none whole p =
 -- ---- run after run
 
 -- the lines of one more run were put
-pub next_run : (held : List ℕ) (taken : List Run) (i : ℕ) (run : Run) (text all : List ℕ) → i < length taken → run ≡ get_or taken i run → text ++ sample_lines (flat_map (samples_of_run held) (drop i taken)) ≡ all
-    → (text ++ sample_lines (samples_of_run held run)) ++ sample_lines (flat_map (samples_of_run held) (drop (i + 1) taken)) ≡ all
-next_run held taken i run text all h at whole =
-    let rest = flat_map (samples_of_run held) (drop (i + 1) taken) in
+pub next_run : (moof_bytes : List ℕ) (taken : List Run) (i : ℕ) (run : Run) (text all : List ℕ) → i < length taken → run ≡ get_or taken i run → text ++ sample_lines (flat_map (samples_of_run moof_bytes) (drop i taken)) ≡ all
+    → (text ++ sample_lines (samples_of_run moof_bytes run)) ++ sample_lines (flat_map (samples_of_run moof_bytes) (drop (i + 1) taken)) ≡ all
+next_run moof_bytes taken i run text all h at whole =
+    let rest = flat_map (samples_of_run moof_bytes) (drop (i + 1) taken) in
     let one : suc i ≡ i + 1 = omega arith in
     let next : drop i taken ≡ run ∷ drop (i + 1) taken = drop-cons taken i run h ∙ ap (λ r. r ∷ drop (suc i) taken) (sym at) ∙ ap (λ n. run ∷ drop n taken) one in
-    append_assoc text (sample_lines (samples_of_run held run)) (sample_lines rest)
-    ∙ ap (λ l. text ++ l) (sym (flat_map-append sample_line (samples_of_run held run) rest))
-    ∙ ap (λ l. text ++ sample_lines (flat_map (samples_of_run held) l)) (sym next) ∙ whole
+    append_assoc text (sample_lines (samples_of_run moof_bytes run)) (sample_lines rest)
+    ∙ ap (λ l. text ++ l) (sym (flat_map-append sample_line (samples_of_run moof_bytes run) rest))
+    ∙ ap (λ l. text ++ sample_lines (flat_map (samples_of_run moof_bytes) l)) (sym next) ∙ whole
 
 -- one of some runs that can be cut
-pub run_of_all : (held : List ℕ) (taken : List Run) (i : ℕ) (run : Run) → AreRunsOf held taken → i < length taken → run ≡ get_or taken i run → run.size < 2 ^ 32 → IsRunOf held run
-run_of_all held [] i run all h at small = absurd (omega arith)
-run_of_all held (x ∷ taken) zero run all h at small = subst (IsRunOf held) (sym at) (all.0 (subst (λ (r : Run). r.size < 2 ^ 32) at small))
-run_of_all held (x ∷ taken) (suc i) run all h at small = run_of_all held taken i run all.1 (omega arith) at small
+pub run_of_all : (moof_bytes : List ℕ) (taken : List Run) (i : ℕ) (run : Run) → AreRunsOf moof_bytes taken → i < length taken → run ≡ get_or taken i run → run.size < 2 ^ 32 → IsRunOf moof_bytes run
+run_of_all moof_bytes [] i run all h at small = absurd (omega arith)
+run_of_all moof_bytes (x ∷ taken) zero run all h at small = subst (IsRunOf moof_bytes) (sym at) (all.0 (subst (λ (r : Run). r.size < 2 ^ 32) at small))
+run_of_all moof_bytes (x ∷ taken) (suc i) run all h at small = run_of_all moof_bytes taken i run all.1 (omega arith) at small
 
 -- the runs of a moof that was read, in the order in which they are taken
 pub taken_are : (h : MoofBytes) (tracks : List Track) → h.offset + length h.bytes ≤ 2 ^ 62 → IsWhole h.bytes → IsBytes h.bytes → IsRead h tracks → AreRunsOf h.bytes (taken_runs h tracks)

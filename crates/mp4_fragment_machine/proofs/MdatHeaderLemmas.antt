@@ -72,9 +72,9 @@ module _ (meaning : Meaning) (number : ℕ) (o : Environment) (w : PendingMoof) 
   low_after x = omega (arith, claims_after x, claimed_apart tracks (Some w), low)
 
   -- bytes of the header after it
-  pub GoesOn-after_head : (held x new : List ℕ) → new ≡ held ++ x → GoesOn o o (waits held) x (waits new)
-  GoesOn-after_head held x new e =
-      GoesOn-gathered o (λ l. then_read (reads_in meaning) (after_moof meaning (context w.moof.at tracks number) (known tracks) w.moof.bytes l)) (w.moof.at + length w.moof.bytes) (waits []).claim held x new e
+  pub GoesOn-after_head : (buffered x new : List ℕ) → new ≡ buffered ++ x → GoesOn o o (waits buffered) x (waits new)
+  GoesOn-after_head buffered x new e =
+      GoesOn-gathered o (λ l. then_read (reads_in meaning) (after_moof meaning (context w.moof.at tracks number) (known tracks) w.moof.bytes l)) (w.moof.at + length w.moof.bytes) (waits []).claim buffered x new e
 
   -- no header begins with them: all is given back
   pub Refuses-after : (x more : List ℕ) (at : ℕ) → at ≡ w.moof.at + w.moof.size → length x ≡ need x → header_at x ≡ steps.BadSize → Refuses o (back_to (back_to o (taken_by (Some w))) (table_of tracks)) (waits x) more (fault BadSize (kind_of x) at)

@@ -48,10 +48,10 @@ media_of runs = sum_by (λ (run : Run). run.bytes) runs
 abbrev pub count_of : List Run → ℕ
 count_of runs = sum_by (λ (run : Run). run.count) runs
 
-counts_are_rows : (held : List ℕ) (runs : List Run) → count_of runs ≡ length (flat_map (λ (run : Run). rows_of run held) runs)
-counts_are_rows held [] = refl
-counts_are_rows held (run ∷ runs) =
-    omega (arith, sum_by-cons (λ (r : Run). r.count) run runs, counts_are_rows held runs, length_rows_of run held, length-append (rows_of run held) (flat_map (λ (r : Run). rows_of r held) runs))
+counts_are_rows : (moof_bytes : List ℕ) (runs : List Run) → count_of runs ≡ length (flat_map (λ (run : Run). rows_of run moof_bytes) runs)
+counts_are_rows moof_bytes [] = refl
+counts_are_rows moof_bytes (run ∷ runs) =
+    omega (arith, sum_by-cons (λ (r : Run). r.count) run runs, counts_are_rows moof_bytes runs, length_rows_of run moof_bytes, length-append (rows_of run moof_bytes) (flat_map (λ (r : Run). rows_of r moof_bytes) runs))
 
 -- the first of them have no more
 pub count_first : (runs : List Run) (n : ℕ) → count_of (take n runs) ≤ count_of runs
@@ -168,32 +168,32 @@ no_later z y h = omega (arith, ints, h)
 no_less : (m n : ℕ) → m ≤ n → pos m ≤ℤ pos n
 no_less m n h = omega (arith, ints, h)
 
-module _ (held : List ℕ) where
+module _ (moof_bytes : List ℕ) where
   -- a run with bytes has samples
-  some_samples : (run : Run) → IsRunOf held run → 0 < run.bytes → has_samples (listed_run run) ≡ true
+  some_samples : (run : Run) → IsRunOf moof_bytes run → 0 < run.bytes → has_samples (listed_run run) ≡ true
   some_samples run is some =
-      not_from_false (run.count == 0) (ne_eqb run.count 0 (λ e. absurd (omega (arith, some, is.bytes, no_sizes (rows_of run held) (length_rows_of run held ∙ e)))))
+      not_from_false (run.count == 0) (ne_eqb run.count 0 (λ e. absurd (omega (arith, some, is.bytes, no_sizes (rows_of run moof_bytes) (length_rows_of run moof_bytes ∙ e)))))
 
-  some_bytes : (run : Run) → IsRunOf held run → 0 < run.bytes → has_bytes (listed_run run) ≡ true
+  some_bytes : (run : Run) → IsRunOf moof_bytes run → 0 < run.bytes → has_bytes (listed_run run) ≡ true
   some_bytes run is some =
       and_from (has_samples (listed_run run)) (not (run.bytes == 0)) (some_samples run is some) (not_from_false (run.bytes == 0) (ne_eqb run.bytes 0 (λ e. absurd (omega (arith, some, e)))))
 
   -- they have no more bytes than lie between the start of the payload and y
-  media_within : (p : Payload) (y : ℤ) (runs : List Run) → pos p.start ≤ℤ y → ((run : Run) → IsRunOf held run → LiesIn p (listed_run run) → end_place run ≤ℤ y)
-      → AreIn p runs → Each (IsRunOf held) runs → (pos p.start +ℤ pos (media_of runs)) ≤ℤ y
+  media_within : (p : Payload) (y : ℤ) (runs : List Run) → pos p.start ≤ℤ y → ((run : Run) → IsRunOf moof_bytes run → LiesIn p (listed_run run) → end_place run ≤ℤ y)
+      → AreIn p runs → Each (IsRunOf moof_bytes) runs → (pos p.start +ℤ pos (media_of runs)) ≤ℤ y
   media_within p y runs room ends placed are =
       media_fits (pos p.start) y runs room
-      (each_both (IsRunOf held) (Lies p) (Between (pos p.start) y) (λ run is lies some. let l = lies (some_samples run is some) in (l.from, ends run is l)) runs are placed.lie)
-      (pairs_with (IsRunOf held) Rises Clear (λ a b m n r x y. r (some_bytes a m x) (some_bytes b n y)) runs are placed.rise)
+      (each_both (IsRunOf moof_bytes) (Lies p) (Between (pos p.start) y) (λ run is lies some. let l = lies (some_samples run is some) in (l.from, ends run is l)) runs are placed.lie)
+      (pairs_with (IsRunOf moof_bytes) Rises Clear (λ a b m n r x y. r (some_bytes a m x) (some_bytes b n y)) runs are placed.rise)
 
   -- the first of them lie in a payload with an end
-  pub media_in : (p : Payload) (end : ℕ) (runs : List Run) (n : ℕ) → p.end ≡ Some end → p.start ≤ end → AreIn p runs → Each (IsRunOf held) (take n runs) → p.start + media_of (take n runs) ≤ end
+  pub media_in : (p : Payload) (end : ℕ) (runs : List Run) (n : ℕ) → p.end ≡ Some end → p.start ≤ end → AreIn p runs → Each (IsRunOf moof_bytes) (take n runs) → p.start + media_of (take n runs) ≤ end
   media_in p end runs n e room placed are =
       ends_at p.start (media_of (take n runs)) end (media_within p (pos end) (take n runs) (no_less p.start end room)
       (λ run is lies. subst (λ (o : Option ℕ). IfSome o (λ z. end_place run ≤ℤ pos z)) e lies.to) (first_in p runs n placed) are)
 
   -- and in any below byte 2^63
-  pub media_far : (p : Payload) (runs : List Run) (n : ℕ) → p.start ≤ 2 ^ 62 → AreIn p runs → Each (IsRunOf held) (take n runs) → p.start + media_of (take n runs) ≤ 2 ^ 63
+  pub media_far : (p : Payload) (runs : List Run) (n : ℕ) → p.start ≤ 2 ^ 62 → AreIn p runs → Each (IsRunOf moof_bytes) (take n runs) → p.start + media_of (take n runs) ≤ 2 ^ 63
   media_far p runs n near placed are =
       ends_at p.start (media_of (take n runs)) (2 ^ 63) (media_within p (pos (2 ^ 63)) (take n runs) (no_less p.start (2 ^ 63) (omega (arith, near)))
       (λ run is lies. no_later (end_place run) (pos (2 ^ 63)) is.range.high) (first_in p runs n placed) are)
@@ -236,8 +236,8 @@ module _ (runs : List Run) (i : ℕ) (run : Run) (here : i < length runs) (at : 
   pub count_more : count_of (take (i + 1) runs) ≡ count_of (take i runs) + run.count
   count_more = ap (sum_by (λ (r : Run). r.count)) one_more ∙ sum_by_push (λ (r : Run). r.count) (take i runs) run
 
-  pub are_more : (held : List ℕ) → Each (IsRunOf held) (take i runs) → IsRunOf held run → Each (IsRunOf held) (take (i + 1) runs)
-  are_more held are is = subst (Each (IsRunOf held)) (sym one_more) (pushed (IsRunOf held) (take i runs) run are is)
+  pub are_more : (moof_bytes : List ℕ) → Each (IsRunOf moof_bytes) (take i runs) → IsRunOf moof_bytes run → Each (IsRunOf moof_bytes) (take (i + 1) runs)
+  are_more moof_bytes are is = subst (Each (IsRunOf moof_bytes)) (sym one_more) (pushed (IsRunOf moof_bytes) (take i runs) run are is)
     where
       pushed : {X : Type 0} (P : X → Type 0) (xs : List X) (x : X) → Each P xs → P x → Each P (xs ++ x ∷ [])
       pushed P [] x all one = (one, tt)
@@ -253,23 +253,23 @@ module _ (runs : List Run) (i : ℕ) (run : Run) (here : i < length runs) (at : 
       by false new whole = omega (arith, new, whole)
 
 -- the run at an index
-pub record RunAt (held : List ℕ) (runs : List Run) (i : ℕ) : Type 0 where
+pub record RunAt (moof_bytes : List ℕ) (runs : List Run) (i : ℕ) : Type 0 where
   pub run : Run
   pub at : run ≡ get_or runs i run
-  pub is : IsRunOf held run
+  pub is : IsRunOf moof_bytes run
 
-pub run_at : (held : List ℕ) (runs : List Run) (i : ℕ) → AllByRecursion (IsRunOf held) runs → i < length runs → RunAt held runs i
-run_at held [] i all h = absurd (omega arith)
-run_at held (x ∷ runs) zero all h = record { run = x; at = refl; is = all.0 }
-run_at held (x ∷ runs) (suc i) all h = let rest = run_at held runs i all.1 (omega arith) in record { run = rest.run; at = rest.at; is = rest.is }
+pub run_at : (moof_bytes : List ℕ) (runs : List Run) (i : ℕ) → AllByRecursion (IsRunOf moof_bytes) runs → i < length runs → RunAt moof_bytes runs i
+run_at moof_bytes [] i all h = absurd (omega arith)
+run_at moof_bytes (x ∷ runs) zero all h = record { run = x; at = refl; is = all.0 }
+run_at moof_bytes (x ∷ runs) (suc i) all h = let rest = run_at moof_bytes runs i all.1 (omega arith) in record { run = rest.run; at = rest.at; is = rest.is }
 
 all_each : {X : Type 0} (P : X → Type 0) (xs : List X) → AllByRecursion P xs → Each P xs
 all_each P [] all = tt
 all_each P (x ∷ xs) all = (all.0, all_each P xs all.1)
 
-both_hold : (held : List ℕ) (runs : List Run) → AreRunsOf held runs → Each (λ (run : Run). run.size < 2 ^ 32) runs → AllByRecursion (IsRunOf held) runs
-both_hold held [] are small = tt
-both_hold held (x ∷ runs) are small = (are.0 small.0, both_hold held runs are.1 small.1)
+both_hold : (moof_bytes : List ℕ) (runs : List Run) → AreRunsOf moof_bytes runs → Each (λ (run : Run). run.size < 2 ^ 32) runs → AllByRecursion (IsRunOf moof_bytes) runs
+both_hold moof_bytes [] are small = tt
+both_hold moof_bytes (x ∷ runs) are small = (are.0 small.0, both_hold moof_bytes runs are.1 small.1)
 
 -- ---- the runs of the pending moof
 

@@ -26,7 +26,7 @@ use Rattle.mp4_fragment_machine.specs.Places.{InHeader, InBuffered, Place, Untou
 use Rattle.mp4_fragment_machine.specs.States.{IsCounted}
 use Rattle.mp4_fragment_machine.specs.Implementation.Steps.{Borrowed, GoesTo, StopsIn, at_state, environment_before, environment_stopped, ledger_alone}
 use Rattle.mp4_fragment_machine.specs.Implementation.InPlace.{IsFirstBox}
-use Rattle.mp4_fragment_machine.specs.declared.state.Session.{Session}
+use Rattle.mp4_fragment_machine.specs.declared.state.Carried.{Carried}
 use Rattle.mp4_fragment_machine.specs.declared.state.State.{State}
 use Rattle.mp4_fragment_machine.specs.declared.state.State.TheVariants as states
 use Rattle.mp4_fragment_machine.specs.declared.boxes_in_place.Span.{Span}
@@ -41,17 +41,17 @@ use Rattle.mp4_fragment_machine.proofs.InPlaceLemmas.{GoesOn-held_whole}
 module _ (meaning : Meaning) (number : ℕ) (o : Environment) (at : ℕ) (tracks : List Track) (h : Header) (x : List ℕ)
     (is : header_at x ≡ steps.Whole h) (kind : kind_in h.kind.0 ≡ Moof) (sized : h.size ≡ Exact (length x)) (most : length x ≤ most_moof) (near : at + length x ≤ longest)
     (low : 64 * length tracks ≤ o.account.live) where
-  head : List ℕ
-  head = take h.header_len x
+  header_bytes : List ℕ
+  header_bytes = take h.header_len x
 
   pub StopsAt-moof_whole : FragmentEndsPast meaning → (more : List ℕ) (r : Refused) → (r ≡ refusals.OverLimit → o.account.limit < o.account.live + length x) → (r ≡ refusals.Memory → o.account.live + length x ≤ o.account.limit)
       → StopsAt o (back_to o (64 * length tracks)) (continuation_at meaning (InHeader (context at (Some tracks) number) [])) (x ++ more) (refusal_of r)
-  unfolding head
+  unfolding header_bytes
   StopsAt-moof_whole past more r over within =
       let c = context at (Some tracks) number in
-      StopsAt-take_more {p = continuation_at meaning (InHeader c [])} low h.header_len x (GoesOn-head meaning o c [] head head refl) (back_to o (64 * length tracks)) more (refusal_of r)
-      (StopsAt-keep meaning o at number (Some tracks) h head most_moof low
-      (λ later. reads-kind meaning c h head (front-len x h is) (front-is x h is) Moof (Some tracks) later (subst (λ s. least_end at h s ≤ longest) (sym sized) near) kind refl) (length x) sized most past (drop h.header_len x ++ more) r over within)
+      StopsAt-take_more {p = continuation_at meaning (InHeader c [])} low h.header_len x (GoesOn-head meaning o c [] header_bytes header_bytes refl) (back_to o (64 * length tracks)) more (refusal_of r)
+      (StopsAt-keep meaning o at number (Some tracks) h header_bytes most_moof low
+      (λ later. reads-kind meaning c h header_bytes (front-len x h is) (front-is x h is) Moof (Some tracks) later (subst (λ s. least_end at h s ≤ longest) (sym sized) near) kind refl) (length x) sized most past (drop h.header_len x ++ more) r over within)
 
 -- ---- a step that takes more of the input
 
@@ -68,7 +68,7 @@ as_borrowed l b = record {
   account' = b;
 }
 
-module _ {l : Borrowed} {b : Account} {old mid new : Session} {from : Place} {s : State} (n : ℕ) (input : List ℕ) (low : claim_of from ≤ l.account.live) (g : GoesTo (as_borrowed l b) old mid from (take n input) s) where
+module _ {l : Borrowed} {b : Account} {old mid new : Carried} {from : Place} {s : State} (n : ℕ) (input : List ℕ) (low : claim_of from ≤ l.account.live) (g : GoesTo (as_borrowed l b) old mid from (take n input) s) where
   pub GoesTo-take_more : (m : ℕ) {t : State} → GoesTo (record l { account = b }) mid new (at_state mid s) (take m (drop n input)) t → GoesTo l old new from (take (n + m) input) t
   GoesTo-take_more m {t = t} h = record {
     step = record { goes = GoesOn-take_more low n input g.step.goes m (continuation_at (operation_meaning new.operation) (at_state new t)) h.step.goes; unfailed = h.step.unfailed; claim = h.step.claim };
@@ -100,7 +100,7 @@ module _ {l : Borrowed} {b : Account} {old mid new : Session} {from : Place} {s 
 abbrev pub held_of : ℕ → List ℕ → Span → BufferedBox
 held_of at input b = record { at = at; kind = b.kind; size = b.size; bytes = take b.size input }
 
-module _ (k : Session) (at : ℕ) (ts : List Track) (input : List ℕ) (b : Span) (first : IsFirstBox Moof at input b) (most : b.size ≤ most_moof) (is_known : k.tracks ≡ Some ts) (empty : k.head ≡ []) where
+module _ (k : Carried) (at : ℕ) (ts : List Track) (input : List ℕ) (b : Span) (first : IsFirstBox Moof at input b) (most : b.size ≤ most_moof) (is_known : k.tracks ≡ Some ts) (empty : k.header_bytes ≡ []) where
   moof_len : length (take b.size input) ≡ b.size
   moof_len = first_len Moof at input b first (take b.size input) refl
 
@@ -111,7 +111,7 @@ module _ (k : Session) (at : ℕ) (ts : List Track) (input : List ℕ) (b : Span
   moof_begins = (first.header, moof_is, first.sized)
 
   pub moof_some : 0 < b.size
-  moof_some = let w = whole_is input first.header first.is in omega (arith, first_fits Moof at input b first, first.head, w.1, need-least input)
+  moof_some = let w = whole_is input first.header first.is in omega (arith, first_fits Moof at input b first, first.header_len, w.1, need-least input)
 
   module _ {l : Borrowed} (low : table_of k.tracks ≤ l.account.live) where
     -- all of it came, and is held

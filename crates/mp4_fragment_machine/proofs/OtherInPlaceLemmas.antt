@@ -22,7 +22,7 @@ use Rattle.mp4_recut.specs.Operations.{operation_meaning, number_in}
 use Rattle.mp4_fragment_machine.specs.Places.{InHeader, continuation_at}
 use Rattle.mp4_fragment_machine.specs.Implementation.Steps.{Borrowed, CanStep, GoesTo, at_state, environment_after, environment_before}
 use Rattle.mp4_fragment_machine.specs.Implementation.InPlace.{IsFirstBox}
-use Rattle.mp4_fragment_machine.specs.declared.state.Session.{Session}
+use Rattle.mp4_fragment_machine.specs.declared.state.Carried.{Carried}
 use Rattle.mp4_fragment_machine.specs.declared.state.State.TheVariants as states
 use Rattle.mp4_fragment_machine.specs.declared.boxes_in_place.Span.{Span}
 use Rattle.mp4_fragment_machine.proofs.CopyLemmas.{Moves-says, spends-back}
@@ -95,7 +95,7 @@ module _ (meaning : Meaning) (at number : ℕ) (tracks : Option (List Track)) (i
         p (spends-back o.account (table_of tracks) low) (sym (plus-none o.tally))
 
 -- where the next box begins, all that is known is as it was
-pub GoesTo-box : {l : Borrowed} {k : Session} (at : ℕ) (input : List ℕ) (b : Span) → IsFirstBox Other at input b → k.head ≡ [] → CanStep k l.account (states.Header at) → l.account' ≡ l.account → l.failed' ≡ l.failed
+pub GoesTo-box : {l : Borrowed} {k : Carried} (at : ℕ) (input : List ℕ) (b : Span) → IsFirstBox Other at input b → k.header_bytes ≡ [] → CanStep k l.account (states.Header at) → l.account' ≡ l.account → l.failed' ≡ l.failed
     → GoesOn (environment_before l k) (environment_after l k) (continuation_at (operation_meaning k.operation) (InHeader (context at k.tracks (number_in k.operation k.counter.tally)) [])) (take b.size input) (continuation_at (operation_meaning k.operation) (InHeader (context (at + b.size) k.tracks (number_in k.operation k.counter.tally)) []))
     → GoesTo l k k (at_state k (states.Header at)) (take b.size input) (states.Header (at + b.size))
-GoesTo-box {l = l} {k = k} at input b first empty can account unfailed g = record { step = record { goes = rw empty g; unfailed = unfailed; claim = rw account can.claim }; operation = refl; state = (no_head k.head empty, first.near); counted = counted_later k.operation k.counter at (at + b.size) 0 0 (omega arith) (omega arith) (omega (arith, first.near)) can.counted }
+GoesTo-box {l = l} {k = k} at input b first empty can account unfailed g = record { step = record { goes = rw empty g; unfailed = unfailed; claim = rw account can.claim }; operation = refl; state = (no_head k.header_bytes empty, first.near); counted = counted_later k.operation k.counter at (at + b.size) 0 0 (omega arith) (omega arith) (omega (arith, first.near)) can.counted }

@@ -25,14 +25,14 @@ use Rattle.mp4_fragment_machine.proofs.SecondLemmas.{after-more, after-none}
 -- ---- what is read where no byte follows
 
 module _ (meaning : Meaning) where
-  header-ended : (c : Context) (held : List ℕ) → 0 < length held → length held < need held → reads_at meaning (InHeader c held) [] ≡ cut_off Truncated (kind_of held) c.at
-  header-ended c held some short = ap (reads_in meaning c) (append-nil held) ∙ reads-more meaning c held some short
+  header-ended : (c : Context) (buffered : List ℕ) → 0 < length buffered → length buffered < need buffered → reads_at meaning (InHeader c buffered) [] ≡ cut_off Truncated (kind_of buffered) c.at
+  header-ended c buffered some short = ap (reads_in meaning c) (append-nil buffered) ∙ reads-more meaning c buffered some short
 
-  held-ended : (c : Context) (kind : FourCc) (size : ℕ) (held : List ℕ) → length held < size → reads_at meaning (InBuffered c kind size held) [] ≡ cut_off Truncated (Some kind) c.at
-  held-ended c kind size held short = rw (nat_lt_true (length (held ++ [])) size (omega (arith, length-append held [], short))) refl
+  held-ended : (c : Context) (kind : FourCc) (size : ℕ) (buffered : List ℕ) → length buffered < size → reads_at meaning (InBuffered c kind size buffered) [] ≡ cut_off Truncated (Some kind) c.at
+  held-ended c kind size buffered short = rw (nat_lt_true (length (buffered ++ [])) size (omega (arith, length-append buffered [], short))) refl
 
-  after-ended : (c : Context) (tracks : List Track) (m held : List ℕ) → 0 < length held → length held < need held → reads_at meaning (InMdatHeader c tracks m held) [] ≡ cut_off Truncated (kind_of held) (c.at + length m)
-  after-ended c tracks m held some short = ap (then_read (reads_in meaning)) (ap (after_moof meaning c tracks m) (append-nil held) ∙ after-more meaning c tracks m held some short)
+  after-ended : (c : Context) (tracks : List Track) (m buffered : List ℕ) → 0 < length buffered → length buffered < need buffered → reads_at meaning (InMdatHeader c tracks m buffered) [] ≡ cut_off Truncated (kind_of buffered) (c.at + length m)
+  after-ended c tracks m buffered some short = ap (then_read (reads_in meaning)) (ap (after_moof meaning c tracks m) (append-nil buffered) ∙ after-more meaning c tracks m buffered some short)
 
   after-missing : (c : Context) (tracks : List Track) (m : List ℕ) → reads_at meaning (InMdatHeader c tracks m []) [] ≡ cut_off MdatMissing (Some moof) c.at
   after-missing c tracks m = ap (then_read (reads_in meaning)) (after-none meaning c tracks m)
@@ -49,14 +49,14 @@ module _ (meaning : Meaning) where
 -- ---- the fault of a stream that ends there (in a header: `ends-header` and `ends-none` of HeadLemmas)
 
 module _ (meaning : Meaning) where
-  pub ends-held : (c : Context) (kind : FourCc) (size : ℕ) (held : List ℕ) → length held < size → fault_in (reads_at meaning (InBuffered c kind size held) []).outcome ≡ Some (fault Truncated (Some kind) c.at)
-  ends-held c kind size held short = ap (λ r. fault_in r.outcome) (held-ended meaning c kind size held short)
+  pub ends-held : (c : Context) (kind : FourCc) (size : ℕ) (buffered : List ℕ) → length buffered < size → fault_in (reads_at meaning (InBuffered c kind size buffered) []).outcome ≡ Some (fault Truncated (Some kind) c.at)
+  ends-held c kind size buffered short = ap (λ r. fault_in r.outcome) (held-ended meaning c kind size buffered short)
 
-  pub ends-after : (c : Context) (tracks : List Track) (m held : List ℕ) → 0 < length held → length held < need held → fault_in (reads_at meaning (InMdatHeader c tracks m held) []).outcome ≡ Some (fault Truncated (kind_of held) (c.at + length m))
-  ends-after c tracks m held some short = ap (λ r. fault_in r.outcome) (after-ended meaning c tracks m held some short)
+  pub ends-after : (c : Context) (tracks : List Track) (m buffered : List ℕ) → 0 < length buffered → length buffered < need buffered → fault_in (reads_at meaning (InMdatHeader c tracks m buffered) []).outcome ≡ Some (fault Truncated (kind_of buffered) (c.at + length m))
+  ends-after c tracks m buffered some short = ap (λ r. fault_in r.outcome) (after-ended meaning c tracks m buffered some short)
 
-  pub ends-missing : (c : Context) (tracks : List Track) (m held : List ℕ) → held ≡ [] → fault_in (reads_at meaning (InMdatHeader c tracks m held) []).outcome ≡ Some (fault MdatMissing (Some moof) c.at)
-  ends-missing c tracks m held none = ap (λ l. fault_in (reads_at meaning (InMdatHeader c tracks m l) []).outcome) none ∙ ap (λ r. fault_in r.outcome) (after-missing meaning c tracks m)
+  pub ends-missing : (c : Context) (tracks : List Track) (m buffered : List ℕ) → buffered ≡ [] → fault_in (reads_at meaning (InMdatHeader c tracks m buffered) []).outcome ≡ Some (fault MdatMissing (Some moof) c.at)
+  ends-missing c tracks m buffered none = ap (λ l. fault_in (reads_at meaning (InMdatHeader c tracks m l) []).outcome) none ∙ ap (λ r. fault_in r.outcome) (after-missing meaning c tracks m)
 
   pub ends-body : (emit : List ℕ → Effects) (at : ℕ) (kind : FourCc) (next : Context) (left own : ℕ) → 0 < left → fault_in (reads_at meaning (InBody emit at kind next left own) []).outcome ≡ Some (fault Truncated (Some kind) at)
   ends-body emit at kind next left own some = ap (λ r. fault_in r.outcome) (body-ended meaning emit at kind next left own some)
@@ -79,11 +79,11 @@ is_quiet p r e effects early = record { effects = ap (λ s. s.effects) e ∙ eff
 
 pub quiet : (meaning : Meaning) (p : Place) → IsPlace p → HasNoEffects (continuation_at meaning p)
 quiet meaning (InHeader c []) i = is_quiet (continuation_at meaning (InHeader c [])) empty_reading (reads-none meaning c) refl refl
-quiet meaning (InHeader c (b ∷ held)) i = is_quiet (continuation_at meaning (InHeader c (b ∷ held))) (cut_off Truncated (kind_of (b ∷ held)) c.at) (header-ended meaning c (b ∷ held) (omega arith) i.0) refl refl
-quiet meaning (InBuffered c kind size held) i = is_quiet (continuation_at meaning (InBuffered c kind size held)) (cut_off Truncated (Some kind) c.at) (held-ended meaning c kind size held i.0) refl refl
+quiet meaning (InHeader c (b ∷ buffered)) i = is_quiet (continuation_at meaning (InHeader c (b ∷ buffered))) (cut_off Truncated (kind_of (b ∷ buffered)) c.at) (header-ended meaning c (b ∷ buffered) (omega arith) i.0) refl refl
+quiet meaning (InBuffered c kind size buffered) i = is_quiet (continuation_at meaning (InBuffered c kind size buffered)) (cut_off Truncated (Some kind) c.at) (held-ended meaning c kind size buffered i.0) refl refl
 quiet meaning (InMdatHeader c tracks m []) i = is_quiet (continuation_at meaning (InMdatHeader c tracks m [])) (cut_off MdatMissing (Some moof) c.at) (after-missing meaning c tracks m) refl refl
-quiet meaning (InMdatHeader c tracks m (b ∷ held)) i =
-    is_quiet (continuation_at meaning (InMdatHeader c tracks m (b ∷ held))) (cut_off Truncated (kind_of (b ∷ held)) (c.at + length m)) (after-ended meaning c tracks m (b ∷ held) (omega arith) i.0) refl refl
+quiet meaning (InMdatHeader c tracks m (b ∷ buffered)) i =
+    is_quiet (continuation_at meaning (InMdatHeader c tracks m (b ∷ buffered))) (cut_off Truncated (kind_of (b ∷ buffered)) (c.at + length m)) (after-ended meaning c tracks m (b ∷ buffered) (omega arith) i.0) refl refl
 quiet meaning (InBody emit at kind next left own) i =
     is_quiet (continuation_at meaning (InBody emit at kind next left own)) (record { effects = emit []; outcome = CutOff (fault Truncated (Some kind) at) }) (body-ended meaning emit at kind next left own i.0) i.3 refl
 quiet meaning (InOpenBody emit at kind zero left own) i = is_quiet (continuation_at meaning (InOpenBody emit at kind zero left own)) (record { effects = emit []; outcome = Sound }) (open-ended meaning emit at kind zero left own refl) i.1 refl
@@ -92,22 +92,22 @@ quiet meaning (InOpenBody emit at kind (suc needed) left own) i =
 
 -- ---- where a machine is by what it keeps is a place
 
-pub at-place : (number : ℕ) (tracks : Option (List Track)) (head : List ℕ) (s : State) → IsState tracks head s → IsPlace (place_of number tracks head s)
-at-place number tracks head (states.Header at) i = i
-at-place number tracks head (states.Buffering h) i = (i.1, i.2)
-at-place number tracks head (states.MdatHeader w) i = (i.0, omega (arith, i.1.size, i.1.near))
-at-place number tracks head (states.Body b None) i = (i.1, i.2, i.3, refl)
-at-place number tracks head (states.Body b (Some w)) i = (i.1, i.2, i.3, refl)
-at-place number tracks head (states.OpenBody b w) i = (i.1, refl)
-at-place number tracks head (states.Copied b) i = (i.1, i.2, i.3, refl)
-at-place number tracks head (states.OpenCopied b) i = (i.1, refl)
-at-place number tracks head (states.Media r) i = (i.2.some, i.2.within, i.2.near, output_from-quiet (media_position r.cut (moof_in r.pending_moof) (known tracks) (r.body.next - r.body.left) r.number r.media) i.2.media.no_head_ready)
-at-place number tracks head (states.OpenMedia r) i = (i.2.near, output_from-quiet (media_position r.cut (moof_in r.pending_moof) (known tracks) (longest - r.body.left) r.number r.media) i.2.media.no_head_ready)
+pub at-place : (number : ℕ) (tracks : Option (List Track)) (header_bytes : List ℕ) (s : State) → IsState tracks header_bytes s → IsPlace (place_of number tracks header_bytes s)
+at-place number tracks header_bytes (states.Header at) i = i
+at-place number tracks header_bytes (states.Buffering h) i = (i.1, i.2)
+at-place number tracks header_bytes (states.MdatHeader w) i = (i.0, omega (arith, i.1.size, i.1.near))
+at-place number tracks header_bytes (states.Body b None) i = (i.1, i.2, i.3, refl)
+at-place number tracks header_bytes (states.Body b (Some w)) i = (i.1, i.2, i.3, refl)
+at-place number tracks header_bytes (states.OpenBody b w) i = (i.1, refl)
+at-place number tracks header_bytes (states.Copied b) i = (i.1, i.2, i.3, refl)
+at-place number tracks header_bytes (states.OpenCopied b) i = (i.1, refl)
+at-place number tracks header_bytes (states.Media r) i = (i.2.some, i.2.within, i.2.near, output_from-quiet (media_position r.cut (moof_in r.pending_moof) (known tracks) (r.body.next - r.body.left) r.number r.media) i.2.media.no_head_ready)
+at-place number tracks header_bytes (states.OpenMedia r) i = (i.2.near, output_from-quiet (media_position r.cut (moof_in r.pending_moof) (known tracks) (longest - r.body.left) r.number r.media) i.2.media.no_head_ready)
 
 -- no place is far past the longest stream
 pub reached-most : (p : Place) → IsPlace p → reached_of p ≤ 2 ^ 62 + 31
-reached-most (InHeader c held) i = omega (arith, i.0, i.1, need-most held)
-reached-most (InBuffered c kind size held) i = omega (arith, i.0, i.1)
-reached-most (InMdatHeader c tracks m held) i = omega (arith, i.0, i.1, need-most held)
+reached-most (InHeader c buffered) i = omega (arith, i.0, i.1, need-most buffered)
+reached-most (InBuffered c kind size buffered) i = omega (arith, i.0, i.1)
+reached-most (InMdatHeader c tracks m buffered) i = omega (arith, i.0, i.1, need-most buffered)
 reached-most (InBody emit at kind next left own) i = omega (arith, i.2)
 reached-most (InOpenBody emit at kind needed left own) i = omega arith

@@ -148,7 +148,7 @@ module _ (cut : Cut) (o : Environment) (at : ℕ) (tracks : List Track) (input :
   fit = boxes_fit at input b is.boxes
 
   head_is : g.header_len ≡ b.mdat.header_len
-  head_is = is.boxes.mdat.head
+  head_is = is.boxes.mdat.header_len
 
   -- ---- it is accepted
 
@@ -176,7 +176,7 @@ module _ (cut : Cut) (o : Environment) (at : ℕ) (tracks : List Track) (input :
   ends = ap (end_of (at + length m)) is.boxes.mdat.sized
 
   len : length payload ≡ s - g.header_len
-  len = length-take-le (s - g.header_len) (drop g.header_len x) (omega (arith, head_is, fit.head, fit.whole, length-drop g.header_len x, length-drop (length m) input))
+  len = length-take-le (s - g.header_len) (drop g.header_len x) (omega (arith, head_is, fit.header_len, fit.whole, length-drop g.header_len x, length-drop (length m) input))
 
   lie : 0 < l.run.bytes → (pos f.payload.start ≤ℤ l.run.place) × (end_place l.run ≤ℤ pos end)
   lie some =
@@ -187,11 +187,11 @@ module _ (cut : Cut) (o : Environment) (at : ℕ) (tracks : List Track) (input :
   ascends : Ascends f.payload.start end (output_fragments cut f)
   ascends =
       subst (λ (runs : List Run). Ascends f.payload.start end (runs_fragments cut m tracks number runs)) (sym taken)
-      (runs_ascend cut m tracks number f.payload.start end (l.run ∷ []) (omega (arith, head_is, fit.head)) (run_is at tracks input b l is, tt) (lie, tt) (tt, tt))
+      (runs_ascend cut m tracks number f.payload.start end (l.run ∷ []) (omega (arith, head_is, fit.header_len)) (run_is at tracks input b l is, tt) (lie, tt) (tt, tt))
 
   effects : output_from (first_position cut f) payload ≡ fragments_effects put fragment_ends (length pieces)
   effects =
-      let last : end ≡ f.payload.start + length payload = omega (arith, len, head_is, fit.head) in
+      let last : end ≡ f.payload.start + length payload = omega (arith, len, head_is, fit.header_len) in
       let begins : f.payload.start ≡ media_start at b = omega (arith, head_is) in
       let same : payload ≡ media_in input b = ap (λ k. take (s - k) (drop k x)) head_is in
       output_of-slices f.payload.start payload (output_fragments cut f) (subst (λ e. Ascends f.payload.start e (output_fragments cut f)) last ascends)
@@ -296,7 +296,7 @@ module _ (cut : Cut) (o : Environment) (at : ℕ) (tracks : List Track) (input :
         let to_end = GoesOn-all meaning (at + length m) g.kind accepted_of o' (first_position cut f) after_it own payload (omega (arith, len)) moves in
         let effects_of = GoesOn-then low_claim to_head (body (length payload)) to_body in
         let passed = GoesOn-take_more low_claim g.header_len x effects_of (s - g.header_len) r to_end in
-        let all : g.header_len + (s - g.header_len) ≡ s = omega (arith, head_is, fit.head) in
+        let all : g.header_len + (s - g.header_len) ≡ s = omega (arith, head_is, fit.header_len) in
         let goes = GoesOn-take_more low (length m) input to_after s r (subst (λ k. GoesOn listed_of o' (waits []) (take k x) r) all passed) in
         let there : at + length m + s ≡ at + n = omega arith in
         let next : (splitting cut).numbered f ≡ t.fragments + 1 = omega (arith, counted, fragments) in

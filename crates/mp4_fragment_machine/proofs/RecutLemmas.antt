@@ -450,6 +450,6 @@ room-in at n (Exact s) end room e = let same : at + s ≡ end = some-same e in o
 room-in at n ToEnd end room e = absurd (cc)
 
 -- runs whose pieces can be written are runs of their moof
-pub all-runs : (cut : Cut) (held : List ℕ) (runs : List Run) → AllByRecursion (CanCut cut held) runs → AllByRecursion (IsRunOf held) runs
-all-runs cut held [] all = tt
-all-runs cut held (run ∷ runs) all = (all.0.is, all-runs cut held runs all.1)
+pub all-runs : (cut : Cut) (moof_bytes : List ℕ) (runs : List Run) → AllByRecursion (CanCut cut moof_bytes) runs → AllByRecursion (IsRunOf moof_bytes) runs
+all-runs cut moof_bytes [] all = tt
+all-runs cut moof_bytes (run ∷ runs) all = (all.0.is, all-runs cut moof_bytes runs all.1)

@@ -37,7 +37,7 @@ use Rattle.mp4_grammar.specs.declared.command.Command.TheVariants.{Check, Sample
 use Rattle.mp4_fragment_machine.specs.declared.state.Counter.{Counter}
 use Rattle.mp4_fragment_machine.specs.States.{HasStopped, IsCounted, cut_most, cut_reads, taken_by}
 use Rattle.mp4_fragment_machine.specs.Implementation.Steps.{Borrowed, StopsIn, at_state, environment_before}
-use Rattle.mp4_fragment_machine.specs.declared.state.Session.{Session}
+use Rattle.mp4_fragment_machine.specs.declared.state.Carried.{Carried}
 use Rattle.mp4_fragment_machine.specs.declared.state.State.TheVariants as states
 use Rattle.mp4_fragment_machine.specs.Implementation.InPlace.{AreBoxes, payload_in}
 use Rattle.mp4_fragment_machine.specs.declared.state.PendingMoof.{PendingMoof}
@@ -112,7 +112,7 @@ module _ (meaning : Meaning) (number : ℕ) (o : Environment) (at : ℕ) (tracks
     abbrev w : PendingMoof
     w = record {
       moof = record { at = at; kind = h.kind; size = length m; bytes = m };
-      runs = record { rows = map (row_of_run 0) (moof_runs (moof_at m at) tracks); late = None };
+      runs = record { rows = map (row_of_run 0) (moof_runs (moof_at m at) tracks); faulty_by_track = None };
     }
 
     rows : HasRows tracks w
@@ -133,7 +133,7 @@ module _ (meaning : Meaning) (number : ℕ) (o : Environment) (at : ℕ) (tracks
     misplaced : (f : Fault) → place_fault (payload_in (at + are.span.size) b.mdat) (l.run ∷ []) ≡ Some f → fragment_fault meaning (fragment c tracks m g) ≡ Some f
     misplaced f bad =
         let next : at + are.span.size ≡ at + length m = omega (arith, len_is) in
-        let start : at + are.span.size + b.mdat.header_len ≡ at + are.span.size + g.header_len = omega (arith, are.mdat.head) in
+        let start : at + are.span.size + b.mdat.header_len ≡ at + are.span.size + g.header_len = omega (arith, are.mdat.header_len) in
         let end : Some (at + are.span.size + b.mdat.size) ≡ end_of (at + are.span.size) g.size = ap (end_of (at + are.span.size)) (sym are.mdat.sized) in
         misplaced-run meaning (payload_in (at + are.span.size) b.mdat) (fragment c tracks m g) f (payload-of (payload_in (at + are.span.size) b.mdat) c tracks m (at + are.span.size) g next start end)
         (ap (place_fault (payload_in (at + are.span.size) b.mdat)) single_run.run ∙ bad)
@@ -157,15 +157,15 @@ module _ (meaning : Meaning) (number : ℕ) (o : Environment) (at : ℕ) (tracks
         rw tally (subst (λ k. StopsAt o (environment o.written o.waiting k (plus o.tally (inspected (moof_at m at)))) starts (input ++ more) (Stream f)) same all)
 
 -- a machine stops so, where the table of the tracks is still claimed
-pub StopsIn-whole : (l : Borrowed) (old new : Session) (at : ℕ) (input : List ℕ) (f : Fault) (tracks : List Track) → old.tracks ≡ Some tracks → old.head ≡ [] → l.failed' ≡ l.failed → new.operation ≡ old.operation → new.tracks ≡ old.tracks → new.head ≡ []
+pub StopsIn-whole : (l : Borrowed) (old new : Carried) (at : ℕ) (input : List ℕ) (f : Fault) (tracks : List Track) → old.tracks ≡ Some tracks → old.header_bytes ≡ [] → l.failed' ≡ l.failed → new.operation ≡ old.operation → new.tracks ≡ old.tracks → new.header_bytes ≡ []
     → 64 * length tracks ≤ l.account'.live → HasStopped new.operation new.counter
     → ((more : List ℕ) → StopsAt (environment_before l old) (environment l.written' l.waiting' (given_back l.account' (64 * length tracks)) new.counter.tally) (continuation_at (operation_meaning old.operation) (InHeader (context at (Some tracks) (number_in old.operation old.counter.tally)) [])) (input ++ more) (Stream f))
     → StopsIn l old new (at_state old (states.Header at)) input (Stream f)
-StopsIn-whole l old new at input f tracks known empty unfailed operation same head left counted stops = record {
+StopsIn-whole l old new at input f tracks known empty unfailed operation same header_bytes left counted stops = record {
   step = record { stops = λ more. rw (known, empty) (stops more); failed = λ e. absurd cc; unfailed = λ _. unfailed };
   operation = operation;
   tracks = same;
-  empty = head;
+  empty = header_bytes;
   left = rw known left;
   counted = counted;
 }

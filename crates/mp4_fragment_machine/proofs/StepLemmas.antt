@@ -16,7 +16,7 @@ use Rattle.mp4_fragment_machine.specs.Places.{Place, claim_of, continuation_at}
 use Rattle.mp4_fragment_machine.specs.States.{HasStopped, IsCounted, IsPendingMoof, most_counted}
 use Rattle.mp4_fragment_machine.specs.Implementation.Steps.{Advances, Borrowed, GoesTo, StopsIn, at_state, environment_before, environment_stopped, with_head}
 use Rattle.mp4_fragment_machine.specs.declared.state.Counter.{Counter}
-use Rattle.mp4_fragment_machine.specs.declared.state.Session.{Session}
+use Rattle.mp4_fragment_machine.specs.declared.state.Carried.{Carried}
 use Rattle.mp4_fragment_machine.specs.declared.state.State.{State}
 use Rattle.mp4_fragment_machine.specs.declared.state.State.TheVariants as states
 use Rattle.mp4_fragment_machine.specs.declared.state.PendingMoof.{PendingMoof}
@@ -30,13 +30,13 @@ use Rattle.mp4_machine.proofs.StepLemmas as reading
 -- ---- bytes come first
 
 -- they move the place, and nothing else but what is claimed
-pub record Accepts (l : Borrowed) (account : Account) (old mid : Session) (from : Place) (bytes : List ℕ) (to : Place) : Type 0 where
+pub record Accepts (l : Borrowed) (account : Account) (old mid : Carried) (from : Place) (bytes : List ℕ) (to : Place) : Type 0 where
   pub claim : claim_of from ≤ l.account.live
   pub operation : mid.operation ≡ old.operation
   pub tracks : mid.tracks ≡ old.tracks
   pub goes : GoesOn (environment_before l old) (environment l.written l.waiting account mid.counter.tally) (continuation_at (operation_meaning old.operation) from) bytes (continuation_at (operation_meaning old.operation) to)
 
-module _ {l : Borrowed} {account : Account} {old mid new : Session} {from to : Place} where
+module _ {l : Borrowed} {account : Account} {old mid new : Carried} {from to : Place} where
   -- and then a step that takes none
   pub GoesTo-then : {bytes : List ℕ} {s : State} → Accepts l account old mid from bytes to → GoesTo (record l { account = account }) mid new to [] s → GoesTo l old new from bytes s
   GoesTo-then x g = record { step = reading.GoesTo-then (record { claim = x.claim; goes = x.goes }) (rw x.operation at g.step); operation = rw x.operation at g.operation; state = g.state; counted = g.counted }
@@ -51,21 +51,21 @@ module _ {l : Borrowed} {account : Account} {old mid new : Session} {from to : P
     counted = h.counted;
   }
 
-pub Advances-then : (l : Borrowed) (account : Account) (old mid new : Session) (from to : State) (result : Result State Stop) → Accepts l account old mid (at_state old from) [] (at_state mid to) → Advances (record l { account = account }) mid new to result → Advances l old new from result
+pub Advances-then : (l : Borrowed) (account : Account) (old mid new : Carried) (from to : State) (result : Result State Stop) → Accepts l account old mid (at_state old from) [] (at_state mid to) → Advances (record l { account = account }) mid new to result → Advances l old new from result
 Advances-then l account old mid new from to (Ok s) x g = GoesTo-then x g
 Advances-then l account old mid new from to (Err e) x h = StopsIn-then 0 [] x h
 
 -- bytes of a header
-pub accepts_head : {l : Borrowed} (k : Session) (at : ℕ) {x head : List ℕ} → table_of k.tracks ≤ l.account.live → head ≡ k.head ++ x → Accepts l l.account k (with_head head k) (at_state k (states.Header at)) x (at_state (with_head head k) (states.Header at))
-accepts_head {l = l} k at {x = x} {head = head} low e = record {
+pub accepts_head : {l : Borrowed} (k : Carried) (at : ℕ) {x header_bytes : List ℕ} → table_of k.tracks ≤ l.account.live → header_bytes ≡ k.header_bytes ++ x → Accepts l l.account k (with_head header_bytes k) (at_state k (states.Header at)) x (at_state (with_head header_bytes k) (states.Header at))
+accepts_head {l = l} k at {x = x} {header_bytes = header_bytes} low e = record {
   claim = low;
   operation = refl;
   tracks = refl;
-  goes = GoesOn-head (operation_meaning k.operation) (environment_before l k) (context at k.tracks (number_in k.operation k.counter.tally)) k.head x head e;
+  goes = GoesOn-head (operation_meaning k.operation) (environment_before l k) (context at k.tracks (number_in k.operation k.counter.tally)) k.header_bytes x header_bytes e;
 }
 
 -- bytes of a moov or moof
-pub accepts_held : {l : Borrowed} (k : Session) (h : BufferedBox) {x : List ℕ} → table_of k.tracks + h.size ≤ l.account.live → Accepts l l.account k k (at_state k (states.Buffering h)) x (at_state k (states.Buffering (record h { bytes = h.bytes ++ x })))
+pub accepts_held : {l : Borrowed} (k : Carried) (h : BufferedBox) {x : List ℕ} → table_of k.tracks + h.size ≤ l.account.live → Accepts l l.account k k (at_state k (states.Buffering h)) x (at_state k (states.Buffering (record h { bytes = h.bytes ++ x })))
 accepts_held {l = l} k h {x = x} low = record {
   claim = low;
   operation = refl;
@@ -73,26 +73,26 @@ accepts_held {l = l} k h {x = x} low = record {
   goes = GoesOn-held (operation_meaning k.operation) (environment_before l k) (context h.at k.tracks (number_in k.operation k.counter.tally)) h.kind h.size h.bytes x;
 }
 
-module _ {l : Borrowed} {old mid new : Session} {from to : Place} where
+module _ {l : Borrowed} {old mid new : Carried} {from to : Place} where
   -- a step that takes no bytes and borrows no writer, after what was written
   pub GoesTo-after : {a : Option (List ℕ)} {v : Pending} {b : Account} {f : Bool} {bytes : List ℕ} {s : State} → GoesTo (record l { written = a; waiting = v; account = b; failed = f }) mid new to [] s → claim_of from ≤ l.account.live → mid.operation ≡ old.operation → f ≡ l.failed
       → GoesOn (environment_before l old) (environment a v b mid.counter.tally) (continuation_at (operation_meaning old.operation) from) bytes (continuation_at (operation_meaning old.operation) to) → GoesTo l old new from bytes s
   GoesTo-after h low operation kept g = record { step = record { goes = GoesOn-then low g _ (rw operation at h.step.goes); unfailed = h.step.unfailed ∙ kept; claim = h.step.claim }; operation = h.operation ∙ operation; state = h.state; counted = h.counted }
 
 -- bytes of the header after the pending moof
-pub accepts_mdat_header : {l : Borrowed} (k : Session) (w : PendingMoof) {x head : List ℕ} → IsPendingMoof k.tracks w → claim_of (at_state k (states.MdatHeader w)) ≤ l.account.live → head ≡ k.head ++ x → Accepts l l.account k (with_head head k) (at_state k (states.MdatHeader w)) x (at_state (with_head head k) (states.MdatHeader w))
-accepts_mdat_header {l = l} k w {x = x} {head = head} i low e =
+pub accepts_mdat_header : {l : Borrowed} (k : Carried) (w : PendingMoof) {x header_bytes : List ℕ} → IsPendingMoof k.tracks w → claim_of (at_state k (states.MdatHeader w)) ≤ l.account.live → header_bytes ≡ k.header_bytes ++ x → Accepts l l.account k (with_head header_bytes k) (at_state k (states.MdatHeader w)) x (at_state (with_head header_bytes k) (states.MdatHeader w))
+accepts_mdat_header {l = l} k w {x = x} {header_bytes = header_bytes} i low e =
     let number = number_in k.operation k.counter.tally in
     record {
       claim = low;
       operation = refl;
       tracks = refl;
-      goes = GoesOn-after_head (operation_meaning k.operation) number (environment_before l k) w k.tracks i (rw (claimed_after number w k.tracks i k.head) at low) k.head x head e;
+      goes = GoesOn-after_head (operation_meaning k.operation) number (environment_before l k) w k.tracks i (rw (claimed_after number w k.tracks i k.header_bytes) at low) k.header_bytes x header_bytes e;
     }
 
 -- no byte came of the next header
-pub no_head : (head : List ℕ) → head ≡ [] → length head < need head
-no_head head e = omega (arith, ap length e, need-least head)
+pub no_head : (header_bytes : List ℕ) → header_bytes ≡ [] → length header_bytes < need header_bytes
+no_head header_bytes e = omega (arith, ap length e, need-least header_bytes)
 
 -- ---- it stops
 
@@ -101,7 +101,7 @@ pub counted_stop : (operation : Operation) (c : Counter) (b : ℕ) → IsCounted
 counted_stop operation c b i = counted_later operation c b most_counted 0 0 i.far (omega arith) (omega arith) i
 
 -- a fault where nothing changed but the bytes of a header that came
-pub StopsIn-refused : {l : Borrowed} {old new : Session} {from : Place} {input : List ℕ} {f : Fault} (b : ℕ) → l.failed' ≡ l.failed → new.operation ≡ old.operation → new.tracks ≡ old.tracks → new.head ≡ [] → table_of old.tracks ≤ l.account'.live → IsCounted new.operation new.counter b 0 0
+pub StopsIn-refused : {l : Borrowed} {old new : Carried} {from : Place} {input : List ℕ} {f : Fault} (b : ℕ) → l.failed' ≡ l.failed → new.operation ≡ old.operation → new.tracks ≡ old.tracks → new.header_bytes ≡ [] → table_of old.tracks ≤ l.account'.live → IsCounted new.operation new.counter b 0 0
     → ((more : List ℕ) → Refuses (environment_before l old) (environment_stopped l new (table_of old.tracks)) (continuation_at (operation_meaning old.operation) from) (input ++ more) f) → StopsIn l old new from input (Stream f)
 StopsIn-refused {new = new} b unfailed operation tracks empty left counted refuses = record { step = reading.StopsIn-refused unfailed refuses; operation = operation; tracks = tracks; empty = empty; left = left; counted = counted_stop new.operation new.counter b counted }
 

@@ -17,9 +17,9 @@ use Rattle.mp4_fragment_machine.specs.States.{after_body}
 use Rattle.mp4_fragment_machine.specs.declared.state.PendingMoof.{PendingMoof}
 
 -- bytes of a box came that is held
-pub GoesOn-held : (meaning : Meaning) (o : Environment) (c : Context) (kind : FourCc) (size : ℕ) (held x : List ℕ) → GoesOn o o (continuation_at meaning (InBuffered c kind size held)) x (continuation_at meaning (InBuffered c kind size (held ++ x)))
-GoesOn-held meaning o c kind size held x =
-    GoesOn-gathered o (λ l. then_read (reads_in meaning) (buffered_body meaning c kind size l)) c.at (table_of c.tracks + size) held x (held ++ x) refl
+pub GoesOn-held : (meaning : Meaning) (o : Environment) (c : Context) (kind : FourCc) (size : ℕ) (buffered x : List ℕ) → GoesOn o o (continuation_at meaning (InBuffered c kind size buffered)) x (continuation_at meaning (InBuffered c kind size (buffered ++ x)))
+GoesOn-held meaning o c kind size buffered x =
+    GoesOn-gathered o (λ l. then_read (reads_in meaning) (buffered_body meaning c kind size l)) c.at (table_of c.tracks + size) buffered x (buffered ++ x) refl
 
 -- bytes that are no header, or are one, are just those that are needed
 pub len_of_bad : (x : List ℕ) → length x ≤ need x → header_at x ≡ steps.BadSize → length x ≡ need x

@@ -10,16 +10,16 @@ use Rattle.mp4_grammar.specs.Items.{reads_in}
 use Rattle.mp4_fragment_machine.specs.Places.{Untouched}
 use Rattle.mp4_fragment_machine.specs.States.{IsState, after_body, claimed_in}
 use Rattle.mp4_fragment_machine.specs.Implementation.Steps.{CanStep, GoesTo, at_state, ledger_alone}
-use Rattle.mp4_fragment_machine.specs.declared.state.Session.{Session}
+use Rattle.mp4_fragment_machine.specs.declared.state.Carried.{Carried}
 use Rattle.mp4_fragment_machine.specs.declared.state.State.TheVariants as states
 use Rattle.mp4_fragment_machine.specs.declared.state.PendingMoof.{PendingMoof}
 use Rattle.mp4_fragment_machine.proofs.TakeLemmas.{after_at}
 
-pub IsState-within : (tracks : Option (List Track)) (head : List ℕ) (b : Body) (w : Option PendingMoof) (n : ℕ) → IsState tracks head (states.Body b w) → n < b.left → IsState tracks head (states.Body (record b { left = b.left - n }) w)
-IsState-within tracks head b w n is within = (is.0, omega (arith, within), omega (arith, is.2), is.3, is.4)
+pub IsState-within : (tracks : Option (List Track)) (header_bytes : List ℕ) (b : Body) (w : Option PendingMoof) (n : ℕ) → IsState tracks header_bytes (states.Body b w) → n < b.left → IsState tracks header_bytes (states.Body (record b { left = b.left - n }) w)
+IsState-within tracks header_bytes b w n is within = (is.0, omega (arith, within), omega (arith, is.2), is.3, is.4)
 
 -- the machine stays in the body: so much less of it is left
-pub GoesTo-within : (u : Untouched) (a : Account) (k : Session) (b : Body) (w : Option PendingMoof) (input : List ℕ) → IsState k.tracks k.head (states.Body b w) → CanStep k a (states.Body b w) → 0 < length input → length input < b.left
+pub GoesTo-within : (u : Untouched) (a : Account) (k : Carried) (b : Body) (w : Option PendingMoof) (input : List ℕ) → IsState k.tracks k.header_bytes (states.Body b w) → CanStep k a (states.Body b w) → 0 < length input → length input < b.left
     → (0 < length input) × (length input ≤ length input) × GoesTo (ledger_alone u a a) k k (at_state k (states.Body b w)) (take (length input) input) (states.Body (record b { left = b.left - length input }) w)
 GoesTo-within u a k b w input is can some within =
     let next = after_body (number_in k.operation k.counter.tally) k.tracks w b.next in
@@ -30,7 +30,7 @@ GoesTo-within u a k b w input is can some within =
       record {
         step = record { goes = passed; unfailed = refl; claim = can.claim };
         operation = refl;
-        state = IsState-within k.tracks k.head b w (length input) is within;
+        state = IsState-within k.tracks k.header_bytes b w (length input) is within;
         counted = can.counted;
       },
     )

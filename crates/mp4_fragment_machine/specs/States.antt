@@ -81,15 +81,15 @@ after_media tracks r = after_body (r.number + length (fragments_left r.cut (moof
 
 -- place of a machine with these tracks and these bytes of a header: the next output fragment has this number
 abbrev pub place_of : ℕ → Option (List Track) → List ℕ → State → Place
-place_of number tracks head (states.Header at) = InHeader (context at tracks number) head
-place_of number tracks head (states.Buffering h) = InBuffered (context h.at tracks number) h.kind h.size h.bytes
-place_of number tracks head (states.MdatHeader w) = InMdatHeader (context w.moof.at tracks number) (known tracks) w.moof.bytes head
-place_of number tracks head (states.Body b w) = InBody (λ _. no_effects) b.at b.kind (after_body number tracks w b.next) b.left (claimed_in tracks w)
-place_of number tracks head (states.OpenBody b w) = InOpenBody (λ _. no_effects) b.at b.kind b.needed b.left (claimed_in tracks w)
-place_of number tracks head (states.Copied b) = InBody (λ x. says x) b.at b.kind (context b.next tracks number) b.left (table_of tracks)
-place_of number tracks head (states.OpenCopied b) = InOpenBody (λ x. says x) b.at b.kind b.needed b.left (table_of tracks)
-place_of number tracks head (states.OpenMedia r) = InOpenBody (output_from (media_position r.cut (moof_in r.pending_moof) (known tracks) (longest - r.body.left) r.number r.media)) r.body.at r.body.kind r.body.needed r.body.left (claimed_in tracks (Some r.pending_moof))
-place_of number tracks head (states.Media r) = InBody (output_from (media_position r.cut (moof_in r.pending_moof) (known tracks) (r.body.next - r.body.left) r.number r.media)) r.body.at r.body.kind (after_media tracks r) r.body.left (claimed_in tracks (Some r.pending_moof))
+place_of number tracks header_bytes (states.Header at) = InHeader (context at tracks number) header_bytes
+place_of number tracks header_bytes (states.Buffering h) = InBuffered (context h.at tracks number) h.kind h.size h.bytes
+place_of number tracks header_bytes (states.MdatHeader w) = InMdatHeader (context w.moof.at tracks number) (known tracks) w.moof.bytes header_bytes
+place_of number tracks header_bytes (states.Body b w) = InBody (λ _. no_effects) b.at b.kind (after_body number tracks w b.next) b.left (claimed_in tracks w)
+place_of number tracks header_bytes (states.OpenBody b w) = InOpenBody (λ _. no_effects) b.at b.kind b.needed b.left (claimed_in tracks w)
+place_of number tracks header_bytes (states.Copied b) = InBody (λ x. says x) b.at b.kind (context b.next tracks number) b.left (table_of tracks)
+place_of number tracks header_bytes (states.OpenCopied b) = InOpenBody (λ x. says x) b.at b.kind b.needed b.left (table_of tracks)
+place_of number tracks header_bytes (states.OpenMedia r) = InOpenBody (output_from (media_position r.cut (moof_in r.pending_moof) (known tracks) (longest - r.body.left) r.number r.media)) r.body.at r.body.kind r.body.needed r.body.left (claimed_in tracks (Some r.pending_moof))
+place_of number tracks header_bytes (states.Media r) = InBody (output_from (media_position r.cut (moof_in r.pending_moof) (known tracks) (r.body.next - r.body.left) r.number r.media)) r.body.at r.body.kind (after_media tracks r) r.body.left (claimed_in tracks (Some r.pending_moof))
 
 -- ---- what holds of it
 
@@ -131,15 +131,15 @@ pub record IsOpenRecut (cut : Cut) (tracks : List Track) (number : ℕ) (b : Ope
 
 -- only in a header there are bytes of one
 abbrev pub IsState : Option (List Track) → List ℕ → State → Type 0
-IsState tracks head (states.Header at) = (length head < need head) × (at ≤ longest)
-IsState tracks head (states.Buffering h) = (head ≡ []) × (length h.bytes < h.size) × (h.at + h.size ≤ longest) × Begins h.size h.bytes
-IsState tracks head (states.MdatHeader w) = (length head < need head) × IsPendingMoof tracks w
-IsState tracks head (states.Body b w) = (head ≡ []) × (0 < b.left) × (b.left ≤ b.next) × (b.next ≤ longest) × MayBePending tracks w
-IsState tracks head (states.OpenBody b w) = (head ≡ []) × (b.left ≤ longest) × MayBePending tracks w
-IsState tracks head (states.Copied b) = (head ≡ []) × (0 < b.left) × (b.left ≤ b.next) × (b.next ≤ longest)
-IsState tracks head (states.OpenCopied b) = (head ≡ []) × (b.left ≤ longest)
-IsState tracks head (states.Media r) = (head ≡ []) × (tracks ≡ Some (known tracks)) × IsRecut r.cut (known tracks) r.number r.body r.media r.pending_moof
-IsState tracks head (states.OpenMedia r) = (head ≡ []) × (tracks ≡ Some (known tracks)) × IsOpenRecut r.cut (known tracks) r.number r.body r.media r.pending_moof
+IsState tracks header_bytes (states.Header at) = (length header_bytes < need header_bytes) × (at ≤ longest)
+IsState tracks header_bytes (states.Buffering h) = (header_bytes ≡ []) × (length h.bytes < h.size) × (h.at + h.size ≤ longest) × Begins h.size h.bytes
+IsState tracks header_bytes (states.MdatHeader w) = (length header_bytes < need header_bytes) × IsPendingMoof tracks w
+IsState tracks header_bytes (states.Body b w) = (header_bytes ≡ []) × (0 < b.left) × (b.left ≤ b.next) × (b.next ≤ longest) × MayBePending tracks w
+IsState tracks header_bytes (states.OpenBody b w) = (header_bytes ≡ []) × (b.left ≤ longest) × MayBePending tracks w
+IsState tracks header_bytes (states.Copied b) = (header_bytes ≡ []) × (0 < b.left) × (b.left ≤ b.next) × (b.next ≤ longest)
+IsState tracks header_bytes (states.OpenCopied b) = (header_bytes ≡ []) × (b.left ≤ longest)
+IsState tracks header_bytes (states.Media r) = (header_bytes ≡ []) × (tracks ≡ Some (known tracks)) × IsRecut r.cut (known tracks) r.number r.body r.media r.pending_moof
+IsState tracks header_bytes (states.OpenMedia r) = (header_bytes ≡ []) × (tracks ≡ Some (known tracks)) × IsOpenRecut r.cut (known tracks) r.number r.body r.media r.pending_moof
 
 -- ---- the fragment of the pending moof
 
@@ -250,7 +250,7 @@ stopped = states.OpenBody (record { at = 0; kind = record { 0 = codes "mdat" }; 
 pub record Progress : Type 0 where
   pub operation : Operation
   pub tracks : Option (List Track)
-  pub head : List ℕ
+  pub header_bytes : List ℕ
   pub state : State
   pub counter : Counter
 
@@ -259,21 +259,21 @@ abbrev pub begun : Operation → Progress
 begun operation = record {
   operation = operation;
   tracks = None;
-  head = [];
+  header_bytes = [];
   state = states.Header 0;
   counter = record { tally = uncounted; steps = record { rows = 0 } };
 }
 
 -- its place
 abbrev pub place_in : Progress → Place
-place_in p = place_of (number_in p.operation p.counter.tally) p.tracks p.head p.state
+place_in p = place_of (number_in p.operation p.counter.tally) p.tracks p.header_bytes p.state
 
 abbrev pub continuation_in : Progress → Continuation
 continuation_in p = continuation_at (operation_meaning p.operation) (place_in p)
 
 -- its counts are bounded by its place in the stream
 abbrev pub IsMachine : Operation → Option (List Track) → List ℕ → State → Counter → Type 0
-IsMachine operation tracks head s c = IsState tracks head s × HasCounted operation s c
+IsMachine operation tracks header_bytes s c = IsState tracks header_bytes s × HasCounted operation s c
 
 -- ---- what it lists
 

@@ -21,7 +21,7 @@ use crate::body::{arrive, back};
 use crate::lines::put_runs;
 use crate::mdat_check::{check_mdat, payload_of};
 use crate::moof_totals::add_up_runs;
-use crate::state::{Counter, PendingMoof, Session, State};
+use crate::state::{Carried, Counter, PendingMoof, State};
 use mp4_box::{Header, Size};
 use mp4_ends::{Failed, Sink};
 use mp4_grammar::Command;
@@ -101,18 +101,18 @@ fn enter(
     header: &Header,
     needed: u64,
     pending_moof: PendingMoof,
-    session: &mut Session,
+    carried: &mut Carried,
     ledger: &mut Ledger,
 ) -> State
     requires room { HasRoom header.now.size header.now.header_len }
     requires near { least_end at header.now header.now.size ≤ longest }
-    requires pending_moof { IsPendingMoof session.old.tracks pending_moof }
-    requires empty { session.old.head ≡ [] }
-    requires claim { claimed_in session.old.tracks (Some pending_moof) ≤ ledger.old.live }
-    requires counted { IsCounted session.old.operation session.old.counter (bound_after at header.now.size)
+    requires pending_moof { IsPendingMoof carried.old.tracks pending_moof }
+    requires empty { carried.old.header_bytes ≡ [] }
+    requires claim { claimed_in carried.old.tracks (Some pending_moof) ≤ ledger.old.live }
+    requires counted { IsCounted carried.old.operation carried.old.counter (bound_after at header.now.size)
         0 (moof_samples (moof_in pending_moof)) }
-    ensures { (u : Untouched) → GoesTo (ledger_alone u ledger.old ledger.new) session.old session.new
-        (in_mdat (number_in session.old.operation session.old.counter.tally) session.old.tracks pending_moof at
+    ensures { (u : Untouched) → GoesTo (ledger_alone u ledger.old ledger.new) carried.old carried.new
+        (in_mdat (number_in carried.old.operation carried.old.counter.tally) carried.old.tracks pending_moof at
         header.now needed header.now.size) [] result }
 {
     match header.size {
@@ -123,7 +123,7 @@ fn enter(
                 next: at + size,
                 left: size - header.header_len,
             };
-            arrive(body, Some(pending_moof), session, ledger)
+            arrive(body, Some(pending_moof), carried, ledger)
         }
         Size::ToEnd => {
             let body = OpenBody {
@@ -147,17 +147,17 @@ pub(crate) fn begin_listed<W: Sink>(
     command: Command,
     pending_moof: PendingMoof,
     header: &Header,
-    head: &[u8],
-    session: &mut Session,
+    header_bytes: &[u8],
+    carried: &mut Carried,
     ledger: &mut Ledger,
     out: &mut Block,
     w: &mut W,
 ) -> Result<State, Stop>
-    requires { MayBeginFragment (operations.List command) session.old ledger.old pending_moof header.now head.now }
+    requires { MayBeginFragment (operations.List command) carried.old ledger.old pending_moof header.now header_bytes.now }
     ensures { Advances (borrowed W.contents W.has_failed w.old w.new out.old out.new ledger.old ledger.new)
-        (with_head head.now session.old) session.new (states.MdatHeader pending_moof) result }
+        (with_head header_bytes.now carried.old) carried.new (states.MdatHeader pending_moof) result }
 {
-    let Some(list) = &mut session.tracks else {
+    let Some(list) = &mut carried.tracks else {
         unreachable!();
     };
     match check_mdat(&pending_moof, header, list) {
@@ -173,11 +173,11 @@ pub(crate) fn begin_listed<W: Sink>(
         &pending_moof,
         header,
         list,
-        &mut session.counter,
+        &mut carried.counter,
         out,
         w,
     ) {
-        Ok(needed) => Ok(enter(at, header, needed, pending_moof, session, ledger)),
+        Ok(needed) => Ok(enter(at, header, needed, pending_moof, carried, ledger)),
         Err(Failed) => {
             back(Some(pending_moof), ledger);
             Err(Stop::Write)

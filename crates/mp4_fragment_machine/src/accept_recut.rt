@@ -150,7 +150,7 @@ fn reads_per_row(cut: &Cut) -> u64
 pub(crate) fn begin_split<W: Sink>(
     pending_moof: PendingMoof,
     header: &Header,
-    head: &[u8],
+    header_bytes: &[u8],
     tracks: &TrackList,
     cut: &Cut,
     ledger: &mut Ledger,
@@ -159,8 +159,8 @@ pub(crate) fn begin_split<W: Sink>(
     w: &mut W,
 ) -> Result<Split, Stop>
     requires room { HasRoom header.now.size header.now.header_len }
-    requires len { length head.now ≡ need head.now }
-    requires is { header_at head.now ≡ steps.Whole header.now }
+    requires len { length header_bytes.now ≡ need header_bytes.now }
+    requires is { header_at header_bytes.now ≡ steps.Whole header.now }
     requires pending_moof { IsPendingMoof (Some tracks.now) pending_moof }
     requires claim { claimed_in (Some tracks.now) (Some pending_moof) ≤ ledger.old.live }
     requires numbers { counter.old.tally.fragments + 1 ≤ 2 ^ 32 }
@@ -168,7 +168,7 @@ pub(crate) fn begin_split<W: Sink>(
     requires few { counter.old.tally.samples < 2 ^ 100 }
     requires small { counter.old.tally.media_bytes < 2 ^ 63 }
     ensures { BeginsSplit cut.now (recut_fragment pending_moof tracks.now
-        (counter.old.tally.fragments + 1) header.now) pending_moof header.now head.now
+        (counter.old.tally.fragments + 1) header.now) pending_moof header.now header_bytes.now
         (borrowed W.contents W.has_failed w.old w.new out.old out.new ledger.old ledger.new)
         counter.old counter.new result }
 {

@@ -7,10 +7,10 @@ ghost use Rattle.mp4_ledger.specs.Memory.{given_back};
 ghost use Rattle.mp4_machine.specs.Bodies.{longest};
 ghost use Rattle.mp4_fragment_machine.specs.Places.{Untouched};
 ghost use Rattle.mp4_fragment_machine.specs.States.{IsPendingMoof, IsState, MayBePending, moof_in, taken_by};
-ghost use Rattle.mp4_fragment_machine.specs.Implementation.Steps.{CanStep, Consumes, GoesTo, at_state, ledger_alone};
+ghost use Rattle.mp4_fragment_machine.specs.Implementation.Steps.{CanStep, Consumes, GoesTo, MayTake, at_state, ledger_alone};
 ghost use Rattle.mp4_fragment_machine.specs.declared.state.State.TheVariants as states;
 
-use crate::state::{Counter, PendingMoof, Session, State, Taken};
+use crate::state::{Carried, Counter, PendingMoof, State, Taken};
 use mp4_frag::Moof;
 use mp4_init::TrackList;
 use mp4_ledger::Ledger;
@@ -58,23 +58,23 @@ pub(crate) fn back(pending_moof: Option<PendingMoof>, ledger: &mut Ledger)
 pub(crate) fn leave(
     body: &Body,
     pending_moof: Option<PendingMoof>,
-    session: &mut Session,
+    carried: &mut Carried,
     ledger: &mut Ledger,
 )
     requires none { body.now.left ≡ 0 }
     requires end { body.now.next ≤ longest }
-    requires pending_moof { MayBePending session.old.tracks pending_moof }
-    requires empty { session.old.head ≡ [] }
-    requires can { CanStep session.old ledger.old (states.Body body.now pending_moof) }
-    ensures { (u : Untouched) → GoesTo (ledger_alone u ledger.old ledger.new) session.old session.new
-        (at_state session.old (states.Body body.now pending_moof)) [] (states.Header body.now.next) }
+    requires pending_moof { MayBePending carried.old.tracks pending_moof }
+    requires empty { carried.old.header_bytes ≡ [] }
+    requires can { CanStep carried.old ledger.old (states.Body body.now pending_moof) }
+    ensures { (u : Untouched) → GoesTo (ledger_alone u ledger.old ledger.new) carried.old carried.new
+        (at_state carried.old (states.Body body.now pending_moof)) [] (states.Header body.now.next) }
 {
     let _ = body;
     let Some(pending_moof) = pending_moof else {
         return;
     };
-    match &mut session.tracks {
-        Some(list) => end_fragment(pending_moof, list, ledger, &mut session.counter),
+    match &mut carried.tracks {
+        Some(list) => end_fragment(pending_moof, list, ledger, &mut carried.counter),
         None => unreachable!(),
     }
 }
@@ -83,20 +83,20 @@ pub(crate) fn leave(
 pub(crate) fn arrive(
     body: Body,
     pending_moof: Option<PendingMoof>,
-    session: &mut Session,
+    carried: &mut Carried,
     ledger: &mut Ledger,
 ) -> State
     requires body { (body.left ≤ body.next) × (body.next ≤ longest) }
-    requires pending_moof { MayBePending session.old.tracks pending_moof }
-    requires empty { session.old.head ≡ [] }
-    requires can { CanStep session.old ledger.old (states.Body body pending_moof) }
-    ensures { (u : Untouched) → GoesTo (ledger_alone u ledger.old ledger.new) session.old session.new
-        (at_state session.old (states.Body body pending_moof)) [] result }
+    requires pending_moof { MayBePending carried.old.tracks pending_moof }
+    requires empty { carried.old.header_bytes ≡ [] }
+    requires can { CanStep carried.old ledger.old (states.Body body pending_moof) }
+    ensures { (u : Untouched) → GoesTo (ledger_alone u ledger.old ledger.new) carried.old carried.new
+        (at_state carried.old (states.Body body pending_moof)) [] result }
 {
     if body.left > 0 {
         return State::Body(body, pending_moof);
     }
-    leave(&body, pending_moof, session, ledger);
+    leave(&body, pending_moof, carried, ledger);
     State::Header { at: body.next }
 }
 
@@ -105,19 +105,19 @@ pub(crate) fn end_body(
     body: Body,
     pending_moof: Option<PendingMoof>,
     input: &[u8],
-    session: &mut Session,
+    carried: &mut Carried,
     ledger: &mut Ledger,
 ) -> usize
     requires within { body.left ≤ length input.now }
-    requires state { IsState session.old.tracks session.old.head (states.Body body pending_moof) }
-    requires can { CanStep session.old ledger.old (states.Body body pending_moof) }
+    requires state { IsState carried.old.tracks carried.old.header_bytes (states.Body body pending_moof) }
+    requires can { CanStep carried.old ledger.old (states.Body body pending_moof) }
     ensures { (u : Untouched) → (0 < result) × (result ≤ length input.now) ×
-        GoesTo (ledger_alone u ledger.old ledger.new) session.old session.new
-        (at_state session.old (states.Body body pending_moof)) (take result input.now) (states.Header body.next) }
+        GoesTo (ledger_alone u ledger.old ledger.new) carried.old carried.new
+        (at_state carried.old (states.Body body pending_moof)) (take result input.now) (states.Header body.next) }
 {
     let _ = input;
     let count = body.left as usize;
-    leave(&Body { left: 0, ..body }, pending_moof, session, ledger);
+    leave(&Body { left: 0, ..body }, pending_moof, carried, ledger);
     count
 }
 
@@ -130,16 +130,14 @@ pub(crate) fn take_open(
     body: OpenBody,
     pending_moof: Option<PendingMoof>,
     input: &[u8],
-    session: &Session,
+    carried: &Carried,
     ledger: &mut Ledger,
 ) -> Result<Taken, Stop>
-    requires some { 0 < length input.now }
-    requires state { IsState session.now.tracks session.now.head (states.OpenBody body pending_moof) }
-    requires can { CanStep session.now ledger.old (states.OpenBody body pending_moof) }
+    requires { MayTake input.now carried.now ledger.old (states.OpenBody body pending_moof) }
     ensures { (u : Untouched) → Consumes (ledger_alone u ledger.old ledger.new)
-        session.now session.now (states.OpenBody body pending_moof) input.now result }
+        carried.now carried.now (states.OpenBody body pending_moof) input.now result }
 {
-    let _ = session;
+    let _ = carried;
     let mut body = body;
     match body.take(input) {
         Ok(()) => Ok(Taken {

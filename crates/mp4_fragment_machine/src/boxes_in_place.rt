@@ -26,7 +26,7 @@ ghost use Rattle.mp4_fragment_machine.specs.declared.state.State.TheVariants as 
 
 use crate::accept_list::count;
 use crate::lines::put_run;
-use crate::state::{Counter, Session};
+use crate::state::{Carried, Counter};
 use mp4_box::{Fault, FourCc, Size, header_of};
 use mp4_ends::{Failed, Sink};
 use mp4_frag::{Payload, SingleRun};
@@ -59,7 +59,7 @@ pub(crate) struct Boxes<'a> {
 
 /// A fragment that is whole in the input.
 #[derive(Clone, Copy)]
-pub(crate) struct Whole<'a> {
+pub(crate) struct CompleteFragment<'a> {
     /// Its boxes.
     pub(crate) boxes: Boxes<'a>,
     /// The only run of its moof.
@@ -166,27 +166,27 @@ pub(crate) fn check_place(
 fn list_in_place<W: Sink>(
     command: Command,
     at: u64,
-    whole: &Whole<'_>,
+    complete: &CompleteFragment<'_>,
     input: &[u8],
     tracks: &TrackList,
     counter: &mut Counter,
     out: &mut Block,
     w: &mut W,
 ) -> Result<(), Failed>
-    requires is { IsFragment at tracks.now input.now whole.now.boxes whole.now.run.now }
+    requires is { IsFragment at tracks.now input.now complete.now.boxes complete.now.run.now }
     requires counted { IsCounted (operations.List command) counter.old at 0 0 }
     ensures puts { (g : Header) → Puts (sent W.contents W.has_failed w.old w.new) out.old out.new
         (accepted command (fragment (context at (Some tracks.now) 1) tracks.now
-        whole.now.boxes.moof.now g)).text result }
+        complete.now.boxes.moof.now g)).text result }
     ensures tally { (g : Header) → counter.new.tally ≡ plus (plus counter.old.tally
-        (inspected (moof_at whole.now.boxes.moof.now at))) (counted_in (fragment
-        (context at (Some tracks.now) 1) tracks.now whole.now.boxes.moof.now g)) }
-    ensures rows_read { counter.new.steps.rows ≡ counter.old.steps.rows + 2 * whole.now.run.now.run.count +
-        listed_by (operations.List command) whole.now.run.now.run.count }
+        (inspected (moof_at complete.now.boxes.moof.now at))) (counted_in (fragment
+        (context at (Some tracks.now) 1) tracks.now complete.now.boxes.moof.now g)) }
+    ensures rows_read { counter.new.steps.rows ≡ counter.old.steps.rows + 2 * complete.now.run.now.run.count +
+        listed_by (operations.List command) complete.now.run.now.run.count }
     ensures counted { IsCounted (operations.List command) counter.new
-        (at + length whole.now.boxes.moof.now + whole.now.boxes.mdat.size) 0 0 }
+        (at + length complete.now.boxes.moof.now + complete.now.boxes.mdat.size) 0 0 }
 {
-    let run = &whole.run.run;
+    let run = &complete.run.run;
     let samples = u64::from(run.count);
     counter.tally.inspected += u128::from(samples);
     counter.steps.rows += 2 * u128::from(samples);
@@ -195,7 +195,7 @@ fn list_in_place<W: Sink>(
         Command::Check => Ok(()),
         Command::Samples => {
             counter.steps.rows += u128::from(samples);
-            put_run(run, whole.boxes.moof, out, w)
+            put_run(run, complete.boxes.moof, out, w)
         }
     }
 }
@@ -210,35 +210,35 @@ fn list_in_place<W: Sink>(
 pub(crate) fn take_fragment<W: Sink>(
     command: Command,
     at: u64,
-    whole: &Whole<'_>,
+    complete: &CompleteFragment<'_>,
     input: &[u8],
-    session: &mut Session,
+    carried: &mut Carried,
     ledger: &mut Ledger,
     out: &mut Block,
     w: &mut W,
 ) -> Result<u64, Stop>
-    requires known { session.old.tracks ≡ Some (known session.old.tracks) }
-    requires is { IsFragment at (known session.old.tracks) input.now whole.now.boxes whole.now.run.now }
-    requires room { ledger.old.live + (length whole.now.boxes.moof.now + 64) ≤ ledger.old.limit }
-    requires empty { session.old.head ≡ [] }
-    requires operation { session.old.operation ≡ operations.List command }
-    requires can { CanStep session.old ledger.old (states.Header at) }
+    requires known { carried.old.tracks ≡ Some (known carried.old.tracks) }
+    requires is { IsFragment at (known carried.old.tracks) input.now complete.now.boxes complete.now.run.now }
+    requires room { ledger.old.live + (length complete.now.boxes.moof.now + 64) ≤ ledger.old.limit }
+    requires empty { carried.old.header_bytes ≡ [] }
+    requires operation { carried.old.operation ≡ operations.List command }
+    requires can { CanStep carried.old ledger.old (states.Header at) }
     ensures { TakesInPlace (borrowed W.contents W.has_failed w.old w.new out.old out.new ledger.old ledger.new)
-        session.old session.new at input.now result }
+        carried.old carried.new at input.now result }
 {
-    let Some(list) = &mut session.tracks else {
+    let Some(list) = &mut carried.tracks else {
         unreachable!();
     };
-    let held = whole.boxes.moof.len() as u64;
-    match ledger.count_claim(held + ROW) {
+    let moof_len = complete.boxes.moof.len() as u64;
+    match ledger.count_claim(moof_len + ROW) {
         Ok(()) => {}
         Err(_) => unreachable!(),
     }
-    let counter = &mut session.counter;
-    match list_in_place(command, at, whole, input, list, counter, out, w) {
+    let counter = &mut carried.counter;
+    match list_in_place(command, at, complete, input, list, counter, out, w) {
         Ok(()) => {}
         Err(Failed) => return Err(Stop::Write),
     }
-    whole.run.settle(list);
-    Ok(held + whole.boxes.mdat.size)
+    complete.run.settle(list);
+    Ok(moof_len + complete.boxes.mdat.size)
 }

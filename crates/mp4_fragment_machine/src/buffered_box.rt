@@ -1,6 +1,6 @@
 //! Holds a moov or moof until it is whole.
 
-ghost use Rattle.std.specs.Prelude.{◌≡◌, ◌+◌, ◌<◌, ◌≤◌, [], ◌++◌, List, ℕ, length};
+ghost use Rattle.std.specs.Prelude.{◌≡◌, ◌+◌, ◌≤◌, [], ◌++◌, List, ℕ, length};
 ghost use Rattle.mp4_box.specs.Headers.{HasRoom, header_at, need};
 ghost use Rattle.mp4_box.specs.declared.headers.Step.TheVariants as steps;
 ghost use Rattle.mp4_machine.specs.Bodies.{least_end, longest};
@@ -9,13 +9,12 @@ ghost use Rattle.mp4_machine.specs.Readings.{then_read};
 ghost use Rattle.mp4_grammar.specs.Contexts.{context};
 ghost use Rattle.mp4_grammar.specs.Items.{keeping, reads_in};
 ghost use Rattle.mp4_recut.specs.Operations.{operation_meaning};
-ghost use Rattle.mp4_fragment_machine.specs.States.{IsState};
-ghost use Rattle.mp4_fragment_machine.specs.Implementation.Steps.{Advances, CanStep, Consumes, borrowed, with_head};
+ghost use Rattle.mp4_fragment_machine.specs.Implementation.Steps.{Advances, CanStep, Consumes, MayTake, borrowed, with_head};
 ghost use Rattle.mp4_fragment_machine.specs.declared.state.State.TheVariants as states;
 
 use crate::moof::take_moof;
 use crate::moov::take_moov;
-use crate::state::{Session, State, Taken};
+use crate::state::{Carried, State, Taken};
 use mp4_box::{Header, Rule, Size};
 use mp4_ends::Sink;
 use mp4_ledger::Ledger;
@@ -28,22 +27,20 @@ use mp4_machine::{Block, BufferedBox, Stop, at_fault};
 /// As [`hold`].
 #[inline(always)]
 pub(crate) fn take_held<W: Sink>(
-    held: BufferedBox,
+    buffered: BufferedBox,
     input: &[u8],
-    session: &mut Session,
+    carried: &mut Carried,
     ledger: &mut Ledger,
     out: &mut Block,
     w: &mut W,
 ) -> Result<Taken, Stop>
-    requires some { 0 < length input.now }
-    requires state { IsState session.old.tracks session.old.head (states.Buffering held) }
-    requires can { CanStep session.old ledger.old (states.Buffering held) }
+    requires { MayTake input.now carried.old ledger.old (states.Buffering buffered) }
     ensures { Consumes (borrowed W.contents W.has_failed w.old w.new out.old out.new ledger.old ledger.new)
-        session.old session.new (states.Buffering held) input.now result }
+        carried.old carried.new (states.Buffering buffered) input.now result }
 {
-    let mut held = held;
-    let count = held.take(input);
-    match hold(held, session, ledger, out, w) {
+    let mut buffered = buffered;
+    let count = buffered.take(input);
+    match hold(buffered, carried, ledger, out, w) {
         Ok(state) => Ok(Taken { count, state }),
         Err(stop) => Err(stop),
     }
@@ -60,24 +57,24 @@ pub(crate) fn buffer_on<W: Sink>(
     at: u64,
     header: &Header,
     limit: u64,
-    head: &[u8],
-    session: &mut Session,
+    header_bytes: &[u8],
+    carried: &mut Carried,
     ledger: &mut Ledger,
     out: &mut Block,
     w: &mut W,
 ) -> Result<State, Stop>
     requires room { HasRoom header.now.size header.now.header_len }
-    requires len { length head.now ≡ need head.now }
-    requires is { header_at head.now ≡ steps.Whole header.now }
+    requires len { length header_bytes.now ≡ need header_bytes.now }
+    requires is { header_at header_bytes.now ≡ steps.Whole header.now }
     requires end { least_end at header.now header.now.size ≤ longest }
-    requires empty { session.old.head ≡ [] }
-    requires can { CanStep session.old ledger.old (states.Header at) }
+    requires empty { carried.old.header_bytes ≡ [] }
+    requires can { CanStep carried.old ledger.old (states.Header at) }
     requires reads { (number : ℕ) (later : List ℕ) →
-        reads_in (operation_meaning session.old.operation) (context at session.old.tracks number) (head.now ++ later) ≡
-        then_read (reads_in (operation_meaning session.old.operation)) (keeping (operation_meaning session.old.operation)
-        (context at session.old.tracks number) header.now limit (head.now ++ later) header.now.size) }
+        reads_in (operation_meaning carried.old.operation) (context at carried.old.tracks number) (header_bytes.now ++ later) ≡
+        then_read (reads_in (operation_meaning carried.old.operation)) (keeping (operation_meaning carried.old.operation)
+        (context at carried.old.tracks number) header.now limit (header_bytes.now ++ later) header.now.size) }
     ensures { Advances (borrowed W.contents W.has_failed w.old w.new out.old out.new ledger.old ledger.new)
-        (with_head head.now session.old) session.new (states.Header at) result }
+        (with_head header_bytes.now carried.old) carried.new (states.Header at) result }
 {
     let Size::Exact(size) = header.size else {
         return Err(at_fault(Rule::TooLarge, Some(header.kind), at));
@@ -85,8 +82,8 @@ pub(crate) fn buffer_on<W: Sink>(
     if size > limit {
         return Err(at_fault(Rule::TooLarge, Some(header.kind), at));
     }
-    match BufferedBox::claim(ledger, at, header.kind, size, head) {
-        Ok(held) => hold(held, session, ledger, out, w),
+    match BufferedBox::claim(ledger, at, header.kind, size, header_bytes) {
+        Ok(buffered) => hold(buffered, carried, ledger, out, w),
         Err(refused) => Err(Stop::of_refusal(refused)),
     }
 }
@@ -98,24 +95,24 @@ pub(crate) fn buffer_on<W: Sink>(
 ///
 /// As [`take_moov`] and [`take_moof`]: the box is given back then.
 fn hold<W: Sink>(
-    held: BufferedBox,
-    session: &mut Session,
+    buffered: BufferedBox,
+    carried: &mut Carried,
     ledger: &mut Ledger,
     out: &mut Block,
     w: &mut W,
 ) -> Result<State, Stop>
-    requires begins { Begins held.size held.bytes }
-    requires near { held.at + held.size ≤ longest }
-    requires empty { session.old.head ≡ [] }
-    requires can { CanStep session.old ledger.old (states.Buffering held) }
+    requires begins { Begins buffered.size buffered.bytes }
+    requires near { buffered.at + buffered.size ≤ longest }
+    requires empty { carried.old.header_bytes ≡ [] }
+    requires can { CanStep carried.old ledger.old (states.Buffering buffered) }
     ensures { Advances (borrowed W.contents W.has_failed w.old w.new out.old out.new ledger.old ledger.new)
-        session.old session.new (states.Buffering held) result }
+        carried.old carried.new (states.Buffering buffered) result }
 {
-    if !held.is_whole() {
-        return Ok(State::Buffering(held));
+    if !buffered.is_whole() {
+        return Ok(State::Buffering(buffered));
     }
-    match session.tracks {
-        None => take_moov(held, session, ledger, out, w),
-        Some(_) => take_moof(held, session, ledger),
+    match carried.tracks {
+        None => take_moov(buffered, carried, ledger, out, w),
+        Some(_) => take_moof(buffered, carried, ledger),
     }
 }

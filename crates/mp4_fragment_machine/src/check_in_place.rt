@@ -36,7 +36,7 @@ use crate::boxes_in_place::{Boxes, ROW, payload_after};
 use crate::in_place_read::InPlaceRead;
 use crate::machine::FragmentMachine;
 use crate::moves::go_to;
-use crate::state::{Counter, Session};
+use crate::state::{Carried, Counter};
 use mp4_frag::{Following, Moof, Steps, TrafEnds};
 use mp4_grammar::Command;
 use mp4_init::TrackList;
@@ -63,8 +63,8 @@ fn may_be_listed(moof: &Moof<'_>, ledger: &Ledger) -> bool
     ensures { (result ≡ true) ↔ MayBeListed moof.now ledger.now }
 {
     let room = ledger.limit() - ledger.live();
-    let held = moof.bytes().len() as u64;
-    held <= room && moof.truns_len() <= (room - held) / ROW
+    let moof_len = moof.bytes().len() as u64;
+    moof_len <= room && moof.truns_len() <= (room - moof_len) / ROW
 }
 
 /// Sums over the runs of a moof, and where its trafs end, if they follow one another in the mdat after it; it reads each
@@ -182,31 +182,31 @@ pub(crate) fn check_fragment(
     at: u64,
     boxes: &Boxes<'_>,
     input: &[u8],
-    session: &mut Session,
+    carried: &mut Carried,
     ledger: &mut Ledger,
 ) -> Result<u64, Option<InPlaceRead>>
-    requires known { session.old.tracks ≡ Some (known session.old.tracks) }
+    requires known { carried.old.tracks ≡ Some (known carried.old.tracks) }
     requires are { AreBoxes at input.now boxes.now }
-    requires empty { session.old.head ≡ [] }
-    requires operation { session.old.operation ≡ operations.List Check }
-    requires can { CanStep session.old ledger.old (states.Header at) }
+    requires empty { carried.old.header_bytes ≡ [] }
+    requires operation { carried.old.operation ≡ operations.List Check }
+    requires can { CanStep carried.old ledger.old (states.Header at) }
     ensures taken { IfOk result (λ n. (u : Untouched) → TakesInPlace (ledger_alone u ledger.old ledger.new)
-        session.old session.new at input.now (Ok n)) }
-    ensures none { OnErr result ((session.new ≡ session.old) × (ledger.new ≡ ledger.old)) }
+        carried.old carried.new at input.now (Ok n)) }
+    ensures none { OnErr result ((carried.new ≡ carried.old) × (ledger.new ≡ ledger.old)) }
     ensures found { IfErr result (λ l. IfSome l
-        (WasReadInPlace (moof_at boxes.now.moof.now at) (known session.old.tracks))) }
+        (WasReadInPlace (moof_at boxes.now.moof.now at) (known carried.old.tracks))) }
     ensures unread { result ≡ Err None → MayBeReadInPlace (moof_at boxes.now.moof.now at) → ⊥ }
 {
-    let Some(list) = &mut session.tracks else {
+    let Some(list) = &mut carried.tracks else {
         unreachable!();
     };
-    let mut counter = session.counter;
+    let mut counter = carried.counter;
     let Counted { moof, ends } = match count_checked(at, boxes, input, list, &mut counter, ledger) {
         Ok(counted) => counted,
         Err(found) => return Err(found),
     };
     moof.settle_by(&ends, list, &mut counter.steps);
-    session.counter = counter;
+    carried.counter = counter;
     Ok(boxes.moof.len() as u64 + boxes.mdat.size)
 }
 
@@ -226,7 +226,7 @@ impl FragmentMachine {
         input: &[u8],
     ) -> Result<usize, Option<InPlaceRead>>
         requires state { self.old.state ≡ states.Header at }
-        requires head { self.old.head ≡ [] }
+        requires header_bytes { self.old.header_bytes ≡ [] }
         requires known { self.old.tracks ≡ Some (known self.old.tracks) }
         requires are { AreBoxes at input.now boxes.now }
         requires claim { claim_of (place_in self.old) ≤ ledger.old.live }
@@ -237,7 +237,7 @@ impl FragmentMachine {
         ensures read_rows { IfErr result (λ l. IfSome l
             (WasReadInPlace (moof_at boxes.now.moof.now at) (known self.old.tracks))) }
     {
-        match self.session.operation {
+        match self.carried.operation {
             Operation::List(Command::Check) => {}
             _ => return Err(None),
         }
@@ -245,7 +245,7 @@ impl FragmentMachine {
             self.skips = self.skips.saturating_sub(boxes.moof.len() as u64);
             return Err(None);
         }
-        match check_fragment(at, boxes, input, &mut self.session, ledger) {
+        match check_fragment(at, boxes, input, &mut self.carried, ledger) {
             Ok(size) => {
                 go_to(&mut self.state, at + size);
                 Ok(size as usize)

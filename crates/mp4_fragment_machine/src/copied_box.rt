@@ -1,12 +1,11 @@
 //! Bodies that are copied.
 
-ghost use Rattle.std.specs.Prelude.{◌<◌, length};
 ghost use Rattle.mp4_ledger.specs.Memory.{Account};
-ghost use Rattle.mp4_fragment_machine.specs.States.{IsState};
-ghost use Rattle.mp4_fragment_machine.specs.Implementation.Steps.{CanStep, Consumes, borrowed};
+ghost use Rattle.mp4_fragment_machine.specs.Implementation.Steps.{Consumes, MayTake, borrowed};
+ghost use Rattle.mp4_fragment_machine.specs.declared.state.Carried.{Carried};
 ghost use Rattle.mp4_fragment_machine.specs.declared.state.State.TheVariants as states;
 
-use crate::state::{Session, State, Taken};
+use crate::state::{State, Taken};
 use mp4_box::Rule;
 use mp4_ends::{Failed, Sink};
 use mp4_machine::{Block, Body, OpenBody, Stop, at_fault};
@@ -19,17 +18,13 @@ use mp4_machine::{Block, Body, OpenBody, Stop, at_fault};
 pub(crate) fn take_copied<W: Sink>(
     body: Body,
     input: &[u8],
-    session: &Session,
     out: &mut Block,
     w: &mut W,
 ) -> Result<Taken, Stop>
-    requires some { 0 < length input.now }
-    requires state { IsState session.now.tracks session.now.head (states.Copied body) }
-    ensures { (account : Account) → CanStep session.now account (states.Copied body) →
+    ensures { (carried : Carried) (account : Account) → MayTake input.now carried account (states.Copied body) →
         Consumes (borrowed W.contents W.has_failed w.old w.new out.old out.new account account)
-        session.now session.now (states.Copied body) input.now result }
+        carried carried (states.Copied body) input.now result }
 {
-    let _ = session;
     let mut body = body;
     let count = body.take(input);
     let (front, _) = input.split_at(count);
@@ -57,17 +52,13 @@ pub(crate) fn take_copied<W: Sink>(
 pub(crate) fn take_open_copied<W: Sink>(
     body: OpenBody,
     input: &[u8],
-    session: &Session,
     out: &mut Block,
     w: &mut W,
 ) -> Result<Taken, Stop>
-    requires some { 0 < length input.now }
-    requires state { IsState session.now.tracks session.now.head (states.OpenCopied body) }
-    ensures { (account : Account) → CanStep session.now account (states.OpenCopied body) →
+    ensures { (carried : Carried) (account : Account) → MayTake input.now carried account (states.OpenCopied body) →
         Consumes (borrowed W.contents W.has_failed w.old w.new out.old out.new account account)
-        session.now session.now (states.OpenCopied body) input.now result }
+        carried carried (states.OpenCopied body) input.now result }
 {
-    let _ = session;
     let len = input.len() as u64;
     let most = body.left.min(len) as usize;
     let (front, _) = input.split_at(most);

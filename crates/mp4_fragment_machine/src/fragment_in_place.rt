@@ -10,10 +10,10 @@ ghost use Rattle.mp4_fragment_machine.specs.Implementation.Steps.{CanStep, Takes
 ghost use Rattle.mp4_fragment_machine.specs.Implementation.InPlace.{AreBoxes, IsTakenInPlace};
 ghost use Rattle.mp4_fragment_machine.specs.declared.state.State.TheVariants as states;
 
-use crate::boxes_in_place::{Whole, check_place, take_fragment};
+use crate::boxes_in_place::{CompleteFragment, check_place, take_fragment};
 use crate::recut_in_place::recut_fragment;
 use crate::refuse_in_place::refuse_place;
-use crate::state::{Counter, Session};
+use crate::state::{Carried, Counter};
 use mp4_ends::Sink;
 use mp4_frag::MOST_IN_MOOF;
 use mp4_ledger::Ledger;
@@ -45,32 +45,32 @@ pub(crate) fn tries_in_place(operation: &Operation, counter: &Counter) -> bool
 #[inline(always)]
 pub(crate) fn take_fragment_in_place<W: Sink>(
     at: u64,
-    whole: &Whole<'_>,
+    complete: &CompleteFragment<'_>,
     input: &[u8],
-    session: &mut Session,
+    carried: &mut Carried,
     ledger: &mut Ledger,
     out: &mut Block,
     w: &mut W,
 ) -> Result<u64, Stop>
-    requires known { session.old.tracks ≡ Some (known session.old.tracks) }
-    requires are { AreBoxes at input.now whole.now.boxes }
-    requires single_run { IsSingle (moof_at whole.now.boxes.moof.now at) (known session.old.tracks)
-        whole.now.run.now }
-    requires taken { IsTakenInPlace session.old.operation session.old.counter.tally.fragments whole.now.run.now }
-    requires room { ledger.old.live + (length whole.now.boxes.moof.now + 64) ≤ ledger.old.limit }
-    requires empty { session.old.head ≡ [] }
-    requires can { CanStep session.old ledger.old (states.Header at) }
+    requires known { carried.old.tracks ≡ Some (known carried.old.tracks) }
+    requires are { AreBoxes at input.now complete.now.boxes }
+    requires single_run { IsSingle (moof_at complete.now.boxes.moof.now at) (known carried.old.tracks)
+        complete.now.run.now }
+    requires taken { IsTakenInPlace carried.old.operation carried.old.counter.tally.fragments complete.now.run.now }
+    requires room { ledger.old.live + (length complete.now.boxes.moof.now + 64) ≤ ledger.old.limit }
+    requires empty { carried.old.header_bytes ≡ [] }
+    requires can { CanStep carried.old ledger.old (states.Header at) }
     ensures { TakesInPlace (borrowed W.contents W.has_failed w.old w.new out.old out.new ledger.old ledger.new)
-        session.old session.new at input.now result }
+        carried.old carried.new at input.now result }
 {
-    match check_place(at, &whole.boxes, input, whole.run) {
+    match check_place(at, &complete.boxes, input, complete.run) {
         Ok(()) => {}
-        Err(fault) => return Err(refuse_place(at, whole, input, fault, session, ledger)),
+        Err(fault) => return Err(refuse_place(at, complete, input, fault, carried, ledger)),
     }
-    match session.operation {
+    match carried.operation {
         Operation::List(command) => take_fragment(
-            command, at, whole, input, session, ledger, out, w,
+            command, at, complete, input, carried, ledger, out, w,
         ),
-        Operation::Split(cut) => recut_fragment(&cut, at, whole, input, session, ledger, out, w),
+        Operation::Split(cut) => recut_fragment(&cut, at, complete, input, carried, ledger, out, w),
     }
 }

@@ -94,29 +94,29 @@ fn put_many_rows<W: Sink>(
 /// Puts the lines of the samples of a long run. It is a call, so that a short run needn't clear the space for the kept
 /// text.
 #[inline(never)]
-fn put_many<W: Sink>(run: &Run, held: &[u8], out: &mut Block, w: &mut W) -> Result<(), Failed>
-    requires { IsRunOf held.now run.now }
+fn put_many<W: Sink>(run: &Run, moof_bytes: &[u8], out: &mut Block, w: &mut W) -> Result<(), Failed>
+    requires { IsRunOf moof_bytes.now run.now }
     ensures { Puts (sent W.contents W.has_failed w.old w.new) out.old out.new
-        (sample_lines (samples_of_run held.now run.now)) result }
+        (sample_lines (samples_of_run moof_bytes.now run.now)) result }
 {
-    put_many_rows(run, &mut run.rows(held), run.first_cursor(), out, w)
+    put_many_rows(run, &mut run.rows(moof_bytes), run.first_cursor(), out, w)
 }
 
-/// Puts the lines of the samples of a run. `held` are the bytes of its moof.
+/// Puts the lines of the samples of a run. `moof_bytes` are the bytes of its moof.
 pub(crate) fn put_run<W: Sink>(
     run: &Run,
-    held: &[u8],
+    moof_bytes: &[u8],
     out: &mut Block,
     w: &mut W,
 ) -> Result<(), Failed>
-    requires { IsRunOf held.now run.now }
+    requires { IsRunOf moof_bytes.now run.now }
     ensures { Puts (sent W.contents W.has_failed w.old w.new) out.old out.new
-        (sample_lines (samples_of_run held.now run.now)) result }
+        (sample_lines (samples_of_run moof_bytes.now run.now)) result }
 {
     if MANY <= run.count {
-        return put_many(run, held, out, w);
+        return put_many(run, moof_bytes, out, w);
     }
-    put_rows(run, &mut run.rows(held), run.first_cursor(), out, w)
+    put_rows(run, &mut run.rows(moof_bytes), run.first_cursor(), out, w)
 }
 
 /// Puts the lines of the samples of the pending moof, its runs in the order in which they are taken. They are so many,

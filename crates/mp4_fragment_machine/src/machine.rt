@@ -24,7 +24,7 @@ ghost use Rattle.mp4_recut.specs.declared.operation.Operation.{Operation};
 ghost use Rattle.mp4_fragment_machine.specs.declared.state.State.TheVariants as states;
 
 use crate::body::end_body;
-use crate::boxes_in_place::{Boxes, Span, Whole, boxes_in};
+use crate::boxes_in_place::{Boxes, CompleteFragment, Span, boxes_in};
 use crate::fragment_in_place::{take_fragment_in_place, tries_in_place};
 use crate::mdat_header::unfollowed;
 use crate::media::take_split;
@@ -32,7 +32,7 @@ use crate::moof_in_place::take_moof_in_place;
 use crate::moves::{LeftBody, go_on, go_to, leave_body, leave_header, put_state, stop_at, stopped};
 use crate::other_in_place::{box_at, take_box_in_place};
 use crate::refuse_in_place::refuse_times;
-use crate::state::{Counter, Session, State, Taken};
+use crate::state::{Carried, Counter, State, Taken};
 use crate::step::{back_state, take_next};
 use mp4_box::{Fault, HeaderReader};
 use mp4_ends::Sink;
@@ -46,7 +46,7 @@ use std::mem::replace;
 
 /// A machine that lists, checks or splits fragments. What it has claimed must be given back.
 pub struct FragmentMachine {
-    pub(crate) session: Session,
+    pub(crate) carried: Carried,
     pub(crate) state: State,
     /// For how many bytes of moofs fragments aren't tried in place, since the last try was in vain. No answer depends on it.
     pub(crate) skips: u64,
@@ -58,9 +58,9 @@ impl Model for FragmentMachine {
 
     ghost Value = { Progress };
 
-    ghost view = { λ m. record { operation = m.session.operation; tracks = m.session.tracks; head = m.session.head; state = m.state; counter = m.session.counter } };
+    ghost view = { λ m. record { operation = m.carried.operation; tracks = m.carried.tracks; header_bytes = m.carried.header_bytes; state = m.state; counter = m.carried.counter } };
 
-    ghost invariant = { λ m. IsMachine m.session.operation m.session.tracks m.session.head m.state m.session.counter };
+    ghost invariant = { λ m. IsMachine m.carried.operation m.carried.tracks m.carried.header_bytes m.state m.carried.counter };
 }
 
 impl FragmentMachine {
@@ -76,10 +76,10 @@ impl FragmentMachine {
         };
         let steps = Steps { rows: 0 };
         FragmentMachine {
-            session: Session {
+            carried: Carried {
                 operation,
                 tracks: None,
-                head: HeaderReader::new(),
+                header_bytes: HeaderReader::new(),
                 counter: Counter { tally, steps },
             },
             state: State::Header { at: 0 },
@@ -92,7 +92,7 @@ impl FragmentMachine {
         ensures tally { result ≡ self.now.counter.tally }
         ensures all { result.samples ≤ result.inspected }
     {
-        self.session.counter.tally
+        self.carried.counter.tally
     }
 
     /// How many rows of samples it has read: at least one read for each sample of an inspected moof, one more for each
@@ -103,7 +103,7 @@ impl FragmentMachine {
             listed_by self.now.operation self.now.counter.tally.samples ≤ result }
         ensures few { result ≤ reads_of self.now.operation * self.now.counter.tally.inspected }
     {
-        self.session.counter.steps.rows
+        self.carried.counter.steps.rows
     }
 
     /// Takes a fragment that is whole at the front of the input. Returns how many bytes.
@@ -115,26 +115,26 @@ impl FragmentMachine {
     fn take_in_place<W: Sink>(
         &mut self,
         at: u64,
-        whole: &Whole<'_>,
+        complete: &CompleteFragment<'_>,
         ledger: &mut Ledger,
         input: &[u8],
         out: &mut Block,
         w: &mut W,
     ) -> Result<usize, Stop>
-        requires taken { IsTakenInPlace self.old.operation self.old.counter.tally.fragments whole.now.run.now }
+        requires taken { IsTakenInPlace self.old.operation self.old.counter.tally.fragments complete.now.run.now }
         requires state { self.old.state ≡ states.Header at }
-        requires head { self.old.head ≡ [] }
+        requires header_bytes { self.old.header_bytes ≡ [] }
         requires known { self.old.tracks ≡ Some (known self.old.tracks) }
-        requires are { AreBoxes at input.now whole.now.boxes }
-        requires single_run { IsSingle (moof_at whole.now.boxes.moof.now at) (known self.old.tracks)
-            whole.now.run.now }
-        requires room { ledger.old.live + (length whole.now.boxes.moof.now + 64) ≤ ledger.old.limit }
+        requires are { AreBoxes at input.now complete.now.boxes }
+        requires single_run { IsSingle (moof_at complete.now.boxes.moof.now at) (known self.old.tracks)
+            complete.now.run.now }
+        requires room { ledger.old.live + (length complete.now.boxes.moof.now + 64) ≤ ledger.old.limit }
         requires claim { claim_of (place_in self.old) ≤ ledger.old.live }
         ensures { Feeds (change (sent W.contents W.has_failed w.old w.new) out.old out.new
             ledger.old ledger.new self.old.counter.tally self.new.counter.tally)
             self.old self.new input.now result }
     {
-        match take_fragment_in_place(at, whole, input, &mut self.session, ledger, out, w) {
+        match take_fragment_in_place(at, complete, input, &mut self.carried, ledger, out, w) {
             Ok(size) => {
                 go_to(&mut self.state, at + size);
                 Ok(size as usize)
@@ -158,7 +158,7 @@ impl FragmentMachine {
         input: &[u8],
     ) -> Stop
         requires state { self.old.state ≡ states.Header at }
-        requires head { self.old.head ≡ [] }
+        requires header_bytes { self.old.header_bytes ≡ [] }
         requires known { self.old.tracks ≡ Some (known self.old.tracks) }
         requires are { AreBoxes at input.now boxes.now }
         requires good { fault_before_times (moof_at boxes.now.moof.now at) (known self.old.tracks) ≡ None }
@@ -171,7 +171,7 @@ impl FragmentMachine {
             ledger.old ledger.new self.old.counter.tally self.new.counter.tally)
             self.old self.new input.now result }
     {
-        let stop = refuse_times(at, boxes, input, samples, fault, &mut self.session, ledger);
+        let stop = refuse_times(at, boxes, input, samples, fault, &mut self.carried, ledger);
         stop_at(&mut self.state);
         self.give_back(ledger);
         stop
@@ -194,13 +194,13 @@ impl FragmentMachine {
     ) -> Result<usize, Stop>
         requires is { IsFirstBox Other at input.now span.now }
         requires state { self.old.state ≡ states.Header at }
-        requires head { self.old.head ≡ [] }
+        requires header_bytes { self.old.header_bytes ≡ [] }
         requires claim { claim_of (place_in self.old) ≤ ledger.old.live }
         ensures { Feeds (change (sent W.contents W.has_failed w.old w.new) out.old out.new
             ledger.old ledger.new self.old.counter.tally self.new.counter.tally)
             self.old self.new input.now result }
     {
-        match take_box_in_place(at, span, input, &self.session, out, w) {
+        match take_box_in_place(at, span, input, &self.carried, out, w) {
             Ok(size) => {
                 go_to(&mut self.state, at + size);
                 Ok(size as usize)
@@ -241,7 +241,7 @@ impl FragmentMachine {
             self.old self.new input.now (Ok result) }
     {
         let LeftBody { body, pending_moof } = leave_body(&mut self.state);
-        end_body(body, pending_moof, input, &mut self.session, ledger)
+        end_body(body, pending_moof, input, &mut self.carried, ledger)
     }
 
     /// Takes bytes of an mdat that is recut from the front of the input. Returns how many.
@@ -264,7 +264,7 @@ impl FragmentMachine {
             ledger.old ledger.new self.old.counter.tally self.new.counter.tally)
             self.old self.new input.now result }
     {
-        match take_split(&mut self.state, input, &mut self.session, ledger, out, w) {
+        match take_split(&mut self.state, input, &mut self.carried, ledger, out, w) {
             Ok(taken) => Ok(taken),
             Err(stop) => {
                 self.give_back(ledger);
@@ -295,7 +295,7 @@ impl FragmentMachine {
             self.old self.new input.now result }
     {
         let state = replace(&mut self.state, stopped());
-        match take_next(state, input, &mut self.session, ledger, out, w) {
+        match take_next(state, input, &mut self.carried, ledger, out, w) {
             Ok(Taken { count, state }) => {
                 put_state(&mut self.state, state);
                 Ok(count)
@@ -327,22 +327,22 @@ impl FragmentMachine {
         requires some { 0 < length input.now }
         requires is { IsFirstBox Moof at input.now moof.now }
         requires state { self.old.state ≡ states.Header at }
-        requires head { self.old.head ≡ [] }
+        requires header_bytes { self.old.header_bytes ≡ [] }
         requires claim { claim_of (place_in self.old) ≤ ledger.old.live }
         ensures { Feeds (change (sent W.contents W.has_failed w.old w.new) out.old out.new
             ledger.old ledger.new self.old.counter.tally self.new.counter.tally)
             self.old self.new input.now result }
     {
-        if tries_in_place(&self.session.operation, &self.session.counter) {
+        if tries_in_place(&self.carried.operation, &self.carried.counter) {
             if let (Some(boxes), Some(list)) = (
                 boxes_in(at, moof, input, ledger),
-                &self.session.tracks,
+                &self.carried.tracks,
             ) {
                 let mut steps = Steps { rows: 0 };
                 match SingleRun::read(boxes.moof, at, list, &mut steps) {
                     Ok(Some(run)) => {
-                        let whole = Whole { boxes, run: &run };
-                        return self.take_in_place(at, &whole, ledger, input, out, w);
+                        let complete = CompleteFragment { boxes, run: &run };
+                        return self.take_in_place(at, &complete, ledger, input, out, w);
                     }
                     Ok(None) => match self.check_in_place(at, &boxes, ledger, input) {
                         Ok(count) => return Ok(count),
@@ -356,7 +356,7 @@ impl FragmentMachine {
                 }
             }
         }
-        if moof.size <= MOST_MOOF && self.session.tracks.is_some() {
+        if moof.size <= MOST_MOOF && self.carried.tracks.is_some() {
             return self.take_moof(at, moof, None, ledger, input, out, w);
         }
         self.take_next_input(ledger, input, out, w)
@@ -383,7 +383,7 @@ impl FragmentMachine {
     {
         if let State::Header { at } = &self.state {
             let at = *at;
-            if let Some(span) = &box_at(at, &self.session.head, input) {
+            if let Some(span) = &box_at(at, &self.carried.header_bytes, input) {
                 match kind_of(span.kind) {
                     Kind::Other => return self.pass_in_place(at, span, ledger, input, out, w),
                     Kind::Moof => return self.take_ahead(at, span, ledger, input, out, w),
@@ -407,16 +407,16 @@ impl FragmentMachine {
         ensures { ledger.new ≡ given_back ledger.old (claim_of (place_in self)) }
     {
         let FragmentMachine {
-            session,
+            carried,
             state,
             skips: _,
         } = self;
-        let Session {
+        let Carried {
             operation: _,
             tracks,
-            head: _,
+            header_bytes: _,
             counter: _,
-        } = session;
+        } = carried;
         back_state(state, ledger);
         if let Some(list) = tracks {
             list.back(ledger);
@@ -449,13 +449,16 @@ impl Machine for FragmentMachine {
     fn finish(&self) -> Result<(), Fault> {
         match &self.state {
             State::Header { at } => {
-                if self.session.head.is_empty() {
+                if self.carried.header_bytes.is_empty() {
                     return Ok(());
                 }
-                Err(truncated(self.session.head.kind(), *at))
+                Err(truncated(self.carried.header_bytes.kind(), *at))
             }
-            State::Buffering(held) => Err(truncated(Some(held.kind()), held.offset())),
-            State::MdatHeader(pending_moof) => Err(unfollowed(pending_moof, &self.session.head)),
+            State::Buffering(buffered) => Err(truncated(Some(buffered.kind()), buffered.offset())),
+            State::MdatHeader(pending_moof) => Err(unfollowed(
+                pending_moof,
+                &self.carried.header_bytes,
+            )),
             State::Body(body, _) => Err(truncated(Some(body.kind), body.at)),
             State::OpenBody(body, _) => body.end(),
             State::Copied(body) => Err(truncated(Some(body.kind), body.at)),
@@ -469,8 +472,8 @@ impl Machine for FragmentMachine {
 
     fn give_back(&mut self, ledger: &mut Ledger) {
         back_state(replace(&mut self.state, stopped()), ledger);
-        self.session.head = HeaderReader::new();
-        if let Some(list) = self.session.tracks.take() {
+        self.carried.header_bytes = HeaderReader::new();
+        if let Some(list) = self.carried.tracks.take() {
             list.back(ledger);
         }
     }

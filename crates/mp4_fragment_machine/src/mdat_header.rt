@@ -1,19 +1,19 @@
 //! Takes the header of the mdat after a moof, and begins its fragment; or reports the fault where the stream ends
 //! before.
 
-ghost use Rattle.std.specs.Prelude.{◌≡◌, ℕ, ◌+◌, ◌<◌, ◌≤◌, [], List, Ok, Option, length, Some};
+ghost use Rattle.std.specs.Prelude.{◌≡◌, ℕ, ◌+◌, [], List, Ok, Option, Some};
 ghost use Rattle.mp4_grammar.specs.Meanings.{Meaning};
 ghost use Rattle.mp4_init.specs.declared.table.Track.{Track};
 ghost use Rattle.mp4_machine.specs.Readings.{fault_in};
 ghost use Rattle.mp4_fragment_machine.specs.Places.{continuation_at};
 ghost use Rattle.mp4_fragment_machine.specs.States.{IsPendingMoof, IsState, place_of};
-ghost use Rattle.mp4_fragment_machine.specs.Implementation.Steps.{Advances, CanStep, MayBeginFragment, Consumes, borrowed, with_head};
+ghost use Rattle.mp4_fragment_machine.specs.Implementation.Steps.{Advances, Consumes, MayBeginFragment, MayTake, borrowed, with_head};
 ghost use Rattle.mp4_fragment_machine.specs.declared.state.State.TheVariants as states;
 
 use crate::accept_list::begin_listed;
 use crate::body::back;
 use crate::recut_state::begin_media;
-use crate::state::{PendingMoof, Session, State, Taken};
+use crate::state::{Carried, PendingMoof, State, Taken};
 use mp4_box::types::MOOF;
 use mp4_box::{Fault, Header, HeaderReader, Rule};
 use mp4_ends::Sink;
@@ -30,18 +30,16 @@ use mp4_recut::Operation;
 pub(crate) fn take_mdat_header<W: Sink>(
     pending_moof: PendingMoof,
     input: &[u8],
-    session: &mut Session,
+    carried: &mut Carried,
     ledger: &mut Ledger,
     out: &mut Block,
     w: &mut W,
 ) -> Result<Taken, Stop>
-    requires some { 0 < length input.now }
-    requires state { IsState session.old.tracks session.old.head (states.MdatHeader pending_moof) }
-    requires can { CanStep session.old ledger.old (states.MdatHeader pending_moof) }
+    requires { MayTake input.now carried.old ledger.old (states.MdatHeader pending_moof) }
     ensures { Consumes (borrowed W.contents W.has_failed w.old w.new out.old out.new ledger.old ledger.new)
-        session.old session.new (states.MdatHeader pending_moof) input.now result }
+        carried.old carried.new (states.MdatHeader pending_moof) input.now result }
 {
-    match next_header(&mut session.head, input) {
+    match next_header(&mut carried.header_bytes, input) {
         HeaderStatus::More { count } => wait_on(pending_moof, count),
         HeaderStatus::BadSize { kind } => {
             let at = pending_moof.moof.offset() + pending_moof.moof.size();
@@ -56,7 +54,7 @@ pub(crate) fn take_mdat_header<W: Sink>(
             pending_moof,
             &header,
             bytes.bytes(),
-            session,
+            carried,
             ledger,
             out,
             w,
@@ -88,33 +86,33 @@ fn wait_on(pending_moof: PendingMoof, count: usize) -> Result<Taken, Stop>
 fn begin_fragment<W: Sink>(
     pending_moof: PendingMoof,
     header: &Header,
-    head: &[u8],
-    session: &mut Session,
+    header_bytes: &[u8],
+    carried: &mut Carried,
     ledger: &mut Ledger,
     out: &mut Block,
     w: &mut W,
 ) -> Result<State, Stop>
-    requires { MayBeginFragment session.old.operation session.old ledger.old pending_moof header.now head.now }
+    requires { MayBeginFragment carried.old.operation carried.old ledger.old pending_moof header.now header_bytes.now }
     ensures { Advances (borrowed W.contents W.has_failed w.old w.new out.old out.new ledger.old ledger.new)
-        (with_head head.now session.old) session.new (states.MdatHeader pending_moof) result }
+        (with_head header_bytes.now carried.old) carried.new (states.MdatHeader pending_moof) result }
 {
-    match session.operation {
+    match carried.operation {
         Operation::List(command) => begin_listed(
             command,
             pending_moof,
             header,
-            head,
-            session,
+            header_bytes,
+            carried,
             ledger,
             out,
             w,
         ),
         Operation::Split(cut) => begin_media(
-            cut,
             pending_moof,
             header,
-            head,
-            session,
+            header_bytes,
+            cut,
+            carried,
             ledger,
             out,
             w,
@@ -123,13 +121,13 @@ fn begin_fragment<W: Sink>(
 }
 
 /// The stream ended after the pending moof and these bytes of a header.
-pub(crate) fn unfollowed(pending_moof: &PendingMoof, head: &HeaderReader) -> Fault
-    requires { (tracks : Option (List Track)) × IsState tracks head.now (states.MdatHeader pending_moof.now) }
+pub(crate) fn unfollowed(pending_moof: &PendingMoof, header_bytes: &HeaderReader) -> Fault
+    requires { (tracks : Option (List Track)) × IsState tracks header_bytes.now (states.MdatHeader pending_moof.now) }
     ensures { (meaning : Meaning) (number : ℕ) (tracks : Option (List Track)) → IsPendingMoof tracks pending_moof.now →
-        fault_in ((continuation_at meaning (place_of number tracks head.now (states.MdatHeader pending_moof.now))).reads []).outcome ≡
+        fault_in ((continuation_at meaning (place_of number tracks header_bytes.now (states.MdatHeader pending_moof.now))).reads []).outcome ≡
         Some result }
 {
-    if head.is_empty() {
+    if header_bytes.is_empty() {
         return Fault {
             rule: Rule::MdatMissing,
             kind: Some(MOOF),
@@ -137,7 +135,7 @@ pub(crate) fn unfollowed(pending_moof: &PendingMoof, head: &HeaderReader) -> Fau
         };
     }
     truncated(
-        head.kind(),
+        header_bytes.kind(),
         pending_moof.moof.offset() + pending_moof.moof.size(),
     )
 }

@@ -12,7 +12,7 @@ ghost use Rattle.mp4_fragment_machine.specs.declared.state.State.TheVariants as 
 
 use crate::body::end_fragment;
 use crate::moves::{leave_media, stopped};
-use crate::state::{PendingMoof, Session, State};
+use crate::state::{Carried, PendingMoof, State};
 use crate::step::back_state;
 use mp4_cut::Cut;
 use mp4_ends::{Failed, Sink};
@@ -72,25 +72,25 @@ pub(crate) fn take_media<W: Sink>(
 pub(crate) fn take_split<W: Sink>(
     current: &mut State,
     input: &[u8],
-    session: &mut Session,
+    carried: &mut Carried,
     ledger: &mut Ledger,
     out: &mut Block,
     w: &mut W,
 ) -> Result<usize, Stop>
     requires some { 0 < length input.now }
     requires media { (r : Recutting) × (current.old ≡ states.Media r) }
-    requires state { IsState session.old.tracks session.old.head current.old }
-    requires can { CanStep session.old ledger.old current.old }
+    requires state { IsState carried.old.tracks carried.old.header_bytes current.old }
+    requires can { CanStep carried.old ledger.old current.old }
     ensures { ConsumesInPlace (borrowed W.contents W.has_failed w.old w.new out.old out.new ledger.old ledger.new)
-        session.old session.new current.old current.new input.now result }
+        carried.old carried.new current.old current.new input.now result }
 {
-    let Some(list) = &mut session.tracks else {
+    let Some(list) = &mut carried.tracks else {
         unreachable!();
     };
     let State::Media(recutting) = current else {
         unreachable!();
     };
-    let tally = &mut session.counter.tally;
+    let tally = &mut carried.counter.tally;
     let left = recutting.body.left;
     let at = recutting.body.next - left;
     let media = &mut recutting.media;
@@ -116,7 +116,7 @@ pub(crate) fn take_split<W: Sink>(
     };
     let left = left - count as u64;
     if left == 0 {
-        end_fragment(leave_media(current), list, ledger, &mut session.counter);
+        end_fragment(leave_media(current), list, ledger, &mut carried.counter);
         return Ok(count);
     }
     recutting.body.left = left;

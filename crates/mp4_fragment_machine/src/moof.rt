@@ -15,7 +15,7 @@ ghost use Rattle.mp4_fragment_machine.specs.Implementation.InPlace.{WasReadInPla
 ghost use Rattle.mp4_fragment_machine.specs.declared.state.State.TheVariants as states;
 
 use crate::in_place_read::InPlaceRead;
-use crate::state::{Counter, PendingMoof, Session, State};
+use crate::state::{Carried, Counter, PendingMoof, State};
 use mp4_box::Fault;
 use mp4_frag::Moof;
 use mp4_init::TrackList;
@@ -29,40 +29,43 @@ use mp4_machine::{BufferedBox, Stop};
 ///
 /// `Stream` where it is at fault; `OverLimit` or `Memory` where the claim of the list is refused.
 pub(crate) fn accept_moof(
-    held: BufferedBox,
+    buffered: BufferedBox,
     found: Option<InPlaceRead>,
-    session: &mut Session,
+    carried: &mut Carried,
     ledger: &mut Ledger,
 ) -> Result<PendingMoof, Stop>
-    requires known { session.old.tracks ≡ Some (known session.old.tracks) }
-    requires begins { Begins held.size held.bytes }
-    requires near { held.at + held.size ≤ longest }
-    requires whole { length held.bytes ≡ held.size }
-    requires empty { session.old.head ≡ [] }
-    requires can { CanStep session.old ledger.old (states.Buffering held) }
-    requires found { IfSome found (WasReadInPlace (moof_at held.bytes held.at) (known session.old.tracks)) }
-    ensures tracks { OnOk result (session.new.tracks ≡ session.old.tracks) }
+    requires known { carried.old.tracks ≡ Some (known carried.old.tracks) }
+    requires begins { Begins buffered.size buffered.bytes }
+    requires near { buffered.at + buffered.size ≤ longest }
+    requires whole { length buffered.bytes ≡ buffered.size }
+    requires empty { carried.old.header_bytes ≡ [] }
+    requires can { CanStep carried.old ledger.old (states.Buffering buffered) }
+    requires found { IfSome found (WasReadInPlace (moof_at buffered.bytes buffered.at) (known carried.old.tracks)) }
+    ensures tracks { OnOk result (carried.new.tracks ≡ carried.old.tracks) }
     ensures waits { (u : Untouched) → AcceptsMoof (ledger_alone u ledger.old ledger.new)
-        session.old session.new (states.Buffering held) result }
-    ensures rows_read { OnOk result (session.new.counter.steps.rows ≡
-        session.old.counter.steps.rows + 2 * moof_samples (moof_at held.bytes held.at)) }
-    ensures once { OnErr result (session.new.counter.steps.rows + session.old.counter.tally.inspected ≡
-        session.old.counter.steps.rows + session.new.counter.tally.inspected) }
+        carried.old carried.new (states.Buffering buffered) result }
+    ensures rows_read { OnOk result (carried.new.counter.steps.rows ≡
+        carried.old.counter.steps.rows + 2 * moof_samples (moof_at buffered.bytes buffered.at)) }
+    ensures once { OnErr result (carried.new.counter.steps.rows + carried.old.counter.tally.inspected ≡
+        carried.old.counter.steps.rows + carried.new.counter.tally.inspected) }
 {
-    let Some(list) = &session.tracks else {
+    let Some(list) = &carried.tracks else {
         unreachable!();
     };
-    let moof = match read_moof(&held, found, list, &mut session.counter) {
+    let moof = match read_moof(&buffered, found, list, &mut carried.counter) {
         Ok(moof) => moof,
         Err(fault) => {
-            held.back(ledger);
+            buffered.back(ledger);
             return Err(Stop::Stream(fault));
         }
     };
-    match moof.list(ledger, list, &mut session.counter.steps) {
-        Ok(runs) => Ok(PendingMoof { moof: held, runs }),
+    match moof.list(ledger, list, &mut carried.counter.steps) {
+        Ok(runs) => Ok(PendingMoof {
+            moof: buffered,
+            runs,
+        }),
         Err(refused) => {
-            held.back(ledger);
+            buffered.back(ledger);
             Err(Stop::of_refusal(refused))
         }
     }
@@ -75,20 +78,20 @@ pub(crate) fn accept_moof(
 /// As [`accept_moof`].
 #[inline]
 pub(crate) fn take_moof(
-    held: BufferedBox,
-    session: &mut Session,
+    buffered: BufferedBox,
+    carried: &mut Carried,
     ledger: &mut Ledger,
 ) -> Result<State, Stop>
-    requires known { session.old.tracks ≡ Some (known session.old.tracks) }
-    requires begins { Begins held.size held.bytes }
-    requires near { held.at + held.size ≤ longest }
-    requires whole { length held.bytes ≡ held.size }
-    requires empty { session.old.head ≡ [] }
-    requires can { CanStep session.old ledger.old (states.Buffering held) }
+    requires known { carried.old.tracks ≡ Some (known carried.old.tracks) }
+    requires begins { Begins buffered.size buffered.bytes }
+    requires near { buffered.at + buffered.size ≤ longest }
+    requires whole { length buffered.bytes ≡ buffered.size }
+    requires empty { carried.old.header_bytes ≡ [] }
+    requires can { CanStep carried.old ledger.old (states.Buffering buffered) }
     ensures { (u : Untouched) → Advances (ledger_alone u ledger.old ledger.new)
-        session.old session.new (states.Buffering held) result }
+        carried.old carried.new (states.Buffering buffered) result }
 {
-    match accept_moof(held, None, session, ledger) {
+    match accept_moof(buffered, None, carried, ledger) {
         Ok(pending_moof) => Ok(State::MdatHeader(pending_moof)),
         Err(stop) => Err(stop),
     }
@@ -101,42 +104,47 @@ pub(crate) fn take_moof(
 ///
 /// What is at fault with it.
 fn read_moof<'a>(
-    held: &'a BufferedBox,
+    buffered: &'a BufferedBox,
     found: Option<InPlaceRead>,
     tracks: &TrackList,
     counter: &mut Counter,
 ) -> Result<Moof<'a>, Fault>
-    requires begins { Begins held.now.size held.now.bytes }
-    requires whole { length held.now.bytes ≡ held.now.size }
+    requires begins { Begins buffered.now.size buffered.now.bytes }
+    requires whole { length buffered.now.bytes ≡ buffered.now.size }
     requires steps { counter.old.steps.rows < 2 ^ 127 }
     requires inspected { counter.old.tally.inspected < 2 ^ 127 }
-    requires found { IfSome found (WasReadInPlace (moof_at held.now.bytes held.now.at) tracks.now) }
-    ensures moof { IfOk result (λ m. m ≡ moof_at held.now.bytes held.now.at) }
-    ensures good { OnOk result (IsRead (moof_at held.now.bytes held.now.at) tracks.now) }
+    requires found { IfSome found (WasReadInPlace (moof_at buffered.now.bytes buffered.now.at) tracks.now) }
+    ensures moof { IfOk result (λ m. m ≡ moof_at buffered.now.bytes buffered.now.at) }
+    ensures good { OnOk result (IsRead (moof_at buffered.now.bytes buffered.now.at) tracks.now) }
     ensures fault { IfErr result (λ f.
-        moof_fault (moof_at held.now.bytes held.now.at) tracks.now ≡ Some f) }
-    ensures tally { fault_before_times (moof_at held.now.bytes held.now.at) tracks.now ≡ None →
+        moof_fault (moof_at buffered.now.bytes buffered.now.at) tracks.now ≡ Some f) }
+    ensures tally { fault_before_times (moof_at buffered.now.bytes buffered.now.at) tracks.now ≡ None →
         counter.new.tally ≡
-        plus counter.old.tally (inspected (moof_at held.now.bytes held.now.at)) }
-    ensures rows { fault_before_times (moof_at held.now.bytes held.now.at) tracks.now ≡ None →
+        plus counter.old.tally (inspected (moof_at buffered.now.bytes buffered.now.at)) }
+    ensures rows { fault_before_times (moof_at buffered.now.bytes buffered.now.at) tracks.now ≡ None →
         counter.new.steps.rows ≡
-        counter.old.steps.rows + moof_samples (moof_at held.now.bytes held.now.at) }
+        counter.old.steps.rows + moof_samples (moof_at buffered.now.bytes buffered.now.at) }
     ensures once { counter.new.steps.rows + counter.old.tally.inspected ≡
         counter.old.steps.rows + counter.new.tally.inspected }
-    ensures unread { IsSome (fault_before_times (moof_at held.now.bytes held.now.at) tracks.now) →
+    ensures unread { IsSome (fault_before_times (moof_at buffered.now.bytes buffered.now.at) tracks.now) →
         counter.new ≡ counter.old }
-    ensures few { fault_before_times (moof_at held.now.bytes held.now.at) tracks.now ≡ None →
-        moof_samples (moof_at held.now.bytes held.now.at) ≤ most_in_moof }
+    ensures few { fault_before_times (moof_at buffered.now.bytes buffered.now.at) tracks.now ≡ None →
+        moof_samples (moof_at buffered.now.bytes buffered.now.at) ≤ most_in_moof }
     ensures fragments { counter.new.tally.fragments ≡ counter.old.tally.fragments }
 {
     if let Some(found) = found {
         return match found.count(counter) {
-            Ok(()) => Ok(Moof::again(held.bytes(), held.offset(), tracks)),
+            Ok(()) => Ok(Moof::again(buffered.bytes(), buffered.offset(), tracks)),
             Err(fault) => Err(fault),
         };
     }
     let before = counter.steps.rows;
-    let read = Moof::read(held.bytes(), held.offset(), tracks, &mut counter.steps);
+    let read = Moof::read(
+        buffered.bytes(),
+        buffered.offset(),
+        tracks,
+        &mut counter.steps,
+    );
     counter.tally.inspected += counter.steps.rows - before;
     match read {
         Ok(moof) => Ok(moof),

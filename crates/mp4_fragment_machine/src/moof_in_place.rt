@@ -19,7 +19,7 @@ use crate::machine::FragmentMachine;
 use crate::mdat_header::take_mdat_header;
 use crate::moof::accept_moof;
 use crate::moves::{leave_header, stop_at};
-use crate::state::{PendingMoof, Session, State, Taken};
+use crate::state::{Carried, PendingMoof, State, Taken};
 use mp4_ends::Sink;
 use mp4_ledger::Ledger;
 use mp4_machine::{Block, BufferedBox, Machine, Stop};
@@ -35,23 +35,23 @@ fn buffer_in_place(
     moof: &Span,
     input: &[u8],
     found: Option<InPlaceRead>,
-    session: &mut Session,
+    carried: &mut Carried,
     ledger: &mut Ledger,
 ) -> Result<PendingMoof, Stop>
     requires is { IsFirstBox Moof at input.now moof.now }
     requires most { moof.now.size ≤ most_moof }
-    requires known { session.old.tracks ≡ Some (known session.old.tracks) }
-    requires empty { session.old.head ≡ [] }
-    requires can { CanStep session.old ledger.old (states.Header at) }
+    requires known { carried.old.tracks ≡ Some (known carried.old.tracks) }
+    requires empty { carried.old.header_bytes ≡ [] }
+    requires can { CanStep carried.old ledger.old (states.Header at) }
     requires found { IfSome found (WasReadInPlace (moof_at (take moof.now.size input.now) at)
-        (known session.old.tracks)) }
-    ensures tracks { OnOk result (session.new.tracks ≡ session.old.tracks) }
-    ensures waits { (u : Untouched) → AcceptsMoofPast (ledger_alone u ledger.old ledger.new) session.old session.new
+        (known carried.old.tracks)) }
+    ensures tracks { OnOk result (carried.new.tracks ≡ carried.old.tracks) }
+    ensures waits { (u : Untouched) → AcceptsMoofPast (ledger_alone u ledger.old ledger.new) carried.old carried.new
         (states.Header at) input.now moof.now.size result }
 {
     let (bytes, _) = input.split_at(moof.size as usize);
     match BufferedBox::claim(ledger, at, moof.kind, moof.size, bytes) {
-        Ok(held) => match accept_moof(held, found, session, ledger) {
+        Ok(buffered) => match accept_moof(buffered, found, carried, ledger) {
             Ok(pending_moof) => Ok(pending_moof),
             Err(stop) => Err(stop),
         },
@@ -73,22 +73,22 @@ pub(crate) fn take_moof_in_place<W: Sink>(
     moof: &Span,
     input: &[u8],
     found: Option<InPlaceRead>,
-    session: &mut Session,
+    carried: &mut Carried,
     ledger: &mut Ledger,
     out: &mut Block,
     w: &mut W,
 ) -> Result<Taken, Stop>
     requires is { IsFirstBox Moof at input.now moof.now }
     requires most { moof.now.size ≤ most_moof }
-    requires known { session.old.tracks ≡ Some (known session.old.tracks) }
-    requires empty { session.old.head ≡ [] }
-    requires can { CanStep session.old ledger.old (states.Header at) }
+    requires known { carried.old.tracks ≡ Some (known carried.old.tracks) }
+    requires empty { carried.old.header_bytes ≡ [] }
+    requires can { CanStep carried.old ledger.old (states.Header at) }
     requires found { IfSome found (WasReadInPlace (moof_at (take moof.now.size input.now) at)
-        (known session.old.tracks)) }
+        (known carried.old.tracks)) }
     ensures { Consumes (borrowed W.contents W.has_failed w.old w.new out.old out.new ledger.old ledger.new)
-        session.old session.new (states.Header at) input.now result }
+        carried.old carried.new (states.Header at) input.now result }
 {
-    let pending_moof = match buffer_in_place(at, moof, input, found, session, ledger) {
+    let pending_moof = match buffer_in_place(at, moof, input, found, carried, ledger) {
         Ok(pending_moof) => pending_moof,
         Err(stop) => return Err(stop),
     };
@@ -99,7 +99,7 @@ pub(crate) fn take_moof_in_place<W: Sink>(
         });
     }
     let (_, rest) = input.split_at(moof.size as usize);
-    match take_mdat_header(pending_moof, rest, session, ledger, out, w) {
+    match take_mdat_header(pending_moof, rest, carried, ledger, out, w) {
         Ok(Taken { count, state }) => Ok(Taken {
             count: moof.size as usize + count,
             state,
@@ -128,7 +128,7 @@ impl FragmentMachine {
         requires is { IsFirstBox Moof at input.now moof.now }
         requires most { moof.now.size ≤ most_moof }
         requires state { self.old.state ≡ states.Header at }
-        requires head { self.old.head ≡ [] }
+        requires header_bytes { self.old.header_bytes ≡ [] }
         requires known { self.old.tracks ≡ Some (known self.old.tracks) }
         requires claim { claim_of (place_in self.old) ≤ ledger.old.live }
         requires found { IfSome found (WasReadInPlace (moof_at (take moof.now.size input.now) at)
@@ -137,7 +137,7 @@ impl FragmentMachine {
             ledger.old ledger.new self.old.counter.tally self.new.counter.tally)
             self.old self.new input.now result }
     {
-        match take_moof_in_place(at, moof, input, found, &mut self.session, ledger, out, w) {
+        match take_moof_in_place(at, moof, input, found, &mut self.carried, ledger, out, w) {
             Ok(Taken { count, state }) => {
                 leave_header(&mut self.state, state);
                 Ok(count)

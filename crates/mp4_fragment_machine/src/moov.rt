@@ -10,7 +10,7 @@ ghost use Rattle.mp4_fragment_machine.specs.Implementation.Steps.{Advances, CanS
 ghost use Rattle.mp4_fragment_machine.specs.Implementation.Stops.{stop_of};
 ghost use Rattle.mp4_fragment_machine.specs.declared.state.State.TheVariants as states;
 
-use crate::state::{Session, State};
+use crate::state::{Carried, State};
 use mp4_ends::{Failed, Sink};
 use mp4_init::{InitStop, TrackList, tracks};
 use mp4_ledger::Ledger;
@@ -27,37 +27,37 @@ use std::mem::replace;
 // It is a call of its own so that its room is no part of the frame of its caller, which handles every box.
 #[inline(never)]
 pub(crate) fn take_moov<W: Sink>(
-    held: BufferedBox,
-    session: &mut Session,
+    buffered: BufferedBox,
+    carried: &mut Carried,
     ledger: &mut Ledger,
     out: &mut Block,
     w: &mut W,
 ) -> Result<State, Stop>
-    requires none { session.old.tracks ≡ None }
-    requires begins { Begins held.size held.bytes }
-    requires near { held.at + held.size ≤ longest }
-    requires whole { length held.bytes ≡ held.size }
-    requires empty { session.old.head ≡ [] }
-    requires can { CanStep session.old ledger.old (states.Buffering held) }
+    requires none { carried.old.tracks ≡ None }
+    requires begins { Begins buffered.size buffered.bytes }
+    requires near { buffered.at + buffered.size ≤ longest }
+    requires whole { length buffered.bytes ≡ buffered.size }
+    requires empty { carried.old.header_bytes ≡ [] }
+    requires can { CanStep carried.old ledger.old (states.Buffering buffered) }
     ensures { Advances (borrowed W.contents W.has_failed w.old w.new out.old out.new ledger.old ledger.new)
-        session.old session.new (states.Buffering held) result }
+        carried.old carried.new (states.Buffering buffered) result }
 {
-    let list = match tracks(ledger, held.bytes(), held.offset()) {
+    let list = match tracks(ledger, buffered.bytes(), buffered.offset()) {
         Ok(list) => list,
         Err(why) => {
-            held.back(ledger);
+            buffered.back(ledger);
             return Err(stop_of(why));
         }
     };
-    let at = held.offset() + held.size();
-    match put_moov(session.operation, held.bytes(), out, w) {
+    let at = buffered.offset() + buffered.size();
+    match put_moov(carried.operation, buffered.bytes(), out, w) {
         Ok(()) => {
-            held.back(ledger);
-            put_tracks(&mut session.tracks, list);
+            buffered.back(ledger);
+            put_tracks(&mut carried.tracks, list);
             Ok(State::Header { at })
         }
         Err(Failed) => {
-            held.back(ledger);
+            buffered.back(ledger);
             list.back(ledger);
             Err(Stop::Write)
         }

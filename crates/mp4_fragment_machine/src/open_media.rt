@@ -1,13 +1,11 @@
 //! Recuts media as they come, of an mdat that goes to the end of the stream.
 
-ghost use Rattle.std.specs.Prelude.{◌<◌, length};
-ghost use Rattle.mp4_fragment_machine.specs.States.{IsState};
-ghost use Rattle.mp4_fragment_machine.specs.Implementation.Steps.{CanStep, Consumes, borrowed};
+ghost use Rattle.mp4_fragment_machine.specs.Implementation.Steps.{Consumes, MayTake, borrowed};
 ghost use Rattle.mp4_fragment_machine.specs.declared.state.State.TheVariants as states;
 
 use crate::body::back;
 use crate::media::take_media;
-use crate::state::{OpenRecutting, Session, State, Taken};
+use crate::state::{Carried, OpenRecutting, State, Taken};
 use mp4_box::Rule;
 use mp4_ends::{Failed, Sink};
 use mp4_ledger::Ledger;
@@ -22,18 +20,16 @@ use mp4_machine::{Block, LONGEST, OpenBody, Stop, at_fault};
 pub(crate) fn take_open_split<W: Sink>(
     recutting: OpenRecutting,
     input: &[u8],
-    session: &mut Session,
+    carried: &mut Carried,
     ledger: &mut Ledger,
     out: &mut Block,
     w: &mut W,
 ) -> Result<Taken, Stop>
-    requires some { 0 < length input.now }
-    requires state { IsState session.old.tracks session.old.head (states.OpenMedia recutting) }
-    requires can { CanStep session.old ledger.old (states.OpenMedia recutting) }
+    requires { MayTake input.now carried.old ledger.old (states.OpenMedia recutting) }
     ensures { Consumes (borrowed W.contents W.has_failed w.old w.new out.old out.new ledger.old ledger.new)
-        session.old session.new (states.OpenMedia recutting) input.now result }
+        carried.old carried.new (states.OpenMedia recutting) input.now result }
 {
-    let Some(list) = &session.tracks else {
+    let Some(list) = &carried.tracks else {
         unreachable!();
     };
     let OpenRecutting {
@@ -48,7 +44,7 @@ pub(crate) fn take_open_split<W: Sink>(
         return Err(at_fault(Rule::StreamTooLong, Some(body.kind), body.at));
     }
     let mut media = media;
-    let tally = &mut session.counter.tally;
+    let tally = &mut carried.counter.tally;
     let at = LONGEST - body.left;
     let count = match take_media(
         at,
@@ -75,7 +71,7 @@ pub(crate) fn take_open_split<W: Sink>(
     };
     let state = State::OpenMedia(OpenRecutting {
         cut,
-        number: session.counter.tally.fragments + 1,
+        number: carried.counter.tally.fragments + 1,
         body,
         media,
         pending_moof,

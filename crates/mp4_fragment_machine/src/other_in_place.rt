@@ -10,7 +10,7 @@ ghost use Rattle.mp4_fragment_machine.specs.Implementation.InPlace.{IsFirstBox};
 ghost use Rattle.mp4_fragment_machine.specs.declared.state.State.TheVariants as states;
 
 use crate::boxes_in_place::{Span, first_box};
-use crate::state::Session;
+use crate::state::Carried;
 use mp4_box::HeaderReader;
 use mp4_ends::{Failed, Sink};
 use mp4_machine::{Block, Stop};
@@ -18,12 +18,12 @@ use mp4_recut::{Operation, is_dropped};
 
 /// The box at `at`, if no byte of a header came before and it is whole in the input.
 #[inline(always)]
-pub(crate) fn box_at(at: u64, head: &HeaderReader, input: &[u8]) -> Option<Span>
+pub(crate) fn box_at(at: u64, header_bytes: &HeaderReader, input: &[u8]) -> Option<Span>
     requires at { at ≤ longest }
-    ensures head { IfSome result (λ _. head.now ≡ []) }
+    ensures header_bytes { IfSome result (λ _. header_bytes.now ≡ []) }
     ensures is { IfSome result (λ b. IsFirstBox (kind_in b.kind.0) at input.now b) }
 {
-    if head.is_empty() {
+    if header_bytes.is_empty() {
         first_box(at, input)
     } else {
         None
@@ -40,18 +40,18 @@ pub(crate) fn take_box_in_place<W: Sink>(
     at: u64,
     span: &Span,
     input: &[u8],
-    session: &Session,
+    carried: &Carried,
     out: &mut Block,
     w: &mut W,
 ) -> Result<u64, Stop>
     requires is { IsFirstBox Other at input.now span.now }
-    requires empty { session.now.head ≡ [] }
-    ensures { (account : Account) → CanStep session.now account (states.Header at) →
+    requires empty { carried.now.header_bytes ≡ [] }
+    ensures { (account : Account) → CanStep carried.now account (states.Header at) →
         TakesInPlace (borrowed W.contents W.has_failed w.old w.new out.old out.new account account)
-        session.now session.now at input.now result }
+        carried.now carried.now at input.now result }
 {
     let _ = at;
-    match session.operation {
+    match carried.operation {
         Operation::List(_) => Ok(span.size),
         Operation::Split(_) => {
             if is_dropped(span.kind) {

@@ -11,10 +11,10 @@ ghost use Rattle.mp4_ledger.specs.Memory.{Account};
 ghost use Rattle.mp4_recut.specs.Operations.{operation_meaning};
 ghost use Rattle.mp4_fragment_machine.specs.Places.{Untouched};
 ghost use Rattle.mp4_fragment_machine.specs.Implementation.Steps.{Advances, Borrowed, CanPass, GoesTo, at_state, borrowed, ledger_alone, with_head};
-ghost use Rattle.mp4_fragment_machine.specs.declared.state.Session.{Session};
+ghost use Rattle.mp4_fragment_machine.specs.declared.state.Carried.{Carried};
 ghost use Rattle.mp4_fragment_machine.specs.declared.state.State.TheVariants as states;
 
-use crate::state::{Session, State};
+use crate::state::{Carried, State};
 use mp4_box::Header;
 use mp4_ends::{Failed, Sink};
 use mp4_machine::{AnyBody, Block, Stop, body_of};
@@ -28,25 +28,25 @@ use mp4_recut::{Operation, is_dropped};
 pub(crate) fn pass_over<W: Sink>(
     at: u64,
     header: &Header,
-    head: &[u8],
-    session: &Session,
+    header_bytes: &[u8],
+    carried: &Carried,
     out: &mut Block,
     w: &mut W,
 ) -> Result<State, Stop>
     requires room { HasRoom header.now.size header.now.header_len }
     requires end { least_end at header.now header.now.size ≤ longest }
     requires other { kind_in header.now.kind.0 ≡ Other }
-    ensures { (account : Account) → CanPass session.now account at header.now head.now →
+    ensures { (account : Account) → CanPass carried.now account at header.now header_bytes.now →
         Advances (borrowed W.contents W.has_failed w.old w.new out.old out.new account account)
-        (with_head head.now session.now) session.now (states.Header at) result }
+        (with_head header_bytes.now carried.now) carried.now (states.Header at) result }
 {
-    match session.operation {
+    match carried.operation {
         Operation::List(_) => Ok(leave_out(at, header)),
         Operation::Split(_) => {
             if is_dropped(header.kind) {
                 return Ok(leave_out(at, header));
             }
-            match out.put(w, head) {
+            match out.put(w, header_bytes) {
                 Ok(()) => Ok(copy(at, header)),
                 Err(Failed) => Err(Stop::Write),
             }
@@ -59,7 +59,7 @@ fn copy(at: u64, header: &Header) -> State
     requires room { HasRoom header.now.size header.now.header_len }
     requires end { least_end at header.now header.now.size ≤ longest }
     requires other { kind_in header.now.kind.0 ≡ Other }
-    ensures { (l : Borrowed) (k : Session) (x : List ℕ) → CanPass k l.account at header.now x →
+    ensures { (l : Borrowed) (k : Carried) (x : List ℕ) → CanPass k l.account at header.now x →
         l.account' ≡ l.account → l.failed' ≡ l.failed →
         ((b : List ℕ) → (operation_meaning k.operation).passed header.now.kind b ≡ says b) →
         Passes l.written l.written' l.waiting l.waiting' x →
@@ -77,7 +77,7 @@ fn leave_out(at: u64, header: &Header) -> State
     requires room { HasRoom header.now.size header.now.header_len }
     requires end { least_end at header.now header.now.size ≤ longest }
     requires other { kind_in header.now.kind.0 ≡ Other }
-    ensures { (u : Untouched) (account : Account) (k : Session) (x : List ℕ) →
+    ensures { (u : Untouched) (account : Account) (k : Carried) (x : List ℕ) →
         CanPass k account at header.now x →
         ((b : List ℕ) → (operation_meaning k.operation).passed header.now.kind b ≡ no_effects) →
         GoesTo (ledger_alone u account account) (with_head x k) k

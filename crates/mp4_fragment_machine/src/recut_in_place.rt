@@ -11,8 +11,8 @@ ghost use Rattle.mp4_fragment_machine.specs.Implementation.Steps.{CanStep, Takes
 ghost use Rattle.mp4_fragment_machine.specs.Implementation.InPlace.{AreBoxes, IsFragment, media_in, media_start};
 ghost use Rattle.mp4_fragment_machine.specs.declared.state.State.TheVariants as states;
 
-use crate::boxes_in_place::{Boxes, ROW, Whole};
-use crate::state::{Counter, Session};
+use crate::boxes_in_place::{Boxes, CompleteFragment, ROW};
+use crate::state::{Carried, Counter};
 use mp4_cut::Cut;
 use mp4_ends::{Failed, Sink};
 use mp4_init::TrackList;
@@ -42,47 +42,47 @@ fn media<'a>(input: &'a [u8], boxes: &Boxes<'_>) -> &'a [u8]
 fn recut_in_place<W: Sink>(
     cut: &Cut,
     at: u64,
-    whole: &Whole<'_>,
+    complete: &CompleteFragment<'_>,
     input: &[u8],
     tracks: &TrackList,
     counter: &mut Counter,
     out: &mut Block,
     w: &mut W,
 ) -> Result<(), Failed>
-    requires is { IsFragment at tracks.now input.now whole.now.boxes whole.now.run.now }
+    requires is { IsFragment at tracks.now input.now complete.now.boxes complete.now.run.now }
     requires plain { cut.now.index ≡ false }
-    requires numbers { counter.old.tally.fragments + 1 + whole.now.run.now.run.count ≤ 2 ^ 32 }
+    requires numbers { counter.old.tally.fragments + 1 + complete.now.run.now.run.count ≤ 2 ^ 32 }
     requires counted { IsCounted (operations.Split cut.now) counter.old at 0 0 }
     ensures puts { (timescale : ℕ) → PutsAll (sent W.contents W.has_failed w.old w.new) out.old out.new
-        (media_start at whole.now.boxes) (media_in input.now whole.now.boxes)
-        (run_fragments cut.now whole.now.boxes.moof.now whole.now.run.now.run timescale 0
+        (media_start at complete.now.boxes) (media_in input.now complete.now.boxes)
+        (run_fragments cut.now complete.now.boxes.moof.now complete.now.run.now.run timescale 0
         (counter.old.tally.fragments + 1)
-        (pieces_of cut.now whole.now.boxes.moof.now whole.now.run.now.run)) result }
+        (pieces_of cut.now complete.now.boxes.moof.now complete.now.run.now.run)) result }
     ensures number { OnOk result (counter.new.tally.fragments ≡ counter.old.tally.fragments +
-        length (pieces_of cut.now whole.now.boxes.moof.now whole.now.run.now.run)) }
+        length (pieces_of cut.now complete.now.boxes.moof.now complete.now.run.now.run)) }
     ensures least { counter.old.tally.fragments ≤ counter.new.tally.fragments }
     ensures most { counter.new.tally.fragments ≤ counter.old.tally.fragments +
-        length (pieces_of cut.now whole.now.boxes.moof.now whole.now.run.now.run) }
+        length (pieces_of cut.now complete.now.boxes.moof.now complete.now.run.now.run) }
     ensures tally { counter.new.tally ≡ record {
       fragments = counter.new.tally.fragments;
-      samples = counter.old.tally.samples + whole.now.run.now.run.count;
-      media_bytes = counter.old.tally.media_bytes + whole.now.run.now.run.bytes;
-      inspected = counter.old.tally.inspected + whole.now.run.now.run.count;
+      samples = counter.old.tally.samples + complete.now.run.now.run.count;
+      media_bytes = counter.old.tally.media_bytes + complete.now.run.now.run.bytes;
+      inspected = counter.old.tally.inspected + complete.now.run.now.run.count;
     } }
     ensures steps { counter.new.steps.rows ≡
-        counter.old.steps.rows + 5 * whole.now.run.now.run.count }
+        counter.old.steps.rows + 5 * complete.now.run.now.run.count }
 {
-    let run = &whole.run.run;
+    let run = &complete.run.run;
     let samples = u128::from(run.count);
     counter.tally.inspected += samples;
     counter.tally.samples += samples;
     counter.tally.media_bytes += run.bytes;
     counter.steps.rows += 5 * samples;
-    let held = whole.boxes.moof;
-    let start = at + held.len() as u64 + whole.boxes.mdat.header_len;
-    let payload = media(input, &whole.boxes);
+    let moof_bytes = complete.boxes.moof;
+    let start = at + moof_bytes.len() as u64 + complete.boxes.mdat.header_len;
+    let payload = media(input, &complete.boxes);
     let fragments = &mut counter.tally.fragments;
-    match put_run(run, held, cut, start, payload, fragments, out, w) {
+    match put_run(run, moof_bytes, cut, start, payload, fragments, out, w) {
         Ok(()) => Ok(()),
         Err(Failed) => Err(Failed),
     }
@@ -97,36 +97,36 @@ fn recut_in_place<W: Sink>(
 pub(crate) fn recut_fragment<W: Sink>(
     cut: &Cut,
     at: u64,
-    whole: &Whole<'_>,
+    complete: &CompleteFragment<'_>,
     input: &[u8],
-    session: &mut Session,
+    carried: &mut Carried,
     ledger: &mut Ledger,
     out: &mut Block,
     w: &mut W,
 ) -> Result<u64, Stop>
-    requires known { session.old.tracks ≡ Some (known session.old.tracks) }
-    requires is { IsFragment at (known session.old.tracks) input.now whole.now.boxes whole.now.run.now }
+    requires known { carried.old.tracks ≡ Some (known carried.old.tracks) }
+    requires is { IsFragment at (known carried.old.tracks) input.now complete.now.boxes complete.now.run.now }
     requires plain { cut.now.index ≡ false }
-    requires numbers { session.old.counter.tally.fragments + 1 + whole.now.run.now.run.count ≤ 2 ^ 32 }
-    requires room { ledger.old.live + (length whole.now.boxes.moof.now + 64) ≤ ledger.old.limit }
-    requires empty { session.old.head ≡ [] }
-    requires operation { session.old.operation ≡ operations.Split cut.now }
-    requires can { CanStep session.old ledger.old (states.Header at) }
+    requires numbers { carried.old.counter.tally.fragments + 1 + complete.now.run.now.run.count ≤ 2 ^ 32 }
+    requires room { ledger.old.live + (length complete.now.boxes.moof.now + 64) ≤ ledger.old.limit }
+    requires empty { carried.old.header_bytes ≡ [] }
+    requires operation { carried.old.operation ≡ operations.Split cut.now }
+    requires can { CanStep carried.old ledger.old (states.Header at) }
     ensures { TakesInPlace (borrowed W.contents W.has_failed w.old w.new out.old out.new ledger.old ledger.new)
-        session.old session.new at input.now result }
+        carried.old carried.new at input.now result }
 {
-    let Some(list) = &mut session.tracks else {
+    let Some(list) = &mut carried.tracks else {
         unreachable!();
     };
-    let held = whole.boxes.moof.len() as u64;
-    match ledger.count_claim(held + ROW) {
+    let moof_len = complete.boxes.moof.len() as u64;
+    match ledger.count_claim(moof_len + ROW) {
         Ok(()) => {}
         Err(_) => unreachable!(),
     }
-    match recut_in_place(cut, at, whole, input, list, &mut session.counter, out, w) {
+    match recut_in_place(cut, at, complete, input, list, &mut carried.counter, out, w) {
         Ok(()) => {}
         Err(Failed) => return Err(Stop::Write),
     }
-    whole.run.settle(list);
-    Ok(held + whole.boxes.mdat.size)
+    complete.run.settle(list);
+    Ok(moof_len + complete.boxes.mdat.size)
 }

@@ -14,7 +14,7 @@ ghost use Rattle.mp4_fragment_machine.specs.declared.state.State.TheVariants as 
 
 use crate::accept_recut::{Split, begin_split};
 use crate::body::end_fragment;
-use crate::state::{OpenRecutting, PendingMoof, Recutting, Session, State};
+use crate::state::{Carried, OpenRecutting, PendingMoof, Recutting, State};
 use mp4_box::Header;
 use mp4_cut::Cut;
 use mp4_ends::Sink;
@@ -27,34 +27,34 @@ fn enter_split(
     header: &Header,
     split: Split,
     cut: Cut,
-    session: &mut Session,
+    carried: &mut Carried,
     ledger: &mut Ledger,
 ) -> State
     requires room { HasRoom header.now.size header.now.header_len }
     requires near { least_end at header.now header.now.size ≤ longest }
     requires at { at ≡ split.pending_moof.moof.at + length split.pending_moof.moof.bytes }
-    requires operation { session.old.operation ≡ operations.Split cut }
-    requires empty { session.old.head ≡ [] }
-    requires pending_moof { IsPendingMoof session.old.tracks split.pending_moof }
-    requires claim { claimed_in session.old.tracks (Some split.pending_moof) ≤ ledger.old.live }
-    requires counted { IsCounted (operations.Split cut) session.old.counter (bound_after at header.now.size)
+    requires operation { carried.old.operation ≡ operations.Split cut }
+    requires empty { carried.old.header_bytes ≡ [] }
+    requires pending_moof { IsPendingMoof carried.old.tracks split.pending_moof }
+    requires claim { claimed_in carried.old.tracks (Some split.pending_moof) ≤ ledger.old.live }
+    requires counted { IsCounted (operations.Split cut) carried.old.counter (bound_after at header.now.size)
         0 (moof_samples (moof_in split.pending_moof)) }
     ensures { (number : ℕ) (u : Untouched) → EntersMedia cut (recut_fragment split.pending_moof
-        (known session.old.tracks) number header.now) header.now split
-        (ledger_alone u ledger.old ledger.new) session.old session.new result }
+        (known carried.old.tracks) number header.now) header.now split
+        (ledger_alone u ledger.old ledger.new) carried.old carried.new result }
 {
     let Split {
         pending_moof,
         media,
         needed,
     } = split;
-    let Some(list) = &mut session.tracks else {
+    let Some(list) = &mut carried.tracks else {
         unreachable!();
     };
-    let number = session.counter.tally.fragments + 1;
+    let number = carried.counter.tally.fragments + 1;
     match body_of(at, header) {
         AnyBody::Empty { next } => {
-            end_fragment(pending_moof, list, ledger, &mut session.counter);
+            end_fragment(pending_moof, list, ledger, &mut carried.counter);
             State::Header { at: next }
         }
         AnyBody::Sized(body) => State::Media(Recutting {
@@ -81,35 +81,35 @@ fn enter_split(
 ///
 /// As [`begin_split`].
 pub(crate) fn begin_media<W: Sink>(
-    cut: Cut,
     pending_moof: PendingMoof,
     header: &Header,
-    head: &[u8],
-    session: &mut Session,
+    header_bytes: &[u8],
+    cut: Cut,
+    carried: &mut Carried,
     ledger: &mut Ledger,
     out: &mut Block,
     w: &mut W,
 ) -> Result<State, Stop>
-    requires { MayBeginFragment (operations.Split cut) session.old ledger.old pending_moof header.now head.now }
+    requires { MayBeginFragment (operations.Split cut) carried.old ledger.old pending_moof header.now header_bytes.now }
     ensures { Advances (borrowed W.contents W.has_failed w.old w.new out.old out.new ledger.old ledger.new)
-        (with_head head.now session.old) session.new (states.MdatHeader pending_moof) result }
+        (with_head header_bytes.now carried.old) carried.new (states.MdatHeader pending_moof) result }
 {
-    let Some(list) = &session.tracks else {
+    let Some(list) = &carried.tracks else {
         unreachable!();
     };
     let at = pending_moof.moof.offset() + pending_moof.moof.size();
     match begin_split(
         pending_moof,
         header,
-        head,
+        header_bytes,
         list,
         &cut,
         ledger,
-        &mut session.counter,
+        &mut carried.counter,
         out,
         w,
     ) {
-        Ok(split) => Ok(enter_split(at, header, split, cut, session, ledger)),
+        Ok(split) => Ok(enter_split(at, header, split, cut, carried, ledger)),
         Err(stop) => Err(stop),
     }
 }

@@ -14,8 +14,8 @@ ghost use Rattle.mp4_fragment_machine.specs.Implementation.Steps.{CanStep, Stops
 ghost use Rattle.mp4_fragment_machine.specs.Implementation.InPlace.{AreBoxes, payload_in};
 ghost use Rattle.mp4_fragment_machine.specs.declared.state.State.TheVariants as states;
 
-use crate::boxes_in_place::{Boxes, ROW, Whole};
-use crate::state::Session;
+use crate::boxes_in_place::{Boxes, CompleteFragment, ROW};
+use crate::state::Carried;
 use mp4_box::Fault;
 use mp4_ledger::Ledger;
 use mp4_machine::Stop;
@@ -28,29 +28,29 @@ pub(crate) fn refuse_times(
     input: &[u8],
     samples: u128,
     fault: Fault,
-    session: &mut Session,
+    carried: &mut Carried,
     ledger: &mut Ledger,
 ) -> Stop
-    requires known { session.old.tracks ≡ Some (known session.old.tracks) }
+    requires known { carried.old.tracks ≡ Some (known carried.old.tracks) }
     requires are { AreBoxes at input.now boxes.now }
-    requires good { fault_before_times (moof_at boxes.now.moof.now at) (known session.old.tracks) ≡ None }
+    requires good { fault_before_times (moof_at boxes.now.moof.now at) (known carried.old.tracks) ≡ None }
     requires late { least (time_faults (moof_trafs (moof_at boxes.now.moof.now at)
-        (known session.old.tracks))) ≡ Some fault }
+        (known carried.old.tracks))) ≡ Some fault }
     requires samples { samples ≡ moof_samples (moof_at boxes.now.moof.now at) }
     requires room { ledger.old.live + (length boxes.now.moof.now + 64) ≤ ledger.old.limit }
-    requires empty { session.old.head ≡ [] }
-    requires can { CanStep session.old ledger.old (states.Header at) }
-    ensures stops { (u : Untouched) → StopsIn (ledger_alone u ledger.old ledger.new) session.old session.new
-        (at_state session.old (states.Header at)) input.now result }
-    ensures rows_read { session.new.counter.steps.rows ≡ session.old.counter.steps.rows +
+    requires empty { carried.old.header_bytes ≡ [] }
+    requires can { CanStep carried.old ledger.old (states.Header at) }
+    ensures stops { (u : Untouched) → StopsIn (ledger_alone u ledger.old ledger.new) carried.old carried.new
+        (at_state carried.old (states.Header at)) input.now result }
+    ensures rows_read { carried.new.counter.steps.rows ≡ carried.old.counter.steps.rows +
         moof_samples (moof_at boxes.now.moof.now at) }
 {
     match ledger.count_claim(boxes.moof.len() as u64) {
         Ok(()) => {}
         Err(_) => unreachable!(),
     }
-    session.counter.tally.inspected += samples;
-    session.counter.steps.rows += samples;
+    carried.counter.tally.inspected += samples;
+    carried.counter.steps.rows += samples;
     Stop::Stream(fault)
 }
 
@@ -58,33 +58,33 @@ pub(crate) fn refuse_times(
 /// samples, which were read twice.
 pub(crate) fn refuse_place(
     at: u64,
-    whole: &Whole<'_>,
+    complete: &CompleteFragment<'_>,
     input: &[u8],
     fault: Fault,
-    session: &mut Session,
+    carried: &mut Carried,
     ledger: &mut Ledger,
 ) -> Stop
-    requires known { session.old.tracks ≡ Some (known session.old.tracks) }
-    requires are { AreBoxes at input.now whole.now.boxes }
-    requires single_run { IsSingle (moof_at whole.now.boxes.moof.now at) (known session.old.tracks)
-        whole.now.run.now }
-    requires misplaced { (are : AreBoxes at input.now whole.now.boxes) → place_fault
-        (payload_in (at + are.span.size) whole.now.boxes.mdat) (whole.now.run.now.run ∷ []) ≡
+    requires known { carried.old.tracks ≡ Some (known carried.old.tracks) }
+    requires are { AreBoxes at input.now complete.now.boxes }
+    requires single_run { IsSingle (moof_at complete.now.boxes.moof.now at) (known carried.old.tracks)
+        complete.now.run.now }
+    requires misplaced { (are : AreBoxes at input.now complete.now.boxes) → place_fault
+        (payload_in (at + are.span.size) complete.now.boxes.mdat) (complete.now.run.now.run ∷ []) ≡
         Some fault }
-    requires room { ledger.old.live + (length whole.now.boxes.moof.now + 64) ≤ ledger.old.limit }
-    requires empty { session.old.head ≡ [] }
-    requires can { CanStep session.old ledger.old (states.Header at) }
-    ensures stops { (u : Untouched) → StopsIn (ledger_alone u ledger.old ledger.new) session.old session.new
-        (at_state session.old (states.Header at)) input.now result }
-    ensures rows_read { session.new.counter.steps.rows ≡ session.old.counter.steps.rows +
-        2 * whole.now.run.now.run.count }
+    requires room { ledger.old.live + (length complete.now.boxes.moof.now + 64) ≤ ledger.old.limit }
+    requires empty { carried.old.header_bytes ≡ [] }
+    requires can { CanStep carried.old ledger.old (states.Header at) }
+    ensures stops { (u : Untouched) → StopsIn (ledger_alone u ledger.old ledger.new) carried.old carried.new
+        (at_state carried.old (states.Header at)) input.now result }
+    ensures rows_read { carried.new.counter.steps.rows ≡ carried.old.counter.steps.rows +
+        2 * complete.now.run.now.run.count }
 {
-    match ledger.count_claim(whole.boxes.moof.len() as u64 + ROW) {
+    match ledger.count_claim(complete.boxes.moof.len() as u64 + ROW) {
         Ok(()) => {}
         Err(_) => unreachable!(),
     }
-    let samples = u128::from(whole.run.run.count);
-    session.counter.tally.inspected += samples;
-    session.counter.steps.rows += 2 * samples;
+    let samples = u128::from(complete.run.run.count);
+    carried.counter.tally.inspected += samples;
+    carried.counter.steps.rows += 2 * samples;
     Stop::Stream(fault)
 }

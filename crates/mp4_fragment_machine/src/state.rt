@@ -64,12 +64,12 @@ pub(crate) struct Counter {
 }
 
 /// What a machine has in every state.
-pub(crate) struct Session {
+pub(crate) struct Carried {
     pub(crate) operation: Operation,
     /// The tracks, after the moov.
     pub(crate) tracks: Option<TrackList>,
     /// The bytes of a header so far.
-    pub(crate) head: HeaderReader,
+    pub(crate) header_bytes: HeaderReader,
     pub(crate) counter: Counter,
 }
 

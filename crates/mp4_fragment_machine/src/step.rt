@@ -1,10 +1,10 @@
 //! Takes bytes, by the state of a machine.
 
-ghost use Rattle.std.specs.Prelude.{◌≡◌, ◌<◌, ◌≤◌, Option, length};
+ghost use Rattle.std.specs.Prelude.{◌≡◌, ◌≤◌, Option};
 ghost use Rattle.mp4_ledger.specs.Memory.{given_back};
 ghost use Rattle.mp4_machine.specs.declared.body.Body.{Body};
-ghost use Rattle.mp4_fragment_machine.specs.States.{IsState, kept_by};
-ghost use Rattle.mp4_fragment_machine.specs.Implementation.Steps.{CanStep, Consumes, borrowed};
+ghost use Rattle.mp4_fragment_machine.specs.States.{kept_by};
+ghost use Rattle.mp4_fragment_machine.specs.Implementation.Steps.{Consumes, MayTake, borrowed};
 ghost use Rattle.mp4_fragment_machine.specs.declared.state.Recutting.{Recutting};
 ghost use Rattle.mp4_fragment_machine.specs.declared.state.State.TheVariants as states;
 ghost use Rattle.mp4_fragment_machine.specs.declared.state.PendingMoof.{PendingMoof};
@@ -15,7 +15,7 @@ use crate::copied_box::{take_copied, take_open_copied};
 use crate::header::take_header;
 use crate::mdat_header::take_mdat_header;
 use crate::open_media::take_open_split;
-use crate::state::{OpenRecutting, Recutting, Session, State, Taken};
+use crate::state::{Carried, OpenRecutting, Recutting, State, Taken};
 use mp4_ends::Sink;
 use mp4_ledger::Ledger;
 use mp4_machine::{Block, Stop};
@@ -31,26 +31,24 @@ use mp4_machine::{Block, Stop};
 pub(crate) fn take_next<W: Sink>(
     state: State,
     input: &[u8],
-    session: &mut Session,
+    carried: &mut Carried,
     ledger: &mut Ledger,
     out: &mut Block,
     w: &mut W,
 ) -> Result<Taken, Stop>
-    requires some { 0 < length input.now }
-    requires state { IsState session.old.tracks session.old.head state }
-    requires can { CanStep session.old ledger.old state }
+    requires may { MayTake input.now carried.old ledger.old state }
     requires body { (b : Body) (w : Option PendingMoof) → state ≡ states.Body b w → ⊥ }
     requires media { (r : Recutting) → state ≡ states.Media r → ⊥ }
     ensures { Consumes (borrowed W.contents W.has_failed w.old w.new out.old out.new ledger.old ledger.new)
-        session.old session.new state input.now result }
+        carried.old carried.new state input.now result }
 {
     match state {
-        State::Header { at } => take_header(at, input, session, ledger, out, w),
-        State::Buffering(held) => take_held(held, input, session, ledger, out, w),
+        State::Header { at } => take_header(at, input, carried, ledger, out, w),
+        State::Buffering(buffered) => take_held(buffered, input, carried, ledger, out, w),
         State::MdatHeader(pending_moof) => take_mdat_header(
             pending_moof,
             input,
-            session,
+            carried,
             ledger,
             out,
             w,
@@ -59,12 +57,12 @@ pub(crate) fn take_next<W: Sink>(
             body,
             pending_moof,
             input,
-            session,
+            carried,
             ledger,
         ),
-        State::Copied(body) => take_copied(body, input, session, out, w),
-        State::OpenCopied(body) => take_open_copied(body, input, session, out, w),
-        State::OpenMedia(recutting) => take_open_split(recutting, input, session, ledger, out, w),
+        State::Copied(body) => take_copied(body, input, out, w),
+        State::OpenCopied(body) => take_open_copied(body, input, out, w),
+        State::OpenMedia(recutting) => take_open_split(recutting, input, carried, ledger, out, w),
         _ => unreachable!(),
     }
 }
@@ -78,7 +76,7 @@ pub(crate) fn back_state(state: State, ledger: &mut Ledger)
         State::Header { at } => {
             let _ = at;
         }
-        State::Buffering(held) => held.back(ledger),
+        State::Buffering(buffered) => buffered.back(ledger),
         State::MdatHeader(pending_moof) => back(Some(pending_moof), ledger),
         State::Body(_, pending_moof) => back(pending_moof, ledger),
         State::OpenBody(_, pending_moof) => back(pending_moof, ledger),

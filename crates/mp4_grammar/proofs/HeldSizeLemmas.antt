@@ -35,10 +35,10 @@ rest_bytes x y fits = subst IsBytes (drop-append_seam x y) (IsBytes-drop (length
 abbrev headed_of : (kind : Kind) (b : OneBox) (y : List ℕ) → IsOne kind b → Headed (b.bytes ++ y)
 headed_of kind b y one = record {
   header = b.header;
-  head = one.is.head;
+  header_bytes = one.is.header_bytes;
   more = one.payload ++ y;
   spelled = one.is.spelled;
-  cut = ap (λ l. l ++ y) one.is.whole ∙ append_assoc one.is.head one.payload y;
+  cut = ap (λ l. l ++ y) one.is.whole ∙ append_assoc one.is.header_bytes one.payload y;
 }
 
 -- where there is a moof the tracks are known

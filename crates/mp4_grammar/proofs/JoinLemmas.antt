@@ -55,16 +55,16 @@ module _ (meaning : Meaning) where
 
   -- the same of a whole box
   pub item-box : (c : Context) (b : OneBox) (payload y : List ℕ) (kind : Kind) (tracks : Option (List Track)) (is : IsBox b.header payload b.bytes) → kind_in b.header.kind.0 ≡ kind → c.tracks ≡ tracks → c.at + length b.bytes ≤ longest
-      → item meaning c (b.bytes ++ y) ≡ box_in meaning c b.header is.head (payload ++ y) kind tracks
+      → item meaning c (b.bytes ++ y) ≡ box_in meaning c b.header is.header_bytes (payload ++ y) kind tracks
   item-box c b payload y kind tracks is e known near =
-      ap (item meaning c) (ap (λ l. l ++ y) is.whole ∙ append_assoc is.head payload y)
-      ∙ item-in c b.header is.head (payload ++ y) kind tracks is.spelled e known (rw is.size near)
+      ap (item meaning c) (ap (λ l. l ++ y) is.whole ∙ append_assoc is.header_bytes payload y)
+      ∙ item-in c b.header is.header_bytes (payload ++ y) kind tracks is.spelled e known (rw is.size near)
 
   -- all of a box that is held
   kept-box : (c : Context) (b : OneBox) (payload y : List ℕ) (limit : ℕ) (is : IsBox b.header payload b.bytes) → length b.bytes ≤ limit
-      → keeping meaning c b.header limit (is.head ++ (payload ++ y)) b.header.size ≡ after_effects (requests_memory c.at (table_of c.tracks + length b.bytes)) (whole_box_by meaning c b.bytes y c.tracks)
+      → keeping meaning c b.header limit (is.header_bytes ++ (payload ++ y)) b.header.size ≡ after_effects (requests_memory c.at (table_of c.tracks + length b.bytes)) (whole_box_by meaning c b.bytes y c.tracks)
   kept-box c b payload y limit is small =
-      ap (λ l. keeping meaning c b.header limit l b.header.size) (sym (ap (λ l. l ++ y) is.whole ∙ append_assoc is.head payload y))
+      ap (λ l. keeping meaning c b.header limit l b.header.size) (sym (ap (λ l. l ++ y) is.whole ∙ append_assoc is.header_bytes payload y))
       ∙ keeping-small c b.header limit (length b.bytes) (b.bytes ++ y) is.size small
       ∙ ap (after_effects (requests_memory c.at (table_of c.tracks + length b.bytes))) (kept-whole meaning c b.header.kind b.bytes y)
 
@@ -131,11 +131,11 @@ module _ (meaning : Meaning) where
       let payload = one.payload in
       let f = fragment_in c moof mdat in
       let next = c.at + length moof.bytes in
-      let long : length mdat.bytes ≡ length is.head + length payload = ap length is.whole ∙ length-append is.head payload in
+      let long : length mdat.bytes ≡ length is.header_bytes + length payload = ap length is.whole ∙ length-append is.header_bytes payload in
       let left : length mdat.bytes - mdat.header.header_len ≡ length payload = omega (arith, long, is.spelled.header_len) in
-      let own : payload ≡ drop mdat.header.header_len mdat.bytes = sym (drop-append_seam is.head payload) ∙ ap (drop (length is.head)) (sym is.whole) ∙ ap (λ n. drop n mdat.bytes) (sym is.spelled.header_len) in
-      ap (after_moof meaning c (tracks_in c) moof.bytes) (ap (λ l. l ++ y) is.whole ∙ append_assoc is.head payload y)
-      ∙ second-mdat c moof.bytes mdat.header is.head (payload ++ y) None is.spelled one.type (rw is.size near) none
+      let own : payload ≡ drop mdat.header.header_len mdat.bytes = sym (drop-append_seam is.header_bytes payload) ∙ ap (drop (length is.header_bytes)) (sym is.whole) ∙ ap (λ n. drop n mdat.bytes) (sym is.spelled.header_len) in
+      ap (after_moof meaning c (tracks_in c) moof.bytes) (ap (λ l. l ++ y) is.whole ∙ append_assoc is.header_bytes payload y)
+      ∙ second-mdat c moof.bytes mdat.header is.header_bytes (payload ++ y) None is.spelled one.type (rw is.size near) none
       ∙ ap (λ s. after_effects (meaning.accepted f) (media_body meaning f next mdat.header s (payload ++ y))) is.size
       ∙ ap (λ n. after_effects (meaning.accepted f) (body_item (meaning.media f) next mdat.header.kind (context_after_fragment meaning f (next + length mdat.bytes)) n (payload ++ y))) left
       ∙ ap (after_effects (meaning.accepted f)) (sized-whole (meaning.media f) next mdat.header.kind (context_after_fragment meaning f (next + length mdat.bytes)) payload y)
@@ -147,7 +147,7 @@ module _ (meaning : Meaning) where
   passed-whole c b y one near =
       let is = one.is in
       item-box c b one.payload y Other c.tracks is one.type refl near
-      ∙ ap (λ l. passing meaning c b.header.kind l b.header.size) (sym (ap (λ l. l ++ y) is.whole ∙ append_assoc is.head one.payload y))
+      ∙ ap (λ l. passing meaning c b.header.kind l b.header.size) (sym (ap (λ l. l ++ y) is.whole ∙ append_assoc is.header_bytes one.payload y))
       ∙ ap (passing meaning c b.header.kind (b.bytes ++ y)) is.size
       ∙ sized-whole (meaning.passed b.header.kind) c.at b.header.kind (context_after meaning c (PassedOver b)) b.bytes y
 

@@ -29,7 +29,7 @@ use Rattle.mp4_grammar.proofs.TakenLemmas.{after-some, item-some}
 
 -- the lengths of a header and what follows it
 headed-len : (y : List ℕ) (b : Headed y) → length y ≡ b.header.header_len + length b.more
-headed-len y b = omega (arith, ap length b.cut, length-append b.head b.more, b.spelled.header_len)
+headed-len y b = omega (arith, ap length b.cut, length-append b.header_bytes b.more, b.spelled.header_len)
 
 -- ---- one to the end of the stream
 
@@ -48,7 +48,7 @@ module _ (meaning : Meaning) (c : Context) where
   module _ (x z : List ℕ) where
     -- by the header that it begins with
     second-of : (b : Headed z) (kind : Kind) → kind_in b.header.kind.0 ≡ kind → least_end (c.at + length x) b.header b.header.size ≤ longest → after_moof meaning c (tracks_in c) x z ≡ second_by meaning c (tracks_in c) x b.header b.more kind
-    second-of b kind is near = ap (after_moof meaning c (tracks_in c) x) b.cut ∙ second-in meaning c x b.header b.head b.more kind b.spelled is near
+    second-of b kind is near = ap (after_moof meaning c (tracks_in c) x) b.cut ∙ second-in meaning c x b.header b.header_bytes b.more kind b.spelled is near
 
     not-mdat : (h : Header) (more : List ℕ) (kind : Kind) → kind ≢ Mdat → second_by meaning c (tracks_in c) x h more kind ≡ Last (at_fault MdatMissing (Some moof) c.at)
     not-mdat h more Moov other = refl
@@ -61,7 +61,7 @@ module _ (meaning : Meaning) (c : Context) where
         → after_moof meaning c (tracks_in c) x z ≡ after_effects (meaning.accepted (fragment_here c x b.header)) (media_body meaning (fragment_here c x b.header) (c.at + length x) b.header size b.more)
     good-media b size is e near good =
         let near' : least_end (c.at + length x) b.header b.header.size ≤ longest = rw e near in
-        ap (after_moof meaning c (tracks_in c) x) b.cut ∙ second-mdat meaning c x b.header b.head b.more None b.spelled is near' good
+        ap (after_moof meaning c (tracks_in c) x) b.cut ∙ second-mdat meaning c x b.header b.header_bytes b.more None b.spelled is near' good
         ∙ ap (λ s. after_effects (meaning.accepted (fragment_here c x b.header)) (media_body meaning (fragment_here c x b.header) (c.at + length x) b.header s b.more)) e
 
     -- one that goes to the end of the stream, by how its bytes are read
@@ -79,9 +79,9 @@ module _ (meaning : Meaning) (c : Context) where
     after-reads r fits (SecondCutInHeader some short e) = after-some meaning c (tracks_in c) x z some ∙ ap (after_moof_by meaning c (tracks_in c) x z) (is_cut z short) ∙ ap Last (sym e)
     after-reads r fits (SecondBadHeader whole none e) =
         after-some meaning c (tracks_in c) x z (omega (arith, need-least z, whole)) ∙ ap (after_moof_by meaning c (tracks_in c) x z) (header-none z fits whole none) ∙ ap Last (sym e)
-    after-reads r fits (SecondTooFar b far e) = ap (after_moof meaning c (tracks_in c) x) b.cut ∙ second-far meaning c x b.header b.head b.more b.spelled far ∙ ap Last (sym e)
+    after-reads r fits (SecondTooFar b far e) = ap (after_moof meaning c (tracks_in c) x) b.cut ∙ second-far meaning c x b.header b.header_bytes b.more b.spelled far ∙ ap Last (sym e)
     after-reads r fits (NotMdat b other near e) = second-of b (kind_in b.header.kind.0) refl near ∙ not-mdat b.header b.more (kind_in b.header.kind.0) other ∙ ap Last (sym e)
-    after-reads r fits (BadFragment b f is near bad e) = ap (after_moof meaning c (tracks_in c) x) b.cut ∙ second-mdat meaning c x b.header b.head b.more (Some f) b.spelled is near bad ∙ ap Last (sym e)
+    after-reads r fits (BadFragment b f is near bad e) = ap (after_moof meaning c (tracks_in c) x) b.cut ∙ second-mdat meaning c x b.header b.header_bytes b.more (Some f) b.spelled is near bad ∙ ap Last (sym e)
     after-reads r fits (CutInMedia b s (is, size, near) good short e) =
         good-media b (Exact s) is size near good
         ∙ rw (nat_lt_true (length b.more) (s - b.header.header_len) (omega (arith, headed-len z b, short))) refl ∙ ap Last (sym e)
@@ -99,27 +99,27 @@ module _ (meaning : Meaning) (c : Context) where
         let len = headed-len z b in
         let f = fragment_here c x b.header in
         let at = c.at + length x in
-        let head = b.spelled.header_len in
-        let own : longest - (c.at + length x + b.header.header_len) ≡ longest - (c.at + length x + length b.head) = omega (arith, head) in
-        open-media b (ends (meaning.media f (take (longest - (at + b.header.header_len)) b.more)) (Faulty (fault StreamTooLong (Some b.header.kind) at))) goes good (omega (arith, near, head))
-        (open-far Context (meaning.media f) at b.header.kind (needed_in f) (longest - (at + b.header.header_len)) b.more (omega (arith, len, far, near, head)))
+        let spelled = b.spelled.header_len in
+        let own : longest - (c.at + length x + b.header.header_len) ≡ longest - (c.at + length x + length b.header_bytes) = omega (arith, spelled) in
+        open-media b (ends (meaning.media f (take (longest - (at + b.header.header_len)) b.more)) (Faulty (fault StreamTooLong (Some b.header.kind) at))) goes good (omega (arith, near, spelled))
+        (open-far Context (meaning.media f) at b.header.kind (needed_in f) (longest - (at + b.header.header_len)) b.more (omega (arith, len, far, near, spelled)))
         ∙ ap (λ n. Last (media_ends meaning f (take n b.more) (Faulty (fault StreamTooLong (Some b.header.kind) at)))) own ∙ ap Last (sym e)
 
   -- ---- the rest
 
   module _ (y : List ℕ) where
     -- by the header that it begins with
-    first-of : (b : Headed y) (kind : Kind) (tracks : Option (List Track)) → kind_in b.header.kind.0 ≡ kind → c.tracks ≡ tracks → least_end c.at b.header b.header.size ≤ longest → item meaning c y ≡ box_in meaning c b.header b.head b.more kind tracks
-    first-of b kind tracks is known near = ap (item meaning c) b.cut ∙ item-in meaning c b.header b.head b.more kind tracks b.spelled is known near
+    first-of : (b : Headed y) (kind : Kind) (tracks : Option (List Track)) → kind_in b.header.kind.0 ≡ kind → c.tracks ≡ tracks → least_end c.at b.header b.header.size ≤ longest → item meaning c y ≡ box_in meaning c b.header b.header_bytes b.more kind tracks
+    first-of b kind tracks is known near = ap (item meaning c) b.cut ∙ item-in meaning c b.header b.header_bytes b.more kind tracks b.spelled is known near
 
     -- a box that may not be here
-    not-here : (h : Header) (head more : List ℕ) (kind : Kind) (tracks : Option (List Track)) (rule : Rule) → place_rule kind tracks ≡ Some rule → box_in meaning c h head more kind tracks ≡ Last (at_fault rule (Some h.kind) c.at)
-    not-here h head more Moov None rule e = absurd cc
-    not-here h head more Moov (Some tracks) rule e = ap (λ k. Last (at_fault k (Some h.kind) c.at)) cc
-    not-here h head more Moof None rule e = ap (λ k. Last (at_fault k (Some h.kind) c.at)) cc
-    not-here h head more Moof (Some tracks) rule e = absurd cc
-    not-here h head more Mdat tracks rule e = ap (λ k. Last (at_fault k (Some h.kind) c.at)) cc
-    not-here h head more Other tracks rule e = absurd cc
+    not-here : (h : Header) (header_bytes more : List ℕ) (kind : Kind) (tracks : Option (List Track)) (rule : Rule) → place_rule kind tracks ≡ Some rule → box_in meaning c h header_bytes more kind tracks ≡ Last (at_fault rule (Some h.kind) c.at)
+    not-here h header_bytes more Moov None rule e = absurd cc
+    not-here h header_bytes more Moov (Some tracks) rule e = ap (λ k. Last (at_fault k (Some h.kind) c.at)) cc
+    not-here h header_bytes more Moof None rule e = ap (λ k. Last (at_fault k (Some h.kind) c.at)) cc
+    not-here h header_bytes more Moof (Some tracks) rule e = absurd cc
+    not-here h header_bytes more Mdat tracks rule e = ap (λ k. Last (at_fault k (Some h.kind) c.at)) cc
+    not-here h header_bytes more Other tracks rule e = absurd cc
 
     -- one that is passed over
     passed-of : (b : Headed y) (size : Size) → kind_in b.header.kind.0 ≡ Other → b.header.size ≡ size → least_end c.at b.header size ≤ longest → item meaning c y ≡ passing meaning c b.header.kind y size
@@ -128,26 +128,26 @@ module _ (meaning : Meaning) (c : Context) where
         first-of b Other c.tracks is refl near' ∙ ap (λ l. passing meaning c b.header.kind l b.header.size) (sym b.cut) ∙ ap (passing meaning c b.header.kind y) e
 
     -- one that is held
-    held-here : (h : Header) (head more : List ℕ) (kind : Kind) (tracks : Option (List Track)) (limit : ℕ) → most_here kind tracks ≡ Some limit → box_in meaning c h head more kind tracks ≡ keeping meaning c h limit (head ++ more) h.size
-    held-here h head more Moov None limit e = ap (λ n. keeping meaning c h n (head ++ more) h.size) cc
-    held-here h head more Moov (Some tracks) limit e = absurd cc
-    held-here h head more Moof None limit e = absurd cc
-    held-here h head more Moof (Some tracks) limit e = ap (λ n. keeping meaning c h n (head ++ more) h.size) cc
-    held-here h head more Mdat tracks limit e = absurd cc
-    held-here h head more Other tracks limit e = absurd cc
+    held-here : (h : Header) (header_bytes more : List ℕ) (kind : Kind) (tracks : Option (List Track)) (limit : ℕ) → most_here kind tracks ≡ Some limit → box_in meaning c h header_bytes more kind tracks ≡ keeping meaning c h limit (header_bytes ++ more) h.size
+    held-here h header_bytes more Moov None limit e = ap (λ n. keeping meaning c h n (header_bytes ++ more) h.size) cc
+    held-here h header_bytes more Moov (Some tracks) limit e = absurd cc
+    held-here h header_bytes more Moof None limit e = absurd cc
+    held-here h header_bytes more Moof (Some tracks) limit e = ap (λ n. keeping meaning c h n (header_bytes ++ more) h.size) cc
+    held-here h header_bytes more Mdat tracks limit e = absurd cc
+    held-here h header_bytes more Other tracks limit e = absurd cc
 
     held-of : (b : Headed y) (size : Size) (limit : ℕ) → most_here (kind_in b.header.kind.0) c.tracks ≡ Some limit → b.header.size ≡ size → least_end c.at b.header size ≤ longest → item meaning c y ≡ keeping meaning c b.header limit y b.header.size
     held-of b size limit here e near =
         let near' : least_end c.at b.header b.header.size ≤ longest = rw e near in
-        first-of b (kind_in b.header.kind.0) c.tracks refl refl near' ∙ held-here b.header b.head b.more (kind_in b.header.kind.0) c.tracks limit here ∙ ap (λ l. keeping meaning c b.header limit l b.header.size) (sym b.cut)
+        first-of b (kind_in b.header.kind.0) c.tracks refl refl near' ∙ held-here b.header b.header_bytes b.more (kind_in b.header.kind.0) c.tracks limit here ∙ ap (λ l. keeping meaning c b.header limit l b.header.size) (sym b.cut)
 
     pub item-reads : (r : Reading) → IsBytes y → IsRest meaning c y r → item meaning c y ≡ Last r
     item-reads r fits (Ended none e) = ap (item meaning c) none ∙ (item-items meaning).empty c ∙ ap Last (sym e)
     item-reads r fits (CutInHeader some short e) = item-some meaning c y some ∙ ap (item_by meaning c y) (is_cut y short) ∙ ap Last (sym e)
     item-reads r fits (BadHeader whole none e) = item-some meaning c y (omega (arith, need-least y, whole)) ∙ ap (item_by meaning c y) (header-none y fits whole none) ∙ ap Last (sym e)
-    item-reads r fits (TooFar b far e) = ap (item meaning c) b.cut ∙ item-far meaning c b.header b.head b.more b.spelled far ∙ ap Last (sym e)
+    item-reads r fits (TooFar b far e) = ap (item meaning c) b.cut ∙ item-far meaning c b.header b.header_bytes b.more b.spelled far ∙ ap Last (sym e)
     item-reads r fits (OutOfPlace b rule wrong near e) =
-        first-of b (kind_in b.header.kind.0) c.tracks refl refl near ∙ not-here b.header b.head b.more (kind_in b.header.kind.0) c.tracks rule wrong ∙ ap Last (sym e)
+        first-of b (kind_in b.header.kind.0) c.tracks refl refl near ∙ not-here b.header b.header_bytes b.more (kind_in b.header.kind.0) c.tracks rule wrong ∙ ap Last (sym e)
     item-reads r fits (CutInBody b s (is, size, near) short e) = passed-of b (Exact s) is size near ∙ rw (nat_lt_true (length y) s short) refl ∙ ap Last (sym e)
     item-reads r fits (Open b (is, size) near e) =
         passed-of b ToEnd is size (omega (arith, headed-len y b, near))

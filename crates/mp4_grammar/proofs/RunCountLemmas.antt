@@ -39,7 +39,7 @@ trun_long b e =
 truns_long : (bs : List Box) → AllByRecursion IsLaid bs → AllByRecursion (λ b. trun_length b ≡ []) bs → 16 * length bs ≤ total bs
 unfolding total
 truns_long [] laid long = omega arith
-truns_long (b ∷ bs) laid long = omega (arith, laid.0.head, trun_long b long.0, truns_long bs laid.1 long.1)
+truns_long (b ∷ bs) laid long = omega (arith, laid.0.header_len, trun_long b long.0, truns_long bs laid.1 long.1)
 
 -- ---- runs
 

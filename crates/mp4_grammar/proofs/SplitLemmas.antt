@@ -39,7 +39,7 @@ module _ (b : List ℕ) (fits : IsBytes b) (h : Header) (whole : header_at b ≡
   head_len = let w = whole_is b h whole in length-take-le h.header_len b (omega (arith, w.0, w.1))
 
   abbrev begins : Headed b
-  begins = record { header = h; head = take h.header_len b; more = drop h.header_len b; spelled = read_is b h fits whole; cut = sym (take-append-drop h.header_len b) }
+  begins = record { header = h; header_bytes = take h.header_len b; more = drop h.header_len b; spelled = read_is b h fits whole; cut = sym (take-append-drop h.header_len b) }
 
   -- so many bytes are the whole box
   abbrev front : ℕ → OneBox
@@ -52,14 +52,14 @@ module _ (b : List ℕ) (fits : IsBytes b) (h : Header) (whole : header_at b ≡
   one_of kind s is size enough =
       let room : h.header_len ≤ s = subst (λ z. HasRoom z h.header_len) size (room_of b h whole) in
       let len : length (take s b) ≡ s = length-take-le s b enough in
-      let head : take h.header_len (take s b) ≡ take h.header_len b = sym (take-append-le h.header_len (take s b) (drop s b) (omega (arith, len, room))) ∙ ap (take h.header_len) (take-append-drop s b) in
+      let header_bytes : take h.header_len (take s b) ≡ take h.header_len b = sym (take-append-le h.header_len (take s b) (drop s b) (omega (arith, len, room))) ∙ ap (take h.header_len) (take-append-drop s b) in
       record {
         type = is;
         payload = drop h.header_len (take s b);
         is = record {
-          head = take h.header_len b;
+          header_bytes = take h.header_len b;
           spelled = read_is b h fits whole;
-          whole = sym (take-append-drop h.header_len (take s b)) ∙ ap (λ l. l ++ drop h.header_len (take s b)) head;
+          whole = sym (take-append-drop h.header_len (take s b)) ∙ ap (λ l. l ++ drop h.header_len (take s b)) header_bytes;
           size = size ∙ ap Exact (sym len);
         };
       }
@@ -131,7 +131,7 @@ first meaning c i b more cut sound split = record {
 }
 
 one_some : (kind : Kind) (b : OneBox) → IsOne kind b → 0 < length b.bytes
-one_some kind b one = omega (arith, ap length one.is.whole, length-append one.is.head one.payload, head-need b.header one.is.head one.is.spelled, need-least one.is.head)
+one_some kind b one = omega (arith, ap length one.is.whole, length-append one.is.header_bytes one.payload, head-need b.header one.is.header_bytes one.is.spelled, need-least one.is.header_bytes)
 
 item_some : (meaning : Meaning) (c : Context) (i : Item) → IsSound meaning c i → 0 < length (bytes_of i)
 item_some meaning c (PassedOver b) one = one_some Other b one

@@ -156,13 +156,13 @@ module _ (meaning : Meaning) where
   after_by-taken c tracks x b steps.BadSize e = tt
   after_by-taken c tracks x b (steps.Whole h) e =
       let w = whole_is b h e in
-      let head = take h.header_len b in
+      let header_bytes = take h.header_len b in
       let len : length (take h.header_len b) ≡ h.header_len = length-take-le h.header_len b (omega (arith, w.0, w.1)) in
       let rest = drop h.header_len b in
-      let second-own : IsTaken (second meaning c tracks x h) (c.at + length x + length head) rest (second meaning c tracks x h rest) =
+      let second-own : IsTaken (second meaning c tracks x h) (c.at + length x + length header_bytes) rest (second meaning c tracks x h rest) =
       subst (λ n. IsTaken (second meaning c tracks x h) (c.at + length x + n) rest (second meaning c tracks x h rest)) (sym len) (second-taken c tracks x h rest _ refl (subst (HasRoom h.size) len (head-room b h e))) in
       subst (λ l. IsTaken (after_moof meaning c tracks x) (c.at + length x) l (second meaning c tracks x h rest)) (take-append-drop h.header_len b)
-      (front-taken (after_moof meaning c tracks x) (second meaning c tracks x h) (c.at + length x) head rest (second meaning c tracks x h rest) (λ y. after-headed c tracks x head y h (front-len b h e) (front-is b h e)) second-own)
+      (front-taken (after_moof meaning c tracks x) (second meaning c tracks x h) (c.at + length x) header_bytes rest (second meaning c tracks x h rest) (λ y. after-headed c tracks x header_bytes y h (front-len b h e) (front-is b h e)) second-own)
 
   pub after-own : (c : Context) (tracks : List Track) (x b : List ℕ) → IsTaken (after_moof meaning c tracks x) (c.at + length x) b (after_moof meaning c tracks x b)
   unfolding after_moof
@@ -235,10 +235,10 @@ module _ (meaning : Meaning) where
   item_by-taken c b steps.More e = tt
   item_by-taken c b steps.BadSize e = tt
   item_by-taken c b (steps.Whole h) e =
-      let head = take h.header_len b in
+      let header_bytes = take h.header_len b in
       let rest = drop h.header_len b in
-      subst (λ l. IsTaken (item meaning c) c.at l (box_from meaning c h head rest)) (take-append-drop h.header_len b)
-      (front-taken (item meaning c) (box_from meaning c h head) c.at head rest (box_from meaning c h head rest) (λ y. item-headed c head y h (front-len b h e) (front-is b h e)) (box_from-taken c h head rest _ refl (head-room b h e)))
+      subst (λ l. IsTaken (item meaning c) c.at l (box_from meaning c h header_bytes rest)) (take-append-drop h.header_len b)
+      (front-taken (item meaning c) (box_from meaning c h header_bytes) c.at header_bytes rest (box_from meaning c h header_bytes rest) (λ y. item-headed c header_bytes y h (front-len b h e) (front-is b h e)) (box_from-taken c h header_bytes rest _ refl (head-room b h e)))
 
   as_item : (c : Context) (b : List ℕ) (v : FirstItem Context) → IsTaken (item meaning c) c.at b v → IsItemAt (item meaning) (λ n. n.at) c b v
   as_item c b (Last r) t = tt

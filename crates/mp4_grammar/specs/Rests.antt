@@ -112,9 +112,9 @@ pub data IsAfterMoof (meaning : Meaning) (c : Context) (x z : List ℕ) (r : Rea
       → r ≡ media_ends meaning (fragment_here c x b.header) b.more (CutOff (fault Truncated (Some b.header.kind) (c.at + length x)))
       → IsAfterMoof meaning c x z r
   OpenMediaTooFar :
-      (b : Headed z) → IsOpen Mdat b.header → IsGood meaning c x b.header → c.at + length x + length b.head ≤ longest
+      (b : Headed z) → IsOpen Mdat b.header → IsGood meaning c x b.header → c.at + length x + length b.header_bytes ≤ longest
       → longest < c.at + length x + length z
-      → r ≡ media_ends meaning (fragment_here c x b.header) (take (longest - (c.at + length x + length b.head)) b.more) (Faulty (fault StreamTooLong (Some b.header.kind) (c.at + length x)))
+      → r ≡ media_ends meaning (fragment_here c x b.header) (take (longest - (c.at + length x + length b.header_bytes)) b.more) (Faulty (fault StreamTooLong (Some b.header.kind) (c.at + length x)))
       → IsAfterMoof meaning c x z r
 
 -- ---- the rest
@@ -152,7 +152,7 @@ pub data IsRest (meaning : Meaning) (c : Context) (y : List ℕ) (r : Reading) :
       (b : Headed y) → IsOpen Other b.header → c.at + length y ≤ longest
       → r ≡ ends (meaning.passed b.header.kind y) Sound → IsRest meaning c y r
   OpenTooFar :
-      (b : Headed y) → IsOpen Other b.header → c.at + length b.head ≤ longest → longest < c.at + length y
+      (b : Headed y) → IsOpen Other b.header → c.at + length b.header_bytes ≤ longest → longest < c.at + length y
       → r ≡ ends (meaning.passed b.header.kind (take (longest - c.at) y)) (Faulty (fault StreamTooLong (Some b.header.kind) c.at))
       → IsRest meaning c y r
   -- a moov or moof that is too large, or states no size
@@ -161,7 +161,7 @@ pub data IsRest (meaning : Meaning) (c : Context) (y : List ℕ) (r : Reading) :
       → r ≡ at_fault TooLarge (Some b.header.kind) c.at → IsRest meaning c y r
   Unsized :
       (b : Headed y) (limit : ℕ) → most_here (kind_in b.header.kind.0) c.tracks ≡ Some limit → b.header.size ≡ ToEnd
-      → c.at + length b.head ≤ longest
+      → c.at + length b.header_bytes ≤ longest
       → r ≡ at_fault TooLarge (Some b.header.kind) c.at → IsRest meaning c y r
   -- one that isn't whole
   CutInHeld :

@@ -31,7 +31,7 @@ samples_from run (row ∷ rows) time place = sample_of run row time place ∷ sa
 
 -- those of a run of the moof that is held
 abbrev pub samples_of_run : List ℕ → Run → List Sample
-samples_of_run held run = samples_from run (rows_of run held) run.time run.place
+samples_of_run moof_bytes run = samples_from run (rows_of run moof_bytes) run.time run.place
 
 -- those of a fragment, its runs in the order in which they are taken
 abbrev pub samples_in : Fragment → List Sample

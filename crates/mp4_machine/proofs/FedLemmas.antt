@@ -57,21 +57,21 @@ IsAfter-begun p begun =
 
 -- ---- the end of the stream
 
-module _ (whole : List ℕ → Reading) (b : List ℕ) {p : Continuation} {counted : Tally} (s : IsAfter whole b p counted) where
-  pub is_after-fault : fault_in (whole b).outcome ≡ fault_in (p.reads []).outcome
-  is_after-fault = ap (λ l. fault_in (whole l).outcome) (sym (append-nil b)) ∙ ap (λ r. fault_in r.outcome) (s.rest [])
+module _ (reads : List ℕ → Reading) (b : List ℕ) {p : Continuation} {counted : Tally} (s : IsAfter reads b p counted) where
+  pub is_after-fault : fault_in (reads b).outcome ≡ fault_in (p.reads []).outcome
+  is_after-fault = ap (λ l. fault_in (reads l).outcome) (sym (append-nil b)) ∙ ap (λ r. fault_in r.outcome) (s.rest [])
 
-  pub is_after-undecided : HasNoEffects p → decided_in (whole b).outcome ≡ None
-  is_after-undecided quiet = ap (λ l. decided_in (whole l).outcome) (sym (append-nil b)) ∙ ap (λ r. decided_in r.outcome) (s.rest []) ∙ quiet.early
+  pub is_after-undecided : HasNoEffects p → decided_in (reads b).outcome ≡ None
+  is_after-undecided quiet = ap (λ l. decided_in (reads l).outcome) (sym (append-nil b)) ∙ ap (λ r. decided_in r.outcome) (s.rest []) ∙ quiet.early
 
   -- ---- the next input
 
   module _ (input : List ℕ) where
-    reads-after : (later : List ℕ) → whole ((b ++ input) ++ later) ≡ after (whole b).effects (p.reads (input ++ later))
-    reads-after later = ap whole (append_assoc b input later) ∙ s.rest (input ++ later)
+    reads-after : (later : List ℕ) → reads ((b ++ input) ++ later) ≡ after (reads b).effects (p.reads (input ++ later))
+    reads-after later = ap reads (append_assoc b input later) ∙ s.rest (input ++ later)
 
-    reads-input : whole (b ++ input) ≡ after (whole b).effects (p.reads (input ++ []))
-    reads-input = ap whole (sym (append-nil (b ++ input))) ∙ reads-after []
+    reads-input : reads (b ++ input) ≡ after (reads b).effects (p.reads (input ++ []))
+    reads-input = ap reads (sym (append-nil (b ++ input))) ∙ reads-after []
 
     -- between a mark and a lift of the ledger
     module _ (o o' : Environment) (a : Account) (same : o.tally ≡ counted) (none : IsSent o.waiting) (from : o.account ≡ marked a) (high : a.live ≤ a.peak) (low : p.claim ≤ a.live) where
@@ -82,36 +82,36 @@ module _ (whole : List ℕ → Reading) (b : List ℕ) {p : Continuation} {count
       counts-lifted own' m c = Counts-lifted a o'.account p.claim own' m high (subst (λ k. Counts k o'.account p.claim own' m) from c)
 
       -- what was claimed at once, by what was so far
-      module _ (peak : ℕ) (most : peak ≡ most_of (whole b).effects) (few : p.claim ≤ peak) where
+      module _ (peak : ℕ) (most : peak ≡ most_of (reads b).effects) (few : p.claim ≤ peak) where
         abbrev peak' : ℕ
         peak' = peak_after peak (a.live - p.claim) o'.account.peak
 
-        peak-exact : (own' : ℕ) (effects : Effects) → Counts o.account o'.account p.claim own' (most_of effects) → peak' ≡ most_of (both (whole b).effects effects)
+        peak-exact : (own' : ℕ) (effects : Effects) → Counts o.account o'.account p.claim own' (most_of effects) → peak' ≡ most_of (both (reads b).effects effects)
         peak-exact own' effects c =
             own-exact a o'.account p.claim own' (most_of effects) peak low few (subst (λ k. Counts k o'.account p.claim own' (most_of effects)) from c)
-            ∙ ap (λ k. max k (most_of effects)) most ∙ sym (most-both (whole b).effects effects)
+            ∙ ap (λ k. max k (most_of effects)) most ∙ sym (most-both (reads b).effects effects)
 
         -- it goes on
         module _ {q : Continuation} (none' : IsSent o'.waiting) (g : GoesOn o o' p input q) (quiet : HasNoEffects q) where
-          goes-reads : (later : List ℕ) → whole ((b ++ input) ++ later) ≡ after (both (whole b).effects g.produced) (q.reads later)
-          goes-reads later = reads-after later ∙ ap (after (whole b).effects) (g.rest later) ∙ after-both (whole b).effects g.produced (q.reads later)
+          goes-reads : (later : List ℕ) → reads ((b ++ input) ++ later) ≡ after (both (reads b).effects g.produced) (q.reads later)
+          goes-reads later = reads-after later ∙ ap (after (reads b).effects) (g.rest later) ∙ after-both (reads b).effects g.produced (q.reads later)
 
-          goes-emitted : (whole (b ++ input)).effects ≡ both (whole b).effects g.produced
+          goes-emitted : (reads (b ++ input)).effects ≡ both (reads b).effects g.produced
           goes-emitted =
-              ap (λ l. (whole l).effects) (sym (append-nil (b ++ input))) ∙ ap (λ r. r.effects) (goes-reads []) ∙ ap (both (both (whole b).effects g.produced)) quiet.effects
-              ∙ both-silent (both (whole b).effects g.produced)
+              ap (λ l. (reads l).effects) (sym (append-nil (b ++ input))) ∙ ap (λ r. r.effects) (goes-reads []) ∙ ap (both (both (reads b).effects g.produced)) quiet.effects
+              ∙ both-silent (both (reads b).effects g.produced)
 
-          pub goes-is_after : IsAfter whole (b ++ input) q o'.tally
+          pub goes-is_after : IsAfter reads (b ++ input) q o'.tally
           goes-is_after = record {
             reached = omega (arith, g.reached, s.reached, length-append b input);
             rest = λ later. goes-reads later ∙ ap (λ t. after t (q.reads later)) (sym goes-emitted);
             tally = g.moves.tallied ∙ ap (λ t. plus t g.produced.tally) (same ∙ s.tally) ∙ ap (λ t. t.tally) (sym goes-emitted);
           }
 
-          pub goes-emits : WritesRest whole b (b ++ input) borrowed_by p.claim q.claim
+          pub goes-emits : WritesRest reads b (b ++ input) borrowed_by p.claim q.claim
           goes-emits = record { effects = g.produced; all = goes-emitted; text = Appends-passed g.moves.passes none.bytes none'.bytes; fragments = whole-passed g.moves.passes none none'; counts = counts-lifted q.claim (most_of g.produced) g.moves.counts }
 
-          pub goes-peak : peak' ≡ most_of (whole (b ++ input)).effects
+          pub goes-peak : peak' ≡ most_of (reads (b ++ input)).effects
           goes-peak = peak-exact q.claim g.produced g.moves.counts ∙ ap most_of (sym goes-emitted)
 
         -- what is counted after a stop
@@ -119,62 +119,62 @@ module _ (whole : List ℕ → Reading) (b : List ℕ) {p : Continuation} {count
         sums' = record { tally = o'.tally; peak = peak' }
 
         -- it meets a fault
-        refuses : (f : Fault) → IsSent o'.waiting → Refuses o o' p input f → FedUntil whole b input borrowed_by p.claim sums' (Stream f)
+        refuses : (f : Fault) → IsSent o'.waiting → Refuses o o' p input f → FedUntil reads b input borrowed_by p.claim sums' (Stream f)
         refuses f none' g =
-            let is : whole (b ++ input) ≡ after (whole b).effects (record { effects = g.produced; outcome = Faulty f }) = reads-input ∙ ap (after (whole b).effects) (g.rest []) in
-            let effects : (whole (b ++ input)).effects ≡ both (whole b).effects g.produced = ap (λ r. r.effects) is in
-            let tally : o'.tally ≡ (whole (b ++ input)).effects.tally = g.moves.tallied ∙ ap (λ t. plus t g.produced.tally) (same ∙ s.tally) ∙ ap (λ t. t.tally) (sym effects) in
-            let most : peak' ≡ most_of (whole (b ++ input)).effects = peak-exact 0 g.produced g.moves.counts ∙ ap most_of (sym effects) in (
+            let is : reads (b ++ input) ≡ after (reads b).effects (record { effects = g.produced; outcome = Faulty f }) = reads-input ∙ ap (after (reads b).effects) (g.rest []) in
+            let effects : (reads (b ++ input)).effects ≡ both (reads b).effects g.produced = ap (λ r. r.effects) is in
+            let tally : o'.tally ≡ (reads (b ++ input)).effects.tally = g.moves.tallied ∙ ap (λ t. plus t g.produced.tally) (same ∙ s.tally) ∙ ap (λ t. t.tally) (sym effects) in
+            let most : peak' ≡ most_of (reads (b ++ input)).effects = peak-exact 0 g.produced g.moves.counts ∙ ap most_of (sym effects) in (
               record { effects = g.produced; all = effects; text = Appends-passed g.moves.passes none.bytes none'.bytes; fragments = whole-passed g.moves.passes none none'; counts = counts-lifted 0 (most_of g.produced) g.moves.counts },
               ap (λ r. decided_in r.outcome) is,
-              ap (λ t. record { tally = t; peak = peak' }) tally ∙ ap (λ n. record { tally = (whole (b ++ input)).effects.tally; peak = n }) most,
+              ap (λ t. record { tally = t; peak = peak' }) tally ∙ ap (λ n. record { tally = (reads (b ++ input)).effects.tally; peak = n }) most,
             )
 
         -- a claim is refused
-        claim_refused : IsSent o'.waiting → (g : ClaimRefused o o' p input) → (r : ClaimRefusedAfter whole b (b ++ input) borrowed_by p.claim sums') × (r.request.sum ≡ g.sum)
+        claim_refused : IsSent o'.waiting → (g : ClaimRefused o o' p input) → (r : ClaimRefusedAfter reads b (b ++ input) borrowed_by p.claim sums') × (r.request.sum ≡ g.sum)
         claim_refused none' g =
             let more = (g.continues []).effects in
-            let n = length (whole b).effects.text in
+            let n = length (reads b).effects.text in
             let k = length g.produced.text in
-            let all = plus (whole b).effects.tally (plus g.produced.tally uncounted) in
-            let effects : (whole (b ++ input)).effects ≡ both (whole b).effects (both g.produced (both (requests_memory g.at g.sum) more)) = ap (λ r. r.effects) (reads-input ∙ ap (after (whole b).effects) (g.rest [])) in
-            let tally : o'.tally ≡ all = g.moves.tallied ∙ ap (λ t. plus t g.produced.tally) (same ∙ s.tally) ∙ ap (plus (whole b).effects.tally) (sym (plus-none g.produced.tally)) in (
+            let all = plus (reads b).effects.tally (plus g.produced.tally uncounted) in
+            let effects : (reads (b ++ input)).effects ≡ both (reads b).effects (both g.produced (both (requests_memory g.at g.sum) more)) = ap (λ r. r.effects) (reads-input ∙ ap (after (reads b).effects) (g.rest [])) in
+            let tally : o'.tally ≡ all = g.moves.tallied ∙ ap (λ t. plus t g.produced.tally) (same ∙ s.tally) ∙ ap (plus (reads b).effects.tally) (sym (plus-none g.produced.tally)) in (
               record {
                 request = record { at = g.at; sum = g.sum; text_before = n + (k + 0); counted = all };
                 effects = g.produced;
                 requested = (
-                  shifted (whole b).effects (shifted g.produced (shifted (requests_memory g.at g.sum) more.requests)),
+                  shifted (reads b).effects (shifted g.produced (shifted (requests_memory g.at g.sum) more.requests)),
                   ap (λ t. t.requests) effects
-                      ∙ ap (λ l. (whole b).effects.requests ++ l) (shifted-append (whole b).effects g.produced.requests (shifted g.produced (both (requests_memory g.at g.sum) more).requests))
-                      ∙ sym (append_assoc (whole b).effects.requests (shifted (whole b).effects g.produced.requests) _),
+                      ∙ ap (λ l. (reads b).effects.requests ++ l) (shifted-append (reads b).effects g.produced.requests (shifted g.produced (both (requests_memory g.at g.sum) more).requests))
+                      ∙ sym (append_assoc (reads b).effects.requests (shifted (reads b).effects g.produced.requests) _),
                 );
                 front =
-                    ap (λ t. take (n + (k + 0)) t.text) effects ∙ take-append-add (whole b).effects.text (g.produced.text ++ more.text) (k + 0)
-                    ∙ ap (λ l. (whole b).effects.text ++ l) (take-append-add g.produced.text more.text 0 ∙ append-nil g.produced.text);
+                    ap (λ t. take (n + (k + 0)) t.text) effects ∙ take-append-add (reads b).effects.text (g.produced.text ++ more.text) (k + 0)
+                    ∙ ap (λ l. (reads b).effects.text ++ l) (take-append-add g.produced.text more.text 0 ∙ append-nil g.produced.text);
                 placed = omega arith;
                 marked = (
                   moved n (moved k (both (requests_memory g.at g.sum) more).fragment_ends),
                   ap (λ t. t.fragment_ends) effects
-                      ∙ ap (λ l. (whole b).effects.fragment_ends ++ l) (moved-append n g.produced.fragment_ends (moved k (both (requests_memory g.at g.sum) more).fragment_ends))
-                      ∙ sym (append_assoc (whole b).effects.fragment_ends (moved n g.produced.fragment_ends) _),
+                      ∙ ap (λ l. (reads b).effects.fragment_ends ++ l) (moved-append n g.produced.fragment_ends (moved k (both (requests_memory g.at g.sum) more).fragment_ends))
+                      ∙ sym (append_assoc (reads b).effects.fragment_ends (moved n g.produced.fragment_ends) _),
                   moved-past n k more.fragment_ends (g.past []),
                 );
                 text = Appends-passed g.moves.passes none.bytes none'.bytes;
                 fragments = whole-passed g.moves.passes none none';
                 counts = counts-lifted 0 (most_of g.produced) g.moves.counts;
                 sums = ap (λ t. record { tally = t; peak = peak' }) tally ∙ ap (λ m. record { tally = all; peak = m }) (peak-exact 0 g.produced g.moves.counts);
-                most = subst (λ t. AtMost t (whole (b ++ input)).effects.tally) (sym tally) (subst (λ t. AtMost all t.tally) (sym effects) (AtMost-after (whole b).effects.tally (plus g.produced.tally uncounted) (plus g.produced.tally (plus uncounted more.tally)) (AtMost-after g.produced.tally uncounted (plus uncounted more.tally) (AtMost-plus uncounted more.tally))));
+                most = subst (λ t. AtMost t (reads (b ++ input)).effects.tally) (sym tally) (subst (λ t. AtMost all t.tally) (sym effects) (AtMost-after (reads b).effects.tally (plus g.produced.tally uncounted) (plus g.produced.tally (plus uncounted more.tally)) (AtMost-after g.produced.tally uncounted (plus uncounted more.tally) (AtMost-plus uncounted more.tally))));
               },
               refl,
             )
 
         -- a write fails
-        write_fails : WriteFailed o o' p.claim (p.reads (input ++ [])) → FedUntil whole b input borrowed_by p.claim sums' Write
+        write_fails : WriteFailed o o' p.claim (p.reads (input ++ [])) → FedUntil reads b input borrowed_by p.claim sums' Write
         write_fails g =
             let own = (p.reads (input ++ [])).effects in
-            let effects : (whole (b ++ input)).effects ≡ both (whole b).effects own = ap (λ r. r.effects) reads-input in
+            let effects : (reads (b ++ input)).effects ≡ both (reads b).effects own = ap (λ r. r.effects) reads-input in
             let spends = subst (λ k. Spends k o'.account p.claim 0 (most_of own)) from g.spends in
-            let all = most-both (whole b).effects own in
+            let all = most-both (reads b).effects own in
             record {
               effects = own;
               all = effects;
@@ -187,7 +187,7 @@ module _ (whole : List ℕ → Reading) (b : List ℕ) {p : Continuation} {count
               peak_most = omega (arith, own-most a o'.account p.claim 0 (most_of own) peak low few spends, most, all, ap most_of effects);
             }
 
-        pub stops-until : (e : Stop) → ((e ≡ Write → ⊥) → IsSent o'.waiting) → StopsAt o o' p input e → FedUntil whole b input borrowed_by p.claim sums' e
+        pub stops-until : (e : Stop) → ((e ≡ Write → ⊥) → IsSent o'.waiting) → StopsAt o o' p input e → FedUntil reads b input borrowed_by p.claim sums' e
         unfolding claim_refused
         stops-until (Stream f) none' g = refuses f (none' (λ is. absurd cc)) g
         stops-until (Read at) none' g = absurd g

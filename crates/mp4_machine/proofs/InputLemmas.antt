@@ -276,13 +276,13 @@ IsFed-begun written account p begun =
     }
 
 -- fed one more input
-pub IsFed-more : {o o' : Environment} {p q : Continuation} {input : List ℕ} (whole : List ℕ → Reading) (b : List ℕ) (start : Environment) → IsFed whole b start o p → GoesOn o o' p input q → HasNoEffects q → IsSent o'.waiting
-    → IsFed whole (b ++ input) start o' q
-IsFed-more {o = o} {o' = o'} {p = p} {q = q} {input = input} whole b start s g quiet done =
-    let rest : (later : List ℕ) → whole ((b ++ input) ++ later) ≡ after (both (whole b).effects g.produced) (q.reads later) =
-    λ later. ap whole (append_assoc b input later) ∙ s.is_after.rest (input ++ later) ∙ ap (after (whole b).effects) (g.rest later) ∙ after-both (whole b).effects g.produced (q.reads later) in
-    let effects : (whole (b ++ input)).effects ≡ both (whole b).effects g.produced =
-    ap (λ l. (whole l).effects) (sym (append-nil (b ++ input))) ∙ ap (λ r. r.effects) (rest []) ∙ ap (both (both (whole b).effects g.produced)) quiet.effects ∙ both-silent (both (whole b).effects g.produced) in
+pub IsFed-more : {o o' : Environment} {p q : Continuation} {input : List ℕ} (reads : List ℕ → Reading) (b : List ℕ) (start : Environment) → IsFed reads b start o p → GoesOn o o' p input q → HasNoEffects q → IsSent o'.waiting
+    → IsFed reads (b ++ input) start o' q
+IsFed-more {o = o} {o' = o'} {p = p} {q = q} {input = input} reads b start s g quiet done =
+    let rest : (later : List ℕ) → reads ((b ++ input) ++ later) ≡ after (both (reads b).effects g.produced) (q.reads later) =
+    λ later. ap reads (append_assoc b input later) ∙ s.is_after.rest (input ++ later) ∙ ap (after (reads b).effects) (g.rest later) ∙ after-both (reads b).effects g.produced (q.reads later) in
+    let effects : (reads (b ++ input)).effects ≡ both (reads b).effects g.produced =
+    ap (λ l. (reads l).effects) (sym (append-nil (b ++ input))) ∙ ap (λ r. r.effects) (rest []) ∙ ap (both (both (reads b).effects g.produced)) quiet.effects ∙ both-silent (both (reads b).effects g.produced) in
     record {
       is_after = record {
         reached = omega (arith, g.reached, s.is_after.reached, length-append b input);
@@ -293,5 +293,5 @@ IsFed-more {o = o} {o' = o'} {p = p} {q = q} {input = input} whole b start s g q
       text = subst (λ t. PassesMarked start.written o'.written start.waiting o'.waiting t.text t.fragment_ends) (sym effects) (PassesMarked-more s.text g.moves.passes);
       sent = done;
       counts = subst (λ t. Counts start.account o'.account 0 q.claim (most_of t)) (sym effects)
-          (subst (Counts start.account o'.account 0 q.claim) (sym (most-both (whole b).effects g.produced)) (Counts-more start.account o.account o'.account 0 p.claim q.claim (most_of (whole b).effects) (most_of g.produced) (omega arith) s.counts g.moves.counts));
+          (subst (Counts start.account o'.account 0 q.claim) (sym (most-both (reads b).effects g.produced)) (Counts-more start.account o.account o'.account 0 p.claim q.claim (most_of (reads b).effects) (most_of g.produced) (omega arith) s.counts g.moves.counts));
     }

@@ -8,7 +8,7 @@ use Rattle.mp4_machine.specs.declared.body.OpenBody.{OpenBody}
 
 -- within something that begins at an offset and is read once enough of its bytes have come: these so far
 abbrev pub gathering : (reads : List ℕ → Reading) → (at claim : ℕ) → List ℕ → Continuation
-gathering reads at claim held = record { reached = at + length held; reads = λ bytes. reads (held ++ bytes); claim = claim }
+gathering reads at claim buffered = record { reached = at + length buffered; reads = λ bytes. reads (buffered ++ bytes); claim = claim }
 
 -- within a body with the effects `emit`, with so many bytes claimed: what follows it is read in the context `next`
 abbrev pub in_body : {C : Type 0} → (reads : C → List ℕ → Reading) → (emit : List ℕ → Effects) → (next : C) → (claim : ℕ) → Body → Continuation

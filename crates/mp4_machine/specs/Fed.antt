@@ -39,45 +39,45 @@ AllWhole t fragments = (n : ℕ) → whole_in (length t.text + n) 0 t.fragment_e
 -- ---- the bytes b had been fed in inputs, then b' with `own` bytes claimed before, and `own'` now
 
 -- the effects that b' adds to b were written and claimed, and so many fragments are whole
-pub record WritesRest (whole : List ℕ → Reading) (b b' : List ℕ) (l : Borrowed) (own own' : ℕ) : Type 0 where
+pub record WritesRest (reads : List ℕ → Reading) (b b' : List ℕ) (l : Borrowed) (own own' : ℕ) : Type 0 where
   pub effects : Effects
-  pub all : (whole b').effects ≡ both (whole b).effects effects
+  pub all : (reads b').effects ≡ both (reads b).effects effects
   pub text : Appends l.written l.written' effects.text
   pub fragments : (n : ℕ) → whole_in (length effects.text + n) l.whole effects.fragment_ends ≡ l.whole'
   pub counts : Counts l.account l.account' own own' (most_of effects)
 
 -- a write failed: a prefix of the text was written, and the number of whole fragments in it is known.
 -- No more was claimed than the bytes request, and no more counted
-pub record WritesPrefixOfRest (whole : List ℕ → Reading) (b b' : List ℕ) (l : Borrowed) (own : ℕ) (s : Sums) : Type 0 where
+pub record WritesPrefixOfRest (reads : List ℕ → Reading) (b b' : List ℕ) (l : Borrowed) (own : ℕ) (s : Sums) : Type 0 where
   pub effects : Effects
-  pub all : (whole b').effects ≡ both (whole b).effects effects
+  pub all : (reads b').effects ≡ both (reads b).effects effects
   pub text : AppendsPrefix l.written l.written' effects.text
   pub fragments : l.whole' ≡ whole_in (length text.0) l.whole effects.fragment_ends
   pub spends : Spends l.account l.account' own 0 (most_of effects)
-  pub least : AtMost (whole b).effects.tally s.tally
-  pub most : AtMost s.tally (whole b').effects.tally
-  pub peak_least : most_of (whole b).effects ≤ s.peak
-  pub peak_most : s.peak ≤ most_of (whole b').effects
+  pub least : AtMost (reads b).effects.tally s.tally
+  pub most : AtMost s.tally (reads b').effects.tally
+  pub peak_least : most_of (reads b).effects ≤ s.peak
+  pub peak_most : s.peak ≤ most_of (reads b').effects
 
 -- a box requested memory that was refused: the effects before the request were written, claimed and counted.
 -- All other fragments end after the text before it
-pub record ClaimRefusedAfter (whole : List ℕ → Reading) (b b' : List ℕ) (l : Borrowed) (own : ℕ) (s : Sums) : Type 0 where
+pub record ClaimRefusedAfter (reads : List ℕ → Reading) (b b' : List ℕ) (l : Borrowed) (own : ℕ) (s : Sums) : Type 0 where
   pub request : Request
   pub effects : Effects
-  pub requested : (later : List Request) × ((whole b').effects.requests ≡ (both (whole b).effects effects).requests ++ request ∷ later)
-  pub placed : request.text_before ≡ length (whole b).effects.text + length effects.text
-  pub front : take request.text_before (whole b').effects.text ≡ (whole b).effects.text ++ effects.text
-  pub marked : (later : List FragmentEnd) × ((whole b').effects.fragment_ends ≡ (both (whole b).effects effects).fragment_ends ++ later) × ArePast request.text_before later
+  pub requested : (later : List Request) × ((reads b').effects.requests ≡ (both (reads b).effects effects).requests ++ request ∷ later)
+  pub placed : request.text_before ≡ length (reads b).effects.text + length effects.text
+  pub front : take request.text_before (reads b').effects.text ≡ (reads b).effects.text ++ effects.text
+  pub marked : (later : List FragmentEnd) × ((reads b').effects.fragment_ends ≡ (both (reads b).effects effects).fragment_ends ++ later) × ArePast request.text_before later
   pub text : Appends l.written l.written' effects.text
   pub fragments : (n : ℕ) → whole_in (length effects.text + n) l.whole effects.fragment_ends ≡ l.whole'
   pub counts : Counts l.account l.account' own 0 (most_of effects)
-  pub sums : s ≡ record { tally = request.counted; peak = most_of (both (whole b).effects effects) }
-  pub most : AtMost s.tally (whole b').effects.tally
+  pub sums : s ≡ record { tally = request.counted; peak = most_of (both (reads b).effects effects) }
+  pub most : AtMost s.tally (reads b').effects.tally
 
 -- how a call stops that is fed the input after the bytes b: at a fault that these bytes decide, at a failed write, or at a refused claim
-abbrev pub FedUntil : (whole : List ℕ → Reading) → (b input : List ℕ) → Borrowed → (own : ℕ) → Sums → Stop → Type 0
-FedUntil whole b input l own s (Stream f) = WritesRest whole b (b ++ input) l own 0 × (decided_in (whole (b ++ input)).outcome ≡ Some f) × (s ≡ sums_in (whole (b ++ input)).effects)
-FedUntil whole b input l own s (Read at) = ⊥
-FedUntil whole b input l own s Write = WritesPrefixOfRest whole b (b ++ input) l own s
-FedUntil whole b input l own s OverLimit = (r : ClaimRefusedAfter whole b (b ++ input) l own s) × (l.account'.limit < l.account'.live + r.request.sum)
-FedUntil whole b input l own s Memory = (r : ClaimRefusedAfter whole b (b ++ input) l own s) × (l.account'.live + r.request.sum ≤ l.account'.limit)
+abbrev pub FedUntil : (reads : List ℕ → Reading) → (b input : List ℕ) → Borrowed → (own : ℕ) → Sums → Stop → Type 0
+FedUntil reads b input l own s (Stream f) = WritesRest reads b (b ++ input) l own 0 × (decided_in (reads (b ++ input)).outcome ≡ Some f) × (s ≡ sums_in (reads (b ++ input)).effects)
+FedUntil reads b input l own s (Read at) = ⊥
+FedUntil reads b input l own s Write = WritesPrefixOfRest reads b (b ++ input) l own s
+FedUntil reads b input l own s OverLimit = (r : ClaimRefusedAfter reads b (b ++ input) l own s) × (l.account'.limit < l.account'.live + r.request.sum)
+FedUntil reads b input l own s Memory = (r : ClaimRefusedAfter reads b (b ++ input) l own s) × (l.account'.live + r.request.sum ≤ l.account'.limit)

@@ -12,7 +12,7 @@ use Rattle.mp4_machine.specs.declared.header_bytes.HeaderStatus.TheVariants.{Mor
 -- the bytes of a header
 abbrev pub bytes_of : HeaderBytes → List ℕ
 bytes_of (AtOnce bytes) = bytes.now
-bytes_of (InParts head) = head
+bytes_of (InParts header_bytes) = header_bytes
 
 -- n bytes of the input were taken, and more are needed
 pub record NeedsMore (old new input : List ℕ) (n : ℕ) : Type 0 where
@@ -45,7 +45,7 @@ pub record IsComplete (old new input : List ℕ) (h : Header) (bytes : List ℕ)
 -- where they came at once none had come before
 abbrev pub Came : List ℕ → HeaderBytes → Type 0
 Came old (AtOnce bytes) = old ≡ []
-Came old (InParts head) = Unit {0}
+Came old (InParts header_bytes) = Unit {0}
 
 -- one of these, by the answer. old is what had come of the header, and new what is kept of it
 abbrev pub Reads : (old new input : List ℕ) → HeaderStatus → Type 0

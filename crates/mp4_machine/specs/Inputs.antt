@@ -136,15 +136,15 @@ pub record TakesAll {X : Type 0} (change : Change) (old : Continuation) (input :
 -- ---- every list of inputs
 
 -- a machine after the bytes b of a stream: its output so far is that of b, and the remaining bytes are read from its continuation
-pub record IsAfter (whole : List ℕ → Reading) (b : List ℕ) (p : Continuation) (counted : Tally) : Type 0 where
+pub record IsAfter (reads : List ℕ → Reading) (b : List ℕ) (p : Continuation) (counted : Tally) : Type 0 where
   pub reached : p.reached ≡ length b
-  pub rest : (later : List ℕ) → whole (b ++ later) ≡ after (whole b).effects (p.reads later)
-  pub tally : counted ≡ (whole b).effects.tally
+  pub rest : (later : List ℕ) → reads (b ++ later) ≡ after (reads b).effects (p.reads later)
+  pub tally : counted ≡ (reads b).effects.tally
 
 -- a machine was fed inputs whose join is b: it is after them, their whole text was written, and the memory that they request was claimed
-pub record IsFed (whole : List ℕ → Reading) (b : List ℕ) (start now : Environment) (p : Continuation) : Type 0 where
-  pub is_after : IsAfter whole b p now.tally
+pub record IsFed (reads : List ℕ → Reading) (b : List ℕ) (start now : Environment) (p : Continuation) : Type 0 where
+  pub is_after : IsAfter reads b p now.tally
   pub quiet : HasNoEffects p
-  pub text : PassesMarked start.written now.written start.waiting now.waiting (whole b).effects.text (whole b).effects.fragment_ends
+  pub text : PassesMarked start.written now.written start.waiting now.waiting (reads b).effects.text (reads b).effects.fragment_ends
   pub sent : IsSent now.waiting
-  pub counts : Counts start.account now.account 0 p.claim (most_of (whole b).effects)
+  pub counts : Counts start.account now.account 0 p.claim (most_of (reads b).effects)

@@ -18,7 +18,7 @@ pub record Claims : Type 0 where
 -- a run over a stream: how its bytes from the first on are read, and the bytes that it was given.
 -- Visible are its ends, its claims, how many fragments are whole in what was written, and what was counted
 pub record StreamRun : Type 0 where
-  pub whole : List ℕ → Reading
+  pub reads : List ℕ → Reading
   pub bytes : List ℕ
   pub ends : Ends
   pub claims : Claims
@@ -26,7 +26,7 @@ pub record StreamRun : Type 0 where
   pub tally : Tally
 
 abbrev pub reading_of : StreamRun → Reading
-reading_of run = run.whole run.bytes
+reading_of run = run.reads run.bytes
 
 -- ---- what a run does
 
@@ -48,7 +48,7 @@ pub record IsPrompt (run : StreamRun) : Type 0 where
   pub last : List ℕ
   pub cut : run.bytes ≡ early ++ last
   pub read : 0 < length run.bytes → IsOneRead run.ends run.claims.copy last
-  pub undecided : decided_in (run.whole early).outcome ≡ None
+  pub undecided : decided_in (run.reads early).outcome ≡ None
 
 -- a prefix of the text was written, and the number of whole fragments in it is known; no more was claimed than requested, or counted than there is
 pub record WritesPrefix (run : StreamRun) : Type 0 where
@@ -64,7 +64,7 @@ pub record ClaimRefusedAt (run : StreamRun) (prompt : IsPrompt run) : Type 0 whe
   pub request : Request
   pub before : List Request
   pub requested : (later : List Request) × ((reading_of run).effects.requests ≡ before ++ request ∷ later)
-  pub new : IsPrefix (run.whole prompt.early).effects.requests before
+  pub new : IsPrefix (run.reads prompt.early).effects.requests before
   pub text : Appends run.ends.written run.ends.written' (take request.text_before (reading_of run).effects.text)
   pub fragments : run.fragments ≡ whole_in request.text_before 0 (reading_of run).effects.fragment_ends
   pub peak : run.claims.peak ≡ run.claims.copy + greatest before
@@ -96,11 +96,11 @@ Gives run prompt (Ok _) = WritesAll run × (fault_in (reading_of run).outcome �
 Gives run prompt (Err stop) = StopsWith run prompt stop
 
 -- a run over a stream that is read so: for the bytes that it was given, its result and what it did; a write that failed is always reported
-pub record ReadsStream {T : Type 0} (whole : List ℕ → Reading) (ends : Ends) (claims : Claims) (tally : Tally) (result : Result T Stop) : Type 0 where
+pub record ReadsStream {T : Type 0} (reads : List ℕ → Reading) (ends : Ends) (claims : Claims) (tally : Tally) (result : Result T Stop) : Type 0 where
   pub bytes : List ℕ
   pub fits : IsBytes bytes
   pub given : Consumes ends.left ends.left' bytes
   pub fragments : ℕ
-  pub prompt : IsPrompt (record { whole = whole; bytes = bytes; ends = ends; claims = claims; fragments = fragments; tally = tally })
-  pub gives : Gives (record { whole = whole; bytes = bytes; ends = ends; claims = claims; fragments = fragments; tally = tally }) prompt result
+  pub prompt : IsPrompt (record { reads = reads; bytes = bytes; ends = ends; claims = claims; fragments = fragments; tally = tally })
+  pub gives : Gives (record { reads = reads; bytes = bytes; ends = ends; claims = claims; fragments = fragments; tally = tally }) prompt result
   pub kept : (IsErrOf result Write → ⊥) → ends.write_failed' ≡ ends.write_failed

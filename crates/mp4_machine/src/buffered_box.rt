@@ -42,7 +42,7 @@ impl BufferedBox {
     ) -> Result<BufferedBox, Refused>
         requires room { length bytes.now ≤ size }
         requires end { at + size ≤ 2 ^ 62 }
-        ensures held { IfOk result (λ h. h ≡ record
+        ensures buffered { IfOk result (λ h. h ≡ record
             { at = at; kind = kind; size = size; bytes = bytes.now }) }
         ensures ok { OnOk result (ledger.new ≡ claimed ledger.old size) }
         ensures over_limit { IsErrOf result Refused.OverLimit ↔
@@ -63,7 +63,7 @@ impl BufferedBox {
     /// Takes the bytes at the front of the input that belong to the box. Returns how many.
     pub fn take(&mut self, input: &[u8]) -> usize
         ensures taken { result ≡ min (self.old.size - length self.old.bytes) (length input.now) }
-        ensures held { self.new ≡ record self.old
+        ensures buffered { self.new ≡ record self.old
             { bytes = self.old.bytes ++ take result input.now } }
     {
         let left = self.buf.cap() - self.buf.len();

@@ -24,7 +24,7 @@ impl HeaderBytes<'_> {
     {
         match self {
             HeaderBytes::AtOnce(bytes) => bytes,
-            HeaderBytes::InParts(head) => head.bytes(),
+            HeaderBytes::InParts(header_bytes) => header_bytes.bytes(),
         }
     }
 }
@@ -86,10 +86,10 @@ fn next_part<'a>(part: &mut HeaderReader, input: &'a [u8]) -> HeaderStatus<'a>
             HeaderStatus::BadSize { kind }
         }
         Step::Whole(header) => {
-            let head = replace(part, HeaderReader::new());
+            let header_bytes = replace(part, HeaderReader::new());
             HeaderStatus::Complete {
                 header,
-                bytes: HeaderBytes::InParts(head),
+                bytes: HeaderBytes::InParts(header_bytes),
                 count: taken.count,
             }
         }
@@ -104,19 +104,19 @@ struct HeadTaken {
 }
 
 /// Takes bytes of a header from the front of the input: the whole header if it is there, else what there is.
-fn take_head(head: &mut HeaderReader, input: &[u8]) -> HeadTaken
+fn take_head(header_bytes: &mut HeaderReader, input: &[u8]) -> HeadTaken
     requires some { 0 < length input.now }
-    requires short { length head.old < need head.old }
-    ensures bytes { head.new ≡ head.old ++ take result.count input.now }
+    requires short { length header_bytes.old < need header_bytes.old }
+    ensures bytes { header_bytes.new ≡ header_bytes.old ++ take result.count input.now }
     ensures count { (0 < result.count) × (result.count ≤ length input.now) }
-    ensures step { result.step ≡ header_at head.new }
-    ensures more { result.step ≡ steps.More → length head.new < need head.new }
+    ensures step { result.step ≡ header_at header_bytes.new }
+    ensures more { result.step ≡ steps.More → length header_bytes.new < need header_bytes.new }
     ensures all { result.step ≡ steps.More → result.count ≡ length input.now }
-    ensures len { length head.new ≤ need head.new }
+    ensures len { length header_bytes.new ≤ need header_bytes.new }
 {
     let mut count = 0;
     while count < input.len() {
-        let step = head.feed(input[count]);
+        let step = header_bytes.feed(input[count]);
         count += 1;
         if !is_more(&step) {
             return HeadTaken { count, step };

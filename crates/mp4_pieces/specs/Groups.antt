@@ -7,6 +7,10 @@ use Rattle.mp4_pieces.specs.Cutting.{join}
 abbrev pub group_length : ℕ
 group_length = 65535
 
+-- the pieces of a group that has this length, after its first
+abbrev pub after_first : ℕ
+after_first = 65534
+
 -- each group that is followed by another has this length
 abbrev pub AllFilled : {A : Type 0} → List (List A) → Type 0
 AllFilled [] = Unit {0}
@@ -25,7 +29,7 @@ pub record AreGroups {A : Type 0} (ps : List A) (gs : List (List A)) : Type 0 wh
 -- groups that start after the first k pieces
 unfoldable pub groups_from : {A : Type 0} → ℕ → List A → List (List A)
 groups_from k [] = []
-groups_from zero (p ∷ ps) = take group_length (p ∷ ps) ∷ groups_from 65534 ps
+groups_from zero (p ∷ ps) = take group_length (p ∷ ps) ∷ groups_from after_first ps
 groups_from (suc k) (p ∷ ps) = groups_from k ps
 
 -- the groups of some pieces

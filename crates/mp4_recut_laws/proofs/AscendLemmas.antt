@@ -64,29 +64,29 @@ no_sizes : (rows : List Row) → length rows ≡ 0 → sizes rows ≡ 0
 no_sizes [] e = refl
 no_sizes (row ∷ rows) e = absurd (omega (arith, e))
 
-module _ (cut : Cut) (tracks : List Track) (start : ℕ) (payload held : List ℕ) where
-  some_bytes : (run : Run) → IsRunOf held run → 0 < run.bytes → has_bytes (listed_run run) ≡ true
+module _ (cut : Cut) (tracks : List Track) (start : ℕ) (payload moof_bytes : List ℕ) where
+  some_bytes : (run : Run) → IsRunOf moof_bytes run → 0 < run.bytes → has_bytes (listed_run run) ≡ true
   some_bytes run is some =
-      let samples : has_samples (listed_run run) ≡ true = not_from_false (run.count == 0) (ne_eqb run.count 0 (λ e. absurd (omega (arith, some, is.bytes, no_sizes (rows_of run held) (length_rows_of run held ∙ e))))) in
+      let samples : has_samples (listed_run run) ≡ true = not_from_false (run.count == 0) (ne_eqb run.count 0 (λ e. absurd (omega (arith, some, is.bytes, no_sizes (rows_of run moof_bytes) (length_rows_of run moof_bytes ∙ e))))) in
       and_from (has_samples (listed_run run)) (not (run.bytes == 0)) samples (not_from_false (run.bytes == 0) (ne_eqb run.bytes 0 (λ e. absurd (omega (arith, some, e)))))
 
-  each_run : (runs : List Run) → AllByRecursion (IsRunIn tracks start payload held) runs → Each (IsRunOf held) runs
+  each_run : (runs : List Run) → AllByRecursion (IsRunIn tracks start payload moof_bytes) runs → Each (IsRunOf moof_bytes) runs
   each_run [] all = tt
   each_run (run ∷ runs) all = (all.0.of, each_run runs all.1)
 
-  between_by : (run : Run) → IsRunOf held run → (rows_of run held ≡ []) ⊎ LiesIn start payload held run → Between cut held start (start + length payload) run
+  between_by : (run : Run) → IsRunOf moof_bytes run → (rows_of run moof_bytes ≡ []) ⊎ LiesIn start payload moof_bytes run → Between cut moof_bytes start (start + length payload) run
   between_by run is (inl none) some = absurd (omega (arith, some, is.bytes, ap sizes none))
   between_by run is (inr lies) some = (omega (arith, ints, lies.place, lies.from), omega (arith, ints, lies.place, lies.to, is.bytes))
 
-  each_between : (runs : List Run) → AllByRecursion (IsRunIn tracks start payload held) runs → Each (Between cut held start (start + length payload)) runs
+  each_between : (runs : List Run) → AllByRecursion (IsRunIn tracks start payload moof_bytes) runs → Each (Between cut moof_bytes start (start + length payload)) runs
   each_between [] all = tt
   each_between (run ∷ runs) all = (between_by run all.0.of all.0.lies, each_between runs all.1)
 
-  clear_of : (a : Run) → IsRunOf held a → (runs : List Run) → Each (IsRunOf held) runs → Each (Rises a) runs → Each (Clear cut held a) runs
+  clear_of : (a : Run) → IsRunOf moof_bytes a → (runs : List Run) → Each (IsRunOf moof_bytes) runs → Each (Rises a) runs → Each (Clear cut moof_bytes a) runs
   clear_of a is [] are rise = tt
   clear_of a is (b ∷ runs) are rise = (λ x y. rise.0 (some_bytes a is x) (some_bytes b are.0 y), clear_of a is runs are.1 rise.1)
 
-  all_clear : (runs : List Run) → Each (IsRunOf held) runs → Pairs Rises runs → Pairs (Clear cut held) runs
+  all_clear : (runs : List Run) → Each (IsRunOf moof_bytes) runs → Pairs Rises runs → Pairs (Clear cut moof_bytes) runs
   all_clear [] are rise = tt
   all_clear (run ∷ runs) are rise = (clear_of run are.0 runs are.1 rise.0, all_clear runs are.1 rise.1)
 

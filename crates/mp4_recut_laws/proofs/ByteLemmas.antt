@@ -110,77 +110,77 @@ all_last : {X : Type 0} (P : X → Type 0) (xs ys : List X) → AllByRecursion P
 all_last P [] ys all = all
 all_last P (x ∷ xs) ys all = all_last P xs ys all.1
 
-module _ (cut : Cut) (held : List ℕ) (start : ℕ) (payload : List ℕ) (fits : IsBytes payload) where
+module _ (cut : Cut) (moof_bytes : List ℕ) (start : ℕ) (payload : List ℕ) (fits : IsBytes payload) where
   abbrev Fits : Run → Piece → Type 0
-  Fits run p = FitsFields (written_fragment held run p)
+  Fits run p = FitsFields (written_fragment moof_bytes run p)
 
-  pieces_bytes : (run : Run) (number : ℕ) (ps : List Piece) → AllByRecursion (Fits run) ps → Are (pieces_text cut held start payload run number ps)
+  pieces_bytes : (run : Run) (number : ℕ) (ps : List Piece) → AllByRecursion (Fits run) ps → Are (pieces_text cut moof_bytes start payload run number ps)
   pieces_bytes run number [] all = none
   pieces_bytes run number (p ∷ ps) all =
-      join_both (join_both (record { is = moof_box_bytes (written_fragment held run p) number all.0 }) (header p.bytes))
+      join_both (join_both (record { is = moof_box_bytes (written_fragment moof_bytes run p) number all.0 }) (header p.bytes))
       (join_both (record { is = IsBytes-take p.bytes (drop (natural p.place - start) payload) (IsBytes-drop (natural p.place - start) payload fits) }) (pieces_bytes run (number + 1) ps all.1))
 
-  groups_bytes : (run : Run) (timescale number : ℕ) (gs : List (List Piece)) → AllByRecursion (Fits run) (join gs) → Are (groups_text cut held start payload run timescale number gs)
+  groups_bytes : (run : Run) (timescale number : ℕ) (gs : List (List Piece)) → AllByRecursion (Fits run) (join gs) → Are (groups_text cut moof_bytes start payload run timescale number gs)
   groups_bytes run timescale number [] all = none
   groups_bytes run timescale number (g ∷ gs) all =
       join_both (index_by cut.index run timescale g)
       (join_both (pieces_bytes run number g (all_first (Fits run) g (join gs) all)) (groups_bytes run timescale (number + length g) gs (all_last (Fits run) g (join gs) all)))
 
-  all_fit : (tracks : List Track) (run : Run) → IsSoundRun tracks held run → IsRunOf held run → (ps : List Piece) → AllByRecursion (IsPieceOf held run) ps → AllByRecursion (Fits run) ps
+  all_fit : (tracks : List Track) (run : Run) → IsSoundRun tracks moof_bytes run → IsRunOf moof_bytes run → (ps : List Piece) → AllByRecursion (IsPieceOf moof_bytes run) ps → AllByRecursion (Fits run) ps
   all_fit tracks run sound of [] is = tt
-  all_fit tracks run sound of (p ∷ ps) is = ((can_be_read tracks held run p sound of is.0).fits, all_fit tracks run sound of ps is.1)
+  all_fit tracks run sound of (p ∷ ps) is = ((can_be_read tracks moof_bytes run p sound of is.0).fits, all_fit tracks run sound of ps is.1)
 
-  runs_bytes : (tracks of : List Track) (number : ℕ) (runs : List Run) → AllByRecursion (IsRunIn tracks start payload held) runs → Are (runs_text cut held start payload of number runs)
+  runs_bytes : (tracks of : List Track) (number : ℕ) (runs : List Run) → AllByRecursion (IsRunIn tracks start payload moof_bytes) runs → Are (runs_text cut moof_bytes start payload of number runs)
   runs_bytes tracks of number [] all = none
   runs_bytes tracks of number (run ∷ runs) all =
-      let ps = pieces_of cut held run in
+      let ps = pieces_of cut moof_bytes run in
       let back : join (groups ps) ≡ ps = (groups_are ps).joined in
       join_both (groups_bytes run (timescale_of of run.track) number (groups ps)
-      (subst (λ (qs : List Piece). AllByRecursion (Fits run) qs) (sym back) (all_fit tracks run all.0.sound all.0.of ps (pieces_are_of cut held run))))
+      (subst (λ (qs : List Piece). AllByRecursion (Fits run) qs) (sym back) (all_fit tracks run all.0.sound all.0.of ps (pieces_are_of cut moof_bytes run))))
       (runs_bytes tracks of (number + length ps) runs all.1)
 
 -- ---- items
 
 box_bytes_by : (t : Bool) (b : List ℕ) → IsBytes b → Are (box_text t b)
-box_bytes_by true b held = none
-box_bytes_by false b held = record { is = held }
+box_bytes_by true b moof_bytes = none
+box_bytes_by false b moof_bytes = record { is = moof_bytes }
 
 nothing_known : {X : Type 0} → ◌≡◌ {A = Option (List Track)} None (Some []) → X
 nothing_known e = absurd cc
 
 fragment_by : (cut : Cut) (at number : ℕ) (o : Option (List Track)) (moof mdat : OneBox) → IsSound (splitting cut) (context at o number) (MovieFragment moof mdat) → CanBeRecut (context at o number) (MovieFragment moof mdat) → IsBytes mdat.bytes
     → Are (item_text cut (context at o number) (MovieFragment moof mdat))
-fragment_by cut at number None moof mdat s fine held = nothing_known s.0.known
-fragment_by cut at number (Some tracks) moof mdat s fine held =
+fragment_by cut at number None moof mdat s fine moof_bytes = nothing_known s.0.known
+fragment_by cut at number (Some tracks) moof mdat s fine moof_bytes =
     let f = fragment_in (context at (Some tracks) number) moof mdat in
     let payload = drop mdat.header.header_len mdat.bytes in
-    runs_bytes cut moof.bytes f.payload.start payload (IsBytes-drop mdat.header.header_len mdat.bytes held) tracks tracks number (taken_runs (moof_at moof.bytes at) tracks) (fragment_runs cut at number tracks moof mdat s fine.0 fine.1 fine.2 fine.3)
+    runs_bytes cut moof.bytes f.payload.start payload (IsBytes-drop mdat.header.header_len mdat.bytes moof_bytes) tracks tracks number (taken_runs (moof_at moof.bytes at) tracks) (fragment_runs cut at number tracks moof mdat s fine.0 fine.1 fine.2 fine.3)
 
 item_bytes : (cut : Cut) (c : Context) (i : Item) → IsSound (splitting cut) c i → CanBeRecut c i → IsBytes (bytes_of i) → Are (item_text cut c i)
-item_bytes cut c (PassedOver b) s fine held = box_bytes_by (is_dropped b.header.kind.0) b.bytes held
-item_bytes cut c (Movie b) s fine held = record { is = held }
-item_bytes cut c (MovieFragment moof mdat) s fine held = fragment_by cut c.at c.number c.tracks moof mdat s fine (bytes_back moof.bytes mdat.bytes held)
+item_bytes cut c (PassedOver b) s fine moof_bytes = box_bytes_by (is_dropped b.header.kind.0) b.bytes moof_bytes
+item_bytes cut c (Movie b) s fine moof_bytes = record { is = moof_bytes }
+item_bytes cut c (MovieFragment moof mdat) s fine moof_bytes = fragment_by cut c.at c.number c.tracks moof mdat s fine (bytes_back moof.bytes mdat.bytes moof_bytes)
 
 items_bytes : (cut : Cut) (c : Context) (is : List Item) → AreSound (splitting cut) c is → CanAllBeRecut cut c is → IsBytes (joined is) → Are (items_text cut c is)
-items_bytes cut c [] s fine held = none
-items_bytes cut c (i ∷ is) s fine held =
-    join_both (item_bytes cut c i s.0 fine.0 (bytes_front (bytes_of i) (joined is) held)) (items_bytes cut (context_after (splitting cut) c i) is s.1 fine.1 (bytes_back (bytes_of i) (joined is) held))
+items_bytes cut c [] s fine moof_bytes = none
+items_bytes cut c (i ∷ is) s fine moof_bytes =
+    join_both (item_bytes cut c i s.0 fine.0 (bytes_front (bytes_of i) (joined is) moof_bytes)) (items_bytes cut (context_after (splitting cut) c i) is s.1 fine.1 (bytes_back (bytes_of i) (joined is) moof_bytes))
 
 -- ---- the end
 
-open_by : (cut : Cut) (at number : ℕ) (o : Option (List Track)) (moof : OneBox) (h : Header) (head more : List ℕ) → IsSoundEnding (splitting cut) (context at o number) (OpenFragment moof h head more) → IsBytes moof.bytes → IsBytes more → at + length moof.bytes + length more ≤ 2 ^ 62 → number ≤ 2 ^ 32 → AllByRecursion FitsTrack (tracks_in (context at o number))
-    → Are (ending_text cut (context at o number) (OpenFragment moof h head more))
-open_by cut at number None moof h head more s held all room low fit = nothing_known s.2.known
-open_by cut at number (Some tracks) moof h head more s held all room low fit =
+open_by : (cut : Cut) (at number : ℕ) (o : Option (List Track)) (moof : OneBox) (h : Header) (header_bytes more : List ℕ) → IsSoundEnding (splitting cut) (context at o number) (OpenFragment moof h header_bytes more) → IsBytes moof.bytes → IsBytes more → at + length moof.bytes + length more ≤ 2 ^ 62 → number ≤ 2 ^ 32 → AllByRecursion FitsTrack (tracks_in (context at o number))
+    → Are (ending_text cut (context at o number) (OpenFragment moof h header_bytes more))
+open_by cut at number None moof h header_bytes more s moof_bytes all room low fit = nothing_known s.2.known
+open_by cut at number (Some tracks) moof h header_bytes more s moof_bytes all room low fit =
     let f = items.fragment_here (context at (Some tracks) number) moof.bytes h in
     let whole : IsWhole moof.bytes = (moof.header, s.2.one.payload, s.2.one.is) in
-    runs_bytes cut moof.bytes f.payload.start more all tracks tracks number (taken_runs (moof_at moof.bytes at) tracks) (open_runs cut at number tracks moof.bytes more h s.1.1 whole held room fit low s.3 s.4 s.5)
+    runs_bytes cut moof.bytes f.payload.start more all tracks tracks number (taken_runs (moof_at moof.bytes at) tracks) (open_runs cut at number tracks moof.bytes more h s.1.1 whole moof_bytes room fit low s.3 s.4 s.5)
 
 end_bytes : (cut : Cut) (c : Context) (e : Ending) → IsSoundEnding (splitting cut) c e → IsBytes (ending_bytes e) → c.at + length (ending_bytes e) ≤ 2 ^ 62 → c.number ≤ 2 ^ 32 → AllByRecursion FitsTrack (tracks_in c) → Are (ending_text cut c e)
-end_bytes cut c NothingMore s held room low fit = none
-end_bytes cut c (OpenBox h head more) s held room low fit = box_bytes_by (is_dropped h.kind.0) (head ++ more) held
-end_bytes cut c (OpenFragment moof h head more) s held room low fit =
-    open_by cut c.at c.number c.tracks moof h head more s (bytes_front moof.bytes (head ++ more) held) (bytes_back head more (bytes_back moof.bytes (head ++ more) held)) (omega (arith, room, length-append moof.bytes (head ++ more), length-append head more)) low fit
+end_bytes cut c NothingMore s moof_bytes room low fit = none
+end_bytes cut c (OpenBox h header_bytes more) s moof_bytes room low fit = box_bytes_by (is_dropped h.kind.0) (header_bytes ++ more) moof_bytes
+end_bytes cut c (OpenFragment moof h header_bytes more) s moof_bytes room low fit =
+    open_by cut c.at c.number c.tracks moof h header_bytes more s (bytes_front moof.bytes (header_bytes ++ more) moof_bytes) (bytes_back header_bytes more (bytes_back moof.bytes (header_bytes ++ more) moof_bytes)) (omega (arith, room, length-append moof.bytes (header_bytes ++ more), length-append header_bytes more)) low fit
 
 pub text_bytes : (cut : Cut) (s : Stream) → IsSoundStream cut s → IsBytes (stream_text cut s)
 text_bytes cut s is =

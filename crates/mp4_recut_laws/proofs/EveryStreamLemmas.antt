@@ -39,9 +39,9 @@ after meaning c y b r here read (NotMdat z n m e) h = not_sound r _ _ e refl h
 after meaning c y b r here read (BadFragment z f k n m e) h = not_sound r _ _ e refl h
 after meaning c y b r here read (CutInMedia z s k g n e) h = not_whole r _ _ e refl h
 after meaning c y b r here read (OpenMedia z k g n m e) h = record {
-  ending = OpenFragment b.box z.header z.head z.more;
+  ending = OpenFragment b.box z.header z.header_bytes z.more;
   is = (z.spelled, k, here, read, g, m);
-  bytes = same_more b.box.bytes b.more z.head z.more y b.cut z.cut;
+  bytes = same_more b.box.bytes b.more z.header_bytes z.more y b.cut z.cut;
   near = omega (arith, n, ap length b.cut, length-append b.box.bytes b.more);
 }
 after meaning c y b r here read (OpenMediaCut z k g n m e) h = not_whole r _ _ e refl h
@@ -54,7 +54,7 @@ rest meaning c y r low (BadHeader n m e) h = not_sound r _ _ e refl h
 rest meaning c y r low (TooFar b n e) h = not_sound r _ _ e refl h
 rest meaning c y r low (OutOfPlace b rule n m e) h = not_sound r _ _ e refl h
 rest meaning c y r low (CutInBody b s k n e) h = not_whole r _ _ e refl h
-rest meaning c y r low (Open b k n e) h = record { ending = OpenBox b.header b.head b.more; is = (b.spelled, k); bytes = sym b.cut; near = n }
+rest meaning c y r low (Open b k n e) h = record { ending = OpenBox b.header b.header_bytes b.more; is = (b.spelled, k); bytes = sym b.cut; near = n }
 rest meaning c y r low (OpenTooFar b k n m e) h = not_sound r _ _ e refl h
 rest meaning c y r low (Large b s limit k n e) h = not_sound r _ _ e refl h
 rest meaning c y r low (Unsized b limit k o n e) h = not_sound r _ _ e refl h
@@ -65,13 +65,13 @@ rest meaning c y r low (LateMoof b f k n m o e) h = not_sound r _ _ e refl h
 rest meaning c y r low (AfterMoof b s k n read more e) h = after meaning c y b s k read more (ap (λ (x : Reading). x.outcome) (sym e) ∙ h)
 
 pub every_sound_stream : (cut : Cut) (b : List ℕ) → IsBytes b → (reading cut b).outcome ≡ Sound → (s : Stream) × IsSoundStream cut s × (stream_bytes s ≡ b)
-every_sound_stream cut b held h =
+every_sound_stream cut b moof_bytes h =
     let meaning = splitting cut in
-    let split = every-stream meaning b held in
+    let split = every-stream meaning b moof_bytes in
     let p = split.0 in
     let c = context_after_all meaning first_context p.items in
     let at = after_at meaning first_context p.items in
     let found = rest meaning c p.rest p.reading (omega (arith, p.near, at)) p.is (ap (λ (x : Reading). x.outcome) (sym split.1) ∙ h) in
     let same : joined p.items ++ ending_bytes found.ending ≡ b = ap (λ (x : List ℕ). joined p.items ++ x) found.bytes ∙ sym p.cut in
     let s : Stream = record { items = p.items; ending = found.ending } in
-    (s, record { sound = p.sound; ending = found.is; bytes = subst IsBytes (sym same) held; near = omega (arith, found.near, at, ap length found.bytes, length-append (joined p.items) (ending_bytes found.ending)) }, same)
+    (s, record { sound = p.sound; ending = found.is; bytes = subst IsBytes (sym same) moof_bytes; near = omega (arith, found.near, at, ap length found.bytes, length-append (joined p.items) (ending_bytes found.ending)) }, same)

@@ -105,18 +105,18 @@ pub from_place : (z : ℤ) (start : ℕ) → pos start ≤ℤ z → (n : ℕ) ×
 from_place (pos n) start h = (n, refl)
 from_place z start h = absurd (omega (arith, ints, h))
 
-pub no_rows : (run : Run) (held : List ℕ) → run.count ≡ 0 → rows_of run held ≡ []
-no_rows run held e = ap (λ (n : ℕ). map (row_of run held) (range_with_len 0 (n - 0))) e
+pub no_rows : (run : Run) (moof_bytes : List ℕ) → run.count ≡ 0 → rows_of run moof_bytes ≡ []
+no_rows run moof_bytes e = ap (λ (n : ℕ). map (row_of run moof_bytes) (range_with_len 0 (n - 0))) e
 
-run_in : (tracks : List Track) (start : ℕ) (payload held : List ℕ) (run : Run) → IsSoundRun tracks held run → (run.size < 2 ^ 32 → IsRunOf held run) → (run.count ≡ 0) ⊎ Lies start (start + length payload) run → IsRunIn tracks start payload held run
-run_in tracks start payload held run sound of (inl none) = record { sound = sound; of = of sound.size; lies = inl (no_rows run held none) }
-run_in tracks start payload held run sound of (inr lies) =
+run_in : (tracks : List Track) (start : ℕ) (payload moof_bytes : List ℕ) (run : Run) → IsSoundRun tracks moof_bytes run → (run.size < 2 ^ 32 → IsRunOf moof_bytes run) → (run.count ≡ 0) ⊎ Lies start (start + length payload) run → IsRunIn tracks start payload moof_bytes run
+run_in tracks start payload moof_bytes run sound of (inl none) = record { sound = sound; of = of sound.size; lies = inl (no_rows run moof_bytes none) }
+run_in tracks start payload moof_bytes run sound of (inr lies) =
     let at = from_place run.place start lies.from in
     record { sound = sound; of = of sound.size; lies = inr (record { at = at.0; place = at.1; from = omega (arith, ints, lies.from, at.1); to = omega (arith, ints, lies.to, at.1, (of sound.size).bytes) }) }
 
-all_in : (tracks : List Track) (start : ℕ) (payload held : List ℕ) (runs : List Run) → AllByRecursion (IsSoundRun tracks held) runs → AreRunsOf held runs → AllByRecursion (λ (run : Run). (run.count ≡ 0) ⊎ Lies start (start + length payload) run) runs → AllByRecursion (IsRunIn tracks start payload held) runs
-all_in tracks start payload held [] a b c = tt
-all_in tracks start payload held (run ∷ runs) a b c = (run_in tracks start payload held run a.0 b.0 c.0, all_in tracks start payload held runs a.1 b.1 c.1)
+all_in : (tracks : List Track) (start : ℕ) (payload moof_bytes : List ℕ) (runs : List Run) → AllByRecursion (IsSoundRun tracks moof_bytes) runs → AreRunsOf moof_bytes runs → AllByRecursion (λ (run : Run). (run.count ≡ 0) ⊎ Lies start (start + length payload) run) runs → AllByRecursion (IsRunIn tracks start payload moof_bytes) runs
+all_in tracks start payload moof_bytes [] a b c = tt
+all_in tracks start payload moof_bytes (run ∷ runs) a b c = (run_in tracks start payload moof_bytes run a.0 b.0 c.0, all_in tracks start payload moof_bytes runs a.1 b.1 c.1)
 
 pub all_kept : (P : Run → Type 0) (xs ys : List Run) → IsPermutation xs ys → AllByRecursion P xs → AllByRecursion P ys
 all_kept P xs ys same all = recursion_from_All P ys (All-permutation P xs ys same (All-from_recursion P xs all))
@@ -124,9 +124,9 @@ all_kept P xs ys same all = recursion_from_All P ys (All-permutation P xs ys sam
 -- the runs of a fragment without a fault
 pub runs_in_payload : (h : MoofBytes) (tracks : List Track) (start : ℕ) (payload : List ℕ) → IsWhole h.bytes → IsBytes h.bytes → h.offset + length h.bytes ≤ 2 ^ 62 → AllByRecursion FitsTrack tracks → IsRead h tracks → place_fault (copy_media start (start + length payload)) (moof_runs h tracks) ≡ None
     → AllByRecursion (IsRunIn tracks start payload h.bytes) (taken_runs h tracks)
-runs_in_payload h tracks start payload whole held room all read placed =
+runs_in_payload h tracks start payload whole moof_bytes room all read placed =
     all_kept (IsRunIn tracks start payload h.bytes) (moof_runs h tracks) (taken_runs h tracks) (taken_permutes listed_run (moof_runs h tracks))
-    (all_in tracks start payload h.bytes (moof_runs h tracks) (all_sound h tracks whole held all read) (runs_are h tracks (omega (arith, room)) whole held read) (runs_lie start (start + length payload) (moof_runs h tracks) placed))
+    (all_in tracks start payload h.bytes (moof_runs h tracks) (all_sound h tracks whole moof_bytes all read) (runs_are h tracks (omega (arith, room)) whole moof_bytes read) (runs_lie start (start + length payload) (moof_runs h tracks) placed))
 
 -- ---- their numbers
 
@@ -144,9 +144,9 @@ has_numbers cut h runs number low e =
     let none = last_none (rooms.index_faults cut h.bytes runs) _ (least-none (rooms.room_faults cut h runs number) e) in
     ltb-false _ _ (sym (past_last number (piece_count cut h.bytes runs) low) ∙ given_none (list_any (nat_lt 4294967295) (numbers number (piece_count cut h.bytes runs))) (sequence_fault h.offset) none)
 
-pub counts_same : (cut : Cut) (held : List ℕ) (start : ℕ) (payload : List ℕ) (tracks : List Track) (runs : List Run) → runs_count cut held start payload tracks runs ≡ piece_count cut held runs
-counts_same cut held start payload tracks [] = refl
-counts_same cut held start payload tracks (run ∷ runs) = omega (arith, counts_same cut held start payload tracks runs, sum_by-cons (λ (r : Run). length (pieces_of cut held r)) run runs)
+pub counts_same : (cut : Cut) (moof_bytes : List ℕ) (start : ℕ) (payload : List ℕ) (tracks : List Track) (runs : List Run) → runs_count cut moof_bytes start payload tracks runs ≡ piece_count cut moof_bytes runs
+counts_same cut moof_bytes start payload tracks [] = refl
+counts_same cut moof_bytes start payload tracks (run ∷ runs) = omega (arith, counts_same cut moof_bytes start payload tracks runs, sum_by-cons (λ (r : Run). length (pieces_of cut moof_bytes r)) run runs)
 
 -- ---- a fragment
 
@@ -155,11 +155,11 @@ same_end start a b e = cc
 
 payload_is : (n : ℕ) (mdat : OneBox) → IsOne Mdat mdat → ◌≡◌ {A = Payload} (record { start = n + mdat.header.header_len; end = end_of n mdat.header.size }) (copy_media (n + mdat.header.header_len) (n + mdat.header.header_len + length (drop mdat.header.header_len mdat.bytes)))
 payload_is n mdat one =
-    let len : mdat.header.header_len ≤ length mdat.bytes = omega (arith, one.is.spelled.header_len, ap length one.is.whole, length-append one.is.head one.payload) in
+    let len : mdat.header.header_len ≤ length mdat.bytes = omega (arith, one.is.spelled.header_len, ap length one.is.whole, length-append one.is.header_bytes one.payload) in
     ap (λ (s : Size). record { start = n + mdat.header.header_len; end = end_of n s }) one.is.size
     ∙ same_end (n + mdat.header.header_len) _ _ (omega (arith, len, length-drop mdat.header.header_len mdat.bytes))
 
-module _ (cut : Cut) (at number : ℕ) (tracks : List Track) (moof mdat : OneBox) (sound : IsSound (splitting cut) (context at (Some tracks) number) (MovieFragment moof mdat)) (held : IsBytes moof.bytes) (room : at + length moof.bytes + length mdat.bytes ≤ 2 ^ 62) (all : AllByRecursion FitsTrack tracks) (low : number ≤ 4294967296) where
+module _ (cut : Cut) (at number : ℕ) (tracks : List Track) (moof mdat : OneBox) (sound : IsSound (splitting cut) (context at (Some tracks) number) (MovieFragment moof mdat)) (moof_bytes : IsBytes moof.bytes) (room : at + length moof.bytes + length mdat.bytes ≤ 2 ^ 62) (all : AllByRecursion FitsTrack tracks) (low : number ≤ 4294967296) where
   abbrev h : MoofBytes
   h = moof_at moof.bytes at
 
@@ -174,7 +174,7 @@ module _ (cut : Cut) (at number : ℕ) (tracks : List Track) (moof mdat : OneBox
 
   pub fragment_runs : AllByRecursion (IsRunIn tracks f.payload.start payload moof.bytes) (taken_runs h tracks)
   fragment_runs =
-      runs_in_payload h tracks f.payload.start payload (moof.header, sound.0.one.payload, sound.0.one.is) held (omega (arith, room)) all sound.1
+      runs_in_payload h tracks f.payload.start payload (moof.header, sound.0.one.payload, sound.0.one.is) moof_bytes (omega (arith, room)) all sound.1
       (ap (λ (p : Payload). place_fault p (moof_runs h tracks)) (sym (payload_is (at + length moof.bytes) mdat sound.2)) ∙ good.0)
 
   pub fragment_count : runs_count cut moof.bytes f.payload.start payload tracks (taken_runs h tracks) ≡ piece_count cut moof.bytes (taken_runs h tracks)

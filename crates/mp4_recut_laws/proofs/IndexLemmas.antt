@@ -60,40 +60,40 @@ sample_times track entry (row ∷ rows) time media = ap (λ (zs : List ℤ). (po
 -- ---- a piece
 
 -- what is known of a piece that follows an index
-record Good (held : List ℕ) (start : ℕ) (payload : List ℕ) (run : Run) (p : Piece) : Type 0 where
-  is : IsPieceOf held run p
+record Good (moof_bytes : List ℕ) (start : ℕ) (payload : List ℕ) (run : Run) (p : Piece) : Type 0 where
+  is : IsPieceOf moof_bytes run p
   long : length (media_of start payload p) ≡ p.bytes
   fits : FitsReference p
 
 same_references : (a b c d e f : ℕ) (rs ss : List Reference) → a ≡ b → c ≡ d → e ≡ f → rs ≡ ss → ◌≡◌ {A = List Reference} (record { size = a; duration = c; access = e } ∷ rs) (record { size = b; duration = d; access = f } ∷ ss)
 same_references a b c d e f rs ss p q r s = cc
 
-module _ (held : List ℕ) (start : ℕ) (payload : List ℕ) (run : Run) where
+module _ (moof_bytes : List ℕ) (start : ℕ) (payload : List ℕ) (run : Run) where
   abbrev media_piece : Piece → PieceWithMedia
-  media_piece p = piece_with_media held start payload run p
+  media_piece p = piece_with_media moof_bytes start payload run p
 
-  piece_size : (p : Piece) (number : ℕ) → Good held start payload run p → fragment_size p ≡ length (bytes_of (piece_item (media_piece p).written number (media_piece p).media))
+  piece_size : (p : Piece) (number : ℕ) → Good moof_bytes start payload run p → fragment_size p ≡ length (bytes_of (piece_item (media_piece p).written number (media_piece p).media))
   piece_size p number good =
       let media = media_of start payload p in
-      let f = written_fragment held run p in
+      let f = written_fragment moof_bytes run p in
       let header : mdat_header_size (length media) ≡ mdat_header_size p.bytes = ap mdat_header_size good.long in
-      omega (arith, length-append (moof_box f number) (mdat_as_box media).bytes, length_moof f number, count_is held run p good.is, length_media media, header, good.long)
+      omega (arith, length-append (moof_box f number) (mdat_as_box media).bytes, length_moof f number, count_is moof_bytes run p good.is, length_media media, header, good.long)
 
-  piece_duration : (p : Piece) → Good held start payload run p → p.duration ≡ sum_by (λ (s : MediaSample). s.duration) (piece_samples (media_piece p))
+  piece_duration : (p : Piece) → Good moof_bytes start payload run p → p.duration ≡ sum_by (λ (s : MediaSample). s.duration) (piece_samples (media_piece p))
   unfolding piece_specs.piece_at
   piece_duration p good =
-      ap (λ (q : Piece). q.duration) good.is.is ∙ sym (sample_durations run.track run.entry (rows_in held run p) p.time (media_of start payload p))
+      ap (λ (q : Piece). q.duration) good.is.is ∙ sym (sample_durations run.track run.entry (rows_in moof_bytes run p) p.time (media_of start payload p))
 
-  piece_least : (p : Piece) → Good held start payload run p → p.least ≡ least_of (map (λ (s : MediaSample). s.composition) (piece_samples (media_piece p)))
+  piece_least : (p : Piece) → Good moof_bytes start payload run p → p.least ≡ least_of (map (λ (s : MediaSample). s.composition) (piece_samples (media_piece p)))
   unfolding piece_specs.piece_at
   piece_least p good =
-      let rows = rows_in held run p in
-      let time : (cursor_at held run p.first).time ≡ p.time = sym (ap (λ (q : Piece). q.time) good.is.is) in
+      let rows = rows_in moof_bytes run p in
+      let time : (cursor_at moof_bytes run p.first).time ≡ p.time = sym (ap (λ (q : Piece). q.time) good.is.is) in
       ap (λ (q : Piece). q.least) good.is.is
       ∙ ap (λ (t : ℕ). least_of (composition_times t rows)) time
       ∙ sym (ap least_of (sample_times run.track run.entry rows p.time (media_of start payload p)))
 
-  references_back : (number : ℕ) (g : List Piece) → AllByRecursion (Good held start payload run) g → references_in (length g) (flat_map reference_bytes g) ≡ references_of number (map media_piece g)
+  references_back : (number : ℕ) (g : List Piece) → AllByRecursion (Good moof_bytes start payload run) g → references_in (length g) (flat_map reference_bytes g) ≡ references_of number (map media_piece g)
   references_back number [] all = refl
   references_back number (p ∷ g) all =
       let good = all.0 in
@@ -105,7 +105,7 @@ module _ (held : List ℕ) (start : ℕ) (payload : List ℕ) (run : Run) where
       (big_number-reads_back 4 0 rest (omega arith))
       (references_back (number + 1) g all.1)
 
-  small_sizes : (number : ℕ) (g : List Piece) → AllByRecursion (Good held start payload run) g → AllByRecursion (λ (r : Reference). r.size < 2 ^ 31) (references_of number (map media_piece g))
+  small_sizes : (number : ℕ) (g : List Piece) → AllByRecursion (Good moof_bytes start payload run) g → AllByRecursion (λ (r : Reference). r.size < 2 ^ 31) (references_of number (map media_piece g))
   small_sizes number [] all = tt
   small_sizes number (p ∷ g) all = (omega (arith, piece_size p number all.0, all.0.fits.size), small_sizes (number + 1) g all.1)
 
@@ -115,11 +115,11 @@ module _ (held : List ℕ) (start : ℕ) (payload : List ℕ) (run : Run) where
   natural_is (pos n) h = (refl, omega (arith, ints, h.high))
   natural_is (negsuc n) h = absurd (omega (arith, ints, h.low))
 
-  earliest_is : (g : List Piece) → BeginsInTime g → AllByRecursion (Good held start payload run) g → (pos (earliest g) ≡ least_of (map (λ (s : MediaSample). s.composition) (first_samples (map media_piece g)))) × (earliest g < 2 ^ 64)
+  earliest_is : (g : List Piece) → BeginsInTime g → AllByRecursion (Good moof_bytes start payload run) g → (pos (earliest g) ≡ least_of (map (λ (s : MediaSample). s.composition) (first_samples (map media_piece g)))) × (earliest g < 2 ^ 64)
   earliest_is [] time all = (refl, omega arith)
   earliest_is (p ∷ g) time all = let n = natural_is p.least time in (n.0 ∙ piece_least p all.0, n.1)
 
-  index_states : (timescale number : ℕ) (g : List Piece) → run.track < 2 ^ 32 → timescale < 2 ^ 32 → length g ≤ 65535 → BeginsInTime g → AllByRecursion (Good held start payload run) g → IsIndexOf run.track timescale number (drop 8 (index_as_box run timescale g).bytes) (map media_piece g)
+  index_states : (timescale number : ℕ) (g : List Piece) → run.track < 2 ^ 32 → timescale < 2 ^ 32 → length g ≤ 65535 → BeginsInTime g → AllByRecursion (Good moof_bytes start payload run) g → IsIndexOf run.track timescale number (drop 8 (index_as_box run timescale g).bytes) (map media_piece g)
   unfolding sidx_specs.written_index
   index_states timescale number g small scale few time all =
       let v = version_and_flags 1 0 in
@@ -161,36 +161,36 @@ scale_by ts (Some i) all = at_small ts i all
 pub scale_small : (ts : List Track) (id : ℕ) → AllByRecursion (λ (t : Track). t.timescale < 2 ^ 32) ts → timescale_of ts id < 2 ^ 32
 scale_small ts id all = scale_by ts (position (λ (t : Track). t.id == id) ts) all
 
-module _ (cut : Cut) (held : List ℕ) (start : ℕ) (payload : List ℕ) (tracks : List Track) where
-  all_good : (run : Run) (ps : List Piece) → AllByRecursion (IsPieceOf held run) ps → AllByRecursion (λ (p : Piece). length (media_of start payload p) ≡ p.bytes) ps → AllByRecursion FitsReference ps → AllByRecursion (Good held start payload run) ps
+module _ (cut : Cut) (moof_bytes : List ℕ) (start : ℕ) (payload : List ℕ) (tracks : List Track) where
+  all_good : (run : Run) (ps : List Piece) → AllByRecursion (IsPieceOf moof_bytes run) ps → AllByRecursion (λ (p : Piece). length (media_of start payload p) ≡ p.bytes) ps → AllByRecursion FitsReference ps → AllByRecursion (Good moof_bytes start payload run) ps
   all_good run [] is long fit = tt
   all_good run (p ∷ ps) is long fit = (record { is = is.0; long = long.0; fits = fit.0 }, all_good run ps is.1 long.1 fit.1)
 
-  groups_indexed : (run : Run) (timescale number : ℕ) (gs : List (List Piece)) → run.track < 2 ^ 32 → timescale < 2 ^ 32 → AllByRecursion (λ (g : List Piece). length g ≤ 65535) gs → AllByRecursion BeginsInTime gs → AllByRecursion (Good held start payload run) (join gs)
-      → GroupsAreIndexed cut held start payload run timescale number gs
+  groups_indexed : (run : Run) (timescale number : ℕ) (gs : List (List Piece)) → run.track < 2 ^ 32 → timescale < 2 ^ 32 → AllByRecursion (λ (g : List Piece). length g ≤ 65535) gs → AllByRecursion BeginsInTime gs → AllByRecursion (Good moof_bytes start payload run) (join gs)
+      → GroupsAreIndexed cut moof_bytes start payload run timescale number gs
   groups_indexed run timescale number [] small scale few time all = tt
   groups_indexed run timescale number (g ∷ gs) small scale few time all = (
-    index_states held start payload run timescale number g small scale few.0 time.0 (all_first (Good held start payload run) g (join gs) all),
-    groups_indexed run timescale (number + length g) gs small scale few.1 time.1 (all_last (Good held start payload run) g (join gs) all),
+    index_states moof_bytes start payload run timescale number g small scale few.0 time.0 (all_first (Good moof_bytes start payload run) g (join gs) all),
+    groups_indexed run timescale (number + length g) gs small scale few.1 time.1 (all_last (Good moof_bytes start payload run) g (join gs) all),
   )
 
-  no_groups : (run : Run) (timescale number : ℕ) → GroupsAreIndexed cut held start payload run timescale number (groups [])
+  no_groups : (run : Run) (timescale number : ℕ) → GroupsAreIndexed cut moof_bytes start payload run timescale number (groups [])
   unfolding group_specs.groups_from
   no_groups run timescale number = tt
 
-  pub run_indexed : (run : Run) (timescale number : ℕ) → timescale < 2 ^ 32 → IsRunIn tracks start payload held run → FitsIndex (pieces_of cut held run) → GroupsAreIndexed cut held start payload run timescale number (groups (pieces_of cut held run))
+  pub run_indexed : (run : Run) (timescale number : ℕ) → timescale < 2 ^ 32 → IsRunIn tracks start payload moof_bytes run → FitsIndex (pieces_of cut moof_bytes run) → GroupsAreIndexed cut moof_bytes start payload run timescale number (groups (pieces_of cut moof_bytes run))
   run_indexed run timescale number scale g fit = elim g.lies [
-    | inl none ↦ subst (λ (ps : List Piece). GroupsAreIndexed cut held start payload run timescale number (groups ps)) (sym (none_of cut held start payload tracks run none)) (no_groups run timescale number)
+    | inl none ↦ subst (λ (ps : List Piece). GroupsAreIndexed cut moof_bytes start payload run timescale number (groups ps)) (sym (none_of cut moof_bytes start payload tracks run none)) (no_groups run timescale number)
     | inr lies ↦
-        let ps = pieces_of cut held run in
+        let ps = pieces_of cut moof_bytes run in
         let are = groups_are ps in
         groups_indexed run timescale number (groups ps) g.sound.track scale are.most fit.times
-        (subst (λ (qs : List Piece). AllByRecursion (Good held start payload run) qs) (sym are.joined) (all_good run ps (pieces_are_of cut held run) (run_long cut held start payload run lies) fit.references))
+        (subst (λ (qs : List Piece). AllByRecursion (Good moof_bytes start payload run) qs) (sym are.joined) (all_good run ps (pieces_are_of cut moof_bytes run) (run_long cut moof_bytes start payload run lies) fit.references))
   ]
 
-  pub runs_indexed : (number : ℕ) (runs : List Run) → AllByRecursion (λ (t : Track). t.timescale < 2 ^ 32) tracks → AllByRecursion (IsRunIn tracks start payload held) runs → AllByRecursion (λ (run : Run). FitsIndex (pieces_of cut held run)) runs → RunsAreIndexed cut held start payload tracks number runs
+  pub runs_indexed : (number : ℕ) (runs : List Run) → AllByRecursion (λ (t : Track). t.timescale < 2 ^ 32) tracks → AllByRecursion (IsRunIn tracks start payload moof_bytes) runs → AllByRecursion (λ (run : Run). FitsIndex (pieces_of cut moof_bytes run)) runs → RunsAreIndexed cut moof_bytes start payload tracks number runs
   runs_indexed number [] scaled given fit = tt
   runs_indexed number (run ∷ runs) scaled given fit = (
     run_indexed run (timescale_of tracks run.track) number (scale_small tracks run.track scaled) given.0 fit.0,
-    runs_indexed (number + length (pieces_of cut held run)) runs scaled given.1 fit.1,
+    runs_indexed (number + length (pieces_of cut moof_bytes run)) runs scaled given.1 fit.1,
   )

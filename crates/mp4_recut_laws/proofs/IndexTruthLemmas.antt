@@ -135,50 +135,50 @@ module _ (cut : Cut) (tracks : List Track) where
         media = subst (λ (rs : List Reference). AllByRecursion (λ (r : Reference). r.size < 2 ^ 31) rs) (sym t.references) t.media;
       }
 
-  module _ (held : List ℕ) (start : ℕ) (payload : List ℕ) where
+  module _ (moof_bytes : List ℕ) (start : ℕ) (payload : List ℕ) where
     abbrev media_pieces : Run → List Piece → List PieceWithMedia
-    media_pieces run ps = map (piece_with_media held start payload run) ps
+    media_pieces run ps = map (piece_with_media moof_bytes start payload run) ps
 
     group_true_here : (t : Bool) (run : Run) (number : ℕ) (g : List Piece) (more : List Item) → 0 < length g → AllByRecursion IsPieceHere (media_pieces run g) → IsIndexOf run.track (timescale_of tracks run.track) number (drop 8 (index_as_box run (timescale_of tracks run.track) g).bytes) (media_pieces run g) → TrueAnywhere more
         → TrueAnywhere (index_items t run (timescale_of tracks run.track) g ++ (pieces_items number (media_pieces run g) ++ more))
     group_true_here false run number g more some all true_of any at n us e = pieces_true number (media_pieces run g) more any at n us e
     group_true_here true run number [] more some all true_of any at n us e = absurd (omega (arith, some))
     group_true_here true run number (p ∷ g) more some all true_of any at n us e = (
-      λ kind. index_true_here _ n number us run _ (piece_with_media held start payload run p) (media_pieces run g) more e all refl true_of,
+      λ kind. index_true_here _ n number us run _ (piece_with_media moof_bytes start payload run p) (media_pieces run g) more e all refl true_of,
       pieces_true number (media_pieces run (p ∷ g)) more any _ n us e,
     )
 
-    groups_true_here : (run : Run) (number : ℕ) (gs : List (List Piece)) (more : List Item) → AllByRecursion (λ (g : List Piece). 0 < length g) gs → AllByRecursion IsPieceHere (media_pieces run (join gs)) → GroupsAreIndexed cut held start payload run (timescale_of tracks run.track) number gs → TrueAnywhere more
-        → TrueAnywhere (groups_items cut held start payload run (timescale_of tracks run.track) number gs ++ more)
+    groups_true_here : (run : Run) (number : ℕ) (gs : List (List Piece)) (more : List Item) → AllByRecursion (λ (g : List Piece). 0 < length g) gs → AllByRecursion IsPieceHere (media_pieces run (join gs)) → GroupsAreIndexed cut moof_bytes start payload run (timescale_of tracks run.track) number gs → TrueAnywhere more
+        → TrueAnywhere (groups_items cut moof_bytes start payload run (timescale_of tracks run.track) number gs ++ more)
     groups_true_here run number [] more some all true_of any = any
     groups_true_here run number (g ∷ gs) more some all true_of any =
-        let both = map_both (piece_with_media held start payload run) g (join gs) in
+        let both = map_both (piece_with_media moof_bytes start payload run) g (join gs) in
         let ok = subst (λ (qs : List PieceWithMedia). AllByRecursion IsPieceHere qs) both all in
         let xs = index_items cut.index run (timescale_of tracks run.track) g in
         let ys = pieces_items number (media_pieces run g) in
-        let zs = groups_items cut held start payload run (timescale_of tracks run.track) (number + length g) gs in
+        let zs = groups_items cut moof_bytes start payload run (timescale_of tracks run.track) (number + length g) gs in
         subst TrueAnywhere (sym (append_assoc xs (ys ++ zs) more ∙ ap (λ (is : List Item). xs ++ is) (append_assoc ys zs more)))
         (group_true_here cut.index run number g (zs ++ more) some.0 (all_first IsPieceHere (media_pieces run g) (media_pieces run (join gs)) ok) true_of.0
         (groups_true_here run (number + length g) gs more some.1 (all_last IsPieceHere (media_pieces run g) (media_pieces run (join gs)) ok) true_of.1 any))
 
-    run_true_here : (run : Run) (number : ℕ) (more : List Item) → length payload ≤ 2 ^ 62 → AreScaled tracks → IsRunIn tracks start payload held run → FitsIndex (pieces_of cut held run) → TrueAnywhere more → TrueAnywhere (groups_items cut held start payload run (timescale_of tracks run.track) number (groups (pieces_of cut held run)) ++ more)
+    run_true_here : (run : Run) (number : ℕ) (more : List Item) → length payload ≤ 2 ^ 62 → AreScaled tracks → IsRunIn tracks start payload moof_bytes run → FitsIndex (pieces_of cut moof_bytes run) → TrueAnywhere more → TrueAnywhere (groups_items cut moof_bytes start payload run (timescale_of tracks run.track) number (groups (pieces_of cut moof_bytes run)) ++ more)
     run_true_here run number more small scaled g fit any =
-        let ps = pieces_of cut held run in
+        let ps = pieces_of cut moof_bytes run in
         let are = groups_are ps in
         let ok : AllByRecursion IsPieceHere (media_pieces run ps) = elim g.lies [
-          | inl none ↦ subst (λ (qs : List Piece). AllByRecursion IsPieceHere (media_pieces run qs)) (sym (none_of cut held start payload tracks run none)) tt
-          | inr lies ↦ run_pieces cut tracks held start payload run small g.sound g.of lies
+          | inl none ↦ subst (λ (qs : List Piece). AllByRecursion IsPieceHere (media_pieces run qs)) (sym (none_of cut moof_bytes start payload tracks run none)) tt
+          | inr lies ↦ run_pieces cut tracks moof_bytes start payload run small g.sound g.of lies
         ] in
         groups_true_here run number (groups ps) more are.some (subst (λ (qs : List Piece). AllByRecursion IsPieceHere (media_pieces run qs)) (sym are.joined) ok)
-        (run_indexed cut held start payload tracks run (timescale_of tracks run.track) number (scale_small tracks run.track scaled) g fit) any
+        (run_indexed cut moof_bytes start payload tracks run (timescale_of tracks run.track) number (scale_small tracks run.track scaled) g fit) any
 
-    pub runs_true_here : (number : ℕ) (runs : List Run) (more : List Item) → length payload ≤ 2 ^ 62 → AreScaled tracks → AllByRecursion (IsRunIn tracks start payload held) runs → AllByRecursion (λ (run : Run). FitsIndex (pieces_of cut held run)) runs → TrueAnywhere more → TrueAnywhere (runs_items cut held start payload tracks number runs ++ more)
+    pub runs_true_here : (number : ℕ) (runs : List Run) (more : List Item) → length payload ≤ 2 ^ 62 → AreScaled tracks → AllByRecursion (IsRunIn tracks start payload moof_bytes) runs → AllByRecursion (λ (run : Run). FitsIndex (pieces_of cut moof_bytes run)) runs → TrueAnywhere more → TrueAnywhere (runs_items cut moof_bytes start payload tracks number runs ++ more)
     runs_true_here number [] more small scaled given fit any = any
     runs_true_here number (run ∷ runs) more small scaled given fit any =
-        let xs = groups_items cut held start payload run (timescale_of tracks run.track) number (groups (pieces_of cut held run)) in
-        let ys = runs_items cut held start payload tracks (number + length (pieces_of cut held run)) runs in
+        let xs = groups_items cut moof_bytes start payload run (timescale_of tracks run.track) number (groups (pieces_of cut moof_bytes run)) in
+        let ys = runs_items cut moof_bytes start payload tracks (number + length (pieces_of cut moof_bytes run)) runs in
         subst TrueAnywhere (sym (append_assoc xs ys more))
-        (run_true_here run number (ys ++ more) small scaled given.0 fit.0 (runs_true_here (number + length (pieces_of cut held run)) runs more small scaled given.1 fit.1 any))
+        (run_true_here run number (ys ++ more) small scaled given.0 fit.0 (runs_true_here (number + length (pieces_of cut moof_bytes run)) runs more small scaled given.1 fit.1 any))
 
 -- ---- items
 
@@ -224,34 +224,34 @@ module _ (cut : Cut) (index : cut.index ≡ true) where
   item_true_here c d (MovieFragment moof mdat) more e scaled s fine later = fragment_true_here c.at c.number c.tracks d.at d.number d.tracks moof mdat more e scaled s fine later
 
   items_true_here : (c d : Context) (is more : List Item) → option_map without_ends d.tracks ≡ option_map without_ends c.tracks → AreScaled (tracks_in c) → AreSound (splitting cut) c is → CanAllBeRecut cut c is → IsBytes (joined is) → Later (context_after_all (splitting cut) c is).tracks more → IndexesAreTrue cut d (items_recut cut c is ++ more)
-  items_true_here c d [] more e scaled s fine held later = later d e
-  items_true_here c d (i ∷ is) more e scaled s fine held later =
+  items_true_here c d [] more e scaled s fine moof_bytes later = later d e
+  items_true_here c d (i ∷ is) more e scaled s fine moof_bytes later =
       let next = context_after (splitting cut) c i in
       subst (IndexesAreTrue cut d) (sym (append_assoc (item_recut cut c i) (items_recut cut next is) more))
       (item_true_here c d i (items_recut cut next is ++ more) e scaled s.0 fine.0
-      (λ x k. items_true_here next x is more k (item_scaled cut index c i scaled s.0 (bytes_front (bytes_of i) (joined is) held)) s.1 fine.1 (bytes_back (bytes_of i) (joined is) held) later))
+      (λ x k. items_true_here next x is more k (item_scaled cut index c i scaled s.0 (bytes_front (bytes_of i) (joined is) moof_bytes)) s.1 fine.1 (bytes_back (bytes_of i) (joined is) moof_bytes) later))
 
   -- ---- the end
 
-  open_true_here : (at number : ℕ) (o : Option (List Track)) (to now : ℕ) (u : Option (List Track)) (moof : OneBox) (h : Header) (head more : List ℕ) → option_map without_ends u ≡ option_map without_ends o → AreScaled (listed o) → IsSoundEnding (splitting cut) (context at o number) (OpenFragment moof h head more) → IsBytes moof.bytes → at + length moof.bytes + length more ≤ 2 ^ 62 → number ≤ 2 ^ 32 → AllByRecursion FitsTrack (listed o)
-      → IndexesAreTrue cut (context to u now) (ending_items cut (context at o number) (OpenFragment moof h head more))
-  open_true_here at number None to now u moof h head more e scaled s held room low fit = nothing_known s.2.known
-  open_true_here at number (Some tracks) to now None moof h head more e scaled s held room low fit = nothing_same (without_ends tracks) e
-  open_true_here at number (Some tracks) to now (Some us) moof h head more e scaled s held room low fit =
+  open_true_here : (at number : ℕ) (o : Option (List Track)) (to now : ℕ) (u : Option (List Track)) (moof : OneBox) (h : Header) (header_bytes more : List ℕ) → option_map without_ends u ≡ option_map without_ends o → AreScaled (listed o) → IsSoundEnding (splitting cut) (context at o number) (OpenFragment moof h header_bytes more) → IsBytes moof.bytes → at + length moof.bytes + length more ≤ 2 ^ 62 → number ≤ 2 ^ 32 → AllByRecursion FitsTrack (listed o)
+      → IndexesAreTrue cut (context to u now) (ending_items cut (context at o number) (OpenFragment moof h header_bytes more))
+  open_true_here at number None to now u moof h header_bytes more e scaled s moof_bytes room low fit = nothing_known s.2.known
+  open_true_here at number (Some tracks) to now None moof h header_bytes more e scaled s moof_bytes room low fit = nothing_same (without_ends tracks) e
+  open_true_here at number (Some tracks) to now (Some us) moof h header_bytes more e scaled s moof_bytes room low fit =
       let f = fragment_here (context at (Some tracks) number) moof.bytes h in
       let m = moof_at moof.bytes at in
       let whole : IsWhole moof.bytes = (moof.header, s.2.one.payload, s.2.one.is) in
       let good = first_none (place_fault f.payload (moof_runs m tracks)) (room_fault cut m (moof_runs m tracks) number) s.4 in
       subst (IndexesAreTrue cut (context to (Some us) now)) (append-nil _)
       (runs_true_here cut tracks moof.bytes f.payload.start more number (taken_runs m tracks) [] (omega (arith, room)) scaled
-      (open_runs cut at number tracks moof.bytes more h s.1.1 whole held room fit low s.3 s.4 s.5) (all_index cut m tracks number index good.1)
+      (open_runs cut at number tracks moof.bytes more h s.1.1 whole moof_bytes room fit low s.3 s.4 s.5) (all_index cut m tracks number index good.1)
       (λ x n vs k. tt) to now us (some_same (without_ends us) (without_ends tracks) e))
 
   ending_true_here : (c d : Context) (e : Ending) → option_map without_ends d.tracks ≡ option_map without_ends c.tracks → AreScaled (tracks_in c) → IsSoundEnding (splitting cut) c e → IsBytes (ending_bytes e) → c.at + length (ending_bytes e) ≤ 2 ^ 62 → c.number ≤ 2 ^ 32 → AllByRecursion FitsTrack (tracks_in c) → IndexesAreTrue cut d (ending_items cut c e)
-  ending_true_here c d NothingMore k scaled s held room low fit = tt
-  ending_true_here c d (OpenBox h head more) k scaled s held room low fit = tt
-  ending_true_here c d (OpenFragment moof h head more) k scaled s held room low fit =
-      open_true_here c.at c.number c.tracks d.at d.number d.tracks moof h head more k scaled s (bytes_front moof.bytes (head ++ more) held) (omega (arith, room, length-append moof.bytes (head ++ more), length-append head more)) low fit
+  ending_true_here c d NothingMore k scaled s moof_bytes room low fit = tt
+  ending_true_here c d (OpenBox h header_bytes more) k scaled s moof_bytes room low fit = tt
+  ending_true_here c d (OpenFragment moof h header_bytes more) k scaled s moof_bytes room low fit =
+      open_true_here c.at c.number c.tracks d.at d.number d.tracks moof h header_bytes more k scaled s (bytes_front moof.bytes (header_bytes ++ more) moof_bytes) (omega (arith, room, length-append moof.bytes (header_bytes ++ more), length-append header_bytes more)) low fit
 
   pub recut_indexes_true : (s : Stream) → IsSoundStream cut s → IndexesAreTrue cut first_context (recut cut s).items
   recut_indexes_true s is =

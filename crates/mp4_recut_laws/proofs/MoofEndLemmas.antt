@@ -95,7 +95,7 @@ ends-index n false run timescale g is = refl
 
 -- ---- pieces of a run
 
-module _ (cut : Cut) (held : List ℕ) (start : ℕ) (payload : List ℕ) where
+module _ (cut : Cut) (moof_bytes : List ℕ) (start : ℕ) (payload : List ℕ) where
   abbrev Long : Piece → Type 0
   Long p = length (media_of start payload p) ≡ p.bytes
 
@@ -103,22 +103,22 @@ module _ (cut : Cut) (held : List ℕ) (start : ℕ) (payload : List ℕ) where
     -- k pieces of a group are left, and then the groups that start after them
     abbrev left : (k number : ℕ) → List Piece → List Item
     left k number ps =
-        pieces_items number (map (piece_with_media held start payload run) (take k ps)) ++ groups_items cut held start payload run timescale (number + length (take k ps)) (groups_from k ps)
+        pieces_items number (map (piece_with_media moof_bytes start payload run) (take k ps)) ++ groups_items cut moof_bytes start payload run timescale (number + length (take k ps)) (groups_from k ps)
 
     abbrev ahead : (k number : ℕ) → List Piece → List OutputFragment
-    ahead k number ps = run_fragments cut held run timescale k number ps
+    ahead k number ps = run_fragments cut moof_bytes run timescale k number ps
 
     -- a piece with what precedes it, and what follows it
     one-more : (before : List ℕ) (number : ℕ) (p : Piece) (later : List Item) (after : List OutputFragment) → Long p
         → fragment_ends_in start payload after ≡ moof_ends 0 (number + 1) later
-        → ◌≡◌ {A = List FragmentEnd} (record { end = length before + length (written_moof p run held number); count = number } ∷ moved (length (before ++ head_of held run p number)) (moved (length (media_of start payload p)) (fragment_ends_in start payload after)))
-        (moof_ends (length before) number (pieces_items number (map (piece_with_media held start payload run) (p ∷ [])) ++ later))
+        → ◌≡◌ {A = List FragmentEnd} (record { end = length before + length (written_moof p run moof_bytes number); count = number } ∷ moved (length (before ++ head_of moof_bytes run p number)) (moved (length (media_of start payload p)) (fragment_ends_in start payload after)))
+        (moof_ends (length before) number (pieces_items number (map (piece_with_media moof_bytes start payload run) (p ∷ [])) ++ later))
     one-more before number p later after long e =
         let m = media_of start payload p in
-        let moof = written_moof p run held number in
-        let a = length (before ++ head_of held run p number) in
+        let moof = written_moof p run moof_bytes number in
+        let a = length (before ++ head_of moof_bytes run p number) in
         let end : FragmentEnd = record { end = length before + length moof; count = number } in
-        let head = length-append before (head_of held run p number) in
+        let head = length-append before (head_of moof_bytes run p number) in
         let ahead = length-append moof (mdat_header p.bytes) in
         let mdat = length-append (mdat_header (length m)) m in
         let same : length (mdat_header (length m)) ≡ length (mdat_header p.bytes) = ap (λ (n : ℕ). length (mdat_header n)) long in
@@ -139,28 +139,28 @@ module _ (cut : Cut) (held : List ℕ) (start : ℕ) (payload : List ℕ) where
         let index = index_of cut run timescale g in
         let later = left 65534 (number + 1) ps in
         one-more index number p later (ahead 65534 (number + 1) ps) long.0 (run-ends 65534 (number + 1) ps long.1)
-        ∙ sym (ends-index number cut.index run timescale g (pieces_items number (map (piece_with_media held start payload run) (p ∷ [])) ++ later))
-        ∙ ap (λ (n : ℕ). moof_ends 0 number (index_items cut.index run timescale g ++ (pieces_items number (map (piece_with_media held start payload run) g) ++ groups_items cut held start payload run timescale n (groups_from 65534 ps)))) e
-        ∙ ap (λ (n : ℕ). moof_ends 0 number (groups_items cut held start payload run timescale n (g ∷ groups_from 65534 ps))) (sym z)
+        ∙ sym (ends-index number cut.index run timescale g (pieces_items number (map (piece_with_media moof_bytes start payload run) (p ∷ [])) ++ later))
+        ∙ ap (λ (n : ℕ). moof_ends 0 number (index_items cut.index run timescale g ++ (pieces_items number (map (piece_with_media moof_bytes start payload run) g) ++ groups_items cut moof_bytes start payload run timescale n (groups_from 65534 ps)))) e
+        ∙ ap (λ (n : ℕ). moof_ends 0 number (groups_items cut moof_bytes start payload run timescale n (g ∷ groups_from 65534 ps))) (sym z)
     run-ends (suc k) number (p ∷ ps) long =
         let e : number + 1 + length (take k ps) ≡ number + suc (length (take k ps)) = omega arith in
         one-more [] number p (left k (number + 1) ps) (ahead k (number + 1) ps) long.0 (run-ends k (number + 1) ps long.1)
-        ∙ ap (λ (n : ℕ). moof_ends 0 number (pieces_items number (map (piece_with_media held start payload run) (p ∷ take k ps)) ++ groups_items cut held start payload run timescale n (groups_from k ps))) e
+        ∙ ap (λ (n : ℕ). moof_ends 0 number (pieces_items number (map (piece_with_media moof_bytes start payload run) (p ∷ take k ps)) ++ groups_items cut moof_bytes start payload run timescale n (groups_from k ps))) e
 
     index-long : (t : Bool) (g : List Piece) → length (joined (index_items t run timescale g)) ≡ length (cond t (written_index run timescale g) [])
     index-long true g = ap length (append-nil (written_index run timescale g))
     index-long false g = refl
 
     long-more : (before : List ℕ) (number : ℕ) (p : Piece) (rest : List ℕ) (later : List Item) → Long p → length rest ≡ length (joined later)
-        → length ((before ++ head_of held run p number) ++ (media_of start payload p ++ rest)) ≡ length before + length (joined (pieces_items number (map (piece_with_media held start payload run) (p ∷ [])) ++ later))
+        → length ((before ++ head_of moof_bytes run p number) ++ (media_of start payload p ++ rest)) ≡ length before + length (joined (pieces_items number (map (piece_with_media moof_bytes start payload run) (p ∷ [])) ++ later))
     long-more before number p rest later long e =
         let m = media_of start payload p in
-        let moof = written_moof p run held number in
+        let moof = written_moof p run moof_bytes number in
         let same : length (mdat_header (length m)) ≡ length (mdat_header p.bytes) = ap (λ (n : ℕ). length (mdat_header n)) long in
         omega (
           arith,
-          length-append (before ++ head_of held run p number) (m ++ rest),
-          length-append before (head_of held run p number),
+          length-append (before ++ head_of moof_bytes run p number) (m ++ rest),
+          length-append before (head_of moof_bytes run p number),
           length-append moof (mdat_header p.bytes),
           length-append m rest,
           length-append (moof ++ (mdat_header (length m) ++ m)) (joined later),
@@ -180,19 +180,19 @@ module _ (cut : Cut) (held : List ℕ) (start : ℕ) (payload : List ℕ) where
         let g = p ∷ take 65534 ps in
         let index = index_of cut run timescale g in
         let later = left 65534 (number + 1) ps in
-        let one = pieces_items number (map (piece_with_media held start payload run) (p ∷ [])) ++ later in
+        let one = pieces_items number (map (piece_with_media moof_bytes start payload run) (p ∷ [])) ++ later in
         let items = index_items cut.index run timescale g in
         let all : length (slices start payload (ahead 0 number (p ∷ ps))) ≡ length (joined (items ++ one)) =
         omega (arith, long-more index number p (slices start payload (ahead 65534 (number + 1) ps)) later long.0 (run-long 65534 (number + 1) ps long.1), ap length (joined_append items one), length-append (joined items) (joined one), index-long cut.index g) in
         all
-        ∙ ap (λ (n : ℕ). length (joined (items ++ (pieces_items number (map (piece_with_media held start payload run) g) ++ groups_items cut held start payload run timescale n (groups_from 65534 ps))))) e
-        ∙ ap (λ (n : ℕ). length (joined (groups_items cut held start payload run timescale n (g ∷ groups_from 65534 ps)))) (sym z)
+        ∙ ap (λ (n : ℕ). length (joined (items ++ (pieces_items number (map (piece_with_media moof_bytes start payload run) g) ++ groups_items cut moof_bytes start payload run timescale n (groups_from 65534 ps))))) e
+        ∙ ap (λ (n : ℕ). length (joined (groups_items cut moof_bytes start payload run timescale n (g ∷ groups_from 65534 ps)))) (sym z)
     run-long (suc k) number (p ∷ ps) long =
         let e : number + 1 + length (take k ps) ≡ number + suc (length (take k ps)) = omega arith in
         let later = left k (number + 1) ps in
         let one = long-more [] number p (slices start payload (ahead k (number + 1) ps)) later long.0 (run-long k (number + 1) ps long.1) in
-        let all : length (slices start payload (ahead (suc k) number (p ∷ ps))) ≡ length (joined (pieces_items number (map (piece_with_media held start payload run) (p ∷ [])) ++ later)) = omega (arith, one) in
-        all ∙ ap (λ (n : ℕ). length (joined (pieces_items number (map (piece_with_media held start payload run) (p ∷ take k ps)) ++ groups_items cut held start payload run timescale n (groups_from k ps)))) e
+        let all : length (slices start payload (ahead (suc k) number (p ∷ ps))) ≡ length (joined (pieces_items number (map (piece_with_media moof_bytes start payload run) (p ∷ [])) ++ later)) = omega (arith, one) in
+        all ∙ ap (λ (n : ℕ). length (joined (pieces_items number (map (piece_with_media moof_bytes start payload run) (p ∷ take k ps)) ++ groups_items cut moof_bytes start payload run timescale n (groups_from k ps)))) e
 
   -- ---- runs
 
@@ -214,20 +214,20 @@ module _ (cut : Cut) (held : List ℕ) (start : ℕ) (payload : List ℕ) where
   length-marks [] = refl
   length-marks (p ∷ ps) = ap suc (length-moved (length p.head) _ ∙ length-moved (length (take p.len (drop (p.place - start) payload))) (fragment_ends_in start payload ps) ∙ length-marks ps)
 
-  pub runs-ends : (tracks : List Track) (number : ℕ) (runs : List Run) → AllByRecursion (λ (run : Run). AllByRecursion Long (pieces_of cut held run)) runs → fragment_ends_in start payload (runs_fragments cut held tracks number runs) ≡ moof_ends 0 number (runs_items cut held start payload tracks number runs)
+  pub runs-ends : (tracks : List Track) (number : ℕ) (runs : List Run) → AllByRecursion (λ (run : Run). AllByRecursion Long (pieces_of cut moof_bytes run)) runs → fragment_ends_in start payload (runs_fragments cut moof_bytes tracks number runs) ≡ moof_ends 0 number (runs_items cut moof_bytes start payload tracks number runs)
   unfolding runs_fragments
   runs-ends tracks number [] long = refl
   runs-ends tracks number (run ∷ runs) long =
       let scale = timescale_of tracks run.track in
-      let ps = pieces_of cut held run in
-      let first = run_fragments cut held run scale 0 number ps in
-      let rest = runs_fragments cut held tracks (number + length ps) runs in
-      let xs = groups_items cut held start payload run scale number (groups ps) in
-      let ys = runs_items cut held start payload tracks (number + length ps) runs in
+      let ps = pieces_of cut moof_bytes run in
+      let first = run_fragments cut moof_bytes run scale 0 number ps in
+      let rest = runs_fragments cut moof_bytes tracks (number + length ps) runs in
+      let xs = groups_items cut moof_bytes start payload run scale number (groups ps) in
+      let ys = runs_items cut moof_bytes start payload tracks (number + length ps) runs in
       let z : number + 0 ≡ number = omega arith in
-      let mine : fragment_ends_in start payload first ≡ moof_ends 0 number xs = run-ends run scale 0 number ps long.0 ∙ ap (λ (n : ℕ). moof_ends 0 number (groups_items cut held start payload run scale n (groups ps))) z in
-      let len : length (slices start payload first) ≡ length (joined xs) = run-long run scale 0 number ps long.0 ∙ ap (λ (n : ℕ). length (joined (groups_items cut held start payload run scale n (groups ps)))) z in
-      let count : length ps ≡ length (moof_ends 0 number xs) = sym (run_length cut held run scale 0 number ps) ∙ sym (length-marks first) ∙ ap length mine in
+      let mine : fragment_ends_in start payload first ≡ moof_ends 0 number xs = run-ends run scale 0 number ps long.0 ∙ ap (λ (n : ℕ). moof_ends 0 number (groups_items cut moof_bytes start payload run scale n (groups ps))) z in
+      let len : length (slices start payload first) ≡ length (joined xs) = run-long run scale 0 number ps long.0 ∙ ap (λ (n : ℕ). length (joined (groups_items cut moof_bytes start payload run scale n (groups ps)))) z in
+      let count : length ps ≡ length (moof_ends 0 number xs) = sym (run_length cut moof_bytes run scale 0 number ps) ∙ sym (length-marks first) ∙ ap length mine in
       marks-append first rest
       ∙ same-lists _ _ _ _ mine
       (ap (moved (length (slices start payload first))) (runs-ends tracks (number + length ps) runs long.1)

@@ -46,10 +46,10 @@ record HasMarks (t : Effects) (fragment_ends : List FragmentEnd) : Type 0 where
 
 -- ---- a fragment
 
-all-long : (cut : Cut) (held : List ℕ) (start : ℕ) (payload : List ℕ) (tracks : List Track) (runs : List Run) → AllByRecursion (IsRunIn tracks start payload held) runs
-    → AllByRecursion (λ (run : Run). AllByRecursion (λ (p : Piece). length (media_of start payload p) ≡ p.bytes) (pieces_of cut held run)) runs
-all-long cut held start payload tracks [] all = tt
-all-long cut held start payload tracks (run ∷ runs) all = (long_run cut held start payload tracks run all.0, all-long cut held start payload tracks runs all.1)
+all-long : (cut : Cut) (moof_bytes : List ℕ) (start : ℕ) (payload : List ℕ) (tracks : List Track) (runs : List Run) → AllByRecursion (IsRunIn tracks start payload moof_bytes) runs
+    → AllByRecursion (λ (run : Run). AllByRecursion (λ (p : Piece). length (media_of start payload p) ≡ p.bytes) (pieces_of cut moof_bytes run)) runs
+all-long cut moof_bytes start payload tracks [] all = tt
+all-long cut moof_bytes start payload tracks (run ∷ runs) all = (long_run cut moof_bytes start payload tracks run all.0, all-long cut moof_bytes start payload tracks runs all.1)
 
 media-marks : (cut : Cut) (f : Fragment) (payload : List ℕ) → Ascends f.payload.start (f.payload.start + length payload) (output_fragments cut f) → AllByRecursion (IsRunIn f.tracks f.payload.start payload f.moof.bytes) (runs_in f)
     → HasMarks (output_of f.payload.start (output_fragments cut f) payload) (moof_ends 0 f.number (fragment_items cut f payload))
@@ -154,25 +154,25 @@ items-number cut c (i ∷ is) s fine =
 
 -- ---- the ending
 
-open-marks : (cut : Cut) (at number : ℕ) (o : Option (List Track)) (moof : OneBox) (h : Header) (head more : List ℕ) → IsSoundEnding (splitting cut) (context at o number) (OpenFragment moof h head more) → IsBytes moof.bytes → at + length moof.bytes + length more ≤ 2 ^ 62 → number ≤ 2 ^ 32 → AllByRecursion FitsTrack (tracks_in (context at o number))
-    → HasMarks (ended (splitting cut) (context at o number) (OpenFragment moof h head more)).effects (moof_ends 0 number (ending_items cut (context at o number) (OpenFragment moof h head more)))
-open-marks cut at number None moof h head more s held room low fit = nothing_known s.2.known
-open-marks cut at number (Some tracks) moof h head more s held room low fit =
+open-marks : (cut : Cut) (at number : ℕ) (o : Option (List Track)) (moof : OneBox) (h : Header) (header_bytes more : List ℕ) → IsSoundEnding (splitting cut) (context at o number) (OpenFragment moof h header_bytes more) → IsBytes moof.bytes → at + length moof.bytes + length more ≤ 2 ^ 62 → number ≤ 2 ^ 32 → AllByRecursion FitsTrack (tracks_in (context at o number))
+    → HasMarks (ended (splitting cut) (context at o number) (OpenFragment moof h header_bytes more)).effects (moof_ends 0 number (ending_items cut (context at o number) (OpenFragment moof h header_bytes more)))
+open-marks cut at number None moof h header_bytes more s moof_bytes room low fit = nothing_known s.2.known
+open-marks cut at number (Some tracks) moof h header_bytes more s moof_bytes room low fit =
     let f = fragment_here (context at (Some tracks) number) moof.bytes h in
     let m = moof_at moof.bytes at in
     let whole : IsWhole moof.bytes = (moof.header, s.2.one.payload, s.2.one.is) in
     let good = first_none (place_fault f.payload (moof_runs m tracks)) (room_fault cut m (moof_runs m tracks) number) s.4 in
-    let given = open_runs cut at number tracks moof.bytes more h s.1.1 whole held room fit low s.3 s.4 s.5 in
-    let media = media-marks cut f more (fragments_ascend cut m tracks number f.payload.start more f.payload held good.0 given) given in
+    let given = open_runs cut at number tracks moof.bytes more h s.1.1 whole moof_bytes room fit low s.3 s.4 s.5 in
+    let media = media-marks cut f more (fragments_ascend cut m tracks number f.payload.start more f.payload moof_bytes good.0 given) given in
     let effects = output_of f.payload.start (output_fragments cut f) more in
     let both = after-moof effects _ (0 + (0 + 0) + (0 + effects.tally.fragments)) media (omega arith) in
     record { is = both.0; counted = both.1 }
 
 ending-marks : (cut : Cut) (c : Context) (e : Ending) → IsSoundEnding (splitting cut) c e → IsBytes (ending_bytes e) → c.at + length (ending_bytes e) ≤ 2 ^ 62 → c.number ≤ 2 ^ 32 → AllByRecursion FitsTrack (tracks_in c) → HasMarks (ended (splitting cut) c e).effects (moof_ends 0 c.number (ending_items cut c e))
-ending-marks cut c NothingMore s held room low fit = record { is = refl; counted = refl }
-ending-marks cut c (OpenBox h head more) s held room low fit = copied-marks (is_dropped h.kind.0) (head ++ more)
-ending-marks cut c (OpenFragment moof h head more) s held room low fit =
-    open-marks cut c.at c.number c.tracks moof h head more s (bytes_front moof.bytes (head ++ more) held) (omega (arith, room, length-append moof.bytes (head ++ more), length-append head more)) low fit
+ending-marks cut c NothingMore s moof_bytes room low fit = record { is = refl; counted = refl }
+ending-marks cut c (OpenBox h header_bytes more) s moof_bytes room low fit = copied-marks (is_dropped h.kind.0) (header_bytes ++ more)
+ending-marks cut c (OpenFragment moof h header_bytes more) s moof_bytes room low fit =
+    open-marks cut c.at c.number c.tracks moof h header_bytes more s (bytes_front moof.bytes (header_bytes ++ more) moof_bytes) (omega (arith, room, length-append moof.bytes (header_bytes ++ more), length-append header_bytes more)) low fit
 
 -- ---- streams
 

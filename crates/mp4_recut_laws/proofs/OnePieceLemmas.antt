@@ -74,8 +74,8 @@ unfolding pieces_at
 its_piece cut f h run t some e =
     ap (λ (rows : List Row). pieces_at (first_cursor run) (cut_rows cut rows)) t.rows ∙ ap (pieces_at (first_cursor run)) (one_piece cut f.rows some e)
 
-pub its_count : (cut : Cut) (held : List ℕ) (run : Run) (p : Piece) → pieces_of cut held run ≡ p ∷ [] → piece_count cut held (run ∷ []) ≡ 1
-its_count cut held run p e = omega (arith, ap (λ (ps : List Piece). length ps) e)
+pub its_count : (cut : Cut) (moof_bytes : List ℕ) (run : Run) (p : Piece) → pieces_of cut moof_bytes run ≡ p ∷ [] → piece_count cut moof_bytes (run ∷ []) ≡ 1
+its_count cut moof_bytes run p e = omega (arith, ap (λ (ps : List Piece). length ps) e)
 
 -- it has room for its number
 pub has_room : (cut : Cut) (h : MoofBytes) (run : Run) (p : Piece) (number : ℕ) → cut.index ≡ false → number < 2 ^ 32 → pieces_of cut h.bytes run ≡ p ∷ [] → room_fault cut h (run ∷ []) number ≡ None

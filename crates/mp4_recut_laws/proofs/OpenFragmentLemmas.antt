@@ -66,22 +66,22 @@ reached : (start n : ℕ) (runs : List Run) → reach start runs ≤ n → AllBy
 reached start n [] h = tt
 reached start n (run ∷ runs) h = let both = reach_by (run.count == 0) n (beyond start (end_place run)) (reach start runs) run refl h in (both.0, reached start n runs both.1)
 
-one_run_in : (tracks : List Track) (start : ℕ) (payload held : List ℕ) (run : Run) → IsSoundRun tracks held run → (run.size < 2 ^ 32 → IsRunOf held run) → (run.count ≡ 0) ⊎ (pos start ≤ℤ run.place) → (run.count ≡ 0) ⊎ (beyond start (end_place run) ≤ length payload) → IsRunIn tracks start payload held run
-one_run_in tracks start payload held run sound of (inl none) far = record { sound = sound; of = of sound.size; lies = inl (no_rows run held none) }
-one_run_in tracks start payload held run sound of (inr from) (inl none) = record { sound = sound; of = of sound.size; lies = inl (no_rows run held none) }
-one_run_in tracks start payload held run sound of (inr from) (inr far) =
+one_run_in : (tracks : List Track) (start : ℕ) (payload moof_bytes : List ℕ) (run : Run) → IsSoundRun tracks moof_bytes run → (run.size < 2 ^ 32 → IsRunOf moof_bytes run) → (run.count ≡ 0) ⊎ (pos start ≤ℤ run.place) → (run.count ≡ 0) ⊎ (beyond start (end_place run) ≤ length payload) → IsRunIn tracks start payload moof_bytes run
+one_run_in tracks start payload moof_bytes run sound of (inl none) far = record { sound = sound; of = of sound.size; lies = inl (no_rows run moof_bytes none) }
+one_run_in tracks start payload moof_bytes run sound of (inr from) (inl none) = record { sound = sound; of = of sound.size; lies = inl (no_rows run moof_bytes none) }
+one_run_in tracks start payload moof_bytes run sound of (inr from) (inr far) =
     let at = from_place run.place start from in
     let end : end_place run ≡ pos (at.0 + run.bytes) = omega (arith, ints, at.1) in
     record { sound = sound; of = of sound.size; lies = inr (record { at = at.0; place = at.1; from = omega (arith, ints, from, at.1); to = omega (arith, ap (beyond start) end, far, (of sound.size).bytes) }) }
 
-all_in : (tracks : List Track) (start : ℕ) (payload held : List ℕ) (runs : List Run) → AllByRecursion (IsSoundRun tracks held) runs → AreRunsOf held runs → AllByRecursion (λ (run : Run). (run.count ≡ 0) ⊎ (pos start ≤ℤ run.place)) runs → AllByRecursion (λ (run : Run). (run.count ≡ 0) ⊎ (beyond start (end_place run) ≤ length payload)) runs → AllByRecursion (IsRunIn tracks start payload held) runs
-all_in tracks start payload held [] a b c d = tt
-all_in tracks start payload held (run ∷ runs) a b c d = (one_run_in tracks start payload held run a.0 b.0 c.0 d.0, all_in tracks start payload held runs a.1 b.1 c.1 d.1)
+all_in : (tracks : List Track) (start : ℕ) (payload moof_bytes : List ℕ) (runs : List Run) → AllByRecursion (IsSoundRun tracks moof_bytes) runs → AreRunsOf moof_bytes runs → AllByRecursion (λ (run : Run). (run.count ≡ 0) ⊎ (pos start ≤ℤ run.place)) runs → AllByRecursion (λ (run : Run). (run.count ≡ 0) ⊎ (beyond start (end_place run) ≤ length payload)) runs → AllByRecursion (IsRunIn tracks start payload moof_bytes) runs
+all_in tracks start payload moof_bytes [] a b c d = tt
+all_in tracks start payload moof_bytes (run ∷ runs) a b c d = (one_run_in tracks start payload moof_bytes run a.0 b.0 c.0 d.0, all_in tracks start payload moof_bytes runs a.1 b.1 c.1 d.1)
 
 payload_is : (n : ℕ) (h : Header) → h.size ≡ ToEnd → ◌≡◌ {A = Payload} (record { start = n + h.header_len; end = end_of n h.size }) (open_copy (n + h.header_len))
 payload_is n h e = ap (λ (s : Size). record { start = n + h.header_len; end = end_of n s }) e
 
-module _ (cut : Cut) (at number : ℕ) (tracks : List Track) (x more : List ℕ) (h : Header) (is_open : h.size ≡ ToEnd) (whole : IsWhole x) (held : IsBytes x) (room : at + length x + length more ≤ 2 ^ 62) (all : AllByRecursion FitsTrack tracks) (low : number ≤ 4294967296)
+module _ (cut : Cut) (at number : ℕ) (tracks : List Track) (x more : List ℕ) (h : Header) (is_open : h.size ≡ ToEnd) (whole : IsWhole x) (moof_bytes : IsBytes x) (room : at + length x + length more ≤ 2 ^ 62) (all : AllByRecursion FitsTrack tracks) (low : number ≤ 4294967296)
     (read : IsRead (moof_at x at) tracks) (good : IsGood (splitting cut) (context at (Some tracks) number) x h) (far : needed_in (fragment_here (context at (Some tracks) number) x h) ≤ length more) where
   abbrev m : MoofBytes
   m = moof_at x at
@@ -98,8 +98,8 @@ module _ (cut : Cut) (at number : ℕ) (tracks : List Track) (x more : List ℕ)
   pub open_runs : AllByRecursion (IsRunIn tracks f.payload.start more x) (taken_runs m tracks)
   open_runs =
       all_in tracks f.payload.start more x (taken_runs m tracks)
-      (all_kept (IsSoundRun tracks x) runs (taken_runs m tracks) (taken_permutes listed_run runs) (all_sound m tracks whole held all read))
-      (runs_kept x runs (taken_runs m tracks) (taken_permutes listed_run runs) (runs_are m tracks (omega (arith, room)) whole held read))
+      (all_kept (IsSoundRun tracks x) runs (taken_runs m tracks) (taken_permutes listed_run runs) (all_sound m tracks whole moof_bytes all read))
+      (runs_kept x runs (taken_runs m tracks) (taken_permutes listed_run runs) (runs_are m tracks (omega (arith, room)) whole moof_bytes read))
       (all_kept (λ (run : Run). (run.count ≡ 0) ⊎ (pos f.payload.start ≤ℤ run.place)) runs (taken_runs m tracks) (taken_permutes listed_run runs) (runs_lie f.payload.start runs (ap (λ (p : Payload). place_fault p runs) (sym (payload_is (at + length x) h is_open)) ∙ both.0)))
       (reached f.payload.start (length more) (taken_runs m tracks) far)
 

@@ -185,51 +185,51 @@ index_room : (cut : Cut) (tracks : List Track) (t : Bool) (run : Run) (timescale
 index_room cut tracks true run timescale g = (tt, tt)
 index_room cut tracks false run timescale g = tt
 
-module _ (cut : Cut) (held : List ℕ) (start : ℕ) (payload : List ℕ) (tracks : List Track) where
+module _ (cut : Cut) (moof_bytes : List ℕ) (start : ℕ) (payload : List ℕ) (tracks : List Track) where
   abbrev IsFit : Run → Piece → Type 0
-  IsFit run p = Fine cut tracks (piece_with_media held start payload run p)
+  IsFit run p = Fine cut tracks (piece_with_media moof_bytes start payload run p)
 
-  all_mapped : (run : Run) (ps : List Piece) → AllByRecursion (IsFit run) ps → AllByRecursion (Fine cut tracks) (map (piece_with_media held start payload run) ps)
+  all_mapped : (run : Run) (ps : List Piece) → AllByRecursion (IsFit run) ps → AllByRecursion (Fine cut tracks) (map (piece_with_media moof_bytes start payload run) ps)
   all_mapped run [] all = tt
   all_mapped run (p ∷ ps) all = (all.0, all_mapped run ps all.1)
 
-  groups_room : (run : Run) (timescale number : ℕ) (gs : List (List Piece)) → AllByRecursion (IsFit run) (join gs) → AllByRecursion (RoomAnywhere cut tracks) (groups_items cut held start payload run timescale number gs)
+  groups_room : (run : Run) (timescale number : ℕ) (gs : List (List Piece)) → AllByRecursion (IsFit run) (join gs) → AllByRecursion (RoomAnywhere cut tracks) (groups_items cut moof_bytes start payload run timescale number gs)
   groups_room run timescale number [] all = tt
   groups_room run timescale number (g ∷ gs) all =
       all_both (RoomAnywhere cut tracks) (index_items cut.index run timescale g) _ (index_room cut tracks cut.index run timescale g)
-      (all_both (RoomAnywhere cut tracks) (pieces_items number (map (piece_with_media held start payload run) g)) _
+      (all_both (RoomAnywhere cut tracks) (pieces_items number (map (piece_with_media moof_bytes start payload run) g)) _
       (pieces_room cut tracks number _ (all_mapped run g (all_first (IsFit run) g (join gs) all)))
       (groups_room run timescale (number + length g) gs (all_last (IsFit run) g (join gs) all)))
 
   -- what an index has room for among other pieces, it has room for alone, if its time fits too
-  fits_one : (run : Run) (p : Piece) → IsPieceOf held run p → FitsReference p → FitsTime p.least → FitsOwnIndex (written_fragment held run p)
+  fits_one : (run : Run) (p : Piece) → IsPieceOf moof_bytes run p → FitsReference p → FitsTime p.least → FitsOwnIndex (written_fragment moof_bytes run p)
   unfolding piece_specs.piece_at
   fits_one run p is fit time =
-      let rows = rows_in held run p in
-      let header : mdat_header_size (sizes rows) ≡ mdat_header_size p.bytes = ap mdat_header_size (bytes_are held run p is) in
-      let begin : (cursor_at held run p.first).time ≡ p.time = sym (ap (λ (q : Piece). q.time) is.is) in
+      let rows = rows_in moof_bytes run p in
+      let header : mdat_header_size (sizes rows) ≡ mdat_header_size p.bytes = ap mdat_header_size (bytes_are moof_bytes run p is) in
+      let begin : (cursor_at moof_bytes run p.first).time ≡ p.time = sym (ap (λ (q : Piece). q.time) is.is) in
       let same : p.least ≡ least_of (composition_times p.time rows) = ap (λ (q : Piece). q.least) is.is ∙ ap (λ (t : ℕ). least_of (composition_times t rows)) begin in
       record {
-        size = omega (arith, count_is held run p is, header, bytes_are held run p is, fit.size);
+        size = omega (arith, count_is moof_bytes run p is, header, bytes_are moof_bytes run p is, fit.size);
         duration = omega (arith, ap (λ (q : Piece). q.duration) is.is, fit.duration);
         time = subst FitsTime same time;
       }
 
-  all_fit : (run : Run) (ps : List Piece) → AllByRecursion (λ (q : PieceWithMedia). IsOnePiece (without_index cut) tracks q.written q.media) (map (piece_with_media held start payload run) ps) → AllByRecursion (IsPieceOf held run) ps → AllByRecursion FitsReference ps → AllByRecursion (λ (p : Piece). FitsTime p.least) ps → AllByRecursion (IsFit run) ps
+  all_fit : (run : Run) (ps : List Piece) → AllByRecursion (λ (q : PieceWithMedia). IsOnePiece (without_index cut) tracks q.written q.media) (map (piece_with_media moof_bytes start payload run) ps) → AllByRecursion (IsPieceOf moof_bytes run) ps → AllByRecursion FitsReference ps → AllByRecursion (λ (p : Piece). FitsTime p.least) ps → AllByRecursion (IsFit run) ps
   all_fit run [] ok is fit time = tt
   all_fit run (p ∷ ps) ok is fit time = (record { one = ok.0; fits = fits_one run p is.0 fit.0 time.0 }, all_fit run ps ok.1 is.1 fit.1 time.1)
 
-  run_room : (run : Run) (timescale number : ℕ) → length payload ≤ 2 ^ 62 → IsRunIn tracks start payload held run → FitsIndex (pieces_of cut held run) → RunTimesFit cut held run → AllByRecursion (RoomAnywhere cut tracks) (groups_items cut held start payload run timescale number (groups (pieces_of cut held run)))
+  run_room : (run : Run) (timescale number : ℕ) → length payload ≤ 2 ^ 62 → IsRunIn tracks start payload moof_bytes run → FitsIndex (pieces_of cut moof_bytes run) → RunTimesFit cut moof_bytes run → AllByRecursion (RoomAnywhere cut tracks) (groups_items cut moof_bytes start payload run timescale number (groups (pieces_of cut moof_bytes run)))
   run_room run timescale number small g fit time =
-      let ps = pieces_of cut held run in
+      let ps = pieces_of cut moof_bytes run in
       groups_room run timescale number (groups ps)
       (subst (λ (qs : List Piece). AllByRecursion (IsFit run) qs) (sym (groups_are ps).joined) (elim g.lies [
-        | inl none ↦ subst (λ (qs : List Piece). AllByRecursion (IsFit run) qs) (sym (none_of cut held start payload tracks run none)) tt
-        | inr lies ↦ all_fit run ps (run_pieces cut tracks held start payload run small g.sound g.of lies) (pieces_are_of cut held run) fit.references time
+        | inl none ↦ subst (λ (qs : List Piece). AllByRecursion (IsFit run) qs) (sym (none_of cut moof_bytes start payload tracks run none)) tt
+        | inr lies ↦ all_fit run ps (run_pieces cut tracks moof_bytes start payload run small g.sound g.of lies) (pieces_are_of cut moof_bytes run) fit.references time
       ]))
 
-  pub runs_room : (number : ℕ) (of : List Track) (runs : List Run) → length payload ≤ 2 ^ 62 → AllByRecursion (IsRunIn tracks start payload held) runs → AllByRecursion (λ (run : Run). FitsIndex (pieces_of cut held run)) runs → AllByRecursion (RunTimesFit cut held) runs → AllByRecursion (RoomAnywhere cut tracks) (runs_items cut held start payload of number runs)
+  pub runs_room : (number : ℕ) (of : List Track) (runs : List Run) → length payload ≤ 2 ^ 62 → AllByRecursion (IsRunIn tracks start payload moof_bytes) runs → AllByRecursion (λ (run : Run). FitsIndex (pieces_of cut moof_bytes run)) runs → AllByRecursion (RunTimesFit cut moof_bytes) runs → AllByRecursion (RoomAnywhere cut tracks) (runs_items cut moof_bytes start payload of number runs)
   runs_room number of [] small given fit time = tt
   runs_room number of (run ∷ runs) small given fit time =
       all_both (RoomAnywhere cut tracks) _ _ (run_room run (timescale_of of run.track) number small given.0 fit.0 time.0)
-      (runs_room (number + length (pieces_of cut held run)) of runs small given.1 fit.1 time.1)
+      (runs_room (number + length (pieces_of cut moof_bytes run)) of runs small given.1 fit.1 time.1)

@@ -70,32 +70,32 @@ module _ (cut : Cut) (index : cut.index ≡ true) where
       room_join cut d (item_recut cut c i) (items_recut cut (context_after (splitting cut) c i) is) (item_room c d i a s.0 fine.0 time.0)
       (items_room (context_after (splitting cut) c i) (context_after_all (splitting (without_index cut)) d (item_recut cut c i)) is one.same_tracks s.1 fine.1 time.1)
 
-  open_room : (at number : ℕ) (o : Option (List Track)) (to now : ℕ) (u : Option (List Track)) (moof : OneBox) (h : Header) (head more : List ℕ) → option_map without_ends u ≡ option_map without_ends o → IsSoundEnding (splitting cut) (context at o number) (OpenFragment moof h head more) → IsBytes moof.bytes → at + length moof.bytes + length more ≤ 2 ^ 62 → number ≤ 2 ^ 32 → AllByRecursion FitsTrack (tracks_in (context at o number)) → EndingTimesFit cut (context at o number) (OpenFragment moof h head more)
-      → HaveRoom cut (context to u now) (ending_items cut (context at o number) (OpenFragment moof h head more))
-  open_room at number None to now u moof h head more e s held room low fit time = nothing_known s.2.known
-  open_room at number (Some tracks) to now None moof h head more e s held room low fit time = nothing_same (without_ends tracks) e
-  open_room at number (Some tracks) to now (Some us) moof h head more e s held room low fit time =
+  open_room : (at number : ℕ) (o : Option (List Track)) (to now : ℕ) (u : Option (List Track)) (moof : OneBox) (h : Header) (header_bytes more : List ℕ) → option_map without_ends u ≡ option_map without_ends o → IsSoundEnding (splitting cut) (context at o number) (OpenFragment moof h header_bytes more) → IsBytes moof.bytes → at + length moof.bytes + length more ≤ 2 ^ 62 → number ≤ 2 ^ 32 → AllByRecursion FitsTrack (tracks_in (context at o number)) → EndingTimesFit cut (context at o number) (OpenFragment moof h header_bytes more)
+      → HaveRoom cut (context to u now) (ending_items cut (context at o number) (OpenFragment moof h header_bytes more))
+  open_room at number None to now u moof h header_bytes more e s moof_bytes room low fit time = nothing_known s.2.known
+  open_room at number (Some tracks) to now None moof h header_bytes more e s moof_bytes room low fit time = nothing_same (without_ends tracks) e
+  open_room at number (Some tracks) to now (Some us) moof h header_bytes more e s moof_bytes room low fit time =
       let f = fragment_here (context at (Some tracks) number) moof.bytes h in
       let m = moof_at moof.bytes at in
       let whole : IsWhole moof.bytes = (moof.header, s.2.one.payload, s.2.one.is) in
       let good = first_none (place_fault f.payload (moof_runs m tracks)) (room_fault cut m (moof_runs m tracks) number) s.4 in
       have_room cut tracks to now us _ (some_same (without_ends us) (without_ends tracks) e)
       (runs_room cut moof.bytes f.payload.start more tracks number tracks (taken_runs m tracks) (omega (arith, room))
-      (open_runs cut at number tracks moof.bytes more h s.1.1 whole held room fit low s.3 s.4 s.5) (all_index cut m tracks number index good.1) time)
+      (open_runs cut at number tracks moof.bytes more h s.1.1 whole moof_bytes room fit low s.3 s.4 s.5) (all_index cut m tracks number index good.1) time)
 
   end_room : (c d : Context) (e : Ending) → SameButEnds c d → IsSoundEnding (splitting cut) c e → IsBytes (ending_bytes e) → c.at + length (ending_bytes e) ≤ 2 ^ 62 → c.number ≤ 2 ^ 32 → AllByRecursion FitsTrack (tracks_in c) → EndingTimesFit cut c e → HaveRoom cut d (ending_items cut c e)
-  end_room c d NothingMore a s held room low fit time = tt
-  end_room c d (OpenBox h head more) a s held room low fit time = tt
-  end_room c d (OpenFragment moof h head more) a s held room low fit time =
-      open_room c.at c.number c.tracks d.at d.number d.tracks moof h head more a.tracks s (bytes_front moof.bytes (head ++ more) held) (omega (arith, room, length-append moof.bytes (head ++ more), length-append head more)) low fit time
+  end_room c d NothingMore a s moof_bytes room low fit time = tt
+  end_room c d (OpenBox h header_bytes more) a s moof_bytes room low fit time = tt
+  end_room c d (OpenFragment moof h header_bytes more) a s moof_bytes room low fit time =
+      open_room c.at c.number c.tracks d.at d.number d.tracks moof h header_bytes more a.tracks s (bytes_front moof.bytes (header_bytes ++ more) moof_bytes) (omega (arith, room, length-append moof.bytes (header_bytes ++ more), length-append header_bytes more)) low fit time
 
   -- the end of a recut text is as good with an index, in any context
   last_good : (c d : Context) (e : Ending) → IsSoundEnding (splitting (without_index cut)) c (ending_recut e) → IsSoundEnding (splitting cut) d (ending_recut e)
   last_good c d NothingMore s = s
-  last_good c d (OpenFragment moof h head more) s = s
-  last_good c d (OpenBox h head more) s = by (is_dropped h.kind.0) s
+  last_good c d (OpenFragment moof h header_bytes more) s = s
+  last_good c d (OpenBox h header_bytes more) s = by (is_dropped h.kind.0) s
     where
-      by : (t : Bool) → IsSoundEnding (splitting (without_index cut)) c (kept_ending t h head more) → IsSoundEnding (splitting cut) d (kept_ending t h head more)
+      by : (t : Bool) → IsSoundEnding (splitting (without_index cut)) c (kept_ending t h header_bytes more) → IsSoundEnding (splitting cut) d (kept_ending t h header_bytes more)
       by true s = s
       by false s = s
 

@@ -58,10 +58,10 @@ scales_fit [] all = tt
 scales_fit (t ∷ ts) all = (all.0.timescale, scales_fit ts all.1)
 
 pub moov_scaled : (o : ℕ) (x : List ℕ) → IsBytes x → AllByRecursion (λ (t : Track). t.timescale < 2 ^ 32) (moov_tracks o x)
-moov_scaled o x held = scales_fit (moov_tracks o x) (moov_tracks_fit o x held)
+moov_scaled o x moof_bytes = scales_fit (moov_tracks o x) (moov_tracks_fit o x moof_bytes)
 
 moov_fits : (o : ℕ) (x : List ℕ) → IsBytes x → AllByRecursion FitsTrack (moov_tracks o x)
-moov_fits o x held = entries_fit (moov_tracks o x) (moov_tracks_fit o x held)
+moov_fits o x moof_bytes = entries_fit (moov_tracks o x) (moov_tracks_fit o x moof_bytes)
 
 -- where tracks ended doesn't matter to them
 pub scaled_ends : (ts us : List Track) → without_ends ts ≡ without_ends us → AllByRecursion (λ (t : Track). t.timescale < 2 ^ 32) ts → AllByRecursion (λ (t : Track). t.timescale < 2 ^ 32) us
@@ -87,35 +87,35 @@ record ItemPremises (cut : Cut) (c : Context) (i : Item) : Type 0 where
   tracks : AllByRecursion FitsTrack (tracks_in (context_after (splitting cut) c i))
 
 item_premises : (cut : Cut) (c : Context) (i : Item) → IsSound (splitting cut) c i → IsBytes (bytes_of i) → c.at + length (bytes_of i) ≤ 2 ^ 62 → c.number ≤ 2 ^ 32 → AllByRecursion FitsTrack (tracks_in c) → ItemPremises cut c i
-item_premises cut c (PassedOver b) s held room low fit = record { fine = tt; at = refl; number = low; tracks = fit }
-item_premises cut c (Movie b) s held room low fit = record {
+item_premises cut c (PassedOver b) s moof_bytes room low fit = record { fine = tt; at = refl; number = low; tracks = fit }
+item_premises cut c (Movie b) s moof_bytes room low fit = record {
   fine = λ at. (good_anywhere b.bytes c.at at s.1, ap without_ends (tracks_anywhere b.bytes c.at at));
   at = refl;
   number = low;
-  tracks = moov_fits c.at b.bytes held;
+  tracks = moov_fits c.at b.bytes moof_bytes;
 }
-item_premises cut c (MovieFragment moof mdat) s held room low fit =
+item_premises cut c (MovieFragment moof mdat) s moof_bytes room low fit =
     let h = moof_at moof.bytes c.at in
     let ts = tracks_in c in
     let both = first_none (place_fault (fragment_in c moof mdat).payload (moof_runs h ts)) (room_fault cut h (moof_runs h ts) c.number) s.3 in
     let len = length-append moof.bytes mdat.bytes in
     record {
-      fine = (bytes_front moof.bytes mdat.bytes held, omega (arith, room, len), fit, low);
+      fine = (bytes_front moof.bytes mdat.bytes moof_bytes, omega (arith, room, len), fit, low);
       at = omega (arith, len);
       number = omega (arith, has_numbers cut h (moof_runs h ts) c.number low both.1, count_kept cut moof.bytes (moof_runs h ts) (taken_runs h ts) (taken_permutes listed_run (moof_runs h ts)));
       tracks = fits_ends ts (settled ts (moof_trafs h ts)) (sym (ends_settled ts (moof_trafs h ts))) fit;
     }
 
 pub all_can_be_recut : (cut : Cut) (c : Context) (is : List Item) → AreSound (splitting cut) c is → IsBytes (joined is) → c.at + length (joined is) ≤ 2 ^ 62 → c.number ≤ 2 ^ 32 → AllByRecursion FitsTrack (tracks_in c) → CanAllBeRecut cut c is
-all_can_be_recut cut c [] s held room low fit = tt
-all_can_be_recut cut c (i ∷ is) s held room low fit =
+all_can_be_recut cut c [] s moof_bytes room low fit = tt
+all_can_be_recut cut c (i ∷ is) s moof_bytes room low fit =
     let len = length-append (bytes_of i) (joined is) in
-    let g = item_premises cut c i s.0 (bytes_front (bytes_of i) (joined is) held) (omega (arith, room, len)) low fit in
-    (g.fine, all_can_be_recut cut (context_after (splitting cut) c i) is s.1 (bytes_back (bytes_of i) (joined is) held) (omega (arith, room, len, g.at)) g.number g.tracks)
+    let g = item_premises cut c i s.0 (bytes_front (bytes_of i) (joined is) moof_bytes) (omega (arith, room, len)) low fit in
+    (g.fine, all_can_be_recut cut (context_after (splitting cut) c i) is s.1 (bytes_back (bytes_of i) (joined is) moof_bytes) (omega (arith, room, len, g.at)) g.number g.tracks)
 
 pub after_good : (cut : Cut) (c : Context) (is : List Item) → AreSound (splitting cut) c is → IsBytes (joined is) → c.at + length (joined is) ≤ 2 ^ 62 → c.number ≤ 2 ^ 32 → AllByRecursion FitsTrack (tracks_in c) → ((context_after_all (splitting cut) c is).number ≤ 2 ^ 32) × AllByRecursion FitsTrack (tracks_in (context_after_all (splitting cut) c is))
-after_good cut c [] s held room low fit = (low, fit)
-after_good cut c (i ∷ is) s held room low fit =
+after_good cut c [] s moof_bytes room low fit = (low, fit)
+after_good cut c (i ∷ is) s moof_bytes room low fit =
     let len = length-append (bytes_of i) (joined is) in
-    let g = item_premises cut c i s.0 (bytes_front (bytes_of i) (joined is) held) (omega (arith, room, len)) low fit in
-    after_good cut (context_after (splitting cut) c i) is s.1 (bytes_back (bytes_of i) (joined is) held) (omega (arith, room, len, g.at)) g.number g.tracks
+    let g = item_premises cut c i s.0 (bytes_front (bytes_of i) (joined is) moof_bytes) (omega (arith, room, len)) low fit in
+    after_good cut (context_after (splitting cut) c i) is s.1 (bytes_back (bytes_of i) (joined is) moof_bytes) (omega (arith, room, len, g.at)) g.number g.tracks

@@ -39,37 +39,37 @@ use Rattle.mp4_recut_laws.proofs.StreamLemmas.{after_at}
 
 abbrev pub ended : Meaning → Context → Ending → Reading
 ended meaning c NothingMore = empty_reading
-ended meaning c (OpenBox h head more) = ends (meaning.passed h.kind (head ++ more)) Sound
-ended meaning c (OpenFragment moof h head more) = after (moof_effects c moof.bytes) (media_ends meaning (fragment_here c moof.bytes h) more Sound)
+ended meaning c (OpenBox h header_bytes more) = ends (meaning.passed h.kind (header_bytes ++ more)) Sound
+ended meaning c (OpenFragment moof h header_bytes more) = after (moof_effects c moof.bytes) (media_ends meaning (fragment_here c moof.bytes h) more Sound)
 
 ending_reads : (meaning : Meaning) (c : Context) (e : Ending) → IsSoundEnding meaning c e → IsBytes (ending_bytes e) → c.at + length (ending_bytes e) ≤ 2 ^ 62 → reads_in meaning c (ending_bytes e) ≡ ended meaning c e
 unfolding readings.read_all
-ending_reads meaning c NothingMore s held room = refl
-ending_reads meaning c (OpenBox h head more) s held room =
-    let b : Headed (head ++ more) = record { header = h; head = head; more = more; spelled = s.0; cut = refl } in
-    rest-reads meaning c (head ++ more) (ends (meaning.passed h.kind (head ++ more)) Sound) held (Open b s.1 room refl)
-ending_reads meaning c (OpenFragment moof h head more) s held room =
-    let b : Boxed (moof.bytes ++ (head ++ more)) = record { box = moof; more = head ++ more; cut = refl } in
-    let z : Headed (head ++ more) = record { header = h; head = head; more = more; spelled = s.0; cut = refl } in
+ending_reads meaning c NothingMore s moof_bytes room = refl
+ending_reads meaning c (OpenBox h header_bytes more) s moof_bytes room =
+    let b : Headed (header_bytes ++ more) = record { header = h; header_bytes = header_bytes; more = more; spelled = s.0; cut = refl } in
+    rest-reads meaning c (header_bytes ++ more) (ends (meaning.passed h.kind (header_bytes ++ more)) Sound) moof_bytes (Open b s.1 room refl)
+ending_reads meaning c (OpenFragment moof h header_bytes more) s moof_bytes room =
+    let b : Boxed (moof.bytes ++ (header_bytes ++ more)) = record { box = moof; more = header_bytes ++ more; cut = refl } in
+    let z : Headed (header_bytes ++ more) = record { header = h; header_bytes = header_bytes; more = more; spelled = s.0; cut = refl } in
     let r = media_ends meaning (fragment_here c moof.bytes h) more Sound in
-    let len = length-append moof.bytes (head ++ more) in
-    rest-reads meaning c (moof.bytes ++ (head ++ more)) (after (moof_effects c moof.bytes) r) held
+    let len = length-append moof.bytes (header_bytes ++ more) in
+    rest-reads meaning c (moof.bytes ++ (header_bytes ++ more)) (after (moof_effects c moof.bytes) r) moof_bytes
     (AfterMoof b r s.2 (omega (arith, room, len)) s.3 (OpenMedia z s.1 s.4 (omega (arith, room, len)) s.5 refl) refl)
 
 -- and a stream
 pub stream_reads : (meaning : Meaning) (s : Stream) → AreSound meaning first_context s.items → IsSoundEnding meaning (context_after_all meaning first_context s.items) s.ending → IsBytes (ending_bytes s.ending) → length (stream_bytes s) ≤ 2 ^ 62
     → reads_in meaning first_context (stream_bytes s) ≡ after (items_effects meaning first_context s.items) (ended meaning (context_after_all meaning first_context s.items) s.ending)
-stream_reads meaning s sound ending held near =
+stream_reads meaning s sound ending moof_bytes near =
     let e = ending_bytes s.ending in
     let c = context_after_all meaning first_context s.items in
     let len = length-append (joined s.items) e in
     reads-items meaning s.items first_context e sound (omega (arith, near, len))
-    ∙ ap (after (items_effects meaning first_context s.items)) (ending_reads meaning c s.ending ending held (omega (arith, near, len, after_at meaning first_context s.items)))
+    ∙ ap (after (items_effects meaning first_context s.items)) (ending_reads meaning c s.ending ending moof_bytes (omega (arith, near, len, after_at meaning first_context s.items)))
 
 pub ended_sound : (meaning : Meaning) (c : Context) (e : Ending) → (ended meaning c e).outcome ≡ Sound
 ended_sound meaning c NothingMore = refl
-ended_sound meaning c (OpenBox h head more) = refl
-ended_sound meaning c (OpenFragment moof h head more) = refl
+ended_sound meaning c (OpenBox h header_bytes more) = refl
+ended_sound meaning c (OpenFragment moof h header_bytes more) = refl
 
 -- ---- the text
 
@@ -103,25 +103,25 @@ pub items_reported : (cut : Cut) (c : Context) (is : List Item) → AreSound (sp
 items_reported cut c [] s fine = refl
 items_reported cut c (i ∷ is) s fine = same_bytes _ _ _ _ (item_reported cut c i s.0 fine.0) (items_reported cut (context_after (splitting cut) c i) is s.1 fine.1)
 
-open_by : (cut : Cut) (at number : ℕ) (o : Option (List Track)) (moof : OneBox) (h : Header) (head more : List ℕ) → IsSoundEnding (splitting cut) (context at o number) (OpenFragment moof h head more) → IsBytes moof.bytes → at + length moof.bytes + length more ≤ 2 ^ 62 → number ≤ 2 ^ 32 → AllByRecursion FitsTrack (tracks_in (context at o number))
-    → (ended (splitting cut) (context at o number) (OpenFragment moof h head more)).effects.text ≡ ending_text cut (context at o number) (OpenFragment moof h head more)
-open_by cut at number None moof h head more s held room low fit = nothing_known s.2.known
+open_by : (cut : Cut) (at number : ℕ) (o : Option (List Track)) (moof : OneBox) (h : Header) (header_bytes more : List ℕ) → IsSoundEnding (splitting cut) (context at o number) (OpenFragment moof h header_bytes more) → IsBytes moof.bytes → at + length moof.bytes + length more ≤ 2 ^ 62 → number ≤ 2 ^ 32 → AllByRecursion FitsTrack (tracks_in (context at o number))
+    → (ended (splitting cut) (context at o number) (OpenFragment moof h header_bytes more)).effects.text ≡ ending_text cut (context at o number) (OpenFragment moof h header_bytes more)
+open_by cut at number None moof h header_bytes more s moof_bytes room low fit = nothing_known s.2.known
   where
     nothing_known : {X : Type 0} → ◌≡◌ {A = Option (List Track)} None (Some []) → X
     nothing_known e = absurd cc
-open_by cut at number (Some tracks) moof h head more s held room low fit =
+open_by cut at number (Some tracks) moof h header_bytes more s moof_bytes room low fit =
     let f = fragment_here (context at (Some tracks) number) moof.bytes h in
     let m = moof_at moof.bytes at in
     let whole : IsWhole moof.bytes = (moof.header, s.2.one.payload, s.2.one.is) in
     let good = first_none (place_fault f.payload (moof_runs m tracks)) (room_fault cut m (moof_runs m tracks) number) s.4 in
     media_text cut f more
-    (fragments_ascend cut m tracks number f.payload.start more f.payload held good.0 (open_runs cut at number tracks moof.bytes more h s.1.1 whole held room fit low s.3 s.4 s.5))
+    (fragments_ascend cut m tracks number f.payload.start more f.payload moof_bytes good.0 (open_runs cut at number tracks moof.bytes more h s.1.1 whole moof_bytes room fit low s.3 s.4 s.5))
 
 pub ending_reported : (cut : Cut) (c : Context) (e : Ending) → IsSoundEnding (splitting cut) c e → IsBytes (ending_bytes e) → c.at + length (ending_bytes e) ≤ 2 ^ 62 → c.number ≤ 2 ^ 32 → AllByRecursion FitsTrack (tracks_in c) → (ended (splitting cut) c e).effects.text ≡ ending_text cut c e
-ending_reported cut c NothingMore s held room low fit = refl
-ending_reported cut c (OpenBox h head more) s held room low fit = copied_text (is_dropped h.kind.0) (head ++ more)
-ending_reported cut c (OpenFragment moof h head more) s held room low fit =
-    open_by cut c.at c.number c.tracks moof h head more s (bytes_front moof.bytes (head ++ more) held) (omega (arith, room, length-append moof.bytes (head ++ more), length-append head more)) low fit
+ending_reported cut c NothingMore s moof_bytes room low fit = refl
+ending_reported cut c (OpenBox h header_bytes more) s moof_bytes room low fit = copied_text (is_dropped h.kind.0) (header_bytes ++ more)
+ending_reported cut c (OpenFragment moof h header_bytes more) s moof_bytes room low fit =
+    open_by cut c.at c.number c.tracks moof h header_bytes more s (bytes_front moof.bytes (header_bytes ++ more) moof_bytes) (omega (arith, room, length-append moof.bytes (header_bytes ++ more), length-append header_bytes more)) low fit
 
 -- ---- streams
 

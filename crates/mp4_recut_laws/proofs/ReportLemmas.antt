@@ -40,13 +40,13 @@ module _ (report : MediaSample → List ℕ) (cut : Cut) where
 
   ending_sound : (at : ℕ) (o : Option (List Track)) (n m : ℕ) (e : Ending) → IsSoundEnding (splitting cut) (context at o m) e → IsSoundEnding (reporting report) (context at o n) e
   ending_sound at o n m NothingMore s = s
-  ending_sound at o n m (OpenBox h head more) s = s
-  ending_sound at o n m (OpenFragment moof h head more) s = (s.0, s.1, moof_here at o n m moof s.2, s.3, good at o n m moof.bytes h s.4, s.5)
+  ending_sound at o n m (OpenBox h header_bytes more) s = s
+  ending_sound at o n m (OpenFragment moof h header_bytes more) s = (s.0, s.1, moof_here at o n m moof s.2, s.3, good at o n m moof.bytes h s.4, s.5)
 
   ending_reported : (at : ℕ) (o : Option (List Track)) (n m : ℕ) (e : Ending) → (ended (reporting report) (context at o n) e).effects.text ≡ flat_map report (ending_samples (context at o m) e)
   ending_reported at o n m NothingMore = refl
-  ending_reported at o n m (OpenBox h head more) = refl
-  ending_reported at o n m (OpenFragment moof h head more) = refl
+  ending_reported at o n m (OpenBox h header_bytes more) = refl
+  ending_reported at o n m (OpenFragment moof h header_bytes more) = refl
 
   -- the same items and end, after contexts that differ only in the number
   record Describes (c d : Context) (is : List Item) (e : Ending) : Type 0 where
@@ -76,6 +76,6 @@ module _ (report : MediaSample → List ℕ) (cut : Cut) where
       }
 
   pub stream_reported_by : (s : Stream) → AreSound (splitting cut) first_context s.items → IsSoundEnding (splitting cut) (ending_context cut s) s.ending → IsBytes (ending_bytes s.ending) → length (stream_bytes s) ≤ 2 ^ 62 → reported_by report (stream_bytes s) ≡ flat_map report (stream_samples cut s)
-  stream_reported_by s sound ending held near =
+  stream_reported_by s sound ending moof_bytes near =
       let t = describes 0 None 1 1 s.items s.ending sound ending in
-      ap (λ (r : Reading). r.effects.text) (stream_reads (reporting report) s t.sound t.ending held near) ∙ t.text
+      ap (λ (r : Reading). r.effects.text) (stream_reads (reporting report) s t.sound t.ending moof_bytes near) ∙ t.text

@@ -75,26 +75,26 @@ joined_both : (number k : ℕ) (xs ys : List PieceWithMedia) → k ≡ number + 
 joined_both number k [] ys e = ap (λ (n : ℕ). joined (pieces_items n ys)) (omega (arith, e))
 joined_both number k (x ∷ xs) ys e = ap (λ (z : List ℕ). bytes_of (piece_item x.written number x.media) ++ z) (joined_both (number + 1) k xs ys (omega (arith, e))) ∙ sym (append_assoc (bytes_of (piece_item x.written number x.media)) (joined (pieces_items (number + 1) xs)) (joined (pieces_items k ys)))
 
-module _ (cut : Cut) (held : List ℕ) (start : ℕ) (payload : List ℕ) (tracks : List Track) where
+module _ (cut : Cut) (moof_bytes : List ℕ) (start : ℕ) (payload : List ℕ) (tracks : List Track) where
   abbrev IsPieceHere : PieceWithMedia → Type 0
   IsPieceHere q = IsOnePiece (without_index cut) tracks q.written q.media
 
   abbrev media_pieces : Run → List Piece → List PieceWithMedia
-  media_pieces run ps = map (piece_with_media held start payload run) ps
+  media_pieces run ps = map (piece_with_media moof_bytes start payload run) ps
 
   groups_recut : (run : Run) (timescale number : ℕ) (gs : List (List Piece)) → AllByRecursion (λ (g : List Piece). length g ≤ 65535) gs → AllByRecursion IsPieceHere (media_pieces run (join gs)) → number + length (join gs) ≤ 2 ^ 32
-      → AreRecutAnywhere (without_index cut) number tracks (groups_items cut held start payload run timescale number gs) (joined (pieces_items number (media_pieces run (join gs)))) (length (join gs)) (flat_map piece_samples (media_pieces run (join gs)))
+      → AreRecutAnywhere (without_index cut) number tracks (groups_items cut moof_bytes start payload run timescale number gs) (joined (pieces_items number (media_pieces run (join gs)))) (length (join gs)) (flat_map piece_samples (media_pieces run (join gs)))
   groups_recut run timescale number [] most all room = none_recut (without_index cut) number tracks
   groups_recut run timescale number (g ∷ gs) most all room =
       let xs = media_pieces run g in
       let ys = media_pieces run (join gs) in
-      let both = map_both (piece_with_media held start payload run) g (join gs) in
-      let long = map_long (piece_with_media held start payload run) g in
+      let both = map_both (piece_with_media moof_bytes start payload run) g (join gs) in
+      let long = map_long (piece_with_media moof_bytes start payload run) g in
       let sum = long_both g (join gs) in
       let ok = subst (λ (qs : List PieceWithMedia). AllByRecursion IsPieceHere qs) both all in
       let index = index_recut (without_index cut) number tracks cut.index run timescale g most.0 in
       let mine = recut_is (without_index cut) number (number + 0) tracks (pieces_items number xs) _ _ _ _ _ _ (pieces_own_recut (without_index cut) number tracks xs refl (omega (arith, room, sum, long)) (all_first IsPieceHere xs ys ok)) (omega arith) refl refl refl in
-      let rest = recut_is (without_index cut) (number + length g) (number + 0 + length xs) tracks (groups_items cut held start payload run timescale (number + length g) gs) _ _ _ _ _ _ (groups_recut run timescale (number + length g) gs most.1 (all_last IsPieceHere xs ys ok) (omega (arith, room, sum))) (omega (arith, long)) refl refl refl in
+      let rest = recut_is (without_index cut) (number + length g) (number + 0 + length xs) tracks (groups_items cut moof_bytes start payload run timescale (number + length g) gs) _ _ _ _ _ _ (groups_recut run timescale (number + length g) gs most.1 (all_last IsPieceHere xs ys ok) (omega (arith, room, sum))) (omega (arith, long)) refl refl refl in
       recut_is (without_index cut) number number tracks _ _ _ _ _ _ _
       (append_recut (without_index cut) number tracks _ _ _ _ _ _ _ _ index (append_recut (without_index cut) (number + 0) tracks _ _ _ _ _ _ _ _ mine rest))
       refl
@@ -105,40 +105,40 @@ module _ (cut : Cut) (held : List ℕ) (start : ℕ) (payload : List ℕ) (track
   -- ---- runs
 
   record Given (run : Run) : Type 0 where
-    ok : AllByRecursion IsPieceHere (pieces_with_media cut held start payload run)
-    samples_are : flat_map piece_samples (pieces_with_media cut held start payload run) ≡ media_samples_of_run held start payload run
+    ok : AllByRecursion IsPieceHere (pieces_with_media cut moof_bytes start payload run)
+    samples_are : flat_map piece_samples (pieces_with_media cut moof_bytes start payload run) ≡ media_samples_of_run moof_bytes start payload run
 
-  pub none_of : (run : Run) → rows_of run held ≡ [] → pieces_of cut held run ≡ []
+  pub none_of : (run : Run) → rows_of run moof_bytes ≡ [] → pieces_of cut moof_bytes run ≡ []
   unfolding cut_by pieces_at
   none_of run e = ap (λ (rows : List Row). pieces_at (first_cursor run) (cut_rows cut rows)) e
 
   no_samples_reported : (run : Run) (rows : List Row) (media : List ℕ) → rows ≡ [] → media_samples_from run.track run.entry rows run.time media ≡ []
   no_samples_reported run rows media e = ap (λ (rs : List Row). media_samples_from run.track run.entry rs run.time media) e
 
-  given : length payload ≤ 2 ^ 62 → (run : Run) → IsRunIn tracks start payload held run → Given run
+  given : length payload ≤ 2 ^ 62 → (run : Run) → IsRunIn tracks start payload moof_bytes run → Given run
   given small run g = elim g.lies [
     | inl none ↦ record {
       ok = subst (λ (ps : List Piece). AllByRecursion IsPieceHere (media_pieces run ps)) (sym (none_of run none)) tt;
-      samples_are = ap (λ (ps : List Piece). flat_map piece_samples (media_pieces run ps)) (none_of run none) ∙ sym (no_samples_reported run (rows_of run held) (drop (natural run.place - start) payload) none);
+      samples_are = ap (λ (ps : List Piece). flat_map piece_samples (media_pieces run ps)) (none_of run none) ∙ sym (no_samples_reported run (rows_of run moof_bytes) (drop (natural run.place - start) payload) none);
     }
-    | inr lies ↦ record { ok = run_pieces cut tracks held start payload run small g.sound g.of lies; samples_are = run_samples cut held start payload run lies }
+    | inr lies ↦ record { ok = run_pieces cut tracks moof_bytes start payload run small g.sound g.of lies; samples_are = run_samples cut moof_bytes start payload run lies }
   ]
 
   -- the recut text of runs, without an index
   abbrev pub runs_out : ℕ → List Run → List ℕ
   runs_out number [] = []
-  runs_out number (run ∷ runs) = joined (pieces_items number (pieces_with_media cut held start payload run)) ++ runs_out (number + length (pieces_of cut held run)) runs
+  runs_out number (run ∷ runs) = joined (pieces_items number (pieces_with_media cut moof_bytes start payload run)) ++ runs_out (number + length (pieces_of cut moof_bytes run)) runs
 
   abbrev pub runs_count : List Run → ℕ
   runs_count [] = 0
-  runs_count (run ∷ runs) = length (pieces_of cut held run) + runs_count runs
+  runs_count (run ∷ runs) = length (pieces_of cut moof_bytes run) + runs_count runs
 
-  run_recut : (run : Run) (timescale number : ℕ) → Given run → number + length (pieces_of cut held run) ≤ 2 ^ 32
-      → AreRecutAnywhere (without_index cut) number tracks (groups_items cut held start payload run timescale number (groups (pieces_of cut held run))) (joined (pieces_items number (pieces_with_media cut held start payload run))) (length (pieces_of cut held run)) (media_samples_of_run held start payload run)
+  run_recut : (run : Run) (timescale number : ℕ) → Given run → number + length (pieces_of cut moof_bytes run) ≤ 2 ^ 32
+      → AreRecutAnywhere (without_index cut) number tracks (groups_items cut moof_bytes start payload run timescale number (groups (pieces_of cut moof_bytes run))) (joined (pieces_items number (pieces_with_media cut moof_bytes start payload run))) (length (pieces_of cut moof_bytes run)) (media_samples_of_run moof_bytes start payload run)
   run_recut run timescale number g room =
-      let gs = groups (pieces_of cut held run) in
-      let are = groups_are (pieces_of cut held run) in
-      let back : join gs ≡ pieces_of cut held run = are.joined in
+      let gs = groups (pieces_of cut moof_bytes run) in
+      let are = groups_are (pieces_of cut moof_bytes run) in
+      let back : join gs ≡ pieces_of cut moof_bytes run = are.joined in
       recut_is (without_index cut) number number tracks _ _ _ _ _ _ _
       (groups_recut run timescale number gs are.most (subst (λ (ps : List Piece). AllByRecursion IsPieceHere (media_pieces run ps)) (sym back) g.ok) (omega (arith, room, ap (λ (ps : List Piece). length ps) back)))
       refl
@@ -146,10 +146,10 @@ module _ (cut : Cut) (held : List ℕ) (start : ℕ) (payload : List ℕ) (track
       (ap (λ (ps : List Piece). length ps) back)
       (ap (λ (ps : List Piece). flat_map piece_samples (media_pieces run ps)) back ∙ g.samples_are)
 
-  pub runs_recut : length payload ≤ 2 ^ 62 → (number : ℕ) (of : List Track) (runs : List Run) → AllByRecursion (IsRunIn tracks start payload held) runs → number + runs_count runs ≤ 2 ^ 32
-      → AreRecutAnywhere (without_index cut) number tracks (runs_items cut held start payload of number runs) (runs_out number runs) (runs_count runs) (flat_map (media_samples_of_run held start payload) runs)
+  pub runs_recut : length payload ≤ 2 ^ 62 → (number : ℕ) (of : List Track) (runs : List Run) → AllByRecursion (IsRunIn tracks start payload moof_bytes) runs → number + runs_count runs ≤ 2 ^ 32
+      → AreRecutAnywhere (without_index cut) number tracks (runs_items cut moof_bytes start payload of number runs) (runs_out number runs) (runs_count runs) (flat_map (media_samples_of_run moof_bytes start payload) runs)
   runs_recut small number of [] all room = none_recut (without_index cut) number tracks
   runs_recut small number of (run ∷ runs) all room =
       append_recut (without_index cut) number tracks _ _ _ _ _ _ _ _
       (run_recut run (timescale_of of run.track) number (given small run all.0) (omega (arith, room)))
-      (runs_recut small (number + length (pieces_of cut held run)) of runs all.1 (omega (arith, room)))
+      (runs_recut small (number + length (pieces_of cut moof_bytes run)) of runs all.1 (omega (arith, room)))

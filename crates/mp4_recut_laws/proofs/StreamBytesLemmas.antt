@@ -61,22 +61,22 @@ text_laws_of cut s x is e =
     (text_bytes cut s is, text_reads cut s is, text_recut cut s is, λ report near. samples_agree cut s report is near)
 
 pub text_laws : (cut : Cut) (b : List ℕ) → IsBytes b → (reading cut b).outcome ≡ Sound → TextLaws cut b
-text_laws cut b held sound =
-    let found = every_sound_stream cut b held sound in
+text_laws cut b moof_bytes sound =
+    let found = every_sound_stream cut b moof_bytes sound in
     let s = found.0 in
     let r = text_laws_of cut s (recut_text cut (stream_bytes s)) found.1 (sym (recut_text_of_a_stream cut s found.1).text) in
     subst (TextLaws cut) found.2 (record { bytes = r.0; sound = r.1; again = r.2; samples = r.3 })
 
 pub text_of_stream : (cut : Cut) (b : List ℕ) → IsBytes b → (reading cut b).outcome ≡ Sound → (s : Stream) × IsSoundStream cut s × (stream_bytes s ≡ b) × (recut_text cut b ≡ stream_text cut s)
-text_of_stream cut b held sound =
-    let found = every_sound_stream cut b held sound in
+text_of_stream cut b moof_bytes sound =
+    let found = every_sound_stream cut b moof_bytes sound in
     (found.0, found.1, found.2, ap (recut_text cut) (sym found.2) ∙ (recut_text_of_a_stream cut found.0 found.1).text)
 
 -- without an index the text is exactly its own
 pub own_recut : (cut : Cut) (b : List ℕ) → cut.index ≡ false → IsBytes b → (reading cut b).outcome ≡ Sound → length (recut_text cut b) ≤ 2 ^ 62 → recut_text cut (recut_text cut b) ≡ recut_text cut b
-own_recut cut b e held sound near =
+own_recut cut b e moof_bytes sound near =
     let same : without_index cut ≡ cut = ap (λ (t : Bool). record cut { index = t }) (sym e) in
-    subst (λ (d : Cut). recut_text d (recut_text cut b) ≡ recut_text d b) same ((text_laws cut b held sound).again near)
+    subst (λ (d : Cut). recut_text d (recut_text cut b) ≡ recut_text d b) same ((text_laws cut b moof_bytes sound).again near)
 
 -- ---- the same samples, as a list
 
@@ -87,13 +87,13 @@ well_formed cut s is =
 
 pub samples_stay : (cut : Cut) (b : List ℕ) → IsBytes b → (reading cut b).outcome ≡ Sound
     → (s : Stream) × IsSoundStream cut s × (stream_bytes s ≡ b) × IsWellFormed (without_index cut) (recut cut s) × (stream_bytes (recut cut s) ≡ recut_text cut b) × (stream_samples (without_index cut) (recut cut s) ≡ stream_samples cut s)
-samples_stay cut b held sound =
-    let (s, is, bytes, text) = text_of_stream cut b held sound in
+samples_stay cut b moof_bytes sound =
+    let (s, is, bytes, text) = text_of_stream cut b moof_bytes sound in
     (s, is, bytes, well_formed cut s is, (laws cut s is).join ∙ sym text, (laws cut s is).same)
 
 -- however a stream and its text are taken apart
 pub one_list : (cut : Cut) (b : List ℕ) (s t : Stream) → IsBytes b → (reading cut b).outcome ≡ Sound → length (recut_text cut b) ≤ 2 ^ 62 → IsSoundStream cut s → stream_bytes s ≡ b → IsSoundStream (without_index cut) t → stream_bytes t ≡ recut_text cut b
     → stream_samples (without_index cut) t ≡ stream_samples cut s
-one_list cut b s t held sound near is e are f =
+one_list cut b s t moof_bytes sound near is e are f =
     same_samples (stream_samples (without_index cut) t) (stream_samples cut s)
-    (λ report. sym (reported_by_samples (without_index cut) t report are) ∙ ap (reported_by report) f ∙ (text_laws cut b held sound).samples report near ∙ ap (reported_by report) (sym e) ∙ reported_by_samples cut s report is)
+    (λ report. sym (reported_by_samples (without_index cut) t report are) ∙ ap (reported_by report) f ∙ (text_laws cut b moof_bytes sound).samples report near ∙ ap (reported_by report) (sym e) ∙ reported_by_samples cut s report is)

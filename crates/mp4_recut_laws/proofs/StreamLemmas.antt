@@ -44,10 +44,10 @@ record EndingAgrees (cut : Cut) (c d : Context) (e : Ending) : Type 0 where
   same : items_samples (without_index cut) d (ending_items cut c e) ++ ending_samples (context_after_all (splitting (without_index cut)) d (ending_items cut c e)) (ending_recut e) ≡ ending_samples c e
   join : joined (ending_items cut c e) ++ ending_bytes (ending_recut e) ≡ ending_text cut c e
 
-open_lasts : (cut : Cut) (c d : Context) (h : Header) (head more : List ℕ) (t : Bool) → is_dropped h.kind.0 ≡ t → IsSoundEnding (splitting cut) c (OpenBox h head more)
-    → IsSoundEnding (splitting (without_index cut)) d (kept_ending t h head more) × (ending_text (without_index cut) d (kept_ending t h head more) ≡ box_text (is_dropped h.kind.0) (head ++ more)) × (ending_samples d (kept_ending t h head more) ≡ []) × (ending_bytes (kept_ending t h head more) ≡ box_text (is_dropped h.kind.0) (head ++ more))
-open_lasts cut c d h head more true e s = (tt, ap (λ (t : Bool). box_text t (head ++ more)) (sym e), refl, ap (λ (t : Bool). box_text t (head ++ more)) (sym e))
-open_lasts cut c d h head more false e s = (s, refl, refl, ap (λ (t : Bool). box_text t (head ++ more)) (sym e))
+open_lasts : (cut : Cut) (c d : Context) (h : Header) (header_bytes more : List ℕ) (t : Bool) → is_dropped h.kind.0 ≡ t → IsSoundEnding (splitting cut) c (OpenBox h header_bytes more)
+    → IsSoundEnding (splitting (without_index cut)) d (kept_ending t h header_bytes more) × (ending_text (without_index cut) d (kept_ending t h header_bytes more) ≡ box_text (is_dropped h.kind.0) (header_bytes ++ more)) × (ending_samples d (kept_ending t h header_bytes more) ≡ []) × (ending_bytes (kept_ending t h header_bytes more) ≡ box_text (is_dropped h.kind.0) (header_bytes ++ more))
+open_lasts cut c d h header_bytes more true e s = (tt, ap (λ (t : Bool). box_text t (header_bytes ++ more)) (sym e), refl, ap (λ (t : Bool). box_text t (header_bytes ++ more)) (sym e))
+open_lasts cut c d h header_bytes more false e s = (s, refl, refl, ap (λ (t : Bool). box_text t (header_bytes ++ more)) (sym e))
 
 nothing_known : {X : Type 0} → ◌≡◌ {A = Option (List Track)} None (Some []) → X
 nothing_known e = absurd cc
@@ -55,18 +55,18 @@ nothing_known e = absurd cc
 nothing_same : {X : Type 0} (ts : List Track) → ◌≡◌ {A = Option (List Track)} None (Some ts) → X
 nothing_same ts e = absurd cc
 
-fragment_lasts : (cut : Cut) (at number : ℕ) (o : Option (List Track)) (to now : ℕ) (u : Option (List Track)) (moof : OneBox) (h : Header) (head more : List ℕ) → now ≡ number → option_map without_ends u ≡ option_map without_ends o
-    → IsSoundEnding (splitting cut) (context at o number) (OpenFragment moof h head more) → IsBytes moof.bytes → at + length moof.bytes + length more ≤ 2 ^ 62 → number ≤ 2 ^ 32 → AllByRecursion FitsTrack (tracks_in (context at o number))
-    → EndingAgrees cut (context at o number) (context to u now) (OpenFragment moof h head more)
-fragment_lasts cut at number None to now u moof h head more n e s held room low fit = nothing_known s.2.known
-fragment_lasts cut at number (Some tracks) to now None moof h head more n e s held room low fit = nothing_same (without_ends tracks) e
-fragment_lasts cut at number (Some tracks) to now (Some us) moof h head more n e s held room low fit =
+fragment_lasts : (cut : Cut) (at number : ℕ) (o : Option (List Track)) (to now : ℕ) (u : Option (List Track)) (moof : OneBox) (h : Header) (header_bytes more : List ℕ) → now ≡ number → option_map without_ends u ≡ option_map without_ends o
+    → IsSoundEnding (splitting cut) (context at o number) (OpenFragment moof h header_bytes more) → IsBytes moof.bytes → at + length moof.bytes + length more ≤ 2 ^ 62 → number ≤ 2 ^ 32 → AllByRecursion FitsTrack (tracks_in (context at o number))
+    → EndingAgrees cut (context at o number) (context to u now) (OpenFragment moof h header_bytes more)
+fragment_lasts cut at number None to now u moof h header_bytes more n e s moof_bytes room low fit = nothing_known s.2.known
+fragment_lasts cut at number (Some tracks) to now None moof h header_bytes more n e s moof_bytes room low fit = nothing_same (without_ends tracks) e
+fragment_lasts cut at number (Some tracks) to now (Some us) moof h header_bytes more n e s moof_bytes room low fit =
     let c = context at (Some tracks) number in
     let f = fragment_here c moof.bytes h in
     let whole : IsWhole moof.bytes = (moof.header, s.2.one.payload, s.2.one.is) in
-    let again = open_recut cut at number tracks moof.bytes more h s.1.1 whole held room fit low s.3 s.4 s.5 to us (some_same (without_ends us) (without_ends tracks) e) in
-    let given = open_runs cut at number tracks moof.bytes more h s.1.1 whole held room fit low s.3 s.4 s.5 in
-    subst (λ (k : ℕ). EndingAgrees cut c (context to (Some us) k) (OpenFragment moof h head more)) (sym n) (record {
+    let again = open_recut cut at number tracks moof.bytes more h s.1.1 whole moof_bytes room fit low s.3 s.4 s.5 to us (some_same (without_ends us) (without_ends tracks) e) in
+    let given = open_runs cut at number tracks moof.bytes more h s.1.1 whole moof_bytes room fit low s.3 s.4 s.5 in
+    subst (λ (k : ℕ). EndingAgrees cut c (context to (Some us) k) (OpenFragment moof h header_bytes more)) (sym n) (record {
       sound = again.sound;
       ending = tt;
       text = append-nil _ ∙ (again.text ∙ out_is cut moof.bytes f.payload.start more tracks tracks number (taken_runs (moof_at moof.bytes at) tracks) given);
@@ -75,12 +75,12 @@ fragment_lasts cut at number (Some tracks) to now (Some us) moof h head more n e
     })
 
 ending_agrees : (cut : Cut) (c d : Context) (e : Ending) → SameButEnds c d → IsSoundEnding (splitting cut) c e → IsBytes (ending_bytes e) → c.at + length (ending_bytes e) ≤ 2 ^ 62 → c.number ≤ 2 ^ 32 → AllByRecursion FitsTrack (tracks_in c) → EndingAgrees cut c d e
-ending_agrees cut c d NothingMore a s held room low fit = record { sound = tt; ending = tt; text = refl; same = refl; join = refl }
-ending_agrees cut c d (OpenBox h head more) a s held room low fit =
-    let o = open_lasts cut c d h head more (is_dropped h.kind.0) refl s in
+ending_agrees cut c d NothingMore a s moof_bytes room low fit = record { sound = tt; ending = tt; text = refl; same = refl; join = refl }
+ending_agrees cut c d (OpenBox h header_bytes more) a s moof_bytes room low fit =
+    let o = open_lasts cut c d h header_bytes more (is_dropped h.kind.0) refl s in
     record { sound = tt; ending = o.0; text = o.1; same = o.2; join = o.3 }
-ending_agrees cut c d (OpenFragment moof h head more) a s held room low fit =
-    fragment_lasts cut c.at c.number c.tracks d.at d.number d.tracks moof h head more a.number a.tracks s (bytes_front moof.bytes (head ++ more) held) (omega (arith, room, length-append moof.bytes (head ++ more), length-append head more)) low fit
+ending_agrees cut c d (OpenFragment moof h header_bytes more) a s moof_bytes room low fit =
+    fragment_lasts cut c.at c.number c.tracks d.at d.number d.tracks moof h header_bytes more a.number a.tracks s (bytes_front moof.bytes (header_bytes ++ more) moof_bytes) (omega (arith, room, length-append moof.bytes (header_bytes ++ more), length-append header_bytes more)) low fit
 
 -- ---- the laws
 
@@ -126,24 +126,24 @@ laws cut s is =
 -- a stream of whole items and an open box, or none, in a context
 open_ends : (meaning : Meaning) (c : Context) (e : Ending) → IsSoundEnding meaning c (ending_recut e) → IsBytes (ending_bytes (ending_recut e)) → c.at + length (ending_bytes (ending_recut e)) ≤ 2 ^ 62 → (reads_in meaning c (ending_bytes (ending_recut e))).outcome ≡ Sound
 unfolding readings.read_all
-open_ends meaning c NothingMore s held room = refl
-open_ends meaning c (OpenFragment moof h head more) s held room = refl
-open_ends meaning c (OpenBox h head more) s held room = by (is_dropped h.kind.0) s held room
+open_ends meaning c NothingMore s moof_bytes room = refl
+open_ends meaning c (OpenFragment moof h header_bytes more) s moof_bytes room = refl
+open_ends meaning c (OpenBox h header_bytes more) s moof_bytes room = by (is_dropped h.kind.0) s moof_bytes room
   where
-    by : (t : Bool) → IsSoundEnding meaning c (kept_ending t h head more) → IsBytes (ending_bytes (kept_ending t h head more)) → c.at + length (ending_bytes (kept_ending t h head more)) ≤ 2 ^ 62 → (reads_in meaning c (ending_bytes (kept_ending t h head more))).outcome ≡ Sound
-    by true s held room = refl
-    by false s held room =
-        let b : Headed (head ++ more) = record { header = h; head = head; more = more; spelled = s.0; cut = refl } in
-        ap (λ (r : Reading). r.outcome) (rest-reads meaning c (head ++ more) (ends (meaning.passed h.kind (head ++ more)) Sound) held (Open b s.1 room refl))
+    by : (t : Bool) → IsSoundEnding meaning c (kept_ending t h header_bytes more) → IsBytes (ending_bytes (kept_ending t h header_bytes more)) → c.at + length (ending_bytes (kept_ending t h header_bytes more)) ≤ 2 ^ 62 → (reads_in meaning c (ending_bytes (kept_ending t h header_bytes more))).outcome ≡ Sound
+    by true s moof_bytes room = refl
+    by false s moof_bytes room =
+        let b : Headed (header_bytes ++ more) = record { header = h; header_bytes = header_bytes; more = more; spelled = s.0; cut = refl } in
+        ap (λ (r : Reading). r.outcome) (rest-reads meaning c (header_bytes ++ more) (ends (meaning.passed h.kind (header_bytes ++ more)) Sound) moof_bytes (Open b s.1 room refl))
 
 last_bytes : (e : Ending) → IsBytes (ending_bytes e) → IsBytes (ending_bytes (ending_recut e))
-last_bytes NothingMore held = held
-last_bytes (OpenFragment moof h head more) held = bytes_front [] (moof.bytes ++ (head ++ more)) held
-last_bytes (OpenBox h head more) held = by (is_dropped h.kind.0)
+last_bytes NothingMore moof_bytes = moof_bytes
+last_bytes (OpenFragment moof h header_bytes more) moof_bytes = bytes_front [] (moof.bytes ++ (header_bytes ++ more)) moof_bytes
+last_bytes (OpenBox h header_bytes more) moof_bytes = by (is_dropped h.kind.0)
   where
-    by : (t : Bool) → IsBytes (ending_bytes (kept_ending t h head more))
-    by true = bytes_front [] (head ++ more) held
-    by false = held
+    by : (t : Bool) → IsBytes (ending_bytes (kept_ending t h header_bytes more))
+    by true = bytes_front [] (header_bytes ++ more) moof_bytes
+    by false = moof_bytes
 
 pub text_reads : (cut : Cut) (s : Stream) → IsSoundStream cut s → length (stream_text cut s) ≤ 2 ^ 62 → (reading (without_index cut) (stream_text cut s)).outcome ≡ Sound
 text_reads cut s is room =

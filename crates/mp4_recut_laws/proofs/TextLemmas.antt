@@ -35,17 +35,17 @@ index_by : (t : Bool) (run : Run) (timescale : ℕ) (g : List Piece) → joined 
 index_by true run timescale g = append-nil (written_index run timescale g)
 index_by false run timescale g = refl
 
-module _ (cut : Cut) (held : List ℕ) (start : ℕ) (payload : List ℕ) where
+module _ (cut : Cut) (moof_bytes : List ℕ) (start : ℕ) (payload : List ℕ) where
   abbrev Long : Piece → Type 0
   Long p = length (media_of start payload p) ≡ p.bytes
 
-  pieces_joined : (run : Run) (number : ℕ) (ps : List Piece) → AllByRecursion Long ps → joined (pieces_items number (map (piece_with_media held start payload run) ps)) ≡ pieces_text cut held start payload run number ps
+  pieces_joined : (run : Run) (number : ℕ) (ps : List Piece) → AllByRecursion Long ps → joined (pieces_items number (map (piece_with_media moof_bytes start payload run) ps)) ≡ pieces_text cut moof_bytes start payload run number ps
   pieces_joined run number [] long = refl
   pieces_joined run number (p ∷ ps) long =
       let m = media_of start payload p in
-      ap (λ (n : ℕ). (written_moof p run held number ++ (mdat_header n ++ m)) ++ joined (pieces_items (number + 1) (map (piece_with_media held start payload run) ps))) long.0
-      ∙ (regroup (written_moof p run held number) (mdat_header p.bytes) m _
-      ∙ ap (λ (z : List ℕ). (written_moof p run held number ++ mdat_header p.bytes) ++ (m ++ z)) (pieces_joined run (number + 1) ps long.1))
+      ap (λ (n : ℕ). (written_moof p run moof_bytes number ++ (mdat_header n ++ m)) ++ joined (pieces_items (number + 1) (map (piece_with_media moof_bytes start payload run) ps))) long.0
+      ∙ (regroup (written_moof p run moof_bytes number) (mdat_header p.bytes) m _
+      ∙ ap (λ (z : List ℕ). (written_moof p run moof_bytes number ++ mdat_header p.bytes) ++ (m ++ z)) (pieces_joined run (number + 1) ps long.1))
 
   all_first : (xs ys : List Piece) → AllByRecursion Long (xs ++ ys) → AllByRecursion Long xs
   all_first [] ys all = tt
@@ -55,49 +55,49 @@ module _ (cut : Cut) (held : List ℕ) (start : ℕ) (payload : List ℕ) where
   all_last [] ys all = all
   all_last (x ∷ xs) ys all = all_last xs ys all.1
 
-  groups_joined : (run : Run) (timescale number : ℕ) (gs : List (List Piece)) → AllByRecursion Long (join gs) → joined (groups_items cut held start payload run timescale number gs) ≡ groups_text cut held start payload run timescale number gs
+  groups_joined : (run : Run) (timescale number : ℕ) (gs : List (List Piece)) → AllByRecursion Long (join gs) → joined (groups_items cut moof_bytes start payload run timescale number gs) ≡ groups_text cut moof_bytes start payload run timescale number gs
   groups_joined run timescale number [] long = refl
   groups_joined run timescale number (g ∷ gs) long =
       joined_append (index_items cut.index run timescale g) _
       ∙ same_join _ _ _ _ (index_by cut.index run timescale g)
-      (joined_append (pieces_items number (map (piece_with_media held start payload run) g)) _
+      (joined_append (pieces_items number (map (piece_with_media moof_bytes start payload run) g)) _
       ∙ same_join _ _ _ _ (pieces_joined run number g (all_first g (join gs) long)) (groups_joined run timescale (number + length g) gs (all_last g (join gs) long)))
 
-  pieces_append : (run : Run) (number k : ℕ) (xs ys : List Piece) → k ≡ number + length xs → pieces_text cut held start payload run number (xs ++ ys) ≡ pieces_text cut held start payload run number xs ++ pieces_text cut held start payload run k ys
-  pieces_append run number k [] ys e = ap (λ (n : ℕ). pieces_text cut held start payload run n ys) (omega (arith, e))
+  pieces_append : (run : Run) (number k : ℕ) (xs ys : List Piece) → k ≡ number + length xs → pieces_text cut moof_bytes start payload run number (xs ++ ys) ≡ pieces_text cut moof_bytes start payload run number xs ++ pieces_text cut moof_bytes start payload run k ys
+  pieces_append run number k [] ys e = ap (λ (n : ℕ). pieces_text cut moof_bytes start payload run n ys) (omega (arith, e))
   pieces_append run number k (p ∷ xs) ys e =
       let m = media_of start payload p in
-      let head = written_moof p run held number ++ mdat_header p.bytes in
+      let head = written_moof p run moof_bytes number ++ mdat_header p.bytes in
       ap (λ (z : List ℕ). head ++ (m ++ z)) (pieces_append run (number + 1) k xs ys (omega (arith, e)))
-      ∙ (ap (λ (z : List ℕ). head ++ z) (sym (append_assoc m (pieces_text cut held start payload run (number + 1) xs) (pieces_text cut held start payload run k ys)))
-      ∙ sym (append_assoc head (m ++ pieces_text cut held start payload run (number + 1) xs) (pieces_text cut held start payload run k ys)))
+      ∙ (ap (λ (z : List ℕ). head ++ z) (sym (append_assoc m (pieces_text cut moof_bytes start payload run (number + 1) xs) (pieces_text cut moof_bytes start payload run k ys)))
+      ∙ sym (append_assoc head (m ++ pieces_text cut moof_bytes start payload run (number + 1) xs) (pieces_text cut moof_bytes start payload run k ys)))
 
   -- without an index the groups don't matter
-  groups_without_index : (run : Run) (timescale number : ℕ) (gs : List (List Piece)) → groups_text (without_index cut) held start payload run timescale number gs ≡ pieces_text cut held start payload run number (join gs)
+  groups_without_index : (run : Run) (timescale number : ℕ) (gs : List (List Piece)) → groups_text (without_index cut) moof_bytes start payload run timescale number gs ≡ pieces_text cut moof_bytes start payload run number (join gs)
   groups_without_index run timescale number [] = refl
   groups_without_index run timescale number (g ∷ gs) =
-      ap (λ (z : List ℕ). pieces_text cut held start payload run number g ++ z) (groups_without_index run timescale (number + length g) gs)
+      ap (λ (z : List ℕ). pieces_text cut moof_bytes start payload run number g ++ z) (groups_without_index run timescale (number + length g) gs)
       ∙ sym (pieces_append run number (number + length g) g (join gs) refl)
 
   module _ (tracks : List Track) where
-    pub long_run : (run : Run) → (IsRunIn tracks start payload held run) → AllByRecursion Long (pieces_of cut held run)
+    pub long_run : (run : Run) → (IsRunIn tracks start payload moof_bytes run) → AllByRecursion Long (pieces_of cut moof_bytes run)
     long_run run g = elim g.lies [
-      | inl none ↦ subst (λ (ps : List Piece). AllByRecursion Long ps) (sym (none_of cut held start payload tracks run none)) tt
-      | inr lies ↦ run_long cut held start payload run lies
+      | inl none ↦ subst (λ (ps : List Piece). AllByRecursion Long ps) (sym (none_of cut moof_bytes start payload tracks run none)) tt
+      | inr lies ↦ run_long cut moof_bytes start payload run lies
     ]
 
-    pub runs_joined : (of : List Track) (number : ℕ) (runs : List Run) → AllByRecursion (IsRunIn tracks start payload held) runs → joined (runs_items cut held start payload of number runs) ≡ runs_text cut held start payload of number runs
+    pub runs_joined : (of : List Track) (number : ℕ) (runs : List Run) → AllByRecursion (IsRunIn tracks start payload moof_bytes) runs → joined (runs_items cut moof_bytes start payload of number runs) ≡ runs_text cut moof_bytes start payload of number runs
     runs_joined of number [] all = refl
     runs_joined of number (run ∷ runs) all =
-        joined_append (groups_items cut held start payload run (timescale_of of run.track) number (groups (pieces_of cut held run))) _
+        joined_append (groups_items cut moof_bytes start payload run (timescale_of of run.track) number (groups (pieces_of cut moof_bytes run))) _
         ∙ same_join _ _ _ _
-        (groups_joined run (timescale_of of run.track) number (groups (pieces_of cut held run)) (subst (λ (ps : List Piece). AllByRecursion Long ps) (sym (groups_are (pieces_of cut held run)).joined) (long_run run all.0)))
-        (runs_joined of (number + length (pieces_of cut held run)) runs all.1)
+        (groups_joined run (timescale_of of run.track) number (groups (pieces_of cut moof_bytes run)) (subst (λ (ps : List Piece). AllByRecursion Long ps) (sym (groups_are (pieces_of cut moof_bytes run)).joined) (long_run run all.0)))
+        (runs_joined of (number + length (pieces_of cut moof_bytes run)) runs all.1)
 
-    pub out_is : (of : List Track) (number : ℕ) (runs : List Run) → AllByRecursion (IsRunIn tracks start payload held) runs → runs_out cut held start payload tracks number runs ≡ runs_text (without_index cut) held start payload of number runs
+    pub out_is : (of : List Track) (number : ℕ) (runs : List Run) → AllByRecursion (IsRunIn tracks start payload moof_bytes) runs → runs_out cut moof_bytes start payload tracks number runs ≡ runs_text (without_index cut) moof_bytes start payload of number runs
     out_is of number [] all = refl
     out_is of number (run ∷ runs) all =
         same_join _ _ _ _
-        (pieces_joined run number (pieces_of cut held run) (long_run run all.0)
-        ∙ (sym (ap (pieces_text cut held start payload run number) (groups_are (pieces_of cut held run)).joined) ∙ sym (groups_without_index run (timescale_of of run.track) number (groups (pieces_of cut held run)))))
-        (out_is of (number + length (pieces_of cut held run)) runs all.1)
+        (pieces_joined run number (pieces_of cut moof_bytes run) (long_run run all.0)
+        ∙ (sym (ap (pieces_text cut moof_bytes start payload run number) (groups_are (pieces_of cut moof_bytes run)).joined) ∙ sym (groups_without_index run (timescale_of of run.track) number (groups (pieces_of cut moof_bytes run)))))
+        (out_is of (number + length (pieces_of cut moof_bytes run)) runs all.1)

@@ -28,9 +28,9 @@ pub last_none : {X : Type 0} (xs ys : List X) → xs ++ ys ≡ [] → ys ≡ []
 last_none [] ys e = e
 last_none (x ∷ xs) ys e = absurd cc
 
-no_index : (cut : Cut) (held : List ℕ) (runs : List Run) → index_faults (without_index cut) held runs ≡ []
-no_index cut held [] = refl
-no_index cut held (run ∷ runs) = no_index cut held runs
+no_index : (cut : Cut) (moof_bytes : List ℕ) (runs : List Run) → index_faults (without_index cut) moof_bytes runs ≡ []
+no_index cut moof_bytes [] = refl
+no_index cut moof_bytes (run ∷ runs) = no_index cut moof_bytes runs
 
 room_without_index : (cut : Cut) (h : MoofBytes) (runs : List Run) (number : ℕ) → room_fault cut h runs number ≡ None → room_fault (without_index cut) h runs number ≡ None
 unfolding rooms.room_faults order.least_from
@@ -59,8 +59,8 @@ same_after cut c (MovieFragment moof mdat) = refl
 
 ending_without_index : (cut : Cut) (c : Context) (e : Ending) → IsSoundEnding (splitting cut) c e → IsSoundEnding (splitting (without_index cut)) c e
 ending_without_index cut c NothingMore s = s
-ending_without_index cut c (OpenBox h head more) s = s
-ending_without_index cut c (OpenFragment moof h head more) s = (s.0, s.1, s.2, s.3, good_without_index cut c moof.bytes h s.4, s.5)
+ending_without_index cut c (OpenBox h header_bytes more) s = s
+ending_without_index cut c (OpenFragment moof h header_bytes more) s = (s.0, s.1, s.2, s.3, good_without_index cut c moof.bytes h s.4, s.5)
 
 record AreWithoutIndex (cut : Cut) (c : Context) (is : List Item) (e : Ending) : Type 0 where
   sound : AreSound (splitting (without_index cut)) c is

@@ -56,20 +56,20 @@ module _ (cut : Cut) (index : cut.index ≡ true) where
       let good = first_none (place_fault f.payload (moof_runs h tracks)) (room_fault cut h (moof_runs h tracks) number) s.3 in
       runs_indexed cut moof.bytes f.payload.start (drop mdat.header.header_len mdat.bytes) tracks number (taken_runs h tracks) scaled (fragment_runs cut at number tracks moof mdat s fine.0 fine.1 fine.2 fine.3) (all_index cut h tracks number index good.1)
 
-  open_by : (at number : ℕ) (o : Option (List Track)) (moof : OneBox) (h : Header) (head more : List ℕ) → AreScaled (listed o) → IsSoundEnding (splitting cut) (context at o number) (OpenFragment moof h head more) → IsBytes moof.bytes → at + length moof.bytes + length more ≤ 2 ^ 62 → number ≤ 2 ^ 32 → AllByRecursion FitsTrack (listed o)
-      → EndingIsIndexed cut (context at o number) (OpenFragment moof h head more)
-  open_by at number None moof h head more scaled s held room low fit = nothing_known s.2.known
-  open_by at number (Some tracks) moof h head more scaled s held room low fit =
+  open_by : (at number : ℕ) (o : Option (List Track)) (moof : OneBox) (h : Header) (header_bytes more : List ℕ) → AreScaled (listed o) → IsSoundEnding (splitting cut) (context at o number) (OpenFragment moof h header_bytes more) → IsBytes moof.bytes → at + length moof.bytes + length more ≤ 2 ^ 62 → number ≤ 2 ^ 32 → AllByRecursion FitsTrack (listed o)
+      → EndingIsIndexed cut (context at o number) (OpenFragment moof h header_bytes more)
+  open_by at number None moof h header_bytes more scaled s moof_bytes room low fit = nothing_known s.2.known
+  open_by at number (Some tracks) moof h header_bytes more scaled s moof_bytes room low fit =
       let f = fragment_here (context at (Some tracks) number) moof.bytes h in
       let m = moof_at moof.bytes at in
       let whole : IsWhole moof.bytes = (moof.header, s.2.one.payload, s.2.one.is) in
       let good = first_none (place_fault f.payload (moof_runs m tracks)) (room_fault cut m (moof_runs m tracks) number) s.4 in
-      runs_indexed cut moof.bytes f.payload.start more tracks number (taken_runs m tracks) scaled (open_runs cut at number tracks moof.bytes more h s.1.1 whole held room fit low s.3 s.4 s.5) (all_index cut m tracks number index good.1)
+      runs_indexed cut moof.bytes f.payload.start more tracks number (taken_runs m tracks) scaled (open_runs cut at number tracks moof.bytes more h s.1.1 whole moof_bytes room fit low s.3 s.4 s.5) (all_index cut m tracks number index good.1)
 
   pub item_scaled : (c : Context) (i : Item) → AreScaled (tracks_in c) → IsSound (splitting cut) c i → IsBytes (bytes_of i) → AreScaled (tracks_in (context_after (splitting cut) c i))
-  item_scaled c (PassedOver b) scaled s held = scaled
-  item_scaled c (Movie b) scaled s held = moov_scaled c.at b.bytes held
-  item_scaled c (MovieFragment moof mdat) scaled s held =
+  item_scaled c (PassedOver b) scaled s moof_bytes = scaled
+  item_scaled c (Movie b) scaled s moof_bytes = moov_scaled c.at b.bytes moof_bytes
+  item_scaled c (MovieFragment moof mdat) scaled s moof_bytes =
       let ts = tracks_in c in
       let fs = moof_trafs (moof_at moof.bytes c.at) ts in
       scaled_ends ts (settled ts fs) (sym (ends_settled ts fs)) scaled
@@ -80,16 +80,16 @@ module _ (cut : Cut) (index : cut.index ≡ true) where
   item_indexed c (MovieFragment moof mdat) scaled s fine = fragment_by c.at c.number c.tracks moof mdat scaled s fine
 
   pub items_indexed : (c : Context) (is : List Item) → AreScaled (tracks_in c) → AreSound (splitting cut) c is → CanAllBeRecut cut c is → IsBytes (joined is) → ItemsAreIndexed cut c is × AreScaled (tracks_in (context_after_all (splitting cut) c is))
-  items_indexed c [] scaled s fine held = (tt, scaled)
-  items_indexed c (i ∷ is) scaled s fine held =
-      let rest = items_indexed (context_after (splitting cut) c i) is (item_scaled c i scaled s.0 (bytes_front (bytes_of i) (joined is) held)) s.1 fine.1 (bytes_back (bytes_of i) (joined is) held) in
+  items_indexed c [] scaled s fine moof_bytes = (tt, scaled)
+  items_indexed c (i ∷ is) scaled s fine moof_bytes =
+      let rest = items_indexed (context_after (splitting cut) c i) is (item_scaled c i scaled s.0 (bytes_front (bytes_of i) (joined is) moof_bytes)) s.1 fine.1 (bytes_back (bytes_of i) (joined is) moof_bytes) in
       ((item_indexed c i scaled s.0 fine.0, rest.0), rest.1)
 
   ending_indexed : (c : Context) (e : Ending) → AreScaled (tracks_in c) → IsSoundEnding (splitting cut) c e → IsBytes (ending_bytes e) → c.at + length (ending_bytes e) ≤ 2 ^ 62 → c.number ≤ 2 ^ 32 → AllByRecursion FitsTrack (tracks_in c) → EndingIsIndexed cut c e
-  ending_indexed c NothingMore scaled s held room low fit = tt
-  ending_indexed c (OpenBox h head more) scaled s held room low fit = tt
-  ending_indexed c (OpenFragment moof h head more) scaled s held room low fit =
-      open_by c.at c.number c.tracks moof h head more scaled s (bytes_front moof.bytes (head ++ more) held) (omega (arith, room, length-append moof.bytes (head ++ more), length-append head more)) low fit
+  ending_indexed c NothingMore scaled s moof_bytes room low fit = tt
+  ending_indexed c (OpenBox h header_bytes more) scaled s moof_bytes room low fit = tt
+  ending_indexed c (OpenFragment moof h header_bytes more) scaled s moof_bytes room low fit =
+      open_by c.at c.number c.tracks moof h header_bytes more scaled s (bytes_front moof.bytes (header_bytes ++ more) moof_bytes) (omega (arith, room, length-append moof.bytes (header_bytes ++ more), length-append header_bytes more)) low fit
 
   pub stream_indexed : (s : Stream) → IsSoundStream cut s → ItemsAreIndexed cut first_context s.items × EndingIsIndexed cut (ending_context cut s) s.ending
   stream_indexed s is =

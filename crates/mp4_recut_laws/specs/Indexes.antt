@@ -46,18 +46,18 @@ pub record IsIndexOf (id scale number : ℕ) (p : List ℕ) (qs : List PieceWith
 
 -- ---- the indexes of a recut text
 
-module _ (cut : Cut) (held : List ℕ) (start : ℕ) (payload : List ℕ) where
+module _ (cut : Cut) (moof_bytes : List ℕ) (start : ℕ) (payload : List ℕ) where
   -- the index of each group of pieces is true of the group
   abbrev pub GroupsAreIndexed : Run → (timescale number : ℕ) → List (List Piece) → Type 0
   GroupsAreIndexed run timescale number [] = Unit {0}
   GroupsAreIndexed run timescale number (g ∷ gs) =
-      IsIndexOf run.track timescale number (drop 8 (index_as_box run timescale g).bytes) (map (piece_with_media held start payload run) g) × GroupsAreIndexed run timescale (number + length g) gs
+      IsIndexOf run.track timescale number (drop 8 (index_as_box run timescale g).bytes) (map (piece_with_media moof_bytes start payload run) g) × GroupsAreIndexed run timescale (number + length g) gs
 
   -- the same for the indexes of all these runs
   abbrev pub RunsAreIndexed : List Track → ℕ → List Run → Type 0
   RunsAreIndexed tracks number [] = Unit {0}
   RunsAreIndexed tracks number (run ∷ runs) =
-      GroupsAreIndexed run (timescale_of tracks run.track) number (groups (pieces_of cut held run)) × RunsAreIndexed tracks (number + length (pieces_of cut held run)) runs
+      GroupsAreIndexed run (timescale_of tracks run.track) number (groups (pieces_of cut moof_bytes run)) × RunsAreIndexed tracks (number + length (pieces_of cut moof_bytes run)) runs
 
 -- the same for the indexes of a recut fragment
 abbrev pub FragmentIsIndexed : Cut → Fragment → List ℕ → Type 0
@@ -77,5 +77,5 @@ ItemsAreIndexed cut c (i ∷ is) = ItemIsIndexed cut c i × ItemsAreIndexed cut 
 -- the same for those of an ending
 abbrev pub EndingIsIndexed : Cut → Context → Ending → Type 0
 EndingIsIndexed cut c NothingMore = Unit {0}
-EndingIsIndexed cut c (OpenBox h head more) = Unit {0}
-EndingIsIndexed cut c (OpenFragment moof h head more) = FragmentIsIndexed cut (items.fragment_here c moof.bytes h) more
+EndingIsIndexed cut c (OpenBox h header_bytes more) = Unit {0}
+EndingIsIndexed cut c (OpenFragment moof h header_bytes more) = FragmentIsIndexed cut (items.fragment_here c moof.bytes h) more

@@ -29,9 +29,9 @@ media_samples_from track entry (row ∷ rows) time media =
     record { track = track; time = time; composition = pos time +ℤ row.offset; duration = row.duration; flags = row.flags; entry = entry; bytes = take row.size media }
     ∷ media_samples_from track entry rows (time + row.duration) (drop row.size media)
 
--- the samples of a run. `held` are the bytes of its moof, and `payload` is that of the mdat, which begins at the stream offset `start`
+-- the samples of a run. `moof_bytes` are the bytes of its moof, and `payload` is that of the mdat, which begins at the stream offset `start`
 abbrev pub media_samples_of_run : List ℕ → ℕ → List ℕ → Run → List MediaSample
-media_samples_of_run held start payload run = media_samples_from run.track run.entry (rows_of run held) run.time (drop (natural run.place - start) payload)
+media_samples_of_run moof_bytes start payload run = media_samples_from run.track run.entry (rows_of run moof_bytes) run.time (drop (natural run.place - start) payload)
 
 -- the samples of a fragment, its runs in the order in which they are taken
 abbrev pub media_samples_in : Fragment → List ℕ → List MediaSample

@@ -77,17 +77,17 @@ piece_samples q = media_samples_from q.written.track q.written.entry q.written.r
 
 -- ---- the pieces of a run
 
--- a piece of a run with its media. `held` are the bytes of the moof, and `payload` is that of its mdat, which begins at the stream offset `start`
+-- a piece of a run with its media. `moof_bytes` are the bytes of the moof, and `payload` is that of its mdat, which begins at the stream offset `start`
 abbrev pub piece_with_media : List ℕ → ℕ → List ℕ → Run → Piece → PieceWithMedia
-piece_with_media held start payload run p = record { written = written_fragment held run p; media = media_of start payload p }
+piece_with_media moof_bytes start payload run p = record { written = written_fragment moof_bytes run p; media = media_of start payload p }
 
 -- all pieces of a run with their media
 abbrev pub pieces_with_media : Cut → List ℕ → ℕ → List ℕ → Run → List PieceWithMedia
-pieces_with_media cut held start payload run = map (piece_with_media held start payload run) (pieces_of cut held run)
+pieces_with_media cut moof_bytes start payload run = map (piece_with_media moof_bytes start payload run) (pieces_of cut moof_bytes run)
 
 -- the bytes of a run lie in the payload that begins at the stream offset `start`
-pub record LiesIn (start : ℕ) (payload held : List ℕ) (run : Run) : Type 0 where
+pub record LiesIn (start : ℕ) (payload moof_bytes : List ℕ) (run : Run) : Type 0 where
   pub at : ℕ
   pub place : run.place ≡ pos at
   pub from : start ≤ at
-  pub to : at + sizes (rows_of run held) ≤ start + length payload
+  pub to : at + sizes (rows_of run moof_bytes) ≤ start + length payload

@@ -26,7 +26,7 @@ pub record FitsOwnIndex (f : Written) : Type 0 where
 
 -- the least composition time of each piece of a run is not negative and has 64 bits
 abbrev pub RunTimesFit : Cut → List ℕ → Run → Type 0
-RunTimesFit cut held run = AllByRecursion (λ (p : Piece). FitsTime p.least) (pieces_of cut held run)
+RunTimesFit cut moof_bytes run = AllByRecursion (λ (p : Piece). FitsTime p.least) (pieces_of cut moof_bytes run)
 
 -- the same for each run of a fragment
 abbrev pub FragmentTimesFit : Cut → Fragment → Type 0
@@ -46,5 +46,5 @@ ItemsTimesFit cut c (i ∷ is) = ItemTimesFit cut c i × ItemsTimesFit cut (cont
 -- the same for an ending
 abbrev pub EndingTimesFit : Cut → Context → Ending → Type 0
 EndingTimesFit cut c NothingMore = Unit {0}
-EndingTimesFit cut c (OpenBox h head more) = Unit {0}
-EndingTimesFit cut c (OpenFragment moof h head more) = FragmentTimesFit cut (items.fragment_here c moof.bytes h)
+EndingTimesFit cut c (OpenBox h header_bytes more) = Unit {0}
+EndingTimesFit cut c (OpenFragment moof h header_bytes more) = FragmentTimesFit cut (items.fragment_here c moof.bytes h)

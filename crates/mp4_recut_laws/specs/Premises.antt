@@ -20,10 +20,10 @@ use Rattle.mp4_recut_laws.specs.RecutItems.{without_index}
 -- ---- premises
 
 -- a run of a moof that was read, which has no samples or lies in the payload
-pub record IsRunIn (tracks : List Track) (start : ℕ) (payload held : List ℕ) (run : Run) : Type 0 where
-  pub sound : IsSoundRun tracks held run
-  pub of : IsRunOf held run
-  pub lies : (rows_of run held ≡ []) ⊎ LiesIn start payload held run
+pub record IsRunIn (tracks : List Track) (start : ℕ) (payload moof_bytes : List ℕ) (run : Run) : Type 0 where
+  pub sound : IsSoundRun tracks moof_bytes run
+  pub of : IsRunOf moof_bytes run
+  pub lies : (rows_of run moof_bytes ≡ []) ⊎ LiesIn start payload moof_bytes run
 
 -- a moov is good at each stream offset, with the same tracks. A fragment is of bytes and ends by offset 2^62,
 -- the fields of its tracks fit, and its number is at most 2^32

@@ -31,18 +31,18 @@ abbrev pub index_items : Bool → Run → ℕ → List Piece → List Item
 index_items true run timescale group = PassedOver (index_as_box run timescale group) ∷ []
 index_items false run timescale group = []
 
-module _ (cut : Cut) (held : List ℕ) (start : ℕ) (payload : List ℕ) where
+module _ (cut : Cut) (moof_bytes : List ℕ) (start : ℕ) (payload : List ℕ) where
   -- groups of pieces: each is its index and then its pieces
   abbrev pub groups_items : Run → (timescale number : ℕ) → List (List Piece) → List Item
   groups_items run timescale number [] = []
   groups_items run timescale number (g ∷ gs) =
-      index_items cut.index run timescale g ++ (pieces_items number (map (piece_with_media held start payload run) g) ++ groups_items run timescale (number + length g) gs)
+      index_items cut.index run timescale g ++ (pieces_items number (map (piece_with_media moof_bytes start payload run) g) ++ groups_items run timescale (number + length g) gs)
 
   -- runs, one after the other
   abbrev pub runs_items : List Track → ℕ → List Run → List Item
   runs_items tracks number [] = []
   runs_items tracks number (run ∷ runs) =
-      groups_items run (timescale_of tracks run.track) number (groups (pieces_of cut held run)) ++ runs_items tracks (number + length (pieces_of cut held run)) runs
+      groups_items run (timescale_of tracks run.track) number (groups (pieces_of cut moof_bytes run)) ++ runs_items tracks (number + length (pieces_of cut moof_bytes run)) runs
 
 -- a fragment, its runs in the order in which they are taken
 abbrev pub fragment_items : Cut → Fragment → List ℕ → List Item

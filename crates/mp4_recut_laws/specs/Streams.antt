@@ -19,33 +19,33 @@ use Rattle.mp4_recut.specs.Texts.{box_text, fragment_text, items_text}
 -- the bytes of the header, and those after it; or a moof, and an mdat that goes to the end
 pub data Ending : Type 0 where
   NothingMore : Ending
-  OpenBox : (h : Header) (head more : List ℕ) → Ending
-  OpenFragment : (moof : OneBox) (h : Header) (head more : List ℕ) → Ending
+  OpenBox : (h : Header) (header_bytes more : List ℕ) → Ending
+  OpenFragment : (moof : OneBox) (h : Header) (header_bytes more : List ℕ) → Ending
 
 -- the bytes of an ending
 abbrev pub ending_bytes : Ending → List ℕ
 ending_bytes NothingMore = []
-ending_bytes (OpenBox h head more) = head ++ more
-ending_bytes (OpenFragment moof h head more) = moof.bytes ++ (head ++ more)
+ending_bytes (OpenBox h header_bytes more) = header_bytes ++ more
+ending_bytes (OpenFragment moof h header_bytes more) = moof.bytes ++ (header_bytes ++ more)
 
 -- the ending breaks no rule in this context
 abbrev pub IsSoundEnding : Meaning → Context → Ending → Type 0
 IsSoundEnding meaning c NothingMore = Unit {0}
-IsSoundEnding meaning c (OpenBox h head more) = Head h head × IsOpen Other h
-IsSoundEnding meaning c (OpenFragment moof h head more) =
-    Head h head × IsOpen Mdat h × IsMoofHere c moof × IsRead (moof_at moof.bytes c.at) (tracks_in c) × IsGood meaning c moof.bytes h × (needed_in (fragment_here c moof.bytes h) ≤ length more)
+IsSoundEnding meaning c (OpenBox h header_bytes more) = Head h header_bytes × IsOpen Other h
+IsSoundEnding meaning c (OpenFragment moof h header_bytes more) =
+    Head h header_bytes × IsOpen Mdat h × IsMoofHere c moof × IsRead (moof_at moof.bytes c.at) (tracks_in c) × IsGood meaning c moof.bytes h × (needed_in (fragment_here c moof.bytes h) ≤ length more)
 
 -- the recut text of an ending
 abbrev pub ending_text : Cut → Context → Ending → List ℕ
 ending_text cut c NothingMore = []
-ending_text cut c (OpenBox h head more) = box_text (is_dropped h.kind.0) (head ++ more)
-ending_text cut c (OpenFragment moof h head more) = fragment_text cut (fragment_here c moof.bytes h) more
+ending_text cut c (OpenBox h header_bytes more) = box_text (is_dropped h.kind.0) (header_bytes ++ more)
+ending_text cut c (OpenFragment moof h header_bytes more) = fragment_text cut (fragment_here c moof.bytes h) more
 
 -- the samples of an ending
 abbrev pub ending_samples : Context → Ending → List MediaSample
 ending_samples c NothingMore = []
-ending_samples c (OpenBox h head more) = []
-ending_samples c (OpenFragment moof h head more) = media_samples_in (fragment_here c moof.bytes h) more
+ending_samples c (OpenBox h header_bytes more) = []
+ending_samples c (OpenFragment moof h header_bytes more) = media_samples_in (fragment_here c moof.bytes h) more
 
 -- a stream as whole items and an ending
 pub record Stream : Type 0 where
@@ -86,19 +86,19 @@ stream_samples cut s = items_samples cut first_context s.items ++ ending_samples
 -- the whole items of the recut text of an ending
 abbrev pub ending_items : Cut → Context → Ending → List Item
 ending_items cut c NothingMore = []
-ending_items cut c (OpenBox h head more) = []
-ending_items cut c (OpenFragment moof h head more) = fragment_items cut (fragment_here c moof.bytes h) more
+ending_items cut c (OpenBox h header_bytes more) = []
+ending_items cut c (OpenFragment moof h header_bytes more) = fragment_items cut (fragment_here c moof.bytes h) more
 
 -- a box that goes to the end of the stream, where it is kept; nothing where it is left out
 abbrev pub kept_ending : Bool → Header → List ℕ → List ℕ → Ending
-kept_ending true h head more = NothingMore
-kept_ending false h head more = OpenBox h head more
+kept_ending true h header_bytes more = NothingMore
+kept_ending false h header_bytes more = OpenBox h header_bytes more
 
 -- the ending of the recut text of an ending: a fragment becomes whole items, and leaves none
 abbrev pub ending_recut : Ending → Ending
 ending_recut NothingMore = NothingMore
-ending_recut (OpenBox h head more) = kept_ending (is_dropped h.kind.0) h head more
-ending_recut (OpenFragment moof h head more) = NothingMore
+ending_recut (OpenBox h header_bytes more) = kept_ending (is_dropped h.kind.0) h header_bytes more
+ending_recut (OpenFragment moof h header_bytes more) = NothingMore
 
 -- the recut text of a stream as a stream
 abbrev pub recut : Cut → Stream → Stream

@@ -51,10 +51,10 @@ pub fn samples_are_cut()
 
 /// The pieces of a run that lies in its payload have the samples of the run.
 pub fn pieces_have_the_samples()
-    ensures { (cut : Cut) (held : List ℕ) (start : ℕ) (payload : List ℕ) (run : Run) →
-        LiesIn start payload held run →
-        flat_map piece_samples (pieces_with_media cut held start payload run) ≡
-        media_samples_of_run held start payload run }
+    ensures { (cut : Cut) (moof_bytes : List ℕ) (start : ℕ) (payload : List ℕ) (run : Run) →
+        LiesIn start payload moof_bytes run →
+        flat_map piece_samples (pieces_with_media cut moof_bytes start payload run) ≡
+        media_samples_of_run moof_bytes start payload run }
 {}
 
 /// The recut text of whole items that break no rule is again whole items that break no rule. Without

@@ -72,8 +72,8 @@ front_by-grows at b x (steps.Whole h) e =
     let w = whole_is b h e in
     let some : 0 < length (b ++ x) = omega (arith, length-append b x, need-least b, w.0) in
     let after : drop h.header_len (b ++ x) ≡ drop h.header_len b ++ x = drop-append-le h.header_len b x (omega (arith, w.0, w.1)) in
-    let head : take h.header_len (b ++ x) ≡ take h.header_len b = take-append-le h.header_len b x (omega (arith, w.0, w.1)) in
-    let same : top_box at (b ++ x) ≡ box at h (take h.header_len b) (drop h.header_len b ++ x) = front-some at (b ++ x) some ∙ ap (top_box_by at (b ++ x)) (header_at-append b x w.0 ∙ e) ∙ ap (λ l. box at h l (drop h.header_len (b ++ x))) head ∙ ap (box at h (take h.header_len b)) after in
+    let header_bytes : take h.header_len (b ++ x) ≡ take h.header_len b = take-append-le h.header_len b x (omega (arith, w.0, w.1)) in
+    let same : top_box at (b ++ x) ≡ box at h (take h.header_len b) (drop h.header_len b ++ x) = front-some at (b ++ x) some ∙ ap (top_box_by at (b ++ x)) (header_at-append b x w.0 ∙ e) ∙ ap (λ l. box at h l (drop h.header_len (b ++ x))) header_bytes ∙ ap (box at h (take h.header_len b)) after in
     subst (FrontGrows x (box at h (take h.header_len b) (drop h.header_len b))) (sym same) (box-grows at h (take h.header_len b) (drop h.header_len b) x (nat_lt longest (least_end at h h.size)) refl)
 
 pub front-grows : (at : ℕ) (b x : List ℕ) → FrontGrows x (top_box at b) (top_box at (b ++ x))

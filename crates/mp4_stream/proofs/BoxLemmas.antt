@@ -132,16 +132,16 @@ reading-begun at h x later near loose = rw (nat_lt_false longest (least_end at h
 -- a box that is held
 pub reading-too_large : (at : ℕ) (h : Header) (x later : List ℕ) (limit s : ℕ) → at + s ≤ longest → most_held h.kind.0 ≡ Some limit → h.size ≡ Exact s → limit < s
     → then_read reading (box at h x later) ≡ at_fault TooLarge (Some h.kind) at
-reading-too_large at h x later limit s near held size large = rw (size, nat_lt_false longest (at + s) near, held, nat_lt_true limit s large) refl
+reading-too_large at h x later limit s near buffered size large = rw (size, nat_lt_false longest (at + s) near, buffered, nat_lt_true limit s large) refl
 
 pub reading-held_to_end : (at : ℕ) (h : Header) (x later : List ℕ) (limit : ℕ) → at + h.header_len ≤ longest → most_held h.kind.0 ≡ Some limit → h.size ≡ ToEnd
     → then_read reading (box at h x later) ≡ at_fault TooLarge (Some h.kind) at
-reading-held_to_end at h x later limit near held size = rw (size, nat_lt_false longest (at + h.header_len) near, held) refl
+reading-held_to_end at h x later limit near buffered size = rw (size, nat_lt_false longest (at + h.header_len) near, buffered) refl
 
 pub reading-holds : (at : ℕ) (h : Header) (x later : List ℕ) (limit s : ℕ) → at + s ≤ longest → most_held h.kind.0 ≡ Some limit → h.size ≡ Exact s → s ≤ limit
     → then_read reading (box at h x later) ≡ after (requests_memory at s) (then_read reading (held_body at h.kind s (x ++ later)))
-reading-holds at h x later limit s near held size fits =
-    rw (size, nat_lt_false longest (at + s) near, held, nat_lt_false limit s fits) (then_read-emitted reading (requests_memory at s) (held_body at h.kind s (x ++ later)))
+reading-holds at h x later limit s near buffered size fits =
+    rw (size, nat_lt_false longest (at + s) near, buffered, nat_lt_false limit s fits) (then_read-emitted reading (requests_memory at s) (held_body at h.kind s (x ++ later)))
 
 -- all of a held box came
 pub reading-good : (at : ℕ) (kind : FourCc) (size : ℕ) (x later : List ℕ) → length x ≡ size → tree_faults at x ≡ []
@@ -159,26 +159,26 @@ reading-bad_tree at kind size x later f fs len bad =
 
 -- ---- the end of the stream
 
-pub end-held : (at : ℕ) (held : List ℕ) → 0 < length held → length held < need held → fault_in ((in_header at held).reads []).outcome ≡ Some (fault Truncated (kind_of held) at)
-end-held at held some short = ap (λ r. fault_in r.outcome) (ap (reading at) (append-nil held) ∙ reading-more at held some short)
+pub end-held : (at : ℕ) (buffered : List ℕ) → 0 < length buffered → length buffered < need buffered → fault_in ((in_header at buffered).reads []).outcome ≡ Some (fault Truncated (kind_of buffered) at)
+end-held at buffered some short = ap (λ r. fault_in r.outcome) (ap (reading at) (append-nil buffered) ∙ reading-more at buffered some short)
 
-pub end-none : (at : ℕ) (held : List ℕ) → held ≡ [] → fault_in ((in_header at held).reads []).outcome ≡ None
-end-none at held e = ap (λ l. fault_in ((in_header at l).reads []).outcome) e ∙ ap (λ r. fault_in r.outcome) (reading-none at)
+pub end-none : (at : ℕ) (buffered : List ℕ) → buffered ≡ [] → fault_in ((in_header at buffered).reads []).outcome ≡ None
+end-none at buffered e = ap (λ l. fault_in ((in_header at l).reads []).outcome) e ∙ ap (λ r. fault_in r.outcome) (reading-none at)
 
 -- the end of the stream has no effects in any state of a machine, and no fault is decided
-quiet-head : (at : ℕ) (head : List ℕ) → length head < need head → ((reading at head).effects ≡ no_effects) × (decided_in (reading at head).outcome ≡ None)
+quiet-head : (at : ℕ) (header_bytes : List ℕ) → length header_bytes < need header_bytes → ((reading at header_bytes).effects ≡ no_effects) × (decided_in (reading at header_bytes).outcome ≡ None)
 quiet-head at [] short = (ap (λ r. r.effects) (reading-none at), ap (λ r. decided_in r.outcome) (reading-none at))
-quiet-head at (b ∷ head) short =
-    let cut = reading-more at (b ∷ head) (omega arith) short in (ap (λ r. r.effects) cut, ap (λ r. decided_in r.outcome) cut)
+quiet-head at (b ∷ header_bytes) short =
+    let cut = reading-more at (b ∷ header_bytes) (omega arith) short in (ap (λ r. r.effects) cut, ap (λ r. decided_in r.outcome) cut)
 
-pub state-quiet : (head : List ℕ) (s : State) → IsState head s → HasNoEffects (continuation_at head s)
-state-quiet head (states.Header at) i =
-    let quiet = quiet-head at head i.0 in
-    let same = append-nil head in
+pub state-quiet : (header_bytes : List ℕ) (s : State) → IsState header_bytes s → HasNoEffects (continuation_at header_bytes s)
+state-quiet header_bytes (states.Header at) i =
+    let quiet = quiet-head at header_bytes i.0 in
+    let same = append-nil header_bytes in
     record { effects = ap (λ l. (reading at l).effects) same ∙ quiet.0; early = ap (λ l. decided_in (reading at l).outcome) same ∙ quiet.1 }
-state-quiet head (states.Buffering h) i =
+state-quiet header_bytes (states.Buffering h) i =
     let short = nat_lt_true (length (h.bytes ++ [])) h.size (omega (arith, length-append h.bytes [], i.1)) in record { effects = rw short refl; early = rw short refl }
-state-quiet head (states.Body b) i =
+state-quiet header_bytes (states.Body b) i =
     let none = body-none reading b.at b.kind b.next passed b.left i.1 in record { effects = ap (λ r. r.effects) none; early = ap (λ r. decided_in r.outcome) none }
-state-quiet head (states.OpenBody b) i =
+state-quiet header_bytes (states.OpenBody b) i =
     let none : then_read reading (open_body_item passed b.at b.kind b.needed b.left []) ≡ record { effects = no_effects; outcome = Sound } = rw i.2 (open-none reading b.at b.kind 0 passed b.left) in record { effects = ap (λ r. r.effects) none; early = ap (λ r. decided_in r.outcome) none }

@@ -25,19 +25,19 @@ use Rattle.mp4_stream.proofs.RestLemmas.{every-stream}
 module _ (most : ℕ) where
   -- a box at the front that is held
   front-most : (at : ℕ) (b : Item) (payload y : List ℕ) (limit : ℕ) → IsBox b.header payload b.bytes → most_held b.header.kind.0 ≡ Some limit → length b.bytes ≤ limit → at + length b.bytes ≤ longest → HoldsAtMost at (b.bytes ++ y) most → length b.bytes ≤ most
-  front-most at b payload y limit is held small near w =
+  front-most at b payload y limit is buffered small near w =
       w.each (length b.bytes) (record {
         boxes = [];
         rest = b.bytes ++ y;
         cut = refl;
         sound = tt;
-        box = record { header = b.header; head = is.head; more = payload ++ y; spelled = is.spelled; cut = ap (λ l. l ++ y) is.whole ∙ append_assoc is.head payload y };
+        box = record { header = b.header; header_bytes = is.header_bytes; more = payload ++ y; spelled = is.spelled; cut = ap (λ l. l ++ y) is.whole ∙ append_assoc is.header_bytes payload y };
         limit = limit;
-        here = (held, is.size, omega (arith, near));
+        here = (buffered, is.size, omega (arith, near));
         small = small;
       })
 
-  box-most : (at : ℕ) (b : Item) (payload y : List ℕ) (held : Option ℕ) → most_held b.header.kind.0 ≡ held → IsBox b.header payload b.bytes → IsAllowed at b.bytes held → at + length b.bytes ≤ longest → HoldsAtMost at (b.bytes ++ y) most → most_of (box_effects at b held) ≤ most
+  box-most : (at : ℕ) (b : Item) (payload y : List ℕ) (buffered : Option ℕ) → most_held b.header.kind.0 ≡ buffered → IsBox b.header payload b.bytes → IsAllowed at b.bytes buffered → at + length b.bytes ≤ longest → HoldsAtMost at (b.bytes ++ y) most → most_of (box_effects at b buffered) ≤ most
   box-most at b payload y None e is may near w = omega arith
   box-most at b payload y (Some limit) e is may near w = omega (arith, front-most at b payload y limit is e may.0 near w)
 
@@ -86,14 +86,14 @@ module _ (most : ℕ) where
   rest-most at y r w (Open b is near e) = reads-most r _ e (omega arith)
   rest-most at y r w (OpenTooFar b is near far e) = reads-most r _ e (omega arith)
   rest-most at y r w (Large b s limit is large e) = reads-most r _ e (omega arith)
-  rest-most at y r w (Unsized b limit held size near e) = reads-most r _ e (omega arith)
-  rest-most at y r w (CutInHeld b s limit (held, size, near) small short e) =
-      let here = w.each s (record { boxes = []; rest = y; cut = refl; sound = tt; box = b; limit = limit; here = (held, size, omega (arith, near)); small = small }) in
+  rest-most at y r w (Unsized b limit buffered size near e) = reads-most r _ e (omega arith)
+  rest-most at y r w (CutInHeld b s limit (buffered, size, near) small short e) =
+      let here = w.each s (record { boxes = []; rest = y; cut = refl; sound = tt; box = b; limit = limit; here = (buffered, size, omega (arith, near)); small = small }) in
       reads-most r _ e (omega (arith, here))
-  rest-most at y r w (BadTree b limit f fs (held, size, near) small bad e) =
+  rest-most at y r w (BadTree b limit f fs (buffered, size, near) small bad e) =
       let own = subst (λ l. HoldsAtMost at l most) b.cut w in
       let item : Item = record { header = b.header; bytes = b.bytes } in
-      reads-most r _ e (omega (arith, front-most at item b.payload b.more limit b.is held small near own))
+      reads-most r _ e (omega (arith, front-most at item b.payload b.more limit b.is buffered small near own))
 
   -- no more is asked for than for the largest
   pub asks-most : (b : List ℕ) → IsBytes b → HoldsAtMost 0 b most → most_of (reading 0 b).effects ≤ most
@@ -109,11 +109,11 @@ asked-after r s u t at size e f = rw (e, f) (omega (arith, most-both t (both (re
 
 pub held-asks : (b : List ℕ) (size : ℕ) → HoldsBox 0 b size → size ≤ most_of (reading 0 b).effects
 held-asks b size h =
-    let (held, is, near) = h.here in
+    let (buffered, is, near) = h.here in
     let at = 0 + length (joined h.boxes) in
     let following = reading-boxes h.boxes 0 h.rest h.sound (omega (arith, near)) in
-    let there = reading-held at h.box.header h.limit size h.box.head h.box.more h.box.spelled held is near h.small in
-    asked-after (reading 0 b) (reading at h.rest) (then_read reading (held_body at h.box.header.kind size (h.box.head ++ h.box.more))) (boxes_effects 0 h.boxes) at size
+    let there = reading-held at h.box.header h.limit size h.box.header_bytes h.box.more h.box.spelled buffered is near h.small in
+    asked-after (reading 0 b) (reading at h.rest) (then_read reading (held_body at h.box.header.kind size (h.box.header_bytes ++ h.box.more))) (boxes_effects 0 h.boxes) at size
     (ap (reading 0) h.cut ∙ following) (ap (reading at) h.box.cut ∙ there)
 
 pub asks-exactly : (b : List ℕ) (most : ℕ) → IsBytes b → (most_of (reading 0 b).effects ≤ most) ↔ HoldsAtMost 0 b most

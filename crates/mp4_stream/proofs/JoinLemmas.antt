@@ -35,27 +35,27 @@ reading-loose at h size x y p loose e near =
 -- a box that is held, and isn't too large
 pub reading-held : (at : ℕ) (h : Header) (limit s : ℕ) (x y : List ℕ) → Head h x → most_held h.kind.0 ≡ Some limit → h.size ≡ Exact s → at + s ≤ longest → s ≤ limit
     → reading at (x ++ y) ≡ after (requests_memory at s) (then_read reading (held_body at h.kind s (x ++ y)))
-reading-held at h limit s x y p held e near fits = reading-headed at h x y p ∙ reading-holds at h x y limit s near held e fits
+reading-held at h limit s x y p buffered e near fits = reading-headed at h x y p ∙ reading-holds at h x y limit s near buffered e fits
 
 -- ---- a whole box
 
 loose_box : (at : ℕ) (h : Header) (payload x later : List ℕ) → IsBox h payload x → most_held h.kind.0 ≡ None → at + length x ≤ longest
     → reading at (x ++ later) ≡ after (says (box_line at h)) (reading (at + length x) later)
 loose_box at h payload x later is loose near =
-    let len : length x ≡ length is.head + length payload = ap length is.whole ∙ length-append is.head payload in
+    let len : length x ≡ length is.header_bytes + length payload = ap length is.whole ∙ length-append is.header_bytes payload in
     let rest : length x - h.header_len ≡ length payload = omega (arith, len, is.spelled.header_len) in
     let enough = nat_lt_false (length (payload ++ later)) (length payload) (omega (arith, length-append payload later)) in
-    ap (reading at) (ap (λ l. l ++ later) is.whole ∙ append_assoc is.head payload later)
-    ∙ reading-loose at h (Exact (length x)) is.head (payload ++ later) is.spelled loose is.size near
+    ap (reading at) (ap (λ l. l ++ later) is.whole ∙ append_assoc is.header_bytes payload later)
+    ∙ reading-loose at h (Exact (length x)) is.header_bytes (payload ++ later) is.spelled loose is.size near
     ∙ ap (λ n. after (says (box_line at h)) (then_read reading (body_item passed at h.kind (at + length x) n (payload ++ later)))) rest
     ∙ rw (enough, drop-append_seam payload later) (ap (after (says (box_line at h))) (after-silent (reading (at + length x) later)))
 
 -- all of a held box, read as such
 held_all : (at : ℕ) (h : Header) (limit : ℕ) (payload x later : List ℕ) → IsBox h payload x → most_held h.kind.0 ≡ Some limit → at + length x ≤ longest → length x ≤ limit
     → reading at (x ++ later) ≡ after (requests_memory at (length x)) (then_read reading (held_body at h.kind (length x) (x ++ later)))
-held_all at h limit payload x later is held near fits =
-    let apart : x ++ later ≡ is.head ++ (payload ++ later) = ap (λ l. l ++ later) is.whole ∙ append_assoc is.head payload later in
-    ap (reading at) apart ∙ reading-held at h limit (length x) is.head (payload ++ later) is.spelled held is.size near fits
+held_all at h limit payload x later is buffered near fits =
+    let apart : x ++ later ≡ is.header_bytes ++ (payload ++ later) = ap (λ l. l ++ later) is.whole ∙ append_assoc is.header_bytes payload later in
+    ap (reading at) apart ∙ reading-held at h limit (length x) is.header_bytes (payload ++ later) is.spelled buffered is.size near fits
     ∙ ap (λ l. after (requests_memory at (length x)) (then_read reading (held_body at h.kind (length x) l))) (sym apart)
 
 box_by_limit : (at : ℕ) (b : Item) (payload later : List ℕ) (most : Option ℕ) → most_held b.header.kind.0 ≡ most → IsBox b.header payload b.bytes → IsAllowed at b.bytes most → at + length b.bytes ≤ longest
@@ -92,23 +92,23 @@ reading-cut at s h x y p loose e near short =
 pub reading-open : (at : ℕ) (h : Header) (x y : List ℕ) → Head h x → most_held h.kind.0 ≡ None → h.size ≡ ToEnd → at + length (x ++ y) ≤ longest
     → reading at (x ++ y) ≡ after (says (box_line at h)) empty_reading
 reading-open at h x y p loose e near =
-    let head : at + h.header_len ≤ longest = omega (arith, length-append x y, p.header_len) in
-    reading-loose at h ToEnd x y p loose e head ∙ rw (nat_lt_false (longest - (at + h.header_len)) (length y) (omega (arith, length-append x y, p.header_len)), nat_lt_false (length y) 0 (omega arith)) refl
+    let header_bytes : at + h.header_len ≤ longest = omega (arith, length-append x y, p.header_len) in
+    reading-loose at h ToEnd x y p loose e header_bytes ∙ rw (nat_lt_false (longest - (at + h.header_len)) (length y) (omega (arith, length-append x y, p.header_len)), nat_lt_false (length y) 0 (omega arith)) refl
 
 pub reading-open_long : (at : ℕ) (h : Header) (x y : List ℕ) → Head h x → most_held h.kind.0 ≡ None → h.size ≡ ToEnd → at + length x ≤ longest → longest < at + length (x ++ y)
     → reading at (x ++ y) ≡ after (says (box_line at h)) (at_fault StreamTooLong (Some h.kind) at)
 reading-open_long at h x y p loose e near far =
-    let head : at + h.header_len ≤ longest = omega (arith, p.header_len) in
-    reading-loose at h ToEnd x y p loose e head ∙ rw (nat_lt_true (longest - (at + h.header_len)) (length y) (omega (arith, length-append x y, p.header_len))) refl
+    let header_bytes : at + h.header_len ≤ longest = omega (arith, p.header_len) in
+    reading-loose at h ToEnd x y p loose e header_bytes ∙ rw (nat_lt_true (longest - (at + h.header_len)) (length y) (omega (arith, length-append x y, p.header_len))) refl
 
 -- ---- a rest that is held
 
 pub reading-cut_held : (at limit s : ℕ) (h : Header) (x y : List ℕ) → Head h x → most_held h.kind.0 ≡ Some limit → h.size ≡ Exact s → at + s ≤ longest → s ≤ limit → length (x ++ y) < s
     → reading at (x ++ y) ≡ after (requests_memory at s) (cut_off Truncated (Some h.kind) at)
-reading-cut_held at limit s h x y p held e near fits short = reading-held at h limit s x y p held e near fits ∙ rw (nat_lt_true (length (x ++ y)) s short) refl
+reading-cut_held at limit s h x y p buffered e near fits short = reading-held at h limit s x y p buffered e near fits ∙ rw (nat_lt_true (length (x ++ y)) s short) refl
 
 pub reading-bad_held : (at limit : ℕ) (h : Header) (payload x later : List ℕ) (f : Fault) (fs : List Fault) → IsBox h payload x → most_held h.kind.0 ≡ Some limit → at + length x ≤ longest → length x ≤ limit → tree_faults at x ≡ f ∷ fs
     → reading at (x ++ later) ≡ after (requests_memory at (length x)) (record { effects = no_effects; outcome = Faulty f })
-reading-bad_held at limit h payload x later f fs is held near fits bad =
-    held_all at h limit payload x later is held near fits
+reading-bad_held at limit h payload x later f fs is buffered near fits bad =
+    held_all at h limit payload x later is buffered near fits
     ∙ ap (after (requests_memory at (length x))) (reading-bad_tree at h.kind (length x) x later f fs refl bad)

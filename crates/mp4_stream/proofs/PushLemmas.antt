@@ -45,7 +45,7 @@ holds-more meaning c b x kind size h = record {
   rest = h.rest ++ x;
   cut = ap (λ (y : List ℕ). y ++ x) h.cut ∙ append_assoc (joined h.items) h.rest x;
   sound = h.sound;
-  box = record { header = h.box.header; head = h.box.head; more = h.box.more ++ x; spelled = h.box.spelled; cut = ap (λ (y : List ℕ). y ++ x) h.box.cut ∙ append_assoc h.box.head h.box.more x };
+  box = record { header = h.box.header; header_bytes = h.box.header_bytes; more = h.box.more ++ x; spelled = h.box.spelled; cut = ap (λ (y : List ℕ). y ++ x) h.box.cut ∙ append_assoc h.box.header_bytes h.box.more x };
   type = h.type;
   limit = h.limit;
   here = h.here;

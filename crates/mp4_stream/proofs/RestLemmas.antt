@@ -26,10 +26,10 @@ use Rattle.mp4_stream.proofs.JoinLemmas.{reading-boxes, reading-unheaded, readin
 
 module _ (at : ℕ) (y : List ℕ) (r : Reading) where
   -- by the header that it begins with
-  headed : (b : Headed y) → reading at (b.head ++ b.more) ≡ r → reading at y ≡ r
+  headed : (b : Headed y) → reading at (b.header_bytes ++ b.more) ≡ r → reading at y ≡ r
   headed b e = ap (reading at) b.cut ∙ e
 
-  len_of : (b : Headed y) → length y ≡ length (b.head ++ b.more)
+  len_of : (b : Headed y) → length y ≡ length (b.header_bytes ++ b.more)
   len_of b = ap length b.cut
 
   pub rest-reads : IsBytes y → IsRest at y r → reading at y ≡ r
@@ -37,17 +37,17 @@ module _ (at : ℕ) (y : List ℕ) (r : Reading) where
   rest-reads fits (CutInHeader some short e) = reading-more at y some short ∙ sym e
   rest-reads fits (BadHeader whole none e) = reading-unheaded at y fits whole none ∙ sym e
   rest-reads fits (TooFar b far e) =
-      headed b (reading-whole at b.head b.more b.header (head-need b.header b.head b.spelled) (head-whole b.header b.head b.spelled) ∙ reading-too_long at b.header b.head b.more far ∙ sym e)
-  rest-reads fits (CutInBody b s (loose, size, near) short e) = headed b (reading-cut at s b.header b.head b.more b.spelled loose size near (omega (arith, len_of b, short)) ∙ sym e)
-  rest-reads fits (Open b (loose, size) near e) = headed b (reading-open at b.header b.head b.more b.spelled loose size (omega (arith, len_of b, near)) ∙ sym e)
-  rest-reads fits (OpenTooFar b (loose, size) near far e) = headed b (reading-open_long at b.header b.head b.more b.spelled loose size near (omega (arith, len_of b, far)) ∙ sym e)
-  rest-reads fits (Large b s limit (held, size, near) large e) =
-      headed b (reading-whole at b.head b.more b.header (head-need b.header b.head b.spelled) (head-whole b.header b.head b.spelled) ∙ reading-too_large at b.header b.head b.more limit s near held size large ∙ sym e)
-  rest-reads fits (Unsized b limit held size near e) =
-      headed b (reading-whole at b.head b.more b.header (head-need b.header b.head b.spelled) (head-whole b.header b.head b.spelled)
-      ∙ reading-held_to_end at b.header b.head b.more limit (omega (arith, near, b.spelled.header_len)) held size ∙ sym e)
-  rest-reads fits (CutInHeld b s limit (held, size, near) small short e) = headed b (reading-cut_held at limit s b.header b.head b.more b.spelled held size near small (omega (arith, len_of b, short)) ∙ sym e)
-  rest-reads fits (BadTree b limit f fs (held, size, near) small bad e) = ap (reading at) b.cut ∙ reading-bad_held at limit b.header b.payload b.bytes b.more f fs b.is held near small bad ∙ sym e
+      headed b (reading-whole at b.header_bytes b.more b.header (head-need b.header b.header_bytes b.spelled) (head-whole b.header b.header_bytes b.spelled) ∙ reading-too_long at b.header b.header_bytes b.more far ∙ sym e)
+  rest-reads fits (CutInBody b s (loose, size, near) short e) = headed b (reading-cut at s b.header b.header_bytes b.more b.spelled loose size near (omega (arith, len_of b, short)) ∙ sym e)
+  rest-reads fits (Open b (loose, size) near e) = headed b (reading-open at b.header b.header_bytes b.more b.spelled loose size (omega (arith, len_of b, near)) ∙ sym e)
+  rest-reads fits (OpenTooFar b (loose, size) near far e) = headed b (reading-open_long at b.header b.header_bytes b.more b.spelled loose size near (omega (arith, len_of b, far)) ∙ sym e)
+  rest-reads fits (Large b s limit (buffered, size, near) large e) =
+      headed b (reading-whole at b.header_bytes b.more b.header (head-need b.header b.header_bytes b.spelled) (head-whole b.header b.header_bytes b.spelled) ∙ reading-too_large at b.header b.header_bytes b.more limit s near buffered size large ∙ sym e)
+  rest-reads fits (Unsized b limit buffered size near e) =
+      headed b (reading-whole at b.header_bytes b.more b.header (head-need b.header b.header_bytes b.spelled) (head-whole b.header b.header_bytes b.spelled)
+      ∙ reading-held_to_end at b.header b.header_bytes b.more limit (omega (arith, near, b.spelled.header_len)) buffered size ∙ sym e)
+  rest-reads fits (CutInHeld b s limit (buffered, size, near) small short e) = headed b (reading-cut_held at limit s b.header b.header_bytes b.more b.spelled buffered size near small (omega (arith, len_of b, short)) ∙ sym e)
+  rest-reads fits (BadTree b limit f fs (buffered, size, near) small bad e) = ap (reading at) b.cut ∙ reading-bad_held at limit b.header b.payload b.bytes b.more f fs b.is buffered near small bad ∙ sym e
 
 -- ---- a whole box comes first
 
@@ -87,7 +87,7 @@ module _ (at : ℕ) (b : List ℕ) (near : at ≤ longest) (fits : IsBytes b) (h
 
   begins : Headed b
   unfolding x
-  begins = record { header = h; head = x; more = drop h.header_len b; spelled = read_is b h fits whole; cut = sym (take-append-drop h.header_len b) }
+  begins = record { header = h; header_bytes = x; more = drop h.header_len b; spelled = read_is b h fits whole; cut = sym (take-append-drop h.header_len b) }
 
   x_len : length (take h.header_len b) ≡ h.header_len
   x_len = length-take-le h.header_len b (omega (arith, w.0, w.1))
@@ -97,11 +97,11 @@ module _ (at : ℕ) (b : List ℕ) (near : at ≤ longest) (fits : IsBytes b) (h
   box_of s size enough =
       let room : h.header_len ≤ s = subst (λ z. HasRoom z h.header_len) size (room_of b h whole) in
       let len : length (take s b) ≡ s = length-take-le s b enough in
-      let head : take h.header_len (take s b) ≡ take h.header_len b = sym (take-append-le h.header_len (take s b) (drop s b) (omega (arith, len, room))) ∙ ap (take h.header_len) (take-append-drop s b) in
+      let header_bytes : take h.header_len (take s b) ≡ take h.header_len b = sym (take-append-le h.header_len (take s b) (drop s b) (omega (arith, len, room))) ∙ ap (take h.header_len) (take-append-drop s b) in
       record {
-        head = take h.header_len b;
+        header_bytes = take h.header_len b;
         spelled = read_is b h fits whole;
-        whole = sym (take-append-drop h.header_len (take s b)) ∙ ap (λ l. l ++ drop h.header_len (take s b)) head;
+        whole = sym (take-append-drop h.header_len (take s b)) ∙ ap (λ l. l ++ drop h.header_len (take s b)) header_bytes;
         size = size ∙ ap Exact (sym len);
       }
 
@@ -123,32 +123,32 @@ module _ (at : ℕ) (b : List ℕ) (near : at ≤ longest) (fits : IsBytes b) (h
   ]
 
   good_tree : (limit s : ℕ) → h.size ≡ Exact s → most_held h.kind.0 ≡ Some limit → at + s ≤ longest → s ≤ limit → s ≤ length b → (fs : List Fault) → tree_faults at (take s b) ≡ fs → Split at b
-  good_tree limit s size held end small enough [] good =
+  good_tree limit s size buffered end small enough [] good =
       let some : 0 < s = omega (arith, subst (λ z. HasRoom z h.header_len) size (room_of b h whole), w.1, need-least b) in
       let len = length-take-le s b enough in
       let item : Item = record { header = h; bytes = take s b } in
-      first at s b item (drop h.header_len (take s b)) refl len (box_of s size enough) (subst (IsAllowed at (take s b)) (sym held) (omega (arith, len, small), good)) (go s some enough end)
-  good_tree limit s size held end small enough (f ∷ fs) bad =
+      first at s b item (drop h.header_len (take s b)) refl len (box_of s size enough) (subst (IsAllowed at (take s b)) (sym buffered) (omega (arith, len, small), good)) (go s some enough end)
+  good_tree limit s size buffered end small enough (f ∷ fs) bad =
       let len = length-take-le s b enough in
       let whole : Boxed b = record { header = h; payload = drop h.header_len (take s b); bytes = take s b; more = drop s b; is = box_of s size enough; cut = sym (take-append-drop s b) } in
-      only at b _ near (BadTree whole limit f fs (held, size ∙ ap Exact (sym len), omega (arith, len, end)) (omega (arith, len, small)) bad refl)
+      only at b _ near (BadTree whole limit f fs (buffered, size ∙ ap Exact (sym len), omega (arith, len, end)) (omega (arith, len, small)) bad refl)
 
   buffered_box : (limit s : ℕ) → h.size ≡ Exact s → most_held h.kind.0 ≡ Some limit → at + s ≤ longest → Split at b
   unfolding begins x
-  buffered_box limit s size held end = elim (cases_lt limit s) [
-    | inl large ↦ only at b _ near (Large begins s limit (held, size, end) large refl)
+  buffered_box limit s size buffered end = elim (cases_lt limit s) [
+    | inl large ↦ only at b _ near (Large begins s limit (buffered, size, end) large refl)
     | inr small ↦ elim (cases_lt (length b) s) [
-      | inl short ↦ only at b _ near (CutInHeld begins s limit (held, size, end) small short refl)
-      | inr enough ↦ good_tree limit s size held end small enough (tree_faults at (take s b)) refl
+      | inl short ↦ only at b _ near (CutInHeld begins s limit (buffered, size, end) small short refl)
+      | inr enough ↦ good_tree limit s size buffered end small enough (tree_faults at (take s b)) refl
     ]
   ]
 
   by_size : (size : Size) (most : Option ℕ) → h.size ≡ size → most_held h.kind.0 ≡ most → least_end at h size ≤ longest → Split at b
   unfolding begins x
-  by_size (Exact s) None e held end = loose s e held end
-  by_size ToEnd None e held end = open_box e held end
-  by_size (Exact s) (Some limit) e held end = buffered_box limit s e held end
-  by_size ToEnd (Some limit) e held end = only at b _ near (Unsized begins limit held e (omega (arith, end, x_len)) refl)
+  by_size (Exact s) None e buffered end = loose s e buffered end
+  by_size ToEnd None e buffered end = open_box e buffered end
+  by_size (Exact s) (Some limit) e buffered end = buffered_box limit s e buffered end
+  by_size ToEnd (Some limit) e buffered end = only at b _ near (Unsized begins limit buffered e (omega (arith, end, x_len)) refl)
 
   pub by_header : Split at b
   unfolding begins x

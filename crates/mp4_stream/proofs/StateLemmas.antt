@@ -50,11 +50,11 @@ pub accepts_head : {a : Change} (at : ℕ) (old : List ℕ) {x new : List ℕ} �
 accepts_head {a = a} at old {x = x} {new = new} e = record { claim = omega arith; goes = GoesOn-gathered a.before (reading at) at 0 old x new e }
 
 -- a header that came byte by byte has the same effects as one that came at once
-pub GoesTo-begun : {a : Change} (at : ℕ) (head : List ℕ) {s : Continuation} → GoesTo a (at_header at) head s → GoesTo a (in_header at head) [] s
-GoesTo-begun {a = a} at head {s = s} g = GoesTo-after head refl (λ later. refl) [] (omega arith) (subst (λ l. GoesTo a (at_header at) l s) (sym (append-nil head)) g)
+pub GoesTo-begun : {a : Change} (at : ℕ) (header_bytes : List ℕ) {s : Continuation} → GoesTo a (at_header at) header_bytes s → GoesTo a (in_header at header_bytes) [] s
+GoesTo-begun {a = a} at header_bytes {s = s} g = GoesTo-after header_bytes refl (λ later. refl) [] (omega arith) (subst (λ l. GoesTo a (at_header at) l s) (sym (append-nil header_bytes)) g)
 
-pub StopsIn-begun : {a : Change} (at : ℕ) (head : List ℕ) {e : Stop} → StopsIn a (at_header at) head e → StopsIn a (in_header at head) [] e
-StopsIn-begun at head h = StopsIn-after head refl (λ later. refl) h
+pub StopsIn-begun : {a : Change} (at : ℕ) (header_bytes : List ℕ) {e : Stop} → StopsIn a (at_header at) header_bytes e → StopsIn a (in_header at header_bytes) [] e
+StopsIn-begun at header_bytes h = StopsIn-after header_bytes refl (λ later. refl) h
 
 -- all bytes of a header are taken
 pub all_taken : {n : ℕ} {x : List ℕ} {h : Header} → n ≤ length x → h.header_len ≤ n → length x ≤ need x → header_at x ≡ steps.Whole h → take n x ≡ x
@@ -63,11 +63,11 @@ all_taken {n = n} {x = x} {h = h} most all len is =
     ap (λ k. take k x) same ∙ take-length x
 
 -- the bytes of a header that came are none
-pub Refuses-bad : (o : Environment) (at : ℕ) (head more : List ℕ) → length head ≡ need head → header_at head ≡ steps.BadSize → Refuses o o (in_header at head) more (fault BadSize (kind_of head) at)
-Refuses-bad o at head more len is = record {
+pub Refuses-bad : (o : Environment) (at : ℕ) (header_bytes more : List ℕ) → length header_bytes ≡ need header_bytes → header_at header_bytes ≡ steps.BadSize → Refuses o o (in_header at header_bytes) more (fault BadSize (kind_of header_bytes) at)
+Refuses-bad o at header_bytes more len is = record {
   produced = no_effects;
   moves = Moves-none o 0;
-  rest = λ later. reading-bad at head (more ++ later) len is;
+  rest = λ later. reading-bad at header_bytes (more ++ later) len is;
 }
 
 -- ---- the input x that begins with the header of a box
@@ -105,14 +105,14 @@ module _ (o : Environment) (at : ℕ) (h : Header) (x : List ℕ) (is : header_a
 
   -- it is to be held, and has no size or one that is too large
   pub Refuses-large : (more : List ℕ) (limit s : ℕ) → at + s ≤ longest → most_held h.kind.0 ≡ Some limit → h.size ≡ Exact s → limit < s → Refuses o o (at_header at) (x ++ more) (fault TooLarge (Some h.kind) at)
-  Refuses-large more limit s near held size large =
+  Refuses-large more limit s near buffered size large =
       Refuses-there o o (at_header at) x more (fault TooLarge (Some h.kind) at) (Moves-none o 0)
-      (λ later. reading-begins at h x later is ∙ reading-too_large at h (take h.header_len x) (drop h.header_len x ++ later) limit s near held size large)
+      (λ later. reading-begins at h x later is ∙ reading-too_large at h (take h.header_len x) (drop h.header_len x ++ later) limit s near buffered size large)
 
   pub Refuses-open : (more : List ℕ) (limit : ℕ) → at + h.header_len ≤ longest → most_held h.kind.0 ≡ Some limit → h.size ≡ ToEnd → Refuses o o (at_header at) (x ++ more) (fault TooLarge (Some h.kind) at)
-  Refuses-open more limit near held size =
+  Refuses-open more limit near buffered size =
       Refuses-there o o (at_header at) x more (fault TooLarge (Some h.kind) at) (Moves-none o 0)
-      (λ later. reading-begins at h x later is ∙ reading-held_to_end at h (take h.header_len x) (drop h.header_len x ++ later) limit near held size)
+      (λ later. reading-begins at h x later is ∙ reading-held_to_end at h (take h.header_len x) (drop h.header_len x ++ later) limit near buffered size)
 
 -- a claim that is refused is no failed write
 not_written : (r : Refused) → refusal_of r ≡ Write → ⊥
@@ -142,10 +142,10 @@ state-sized at h b (size, is, room, same, near) = rw same (refl, omega (arith, r
 
 -- ---- the input x that begins with the header of a box that is to be held
 
-module _ (o : Environment) (at : ℕ) (h : Header) (x : List ℕ) (is : header_at x ≡ steps.Whole h) (limit s : ℕ) (near : at + s ≤ longest) (held : most_held h.kind.0 ≡ Some limit) (size : h.size ≡ Exact s) (fits : s ≤ limit) where
+module _ (o : Environment) (at : ℕ) (h : Header) (x : List ℕ) (is : header_at x ≡ steps.Whole h) (limit s : ℕ) (near : at + s ≤ longest) (buffered : most_held h.kind.0 ≡ Some limit) (size : h.size ≡ Exact s) (fits : s ≤ limit) where
   reading-claims : (later : List ℕ) → reading at (x ++ later) ≡ after (requests_memory at s) (then_read reading (held_body at h.kind s (x ++ later)))
   reading-claims later =
-      reading-begins at h x later is ∙ reading-holds at h (take h.header_len x) (drop h.header_len x ++ later) limit s near held size fits
+      reading-begins at h x later is ∙ reading-holds at h (take h.header_len x) (drop h.header_len x ++ later) limit s near buffered size fits
       ∙ ap (λ l. after (requests_memory at s) (then_read reading (held_body at h.kind s l))) (apart h.header_len x later)
 
   -- room for it was claimed
@@ -188,7 +188,7 @@ pub record GivesWhole (o : Environment) (at : ℕ) (h : Header) (size : ℕ) (in
   pub come : HasCome (box_come at h size input) (claimed o.account size) (box_of at h (take size input))
 
 pub come_whole : (o : Environment) (at : ℕ) (h : Header) (input : List ℕ) → header_at input ≡ steps.Whole h → (limit size : ℕ) → at + size ≤ longest → most_held h.kind.0 ≡ Some limit → h.size ≡ Exact size → size ≤ limit → (h.header_len ≤ size) × (size ≤ length input) → GivesWhole o at h size input
-come_whole o at h input is limit size near held sized fits room =
+come_whole o at h input is limit size near buffered sized fits room =
     let x = take size input in
     let w = whole_is input h is in
     let some : 0 < size = omega (arith, room.0, w.1, need-least input) in
@@ -196,7 +196,7 @@ come_whole o at h input is limit size near held sized fits room =
     let front = take-is size input h is room.0 in
     record {
       some = some;
-      goes = GoesOn-claim o at h x front limit size near held sized fits some;
+      goes = GoesOn-claim o at h x front limit size near buffered sized fits some;
       come = record { is = found at x h front (sized ∙ ap Exact (sym len)); len = len; claim = omega arith };
     }
 

@@ -60,7 +60,7 @@ pub data IsRest (at : ℕ) (y : List ℕ) (r : Reading) : Type 0 where
       (b : Headed y) → IsOpen b.header → at + length y ≤ longest
       → r ≡ after (says (box_line at b.header)) empty_reading → IsRest at y r
   OpenTooFar :
-      (b : Headed y) → IsOpen b.header → at + length b.head ≤ longest → longest < at + length y
+      (b : Headed y) → IsOpen b.header → at + length b.header_bytes ≤ longest → longest < at + length y
       → r ≡ after (says (box_line at b.header)) (at_fault StreamTooLong (Some b.header.kind) at) → IsRest at y r
   -- a moov or moof that is too large, or states no size
   Large :
@@ -68,7 +68,7 @@ pub data IsRest (at : ℕ) (y : List ℕ) (r : Reading) : Type 0 where
       → r ≡ at_fault TooLarge (Some b.header.kind) at → IsRest at y r
   Unsized :
       (b : Headed y) (limit : ℕ) → most_held b.header.kind.0 ≡ Some limit → b.header.size ≡ ToEnd
-      → at + length b.head ≤ longest
+      → at + length b.header_bytes ≤ longest
       → r ≡ at_fault TooLarge (Some b.header.kind) at → IsRest at y r
   -- one that isn't whole, or has a fault in its tree
   CutInHeld :

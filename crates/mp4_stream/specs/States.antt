@@ -20,7 +20,7 @@ use Rattle.mp4_stream.specs.declared.state.State.TheVariants as states
 
 -- in the header of the box at an offset, after these bytes of it
 abbrev pub in_header : ℕ → List ℕ → Continuation
-in_header at head = gathering (reading at) at 0 head
+in_header at header_bytes = gathering (reading at) at 0 header_bytes
 
 -- before the header
 abbrev pub at_header : ℕ → Continuation
@@ -36,17 +36,17 @@ in_box h = gathering (λ bytes. then_read reading (held_body h.at h.kind h.size 
 
 -- in this state, after these bytes of a header
 abbrev pub continuation_at : List ℕ → State → Continuation
-continuation_at head (states.Header at) = in_header at head
-continuation_at head (states.Buffering h) = in_box h
-continuation_at head (states.Body b) = in_body reading passed b.next 0 b
-continuation_at head (states.OpenBody b) = in_open_body reading passed 0 b
+continuation_at header_bytes (states.Header at) = in_header at header_bytes
+continuation_at header_bytes (states.Buffering h) = in_box h
+continuation_at header_bytes (states.Body b) = in_body reading passed b.next 0 b
+continuation_at header_bytes (states.OpenBody b) = in_open_body reading passed 0 b
 
 -- offsets are at most 2^62, except within a header that crosses it; and only in a header there are bytes of one
 abbrev pub IsState : List ℕ → State → Type 0
-IsState head (states.Header at) = (length head < need head) × (at ≤ longest)
-IsState head (states.Buffering h) = (head ≡ []) × (length h.bytes < h.size) × (h.at + h.size ≤ longest) × Begins h.size h.bytes
-IsState head (states.Body b) = (head ≡ []) × (0 < b.left) × (b.left ≤ b.next) × (b.next ≤ longest)
-IsState head (states.OpenBody b) = (head ≡ []) × (b.left ≤ longest) × (b.needed ≡ 0)
+IsState header_bytes (states.Header at) = (length header_bytes < need header_bytes) × (at ≤ longest)
+IsState header_bytes (states.Buffering h) = (header_bytes ≡ []) × (length h.bytes < h.size) × (h.at + h.size ≤ longest) × Begins h.size h.bytes
+IsState header_bytes (states.Body b) = (header_bytes ≡ []) × (0 < b.left) × (b.left ≤ b.next) × (b.next ≤ longest)
+IsState header_bytes (states.OpenBody b) = (header_bytes ≡ []) × (b.left ≤ longest) × (b.needed ≡ 0)
 
 -- the box at an offset with this header that these bytes are
 abbrev pub box_of : ℕ → Header → List ℕ → Box
@@ -62,12 +62,12 @@ pub record HasCome (h : Buffering) (a : Account) (b : Box) : Type 0 where
 
 -- the visible part of a machine: the bytes of a header so far, and its state
 pub record Progress : Type 0 where
-  pub head : List ℕ
+  pub header_bytes : List ℕ
   pub state : State
 
 -- one to which no byte has come
 abbrev pub begun : Progress
-begun = record { head = []; state = states.Header 0 }
+begun = record { header_bytes = []; state = states.Header 0 }
 
 -- environment of a machine that lists boxes, which counts nothing
 abbrev pub environment : Option (List ℕ) → Pending → Account → Environment

@@ -53,7 +53,7 @@ pub(crate) fn begin_held<W: Sink>(
     requires room { HasRoom header.now.size header.now.header_len }
     requires is { header_at input.now ≡ steps.Whole header.now }
     requires end { least_end at header.now header.now.size ≤ longest }
-    requires held { most_held header.now.kind.0 ≡ Some limit }
+    requires buffered { most_held header.now.kind.0 ≡ Some limit }
     ensures consumes { Consumes (change (sent W.contents W.has_failed w.old w.new)
         out.old out.new ledger.old ledger.new) [] [] (states.Header at) input.now result }
     ensures all { IfOk result (λ t. header.now.header_len ≤ t.count) }
@@ -68,9 +68,9 @@ pub(crate) fn begin_held<W: Sink>(
         return take_whole(at, header, size as usize, input, ledger, out, w);
     }
     match BufferedBox::claim(ledger, at, header.kind, size, input) {
-        Ok(held) => Ok(Taken {
+        Ok(buffered) => Ok(Taken {
             count: input.len(),
-            state: State::Buffering(held),
+            state: State::Buffering(buffered),
         }),
         Err(refused) => Err(Stop::of_refusal(refused)),
     }
@@ -95,7 +95,7 @@ fn take_whole<W: Sink>(
     requires is { header_at input.now ≡ steps.Whole header.now }
     requires size { header.now.size ≡ Exact size }
     requires room { (header.now.header_len ≤ size) × (size ≤ length input.now) }
-    requires held { (limit : ℕ) × (most_held header.now.kind.0 ≡ Some limit) × (size ≤ limit) }
+    requires buffered { (limit : ℕ) × (most_held header.now.kind.0 ≡ Some limit) × (size ≤ limit) }
     requires end { at + size ≤ longest }
     ensures consumes { Consumes (change (sent W.contents W.has_failed w.old w.new)
         out.old out.new ledger.old ledger.new) [] [] (states.Header at) input.now result }
@@ -122,21 +122,21 @@ fn take_whole<W: Sink>(
 ///
 /// As [`hold`].
 pub(crate) fn take_held<W: Sink>(
-    held: BufferedBox,
+    buffered: BufferedBox,
     input: &[u8],
     ledger: &mut Ledger,
     out: &mut Block,
     w: &mut W,
 ) -> Result<Taken, Stop>
     requires some { 0 < length input.now }
-    requires state { IsState [] (states.Buffering held) }
-    requires claim { held.size ≤ ledger.old.live }
+    requires state { IsState [] (states.Buffering buffered) }
+    requires claim { buffered.size ≤ ledger.old.live }
     ensures { Consumes (change (sent W.contents W.has_failed w.old w.new)
-        out.old out.new ledger.old ledger.new) [] [] (states.Buffering held) input.now result }
+        out.old out.new ledger.old ledger.new) [] [] (states.Buffering buffered) input.now result }
 {
-    let mut held = held;
-    let count = held.take(input);
-    match hold(held, ledger, out, w) {
+    let mut buffered = buffered;
+    let count = buffered.take(input);
+    match hold(buffered, ledger, out, w) {
         Ok(state) => Ok(Taken { count, state }),
         Err(stop) => Err(stop),
     }
@@ -148,23 +148,23 @@ pub(crate) fn take_held<W: Sink>(
 ///
 /// As [`list_held`]: it is given back then.
 fn hold<W: Sink>(
-    held: BufferedBox,
+    buffered: BufferedBox,
     ledger: &mut Ledger,
     out: &mut Block,
     w: &mut W,
 ) -> Result<State, Stop>
-    requires begins { Begins held.size held.bytes }
-    requires near { held.at + held.size ≤ longest }
-    requires claim { held.size ≤ ledger.old.live }
+    requires begins { Begins buffered.size buffered.bytes }
+    requires near { buffered.at + buffered.size ≤ longest }
+    requires claim { buffered.size ≤ ledger.old.live }
     ensures { Advances (change (sent W.contents W.has_failed w.old w.new)
-        out.old out.new ledger.old ledger.new) [] [] (states.Buffering held) result }
+        out.old out.new ledger.old ledger.new) [] [] (states.Buffering buffered) result }
 {
-    if !held.is_whole() {
-        return Ok(State::Buffering(held));
+    if !buffered.is_whole() {
+        return Ok(State::Buffering(buffered));
     }
-    let at = held.offset() + held.size();
-    let listed = list_held(&held, out, w);
-    held.back(ledger);
+    let at = buffered.offset() + buffered.size();
+    let listed = list_held(&buffered, out, w);
+    buffered.back(ledger);
     match listed {
         Ok(()) => Ok(State::Header { at }),
         Err(stop) => Err(stop),

@@ -28,18 +28,18 @@ use mp4_machine::{Block, HeaderBytes, HeaderStatus, Stop, at_fault, is_too_long,
 pub(crate) fn take_header<W: Sink>(
     at: u64,
     input: &[u8],
-    head: &mut HeaderReader,
+    header_bytes: &mut HeaderReader,
     ledger: &mut Ledger,
     out: &mut Block,
     w: &mut W,
 ) -> Result<Taken, Stop>
     requires some { 0 < length input.now }
-    requires state { IsState head.old (states.Header at) }
+    requires state { IsState header_bytes.old (states.Header at) }
     ensures { Consumes (change (sent W.contents W.has_failed w.old w.new)
         out.old out.new ledger.old ledger.new)
-        head.old head.new (states.Header at) input.now result }
+        header_bytes.old header_bytes.new (states.Header at) input.now result }
 {
-    match next_header(head, input) {
+    match next_header(header_bytes, input) {
         HeaderStatus::More { count } => Ok(Taken {
             count,
             state: State::Header { at },

@@ -36,7 +36,7 @@ mod state;
 mod step;
 
 pub use fragments::{check, samples, split};
-pub use mp4_box::{Fault, FourCc, Rule, vectors};
+pub use mp4_box::{Fault, FourCc, Rule};
 pub use mp4_cut::Cut;
 pub use mp4_ends::{Failed, FromRead, IntoWrite, Sink, Source, ends, write_all};
 pub use mp4_ledger::Ledger;

@@ -21,15 +21,19 @@ use mp4_machine::{Block, BufferedBox, Stop};
 /// # Errors
 ///
 /// As [`list_box`].
-pub(crate) fn list_held<W: Sink>(held: &BufferedBox, out: &mut Block, w: &mut W) -> Result<(), Stop>
-    requires begins { Begins held.now.size held.now.bytes }
-    requires whole { length held.now.bytes ≡ held.now.size }
-    ensures { (a : Account) → held.now.size ≤ a.live →
+pub(crate) fn list_held<W: Sink>(
+    buffered: &BufferedBox,
+    out: &mut Block,
+    w: &mut W,
+) -> Result<(), Stop>
+    requires begins { Begins buffered.now.size buffered.now.bytes }
+    requires whole { length buffered.now.bytes ≡ buffered.now.size }
+    ensures { (a : Account) → buffered.now.size ≤ a.live →
         Leads (change (sent W.contents W.has_failed w.old w.new)
-        out.old out.new a (given_back a held.now.size))
-        (in_box held.now) (at_header (held.now.at + held.now.size)) result }
+        out.old out.new a (given_back a buffered.now.size))
+        (in_box buffered.now) (at_header (buffered.now.at + buffered.now.size)) result }
 {
-    list_box(&whole_held(held.bytes(), held.offset()), out, w)
+    list_box(&whole_held(buffered.bytes(), buffered.offset()), out, w)
 }
 
 /// The box that the bytes are.

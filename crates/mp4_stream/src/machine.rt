@@ -18,7 +18,7 @@ use std::mem::replace;
 /// A machine that lists boxes. What it has claimed must be given back.
 pub(crate) struct BoxMachine {
     /// The bytes of a header so far.
-    head: HeaderReader,
+    header_bytes: HeaderReader,
     state: State,
 }
 
@@ -28,9 +28,9 @@ impl Model for BoxMachine {
 
     ghost Value = { Progress };
 
-    ghost view = { λ m. record { head = m.head; state = m.state } };
+    ghost view = { λ m. record { header_bytes = m.header_bytes; state = m.state } };
 
-    ghost invariant = { λ m. IsState m.head m.state };
+    ghost invariant = { λ m. IsState m.header_bytes m.state };
 }
 
 impl BoxMachine {
@@ -39,17 +39,20 @@ impl BoxMachine {
         ensures { result ≡ begun }
     {
         BoxMachine {
-            head: HeaderReader::new(),
+            header_bytes: HeaderReader::new(),
             state: nothing_held(),
         }
     }
 
     /// Gives back all that is claimed.
     pub(crate) fn give_up(self, ledger: &mut Ledger)
-        requires { (continuation_at self.head self.state).claim ≤ ledger.old.live }
-        ensures { ledger.new ≡ given_back ledger.old (continuation_at self.head self.state).claim }
+        requires { (continuation_at self.header_bytes self.state).claim ≤ ledger.old.live }
+        ensures { ledger.new ≡ given_back ledger.old (continuation_at self.header_bytes self.state).claim }
     {
-        let BoxMachine { head: _, state } = self;
+        let BoxMachine {
+            header_bytes: _,
+            state,
+        } = self;
         back_state(state, ledger);
     }
 }
@@ -57,7 +60,7 @@ impl BoxMachine {
 impl Machine for BoxMachine {
     ghost task = { λ _. tt };
 
-    ghost continuation = { λ m. continuation_at m.head m.state };
+    ghost continuation = { λ m. continuation_at m.header_bytes m.state };
 
     ghost counted = { λ _. uncounted };
 
@@ -69,7 +72,7 @@ impl Machine for BoxMachine {
         w: &mut W,
     ) -> Result<usize, Stop> {
         let state = replace(&mut self.state, nothing_held());
-        match take_next(state, input, &mut self.head, ledger, out, w) {
+        match take_next(state, input, &mut self.header_bytes, ledger, out, w) {
             Ok(Taken { count, state }) => {
                 put_state(&mut self.state, state);
                 Ok(count)
@@ -81,12 +84,12 @@ impl Machine for BoxMachine {
     fn finish(&self) -> Result<(), Fault> {
         match &self.state {
             State::Header { at } => {
-                if self.head.is_empty() {
+                if self.header_bytes.is_empty() {
                     return Ok(());
                 }
-                Err(truncated(self.head.kind(), *at))
+                Err(truncated(self.header_bytes.kind(), *at))
             }
-            State::Buffering(held) => Err(truncated(Some(held.kind()), held.offset())),
+            State::Buffering(buffered) => Err(truncated(Some(buffered.kind()), buffered.offset())),
             State::Body(body) => Err(truncated(Some(body.kind), body.at)),
             State::OpenBody(body) => body.end(),
         }
@@ -94,7 +97,7 @@ impl Machine for BoxMachine {
 
     fn give_back(&mut self, ledger: &mut Ledger) {
         back_state(replace(&mut self.state, nothing_held()), ledger);
-        self.head = HeaderReader::new();
+        self.header_bytes = HeaderReader::new();
     }
 }
 

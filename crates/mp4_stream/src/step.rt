@@ -24,20 +24,20 @@ use mp4_machine::{Block, Stop};
 pub(crate) fn take_next<W: Sink>(
     state: State,
     input: &[u8],
-    head: &mut HeaderReader,
+    header_bytes: &mut HeaderReader,
     ledger: &mut Ledger,
     out: &mut Block,
     w: &mut W,
 ) -> Result<Taken, Stop>
     requires some { 0 < length input.now }
-    requires state { IsState head.old state }
-    requires claim { (continuation_at head.old state).claim ≤ ledger.old.live }
+    requires state { IsState header_bytes.old state }
+    requires claim { (continuation_at header_bytes.old state).claim ≤ ledger.old.live }
     ensures { Consumes (change (sent W.contents W.has_failed w.old w.new)
-        out.old out.new ledger.old ledger.new) head.old head.new state input.now result }
+        out.old out.new ledger.old ledger.new) header_bytes.old header_bytes.new state input.now result }
 {
     match state {
-        State::Header { at } => take_header(at, input, head, ledger, out, w),
-        State::Buffering(held) => take_held(held, input, ledger, out, w),
+        State::Header { at } => take_header(at, input, header_bytes, ledger, out, w),
+        State::Buffering(buffered) => take_held(buffered, input, ledger, out, w),
         State::Body(body) => Ok(take_body(body, input)),
         State::OpenBody(body) => take_open(body, input),
     }
@@ -52,7 +52,7 @@ pub(crate) fn back_state(state: State, ledger: &mut Ledger)
         State::Header { at } => {
             let _ = at;
         }
-        State::Buffering(held) => held.back(ledger),
+        State::Buffering(buffered) => buffered.back(ledger),
         State::Body(_) | State::OpenBody(_) => {}
     }
 }

@@ -6,14 +6,14 @@ use Rattle.cut_pieces.proofs.put_all.Goals as goal
 
 pub loop-piece-init : goal.loop-piece-init
 loop-piece-init c =
-    subst (AllByRecursion (IsPieceOf c.args.held.now c.args.run.now)) (sym (c.into_iter-piece-iterator.ensures.into_iter_gives ∙ c.of-piece-items.ensures)) (pieces_are_of c.args.cut.now c.args.held.now c.args.run.now)
+    subst (AllByRecursion (IsPieceOf c.args.moof_bytes.now c.args.run.now)) (sym (c.into_iter-piece-iterator.ensures.into_iter_gives ∙ c.of-piece-items.ensures)) (pieces_are_of c.args.cut.now c.args.moof_bytes.now c.args.run.now)
 
 pub put_moof-requires-clause-piece : goal.put_moof-requires-clause-piece
 put_moof-requires-clause-piece c =
-    let all : AllByRecursion (IsPieceOf c.args.held.now c.args.run.now) (c.in-Some.piece ∷ c.next.new.self) = subst (AllByRecursion (IsPieceOf c.args.held.now c.args.run.now)) c.in-Some.ensures.steps c.loop-piece.invariant in
+    let all : AllByRecursion (IsPieceOf c.args.moof_bytes.now c.args.run.now) (c.in-Some.piece ∷ c.next.new.self) = subst (AllByRecursion (IsPieceOf c.args.moof_bytes.now c.args.run.now)) c.in-Some.ensures.steps c.loop-piece.invariant in
     all.0
 
 pub loop-piece-preserved : goal.loop-piece-preserved
 loop-piece-preserved c =
-    let all : AllByRecursion (IsPieceOf c.args.held.now c.args.run.now) (c.in-Some.piece ∷ c.next.new.self) = subst (AllByRecursion (IsPieceOf c.args.held.now c.args.run.now)) c.in-Some.ensures.steps c.loop-piece.invariant in
+    let all : AllByRecursion (IsPieceOf c.args.moof_bytes.now c.args.run.now) (c.in-Some.piece ∷ c.next.new.self) = subst (AllByRecursion (IsPieceOf c.args.moof_bytes.now c.args.run.now)) c.in-Some.ensures.steps c.loop-piece.invariant in
     all.1

@@ -4,4 +4,4 @@ use Rattle.cut_pieces.proofs.put_all.Given as goal
 
 -- those that are left are pieces of the run
 abbrev pub invariant-loop-piece : goal.invariant-loop-piece
-invariant-loop-piece l = AllByRecursion (IsPieceOf l.held l.run) l.piece-iterator
+invariant-loop-piece l = AllByRecursion (IsPieceOf l.moof_bytes l.run) l.piece-iterator

@@ -9,7 +9,7 @@ use super::rows::with_empty_samples;
 use super::{joined, words_of};
 use fmp4_program::run;
 use mp4_stream::ends::{FromSlice, ToVec};
-use mp4_stream::vectors::V1;
+use mp4_vectors::V1;
 use mp4_stream::{Failed, Sink, Source};
 use std::alloc::{AllocError, Global};
 use std::cell::Cell;

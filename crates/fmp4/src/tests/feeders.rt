@@ -9,7 +9,7 @@ use super::joined;
 use super::split_stops::{before_a_large_moof, with_a_large_moof};
 use super::splits::{by_two, tracks_by_two};
 use mp4_stream::ends::ToVec;
-use mp4_stream::vectors::{V1, V2};
+use mp4_vectors::{V1, V2};
 use mp4_stream::{Cut, Fault, Feeder, FourCc, Ledger, Rule, Stop, Totals, split_pieces};
 use std::alloc::Global;
 use std::process::Abort;

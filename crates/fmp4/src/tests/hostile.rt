@@ -5,7 +5,7 @@ use super::fragments::check_fault;
 use super::layouts::MFHD;
 use super::splits::{BY_TWO, by_two, check_split};
 use super::{FTYP, MDAT, MOOF, MOOV, check_rows, joined};
-use mp4_stream::vectors::V1;
+use mp4_vectors::V1;
 use mp4_stream::{Fault, FourCc, Rule, Stop};
 use std::alloc::Global;
 use std::process::Abort;

@@ -6,7 +6,7 @@ use super::fragments::{COUNTS, SAMPLES};
 use super::split_stops::with_a_large_moof;
 use super::{FTYP, MDAT, MOOF, MOOV, check_words, joined};
 use mp4_stream::ends::{FromSlice, ToVec};
-use mp4_stream::vectors::V1;
+use mp4_vectors::V1;
 use mp4_stream::{Cut, Fault, FourCc, Ledger, Rule, Stop, Totals, boxes, check, samples, split};
 use std::alloc::Global;
 use std::process::Abort;

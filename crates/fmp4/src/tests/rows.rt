@@ -5,7 +5,7 @@ ghost use Rattle.std.specs.Prelude.{◌≡◌, ◌<◌, false};
 use super::joined;
 use super::layouts::MFHD;
 use mp4_stream::ends::FromSlice;
-use mp4_stream::vectors::V1;
+use mp4_vectors::V1;
 use mp4_stream::{Cut, Failed, Ledger, Sink, Totals, split};
 use std::alloc::{AllocError, Global};
 use std::process::Abort;

@@ -6,7 +6,7 @@ use super::joined;
 use super::layouts::MFHD;
 use super::splits::{by_two, check_split};
 use mp4_stream::ends::{FromSlice, ToVec};
-use mp4_stream::vectors::V1;
+use mp4_vectors::V1;
 use mp4_stream::{Cut, Ledger, Stop, Totals, split};
 use std::alloc::{AllocError, Global};
 use std::process::Abort;

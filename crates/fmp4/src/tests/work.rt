@@ -3,7 +3,7 @@
 use super::joined;
 use super::layouts::MFHD;
 use mp4_stream::ends::FromSlice;
-use mp4_stream::vectors::V1;
+use mp4_vectors::V1;
 use mp4_stream::{Fault, FourCc, Ledger, Rule, Stop, Totals, check};
 use std::alloc::{AllocError, Global};
 use std::test::Fail;

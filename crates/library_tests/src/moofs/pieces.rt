@@ -8,7 +8,7 @@ ghost use Rattle.mp4_frag.specs.Ranges.{AreRunsOf, IsRunOf};
 use super::{TFDT, TFHD, TRUN, one_traf, push_box};
 use crate::callers::next_piece;
 use mp4_box::is_box;
-use mp4_box::vectors::V1;
+use mp4_vectors::V1;
 use mp4_frag::{Cursor, Moof, Run, Runs, Steps};
 use mp4_init::{TrackList, tracks};
 use mp4_ledger::Ledger;

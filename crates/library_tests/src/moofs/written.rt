@@ -11,7 +11,7 @@ ghost use Rattle.mp4_frag.specs.Ranges.{AreRunsOf, IsRunOf};
 
 use super::{TFDT, TFHD, TRUN, one_traf, push_box};
 use mp4_box::is_box;
-use mp4_box::vectors::V1;
+use mp4_vectors::V1;
 use mp4_cut::{
     Cut, Pieces, WriteFault, group_len, put_moof, room, write_index, write_mdat_header, write_moof,
 };

@@ -12,17 +12,17 @@ use Rattle.mp4_frag.specs.Implementation.RunRows.{listed_row, listed_words, plac
 use Rattle.mp4_frag.specs.RunLists.{ListedRows, moof_listing}
 
 -- what was found by track in these runs
-pub record IsFoundByTrack (runs : List ListedRun) (late : Option ℕ) : Type 0 where
+pub record IsFoundByTrack (runs : List ListedRun) (faulty_by_track : Option ℕ) : Type 0 where
   pub sorted : List ListedRun
   pub order : IsTrackOrder runs sorted
-  pub is : late ≡ found_by_track sorted
+  pub is : faulty_by_track ≡ found_by_track sorted
 
 -- it was found by track in rows of these numbers
-pub record IsLate (words : List (List ℕ)) (late : Option ℕ) : Type 0 where
+pub record IsFaultyByTrack (words : List (List ℕ)) (faulty_by_track : Option ℕ) : Type 0 where
   pub sorted : List (List ℕ)
   pub same : IsPermutation words sorted
   pub up : IsNonDecreasingBy track_word sorted
-  pub is : late ≡ found_by_track (listed_words sorted)
+  pub is : faulty_by_track ≡ found_by_track (listed_words sorted)
 
 -- the numbers of the same rows, sorted by place
 pub record IsSorted (words sorted : List (List ℕ)) : Type 0 where
@@ -33,4 +33,4 @@ pub record IsSorted (words sorted : List (List ℕ)) : Type 0 where
 pub record AreOrdered (h : MoofBytes) (tracks : List Track) (l : ListedRows) : Type 0 where
   pub listing : IsListing (moof_listing h tracks)
   pub taken : map listed_row l.rows ≡ taken (moof_listing h tracks)
-  pub late : IsFoundByTrack (moof_listing h tracks) l.late
+  pub faulty_by_track : IsFoundByTrack (moof_listing h tracks) l.faulty_by_track

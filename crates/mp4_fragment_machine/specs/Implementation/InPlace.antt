@@ -33,7 +33,7 @@ pub record IsFirstBox (kind : Kind) (at : ℕ) (x : List ℕ) (b : Span) : Type 
   pub is : header_at x ≡ steps.Whole header
   pub is_kind : kind_in header.kind.0 ≡ kind
   pub type : header.kind ≡ b.kind
-  pub head : header.header_len ≡ b.header_len
+  pub header_len : header.header_len ≡ b.header_len
   pub sized : header.size ≡ Exact b.size
   pub whole : b.size ≤ length x
   pub near : at + b.size ≤ longest

@@ -4,13 +4,13 @@ use Rattle.std.specs.Prelude.{◌-◌, Bool, ◌||◌, ◌==◌, if◌then◌els
 use Rattle.std.specs.List.{list_any}
 use Rattle.mp4_pieces.specs.declared.piece.Piece.{Piece}
 use Rattle.mp4_pieces.specs.declared.index.IndexCheck.{IndexCheck}
-use Rattle.mp4_pieces.specs.Groups.{groups_from}
+use Rattle.mp4_pieces.specs.Groups.{after_first, groups_from}
 use Rattle.mp4_pieces.specs.Rooms.{passes_reference, passes_time}
 
 -- the check after one more piece: where a group begins, its time is checked
 unfoldable pub check_past : IndexCheck → Piece → IndexCheck
 check_past c p =
-    if c.left == 0 then record { left = 65534; passes = c.passes || (passes_time (p ∷ []) || passes_reference p) } else record { left = c.left - 1; passes = c.passes || passes_reference p }
+    if c.left == 0 then record { left = after_first; passes = c.passes || (passes_time (p ∷ []) || passes_reference p) } else record { left = c.left - 1; passes = c.passes || passes_reference p }
 
 -- result of the check for the pieces that are left
 abbrev pub passes_from : IndexCheck → List Piece → Bool

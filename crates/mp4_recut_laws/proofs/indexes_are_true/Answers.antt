@@ -7,8 +7,8 @@ use Rattle.mp4_recut_laws.proofs.WrittenIndexLemmas.{stream_indexed}
 use Rattle.mp4_recut_laws.proofs.indexes_are_true.Goals as goal
 
 pub returns-clause-bytes : goal.returns-clause-bytes
-returns-clause-bytes c = λ cut b held sound index near.
-    let found = text_of_stream cut b held sound in
+returns-clause-bytes c = λ cut b moof_bytes sound index near.
+    let found = text_of_stream cut b moof_bytes sound in
     let s = found.0 in
     let short = subst (λ (x : List ℕ). length x ≤ 2 ^ 62) found.3 near in
     (recut cut s, text_stream cut s found.1 short, (laws cut s found.1).join ∙ sym found.3, recut_indexes_true cut index s found.1)

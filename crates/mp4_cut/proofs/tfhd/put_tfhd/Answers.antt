@@ -8,9 +8,9 @@ use Rattle.mp4_cut.proofs.tfhd.put_tfhd.Goals as goal
 
 pub returns-clause-bytes : goal.returns-clause-bytes
 returns-clause-bytes c =
-    joined c.args.head.now c.put_u32.new.self c.put_u32-2.new.self (((big_bytes 4 20 ++ tfhd.0) ++ (version_and_flags 0 tfhd_flags)) ++ (big_bytes 4 c.args.track_id)) (big_bytes 4 c.args.index)
-    (joined c.args.head.now c.put_version_and_flags.new.self c.put_u32.new.self ((big_bytes 4 20 ++ tfhd.0) ++ (version_and_flags 0 tfhd_flags)) (big_bytes 4 c.args.track_id)
-    (joined c.args.head.now c.put_header.new.self c.put_version_and_flags.new.self (big_bytes 4 20 ++ tfhd.0) (version_and_flags 0 tfhd_flags)
+    joined c.args.fields.now c.put_u32.new.self c.put_u32-2.new.self (((big_bytes 4 20 ++ tfhd.0) ++ (version_and_flags 0 tfhd_flags)) ++ (big_bytes 4 c.args.track_id)) (big_bytes 4 c.args.index)
+    (joined c.args.fields.now c.put_version_and_flags.new.self c.put_u32.new.self ((big_bytes 4 20 ++ tfhd.0) ++ (version_and_flags 0 tfhd_flags)) (big_bytes 4 c.args.track_id)
+    (joined c.args.fields.now c.put_header.new.self c.put_version_and_flags.new.self (big_bytes 4 20 ++ tfhd.0) (version_and_flags 0 tfhd_flags)
     (c.put_header.ensures.bytes)
     c.put_version_and_flags.ensures.bytes)
     c.put_u32.ensures.bytes)

@@ -8,9 +8,9 @@ use Rattle.mp4_cut.proofs.trun.put_trun_front.Goals as goal
 
 pub returns-clause-bytes : goal.returns-clause-bytes
 returns-clause-bytes c =
-    joined c.args.head.now c.put_u32.new.self c.put_u32-2.new.self (((big_bytes 4 (20 + 16 * c.args.samples) ++ trun.0) ++ (version_and_flags c.args.version trun_flags)) ++ (big_bytes 4 c.args.samples)) (big_bytes 4 c.args.data_offset)
-    (joined c.args.head.now c.put_version_and_flags.new.self c.put_u32.new.self ((big_bytes 4 (20 + 16 * c.args.samples) ++ trun.0) ++ (version_and_flags c.args.version trun_flags)) (big_bytes 4 c.args.samples)
-    (joined c.args.head.now c.put_header.new.self c.put_version_and_flags.new.self (big_bytes 4 (20 + 16 * c.args.samples) ++ trun.0) (version_and_flags c.args.version trun_flags)
+    joined c.args.fields.now c.put_u32.new.self c.put_u32-2.new.self (((big_bytes 4 (20 + 16 * c.args.samples) ++ trun.0) ++ (version_and_flags c.args.version trun_flags)) ++ (big_bytes 4 c.args.samples)) (big_bytes 4 c.args.data_offset)
+    (joined c.args.fields.now c.put_version_and_flags.new.self c.put_u32.new.self ((big_bytes 4 (20 + 16 * c.args.samples) ++ trun.0) ++ (version_and_flags c.args.version trun_flags)) (big_bytes 4 c.args.samples)
+    (joined c.args.fields.now c.put_header.new.self c.put_version_and_flags.new.self (big_bytes 4 (20 + 16 * c.args.samples) ++ trun.0) (version_and_flags c.args.version trun_flags)
     (c.put_header.ensures.bytes)
     c.put_version_and_flags.ensures.bytes)
     c.put_u32.ensures.bytes)

@@ -9,4 +9,4 @@ abbrev pub invariant-loop-taken : goal.invariant-loop-taken
 invariant-loop-taken l =
     (goal.iterator-loop-taken).can_next l.taken-iterator
     × (goal.iterator-loop-taken).is_finite l.taken-iterator
-    × (fold place_step l.search l.taken-iterator ≡ fold place_step (place_start l.fn.payload l.fn.late) (listed_words l.fn.rows.rows))
+    × (fold place_step l.search l.taken-iterator ≡ fold place_step (place_start l.fn.payload l.fn.faulty_by_track) (listed_words l.fn.rows.rows))

@@ -46,7 +46,7 @@ returns-clause-list c =
     let f = is_moof c.args.offset c.args.moof_bytes.now m c.requires.whole (λ i. (c.type_inv.moof_bytes i).fits) c.requires.room c.whole_box-moof.ensures in
     let rows = put_in c.in-Ok.rows.rows c.fill.new.rows.rows (rows_of_trafs h c.args.tracks.now (at_path (traf ∷ []) m)) (ap (λ (t : Rows). t.rows) c.in-Ok.ensures.empty) c.fill.ensures.rows in
     let g = filled h c.args.tracks.now m c.fill.new.rows.rows f rows in
-    list_is h c.args.tracks.now c.fill.new.rows.rows c.put_in_order-late.new.rows.rows c.put_in_order-late.result (known h c.args.tracks.now m c.fill.new.rows.rows f g c.fill.ensures.fits) g c.put_in_order-late.ensures.late c.put_in_order-late.ensures.sorted
+    list_is h c.args.tracks.now c.fill.new.rows.rows c.put_in_order-faulty_by_track.new.rows.rows c.put_in_order-faulty_by_track.result (known h c.args.tracks.now m c.fill.new.rows.rows f g c.fill.ensures.fits) g c.put_in_order-faulty_by_track.ensures.faulty_by_track c.put_in_order-faulty_by_track.ensures.sorted
 
 pub returns-clause-ok : goal.returns-clause-ok
 returns-clause-ok c =
@@ -70,7 +70,7 @@ invariant_of-result c =
     let rows = put_in c.in-Ok.rows.rows c.fill.new.rows.rows (rows_of_trafs h c.args.tracks.now (at_path (traf ∷ []) m)) (ap (λ (t : Rows). t.rows) c.in-Ok.ensures.empty) c.fill.ensures.rows in
     let n = length_filled h c.args.tracks.now m c.fill.new.rows.rows rows in
     let cap = ap (λ (t : Rows). t.cap) c.in-Ok.ensures.empty in
-    omega (arith, n, cap, (counted h m c.args.truns f c.requires.truns), c.fill.ensures.cap, c.put_in_order-late.ensures.len, c.put_in_order-late.ensures.cap)
+    omega (arith, n, cap, (counted h m c.args.truns f c.requires.truns), c.fill.ensures.cap, c.put_in_order-faulty_by_track.ensures.len, c.put_in_order-faulty_by_track.ensures.cap)
 
 pub returns-clause-len : goal.returns-clause-len
 returns-clause-len c =
@@ -79,4 +79,4 @@ returns-clause-len c =
     let f = is_moof c.args.offset c.args.moof_bytes.now m c.requires.whole (λ i. (c.type_inv.moof_bytes i).fits) c.requires.room c.whole_box-moof.ensures in
     let rows = put_in c.in-Ok.rows.rows c.fill.new.rows.rows (rows_of_trafs h c.args.tracks.now (at_path (traf ∷ []) m)) (ap (λ (t : Rows). t.rows) c.in-Ok.ensures.empty) c.fill.ensures.rows in
     let n = length_filled h c.args.tracks.now m c.fill.new.rows.rows rows in
-    omega (arith, n, length_rows c.put_in_order-late.new.rows.rows, c.put_in_order-late.ensures.len, claim_is h c.args.tracks.now m (length c.fill.new.rows.rows) f n)
+    omega (arith, n, length_rows c.put_in_order-faulty_by_track.new.rows.rows, c.put_in_order-faulty_by_track.ensures.len, claim_is h c.args.tracks.now m (length c.fill.new.rows.rows) f n)

@@ -11,14 +11,14 @@ use Rattle.mp4_fragment_machine.proofs.body.end_body.Goals as goal
 pub returns : goal.returns
 returns c = λ u.
     let body = c.args.body in
-    let session = c.args.session.now in
+    let carried = c.args.carried.now in
     let w = c.args.pending_moof in
-    let number = number_in session.operation session.counter.tally in
-    let next = after_body number session.tracks w body.next in
+    let number = number_in carried.operation carried.counter.tally in
+    let next = after_body number carried.tracks w body.next in
     let is = c.requires.state in
     let none : body.left - body.left ≡ 0 = omega arith in
-    let low : body.left ≤ next.at = subst (λ k. body.left ≤ k) (sym (after_at number session.tracks w body.next)) is.2 in
-    let passed = GoesOn-passed (reads_in (operation_meaning session.operation)) next (claimed_in session.tracks w) (environment u.written u.waiting c.args.ledger.now session.counter.tally) (record body { next = next.at }) body.left c.args.input.now (omega (arith, c.requires.within)) low in (
+    let low : body.left ≤ next.at = subst (λ k. body.left ≤ k) (sym (after_at number carried.tracks w body.next)) is.2 in
+    let passed = GoesOn-passed (reads_in (operation_meaning carried.operation)) next (claimed_in carried.tracks w) (environment u.written u.waiting c.args.ledger.now carried.counter.tally) (record body { next = next.at }) body.left c.args.input.now (omega (arith, c.requires.within)) low in (
       is.1,
       c.requires.within,
       GoesTo-then (record { claim = c.requires.can.claim; operation = refl; tracks = refl; goes = rw none at passed }) (c.leave.ensures u),

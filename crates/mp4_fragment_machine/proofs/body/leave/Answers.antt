@@ -17,26 +17,26 @@ use Rattle.mp4_fragment_machine.proofs.body.leave.Goals as goal
 pub returns-in_default : goal.returns-in_default
 returns-in_default c = λ u.
     let body = c.args.body.now in
-    let session = c.args.session.now in
-    let o = environment u.written u.waiting c.args.ledger.now session.counter.tally in
+    let carried = c.args.carried.now in
+    let o = environment u.written u.waiting c.args.ledger.now carried.counter.tally in
     let can = rw c.in_default.is at c.requires.can in
-    let meaning = operation_meaning session.operation in
-    let next = after_body (number_in session.operation session.counter.tally) session.tracks None body.next in
-    rw (c.in_default.is, c.requires.empty) (record { step = record { goes = GoesOn-over (reads_in meaning) next (table_of session.tracks) o o (λ _. no_effects) body (continuation_at meaning (InHeader next [])) c.requires.none refl (Moves-none o (table_of session.tracks)) (omega arith) (λ later. refl); unfailed = refl; claim = can.claim }; operation = refl; state = (no_head [] refl, c.requires.end); counted = can.counted })
+    let meaning = operation_meaning carried.operation in
+    let next = after_body (number_in carried.operation carried.counter.tally) carried.tracks None body.next in
+    rw (c.in_default.is, c.requires.empty) (record { step = record { goes = GoesOn-over (reads_in meaning) next (table_of carried.tracks) o o (λ _. no_effects) body (continuation_at meaning (InHeader next [])) c.requires.none refl (Moves-none o (table_of carried.tracks)) (omega arith) (λ later. refl); unfailed = refl; claim = can.claim }; operation = refl; state = (no_head [] refl, c.requires.end); counted = can.counted })
 
 pub returns : goal.returns
 returns c = λ u.
     let body = c.args.body.now in
-    let session = c.args.session.now in
+    let carried = c.args.carried.now in
     let list = c.in-Some-tracks.list in
     let w = c.in-Some.pending_moof in
     let ended = c.end_fragment.ensures in
-    let o = environment u.written u.waiting c.args.ledger.now session.counter.tally in
+    let o = environment u.written u.waiting c.args.ledger.now carried.counter.tally in
     let can = rw c.in-Some.is at c.requires.can in
     let low = rw c.in-Some-tracks.is at can.claim in
     let len = rw ended.tracks at ended.len in
-    let meaning = operation_meaning session.operation in
-    let next = after_body (number_in session.operation session.counter.tally) (Some list) (Some w) body.next in
+    let meaning = operation_meaning carried.operation in
+    let next = after_body (number_in carried.operation carried.counter.tally) (Some list) (Some w) body.next in
     rw (c.in-Some.is, c.in-Some-tracks.is, c.requires.empty, ended.tracks, ended.back) (record {
       step = record {
         goes = rw ended.tally
@@ -47,5 +47,5 @@ returns c = λ u.
       };
       operation = refl;
       state = (no_head [] refl, c.requires.end);
-      counted = counted_ended session.operation session.counter c.end_fragment.new.counter body.next (moof_samples (moof_in w)) can.counted ended.tally (omega (arith, ended.rows_read)) ended.few;
+      counted = counted_ended carried.operation carried.counter c.end_fragment.new.counter body.next (moof_samples (moof_in w)) can.counted ended.tally (omega (arith, ended.rows_read)) ended.few;
     })

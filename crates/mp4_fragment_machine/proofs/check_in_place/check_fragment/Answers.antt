@@ -14,7 +14,7 @@ use Rattle.mp4_fragment_machine.proofs.check_in_place.check_fragment.Goals as go
 
 pub returns-clause-taken : goal.returns-clause-taken
 returns-clause-taken c = λ u.
-    let session = c.args.session.now in
+    let carried = c.args.carried.now in
     let list = c.in-Some.list in
     let b = c.args.boxes.now in
     let at = c.args.at in
@@ -22,7 +22,7 @@ returns-clause-taken c = λ u.
     let are = c.requires.are in
     let h = moof_at b.moof.now at in
     let low = rw c.in-Some.is at c.requires.can.claim in
-    let o = environment u.written u.waiting c.args.ledger.now session.counter.tally in
+    let o = environment u.written u.waiting c.args.ledger.now carried.counter.tally in
     let did = c.in-Ok.ensures in
     let fit = boxes_fit at input b are in
     let some = some_moof at input b are in

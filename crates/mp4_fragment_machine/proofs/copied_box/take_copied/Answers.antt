@@ -13,17 +13,17 @@ use Rattle.mp4_machine.specs.declared.body.Body.{Body}
 use Rattle.mp4_fragment_machine.proofs.copied_box.take_copied.Goals as goal
 
 pub returns-in-Err : goal.returns-in-Err
-returns-in-Err g c = λ account can.
+returns-in-Err g c = λ carried account may.
+    let can = may.can in
     let body = c.args.body in
-    let session = c.args.session.now in
     let input = c.args.input.now in
     let n = c.take-count.result in
     let a = g.W.Sink.contents c.args.w.now in
     let b = g.W.Sink.contents c.put.new.w in
-    let tally = session.counter.tally in
-    let table = table_of session.tracks in
-    let meaning = operation_meaning session.operation in
-    let next = context body.next session.tracks (number_in session.operation tally) in
+    let tally = carried.counter.tally in
+    let table = table_of carried.tracks in
+    let meaning = operation_meaning carried.operation in
+    let next = context body.next carried.tracks (number_in carried.operation tally) in
     let put = rw c.split_at.ensures.front at c.in-Err.ensures in
     record {
       step = record {
@@ -35,50 +35,50 @@ returns-in-Err g c = λ account can.
       };
       operation = refl;
       tracks = refl;
-      empty = c.requires.state.0;
+      empty = may.state.0;
       left = can.claim;
-      counted = counted_stop session.operation session.counter body.next can.counted;
+      counted = counted_stop carried.operation carried.counter body.next can.counted;
     }
 
 pub returns-then-body-eq0 : goal.returns-then-body-eq0
-returns-then-body-eq0 g c = λ account can.
+returns-then-body-eq0 g c = λ carried account may.
+    let can = may.can in
     let body = c.args.body in
-    let session = c.args.session.now in
-    let is = c.requires.state in
+    let is = may.state in
     let n = c.take-count.result in
     let left_is = ap (λ (b : Body). b.left) c.take-count.ensures.left in
     let a = g.W.Sink.contents c.args.w.now in
     let b = g.W.Sink.contents c.put.new.w in
-    let tally = session.counter.tally in
-    let table = table_of session.tracks in
-    let meaning = operation_meaning session.operation in
+    let tally = carried.counter.tally in
+    let table = table_of carried.tracks in
+    let meaning = operation_meaning carried.operation in
     let x = take n c.args.input.now in
     let put = rw c.split_at.ensures.front at c.in-Ok.ensures in
     let len : length x ≡ n = length-take-le n c.args.input.now (omega (arith, c.take-count.ensures.taken)) in
-    let next = context body.next session.tracks (number_in session.operation tally) in
+    let next = context body.next carried.tracks (number_in carried.operation tally) in
     let effects = GoesOn-says meaning body.at body.kind a b c.args.out.now c.put.new.self account tally next x body.left table (omega (arith, len, c.take-count.ensures.taken)) is.2 put.passes in (
-      omega (arith, c.take-count.ensures.taken, c.requires.some, is.1),
+      omega (arith, c.take-count.ensures.taken, may.some, is.1),
       omega (arith, c.take-count.ensures.taken),
       rw (c.take-count.ensures.left, is.0) (record { step = record { goes = GoesOn-then can.claim effects (continuation_at meaning (InHeader next [])) (GoesOn-says_over meaning body.at body.kind (environment b c.put.new.self account tally) next (body.left - length x) (omega (arith, len, c.if-body-eq0.true, left_is))); unfailed = put.unfailed; claim = can.claim }; operation = refl; state = (no_head [] refl, is.3); counted = can.counted }),
     )
 
 pub returns : goal.returns
-returns g c = λ account can.
+returns g c = λ carried account may.
+    let can = may.can in
     let body = c.args.body in
-    let session = c.args.session.now in
-    let is = c.requires.state in
+    let is = may.state in
     let n = c.take-count.result in
     let left_is = ap (λ (b : Body). b.left) c.take-count.ensures.left in
     let a = g.W.Sink.contents c.args.w.now in
     let b = g.W.Sink.contents c.put.new.w in
-    let tally = session.counter.tally in
-    let table = table_of session.tracks in
-    let meaning = operation_meaning session.operation in
+    let tally = carried.counter.tally in
+    let table = table_of carried.tracks in
+    let meaning = operation_meaning carried.operation in
     let x = take n c.args.input.now in
     let put = rw c.split_at.ensures.front at c.in-Ok.ensures in
     let len : length x ≡ n = length-take-le n c.args.input.now (omega (arith, c.take-count.ensures.taken)) in
-    let next = context body.next session.tracks (number_in session.operation tally) in (
-      omega (arith, c.take-count.ensures.taken, c.requires.some, is.1),
+    let next = context body.next carried.tracks (number_in carried.operation tally) in (
+      omega (arith, c.take-count.ensures.taken, may.some, is.1),
       omega (arith, c.take-count.ensures.taken),
       rw c.take-count.ensures.left (record {
         step = record {

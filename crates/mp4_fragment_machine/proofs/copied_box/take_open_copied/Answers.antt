@@ -10,16 +10,16 @@ use Rattle.mp4_fragment_machine.proofs.CopyLemmas.{GoesOn-open_says, Refuses-ope
 use Rattle.mp4_fragment_machine.proofs.copied_box.take_open_copied.Goals as goal
 
 pub returns-in-Err : goal.returns-in-Err
-returns-in-Err g c = λ account can.
+returns-in-Err g c = λ carried account may.
+    let can = may.can in
     let body = c.args.body in
-    let session = c.args.session.now in
     let input = c.args.input.now in
     let n = c.min-most.result in
     let a = g.W.Sink.contents c.args.w.now in
     let b = g.W.Sink.contents c.put.new.w in
-    let tally = session.counter.tally in
-    let table = table_of session.tracks in
-    let meaning = operation_meaning session.operation in
+    let tally = carried.counter.tally in
+    let table = table_of carried.tracks in
+    let meaning = operation_meaning carried.operation in
     let put = rw c.split_at.ensures.front at c.in-Err.ensures in
     record {
       step = record {
@@ -31,29 +31,29 @@ returns-in-Err g c = λ account can.
       };
       operation = refl;
       tracks = refl;
-      empty = c.requires.state.0;
+      empty = may.state.0;
       left = can.claim;
       counted = can.counted;
     }
 
 pub returns-then-len-body : goal.returns-then-len-body
-returns-then-len-body g c = λ account can.
+returns-then-len-body g c = λ carried account may.
+    let can = may.can in
     let body = c.args.body in
-    let session = c.args.session.now in
     let n = c.min-most.result in
     let same : n ≡ body.left = omega (arith, c.min-most.ensures, c.if-len-body.true) in
     let put = rw (c.split_at.ensures.front, same) at c.in-Ok.ensures in
-    rw c.at_fault.ensures (record { step = record { stops = λ more. Refuses-open_says (operation_meaning session.operation) body.at body.kind (g.W.Sink.contents c.args.w.now) (g.W.Sink.contents c.put.new.w) c.args.out.now c.put.new.self account session.counter.tally body.needed body.left (table_of session.tracks) c.args.input.now more can.claim c.if-len-body.true put.passes; failed = λ is. absurd cc; unfailed = λ _. put.unfailed }; operation = refl; tracks = refl; empty = c.requires.state.0; left = can.claim; counted = can.counted })
+    rw c.at_fault.ensures (record { step = record { stops = λ more. Refuses-open_says (operation_meaning carried.operation) body.at body.kind (g.W.Sink.contents c.args.w.now) (g.W.Sink.contents c.put.new.w) c.args.out.now c.put.new.self account carried.counter.tally body.needed body.left (table_of carried.tracks) c.args.input.now more can.claim c.if-len-body.true put.passes; failed = λ is. absurd cc; unfailed = λ _. put.unfailed }; operation = refl; tracks = refl; empty = may.state.0; left = can.claim; counted = can.counted })
 
 pub returns : goal.returns
-returns g c = λ account can.
+returns g c = λ carried account may.
+    let can = may.can in
     let body = c.args.body in
-    let session = c.args.session.now in
-    let is = c.requires.state in
+    let is = may.state in
     let n = c.min-most.result in
     let same : n ≡ length c.args.input.now = omega (arith, c.min-most.ensures, c.if-len-body.false) in
     let put = rw (c.split_at.ensures.front, same, take-length c.args.input.now) at c.in-Ok.ensures in (
-      c.requires.some,
+      may.some,
       omega arith,
-      record { step = record { goes = rw (take-length c.args.input.now, c.saturating_sub.ensures) (GoesOn-open_says (operation_meaning session.operation) body.at body.kind (g.W.Sink.contents c.args.w.now) (g.W.Sink.contents c.put.new.w) c.args.out.now c.put.new.self account session.counter.tally c.args.input.now body.needed body.left (table_of session.tracks) c.if-len-body.false is.1 put.passes); unfailed = put.unfailed; claim = can.claim }; operation = refl; state = (is.0, omega (arith, is.1)); counted = can.counted },
+      record { step = record { goes = rw (take-length c.args.input.now, c.saturating_sub.ensures) (GoesOn-open_says (operation_meaning carried.operation) body.at body.kind (g.W.Sink.contents c.args.w.now) (g.W.Sink.contents c.put.new.w) c.args.out.now c.put.new.self account carried.counter.tally c.args.input.now body.needed body.left (table_of carried.tracks) c.if-len-body.false is.1 put.passes); unfailed = put.unfailed; claim = can.claim }; operation = refl; state = (is.0, omega (arith, is.1)); counted = can.counted },
     )

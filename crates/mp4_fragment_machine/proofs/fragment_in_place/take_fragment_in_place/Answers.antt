@@ -5,7 +5,7 @@ pub returns-in-Err : goal.returns-in-Err
 returns-in-Err g c = c.refuse_place.ensures.stops (record { written = g.W.Sink.contents c.args.w.now; waiting = c.args.out.now; failed = g.W.Sink.has_failed c.args.w.now })
 
 pub take_fragment-requires-clause-is : goal.take_fragment-requires-clause-is
-take_fragment-requires-clause-is g c = c.in-Ok.ensures.good (known c.args.session.now.tracks) c.requires.single_run
+take_fragment-requires-clause-is g c = c.in-Ok.ensures.good (known c.args.carried.now.tracks) c.requires.single_run
 
 pub recut_fragment-requires-clause-is : goal.recut_fragment-requires-clause-is
-recut_fragment-requires-clause-is g c = c.in-Ok.ensures.good (known c.args.session.now.tracks) c.requires.single_run
+recut_fragment-requires-clause-is g c = c.in-Ok.ensures.good (known c.args.carried.now.tracks) c.requires.single_run

@@ -21,8 +21,8 @@ use Rattle.mp4_fragment_machine.proofs.media.take_split.Goals as goal
 pub returns-in-Err : goal.returns-in-Err
 returns-in-Err g c =
     let r = c.in-Media.recutting in
-    let session = c.args.session.now in
-    let old = session.counter in
+    let carried = c.args.carried.now in
+    let old = carried.counter in
     let w = r.pending_moof in
     let list = c.in-Some.list in
     let is = rw (c.in-Media.is, c.in-Some.is) at c.requires.state in
@@ -63,8 +63,8 @@ leave_media-requires g c = (record c.in-Media.recutting { media = c.take_media.n
 pub returns-then-left-eq0 : goal.returns-then-left-eq0
 returns-then-left-eq0 g c =
     let r = c.in-Media.recutting in
-    let session = c.args.session.now in
-    let old = session.counter in
+    let carried = c.args.carried.now in
+    let old = carried.counter in
     let w = r.pending_moof in
     let list = c.in-Some.list in
     let is = rw (c.in-Media.is, c.in-Some.is) at c.requires.state in
@@ -118,8 +118,8 @@ returns-then-left-eq0 g c =
 pub returns : goal.returns
 returns g c =
     let r = c.in-Media.recutting in
-    let session = c.args.session.now in
-    let old = session.counter in
+    let carried = c.args.carried.now in
+    let old = carried.counter in
     let w = r.pending_moof in
     let list = c.in-Some.list in
     let is = rw (c.in-Media.is, c.in-Some.is) at c.requires.state in

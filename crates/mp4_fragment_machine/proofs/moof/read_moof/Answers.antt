@@ -3,13 +3,13 @@ use Rattle.mp4_fragment_machine.proofs.moof.read_moof.Goals as goal
 
 pub again-requires-clause-whole : goal.again-requires-clause-whole
 again-requires-clause-whole c =
-    let held = c.args.held.now in
-    rw c.bytes.ensures.bytes (begins_whole held.size held.bytes c.bytes.ensures.valid c.requires.begins c.requires.whole)
+    let buffered = c.args.buffered.now in
+    rw c.bytes.ensures.bytes (begins_whole buffered.size buffered.bytes c.bytes.ensures.valid c.requires.begins c.requires.whole)
 
 pub read-read-requires-clause-whole : goal.read-read-requires-clause-whole
 read-read-requires-clause-whole c =
-    let held = c.args.held.now in
-    rw c.bytes-2.ensures.bytes (begins_whole held.size held.bytes c.bytes-2.ensures.valid c.requires.begins c.requires.whole)
+    let buffered = c.args.buffered.now in
+    rw c.bytes-2.ensures.bytes (begins_whole buffered.size buffered.bytes c.bytes-2.ensures.valid c.requires.begins c.requires.whole)
 
 pub returns-in-Err-read-clause-fault : goal.returns-in-Err-read-clause-fault
 returns-in-Err-read-clause-fault c =

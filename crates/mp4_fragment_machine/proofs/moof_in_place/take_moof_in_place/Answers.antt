@@ -1,4 +1,4 @@
-use Rattle.std.proofs.Common.{arith}
+use Rattle.std.proofs.Common.{arith, rules}
 use Rattle.std.proofs.lemmas.List.{length-drop}
 use Rattle.mp4_fragment_machine.specs.States.{known}
 use Rattle.mp4_fragment_machine.proofs.MoofInPlaceLemmas.{GoesTo-take_more, StopsIn-take_more, moof_some}
@@ -11,18 +11,15 @@ pub returns-then-moof-input : goal.returns-then-moof-input
 returns-then-moof-input g c =
     let r = c.requires in
     let b = c.args.moof.now in
-    let some = moof_some c.args.session.now c.args.at (known c.args.session.now.tracks) c.args.input.now b r.is r.most r.known r.empty in
+    let some = moof_some c.args.carried.now c.args.at (known c.args.carried.now.tracks) c.args.input.now b r.is r.most r.known r.empty in
     let all = c.if-moof-input.true in
     let waits = c.in-Ok.ensures.waits (record { written = g.W.Sink.contents c.args.w.now; waiting = c.args.out.now; failed = g.W.Sink.has_failed c.args.w.now }) in
     (omega (arith, some, all), omega arith, rw all at waits)
 
-pub take_mdat_header-requires-clause-state : goal.take_mdat_header-requires-clause-state
-take_mdat_header-requires-clause-state g c = (c.in-Ok.ensures.waits (record { written = g.W.Sink.contents c.args.w.now; waiting = c.args.out.now; failed = g.W.Sink.has_failed c.args.w.now })).state
-
-pub take_mdat_header-requires-clause-can : goal.take_mdat_header-requires-clause-can
-take_mdat_header-requires-clause-can g c =
+pub take_mdat_header-requires : goal.take_mdat_header-requires
+take_mdat_header-requires g c =
     let waits = c.in-Ok.ensures.waits (record { written = g.W.Sink.contents c.args.w.now; waiting = c.args.out.now; failed = g.W.Sink.has_failed c.args.w.now }) in
-    record { claim = waits.step.claim; counted = waits.counted }
+    record { some = search rules; state = waits.state; can = record { claim = waits.step.claim; counted = waits.counted } }
 
 pub returns-in-Ok-take_mdat_header : goal.returns-in-Ok-take_mdat_header
 returns-in-Ok-take_mdat_header g c =

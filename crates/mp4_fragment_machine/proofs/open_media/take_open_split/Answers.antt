@@ -15,22 +15,22 @@ use Rattle.mp4_fragment_machine.proofs.open_media.take_open_split.Goals as goal
 pub returns-then-body-eq0 : goal.returns-then-body-eq0
 returns-then-body-eq0 g c =
     let r = c.args.recutting in
-    let session = c.args.session.now in
+    let carried = c.args.carried.now in
     let list = c.in-Some.list in
     let is = rw c.in-Some.is at c.requires.state in
     let can = c.requires.can in
     let low = rw c.in-Some.is at can.claim in
     let (counted, operation, number) = can.counted in
     let apart = claimed_apart (Some list) (Some r.pending_moof) in
-    let o = environment (g.W.Sink.contents c.args.w.now) c.args.out.now c.args.ledger.now session.counter.tally in
+    let o = environment (g.W.Sink.contents c.args.w.now) c.args.out.now c.args.ledger.now carried.counter.tally in
     let p = media_position r.cut (moof_in r.pending_moof) list longest r.number r.media in
-    rw (c.in-Some.is, operation, c.if-body-eq0.true, c.back.ensures, c.at_fault.ensures) (record { step = record { stops = λ more. Refuses-open_recut (splitting r.cut) r.body.at r.body.kind o r.body.needed (claimed_in (Some list) (Some r.pending_moof)) p c.args.input.now more (64 * length list) (taken_by (Some r.pending_moof)) is.2.media.no_head_ready c.requires.some apart low; failed = λ is. absurd cc; unfailed = λ _. refl }; operation = refl; tracks = refl; empty = is.0; left = omega (arith, apart, low); counted = rw operation at (counted_later session.operation session.counter most_counted most_counted (moof_samples (moof_in r.pending_moof)) 0 (omega arith) (omega arith) (omega arith) counted) })
+    rw (c.in-Some.is, operation, c.if-body-eq0.true, c.back.ensures, c.at_fault.ensures) (record { step = record { stops = λ more. Refuses-open_recut (splitting r.cut) r.body.at r.body.kind o r.body.needed (claimed_in (Some list) (Some r.pending_moof)) p c.args.input.now more (64 * length list) (taken_by (Some r.pending_moof)) is.2.media.no_head_ready c.requires.some apart low; failed = λ is. absurd cc; unfailed = λ _. refl }; operation = refl; tracks = refl; empty = is.0; left = omega (arith, apart, low); counted = rw operation at (counted_later carried.operation carried.counter most_counted most_counted (moof_samples (moof_in r.pending_moof)) 0 (omega arith) (omega arith) (omega arith) counted) })
 
 pub returns : goal.returns
 returns g c =
     let r = c.args.recutting in
-    let session = c.args.session.now in
-    let old = session.counter in
+    let carried = c.args.carried.now in
+    let old = carried.counter in
     let list = c.in-Some.list in
     let is = rw c.in-Some.is at c.requires.state in
     let can = c.requires.can in
@@ -71,8 +71,8 @@ returns g c =
 pub returns-in-Err : goal.returns-in-Err
 returns-in-Err g c =
     let r = c.args.recutting in
-    let session = c.args.session.now in
-    let old = session.counter in
+    let carried = c.args.carried.now in
+    let old = carried.counter in
     let list = c.in-Some.list in
     let is = rw c.in-Some.is at c.requires.state in
     let can = c.requires.can in

@@ -8,7 +8,7 @@ use Rattle.mp4_fragment_machine.proofs.other_in_place.take_box_in_place.Goals as
 
 pub returns-in-List : goal.returns-in-List
 returns-in-List g c = λ account can.
-    let k = c.args.session.now in
+    let k = c.args.carried.now in
     let meaning = operation_meaning k.operation in
     let number = number_in k.operation k.counter.tally in
     let input = c.args.input.now in
@@ -21,7 +21,7 @@ returns-in-List g c = λ account can.
 
 pub returns-then-is_dropped : goal.returns-then-is_dropped
 returns-then-is_dropped g c = λ account can.
-    let k = c.args.session.now in
+    let k = c.args.carried.now in
     let meaning = operation_meaning k.operation in
     let number = number_in k.operation k.counter.tally in
     let input = c.args.input.now in
@@ -35,7 +35,7 @@ returns-then-is_dropped g c = λ account can.
 
 pub returns-in-Ok : goal.returns-in-Ok
 returns-in-Ok g c = λ account can.
-    let k = c.args.session.now in
+    let k = c.args.carried.now in
     let meaning = operation_meaning k.operation in
     let number = number_in k.operation k.counter.tally in
     let input = c.args.input.now in
@@ -50,7 +50,7 @@ returns-in-Ok g c = λ account can.
 
 pub returns-in-Err : goal.returns-in-Err
 returns-in-Err g c = λ account can.
-    let k = c.args.session.now in
+    let k = c.args.carried.now in
     let meaning = operation_meaning k.operation in
     let number = number_in k.operation k.counter.tally in
     let input = c.args.input.now in

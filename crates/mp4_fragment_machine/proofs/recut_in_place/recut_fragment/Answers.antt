@@ -10,15 +10,15 @@ use Rattle.mp4_fragment_machine.proofs.recut_in_place.recut_fragment.Goals as go
 
 pub returns : goal.returns
 returns g c =
-    let session = c.args.session.now in
+    let carried = c.args.carried.now in
     let list = c.in-Some.list in
-    let f = c.args.whole.now in
+    let f = c.args.complete.now in
     let cut = c.args.cut.now in
     let at = c.args.at in
     let input = c.args.input.now in
     let is = rw c.in-Some.is at c.requires.is in
     let can = rw (c.in-Some.is, c.requires.operation) at c.requires.can in
-    let o = environment (g.W.Sink.contents c.args.w.now) c.args.out.now c.args.ledger.now session.counter.tally in
+    let o = environment (g.W.Sink.contents c.args.w.now) c.args.out.now c.args.ledger.now carried.counter.tally in
     let t = c.recut_in_place.new.counter.tally in
     let effects = c.in-Ok-recut_in_place.ensures in
     let tally = c.recut_in_place.ensures.tally in
@@ -38,7 +38,7 @@ returns g c =
         };
         operation = refl;
         state = (no_head [] refl, omega (arith, fit.near));
-        counted = counted_in_place cut at list input f.boxes f.run.now is session.counter c.recut_in_place.new.counter c.requires.plain can.counted
+        counted = counted_in_place cut at list input f.boxes f.run.now is carried.counter c.recut_in_place.new.counter c.requires.plain can.counted
             (omega (arith, c.recut_in_place.ensures.most, c.requires.numbers, few_pieces cut f.boxes.moof.now f.run.now.run))
             (ap (λ k. k.samples) tally) (ap (λ k. k.media_bytes) tally) (ap (λ k. k.inspected) tally) c.recut_in_place.ensures.steps;
       }),
@@ -46,19 +46,19 @@ returns g c =
 
 pub returns-in-Err-recut_in_place : goal.returns-in-Err-recut_in_place
 returns-in-Err-recut_in_place g c =
-    let session = c.args.session.now in
+    let carried = c.args.carried.now in
     let list = c.in-Some.list in
-    let f = c.args.whole.now in
+    let f = c.args.complete.now in
     let cut = c.args.cut.now in
     let at = c.args.at in
     let input = c.args.input.now in
     let is = rw c.in-Some.is at c.requires.is in
     let can = rw (c.in-Some.is, c.requires.operation) at c.requires.can in
-    let o = environment (g.W.Sink.contents c.args.w.now) c.args.out.now c.args.ledger.now session.counter.tally in
+    let o = environment (g.W.Sink.contents c.args.w.now) c.args.out.now c.args.ledger.now carried.counter.tally in
     let t = c.recut_in_place.new.counter.tally in
     let tally = c.recut_in_place.ensures.tally in
     let put = c.in-Err-recut_in_place.ensures.puts (timescale_of list f.run.now.run.track) in
-    let counted = counted_in_place cut at list input f.boxes f.run.now is session.counter c.recut_in_place.new.counter c.requires.plain can.counted
+    let counted = counted_in_place cut at list input f.boxes f.run.now is carried.counter c.recut_in_place.new.counter c.requires.plain can.counted
     (omega (arith, c.recut_in_place.ensures.most, c.requires.numbers, few_pieces cut f.boxes.moof.now f.run.now.run))
     (ap (λ k. k.samples) tally) (ap (λ k. k.media_bytes) tally) (ap (λ k. k.inspected) tally) c.recut_in_place.ensures.steps in
     rw (c.in-Some.is, c.requires.operation, c.requires.empty) (record {

@@ -5,21 +5,21 @@ use Rattle.mp4_fragment_machine.proofs.recut_in_place.recut_in_place.Goals as go
 
 pub overflow_add-start-2 : goal.overflow_add-start-2
 overflow_add-start-2 g c =
-    let f = c.args.whole.now in
+    let f = c.args.complete.now in
     let fit = boxes_fit c.args.at c.args.input.now f.boxes c.requires.is.boxes in
-    omega (arith, fit.head, fit.near)
+    omega (arith, fit.header_len, fit.near)
 
 pub put_run-requires-clause-run : goal.put_run-requires-clause-run
-put_run-requires-clause-run g c = run_is c.args.at c.args.tracks.now c.args.input.now c.args.whole.now.boxes c.args.whole.now.run.now c.requires.is
+put_run-requires-clause-run g c = run_is c.args.at c.args.tracks.now c.args.input.now c.args.complete.now.boxes c.args.complete.now.run.now c.requires.is
 
 pub put_run-requires-clause-small : goal.put_run-requires-clause-small
 put_run-requires-clause-small g c =
-    let f = c.args.whole.now in
+    let f = c.args.complete.now in
     omega (arith, media_fits c.args.at c.args.tracks.now c.args.input.now f.boxes f.run.now c.requires.is, c.requires.is.boxes.mdat.near)
 
 pub put_run-requires-clause-numbers : goal.put_run-requires-clause-numbers
 put_run-requires-clause-numbers g c =
-    let f = c.args.whole.now in
+    let f = c.args.complete.now in
     omega (arith, few_pieces c.args.cut.now f.boxes.moof.now f.run.now.run, c.requires.numbers)
 
 pub returns-in-Ok-clause-puts : goal.returns-in-Ok-clause-puts

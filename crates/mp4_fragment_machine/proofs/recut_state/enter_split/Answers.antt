@@ -20,17 +20,17 @@ returns-in-Empty c = λ number u split.
     let w = c.args.split.pending_moof in
     let m = c.args.split.media in
     let cut = c.args.cut in
-    let session = c.args.session.now in
+    let carried = c.args.carried.now in
     let list = c.in-Some.list in
     let h = c.args.header.now in
     let at = c.args.at in
     let (size, is, all, far, near) = c.in-Empty.ensures in
-    let n = session.counter.tally.fragments + 1 in
+    let n = carried.counter.tally.fragments + 1 in
     let is_split = rw c.in-Some.is at split in
     let begun = is_split.begun in
     let media = begun.media in
     let ps = fragments_left cut (moof_in w) list n m.later in
-    let o = environment u.written u.waiting c.args.ledger.now session.counter.tally in
+    let o = environment u.written u.waiting c.args.ledger.now carried.counter.tally in
     let ends = settled list (moof_trafs (moof_in w) list) in
     let low = rw c.in-Some.is at c.requires.claim in
     let counted = rw is at c.requires.counted in
@@ -43,14 +43,14 @@ returns-in-Empty c = λ number u split.
     rw (c.in-Some.is, c.requires.operation, c.requires.empty, ended.tracks, ended.back, far) (record {
       step = record {
         goes = rw ended.tally
-            (begun_known cut w list number n m at h session.tracks o _ _ c.in-Some.is c.requires.pending_moof c.requires.at (media_over cut w list number n m at h size h.size ends o _ is short (sym begun.numbers ∙ omega (arith, ap length none)) refl media.no_head_ready
+            (begun_known cut w list number n m at h carried.tracks o _ _ c.in-Some.is c.requires.pending_moof c.requires.at (media_over cut w list number n m at h size h.size ends o _ is short (sym begun.numbers ∙ omega (arith, ap length none)) refl media.no_head_ready
             (Moves-settled o (64 * length list) w.moof.size (64 * length w.runs.rows) (64 * length ends) table low)));
         unfailed = refl;
         claim = omega (arith, low, table);
       };
       operation = refl;
       state = (no_head [] refl, rw far at near);
-      counted = counted_ended (operations.Split cut) session.counter c.end_fragment.new.counter (at + size) (moof_samples (moof_in w)) counted ended.tally (omega (arith, ended.rows_read)) ended.few;
+      counted = counted_ended (operations.Split cut) carried.counter c.end_fragment.new.counter (at + size) (moof_samples (moof_in w)) counted ended.tally (omega (arith, ended.rows_read)) ended.few;
     })
 
 pub returns-in-Sized : goal.returns-in-Sized
@@ -58,16 +58,16 @@ returns-in-Sized c = λ number u split.
     let w = c.args.split.pending_moof in
     let m = c.args.split.media in
     let cut = c.args.cut in
-    let session = c.args.session.now in
+    let carried = c.args.carried.now in
     let list = c.in-Some.list in
     let h = c.args.header.now in
     let at = c.args.at in
     let (size, is, some, same, near) = c.in-Sized.ensures in
-    let n = session.counter.tally.fragments + 1 in
+    let n = carried.counter.tally.fragments + 1 in
     let is_split = rw c.in-Some.is at split in
     let begun = is_split.begun in
     let media = begun.media in
-    let o = environment u.written u.waiting c.args.ledger.now session.counter.tally in
+    let o = environment u.written u.waiting c.args.ledger.now carried.counter.tally in
     let room = rw is at c.requires.room in
     let counted = rw is at c.requires.counted in
     let ends_at : end_of (w.moof.at + length w.moof.bytes) h.size ≡ Some (at + size) = rw is (ap (λ k. Some (k + size)) (sym c.requires.at)) in
@@ -75,7 +75,7 @@ returns-in-Sized c = λ number u split.
     let start : at + h.header_len ≡ at + size - (size - h.header_len) = omega (arith, room) in
     let low = rw c.in-Some.is at c.requires.claim in
     rw (c.in-Some.is, c.requires.operation, same) (record {
-      step = record { goes = begun_known cut w list number n m at h session.tracks o o _ c.in-Some.is c.requires.pending_moof c.requires.at (GoesOn-same (splitting cut) o _ _ (media_begins cut w list number n m at h size h.size is room begun.numbers)); unfailed = refl; claim = low };
+      step = record { goes = begun_known cut w list number n m at h carried.tracks o o _ c.in-Some.is c.requires.pending_moof c.requires.at (GoesOn-same (splitting cut) o _ _ (media_begins cut w list number n m at h size h.size is room begun.numbers)); unfailed = refl; claim = low };
       operation = refl;
       state = (
         c.requires.empty,
@@ -96,18 +96,18 @@ returns-in-Open c = λ number u split.
     let w = c.args.split.pending_moof in
     let m = c.args.split.media in
     let cut = c.args.cut in
-    let session = c.args.session.now in
+    let carried = c.args.carried.now in
     let list = c.in-Some.list in
-    let n = session.counter.tally.fragments + 1 in
+    let n = carried.counter.tally.fragments + 1 in
     let is_split = rw c.in-Some.is at split in
     let begun = is_split.begun in
     let media = begun.media in
-    let o = environment u.written u.waiting c.args.ledger.now session.counter.tally in
+    let o = environment u.written u.waiting c.args.ledger.now carried.counter.tally in
     let (is, same, near) = c.in-Open.ensures in
     let counted = rw is at c.requires.counted in
     let low = rw c.in-Some.is at c.requires.claim in
     rw (c.in-Some.is, c.requires.operation, same) (record {
-      step = record { goes = begun_known cut w list number n m c.args.at c.args.header.now session.tracks o o _ c.in-Some.is c.requires.pending_moof c.requires.at (GoesOn-same (splitting cut) o _ _ (open_begins cut w list number n m c.args.at c.args.header.now c.args.split.needed c.args.header.now.size is near is_split.needed)); unfailed = refl; claim = low };
+      step = record { goes = begun_known cut w list number n m c.args.at c.args.header.now carried.tracks o o _ c.in-Some.is c.requires.pending_moof c.requires.at (GoesOn-same (splitting cut) o _ _ (open_begins cut w list number n m c.args.at c.args.header.now c.args.split.needed c.args.header.now.size is near is_split.needed)); unfailed = refl; claim = low };
       operation = refl;
       state = (
         c.requires.empty,

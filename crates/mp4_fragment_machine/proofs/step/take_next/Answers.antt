@@ -6,10 +6,10 @@ returns-in-OpenBody g c =
 
 pub returns-in-Copied : goal.returns-in-Copied
 returns-in-Copied g c =
-    let can = rw c.in-Copied.is at c.requires.can in
-    rw c.in-Copied.is (c.take_copied.ensures c.args.ledger.now can)
+    let may = rw c.in-Copied.is at c.requires.may in
+    rw c.in-Copied.is (c.take_copied.ensures c.args.carried.now c.args.ledger.now may)
 
 pub returns-in-OpenCopied : goal.returns-in-OpenCopied
 returns-in-OpenCopied g c =
-    let can = rw c.in-OpenCopied.is at c.requires.can in
-    rw c.in-OpenCopied.is (c.take_open_copied.ensures c.args.ledger.now can)
+    let may = rw c.in-OpenCopied.is at c.requires.may in
+    rw c.in-OpenCopied.is (c.take_open_copied.ensures c.args.carried.now c.args.ledger.now may)

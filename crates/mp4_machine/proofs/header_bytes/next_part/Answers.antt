@@ -6,9 +6,9 @@ use Rattle.mp4_machine.proofs.header_bytes.next_part.Goals as goal
 pub returns-in-BadSize : goal.returns-in-BadSize
 returns-in-BadSize c =
     let came = c.take_head-taken.ensures in
-    let head = c.take_head-taken.new.head in
+    let header_bytes = c.take_head-taken.new.header_bytes in
     let bad = sym came.step ∙ c.in-BadSize.is in
-    let len : length head ≡ need head = omega (arith, came.len, bad_is head bad) in
+    let len : length header_bytes ≡ need header_bytes = omega (arith, came.len, bad_is header_bytes bad) in
     record {
       count = c.take_head-taken.result.count;
       some = came.count.0;
@@ -22,17 +22,17 @@ returns-in-BadSize c =
 pub returns-in-Whole : goal.returns-in-Whole
 returns-in-Whole c =
     let came = c.take_head-taken.ensures in
-    let head = c.take_head-taken.new.head in
+    let header_bytes = c.take_head-taken.new.header_bytes in
     let is = sym came.step ∙ c.in-Whole.is in
-    rw c.replace-head.ensures.value (
+    rw c.replace-header_bytes.ensures.value (
       (record {
         some = came.count.0;
         most = came.count.1;
         are = came.bytes;
         is = is;
-        len = omega (arith, came.len, (whole_is head c.in-Whole.header is).0);
-        room = room_of head c.in-Whole.header is;
-        empty = c.replace-head.ensures.after ∙ c.new-in-Whole.ensures;
+        len = omega (arith, came.len, (whole_is header_bytes c.in-Whole.header is).0);
+        room = room_of header_bytes c.in-Whole.header is;
+        empty = c.replace-header_bytes.ensures.after ∙ c.new-in-Whole.ensures;
       }),
       tt,
     )

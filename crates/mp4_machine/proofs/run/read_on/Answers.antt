@@ -28,7 +28,7 @@ loop-machine-init g c =
 
 pub returns-in-Ok-finish-clause-runs : goal.returns-in-Ok-finish-clause-runs
 returns-in-Ok-finish-clause-runs g c =
-    let whole = (g.M.Machine.continuation c.args.machine.now).reads in
+    let reads = (g.M.Machine.continuation c.args.machine.now).reads in
     let start = environment (g.W.Sink.contents c.args.w.now) unused c.args.ledger.now uncounted in
     let (b, i) = c.loop-machine.invariant in (
       record {
@@ -36,8 +36,8 @@ returns-in-Ok-finish-clause-runs g c =
         fits = i.bytes;
         given = Consumes-then_none _ _ _ _ _ _ i.read c.in-Ok-eq0.ensures.bytes.0 c.in-Ok-eq0.field-0-test;
         fragments = c.loop-machine.out.whole;
-        prompt = prompt-now whole b start refl c.requires.marked i.fed _ (c.in-Ok-eq0.ensures.last ∙ c.in-Ok-eq0.field-0-test);
-        gives = (fed-emits whole b start refl c.requires.marked i.fed _ refl refl, fed-fault whole b start refl c.requires.marked i.fed ∙ c.in-Ok-finish.ensures.ok, search rules);
+        prompt = prompt-now reads b start refl c.requires.marked i.fed _ (c.in-Ok-eq0.ensures.last ∙ c.in-Ok-eq0.field-0-test);
+        gives = (fed-emits reads b start refl c.requires.marked i.fed _ refl refl, fed-fault reads b start refl c.requires.marked i.fed ∙ c.in-Ok-finish.ensures.ok, search rules);
         kept = λ _. i.kept;
       },
       refl,
@@ -45,7 +45,7 @@ returns-in-Ok-finish-clause-runs g c =
 
 pub returns-in-Err-finish-clause-runs : goal.returns-in-Err-finish-clause-runs
 returns-in-Err-finish-clause-runs g c =
-    let whole = (g.M.Machine.continuation c.args.machine.now).reads in
+    let reads = (g.M.Machine.continuation c.args.machine.now).reads in
     let start = environment (g.W.Sink.contents c.args.w.now) unused c.args.ledger.now uncounted in
     let (b, i) = c.loop-machine.invariant in (
       record {
@@ -53,8 +53,8 @@ returns-in-Err-finish-clause-runs g c =
         fits = i.bytes;
         given = Consumes-then_none _ _ _ _ _ _ i.read c.in-Ok-eq0.ensures.bytes.0 c.in-Ok-eq0.field-0-test;
         fragments = c.loop-machine.out.whole;
-        prompt = prompt-now whole b start refl c.requires.marked i.fed _ (c.in-Ok-eq0.ensures.last ∙ c.in-Ok-eq0.field-0-test);
-        gives = (fed-emits whole b start refl c.requires.marked i.fed _ refl refl, fed-fault whole b start refl c.requires.marked i.fed ∙ c.in-Err-finish.ensures.err, λ _. search rules);
+        prompt = prompt-now reads b start refl c.requires.marked i.fed _ (c.in-Ok-eq0.ensures.last ∙ c.in-Ok-eq0.field-0-test);
+        gives = (fed-emits reads b start refl c.requires.marked i.fed _ refl refl, fed-fault reads b start refl c.requires.marked i.fed ∙ c.in-Err-finish.ensures.err, λ _. search rules);
         kept = λ _. i.kept;
       },
       refl,
@@ -62,7 +62,7 @@ returns-in-Err-finish-clause-runs g c =
 
 pub returns-in-Err-clause-runs : goal.returns-in-Err-clause-runs
 returns-in-Err-clause-runs g c =
-    let whole = (g.M.Machine.continuation c.args.machine.now).reads in
+    let reads = (g.M.Machine.continuation c.args.machine.now).reads in
     let start = environment (g.W.Sink.contents c.args.w.now) unused c.args.ledger.now uncounted in
     let (b, i) = c.loop-machine.invariant in (
       record {
@@ -70,8 +70,8 @@ returns-in-Err-clause-runs g c =
         fits = i.bytes;
         given = Consumes-kept _ _ _ _ i.read c.in-Err.ensures.bytes;
         fragments = c.loop-machine.out.whole;
-        prompt = prompt-now whole b start refl c.requires.marked i.fed _ c.in-Err.ensures.last_err;
-        gives = (fed-emits whole b start refl c.requires.marked i.fed _ refl refl, fed-undecided whole b start refl c.requires.marked i.fed, i.total, c.in-Err.ensures.failed_err);
+        prompt = prompt-now reads b start refl c.requires.marked i.fed _ c.in-Err.ensures.last_err;
+        gives = (fed-emits reads b start refl c.requires.marked i.fed _ refl refl, fed-undecided reads b start refl c.requires.marked i.fed, i.total, c.in-Err.ensures.failed_err);
         kept = λ _. i.kept;
       },
       refl,
@@ -79,7 +79,7 @@ returns-in-Err-clause-runs g c =
 
 pub loop-machine-preserved : goal.loop-machine-preserved
 loop-machine-preserved g c =
-    let whole = (g.M.Machine.continuation c.args.machine.now).reads in
+    let reads = (g.M.Machine.continuation c.args.machine.now).reads in
     let (b, i) = c.loop-machine.invariant in
     let fed = c.in-Ok-feed.ensures in
     let got = take c.in-Ok.n c.read.new.into in
@@ -89,7 +89,7 @@ loop-machine-preserved g c =
       b ++ got,
       record {
         read = Consumes-trans _ _ _ _ _ i.read c.in-Ok.ensures.bytes.0;
-        fed = IsFed-more whole b _ i.fed goes fed.quiet (fed.sent (λ e. absurd cc));
+        fed = IsFed-more reads b _ i.fed goes fed.quiet (fed.sent (λ e. absurd cc));
         task = fed.task ∙ i.task;
         claim = fed.claim;
         near = fed.near;
@@ -103,7 +103,7 @@ loop-machine-preserved g c =
 
 pub returns-in-Err-feed-clause-runs : goal.returns-in-Err-feed-clause-runs
 returns-in-Err-feed-clause-runs g c =
-    let whole = (g.M.Machine.continuation c.args.machine.now).reads in
+    let reads = (g.M.Machine.continuation c.args.machine.now).reads in
     let (b, i) = c.loop-machine.invariant in
     let got = take c.in-Ok.n c.read.new.into in
     let kept : length c.read.new.into ≡ length c.loop-machine.copy = search rules in
@@ -117,8 +117,8 @@ returns-in-Err-feed-clause-runs g c =
         fits = bytes-more b got i.bytes c.in-Err-feed.ensures.bytes;
         given = Consumes-trans _ _ _ _ _ i.read c.in-Ok.ensures.bytes.0;
         fragments = c.feed.new.out.whole;
-        prompt = prompt-read whole b start refl c.requires.marked i.fed got following _ (record { few = few; gave = gave });
-        gives = fed-takes {change = record { before = before; after = following; failed = g.W.Sink.has_failed c.loop-machine.w; failed' = g.W.Sink.has_failed c.feed.new.w }} whole b start refl c.requires.marked i.fed i.claim _ (record { few = few; gave = gave }) refl refl (λ other. c.in-Err-feed.ensures.sent (λ is. other cc)) refl c.in-Err-feed.ensures.takes;
+        prompt = prompt-read reads b start refl c.requires.marked i.fed got following _ (record { few = few; gave = gave });
+        gives = fed-takes {change = record { before = before; after = following; failed = g.W.Sink.has_failed c.loop-machine.w; failed' = g.W.Sink.has_failed c.feed.new.w }} reads b start refl c.requires.marked i.fed i.claim _ (record { few = few; gave = gave }) refl refl (λ other. c.in-Err-feed.ensures.sent (λ is. other cc)) refl c.in-Err-feed.ensures.takes;
         kept = λ other. c.in-Err-feed.ensures.takes.kept (λ is. other cc) ∙ i.kept;
       },
       refl,

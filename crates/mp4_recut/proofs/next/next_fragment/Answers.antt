@@ -1,4 +1,4 @@
-use Rattle.std.proofs.Common.{arith, ◌≡◌, ◌∙◌, ◌+◌, ap, refl, sym, length}
+use Rattle.std.proofs.Common.{arith, ◌≡◌, ◌≤◌, ◌^◌, ◌∙◌, ◌+◌, ap, refl, rules, sym, length}
 use Rattle.mp4_cut.specs.Sidx.{natural}
 use Rattle.mp4_pieces.specs.declared.piece.Piece.{Piece}
 use Rattle.mp4_pieces.specs.Pieces.{cursor_after}
@@ -8,8 +8,10 @@ use Rattle.mp4_recut.specs.declared.cursor.FragmentCursor.{FragmentCursor}
 use Rattle.mp4_recut.proofs.CursorLemmas.{fragment_is, past_placed}
 use Rattle.mp4_recut.proofs.next.next_fragment.Goals as goal
 
-pub put_first-requires-clause-number : goal.put_first-requires-clause-number
-put_first-requires-clause-number g c = omega (arith, c.requires.number, ap length (c.seek.ensures.same c.if-not-seek.false c.args.number))
+pub put_first-requires : goal.put_first-requires
+put_first-requires g c =
+    let last : c.args.number + length (left_in c.args.cut.now c.args.moof.now c.args.tracks.now c.args.number c.seek.new.c) ≤ 2 ^ 32 = omega (arith, c.requires.number, ap length (c.seek.ensures.same c.if-not-seek.false c.args.number)) in
+    record { at = search rules; some = search rules; last = last }
 
 pub returns-in-Err : goal.returns-in-Err
 returns-in-Err g c =

@@ -20,7 +20,7 @@ overflow_cast-number g c =
     let p = piece_of h.bytes at.run c.first_plain-piece.result in
     let d : FragmentCursor = record { index = at.index; run = at.run; at = cursor_after p; group = next_group at.group } in
     let first = rw c.bytes.ensures.bytes at c.first_plain-piece.ensures.first in
-    omega (arith, c.requires.number, ap length (fragment_is cut h tracks at p c.requires.at first d refl refl refl refl c.args.number))
+    omega (arith, c.requires.last, ap length (fragment_is cut h tracks at p c.requires.at first d refl refl refl refl c.args.number))
 
 pub returns-in-Ok : goal.returns-in-Ok
 returns-in-Ok g c =

@@ -50,7 +50,7 @@ overflow_cast-number g c =
     let p = c.first_piece-first.result in
     let was = rw c.bytes.ensures.bytes at c.first_piece-first.ensures in
     let d : FragmentCursor = record { index = at.index; run = run; at = cursor_after p; group = next_group at.group } in
-    omega (arith, c.requires.number, ap length (fragment_is cut h tracks at p c.requires.at was.first d refl refl refl refl c.args.number))
+    omega (arith, c.requires.begins.last, ap length (fragment_is cut h tracks at p c.requires.begins.at was.first d refl refl refl refl c.args.number))
 
 pub put_head-requires-clause-piece : goal.put_head-requires-clause-piece
 put_head-requires-clause-piece g c =

@@ -10,9 +10,9 @@ use Rattle.mp4_stream.proofs.buffered_box.take_whole.Goals as goal
 pub returns-in-Err-clause-consumes : goal.returns-in-Err-clause-consumes
 returns-in-Err-clause-consumes g c =
     let refused = c.in-Err.ensures in
-    let (limit, held, fits) = c.requires.held in
+    let (limit, buffered, fits) = c.requires.buffered in
     rw (c.of_refusal.ensures, refused.err) (
-      StopsIn-refused_claim _ c.args.at c.args.header.now c.args.input.now c.requires.is limit c.args.size c.requires.end held c.requires.size fits c.in-Err.refused
+      StopsIn-refused_claim _ c.args.at c.args.header.now c.args.input.now c.requires.is limit c.args.size c.requires.end buffered c.requires.size fits c.in-Err.refused
           (λ e. refused.over_limit.0 (ap Err e))
           (λ e. within_limit c.args.ledger.now.limit (c.args.ledger.now.live + c.args.size) (ap Err e) refused.over_limit.1),
       refl,
@@ -23,14 +23,14 @@ list_whole-requires-clause-is g c = take-is c.args.size c.args.input.now c.args.
 
 pub returns-in-Ok-list_whole-clause-consumes : goal.returns-in-Ok-list_whole-clause-consumes
 returns-in-Ok-list_whole-clause-consumes g c =
-    let (limit, held, fits) = c.requires.held in
+    let (limit, buffered, fits) = c.requires.buffered in
     let o = environment (g.W.Sink.contents c.args.w.now) c.args.out.now c.args.ledger.now in
-    let come = come_whole o c.args.at c.args.header.now c.args.input.now c.requires.is limit c.args.size c.requires.end held c.requires.size fits c.requires.room in
+    let come = come_whole o c.args.at c.args.header.now c.args.input.now c.requires.is limit c.args.size c.requires.end buffered c.requires.size fits c.requires.room in
     rw c.in-Ok.ensures.ok (come.some, c.requires.room.1, GoesTo-then (record { claim = omega arith; goes = come.goes }) (c.in-Ok-list_whole.ensures (box_come c.args.at c.args.header.now c.args.size c.args.input.now) (claimed c.args.ledger.now c.args.size) come.come), (omega arith, c.requires.end))
 
 pub returns-in-Err-list_whole-clause-consumes : goal.returns-in-Err-list_whole-clause-consumes
 returns-in-Err-list_whole-clause-consumes g c =
-    let (limit, held, fits) = c.requires.held in
+    let (limit, buffered, fits) = c.requires.buffered in
     let o = environment (g.W.Sink.contents c.args.w.now) c.args.out.now c.args.ledger.now in
-    let come = come_whole o c.args.at c.args.header.now c.args.input.now c.requires.is limit c.args.size c.requires.end held c.requires.size fits c.requires.room in
+    let come = come_whole o c.args.at c.args.header.now c.args.input.now c.requires.is limit c.args.size c.requires.end buffered c.requires.size fits c.requires.room in
     rw c.in-Ok.ensures.ok (StopsIn-then c.args.size c.args.input.now (record { claim = omega arith; goes = come.goes }) (c.in-Err-list_whole.ensures (box_come c.args.at c.args.header.now c.args.size c.args.input.now) (claimed c.args.ledger.now c.args.size) come.come), refl)

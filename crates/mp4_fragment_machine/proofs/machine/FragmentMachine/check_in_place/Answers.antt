@@ -24,4 +24,4 @@ returns-in-Ok-clause-taken c = λ u.
     let state : c.self.inside.state ≡ states.Header c.args.at = ap (λ (p : Progress). p.state) c.self.view_is ∙ c.requires.state in
     let new = c.check_fragment.new in
     rw (← c.self.view_is, state, c.go_to.ensures)
-    (fed (ledger_alone u c.args.ledger.now new.ledger) c.self.inside.session new.session (states.Header c.args.at) (states.Header (c.args.at + c.in-Ok.size)) c.args.input.now c.in-Ok.size (c.in-Ok.ensures.taken u))
+    (fed (ledger_alone u c.args.ledger.now new.ledger) c.self.inside.carried new.carried (states.Header c.args.at) (states.Header (c.args.at + c.in-Ok.size)) c.args.input.now c.in-Ok.size (c.in-Ok.ensures.taken u))

@@ -13,7 +13,7 @@ returns-in-Ok g c =
     let new = c.take_split.new in
     let l = borrowed g.W.Sink.contents g.W.Sink.has_failed c.args.w.now new.w c.args.out.now new.out c.args.ledger.now new.ledger in
     rw (← c.self.view_is)
-    (fed l c.self.inside.session new.session c.self.inside.state new.current c.args.input.now c.in-Ok.taken c.in-Ok.ensures)
+    (fed l c.self.inside.carried new.carried c.self.inside.state new.current c.args.input.now c.in-Ok.taken c.in-Ok.ensures)
 
 pub returns-in-Err : goal.returns-in-Err
 returns-in-Err g c =

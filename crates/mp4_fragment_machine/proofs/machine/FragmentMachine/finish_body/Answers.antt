@@ -24,4 +24,4 @@ returns c = λ u.
     let left = c.leave_body-pending_moof.ensures b w state in
     let new = c.end_body.new in
     rw (← c.self.view_is, state, left.2)
-    (fed (ledger_alone u c.args.ledger.now new.ledger) c.self.inside.session new.session (states.Body b w) (states.Header b.next) c.args.input.now c.end_body.result (rw (left.0, left.1) at c.end_body.ensures u))
+    (fed (ledger_alone u c.args.ledger.now new.ledger) c.self.inside.carried new.carried (states.Body b w) (states.Header b.next) c.args.input.now c.end_body.result (rw (left.0, left.1) at c.end_body.ensures u))

@@ -8,11 +8,11 @@ use Rattle.mp4_fragment_machine.proofs.machine.FragmentMachine.take_in_place.Goa
 pub returns-in-Ok : goal.returns-in-Ok
 returns-in-Ok g c =
     let state : c.self.inside.state ≡ states.Header c.args.at = ap (λ (p : Progress). p.state) c.self.view_is ∙ c.requires.state in
-    let old = c.self.inside.session in
+    let old = c.self.inside.carried in
     let new = c.take_fragment_in_place.new in
     let l = borrowed g.W.Sink.contents g.W.Sink.has_failed c.args.w.now new.w c.args.out.now new.out c.args.ledger.now new.ledger in
     rw (← c.self.view_is, state, c.go_to.ensures)
-    (fed l old new.session (states.Header c.args.at) (states.Header (c.args.at + c.in-Ok.size)) c.args.input.now c.in-Ok.size c.in-Ok.ensures)
+    (fed l old new.carried (states.Header c.args.at) (states.Header (c.args.at + c.in-Ok.size)) c.args.input.now c.in-Ok.size c.in-Ok.ensures)
 
 pub returns-in-Err : goal.returns-in-Err
 returns-in-Err g c =

@@ -15,4 +15,4 @@ returns-in-Ok g c =
     let taken = rw c.replace-state.ensures.value at c.in-Ok.ensures in
     let l = borrowed g.W.Sink.contents g.W.Sink.has_failed c.args.w.now c.take_next.new.w c.args.out.now c.take_next.new.out c.args.ledger.now c.take_next.new.ledger in
     rw (← c.self.view_is, c.put_state.ensures)
-    (fed l c.self.inside.session c.take_next.new.session c.self.inside.state state c.args.input.now c.in-Ok.field-0.count taken)
+    (fed l c.self.inside.carried c.take_next.new.carried c.self.inside.state state c.args.input.now c.in-Ok.field-0.count taken)

@@ -8,7 +8,7 @@ returns-in-Ok-clause-takes g c =
     rw (← c.self.view_is, c.put_state.ensures) (Takes-goes c.in-Ok.field-0.count taken.2)
 
 pub returns-in-Ok-clause-quiet : goal.returns-in-Ok-clause-quiet
-returns-in-Ok-clause-quiet g c = rw c.put_state.ensures (state-quiet c.take_next.new.head c.in-Ok.field-0.state c.in-Ok.ensures.3)
+returns-in-Ok-clause-quiet g c = rw c.put_state.ensures (state-quiet c.take_next.new.header_bytes c.in-Ok.field-0.state c.in-Ok.ensures.3)
 
 pub returns-in-Err-clause-takes : goal.returns-in-Err-clause-takes
 returns-in-Err-clause-takes g c =
