@@ -1,6 +1,6 @@
 //! What C calls of a stream that is open.
 
-ghost use Rattle.std.specs.Prelude.{◌≡◌, ℕ, ◌<◌, ◌≤◌, List, [], ◌++◌, length, take, drop, min, None, Some, IfSome};
+ghost use Rattle.std.specs.Prelude.{◌≡◌, ℕ, ◌<◌, ◌≤◌, List, [], ◌++◌, length, take, drop, min, None, Some, IfSome, IsSome};
 ghost use Rattle.mp4_push.specs.Feeders.{Feeding};
 ghost use Rattle.mp4_recut.specs.declared.operation.Operation as operations;
 ghost use Rattle.mp4_machine.specs.declared.stop.Stop as stops;
@@ -43,6 +43,7 @@ pub extern "C" fn fmp4_feed(
     ensures room { (operation : operations.Operation) → (b given : List ℕ) → (r : Run) →
         stream.old.handle.held ≡ Some r → Holds operation b given r →
         IfSome stream.new.handle.held (λ r'. r'.waiting.room ≡ r.waiting.room) }
+    ensures open { (r : Run) → stream.old.handle.held ≡ Some r → IsSome stream.new.handle.held }
     ensures kept { (r : Run) → stream.old.handle.held ≡ Some r →
         IfSome stream.new.handle.held (IsKept r) }
     ensures ended { (r : Run) → stream.old.handle.held ≡ Some r → r.feeding ≡ None →
@@ -87,6 +88,7 @@ pub extern "C" fn fmp4_take(
         taken.new ≡ min (length out.old) (length r.waiting.bytes) }
     ensures front { (r : Run) → stream.old.handle.held ≡ Some r →
         take taken.new out.new ≡ take taken.new r.waiting.bytes }
+    ensures open { (r : Run) → stream.old.handle.held ≡ Some r → IsSome stream.new.handle.held }
     ensures left { (r : Run) → stream.old.handle.held ≡ Some r →
         IfSome stream.new.handle.held (λ r'. r'.waiting.bytes ≡ drop taken.new r.waiting.bytes) }
     ensures rest { drop taken.new out.new ≡ drop taken.new out.old }
@@ -152,6 +154,7 @@ pub extern "C" fn fmp4_finish(alloc: Global, stream: &mut Stream, report: &mut R
         r.feeding ≡ Some p → IfSome stream.new.handle.held (λ r'. r'.reported ≡ report.new) }
     ensures reported_before { (r : Run) → stream.old.handle.held ≡ Some r → r.feeding ≡ None →
         IfSome stream.new.handle.held (λ r'. r'.reported ≡ r.reported) }
+    ensures open { (r : Run) → stream.old.handle.held ≡ Some r → IsSome stream.new.handle.held }
     ensures waits { (r : Run) → stream.old.handle.held ≡ Some r →
         IfSome stream.new.handle.held (λ r'. (r'.waiting ≡ r.waiting) × (r'.feeding ≡ None) ×
         (r'.account.live ≡ 0)) }
