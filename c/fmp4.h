@@ -3,7 +3,7 @@
  * A stream is fed as it comes, in inputs of any size, and the output is taken from the front:
  *
  *     struct fmp4_stream s = {0};
- *     fmp4_split_open(&s, 15, 0, 0, 64 << 20, 1 << 20);
+ *     fmp4_split_open(&s, 15, 0, 0, 64 << 20, 2 << 20);
  *     while (fmp4_feed(&s, input, len, &n) ..)  take with fmp4_take, go on with input + n
  *     fmp4_finish(&s, &report);                 take what is left
  *     fmp4_close(&s);
@@ -16,10 +16,10 @@
  *
  * Threads. Streams share nothing. Calls with different streams may run at once; those with one stream one at a time,
  * and all in the thread that opened it. No call may be made in a signal handler, or in the forked child of a process
- * with threads. A call blocks on nothing, and ends. It needs at most 256 KiB of stack: threads of musl have 128 KiB if
- * they aren't given more.
+ * with threads. A call blocks on nothing, and ends. None was seen to need more than 256 KiB of stack: threads of musl
+ * have 128 KiB if they aren't given more.
  *
- * Memory comes from malloc, realloc and free. A stream takes at most `limit` bytes for its boxes and its output
+ * Memory comes from malloc, realloc and free. A stream asks for at most `limit` bytes for its boxes and its output
  * together, and some 20 KiB beside them for its state. No media is kept but in the output that waits.
  */
 #ifndef FMP4_H
@@ -44,7 +44,7 @@ struct fmp4_report {
     uint64_t samples;     /* those of accepted fragments; 2^64 - 1 where there are more */
     uint64_t media_bytes; /* the bytes of these samples */
     uint64_t peak;        /* the most bytes that the boxes of the stream had claimed at once, without the output */
-    uint64_t offset;      /* where the box at fault begins in the stream; 0: no fault */
+    uint64_t offset;      /* where the box at fault begins in the stream; 0 also where there is no fault */
     uint32_t rule;        /* the number of the broken rule, 1 to 25 (docs/FORMAT.md); 0: no fault */
     uint32_t type;        /* the type of the box at fault, 'moof' as 0x6d6f6f66; 0: not known */
 };
@@ -54,10 +54,10 @@ enum fmp4_answer {
     FMP4_OK = 0,
     FMP4_FULL = 1,          /* take output first: nothing of the input was taken. Nothing is lost, feed it again */
 
-    /* The stream has stopped for good. Each feed, and finish, answers the same from then on */
+    /* The stream has stopped for good. Each feed answers the same from then on, and so does fmp4_finish */
     FMP4_FAULT = 2,         /* it breaks a rule: the report says which. All output before the fault was written */
     FMP4_NO_ROOM = 3,       /* the output didn't fit the room, which is full. What fitted can be taken, and is a prefix */
-    FMP4_OVER_LIMIT = 4,    /* a moov or moof asks for more than the limit. All output before this box was written */
+    FMP4_OVER_LIMIT = 4,    /* a moov or moof asks for more than the limit leaves. All output before it was written */
     FMP4_NO_MEMORY = 5,     /* malloc has none for it. The same */
 
     /* Misuse: the call did nothing */
@@ -81,8 +81,9 @@ enum fmp4_flags {
  * bytes of media (0: any number; a larger sample is a fragment by itself). `limit`: the most bytes that it may take.
  * `room` of them are allocated at once for the output that waits. 2 MiB serve where output is taken after each feed.
  * What comes at once must fit what is free, or the stream ends with FMP4_NO_ROOM: a moov (most have less than 64 KiB;
- * 16 MiB are allowed); the head of a new fragment, 92 bytes and 16 a sample; an index, up to 786,460 bytes; and the
- * heads of all samples without bytes that follow each other. A stream that was closed can be opened again.
+ * 16 MiB are allowed); the head of a new fragment, 100 bytes and 16 a sample (108 where it has 4 GiB of media); an
+ * index, up to 786,460 bytes, with the head after it; and the heads of all samples without bytes that follow each
+ * other. A stream that was closed can be opened again.
  *   FMP4_OVER_LIMIT: room is more than limit; FMP4_NO_MEMORY; FMP4_IS_OPEN; FMP4_BAD_SAMPLES, _BYTES, _FLAGS, _ROOM */
 uint32_t fmp4_split_open(struct fmp4_stream *stream, uint32_t samples, uint64_t bytes, uint32_t flags, uint64_t limit,
                          size_t room);
@@ -93,8 +94,9 @@ uint32_t fmp4_check_open(struct fmp4_stream *stream, uint64_t limit);
 
 /* Feeds the next `len` bytes of the stream, or the first *taken of them: go on with the rest. A cut takes at most a
  * 128th of what is free in the room at once (a 512th with an index), a byte at the least, and nothing (FMP4_FULL)
- * while more than half of the room is filled. All output that the bytes so far determine waits to be taken when this
- * returns. *taken is 0 where it misuses the stream, and after a stop.
+ * while more than half of the room is filled. Where this answers FMP4_OK, FMP4_FULL or FMP4_FAULT, all output that the
+ * bytes so far determine waits to be taken, but for what was taken. *taken is 0 where it misuses the stream, and after
+ * a stop.
  *   FMP4_FULL; FMP4_FAULT, FMP4_NO_ROOM, FMP4_OVER_LIMIT, FMP4_NO_MEMORY; FMP4_NOT_OPEN, FMP4_CLOSED, FMP4_ENDED */
 uint32_t fmp4_feed(struct fmp4_stream *stream, const uint8_t *input, size_t len, size_t *taken);
 
