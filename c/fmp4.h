@@ -28,6 +28,11 @@
 #include <stddef.h>
 #include <stdint.h>
 
+/* The version of this header: a million for its first number, a thousand for its second. fmp4_version() is that of the
+ * library. A library of the same soname has all that an older header of it has. */
+#define FMP4_VERSION 1000
+#define FMP4_VERSION_TEXT "0.1.0"
+
 #ifdef __cplusplus
 extern "C" {
 #endif
@@ -105,6 +110,10 @@ uint32_t fmp4_feed(struct fmp4_stream *stream, const uint8_t *input, size_t len,
  *   FMP4_NOT_OPEN, FMP4_CLOSED */
 uint32_t fmp4_take(struct fmp4_stream *stream, uint8_t *out, size_t len, size_t *taken);
 
+/* Says how many bytes of output wait.
+ *   FMP4_NOT_OPEN, FMP4_CLOSED: *count is 0 */
+uint32_t fmp4_pending(struct fmp4_stream *stream, size_t *count);
+
 /* Says what was counted so far, and the fault where the stream has stopped for one; after fmp4_finish, what that
  * reported.
  *   FMP4_NOT_OPEN, FMP4_CLOSED: the report is left as it was */
@@ -122,6 +131,12 @@ uint32_t fmp4_close(struct fmp4_stream *stream);
 /* Writes the name of a rule, such as "Truncated", and a zero: at most `len` bytes. Returns the length of the name
  * without the zero, 0 where no rule has this number. 16 bytes are enough. */
 size_t fmp4_rule_name(uint32_t rule, char *name, size_t len);
+
+/* The same of an answer, such as "FMP4_FULL". 17 bytes are enough. */
+size_t fmp4_answer_name(uint32_t answer, char *name, size_t len);
+
+/* The version of the library, as FMP4_VERSION. */
+uint32_t fmp4_version(void);
 
 #ifdef __cplusplus
 }

@@ -13,6 +13,8 @@ static void all_answer(struct fmp4_stream *s, uint32_t wanted) {
     if (wanted != FMP4_ENDED) {
         n = 9;
         WANT(fmp4_take(s, out, sizeof out, &n) == wanted && n == 0);
+        n = 9;
+        WANT(fmp4_pending(s, &n) == wanted && n == 0);
         WANT(fmp4_close(s) == wanted);
         WANT(fmp4_totals(s, &report) == wanted);
     }
@@ -69,6 +71,17 @@ int main(void) {
     WANT(fmp4_rule_name(4, name, 4) == 10 && memcmp(name, "Sec\0xx", 6) == 0);
     WANT(fmp4_rule_name(4, name, 1) == 10 && name[0] == 0);
     WANT(fmp4_rule_name(UINT32_MAX, name, 0) == 0);
+    char of_answer[17];
+    static const struct { uint32_t answer; const char *name; } answers[] = {{0, "FMP4_OK"}, {1, "FMP4_FULL"}, {2, "FMP4_FAULT"},
+        {3, "FMP4_NO_ROOM"}, {4, "FMP4_OVER_LIMIT"}, {5, "FMP4_NO_MEMORY"}, {6, ""}, {15, ""}, {16, "FMP4_NOT_OPEN"},
+        {17, "FMP4_CLOSED"}, {18, "FMP4_IS_OPEN"}, {19, "FMP4_ENDED"}, {20, "FMP4_BAD_SAMPLES"}, {21, "FMP4_BAD_BYTES"},
+        {22, "FMP4_BAD_FLAGS"}, {23, "FMP4_BAD_ROOM"}, {24, ""}, {UINT32_MAX, ""}};
+    for (size_t i = 0; i < sizeof answers / sizeof *answers; i++) {
+        memset(of_answer, 'x', sizeof of_answer);
+        WANT(fmp4_answer_name(answers[i].answer, of_answer, sizeof of_answer) == strlen(answers[i].name));
+        WANT(strcmp(of_answer, answers[i].name) == 0);
+    }
+    WANT(fmp4_version() == FMP4_VERSION);
     puts("misuse: each number as the header says");
     return 0;
 }

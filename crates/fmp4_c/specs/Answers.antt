@@ -1,5 +1,5 @@
 -- The numbers of the answers to C.
-use Rattle.std.specs.Prelude.{ℕ, suc, zero, ◌-◌, ◌^◌, min, Option, None, Some}
+use Rattle.std.specs.Prelude.{ℕ, suc, zero, ◌-◌, ◌^◌, min, codes, List, Option, None, Some}
 use Rattle.std.specs.Int.{w32, from_be_bytes}
 use Rattle.mp4_box.specs.Rules as rules
 use Rattle.mp4_box.specs.declared.headers.FourCc.{FourCc}
@@ -27,6 +27,27 @@ number_of BadSamples = 20
 number_of BadBytes = 21
 number_of BadFlags = 22
 number_of BadRoom = 23
+
+-- its name in C
+abbrev pub name_of : Answer → List ℕ
+name_of Done = codes "FMP4_OK"
+name_of Full = codes "FMP4_FULL"
+name_of Fault = codes "FMP4_FAULT"
+name_of NoRoom = codes "FMP4_NO_ROOM"
+name_of OverLimit = codes "FMP4_OVER_LIMIT"
+name_of NoMemory = codes "FMP4_NO_MEMORY"
+name_of NotOpen = codes "FMP4_NOT_OPEN"
+name_of Closed = codes "FMP4_CLOSED"
+name_of IsOpen = codes "FMP4_IS_OPEN"
+name_of Ended = codes "FMP4_ENDED"
+name_of BadSamples = codes "FMP4_BAD_SAMPLES"
+name_of BadBytes = codes "FMP4_BAD_BYTES"
+name_of BadFlags = codes "FMP4_BAD_FLAGS"
+name_of BadRoom = codes "FMP4_BAD_ROOM"
+
+-- the number of the version 0.1.0: a million for the first, a thousand for the second
+abbrev pub version : ℕ
+version = 1000
 
 -- the answer where a stream stopped so: the one write that can fail is that into the room
 abbrev pub answer_to : Stop → Answer

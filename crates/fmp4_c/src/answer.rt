@@ -1,7 +1,7 @@
 //! The result of a call.
 
-ghost use Rattle.std.specs.Prelude.{◌≡◌};
-ghost use Rattle.fmp4_c.specs.Answers.{answer_to, at_rest, number_of};
+ghost use Rattle.std.specs.Prelude.{◌≡◌, ◌<◌, ◌≤◌, IfSome, IsSome, None};
+ghost use Rattle.fmp4_c.specs.Answers.{answer_to, at_rest, name_of, number_of};
 
 use mp4_push::Stop;
 
@@ -58,6 +58,55 @@ impl Answer {
             Answer::BadBytes => 21,
             Answer::BadFlags => 22,
             Answer::BadRoom => 23,
+        }
+    }
+
+    /// The answer with this number.
+    pub(crate) fn of_number(number: u32) -> Option<Answer>
+        ensures number { IfSome result (λ a. number_of a ≡ number) }
+        ensures some { number ≤ 5 → IsSome result }
+        ensures misuse { 16 ≤ number → number ≤ 23 → IsSome result }
+        ensures none { 5 < number → number < 16 → result ≡ None }
+        ensures past { 23 < number → result ≡ None }
+    {
+        Some(match number {
+            0 => Answer::Done,
+            1 => Answer::Full,
+            2 => Answer::Fault,
+            3 => Answer::NoRoom,
+            4 => Answer::OverLimit,
+            5 => Answer::NoMemory,
+            16 => Answer::NotOpen,
+            17 => Answer::Closed,
+            18 => Answer::IsOpen,
+            19 => Answer::Ended,
+            20 => Answer::BadSamples,
+            21 => Answer::BadBytes,
+            22 => Answer::BadFlags,
+            23 => Answer::BadRoom,
+            _ => return None,
+        })
+    }
+
+    /// The name of the answer in C.
+    pub(crate) fn name(self) -> &'static str
+        ensures { result.now ≡ name_of self }
+    {
+        match self {
+            Answer::Done => "FMP4_OK",
+            Answer::Full => "FMP4_FULL",
+            Answer::Fault => "FMP4_FAULT",
+            Answer::NoRoom => "FMP4_NO_ROOM",
+            Answer::OverLimit => "FMP4_OVER_LIMIT",
+            Answer::NoMemory => "FMP4_NO_MEMORY",
+            Answer::NotOpen => "FMP4_NOT_OPEN",
+            Answer::Closed => "FMP4_CLOSED",
+            Answer::IsOpen => "FMP4_IS_OPEN",
+            Answer::Ended => "FMP4_ENDED",
+            Answer::BadSamples => "FMP4_BAD_SAMPLES",
+            Answer::BadBytes => "FMP4_BAD_BYTES",
+            Answer::BadFlags => "FMP4_BAD_FLAGS",
+            Answer::BadRoom => "FMP4_BAD_ROOM",
         }
     }
 

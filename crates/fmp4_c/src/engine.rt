@@ -163,6 +163,13 @@ impl Engine {
         self.out.take(out)
     }
 
+    /// How many bytes of output wait.
+    pub fn pending(&self) -> usize
+        ensures { result ≡ length self.now.waiting.bytes }
+    {
+        self.out.len()
+    }
+
     /// Says what was counted so far, and for which fault the stream stopped, if it did; at its end, what was reported there.
     pub fn totals(&mut self, report: &mut Report) -> Answer
         ensures reports { (p : Feeding) → self.old.feeding ≡ Some p →

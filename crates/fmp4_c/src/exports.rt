@@ -115,6 +115,29 @@ pub extern "C" fn fmp4_take(
     }
 }
 
+/// Says how many bytes of output wait.
+#[unsafe(no_mangle)]
+pub extern "C" fn fmp4_pending(alloc: Global, stream: &mut Stream, count: &mut usize) -> u32
+    ensures open { (r : Run) → stream.old.handle.held ≡ Some r →
+        (result ≡ number_of Answer.Done) × (count.new ≡ length r.waiting.bytes) }
+    ensures closed { stream.old.handle.held ≡ None →
+        (result ≡ number_of (at_rest stream.old.closed)) × (count.new ≡ 0) }
+    ensures kept { stream.new.handle.held ≡ stream.old.handle.held }
+    ensures rests { stream.new.closed ≡ stream.old.closed }
+{
+    match replace(&mut stream.handle, Handle::none()).into_box(alloc) {
+        Some(engine) => {
+            *count = engine.pending();
+            stream.handle = Handle::of(engine);
+            Answer::Done.number()
+        }
+        None => {
+            *count = 0;
+            Answer::at_rest(stream.closed).number()
+        }
+    }
+}
+
 /// Says what was counted so far, and for which fault the stream stopped, if it did; at its end, what was reported there.
 #[unsafe(no_mangle)]
 pub extern "C" fn fmp4_totals(alloc: Global, stream: &mut Stream, report: &mut Report) -> u32

@@ -1,11 +1,14 @@
-//! The names of the rules.
+//! The names of the rules and of the answers, and the version.
 
 ghost use Rattle.std.specs.Prelude.{◌≡◌, ◌<◌, ◌≤◌, IsSome, IfSome, length, []};
 ghost use Rattle.mp4_box.specs.Rules.{name_of};
 ghost use Rattle.mp4_box.specs.Rules as rules;
 ghost use Rattle.mp4_box.specs.declared.rules.Rule as kinds;
+ghost use Rattle.fmp4_c.specs.Answers.{name_of as answer_name, number_of, version};
 ghost use Rattle.fmp4_c.specs.Calls.{zero_ended};
+ghost use Rattle.fmp4_c.specs.declared.answer.Answer as answers;
 
+use crate::answer::Answer;
 use mp4_push::Rule;
 
 /// Writes the name of a rule with a zero after it, cut where it doesn't fit: how many bytes the whole name has. Where
@@ -25,6 +28,36 @@ pub extern "C" fn fmp4_rule_name(rule: u32, name: &mut [u8]) -> usize
         Some(rule) => put_text(rule.name().as_bytes(), name),
         None => put_text(&[], name),
     }
+}
+
+/// Writes the name of an answer with a zero after it, cut where it doesn't fit: how many bytes the whole name has. Where
+/// no answer has this number, it has none.
+#[unsafe(no_mangle)]
+pub extern "C" fn fmp4_answer_name(answer: u32, name: &mut [u8]) -> usize
+    ensures known { answer ≤ 5 → (a : answers.Answer) × (number_of a ≡ answer) ×
+        (result ≡ length (answer_name a)) ×
+        (0 < length name.old → name.new ≡ zero_ended (answer_name a) name.old) }
+    ensures misuse { 16 ≤ answer → answer ≤ 23 → (a : answers.Answer) × (number_of a ≡ answer) ×
+        (result ≡ length (answer_name a)) ×
+        (0 < length name.old → name.new ≡ zero_ended (answer_name a) name.old) }
+    ensures unknown { 5 < answer → answer < 16 → (result ≡ 0) ×
+        (0 < length name.old → name.new ≡ zero_ended [] name.old) }
+    ensures past { 23 < answer → (result ≡ 0) ×
+        (0 < length name.old → name.new ≡ zero_ended [] name.old) }
+    ensures none { length name.old ≡ 0 → name.new ≡ name.old }
+{
+    match Answer::of_number(answer) {
+        Some(answer) => put_text(answer.name().as_bytes(), name),
+        None => put_text(&[], name),
+    }
+}
+
+/// The version of the library, as a million times its first number, a thousand times its second, and its third.
+#[unsafe(no_mangle)]
+pub extern "C" fn fmp4_version() -> u32
+    ensures { result ≡ version }
+{
+    1000
 }
 
 /// Puts a text with a zero after it in the place of the front of a buffer, cut where it doesn't fit: how many bytes it
