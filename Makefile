@@ -55,7 +55,7 @@ test:
 	@scripts/needs_rt
 	@if command -v python3 > /dev/null; then \
 	    scripts/words && scripts/edit_index --check && scripts/pictures --check crates states inputs; fi
-	@echo "proving everything from nothing and running the tests: over an hour on 4 cores" >&2
+	@echo "proving everything from nothing and running the tests: about an hour on 4 cores" >&2
 	@rt ci
 	@if command -v cc > /dev/null; then scripts/refused_allocations; fi
 	@if command -v valgrind > /dev/null; then bench/instructions "as written" --room 3; fi
