@@ -86,7 +86,7 @@ install_lib:
 	@if [ -e c/out/libfmp4.so.0 ]; then \
 	    install -m 644 c/out/libfmp4.so.0 "$(LIB)/libfmp4.so.0" && strip --strip-unneeded "$(LIB)/libfmp4.so.0" && \
 	    ln -sf libfmp4.so.0 "$(LIB)/libfmp4.so"; fi
-	install -m 644 c/fmp4.h "$(INCLUDE)/fmp4.h"
+	install -m 644 c/fmp4.h c/fmp4.hpp "$(INCLUDE)/"
 	sed "s|@VERSION@|$$(cat VERSION)|; s|@LIBDIR@|$(LIBDIR)|; s|@UP@|$(UP)|" c/fmp4.pc.in | \
 	    $(PUT) "$(LIB)/pkgconfig/fmp4.pc"
 	$(WITH_VERSION) docs/fmp4.3 | $(PUT) "$(SHARE)/man/man3/fmp4.3"
@@ -96,7 +96,8 @@ install_lib:
 uninstall:
 	rm -f "$(BIN)/fmp4" "$(SHARE)/man/man1/fmp4.1" "$(SHARE)/bash-completion/completions/fmp4" \
 	    "$(SHARE)/zsh/site-functions/_fmp4" "$(SHARE)/fish/vendor_completions.d/fmp4.fish" "$(LIB)/libfmp4.a" \
-	    "$(LIB)/libfmp4.so" "$(LIB)/libfmp4.so.0" "$(LIB)/pkgconfig/fmp4.pc" "$(INCLUDE)/fmp4.h" "$(SHARE)/man/man3/fmp4.3"
+	    "$(LIB)/libfmp4.so" "$(LIB)/libfmp4.so.0" "$(LIB)/pkgconfig/fmp4.pc" "$(INCLUDE)/fmp4.h" "$(INCLUDE)/fmp4.hpp" \
+	    "$(SHARE)/man/man3/fmp4.3"
 
 # Packs what install installs, for machines without Rattle.
 dist: build lib

@@ -4,23 +4,27 @@
  *
  *     struct fmp4_stream s = {0};
  *     fmp4_split_open(&s, 15, 0, 0, 64 << 20, 2 << 20);
- *     while (fmp4_feed(&s, input, len, &n) ..)  take with fmp4_take, go on with input + n
- *     fmp4_finish(&s, &report);                 take what is left
+ *     while (fmp4_feed_take(&s, input, len, &taken, out, size, &given) ..)
+ *         write `given` bytes of out, go on with input + taken
+ *     fmp4_finish(&s, &report);   take what is left with fmp4_take
  *     fmp4_close(&s);
  *
  * docs/fmp4.3 is the manual page, and c/examples/recut.c a whole program.
  *
- * Ownership. The caller owns struct fmp4_stream, inputs, buffers and reports; no call keeps a pointer to them. What an
- * open stream allocates is freed by fmp4_close. No pointer may be NULL, also where its length is 0, and no two that are
- * given to one call may overlap. Buffers must be initialised memory, also those that are written.
+ * Ownership. The caller owns struct fmp4_stream, inputs, buffers and reports; no call keeps a pointer to them. Between
+ * two calls a struct fmp4_stream may be moved, as realloc moves it; a copy is no second stream. What an open stream
+ * allocates is freed by fmp4_close. A buffer or an input of no bytes may be NULL; this header puts another pointer in
+ * its place, so who calls the library without it gives one. No other pointer may be NULL, and no two that are given to
+ * one call may overlap. Buffers must be initialised memory, also those that are written.
  *
- * Threads. Streams share nothing. Calls with different streams may run at once; those with one stream one at a time,
- * and all in the thread that opened it. No call may be made in a signal handler, or in the forked child of a process
- * with threads. A call blocks on nothing, and ends. None was seen to need more than 256 KiB of stack: threads of musl
- * have 128 KiB if they aren't given more.
+ * Threads. Streams share nothing. Calls with different streams may run at once. Those with one stream come one at a
+ * time, in whichever threads: who hands a stream on orders the calls, as by a lock, a queue or a thread's start or end.
+ * No call may be made in a signal handler, or in the forked child of a process with threads. A call blocks on nothing,
+ * and ends. None was seen to need more than 256 KiB of stack: threads of musl have 128 KiB if they aren't given more.
  *
- * Memory comes from malloc, realloc and free. A stream asks for at most `limit` bytes for its boxes and its output
- * together, and some 20 KiB beside them for its state. No media is kept but in the output that waits.
+ * Memory comes from malloc, realloc and free, which must be one allocator's, and align a block to each power of two up
+ * to 16 that divides its size. A stream asks for at most `limit` bytes for its boxes and its output together, and some
+ * 20 KiB beside them for its state. No media is kept but in the output that waits.
  */
 #ifndef FMP4_H
 #define FMP4_H
@@ -51,7 +55,7 @@ struct fmp4_report {
     uint64_t peak;        /* the most bytes that the boxes of the stream had claimed at once, without the output */
     uint64_t offset;      /* where the box at fault begins in the stream; 0 also where there is no fault */
     uint32_t rule;        /* the number of the broken rule, 1 to 25 (docs/FORMAT.md); 0: no fault */
-    uint32_t type;        /* the type of the box at fault, 'moof' as 0x6d6f6f66; 0: not known */
+    uint32_t box_type;    /* the type of the box at fault, 'moof' as 0x6d6f6f66; 0: not known */
 };
 
 /* What a call answers. */
@@ -105,6 +109,14 @@ uint32_t fmp4_check_open(struct fmp4_stream *stream, uint64_t limit);
  *   FMP4_FULL; FMP4_FAULT, FMP4_NO_ROOM, FMP4_OVER_LIMIT, FMP4_NO_MEMORY; FMP4_NOT_OPEN, FMP4_CLOSED, FMP4_ENDED */
 uint32_t fmp4_feed(struct fmp4_stream *stream, const uint8_t *input, size_t len, size_t *taken);
 
+/* As fmp4_take and then fmp4_feed, and the output of the input follows in `out` at once, without a copy in the room:
+ * *given says how many bytes of output, less than `size` only where no more wait; what doesn't fit waits. So a loop over
+ * an input sees FMP4_FULL only where `out` is smaller than what waits, and calls again. A stream that has stopped still
+ * gives what waits. What lies after the *given bytes in `out` may change.
+ *   As fmp4_feed; *given is 0 where it misuses the stream */
+uint32_t fmp4_feed_take(struct fmp4_stream *stream, const uint8_t *input, size_t len, size_t *taken, uint8_t *out,
+                        size_t size, size_t *given);
+
 /* Copies output to `out`: *taken says how many bytes, less than `len` only where no more wait. After a stop and after
  * fmp4_finish too, until the stream is closed.
  *   FMP4_NOT_OPEN, FMP4_CLOSED */
@@ -137,6 +149,33 @@ size_t fmp4_answer_name(uint32_t answer, char *name, size_t len);
 
 /* The version of the library, as FMP4_VERSION. */
 uint32_t fmp4_version(void);
+
+/* NULL for no bytes: the functions of the library want a pointer. */
+static inline uint32_t fmp4_feed_any(struct fmp4_stream *stream, const uint8_t *input, size_t len, size_t *taken) {
+    return fmp4_feed(stream, len ? input : (const uint8_t *)"", len, taken);
+}
+static inline uint32_t fmp4_feed_take_any(struct fmp4_stream *stream, const uint8_t *input, size_t len, size_t *taken,
+                                          uint8_t *out, size_t size, size_t *given) {
+    uint8_t none = 0;
+    return fmp4_feed_take(stream, len ? input : (const uint8_t *)"", len, taken, size ? out : &none, size, given);
+}
+static inline uint32_t fmp4_take_any(struct fmp4_stream *stream, uint8_t *out, size_t len, size_t *taken) {
+    uint8_t none = 0;
+    return fmp4_take(stream, len ? out : &none, len, taken);
+}
+static inline size_t fmp4_rule_name_any(uint32_t rule, char *name, size_t len) {
+    char none = 0;
+    return fmp4_rule_name(rule, len ? name : &none, len);
+}
+static inline size_t fmp4_answer_name_any(uint32_t answer, char *name, size_t len) {
+    char none = 0;
+    return fmp4_answer_name(answer, len ? name : &none, len);
+}
+#define fmp4_feed fmp4_feed_any
+#define fmp4_feed_take fmp4_feed_take_any
+#define fmp4_take fmp4_take_any
+#define fmp4_rule_name fmp4_rule_name_any
+#define fmp4_answer_name fmp4_answer_name_any
 
 #ifdef __cplusplus
 }

@@ -19,8 +19,8 @@ static void report_end(uint32_t answer, const struct fmp4_report *report) {
     char name[16] = {0}, type[5] = {0};
     if (answer == FMP4_FAULT) {
         fmp4_rule_name(report->rule, name, sizeof name);
-        for (int i = 0; i < 4; i++) type[i] = (char)(report->type >> (24 - 8 * i));
-        fprintf(stderr, "recut: %u %s in %s at %llu\n", (unsigned)report->rule, name, report->type ? type : "-",
+        for (int i = 0; i < 4; i++) type[i] = (char)(report->box_type >> (24 - 8 * i));
+        fprintf(stderr, "recut: %u %s in %s at %llu\n", (unsigned)report->rule, name, report->box_type ? type : "-",
                 (unsigned long long)report->offset);
     } else if (answer == FMP4_OVER_LIMIT) fputs("recut: over the limit\n", stderr);
     else if (answer == FMP4_NO_MEMORY) fputs("recut: out of memory\n", stderr);
@@ -31,7 +31,7 @@ int main(int argc, char **argv) {
     unsigned long long with[6] = {0, 65536, 0, 0, 512ull << 20, 2 << 20};
     if (argc < 2 || argc > 7) return fputs("recut SAMPLES [INPUT [BYTES [FLAGS [LIMIT [ROOM]]]]]\n", stderr), 64;
     for (int i = 1; i < argc; i++) with[i - 1] = strtoull(argv[i], NULL, 10);
-    size_t size = with[1] ? with[1] : 1, len = 0, n = 0;
+    size_t size = with[1] ? with[1] : 1, len = 0, taken = 0, given = 0;
     unsigned char *input = calloc(size, 1), *out = calloc(65536, 1);
     if (!input || !out) return 4;
     struct fmp4_stream stream = {0};
@@ -39,11 +39,10 @@ int main(int argc, char **argv) {
     uint32_t answer = fmp4_split_open(&stream, (uint32_t)with[0], with[2], (uint32_t)with[3], with[4], with[5]);
     if (answer != FMP4_OK) return fprintf(stderr, "recut: the stream isn't opened: %u\n", (unsigned)answer), 64;
     int is_written = 1;
-    while (is_written && answer == FMP4_OK && (len = fread(input, 1, size, stdin)) > 0)
-        for (size_t at = 0; is_written && at < len && (answer == FMP4_OK || answer == FMP4_FULL); at += n) {
-            answer = fmp4_feed(&stream, input + at, len - at, &n);
-            is_written = drain(&stream, out, 65536);
-            if (answer == FMP4_FULL) answer = FMP4_OK;
+    while (is_written && answer <= FMP4_FULL && (len = fread(input, 1, size, stdin)) > 0)
+        for (size_t at = 0; is_written && answer <= FMP4_FULL && (at < len || given == 65536); at += taken) {
+            answer = fmp4_feed_take(&stream, input + at, len - at, &taken, out, 65536, &given);
+            is_written = fwrite(out, 1, given, stdout) == given;
         }
     answer = fmp4_finish(&stream, &report);
     if (is_written) is_written = drain(&stream, out, 65536) && fflush(stdout) == 0;

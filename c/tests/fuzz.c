@@ -48,9 +48,18 @@ static void feed_one(struct one *s) {
     unsigned char *input = malloc(len + 1);
     memcpy(input, in.at + s->at, len);
     if (s->is_changed && len && random_to(2)) input[random_to(len)] = (unsigned char)random_to(256);
-    uint32_t answer = fmp4_feed(&s->stream, input, len, &n);
+    size_t size = random_to(3) ? random_to(5000) : random_to(200000), given = 0;
+    int takes = (int)random_to(2);
+    unsigned char *out = takes ? calloc(size + 1, 1) : NULL;
+    uint32_t answer = takes ? fmp4_feed_take(&s->stream, len ? input : NULL, len, &n, size ? out : NULL, size, &given)
+                            : fmp4_feed(&s->stream, input, len, &n);
     free(input);
-    WANT(n <= len);
+    WANT(n <= len && given <= size);
+    if (takes && (s->state == NEW || s->state == CLOSED || s->state == ENDED || s->is_check)) WANT(given == 0);
+    if (given) append(&s->out, out, given);
+    free(out);
+    if (!s->is_changed && !s->is_check) WANT(s->out.len <= whole.len && memcmp(s->out.at, whole.at, s->out.len) == 0);
+    if (takes && given < size && (s->state == OPEN || s->state == STOPPED)) WANT(fmp4_pending(&s->stream, &size) == FMP4_OK && size == 0);
     switch (s->state) {
     case NEW: WANT(answer == FMP4_NOT_OPEN && n == 0); break;
     case CLOSED: WANT(answer == FMP4_CLOSED && n == 0); break;

@@ -10,6 +10,9 @@ static void all_answer(struct fmp4_stream *s, uint32_t wanted) {
     other = report;
     n = 9;
     WANT(fmp4_feed(s, input, sizeof input, &n) == wanted && n == 0);
+    size_t given = 9;
+    n = 9;
+    WANT(fmp4_feed_take(s, input, sizeof input, &n, out, sizeof out, &given) == wanted && n == 0 && given == 0);
     if (wanted != FMP4_ENDED) {
         n = 9;
         WANT(fmp4_take(s, out, sizeof out, &n) == wanted && n == 0);
@@ -47,6 +50,10 @@ int main(void) {
         WANT(fmp4_check_open(&s, 1 << 20) == FMP4_IS_OPEN);
         WANT(fmp4_totals(&s, &report) == FMP4_OK && report.samples == 0 && report.rule == 0);
         WANT(fmp4_feed(&s, input, 0, &n) == FMP4_OK && n == 0);
+        WANT(fmp4_feed(&s, NULL, 0, &n) == FMP4_OK && n == 0);
+        WANT(fmp4_take(&s, NULL, 0, &n) == FMP4_OK && n == 0);
+        size_t given = 9;
+        WANT(fmp4_feed_take(&s, NULL, 0, &n, NULL, 0, &given) == FMP4_OK && n == 0 && given == 0);
         WANT(fmp4_finish(&s, &report) == FMP4_OK && report.samples == 0 && report.peak == 0);
         all_answer(&s, FMP4_ENDED);
         WANT(fmp4_totals(&s, &report) == FMP4_OK && report.samples == 0 && report.rule == 0);
@@ -71,6 +78,7 @@ int main(void) {
     WANT(fmp4_rule_name(4, name, 4) == 10 && memcmp(name, "Sec\0xx", 6) == 0);
     WANT(fmp4_rule_name(4, name, 1) == 10 && name[0] == 0);
     WANT(fmp4_rule_name(UINT32_MAX, name, 0) == 0);
+    WANT(fmp4_rule_name(4, NULL, 0) == 10 && fmp4_answer_name(FMP4_FULL, NULL, 0) == 9);
     char of_answer[17];
     static const struct { uint32_t answer; const char *name; } answers[] = {{0, "FMP4_OK"}, {1, "FMP4_FULL"}, {2, "FMP4_FAULT"},
         {3, "FMP4_NO_ROOM"}, {4, "FMP4_OVER_LIMIT"}, {5, "FMP4_NO_MEMORY"}, {6, ""}, {15, ""}, {16, "FMP4_NOT_OPEN"},

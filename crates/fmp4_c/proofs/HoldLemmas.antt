@@ -3,8 +3,9 @@ use Rattle.std.proofs.Common.{◌≡◌, ◌∙◌, ℕ, ◌+◌, List, [], ◌�
 use Rattle.std.proofs.lemmas.List.{take-append-drop}
 use Rattle.std.proofs.lemmas.Option.{none-some}
 use Rattle.std.specs.Io.KnownBytes.{Appends}
+use Rattle.std.specs.Prelude.{IsErrOf}
 use Rattle.mp4_ledger.specs.Memory.{Account}
-use Rattle.mp4_machine.specs.Fed.{AllWhole, FedUntil, Borrowed, ClaimRefusedAfter, WritesRest}
+use Rattle.mp4_machine.specs.Fed.{AllWhole, FedUntil, Borrowed, ClaimRefusedAfter, Sums, WritesRest}
 use Rattle.mp4_box.specs.declared.rules.Fault as faults
 use Rattle.mp4_machine.specs.Readings.{Effects, Reading, both, whole_in, fault_in as faults_in}
 use Rattle.mp4_machine.specs.declared.stop.Stop.{Stop}
@@ -14,18 +15,19 @@ use Rattle.mp4_push.specs.Feeders.{Feeds, Finishes, IsAfter, Feeding, WritesBefo
 use Rattle.mp4_push.proofs.FeederLemmas.{reading-none}
 use Rattle.mp4_recut.specs.Operations.{reads_of}
 use Rattle.mp4_recut.specs.declared.operation.Operation.{Operation}
-use Rattle.fmp4_c.specs.Answers.{Counted, answer_to, counted_of, fault_of, report_from}
+use Rattle.fmp4_c.specs.Answers.{Counted, answer_to, counted_of, fault_of, number_of, report_from}
 use Rattle.fmp4_c.specs.Engines.{Fed, Finished, Holds, IsRefused, Run, Stopped, StopsIn, counted_in, report_of}
 use Rattle.fmp4_c.specs.declared.answer.Answer.{Answer}
+use Rattle.fmp4_c.specs.declared.answer.Answer.TheVariants.{NoRoom}
 use Rattle.fmp4_c.specs.declared.report.Report.{Report}
 
 some-is : {A : Type 0} (x y : A) → ◌≡◌ {A = Option A} (Some x) (Some y) → x ≡ y
 some-is x y h = cc
 
-head-is : (x y : ℕ) (xs ys : List ℕ) → ◌≡◌ {A = List ℕ} (x ∷ xs) (y ∷ ys) → x ≡ y
+pub head-is : (x y : ℕ) (xs ys : List ℕ) → ◌≡◌ {A = List ℕ} (x ∷ xs) (y ∷ ys) → x ≡ y
 head-is x y xs ys h = cc
 
-tail-is : (x y : ℕ) (xs ys : List ℕ) → ◌≡◌ {A = List ℕ} (x ∷ xs) (y ∷ ys) → xs ≡ ys
+pub tail-is : (x y : ℕ) (xs ys : List ℕ) → ◌≡◌ {A = List ℕ} (x ∷ xs) (y ∷ ys) → xs ≡ ys
 tail-is x y xs ys h = cc
 
 -- no bytes have no output
@@ -52,12 +54,21 @@ module _ (operation : Operation) (b given : List ℕ) (r : Run) (p : Feeding) (i
 
 -- ---- the input was fed
 
-module _ (b given input : List ℕ) (r r' : Run) (p p' : Feeding) (l : Borrowed) (is' : r'.feeding ≡ Some p') (same : p'.operation ≡ p.operation) (here : l.written ≡ Some (r.waiting.room ∷ r.waiting.bytes)) (there : l.written' ≡ Some (r'.waiting.room ∷ r'.waiting.bytes)) where
-  appended : (more : List ℕ) → Appends l.written l.written' more → Appends (Some (r.waiting.room ∷ r.waiting.bytes)) (Some (r'.waiting.room ∷ r'.waiting.bytes)) more
-  appended more a = subst (λ (o : Option (List ℕ)). Appends (Some (r.waiting.room ∷ r.waiting.bytes)) o more) there (subst (λ (o : Option (List ℕ)). Appends o l.written' more) here a)
+-- the room is the same after a write, and the bytes that wait grow by those that were written
+abbrev pub Grows : (l : Borrowed) → (r r' : Run) → Type 0
+Grows l r r' = (more : List ℕ) → Appends l.written l.written' more → (r'.waiting.room ≡ r.waiting.room) × (r'.waiting.bytes ≡ r.waiting.bytes ++ more)
 
+-- where the bytes that a sink has are those that wait, after the room
+pub grows : (l : Borrowed) (r r' : Run) → l.written ≡ Some (r.waiting.room ∷ r.waiting.bytes) → l.written' ≡ Some (r'.waiting.room ∷ r'.waiting.bytes) → Grows l r r'
+grows l r r' here there = λ more a.
+    let grown : Appends (Some (r.waiting.room ∷ r.waiting.bytes)) (Some (r'.waiting.room ∷ r'.waiting.bytes)) more = subst (λ (o : Option (List ℕ)). Appends (Some (r.waiting.room ∷ r.waiting.bytes)) o more) there (subst (λ (o : Option (List ℕ)). Appends o l.written' more) here a) in (
+      head-is r'.waiting.room r.waiting.room r'.waiting.bytes (r.waiting.bytes ++ more) grown,
+      tail-is r'.waiting.room r.waiting.room r'.waiting.bytes (r.waiting.bytes ++ more) grown,
+    )
+
+module _ (b given input : List ℕ) (r r' : Run) (p p' : Feeding) (l : Borrowed) (is' : r'.feeding ≡ Some p') (same : p'.operation ≡ p.operation) (grown : Grows l r r') where
   same-room : (more : List ℕ) → Appends l.written l.written' more → r'.waiting.room ≡ r.waiting.room
-  same-room more a = head-is r'.waiting.room r.waiting.room r'.waiting.bytes (r.waiting.bytes ++ more) (appended more a)
+  same-room more a = (grown more a).0
 
   -- no write changes the room
   pub room-ok : Feeds {T = Unit {0}} b input p p' l (Ok tt) → r'.waiting.room ≡ r.waiting.room
@@ -76,8 +87,7 @@ module _ (b given input : List ℕ) (r r' : Run) (p p' : Feeding) (l : Borrowed)
   module _ (text : given ++ r.waiting.bytes ≡ live p.operation b) where
     joined : (more : List ℕ) → Appends l.written l.written' more → given ++ r'.waiting.bytes ≡ live p.operation b ++ more
     joined more a =
-        let grown : r'.waiting.bytes ≡ r.waiting.bytes ++ more = tail-is r'.waiting.room r.waiting.room r'.waiting.bytes (r.waiting.bytes ++ more) (appended more a) in
-        ap (λ (x : List ℕ). given ++ x) grown ∙ sym (append_assoc given r.waiting.bytes more) ∙ ap (λ (x : List ℕ). x ++ more) text
+        ap (λ (x : List ℕ). given ++ x) (grown more a).1 ∙ sym (append_assoc given r.waiting.bytes more) ∙ ap (λ (x : List ℕ). x ++ more) text
 
     by-text : (own own' : ℕ) (reported : WritesRest (reads_of p.operation) b (b ++ input) l own own') → given ++ r'.waiting.bytes ≡ live p.operation (b ++ input)
     by-text own own' reported = joined reported.effects.text reported.text ∙ ap (λ (e : Effects). e.text) (sym reported.all)
@@ -183,6 +193,14 @@ fed-stopped operation b given r Write h = h
 fed-stopped operation b given r OverLimit h = h
 fed-stopped operation b given r Memory h = h
 
+-- it has no room only where a write failed
+pub only-write : (operation : Operation) (b input : List ℕ) (l : Borrowed) (own : ℕ) (s : Sums) (e : Stop) → FedUntil (reads_of operation) b input l own s e → number_of (answer_to e) ≡ number_of NoRoom → IsErrOf {T = Unit {0}} (Err e) Write
+only-write operation b input l own s (Stream f) until number = absurd (omega (arith, number))
+only-write operation b input l own s (Read at) until number = absurd until
+only-write operation b input l own s Write until number = refl
+only-write operation b input l own s OverLimit until number = absurd (omega (arith, number))
+only-write operation b input l own s Memory until number = absurd (omega (arith, number))
+
 -- why it stopped before
 pub stop-its : (operation : Operation) (b given : List ℕ) (a : Answer) (r : Run) (p : Feeding) → r.feeding ≡ Some p → (h : Stopped operation b given a r) → p.stop ≡ Some h.stop
 stop-its operation b given a r p is h = sym (ap (λ (x : Feeding). x.stop) (some-is h.feeding p (sym h.runs ∙ is))) ∙ h.stops
@@ -193,45 +211,29 @@ answer-its operation b given a r p e is stop h = ap answer_to (some-is e h.stop 
 -- ---- output was taken
 
 -- bytes from the front
-pub taken : (given old out left all : List ℕ) (n : ℕ) → take n out ≡ take n old → left ≡ drop n old → given ++ old ≡ all → (given ++ take n out) ++ left ≡ all
-taken given old out left all n front rest text = rw (front, rest) (append_assoc given (take n old) (drop n old) ∙ ap (λ (x : List ℕ). given ++ x) (take-append-drop n old) ∙ text)
+pub taken : (given old out left : List ℕ) (n : ℕ) → take n out ≡ take n old → left ≡ drop n old → (given ++ take n out) ++ left ≡ given ++ old
+taken given old out left n front rest = rw (front, rest) (append_assoc given (take n old) (drop n old) ∙ ap (λ (x : List ℕ). given ++ x) (take-append-drop n old))
 
--- and more is to come
-taken-rest : (given old out left more all : List ℕ) (n : ℕ) → take n out ≡ take n old → left ≡ drop n old → (given ++ old) ++ more ≡ all → ((given ++ take n out) ++ left) ++ more ≡ all
-taken-rest given old out left more all n front rest text = ap (λ (x : List ℕ). x ++ more) (taken given old out left (given ++ old) n front rest refl) ∙ text
-
-module _ (operation : Operation) (b given out : List ℕ) (n : ℕ) (r r' : Run) (front : take n out ≡ take n r.waiting.bytes) (left : r'.waiting.bytes ≡ drop n r.waiting.bytes) (pushes : r'.feeding ≡ r.feeding) where
-  pub holds-taken : Holds operation b given r → Holds operation b (given ++ take n out) r'
-  holds-taken h = record {
-    feeding = h.feeding;
-    runs = pushes ∙ h.runs;
-    is_operation = h.is_operation;
-    is_after = h.is_after;
-    text = taken given r.waiting.bytes out r'.waiting.bytes (live operation b) n front left h.text;
-  }
+-- what was given out and what waits, joined, are the same
+module _ (operation : Operation) (b given given' : List ℕ) (r r' : Run) (joined : given' ++ r'.waiting.bytes ≡ given ++ r.waiting.bytes) (pushes : r'.feeding ≡ r.feeding) where
+  pub holds-taken : Holds operation b given r → Holds operation b given' r'
+  holds-taken h = record { feeding = h.feeding; runs = pushes ∙ h.runs; is_operation = h.is_operation; is_after = h.is_after; text = joined ∙ h.text }
 
   module _ (account : r'.account ≡ r.account) (p : Feeding) where
     same-limit-taken : r'.account.limit ≡ r.account.limit
     same-limit-taken = ap (λ (a : Account). a.limit) account
 
-    abbrev refused-taken : IsRefused operation b given p r → IsRefused operation b (given ++ take n out) p r'
-    refused-taken h = record {
-      request = h.request;
-      earlier = h.earlier;
-      later = h.later;
-      requests = h.requests;
-      text = taken given r.waiting.bytes out r'.waiting.bytes (live operation (take h.request.at b)) n front left h.text;
-      sums = h.sums;
-    }
+    abbrev refused-taken : IsRefused operation b given p r → IsRefused operation b given' p r'
+    refused-taken h = record { request = h.request; earlier = h.earlier; later = h.later; requests = h.requests; text = joined ∙ h.text; sums = h.sums }
 
-    stops-taken : (e : Stop) → StopsIn operation b given e p r → StopsIn operation b (given ++ take n out) e p r'
-    stops-taken (Stream f) h = record { early = h.early; text = taken given r.waiting.bytes out r'.waiting.bytes (live operation b) n front left h.text; sums = h.sums }
+    stops-taken : (e : Stop) → StopsIn operation b given e p r → StopsIn operation b given' e p r'
+    stops-taken (Stream f) h = record { early = h.early; text = joined ∙ h.text; sums = h.sums }
     stops-taken (Read at) h = absurd h
-    stops-taken Write h = record { rest = h.rest; text = taken-rest given r.waiting.bytes out r'.waiting.bytes h.rest (live operation b) n front left h.text; counted = h.counted; claimed = h.claimed }
+    stops-taken Write h = record { rest = h.rest; text = ap (λ (x : List ℕ). x ++ h.rest) joined ∙ h.text; counted = h.counted; claimed = h.claimed }
     stops-taken OverLimit h = (refused-taken h.0, omega (arith, h.1, same-limit-taken))
     stops-taken Memory h = (refused-taken h.0, omega (arith, h.1, same-limit-taken))
 
-  pub stopped-taken : r'.account ≡ r.account → (a : Answer) → Stopped operation b given a r → Stopped operation b (given ++ take n out) a r'
+  pub stopped-taken : r'.account ≡ r.account → (a : Answer) → Stopped operation b given a r → Stopped operation b given' a r'
   stopped-taken account a h = record {
     feeding = h.feeding;
     stop = h.stop;
@@ -240,7 +242,7 @@ module _ (operation : Operation) (b given out : List ℕ) (n : ℕ) (r r' : Run)
     stops = h.stops;
     answers = h.answers;
     written = stops-taken account h.feeding h.stop h.written;
-    fragments = h.fragments ∙ ap (λ (x : List ℕ). whole_in (length x) 0 (reads_of operation b).effects.fragment_ends) (sym (taken given r.waiting.bytes out r'.waiting.bytes (given ++ r.waiting.bytes) n front left refl));
+    fragments = h.fragments ∙ ap (λ (x : List ℕ). whole_in (length x) 0 (reads_of operation b).effects.fragment_ends) (sym joined);
   }
 
 -- ---- what is counted

@@ -1,4 +1,6 @@
 pub mod Values
 pub mod Glue
+pub mod AheadLemmas
 pub mod HoldLemmas
+pub mod Sendable
 pub mod OpenLemmas

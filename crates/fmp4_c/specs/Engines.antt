@@ -1,5 +1,5 @@
 -- What an engine is after the bytes of a stream that it was fed, and what a call of it does.
-use Rattle.std.specs.Prelude.{◌≡◌, if◌then◌else◌, ℕ, ◌+◌, ◌-◌, ◌*◌, ◌/◌, ◌^◌, ◌<◌, ◌≤◌, eqb, List, [], ◌∷◌, ◌++◌, length, take, min, max, Option, None, Some}
+use Rattle.std.specs.Prelude.{◌≡◌, if◌then◌else◌, ℕ, ◌+◌, ◌-◌, ◌*◌, ◌/◌, ◌^◌, ◌<◌, ◌≤◌, eqb, List, [], ◌∷◌, ◌++◌, length, take, drop, min, max, Option, None, Some}
 use Rattle.mp4_box.specs.declared.rules.Fault as faults
 use Rattle.mp4_grammar.specs.Contexts.{first_context}
 use Rattle.mp4_grammar.specs.HeldSizes.{HoldsWithin}
@@ -32,6 +32,16 @@ pub record Run : Type 0 where
 abbrev pub held_in : Option Feeding → ℕ
 held_in None = 0
 held_in (Some p) = held_by p
+
+-- the same once so many bytes were taken of what waits, or all of it
+abbrev pub after_take : ℕ → Run → Run
+after_take n r = record {
+  account = r.account;
+  feeding = r.feeding;
+  waiting = record { bytes = drop (min n (length r.waiting.bytes)) r.waiting.bytes; room = r.waiting.room; failed = r.waiting.failed };
+  share = r.share;
+  reported = r.reported;
+}
 
 -- ---- after the bytes of a stream
 

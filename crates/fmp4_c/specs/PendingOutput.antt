@@ -1,5 +1,6 @@
 -- Output that waits to be taken.
-use Rattle.std.specs.Prelude.{ℕ, List, [], Bool, false}
+use Rattle.std.specs.Prelude.{ℕ, List, [], ◌∷◌, ◌++◌, take, Bool, false, Some}
+use Rattle.mp4_machine.specs.Ends.{Sent}
 
 -- the bytes that were written and not yet taken, how many may wait, and whether a write found no room
 pub record PendingOutput : Type 0 where
@@ -10,3 +11,17 @@ pub record PendingOutput : Type 0 where
 -- none yet
 abbrev pub empty : ℕ → PendingOutput
 empty room = record { bytes = []; room = room; failed = false }
+
+-- what a buffer that is filled up to a place and the room that comes after it hold: which buffer and which room these are, how much the
+-- room can hold, and the bytes
+abbrev pub ahead : (buffer rest room at : ℕ) → (filled waiting : List ℕ) → List ℕ
+ahead buffer rest room at filled waiting = buffer ∷ rest ∷ room ∷ (take at filled ++ waiting)
+
+-- the same before and after a call
+abbrev pub ahead_sent : (buffer rest at at' : ℕ) → (filled filled' : List ℕ) → (waiting waiting' : PendingOutput) → Sent
+ahead_sent buffer rest at at' filled filled' waiting waiting' = record {
+  written = Some (ahead buffer rest waiting.room at filled waiting.bytes);
+  written' = Some (ahead buffer rest waiting'.room at' filled' waiting'.bytes);
+  failed = waiting.failed;
+  failed' = waiting'.failed;
+}

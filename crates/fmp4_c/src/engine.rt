@@ -1,16 +1,17 @@
 //! A Feeder with its memory and its output.
 
-ghost use Rattle.std.specs.Prelude.{◌≡◌, ℕ, ◌+◌, ◌-◌, ◌*◌, ◌<◌, ◌≤◌, ◌↔◌, List, ◌++◌, length, take, drop, min};
-ghost use Rattle.std.specs.Prelude.{None, Some, IfOk, IsErrOf};
+ghost use Rattle.std.specs.Prelude.{◌≡◌, ℕ, ◌+◌, ◌-◌, ◌*◌, ◌<◌, ◌≤◌, ◌↔◌, List, [], ◌++◌, length, take, drop, min};
+ghost use Rattle.std.specs.Prelude.{None, Some, true, false, IfOk, IsErrOf, IsTrue};
 ghost use Rattle.mp4_push.specs.Feeders.{Feeding};
 ghost use Rattle.mp4_recut.specs.declared.operation.Operation as operations;
 ghost use Rattle.mp4_machine.specs.declared.stop.Stop as stops;
 ghost use Rattle.fmp4_c.specs.Answers.{answer_to, number_of};
 ghost use Rattle.fmp4_c.specs.Calls.{IsOpened};
 ghost use Rattle.fmp4_c.specs.Engines.{ClaimsWithin, Fed, Finished, FitsIn, Holds, IsKept, IsPortion, Stopped};
-ghost use Rattle.fmp4_c.specs.Engines.{held_in, report_of, step_of};
+ghost use Rattle.fmp4_c.specs.Engines.{after_take, held_in, report_of, step_of};
 ghost use Rattle.fmp4_c.specs.declared.answer.Answer as answers;
 
+use crate::ahead::{Passed, feed_ahead};
 use crate::answer::Answer;
 use crate::asked::Asked;
 use crate::output::Output;
@@ -53,6 +54,17 @@ pub struct Feed {
     pub answer: Answer,
 }
 
+/// What a feed did that takes output at once.
+#[derive(Clone, Copy)]
+pub struct FeedTake {
+    /// How many bytes of the input it took.
+    pub taken: usize,
+    /// How many bytes of output it gave.
+    pub given: usize,
+    /// The answer.
+    pub answer: Answer,
+}
+
 impl Engine {
     /// One to which no byte has come. The room for the output is allocated, and the rest of the limit is for the stream's
     /// memory.
@@ -87,6 +99,8 @@ impl Engine {
             (step_of self.now.share (self.now.waiting.room - length self.now.waiting.bytes)) }
         ensures some { 2 * length self.now.waiting.bytes ≤ self.now.waiting.room → 0 < input →
             0 < result }
+        ensures none { result ≡ 0 → 0 < input →
+            self.now.waiting.room < 2 * length self.now.waiting.bytes }
         ensures within { result ≤ input }
     {
         if self.out.len() > self.out.free() {
@@ -112,6 +126,9 @@ impl Engine {
             FitsIn operation (b ++ take result.taken input.now) self.old (number_of result.answer) }
         ensures room { (operation : operations.Operation) → (b given : List ℕ) → Holds operation b given self.old →
             self.new.waiting.room ≡ self.old.waiting.room }
+        ensures no_room { (operation : operations.Operation) → (b given : List ℕ) → Holds operation b given self.old →
+            number_of result.answer ≡ number_of Answer.NoRoom →
+            length self.new.waiting.bytes ≡ self.new.waiting.room }
         ensures kept { IsKept self.old self.new }
     {
         let taken = self.portion(input.len());
@@ -134,14 +151,87 @@ impl Engine {
         }
     }
 
-    /// What a feed did. No more waits than the room holds, and no more is claimed than the limit allows.
+    /// What a feed did. No more waits than the room holds, which is full where a write failed, and no more is claimed than the
+    /// limit allows.
     fn fed(&self, taken: usize, answer: Answer) -> Feed
         ensures is { result ≡ record { taken = taken; answer = answer } }
+        ensures full { self.now.waiting.failed ≡ true →
+            length self.now.waiting.bytes ≡ self.now.waiting.room }
+        ensures waits { length self.now.waiting.bytes ≤ self.now.waiting.room }
+        ensures claims { self.now.account.live ≤ self.now.account.limit }
+    {
+        let _ = (self.out.len(), self.out.is_full(), self.ledger.live());
+        Feed { taken, answer }
+    }
+
+    /// Takes output from the front, then feeds the input of the stream, or the front of one, whose output follows in the buffer:
+    /// what doesn't fit waits. After a stop it returns the same, and takes no input.
+    pub fn feed_take(&mut self, input: &[u8], buffer: &mut [u8]) -> FeedTake
+        ensures feeds { (operation : operations.Operation) → (b given : List ℕ) → Holds operation b given self.old →
+            Fed operation (b ++ take result.taken input.now) (given ++ take result.given buffer.new)
+            result.answer self.new }
+        ensures portion { (p : Feeding) → self.old.feeding ≡ Some p → p.stop ≡ None →
+            IsPortion (after_take (length buffer.old) self.old) input.now result.taken result.answer }
+        ensures stopped { (operation : operations.Operation) → (b given : List ℕ) → (a : answers.Answer) →
+            Stopped operation b given a self.old → (result.taken ≡ 0) × (result.answer ≡ a) ×
+            Stopped operation b (given ++ take result.given buffer.new) a self.new }
+        ensures ended { self.old.feeding ≡ None →
+            (result ≡ record { taken = 0; given = 0; answer = Answer.Ended }) × (self.new ≡ self.old) }
+        ensures claims { (operation : operations.Operation) → (b given : List ℕ) → Holds operation b given self.old →
+            ClaimsWithin operation (b ++ take result.taken input.now) self.new.feeding }
+        ensures fits { (operation : operations.Operation) → (b given : List ℕ) → Holds operation b given self.old →
+            FitsIn operation (b ++ take result.taken input.now) self.old (number_of result.answer) }
+        ensures room { (operation : operations.Operation) → (b given : List ℕ) → Holds operation b given self.old →
+            self.new.waiting.room ≡ self.old.waiting.room }
+        ensures within { result.given ≤ length buffer.new }
+        ensures most { (p : Feeding) → self.old.feeding ≡ Some p →
+            result.given < length buffer.new → self.new.waiting.bytes ≡ [] }
+        ensures kept { IsKept self.old self.new }
+    {
+        if self.feeder.is_none() {
+            return self.passed(0, 0, Answer::Ended);
+        }
+        let first = self.out.take(buffer);
+        let portion = self.portion(input.len());
+        let Some(feeder) = &mut self.feeder else {
+            unreachable!();
+        };
+        if let Some(stop) = feeder.stop() {
+            return self.passed(0, first, Answer::of_stop(stop));
+        }
+        let ledger = &mut self.ledger;
+        let Passed { at, result } = feed_ahead(
+            feeder,
+            ledger,
+            &input[..portion],
+            buffer,
+            first,
+            &mut self.out,
+        );
+        let given = at + self.out.give(buffer, at);
+        match result {
+            Ok(()) => {
+                if leaves_all(portion, input) {
+                    return self.passed(portion, given, Answer::Full);
+                }
+                self.passed(portion, given, Answer::Done)
+            }
+            Err(stop) => self.passed(portion, given, Answer::of_stop(stop)),
+        }
+    }
+
+    /// What a feed did that takes output at once. No more waits than the room holds, and no more is claimed than the limit allows.
+    fn passed(&self, taken: usize, given: usize, answer: Answer) -> FeedTake
+        ensures is { result ≡ record { taken = taken; given = given; answer = answer } }
         ensures waits { length self.now.waiting.bytes ≤ self.now.waiting.room }
         ensures claims { self.now.account.live ≤ self.now.account.limit }
     {
         let _ = (self.out.len(), self.ledger.live());
-        Feed { taken, answer }
+        FeedTake {
+            taken,
+            given,
+            answer,
+        }
     }
 
     /// Takes output from the front: how many bytes.
@@ -248,6 +338,14 @@ fn step_by(share: usize, free: usize) -> usize
         return usize::MAX;
     }
     (free / share).max(1)
+}
+
+/// Whether nothing is taken of an input that has bytes.
+fn leaves_all(taken: usize, input: &[u8]) -> bool
+    ensures all { IsTrue result → (taken ≡ 0) × (0 < length input.now) }
+    ensures none { result ≡ false → taken ≡ 0 → input.now ≡ [] }
+{
+    taken == 0 && !input.is_empty()
 }
 
 /// Gives back all that a Feeder has claimed.

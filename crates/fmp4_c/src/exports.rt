@@ -6,7 +6,7 @@ ghost use Rattle.mp4_recut.specs.declared.operation.Operation as operations;
 ghost use Rattle.mp4_machine.specs.declared.stop.Stop as stops;
 ghost use Rattle.fmp4_c.specs.Answers.{answer_to, at_rest, number_of, report_from};
 ghost use Rattle.fmp4_c.specs.Calls.{ClaimsIn, FedIn, FinishedIn, HoldsIn, StoppedIn};
-ghost use Rattle.fmp4_c.specs.Engines.{FitsIn, Holds, IsKept, IsPortion, Run, counted_in, report_of};
+ghost use Rattle.fmp4_c.specs.Engines.{FitsIn, Holds, IsKept, IsPortion, Run, after_take, counted_in, report_of};
 ghost use Rattle.fmp4_c.specs.declared.answer.Answer as answers;
 
 use crate::answer::Answer;
@@ -43,6 +43,10 @@ pub extern "C" fn fmp4_feed(
     ensures room { (operation : operations.Operation) → (b given : List ℕ) → (r : Run) →
         stream.old.handle.held ≡ Some r → Holds operation b given r →
         IfSome stream.new.handle.held (λ r'. r'.waiting.room ≡ r.waiting.room) }
+    ensures no_room { (operation : operations.Operation) → (b given : List ℕ) → (r : Run) →
+        stream.old.handle.held ≡ Some r → Holds operation b given r →
+        result ≡ number_of Answer.NoRoom →
+        IfSome stream.new.handle.held (λ r'. length r'.waiting.bytes ≡ r'.waiting.room) }
     ensures open { (r : Run) → stream.old.handle.held ≡ Some r → IsSome stream.new.handle.held }
     ensures kept { (r : Run) → stream.old.handle.held ≡ Some r →
         IfSome stream.new.handle.held (IsKept r) }
@@ -64,6 +68,70 @@ pub extern "C" fn fmp4_feed(
         }
         None => {
             *taken = 0;
+            Answer::at_rest(stream.closed).number()
+        }
+    }
+}
+
+/// Takes output from the front, then feeds the input of the stream, or the front of one, whose output follows in the buffer:
+/// what doesn't fit waits. `taken` says how many bytes of the input, `given` how many of the output.
+#[unsafe(no_mangle)]
+pub extern "C" fn fmp4_feed_take(
+    alloc: Global,
+    stream: &mut Stream,
+    input: &[u8],
+    taken: &mut usize,
+    out: &mut [u8],
+    given: &mut usize,
+) -> u32
+    ensures feeds { (operation : operations.Operation) → (b before : List ℕ) →
+        HoldsIn operation b before stream.old.handle.held →
+        FedIn operation (b ++ take taken.new input.now) (before ++ take given.new out.new) result
+        stream.new.handle.held }
+    ensures portion { (r : Run) → (p : Feeding) → stream.old.handle.held ≡ Some r →
+        r.feeding ≡ Some p → p.stop ≡ None → (answer : answers.Answer) ×
+        (result ≡ number_of answer) ×
+        IsPortion (after_take (length out.old) r) input.now taken.new answer }
+    ensures stopped { (operation : operations.Operation) → (b before : List ℕ) → (a : answers.Answer) →
+        StoppedIn operation b before a stream.old.handle.held →
+        (result ≡ number_of a) × (taken.new ≡ 0) ×
+        StoppedIn operation b (before ++ take given.new out.new) a stream.new.handle.held }
+    ensures claims { (operation : operations.Operation) → (b before : List ℕ) →
+        HoldsIn operation b before stream.old.handle.held →
+        ClaimsIn operation (b ++ take taken.new input.now) stream.new.handle.held }
+    ensures fits { (operation : operations.Operation) → (b before : List ℕ) → (r : Run) →
+        stream.old.handle.held ≡ Some r → Holds operation b before r →
+        FitsIn operation (b ++ take taken.new input.now) r result }
+    ensures room { (operation : operations.Operation) → (b before : List ℕ) → (r : Run) →
+        stream.old.handle.held ≡ Some r → Holds operation b before r →
+        IfSome stream.new.handle.held (λ r'. r'.waiting.room ≡ r.waiting.room) }
+    ensures within { given.new ≤ length out.new }
+    ensures most { (r : Run) → (p : Feeding) → stream.old.handle.held ≡ Some r → r.feeding ≡ Some p →
+        given.new < length out.new →
+        IfSome stream.new.handle.held (λ r'. r'.waiting.bytes ≡ []) }
+    ensures open { (r : Run) → stream.old.handle.held ≡ Some r → IsSome stream.new.handle.held }
+    ensures kept { (r : Run) → stream.old.handle.held ≡ Some r →
+        IfSome stream.new.handle.held (IsKept r) }
+    ensures ended { (r : Run) → stream.old.handle.held ≡ Some r → r.feeding ≡ None →
+        (result ≡ number_of Answer.Ended) × (taken.new ≡ 0) × (given.new ≡ 0) ×
+        (stream.new.handle.held ≡ Some r) }
+    ensures closed { stream.old.handle.held ≡ None →
+        (result ≡ number_of (at_rest stream.old.closed)) × (taken.new ≡ 0) × (given.new ≡ 0) ×
+        (stream.new.handle.held ≡ None) }
+    ensures rests { stream.new.closed ≡ stream.old.closed }
+{
+    match replace(&mut stream.handle, Handle::none()).into_box(alloc) {
+        Some(engine) => {
+            let mut engine = engine;
+            let passed = engine.feed_take(input, out);
+            stream.handle = Handle::of(engine);
+            *taken = passed.taken;
+            *given = passed.given;
+            passed.answer.number()
+        }
+        None => {
+            *taken = 0;
+            *given = 0;
             Answer::at_rest(stream.closed).number()
         }
     }

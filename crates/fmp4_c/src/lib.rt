@@ -3,13 +3,14 @@
 //! - [`exports`]: what C calls, [`opening`]: how a stream is opened, by what is [`asked`] for; [`names`]: those of the rules;
 //! - [`answer`]: the result of a call, as a number, and [`report`]: what was counted, and which rule is broken;
 //! - [`stream`]: what C keeps, with [`handle`]: the pointer in it, and [`engine`]: what that points to;
-//! - [`output`]: what waits to be taken.
+//! - [`output`]: what waits to be taken, and [`ahead`]: output that doesn't.
 //!
 //! The definitions: `specs/Engines.antt` (what an engine is after the bytes that it was fed, and what its calls do),
 //! `specs/Calls.antt` (the same of what C keeps, and what C asks for), `specs/Answers.antt` (numbers and reports),
 //! `specs/PendingOutput.antt` (what waits) and `specs/Handles.antt` (what a handle owns).
 #![tactic(auto)]
 
+mod ahead;
 mod answer;
 mod asked;
 mod engine;
@@ -23,8 +24,10 @@ mod stream;
 
 pub use answer::Answer;
 pub use asked::Asked;
-pub use engine::{Engine, Feed};
-pub use exports::{fmp4_close, fmp4_feed, fmp4_finish, fmp4_pending, fmp4_take, fmp4_totals};
+pub use engine::{Engine, Feed, FeedTake};
+pub use exports::{
+    fmp4_close, fmp4_feed, fmp4_feed_take, fmp4_finish, fmp4_pending, fmp4_take, fmp4_totals,
+};
 pub use handle::Handle;
 pub use names::{fmp4_answer_name, fmp4_rule_name, fmp4_version};
 pub use opening::{fmp4_check_open, fmp4_split_open};

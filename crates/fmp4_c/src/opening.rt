@@ -10,7 +10,7 @@ use crate::answer::Answer;
 use crate::asked::Asked;
 use crate::engine::Engine;
 use crate::handle::Handle;
-use crate::stream::Stream;
+use crate::stream::{Stream, for_any_thread};
 use mp4_ledger::Refused;
 use std::alloc::Global;
 use std::mem::replace;
@@ -75,7 +75,7 @@ fn open(alloc: Global, stream: &mut Stream, asked: Result<Asked, Answer>) -> Ans
         None => match asked {
             Ok(asked) => match new_box(alloc, asked) {
                 Ok(engine) => {
-                    stream.handle = Handle::of(engine);
+                    stream.handle = for_any_thread(Handle::of(engine));
                     stream.closed = 0;
                     Answer::Done
                 }

@@ -1,7 +1,7 @@
 //! Output that waits to be taken.
 
-ghost use Rattle.std.specs.Prelude.{◌≡◌, ◌-◌, ◌+◌, ◌<◌, ◌≤◌, min, [], ◌∷◌, ◌++◌, length, take, drop};
-ghost use Rattle.std.specs.Prelude.{Some, true, false, IfOk, OnOk, OnErr, vec_capacity, vec_len};
+ghost use Rattle.std.specs.Prelude.{◌≡◌, ◌↔◌, ◌-◌, ◌+◌, ◌<◌, ◌≤◌, min, [], ◌∷◌, ◌++◌, length, take, drop};
+ghost use Rattle.std.specs.Prelude.{IsTrue, Some, true, false, IfOk, OnOk, OnErr, vec_capacity, vec_len};
 ghost use Rattle.std.specs.Io.KnownBytes.{WriteAppends, Keeps};
 ghost use Rattle.fmp4_c.specs.PendingOutput.{empty};
 
@@ -17,13 +17,13 @@ pub(crate) struct Output {
     at: usize,
     /// How many may be there at once.
     room: usize,
-    /// Whether a write found no room.
+    /// Whether a write found no room, and nothing was taken since.
     failed: bool,
 }
 
-// A contract sees the bytes that wait, how many may, and whether a write found no room.
+// A contract sees the bytes that wait, how many may, and whether a write found no room. Then the room is full.
 impl Model for Output {
-    ghost use Rattle.std.specs.Prelude.{◌≤◌, drop, vec_capacity, vec_len};
+    ghost use Rattle.std.specs.Prelude.{◌≡◌, ◌-◌, ◌≤◌, true, drop, vec_capacity, vec_len};
     ghost use Rattle.fmp4_c.specs.PendingOutput.{PendingOutput};
 
     ghost Value = { PendingOutput };
@@ -31,7 +31,7 @@ impl Model for Output {
     ghost view = { λ o. record { bytes = drop o.at o.bytes.items; room = o.room; failed = o.failed } };
 
     ghost invariant = { λ o. (o.at ≤ vec_len o.bytes) × (vec_len o.bytes ≤ o.room) ×
-        (o.room ≤ vec_capacity o.bytes) };
+        (o.room ≤ vec_capacity o.bytes) × (o.failed ≡ true → vec_len o.bytes - o.at ≡ o.room) };
 }
 
 impl Output {
@@ -62,6 +62,21 @@ impl Output {
         self.bytes.len() - self.at
     }
 
+    /// Whether none wait.
+    pub(crate) fn is_empty(&self) -> bool
+        ensures { IsTrue result ↔ (self.now.bytes ≡ []) }
+    {
+        self.len() == 0
+    }
+
+    /// Whether a write found no room. It is full then.
+    pub(crate) fn is_full(&self) -> bool
+        ensures is { result ≡ self.now.failed }
+        ensures full { IsTrue result → length self.now.bytes ≡ self.now.room }
+    {
+        self.failed
+    }
+
     /// For how many more there is room.
     pub(crate) fn free(&self) -> usize
         ensures { result ≡ self.now.room - length self.now.bytes }
@@ -76,17 +91,43 @@ impl Output {
         ensures rest { drop result out.new ≡ drop result out.old }
         ensures left { self.new.bytes ≡ drop result self.old.bytes }
         ensures room { self.new.room ≡ self.old.room }
-        ensures failed { self.new.failed ≡ self.old.failed }
     {
         let count = out.len().min(self.bytes.len() - self.at);
         out[..count].copy_from_slice(&self.bytes[self.at..self.at + count]);
+        self.forget(count);
+        count
+    }
+
+    /// Takes bytes from the front into a buffer, from `at` on: as many as wait, or as fit.
+    pub(crate) fn give(&mut self, buffer: &mut [u8], at: usize) -> usize
+        requires { at ≤ length buffer.old }
+        ensures count { result ≡ min (length buffer.old - at) (length self.old.bytes) }
+        ensures front { take (at + result) buffer.new ≡
+            take at buffer.old ++ take result self.old.bytes }
+        ensures left { self.new.bytes ≡ drop result self.old.bytes }
+        ensures room { self.new.room ≡ self.old.room }
+    {
+        let count = (buffer.len() - at).min(self.bytes.len() - self.at);
+        buffer[at..at + count].copy_from_slice(&self.bytes[self.at..self.at + count]);
+        self.forget(count);
+        count
+    }
+
+    /// Forgets so many bytes of the front, which were taken.
+    fn forget(&mut self, count: usize)
+        requires { count ≤ length self.old.bytes }
+        ensures bytes { self.new.bytes ≡ drop count self.old.bytes }
+        ensures room { self.new.room ≡ self.old.room }
+    {
         self.at += count;
+        if count > 0 {
+            self.failed = false;
+        }
         if self.at == self.bytes.len() {
             // So the next bytes go to memory that was just used.
             self.bytes.clear();
             self.at = 0;
         }
-        count
     }
 
     /// Appends bytes for which there is room. Where the end has none, what waits is moved to the front first.

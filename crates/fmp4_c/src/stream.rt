@@ -1,5 +1,7 @@
 //! What C keeps of a stream.
 
+ghost use Rattle.std.specs.Prelude.{◌≡◌};
+
 use crate::handle::Handle;
 
 /// A stream, which C has as zeros before it is opened. Its fields are the library's.
@@ -9,4 +11,11 @@ pub struct Stream {
     pub(crate) handle: Handle,
     /// 0 where it was never closed.
     pub(crate) closed: u32,
+}
+
+/// A value that may be moved to another thread, as C may move what it has of a stream.
+pub(crate) fn for_any_thread<T: Send>(value: T) -> T
+    ensures { result ≡ value }
+{
+    value
 }

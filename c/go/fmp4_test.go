@@ -1,0 +1,119 @@
+package fmp4
+
+import (
+	"bytes"
+	"errors"
+	"io"
+	"os"
+	"testing"
+	"testing/iotest"
+)
+
+// given is a stream and its cut by two samples, which scripts/c_tests makes by the program.
+func given(t *testing.T) (stream, want []byte) {
+	stream, err := os.ReadFile(os.Getenv("FMP4_STREAM"))
+	if err != nil {
+		t.Skip("FMP4_STREAM names no stream")
+	}
+	want, err = os.ReadFile(os.Getenv("FMP4_WANT"))
+	if err != nil {
+		t.Fatal(err)
+	}
+	return stream, want
+}
+
+func TestWriter(t *testing.T) {
+	stream, want := given(t)
+	for _, size := range []int{1, 188, 1316, 65536, len(stream)} {
+		var out bytes.Buffer
+		w, err := NewWriter(&out, Cut{Samples: 2})
+		if err != nil {
+			t.Fatal(err)
+		}
+		for at := 0; at < len(stream); at += size {
+			end := at + size
+			if end > len(stream) {
+				end = len(stream)
+			}
+			if n, err := w.Write(stream[at:end]); n != end-at || err != nil {
+				t.Fatal(n, err)
+			}
+		}
+		if err := w.Close(); err != nil {
+			t.Fatal(err)
+		}
+		if !bytes.Equal(out.Bytes(), want) {
+			t.Fatalf("by %d bytes: %d bytes of output, not those of the program", size, out.Len())
+		}
+		if w.Report().Samples == 0 {
+			t.Fatal("no samples are counted")
+		}
+	}
+}
+
+// Each call comes from another goroutine.
+func TestGoroutines(t *testing.T) {
+	stream, want := given(t)
+	var out bytes.Buffer
+	w, err := NewWriter(&out, Cut{Samples: 2})
+	if err != nil {
+		t.Fatal(err)
+	}
+	for at := 0; at < len(stream); at += 1000 {
+		end := at + 1000
+		if end > len(stream) {
+			end = len(stream)
+		}
+		done := make(chan error)
+		go func() { _, err := w.Write(stream[at:end]); done <- err }()
+		if err := <-done; err != nil {
+			t.Fatal(err)
+		}
+	}
+	if err := w.Close(); err != nil || !bytes.Equal(out.Bytes(), want) {
+		t.Fatal(err, out.Len())
+	}
+}
+
+func TestReader(t *testing.T) {
+	stream, want := given(t)
+	for _, from := range []io.Reader{bytes.NewReader(stream), iotest.OneByteReader(bytes.NewReader(stream)),
+		iotest.DataErrReader(bytes.NewReader(stream))} {
+		r, err := NewReader(from, Cut{Samples: 2})
+		if err != nil {
+			t.Fatal(err)
+		}
+		out, err := io.ReadAll(r)
+		if err != nil || !bytes.Equal(out, want) {
+			t.Fatal(err, len(out))
+		}
+		if err := r.Close(); err != nil {
+			t.Fatal(err)
+		}
+	}
+}
+
+func TestErrors(t *testing.T) {
+	stream, _ := given(t)
+	if _, err := NewWriter(io.Discard, Cut{}); err == nil || err.Error() != "FMP4_BAD_SAMPLES" {
+		t.Fatal(err)
+	}
+	var fault *Fault
+	w, _ := NewWriter(io.Discard, Cut{Samples: 2})
+	w.Write(stream[:len(stream)-1])
+	if err := w.Close(); !errors.As(err, &fault) || fault.Rule != "Truncated" || len(fault.Box) != 4 {
+		t.Fatal(err)
+	}
+	r, _ := NewReader(bytes.NewReader(stream[:len(stream)-1]), Cut{Samples: 2})
+	if _, err := io.ReadAll(r); !errors.As(err, &fault) || fault.Rule != "Truncated" {
+		t.Fatal(err)
+	}
+	r.Close()
+	r, _ = NewReader(iotest.TimeoutReader(bytes.NewReader(stream)), Cut{Samples: 2})
+	if _, err := io.ReadAll(r); err != iotest.ErrTimeout && len(stream) > 65536 {
+		t.Fatal(err)
+	}
+	r.Close()
+	w, _ = NewWriter(iotest.TruncateWriter(io.Discard, 10), Cut{Samples: 2})
+	w.Close()
+}

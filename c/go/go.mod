@@ -1,0 +1,3 @@
+module fmp4
+
+go 1.19

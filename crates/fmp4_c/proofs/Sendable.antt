@@ -1,0 +1,90 @@
+-- What an engine holds may go to another thread.
+use denote.Enum.Declared as variants
+use denote.Enum.Enum.{Enum}
+use denote.Param.Send.{AllSend, EachSend, IsSend, enum_send, sendable, struct_send}
+use denote.Struct.Struct.{Struct}
+use denote.Struct.Declared.{fields, shape}
+use Rattle.std.proofs.Crossing.{crosses}
+use Rattle.mp4_ledger.specs.contracts.ledger.Ledger as ledger
+use Rattle.mp4_ledger.specs.contracts.buf.Buf as buf
+use Rattle.mp4_ledger.specs.contracts.rows.Rows64 as rows
+use Rattle.mp4_init.specs.contracts.table.TrackList as tracks
+use Rattle.mp4_box.specs.contracts.reader.HeaderReader as reader
+use Rattle.mp4_frag.specs.contracts.run_list.RunList as runs
+use Rattle.mp4_machine.specs.contracts.block.Block as block
+use Rattle.mp4_machine.specs.contracts.buffered_box.BufferedBox as buffered
+use Rattle.mp4_fragment_machine.specs.contracts.machine.FragmentMachine as machine
+use Rattle.mp4_fragment_machine.specs.contracts.state.Recutting as recutting
+use Rattle.mp4_fragment_machine.specs.contracts.state.OpenRecutting as open_recutting
+use Rattle.mp4_fragment_machine.specs.contracts.state.Carried as carried
+use Rattle.mp4_fragment_machine.specs.contracts.state.State as state
+use Rattle.mp4_recut.specs.contracts.operation.Operation as operation
+use Rattle.mp4_machine.specs.contracts.stop.Stop as stop
+use Rattle.mp4_push.specs.contracts.feeder.Feeder as feeder
+use Rattle.fmp4_c.specs.contracts.output.Output as output
+use Rattle.fmp4_c.specs.contracts.report.Report as report
+use Rattle.fmp4_c.specs.contracts.engine.Engine as engine
+
+ledger_send : IsSend ledger.the_row
+ledger_send = search (sendable, crosses) depth 40 fits 20000
+
+buf_send : IsSend buf.the_row
+buf_send = search (sendable, crosses) depth 40 fits 20000
+
+rows_send : IsSend rows.the_row
+rows_send = search (sendable, crosses) depth 40 fits 20000
+
+tracks_send : IsSend tracks.the_row
+tracks_send = search (sendable, crosses) depth 40 fits 20000
+
+reader_send : IsSend reader.the_row
+reader_send = search (sendable, crosses) depth 40 fits 20000
+
+runs_send : IsSend runs.the_row
+runs_send = search (sendable, crosses) depth 40 fits 20000
+
+block_send : IsSend block.the_row
+block_send = search (sendable, crosses) depth 40 fits 20000
+
+buffered_send : IsSend buffered.the_row
+buffered_send = search (sendable, crosses) depth 40 fits 20000
+
+output_send : IsSend output.the_row
+output_send = search (sendable, crosses) depth 40 fits 20000
+
+report_send : IsSend (Struct (shape report.the_type))
+report_send = search (sendable, crosses) depth 40 fits 20000
+
+recutting_fields : AllSend (fields recutting.the_type)
+recutting_fields = (search (sendable, crosses) depth 40 fits 50000, (search (sendable, crosses) depth 40 fits 50000, (search (sendable, crosses) depth 40 fits 50000, (search (sendable, crosses) depth 40 fits 50000, (search (sendable, crosses) depth 40 fits 50000, tt)))))
+
+open_recutting_fields : AllSend (fields open_recutting.the_type)
+open_recutting_fields = (search (sendable, crosses) depth 40 fits 50000, (search (sendable, crosses) depth 40 fits 50000, (search (sendable, crosses) depth 40 fits 50000, (search (sendable, crosses) depth 40 fits 50000, (search (sendable, crosses) depth 40 fits 50000, tt)))))
+
+carried_fields : AllSend (fields carried.the_type)
+carried_fields = (search (sendable, crosses) depth 40 fits 50000, (search (sendable, crosses) depth 40 fits 50000, (search (sendable, crosses) depth 40 fits 50000, (search (sendable, crosses) depth 40 fits 50000, tt))))
+
+carried_send : IsSend (Struct (shape carried.the_type))
+carried_send = struct_send (shape carried.the_type) carried_fields
+
+-- by its variants, in their order
+state_variants : EachSend (variants.rowss (state.the_type).parts)
+state_variants = ((search (sendable, crosses) depth 40 fits 50000, tt), ((search (sendable, crosses) depth 40 fits 50000, tt), ((search (sendable, crosses) depth 40 fits 50000, tt), ((search (sendable, crosses) depth 40 fits 50000, (search (sendable, crosses) depth 40 fits 50000, tt)), ((search (sendable, crosses) depth 40 fits 50000, (search (sendable, crosses) depth 40 fits 50000, tt)), ((search (sendable, crosses) depth 40 fits 50000, tt), ((search (sendable, crosses) depth 40 fits 50000, tt), ((struct_send (shape recutting.the_type) recutting_fields, tt), ((struct_send (shape open_recutting.the_type) open_recutting_fields, tt), tt)))))))))
+
+state_send : IsSend (Enum (variants.shape state.the_type))
+state_send = enum_send (variants.shape state.the_type) state_variants
+
+machine_send : IsSend machine.the_row
+machine_send = search (sendable, carried_send, state_send) depth 20 fits 50000
+
+operation_send : IsSend (Enum (variants.shape operation.the_type))
+operation_send = search (sendable, crosses) depth 40 fits 50000
+
+stop_send : IsSend (Enum (variants.shape stop.the_type))
+stop_send = search (sendable, crosses) depth 40 fits 50000
+
+feeder_send : IsSend feeder.the_row
+feeder_send = search (sendable, operation_send, stop_send, machine_send, block_send) depth 40 fits 50000
+
+pub engine_send : IsSend engine.the_row
+engine_send = search (sendable, ledger_send, feeder_send, output_send, report_send) depth 40 fits 50000

@@ -1,0 +1,130 @@
+//! Output that goes to a buffer of the caller's first, and waits where that is full.
+
+ghost use Rattle.std.specs.Prelude.{◌≡◌, ℕ, ◌+◌, ◌<◌, ◌≤◌, List, [], ◌∷◌, ◌++◌, length, take, Some, None, true, IfErr, OnErr, OnOk, IsErrOf};
+ghost use Rattle.mp4_machine.specs.Fed.{borrowed};
+ghost use Rattle.mp4_machine.specs.declared.stop.Stop as stops;
+ghost use Rattle.mp4_push.specs.Feeders.{Feeds, IsAfter, held_by};
+ghost use Rattle.fmp4_c.specs.PendingOutput.{ahead, ahead_sent};
+
+use crate::output::Output;
+use mp4_ends::{Failed, Sink};
+use mp4_push::{Feeder, Ledger, Stop};
+
+/// A buffer that is filled up to a place, and the room for what doesn't fit it.
+#[derive(Drop)]
+struct Ahead<'a> {
+    buffer: &'a mut [u8],
+    /// Up to where the buffer is filled.
+    at: usize,
+    rest: &'a mut Output,
+}
+
+/// What feeding a Feeder did.
+pub(crate) struct Passed {
+    /// Up to where the buffer is filled.
+    pub(crate) at: usize,
+    /// The Feeder's answer.
+    pub(crate) result: Result<(), Stop>,
+}
+
+/// Puts bytes into a buffer, from `at` on: as many as fit.
+fn put(buffer: &mut [u8], at: usize, from: &[u8]) -> usize
+    requires place { at < length buffer.old }
+    requires some { 0 < length from.now }
+    ensures bound { (0 < result) × (result ≤ length from.now) }
+    ensures within { at + result ≤ length buffer.new }
+    ensures bytes { take (at + result) buffer.new ≡ take at buffer.old ++ take result from.now }
+{
+    let count = from.len().min(buffer.len() - at);
+    buffer[at..at + count].copy_from_slice(&from[..count]);
+    count
+}
+
+impl<'a> Sink for Ahead<'a> {
+    // Which buffer and which room these are comes first, so that no write changes it.
+    ghost contents = { λ a. Some (ahead a.buffer.ghost_name a.rest.ghost_name a.rest.now.room a.at a.buffer.now a.rest.now.bytes) };
+
+    ghost has_failed = { λ a. a.rest.now.failed };
+
+    fn write(&mut self, from: &[u8]) -> Result<usize, Failed> {
+        if self.rest.is_empty() && self.at < self.buffer.len() && !self.rest.is_full() {
+            let count = put(self.buffer, self.at, from);
+            self.at += count;
+            return Ok(count);
+        }
+        self.rest.write(from)
+    }
+
+    fn flush(&mut self) -> Result<(), Failed> {
+        self.rest.flush()
+    }
+
+    fn failed(&self) -> bool {
+        self.rest.is_full()
+    }
+}
+
+/// Feeds a Feeder, whose output goes to a buffer and then to the room.
+///
+/// # Errors
+///
+/// As [`Feeder::feed`].
+fn feed_through(
+    feeder: &mut Feeder,
+    ledger: &mut Ledger,
+    input: &[u8],
+    w: &mut Ahead<'_>,
+) -> Result<(), Stop>
+    requires claim { held_by feeder.old ≤ ledger.old.live }
+    ensures same_buffer { (b : List ℕ) → IsAfter feeder.old b →
+        w.new.buffer.ghost_name ≡ w.old.buffer.ghost_name }
+    ensures same_rest { (b : List ℕ) → IsAfter feeder.old b →
+        w.new.rest.ghost_name ≡ w.old.rest.ghost_name }
+    ensures feeds { (b : List ℕ) → IsAfter feeder.old b → Feeds b input.now feeder.old feeder.new
+        (borrowed (ahead_sent w.old.buffer.ghost_name w.old.rest.ghost_name w.old.at w.new.at
+        w.old.buffer.now w.new.buffer.now w.old.rest.now w.new.rest.now)
+        feeder.old.fragments feeder.new.fragments ledger.old ledger.new) result }
+    ensures operation { feeder.new.operation ≡ feeder.old.operation }
+    ensures runs { OnOk result (feeder.new.stop ≡ None) }
+    ensures stops { IfErr result (λ e. feeder.new.stop ≡ Some e) }
+    ensures spent { OnErr result (held_by feeder.new ≡ 0) }
+    ensures empty { input.now ≡ [] → feeder.new ≡ feeder.old }
+    ensures live { ledger.new.live + held_by feeder.old ≡ ledger.old.live + held_by feeder.new }
+    ensures limit { ledger.new.limit ≡ ledger.old.limit }
+    ensures claim { held_by feeder.new ≤ ledger.new.live }
+{
+    feeder.feed(ledger, input, w)
+}
+
+/// Feeds a Feeder. Its output goes to a buffer from `at` on, and waits where that is full.
+pub(crate) fn feed_ahead(
+    feeder: &mut Feeder,
+    ledger: &mut Ledger,
+    input: &[u8],
+    buffer: &mut [u8],
+    at: usize,
+    rest: &mut Output,
+) -> Passed
+    requires claim { held_by feeder.old ≤ ledger.old.live }
+    ensures feeds { (b : List ℕ) → IsAfter feeder.old b → (x : ℕ) × (y : ℕ) ×
+        Feeds b input.now feeder.old feeder.new
+        (borrowed (ahead_sent x y at result.at buffer.old buffer.new rest.old rest.new)
+        feeder.old.fragments feeder.new.fragments ledger.old ledger.new) result.result }
+    ensures operation { feeder.new.operation ≡ feeder.old.operation }
+    ensures runs { OnOk result.result (feeder.new.stop ≡ None) }
+    ensures stops { IfErr result.result (λ e. feeder.new.stop ≡ Some e) }
+    ensures spent { OnErr result.result (held_by feeder.new ≡ 0) }
+    ensures empty { input.now ≡ [] → feeder.new ≡ feeder.old }
+    ensures live { ledger.new.live + held_by feeder.old ≡ ledger.old.live + held_by feeder.new }
+    ensures limit { ledger.new.limit ≡ ledger.old.limit }
+    ensures claim { held_by feeder.new ≤ ledger.new.live }
+    ensures within { result.at ≤ length buffer.new }
+{
+    let most = buffer.len();
+    let mut ahead = Ahead { buffer, at, rest };
+    let result = feed_through(feeder, ledger, input, &mut ahead);
+    Passed {
+        at: ahead.at.min(most),
+        result,
+    }
+}
