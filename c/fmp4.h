@@ -3,7 +3,7 @@
  * A stream is fed as it comes, in inputs of any size, and the output is taken from the front:
  *
  *     struct fmp4_stream s = {0};
- *     fmp4_split_open(&s, 15, 0, 0, 64 << 20, 2 << 20);
+ *     fmp4_split_open(&s, 15, 0, 0, 64 << 20, 8 << 20);
  *     while (fmp4_feed_take(&s, input, len, &taken, out, size, &given) ..)
  *         write `given` bytes of out, go on with input + taken
  *     fmp4_finish(&s, &report);   take what is left with fmp4_take
@@ -88,11 +88,12 @@ enum fmp4_flags {
 
 /* Opens a stream that is cut into fragments of at most `samples` samples (1 to 1,000,000), and of at most `bytes`
  * bytes of media (0: any number; a larger sample is a fragment by itself). `limit`: the most bytes that it may take.
- * `room` of them are allocated at once for the output that waits. 2 MiB serve where output is taken after each feed.
- * What comes at once must fit what is free, or the stream ends with FMP4_NO_ROOM: a moov (most have less than 64 KiB;
- * 16 MiB are allowed); the head of a new fragment, 100 bytes and 16 a sample (108 where it has 4 GiB of media); an
- * index, up to 786,460 bytes, with the head after it; and the heads of all samples without bytes that follow each
- * other. A stream that was closed can be opened again.
+ * `room` of them are allocated at once for the output that waits. 2 MiB serve where output is taken after each feed;
+ * with 8 MiB a feed takes 65,536 bytes at once, and what isn't used of them stays untouched. What comes at once must
+ * fit what is free, or the stream ends with FMP4_NO_ROOM: a moov (most have less than 64 KiB; 16 MiB are allowed); the
+ * head of a new fragment, 100 bytes and 16 a sample (108 where it has 4 GiB of media); an index, up to 786,460 bytes,
+ * with the head after it; and the heads of all samples without bytes that follow each other. A stream that was closed
+ * can be opened again.
  *   FMP4_OVER_LIMIT: room is more than limit; FMP4_NO_MEMORY; FMP4_IS_OPEN; FMP4_BAD_SAMPLES, _BYTES, _FLAGS, _ROOM */
 uint32_t fmp4_split_open(struct fmp4_stream *stream, uint32_t samples, uint64_t bytes, uint32_t flags, uint64_t limit,
                          size_t room);

@@ -43,7 +43,7 @@ struct cut {
     std::uint64_t bytes = 0;
     std::uint32_t flags = 0;
     std::uint64_t limit = 64u << 20;
-    std::size_t room = 2u << 20;
+    std::size_t room = 8u << 20;
 };
 
 inline std::string answer_name(std::uint32_t answer) {

@@ -28,7 +28,7 @@ static void report_end(uint32_t answer, const struct fmp4_report *report) {
 }
 
 int main(int argc, char **argv) {
-    unsigned long long with[6] = {0, 65536, 0, 0, 512ull << 20, 2 << 20};
+    unsigned long long with[6] = {0, 65536, 0, 0, 512ull << 20, 8 << 20};
     if (argc < 2 || argc > 7) return fputs("recut SAMPLES [INPUT [BYTES [FLAGS [LIMIT [ROOM]]]]]\n", stderr), 64;
     for (int i = 1; i < argc; i++) with[i - 1] = strtoull(argv[i], NULL, 10);
     size_t size = with[1] ? with[1] : 1, len = 0, taken = 0, given = 0;

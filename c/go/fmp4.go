@@ -20,7 +20,7 @@ const (
 )
 
 // Cut says how a stream is cut: into fragments of at most Samples samples and Bytes bytes of media (0: any number).
-// Limit is the most bytes that the stream may take, Room of them for the output; 0 stands for 64 MiB and 2 MiB.
+// Limit is the most bytes that the stream may take, Room of them for the output; 0 stands for 64 MiB and 8 MiB.
 type Cut struct {
 	Samples uint32
 	Bytes   uint64
@@ -67,7 +67,7 @@ func (s *stream) open(cut Cut) error {
 		cut.Limit = 64 << 20
 	}
 	if cut.Room == 0 {
-		cut.Room = 2 << 20
+		cut.Room = 8 << 20
 	}
 	answer := C.fmp4_split_open(&s.it, C.uint32_t(cut.Samples), C.uint64_t(cut.Bytes), C.uint32_t(cut.Flags),
 		C.uint64_t(cut.Limit), C.size_t(cut.Room))
