@@ -1,4 +1,5 @@
--- What an engine holds may go to another thread.
+-- What an engine holds may go to another thread. Each type is shown by itself, since one search over all of it ends at its limits.
+-- A field that is a struct or an enum has the row of its shape.
 use denote.Enum.Declared as variants
 use denote.Enum.Enum.{Enum}
 use denote.Param.Send.{AllSend, EachSend, IsSend, enum_send, sendable, struct_send}
@@ -6,13 +7,7 @@ use denote.Struct.Struct.{Struct}
 use denote.Struct.Declared.{fields, shape}
 use Rattle.std.proofs.Crossing.{crosses}
 use Rattle.mp4_ledger.specs.contracts.ledger.Ledger as ledger
-use Rattle.mp4_ledger.specs.contracts.buf.Buf as buf
-use Rattle.mp4_ledger.specs.contracts.rows.Rows64 as rows
-use Rattle.mp4_init.specs.contracts.table.TrackList as tracks
-use Rattle.mp4_box.specs.contracts.reader.HeaderReader as reader
-use Rattle.mp4_frag.specs.contracts.run_list.RunList as runs
 use Rattle.mp4_machine.specs.contracts.block.Block as block
-use Rattle.mp4_machine.specs.contracts.buffered_box.BufferedBox as buffered
 use Rattle.mp4_fragment_machine.specs.contracts.machine.FragmentMachine as machine
 use Rattle.mp4_fragment_machine.specs.contracts.state.Recutting as recutting
 use Rattle.mp4_fragment_machine.specs.contracts.state.OpenRecutting as open_recutting
@@ -28,26 +23,8 @@ use Rattle.fmp4_c.specs.contracts.engine.Engine as engine
 ledger_send : IsSend ledger.the_row
 ledger_send = search (sendable, crosses) depth 40 fits 20000
 
-buf_send : IsSend buf.the_row
-buf_send = search (sendable, crosses) depth 40 fits 20000
-
-rows_send : IsSend rows.the_row
-rows_send = search (sendable, crosses) depth 40 fits 20000
-
-tracks_send : IsSend tracks.the_row
-tracks_send = search (sendable, crosses) depth 40 fits 20000
-
-reader_send : IsSend reader.the_row
-reader_send = search (sendable, crosses) depth 40 fits 20000
-
-runs_send : IsSend runs.the_row
-runs_send = search (sendable, crosses) depth 40 fits 20000
-
 block_send : IsSend block.the_row
 block_send = search (sendable, crosses) depth 40 fits 20000
-
-buffered_send : IsSend buffered.the_row
-buffered_send = search (sendable, crosses) depth 40 fits 20000
 
 output_send : IsSend output.the_row
 output_send = search (sendable, crosses) depth 40 fits 20000
@@ -55,6 +32,7 @@ output_send = search (sendable, crosses) depth 40 fits 20000
 report_send : IsSend (Struct (shape report.the_type))
 report_send = search (sendable, crosses) depth 40 fits 20000
 
+-- by their fields, in order
 recutting_fields : AllSend (fields recutting.the_type)
 recutting_fields = (search (sendable, crosses) depth 40 fits 50000, (search (sendable, crosses) depth 40 fits 50000, (search (sendable, crosses) depth 40 fits 50000, (search (sendable, crosses) depth 40 fits 50000, (search (sendable, crosses) depth 40 fits 50000, tt)))))
 
