@@ -39,12 +39,16 @@
 
 #ifdef __cplusplus
 extern "C" {
+#define FMP4_RESTRICT __restrict
+#else
+#define FMP4_RESTRICT restrict
 #endif
 
 /* A stream. It begins as zeros, and its fields are the library's: never read, change or copy them. */
 struct fmp4_stream {
     void *state;
     uint32_t closed;
+    uint64_t reserved[2];
 };
 
 /* What was counted of a stream, and which rule it breaks. */
@@ -56,7 +60,12 @@ struct fmp4_report {
     uint64_t offset;      /* where the box at fault begins in the stream; 0 also where there is no fault */
     uint32_t rule;        /* the number of the broken rule, 1 to 25 (docs/FORMAT.md); 0: no fault */
     uint32_t box_type;    /* the type of the box at fault, 'moof' as 0x6d6f6f66; 0: not known */
+    uint64_t reserved[4]; /* for what later libraries of the same soname report; begin a report as zeros */
 };
+
+/* The sizes of both, which an open compares with those of the library: FMP4_BAD_LAYOUT says that the caller was compiled
+ * with another header, or declares them otherwise. */
+#define FMP4_LAYOUT ((uint32_t)(sizeof(struct fmp4_stream) << 16 | sizeof(struct fmp4_report)))
 
 /* What a call answers. */
 enum fmp4_answer {
@@ -77,7 +86,8 @@ enum fmp4_answer {
     FMP4_BAD_SAMPLES = 20,  /* samples not in 1 to 1,000,000 */
     FMP4_BAD_BYTES = 21,    /* bytes above 2^62 */
     FMP4_BAD_FLAGS = 22,    /* flags that aren't known */
-    FMP4_BAD_ROOM = 23      /* a room of 0 */
+    FMP4_BAD_ROOM = 23,     /* a room of 0 */
+    FMP4_BAD_LAYOUT = 24    /* structs of other sizes than the library's */
 };
 
 /* Flags of fmp4_split_open. */
@@ -94,13 +104,19 @@ enum fmp4_flags {
  * head of a new fragment, 100 bytes and 16 a sample (108 where it has 4 GiB of media); an index, up to 786,460 bytes,
  * with the head after it; and the heads of all samples without bytes that follow each other. A stream that was closed
  * can be opened again.
- *   FMP4_OVER_LIMIT: room is more than limit; FMP4_NO_MEMORY; FMP4_IS_OPEN; FMP4_BAD_SAMPLES, _BYTES, _FLAGS, _ROOM */
-uint32_t fmp4_split_open(struct fmp4_stream *stream, uint32_t samples, uint64_t bytes, uint32_t flags, uint64_t limit,
-                         size_t room);
+ *   FMP4_OVER_LIMIT: room is more than limit; FMP4_NO_MEMORY; FMP4_IS_OPEN; FMP4_BAD_LAYOUT, _SAMPLES, _BYTES, _FLAGS,
+ *   _ROOM */
+static inline uint32_t fmp4_split_open(struct fmp4_stream *stream, uint32_t samples, uint64_t bytes, uint32_t flags,
+                                       uint64_t limit, size_t room);
 
 /* Opens a stream that is only checked and counted. It has no output, and each input is taken as a whole.
- *   FMP4_NO_MEMORY; FMP4_IS_OPEN */
-uint32_t fmp4_check_open(struct fmp4_stream *stream, uint64_t limit);
+ *   FMP4_NO_MEMORY; FMP4_IS_OPEN; FMP4_BAD_LAYOUT */
+static inline uint32_t fmp4_check_open(struct fmp4_stream *stream, uint64_t limit);
+
+/* What these two call in the library; `layout` is FMP4_LAYOUT. */
+uint32_t fmp4_split_open_as(struct fmp4_stream *stream, uint32_t layout, uint32_t samples, uint64_t bytes, uint32_t flags,
+                            uint64_t limit, size_t room);
+uint32_t fmp4_check_open_as(struct fmp4_stream *stream, uint32_t layout, uint64_t limit);
 
 /* Feeds the next `len` bytes of the stream, or the first *taken of them: go on with the rest. A cut takes at most a
  * 128th of what is free in the room at once (a 512th with an index), a byte at the least, and nothing (FMP4_FULL)
@@ -108,34 +124,48 @@ uint32_t fmp4_check_open(struct fmp4_stream *stream, uint64_t limit);
  * bytes so far determine waits to be taken, but for what was taken. *taken is 0 where it misuses the stream, and after
  * a stop.
  *   FMP4_FULL; FMP4_FAULT, FMP4_NO_ROOM, FMP4_OVER_LIMIT, FMP4_NO_MEMORY; FMP4_NOT_OPEN, FMP4_CLOSED, FMP4_ENDED */
-uint32_t fmp4_feed(struct fmp4_stream *stream, const uint8_t *input, size_t len, size_t *taken);
+uint32_t fmp4_feed(struct fmp4_stream *FMP4_RESTRICT stream, const uint8_t *FMP4_RESTRICT input, size_t len,
+                   size_t *FMP4_RESTRICT taken);
 
 /* As fmp4_take and then fmp4_feed, and the output of the input follows in `out` at once, without a copy in the room:
  * *given says how many bytes of output, less than `size` only where no more wait; what doesn't fit waits. So a loop over
  * an input sees FMP4_FULL only where `out` is smaller than what waits, and calls again. A stream that has stopped still
  * gives what waits. What lies after the *given bytes in `out` may change.
  *   As fmp4_feed; *given is 0 where it misuses the stream */
-uint32_t fmp4_feed_take(struct fmp4_stream *stream, const uint8_t *input, size_t len, size_t *taken, uint8_t *out,
-                        size_t size, size_t *given);
+uint32_t fmp4_feed_take(struct fmp4_stream *FMP4_RESTRICT stream, const uint8_t *FMP4_RESTRICT input, size_t len,
+                        size_t *FMP4_RESTRICT taken, uint8_t *FMP4_RESTRICT out, size_t size,
+                        size_t *FMP4_RESTRICT given);
 
 /* Copies output to `out`: *taken says how many bytes, less than `len` only where no more wait. After a stop and after
  * fmp4_finish too, until the stream is closed.
  *   FMP4_NOT_OPEN, FMP4_CLOSED */
-uint32_t fmp4_take(struct fmp4_stream *stream, uint8_t *out, size_t len, size_t *taken);
+uint32_t fmp4_take(struct fmp4_stream *FMP4_RESTRICT stream, uint8_t *FMP4_RESTRICT out, size_t len,
+                   size_t *FMP4_RESTRICT taken);
 
 /* Says how many bytes of output wait.
  *   FMP4_NOT_OPEN, FMP4_CLOSED: *count is 0 */
-uint32_t fmp4_pending(struct fmp4_stream *stream, size_t *count);
+uint32_t fmp4_pending(struct fmp4_stream *FMP4_RESTRICT stream, size_t *FMP4_RESTRICT count);
 
 /* Says what was counted so far, and the fault where the stream has stopped for one; after fmp4_finish, what that
  * reported.
  *   FMP4_NOT_OPEN, FMP4_CLOSED: the report is left as it was */
-uint32_t fmp4_totals(struct fmp4_stream *stream, struct fmp4_report *report);
+uint32_t fmp4_totals(struct fmp4_stream *FMP4_RESTRICT stream, struct fmp4_report *FMP4_RESTRICT report);
 
 /* The stream has ended: FMP4_OK only where it breaks no rule. What the stream had claimed is freed; what waits can
  * still be taken.
  *   FMP4_FAULT, or as it stopped before; FMP4_NOT_OPEN, FMP4_CLOSED, FMP4_ENDED: the report is left as it was */
-uint32_t fmp4_finish(struct fmp4_stream *stream, struct fmp4_report *report);
+uint32_t fmp4_finish(struct fmp4_stream *FMP4_RESTRICT stream, struct fmp4_report *FMP4_RESTRICT report);
+
+/* Sets the limit of a stream, but no lower than what it takes now: *takes says how many bytes that is, its room among
+ * them. So many streams share one limit: before each is fed it gets what it takes and all that is free, and afterwards a
+ * limit of 0, which says what it takes now. After a stop and after fmp4_finish the limit stays.
+ *   FMP4_NOT_OPEN, FMP4_CLOSED: *takes is 0 */
+uint32_t fmp4_set_limit(struct fmp4_stream *FMP4_RESTRICT stream, uint64_t limit, uint64_t *FMP4_RESTRICT takes);
+
+/* Begins another stream, as the one before was opened, with the limit that it has now and with its room: as fmp4_close
+ * and the same open, but nothing is allocated. Output that waits is lost.
+ *   FMP4_NOT_OPEN, FMP4_CLOSED */
+uint32_t fmp4_reset(struct fmp4_stream *stream);
 
 /* Frees all. Output that waits is lost.
  *   FMP4_NOT_OPEN, FMP4_CLOSED */
@@ -150,6 +180,14 @@ size_t fmp4_answer_name(uint32_t answer, char *name, size_t len);
 
 /* The version of the library, as FMP4_VERSION. */
 uint32_t fmp4_version(void);
+
+static inline uint32_t fmp4_split_open(struct fmp4_stream *stream, uint32_t samples, uint64_t bytes, uint32_t flags,
+                                       uint64_t limit, size_t room) {
+    return fmp4_split_open_as(stream, FMP4_LAYOUT, samples, bytes, flags, limit, room);
+}
+static inline uint32_t fmp4_check_open(struct fmp4_stream *stream, uint64_t limit) {
+    return fmp4_check_open_as(stream, FMP4_LAYOUT, limit);
+}
 
 /* NULL for no bytes: the functions of the library want a pointer. */
 static inline uint32_t fmp4_feed_any(struct fmp4_stream *stream, const uint8_t *input, size_t len, size_t *taken) {

@@ -107,6 +107,8 @@ class stream {
     }
 
     std::uint32_t totals(fmp4_report &report) { return fmp4_totals(&stream_, &report); }
+    std::uint32_t set_limit(std::uint64_t limit, std::uint64_t &takes) { return fmp4_set_limit(&stream_, limit, &takes); }
+    std::uint32_t reset() { return fmp4_reset(&stream_); }
     std::uint32_t close() { return fmp4_close(&stream_); }
     // For the calls of fmp4.h.
     fmp4_stream *get() { return &stream_; }

@@ -105,6 +105,25 @@ static void end_one(struct one *s, int is_finish) {
     }
 }
 
+/* Another limit for its boxes, or for a while none at all but for what they take. */
+static void limit_one(struct one *s) {
+    uint64_t takes = 77, again = 77, limit = random_to(2) ? 64u << 20 : random_to(1u << 21);
+    uint32_t wanted = s->state == NEW ? FMP4_NOT_OPEN : s->state == CLOSED ? FMP4_CLOSED : FMP4_OK;
+    WANT(fmp4_set_limit(&s->stream, limit, &takes) == wanted && fmp4_set_limit(&s->stream, 64u << 20, &again) == wanted);
+    WANT(takes == again && (wanted == FMP4_OK || takes == 0));
+}
+
+static void reset_one(struct one *s) {
+    uint32_t answer = fmp4_reset(&s->stream);
+    WANT(answer == (s->state == NEW ? FMP4_NOT_OPEN : s->state == CLOSED ? FMP4_CLOSED : FMP4_OK));
+    if (answer) return;
+    size_t waits = 77;
+    WANT(fmp4_pending(&s->stream, &waits) == FMP4_OK && waits == 0);
+    s->state = OPEN;
+    s->is_changed |= (int)random_to(2);
+    s->at = s->out.len = 0;
+}
+
 static void close_one(struct one *s) {
     uint32_t answer = fmp4_close(&s->stream);
     WANT(answer == (s->state == NEW ? FMP4_NOT_OPEN : s->state == CLOSED ? FMP4_CLOSED : FMP4_OK));
@@ -126,7 +145,9 @@ int main(int argc, char **argv) {
             uint64_t which = random_to(100);
             if (which < 5) open_one(s);
             else if (which < 55) feed_one(s);
-            else if (which < 92) take_one(s);
+            else if (which < 90) take_one(s);
+            else if (which < 91) limit_one(s);
+            else if (which < 92) reset_one(s);
             else if (which < 96) end_one(s, 0);
             else if (which < 98) end_one(s, 1);
             else close_one(s);

@@ -18,6 +18,9 @@ static void all_answer(struct fmp4_stream *s, uint32_t wanted) {
         WANT(fmp4_take(s, out, sizeof out, &n) == wanted && n == 0);
         n = 9;
         WANT(fmp4_pending(s, &n) == wanted && n == 0);
+        uint64_t takes = 9;
+        WANT(fmp4_set_limit(s, 1 << 20, &takes) == wanted && takes == 0);
+        WANT(fmp4_reset(s) == wanted);
         WANT(fmp4_close(s) == wanted);
         WANT(fmp4_totals(s, &report) == wanted);
     }
@@ -36,6 +39,11 @@ static void none_opens(struct fmp4_stream *s, uint32_t answer) {
     WANT(fmp4_split_open(s, 1, 0, 0, 1 << 20, 0) == FMP4_BAD_ROOM);
     WANT(fmp4_split_open(s, 1, 0, 0, 4095, 4096) == FMP4_OVER_LIMIT);
     WANT(fmp4_split_open(s, 1, 0, 0, 0, SIZE_MAX) == FMP4_OVER_LIMIT);
+    static const uint32_t layouts[] = {0, FMP4_LAYOUT - 1, FMP4_LAYOUT + (1 << 16), UINT32_MAX};
+    for (int i = 0; i < 4; i++) {
+        WANT(fmp4_split_open_as(s, layouts[i], 1, 0, 0, 1 << 20, 4096) == FMP4_BAD_LAYOUT);
+        WANT(fmp4_check_open_as(s, layouts[i], 1 << 20) == FMP4_BAD_LAYOUT);
+    }
     all_answer(s, answer);
 }
 
@@ -48,12 +56,16 @@ int main(void) {
         WANT(fmp4_split_open(&s, 1, 0, 0, 1 << 20, 4096) == FMP4_IS_OPEN);
         WANT(fmp4_split_open(&s, 0, 0, 9, 0, 0) == FMP4_IS_OPEN);
         WANT(fmp4_check_open(&s, 1 << 20) == FMP4_IS_OPEN);
+        WANT(fmp4_split_open_as(&s, 0, 1, 0, 0, 1 << 20, 4096) == FMP4_IS_OPEN);
         WANT(fmp4_totals(&s, &report) == FMP4_OK && report.samples == 0 && report.rule == 0);
         WANT(fmp4_feed(&s, input, 0, &n) == FMP4_OK && n == 0);
         WANT(fmp4_feed(&s, NULL, 0, &n) == FMP4_OK && n == 0);
         WANT(fmp4_take(&s, NULL, 0, &n) == FMP4_OK && n == 0);
         size_t given = 9;
         WANT(fmp4_feed_take(&s, NULL, 0, &n, NULL, 0, &given) == FMP4_OK && n == 0 && given == 0);
+        uint64_t takes = 9;
+        WANT(fmp4_set_limit(&s, 0, &takes) == FMP4_OK && takes == 4096);
+        WANT(fmp4_reset(&s) == FMP4_OK);
         WANT(fmp4_finish(&s, &report) == FMP4_OK && report.samples == 0 && report.peak == 0);
         all_answer(&s, FMP4_ENDED);
         WANT(fmp4_totals(&s, &report) == FMP4_OK && report.samples == 0 && report.rule == 0);
@@ -83,7 +95,7 @@ int main(void) {
     static const struct { uint32_t answer; const char *name; } answers[] = {{0, "FMP4_OK"}, {1, "FMP4_FULL"}, {2, "FMP4_FAULT"},
         {3, "FMP4_NO_ROOM"}, {4, "FMP4_OVER_LIMIT"}, {5, "FMP4_NO_MEMORY"}, {6, ""}, {15, ""}, {16, "FMP4_NOT_OPEN"},
         {17, "FMP4_CLOSED"}, {18, "FMP4_IS_OPEN"}, {19, "FMP4_ENDED"}, {20, "FMP4_BAD_SAMPLES"}, {21, "FMP4_BAD_BYTES"},
-        {22, "FMP4_BAD_FLAGS"}, {23, "FMP4_BAD_ROOM"}, {24, ""}, {UINT32_MAX, ""}};
+        {22, "FMP4_BAD_FLAGS"}, {23, "FMP4_BAD_ROOM"}, {24, "FMP4_BAD_LAYOUT"}, {25, ""}, {UINT32_MAX, ""}};
     for (size_t i = 0; i < sizeof answers / sizeof *answers; i++) {
         memset(of_answer, 'x', sizeof of_answer);
         WANT(fmp4_answer_name(answers[i].answer, of_answer, sizeof of_answer) == strlen(answers[i].name));

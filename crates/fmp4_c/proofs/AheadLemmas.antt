@@ -42,10 +42,10 @@ module _ (operation : Operation) (b given input : List ℕ) (r r' : Run) (p p' :
   l = into x y room room' first at filled filled' waiting waiting' p.fragments p'.fragments account r'.account
 
   abbrev before : Run
-  before = record { account = r.account; feeding = r.feeding; waiting = record { bytes = take first filled ++ waiting; room = room; failed = r.waiting.failed }; share = r.share; reported = r.reported }
+  before = record { account = r.account; feeding = r.feeding; waiting = record { bytes = take first filled ++ waiting; room = room; failed = r.waiting.failed }; share = r.share; reported = r.reported; operation = r.operation }
 
   abbrev after : Run
-  after = record { account = r'.account; feeding = r'.feeding; waiting = record { bytes = take at filled' ++ waiting'; room = room'; failed = r'.waiting.failed }; share = r'.share; reported = r'.reported }
+  after = record { account = r'.account; feeding = r'.feeding; waiting = record { bytes = take at filled' ++ waiting'; room = room'; failed = r'.waiting.failed }; share = r'.share; reported = r'.reported; operation = r'.operation }
 
   grown : Grows l before after
   grown more a =
@@ -81,9 +81,9 @@ module _ (operation : Operation) (b given input : List ℕ) (r r' : Run) (p p' :
 
 -- how much is taken of the input follows from what waits once so much of it was given
 pub portion-after : (r : Run) (n first room : ℕ) (rest input : List ℕ) (taken : ℕ) (answer : Answer) → first ≡ min n (length r.waiting.bytes) → rest ≡ drop first r.waiting.bytes → room ≡ r.waiting.room
-    → IsPortion (record { account = r.account; feeding = r.feeding; waiting = record { bytes = rest; room = room; failed = r.waiting.failed }; share = r.share; reported = r.reported }) input taken answer
+    → IsPortion (record { account = r.account; feeding = r.feeding; waiting = record { bytes = rest; room = room; failed = r.waiting.failed }; share = r.share; reported = r.reported; operation = r.operation }) input taken answer
     → IsPortion (after_take n r) input taken answer
 portion-after r n first room rest input taken answer count left same is =
     let bytes : rest ≡ drop (min n (length r.waiting.bytes)) r.waiting.bytes = left ∙ ap (λ k. drop k r.waiting.bytes) count in
     let waits : PendingOutput = record { bytes = rest; room = room; failed = r.waiting.failed } in
-    subst (λ (w : PendingOutput). IsPortion (record { account = r.account; feeding = r.feeding; waiting = w; share = r.share; reported = r.reported }) input taken answer) (rw (bytes, same) refl) is
+    subst (λ (w : PendingOutput). IsPortion (record { account = r.account; feeding = r.feeding; waiting = w; share = r.share; reported = r.reported; operation = r.operation }) input taken answer) (rw (bytes, same) refl) is

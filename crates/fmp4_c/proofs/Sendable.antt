@@ -65,4 +65,4 @@ feeder_send : IsSend feeder.the_row
 feeder_send = search (sendable, operation_send, stop_send, machine_send, block_send) depth 40 fits 50000
 
 pub engine_send : IsSend engine.the_row
-engine_send = search (sendable, ledger_send, feeder_send, output_send, report_send) depth 40 fits 50000
+engine_send = search (sendable, ledger_send, feeder_send, output_send, report_send, operation_send) depth 40 fits 50000

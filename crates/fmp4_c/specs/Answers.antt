@@ -8,7 +8,7 @@ use Rattle.mp4_machine.specs.declared.stop.Stop.{Stop}
 use Rattle.mp4_machine.specs.declared.stop.Stop.TheVariants as stops
 use Rattle.mp4_push.specs.declared.totals.Totals.{Totals}
 use Rattle.fmp4_c.specs.declared.answer.Answer.{Answer}
-use Rattle.fmp4_c.specs.declared.answer.Answer.TheVariants.{Done, Full, Fault, NoRoom, OverLimit, NoMemory, NotOpen, Closed, IsOpen, Ended, BadSamples, BadBytes, BadFlags, BadRoom}
+use Rattle.fmp4_c.specs.declared.answer.Answer.TheVariants.{Done, Full, Fault, NoRoom, OverLimit, NoMemory, NotOpen, Closed, IsOpen, Ended, BadSamples, BadBytes, BadFlags, BadRoom, BadLayout}
 use Rattle.fmp4_c.specs.declared.report.Report.{Report}
 
 -- no two answers have one number
@@ -27,6 +27,7 @@ number_of BadSamples = 20
 number_of BadBytes = 21
 number_of BadFlags = 22
 number_of BadRoom = 23
+number_of BadLayout = 24
 
 -- its name in C
 abbrev pub name_of : Answer → List ℕ
@@ -44,6 +45,7 @@ name_of BadSamples = codes "FMP4_BAD_SAMPLES"
 name_of BadBytes = codes "FMP4_BAD_BYTES"
 name_of BadFlags = codes "FMP4_BAD_FLAGS"
 name_of BadRoom = codes "FMP4_BAD_ROOM"
+name_of BadLayout = codes "FMP4_BAD_LAYOUT"
 
 -- the number of the version 0.1.0: a million for the first, a thousand for the second
 abbrev pub version : ℕ

@@ -9,7 +9,7 @@ use Rattle.fmp4_c.specs.Answers.{number_of}
 use Rattle.fmp4_c.specs.Engines.{ClaimsWithin, Fed, Finished, Holds, Run, Stopped}
 use Rattle.fmp4_c.specs.PendingOutput.{empty}
 use Rattle.fmp4_c.specs.declared.answer.Answer.{Answer}
-use Rattle.fmp4_c.specs.declared.answer.Answer.TheVariants.{Done, Full, Fault, NoRoom, OverLimit, NoMemory, NotOpen, Closed, IsOpen, Ended, BadSamples, BadBytes, BadFlags, BadRoom}
+use Rattle.fmp4_c.specs.declared.answer.Answer.TheVariants.{Done, Full, Fault, NoRoom, OverLimit, NoMemory, NotOpen, Closed, IsOpen, Ended, BadSamples, BadBytes, BadFlags, BadRoom, BadLayout}
 use Rattle.fmp4_c.specs.declared.asked.Asked.{Asked}
 use Rattle.fmp4_c.specs.declared.report.Report.{Report}
 
@@ -27,8 +27,13 @@ pub record IsCutBy (samples bytes flags : ℕ) (cut : Cut) : Type 0 where
 abbrev pub share_of : ℕ → ℕ
 share_of flags = if eqb (flags % 2) 1 then 512 else 128
 
+-- the sizes of the structs in the header: 32 bytes for a stream, and 80 for a report
+abbrev pub header_layout : ℕ
+header_layout = 0x0020_0050
+
 -- the requests that are in range
-pub record IsInRange (samples bytes flags room : ℕ) : Type 0 where
+pub record IsInRange (layout samples bytes flags room : ℕ) : Type 0 where
+  pub sizes : layout ≡ header_layout
   pub some : 1 ≤ samples
   pub most : samples ≤ most_in_piece
   pub size : bytes ≤ 2 ^ 62
@@ -36,21 +41,22 @@ pub record IsInRange (samples bytes flags room : ℕ) : Type 0 where
   pub holds : 1 ≤ room
 
 -- why such a cut is refused with this room
-abbrev pub IsOutOfRange : (samples bytes flags room : ℕ) → Answer → Type 0
-IsOutOfRange samples bytes flags room BadSamples = (1 ≤ samples) × (samples ≤ most_in_piece) → ⊥
-IsOutOfRange samples bytes flags room BadBytes = 2 ^ 62 < bytes
-IsOutOfRange samples bytes flags room BadFlags = 3 < flags
-IsOutOfRange samples bytes flags room BadRoom = room ≡ 0
-IsOutOfRange samples bytes flags room Done = ⊥
-IsOutOfRange samples bytes flags room Full = ⊥
-IsOutOfRange samples bytes flags room Fault = ⊥
-IsOutOfRange samples bytes flags room NoRoom = ⊥
-IsOutOfRange samples bytes flags room OverLimit = ⊥
-IsOutOfRange samples bytes flags room NoMemory = ⊥
-IsOutOfRange samples bytes flags room NotOpen = ⊥
-IsOutOfRange samples bytes flags room Closed = ⊥
-IsOutOfRange samples bytes flags room IsOpen = ⊥
-IsOutOfRange samples bytes flags room Ended = ⊥
+abbrev pub IsOutOfRange : (layout samples bytes flags room : ℕ) → Answer → Type 0
+IsOutOfRange layout samples bytes flags room BadSamples = (1 ≤ samples) × (samples ≤ most_in_piece) → ⊥
+IsOutOfRange layout samples bytes flags room BadBytes = 2 ^ 62 < bytes
+IsOutOfRange layout samples bytes flags room BadFlags = 3 < flags
+IsOutOfRange layout samples bytes flags room BadRoom = room ≡ 0
+IsOutOfRange layout samples bytes flags room Done = ⊥
+IsOutOfRange layout samples bytes flags room Full = ⊥
+IsOutOfRange layout samples bytes flags room Fault = ⊥
+IsOutOfRange layout samples bytes flags room NoRoom = ⊥
+IsOutOfRange layout samples bytes flags room OverLimit = ⊥
+IsOutOfRange layout samples bytes flags room NoMemory = ⊥
+IsOutOfRange layout samples bytes flags room NotOpen = ⊥
+IsOutOfRange layout samples bytes flags room Closed = ⊥
+IsOutOfRange layout samples bytes flags room IsOpen = ⊥
+IsOutOfRange layout samples bytes flags room Ended = ⊥
+IsOutOfRange layout samples bytes flags room BadLayout = layout ≡ header_layout → ⊥
 
 -- these numbers open a stream that is split so
 pub record IsSplitBy (samples bytes flags limit room : ℕ) (asked : Asked) : Type 0 where
@@ -71,6 +77,7 @@ pub record IsOpened (asked : Asked) (held : Option Run) : Type 0 where
   pub waiting : run.waiting ≡ empty asked.room
   pub limit : run.account.limit + asked.room ≡ asked.limit
   pub share : run.share ≡ asked.share
+  pub operation : run.operation ≡ asked.operation
 
 -- the answer of an open for this request
 abbrev pub Opens : Asked → Answer → Option Run → Type 0
@@ -88,20 +95,26 @@ Opens asked BadSamples held = ⊥
 Opens asked BadBytes held = ⊥
 Opens asked BadFlags held = ⊥
 Opens asked BadRoom held = ⊥
+Opens asked BadLayout held = ⊥
 
 -- or for a request that is out of range
 abbrev pub OpensOr : Result Asked Answer → Answer → Option Run → Type 0
 OpensOr (Ok asked) answer held = Opens asked answer held
 OpensOr (Err out) answer held = (answer ≡ out) × (held ≡ None)
 
--- the answer to C for a cut: the request is in range, or the answer has the number of what isn't
-pub data SplitOpens (samples bytes flags limit room : ℕ) (answer : Answer) (held : Option Run) : Type 0 where
-  Asks : (asked : Asked) → IsInRange samples bytes flags room → IsSplitBy samples bytes flags limit room asked → Opens asked answer held → SplitOpens samples bytes flags limit room answer held
-  Refuses : IsOutOfRange samples bytes flags room answer → held ≡ None → SplitOpens samples bytes flags limit room answer held
-
 -- a check has no output, and takes inputs as a whole
 abbrev pub checked_by : ℕ → Asked
 checked_by limit = record { operation = operations.List Check; limit = limit; room = 0; share = 0 }
+
+-- the answer to C for a cut: the request is in range, or the answer has the number of what isn't
+pub data SplitOpens (layout samples bytes flags limit room : ℕ) (answer : Answer) (held : Option Run) : Type 0 where
+  Asks : (asked : Asked) → IsInRange layout samples bytes flags room → IsSplitBy samples bytes flags limit room asked → Opens asked answer held → SplitOpens layout samples bytes flags limit room answer held
+  Refuses : IsOutOfRange layout samples bytes flags room answer → held ≡ None → SplitOpens layout samples bytes flags limit room answer held
+
+-- the same for a check
+pub data CheckOpens (layout limit : ℕ) (answer : Answer) (held : Option Run) : Type 0 where
+  Asks : layout ≡ header_layout → Opens (checked_by limit) answer held → CheckOpens layout limit answer held
+  Refuses : (layout ≡ header_layout → ⊥) → answer ≡ BadLayout → held ≡ None → CheckOpens layout limit answer held
 
 -- ---- the stream of a handle
 

@@ -3,7 +3,7 @@ use Rattle.std.specs.Prelude.{◌≡◌, if◌then◌else◌, ℕ, ◌+◌, ◌-
 use Rattle.mp4_box.specs.declared.rules.Fault as faults
 use Rattle.mp4_grammar.specs.Contexts.{first_context}
 use Rattle.mp4_grammar.specs.HeldSizes.{HoldsWithin}
-use Rattle.mp4_ledger.specs.Memory.{Account}
+use Rattle.mp4_ledger.specs.Memory.{Account, limited}
 use Rattle.mp4_machine.specs.Fed.{sums_in}
 use Rattle.mp4_machine.specs.Readings.{AtMost, Request, decided_in, fault_in, greatest, most_of, whole_in}
 use Rattle.mp4_machine.specs.declared.stop.Stop.{Stop}
@@ -12,21 +12,22 @@ use Rattle.mp4_push.specs.Feeders.{IsAfter, Feeding, fragments_of, held_by, live
 use Rattle.mp4_recut.specs.Operations.{operation_meaning, reads_of}
 use Rattle.mp4_recut.specs.declared.operation.Operation.{Operation}
 use Rattle.fmp4_c.specs.Answers.{Counted, answer_to, counted_of, fault_of, number_of, report_from}
-use Rattle.fmp4_c.specs.PendingOutput.{PendingOutput}
+use Rattle.fmp4_c.specs.PendingOutput.{PendingOutput, empty}
 use Rattle.fmp4_c.specs.declared.answer.Answer.{Answer}
-use Rattle.fmp4_c.specs.declared.answer.Answer.TheVariants.{Done, Full, Fault, NoRoom, OverLimit, NoMemory, NotOpen, Closed, IsOpen, Ended, BadSamples, BadBytes, BadFlags, BadRoom}
+use Rattle.fmp4_c.specs.declared.answer.Answer.TheVariants.{Done, Full, Fault, NoRoom, OverLimit, NoMemory, NotOpen, Closed, IsOpen, Ended, BadSamples, BadBytes, BadFlags, BadRoom, BadLayout}
 use Rattle.fmp4_c.specs.declared.report.Report.{Report}
 
 -- ---- the visible part of an engine
 
 -- the account of its ledger, its Feeder until the stream ends, what waits to be taken, which share of what is free in the
--- room it takes of the input, and what it reported at the end
+-- room it takes of the input, what it reported at the end, and the operation on its streams
 pub record Run : Type 0 where
   pub account : Account
   pub feeding : Option Feeding
   pub waiting : PendingOutput
   pub share : ℕ
   pub reported : Report
+  pub operation : Operation
 
 -- what a Feeder has claimed, where there is one
 abbrev pub held_in : Option Feeding → ℕ
@@ -41,6 +42,7 @@ after_take n r = record {
   waiting = record { bytes = drop (min n (length r.waiting.bytes)) r.waiting.bytes; room = r.waiting.room; failed = r.waiting.failed };
   share = r.share;
   reported = r.reported;
+  operation = r.operation;
 }
 
 -- ---- after the bytes of a stream
@@ -113,6 +115,7 @@ Fed operation b given BadSamples r = ⊥
 Fed operation b given BadBytes r = ⊥
 Fed operation b given BadFlags r = ⊥
 Fed operation b given BadRoom r = ⊥
+Fed operation b given BadLayout r = ⊥
 
 -- how many bytes are taken at once where so many are free in the room: a share of these, and one at the least; any number
 -- where there is no share
@@ -164,3 +167,20 @@ pub record IsKept (r r' : Run) : Type 0 where
   pub limit : r'.account.limit ≡ r.account.limit
   pub share : r'.share ≡ r.share
   pub reported : r'.reported ≡ r.reported
+  pub operation : r'.operation ≡ r.operation
+
+-- ---- the limit, and another stream
+
+-- it has another limit for the stream's memory and its room together, but no lower than what it takes of both
+abbrev pub limited_to : ℕ → Run → Run
+limited_to limit r = record r { account = limited r.account (limit - r.waiting.room) }
+
+-- it begins again as it was opened: no byte has come
+pub record IsReset (r r' : Run) : Type 0 where
+  pub holds : Holds r.operation [] [] r'
+  pub waiting : r'.waiting ≡ empty r.waiting.room
+  pub limit : r'.account.limit ≡ r.account.limit
+  pub claimed : r'.account.live ≡ 0
+  pub share : r'.share ≡ r.share
+  pub reported : r'.reported ≡ r.reported
+  pub operation : r'.operation ≡ r.operation

@@ -36,6 +36,8 @@ pub enum Answer {
     BadFlags,
     /// A room of no bytes.
     BadRoom,
+    /// Structs of other sizes than those of the header.
+    BadLayout,
 }
 
 impl Answer {
@@ -58,6 +60,7 @@ impl Answer {
             Answer::BadBytes => 21,
             Answer::BadFlags => 22,
             Answer::BadRoom => 23,
+            Answer::BadLayout => 24,
         }
     }
 
@@ -65,9 +68,9 @@ impl Answer {
     pub(crate) fn of_number(number: u32) -> Option<Answer>
         ensures number { IfSome result (λ a. number_of a ≡ number) }
         ensures some { number ≤ 5 → IsSome result }
-        ensures misuse { 16 ≤ number → number ≤ 23 → IsSome result }
+        ensures misuse { 16 ≤ number → number ≤ 24 → IsSome result }
         ensures none { 5 < number → number < 16 → result ≡ None }
-        ensures past { 23 < number → result ≡ None }
+        ensures past { 24 < number → result ≡ None }
     {
         Some(match number {
             0 => Answer::Done,
@@ -84,6 +87,7 @@ impl Answer {
             21 => Answer::BadBytes,
             22 => Answer::BadFlags,
             23 => Answer::BadRoom,
+            24 => Answer::BadLayout,
             _ => return None,
         })
     }
@@ -107,6 +111,7 @@ impl Answer {
             Answer::BadBytes => "FMP4_BAD_BYTES",
             Answer::BadFlags => "FMP4_BAD_FLAGS",
             Answer::BadRoom => "FMP4_BAD_ROOM",
+            Answer::BadLayout => "FMP4_BAD_LAYOUT",
         }
     }
 

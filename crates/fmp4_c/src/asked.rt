@@ -1,11 +1,14 @@
 //! Requests of C.
 
 ghost use Rattle.std.specs.Prelude.{◌≡◌, ℕ, ◌≤◌, IfErr, IfOk};
-ghost use Rattle.fmp4_c.specs.Calls.{IsCutBy, IsInRange, IsOutOfRange, IsSplitBy, checked_by, share_of};
+ghost use Rattle.fmp4_c.specs.Calls.{IsCutBy, IsInRange, IsOutOfRange, IsSplitBy, checked_by, header_layout, share_of};
 
 use crate::answer::Answer;
 use mp4_pieces::MOST_IN_PIECE;
 use mp4_push::{Command, Cut, Operation};
+
+/// The sizes of the structs in the header: 32 bytes for a stream, and 80 for a report.
+const LAYOUT: u32 = 0x0020_0050;
 
 /// The flag for an index.
 const INDEX: u32 = 1;
@@ -39,6 +42,7 @@ impl Asked {
     ///
     /// Which of the numbers is out of range.
     pub(crate) fn split(
+        layout: u32,
         samples: u32,
         bytes: u64,
         flags: u32,
@@ -46,9 +50,12 @@ impl Asked {
         room: usize,
     ) -> Result<Asked, Answer>
         ensures ok { IfOk result (IsSplitBy samples bytes flags limit room) }
-        ensures err { IfErr result (IsOutOfRange samples bytes flags room) }
-        ensures in_range { IfOk result (λ q. IsInRange samples bytes flags room) }
+        ensures err { IfErr result (IsOutOfRange layout samples bytes flags room) }
+        ensures in_range { IfOk result (λ q. IsInRange layout samples bytes flags room) }
     {
+        if layout != LAYOUT {
+            return Err(Answer::BadLayout);
+        }
         if room == 0 {
             return Err(Answer::BadRoom);
         }
@@ -64,15 +71,23 @@ impl Asked {
     }
 
     /// That it is checked.
-    pub(crate) fn check(limit: u64) -> Asked
-        ensures { result ≡ checked_by limit }
+    ///
+    /// # Errors
+    ///
+    /// `BadLayout` where the structs have other sizes than those of the header.
+    pub(crate) fn check(layout: u32, limit: u64) -> Result<Asked, Answer>
+        ensures ok { IfOk result (λ q. (layout ≡ header_layout) × (q ≡ checked_by limit)) }
+        ensures err { IfErr result (λ a. (layout ≡ header_layout → ⊥) × (a ≡ Answer.BadLayout)) }
     {
-        Asked {
+        if layout != LAYOUT {
+            return Err(Answer::BadLayout);
+        }
+        Ok(Asked {
             operation: Operation::List(Command::Check),
             limit,
             room: 0,
             share: 0,
-        }
+        })
     }
 }
 
@@ -93,9 +108,9 @@ fn share_by(flags: u32) -> usize
 /// Which of them is out of range.
 fn cut_by(samples: u32, bytes: u64, flags: u32) -> Result<Cut, Answer>
     ensures ok { IfOk result (IsCutBy samples bytes flags) }
-    ensures err { IfErr result (λ a. (room : ℕ) → IsOutOfRange samples bytes flags room a) }
-    ensures in_range { IfOk result (λ cut. (room : ℕ) → 1 ≤ room →
-        IsInRange samples bytes flags room) }
+    ensures err { IfErr result (λ a. (layout room : ℕ) → IsOutOfRange layout samples bytes flags room a) }
+    ensures in_range { IfOk result (λ cut. (layout room : ℕ) → layout ≡ header_layout → 1 ≤ room →
+        IsInRange layout samples bytes flags room) }
 {
     if flags > (INDEX | SYNC) {
         return Err(Answer::BadFlags);

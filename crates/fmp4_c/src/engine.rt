@@ -1,14 +1,14 @@
 //! A Feeder with its memory and its output.
 
-ghost use Rattle.std.specs.Prelude.{◌≡◌, ℕ, ◌+◌, ◌-◌, ◌*◌, ◌<◌, ◌≤◌, ◌↔◌, List, [], ◌++◌, length, take, drop, min};
+ghost use Rattle.std.specs.Prelude.{◌≡◌, ℕ, ◌+◌, ◌-◌, ◌*◌, ◌^◌, ◌<◌, ◌≤◌, ◌↔◌, List, [], ◌++◌, length, take, drop, min};
 ghost use Rattle.std.specs.Prelude.{None, Some, true, false, IfOk, IsErrOf, IsTrue};
 ghost use Rattle.mp4_push.specs.Feeders.{Feeding};
 ghost use Rattle.mp4_recut.specs.declared.operation.Operation as operations;
 ghost use Rattle.mp4_machine.specs.declared.stop.Stop as stops;
 ghost use Rattle.fmp4_c.specs.Answers.{answer_to, number_of};
 ghost use Rattle.fmp4_c.specs.Calls.{IsOpened};
-ghost use Rattle.fmp4_c.specs.Engines.{ClaimsWithin, Fed, Finished, FitsIn, Holds, IsKept, IsPortion, Stopped};
-ghost use Rattle.fmp4_c.specs.Engines.{after_take, held_in, report_of, step_of};
+ghost use Rattle.fmp4_c.specs.Engines.{ClaimsWithin, Fed, Finished, FitsIn, Holds, IsKept, IsPortion, IsReset, Stopped};
+ghost use Rattle.fmp4_c.specs.Engines.{after_take, held_in, limited_to, report_of, step_of};
 ghost use Rattle.fmp4_c.specs.declared.answer.Answer as answers;
 
 use crate::ahead::{Passed, feed_ahead};
@@ -17,7 +17,7 @@ use crate::asked::Asked;
 use crate::output::Output;
 use crate::report::{Report, fault_in};
 use mp4_ledger::Refused;
-use mp4_push::{Feeder, Ledger};
+use mp4_push::{Feeder, Ledger, Operation};
 use std::alloc::Global;
 use std::marker::Model;
 use std::mem::replace;
@@ -31,16 +31,18 @@ pub struct Engine {
     share: usize,
     /// What was reported at the end.
     reported: Report,
+    /// The operation on the stream, and on the next.
+    operation: Operation,
 }
 
-// A contract sees the account, the Feeder, what waits to be taken, the share, and what was reported at the end.
+// A contract sees the account, the Feeder, what waits to be taken, the share, what was reported at the end, and the operation.
 impl Model for Engine {
     ghost use Rattle.std.specs.Prelude.{◌≡◌};
     ghost use Rattle.fmp4_c.specs.Engines.{Run, held_in};
 
     ghost Value = { Run };
 
-    ghost view = { λ e. record { account = e.ledger; feeding = e.feeder; waiting = e.out; share = e.share; reported = e.reported } };
+    ghost view = { λ e. record { account = e.ledger; feeding = e.feeder; waiting = e.out; share = e.share; reported = e.reported; operation = e.operation } };
 
     ghost invariant = { λ e. e.ledger.live ≡ held_in e.feeder };
 }
@@ -86,6 +88,7 @@ impl Engine {
                 out,
                 share: asked.share,
                 reported: Report::none(),
+                operation: asked.operation,
             }),
             Err(_) => Err(Refused::Memory),
         }
@@ -248,7 +251,7 @@ impl Engine {
         ensures kept { (self.new.feeding ≡ self.old.feeding) ×
             (self.new.waiting.room ≡ self.old.waiting.room) ×
             (self.new.account ≡ self.old.account) × (self.new.share ≡ self.old.share) ×
-            (self.new.reported ≡ self.old.reported) }
+            (self.new.reported ≡ self.old.reported) × (self.new.operation ≡ self.old.operation) }
     {
         self.out.take(out)
     }
@@ -291,6 +294,8 @@ impl Engine {
         ensures reported { (p : Feeding) → self.old.feeding ≡ Some p → self.new.reported ≡ report.new }
         ensures reported_before { self.old.feeding ≡ None → self.new.reported ≡ self.old.reported }
         ensures waits { self.new.waiting ≡ self.old.waiting }
+        ensures settings { (self.new.account.limit ≡ self.old.account.limit) ×
+            (self.new.share ≡ self.old.share) × (self.new.operation ≡ self.old.operation) }
         ensures ends { self.new.feeding ≡ None }
         ensures back { self.new.account.live ≡ 0 }
     {
@@ -313,6 +318,37 @@ impl Engine {
             None => Answer::Ended,
         }
     }
+
+    /// Sets the limit of the stream's memory and its room together, but no lower than what it takes of both, and says how many
+    /// bytes that is. After a stop and after the end the limit stays.
+    pub fn set_limit(&mut self, limit: u64) -> u64
+        ensures takes { result ≡
+            min (self.old.account.live + self.old.waiting.room) (2 ^ 64 - 1) }
+        ensures set { (p : Feeding) → self.old.feeding ≡ Some p → p.stop ≡ None →
+            self.new ≡ limited_to limit self.old }
+        ensures stopped { (p : Feeding) → (e : stops.Stop) → self.old.feeding ≡ Some p →
+            p.stop ≡ Some e → self.new ≡ self.old }
+        ensures ended { self.old.feeding ≡ None → self.new ≡ self.old }
+    {
+        let room = self.out.room() as u64;
+        let takes = self.ledger.live().saturating_add(room);
+        if let Some(feeder) = &self.feeder {
+            if feeder.stop().is_none() {
+                self.ledger.set_limit(limit.saturating_sub(room));
+            }
+        }
+        takes
+    }
+
+    /// Begins another stream with the operation, the limit and the room that there are. The one so far is given up, and what waits
+    /// of its output is dropped.
+    pub fn reset(&mut self)
+        ensures { IsReset self.old self.new }
+    {
+        let next = Some(Feeder::with_operation(self.operation));
+        give_back(replace(&mut self.feeder, next), &mut self.ledger);
+        self.out.clear();
+    }
 }
 
 impl Drop for Engine {
@@ -323,6 +359,7 @@ impl Drop for Engine {
             out: _,
             share: _,
             reported: _,
+            operation: _,
         } = self;
         let mut ledger = ledger;
         give_back(feeder, &mut ledger);
@@ -351,7 +388,8 @@ fn leaves_all(taken: usize, input: &[u8]) -> bool
 /// Gives back all that a Feeder has claimed.
 fn give_back(feeder: Option<Feeder>, ledger: &mut Ledger)
     requires { ledger.old.live ≡ held_in feeder }
-    ensures { ledger.new.live ≡ 0 }
+    ensures live { ledger.new.live ≡ 0 }
+    ensures limit { ledger.new.limit ≡ ledger.old.limit }
 {
     if let Some(feeder) = feeder {
         feeder.give_up(ledger);

@@ -163,7 +163,7 @@ pub extern "C" fn fmp4_take(
     ensures kept { (r : Run) → stream.old.handle.held ≡ Some r →
         IfSome stream.new.handle.held (λ r'. (r'.feeding ≡ r.feeding) ×
         (r'.waiting.room ≡ r.waiting.room) × (r'.account ≡ r.account) × (r'.share ≡ r.share) ×
-        (r'.reported ≡ r.reported)) }
+        (r'.reported ≡ r.reported) × (r'.operation ≡ r.operation)) }
     ensures closed { stream.old.handle.held ≡ None →
         (result ≡ number_of (at_rest stream.old.closed)) × (taken.new ≡ 0) ×
         (stream.new.handle.held ≡ None) }
@@ -248,7 +248,8 @@ pub extern "C" fn fmp4_finish(alloc: Global, stream: &mut Stream, report: &mut R
     ensures open { (r : Run) → stream.old.handle.held ≡ Some r → IsSome stream.new.handle.held }
     ensures waits { (r : Run) → stream.old.handle.held ≡ Some r →
         IfSome stream.new.handle.held (λ r'. (r'.waiting ≡ r.waiting) × (r'.feeding ≡ None) ×
-        (r'.account.live ≡ 0)) }
+        (r'.account.live ≡ 0) × (r'.account.limit ≡ r.account.limit) ×
+        (r'.share ≡ r.share) × (r'.operation ≡ r.operation)) }
     ensures closed { stream.old.handle.held ≡ None →
         (result ≡ number_of (at_rest stream.old.closed)) × (report.new ≡ report.old) ×
         (stream.new.handle.held ≡ None) }

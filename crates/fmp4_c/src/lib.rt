@@ -1,6 +1,7 @@
 //! The C library of fmp4: a fragmented stream is fed as it comes, and recut or checked; the output is taken from the front.
 //!
-//! - [`exports`]: what C calls, [`opening`]: how a stream is opened, by what is [`asked`] for; [`names`]: those of the rules;
+//! - [`exports`]: what C calls, [`opening`]: how a stream is opened, by what is [`asked`] for, and [`settings`]: its limit, and
+//!   another stream; [`names`]: those of the rules;
 //! - [`answer`]: the result of a call, as a number, and [`report`]: what was counted, and which rule is broken;
 //! - [`stream`]: what C keeps, with [`handle`]: the pointer in it, and [`engine`]: what that points to;
 //! - [`output`]: what waits to be taken, and [`ahead`]: output that doesn't.
@@ -20,6 +21,7 @@ mod names;
 mod opening;
 mod output;
 mod report;
+mod settings;
 mod stream;
 
 pub use answer::Answer;
@@ -30,6 +32,7 @@ pub use exports::{
 };
 pub use handle::Handle;
 pub use names::{fmp4_answer_name, fmp4_rule_name, fmp4_version};
-pub use opening::{fmp4_check_open, fmp4_split_open};
+pub use opening::{fmp4_check_open_as, fmp4_split_open_as};
 pub use report::Report;
+pub use settings::{fmp4_reset, fmp4_set_limit};
 pub use stream::Stream;

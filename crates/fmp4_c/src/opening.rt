@@ -2,7 +2,7 @@
 
 ghost use Rattle.std.specs.Prelude.{◌≡◌, ℕ, None, Some, IfErr, IfOk};
 ghost use Rattle.fmp4_c.specs.Answers.{number_of};
-ghost use Rattle.fmp4_c.specs.Calls.{IsOpened, Opens, OpensOr, SplitOpens, checked_by};
+ghost use Rattle.fmp4_c.specs.Calls.{CheckOpens, IsOpened, Opens, OpensOr, SplitOpens};
 ghost use Rattle.fmp4_c.specs.Engines.{Run};
 ghost use Rattle.fmp4_c.specs.declared.answer.Answer as answers;
 
@@ -17,11 +17,12 @@ use std::mem::replace;
 
 /// Opens a stream that is cut into fragments of at most so many samples and so many bytes of media (0: any number), by
 /// flags 1 for an index and 2 for a cut before each sync sample. It takes at most `limit` bytes, `room` of them for the
-/// output that waits.
+/// output that waits. `layout` says which sizes the structs have for the caller.
 #[unsafe(no_mangle)]
-pub extern "C" fn fmp4_split_open(
+pub extern "C" fn fmp4_split_open_as(
     alloc: Global,
     stream: &mut Stream,
+    layout: u32,
     samples: u32,
     bytes: u64,
     flags: u32,
@@ -30,7 +31,7 @@ pub extern "C" fn fmp4_split_open(
 ) -> u32
     ensures opens { stream.old.handle.held ≡ None →
         (answer : answers.Answer) × (result ≡ number_of answer) ×
-        SplitOpens samples bytes flags limit room answer stream.new.handle.held }
+        SplitOpens layout samples bytes flags limit room answer stream.new.handle.held }
     ensures open { (r : Run) → stream.old.handle.held ≡ Some r →
         (result ≡ number_of Answer.IsOpen) × (stream.new.handle.held ≡ Some r) ×
         (stream.new.closed ≡ stream.old.closed) }
@@ -39,23 +40,29 @@ pub extern "C" fn fmp4_split_open(
     open(
         alloc,
         stream,
-        Asked::split(samples, bytes, flags, limit, room),
+        Asked::split(layout, samples, bytes, flags, limit, room),
     )
     .number()
 }
 
-/// Opens a stream that is checked, and that takes at most `limit` bytes.
+/// Opens a stream that is checked, and that takes at most `limit` bytes. `layout` says which sizes the structs have for the
+/// caller.
 #[unsafe(no_mangle)]
-pub extern "C" fn fmp4_check_open(alloc: Global, stream: &mut Stream, limit: u64) -> u32
+pub extern "C" fn fmp4_check_open_as(
+    alloc: Global,
+    stream: &mut Stream,
+    layout: u32,
+    limit: u64,
+) -> u32
     ensures opens { stream.old.handle.held ≡ None →
         (answer : answers.Answer) × (result ≡ number_of answer) ×
-        Opens (checked_by limit) answer stream.new.handle.held }
+        CheckOpens layout limit answer stream.new.handle.held }
     ensures open { (r : Run) → stream.old.handle.held ≡ Some r →
         (result ≡ number_of Answer.IsOpen) × (stream.new.handle.held ≡ Some r) ×
         (stream.new.closed ≡ stream.old.closed) }
     ensures rests { stream.new.handle.held ≡ None → stream.new.closed ≡ stream.old.closed }
 {
-    open(alloc, stream, Ok(Asked::check(limit))).number()
+    open(alloc, stream, Asked::check(layout, limit)).number()
 }
 
 /// Opens a stream, if none is open and the request is in range.

@@ -62,6 +62,22 @@ impl Output {
         self.bytes.len() - self.at
     }
 
+    /// How many may wait.
+    pub(crate) fn room(&self) -> usize
+        ensures { result ≡ self.now.room }
+    {
+        self.room
+    }
+
+    /// Drops all that wait.
+    pub(crate) fn clear(&mut self)
+        ensures { self.new ≡ empty self.old.room }
+    {
+        self.bytes.clear();
+        self.at = 0;
+        self.failed = false;
+    }
+
     /// Whether none wait.
     pub(crate) fn is_empty(&self) -> bool
         ensures { IsTrue result ↔ (self.now.bytes ≡ []) }

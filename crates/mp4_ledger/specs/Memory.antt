@@ -25,6 +25,10 @@ claimed a n = record a { live = a.live + n; peak = max a.peak (a.live + n) }
 abbrev pub given_back : Account → ℕ → Account
 given_back a n = record a { live = a.live - n }
 
+-- an account with another limit, but no lower than what is claimed; its peak counts from there
+abbrev pub limited : Account → ℕ → Account
+limited a n = record { limit = max n a.live; live = a.live; peak = a.live }
+
 -- xs cut to the length n, or filled up to it with zeros
 abbrev pub fitted : List ℕ → ℕ → List ℕ
 fitted xs n = take n xs ++ replicate (n - length xs) 0

@@ -1,7 +1,7 @@
 //! How much memory is claimed, and how much may be.
 
 ghost use Rattle.std.specs.Prelude.{◌≡◌, ◌+◌, ◌-◌, ◌*◌, ◌<◌, ◌≤◌, ◌↔◌, [], max, OnOk, OnErr, IfErr, IfOk, IsErrOf};
-ghost use Rattle.mp4_ledger.specs.Memory.{claimed, given_back};
+ghost use Rattle.mp4_ledger.specs.Memory.{claimed, given_back, limited};
 
 use crate::buf::Buf;
 use crate::rows::Rows64;
@@ -117,6 +117,15 @@ impl Ledger {
     {
         let EarlierPeak { peak } = earlier;
         self.peak = self.peak.max(peak);
+    }
+
+    /// Sets the limit in bytes, but no lower than what is claimed, and begins a new peak, which counts from what is claimed
+    /// now.
+    pub fn set_limit(&mut self, limit: u64)
+        ensures { self.new ≡ limited self.old limit }
+    {
+        self.limit = limit.max(self.live);
+        self.peak = self.live;
     }
 
     /// Claims an empty buffer with room for so many bytes.

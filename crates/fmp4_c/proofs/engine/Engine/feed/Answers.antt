@@ -10,8 +10,8 @@ pub returns-in-Err-clause-feeds : goal.returns-in-Err-clause-feeds
 returns-in-Err-clause-feeds c = rw (c.fed-in-Err.ensures.is, c.of_stop-in-Err.ensures) (λ operation b given h.
     let input = take c.portion-taken.result c.args.input.now in
     let p = c.in-Some.feeder in
-    let now : Run = record { account = c.self.inside.ledger; feeding = c.self.inside.feeder; waiting = c.self.inside.out; share = c.self.inside.share; reported = c.self.inside.reported } in
-    let next : Run = record { account = c.feed.new.ledger; feeding = Some c.feed.new.self; waiting = c.feed.new.w; share = c.self.inside.share; reported = c.self.inside.reported } in
+    let now : Run = record { account = c.self.inside.ledger; feeding = c.self.inside.feeder; waiting = c.self.inside.out; share = c.self.inside.share; reported = c.self.inside.reported; operation = c.self.inside.operation } in
+    let next : Run = record { account = c.feed.new.ledger; feeding = Some c.feed.new.self; waiting = c.feed.new.w; share = c.self.inside.share; reported = c.self.inside.reported; operation = c.self.inside.operation } in
     let l : Borrowed = record {
       written = Some (c.self.inside.out.room ∷ c.self.inside.out.bytes);
       written' = Some (c.feed.new.w.room ∷ c.feed.new.w.bytes);
@@ -29,7 +29,7 @@ returns-in-Err-clause-feeds c = rw (c.fed-in-Err.ensures.is, c.of_stop-in-Err.en
 pub returns-in-Err-clause-no_room : goal.returns-in-Err-clause-no_room
 returns-in-Err-clause-no_room c = rw (c.fed-in-Err.ensures.is, c.of_stop-in-Err.ensures) (λ operation b given h number.
     let p = c.in-Some.feeder in
-    let now : Run = record { account = c.self.inside.ledger; feeding = c.self.inside.feeder; waiting = c.self.inside.out; share = c.self.inside.share; reported = c.self.inside.reported } in
+    let now : Run = record { account = c.self.inside.ledger; feeding = c.self.inside.feeder; waiting = c.self.inside.out; share = c.self.inside.share; reported = c.self.inside.reported; operation = c.self.inside.operation } in
     let before : Holds operation b given now = subst (λ (r : Run). Holds operation b given r) (sym c.self.view_is) h in
     let until = (c.in-Err.ensures.feeds b (after-its operation b given now p c.in-Some.is before)).err.0 in
     let write = only-write p.operation b _ _ _ _ c.in-Err.stop until number in

@@ -10,8 +10,8 @@ use Rattle.fmp4_c.proofs.engine.Engine.feed_take.Goals as goal
 
 pub returns-in-Some-stop-clause-stopped : goal.returns-in-Some-stop-clause-stopped
 returns-in-Some-stop-clause-stopped c = rw (c.passed-in-Some-stop.ensures.is, c.of_stop.ensures) (λ operation b given a h.
-    let old : Run = record { account = c.self.inside.ledger; feeding = c.self.inside.feeder; waiting = c.self.inside.out; share = c.self.inside.share; reported = c.self.inside.reported } in
-    let next : Run = record { account = c.self.inside.ledger; feeding = Some c.in-Some.feeder; waiting = c.take-first.new.self; share = c.self.inside.share; reported = c.self.inside.reported } in
+    let old : Run = record { account = c.self.inside.ledger; feeding = c.self.inside.feeder; waiting = c.self.inside.out; share = c.self.inside.share; reported = c.self.inside.reported; operation = c.self.inside.operation } in
+    let next : Run = record { account = c.self.inside.ledger; feeding = Some c.in-Some.feeder; waiting = c.take-first.new.self; share = c.self.inside.share; reported = c.self.inside.reported; operation = c.self.inside.operation } in
     let before : Stopped operation b given a old = subst (λ (r : Run). Stopped operation b given a r) (sym c.self.view_is) h in
     let joined = taken given c.self.inside.out.bytes c.take-first.new.out c.take-first.new.self.bytes c.take-first.result c.take-first.ensures.front c.take-first.ensures.left in (
       refl,
@@ -22,8 +22,8 @@ returns-in-Some-stop-clause-stopped c = rw (c.passed-in-Some-stop.ensures.is, c.
 pub returns-then-leaves_all-clause-feeds : goal.returns-then-leaves_all-clause-feeds
 returns-then-leaves_all-clause-feeds c = rw c.passed-then-leaves_all.ensures.is (λ operation b given h.
     let p = c.in-Some.feeder in
-    let old : Run = record { account = c.self.inside.ledger; feeding = c.self.inside.feeder; waiting = c.self.inside.out; share = c.self.inside.share; reported = c.self.inside.reported } in
-    let next : Run = record { account = c.feed_ahead-at.new.ledger; feeding = Some c.feed_ahead-at.new.feeder; waiting = c.give.new.self; share = c.self.inside.share; reported = c.self.inside.reported } in
+    let old : Run = record { account = c.self.inside.ledger; feeding = c.self.inside.feeder; waiting = c.self.inside.out; share = c.self.inside.share; reported = c.self.inside.reported; operation = c.self.inside.operation } in
+    let next : Run = record { account = c.feed_ahead-at.new.ledger; feeding = Some c.feed_ahead-at.new.feeder; waiting = c.give.new.self; share = c.self.inside.share; reported = c.self.inside.reported; operation = c.self.inside.operation } in
     let before : Holds operation b given old = subst (λ (r : Run). Holds operation b given r) (sym c.self.view_is) h in
     let feeds = c.feed_ahead-at.ensures.feeds b (after-its operation b given old p c.in-Some.is before) in
     let input = take c.portion-portion.result c.args.input.now in
@@ -33,7 +33,7 @@ returns-then-leaves_all-clause-feeds c = rw c.passed-then-leaves_all.ensures.is 
 
 pub returns-then-leaves_all-clause-portion : goal.returns-then-leaves_all-clause-portion
 returns-then-leaves_all-clause-portion c = rw c.passed-then-leaves_all.ensures.is (λ p is none.
-    let old : Run = record { account = c.self.inside.ledger; feeding = c.self.inside.feeder; waiting = c.self.inside.out; share = c.self.inside.share; reported = c.self.inside.reported } in
+    let old : Run = record { account = c.self.inside.ledger; feeding = c.self.inside.feeder; waiting = c.self.inside.out; share = c.self.inside.share; reported = c.self.inside.reported; operation = c.self.inside.operation } in
     let taken = c.portion-portion.result in
     let input = c.args.input.now in
     let all = c.leaves_all.ensures.all c.if-leaves_all.true in
@@ -49,8 +49,8 @@ returns-then-leaves_all-clause-portion c = rw c.passed-then-leaves_all.ensures.i
 pub returns-else-leaves_all-clause-feeds : goal.returns-else-leaves_all-clause-feeds
 returns-else-leaves_all-clause-feeds c = rw c.passed-in-Ok.ensures.is (λ operation b given h.
     let p = c.in-Some.feeder in
-    let old : Run = record { account = c.self.inside.ledger; feeding = c.self.inside.feeder; waiting = c.self.inside.out; share = c.self.inside.share; reported = c.self.inside.reported } in
-    let next : Run = record { account = c.feed_ahead-at.new.ledger; feeding = Some c.feed_ahead-at.new.feeder; waiting = c.give.new.self; share = c.self.inside.share; reported = c.self.inside.reported } in
+    let old : Run = record { account = c.self.inside.ledger; feeding = c.self.inside.feeder; waiting = c.self.inside.out; share = c.self.inside.share; reported = c.self.inside.reported; operation = c.self.inside.operation } in
+    let next : Run = record { account = c.feed_ahead-at.new.ledger; feeding = Some c.feed_ahead-at.new.feeder; waiting = c.give.new.self; share = c.self.inside.share; reported = c.self.inside.reported; operation = c.self.inside.operation } in
     let before : Holds operation b given old = subst (λ (r : Run). Holds operation b given r) (sym c.self.view_is) h in
     let feeds = c.feed_ahead-at.ensures.feeds b (after-its operation b given old p c.in-Some.is before) in
     let input = take c.portion-portion.result c.args.input.now in
@@ -60,7 +60,7 @@ returns-else-leaves_all-clause-feeds c = rw c.passed-in-Ok.ensures.is (λ operat
 
 pub returns-else-leaves_all-clause-portion : goal.returns-else-leaves_all-clause-portion
 returns-else-leaves_all-clause-portion c = rw c.passed-in-Ok.ensures.is (λ p is none.
-    let old : Run = record { account = c.self.inside.ledger; feeding = c.self.inside.feeder; waiting = c.self.inside.out; share = c.self.inside.share; reported = c.self.inside.reported } in
+    let old : Run = record { account = c.self.inside.ledger; feeding = c.self.inside.feeder; waiting = c.self.inside.out; share = c.self.inside.share; reported = c.self.inside.reported; operation = c.self.inside.operation } in
     let taken = c.portion-portion.result in
     let input = c.args.input.now in
     let nothing : taken ≡ 0 → input ≡ [] = c.leaves_all.ensures.none c.if-leaves_all.false in
@@ -76,8 +76,8 @@ returns-else-leaves_all-clause-portion c = rw c.passed-in-Ok.ensures.is (λ p is
 pub returns-in-Err-clause-feeds : goal.returns-in-Err-clause-feeds
 returns-in-Err-clause-feeds c = rw (c.passed-in-Err.ensures.is, c.of_stop-in-Err.ensures) (λ operation b given h.
     let p = c.in-Some.feeder in
-    let old : Run = record { account = c.self.inside.ledger; feeding = c.self.inside.feeder; waiting = c.self.inside.out; share = c.self.inside.share; reported = c.self.inside.reported } in
-    let next : Run = record { account = c.feed_ahead-at.new.ledger; feeding = Some c.feed_ahead-at.new.feeder; waiting = c.give.new.self; share = c.self.inside.share; reported = c.self.inside.reported } in
+    let old : Run = record { account = c.self.inside.ledger; feeding = c.self.inside.feeder; waiting = c.self.inside.out; share = c.self.inside.share; reported = c.self.inside.reported; operation = c.self.inside.operation } in
+    let next : Run = record { account = c.feed_ahead-at.new.ledger; feeding = Some c.feed_ahead-at.new.feeder; waiting = c.give.new.self; share = c.self.inside.share; reported = c.self.inside.reported; operation = c.self.inside.operation } in
     let before : Holds operation b given old = subst (λ (r : Run). Holds operation b given r) (sym c.self.view_is) h in
     let feeds = c.feed_ahead-at.ensures.feeds b (after-its operation b given old p c.in-Some.is before) in
     let input = take c.portion-portion.result c.args.input.now in

@@ -7,7 +7,7 @@ use Rattle.fmp4_c.proofs.engine.Engine.finish.Goals as goal
 pub returns-in-Err-clause-finishes : goal.returns-in-Err-clause-finishes
 returns-in-Err-clause-finishes c = λ operation b given h.
     let p = c.in-Some.feeder in
-    let now : Run = record { account = c.self.inside.ledger; feeding = c.self.inside.feeder; waiting = c.self.inside.out; share = c.self.inside.share; reported = c.self.inside.reported } in
+    let now : Run = record { account = c.self.inside.ledger; feeding = c.self.inside.feeder; waiting = c.self.inside.out; share = c.self.inside.share; reported = c.self.inside.reported; operation = c.self.inside.operation } in
     let before : Holds operation b given now = subst (λ (r : Run). Holds operation b given r) (sym c.self.view_is) h in
     let is = sym c.in-Some.ensures.value in
     subst (λ (a : Answer). Finished operation b a c.of-in-Err.result) (sym c.of_stop.ensures)

@@ -1,9 +1,0 @@
-use Rattle.fmp4_c.proofs.OpenLemmas.{split-opens}
-use Rattle.fmp4_c.proofs.opening.fmp4_split_open.Goals as goal
-
-pub returns-clause-opens : goal.returns-clause-opens
-returns-clause-opens c = λ none. (
-  c.open.result,
-  c.number.ensures,
-  split-opens c.args.samples c.args.bytes c.args.flags c.args.limit c.args.room c.split.result c.split.ensures.ok c.split.ensures.in_range c.split.ensures.err c.open.result _ (c.open.ensures.opens none),
-)
