@@ -75,11 +75,11 @@ class stream {
     ~stream() { fmp4_close(&stream_); }
 
     std::uint32_t open(const cut &by) {
-        out_.resize(65536);
+        out_.resize(131072);
         return fmp4_split_open(&stream_, by.samples, by.bytes, by.flags, by.limit, by.room);
     }
     std::uint32_t check(std::uint64_t limit) {
-        out_.resize(65536);
+        out_.resize(131072);
         return fmp4_check_open(&stream_, limit);
     }
 

@@ -32,7 +32,7 @@ int main(int argc, char **argv) {
     if (argc < 2 || argc > 7) return fputs("recut SAMPLES [INPUT [BYTES [FLAGS [LIMIT [ROOM]]]]]\n", stderr), 64;
     for (int i = 1; i < argc; i++) with[i - 1] = strtoull(argv[i], NULL, 10);
     size_t size = with[1] ? with[1] : 1, len = 0, taken = 0, given = 0;
-    unsigned char *input = calloc(size, 1), *out = calloc(65536, 1);
+    unsigned char *input = calloc(size, 1), *out = calloc(131072, 1);
     if (!input || !out) return 4;
     struct fmp4_stream stream = {0};
     struct fmp4_report report = {0};
@@ -40,12 +40,12 @@ int main(int argc, char **argv) {
     if (answer != FMP4_OK) return fprintf(stderr, "recut: the stream isn't opened: %u\n", (unsigned)answer), 64;
     int is_written = 1;
     while (is_written && answer <= FMP4_FULL && (len = fread(input, 1, size, stdin)) > 0)
-        for (size_t at = 0; is_written && answer <= FMP4_FULL && (at < len || given == 65536); at += taken) {
-            answer = fmp4_feed_take(&stream, input + at, len - at, &taken, out, 65536, &given);
+        for (size_t at = 0; is_written && answer <= FMP4_FULL && (at < len || given == 131072); at += taken) {
+            answer = fmp4_feed_take(&stream, input + at, len - at, &taken, out, 131072, &given);
             is_written = fwrite(out, 1, given, stdout) == given;
         }
     answer = fmp4_finish(&stream, &report);
-    if (is_written) is_written = drain(&stream, out, 65536) && fflush(stdout) == 0;
+    if (is_written) is_written = drain(&stream, out, 131072) && fflush(stdout) == 0;
     fmp4_close(&stream);
     free(input);
     free(out);

@@ -129,7 +129,7 @@ type Writer struct {
 
 // NewWriter opens a stream whose output is written to a writer.
 func NewWriter(to io.Writer, cut Cut) (*Writer, error) {
-	w := &Writer{to: to, out: make([]byte, 65536)}
+	w := &Writer{to: to, out: make([]byte, 131072)}
 	if err := w.stream.open(cut); err != nil {
 		return nil, err
 	}
