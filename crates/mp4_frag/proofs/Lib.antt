@@ -31,3 +31,5 @@ pub mod CursorLemmas
 pub mod ReadRunLemmas
 pub mod FollowingLemmas
 pub mod TrafEndLemmas
+pub mod TrafTotalLemmas
+mod FirstSampleLemmas

@@ -16,6 +16,7 @@ pub mod Ranges
 pub mod After
 pub mod Settling
 pub mod TrafEnds
+pub mod TrafTotals
 pub mod SingleRuns
 pub mod Laws
 pub mod Places

@@ -8,10 +8,12 @@ use Rattle.mp4_box.specs.declared.rules.Rule.TheVariants.{TimeRange}
 use Rattle.mp4_box.specs.Checks.{along}
 use Rattle.mp4_box.specs.Order.{least}
 use Rattle.mp4_box.specs.Paths.{at_path}
-use Rattle.mp4_box.specs.Trees.{Box, box_at, children, tree_faults, verdict}
+use Rattle.mp4_box.specs.Trees.{Box, box_at, children, first_of, tree_faults, verdict}
 use Rattle.mp4_init.specs.declared.table.Track.{Track}
 use Rattle.mp4_init.specs.Moovs.{fault_of, or_else}
-use Rattle.mp4_frag.specs.Kinds.{to_tfhd, to_trun, trun}
+use Rattle.mp4_frag.specs.Fields.{payload_of}
+use Rattle.mp4_frag.specs.Kinds.{mfhd, to_tfhd, to_trun, trun}
+use Rattle.mp4_frag.specs.Mfhd.{sequence_number}
 use Rattle.mp4_frag.specs.Rules.{child_faults, count_faults, form_faults, samples_of, tfhd_faults, trun_faults}
 use Rattle.mp4_frag.specs.Repeats.{repeat_faults}
 use Rattle.mp4_frag.specs.Runs.{MoofBytes, TrackFragment, runs_of, trafs_by}
@@ -24,6 +26,10 @@ no_box = record { header = record { kind = record { 0 = [] }; user = None; size 
 -- the moof that the bytes are
 abbrev pub moof_of : MoofBytes → Box
 moof_of h = unwrap_or (box_at h.offset h.bytes) no_box
+
+-- sequence_number of its mfhd
+abbrev pub sequence_of : MoofBytes → ℕ
+sequence_of h = sequence_number (payload_of (first_of (at_path (mfhd ∷ []) (moof_of h))))
 
 -- its trafs, in order
 abbrev pub moof_trafs : MoofBytes → List Track → List TrackFragment

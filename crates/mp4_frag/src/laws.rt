@@ -1,32 +1,34 @@
 //! What the definitions of a moof's rules, runs and rows imply.
 
-ghost use Rattle.std.specs.Prelude.{◌≡◌, ◌<◌, ◌≤◌, ◌^◌, ◌+◌, ◌*◌, ◌==◌, ◌∷◌, ℕ, List, [], length, true};
-ghost use Rattle.std.specs.List.{AllByRecursion, AllPairs, flat_map, list_all};
+ghost use Rattle.std.specs.Prelude.{◌≡◌, ◌<◌, ◌≤◌, ◌^◌, ◌+◌, ◌*◌, ◌==◌, ◌∷◌, ℕ, List, [], length, option_map, true};
+ghost use Rattle.std.specs.List.{AllByRecursion, AllPairs, flat_map, list_all, sum_by};
 ghost use Rattle.std.specs.List.Sorted.{IsPermutation};
 ghost use Rattle.mp4_box.specs.Headers.{IsBytes, IsWhole};
 ghost use Rattle.mp4_box.specs.Paths.{at_path, of_kind};
-ghost use Rattle.mp4_box.specs.Trees.{children};
+ghost use Rattle.mp4_box.specs.Trees.{children, first_of};
 ghost use Rattle.mp4_init.specs.declared.table.Track.{Track};
 ghost use Rattle.mp4_init.specs.TrackFields.{FitsTrackFields};
 ghost use Rattle.mp4_run_order.specs.Orders.{IsTakenBefore};
 ghost use Rattle.mp4_run_order.specs.Runs.{IsListing};
 ghost use Rattle.mp4_frag.specs.declared.run.Run.{Run};
 ghost use Rattle.mp4_frag.specs.declared.rows.Cursor.{Cursor};
+ghost use Rattle.mp4_frag.specs.declared.rows.Row.{Row};
 ghost use Rattle.mp4_frag.specs.Kinds.{traf};
 ghost use Rattle.mp4_frag.specs.Laws.{TrafRowsAreGroups, in_turn};
 ghost use Rattle.mp4_frag.specs.Cursors.{first_cursor, past};
 ghost use Rattle.mp4_frag.specs.Moofs.{IsRead, moof_faults, moof_of, moof_runs, moof_samples, moof_trafs, time_faults};
-ghost use Rattle.mp4_frag.specs.Ranges.{InRange};
+ghost use Rattle.mp4_frag.specs.Ranges.{InRange, IsSound};
 ghost use Rattle.mp4_frag.specs.Repeats.{repeat_faults};
-ghost use Rattle.mp4_frag.specs.Rows.{IsCursor, row_of, rows_of};
+ghost use Rattle.mp4_frag.specs.Rows.{IsCursor, durations, row_of, rows_of};
 ghost use Rattle.mp4_frag.specs.Rules.{count_faults};
 ghost use Rattle.mp4_frag.specs.RunLists.{moof_listing, taken_runs};
 ghost use Rattle.mp4_frag.specs.ListsOfRuns.{IsListOf};
 ghost use Rattle.mp4_frag.specs.RunLists.{ListedRows};
 ghost use Rattle.mp4_frag.specs.Places.{listed_run};
-ghost use Rattle.mp4_frag.specs.Runs.{MoofBytes, TrackFragment, begins_early};
+ghost use Rattle.mp4_frag.specs.Runs.{MoofBytes, TrackFragment, begins_early, runs_of};
 ghost use Rattle.mp4_frag.specs.Settling.{settled};
 ghost use Rattle.mp4_frag.specs.SyncSamples.{is_sync};
+ghost use Rattle.mp4_frag.specs.TrafTotals.{bytes_in_traf, duration_of, first_flags, samples_in_traf};
 
 /// A moof without a fault has no fault, as far as it is checked.
 pub fn no_fault()
@@ -44,6 +46,20 @@ pub fn rows_are_groups()
 pub fn samples_are_rows()
     ensures { (h : MoofBytes) (tracks : List Track) →
         length (flat_map (λ run. rows_of run h.bytes) (moof_runs h tracks)) ≡ moof_samples h }
+{}
+
+/// The sums over the trafs of a moof are those over its samples. The duration of a traf is that of its samples, added up,
+/// and it begins with the flags of the first of them.
+pub fn trafs_have_all_samples()
+    ensures samples { (h : MoofBytes) (tracks : List Track) →
+        sum_by samples_in_traf (moof_trafs h tracks) ≡ moof_samples h }
+    ensures bytes { (h : MoofBytes) (tracks : List Track) → sum_by bytes_in_traf (moof_trafs h tracks) ≡
+        sum_by (λ (run : Run). run.bytes) (taken_runs h tracks) }
+    ensures duration { (t : TrackFragment) → duration_of t ≡
+        sum_by (λ (run : Run). durations (rows_of run t.shared.moof.bytes)) (runs_of t) }
+    ensures first { (t : TrackFragment) → first_flags t.shared.moof.bytes (runs_of t) ≡
+        option_map (λ (row : Row). row.flags)
+        (first_of (flat_map (λ (run : Run). rows_of run t.shared.moof.bytes) (runs_of t))) }
 {}
 
 /// A run's time and place are a cursor at its first row, and a cursor that has gone past a row is a cursor.
@@ -66,6 +82,13 @@ pub fn runs_are_in_range()
     ensures { (h : MoofBytes) (tracks : List Track) → IsWhole h.bytes → IsBytes h.bytes →
         h.offset + length h.bytes ≤ 2 ^ 62 → AllByRecursion (λ t. t.size < 2 ^ 32) tracks →
         IsRead h tracks → AllByRecursion InRange (moof_runs h tracks) }
+{}
+
+/// The trafs of a moof without a fault are sound, as [`Traf::totals`](crate::Traf::totals) requires.
+pub fn trafs_are_sound()
+    ensures { (h : MoofBytes) (tracks : List Track) → IsWhole h.bytes → IsBytes h.bytes →
+        h.offset + length h.bytes ≤ 2 ^ 62 → IsRead h tracks →
+        AllByRecursion IsSound (moof_trafs h tracks) }
 {}
 
 /// Where the samples of a moof aren't too many and each of its trafs has a time of its own before tick 2^63, each run ends within

@@ -6,6 +6,7 @@
 //! - [`Moof::trafs`], [`Traf::runs`] and [`Run::rows`]: its trafs, their [`Run`]s and the [`Row`] of each sample.
 //!   [`Run::rows_from`] goes on from a [`Cursor`], [`Run::whole_groups`] gives the bytes of rows with all four fields,
 //!   [`Run::sums_between`] adds some of them up ([`Sums`]), and [`Run::after`] gives the next run;
+//! - [`Traf::totals`]: a traf by its samples, added up ([`TrafTotals`]);
 //! - [`Moof::list`]: a [`RunList`], its runs in the order in which they are taken, in claimed memory;
 //!   [`RunList::at`] gives one of them, [`RunList::listed`] where it lies, and
 //! [`Moof::places`]: whether they may lie where they do in the [`Payload`] of its mdat;
@@ -21,8 +22,9 @@
 //! `specs/Moofs.antt` the result of reading a moof, `specs/Ranges.antt` bounds of its runs, `specs/RunLists.antt` in
 //! which order they are taken, `specs/SingleRuns.antt` what a run is that has no other, `specs/Places.antt` which run is
 //! at fault by its place, `specs/After.antt` what follows a run, `specs/Settling.antt` where the tracks end after a
-//! moof, `specs/TrafEnds.antt` what of that is kept, and `specs/SyncSamples.antt` which samples are sync samples. How
-//! all this is computed is said in `specs/Implementation/`.
+//! moof, `specs/TrafEnds.antt` what of that is kept, `specs/SyncSamples.antt` which samples are sync samples, and
+//! `specs/TrafTotals.antt` the sums over the samples of a traf. How all this is computed is said in
+//! `specs/Implementation/`.
 //!
 //! `children.rt` goes over the boxes of a moof by their types, `at_once.rt` checks all of them in one pass, `common_layout.rt`
 //! reads a moof of the form that most have, and `start.rt` reads what precedes the runs of a traf.
@@ -60,6 +62,7 @@ mod tfhd;
 mod times;
 mod traf;
 mod traf_ends;
+mod traf_totals;
 mod trun;
 
 pub use counts::MOST_IN_MOOF;
@@ -74,3 +77,4 @@ pub use single_run::SingleRun;
 pub use sums::Sums;
 pub use traf::{Traf, Trafs};
 pub use traf_ends::TrafEnds;
+pub use traf_totals::TrafTotals;

@@ -8,7 +8,7 @@ ghost use Rattle.mp4_box.specs.Headers.{IsWhole};
 ghost use Rattle.mp4_box.specs.Order.{IsLeast, least, least_from};
 ghost use Rattle.mp4_box.specs.Trees.{view};
 ghost use Rattle.mp4_frag.specs.Implementation.AtOnce.{HasEarlyEnd, IsCount, fault_of, most_64};
-ghost use Rattle.mp4_frag.specs.Moofs.{IsRead, fault_before_times, moof_fault, moof_faults, moof_of, moof_samples, moof_trafs, moof_truns, time_faults, value_faults};
+ghost use Rattle.mp4_frag.specs.Moofs.{IsRead, fault_before_times, moof_fault, moof_faults, moof_of, moof_samples, moof_trafs, moof_truns, sequence_of, time_faults, value_faults};
 ghost use Rattle.mp4_frag.specs.Repeats.{repeat_faults, trafs_of, untimed_ids};
 ghost use Rattle.mp4_frag.specs.Rules.{count_faults, form_faults, most_in_moof};
 ghost use Rattle.mp4_frag.specs.Runs.{MoofBytes, moof_at};
@@ -18,6 +18,8 @@ ghost use Rattle.mp4_frag.specs.TrafEnds.{AreEndsOf};
 use crate::at_once::{MoofCounts, ended_early, read_moof};
 use crate::checks::{FlagsOnce, OfTrack};
 use crate::counts::{samples_in, truns_in};
+use crate::fields::payload_at;
+use crate::mfhd::sequence_number;
 use crate::repeats::{note_among, note_repeats};
 use crate::rows::Steps;
 use crate::rules::{note_children, note_count, note_forms};
@@ -25,7 +27,7 @@ use crate::settle::settle_in;
 use crate::times::InTime;
 use crate::traf::Trafs;
 use crate::traf_ends::TrafEnds;
-use mp4_box::types::{TFHD, TRAF, TRUN};
+use mp4_box::types::{MFHD, TFHD, TRAF, TRUN};
 use mp4_box::{BoxRef, Fault, check_tree, note_along, whole_box};
 use mp4_init::TrackList;
 use std::marker::Model;
@@ -357,6 +359,14 @@ impl<'a> Moof<'a> {
         ensures { result ≡ self.now.offset }
     {
         self.offset
+    }
+
+    /// The sequence_number of its mfhd (ISO/IEC 14496-12, 8.8.5).
+    #[tactic(auto, using(crate::proofs::MoofLemmas::moof_is))]
+    pub fn sequence_number(&self) -> u32
+        ensures { result ≡ sequence_of self.now }
+    {
+        sequence_number(payload_at(MFHD, &whole_box(self.moof_bytes, self.offset)))
     }
 
     /// How many samples it has.

@@ -140,9 +140,9 @@ pub(crate) fn context_of<'a>(
 /// A track fragment of a moof without a fault (ISO/IEC 14496-12, 8.8.6).
 #[derive(Drop)]
 pub struct Traf<'a> {
-    context: TrafContext<'a>,
+    pub(crate) context: TrafContext<'a>,
     /// Its base time.
-    time: u64,
+    pub(crate) time: u64,
     this: BoxRef<'a>,
 }
 

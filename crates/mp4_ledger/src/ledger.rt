@@ -124,8 +124,9 @@ impl Ledger {
     pub fn set_limit(&mut self, limit: u64)
         ensures { self.new ≡ limited self.old limit }
     {
-        self.limit = limit.max(self.live);
-        self.peak = self.live;
+        let live = self.live;
+        self.limit = limit.max(live);
+        self.peak = live;
     }
 
     /// Claims an empty buffer with room for so many bytes.
