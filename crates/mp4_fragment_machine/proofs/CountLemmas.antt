@@ -14,7 +14,7 @@ use Rattle.mp4_machine.specs.Bodies.{least_end, longest}
 use Rattle.mp4_machine.specs.Readings.{plus}
 use Rattle.mp4_grammar.specs.Items.{end_of, inspected}
 use Rattle.mp4_grammar.specs.declared.command.Command.{Command}
-use Rattle.mp4_grammar.specs.declared.command.Command.TheVariants.{Samples, Check}
+use Rattle.mp4_grammar.specs.declared.command.Command.TheVariants.{Samples, Fragments, Records, Check}
 use Rattle.mp4_recut.specs.declared.operation.Operation.{Operation}
 use Rattle.mp4_recut.specs.declared.operation.Operation.TheVariants as operations
 use Rattle.mp4_fragment_machine.specs.States.{IsCounted, bound_after, cut_least, cut_most, cut_reads, listed_by, listed_most, most_counted, most_fragments, reads_of}
@@ -75,6 +75,8 @@ counted_moof operation c c' h at size rows waits i some near few tally read all 
   where
     least : (operation : Operation) → IsCounted operation c at 0 0 → c'.tally.inspected + c'.tally.samples + waits + listed_by operation c'.tally.samples ≤ c'.steps.rows
     least (operations.List Samples) i = omega (arith, ap (λ t. t.inspected) tally, ap (λ t. t.samples) tally, read, all, i.some)
+    least (operations.List Fragments) i = omega (arith, ap (λ t. t.inspected) tally, ap (λ t. t.samples) tally, read, all, i.some)
+    least (operations.List Records) i = omega (arith, ap (λ t. t.inspected) tally, ap (λ t. t.samples) tally, read, all, i.some)
     least (operations.List Check) i = omega (arith, ap (λ t. t.inspected) tally, ap (λ t. t.samples) tally, read, all, i.some)
     least (operations.Split cut) i =
         let more = ap (λ t. t.samples) tally in
@@ -82,6 +84,8 @@ counted_moof operation c c' h at size rows waits i some near few tally read all 
 
     most : (operation : Operation) → IsCounted operation c at 0 0 → c'.steps.rows + listed_most operation waits + waits ≤ reads_of operation * c'.tally.inspected
     most (operations.List Samples) i = omega (arith, ap (λ t. t.inspected) tally, read, all, less, i.few)
+    most (operations.List Fragments) i = omega (arith, ap (λ t. t.inspected) tally, read, all, less, i.few)
+    most (operations.List Records) i = omega (arith, ap (λ t. t.inspected) tally, read, all, less, i.few)
     most (operations.List Check) i = omega (arith, ap (λ t. t.inspected) tally, read, all, less, i.few)
     most (operations.Split cut) i = moof_split cut.index c.steps.rows c'.steps.rows c.tally.inspected c'.tally.inspected (moof_samples h) waits i.few (ap (λ t. t.inspected) tally) (omega (arith, read, all)) less
 
@@ -117,10 +121,14 @@ counted_emitted command c c' b b' n m i few room tally read =
   where
     least : (command : Command) → IsCounted (operations.List command) c b n n → c'.steps.rows ≡ c.steps.rows + listed_by (operations.List command) n → c'.tally.inspected + c'.tally.samples + 0 + listed_by (operations.List command) c'.tally.samples ≤ c'.steps.rows
     least Samples i read = omega (arith, ap (λ t. t.inspected) tally, ap (λ t. t.samples) tally, read, i.some)
+    least Fragments i read = omega (arith, ap (λ t. t.inspected) tally, ap (λ t. t.samples) tally, read, i.some)
+    least Records i read = omega (arith, ap (λ t. t.inspected) tally, ap (λ t. t.samples) tally, read, i.some)
     least Check i read = omega (arith, ap (λ t. t.inspected) tally, ap (λ t. t.samples) tally, read, i.some)
 
     most : (command : Command) → IsCounted (operations.List command) c b n n → c'.steps.rows ≡ c.steps.rows + listed_by (operations.List command) n → c'.steps.rows + listed_most (operations.List command) 0 + n ≤ reads_of (operations.List command) * c'.tally.inspected
     most Samples i read = omega (arith, ap (λ t. t.inspected) tally, read, i.few)
+    most Fragments i read = omega (arith, ap (λ t. t.inspected) tally, read, i.few)
+    most Records i read = omega (arith, ap (λ t. t.inspected) tally, read, i.few)
     most Check i read = omega (arith, ap (λ t. t.inspected) tally, read, i.few)
 
 -- it is counted where it is recut, with fragments that have room for their numbers
@@ -174,6 +182,8 @@ no_most false n = omega arith
 
 no_listed : (operation : Operation) (n : ℕ) → listed_most operation 0 ≤ listed_most operation n
 no_listed (operations.List Samples) n = omega arith
+no_listed (operations.List Fragments) n = omega arith
+no_listed (operations.List Records) n = omega arith
 no_listed (operations.List Check) n = omega arith
 no_listed (operations.Split cut) n = no_most cut.index n
 

@@ -21,7 +21,7 @@ use Rattle.mp4_machine.proofs.ReadingAskLemmas.{plus-none}
 use Rattle.mp4_machine.proofs.ReadingLemmas.{then_read-emitted}
 use Rattle.mp4_machine.proofs.ContinuationLemmas.{GoesOn-gathered}
 use Rattle.mp4_grammar.specs.declared.command.Command.{Command}
-use Rattle.mp4_grammar.specs.declared.command.Command.TheVariants.{Samples, Check}
+use Rattle.mp4_grammar.specs.declared.command.Command.TheVariants.{Samples, Fragments, Records, Check}
 use Rattle.mp4_grammar.specs.declared.kinds.Kind.TheVariants.{Mdat}
 use Rattle.mp4_grammar.specs.Commands.{accepted, command_meaning}
 use Rattle.mp4_grammar.specs.Contexts.{Context, context, table_of}
@@ -41,14 +41,20 @@ use Rattle.mp4_fragment_machine.proofs.SecondLemmas.{after-bad, second-accepted}
 -- the effects of a fragment request nothing, and count it
 most-accepted : (command : Command) (f : Fragment) → most_of (accepted command f) ≡ 0
 most-accepted Check f = refl
+most-accepted Fragments f = refl
+most-accepted Records f = refl
 most-accepted Samples f = refl
 
 tally-accepted : (command : Command) (f : Fragment) → (accepted command f).tally ≡ counted_in f
 tally-accepted Check f = refl
+tally-accepted Fragments f = plus-none (counted_in f)
+tally-accepted Records f = plus-none (counted_in f)
 tally-accepted Samples f = plus-none (counted_in f)
 
 marks-accepted : (command : Command) (f : Fragment) → (accepted command f).fragment_ends ≡ []
 marks-accepted Check f = refl
+marks-accepted Fragments f = refl
+marks-accepted Records f = refl
 marks-accepted Samples f = refl
 
 -- commands that write no fragments refuse none

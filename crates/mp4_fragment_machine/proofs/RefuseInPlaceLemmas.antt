@@ -33,7 +33,7 @@ use Rattle.mp4_fragment_machine.specs.Places.{InHeader, InBuffered, InMdatHeader
 use Rattle.mp4_recut.specs.Operations.{operation_meaning, number_in}
 use Rattle.mp4_recut.specs.declared.operation.Operation.{Operation}
 use Rattle.mp4_recut.specs.declared.operation.Operation.TheVariants as operations
-use Rattle.mp4_grammar.specs.declared.command.Command.TheVariants.{Check, Samples}
+use Rattle.mp4_grammar.specs.declared.command.Command.TheVariants.{Check, Fragments, Records, Samples}
 use Rattle.mp4_fragment_machine.specs.declared.state.Counter.{Counter}
 use Rattle.mp4_fragment_machine.specs.States.{HasStopped, IsCounted, cut_most, cut_reads, taken_by}
 use Rattle.mp4_fragment_machine.specs.Implementation.Steps.{Borrowed, StopsIn, at_state, environment_before}
@@ -179,6 +179,8 @@ few_of false rows inspected h = omega (arith, h)
 -- no row was read more than twelve times
 pub few_rows : (operation : Operation) (c : Counter) (b : ℕ) → IsCounted operation c b 0 0 → c.steps.rows ≤ 12 * c.tally.inspected
 few_rows (operations.List Samples) c b i = omega (arith, i.few)
+few_rows (operations.List Fragments) c b i = omega (arith, i.few)
+few_rows (operations.List Records) c b i = omega (arith, i.few)
 few_rows (operations.List Check) c b i = omega (arith, i.few)
 few_rows (operations.Split cut) c b i = few_of cut.index c.steps.rows c.tally.inspected i.few
 

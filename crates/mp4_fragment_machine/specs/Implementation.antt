@@ -7,3 +7,4 @@ pub mod Splits
 pub mod Steps
 pub mod Stops
 pub mod InPlace
+pub mod TrafLines

@@ -27,7 +27,7 @@ use Rattle.mp4_fragment_machine.specs.declared.state.Recutting.{Recutting}
 use Rattle.mp4_recut.specs.declared.operation.Operation.{Operation}
 use Rattle.mp4_recut.specs.declared.operation.Operation.TheVariants as operations
 use Rattle.mp4_recut.specs.Operations.{operation_meaning, number_in}
-use Rattle.mp4_grammar.specs.declared.command.Command.TheVariants.{Samples, Check}
+use Rattle.mp4_grammar.specs.declared.command.Command.TheVariants.{Samples, Fragments, Records, Check}
 use Rattle.mp4_grammar.specs.Contexts.{Context, context, table_of}
 use Rattle.mp4_grammar.specs.Items.{fragment}
 use Rattle.mp4_grammar.specs.Meanings.{Fragment}
@@ -188,6 +188,8 @@ cut_most false n = 5 * n
 -- least number of rows read to list or recut n samples
 abbrev pub listed_by : Operation → ℕ → ℕ
 listed_by (operations.List Samples) n = n
+listed_by (operations.List Fragments) n = n
+listed_by (operations.List Records) n = n
 listed_by (operations.List Check) n = 0
 listed_by (operations.Split cut) n = cut_least cut.index n
 
@@ -204,6 +206,8 @@ cut_reads false = 8
 
 abbrev pub reads_of : Operation → ℕ
 reads_of (operations.List Samples) = 4
+reads_of (operations.List Fragments) = 4
+reads_of (operations.List Records) = 4
 reads_of (operations.List Check) = 3
 reads_of (operations.Split cut) = cut_reads cut.index
 

@@ -1,4 +1,4 @@
-//! Begins a fragment that is counted, or whose samples are listed.
+//! Begins a fragment that is counted, or whose samples or trafs are listed.
 
 ghost use Rattle.std.specs.Prelude.{◌≡◌, ◌+◌, ◌<◌, ◌≤◌, ◌^◌, [], length, None, Some, IfOk};
 ghost use Rattle.mp4_box.specs.Headers.{HasRoom};
@@ -18,6 +18,7 @@ ghost use Rattle.mp4_fragment_machine.specs.Implementation.Steps.{Advances, MayB
 ghost use Rattle.mp4_fragment_machine.specs.declared.state.State.TheVariants as states;
 
 use crate::body::{arrive, back};
+use crate::fragment_lines::put_pending_lines;
 use crate::lines::put_runs;
 use crate::mdat_check::{check_mdat, payload_of};
 use crate::moof_totals::add_up_runs;
@@ -43,8 +44,8 @@ pub(crate) fn count(counter: &mut Counter, samples: u64, bytes: u64)
     counter.tally.media_bytes += bytes;
 }
 
-/// Counts the fragment of the pending moof, whose mdat has this header, and puts the lines of its samples if they are
-/// asked for. Returns how many bytes of its payload are needed.
+/// Counts the fragment of the pending moof, whose mdat has this header, and puts the lines of its samples or of its trafs
+/// if they are asked for. Returns how many bytes of its payload are needed.
 ///
 /// # Errors
 ///
@@ -88,6 +89,23 @@ fn emit<W: Sink>(
         Command::Samples => {
             let samples = moof_totals.samples;
             match put_runs(pending_moof, samples, tracks, &mut counter.steps, out, w) {
+                Ok(()) => Ok(moof_totals.needed),
+                Err(Failed) => Err(Failed),
+            }
+        }
+        Command::Fragments | Command::Records => {
+            let samples = moof_totals.samples;
+            let steps = &mut counter.steps;
+            match put_pending_lines(
+                command,
+                pending_moof,
+                header,
+                samples,
+                tracks,
+                steps,
+                out,
+                w,
+            ) {
                 Ok(()) => Ok(moof_totals.needed),
                 Err(Failed) => Err(Failed),
             }

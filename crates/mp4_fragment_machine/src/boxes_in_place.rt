@@ -4,6 +4,7 @@
 
 ghost use Rattle.std.specs.Prelude.{◌≡◌, ◌+◌, ◌*◌, ◌<◌, ◌≤◌, ◌∷◌, [], List, length, take, Some, IfErr, IfSome, IsSome, OnOk};
 ghost use Rattle.mp4_box.specs.declared.headers.Header.{Header};
+ghost use Rattle.mp4_box.specs.declared.headers.Size.TheVariants.{Exact};
 ghost use Rattle.mp4_init.specs.declared.table.Track.{Track};
 ghost use Rattle.mp4_frag.specs.SingleRuns.{IsSingle};
 ghost use Rattle.mp4_frag.specs.Places.{place_fault};
@@ -25,6 +26,7 @@ ghost use Rattle.mp4_fragment_machine.specs.Implementation.InPlace.{AreBoxes, Is
 ghost use Rattle.mp4_fragment_machine.specs.declared.state.State.TheVariants as states;
 
 use crate::accept_list::count;
+use crate::fragment_lines::put_moof_lines;
 use crate::lines::put_run;
 use crate::state::{Carried, Counter};
 use mp4_box::{Fault, FourCc, Size, header_of};
@@ -156,8 +158,8 @@ pub(crate) fn check_place(
     }
 }
 
-/// Counts a fragment, and puts the lines of its samples if they are asked for. Its rows were read with its moof, and
-/// for its run.
+/// Counts a fragment, and puts the lines of its samples or of its traf if they are asked for. Its rows were read with
+/// its moof, and for its run.
 ///
 /// # Errors
 ///
@@ -175,7 +177,8 @@ fn list_in_place<W: Sink>(
 ) -> Result<(), Failed>
     requires is { IsFragment at tracks.now input.now complete.now.boxes complete.now.run.now }
     requires counted { IsCounted (operations.List command) counter.old at 0 0 }
-    ensures puts { (g : Header) → Puts (sent W.contents W.has_failed w.old w.new) out.old out.new
+    ensures puts { (g : Header) → g.size ≡ Exact complete.now.boxes.mdat.size →
+        Puts (sent W.contents W.has_failed w.old w.new) out.old out.new
         (accepted command (fragment (context at (Some tracks.now) 1) tracks.now
         complete.now.boxes.moof.now g)).text result }
     ensures tally { (g : Header) → counter.new.tally ≡ plus (plus counter.old.tally
@@ -196,6 +199,12 @@ fn list_in_place<W: Sink>(
         Command::Samples => {
             counter.steps.rows += u128::from(samples);
             put_run(run, complete.boxes.moof, out, w)
+        }
+        Command::Fragments | Command::Records => {
+            counter.steps.rows += u128::from(samples);
+            let boxes = &complete.boxes;
+            let size = boxes.moof.len() as u64 + boxes.mdat.size;
+            put_moof_lines(command, boxes.moof, at, Some(size), tracks, out, w)
         }
     }
 }

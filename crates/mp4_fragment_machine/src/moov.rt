@@ -1,6 +1,7 @@
 //! A moov of which all bytes came.
 
 ghost use Rattle.std.specs.Prelude.{◌≡◌, ◌+◌, ◌≤◌, [], length, None, Some};
+ghost use Rattle.mp4_init.specs.Moovs.{moov_tracks};
 ghost use Rattle.mp4_machine.specs.Ends.{sent};
 ghost use Rattle.mp4_machine.specs.Puts.{Puts};
 ghost use Rattle.mp4_machine.specs.Bodies.{longest};
@@ -10,8 +11,10 @@ ghost use Rattle.mp4_fragment_machine.specs.Implementation.Steps.{Advances, CanS
 ghost use Rattle.mp4_fragment_machine.specs.Implementation.Stops.{stop_of};
 ghost use Rattle.mp4_fragment_machine.specs.declared.state.State.TheVariants as states;
 
+use crate::fragment_lines::put_track_lines;
 use crate::state::{Carried, State};
 use mp4_ends::{Failed, Sink};
+use mp4_grammar::Command;
 use mp4_init::{InitStop, TrackList, tracks};
 use mp4_ledger::Ledger;
 use mp4_machine::{Block, BufferedBox, Stop};
@@ -50,7 +53,7 @@ pub(crate) fn take_moov<W: Sink>(
         }
     };
     let at = buffered.offset() + buffered.size();
-    match put_moov(carried.operation, buffered.bytes(), out, w) {
+    match put_moov(carried.operation, buffered.bytes(), &list, out, w) {
         Ok(()) => {
             buffered.back(ledger);
             put_tracks(&mut carried.tracks, list);
@@ -75,7 +78,7 @@ fn put_tracks(tracks: &mut Option<TrackList>, list: TrackList)
     }
 }
 
-/// Puts a moov into the block, where it is written.
+/// Puts what is written of a moov into the block: the lines of its tracks, or the moov itself.
 ///
 /// # Errors
 ///
@@ -83,14 +86,19 @@ fn put_tracks(tracks: &mut Option<TrackList>, list: TrackList)
 fn put_moov<W: Sink>(
     operation: Operation,
     moov: &[u8],
+    list: &TrackList,
     out: &mut Block,
     w: &mut W,
 ) -> Result<(), Failed>
+    requires { list.now ≡ moov_tracks 0 moov.now }
     ensures { Puts (sent W.contents W.has_failed w.old w.new) out.old out.new
         ((operation_meaning operation).of_moov moov.now) result }
 {
     match operation {
-        Operation::List(_) => Ok(()),
+        Operation::List(Command::Fragments) => put_track_lines(list, out, w),
+        Operation::List(Command::Samples)
+        | Operation::List(Command::Records)
+        | Operation::List(Command::Check) => Ok(()),
         Operation::Split(_) => out.put(w, moov),
     }
 }

@@ -13,4 +13,5 @@ pub mod RestLemmas
 pub mod SplitLemmas
 pub mod HeldSizeLemmas
 pub mod TextLemmas
+pub mod TrafRecordLemmas
 pub mod LineLemmas

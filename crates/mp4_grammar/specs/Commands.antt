@@ -1,22 +1,34 @@
 -- The commands that read fragments and write no fragments.
 use Rattle.std.specs.Prelude.{ℕ, List, [], None}
+use Rattle.mp4_init.specs.Moovs.{moov_tracks}
 use Rattle.mp4_machine.specs.Readings.{Reading, Effects, no_effects, says, counts, both}
 use Rattle.mp4_grammar.specs.Contexts.{first_context}
+use Rattle.mp4_grammar.specs.FragmentLines.{fragment_lines, track_lines}
 use Rattle.mp4_grammar.specs.Items.{reads_in}
 use Rattle.mp4_grammar.specs.Meanings.{Fragment, Meaning, counted_in}
 use Rattle.mp4_grammar.specs.Samples.{sample_lines, samples_in}
+use Rattle.mp4_grammar.specs.TrafRecords.{fragment_records}
 use Rattle.mp4_grammar.specs.declared.command.Command.{Command}
-use Rattle.mp4_grammar.specs.declared.command.Command.TheVariants.{Samples, Check}
+use Rattle.mp4_grammar.specs.declared.command.Command.TheVariants.{Samples, Fragments, Records, Check}
 
--- effects of a fragment that is accepted: its samples are counted, and listed if that is asked for
+-- what is written of a moov: its tracks, if fragments are listed. Where in the stream it lies makes no difference to them
+abbrev pub written_of_moov : Command → List ℕ → List ℕ
+written_of_moov Samples x = []
+written_of_moov Fragments x = track_lines (moov_tracks 0 x)
+written_of_moov Records x = []
+written_of_moov Check x = []
+
+-- effects of a fragment that is accepted: its samples are counted, and they or its trafs are listed if that is asked for
 abbrev pub accepted : Command → Fragment → Effects
 accepted Check f = counts (counted_in f)
+accepted Fragments f = both (counts (counted_in f)) (says (fragment_lines f))
+accepted Records f = both (counts (counted_in f)) (says (fragment_records f))
 accepted Samples f = both (counts (counted_in f)) (says (sample_lines (samples_in f)))
 
 -- nothing else is written, refused or numbered
 abbrev pub command_meaning : Command → Meaning
 command_meaning command = record {
-  of_moov = λ x. [];
+  of_moov = written_of_moov command;
   passed = λ kind bytes. no_effects;
   refuses = λ f. None;
   accepted = accepted command;

@@ -3,6 +3,8 @@ pub mod Contexts
 pub mod Meanings
 pub mod Items
 pub mod Samples
+pub mod FragmentLines
+pub mod TrafRecords
 pub mod Commands
 pub mod Counts
 pub mod Joined

@@ -5,6 +5,10 @@
 pub enum Command {
     /// The samples of each fragment are listed.
     Samples,
-    /// They are counted alone.
+    /// The tracks are listed, and then the trafs of each fragment.
+    Fragments,
+    /// The trafs of each fragment are given as records.
+    Records,
+    /// The samples are counted alone.
     Check,
 }

@@ -1,17 +1,20 @@
 //! What the definitions of a fragmented stream's reading imply.
 
 ghost use Rattle.std.specs.Prelude.{◌≡◌, ◌+◌, ◌*◌, ◌^◌, ◌≤◌, ◌++◌, ◌∷◌, List, ℕ, length, take};
+ghost use Rattle.std.specs.List.{sum_by};
 ghost use Rattle.mp4_box.specs.Headers.{IsBytes};
+ghost use Rattle.mp4_frag.specs.Moofs.{moof_trafs};
 ghost use Rattle.mp4_machine.specs.Bodies.{longest};
 ghost use Rattle.mp4_machine.specs.Readings.{Request, GrowsTo, Reading, after, most_of};
 ghost use Rattle.mp4_grammar.specs.Commands.{command_meaning, reading};
 ghost use Rattle.mp4_grammar.specs.Contexts.{Context, first_context};
 ghost use Rattle.mp4_grammar.specs.Counts.{InspectsOn};
+ghost use Rattle.mp4_grammar.specs.FragmentLines.{listed_traf};
 ghost use Rattle.mp4_grammar.specs.HeldSizes.{HoldsWithin};
 ghost use Rattle.mp4_grammar.specs.Items.{reads_in};
 ghost use Rattle.mp4_grammar.specs.Joined.{AreSound, Item, context_after_all, joined, items_effects};
 ghost use Rattle.mp4_grammar.specs.Kinds.{most_moof, most_moov};
-ghost use Rattle.mp4_grammar.specs.Meanings.{Meaning};
+ghost use Rattle.mp4_grammar.specs.Meanings.{Fragment, Meaning, counted_in};
 ghost use Rattle.mp4_grammar.specs.Rests.{IsRest, Split};
 ghost use Rattle.mp4_grammar.specs.WithoutText.{IsWithoutText, without_text};
 ghost use Rattle.mp4_grammar.specs.declared.command.Command.{Command};
@@ -78,6 +81,14 @@ pub fn requests_within()
     ensures { (command : Command) (b : List ℕ) (moov moof : ℕ) → IsBytes b →
         HoldsWithin (command_meaning command) first_context b moov moof →
         most_of (reading command b).effects ≤ 2 * moov + 5 * moof }
+{}
+
+/// The lines of a fragment's trafs have all that is counted of it: their samples are its samples, and their media its media.
+pub fn trafs_have_all_that_is_counted()
+    ensures samples { (f : Fragment) → sum_by (λ t. (listed_traf f t).samples)
+        (moof_trafs f.moof f.tracks) ≡ (counted_in f).samples }
+    ensures media { (f : Fragment) → sum_by (λ t. (listed_traf f t).media)
+        (moof_trafs f.moof f.tracks) ≡ (counted_in f).media_bytes }
 {}
 
 /// All samples that are counted were inspected.

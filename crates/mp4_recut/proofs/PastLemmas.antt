@@ -12,7 +12,7 @@ use Rattle.mp4_cut.specs.Moof.{written_fragment}
 use Rattle.mp4_machine.specs.Readings.{ArePast, Effects, says}
 use Rattle.mp4_machine.proofs.PastLemmas.{both-past}
 use Rattle.mp4_grammar.specs.Meanings.{FragmentEndsPast, runs_in}
-use Rattle.mp4_grammar.specs.declared.command.Command.TheVariants.{Samples, Check}
+use Rattle.mp4_grammar.specs.declared.command.Command.TheVariants.{Samples, Fragments, Records, Check}
 use Rattle.mp4_recut.specs.OutputFragments.{OutputFragment, opens, output_of, span_from, span_of}
 use Rattle.mp4_recut.specs.Operations.{operation_meaning}
 use Rattle.mp4_recut.specs.Splitting.{copied, is_dropped, next_group, output_fragments, run_fragments, runs_fragments, splitting, timescale_of}
@@ -64,5 +64,7 @@ splitting-past cut = record {
 
 pub operation-past : (operation : Operation) → FragmentEndsPast (operation_meaning operation)
 operation-past (operations.List Check) = record { passed = λ kind b. tt; accepted = λ f. tt; media = λ f b. tt }
+operation-past (operations.List Fragments) = record { passed = λ kind b. tt; accepted = λ f. tt; media = λ f b. tt }
+operation-past (operations.List Records) = record { passed = λ kind b. tt; accepted = λ f. tt; media = λ f b. tt }
 operation-past (operations.List Samples) = record { passed = λ kind b. tt; accepted = λ f. tt; media = λ f b. tt }
 operation-past (operations.Split cut) = splitting-past cut

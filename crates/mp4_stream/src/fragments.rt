@@ -2,7 +2,7 @@
 
 ghost use Rattle.std.specs.Prelude.{◌≡◌, ◌+◌, ◌*◌, ◌<◌, ◌≤◌, [], length, IsErrOf};
 ghost use Rattle.mp4_grammar.specs.Kinds.{most_moof, most_moov};
-ghost use Rattle.mp4_grammar.specs.declared.command.Command.TheVariants.{Check, Samples};
+ghost use Rattle.mp4_grammar.specs.declared.command.Command.TheVariants.{Check, Fragments, Samples};
 ghost use Rattle.mp4_machine.specs.Ends.{between, received, sent};
 ghost use Rattle.mp4_push.specs.Feeders as feeders;
 ghost use Rattle.mp4_recut.specs.declared.operation.Operation.TheVariants as operations;
@@ -50,6 +50,44 @@ pub fn samples<R: Source, W: Sink>(
 {
     run_operation(
         Operation::List(Command::Samples),
+        r,
+        w,
+        ledger,
+        copy,
+        totals,
+    )
+}
+
+/// Lists the tracks and the fragments of a fragmented stream, however its reads cut it: a line for each track once the moov
+/// is whole, and then fragment by fragment a line for each traf, in the order of its moof. The lines of a fragment are
+/// written once the header of its mdat is accepted. The read buffer of `copy` bytes is claimed.
+///
+/// # Errors
+///
+/// As [`samples`], with the trafs of the fragments listed that were accepted before.
+pub fn fragments<R: Source, W: Sink>(
+    r: &mut R,
+    w: &mut W,
+    ledger: &mut Ledger,
+    copy: u32,
+    totals: &mut Totals,
+) -> Result<(), Stop>
+    requires copy { (4096 ≤ copy) × (copy ≤ 1048576) }
+    requires idle { ledger.old.live ≡ 0 }
+    ensures runs { ReadsFragments (operations.List Fragments) (between
+        (received R.remaining R.has_ended R.has_failed R.last_read r.old r.new)
+        (sent W.contents W.has_failed w.old w.new))
+        (record { copy = copy; limit = ledger.old.limit; peak = ledger.new.peak })
+        totals.new result }
+    ensures within { ledger.new.peak ≤ ledger.old.limit }
+    ensures back { (ledger.new.live ≡ 0) × (ledger.new.limit ≡ ledger.old.limit) }
+    ensures peak { totals.new.peak ≡ ledger.new.peak }
+    ensures bound { ledger.new.peak ≤ copy + (most_moov + 5 * most_moof) }
+    ensures enough { copy + (most_moov + 5 * most_moof) ≤ ledger.old.limit →
+        IsErrOf result Stop.OverLimit → ⊥ }
+{
+    run_operation(
+        Operation::List(Command::Fragments),
         r,
         w,
         ledger,

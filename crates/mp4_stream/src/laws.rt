@@ -3,7 +3,7 @@
 ghost use Rattle.std.specs.Prelude.{◌≡◌, ◌↔◌, ◌+◌, ◌≤◌, ◌++◌, ◌∷◌, [], List, ℕ, length, map, take};
 ghost use Rattle.mp4_box.specs.Headers.{IsBytes};
 ghost use Rattle.mp4_grammar.specs.WithoutText.{request_without_text};
-ghost use Rattle.mp4_grammar.specs.declared.command.Command.TheVariants.{Check, Samples};
+ghost use Rattle.mp4_grammar.specs.declared.command.Command.TheVariants.{Check, Fragments, Samples};
 ghost use Rattle.mp4_machine.specs.Bodies.{longest};
 ghost use Rattle.mp4_machine.specs.Readings.{Request, GrowsTo, Reading, after, most_of};
 ghost use Rattle.mp4_recut.specs.Operations.{reads_of};
@@ -67,4 +67,16 @@ pub fn check_is_samples_without_text()
     ensures most { (b : List ℕ) → most_of (reads_of (operations.List Check) b).effects ≡
         most_of (reads_of (operations.List Samples) b).effects }
     ensures text { (b : List ℕ) → (reads_of (operations.List Check) b).effects.text ≡ [] }
+{}
+
+/// And it returns what `fragments` does, likewise.
+pub fn check_is_fragments_without_text()
+    ensures outcome { (b : List ℕ) →
+        (reads_of (operations.List Check) b).outcome ≡ (reads_of (operations.List Fragments) b).outcome }
+    ensures tally { (b : List ℕ) → (reads_of (operations.List Check) b).effects.tally ≡
+        (reads_of (operations.List Fragments) b).effects.tally }
+    ensures requests { (b : List ℕ) → (reads_of (operations.List Check) b).effects.requests ≡
+        map request_without_text (reads_of (operations.List Fragments) b).effects.requests }
+    ensures most { (b : List ℕ) → most_of (reads_of (operations.List Check) b).effects ≡
+        most_of (reads_of (operations.List Fragments) b).effects }
 {}

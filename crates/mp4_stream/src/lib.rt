@@ -1,8 +1,9 @@
-//! Runs over a stream: its boxes, its samples, whether it breaks a rule, and its fragments cut into shorter ones; and a stream
-//! that is pushed in as inputs.
+//! Runs over a stream: its boxes, its samples, its fragments, whether it breaks a rule, and its fragments cut into shorter
+//! ones; and a stream that is pushed in as inputs.
 //!
 //! - [`run`]: [`boxes`], which lists the boxes of a stream;
-//! - [`fragments`]: [`samples`], [`check`] and [`split`], which read its fragments by the machine of `mp4_fragment_machine`;
+//! - [`fragments`]: [`samples`], [`fragments::fragments`], [`check`] and [`split`], which read its fragments by the machine
+//!   of `mp4_fragment_machine`;
 //! - [`pushed`]: [`split_pieces`], a loop over a [`Feeder`] of `mp4_push`, whose inputs are those of a list;
 //! - [`machine`]: lists the boxes of a stream that it is fed in inputs, [`state`]: its states, and
 //!   [`step`]: how;

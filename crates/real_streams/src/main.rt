@@ -1,9 +1,11 @@
-//! Lists the boxes and the samples of two real streams, which ffmpeg's muxer wrote: data/audio.mp4, a fragment each
-//! second, and data/every_frame.mp4, a fragment each frame. What it must write is in the file stdout, and
-//! is what another reader found. The counts of both streams are those of another reader too.
+//! Lists the boxes, the samples and the fragments of two real streams, which ffmpeg's muxer wrote: data/audio.mp4, a
+//! fragment each second, and data/every_frame.mp4, a fragment each frame; and the fragments of data/av.mp4, which has two
+//! tracks. What it must write is in the file stdout, and is what another reader found. The counts of the streams are
+//! those of another reader too.
 #![tactic(auto)]
 
-use mp4_stream::{FromRead, IntoWrite, Ledger, Totals, boxes, check, samples};
+use mp4_stream::fragments::fragments;
+use mp4_stream::{FromRead, IntoWrite, Ledger, Sink, Totals, boxes, check, samples};
 use std::fs::File;
 use std::process::ExitCode;
 
@@ -30,11 +32,30 @@ const STREAMS: [Stream; 2] = [
     },
 ];
 
+/// A stream of two tracks, data/av.mp4, of which the fragments alone are listed.
+const TWO_TRACKS: Stream = Stream {
+    name: "av.mp4",
+    fragments: 4,
+    samples: 274,
+    media_bytes: 57147,
+};
+
 /// Whether a stream that was read counts so.
 fn is_counted(stream: &Stream, totals: &Totals) -> bool {
     totals.fragments == stream.fragments
         && totals.samples == stream.samples
         && totals.media_bytes == stream.media_bytes
+}
+
+/// Lists the fragments of a stream. Returns whether it could be read, and counts as it must.
+fn lists_fragments<W: Sink>(rt: &HostRuntime, stream: &Stream, w: &mut W) -> bool {
+    let mut ledger = Ledger::new(rt.alloc(), 1 << 20);
+    let mut totals = Totals::new();
+    let Ok(file) = File::open(rt, stream.name) else {
+        return false;
+    };
+    let mut r = FromRead::new(file);
+    fragments(&mut r, w, &mut ledger, 4096, &mut totals).is_ok() && is_counted(stream, &totals)
 }
 
 fn main(rt: HostRuntime) -> ExitCode {
@@ -59,10 +80,16 @@ fn main(rt: HostRuntime) -> ExitCode {
         {
             return ExitCode::from(2);
         }
+        if !lists_fragments(&rt, stream, &mut w) {
+            return ExitCode::from(4);
+        }
         let mut r = FromRead::new(third);
         if check(&mut r, &mut ledger, 4096, &mut totals).is_err() || !is_counted(stream, &totals) {
             return ExitCode::from(3);
         }
+    }
+    if !lists_fragments(&rt, &TWO_TRACKS, &mut w) {
+        return ExitCode::from(5);
     }
     ExitCode::from(0)
 }

@@ -15,7 +15,7 @@ returns-in-Err-list_in_place g c =
     let low = rw c.in-Some.is at c.requires.can.claim in
     let o = environment (g.W.Sink.contents c.args.w.now) c.args.out.now c.args.ledger.now carried.counter.tally in
     let effects = c.in-Err-list_in_place.ensures in
-    let put = effects.puts is.boxes.mdat.header in
+    let put = effects.puts is.boxes.mdat.header is.boxes.mdat.sized in
     rw (c.in-Some.is, c.requires.operation, c.requires.empty) (record { step = record { stops = λ more. StopsAt-it c.args.at list c.args.input.now f.boxes f.run.now is c.args.command 1 o low (g.W.Sink.contents c.list_in_place.new.w) c.list_in_place.new.out c.count_claim.new.self c.list_in_place.new.counter.tally c.in-Ok.ensures.ok (effects.tally is.boxes.mdat.header) more put.breaks; failed = λ _. put.failed; unfailed = λ other. absurd (other refl) }; operation = refl; tracks = refl; empty = refl; left = rw c.in-Ok.ensures.ok (omega (arith, low)); counted = counted_stop (operations.List c.args.command) c.list_in_place.new.counter (c.args.at + length f.boxes.moof.now + f.boxes.mdat.size) effects.counted })
 
 pub returns : goal.returns
@@ -29,7 +29,7 @@ returns g c =
     let low = rw c.in-Some.is at c.requires.can.claim in
     let o = environment (g.W.Sink.contents c.args.w.now) c.args.out.now c.args.ledger.now carried.counter.tally in
     let effects = c.in-Ok-list_in_place.ensures in
-    let put = effects.puts is.boxes.mdat.header in
+    let put = effects.puts is.boxes.mdat.header is.boxes.mdat.sized in
     let fit = boxes_fit at input f.boxes is.boxes in
     let some = some_moof at input f.boxes is.boxes in
     let long = moof_len at input f.boxes is.boxes in

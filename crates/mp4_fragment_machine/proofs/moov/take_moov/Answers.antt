@@ -1,6 +1,7 @@
 use Rattle.std.proofs.Common.{ap, refl, Err, ◌∙◌, ◌++◌, ◌+◌, ◌*◌, ◌≤◌, arith, length}
 use Rattle.mp4_init.specs.declared.moov.InitStop.TheVariants as init
 use Rattle.mp4_init.specs.Moovs.{moov_tracks}
+use Rattle.mp4_init.proofs.OffsetLemmas.{tracks_anywhere}
 use Rattle.mp4_ledger.specs.Memory.{claimed, given_back}
 use Rattle.mp4_machine.proofs.HoldingLemmas.{begins_whole}
 use Rattle.mp4_machine.specs.Inputs.{environment}
@@ -15,6 +16,12 @@ pub tracks-requires-clause-whole : goal.tracks-requires-clause-whole
 tracks-requires-clause-whole g c =
     let buffered = c.args.buffered in
     rw c.bytes.ensures.bytes (begins_whole buffered.size buffered.bytes c.bytes.ensures.valid c.requires.begins c.requires.whole)
+
+pub put_moov-requires : goal.put_moov-requires
+put_moov-requires g c =
+    let buffered = c.args.buffered in
+    let list = rw (c.bytes.ensures.bytes, c.offset.ensures.at) at c.in-Ok.ensures.list in
+    rw c.bytes-2.ensures.bytes (list ∙ tracks_anywhere buffered.bytes 0 buffered.at)
 
 pub returns-in-Err : goal.returns-in-Err
 returns-in-Err g c =

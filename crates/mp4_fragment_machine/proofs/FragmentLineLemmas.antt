@@ -1,0 +1,68 @@
+-- The lines of trafs and of tracks, one after the other.
+use Rattle.std.proofs.Common.{◌≡◌, ◌⊎◌, ◌∙◌, ℕ, inl, inr, refl, Option, suc, ◌≤◌, drop, get_or, ◌+◌, ◌-◌, ◌<◌, List, [], ◌∷◌, ◌++◌, length, Some, ap, sym, arith, subst, append-nil, append_assoc}
+use Rattle.std.specs.List.{flat_map}
+use Rattle.std.proofs.Math.Seq.{drop-cons}
+use Rattle.mp4_box.specs.declared.headers.Header.{Header}
+use Rattle.mp4_box.specs.declared.headers.Size.{Size}
+use Rattle.mp4_box.specs.declared.headers.Size.TheVariants.{Exact, ToEnd}
+use Rattle.mp4_machine.specs.Blocks.{Pending}
+use Rattle.mp4_machine.specs.Bodies.{least_end, longest}
+use Rattle.mp4_machine.specs.Ends.{Sent}
+use Rattle.mp4_machine.specs.Puts.{HasPut}
+use Rattle.mp4_fragment_machine.specs.Implementation.TrafLines.{moof_lines, size_with}
+use Rattle.mp4_fragment_machine.specs.States.{listed_by}
+use Rattle.mp4_grammar.specs.Commands.{accepted}
+use Rattle.mp4_grammar.specs.FragmentLines.{size_of}
+use Rattle.mp4_grammar.specs.Meanings.{Fragment}
+use Rattle.mp4_grammar.specs.declared.command.Command.{Command}
+use Rattle.mp4_grammar.specs.declared.command.Command.TheVariants.{Fragments, Records}
+use Rattle.mp4_recut.specs.declared.operation.Operation.TheVariants as operations
+
+-- ---- line after line
+
+module _ {X : Type 0} (line : X → List ℕ) where
+  -- the line of the first of some was put
+  pub line_first : (x : X) (rest xs : List X) (text l all : List ℕ) → xs ≡ x ∷ rest → l ≡ line x → text ++ flat_map line xs ≡ all → (text ++ l) ++ flat_map line rest ≡ all
+  line_first x rest xs text l all e is whole =
+      append_assoc text l (flat_map line rest)
+      ∙ ap (λ k. text ++ (k ++ flat_map line rest)) is
+      ∙ ap (λ ys. text ++ flat_map line ys) (sym e) ∙ whole
+
+  -- all were put
+  pub line_last : {s : Sent} {v w : Pending} {text all : List ℕ} (xs : List X) → xs ≡ [] → text ++ flat_map line xs ≡ all → HasPut s v w text [] → HasPut s v w all []
+  line_last {s = s} {v = v} {w = w} {text = text} xs none whole p =
+      subst (λ l. HasPut s v w l []) (sym (append-nil text) ∙ ap (λ ys. text ++ flat_map line ys) (sym none) ∙ whole) p
+
+  -- the line of the one at an index was put
+  pub line_at : (xs : List X) (i : ℕ) (x : X) (text l all : List ℕ) → i < length xs → x ≡ get_or xs i x → l ≡ line x → text ++ flat_map line (drop i xs) ≡ all → (text ++ l) ++ flat_map line (drop (i + 1) xs) ≡ all
+  line_at xs i x text l all h at is whole =
+      let one : suc i ≡ i + 1 = omega arith in
+      let next : drop i xs ≡ x ∷ drop (i + 1) xs = drop-cons xs i x h ∙ ap (λ y. y ∷ drop (suc i) xs) (sym at) ∙ ap (λ n. x ∷ drop n xs) one in
+      line_first x (drop (i + 1) xs) (drop i xs) text l all next is whole
+
+-- ---- how large a fragment is
+
+pub size_is : (at len : ℕ) (s : ℕ) → Some (len + s) ≡ size_with at len (Exact s)
+size_is at len s = let e : len + s ≡ at + len + s - at = omega arith in ap Some e
+
+pub size_stated : (at len n s : ℕ) (size : Size) → size ≡ Exact s → n ≡ len + s → Some n ≡ size_with at len size
+size_stated at len n s size is all = rw is (ap Some all ∙ size_is at len s)
+
+-- a header that ends in time after an offset does so at the start
+pub near_start : (at len : ℕ) (h : Header) (s : Size) → least_end (at + len) h s ≤ longest → least_end len h s ≤ longest
+near_start at len h (Exact s) e = omega (arith, e)
+near_start at len h ToEnd e = omega (arith, e)
+
+-- ---- lines and records alike
+
+-- a command that lists trafs
+abbrev pub ListsTrafs : Command → Type 0
+ListsTrafs command = (command ≡ Fragments) ⊎ (command ≡ Records)
+
+pub listed_is : (command : Command) (n : ℕ) → ListsTrafs command → listed_by (operations.List command) n ≡ n
+listed_is command n (inl is) = rw is refl
+listed_is command n (inr is) = rw is refl
+
+pub lines_are : (command : Command) (f : Fragment) (size : Option ℕ) → ListsTrafs command → size ≡ size_of f → moof_lines command f.moof f.tracks size ≡ (accepted command f).text
+lines_are command f size (inl is) same = rw (is, same) refl
+lines_are command f size (inr is) same = rw (is, same) refl

@@ -1,0 +1,125 @@
+//! The trafs of a fragment, and their lines.
+
+ghost use Rattle.std.specs.Prelude.{◌≡◌, ◌++◌, ◌+◌, ◌≤◌, length};
+ghost use Rattle.mp4_grammar.specs.FragmentLines.{fragment_text, samples_text, size_text, times_text, traf_line, traf_with, yes_or_no};
+
+use crate::sample::push_number;
+use mp4_frag::TrafTotals;
+use mp4_lines::{DECIMAL_DIGITS, Text};
+use mp4_machine::{BLOCK_BYTES, LINE_BYTES, Line};
+
+/// A traf of a fragment. Times are ticks of its track's timescale, and offsets are of the stream.
+#[derive(Clone, Copy, Debug, PartialEq, Eq)]
+pub struct ListedTraf {
+    /// The sequence_number of its moof (ISO/IEC 14496-12, 8.8.5).
+    pub sequence: u32,
+    /// The offset of its moof.
+    pub at: u64,
+    /// How many bytes the moof and its mdat have; none where the mdat goes to the end of the stream.
+    pub size: Option<u64>,
+    /// The track_ID of its track.
+    pub track: u32,
+    /// Its base time.
+    pub time: u64,
+    /// The durations of its samples, added up.
+    pub duration: u64,
+    /// How many samples it has.
+    pub samples: u32,
+    /// Whether its first sample is a sync sample (8.8.3); false where it has none.
+    pub sync: bool,
+    /// The bytes of its samples, added up.
+    pub media: u64,
+}
+
+impl ListedTraf {
+    /// The traf with these totals, of a fragment with this sequence_number that begins at `at` and has `size` bytes; none where
+    /// its mdat goes to the end of the stream.
+    pub fn of(sequence: u32, at: u64, size: Option<u64>, totals: &TrafTotals) -> ListedTraf
+        ensures { result ≡ traf_with sequence at size totals.now }
+    {
+        ListedTraf {
+            sequence,
+            at,
+            size,
+            track: totals.track,
+            time: totals.time,
+            duration: totals.duration,
+            samples: totals.samples,
+            sync: totals.sync,
+            media: totals.bytes,
+        }
+    }
+}
+
+impl ListedTraf {
+    /// Appends its fragment.
+    fn push_fragment(&self, block: &mut Text<BLOCK_BYTES>)
+        requires { length block.old + LINE_BYTES ≤ BLOCK_BYTES }
+        ensures text { block.new ≡ block.old ++ fragment_text self.now }
+        ensures len { length block.new ≤ length block.old + 79 }
+    {
+        push_number(block, b"fragment=", u64::from(self.sequence));
+        push_number(block, b" at=", self.at);
+        block.push_array(b" size=");
+        push_size(block, self.size);
+    }
+
+    /// Appends its track and its times.
+    fn push_times(&self, block: &mut Text<BLOCK_BYTES>)
+        requires { length block.old + 77 ≤ BLOCK_BYTES }
+        ensures text { block.new ≡ block.old ++ times_text self.now }
+        ensures len { length block.new ≤ length block.old + 77 }
+    {
+        push_number(block, b" track=", u64::from(self.track));
+        push_number(block, b" dts=", self.time);
+        push_number(block, b" dur=", self.duration);
+    }
+
+    /// Appends its samples, and ends its line.
+    fn push_samples(&self, block: &mut Text<BLOCK_BYTES>)
+        requires { length block.old + 66 ≤ BLOCK_BYTES }
+        ensures { block.new ≡ block.old ++ samples_text self.now }
+    {
+        push_number(block, b" samples=", u64::from(self.samples));
+        block.push_array(b" sync=");
+        push_yes_or_no(block, self.sync);
+        push_number(block, b" media=", self.media);
+        block.push_array(b"\n");
+    }
+}
+
+impl Line for ListedTraf {
+    ghost text = { λ t. traf_line t };
+
+    #[tactic(auto, unfolding(crate::specs::FragmentLines::traf_line))]
+    fn push(&self, block: &mut Text<BLOCK_BYTES>) {
+        self.push_fragment(block);
+        self.push_times(block);
+        self.push_samples(block);
+    }
+}
+
+/// Appends a size, if it is stated.
+fn push_size(block: &mut Text<BLOCK_BYTES>, size: Option<u64>)
+    requires { length block.old + DECIMAL_DIGITS ≤ BLOCK_BYTES }
+    ensures text { block.new ≡ block.old ++ size_text size }
+    ensures len { length block.new ≤ length block.old + DECIMAL_DIGITS }
+{
+    match size {
+        Some(size) => block.push_decimal(size),
+        None => block.push_array(b"end"),
+    }
+}
+
+/// Appends whether something is so.
+fn push_yes_or_no(block: &mut Text<BLOCK_BYTES>, is_so: bool)
+    requires { length block.old + 3 ≤ BLOCK_BYTES }
+    ensures text { block.new ≡ block.old ++ yes_or_no is_so }
+    ensures len { length block.new ≤ length block.old + 3 }
+{
+    if is_so {
+        block.push_array(b"yes");
+    } else {
+        block.push_array(b"no");
+    }
+}
