@@ -1,4 +1,5 @@
-/* fmp4.h: cuts the fragments of a fragmented MP4 stream (ISO/IEC 14496-12) into shorter ones, or checks such a stream.
+/* fmp4.h: cuts the fragments of a fragmented MP4 stream (ISO/IEC 14496-12) into shorter ones, or checks or lists such a
+ * stream.
  *
  * A stream is fed as it comes, in inputs of any size, and the output is taken from the front:
  *
@@ -67,6 +68,21 @@ struct fmp4_report {
  * with another header, or declares them otherwise. */
 #define FMP4_LAYOUT ((uint32_t)(sizeof(struct fmp4_stream) << 16 | sizeof(struct fmp4_report)))
 
+/* A track fragment (traf) of a stream that is listed by records: its moof, its times and its samples. */
+struct fmp4_fragment {
+    uint64_t offset;      /* where its moof begins in the stream */
+    uint64_t size;        /* the bytes of moof and mdat; 2^64 - 1 where the mdat goes to the end of the stream */
+    uint64_t decode_time; /* of its first sample, in ticks of the track */
+    uint64_t duration;    /* of its samples together, in ticks */
+    uint64_t media_bytes; /* of its samples together */
+    uint32_t sequence;    /* the sequence_number of its moof */
+    uint32_t track;       /* the track_ID */
+    uint32_t timescale;   /* how many ticks of the track a second has */
+    uint32_t samples;     /* how many it has */
+    uint32_t is_sync;     /* 1 where its first sample is a sync sample, else 0 */
+    uint32_t reserved;
+};
+
 /* What a call answers. */
 enum fmp4_answer {
     FMP4_OK = 0,
@@ -78,8 +94,10 @@ enum fmp4_answer {
     FMP4_OVER_LIMIT = 4,    /* a moov or moof asks for more than the limit leaves. All output before it was written */
     FMP4_NO_MEMORY = 5,     /* malloc has none for it. The same */
 
+    FMP4_NO_RECORD = 6,     /* no record waits: feed more */
+
     /* Misuse: the call did nothing */
-    FMP4_NOT_OPEN = 16,     /* before fmp4_split_open or fmp4_check_open */
+    FMP4_NOT_OPEN = 16,     /* before an open */
     FMP4_CLOSED = 17,       /* after fmp4_close */
     FMP4_IS_OPEN = 18,      /* an open of a stream that is open */
     FMP4_ENDED = 19,        /* a feed or finish after fmp4_finish */
@@ -87,13 +105,21 @@ enum fmp4_answer {
     FMP4_BAD_BYTES = 21,    /* bytes above 2^62 */
     FMP4_BAD_FLAGS = 22,    /* flags that aren't known */
     FMP4_BAD_ROOM = 23,     /* a room of 0 */
-    FMP4_BAD_LAYOUT = 24    /* structs of other sizes than the library's */
+    FMP4_BAD_LAYOUT = 24,   /* structs of other sizes than the library's */
+    FMP4_BAD_LISTING = 25   /* a listing that isn't known, or a record of a stream that isn't listed by records */
 };
 
 /* Flags of fmp4_split_open. */
 enum fmp4_flags {
     FMP4_INDEX = 1,         /* an sidx before the fragments that each run is cut into */
     FMP4_SYNC = 2           /* a fragment also ends before a sync sample */
+};
+
+/* Listings of fmp4_list_open. */
+enum fmp4_listing {
+    FMP4_SAMPLES = 1,       /* the lines of `fmp4 samples` */
+    FMP4_FRAGMENTS = 2,     /* a line for each track, and one for each track fragment */
+    FMP4_RECORDS = 3        /* a record for each track fragment, for fmp4_next_fragment */
 };
 
 /* Opens a stream that is cut into fragments of at most `samples` samples (1 to 1,000,000), and of at most `bytes`
@@ -113,10 +139,18 @@ static inline uint32_t fmp4_split_open(struct fmp4_stream *stream, uint32_t samp
  *   FMP4_NO_MEMORY; FMP4_IS_OPEN; FMP4_BAD_LAYOUT */
 static inline uint32_t fmp4_check_open(struct fmp4_stream *stream, uint64_t limit);
 
-/* What these two call in the library; `layout` is FMP4_LAYOUT. */
+/* Opens a stream that is checked and listed: the listing is its output, and what a fragment adds to it comes at once, with
+ * the header of its mdat. `limit` and `room` are as those of a cut; what comes at once must fit the room, which is 64 bytes
+ * for each record, and up to 256 for each line. To list the fragments that a cut writes, feed its output to a stream
+ * that is listed.
+ *   FMP4_OVER_LIMIT: room is more than limit; FMP4_NO_MEMORY; FMP4_IS_OPEN; FMP4_BAD_LAYOUT, _LISTING, _ROOM */
+static inline uint32_t fmp4_list_open(struct fmp4_stream *stream, uint32_t listing, uint64_t limit, size_t room);
+
+/* What these three call in the library; `layout` is FMP4_LAYOUT. */
 uint32_t fmp4_split_open_as(struct fmp4_stream *stream, uint32_t layout, uint32_t samples, uint64_t bytes, uint32_t flags,
                             uint64_t limit, size_t room);
 uint32_t fmp4_check_open_as(struct fmp4_stream *stream, uint32_t layout, uint64_t limit);
+uint32_t fmp4_list_open_as(struct fmp4_stream *stream, uint32_t layout, uint32_t listing, uint64_t limit, size_t room);
 
 /* Feeds the next `len` bytes of the stream, or the first *taken of them: go on with the rest. A cut takes at most a
  * 128th of what is free in the room at once (a 512th with an index), a byte at the least, and nothing (FMP4_FULL)
@@ -142,6 +176,11 @@ uint32_t fmp4_feed_take(struct fmp4_stream *FMP4_RESTRICT stream, const uint8_t 
  *   FMP4_NOT_OPEN, FMP4_CLOSED */
 uint32_t fmp4_take(struct fmp4_stream *FMP4_RESTRICT stream, uint8_t *FMP4_RESTRICT out, size_t len,
                    size_t *FMP4_RESTRICT taken);
+
+/* Takes the next record of a stream that is listed by records. After a stop and after fmp4_finish too. Where fmp4_feed
+ * answers FMP4_FULL, take records.
+ *   FMP4_NO_RECORD: none waits; FMP4_NOT_OPEN, FMP4_CLOSED, FMP4_BAD_LISTING. The record is left as it was */
+uint32_t fmp4_next_fragment(struct fmp4_stream *FMP4_RESTRICT stream, struct fmp4_fragment *FMP4_RESTRICT fragment);
 
 /* Says how many bytes of output wait.
  *   FMP4_NOT_OPEN, FMP4_CLOSED: *count is 0 */
@@ -188,6 +227,9 @@ static inline uint32_t fmp4_split_open(struct fmp4_stream *stream, uint32_t samp
 }
 static inline uint32_t fmp4_check_open(struct fmp4_stream *stream, uint64_t limit) {
     return fmp4_check_open_as(stream, FMP4_LAYOUT, limit);
+}
+static inline uint32_t fmp4_list_open(struct fmp4_stream *stream, uint32_t listing, uint64_t limit, size_t room) {
+    return fmp4_list_open_as(stream, FMP4_LAYOUT, listing, limit, room);
 }
 
 /* NULL for no bytes: the functions of the library want a pointer. */

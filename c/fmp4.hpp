@@ -56,7 +56,7 @@ inline std::string rule_name(std::uint32_t rule) {
     return {name, fmp4_rule_name(rule, name, sizeof name)};
 }
 
-// A stream that is cut or checked. It can be moved, also to another thread, and not copied.
+// A stream that is cut, checked or listed. It can be moved, also to another thread, and not copied.
 class stream {
     fmp4_stream stream_{};
     std::vector<std::uint8_t> out_;
@@ -107,6 +107,11 @@ class stream {
     }
 
     std::uint32_t totals(fmp4_report &report) { return fmp4_totals(&stream_, &report); }
+    std::uint32_t list(std::uint32_t listing, std::uint64_t limit, std::size_t room) {
+        out_.resize(131072);
+        return fmp4_list_open(&stream_, listing, limit, room);
+    }
+    std::uint32_t next(fmp4_fragment &fragment) { return fmp4_next_fragment(&stream_, &fragment); }
     std::uint32_t set_limit(std::uint64_t limit, std::uint64_t &takes) { return fmp4_set_limit(&stream_, limit, &takes); }
     std::uint32_t reset() { return fmp4_reset(&stream_); }
     std::uint32_t close() { return fmp4_close(&stream_); }

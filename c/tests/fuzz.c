@@ -17,13 +17,41 @@ struct one {
     struct fmp4_stream stream;
     enum state state;
     uint32_t stop;
-    int is_changed, is_check;
+    int is_changed, is_check, gives_records;
     size_t at;
     struct bytes out;
     struct fmp4_report last; /* what finish reported */
 };
 
 static struct bytes in, whole;
+
+/* Opens a stream that is listed, by lines or by records. */
+static void list_one(struct one *s) {
+    uint32_t listing = (uint32_t)random_to(5);
+    size_t room = random_to(3) ? 1u << 20 : random_to(500);
+    uint64_t limit = random_to(3) ? 64u << 20 : random_to(3000);
+    int was_open = s->state != NEW && s->state != CLOSED;
+    uint32_t answer = fmp4_list_open(&s->stream, listing, limit, room);
+    if (was_open) { WANT(answer == FMP4_IS_OPEN); return; }
+    if (room == 0) { WANT(answer == FMP4_BAD_ROOM); return; }
+    if (listing < 1 || listing > 3) { WANT(answer == FMP4_BAD_LISTING); return; }
+    if (room > limit) { WANT(answer == FMP4_OVER_LIMIT); return; }
+    WANT(answer == FMP4_OK);
+    s->state = OPEN;
+    s->is_check = 0;
+    s->is_changed = 1;
+    s->gives_records = listing == FMP4_RECORDS;
+    s->at = s->out.len = 0;
+}
+
+static void next_one(struct one *s) {
+    struct fmp4_fragment fragment = {.offset = UINT64_MAX};
+    uint32_t answer = fmp4_next_fragment(&s->stream, &fragment);
+    if (s->state == NEW || s->state == CLOSED) WANT(answer == (s->state == NEW ? FMP4_NOT_OPEN : FMP4_CLOSED));
+    else if (!s->gives_records) WANT(answer == FMP4_BAD_LISTING);
+    else WANT(answer == FMP4_OK || answer == FMP4_NO_RECORD);
+    WANT((answer == FMP4_OK) == (fragment.offset != UINT64_MAX));
+}
 
 static void open_one(struct one *s) {
     static const uint64_t limits[] = {0, 100, 5000, 100000, 64u << 20};
@@ -38,6 +66,7 @@ static void open_one(struct one *s) {
     WANT(answer == FMP4_OK);
     s->state = OPEN;
     s->is_check = is_check;
+    s->gives_records = 0;
     s->is_changed = random_to(2) || (!is_check && (samples != 2 || flags != 0));
     s->at = s->out.len = 0;
 }
@@ -143,8 +172,10 @@ int main(int argc, char **argv) {
             struct one *s = &all[random_to(STREAMS)];
             enum state before = s->state;
             uint64_t which = random_to(100);
-            if (which < 5) open_one(s);
-            else if (which < 55) feed_one(s);
+            if (which < 4) open_one(s);
+            else if (which < 5) list_one(s);
+            else if (which < 53) feed_one(s);
+            else if (which < 55) next_one(s);
             else if (which < 90) take_one(s);
             else if (which < 91) limit_one(s);
             else if (which < 92) reset_one(s);

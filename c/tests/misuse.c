@@ -21,6 +21,8 @@ static void all_answer(struct fmp4_stream *s, uint32_t wanted) {
         uint64_t takes = 9;
         WANT(fmp4_set_limit(s, 1 << 20, &takes) == wanted && takes == 0);
         WANT(fmp4_reset(s) == wanted);
+        struct fmp4_fragment fragment = {.offset = 9};
+        WANT(fmp4_next_fragment(s, &fragment) == wanted && fragment.offset == 9);
         WANT(fmp4_close(s) == wanted);
         WANT(fmp4_totals(s, &report) == wanted);
     }
@@ -43,7 +45,12 @@ static void none_opens(struct fmp4_stream *s, uint32_t answer) {
     for (int i = 0; i < 4; i++) {
         WANT(fmp4_split_open_as(s, layouts[i], 1, 0, 0, 1 << 20, 4096) == FMP4_BAD_LAYOUT);
         WANT(fmp4_check_open_as(s, layouts[i], 1 << 20) == FMP4_BAD_LAYOUT);
+        WANT(fmp4_list_open_as(s, layouts[i], FMP4_SAMPLES, 1 << 20, 4096) == FMP4_BAD_LAYOUT);
     }
+    WANT(fmp4_list_open(s, 0, 1 << 20, 4096) == FMP4_BAD_LISTING && fmp4_list_open(s, 4, 1 << 20, 4096) == FMP4_BAD_LISTING);
+    WANT(fmp4_list_open(s, UINT32_MAX, 1 << 20, 4096) == FMP4_BAD_LISTING);
+    WANT(fmp4_list_open(s, FMP4_RECORDS, 1 << 20, 0) == FMP4_BAD_ROOM);
+    WANT(fmp4_list_open(s, FMP4_FRAGMENTS, 4095, 4096) == FMP4_OVER_LIMIT);
     all_answer(s, answer);
 }
 
@@ -57,6 +64,9 @@ int main(void) {
         WANT(fmp4_split_open(&s, 0, 0, 9, 0, 0) == FMP4_IS_OPEN);
         WANT(fmp4_check_open(&s, 1 << 20) == FMP4_IS_OPEN);
         WANT(fmp4_split_open_as(&s, 0, 1, 0, 0, 1 << 20, 4096) == FMP4_IS_OPEN);
+        WANT(fmp4_list_open(&s, 0, 0, 0) == FMP4_IS_OPEN);
+        struct fmp4_fragment fragment = {.offset = 9};
+        WANT(fmp4_next_fragment(&s, &fragment) == FMP4_BAD_LISTING && fragment.offset == 9);
         WANT(fmp4_totals(&s, &report) == FMP4_OK && report.samples == 0 && report.rule == 0);
         WANT(fmp4_feed(&s, input, 0, &n) == FMP4_OK && n == 0);
         WANT(fmp4_feed(&s, NULL, 0, &n) == FMP4_OK && n == 0);
@@ -93,9 +103,9 @@ int main(void) {
     WANT(fmp4_rule_name(4, NULL, 0) == 10 && fmp4_answer_name(FMP4_FULL, NULL, 0) == 9);
     char of_answer[17];
     static const struct { uint32_t answer; const char *name; } answers[] = {{0, "FMP4_OK"}, {1, "FMP4_FULL"}, {2, "FMP4_FAULT"},
-        {3, "FMP4_NO_ROOM"}, {4, "FMP4_OVER_LIMIT"}, {5, "FMP4_NO_MEMORY"}, {6, ""}, {15, ""}, {16, "FMP4_NOT_OPEN"},
+        {3, "FMP4_NO_ROOM"}, {4, "FMP4_OVER_LIMIT"}, {5, "FMP4_NO_MEMORY"}, {6, "FMP4_NO_RECORD"}, {7, ""}, {15, ""}, {16, "FMP4_NOT_OPEN"},
         {17, "FMP4_CLOSED"}, {18, "FMP4_IS_OPEN"}, {19, "FMP4_ENDED"}, {20, "FMP4_BAD_SAMPLES"}, {21, "FMP4_BAD_BYTES"},
-        {22, "FMP4_BAD_FLAGS"}, {23, "FMP4_BAD_ROOM"}, {24, "FMP4_BAD_LAYOUT"}, {25, ""}, {UINT32_MAX, ""}};
+        {22, "FMP4_BAD_FLAGS"}, {23, "FMP4_BAD_ROOM"}, {24, "FMP4_BAD_LAYOUT"}, {25, "FMP4_BAD_LISTING"}, {26, ""}, {UINT32_MAX, ""}};
     for (size_t i = 0; i < sizeof answers / sizeof *answers; i++) {
         memset(of_answer, 'x', sizeof of_answer);
         WANT(fmp4_answer_name(answers[i].answer, of_answer, sizeof of_answer) == strlen(answers[i].name));

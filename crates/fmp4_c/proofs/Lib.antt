@@ -4,3 +4,4 @@ pub mod AheadLemmas
 pub mod HoldLemmas
 pub mod Sendable
 pub mod OpenLemmas
+pub mod RecordLemmas

@@ -8,7 +8,7 @@ use Rattle.mp4_machine.specs.declared.stop.Stop.{Stop}
 use Rattle.mp4_machine.specs.declared.stop.Stop.TheVariants as stops
 use Rattle.mp4_push.specs.declared.totals.Totals.{Totals}
 use Rattle.fmp4_c.specs.declared.answer.Answer.{Answer}
-use Rattle.fmp4_c.specs.declared.answer.Answer.TheVariants.{Done, Full, Fault, NoRoom, OverLimit, NoMemory, NotOpen, Closed, IsOpen, Ended, BadSamples, BadBytes, BadFlags, BadRoom, BadLayout}
+use Rattle.fmp4_c.specs.declared.answer.Answer.TheVariants.{Done, Full, Fault, NoRoom, OverLimit, NoMemory, NoRecord, NotOpen, Closed, IsOpen, Ended, BadSamples, BadBytes, BadFlags, BadRoom, BadLayout, BadListing}
 use Rattle.fmp4_c.specs.declared.report.Report.{Report}
 
 -- no two answers have one number
@@ -19,6 +19,7 @@ number_of Fault = 2
 number_of NoRoom = 3
 number_of OverLimit = 4
 number_of NoMemory = 5
+number_of NoRecord = 6
 number_of NotOpen = 16
 number_of Closed = 17
 number_of IsOpen = 18
@@ -28,6 +29,7 @@ number_of BadBytes = 21
 number_of BadFlags = 22
 number_of BadRoom = 23
 number_of BadLayout = 24
+number_of BadListing = 25
 
 -- its name in C
 abbrev pub name_of : Answer → List ℕ
@@ -37,6 +39,7 @@ name_of Fault = codes "FMP4_FAULT"
 name_of NoRoom = codes "FMP4_NO_ROOM"
 name_of OverLimit = codes "FMP4_OVER_LIMIT"
 name_of NoMemory = codes "FMP4_NO_MEMORY"
+name_of NoRecord = codes "FMP4_NO_RECORD"
 name_of NotOpen = codes "FMP4_NOT_OPEN"
 name_of Closed = codes "FMP4_CLOSED"
 name_of IsOpen = codes "FMP4_IS_OPEN"
@@ -46,6 +49,7 @@ name_of BadBytes = codes "FMP4_BAD_BYTES"
 name_of BadFlags = codes "FMP4_BAD_FLAGS"
 name_of BadRoom = codes "FMP4_BAD_ROOM"
 name_of BadLayout = codes "FMP4_BAD_LAYOUT"
+name_of BadListing = codes "FMP4_BAD_LISTING"
 
 -- the number of the version 0.1.0: a million for the first, a thousand for the second
 abbrev pub version : ℕ

@@ -1,6 +1,7 @@
 -- What C requests, and what a call does to the stream of a handle.
 use Rattle.std.specs.Prelude.{◌≡◌, if◌then◌else◌, ℕ, ◌+◌, ◌-◌, ◌/◌, ◌%◌, ◌^◌, ◌<◌, ◌≤◌, eqb, List, [], ◌∷◌, ◌++◌, length, take, drop, min, Option, None, Some, Result, Ok, Err}
-use Rattle.mp4_grammar.specs.declared.command.Command.TheVariants.{Check}
+use Rattle.mp4_grammar.specs.declared.command.Command.{Command}
+use Rattle.mp4_grammar.specs.declared.command.Command.TheVariants.{Samples, Fragments, Records, Check}
 use Rattle.mp4_pieces.specs.Allowed.{most_in_piece}
 use Rattle.mp4_pieces.specs.declared.cut.Cut.{Cut}
 use Rattle.mp4_recut.specs.declared.operation.Operation.{Operation}
@@ -9,7 +10,7 @@ use Rattle.fmp4_c.specs.Answers.{number_of}
 use Rattle.fmp4_c.specs.Engines.{ClaimsWithin, Fed, Finished, Holds, Run, Stopped}
 use Rattle.fmp4_c.specs.PendingOutput.{empty}
 use Rattle.fmp4_c.specs.declared.answer.Answer.{Answer}
-use Rattle.fmp4_c.specs.declared.answer.Answer.TheVariants.{Done, Full, Fault, NoRoom, OverLimit, NoMemory, NotOpen, Closed, IsOpen, Ended, BadSamples, BadBytes, BadFlags, BadRoom, BadLayout}
+use Rattle.fmp4_c.specs.declared.answer.Answer.TheVariants.{Done, Full, Fault, NoRoom, OverLimit, NoMemory, NoRecord, NotOpen, Closed, IsOpen, Ended, BadSamples, BadBytes, BadFlags, BadRoom, BadLayout, BadListing}
 use Rattle.fmp4_c.specs.declared.asked.Asked.{Asked}
 use Rattle.fmp4_c.specs.declared.report.Report.{Report}
 
@@ -57,6 +58,8 @@ IsOutOfRange layout samples bytes flags room Closed = ⊥
 IsOutOfRange layout samples bytes flags room IsOpen = ⊥
 IsOutOfRange layout samples bytes flags room Ended = ⊥
 IsOutOfRange layout samples bytes flags room BadLayout = layout ≡ header_layout → ⊥
+IsOutOfRange layout samples bytes flags room NoRecord = ⊥
+IsOutOfRange layout samples bytes flags room BadListing = ⊥
 
 -- these numbers open a stream that is split so
 pub record IsSplitBy (samples bytes flags limit room : ℕ) (asked : Asked) : Type 0 where
@@ -66,6 +69,56 @@ pub record IsSplitBy (samples bytes flags limit room : ℕ) (asked : Asked) : Ty
   pub takes : asked.limit ≡ limit
   pub waits : asked.room ≡ room
   pub share : asked.share ≡ share_of flags
+
+-- the numbers of the listings
+abbrev pub listing_number : Command → ℕ
+listing_number Check = 0
+listing_number Samples = 1
+listing_number Fragments = 2
+listing_number Records = 3
+
+-- which share of the free room a feed takes of the input: a byte can be a sample, which has a line
+abbrev pub share_of_listing : Command → ℕ
+share_of_listing Check = 0
+share_of_listing Samples = 512
+share_of_listing Fragments = 128
+share_of_listing Records = 128
+
+-- the listings that are in range
+pub record IsListing (layout listing room : ℕ) : Type 0 where
+  pub sizes : layout ≡ header_layout
+  pub some : 1 ≤ listing
+  pub most : listing ≤ 3
+  pub holds : 1 ≤ room
+
+-- why another is refused
+abbrev pub IsNoListing : (layout listing room : ℕ) → Answer → Type 0
+IsNoListing layout listing room BadListing = (1 ≤ listing) × (listing ≤ 3) → ⊥
+IsNoListing layout listing room BadRoom = room ≡ 0
+IsNoListing layout listing room BadLayout = layout ≡ header_layout → ⊥
+IsNoListing layout listing room Done = ⊥
+IsNoListing layout listing room Full = ⊥
+IsNoListing layout listing room Fault = ⊥
+IsNoListing layout listing room NoRoom = ⊥
+IsNoListing layout listing room OverLimit = ⊥
+IsNoListing layout listing room NoMemory = ⊥
+IsNoListing layout listing room NoRecord = ⊥
+IsNoListing layout listing room NotOpen = ⊥
+IsNoListing layout listing room Closed = ⊥
+IsNoListing layout listing room IsOpen = ⊥
+IsNoListing layout listing room Ended = ⊥
+IsNoListing layout listing room BadSamples = ⊥
+IsNoListing layout listing room BadBytes = ⊥
+IsNoListing layout listing room BadFlags = ⊥
+
+-- these numbers open a stream that is listed so
+pub record IsListedBy (listing limit room : ℕ) (asked : Asked) : Type 0 where
+  pub command : Command
+  pub number : listing_number command ≡ listing
+  pub operation : asked.operation ≡ operations.List command
+  pub takes : asked.limit ≡ limit
+  pub waits : asked.room ≡ room
+  pub share : asked.share ≡ share_of_listing command
 
 -- ---- opening a stream
 
@@ -96,6 +149,8 @@ Opens asked BadBytes held = ⊥
 Opens asked BadFlags held = ⊥
 Opens asked BadRoom held = ⊥
 Opens asked BadLayout held = ⊥
+Opens asked NoRecord held = ⊥
+Opens asked BadListing held = ⊥
 
 -- or for a request that is out of range
 abbrev pub OpensOr : Result Asked Answer → Answer → Option Run → Type 0
@@ -115,6 +170,11 @@ pub data SplitOpens (layout samples bytes flags limit room : ℕ) (answer : Answ
 pub data CheckOpens (layout limit : ℕ) (answer : Answer) (held : Option Run) : Type 0 where
   Asks : layout ≡ header_layout → Opens (checked_by limit) answer held → CheckOpens layout limit answer held
   Refuses : (layout ≡ header_layout → ⊥) → answer ≡ BadLayout → held ≡ None → CheckOpens layout limit answer held
+
+-- the same for a listing
+pub data ListOpens (layout listing limit room : ℕ) (answer : Answer) (held : Option Run) : Type 0 where
+  Asks : (asked : Asked) → IsListing layout listing room → IsListedBy listing limit room asked → Opens asked answer held → ListOpens layout listing limit room answer held
+  Refuses : IsNoListing layout listing room answer → held ≡ None → ListOpens layout listing limit room answer held
 
 -- ---- the stream of a handle
 

@@ -14,7 +14,7 @@ use Rattle.mp4_recut.specs.declared.operation.Operation.{Operation}
 use Rattle.fmp4_c.specs.Answers.{Counted, answer_to, counted_of, fault_of, number_of, report_from}
 use Rattle.fmp4_c.specs.PendingOutput.{PendingOutput, empty}
 use Rattle.fmp4_c.specs.declared.answer.Answer.{Answer}
-use Rattle.fmp4_c.specs.declared.answer.Answer.TheVariants.{Done, Full, Fault, NoRoom, OverLimit, NoMemory, NotOpen, Closed, IsOpen, Ended, BadSamples, BadBytes, BadFlags, BadRoom, BadLayout}
+use Rattle.fmp4_c.specs.declared.answer.Answer.TheVariants.{Done, Full, Fault, NoRoom, OverLimit, NoMemory, NoRecord, NotOpen, Closed, IsOpen, Ended, BadSamples, BadBytes, BadFlags, BadRoom, BadLayout, BadListing}
 use Rattle.fmp4_c.specs.declared.report.Report.{Report}
 
 -- ---- the visible part of an engine
@@ -116,6 +116,8 @@ Fed operation b given BadBytes r = ⊥
 Fed operation b given BadFlags r = ⊥
 Fed operation b given BadRoom r = ⊥
 Fed operation b given BadLayout r = ⊥
+Fed operation b given NoRecord r = ⊥
+Fed operation b given BadListing r = ⊥
 
 -- how many bytes are taken at once where so many are free in the room: a share of these, and one at the least; any number
 -- where there is no share

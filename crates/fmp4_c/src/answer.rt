@@ -20,6 +20,8 @@ pub enum Answer {
     OverLimit,
     /// The allocator gave no memory.
     NoMemory,
+    /// No record waits.
+    NoRecord,
     /// No stream was opened yet.
     NotOpen,
     /// The stream is closed.
@@ -38,6 +40,8 @@ pub enum Answer {
     BadRoom,
     /// Structs of other sizes than those of the header.
     BadLayout,
+    /// A listing that isn't known, or a record of a stream that isn't listed by records.
+    BadListing,
 }
 
 impl Answer {
@@ -52,6 +56,7 @@ impl Answer {
             Answer::NoRoom => 3,
             Answer::OverLimit => 4,
             Answer::NoMemory => 5,
+            Answer::NoRecord => 6,
             Answer::NotOpen => 16,
             Answer::Closed => 17,
             Answer::IsOpen => 18,
@@ -61,16 +66,17 @@ impl Answer {
             Answer::BadFlags => 22,
             Answer::BadRoom => 23,
             Answer::BadLayout => 24,
+            Answer::BadListing => 25,
         }
     }
 
     /// The answer with this number.
     pub(crate) fn of_number(number: u32) -> Option<Answer>
         ensures number { IfSome result (λ a. number_of a ≡ number) }
-        ensures some { number ≤ 5 → IsSome result }
-        ensures misuse { 16 ≤ number → number ≤ 24 → IsSome result }
-        ensures none { 5 < number → number < 16 → result ≡ None }
-        ensures past { 24 < number → result ≡ None }
+        ensures some { number ≤ 6 → IsSome result }
+        ensures misuse { 16 ≤ number → number ≤ 25 → IsSome result }
+        ensures none { 6 < number → number < 16 → result ≡ None }
+        ensures past { 25 < number → result ≡ None }
     {
         Some(match number {
             0 => Answer::Done,
@@ -79,6 +85,7 @@ impl Answer {
             3 => Answer::NoRoom,
             4 => Answer::OverLimit,
             5 => Answer::NoMemory,
+            6 => Answer::NoRecord,
             16 => Answer::NotOpen,
             17 => Answer::Closed,
             18 => Answer::IsOpen,
@@ -88,6 +95,7 @@ impl Answer {
             22 => Answer::BadFlags,
             23 => Answer::BadRoom,
             24 => Answer::BadLayout,
+            25 => Answer::BadListing,
             _ => return None,
         })
     }
@@ -103,6 +111,7 @@ impl Answer {
             Answer::NoRoom => "FMP4_NO_ROOM",
             Answer::OverLimit => "FMP4_OVER_LIMIT",
             Answer::NoMemory => "FMP4_NO_MEMORY",
+            Answer::NoRecord => "FMP4_NO_RECORD",
             Answer::NotOpen => "FMP4_NOT_OPEN",
             Answer::Closed => "FMP4_CLOSED",
             Answer::IsOpen => "FMP4_IS_OPEN",
@@ -112,6 +121,7 @@ impl Answer {
             Answer::BadFlags => "FMP4_BAD_FLAGS",
             Answer::BadRoom => "FMP4_BAD_ROOM",
             Answer::BadLayout => "FMP4_BAD_LAYOUT",
+            Answer::BadListing => "FMP4_BAD_LISTING",
         }
     }
 

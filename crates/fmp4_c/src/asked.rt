@@ -1,7 +1,7 @@
 //! Requests of C.
 
-ghost use Rattle.std.specs.Prelude.{◌≡◌, ℕ, ◌≤◌, IfErr, IfOk};
-ghost use Rattle.fmp4_c.specs.Calls.{IsCutBy, IsInRange, IsOutOfRange, IsSplitBy, checked_by, header_layout, share_of};
+ghost use Rattle.std.specs.Prelude.{◌≡◌, ℕ, ◌≤◌, IfErr, IfNone, IfOk, IfSome};
+ghost use Rattle.fmp4_c.specs.Calls.{IsCutBy, IsInRange, IsListedBy, IsListing, IsNoListing, IsOutOfRange, IsSplitBy, checked_by, header_layout, listing_number, share_of, share_of_listing};
 
 use crate::answer::Answer;
 use mp4_pieces::MOST_IN_PIECE;
@@ -19,7 +19,8 @@ const SYNC: u32 = 2;
 /// A feed takes a 128th of what is free in the room: a byte of a sample becomes at most 117 of output.
 const SHARE: usize = 128;
 
-/// And with an index a 512th: a byte may be a run of its own, with an index of its own.
+/// And with an index a 512th: a byte may be a run of its own, with an index of its own. So may one of a listing of samples,
+/// since a byte may be a sample, whose line has up to 256.
 const SHARE_WITH_INDEX: usize = 512;
 
 /// What a stream is opened for.
@@ -70,6 +71,33 @@ impl Asked {
         }
     }
 
+    /// That it is listed: 1 for a line a sample, 2 for a line a track fragment, 3 for records of these.
+    ///
+    /// # Errors
+    ///
+    /// Which of the numbers is out of range.
+    pub(crate) fn list(layout: u32, listing: u32, limit: u64, room: usize) -> Result<Asked, Answer>
+        ensures ok { IfOk result (IsListedBy listing limit room) }
+        ensures err { IfErr result (IsNoListing layout listing room) }
+        ensures in_range { IfOk result (λ q. IsListing layout listing room) }
+    {
+        if layout != LAYOUT {
+            return Err(Answer::BadLayout);
+        }
+        if room < 1 {
+            return Err(Answer::BadRoom);
+        }
+        match listing_by(listing) {
+            Some(command) => Ok(Asked {
+                operation: Operation::List(command),
+                limit,
+                room,
+                share: share_of_listing(command),
+            }),
+            None => Err(Answer::BadListing),
+        }
+    }
+
     /// That it is checked.
     ///
     /// # Errors
@@ -88,6 +116,30 @@ impl Asked {
             room: 0,
             share: 0,
         })
+    }
+}
+
+/// The listing with this number.
+fn listing_by(listing: u32) -> Option<Command>
+    ensures some { IfSome result (λ c. (listing_number c ≡ listing) × (1 ≤ listing) × (listing ≤ 3)) }
+    ensures none { IfNone result ((1 ≤ listing) × (listing ≤ 3) → ⊥) }
+{
+    Some(match listing {
+        1 => Command::Samples,
+        2 => Command::Fragments,
+        3 => Command::Records,
+        _ => return None,
+    })
+}
+
+/// Which share of what is free in the room is taken of the input of a listing.
+fn share_of_listing(command: Command) -> usize
+    ensures { result ≡ share_of_listing command }
+{
+    match command {
+        Command::Check => 0,
+        Command::Samples => SHARE_WITH_INDEX,
+        Command::Fragments | Command::Records => SHARE,
     }
 }
 

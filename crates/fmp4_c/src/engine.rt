@@ -3,7 +3,10 @@
 ghost use Rattle.std.specs.Prelude.{◌≡◌, ℕ, ◌+◌, ◌-◌, ◌*◌, ◌^◌, ◌<◌, ◌≤◌, ◌↔◌, List, [], ◌++◌, length, take, drop, min};
 ghost use Rattle.std.specs.Prelude.{None, Some, true, false, IfOk, IsErrOf, IsTrue};
 ghost use Rattle.mp4_push.specs.Feeders.{Feeding};
+ghost use Rattle.mp4_grammar.specs.TrafRecords.{IsRecord, record_bytes, record_len, record_of};
+ghost use Rattle.mp4_grammar.specs.declared.command.Command.TheVariants.{Records};
 ghost use Rattle.mp4_recut.specs.declared.operation.Operation as operations;
+ghost use Rattle.mp4_recut.specs.declared.operation.Operation.TheVariants as variants;
 ghost use Rattle.mp4_machine.specs.declared.stop.Stop as stops;
 ghost use Rattle.fmp4_c.specs.Answers.{answer_to, number_of};
 ghost use Rattle.fmp4_c.specs.Calls.{IsOpened};
@@ -16,8 +19,9 @@ use crate::answer::Answer;
 use crate::asked::Asked;
 use crate::output::Output;
 use crate::report::{Report, fault_in};
+use mp4_grammar::{RECORD_BYTES, TrafRecord};
 use mp4_ledger::Refused;
-use mp4_push::{Feeder, Ledger, Operation};
+use mp4_push::{Command, Feeder, Ledger, Operation};
 use std::alloc::Global;
 use std::marker::Model;
 use std::mem::replace;
@@ -256,6 +260,42 @@ impl Engine {
         self.out.take(out)
     }
 
+    /// Takes a record from the front of the output of a stream that is listed by records. Where none waits, and where the stream
+    /// is another, nothing is taken.
+    pub fn next_fragment(&mut self, fragment: &mut TrafRecord) -> Answer
+        ensures gives { self.old.operation ≡ variants.List Records → record_len ≤ length self.old.waiting.bytes →
+            (result ≡ Answer.Done) × (fragment.new ≡ record_of (take record_len self.old.waiting.bytes)) ×
+            (self.new.waiting.bytes ≡ drop record_len self.old.waiting.bytes) }
+        ensures again { (t : TrafRecord) (rest : List ℕ) → IsRecord t → self.old.operation ≡ variants.List Records →
+            self.old.waiting.bytes ≡ record_bytes t ++ rest → fragment.new ≡ t }
+        ensures holds { (operation : operations.Operation) → (b given : List ℕ) → Holds operation b given self.old →
+            self.old.operation ≡ variants.List Records → record_len ≤ length self.old.waiting.bytes →
+            Holds operation b (given ++ take record_len self.old.waiting.bytes) self.new }
+        ensures stopped { (operation : operations.Operation) → (b given : List ℕ) → (a : answers.Answer) →
+            Stopped operation b given a self.old → self.old.operation ≡ variants.List Records →
+            record_len ≤ length self.old.waiting.bytes →
+            Stopped operation b (given ++ take record_len self.old.waiting.bytes) a self.new }
+        ensures none { self.old.operation ≡ variants.List Records → length self.old.waiting.bytes < record_len →
+            (result ≡ Answer.NoRecord) × (self.new ≡ self.old) × (fragment.new ≡ fragment.old) }
+        ensures other { (self.old.operation ≡ variants.List Records → ⊥) →
+            (result ≡ Answer.BadListing) × (self.new ≡ self.old) × (fragment.new ≡ fragment.old) }
+        ensures kept { (self.new.feeding ≡ self.old.feeding) ×
+            (self.new.waiting.room ≡ self.old.waiting.room) ×
+            (self.new.account ≡ self.old.account) × (self.new.share ≡ self.old.share) ×
+            (self.new.reported ≡ self.old.reported) × (self.new.operation ≡ self.old.operation) }
+    {
+        if !lists_records(self.operation) {
+            return Answer::BadListing;
+        }
+        if self.out.len() < RECORD_BYTES {
+            return Answer::NoRecord;
+        }
+        let mut bytes = [0; RECORD_BYTES];
+        self.take(&mut bytes);
+        *fragment = TrafRecord::of_bytes(&bytes);
+        Answer::Done
+    }
+
     /// How many bytes of output wait.
     pub fn pending(&self) -> usize
         ensures { result ≡ length self.now.waiting.bytes }
@@ -375,6 +415,17 @@ fn step_by(share: usize, free: usize) -> usize
         return usize::MAX;
     }
     (free / share).max(1)
+}
+
+/// Whether an operation lists fragments by records.
+fn lists_records(operation: Operation) -> bool
+    ensures yes { IsTrue result → operation ≡ variants.List Records }
+    ensures no { result ≡ false → operation ≡ variants.List Records → ⊥ }
+{
+    match operation {
+        Operation::List(Command::Records) => true,
+        _ => false,
+    }
 }
 
 /// Whether nothing is taken of an input that has bytes.

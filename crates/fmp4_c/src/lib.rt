@@ -1,7 +1,7 @@
 //! The C library of fmp4: a fragmented stream is fed as it comes, and recut or checked; the output is taken from the front.
 //!
 //! - [`exports`]: what C calls, [`opening`]: how a stream is opened, by what is [`asked`] for, and [`settings`]: its limit, and
-//!   another stream; [`names`]: those of the rules;
+//!   another stream; [`fragments`]: records of what is listed; [`names`]: those of the rules;
 //! - [`answer`]: the result of a call, as a number, and [`report`]: what was counted, and which rule is broken;
 //! - [`stream`]: what C keeps, with [`handle`]: the pointer in it, and [`engine`]: what that points to;
 //! - [`output`]: what waits to be taken, and [`ahead`]: output that doesn't.
@@ -16,6 +16,7 @@ mod answer;
 mod asked;
 mod engine;
 mod exports;
+mod fragments;
 mod handle;
 mod names;
 mod opening;
@@ -30,9 +31,10 @@ pub use engine::{Engine, Feed, FeedTake};
 pub use exports::{
     fmp4_close, fmp4_feed, fmp4_feed_take, fmp4_finish, fmp4_pending, fmp4_take, fmp4_totals,
 };
+pub use fragments::fmp4_next_fragment;
 pub use handle::Handle;
 pub use names::{fmp4_answer_name, fmp4_rule_name, fmp4_version};
-pub use opening::{fmp4_check_open_as, fmp4_split_open_as};
+pub use opening::{fmp4_check_open_as, fmp4_list_open_as, fmp4_split_open_as};
 pub use report::Report;
 pub use settings::{fmp4_reset, fmp4_set_limit};
 pub use stream::Stream;

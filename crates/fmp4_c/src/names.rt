@@ -34,15 +34,15 @@ pub extern "C" fn fmp4_rule_name(rule: u32, name: &mut [u8]) -> usize
 /// no answer has this number, it has none.
 #[unsafe(no_mangle)]
 pub extern "C" fn fmp4_answer_name(answer: u32, name: &mut [u8]) -> usize
-    ensures known { answer ≤ 5 → (a : answers.Answer) × (number_of a ≡ answer) ×
+    ensures known { answer ≤ 6 → (a : answers.Answer) × (number_of a ≡ answer) ×
         (result ≡ length (answer_name a)) ×
         (0 < length name.old → name.new ≡ zero_ended (answer_name a) name.old) }
-    ensures misuse { 16 ≤ answer → answer ≤ 24 → (a : answers.Answer) × (number_of a ≡ answer) ×
+    ensures misuse { 16 ≤ answer → answer ≤ 25 → (a : answers.Answer) × (number_of a ≡ answer) ×
         (result ≡ length (answer_name a)) ×
         (0 < length name.old → name.new ≡ zero_ended (answer_name a) name.old) }
-    ensures unknown { 5 < answer → answer < 16 → (result ≡ 0) ×
+    ensures unknown { 6 < answer → answer < 16 → (result ≡ 0) ×
         (0 < length name.old → name.new ≡ zero_ended [] name.old) }
-    ensures past { 24 < answer → (result ≡ 0) ×
+    ensures past { 25 < answer → (result ≡ 0) ×
         (0 < length name.old → name.new ≡ zero_ended [] name.old) }
     ensures none { length name.old ≡ 0 → name.new ≡ name.old }
 {

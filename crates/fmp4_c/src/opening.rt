@@ -2,7 +2,7 @@
 
 ghost use Rattle.std.specs.Prelude.{◌≡◌, ℕ, None, Some, IfErr, IfOk};
 ghost use Rattle.fmp4_c.specs.Answers.{number_of};
-ghost use Rattle.fmp4_c.specs.Calls.{CheckOpens, IsOpened, Opens, OpensOr, SplitOpens};
+ghost use Rattle.fmp4_c.specs.Calls.{CheckOpens, IsOpened, ListOpens, Opens, OpensOr, SplitOpens};
 ghost use Rattle.fmp4_c.specs.Engines.{Run};
 ghost use Rattle.fmp4_c.specs.declared.answer.Answer as answers;
 
@@ -63,6 +63,29 @@ pub extern "C" fn fmp4_check_open_as(
     ensures rests { stream.new.handle.held ≡ None → stream.new.closed ≡ stream.old.closed }
 {
     open(alloc, stream, Asked::check(layout, limit)).number()
+}
+
+/// Opens a stream that is listed: 1 for a line a sample, 2 for a line a track fragment, 3 for records of these. It takes at
+/// most `limit` bytes, `room` of them for the output that waits. `layout` says which sizes the structs have for the
+/// caller.
+#[unsafe(no_mangle)]
+pub extern "C" fn fmp4_list_open_as(
+    alloc: Global,
+    stream: &mut Stream,
+    layout: u32,
+    listing: u32,
+    limit: u64,
+    room: usize,
+) -> u32
+    ensures opens { stream.old.handle.held ≡ None →
+        (answer : answers.Answer) × (result ≡ number_of answer) ×
+        ListOpens layout listing limit room answer stream.new.handle.held }
+    ensures open { (r : Run) → stream.old.handle.held ≡ Some r →
+        (result ≡ number_of Answer.IsOpen) × (stream.new.handle.held ≡ Some r) ×
+        (stream.new.closed ≡ stream.old.closed) }
+    ensures rests { stream.new.handle.held ≡ None → stream.new.closed ≡ stream.old.closed }
+{
+    open(alloc, stream, Asked::list(layout, listing, limit, room)).number()
 }
 
 /// Opens a stream, if none is open and the request is in range.
