@@ -31,24 +31,23 @@ int main(int argc, char **argv) {
     unsigned long long with[6] = {0, 65536, 0, 0, 512ull << 20, 8 << 20};
     if (argc < 2 || argc > 7) return fputs("recut SAMPLES [INPUT [BYTES [FLAGS [LIMIT [ROOM]]]]]\n", stderr), 64;
     for (int i = 1; i < argc; i++) with[i - 1] = strtoull(argv[i], NULL, 10);
-    size_t size = with[1] ? with[1] : 1, len = 0, taken = 0, given = 0;
-    unsigned char *input = calloc(size, 1), *out = calloc(131072, 1);
-    if (!input || !out) return 4;
+    /* Reads, and the copies of media from one to the other, are faster where both begin on a page. */
+    static _Alignas(4096) unsigned char input[65536], out[131072];
+    size_t size = with[1] < sizeof input ? with[1] + !with[1] : sizeof input, len = 0, taken = 0, given = 0;
+    setvbuf(stdout, NULL, _IONBF, 0); /* so that fwrite copies nothing */
     struct fmp4_stream stream = {0};
     struct fmp4_report report = {0};
     uint32_t answer = fmp4_split_open(&stream, (uint32_t)with[0], with[2], (uint32_t)with[3], with[4], with[5]);
     if (answer != FMP4_OK) return fprintf(stderr, "recut: the stream isn't opened: %u\n", (unsigned)answer), 64;
     int is_written = 1;
     while (is_written && answer <= FMP4_FULL && (len = fread(input, 1, size, stdin)) > 0)
-        for (size_t at = 0; is_written && answer <= FMP4_FULL && (at < len || given == 131072); at += taken) {
-            answer = fmp4_feed_take(&stream, input + at, len - at, &taken, out, 131072, &given);
+        for (size_t at = 0; is_written && answer <= FMP4_FULL && (at < len || given == sizeof out); at += taken) {
+            answer = fmp4_feed_take(&stream, input + at, len - at, &taken, out, sizeof out, &given);
             is_written = fwrite(out, 1, given, stdout) == given;
         }
     answer = fmp4_finish(&stream, &report);
-    if (is_written) is_written = drain(&stream, out, 131072) && fflush(stdout) == 0;
+    if (is_written) is_written = drain(&stream, out, sizeof out) && fflush(stdout) == 0;
     fmp4_close(&stream);
-    free(input);
-    free(out);
     if (!is_written || ferror(stdin)) return fputs("recut: a read or a write failed\n", stderr), 3;
     report_end(answer, &report);
     return answer == FMP4_OK ? 0 : answer == FMP4_FAULT ? 2 : answer == FMP4_NO_ROOM ? 3 : 4;
