@@ -94,7 +94,8 @@ enum fmp4_answer {
     FMP4_OVER_LIMIT = 4,    /* a moov or moof asks for more than the limit leaves. All output before it was written */
     FMP4_NO_MEMORY = 5,     /* malloc has none for it. The same */
 
-    FMP4_NO_RECORD = 6,     /* no record waits: feed more */
+    /* The stream goes on */
+    FMP4_NO_RECORD = 6,     /* no record waits, and none was taken: feed more */
 
     /* Misuse: the call did nothing */
     FMP4_NOT_OPEN = 16,     /* before an open */
@@ -154,7 +155,7 @@ uint32_t fmp4_list_open_as(struct fmp4_stream *stream, uint32_t layout, uint32_t
 
 /* Feeds the next `len` bytes of the stream, or the first *taken of them: go on with the rest. A cut takes at most a
  * 128th of what is free in the room at once (a 512th with an index), a byte at the least, and nothing (FMP4_FULL)
- * while more than half of the room is filled. Where this answers FMP4_OK, FMP4_FULL or FMP4_FAULT, all output that the
+ * while more than half of the room is filled; so does a listing, a 512th where it is of samples. Where this answers FMP4_OK, FMP4_FULL or FMP4_FAULT, all output that the
  * bytes so far determine waits to be taken, but for what was taken. *taken is 0 where it misuses the stream, and after
  * a stop.
  *   FMP4_FULL; FMP4_FAULT, FMP4_NO_ROOM, FMP4_OVER_LIMIT, FMP4_NO_MEMORY; FMP4_NOT_OPEN, FMP4_CLOSED, FMP4_ENDED */
