@@ -1,7 +1,8 @@
-//! The C library of fmp4: a fragmented stream is fed as it comes, and recut, checked or listed; its output is taken from the front.
+//! The C library of fmp4: a fragmented stream is fed as it comes, and recut, checked or listed; its output is taken from
+//! the front.
 //!
-//! - [`exports`]: what C calls, [`opening`]: how a stream is opened, by what is [`asked`] for, and [`settings`]: its limit, and
-//!   another stream; [`fragments`]: records of what is listed; [`names`]: those of the rules;
+//! - [`exports`]: what C calls, [`opening`]: how a stream is opened, by what is [`asked`] for, and [`settings`]: its
+//!   limit, and another stream; [`fragments`]: records of what is listed; [`names`]: those of the rules;
 //! - [`answer`]: the result of a call, as a number, and [`report`]: what was counted, and which rule is broken;
 //! - [`stream`]: what C keeps, with [`handle`]: the pointer in it, and [`engine`]: what that points to;
 //! - [`output`]: what waits to be taken, and [`ahead`]: output that doesn't.
