@@ -10,7 +10,7 @@
 # make clean        removes all that was built
 # install, uninstall, clean and manual need no Rattle, nor does c_tests where program and library are built. The other
 # targets are for working on fmp4.
-IN ?= crates/real_streams/data/audio.mp4
+IN ?= crates/test_streams/data/audio.mp4
 SAMPLES ?= 15
 PREFIX ?= /usr/local
 # Where libraries are below PREFIX.
@@ -25,8 +25,8 @@ UP = $(shell echo "$(LIBDIR)/pkgconfig" | sed 's|[^/][^/]*|..|g')
 WITH_VERSION = sed "1s/ fmp4 / \"fmp4 $$(cat VERSION)\" /; s/^The number in VERSION.*/fmp4 $$(scripts/version)/"
 PUT = install -m 644 /dev/stdin
 
-.PHONY: demo build lib c_tests moof_runs cut_pieces push_pieces test mutants install install_lib uninstall dist \
-    clean refusals recipes play manual bench bench_instructions
+.PHONY: demo build lib c_tests bench_jobs test mutants install install_lib uninstall dist clean \
+    refusals recipes play manual bench bench_instructions
 
 demo:
 	@scripts/demo "$(IN)" "$(SAMPLES)"
@@ -42,14 +42,8 @@ c_tests:
 	@if command -v rt > /dev/null; then $(MAKE) -s build lib; fi
 	@scripts/c_tests
 
-moof_runs:
-	@scripts/build moof_runs
-
-cut_pieces:
-	@scripts/build cut_pieces
-
-push_pieces:
-	@scripts/build push_pieces
+bench_jobs:
+	@scripts/build bench_jobs
 
 test:
 	@scripts/needs_rt
@@ -108,7 +102,7 @@ clean:
 	rm -rf crates/*/out c/out dist
 
 # Runs the program with each of its allocations refused in turn, and a Feeder; make test does so too.
-refusals: build push_pieces
+refusals: build bench_jobs
 	@scripts/refused_allocations
 
 # Runs the command lines of the recipes and of the front page, compares what they print, and runs the manual page's
@@ -125,7 +119,7 @@ manual:
 	@scripts/check_manual
 
 # Measures the program beside others; see bench/README.md.
-bench: build lib moof_runs cut_pieces push_pieces
+bench: build lib bench_jobs
 	@bench/large_boxes
 	@bench/small_boxes
 	@bench/many_tracks
@@ -141,5 +135,5 @@ bench: build lib moof_runs cut_pieces push_pieces
 # It counts the programs as the gate builds them, for x86-64-v2, and leaves these.
 bench_instructions:
 	@CPU=x86-64-v2 scripts/build fmp4 boxes
-	@CPU=x86-64-v2 scripts/build push_pieces
+	@CPU=x86-64-v2 scripts/build bench_jobs
 	@bench/instructions

@@ -165,8 +165,8 @@ uint32_t fmp4_feed(struct fmp4_stream *FMP4_RESTRICT stream, const uint8_t *FMP4
 /* As fmp4_take and then fmp4_feed, and the output of the input follows in `out` at once, without a copy in the room:
  * *given says how many bytes of output, less than `size` only where no more wait; what doesn't fit waits. So a loop over
  * an input sees FMP4_FULL only where `out` is smaller than what waits, and calls again. An `out` of twice the input
- * serves best: what doesn't fit is copied once more. A stream that has stopped still gives what waits. What lies after
- * the *given bytes in `out` may change.
+ * serves best: what doesn't fit is copied once more. FMP4_NO_ROOM comes only where `out` was filled and the room is full.
+ * A stream that has stopped still gives what waits. What lies after the *given bytes in `out` may change.
  *   As fmp4_feed; *given is 0 where it misuses the stream */
 uint32_t fmp4_feed_take(struct fmp4_stream *FMP4_RESTRICT stream, const uint8_t *FMP4_RESTRICT input, size_t len,
                         size_t *FMP4_RESTRICT taken, uint8_t *FMP4_RESTRICT out, size_t size,

@@ -1,5 +1,5 @@
-//! Cuts the first run of a moof and counts the bytes that are written for its pieces, as crates/cut_pieces does: plain Rust,
-//! with std alone, made to be fast. What it reads is taken to be as it must be: a number of samples in four bytes, a moov
+//! Cuts the first run of a moof and counts the bytes that are written for its pieces, as crates/bench_jobs does: plain Rust,
+//! with std alone, made to be fast. What it reads is taken to be as it must be: a number of samples in four bytes, eight bytes, a moov
 //! with one track, and a moof with one traf of tfhd, tfdt and trun.
 
 use std::io::{self, Read};
@@ -141,8 +141,8 @@ fn main() -> io::Result<()> {
     let mut stream = Vec::new();
     io::stdin().read_to_end(&mut stream)?;
     let most = number(&stream, 0);
-    let moov_len = number(&stream, 4) as usize;
-    let run = read(&stream[4..4 + moov_len], &stream[4 + moov_len..]);
+    let moov_len = number(&stream, 12) as usize;
+    let run = read(&stream[12..12 + moov_len], &stream[12 + moov_len..]);
     let mut out = Out { block: Vec::with_capacity(BLOCK), bytes: 0, writes: 0 };
     let mut pieces = 0;
     let mut first = 0;

@@ -1,4 +1,4 @@
-/* room < crates/sound_stream/stdin: which streams find room in the 2 MiB that serve where output is taken after each
+/* room < crates/test_streams/stdin: which streams find room in the 2 MiB that serve where output is taken after each
  * feed, and where it is taken only when a feed answers FMP4_FULL: samples of 1 to 24 bytes in one fragment and in
  * many, cut by 1 to 1,000, with an index and without, in inputs of 4 to 128 KiB. And what a stream still stops for,
  * on each side: a moov, a head and an index that are larger than what is free, and samples without bytes. The moov,

@@ -2,9 +2,6 @@
 //! fragments into shorter ones.
 #![tactic(auto)]
 
-#[cfg(test)]
-mod tests;
-
 use fmp4_program::start;
 use std::process::ExitCode;
 

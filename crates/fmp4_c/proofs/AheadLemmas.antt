@@ -1,16 +1,20 @@
 -- A buffer that is filled, and the room that comes after it.
-use Rattle.std.proofs.Common.{◌≡◌, ◌∙◌, ℕ, ◌+◌, List, ◌∷◌, ◌++◌, append_assoc, length, take, drop, min, Some, Result, Ok, Err, ap, refl, subst, sym}
+use Rattle.std.proofs.Common.{◌≡◌, ◌∙◌, ℕ, ◌+◌, ◌≤◌, List, ◌∷◌, ◌++◌, append_assoc, length, take, drop, min, Bool, true, false, nat_lt, if◌then◌else◌, Some, Result, Ok, Err, ap, arith, refl, subst, sym}
+use Rattle.std.proofs.lemmas.Bool.Decides.{nat_tests}
+use Rattle.std.specs.Prelude.{IsErrOf}
 use Rattle.std.proofs.lemmas.List.{take-append-drop, take_min}
 use Rattle.mp4_ledger.specs.Memory.{Account}
 use Rattle.mp4_machine.specs.Fed.{Borrowed}
 use Rattle.mp4_machine.specs.declared.stop.Stop.{Stop}
-use Rattle.mp4_push.specs.Feeders.{Feeding, Feeds}
+use Rattle.mp4_machine.specs.declared.stop.Stop.TheVariants.{Write}
+use Rattle.mp4_push.specs.Feeders.{Feeding, Feeds, held_by, sums_of}
 use Rattle.mp4_recut.specs.declared.operation.Operation.{Operation}
-use Rattle.fmp4_c.specs.Answers.{answer_to}
+use Rattle.fmp4_c.specs.Answers.{answer_to, number_of}
 use Rattle.fmp4_c.specs.Engines.{Holds, IsPortion, Run, Stopped, after_take}
-use Rattle.fmp4_c.specs.PendingOutput.{PendingOutput, ahead}
+use Rattle.fmp4_c.specs.PendingOutput.{PendingOutput, ahead, is_full}
 use Rattle.fmp4_c.specs.declared.answer.Answer.{Answer}
-use Rattle.fmp4_c.proofs.HoldLemmas.{Grows, after-its, fed, head-is, holds-taken, operation-its, stopped, stopped-taken, tail-is, text-its}
+use Rattle.fmp4_c.specs.declared.answer.Answer.TheVariants.{NoRoom}
+use Rattle.fmp4_c.proofs.HoldLemmas.{Grows, after-its, fed, head-is, holds-taken, only-write, operation-its, stopped, stopped-taken, tail-is, text-its}
 
 -- what a Feeder borrows where its output goes there
 abbrev pub into : (x y room room' at at' : ℕ) → (filled filled' waiting waiting' : List ℕ) → (whole whole' : ℕ) → (account account' : Account) → Borrowed
@@ -22,6 +26,22 @@ into x y room room' at at' filled filled' waiting waiting' whole whole' account 
   account = account;
   account' = account';
 }
+
+-- where both are full, the buffer is filled to its end
+pub at-end : (at len : ℕ) (failed : Bool) → is_full at len failed ≡ true → (len ≤ at) × (failed ≡ true)
+at-end at len failed full = by (nat_lt at len) refl
+  where
+    by : (u : Bool) → nat_lt at len ≡ u → (len ≤ at) × (failed ≡ true)
+    by true e =
+        let wrong : false ≡ true = sym (ap (λ (u : Bool). if u then false else failed) e) ∙ full in
+        absurd cc
+    by false e = (grind (arith, nat_tests, e), sym (ap (λ (u : Bool). if u then false else failed) e) ∙ full)
+
+-- nothing but a failed write has the number of want of room
+pub wrote : (b input : List ℕ) (p p' : Feeding) (l : Borrowed) (result : Result (Unit {0}) Stop) (e : Stop) → result ≡ Err e → Feeds {T = Unit {0}} b input p p' l result → number_of (answer_to e) ≡ number_of NoRoom → IsErrOf {T = Unit {0}} result Write
+wrote b input p p' l result e is feeds number =
+    let fed : Feeds {T = Unit {0}} b input p p' l (Err e) = subst (λ (z : Result (Unit {0}) Stop). Feeds {T = Unit {0}} b input p p' l z) is feeds in
+    subst (λ (z : Result (Unit {0}) Stop). IsErrOf {T = Unit {0}} z Write) (sym is) (only-write p.operation b input l (held_by p) (sums_of p') e fed.err.0 number)
 
 -- up to where it is filled, as far as it goes
 pub moved : (b input : List ℕ) (p p' : Feeding) (x y room room' last-room at at' n most : ℕ) (filled filled' last waiting waiting' last-waiting : List ℕ) (whole whole' : ℕ) (account account' : Account) (r : Result (Unit {0}) Stop)

@@ -10,7 +10,6 @@ use Rattle.mp4_ledger.specs.contracts.ledger.Ledger as ledger
 use Rattle.mp4_machine.specs.contracts.block.Block as block
 use Rattle.mp4_fragment_machine.specs.contracts.machine.FragmentMachine as machine
 use Rattle.mp4_fragment_machine.specs.contracts.state.Recutting as recutting
-use Rattle.mp4_fragment_machine.specs.contracts.state.OpenRecutting as open_recutting
 use Rattle.mp4_fragment_machine.specs.contracts.state.Carried as carried
 use Rattle.mp4_fragment_machine.specs.contracts.state.State as state
 use Rattle.mp4_recut.specs.contracts.operation.Operation as operation
@@ -36,9 +35,6 @@ report_send = search (sendable, crosses) depth 40 fits 20000
 recutting_fields : AllSend (fields recutting.the_type)
 recutting_fields = (search (sendable, crosses) depth 40 fits 50000, (search (sendable, crosses) depth 40 fits 50000, (search (sendable, crosses) depth 40 fits 50000, (search (sendable, crosses) depth 40 fits 50000, (search (sendable, crosses) depth 40 fits 50000, tt)))))
 
-open_recutting_fields : AllSend (fields open_recutting.the_type)
-open_recutting_fields = (search (sendable, crosses) depth 40 fits 50000, (search (sendable, crosses) depth 40 fits 50000, (search (sendable, crosses) depth 40 fits 50000, (search (sendable, crosses) depth 40 fits 50000, (search (sendable, crosses) depth 40 fits 50000, tt)))))
-
 carried_fields : AllSend (fields carried.the_type)
 carried_fields = (search (sendable, crosses) depth 40 fits 50000, (search (sendable, crosses) depth 40 fits 50000, (search (sendable, crosses) depth 40 fits 50000, (search (sendable, crosses) depth 40 fits 50000, tt))))
 
@@ -47,7 +43,7 @@ carried_send = struct_send (shape carried.the_type) carried_fields
 
 -- by its variants, in their order
 state_variants : EachSend (variants.rowss (state.the_type).parts)
-state_variants = ((search (sendable, crosses) depth 40 fits 50000, tt), ((search (sendable, crosses) depth 40 fits 50000, tt), ((search (sendable, crosses) depth 40 fits 50000, tt), ((search (sendable, crosses) depth 40 fits 50000, (search (sendable, crosses) depth 40 fits 50000, tt)), ((search (sendable, crosses) depth 40 fits 50000, (search (sendable, crosses) depth 40 fits 50000, tt)), ((search (sendable, crosses) depth 40 fits 50000, tt), ((search (sendable, crosses) depth 40 fits 50000, tt), ((struct_send (shape recutting.the_type) recutting_fields, tt), ((struct_send (shape open_recutting.the_type) open_recutting_fields, tt), tt)))))))))
+state_variants = ((search (sendable, crosses) depth 40 fits 50000, tt), ((search (sendable, crosses) depth 40 fits 50000, tt), ((search (sendable, crosses) depth 40 fits 50000, tt), ((search (sendable, crosses) depth 40 fits 50000, (search (sendable, crosses) depth 40 fits 50000, tt)), ((search (sendable, crosses) depth 40 fits 50000, tt), ((struct_send (shape recutting.the_type) recutting_fields, tt), tt))))))
 
 state_send : IsSend (Enum (variants.shape state.the_type))
 state_send = enum_send (variants.shape state.the_type) state_variants

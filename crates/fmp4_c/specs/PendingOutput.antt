@@ -1,5 +1,5 @@
 -- Output that waits to be taken.
-use Rattle.std.specs.Prelude.{ℕ, List, [], ◌∷◌, ◌++◌, take, Bool, false, Some}
+use Rattle.std.specs.Prelude.{ℕ, List, [], ◌∷◌, ◌++◌, take, nat_lt, if◌then◌else◌, Bool, false, Some}
 use Rattle.mp4_machine.specs.Ends.{Sent}
 
 -- the bytes that were written and not yet taken, how many may wait, and whether a write found no room
@@ -11,6 +11,10 @@ pub record PendingOutput : Type 0 where
 -- none yet
 abbrev pub empty : ℕ → PendingOutput
 empty room = record { bytes = []; room = room; failed = false }
+
+-- whether a buffer that is filled up to a place, and the room that comes after it, have no place for a byte: a write to the room found none
+abbrev pub is_full : (at len : ℕ) → (failed : Bool) → Bool
+is_full at len failed = if nat_lt at len then false else failed
 
 -- what a buffer that is filled up to a place and the room that comes after it hold: which buffer and which room these are, how much the
 -- room can hold, and the bytes

@@ -1,10 +1,10 @@
 //! Output that goes to a buffer of the caller's first, and waits where that is full.
 
-ghost use Rattle.std.specs.Prelude.{◌≡◌, ℕ, ◌+◌, ◌<◌, ◌≤◌, List, [], ◌∷◌, ◌++◌, length, take, Some, None, true, IfErr, OnErr, OnOk, IsErrOf};
+ghost use Rattle.std.specs.Prelude.{◌≡◌, ℕ, ◌+◌, ◌<◌, ◌≤◌, List, [], ◌∷◌, ◌++◌, length, take, Some, None, true, false, IsTrue, IfErr, OnErr, OnOk, IsErrOf};
 ghost use Rattle.mp4_machine.specs.Fed.{borrowed};
 ghost use Rattle.mp4_machine.specs.declared.stop.Stop as stops;
 ghost use Rattle.mp4_push.specs.Feeders.{Feeds, IsAfter, held_by};
-ghost use Rattle.fmp4_c.specs.PendingOutput.{ahead, ahead_sent};
+ghost use Rattle.fmp4_c.specs.PendingOutput.{ahead, ahead_sent, empty, is_full};
 
 use crate::output::Output;
 use mp4_ends::{Failed, Sink};
@@ -40,14 +40,42 @@ fn put(buffer: &mut [u8], at: usize, from: &[u8]) -> usize
     count
 }
 
+/// Moves what waits to a buffer, from `at` on, as far as it goes: then the buffer is full, or nothing waits.
+fn move_up(buffer: &mut [u8], at: usize, rest: &mut Output) -> usize
+    requires { at ≤ length buffer.old }
+    ensures within { result ≤ length buffer.new }
+    ensures bytes { take result buffer.new ++ rest.new.bytes ≡ take at buffer.old ++ rest.old.bytes }
+    ensures emptied { result < length buffer.new → rest.new ≡ empty rest.old.room }
+    ensures room { rest.new.room ≡ rest.old.room }
+{
+    let end = at + rest.give(buffer, at);
+    if end < buffer.len() {
+        rest.clear();
+    }
+    end
+}
+
+impl<'a> Ahead<'a> {
+    /// Whether the buffer is filled to its end.
+    fn is_filled(&self) -> bool
+        ensures filled { IsTrue result → length self.now.buffer.now ≤ self.now.at }
+        ensures open { result ≡ false → self.now.at < length self.now.buffer.now }
+    {
+        self.at >= self.buffer.len()
+    }
+}
+
 impl<'a> Sink for Ahead<'a> {
     // Which buffer and which room these are comes first, so that no write changes it.
     ghost contents = { λ a. Some (ahead a.buffer.ghost_name a.rest.ghost_name a.rest.now.room a.at a.buffer.now a.rest.now.bytes) };
 
-    ghost has_failed = { λ a. a.rest.now.failed };
+    ghost has_failed = { λ a. is_full a.at (length a.buffer.now) a.rest.now.failed };
 
     fn write(&mut self, from: &[u8]) -> Result<usize, Failed> {
-        if self.rest.is_empty() && self.at < self.buffer.len() && !self.rest.is_full() {
+        if !self.is_filled() {
+            self.at = move_up(self.buffer, self.at, self.rest);
+        }
+        if !self.is_filled() {
             let count = put(self.buffer, self.at, from);
             self.at += count;
             return Ok(count);
@@ -56,11 +84,14 @@ impl<'a> Sink for Ahead<'a> {
     }
 
     fn flush(&mut self) -> Result<(), Failed> {
+        if !self.is_filled() {
+            return Ok(());
+        }
         self.rest.flush()
     }
 
     fn failed(&self) -> bool {
-        self.rest.is_full()
+        self.is_filled() && self.rest.is_full()
     }
 }
 
@@ -80,6 +111,8 @@ fn feed_through(
         w.new.buffer.ghost_name ≡ w.old.buffer.ghost_name }
     ensures same_rest { (b : List ℕ) → IsAfter feeder.old b →
         w.new.rest.ghost_name ≡ w.old.rest.ghost_name }
+    ensures full { feeder.old.stop ≡ None → IsErrOf result Stop.Write →
+        is_full w.new.at (length w.new.buffer.now) w.new.rest.now.failed ≡ true }
     ensures feeds { (b : List ℕ) → IsAfter feeder.old b → Feeds b input.now feeder.old feeder.new
         (borrowed (ahead_sent w.old.buffer.ghost_name w.old.rest.ghost_name w.old.at w.new.at
         w.old.buffer.now w.new.buffer.now w.old.rest.now w.new.rest.now)
@@ -119,10 +152,13 @@ pub(crate) fn feed_ahead(
     ensures limit { ledger.new.limit ≡ ledger.old.limit }
     ensures claim { held_by feeder.new ≤ ledger.new.live }
     ensures within { result.at ≤ length buffer.new }
+    ensures full { (b : List ℕ) → IsAfter feeder.old b → IsErrOf result.result Stop.Write →
+        (length buffer.new ≤ result.at) × (length rest.new.bytes ≡ rest.new.room) }
 {
     let most = buffer.len();
     let mut ahead = Ahead { buffer, at, rest };
     let result = feed_through(feeder, ledger, input, &mut ahead);
+    let _ = ahead.rest.is_full();
     Passed {
         at: ahead.at.min(most),
         result,

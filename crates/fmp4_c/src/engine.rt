@@ -190,6 +190,9 @@ impl Engine {
             FitsIn operation (b ++ take result.taken input.now) self.old (number_of result.answer) }
         ensures room { (operation : operations.Operation) → (b given : List ℕ) → Holds operation b given self.old →
             self.new.waiting.room ≡ self.old.waiting.room }
+        ensures no_room { (operation : operations.Operation) → (b given : List ℕ) → Holds operation b given self.old →
+            number_of result.answer ≡ number_of Answer.NoRoom →
+            (result.given ≡ length buffer.new) × (length self.new.waiting.bytes ≡ self.new.waiting.room) }
         ensures within { result.given ≤ length buffer.new }
         ensures most { (p : Feeding) → self.old.feeding ≡ Some p →
             result.given < length buffer.new → self.new.waiting.bytes ≡ [] }

@@ -105,6 +105,10 @@ pub extern "C" fn fmp4_feed_take(
     ensures room { (operation : operations.Operation) → (b before : List ℕ) → (r : Run) →
         stream.old.handle.held ≡ Some r → Holds operation b before r →
         IfSome stream.new.handle.held (λ r'. r'.waiting.room ≡ r.waiting.room) }
+    ensures no_room { (operation : operations.Operation) → (b before : List ℕ) → (r : Run) →
+        stream.old.handle.held ≡ Some r → Holds operation b before r →
+        result ≡ number_of Answer.NoRoom → (given.new ≡ length out.new) ×
+        IfSome stream.new.handle.held (λ r'. length r'.waiting.bytes ≡ r'.waiting.room) }
     ensures within { given.new ≤ length out.new }
     ensures most { (r : Run) → (p : Feeding) → stream.old.handle.held ≡ Some r → r.feeding ≡ Some p →
         given.new < length out.new →

@@ -11,3 +11,4 @@ pub mod SizeLemmas
 pub mod FilledLemmas
 pub mod ByteLemmas
 pub mod OffsetLemmas
+pub mod FlagLemmas

@@ -7,3 +7,4 @@ pub mod Order
 pub mod Paths
 pub mod Fields
 pub mod Checks
+pub mod Flags

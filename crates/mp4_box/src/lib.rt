@@ -9,15 +9,17 @@
 //! - [`rules`]: the rules, and the [`Fault`] of a stream that breaks one;
 //! - [`paths`]: the boxes on a path of types, [`Along`], and [`checks`]: what a box can be asked for, and asking it of
 //!   the boxes on a path, where [`note`] keeps the fault that is reported;
+//! - [`flags`]: the flag words of tfhd and trun, [`TfhdFlags`] and [`TrunFlags`], which keep the bits that are flags, and
+//!   [`of_word_keeps_flags`], the law that no flag is lost;
 //! - [`laws`]: what the definitions of `specs/` imply.
 //!
-//! It re-exports the ends of a stream, from [`Source`] to [`ends`], and the flag words of tfhd and trun, [`TfhdFlags`]
-//! and [`TrunFlags`]: their users name this crate.
+//! It re-exports the ends of a stream, from [`Source`] to [`ends`]: their users name this crate.
 #![tactic(auto)]
 
 mod box_ref;
 pub mod checks;
 pub mod fields;
+pub mod flags;
 pub mod headers;
 pub mod laws;
 mod order;
@@ -31,9 +33,9 @@ mod walk;
 pub use box_ref::BoxRef;
 pub use checks::{AtMostOne, Check, Layout, One, note_along};
 pub use fields::{array_at, full, i32_at, long_number_at, number_at, u32_at, u64_at, version_of};
+pub use flags::{Flags, TfhdFlags, TrunFlags, of_word_keeps_flags};
 pub use headers::{FourCc, Header, Size, Step, header_of};
 pub use mp4_ends::{Failed, FromRead, IntoWrite, Sink, Source, ends, write_all};
-pub use mp4_flags::{Flags, TfhdFlags, TrunFlags};
 pub use order::note;
 pub use paths::{Along, count_of, first_at};
 pub use reader::HeaderReader;

@@ -1,7 +1,7 @@
 -- The header of a track fragment, tfhd: its flags, its fields and its length (ISO/IEC 14496-12, 8.8.7).
 -- Its payload is version and flags, track_ID (32 bits) at 4, and then each field whose flag is set.
 use Rattle.std.specs.Prelude.{ℕ, Bool, List, ◌+◌, not, ◌&&◌, if◌then◌else◌}
-use Rattle.mp4_flags.specs.Flags.{has_flag}
+use Rattle.mp4_box.specs.Flags.{has_flag}
 use Rattle.mp4_box.specs.Fields.{number_in}
 use Rattle.mp4_frag.specs.Fields.{flags_in, place_if, width_if}
 use Rattle.mp4_frag.specs.declared.tfhd.TfhdFields.{TfhdFields}

@@ -2,7 +2,7 @@
 -- flags, sample_count (32 bits) at 4, data_offset and first_sample_flags where their flags are set, and a group of
 -- fields for each sample.
 use Rattle.std.specs.Prelude.{ℕ, ℤ, Bool, List, Option, Some, ◌==◌, ◌+◌, ◌*◌, ◌&&◌, nat_lt, if◌then◌else◌, length, option_map}
-use Rattle.mp4_flags.specs.Flags.{has_flag}
+use Rattle.mp4_box.specs.Flags.{has_flag}
 use Rattle.mp4_box.specs.declared.rules.Rule.{Rule}
 use Rattle.mp4_box.specs.declared.rules.Rule.TheVariants.{Version, FieldLength}
 use Rattle.mp4_box.specs.Checks.{unless}

@@ -30,7 +30,7 @@ pub struct TfhdFields {
 }
 
 /// The fields of a tfhd with these flags.
-#[tactic(auto, using(mp4_flags::proofs::FlagLemmas::mask_keeps_flag), unfolding(crate::specs::Tfhd::tfhd_fields))]
+#[tactic(auto, using(mp4_box::proofs::FlagLemmas::mask_keeps_flag), unfolding(crate::specs::Tfhd::tfhd_fields))]
 pub(crate) fn tfhd_fields(word: u32) -> TfhdFields
     ensures { result ≡ tfhd_fields word }
 {
@@ -64,7 +64,7 @@ pub(crate) fn track_id(payload: &[u8]) -> u32
 }
 
 /// Whether the data offsets count from the first byte of the moof.
-#[tactic(auto, using(mp4_flags::proofs::FlagLemmas::mask_keeps_flag))]
+#[tactic(auto, using(mp4_box::proofs::FlagLemmas::mask_keeps_flag))]
 pub(crate) fn counts_from_moof(word: u32) -> bool
     ensures { result ≡ counts_from_moof word }
 {
@@ -73,7 +73,7 @@ pub(crate) fn counts_from_moof(word: u32) -> bool
 }
 
 /// Whether there are no samples for the time of the fragment.
-#[tactic(auto, using(mp4_flags::proofs::FlagLemmas::mask_keeps_flag))]
+#[tactic(auto, using(mp4_box::proofs::FlagLemmas::mask_keeps_flag))]
 pub(crate) fn duration_is_empty(word: u32) -> bool
     ensures { result ≡ duration_is_empty word }
 {

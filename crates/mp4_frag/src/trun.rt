@@ -43,7 +43,7 @@ pub struct SampleFields {
 }
 
 /// The optional fields of a trun with these flags.
-#[tactic(auto, using(mp4_flags::proofs::FlagLemmas::mask_keeps_flag), unfolding(crate::specs::Trun::trun_fields))]
+#[tactic(auto, using(mp4_box::proofs::FlagLemmas::mask_keeps_flag), unfolding(crate::specs::Trun::trun_fields))]
 pub(crate) fn trun_fields(word: u32) -> TrunFields
     ensures value { result ≡ trun_fields word }
     ensures small { result.samples ≤ 16 }
@@ -60,7 +60,7 @@ pub(crate) fn trun_fields(word: u32) -> TrunFields
 }
 
 /// The fields of a sample of a trun with these flags.
-#[tactic(auto, using(mp4_flags::proofs::FlagLemmas::mask_keeps_flag), unfolding(crate::specs::Trun::sample_fields))]
+#[tactic(auto, using(mp4_box::proofs::FlagLemmas::mask_keeps_flag), unfolding(crate::specs::Trun::sample_fields))]
 pub(crate) fn sample_fields(word: u32) -> SampleFields
     ensures value { result ≡ sample_fields word }
     ensures small { result.len ≤ 16 }
@@ -111,7 +111,7 @@ pub(crate) fn first_sample_flags(payload: &[u8]) -> Option<u32>
 }
 
 /// Whether a trun with these flags gives sample 0 its flags in two places.
-#[tactic(auto, using(mp4_flags::proofs::FlagLemmas::mask_keeps_flag))]
+#[tactic(auto, using(mp4_box::proofs::FlagLemmas::mask_keeps_flag))]
 pub(crate) fn has_flags_conflict(word: u32) -> bool
     ensures { result ≡ flags_conflict word }
 {

@@ -14,7 +14,9 @@ use Rattle.mp4_ledger.specs.Memory.{Account, given_back}
 use Rattle.mp4_init.specs.declared.table.Track.{Track}
 use Rattle.mp4_machine.specs.Accounts.{Counts, Spends}
 use Rattle.mp4_machine.specs.Blocks.{Breaks, Passes, Pending}
-use Rattle.mp4_machine.specs.Bodies.{fault, least_end, longest, body_item, open_body_item}
+use Rattle.mp4_machine.specs.Bodies.{HasBytes, IsOpen, body_item, extent_after, extent_of, fault, latest_end, least_end, left_of, longest, open_body_item}
+use Rattle.mp4_machine.specs.declared.body.Extent.{Extent}
+use Rattle.mp4_machine.specs.declared.body.Extent.TheVariants as extents
 use Rattle.mp4_machine.specs.Readings.{Faulty, Reading, after, says, no_effects, then_read}
 use Rattle.mp4_machine.specs.Inputs.{Environment, Moves, GoesOn, Refuses, WriteFailed, environment}
 use Rattle.mp4_machine.specs.declared.tally.Tally.{Tally}
@@ -28,7 +30,8 @@ use Rattle.mp4_grammar.specs.Items.{passing, reads_in}
 use Rattle.mp4_grammar.specs.Kinds.{kind_in}
 use Rattle.mp4_grammar.specs.Meanings.{Meaning}
 use Rattle.mp4_grammar.specs.declared.kinds.Kind.TheVariants.{Other}
-use Rattle.mp4_fragment_machine.specs.Places.{InBody, InHeader, InOpenBody, continuation_at, reads_at}
+use Rattle.mp4_fragment_machine.specs.Places.{InBody, InHeader, InOpenBody, claim_of, continuation_at, reads_at}
+use Rattle.mp4_fragment_machine.specs.States.{in_extent}
 use Rattle.mp4_fragment_machine.proofs.HeadLemmas.{reads-kind}
 
 -- what is claimed is given back
@@ -42,7 +45,7 @@ module _ (meaning : Meaning) (at : ℕ) (kind : FourCc) (a b : Option (List ℕ)
   Moves-says own x p = record { passes = p; counts = Counts-none account own; tallied = sym (plus-none tally) }
 
   -- some bytes of its body came
-  pub GoesOn-says : (next : Context) (x : List ℕ) (left own : ℕ) → length x ≤ left → left ≤ next.at → Passes a b v w x
+  GoesOn-says : (next : Context) (x : List ℕ) (left own : ℕ) → length x ≤ left → left ≤ next.at → Passes a b v w x
       → GoesOn (environment a v account tally) (environment b w account tally) (continuation_at meaning (InBody (λ l. says l) at kind next left own)) x (continuation_at meaning (InBody (λ l. says l) at kind next (left - length x) own))
   GoesOn-says next x left own h low p = record {
     produced = says x;
@@ -51,7 +54,7 @@ module _ (meaning : Meaning) (at : ℕ) (kind : FourCc) (a b : Option (List ℕ)
     rest = body-some (reads_in meaning) at kind next (λ l. says l) (λ l. says l) (says x) x left (λ later. refl) h;
   }
 
-  pub GoesOn-open_says : (x : List ℕ) (needed left own : ℕ) → length x ≤ left → left ≤ longest → Passes a b v w x
+  GoesOn-open_says : (x : List ℕ) (needed left own : ℕ) → length x ≤ left → left ≤ longest → Passes a b v w x
       → GoesOn (environment a v account tally) (environment b w account tally) (continuation_at meaning (InOpenBody (λ l. says l) at kind needed left own)) x (continuation_at meaning (InOpenBody (λ l. says l) at kind (needed - length x) (left - length x) own))
   GoesOn-open_says x needed left own h low p = record {
     produced = says x;
@@ -64,7 +67,7 @@ module _ (meaning : Meaning) (at : ℕ) (kind : FourCc) (a b : Option (List ℕ)
   cut_at n input later = ap (λ l. l ++ later) (sym (take-append-drop n input)) ∙ append_assoc (take n input) (drop n input) later
 
   -- they could not be written
-  pub WriteFailed-says : (next : Context) (left own n : ℕ) (input later : List ℕ) → n ≤ left → n ≤ length input → own ≤ account.live → Breaks a b v w (take n input)
+  WriteFailed-says : (next : Context) (left own n : ℕ) (input later : List ℕ) → n ≤ left → n ≤ length input → own ≤ account.live → Breaks a b v w (take n input)
       → WriteFailed (environment a v account tally) (environment b w (given_back account own) tally) own (reads_at meaning (InBody (λ l. says l) at kind next left own) (input ++ later))
   WriteFailed-says next left own n input later few within low p =
       let x = take n input in
@@ -74,7 +77,7 @@ module _ (meaning : Meaning) (at : ℕ) (kind : FourCc) (a b : Option (List ℕ)
       (ap (reads_at meaning (place left)) (cut_at n input later) ∙ body-some (reads_in meaning) at kind next (λ l. says l) (λ l. says l) (says x) x left (λ later. refl) (omega (arith, len, few)) (drop n input ++ later))
       p (spends-back account own low) (sym (plus-none tally))
 
-  pub WriteFailed-open_says : (needed left own n : ℕ) (input later : List ℕ) → n ≤ left → n ≤ length input → own ≤ account.live → Breaks a b v w (take n input)
+  WriteFailed-open_says : (needed left own n : ℕ) (input later : List ℕ) → n ≤ left → n ≤ length input → own ≤ account.live → Breaks a b v w (take n input)
       → WriteFailed (environment a v account tally) (environment b w (given_back account own) tally) own (reads_at meaning (InOpenBody (λ l. says l) at kind needed left own) (input ++ later))
   WriteFailed-open_says needed left own n input later few within low p =
       let x = take n input in
@@ -82,6 +85,26 @@ module _ (meaning : Meaning) (at : ℕ) (kind : FourCc) (a b : Option (List ℕ)
       WriteFailed-emitted (environment a v account tally) (environment b w (given_back account own) tally) own (says x) (reads_at meaning (InOpenBody (λ l. says l) at kind (needed - length x) (left - length x) own) (drop n input ++ later)) (reads_at meaning (InOpenBody (λ l. says l) at kind needed left own) (input ++ later))
       (ap (reads_at meaning (InOpenBody (λ l. says l) at kind needed left own)) (cut_at n input later) ∙ open-some (reads_in meaning) at kind first_context (λ l. says l) (λ l. says l) (says x) x needed left (λ later. refl) (omega (arith, len, few)) (drop n input ++ later))
       p (spends-back account own low) (sym (plus-none tally))
+
+  -- so it is by how far the body goes
+  pub GoesOn-copied : (tracks : Option (List Track)) (number left own n : ℕ) (e : Extent) (input : List ℕ) → n ≤ left → n ≤ length input → left ≤ latest_end e → Passes a b v w (take n input)
+      → GoesOn (environment a v account tally) (environment b w account tally) (continuation_at meaning (in_extent (λ l. says l) at kind tracks number left own e)) (take n input) (continuation_at meaning (in_extent (λ l. says l) at kind tracks number (left - n) own (extent_after n e)))
+  GoesOn-copied tracks number left own n (extents.Sized next) input few within low p =
+      let x = take n input in
+      let len : length x ≡ n = length-take-le n input within in
+      let place = λ (k : ℕ). InBody (λ l. says l) at kind (context next tracks number) k own in
+      subst (λ k. GoesOn (environment a v account tally) (environment b w account tally) (continuation_at meaning (place left)) x (continuation_at meaning (place (left - k)))) len
+      (GoesOn-says (context next tracks number) x left own (omega (arith, len, few)) low p)
+  GoesOn-copied tracks number left own n (extents.Open needed) input few within low p =
+      let x = take n input in
+      let len : length x ≡ n = length-take-le n input within in
+      subst (λ k. GoesOn (environment a v account tally) (environment b w account tally) (continuation_at meaning (InOpenBody (λ l. says l) at kind needed left own)) x (continuation_at meaning (InOpenBody (λ l. says l) at kind (needed - k) (left - k) own))) len
+      (GoesOn-open_says x needed left own (omega (arith, len, few)) low p)
+
+  pub WriteFailed-copied : (tracks : Option (List Track)) (number left own n : ℕ) (e : Extent) (input later : List ℕ) → n ≤ left → n ≤ length input → own ≤ account.live → Breaks a b v w (take n input)
+      → WriteFailed (environment a v account tally) (environment b w (given_back account own) tally) (claim_of (in_extent (λ l. says l) at kind tracks number left own e)) (reads_at meaning (in_extent (λ l. says l) at kind tracks number left own e) (input ++ later))
+  WriteFailed-copied tracks number left own n (extents.Sized next) input later few within low p = WriteFailed-says (context next tracks number) left own n input later few within low p
+  WriteFailed-copied tracks number left own n (extents.Open needed) input later few within low p = WriteFailed-open_says needed left own n input later few within low p
 
 -- all of its body came
 pub GoesOn-says_over : (meaning : Meaning) (at : ℕ) (kind : FourCc) (o : Environment) (next : Context) (left : ℕ) → left ≡ 0
@@ -130,7 +153,7 @@ module _ (meaning : Meaning) (o : Environment) (at number : ℕ) (tracks : Optio
     rest = rest-copy s size room;
   }
 
-  pub GoesOn-copy_open : h.size ≡ ToEnd → (a : Option (List ℕ)) (v : Pending) → Passes o.written a o.waiting v x
+  GoesOn-copy_open : h.size ≡ ToEnd → (a : Option (List ℕ)) (v : Pending) → Passes o.written a o.waiting v x
       → GoesOn o (environment a v o.account o.tally) (continuation_at meaning (InHeader (context at tracks number) x)) [] (continuation_at meaning (InOpenBody (λ l. says l) at h.kind 0 (longest - (at + h.header_len)) (table_of tracks)))
   GoesOn-copy_open size a v p =
       let far : at + h.header_len ≤ longest = subst (λ z. least_end at h z ≤ longest) size near in
@@ -140,6 +163,11 @@ module _ (meaning : Meaning) (o : Environment) (at number : ℕ) (tracks : Optio
         reached = omega (arith, far, long);
         rest = rest-copy_open size;
       }
+
+  pub GoesOn-copy_body : (size : Size) → h.size ≡ size → HasBytes at h size → (a : Option (List ℕ)) (v : Pending) → Passes o.written a o.waiting v x
+      → GoesOn o (environment a v o.account o.tally) (continuation_at meaning (InHeader (context at tracks number) x)) [] (continuation_at meaning (in_extent (λ l. says l) at h.kind tracks number (left_of at h size) (table_of tracks) (extent_of at 0 size)))
+  GoesOn-copy_body (Exact s) is some a v p = GoesOn-copy s is (omega (arith, some.0)) a v p
+  GoesOn-copy_body ToEnd is some a v p = GoesOn-copy_open is a v p
 
   -- its header could not be written
   pub WriteFailed-copy : HasRoom h.size h.header_len → (a : Option (List ℕ)) (v : Pending) → Breaks o.written a o.waiting v x → table_of tracks ≤ o.account.live → (later : List ℕ)
@@ -155,7 +183,7 @@ module _ (meaning : Meaning) (o : Environment) (at number : ℕ) (tracks : Optio
 -- ---- it goes too far
 
 -- the bytes before the fault were put, and the track table is given back
-pub Refuses-open_says : (meaning : Meaning) (at : ℕ) (kind : FourCc) (a b : Option (List ℕ)) (v w : Pending) (account : Account) (tally : Tally) (needed left own : ℕ) (input more : List ℕ) → own ≤ account.live → left < length input → Passes a b v w (take left input)
+Refuses-open_says : (meaning : Meaning) (at : ℕ) (kind : FourCc) (a b : Option (List ℕ)) (v w : Pending) (account : Account) (tally : Tally) (needed left own : ℕ) (input more : List ℕ) → own ≤ account.live → left < length input → Passes a b v w (take left input)
     → Refuses (environment a v account tally) (environment b w (given_back account own) tally) (continuation_at meaning (InOpenBody (λ l. says l) at kind needed left own)) (input ++ more) (fault StreamTooLong (Some kind) at)
 Refuses-open_says meaning at kind a b v w account tally needed left own input more low far p =
     let none : own - own ≡ 0 = omega arith in
@@ -170,3 +198,8 @@ Refuses-open_says meaning at kind a b v w account tally needed left own input mo
           open-far (reads_in meaning) at kind first_context (λ l. says l) needed left ((input ++ more) ++ later) (omega (arith, far, length-append input more, length-append (input ++ more) later))
           ∙ ap (λ l. record { effects = says l; outcome = Faulty (fault StreamTooLong (Some kind) at) }) (ap (take left) (append_assoc input more later) ∙ take-append-le left input (more ++ later) (omega (arith, far)));
     }
+
+pub Refuses-copied : (meaning : Meaning) (at : ℕ) (kind : FourCc) (a b : Option (List ℕ)) (v w : Pending) (account : Account) (tally : Tally) (tracks : Option (List Track)) (number left own : ℕ) (e : Extent) (input more : List ℕ) → IsOpen e → own ≤ account.live → left < length input → Passes a b v w (take left input)
+    → Refuses (environment a v account tally) (environment b w (given_back account own) tally) (continuation_at meaning (in_extent (λ l. says l) at kind tracks number left own e)) (input ++ more) (fault StreamTooLong (Some kind) at)
+Refuses-copied meaning at kind a b v w account tally tracks number left own (extents.Sized next) input more is low far p = absurd is
+Refuses-copied meaning at kind a b v w account tally tracks number left own (extents.Open needed) input more is low far p = Refuses-open_says meaning at kind a b v w account tally needed left own input more low far p

@@ -2,6 +2,7 @@
 use Rattle.std.proofs.Common.{◌≡◌, ◌∙◌, ℕ, ◌+◌, ◌-◌, ◌<◌, ◌≤◌, List, [], ◌∷◌, ◌++◌, length, take, drop, Option, None, Some, append-nil, ap, sym, refl, arith, length-append, subst}
 use Rattle.std.proofs.Math.Seq.{take-append_seam, drop-append_seam}
 use Rattle.mp4_box.specs.declared.headers.Header.{Header}
+use Rattle.mp4_box.specs.declared.headers.Size.{Size}
 use Rattle.mp4_box.specs.declared.headers.Size.TheVariants.{Exact, ToEnd}
 use Rattle.mp4_box.specs.declared.headers.Step.{Step}
 use Rattle.mp4_box.specs.declared.headers.Step.TheVariants as steps
@@ -13,7 +14,7 @@ use Rattle.mp4_box.specs.declared.rules.Fault.{Fault}
 use Rattle.mp4_init.specs.declared.table.Track.{Track}
 use Rattle.mp4_ledger.specs.declared.ledger.Refused.{Refused}
 use Rattle.mp4_ledger.specs.declared.ledger.Refused.TheVariants as refusals
-use Rattle.mp4_machine.specs.Bodies.{longest, fault, at_fault, cut_off, least_end, body_item, open_body_item}
+use Rattle.mp4_machine.specs.Bodies.{HasBytes, longest, fault, at_fault, cut_off, extent_of, least_end, left_of, body_item, open_body_item}
 use Rattle.mp4_machine.specs.Readings.{fault_in, empty_reading, Faulty, Last, Effects, no_effects, requests_memory, after, then_read}
 use Rattle.mp4_machine.specs.Inputs.{Environment, Continuation, Moves, GoesOn, Refuses, ClaimRefused, StopsAt, refusal_of}
 use Rattle.mp4_machine.proofs.BodyLemmas.{body-some, open-some, nat_lt_true, nat_lt_false}
@@ -31,6 +32,7 @@ use Rattle.mp4_grammar.proofs.ItemLemmas.{item-items}
 use Rattle.mp4_grammar.specs.Meanings.{FragmentEndsPast}
 use Rattle.mp4_grammar.proofs.PastLemmas.{kept-past}
 use Rattle.mp4_fragment_machine.specs.Places.{InBody, InHeader, InBuffered, InOpenBody, continuation_at}
+use Rattle.mp4_fragment_machine.specs.States.{in_extent}
 
 -- ---- what the bytes are read as
 
@@ -176,7 +178,7 @@ module _ (meaning : Meaning) (o : Environment) (at number : ℕ) (tracks : Optio
       ∙ body-some (reads_in meaning) at h.kind (context (at + s) tracks number) (meaning.passed h.kind) (λ _. no_effects) no_effects x s (λ l. silence (x ++ l)) (omega (arith, room, long)) later
       ∙ after-silent _ ∙ ap (λ n. then_read (reads_in meaning) (body_item (λ _. no_effects) at h.kind (context (at + s) tracks number) (s - n) later)) (sym long))
 
-  pub GoesOn-other_open : h.size ≡ ToEnd → GoesOn o o (continuation_at meaning (InHeader (context at tracks number) x)) [] (continuation_at meaning (InOpenBody (λ _. no_effects) at h.kind 0 (longest - (at + h.header_len)) (table_of tracks)))
+  GoesOn-other_open : h.size ≡ ToEnd → GoesOn o o (continuation_at meaning (InHeader (context at tracks number) x)) [] (continuation_at meaning (InOpenBody (λ _. no_effects) at h.kind 0 (longest - (at + h.header_len)) (table_of tracks)))
   GoesOn-other_open size =
       let far : at + h.header_len ≤ longest = subst (λ z. least_end at h z ≤ longest) size near in
       let less : longest - at - length x ≡ longest - (at + h.header_len) = omega (arith, long) in
@@ -186,6 +188,11 @@ module _ (meaning : Meaning) (o : Environment) (at number : ℕ) (tracks : Optio
       ∙ open-some (reads_in meaning) at h.kind (context at tracks number) (meaning.passed h.kind) (λ _. no_effects) no_effects x 0 (longest - at) (λ l. silence (x ++ l)) (omega (arith, far, long)) later
       ∙ after-silent _ ∙ ap (λ n. then_read (reads_in meaning) (open_body_item (λ _. no_effects) at h.kind (0 - length x) n later)) less
       ∙ ap (λ n. then_read (reads_in meaning) (open_body_item (λ _. no_effects) at h.kind n (longest - (at + h.header_len)) later)) none)
+
+  pub GoesOn-other_body : (size : Size) → h.size ≡ size → HasBytes at h size
+      → GoesOn o o (continuation_at meaning (InHeader (context at tracks number) x)) [] (continuation_at meaning (in_extent (λ _. no_effects) at h.kind tracks number (left_of at h size) (table_of tracks) (extent_of at 0 size)))
+  GoesOn-other_body (Exact s) is some = GoesOn-other s is (omega (arith, some.0))
+  GoesOn-other_body ToEnd is some = GoesOn-other_open is
 
 -- ---- the end of the stream
 

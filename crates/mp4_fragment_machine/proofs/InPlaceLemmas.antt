@@ -20,6 +20,7 @@ use Rattle.mp4_machine.specs.Bodies.{least_end, longest}
 use Rattle.mp4_machine.specs.Blocks.{Breaks, Passes, Pending}
 use Rattle.mp4_machine.specs.Inputs.{Continuation, Environment, GoesOn, StopsAt, WriteFailed, environment}
 use Rattle.mp4_machine.specs.Readings.{plus, no_effects}
+use Rattle.mp4_machine.specs.declared.body.Extent.TheVariants as extents
 use Rattle.mp4_machine.specs.declared.tally.Tally.{Tally}
 use Rattle.mp4_machine.specs.declared.stop.Stop.TheVariants.{Write}
 use Rattle.mp4_machine.proofs.InputLemmas.{GoesOn-more, GoesOn-silent, GoesOn-take_more, StopsAt-take_more, back_to, claimed_from}
@@ -136,8 +137,11 @@ module _ (command : Command) (number : ℕ) (o : Environment) (at : ℕ) (tracks
       abbrev pub settled_to : Environment
       settled_to = back_to (back_to o' (64 * length w.runs.rows)) (length m)
 
+      abbrev after_end : ℕ → Context
+      after_end end = context end (Some (settled tracks (moof_trafs (moof_at m at) tracks))) number
+
       abbrev after_it : Context
-      after_it = context (next + s) (Some (settled tracks (moof_trafs (moof_at m at) tracks))) number
+      after_it = after_end (next + s)
 
       abbrev body : ℕ → Continuation
       body left = continuation_at meaning (InBody (λ _. no_effects) next g.kind after_it left (claimed_in (Some tracks) (Some w)))
@@ -152,11 +156,11 @@ module _ (command : Command) (number : ℕ) (o : Environment) (at : ℕ) (tracks
           let n = s - g.header_len in
           let none : n - n ≡ 0 = omega arith in
           subst (λ k. GoesOn o' o' (body n) (take n (drop g.header_len x)) (body k)) none
-          (GoesOn-passed (reads_in meaning) after_it (claimed_in (Some tracks) (Some w)) o' (record { at = next; kind = g.kind; next = next + s; left = n }) n (drop g.header_len x) (omega (arith, room, whole, length-drop g.header_len x)) (omega (arith, room)))
+          (GoesOn-passed (reads_in meaning) after_end (claimed_in (Some tracks) (Some w)) o' next g.kind n n (extents.Sized (next + s)) (drop g.header_len x) (omega arith) (omega (arith, room, whole, length-drop g.header_len x)) (omega (arith, room)))
 
       to_next : GoesOn o' settled_to (body 0) [] (continuation_at meaning (InHeader after_it []))
       to_next =
-          GoesOn-over (reads_in meaning) after_it (claimed_in (Some tracks) (Some w)) o' settled_to (λ _. no_effects) (record { at = next; kind = g.kind; next = next + s; left = 0 }) (continuation_at meaning (InHeader after_it [])) refl refl
+          GoesOn-over (reads_in meaning) after_end (claimed_in (Some tracks) (Some w)) o' next g.kind settled_to (λ _. no_effects) (next + s) 0 (continuation_at meaning (InHeader after_it [])) refl refl
           (Moves-settled o' (64 * length tracks) (length m) (64 * length w.runs.rows) _ (ap (λ n. 64 * n) (settled_length tracks (moof_trafs (moof_at m at) tracks))) (omega (arith, low, rows.len, ap (λ a. a.live) account))) (omega arith) (λ later. refl)
 
       pub GoesOn-mdat_whole : GoesOn o settled_to (waits []) (take s x) (continuation_at meaning (InHeader after_it []))

@@ -1,22 +1,24 @@
 -- The end of the stream at the place of a machine: it has no further effects, and no fault was decided before it.
-use Rattle.std.proofs.Common.{◌≡◌, ◌∙◌, ℕ, zero, suc, ◌+◌, ◌-◌, ◌^◌, ◌<◌, ◌≤◌, List, [], ◌∷◌, ◌++◌, length, Option, None, Some, append-nil, length-append, ap, refl, arith}
+use Rattle.std.proofs.Common.{◌≡◌, ◌∙◌, ℕ, zero, suc, ◌+◌, ◌^◌, ◌<◌, ◌≤◌, List, [], ◌∷◌, ◌++◌, length, Option, None, Some, append-nil, length-append, ap, refl, arith}
 use Rattle.mp4_box.specs.declared.headers.FourCc.{FourCc}
 use Rattle.mp4_box.specs.declared.rules.Rule.TheVariants.{MdatMissing, Truncated}
 use Rattle.mp4_box.specs.Headers.{kind_of, need}
 use Rattle.mp4_box.proofs.HeaderLemmas.{need-most}
 use Rattle.mp4_init.specs.declared.table.Track.{Track}
-use Rattle.mp4_machine.specs.Bodies.{cut_off, fault, longest}
+use Rattle.mp4_machine.specs.Bodies.{IsLeft, cut_off, fault}
 use Rattle.mp4_machine.specs.Inputs.{Continuation, HasNoEffects}
-use Rattle.mp4_machine.specs.Readings.{CutOff, Reading, Sound, Effects, decided_in, fault_in, empty_reading, no_effects, then_read}
+use Rattle.mp4_machine.specs.Readings.{CutOff, Reading, Sound, Effects, decided_in, fault_in, empty_reading, no_effects, says, then_read}
+use Rattle.mp4_machine.specs.declared.body.Extent.{Extent}
+use Rattle.mp4_machine.specs.declared.body.Extent.TheVariants as extents
 use Rattle.mp4_machine.proofs.BodyLemmas.{body-none, nat_lt_false, nat_lt_true}
-use Rattle.mp4_grammar.specs.Contexts.{Context}
+use Rattle.mp4_grammar.specs.Contexts.{Context, table_of}
 use Rattle.mp4_grammar.specs.Items.{after_moof, reads_in}
 use Rattle.mp4_grammar.specs.Kinds.{moof}
 use Rattle.mp4_grammar.specs.Meanings.{Meaning}
 use Rattle.mp4_fragment_machine.specs.Places.{InBody, InHeader, InBuffered, InMdatHeader, InOpenBody, IsPlace, Place, continuation_at, reached_of, reads_at}
 use Rattle.mp4_recut.proofs.MediaLemmas.{output_from-quiet}
-use Rattle.mp4_recut.specs.Media.{media_position}
-use Rattle.mp4_fragment_machine.specs.States.{IsState, known, moof_in, place_of}
+use Rattle.mp4_recut.specs.Media.{output_from}
+use Rattle.mp4_fragment_machine.specs.States.{IsState, claimed_in, in_extent, number_after, place_of, position_in, tracks_after}
 use Rattle.mp4_fragment_machine.specs.declared.state.State.{State}
 use Rattle.mp4_fragment_machine.specs.declared.state.State.TheVariants as states
 use Rattle.mp4_fragment_machine.proofs.HeadLemmas.{reads-more, reads-none}
@@ -92,17 +94,18 @@ quiet meaning (InOpenBody emit at kind (suc needed) left own) i =
 
 -- ---- where a machine is by what it keeps is a place
 
+in-place : (emit : List ℕ → Effects) (at : ℕ) (kind : FourCc) (tracks : Option (List Track)) (number left own : ℕ) (e : Extent) → IsLeft left e → emit [] ≡ no_effects → IsPlace (in_extent emit at kind tracks number left own e)
+in-place emit at kind tracks number left own (extents.Sized next) i none = (i.more, i.within, i.near, none)
+in-place emit at kind tracks number left own (extents.Open needed) i none = (i.within, none)
+
 pub at-place : (number : ℕ) (tracks : Option (List Track)) (header_bytes : List ℕ) (s : State) → IsState tracks header_bytes s → IsPlace (place_of number tracks header_bytes s)
 at-place number tracks header_bytes (states.Header at) i = i
 at-place number tracks header_bytes (states.Buffering h) i = (i.1, i.2)
 at-place number tracks header_bytes (states.MdatHeader w) i = (i.0, omega (arith, i.1.size, i.1.near))
-at-place number tracks header_bytes (states.Body b None) i = (i.1, i.2, i.3, refl)
-at-place number tracks header_bytes (states.Body b (Some w)) i = (i.1, i.2, i.3, refl)
-at-place number tracks header_bytes (states.OpenBody b w) i = (i.1, refl)
-at-place number tracks header_bytes (states.Copied b) i = (i.1, i.2, i.3, refl)
-at-place number tracks header_bytes (states.OpenCopied b) i = (i.1, refl)
-at-place number tracks header_bytes (states.Media r) i = (i.2.some, i.2.within, i.2.near, output_from-quiet (media_position r.cut (moof_in r.pending_moof) (known tracks) (r.body.next - r.body.left) r.number r.media) i.2.media.no_head_ready)
-at-place number tracks header_bytes (states.OpenMedia r) i = (i.2.near, output_from-quiet (media_position r.cut (moof_in r.pending_moof) (known tracks) (longest - r.body.left) r.number r.media) i.2.media.no_head_ready)
+at-place number tracks header_bytes (states.Body b w) i = in-place (λ _. no_effects) b.at b.kind (tracks_after tracks w) number b.left (claimed_in tracks w) b.extent i.1 refl
+at-place number tracks header_bytes (states.Copied b) i = in-place (λ x. says x) b.at b.kind tracks number b.left (table_of tracks) b.extent i.1 refl
+at-place number tracks header_bytes (states.Media r) i =
+    in-place (output_from (position_in tracks r)) r.body.at r.body.kind (tracks_after tracks (Some r.pending_moof)) (number_after tracks r) r.body.left (claimed_in tracks (Some r.pending_moof)) r.body.extent i.2.body (output_from-quiet (position_in tracks r) i.2.media.no_head_ready)
 
 -- no place is far past the longest stream
 pub reached-most : (p : Place) → IsPlace p → reached_of p ≤ 2 ^ 62 + 31

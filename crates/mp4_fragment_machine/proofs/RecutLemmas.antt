@@ -7,7 +7,9 @@ use Rattle.std.specs.Prelude.{nat_lt}
 use Rattle.mp4_box.specs.declared.headers.FourCc.{FourCc}
 use Rattle.mp4_ledger.specs.Memory.{Account, given_back}
 use Rattle.mp4_machine.specs.Accounts.{Counts, Spends}
-use Rattle.mp4_machine.specs.Bodies.{fault, least_end, longest, body_item, open_body_item}
+use Rattle.mp4_machine.specs.Bodies.{HasMore, extent_after, fault, latest_end, least_end, longest, body_item, open_body_item}
+use Rattle.mp4_machine.specs.declared.body.Extent.{Extent}
+use Rattle.mp4_machine.specs.declared.body.Extent.TheVariants as extents
 use Rattle.mp4_machine.specs.Inputs.{Environment, environment, Moves, GoesOn, WriteFailed, Refuses}
 use Rattle.mp4_machine.specs.Readings.{moved, AtMost, Faulty, Reading, Effects, after, both, no_effects, greatest, most_of, plus, shifted, then_read}
 use Rattle.mp4_machine.specs.declared.tally.Tally.{Tally}
@@ -36,7 +38,7 @@ use Rattle.mp4_frag.specs.declared.run.Run.{Run}
 use Rattle.mp4_pieces.specs.declared.cut.Cut.{Cut}
 use Rattle.mp4_frag.specs.Ranges.{IsRunOf}
 use Rattle.mp4_recut.specs.Cursors.{CanCut}
-use Rattle.mp4_grammar.specs.Contexts.{Context, first_context, table_of}
+use Rattle.mp4_grammar.specs.Contexts.{Context, context, first_context, table_of}
 use Rattle.mp4_grammar.specs.Items.{context_after_fragment, end_of, fragment, media_body, reads_in, with_runs}
 use Rattle.mp4_grammar.specs.Kinds.{kind_in}
 use Rattle.mp4_grammar.specs.Meanings.{Fragment, Meaning, fragment_fault, needed_in, runs_in}
@@ -51,7 +53,7 @@ use Rattle.mp4_fragment_machine.specs.Implementation.Media.{FailsToBegin, FailsT
 use Rattle.mp4_fragment_machine.specs.Implementation.Recuts.{first_position, in_media, with_fragments, with_samples}
 use Rattle.mp4_frag.specs.Settling.{settled}
 use Rattle.mp4_fragment_machine.specs.Places.{InBody, InHeader, InMdatHeader, InOpenBody, claim_of, continuation_at, reached_of, reads_at}
-use Rattle.mp4_fragment_machine.specs.States.{moof_in}
+use Rattle.mp4_fragment_machine.specs.States.{RisesIn, in_extent, moof_in}
 use Rattle.mp4_fragment_machine.specs.declared.state.PendingMoof.{PendingMoof}
 use Rattle.mp4_fragment_machine.proofs.SecondLemmas.{second-accepted}
 
@@ -327,12 +329,20 @@ open-far_recut meaning at kind p needed own bytes settled some =
     open-far (reads_in meaning) at kind first_context (output_from p) needed 0 bytes some ∙ ap (λ t. record { effects = t; outcome = Faulty (fault StreamTooLong (Some kind) at) }) (output_from-quiet p settled)
 
 -- it goes too far, and its moof with the list and the table are given back
-pub Refuses-open_recut : (meaning : Meaning) (at : ℕ) (kind : FourCc) (o : Environment) (needed own : ℕ) (p : MediaPosition) (x more : List ℕ) (table n : ℕ) → NoHeadIsReady p → 0 < length x → own ≡ table + n → own ≤ o.account.live
+Refuses-open_recut : (meaning : Meaning) (at : ℕ) (kind : FourCc) (o : Environment) (needed own : ℕ) (p : MediaPosition) (x more : List ℕ) (table n : ℕ) → NoHeadIsReady p → 0 < length x → own ≡ table + n → own ≤ o.account.live
     → Refuses o (back_to (back_to o n) table) (continuation_at meaning (InOpenBody (output_from p) at kind needed 0 own)) (x ++ more) (fault StreamTooLong (Some kind) at)
 Refuses-open_recut meaning at kind o needed own p x more table n settled some e low =
     Refuses-there o (back_to (back_to o n) table) (continuation_at meaning (InOpenBody (output_from p) at kind needed 0 own)) x more (fault StreamTooLong (Some kind) at)
     (subst (λ k. Moves o (back_to (back_to o n) table) k 0 no_effects) (sym e) (Moves-all_back o table n (omega (arith, e, low))))
     (λ later. open-far_recut meaning at kind p needed own (x ++ later) settled (omega (arith, some, length-append x later)))
+
+-- it is full, so it goes to the end of the stream
+pub Refuses-recut : (meaning : Meaning) (at : ℕ) (kind : FourCc) (o : Environment) (ts : Option (List Track)) (number left own : ℕ) (e : Extent) (p : MediaPosition) (x more : List ℕ) (table n : ℕ) → left ≡ 0 → HasMore left e → NoHeadIsReady p → 0 < length x → own ≡ table + n → own ≤ o.account.live
+    → Refuses o (back_to (back_to o n) table) (continuation_at meaning (in_extent (output_from p) at kind ts number left own e)) (x ++ more) (fault StreamTooLong (Some kind) at)
+Refuses-recut meaning at kind o ts number left own (extents.Sized next) p x more table n none is settled some e low = absurd (omega (arith, none, is))
+Refuses-recut meaning at kind o ts number left own (extents.Open needed) p x more table n none is settled some e low =
+    subst (λ k. Refuses o (back_to (back_to o n) table) (continuation_at meaning (InOpenBody (output_from p) at kind needed k own)) (x ++ more) (fault StreamTooLong (Some kind) at)) (sym none)
+    (Refuses-open_recut meaning at kind o needed own p x more table n settled some e low)
 
 -- ---- bytes of media were taken
 
@@ -394,7 +404,7 @@ module _ (cut : Cut) (tracks : List Track) (pending_moof : PendingMoof) (s : Sen
         (GoesOn-outputs s.written s.written' v w t t'.fragments meaning at kind next own account left p q x (omega (arith, len, g.count)) low (outputs-taken next.at left new low g)))
 
     -- within a body that goes to the end of the stream
-    pub GoesOn-open_taken : (needed left : ℕ) (new : Copied) → left ≤ longest → Taking longest left new
+    GoesOn-open_taken : (needed left : ℕ) (new : Copied) → left ≤ longest → Taking longest left new
         → GoesOn (environment s.written v account t) (environment s.written' w account t') (continuation_at meaning (InOpenBody (output_from (position_before longest left)) at kind needed left own)) (take new.count input) (continuation_at meaning (InOpenBody (output_from (position_after longest (left - new.count) new.media)) at kind (needed - new.count) (left - new.count) own))
     GoesOn-open_taken needed left new low g =
         let p = position_before longest left in
@@ -416,7 +426,7 @@ module _ (cut : Cut) (tracks : List Track) (pending_moof : PendingMoof) (s : Sen
         (subst (λ l. WriteFailedIn s.written s.written' v w t.fragments t'.fragments (output_from p l)) (sym (own-front left input (more ++ later))) (f.uncopied.cut_short own_later)))
 
     -- so it is in an mdat that states its size
-    pub WriteFailed-taken : (next : Context) (left : ℕ) → own ≤ account.live → FailsToTake cut tracks pending_moof s v w t t' (next.at - left) left old input → (more later : List ℕ)
+    WriteFailed-taken : (next : Context) (left : ℕ) → own ≤ account.live → FailsToTake cut tracks pending_moof s v w t t' (next.at - left) left old input → (more later : List ℕ)
         → WriteFailed (environment s.written v account t) (environment s.written' w (given_back account own) t') own (reads_at meaning (InBody (output_from (position_before next.at left)) at kind next left own) (input ++ more ++ later))
     WriteFailed-taken next left low f more later =
         let p = position_before next.at left in
@@ -425,7 +435,7 @@ module _ (cut : Cut) (tracks : List Track) (pending_moof : PendingMoof) (s : Sen
         (cut_short-taken next.at left more later first.0 (reads_at meaning (InBody (output_from p) at kind next left own) (input ++ (more ++ later))) first.1 low f)
 
     -- and in one that goes to the end of the stream
-    pub WriteFailed-open_taken : (needed left : ℕ) → own ≤ account.live → FailsToTake cut tracks pending_moof s v w t t' (longest - left) left old input → (more later : List ℕ)
+    WriteFailed-open_taken : (needed left : ℕ) → own ≤ account.live → FailsToTake cut tracks pending_moof s v w t t' (longest - left) left old input → (more later : List ℕ)
         → WriteFailed (environment s.written v account t) (environment s.written' w (given_back account own) t') own (reads_at meaning (InOpenBody (output_from (position_before longest left)) at kind needed left own) (input ++ more ++ later))
     WriteFailed-open_taken needed left low f more later =
         let p = position_before longest left in
@@ -433,6 +443,23 @@ module _ (cut : Cut) (tracks : List Track) (pending_moof : PendingMoof) (s : Sen
         subst (λ l. WriteFailed (environment s.written v account t) (environment s.written' w (given_back account own) t') own (reads_at meaning (InOpenBody (output_from p) at kind needed left own) l)) (sym (append_assoc input more later))
         (cut_short-taken longest left more later no_effects (reads_at meaning (InOpenBody (output_from p) at kind needed left own) (input ++ (more ++ later)))
         (open-first meaning at kind (output_from p) needed left (input ++ (more ++ later)) ∙ sym (both-silent emitted)) low f)
+
+    -- by how far the mdat goes
+    pub GoesOn-recut : (ts : Option (List Track)) (number left : ℕ) (e : Extent) (new : Copied) → left ≤ latest_end e → Taking (latest_end e) left new
+        → GoesOn (environment s.written v account t) (environment s.written' w account t') (continuation_at meaning (in_extent (output_from (position_before (latest_end e) left)) at kind ts number left own e)) (take new.count input) (continuation_at meaning (in_extent (output_from (position_after (latest_end (extent_after new.count e)) (left - new.count) new.media)) at kind ts number (left - new.count) own (extent_after new.count e)))
+    GoesOn-recut ts number left (extents.Sized next) new low g = GoesOn-taken (context next ts number) left new low g
+    GoesOn-recut ts number left (extents.Open needed) new low g = GoesOn-open_taken needed left new low g
+
+    pub WriteFailed-recut : (ts : Option (List Track)) (number left : ℕ) (e : Extent) → own ≤ account.live → FailsToTake cut tracks pending_moof s v w t t' (latest_end e - left) left old input → (more later : List ℕ)
+        → WriteFailed (environment s.written v account t) (environment s.written' w (given_back account own) t') (claim_of (in_extent (output_from (position_before (latest_end e) left)) at kind ts number left own e)) (reads_at meaning (in_extent (output_from (position_before (latest_end e) left)) at kind ts number left own e) (input ++ more ++ later))
+    WriteFailed-recut ts number left (extents.Sized next) low f more later = WriteFailed-taken (context next ts number) left low f more later
+    WriteFailed-recut ts number left (extents.Open needed) low f more later = WriteFailed-open_taken needed left low f more later
+
+  -- what is left ends where it did
+  pub RisesIn-taken : (left : ℕ) (e : Extent) (new : Copied) → left ≤ latest_end e → Taking (latest_end e) left new → RisesIn e (position_before (latest_end e) left)
+      → RisesIn (extent_after new.count e) (position_after (latest_end (extent_after new.count e)) (left - new.count) new.media)
+  RisesIn-taken left (extents.Sized next) new low g r = Rises-taken next left new low g r
+  RisesIn-taken left (extents.Open needed) new low g r = tt
 
 -- ---- the media of an accepted fragment ascend
 

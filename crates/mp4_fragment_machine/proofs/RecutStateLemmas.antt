@@ -1,5 +1,5 @@
 -- Where a machine keeps the media of a fragment that was begun.
-use Rattle.std.proofs.Common.{◌≡◌, ◌∙◌, ℕ, ◌+◌, ◌-◌, ◌*◌, ◌≤◌, List, [], length, Option, Some, ap, sym, arith, subst}
+use Rattle.std.proofs.Common.{◌≡◌, ◌∙◌, ℕ, ◌+◌, ◌-◌, ◌*◌, ◌≤◌, List, [], length, Option, Some, ap, refl, sym, arith, subst}
 use Rattle.mp4_box.specs.declared.headers.Header.{Header}
 use Rattle.mp4_box.specs.declared.headers.Size.{Size}
 use Rattle.mp4_box.specs.declared.headers.Size.TheVariants.{Exact, ToEnd}
@@ -7,23 +7,24 @@ use Rattle.mp4_init.specs.declared.table.Track.{Track}
 use Rattle.mp4_frag.specs.Moofs.{moof_trafs}
 use Rattle.mp4_frag.specs.Settling.{settled}
 use Rattle.mp4_pieces.specs.declared.cut.Cut.{Cut}
-use Rattle.mp4_machine.specs.Bodies.{longest}
+use Rattle.mp4_machine.specs.Bodies.{HasBytes, extent_of, latest_end, left_of, longest}
 use Rattle.mp4_machine.specs.Inputs.{Continuation, Environment, GoesOn, Moves}
 use Rattle.mp4_machine.specs.Readings.{no_effects}
 use Rattle.mp4_machine.proofs.InputLemmas.{GoesOn-none}
 use Rattle.mp4_grammar.specs.Contexts.{context}
 use Rattle.mp4_grammar.specs.Meanings.{Meaning, needed_in}
 use Rattle.mp4_recut.specs.Cursors.{fragments_left}
-use Rattle.mp4_recut.specs.Media.{NoHeadIsReady, output_from, media_position}
+use Rattle.mp4_recut.specs.Media.{NoHeadIsReady, Rises, output_from, media_position}
 use Rattle.mp4_recut.specs.Splitting.{splitting}
 use Rattle.mp4_recut.specs.declared.media.Media.{Media}
 use Rattle.mp4_fragment_machine.specs.Places.{InBody, InHeader, InOpenBody, Place, continuation_at}
 use Rattle.mp4_fragment_machine.proofs.MdatHeaderLemmas.{claimed_after}
 use Rattle.mp4_fragment_machine.proofs.RecutLemmas.{GoesOn-recut_over}
-use Rattle.mp4_grammar.specs.Items.{with_runs}
+use Rattle.mp4_grammar.specs.Items.{end_of, with_runs}
 use Rattle.mp4_fragment_machine.specs.Implementation.Splits.{in_begun}
 use Rattle.mp4_fragment_machine.specs.Implementation.Recuts.{in_media, recut_fragment}
-use Rattle.mp4_fragment_machine.specs.States.{IsPendingMoof, claimed_in, known, moof_in, place_of}
+use Rattle.mp4_fragment_machine.specs.States.{IsPendingMoof, RisesIn, claimed_in, known, moof_in, place_of}
+use Rattle.mp4_fragment_machine.specs.declared.state.Recutting.{Recutting}
 use Rattle.mp4_fragment_machine.specs.declared.state.State.TheVariants as states
 use Rattle.mp4_fragment_machine.specs.declared.state.PendingMoof.{PendingMoof}
 
@@ -53,13 +54,16 @@ module _ (cut : Cut) (w : PendingMoof) (tracks : List Track) (number n : ℕ) (m
       let claimed = subst (λ k. GoesOn o o' (continuation_at (splitting cut) (in_media cut f (media_position cut (moof_in w) tracks (after + h.header_len) n m) after h k h.size)) [] q) (sym all) moved in
       subst (λ t. GoesOn o o' (continuation_at (splitting cut) (in_begun cut (recut_fragment w (known t) number h) w h n m)) [] q) (sym e) claimed
 
+  -- the state there, by how many bytes of the mdat are needed
+  abbrev pub begun_media : ℕ → Size → Recutting
+  begun_media needed size = record { cut = cut; number = n; body = record { at = at; kind = h.kind; left = left_of at h size; extent = extent_of at needed size }; media = m; pending_moof = w }
+
   -- in an mdat that states its size
-  pub media_begins : (s : ℕ) (size : Size) → size ≡ Exact s → h.header_len ≤ s → n + length (fragments_left cut (moof_in w) tracks n m.later) ≡ (splitting cut).numbered (recut_fragment w tracks number h)
-      → begun_at size ≡ place_of n (Some tracks) [] (states.Media (record { cut = cut; number = n; body = record { at = at; kind = h.kind; next = at + s; left = s - h.header_len }; media = m; pending_moof = w }))
-  media_begins s size is room e =
+  media_begins : (s needed : ℕ) → h.header_len ≤ s → n + length (fragments_left cut (moof_in w) tracks n m.later) ≡ (splitting cut).numbered (recut_fragment w tracks number h)
+      → begun_at (Exact s) ≡ place_of n (Some tracks) [] (states.Media (begun_media needed (Exact s)))
+  media_begins s needed room e =
       let start : at + h.header_len ≡ at + s - (s - h.header_len) = omega (arith, room) in
-      ap begun_at is
-      ∙ ap (λ k. InBody (output_from (media_position cut (moof_in w) tracks k n m)) at h.kind (context (at + s) (Some ends) ((splitting cut).numbered (recut_fragment w tracks number h))) (s - h.header_len) own) start
+      ap (λ k. InBody (output_from (media_position cut (moof_in w) tracks k n m)) at h.kind (context (at + s) (Some ends) ((splitting cut).numbered (recut_fragment w tracks number h))) (s - h.header_len) own) start
       ∙ ap (λ k. InBody (output_from (media_position cut (moof_in w) tracks (at + s - (s - h.header_len)) n m)) at h.kind (context (at + s) (Some ends) k) (s - h.header_len) own) (sym e)
 
   -- in one without a payload: it is done
@@ -75,10 +79,23 @@ module _ (cut : Cut) (w : PendingMoof) (tracks : List Track) (number n : ℕ) (m
       subst (λ z. GoesOn o o' (continuation_at meaning (begun_at z)) [] (continuation_at meaning (InHeader (context (at + s) (Some ts) n) []))) (sym is) tracked
 
   -- within a body that goes to the end of the stream
-  pub open_begins : (needed : ℕ) (size : Size) → size ≡ ToEnd → at + h.header_len ≤ longest → needed ≡ needed_in (recut_fragment w tracks number h)
-      → begun_at size ≡ place_of n (Some tracks) [] (states.OpenMedia (record { cut = cut; number = n; body = record { at = at; kind = h.kind; needed = needed; left = longest - (at + h.header_len) }; media = m; pending_moof = w }))
-  open_begins needed size is near e =
+  open_begins : (needed : ℕ) → at + h.header_len ≤ longest → needed ≡ needed_in (recut_fragment w tracks number h)
+      → begun_at ToEnd ≡ place_of n (Some tracks) [] (states.Media (begun_media needed ToEnd))
+  open_begins needed near e =
       let start : at + h.header_len ≡ longest - (longest - (at + h.header_len)) = omega (arith, near) in
-      ap begun_at is
-      ∙ ap (λ k. InOpenBody (output_from (media_position cut (moof_in w) tracks k n m)) at h.kind (needed_in (recut_fragment w tracks number h)) (longest - (at + h.header_len)) own) start
+      ap (λ k. InOpenBody (output_from (media_position cut (moof_in w) tracks k n m)) at h.kind (needed_in (recut_fragment w tracks number h)) (longest - (at + h.header_len)) own) start
       ∙ ap (λ k. InOpenBody (output_from (media_position cut (moof_in w) tracks (longest - (longest - (at + h.header_len))) n m)) at h.kind k (longest - (at + h.header_len)) own) (sym e)
+
+  -- by the stated size
+  pub recut_begins : (needed : ℕ) (size : Size) → HasBytes at h size → n + length (fragments_left cut (moof_in w) tracks n m.later) ≡ (splitting cut).numbered (recut_fragment w tracks number h) → needed ≡ needed_in (recut_fragment w tracks number h)
+      → begun_at size ≡ place_of n (Some tracks) [] (states.Media (begun_media needed size))
+  recut_begins needed (Exact s) some numbers e = media_begins s needed (omega (arith, some.0)) numbers
+  recut_begins needed ToEnd near numbers e = open_begins needed near e
+
+  -- the rest of its media ends within it
+  pub recut_rises : (needed : ℕ) (size : Size) → HasBytes at h size → ((end : ℕ) → end_of at size ≡ Some end → Rises end (media_position cut (moof_in w) tracks (at + h.header_len) n m))
+      → RisesIn (extent_of at needed size) (media_position cut (moof_in w) tracks (latest_end (extent_of at needed size) - left_of at h size) n m)
+  recut_rises needed (Exact s) some rises =
+      let start : at + h.header_len ≡ at + s - (s - h.header_len) = omega (arith, some.0) in
+      subst (λ k. Rises (at + s) (media_position cut (moof_in w) tracks k n m)) start (rises (at + s) refl)
+  recut_rises needed ToEnd near rises = tt

@@ -1,11 +1,10 @@
 -- Bytes that a machine takes from the front of the input.
-use Rattle.std.proofs.Common.{◌≡◌, ℕ, ◌+◌, ◌≤◌, List, ◌++◌, length, refl, arith, None, Some, Option}
+use Rattle.std.proofs.Common.{◌≡◌, ℕ, ◌+◌, ◌≤◌, List, ◌++◌, length, refl, arith}
 use Rattle.mp4_box.specs.declared.headers.FourCc.{FourCc}
 use Rattle.mp4_box.specs.declared.headers.Header.{Header}
 use Rattle.mp4_box.specs.declared.headers.Step.TheVariants as steps
 use Rattle.mp4_box.specs.Headers.{header_at, need}
 use Rattle.mp4_box.proofs.HeaderLemmas.{bad_is, whole_is}
-use Rattle.mp4_init.specs.declared.table.Track.{Track}
 use Rattle.mp4_machine.specs.Inputs.{Environment, GoesOn}
 use Rattle.mp4_machine.specs.Readings.{then_read}
 use Rattle.mp4_machine.proofs.ContinuationLemmas.{GoesOn-gathered}
@@ -13,8 +12,6 @@ use Rattle.mp4_grammar.specs.Contexts.{Context, table_of}
 use Rattle.mp4_grammar.specs.Items.{buffered_body, reads_in}
 use Rattle.mp4_grammar.specs.Meanings.{Meaning}
 use Rattle.mp4_fragment_machine.specs.Places.{InBuffered, continuation_at}
-use Rattle.mp4_fragment_machine.specs.States.{after_body}
-use Rattle.mp4_fragment_machine.specs.declared.state.PendingMoof.{PendingMoof}
 
 -- bytes of a box came that is held
 pub GoesOn-held : (meaning : Meaning) (o : Environment) (c : Context) (kind : FourCc) (size : ℕ) (buffered x : List ℕ) → GoesOn o o (continuation_at meaning (InBuffered c kind size buffered)) x (continuation_at meaning (InBuffered c kind size (buffered ++ x)))
@@ -27,8 +24,3 @@ len_of_bad x most e = omega (arith, most, bad_is x e)
 
 pub len_of_whole : (x : List ℕ) (h : Header) → length x ≤ need x → header_at x ≡ steps.Whole h → length x ≡ need x
 len_of_whole x h most e = omega (arith, most, (whole_is x h e).0)
-
--- after a body the next box begins
-pub after_at : (number : ℕ) (tracks : Option (List Track)) (w : Option PendingMoof) (next : ℕ) → (after_body number tracks w next).at ≡ next
-after_at number tracks None next = refl
-after_at number tracks (Some w) next = refl

@@ -3,6 +3,7 @@ use Rattle.std.specs.Prelude.{◌≡◌, ℕ, ◌+◌, ◌-◌, ◌*◌, ◌<◌
 use Rattle.std.specs.List.{flat_map}
 use Rattle.std.specs.Option.{unwrap_or}
 use Rattle.mp4_box.specs.Headers.{IsWhole, need}
+use Rattle.mp4_box.specs.declared.headers.FourCc.{FourCc}
 use Rattle.mp4_box.specs.declared.headers.Header.{Header}
 use Rattle.mp4_box.specs.declared.headers.Size.{Size}
 use Rattle.mp4_box.specs.declared.headers.Size.TheVariants.{Exact, ToEnd}
@@ -13,16 +14,17 @@ use Rattle.mp4_frag.specs.RunLists.{taken_runs}
 use Rattle.mp4_frag.specs.ListsOfRuns.{IsListOf}
 use Rattle.mp4_frag.specs.Runs.{MoofBytes, moof_at}
 use Rattle.mp4_frag.specs.Settling.{settled}
-use Rattle.mp4_machine.specs.Bodies.{longest}
+use Rattle.mp4_machine.specs.Bodies.{IsLeft, latest_end, longest}
 use Rattle.mp4_machine.specs.Buffering.{Begins}
 use Rattle.mp4_machine.specs.Inputs.{Continuation}
-use Rattle.mp4_machine.specs.Readings.{says, no_effects, uncounted}
+use Rattle.mp4_machine.specs.Readings.{Effects, says, no_effects, uncounted}
 use Rattle.mp4_pieces.specs.declared.cut.Cut.{Cut}
 use Rattle.mp4_recut.specs.Cursors.{AreCut, MayBeAt, fragments_left}
-use Rattle.mp4_recut.specs.Media.{Rises, output_from, media_position}
+use Rattle.mp4_recut.specs.Media.{MediaPosition, Rises, output_from, media_position}
 use Rattle.mp4_recut.specs.declared.media.Media.{Media}
 use Rattle.mp4_machine.specs.declared.body.Body.{Body}
-use Rattle.mp4_machine.specs.declared.body.OpenBody.{OpenBody}
+use Rattle.mp4_machine.specs.declared.body.Extent.{Extent}
+use Rattle.mp4_machine.specs.declared.body.Extent.TheVariants as extents
 use Rattle.mp4_fragment_machine.specs.declared.state.Recutting.{Recutting}
 use Rattle.mp4_recut.specs.declared.operation.Operation.{Operation}
 use Rattle.mp4_recut.specs.declared.operation.Operation.TheVariants as operations
@@ -48,10 +50,14 @@ known tracks = unwrap_or tracks []
 abbrev pub moof_in : PendingMoof → MoofBytes
 moof_in w = moof_at w.moof.bytes w.moof.at
 
--- context after a body that ends at an offset, where a moof may be pending
+-- the tracks after a body, where a moof may be pending
+abbrev pub tracks_after : Option (List Track) → Option PendingMoof → Option (List Track)
+tracks_after tracks None = tracks
+tracks_after tracks (Some w) = Some (settled (known tracks) (moof_trafs (moof_in w) (known tracks)))
+
+-- the context after it, if it ends at an offset
 abbrev pub after_body : ℕ → Option (List Track) → Option PendingMoof → ℕ → Context
-after_body number tracks None next = context next tracks number
-after_body number tracks (Some w) next = context next (Some (settled (known tracks) (moof_trafs (moof_in w) (known tracks)))) number
+after_body number tracks w next = context next (tracks_after tracks w) number
 
 -- how many bytes are claimed within that body
 abbrev pub claimed_in : Option (List Track) → Option PendingMoof → ℕ
@@ -69,27 +75,34 @@ kept_by (states.Header at) = 0
 kept_by (states.Buffering h) = h.size
 kept_by (states.MdatHeader w) = taken_by (Some w)
 kept_by (states.Body b w) = taken_by w
-kept_by (states.OpenBody b w) = taken_by w
 kept_by (states.Copied b) = 0
-kept_by (states.OpenCopied b) = 0
 kept_by (states.Media r) = taken_by (Some r.pending_moof)
-kept_by (states.OpenMedia r) = taken_by (Some r.pending_moof)
 
--- context after an mdat that is recut: all its pieces are written
-abbrev pub after_media : Option (List Track) → Recutting → Context
-after_media tracks r = after_body (r.number + length (fragments_left r.cut (moof_in r.pending_moof) (known tracks) r.number r.media.later)) tracks (Some r.pending_moof) r.body.next
+-- number of the next output fragment after an mdat that is recut: all its pieces are written
+abbrev pub number_after : Option (List Track) → Recutting → ℕ
+number_after tracks r = r.number + length (fragments_left r.cut (moof_in r.pending_moof) (known tracks) r.number r.media.later)
+
+-- position of its media
+abbrev pub position_in : Option (List Track) → Recutting → MediaPosition
+position_in tracks r = media_position r.cut (moof_in r.pending_moof) (known tracks) (latest_end r.body.extent - r.body.left) r.number r.media
+
+-- place in a body with the effects `emit`, by its extent: the tracks and the number of the next output fragment after it,
+-- how many bytes are to come, and how many are claimed meanwhile
+abbrev pub in_extent : (emit : List ℕ → Effects) → (at : ℕ) → FourCc → Option (List Track) → (number left own : ℕ) → Extent → Place
+in_extent emit at kind tracks number left own (extents.Sized next) = InBody emit at kind (context next tracks number) left own
+in_extent emit at kind tracks number left own (extents.Open needed) = InOpenBody emit at kind needed left own
+
+abbrev pub in_body : (emit : List ℕ → Effects) → Option (List Track) → (number own : ℕ) → Body → Place
+in_body emit tracks number own b = in_extent emit b.at b.kind tracks number b.left own b.extent
 
 -- place of a machine with these tracks and these bytes of a header: the next output fragment has this number
 abbrev pub place_of : ℕ → Option (List Track) → List ℕ → State → Place
 place_of number tracks header_bytes (states.Header at) = InHeader (context at tracks number) header_bytes
 place_of number tracks header_bytes (states.Buffering h) = InBuffered (context h.at tracks number) h.kind h.size h.bytes
 place_of number tracks header_bytes (states.MdatHeader w) = InMdatHeader (context w.moof.at tracks number) (known tracks) w.moof.bytes header_bytes
-place_of number tracks header_bytes (states.Body b w) = InBody (λ _. no_effects) b.at b.kind (after_body number tracks w b.next) b.left (claimed_in tracks w)
-place_of number tracks header_bytes (states.OpenBody b w) = InOpenBody (λ _. no_effects) b.at b.kind b.needed b.left (claimed_in tracks w)
-place_of number tracks header_bytes (states.Copied b) = InBody (λ x. says x) b.at b.kind (context b.next tracks number) b.left (table_of tracks)
-place_of number tracks header_bytes (states.OpenCopied b) = InOpenBody (λ x. says x) b.at b.kind b.needed b.left (table_of tracks)
-place_of number tracks header_bytes (states.OpenMedia r) = InOpenBody (output_from (media_position r.cut (moof_in r.pending_moof) (known tracks) (longest - r.body.left) r.number r.media)) r.body.at r.body.kind r.body.needed r.body.left (claimed_in tracks (Some r.pending_moof))
-place_of number tracks header_bytes (states.Media r) = InBody (output_from (media_position r.cut (moof_in r.pending_moof) (known tracks) (r.body.next - r.body.left) r.number r.media)) r.body.at r.body.kind (after_media tracks r) r.body.left (claimed_in tracks (Some r.pending_moof))
+place_of number tracks header_bytes (states.Body b w) = in_body (λ _. no_effects) (tracks_after tracks w) number (claimed_in tracks w) b
+place_of number tracks header_bytes (states.Copied b) = in_body (λ x. says x) tracks number (table_of tracks) b
+place_of number tracks header_bytes (states.Media r) = in_body (output_from (position_in tracks r)) (tracks_after tracks (Some r.pending_moof)) (number_after tracks r) (claimed_in tracks (Some r.pending_moof)) r.body
 
 -- ---- what holds of it
 
@@ -116,30 +129,25 @@ pub record AreMediaOf (cut : Cut) (tracks : List Track) (w : PendingMoof) (numbe
   pub no_head_ready : m.copy_span.left ≡ 0 → fragments_left cut (moof_in w) tracks number m.later ≡ []
   pub numbers : number + length (fragments_left cut (moof_in w) tracks number m.later) ≤ 2 ^ 32
 
--- media that are being recut: the rest of them ends within the mdat
-pub record IsRecut (cut : Cut) (tracks : List Track) (number : ℕ) (b : Body) (m : Media) (w : PendingMoof) : Type 0 where
-  pub some : 0 < b.left
-  pub within : b.left ≤ b.next
-  pub near : b.next ≤ longest
-  pub media : AreMediaOf cut tracks w number m
-  pub rises : Rises b.next (media_position cut (moof_in w) tracks (b.next - b.left) number m)
+-- the rest of the media ends within the mdat, if that states its size
+abbrev pub RisesIn : Extent → MediaPosition → Type 0
+RisesIn (extents.Sized next) p = Rises next p
+RisesIn (extents.Open needed) p = Unit {0}
 
--- media that are being recut to the end of the stream
-pub record IsOpenRecut (cut : Cut) (tracks : List Track) (number : ℕ) (b : OpenBody) (m : Media) (w : PendingMoof) : Type 0 where
-  pub near : b.left ≤ longest
+-- media that are being recut, of a body of which so much is left
+pub record IsRecut (cut : Cut) (tracks : List Track) (number left : ℕ) (e : Extent) (m : Media) (w : PendingMoof) : Type 0 where
+  pub body : IsLeft left e
   pub media : AreMediaOf cut tracks w number m
+  pub rises : RisesIn e (media_position cut (moof_in w) tracks (latest_end e - left) number m)
 
 -- only in a header there are bytes of one
 abbrev pub IsState : Option (List Track) → List ℕ → State → Type 0
 IsState tracks header_bytes (states.Header at) = (length header_bytes < need header_bytes) × (at ≤ longest)
 IsState tracks header_bytes (states.Buffering h) = (header_bytes ≡ []) × (length h.bytes < h.size) × (h.at + h.size ≤ longest) × Begins h.size h.bytes
 IsState tracks header_bytes (states.MdatHeader w) = (length header_bytes < need header_bytes) × IsPendingMoof tracks w
-IsState tracks header_bytes (states.Body b w) = (header_bytes ≡ []) × (0 < b.left) × (b.left ≤ b.next) × (b.next ≤ longest) × MayBePending tracks w
-IsState tracks header_bytes (states.OpenBody b w) = (header_bytes ≡ []) × (b.left ≤ longest) × MayBePending tracks w
-IsState tracks header_bytes (states.Copied b) = (header_bytes ≡ []) × (0 < b.left) × (b.left ≤ b.next) × (b.next ≤ longest)
-IsState tracks header_bytes (states.OpenCopied b) = (header_bytes ≡ []) × (b.left ≤ longest)
-IsState tracks header_bytes (states.Media r) = (header_bytes ≡ []) × (tracks ≡ Some (known tracks)) × IsRecut r.cut (known tracks) r.number r.body r.media r.pending_moof
-IsState tracks header_bytes (states.OpenMedia r) = (header_bytes ≡ []) × (tracks ≡ Some (known tracks)) × IsOpenRecut r.cut (known tracks) r.number r.body r.media r.pending_moof
+IsState tracks header_bytes (states.Body b w) = (header_bytes ≡ []) × IsLeft b.left b.extent × MayBePending tracks w
+IsState tracks header_bytes (states.Copied b) = (header_bytes ≡ []) × IsLeft b.left b.extent
+IsState tracks header_bytes (states.Media r) = (header_bytes ≡ []) × (tracks ≡ Some (known tracks)) × IsRecut r.cut (known tracks) r.number r.body.left r.body.extent r.media r.pending_moof
 
 -- ---- the fragment of the pending moof
 
@@ -162,6 +170,11 @@ most_counted = 3 * 2 ^ 62
 abbrev pub samples_of : Option PendingMoof → ℕ
 samples_of None = 0
 samples_of (Some w) = moof_samples (moof_in w)
+
+-- the bound within a body
+abbrev pub bound_in : Extent → ℕ
+bound_in (extents.Sized next) = next
+bound_in (extents.Open needed) = most_counted
 
 -- the bound after the header of an mdat at an offset
 abbrev pub bound_after : ℕ → Size → ℕ
@@ -233,12 +246,9 @@ abbrev pub HasCounted : Operation → State → Counter → Type 0
 HasCounted operation (states.Header at) c = IsCounted operation c at 0 0
 HasCounted operation (states.Buffering h) c = IsCounted operation c h.at 0 0
 HasCounted operation (states.MdatHeader w) c = IsCounted operation c (w.moof.at + w.moof.size) (moof_samples (moof_in w)) (moof_samples (moof_in w))
-HasCounted operation (states.Body b w) c = IsCounted operation c b.next 0 (samples_of w)
-HasCounted operation (states.OpenBody b w) c = IsCounted operation c most_counted 0 (samples_of w)
-HasCounted operation (states.Copied b) c = IsCounted operation c b.next 0 0
-HasCounted operation (states.OpenCopied b) c = IsCounted operation c most_counted 0 0
-HasCounted operation (states.Media r) c = IsCounted operation c r.body.next 0 (moof_samples (moof_in r.pending_moof)) × (operation ≡ operations.Split r.cut) × (r.number ≡ c.tally.fragments + 1)
-HasCounted operation (states.OpenMedia r) c = IsCounted operation c most_counted 0 (moof_samples (moof_in r.pending_moof)) × (operation ≡ operations.Split r.cut) × (r.number ≡ c.tally.fragments + 1)
+HasCounted operation (states.Body b w) c = IsCounted operation c (bound_in b.extent) 0 (samples_of w)
+HasCounted operation (states.Copied b) c = IsCounted operation c (bound_in b.extent) 0 0
+HasCounted operation (states.Media r) c = IsCounted operation c (bound_in r.body.extent) 0 (moof_samples (moof_in r.pending_moof)) × (operation ≡ operations.Split r.cut) × (r.number ≡ c.tally.fragments + 1)
 
 -- after a stop
 abbrev pub HasStopped : Operation → Counter → Type 0
@@ -248,7 +258,7 @@ HasStopped operation c = IsCounted operation c most_counted 0 0
 
 -- state after a stop: nothing is claimed
 abbrev pub stopped : State
-stopped = states.OpenBody (record { at = 0; kind = record { 0 = codes "mdat" }; needed = 0; left = 0 }) None
+stopped = states.Body (record { at = 0; kind = record { 0 = codes "mdat" }; left = 0; extent = extents.Open 0 }) None
 
 -- the visible part of a machine: the operation, the tracks, the bytes of a header so far, the state, and what it has counted
 pub record Progress : Type 0 where

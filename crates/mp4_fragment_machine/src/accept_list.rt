@@ -17,18 +17,18 @@ ghost use Rattle.mp4_fragment_machine.specs.States.{IsCounted, IsPendingMoof, bo
 ghost use Rattle.mp4_fragment_machine.specs.Implementation.Steps.{Advances, MayBeginFragment, GoesTo, borrowed, ledger_alone, with_head};
 ghost use Rattle.mp4_fragment_machine.specs.declared.state.State.TheVariants as states;
 
-use crate::body::{arrive, back};
+use crate::body::{back, leave};
 use crate::fragment_lines::put_pending_lines;
 use crate::lines::put_runs;
 use crate::mdat_check::{check_mdat, payload_of};
 use crate::moof_totals::add_up_runs;
 use crate::state::{Carried, Counter, PendingMoof, State};
-use mp4_box::{Header, Size};
+use mp4_box::Header;
 use mp4_ends::{Failed, Sink};
 use mp4_grammar::Command;
 use mp4_init::TrackList;
 use mp4_ledger::Ledger;
-use mp4_machine::{Block, Body, LONGEST, OpenBody, Stop};
+use mp4_machine::{AnyBody, Block, Stop, body_of};
 
 /// Counts a fragment that has so many samples, with so many bytes of media.
 pub(crate) fn count(counter: &mut Counter, samples: u64, bytes: u64)
@@ -133,25 +133,12 @@ fn enter(
         (in_mdat (number_in carried.old.operation carried.old.counter.tally) carried.old.tracks pending_moof at
         header.now needed header.now.size) [] result }
 {
-    match header.size {
-        Size::Exact(size) => {
-            let body = Body {
-                at,
-                kind: header.kind,
-                next: at + size,
-                left: size - header.header_len,
-            };
-            arrive(body, Some(pending_moof), carried, ledger)
+    match body_of(at, header, needed) {
+        AnyBody::Empty { next } => {
+            leave(next, Some(pending_moof), carried, ledger);
+            State::Header { at: next }
         }
-        Size::ToEnd => {
-            let body = OpenBody {
-                at,
-                kind: header.kind,
-                needed,
-                left: LONGEST - (at + header.header_len),
-            };
-            State::OpenBody(body, Some(pending_moof))
-        }
+        AnyBody::Bytes(body) => State::Body(body, Some(pending_moof)),
     }
 }
 

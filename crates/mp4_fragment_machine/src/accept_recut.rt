@@ -1,6 +1,6 @@
 //! Begins a fragment whose media are recut.
 
-ghost use Rattle.std.specs.Prelude.{◌≡◌, ◌+◌, ◌<◌, ◌≤◌, ◌^◌, length, None, Some, OnOk};
+ghost use Rattle.std.specs.Prelude.{◌≡◌, ℕ, ◌+◌, ◌<◌, ◌≤◌, ◌^◌, List, length, None, Some, OnOk};
 ghost use Rattle.std.specs.List.{sum_by};
 ghost use Rattle.mp4_box.specs.Headers.{HasRoom, header_at, need};
 ghost use Rattle.mp4_box.specs.declared.headers.Step.TheVariants as steps;
@@ -27,11 +27,11 @@ use crate::state::{Counter, PendingMoof};
 use mp4_box::{Fault, Header};
 use mp4_cut::Cut;
 use mp4_ends::{Failed, Sink};
-use mp4_frag::{Moof, Steps};
+use mp4_frag::Steps;
 use mp4_init::TrackList;
 use mp4_ledger::Ledger;
 use mp4_machine::{Block, Stop, Tally};
-use mp4_recut::media::{Media, begin, write_ready_heads};
+use mp4_recut::media::{CutMoof, Media, begin, write_ready_heads};
 use mp4_recut::room::check_room;
 
 /// A fragment that was begun: its moof, its media, and how many bytes of its mdat's payload are needed.
@@ -75,15 +75,15 @@ fn begin_recut<W: Sink>(
 {
     tally.samples += u128::from(moof_totals.samples);
     tally.media_bytes += moof_totals.bytes;
-    let moof = Moof::again(
-        pending_moof.moof.bytes(),
-        pending_moof.moof.offset(),
+    let moof = pending_moof.moof(tracks);
+    let cut_moof = CutMoof {
+        moof: &moof,
+        runs: &pending_moof.runs,
         tracks,
-    );
-    let runs = &pending_moof.runs;
-    let media = begin(&moof, runs, tracks, cut);
-    let fragments = &mut tally.fragments;
-    match write_ready_heads(media, &moof, runs, tracks, cut, fragments, out, w) {
+        cut,
+    };
+    let media = begin(&cut_moof);
+    match write_ready_heads(media, &cut_moof, &mut tally.fragments, out, w) {
         Ok(media) => Ok(media),
         Err(Failed) => Err(Failed),
     }
@@ -118,11 +118,7 @@ fn check_fragment(
     ensures low { steps.old.rows ≤ steps.new.rows }
     ensures most { steps.new.rows ≤ steps.old.rows + cut_most cut.now.index samples }
 {
-    let moof = Moof::again(
-        pending_moof.moof.bytes(),
-        pending_moof.moof.offset(),
-        tracks,
-    );
+    let moof = pending_moof.moof(tracks);
     match check_room(&moof, tracks, cut, number, samples, steps) {
         Ok(()) => {
             steps.rows += u128::from(samples * reads_per_row(cut));
@@ -150,7 +146,6 @@ fn reads_per_row(cut: &Cut) -> u64
 pub(crate) fn begin_split<W: Sink>(
     pending_moof: PendingMoof,
     header: &Header,
-    header_bytes: &[u8],
     tracks: &TrackList,
     cut: &Cut,
     ledger: &mut Ledger,
@@ -159,16 +154,15 @@ pub(crate) fn begin_split<W: Sink>(
     w: &mut W,
 ) -> Result<Split, Stop>
     requires room { HasRoom header.now.size header.now.header_len }
-    requires len { length header_bytes.now ≡ need header_bytes.now }
-    requires is { header_at header_bytes.now ≡ steps.Whole header.now }
     requires pending_moof { IsPendingMoof (Some tracks.now) pending_moof }
     requires claim { claimed_in (Some tracks.now) (Some pending_moof) ≤ ledger.old.live }
     requires numbers { counter.old.tally.fragments + 1 ≤ 2 ^ 32 }
     requires steps { counter.old.steps.rows < 2 ^ 120 }
     requires few { counter.old.tally.samples < 2 ^ 100 }
     requires small { counter.old.tally.media_bytes < 2 ^ 63 }
-    ensures { BeginsSplit cut.now (recut_fragment pending_moof tracks.now
-        (counter.old.tally.fragments + 1) header.now) pending_moof header.now header_bytes.now
+    ensures { (header_bytes : List ℕ) → length header_bytes ≡ need header_bytes →
+        header_at header_bytes ≡ steps.Whole header.now → BeginsSplit cut.now (recut_fragment pending_moof
+        tracks.now (counter.old.tally.fragments + 1) header.now) pending_moof header.now header_bytes
         (borrowed W.contents W.has_failed w.old w.new out.old out.new ledger.old ledger.new)
         counter.old counter.new result }
 {

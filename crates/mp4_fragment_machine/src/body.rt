@@ -1,20 +1,26 @@
 //! Bodies that are passed over, and the end of the mdat of a moof.
 
-ghost use Rattle.std.specs.Prelude.{◌≡◌, ◌+◌, ◌*◌, ◌<◌, ◌≤◌, ◌^◌, [], length, min, take, Ok, Some};
+ghost use Rattle.std.specs.Prelude.{◌≡◌, ℕ, ◌+◌, ◌*◌, ◌<◌, ◌≤◌, ◌^◌, [], Option, length, Some};
 ghost use Rattle.mp4_frag.specs.Moofs.{moof_of, moof_samples, moof_trafs};
 ghost use Rattle.mp4_frag.specs.Settling.{settled, timed_of};
 ghost use Rattle.mp4_ledger.specs.Memory.{given_back};
+ghost use Rattle.mp4_box.specs.declared.headers.FourCc.{FourCc};
 ghost use Rattle.mp4_machine.specs.Bodies.{longest};
-ghost use Rattle.mp4_fragment_machine.specs.Places.{Untouched};
-ghost use Rattle.mp4_fragment_machine.specs.States.{IsPendingMoof, IsState, MayBePending, moof_in, taken_by};
-ghost use Rattle.mp4_fragment_machine.specs.Implementation.Steps.{CanStep, Consumes, GoesTo, MayTake, at_state, ledger_alone};
+ghost use Rattle.mp4_machine.specs.Readings.{no_effects};
+ghost use Rattle.mp4_machine.specs.declared.body.Body.{Body};
+ghost use Rattle.mp4_recut.specs.Operations.{number_in};
+ghost use Rattle.mp4_fragment_machine.specs.Places.{InBody, Untouched};
+ghost use Rattle.mp4_fragment_machine.specs.States.{IsCounted, IsPendingMoof, IsState, MayBePending, after_body, claimed_in, moof_in, samples_of, taken_by};
+ghost use Rattle.mp4_fragment_machine.specs.Implementation.Steps.{CanStep, ConsumesInPlace, GoesTo, ledger_alone};
+ghost use Rattle.mp4_fragment_machine.specs.declared.state.PendingMoof.{PendingMoof};
 ghost use Rattle.mp4_fragment_machine.specs.declared.state.State.TheVariants as states;
 
-use crate::state::{Carried, Counter, PendingMoof, State, Taken};
-use mp4_frag::Moof;
+use crate::moves::leave_body;
+use crate::state::{Carried, Counter, PendingMoof, State};
+use crate::step::let_go;
 use mp4_init::TrackList;
 use mp4_ledger::Ledger;
-use mp4_machine::{Body, OpenBody, Stop};
+use mp4_machine::Stop;
 
 /// Ends the tracks after a moof and its mdat, and gives the moof and its list back.
 pub(crate) fn end_fragment(
@@ -36,11 +42,8 @@ pub(crate) fn end_fragment(
     ensures few { counter.new.steps.rows ≤
         counter.old.steps.rows + moof_samples (moof_in pending_moof) }
 {
-    let PendingMoof { moof, runs } = pending_moof;
-    let again = Moof::again(moof.bytes(), moof.offset(), tracks);
-    again.settle(tracks, &mut counter.steps);
-    runs.back(ledger);
-    moof.back(ledger);
+    pending_moof.moof(tracks).settle(tracks, &mut counter.steps);
+    back(Some(pending_moof), ledger);
 }
 
 /// Gives a pending moof and its list back, if there is one.
@@ -54,22 +57,25 @@ pub(crate) fn back(pending_moof: Option<PendingMoof>, ledger: &mut Ledger)
     }
 }
 
-/// Leaves a body of which all bytes came: a pending moof is done.
+/// Ends a body, after which the next box begins at `next`: a pending moof is done.
 pub(crate) fn leave(
-    body: &Body,
+    next: u64,
     pending_moof: Option<PendingMoof>,
     carried: &mut Carried,
     ledger: &mut Ledger,
 )
-    requires none { body.now.left ≡ 0 }
-    requires end { body.now.next ≤ longest }
+    requires end { next ≤ longest }
     requires pending_moof { MayBePending carried.old.tracks pending_moof }
     requires empty { carried.old.header_bytes ≡ [] }
-    requires can { CanStep carried.old ledger.old (states.Body body.now pending_moof) }
-    ensures { (u : Untouched) → GoesTo (ledger_alone u ledger.old ledger.new) carried.old carried.new
-        (at_state carried.old (states.Body body.now pending_moof)) [] (states.Header body.now.next) }
+    requires claim { claimed_in carried.old.tracks pending_moof ≤ ledger.old.live }
+    requires counted { IsCounted carried.old.operation carried.old.counter next 0 (samples_of pending_moof) }
+    ensures { (u : Untouched) (at left : ℕ) (kind : FourCc) → left ≡ 0 →
+        GoesTo (ledger_alone u ledger.old ledger.new) carried.old carried.new
+        (InBody (λ _. no_effects) at kind
+        (after_body (number_in carried.old.operation carried.old.counter.tally) carried.old.tracks pending_moof next)
+        left (claimed_in carried.old.tracks pending_moof)) [] (states.Header next) }
 {
-    let _ = body;
+    let _ = next;
     let Some(pending_moof) = pending_moof else {
         return;
     };
@@ -79,74 +85,38 @@ pub(crate) fn leave(
     }
 }
 
-/// The state where so much of a body is left: where nothing is, a pending moof is done.
-pub(crate) fn arrive(
-    body: Body,
-    pending_moof: Option<PendingMoof>,
-    carried: &mut Carried,
-    ledger: &mut Ledger,
-) -> State
-    requires body { (body.left ≤ body.next) × (body.next ≤ longest) }
-    requires pending_moof { MayBePending carried.old.tracks pending_moof }
-    requires empty { carried.old.header_bytes ≡ [] }
-    requires can { CanStep carried.old ledger.old (states.Body body pending_moof) }
-    ensures { (u : Untouched) → GoesTo (ledger_alone u ledger.old ledger.new) carried.old carried.new
-        (at_state carried.old (states.Body body pending_moof)) [] result }
-{
-    if body.left > 0 {
-        return State::Body(body, pending_moof);
-    }
-    leave(&body, pending_moof, carried, ledger);
-    State::Header { at: body.next }
-}
-
-/// Takes the rest of a body from the front of the input. Returns how many bytes.
-pub(crate) fn end_body(
-    body: Body,
-    pending_moof: Option<PendingMoof>,
-    input: &[u8],
-    carried: &mut Carried,
-    ledger: &mut Ledger,
-) -> usize
-    requires within { body.left ≤ length input.now }
-    requires state { IsState carried.old.tracks carried.old.header_bytes (states.Body body pending_moof) }
-    requires can { CanStep carried.old ledger.old (states.Body body pending_moof) }
-    ensures { (u : Untouched) → (0 < result) × (result ≤ length input.now) ×
-        GoesTo (ledger_alone u ledger.old ledger.new) carried.old carried.new
-        (at_state carried.old (states.Body body pending_moof)) (take result input.now) (states.Header body.next) }
-{
-    let _ = input;
-    let count = body.left as usize;
-    leave(&Body { left: 0, ..body }, pending_moof, carried, ledger);
-    count
-}
-
-/// Takes the input of a body that goes to the end of the stream.
+/// Takes bytes of a body that is passed over from the front of the input, and changes the state in place. Returns how
+/// many. At its end a pending moof is done; at a stop it is given back.
 ///
 /// # Errors
 ///
-/// `Stream` where it goes too far: a pending moof is given back then.
-pub(crate) fn take_open(
-    body: OpenBody,
-    pending_moof: Option<PendingMoof>,
+/// `Stream` where the body goes too far.
+pub(crate) fn take_body(
+    current: &mut State,
     input: &[u8],
-    carried: &Carried,
+    carried: &mut Carried,
     ledger: &mut Ledger,
-) -> Result<Taken, Stop>
-    requires { MayTake input.now carried.now ledger.old (states.OpenBody body pending_moof) }
-    ensures { (u : Untouched) → Consumes (ledger_alone u ledger.old ledger.new)
-        carried.now carried.now (states.OpenBody body pending_moof) input.now result }
+) -> Result<usize, Stop>
+    requires some { 0 < length input.now }
+    requires body { (b : Body) × (w : Option PendingMoof) × (current.old ≡ states.Body b w) }
+    requires state { IsState carried.old.tracks carried.old.header_bytes current.old }
+    requires can { CanStep carried.old ledger.old current.old }
+    ensures { (u : Untouched) → ConsumesInPlace (ledger_alone u ledger.old ledger.new)
+        carried.old carried.new current.old current.new input.now result }
 {
-    let _ = carried;
-    let mut body = body;
-    match body.take(input) {
-        Ok(()) => Ok(Taken {
-            count: input.len(),
-            state: State::OpenBody(body, pending_moof),
-        }),
+    let State::Body(body, _) = current else {
+        unreachable!();
+    };
+    let count = match body.take(input) {
+        Ok(count) => count,
         Err(stop) => {
-            back(pending_moof, ledger);
-            Err(stop)
+            let_go(current, ledger);
+            return Err(stop);
         }
+    };
+    if let Some(next) = body.next() {
+        leave(next, leave_body(current, next), carried, ledger);
+        return Ok(count);
     }
+    Ok(count)
 }

@@ -11,7 +11,7 @@ ghost use Rattle.mp4_fragment_machine.specs.States.{IsPendingMoof, lines_of, moo
 
 use crate::state::PendingMoof;
 use mp4_ends::{Failed, Sink};
-use mp4_frag::{Cursor, Moof, Row, Rows, Run, Steps};
+use mp4_frag::{Cursor, Row, Rows, Run, Steps};
 use mp4_grammar::{CachedLine, Sample};
 use mp4_init::TrackList;
 use mp4_machine::Block;
@@ -137,11 +137,7 @@ pub(crate) fn put_runs<W: Sink>(
     ensures puts { Puts (sent W.contents W.has_failed w.old w.new) out.old out.new
         (lines_of pending_moof.now tracks.now) result }
 {
-    let moof = Moof::again(
-        pending_moof.moof.bytes(),
-        pending_moof.moof.offset(),
-        tracks,
-    );
+    let moof = pending_moof.moof(tracks);
     steps.rows += u128::from(samples);
     let mut i = 0;
     while i < pending_moof.runs.len() {

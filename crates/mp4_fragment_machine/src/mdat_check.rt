@@ -17,7 +17,7 @@ ghost use Rattle.mp4_fragment_machine.specs.States.{IsPendingMoof, moof_in};
 use crate::state::PendingMoof;
 use mp4_box::types::MOOF;
 use mp4_box::{Fault, Header, Rule, Size};
-use mp4_frag::{Moof, Payload, Steps};
+use mp4_frag::{Payload, Steps};
 use mp4_grammar::{Kind, kind_of};
 use mp4_init::TrackList;
 use mp4_machine::is_too_long;
@@ -101,10 +101,7 @@ fn check_places(
     ensures { fault_of result ≡
         place_fault payload (moof_runs (moof_in pending_moof.now) tracks.now) }
 {
-    let again = Moof::again(
-        pending_moof.moof.bytes(),
-        pending_moof.moof.offset(),
-        tracks,
-    );
-    again.places(payload, &pending_moof.runs, &mut Steps { rows: 0 })
+    pending_moof
+        .moof(tracks)
+        .places(payload, &pending_moof.runs, &mut Steps { rows: 0 })
 }

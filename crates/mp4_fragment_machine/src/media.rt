@@ -11,17 +11,15 @@ ghost use Rattle.mp4_fragment_machine.specs.declared.state.Recutting.{Recutting}
 ghost use Rattle.mp4_fragment_machine.specs.declared.state.State.TheVariants as states;
 
 use crate::body::end_fragment;
-use crate::moves::{leave_media, stopped};
+use crate::moves::leave_media;
 use crate::state::{Carried, PendingMoof, State};
-use crate::step::back_state;
+use crate::step::let_go;
 use mp4_cut::Cut;
 use mp4_ends::{Failed, Sink};
-use mp4_frag::Moof;
 use mp4_init::TrackList;
 use mp4_ledger::Ledger;
 use mp4_machine::{Block, Stop, Tally};
-use mp4_recut::media::{Media, copy_all_media};
-use std::mem::replace;
+use mp4_recut::media::{CutMoof, Media, copy_all_media};
 
 /// Takes bytes of an mdat that is recut from the front of the input, which begins at the stream offset `at`: all that
 /// belong to the `left` bytes that remain of it. Returns how many. The media are changed in place.
@@ -48,16 +46,14 @@ pub(crate) fn take_media<W: Sink>(
 {
     let most = left.min(input.len() as u64);
     let (front, _) = input.split_at(most as usize);
-    let moof = Moof::again(
-        pending_moof.moof.bytes(),
-        pending_moof.moof.offset(),
+    let moof = pending_moof.moof(tracks);
+    let cut_moof = CutMoof {
+        moof: &moof,
+        runs: &pending_moof.runs,
         tracks,
-    );
-    let fragments = &mut tally.fragments;
-    let runs = &pending_moof.runs;
-    match copy_all_media(
-        at, media, front, &moof, runs, tracks, cut, fragments, out, w,
-    ) {
+        cut,
+    };
+    match copy_all_media(at, media, front, &cut_moof, &mut tally.fragments, out, w) {
         Ok(()) => Ok(most as usize),
         Err(Failed) => Err(Failed),
     }
@@ -68,7 +64,7 @@ pub(crate) fn take_media<W: Sink>(
 ///
 /// # Errors
 ///
-/// `Write` where a write failed.
+/// `Stream` where the mdat goes too far: the bytes before that were recut; `Write` where a write failed.
 pub(crate) fn take_split<W: Sink>(
     current: &mut State,
     input: &[u8],
@@ -92,7 +88,12 @@ pub(crate) fn take_split<W: Sink>(
     };
     let tally = &mut carried.counter.tally;
     let left = recutting.body.left;
-    let at = recutting.body.next - left;
+    if left == 0 {
+        let stop = recutting.body.too_far();
+        let_go(current, ledger);
+        return Err(stop);
+    }
+    let at = recutting.body.reached();
     let media = &mut recutting.media;
     let pending_moof = &recutting.pending_moof;
     let cut = &recutting.cut;
@@ -110,16 +111,16 @@ pub(crate) fn take_split<W: Sink>(
     ) {
         Ok(count) => count,
         Err(Failed) => {
-            back_state(replace(current, stopped()), ledger);
+            let_go(current, ledger);
             return Err(Stop::Write);
         }
     };
-    let left = left - count as u64;
-    if left == 0 {
-        end_fragment(leave_media(current), list, ledger, &mut carried.counter);
+    recutting.body.pass(count as u64);
+    if let Some(next) = recutting.body.next() {
+        let counter = &mut carried.counter;
+        end_fragment(leave_media(current, next), list, ledger, counter);
         return Ok(count);
     }
-    recutting.body.left = left;
     recutting.number = tally.fragments + 1;
     Ok(count)
 }

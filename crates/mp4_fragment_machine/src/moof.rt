@@ -14,7 +14,7 @@ ghost use Rattle.mp4_fragment_machine.specs.Implementation.Steps.{Advances, CanS
 ghost use Rattle.mp4_fragment_machine.specs.Implementation.InPlace.{WasReadInPlace};
 ghost use Rattle.mp4_fragment_machine.specs.declared.state.State.TheVariants as states;
 
-use crate::in_place_read::InPlaceRead;
+use crate::in_place::many_runs::InPlaceRead;
 use crate::state::{Carried, Counter, PendingMoof, State};
 use mp4_box::Fault;
 use mp4_frag::Moof;

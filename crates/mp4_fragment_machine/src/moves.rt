@@ -1,6 +1,7 @@
 //! The slot with the state of a machine, which is changed in place.
 
-ghost use Rattle.std.specs.Prelude.{◌≡◌, ℕ, ◌-◌, ◌≤◌, ◌<◌, Option};
+ghost use Rattle.std.specs.Prelude.{◌≡◌, ℕ, ◌≤◌, Option};
+ghost use Rattle.mp4_machine.specs.Bodies.{after_bytes};
 ghost use Rattle.mp4_machine.specs.declared.body.Body.{Body};
 ghost use Rattle.mp4_fragment_machine.specs.States.{stopped};
 ghost use Rattle.mp4_fragment_machine.specs.declared.state.Recutting.{Recutting};
@@ -9,20 +10,20 @@ ghost use Rattle.mp4_fragment_machine.specs.declared.state.PendingMoof.{PendingM
 
 use crate::state::{PendingMoof, Recutting, State};
 use mp4_box::types::MDAT;
-use mp4_machine::{Body, OpenBody};
+use mp4_machine::{Body, Extent};
 use std::mem::replace;
 
 /// The state after a stop: nothing in it must be given back.
 pub(crate) fn stopped() -> State
     ensures { result ≡ stopped }
 {
-    let body = OpenBody {
+    let body = Body {
         at: 0,
         kind: MDAT,
-        needed: 0,
         left: 0,
+        extent: Extent::Open { needed: 0 },
     };
-    State::OpenBody(body, None)
+    State::Body(body, None)
 }
 
 /// Goes on with the header of the box at `at`, from a header.
@@ -41,12 +42,12 @@ pub(crate) fn go_to(current: &mut State, at: u64)
 #[inline(always)]
 pub(crate) fn go_on(current: &mut State, count: u64)
     requires { (b : Body) × (w : Option PendingMoof) × (current.old ≡ states.Body b w) ×
-        (count < b.left) }
+        (count ≤ b.left) }
     ensures { (b : Body) (w : Option PendingMoof) → current.old ≡ states.Body b w →
-        current.new ≡ states.Body (record b { left = b.left - count }) w }
+        current.new ≡ states.Body (after_bytes count b) w }
 {
     match current {
-        State::Body(body, _) => body.left -= count,
+        State::Body(body, _) => body.pass(count),
         _ => unreachable!(),
     }
 }
@@ -64,41 +65,27 @@ pub(crate) fn leave_header(current: &mut State, state: State)
     }
 }
 
-/// A body that was left, and the pending moof, if there is one.
-pub(crate) struct LeftBody {
-    pub(crate) body: Body,
-    pub(crate) pending_moof: Option<PendingMoof>,
-}
-
-/// Goes on with the header after a body, and returns the body.
+/// Goes on with the header of the box at `at`, from a body. Returns the pending moof, if there is one.
 #[inline(always)]
-pub(crate) fn leave_body(current: &mut State) -> LeftBody
+pub(crate) fn leave_body(current: &mut State, at: u64) -> Option<PendingMoof>
     requires { (b : Body) × (w : Option PendingMoof) × (current.old ≡ states.Body b w) }
     ensures { (b : Body) (w : Option PendingMoof) → current.old ≡ states.Body b w →
-        (result.body ≡ b) × (result.pending_moof ≡ w) × (current.new ≡ states.Header b.next) }
+        (result ≡ w) × (current.new ≡ states.Header at) }
 {
-    let next = match current {
-        State::Body(body, _) => body.next,
-        _ => unreachable!(),
-    };
-    match replace(current, State::Header { at: next }) {
-        State::Body(body, pending_moof) => LeftBody { body, pending_moof },
+    match replace(current, State::Header { at }) {
+        State::Body(_, pending_moof) => pending_moof,
         _ => unreachable!(),
     }
 }
 
-/// Goes on with the header after an mdat that is recut, and returns its moof.
+/// Goes on with the header of the box at `at`, from an mdat that is recut. Returns its moof.
 #[inline(always)]
-pub(crate) fn leave_media(current: &mut State) -> PendingMoof
+pub(crate) fn leave_media(current: &mut State, at: u64) -> PendingMoof
     requires { (r : Recutting) × (current.old ≡ states.Media r) }
     ensures { (r : Recutting) → current.old ≡ states.Media r →
-        (result ≡ r.pending_moof) × (current.new ≡ states.Header r.body.next) }
+        (result ≡ r.pending_moof) × (current.new ≡ states.Header at) }
 {
-    let next = match current {
-        State::Media(recutting) => recutting.body.next,
-        _ => unreachable!(),
-    };
-    match replace(current, State::Header { at: next }) {
+    match replace(current, State::Header { at }) {
         State::Media(
             Recutting {
                 cut: _,
@@ -131,7 +118,7 @@ pub(crate) fn put_state(current: &mut State, state: State)
     ensures { current.new ≡ state }
 {
     match replace(current, state) {
-        State::OpenBody(_, pending_moof) => match pending_moof {
+        State::Body(_, pending_moof) => match pending_moof {
             None => {}
             Some(_) => unreachable!(),
         },

@@ -65,10 +65,9 @@ fn copy(at: u64, header: &Header) -> State
         Passes l.written l.written' l.waiting l.waiting' x →
         GoesTo l (with_head x k) k (at_state (with_head x k) (states.Header at)) [] result }
 {
-    match body_of(at, header) {
+    match body_of(at, header, 0) {
         AnyBody::Empty { next } => State::Header { at: next },
-        AnyBody::Sized(body) => State::Copied(body),
-        AnyBody::Open(body) => State::OpenCopied(body),
+        AnyBody::Bytes(body) => State::Copied(body),
     }
 }
 
@@ -83,9 +82,8 @@ fn leave_out(at: u64, header: &Header) -> State
         GoesTo (ledger_alone u account account) (with_head x k) k
         (at_state (with_head x k) (states.Header at)) [] result }
 {
-    match body_of(at, header) {
+    match body_of(at, header, 0) {
         AnyBody::Empty { next } => State::Header { at: next },
-        AnyBody::Sized(body) => State::Body(body, None),
-        AnyBody::Open(body) => State::OpenBody(body, None),
+        AnyBody::Bytes(body) => State::Body(body, None),
     }
 }

@@ -14,12 +14,12 @@ ghost use Rattle.mp4_fragment_machine.specs.declared.state.State.TheVariants as 
 
 use crate::accept_recut::{Split, begin_split};
 use crate::body::end_fragment;
-use crate::state::{Carried, OpenRecutting, PendingMoof, Recutting, State};
+use crate::state::{Carried, PendingMoof, Recutting, State};
 use mp4_box::Header;
 use mp4_cut::Cut;
 use mp4_ends::Sink;
 use mp4_ledger::Ledger;
-use mp4_machine::{AnyBody, Block, OpenBody, Stop, body_of};
+use mp4_machine::{AnyBody, Block, Stop, body_of};
 
 /// The state after the header of the mdat at `at`, whose media were begun.
 fn enter_split(
@@ -52,22 +52,15 @@ fn enter_split(
         unreachable!();
     };
     let number = carried.counter.tally.fragments + 1;
-    match body_of(at, header) {
+    match body_of(at, header, needed) {
         AnyBody::Empty { next } => {
             end_fragment(pending_moof, list, ledger, &mut carried.counter);
             State::Header { at: next }
         }
-        AnyBody::Sized(body) => State::Media(Recutting {
+        AnyBody::Bytes(body) => State::Media(Recutting {
             cut,
             number,
             body,
-            media,
-            pending_moof,
-        }),
-        AnyBody::Open(body) => State::OpenMedia(OpenRecutting {
-            cut,
-            number,
-            body: OpenBody { needed, ..body },
             media,
             pending_moof,
         }),
@@ -101,7 +94,6 @@ pub(crate) fn begin_media<W: Sink>(
     match begin_split(
         pending_moof,
         header,
-        header_bytes,
         list,
         &cut,
         ledger,

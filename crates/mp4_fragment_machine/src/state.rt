@@ -1,10 +1,13 @@
 //! State of the fragment machine.
 
+ghost use Rattle.std.specs.Prelude.{◌≡◌, Some};
+ghost use Rattle.mp4_fragment_machine.specs.States.{IsPendingMoof, moof_in};
+
 use mp4_box::HeaderReader;
 use mp4_cut::Cut;
-use mp4_frag::{RunList, Steps};
+use mp4_frag::{Moof, RunList, Steps};
 use mp4_init::TrackList;
-use mp4_machine::{Body, BufferedBox, OpenBody, Tally};
+use mp4_machine::{Body, BufferedBox, Tally};
 use mp4_recut::Operation;
 use mp4_recut::media::Media;
 
@@ -12,6 +15,17 @@ use mp4_recut::media::Media;
 pub(crate) struct PendingMoof {
     pub(crate) moof: BufferedBox,
     pub(crate) runs: RunList,
+}
+
+impl PendingMoof {
+    /// The moof that was read from its bytes with these tracks. It reads no row.
+    #[inline(always)]
+    pub(crate) fn moof(&self, tracks: &TrackList) -> Moof<'_>
+        requires { IsPendingMoof (Some tracks.now) self.now }
+        ensures { result ≡ moof_in self.now }
+    {
+        Moof::again(self.moof.bytes(), self.moof.offset(), tracks)
+    }
 }
 
 /// The body of an mdat that is recut, at whose end its moof is done; `number` is the sequence number of the next output
@@ -24,16 +38,6 @@ pub(crate) struct Recutting {
     pub(crate) pending_moof: PendingMoof,
 }
 
-/// The body of an mdat that goes to the end of the stream and is recut; `number` is the sequence number of the next
-/// output fragment.
-pub(crate) struct OpenRecutting {
-    pub(crate) cut: Cut,
-    pub(crate) number: u64,
-    pub(crate) body: OpenBody,
-    pub(crate) media: Media,
-    pub(crate) pending_moof: PendingMoof,
-}
-
 /// What a machine takes next.
 pub(crate) enum State {
     /// A byte of the header of the box at `at`.
@@ -42,18 +46,12 @@ pub(crate) enum State {
     Buffering(BufferedBox),
     /// A byte of the header after a sound moof.
     MdatHeader(PendingMoof),
-    /// Bytes of a body. If it is an mdat's, its moof is pending.
+    /// Bytes of a body that is passed over. If it is an mdat's, its moof is pending.
     Body(Body, Option<PendingMoof>),
-    /// Bytes of a body that goes to the end of the stream.
-    OpenBody(OpenBody, Option<PendingMoof>),
     /// Bytes of a body that is copied.
     Copied(Body),
-    /// Bytes of one that is copied to the end of the stream.
-    OpenCopied(OpenBody),
     /// Bytes of an mdat that is recut.
     Media(Recutting),
-    /// Bytes of one that goes to the end of the stream.
-    OpenMedia(OpenRecutting),
 }
 
 /// What a machine has counted of the stream, and how many rows it has read.

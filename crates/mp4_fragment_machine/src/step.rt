@@ -3,30 +3,30 @@
 ghost use Rattle.std.specs.Prelude.{◌≡◌, ◌≤◌, Option};
 ghost use Rattle.mp4_ledger.specs.Memory.{given_back};
 ghost use Rattle.mp4_machine.specs.declared.body.Body.{Body};
-ghost use Rattle.mp4_fragment_machine.specs.States.{kept_by};
+ghost use Rattle.mp4_fragment_machine.specs.States.{kept_by, stopped};
 ghost use Rattle.mp4_fragment_machine.specs.Implementation.Steps.{Consumes, MayTake, borrowed};
 ghost use Rattle.mp4_fragment_machine.specs.declared.state.Recutting.{Recutting};
 ghost use Rattle.mp4_fragment_machine.specs.declared.state.State.TheVariants as states;
 ghost use Rattle.mp4_fragment_machine.specs.declared.state.PendingMoof.{PendingMoof};
 
-use crate::body::{back, take_open};
+use crate::body::back;
 use crate::buffered_box::take_held;
-use crate::copied_box::{take_copied, take_open_copied};
+use crate::copied_box::take_copied;
 use crate::header::take_header;
 use crate::mdat_header::take_mdat_header;
-use crate::open_media::take_open_split;
-use crate::state::{Carried, OpenRecutting, Recutting, State, Taken};
+use crate::moves::stopped;
+use crate::state::{Carried, Recutting, State, Taken};
 use mp4_ends::Sink;
 use mp4_ledger::Ledger;
 use mp4_machine::{Block, Stop};
+use std::mem::replace;
 
-/// Takes bytes from the front of the input, but none of a body of stated size that is passed over or recut: those are
-/// taken in place. At a stop everything but the track table is given back.
+/// Takes bytes from the front of the input, but none of a body that is passed over or recut: those are taken in place.
+/// At a stop everything but the track table is given back.
 ///
 /// # Errors
 ///
-/// As [`take_header`], [`take_held`], [`take_mdat_header`], [`take_open`], [`take_copied`], [`take_open_copied`]
-/// and [`take_open_split`].
+/// As [`take_header`], [`take_held`], [`take_mdat_header`] and [`take_copied`].
 #[inline(always)]
 pub(crate) fn take_next<W: Sink>(
     state: State,
@@ -53,18 +53,20 @@ pub(crate) fn take_next<W: Sink>(
             out,
             w,
         ),
-        State::OpenBody(body, pending_moof) => take_open(
-            body,
-            pending_moof,
-            input,
-            carried,
-            ledger,
-        ),
         State::Copied(body) => take_copied(body, input, out, w),
-        State::OpenCopied(body) => take_open_copied(body, input, out, w),
-        State::OpenMedia(recutting) => take_open_split(recutting, input, carried, ledger, out, w),
         _ => unreachable!(),
     }
+}
+
+/// Gives back what is held, and then holds nothing.
+// Its room is no part of the frames of its callers, which seldom stop.
+#[inline(never)]
+pub(crate) fn let_go(current: &mut State, ledger: &mut Ledger)
+    requires { kept_by current.old ≤ ledger.old.live }
+    ensures after { current.new ≡ stopped }
+    ensures back { ledger.new ≡ given_back ledger.old (kept_by current.old) }
+{
+    back_state(replace(current, stopped()), ledger);
 }
 
 /// Gives back what is held.
@@ -79,19 +81,9 @@ pub(crate) fn back_state(state: State, ledger: &mut Ledger)
         State::Buffering(buffered) => buffered.back(ledger),
         State::MdatHeader(pending_moof) => back(Some(pending_moof), ledger),
         State::Body(_, pending_moof) => back(pending_moof, ledger),
-        State::OpenBody(_, pending_moof) => back(pending_moof, ledger),
-        State::Copied(_) | State::OpenCopied(_) => {}
+        State::Copied(_) => {}
         State::Media(
             Recutting {
-                cut: _,
-                number: _,
-                body: _,
-                media: _,
-                pending_moof,
-            },
-        ) => back(Some(pending_moof), ledger),
-        State::OpenMedia(
-            OpenRecutting {
                 cut: _,
                 number: _,
                 body: _,

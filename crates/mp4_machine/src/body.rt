@@ -1,31 +1,32 @@
 //! Bodies of boxes, taken as their bytes come.
 
-ghost use Rattle.std.specs.Prelude.{◌≡◌, ◌+◌, ◌-◌, ◌<◌, ◌≤◌, length, min, Some, IfErr, OnErr, OnOk};
+ghost use Rattle.std.specs.Prelude.{◌≡◌, ◌+◌, ◌-◌, ◌<◌, ◌≤◌, length, min, Some, IfSome, IfNone, IfOk, IfErr, OnErr, OnOk};
 ghost use Rattle.mp4_box.specs.Headers.{HasRoom};
 ghost use Rattle.mp4_box.specs.declared.rules.Rule.TheVariants.{StreamTooLong, Truncated};
-ghost use Rattle.mp4_machine.specs.Bodies.{IsBodyOf, fault, least_end, longest};
+ghost use Rattle.mp4_machine.specs.Bodies.{HasMore, IsBodyOf, IsOpen, IsShort, after_bytes, fault, latest_end, least_end, longest};
+ghost use Rattle.mp4_machine.specs.declared.body.Extent.TheVariants as extents;
 
 use crate::limits::{LONGEST, at_fault};
 use crate::stop::Stop;
 use mp4_box::{Fault, FourCc, Header, Rule, Size};
 
-/// The body of the box at `at`, with some bytes left; the next box begins at `next`.
+/// How far a body goes.
+#[derive(Clone, Copy)]
+pub enum Extent {
+    /// As far as its box states: the next box begins at `next`.
+    Sized { next: u64 },
+    /// To the end of the stream: at least `needed` bytes must come.
+    Open { needed: u64 },
+}
+
+/// The body of the box at `at`, of which `left` bytes are to come; if it goes to the end of the stream, at most so
+/// many.
 #[derive(Clone, Copy)]
 pub struct Body {
     pub at: u64,
     pub kind: FourCc,
-    pub next: u64,
     pub left: u64,
-}
-
-/// The body of the box at `at`, which goes to the end of the stream: at least `needed` and at most `left` bytes must
-/// come.
-#[derive(Clone, Copy)]
-pub struct OpenBody {
-    pub at: u64,
-    pub kind: FourCc,
-    pub needed: u64,
-    pub left: u64,
+    pub extent: Extent,
 }
 
 /// The body of a box, by its size.
@@ -33,18 +34,16 @@ pub struct OpenBody {
 pub enum AnyBody {
     /// No bytes: the next box begins at `next`.
     Empty { next: u64 },
-    /// So many bytes as the box states.
-    Sized(Body),
-    /// All to the end of the stream.
-    Open(OpenBody),
+    /// Bytes that are to come.
+    Bytes(Body),
 }
 
-/// The body after the header of the box at `at`.
+/// The body after the header of the box at `at`. If it goes to the end of the stream, `needed` bytes of it must come.
 #[inline(always)]
-pub fn body_of(at: u64, header: &Header) -> AnyBody
+pub fn body_of(at: u64, header: &Header, needed: u64) -> AnyBody
     requires room { HasRoom header.now.size header.now.header_len }
     requires end { least_end at header.now header.now.size ≤ longest }
-    ensures { IsBodyOf at header.now result }
+    ensures { IsBodyOf at header.now needed result }
 {
     match header.size {
         Size::Exact(size) => {
@@ -52,57 +51,97 @@ pub fn body_of(at: u64, header: &Header) -> AnyBody
             if size == header.header_len {
                 return AnyBody::Empty { next };
             }
-            AnyBody::Sized(Body {
+            AnyBody::Bytes(Body {
                 at,
                 kind: header.kind,
-                next,
                 left: size - header.header_len,
+                extent: Extent::Sized { next },
             })
         }
-        Size::ToEnd => AnyBody::Open(OpenBody {
+        Size::ToEnd => AnyBody::Bytes(Body {
             at,
             kind: header.kind,
-            needed: 0,
             left: LONGEST - (at + header.header_len),
+            extent: Extent::Open { needed },
         }),
     }
 }
 
 impl Body {
-    /// Takes the bytes at the front of the input that belong to the body. Returns how many.
+    /// The stream offset of its next byte.
     #[inline(always)]
-    pub fn take(&mut self, input: &[u8]) -> usize
-        ensures taken { result ≡ min self.old.left (length input.now) }
-        ensures left { self.new ≡ record self.old { left = self.old.left - result } }
+    pub fn reached(&self) -> u64
+        requires { self.now.left ≤ latest_end self.now.extent }
+        ensures { result ≡ latest_end self.now.extent - self.now.left }
     {
-        let taken = self.left.min(input.len() as u64);
-        self.left -= taken;
-        taken as usize
+        let end = match self.extent {
+            Extent::Sized { next } => next,
+            Extent::Open { needed: _ } => LONGEST,
+        };
+        end - self.left
     }
-}
 
-impl OpenBody {
-    /// Takes the input.
+    /// Passes over so many of its bytes.
+    #[inline(always)]
+    pub fn pass(&mut self, count: u64)
+        requires { count ≤ self.old.left }
+        ensures { self.new ≡ after_bytes count self.old }
+    {
+        self.left -= count;
+        match &mut self.extent {
+            Extent::Sized { next: _ } => {}
+            Extent::Open { needed } => *needed = needed.saturating_sub(count),
+        }
+    }
+
+    /// Takes the bytes at the front of the input that belong to the body. Returns how many.
     ///
     /// # Errors
     ///
     /// `Stream` where the body goes too far.
     #[inline(always)]
-    pub fn take(&mut self, input: &[u8]) -> Result<(), Stop>
-        ensures ok { OnOk result (length input.now ≤ self.old.left) }
-        ensures left { OnOk result (self.new ≡ record self.old
-            { needed = self.old.needed - length input.now; left = self.old.left - length input.now }) }
+    pub fn take(&mut self, input: &[u8]) -> Result<usize, Stop>
+        ensures taken { IfOk result (λ n. n ≡ min self.old.left (length input.now)) }
+        ensures left { IfOk result (λ n. self.new ≡ after_bytes n self.old) }
+        ensures all { OnOk result (IsOpen self.old.extent → length input.now ≤ self.old.left) }
         ensures far { OnErr result (self.old.left < length input.now) }
+        ensures open { OnErr result (IsOpen self.old.extent) }
         ensures err { IfErr result (λ e. e ≡
             Stop.Stream (fault StreamTooLong (Some self.old.kind) self.old.at)) }
     {
         let len = input.len() as u64;
         if len > self.left {
-            return Err(at_fault(Rule::StreamTooLong, Some(self.kind), self.at));
+            if let Extent::Open { needed: _ } = self.extent {
+                return Err(self.too_far());
+            }
         }
-        self.needed = self.needed.saturating_sub(len);
-        self.left -= len;
-        Ok(())
+        let count = self.left.min(len);
+        self.pass(count);
+        Ok(count as usize)
+    }
+
+    /// A refusal of the box, whose body goes too far.
+    pub fn too_far(&self) -> Stop
+        ensures { result ≡ Stop.Stream (fault StreamTooLong (Some self.now.kind) self.now.at) }
+    {
+        at_fault(Rule::StreamTooLong, Some(self.kind), self.at)
+    }
+
+    /// Where the next box begins, if all bytes of the body came.
+    #[inline(always)]
+    pub fn next(&self) -> Option<u64>
+        ensures some { IfSome result (λ next. (self.now.left ≡ 0) × (self.now.extent ≡ extents.Sized next)) }
+        ensures none { IfNone result (HasMore self.now.left self.now.extent) }
+    {
+        match self.extent {
+            Extent::Sized { next } => {
+                if self.left > 0 {
+                    return None;
+                }
+                Some(next)
+            }
+            Extent::Open { needed: _ } => None,
+        }
     }
 
     /// What the end of the stream means within it.
@@ -111,14 +150,19 @@ impl OpenBody {
     ///
     /// `Truncated` where more bytes of it are needed.
     pub fn end(&self) -> Result<(), Fault>
-        ensures ok { OnOk result (self.now.needed ≡ 0) }
-        ensures some { OnErr result (0 < self.now.needed) }
+        ensures ok { OnOk result (self.now.extent ≡ extents.Open 0) }
+        ensures some { OnErr result (IsShort self.now.extent) }
         ensures err { IfErr result (λ f. f ≡ fault Truncated (Some self.now.kind) self.now.at) }
     {
-        if self.needed == 0 {
-            return Ok(());
+        match self.extent {
+            Extent::Sized { next: _ } => Err(truncated(Some(self.kind), self.at)),
+            Extent::Open { needed } => {
+                if needed == 0 {
+                    return Ok(());
+                }
+                Err(truncated(Some(self.kind), self.at))
+            }
         }
-        Err(truncated(Some(self.kind), self.at))
     }
 }
 

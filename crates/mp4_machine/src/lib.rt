@@ -6,8 +6,7 @@
 //!   them ([`fragment_end`]: [`FragmentEnd`]), and [`buffered_box`]: [`BufferedBox`], a box in
 //!   claimed memory while it comes;
 //! - [`header_bytes`]: [`next_header`], which reads a header as its bytes come (`specs/HeaderBytes.antt`), and [`body`]:
-//!   the bodies after headers ([`Body`],
-//!   [`OpenBody`]);
+//!   the bodies after headers ([`Body`]);
 //! - [`machine`]: [`Machine`], which takes the bytes of a stream as they come, and [`feed`], which feeds it the next
 //!   input;
 //! - [`run`]: [`read_stream`], which feeds it a whole stream.
@@ -34,7 +33,7 @@ pub mod stop;
 pub mod tally;
 
 pub use block::{BLOCK_BYTES, Block, GROUP_BYTES, LINE_BYTES, Line};
-pub use body::{AnyBody, Body, OpenBody, body_of, truncated};
+pub use body::{AnyBody, Body, Extent, body_of, truncated};
 pub use buffered_box::BufferedBox;
 pub use fragment_end::FragmentEnd;
 pub use header_bytes::{HeaderBytes, HeaderStatus, next_header};

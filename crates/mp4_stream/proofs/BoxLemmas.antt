@@ -1,5 +1,5 @@
 -- How the reading of top-level boxes goes on.
-use Rattle.std.proofs.Common.{◌≡◌, ℕ, ◌+◌, ◌-◌, ◌<◌, ◌≤◌, List, [], ◌∷◌, ◌++◌, length, take, drop, true, false, Option, Some, None, ap, sym, ◌∙◌, refl, arith, append-nil, length-append, length-drop}
+use Rattle.std.proofs.Common.{◌≡◌, ℕ, zero, suc, ◌+◌, ◌-◌, ◌<◌, ◌≤◌, List, [], ◌∷◌, ◌++◌, length, take, drop, true, false, Option, Some, None, ap, sym, ◌∙◌, refl, arith, append-nil, length-append, length-drop}
 use Rattle.std.proofs.Math.Seq.{take-append_seam, drop-append_seam}
 use Rattle.std.specs.Prelude.{nat_lt, if◌then◌else◌}
 use Rattle.mp4_box.specs.declared.headers.FourCc.{FourCc}
@@ -15,8 +15,11 @@ use Rattle.mp4_box.specs.declared.rules.Fault.{Fault}
 use Rattle.mp4_box.specs.Trees.{tree_faults}
 use Rattle.mp4_stream.specs.Buffering.{held_lines, most_held}
 use Rattle.mp4_stream.specs.Listing.{box_line}
-use Rattle.mp4_machine.specs.Readings.{empty_reading, Last, after, after_effects, no_effects, says, requests_memory, Faulty, Sound, then_read, fault_in, decided_in}
-use Rattle.mp4_machine.specs.Bodies.{cut_off, fault, least_end, longest, at_fault, open_body_item}
+use Rattle.mp4_machine.specs.Readings.{empty_reading, Last, after, after_effects, no_effects, says, requests_memory, Faulty, then_read, fault_in, decided_in}
+use Rattle.mp4_machine.specs.Bodies.{IsLeft, at_fault, cut_off, fault, least_end, longest}
+use Rattle.mp4_machine.specs.Continuations.{in_extent}
+use Rattle.mp4_machine.specs.declared.body.Extent.{Extent}
+use Rattle.mp4_machine.specs.declared.body.Extent.TheVariants as extents
 use Rattle.mp4_stream.specs.Boxes.{passed, body, buffered_box, held_body, holding, box_by, box, top_box_by, top_box, reading}
 use Rattle.mp4_stream.specs.States.{IsState, continuation_at, in_header}
 use Rattle.mp4_stream.specs.declared.state.State.{State}
@@ -171,6 +174,16 @@ quiet-head at [] short = (ap (λ r. r.effects) (reading-none at), ap (λ r. deci
 quiet-head at (b ∷ header_bytes) short =
     let cut = reading-more at (b ∷ header_bytes) (omega arith) short in (ap (λ r. r.effects) cut, ap (λ r. decided_in r.outcome) cut)
 
+body-quiet : (at : ℕ) (kind : FourCc) (left : ℕ) (e : Extent) → IsLeft left e → HasNoEffects (in_extent reading passed (λ next. next) 0 at kind left e)
+body-quiet at kind left (extents.Sized next) i =
+    let none = body-none reading at kind next passed left i.more in record { effects = ap (λ r. r.effects) none; early = ap (λ r. decided_in r.outcome) none }
+body-quiet at kind left (extents.Open zero) i =
+    let none = open-none reading at kind 0 passed left in record { effects = ap (λ r. r.effects) none; early = ap (λ r. decided_in r.outcome) none }
+body-quiet at kind left (extents.Open (suc needed)) i =
+    let short = nat_lt_true 0 (suc needed) (omega arith) in
+    let near = nat_lt_false left 0 (omega arith) in
+    record { effects = rw (near, short) refl; early = rw (near, short) refl }
+
 pub state-quiet : (header_bytes : List ℕ) (s : State) → IsState header_bytes s → HasNoEffects (continuation_at header_bytes s)
 state-quiet header_bytes (states.Header at) i =
     let quiet = quiet-head at header_bytes i.0 in
@@ -178,7 +191,4 @@ state-quiet header_bytes (states.Header at) i =
     record { effects = ap (λ l. (reading at l).effects) same ∙ quiet.0; early = ap (λ l. decided_in (reading at l).outcome) same ∙ quiet.1 }
 state-quiet header_bytes (states.Buffering h) i =
     let short = nat_lt_true (length (h.bytes ++ [])) h.size (omega (arith, length-append h.bytes [], i.1)) in record { effects = rw short refl; early = rw short refl }
-state-quiet header_bytes (states.Body b) i =
-    let none = body-none reading b.at b.kind b.next passed b.left i.1 in record { effects = ap (λ r. r.effects) none; early = ap (λ r. decided_in r.outcome) none }
-state-quiet header_bytes (states.OpenBody b) i =
-    let none : then_read reading (open_body_item passed b.at b.kind b.needed b.left []) ≡ record { effects = no_effects; outcome = Sound } = rw i.2 (open-none reading b.at b.kind 0 passed b.left) in record { effects = ap (λ r. r.effects) none; early = ap (λ r. decided_in r.outcome) none }
+state-quiet header_bytes (states.Body b) i = body-quiet b.at b.kind b.left b.extent i.1

@@ -1,7 +1,9 @@
 -- A machine that lists boxes, by its state.
 use Rattle.std.proofs.Common.{◌≡◌, ℕ, ◌+◌, ◌-◌, ◌<◌, ◌≤◌, List, [], ◌∷◌, ◌++◌, length, Bool, Option, Some, None, ap, sym, refl, ◌∙◌, arith, append-nil, append_assoc, take, drop, length-take-le, subst}
 use Rattle.std.proofs.Math.Seq.{take-length}
+use Rattle.mp4_box.specs.declared.headers.FourCc.{FourCc}
 use Rattle.mp4_box.specs.declared.headers.Header.{Header}
+use Rattle.mp4_box.specs.declared.headers.Size.{Size}
 use Rattle.mp4_box.specs.declared.headers.Size.TheVariants.{Exact, ToEnd}
 use Rattle.mp4_box.specs.declared.headers.Step.TheVariants as steps
 use Rattle.mp4_box.specs.declared.rules.Fault.{Fault}
@@ -14,13 +16,13 @@ use Rattle.mp4_ledger.specs.declared.ledger.Refused.{Refused}
 use Rattle.mp4_ledger.specs.declared.ledger.Refused.TheVariants as refusals
 use Rattle.mp4_machine.specs.Accounts.{Counts}
 use Rattle.mp4_machine.specs.Blocks.{Breaks, Passes, Pending}
-use Rattle.mp4_machine.specs.Bodies.{IsBodyOf, fault, least_end, longest}
+use Rattle.mp4_machine.specs.Bodies.{HasBytes, IsBodyOf, extent_after, extent_of, fault, least_end, left_of, longest}
 use Rattle.mp4_machine.specs.Buffering.{Buffering}
 use Rattle.mp4_machine.specs.Inputs.{Change, Environment, Continuation, Moves, GoesOn, Refuses, ClaimRefused, WriteFailed, StopsAt, refusal_of}
-use Rattle.mp4_machine.specs.Continuations.{in_body, in_open_body}
+use Rattle.mp4_machine.specs.Continuations.{in_extent}
 use Rattle.mp4_machine.specs.declared.body.AnyBody.TheVariants as bodies
-use Rattle.mp4_machine.specs.declared.body.Body.{Body}
-use Rattle.mp4_machine.specs.declared.body.OpenBody.{OpenBody}
+use Rattle.mp4_machine.specs.declared.body.Extent.{Extent}
+use Rattle.mp4_machine.specs.declared.body.Extent.TheVariants as extents
 use Rattle.mp4_machine.specs.Readings.{then_read, no_effects, says, requests_memory, after}
 use Rattle.mp4_machine.proofs.AccountLemmas.{Counts-none, Counts-back, Spends-counts}
 use Rattle.mp4_machine.proofs.BlockLemmas.{Passes-none}
@@ -38,8 +40,7 @@ use Rattle.mp4_machine.proofs.ReadingAskLemmas.{plus-none}
 use Rattle.mp4_stream.specs.Boxes.{box, body, held_body, passed, reading}
 use Rattle.mp4_stream.specs.Buffering.{held_lines, most_held}
 use Rattle.mp4_stream.specs.Listing.{box_line}
-use Rattle.mp4_stream.specs.States.{HasCome, IsState, after_header, at_header, box_of, continuation_at, in_box, in_header}
-use Rattle.mp4_stream.specs.declared.state.State.TheVariants as states
+use Rattle.mp4_stream.specs.States.{HasCome, NeedsNone, after_header, at_header, box_of, in_box, in_header}
 use Rattle.mp4_stream.proofs.PastLemmas.{held_past}
 use Rattle.mp4_stream.proofs.BoxLemmas.{reading-whole, reading-bad, reading-begun, reading-too_long, reading-too_large, reading-held_to_end, reading-holds, reading-good, reading-bad_tree}
 
@@ -122,23 +123,31 @@ not_written refusals.Memory e = absurd cc
 -- ---- its body, which is passed over
 
 module _ (o : Environment) (at : ℕ) (h : Header) where
-  pub GoesOn-empty : (next : ℕ) → IsBodyOf at h (bodies.Empty next) → GoesOn o o (after_header at h) [] (at_header next)
+  pub GoesOn-empty : (next : ℕ) → IsBodyOf at h 0 (bodies.Empty next) → GoesOn o o (after_header at h) [] (at_header next)
   GoesOn-empty next (size, is, all, far, near) =
       GoesOn-silent o (after_header at h) (at_header next) [] refl (omega (arith, far, all))
       (λ later. rw (is, far) (body-over reading at h.kind (at + size) passed (size - h.header_len) later (omega (arith, all)) refl))
 
-  pub GoesOn-sized : (b : Body) → IsBodyOf at h (bodies.Sized b) → GoesOn o o (after_header at h) [] (continuation_at [] (states.Body b))
-  GoesOn-sized b (size, is, room, same, near) =
-      rw same (GoesOn-silent o (after_header at h) (in_body reading passed (at + size) 0 (record { at = at; kind = h.kind; next = at + size; left = size - h.header_len })) [] refl (omega (arith, room))
-      (λ later. rw is refl))
+  pub GoesOn-body : (size : Size) → h.size ≡ size → HasBytes at h size → GoesOn o o (after_header at h) [] (in_extent reading passed (λ next. next) 0 at h.kind (left_of at h size) (extent_of at 0 size))
+  GoesOn-body (Exact s) is some =
+      GoesOn-silent o (after_header at h) (in_extent reading passed (λ next. next) 0 at h.kind (s - h.header_len) (extents.Sized (at + s))) [] refl (omega (arith, some.0))
+      (λ later. rw is refl)
+  GoesOn-body ToEnd is some =
+      GoesOn-silent o (after_header at h) (in_extent reading passed (λ next. next) 0 at h.kind (longest - (at + h.header_len)) (extents.Open 0)) [] refl (omega (arith, some))
+      (λ later. rw is refl)
 
-  pub GoesOn-to_end : (b : OpenBody) → IsBodyOf at h (bodies.Open b) → GoesOn o o (after_header at h) [] (continuation_at [] (states.OpenBody b))
-  GoesOn-to_end b (is, same, near) =
-      rw same (GoesOn-silent o (after_header at h) (in_open_body reading passed 0 (record { at = at; kind = h.kind; needed = 0; left = longest - (at + h.header_len) })) [] refl (omega (arith, near))
-      (λ later. rw is refl))
+-- nothing is claimed within it
+pub none_claimed : (at : ℕ) (kind : FourCc) (left : ℕ) (e : Extent) → (in_extent reading passed (λ next. next) 0 at kind left e).claim ≡ 0
+none_claimed at kind left (extents.Sized next) = refl
+none_claimed at kind left (extents.Open needed) = refl
 
-pub state-sized : (at : ℕ) (h : Header) (b : Body) → IsBodyOf at h (bodies.Sized b) → IsState [] (states.Body b)
-state-sized at h b (size, is, room, same, near) = rw same (refl, omega (arith, room), omega arith, near)
+pub needs_none : (at : ℕ) (size : Size) → NeedsNone (extent_of at 0 size)
+needs_none at (Exact s) = tt
+needs_none at ToEnd = refl
+
+pub needs_none-after : (n : ℕ) (e : Extent) → NeedsNone e → NeedsNone (extent_after n e)
+needs_none-after n (extents.Sized next) none = tt
+needs_none-after n (extents.Open needed) none = omega (arith, none)
 
 -- ---- the input x that begins with the header of a box that is to be held
 

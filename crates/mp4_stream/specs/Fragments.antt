@@ -3,6 +3,8 @@ use Rattle.std.specs.Prelude.{◌≡◌, ℕ, ◌+◌, ◌*◌, ◌≤◌, List,
 use Rattle.mp4_fragment_machine.specs.States.{listed_by, reads_of}
 use Rattle.mp4_grammar.specs.Contexts.{first_context}
 use Rattle.mp4_grammar.specs.HeldSizes.{HoldsWithin}
+use Rattle.mp4_grammar.specs.Kinds.{most_moof, most_moov}
+use Rattle.mp4_ledger.specs.Memory.{Account}
 use Rattle.mp4_machine.specs.Ends.{Ends, Sent}
 use Rattle.mp4_machine.specs.StreamRuns.{Claims, ReadsStream}
 use Rattle.mp4_machine.specs.declared.stop.Stop.{Stop}
@@ -30,6 +32,17 @@ pub record ReadsFragments {T : Type 0} (operation : Operation) (ends : Ends) (cl
   pub some : inspected + totals.samples + listed_by operation totals.samples ≤ totals.rows_read
   pub few : totals.rows_read ≤ reads_of operation * inspected
   pub by_boxes : ClaimsByBoxes operation runs.bytes claims result
+
+-- a run over a whole stream for an operation, which claims so many bytes to read into, and has given back all in the end.
+-- It never has more claimed than the limit, nor than these bytes, a moov and five times a moof, each of the largest
+-- size; so a limit that allows so much is never passed
+pub record RunsOperation {T : Type 0} (operation : Operation) (ends : Ends) (copy : ℕ) (account account' : Account) (totals : Totals) (result : Result T Stop) : Type 0 where
+  pub runs : ReadsFragments operation ends (record { copy = copy; limit = account.limit; peak = account'.peak }) totals result
+  pub within : account'.peak ≤ account.limit
+  pub back : (account'.live ≡ 0) × (account'.limit ≡ account.limit)
+  pub peak : totals.peak ≡ account'.peak
+  pub bound : account'.peak ≤ copy + (most_moov + 5 * most_moof)
+  pub enough : copy + (most_moov + 5 * most_moof) ≤ account.limit → IsErrOf result OverLimit → ⊥
 
 -- nothing is written
 abbrev pub unsent : Sent

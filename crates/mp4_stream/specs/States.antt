@@ -5,13 +5,15 @@ use Rattle.mp4_box.specs.Headers.{need}
 use Rattle.mp4_box.specs.Trees.{Box, box_at}
 use Rattle.mp4_ledger.specs.Memory.{Account}
 use Rattle.mp4_machine.specs.Blocks.{Pending}
-use Rattle.mp4_machine.specs.Bodies.{longest}
+use Rattle.mp4_machine.specs.Bodies.{IsLeft, longest}
 use Rattle.mp4_machine.specs.Ends.{Sent}
 use Rattle.mp4_machine.specs.Buffering.{Begins, Buffering}
 use Rattle.mp4_machine.specs.Inputs.{Change, Continuation, Environment}
 use Rattle.mp4_machine.specs.Inputs as inputs
 use Rattle.mp4_machine.specs.Readings.{uncounted, then_read}
-use Rattle.mp4_machine.specs.Continuations.{gathering, in_body, in_open_body}
+use Rattle.mp4_machine.specs.Continuations.{gathering, in_body}
+use Rattle.mp4_machine.specs.declared.body.Extent.{Extent}
+use Rattle.mp4_machine.specs.declared.body.Extent.TheVariants as extents
 use Rattle.mp4_stream.specs.Boxes.{body, passed, held_body, reading}
 use Rattle.mp4_stream.specs.declared.state.State.{State}
 use Rattle.mp4_stream.specs.declared.state.State.TheVariants as states
@@ -38,15 +40,18 @@ in_box h = gathering (λ bytes. then_read reading (held_body h.at h.kind h.size 
 abbrev pub continuation_at : List ℕ → State → Continuation
 continuation_at header_bytes (states.Header at) = in_header at header_bytes
 continuation_at header_bytes (states.Buffering h) = in_box h
-continuation_at header_bytes (states.Body b) = in_body reading passed b.next 0 b
-continuation_at header_bytes (states.OpenBody b) = in_open_body reading passed 0 b
+continuation_at header_bytes (states.Body b) = in_body reading passed (λ next. next) 0 b
+
+-- no byte of a body is needed that goes to the end of the stream
+abbrev pub NeedsNone : Extent → Type 0
+NeedsNone (extents.Sized next) = Unit {0}
+NeedsNone (extents.Open needed) = needed ≡ 0
 
 -- offsets are at most 2^62, except within a header that crosses it; and only in a header there are bytes of one
 abbrev pub IsState : List ℕ → State → Type 0
 IsState header_bytes (states.Header at) = (length header_bytes < need header_bytes) × (at ≤ longest)
 IsState header_bytes (states.Buffering h) = (header_bytes ≡ []) × (length h.bytes < h.size) × (h.at + h.size ≤ longest) × Begins h.size h.bytes
-IsState header_bytes (states.Body b) = (header_bytes ≡ []) × (0 < b.left) × (b.left ≤ b.next) × (b.next ≤ longest)
-IsState header_bytes (states.OpenBody b) = (header_bytes ≡ []) × (b.left ≤ longest) × (b.needed ≡ 0)
+IsState header_bytes (states.Body b) = (header_bytes ≡ []) × IsLeft b.left b.extent × NeedsNone b.extent
 
 -- the box at an offset with this header that these bytes are
 abbrev pub box_of : ℕ → Header → List ℕ → Box

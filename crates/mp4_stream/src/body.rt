@@ -1,6 +1,6 @@
 //! Bodies that are passed over.
 
-ghost use Rattle.std.specs.Prelude.{◌≡◌, ◌<◌, ◌≤◌, [], length, Bool, Ok};
+ghost use Rattle.std.specs.Prelude.{◌≡◌, ◌<◌, ◌≤◌, [], length, Bool};
 ghost use Rattle.mp4_box.specs.Headers.{HasRoom};
 ghost use Rattle.mp4_machine.specs.Bodies.{least_end, longest};
 ghost use Rattle.mp4_machine.specs.Inputs.{Environment, GoesOn};
@@ -11,7 +11,7 @@ ghost use Rattle.mp4_stream.specs.declared.state.State.TheVariants as states;
 
 use crate::state::{State, Taken};
 use mp4_box::Header;
-use mp4_machine::{AnyBody, Body, OpenBody, Stop, body_of};
+use mp4_machine::{AnyBody, Body, Stop, body_of};
 
 /// The state after the header of the box at `at`, which is passed over.
 #[inline(always)]
@@ -22,51 +22,36 @@ pub(crate) fn pass_over(at: u64, header: &Header) -> State
     ensures state { IsState [] result }
     ensures claim { (continuation_at [] result).claim ≡ 0 }
 {
-    match body_of(at, header) {
+    match body_of(at, header, 0) {
         AnyBody::Empty { next } => State::Header { at: next },
-        AnyBody::Sized(body) => State::Body(body),
-        AnyBody::Open(body) => State::OpenBody(body),
+        AnyBody::Bytes(body) => State::Body(body),
     }
 }
 
-/// Takes all bytes of a body at the front of the input.
-pub(crate) fn take_body(body: Body, input: &[u8]) -> Taken
-    requires some { 0 < length input.now }
-    requires state { IsState [] (states.Body body) }
-    ensures { (o : Environment) → (failed : Bool) →
-        Consumes (unmoved o failed) [] [] (states.Body body) input.now (Ok result) }
-{
-    let mut body = body;
-    let count = body.take(input);
-    if body.left > 0 {
-        return Taken {
-            count,
-            state: State::Body(body),
-        };
-    }
-    Taken {
-        count,
-        state: State::Header { at: body.next },
-    }
-}
-
-/// Takes the input of a body that goes to the end of the stream.
+/// Takes bytes of a body from the front of the input.
 ///
 /// # Errors
 ///
 /// `Stream` where it goes too far.
-pub(crate) fn take_open(body: OpenBody, input: &[u8]) -> Result<Taken, Stop>
+pub(crate) fn take_body(body: Body, input: &[u8]) -> Result<Taken, Stop>
     requires some { 0 < length input.now }
-    requires state { IsState [] (states.OpenBody body) }
+    requires state { IsState [] (states.Body body) }
     ensures { (o : Environment) → (failed : Bool) →
-        Consumes (unmoved o failed) [] [] (states.OpenBody body) input.now result }
+        Consumes (unmoved o failed) [] [] (states.Body body) input.now result }
 {
     let mut body = body;
-    match body.take(input) {
-        Ok(()) => Ok(Taken {
-            count: input.len(),
-            state: State::OpenBody(body),
+    let count = match body.take(input) {
+        Ok(count) => count,
+        Err(stop) => return Err(stop),
+    };
+    match body.next() {
+        Some(next) => Ok(Taken {
+            count,
+            state: State::Header { at: next },
         }),
-        Err(stop) => Err(stop),
+        None => Ok(Taken {
+            count,
+            state: State::Body(body),
+        }),
     }
 }

@@ -1,12 +1,11 @@
 //! Runs over a whole stream that read its fragments.
 
-ghost use Rattle.std.specs.Prelude.{◌≡◌, ◌+◌, ◌*◌, ◌<◌, ◌≤◌, [], length, IsErrOf};
-ghost use Rattle.mp4_grammar.specs.Kinds.{most_moof, most_moov};
+ghost use Rattle.std.specs.Prelude.{◌≡◌, ◌≤◌};
 ghost use Rattle.mp4_grammar.specs.declared.command.Command.TheVariants.{Check, Fragments, Samples};
 ghost use Rattle.mp4_machine.specs.Ends.{between, received, sent};
 ghost use Rattle.mp4_push.specs.Feeders as feeders;
 ghost use Rattle.mp4_recut.specs.declared.operation.Operation.TheVariants as operations;
-ghost use Rattle.mp4_stream.specs.Fragments.{ReadsFragments, unsent};
+ghost use Rattle.mp4_stream.specs.Fragments.{RunsOperation, unsent};
 
 use crate::null_sink::NullSink;
 use mp4_cut::Cut;
@@ -36,17 +35,10 @@ pub fn samples<R: Source, W: Sink>(
 ) -> Result<(), Stop>
     requires copy { (4096 ≤ copy) × (copy ≤ 1048576) }
     requires idle { ledger.old.live ≡ 0 }
-    ensures runs { ReadsFragments (operations.List Samples) (between
+    ensures { RunsOperation (operations.List Samples) (between
         (received R.remaining R.has_ended R.has_failed R.last_read r.old r.new)
         (sent W.contents W.has_failed w.old w.new))
-        (record { copy = copy; limit = ledger.old.limit; peak = ledger.new.peak })
-        totals.new result }
-    ensures within { ledger.new.peak ≤ ledger.old.limit }
-    ensures back { (ledger.new.live ≡ 0) × (ledger.new.limit ≡ ledger.old.limit) }
-    ensures peak { totals.new.peak ≡ ledger.new.peak }
-    ensures bound { ledger.new.peak ≤ copy + (most_moov + 5 * most_moof) }
-    ensures enough { copy + (most_moov + 5 * most_moof) ≤ ledger.old.limit →
-        IsErrOf result Stop.OverLimit → ⊥ }
+        copy ledger.old ledger.new totals.new result }
 {
     run_operation(
         Operation::List(Command::Samples),
@@ -74,17 +66,10 @@ pub fn fragments<R: Source, W: Sink>(
 ) -> Result<(), Stop>
     requires copy { (4096 ≤ copy) × (copy ≤ 1048576) }
     requires idle { ledger.old.live ≡ 0 }
-    ensures runs { ReadsFragments (operations.List Fragments) (between
+    ensures { RunsOperation (operations.List Fragments) (between
         (received R.remaining R.has_ended R.has_failed R.last_read r.old r.new)
         (sent W.contents W.has_failed w.old w.new))
-        (record { copy = copy; limit = ledger.old.limit; peak = ledger.new.peak })
-        totals.new result }
-    ensures within { ledger.new.peak ≤ ledger.old.limit }
-    ensures back { (ledger.new.live ≡ 0) × (ledger.new.limit ≡ ledger.old.limit) }
-    ensures peak { totals.new.peak ≡ ledger.new.peak }
-    ensures bound { ledger.new.peak ≤ copy + (most_moov + 5 * most_moof) }
-    ensures enough { copy + (most_moov + 5 * most_moof) ≤ ledger.old.limit →
-        IsErrOf result Stop.OverLimit → ⊥ }
+        copy ledger.old ledger.new totals.new result }
 {
     run_operation(
         Operation::List(Command::Fragments),
@@ -109,16 +94,9 @@ pub fn check<R: Source>(
 ) -> Result<(), Stop>
     requires copy { (4096 ≤ copy) × (copy ≤ 1048576) }
     requires idle { ledger.old.live ≡ 0 }
-    ensures runs { ReadsFragments (operations.List Check) (between
+    ensures { RunsOperation (operations.List Check) (between
         (received R.remaining R.has_ended R.has_failed R.last_read r.old r.new) unsent)
-        (record { copy = copy; limit = ledger.old.limit; peak = ledger.new.peak })
-        totals.new result }
-    ensures within { ledger.new.peak ≤ ledger.old.limit }
-    ensures back { (ledger.new.live ≡ 0) × (ledger.new.limit ≡ ledger.old.limit) }
-    ensures peak { totals.new.peak ≡ ledger.new.peak }
-    ensures bound { ledger.new.peak ≤ copy + (most_moov + 5 * most_moof) }
-    ensures enough { copy + (most_moov + 5 * most_moof) ≤ ledger.old.limit →
-        IsErrOf result Stop.OverLimit → ⊥ }
+        copy ledger.old ledger.new totals.new result }
 {
     run_operation(
         Operation::List(Command::Check),
@@ -149,17 +127,10 @@ pub fn split<R: Source, W: Sink>(
 ) -> Result<(), Stop>
     requires copy { (4096 ≤ copy) × (copy ≤ 1048576) }
     requires idle { ledger.old.live ≡ 0 }
-    ensures runs { ReadsFragments (operations.Split cut.now) (between
+    ensures { RunsOperation (operations.Split cut.now) (between
         (received R.remaining R.has_ended R.has_failed R.last_read r.old r.new)
         (sent W.contents W.has_failed w.old w.new))
-        (record { copy = copy; limit = ledger.old.limit; peak = ledger.new.peak })
-        totals.new result }
-    ensures within { ledger.new.peak ≤ ledger.old.limit }
-    ensures back { (ledger.new.live ≡ 0) × (ledger.new.limit ≡ ledger.old.limit) }
-    ensures peak { totals.new.peak ≡ ledger.new.peak }
-    ensures bound { ledger.new.peak ≤ copy + (most_moov + 5 * most_moof) }
-    ensures enough { copy + (most_moov + 5 * most_moof) ≤ ledger.old.limit →
-        IsErrOf result Stop.OverLimit → ⊥ }
+        copy ledger.old ledger.new totals.new result }
 {
     run_operation(Operation::Split(*cut), r, w, ledger, copy, totals)
 }
@@ -175,17 +146,10 @@ fn run_operation<R: Source, W: Sink>(
 ) -> Result<(), Stop>
     requires copy { (4096 ≤ copy) × (copy ≤ 1048576) }
     requires idle { ledger.old.live ≡ 0 }
-    ensures runs { ReadsFragments operation (between
+    ensures { RunsOperation operation (between
         (received R.remaining R.has_ended R.has_failed R.last_read r.old r.new)
         (sent W.contents W.has_failed w.old w.new))
-        (record { copy = copy; limit = ledger.old.limit; peak = ledger.new.peak })
-        totals.new result }
-    ensures within { ledger.new.peak ≤ ledger.old.limit }
-    ensures back { (ledger.new.live ≡ 0) × (ledger.new.limit ≡ ledger.old.limit) }
-    ensures peak { totals.new.peak ≡ ledger.new.peak }
-    ensures bound { ledger.new.peak ≤ copy + (most_moov + 5 * most_moof) }
-    ensures enough { copy + (most_moov + 5 * most_moof) ≤ ledger.old.limit →
-        IsErrOf result Stop.OverLimit → ⊥ }
+        copy ledger.old ledger.new totals.new result }
 {
     let mut machine = FragmentMachine::new(operation);
     let mut whole = 0;

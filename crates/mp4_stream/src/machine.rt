@@ -90,8 +90,7 @@ impl Machine for BoxMachine {
                 Err(truncated(self.header_bytes.kind(), *at))
             }
             State::Buffering(buffered) => Err(truncated(Some(buffered.kind()), buffered.offset())),
-            State::Body(body) => Err(truncated(Some(body.kind), body.at)),
-            State::OpenBody(body) => body.end(),
+            State::Body(body) => body.end(),
         }
     }
 

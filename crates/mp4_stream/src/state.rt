@@ -1,6 +1,6 @@
 //! What a machine takes next that lists boxes.
 
-use mp4_machine::{Body, BufferedBox, OpenBody};
+use mp4_machine::{Body, BufferedBox};
 
 /// What a machine takes next.
 pub(crate) enum State {
@@ -10,8 +10,6 @@ pub(crate) enum State {
     Buffering(BufferedBox),
     /// Bytes of a body.
     Body(Body),
-    /// Bytes of a body that goes to the end of the stream.
-    OpenBody(OpenBody),
 }
 
 /// Bytes that were taken from the front of the input: how many, and the next state.

@@ -6,7 +6,7 @@ ghost use Rattle.mp4_machine.specs.Ends.{sent};
 ghost use Rattle.mp4_stream.specs.States.{IsState, change, continuation_at};
 ghost use Rattle.mp4_stream.specs.Steps.{Consumes};
 
-use crate::body::{take_body, take_open};
+use crate::body::take_body;
 use crate::buffered_box::take_held;
 use crate::header::take_header;
 use crate::state::{State, Taken};
@@ -19,7 +19,7 @@ use mp4_machine::{Block, Stop};
 ///
 /// # Errors
 ///
-/// As [`take_header`], [`take_held`] and [`take_open`].
+/// As [`take_header`], [`take_held`] and [`take_body`].
 #[inline(always)]
 pub(crate) fn take_next<W: Sink>(
     state: State,
@@ -38,8 +38,7 @@ pub(crate) fn take_next<W: Sink>(
     match state {
         State::Header { at } => take_header(at, input, header_bytes, ledger, out, w),
         State::Buffering(buffered) => take_held(buffered, input, ledger, out, w),
-        State::Body(body) => Ok(take_body(body, input)),
-        State::OpenBody(body) => take_open(body, input),
+        State::Body(body) => take_body(body, input),
     }
 }
 
@@ -53,6 +52,6 @@ pub(crate) fn back_state(state: State, ledger: &mut Ledger)
             let _ = at;
         }
         State::Buffering(buffered) => buffered.back(ledger),
-        State::Body(_) | State::OpenBody(_) => {}
+        State::Body(_) => {}
     }
 }

@@ -6,6 +6,12 @@ use Rattle.mp4_machine.specs.Steps as reading
 use Rattle.mp4_machine.specs.declared.stop.Stop.{Stop}
 use Rattle.mp4_fragment_machine.specs.Places.{claim_of}
 use Rattle.mp4_fragment_machine.specs.States.{Progress, continuation_in, place_in}
+use Rattle.mp4_fragment_machine.specs.declared.state.Carried.{Carried}
+use Rattle.mp4_fragment_machine.specs.declared.state.State.{State}
+
+-- what is seen of a machine in a state
+abbrev pub seen : Carried → State → Progress
+seen k s = record { operation = k.operation; tracks = k.tracks; header_bytes = k.header_bytes; state = s; counter = k.counter }
 
 -- it took so many, and may be fed more
 pub record HasFed (a : Change) (old new : Progress) (input : List ℕ) (n : ℕ) : Type 0 where

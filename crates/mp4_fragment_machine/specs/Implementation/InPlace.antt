@@ -3,14 +3,16 @@
 use Rattle.std.specs.Prelude.{◌≡◌, ℕ, ◌+◌, ◌-◌, ◌*◌, ◌≤◌, ◌^◌, false, List, [], ◌∷◌, length, take, drop, true, Some, None, IsSome}
 use Rattle.std.specs.List.{list_all}
 use Rattle.mp4_box.specs.Headers.{IsBytes, header_at}
+use Rattle.mp4_box.specs.Order.{least}
 use Rattle.mp4_box.specs.Paths.{at_path}
 use Rattle.mp4_box.specs.declared.headers.Header.{Header}
 use Rattle.mp4_box.specs.declared.headers.Size.TheVariants.{Exact}
 use Rattle.mp4_box.specs.declared.headers.Step.TheVariants as steps
+use Rattle.mp4_box.specs.declared.rules.Fault.{Fault}
 use Rattle.mp4_init.specs.declared.table.Track.{Track}
 use Rattle.mp4_frag.specs.Kinds.{traf}
 use Rattle.mp4_frag.specs.SingleRuns.{IsSingle}
-use Rattle.mp4_frag.specs.Moofs.{fault_before_times, moof_fault, moof_of, moof_samples, moof_truns}
+use Rattle.mp4_frag.specs.Moofs.{fault_before_times, moof_fault, moof_of, moof_samples, moof_trafs, moof_truns, time_faults}
 use Rattle.mp4_frag.specs.Places.{place_fault}
 use Rattle.mp4_frag.specs.Rules.{most_in_moof}
 use Rattle.mp4_frag.specs.Runs.{MoofBytes, begins_early, moof_at}
@@ -20,12 +22,17 @@ use Rattle.mp4_run_order.specs.declared.runs.Payload.{Payload}
 use Rattle.mp4_machine.specs.Bodies.{longest}
 use Rattle.mp4_grammar.specs.Kinds.{kind_in, most_moof}
 use Rattle.mp4_grammar.specs.declared.kinds.Kind.{Kind}
-use Rattle.mp4_grammar.specs.declared.kinds.Kind.TheVariants.{Moof, Mdat}
+use Rattle.mp4_grammar.specs.declared.kinds.Kind.TheVariants.{Moof, Mdat, Other}
 use Rattle.mp4_recut.specs.declared.operation.Operation.{Operation}
 use Rattle.mp4_recut.specs.declared.operation.Operation.TheVariants as operations
-use Rattle.mp4_fragment_machine.specs.declared.in_place_read.InPlaceRead.{InPlaceRead}
-use Rattle.mp4_fragment_machine.specs.declared.boxes_in_place.Boxes.{Boxes}
-use Rattle.mp4_fragment_machine.specs.declared.boxes_in_place.Span.{Span}
+use Rattle.mp4_fragment_machine.specs.States.{Progress, known}
+use Rattle.mp4_fragment_machine.specs.declared.in_place.InPlace.{InPlace}
+use Rattle.mp4_fragment_machine.specs.declared.in_place.InPlace.TheVariants as answers
+use Rattle.mp4_fragment_machine.specs.declared.in_place.boxes.CompleteFragment.{CompleteFragment}
+use Rattle.mp4_fragment_machine.specs.declared.in_place.many_runs.InPlaceRead.{InPlaceRead}
+use Rattle.mp4_fragment_machine.specs.declared.state.State.TheVariants as states
+use Rattle.mp4_fragment_machine.specs.declared.in_place.boxes.Boxes.{Boxes}
+use Rattle.mp4_fragment_machine.specs.declared.in_place.boxes.Span.{Span}
 
 -- a whole box of this kind, at an offset, at the front of some bytes
 pub record IsFirstBox (kind : Kind) (at : ℕ) (x : List ℕ) (b : Span) : Type 0 where
@@ -88,3 +95,58 @@ media_in input b = take (b.mdat.size - b.mdat.header_len) (drop b.mdat.header_le
 abbrev pub IsTakenInPlace : Operation → ℕ → SingleRun → Type 0
 IsTakenInPlace (operations.List command) fragments l = Unit {0}
 IsTakenInPlace (operations.Split cut) fragments l = (cut.index ≡ false) × (fragments + 1 + l.run.count ≤ 2 ^ 32)
+
+-- ---- what the input has whole, for a machine that is seen before a header at an offset
+
+-- a box that is passed over or copied
+pub record HasOther (m : Progress) (at : ℕ) (input : List ℕ) (span : Span) : Type 0 where
+  pub state : m.state ≡ states.Header at
+  pub empty : m.header_bytes ≡ []
+  pub is : IsFirstBox Other at input span
+
+-- a moof after the moov
+pub record HasMoof (m : Progress) (at : ℕ) (input : List ℕ) (moof : Span) : Type 0 where
+  pub state : m.state ≡ states.Header at
+  pub empty : m.header_bytes ≡ []
+  pub tracks : m.tracks ≡ Some (known m.tracks)
+  pub is : IsFirstBox Moof at input moof
+  pub most : moof.size ≤ most_moof
+
+-- the boxes of a fragment, whose moof may be claimed with a row for its run
+pub record HasBoxes (m : Progress) (account : Account) (at : ℕ) (input : List ℕ) (b : Boxes) : Type 0 where
+  pub state : m.state ≡ states.Header at
+  pub empty : m.header_bytes ≡ []
+  pub tracks : m.tracks ≡ Some (known m.tracks)
+  pub are : AreBoxes at input b
+  pub room : account.live + (length b.moof.now + 64) ≤ account.limit
+
+-- a fragment of one run, which is taken
+pub record HasOneRun (m : Progress) (account : Account) (at : ℕ) (input : List ℕ) (f : CompleteFragment) : Type 0 where
+  pub boxes : HasBoxes m account at input f.boxes
+  pub is : IsFragment at (known m.tracks) input f.boxes f.run.now
+  pub taken : IsTakenInPlace m.operation m.counter.tally.fragments f.run.now
+
+-- one with so many samples, whose only fault is a time
+pub record HasTimeFault (m : Progress) (account : Account) (at : ℕ) (input : List ℕ) (b : Boxes) (n : ℕ) (f : Fault) : Type 0 where
+  pub boxes : HasBoxes m account at input b
+  pub good : fault_before_times (moof_at b.moof.now at) (known m.tracks) ≡ None
+  pub late : least (time_faults (moof_trafs (moof_at b.moof.now at) (known m.tracks))) ≡ Some f
+  pub samples : n ≡ moof_samples (moof_at b.moof.now at)
+
+-- one whose run doesn't lie in its mdat
+pub record HasPlaceFault (m : Progress) (account : Account) (at : ℕ) (input : List ℕ) (l : CompleteFragment) (f : Fault) : Type 0 where
+  pub boxes : HasBoxes m account at input l.boxes
+  pub single_run : IsSingle (moof_at l.boxes.moof.now at) (known m.tracks) l.run.now
+  pub misplaced : place_fault (payload_in (at + boxes.are.span.size) l.boxes.mdat) (l.run.now.run ∷ []) ≡ Some f
+
+-- one that may have any runs
+pub record HasManyRuns (m : Progress) (account : Account) (at : ℕ) (input : List ℕ) (moof : Span) (b : Boxes) : Type 0 where
+  pub first : HasMoof m at input moof
+  pub boxes : HasBoxes m account at input b
+  pub bytes : b.moof.now ≡ take moof.size input
+
+-- what the answer says
+abbrev pub IsFoundInPlace : Progress → ℕ → List ℕ → InPlace → Type 0
+IsFoundInPlace m at input (answers.Other span) = HasOther m at input span
+IsFoundInPlace m at input (answers.Moof moof) = HasMoof m at input moof
+IsFoundInPlace m at input answers.No = Unit {0}

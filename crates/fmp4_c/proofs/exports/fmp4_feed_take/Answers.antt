@@ -29,3 +29,8 @@ pub returns-in-Some-clause-room : goal.returns-in-Some-clause-room
 returns-in-Some-clause-room c = λ operation b given r here h.
     let same = the-run _ _ _ _ r c.in-Some.ensures (ap (λ (x : Handle). x.held) c.replace.ensures.value) c.deref_mut.ensures.value here in
     rw c.of-stream.ensures (c.feed_take-passed.ensures.room operation b given (subst (λ (x : Run). Holds operation b given x) same h) ∙ sym (ap (λ (x : Run). x.waiting.room) same))
+
+pub returns-in-Some-clause-no_room : goal.returns-in-Some-clause-no_room
+returns-in-Some-clause-no_room c = λ operation b given r here h number.
+    let same = the-run _ _ _ _ r c.in-Some.ensures (ap (λ (x : Handle). x.held) c.replace.ensures.value) c.deref_mut.ensures.value here in
+    rw c.of-stream.ensures (c.feed_take-passed.ensures.no_room operation b given (subst (λ (x : Run). Holds operation b given x) same h) (sym c.number.ensures ∙ number))

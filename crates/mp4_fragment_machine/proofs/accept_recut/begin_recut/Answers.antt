@@ -29,8 +29,8 @@ returns-in-Ok g c =
     let b = g.W.Sink.contents c.write_ready_heads.new.w in
     let q = media_position cut (moof_in w) tracks f.payload.start (n + 1) c.in-Ok.media in
     let ps = fragments_left cut (moof_in w) tracks number first.later in
-    let begun = rw (c.again-moof.ensures, c.bytes.ensures.bytes, c.offset.ensures.at) at c.begin-media.ensures in
-    let writes_heads = rw (c.again-moof.ensures, c.bytes.ensures.bytes, c.offset.ensures.at) at c.in-Ok.ensures.writes_heads in
+    let begun = rw c.moof-moof.ensures at c.begin-media.ensures in
+    let writes_heads = rw c.moof-moof.ensures at c.in-Ok.ensures.writes_heads in
     let next = writes_heads.next in
     let all = begun.all number in
     let after = w.moof.at + length w.moof.bytes in
@@ -64,8 +64,8 @@ returns-in-Err g c =
     let n = c.write_ready_heads.new.fragments in
     let a = g.W.Sink.contents c.args.w.now in
     let b = g.W.Sink.contents c.write_ready_heads.new.w in
-    let begun = rw (c.again-moof.ensures, c.bytes.ensures.bytes, c.offset.ensures.at) at c.begin-media.ensures in
-    let fails = rw (c.again-moof.ensures, c.bytes.ensures.bytes, c.offset.ensures.at) at c.in-Err.ensures.writes_heads in
+    let begun = rw c.moof-moof.ensures at c.begin-media.ensures in
+    let fails = rw c.moof-moof.ensures at c.in-Err.ensures.writes_heads in
     let m = c.args.moof_totals in
     let counted : with_samples f tally n ≡ record { fragments = n; samples = tally.samples + c.from.result; media_bytes = tally.media_bytes + m.bytes; inspected = tally.inspected } =
     ap (λ k. record { fragments = n; samples = tally.samples + k; media_bytes = (with_samples f tally n).media_bytes; inspected = tally.inspected }) (sym (c.from.ensures ∙ c.requires.samples))

@@ -26,7 +26,7 @@ use Rattle.mp4_fragment_machine.proofs.SplitLemmas.{Refuses-split, claims-split}
 use Rattle.mp4_fragment_machine.proofs.accept_recut.begin_split.Goals as goal
 
 pub returns-in-Err : goal.returns-in-Err
-returns-in-Err g c =
+returns-in-Err g c = λ header_bytes len is_header.
     let w = c.args.pending_moof in
     let tracks = c.args.tracks.now in
     let cut = c.args.cut.now in
@@ -35,7 +35,7 @@ returns-in-Err g c =
     let o = environment (g.W.Sink.contents c.args.w.now) c.args.out.now c.args.ledger.now old.tally in
     rw c.back.ensures (record {
       step = record {
-        stops = λ more. Refuses-split (splitting cut) number o w tracks c.args.header_bytes.now (rows_of tracks w c.requires.pending_moof) c.requires.claim more c.in-Err.fault (λ later. c.in-Err.ensures.fault (splitting cut) number c.args.header_bytes.now later c.requires.len c.requires.is);
+        stops = λ more. Refuses-split (splitting cut) number o w tracks header_bytes (rows_of tracks w c.requires.pending_moof) c.requires.claim more c.in-Err.fault (λ later. c.in-Err.ensures.fault (splitting cut) number header_bytes later len is_header);
         failed = λ is. absurd cc;
         unfailed = λ _. refl;
       };
@@ -44,7 +44,7 @@ returns-in-Err g c =
     })
 
 pub returns-in-Err-check_fragment : goal.returns-in-Err-check_fragment
-returns-in-Err-check_fragment g c =
+returns-in-Err-check_fragment g c = λ header_bytes len is_header.
     let w = c.args.pending_moof in
     let tracks = c.args.tracks.now in
     let old = c.args.counter.now in
@@ -58,8 +58,8 @@ returns-in-Err-check_fragment g c =
     let most = rw c.add_up_runs-moof_totals.ensures.samples at c.check_fragment.ensures.most in
     rw c.back-in-Err-check_fragment.ensures (record {
       step = record {
-        stops = λ more. Refuses-split (splitting cut) number o w tracks c.args.header_bytes.now (rows_of tracks w c.requires.pending_moof) c.requires.claim more c.in-Err-check_fragment.fault
-            (λ later. misplaced-after (splitting cut) (context w.moof.at (Some tracks) number) tracks w.moof.bytes (w.moof.at + w.moof.size) same c.args.header.now c.args.header_bytes.now c.requires.len c.requires.is later c.in-Err-check_fragment.fault c.in-Ok.ensures.near c.in-Ok.ensures.mdat bad);
+        stops = λ more. Refuses-split (splitting cut) number o w tracks header_bytes (rows_of tracks w c.requires.pending_moof) c.requires.claim more c.in-Err-check_fragment.fault
+            (λ later. misplaced-after (splitting cut) (context w.moof.at (Some tracks) number) tracks w.moof.bytes (w.moof.at + w.moof.size) same c.args.header.now header_bytes len is_header later c.in-Err-check_fragment.fault c.in-Ok.ensures.near c.in-Ok.ensures.mdat bad);
         failed = λ is. absurd cc;
         unfailed = λ _. refl;
       };
@@ -85,7 +85,7 @@ begin_recut-requires-clause-good g c =
     ap (λ e. option_or e (room_fault cut f.moof (moof_runs f.moof f.tracks) f.number)) (c.in-Ok.ensures.good number) ∙ sym room
 
 pub returns-in-Ok-begin_recut : goal.returns-in-Ok-begin_recut
-returns-in-Ok-begin_recut g c =
+returns-in-Ok-begin_recut g c = λ header_bytes len is_header.
     let w = c.args.pending_moof in
     let h = c.args.header.now in
     let tracks = c.args.tracks.now in
@@ -101,7 +101,7 @@ returns-in-Ok-begin_recut g c =
     let end = rw at at c.payload_of.ensures.end in
     let measured = c.add_up_runs-moof_totals.ensures in
     let m = c.add_up_runs-moof_totals.result.bytes in
-    let some : 0 < h.header_len = omega (arith, (whole_is c.args.header_bytes.now h c.requires.is).1, need-least c.args.header_bytes.now) in
+    let some : 0 < h.header_len = omega (arith, (whole_is header_bytes h is_header).1, need-least header_bytes) in
     let room = media_bound (w.moof.at + w.moof.size) m h h.size c.payload_of.result start end c.requires.room some c.in-Ok.ensures.near measured.within measured.open in
     let least = rw measured.samples at c.in-Ok-check_fragment.ensures.least in
     let most = rw measured.samples at c.check_fragment.ensures.most in
@@ -111,7 +111,7 @@ returns-in-Ok-begin_recut g c =
     let first : c.payload_of.result.start ≡ f.payload.start = omega (arith, start, c.requires.pending_moof.size) in
     let needed = measured.needed ∙ ap (λ k. reach k (taken_runs (moof_in w) tracks)) first in
     record {
-      goes = GoesOn-has_begun cut (context w.moof.at (Some tracks) number) tracks w.moof.bytes c.args.header_bytes.now h c.requires.len c.requires.is near c.in-Ok.ensures.mdat good w s c.args.out.now c.begin_recut.new.out old.tally c.begin_recut.new.tally c.in-Ok-begin_recut.media c.args.ledger.now c.requires.room has;
+      goes = GoesOn-has_begun cut (context w.moof.at (Some tracks) number) tracks w.moof.bytes header_bytes h len is_header near c.in-Ok.ensures.mdat good w s c.args.out.now c.begin_recut.new.out old.tally c.begin_recut.new.tally c.in-Ok-begin_recut.media c.args.ledger.now c.requires.room has;
       unfailed = has.unfailed;
       ledger = refl;
       same = refl;
@@ -122,7 +122,7 @@ returns-in-Ok-begin_recut g c =
     }
 
 pub returns-in-Err-begin_recut : goal.returns-in-Err-begin_recut
-returns-in-Err-begin_recut g c =
+returns-in-Err-begin_recut g c = λ header_bytes len is_header.
     let w = c.args.pending_moof in
     let h = c.args.header.now in
     let tracks = c.args.tracks.now in
@@ -138,7 +138,7 @@ returns-in-Err-begin_recut g c =
     let end = rw at at c.payload_of.ensures.end in
     let measured = c.add_up_runs-moof_totals.ensures in
     let m = c.add_up_runs-moof_totals.result.bytes in
-    let some : 0 < h.header_len = omega (arith, (whole_is c.args.header_bytes.now h c.requires.is).1, need-least c.args.header_bytes.now) in
+    let some : 0 < h.header_len = omega (arith, (whole_is header_bytes h is_header).1, need-least header_bytes) in
     let room = media_bound (w.moof.at + w.moof.size) m h h.size c.payload_of.result start end c.requires.room some c.in-Ok.ensures.near measured.within measured.open in
     let least = rw measured.samples at c.in-Ok-check_fragment.ensures.least in
     let most = rw measured.samples at c.check_fragment.ensures.most in
@@ -147,8 +147,8 @@ returns-in-Err-begin_recut g c =
     let tally = fails.counted.tally in
     let ledger = c.args.ledger.now in
     let o = environment (g.W.Sink.contents c.args.w.now) c.args.out.now ledger old.tally in
-    let place = continuation_at (splitting cut) (InMdatHeader (context w.moof.at (Some tracks) number) tracks w.moof.bytes c.args.header_bytes.now) in
-    let own = claims-split (splitting cut) number o w tracks c.args.header_bytes.now (rows_of tracks w c.requires.pending_moof) c.requires.claim in
+    let place = continuation_at (splitting cut) (InMdatHeader (context w.moof.at (Some tracks) number) tracks w.moof.bytes header_bytes) in
+    let own = claims-split (splitting cut) number o w tracks header_bytes (rows_of tracks w c.requires.pending_moof) c.requires.claim in
     let all : given_back (given_back ledger (taken_by (Some w))) (64 * length tracks) ≡ given_back ledger place.claim =
     back_twice ledger (taken_by (Some w)) (64 * length tracks) ∙ ap (given_back ledger) (sym own) in
     let bound = bound_after (w.moof.at + w.moof.size) h.size in
@@ -156,7 +156,7 @@ returns-in-Err-begin_recut g c =
     rw c.back-in-Err-begin_recut.ensures (record {
       step = record {
         stops = λ more later. rw all
-            (WriteFailed-fails cut (context w.moof.at (Some tracks) number) tracks w.moof.bytes c.args.header_bytes.now h c.requires.len c.requires.is near c.in-Ok.ensures.mdat good s c.args.out.now c.begin_recut.new.out old.tally c.begin_recut.new.tally place.claim ledger (omega (arith, own, c.requires.claim)) fails (more ++ later));
+            (WriteFailed-fails cut (context w.moof.at (Some tracks) number) tracks w.moof.bytes header_bytes h len is_header near c.in-Ok.ensures.mdat good s c.args.out.now c.begin_recut.new.out old.tally c.begin_recut.new.tally place.claim ledger (omega (arith, own, c.requires.claim)) fails (more ++ later));
         failed = λ _. fails.failed;
         unfailed = λ other. absurd (other refl);
       };

@@ -8,7 +8,7 @@ returns-in-Ok g c =
     let input = c.args.input.now in
     let came : most ≤ length input = search rules in
     let len : length (take most input) ≡ most = length-take-le most input came in
-    let copies = rw (c.again-moof.ensures, c.bytes.ensures.bytes, c.offset.ensures.at, c.split_at.ensures.front, len) at c.in-Ok.ensures.copies in
+    let copies = rw (c.moof-moof.ensures, c.split_at.ensures.front, len) at c.in-Ok.ensures.copies in
     record {
       count = search rules;
       copy_taken = copies;
@@ -18,7 +18,7 @@ returns-in-Ok g c =
 
 pub returns-in-Err : goal.returns-in-Err
 returns-in-Err g c =
-    let copies = rw (c.again-moof.ensures, c.bytes.ensures.bytes, c.offset.ensures.at, c.split_at.ensures.front) at c.in-Err.ensures.copies in
+    let copies = rw (c.moof-moof.ensures, c.split_at.ensures.front) at c.in-Err.ensures.copies in
     record {
       uncopied = rw (← c.min-most.ensures) copies;
       counted = record { tally = refl; few = c.in-Err.ensures.few };

@@ -1,12 +1,15 @@
-use Rattle.std.proofs.Common.{◌-◌, ◌+◌, arith, refl}
-use Rattle.mp4_grammar.specs.Contexts.{context}
+use Rattle.std.proofs.Common.{◌-◌, ◌+◌, ◌≤◌, arith, refl, subst, sym}
+use Rattle.mp4_grammar.specs.Contexts.{context, table_of}
+use Rattle.mp4_machine.specs.Bodies.{extent_of, left_of}
+use Rattle.mp4_machine.specs.Readings.{says}
+use Rattle.mp4_machine.proofs.ContinuationLemmas.{IsLeft-begun}
 use Rattle.mp4_machine.specs.Inputs.{environment}
 use Rattle.mp4_recut.specs.Operations.{operation_meaning, number_in}
-use Rattle.mp4_fragment_machine.specs.States.{most_counted}
 use Rattle.mp4_fragment_machine.specs.Implementation.Steps.{environment_before}
 use Rattle.mp4_fragment_machine.proofs.CountLemmas.{counted_later}
 use Rattle.mp4_fragment_machine.proofs.HeadLemmas.{GoesOn-both}
-use Rattle.mp4_fragment_machine.proofs.CopyLemmas.{GoesOn-copy, GoesOn-copy_open, GoesOn-says_over}
+use Rattle.mp4_fragment_machine.proofs.CopyLemmas.{GoesOn-copy, GoesOn-copy_body, GoesOn-says_over}
+use Rattle.mp4_fragment_machine.proofs.ExtentLemmas.{claim_in, counted-begun}
 use Rattle.mp4_fragment_machine.proofs.passed_box.copy.Goals as goal
 
 pub returns-in-Empty : goal.returns-in-Empty
@@ -28,15 +31,21 @@ returns-in-Empty c = λ l k x can account unfailed effects p.
       counted = counted_later k.operation k.counter at (at + size) 0 0 (omega arith) (omega arith) (omega (arith, near, far)) can.can.counted;
     })
 
-pub returns-in-Sized : goal.returns-in-Sized
-returns-in-Sized c = λ l k x can account unfailed effects p.
+pub returns-in-Bytes : goal.returns-in-Bytes
+returns-in-Bytes c = λ l k x can account unfailed effects p.
     let header = c.args.header.now in
     let at = c.args.at in
-    let (size, is, room, same, near) = c.in-Sized.ensures in
-    rw (same, account) (record { step = record { goes = GoesOn-copy (operation_meaning k.operation) (environment_before l k) at (number_in k.operation k.counter.tally) k.tracks header x can.len can.is c.requires.end c.requires.other effects size is (omega (arith, room)) l.written' l.waiting' p; unfailed = unfailed; claim = can.can.claim }; operation = refl; state = (can.empty, omega (arith, room), omega arith, near); counted = counted_later k.operation k.counter at (at + size) 0 0 (omega arith) (omega arith) (omega (arith, near)) can.can.counted })
-
-pub returns-in-Open : goal.returns-in-Open
-returns-in-Open c = λ l k x can account unfailed effects p.
-    let at = c.args.at in
-    let (is, same, near) = c.in-Open.ensures in
-    rw (same, account) (record { step = record { goes = GoesOn-copy_open (operation_meaning k.operation) (environment_before l k) at (number_in k.operation k.counter.tally) k.tracks c.args.header.now x can.len can.is c.requires.end c.requires.other effects is l.written' l.waiting' p; unfailed = unfailed; claim = can.can.claim }; operation = refl; state = (can.empty, omega arith); counted = counted_later k.operation k.counter at most_counted 0 0 (omega (arith, near)) (omega arith) (omega arith) can.can.counted })
+    let size = header.size in
+    let number = number_in k.operation k.counter.tally in
+    let table = table_of k.tracks in
+    let (same, some) = c.in-Bytes.ensures in
+    rw (same, account) (record {
+      step = record {
+        goes = GoesOn-copy_body (operation_meaning k.operation) (environment_before l k) at number k.tracks header x can.len can.is c.requires.end c.requires.other effects size refl some l.written' l.waiting' p;
+        unfailed = unfailed;
+        claim = subst (λ m. m ≤ l.account.live) (sym (claim_in (λ y. says y) at header.kind k.tracks number (left_of at header size) table (extent_of at 0 size))) can.can.claim;
+      };
+      operation = refl;
+      state = (can.empty, IsLeft-begun at 0 header size some);
+      counted = counted-begun k.operation k.counter at header size some can.can.counted;
+    })

@@ -1,15 +1,16 @@
-use Rattle.std.proofs.Common.{◌-◌, ◌+◌, [], arith, refl}
+use Rattle.std.proofs.Common.{◌-◌, ◌+◌, ◌≤◌, [], arith, refl, subst, sym}
 use Rattle.mp4_grammar.specs.Contexts.{context, table_of}
 use Rattle.mp4_machine.specs.Inputs.{environment}
 use Rattle.mp4_machine.proofs.InputLemmas.{Moves-none}
 use Rattle.mp4_recut.specs.Operations.{operation_meaning, number_in}
-use Rattle.mp4_fragment_machine.specs.States.{most_counted}
-use Rattle.mp4_machine.proofs.ContinuationLemmas.{GoesOn-over}
+use Rattle.mp4_machine.specs.Bodies.{extent_of, left_of}
+use Rattle.mp4_machine.proofs.ContinuationLemmas.{GoesOn-over, IsLeft-begun}
 use Rattle.mp4_machine.specs.Readings.{no_effects}
 use Rattle.mp4_grammar.specs.Items.{reads_in}
 use Rattle.mp4_fragment_machine.specs.Places.{InHeader, continuation_at}
 use Rattle.mp4_fragment_machine.proofs.CountLemmas.{counted_later}
-use Rattle.mp4_fragment_machine.proofs.HeadLemmas.{GoesOn-other, GoesOn-other_open, GoesOn-both}
+use Rattle.mp4_fragment_machine.proofs.HeadLemmas.{GoesOn-both, GoesOn-other, GoesOn-other_body}
+use Rattle.mp4_fragment_machine.proofs.ExtentLemmas.{claim_in, counted-begun}
 use Rattle.mp4_fragment_machine.proofs.passed_box.leave_out.Goals as goal
 
 pub returns-in-Empty : goal.returns-in-Empty
@@ -24,7 +25,7 @@ returns-in-Empty c = λ u account k x can silence.
     rw (far, can.empty) (record {
       step = record {
         goes = GoesOn-both can.can.claim (GoesOn-other meaning o at number k.tracks header x can.len can.is c.requires.end c.requires.other silence size is (omega (arith, all)))
-            (GoesOn-over (reads_in meaning) next (table_of k.tracks) o o (λ _. no_effects) (record { at = at; kind = header.kind; next = at + size; left = size - header.header_len }) (continuation_at meaning (InHeader next [])) (omega (arith, all)) refl (Moves-none o (table_of k.tracks)) (omega arith) (λ later. refl));
+            (GoesOn-over (reads_in meaning) (λ end. context end k.tracks number) (table_of k.tracks) o at header.kind o (λ _. no_effects) (at + size) (size - header.header_len) (continuation_at meaning (InHeader next [])) (omega (arith, all)) refl (Moves-none o (table_of k.tracks)) (omega arith) (λ later. refl));
         unfailed = refl;
         claim = can.can.claim;
       };
@@ -33,14 +34,21 @@ returns-in-Empty c = λ u account k x can silence.
       counted = counted_later k.operation k.counter at (at + size) 0 0 (omega arith) (omega arith) (omega (arith, near, far)) can.can.counted;
     })
 
-pub returns-in-Sized : goal.returns-in-Sized
-returns-in-Sized c = λ u account k x can silence.
+pub returns-in-Bytes : goal.returns-in-Bytes
+returns-in-Bytes c = λ u account k x can silence.
+    let header = c.args.header.now in
     let at = c.args.at in
-    let (size, is, room, same, near) = c.in-Sized.ensures in
-    rw same (record { step = record { goes = GoesOn-other (operation_meaning k.operation) (environment u.written u.waiting account k.counter.tally) at (number_in k.operation k.counter.tally) k.tracks c.args.header.now x can.len can.is c.requires.end c.requires.other silence size is (omega (arith, room)); unfailed = refl; claim = can.can.claim }; operation = refl; state = (can.empty, omega (arith, room), omega arith, near, tt); counted = counted_later k.operation k.counter at (at + size) 0 0 (omega arith) (omega arith) (omega (arith, near)) can.can.counted })
-
-pub returns-in-Open : goal.returns-in-Open
-returns-in-Open c = λ u account k x can silence.
-    let at = c.args.at in
-    let (is, same, near) = c.in-Open.ensures in
-    rw same (record { step = record { goes = GoesOn-other_open (operation_meaning k.operation) (environment u.written u.waiting account k.counter.tally) at (number_in k.operation k.counter.tally) k.tracks c.args.header.now x can.len can.is c.requires.end c.requires.other silence is; unfailed = refl; claim = can.can.claim }; operation = refl; state = (can.empty, omega arith, tt); counted = counted_later k.operation k.counter at most_counted 0 0 (omega (arith, near)) (omega arith) (omega arith) can.can.counted })
+    let size = header.size in
+    let number = number_in k.operation k.counter.tally in
+    let table = table_of k.tracks in
+    let (same, some) = c.in-Bytes.ensures in
+    rw same (record {
+      step = record {
+        goes = GoesOn-other_body (operation_meaning k.operation) (environment u.written u.waiting account k.counter.tally) at number k.tracks header x can.len can.is c.requires.end c.requires.other silence size refl some;
+        unfailed = refl;
+        claim = subst (λ m. m ≤ account.live) (sym (claim_in (λ _. no_effects) at header.kind k.tracks number (left_of at header size) table (extent_of at 0 size))) can.can.claim;
+      };
+      operation = refl;
+      state = (can.empty, IsLeft-begun at 0 header size some, tt);
+      counted = counted-begun k.operation k.counter at header size some can.can.counted;
+    })

@@ -18,7 +18,7 @@ returns-in-Ok g c =
     let can = rw (c.in-Some.is, c.requires.operation) at c.requires.can in
     let u : Untouched = record { written = g.W.Sink.contents c.begin_split.new.w; waiting = c.begin_split.new.out; failed = g.W.Sink.has_failed c.begin_split.new.w } in
     let mid : Carried = record { operation = carried.operation; tracks = carried.tracks; header_bytes = carried.header_bytes; counter = c.begin_split.new.counter } in
-    let begun = c.in-Ok.ensures in
+    let begun = c.in-Ok.ensures c.args.header_bytes.now c.requires.len c.requires.is in
     let split = c.in-Ok.split in
     let enters = λ (x : PendingMoof) (t : Option (List Track)). EntersMedia c.args.cut (recut_fragment x (known t) number c.args.header.now) c.args.header.now split (ledger_alone u c.begin_split.new.ledger c.enter_split.new.ledger) mid c.enter_split.new.carried c.enter_split.result in
     let entered = subst (enters w) c.in-Some.is (subst (λ x. enters x carried.tracks) begun.same (c.enter_split.ensures number u)) in
@@ -28,7 +28,7 @@ returns-in-Ok g c =
 pub returns-in-Err : goal.returns-in-Err
 returns-in-Err g c =
     let list = c.in-Some.list in
-    let begun = c.in-Err.ensures in
+    let begun = c.in-Err.ensures c.args.header_bytes.now c.requires.len c.requires.is in
     let carried = c.args.carried.now in
     let can = rw (c.in-Some.is, c.requires.operation) at c.requires.can in
     rw (c.in-Some.is, c.requires.operation) (record { step = begun.step; operation = refl; tracks = refl; empty = c.requires.empty; left = begun.left; counted = begun.counted can.counted })

@@ -6,9 +6,9 @@ use Rattle.mp4_recut.proofs.media.copy_all_media.Goals as goal
 
 pub loop-count-init : goal.loop-count-init
 loop-count-init g c =
-    let cut = c.args.cut.now in
-    let h = c.args.moof.now in
-    let tracks = c.args.tracks.now in
+    let cut = c.args.cut_moof.now.cut.now in
+    let h = c.args.cut_moof.now.moof.now in
+    let tracks = c.args.cut_moof.now.tracks.now in
     let n = c.args.fragments.now in
     let here : c.args.at ≡ c.args.at + 0 = omega arith in
     let a = g.W.Sink.contents c.args.w.now in
@@ -24,9 +24,9 @@ loop-count-init g c =
 
 pub loop-count-preserved : goal.loop-count-preserved
 loop-count-preserved g c =
-    let cut = c.args.cut.now in
-    let h = c.args.moof.now in
-    let tracks = c.args.tracks.now in
+    let cut = c.args.cut_moof.now.cut.now in
+    let h = c.args.cut_moof.now.moof.now in
+    let tracks = c.args.cut_moof.now.tracks.now in
     let a = g.W.Sink.contents c.args.w.now in
     let d = g.W.Sink.contents c.copy_media.new.w in
     let m = c.args.fragments.now in
@@ -56,9 +56,9 @@ loop-count-preserved g c =
 
 pub returns-in-Err-clause-copies : goal.returns-in-Err-clause-copies
 returns-in-Err-clause-copies g c =
-    let cut = c.args.cut.now in
-    let h = c.args.moof.now in
-    let tracks = c.args.tracks.now in
+    let cut = c.args.cut_moof.now.cut.now in
+    let h = c.args.cut_moof.now.moof.now in
+    let tracks = c.args.cut_moof.now.tracks.now in
     let a = g.W.Sink.contents c.args.w.now in
     let b = g.W.Sink.contents c.loop-count.w in
     let d = g.W.Sink.contents c.copy_media.new.w in

@@ -7,7 +7,7 @@ use Rattle.mp4_recut.proofs.media.copy_media.Goals as goal
 pub returns-then-copy_span-eq0-clause-copies : goal.returns-then-copy_span-eq0-clause-copies
 returns-then-copy_span-eq0-clause-copies g c =
     let copy_span = c.args.media.now.copy_span in
-    let ps = fragments_left c.args.cut.now c.args.moof.now c.args.tracks.now (c.args.fragments.now + 1) c.args.media.now.later in
+    let ps = fragments_left c.args.cut_moof.now.cut.now c.args.cut_moof.now.moof.now c.args.cut_moof.now.tracks.now (c.args.fragments.now + 1) c.args.media.now.later in
     let none = c.if-copy_span-eq0.true in (
       c.requires.some,
       omega arith,
@@ -22,7 +22,7 @@ returns-then-copy_span-eq0-clause-copies g c =
 pub returns-then-at-copy_span-clause-copies : goal.returns-then-at-copy_span-clause-copies
 returns-then-at-copy_span-clause-copies g c =
     let copy_span = c.args.media.now.copy_span in
-    let ps = fragments_left c.args.cut.now c.args.moof.now c.args.tracks.now (c.args.fragments.now + 1) c.args.media.now.later in (
+    let ps = fragments_left c.args.cut_moof.now.cut.now c.args.cut_moof.now.moof.now c.args.cut_moof.now.tracks.now (c.args.fragments.now + 1) c.args.media.now.later in (
       search rules,
       search rules,
       record {
@@ -35,7 +35,7 @@ returns-then-at-copy_span-clause-copies g c =
 
 pub returns-in-Err-clause-copies : goal.returns-in-Err-clause-copies
 returns-in-Err-clause-copies g c =
-    let ps = fragments_left c.args.cut.now c.args.moof.now c.args.tracks.now (c.args.fragments.now + 1) c.args.media.now.later in
+    let ps = fragments_left c.args.cut_moof.now.cut.now c.args.cut_moof.now.moof.now c.args.cut_moof.now.tracks.now (c.args.fragments.now + 1) c.args.media.now.later in
     record {
       cut_short = λ later. output_from-cut_short c.args.at c.args.media.now.copy_span ps c.min-n-2.result c.args.input.now (search rules) (search rules) (search rules) (search rules) _ _ _ _ later _ (rw (← c.split_at.ensures.front) c.in-Err.ensures.breaks);
       failed = c.in-Err.ensures.failed;
@@ -45,8 +45,8 @@ pub returns-in-Ok-write_ready_in-clause-copies : goal.returns-in-Ok-write_ready_
 returns-in-Ok-write_ready_in-clause-copies g c =
     let copy_span = c.args.media.now.copy_span in
     let n = c.min-n-2.result in
-    let ps = fragments_left c.args.cut.now c.args.moof.now c.args.tracks.now (c.args.fragments.now + 1) c.args.media.now.later in
-    let new = fragments_left c.args.cut.now c.args.moof.now c.args.tracks.now (c.write_ready_in.new.fragments + 1) c.write_ready_in.new.media.later in
+    let ps = fragments_left c.args.cut_moof.now.cut.now c.args.cut_moof.now.moof.now c.args.cut_moof.now.tracks.now (c.args.fragments.now + 1) c.args.media.now.later in
+    let new = fragments_left c.args.cut_moof.now.cut.now c.args.cut_moof.now.moof.now c.args.cut_moof.now.tracks.now (c.write_ready_in.new.fragments + 1) c.write_ready_in.new.media.later in
     let no_head_ready = c.in-Ok-write_ready_in.ensures.writes_heads in (
       search rules,
       search rules,
@@ -61,7 +61,7 @@ returns-in-Ok-write_ready_in-clause-copies g c =
 
 pub returns-in-Err-write_ready_in-clause-copies : goal.returns-in-Err-write_ready_in-clause-copies
 returns-in-Err-write_ready_in-clause-copies g c =
-    let ps = fragments_left c.args.cut.now c.args.moof.now c.args.tracks.now (c.args.fragments.now + 1) c.args.media.now.later in
+    let ps = fragments_left c.args.cut_moof.now.cut.now c.args.cut_moof.now.moof.now c.args.cut_moof.now.tracks.now (c.args.fragments.now + 1) c.args.media.now.later in
     record {
       cut_short = λ later. output_from-stopped c.args.at c.args.media.now.copy_span ps c.min-n-2.result c.args.input.now (search rules) (search rules) (search rules) (search rules) _ _ _ _ _ _ later c.args.fragments.now c.write_ready_in.new.fragments
           (rw (← c.split_at.ensures.front) c.in-Ok.ensures.passes) c.in-Err-write_ready_in.ensures.writes_heads.cut_short;

@@ -14,9 +14,9 @@ loop-media-init g c = record { outputs = λ at. Outputs-none _ _ _ _; at = c.req
 
 pub loop-media-preserved : goal.loop-media-preserved
 loop-media-preserved g c =
-    let cut = c.args.cut.now in
-    let h = c.args.moof.now in
-    let tracks = c.args.tracks.now in
+    let cut = c.args.cut_moof.now.cut.now in
+    let h = c.args.cut_moof.now.moof.now in
+    let tracks = c.args.cut_moof.now.tracks.now in
     let a = g.W.Sink.contents c.args.w.now in
     let n = c.loop-media.fragments in
     let media = c.loop-media.media in
@@ -36,9 +36,9 @@ loop-media-preserved g c =
 
 pub returns-in-Ok-None-clause-writes_heads : goal.returns-in-Ok-None-clause-writes_heads
 returns-in-Ok-None-clause-writes_heads g c =
-    let cut = c.args.cut.now in
-    let h = c.args.moof.now in
-    let tracks = c.args.tracks.now in
+    let cut = c.args.cut_moof.now.cut.now in
+    let h = c.args.cut_moof.now.moof.now in
+    let tracks = c.args.cut_moof.now.tracks.now in
     let i = c.loop-media.invariant in
     let n = c.loop-media.fragments in
     let media = c.loop-media.media in
@@ -56,9 +56,9 @@ returns-in-Ok-None-clause-writes_heads g c =
 
 pub returns-in-Err-clause-writes_heads : goal.returns-in-Err-clause-writes_heads
 returns-in-Err-clause-writes_heads g c =
-    let cut = c.args.cut.now in
-    let h = c.args.moof.now in
-    let tracks = c.args.tracks.now in
+    let cut = c.args.cut_moof.now.cut.now in
+    let h = c.args.cut_moof.now.moof.now in
+    let tracks = c.args.cut_moof.now.tracks.now in
     let a = g.W.Sink.contents c.args.w.now in
     let b = g.W.Sink.contents c.loop-media.w in
     let d = g.W.Sink.contents c.next_fragment.new.w in

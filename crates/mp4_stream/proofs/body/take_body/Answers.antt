@@ -1,39 +1,54 @@
-use Rattle.std.proofs.Common.{◌-◌, ap, arith, refl}
-use Rattle.mp4_machine.specs.declared.body.Body.{Body}
+use Rattle.std.proofs.Common.{◌≡◌, ◌-◌, ◌≤◌, arith, length, refl, subst, sym}
+use Rattle.mp4_machine.specs.Bodies.{extent_after}
+use Rattle.mp4_machine.specs.declared.body.Extent.TheVariants as extents
 use Rattle.mp4_machine.proofs.InputLemmas.{Moves-none}
-use Rattle.mp4_machine.proofs.ContinuationLemmas.{GoesOn-over, GoesOn-passed}
-use Rattle.mp4_machine.proofs.StepLemmas.{GoesOn-then}
+use Rattle.mp4_machine.proofs.ContinuationLemmas.{GoesOn-over, GoesOn-passed, IsLeft-after, Refuses-far, sized_before, some_taken}
+use Rattle.mp4_machine.proofs.StepLemmas.{GoesOn-then, StopsIn-refused}
 use Rattle.mp4_stream.specs.Boxes.{passed, reading}
 use Rattle.mp4_stream.specs.States.{at_header}
+use Rattle.mp4_stream.proofs.StateLemmas.{needs_none-after, none_claimed}
 use Rattle.mp4_stream.proofs.body.take_body.Goals as goal
 
-pub returns-then-body-gt0 : goal.returns-then-body-gt0
-returns-then-body-gt0 c = λ o failed.
+pub returns-in-Err : goal.returns-in-Err
+returns-in-Err c = λ o failed.
     let b = c.args.body in
-    let came = c.take-count.ensures in
-    let left_is = ap (λ (b : Body). b.left) came.left in
-    let is = c.requires.state in (
-      omega (arith, came.taken, c.requires.some, is.1),
+    let far = c.in-Err.ensures in
+    rw far.err (StopsIn-refused refl (λ more. Refuses-far reading (λ next. next) 0 o b.at b.kind o b.left b.extent c.args.input.now more far.open (Moves-none o 0) far.far), refl)
+
+pub returns-in-None : goal.returns-in-None
+returns-in-None c = λ o failed.
+    let b = c.args.body in
+    let came = c.in-Ok.ensures in
+    let n = c.in-Ok.count in
+    let is = c.requires.state in
+    let more = rw came.left at c.in-None.ensures.none in (
+      some_taken b.left (length c.args.input.now) n b.extent is.1.more came.all came.taken c.requires.some,
       omega (arith, came.taken),
-      record { goes = rw came.left (GoesOn-passed reading b.next 0 o b c.take-count.result c.args.input.now came.taken is.2); unfailed = refl; claim = omega arith },
-      rw came.left (refl, omega (arith, left_is, c.if-body-gt0.true), omega (arith, is.2), is.3),
+      rw came.left (record {
+        goes = GoesOn-passed reading (λ next. next) 0 o b.at b.kind b.left n b.extent c.args.input.now (omega (arith, came.taken)) (omega (arith, came.taken)) is.1.within;
+        unfailed = refl;
+        claim = subst (λ k. k ≤ o.account.live) (sym (none_claimed b.at b.kind (b.left - n) (extent_after n b.extent))) (omega arith);
+      }),
+      rw came.left (refl, IsLeft-after b.left n b.extent is.1 more, needs_none-after n b.extent is.2),
     )
 
-pub returns : goal.returns
-returns c = λ o failed.
+pub returns-in-Some : goal.returns-in-Some
+returns-in-Some c = λ o failed.
     let b = c.args.body in
-    let n = c.take-count.result in
-    let came = c.take-count.ensures in
-    let left_is = ap (λ (b : Body). b.left) came.left in
-    let is = c.requires.state in
-    let left = record b { left = b.left - n } in (
-      omega (arith, came.taken, c.requires.some, is.1),
+    let came = c.in-Ok.ensures in
+    let n = c.in-Ok.count in
+    let next = c.in-Some.next in
+    let (over, same) = rw came.left at c.in-Some.ensures.some in
+    let sized : b.extent ≡ extents.Sized next = sized_before n next b.extent same in
+    let is = rw sized at c.requires.state in (
+      omega (arith, came.taken, c.requires.some, is.1.more),
       omega (arith, came.taken),
       record {
-        goes = rw came.left (GoesOn-then (omega arith) (GoesOn-passed reading b.next 0 o b n c.args.input.now came.taken is.2) (at_header b.next)
-            (GoesOn-over reading b.next 0 o o passed left (at_header b.next) (omega (arith, left_is, c.if-body-gt0.false)) refl (Moves-none o 0) (omega arith) (λ later. refl)));
+        goes = rw sized
+            (GoesOn-then (omega arith) (GoesOn-passed reading (λ k. k) 0 o b.at b.kind b.left n (extents.Sized next) c.args.input.now (omega (arith, came.taken)) (omega (arith, came.taken)) is.1.within) (at_header next)
+            (GoesOn-over reading (λ k. k) 0 o b.at b.kind o passed next (b.left - n) (at_header next) (omega (arith, over)) refl (Moves-none o 0) (omega arith) (λ later. refl)));
         unfailed = refl;
         claim = omega arith;
       },
-      rw came.left (omega arith, is.3),
+      (omega arith, is.1.near),
     )

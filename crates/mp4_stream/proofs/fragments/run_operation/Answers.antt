@@ -1,4 +1,4 @@
-use Rattle.std.proofs.Common.{◌≡◌, ◌∙◌, ap, arith, refl, sym}
+use Rattle.std.proofs.Common.{◌≡◌, ◌∙◌, ap, arith, refl, rules, sym}
 use Rattle.mp4_machine.proofs.RunLemmas.{Runs-same}
 use Rattle.mp4_push.specs.Feeders.{fragments_of}
 use Rattle.mp4_push.proofs.FeederLemmas.{begun-is}
@@ -8,30 +8,28 @@ use Rattle.mp4_stream.proofs.fragments.run_operation.Goals as goal
 pub read_stream-answer-requires-clause-begun : goal.read_stream-answer-requires-clause-begun
 read_stream-answer-requires-clause-begun g c = rw c.new-machine.ensures (begun-is c.args.operation)
 
-pub returns-clause-runs : goal.returns-clause-runs
-returns-clause-runs g c =
+pub returns : goal.returns
+returns g c =
     let peak : c.give_up.new.ledger.peak ≡ c.read_stream-answer.new.ledger.peak = rw c.give_up.ensures refl in
     let ran = rw (c.new-machine.ensures, first_number c.args.operation, ← c.tally-tally.ensures.tally) at c.read_stream-answer.ensures.runs in
+    let began = rw (c.new-machine.ensures, first_number c.args.operation) at c.read_stream-answer.ensures.runs in
     let operation = rw c.new-machine.ensures at c.read_stream-answer.ensures.task in
     let read = c.rows_read-rows_read.ensures in
     let same = Runs-same refl refl (sym peak) ran in
     record {
-      effects = c.tally-tally.result.fragments;
-      inspected = c.tally-tally.result.inspected;
-      runs = same.0;
-      fragments = c.fragments_of.ensures ∙ ap (fragments_of c.args.operation c.tally-tally.result.fragments) (sym same.1);
-      all = c.tally-tally.ensures.all;
-      some = rw (operation, ← c.tally-tally.ensures.tally) at read.some;
-      few = rw (operation, ← c.tally-tally.ensures.tally) at read.few;
-      by_boxes = claims_by_boxes c.args.operation _ c.read_stream-answer.result same.0;
+      runs = record {
+        effects = c.tally-tally.result.fragments;
+        inspected = c.tally-tally.result.inspected;
+        runs = same.0;
+        fragments = c.fragments_of.ensures ∙ ap (fragments_of c.args.operation c.tally-tally.result.fragments) (sym same.1);
+        all = c.tally-tally.ensures.all;
+        some = rw (operation, ← c.tally-tally.ensures.tally) at read.some;
+        few = rw (operation, ← c.tally-tally.ensures.tally) at read.few;
+        by_boxes = claims_by_boxes c.args.operation _ c.read_stream-answer.result same.0;
+      };
+      within = search rules;
+      back = search rules;
+      peak = search rules;
+      bound = omega (arith, ap (λ a. a.peak) c.give_up.ensures, peak_bound c.args.operation _ c.read_stream-answer.result began.0);
+      enough = never_over c.args.operation _ c.read_stream-answer.result began.0;
     }
-
-pub returns-clause-bound : goal.returns-clause-bound
-returns-clause-bound g c =
-    let ran = rw (c.new-machine.ensures, first_number c.args.operation) at c.read_stream-answer.ensures.runs in
-    omega (arith, ap (λ a. a.peak) c.give_up.ensures, peak_bound c.args.operation _ c.read_stream-answer.result ran.0)
-
-pub returns-clause-enough : goal.returns-clause-enough
-returns-clause-enough g c =
-    let ran = rw (c.new-machine.ensures, first_number c.args.operation) at c.read_stream-answer.ensures.runs in
-    never_over c.args.operation _ c.read_stream-answer.result ran.0

@@ -5,8 +5,3 @@ pub returns-in-Body : goal.returns-in-Body
 returns-in-Body g c =
     let is = rw c.in-Body.is at c.requires.state in
     rw (c.in-Body.is, is.0) (c.take_body.ensures (environment (g.W.Sink.contents c.args.w.now) c.args.out.now c.args.ledger.now) (g.W.Sink.has_failed c.args.w.now))
-
-pub returns-in-OpenBody : goal.returns-in-OpenBody
-returns-in-OpenBody g c =
-    let is = rw c.in-OpenBody.is at c.requires.state in
-    rw (c.in-OpenBody.is, is.0) (c.take_open.ensures (environment (g.W.Sink.contents c.args.w.now) c.args.out.now c.args.ledger.now) (g.W.Sink.has_failed c.args.w.now))

@@ -4,7 +4,7 @@ use Rattle.mp4_machine.specs.declared.stop.Stop.{Stop}
 use Rattle.mp4_push.specs.Feeders.{held_by}
 use Rattle.fmp4_c.specs.Engines.{Holds, IsPortion, Run, Stopped, after_take, held_in}
 use Rattle.fmp4_c.specs.declared.answer.Answer.TheVariants.{Done, Full}
-use Rattle.fmp4_c.proofs.AheadLemmas.{ahead-err, ahead-ok, portion-after}
+use Rattle.fmp4_c.proofs.AheadLemmas.{ahead-err, ahead-ok, portion-after, wrote}
 use Rattle.fmp4_c.proofs.HoldLemmas.{after-its, answer-its, fed-stopped, stopped-taken, taken}
 use Rattle.fmp4_c.proofs.engine.Engine.feed_take.Goals as goal
 
@@ -89,3 +89,15 @@ returns-in-Err-clause-feeds c = rw (c.passed-in-Err.ensures.is, c.of_stop-in-Err
     ahead-err operation b given input old next p c.feed_ahead-at.new.feeder c.in-Some.is refl before c.feed_ahead-at.ensures.operation
     feeds.0 feeds.1 c.take-first.new.self.room c.feed_ahead-at.new.rest.room c.take-first.result c.feed_ahead-at.result.at c.give.result c.take-first.new.out c.feed_ahead-at.new.buffer c.give.new.buffer c.take-first.new.self.bytes c.feed_ahead-at.new.rest.bytes c.self.inside.ledger
     c.take-first.ensures.front c.take-first.ensures.left c.give.ensures.front c.give.ensures.left c.in-Err.stop stops idle c.feed_ahead-at.result.result c.in-Err.is feeds.2))
+
+pub returns-in-Err-clause-no_room : goal.returns-in-Err-clause-no_room
+returns-in-Err-clause-no_room c = rw (c.passed-in-Err.ensures.is, c.of_stop-in-Err.ensures) (λ operation b given h number.
+    let p = c.in-Some.feeder in
+    let old : Run = record { account = c.self.inside.ledger; feeding = c.self.inside.feeder; waiting = c.self.inside.out; share = c.self.inside.share; reported = c.self.inside.reported; operation = c.self.inside.operation } in
+    let before : Holds operation b given old = subst (λ (r : Run). Holds operation b given r) (sym c.self.view_is) h in
+    let after = after-its operation b given old p c.in-Some.is before in
+    let feeds = c.feed_ahead-at.ensures.feeds b after in
+    let input = take c.portion-portion.result c.args.input.now in
+    let write = wrote b input p c.feed_ahead-at.new.feeder _ c.feed_ahead-at.result.result c.in-Err.stop c.in-Err.is feeds.2 number in
+    let full = c.feed_ahead-at.ensures.full b after write in
+    (grind (arith, rules, full.0), search (rules, full.1)))

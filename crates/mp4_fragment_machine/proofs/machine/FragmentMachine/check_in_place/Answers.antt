@@ -21,7 +21,7 @@ invariant_of-self-in-Ok c =
 
 pub returns-in-Ok-clause-taken : goal.returns-in-Ok-clause-taken
 returns-in-Ok-clause-taken c = λ u.
-    let state : c.self.inside.state ≡ states.Header c.args.at = ap (λ (p : Progress). p.state) c.self.view_is ∙ c.requires.state in
+    let state : c.self.inside.state ≡ states.Header c.args.at = ap (λ (p : Progress). p.state) c.self.view_is ∙ c.requires.found.state in
     let new = c.check_fragment.new in
     rw (← c.self.view_is, state, c.go_to.ensures)
     (fed (ledger_alone u c.args.ledger.now new.ledger) c.self.inside.carried new.carried (states.Header c.args.at) (states.Header (c.args.at + c.in-Ok.size)) c.args.input.now c.in-Ok.size (c.in-Ok.ensures.taken u))

@@ -1,27 +1,43 @@
-use Rattle.std.proofs.Common.{◌≡◌, ◌∙◌, ap, [], None, false}
+use Rattle.std.proofs.Common.{◌∙◌, ap, arith, None, false, refl}
+use Rattle.mp4_machine.specs.Blocks.{unused}
 use Rattle.mp4_fragment_machine.specs.Places.{Untouched}
 use Rattle.mp4_fragment_machine.specs.States.{Progress}
 use Rattle.mp4_fragment_machine.specs.Implementation.Steps.{ledger_alone}
-use Rattle.mp4_fragment_machine.specs.declared.state.State.TheVariants as states
 use Rattle.mp4_fragment_machine.proofs.FeedLemmas.{fed}
 use Rattle.mp4_fragment_machine.proofs.machine.FragmentMachine.finish_body.Goals as goal
 
+-- any writer
+abbrev no_writer : Untouched
+no_writer = record { written = None; waiting = unused; failed = false }
+
+pub take_body-requires-clause-body : goal.take_body-requires-clause-body
+take_body-requires-clause-body c =
+    (c.requires.body.0, c.requires.body.1, ap (λ (p : Progress). p.state) c.self.view_is ∙ c.requires.body.2)
+
 pub invariant_of-self : goal.invariant_of-self
 invariant_of-self c =
-    let b = c.requires.within.0 in
-    let w = c.requires.within.1 in
-    let state : c.self.inside.state ≡ states.Body b w = ap (λ (p : Progress). p.state) c.self.view_is ∙ c.requires.within.2 in
-    let left = c.leave_body-pending_moof.ensures b w state in
-    let u : Untouched = record { written = None; waiting = record { bytes = []; ends = []; whole = 0 }; failed = false } in
-    let ended = rw (left.0, left.1) at c.end_body.ensures u in
-    rw left.2 (ended.2.state, ended.2.counted)
+    let taken = c.in-Ok.ensures no_writer in
+    (taken.2.state, taken.2.counted)
 
-pub returns : goal.returns
-returns c = λ u.
-    let b = c.requires.within.0 in
-    let w = c.requires.within.1 in
-    let state : c.self.inside.state ≡ states.Body b w = ap (λ (p : Progress). p.state) c.self.view_is ∙ c.requires.within.2 in
-    let left = c.leave_body-pending_moof.ensures b w state in
-    let new = c.end_body.new in
-    rw (← c.self.view_is, state, left.2)
-    (fed (ledger_alone u c.args.ledger.now new.ledger) c.self.inside.carried new.carried (states.Body b w) (states.Header b.next) c.args.input.now c.end_body.result (rw (left.0, left.1) at c.end_body.ensures u))
+pub returns-in-Ok : goal.returns-in-Ok
+returns-in-Ok c = λ u.
+    let new = c.take_body.new in
+    rw (← c.self.view_is)
+    (fed (ledger_alone u c.args.ledger.now new.ledger) c.self.inside.carried new.carried c.self.inside.state new.current c.args.input.now c.in-Ok.taken (c.in-Ok.ensures u))
+
+pub invariant_of-self-in-Err : goal.invariant_of-self-in-Err
+invariant_of-self-in-Err c =
+    let (is, stopped) = c.in-Err.ensures no_writer in
+    rw (is, stopped.empty) ((refl, record { within = omega arith; near = omega arith; more = tt }, tt), stopped.counted)
+
+pub give_back-requires : goal.give_back-requires
+give_back-requires c =
+    let (is, stopped) = c.in-Err.ensures no_writer in
+    rw (is, stopped.tracks) stopped.left
+
+pub returns-in-Err : goal.returns-in-Err
+returns-in-Err c = λ u.
+    let (is, stopped) = c.in-Err.ensures u in
+    let back = rw (is, stopped.tracks) at c.give_back.ensures.back in
+    rw (← c.self.view_is, back, c.give_back.ensures.counted)
+    (record { step = stopped.step; spent = rw c.give_back.ensures.counted at c.give_back.ensures.spent; operation = rw c.give_back.ensures.task stopped.operation })

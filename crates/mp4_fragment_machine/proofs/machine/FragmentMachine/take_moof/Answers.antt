@@ -7,7 +7,7 @@ use Rattle.mp4_fragment_machine.proofs.machine.FragmentMachine.take_moof.Goals a
 
 pub returns-in-Ok : goal.returns-in-Ok
 returns-in-Ok g c =
-    let state : c.self.inside.state ≡ states.Header c.args.at = ap (λ (p : Progress). p.state) c.self.view_is ∙ c.requires.state in
+    let state : c.self.inside.state ≡ states.Header c.args.at = ap (λ (p : Progress). p.state) c.self.view_is ∙ c.requires.first.state in
     let old = c.self.inside.carried in
     let new = c.take_moof_in_place.new in
     let l = borrowed g.W.Sink.contents g.W.Sink.has_failed c.args.w.now new.w c.args.out.now new.out c.args.ledger.now new.ledger in
@@ -16,7 +16,7 @@ returns-in-Ok g c =
 
 pub returns-in-Err : goal.returns-in-Err
 returns-in-Err g c =
-    let state : c.self.inside.state ≡ states.Header c.args.at = ap (λ (p : Progress). p.state) c.self.view_is ∙ c.requires.state in
+    let state : c.self.inside.state ≡ states.Header c.args.at = ap (λ (p : Progress). p.state) c.self.view_is ∙ c.requires.first.state in
     let stopped = c.in-Err.ensures in
     let back = rw (c.stop_at.ensures, stopped.tracks) at c.give_back.ensures.back in
     rw (← c.self.view_is, state, back, c.give_back.ensures.counted)

@@ -17,3 +17,9 @@ copy_media-requires g c =
       media = (c.in-Media.field-0, ap (λ (p : Progress). p.state) (sym c.self.view_is) ∙ c.in-Media.is);
       claim = c.requires.claim;
     }
+
+pub take_other_box-requires-clause-found : goal.take_other_box-requires-clause-found
+take_other_box-requires-clause-found g c = rw (← c.self.view_is, c.in-Header.is) (rw c.in-Other.is at c.find_in_place.ensures)
+
+pub take_from_moof-requires-clause-first : goal.take_from_moof-requires-clause-first
+take_from_moof-requires-clause-first g c = rw (← c.self.view_is, c.in-Header.is) (rw c.in-Moof.is at c.find_in_place.ensures)

@@ -1,7 +1,0 @@
-use Rattle.std.specs.List.{AllByRecursion}
-use Rattle.mp4_pieces.specs.Pieces.{IsPieceOf}
-use Rattle.cut_pieces.proofs.put_all.Given as goal
-
--- those that are left are pieces of the run
-abbrev pub invariant-loop-piece : goal.invariant-loop-piece
-invariant-loop-piece l = AllByRecursion (IsPieceOf l.moof_bytes l.run) l.piece-iterator

@@ -1,7 +1,0 @@
-use Rattle.std.specs.List.{AllByRecursion}
-use Rattle.mp4_pieces.specs.Pieces.{IsPieceOf}
-use Rattle.library_tests.proofs.moofs.written.write_all.Given as goal
-
--- those that are left are pieces of the run
-abbrev pub invariant-loop-piece : goal.invariant-loop-piece
-invariant-loop-piece g l = AllByRecursion (IsPieceOf l.held l.run) l.piece-iterator

@@ -1,0 +1,57 @@
+use Rattle.std.proofs.Common.{◌∙◌, length, Some, arith, ap, refl, sym, subst}
+use Rattle.mp4_machine.specs.Ends.{sent}
+use Rattle.mp4_machine.specs.Puts.{Puts}
+use Rattle.mp4_frag.specs.Runs.{moof_at}
+use Rattle.mp4_grammar.specs.Contexts.{context}
+use Rattle.mp4_grammar.specs.Items.{fragment}
+use Rattle.mp4_fragment_machine.proofs.FragmentLineLemmas.{lines_are, listed_is, size_stated}
+use Rattle.mp4_fragment_machine.proofs.FragmentLemmas.{counted_in_place, single_text, media_fits, moof_whole, run_is}
+use Rattle.mp4_fragment_machine.proofs.in_place.one_run.list_run.Goals as goal
+
+pub count-requires-clause-media : goal.count-requires-clause-media
+count-requires-clause-media g c =
+    let is = c.requires.is in
+    omega (arith, c.requires.counted.media, media_fits c.args.at c.args.tracks.now c.args.input.now c.args.complete.now.boxes c.args.complete.now.run.now is, is.boxes.mdat.near)
+
+pub put_run-requires : goal.put_run-requires
+put_run-requires g c = run_is c.args.at c.args.tracks.now c.args.input.now c.args.complete.now.boxes c.args.complete.now.run.now c.requires.is
+
+pub returns-in-Check-clause-counted : goal.returns-in-Check-clause-counted
+returns-in-Check-clause-counted g c =
+    counted_in_place c.args.at c.args.tracks.now c.args.input.now c.args.complete.now.boxes c.args.complete.now.run.now c.requires.is c.args.command c.args.counter.now _ c.from.result c.from-samples.result c.requires.counted (c.from.ensures ∙ c.from-samples.ensures) c.from-samples.ensures
+    c.count.ensures.tally (rw c.in-Check.is (omega (arith, ap (λ k. k.rows) c.count.ensures.steps, c.from-2.ensures)))
+
+pub returns-in-Samples-clause-counted : goal.returns-in-Samples-clause-counted
+returns-in-Samples-clause-counted g c =
+    counted_in_place c.args.at c.args.tracks.now c.args.input.now c.args.complete.now.boxes c.args.complete.now.run.now c.requires.is c.args.command c.args.counter.now _ c.from.result c.from-samples.result c.requires.counted (c.from.ensures ∙ c.from-samples.ensures) c.from-samples.ensures
+    c.count.ensures.tally (rw c.in-Samples.is (omega (arith, ap (λ k. k.rows) c.count.ensures.steps, c.from-2.ensures, c.from-in-Samples.ensures)))
+
+pub put_moof_lines-requires-clause-whole : goal.put_moof_lines-requires-clause-whole
+put_moof_lines-requires-clause-whole g c = moof_whole c.args.at c.args.input.now c.args.complete.now.boxes c.requires.is.boxes
+
+pub returns-in-Fragments-clause-counted : goal.returns-in-Fragments-clause-counted
+returns-in-Fragments-clause-counted g c =
+    counted_in_place c.args.at c.args.tracks.now c.args.input.now c.args.complete.now.boxes c.args.complete.now.run.now c.requires.is c.args.command c.args.counter.now _ c.from.result c.from-samples.result c.requires.counted (c.from.ensures ∙ c.from-samples.ensures) c.from-samples.ensures
+    c.count.ensures.tally (omega (arith, listed_is c.args.command c.from-samples.result c.in-Fragments.is, ap (λ k. k.rows) c.count.ensures.steps, c.from-2.ensures, c.from-in-Fragments.ensures))
+
+pub returns-in-Samples-clause-puts : goal.returns-in-Samples-clause-puts
+returns-in-Samples-clause-puts g c = λ header sized.
+    let is = c.requires.is in
+    let text = single_text (moof_at c.args.complete.now.boxes.moof.now c.args.at) c.args.tracks.now c.args.complete.now.run.now is.single_run (context c.args.at (Some c.args.tracks.now) 1) header refl in
+    rw c.in-Samples.is
+    (subst (λ l. Puts (sent g.W.Sink.contents g.W.Sink.has_failed c.args.w.now c.put_run.new.w) c.args.out.now c.put_run.new.out l c.put_run.result) (sym text) c.put_run.ensures)
+
+pub returns-in-Check-clause-rows_read : goal.returns-in-Check-clause-rows_read
+returns-in-Check-clause-rows_read g c = rw c.in-Check.is (omega (arith, ap (λ k. k.rows) c.count.ensures.steps, c.from-2.ensures, c.from-samples.ensures))
+
+pub returns-in-Samples-clause-rows_read : goal.returns-in-Samples-clause-rows_read
+returns-in-Samples-clause-rows_read g c = rw c.in-Samples.is (omega (arith, ap (λ k. k.rows) c.count.ensures.steps, c.from-2.ensures, c.from-in-Samples.ensures, c.from-samples.ensures))
+
+pub returns-in-Fragments-clause-puts : goal.returns-in-Fragments-clause-puts
+returns-in-Fragments-clause-puts g c = λ header sized.
+    let at = c.args.at in
+    let tracks = c.args.tracks.now in
+    let boxes = c.args.complete.now.boxes in
+    let f = fragment (context at (Some tracks) 1) tracks boxes.moof.now header in
+    let text = lines_are c.args.command f _ c.in-Fragments.is (size_stated at (length boxes.moof.now) _ boxes.mdat.size header.size sized refl) in
+    subst (λ l. Puts (sent g.W.Sink.contents g.W.Sink.has_failed c.args.w.now c.put_moof_lines.new.w) c.args.out.now c.put_moof_lines.new.out l c.put_moof_lines.result) text c.put_moof_lines.ensures

@@ -1,0 +1,29 @@
+use Rattle.std.proofs.Common.{arith}
+use Rattle.mp4_pieces.proofs.RoomLemmas.{few_pieces}
+use Rattle.mp4_fragment_machine.proofs.FragmentLemmas.{boxes_fit, media_fits, run_is}
+use Rattle.mp4_fragment_machine.proofs.in_place.one_run.recut_run.Goals as goal
+
+pub overflow_add-start-2 : goal.overflow_add-start-2
+overflow_add-start-2 g c =
+    let f = c.args.complete.now in
+    let fit = boxes_fit c.args.at c.args.input.now f.boxes c.requires.is.boxes in
+    omega (arith, fit.header_len, fit.near)
+
+pub put_run-requires-clause-run : goal.put_run-requires-clause-run
+put_run-requires-clause-run g c = run_is c.args.at c.args.tracks.now c.args.input.now c.args.complete.now.boxes c.args.complete.now.run.now c.requires.is
+
+pub put_run-requires-clause-small : goal.put_run-requires-clause-small
+put_run-requires-clause-small g c =
+    let f = c.args.complete.now in
+    omega (arith, media_fits c.args.at c.args.tracks.now c.args.input.now f.boxes f.run.now c.requires.is, c.requires.is.boxes.mdat.near)
+
+pub put_run-requires-clause-numbers : goal.put_run-requires-clause-numbers
+put_run-requires-clause-numbers g c =
+    let f = c.args.complete.now in
+    omega (arith, few_pieces c.args.cut.now f.boxes.moof.now f.run.now.run, c.requires.numbers)
+
+pub returns-in-Ok-clause-puts : goal.returns-in-Ok-clause-puts
+returns-in-Ok-clause-puts g c = λ timescale. rw c.media-payload.ensures.is at c.in-Ok.ensures.puts timescale
+
+pub returns-in-Err-clause-puts : goal.returns-in-Err-clause-puts
+returns-in-Err-clause-puts g c = λ timescale. rw c.media-payload.ensures.is at c.in-Err.ensures.puts timescale

@@ -1,0 +1,30 @@
+use Rattle.std.proofs.Common.{◌≡◌, ◌∙◌, ◌+◌, ap}
+use Rattle.mp4_fragment_machine.specs.States.{Progress}
+use Rattle.mp4_fragment_machine.specs.Implementation.Steps.{CanStep, borrowed}
+use Rattle.mp4_fragment_machine.specs.declared.state.State.TheVariants as states
+use Rattle.mp4_fragment_machine.proofs.FeedLemmas.{fed}
+use Rattle.mp4_fragment_machine.proofs.machine.FragmentMachine.take_other_box.Goals as goal
+
+pub returns-in-Ok : goal.returns-in-Ok
+returns-in-Ok g c =
+    let carried = c.self.inside.carried in
+    let state : c.self.inside.state ≡ states.Header c.args.at = ap (λ (p : Progress). p.state) c.self.view_is ∙ c.requires.found.state in
+    let claim = rw (← c.self.view_is, state) at c.requires.claim in
+    let is = rw state at c.self.invariant in
+    let can : CanStep carried c.args.ledger.now (states.Header c.args.at) = record { claim = claim; counted = is.1 } in
+    let new = c.take_box_in_place.new in
+    let l = borrowed g.W.Sink.contents g.W.Sink.has_failed c.args.w.now new.w c.args.out.now new.out c.args.ledger.now c.args.ledger.now in
+    rw (← c.self.view_is, state, c.go_to.ensures)
+    (fed l carried carried (states.Header c.args.at) (states.Header (c.args.at + c.in-Ok.size)) c.args.input.now c.in-Ok.size (c.in-Ok.ensures c.args.ledger.now can))
+
+pub returns-in-Err : goal.returns-in-Err
+returns-in-Err g c =
+    let carried = c.self.inside.carried in
+    let state : c.self.inside.state ≡ states.Header c.args.at = ap (λ (p : Progress). p.state) c.self.view_is ∙ c.requires.found.state in
+    let claim = rw (← c.self.view_is, state) at c.requires.claim in
+    let is = rw state at c.self.invariant in
+    let can : CanStep carried c.args.ledger.now (states.Header c.args.at) = record { claim = claim; counted = is.1 } in
+    let stopped = c.in-Err.ensures c.args.ledger.now can in
+    let back = rw (c.stop_at.ensures, stopped.tracks) at c.give_back.ensures.back in
+    rw (← c.self.view_is, state, back, c.give_back.ensures.counted)
+    (record { step = stopped.step; spent = rw c.give_back.ensures.counted at c.give_back.ensures.spent; operation = rw c.give_back.ensures.task stopped.operation })

@@ -1,0 +1,132 @@
+//! Decides how a box or a fragment is taken that the input has whole. It is read there, and not copied.
+
+ghost use Rattle.std.specs.Prelude.{◌≡◌, ◌+◌, ◌≤◌, ℕ, IsTrue};
+ghost use Rattle.mp4_frag.specs.Rules.{most_in_moof};
+ghost use Rattle.mp4_frag.specs.declared.single_run.SingleRun.{SingleRun};
+ghost use Rattle.mp4_machine.specs.Bodies.{longest};
+ghost use Rattle.mp4_machine.specs.Ends.{sent};
+ghost use Rattle.mp4_machine.specs.Inputs.{change};
+ghost use Rattle.mp4_fragment_machine.specs.Places.{claim_of};
+ghost use Rattle.mp4_fragment_machine.specs.States.{most_fragments, place_in};
+ghost use Rattle.mp4_fragment_machine.specs.Implementation.Feeds.{Feeds, seen};
+ghost use Rattle.mp4_fragment_machine.specs.Implementation.InPlace.{HasMoof, IsFoundInPlace, IsTakenInPlace};
+ghost use Rattle.mp4_fragment_machine.specs.declared.state.State.TheVariants as states;
+
+pub(crate) mod boxes;
+pub(crate) mod many_runs;
+pub(crate) mod moof;
+pub(crate) mod one_run;
+pub(crate) mod other_box;
+
+use crate::in_place::boxes::{CompleteFragment, Span, boxes_in, first_box, payload_after};
+use crate::machine::FragmentMachine;
+use crate::state::{Carried, Counter};
+use mp4_ends::Sink;
+use mp4_frag::{MOST_IN_MOOF, SingleRun, Steps};
+use mp4_grammar::{Kind, MOST_MOOF, kind_of};
+use mp4_ledger::Ledger;
+use mp4_machine::{Block, Stop};
+use mp4_recut::Operation;
+use mp4_recut::room::is_roomy;
+
+/// What the input has whole at its front.
+#[derive(Clone, Copy)]
+pub(crate) enum InPlace {
+    /// A box that is passed over or copied.
+    Other(Span),
+    /// A moof after the moov.
+    Moof(Span),
+    /// Nothing that is taken in place.
+    No,
+}
+
+/// Finds what the input has whole at `at`, if no byte of a header came before.
+#[inline(always)]
+pub(crate) fn find_in_place(at: u64, input: &[u8], carried: &Carried) -> InPlace
+    requires at { at ≤ longest }
+    ensures { IsFoundInPlace (seen carried.now (states.Header at)) at input.now result }
+{
+    if !carried.header_bytes.is_empty() {
+        return InPlace::No;
+    }
+    let Some(span) = first_box(at, input) else {
+        return InPlace::No;
+    };
+    match kind_of(span.kind) {
+        Kind::Other => InPlace::Other(span),
+        Kind::Moof => {
+            if span.size > MOST_MOOF || carried.tracks.is_none() {
+                return InPlace::No;
+            }
+            InPlace::Moof(span)
+        }
+        Kind::Moov | Kind::Mdat => InPlace::No,
+    }
+}
+
+impl FragmentMachine {
+    /// Takes what begins with a moof that is whole at the front of the input: its fragment, if the input has that whole
+    /// and it may be taken so, else the moof. Returns how many bytes.
+    ///
+    /// # Errors
+    ///
+    /// `Stream` where the only fault of the fragment is a time or the place of its run, and as the functions that take
+    /// it.
+    #[inline(always)]
+    pub(crate) fn take_from_moof<W: Sink>(
+        &mut self,
+        at: u64,
+        moof: &Span,
+        ledger: &mut Ledger,
+        input: &[u8],
+        out: &mut Block,
+        w: &mut W,
+    ) -> Result<usize, Stop>
+        requires first { HasMoof self.old at input.now moof.now }
+        requires claim { claim_of (place_in self.old) ≤ ledger.old.live }
+        ensures { Feeds (change (sent W.contents W.has_failed w.old w.new) out.old out.new
+            ledger.old ledger.new self.old.counter.tally self.new.counter.tally)
+            self.old self.new input.now result }
+    {
+        if tries_in_place(&self.carried.operation, &self.carried.counter) {
+            if let (Some(boxes), Some(list)) = (
+                boxes_in(at, moof, input, ledger),
+                &self.carried.tracks,
+            ) {
+                let mut steps = Steps { rows: 0 };
+                match SingleRun::read(boxes.moof, at, list, &mut steps) {
+                    Ok(Some(run)) => {
+                        let complete = CompleteFragment { boxes, run: &run };
+                        return match run.places(payload_after(at, &boxes, input)) {
+                            Ok(()) => self.take_one_run(at, &complete, ledger, input, out, w),
+                            Err(fault) => Err(self.refuse_misplaced(
+                                at, &complete, fault, ledger, input,
+                            )),
+                        };
+                    }
+                    Ok(None) => return self.take_many_runs(at, moof, &boxes, ledger, input, out, w),
+                    Err(fault) => {
+                        return Err(self.refuse_late(at, &boxes, steps.rows, fault, ledger, input));
+                    }
+                }
+            }
+        }
+        self.take_moof(at, moof, None, ledger, input, out, w)
+    }
+}
+
+/// Whether a fragment that is whole in the input is processed in place, if its moof has one run: to be recut it must
+/// have no index, and a number for each sample that a moof may have.
+#[inline(always)]
+fn tries_in_place(operation: &Operation, counter: &Counter) -> bool
+    requires { (bound : ℕ) × (counter.now.tally.fragments ≤ most_fragments operation.now bound) }
+    ensures { (run : SingleRun) → IsTrue result → run.run.count ≤ most_in_moof →
+        IsTakenInPlace operation.now counter.now.tally.fragments run }
+{
+    match operation {
+        Operation::List(_) => true,
+        Operation::Split(cut) => {
+            is_roomy(cut, counter.tally.fragments + 1, u64::from(MOST_IN_MOOF))
+        },
+    }
+}

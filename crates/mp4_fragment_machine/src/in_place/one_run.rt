@@ -1,0 +1,372 @@
+//! Takes a fragment that is whole in the input, with one run, in place: it is listed or counted, recut, or refused.
+//!
+//! Most fragments of live streams are such. Their claims are counted, and no memory is requested.
+
+ghost use Rattle.std.specs.Prelude.{◌≡◌, ◌+◌, ◌-◌, ◌*◌, ◌<◌, ◌≤◌, ◌^◌, ◌∷◌, ℕ, [], false, length, None, Some, OnOk};
+ghost use Rattle.mp4_box.specs.Order.{least};
+ghost use Rattle.mp4_box.specs.declared.headers.Header.{Header};
+ghost use Rattle.mp4_box.specs.declared.headers.Size.TheVariants.{Exact};
+ghost use Rattle.mp4_frag.specs.Moofs.{fault_before_times, moof_samples, moof_trafs, time_faults};
+ghost use Rattle.mp4_frag.specs.Places.{place_fault};
+ghost use Rattle.mp4_frag.specs.Runs.{moof_at};
+ghost use Rattle.mp4_frag.specs.SingleRuns.{IsSingle};
+ghost use Rattle.mp4_ledger.specs.Memory.{claimed, given_back};
+ghost use Rattle.mp4_machine.specs.Ends.{sent};
+ghost use Rattle.mp4_machine.specs.Inputs.{change};
+ghost use Rattle.mp4_machine.specs.Puts.{Puts};
+ghost use Rattle.mp4_machine.specs.Readings.{plus};
+ghost use Rattle.mp4_grammar.specs.Commands.{accepted};
+ghost use Rattle.mp4_grammar.specs.Contexts.{context};
+ghost use Rattle.mp4_grammar.specs.Items.{fragment, inspected};
+ghost use Rattle.mp4_grammar.specs.Meanings.{counted_in};
+ghost use Rattle.mp4_pieces.specs.Pieces.{pieces_of};
+ghost use Rattle.mp4_recut.specs.Media.{PutsAll};
+ghost use Rattle.mp4_recut.specs.Splitting.{run_fragments};
+ghost use Rattle.mp4_recut.specs.declared.operation.Operation.TheVariants as operations;
+ghost use Rattle.mp4_fragment_machine.specs.Places.{Untouched, claim_of, unsent};
+ghost use Rattle.mp4_fragment_machine.specs.States.{IsCounted, known, listed_by, place_in};
+ghost use Rattle.mp4_fragment_machine.specs.Implementation.Feeds.{Feeds, HasEnded};
+ghost use Rattle.mp4_fragment_machine.specs.Implementation.InPlace.{AreBoxes, HasOneRun, HasPlaceFault, HasTimeFault, IsFragment, IsTakenInPlace, media_in, media_start, payload_in};
+ghost use Rattle.mp4_fragment_machine.specs.Implementation.Steps.{CanStep, StopsIn, TakesInPlace, at_state, borrowed, ledger_alone};
+ghost use Rattle.mp4_fragment_machine.specs.declared.state.State.TheVariants as states;
+
+use crate::accept_list::count;
+use crate::fragment_lines::put_moof_lines;
+use crate::in_place::boxes::{Boxes, CompleteFragment, ROW};
+use crate::lines;
+use crate::machine::FragmentMachine;
+use crate::moves::{go_to, stop_at};
+use crate::state::{Carried, Counter};
+use mp4_box::Fault;
+use mp4_cut::Cut;
+use mp4_ends::{Failed, Sink};
+use mp4_grammar::Command;
+use mp4_init::TrackList;
+use mp4_ledger::Ledger;
+use mp4_machine::{Block, Machine, Stop};
+use mp4_recut::{Operation, whole};
+
+impl FragmentMachine {
+    /// Takes a fragment of one run that is whole at the front of the input. Returns how many bytes.
+    ///
+    /// # Errors
+    ///
+    /// `Write` where a write failed.
+    #[inline(always)]
+    pub(crate) fn take_one_run<W: Sink>(
+        &mut self,
+        at: u64,
+        complete: &CompleteFragment<'_>,
+        ledger: &mut Ledger,
+        input: &[u8],
+        out: &mut Block,
+        w: &mut W,
+    ) -> Result<usize, Stop>
+        requires found { HasOneRun self.old ledger.old at input.now complete.now }
+        requires claim { claim_of (place_in self.old) ≤ ledger.old.live }
+        ensures { Feeds (change (sent W.contents W.has_failed w.old w.new) out.old out.new
+            ledger.old ledger.new self.old.counter.tally self.new.counter.tally)
+            self.old self.new input.now result }
+    {
+        match take_fragment(at, complete, input, &mut self.carried, ledger, out, w) {
+            Ok(size) => {
+                go_to(&mut self.state, at + size);
+                Ok(size as usize)
+            }
+            Err(stop) => {
+                stop_at(&mut self.state);
+                self.give_back(ledger);
+                Err(stop)
+            }
+        }
+    }
+
+    /// Stops at a fragment that is whole in the input, whose moof has so many samples, and whose only fault is a time.
+    pub(crate) fn refuse_late(
+        &mut self,
+        at: u64,
+        boxes: &Boxes<'_>,
+        samples: u128,
+        fault: Fault,
+        ledger: &mut Ledger,
+        input: &[u8],
+    ) -> Stop
+        requires found { HasTimeFault self.old ledger.old at input.now boxes.now samples fault }
+        requires claim { claim_of (place_in self.old) ≤ ledger.old.live }
+        ensures { (u : Untouched) → HasEnded (change (unsent u) u.waiting u.waiting
+            ledger.old ledger.new self.old.counter.tally self.new.counter.tally)
+            self.old self.new input.now result }
+    {
+        let stop = refuse_times(at, boxes, input, samples, fault, &mut self.carried, ledger);
+        stop_at(&mut self.state);
+        self.give_back(ledger);
+        stop
+    }
+
+    /// Stops at a fragment that is whole in the input, whose only run may not lie where it does.
+    pub(crate) fn refuse_misplaced(
+        &mut self,
+        at: u64,
+        complete: &CompleteFragment<'_>,
+        fault: Fault,
+        ledger: &mut Ledger,
+        input: &[u8],
+    ) -> Stop
+        requires found { HasPlaceFault self.old ledger.old at input.now complete.now fault }
+        requires claim { claim_of (place_in self.old) ≤ ledger.old.live }
+        ensures { (u : Untouched) → HasEnded (change (unsent u) u.waiting u.waiting
+            ledger.old ledger.new self.old.counter.tally self.new.counter.tally)
+            self.old self.new input.now result }
+    {
+        let stop = refuse_place(at, complete, input, fault, &mut self.carried, ledger);
+        stop_at(&mut self.state);
+        self.give_back(ledger);
+        stop
+    }
+}
+
+/// Takes the fragment at the front of the input: claims it, lists, counts or recuts it, and ends its track where its
+/// run ends. Returns how many bytes it has.
+///
+/// # Errors
+///
+/// `Write` where a write failed.
+#[inline(always)]
+fn take_fragment<W: Sink>(
+    at: u64,
+    complete: &CompleteFragment<'_>,
+    input: &[u8],
+    carried: &mut Carried,
+    ledger: &mut Ledger,
+    out: &mut Block,
+    w: &mut W,
+) -> Result<u64, Stop>
+    requires known { carried.old.tracks ≡ Some (known carried.old.tracks) }
+    requires is { IsFragment at (known carried.old.tracks) input.now complete.now.boxes complete.now.run.now }
+    requires taken { IsTakenInPlace carried.old.operation carried.old.counter.tally.fragments complete.now.run.now }
+    requires room { ledger.old.live + (length complete.now.boxes.moof.now + 64) ≤ ledger.old.limit }
+    requires empty { carried.old.header_bytes ≡ [] }
+    requires can { CanStep carried.old ledger.old (states.Header at) }
+    ensures { TakesInPlace (borrowed W.contents W.has_failed w.old w.new out.old out.new ledger.old ledger.new)
+        carried.old carried.new at input.now result }
+{
+    let Some(list) = &mut carried.tracks else {
+        unreachable!();
+    };
+    claim(&complete.boxes, ledger);
+    let counter = &mut carried.counter;
+    match carried.operation {
+        Operation::List(command) => {
+            match list_run(command, at, complete, input, list, counter, out, w) {
+                Ok(()) => {}
+                Err(Failed) => return Err(Stop::Write),
+            }
+        }
+        Operation::Split(cut) => {
+            match recut_run(&cut, at, complete, input, list, counter, out, w) {
+                Ok(()) => {}
+                Err(Failed) => return Err(Stop::Write),
+            }
+        }
+    }
+    complete.run.settle(list);
+    Ok(complete.boxes.moof.len() as u64 + complete.boxes.mdat.size)
+}
+
+/// Counts the claim of the moof of a fragment, and of the row of its run.
+#[inline(always)]
+fn claim(boxes: &Boxes<'_>, ledger: &mut Ledger)
+    requires { ledger.old.live + (length boxes.now.moof.now + 64) ≤ ledger.old.limit }
+    ensures { ledger.new ≡ given_back (claimed ledger.old (length boxes.now.moof.now + 64))
+        (length boxes.now.moof.now + 64) }
+{
+    match ledger.count_claim(boxes.moof.len() as u64 + ROW) {
+        Ok(()) => {}
+        Err(_) => unreachable!(),
+    }
+}
+
+/// Counts a fragment, and puts the lines of its samples or of its traf if they are asked for. Its rows were read with
+/// its moof, and for its run.
+///
+/// # Errors
+///
+/// `Failed` where a write failed.
+#[inline(always)]
+fn list_run<W: Sink>(
+    command: Command,
+    at: u64,
+    complete: &CompleteFragment<'_>,
+    input: &[u8],
+    tracks: &TrackList,
+    counter: &mut Counter,
+    out: &mut Block,
+    w: &mut W,
+) -> Result<(), Failed>
+    requires is { IsFragment at tracks.now input.now complete.now.boxes complete.now.run.now }
+    requires counted { IsCounted (operations.List command) counter.old at 0 0 }
+    ensures puts { (g : Header) → g.size ≡ Exact complete.now.boxes.mdat.size →
+        Puts (sent W.contents W.has_failed w.old w.new) out.old out.new
+        (accepted command (fragment (context at (Some tracks.now) 1) tracks.now
+        complete.now.boxes.moof.now g)).text result }
+    ensures tally { (g : Header) → counter.new.tally ≡ plus (plus counter.old.tally
+        (inspected (moof_at complete.now.boxes.moof.now at))) (counted_in (fragment
+        (context at (Some tracks.now) 1) tracks.now complete.now.boxes.moof.now g)) }
+    ensures rows_read { counter.new.steps.rows ≡ counter.old.steps.rows + 2 * complete.now.run.now.run.count +
+        listed_by (operations.List command) complete.now.run.now.run.count }
+    ensures counted { IsCounted (operations.List command) counter.new
+        (at + length complete.now.boxes.moof.now + complete.now.boxes.mdat.size) 0 0 }
+{
+    let run = &complete.run.run;
+    let samples = u64::from(run.count);
+    counter.tally.inspected += u128::from(samples);
+    counter.steps.rows += 2 * u128::from(samples);
+    count(counter, samples, run.bytes);
+    match command {
+        Command::Check => Ok(()),
+        Command::Samples => {
+            counter.steps.rows += u128::from(samples);
+            lines::put_run(run, complete.boxes.moof, out, w)
+        }
+        Command::Fragments | Command::Records => {
+            counter.steps.rows += u128::from(samples);
+            let boxes = &complete.boxes;
+            let size = boxes.moof.len() as u64 + boxes.mdat.size;
+            put_moof_lines(command, boxes.moof, at, Some(size), tracks, out, w)
+        }
+    }
+}
+
+/// Counts a fragment at `at` that is recut, and puts the fragments into which its run is cut. Its rows were read with
+/// its moof, and for its run.
+///
+/// # Errors
+///
+/// `Failed` where a write failed.
+#[inline(always)]
+fn recut_run<W: Sink>(
+    cut: &Cut,
+    at: u64,
+    complete: &CompleteFragment<'_>,
+    input: &[u8],
+    tracks: &TrackList,
+    counter: &mut Counter,
+    out: &mut Block,
+    w: &mut W,
+) -> Result<(), Failed>
+    requires is { IsFragment at tracks.now input.now complete.now.boxes complete.now.run.now }
+    requires plain { cut.now.index ≡ false }
+    requires numbers { counter.old.tally.fragments + 1 + complete.now.run.now.run.count ≤ 2 ^ 32 }
+    requires counted { IsCounted (operations.Split cut.now) counter.old at 0 0 }
+    ensures puts { (timescale : ℕ) → PutsAll (sent W.contents W.has_failed w.old w.new) out.old out.new
+        (media_start at complete.now.boxes) (media_in input.now complete.now.boxes)
+        (run_fragments cut.now complete.now.boxes.moof.now complete.now.run.now.run timescale 0
+        (counter.old.tally.fragments + 1)
+        (pieces_of cut.now complete.now.boxes.moof.now complete.now.run.now.run)) result }
+    ensures number { OnOk result (counter.new.tally.fragments ≡ counter.old.tally.fragments +
+        length (pieces_of cut.now complete.now.boxes.moof.now complete.now.run.now.run)) }
+    ensures least { counter.old.tally.fragments ≤ counter.new.tally.fragments }
+    ensures most { counter.new.tally.fragments ≤ counter.old.tally.fragments +
+        length (pieces_of cut.now complete.now.boxes.moof.now complete.now.run.now.run) }
+    ensures tally { counter.new.tally ≡ record {
+      fragments = counter.new.tally.fragments;
+      samples = counter.old.tally.samples + complete.now.run.now.run.count;
+      media_bytes = counter.old.tally.media_bytes + complete.now.run.now.run.bytes;
+      inspected = counter.old.tally.inspected + complete.now.run.now.run.count;
+    } }
+    ensures steps { counter.new.steps.rows ≡
+        counter.old.steps.rows + 5 * complete.now.run.now.run.count }
+{
+    let run = &complete.run.run;
+    let samples = u128::from(run.count);
+    counter.tally.inspected += samples;
+    counter.tally.samples += samples;
+    counter.tally.media_bytes += run.bytes;
+    counter.steps.rows += 5 * samples;
+    let moof_bytes = complete.boxes.moof;
+    let start = at + moof_bytes.len() as u64 + complete.boxes.mdat.header_len;
+    let payload = media(input, &complete.boxes);
+    let fragments = &mut counter.tally.fragments;
+    match whole::put_run(run, moof_bytes, cut, start, payload, fragments, out, w) {
+        Ok(()) => Ok(()),
+        Err(Failed) => Err(Failed),
+    }
+}
+
+/// The payload of the mdat of a fragment at the front of the input.
+fn media<'a>(input: &'a [u8], boxes: &Boxes<'_>) -> &'a [u8]
+    requires { (at : ℕ) × AreBoxes at input.now boxes.now }
+    ensures is { result.now ≡ media_in input.now boxes.now }
+    ensures len { length result.now + boxes.now.mdat.header_len ≡ boxes.now.mdat.size }
+{
+    let (_, after) = input.split_at(boxes.moof.len());
+    let (_, body) = after.split_at(boxes.mdat.header_len as usize);
+    let (payload, _) = body.split_at((boxes.mdat.size - boxes.mdat.header_len) as usize);
+    payload
+}
+
+/// Stops at the moof of a fragment at `at`, whose only fault is a time. Its claim is counted, and so are its
+/// samples, which were read once.
+fn refuse_times(
+    at: u64,
+    boxes: &Boxes<'_>,
+    input: &[u8],
+    samples: u128,
+    fault: Fault,
+    carried: &mut Carried,
+    ledger: &mut Ledger,
+) -> Stop
+    requires known { carried.old.tracks ≡ Some (known carried.old.tracks) }
+    requires are { AreBoxes at input.now boxes.now }
+    requires good { fault_before_times (moof_at boxes.now.moof.now at) (known carried.old.tracks) ≡ None }
+    requires late { least (time_faults (moof_trafs (moof_at boxes.now.moof.now at)
+        (known carried.old.tracks))) ≡ Some fault }
+    requires samples { samples ≡ moof_samples (moof_at boxes.now.moof.now at) }
+    requires room { ledger.old.live + (length boxes.now.moof.now + 64) ≤ ledger.old.limit }
+    requires empty { carried.old.header_bytes ≡ [] }
+    requires can { CanStep carried.old ledger.old (states.Header at) }
+    ensures stops { (u : Untouched) → StopsIn (ledger_alone u ledger.old ledger.new) carried.old carried.new
+        (at_state carried.old (states.Header at)) input.now result }
+    ensures rows_read { carried.new.counter.steps.rows ≡ carried.old.counter.steps.rows +
+        moof_samples (moof_at boxes.now.moof.now at) }
+{
+    match ledger.count_claim(boxes.moof.len() as u64) {
+        Ok(()) => {}
+        Err(_) => unreachable!(),
+    }
+    carried.counter.tally.inspected += samples;
+    carried.counter.steps.rows += samples;
+    Stop::Stream(fault)
+}
+
+/// Stops at a fragment at `at` whose only run may not lie where it does. Its claim is counted, and so are its
+/// samples, which were read twice.
+fn refuse_place(
+    at: u64,
+    complete: &CompleteFragment<'_>,
+    input: &[u8],
+    fault: Fault,
+    carried: &mut Carried,
+    ledger: &mut Ledger,
+) -> Stop
+    requires known { carried.old.tracks ≡ Some (known carried.old.tracks) }
+    requires are { AreBoxes at input.now complete.now.boxes }
+    requires single_run { IsSingle (moof_at complete.now.boxes.moof.now at) (known carried.old.tracks)
+        complete.now.run.now }
+    requires misplaced { (are : AreBoxes at input.now complete.now.boxes) → place_fault
+        (payload_in (at + are.span.size) complete.now.boxes.mdat) (complete.now.run.now.run ∷ []) ≡
+        Some fault }
+    requires room { ledger.old.live + (length complete.now.boxes.moof.now + 64) ≤ ledger.old.limit }
+    requires empty { carried.old.header_bytes ≡ [] }
+    requires can { CanStep carried.old ledger.old (states.Header at) }
+    ensures stops { (u : Untouched) → StopsIn (ledger_alone u ledger.old ledger.new) carried.old carried.new
+        (at_state carried.old (states.Header at)) input.now result }
+    ensures rows_read { carried.new.counter.steps.rows ≡ carried.old.counter.steps.rows +
+        2 * complete.now.run.now.run.count }
+{
+    claim(&complete.boxes, ledger);
+    let samples = u128::from(complete.run.run.count);
+    carried.counter.tally.inspected += samples;
+    carried.counter.steps.rows += 2 * samples;
+    Stop::Stream(fault)
+}
