@@ -48,7 +48,7 @@ bench_jobs:
 test:
 	@scripts/needs_rt
 	@if command -v python3 > /dev/null; then \
-	    scripts/words && scripts/edit_index --check && scripts/pictures --check crates states inputs; fi
+	    scripts/words && scripts/edit_index --check && scripts/pictures --check crates states in_place inputs; fi
 	@echo "proving everything from nothing and running the tests: about an hour on 4 cores" >&2
 	@rt ci
 	@if command -v cc > /dev/null; then scripts/refused_allocations; fi
