@@ -9,8 +9,8 @@
 //! - [`rules`]: the rules, and the [`Fault`] of a stream that breaks one;
 //! - [`paths`]: the boxes on a path of types, [`Along`], and [`checks`]: what a box can be asked for, and asking it of
 //!   the boxes on a path, where [`note`] keeps the fault that is reported;
-//! - [`flags`]: the flag words of tfhd and trun, [`TfhdFlags`] and [`TrunFlags`], which keep the bits that are flags, and
-//!   [`of_word_keeps_flags`], the law that no flag is lost;
+//! - [`flags`]: the flag words of tfhd and trun, [`TfhdFlags`] and [`TrunFlags`], which keep the bits that are flags,
+//!   and [`of_word_keeps_flags`], the law that no flag is lost;
 //! - [`laws`]: what the definitions of `specs/` imply.
 //!
 //! It re-exports the ends of a stream, from [`Source`] to [`ends`]: their users name this crate.

@@ -50,7 +50,8 @@ pub enum Rule {
     TooManySamples,
     /// A time past 64 bits.
     TimeRange,
-    /// A run that lies outside its mdat, shares bytes with an earlier one, or begins before an earlier one of its track ends.
+    /// A run that lies outside its mdat, shares bytes with an earlier one, or begins before an earlier one of its track
+    /// ends.
     RunPlace,
     /// An index whose fields have no room for its numbers.
     IndexRange,

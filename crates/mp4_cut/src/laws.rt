@@ -43,9 +43,9 @@ pub fn sizes()
         length (written_index run timescale pieces) ≡ 40 + 12 * length pieces }
 {}
 
-/// What the full boxes of a fragment begin with: each version, and the flags. A tfhd has its sample_description_index, and its
-/// base is the moof; a trun has a data_offset, and all four fields of each sample (ISO/IEC 14496-12, 8.8.5, 8.8.7, 8.8.8 and
-/// 8.8.12).
+/// What the full boxes of a fragment begin with: each version, and the flags. A tfhd has its sample_description_index,
+/// and its base is the moof; a trun has a data_offset, and all four fields of each sample (ISO/IEC 14496-12, 8.8.5,
+/// 8.8.7, 8.8.8 and 8.8.12).
 pub fn versions_and_flags()
     ensures mfhd { (sequence_number : ℕ) →
         take 4 (mfhd_payload sequence_number) ≡ 0 ∷ 0 ∷ 0 ∷ 0 ∷ [] }

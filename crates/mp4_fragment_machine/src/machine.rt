@@ -6,23 +6,26 @@ ghost use Rattle.mp4_ledger.specs.Memory.{given_back};
 ghost use Rattle.mp4_machine.specs.Ends.{sent};
 ghost use Rattle.mp4_machine.specs.Inputs.{HasNoEffects, Takes, change, farthest};
 ghost use Rattle.mp4_machine.specs.Readings.{uncounted};
+ghost use Rattle.mp4_machine.specs.declared.body.Body.{Body};
 ghost use Rattle.mp4_grammar.specs.Contexts.{first_context};
+ghost use Rattle.mp4_recut.specs.declared.operation.Operation.{Operation};
 ghost use Rattle.mp4_fragment_machine.specs.Places.{InHeader, IsPlace, Untouched, claim_of, unsent};
 ghost use Rattle.mp4_fragment_machine.specs.States.{begun, continuation_in, kept_by, listed_by, place_in, reads_of, stopped};
 ghost use Rattle.mp4_fragment_machine.specs.Implementation.Feeds.{Feeds};
-ghost use Rattle.mp4_machine.specs.declared.body.Body.{Body};
+ghost use Rattle.mp4_fragment_machine.specs.Implementation.Steps.{Consumes, MayTake, borrowed};
 ghost use Rattle.mp4_fragment_machine.specs.declared.state.Recutting.{Recutting};
 ghost use Rattle.mp4_fragment_machine.specs.declared.state.PendingMoof.{PendingMoof};
-ghost use Rattle.mp4_recut.specs.declared.operation.Operation.{Operation};
 ghost use Rattle.mp4_fragment_machine.specs.declared.state.State.TheVariants as states;
 
-use crate::body::take_body;
+use crate::header::{take_header, take_mdat_header, unfollowed};
+use crate::held::take_held;
 use crate::in_place::{InPlace, find_in_place};
-use crate::mdat_header::unfollowed;
-use crate::media::take_split;
-use crate::moves::{go_on, put_state, stopped};
-use crate::state::{Carried, Counter, State, Taken};
-use crate::step::{back_state, take_next};
+use crate::mdat::end::back;
+use crate::mdat::recut::take_split;
+use crate::other_box::{take_body, take_copied};
+use crate::state::{
+    Carried, Counter, Recutting, State, Taken, back_state, go_on, put_state, stopped,
+};
 use mp4_box::{Fault, HeaderReader};
 use mp4_ends::Sink;
 use mp4_frag::Steps;
@@ -36,7 +39,8 @@ use std::mem::replace;
 pub struct FragmentMachine {
     pub(crate) carried: Carried,
     pub(crate) state: State,
-    /// For how many bytes of moofs fragments aren't tried in place, since the last try was in vain. No answer depends on it.
+    /// For how many bytes of moofs fragments aren't tried in place, since the last try was in vain. No answer depends
+    /// on it.
     pub(crate) skips: u64,
 }
 
@@ -46,9 +50,16 @@ impl Model for FragmentMachine {
 
     ghost Value = { Progress };
 
-    ghost view = { λ m. record { operation = m.carried.operation; tracks = m.carried.tracks; header_bytes = m.carried.header_bytes; state = m.state; counter = m.carried.counter } };
+    ghost view = { λ m. record {
+      operation = m.carried.operation;
+      tracks = m.carried.tracks;
+      header_bytes = m.carried.header_bytes;
+      state = m.state;
+      counter = m.carried.counter;
+    } };
 
-    ghost invariant = { λ m. IsMachine m.carried.operation m.carried.tracks m.carried.header_bytes m.state m.carried.counter };
+    ghost invariant = { λ m. IsMachine m.carried.operation m.carried.tracks m.carried.header_bytes
+        m.state m.carried.counter };
 }
 
 impl FragmentMachine {
@@ -306,5 +317,42 @@ impl Machine for FragmentMachine {
         if let Some(list) = self.carried.tracks.take() {
             list.back(ledger);
         }
+    }
+}
+
+/// Takes bytes from the front of the input, but none of a body that is passed over or recut: those are taken in place.
+/// At a stop everything but the track table is given back.
+///
+/// # Errors
+///
+/// As [`take_header`], [`take_held`], [`take_mdat_header`] and [`take_copied`].
+#[inline(always)]
+pub(crate) fn take_next<W: Sink>(
+    state: State,
+    input: &[u8],
+    carried: &mut Carried,
+    ledger: &mut Ledger,
+    out: &mut Block,
+    w: &mut W,
+) -> Result<Taken, Stop>
+    requires may { MayTake input.now carried.old ledger.old state }
+    requires body { (b : Body) (w : Option PendingMoof) → state ≡ states.Body b w → ⊥ }
+    requires media { (r : Recutting) → state ≡ states.Media r → ⊥ }
+    ensures { Consumes (borrowed W.contents W.has_failed w.old w.new out.old out.new ledger.old ledger.new)
+        carried.old carried.new state input.now result }
+{
+    match state {
+        State::Header { at } => take_header(at, input, carried, ledger, out, w),
+        State::Buffering(buffered) => take_held(buffered, input, carried, ledger, out, w),
+        State::MdatHeader(pending_moof) => take_mdat_header(
+            pending_moof,
+            input,
+            carried,
+            ledger,
+            out,
+            w,
+        ),
+        State::Copied(body) => take_copied(body, input, out, w),
+        _ => unreachable!(),
     }
 }

@@ -1,15 +1,30 @@
-//! State of the fragment machine.
+//! State of the machine, and its changes in place.
 
-ghost use Rattle.std.specs.Prelude.{◌≡◌, Some};
-ghost use Rattle.mp4_fragment_machine.specs.States.{IsPendingMoof, moof_in};
+ghost use Rattle.std.specs.Prelude.{◌≡◌, Some, ℕ, ◌≤◌, Option};
+ghost use Rattle.mp4_ledger.specs.Memory.{given_back};
+ghost use Rattle.mp4_machine.specs.Bodies.{after_bytes};
+ghost use Rattle.mp4_machine.specs.declared.body.Body.{Body};
+ghost use Rattle.mp4_fragment_machine.specs.States.{IsPendingMoof, moof_in, stopped, kept_by};
+ghost use Rattle.mp4_fragment_machine.specs.Implementation.Steps.{Consumes, MayTake, borrowed};
+ghost use Rattle.mp4_fragment_machine.specs.declared.state.Recutting.{Recutting};
+ghost use Rattle.mp4_fragment_machine.specs.declared.state.PendingMoof.{PendingMoof};
+ghost use Rattle.mp4_fragment_machine.specs.declared.state.State.TheVariants as states;
 
+use crate::header::{take_header, take_mdat_header};
+use crate::held::take_held;
+use crate::mdat::end::back;
+use crate::other_box::take_copied;
 use mp4_box::HeaderReader;
+use mp4_box::types::MDAT;
 use mp4_cut::Cut;
+use mp4_ends::Sink;
 use mp4_frag::{Moof, RunList, Steps};
 use mp4_init::TrackList;
-use mp4_machine::{Body, BufferedBox, Tally};
+use mp4_ledger::Ledger;
+use mp4_machine::{Block, Body, BufferedBox, Extent, Stop, Tally};
 use mp4_recut::Operation;
 use mp4_recut::media::Media;
+use std::mem::replace;
 
 /// A sound moof that waits for its mdat or for the end of that, with its runs in the order in which they are taken.
 pub(crate) struct PendingMoof {
@@ -75,4 +90,153 @@ pub(crate) struct Carried {
 pub(crate) struct Taken {
     pub(crate) count: usize,
     pub(crate) state: State,
+}
+
+/// The state after a stop: nothing in it must be given back.
+pub(crate) fn stopped() -> State
+    ensures { result ≡ stopped }
+{
+    let body = Body {
+        at: 0,
+        kind: MDAT,
+        left: 0,
+        extent: Extent::Open { needed: 0 },
+    };
+    State::Body(body, None)
+}
+
+/// Goes on with the header of the box at `at`, from a header.
+#[inline(always)]
+pub(crate) fn go_to(current: &mut State, at: u64)
+    requires { (old : ℕ) × (current.old ≡ states.Header old) }
+    ensures { current.new ≡ states.Header at }
+{
+    match current {
+        State::Header { at: next } => *next = at,
+        _ => unreachable!(),
+    }
+}
+
+/// Passes over so many bytes of a body that has more.
+#[inline(always)]
+pub(crate) fn go_on(current: &mut State, count: u64)
+    requires { (b : Body) × (w : Option PendingMoof) × (current.old ≡ states.Body b w) ×
+        (count ≤ b.left) }
+    ensures { (b : Body) (w : Option PendingMoof) → current.old ≡ states.Body b w →
+        current.new ≡ states.Body (after_bytes count b) w }
+{
+    match current {
+        State::Body(body, _) => body.pass(count),
+        _ => unreachable!(),
+    }
+}
+
+/// Goes on with a state, from a header.
+pub(crate) fn leave_header(current: &mut State, state: State)
+    requires { (old : ℕ) × (current.old ≡ states.Header old) }
+    ensures { current.new ≡ state }
+{
+    match replace(current, state) {
+        State::Header { at } => {
+            let _ = at;
+        }
+        _ => unreachable!(),
+    }
+}
+
+/// Goes on with the header of the box at `at`, from a body. Returns the pending moof, if there is one.
+#[inline(always)]
+pub(crate) fn leave_body(current: &mut State, at: u64) -> Option<PendingMoof>
+    requires { (b : Body) × (w : Option PendingMoof) × (current.old ≡ states.Body b w) }
+    ensures { (b : Body) (w : Option PendingMoof) → current.old ≡ states.Body b w →
+        (result ≡ w) × (current.new ≡ states.Header at) }
+{
+    match replace(current, State::Header { at }) {
+        State::Body(_, pending_moof) => pending_moof,
+        _ => unreachable!(),
+    }
+}
+
+/// Goes on with the header of the box at `at`, from an mdat that is recut. Returns its moof.
+#[inline(always)]
+pub(crate) fn leave_media(current: &mut State, at: u64) -> PendingMoof
+    requires { (r : Recutting) × (current.old ≡ states.Media r) }
+    ensures { (r : Recutting) → current.old ≡ states.Media r →
+        (result ≡ r.pending_moof) × (current.new ≡ states.Header at) }
+{
+    match replace(current, State::Header { at }) {
+        State::Media(
+            Recutting {
+                cut: _,
+                number: _,
+                body: _,
+                media: _,
+                pending_moof,
+            },
+        ) => pending_moof,
+        _ => unreachable!(),
+    }
+}
+
+/// Holds nothing, from a header.
+pub(crate) fn stop_at(current: &mut State)
+    requires { (old : ℕ) × (current.old ≡ states.Header old) }
+    ensures { current.new ≡ stopped }
+{
+    match replace(current, stopped()) {
+        State::Header { at } => {
+            let _ = at;
+        }
+        _ => unreachable!(),
+    }
+}
+
+/// Puts a state where nothing was held.
+pub(crate) fn put_state(current: &mut State, state: State)
+    requires { current.old ≡ stopped }
+    ensures { current.new ≡ state }
+{
+    match replace(current, state) {
+        State::Body(_, pending_moof) => match pending_moof {
+            None => {}
+            Some(_) => unreachable!(),
+        },
+        _ => unreachable!(),
+    }
+}
+
+/// Gives back what is held, and then holds nothing.
+// Its room is no part of the frames of its callers, which seldom stop.
+#[inline(never)]
+pub(crate) fn let_go(current: &mut State, ledger: &mut Ledger)
+    requires { kept_by current.old ≤ ledger.old.live }
+    ensures after { current.new ≡ stopped }
+    ensures back { ledger.new ≡ given_back ledger.old (kept_by current.old) }
+{
+    back_state(replace(current, stopped()), ledger);
+}
+
+/// Gives back what is held.
+pub(crate) fn back_state(state: State, ledger: &mut Ledger)
+    requires { kept_by state ≤ ledger.old.live }
+    ensures { ledger.new ≡ given_back ledger.old (kept_by state) }
+{
+    match state {
+        State::Header { at } => {
+            let _ = at;
+        }
+        State::Buffering(buffered) => buffered.back(ledger),
+        State::MdatHeader(pending_moof) => back(Some(pending_moof), ledger),
+        State::Body(_, pending_moof) => back(pending_moof, ledger),
+        State::Copied(_) => {}
+        State::Media(
+            Recutting {
+                cut: _,
+                number: _,
+                body: _,
+                media: _,
+                pending_moof,
+            },
+        ) => back(Some(pending_moof), ledger),
+    }
 }

@@ -10,8 +10,8 @@ use mp4_lines::{CachedNumber, SIGNED_DECIMAL_BYTES, Text};
 use mp4_machine::{BLOCK_BYTES, LINE_BYTES, Line};
 use std::marker::Model;
 
-/// The line of a sample, which keeps what stays the same from sample to sample: most of its words, and the first digits of
-/// numbers that grow. A contract sees the sample.
+/// The line of a sample, which keeps what stays the same from sample to sample: most of its words, and the first digits
+/// of numbers that grow. A contract sees the sample.
 #[derive(Drop)]
 pub struct CachedLine {
     sample: Sample,

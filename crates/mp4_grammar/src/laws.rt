@@ -83,7 +83,8 @@ pub fn requests_within()
         most_of (reading command b).effects ≤ 2 * moov + 5 * moof }
 {}
 
-/// The lines of a fragment's trafs have all that is counted of it: their samples are its samples, and their media its media.
+/// The lines of a fragment's trafs have all that is counted of it: their samples are its samples, and their media its
+/// media.
 pub fn trafs_have_all_that_is_counted()
     ensures samples { (f : Fragment) → sum_by (λ t. (listed_traf f t).samples)
         (moof_trafs f.moof f.tracks) ≡ (counted_in f).samples }

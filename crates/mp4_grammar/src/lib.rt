@@ -4,18 +4,18 @@
 //! - [`command`]: [`Command`], the operations on fragments;
 //! - [`sample`]: [`Sample`], and its line in a listing;
 //! - [`cached_line`]: [`CachedLine`], the lines of samples that follow one another;
-//! - [`listed_traf`]: [`ListedTraf`], a traf of a fragment and its line, and [`listed_track`]: [`ListedTrack`], a track and
-//!   its line;
+//! - [`listed_traf`]: [`ListedTraf`], a traf of a fragment and its line, and [`listed_track`]: [`ListedTrack`], a track
+//!   and its line;
 //! - [`traf_record`]: [`TrafRecord`], a traf as 64 bytes;
 //! - [`laws`]: what the definitions of `specs/` imply.
 //!
 //! The definitions: `specs/Items.antt` (what is at the front of some bytes, and its effects) with `specs/Contexts.antt`
 //! (what is known where an item begins) and `specs/Kinds.antt`; `specs/Meanings.antt` (what a command makes of a
-//! fragment), `specs/Samples.antt` (the samples of a fragment and their lines), `specs/FragmentLines.antt` (the lines of
-//! its trafs, and those of the tracks), `specs/TrafRecords.antt` (its trafs as records), `specs/Commands.antt` (the commands).
-//! The laws speak of `specs/Joined.antt` (whole items one after the other), `specs/Rests.antt` (what may be left after
-//! them), `specs/HeldSizes.antt` (how large the boxes are that are held), `specs/Counts.antt` (what is counted before a
-//! box that requests memory) and `specs/WithoutText.antt` (effects without their text) too.
+//! fragment), `specs/Samples.antt` (the samples of a fragment and their lines), `specs/FragmentLines.antt` (the lines
+//! of its trafs, and those of the tracks), `specs/TrafRecords.antt` (its trafs as records), `specs/Commands.antt` (the
+//! commands). The laws speak of `specs/Joined.antt` (whole items one after the other), `specs/Rests.antt` (what may be
+//! left after them), `specs/HeldSizes.antt` (how large the boxes are that are held), `specs/Counts.antt` (what is
+//! counted before a box that requests memory) and `specs/WithoutText.antt` (effects without their text) too.
 #![tactic(auto)]
 
 pub mod cached_line;

@@ -32,8 +32,8 @@ pub struct ListedTraf {
 }
 
 impl ListedTraf {
-    /// The traf with these totals, of a fragment with this sequence_number that begins at `at` and has `size` bytes; none where
-    /// its mdat goes to the end of the stream.
+    /// The traf with these totals, of a fragment with this sequence_number that begins at `at` and has `size` bytes;
+    /// none where its mdat goes to the end of the stream.
     pub fn of(sequence: u32, at: u64, size: Option<u64>, totals: &TrafTotals) -> ListedTraf
         ensures { result ≡ traf_with sequence at size totals.now }
     {

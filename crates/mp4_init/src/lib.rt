@@ -6,8 +6,8 @@
 //! - [`build`]: from the traks of a moov to a table, [`table`]: [`TrackList`], that table in claimed memory, and
 //! [`row`]: a [`Track`] as a row of it;
 //! - [`summary`]: what a moov says of one track_ID, and [`slots`]: of many at once;
-//! - [`ordered_ids`]: the search for a track_ID among some in order ([`seek_in_order`]), and [`search_tree`]: by its bits, in
-//!   a table;
+//! - [`ordered_ids`]: the search for a track_ID among some in order ([`seek_in_order`]), and [`search_tree`]: by its
+//!   bits, in a table;
 //! - [`fields`]: the fields of the boxes that are read;
 //! - [`laws`]: what the definitions of `specs/` imply.
 //!

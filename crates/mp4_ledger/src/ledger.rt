@@ -119,8 +119,8 @@ impl Ledger {
         self.peak = self.peak.max(peak);
     }
 
-    /// Sets the limit in bytes, but no lower than what is claimed, and begins a new peak, which counts from what is claimed
-    /// now.
+    /// Sets the limit in bytes, but no lower than what is claimed, and begins a new peak, which counts from what is
+    /// claimed now.
     pub fn set_limit(&mut self, limit: u64)
         ensures { self.new ≡ limited self.old limit }
     {

@@ -10,8 +10,8 @@ use std::marker::Model;
 /// The most digits of a `u64` in decimal before its last four.
 const HIGH_DIGITS: usize = 16;
 
-/// A number, and its digits before the last four. Where it grows by little, they stay, and aren't written anew. A contract
-/// sees the number.
+/// A number, and its digits before the last four. Where it grows by little, they stay, and aren't written anew. A
+/// contract sees the number.
 #[derive(Drop)]
 pub struct CachedNumber {
     number: u64,

@@ -1,7 +1,8 @@
 //! Text under construction: bytes, and numbers in decimal and hexadecimal.
 //!
 //! - [`text`]: [`Text`], which holds up to a number of bytes that its type names, and allocates nothing;
-//! - [`cached_number`]: [`CachedNumber`], a number whose digits are kept for when it is written again with others at its end;
+//! - [`cached_number`]: [`CachedNumber`], a number whose digits are kept for when it is written again with others at
+//!   its end;
 //! - [`digits`]: how many digits numbers have at most, and the digits of small numbers.
 //!
 //! Decimals are std's `decimal` and `signed_decimal`. Hexadecimal is defined in `specs/Digits.antt`.

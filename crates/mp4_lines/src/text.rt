@@ -101,8 +101,8 @@ impl<const CAP: usize> Text<CAP> {
         self.len = at + N;
     }
 
-    /// Appends another text. All of its place is moved, since a move of a length that is known is fast, and the bytes that it
-    /// has count.
+    /// Appends another text. All of its place is moved, since a move of a length that is known is fast, and the bytes
+    /// that it has count.
     #[inline(always)]
     pub fn push_text<const MORE: usize>(&mut self, more: &Text<MORE>)
         requires { length self.old + MORE ≤ CAP }
@@ -263,8 +263,8 @@ impl<const CAP: usize> Text<CAP> {
         self.push_wide_decimal(number.unsigned_abs());
     }
 
-    /// Appends `n` of its bytes once more, those from `from` on. [`MOST_AGAIN`] are moved, whatever `n` is, since a move of
-    /// a length that is known is fast, and the first `n` count.
+    /// Appends `n` of its bytes once more, those from `from` on. [`MOST_AGAIN`] are moved, whatever `n` is, since a
+    /// move of a length that is known is fast, and the first `n` count.
     #[inline(always)]
     pub fn push_again(&mut self, from: usize, n: usize)
         requires there { from + n ≤ length self.old }

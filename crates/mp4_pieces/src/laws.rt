@@ -32,8 +32,8 @@ pub fn pieces_are_one()
         ArePieces (fits cut) rows ps → ps ≡ cut_rows cut rows }
 {}
 
-/// What fits in one piece: at most so many samples, at most so many bytes or just one sample, and no sync sample but the first
-/// where a piece is to end before each.
+/// What fits in one piece: at most so many samples, at most so many bytes or just one sample, and no sync sample but
+/// the first where a piece is to end before each.
 pub fn what_fits()
     ensures { (cut : Cut) (rows : List Row) → (fits cut rows ≡ true) ↔ MayBeOnePiece cut rows }
 {}

@@ -8,13 +8,12 @@
 //! - [`moof_size`], [`mdat_header_size`] and [`fragment_size`]: how many bytes a piece has when it is written;
 //! - [`laws`]: what the definitions of `specs/` imply.
 //!
-//! `specs/Cutting.antt` cuts any list by a test of what fits, `specs/Fitting.antt` says which
-//! samples fit in a piece, `specs/Pieces.antt` what the pieces of a run are, `specs/PlainPieces.antt` what they are without
-//! their least composition times, `specs/Groups.antt`
-//! which of them share an index, `specs/Sizes.antt` how many bytes a piece has when it is written,
-//! `specs/Rooms.antt` for which numbers there is no room, and `specs/Fits.antt` when there is room for all.
-//! `specs/Allowed.antt` has the arguments of a cut. How pieces and their room are found, row by row, is said in
-//! `specs/Implementation/`.
+//! `specs/Cutting.antt` cuts any list by a test of what fits, `specs/Fitting.antt` says which samples fit in a piece,
+//! `specs/Pieces.antt` what the pieces of a run are, `specs/PlainPieces.antt` what they are without their least
+//! composition times, `specs/Groups.antt` which of them share an index, `specs/Sizes.antt` how many bytes a piece has
+//! when it is written, `specs/Rooms.antt` for which numbers there is no room, and `specs/Fits.antt` when there is room
+//! for all. `specs/Allowed.antt` has the arguments of a cut. How pieces and their room are found, row by row, is said
+//! in `specs/Implementation/`.
 #![tactic(auto)]
 
 mod cut;

@@ -74,8 +74,8 @@ impl PlainPiece {
         }
     }
 
-    /// The first piece of a run from a cursor on. `moof_bytes` are the bytes of its moof. Where only the number of samples
-    /// bounds it, nothing but their sizes and durations is read.
+    /// The first piece of a run from a cursor on. `moof_bytes` are the bytes of its moof. Where only the number of
+    /// samples bounds it, nothing but their sizes and durations is read.
     #[inline(always)]
     pub fn first(run: &Run, moof_bytes: &[u8], cut: &Cut, at: &Cursor) -> PlainPiece
         requires run { IsRunOf moof_bytes.now run.now }

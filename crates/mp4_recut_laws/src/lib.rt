@@ -70,10 +70,11 @@ pub fn recut_text_of_a_stream()
         length (moof_ends 0 1 (recut cut s).items) }
 {}
 
-/// The recut text of bytes that are read without a fault is the bytes of a stream that breaks no rule but that it may be longer
-/// than 2^62 bytes, and the list of its samples is that of the stream. If it has at most 2^62 bytes, it is read without a
-/// fault, and without an index it is its own recut text; however it is taken apart into items, its samples are those of the stream,
-/// and any report on each sample of the stream, in order, is a report on each sample of the text.
+/// The recut text of bytes that are read without a fault is the bytes of a stream that breaks no rule but that it may
+/// be longer than 2^62 bytes, and the list of its samples is that of the stream. If it has at most 2^62 bytes, it is
+/// read without a fault, and without an index it is its own recut text; however it is taken apart into items, its
+/// samples are those of the stream, and any report on each sample of the stream, in order, is a report on each sample
+/// of the text.
 pub fn recut_text_is_a_stream()
     ensures bytes { (cut : Cut) (b : List ℕ) → IsBytes b → (reading cut b).outcome ≡ Sound →
         IsBytes (recut_text cut b) }

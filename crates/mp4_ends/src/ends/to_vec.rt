@@ -23,7 +23,13 @@ impl Model for ToVec {
 
     ghost Value = { VecEnd };
 
-    ghost view = { λ s. record { taken = s.taken.items; room = s.room; step = s.step; flushes = s.flushes; broken = s.broken } };
+    ghost view = { λ s. record {
+      taken = s.taken.items;
+      room = s.room;
+      step = s.step;
+      flushes = s.flushes;
+      broken = s.broken;
+    } };
 
     ghost invariant = { λ s. (0 < s.step) × (vec_len s.taken ≤ s.room) × (s.room ≤ vec_capacity s.taken) };
 }

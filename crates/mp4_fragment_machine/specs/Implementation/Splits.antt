@@ -21,7 +21,7 @@ use Rattle.mp4_fragment_machine.specs.States.{HasStopped, IsCounted, bound_after
 use Rattle.mp4_fragment_machine.specs.Implementation.Media.{AreBegun}
 use Rattle.mp4_fragment_machine.specs.Implementation.Recuts.{in_media}
 use Rattle.mp4_fragment_machine.specs.Implementation.Steps.{Borrowed, GoesTo}
-use Rattle.mp4_fragment_machine.specs.declared.accept_recut.Split.{Split}
+use Rattle.mp4_fragment_machine.specs.declared.mdat.accept_recut.Split.{Split}
 use Rattle.mp4_fragment_machine.specs.declared.state.Counter.{Counter}
 use Rattle.mp4_fragment_machine.specs.declared.state.Carried.{Carried}
 use Rattle.mp4_fragment_machine.specs.declared.state.State.{State}

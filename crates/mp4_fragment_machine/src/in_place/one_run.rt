@@ -22,21 +22,20 @@ ghost use Rattle.mp4_grammar.specs.Meanings.{counted_in};
 ghost use Rattle.mp4_pieces.specs.Pieces.{pieces_of};
 ghost use Rattle.mp4_recut.specs.Media.{PutsAll};
 ghost use Rattle.mp4_recut.specs.Splitting.{run_fragments};
-ghost use Rattle.mp4_recut.specs.declared.operation.Operation.TheVariants as operations;
 ghost use Rattle.mp4_fragment_machine.specs.Places.{Untouched, claim_of, unsent};
 ghost use Rattle.mp4_fragment_machine.specs.States.{IsCounted, known, listed_by, place_in};
 ghost use Rattle.mp4_fragment_machine.specs.Implementation.Feeds.{Feeds, HasEnded};
 ghost use Rattle.mp4_fragment_machine.specs.Implementation.InPlace.{AreBoxes, HasOneRun, HasPlaceFault, HasTimeFault, IsFragment, IsTakenInPlace, media_in, media_start, payload_in};
 ghost use Rattle.mp4_fragment_machine.specs.Implementation.Steps.{CanStep, StopsIn, TakesInPlace, at_state, borrowed, ledger_alone};
+ghost use Rattle.mp4_recut.specs.declared.operation.Operation.TheVariants as operations;
 ghost use Rattle.mp4_fragment_machine.specs.declared.state.State.TheVariants as states;
 
-use crate::accept_list::count;
-use crate::fragment_lines::put_moof_lines;
 use crate::in_place::boxes::{Boxes, CompleteFragment, ROW};
-use crate::lines;
 use crate::machine::FragmentMachine;
-use crate::moves::{go_to, stop_at};
-use crate::state::{Carried, Counter};
+use crate::mdat::accept_list::count;
+use crate::mdat::sample_lines;
+use crate::mdat::traf_lines::put_moof_lines;
+use crate::state::{Carried, Counter, go_to, stop_at};
 use mp4_box::Fault;
 use mp4_cut::Cut;
 use mp4_ends::{Failed, Sink};
@@ -226,7 +225,7 @@ fn list_run<W: Sink>(
         Command::Check => Ok(()),
         Command::Samples => {
             counter.steps.rows += u128::from(samples);
-            lines::put_run(run, complete.boxes.moof, out, w)
+            sample_lines::put_run(run, complete.boxes.moof, out, w)
         }
         Command::Fragments | Command::Records => {
             counter.steps.rows += u128::from(samples);

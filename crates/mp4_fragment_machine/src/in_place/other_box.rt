@@ -14,8 +14,7 @@ ghost use Rattle.mp4_fragment_machine.specs.declared.state.State.TheVariants as 
 
 use crate::in_place::boxes::Span;
 use crate::machine::FragmentMachine;
-use crate::moves::{go_to, stop_at};
-use crate::state::Carried;
+use crate::state::{Carried, go_to, stop_at};
 use mp4_ends::{Failed, Sink};
 use mp4_ledger::Ledger;
 use mp4_machine::{Block, Machine, Stop};

@@ -1,0 +1,100 @@
+use Rattle.std.proofs.Common.{◌≡◌, ◌+◌, [], Some, arith, refl, subst}
+use Rattle.mp4_frag.specs.Moofs.{moof_samples}
+use Rattle.mp4_box.proofs.HeaderLemmas.{need-least, whole_is}
+use Rattle.mp4_machine.specs.Inputs.{environment}
+use Rattle.mp4_grammar.specs.Commands.{command_meaning}
+use Rattle.mp4_recut.specs.declared.operation.Operation.TheVariants as operations
+use Rattle.mp4_fragment_machine.specs.Places.{Untouched}
+use Rattle.mp4_recut.specs.Operations.{number_in}
+use Rattle.mp4_recut.specs.declared.operation.Operation.{Operation}
+use Rattle.mp4_fragment_machine.specs.Implementation.Steps.{GoesTo, ledger_alone}
+use Rattle.mp4_fragment_machine.specs.States.{in_mdat, moof_in}
+use Rattle.mp4_fragment_machine.proofs.MdatHeaderLemmas.{GoesOn-fragment_at, Refuses-fragment, WriteFailed-fragment, claimed_after, claims, listed_good, rows_of}
+use Rattle.mp4_fragment_machine.proofs.BodyLemmas.{claimed_apart}
+use Rattle.mp4_fragment_machine.proofs.CountLemmas.{counted_later, counted_unlisted}
+use Rattle.mp4_fragment_machine.proofs.StepLemmas.{GoesTo-after}
+use Rattle.mp4_fragment_machine.proofs.mdat.accept_list.begin_listed.Goals as goal
+
+pub returns-in-Err : goal.returns-in-Err
+returns-in-Err g c =
+    let w = c.args.pending_moof in
+    let carried = c.args.carried.now in
+    let list = c.in-Some.list in
+    let h = c.args.header.now in
+    let x = c.args.header_bytes.now in
+    let can = rw (c.in-Some.is, c.requires.operation) at c.requires.can in
+    let i = rw c.in-Some.is at c.requires.pending_moof in
+    let o = environment (g.W.Sink.contents c.args.w.now) c.args.out.now c.args.ledger.now carried.counter.tally in
+    let low = rw (claimed_after 1 w (Some list) i carried.header_bytes) at can.claim in
+    rw (c.in-Some.is, c.requires.operation, c.back.ensures) (record { step = record { stops = λ more. Refuses-fragment c.args.command 1 o w list h x (rows_of list w i) c.requires.len c.requires.is low more c.in-Err.fault (λ later. c.in-Err.ensures.fault (command_meaning c.args.command) 1 x later c.requires.len c.requires.is); failed = λ is. absurd cc; unfailed = λ _. refl }; operation = refl; tracks = refl; empty = c.requires.empty; left = omega (arith, claimed_apart (Some list) (Some w), low); counted = counted_unlisted (operations.List c.args.command) carried.counter (w.moof.at + w.moof.size) (moof_samples (moof_in w)) can.counted })
+
+pub emit-requires-clause-some : goal.emit-requires-clause-some
+emit-requires-clause-some g c = omega (arith, (whole_is c.args.header_bytes.now c.args.header.now c.requires.is).1, need-least c.args.header_bytes.now)
+
+pub emit-requires-clause-good : goal.emit-requires-clause-good
+emit-requires-clause-good g c = listed_good c.args.command 1 c.args.pending_moof c.in-Some.list c.args.header.now (c.in-Ok.ensures.good 1)
+
+pub emit-requires-clause-counted : goal.emit-requires-clause-counted
+emit-requires-clause-counted g c = rw c.requires.operation at c.requires.can.counted
+
+pub enter-requires-clause-claim : goal.enter-requires-clause-claim
+enter-requires-clause-claim g c =
+    let can = rw (c.in-Some.is, c.requires.operation) at c.requires.can in
+    let i = rw c.in-Some.is at c.requires.pending_moof in
+    rw (claimed_after 1 c.args.pending_moof (Some c.in-Some.list) i c.args.carried.now.header_bytes) at can.claim
+
+pub enter-requires-clause-counted : goal.enter-requires-clause-counted
+enter-requires-clause-counted g c =
+    let w = c.args.pending_moof in
+    let at : c.offset.result + c.size.result ≡ w.moof.at + w.moof.size = omega (arith, c.offset.ensures.at, c.size.ensures) in
+    rw (c.requires.operation, at) c.in-Ok-emit.ensures.counted
+
+pub returns-in-Ok-emit : goal.returns-in-Ok-emit
+returns-in-Ok-emit g c =
+    let w = c.args.pending_moof in
+    let carried = c.args.carried.now in
+    let list = c.in-Some.list in
+    let h = c.args.header.now in
+    let x = c.args.header_bytes.now in
+    let can = rw (c.in-Some.is, c.requires.operation) at c.requires.can in
+    let i = rw c.in-Some.is at c.requires.pending_moof in
+    let waits = rows_of list w i in
+    let o = environment (g.W.Sink.contents c.args.w.now) c.args.out.now c.args.ledger.now carried.counter.tally in
+    let low = rw (claimed_after 1 w (Some list) i carried.header_bytes) at can.claim in
+    let effects = c.in-Ok-emit.ensures in
+    let at : c.offset.result + c.size.result ≡ w.moof.at + w.moof.size = omega (arith, c.offset.ensures.at, c.size.ensures) in
+    let o' = environment (g.W.Sink.contents c.emit.new.w) c.emit.new.out c.args.ledger.now c.emit.new.counter.tally in
+    let u : Untouched = record { written = g.W.Sink.contents c.emit.new.w; waiting = c.emit.new.out; failed = g.W.Sink.has_failed c.emit.new.w } in
+    let goes = GoesOn-fragment_at c.args.command 1 o w list h x waits c.requires.len c.requires.is low c.in-Ok.ensures.near c.in-Ok.ensures.mdat (listed_good c.args.command 1 w list h (c.in-Ok.ensures.good 1)) _ at o' c.in-Ok-emit.needed c.requires.room effects.needed refl effects.tally effects.puts.passes in
+    let own = claims c.args.command 1 o w list h x waits c.requires.len c.requires.is low in
+    let next = c.offset.result + c.size.result in
+    let entered = subst (λ (p : Operation). GoesTo (ledger_alone u c.args.ledger.now c.enter.new.ledger) (record { operation = carried.operation; tracks = Some list; header_bytes = carried.header_bytes; counter = c.emit.new.counter }) c.enter.new.carried (in_mdat (number_in p c.emit.new.counter.tally) (Some list) w next h c.in-Ok-emit.needed h.size) [] c.enter.result) c.requires.operation (c.enter.ensures u) in
+    rw (c.in-Some.is, c.requires.operation)
+    (GoesTo-after entered (omega (arith, own, low)) c.requires.operation effects.puts.unfailed goes)
+
+pub returns-in-Err-emit : goal.returns-in-Err-emit
+returns-in-Err-emit g c =
+    let w = c.args.pending_moof in
+    let carried = c.args.carried.now in
+    let list = c.in-Some.list in
+    let h = c.args.header.now in
+    let x = c.args.header_bytes.now in
+    let can = rw (c.in-Some.is, c.requires.operation) at c.requires.can in
+    let i = rw c.in-Some.is at c.requires.pending_moof in
+    let o = environment (g.W.Sink.contents c.args.w.now) c.args.out.now c.args.ledger.now carried.counter.tally in
+    let low = rw (claimed_after 1 w (Some list) i carried.header_bytes) at can.claim in
+    let effects = c.in-Err-emit.ensures in
+    let counted = effects.counted in
+    rw (c.in-Some.is, c.requires.operation, c.back-in-Err-emit.ensures) (record {
+      step = record {
+        stops = λ more later. WriteFailed-fragment c.args.command 1 o w list h x (rows_of list w i) c.requires.len c.requires.is low c.in-Ok.ensures.near c.in-Ok.ensures.mdat (listed_good c.args.command 1 w list h (c.in-Ok.ensures.good 1))
+            (g.W.Sink.contents c.emit.new.w) c.emit.new.out c.emit.new.counter.tally more later effects.tally effects.puts.breaks;
+        failed = λ _. effects.puts.failed;
+        unfailed = λ other. absurd (other refl);
+      };
+      operation = refl;
+      tracks = refl;
+      empty = c.requires.empty;
+      left = omega (arith, claimed_apart (Some list) (Some w), low);
+      counted = counted_later (operations.List c.args.command) c.emit.new.counter _ _ _ 0 counted.far (omega arith) (omega arith) counted;
+    })

@@ -1,0 +1,193 @@
+//! Begins a fragment that is counted, or whose samples or trafs are listed.
+
+ghost use Rattle.std.specs.Prelude.{◌≡◌, ◌+◌, ◌<◌, ◌≤◌, ◌^◌, [], length, None, Some, IfOk};
+ghost use Rattle.mp4_box.specs.Headers.{HasRoom};
+ghost use Rattle.mp4_frag.specs.Moofs.{moof_samples};
+ghost use Rattle.mp4_grammar.specs.Commands.{accepted, command_meaning};
+ghost use Rattle.mp4_grammar.specs.Meanings.{counted_in, fragment_fault, needed_in};
+ghost use Rattle.mp4_recut.specs.Operations.{number_in};
+ghost use Rattle.mp4_machine.specs.Ends.{sent};
+ghost use Rattle.mp4_machine.specs.Puts.{Puts};
+ghost use Rattle.mp4_machine.specs.Bodies.{least_end, longest};
+ghost use Rattle.mp4_machine.specs.Readings.{plus};
+ghost use Rattle.mp4_fragment_machine.specs.Places.{Untouched};
+ghost use Rattle.mp4_fragment_machine.specs.States.{IsCounted, IsPendingMoof, bound_after, claimed_in, pending_fragment, in_mdat, listed_by, moof_in};
+ghost use Rattle.mp4_fragment_machine.specs.Implementation.Steps.{Advances, MayBeginFragment, GoesTo, borrowed, ledger_alone, with_head};
+ghost use Rattle.mp4_box.specs.declared.headers.Step.TheVariants as steps;
+ghost use Rattle.mp4_recut.specs.declared.operation.Operation.TheVariants as operations;
+ghost use Rattle.mp4_fragment_machine.specs.declared.state.State.TheVariants as states;
+
+use crate::mdat::check::{check_mdat, payload_of};
+use crate::mdat::end::back;
+use crate::mdat::sample_lines::put_runs;
+use crate::mdat::totals::add_up_runs;
+use crate::mdat::traf_lines::put_pending_lines;
+use crate::other_box::leave;
+use crate::state::{Carried, Counter, PendingMoof, State};
+use mp4_box::Header;
+use mp4_ends::{Failed, Sink};
+use mp4_grammar::Command;
+use mp4_init::TrackList;
+use mp4_ledger::Ledger;
+use mp4_machine::{AnyBody, Block, Stop, body_of};
+
+/// Counts a fragment that has so many samples, with so many bytes of media.
+pub(crate) fn count(counter: &mut Counter, samples: u64, bytes: u64)
+    requires fragments { counter.old.tally.fragments + 1 < 2 ^ 64 }
+    requires samples { counter.old.tally.samples + samples < 2 ^ 128 }
+    requires media { counter.old.tally.media_bytes + bytes < 2 ^ 64 }
+    ensures tally { counter.new.tally ≡ plus counter.old.tally
+        (record { fragments = 1; samples = samples; media_bytes = bytes; inspected = 0 }) }
+    ensures steps { counter.new.steps ≡ counter.old.steps }
+{
+    counter.tally.fragments += 1;
+    counter.tally.samples += u128::from(samples);
+    counter.tally.media_bytes += bytes;
+}
+
+/// Counts the fragment of the pending moof, whose mdat has this header, and puts the lines of its samples or of its
+/// trafs if they are asked for. Returns how many bytes of its payload are needed.
+///
+/// # Errors
+///
+/// `Failed` where a write failed.
+fn emit<W: Sink>(
+    command: Command,
+    pending_moof: &PendingMoof,
+    header: &Header,
+    tracks: &TrackList,
+    counter: &mut Counter,
+    out: &mut Block,
+    w: &mut W,
+) -> Result<u64, Failed>
+    requires pending_moof { IsPendingMoof (Some tracks.now) pending_moof.now }
+    requires some { 0 < header.now.header_len }
+    requires room { HasRoom header.now.size header.now.header_len }
+    requires near { least_end (pending_moof.now.moof.at + pending_moof.now.moof.size)
+        header.now header.now.size ≤ longest }
+    requires good { fragment_fault (command_meaning command)
+        (pending_fragment 1 pending_moof.now tracks.now header.now) ≡ None }
+    requires counted { IsCounted (operations.List command) counter.old
+        (pending_moof.now.moof.at + pending_moof.now.moof.size)
+        (moof_samples (moof_in pending_moof.now)) (moof_samples (moof_in pending_moof.now)) }
+    ensures needed { IfOk result (λ n.
+        n ≡ needed_in (pending_fragment 1 pending_moof.now tracks.now header.now)) }
+    ensures puts { Puts (sent W.contents W.has_failed w.old w.new) out.old out.new
+        (accepted command (pending_fragment 1 pending_moof.now tracks.now header.now)).text result }
+    ensures tally { counter.new.tally ≡ plus counter.old.tally
+        (counted_in (pending_fragment 1 pending_moof.now tracks.now header.now)) }
+    ensures rows_read { counter.new.steps.rows ≡
+        counter.old.steps.rows + listed_by (operations.List command) (moof_samples (moof_in pending_moof.now)) }
+    ensures counted { IsCounted (operations.List command) counter.new (bound_after
+        (pending_moof.now.moof.at + pending_moof.now.moof.size) header.now.size)
+        0 (moof_samples (moof_in pending_moof.now)) }
+{
+    let next = pending_moof.moof.offset() + pending_moof.moof.size();
+    let moof_totals = add_up_runs(pending_moof, payload_of(next, header), tracks);
+    count(counter, moof_totals.samples, moof_totals.bytes);
+    match command {
+        Command::Check => Ok(moof_totals.needed),
+        Command::Samples => {
+            let samples = moof_totals.samples;
+            match put_runs(pending_moof, samples, tracks, &mut counter.steps, out, w) {
+                Ok(()) => Ok(moof_totals.needed),
+                Err(Failed) => Err(Failed),
+            }
+        }
+        Command::Fragments | Command::Records => {
+            let samples = moof_totals.samples;
+            let steps = &mut counter.steps;
+            match put_pending_lines(
+                command,
+                pending_moof,
+                header,
+                samples,
+                tracks,
+                steps,
+                out,
+                w,
+            ) {
+                Ok(()) => Ok(moof_totals.needed),
+                Err(Failed) => Err(Failed),
+            }
+        }
+    }
+}
+
+/// The state after the header of the mdat at `at`, of whose payload so many bytes are needed.
+fn enter(
+    at: u64,
+    header: &Header,
+    needed: u64,
+    pending_moof: PendingMoof,
+    carried: &mut Carried,
+    ledger: &mut Ledger,
+) -> State
+    requires room { HasRoom header.now.size header.now.header_len }
+    requires near { least_end at header.now header.now.size ≤ longest }
+    requires pending_moof { IsPendingMoof carried.old.tracks pending_moof }
+    requires empty { carried.old.header_bytes ≡ [] }
+    requires claim { claimed_in carried.old.tracks (Some pending_moof) ≤ ledger.old.live }
+    requires counted { IsCounted carried.old.operation carried.old.counter (bound_after at header.now.size)
+        0 (moof_samples (moof_in pending_moof)) }
+    ensures { (u : Untouched) → GoesTo (ledger_alone u ledger.old ledger.new) carried.old carried.new
+        (in_mdat (number_in carried.old.operation carried.old.counter.tally) carried.old.tracks pending_moof at
+        header.now needed header.now.size) [] result }
+{
+    match body_of(at, header, needed) {
+        AnyBody::Empty { next } => {
+            leave(next, Some(pending_moof), carried, ledger);
+            State::Header { at: next }
+        }
+        AnyBody::Bytes(body) => State::Body(body, Some(pending_moof)),
+    }
+}
+
+/// Counts or lists the fragment of the pending moof, followed by the box with this header. Returns the next state. The
+/// moof and its list are given back where it is refused.
+///
+/// # Errors
+///
+/// `Stream` where that box may not follow, or the runs of the moof don't lie in it; `Write` where a write failed.
+pub(crate) fn begin_listed<W: Sink>(
+    command: Command,
+    pending_moof: PendingMoof,
+    header: &Header,
+    header_bytes: &[u8],
+    carried: &mut Carried,
+    ledger: &mut Ledger,
+    out: &mut Block,
+    w: &mut W,
+) -> Result<State, Stop>
+    requires { MayBeginFragment (operations.List command) carried.old ledger.old pending_moof
+        header.now header_bytes.now }
+    ensures { Advances (borrowed W.contents W.has_failed w.old w.new out.old out.new ledger.old ledger.new)
+        (with_head header_bytes.now carried.old) carried.new (states.MdatHeader pending_moof) result }
+{
+    let Some(list) = &mut carried.tracks else {
+        unreachable!();
+    };
+    match check_mdat(&pending_moof, header, list) {
+        Ok(()) => {}
+        Err(fault) => {
+            back(Some(pending_moof), ledger);
+            return Err(Stop::Stream(fault));
+        }
+    }
+    let at = pending_moof.moof.offset() + pending_moof.moof.size();
+    match emit(
+        command,
+        &pending_moof,
+        header,
+        list,
+        &mut carried.counter,
+        out,
+        w,
+    ) {
+        Ok(needed) => Ok(enter(at, header, needed, pending_moof, carried, ledger)),
+        Err(Failed) => {
+            back(Some(pending_moof), ledger);
+            Err(Stop::Write)
+        }
+    }
+}

@@ -1,0 +1,56 @@
+//! The end of an mdat: its tracks end, and its moof is given back.
+
+ghost use Rattle.std.specs.Prelude.{◌≡◌, ℕ, ◌+◌, ◌*◌, ◌<◌, ◌≤◌, ◌^◌, [], Option, length, Some};
+ghost use Rattle.mp4_box.specs.declared.headers.FourCc.{FourCc};
+ghost use Rattle.mp4_frag.specs.Moofs.{moof_of, moof_samples, moof_trafs};
+ghost use Rattle.mp4_frag.specs.Settling.{settled, timed_of};
+ghost use Rattle.mp4_ledger.specs.Memory.{given_back};
+ghost use Rattle.mp4_machine.specs.Bodies.{longest};
+ghost use Rattle.mp4_machine.specs.Readings.{no_effects};
+ghost use Rattle.mp4_machine.specs.declared.body.Body.{Body};
+ghost use Rattle.mp4_recut.specs.Operations.{number_in};
+ghost use Rattle.mp4_fragment_machine.specs.Places.{InBody, Untouched};
+ghost use Rattle.mp4_fragment_machine.specs.States.{IsCounted, IsPendingMoof, IsState, MayBePending, after_body, claimed_in, moof_in, samples_of, taken_by};
+ghost use Rattle.mp4_fragment_machine.specs.Implementation.Steps.{CanStep, ConsumesInPlace, GoesTo, ledger_alone};
+ghost use Rattle.mp4_fragment_machine.specs.declared.state.PendingMoof.{PendingMoof};
+ghost use Rattle.mp4_fragment_machine.specs.declared.state.State.TheVariants as states;
+
+use crate::state::{Carried, Counter, PendingMoof, State, leave_body, let_go};
+use mp4_init::TrackList;
+use mp4_ledger::Ledger;
+use mp4_machine::Stop;
+
+/// Ends the tracks after a moof and its mdat, and gives the moof and its list back.
+pub(crate) fn end_fragment(
+    pending_moof: PendingMoof,
+    tracks: &mut TrackList,
+    ledger: &mut Ledger,
+    counter: &mut Counter,
+)
+    requires pending_moof { IsPendingMoof (Some tracks.old) pending_moof }
+    requires claim { pending_moof.moof.size + 64 * length pending_moof.runs.rows ≤ ledger.old.live }
+    requires steps { counter.old.steps.rows < 2 ^ 127 }
+    ensures tracks { tracks.new ≡ settled tracks.old (moof_trafs (moof_in pending_moof) tracks.old) }
+    ensures len { length tracks.new ≡ length tracks.old }
+    ensures back { ledger.new ≡ given_back (given_back ledger.old
+        (64 * length pending_moof.runs.rows)) pending_moof.moof.size }
+    ensures tally { counter.new.tally ≡ counter.old.tally }
+    ensures rows_read { counter.new.steps.rows ≡
+        counter.old.steps.rows + timed_of (moof_of (moof_in pending_moof)) }
+    ensures few { counter.new.steps.rows ≤
+        counter.old.steps.rows + moof_samples (moof_in pending_moof) }
+{
+    pending_moof.moof(tracks).settle(tracks, &mut counter.steps);
+    back(Some(pending_moof), ledger);
+}
+
+/// Gives a pending moof and its list back, if there is one.
+pub(crate) fn back(pending_moof: Option<PendingMoof>, ledger: &mut Ledger)
+    requires { taken_by pending_moof ≤ ledger.old.live }
+    ensures { ledger.new ≡ given_back ledger.old (taken_by pending_moof) }
+{
+    if let Some(PendingMoof { moof, runs }) = pending_moof {
+        runs.back(ledger);
+        moof.back(ledger);
+    }
+}

@@ -1,0 +1,10 @@
+//! The mdat of a fragment: accepted, listed or recut, and ended.
+
+pub(crate) mod accept_list;
+pub(crate) mod accept_recut;
+pub(crate) mod check;
+pub(crate) mod end;
+pub(crate) mod recut;
+pub(crate) mod sample_lines;
+pub(crate) mod totals;
+pub(crate) mod traf_lines;
