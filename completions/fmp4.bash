@@ -2,7 +2,7 @@
 _fmp4() {
   local word=${COMP_WORDS[COMP_CWORD]} before=${COMP_WORDS[COMP_CWORD-1]} options='--copy --max-held'
   if [ "$COMP_CWORD" = 1 ]; then
-    mapfile -t COMPREPLY < <(compgen -W 'split boxes samples check' -- "$word")
+    mapfile -t COMPREPLY < <(compgen -W 'split boxes samples fragments check' -- "$word")
     return
   fi
   case $before in *'<' | *'>') compopt -o default; return ;; esac

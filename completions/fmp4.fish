@@ -3,8 +3,9 @@ complete -c fmp4 -f
 complete -c fmp4 -n __fish_use_subcommand -a split -d 'write the stream with shorter fragments'
 complete -c fmp4 -n __fish_use_subcommand -a boxes -d 'list the boxes'
 complete -c fmp4 -n __fish_use_subcommand -a samples -d 'list the samples'
+complete -c fmp4 -n __fish_use_subcommand -a fragments -d 'list the tracks and the fragments'
 complete -c fmp4 -n __fish_use_subcommand -a check -d 'check the stream'
-set -l commands split boxes samples check
+set -l commands split boxes samples fragments check
 complete -c fmp4 -n "__fish_seen_subcommand_from $commands" -l copy -x -d 'the most bytes of a read, 4096 to 1048576'
 complete -c fmp4 -n "__fish_seen_subcommand_from $commands" -l max-held -x -d 'the most memory for the stream'
 complete -c fmp4 -n '__fish_seen_subcommand_from split' -l samples -x -d 'the most samples of a fragment'

@@ -14,7 +14,7 @@ use Rattle.mp4_pieces.specs.declared.cut.Cut.{Cut}
 use Rattle.mp4_recut.specs.declared.operation.Operation.TheVariants as operations
 use Rattle.fmp4_program.specs.declared.asked.SplitOptions.{SplitOptions}
 use Rattle.fmp4_program.specs.declared.asked.Invocation.{Invocation}
-use Rattle.fmp4_program.specs.declared.asked.Invocation.TheVariants.{Boxes, Samples, Check, Split}
+use Rattle.fmp4_program.specs.declared.asked.Invocation.TheVariants.{Boxes, Samples, Fragments, Check, Split}
 use Rattle.fmp4_program.specs.declared.asked.Settings.{Settings}
 use Rattle.fmp4_program.specs.Lines.{check_text, line, stop_text}
 
@@ -79,6 +79,9 @@ ListsBoxes settings seen = Delivers settings seen (λ claims ends answer. ReadsB
 abbrev pub ListsSamples : Settings → Seen → Type 0
 ListsSamples settings seen = Delivers settings seen (λ claims ends answer. (totals : Totals) × ReadsFragments (operations.List commands.Samples) ends claims totals answer)
 
+abbrev pub ListsFragments : Settings → Seen → Type 0
+ListsFragments settings seen = Delivers settings seen (λ claims ends answer. (totals : Totals) × ReadsFragments (operations.List commands.Fragments) ends claims totals answer)
+
 -- these are the options of a cut
 pub record IsCutBy (options : SplitOptions) (cut : Cut) : Type 0 where
   pub samples : cut.samples ≡ options.samples
@@ -113,6 +116,7 @@ pub record Checks (settings : Settings) (seen : Seen) : Type 0 where
 abbrev pub Does : Invocation → Seen → Type 0
 Does (Boxes settings) seen = ListsBoxes settings seen
 Does (Samples settings) seen = ListsSamples settings seen
+Does (Fragments settings) seen = ListsFragments settings seen
 Does (Check settings) seen = Checks settings seen
 Does (Split settings options) seen = Splits settings options seen
 

@@ -10,7 +10,7 @@ use Rattle.mp4_pieces.specs.Allowed as pieces
 use Rattle.fmp4_program.specs.declared.asked.Settings.{Settings}
 use Rattle.fmp4_program.specs.declared.asked.SplitOptions.{SplitOptions}
 use Rattle.fmp4_program.specs.declared.asked.Invocation.{Invocation}
-use Rattle.fmp4_program.specs.declared.asked.Invocation.TheVariants.{Boxes, Samples, Check, Split}
+use Rattle.fmp4_program.specs.declared.asked.Invocation.TheVariants.{Boxes, Samples, Fragments, Check, Split}
 
 -- ---- the commands and options
 
@@ -32,7 +32,7 @@ split_app = with_rule (with_rule (with_rule (with_rule (settings_app (codes "spl
 
 -- the whole command line; only a proof that computes it unfolds it
 unfoldable pub program_app : App
-program_app = with_subcommand (with_subcommand (with_subcommand (with_subcommand (new_app (codes "fmp4")) (settings_app (codes "boxes")).top) (settings_app (codes "samples")).top) (settings_app (codes "check")).top) split_app.top
+program_app = with_subcommand (with_subcommand (with_subcommand (with_subcommand (with_subcommand (new_app (codes "fmp4")) (settings_app (codes "boxes")).top) (settings_app (codes "samples")).top) (settings_app (codes "fragments")).top) (settings_app (codes "check")).top) split_app.top
 
 -- ---- numbers
 
@@ -86,6 +86,7 @@ unfoldable pub invocation_of : Text → List Row → Option Invocation
 invocation_of name rows =
     if bytes_eq name (codes "boxes") then option_map Boxes (settings_of rows)
     else if bytes_eq name (codes "samples") then option_map Samples (settings_of rows)
+    else if bytes_eq name (codes "fragments") then option_map Fragments (settings_of rows)
     else if bytes_eq name (codes "check") then option_map Check (settings_of rows)
     else if bytes_eq name (codes "split") then split_of rows
     else None
@@ -98,6 +99,7 @@ MayCut options = pieces.IsAllowed options.samples options.bytes
 abbrev pub IsInRange : Invocation → Type 0
 IsInRange (Boxes settings) = IsAllowed settings
 IsInRange (Samples settings) = IsAllowed settings
+IsInRange (Fragments settings) = IsAllowed settings
 IsInRange (Check settings) = IsAllowed settings
 IsInRange (Split settings options) = IsAllowed settings × MayCut options
 

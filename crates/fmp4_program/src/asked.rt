@@ -29,6 +29,8 @@ pub enum Invocation {
     Boxes(Settings),
     /// List its samples.
     Samples(Settings),
+    /// List its tracks and fragments.
+    Fragments(Settings),
     /// Check it, and count its fragments, samples and bytes of media.
     Check(Settings),
     /// Cut its fragments into shorter ones.

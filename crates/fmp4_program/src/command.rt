@@ -136,6 +136,9 @@ fn invocation_from(name: &str, matches: &ArgMatches<'_>) -> Option<Invocation>
     if name == "samples" {
         return Some(Invocation::Samples(settings_from(matches)?));
     }
+    if name == "fragments" {
+        return Some(Invocation::Fragments(settings_from(matches)?));
+    }
     if name == "check" {
         return Some(Invocation::Check(settings_from(matches)?));
     }
@@ -195,11 +198,13 @@ fn program_command<'a>(alloc: Global) -> Result<Command<'a>, AllocError>
 {
     let boxes = settings_command(alloc, "boxes")?;
     let samples = settings_command(alloc, "samples")?;
+    let fragments = settings_command(alloc, "fragments")?;
     let check = settings_command(alloc, "check")?;
     let split = split_command(alloc)?;
     let listing_boxes = Command::new(alloc, "fmp4").subcommand(boxes)?;
     let listing_samples = listing_boxes.subcommand(samples)?;
-    let checking = listing_samples.subcommand(check)?;
+    let listing_fragments = listing_samples.subcommand(fragments)?;
+    let checking = listing_fragments.subcommand(check)?;
     checking.subcommand(split)
 }
 

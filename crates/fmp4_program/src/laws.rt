@@ -34,6 +34,10 @@ pub fn worked_words()
     ensures no_command { command_of (codes "fmp4" ∷ []) ≡ None }
     ensures samples { command_of (codes "fmp4" ∷ codes "samples" ∷ codes "--copy" ∷ codes "4096" ∷
         []) ≡ Some (Invocation.Samples (record { copy = 4096; max_held = 536870912 })) }
+    ensures fragments { command_of (codes "fmp4" ∷ codes "fragments" ∷ codes "--copy" ∷ codes "4096" ∷
+        []) ≡ Some (Invocation.Fragments (record { copy = 4096; max_held = 536870912 })) }
+    ensures cut_fragments { command_of (codes "fmp4" ∷ codes "fragments" ∷ codes "--samples" ∷ codes "5" ∷
+        []) ≡ None }
     ensures check { command_of (codes "fmp4" ∷ codes "check" ∷ codes "--max-held" ∷ codes "1" ∷
         []) ≡ Some (Invocation.Check (record { copy = 65536; max_held = 1 })) }
     ensures other_command { command_of (codes "fmp4" ∷ codes "tracks" ∷ []) ≡ None }
@@ -41,22 +45,44 @@ pub fn worked_words()
     ensures index { command_of (codes "fmp4" ∷ codes "check" ∷ codes "--index" ∷ []) ≡ None }
     ensures other_option { command_of (codes "fmp4" ∷ codes "boxes" ∷ codes "--samples" ∷ codes "5"
         ∷ []) ≡ None }
-    ensures split { command_of (codes "fmp4" ∷ codes "split" ∷ codes "--samples" ∷ codes "2" ∷ []) ≡ Some (Invocation.Split (record { copy = 65536; max_held = 536870912 }) (record { samples = 2; bytes = None; index = false; sync = false })) }
-    ensures split_index { command_of (codes "fmp4" ∷ codes "split" ∷ codes "--samples" ∷ codes "2" ∷ codes "--index" ∷ []) ≡ Some (Invocation.Split (record { copy = 65536; max_held = 536870912 }) (record { samples = 2; bytes = None; index = true; sync = false })) }
-    ensures split_sync { command_of (codes "fmp4" ∷ codes "split" ∷ codes "--samples" ∷ codes "9" ∷ codes "--sync" ∷ []) ≡ Some (Invocation.Split (record { copy = 65536; max_held = 536870912 }) (record { samples = 9; bytes = None; index = false; sync = true })) }
-    ensures split_all { command_of (codes "fmp4" ∷ codes "split" ∷ codes "--sync" ∷ codes "--bytes" ∷ codes "10" ∷ codes "--index" ∷ codes "--max-held" ∷ codes "65944" ∷ codes "--samples" ∷ codes "9" ∷ codes "--copy" ∷ codes "4096" ∷ []) ≡ Some (Invocation.Split (record { copy = 4096; max_held = 65944 }) (record { samples = 9; bytes = Some 10; index = true; sync = true })) }
-    ensures split_least { command_of (codes "fmp4" ∷ codes "split" ∷ codes "--samples" ∷ codes "1" ∷ codes "--bytes" ∷ codes "1" ∷ []) ≡ Some (Invocation.Split (record { copy = 65536; max_held = 536870912 }) (record { samples = 1; bytes = Some 1; index = false; sync = false })) }
-    ensures split_most { command_of (codes "fmp4" ∷ codes "split" ∷ codes "--samples" ∷ codes "1000000" ∷ codes "--bytes" ∷ codes "4611686018427387904" ∷ []) ≡ Some (Invocation.Split (record { copy = 65536; max_held = 536870912 }) (record { samples = 1000000; bytes = Some (2 ^ 62); index = false; sync = false })) }
-    ensures split_without_samples { command_of (codes "fmp4" ∷ codes "split" ∷ codes "--bytes" ∷ codes "10" ∷ []) ≡ None }
+    ensures split { command_of (codes "fmp4" ∷ codes "split" ∷ codes "--samples" ∷ codes "2" ∷
+        []) ≡ Some (Invocation.Split (record { copy = 65536; max_held = 536870912 })
+        (record { samples = 2; bytes = None; index = false; sync = false })) }
+    ensures split_index { command_of (codes "fmp4" ∷ codes "split" ∷ codes "--samples" ∷ codes "2" ∷ codes "--index" ∷
+        []) ≡ Some (Invocation.Split (record { copy = 65536; max_held = 536870912 })
+        (record { samples = 2; bytes = None; index = true; sync = false })) }
+    ensures split_sync { command_of (codes "fmp4" ∷ codes "split" ∷ codes "--samples" ∷ codes "9" ∷ codes "--sync" ∷
+        []) ≡ Some (Invocation.Split (record { copy = 65536; max_held = 536870912 })
+        (record { samples = 9; bytes = None; index = false; sync = true })) }
+    ensures split_all { command_of (codes "fmp4" ∷ codes "split" ∷ codes "--sync" ∷ codes "--bytes" ∷ codes "10" ∷
+        codes "--index" ∷ codes "--max-held" ∷ codes "65944" ∷ codes "--samples" ∷ codes "9" ∷ codes "--copy" ∷
+        codes "4096" ∷ []) ≡ Some (Invocation.Split (record { copy = 4096; max_held = 65944 })
+        (record { samples = 9; bytes = Some 10; index = true; sync = true })) }
+    ensures split_least { command_of (codes "fmp4" ∷ codes "split" ∷ codes "--samples" ∷ codes "1" ∷ codes "--bytes" ∷
+        codes "1" ∷ []) ≡ Some (Invocation.Split (record { copy = 65536; max_held = 536870912 })
+        (record { samples = 1; bytes = Some 1; index = false; sync = false })) }
+    ensures split_most { command_of (codes "fmp4" ∷ codes "split" ∷ codes "--samples" ∷ codes "1000000" ∷
+        codes "--bytes" ∷ codes "4611686018427387904" ∷ []) ≡ Some (Invocation.Split
+        (record { copy = 65536; max_held = 536870912 })
+        (record { samples = 1000000; bytes = Some (2 ^ 62); index = false; sync = false })) }
+    ensures split_without_samples { command_of (codes "fmp4" ∷ codes "split" ∷ codes "--bytes" ∷ codes "10" ∷ []) ≡
+        None }
     ensures split_without_number { command_of (codes "fmp4" ∷ codes "split" ∷ codes "--samples" ∷ []) ≡ None }
     ensures split_no_samples { command_of (codes "fmp4" ∷ codes "split" ∷ codes "--samples" ∷ codes "0" ∷ []) ≡ None }
-    ensures split_too_many_samples { command_of (codes "fmp4" ∷ codes "split" ∷ codes "--samples" ∷ codes "1000001" ∷ []) ≡ None }
-    ensures split_no_bytes { command_of (codes "fmp4" ∷ codes "split" ∷ codes "--samples" ∷ codes "2" ∷ codes "--bytes" ∷ codes "0" ∷ []) ≡ None }
-    ensures split_too_many_bytes { command_of (codes "fmp4" ∷ codes "split" ∷ codes "--samples" ∷ codes "2" ∷ codes "--bytes" ∷ codes "4611686018427387905" ∷ []) ≡ None }
-    ensures split_samples_again { command_of (codes "fmp4" ∷ codes "split" ∷ codes "--samples" ∷ codes "2" ∷ codes "--samples" ∷ codes "3" ∷ []) ≡ None }
-    ensures split_index_again { command_of (codes "fmp4" ∷ codes "split" ∷ codes "--samples" ∷ codes "2" ∷ codes "--index" ∷ codes "--index" ∷ []) ≡ None }
-    ensures split_copy_too_small { command_of (codes "fmp4" ∷ codes "split" ∷ codes "--samples" ∷ codes "2" ∷ codes "--copy" ∷ codes "4095" ∷ []) ≡ None }
-    ensures split_held_too_small { command_of (codes "fmp4" ∷ codes "split" ∷ codes "--samples" ∷ codes "2" ∷ codes "--max-held" ∷ codes "0" ∷ []) ≡ None }
+    ensures split_too_many_samples { command_of (codes "fmp4" ∷ codes "split" ∷ codes "--samples" ∷ codes "1000001" ∷
+        []) ≡ None }
+    ensures split_no_bytes { command_of (codes "fmp4" ∷ codes "split" ∷ codes "--samples" ∷ codes "2" ∷
+        codes "--bytes" ∷ codes "0" ∷ []) ≡ None }
+    ensures split_too_many_bytes { command_of (codes "fmp4" ∷ codes "split" ∷ codes "--samples" ∷ codes "2" ∷
+        codes "--bytes" ∷ codes "4611686018427387905" ∷ []) ≡ None }
+    ensures split_samples_again { command_of (codes "fmp4" ∷ codes "split" ∷ codes "--samples" ∷ codes "2" ∷
+        codes "--samples" ∷ codes "3" ∷ []) ≡ None }
+    ensures split_index_again { command_of (codes "fmp4" ∷ codes "split" ∷ codes "--samples" ∷ codes "2" ∷
+        codes "--index" ∷ codes "--index" ∷ []) ≡ None }
+    ensures split_copy_too_small { command_of (codes "fmp4" ∷ codes "split" ∷ codes "--samples" ∷ codes "2" ∷
+        codes "--copy" ∷ codes "4095" ∷ []) ≡ None }
+    ensures split_held_too_small { command_of (codes "fmp4" ∷ codes "split" ∷ codes "--samples" ∷ codes "2" ∷
+        codes "--max-held" ∷ codes "0" ∷ []) ≡ None }
     ensures bytes_of_samples { command_of (codes "fmp4" ∷ codes "samples" ∷ codes "--bytes" ∷ codes "10" ∷ []) ≡ None }
     ensures help { command_of (codes "fmp4" ∷ codes "--help" ∷ []) ≡ None }
 {}

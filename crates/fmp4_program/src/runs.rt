@@ -14,6 +14,7 @@ ghost use Rattle.fmp4_program.specs.Runs.{IsCutBy, Ran, ReportsStop, RunsAndFlus
 use crate::asked::{Invocation, SplitOptions};
 use crate::command::{NoCommand, read_words};
 use crate::lines::{check_line, stop_line};
+use mp4_stream::fragments::fragments;
 use mp4_stream::{
     Cut, Ledger, Sink, Source, Stop, Totals, boxes, check, samples, split, write_all,
 };
@@ -59,6 +60,10 @@ pub fn run<R: Source, W: Sink, F: Sink>(
         Invocation::Samples(settings) => {
             let mut ledger = Ledger::new(alloc, settings.max_held);
             list_samples(r, w, &mut ledger, settings.copy)
+        }
+        Invocation::Fragments(settings) => {
+            let mut ledger = Ledger::new(alloc, settings.max_held);
+            list_fragments(r, w, &mut ledger, settings.copy)
         }
         Invocation::Check(settings) => {
             let mut ledger = Ledger::new(alloc, settings.max_held);
@@ -135,6 +140,28 @@ fn list_samples<R: Source, W: Sink>(
     ensures within { ledger.new.peak ≤ ledger.old.limit }
 {
     match samples(r, w, ledger, copy, &mut Totals::new()) {
+        Ok(()) => flush(w),
+        Err(stop) => Err(stop),
+    }
+}
+
+/// Lists the tracks and the fragments of the stream, and flushes the listing.
+fn list_fragments<R: Source, W: Sink>(
+    r: &mut R,
+    w: &mut W,
+    ledger: &mut Ledger,
+    copy: u32,
+) -> Result<(), Stop>
+    requires copy { (4096 ≤ copy) × (copy ≤ 1048576) }
+    requires idle { ledger.old.live ≡ 0 }
+    ensures runs { RunsAndFlushes (λ ends ran. (totals : Totals) ×
+        ReadsFragments (operations.List commands.Fragments) ends
+        (record { copy = copy; limit = ledger.old.limit; peak = ledger.new.peak }) totals ran) (between
+        (received R.remaining R.has_ended R.has_failed R.last_read r.old r.new)
+        (sent W.contents W.has_failed w.old w.new)) result }
+    ensures within { ledger.new.peak ≤ ledger.old.limit }
+{
+    match fragments(r, w, ledger, copy, &mut Totals::new()) {
         Ok(()) => flush(w),
         Err(stop) => Err(stop),
     }

@@ -5,8 +5,8 @@ use mp4_stream::{FromRead, IntoWrite};
 use std::env;
 use std::process::ExitCode;
 
-/// Runs the command that the words of the command line name, on standard input, standard output and standard error. The exit
-/// status is that of [`run`], or 4 where the words can't be had.
+/// Runs the command that the words of the command line name, on standard input, standard output and standard error. The
+/// exit status is that of [`run`], or 4 where the words can't be had.
 pub fn start(rt: HostRuntime) -> ExitCode {
     let Ok(all) = env::args(&rt) else {
         return ExitCode::from(4);

@@ -52,6 +52,39 @@ fn sound_streams(rt: HostRuntime) -> Result<(), Fail> {
     check_sound(&rt, alloc, &[], &[], none)
 }
 
+/// The lines of the first vector's fragments.
+const FRAGMENTS: [&str; 2] = [
+    "track=1 timescale=48000 entries=1\n",
+    "fragment=1 at=364 size=119 track=1 dts=0 dur=3072 samples=3 sync=yes media=15\n",
+];
+
+#[test]
+fn tracks_and_fragments(rt: HostRuntime) -> Result<(), Fail> {
+    let (alloc, v1) = (rt.alloc(), V1.as_slice());
+    let words = ["fmp4", "fragments"];
+    check_words(&rt, alloc, &words, &[v1], 0, &FRAGMENTS, "")?;
+    check_words(&rt, alloc, &words, &[], 0, &[], "")?;
+    let to_end = [&v1[..460], HEADER_TO_END, &v1[468..]];
+    let lines = [
+        FRAGMENTS[0],
+        "fragment=1 at=364 size=end track=1 dts=0 dur=3072 samples=3 sync=yes media=15\n",
+    ];
+    check_words(&rt, alloc, &words, &to_end, 0, &lines, "")?;
+    // The first fragment is listed before the second is refused; an mdat that is cut short was accepted.
+    let fault = "fmp4: 6 MdatMissing in moof at 483\n";
+    check_words(
+        &rt,
+        alloc,
+        &words,
+        &[v1, &v1[364..460]],
+        2,
+        &FRAGMENTS,
+        fault,
+    )?;
+    let fault = "fmp4: 1 Truncated in mdat at 460\n";
+    check_words(&rt, alloc, &words, &[&v1[..482]], 2, &FRAGMENTS, fault)
+}
+
 #[test]
 fn boxes_out_of_place(rt: HostRuntime) -> Result<(), Fail> {
     let (alloc, v1) = (rt.alloc(), V1.as_slice());

@@ -34,6 +34,7 @@ fn bad_words(rt: HostRuntime) -> Result<(), Fail> {
         &["fmp4", "boxes", "--max-held", "0"],
         &["fmp4", "boxes", "--max-held", "4611686018427387905"],
         &["fmp4", "samples", "--sync"],
+        &["fmp4", "fragments", "--samples", "5"],
         &["fmp4", "split"],
         &["fmp4", "split", "--samples", "0"],
         &["fmp4", "--help"],

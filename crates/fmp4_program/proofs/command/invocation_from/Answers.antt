@@ -34,31 +34,51 @@ unfolding invocation_of
 returns-in_err-settings_from-3-clause-value c =
     let not_boxes : bytes_eq c.args.name.now (codes "boxes") ≡ false = search rules in
     let not_samples : bytes_eq c.args.name.now (codes "samples") ≡ false = search rules in
-    let is_check : bytes_eq c.args.name.now (codes "check") ≡ true = search rules in
-    rw (not_boxes, not_samples, is_check, ← c.in_err-settings_from-3.ensures.value) (search rules)
+    let is_fragments : bytes_eq c.args.name.now (codes "fragments") ≡ true = search rules in
+    rw (not_boxes, not_samples, is_fragments, ← c.in_err-settings_from-3.ensures.value) (search rules)
 
 pub returns-then-eq-3-clause-value : goal.returns-then-eq-3-clause-value
 unfolding invocation_of
 returns-then-eq-3-clause-value c =
     let not_boxes : bytes_eq c.args.name.now (codes "boxes") ≡ false = search rules in
     let not_samples : bytes_eq c.args.name.now (codes "samples") ≡ false = search rules in
+    let is_fragments : bytes_eq c.args.name.now (codes "fragments") ≡ true = search rules in
+    rw (not_boxes, not_samples, is_fragments, ← c.in_ok-settings_from-3.ensures.value) refl
+
+pub returns-in_err-settings_from-4-clause-value : goal.returns-in_err-settings_from-4-clause-value
+unfolding invocation_of
+returns-in_err-settings_from-4-clause-value c =
+    let not_boxes : bytes_eq c.args.name.now (codes "boxes") ≡ false = search rules in
+    let not_samples : bytes_eq c.args.name.now (codes "samples") ≡ false = search rules in
+    let not_fragments : bytes_eq c.args.name.now (codes "fragments") ≡ false = search rules in
     let is_check : bytes_eq c.args.name.now (codes "check") ≡ true = search rules in
-    rw (not_boxes, not_samples, is_check, ← c.in_ok-settings_from-3.ensures.value) refl
+    rw (not_boxes, not_samples, not_fragments, is_check, ← c.in_err-settings_from-4.ensures.value) (search rules)
 
 pub returns-then-eq-4-clause-value : goal.returns-then-eq-4-clause-value
 unfolding invocation_of
 returns-then-eq-4-clause-value c =
     let not_boxes : bytes_eq c.args.name.now (codes "boxes") ≡ false = search rules in
     let not_samples : bytes_eq c.args.name.now (codes "samples") ≡ false = search rules in
+    let not_fragments : bytes_eq c.args.name.now (codes "fragments") ≡ false = search rules in
+    let is_check : bytes_eq c.args.name.now (codes "check") ≡ true = search rules in
+    rw (not_boxes, not_samples, not_fragments, is_check, ← c.in_ok-settings_from-4.ensures.value) refl
+
+pub returns-then-eq-5-clause-value : goal.returns-then-eq-5-clause-value
+unfolding invocation_of
+returns-then-eq-5-clause-value c =
+    let not_boxes : bytes_eq c.args.name.now (codes "boxes") ≡ false = search rules in
+    let not_samples : bytes_eq c.args.name.now (codes "samples") ≡ false = search rules in
+    let not_fragments : bytes_eq c.args.name.now (codes "fragments") ≡ false = search rules in
     let not_check : bytes_eq c.args.name.now (codes "check") ≡ false = search rules in
     let is_split : bytes_eq c.args.name.now (codes "split") ≡ true = search rules in
-    rw (not_boxes, not_samples, not_check, is_split) c.split_from.ensures.value
+    rw (not_boxes, not_samples, not_fragments, not_check, is_split) c.split_from.ensures.value
 
 pub returns-clause-value : goal.returns-clause-value
 unfolding invocation_of
 returns-clause-value c =
     let not_boxes : bytes_eq c.args.name.now (codes "boxes") ≡ false = search rules in
     let not_samples : bytes_eq c.args.name.now (codes "samples") ≡ false = search rules in
+    let not_fragments : bytes_eq c.args.name.now (codes "fragments") ≡ false = search rules in
     let not_check : bytes_eq c.args.name.now (codes "check") ≡ false = search rules in
     let not_split : bytes_eq c.args.name.now (codes "split") ≡ false = search rules in
-    rw (not_boxes, not_samples, not_check, not_split) refl
+    rw (not_boxes, not_samples, not_fragments, not_check, not_split) refl

@@ -63,6 +63,14 @@ pub returns-clause-samples : goal.returns-clause-samples
 unfolding clap_on_literals program_app command_of invocation_of settings_of number_or number_in
 returns-clause-samples c = refl
 
+pub returns-clause-fragments : goal.returns-clause-fragments
+unfolding clap_on_literals program_app command_of invocation_of settings_of number_or number_in
+returns-clause-fragments c = refl
+
+pub returns-clause-cut_fragments : goal.returns-clause-cut_fragments
+unfolding clap_on_literals program_app command_of invocation_of settings_of number_or number_in
+returns-clause-cut_fragments c = refl
+
 pub returns-clause-check : goal.returns-clause-check
 unfolding clap_on_literals program_app command_of invocation_of settings_of number_or number_in
 returns-clause-check c = refl

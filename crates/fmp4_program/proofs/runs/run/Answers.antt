@@ -1,6 +1,6 @@
 use Rattle.std.proofs.Common.{rules, inr}
 use Rattle.fmp4_program.proofs.runs.run.Goals as goal
-use Rattle.fmp4_program.proofs.runs.run.Goals.{in-Boxes, in-Samples, in-Check, in-Split}
+use Rattle.fmp4_program.proofs.runs.run.Goals.{in-Boxes, in-Samples, in-Fragments, in-Check, in-Split}
 
 pub returns : goal.returns
 returns g c =
@@ -8,6 +8,7 @@ returns g c =
     rw asked (inr (elim c.match-asked.branch [
       | in-Boxes w ↦ search rules
       | in-Samples w ↦ search rules
+      | in-Fragments w ↦ search rules
       | in-Check w ↦ search rules
       | in-Split w ↦
           let ran = w.split_stream-answer.ensures in
