@@ -11,8 +11,8 @@ use Rattle.mp4_machine.specs.Readings.{Effects, Reading, both, whole_in, fault_i
 use Rattle.mp4_machine.specs.declared.stop.Stop.{Stop}
 use Rattle.mp4_machine.specs.declared.stop.Stop.TheVariants.{Stream, Read, Write, OverLimit, Memory}
 use Rattle.mp4_machine.proofs.MarkLemmas.{whole_in-before, whole_in-both}
-use Rattle.mp4_push.specs.Feeders.{Feeds, Finishes, IsAfter, Feeding, WritesBefore, held_by, live, sums_of, totals_of}
-use Rattle.mp4_push.proofs.FeederLemmas.{reading-none}
+use Rattle.mp4_stream.specs.Feeders.{Feeds, Finishes, IsAfter, Feeding, WritesBefore, held_by, live, sums_of, totals_of}
+use Rattle.mp4_stream.proofs.FeederLemmas.{reading-none}
 use Rattle.mp4_recut.specs.Operations.{reads_of}
 use Rattle.mp4_recut.specs.declared.operation.Operation.{Operation}
 use Rattle.fmp4_c.specs.Answers.{Counted, answer_to, counted_of, fault_of, number_of, report_from}

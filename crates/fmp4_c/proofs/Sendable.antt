@@ -14,7 +14,7 @@ use Rattle.mp4_fragment_machine.specs.contracts.state.Carried as carried
 use Rattle.mp4_fragment_machine.specs.contracts.state.State as state
 use Rattle.mp4_recut.specs.contracts.operation.Operation as operation
 use Rattle.mp4_machine.specs.contracts.stop.Stop as stop
-use Rattle.mp4_push.specs.contracts.feeder.Feeder as feeder
+use Rattle.mp4_stream.specs.contracts.feeder.Feeder as feeder
 use Rattle.fmp4_c.specs.contracts.output.Output as output
 use Rattle.fmp4_c.specs.contracts.report.Report as report
 use Rattle.fmp4_c.specs.contracts.engine.Engine as engine

@@ -16,6 +16,7 @@ pub mod RunLemmas
 pub mod FedLemmas
 pub mod FedRunLemmas
 pub mod FedMachineLemmas
+pub mod ClaimLemmas
 pub mod HeadLemmas
 pub mod BodyGrowthLemmas
 pub mod HoldingLemmas
