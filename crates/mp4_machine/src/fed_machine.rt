@@ -53,6 +53,7 @@ fn lift_back(ledger: &mut Ledger, earlier: EarlierPeak)
 
 impl<M: Machine> FedMachine<M> {
     /// A machine to which no byte has come.
+    #[inline(always)]
     pub fn new(machine: M) -> FedMachine<M>
         requires { IsBegun (M.continuation machine) (M.counted machine) }
         ensures begun { result ≡ unfed machine }
@@ -69,6 +70,7 @@ impl<M: Machine> FedMachine<M> {
     }
 
     /// Its machine.
+    #[inline(always)]
     pub fn machine(&self) -> &M
         ensures { result.now ≡ self.now.machine }
     {
@@ -76,6 +78,7 @@ impl<M: Machine> FedMachine<M> {
     }
 
     /// How many bytes it has claimed: nothing after a stop.
+    #[inline(always)]
     pub fn held(&self) -> u64
         ensures held { result ≡ (M.continuation self.now.machine).claim }
         ensures most { result ≤ self.now.peak }
@@ -85,6 +88,7 @@ impl<M: Machine> FedMachine<M> {
     }
 
     /// Why it stopped, if it did.
+    #[inline(always)]
     pub fn stop(&self) -> Option<Stop>
         ensures { result ≡ self.now.stop }
     {
@@ -92,6 +96,7 @@ impl<M: Machine> FedMachine<M> {
     }
 
     /// The most bytes that it had claimed at once, whatever else its ledger serves.
+    #[inline(always)]
     pub fn peak(&self) -> u64
         ensures { result ≡ self.now.peak }
     {
@@ -99,6 +104,7 @@ impl<M: Machine> FedMachine<M> {
     }
 
     /// How many fragments are whole in its output.
+    #[inline(always)]
     pub fn fragments(&self) -> u64
         ensures { result ≡ self.now.fragments }
     {
@@ -114,6 +120,7 @@ impl<M: Machine> FedMachine<M> {
     /// with a prefix written; `OverLimit` and `Memory` where a claim was refused, with exactly the output of the bytes
     /// before that box written. Everything claimed is given back then, and each later call returns the same and writes
     /// nothing.
+    #[inline(always)]
     pub fn feed<W: Sink>(
         &mut self,
         ledger: &mut Ledger,
@@ -172,6 +179,7 @@ impl<M: Machine> FedMachine<M> {
     /// # Errors
     ///
     /// `Stream` where a stream that ends here is at fault; and after a stop the same stop.
+    #[inline(always)]
     pub fn ending(&self) -> Result<(), Stop>
         ensures finishes { (reads : List ℕ → Reading) (b : List ℕ) →
             IsAfter reads (shown M.continuation M.counted self.now) b → Finishes reads b result }
@@ -188,6 +196,7 @@ impl<M: Machine> FedMachine<M> {
     }
 
     /// Its machine, which has still claimed what it holds.
+    #[inline(always)]
     pub fn into_machine(self) -> M
         ensures { result ≡ self.machine }
     {

@@ -1,17 +1,15 @@
 -- What a Feeder is after the bytes of a stream that it was fed, and what a call of it does.
-use Rattle.std.specs.Prelude.{◌≡◌, ℕ, ◌+◌, ◌-◌, ◌*◌, ◌≤◌, List, ◌++◌, length, take, Option, None, Some, Result, Ok, Err, IfErr, OnOk, IsErrOf}
+use Rattle.std.specs.Prelude.{◌≡◌, ℕ, ◌+◌, ◌-◌, ◌*◌, ◌≤◌, List, ◌++◌, Option, None, Result, IfErr, OnOk, IsErrOf}
 use Rattle.mp4_box.specs.Headers.{IsBytes}
 use Rattle.mp4_fragment_machine.specs.Places.{claim_of}
 use Rattle.mp4_fragment_machine.specs.States.{Progress, continuation_in, place_in}
 use Rattle.mp4_grammar.specs.Contexts.{first_context}
 use Rattle.mp4_grammar.specs.HeldSizes.{HoldsWithin}
-use Rattle.mp4_machine.specs.Blocks.{IsSent, Pending}
-use Rattle.mp4_machine.specs.Fed.{AllWhole, Borrowed, Sums, sums_in, WritesRest, FedUntil}
-use Rattle.mp4_machine.specs.Inputs.{HasNoEffects, farthest}
-use Rattle.mp4_machine.specs.Inputs as inputs
-use Rattle.mp4_machine.specs.Readings.{decided_in, fault_in}
+use Rattle.mp4_machine.specs.Fed.{Borrowed, FedUntil, Sums, WritesRest}
+use Rattle.mp4_machine.specs.FedMachines.{Fed, Shown}
+use Rattle.mp4_machine.specs.FedMachines as machines
 use Rattle.mp4_machine.specs.declared.stop.Stop.{Stop}
-use Rattle.mp4_machine.specs.declared.stop.Stop.TheVariants.{Stream, Read, Write, OverLimit, Memory}
+use Rattle.mp4_machine.specs.declared.stop.Stop.TheVariants.{OverLimit}
 use Rattle.mp4_recut.specs.Operations.{operation_meaning, reads_of}
 use Rattle.mp4_recut.specs.declared.operation.Operation.{Operation}
 use Rattle.mp4_recut.specs.declared.operation.Operation.TheVariants as operations
@@ -47,9 +45,17 @@ begun operation machine = record { operation = operation; machine = machine; sto
 abbrev pub held_by : Feeding → ℕ
 held_by p = claim_of (place_in p.machine)
 
+-- a machine that is fed for an operation
+abbrev pub feeding : Operation → Fed Progress → Feeding
+feeding operation f = record { operation = operation; machine = f.machine; stop = f.stop; peak = f.peak; fragments = f.fragments }
+
+-- what that machine shows
+abbrev pub shown : Feeding → Shown
+shown p = record { continuation = continuation_in p.machine; counted = p.machine.counter.tally; stop = p.stop; peak = p.peak; fragments = p.fragments }
+
 -- its counts of the bytes so far, and the most that it had claimed at once
 abbrev pub sums_of : Feeding → Sums
-sums_of p = record { tally = p.machine.counter.tally; peak = p.peak }
+sums_of p = machines.sums_of (shown p)
 
 -- its totals
 abbrev pub totals_of : Feeding → Totals
@@ -61,28 +67,9 @@ totals_of p = record {
   peak = p.peak;
 }
 
--- after the bytes b of a stream, in whatever inputs they came. It hasn't stopped, since they decide no fault and don't
--- go past the longest stream. The output of the remaining bytes follows from where it is, it has counted and claimed
--- what b does, and so many fragments are whole in the output of b as it says
-pub record IsAfter (p : Feeding) (b : List ℕ) : Type 0 where
-  pub running : p.stop ≡ None
-  pub bytes : IsBytes b
-  pub undecided : decided_in (reads_of p.operation b).outcome ≡ None
-  pub near : length b ≤ farthest
-  pub machine : inputs.IsAfter (reads_of p.operation) b (continuation_in p.machine) p.machine.counter.tally
-  pub sums : sums_of p ≡ sums_in (reads_of p.operation b).effects
-  pub fragments : AllWhole (reads_of p.operation b).effects p.fragments
-
--- invariant of a Feeder: its machine has its operation, so many bytes are claimed, nothing is buffered between two calls,
--- and nothing is claimed after a stop
-pub record IsFeeder (p : Feeding) (claimed : ℕ) (waiting : Pending) : Type 0 where
-  pub operation : p.machine.operation ≡ p.operation
-  pub held : claimed ≡ held_by p
-  pub within : held_by p ≤ p.peak
-  pub quiet : p.stop ≡ None → HasNoEffects (continuation_in p.machine)
-  pub near : p.stop ≡ None → (continuation_in p.machine).reached ≤ farthest
-  pub sent : p.stop ≡ None → IsSent waiting
-  pub spent : (e : Stop) → p.stop ≡ Some e → held_by p ≡ 0
+-- after the bytes b of a stream, in whatever inputs they came: its machine is
+abbrev pub IsAfter : Feeding → List ℕ → Type 0
+IsAfter p b = machines.IsAfter (reads_of p.operation) (shown p) b
 
 -- ---- what a call does
 
@@ -94,11 +81,7 @@ pub record ClaimsWithin {T : Type 0} (operation : Operation) (b : List ℕ) (pea
 
 -- where a claim was refused, what was written of the stream is the output of the bytes before the box
 abbrev pub WritesBefore : (operation : Operation) → (b input : List ℕ) → (l : Borrowed) → (own : ℕ) → (s : Sums) → (e : Stop) → FedUntil (reads_of operation) b input l own s e → Type 0
-WritesBefore operation b input l own s OverLimit until = live operation (take until.0.request.at (b ++ input)) ≡ live operation b ++ until.0.effects.text
-WritesBefore operation b input l own s Memory until = live operation (take until.0.request.at (b ++ input)) ≡ live operation b ++ until.0.effects.text
-WritesBefore operation b input l own s (Stream f) until = Unit {0}
-WritesBefore operation b input l own s (Read at) until = Unit {0}
-WritesBefore operation b input l own s Write until = Unit {0}
+WritesBefore operation = machines.WritesBefore (reads_of operation)
 
 -- a Feeder after the bytes b is fed the input. It is Ok where no fault is decided, and then all output that these bytes
 -- add was written; else it stops
@@ -110,9 +93,4 @@ pub record Feeds {T : Type 0} (b input : List ℕ) (p p' : Feeding) (l : Borrowe
 
 -- the end of a stream of the bytes b
 abbrev pub Finishes : (p : Feeding) → (b : List ℕ) → Result Totals Stop → Type 0
-Finishes p b (Ok totals) = fault_in (reads_of p.operation b).outcome ≡ None
-Finishes p b (Err (Stream fault)) = fault_in (reads_of p.operation b).outcome ≡ Some fault
-Finishes p b (Err (Read at)) = ⊥
-Finishes p b (Err Write) = ⊥
-Finishes p b (Err OverLimit) = ⊥
-Finishes p b (Err Memory) = ⊥
+Finishes p b result = machines.Finishes (reads_of p.operation) b result

@@ -1,6 +1,6 @@
 //! A stream that is pushed in as inputs.
 
-ghost use Rattle.std.specs.Prelude.{◌≡◌, ℕ, List, ◌+◌, ◌-◌, ◌*◌, ◌≤◌, [], None, Some, Err, Ok, max};
+ghost use Rattle.std.specs.Prelude.{◌≡◌, ℕ, List, ◌+◌, ◌*◌, ◌≤◌, [], None, Some, Err, Ok};
 ghost use Rattle.std.specs.Prelude.{IfErr, IfOk, OnOk, OnErr, IsErrOf, true};
 ghost use Rattle.mp4_fragment_machine.specs.States.{begun, listed_by, reads_of};
 ghost use Rattle.mp4_ledger.specs.Memory.{given_back};
@@ -15,8 +15,8 @@ use crate::totals::Totals;
 use mp4_cut::Cut;
 use mp4_ends::Sink;
 use mp4_fragment_machine::FragmentMachine;
-use mp4_ledger::{EarlierPeak, Ledger};
-use mp4_machine::{Block, Machine, Stop, feed};
+use mp4_ledger::Ledger;
+use mp4_machine::{FedMachine, Stop};
 use mp4_recut::Operation;
 use std::marker::Model;
 
@@ -24,38 +24,20 @@ use std::marker::Model;
 /// of its samples, or nothing. It must be spent by [`Feeder::finish`] or [`Feeder::give_up`].
 pub struct Feeder {
     operation: Operation,
-    machine: FragmentMachine,
-    /// Buffer for the writer of a call.
-    block: Block,
-    /// Why it stopped, if it did.
-    stop: Option<Stop>,
-    /// How many bytes are claimed.
-    held: u64,
-    /// The most that were claimed at once.
-    peak: u64,
+    fed: FedMachine<FragmentMachine>,
 }
 
 // A contract sees its operation, where it is in the stream, why it stopped, the most that it had claimed, and how many
 // fragments are whole in its output.
 impl Model for Feeder {
-    ghost use Rattle.mp4_stream.specs.Feeders.{IsFeeder, Feeding};
+    ghost use Rattle.std.specs.Prelude.{◌≡◌};
+    ghost use Rattle.mp4_stream.specs.Feeders.{Feeding, feeding};
 
     ghost Value = { Feeding };
 
-    ghost view = { λ f. record
-        { operation = f.operation; machine = f.machine; stop = f.stop; peak = f.peak; fragments = f.block.whole } };
+    ghost view = { λ f. feeding f.operation f.fed };
 
-    ghost invariant = { λ f. IsFeeder (record
-        { operation = f.operation; machine = f.machine; stop = f.stop; peak = f.peak; fragments = f.block.whole })
-        f.held f.block };
-}
-
-/// Raises the peak of a ledger to what it was before the mark.
-fn lift_back(ledger: &mut Ledger, earlier: EarlierPeak)
-    requires { earlier ≤ ledger.old.limit }
-    ensures { ledger.new ≡ record ledger.old { peak = max ledger.old.peak earlier } }
-{
-    ledger.lift(earlier);
+    ghost invariant = { λ f. f.fed.machine.operation ≡ f.operation };
 }
 
 impl Feeder {
@@ -76,11 +58,7 @@ impl Feeder {
     {
         Feeder {
             operation,
-            machine: FragmentMachine::new(operation),
-            block: Block::new(),
-            stop: None,
-            held: 0,
-            peak: 0,
+            fed: FedMachine::new(FragmentMachine::new(operation)),
         }
     }
 
@@ -90,14 +68,14 @@ impl Feeder {
         ensures most { result ≤ self.now.peak }
         ensures spent { (e : Stop) → self.now.stop ≡ Some e → result ≡ 0 }
     {
-        self.held
+        self.fed.held()
     }
 
     /// Why it stopped, if it did.
     pub fn stop(&self) -> Option<Stop>
         ensures { result ≡ self.now.stop }
     {
-        self.stop
+        self.fed.stop()
     }
 
     /// What it has counted so far, and the most bytes that it had claimed at once, whatever else its ledger serves.
@@ -109,21 +87,22 @@ impl Feeder {
         ensures few { result.rows_read ≤
             reads_of self.now.operation * self.now.machine.counter.tally.inspected }
     {
-        let tally = self.machine.tally();
+        let machine = self.fed.machine();
+        let tally = machine.tally();
         let fragments = match self.operation {
             Operation::List(_) => tally.fragments,
-            Operation::Split(_) => self.block.whole(),
+            Operation::Split(_) => self.fed.fragments(),
         };
         Totals {
             fragments,
             samples: tally.samples,
             media_bytes: tally.media_bytes,
-            rows_read: self.machine.rows_read(),
-            peak: self.peak,
+            rows_read: machine.rows_read(),
+            peak: self.fed.peak(),
         }
     }
 
-    /// Takes the next input of the stream, and writes all output that the bytes so far determine. A
+    /// Takes the next input of the stream, and writes all output that the bytes so far determine. An
     /// input without bytes changes nothing.
     ///
     /// # Errors
@@ -156,51 +135,7 @@ impl Feeder {
         ensures limit { ledger.new.limit ≡ ledger.old.limit }
         ensures claim { held_by self.new ≤ ledger.new.live }
     {
-        if let Some(stop) = self.stop {
-            return Err(stop);
-        }
-        if input.is_empty() {
-            return Ok(());
-        }
-        self.advance(ledger, input, w)
-    }
-
-    /// Feeds its machine the next input, and counts the most that it claimed at once.
-    ///
-    /// # Errors
-    ///
-    /// As [`Feeder::feed`].
-    fn advance<W: Sink>(&mut self, ledger: &mut Ledger, input: &[u8], w: &mut W) -> Result<(), Stop>
-        requires runs { self.old.stop ≡ None }
-        requires claim { held_by self.old ≤ ledger.old.live }
-        ensures feeds { (b : List ℕ) → IsAfter self.old b → Feeds b input.now self.old self.new
-            (borrowed (sent W.contents W.has_failed w.old w.new) self.old.fragments
-            self.new.fragments ledger.old ledger.new) result }
-        ensures operation { self.new.operation ≡ self.old.operation }
-        ensures runs { OnOk result (self.new.stop ≡ None) }
-        ensures stops { IfErr result (λ e. self.new.stop ≡ Some e) }
-        ensures spent { OnErr result (held_by self.new ≡ 0) }
-        ensures failed { IsErrOf result Stop.Write → W.has_failed w.new ≡ true }
-        ensures kept { (IsErrOf result Stop.Write → ⊥) → W.has_failed w.new ≡ W.has_failed w.old }
-        ensures live { ledger.new.live + held_by self.old ≡ ledger.old.live + held_by self.new }
-        ensures limit { ledger.new.limit ≡ ledger.old.limit }
-        ensures claim { held_by self.new ≤ ledger.new.live }
-    {
-        let others = ledger.live() - self.held;
-        let earlier = ledger.mark();
-        let answer = feed(&mut self.machine, ledger, input, &mut self.block, w);
-        self.held = ledger.live() - others;
-        let most = ledger.peak();
-        let own = most - others;
-        self.peak = self.peak.max(own);
-        lift_back(ledger, earlier);
-        match answer {
-            Ok(()) => Ok(()),
-            Err(stop) => {
-                self.stop = Some(stop);
-                Err(stop)
-            }
-        }
+        self.fed.feed(ledger, input, w)
     }
 
     /// The stream ended: returns what was counted of it. Everything that it has claimed is given back.
@@ -238,12 +173,9 @@ impl Feeder {
             reads_of self.now.operation * self.now.machine.counter.tally.inspected) }
         ensures stopped { (e : Stop) → self.now.stop ≡ Some e → result ≡ Err e }
     {
-        if let Some(stop) = self.stop {
-            return Err(stop);
-        }
-        match self.machine.finish() {
+        match self.fed.ending() {
             Ok(()) => Ok(self.totals()),
-            Err(fault) => Err(Stop::Stream(fault)),
+            Err(stop) => Err(stop),
         }
     }
 
@@ -252,14 +184,7 @@ impl Feeder {
         requires { held_by self ≤ ledger.old.live }
         ensures { ledger.new ≡ given_back ledger.old (held_by self) }
     {
-        let Feeder {
-            operation: _,
-            machine,
-            block: _,
-            stop: _,
-            held: _,
-            peak: _,
-        } = self;
-        machine.give_up(ledger);
+        let Feeder { operation: _, fed } = self;
+        fed.into_machine().give_up(ledger);
     }
 }
