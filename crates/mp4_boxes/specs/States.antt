@@ -74,6 +74,10 @@ pub record Progress : Type 0 where
 abbrev pub begun : Progress
 begun = record { header_bytes = []; state = states.Header 0 }
 
+-- where it is in the stream
+abbrev pub continuation_in : Progress → Continuation
+continuation_in p = continuation_at p.header_bytes p.state
+
 -- environment of a machine that lists boxes, which counts nothing
 abbrev pub environment : Option (List ℕ) → Pending → Account → Environment
 environment written waiting account = inputs.environment written waiting account uncounted

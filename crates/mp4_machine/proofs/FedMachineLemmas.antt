@@ -1,6 +1,5 @@
 -- What a machine is after the bytes of a stream that it was fed, and what the next input does.
 use Rattle.std.proofs.Common.{◌≡◌, ◌∙◌, ℕ, ◌+◌, ◌-◌, ◌≤◌, ◌<◌, List, [], ◌∷◌, ◌++◌, length, take, max, Option, None, Some, Result, Ok, Err, ap, sym, refl, arith, append-nil, subst}
-use Rattle.std.specs.Prelude.{IsErrOf}
 use Rattle.std.proofs.KnownBytes.{Appends-nil}
 use Rattle.mp4_box.specs.Headers.{IsBytes}
 use Rattle.mp4_ledger.specs.Memory.{Account}
@@ -10,7 +9,7 @@ use Rattle.mp4_machine.specs.Fed.{AllWhole, Borrowed, ClaimRefusedAfter, FedUnti
 use Rattle.mp4_machine.specs.FedMachines.{ClaimsByRequests, Feeds, FeedsInput, IsAfter, IsFed, IsOrdered, Shown, WritesBefore, sums_of}
 use Rattle.mp4_machine.specs.Inputs.{Continuation, GoesOn, HasNoEffects, IsBegun, StopsAt, TakesAll, change, environment, farthest}
 use Rattle.mp4_machine.specs.Inputs as inputs
-use Rattle.mp4_machine.specs.Readings.{Reading, both, decided_in, greatest, most_of, no_effects, uncounted, whole_in}
+use Rattle.mp4_machine.specs.Readings.{Reading, both, decided_in, greatest, most_of, no_effects, whole_in}
 use Rattle.mp4_machine.specs.declared.stop.Stop.{Stop}
 use Rattle.mp4_machine.specs.declared.stop.Stop.TheVariants.{Stream, Read, Write, OverLimit, Memory}
 use Rattle.mp4_machine.specs.declared.tally.Tally.{Tally}

@@ -1,4 +1,5 @@
 pub mod FragmentLemmas
 pub mod CheckLemmas
 pub mod FeederLemmas
+pub mod BoxFeederLemmas
 pub mod PushLemmas

@@ -1,5 +1,5 @@
 -- What a Feeder is after the bytes of a stream that it was fed, and what a call of it does.
-use Rattle.std.specs.Prelude.{◌≡◌, ℕ, ◌+◌, ◌-◌, ◌*◌, ◌≤◌, List, ◌++◌, Option, None, Result, IfErr, OnOk, IsErrOf}
+use Rattle.std.specs.Prelude.{ℕ, ◌+◌, ◌-◌, ◌*◌, ◌≤◌, List, ◌++◌, Option, None, Result, IfErr, OnOk, IsErrOf}
 use Rattle.mp4_box.specs.Headers.{IsBytes}
 use Rattle.mp4_fragment_machine.specs.Places.{claim_of}
 use Rattle.mp4_fragment_machine.specs.States.{Progress, continuation_in, place_in}

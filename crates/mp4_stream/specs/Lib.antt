@@ -1,3 +1,4 @@
 pub mod Feeders
+pub mod BoxFeeders
 pub mod Fragments
 pub mod Pushes
