@@ -2,7 +2,7 @@
 //! the stream is read by `split`, 65,536 bytes at a time.
 
 ghost use Rattle.std.specs.Prelude.{◌<◌, ◌≤◌, false};
-ghost use Rattle.mp4_push.specs.Feeders.{held_by};
+ghost use Rattle.mp4_stream.specs.Feeders.{held_by};
 
 use crate::input::Input;
 use mp4_ends::{Failed, Sink};

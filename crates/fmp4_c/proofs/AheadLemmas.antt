@@ -7,7 +7,7 @@ use Rattle.mp4_ledger.specs.Memory.{Account}
 use Rattle.mp4_machine.specs.Fed.{Borrowed}
 use Rattle.mp4_machine.specs.declared.stop.Stop.{Stop}
 use Rattle.mp4_machine.specs.declared.stop.Stop.TheVariants.{Write}
-use Rattle.mp4_push.specs.Feeders.{Feeding, Feeds, held_by, sums_of}
+use Rattle.mp4_stream.specs.Feeders.{Feeding, Feeds, held_by, sums_of}
 use Rattle.mp4_recut.specs.declared.operation.Operation.{Operation}
 use Rattle.fmp4_c.specs.Answers.{answer_to, number_of}
 use Rattle.fmp4_c.specs.Engines.{Holds, IsPortion, Run, Stopped, after_take}

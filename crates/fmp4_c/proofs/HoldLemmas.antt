@@ -11,14 +11,15 @@ use Rattle.mp4_machine.specs.Readings.{Effects, Reading, both, whole_in, fault_i
 use Rattle.mp4_machine.specs.declared.stop.Stop.{Stop}
 use Rattle.mp4_machine.specs.declared.stop.Stop.TheVariants.{Stream, Read, Write, OverLimit, Memory}
 use Rattle.mp4_machine.proofs.MarkLemmas.{whole_in-before, whole_in-both}
-use Rattle.mp4_push.specs.Feeders.{Feeds, Finishes, IsAfter, Feeding, WritesBefore, held_by, live, sums_of, totals_of}
-use Rattle.mp4_push.proofs.FeederLemmas.{reading-none}
+use Rattle.mp4_stream.specs.Feeders.{Feeds, Finishes, IsAfter, Feeding, WritesBefore, held_by, live, sums_of, totals_of}
+use Rattle.mp4_stream.proofs.FeederLemmas.{reading-none}
 use Rattle.mp4_recut.specs.Operations.{reads_of}
 use Rattle.mp4_recut.specs.declared.operation.Operation.{Operation}
+use Rattle.mp4_stream.specs.declared.totals.Totals.{Totals}
 use Rattle.fmp4_c.specs.Answers.{Counted, answer_to, counted_of, fault_of, number_of, report_from}
 use Rattle.fmp4_c.specs.Engines.{Fed, Finished, Holds, IsRefused, Run, Stopped, StopsIn, counted_in, report_of}
 use Rattle.fmp4_c.specs.declared.answer.Answer.{Answer}
-use Rattle.fmp4_c.specs.declared.answer.Answer.TheVariants.{NoRoom}
+use Rattle.fmp4_c.specs.declared.answer.Answer.TheVariants.{Done, NoRoom}
 use Rattle.fmp4_c.specs.declared.report.Report.{Report}
 
 some-is : {A : Type 0} (x y : A) → ◌≡◌ {A = Option A} (Some x) (Some y) → x ≡ y
@@ -265,12 +266,25 @@ report-holds operation b given r h =
     ∙ ap (λ (t : Counted). report_from t None) (totals-are h.feeding b h.is_after)
     ∙ ap (λ (k : Operation). report_from (counted_in k b) None) h.is_operation
 
--- ---- what the end reports where the stream has a fault
+-- ---- what the end reports
 
+counted-its : (operation : Operation) (b given : List ℕ) (r : Run) (p : Feeding) → r.feeding ≡ Some p → Holds operation b given r → counted_of (totals_of p) ≡ counted_in operation b
+counted-its operation b given r p is h = totals-are p b (after-its operation b given r p is h) ∙ ap (λ (k : Operation). counted_in k b) (operation-its operation b given r p is h)
+
+-- where the stream has no fault
+pub finished-ok : (operation : Operation) (b given : List ℕ) (r : Run) (p : Feeding) (t : Totals) (is : r.feeding ≡ Some p) (h : Holds operation b given r) → Finishes p b (Ok t) → (report : Report) → report ≡ report_from (counted_of (totals_of p)) None → Finished operation b Done report
+finished-ok operation b given r p t is h ends report reported =
+    let here : faults_in (reads_of operation b).outcome ≡ None = subst (λ (k : Operation). faults_in (reads_of k b).outcome ≡ None) (operation-its operation b given r p is h) ends in
+    record {
+      sound = λ none. (refl, reported ∙ ap (λ (t : Counted). report_from t None) (counted-its operation b given r p is h));
+      faulty = λ fault at. absurd (none-some fault (sym here ∙ at));
+    }
+
+-- and where it has one
 pub finished-err : (operation : Operation) (b given : List ℕ) (r : Run) (p : Feeding) (e : Stop) (is : r.feeding ≡ Some p) (h : Holds operation b given r) → Finishes p b (Err e) → (report : Report) → report ≡ report_from (counted_of (totals_of p)) (fault_of (Some e)) → Finished operation b (answer_to e) report
 finished-err operation b given r p (Stream f) is h ends report reported =
     let here : faults_in (reads_of operation b).outcome ≡ Some f = subst (λ (k : Operation). faults_in (reads_of k b).outcome ≡ Some f) (operation-its operation b given r p is h) ends in
-    let counted : counted_of (totals_of p) ≡ counted_in operation b = totals-are p b (after-its operation b given r p is h) ∙ ap (λ (k : Operation). counted_in k b) (operation-its operation b given r p is h) in
+    let counted = counted-its operation b given r p is h in
     record {
       sound = λ none. absurd (none-some f (sym none ∙ here));
       faulty = λ fault at. (refl, reported ∙ ap (λ (t : Counted). report_from t (Some f)) counted ∙ ap (λ (x : faults.Fault). report_from (counted_in operation b) (Some x)) (some-is f fault (sym here ∙ at)));

@@ -2,7 +2,7 @@
 -- A field that is a struct or an enum has the row of its shape.
 use denote.Enum.Declared as variants
 use denote.Enum.Enum.{Enum}
-use denote.Param.Send.{AllSend, EachSend, IsSend, enum_send, sendable, struct_send}
+use denote.Param.Send.{AllSend, EachSend, IsSend, enum_send, recorded_send, sendable, struct_send, view_send}
 use denote.Struct.Struct.{Struct}
 use denote.Struct.Declared.{fields, shape}
 use Rattle.std.proofs.Crossing.{crosses}
@@ -14,7 +14,8 @@ use Rattle.mp4_fragment_machine.specs.contracts.state.Carried as carried
 use Rattle.mp4_fragment_machine.specs.contracts.state.State as state
 use Rattle.mp4_recut.specs.contracts.operation.Operation as operation
 use Rattle.mp4_machine.specs.contracts.stop.Stop as stop
-use Rattle.mp4_push.specs.contracts.feeder.Feeder as feeder
+use Rattle.mp4_stream.specs.contracts.feeder.Feeder as feeder
+use Rattle.mp4_stream.specs.contracts.feeder.Feeder.TheInside as feeder_inside
 use Rattle.fmp4_c.specs.contracts.output.Output as output
 use Rattle.fmp4_c.specs.contracts.report.Report as report
 use Rattle.fmp4_c.specs.contracts.engine.Engine as engine
@@ -57,8 +58,15 @@ operation_send = search (sendable, crosses) depth 40 fits 50000
 stop_send : IsSend (Enum (variants.shape stop.the_type))
 stop_send = search (sendable, crosses) depth 40 fits 50000
 
+-- by its operation, and the machine that it feeds
+feeder_fields : AllSend (fields feeder_inside.the_type)
+feeder_fields = (operation_send, (search (sendable, machine_send, block_send, stop_send) depth 40 fits 50000, tt))
+
+feeder_inside_send : IsSend feeder_inside.the_row
+feeder_inside_send = recorded_send feeder_inside.the_field.row _ _ feeder_inside.the_type.to_one (struct_send (shape feeder_inside.the_type) feeder_fields)
+
 feeder_send : IsSend feeder.the_row
-feeder_send = search (sendable, operation_send, stop_send, machine_send, block_send) depth 40 fits 50000
+feeder_send = view_send feeder_inside.the_row _ _ _ _ feeder_inside_send
 
 pub engine_send : IsSend engine.the_row
 engine_send = search (sendable, ledger_send, feeder_send, output_send, report_send, operation_send) depth 40 fits 50000

@@ -8,7 +8,7 @@ use Rattle.mp4_machine.specs.Fed.{sums_in}
 use Rattle.mp4_machine.specs.Readings.{AtMost, Request, decided_in, fault_in, greatest, most_of, whole_in}
 use Rattle.mp4_machine.specs.declared.stop.Stop.{Stop}
 use Rattle.mp4_machine.specs.declared.stop.Stop.TheVariants as stops
-use Rattle.mp4_push.specs.Feeders.{IsAfter, Feeding, fragments_of, held_by, live, sums_of, totals_of}
+use Rattle.mp4_stream.specs.Feeders.{IsAfter, Feeding, fragments_of, held_by, live, sums_of, totals_of}
 use Rattle.mp4_recut.specs.Operations.{operation_meaning, reads_of}
 use Rattle.mp4_recut.specs.declared.operation.Operation.{Operation}
 use Rattle.fmp4_c.specs.Answers.{Counted, answer_to, counted_of, fault_of, number_of, report_from}

@@ -3,12 +3,12 @@
 ghost use Rattle.std.specs.Prelude.{◌≡◌, ℕ, ◌+◌, ◌<◌, ◌≤◌, List, [], ◌∷◌, ◌++◌, length, take, Some, None, true, false, IsTrue, IfErr, OnErr, OnOk, IsErrOf};
 ghost use Rattle.mp4_machine.specs.Fed.{borrowed};
 ghost use Rattle.mp4_machine.specs.declared.stop.Stop as stops;
-ghost use Rattle.mp4_push.specs.Feeders.{Feeds, IsAfter, held_by};
+ghost use Rattle.mp4_stream.specs.Feeders.{Feeds, IsAfter, held_by};
 ghost use Rattle.fmp4_c.specs.PendingOutput.{ahead, ahead_sent, empty, is_full};
 
 use crate::output::Output;
 use mp4_ends::{Failed, Sink};
-use mp4_push::{Feeder, Ledger, Stop};
+use mp4_stream::{Feeder, Ledger, Stop};
 
 /// A buffer that is filled up to a place, and the room for what doesn't fit it.
 #[derive(Drop)]

@@ -3,7 +3,7 @@
 ghost use Rattle.std.specs.Prelude.{◌≡◌, ◌<◌, ◌≤◌, IfSome, IsSome, None};
 ghost use Rattle.fmp4_c.specs.Answers.{answer_to, at_rest, name_of, number_of};
 
-use mp4_push::Stop;
+use mp4_stream::Stop;
 
 /// The result of a call.
 #[derive(Clone, Copy, Debug, PartialEq, Eq)]

@@ -5,7 +5,7 @@ ghost use Rattle.fmp4_c.specs.Calls.{IsCutBy, IsInRange, IsListedBy, IsListing, 
 
 use crate::answer::Answer;
 use mp4_pieces::MOST_IN_PIECE;
-use mp4_push::{Command, Cut, Operation};
+use mp4_stream::{Command, Cut, Operation};
 
 /// The sizes of the structs in the header: 32 bytes for a stream, and 80 for a report.
 const LAYOUT: u32 = 0x0020_0050;

@@ -2,7 +2,7 @@
 
 ghost use Rattle.std.specs.Prelude.{◌≡◌, ℕ, ◌+◌, ◌-◌, ◌*◌, ◌^◌, ◌<◌, ◌≤◌, ◌↔◌, List, [], ◌++◌, length, take, drop, min};
 ghost use Rattle.std.specs.Prelude.{None, Some, true, false, IfOk, IsErrOf, IsTrue};
-ghost use Rattle.mp4_push.specs.Feeders.{Feeding};
+ghost use Rattle.mp4_stream.specs.Feeders.{Feeding};
 ghost use Rattle.mp4_grammar.specs.TrafRecords.{IsRecord, record_bytes, record_len, record_of};
 ghost use Rattle.mp4_grammar.specs.declared.command.Command.TheVariants.{Records};
 ghost use Rattle.mp4_recut.specs.declared.operation.Operation as operations;
@@ -21,7 +21,7 @@ use crate::output::Output;
 use crate::report::{Report, fault_in};
 use mp4_grammar::{RECORD_BYTES, TrafRecord};
 use mp4_ledger::Refused;
-use mp4_push::{Command, Feeder, Ledger, Operation};
+use mp4_stream::{Command, Feeder, Ledger, Operation};
 use std::alloc::Global;
 use std::marker::Model;
 use std::mem::replace;

@@ -1,7 +1,7 @@
 //! What C calls of a stream that is open.
 
 ghost use Rattle.std.specs.Prelude.{◌≡◌, ℕ, ◌<◌, ◌≤◌, List, [], ◌++◌, length, take, drop, min, None, Some, IfSome, IsSome};
-ghost use Rattle.mp4_push.specs.Feeders.{Feeding};
+ghost use Rattle.mp4_stream.specs.Feeders.{Feeding};
 ghost use Rattle.mp4_recut.specs.declared.operation.Operation as operations;
 ghost use Rattle.mp4_machine.specs.declared.stop.Stop as stops;
 ghost use Rattle.fmp4_c.specs.Answers.{answer_to, at_rest, number_of, report_from};

@@ -9,7 +9,7 @@ ghost use Rattle.fmp4_c.specs.Calls.{zero_ended};
 ghost use Rattle.fmp4_c.specs.declared.answer.Answer as answers;
 
 use crate::answer::Answer;
-use mp4_push::Rule;
+use mp4_stream::Rule;
 
 /// Writes the name of a rule with a zero after it, cut where it doesn't fit: how many bytes the whole name has. Where
 /// no rule has this number, it has none.

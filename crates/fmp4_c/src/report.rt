@@ -3,7 +3,7 @@
 ghost use Rattle.std.specs.Prelude.{◌≡◌, ◌-◌, ◌^◌, min};
 ghost use Rattle.fmp4_c.specs.Answers.{counted_of, fault_of, kind_number, report_from};
 
-use mp4_push::{Fault, FourCc, Stop, Totals};
+use mp4_stream::{Fault, FourCc, Stop, Totals};
 
 /// What was counted of a stream, and which rule it breaks.
 #[repr(C)]

@@ -1,7 +1,7 @@
 //! What C sets of a stream that is open: its limit, and that another stream begins.
 
 ghost use Rattle.std.specs.Prelude.{◌≡◌, ◌+◌, ◌-◌, ◌^◌, min, None, Some, IfSome};
-ghost use Rattle.mp4_push.specs.Feeders.{Feeding};
+ghost use Rattle.mp4_stream.specs.Feeders.{Feeding};
 ghost use Rattle.mp4_machine.specs.declared.stop.Stop as stops;
 ghost use Rattle.fmp4_c.specs.Answers.{at_rest, number_of};
 ghost use Rattle.fmp4_c.specs.Engines.{IsReset, Run, limited_to};

@@ -11,8 +11,8 @@ use Rattle.mp4_machine.specs.declared.stop.Stop.TheVariants.{Write}
 use Rattle.mp4_machine.specs.declared.tally.Tally.{Tally}
 use Rattle.mp4_recut.specs.declared.operation.Operation.{Operation}
 use Rattle.mp4_stream.specs.Fragments.{ReadsFragments}
-use Rattle.mp4_stream.specs.HeldBoxes.{ReadsBoxes}
-use Rattle.mp4_push.specs.declared.totals.Totals.{Totals}
+use Rattle.mp4_boxes.specs.HeldBoxes.{ReadsBoxes}
+use Rattle.mp4_stream.specs.declared.totals.Totals.{Totals}
 use Rattle.fmp4_program.specs.Runs.{Flushes}
 
 -- what was written stays written

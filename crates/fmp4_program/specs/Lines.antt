@@ -5,7 +5,7 @@ use Rattle.mp4_box.specs.Rules.{number_of, name_of}
 use Rattle.mp4_box.specs.Shown.{shown_byte}
 use Rattle.mp4_box.specs.declared.headers.FourCc.{FourCc}
 use Rattle.mp4_box.specs.declared.rules.Fault.{Fault}
-use Rattle.mp4_push.specs.declared.totals.Totals.{Totals}
+use Rattle.mp4_stream.specs.declared.totals.Totals.{Totals}
 use Rattle.mp4_machine.specs.declared.stop.Stop.{Stop}
 use Rattle.mp4_machine.specs.declared.stop.Stop.TheVariants.{Stream, Read, Write, OverLimit, Memory}
 

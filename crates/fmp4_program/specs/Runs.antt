@@ -8,8 +8,8 @@ use Rattle.mp4_machine.specs.declared.stop.Stop.{Stop}
 use Rattle.mp4_machine.specs.declared.stop.Stop.TheVariants.{Stream, Read, Write, OverLimit, Memory}
 use Rattle.mp4_grammar.specs.declared.command.Command.TheVariants as commands
 use Rattle.mp4_stream.specs.Fragments.{ReadsFragments}
-use Rattle.mp4_stream.specs.HeldBoxes.{ReadsBoxes}
-use Rattle.mp4_push.specs.declared.totals.Totals.{Totals}
+use Rattle.mp4_boxes.specs.HeldBoxes.{ReadsBoxes}
+use Rattle.mp4_stream.specs.declared.totals.Totals.{Totals}
 use Rattle.mp4_pieces.specs.declared.cut.Cut.{Cut}
 use Rattle.mp4_recut.specs.declared.operation.Operation.TheVariants as operations
 use Rattle.fmp4_program.specs.declared.asked.SplitOptions.{SplitOptions}

@@ -6,7 +6,7 @@ ghost use Rattle.mp4_grammar.specs.declared.command.Command.TheVariants as comma
 ghost use Rattle.mp4_ends.specs.Streams.{AppendsPrefix};
 ghost use Rattle.std.specs.Io.KnownBytes.{Appends, Keeps};
 ghost use Rattle.mp4_stream.specs.Fragments.{ReadsFragments, unsent};
-ghost use Rattle.mp4_stream.specs.HeldBoxes.{ReadsBoxes};
+ghost use Rattle.mp4_boxes.specs.HeldBoxes.{ReadsBoxes};
 ghost use Rattle.mp4_recut.specs.declared.operation.Operation.TheVariants as operations;
 ghost use Rattle.fmp4_program.specs.Words.{MayCut, command_of};
 ghost use Rattle.fmp4_program.specs.Runs.{IsCutBy, Ran, ReportsStop, RunsAndFlushes, SplitsBy, Writes, WritesLine, status_of};

@@ -15,6 +15,8 @@ pub mod ContinuationLemmas
 pub mod RunLemmas
 pub mod FedLemmas
 pub mod FedRunLemmas
+pub mod FedMachineLemmas
+pub mod ClaimLemmas
 pub mod HeadLemmas
 pub mod BodyGrowthLemmas
 pub mod HoldingLemmas

@@ -10,5 +10,6 @@ pub mod Steps
 pub mod Continuations
 pub mod StreamRuns
 pub mod Fed
+pub mod FedMachines
 pub mod Buffering
 pub mod HeaderBytes

@@ -9,12 +9,14 @@
 //!   the bodies after headers ([`Body`]);
 //! - [`machine`]: [`Machine`], which takes the bytes of a stream as they come, and [`feed`], which feeds it the next
 //!   input;
-//! - [`run`]: [`read_stream`], which feeds it a whole stream.
+//! - [`fed_machine`]: [`FedMachine`], which keeps one between two inputs, and [`run`]: [`read_stream`], which feeds one a
+//!   whole stream.
 //!
 //! The definitions: `specs/Readings.antt` (how some bytes are read, item by item), `specs/Bodies.antt` (a body with
 //! effects as it comes), `specs/Buffering.antt` (a box that is buffered until it is whole), `specs/Inputs.antt` (a
 //! machine that is fed the stream in inputs), with `specs/Accounts.antt` (how it changes a ledger) and
 //! `specs/Blocks.antt` (text that goes through a block) and `specs/Fed.antt` (the same for the bytes so far),
+//! `specs/FedMachines.antt` (what is kept between two inputs, and what a call does that feeds the next),
 //! `specs/StreamRuns.antt` (a run over a whole stream) with `specs/Ends.antt` (its source and sink), and
 //! `specs/Puts.antt` (calls that put text into a block). Within a machine `specs/Steps.antt` describes one step, and
 //! `specs/Continuations.antt` what all machines have in common. They name no command: a command says what is at the
@@ -24,6 +26,7 @@
 pub mod block;
 pub mod body;
 pub mod buffered_box;
+pub mod fed_machine;
 pub mod fragment_end;
 pub mod header_bytes;
 pub mod limits;
@@ -35,6 +38,7 @@ pub mod tally;
 pub use block::{BLOCK_BYTES, Block, GROUP_BYTES, LINE_BYTES, Line};
 pub use body::{AnyBody, Body, Extent, body_of, truncated};
 pub use buffered_box::BufferedBox;
+pub use fed_machine::FedMachine;
 pub use fragment_end::FragmentEnd;
 pub use header_bytes::{HeaderBytes, HeaderStatus, next_header};
 pub use limits::{LONGEST, at_fault, is_too_long};

@@ -17,7 +17,7 @@ use Rattle.mp4_recut.specs.declared.operation.Operation.{Operation}
 use Rattle.mp4_recut.specs.declared.operation.Operation.TheVariants as operations
 use Rattle.mp4_recut.proofs.SplitLemmas.{splitting-quiet}
 use Rattle.mp4_stream.specs.Fragments.{ClaimsByBoxes}
-use Rattle.mp4_stream.proofs.ClaimLemmas.{asked_bound, asked_enough}
+use Rattle.mp4_machine.proofs.ClaimLemmas.{asked_bound, asked_enough}
 
 -- nothing is requested but by the items
 operation-quiet : (operation : Operation) → HasNoEffects (operation_meaning operation)

@@ -1,15 +1,5 @@
-pub mod BoxLemmas
-pub mod BoxGrowthLemmas
-pub mod BoxAskLemmas
-pub mod StateLemmas
-pub mod HoldingLemmas
-pub mod ListingLemmas
-pub mod JoinLemmas
-pub mod RestLemmas
-pub mod ClaimLemmas
-pub mod HeldBoxLemmas
 pub mod FragmentLemmas
 pub mod CheckLemmas
+pub mod FeederLemmas
+pub mod BoxFeederLemmas
 pub mod PushLemmas
-pub mod EmptyLemmas
-pub mod PastLemmas

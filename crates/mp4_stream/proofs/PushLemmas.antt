@@ -29,9 +29,9 @@ use Rattle.mp4_recut.specs.Operations as readings
 use Rattle.mp4_recut.specs.declared.operation.Operation.{Operation}
 use Rattle.mp4_recut.specs.declared.operation.Operation.TheVariants as operations
 use Rattle.mp4_recut.proofs.SplitLemmas.{splitting-growing}
-use Rattle.mp4_push.specs.Feeders.{ClaimsWithin, Feeding, Feeds, Finishes, IsAfter, fragments_of, held_by, live, sums_of, totals_of}
+use Rattle.mp4_stream.specs.Feeders.{ClaimsWithin, Feeding, Feeds, Finishes, IsAfter, fragments_of, held_by, live, sums_of, totals_of}
 use Rattle.mp4_stream.specs.Pushes.{HasNoRoom, Pushes, StopsIn}
-use Rattle.mp4_push.specs.declared.totals.Totals.{Totals}
+use Rattle.mp4_stream.specs.declared.totals.Totals.{Totals}
 
 -- ---- more bytes
 

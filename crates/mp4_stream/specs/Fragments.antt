@@ -9,8 +9,8 @@ use Rattle.mp4_machine.specs.Ends.{Ends, Sent}
 use Rattle.mp4_machine.specs.StreamRuns.{Claims, ReadsStream}
 use Rattle.mp4_machine.specs.declared.stop.Stop.{Stop}
 use Rattle.mp4_machine.specs.declared.stop.Stop.TheVariants.{OverLimit}
-use Rattle.mp4_push.specs.Feeders.{fragments_of}
-use Rattle.mp4_push.specs.declared.totals.Totals.{Totals}
+use Rattle.mp4_stream.specs.Feeders.{fragments_of}
+use Rattle.mp4_stream.specs.declared.totals.Totals.{Totals}
 use Rattle.mp4_recut.specs.Operations as readings
 use Rattle.mp4_recut.specs.declared.operation.Operation.{Operation}
 

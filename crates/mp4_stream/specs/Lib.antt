@@ -1,10 +1,4 @@
-pub mod Listing
-pub mod Buffering
-pub mod Boxes
-pub mod Joined
-pub mod Rests
-pub mod HeldBoxes
-pub mod States
-pub mod Steps
+pub mod Feeders
+pub mod BoxFeeders
 pub mod Fragments
 pub mod Pushes

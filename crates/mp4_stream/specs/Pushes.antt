@@ -11,8 +11,8 @@ use Rattle.mp4_machine.specs.Fed.{AllWhole}
 use Rattle.mp4_machine.specs.Readings.{Effects, fault_in, most_of}
 use Rattle.mp4_machine.specs.declared.stop.Stop.{Stop}
 use Rattle.mp4_machine.specs.declared.stop.Stop.TheVariants.{Stream, Read, Write, OverLimit, Memory}
-use Rattle.mp4_push.specs.Feeders.{fragments_of, live}
-use Rattle.mp4_push.specs.declared.totals.Totals.{Totals}
+use Rattle.mp4_stream.specs.Feeders.{fragments_of, live}
+use Rattle.mp4_stream.specs.declared.totals.Totals.{Totals}
 use Rattle.mp4_recut.specs.Operations as readings
 use Rattle.mp4_recut.specs.declared.operation.Operation.{Operation}
 

@@ -3,18 +3,18 @@
 ghost use Rattle.std.specs.Prelude.{◌≡◌, ◌≤◌};
 ghost use Rattle.mp4_grammar.specs.declared.command.Command.TheVariants.{Check, Fragments, Samples};
 ghost use Rattle.mp4_machine.specs.Ends.{between, received, sent};
-ghost use Rattle.mp4_push.specs.Feeders as feeders;
+ghost use Rattle.mp4_stream.specs.Feeders as feeders;
 ghost use Rattle.mp4_recut.specs.declared.operation.Operation.TheVariants as operations;
 ghost use Rattle.mp4_stream.specs.Fragments.{RunsOperation, unsent};
 
 use crate::null_sink::NullSink;
+use crate::totals::Totals;
 use mp4_cut::Cut;
 use mp4_ends::{Sink, Source};
 use mp4_fragment_machine::FragmentMachine;
 use mp4_grammar::Command;
 use mp4_ledger::Ledger;
 use mp4_machine::{Stop, read_stream};
-use mp4_push::Totals;
 use mp4_recut::Operation;
 
 /// Lists the samples of a fragmented stream, however its reads cut it: a line for each, fragment by fragment, the runs of a

@@ -1,47 +1,40 @@
-//! Runs over a stream: its boxes, its samples, its fragments, whether it breaks a rule, and its fragments cut into shorter
-//! ones; and a stream that is pushed in as inputs.
+//! Streams: runs over a whole stream (its boxes, its samples, its fragments, whether it breaks a rule, and its fragments cut
+//! into shorter ones), and Feeders, into which a stream is pushed as it comes.
 //!
-//! - [`run`]: [`boxes`], which lists the boxes of a stream;
+//! - [`totals`]: [`Totals`], what is counted of a stream;
+//! - [`run`]: [`boxes`], which lists the boxes of a stream by the machine of `mp4_boxes`;
 //! - [`fragments`]: [`samples`], [`fragments::fragments`], [`check`] and [`split`], which read its fragments by the machine
-//!   of `mp4_fragment_machine`;
-//! - [`pushed`]: [`split_pieces`], a loop over a [`Feeder`] of `mp4_push`, whose inputs are those of a list;
-//! - [`machine`]: lists the boxes of a stream that it is fed in inputs, [`state`]: its states, and
-//!   [`step`]: how;
-//! - [`header`]: takes a header and begins its box, [`buffered_box`]: a moov or moof until it is whole, and [`body`]: a
-//!   body that is passed over;
-//! - [`listed_box`]: a moov or moof of which all bytes came, and [`listing`]: the line of a box, and those of a tree of
-//!   boxes;
+//!   of `mp4_fragment_machine`, with [`null_sink`]: a writer for one that writes no text;
+//! - [`feeder`]: [`Feeder`], which takes the inputs of a fragmented stream for any of these, and [`box_feeder`]:
+//!   [`BoxFeeder`], which lists the boxes of a stream that it is fed;
+//! - [`pushed`]: [`split_pieces`], a loop over a [`Feeder`], whose inputs are those of a list;
 //! - [`laws`]: what the definitions of `specs/` imply.
 //!
-//! The definitions: `specs/Boxes.antt` (how the bytes of a stream are read) with `specs/Buffering.antt` (the boxes that
-//! are held) and `specs/Listing.antt` (the lines), `specs/Joined.antt` (whole boxes one after the other, for the laws)
-//! with `specs/Rests.antt` (what is left after them) and `specs/HeldBoxes.antt` (the sizes of those that are held, and
-//! what a run claims by them), `specs/States.antt` (where the machine is in a stream, and what that means) with
-//! `specs/Steps.antt` (a step of it), `specs/Fragments.antt` (a run that reads fragments), `specs/Pushes.antt` (inputs
-//! that are pushed in, one after the other). What a run returns, writes and claims is defined in `mp4_machine`, in
-//! `specs/StreamRuns.antt`, and what a Feeder does in `mp4_push`, in `specs/Feeders.antt`.
+//! The definitions: `specs/Feeders.antt` (what a Feeder is after the bytes that it was fed, and what its calls do) with
+//! `specs/Pushes.antt` (inputs that are pushed in, one after the other), `specs/BoxFeeders.antt` (the same of a BoxFeeder),
+//! and `specs/Fragments.antt` (a run that reads fragments). How boxes are read is defined in `mp4_boxes`, what a run returns, writes and claims in `mp4_machine`, in
+//! `specs/StreamRuns.antt`, and there too what any machine does that is fed inputs, in `specs/FedMachines.antt`.
 #![tactic(auto)]
 
-mod body;
-mod buffered_box;
+pub mod box_feeder;
+pub mod feeder;
 pub mod fragments;
-mod header;
 pub mod laws;
-mod listed_box;
-mod listing;
-mod machine;
 mod null_sink;
 pub mod pushed;
 pub mod run;
-mod state;
-mod step;
+pub mod totals;
 
+pub use box_feeder::BoxFeeder;
+pub use feeder::Feeder;
 pub use fragments::{check, samples, split};
 pub use mp4_box::{Fault, FourCc, Rule};
 pub use mp4_cut::Cut;
 pub use mp4_ends::{Failed, FromRead, IntoWrite, Sink, Source, ends, write_all};
+pub use mp4_grammar::Command;
 pub use mp4_ledger::Ledger;
 pub use mp4_machine::Stop;
-pub use mp4_push::{Feeder, Totals};
+pub use mp4_recut::Operation;
 pub use pushed::split_pieces;
 pub use run::boxes;
+pub use totals::Totals;

@@ -6,11 +6,12 @@ ghost use Rattle.mp4_machine.specs.Ends.{sent};
 ghost use Rattle.mp4_recut.specs.declared.operation.Operation.TheVariants.{Split};
 ghost use Rattle.mp4_stream.specs.Pushes.{Pushes};
 
+use crate::feeder::Feeder;
+use crate::totals::Totals;
 use mp4_cut::Cut;
 use mp4_ends::Sink;
 use mp4_ledger::Ledger;
 use mp4_machine::Stop;
-use mp4_push::{Feeder, Totals};
 
 /// Pushes inputs in as they come, and ends the stream after them. The output doesn't depend on how the stream was cut
 /// into inputs: it is that of their join.

@@ -3,13 +3,13 @@
 ghost use Rattle.std.specs.Prelude.{◌≡◌, ◌+◌, ◌<◌, ◌≤◌, [], length, IsErrOf};
 ghost use Rattle.mp4_grammar.specs.Kinds.{most_moof};
 ghost use Rattle.mp4_machine.specs.Ends.{between, received, sent};
-ghost use Rattle.mp4_stream.specs.HeldBoxes.{ReadsBoxes};
+ghost use Rattle.mp4_boxes.specs.HeldBoxes.{ReadsBoxes};
 
-use crate::machine::BoxMachine;
+use crate::totals::Totals;
+use mp4_boxes::BoxMachine;
 use mp4_ends::{Sink, Source};
 use mp4_ledger::Ledger;
 use mp4_machine::{Stop, read_stream};
-use mp4_push::Totals;
 
 /// Lists the boxes of a stream, however its reads cut it: their types, sizes and offsets, a line for each. A moov
 /// or a moof is held while it comes, and listed with the boxes below it once it is known to be good. `copy` bytes

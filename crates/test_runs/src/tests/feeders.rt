@@ -2,7 +2,7 @@
 //! by how many of its bytes came.
 
 ghost use Rattle.std.specs.Prelude.{◌≡◌, ◌+◌, ◌<◌, ◌≤◌};
-ghost use Rattle.mp4_push.specs.Feeders.{held_by};
+ghost use Rattle.mp4_stream.specs.Feeders.{held_by};
 
 use super::ends::due_of_split;
 use super::joined;

@@ -1,7 +1,7 @@
 use Rattle.std.proofs.Common.{◌≡◌, ◌∙◌, ap, arith, refl, rules, sym}
 use Rattle.mp4_machine.proofs.RunLemmas.{Runs-same}
-use Rattle.mp4_push.specs.Feeders.{fragments_of}
-use Rattle.mp4_push.proofs.FeederLemmas.{begun-is}
+use Rattle.mp4_stream.specs.Feeders.{fragments_of}
+use Rattle.mp4_stream.proofs.FeederLemmas.{begun-is}
 use Rattle.mp4_stream.proofs.FragmentLemmas.{claims_by_boxes, first_number, never_over, peak_bound}
 use Rattle.mp4_stream.proofs.fragments.run_operation.Goals as goal
 

@@ -6,9 +6,9 @@ use Rattle.std.specs.Io.KnownBytes.{Appends}
 use Rattle.mp4_machine.specs.Ends.{sent}
 use Rattle.mp4_machine.specs.Fed.{Borrowed, borrowed}
 use Rattle.mp4_machine.specs.Readings.{Reading}
-use Rattle.mp4_push.specs.Feeders.{Feeding}
+use Rattle.mp4_stream.specs.Feeders.{Feeding}
 use Rattle.mp4_stream.specs.Pushes.{Pushes}
-use Rattle.mp4_push.proofs.FeederLemmas.{reading-none}
+use Rattle.mp4_stream.proofs.FeederLemmas.{reading-none}
 use Rattle.mp4_recut.specs.declared.operation.Operation.TheVariants.{Split}
 use Rattle.mp4_stream.proofs.PushLemmas.{SoFar, ended, joined-more, pushed}
 use Rattle.mp4_stream.proofs.pushed.split_pieces.Goals as goal

@@ -1,7 +1,7 @@
 use Rattle.std.proofs.Common.{◌≡◌, ◌+◌, take}
 use Rattle.std.specs.List.{flat_map}
 use Rattle.mp4_machine.specs.Ends.{sent}
-use Rattle.mp4_push.specs.Feeders.{held_by}
+use Rattle.mp4_stream.specs.Feeders.{held_by}
 use Rattle.mp4_stream.proofs.PushLemmas.{SoFar}
 use Rattle.mp4_stream.proofs.pushed.split_pieces.Given as goal
 

@@ -1,7 +1,7 @@
 use Rattle.std.proofs.Common.{◌≡◌, ap, arith, refl, sym}
 use Rattle.mp4_machine.proofs.RunLemmas.{Runs-same}
-use Rattle.mp4_stream.proofs.BoxLemmas.{reading-none}
-use Rattle.mp4_stream.proofs.HeldBoxLemmas.{boxes_bound, boxes_enough, claims_by_largest}
+use Rattle.mp4_boxes.proofs.BoxLemmas.{reading-none}
+use Rattle.mp4_boxes.proofs.HeldBoxLemmas.{boxes_bound, boxes_enough, claims_by_largest}
 use Rattle.mp4_stream.proofs.run.boxes.Goals as goal
 
 pub read_stream-answer-requires-clause-begun : goal.read_stream-answer-requires-clause-begun

@@ -1,7 +1,7 @@
 use Rattle.std.proofs.Common.{rules, [], ◌≡◌, ◌∙◌, ◌+◌, ◌++◌, Result, Some, ap, arith, length, refl, sym, subst, take}
 use Rattle.std.specs.Prelude.{IfErr, OnErr}
 use Rattle.mp4_machine.specs.declared.stop.Stop.{Stop}
-use Rattle.mp4_push.specs.Feeders.{held_by}
+use Rattle.mp4_stream.specs.Feeders.{held_by}
 use Rattle.fmp4_c.specs.Engines.{Holds, IsPortion, Run, Stopped, after_take, held_in}
 use Rattle.fmp4_c.specs.declared.answer.Answer.TheVariants.{Done, Full}
 use Rattle.fmp4_c.proofs.AheadLemmas.{ahead-err, ahead-ok, portion-after, wrote}

@@ -1,0 +1,11 @@
+pub mod BoxLemmas
+pub mod BoxGrowthLemmas
+pub mod BoxAskLemmas
+pub mod StateLemmas
+pub mod HoldingLemmas
+pub mod ListingLemmas
+pub mod JoinLemmas
+pub mod RestLemmas
+pub mod HeldBoxLemmas
+pub mod EmptyLemmas
+pub mod PastLemmas

@@ -1,5 +1,0 @@
-use Rattle.mp4_stream.proofs.RestLemmas.{rest-reads}
-use Rattle.mp4_stream.proofs.laws.each_rest.Goals as goal
-
-pub returns : goal.returns
-returns c at y r fits is = rest-reads at y r fits is
