@@ -4,8 +4,8 @@
 ghost use Rattle.std.specs.Prelude.{◌≡◌, ◌+◌, ◌^◌, ◌≤◌, length, Option, List, ℕ, None, Bool, true, false, IfOk, IfSome, OnErr, OnOk};
 ghost use Rattle.mp4_box.specs.Headers.{IsWhole};
 ghost use Rattle.mp4_frag.specs.Moofs.{IsRead};
-ghost use Rattle.mp4_frag.specs.Runs.{runs_of};
-ghost use Rattle.mp4_frag.specs.Ranges.{AreRunsOf, IsRunOf};
+ghost use Rattle.mp4_traf.specs.Runs.{runs_of};
+ghost use Rattle.mp4_traf.specs.Ranges.{AreRunsOf, IsRunOf};
 
 use crate::input::{Boxes, Input};
 use mp4_cut::{Cut, Pieces, put_mdat_header, put_moof};

@@ -7,8 +7,8 @@ use Rattle.std.proofs.Math.Nat.{mod-lt}
 use Rattle.byteorder.specs.Endian.{big_bytes}
 use Rattle.mp4_box.specs.declared.headers.FourCc.{FourCc}
 use Rattle.mp4_box.specs.Headers.{IsBytes}
-use Rattle.mp4_frag.specs.declared.rows.Row.{Row}
-use Rattle.mp4_frag.specs.Kinds.{mfhd, traf, tfhd, tfdt, trun}
+use Rattle.mp4_traf.specs.declared.rows.Row.{Row}
+use Rattle.mp4_traf.specs.Kinds.{mfhd, traf, tfhd, tfdt, trun}
 use Rattle.mp4_pieces.specs.Rooms.{moof}
 use Rattle.mp4_cut.specs.Boxes.{box_bytes, version_and_flags}
 use Rattle.mp4_cut.specs.Mfhd.{mfhd_payload}

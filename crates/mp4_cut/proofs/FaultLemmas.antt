@@ -6,13 +6,15 @@ use Rattle.mp4_box.specs.Checks.{along, broken}
 use Rattle.mp4_box.specs.Order.{least_from}
 use Rattle.mp4_box.specs.Paths.{at_path}
 use Rattle.mp4_init.specs.declared.table.Track.{Track}
-use Rattle.mp4_frag.specs.Kinds.{to_tfhd, to_trun}
-use Rattle.mp4_frag.specs.Tfhd.{tfhd_fields}
-use Rattle.mp4_frag.specs.Trun.{sample_count, sample_fields, trun_broken, trun_fields}
+use Rattle.mp4_traf.specs.Kinds.{to_tfhd, to_trun}
+use Rattle.mp4_traf.specs.Tfhd.{tfhd_fields}
+use Rattle.mp4_traf.specs.Trun.{sample_count, sample_fields, trun_broken, trun_fields}
 use Rattle.mp4_frag.specs.Repeats.{is_listed, lacks_time, repeat_faults, repeats}
-use Rattle.mp4_frag.specs.Rules.{child_faults, count_faults, form_faults, most_in_moof, tfhd_faults, too_many, track_with, trun_faults}
-use Rattle.mp4_frag.specs.Moofs.{IsRead, fault_before_times, late, moof_of, moof_trafs, time_faults, value_faults}
-use Rattle.mp4_frag.specs.Runs.{runs_of}
+use Rattle.mp4_frag.specs.Rules.{child_faults, count_faults, form_faults, too_many}
+use Rattle.mp4_traf.specs.Rules.{most_in_moof, tfhd_faults, track_with, trun_faults}
+use Rattle.mp4_frag.specs.Moofs.{IsRead, fault_before_times, moof_of, moof_trafs, time_faults, value_faults}
+use Rattle.mp4_traf.specs.TimeFaults.{late}
+use Rattle.mp4_traf.specs.Runs.{runs_of}
 use Rattle.mp4_cut.specs.Moof.{WrittenFragment}
 use Rattle.mp4_cut.specs.Reads.{FitsFields, held_moof}
 use Rattle.mp4_cut.proofs.MoofLemmas.{length_trun, moof_at, moof_children, tfhd_at, traf_children, tree_is_good, trun_at, trun_of}

@@ -9,11 +9,11 @@ use Rattle.std.proofs.Math.Nat.{mod-eq_of_lt}
 use Rattle.byteorder.specs.Endian.{big_bytes, big_number, twos_complement}
 use Rattle.byteorder.specs.Numbers.{big_number-reads_back}
 use Rattle.mp4_box.specs.Fields.{number_in, long_number_in}
-use Rattle.mp4_frag.specs.declared.run.Run.{Run}
-use Rattle.mp4_frag.specs.declared.rows.Row.{Row}
-use Rattle.mp4_frag.specs.Fields.{flags_in}
-use Rattle.mp4_frag.specs.Trun.{sample_fields}
-use Rattle.mp4_frag.specs.Rows.{group_at, offset_by, row_of}
+use Rattle.mp4_traf.specs.declared.run.Run.{Run}
+use Rattle.mp4_traf.specs.declared.rows.Row.{Row}
+use Rattle.mp4_traf.specs.Fields.{flags_in}
+use Rattle.mp4_traf.specs.Trun.{sample_fields}
+use Rattle.mp4_traf.specs.Rows.{group_at, offset_by, row_of}
 use Rattle.mp4_cut.specs.Boxes.{version_and_flags}
 use Rattle.mp4_cut.specs.Trun.{offset_bits, sample_bytes, trun_flags}
 use Rattle.mp4_cut.specs.Reads.{FitsOffset, FitsRow}

@@ -19,23 +19,25 @@ use Rattle.mp4_box.specs.Paths.{at_path, of_kind}
 use Rattle.mp4_box.specs.Trees.{Box, box_at, children, first_of}
 use Rattle.mp4_box.proofs.GrammarLemmas.{option_is, whole_found}
 use Rattle.mp4_init.specs.declared.table.Track.{Track}
-use Rattle.mp4_frag.specs.declared.run.Run.{Run}
+use Rattle.mp4_traf.specs.declared.run.Run.{Run}
 use Rattle.mp4_frag.specs.After.{IsOneOf}
-use Rattle.mp4_frag.specs.Kinds.{tfhd, traf, trun, to_tfhd, to_trun}
-use Rattle.mp4_frag.specs.Fields.{flags_in, number_or, payload_of}
-use Rattle.mp4_frag.specs.Tfhd.{fields_of, track_id}
-use Rattle.mp4_frag.specs.Trun.{trun_broken, trun_fields}
-use Rattle.mp4_frag.specs.Rules.{entry_of, fault_if, form_faults, has_entry, tfhd_faults, track_faults, track_with, trun_length}
-use Rattle.mp4_frag.specs.Rows.{durations, field_at, group_at, offset_at, offset_by, row_of, rows_of, default_flags_of}
-use Rattle.mp4_frag.specs.Runs.{MoofBytes, base_of, end_place, no_track, run_at, run_of, runs_from, runs_of, shared_by, tfhd_of, track_of, traf_of, trafs_by}
+use Rattle.mp4_traf.specs.Kinds.{tfhd, traf, trun, to_tfhd, to_trun}
+use Rattle.mp4_traf.specs.Fields.{flags_in, number_or, payload_of}
+use Rattle.mp4_traf.specs.Tfhd.{fields_of, track_id}
+use Rattle.mp4_traf.specs.Trun.{trun_broken, trun_fields}
+use Rattle.mp4_traf.specs.Rules.{entry_of, fault_if, has_entry, tfhd_faults, track_faults, track_with, trun_length}
+use Rattle.mp4_frag.specs.Rules.{form_faults}
+use Rattle.mp4_traf.specs.Rows.{durations, field_at, group_at, offset_at, offset_by, row_of, rows_of, default_flags_of}
+use Rattle.mp4_traf.specs.Runs.{MoofBytes, base_of, end_place, no_track, run_at, run_of, runs_from, runs_of, shared_by, tfhd_of, track_of, traf_of, trafs_by}
 use Rattle.mp4_frag.specs.Moofs.{IsRead, moof_of, moof_runs}
-use Rattle.mp4_frag.proofs.MoofLemmas.{early, last_none, moof_is, on_path, read_early, values}
+use Rattle.mp4_frag.proofs.MoofLemmas.{early, last_none, moof_is, read_early, values}
+use Rattle.mp4_traf.proofs.ChildLemmas.{on_path}
 use Rattle.mp4_frag.proofs.PlaceLemmas.{Lies, children_lie, kind_all, moof_lies}
 use Rattle.mp4_box.proofs.ByteLemmas.{number_small}
 use Rattle.mp4_frag.proofs.RunRowLemmas as run_rows
 use Rattle.mp4_pieces.specs.declared.piece.Piece.{Piece}
 use Rattle.mp4_pieces.specs.Pieces.{IsPieceOf, piece_at, rows_in}
-use Rattle.mp4_frag.specs.Ranges.{IsRunOf}
+use Rattle.mp4_traf.specs.Ranges.{IsRunOf}
 use Rattle.mp4_pieces.proofs.PieceLemmas.{piece_ends}
 use Rattle.mp4_frag.proofs.ReadRunLemmas.{runs_are}
 use Rattle.mp4_cut.specs.Moof.{written_fragment}

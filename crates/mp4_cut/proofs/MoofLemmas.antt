@@ -3,7 +3,7 @@ use Rattle.std.proofs.Common.{◌≡◌, ℕ, ◌+◌, ◌*◌, ◌<◌, List, [
 use Rattle.mp4_box.specs.declared.rules.Fault.{Fault}
 use Rattle.mp4_box.specs.Trees.{Box, bad_below, bad_rest, box_at, boxes, children, deep_below, faults_of, is_container, no_rest, over, tree_faults}
 use Rattle.mp4_box.proofs.TreeLemmas.{bad-leaf, bad-step, deep-leaf, deep-step}
-use Rattle.mp4_frag.specs.Kinds.{mfhd, traf, tfhd, tfdt, trun}
+use Rattle.mp4_traf.specs.Kinds.{mfhd, traf, tfhd, tfdt, trun}
 use Rattle.mp4_cut.specs.Boxes.{box_bytes}
 use Rattle.mp4_cut.specs.Mfhd.{mfhd_payload}
 use Rattle.mp4_cut.specs.Tfhd.{tfhd_payload}

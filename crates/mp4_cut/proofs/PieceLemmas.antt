@@ -3,12 +3,12 @@ use Rattle.std.proofs.Common.{◌≡◌, ℕ, ◌+◌, ◌*◌, List, ◌∷◌,
 use Rattle.std.specs.Prelude.{take}
 use Rattle.std.specs.List.{flat_map}
 use Rattle.byteorder.specs.Endian.{big_bytes}
-use Rattle.mp4_frag.specs.declared.run.Run.{Run}
-use Rattle.mp4_frag.specs.declared.rows.Row.{Row}
-use Rattle.mp4_frag.specs.declared.rows.Cursor.{Cursor}
-use Rattle.mp4_frag.specs.Kinds.{mfhd, traf, tfhd, tfdt, trun}
-use Rattle.mp4_frag.specs.Rows.{IsCursor, row_of, rows_after, rows_of, sizes}
-use Rattle.mp4_frag.proofs.RowLemmas.{rows_dropped, rows_next}
+use Rattle.mp4_traf.specs.declared.run.Run.{Run}
+use Rattle.mp4_traf.specs.declared.rows.Row.{Row}
+use Rattle.mp4_traf.specs.declared.rows.Cursor.{Cursor}
+use Rattle.mp4_traf.specs.Kinds.{mfhd, traf, tfhd, tfdt, trun}
+use Rattle.mp4_traf.specs.Rows.{IsCursor, row_of, rows_after, rows_of, sizes}
+use Rattle.mp4_traf.proofs.RowLemmas.{rows_dropped, rows_next}
 use Rattle.mp4_pieces.specs.declared.piece.Piece.{Piece}
 use Rattle.mp4_pieces.specs.declared.plain.PlainPiece.{PlainPiece}
 use Rattle.mp4_pieces.specs.Pieces.{IsPieceOf, piece_at, rows_in}

@@ -8,10 +8,10 @@ use Rattle.byteorder.specs.Numbers.{big_number-reads_back}
 use Rattle.mp4_box.specs.Fields.{number_in}
 use Rattle.mp4_box.specs.Paths.{of_kind}
 use Rattle.mp4_box.specs.Trees.{Box, children}
-use Rattle.mp4_frag.specs.declared.run.Run.{Run}
-use Rattle.mp4_frag.specs.Kinds.{mfhd}
+use Rattle.mp4_traf.specs.declared.run.Run.{Run}
+use Rattle.mp4_traf.specs.Kinds.{mfhd}
 use Rattle.mp4_frag.specs.Moofs.{moof_of}
-use Rattle.mp4_frag.specs.Rows.{durations, sizes}
+use Rattle.mp4_traf.specs.Rows.{durations, sizes}
 use Rattle.mp4_pieces.specs.declared.piece.Piece.{Piece}
 use Rattle.mp4_pieces.specs.Fits.{FitsReference, FitsTime}
 use Rattle.mp4_pieces.specs.Pieces.{IsPieceOf, composition_times, cursor_at, least_of, piece_at, rows_in}

@@ -15,17 +15,16 @@ use Rattle.mp4_box.specs.declared.headers.Step.TheVariants.{Whole}
 use Rattle.mp4_box.specs.Headers.{Head, IsBox, IsWhole, header_at, uuid}
 use Rattle.mp4_box.proofs.HeaderLemmas.{read_again}
 use Rattle.mp4_init.specs.declared.table.Track.{Track}
-use Rattle.mp4_frag.specs.declared.run.Run.{Run}
-use Rattle.mp4_frag.specs.Rows.{rows_of, sizes}
-use Rattle.mp4_frag.specs.declared.rows.Row.{Row}
-use Rattle.mp4_frag.specs.Runs.{MoofBytes, TrackFragment, last_end, runs_of}
-use Rattle.mp4_frag.specs.Places.{place_fault}
-use Rattle.mp4_frag.specs.Places.{listed_run}
-use Rattle.mp4_frag.specs.Settling.{settled, with_end}
+use Rattle.mp4_traf.specs.declared.run.Run.{Run}
+use Rattle.mp4_traf.specs.Rows.{rows_of, sizes}
+use Rattle.mp4_traf.specs.declared.rows.Row.{Row}
+use Rattle.mp4_traf.specs.Runs.{MoofBytes, TrackFragment, last_end, runs_of}
+use Rattle.mp4_frag.specs.Places.{place_fault, listed_run}
+use Rattle.mp4_traf.specs.Settling.{settled, with_end}
 use Rattle.mp4_run_order.specs.Orders.{taken_by}
 use Rattle.mp4_run_order.proofs.RunLemmas.{le_to}
 use Rattle.mp4_frag.proofs.SoundLemmas.{rows_are_samples}
-use Rattle.mp4_frag.specs.Cursors.{first_cursor}
+use Rattle.mp4_traf.specs.Cursors.{first_cursor}
 use Rattle.mp4_pieces.specs.Pieces.{piece_at}
 use Rattle.mp4_pieces.specs.Rooms.{moof}
 use Rattle.mp4_pieces.specs.Sizes.{mdat_header_size, moof_size}

@@ -8,17 +8,17 @@ use Rattle.mp4_box.specs.Fields.{number_in}
 use Rattle.mp4_box.specs.Paths.{of_kind}
 use Rattle.mp4_box.specs.Trees.{Box, box_at, children, first_of}
 use Rattle.mp4_init.specs.declared.table.Track.{Track}
-use Rattle.mp4_frag.specs.declared.run.Run.{Run}
-use Rattle.mp4_frag.specs.declared.rows.Row.{Row}
-use Rattle.mp4_frag.specs.declared.traf.TrafHeader.{TrafHeader}
-use Rattle.mp4_frag.specs.Kinds.{mfhd, traf, tfhd, tfdt, trun}
-use Rattle.mp4_frag.specs.Fields.{flags_in, payload_of, signed_in}
-use Rattle.mp4_frag.specs.Tfhd.{tfhd_fields, track_id}
-use Rattle.mp4_frag.specs.Trun as trun_words
-use Rattle.mp4_frag.specs.Trun.{sample_count, sample_fields, trun_fields}
-use Rattle.mp4_frag.specs.Rules.{track_with}
-use Rattle.mp4_frag.specs.Rows.{durations, row_of, rows_of, sizes}
-use Rattle.mp4_frag.specs.Runs.{MoofBytes, Shared, TrackFragment, base_by, base_of, end_in, header_by, known_track, no_track, run_at, run_of, runs_from, runs_of, start_by, tfhd_of, track_of, traf_of, trafs_by}
+use Rattle.mp4_traf.specs.declared.run.Run.{Run}
+use Rattle.mp4_traf.specs.declared.rows.Row.{Row}
+use Rattle.mp4_traf.specs.declared.traf.TrafHeader.{TrafHeader}
+use Rattle.mp4_traf.specs.Kinds.{mfhd, traf, tfhd, tfdt, trun}
+use Rattle.mp4_traf.specs.Fields.{flags_in, payload_of, signed_in}
+use Rattle.mp4_traf.specs.Tfhd.{tfhd_fields, track_id}
+use Rattle.mp4_traf.specs.Trun as trun_words
+use Rattle.mp4_traf.specs.Trun.{sample_count, sample_fields, trun_fields}
+use Rattle.mp4_traf.specs.Rules.{track_with}
+use Rattle.mp4_traf.specs.Rows.{durations, row_of, rows_of, sizes}
+use Rattle.mp4_traf.specs.Runs.{MoofBytes, Shared, TrackFragment, base_by, base_of, end_in, header_by, known_track, no_track, run_at, run_of, runs_from, runs_of, start_by, tfhd_of, track_of, traf_of, trafs_by}
 use Rattle.mp4_frag.specs.Moofs.{moof_of, moof_runs, moof_trafs}
 use Rattle.mp4_frag.proofs.MoofLemmas.{moof_is}
 use Rattle.mp4_frag.proofs.RunRowLemmas.{on_path}

@@ -2,9 +2,9 @@
 use Rattle.std.specs.Prelude.{◌≡◌, ℕ, List, length, take, Some}
 use Rattle.std.specs.List.{AllByRecursion}
 use Rattle.mp4_box.specs.Trees.{first_of}
-use Rattle.mp4_frag.specs.declared.run.Run.{Run}
-use Rattle.mp4_frag.specs.declared.rows.Cursor.{Cursor}
-use Rattle.mp4_frag.specs.Rows.{IsCursor}
+use Rattle.mp4_traf.specs.declared.run.Run.{Run}
+use Rattle.mp4_traf.specs.declared.rows.Cursor.{Cursor}
+use Rattle.mp4_traf.specs.Rows.{IsCursor}
 use Rattle.mp4_pieces.specs.declared.cut.Cut.{Cut}
 use Rattle.mp4_pieces.specs.declared.piece.Piece.{Piece}
 use Rattle.mp4_pieces.specs.Pieces.{pieces_from}

@@ -1,14 +1,14 @@
 -- A movie fragment that is written, moof (ISO/IEC 14496-12, 8.8.4): mfhd, and one traf with tfhd, tfdt and trun.
 use Rattle.std.specs.Prelude.{ℕ, List, ◌+◌, ◌++◌, length}
-use Rattle.mp4_frag.specs.declared.rows.Row.{Row}
-use Rattle.mp4_frag.specs.Kinds.{mfhd, traf, tfhd, tfdt, trun}
-use Rattle.mp4_frag.specs.Rows.{sizes}
+use Rattle.mp4_traf.specs.declared.rows.Row.{Row}
+use Rattle.mp4_traf.specs.Kinds.{mfhd, traf, tfhd, tfdt, trun}
+use Rattle.mp4_traf.specs.Rows.{sizes}
 use Rattle.mp4_cut.specs.Boxes.{box_bytes}
 use Rattle.mp4_cut.specs.Mfhd.{mfhd_payload}
 use Rattle.mp4_cut.specs.Tfhd.{tfhd_payload}
 use Rattle.mp4_cut.specs.Tfdt.{tfdt_payload}
 use Rattle.mp4_cut.specs.Trun.{trun_payload}
-use Rattle.mp4_frag.specs.declared.run.Run.{Run}
+use Rattle.mp4_traf.specs.declared.run.Run.{Run}
 use Rattle.mp4_pieces.specs.declared.piece.Piece.{Piece}
 use Rattle.mp4_pieces.specs.Pieces.{rows_in}
 use Rattle.mp4_pieces.specs.Rooms.{moof}

@@ -7,15 +7,15 @@ use Rattle.mp4_box.specs.declared.headers.Size.TheVariants.{Exact}
 use Rattle.mp4_box.specs.declared.headers.Step.TheVariants.{Whole}
 use Rattle.mp4_box.specs.Headers.{header_at}
 use Rattle.mp4_init.specs.declared.table.Track.{Track}
-use Rattle.mp4_frag.specs.declared.run.Run.{Run}
-use Rattle.mp4_frag.specs.declared.rows.Row.{Row}
-use Rattle.mp4_frag.specs.Rows.{durations, rows_of, sizes}
-use Rattle.mp4_frag.specs.Rules.{most_in_moof, track_with}
-use Rattle.mp4_frag.specs.Runs.{MoofBytes, TrackFragment, runs_of}
+use Rattle.mp4_traf.specs.declared.run.Run.{Run}
+use Rattle.mp4_traf.specs.declared.rows.Row.{Row}
+use Rattle.mp4_traf.specs.Rows.{durations, rows_of, sizes}
+use Rattle.mp4_traf.specs.Rules.{most_in_moof, track_with}
+use Rattle.mp4_traf.specs.Runs.{MoofBytes, TrackFragment, runs_of}
 use Rattle.mp4_frag.specs.Moofs.{IsRead, moof_runs, moof_samples, moof_trafs}
 use Rattle.mp4_frag.specs.RunLists.{taken_runs}
 use Rattle.mp4_frag.specs.Places.{place_fault}
-use Rattle.mp4_frag.specs.Settling.{settled, with_end}
+use Rattle.mp4_traf.specs.Settling.{settled, with_end}
 use Rattle.mp4_run_order.specs.declared.runs.Payload.{Payload}
 use Rattle.mp4_cut.specs.Moof.{WrittenFragment, data_offset, moof_box}
 

@@ -4,7 +4,7 @@ use Rattle.std.specs.List.{flat_map}
 use Rattle.byteorder.specs.Endian.{big_bytes}
 use Rattle.mp4_box.specs.declared.headers.FourCc.{FourCc}
 use Rattle.mp4_init.specs.Kinds.{kind}
-use Rattle.mp4_frag.specs.declared.run.Run.{Run}
+use Rattle.mp4_traf.specs.declared.run.Run.{Run}
 use Rattle.mp4_pieces.specs.declared.piece.Piece.{Piece}
 use Rattle.mp4_pieces.specs.Sizes.{fragment_size}
 use Rattle.mp4_cut.specs.Boxes.{box_bytes, version_and_flags}

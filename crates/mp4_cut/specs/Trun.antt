@@ -3,7 +3,7 @@ use Rattle.std.specs.Prelude.{ℕ, ℤ, List, ◌++◌, length}
 use Rattle.std.specs.List.{flat_map}
 use Rattle.std.specs.Int.{w64}
 use Rattle.byteorder.specs.Endian.{big_bytes, low_bytes}
-use Rattle.mp4_frag.specs.declared.rows.Row.{Row}
+use Rattle.mp4_traf.specs.declared.rows.Row.{Row}
 use Rattle.mp4_cut.specs.Boxes.{version_and_flags}
 
 -- data_offset is present, and duration, size, flags and composition time offset of each sample

@@ -1,7 +1,7 @@
 //! The header of a movie fragment, mfhd (ISO/IEC 14496-12, 8.8.5).
 
 ghost use Rattle.std.specs.Prelude.{◌≡◌, ◌+◌, ◌≤◌, ◌++◌, length};
-ghost use Rattle.mp4_frag.specs.Kinds.{mfhd};
+ghost use Rattle.mp4_traf.specs.Kinds.{mfhd};
 ghost use Rattle.mp4_cut.specs.Boxes.{box_bytes};
 ghost use Rattle.mp4_cut.specs.Mfhd.{mfhd_payload};
 

@@ -3,7 +3,7 @@
 ghost use Rattle.std.specs.Prelude.{◌≡◌, ◌+◌, ◌≤◌, ◌++◌, length};
 ghost use Rattle.mp4_pieces.specs.Pieces.{IsPieceOf};
 ghost use Rattle.mp4_pieces.specs.PlainPieces.{piece_of};
-ghost use Rattle.mp4_frag.specs.Ranges.{IsRunOf};
+ghost use Rattle.mp4_traf.specs.Ranges.{IsRunOf};
 ghost use Rattle.mp4_cut.specs.Implementation.Fronts.{moof_front};
 ghost use Rattle.mp4_cut.specs.Moof.{written_moof};
 ghost use Rattle.mp4_machine.specs.Ends.{sent};

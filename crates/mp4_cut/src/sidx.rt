@@ -3,7 +3,7 @@
 ghost use Rattle.std.specs.Prelude.{◌≡◌, ◌+◌, ◌≤◌, ◌<◌, ◌^◌, ◌++◌, length, take};
 ghost use Rattle.std.specs.List.{AllByRecursion, flat_map};
 ghost use Rattle.mp4_pieces.specs.Groups.{group_length};
-ghost use Rattle.mp4_frag.specs.Ranges.{IsRunOf};
+ghost use Rattle.mp4_traf.specs.Ranges.{IsRunOf};
 ghost use Rattle.mp4_pieces.specs.Fits.{FitsReference, FitsTime};
 ghost use Rattle.mp4_pieces.specs.Sizes.{fragment_size};
 ghost use Rattle.mp4_cut.specs.Implementation.Fronts.{index_front};

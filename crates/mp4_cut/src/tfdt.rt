@@ -1,7 +1,7 @@
 //! The base time of a track fragment, tfdt (ISO/IEC 14496-12, 8.8.12).
 
 ghost use Rattle.std.specs.Prelude.{◌≡◌, ◌+◌, ◌≤◌, ◌++◌, length};
-ghost use Rattle.mp4_frag.specs.Kinds.{tfdt};
+ghost use Rattle.mp4_traf.specs.Kinds.{tfdt};
 ghost use Rattle.mp4_cut.specs.Boxes.{box_bytes};
 ghost use Rattle.mp4_cut.specs.Tfdt.{tfdt_payload};
 

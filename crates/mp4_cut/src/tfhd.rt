@@ -1,7 +1,7 @@
 //! The header of a track fragment, tfhd (ISO/IEC 14496-12, 8.8.7).
 
 ghost use Rattle.std.specs.Prelude.{◌≡◌, ◌+◌, ◌≤◌, ◌++◌, length};
-ghost use Rattle.mp4_frag.specs.Kinds.{tfhd};
+ghost use Rattle.mp4_traf.specs.Kinds.{tfhd};
 ghost use Rattle.mp4_cut.specs.Boxes.{box_bytes};
 ghost use Rattle.mp4_cut.specs.Tfhd.{tfhd_payload};
 

@@ -11,11 +11,12 @@ use Rattle.mp4_box.specs.declared.headers.FourCc.{FourCc}
 use Rattle.mp4_box.specs.Paths.{at_path, of_kind}
 use Rattle.mp4_box.specs.Trees.{Box, children}
 use Rattle.mp4_frag.specs.declared.at_once.MoofCounts.{MoofCounts}
-use Rattle.mp4_frag.specs.Implementation.AtOnce.{Adds, IsCount, in_trafs, is_early, is_kind, most_32, most_64, times_early}
-use Rattle.mp4_frag.specs.Kinds.{tfdt, to_trun, traf, trun}
-use Rattle.mp4_frag.specs.Rules.{most_in_moof, samples_in, samples_of, too_many}
-use Rattle.mp4_frag.specs.Trun.{sample_count}
-use Rattle.mp4_frag.proofs.MoofLemmas.{path_kind}
+use Rattle.mp4_frag.specs.Implementation.AtOnce.{Adds, IsCount, in_trafs, is_early, most_32, most_64, times_early}
+use Rattle.mp4_traf.specs.Kinds.{is_kind, tfdt, to_trun, traf, trun}
+use Rattle.mp4_traf.specs.Rules.{most_in_moof, samples_in}
+use Rattle.mp4_frag.specs.Rules.{samples_of, too_many}
+use Rattle.mp4_traf.specs.Trun.{sample_count}
+use Rattle.mp4_traf.proofs.ChildLemmas.{path_kind}
 
 -- ---- counts
 

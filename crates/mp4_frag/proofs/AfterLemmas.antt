@@ -11,18 +11,18 @@ use Rattle.mp4_box.proofs.GrammarLemmas.{lies_at, option_is, whole_found, whole_
 use Rattle.mp4_box.proofs.HeaderLemmas.{IsBytes-drop}
 use Rattle.mp4_box.proofs.TreeLemmas.{boxes_more, boxes_end}
 use Rattle.mp4_init.specs.declared.table.Track.{Track}
-use Rattle.mp4_frag.specs.declared.run.Run.{Run}
-use Rattle.mp4_frag.specs.declared.traf.TrafHeader.{TrafHeader}
-use Rattle.mp4_frag.specs.Kinds.{traf, trun}
-use Rattle.mp4_frag.specs.Ranges.{InRange, IsSound}
-use Rattle.mp4_frag.specs.Runs.{MoofBytes, Shared, TrackFragment, end_in, end_place, run_at, run_of, runs_from, runs_of, shared_by, track_of, base_of, traf_of, trafs_by}
+use Rattle.mp4_traf.specs.declared.run.Run.{Run}
+use Rattle.mp4_traf.specs.declared.traf.TrafHeader.{TrafHeader}
+use Rattle.mp4_traf.specs.Kinds.{traf, trun}
+use Rattle.mp4_traf.specs.Ranges.{InRange, IsSound}
+use Rattle.mp4_traf.specs.Runs.{MoofBytes, Shared, TrackFragment, end_in, end_place, run_at, run_of, runs_from, runs_of, shared_by, track_of, base_of, traf_of, trafs_by}
 use Rattle.mp4_frag.specs.After.{IsBetween, IsOneOf}
 use Rattle.mp4_frag.specs.Implementation.LaterRuns.{all_after, boxes_between, header_after, runs_after, shared_after, trafs_after}
 use Rattle.mp4_frag.specs.Moofs.{IsRead, moof_of, moof_runs}
 use Rattle.mp4_frag.proofs.MoofLemmas.{moof_is}
 use Rattle.mp4_frag.proofs.PlaceLemmas.{Lies, children_lie, moof_lies}
 use Rattle.mp4_frag.proofs.SoundLemmas.{all_sound}
-use Rattle.mp4_frag.proofs.RangeLemmas.{in_range}
+use Rattle.mp4_traf.proofs.RangeLemmas.{in_range}
 
 -- ---- the boxes after a box
 

@@ -3,10 +3,8 @@ use Rattle.std.proofs.Common.{◌≡◌, ◌≢◌, ◌∙◌, Bool, true, false
 use Rattle.std.specs.Prelude.{◌==◌, ◌&&◌, ◌||◌, nat_lt}
 use Rattle.std.specs.List.{AllByRecursion, flat_map, list_all, list_any}
 use Rattle.std.specs.Option.{is_none, is_some}
-use Rattle.std.specs.Str.{bytes_eq}
 use Rattle.std.proofs.lemmas.Bool.Decides.{nat_tests}
 use Rattle.std.proofs.lemmas.Grind.{flat_map-append}
-use Rattle.std.proofs.lemmas.Slice.Eq.{bytes_eq-Decides}
 use Rattle.mp4_box.specs.declared.headers.FourCc.{FourCc}
 use Rattle.mp4_box.specs.declared.rules.Fault.{Fault}
 use Rattle.mp4_box.specs.declared.rules.Rule.TheVariants.{Unsupported}
@@ -17,14 +15,17 @@ use Rattle.mp4_box.proofs.OrderLemmas.{least-none}
 use Rattle.mp4_box.specs.Paths.{at_path, of_kind}
 use Rattle.mp4_box.specs.Trees.{Box, children, first_of}
 use Rattle.mp4_init.specs.declared.table.Track.{Track}
-use Rattle.mp4_frag.specs.Implementation.AtOnce.{HasTicks, IsComplete, IsCount, by_moof, by_traf, faults_in_moof, faults_in_traf, has_few, has_heads, has_one, is_complete, is_filled, is_kind, most_64, passed_over}
-use Rattle.mp4_frag.specs.Kinds.{mfhd, traf, tfhd, tfdt, trun, free, skip}
+use Rattle.mp4_traf.specs.Implementation.Heads.{HasTicks}
+use Rattle.mp4_frag.specs.Implementation.AtOnce.{IsComplete, IsCount, by_moof, by_traf, faults_in_moof, faults_in_traf, has_few, has_heads, has_one, is_complete, is_filled, most_64, passed_over}
+use Rattle.mp4_traf.specs.Kinds.{is_kind, mfhd, traf, tfhd, tfdt, trun, free, skip}
 use Rattle.mp4_frag.specs.Mfhd.{mfhd_len}
 use Rattle.mp4_frag.specs.Moofs.{value_faults}
 use Rattle.mp4_frag.specs.Repeats.{lacks_time, repeat_faults, untimed_ids}
-use Rattle.mp4_frag.specs.Rules.{child_faults, count_faults, fault_if, form_faults, holds_only, tfhd_faults, tfhd_length, trun_faults, trun_length, unsupported}
-use Rattle.mp4_frag.specs.Tfdt.{tfdt_layout}
-use Rattle.mp4_frag.proofs.MoofLemmas.{last_none, path_kind}
+use Rattle.mp4_frag.specs.Rules.{child_faults, count_faults, form_faults}
+use Rattle.mp4_traf.specs.Rules.{fault_if, holds_only, tfhd_faults, tfhd_length, trun_faults, trun_length, unsupported}
+use Rattle.mp4_traf.specs.Tfdt.{tfdt_layout}
+use Rattle.mp4_frag.proofs.MoofLemmas.{last_none}
+use Rattle.mp4_traf.proofs.ChildLemmas.{path_kind, no_other}
 use Rattle.mp4_frag.proofs.PassLemmas.{none_lacks}
 
 and_true : (a x : Bool) → (a && x) ≡ ((a && true) && x)
@@ -82,10 +83,6 @@ kind_none f g kind h (b ∷ bs) e = let parts = last_none (f b) (flat_map f bs) 
     by : (u : Bool) → is_kind kind b ≡ u → f b ≡ [] → flat_map g (of_kind kind bs) ≡ [] → flat_map g (of_kind kind (b ∷ bs)) ≡ []
     by true is none rest = rw is (ap (λ (fs : List Fault). fs ++ flat_map g (of_kind kind bs)) (h b is none) ∙ rest)
     by false is none rest = rw is rest
-
--- a type is no other
-pub no_other : (b : Box) (kind other : FourCc) → bytes_eq kind.0 other.0 ≡ false → is_kind kind b ≡ true → is_kind other b ≡ false
-no_other b kind other differ is = ap (λ (k : List ℕ). bytes_eq k other.0) ((bytes_eq-Decides b.header.kind.0 kind.0).0 is) ∙ differ
 
 -- ---- of a child of a traf
 

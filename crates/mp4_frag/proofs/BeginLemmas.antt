@@ -12,14 +12,16 @@ use Rattle.mp4_box.specs.Trees.{Box, box_at, children, first_of}
 use Rattle.mp4_init.specs.declared.table.Track.{Track}
 use Rattle.mp4_init.specs.TrackFields.{FitsTrackFields}
 use Rattle.mp4_frag.specs.Implementation.AtOnce.{StartsEarly}
-use Rattle.mp4_frag.specs.Kinds.{tfdt, traf, trun}
+use Rattle.mp4_traf.specs.Kinds.{tfdt, traf, trun}
 use Rattle.mp4_frag.specs.Moofs.{moof_of, moof_trafs, time_faults}
-use Rattle.mp4_frag.specs.Rules.{count_faults, most_in_moof, samples_in}
-use Rattle.mp4_frag.specs.Runs.{MoofBytes, base_by, begins_early, no_track, tfhd_of, track_of, traf_of, trafs_by}
-use Rattle.mp4_frag.specs.Tfdt.{base_media_decode_time}
-use Rattle.mp4_frag.specs.Tfhd.{track_id}
+use Rattle.mp4_frag.specs.Rules.{count_faults}
+use Rattle.mp4_traf.specs.Rules.{most_in_moof, samples_in}
+use Rattle.mp4_traf.specs.Runs.{MoofBytes, base_by, begins_early, no_track, tfhd_of, track_of, traf_of, trafs_by}
+use Rattle.mp4_traf.specs.Tfdt.{base_media_decode_time}
+use Rattle.mp4_traf.specs.Tfhd.{track_id}
 use Rattle.mp4_frag.proofs.EarlyLemmas.{begun_in_time, both_true}
-use Rattle.mp4_frag.proofs.MoofLemmas.{moof_is, on_path}
+use Rattle.mp4_frag.proofs.MoofLemmas.{moof_is}
+use Rattle.mp4_traf.proofs.ChildLemmas.{on_path}
 use Rattle.mp4_frag.proofs.PlaceLemmas.{Lies, children_lie, kind_all, moof_lies}
 use Rattle.mp4_frag.proofs.SoundLemmas.{trafs_few}
 

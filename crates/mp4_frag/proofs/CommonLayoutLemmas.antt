@@ -21,18 +21,21 @@ use Rattle.mp4_box.proofs.BoxLemmas.{plain_box, plain_is, short_none}
 use Rattle.mp4_box.proofs.TreeLemmas.{boxes_end, boxes_more}
 use Rattle.mp4_box.proofs.OrderLemmas.{least-none}
 use Rattle.mp4_init.specs.declared.table.Track.{Track}
-use Rattle.mp4_frag.specs.Implementation.AtOnce.{HasTicks, IsComplete, IsEarly, faults_in_moof, faults_in_traf, is_complete, is_early, is_filled}
-use Rattle.mp4_frag.specs.Kinds.{mfhd, tfdt, tfhd, to_trun, traf, trun}
+use Rattle.mp4_traf.specs.Implementation.Heads.{HasTicks}
+use Rattle.mp4_frag.specs.Implementation.AtOnce.{IsComplete, IsEarly, faults_in_moof, faults_in_traf, is_complete, is_early, is_filled}
+use Rattle.mp4_traf.specs.Kinds.{mfhd, tfdt, tfhd, to_trun, traf, trun}
 use Rattle.mp4_frag.specs.Mfhd.{mfhd_len}
 use Rattle.mp4_frag.specs.Moofs.{IsRead, moof_trafs, time_faults, value_faults}
 use Rattle.mp4_frag.specs.Repeats.{lacks_time}
-use Rattle.mp4_frag.specs.Rules.{count_faults, form_faults, most_in_moof, samples_in, tfhd_faults, tfhd_length, trun_faults, trun_length}
-use Rattle.mp4_frag.specs.Runs.{MoofBytes}
-use Rattle.mp4_frag.specs.Tfdt.{tfdt_layout}
-use Rattle.mp4_frag.specs.Trun.{sample_count}
+use Rattle.mp4_frag.specs.Rules.{count_faults, form_faults}
+use Rattle.mp4_traf.specs.Rules.{most_in_moof, samples_in, tfhd_faults, tfhd_length, trun_faults, trun_length}
+use Rattle.mp4_traf.specs.Runs.{MoofBytes}
+use Rattle.mp4_traf.specs.Tfdt.{tfdt_layout}
+use Rattle.mp4_traf.specs.Trun.{sample_count}
 use Rattle.mp4_frag.specs.Implementation.CommonLayout.{HoldsThree, HoldsTwo, HasCommonLayout, common_faults}
 use Rattle.mp4_frag.proofs.AddLemmas.{few_enough, moof_truns}
-use Rattle.mp4_frag.proofs.AtOnceLemmas.{Passed, has_time, no_forms, no_other, no_values, passed_heads}
+use Rattle.mp4_frag.proofs.AtOnceLemmas.{Passed, has_time, no_forms, no_values, passed_heads}
+use Rattle.mp4_traf.proofs.ChildLemmas.{no_other}
 use Rattle.mp4_frag.proofs.MoofLemmas.{last_none}
 use Rattle.mp4_frag.proofs.EarlyLemmas.{early_in_time, none_untimed, trafs_start, values_count}
 use Rattle.mp4_frag.proofs.MoofListLemmas.{IsMoof}

@@ -13,24 +13,28 @@ use Rattle.mp4_box.proofs.OrderLemmas.{least-none}
 use Rattle.mp4_box.specs.Paths.{of_kind}
 use Rattle.mp4_box.specs.Trees.{Box, box_at, children, first_of}
 use Rattle.mp4_init.specs.declared.table.Track.{Track}
-use Rattle.mp4_frag.specs.declared.rows.Row.{Row}
-use Rattle.mp4_frag.specs.declared.run.Run.{Run}
-use Rattle.mp4_frag.specs.Implementation.AtOnce.{HasEarlyEnd, HasTicks, IsEarly, StartsEarly, TrafHasTicks, has_few, has_heads, has_one, is_early, times_early}
+use Rattle.mp4_traf.specs.declared.rows.Row.{Row}
+use Rattle.mp4_traf.specs.declared.run.Run.{Run}
+use Rattle.mp4_frag.specs.Implementation.AtOnce.{HasEarlyEnd, IsEarly, StartsEarly, TrafHasTicks, has_few, has_heads, has_one, is_early, times_early}
+use Rattle.mp4_traf.specs.Implementation.Heads.{HasTicks}
 use Rattle.mp4_frag.specs.Repeats.{lacks_time}
-use Rattle.mp4_frag.specs.Fields.{payload_of}
-use Rattle.mp4_frag.specs.Kinds.{tfdt, tfhd, traf, trun}
-use Rattle.mp4_frag.specs.Moofs.{moof_of, moof_trafs, time_faults, time_faults_of, value_faults}
-use Rattle.mp4_frag.specs.Rows.{group_at, row_of}
-use Rattle.mp4_frag.specs.Rules.{count_faults, form_faults, most_in_moof, samples_in}
-use Rattle.mp4_frag.specs.Runs.{MoofBytes, Shared, base_by, known_track, run_at, tfhd_of, track_of, traf_of, trafs_by}
-use Rattle.mp4_frag.specs.Tfhd.{fields_of, track_id}
-use Rattle.mp4_frag.specs.Implementation.Times.{late_from, ticks_in}
-use Rattle.mp4_frag.specs.Trun.{sample_count}
-use Rattle.mp4_frag.proofs.MoofLemmas.{both_none, path_kind, values}
+use Rattle.mp4_traf.specs.Fields.{payload_of}
+use Rattle.mp4_traf.specs.Kinds.{tfdt, tfhd, traf, trun}
+use Rattle.mp4_frag.specs.Moofs.{moof_of, moof_trafs, time_faults, value_faults}
+use Rattle.mp4_traf.specs.TimeFaults.{time_faults_of}
+use Rattle.mp4_traf.specs.Rows.{group_at, row_of}
+use Rattle.mp4_frag.specs.Rules.{count_faults, form_faults}
+use Rattle.mp4_traf.specs.Rules.{most_in_moof, samples_in}
+use Rattle.mp4_traf.specs.Runs.{MoofBytes, Shared, base_by, known_track, run_at, tfhd_of, track_of, traf_of, trafs_by}
+use Rattle.mp4_traf.specs.Tfhd.{fields_of, track_id}
+use Rattle.mp4_traf.specs.Implementation.Times.{late_from, ticks_in}
+use Rattle.mp4_traf.specs.Trun.{sample_count}
+use Rattle.mp4_frag.proofs.MoofLemmas.{both_none, values}
+use Rattle.mp4_traf.proofs.ChildLemmas.{path_kind}
 use Rattle.mp4_frag.proofs.PlaceLemmas.{Lies, children_lie, kind_all, moof_lies}
-use Rattle.mp4_frag.proofs.RangeLemmas.{field_small, small_sum}
+use Rattle.mp4_traf.proofs.RangeLemmas.{field_small, small_sum}
 use Rattle.mp4_frag.proofs.SoundLemmas.{number_or_small, tfhd_bytes, trafs_few}
-use Rattle.mp4_frag.proofs.TimeLemmas.{late_are}
+use Rattle.mp4_traf.proofs.TimeLemmas.{late_are}
 
 -- ---- the ticks of a run
 

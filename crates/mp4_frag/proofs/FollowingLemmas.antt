@@ -21,18 +21,18 @@ use Rattle.mp4_run_order.proofs.OrderLemmas.{taken_permutes}
 use Rattle.mp4_run_order.proofs.RunLemmas.{le_from, le_to, lies_from, lies_to}
 use Rattle.mp4_run_order.proofs.SearchLemmas.{offender_means}
 use Rattle.mp4_run_order.proofs.TakingLemmas.{follows_placed}
-use Rattle.mp4_frag.specs.declared.run.Run.{Run}
-use Rattle.mp4_frag.specs.Kinds.{to_trun, traf}
+use Rattle.mp4_traf.specs.declared.run.Run.{Run}
+use Rattle.mp4_traf.specs.Kinds.{to_trun, traf}
 use Rattle.mp4_frag.specs.Moofs.{moof_of, moof_runs, moof_truns}
 use Rattle.mp4_frag.specs.Places.{listed_run, place_fault, run_place_fault}
 use Rattle.mp4_frag.specs.RunLists.{moof_listing, taken_runs}
-use Rattle.mp4_frag.specs.Rows.{rows_of, sizes}
-use Rattle.mp4_frag.specs.Runs.{MoofBytes, end_place, runs_of, traf_of}
+use Rattle.mp4_traf.specs.Rows.{rows_of, sizes}
+use Rattle.mp4_traf.specs.Runs.{MoofBytes, end_place, runs_of, traf_of}
 use Rattle.mp4_frag.specs.Implementation.Following.{all_follow, bytes_with, follows, past_run, past_runs, runs_of_trafs, timed_run}
 use Rattle.mp4_frag.proofs.ListingLemmas.{is_listing}
 use Rattle.mp4_frag.proofs.MoofListLemmas.{IsMoof, claim_is, runs_are}
 use Rattle.mp4_frag.proofs.ReadRunLemmas.{IsSummed, trafs_summed}
-use Rattle.mp4_frag.proofs.RowLemmas.{length_rows_of}
+use Rattle.mp4_traf.proofs.RowLemmas.{length_rows_of}
 use Rattle.mp4_frag.proofs.RunRowLemmas.{on_path, runs_by}
 
 -- ---- those of one traf, and then the others

@@ -16,13 +16,14 @@ use Rattle.mp4_box.specs.Paths.{at_path, of_kind}
 use Rattle.mp4_box.specs.Trees.{Box, box_at, children}
 use Rattle.mp4_box.proofs.GrammarLemmas.{option_is, whole_found}
 use Rattle.mp4_init.specs.declared.table.Track.{Track}
-use Rattle.mp4_frag.specs.declared.run.Run.{Run}
-use Rattle.mp4_frag.specs.Kinds.{traf, trun, to_trun}
-use Rattle.mp4_frag.specs.Fields.{flags_in, place_if, width_if}
-use Rattle.mp4_frag.specs.Trun.{sample_count, sample_fields, trun_broken, trun_fields, trun_len, sample_duration_present, sample_size_present, sample_flags_present, sample_composition_time_offset_present, sample_size_at, sample_flags_at, sample_composition_time_offset_at}
-use Rattle.mp4_frag.specs.Rules.{form_faults, trun_length}
-use Rattle.mp4_frag.specs.Rows.{field_at, group_at, offset_at, offset_by, row_from, row_of, default_flags_of}
-use Rattle.mp4_frag.specs.Runs.{MoofBytes, Shared, run_at, run_of, shared_by, track_of}
+use Rattle.mp4_traf.specs.declared.run.Run.{Run}
+use Rattle.mp4_traf.specs.Kinds.{traf, trun, to_trun}
+use Rattle.mp4_traf.specs.Fields.{flags_in, place_if, width_if}
+use Rattle.mp4_traf.specs.Trun.{sample_count, sample_fields, trun_broken, trun_fields, trun_len, sample_duration_present, sample_size_present, sample_flags_present, sample_composition_time_offset_present, sample_size_at, sample_flags_at, sample_composition_time_offset_at}
+use Rattle.mp4_frag.specs.Rules.{form_faults}
+use Rattle.mp4_traf.specs.Rules.{trun_length}
+use Rattle.mp4_traf.specs.Rows.{field_at, group_at, offset_at, offset_by, row_from, row_of, default_flags_of}
+use Rattle.mp4_traf.specs.Runs.{MoofBytes, Shared, run_at, run_of, shared_by, track_of}
 use Rattle.mp4_frag.specs.Moofs.{IsRead, moof_of}
 use Rattle.mp4_frag.specs.Laws.{RowsAreGroups, TrafRowsAreGroups}
 use Rattle.mp4_frag.proofs.MoofLemmas.{early, last_none, moof_is, read_early}

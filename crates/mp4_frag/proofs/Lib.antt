@@ -1,8 +1,5 @@
 pub mod MarkLemmas
 pub mod PassLemmas
-pub mod RowLemmas
-pub mod BetweenLemmas
-pub mod TimeLemmas
 pub mod MoofLemmas
 pub mod AtOnceLemmas
 pub mod AddLemmas
@@ -10,26 +7,19 @@ pub mod PassTreeLemmas
 pub mod BoxOrderLemmas
 pub mod RunRowLemmas
 pub mod RunListLemmas
-pub mod RangeLemmas
 pub mod PlaceLemmas
 pub mod SoundLemmas
 pub mod EarlyLemmas
 pub mod BeginLemmas
-pub mod StartLemmas
-pub mod RunLemmas
 pub mod MoofListLemmas
 pub mod AfterLemmas
 pub mod SettleLemmas
 pub mod GroupLemmas
-pub mod WholeGroupLemmas
 pub mod SingleRunLemmas
 pub mod CommonLayoutLemmas
-pub mod SyncLemmas
 pub mod ListingLemmas
 pub mod TrackFitLemmas
-pub mod CursorLemmas
 pub mod ReadRunLemmas
 pub mod FollowingLemmas
 pub mod TrafEndLemmas
-pub mod TrafTotalLemmas
-mod FirstSampleLemmas
+pub mod MoofTotalLemmas

@@ -9,11 +9,11 @@ use Rattle.mp4_init.specs.declared.table.Track.{Track}
 use Rattle.mp4_run_order.specs.declared.runs.ListedRun.{ListedRun}
 use Rattle.mp4_run_order.specs.Runs.{IsListing}
 use Rattle.mp4_run_order.proofs.ListLemmas.{Each, Pairs, all_of_pairs}
-use Rattle.mp4_frag.specs.declared.run.Run.{Run}
+use Rattle.mp4_traf.specs.declared.run.Run.{Run}
 use Rattle.mp4_frag.specs.Moofs.{moof_of, moof_runs, no_box}
 use Rattle.mp4_frag.specs.RunLists.{moof_listing}
 use Rattle.mp4_frag.specs.Places.{listed_run}
-use Rattle.mp4_frag.specs.Runs.{MoofBytes}
+use Rattle.mp4_traf.specs.Runs.{MoofBytes}
 use Rattle.mp4_frag.proofs.RunRowLemmas.{Earlier, moof_runs_rise}
 
 payload_by : (h : MoofBytes) → IsBytes h.bytes → (o : Option Box) → box_at h.offset h.bytes ≡ o → IsBytes (unwrap_or o no_box).payload

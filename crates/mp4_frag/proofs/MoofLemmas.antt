@@ -3,20 +3,22 @@ use Rattle.std.proofs.Common.{◌≡◌, ◌∙◌, ℕ, List, [], ◌∷◌, �
 use Rattle.std.specs.Prelude.{map, IfSome}
 use Rattle.std.specs.List.{flat_map}
 use Rattle.std.specs.Option.{option_or, unwrap_or}
-use Rattle.mp4_box.specs.declared.headers.FourCc.{FourCc}
 use Rattle.mp4_box.specs.declared.rules.Fault.{Fault}
 use Rattle.mp4_box.specs.Checks.{along}
 use Rattle.mp4_box.specs.Order.{least, IsIn, IsLeast}
-use Rattle.mp4_box.specs.Paths.{at_path, of_kind, paths_below}
+use Rattle.mp4_box.specs.Paths.{at_path, of_kind}
 use Rattle.mp4_box.specs.Trees.{Box, box_at, children, tree_faults, verdict}
 use Rattle.mp4_box.proofs.OrderLemmas.{least-is, least-none}
 use Rattle.mp4_init.specs.declared.table.Track.{Track}
 use Rattle.mp4_init.specs.Moovs.{fault_of, or_else}
-use Rattle.mp4_frag.specs.Kinds.{traf, trun, to_tfhd, to_trun}
+use Rattle.mp4_traf.specs.Kinds.{traf, to_tfhd, to_trun}
 use Rattle.mp4_frag.specs.Repeats.{repeat_faults}
-use Rattle.mp4_frag.specs.Rules.{child_faults, count_faults, form_faults, tfhd_faults, trun_faults}
-use Rattle.mp4_frag.specs.Moofs.{IsRead, fault_before_times, moof_fault, moof_faults, moof_of, no_box, moof_trafs, time_faults, time_faults_of, value_faults}
-use Rattle.mp4_frag.specs.Runs.{MoofBytes, traf_of, trafs_by}
+use Rattle.mp4_frag.specs.Rules.{child_faults, count_faults, form_faults}
+use Rattle.mp4_traf.specs.Rules.{tfhd_faults, trun_faults}
+use Rattle.mp4_frag.specs.Moofs.{IsRead, fault_before_times, moof_fault, moof_faults, moof_of, no_box, moof_trafs, time_faults, value_faults}
+use Rattle.mp4_traf.specs.TimeFaults.{time_faults_of}
+use Rattle.mp4_traf.specs.Runs.{MoofBytes, traf_of, trafs_by}
+use Rattle.mp4_traf.proofs.ChildLemmas.{on_path}
 
 pub moof_is : (o : ℕ) (x : List ℕ) (b : Box) → box_at o x ≡ Some b → moof_of (record { bytes = x; offset = o }) ≡ b
 moof_is o x b e = ap (λ (m : Option Box). unwrap_or m no_box) e
@@ -25,30 +27,6 @@ moof_is o x b e = ap (λ (m : Option Box). unwrap_or m no_box) e
 along_map : (h : MoofBytes) (tracks : List Track) (bs : List Box) → flat_map (λ (t : Box). time_faults_of (traf_of h tracks t)) bs ≡ time_faults (map (traf_of h tracks) bs)
 along_map h tracks [] = refl
 along_map h tracks (b ∷ bs) = ap (λ (fs : List Fault). time_faults_of (traf_of h tracks b) ++ fs) (along_map h tracks bs)
-
-pub path_one : (bs : List Box) → flat_map (at_path []) bs ≡ bs
-unfolding at_path
-path_one [] = refl
-path_one (b ∷ bs) = ap (λ (cs : List Box). b ∷ cs) (path_one bs)
-
--- the children of a type, as the boxes on a path
-pub path_kind : (kind : FourCc) (b : Box) → at_path (kind ∷ []) b ≡ of_kind kind (children b)
-unfolding at_path
-path_kind kind b = path_one (of_kind kind (children b))
-
--- the truns of a moof, as those of its trafs
-pub truns_first : (m : Box) (trafs truns : List Box) → trafs ≡ at_path (traf ∷ []) m → truns ≡ [] → truns ++ paths_below (trun ∷ []) trafs ≡ at_path to_trun m
-unfolding at_path
-truns_first m trafs truns e none =
-    ap (λ (bs : List Box). bs ++ paths_below (trun ∷ []) trafs) none ∙ ap (paths_below (trun ∷ [])) (e ∙ path_one (of_kind traf (children m)))
-
--- the truns of the first traf, and then those of the others
-pub truns_next : (trafs others : List Box) (t : Box) → trafs ≡ t ∷ others → at_path (trun ∷ []) t ++ paths_below (trun ∷ []) others ≡ paths_below (trun ∷ []) trafs
-truns_next trafs others t e = sym (ap (paths_below (trun ∷ [])) e)
-
-pub on_path : (m : Box) → at_path (traf ∷ []) m ≡ of_kind traf (children m)
-unfolding at_path
-on_path m = path_one (of_kind traf (children m))
 
 pub times_along : (h : MoofBytes) (tracks : List Track) (m : Box) → moof_of h ≡ m → flat_map (λ (t : Box). time_faults_of (traf_of h tracks t)) (at_path (traf ∷ []) m) ≡ time_faults (moof_trafs h tracks)
 times_along h tracks m e =

@@ -12,12 +12,12 @@ use Rattle.mp4_init.specs.declared.table.Track.{Track}
 use Rattle.mp4_run_order.specs.declared.runs.ListedRun.{ListedRun}
 use Rattle.mp4_run_order.specs.Orders.{FitsKeys}
 use Rattle.mp4_frag.specs.declared.run_row.RunRow.{RunRow}
-use Rattle.mp4_frag.specs.Kinds.{to_trun, traf}
+use Rattle.mp4_traf.specs.Kinds.{to_trun, traf}
 use Rattle.mp4_frag.specs.Moofs.{IsRead, moof_of, moof_runs}
-use Rattle.mp4_frag.specs.Ranges.{IsSound}
+use Rattle.mp4_traf.specs.Ranges.{IsSound}
 use Rattle.mp4_frag.specs.Implementation.Rereads.{run_of_row}
 use Rattle.mp4_frag.specs.Implementation.RunRows.{listed_row, listed_words, row_of_words, rows_of_trafs, rows_of_words}
-use Rattle.mp4_frag.specs.Runs.{MoofBytes, traf_of, trafs_by}
+use Rattle.mp4_traf.specs.Runs.{MoofBytes, traf_of, trafs_by}
 use Rattle.mp4_frag.proofs.MoofLemmas.{moof_is}
 use Rattle.mp4_frag.proofs.PlaceLemmas.{Lies, moof_lies}
 use Rattle.mp4_frag.proofs.RunListLemmas.{Filled, Known, map_map}

@@ -12,8 +12,8 @@ use Rattle.mp4_box.specs.Order.{least_from}
 use Rattle.mp4_box.specs.Paths.{of_kind}
 use Rattle.mp4_box.proofs.OrderLemmas.{least_from_append}
 use Rattle.mp4_init.specs.OrderedIds.{sought}
-use Rattle.mp4_frag.specs.Kinds.{traf}
-use Rattle.mp4_frag.specs.Rules.{fault_if}
+use Rattle.mp4_traf.specs.Kinds.{traf}
+use Rattle.mp4_traf.specs.Rules.{fault_if}
 use Rattle.mp4_frag.specs.Repeats.{traf_id, is_listed, is_repeat, lacks_time, repeat_faults, repeats, trafs_before, trafs_of, untimed_ids}
 use Rattle.mp4_frag.specs.Implementation.AtOnce.{IsCount, most_64}
 use Rattle.mp4_frag.specs.Implementation.RepeatMarks.{marked_at, all_marked, marks}

@@ -15,12 +15,13 @@ use Rattle.mp4_box.proofs.FilledLemmas.{over-each, over-filled}
 use Rattle.mp4_box.proofs.OrderLemmas.{least-none}
 use Rattle.mp4_box.proofs.TreeLemmas.{bad-leaf, bad-step, deep-leaf, deep-step}
 use Rattle.mp4_init.specs.declared.table.Track.{Track}
-use Rattle.mp4_frag.specs.Implementation.AtOnce.{by_moof, faults_in_moof, faults_in_traf, has_heads, is_complete, is_filled, is_kind, passed_over}
-use Rattle.mp4_frag.specs.Kinds.{mfhd, traf, tfhd, tfdt, trun, free, skip}
+use Rattle.mp4_frag.specs.Implementation.AtOnce.{by_moof, faults_in_moof, faults_in_traf, has_heads, is_complete, is_filled, passed_over}
+use Rattle.mp4_traf.specs.Kinds.{is_kind, mfhd, traf, tfhd, tfdt, trun, free, skip}
 use Rattle.mp4_frag.specs.Moofs.{fault_before_times, moof_faults, moof_of, value_faults}
 use Rattle.mp4_frag.specs.Repeats.{repeat_faults}
-use Rattle.mp4_frag.specs.Rules.{count_faults, fault_if, form_faults, is_among}
-use Rattle.mp4_frag.specs.Runs.{MoofBytes}
+use Rattle.mp4_frag.specs.Rules.{count_faults, form_faults}
+use Rattle.mp4_traf.specs.Rules.{fault_if, is_among}
+use Rattle.mp4_traf.specs.Runs.{MoofBytes}
 use Rattle.mp4_frag.proofs.AtOnceLemmas.{Passed, both_true, complete_first, each_none, supported_in_traf, traf_is}
 use Rattle.mp4_frag.proofs.EarlyLemmas.{none_least, values_count}
 use Rattle.mp4_frag.proofs.MoofLemmas.{early_is, early_least, last_none}

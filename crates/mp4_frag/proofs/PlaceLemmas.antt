@@ -10,7 +10,7 @@ use Rattle.mp4_box.specs.Trees.{Box, box_at, box_len, boxes, children, payload_o
 use Rattle.mp4_box.proofs.GrammarLemmas.{lies_at, option_is, whole_len}
 use Rattle.mp4_box.proofs.HeaderLemmas.{IsBytes-drop}
 use Rattle.mp4_box.proofs.TreeLemmas.{boxes_more, boxes_end, over-end}
-use Rattle.mp4_frag.specs.Runs.{MoofBytes}
+use Rattle.mp4_traf.specs.Runs.{MoofBytes}
 
 -- the payload of a box is a part of the bytes that are held
 pub record Lies (h : MoofBytes) (b : Box) : Type 0 where

@@ -9,17 +9,17 @@ use Rattle.mp4_box.specs.Headers.{IsBytes, IsWhole}
 use Rattle.mp4_box.specs.Paths.{of_kind}
 use Rattle.mp4_box.specs.Trees.{Box, children}
 use Rattle.mp4_init.specs.declared.table.Track.{Track}
-use Rattle.mp4_frag.specs.declared.run.Run.{Run}
-use Rattle.mp4_frag.specs.Ranges.{AreRunsOf, InRange, IsRunOf}
+use Rattle.mp4_traf.specs.declared.run.Run.{Run}
+use Rattle.mp4_traf.specs.Ranges.{AreRunsOf, InRange, IsRunOf}
 use Rattle.mp4_frag.specs.After.{IsBetween}
-use Rattle.mp4_frag.specs.Kinds.{traf}
+use Rattle.mp4_traf.specs.Kinds.{traf}
 use Rattle.mp4_frag.specs.Moofs.{IsRead, moof_of, moof_runs, moof_samples}
-use Rattle.mp4_frag.specs.Rows.{durations, group_at, row_of, rows_of, sizes}
-use Rattle.mp4_frag.specs.Rules.{most_in_moof}
-use Rattle.mp4_frag.specs.Runs.{MoofBytes, Shared, end_place, run_of, runs_from, runs_of, traf_of}
+use Rattle.mp4_traf.specs.Rows.{durations, group_at, row_of, rows_of, sizes}
+use Rattle.mp4_traf.specs.Rules.{most_in_moof}
+use Rattle.mp4_traf.specs.Runs.{MoofBytes, Shared, end_place, run_of, runs_from, runs_of, traf_of}
 use Rattle.mp4_frag.proofs.AfterLemmas.{after_run}
 use Rattle.mp4_frag.proofs.MoofLemmas.{read_count}
-use Rattle.mp4_frag.proofs.RowLemmas.{length_rows_of}
+use Rattle.mp4_traf.proofs.RowLemmas.{length_rows_of}
 use Rattle.mp4_frag.proofs.SoundLemmas.{few_timed, rows_are_samples}
 
 -- ---- what holds of all

@@ -17,17 +17,15 @@ use Rattle.mp4_run_order.specs.Implementation.Searches.{found_by_place, found_by
 use Rattle.mp4_run_order.proofs.ListLemmas.{Each, Pairs, all_of_pairs, each_moved, pairs_of_all, pairs_of_map, pairs_with}
 use Rattle.mp4_run_order.proofs.OrderLemmas.{TakenBefore, order_is_taken, place_keys_order, taken_alone, taken_is_order, taken_map, track_keys_order}
 use Rattle.mp4_run_order.proofs.SearchLemmas.{offender_means, search_is}
-use Rattle.mp4_frag.specs.declared.run.Run.{Run}
+use Rattle.mp4_traf.specs.declared.run.Run.{Run}
 use Rattle.mp4_frag.specs.declared.run_row.RunRow.{RunRow}
 use Rattle.mp4_frag.specs.Moofs.{moof_runs}
-use Rattle.mp4_frag.specs.Runs.{MoofBytes}
+use Rattle.mp4_traf.specs.Runs.{MoofBytes}
 use Rattle.mp4_frag.specs.Implementation.Rereads.{run_of_row}
 use Rattle.mp4_frag.specs.Implementation.RunRows.{listed_row, listed_words, place_word, row_of_words, rows_of_words, track_word}
-use Rattle.mp4_frag.specs.Places.{listed_run}
-use Rattle.mp4_frag.specs.Places.{IsPlaceFault, run_place_fault, place_fault}
-use Rattle.mp4_frag.specs.RunLists.{moof_listing, taken_runs}
+use Rattle.mp4_frag.specs.Places.{listed_run, IsPlaceFault, run_place_fault, place_fault}
+use Rattle.mp4_frag.specs.RunLists.{moof_listing, taken_runs, ListedRows}
 use Rattle.mp4_frag.specs.ListsOfRuns.{IsListOf}
-use Rattle.mp4_frag.specs.RunLists.{ListedRows}
 use Rattle.mp4_frag.specs.Implementation.ListedRows.{IsFaultyByTrack, IsSorted}
 use Rattle.mp4_frag.proofs.RunRowLemmas.{Earlier, Given}
 

@@ -13,15 +13,16 @@ use Rattle.mp4_box.proofs.GrammarLemmas.{lies_at, found}
 use Rattle.mp4_box.proofs.HeaderLemmas.{IsBytes-drop}
 use Rattle.mp4_init.specs.declared.table.Track.{Track}
 use Rattle.mp4_run_order.proofs.ListLemmas.{Each, Pairs, each_always, each_weaker}
-use Rattle.mp4_frag.specs.declared.run.Run.{Run}
+use Rattle.mp4_traf.specs.declared.run.Run.{Run}
 use Rattle.mp4_run_order.specs.declared.runs.ListedRun.{ListedRun}
 use Rattle.mp4_frag.specs.declared.run_row.RunRow.{RunRow}
-use Rattle.mp4_frag.specs.Fields.{payload_of}
-use Rattle.mp4_frag.specs.Kinds.{tfhd, to_trun, traf, trun}
-use Rattle.mp4_frag.specs.Runs.{MoofBytes, Shared, end_place, header_by, known_track, run_at, run_of, runs_from, runs_of, shared_by, tfhd_of, track_of, traf_of}
-use Rattle.mp4_frag.specs.Tfhd.{track_id}
+use Rattle.mp4_traf.specs.Fields.{payload_of}
+use Rattle.mp4_traf.specs.Kinds.{tfhd, to_trun, traf, trun}
+use Rattle.mp4_traf.specs.Runs.{MoofBytes, Shared, end_place, header_by, known_track, run_at, run_of, runs_from, runs_of, shared_by, tfhd_of, track_of, traf_of}
+use Rattle.mp4_traf.specs.Tfhd.{track_id}
 use Rattle.mp4_frag.specs.Implementation.Rereads.{box_after, box_in, absent_box, run_of_row}
-use Rattle.mp4_frag.specs.Implementation.RunRows.{listed_row, offset_or_none, row_of_run, rows_of_traf, rows_of_trafs, tfhd_at}
+use Rattle.mp4_frag.specs.Implementation.RunRows.{listed_row, row_of_run, rows_of_traf, rows_of_trafs}
+use Rattle.mp4_traf.specs.Implementation.Heads.{offset_or_none, tfhd_at}
 use Rattle.mp4_frag.specs.Places.{listed_run}
 use Rattle.mp4_frag.proofs.PlaceLemmas.{Lies, children_lie, inner, kind_all}
 use Rattle.mp4_frag.proofs.BoxOrderLemmas.{FoundIn, IsBoxAfter, none_left, boxes_found, boxes_rise, kind_found, kind_rise}

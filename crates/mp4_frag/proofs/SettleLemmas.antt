@@ -1,37 +1,38 @@
 -- The tracks after a moof: the ends before it serve each traf that has no tfdt.
-use Rattle.std.proofs.Common.{◌≡◌, ◌∙◌, ◌+◌, ◌^◌, ◌<◌, ◌≤◌, ◌==◌, ◌&&◌, ℕ, ℤ, pos, suc, Bool, true, false, cond, ltb, List, [], ◌∷◌, ◌++◌, map, Option, Some, None, refl, sym, ap, subst, arith, length}
+use Rattle.std.proofs.Common.{◌≡◌, ◌∙◌, ◌+◌, ◌^◌, ◌<◌, ◌≤◌, ◌==◌, ◌&&◌, ℕ, pos, suc, Bool, true, false, cond, List, [], ◌∷◌, ◌++◌, map, Option, Some, None, refl, sym, ap, subst, arith, length}
 use Rattle.std.specs.Prelude.{option_map, slice_get}
 use Rattle.std.specs.List.{AllByRecursion, flat_map, fold, position, position_from}
 use Rattle.std.specs.Option.{is_none, option_and_then, unwrap_or}
-use Rattle.std.proofs.lemmas.Bool.{lt-ltb, ltb-true}
+use Rattle.std.proofs.lemmas.Bool.{lt-ltb}
 use Rattle.std.proofs.lemmas.Iterator.Adapters.{position_from-zero}
 use Rattle.mp4_box.specs.declared.rules.Fault.{Fault}
 use Rattle.mp4_box.specs.declared.rules.Rule.TheVariants.{Unsupported}
 use Rattle.mp4_box.specs.Headers.{IsBytes, IsWhole}
-use Rattle.std.proofs.lemmas.List.Sums.{sum_by-append, sum_by-cons}
+use Rattle.std.proofs.lemmas.List.Sums.{sum_by-append}
 use Rattle.mp4_box.specs.Paths.{at_path, of_kind, paths_below}
 use Rattle.mp4_box.specs.Trees.{Box, box_at, children, first_of}
 use Rattle.mp4_init.specs.declared.table.Track.{Track}
 use Rattle.mp4_init.specs.Tracks.{with_next}
 use Rattle.mp4_init.proofs.RowLemmas.{length_with_next}
 use Rattle.mp4_init.proofs.SearchTreeLemmas.{is_same}
-use Rattle.mp4_frag.specs.declared.run.Run.{Run}
-use Rattle.mp4_frag.specs.Kinds.{tfdt, traf, trun}
-use Rattle.mp4_frag.specs.Rules.{fault_if, track_with}
-use Rattle.mp4_frag.specs.Tfhd.{track_id}
-use Rattle.mp4_frag.specs.Runs.{MoofBytes, Shared, TrackFragment, base_by, base_of, end_of, end_place, header_by, last_end, no_track, run_of, runs_from, runs_of, shared_by, tfhd_of, traf_of, trafs_by, track_of}
-use Rattle.mp4_frag.specs.Ranges.{IsSound}
-use Rattle.mp4_frag.specs.Moofs.{IsRead, late, moof_of, moof_trafs}
+use Rattle.mp4_traf.specs.declared.run.Run.{Run}
+use Rattle.mp4_traf.specs.Kinds.{tfdt, traf, trun}
+use Rattle.mp4_traf.specs.Rules.{fault_if, track_with}
+use Rattle.mp4_traf.specs.Tfhd.{track_id}
+use Rattle.mp4_traf.specs.Runs.{MoofBytes, TrackFragment, base_by, base_of, end_of, header_by, no_track, runs_of, tfhd_of, traf_of, trafs_by, track_of}
+use Rattle.mp4_traf.specs.Ranges.{IsSound}
+use Rattle.mp4_frag.specs.Moofs.{IsRead, moof_of, moof_trafs}
+use Rattle.mp4_traf.specs.TimeFaults.{late}
 use Rattle.mp4_frag.specs.Repeats.{traf_id, lacks_time, is_listed, is_repeat, repeat_faults, repeats}
-use Rattle.mp4_frag.specs.Settling.{ended, ended_at, settled, timed, timed_in, with_end}
-use Rattle.mp4_frag.specs.Implementation.SettlingSteps.{EachInTime, EndsInTime, settled_on, ticks_from}
-use Rattle.mp4_frag.specs.Implementation.Times.{late_from, late_trun, ticks_in}
+use Rattle.mp4_traf.specs.Settling.{ended, ended_at, settled, timed, timed_in, with_end}
+use Rattle.mp4_frag.specs.Implementation.SettlingSteps.{EachInTime, settled_on}
+use Rattle.mp4_traf.specs.Implementation.Ends.{EndsInTime}
 use Rattle.mp4_frag.specs.Laws.{in_turn}
-use Rattle.mp4_frag.proofs.MoofLemmas.{on_path, early, read_early, values}
+use Rattle.mp4_traf.proofs.ChildLemmas.{on_path}
+use Rattle.mp4_frag.proofs.MoofLemmas.{early, read_early, values}
 use Rattle.mp4_frag.proofs.PassLemmas.{listed-append}
-use Rattle.mp4_frag.proofs.RunLemmas.{traf_is}
 use Rattle.mp4_frag.proofs.SoundLemmas.{all_sound}
-use Rattle.mp4_frag.proofs.TimeLemmas.{end_is, late_are}
+use Rattle.mp4_traf.proofs.TimeLemmas.{late_are}
 
 -- ---- the track of a track_ID
 
@@ -206,17 +207,6 @@ each_in_time h now before earlier (t ∷ ts) a e sound =
 same_tracks : (tracks : List Track) → Agree tracks tracks []
 same_tracks tracks = record { same = λ id e. refl; like = λ id. refl }
 
--- ---- where a traf ends
-
-ends_at_ticks : (s : Shared) (time : ℕ) (last : ℤ) (bs : List Box) → last_end time (runs_from s time last bs) ≡ ticks_from s time bs
-unfolding runs_from ticks_from
-ends_at_ticks s time last [] = refl
-ends_at_ticks s time last (b ∷ bs) =
-    ends_at_ticks s (run_of s time last b).end (end_place (run_of s time last b)) bs ∙ ap (λ (n : ℕ). ticks_from s n bs) (end_is s time last b)
-
-pub end_is_ticks : (t : TrackFragment) → end_of t ≡ ticks_from t.shared t.time t.truns
-end_is_ticks t = ends_at_ticks t.shared t.time (pos t.shared.moof.offset) t.truns
-
 -- ---- a moof that was read
 
 pub record Settles (h : MoofBytes) (tracks : List Track) (ts : List Box) : Type 0 where
@@ -233,31 +223,6 @@ settles h tracks m near whole fits here is read =
     })
 
 -- ---- the loop over the truns of a traf
-
-first_in_time : (s : Shared) (time : ℕ) (b : Box) (bs : List Box) → late_from s time (b ∷ bs) ≡ [] → (time + ticks_in s b < 2 ^ 64) × (late_from s (time + ticks_in s b) bs ≡ [])
-unfolding late_from
-first_in_time s time b bs e = by (ltb (time + ticks_in s b) (2 ^ 64)) refl e
-  where
-    by : (t : Bool) → ltb (time + ticks_in s b) (2 ^ 64) ≡ t → cond t [] (late_trun b ∷ []) ++ late_from s (time + ticks_in s b) bs ≡ [] → (time + ticks_in s b < 2 ^ 64) × (late_from s (time + ticks_in s b) bs ≡ [])
-    by true t e = (ltb-true (time + ticks_in s b) (2 ^ 64) t, e)
-    by false t e = absurd cc
-
-pub tick_fits : (s : Shared) (time : ℕ) (b : Box) (bs : List Box) → late_from s time (b ∷ bs) ≡ [] → time + ticks_in s b < 2 ^ 64
-tick_fits s time b bs e = (first_in_time s time b bs e).0
-
-pub tick_more : (s : Shared) (time : ℕ) (b : Box) (bs : List Box) → late_from s time (b ∷ bs) ≡ [] → late_from s (time + ticks_in s b) bs ≡ []
-tick_more s time b bs e = (first_in_time s time b bs e).1
-
--- past a trun
-pub ticks_on : (s : Shared) (time ticks : ℕ) (b : Box) (bs rest : List Box) → bs ≡ b ∷ rest → ticks ≡ ticks_in s b → ticks_from s (time + ticks) rest ≡ ticks_from s time bs
-unfolding ticks_from
-ticks_on s time ticks b bs rest e t = rw (e, t) refl
-
-pub late_on : (s : Shared) (time ticks : ℕ) (b : Box) (bs rest : List Box) → bs ≡ b ∷ rest → ticks ≡ ticks_in s b → late_from s time bs ≡ [] → late_from s (time + ticks) rest ≡ []
-late_on s time ticks b bs rest e t none = rw t (tick_more s time b rest (ap (late_from s time) (sym e) ∙ none))
-
-pub timed_on : (n : ℕ) (b : Box) (bs rest : List Box) → bs ≡ b ∷ rest → n ≡ timed b.payload → n + timed_in rest ≡ timed_in bs
-timed_on n b bs rest e t = let sum = sum_by-cons (λ (b : Box). timed b.payload) b rest in rw e (omega (arith, sum, t))
 
 -- past a traf
 pub timed_past : (b : Box) (bs : List Box) → timed_in (paths_below (trun ∷ []) (b ∷ bs)) ≡ timed_in (at_path (trun ∷ []) b) + timed_in (paths_below (trun ∷ []) bs)
@@ -280,15 +245,6 @@ settled_more h tracks b bs = refl
 pub settled_none : (h : MoofBytes) (tracks : List Track) → settled_on h tracks [] ≡ tracks
 unfolding settled_on
 settled_none h tracks = refl
-
--- the track of a traf is set to its end
-pub ended_is : (h : MoofBytes) (tracks : List Track) (b : Box) (track : Track) (s : Shared) (time end i : ℕ) → track ≡ track_of tracks b → s ≡ shared_by h track b → time ≡ base_of track.next b → end ≡ ticks_from s time (of_kind trun (children b))
-    → position (λ (t : Track). t.id == s.header.track) tracks ≡ Some i → with_next i end tracks ≡ ended tracks (traf_of h tracks b)
-ended_is h tracks b track s time end i known shares begins ends at =
-    let t : TrackFragment = record { shared = s; time = time; truns = of_kind trun (children b) } in
-    ap (λ (o : Option ℕ). ended_at o end tracks) (sym at)
-    ∙ ap (λ (n : ℕ). with_end s.header.track n tracks) (ends ∙ sym (end_is_ticks t))
-    ∙ ap (ended tracks) (traf_is h tracks b track s time known shares begins)
 
 -- ---- trafs in turn
 

@@ -10,25 +10,27 @@ use Rattle.mp4_box.specs.declared.box_ref.BoxRef.{BoxRef}
 use Rattle.mp4_init.specs.declared.table.Track.{Track}
 use Rattle.mp4_init.specs.Tracks.{with_next}
 use Rattle.mp4_frag.specs.declared.single_run.SingleRun.{SingleRun}
-use Rattle.mp4_frag.specs.declared.run.Run.{Run}
-use Rattle.mp4_frag.specs.declared.traf.TrafHeader.{TrafHeader}
-use Rattle.mp4_frag.specs.Fields.{payload_of}
-use Rattle.mp4_frag.specs.Kinds.{tfhd, to_tfhd, traf, trun}
+use Rattle.mp4_traf.specs.declared.run.Run.{Run}
+use Rattle.mp4_traf.specs.declared.traf.TrafHeader.{TrafHeader}
+use Rattle.mp4_traf.specs.Fields.{payload_of}
+use Rattle.mp4_traf.specs.Kinds.{tfhd, to_tfhd, traf, trun}
 use Rattle.mp4_frag.specs.SingleRuns.{IsSingle}
 use Rattle.mp4_frag.specs.Moofs.{IsRead, moof_of, moof_runs, moof_samples, moof_trafs}
-use Rattle.mp4_frag.specs.Ranges.{InRange, IsSound}
-use Rattle.mp4_frag.specs.Rows.{rows_of}
-use Rattle.mp4_frag.specs.Rules.{form_faults, tfhd_faults, track_faults, track_with}
-use Rattle.mp4_frag.specs.Runs.{MoofBytes, Shared, TrackFragment, base_of, end_in, end_of, header_by, no_track, track_of, end_place, last_end, run_of, runs_from, runs_of, shared_by, tfhd_of, traf_of, trafs_by}
-use Rattle.mp4_frag.specs.Settling.{ended_at, settled}
-use Rattle.mp4_frag.specs.Tfhd.{track_id}
-use Rattle.mp4_frag.specs.Implementation.Times.{ticks_in}
-use Rattle.mp4_frag.proofs.MoofLemmas.{early, last_none, path_kind, read_early, values}
+use Rattle.mp4_traf.specs.Ranges.{InRange, IsSound}
+use Rattle.mp4_traf.specs.Rows.{rows_of}
+use Rattle.mp4_frag.specs.Rules.{form_faults}
+use Rattle.mp4_traf.specs.Rules.{tfhd_faults, track_faults, track_with}
+use Rattle.mp4_traf.specs.Runs.{MoofBytes, Shared, TrackFragment, base_of, end_in, end_of, header_by, no_track, track_of, end_place, last_end, run_of, runs_from, runs_of, shared_by, tfhd_of, traf_of, trafs_by}
+use Rattle.mp4_traf.specs.Settling.{ended_at, settled}
+use Rattle.mp4_traf.specs.Tfhd.{track_id}
+use Rattle.mp4_traf.specs.Implementation.Times.{ticks_in}
+use Rattle.mp4_frag.proofs.MoofLemmas.{early, last_none, read_early, values}
+use Rattle.mp4_traf.proofs.ChildLemmas.{path_kind}
 use Rattle.mp4_frag.proofs.MoofListLemmas.{IsMoof}
-use Rattle.mp4_frag.proofs.RowLemmas.{length_rows_of}
-use Rattle.mp4_frag.proofs.RunLemmas.{first_in_range}
+use Rattle.mp4_traf.proofs.RowLemmas.{length_rows_of}
+use Rattle.mp4_traf.proofs.RunLemmas.{first_in_range}
 use Rattle.mp4_frag.proofs.SoundLemmas.{all_sound, rows_are_samples}
-use Rattle.mp4_frag.proofs.StartLemmas.{Starts, runs_are, runs_in_range}
+use Rattle.mp4_traf.proofs.StartLemmas.{Starts, runs_are, runs_in_range}
 
 -- ---- the only trun of a traf
 

@@ -13,21 +13,23 @@ use Rattle.mp4_box.specs.Paths.{of_kind, at_path}
 use Rattle.mp4_box.specs.Trees.{Box, box_at, children, fault_at, first_of}
 use Rattle.mp4_box.proofs.GrammarLemmas.{option_is, whole_found}
 use Rattle.mp4_init.specs.declared.table.Track.{Track}
-use Rattle.mp4_frag.specs.declared.run.Run.{Run}
-use Rattle.mp4_frag.specs.Kinds.{tfhd, traf, trun, to_trun}
-use Rattle.mp4_frag.specs.Fields.{flags_in, number_or, payload_of}
-use Rattle.mp4_frag.specs.Tfhd.{fields_of, track_id}
-use Rattle.mp4_frag.specs.Trun.{sample_count, sample_duration_present}
-use Rattle.mp4_frag.specs.Settling.{timed, timed_in, timed_of}
-use Rattle.mp4_frag.specs.Rules.{count_faults, most_in_moof, samples_in, samples_of, too_many}
-use Rattle.mp4_frag.specs.Rows.{rows_of}
-use Rattle.mp4_frag.specs.Runs.{MoofBytes, Shared, end_place, run_at, no_track, run_of, runs_from, runs_of, tfhd_of, track_of, traf_of, trafs_by}
-use Rattle.mp4_frag.specs.Moofs.{IsRead, late, late_fault, moof_of, moof_runs, moof_samples, moof_trafs, time_faults, time_faults_of}
-use Rattle.mp4_frag.specs.Ranges.{InRange, IsSound}
+use Rattle.mp4_traf.specs.declared.run.Run.{Run}
+use Rattle.mp4_traf.specs.Kinds.{tfhd, traf, trun, to_trun}
+use Rattle.mp4_traf.specs.Fields.{flags_in, number_or, payload_of}
+use Rattle.mp4_traf.specs.Tfhd.{fields_of, track_id}
+use Rattle.mp4_traf.specs.Trun.{sample_count, sample_duration_present}
+use Rattle.mp4_traf.specs.Settling.{timed, timed_in, timed_of}
+use Rattle.mp4_frag.specs.Rules.{count_faults, samples_of, too_many}
+use Rattle.mp4_traf.specs.Rules.{most_in_moof, samples_in}
+use Rattle.mp4_traf.specs.Rows.{rows_of}
+use Rattle.mp4_traf.specs.Runs.{MoofBytes, Shared, end_place, run_at, no_track, run_of, runs_from, runs_of, tfhd_of, track_of, traf_of, trafs_by}
+use Rattle.mp4_frag.specs.Moofs.{IsRead, moof_of, moof_runs, moof_samples, moof_trafs, time_faults}
+use Rattle.mp4_traf.specs.TimeFaults.{late, late_fault, time_faults_of}
+use Rattle.mp4_traf.specs.Ranges.{InRange, IsSound}
 use Rattle.mp4_frag.proofs.MoofLemmas.{last_none, moof_is, read_count, read_times}
 use Rattle.mp4_box.proofs.ByteLemmas.{number_small}
-use Rattle.mp4_frag.proofs.RangeLemmas.{in_range}
-use Rattle.mp4_frag.proofs.RowLemmas.{length_rows_of}
+use Rattle.mp4_traf.proofs.RangeLemmas.{in_range}
+use Rattle.mp4_traf.proofs.RowLemmas.{length_rows_of}
 use Rattle.mp4_frag.proofs.PlaceLemmas.{Lies, children_lie, kind_all, moof_lies}
 
 -- ---- ends

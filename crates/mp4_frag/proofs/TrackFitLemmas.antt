@@ -5,8 +5,8 @@ use Rattle.std.specs.List.{AllByRecursion, position}
 use Rattle.mp4_init.specs.declared.table.Track.{Track}
 use Rattle.mp4_init.specs.Tracks.{with_next}
 use Rattle.mp4_init.specs.TrackFields.{FitsTrackFields}
-use Rattle.mp4_frag.specs.Runs.{TrackFragment, end_of}
-use Rattle.mp4_frag.specs.Settling.{ended, ended_at, settled, with_end}
+use Rattle.mp4_traf.specs.Runs.{TrackFragment, end_of}
+use Rattle.mp4_traf.specs.Settling.{ended, ended_at, settled, with_end}
 
 next_fits : (i n : ℕ) (ts : List Track) → AllByRecursion FitsTrackFields ts → AllByRecursion FitsTrackFields (with_next i n ts)
 unfolding with_next

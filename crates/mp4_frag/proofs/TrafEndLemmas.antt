@@ -8,15 +8,16 @@ use Rattle.mp4_box.specs.Paths.{at_path, of_kind, paths_below}
 use Rattle.mp4_box.specs.Trees.{Box, children}
 use Rattle.mp4_init.specs.declared.table.Track.{Track}
 use Rattle.mp4_frag.specs.declared.traf_ends.TrafEnd.{TrafEnd}
-use Rattle.mp4_frag.specs.Fields.{flags_in, place_if}
-use Rattle.mp4_frag.specs.Kinds.{traf, trun}
+use Rattle.mp4_traf.specs.Fields.{flags_in, place_if}
+use Rattle.mp4_traf.specs.Kinds.{traf, trun}
 use Rattle.mp4_frag.specs.Moofs.{IsRead, moof_of, moof_trafs}
-use Rattle.mp4_frag.specs.Runs.{MoofBytes, Shared, TrackFragment, end_place, run_at, run_of, runs_from, runs_of, traf_of}
-use Rattle.mp4_frag.specs.Settling.{settled, timed, timed_in, timed_of}
+use Rattle.mp4_traf.specs.Runs.{MoofBytes, Shared, TrackFragment, end_place, run_at, run_of, runs_from, runs_of, traf_of}
+use Rattle.mp4_traf.specs.Settling.{settled, timed, timed_in, timed_of}
 use Rattle.mp4_frag.specs.TrafEnds.{ended_by, few_trafs, traf_end}
-use Rattle.mp4_frag.specs.Trun.{sample_count, sample_duration_present, sample_fields}
+use Rattle.mp4_traf.specs.Trun.{sample_count, sample_duration_present, sample_fields}
 use Rattle.mp4_frag.specs.Implementation.Following.{count_if, ends_by, runs_of_trafs, timed_run}
-use Rattle.mp4_frag.proofs.MoofLemmas.{path_kind, read_count, truns_first}
+use Rattle.mp4_traf.proofs.ChildLemmas.{path_kind, truns_first}
+use Rattle.mp4_frag.proofs.MoofLemmas.{read_count}
 use Rattle.mp4_frag.proofs.MoofListLemmas.{IsMoof}
 use Rattle.mp4_frag.proofs.RunRowLemmas.{on_path}
 use Rattle.mp4_frag.proofs.SettleLemmas.{timed_past}

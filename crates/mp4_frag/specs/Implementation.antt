@@ -1,6 +1,5 @@
 -- Only the code's own way; no public clause needs this.
 -- What a stream means is defined in the folder above, without these.
-pub mod Added
 pub mod AtOnce
 pub mod Following
 pub mod ListedRows
@@ -9,6 +8,4 @@ pub mod Rereads
 pub mod RunRows
 pub mod LaterRuns
 pub mod SettlingSteps
-pub mod Times
-pub mod TrafContexts
 pub mod CommonLayout

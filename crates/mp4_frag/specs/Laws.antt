@@ -4,14 +4,14 @@ use Rattle.std.specs.List.{AllByRecursion}
 use Rattle.mp4_box.specs.Trees.{Box, children}
 use Rattle.mp4_box.specs.Paths.{of_kind}
 use Rattle.mp4_init.specs.declared.table.Track.{Track}
-use Rattle.mp4_frag.specs.declared.run.Run.{Run}
-use Rattle.mp4_frag.specs.declared.rows.Row.{Row}
-use Rattle.mp4_frag.specs.Kinds.{trun}
-use Rattle.mp4_frag.specs.Fields.{flags_in}
-use Rattle.mp4_frag.specs.Trun.{sample_count, sample_fields, trun_fields}
-use Rattle.mp4_frag.specs.Rows.{row_from, row_of}
-use Rattle.mp4_frag.specs.Runs.{MoofBytes, Shared, TrackFragment, run_of, shared_by, track_of, traf_of}
-use Rattle.mp4_frag.specs.Settling.{ended}
+use Rattle.mp4_traf.specs.declared.run.Run.{Run}
+use Rattle.mp4_traf.specs.declared.rows.Row.{Row}
+use Rattle.mp4_traf.specs.Kinds.{trun}
+use Rattle.mp4_traf.specs.Fields.{flags_in}
+use Rattle.mp4_traf.specs.Trun.{sample_count, sample_fields, trun_fields}
+use Rattle.mp4_traf.specs.Rows.{row_from, row_of}
+use Rattle.mp4_traf.specs.Runs.{MoofBytes, Shared, TrackFragment, run_of, shared_by, track_of, traf_of}
+use Rattle.mp4_traf.specs.Settling.{ended}
 
 -- where group i begins in the payload of a trun
 abbrev pub group_in : List ℕ → ℕ → ℕ

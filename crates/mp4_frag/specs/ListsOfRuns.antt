@@ -2,7 +2,7 @@
 use Rattle.std.specs.Prelude.{◌≡◌, List}
 use Rattle.mp4_init.specs.declared.table.Track.{Track}
 use Rattle.mp4_frag.specs.RunLists.{ListedRows, listed_runs, taken_runs}
-use Rattle.mp4_frag.specs.Runs.{MoofBytes}
+use Rattle.mp4_traf.specs.Runs.{MoofBytes}
 use Rattle.mp4_frag.specs.Implementation.ListedRows.{AreOrdered}
 
 -- its runs are those of the moof with these tracks, by their offset. What it keeps of their order no caller needs

@@ -1,23 +1,24 @@
 -- Result of reading a moof: its trafs, its runs and its samples, or its fault.
-use Rattle.std.specs.Prelude.{◌≡◌, ℕ, List, [], ◌∷◌, ◌++◌, ◌^◌, nat_lt, if◌then◌else◌, Option, Some, None, length}
+use Rattle.std.specs.Prelude.{◌≡◌, ℕ, List, [], ◌∷◌, ◌++◌, Option, None, length}
 use Rattle.std.specs.List.{flat_map}
 use Rattle.std.specs.Option.{option_or, unwrap_or}
 use Rattle.mp4_box.specs.declared.headers.Size.TheVariants.{ToEnd}
 use Rattle.mp4_box.specs.declared.rules.Fault.{Fault}
-use Rattle.mp4_box.specs.declared.rules.Rule.TheVariants.{TimeRange}
 use Rattle.mp4_box.specs.Checks.{along}
 use Rattle.mp4_box.specs.Order.{least}
 use Rattle.mp4_box.specs.Paths.{at_path}
 use Rattle.mp4_box.specs.Trees.{Box, box_at, children, first_of, tree_faults, verdict}
 use Rattle.mp4_init.specs.declared.table.Track.{Track}
 use Rattle.mp4_init.specs.Moovs.{fault_of, or_else}
-use Rattle.mp4_frag.specs.Fields.{payload_of}
-use Rattle.mp4_frag.specs.Kinds.{mfhd, to_tfhd, to_trun, trun}
+use Rattle.mp4_traf.specs.Fields.{payload_of}
+use Rattle.mp4_traf.specs.Kinds.{mfhd, to_tfhd, to_trun}
 use Rattle.mp4_frag.specs.Mfhd.{sequence_number}
-use Rattle.mp4_frag.specs.Rules.{child_faults, count_faults, form_faults, samples_of, tfhd_faults, trun_faults}
+use Rattle.mp4_frag.specs.Rules.{child_faults, count_faults, form_faults, samples_of}
+use Rattle.mp4_traf.specs.Rules.{tfhd_faults, trun_faults}
 use Rattle.mp4_frag.specs.Repeats.{repeat_faults}
-use Rattle.mp4_frag.specs.Runs.{MoofBytes, TrackFragment, runs_of, trafs_by}
-use Rattle.mp4_frag.specs.declared.run.Run.{Run}
+use Rattle.mp4_traf.specs.Runs.{MoofBytes, TrackFragment, runs_of, trafs_by}
+use Rattle.mp4_traf.specs.declared.run.Run.{Run}
+use Rattle.mp4_traf.specs.TimeFaults.{time_faults_of}
 
 -- an empty box, where the bytes are no box
 abbrev pub no_box : Box
@@ -57,17 +58,6 @@ value_faults tracks m =
     ++ along (tfhd_faults tracks) to_tfhd m
     ++ along trun_faults to_trun m
     ++ count_faults m
-
--- the fault of a run that ends past 64 bits: its trun
-abbrev pub late_fault : Run → Fault
-late_fault run = record { rule = TimeRange; kind = Some trun; offset = run.offset }
-
-abbrev pub late : Run → List Fault
-late run = if nat_lt run.end (2 ^ 64) then [] else late_fault run ∷ []
-
--- the truns of a traf whose runs end past 64 bits
-abbrev pub time_faults_of : TrackFragment → List Fault
-time_faults_of t = flat_map late (runs_of t)
 
 -- those of all trafs
 abbrev pub time_faults : List TrackFragment → List Fault

@@ -5,8 +5,8 @@ use Rattle.mp4_box.specs.declared.rules.Rule.TheVariants.{RunPlace}
 use Rattle.mp4_run_order.specs.declared.runs.ListedRun.{ListedRun}
 use Rattle.mp4_run_order.specs.declared.runs.Payload.{Payload}
 use Rattle.mp4_run_order.specs.Places.{IsFirstOffender, Placed, first_offender}
-use Rattle.mp4_frag.specs.declared.run.Run.{Run}
-use Rattle.mp4_frag.specs.Kinds.{trun}
+use Rattle.mp4_traf.specs.declared.run.Run.{Run}
+use Rattle.mp4_traf.specs.Kinds.{trun}
 
 abbrev pub listed_run : Run → ListedRun
 listed_run run = record { number = run.offset; track = run.track; count = run.count; place = run.place; bytes = run.bytes }

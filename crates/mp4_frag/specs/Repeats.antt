@@ -5,10 +5,10 @@ use Rattle.mp4_box.specs.declared.rules.Fault.{Fault}
 use Rattle.mp4_box.specs.declared.rules.Rule.TheVariants.{Unsupported}
 use Rattle.mp4_box.specs.Trees.{Box, children, first_of}
 use Rattle.mp4_box.specs.Paths.{of_kind, at_path}
-use Rattle.mp4_frag.specs.Fields.{payload_of}
-use Rattle.mp4_frag.specs.Kinds.{traf, tfhd, tfdt}
-use Rattle.mp4_frag.specs.Tfhd.{track_id}
-use Rattle.mp4_frag.specs.Rules.{fault_if}
+use Rattle.mp4_traf.specs.Fields.{payload_of}
+use Rattle.mp4_traf.specs.Kinds.{traf, tfhd, tfdt}
+use Rattle.mp4_traf.specs.Tfhd.{track_id}
+use Rattle.mp4_traf.specs.Rules.{fault_if}
 
 -- track_ID of its tfhd
 unfoldable pub traf_id : Box → ℕ

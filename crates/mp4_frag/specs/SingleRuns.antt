@@ -5,10 +5,10 @@ use Rattle.mp4_box.specs.declared.rules.Fault.{Fault}
 use Rattle.mp4_init.specs.Tracks.{with_next}
 use Rattle.mp4_init.specs.declared.table.Track.{Track}
 use Rattle.mp4_frag.specs.Moofs.{IsRead, fault_before_times, moof_runs, moof_samples, moof_trafs, time_faults}
-use Rattle.mp4_frag.specs.Ranges.{InRange}
-use Rattle.mp4_frag.specs.Runs.{MoofBytes}
-use Rattle.mp4_frag.specs.Settling.{settled}
-use Rattle.mp4_frag.specs.declared.rows.Steps.{Steps}
+use Rattle.mp4_traf.specs.Ranges.{InRange}
+use Rattle.mp4_traf.specs.Runs.{MoofBytes}
+use Rattle.mp4_traf.specs.Settling.{settled}
+use Rattle.mp4_traf.specs.declared.rows.Steps.{Steps}
 use Rattle.mp4_frag.specs.declared.single_run.SingleRun.{SingleRun}
 
 -- the moof was read with these tracks, has one traf, and in it just this run, after which the track at its index ends

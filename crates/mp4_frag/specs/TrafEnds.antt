@@ -4,8 +4,8 @@ use Rattle.mp4_init.specs.declared.table.Track.{Track}
 use Rattle.mp4_frag.specs.declared.traf_ends.TrafEnd.{TrafEnd}
 use Rattle.mp4_frag.specs.declared.traf_ends.TrafEnds.{TrafEnds}
 use Rattle.mp4_frag.specs.Moofs.{moof_of, moof_trafs}
-use Rattle.mp4_frag.specs.Runs.{MoofBytes, TrackFragment, end_of}
-use Rattle.mp4_frag.specs.Settling.{timed_of, with_end}
+use Rattle.mp4_traf.specs.Runs.{MoofBytes, TrackFragment, end_of}
+use Rattle.mp4_traf.specs.Settling.{timed_of, with_end}
 
 -- for how many trafs the ends are kept
 abbrev pub few_trafs : ℕ

@@ -4,20 +4,18 @@ ghost use Rattle.std.specs.Prelude.{◌≡◌, ◌+◌, ◌++◌, ◌∷◌, ◌
 ghost use Rattle.std.specs.List.{AllByRecursion, flat_map};
 ghost use Rattle.mp4_box.specs.Headers.{IsWhole};
 ghost use Rattle.mp4_box.specs.Trees.{children, first_of, view};
-ghost use Rattle.mp4_frag.specs.declared.run.Run.{Run};
+ghost use Rattle.mp4_traf.specs.declared.run.Run.{Run};
 ghost use Rattle.mp4_frag.specs.After.{IsBetween, IsOneOf};
 ghost use Rattle.mp4_frag.specs.Implementation.LaterRuns.{all_after, boxes_between, runs_after, trafs_after};
 ghost use Rattle.mp4_frag.specs.Moofs.{IsRead, moof_runs};
-ghost use Rattle.mp4_frag.specs.Ranges.{InRange, IsSound};
-ghost use Rattle.mp4_frag.specs.Runs.{moof_at, runs_of};
+ghost use Rattle.mp4_traf.specs.Ranges.{InRange, IsSound};
+ghost use Rattle.mp4_traf.specs.Runs.{moof_at, runs_of};
 
 use crate::moof::Moof;
 use crate::part::headless;
-use crate::run::Run;
-use crate::runs::{Runs, run_end};
-use crate::traf::{TrafContext, TrafHeader, Trafs};
 use mp4_box::BoxRef;
 use mp4_init::TrackList;
+use mp4_traf::{Run, Runs, TrafContext, TrafHeader, Trafs, run_end};
 
 /// The bytes between two places of a moof, as the payload of a box without a header.
 fn part_of<'a>(moof_bytes: &'a [u8], moof: u64, from: u64, to: u64) -> BoxRef<'a>
@@ -101,17 +99,17 @@ fn run_after(moof_bytes: &[u8], moof: u64, tracks: &TrackList, run: &Run) -> Opt
     first_run(trafs_after(moof_bytes, moof, tracks, run))
 }
 
-impl Run {
-    /// The run that follows in the listing of the moof's runs: that of the next trun of its traf, or else the first of
-    /// a traf after it; none after the last. `tracks` are those that the moof was read with. It reads no row but those
-    /// of the run that it gives.
-    pub fn after(self, moof: &Moof<'_>, tracks: &TrackList) -> Option<Run>
-        requires read { IsRead moof.now tracks.now }
-        requires run { IsOneOf self (moof_runs moof.now tracks.now) }
-        ensures next { (before after : List Run) → IsBetween (moof_runs moof.now tracks.now)
-            before self after → result ≡ first_of after }
-        ensures run { IfSome result (λ next. IsOneOf next (moof_runs moof.now tracks.now)) }
+impl<'a> Moof<'a> {
+    /// The run that follows this one of its runs in their listing: that of the next trun of its traf, or else the first
+    /// of a traf after it; none after the last. `tracks` are those that the moof was read with. It reads no row but
+    /// those of the run that it gives.
+    pub fn after(&self, run: Run, tracks: &TrackList) -> Option<Run>
+        requires read { IsRead self.now tracks.now }
+        requires run { IsOneOf run (moof_runs self.now tracks.now) }
+        ensures next { (before after : List Run) → IsBetween (moof_runs self.now tracks.now)
+            before run after → result ≡ first_of after }
+        ensures run { IfSome result (λ next. IsOneOf next (moof_runs self.now tracks.now)) }
     {
-        run_after(moof.moof_bytes, moof.offset, tracks, &self)
+        run_after(self.moof_bytes, self.offset, tracks, &run)
     }
 }

@@ -9,22 +9,24 @@ ghost use Rattle.std.specs.List.{AllByRecursion, flat_map, list_all};
 ghost use Rattle.mp4_box.specs.Order.{least_from};
 ghost use Rattle.mp4_box.specs.Paths.{at_path, of_kind};
 ghost use Rattle.mp4_box.specs.Trees.{box_faults, box_len, children, view};
-ghost use Rattle.mp4_frag.specs.Implementation.AtOnce.{Adds, HasEarlyEnd, HasTicks, IsComplete, IsCount, IsEarly, TrafHasTicks, faults_in_moof, faults_in_traf, in_trafs, is_complete, is_early, is_kind, most_32, most_64, passed_over};
-ghost use Rattle.mp4_frag.specs.Kinds.{free, skip, tfdt, tfhd, to_trun, traf, trun};
+ghost use Rattle.mp4_frag.specs.Implementation.AtOnce.{Adds, HasEarlyEnd, IsComplete, IsCount, IsEarly, TrafHasTicks, faults_in_moof, faults_in_traf, in_trafs, is_complete, is_early, most_32, most_64, passed_over};
+ghost use Rattle.mp4_traf.specs.Implementation.Heads.{HasTicks};
+ghost use Rattle.mp4_traf.specs.Kinds.{is_kind, free, skip, tfdt, tfhd, to_trun, traf, trun};
 ghost use Rattle.mp4_frag.specs.Moofs.{value_faults};
 ghost use Rattle.mp4_frag.specs.Repeats.{repeat_faults, trafs_of, untimed_ids};
-ghost use Rattle.mp4_frag.specs.Rules.{form_faults, most_in_moof, samples_in, samples_of};
+ghost use Rattle.mp4_frag.specs.Rules.{form_faults, samples_of};
+ghost use Rattle.mp4_traf.specs.Rules.{most_in_moof, samples_in};
 
-use crate::checks::{FlagsOnce, TfhdLength, TrunLength, note_tfhd};
 use crate::counts::MOST_IN_MOOF;
 use crate::mfhd::MFHD_LEN;
 use crate::repeats::lacks_time;
-use crate::tfdt::{LONG_TFDT_LEN, TFDT_LEN, base_media_decode_time};
-use crate::traf::track_of;
-use crate::trun::sample_count;
 use mp4_box::types::{FREE, MFHD, SKIP, TFDT, TFHD, TRAF, TRUN};
 use mp4_box::{BoxRef, Check, Fault, FourCc, Layout, Rule, Walk, note};
 use mp4_init::TrackList;
+use mp4_traf::{
+    FlagsOnce, LONG_TFDT_LEN, TFDT_LEN, TfhdLength, TrunLength, base_media_decode_time, note_tfhd,
+    sample_count, track_of,
+};
 
 /// Findings on a moof that has no fault in its tree, its boxes and their values.
 #[derive(Clone, Copy)]

@@ -9,25 +9,27 @@ ghost use Rattle.std.specs.Str.{bytes_eq};
 ghost use Rattle.mp4_box.specs.Headers.{IsWhole, uuid};
 ghost use Rattle.mp4_box.specs.Order.{least_from};
 ghost use Rattle.mp4_box.specs.Trees.{box_at, box_faults, box_len, view};
-ghost use Rattle.mp4_frag.specs.Implementation.AtOnce.{HasTicks, IsEarly, is_kind};
-ghost use Rattle.mp4_frag.specs.Kinds.{mfhd, tfdt, tfhd, traf, trun};
+ghost use Rattle.mp4_traf.specs.Implementation.Heads.{HasTicks};
+ghost use Rattle.mp4_frag.specs.Implementation.AtOnce.{IsEarly};
+ghost use Rattle.mp4_traf.specs.Kinds.{is_kind, mfhd, tfdt, tfhd, traf, trun};
 ghost use Rattle.mp4_frag.specs.SingleRuns.{IsSingle};
 ghost use Rattle.mp4_frag.specs.Moofs.{value_faults};
 ghost use Rattle.mp4_frag.specs.Rules.{form_faults};
-ghost use Rattle.mp4_frag.specs.Runs.{moof_at};
-ghost use Rattle.mp4_frag.specs.Tfhd.{track_id};
+ghost use Rattle.mp4_traf.specs.Runs.{moof_at};
+ghost use Rattle.mp4_traf.specs.Tfhd.{track_id};
 ghost use Rattle.mp4_frag.specs.Implementation.CommonLayout.{HoldsThree, HoldsTwo, HasCommonLayout, common_faults};
 
 use crate::at_once::is_early;
-use crate::checks::{FlagsOnce, TfhdLength, TrunLength, note_tfhd};
 use crate::counts::MOST_IN_MOOF;
 use crate::mfhd::MFHD_LEN;
 use crate::single_run::{SingleRun, run_with};
-use crate::tfdt::{LONG_TFDT_LEN, TFDT_LEN, base_media_decode_time};
-use crate::trun::sample_count;
 use mp4_box::types::{MFHD, MOOF, TFDT, TFHD, TRAF, TRUN};
 use mp4_box::{BoxRef, Check, Fault, FourCc, Header, Layout, Size, array_at, u32_at};
 use mp4_init::TrackList;
+use mp4_traf::{
+    FlagsOnce, LONG_TFDT_LEN, TFDT_LEN, TfhdLength, TrunLength, base_media_decode_time, note_tfhd,
+    sample_count,
+};
 
 /// The boxes in a moof.
 #[derive(Clone, Copy)]

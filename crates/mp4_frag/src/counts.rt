@@ -3,12 +3,12 @@
 ghost use Rattle.std.specs.Prelude.{◌≡◌, ◌∷◌, [], ◌≤◌, ◌^◌, length, IfOk, OnOk, IfErr};
 ghost use Rattle.mp4_box.specs.Paths.{at_path};
 ghost use Rattle.mp4_box.specs.Trees.{view};
-ghost use Rattle.mp4_frag.specs.Kinds.{to_trun};
-ghost use Rattle.mp4_frag.specs.Rules.{count_faults, most_in_moof, samples_of};
+ghost use Rattle.mp4_traf.specs.Kinds.{to_trun};
+ghost use Rattle.mp4_frag.specs.Rules.{count_faults, samples_of};
+ghost use Rattle.mp4_traf.specs.Rules.{most_in_moof};
 
-use crate::children::truns_of;
-use crate::trun::sample_count;
 use mp4_box::{BoxRef, Fault, Rule};
+use mp4_traf::{sample_count, truns_of};
 
 /// So many samples may a moof have.
 pub const MOST_IN_MOOF: u32 = 1_000_000;

@@ -5,20 +5,17 @@ ghost use Rattle.std.specs.List.{All, AllByRecursion};
 ghost use Rattle.mp4_box.specs.Paths.{at_path};
 ghost use Rattle.mp4_box.specs.Trees.{view};
 ghost use Rattle.mp4_run_order.specs.Orders.{FitsKeys};
-ghost use Rattle.mp4_frag.specs.Kinds.{traf};
-ghost use Rattle.mp4_frag.specs.Ranges.{InRange, IsSound};
+ghost use Rattle.mp4_traf.specs.Kinds.{traf};
+ghost use Rattle.mp4_traf.specs.Ranges.{InRange, IsSound};
 ghost use Rattle.mp4_frag.specs.Implementation.RunRows.{listed_words, row_of_run, rows_of_traf, rows_of_trafs, rows_of_words};
-ghost use Rattle.mp4_frag.specs.Runs.{moof_at, traf_of};
+ghost use Rattle.mp4_traf.specs.Runs.{moof_at, traf_of};
 
-use crate::children::children_of;
-use crate::run::Run;
 use crate::run_row::{row_of_run, words_of};
-use crate::runs::Runs;
-use crate::start::{RunsOf, runs_of};
 use mp4_box::BoxRef;
 use mp4_box::types::TRAF;
 use mp4_init::TrackList;
 use mp4_ledger::Rows64;
+use mp4_traf::{Run, Runs, RunsOf, children_of, runs_of};
 
 /// Appends the row of a run.
 fn push_run(rows: &mut Rows64, tfhd: u64, run: &Run)

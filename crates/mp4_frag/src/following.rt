@@ -6,30 +6,25 @@ ghost use Rattle.mp4_box.specs.Headers.{IsWhole};
 ghost use Rattle.mp4_box.specs.Paths.{at_path};
 ghost use Rattle.mp4_box.specs.Trees.{view};
 ghost use Rattle.mp4_run_order.specs.Takings.{AllFollow};
-ghost use Rattle.mp4_frag.specs.declared.run.Run.{Run};
-ghost use Rattle.mp4_frag.specs.Kinds.{traf};
+ghost use Rattle.mp4_traf.specs.declared.run.Run.{Run};
+ghost use Rattle.mp4_traf.specs.Kinds.{traf};
 ghost use Rattle.mp4_frag.specs.Moofs.{IsRead, moof_of, moof_runs, moof_samples, moof_truns};
 ghost use Rattle.mp4_frag.specs.Places.{place_fault};
-ghost use Rattle.mp4_frag.specs.Ranges.{InRange, IsSound};
+ghost use Rattle.mp4_traf.specs.Ranges.{InRange, IsSound};
 ghost use Rattle.mp4_frag.specs.RunLists.{moof_listing, taken_runs};
-ghost use Rattle.mp4_frag.specs.Runs.{begins_early, last_end, moof_at, runs_of, traf_of};
+ghost use Rattle.mp4_traf.specs.Runs.{begins_early, last_end, moof_at, runs_of, traf_of};
 ghost use Rattle.mp4_frag.specs.TrafEnds.{AreEndsOf, few_trafs, traf_end};
 ghost use Rattle.mp4_frag.specs.Implementation.Following.{all_follow, bytes_with, ends_by, follows, past_run, past_runs, runs_of_trafs, timed_run};
 
 use crate::at_once::LATE;
-use crate::children::children_of;
 use crate::moof::Moof;
-use crate::rows::Steps;
-use crate::run::Run;
-use crate::runs::Runs;
 use crate::single_run::lies_in;
-use crate::start::{RunsOf, runs_of};
-use crate::traf::base_of;
 use crate::traf_ends::{TrafEnd, TrafEnds};
 use mp4_box::types::TRAF;
 use mp4_box::{BoxRef, whole_box};
 use mp4_init::TrackList;
 use mp4_run_order::Payload;
+use mp4_traf::{Run, Runs, RunsOf, Steps, base_of, children_of, runs_of};
 
 /// The runs of a moof that follow one another as they are listed.
 #[derive(Drop)]

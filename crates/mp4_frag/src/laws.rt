@@ -10,25 +10,24 @@ ghost use Rattle.mp4_init.specs.declared.table.Track.{Track};
 ghost use Rattle.mp4_init.specs.TrackFields.{FitsTrackFields};
 ghost use Rattle.mp4_run_order.specs.Orders.{IsTakenBefore};
 ghost use Rattle.mp4_run_order.specs.Runs.{IsListing};
-ghost use Rattle.mp4_frag.specs.declared.run.Run.{Run};
-ghost use Rattle.mp4_frag.specs.declared.rows.Cursor.{Cursor};
-ghost use Rattle.mp4_frag.specs.declared.rows.Row.{Row};
-ghost use Rattle.mp4_frag.specs.Kinds.{traf};
+ghost use Rattle.mp4_traf.specs.declared.run.Run.{Run};
+ghost use Rattle.mp4_traf.specs.declared.rows.Cursor.{Cursor};
+ghost use Rattle.mp4_traf.specs.declared.rows.Row.{Row};
+ghost use Rattle.mp4_traf.specs.Kinds.{traf};
 ghost use Rattle.mp4_frag.specs.Laws.{TrafRowsAreGroups, in_turn};
-ghost use Rattle.mp4_frag.specs.Cursors.{first_cursor, past};
+ghost use Rattle.mp4_traf.specs.Cursors.{first_cursor, past};
 ghost use Rattle.mp4_frag.specs.Moofs.{IsRead, moof_faults, moof_of, moof_runs, moof_samples, moof_trafs, time_faults};
-ghost use Rattle.mp4_frag.specs.Ranges.{InRange, IsSound};
+ghost use Rattle.mp4_traf.specs.Ranges.{InRange, IsSound};
 ghost use Rattle.mp4_frag.specs.Repeats.{repeat_faults};
-ghost use Rattle.mp4_frag.specs.Rows.{IsCursor, durations, row_of, rows_of};
+ghost use Rattle.mp4_traf.specs.Rows.{IsCursor, durations, row_of, rows_of};
 ghost use Rattle.mp4_frag.specs.Rules.{count_faults};
-ghost use Rattle.mp4_frag.specs.RunLists.{moof_listing, taken_runs};
+ghost use Rattle.mp4_frag.specs.RunLists.{moof_listing, taken_runs, ListedRows};
 ghost use Rattle.mp4_frag.specs.ListsOfRuns.{IsListOf};
-ghost use Rattle.mp4_frag.specs.RunLists.{ListedRows};
 ghost use Rattle.mp4_frag.specs.Places.{listed_run};
-ghost use Rattle.mp4_frag.specs.Runs.{MoofBytes, TrackFragment, begins_early, runs_of};
-ghost use Rattle.mp4_frag.specs.Settling.{settled};
-ghost use Rattle.mp4_frag.specs.SyncSamples.{is_sync};
-ghost use Rattle.mp4_frag.specs.TrafTotals.{bytes_in_traf, duration_of, first_flags, samples_in_traf};
+ghost use Rattle.mp4_traf.specs.Runs.{MoofBytes, TrackFragment, begins_early, runs_of};
+ghost use Rattle.mp4_traf.specs.Settling.{settled};
+ghost use Rattle.mp4_traf.specs.SyncSamples.{is_sync};
+ghost use Rattle.mp4_traf.specs.TrafTotals.{bytes_in_traf, duration_of, first_flags, samples_in_traf};
 
 /// A moof without a fault has no fault, as far as it is checked.
 pub fn no_fault()

@@ -10,26 +10,23 @@ ghost use Rattle.mp4_box.specs.Trees.{view};
 ghost use Rattle.mp4_frag.specs.Implementation.AtOnce.{HasEarlyEnd, IsCount, fault_of, most_64};
 ghost use Rattle.mp4_frag.specs.Moofs.{IsRead, fault_before_times, moof_fault, moof_faults, moof_of, moof_samples, moof_trafs, moof_truns, sequence_of, time_faults, value_faults};
 ghost use Rattle.mp4_frag.specs.Repeats.{repeat_faults, trafs_of, untimed_ids};
-ghost use Rattle.mp4_frag.specs.Rules.{count_faults, form_faults, most_in_moof};
-ghost use Rattle.mp4_frag.specs.Runs.{MoofBytes, moof_at};
-ghost use Rattle.mp4_frag.specs.Settling.{settled, timed_of};
+ghost use Rattle.mp4_frag.specs.Rules.{count_faults, form_faults};
+ghost use Rattle.mp4_traf.specs.Rules.{most_in_moof};
+ghost use Rattle.mp4_traf.specs.Runs.{MoofBytes, moof_at};
+ghost use Rattle.mp4_traf.specs.Settling.{settled, timed_of};
 ghost use Rattle.mp4_frag.specs.TrafEnds.{AreEndsOf};
 
 use crate::at_once::{MoofCounts, ended_early, read_moof};
-use crate::checks::{FlagsOnce, OfTrack};
 use crate::counts::{samples_in, truns_in};
-use crate::fields::payload_at;
 use crate::mfhd::sequence_number;
 use crate::repeats::{note_among, note_repeats};
-use crate::rows::Steps;
 use crate::rules::{note_children, note_count, note_forms};
 use crate::settle::settle_in;
-use crate::times::InTime;
-use crate::traf::Trafs;
 use crate::traf_ends::TrafEnds;
 use mp4_box::types::{MFHD, TFHD, TRAF, TRUN};
 use mp4_box::{BoxRef, Fault, check_tree, note_along, whole_box};
 use mp4_init::TrackList;
+use mp4_traf::{FlagsOnce, InTime, OfTrack, Steps, Trafs, payload_at};
 use std::marker::Model;
 
 /// A moof without a fault (ISO/IEC 14496-12, 8.8.4). It borrows its bytes, and nothing else.
@@ -46,8 +43,9 @@ impl<'a> Model for Moof<'a> {
     ghost use Rattle.std.specs.Prelude.{◌≡◌, ◌+◌, ◌^◌, ◌≤◌, [], length, IfSome};
     ghost use Rattle.mp4_box.specs.Headers.{IsWhole};
     ghost use Rattle.mp4_frag.specs.Moofs.{moof_of, moof_samples, moof_truns};
-    ghost use Rattle.mp4_frag.specs.Rules.{count_faults, most_in_moof};
-    ghost use Rattle.mp4_frag.specs.Runs.{MoofBytes, moof_at};
+    ghost use Rattle.mp4_frag.specs.Rules.{count_faults};
+    ghost use Rattle.mp4_traf.specs.Rules.{most_in_moof};
+    ghost use Rattle.mp4_traf.specs.Runs.{MoofBytes, moof_at};
 
     ghost Value = { MoofBytes };
 

@@ -10,11 +10,11 @@ ghost use Rattle.mp4_frag.specs.ListsOfRuns.{IsListOf};
 
 use crate::listed::find_by_place;
 use crate::moof::Moof;
-use crate::rows::Steps;
 use crate::run_list::RunList;
 use mp4_box::types::TRUN;
 use mp4_box::{Fault, Rule};
 use mp4_run_order::Payload;
+use mp4_traf::Steps;
 
 /// Fault of the trun that begins at this offset and may not lie where it does.
 pub(crate) fn run_place_fault(offset: u64) -> Fault

@@ -8,18 +8,16 @@ ghost use Rattle.mp4_box.specs.Trees.{view};
 ghost use Rattle.mp4_box.specs.Order.{least_from};
 ghost use Rattle.mp4_box.specs.Paths.{of_kind};
 ghost use Rattle.mp4_init.specs.OrderedIds.{AreInOrder, sought};
-ghost use Rattle.mp4_frag.specs.Kinds.{traf};
+ghost use Rattle.mp4_traf.specs.Kinds.{traf};
 ghost use Rattle.mp4_frag.specs.Repeats.{is_listed, is_repeat, lacks_time, repeat_faults, repeats, traf_id, trafs_after, trafs_before, trafs_of, untimed_ids};
 ghost use Rattle.mp4_frag.specs.Implementation.AtOnce.{IsCount, most_64};
 ghost use Rattle.mp4_frag.specs.Implementation.RepeatMarks.{all_marked, marked_at, marks};
 
-use crate::children::children_of;
-use crate::fields::payload_at;
-use crate::tfhd::track_id;
 use arrayvec::ArrayVec;
 use mp4_box::types::{TFDT, TFHD, TRAF};
 use mp4_box::{BoxRef, Fault, Rule, Walk, count_of, note};
 use mp4_init::seek_in_order;
+use mp4_traf::{children_of, payload_at, track_id};
 
 /// For how many track_IDs a moof is gone over at once: where so many trafs or fewer lack a tfdt, and where more do.
 const FEW: usize = 64;

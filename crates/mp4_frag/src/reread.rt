@@ -2,17 +2,14 @@
 
 ghost use Rattle.std.specs.Prelude.{◌≡◌, ◌+◌, ◌^◌, ◌≤◌, length};
 ghost use Rattle.mp4_box.specs.Trees.{view};
-ghost use Rattle.mp4_frag.specs.Runs.{moof_at};
+ghost use Rattle.mp4_traf.specs.Runs.{moof_at};
 ghost use Rattle.mp4_frag.specs.Implementation.Rereads.{box_in, run_of_row};
 
 use crate::part::headless;
-use crate::run::Run;
 use crate::run_row::RunRow;
-use crate::runs::{RunStart, run_at};
-use crate::tfhd::track_id;
-use crate::traf::{TrafContext, header_by, known_track};
 use mp4_box::{BoxRef, Walk};
 use mp4_init::TrackList;
+use mp4_traf::{Run, RunStart, TrafContext, header_by, known_track, run_at, track_id};
 
 /// The box of a moof that begins at this offset in the stream.
 #[inline(always)]

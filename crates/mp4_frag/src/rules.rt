@@ -5,12 +5,11 @@ ghost use Rattle.mp4_box.specs.Trees.{view};
 ghost use Rattle.mp4_box.specs.Order.{least_from};
 ghost use Rattle.mp4_frag.specs.Rules.{child_faults, count_faults, form_faults};
 
-use crate::checks::{HoldsOnly, TfhdLength, TrunLength};
 use crate::counts::count_samples;
 use crate::mfhd::MFHD_LEN;
-use crate::tfdt::{LONG_TFDT_LEN, TFDT_LEN};
 use mp4_box::types::{FREE, MFHD, SKIP, TFDT, TFHD, TRAF, TRUN};
 use mp4_box::{AtMostOne, BoxRef, Fault, Layout, One, note, note_along};
+use mp4_traf::{HoldsOnly, LONG_TFDT_LEN, TFDT_LEN, TfhdLength, TrunLength};
 
 /// Boxes that are missing, that occur a second time, or whose version or length is wrong.
 #[tactic(auto, using(mp4_box::proofs::OrderLemmas::least_from_append), unfolding(crate::specs::Rules::form_faults))]

@@ -4,10 +4,10 @@ ghost use Rattle.std.specs.Prelude.{◌≡◌, ◌+◌, ◌*◌, ◌^◌, ◌<�
 ghost use Rattle.mp4_box.specs.Headers.{IsWhole};
 ghost use Rattle.mp4_ledger.specs.Memory.{claimed, given_back};
 ghost use Rattle.mp4_init.specs.declared.table.Track.{Track};
-ghost use Rattle.mp4_frag.specs.declared.run.Run.{Run};
+ghost use Rattle.mp4_traf.specs.declared.run.Run.{Run};
 ghost use Rattle.mp4_frag.specs.Moofs.{IsRead, moof_runs, moof_samples, moof_truns};
 ghost use Rattle.mp4_frag.specs.Places.{listed_run};
-ghost use Rattle.mp4_frag.specs.Runs.{MoofBytes, moof_at};
+ghost use Rattle.mp4_traf.specs.Runs.{MoofBytes, moof_at};
 ghost use Rattle.mp4_frag.specs.RunLists.{taken_runs};
 ghost use Rattle.mp4_frag.specs.ListsOfRuns.{IsListOf};
 ghost use Rattle.mp4_frag.specs.Implementation.ListedRows.{IsFaultyByTrack, IsSorted};
@@ -16,13 +16,12 @@ use crate::fill::fill;
 use crate::listed::{find_by_track, listed_row, sort_by_place, sort_by_track};
 use crate::moof::Moof;
 use crate::reread::run_of_row;
-use crate::rows::Steps;
-use crate::run::Run;
 use crate::run_row::row_of_words;
 use mp4_box::whole_box;
 use mp4_init::TrackList;
 use mp4_ledger::{Ledger, Refused, Rows64};
 use mp4_run_order::ListedRun;
+use mp4_traf::{Run, Steps};
 use std::marker::Model;
 
 /// The runs of a moof in the order in which they are taken: by place, and those at one place as the moof lists

@@ -1,10 +1,10 @@
 //! What a row of a list keeps of a run.
 
 ghost use Rattle.std.specs.Prelude.{◌≡◌};
-ghost use Rattle.mp4_frag.specs.Ranges.{InRange};
+ghost use Rattle.mp4_traf.specs.Ranges.{InRange};
 ghost use Rattle.mp4_frag.specs.Implementation.RunRows.{row_of_run, row_of_words};
 
-use crate::run::Run;
+use mp4_traf::Run;
 
 /// How many numbers of 32 bits there are.
 const HALF: u64 = 1 << 32;

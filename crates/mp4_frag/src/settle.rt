@@ -1,87 +1,15 @@
 //! Where the tracks end after a moof.
 
-ghost use Rattle.std.specs.Prelude.{◌≡◌, ◌+◌, ◌^◌, ◌<◌, ◌≤◌, [], ◌∷◌, length};
+ghost use Rattle.std.specs.Prelude.{◌≡◌, ◌+◌, ◌^◌, ◌≤◌, length};
 ghost use Rattle.mp4_box.specs.Headers.{IsWhole};
-ghost use Rattle.mp4_box.specs.Paths.{at_path, of_kind};
-ghost use Rattle.mp4_box.specs.Trees.{view};
-ghost use Rattle.mp4_frag.specs.Kinds.{trun};
 ghost use Rattle.mp4_frag.specs.Moofs.{IsRead, moof_of, moof_samples, moof_trafs};
-ghost use Rattle.mp4_frag.specs.Runs.{moof_at, traf_of};
-ghost use Rattle.mp4_frag.specs.Implementation.TrafContexts.{shared_of};
-ghost use Rattle.mp4_frag.specs.Settling.{ended, settled, timed, timed_in, timed_of};
-ghost use Rattle.mp4_frag.specs.Implementation.SettlingSteps.{EndsInTime, ticks_from};
-ghost use Rattle.mp4_frag.specs.Implementation.Times.{late_from};
+ghost use Rattle.mp4_traf.specs.Runs.{moof_at};
+ghost use Rattle.mp4_traf.specs.Settling.{settled, timed_of};
 
-use crate::children::children_of;
-use crate::fields::flags_of;
-use crate::runs::ticks_in;
-use crate::start::{Start, start_of};
-use crate::traf::TrafContext;
-use crate::trun::{sample_count, sample_fields};
-use mp4_box::types::{TRAF, TRUN};
-use mp4_box::{BoxRef, Walk, whole_box};
+use mp4_box::types::TRAF;
+use mp4_box::whole_box;
 use mp4_init::TrackList;
-
-/// How many samples of a trun have durations of their own: all or none.
-#[tactic(auto, unfolding(crate::specs::Trun::sample_fields))]
-fn timed(payload: &[u8]) -> u32
-    ensures { result ≡ timed payload.now }
-{
-    if sample_fields(flags_of(payload)).sample_duration.is_some() {
-        sample_count(payload)
-    } else {
-        0
-    }
-}
-
-/// Where a traf ends that begins at a time, of which these children are left. Those of its samples that have durations of their
-/// own are counted.
-#[tactic(auto, using(crate::proofs::SettleLemmas::tick_fits, crate::proofs::SettleLemmas::tick_more), unfolding(crate::specs::Implementation::SettlingSteps::ticks_from))]
-fn end_of<'a>(context: &TrafContext<'_>, time: u64, rest: Walk<'a>, count: &mut u32) -> u64
-    requires late { late_from (shared_of context.now) time (of_kind trun rest) ≡ [] }
-    requires few { count.old + timed_in (of_kind trun rest) < 2 ^ 32 }
-    ensures end { result ≡ ticks_from (shared_of context.now) time (of_kind trun rest.entry) }
-    ensures count { count.new ≡ count.old + timed_in (of_kind trun rest.entry) }
-{
-    let mut end = time;
-    for child in rest {
-        if child.header.kind.is(TRUN) {
-            end += ticks_in(context, &child);
-            *count += timed(child.payload);
-        }
-    }
-    end
-}
-
-/// Sets where the track of a traf ends: where the traf does. Those of its samples that have durations of their own are counted.
-#[tactic(auto, unfolding(crate::specs::Runs::traf_of))]
-fn end_traf(
-    moof_bytes: &[u8],
-    moof: u64,
-    traf: &BoxRef<'_>,
-    tracks: &mut TrackList,
-    count: &mut u32,
-)
-    requires time { EndsInTime (traf_of (moof_at moof_bytes.now moof) tracks.old
-        (view traf.now)) }
-    requires few { count.old + timed_in (at_path (trun ∷ []) (view traf.now)) < 2 ^ 32 }
-    ensures tracks { tracks.new ≡ ended tracks.old (traf_of (moof_at moof_bytes.now moof)
-        tracks.old (view traf.now)) }
-    ensures count { count.new ≡ count.old + timed_in (at_path (trun ∷ []) (view traf.now)) }
-{
-    let start = start_of(moof_bytes, moof, tracks, traf);
-    let Start {
-        context,
-        time,
-        track,
-        tfhd: _,
-        rest,
-    } = start;
-    let end = end_of(&context, time, rest, count);
-    if let Some(i) = track {
-        tracks.set_next(i, end);
-    }
-}
+use mp4_traf::{children_of, end_traf};
 
 /// Sets where each track ends after the moof that the bytes are, which begin at this offset. Returns how many of its
 /// samples have durations of their own.

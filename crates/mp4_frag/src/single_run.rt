@@ -13,30 +13,26 @@ ghost use Rattle.mp4_init.specs.Moovs.{fault_of};
 ghost use Rattle.mp4_init.specs.Tracks.{with_next};
 ghost use Rattle.mp4_init.specs.declared.table.Track.{Track};
 ghost use Rattle.mp4_run_order.specs.Places.{lies_in};
-ghost use Rattle.mp4_frag.specs.Kinds.{trun};
+ghost use Rattle.mp4_traf.specs.Kinds.{trun};
 ghost use Rattle.mp4_frag.specs.SingleRuns.{IsSingle, ReadsSingleRun};
 ghost use Rattle.mp4_frag.specs.Moofs.{IsRead, fault_before_times, moof_runs, moof_samples, moof_trafs, time_faults};
-ghost use Rattle.mp4_frag.specs.Places.{place_fault};
-ghost use Rattle.mp4_frag.specs.Ranges.{InRange, IsSound};
+ghost use Rattle.mp4_frag.specs.Places.{place_fault, listed_run};
+ghost use Rattle.mp4_traf.specs.Ranges.{InRange, IsSound};
 ghost use Rattle.mp4_frag.specs.RunLists.{taken_runs};
-ghost use Rattle.mp4_frag.specs.Places.{listed_run};
-ghost use Rattle.mp4_frag.specs.Runs.{base_of, moof_at, runs_of, tfhd_of, traf_of};
-ghost use Rattle.mp4_frag.specs.Tfhd.{track_id};
+ghost use Rattle.mp4_traf.specs.Runs.{base_of, moof_at, runs_of, tfhd_of, traf_of};
+ghost use Rattle.mp4_traf.specs.Tfhd.{track_id};
 
-use crate::children::next_of;
 use crate::common_layout::common_run;
 use crate::moof::{Moof, read_by_rules};
 use crate::places::run_place_fault;
-use crate::rows::Steps;
-use crate::run::Run;
-use crate::runs::run_of;
-use crate::start::{before_runs, heads_of};
-use crate::tfhd::track_id;
-use crate::traf::{TrafContext, end_in, header_by, track_at};
 use mp4_box::types::{TRAF, TRUN};
 use mp4_box::{BoxRef, Fault, FourCc, Walk, whole_box};
 use mp4_init::TrackList;
 use mp4_run_order::Payload;
+use mp4_traf::{
+    Run, Steps, TrafContext, before_runs, end_in, header_by, heads_of, next_of, run_of, track_at,
+    track_id,
+};
 
 /// The only run of a moof, and the index of its track among the tracks.
 #[derive(Clone, Copy, Debug)]

@@ -13,7 +13,7 @@ use Rattle.mp4_init.specs.declared.table.Track.{Track}
 use Rattle.mp4_ledger.specs.declared.ledger.Refused.{Refused}
 use Rattle.mp4_ledger.specs.declared.ledger.Refused.TheVariants as refusals
 use Rattle.mp4_frag.specs.Moofs.{fault_before_times, moof_fault, moof_runs, moof_trafs, time_faults}
-use Rattle.mp4_frag.specs.Runs.{moof_at}
+use Rattle.mp4_traf.specs.Runs.{moof_at}
 use Rattle.mp4_box.proofs.HeaderLemmas.{whole_is, need-least}
 use Rattle.mp4_machine.specs.Buffering.{Begins}
 use Rattle.mp4_machine.specs.Readings.{Effects, most_of, no_effects, both, says, counts, requests_memory, plus, after, after_effects, then_read}

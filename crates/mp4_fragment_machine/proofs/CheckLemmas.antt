@@ -2,7 +2,7 @@
 use Rattle.std.proofs.Common.{◌≡◌, ◌∙◌, ℕ, ◌+◌, ◌≤◌, List, drop, length, Some, ap, arith, subst, sym, refl}
 use Rattle.mp4_box.proofs.HeaderLemmas.{need-least, whole_is}
 use Rattle.mp4_frag.specs.Moofs.{moof_samples}
-use Rattle.mp4_frag.specs.Runs.{MoofBytes, moof_at}
+use Rattle.mp4_traf.specs.Runs.{MoofBytes, moof_at}
 use Rattle.mp4_run_order.specs.declared.runs.Payload.{Payload}
 use Rattle.mp4_machine.specs.Bodies.{longest}
 use Rattle.mp4_machine.specs.Readings.{plus}

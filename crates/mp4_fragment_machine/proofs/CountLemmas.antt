@@ -8,7 +8,7 @@ use Rattle.mp4_box.specs.declared.rules.Fault.{Fault}
 use Rattle.mp4_run_order.specs.declared.runs.Payload.{Payload}
 use Rattle.mp4_init.specs.declared.table.Track.{Track}
 use Rattle.mp4_frag.specs.Moofs.{fault_before_times, moof_samples}
-use Rattle.mp4_frag.specs.Runs.{MoofBytes}
+use Rattle.mp4_traf.specs.Runs.{MoofBytes}
 use Rattle.mp4_pieces.specs.declared.cut.Cut.{Cut}
 use Rattle.mp4_machine.specs.Bodies.{least_end, longest}
 use Rattle.mp4_machine.specs.Readings.{plus}

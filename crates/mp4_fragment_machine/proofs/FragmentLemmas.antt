@@ -18,17 +18,16 @@ use Rattle.mp4_run_order.specs.declared.runs.Payload.{Payload}
 use Rattle.mp4_run_order.specs.Places.{IsOffender, LiesIn, Placed, first_offender}
 use Rattle.mp4_run_order.specs.Takings.{has_samples}
 use Rattle.mp4_run_order.proofs.SearchLemmas.{offender_means}
-use Rattle.mp4_frag.specs.declared.run.Run.{Run}
+use Rattle.mp4_traf.specs.declared.run.Run.{Run}
 use Rattle.mp4_frag.specs.declared.single_run.SingleRun.{SingleRun}
 use Rattle.mp4_frag.specs.SingleRuns.{IsSingle}
 use Rattle.mp4_frag.specs.Moofs.{IsRead, moof_runs, moof_samples, moof_trafs}
-use Rattle.mp4_frag.specs.Settling.{settled}
-use Rattle.mp4_frag.specs.Places.{run_place_fault, place_fault}
+use Rattle.mp4_traf.specs.Settling.{settled}
+use Rattle.mp4_frag.specs.Places.{run_place_fault, place_fault, listed_run}
 use Rattle.mp4_run_order.specs.Orders.{taken_by}
 use Rattle.mp4_frag.specs.RunLists.{taken_runs}
-use Rattle.mp4_frag.specs.Places.{listed_run}
-use Rattle.mp4_frag.specs.Runs.{MoofBytes, moof_at}
-use Rattle.mp4_frag.specs.Ranges.{IsRunOf}
+use Rattle.mp4_traf.specs.Runs.{MoofBytes, moof_at}
+use Rattle.mp4_traf.specs.Ranges.{IsRunOf}
 use Rattle.mp4_frag.proofs.ReadRunLemmas.{ranged_run}
 use Rattle.mp4_machine.proofs.HoldingLemmas.{begins_whole}
 use Rattle.mp4_grammar.specs.Commands.{accepted, command_meaning}

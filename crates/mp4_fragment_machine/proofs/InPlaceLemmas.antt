@@ -12,8 +12,8 @@ use Rattle.mp4_box.proofs.HeaderLemmas.{header_at-append, need-append, need-leas
 use Rattle.mp4_init.specs.declared.table.Track.{Track}
 use Rattle.mp4_frag.specs.Moofs.{IsRead, fault_before_times, moof_runs, moof_trafs, time_faults}
 use Rattle.mp4_frag.specs.Implementation.RunRows.{row_of_run}
-use Rattle.mp4_frag.specs.Runs.{moof_at}
-use Rattle.mp4_frag.specs.Settling.{settled}
+use Rattle.mp4_traf.specs.Runs.{moof_at}
+use Rattle.mp4_traf.specs.Settling.{settled}
 use Rattle.mp4_frag.proofs.SettleLemmas.{settled_length}
 use Rattle.mp4_ledger.specs.Memory.{Account, claimed, given_back}
 use Rattle.mp4_machine.specs.Bodies.{least_end, longest}

@@ -9,17 +9,16 @@ use Rattle.mp4_init.specs.declared.table.Track.{Track}
 use Rattle.mp4_run_order.proofs.OrderLemmas.{taken_permutes}
 use Rattle.mp4_frag.specs.Moofs.{IsRead, moof_runs}
 use Rattle.mp4_frag.specs.Implementation.Rereads.{run_of_row}
-use Rattle.mp4_frag.specs.RunLists.{taken_runs}
+use Rattle.mp4_frag.specs.RunLists.{taken_runs, ListedRows}
 use Rattle.mp4_frag.specs.ListsOfRuns.{IsListOf}
-use Rattle.mp4_frag.specs.RunLists.{ListedRows}
 use Rattle.mp4_frag.specs.Places.{listed_run}
-use Rattle.mp4_frag.specs.Runs.{MoofBytes}
-use Rattle.mp4_frag.specs.Ranges.{AreRunsOf, IsRunOf}
+use Rattle.mp4_traf.specs.Runs.{MoofBytes}
+use Rattle.mp4_traf.specs.Ranges.{AreRunsOf, IsRunOf}
 use Rattle.mp4_frag.proofs.ReadRunLemmas.{runs_are, runs_kept}
-use Rattle.mp4_frag.specs.declared.rows.Cursor.{Cursor}
-use Rattle.mp4_frag.specs.declared.rows.Row.{Row}
-use Rattle.mp4_frag.specs.declared.run.Run.{Run}
-use Rattle.mp4_frag.specs.Cursors.{past}
+use Rattle.mp4_traf.specs.declared.rows.Cursor.{Cursor}
+use Rattle.mp4_traf.specs.declared.rows.Row.{Row}
+use Rattle.mp4_traf.specs.declared.run.Run.{Run}
+use Rattle.mp4_traf.specs.Cursors.{past}
 use Rattle.mp4_machine.specs.Blocks.{Pending}
 use Rattle.mp4_machine.specs.Ends.{Sent}
 use Rattle.mp4_machine.specs.Puts.{HasPut}

@@ -19,23 +19,21 @@ use Rattle.mp4_run_order.specs.Takings.{IsTakenWell, has_bytes, has_samples}
 use Rattle.mp4_run_order.proofs.ListLemmas.{Each, Pairs, each_both, each_moved, each_of_all, pairs_of_all, pairs_of_map, pairs_with}
 use Rattle.mp4_run_order.proofs.OrderLemmas.{taken_is_order, taken_map, taken_permutes}
 use Rattle.mp4_run_order.proofs.TakingLemmas.{taken_well}
-use Rattle.mp4_frag.specs.declared.rows.Row.{Row}
-use Rattle.mp4_frag.specs.declared.run.Run.{Run}
+use Rattle.mp4_traf.specs.declared.rows.Row.{Row}
+use Rattle.mp4_traf.specs.declared.run.Run.{Run}
 use Rattle.mp4_frag.specs.Moofs.{moof_of, moof_runs, moof_samples}
-use Rattle.mp4_frag.specs.Rules.{most_in_moof}
-use Rattle.mp4_frag.specs.Places.{place_fault}
-use Rattle.mp4_frag.specs.Rows.{rows_of, sizes}
-use Rattle.mp4_frag.specs.RunLists.{moof_listing, taken_runs}
+use Rattle.mp4_traf.specs.Rules.{most_in_moof}
+use Rattle.mp4_frag.specs.Places.{place_fault, listed_run}
+use Rattle.mp4_traf.specs.Rows.{rows_of, sizes}
+use Rattle.mp4_frag.specs.RunLists.{moof_listing, taken_runs, ListedRows}
 use Rattle.mp4_frag.specs.ListsOfRuns.{IsListOf}
-use Rattle.mp4_frag.specs.RunLists.{ListedRows}
-use Rattle.mp4_frag.specs.Places.{listed_run}
-use Rattle.mp4_frag.specs.Runs.{MoofBytes, end_place}
-use Rattle.mp4_frag.proofs.RowLemmas.{length_rows_of}
+use Rattle.mp4_traf.specs.Runs.{MoofBytes, end_place}
+use Rattle.mp4_traf.proofs.RowLemmas.{length_rows_of}
 use Rattle.mp4_frag.proofs.RunListLemmas.{place_means}
 use Rattle.mp4_frag.proofs.MoofLemmas.{read_count}
 use Rattle.mp4_frag.proofs.SoundLemmas.{all_small, few_timed, rows_are_samples}
 use Rattle.mp4_grammar.specs.Meanings.{beyond, reach}
-use Rattle.mp4_frag.specs.Ranges.{AreRunsOf, IsRunOf}
+use Rattle.mp4_traf.specs.Ranges.{AreRunsOf, IsRunOf}
 use Rattle.mp4_fragment_machine.specs.States.{IsPendingMoof, moof_in}
 use Rattle.mp4_fragment_machine.specs.declared.state.PendingMoof.{PendingMoof}
 use Rattle.mp4_fragment_machine.proofs.LineLemmas.{rows_taken, taken_are}

@@ -15,10 +15,10 @@ use Rattle.mp4_box.proofs.HeaderLemmas.{room_of}
 use Rattle.mp4_init.specs.declared.table.Track.{Track}
 use Rattle.mp4_frag.specs.Moofs.{moof_runs, moof_trafs}
 use Rattle.mp4_frag.specs.Places.{place_fault}
-use Rattle.mp4_frag.specs.Runs.{end_place, moof_at}
-use Rattle.mp4_frag.specs.Settling.{settled}
+use Rattle.mp4_traf.specs.Runs.{end_place, moof_at}
+use Rattle.mp4_traf.specs.Settling.{settled}
 use Rattle.mp4_frag.specs.declared.single_run.SingleRun.{SingleRun}
-use Rattle.mp4_frag.specs.declared.run.Run.{Run}
+use Rattle.mp4_traf.specs.declared.run.Run.{Run}
 use Rattle.mp4_frag.proofs.SettleLemmas.{settled_length}
 use Rattle.mp4_ledger.specs.Memory.{Account, claimed, given_back}
 use Rattle.mp4_pieces.specs.declared.cut.Cut.{Cut}

@@ -34,9 +34,9 @@ use Rattle.mp4_box.specs.declared.headers.Step.TheVariants as steps
 use Rattle.mp4_box.proofs.HeaderLemmas.{whole_is}
 use Rattle.mp4_init.specs.declared.table.Track.{Track}
 use Rattle.mp4_frag.specs.Moofs.{moof_samples}
-use Rattle.mp4_frag.specs.declared.run.Run.{Run}
+use Rattle.mp4_traf.specs.declared.run.Run.{Run}
 use Rattle.mp4_pieces.specs.declared.cut.Cut.{Cut}
-use Rattle.mp4_frag.specs.Ranges.{IsRunOf}
+use Rattle.mp4_traf.specs.Ranges.{IsRunOf}
 use Rattle.mp4_recut.specs.Cursors.{CanCut}
 use Rattle.mp4_grammar.specs.Contexts.{Context, context, first_context, table_of}
 use Rattle.mp4_grammar.specs.Items.{context_after_fragment, end_of, fragment, media_body, reads_in, with_runs}
@@ -51,7 +51,7 @@ use Rattle.mp4_recut.specs.Splitting.{copied, is_dropped, output_fragments, spli
 use Rattle.mp4_recut.proofs.MediaLemmas.{output_from-quiet}
 use Rattle.mp4_fragment_machine.specs.Implementation.Media.{FailsToBegin, FailsToTake, HasBegun, HasTaken}
 use Rattle.mp4_fragment_machine.specs.Implementation.Recuts.{first_position, in_media, with_fragments, with_samples}
-use Rattle.mp4_frag.specs.Settling.{settled}
+use Rattle.mp4_traf.specs.Settling.{settled}
 use Rattle.mp4_fragment_machine.specs.Places.{InBody, InHeader, InMdatHeader, InOpenBody, claim_of, continuation_at, reached_of, reads_at}
 use Rattle.mp4_fragment_machine.specs.States.{RisesIn, in_extent, moof_in}
 use Rattle.mp4_fragment_machine.specs.declared.state.PendingMoof.{PendingMoof}

@@ -5,7 +5,7 @@ use Rattle.mp4_box.specs.declared.headers.Size.{Size}
 use Rattle.mp4_box.specs.declared.headers.Size.TheVariants.{Exact, ToEnd}
 use Rattle.mp4_init.specs.declared.table.Track.{Track}
 use Rattle.mp4_frag.specs.Moofs.{moof_trafs}
-use Rattle.mp4_frag.specs.Settling.{settled}
+use Rattle.mp4_traf.specs.Settling.{settled}
 use Rattle.mp4_pieces.specs.declared.cut.Cut.{Cut}
 use Rattle.mp4_machine.specs.Bodies.{HasBytes, extent_of, latest_end, left_of, longest}
 use Rattle.mp4_machine.specs.Inputs.{Continuation, Environment, GoesOn, Moves}

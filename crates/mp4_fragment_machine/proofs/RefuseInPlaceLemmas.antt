@@ -12,7 +12,7 @@ use Rattle.mp4_frag.specs.declared.single_run.SingleRun.{SingleRun}
 use Rattle.mp4_frag.specs.SingleRuns.{IsSingle}
 use Rattle.mp4_frag.specs.Moofs.{fault_before_times, moof_of, moof_runs, moof_samples, moof_trafs, time_faults}
 use Rattle.mp4_frag.specs.Places.{place_fault}
-use Rattle.mp4_frag.specs.Runs.{MoofBytes, moof_at}
+use Rattle.mp4_traf.specs.Runs.{MoofBytes, moof_at}
 use Rattle.mp4_frag.proofs.MoofLemmas.{count_none}
 use Rattle.mp4_frag.proofs.SoundLemmas.{few_timed}
 use Rattle.mp4_frag.specs.Implementation.RunRows.{row_of_run}

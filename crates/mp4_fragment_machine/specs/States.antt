@@ -9,11 +9,11 @@ use Rattle.mp4_box.specs.declared.headers.Size.{Size}
 use Rattle.mp4_box.specs.declared.headers.Size.TheVariants.{Exact, ToEnd}
 use Rattle.mp4_init.specs.declared.table.Track.{Track}
 use Rattle.mp4_frag.specs.Moofs.{IsRead, moof_runs, moof_samples, moof_trafs}
-use Rattle.mp4_frag.specs.Rules.{most_in_moof}
+use Rattle.mp4_traf.specs.Rules.{most_in_moof}
 use Rattle.mp4_frag.specs.RunLists.{taken_runs}
 use Rattle.mp4_frag.specs.ListsOfRuns.{IsListOf}
-use Rattle.mp4_frag.specs.Runs.{MoofBytes, moof_at}
-use Rattle.mp4_frag.specs.Settling.{settled}
+use Rattle.mp4_traf.specs.Runs.{MoofBytes, moof_at}
+use Rattle.mp4_traf.specs.Settling.{settled}
 use Rattle.mp4_machine.specs.Bodies.{IsLeft, latest_end, longest}
 use Rattle.mp4_machine.specs.Buffering.{Begins}
 use Rattle.mp4_machine.specs.Inputs.{Continuation}

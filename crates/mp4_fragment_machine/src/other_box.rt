@@ -4,7 +4,7 @@ ghost use Rattle.std.specs.Prelude.{◌≡◌, ℕ, ◌≤◌, [], List, ◌+◌
 ghost use Rattle.mp4_box.specs.Headers.{HasRoom};
 ghost use Rattle.mp4_box.specs.declared.headers.FourCc.{FourCc};
 ghost use Rattle.mp4_frag.specs.Moofs.{moof_of, moof_samples, moof_trafs};
-ghost use Rattle.mp4_frag.specs.Settling.{settled, timed_of};
+ghost use Rattle.mp4_traf.specs.Settling.{settled, timed_of};
 ghost use Rattle.mp4_ledger.specs.Memory.{Account, given_back};
 ghost use Rattle.mp4_machine.specs.Blocks.{Passes};
 ghost use Rattle.mp4_machine.specs.Bodies.{least_end, longest};

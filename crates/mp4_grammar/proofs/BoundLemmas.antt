@@ -17,7 +17,7 @@ use Rattle.mp4_init.specs.Moovs.{moov_fault}
 use Rattle.mp4_init.specs.declared.table.Track.{Track}
 use Rattle.mp4_init.proofs.TrackLemmas.{table_small}
 use Rattle.mp4_frag.specs.Moofs.{fault_before_times, moof_trafs, time_faults}
-use Rattle.mp4_frag.specs.Runs.{moof_at}
+use Rattle.mp4_traf.specs.Runs.{moof_at}
 use Rattle.mp4_frag.proofs.SettleLemmas.{settled_length}
 use Rattle.mp4_machine.specs.Bodies.{least_end, longest, body_item, open_body_item}
 use Rattle.mp4_machine.specs.Readings.{Request, greatest, Effects, counts, requests_memory, FirstItem, Last, Whole, after_effects, most_of}

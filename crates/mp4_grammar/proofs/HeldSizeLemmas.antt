@@ -6,7 +6,7 @@ use Rattle.mp4_box.specs.Order.{least}
 use Rattle.mp4_box.proofs.HeaderLemmas.{IsBytes-drop, IsBytes-take}
 use Rattle.mp4_init.proofs.TrackLemmas.{table_small}
 use Rattle.mp4_frag.specs.Moofs.{fault_before_times, moof_trafs, time_faults, IsRead}
-use Rattle.mp4_frag.specs.Runs.{moof_at}
+use Rattle.mp4_traf.specs.Runs.{moof_at}
 use Rattle.mp4_frag.proofs.SettleLemmas.{settled_length}
 use Rattle.mp4_machine.specs.Bodies.{longest}
 use Rattle.mp4_machine.specs.Readings.{Reading, Effects, both, greatest, most_of}

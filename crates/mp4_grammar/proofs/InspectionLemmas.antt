@@ -13,7 +13,7 @@ use Rattle.mp4_box.specs.Order.{least}
 use Rattle.mp4_init.specs.Moovs.{moov_fault}
 use Rattle.mp4_init.specs.declared.table.Track.{Track}
 use Rattle.mp4_frag.specs.Moofs.{fault_before_times, moof_samples, moof_trafs, time_faults}
-use Rattle.mp4_frag.specs.Runs.{moof_at}
+use Rattle.mp4_traf.specs.Runs.{moof_at}
 use Rattle.mp4_machine.specs.Bodies.{least_end, longest, body_item, open_body_item}
 use Rattle.mp4_machine.specs.Readings.{Effects, Reading, FirstItem, Last, Whole, plus, counts, requests_memory, after_effects, then_read, read_all}
 use Rattle.mp4_machine.specs.declared.tally.Tally.{Tally}

@@ -13,7 +13,7 @@ use Rattle.mp4_box.specs.Order.{least}
 use Rattle.mp4_init.specs.Moovs.{moov_fault}
 use Rattle.mp4_init.specs.declared.table.Track.{Track}
 use Rattle.mp4_frag.specs.Moofs.{fault_before_times, moof_trafs, time_faults}
-use Rattle.mp4_frag.specs.Runs.{moof_at}
+use Rattle.mp4_traf.specs.Runs.{moof_at}
 use Rattle.mp4_machine.specs.Bodies.{least_end, longest, body_item, open_body_item}
 use Rattle.mp4_machine.specs.Readings.{Request, Effects, counts, requests_memory, FirstItem, after_effects}
 use Rattle.mp4_machine.proofs.PastLemmas.{effects_of}

@@ -17,7 +17,7 @@ use Rattle.mp4_box.specs.declared.rules.Fault.{Fault}
 use Rattle.mp4_init.specs.Moovs.{moov_fault}
 use Rattle.mp4_init.specs.declared.table.Track.{Track}
 use Rattle.mp4_frag.specs.Moofs.{fault_before_times, moof_trafs, time_faults}
-use Rattle.mp4_frag.specs.Runs.{moof_at}
+use Rattle.mp4_traf.specs.Runs.{moof_at}
 use Rattle.mp4_machine.specs.Bodies.{longest, at_fault, cut_off, least_end}
 use Rattle.mp4_machine.specs.Readings.{Last, counts, requests_memory, after_effects, GrowsTo}
 use Rattle.mp4_machine.proofs.ReadingLemmas.{Below, Below-emitted, Below-more, IsItemwise}

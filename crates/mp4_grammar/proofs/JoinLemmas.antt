@@ -12,7 +12,7 @@ use Rattle.mp4_box.proofs.HeaderAnswers.{head-whole, head-need}
 use Rattle.mp4_init.specs.Moovs.{moov_fault}
 use Rattle.mp4_init.specs.declared.table.Track.{Track}
 use Rattle.mp4_frag.specs.Moofs.{fault_before_times, moof_trafs, time_faults, IsRead}
-use Rattle.mp4_frag.specs.Runs.{moof_at}
+use Rattle.mp4_traf.specs.Runs.{moof_at}
 use Rattle.mp4_machine.specs.Bodies.{least_end, longest, at_fault, body_item}
 use Rattle.mp4_machine.specs.Readings.{Effects, counts, requests_memory, both, FirstItem, Last, Whole, after, after_effects, then_read}
 use Rattle.mp4_machine.proofs.BodyLemmas.{nat_lt_true, nat_lt_false}

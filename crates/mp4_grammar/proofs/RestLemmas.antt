@@ -11,7 +11,7 @@ use Rattle.mp4_box.specs.Headers.{Headed, IsBytes}
 use Rattle.mp4_box.proofs.HeaderAnswers.{header-none}
 use Rattle.mp4_box.proofs.HeaderLemmas.{IsBytes-drop, is_cut, need-least}
 use Rattle.mp4_init.specs.declared.table.Track.{Track}
-use Rattle.mp4_frag.specs.Runs.{moof_at}
+use Rattle.mp4_traf.specs.Runs.{moof_at}
 use Rattle.mp4_machine.specs.Bodies.{cut_off, fault, least_end, longest, at_fault, open_body_item}
 use Rattle.mp4_machine.specs.Readings.{CutOff, Faulty, Last, Reading, Sound, Effects, after_effects, requests_memory, counts, then_read}
 use Rattle.mp4_machine.proofs.BodyLemmas.{nat_lt_true, nat_lt_false}

@@ -11,12 +11,13 @@ use Rattle.mp4_box.specs.Trees.{Box, box_at, children}
 use Rattle.mp4_box.proofs.SizeLemmas.{IsLaid, total, fits_children, kind_fits, both_none, none_below, laid_by}
 use Rattle.mp4_box.proofs.GrammarLemmas.{lies_at, option_is}
 use Rattle.mp4_init.specs.declared.table.Track.{Track}
-use Rattle.mp4_frag.specs.Fields.{flags_in, width_if}
-use Rattle.mp4_frag.specs.Kinds.{traf, trun}
+use Rattle.mp4_traf.specs.Fields.{flags_in, width_if}
+use Rattle.mp4_traf.specs.Kinds.{traf, trun}
 use Rattle.mp4_frag.specs.Moofs.{fault_before_times, moof_of, moof_runs, no_box}
-use Rattle.mp4_frag.specs.Rules.{form_faults, trun_length}
-use Rattle.mp4_frag.specs.Runs.{MoofBytes, Shared, end_place, run_of, runs_from, runs_of, traf_of, trafs_by}
-use Rattle.mp4_frag.specs.Trun.{data_offset_present, first_sample_flags_present, sample_count, sample_fields, trun_broken, trun_fields, trun_len}
+use Rattle.mp4_frag.specs.Rules.{form_faults}
+use Rattle.mp4_traf.specs.Rules.{trun_length}
+use Rattle.mp4_traf.specs.Runs.{MoofBytes, Shared, end_place, run_of, runs_from, runs_of, traf_of, trafs_by}
+use Rattle.mp4_traf.specs.Trun.{data_offset_present, first_sample_flags_present, sample_count, sample_fields, trun_broken, trun_fields, trun_len}
 use Rattle.mp4_frag.proofs.MoofLemmas.{early, moof_is}
 
 -- ---- where nothing is at fault with the truns

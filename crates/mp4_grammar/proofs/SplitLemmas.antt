@@ -18,7 +18,7 @@ use Rattle.mp4_box.proofs.HeaderAnswers.{head-need, header-begins}
 use Rattle.mp4_init.specs.Moovs.{moov_fault}
 use Rattle.mp4_init.specs.declared.table.Track.{Track}
 use Rattle.mp4_frag.specs.Moofs.{fault_before_times, moof_trafs, time_faults}
-use Rattle.mp4_frag.specs.Runs.{moof_at}
+use Rattle.mp4_traf.specs.Runs.{moof_at}
 use Rattle.mp4_machine.specs.Bodies.{least_end, longest}
 use Rattle.mp4_machine.specs.Readings.{Reading, after}
 use Rattle.mp4_grammar.specs.declared.kinds.Kind.{Kind}

@@ -17,7 +17,7 @@ use Rattle.mp4_init.specs.Moovs.{moov_fault, moov_tracks}
 use Rattle.mp4_init.specs.declared.table.Track.{Track}
 use Rattle.mp4_frag.specs.Moofs.{fault_before_times, moof_runs, moof_trafs, time_faults}
 use Rattle.mp4_frag.specs.Places.{place_fault}
-use Rattle.mp4_frag.specs.Runs.{moof_at}
+use Rattle.mp4_traf.specs.Runs.{moof_at}
 use Rattle.mp4_machine.specs.Bodies.{fault, least_end, longest, body_item, open_body_item}
 use Rattle.mp4_machine.specs.Readings.{Request, CutOff, Faulty, FirstItem, Last, Outcome, Reading, Sound, Effects, Whole, after, after_effects, requests_memory, both, counts, plus, read_all, read_at_most, says, shifted, then_read}
 use Rattle.mp4_grammar.specs.declared.kinds.Kind.{Kind}

@@ -3,10 +3,10 @@ use Rattle.std.specs.Prelude.{ℕ, ◌-◌, Bool, true, false, List, ◌++◌, c
 use Rattle.std.specs.List.{flat_map}
 use Rattle.std.specs.Fmt.{decimal}
 use Rattle.mp4_init.specs.declared.table.Track.{Track}
-use Rattle.mp4_frag.specs.declared.traf_totals.TrafTotals.{TrafTotals}
+use Rattle.mp4_traf.specs.declared.traf_totals.TrafTotals.{TrafTotals}
 use Rattle.mp4_frag.specs.Moofs.{moof_trafs, sequence_of}
-use Rattle.mp4_frag.specs.Runs.{TrackFragment}
-use Rattle.mp4_frag.specs.TrafTotals.{totals_of}
+use Rattle.mp4_traf.specs.Runs.{TrackFragment}
+use Rattle.mp4_traf.specs.TrafTotals.{totals_of}
 use Rattle.mp4_grammar.specs.Meanings.{Fragment}
 use Rattle.mp4_grammar.specs.declared.listed_traf.ListedTraf.{ListedTraf}
 use Rattle.mp4_grammar.specs.declared.listed_track.ListedTrack.{ListedTrack}

@@ -14,7 +14,7 @@ use Rattle.mp4_box.specs.Order.{least}
 use Rattle.mp4_init.specs.Moovs.{moov_fault, moov_tracks}
 use Rattle.mp4_init.specs.declared.table.Track.{Track}
 use Rattle.mp4_frag.specs.Moofs.{fault_before_times, moof_runs, moof_samples, moof_trafs, time_faults}
-use Rattle.mp4_frag.specs.Runs.{MoofBytes, moof_at}
+use Rattle.mp4_traf.specs.Runs.{MoofBytes, moof_at}
 use Rattle.mp4_machine.specs.Bodies.{longest, at_fault, cut_off, least_end, body_item, open_body_item}
 use Rattle.mp4_machine.specs.Readings.{no_effects, says, counts, requests_memory, both, Reading, empty_reading, Faulty, FirstItem, Last, Whole, after_effects, read_all}
 use Rattle.mp4_machine.specs.declared.tally.Tally.{Tally}

@@ -7,7 +7,7 @@ use Rattle.mp4_box.specs.declared.headers.Header.{Header}
 use Rattle.mp4_init.specs.Moovs.{moov_fault, moov_tracks}
 use Rattle.mp4_init.specs.declared.table.Track.{Track}
 use Rattle.mp4_frag.specs.Moofs.{IsRead}
-use Rattle.mp4_frag.specs.Runs.{moof_at}
+use Rattle.mp4_traf.specs.Runs.{moof_at}
 use Rattle.mp4_machine.specs.Readings.{Effects, no_effects, says, counts, requests_memory, both}
 use Rattle.mp4_grammar.specs.declared.kinds.Kind.{Kind}
 use Rattle.mp4_grammar.specs.declared.kinds.Kind.TheVariants.{Moov, Moof, Mdat, Other}

@@ -10,7 +10,7 @@ use Rattle.mp4_box.specs.declared.rules.Rule.TheVariants.{BadSize, MdatMissing, 
 use Rattle.mp4_init.specs.Moovs.{moov_fault}
 use Rattle.mp4_init.specs.declared.table.Track.{Track}
 use Rattle.mp4_frag.specs.Moofs.{fault_before_times, IsRead, moof_trafs, time_faults}
-use Rattle.mp4_frag.specs.Runs.{moof_at}
+use Rattle.mp4_traf.specs.Runs.{moof_at}
 use Rattle.mp4_machine.specs.Bodies.{cut_off, fault, least_end, longest, at_fault}
 use Rattle.mp4_machine.specs.Readings.{CutOff, Faulty, Outcome, Reading, Sound, Effects, after, requests_memory, counts, empty_reading, no_effects}
 use Rattle.mp4_grammar.specs.Contexts.{Context, table_of}

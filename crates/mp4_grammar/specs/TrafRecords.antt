@@ -3,7 +3,7 @@ use Rattle.std.specs.Prelude.{ℕ, ◌-◌, ◌^◌, ◌<◌, Bool, true, false,
 use Rattle.std.specs.List.{flat_map}
 use Rattle.byteorder.specs.Endian.{big_bytes, big_number}
 use Rattle.mp4_frag.specs.Moofs.{moof_trafs}
-use Rattle.mp4_frag.specs.Runs.{TrackFragment, known_track}
+use Rattle.mp4_traf.specs.Runs.{TrackFragment, known_track}
 use Rattle.mp4_grammar.specs.FragmentLines.{listed_traf}
 use Rattle.mp4_grammar.specs.Meanings.{Fragment}
 use Rattle.mp4_grammar.specs.declared.listed_traf.ListedTraf.{ListedTraf}

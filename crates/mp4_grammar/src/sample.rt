@@ -1,7 +1,7 @@
 //! The samples of a fragment, and their lines.
 
 ghost use Rattle.std.specs.Prelude.{◌≡◌, ◌++◌, ◌^◌, ◌<◌, ◌≤◌, ◌+◌, [], length};
-ghost use Rattle.mp4_frag.specs.declared.rows.Row.{Row};
+ghost use Rattle.mp4_traf.specs.declared.rows.Row.{Row};
 ghost use Rattle.std.specs.Fmt.{decimal, signed_decimal};
 ghost use Rattle.mp4_grammar.specs.Samples.{fields_text, place_text, sample_line, sample_of, sync_text, times_text};
 

@@ -6,11 +6,11 @@ use Rattle.std.proofs.lemmas.Bool.{leb-true, le-leb}
 use Rattle.std.proofs.lemmas.List.{length-append}
 use Rattle.std.proofs.lemmas.List.Folds.{list_all-append}
 use Rattle.std.proofs.lemmas.List.Sums.{sum_by-append}
-use Rattle.mp4_frag.specs.declared.rows.Row.{Row}
-use Rattle.mp4_frag.specs.Rows.{sizes}
+use Rattle.mp4_traf.specs.declared.rows.Row.{Row}
+use Rattle.mp4_traf.specs.Rows.{sizes}
 use Rattle.mp4_pieces.specs.declared.cut.Cut.{Cut}
 use Rattle.mp4_pieces.specs.Cutting.{IsLimit}
-use Rattle.mp4_frag.specs.SyncSamples.{is_sync}
+use Rattle.mp4_traf.specs.SyncSamples.{is_sync}
 use Rattle.mp4_pieces.specs.Fitting.{fits, fits_bytes, fits_sync}
 
 -- ---- tests

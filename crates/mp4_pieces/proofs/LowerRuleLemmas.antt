@@ -6,8 +6,8 @@ use Rattle.mp4_box.specs.Order.{IsIn, comes_first}
 use Rattle.mp4_box.specs.declared.rules.Fault.{Fault}
 use Rattle.mp4_box.specs.declared.rules.Rule.TheVariants.{IndexRange, SequenceEnd}
 use Rattle.mp4_box.proofs.OrderLemmas.{least-is}
-use Rattle.mp4_frag.specs.declared.run.Run.{Run}
-use Rattle.mp4_frag.specs.Runs.{MoofBytes}
+use Rattle.mp4_traf.specs.declared.run.Run.{Run}
+use Rattle.mp4_traf.specs.Runs.{MoofBytes}
 use Rattle.mp4_pieces.specs.declared.cut.Cut.{Cut}
 use Rattle.mp4_pieces.specs.Pieces.{piece_count, pieces_of}
 use Rattle.mp4_pieces.specs.Rooms.{index_fault, index_faults, index_faults_of, numbers, passes_index, room_fault, room_faults, sequence_faults}

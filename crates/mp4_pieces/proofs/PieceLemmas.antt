@@ -8,18 +8,18 @@ use Rattle.std.proofs.lemmas.List.Elements.{All-cons}
 use Rattle.std.proofs.lemmas.List.{length-append, length-drop, length-take, take-append-drop}
 use Rattle.std.proofs.lemmas.List.Sums.{sum_by-append, sum_by-take-drop, sum_by-take-le}
 use Rattle.std.proofs.Math.Seq.{drop-append-add, take-append-add, take-append_seam}
-use Rattle.mp4_frag.specs.declared.run.Run.{Run}
-use Rattle.mp4_frag.specs.declared.rows.Row.{Row}
-use Rattle.mp4_frag.specs.declared.rows.Cursor.{Cursor}
-use Rattle.mp4_frag.specs.Cursors.{first_cursor}
-use Rattle.mp4_frag.specs.Rows.{IsCursor, durations, rows_of, sizes}
-use Rattle.mp4_frag.proofs.RowLemmas.{cursor_first, length_rows_of}
+use Rattle.mp4_traf.specs.declared.run.Run.{Run}
+use Rattle.mp4_traf.specs.declared.rows.Row.{Row}
+use Rattle.mp4_traf.specs.declared.rows.Cursor.{Cursor}
+use Rattle.mp4_traf.specs.Cursors.{first_cursor}
+use Rattle.mp4_traf.specs.Rows.{IsCursor, durations, rows_of, sizes}
+use Rattle.mp4_traf.proofs.RowLemmas.{cursor_first, length_rows_of}
 use Rattle.mp4_pieces.specs.declared.cut.Cut.{Cut}
 use Rattle.mp4_pieces.specs.declared.piece.Piece.{Piece}
 use Rattle.mp4_pieces.specs.Cutting.{ArePieces, join}
 use Rattle.mp4_pieces.specs.Fitting.{fits}
 use Rattle.mp4_pieces.specs.Pieces.{EndsInRange, IsPieceOf, cursor_after, composition_times, cursor_at, cut_rows, least_of, past_rows, piece_at, pieces_at, pieces_from, pieces_of, rows_in}
-use Rattle.mp4_frag.specs.Ranges.{IsRunOf}
+use Rattle.mp4_traf.specs.Ranges.{IsRunOf}
 use Rattle.mp4_pieces.specs.Laws.{IsFollowedBy, IsLeastOf}
 use Rattle.mp4_pieces.proofs.CutLemmas.{pieces_are, pieces_only}
 use Rattle.mp4_pieces.proofs.FitLemmas.{is_limit}

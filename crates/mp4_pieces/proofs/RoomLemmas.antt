@@ -11,14 +11,14 @@ use Rattle.mp4_box.specs.declared.rules.Fault.{Fault}
 use Rattle.mp4_box.specs.Order.{least_from}
 use Rattle.mp4_box.proofs.OrderLemmas.{least_from_append}
 use Rattle.mp4_init.specs.declared.table.Track.{Track}
-use Rattle.mp4_frag.specs.declared.run.Run.{Run}
-use Rattle.mp4_frag.specs.declared.rows.Row.{Row}
-use Rattle.mp4_frag.specs.declared.rows.Cursor.{Cursor}
-use Rattle.mp4_frag.specs.Cursors.{first_cursor}
+use Rattle.mp4_traf.specs.declared.run.Run.{Run}
+use Rattle.mp4_traf.specs.declared.rows.Row.{Row}
+use Rattle.mp4_traf.specs.declared.rows.Cursor.{Cursor}
+use Rattle.mp4_traf.specs.Cursors.{first_cursor}
 use Rattle.mp4_frag.specs.Moofs.{moof_runs, moof_samples}
-use Rattle.mp4_frag.specs.Rows.{rows_of}
-use Rattle.mp4_frag.specs.Runs.{MoofBytes}
-use Rattle.mp4_frag.proofs.RowLemmas.{length_rows_of}
+use Rattle.mp4_traf.specs.Rows.{rows_of}
+use Rattle.mp4_traf.specs.Runs.{MoofBytes}
+use Rattle.mp4_traf.proofs.RowLemmas.{length_rows_of}
 use Rattle.mp4_frag.proofs.SoundLemmas.{rows_are_samples}
 use Rattle.mp4_pieces.specs.declared.cut.Cut.{Cut}
 use Rattle.mp4_pieces.specs.declared.piece.Piece.{Piece}

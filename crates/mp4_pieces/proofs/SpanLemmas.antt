@@ -3,13 +3,13 @@ use Rattle.std.proofs.Common.{◌≡◌, ◌+ℤ◌, ◌≤ℤ◌, ℕ, List, po
 use Rattle.std.specs.Prelude.{drop, take}
 use Rattle.std.proofs.lemmas.Int.{ints}
 use Rattle.std.proofs.lemmas.List.Sums.{sum_by-take-drop, sum_by-take-le}
-use Rattle.mp4_frag.specs.declared.rows.Row.{Row}
-use Rattle.mp4_frag.specs.declared.run.Run.{Run}
-use Rattle.mp4_frag.specs.Rows.{rows_of, sizes}
-use Rattle.mp4_frag.specs.Runs.{end_place}
+use Rattle.mp4_traf.specs.declared.rows.Row.{Row}
+use Rattle.mp4_traf.specs.declared.run.Run.{Run}
+use Rattle.mp4_traf.specs.Rows.{rows_of, sizes}
+use Rattle.mp4_traf.specs.Runs.{end_place}
 use Rattle.mp4_pieces.specs.declared.piece.Piece.{Piece}
 use Rattle.mp4_pieces.specs.Pieces.{IsPieceOf, piece_at, rows_in}
-use Rattle.mp4_frag.specs.Ranges.{IsRunOf}
+use Rattle.mp4_traf.specs.Ranges.{IsRunOf}
 
 module _ (moof_bytes : List ℕ) (run : Run) (p : Piece) (is : IsRunOf moof_bytes run) (of : IsPieceOf moof_bytes run p) where
   place_is : p.place ≡ run.place +ℤ pos (sizes (take p.first (rows_of run moof_bytes)))

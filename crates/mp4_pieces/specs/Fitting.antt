@@ -1,9 +1,9 @@
 -- Which samples fit in a piece.
 use Rattle.std.specs.Prelude.{ℕ, Bool, true, not, ◌&&◌, ◌||◌, nat_le, List, length, drop, Option, Some, None}
 use Rattle.std.specs.List.{list_all}
-use Rattle.mp4_frag.specs.declared.rows.Row.{Row}
-use Rattle.mp4_frag.specs.Rows.{sizes}
-use Rattle.mp4_frag.specs.SyncSamples.{is_sync}
+use Rattle.mp4_traf.specs.declared.rows.Row.{Row}
+use Rattle.mp4_traf.specs.Rows.{sizes}
+use Rattle.mp4_traf.specs.SyncSamples.{is_sync}
 use Rattle.mp4_pieces.specs.declared.cut.Cut.{Cut}
 
 -- at most so many bytes, or just one sample

@@ -1,10 +1,10 @@
 -- Definitions that only the laws need.
 use Rattle.std.specs.Prelude.{◌≡◌, ◌⊎◌, ◌≤◌, ◌≤ℤ◌, ℕ, ℤ, List, Some, drop, false, length, true}
 use Rattle.std.specs.List.{All, AllByRecursion, Contains}
-use Rattle.mp4_frag.specs.declared.run.Run.{Run}
-use Rattle.mp4_frag.specs.Rows.{IsCursor, sizes}
-use Rattle.mp4_frag.specs.SyncSamples.{is_sync}
-use Rattle.mp4_frag.specs.declared.rows.Row.{Row}
+use Rattle.mp4_traf.specs.declared.run.Run.{Run}
+use Rattle.mp4_traf.specs.Rows.{IsCursor, sizes}
+use Rattle.mp4_traf.specs.SyncSamples.{is_sync}
+use Rattle.mp4_traf.specs.declared.rows.Row.{Row}
 use Rattle.mp4_pieces.specs.declared.cut.Cut.{Cut}
 use Rattle.mp4_pieces.specs.declared.piece.Piece.{Piece}
 use Rattle.mp4_pieces.specs.Pieces.{IsPieceOf, cursor_after, pieces_from}

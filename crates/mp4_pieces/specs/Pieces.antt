@@ -2,11 +2,11 @@
 use Rattle.std.specs.Prelude.{◌≡◌, ◌<◌, ◌≤◌, ◌+◌, ◌^◌, ◌+ℤ◌, ◌<ℤ◌, ℕ, ℤ, pos, List, [], ◌∷◌, length, take, drop}
 use Rattle.std.specs.List.{fold, sum_by}
 use Rattle.std.specs.Int.{int_min}
-use Rattle.mp4_frag.specs.declared.run.Run.{Run}
-use Rattle.mp4_frag.specs.declared.rows.Row.{Row}
-use Rattle.mp4_frag.specs.declared.rows.Cursor.{Cursor}
-use Rattle.mp4_frag.specs.Cursors.{first_cursor}
-use Rattle.mp4_frag.specs.Rows.{durations, rows_of, sizes}
+use Rattle.mp4_traf.specs.declared.run.Run.{Run}
+use Rattle.mp4_traf.specs.declared.rows.Row.{Row}
+use Rattle.mp4_traf.specs.declared.rows.Cursor.{Cursor}
+use Rattle.mp4_traf.specs.Cursors.{first_cursor}
+use Rattle.mp4_traf.specs.Rows.{durations, rows_of, sizes}
 use Rattle.mp4_pieces.specs.declared.cut.Cut.{Cut}
 use Rattle.mp4_pieces.specs.declared.piece.Piece.{Piece}
 use Rattle.mp4_pieces.specs.Cutting.{cut_by}

@@ -7,9 +7,9 @@ use Rattle.mp4_box.specs.Order.{least}
 use Rattle.mp4_box.specs.declared.rules.Fault.{Fault}
 use Rattle.mp4_box.specs.declared.rules.Rule.TheVariants.{IndexRange, SequenceEnd}
 use Rattle.mp4_init.specs.Kinds.{kind}
-use Rattle.mp4_frag.specs.declared.run.Run.{Run}
-use Rattle.mp4_frag.specs.Kinds.{trun}
-use Rattle.mp4_frag.specs.Runs.{MoofBytes}
+use Rattle.mp4_traf.specs.declared.run.Run.{Run}
+use Rattle.mp4_traf.specs.Kinds.{trun}
+use Rattle.mp4_traf.specs.Runs.{MoofBytes}
 use Rattle.mp4_pieces.specs.declared.cut.Cut.{Cut}
 use Rattle.mp4_pieces.specs.declared.piece.Piece.{Piece}
 use Rattle.mp4_pieces.specs.Groups.{groups}

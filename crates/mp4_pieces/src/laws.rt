@@ -7,12 +7,12 @@ ghost use Rattle.mp4_box.specs.Headers.{IsBytes, IsWhole};
 ghost use Rattle.mp4_box.specs.declared.rules.Fault.{Fault};
 ghost use Rattle.mp4_box.specs.declared.rules.Rule.TheVariants.{IndexRange};
 ghost use Rattle.mp4_init.specs.declared.table.Track.{Track};
-ghost use Rattle.mp4_frag.specs.declared.run.Run.{Run};
-ghost use Rattle.mp4_frag.specs.declared.rows.Cursor.{Cursor};
-ghost use Rattle.mp4_frag.specs.declared.rows.Row.{Row};
+ghost use Rattle.mp4_traf.specs.declared.run.Run.{Run};
+ghost use Rattle.mp4_traf.specs.declared.rows.Cursor.{Cursor};
+ghost use Rattle.mp4_traf.specs.declared.rows.Row.{Row};
 ghost use Rattle.mp4_frag.specs.Moofs.{IsRead, moof_runs, moof_samples};
-ghost use Rattle.mp4_frag.specs.Rows.{IsCursor};
-ghost use Rattle.mp4_frag.specs.Runs.{MoofBytes, end_place};
+ghost use Rattle.mp4_traf.specs.Rows.{IsCursor};
+ghost use Rattle.mp4_traf.specs.Runs.{MoofBytes, end_place};
 ghost use Rattle.mp4_pieces.specs.declared.cut.Cut.{Cut};
 ghost use Rattle.mp4_pieces.specs.declared.piece.Piece.{Piece};
 ghost use Rattle.mp4_pieces.specs.Cutting.{ArePieces, IsLimit};
@@ -21,7 +21,7 @@ ghost use Rattle.mp4_pieces.specs.Fitting.{fits};
 ghost use Rattle.mp4_pieces.specs.Groups.{AreGroups, groups};
 ghost use Rattle.mp4_pieces.specs.Laws.{IsFollowedBy, IsLeastOf, MayBeOnePiece};
 ghost use Rattle.mp4_pieces.specs.Pieces.{EndsInRange, IsPieceOf, composition_times, cut_rows, piece_count, pieces_from, pieces_of, rows_in};
-ghost use Rattle.mp4_frag.specs.Ranges.{AreRunsOf, IsRunOf};
+ghost use Rattle.mp4_traf.specs.Ranges.{AreRunsOf, IsRunOf};
 ghost use Rattle.mp4_pieces.specs.Rooms.{index_faults, room_fault, room_faults};
 
 /// There is just one way to cut samples into pieces, and it is the computed one.

@@ -2,12 +2,12 @@
 
 ghost use Rattle.std.specs.Prelude.{◌≡◌, ◌+◌, ◌^◌, ◌<◌, ◌∷◌, ◌++◌, [], option_to_list, IfNone, None};
 ghost use Rattle.std.specs.Iterator.{YieldsFirst, item_count};
-ghost use Rattle.mp4_frag.specs.Rows.{IsCursor};
-ghost use Rattle.mp4_frag.specs.SyncSamples.{is_sync};
+ghost use Rattle.mp4_traf.specs.Rows.{IsCursor};
+ghost use Rattle.mp4_traf.specs.SyncSamples.{is_sync};
 ghost use Rattle.mp4_pieces.specs.Implementation.Growing.{Grows, grown, has_bytes, opened, pieces_left, takes, with_row};
-ghost use Rattle.mp4_frag.specs.Cursors.{HasRoom};
+ghost use Rattle.mp4_traf.specs.Cursors.{HasRoom};
 ghost use Rattle.mp4_pieces.specs.Pieces.{cursor_after, pieces_from, pieces_of};
-ghost use Rattle.mp4_frag.specs.Ranges.{IsRunOf};
+ghost use Rattle.mp4_traf.specs.Ranges.{IsRunOf};
 
 use crate::cut::Cut;
 use crate::piece::Piece;
@@ -142,7 +142,7 @@ impl<'a> Model for Pieces<'a> {
     ghost use Rattle.std.specs.Prelude.{List, ◌++◌, option_to_list};
     ghost use Rattle.mp4_pieces.specs.declared.piece.Piece.{Piece};
     ghost use Rattle.mp4_pieces.specs.Implementation.Growing.{pieces_left};
-    ghost use Rattle.mp4_frag.specs.Cursors.{HasRoom};
+    ghost use Rattle.mp4_traf.specs.Cursors.{HasRoom};
 
     ghost Value = { List Piece };
 
@@ -153,7 +153,7 @@ impl<'a> Model for Pieces<'a> {
 
 impl<'a> Pieces<'a> {
     /// The pieces of a run. `moof_bytes` are the bytes of its moof.
-    #[tactic(auto, using(mp4_frag::proofs::RowLemmas::cursor_first))]
+    #[tactic(auto, using(mp4_traf::proofs::RowLemmas::cursor_first))]
     pub fn of(run: &Run, moof_bytes: &'a [u8], cut: &Cut) -> Pieces<'a>
         requires run { IsRunOf moof_bytes.now run.now }
         ensures { result ≡ pieces_of cut.now moof_bytes.now run.now }

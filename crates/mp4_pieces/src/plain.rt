@@ -1,8 +1,8 @@
 //! A piece of a run without the number that only an index needs.
 
 ghost use Rattle.std.specs.Prelude.{◌≡◌, ◌+◌, ◌+ℤ◌, ◌<ℤ◌, ◌^◌, ◌<◌, ◌∷◌, pos};
-ghost use Rattle.mp4_frag.specs.Ranges.{IsRunOf};
-ghost use Rattle.mp4_frag.specs.Rows.{IsCursor};
+ghost use Rattle.mp4_traf.specs.Ranges.{IsRunOf};
+ghost use Rattle.mp4_traf.specs.Rows.{IsCursor};
 ghost use Rattle.mp4_pieces.specs.Pieces.{cursor_after, pieces_from};
 ghost use Rattle.mp4_pieces.specs.PlainPieces.{piece_of, plain_at, plain_end, plain_of, plain_start};
 

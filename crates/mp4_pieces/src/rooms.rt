@@ -6,11 +6,11 @@ ghost use Rattle.mp4_box.specs.declared.rules.Fault.{Fault};
 ghost use Rattle.mp4_box.specs.Headers.{IsWhole};
 ghost use Rattle.mp4_box.specs.Order.{IsLeast, least_from};
 ghost use Rattle.mp4_frag.specs.Moofs.{IsRead, moof_runs, moof_samples};
-ghost use Rattle.mp4_frag.specs.Rules.{most_in_moof};
-ghost use Rattle.mp4_frag.specs.Runs.{runs_of};
+ghost use Rattle.mp4_traf.specs.Rules.{most_in_moof};
+ghost use Rattle.mp4_traf.specs.Runs.{runs_of};
 ghost use Rattle.mp4_pieces.specs.Fits.{HasRoomFor};
 ghost use Rattle.mp4_pieces.specs.Pieces.{piece_count, pieces_of};
-ghost use Rattle.mp4_frag.specs.Ranges.{AreRunsOf, IsRunOf};
+ghost use Rattle.mp4_traf.specs.Ranges.{AreRunsOf, IsRunOf};
 ghost use Rattle.mp4_pieces.specs.Rooms.{index_faults, index_faults_of, numbers, room_fault, room_faults, sequence_faults};
 
 use crate::cut::Cut;

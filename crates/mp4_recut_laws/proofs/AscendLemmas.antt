@@ -16,18 +16,17 @@ use Rattle.mp4_run_order.proofs.ListLemmas.{Each, Pairs, pairs_of_all, pairs_of_
 use Rattle.mp4_run_order.proofs.OrderLemmas.{taken_is_order, taken_map}
 use Rattle.mp4_run_order.proofs.SearchLemmas.{offender_means}
 use Rattle.mp4_run_order.proofs.TakingLemmas.{taken_well}
-use Rattle.mp4_frag.specs.declared.rows.Row.{Row}
-use Rattle.mp4_frag.specs.declared.run.Run.{Run}
+use Rattle.mp4_traf.specs.declared.rows.Row.{Row}
+use Rattle.mp4_traf.specs.declared.run.Run.{Run}
 use Rattle.mp4_frag.specs.Moofs.{moof_runs}
-use Rattle.mp4_frag.specs.Places.{run_place_fault, place_fault}
-use Rattle.mp4_frag.specs.Rows.{rows_of, sizes}
+use Rattle.mp4_frag.specs.Places.{run_place_fault, place_fault, listed_run}
+use Rattle.mp4_traf.specs.Rows.{rows_of, sizes}
 use Rattle.mp4_frag.specs.RunLists.{moof_listing, taken_runs}
-use Rattle.mp4_frag.specs.Places.{listed_run}
-use Rattle.mp4_frag.specs.Runs.{MoofBytes, end_place}
-use Rattle.mp4_frag.proofs.RowLemmas.{length_rows_of}
+use Rattle.mp4_traf.specs.Runs.{MoofBytes, end_place}
+use Rattle.mp4_traf.proofs.RowLemmas.{length_rows_of}
 use Rattle.mp4_frag.proofs.ListingLemmas.{is_listing}
 use Rattle.mp4_pieces.specs.declared.cut.Cut.{Cut}
-use Rattle.mp4_frag.specs.Ranges.{IsRunOf}
+use Rattle.mp4_traf.specs.Ranges.{IsRunOf}
 use Rattle.mp4_recut.specs.OutputFragments.{Ascends}
 use Rattle.mp4_recut.specs.Splitting.{runs_fragments}
 use Rattle.mp4_recut.proofs.AscendLemmas.{Between, Clear, runs_ascend}

@@ -6,17 +6,17 @@ use Rattle.std.proofs.lemmas.Int.{ints}
 use Rattle.std.proofs.lemmas.List.{drop_at, take_at, length-take, length-drop}
 use Rattle.std.proofs.lemmas.List.Sums.{sum_by-append}
 use Rattle.mp4_init.specs.declared.table.Track.{Track}
-use Rattle.mp4_frag.specs.declared.run.Run.{Run}
-use Rattle.mp4_frag.specs.declared.rows.Row.{Row}
-use Rattle.mp4_frag.specs.declared.rows.Cursor.{Cursor}
-use Rattle.mp4_frag.specs.Cursors.{first_cursor}
-use Rattle.mp4_frag.specs.Rows.{durations, rows_of, sizes}
+use Rattle.mp4_traf.specs.declared.run.Run.{Run}
+use Rattle.mp4_traf.specs.declared.rows.Row.{Row}
+use Rattle.mp4_traf.specs.declared.rows.Cursor.{Cursor}
+use Rattle.mp4_traf.specs.Cursors.{first_cursor}
+use Rattle.mp4_traf.specs.Rows.{durations, rows_of, sizes}
 use Rattle.mp4_pieces.specs.declared.cut.Cut.{Cut}
 use Rattle.mp4_pieces.specs.declared.piece.Piece.{Piece}
 use Rattle.mp4_pieces.specs.Cutting.{ArePieces, join}
 use Rattle.mp4_pieces.specs.Fitting.{fits}
 use Rattle.mp4_pieces.specs.Pieces.{IsPieceOf, cut_rows, past_rows, piece_at, pieces_at, pieces_of, rows_in}
-use Rattle.mp4_frag.specs.Ranges.{IsRunOf}
+use Rattle.mp4_traf.specs.Ranges.{IsRunOf}
 use Rattle.mp4_pieces.proofs.CutLemmas.{pieces_are}
 use Rattle.mp4_pieces.proofs.FitLemmas.{is_limit}
 use Rattle.mp4_pieces.proofs.PieceLemmas.{pieces_are_of}

@@ -8,7 +8,7 @@ use Rattle.mp4_grammar.specs.Contexts.{Context, first_context}
 use Rattle.mp4_grammar.specs.Joined.{IsMoofHere, context_after_all, joined, tracks_in}
 use Rattle.mp4_grammar.specs.Meanings.{Meaning}
 use Rattle.mp4_frag.specs.Moofs.{IsRead}
-use Rattle.mp4_frag.specs.Runs.{moof_at}
+use Rattle.mp4_traf.specs.Runs.{moof_at}
 use Rattle.mp4_grammar.specs.Rests.{Boxed, IsAfterMoof, IsRest, NoMdat, SecondCutInHeader, SecondBadHeader, SecondTooFar, NotMdat, BadFragment, CutInMedia, OpenMedia, OpenMediaCut, OpenMediaTooFar, Ended, CutInHeader, BadHeader, TooFar, OutOfPlace, CutInBody, Open, OpenTooFar, Large, Unsized, CutInHeld, BadMoov, BadMoof, LateMoof, AfterMoof}
 use Rattle.mp4_grammar.proofs.SplitLemmas.{every-stream}
 use Rattle.mp4_recut.specs.Splitting.{reading, splitting}

@@ -29,16 +29,15 @@ use Rattle.mp4_run_order.specs.declared.runs.Payload.{Payload}
 use Rattle.mp4_run_order.specs.Places.{first_offender, lies_in, may_be_placed}
 use Rattle.mp4_run_order.proofs.OrderLemmas.{taken_permutes}
 use Rattle.mp4_run_order.proofs.RunLemmas.{le_from}
-use Rattle.mp4_frag.specs.declared.run.Run.{Run}
+use Rattle.mp4_traf.specs.declared.run.Run.{Run}
 use Rattle.mp4_frag.specs.Moofs.{IsRead, moof_runs}
-use Rattle.mp4_frag.specs.Places.{run_place_fault, place_fault}
-use Rattle.mp4_frag.specs.Rows.{row_of, rows_of}
+use Rattle.mp4_frag.specs.Places.{run_place_fault, place_fault, listed_run}
+use Rattle.mp4_traf.specs.Rows.{row_of, rows_of}
 use Rattle.mp4_frag.specs.RunLists.{taken_runs}
-use Rattle.mp4_frag.specs.Places.{listed_run}
-use Rattle.mp4_frag.specs.Runs.{MoofBytes, moof_at}
+use Rattle.mp4_traf.specs.Runs.{MoofBytes, moof_at}
 use Rattle.mp4_pieces.specs.declared.cut.Cut.{Cut}
 use Rattle.mp4_pieces.specs.Pieces.{piece_count, pieces_of}
-use Rattle.mp4_frag.specs.Ranges.{AreRunsOf, IsRunOf}
+use Rattle.mp4_traf.specs.Ranges.{AreRunsOf, IsRunOf}
 use Rattle.mp4_pieces.specs.Rooms.{numbers, room_fault, sequence_fault}
 use Rattle.mp4_pieces.specs.Rooms as rooms
 use Rattle.mp4_pieces.proofs.RoomLemmas.{past_last}

@@ -4,7 +4,7 @@ use Rattle.std.specs.Prelude.{drop, option_map}
 use Rattle.mp4_init.specs.declared.table.Track.{Track}
 use Rattle.mp4_frag.specs.Moofs.{moof_trafs}
 use Rattle.mp4_frag.specs.RunLists.{taken_runs}
-use Rattle.mp4_frag.specs.Runs.{moof_at}
+use Rattle.mp4_traf.specs.Runs.{moof_at}
 use Rattle.mp4_pieces.specs.declared.cut.Cut.{Cut}
 use Rattle.mp4_grammar.specs.Contexts.{Context, context}
 use Rattle.mp4_grammar.specs.Joined.{AreSound, IsSound, Item, Movie, MovieFragment, OneBox, PassedOver, context_after, context_after_all, fragment_in, joined}

@@ -2,7 +2,7 @@
 use Rattle.std.proofs.Common.{◌≡◌, ◌∙◌, ℕ, zero, suc, ◌+◌, ◌-◌, Bool, true, false, cond, List, [], ◌∷◌, ◌++◌, length, length-append, take, drop, map, refl, sym, ap, arith, append-nil}
 use Rattle.std.specs.List.{AllByRecursion}
 use Rattle.mp4_init.specs.declared.table.Track.{Track}
-use Rattle.mp4_frag.specs.declared.run.Run.{Run}
+use Rattle.mp4_traf.specs.declared.run.Run.{Run}
 use Rattle.mp4_pieces.specs.declared.cut.Cut.{Cut}
 use Rattle.mp4_pieces.specs.declared.piece.Piece.{Piece}
 use Rattle.mp4_pieces.specs.Groups.{groups, groups_from}

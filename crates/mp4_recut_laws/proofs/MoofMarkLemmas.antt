@@ -5,10 +5,10 @@ use Rattle.mp4_box.specs.Headers.{IsBytes, IsWhole}
 use Rattle.mp4_box.specs.declared.headers.Header.{Header}
 use Rattle.mp4_init.specs.declared.table.Track.{Track}
 use Rattle.mp4_init.proofs.MoovLemmas.{first_none}
-use Rattle.mp4_frag.specs.declared.run.Run.{Run}
+use Rattle.mp4_traf.specs.declared.run.Run.{Run}
 use Rattle.mp4_frag.specs.Moofs.{moof_runs}
 use Rattle.mp4_frag.specs.Places.{place_fault}
-use Rattle.mp4_frag.specs.Runs.{moof_at}
+use Rattle.mp4_traf.specs.Runs.{moof_at}
 use Rattle.mp4_pieces.specs.declared.cut.Cut.{Cut}
 use Rattle.mp4_pieces.specs.declared.piece.Piece.{Piece}
 use Rattle.mp4_pieces.specs.Pieces.{pieces_of}

@@ -8,14 +8,14 @@ use Rattle.std.proofs.lemmas.List.{drop_at, take_all}
 use Rattle.mp4_box.specs.Headers.{IsBox}
 use Rattle.mp4_box.specs.declared.rules.Fault.{Fault}
 use Rattle.mp4_init.specs.declared.table.Track.{Track}
-use Rattle.mp4_frag.specs.declared.run.Run.{Run}
-use Rattle.mp4_frag.specs.declared.rows.Row.{Row}
-use Rattle.mp4_frag.specs.Cursors.{first_cursor}
+use Rattle.mp4_traf.specs.declared.run.Run.{Run}
+use Rattle.mp4_traf.specs.declared.rows.Row.{Row}
+use Rattle.mp4_traf.specs.Cursors.{first_cursor}
 use Rattle.mp4_frag.specs.Moofs.{moof_runs}
-use Rattle.mp4_frag.specs.Rows.{rows_of, durations, sizes}
+use Rattle.mp4_traf.specs.Rows.{rows_of, durations, sizes}
 use Rattle.mp4_frag.specs.Places.{place_fault}
-use Rattle.mp4_frag.specs.Runs.{MoofBytes}
-use Rattle.mp4_frag.specs.Settling.{with_end}
+use Rattle.mp4_traf.specs.Runs.{MoofBytes}
+use Rattle.mp4_traf.specs.Settling.{with_end}
 use Rattle.mp4_run_order.specs.declared.runs.Payload.{Payload}
 use Rattle.mp4_pieces.specs.declared.cut.Cut.{Cut}
 use Rattle.mp4_pieces.specs.declared.piece.Piece.{Piece}

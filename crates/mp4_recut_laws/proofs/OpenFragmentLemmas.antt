@@ -15,14 +15,13 @@ use Rattle.mp4_run_order.specs.declared.runs.Payload.{Payload}
 use Rattle.mp4_run_order.specs.Places.{first_offender, lies_in, may_be_placed}
 use Rattle.mp4_run_order.proofs.OrderLemmas.{taken_permutes}
 use Rattle.mp4_run_order.proofs.RunLemmas.{le_from}
-use Rattle.mp4_frag.specs.declared.run.Run.{Run}
+use Rattle.mp4_traf.specs.declared.run.Run.{Run}
 use Rattle.mp4_frag.specs.Moofs.{IsRead, moof_runs}
-use Rattle.mp4_frag.specs.Places.{run_place_fault, place_fault}
+use Rattle.mp4_frag.specs.Places.{run_place_fault, place_fault, listed_run}
 use Rattle.mp4_frag.specs.RunLists.{taken_runs}
-use Rattle.mp4_frag.specs.Places.{listed_run}
-use Rattle.mp4_frag.specs.Runs.{MoofBytes, end_place, moof_at}
+use Rattle.mp4_traf.specs.Runs.{MoofBytes, end_place, moof_at}
 use Rattle.mp4_pieces.specs.declared.cut.Cut.{Cut}
-use Rattle.mp4_frag.specs.Ranges.{AreRunsOf, IsRunOf}
+use Rattle.mp4_traf.specs.Ranges.{AreRunsOf, IsRunOf}
 use Rattle.mp4_pieces.specs.Rooms.{room_fault}
 use Rattle.mp4_frag.proofs.ReadRunLemmas.{runs_are, runs_kept}
 use Rattle.mp4_pieces.proofs.OrderLemmas.{count_kept}

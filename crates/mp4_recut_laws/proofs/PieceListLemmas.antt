@@ -2,8 +2,8 @@
 use Rattle.std.proofs.Common.{◌≡◌, ◌∙◌, ℕ, ◌+◌, ◌≤◌, ◌^◌, false, List, [], ◌∷◌, ◌++◌, length, length-append, append_assoc, Some, refl, sym, ap, arith, subst}
 use Rattle.std.specs.List.{AllByRecursion, flat_map}
 use Rattle.mp4_init.specs.declared.table.Track.{Track}
-use Rattle.mp4_frag.specs.Rows.{durations}
-use Rattle.mp4_frag.specs.Settling.{with_end}
+use Rattle.mp4_traf.specs.Rows.{durations}
+use Rattle.mp4_traf.specs.Settling.{with_end}
 use Rattle.mp4_pieces.specs.declared.cut.Cut.{Cut}
 use Rattle.mp4_grammar.specs.Contexts.{Context, context}
 use Rattle.mp4_grammar.specs.Joined.{AreSound, IsSound, Item, context_after, context_after_all, bytes_of, joined}

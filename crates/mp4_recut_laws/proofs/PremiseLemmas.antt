@@ -8,11 +8,10 @@ use Rattle.mp4_init.specs.Moovs.{moov_tracks}
 use Rattle.mp4_init.proofs.MoovLemmas.{first_none}
 use Rattle.mp4_run_order.proofs.OrderLemmas.{taken_permutes}
 use Rattle.mp4_frag.specs.Moofs.{moof_runs, moof_trafs}
-use Rattle.mp4_frag.specs.Places.{place_fault}
+use Rattle.mp4_frag.specs.Places.{place_fault, listed_run}
 use Rattle.mp4_frag.specs.RunLists.{taken_runs}
-use Rattle.mp4_frag.specs.Places.{listed_run}
-use Rattle.mp4_frag.specs.Runs.{moof_at}
-use Rattle.mp4_frag.specs.Settling.{settled}
+use Rattle.mp4_traf.specs.Runs.{moof_at}
+use Rattle.mp4_traf.specs.Settling.{settled}
 use Rattle.mp4_pieces.specs.declared.cut.Cut.{Cut}
 use Rattle.mp4_pieces.specs.Rooms.{room_fault}
 use Rattle.mp4_pieces.proofs.OrderLemmas.{count_kept}

@@ -6,7 +6,7 @@ use Rattle.mp4_box.specs.Headers.{Headed, IsBytes, IsWhole}
 use Rattle.mp4_box.specs.declared.headers.Header.{Header}
 use Rattle.mp4_init.specs.declared.table.Track.{Track}
 use Rattle.mp4_frag.specs.RunLists.{taken_runs}
-use Rattle.mp4_frag.specs.Runs.{moof_at}
+use Rattle.mp4_traf.specs.Runs.{moof_at}
 use Rattle.mp4_pieces.specs.declared.cut.Cut.{Cut}
 use Rattle.mp4_cut.specs.Reads.{FitsTrack}
 use Rattle.mp4_machine.specs.Readings.{Reading, Sound}

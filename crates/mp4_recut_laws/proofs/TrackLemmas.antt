@@ -8,9 +8,9 @@ use Rattle.std.proofs.lemmas.List.Folds.{find_at}
 use Rattle.std.proofs.lemmas.Option.{slice_get_past}
 use Rattle.mp4_init.specs.declared.table.Track.{Track}
 use Rattle.mp4_init.specs.Tracks.{with_next}
-use Rattle.mp4_frag.specs.Rules.{track_with}
-use Rattle.mp4_frag.specs.Settling.{ended, ended_at, settled, with_end}
-use Rattle.mp4_frag.specs.Runs.{TrackFragment, end_of}
+use Rattle.mp4_traf.specs.Rules.{track_with}
+use Rattle.mp4_traf.specs.Settling.{ended, ended_at, settled, with_end}
+use Rattle.mp4_traf.specs.Runs.{TrackFragment, end_of}
 use Rattle.mp4_cut.specs.Moof.{WrittenFragment}
 use Rattle.mp4_cut.specs.Reads.{CanBeRead}
 use Rattle.mp4_recut_laws.specs.PieceItems.{without_end, without_ends}

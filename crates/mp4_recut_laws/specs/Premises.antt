@@ -4,10 +4,10 @@ use Rattle.std.specs.List.{AllByRecursion}
 use Rattle.mp4_box.specs.Headers.{IsBytes}
 use Rattle.mp4_init.specs.Moovs.{moov_fault, moov_tracks}
 use Rattle.mp4_init.specs.declared.table.Track.{Track}
-use Rattle.mp4_frag.specs.declared.run.Run.{Run}
-use Rattle.mp4_frag.specs.Rows.{rows_of}
+use Rattle.mp4_traf.specs.declared.run.Run.{Run}
+use Rattle.mp4_traf.specs.Rows.{rows_of}
 use Rattle.mp4_pieces.specs.declared.cut.Cut.{Cut}
-use Rattle.mp4_frag.specs.Ranges.{IsRunOf}
+use Rattle.mp4_traf.specs.Ranges.{IsRunOf}
 use Rattle.mp4_cut.specs.Reads.{FitsTrack, IsSoundRun}
 use Rattle.mp4_grammar.specs.Contexts.{Context, first_context}
 use Rattle.mp4_grammar.specs.Joined.{AreSound, Item, Movie, MovieFragment, PassedOver, context_after, context_after_all, joined, tracks_in}

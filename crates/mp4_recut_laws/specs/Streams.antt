@@ -3,7 +3,7 @@ use Rattle.std.specs.Prelude.{ℕ, ◌≤◌, ◌^◌, Bool, true, false, List, 
 use Rattle.mp4_box.specs.declared.headers.Header.{Header}
 use Rattle.mp4_box.specs.Headers.{Head, IsBytes}
 use Rattle.mp4_frag.specs.Moofs.{IsRead}
-use Rattle.mp4_frag.specs.Runs.{moof_at}
+use Rattle.mp4_traf.specs.Runs.{moof_at}
 use Rattle.mp4_pieces.specs.declared.cut.Cut.{Cut}
 use Rattle.mp4_grammar.specs.Contexts.{Context, first_context}
 use Rattle.mp4_grammar.specs.Joined.{AreSound, IsGood, IsMoofHere, Item, OneBox, context_after_all, fragment_here, joined, tracks_in}

@@ -5,10 +5,10 @@ ghost use Rattle.std.specs.Prelude.{◌≡◌, ◌+◌, ◌<◌, ◌≤◌, ◌^
 ghost use Rattle.std.specs.List.{AllByRecursion, flat_map};
 ghost use Rattle.mp4_box.specs.Headers.{IsBytes};
 ghost use Rattle.mp4_init.specs.declared.table.Track.{Track};
-ghost use Rattle.mp4_frag.specs.Rows.{durations, sizes};
-ghost use Rattle.mp4_frag.specs.Settling.{with_end};
-ghost use Rattle.mp4_frag.specs.declared.rows.Row.{Row};
-ghost use Rattle.mp4_frag.specs.declared.run.Run.{Run};
+ghost use Rattle.mp4_traf.specs.Rows.{durations, sizes};
+ghost use Rattle.mp4_traf.specs.Settling.{with_end};
+ghost use Rattle.mp4_traf.specs.declared.rows.Row.{Row};
+ghost use Rattle.mp4_traf.specs.declared.run.Run.{Run};
 ghost use Rattle.mp4_pieces.specs.declared.cut.Cut.{Cut};
 ghost use Rattle.mp4_cut.specs.Moof.{WrittenFragment};
 ghost use Rattle.mp4_machine.specs.Readings.{Sound};

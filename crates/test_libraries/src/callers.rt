@@ -13,13 +13,13 @@ ghost use Rattle.mp4_box.specs.Trees.{Box, box_at, children, tree_faults, view};
 ghost use Rattle.mp4_frag.specs.Moofs.{moof_faults, moof_runs};
 ghost use Rattle.mp4_frag.specs.RunLists.{taken_runs};
 ghost use Rattle.mp4_frag.specs.ListsOfRuns.{IsListOf};
-ghost use Rattle.mp4_frag.specs.Rows.{IsCursor};
-ghost use Rattle.mp4_frag.specs.Runs.{runs_of};
+ghost use Rattle.mp4_traf.specs.Rows.{IsCursor, rows_of};
+ghost use Rattle.mp4_traf.specs.Runs.{runs_of};
 ghost use Rattle.mp4_init.specs.Moovs.{moov_fault, moov_tracks};
 ghost use Rattle.mp4_cut.specs.Mdat.{mdat_header};
 ghost use Rattle.mp4_cut.specs.Moof.{written_moof};
 ghost use Rattle.mp4_pieces.specs.Pieces.{IsPieceOf, pieces_from};
-ghost use Rattle.mp4_frag.specs.Ranges.{IsRunOf};
+ghost use Rattle.mp4_traf.specs.Ranges.{IsRunOf};
 ghost use Rattle.mp4_machine.specs.Ends.{sent};
 ghost use Rattle.mp4_machine.specs.Puts.{Writes};
 ghost use Rattle.mp4_machine.specs.Readings.{Effects, both};
@@ -130,6 +130,31 @@ pub fn first_at_fault(payload: Payload, runs: &mut [ListedRun]) -> Option<u64>
     let offender = find_by_track(runs);
     runs.sort_unstable_by_key(|run| run.place_key());
     find_by_place(payload, offender, runs)
+}
+
+/// Whether each sample of a run has at most so many bytes. `held` are the bytes of its moof.
+fn run_fits(run: &Run, held: &[u8], most: u32) -> bool
+    ensures { result ≡ list_all (λ row. nat_le row.size most) (rows_of run.now held.now) }
+{
+    for row in run.rows(held) {
+        if row.size > most {
+            return false;
+        }
+    }
+    true
+}
+
+/// Whether each sample of a traf has at most so many bytes. `held` are the bytes of its moof.
+pub fn samples_fit(traf: &Traf<'_>, held: &[u8], most: u32) -> bool
+    ensures { result ≡ list_all (λ run. list_all (λ row. nat_le row.size most)
+        (rows_of run held.now)) (runs_of traf.now) }
+{
+    for run in traf.runs() {
+        if !run_fits(&run, held, most) {
+            return false;
+        }
+    }
+    true
 }
 
 /// Whether each run of a traf ends by a time, in ticks.

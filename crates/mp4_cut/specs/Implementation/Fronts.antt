@@ -2,8 +2,8 @@
 -- The bytes of a moof and of an index before the fields of their samples or pieces.
 use Rattle.std.specs.Prelude.{ℕ, List, ◌+◌, ◌*◌, ◌++◌}
 use Rattle.byteorder.specs.Endian.{big_bytes}
-use Rattle.mp4_frag.specs.declared.run.Run.{Run}
-use Rattle.mp4_frag.specs.Kinds.{mfhd, traf, tfhd, tfdt, trun}
+use Rattle.mp4_traf.specs.declared.run.Run.{Run}
+use Rattle.mp4_traf.specs.Kinds.{mfhd, traf, tfhd, tfdt, trun}
 use Rattle.mp4_pieces.specs.declared.piece.Piece.{Piece}
 use Rattle.mp4_pieces.specs.declared.plain.PlainPiece.{PlainPiece}
 use Rattle.mp4_pieces.specs.Rooms.{moof}

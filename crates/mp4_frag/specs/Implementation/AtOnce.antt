@@ -2,7 +2,6 @@
 -- One pass over a moof: the faults of each box by itself, and whether its times are early.
 use Rattle.std.specs.Prelude.{◌≡◌, ◌+◌, ◌-◌, ℕ, Bool, true, List, [], ◌∷◌, ◌++◌, ◌==◌, ◌&&◌, ◌<◌, ◌^◌, nat_lt, Option, Some, None, Result, Ok, Err, if◌then◌else◌, length}
 use Rattle.std.specs.List.{AllByRecursion, flat_map, list_all, sum_by}
-use Rattle.std.specs.Str.{bytes_eq}
 use Rattle.mp4_box.specs.declared.headers.FourCc.{FourCc}
 use Rattle.mp4_box.specs.declared.rules.Fault.{Fault}
 use Rattle.mp4_box.specs.declared.rules.Rule.TheVariants.{Unsupported}
@@ -12,16 +11,13 @@ use Rattle.mp4_box.specs.Paths.{of_kind}
 use Rattle.mp4_box.specs.Trees.{Box, box_len, children, fault_at}
 use Rattle.mp4_init.specs.declared.table.Track.{Track}
 use Rattle.mp4_frag.specs.declared.at_once.MoofCounts.{MoofCounts}
-use Rattle.mp4_frag.specs.Kinds.{mfhd, traf, tfhd, tfdt, trun, free, skip}
+use Rattle.mp4_traf.specs.Kinds.{mfhd, traf, tfhd, tfdt, trun, free, skip, is_kind}
 use Rattle.mp4_frag.specs.Mfhd.{mfhd_len}
 use Rattle.mp4_frag.specs.Repeats.{lacks_time}
-use Rattle.mp4_frag.specs.Rules.{samples_in, tfhd_faults, tfhd_length, trun_faults, trun_length}
-use Rattle.mp4_frag.specs.Runs.{base_of, known_track, track_of}
-use Rattle.mp4_frag.specs.Tfdt.{base_media_decode_time, tfdt_layout}
-use Rattle.mp4_frag.specs.Tfhd.{track_id}
-
-abbrev pub is_kind : FourCc → Box → Bool
-is_kind kind b = bytes_eq b.header.kind.0 kind.0
+use Rattle.mp4_traf.specs.Rules.{samples_in, tfhd_faults, tfhd_length, trun_faults, trun_length}
+use Rattle.mp4_traf.specs.Runs.{base_of, track_of}
+use Rattle.mp4_traf.specs.Tfdt.{base_media_decode_time, tfdt_layout}
+use Rattle.mp4_traf.specs.Implementation.Heads.{HasTicks}
 
 -- a box in a place where only boxes without a meaning may be
 abbrev pub passed_over : Bool → Bool → Box → List Fault
@@ -95,10 +91,6 @@ HasEarlyEnd tracks t = lacks_time t ≡ true → (track_of tracks t).next < 2 ^ 
 -- a traf whose base time is early: that of its tfdt, or else where its track ended
 abbrev pub StartsEarly : List Track → Box → Type 0
 StartsEarly tracks t = base_of (track_of tracks t).next t < 2 ^ 63
-
--- a tfhd whose track has a default duration of 32 bits
-abbrev pub HasTicks : List Track → Box → Type 0
-HasTicks tracks b = (known_track (track_id b.payload) tracks).duration < 2 ^ 32
 
 -- the same for each tfhd of a traf
 abbrev pub TrafHasTicks : List Track → Box → Type 0

@@ -6,11 +6,10 @@ use Rattle.mp4_box.specs.declared.checks.Layout.TheVariants.{Exactly}
 use Rattle.mp4_box.specs.Checks.{laid_out}
 use Rattle.mp4_box.specs.Trees.{Box, box_len, children}
 use Rattle.mp4_init.specs.declared.table.Track.{Track}
-use Rattle.mp4_frag.specs.Implementation.AtOnce.{is_kind}
-use Rattle.mp4_frag.specs.Kinds.{mfhd, traf, tfhd, tfdt, trun}
+use Rattle.mp4_traf.specs.Kinds.{is_kind, mfhd, traf, tfhd, tfdt, trun}
 use Rattle.mp4_frag.specs.Mfhd.{mfhd_len}
-use Rattle.mp4_frag.specs.Rules.{tfhd_faults, tfhd_length, trun_faults, trun_length}
-use Rattle.mp4_frag.specs.Tfdt.{tfdt_layout}
+use Rattle.mp4_traf.specs.Rules.{tfhd_faults, tfhd_length, trun_faults, trun_length}
+use Rattle.mp4_traf.specs.Tfdt.{tfdt_layout}
 
 -- a box holds just these two, and they take all of its payload
 pub record HoldsTwo (m a b : Box) : Type 0 where

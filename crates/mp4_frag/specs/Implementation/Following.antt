@@ -7,10 +7,10 @@ use Rattle.mp4_box.specs.Trees.{Box}
 use Rattle.mp4_init.specs.declared.table.Track.{Track}
 use Rattle.mp4_run_order.specs.declared.runs.Payload.{Payload}
 use Rattle.mp4_run_order.specs.Places.{lies_in}
-use Rattle.mp4_frag.specs.declared.run.Run.{Run}
+use Rattle.mp4_traf.specs.declared.run.Run.{Run}
 use Rattle.mp4_frag.specs.Places.{listed_run}
 use Rattle.mp4_frag.specs.declared.traf_ends.TrafEnd.{TrafEnd}
-use Rattle.mp4_frag.specs.Runs.{MoofBytes, end_place, runs_of, traf_of}
+use Rattle.mp4_traf.specs.Runs.{MoofBytes, end_place, runs_of, traf_of}
 use Rattle.mp4_frag.specs.TrafEnds.{traf_end}
 
 -- a run has no samples, or begins at a place or after it, and lies in the payload

@@ -5,10 +5,10 @@ use Rattle.std.specs.List.{flat_map}
 use Rattle.mp4_box.specs.Trees.{Box, boxes}
 use Rattle.mp4_box.specs.Paths.{of_kind}
 use Rattle.mp4_init.specs.declared.table.Track.{Track}
-use Rattle.mp4_frag.specs.declared.run.Run.{Run}
-use Rattle.mp4_frag.specs.declared.traf.TrafHeader.{TrafHeader}
-use Rattle.mp4_frag.specs.Kinds.{trun}
-use Rattle.mp4_frag.specs.Runs.{MoofBytes, Shared, TrackFragment, end_place, runs_from, runs_of, trafs_by}
+use Rattle.mp4_traf.specs.declared.run.Run.{Run}
+use Rattle.mp4_traf.specs.declared.traf.TrafHeader.{TrafHeader}
+use Rattle.mp4_traf.specs.Kinds.{trun}
+use Rattle.mp4_traf.specs.Runs.{MoofBytes, Shared, TrackFragment, end_place, runs_from, runs_of, trafs_by}
 
 -- the boxes between two places of a moof
 abbrev pub boxes_between : MoofBytes → ℕ → ℕ → List Box

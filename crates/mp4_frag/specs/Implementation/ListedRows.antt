@@ -7,7 +7,7 @@ use Rattle.mp4_run_order.specs.declared.runs.ListedRun.{ListedRun}
 use Rattle.mp4_run_order.specs.Orders.{IsTrackOrder, taken}
 use Rattle.mp4_run_order.specs.Runs.{IsListing}
 use Rattle.mp4_run_order.specs.Implementation.Searches.{found_by_track}
-use Rattle.mp4_frag.specs.Runs.{MoofBytes}
+use Rattle.mp4_traf.specs.Runs.{MoofBytes}
 use Rattle.mp4_frag.specs.Implementation.RunRows.{listed_row, listed_words, place_word, track_word}
 use Rattle.mp4_frag.specs.RunLists.{ListedRows, moof_listing}
 

@@ -1,18 +1,18 @@
 -- Only the code's own way; no public clause needs this.
 -- The row of a run in a list. The rest of the run is read in its trun and in the tfhd of its traf.
-use Rattle.std.specs.Prelude.{ℕ, pos, List, [], ◌∷◌, map, ◌-◌, ◌^◌, slice_index, Option, Some, None}
+use Rattle.std.specs.Prelude.{ℕ, pos, List, map, slice_index}
 use Rattle.std.specs.List.{flat_map}
 use lib.IntN.{◌-ℤ◌}
-use Rattle.mp4_box.specs.Paths.{at_path}
-use Rattle.mp4_box.specs.Trees.{Box, first_of}
+use Rattle.mp4_box.specs.Trees.{Box}
 use Rattle.mp4_init.specs.declared.table.Track.{Track}
 use Rattle.mp4_init.specs.Implementation.Rows.{lower, upper}
 use Rattle.mp4_run_order.specs.declared.runs.ListedRun.{ListedRun}
 use Rattle.mp4_run_order.specs.Orders.{place_key, track_key}
-use Rattle.mp4_frag.specs.declared.run.Run.{Run}
+use Rattle.mp4_traf.specs.declared.run.Run.{Run}
 use Rattle.mp4_frag.specs.declared.run_row.RunRow.{RunRow}
-use Rattle.mp4_frag.specs.Kinds.{tfhd}
-use Rattle.mp4_frag.specs.Runs.{MoofBytes, runs_of, traf_of}
+use Rattle.mp4_traf.specs.Kinds.{tfhd}
+use Rattle.mp4_traf.specs.Runs.{MoofBytes, runs_of, traf_of}
+use Rattle.mp4_traf.specs.Implementation.Heads.{tfhd_at}
 
 -- the row as eight numbers
 unfoldable pub row_of_words : List ℕ → RunRow
@@ -59,14 +59,6 @@ row_of_run tfhd run = record {
   track = run.track;
   count = run.count;
 }
-
--- the offset of the tfhd of a traf, past any stream where there is none
-abbrev pub offset_or_none : Option Box → ℕ
-offset_or_none None = 2 ^ 64 - 1
-offset_or_none (Some b) = b.offset
-
-abbrev pub tfhd_at : Box → ℕ
-tfhd_at t = offset_or_none (first_of (at_path (tfhd ∷ []) t))
 
 -- the rows of the runs of a traf, and those of trafs
 abbrev pub rows_of_traf : MoofBytes → List Track → Box → List RunRow

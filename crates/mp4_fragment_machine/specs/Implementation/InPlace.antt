@@ -10,12 +10,12 @@ use Rattle.mp4_box.specs.declared.headers.Size.TheVariants.{Exact}
 use Rattle.mp4_box.specs.declared.headers.Step.TheVariants as steps
 use Rattle.mp4_box.specs.declared.rules.Fault.{Fault}
 use Rattle.mp4_init.specs.declared.table.Track.{Track}
-use Rattle.mp4_frag.specs.Kinds.{traf}
+use Rattle.mp4_traf.specs.Kinds.{traf}
 use Rattle.mp4_frag.specs.SingleRuns.{IsSingle}
 use Rattle.mp4_frag.specs.Moofs.{fault_before_times, moof_fault, moof_of, moof_samples, moof_trafs, moof_truns, time_faults}
 use Rattle.mp4_frag.specs.Places.{place_fault}
-use Rattle.mp4_frag.specs.Rules.{most_in_moof}
-use Rattle.mp4_frag.specs.Runs.{MoofBytes, begins_early, moof_at}
+use Rattle.mp4_traf.specs.Rules.{most_in_moof}
+use Rattle.mp4_traf.specs.Runs.{MoofBytes, begins_early, moof_at}
 use Rattle.mp4_frag.specs.declared.single_run.SingleRun.{SingleRun}
 use Rattle.mp4_ledger.specs.Memory.{Account}
 use Rattle.mp4_run_order.specs.declared.runs.Payload.{Payload}

@@ -5,8 +5,8 @@ use Rattle.std.specs.List.{flat_map}
 use Rattle.mp4_box.specs.declared.headers.Size.{Size}
 use Rattle.mp4_init.specs.declared.table.Track.{Track}
 use Rattle.mp4_frag.specs.Moofs.{moof_trafs, sequence_of}
-use Rattle.mp4_frag.specs.Runs.{MoofBytes, TrackFragment, known_track}
-use Rattle.mp4_frag.specs.TrafTotals.{totals_of}
+use Rattle.mp4_traf.specs.Runs.{MoofBytes, TrackFragment, known_track}
+use Rattle.mp4_traf.specs.TrafTotals.{totals_of}
 use Rattle.mp4_grammar.specs.FragmentLines.{traf_line, traf_with}
 use Rattle.mp4_grammar.specs.Items.{end_of}
 use Rattle.mp4_grammar.specs.TrafRecords.{record_bytes, record_with}

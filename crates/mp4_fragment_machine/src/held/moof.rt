@@ -2,8 +2,8 @@
 
 ghost use Rattle.std.specs.Prelude.{◌≡◌, ◌+◌, ◌*◌, ◌<◌, ◌≤◌, ◌^◌, [], length, None, Some, IfOk, IfErr, IfSome, OnOk, OnErr, IsSome};
 ghost use Rattle.mp4_frag.specs.Moofs.{IsRead, fault_before_times, moof_fault, moof_samples};
-ghost use Rattle.mp4_frag.specs.Rules.{most_in_moof};
-ghost use Rattle.mp4_frag.specs.Runs.{moof_at};
+ghost use Rattle.mp4_traf.specs.Rules.{most_in_moof};
+ghost use Rattle.mp4_traf.specs.Runs.{moof_at};
 ghost use Rattle.mp4_machine.specs.Bodies.{longest};
 ghost use Rattle.mp4_machine.specs.Buffering.{Begins};
 ghost use Rattle.mp4_machine.specs.Readings.{plus};

@@ -1,7 +1,7 @@
 //! Decides how a box or a fragment is taken that the input has whole. It is read there, and not copied.
 
 ghost use Rattle.std.specs.Prelude.{◌≡◌, ◌+◌, ◌≤◌, ℕ, IsTrue};
-ghost use Rattle.mp4_frag.specs.Rules.{most_in_moof};
+ghost use Rattle.mp4_traf.specs.Rules.{most_in_moof};
 ghost use Rattle.mp4_frag.specs.declared.single_run.SingleRun.{SingleRun};
 ghost use Rattle.mp4_machine.specs.Bodies.{longest};
 ghost use Rattle.mp4_machine.specs.Ends.{sent};

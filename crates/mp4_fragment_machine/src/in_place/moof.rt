@@ -1,7 +1,7 @@
 //! Holds a moof that is whole in the input, and begins its fragment if the input reaches so far.
 
 ghost use Rattle.std.specs.Prelude.{◌≡◌, ◌<◌, ◌≤◌, [], take, Some, IfSome, OnOk};
-ghost use Rattle.mp4_frag.specs.Runs.{moof_at};
+ghost use Rattle.mp4_traf.specs.Runs.{moof_at};
 ghost use Rattle.mp4_grammar.specs.Kinds.{most_moof};
 ghost use Rattle.mp4_grammar.specs.declared.kinds.Kind.TheVariants.{Moof};
 ghost use Rattle.mp4_machine.specs.Ends.{sent};

@@ -8,7 +8,7 @@ ghost use Rattle.mp4_box.specs.declared.headers.Header.{Header};
 ghost use Rattle.mp4_box.specs.declared.headers.Size.TheVariants.{Exact};
 ghost use Rattle.mp4_frag.specs.Moofs.{fault_before_times, moof_samples, moof_trafs, time_faults};
 ghost use Rattle.mp4_frag.specs.Places.{place_fault};
-ghost use Rattle.mp4_frag.specs.Runs.{moof_at};
+ghost use Rattle.mp4_traf.specs.Runs.{moof_at};
 ghost use Rattle.mp4_frag.specs.SingleRuns.{IsSingle};
 ghost use Rattle.mp4_ledger.specs.Memory.{claimed, given_back};
 ghost use Rattle.mp4_machine.specs.Ends.{sent};

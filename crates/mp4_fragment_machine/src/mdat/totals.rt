@@ -3,13 +3,13 @@
 ghost use Rattle.std.specs.Prelude.{◌≡◌, ◌+◌, ◌≤◌, ◌<◌, ◌<ℤ◌, ◌^◌, ◌==◌, if◌then◌else◌, ℕ, pos, max, None, Some};
 ghost use Rattle.std.specs.List.{AllByRecursion, sum_by};
 ghost use Rattle.mp4_frag.specs.Moofs.{moof_runs, moof_samples};
-ghost use Rattle.mp4_frag.specs.Rules.{most_in_moof};
+ghost use Rattle.mp4_traf.specs.Rules.{most_in_moof};
 ghost use Rattle.mp4_frag.specs.Places.{place_fault};
 ghost use Rattle.mp4_frag.specs.RunLists.{taken_runs};
 ghost use Rattle.mp4_run_order.specs.Runs.{end_of};
-ghost use Rattle.mp4_frag.specs.declared.run.Run.{Run};
+ghost use Rattle.mp4_traf.specs.declared.run.Run.{Run};
 ghost use Rattle.mp4_grammar.specs.Meanings.{beyond, reach};
-ghost use Rattle.mp4_frag.specs.Ranges.{IsRunOf};
+ghost use Rattle.mp4_traf.specs.Ranges.{IsRunOf};
 ghost use Rattle.mp4_machine.specs.Bodies.{longest};
 ghost use Rattle.mp4_fragment_machine.specs.States.{IsPendingMoof, moof_in};
 

@@ -4,8 +4,8 @@ ghost use Rattle.std.specs.Prelude.{ℕ, ◌≡◌, ◌+◌, ◌<◌, ◌≤◌,
 ghost use Rattle.std.specs.List.{AllByRecursion, flat_map};
 ghost use Rattle.mp4_box.specs.Headers.{IsWhole};
 ghost use Rattle.mp4_frag.specs.Moofs.{IsRead, moof_samples};
-ghost use Rattle.mp4_frag.specs.Ranges.{IsSound};
-ghost use Rattle.mp4_frag.specs.Runs.{known_track, moof_at};
+ghost use Rattle.mp4_traf.specs.Ranges.{IsSound};
+ghost use Rattle.mp4_traf.specs.Runs.{known_track, moof_at};
 ghost use Rattle.mp4_grammar.specs.FragmentLines.{track_lines};
 ghost use Rattle.mp4_machine.specs.Bodies.{least_end, longest};
 ghost use Rattle.mp4_machine.specs.Ends.{sent};

@@ -2,12 +2,12 @@
 -- Pieces of some rows, row by row: a piece grows until a row doesn't fit in it.
 use Rattle.std.specs.Prelude.{◌<◌, ◌+◌, ◌^◌, ◌+ℤ◌, ◌≤ℤ◌, ◌<ℤ◌, ℕ, pos, Bool, true, not, ◌&&◌, ◌||◌, nat_lt, nat_le, if◌then◌else◌, List, [], ◌∷◌, length, Option, Some, None}
 use Rattle.std.specs.Int.{int_min}
-use Rattle.mp4_frag.specs.declared.rows.Row.{Row}
-use Rattle.mp4_frag.specs.declared.rows.Cursor.{Cursor}
-use Rattle.mp4_frag.specs.Rows.{durations, sizes}
+use Rattle.mp4_traf.specs.declared.rows.Row.{Row}
+use Rattle.mp4_traf.specs.declared.rows.Cursor.{Cursor}
+use Rattle.mp4_traf.specs.Rows.{durations, sizes}
 use Rattle.mp4_pieces.specs.declared.cut.Cut.{Cut}
 use Rattle.mp4_pieces.specs.declared.piece.Piece.{Piece}
-use Rattle.mp4_frag.specs.SyncSamples.{is_sync}
+use Rattle.mp4_traf.specs.SyncSamples.{is_sync}
 use Rattle.mp4_pieces.specs.Pieces.{cursor_after}
 
 -- the piece of one row, from a cursor on

@@ -3,7 +3,7 @@
 ghost use Rattle.std.specs.Prelude.{◌≡◌, ◌+◌, ◌^◌, ◌≤◌, length, IfSome};
 ghost use Rattle.mp4_box.specs.Headers.{IsWhole};
 ghost use Rattle.mp4_frag.specs.Moofs.{IsRead};
-ghost use Rattle.mp4_frag.specs.Ranges.{AreRunsOf, IsRunOf};
+ghost use Rattle.mp4_traf.specs.Ranges.{AreRunsOf, IsRunOf};
 
 use super::{TFDT, TFHD, TRUN, one_traf, push_box};
 use crate::callers::next_piece;

@@ -70,7 +70,7 @@ fn outcome_of_runs<'a>(moof: &Moof<'a>, held: &[u8], list: &'a TrackList) -> (Ou
     if let Some(traf) = trafs.next() {
         let mut runs = traf.runs();
         if let Some(run) = runs.next() {
-            first = outcome_of_run(held, &run, run.after(moof, list));
+            first = outcome_of_run(held, &run, moof.after(run, list));
         }
     }
     let mut last = first;

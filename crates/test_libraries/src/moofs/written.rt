@@ -4,10 +4,10 @@ ghost use Rattle.std.specs.Prelude.{◌≡◌, ◌+◌, ◌^◌, ◌≤◌, true
 ghost use Rattle.mp4_box.specs.Headers.{IsWhole};
 ghost use Rattle.mp4_box.specs.Trees.{first_of};
 ghost use Rattle.mp4_frag.specs.Moofs.{IsRead};
-ghost use Rattle.mp4_frag.specs.Runs.{runs_of};
+ghost use Rattle.mp4_traf.specs.Runs.{runs_of};
 ghost use Rattle.mp4_pieces.specs.Fits.{FitsIndex};
 ghost use Rattle.mp4_pieces.specs.Pieces.{pieces_of};
-ghost use Rattle.mp4_frag.specs.Ranges.{AreRunsOf, IsRunOf};
+ghost use Rattle.mp4_traf.specs.Ranges.{AreRunsOf, IsRunOf};
 
 use super::{TFDT, TFHD, TRUN, one_traf, push_box};
 use mp4_box::is_box;

@@ -1,6 +1,6 @@
 use Rattle.std.proofs.Common.{◌++◌}
 use Rattle.byteorder.specs.Endian.{big_bytes}
-use Rattle.mp4_frag.specs.Kinds.{mfhd}
+use Rattle.mp4_traf.specs.Kinds.{mfhd}
 use Rattle.mp4_cut.specs.Boxes.{version_and_flags}
 use Rattle.mp4_cut.proofs.JoinLemmas.{joined}
 use Rattle.mp4_cut.proofs.mfhd.put_mfhd.Goals as goal

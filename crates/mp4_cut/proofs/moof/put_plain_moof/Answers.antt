@@ -1,8 +1,8 @@
 use Rattle.std.proofs.Common.{rules, arith, ◌≡◌, ◌++◌, ◌∙◌, sym, ap, subst, List, ℕ}
 use Rattle.std.specs.Prelude.{take}
 use Rattle.std.specs.List.{flat_map}
-use Rattle.mp4_frag.specs.declared.rows.Cursor.{Cursor}
-use Rattle.mp4_frag.specs.Rows.{IsCursor, row_of}
+use Rattle.mp4_traf.specs.declared.rows.Cursor.{Cursor}
+use Rattle.mp4_traf.specs.Rows.{IsCursor, row_of}
 use Rattle.mp4_pieces.specs.Pieces.{rows_in}
 use Rattle.mp4_pieces.specs.PlainPieces.{piece_of}
 use Rattle.mp4_cut.specs.Moof.{written_moof}

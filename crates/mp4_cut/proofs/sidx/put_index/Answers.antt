@@ -1,8 +1,8 @@
 use Rattle.std.proofs.Common.{◌++◌, ◌∙◌, sym, ap, subst, List, ℕ}
 use Rattle.std.specs.Prelude.{take}
 use Rattle.std.specs.List.{flat_map}
-use Rattle.mp4_frag.specs.declared.rows.Cursor.{Cursor}
-use Rattle.mp4_frag.specs.Rows.{IsCursor}
+use Rattle.mp4_traf.specs.declared.rows.Cursor.{Cursor}
+use Rattle.mp4_traf.specs.Rows.{IsCursor}
 use Rattle.mp4_cut.specs.Sidx.{reference_bytes, written_index}
 use Rattle.mp4_cut.specs.IndexGroups.{group_from}
 use Rattle.mp4_cut.proofs.IndexLemmas.{index_is, index_is_put, room_is}

@@ -1,6 +1,6 @@
 use Rattle.std.proofs.Common.{◌++◌}
 use Rattle.byteorder.specs.Endian.{big_bytes}
-use Rattle.mp4_frag.specs.Kinds.{tfdt}
+use Rattle.mp4_traf.specs.Kinds.{tfdt}
 use Rattle.mp4_cut.specs.Boxes.{version_and_flags}
 use Rattle.mp4_cut.proofs.JoinLemmas.{joined}
 use Rattle.mp4_cut.proofs.tfdt.put_tfdt.Goals as goal

@@ -1,7 +1,7 @@
 use Rattle.std.proofs.Common.{◌≡◌}
 use Rattle.std.specs.List.{flat_map}
 use Rattle.mp4_box.specs.Trees.{first_of}
-use Rattle.mp4_frag.specs.Runs.{runs_of}
+use Rattle.mp4_traf.specs.Runs.{runs_of}
 use Rattle.mp4_frag.proofs.after.first_run.Given as goal
 
 -- the first run of all trafs is that of the trafs that are left

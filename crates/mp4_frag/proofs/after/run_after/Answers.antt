@@ -1,8 +1,8 @@
 use Rattle.std.proofs.Common.{Some, ◌∙◌, ℕ, List, arith, ap, sym}
 use Rattle.std.specs.List.{flat_map}
 use Rattle.mp4_box.specs.Trees.{first_of}
-use Rattle.mp4_frag.specs.declared.run.Run.{Run}
-use Rattle.mp4_frag.specs.Runs.{MoofBytes, TrackFragment, runs_of}
+use Rattle.mp4_traf.specs.declared.run.Run.{Run}
+use Rattle.mp4_traf.specs.Runs.{MoofBytes, TrackFragment, runs_of}
 use Rattle.mp4_frag.specs.Implementation.LaterRuns.{runs_after, trafs_after}
 use Rattle.mp4_frag.specs.Moofs.{moof_runs}
 use Rattle.mp4_frag.proofs.AfterLemmas.{after_run, first_of_both, first_of_last, is_one_of}

@@ -7,7 +7,7 @@ use Rattle.mp4_box.specs.Paths.{of_kind}
 use Rattle.mp4_box.specs.Trees.{Box, box_len, view}
 use Rattle.mp4_box.proofs.OrderLemmas.{least_from_append}
 use Rattle.mp4_frag.specs.Implementation.AtOnce.{Adds, TrafHasTicks, faults_in_moof, in_trafs, is_complete, most_64}
-use Rattle.mp4_frag.specs.Kinds.{mfhd, traf}
+use Rattle.mp4_traf.specs.Kinds.{mfhd, traf}
 use Rattle.mp4_frag.specs.Repeats.{untimed_ids}
 use Rattle.mp4_frag.proofs.AddLemmas.{adds_nothing, adds_on, count_append, moof_adds}
 use Rattle.mp4_frag.proofs.AtOnceLemmas.{complete_more, trafs_first}

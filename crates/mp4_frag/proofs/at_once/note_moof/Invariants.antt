@@ -5,7 +5,7 @@ use Rattle.mp4_box.specs.Paths.{of_kind}
 use Rattle.mp4_box.specs.Trees.{view, box_len, children}
 use Rattle.mp4_frag.specs.declared.at_once.MoofCounts.{MoofCounts}
 use Rattle.mp4_frag.specs.Implementation.AtOnce.{Adds, TrafHasTicks, faults_in_moof, in_trafs, is_complete, most_64}
-use Rattle.mp4_frag.specs.Kinds.{mfhd, traf}
+use Rattle.mp4_traf.specs.Kinds.{mfhd, traf}
 use Rattle.mp4_frag.specs.Repeats.{untimed_ids}
 use Rattle.mp4_frag.proofs.AddLemmas.{AddsUp}
 use Rattle.mp4_frag.proofs.at_once.note_moof.Given as goal

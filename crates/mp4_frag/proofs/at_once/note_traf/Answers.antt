@@ -7,8 +7,9 @@ use Rattle.mp4_box.specs.Order.{least_from}
 use Rattle.mp4_box.specs.Paths.{of_kind}
 use Rattle.mp4_box.specs.Trees.{Box, box_len, children, view}
 use Rattle.mp4_box.proofs.OrderLemmas.{least_from_append}
-use Rattle.mp4_frag.specs.Implementation.AtOnce.{Adds, HasTicks, faults_in_traf, most_64}
-use Rattle.mp4_frag.specs.Kinds.{tfdt, tfhd}
+use Rattle.mp4_frag.specs.Implementation.AtOnce.{Adds, faults_in_traf, most_64}
+use Rattle.mp4_traf.specs.Implementation.Heads.{HasTicks}
+use Rattle.mp4_traf.specs.Kinds.{tfdt, tfhd}
 use Rattle.mp4_frag.proofs.AddLemmas.{adds_append, adds_nothing, adds_on, count_append}
 use Rattle.mp4_frag.proofs.AtOnceLemmas.{ticks_first, untimed_one}
 use Rattle.mp4_frag.proofs.at_once.note_traf.Goals as goal

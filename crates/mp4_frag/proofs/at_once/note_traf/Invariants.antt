@@ -4,8 +4,9 @@ use Rattle.mp4_box.specs.Order.{least_from}
 use Rattle.mp4_box.specs.Paths.{of_kind}
 use Rattle.mp4_box.specs.Trees.{view, box_len, children}
 use Rattle.mp4_frag.specs.declared.at_once.MoofCounts.{MoofCounts}
-use Rattle.mp4_frag.specs.Implementation.AtOnce.{Adds, HasTicks, TrafHasTicks, faults_in_traf, most_64}
-use Rattle.mp4_frag.specs.Kinds.{tfhd, tfdt}
+use Rattle.mp4_frag.specs.Implementation.AtOnce.{Adds, TrafHasTicks, faults_in_traf, most_64}
+use Rattle.mp4_traf.specs.Implementation.Heads.{HasTicks}
+use Rattle.mp4_traf.specs.Kinds.{tfhd, tfdt}
 use Rattle.mp4_frag.proofs.AddLemmas.{AddsUp}
 use Rattle.mp4_frag.proofs.at_once.note_traf.Given as goal
 

@@ -1,7 +1,7 @@
 use Rattle.std.proofs.Common.{◌≡◌, sym, arith}
 use Rattle.mp4_box.specs.Paths.{at_path}
 use Rattle.mp4_box.specs.Trees.{view}
-use Rattle.mp4_frag.specs.Kinds.{to_trun}
+use Rattle.mp4_traf.specs.Kinds.{to_trun}
 use Rattle.mp4_frag.specs.Repeats.{trafs_of}
 use Rattle.mp4_frag.specs.Rules.{samples_of}
 use Rattle.mp4_frag.proofs.AddLemmas.{early_found, few_enough, samples_found, truns_found}

@@ -1,9 +1,9 @@
 use Rattle.std.proofs.Common.{◌∙◌, ◌∷◌, []}
 use Rattle.mp4_box.specs.Trees.{view}
-use Rattle.mp4_frag.specs.Runs.{moof_at}
+use Rattle.mp4_traf.specs.Runs.{moof_at}
 use Rattle.mp4_frag.proofs.SingleRunLemmas.{one_single, one_sound}
 use Rattle.mp4_frag.proofs.MoofListLemmas.{is_moof}
-use Rattle.mp4_frag.proofs.StartLemmas.{headed}
+use Rattle.mp4_traf.proofs.StartLemmas.{headed}
 use Rattle.mp4_frag.proofs.CommonLayoutLemmas.{of_trafs, common_read}
 use Rattle.mp4_frag.proofs.common_layout.common_run.Goals as goal
 

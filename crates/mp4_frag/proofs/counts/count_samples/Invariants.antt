@@ -1,6 +1,7 @@
 use Rattle.std.proofs.Common.{◌≡◌, ◌+◌, ◌≤◌}
 use Rattle.mp4_box.specs.Trees.{view}
-use Rattle.mp4_frag.specs.Rules.{count_faults, most_in_moof, samples_in, samples_of, too_many}
+use Rattle.mp4_frag.specs.Rules.{count_faults, samples_of, too_many}
+use Rattle.mp4_traf.specs.Rules.{most_in_moof, samples_in}
 use Rattle.mp4_frag.proofs.counts.count_samples.Given as goal
 
 -- the samples so far and those of the truns that are left

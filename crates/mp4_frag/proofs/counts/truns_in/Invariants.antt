@@ -1,7 +1,7 @@
 use Rattle.std.proofs.Common.{◌≡◌, ◌+◌, length}
 use Rattle.mp4_box.specs.Paths.{at_path}
 use Rattle.mp4_box.specs.Trees.{view}
-use Rattle.mp4_frag.specs.Kinds.{to_trun}
+use Rattle.mp4_traf.specs.Kinds.{to_trun}
 use Rattle.mp4_frag.proofs.counts.truns_in.Given as goal
 
 abbrev pub invariant-loop : goal.invariant-loop

@@ -3,10 +3,10 @@ use Rattle.std.specs.List.{All, AllByRecursion}
 use Rattle.mp4_box.specs.Paths.{at_path}
 use Rattle.mp4_box.specs.Trees.{view}
 use Rattle.mp4_run_order.specs.Orders.{FitsKeys}
-use Rattle.mp4_frag.specs.Kinds.{traf}
-use Rattle.mp4_frag.specs.Ranges.{IsSound}
+use Rattle.mp4_traf.specs.Kinds.{traf}
+use Rattle.mp4_traf.specs.Ranges.{IsSound}
 use Rattle.mp4_frag.specs.Implementation.RunRows.{listed_words, rows_of_trafs, rows_of_words}
-use Rattle.mp4_frag.specs.Runs.{MoofBytes, traf_of}
+use Rattle.mp4_traf.specs.Runs.{MoofBytes, traf_of}
 use Rattle.mp4_frag.proofs.fill.fill.Given as goal
 
 abbrev pub invariant-loop-traf : goal.invariant-loop-traf

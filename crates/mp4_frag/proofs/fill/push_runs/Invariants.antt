@@ -2,7 +2,7 @@ use Rattle.std.proofs.Common.{◌≡◌, ◌+◌, ◌≤◌, ◌++◌, length}
 use Rattle.std.specs.Prelude.{map}
 use Rattle.std.specs.List.{All, AllByRecursion}
 use Rattle.mp4_run_order.specs.Orders.{FitsKeys}
-use Rattle.mp4_frag.specs.Ranges.{InRange}
+use Rattle.mp4_traf.specs.Ranges.{InRange}
 use Rattle.mp4_frag.specs.Implementation.RunRows.{listed_words, row_of_run, rows_of_words}
 use Rattle.mp4_frag.proofs.fill.push_runs.Given as goal
 

@@ -1,11 +1,11 @@
 use Rattle.std.proofs.Common.{◌∙◌, [], ◌∷◌, ◌++◌, ap, refl, sym, arith}
 use Rattle.std.specs.Prelude.{take}
 use Rattle.mp4_box.specs.Paths.{at_path}
-use Rattle.mp4_frag.specs.Kinds.{traf}
+use Rattle.mp4_traf.specs.Kinds.{traf}
 use Rattle.mp4_frag.specs.TrafEnds.{few_trafs}
 use Rattle.mp4_frag.specs.Implementation.Following.{ends_by, runs_of_trafs}
 use Rattle.mp4_box.specs.Trees.{view}
-use Rattle.mp4_frag.specs.Runs.{MoofBytes}
+use Rattle.mp4_traf.specs.Runs.{MoofBytes}
 use Rattle.mp4_frag.proofs.FollowingLemmas.{bytes_taken, bytes_within, order_found, order_known, order_placed, truns_of}
 use Rattle.mp4_frag.proofs.MoofListLemmas.{is_moof, sound_trafs}
 use Rattle.mp4_frag.proofs.TrafEndLemmas.{ends_are, timed_all, timed_few}

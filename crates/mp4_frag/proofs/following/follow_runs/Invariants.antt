@@ -1,8 +1,8 @@
 use Rattle.std.proofs.Common.{◌≡◌, ◌+◌, ◌<◌, ◌^◌}
 use Rattle.std.specs.Prelude.{◌≤ℤ◌, pos}
 use Rattle.std.specs.List.{AllByRecursion, sum_by}
-use Rattle.mp4_frag.specs.Ranges.{InRange}
-use Rattle.mp4_frag.specs.Runs.{last_end}
+use Rattle.mp4_traf.specs.Ranges.{InRange}
+use Rattle.mp4_traf.specs.Runs.{last_end}
 use Rattle.mp4_frag.specs.Implementation.Following.{all_follow, bytes_with, past_runs, timed_run}
 use Rattle.mp4_frag.proofs.following.follow_runs.Given as goal
 

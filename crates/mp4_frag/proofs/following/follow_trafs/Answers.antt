@@ -2,9 +2,9 @@ use Rattle.std.proofs.Common.{◌≡◌, ◌∙◌, ◌+◌, ◌<◌, ◌^◌, �
 use Rattle.std.specs.Prelude.{take}
 use Rattle.std.specs.List.{sum_by}
 use Rattle.mp4_box.specs.Paths.{at_path}
-use Rattle.mp4_frag.specs.Kinds.{traf}
+use Rattle.mp4_traf.specs.Kinds.{traf}
 use Rattle.mp4_box.specs.Trees.{view}
-use Rattle.mp4_frag.specs.Runs.{MoofBytes, traf_of}
+use Rattle.mp4_traf.specs.Runs.{MoofBytes, traf_of}
 use Rattle.mp4_frag.specs.TrafEnds.{few_trafs, traf_end}
 use Rattle.mp4_frag.specs.Implementation.Following.{all_follow, bytes_with, ends_by, past_runs, runs_of_trafs, timed_run}
 use Rattle.mp4_frag.proofs.FollowingLemmas.{follow_on, past_on, sum_on}

@@ -1,4 +1,4 @@
-use Rattle.mp4_frag.proofs.RowLemmas.{cursor_first, cursor_past}
+use Rattle.mp4_traf.proofs.RowLemmas.{cursor_first, cursor_past}
 use Rattle.mp4_frag.proofs.laws.cursors_go_on.Goals as goal
 
 pub returns-clause-first : goal.returns-clause-first

@@ -1,4 +1,4 @@
-use Rattle.mp4_frag.proofs.TrafTotalLemmas.{moof_sound}
+use Rattle.mp4_frag.proofs.MoofTotalLemmas.{moof_sound}
 use Rattle.mp4_frag.proofs.laws.trafs_are_sound.Goals as goal
 
 pub returns : goal.returns

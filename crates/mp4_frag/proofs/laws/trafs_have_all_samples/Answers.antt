@@ -1,6 +1,7 @@
-use Rattle.mp4_frag.specs.Runs.{runs_of}
-use Rattle.mp4_frag.proofs.FirstSampleLemmas.{first_is}
-use Rattle.mp4_frag.proofs.TrafTotalLemmas.{all_bytes, all_samples, duration_is}
+use Rattle.mp4_traf.specs.Runs.{runs_of}
+use Rattle.mp4_traf.proofs.FirstSampleLemmas.{first_is}
+use Rattle.mp4_frag.proofs.MoofTotalLemmas.{all_bytes, all_samples}
+use Rattle.mp4_traf.proofs.TrafTotalLemmas.{duration_is}
 use Rattle.mp4_frag.proofs.laws.trafs_have_all_samples.Goals as goal
 
 pub returns-clause-samples : goal.returns-clause-samples

@@ -2,7 +2,7 @@ use Rattle.std.proofs.Common.{◌∙◌, [], length, refl, sym, subst}
 use Rattle.std.specs.List.{AllByRecursion}
 use Rattle.mp4_box.specs.Trees.{Box, view}
 use Rattle.mp4_frag.specs.Repeats.{trafs_of, untimed_ids}
-use Rattle.mp4_frag.specs.Runs.{moof_at}
+use Rattle.mp4_traf.specs.Runs.{moof_at}
 use Rattle.mp4_frag.specs.Implementation.AtOnce.{HasEarlyEnd, IsCount, most_64}
 use Rattle.mp4_frag.proofs.EarlyLemmas.{early_in_time, none_untimed, values_count}
 use Rattle.mp4_frag.proofs.MoofLemmas.{moof_is}

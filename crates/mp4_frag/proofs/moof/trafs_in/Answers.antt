@@ -1,8 +1,8 @@
 use Rattle.std.proofs.Common.{◌≡◌, ◌^◌, ◌≤◌, arith, subst}
 use Rattle.std.specs.List.{AllByRecursion}
 use Rattle.mp4_box.specs.Trees.{Box, children, view}
-use Rattle.mp4_frag.specs.Ranges.{IsSound}
-use Rattle.mp4_frag.specs.Runs.{MoofBytes, trafs_by}
+use Rattle.mp4_traf.specs.Ranges.{IsSound}
+use Rattle.mp4_traf.specs.Runs.{MoofBytes, trafs_by}
 use Rattle.mp4_frag.specs.Moofs.{moof_of}
 use Rattle.mp4_frag.proofs.MoofLemmas.{moof_is}
 use Rattle.mp4_frag.proofs.SoundLemmas.{all_sound}

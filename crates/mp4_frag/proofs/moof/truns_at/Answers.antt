@@ -1,5 +1,5 @@
 use Rattle.mp4_box.specs.Trees.{view}
-use Rattle.mp4_frag.specs.Runs.{MoofBytes}
+use Rattle.mp4_traf.specs.Runs.{MoofBytes}
 use Rattle.mp4_frag.proofs.MoofListLemmas.{few_truns, is_moof}
 use Rattle.mp4_frag.proofs.moof.truns_at.Goals as goal
 

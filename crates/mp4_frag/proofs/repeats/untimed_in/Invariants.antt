@@ -1,7 +1,7 @@
 use Rattle.std.proofs.Common.{◌≡◌, ◌<◌, ◌+◌, ◌^◌, length}
 use Rattle.mp4_box.specs.Trees.{view}
 use Rattle.mp4_box.specs.Paths.{of_kind}
-use Rattle.mp4_frag.specs.Kinds.{traf}
+use Rattle.mp4_traf.specs.Kinds.{traf}
 use Rattle.mp4_frag.specs.Repeats.{trafs_of, untimed_ids}
 use Rattle.mp4_frag.proofs.repeats.untimed_in.Given as goal
 

@@ -2,7 +2,7 @@ use Rattle.std.proofs.Common.{◌∙◌, ◌+◌, ℕ, sym, ap, arith, List}
 use Rattle.std.specs.Option.{unwrap_or}
 use Rattle.mp4_box.specs.Trees.{Box, first_of, view}
 use Rattle.mp4_frag.specs.Implementation.Rereads.{absent_box}
-use Rattle.mp4_frag.specs.Runs.{MoofBytes}
+use Rattle.mp4_traf.specs.Runs.{MoofBytes}
 use Rattle.mp4_frag.proofs.RunRowLemmas.{found_by, found_nothing}
 use Rattle.mp4_frag.proofs.reread.box_in.Goals as goal
 

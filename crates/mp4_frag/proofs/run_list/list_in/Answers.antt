@@ -4,10 +4,10 @@ use Rattle.mp4_box.specs.Trees.{Box, view}
 use Rattle.mp4_ledger.specs.Memory.{Rows, claimed}
 use Rattle.mp4_ledger.specs.declared.ledger.Refused.TheVariants.{OverLimit}
 use Rattle.mp4_frag.specs.declared.run_list.RunList.{RunList as RowList}
-use Rattle.mp4_frag.specs.Kinds.{to_trun, traf}
+use Rattle.mp4_traf.specs.Kinds.{to_trun, traf}
 use Rattle.mp4_frag.specs.Moofs.{moof_runs, moof_truns}
 use Rattle.mp4_frag.specs.Implementation.RunRows.{rows_of_trafs}
-use Rattle.mp4_frag.specs.Runs.{MoofBytes}
+use Rattle.mp4_traf.specs.Runs.{MoofBytes}
 use Rattle.mp4_frag.proofs.MoofListLemmas.{IsMoof, claim_is, claimed_so, filled, is_moof, known, length_filled, put_in, refused_so, room_for, sound_trafs}
 use Rattle.mp4_frag.proofs.RunListLemmas.{length_rows, list_is}
 use Rattle.mp4_frag.proofs.run_list.list_in.Goals as goal

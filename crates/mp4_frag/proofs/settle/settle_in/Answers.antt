@@ -1,11 +1,12 @@
 use Rattle.std.proofs.Common.{◌∙◌, List, [], ◌∷◌, ap, arith, refl, subst, sym}
 use Rattle.mp4_box.specs.Trees.{Box, view}
-use Rattle.mp4_frag.specs.Runs.{MoofBytes}
+use Rattle.mp4_traf.specs.Runs.{MoofBytes}
 use Rattle.mp4_box.specs.Paths.{at_path}
-use Rattle.mp4_frag.specs.Kinds.{traf}
+use Rattle.mp4_traf.specs.Kinds.{traf}
 use Rattle.mp4_frag.specs.Moofs.{moof_of}
-use Rattle.mp4_frag.specs.Settling.{timed_in}
-use Rattle.mp4_frag.proofs.MoofLemmas.{moof_is, read_count, truns_first}
+use Rattle.mp4_traf.specs.Settling.{timed_in}
+use Rattle.mp4_frag.proofs.MoofLemmas.{moof_is, read_count}
+use Rattle.mp4_traf.proofs.ChildLemmas.{truns_first}
 use Rattle.mp4_frag.proofs.SoundLemmas.{few_timed}
 use Rattle.mp4_frag.proofs.SettleLemmas.{Settles, settles}
 use Rattle.mp4_frag.proofs.settle.settle_in.Goals as goal

@@ -1,9 +1,9 @@
 use Rattle.std.proofs.Common.{◌≡◌, ◌+◌, [], ◌∷◌}
 use Rattle.mp4_box.specs.Paths.{paths_below}
-use Rattle.mp4_frag.specs.Kinds.{trun}
+use Rattle.mp4_traf.specs.Kinds.{trun}
 use Rattle.mp4_frag.specs.Moofs.{moof_of, moof_trafs}
-use Rattle.mp4_frag.specs.Runs.{moof_at}
-use Rattle.mp4_frag.specs.Settling.{settled, timed_in, timed_of}
+use Rattle.mp4_traf.specs.Runs.{moof_at}
+use Rattle.mp4_traf.specs.Settling.{settled, timed_in, timed_of}
 use Rattle.mp4_frag.specs.Implementation.SettlingSteps.{EachInTime, settled_on}
 use Rattle.mp4_frag.proofs.SoundLemmas.{FewTimed}
 use Rattle.mp4_frag.proofs.settle.settle_in.Given as goal

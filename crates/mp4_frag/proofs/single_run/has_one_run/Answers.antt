@@ -2,8 +2,8 @@ use Rattle.std.proofs.Common.{◌≡◌, ◌≢◌, ◌∙◌, List, [], ◌∷�
 use Rattle.std.specs.Prelude.{IfNone, IfSome}
 use Rattle.mp4_box.specs.Paths.{of_kind}
 use Rattle.mp4_box.specs.Trees.{Box, children, view}
-use Rattle.mp4_frag.specs.Kinds.{traf, trun}
-use Rattle.mp4_frag.specs.Runs.{moof_at}
+use Rattle.mp4_traf.specs.Kinds.{traf, trun}
+use Rattle.mp4_traf.specs.Runs.{moof_at}
 use Rattle.mp4_frag.proofs.SingleRunLemmas.{one_run, only_one}
 use Rattle.mp4_frag.proofs.MoofLemmas.{moof_is}
 use Rattle.mp4_frag.proofs.single_run.has_one_run.Goals as goal

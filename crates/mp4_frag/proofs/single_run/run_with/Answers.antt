@@ -1,8 +1,8 @@
 use Rattle.std.proofs.Common.{◌∙◌, ◌∷◌, [], Some, ap, refl, subst, sym}
 use Rattle.mp4_box.specs.Trees.{view}
-use Rattle.mp4_frag.specs.declared.run.Run.{Run}
-use Rattle.mp4_frag.specs.Ranges.{InRange}
-use Rattle.mp4_frag.specs.Runs.{moof_at}
+use Rattle.mp4_traf.specs.declared.run.Run.{Run}
+use Rattle.mp4_traf.specs.Ranges.{InRange}
+use Rattle.mp4_traf.specs.Runs.{moof_at}
 use Rattle.mp4_frag.proofs.SingleRunLemmas.{single_found}
 use Rattle.mp4_frag.proofs.single_run.run_with.Goals as goal
 

@@ -1,8 +1,8 @@
 use Rattle.std.proofs.Common.{◌∙◌, ap, sym}
 use Rattle.mp4_box.specs.Paths.{of_kind}
 use Rattle.mp4_box.specs.Trees.{view}
-use Rattle.mp4_frag.specs.Kinds.{traf}
-use Rattle.mp4_frag.specs.Runs.{moof_at}
+use Rattle.mp4_traf.specs.Kinds.{traf}
+use Rattle.mp4_traf.specs.Runs.{moof_at}
 use Rattle.mp4_frag.proofs.SingleRunLemmas.{single_found_in, one_known, one_sound}
 use Rattle.mp4_frag.proofs.MoofLemmas.{moof_is}
 use Rattle.mp4_frag.proofs.MoofListLemmas.{is_moof}

@@ -1,4 +1,4 @@
-use Rattle.mp4_frag.proofs.TrafTotalLemmas.{all_bytes, all_samples}
+use Rattle.mp4_frag.proofs.MoofTotalLemmas.{all_bytes, all_samples}
 use Rattle.mp4_grammar.proofs.laws.trafs_have_all_that_is_counted.Goals as goal
 
 pub returns-clause-samples : goal.returns-clause-samples

@@ -1,5 +1,5 @@
 use Rattle.std.proofs.Common.{List, ap, subst, sym, ◌∙◌}
-use Rattle.mp4_frag.specs.declared.rows.Row.{Row}
+use Rattle.mp4_traf.specs.declared.rows.Row.{Row}
 use Rattle.mp4_pieces.specs.declared.piece.Piece.{Piece}
 use Rattle.mp4_pieces.specs.Implementation.Growing.{Grows, grown}
 use Rattle.mp4_pieces.proofs.GrowLemmas.{grown_takes, with_row_grows}

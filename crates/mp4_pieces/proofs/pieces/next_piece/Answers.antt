@@ -1,8 +1,8 @@
 use Rattle.std.proofs.Common.{List, subst, sym}
-use Rattle.mp4_frag.specs.declared.rows.Row.{Row}
+use Rattle.mp4_traf.specs.declared.rows.Row.{Row}
 use Rattle.mp4_pieces.specs.declared.piece.Piece.{Piece}
 use Rattle.mp4_pieces.specs.Implementation.Growing.{Grows}
-use Rattle.mp4_frag.specs.Cursors.{HasRoom}
+use Rattle.mp4_traf.specs.Cursors.{HasRoom}
 use Rattle.mp4_pieces.proofs.GrowLemmas.{opened_grows}
 use Rattle.mp4_pieces.proofs.pieces.next_piece.Goals as goal
 

@@ -1,7 +1,7 @@
 use Rattle.std.proofs.Common.{List, [], ◌∷◌, ap, subst, sym, ◌∙◌}
 use Rattle.mp4_box.specs.Order.{least_from}
-use Rattle.mp4_frag.specs.declared.run.Run.{Run}
-use Rattle.mp4_frag.specs.Ranges.{AreRunsOf}
+use Rattle.mp4_traf.specs.declared.run.Run.{Run}
+use Rattle.mp4_traf.specs.Ranges.{AreRunsOf}
 use Rattle.mp4_pieces.proofs.RoomLemmas.{best_end, best_past, count_one, count_past, faults_one}
 use Rattle.mp4_pieces.proofs.rooms.note_runs.Goals as goal
 

@@ -1,7 +1,7 @@
 use Rattle.std.proofs.Common.{◌≡◌, ◌+◌}
 use Rattle.mp4_box.specs.Order.{least_from}
 use Rattle.mp4_pieces.specs.Pieces.{piece_count}
-use Rattle.mp4_frag.specs.Ranges.{AreRunsOf}
+use Rattle.mp4_traf.specs.Ranges.{AreRunsOf}
 use Rattle.mp4_pieces.specs.Rooms.{index_faults}
 use Rattle.mp4_pieces.proofs.rooms.note_runs.Given as goal
 

@@ -1,10 +1,10 @@
 use Rattle.std.proofs.Common.{List, ap, subst, sym, ◌∙◌}
 use Rattle.std.specs.List.{flat_map}
 use Rattle.mp4_box.specs.Order.{least_from}
-use Rattle.mp4_frag.specs.declared.run.Run.{Run}
-use Rattle.mp4_frag.specs.Runs.{TrackFragment, runs_of}
+use Rattle.mp4_traf.specs.declared.run.Run.{Run}
+use Rattle.mp4_traf.specs.Runs.{TrackFragment, runs_of}
 use Rattle.mp4_pieces.specs.Pieces.{piece_count}
-use Rattle.mp4_frag.specs.Ranges.{AreRunsOf}
+use Rattle.mp4_traf.specs.Ranges.{AreRunsOf}
 use Rattle.mp4_pieces.specs.Rooms.{index_faults}
 use Rattle.mp4_pieces.proofs.RoomLemmas.{best_end, best_past, count_past}
 use Rattle.mp4_frag.proofs.ReadRunLemmas.{of_both}

@@ -1,9 +1,9 @@
 use Rattle.std.proofs.Common.{◌≡◌, ◌+◌}
 use Rattle.std.specs.List.{flat_map}
 use Rattle.mp4_box.specs.Order.{least_from}
-use Rattle.mp4_frag.specs.Runs.{runs_of}
+use Rattle.mp4_traf.specs.Runs.{runs_of}
 use Rattle.mp4_pieces.specs.Pieces.{piece_count}
-use Rattle.mp4_frag.specs.Ranges.{AreRunsOf}
+use Rattle.mp4_traf.specs.Ranges.{AreRunsOf}
 use Rattle.mp4_pieces.specs.Rooms.{index_faults}
 use Rattle.mp4_pieces.proofs.rooms.note_trafs.Given as goal
 

@@ -6,10 +6,10 @@ use Rattle.mp4_box.specs.Order.{least_from}
 use Rattle.mp4_box.proofs.OrderLemmas.{least-is, least-none}
 use Rattle.mp4_init.specs.declared.table.Track.{Track}
 use Rattle.mp4_frag.specs.Moofs.{moof_runs, moof_trafs}
-use Rattle.mp4_frag.specs.Runs.{MoofBytes, TrackFragment, runs_of}
+use Rattle.mp4_traf.specs.Runs.{MoofBytes, TrackFragment, runs_of}
 use Rattle.mp4_pieces.specs.declared.cut.Cut.{Cut}
 use Rattle.mp4_pieces.specs.Pieces.{piece_count}
-use Rattle.mp4_frag.specs.Ranges.{AreRunsOf}
+use Rattle.mp4_traf.specs.Ranges.{AreRunsOf}
 use Rattle.mp4_pieces.specs.Rooms.{index_faults, numbers, room_fault, room_faults, sequence_faults}
 use Rattle.mp4_pieces.proofs.FitsLemmas.{room_from}
 use Rattle.mp4_pieces.proofs.RoomLemmas.{fault_is, moof_count_few}

@@ -1,5 +1,5 @@
 use Rattle.mp4_grammar.specs.Meanings.{runs_in}
-use Rattle.mp4_frag.specs.Ranges.{IsRunOf}
+use Rattle.mp4_traf.specs.Ranges.{IsRunOf}
 use Rattle.mp4_recut.proofs.FragmentLemmas.{spans_ascend}
 use Rattle.mp4_recut.proofs.RoomLemmas.{all_each}
 use Rattle.mp4_recut.proofs.laws.spans_ascend.Goals as goal

@@ -1,5 +1,5 @@
 use Rattle.std.proofs.Common.{◌≡◌, ◌∙◌, ◌∷◌, [], ap, arith, length, refl, subst, sym}
-use Rattle.mp4_frag.specs.Rows.{IsCursor}
+use Rattle.mp4_traf.specs.Rows.{IsCursor}
 use Rattle.mp4_machine.specs.Ends.{sent}
 use Rattle.mp4_machine.specs.Puts.{HasFailed}
 use Rattle.mp4_machine.proofs.PutLemmas.{HasFailed-longer, PutsMarked-then}

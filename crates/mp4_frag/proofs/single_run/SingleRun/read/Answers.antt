@@ -1,6 +1,6 @@
 use Rattle.std.proofs.Common.{◌∙◌, ap, subst}
 use Rattle.std.specs.Prelude.{Ok}
-use Rattle.mp4_frag.specs.Runs.{moof_at}
+use Rattle.mp4_traf.specs.Runs.{moof_at}
 use Rattle.mp4_frag.specs.SingleRuns.{ReadsSingleRun}
 use Rattle.mp4_frag.proofs.single_run.SingleRun.read.Goals as goal
 

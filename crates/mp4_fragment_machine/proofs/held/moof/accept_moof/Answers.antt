@@ -1,7 +1,7 @@
 use Rattle.std.proofs.Common.{ap, arith, refl, rules, length, ◌+◌, ◌*◌, Err, ◌∙◌}
 use Rattle.mp4_box.specs.Order.{least}
 use Rattle.mp4_frag.specs.Moofs.{fault_before_times, moof_runs, moof_samples, moof_trafs, time_faults}
-use Rattle.mp4_frag.specs.Runs.{moof_at}
+use Rattle.mp4_traf.specs.Runs.{moof_at}
 use Rattle.mp4_machine.proofs.AccountLemmas.{within_limit}
 use Rattle.mp4_machine.specs.Inputs.{environment}
 use Rattle.mp4_recut.specs.Operations.{operation_meaning, number_in}

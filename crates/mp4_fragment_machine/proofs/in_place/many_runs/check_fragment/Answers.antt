@@ -1,6 +1,6 @@
 use Rattle.std.proofs.Common.{◌≡◌, ◌+◌, ◌*◌, [], arith, length, refl, subst}
 use Rattle.mp4_frag.specs.Moofs.{moof_runs, moof_samples}
-use Rattle.mp4_frag.specs.Runs.{moof_at}
+use Rattle.mp4_traf.specs.Runs.{moof_at}
 use Rattle.mp4_machine.specs.Inputs.{environment}
 use Rattle.mp4_machine.proofs.BlockLemmas.{Passes-none}
 use Rattle.mp4_grammar.specs.declared.command.Command.TheVariants.{Check}

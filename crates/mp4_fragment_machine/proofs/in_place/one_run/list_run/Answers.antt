@@ -1,7 +1,7 @@
 use Rattle.std.proofs.Common.{◌∙◌, length, Some, arith, ap, refl, sym, subst}
 use Rattle.mp4_machine.specs.Ends.{sent}
 use Rattle.mp4_machine.specs.Puts.{Puts}
-use Rattle.mp4_frag.specs.Runs.{moof_at}
+use Rattle.mp4_traf.specs.Runs.{moof_at}
 use Rattle.mp4_grammar.specs.Contexts.{context}
 use Rattle.mp4_grammar.specs.Items.{fragment}
 use Rattle.mp4_fragment_machine.proofs.FragmentLineLemmas.{lines_are, listed_is, size_stated}

@@ -1,6 +1,6 @@
 use Rattle.std.proofs.Common.{◌≡◌, ◌+◌, ◌*◌, arith, refl}
 use Rattle.mp4_frag.specs.Moofs.{moof_samples}
-use Rattle.mp4_frag.specs.Runs.{moof_at}
+use Rattle.mp4_traf.specs.Runs.{moof_at}
 use Rattle.mp4_machine.specs.Inputs.{environment}
 use Rattle.mp4_recut.specs.Operations.{operation_meaning, number_in}
 use Rattle.mp4_fragment_machine.specs.States.{known}

@@ -1,7 +1,7 @@
 use Rattle.std.proofs.Common.{◌≡◌, ◌∙◌, ◌∷◌, [], None, Ok, Some, ap, arith, subst, sym}
 use Rattle.mp4_init.specs.Moovs.{fault_of}
 use Rattle.mp4_frag.specs.Places.{place_fault}
-use Rattle.mp4_frag.specs.Runs.{moof_at}
+use Rattle.mp4_traf.specs.Runs.{moof_at}
 use Rattle.mp4_fragment_machine.proofs.FragmentLemmas.{single_is, moof_len, moof_whole}
 use Rattle.mp4_fragment_machine.proofs.machine.FragmentMachine.take_from_moof.Goals as goal
 

@@ -1,6 +1,6 @@
 use Rattle.std.proofs.Common.{◌≡◌, ◌∙◌, ℕ, ◌+◌, ◌*◌, ◌≤◌, [], Some, ap, arith, length, refl, subst, sym}
 use Rattle.mp4_frag.specs.Moofs.{moof_samples, moof_trafs}
-use Rattle.mp4_frag.specs.Settling.{settled}
+use Rattle.mp4_traf.specs.Settling.{settled}
 use Rattle.mp4_grammar.specs.Items.{end_of}
 use Rattle.mp4_machine.specs.Inputs.{environment}
 use Rattle.mp4_recut.specs.Cursors.{fragments_left}

@@ -1,7 +1,7 @@
 use Rattle.std.proofs.Common.{◌≡◌, ◌∙◌, ◌+◌, ◌-◌, ◌*◌, ◌≤◌, [], Some, ap, arith, length, refl, subst, sym, take}
 use Rattle.mp4_ledger.specs.Memory.{given_back}
 use Rattle.mp4_frag.specs.Moofs.{moof_samples, moof_trafs}
-use Rattle.mp4_frag.specs.Settling.{settled}
+use Rattle.mp4_traf.specs.Settling.{settled}
 use Rattle.mp4_machine.specs.Bodies.{extent_after, latest_end}
 use Rattle.mp4_machine.specs.Ends.{sent}
 use Rattle.mp4_machine.specs.Inputs.{GoesOn, environment}

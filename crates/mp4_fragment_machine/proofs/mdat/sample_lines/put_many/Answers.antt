@@ -1,6 +1,6 @@
-use Rattle.mp4_frag.specs.Cursors.{first_cursor}
-use Rattle.mp4_frag.proofs.RowLemmas.{cursor_first}
-use Rattle.mp4_frag.proofs.CursorLemmas.{cursor_has_room}
+use Rattle.mp4_traf.specs.Cursors.{first_cursor}
+use Rattle.mp4_traf.proofs.RowLemmas.{cursor_first}
+use Rattle.mp4_traf.proofs.CursorLemmas.{cursor_has_room}
 use Rattle.mp4_fragment_machine.proofs.mdat.sample_lines.put_many.Goals as goal
 
 pub put_many_rows-requires : goal.put_many_rows-requires

@@ -1,8 +1,8 @@
 use Rattle.std.proofs.Common.{◌∙◌, ◌++◌, [], ap, refl}
-use Rattle.mp4_frag.specs.Cursors.{past}
+use Rattle.mp4_traf.specs.Cursors.{past}
 use Rattle.mp4_machine.proofs.PutLemmas.{HasFailed-front, HasFailed-then, HasPut-none, HasPut-then}
 use Rattle.mp4_grammar.specs.Samples.{sample_line, sample_lines, samples_from}
-use Rattle.mp4_frag.proofs.CursorLemmas.{room_on}
+use Rattle.mp4_traf.proofs.CursorLemmas.{room_on}
 use Rattle.mp4_fragment_machine.proofs.LineLemmas.{next_line, put_all}
 use Rattle.mp4_fragment_machine.proofs.mdat.sample_lines.put_many_rows.Goals as goal
 

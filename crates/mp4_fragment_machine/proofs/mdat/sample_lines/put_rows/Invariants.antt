@@ -2,7 +2,7 @@ use Rattle.std.proofs.Common.{◌≡◌, ◌++◌, ℕ, List, []}
 use Rattle.mp4_machine.specs.Ends.{sent}
 use Rattle.mp4_machine.specs.Puts.{HasPut}
 use Rattle.mp4_grammar.specs.Samples.{sample_lines, samples_from}
-use Rattle.mp4_frag.specs.Cursors.{HasRoom}
+use Rattle.mp4_traf.specs.Cursors.{HasRoom}
 use Rattle.mp4_fragment_machine.proofs.mdat.sample_lines.put_rows.Given as goal
 
 -- what was put, and the lines of the rows that are left, are those of all

@@ -2,7 +2,7 @@ use Rattle.std.proofs.Common.{◌≡◌, ◌≤◌, ◌-◌, max, length, take, 
 use Rattle.mp4_run_order.proofs.ListLemmas.{Each}
 use Rattle.mp4_frag.specs.RunLists.{taken_runs}
 use Rattle.mp4_grammar.specs.Meanings.{reach}
-use Rattle.mp4_frag.specs.Ranges.{IsRunOf}
+use Rattle.mp4_traf.specs.Ranges.{IsRunOf}
 use Rattle.mp4_fragment_machine.specs.States.{moof_in}
 use Rattle.mp4_fragment_machine.proofs.MediaLemmas.{count_of, media_of}
 use Rattle.mp4_fragment_machine.proofs.mdat.totals.add_up_runs.Given as goal

@@ -1,9 +1,9 @@
 use Rattle.std.proofs.Common.{◌≡◌, List, sym, subst}
 use Rattle.std.specs.List.{AllByRecursion}
 use Rattle.mp4_frag.specs.Moofs.{moof_trafs}
-use Rattle.mp4_frag.specs.Ranges.{IsSound}
-use Rattle.mp4_frag.specs.Runs.{MoofBytes, TrackFragment, moof_at}
-use Rattle.mp4_frag.proofs.TrafTotalLemmas.{moof_sound}
+use Rattle.mp4_traf.specs.Ranges.{IsSound}
+use Rattle.mp4_traf.specs.Runs.{MoofBytes, TrackFragment, moof_at}
+use Rattle.mp4_frag.proofs.MoofTotalLemmas.{moof_sound}
 use Rattle.mp4_fragment_machine.proofs.mdat.traf_lines.put_moof_lines.Goals as goal
 
 pub put_trafs-requires : goal.put_trafs-requires

@@ -1,5 +1,5 @@
 use Rattle.std.proofs.Common.{◌≡◌, ◌∙◌, ℕ, List, ap, length, subst, sym}
-use Rattle.mp4_frag.specs.Runs.{moof_at}
+use Rattle.mp4_traf.specs.Runs.{moof_at}
 use Rattle.mp4_machine.specs.Ends.{sent}
 use Rattle.mp4_machine.specs.Puts.{Puts}
 use Rattle.mp4_fragment_machine.specs.States.{moof_in}

@@ -1,6 +1,6 @@
 use Rattle.std.proofs.Common.{◌++◌, ◌∙◌, [], ap, refl, subst}
 use Rattle.std.specs.List.{AllByRecursion, flat_map}
-use Rattle.mp4_frag.specs.Ranges.{IsSound}
+use Rattle.mp4_traf.specs.Ranges.{IsSound}
 use Rattle.mp4_machine.proofs.PutLemmas.{HasFailed-front, HasFailed-then, HasPut-none, HasPut-then}
 use Rattle.mp4_grammar.specs.FragmentLines.{traf_with}
 use Rattle.mp4_fragment_machine.specs.Implementation.TrafLines.{put_of, put_with}

@@ -2,7 +2,7 @@ use Rattle.std.proofs.Common.{◌≡◌, ◌++◌, ℕ, List, []}
 use Rattle.std.specs.List.{AllByRecursion, flat_map}
 use Rattle.mp4_machine.specs.Ends.{sent}
 use Rattle.mp4_machine.specs.Puts.{HasPut}
-use Rattle.mp4_frag.specs.Ranges.{IsSound}
+use Rattle.mp4_traf.specs.Ranges.{IsSound}
 use Rattle.mp4_fragment_machine.specs.Implementation.TrafLines.{put_with}
 use Rattle.mp4_fragment_machine.proofs.mdat.traf_lines.put_trafs.Given as goal
 

@@ -1,8 +1,8 @@
 use Rattle.std.proofs.Common.{List, sym, ap, subst, ◌∙◌}
-use Rattle.mp4_frag.specs.declared.rows.Row.{Row}
-use Rattle.mp4_frag.specs.Cursors.{HasRoom}
+use Rattle.mp4_traf.specs.declared.rows.Row.{Row}
+use Rattle.mp4_traf.specs.Cursors.{HasRoom}
 use Rattle.mp4_pieces.specs.Pieces.{cut_rows, pieces_at}
-use Rattle.mp4_frag.proofs.CursorLemmas.{cursor_has_room}
+use Rattle.mp4_traf.proofs.CursorLemmas.{cursor_has_room}
 use Rattle.mp4_pieces.proofs.GrowLemmas.{pieces_left_are}
 use Rattle.mp4_pieces.proofs.pieces.Pieces.at.Goals as goal
 

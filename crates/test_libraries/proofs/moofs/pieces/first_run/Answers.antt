@@ -1,9 +1,9 @@
 use Rattle.std.proofs.Common.{List, ℕ, ap, arith, subst, sym, ◌∙◌, ◌≤◌, ◌^◌}
 use Rattle.std.specs.List.{flat_map}
 use Rattle.mp4_box.specs.Headers.{IsBytes, IsWhole}
-use Rattle.mp4_frag.specs.declared.run.Run.{Run}
-use Rattle.mp4_frag.specs.Runs.{TrackFragment, runs_of}
-use Rattle.mp4_frag.specs.Ranges.{AreRunsOf}
+use Rattle.mp4_traf.specs.declared.run.Run.{Run}
+use Rattle.mp4_traf.specs.Runs.{TrackFragment, runs_of}
+use Rattle.mp4_traf.specs.Ranges.{AreRunsOf}
 use Rattle.mp4_frag.proofs.ReadRunLemmas.{of_both, runs_are}
 use Rattle.test_libraries.proofs.moofs.pieces.first_run.Goals as goal
 

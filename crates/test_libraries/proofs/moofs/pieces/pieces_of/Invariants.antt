@@ -1,4 +1,4 @@
-use Rattle.mp4_frag.specs.Rows.{IsCursor}
+use Rattle.mp4_traf.specs.Rows.{IsCursor}
 use Rattle.test_libraries.proofs.moofs.pieces.pieces_of.Given as goal
 
 -- the cursor is one of the run

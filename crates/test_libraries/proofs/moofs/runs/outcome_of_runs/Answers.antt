@@ -1,7 +1,7 @@
 use Rattle.std.proofs.Common.{◌∙◌, [], ◌++◌, List, ap, sym}
 use Rattle.std.specs.List.{flat_map}
-use Rattle.mp4_frag.specs.declared.run.Run.{Run}
-use Rattle.mp4_frag.specs.Runs.{TrackFragment, runs_of}
+use Rattle.mp4_traf.specs.declared.run.Run.{Run}
+use Rattle.mp4_traf.specs.Runs.{TrackFragment, runs_of}
 use Rattle.test_libraries.proofs.moofs.runs.outcome_of_runs.Goals as goal
 
 pub after-requires-clause-run : goal.after-requires-clause-run

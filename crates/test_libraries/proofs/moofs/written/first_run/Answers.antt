@@ -3,11 +3,11 @@ use Rattle.std.specs.List.{AllByRecursion, flat_map}
 use Rattle.std.specs.Prelude.{IfSome, Option, None}
 use Rattle.mp4_box.specs.Headers.{IsBytes, IsWhole}
 use Rattle.mp4_box.specs.Trees.{first_of}
-use Rattle.mp4_frag.specs.declared.run.Run.{Run}
-use Rattle.mp4_frag.specs.Runs.{TrackFragment, runs_of}
+use Rattle.mp4_traf.specs.declared.run.Run.{Run}
+use Rattle.mp4_traf.specs.Runs.{TrackFragment, runs_of}
 use Rattle.mp4_pieces.specs.Fits.{FitsIndex}
 use Rattle.mp4_pieces.specs.Pieces.{pieces_of}
-use Rattle.mp4_frag.specs.Ranges.{AreRunsOf, IsRunOf}
+use Rattle.mp4_traf.specs.Ranges.{AreRunsOf, IsRunOf}
 use Rattle.mp4_frag.proofs.ReadRunLemmas.{runs_are}
 use Rattle.test_libraries.proofs.moofs.written.first_run.Goals as goal
 

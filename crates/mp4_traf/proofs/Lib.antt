@@ -1,0 +1,13 @@
+pub mod ChildLemmas
+pub mod RowLemmas
+pub mod BetweenLemmas
+pub mod TimeLemmas
+pub mod RangeLemmas
+pub mod RunLemmas
+pub mod StartLemmas
+pub mod EndLemmas
+pub mod WholeGroupLemmas
+pub mod TrafTotalLemmas
+pub mod CursorLemmas
+pub mod SyncLemmas
+pub mod FirstSampleLemmas

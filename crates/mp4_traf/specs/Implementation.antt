@@ -1,0 +1,7 @@
+-- Only the code's own way; no public clause needs this.
+-- What a stream means is defined in the folder above, without these.
+pub mod Added
+pub mod Ends
+pub mod Heads
+pub mod Times
+pub mod TrafContexts

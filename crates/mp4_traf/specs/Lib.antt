@@ -1,0 +1,15 @@
+pub mod Kinds
+pub mod Fields
+pub mod Tfhd
+pub mod Tfdt
+pub mod Trun
+pub mod Rules
+pub mod Rows
+pub mod Cursors
+pub mod Runs
+pub mod TimeFaults
+pub mod Ranges
+pub mod Settling
+pub mod TrafTotals
+pub mod SyncSamples
+pub mod Implementation

@@ -1,0 +1,81 @@
+//! Where a traf ends.
+
+ghost use Rattle.std.specs.Prelude.{◌≡◌, ◌+◌, ◌^◌, ◌<◌, [], ◌∷◌};
+ghost use Rattle.mp4_box.specs.Paths.{at_path, of_kind};
+ghost use Rattle.mp4_box.specs.Trees.{view};
+ghost use Rattle.mp4_traf.specs.Kinds.{trun};
+ghost use Rattle.mp4_traf.specs.Runs.{moof_at, traf_of};
+ghost use Rattle.mp4_traf.specs.Implementation.TrafContexts.{shared_of};
+ghost use Rattle.mp4_traf.specs.Settling.{ended, timed, timed_in};
+ghost use Rattle.mp4_traf.specs.Implementation.Ends.{EndsInTime, ticks_from};
+ghost use Rattle.mp4_traf.specs.Implementation.Times.{late_from};
+
+use crate::fields::flags_of;
+use crate::runs::ticks_in;
+use crate::start::{Start, start_of};
+use crate::traf::TrafContext;
+use crate::trun::{sample_count, sample_fields};
+use mp4_box::types::TRUN;
+use mp4_box::{BoxRef, Walk};
+use mp4_init::TrackList;
+
+/// How many samples of a trun have durations of their own: all or none.
+#[tactic(auto, unfolding(crate::specs::Trun::sample_fields))]
+fn timed(payload: &[u8]) -> u32
+    ensures { result ≡ timed payload.now }
+{
+    if sample_fields(flags_of(payload)).sample_duration.is_some() {
+        sample_count(payload)
+    } else {
+        0
+    }
+}
+
+/// Where a traf ends that begins at a time, of which these children are left. Those of its samples that have durations of their
+/// own are counted.
+#[tactic(auto, using(crate::proofs::EndLemmas::tick_fits, crate::proofs::EndLemmas::tick_more), unfolding(crate::specs::Implementation::Ends::ticks_from))]
+fn end_of<'a>(context: &TrafContext<'_>, time: u64, rest: Walk<'a>, count: &mut u32) -> u64
+    requires late { late_from (shared_of context.now) time (of_kind trun rest) ≡ [] }
+    requires few { count.old + timed_in (of_kind trun rest) < 2 ^ 32 }
+    ensures end { result ≡ ticks_from (shared_of context.now) time (of_kind trun rest.entry) }
+    ensures count { count.new ≡ count.old + timed_in (of_kind trun rest.entry) }
+{
+    let mut end = time;
+    for child in rest {
+        if child.header.kind.is(TRUN) {
+            end += ticks_in(context, &child);
+            *count += timed(child.payload);
+        }
+    }
+    end
+}
+
+/// Sets where the track of a traf ends: where the traf does. Those of its samples that have durations of their own are counted.
+#[tactic(auto, unfolding(crate::specs::Runs::traf_of))]
+pub fn end_traf(
+    moof_bytes: &[u8],
+    moof: u64,
+    traf: &BoxRef<'_>,
+    tracks: &mut TrackList,
+    count: &mut u32,
+)
+    requires time { EndsInTime (traf_of (moof_at moof_bytes.now moof) tracks.old
+        (view traf.now)) }
+    requires few { count.old + timed_in (at_path (trun ∷ []) (view traf.now)) < 2 ^ 32 }
+    ensures tracks { tracks.new ≡ ended tracks.old (traf_of (moof_at moof_bytes.now moof)
+        tracks.old (view traf.now)) }
+    ensures count { count.new ≡ count.old + timed_in (at_path (trun ∷ []) (view traf.now)) }
+{
+    let start = start_of(moof_bytes, moof, tracks, traf);
+    let Start {
+        context,
+        time,
+        track,
+        tfhd: _,
+        rest,
+    } = start;
+    let end = end_of(&context, time, rest, count);
+    if let Some(i) = track {
+        tracks.set_next(i, end);
+    }
+}

@@ -1,0 +1,61 @@
+//! What a track fragment (ISO/IEC 14496-12, 8.8.6) says of its samples, with the defaults of its track, and the rules
+//! that it must keep by itself. `CALLING.md` shows a caller.
+//!
+//! - [`Traf::runs`] and [`Run::rows`]: the [`Run`]s of a [`Traf`] and the [`Row`] of each sample. [`Run::rows_from`]
+//!   goes on from a [`Cursor`], [`Run::whole_groups`] gives the bytes of rows with all four fields, and
+//!   [`Run::sums_between`] adds some of them up ([`Sums`]);
+//! - [`Trafs`]: the trafs of a moof, one after the other; [`runs_of`] and [`heads_of`]: what is read of one of them
+//!   before its runs;
+//! - [`Traf::totals`]: a traf by its samples, added up ([`TrafTotals`]);
+//! - [`TfhdLength`], [`TrunLength`], [`HoldsOnly`], [`OfTrack`], [`FlagsOnce`] and [`InTime`]: its rules, each as a
+//!   [`Check`](mp4_box::Check);
+//! - [`end_traf`]: where its track ends after it.
+//!
+//! In the order of a fragment: `children.rt` goes over the boxes of a moof by their types, `fields.rt` over fields that
+//! a flag announces; `tfhd.rt`, `tfdt.rt` and `trun.rt` have the fields of a box by the standard's names and where they
+//! lie, and `checks.rt` and `times.rt` the rules. `start.rt` reads what precedes the runs of a traf, `traf.rt` makes
+//! the traf, `runs.rt` its runs ([`Run`] in `run.rt`), `rows.rt` their rows, and `sums.rt` and `traf_totals.rt` add up
+//! rows. `end.rt` says where a traf ends.
+//!
+//! In `specs/` a file has the definitions of the box or the words of its name: `specs/Rules.antt` and
+//! `specs/TimeFaults.antt` say what is at fault, `specs/Rows.antt` what a row is, `specs/Cursors.antt` what a cursor
+//! is, `specs/Runs.antt` when and where runs begin and end, `specs/Ranges.antt` bounds of them,
+//! `specs/SyncSamples.antt` which samples are sync samples, `specs/TrafTotals.antt` the sums over the samples of a
+//! traf, and `specs/Settling.antt` where the tracks end after trafs. How all this is computed is said in
+//! `specs/Implementation/`.
+#![tactic(auto)]
+
+mod checks;
+mod children;
+mod end;
+mod fields;
+mod rows;
+mod run;
+mod runs;
+mod start;
+mod sums;
+mod tfdt;
+mod tfhd;
+mod times;
+mod traf;
+mod traf_totals;
+mod trun;
+
+pub use checks::{FlagsOnce, HoldsOnly, OfTrack, TfhdLength, TrunLength, note_tfhd};
+pub use children::{OfKind, Truns, children_of, next_of, truns_of};
+pub use end::end_traf;
+pub use fields::payload_at;
+pub use rows::{Cursor, Row, Rows, Steps};
+pub use run::Run;
+pub use runs::{RunStart, Runs, run_at, run_end, run_of};
+pub use start::{Heads, RunsOf, before_runs, heads_of, runs_of};
+pub use sums::Sums;
+pub use tfdt::{LONG_TFDT_LEN, TFDT_LEN, base_media_decode_time};
+pub use tfhd::track_id;
+pub use times::InTime;
+pub use traf::{
+    Traf, TrafContext, TrafHeader, Trafs, base_of, end_in, header_by, known_track, track_at,
+    track_of,
+};
+pub use traf_totals::TrafTotals;
+pub use trun::{SampleFields, sample_count};

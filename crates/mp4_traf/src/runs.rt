@@ -1,0 +1,195 @@
+//! From the truns of a traf to its runs.
+
+ghost use Rattle.std.specs.Prelude.{◌≡◌, ◌+◌, ◌∷◌, [], ◌<◌, ◌^◌, length, pos, option_to_list, None, IfNone, IfSome, ◌++◌};
+ghost use Rattle.std.specs.List.{AllByRecursion};
+ghost use Rattle.std.specs.Iterator.{YieldsFirst, item_count};
+ghost use Rattle.mp4_box.specs.Trees.{children, view};
+ghost use Rattle.mp4_traf.specs.Kinds.{trun};
+ghost use Rattle.mp4_traf.specs.Ranges.{InRange};
+ghost use Rattle.mp4_traf.specs.Runs.{end_place, run_at, run_of, start_by};
+ghost use Rattle.mp4_traf.specs.Implementation.TrafContexts.{runs_left, shared_of};
+ghost use Rattle.mp4_traf.specs.Implementation.Times.{ticks_in};
+
+use crate::children::next_of;
+use crate::fields::flags_of;
+use crate::run::Run;
+use crate::sums::{sums_of, ticks_of};
+use crate::traf::{TrafContext, end_in};
+use crate::trun::{data_offset, first_sample_flags, sample_count, sample_fields, trun_fields};
+use mp4_box::types::TRUN;
+use mp4_box::{BoxRef, Walk, version_of};
+use std::marker::Model;
+
+/// Where the runs of a traf end so far, and the next may begin.
+#[derive(Clone, Copy)]
+pub struct RunStart {
+    /// In time, in ticks.
+    pub time: u64,
+    /// The offset in the stream.
+    pub place: i128,
+}
+
+/// Where a run begins: so far after the first byte of the moof, or where the run before it ends.
+fn start_by(moof: u64, last: i128, offset: Option<i32>) -> i128
+    ensures { result ≡ start_by moof last offset }
+{
+    match offset {
+        Some(offset) => i128::from(moof) + i128::from(offset),
+        None => last,
+    }
+}
+
+/// The run of a trun, but for its end and its bytes.
+#[inline(always)]
+#[tactic(auto, unfolding(crate::specs::Runs::run_at))]
+pub fn run_at(context: &TrafContext<'_>, run_start: &RunStart, trun: &BoxRef<'_>) -> Run
+    ensures { result ≡ run_at (shared_of context.now) run_start.now.time run_start.now.place
+        (view trun.now) }
+{
+    let flags = flags_of(trun.payload);
+    let payload_at = (trun.offset + trun.header.header_len).saturating_sub(context.moof);
+    Run {
+        track: context.header.track,
+        entry: context.header.entry,
+        version: version_of(trun.payload),
+        count: sample_count(trun.payload),
+        time: run_start.time,
+        end: run_start.time,
+        place: start_by(context.moof, run_start.place, data_offset(trun.payload)),
+        bytes: 0,
+        offset: trun.offset,
+        duration: context.header.duration,
+        size: context.header.size,
+        flags: context.header.flags,
+        first_sample_flags: first_sample_flags(trun.payload),
+        fields: sample_fields(flags),
+        samples_at: payload_at + u64::from(trun_fields(flags).samples),
+        ends_at: end_in(context.moof, trun),
+        traf_ends_at: context.ends_at,
+    }
+}
+
+/// The durations of the samples of a trun, added up: by a product where no sample has its own.
+#[inline(always)]
+#[tactic(auto, using(crate::proofs::TimeLemmas::ticks_by_product), unfolding(crate::specs::Implementation::Times::ticks_in))]
+pub(crate) fn ticks_in(context: &TrafContext<'_>, trun: &BoxRef<'_>) -> u64
+    ensures { result ≡ ticks_in (shared_of context.now) (view trun.now) }
+{
+    if sample_fields(flags_of(trun.payload))
+        .sample_duration
+        .is_none()
+    {
+        return u64::from(context.header.duration) * u64::from(sample_count(trun.payload));
+    }
+    let start = RunStart { time: 0, place: 0 };
+    ticks_of(&run_at(context, &start, trun), context.moof_bytes)
+}
+
+/// The run of a trun.
+#[inline(always)]
+#[tactic(auto, unfolding(crate::specs::Runs::run_of))]
+pub fn run_of(context: &TrafContext<'_>, run_start: &RunStart, trun: &BoxRef<'_>) -> Run
+    requires { run_start.now.time + ticks_in (shared_of context.now) (view trun.now) < 2 ^ 64 }
+    ensures { result ≡ run_of (shared_of context.now) run_start.now.time run_start.now.place
+        (view trun.now) }
+{
+    let mut run = run_at(context, run_start, trun);
+    let sums = sums_of(&run, context.moof_bytes);
+    run.end = run_start.time + sums.ticks;
+    run.bytes = sums.bytes;
+    run
+}
+
+/// Goes over the runs of a traf.
+#[derive(Drop)]
+pub struct Runs<'a> {
+    context: TrafContext<'a>,
+    /// Where the runs so far end.
+    run_start: RunStart,
+    /// The children that are left.
+    walk: Walk<'a>,
+}
+
+// A contract sees the runs that are left.
+impl<'a> Model for Runs<'a> {
+    ghost use Rattle.std.specs.Prelude.{List};
+    ghost use Rattle.std.specs.List.{AllByRecursion};
+    ghost use Rattle.mp4_traf.specs.declared.run.Run.{Run};
+    ghost use Rattle.mp4_traf.specs.Ranges.{InRange};
+    ghost use Rattle.mp4_traf.specs.Implementation.TrafContexts.{runs_left};
+
+    ghost Value = { List Run };
+
+    ghost view = { λ r. runs_left r.context r.run_start r.walk };
+
+    ghost invariant = { λ r. AllByRecursion InRange (runs_left r.context r.run_start r.walk) };
+}
+
+impl<'a> Runs<'a> {
+    /// The runs of the truns among the children of a box, after the runs so far.
+    pub fn of(context: &TrafContext<'a>, run_start: &RunStart, this: &BoxRef<'a>) -> Runs<'a>
+        requires { AllByRecursion InRange
+            (runs_left context.now run_start.now (children (view this.now))) }
+        ensures { result ≡ runs_left context.now run_start.now (children (view this.now)) }
+    {
+        Runs::among(context, run_start, Walk::of(this))
+    }
+
+    /// The runs of the truns among some boxes, after the runs so far.
+    pub(crate) fn among(context: &TrafContext<'a>, run_start: &RunStart, walk: Walk<'a>) -> Runs<'a>
+        requires { AllByRecursion InRange (runs_left context.now run_start.now walk) }
+        ensures { result ≡ runs_left context.now run_start.now walk.entry }
+    {
+        Runs {
+            context: *context,
+            run_start: *run_start,
+            walk,
+        }
+    }
+}
+
+/// Where a run ends.
+pub fn run_end(run: &Run) -> RunStart
+    requires { InRange run.now }
+    ensures time { result.time ≡ run.now.end }
+    ensures place { result.place ≡ end_place run.now }
+{
+    RunStart {
+        time: run.end,
+        place: run.place + i128::from(run.bytes),
+    }
+}
+
+/// The run of the next trun among the children that are left, after the runs so far.
+#[inline(always)]
+fn next_run<'a>(
+    context: &TrafContext<'a>,
+    run_start: &mut RunStart,
+    walk: &mut Walk<'a>,
+) -> Option<Run>
+    requires range { AllByRecursion InRange (runs_left context.now run_start.old walk.old) }
+    ensures first { runs_left context.now run_start.old walk.old ≡
+        option_to_list result ++ runs_left context.now run_start.new walk.new }
+    ensures none { IfNone result (runs_left context.now run_start.new walk.new ≡ []) }
+    ensures range { AllByRecursion InRange (runs_left context.now run_start.new walk.new) }
+{
+    let Some(trun) = next_of(TRUN, walk) else {
+        return None;
+    };
+    let run = run_of(context, run_start, &trun);
+    *run_start = run_end(&run);
+    Some(run)
+}
+
+impl<'a> Iterator for Runs<'a> {
+    type Item = Run;
+
+    ghost next_gives = { YieldsFirst (λ rest. rest) };
+
+    ghost remaining = { item_count (λ rest. rest) };
+
+    #[inline(always)]
+    fn next(&mut self) -> Option<Run> {
+        next_run(&self.context, &mut self.run_start, &mut self.walk)
+    }
+}

@@ -1,0 +1,172 @@
+//! Sums over the samples of a run.
+
+ghost use Rattle.std.specs.Prelude.{◌≡◌, ◌+◌, ◌*◌, ◌<◌, ◌≤◌, ◌^◌, drop, take};
+ghost use Rattle.mp4_box.specs.Fields.{number_in};
+ghost use Rattle.mp4_traf.specs.Rows.{durations, rows_of, sizes};
+ghost use Rattle.mp4_traf.specs.Implementation.Added.{field_numbers, numbers_from};
+
+use crate::rows::groups_from;
+use crate::run::Run;
+use mp4_box::u32_at;
+
+/// Sums over some samples of a run.
+#[derive(Clone, Copy)]
+pub struct Sums {
+    /// Their bytes.
+    pub bytes: u64,
+    /// Their durations, in ticks.
+    pub ticks: u64,
+}
+
+/// The number in the four bytes at a place, 0 where they aren't all there.
+#[inline(always)]
+fn number_in(groups: &[u8], place: u64) -> u32
+    requires { place + 4 < 2 ^ 64 }
+    ensures { result ≡ number_in groups.now place }
+{
+    if (groups.len() as u64) < place + 4 {
+        return 0;
+    }
+    u32_at(groups, place as usize)
+}
+
+/// The numbers at a place of each of `count` groups of `len` bytes, of which the first begins the bytes, added up.
+#[inline(always)]
+fn numbers_sum(groups: &[u8], at: u32, len: u32, count: u32) -> u64
+    ensures sum { result ≡ numbers_from groups.now len at count }
+    ensures few { result ≤ 4294967295 * count }
+{
+    let step = u64::from(len);
+    let mut place = u64::from(at);
+    let mut total = 0;
+    let mut left = count;
+    while left > 0 {
+        total += u64::from(number_in(groups, place));
+        place += step;
+        left -= 1;
+    }
+    total
+}
+
+/// The numbers at two places of each of `count` groups of `len` bytes, of which the first begins the bytes, added up, those at
+/// each place by themselves: the groups are gone over once.
+#[inline(always)]
+fn both_sums(groups: &[u8], size_at: u32, duration_at: u32, len: u32, count: u32) -> Sums
+    ensures bytes { result.bytes ≡ numbers_from groups.now len size_at count }
+    ensures ticks { result.ticks ≡ numbers_from groups.now len duration_at count }
+    ensures few_bytes { result.bytes ≤ 4294967295 * count }
+    ensures few_ticks { result.ticks ≤ 4294967295 * count }
+{
+    let step = u64::from(len);
+    let mut size_place = u64::from(size_at);
+    let mut duration_place = u64::from(duration_at);
+    let mut bytes = 0;
+    let mut ticks = 0;
+    let mut groups_left = count;
+    while groups_left > 0 {
+        bytes += u64::from(number_in(groups, size_place));
+        ticks += u64::from(number_in(groups, duration_place));
+        size_place += step;
+        duration_place += step;
+        groups_left -= 1;
+    }
+    Sums { bytes, ticks }
+}
+
+/// The numbers of a field of `count` groups of `len` bytes, of which the first begins the bytes, added up: by a product
+/// where they haven't the field.
+#[inline(always)]
+fn field_sum(groups: &[u8], at: Option<u32>, common_layout: u32, len: u32, count: u32) -> u64
+    ensures sum { result ≡ field_numbers groups.now at common_layout len count }
+    ensures few { result ≤ 4294967295 * count }
+{
+    match at {
+        Some(at) => numbers_sum(groups, at, len, count),
+        None => u64::from(common_layout) * u64::from(count),
+    }
+}
+
+/// The sizes of `count` rows of a run, added up, of which the first group begins the bytes.
+#[inline(always)]
+fn bytes_in(run: &Run, groups: &[u8], count: u32) -> u64
+    ensures sum { result ≡ field_numbers groups.now run.now.fields.sample_size run.now.size
+        run.now.fields.len count }
+    ensures few { result ≤ 4294967295 * count }
+{
+    let fields = &run.fields;
+    field_sum(groups, fields.sample_size, run.size, fields.len, count)
+}
+
+/// The durations of `count` rows of a run, added up, of which the first group begins the bytes.
+#[inline(always)]
+fn ticks_in(run: &Run, groups: &[u8], count: u32) -> u64
+    ensures sum { result ≡ field_numbers groups.now run.now.fields.sample_duration run.now.duration
+        run.now.fields.len count }
+    ensures few { result ≤ 4294967295 * count }
+{
+    let fields = &run.fields;
+    field_sum(
+        groups,
+        fields.sample_duration,
+        run.duration,
+        fields.len,
+        count,
+    )
+}
+
+/// The sizes and the durations of `count` rows of a run, added up, of which the first group begins the bytes. The rows are gone
+/// over once at most: where both are the samples' own, both are added up on the way.
+#[inline(always)]
+fn sums_in(run: &Run, groups: &[u8], count: u32) -> Sums
+    ensures bytes { result.bytes ≡ field_numbers groups.now run.now.fields.sample_size run.now.size
+        run.now.fields.len count }
+    ensures ticks { result.ticks ≡ field_numbers groups.now run.now.fields.sample_duration
+        run.now.duration run.now.fields.len count }
+    ensures few_bytes { result.bytes ≤ 4294967295 * count }
+    ensures few_ticks { result.ticks ≤ 4294967295 * count }
+{
+    let fields = &run.fields;
+    match (fields.sample_size, fields.sample_duration) {
+        (Some(size), Some(duration)) => both_sums(groups, size, duration, fields.len, count),
+        _ => Sums {
+            bytes: bytes_in(run, groups, count),
+            ticks: ticks_in(run, groups, count),
+        },
+    }
+}
+
+/// The durations of the samples of a run, added up.
+#[inline(always)]
+#[tactic(auto, using(crate::proofs::BetweenLemmas::all_durations))]
+pub(crate) fn ticks_of(run: &Run, moof_bytes: &[u8]) -> u64
+    ensures ticks { result ≡ durations (rows_of run.now moof_bytes.now) }
+    ensures few { result ≤ 4294967295 * run.now.count }
+{
+    ticks_in(run, groups_from(run, moof_bytes, 0), run.count)
+}
+
+/// The sizes and the durations of the samples of a run, added up.
+#[inline(always)]
+#[tactic(auto, using(crate::proofs::BetweenLemmas::all_sizes, crate::proofs::BetweenLemmas::all_durations))]
+pub(crate) fn sums_of(run: &Run, moof_bytes: &[u8]) -> Sums
+    ensures bytes { result.bytes ≡ sizes (rows_of run.now moof_bytes.now) }
+    ensures ticks { result.ticks ≡ durations (rows_of run.now moof_bytes.now) }
+    ensures few_bytes { result.bytes ≤ 4294967295 * run.now.count }
+    ensures few_ticks { result.ticks ≤ 4294967295 * run.now.count }
+{
+    sums_in(run, groups_from(run, moof_bytes, 0), run.count)
+}
+
+impl Run {
+    /// The sizes and the durations of `count` rows from row `first` on, added up; nothing else of them is read. `moof_bytes` are
+    /// the bytes of its moof.
+    #[inline(always)]
+    #[tactic(auto, using(crate::proofs::BetweenLemmas::sizes_between, crate::proofs::BetweenLemmas::durations_between))]
+    pub fn sums_between(&self, moof_bytes: &[u8], first: u32, count: u32) -> Sums
+        requires rows { first + count ≤ self.now.count }
+        ensures bytes { result.bytes ≡ sizes (take count (drop first (rows_of self.now moof_bytes.now))) }
+        ensures ticks { result.ticks ≡ durations (take count (drop first (rows_of self.now moof_bytes.now))) }
+    {
+        sums_in(self, groups_from(self, moof_bytes, first), count)
+    }
+}
