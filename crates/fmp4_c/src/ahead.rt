@@ -67,7 +67,8 @@ impl<'a> Ahead<'a> {
 
 impl<'a> Sink for Ahead<'a> {
     // Which buffer and which room these are comes first, so that no write changes it.
-    ghost contents = { λ a. Some (ahead a.buffer.ghost_name a.rest.ghost_name a.rest.now.room a.at a.buffer.now a.rest.now.bytes) };
+    ghost contents = { λ a. Some (ahead a.buffer.ghost_name a.rest.ghost_name a.rest.now.room a.at
+        a.buffer.now a.rest.now.bytes) };
 
     ghost has_failed = { λ a. is_full a.at (length a.buffer.now) a.rest.now.failed };
 

@@ -19,8 +19,8 @@ const SYNC: u32 = 2;
 /// A feed takes a 128th of what is free in the room: a byte of a sample becomes at most 117 of output.
 const SHARE: usize = 128;
 
-/// And with an index a 512th: a byte may be a run of its own, with an index of its own. So may one of a listing of samples,
-/// since a byte may be a sample, whose line has up to 256.
+/// And with an index a 512th: a byte may be a run of its own, with an index of its own. So may one of a listing of
+/// samples, since a byte may be a sample, whose line has up to 256.
 const SHARE_WITH_INDEX: usize = 512;
 
 /// What a stream is opened for.
@@ -32,7 +32,8 @@ pub struct Asked {
     pub limit: u64,
     /// How many bytes of output may wait.
     pub room: usize,
-    /// Which share of what is free in the room is taken of the input at once, as 128 for a 128th; 0: the input as a whole.
+    /// Which share of what is free in the room is taken of the input at once, as 128 for a 128th; 0: the input as a
+    /// whole.
     pub share: usize,
 }
 

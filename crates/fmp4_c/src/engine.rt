@@ -39,14 +39,22 @@ pub struct Engine {
     operation: Operation,
 }
 
-// A contract sees the account, the Feeder, what waits to be taken, the share, what was reported at the end, and the operation.
+// A contract sees the account, the Feeder, what waits to be taken, the share, what was reported at the end, and the
+// operation.
 impl Model for Engine {
     ghost use Rattle.std.specs.Prelude.{◌≡◌};
     ghost use Rattle.fmp4_c.specs.Engines.{Run, held_in};
 
     ghost Value = { Run };
 
-    ghost view = { λ e. record { account = e.ledger; feeding = e.feeder; waiting = e.out; share = e.share; reported = e.reported; operation = e.operation } };
+    ghost view = { λ e. record {
+      account = e.ledger;
+      feeding = e.feeder;
+      waiting = e.out;
+      share = e.share;
+      reported = e.reported;
+      operation = e.operation;
+    } };
 
     ghost invariant = { λ e. e.ledger.live ≡ held_in e.feeder };
 }
@@ -72,8 +80,8 @@ pub struct FeedTake {
 }
 
 impl Engine {
-    /// One to which no byte has come. The room for the output is allocated, and the rest of the limit is for the stream's
-    /// memory.
+    /// One to which no byte has come. The room for the output is allocated, and the rest of the limit is for the
+    /// stream's memory.
     ///
     /// # Errors
     ///
@@ -158,8 +166,8 @@ impl Engine {
         }
     }
 
-    /// What a feed did. No more waits than the room holds, which is full where a write failed, and no more is claimed than the
-    /// limit allows.
+    /// What a feed did. No more waits than the room holds, which is full where a write failed, and no more is claimed
+    /// than the limit allows.
     fn fed(&self, taken: usize, answer: Answer) -> Feed
         ensures is { result ≡ record { taken = taken; answer = answer } }
         ensures full { self.now.waiting.failed ≡ true →
@@ -171,8 +179,8 @@ impl Engine {
         Feed { taken, answer }
     }
 
-    /// Takes output from the front, then feeds the input of the stream, or the front of one, whose output follows in the buffer:
-    /// what doesn't fit waits. After a stop it returns the same, and takes no input.
+    /// Takes output from the front, then feeds the input of the stream, or the front of one, whose output follows in
+    /// the buffer: what doesn't fit waits. After a stop it returns the same, and takes no input.
     pub fn feed_take(&mut self, input: &[u8], buffer: &mut [u8]) -> FeedTake
         ensures feeds { (operation : operations.Operation) → (b given : List ℕ) → Holds operation b given self.old →
             Fed operation (b ++ take result.taken input.now) (given ++ take result.given buffer.new)
@@ -230,7 +238,8 @@ impl Engine {
         }
     }
 
-    /// What a feed did that takes output at once. No more waits than the room holds, and no more is claimed than the limit allows.
+    /// What a feed did that takes output at once. No more waits than the room holds, and no more is claimed than the
+    /// limit allows.
     fn passed(&self, taken: usize, given: usize, answer: Answer) -> FeedTake
         ensures is { result ≡ record { taken = taken; given = given; answer = answer } }
         ensures waits { length self.now.waiting.bytes ≤ self.now.waiting.room }
@@ -263,8 +272,8 @@ impl Engine {
         self.out.take(out)
     }
 
-    /// Takes a record from the front of the output of a stream that is listed by records. Where none waits, and where the stream
-    /// is another, nothing is taken.
+    /// Takes a record from the front of the output of a stream that is listed by records. Where none waits, and where
+    /// the stream is another, nothing is taken.
     pub fn next_fragment(&mut self, fragment: &mut TrafRecord) -> Answer
         ensures gives { self.old.operation ≡ variants.List Records → record_len ≤ length self.old.waiting.bytes →
             (result ≡ Answer.Done) × (fragment.new ≡ record_of (take record_len self.old.waiting.bytes)) ×
@@ -306,7 +315,8 @@ impl Engine {
         self.out.len()
     }
 
-    /// Says what was counted so far, and for which fault the stream stopped, if it did; at its end, what was reported there.
+    /// Says what was counted so far, and for which fault the stream stopped, if it did; at its end, what was reported
+    /// there.
     pub fn totals(&mut self, report: &mut Report) -> Answer
         ensures reports { (p : Feeding) → self.old.feeding ≡ Some p →
             (result ≡ Answer.Done) × (report.new ≡ report_of p) }
@@ -362,8 +372,8 @@ impl Engine {
         }
     }
 
-    /// Sets the limit of the stream's memory and its room together, but no lower than what it takes of both, and says how many
-    /// bytes that is. After a stop and after the end the limit stays.
+    /// Sets the limit of the stream's memory and its room together, but no lower than what it takes of both, and says
+    /// how many bytes that is. After a stop and after the end the limit stays.
     pub fn set_limit(&mut self, limit: u64) -> u64
         ensures takes { result ≡
             min (self.old.account.live + self.old.waiting.room) (2 ^ 64 - 1) }
@@ -383,8 +393,8 @@ impl Engine {
         takes
     }
 
-    /// Begins another stream with the operation, the limit and the room that there are. The one so far is given up, and what waits
-    /// of its output is dropped.
+    /// Begins another stream with the operation, the limit and the room that there are. The one so far is given up, and
+    /// what waits of its output is dropped.
     pub fn reset(&mut self)
         ensures { IsReset self.old self.new }
     {

@@ -73,8 +73,8 @@ pub extern "C" fn fmp4_feed(
     }
 }
 
-/// Takes output from the front, then feeds the input of the stream, or the front of one, whose output follows in the buffer:
-/// what doesn't fit waits. `taken` says how many bytes of the input, `given` how many of the output.
+/// Takes output from the front, then feeds the input of the stream, or the front of one, whose output follows in the
+/// buffer: what doesn't fit waits. `taken` says how many bytes of the input, `given` how many of the output.
 #[unsafe(no_mangle)]
 pub extern "C" fn fmp4_feed_take(
     alloc: Global,
@@ -210,7 +210,8 @@ pub extern "C" fn fmp4_pending(alloc: Global, stream: &mut Stream, count: &mut u
     }
 }
 
-/// Says what was counted so far, and for which fault the stream stopped, if it did; at its end, what was reported there.
+/// Says what was counted so far, and for which fault the stream stopped, if it did; at its end, what was reported
+/// there.
 #[unsafe(no_mangle)]
 pub extern "C" fn fmp4_totals(alloc: Global, stream: &mut Stream, report: &mut Report) -> u32
     ensures reports { (r : Run) → (p : Feeding) → stream.old.handle.held ≡ Some r →

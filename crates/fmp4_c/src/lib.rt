@@ -1,5 +1,5 @@
-//! The C library of fmp4: a fragmented stream is fed as it comes, and recut, checked or listed; its output is taken from
-//! the front.
+//! The C library of fmp4: a fragmented stream is fed as it comes, and recut, checked or listed; its output is taken
+//! from the front.
 //!
 //! - [`exports`]: what C calls, [`opening`]: how a stream is opened, by what is [`asked`] for, and [`settings`]: its
 //!   limit, and another stream; [`fragments`]: records of what is listed; [`names`]: those of the rules;

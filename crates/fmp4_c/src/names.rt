@@ -30,8 +30,8 @@ pub extern "C" fn fmp4_rule_name(rule: u32, name: &mut [u8]) -> usize
     }
 }
 
-/// Writes the name of an answer with a zero after it, cut where it doesn't fit: how many bytes the whole name has. Where
-/// no answer has this number, it has none.
+/// Writes the name of an answer with a zero after it, cut where it doesn't fit: how many bytes the whole name has.
+/// Where no answer has this number, it has none.
 #[unsafe(no_mangle)]
 pub extern "C" fn fmp4_answer_name(answer: u32, name: &mut [u8]) -> usize
     ensures known { answer ≤ 6 → (a : answers.Answer) × (number_of a ≡ answer) ×

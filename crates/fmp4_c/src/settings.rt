@@ -49,8 +49,8 @@ pub extern "C" fn fmp4_set_limit(
     }
 }
 
-/// Begins another stream as the one before was opened, with the limit that it has now and with its room. Nothing is allocated.
-/// Output that waits is dropped.
+/// Begins another stream as the one before was opened, with the limit that it has now and with its room. Nothing is
+/// allocated. Output that waits is dropped.
 #[unsafe(no_mangle)]
 pub extern "C" fn fmp4_reset(alloc: Global, stream: &mut Stream) -> u32
     ensures open { (r : Run) → stream.old.handle.held ≡ Some r →

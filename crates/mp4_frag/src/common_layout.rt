@@ -1,4 +1,5 @@
-//! A moof of the common layout, read in one straight line: it holds an mfhd and a traf, and that a tfhd, a tfdt and a trun.
+//! A moof of the common layout, read in one straight line: it holds an mfhd and a traf, and that a tfhd, a tfdt and a
+//! trun.
 //!
 //! Nearly all moofs of live streams with one track have this form. The findings are the same as those of the general
 //! way.
@@ -56,8 +57,8 @@ struct CommonLayout<'a> {
     trun: BoxRef<'a>,
 }
 
-/// The box at the front of the bytes, which begin at `offset`, where it is of this type and its header has eight bytes and states
-/// a size.
+/// The box at the front of the bytes, which begin at `offset`, where it is of this type and its header has eight bytes
+/// and states a size.
 #[inline(always)]
 fn plain_first<'a>(kind: FourCc, bytes: &'a [u8], offset: u64) -> Option<BoxRef<'a>>
     requires room { offset + length bytes.now < 2 ^ 63 }
@@ -168,7 +169,8 @@ fn common_of<'a>(moof: &BoxRef<'a>) -> Option<CommonLayout<'a>>
     })
 }
 
-/// Notes what is at fault with each box of a moof of the common layout by itself. The index of its track, where there is one.
+/// Notes what is at fault with each box of a moof of the common layout by itself. The index of its track, where there
+/// is one.
 #[inline(always)]
 #[tactic(auto, using(mp4_box::proofs::OrderLemmas::least_from_append), unfolding(mp4_box::specs::Order::least_from))]
 fn note_common(
@@ -220,8 +222,8 @@ fn sound_track(
     found
 }
 
-/// The run of the moof that the bytes are, which begin at this offset, where it has the common layout, nothing is at fault with it
-/// and its time is early.
+/// The run of the moof that the bytes are, which begin at this offset, where it has the common layout, nothing is at
+/// fault with it and its time is early.
 #[inline(always)]
 pub(crate) fn common_run(moof_bytes: &[u8], offset: u64, tracks: &TrackList) -> Option<SingleRun>
     requires whole { IsWhole moof_bytes.now }

@@ -211,8 +211,8 @@ fn follow_trafs(
     true
 }
 
-/// How many bytes the samples of the moof have that the bytes are, which begin at this offset, if its runs follow one another. Where
-/// its trafs end is kept then.
+/// How many bytes the samples of the moof have that the bytes are, which begin at this offset, if its runs follow one
+/// another. Where its trafs end is kept then.
 #[inline(always)]
 fn bytes_in_order(
     moof_bytes: &[u8],
@@ -269,8 +269,9 @@ fn all_begin_early(moof: &BoxRef<'_>) -> bool
 }
 
 impl<'a> Moof<'a> {
-    /// Whether each traf of the moof that the bytes are, one whole box that begins at `offset` in the stream, has a tfdt whose
-    /// time lies before tick 2^63. To see that the runs of such a moof end within 64 bits no row of it need be read.
+    /// Whether each traf of the moof that the bytes are, one whole box that begins at `offset` in the stream, has a
+    /// tfdt whose time lies before tick 2^63. To see that the runs of such a moof end within 64 bits no row of it need
+    /// be read.
     #[tactic(auto, using(crate::proofs::MoofLemmas::moof_is))]
     pub fn begins_early(moof_bytes: &[u8], offset: u64) -> bool
         requires whole { IsWhole moof_bytes.now }

@@ -47,8 +47,8 @@ pub fn samples_are_rows()
         length (flat_map (λ run. rows_of run h.bytes) (moof_runs h tracks)) ≡ moof_samples h }
 {}
 
-/// The sums over the trafs of a moof are those over its samples. The duration of a traf is that of its samples, added up,
-/// and it begins with the flags of the first of them.
+/// The sums over the trafs of a moof are those over its samples. The duration of a traf is that of its samples, added
+/// up, and it begins with the flags of the first of them.
 pub fn trafs_have_all_samples()
     ensures samples { (h : MoofBytes) (tracks : List Track) →
         sum_by samples_in_traf (moof_trafs h tracks) ≡ moof_samples h }
@@ -68,8 +68,8 @@ pub fn cursors_go_on()
         c.row < run.count → IsCursor run moof_bytes (past c (row_of run moof_bytes c.row)) }
 {}
 
-/// Where no traf without tfdt has the track_ID of an earlier one, the ends of the tracks before the moof are all that base
-/// times need: each traf is as if the trafs were gone over in turn, and each set where its track ended.
+/// Where no traf without tfdt has the track_ID of an earlier one, the ends of the tracks before the moof are all that
+/// base times need: each traf is as if the trafs were gone over in turn, and each set where its track ended.
 pub fn ends_before_serve()
     ensures { (h : MoofBytes) (tracks : List Track) → repeat_faults (moof_of h) ≡ [] →
         in_turn h tracks (of_kind traf (children (moof_of h))) ≡ moof_trafs h tracks }
@@ -90,8 +90,8 @@ pub fn trafs_are_sound()
         AllByRecursion IsSound (moof_trafs h tracks) }
 {}
 
-/// Where the samples of a moof aren't too many and each of its trafs has a time of its own before tick 2^63, each run ends within
-/// 64 bits, whatever its rows say.
+/// Where the samples of a moof aren't too many and each of its trafs has a time of its own before tick 2^63, each run
+/// ends within 64 bits, whatever its rows say.
 pub fn early_trafs_end_in_time()
     ensures { (h : MoofBytes) (tracks : List Track) → IsWhole h.bytes → IsBytes h.bytes →
         AllByRecursion FitsTrackFields tracks → count_faults (moof_of h) ≡ [] →

@@ -216,8 +216,8 @@ pub(crate) struct MoofFault {
     pub(crate) is_time_fault: bool,
 }
 
-/// The moof that the bytes are, one whole box of stated size that begins at this offset. Its samples are counted in `steps` as
-/// rows that were read, once all rules but that of times hold.
+/// The moof that the bytes are, one whole box of stated size that begins at this offset. Its samples are counted in
+/// `steps` as rows that were read, once all rules but that of times hold.
 ///
 /// # Errors
 ///
@@ -296,8 +296,9 @@ impl<'a> Moof<'a> {
         }
     }
 
-    /// The moof that the bytes are, one whole box of stated size that begins at `offset` in the stream. `tracks` are those
-    /// of its moov. Its samples are counted in `steps` as rows that were read, once all rules but that of times hold.
+    /// The moof that the bytes are, one whole box of stated size that begins at `offset` in the stream. `tracks` are
+    /// those of its moov. Its samples are counted in `steps` as rows that were read, once all rules but that of times
+    /// hold.
     ///
     /// # Errors
     ///
@@ -388,8 +389,8 @@ impl<'a> Moof<'a> {
         }
     }
 
-    /// Its trafs, in order (ISO/IEC 14496-12, 8.8.6). `tracks` are those that it was read with. They borrow its bytes and not the
-    /// Moof.
+    /// Its trafs, in order (ISO/IEC 14496-12, 8.8.6). `tracks` are those that it was read with. They borrow its bytes
+    /// and not the Moof.
     pub fn trafs(&self, tracks: &'a TrackList) -> Trafs<'a>
         requires { IsRead self.now tracks.now }
         ensures { result ≡ moof_trafs self.now tracks.now }
@@ -397,9 +398,9 @@ impl<'a> Moof<'a> {
         trafs_in(self.moof_bytes, self.offset, tracks)
     }
 
-    /// Sets where each track ends: its `next` becomes the end of its last traf in the moof, in ticks, and that of the others stays.
-    /// `tracks` are those that the moof was read with, so this is its last use. The samples that have durations of their own
-    /// are counted in `steps` as rows that were read.
+    /// Sets where each track ends: its `next` becomes the end of its last traf in the moof, in ticks, and that of the
+    /// others stays. `tracks` are those that the moof was read with, so this is its last use. The samples that have
+    /// durations of their own are counted in `steps` as rows that were read.
     #[tactic(auto, using(crate::proofs::SettleLemmas::settled_length))]
     pub fn settle(&self, tracks: &mut TrackList, steps: &mut Steps)
         requires read { IsRead self.now tracks.old }
@@ -413,8 +414,8 @@ impl<'a> Moof<'a> {
         steps.rows += u128::from(timed);
     }
 
-    /// The same as [`Moof::settle`], where it was kept where the trafs end ([`Moof::following`]): they are gone over only where
-    /// more of them are than are kept.
+    /// The same as [`Moof::settle`], where it was kept where the trafs end ([`Moof::following`]): they are gone over
+    /// only where more of them are than are kept.
     #[inline(always)]
     #[tactic(auto, using(crate::proofs::SettleLemmas::settled_length))]
     pub fn settle_by(&self, ends: &TrafEnds, tracks: &mut TrackList, steps: &mut Steps)

@@ -231,14 +231,15 @@ fn read_generally(
 }
 
 impl SingleRun {
-    /// The run of the moof that the bytes are, one whole box of stated size that begins at `offset` in the stream, where nothing is
-    /// at fault with it and it has one traf, with one trun in it; none of other moofs. `tracks` are those of its moov. Where there
-    /// is such a run, its samples are counted in `steps` twice as rows that were read: once for the rules, as [`Moof::read`]
-    /// counts them, and once for the run. Where there is none, no row is read.
+    /// The run of the moof that the bytes are, one whole box of stated size that begins at `offset` in the stream,
+    /// where nothing is at fault with it and it has one traf, with one trun in it; none of other moofs. `tracks` are
+    /// those of its moov. Where there is such a run, its samples are counted in `steps` twice as rows that were read:
+    /// once for the rules, as [`Moof::read`] counts them, and once for the run. Where there is none, no row is read.
     ///
     /// # Errors
     ///
-    /// TimeRange at its trun, where that ends past 64 bits and no other rule is broken: its samples are counted once then.
+    /// TimeRange at its trun, where that ends past 64 bits and no other rule is broken: its samples are counted once
+    /// then.
     pub fn read(
         moof_bytes: &[u8],
         offset: u64,

@@ -171,8 +171,8 @@ impl Block {
         Ok(())
     }
 
-    /// Puts groups of [`GROUP_BYTES`] bytes after those that wait, and what is sent goes out as if each was put by itself: as many
-    /// whole groups are put as there is room for, then what waits is sent, and so on.
+    /// Puts groups of [`GROUP_BYTES`] bytes after those that wait, and what is sent goes out as if each was put by
+    /// itself: as many whole groups are put as there is room for, then what waits is sent, and so on.
     #[inline(never)]
     pub fn put_groups<W: Sink>(&mut self, w: &mut W, groups: &[u8]) -> Result<(), Failed>
         ensures puts { Puts (sent W.contents W.has_failed w.old w.new) self.old self.new groups.now

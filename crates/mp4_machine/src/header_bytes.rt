@@ -48,8 +48,8 @@ pub enum HeaderStatus<'a> {
     },
 }
 
-/// Takes bytes of a header from the front of the input, after the part of it that came before: all that belong to it, or else
-/// all that there are. What came of it is kept while more is needed.
+/// Takes bytes of a header from the front of the input, after the part of it that came before: all that belong to it,
+/// or else all that there are. What came of it is kept while more is needed.
 #[inline(always)]
 pub fn next_header<'a>(part: &mut HeaderReader, input: &'a [u8]) -> HeaderStatus<'a>
     requires some { 0 < length input.now }

@@ -26,13 +26,13 @@ pub trait Machine {
     // What it has counted.
     ghost counted: { Self → Tally };
 
-    /// Takes some bytes from the front of the input, and puts their output into `out`, which is sent to `w` as it fills.
-    /// Returns how many bytes it took.
+    /// Takes some bytes from the front of the input, and puts their output into `out`, which is sent to `w` as it
+    /// fills. Returns how many bytes it took.
     ///
     /// # Errors
     ///
-    /// `Stream` where the stream breaks a rule, `Write` where a write failed, `OverLimit` and `Memory` where a claim was refused.
-    /// All that was claimed is given back then.
+    /// `Stream` where the stream breaks a rule, `Write` where a write failed, `OverLimit` and `Memory` where a claim
+    /// was refused. All that was claimed is given back then.
     fn take<W: Sink>(
         &mut self,
         ledger: &mut Ledger,

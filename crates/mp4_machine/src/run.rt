@@ -18,8 +18,8 @@ use mp4_ledger::Ledger;
 ///
 /// # Errors
 ///
-/// `Stream` where the stream breaks a rule; `Read` and `Write` where an end has failed; `OverLimit` and `Memory` where a claim
-/// was refused.
+/// `Stream` where the stream breaks a rule; `Read` and `Write` where an end has failed; `OverLimit` and `Memory` where
+/// a claim was refused.
 pub fn read_stream<R: Source, W: Sink, M: Machine>(
     r: &mut R,
     w: &mut W,

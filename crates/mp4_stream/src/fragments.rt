@@ -17,15 +17,15 @@ use mp4_ledger::Ledger;
 use mp4_machine::{Stop, read_stream};
 use mp4_recut::Operation;
 
-/// Lists the samples of a fragmented stream, however its reads cut it: a line for each, fragment by fragment, the runs of a
-/// fragment in the order in which their media lie. The lines of a fragment are written once the header of its mdat is
-/// accepted. The read buffer of `copy` bytes is claimed.
+/// Lists the samples of a fragmented stream, however its reads cut it: a line for each, fragment by fragment, the runs
+/// of a fragment in the order in which their media lie. The lines of a fragment are written once the header of its mdat
+/// is accepted. The read buffer of `copy` bytes is claimed.
 ///
 /// # Errors
 ///
-/// `Stream` where the stream breaks a rule, with the samples of the fragments listed that were accepted before; `Read` and
-/// `Write` where an end has failed, with a prefix of the listing written; `OverLimit` and `Memory` where a claim was refused,
-/// with exactly the samples before that listed.
+/// `Stream` where the stream breaks a rule, with the samples of the fragments listed that were accepted before; `Read`
+/// and `Write` where an end has failed, with a prefix of the listing written; `OverLimit` and `Memory` where a claim
+/// was refused, with exactly the samples before that listed.
 pub fn samples<R: Source, W: Sink>(
     r: &mut R,
     w: &mut W,
@@ -50,9 +50,9 @@ pub fn samples<R: Source, W: Sink>(
     )
 }
 
-/// Lists the tracks and the fragments of a fragmented stream, however its reads cut it: a line for each track once the moov
-/// is whole, and then fragment by fragment a line for each traf, in the order of its moof. The lines of a fragment are
-/// written once the header of its mdat is accepted. The read buffer of `copy` bytes is claimed.
+/// Lists the tracks and the fragments of a fragmented stream, however its reads cut it: a line for each track once the
+/// moov is whole, and then fragment by fragment a line for each traf, in the order of its moof. The lines of a fragment
+/// are written once the header of its mdat is accepted. The read buffer of `copy` bytes is claimed.
 ///
 /// # Errors
 ///
@@ -108,10 +108,11 @@ pub fn check<R: Source>(
     )
 }
 
-/// Cuts the fragments of a fragmented stream into shorter ones, however its reads cut it: each run into pieces, each of which
-/// becomes a moof with an mdat, numbered from 1 on. Its moov and other boxes are written as they are, but for indexes, which
-/// are left out. No byte of media is changed, and none is kept back: a fragment is written, once the header of its mdat is
-/// accepted, up to the first byte of media that hasn't come. The read buffer of `copy` bytes is claimed.
+/// Cuts the fragments of a fragmented stream into shorter ones, however its reads cut it: each run into pieces, each of
+/// which becomes a moof with an mdat, numbered from 1 on. Its moov and other boxes are written as they are, but for
+/// indexes, which are left out. No byte of media is changed, and none is kept back: a fragment is written, once the
+/// header of its mdat is accepted, up to the first byte of media that hasn't come. The read buffer of `copy` bytes is
+/// claimed.
 ///
 /// # Errors
 ///
@@ -167,7 +168,8 @@ fn run_operation<R: Source, W: Sink>(
     answer
 }
 
-/// How many fragments an operation counts: where it cuts, those that are whole in its output, else those that were accepted.
+/// How many fragments an operation counts: where it cuts, those that are whole in its output, else those that were
+/// accepted.
 fn fragments_of(operation: &Operation, accepted: u64, whole: u64) -> u64
     ensures { result ≡ feeders.fragments_of operation.now accepted whole }
 {

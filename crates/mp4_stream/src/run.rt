@@ -30,8 +30,8 @@ pub fn boxes<R: Source, W: Sink>(
     requires copy { (4096 ≤ copy) × (copy ≤ 1048576) }
     requires idle { ledger.old.live ≡ 0 }
 
-    // Of the bytes that were read: the answer, what was written, the most that was claimed at once, and that by the largest of
-    // their boxes.
+    // Of the bytes that were read: the answer, what was written, the most that was claimed at once, and that by the
+    // largest of their boxes.
     ensures runs { ReadsBoxes (between
         (received R.remaining R.has_ended R.has_failed R.last_read r.old r.new)
         (sent W.contents W.has_failed w.old w.new))

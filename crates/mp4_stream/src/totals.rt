@@ -5,8 +5,8 @@ ghost use Rattle.std.specs.Prelude.{◌≡◌};
 /// What was counted of a stream so far. A listing of boxes counts no samples: all but its peak are 0.
 #[derive(Clone, Copy, Debug, PartialEq, Eq)]
 pub struct Totals {
-    /// How many fragments, moofs with their mdats. Where the stream is cut: of how many new ones the writer took the whole
-    /// moof. Else: how many were accepted.
+    /// How many fragments, moofs with their mdats. Where the stream is cut: of how many new ones the writer took the
+    /// whole moof. Else: how many were accepted.
     pub fragments: u64,
     /// How many samples the accepted fragments have.
     pub samples: u128,

@@ -31,8 +31,8 @@ fn timed(payload: &[u8]) -> u32
     }
 }
 
-/// Where a traf ends that begins at a time, of which these children are left. Those of its samples that have durations of their
-/// own are counted.
+/// Where a traf ends that begins at a time, of which these children are left. Those of its samples that have durations
+/// of their own are counted.
 #[tactic(auto, using(crate::proofs::EndLemmas::tick_fits, crate::proofs::EndLemmas::tick_more), unfolding(crate::specs::Implementation::Ends::ticks_from))]
 fn end_of<'a>(context: &TrafContext<'_>, time: u64, rest: Walk<'a>, count: &mut u32) -> u64
     requires late { late_from (shared_of context.now) time (of_kind trun rest) ≡ [] }
@@ -50,7 +50,8 @@ fn end_of<'a>(context: &TrafContext<'_>, time: u64, rest: Walk<'a>, count: &mut 
     end
 }
 
-/// Sets where the track of a traf ends: where the traf does. Those of its samples that have durations of their own are counted.
+/// Sets where the track of a traf ends: where the traf does. Those of its samples that have durations of their own are
+/// counted.
 #[tactic(auto, unfolding(crate::specs::Runs::traf_of))]
 pub fn end_traf(
     moof_bytes: &[u8],

@@ -211,9 +211,9 @@ impl Run {
         self.row_in(groups_from(self, moof_bytes, i), i)
     }
 
-    /// The groups of `count` rows from row `first` on as they are in the moof, whose bytes are `moof_bytes`: 16 bytes each,
-    /// the sample's duration, size, flags and composition time offset (ISO/IEC 14496-12, 8.8.8). None where the groups
-    /// haven't all four fields, or aren't all there.
+    /// The groups of `count` rows from row `first` on as they are in the moof, whose bytes are `moof_bytes`: 16 bytes
+    /// each, the sample's duration, size, flags and composition time offset (ISO/IEC 14496-12, 8.8.8). None where the
+    /// groups haven't all four fields, or aren't all there.
     pub fn whole_groups<'a>(&self, moof_bytes: &'a [u8], first: u32, count: u32) -> Option<&'a [u8]>
         ensures len { IfSome result (λ groups. length groups.now ≡ 16 * count) }
         ensures rows { IfSome result (λ groups.

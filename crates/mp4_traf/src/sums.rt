@@ -48,8 +48,8 @@ fn numbers_sum(groups: &[u8], at: u32, len: u32, count: u32) -> u64
     total
 }
 
-/// The numbers at two places of each of `count` groups of `len` bytes, of which the first begins the bytes, added up, those at
-/// each place by themselves: the groups are gone over once.
+/// The numbers at two places of each of `count` groups of `len` bytes, of which the first begins the bytes, added up,
+/// those at each place by themselves: the groups are gone over once.
 #[inline(always)]
 fn both_sums(groups: &[u8], size_at: u32, duration_at: u32, len: u32, count: u32) -> Sums
     ensures bytes { result.bytes ≡ numbers_from groups.now len size_at count }
@@ -114,8 +114,8 @@ fn ticks_in(run: &Run, groups: &[u8], count: u32) -> u64
     )
 }
 
-/// The sizes and the durations of `count` rows of a run, added up, of which the first group begins the bytes. The rows are gone
-/// over once at most: where both are the samples' own, both are added up on the way.
+/// The sizes and the durations of `count` rows of a run, added up, of which the first group begins the bytes. The rows
+/// are gone over once at most: where both are the samples' own, both are added up on the way.
 #[inline(always)]
 fn sums_in(run: &Run, groups: &[u8], count: u32) -> Sums
     ensures bytes { result.bytes ≡ field_numbers groups.now run.now.fields.sample_size run.now.size
@@ -158,8 +158,8 @@ pub(crate) fn sums_of(run: &Run, moof_bytes: &[u8]) -> Sums
 }
 
 impl Run {
-    /// The sizes and the durations of `count` rows from row `first` on, added up; nothing else of them is read. `moof_bytes` are
-    /// the bytes of its moof.
+    /// The sizes and the durations of `count` rows from row `first` on, added up; nothing else of them is read.
+    /// `moof_bytes` are the bytes of its moof.
     #[inline(always)]
     #[tactic(auto, using(crate::proofs::BetweenLemmas::sizes_between, crate::proofs::BetweenLemmas::durations_between))]
     pub fn sums_between(&self, moof_bytes: &[u8], first: u32, count: u32) -> Sums
