@@ -1,5 +1,5 @@
 -- What a BoxFeeder is after the bytes of a stream that it was fed, and what a call of it does.
-use Rattle.std.specs.Prelude.{◌≡◌, ℕ, ◌+◌, ◌-◌, ◌≤◌, List, ◌++◌, Result, IsErrOf, OnOk}
+use Rattle.std.specs.Prelude.{◌≡◌, ℕ, ◌+◌, ◌-◌, ◌≤◌, List, ◌++◌, None, Result, Ok, Err, IsErrOf, OnOk}
 use Rattle.std.specs.Io.KnownBytes.{Appends}
 use Rattle.mp4_boxes.specs.Boxes.{listing, reading}
 use Rattle.mp4_boxes.specs.HeldBoxes.{HoldsAtMost}
@@ -9,7 +9,7 @@ use Rattle.mp4_machine.specs.Ends.{Sent}
 use Rattle.mp4_machine.specs.Fed.{Borrowed}
 use Rattle.mp4_machine.specs.FedMachines.{Fed, Shown}
 use Rattle.mp4_machine.specs.FedMachines as machines
-use Rattle.mp4_machine.specs.Readings.{uncounted}
+use Rattle.mp4_machine.specs.Readings.{fault_in, most_of, uncounted}
 use Rattle.mp4_machine.specs.declared.stop.Stop.{Stop}
 use Rattle.mp4_machine.specs.declared.stop.Stop.TheVariants.{OverLimit}
 use Rattle.mp4_stream.specs.declared.totals.Totals.{Totals}
@@ -57,6 +57,11 @@ pub record Feeds {T : Type 0} (b input : List ℕ) (f f' : Fed Progress) (l : Bo
 abbrev pub TakesInput : {T : Type 0} → (f f' : Fed Progress) → Sent → (account account' : Account) → (input : List ℕ) → Result T Stop → Type 0
 TakesInput f f' s account account' input result = machines.FeedsInput {X = Unit {0}} (shown f) (shown f') tt tt s account account' input result
 
--- the end of a stream of the bytes b
+-- totals of a stream of the bytes b: nothing is counted, and the most that is claimed at once is what their boxes request
+abbrev pub totals_after : List ℕ → Totals
+totals_after b = record { fragments = 0; samples = 0; media_bytes = 0; rows_read = 0; peak = most_of (reading 0 b).effects }
+
+-- the end of a stream of the bytes b: Ok exactly where it has no fault, with its totals
 abbrev pub Finishes : List ℕ → Result Totals Stop → Type 0
-Finishes b result = machines.Finishes (reading 0) b result
+Finishes b (Ok totals) = (fault_in (reading 0 b).outcome ≡ None) × (totals ≡ totals_after b)
+Finishes b (Err stop) = machines.Finishes {T = Totals} (reading 0) b (Err stop)

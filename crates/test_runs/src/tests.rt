@@ -2,6 +2,7 @@
 
 ghost use Rattle.std.specs.Prelude.{◌≡◌, ◌<◌};
 
+mod box_feeders;
 mod boxes_between;
 mod calls;
 mod ends;
