@@ -13,10 +13,10 @@ use mp4_box::{long_number_at, number_at, version_of};
 /// Place of base_media_decode_time.
 const BASE_MEDIA_DECODE_TIME: u32 = 4;
 
-/// How long the payload is at version 0.
+/// How long the payload of a tfdt is at version 0, in bytes.
 pub const TFDT_LEN: usize = 8;
 
-/// How long the payload is at version 1.
+/// How long the payload of a tfdt is at version 1, in bytes.
 pub const LONG_TFDT_LEN: usize = 12;
 
 /// The base_media_decode_time of a tfdt, in ticks.

@@ -56,7 +56,7 @@ pub(crate) fn tfhd_fields(word: u32) -> TfhdFields
     }
 }
 
-/// The track_ID of a tfhd.
+/// The track_ID of the tfhd with this payload.
 pub fn track_id(payload: &[u8]) -> u32
     ensures { result ≡ track_id payload.now }
 {

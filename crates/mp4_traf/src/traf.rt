@@ -60,14 +60,14 @@ const NO_TRACK: Track = Track {
     next: 0,
 };
 
-/// The track with this track_ID, which there is in a moof without a fault.
+/// The track with this track_ID, which there is in a moof without a fault; else one whose fields are all 0.
 pub fn known_track(tracks: &TrackList, id: u32) -> Track
     ensures { result ≡ known_track id tracks.now }
 {
     track_with(tracks, id).unwrap_or(NO_TRACK)
 }
 
-/// The track at this index, where one was found.
+/// The track at this index, where one was found; else one whose fields are all 0.
 #[inline]
 pub fn track_at(tracks: &TrackList, at: Option<usize>) -> Track
     requires { IfSome at (λ i. i < length tracks.now) }
@@ -94,7 +94,7 @@ pub fn header_by(track: Track, tfhd: &[u8]) -> TrafHeader
     }
 }
 
-/// The base time of a traf: that of its tfdt, or else where its track ended.
+/// The base time of a traf, in ticks: that of its tfdt, or else `next`, where its track ended.
 pub fn base_of(next: u64, traf: &BoxRef<'_>) -> u64
     ensures { result ≡ base_of next (view traf.now) }
 {
@@ -104,7 +104,7 @@ pub fn base_of(next: u64, traf: &BoxRef<'_>) -> u64
     }
 }
 
-/// Where in the moof that begins at this offset a box ends.
+/// Where in the moof that begins at this offset in the stream a box ends, in bytes from the first of the moof.
 pub fn end_in(moof: u64, this: &BoxRef<'_>) -> u64
     ensures { result ≡ end_in (record { bytes = []; offset = moof }) (view this.now) }
 {

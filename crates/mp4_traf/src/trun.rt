@@ -82,7 +82,7 @@ pub(crate) fn sample_fields(word: u32) -> SampleFields
     }
 }
 
-/// How many samples a trun has.
+/// How many samples the trun with this payload has.
 #[inline]
 pub fn sample_count(payload: &[u8]) -> u32
     ensures { result ≡ sample_count payload.now }
