@@ -10,8 +10,8 @@ ghost use Rattle.mp4_boxes.specs.Joined.{AreSound, Item, joined, boxes_effects};
 ghost use Rattle.mp4_boxes.specs.Rests.{IsRest, Split};
 
 /// Each stream is whole boxes that break no rule, one after the other, and then one of the rests that `IsRest` names:
-/// nothing, a box that is cut, that goes too far, that breaks a rule, or that goes to the end of the stream. It is read as
-/// these boxes' lines, and then as the rest says.
+/// nothing, a box that is cut, that goes too far, that breaks a rule, or that goes to the end of the stream. It is
+/// read as these boxes' lines, and then as the rest says.
 pub fn every_stream()
     ensures { (b : List ℕ) → IsBytes b → (s : Split 0 b) ×
         (reading 0 b ≡ after (boxes_effects 0 s.boxes) s.reading) }

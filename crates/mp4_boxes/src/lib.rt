@@ -1,8 +1,8 @@
-//! The boxes of a stream, listed as it comes: those at the top by their headers, and a moov or moof with the boxes below it
-//! once its tree is known to be good.
+//! The boxes of a stream, listed as it comes: those at the top by their headers, and a moov or moof with the boxes
+//! below it once its tree is known to be good.
 //!
-//! - [`machine`]: [`BoxMachine`], which lists the boxes of a stream that it is fed in inputs, [`state`]: its states, and
-//!   [`step`]: how;
+//! - [`machine`]: [`BoxMachine`], which lists the boxes of a stream that it is fed in inputs, [`state`]: its states,
+//!   and [`step`]: how;
 //! - [`header`]: takes a header and begins its box, [`buffered_box`]: a moov or moof until it is whole, and [`body`]: a
 //!   body that is passed over;
 //! - [`listed_box`]: a moov or moof of which all bytes came, and [`listing`]: the line of a box, and those of a tree of

@@ -1,6 +1,6 @@
 //! A machine that is fed a stream in inputs, with what it keeps between them.
 
-ghost use Rattle.std.specs.Prelude.{◌≡◌, ℕ, List, ◌-◌, ◌≤◌, [], None, Some, Err, OnOk, max};
+ghost use Rattle.std.specs.Prelude.{◌≡◌, ℕ, List, ◌≤◌, [], None, Some, Err, OnOk, max};
 ghost use Rattle.mp4_machine.specs.Ends.{sent};
 ghost use Rattle.mp4_machine.specs.FedMachines.{FeedsInput, Finishes, IsAfter, shown, unfed};
 ghost use Rattle.mp4_machine.specs.Inputs.{IsBegun};
@@ -14,8 +14,8 @@ use mp4_ends::Sink;
 use mp4_ledger::{EarlierPeak, Ledger};
 use std::marker::Model;
 
-/// A machine that is fed a stream in inputs, each with a writer of its own. After a stop it takes no more. It must be spent
-/// by [`FedMachine::into_machine`], whose machine has still claimed what it holds.
+/// A machine that is fed a stream in inputs, each with a writer of its own. After a stop it takes no more. It must be
+/// spent by [`FedMachine::into_machine`], whose machine has still claimed what it holds.
 pub struct FedMachine<M: Machine> {
     machine: M,
     /// Buffer for the writer of a call.
@@ -111,8 +111,8 @@ impl<M: Machine> FedMachine<M> {
         self.block.whole()
     }
 
-    /// Takes the next input of the stream, and writes all output that the bytes so far determine. An input without bytes
-    /// changes nothing.
+    /// Takes the next input of the stream, and writes all output that the bytes so far determine. An input without
+    /// bytes changes nothing.
     ///
     /// # Errors
     ///

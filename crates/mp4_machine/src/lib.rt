@@ -2,15 +2,15 @@
 //!
 //! - [`stop`]: [`Stop`], why a run stops, and [`tally`]: [`Tally`], what is counted of a stream;
 //! - [`limits`]: how far a stream is followed, and what is refused;
-//! - [`block`]: [`Block`], which gathers bytes and lines on their way to a sink ([`Line`]), with the ends of fragments among
-//!   them ([`fragment_end`]: [`FragmentEnd`]), and [`buffered_box`]: [`BufferedBox`], a box in
-//!   claimed memory while it comes;
-//! - [`header_bytes`]: [`next_header`], which reads a header as its bytes come (`specs/HeaderBytes.antt`), and [`body`]:
-//!   the bodies after headers ([`Body`]);
+//! - [`block`]: [`Block`], which gathers bytes and lines on their way to a sink ([`Line`]), with the ends of fragments
+//!   among them ([`fragment_end`]: [`FragmentEnd`]), and [`buffered_box`]: [`BufferedBox`], a box in claimed memory
+//!   while it comes;
+//! - [`header_bytes`]: [`next_header`], which reads a header as its bytes come (`specs/HeaderBytes.antt`), and
+//!   [`body`]: the bodies after headers ([`Body`]);
 //! - [`machine`]: [`Machine`], which takes the bytes of a stream as they come, and [`feed`], which feeds it the next
 //!   input;
-//! - [`fed_machine`]: [`FedMachine`], which keeps one between two inputs, and [`run`]: [`read_stream`], which feeds one a
-//!   whole stream.
+//! - [`fed_machine`]: [`FedMachine`], which keeps one between two inputs, and [`run`]: [`read_stream`], which feeds
+//!   one a whole stream.
 //!
 //! The definitions: `specs/Readings.antt` (how some bytes are read, item by item), `specs/Bodies.antt` (a body with
 //! effects as it comes), `specs/Buffering.antt` (a box that is buffered until it is whole), `specs/Inputs.antt` (a

@@ -70,15 +70,16 @@ impl BoxFeeder {
         totals
     }
 
-    /// Takes the next input of the stream, and writes the lines of all boxes that the bytes so far determine: a box by its
-    /// header, and a moov or moof with the boxes below it once it is whole. An input without bytes changes nothing.
+    /// Takes the next input of the stream, and writes the lines of all boxes that the bytes so far determine: a box by
+    /// its header, and a moov or moof with the boxes below it once it is whole. An input without bytes changes
+    /// nothing.
     ///
     /// # Errors
     ///
     /// `Stream` where the bytes so far break a rule (`BadSize`, `TooLarge`, `Depth` or `StreamTooLong`, or `Truncated`
-    /// within a moov or moof), with the boxes before listed; `Write` where a write failed, with a prefix of the listing
-    /// written; `OverLimit` and `Memory` where a claim was refused, with exactly the boxes before that listed. Everything
-    /// claimed is given back then, and each later call returns the same and writes nothing.
+    /// within a moov or moof), with the boxes before listed; `Write` where a write failed, with a prefix of the
+    /// listing written; `OverLimit` and `Memory` where a claim was refused, with exactly the boxes before that listed.
+    /// Everything claimed is given back then, and each later call returns the same and writes nothing.
     pub fn feed<W: Sink>(
         &mut self,
         ledger: &mut Ledger,
