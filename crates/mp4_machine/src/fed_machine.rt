@@ -1,6 +1,6 @@
 //! A machine that is fed a stream in inputs, with what it keeps between them.
 
-ghost use Rattle.std.specs.Prelude.{◌≡◌, ℕ, List, ◌-◌, ◌≤◌, [], None, Some, Err, OnOk, max};
+ghost use Rattle.std.specs.Prelude.{◌≡◌, ℕ, List, ◌≤◌, [], None, Some, Err, OnOk, max};
 ghost use Rattle.mp4_machine.specs.Ends.{sent};
 ghost use Rattle.mp4_machine.specs.FedMachines.{FeedsInput, Finishes, IsAfter, shown, unfed};
 ghost use Rattle.mp4_machine.specs.Inputs.{IsBegun};

@@ -1,5 +1,5 @@
-//! Boxes of a stream that is pushed in as inputs. The listing of the first vector is that of `listings.rt`, by how many of
-//! its bytes came.
+//! Boxes of a stream that is pushed in as inputs. The listing of the first vector is that of `listings.rt`, by how
+//! many of its bytes came.
 
 ghost use Rattle.std.specs.Prelude.{◌≡◌, ◌≤◌};
 ghost use Rattle.mp4_stream.specs.BoxFeeders.{held_by};
@@ -44,7 +44,8 @@ impl Listed {
         Ok(())
     }
 
-    /// The exact output of these first bytes of a stream: the listing, how much is held, and whether the stream may end here.
+    /// The exact output of these first bytes of a stream: the listing, how much is held, and whether the stream may
+    /// end here.
     fn check(self, rt: &impl Abort, k: usize, all: &[u8]) -> Result<(), Fail> {
         let (listed, held, ends) = due(k);
         assert_eq!(rt;
@@ -75,8 +76,8 @@ impl Listed {
     }
 }
 
-/// Of the first bytes of the first vector: how many bytes of its listing are written, how many bytes are held, and whether a
-/// stream that ends here has no fault.
+/// Of the first bytes of the first vector: how many bytes of its listing are written, how many bytes are held, and
+/// whether a stream that ends here has no fault.
 fn due(k: usize) -> (usize, u64, bool) {
     let ftyp = FTYP.len();
     let moov = MOOV.len();
@@ -87,7 +88,10 @@ fn due(k: usize) -> (usize, u64, bool) {
         8..364 => ftyp,
         364..460 => ftyp.saturating_add(moov),
         460..468 => ftyp.saturating_add(moov).saturating_add(moof),
-        _ => ftyp.saturating_add(moov).saturating_add(moof).saturating_add(mdat),
+        _ => ftyp
+            .saturating_add(moov)
+            .saturating_add(moof)
+            .saturating_add(mdat),
     };
     let held = match k {
         28..364 => 344,
@@ -110,7 +114,10 @@ fn listings_by_inputs(rt: HostRuntime) -> Result<(), Fail> {
         single.check(&rt, k, &all)?;
     }
     let mut both = Listed::new(alloc, 1000, 344)?;
-    assert_eq!(&rt; (both.push(&v1[..100]), both.push(&v1[100..])), (Ok(()), Ok(())));
+    assert_eq!(&rt;
+        (both.push(&v1[..100]), both.push(&v1[100..])),
+        (Ok(()), Ok(()))
+    );
     let (answer, live) = both.finish();
     let totals = answer.expect(&rt, "a stream without a fault");
     assert_eq!(&rt; (totals.peak, totals.samples, live), (344, 0, 0));
