@@ -99,17 +99,26 @@ fn run_after(moof_bytes: &[u8], moof: u64, tracks: &TrackList, run: &Run) -> Opt
     first_run(trafs_after(moof_bytes, moof, tracks, run))
 }
 
-impl<'a> Moof<'a> {
-    /// The run that follows this one of its runs in their listing: that of the next trun of its traf, or else the first
-    /// of a traf after it; none after the last. `tracks` are those that the moof was read with. It reads no row but
-    /// those of the run that it gives.
-    pub fn after(&self, run: Run, tracks: &TrackList) -> Option<Run>
-        requires read { IsRead self.now tracks.now }
-        requires run { IsOneOf run (moof_runs self.now tracks.now) }
-        ensures next { (before after : List Run) → IsBetween (moof_runs self.now tracks.now)
-            before run after → result ≡ first_of after }
-        ensures run { IfSome result (λ next. IsOneOf next (moof_runs self.now tracks.now)) }
-    {
-        run_after(self.moof_bytes, self.offset, tracks, &run)
+/// A run of a moof, of which the next can be found.
+pub trait RunOfMoof {
+    // The run.
+    ghost itself: { Self → Run };
+
+    /// The run that follows in the listing of the moof's runs: that of the next trun of its traf, or else the first of
+    /// a traf after it; none after the last. `tracks` are those that the moof was read with. It reads no row but those
+    /// of the run that it gives.
+    fn after(self, moof: &Moof<'_>, tracks: &TrackList) -> Option<Run>
+        requires read { IsRead moof.now tracks.now }
+        requires run { IsOneOf (itself self) (moof_runs moof.now tracks.now) }
+        ensures next { (before after : List Run) → IsBetween (moof_runs moof.now tracks.now)
+            before (itself self) after → result ≡ first_of after }
+        ensures run { IfSome result (λ next. IsOneOf next (moof_runs moof.now tracks.now)) };
+}
+
+impl RunOfMoof for Run {
+    ghost itself = { λ r. r };
+
+    fn after(self, moof: &Moof<'_>, tracks: &TrackList) -> Option<Run> {
+        run_after(moof.moof_bytes, moof.offset, tracks, &self)
     }
 }

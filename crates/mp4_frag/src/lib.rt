@@ -3,8 +3,8 @@
 //!
 //! - [`Moof::read`]: from the bytes of a moof to a [`Moof`], or the [`Fault`](mp4_box::Fault) that it has;
 //!   [`Moof::settle`]: where its tracks end after it;
-//! - [`Moof::trafs`]: its trafs, with their [`Run`]s and the [`Row`] of each sample; [`Moof::after`]: the run after
-//!   one;
+//! - [`Moof::trafs`]: its trafs, with their [`Run`]s and the [`Row`] of each sample; [`RunOfMoof::after`]: the run
+//!   after one;
 //! - [`Moof::list`]: a [`RunList`], its runs in the order in which they are taken, in claimed memory;
 //!   [`RunList::at`] gives one of them, [`RunList::listed`] where it lies, and
 //!   [`Moof::places`]: whether they may lie where they do in the [`Payload`] of its mdat;
@@ -49,6 +49,7 @@ mod settle;
 mod single_run;
 mod traf_ends;
 
+pub use after::RunOfMoof;
 pub use counts::MOST_IN_MOOF;
 pub use following::Following;
 pub use moof::Moof;

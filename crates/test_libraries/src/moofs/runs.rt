@@ -4,7 +4,7 @@ ghost use Rattle.std.specs.Prelude.{◌≡◌, ◌<◌, ◌+◌, ◌*◌, ◌^�
 ghost use Rattle.mp4_frag.specs.Moofs.{IsRead};
 
 use mp4_box::is_box;
-use mp4_frag::{Moof, Payload, Run, SingleRun, Steps};
+use mp4_frag::{Moof, Payload, Run, RunOfMoof, SingleRun, Steps};
 use mp4_init::{TrackList, tracks};
 use mp4_ledger::Ledger;
 use mp4_vectors::{V1, V2, V3};
@@ -70,7 +70,7 @@ fn outcome_of_runs<'a>(moof: &Moof<'a>, held: &[u8], list: &'a TrackList) -> (Ou
     if let Some(traf) = trafs.next() {
         let mut runs = traf.runs();
         if let Some(run) = runs.next() {
-            first = outcome_of_run(held, &run, moof.after(run, list));
+            first = outcome_of_run(held, &run, run.after(moof, list));
         }
     }
     let mut last = first;
