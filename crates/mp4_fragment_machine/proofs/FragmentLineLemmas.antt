@@ -1,18 +1,29 @@
 -- The lines of trafs and of tracks, one after the other.
-use Rattle.std.proofs.Common.{◌≡◌, ◌⊎◌, ◌∙◌, ℕ, inl, inr, refl, Option, suc, ◌≤◌, drop, get_or, ◌+◌, ◌-◌, ◌<◌, List, [], ◌∷◌, ◌++◌, length, Some, ap, sym, arith, subst, append-nil, append_assoc}
+use Rattle.std.proofs.Common.{◌≡◌, ◌⊎◌, ◌∙◌, ℕ, inl, inr, refl, Option, suc, ◌≤◌, drop, get_or, ◌+◌, ◌-◌, ◌<◌, List, map, [], ◌∷◌, ◌++◌, length, Some, ap, sym, arith, subst, append-nil, append_assoc}
 use Rattle.std.specs.List.{flat_map}
 use Rattle.std.proofs.Math.Seq.{drop-cons}
+use Rattle.mp4_box.specs.Paths.{of_kind}
+use Rattle.mp4_box.specs.Trees.{Box, children}
 use Rattle.mp4_box.specs.declared.headers.Header.{Header}
 use Rattle.mp4_box.specs.declared.headers.Size.{Size}
 use Rattle.mp4_box.specs.declared.headers.Size.TheVariants.{Exact, ToEnd}
+use Rattle.mp4_init.specs.declared.table.Track.{Track}
+use Rattle.mp4_traf.specs.Kinds.{traf}
+use Rattle.mp4_traf.specs.Runs.{MoofBytes, TrackFragment, runs_of, traf_of}
+use Rattle.mp4_traf.specs.TrafTotals.{totals_of}
+use Rattle.mp4_traf.specs.declared.run.Run.{Run}
+use Rattle.mp4_traf.specs.declared.traf_totals.TrafTotals.{TrafTotals}
+use Rattle.mp4_frag.specs.Moofs.{moof_of, sequence_of}
+use Rattle.mp4_frag.specs.SingleRuns.{IsSingle}
+use Rattle.mp4_frag.specs.declared.single_run.SingleRun.{SingleRun}
 use Rattle.mp4_machine.specs.Blocks.{Pending}
 use Rattle.mp4_machine.specs.Bodies.{least_end, longest}
 use Rattle.mp4_machine.specs.Ends.{Sent}
 use Rattle.mp4_machine.specs.Puts.{HasPut}
-use Rattle.mp4_fragment_machine.specs.Implementation.TrafLines.{moof_lines, size_with}
+use Rattle.mp4_fragment_machine.specs.Implementation.TrafLines.{moof_lines, put_of, put_with, size_with}
 use Rattle.mp4_fragment_machine.specs.States.{listed_by}
 use Rattle.mp4_grammar.specs.Commands.{accepted}
-use Rattle.mp4_grammar.specs.FragmentLines.{size_of}
+use Rattle.mp4_grammar.specs.FragmentLines.{size_of, traf_with}
 use Rattle.mp4_grammar.specs.Meanings.{Fragment}
 use Rattle.mp4_grammar.specs.declared.command.Command.{Command}
 use Rattle.mp4_grammar.specs.declared.command.Command.TheVariants.{Fragments, Records}
@@ -66,3 +77,22 @@ listed_is command n (inr is) = rw is refl
 pub lines_are : (command : Command) (f : Fragment) (size : Option ℕ) → ListsTrafs command → size ≡ size_of f → moof_lines command f.moof f.tracks size ≡ (accepted command f).text
 lines_are command f size (inl is) same = rw (is, same) refl
 lines_are command f size (inr is) same = rw (is, same) refl
+
+-- ---- a moof with one run
+
+one_traf : (h : MoofBytes) (tracks : List Track) (bs : List Box) (run : Run) → length (map (traf_of h tracks) bs) ≡ 1 → flat_map runs_of (map (traf_of h tracks) bs) ≡ run ∷ []
+    → (t : TrackFragment) × (map (traf_of h tracks) bs ≡ t ∷ []) × (t.shared.moof.bytes ≡ h.bytes) × (runs_of t ≡ run ∷ [])
+unfolding traf_of
+one_traf h tracks [] run one is = absurd (omega (arith, one))
+one_traf h tracks (b ∷ []) run one is = (traf_of h tracks b, refl, refl, sym (append-nil (runs_of (traf_of h tracks b))) ∙ is)
+one_traf h tracks (b ∷ c ∷ bs) run one is = absurd (omega (arith, one))
+
+-- its lines are that of its traf
+pub single_line : (command : Command) (h : MoofBytes) (tracks : List Track) (l : SingleRun) (size : Option ℕ) (totals : TrafTotals) → IsSingle h tracks l
+    → ((t : TrackFragment) → t.shared.moof.bytes ≡ h.bytes → runs_of t ≡ l.run ∷ [] → totals ≡ totals_of t)
+    → put_of command tracks (traf_with (sequence_of h) h.offset size totals) ≡ moof_lines command h tracks size
+single_line command h tracks l size totals single each =
+    let (t, is, bytes, runs) = one_traf h tracks (of_kind traf (children (moof_of h))) l.run single.traf single.run in
+    let put = put_with command tracks (sequence_of h) h.offset size in
+    ap (λ k. put_of command tracks (traf_with (sequence_of h) h.offset size k)) (each t bytes runs)
+    ∙ (sym (append-nil (put t)) ∙ ap (flat_map put) (sym is))

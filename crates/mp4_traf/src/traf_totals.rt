@@ -1,11 +1,11 @@
 //! Sums over the samples of a traf.
 
-ghost use Rattle.std.specs.Prelude.{◌≡◌, ◌+◌, ◌^◌, ◌<◌, ◌≤◌};
+ghost use Rattle.std.specs.Prelude.{◌≡◌, ◌+◌, ◌^◌, ◌<◌, ◌≤◌, ◌∷◌, []};
 ghost use Rattle.std.specs.List.{sum_by};
 ghost use Rattle.std.specs.Option.{option_or};
 ghost use Rattle.mp4_traf.specs.declared.run.Run.{Run};
 ghost use Rattle.mp4_traf.specs.Ranges.{IsSound};
-ghost use Rattle.mp4_traf.specs.Runs.{last_end};
+ghost use Rattle.mp4_traf.specs.Runs.{TrackFragment, last_end, runs_of};
 ghost use Rattle.mp4_traf.specs.SyncSamples.{is_sync};
 ghost use Rattle.mp4_traf.specs.TrafTotals.{are_sync, first_flags, flags_of_first, totals_of};
 
@@ -130,6 +130,25 @@ impl<'a> Traf<'a> {
             samples: sums.samples,
             bytes: sums.bytes,
             sync: are_sync(sums.flags),
+        }
+    }
+}
+
+impl TrafTotals {
+    /// Those of a traf that has this run and no other. `moof_bytes` are the bytes of its moof, of which the first sample
+    /// of the run is read.
+    pub fn of_only_run(run: &Run, moof_bytes: &[u8]) -> TrafTotals
+        requires { run.now.time ≤ run.now.end }
+        ensures { (t : TrackFragment) → t.shared.moof.bytes ≡ moof_bytes.now → runs_of t ≡ run.now ∷ [] →
+            result ≡ totals_of t }
+    {
+        TrafTotals {
+            track: run.track,
+            time: run.time,
+            duration: run.end - run.time,
+            samples: run.count,
+            bytes: run.bytes,
+            sync: are_sync(flags_of_first(run, moof_bytes)),
         }
     }
 }

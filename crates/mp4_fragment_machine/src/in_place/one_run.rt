@@ -34,7 +34,7 @@ use crate::in_place::boxes::{Boxes, CompleteFragment, ROW};
 use crate::machine::FragmentMachine;
 use crate::mdat::accept_list::count;
 use crate::mdat::sample_lines;
-use crate::mdat::traf_lines::put_moof_lines;
+use crate::mdat::traf_lines::put_single_line;
 use crate::state::{Carried, Counter, go_to, stop_at};
 use mp4_box::Fault;
 use mp4_cut::Cut;
@@ -231,7 +231,8 @@ fn list_run<W: Sink>(
             counter.steps.rows += u128::from(samples);
             let boxes = &complete.boxes;
             let size = boxes.moof.len() as u64 + boxes.mdat.size;
-            put_moof_lines(command, boxes.moof, at, Some(size), tracks, out, w)
+            let single = complete.run;
+            put_single_line(command, boxes.moof, at, single, Some(size), tracks, out, w)
         }
     }
 }

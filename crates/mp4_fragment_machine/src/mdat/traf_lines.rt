@@ -4,7 +4,8 @@ ghost use Rattle.std.specs.Prelude.{ℕ, ◌≡◌, ◌+◌, ◌<◌, ◌≤◌,
 ghost use Rattle.std.specs.List.{AllByRecursion, flat_map};
 ghost use Rattle.mp4_box.specs.Headers.{IsWhole};
 ghost use Rattle.mp4_frag.specs.Moofs.{IsRead, moof_samples};
-ghost use Rattle.mp4_traf.specs.Ranges.{IsSound};
+ghost use Rattle.mp4_frag.specs.SingleRuns.{IsSingle};
+ghost use Rattle.mp4_traf.specs.Ranges.{IsRunOf, IsSound};
 ghost use Rattle.mp4_traf.specs.Runs.{known_track, moof_at};
 ghost use Rattle.mp4_grammar.specs.FragmentLines.{track_lines};
 ghost use Rattle.mp4_machine.specs.Bodies.{least_end, longest};
@@ -16,7 +17,7 @@ ghost use Rattle.mp4_fragment_machine.specs.Implementation.TrafLines.{moof_lines
 use crate::state::PendingMoof;
 use mp4_box::{Header, Size};
 use mp4_ends::{Failed, Sink};
-use mp4_frag::{Moof, Steps, Trafs};
+use mp4_frag::{Moof, SingleRun, Steps, TrafTotals, Trafs};
 use mp4_grammar::{Command, ListedTrack, ListedTraf, TrafRecord};
 use mp4_init::TrackList;
 use mp4_machine::Block;
@@ -111,6 +112,33 @@ pub(crate) fn put_moof_lines<W: Sink>(
         out,
         w,
     )
+}
+
+/// Puts the line of the only traf of a moof at `at`, or its record, whose only run was read, and whose fragment has
+/// `size` bytes. `moof_bytes` are its bytes. The first row of the run is read.
+// A call of its own, so that other commands don't clear its locals for each fragment.
+#[inline(never)]
+pub(crate) fn put_single_line<W: Sink>(
+    command: Command,
+    moof_bytes: &[u8],
+    at: u64,
+    single_run: &SingleRun,
+    size: Option<u64>,
+    tracks: &TrackList,
+    out: &mut Block,
+    w: &mut W,
+) -> Result<(), Failed>
+    requires whole { IsWhole moof_bytes.now }
+    requires room { at + length moof_bytes.now ≤ 2 ^ 62 }
+    requires single_run { IsSingle (moof_at moof_bytes.now at) tracks.now single_run.now }
+    requires run { IsRunOf moof_bytes.now single_run.now.run }
+    ensures { Puts (sent W.contents W.has_failed w.old w.new) out.old out.new
+        (moof_lines command (moof_at moof_bytes.now at) tracks.now size) result }
+{
+    let moof = Moof::again(moof_bytes, at, tracks);
+    let totals = TrafTotals::of_only_run(&single_run.run, moof_bytes);
+    let listed = ListedTraf::of(moof.sequence_number(), at, size, &totals);
+    put_traf(command, &listed, tracks, out, w)
 }
 
 /// How many bytes a fragment has, whose moof has so many, and whose mdat has this header; none where the mdat goes to

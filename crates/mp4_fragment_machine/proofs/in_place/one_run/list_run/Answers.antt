@@ -26,8 +26,11 @@ returns-in-Samples-clause-counted g c =
     counted_in_place c.args.at c.args.tracks.now c.args.input.now c.args.complete.now.boxes c.args.complete.now.run.now c.requires.is c.args.command c.args.counter.now _ c.from.result c.from-samples.result c.requires.counted (c.from.ensures ∙ c.from-samples.ensures) c.from-samples.ensures
     c.count.ensures.tally (rw c.in-Samples.is (omega (arith, ap (λ k. k.rows) c.count.ensures.steps, c.from-2.ensures, c.from-in-Samples.ensures)))
 
-pub put_moof_lines-requires-clause-whole : goal.put_moof_lines-requires-clause-whole
-put_moof_lines-requires-clause-whole g c = moof_whole c.args.at c.args.input.now c.args.complete.now.boxes c.requires.is.boxes
+pub put_single_line-requires-clause-whole : goal.put_single_line-requires-clause-whole
+put_single_line-requires-clause-whole g c = moof_whole c.args.at c.args.input.now c.args.complete.now.boxes c.requires.is.boxes
+
+pub put_single_line-requires-clause-run : goal.put_single_line-requires-clause-run
+put_single_line-requires-clause-run g c = run_is c.args.at c.args.tracks.now c.args.input.now c.args.complete.now.boxes c.args.complete.now.run.now c.requires.is
 
 pub returns-in-Fragments-clause-counted : goal.returns-in-Fragments-clause-counted
 returns-in-Fragments-clause-counted g c =
@@ -54,4 +57,4 @@ returns-in-Fragments-clause-puts g c = λ header sized.
     let boxes = c.args.complete.now.boxes in
     let f = fragment (context at (Some tracks) 1) tracks boxes.moof.now header in
     let text = lines_are c.args.command f _ c.in-Fragments.is (size_stated at (length boxes.moof.now) _ boxes.mdat.size header.size sized refl) in
-    subst (λ l. Puts (sent g.W.Sink.contents g.W.Sink.has_failed c.args.w.now c.put_moof_lines.new.w) c.args.out.now c.put_moof_lines.new.out l c.put_moof_lines.result) text c.put_moof_lines.ensures
+    subst (λ l. Puts (sent g.W.Sink.contents g.W.Sink.has_failed c.args.w.now c.put_single_line.new.w) c.args.out.now c.put_single_line.new.out l c.put_single_line.result) text c.put_single_line.ensures
