@@ -4,12 +4,27 @@ use Rattle.mp4_init.specs.declared.table.Track.{Track}
 use Rattle.mp4_ledger.specs.Memory.{Account, given_back}
 use Rattle.mp4_machine.specs.Readings.{no_effects}
 use Rattle.mp4_machine.specs.Inputs.{Environment, Moves}
+use Rattle.mp4_machine.specs.declared.body.Body.{Body}
 use Rattle.mp4_machine.proofs.ReadingLemmas.{both-silent}
 use Rattle.mp4_machine.proofs.InputLemmas.{back_to, Moves-more, Moves-back}
 use Rattle.mp4_grammar.specs.Contexts.{table_of}
 use Rattle.mp4_fragment_machine.specs.States.{claimed_in, taken_by}
 use Rattle.mp4_fragment_machine.specs.declared.state.PendingMoof.{PendingMoof}
+use Rattle.mp4_fragment_machine.specs.declared.state.State.{State}
+use Rattle.mp4_fragment_machine.specs.declared.state.State.TheVariants as states
 use Rattle.mp4_fragment_machine.proofs.BufferedBoxLemmas.{Moves-all_back}
+
+-- the pending moof of a body
+abbrev pending_in : State → Option PendingMoof
+pending_in (states.Header at) = None
+pending_in (states.Buffering h) = None
+pending_in (states.MdatHeader w) = None
+pending_in (states.Body b w) = w
+pending_in (states.Copied b) = None
+pending_in (states.Media r) = None
+
+pub same_pending : (a b : Body) (v w : Option PendingMoof) → states.Body a v ≡ states.Body b w → v ≡ w
+same_pending a b v w e = ap pending_in e
 
 -- a moof and its list are given back
 pub Moves-settled : (o : Environment) (table size rows n : ℕ) → n ≡ table → table + size + rows ≤ o.account.live → Moves o (back_to (back_to o rows) size) (table + size + rows) n no_effects

@@ -1,16 +1,13 @@
 //! A machine that reads a fragmented stream as it comes.
 
-ghost use Rattle.std.specs.Prelude.{◌≡◌, ◌+◌, ◌*◌, ◌-◌, ◌<◌, ◌≤◌, ◌↔◌, [], Option, length, take, None, Some, IfOk, IfErr, OnOk, OnErr, IsErrOf, IsTrue, Ok};
-ghost use Rattle.mp4_box.specs.Headers.{IsBytes};
+ghost use Rattle.std.specs.Prelude.{◌≡◌, ◌+◌, ◌*◌, ◌-◌, ◌<◌, ◌≤◌, Option, length, take, None, Some, Ok};
 ghost use Rattle.mp4_ledger.specs.Memory.{given_back};
 ghost use Rattle.mp4_machine.specs.Ends.{sent};
-ghost use Rattle.mp4_machine.specs.Inputs.{HasNoEffects, Takes, change, farthest};
-ghost use Rattle.mp4_machine.specs.Readings.{uncounted};
+ghost use Rattle.mp4_machine.specs.Inputs.{Takes, change};
 ghost use Rattle.mp4_machine.specs.declared.body.Body.{Body};
-ghost use Rattle.mp4_grammar.specs.Contexts.{first_context};
 ghost use Rattle.mp4_recut.specs.declared.operation.Operation.{Operation};
-ghost use Rattle.mp4_fragment_machine.specs.Places.{InHeader, IsPlace, Untouched, claim_of, unsent};
-ghost use Rattle.mp4_fragment_machine.specs.States.{begun, continuation_in, kept_by, listed_by, place_in, reads_of, stopped};
+ghost use Rattle.mp4_fragment_machine.specs.Places.{claim_of};
+ghost use Rattle.mp4_fragment_machine.specs.States.{begun, continuation_in, listed_by, place_in, reads_of, stopped};
 ghost use Rattle.mp4_fragment_machine.specs.Implementation.Feeds.{Feeds};
 ghost use Rattle.mp4_fragment_machine.specs.Implementation.Steps.{Consumes, MayTake, borrowed};
 ghost use Rattle.mp4_fragment_machine.specs.declared.state.Recutting.{Recutting};
@@ -22,10 +19,8 @@ use crate::held::take_held;
 use crate::in_place::{InPlace, find_in_place};
 use crate::mdat::end::back;
 use crate::mdat::recut::take_split;
-use crate::other_box::{take_body, take_copied};
-use crate::state::{
-    Carried, Counter, Recutting, State, Taken, back_state, go_on, put_state, stopped,
-};
+use crate::other_box::take_copied;
+use crate::state::{Carried, Counter, Recutting, State, Taken, back_state, put_state, stopped};
 use mp4_box::{Fault, HeaderReader};
 use mp4_ends::Sink;
 use mp4_frag::Steps;
@@ -103,46 +98,6 @@ impl FragmentMachine {
         ensures few { result ≤ reads_of self.now.operation * self.now.counter.tally.inspected }
     {
         self.carried.counter.steps.rows
-    }
-
-    /// Passes over the input of a body that continues after it, and has no output. Returns how many bytes.
-    #[inline(always)]
-    fn pass_within(&mut self, ledger: &Ledger, input: &[u8]) -> usize
-        requires some { 0 < length input.now }
-        requires within { (b : Body) × (w : Option PendingMoof) × (self.old.state ≡ states.Body b w) ×
-            (length input.now < b.left) }
-        requires claim { claim_of (place_in self.old) ≤ ledger.now.live }
-        ensures { (u : Untouched) → Feeds (change (unsent u) u.waiting u.waiting
-            ledger.now ledger.now self.old.counter.tally self.new.counter.tally)
-            self.old self.new input.now (Ok result) }
-    {
-        let _ = ledger;
-        let count = input.len();
-        go_on(&mut self.state, count as u64);
-        count
-    }
-
-    /// Takes the rest of a body without output from the front of the input. Returns how many bytes.
-    ///
-    /// # Errors
-    ///
-    /// `Stream` where the body goes too far.
-    #[inline(always)]
-    fn finish_body(&mut self, ledger: &mut Ledger, input: &[u8]) -> Result<usize, Stop>
-        requires some { 0 < length input.now }
-        requires body { (b : Body) × (w : Option PendingMoof) × (self.old.state ≡ states.Body b w) }
-        requires claim { claim_of (place_in self.old) ≤ ledger.old.live }
-        ensures { (u : Untouched) → Feeds (change (unsent u) u.waiting u.waiting
-            ledger.old ledger.new self.old.counter.tally self.new.counter.tally)
-            self.old self.new input.now result }
-    {
-        match take_body(&mut self.state, input, &mut self.carried, ledger) {
-            Ok(taken) => Ok(taken),
-            Err(stop) => {
-                self.give_back(ledger);
-                Err(stop)
-            }
-        }
     }
 
     /// Takes bytes of an mdat that is recut from the front of the input. Returns how many.
@@ -236,9 +191,11 @@ impl FragmentMachine {
                 InPlace::Moof(moof) => return self.take_from_moof(at, moof, ledger, input, out, w),
                 InPlace::No => {}
             }
-        } else if let State::Body(body, _) = &self.state {
-            if (input.len() as u64) < body.left {
-                return Ok(self.pass_within(ledger, input));
+        } else if let State::Body(body, _) = &mut self.state {
+            let count = input.len();
+            if (count as u64) < body.left {
+                body.pass(count as u64);
+                return Ok(count);
             }
             return self.finish_body(ledger, input);
         } else if let State::Media(_) = &self.state {

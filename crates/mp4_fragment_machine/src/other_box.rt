@@ -1,33 +1,34 @@
 //! Boxes that are passed over or copied, and their bodies.
 
-ghost use Rattle.std.specs.Prelude.{◌≡◌, ℕ, ◌≤◌, [], List, ◌+◌, ◌*◌, ◌<◌, ◌^◌, Option, length, Some};
+ghost use Rattle.std.specs.Prelude.{◌≡◌, ℕ, ◌≤◌, [], List, ◌<◌, Option, length, Some};
 ghost use Rattle.mp4_box.specs.Headers.{HasRoom};
 ghost use Rattle.mp4_box.specs.declared.headers.FourCc.{FourCc};
-ghost use Rattle.mp4_frag.specs.Moofs.{moof_of, moof_samples, moof_trafs};
-ghost use Rattle.mp4_traf.specs.Settling.{settled, timed_of};
-ghost use Rattle.mp4_ledger.specs.Memory.{Account, given_back};
+ghost use Rattle.mp4_ledger.specs.Memory.{Account};
 ghost use Rattle.mp4_machine.specs.Blocks.{Passes};
 ghost use Rattle.mp4_machine.specs.Bodies.{least_end, longest};
+ghost use Rattle.mp4_machine.specs.Inputs.{change};
 ghost use Rattle.mp4_machine.specs.Readings.{says, no_effects};
 ghost use Rattle.mp4_machine.specs.declared.body.Body.{Body};
 ghost use Rattle.mp4_grammar.specs.Kinds.{kind_in};
 ghost use Rattle.mp4_grammar.specs.declared.kinds.Kind.TheVariants.{Other};
 ghost use Rattle.mp4_recut.specs.Operations.{operation_meaning, number_in};
-ghost use Rattle.mp4_fragment_machine.specs.Places.{Untouched, InBody};
-ghost use Rattle.mp4_fragment_machine.specs.States.{IsCounted, IsPendingMoof, IsState, MayBePending, after_body, claimed_in, moof_in, samples_of, taken_by};
-ghost use Rattle.mp4_fragment_machine.specs.Implementation.Steps.{Advances, Borrowed, CanPass, GoesTo, at_state, borrowed, ledger_alone, with_head, Consumes, MayTake, CanStep, ConsumesInPlace};
+ghost use Rattle.mp4_fragment_machine.specs.Places.{InBody, Untouched, claim_of, unsent};
+ghost use Rattle.mp4_fragment_machine.specs.States.{IsCounted, MayBePending, after_body, claimed_in, place_in, samples_of};
+ghost use Rattle.mp4_fragment_machine.specs.Implementation.Feeds.{Feeds};
+ghost use Rattle.mp4_fragment_machine.specs.Implementation.Steps.{Advances, Borrowed, CanPass, Consumes, GoesTo, MayTake, at_state, borrowed, ledger_alone, with_head};
 ghost use Rattle.mp4_fragment_machine.specs.declared.state.Carried.{Carried};
 ghost use Rattle.mp4_fragment_machine.specs.declared.state.PendingMoof.{PendingMoof};
 ghost use Rattle.mp4_fragment_machine.specs.declared.state.State.TheVariants as states;
 
+use crate::machine::FragmentMachine;
 use crate::mdat::end::end_fragment;
-use crate::state::{Carried, Counter, PendingMoof, State, Taken, leave_body, let_go};
+use crate::state::{Carried, PendingMoof, State, Taken, let_go};
 use mp4_box::Header;
 use mp4_ends::{Failed, Sink};
-use mp4_init::TrackList;
 use mp4_ledger::Ledger;
-use mp4_machine::{AnyBody, Block, Body, Stop, body_of};
+use mp4_machine::{AnyBody, Block, Body, Machine, Stop, body_of};
 use mp4_recut::{Operation, is_dropped};
+use std::mem::replace;
 
 /// The state after the header of the box at `at`, which is passed over, or copied with these bytes of its header.
 ///
@@ -163,38 +164,43 @@ pub(crate) fn leave(
     }
 }
 
-/// Takes bytes of a body that is passed over from the front of the input, and changes the state in place. Returns how
-/// many. At its end a pending moof is done; at a stop it is given back.
-///
-/// # Errors
-///
-/// `Stream` where the body goes too far.
-pub(crate) fn take_body(
-    current: &mut State,
-    input: &[u8],
-    carried: &mut Carried,
-    ledger: &mut Ledger,
-) -> Result<usize, Stop>
-    requires some { 0 < length input.now }
-    requires body { (b : Body) × (w : Option PendingMoof) × (current.old ≡ states.Body b w) }
-    requires state { IsState carried.old.tracks carried.old.header_bytes current.old }
-    requires can { CanStep carried.old ledger.old current.old }
-    ensures { (u : Untouched) → ConsumesInPlace (ledger_alone u ledger.old ledger.new)
-        carried.old carried.new current.old current.new input.now result }
-{
-    let State::Body(body, _) = current else {
-        unreachable!();
-    };
-    let count = match body.take(input) {
-        Ok(count) => count,
-        Err(stop) => {
-            let_go(current, ledger);
-            return Err(stop);
+impl FragmentMachine {
+    /// Takes bytes of a body that is passed over from the front of the input. Returns how many. At its end a pending
+    /// moof is done.
+    ///
+    /// # Errors
+    ///
+    /// `Stream` where the body goes too far.
+    pub(crate) fn finish_body(&mut self, ledger: &mut Ledger, input: &[u8]) -> Result<usize, Stop>
+        requires some { 0 < length input.now }
+        requires body { (b : Body) × (w : Option PendingMoof) × (self.old.state ≡ states.Body b w) }
+        requires claim { claim_of (place_in self.old) ≤ ledger.old.live }
+        ensures { (u : Untouched) → Feeds (change (unsent u) u.waiting u.waiting
+            ledger.old ledger.new self.old.counter.tally self.new.counter.tally)
+            self.old self.new input.now result }
+    {
+        let State::Body(body, _) = &mut self.state else {
+            unreachable!();
+        };
+        let count = match body.take(input) {
+            Ok(count) => count,
+            Err(stop) => {
+                let_go(&mut self.state, ledger);
+                self.give_back(ledger);
+                return Err(stop);
+            }
+        };
+        if let Some(next) = body.next() {
+            match replace(&mut self.state, State::Header { at: next }) {
+                State::Body(_, pending_moof) => leave(
+                    next,
+                    pending_moof,
+                    &mut self.carried,
+                    ledger,
+                ),
+                _ => unreachable!(),
+            }
         }
-    };
-    if let Some(next) = body.next() {
-        leave(next, leave_body(current, next), carried, ledger);
-        return Ok(count);
+        Ok(count)
     }
-    Ok(count)
 }

@@ -2,18 +2,13 @@
 
 ghost use Rattle.std.specs.Prelude.{◌≡◌, Some, ℕ, ◌≤◌, Option};
 ghost use Rattle.mp4_ledger.specs.Memory.{given_back};
-ghost use Rattle.mp4_machine.specs.Bodies.{after_bytes};
 ghost use Rattle.mp4_machine.specs.declared.body.Body.{Body};
 ghost use Rattle.mp4_fragment_machine.specs.States.{IsPendingMoof, moof_in, stopped, kept_by};
-ghost use Rattle.mp4_fragment_machine.specs.Implementation.Steps.{Consumes, MayTake, borrowed};
 ghost use Rattle.mp4_fragment_machine.specs.declared.state.Recutting.{Recutting};
 ghost use Rattle.mp4_fragment_machine.specs.declared.state.PendingMoof.{PendingMoof};
 ghost use Rattle.mp4_fragment_machine.specs.declared.state.State.TheVariants as states;
 
-use crate::header::{take_header, take_mdat_header};
-use crate::held::take_held;
 use crate::mdat::end::back;
-use crate::other_box::take_copied;
 use mp4_box::HeaderReader;
 use mp4_box::types::MDAT;
 use mp4_cut::Cut;
@@ -21,7 +16,7 @@ use mp4_ends::Sink;
 use mp4_frag::{Moof, RunList, Steps};
 use mp4_init::TrackList;
 use mp4_ledger::Ledger;
-use mp4_machine::{Block, Body, BufferedBox, Extent, Stop, Tally};
+use mp4_machine::{Body, BufferedBox, Extent, Tally};
 use mp4_recut::Operation;
 use mp4_recut::media::Media;
 use std::mem::replace;
@@ -117,20 +112,6 @@ pub(crate) fn go_to(current: &mut State, at: u64)
     }
 }
 
-/// Passes over so many bytes of a body that has more.
-#[inline(always)]
-pub(crate) fn go_on(current: &mut State, count: u64)
-    requires { (b : Body) × (w : Option PendingMoof) × (current.old ≡ states.Body b w) ×
-        (count ≤ b.left) }
-    ensures { (b : Body) (w : Option PendingMoof) → current.old ≡ states.Body b w →
-        current.new ≡ states.Body (after_bytes count b) w }
-{
-    match current {
-        State::Body(body, _) => body.pass(count),
-        _ => unreachable!(),
-    }
-}
-
 /// Goes on with a state, from a header.
 pub(crate) fn leave_header(current: &mut State, state: State)
     requires { (old : ℕ) × (current.old ≡ states.Header old) }
@@ -140,19 +121,6 @@ pub(crate) fn leave_header(current: &mut State, state: State)
         State::Header { at } => {
             let _ = at;
         }
-        _ => unreachable!(),
-    }
-}
-
-/// Goes on with the header of the box at `at`, from a body. Returns the pending moof, if there is one.
-#[inline(always)]
-pub(crate) fn leave_body(current: &mut State, at: u64) -> Option<PendingMoof>
-    requires { (b : Body) × (w : Option PendingMoof) × (current.old ≡ states.Body b w) }
-    ensures { (b : Body) (w : Option PendingMoof) → current.old ≡ states.Body b w →
-        (result ≡ w) × (current.new ≡ states.Header at) }
-{
-    match replace(current, State::Header { at }) {
-        State::Body(_, pending_moof) => pending_moof,
         _ => unreachable!(),
     }
 }

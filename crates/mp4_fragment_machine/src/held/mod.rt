@@ -15,7 +15,7 @@ ghost use Rattle.mp4_fragment_machine.specs.declared.state.State.TheVariants as 
 pub(crate) mod moof;
 pub(crate) mod moov;
 
-use crate::held::moof::take_moof;
+use crate::held::moof::accept_moof;
 use crate::held::moov::take_moov;
 use crate::state::{Carried, State, Taken};
 use mp4_box::{Header, Rule, Size};
@@ -98,7 +98,7 @@ pub(crate) fn buffer_on<W: Sink>(
 ///
 /// # Errors
 ///
-/// As [`take_moov`] and [`take_moof`]: the box is given back then.
+/// As [`take_moov`] and [`accept_moof`]: the box is given back then.
 fn hold<W: Sink>(
     buffered: BufferedBox,
     carried: &mut Carried,
@@ -118,6 +118,9 @@ fn hold<W: Sink>(
     }
     match carried.tracks {
         None => take_moov(buffered, carried, ledger, out, w),
-        Some(_) => take_moof(buffered, carried, ledger),
+        Some(_) => match accept_moof(buffered, None, carried, ledger) {
+            Ok(pending_moof) => Ok(State::MdatHeader(pending_moof)),
+            Err(stop) => Err(stop),
+        },
     }
 }

@@ -10,12 +10,12 @@ ghost use Rattle.mp4_machine.specs.Readings.{plus};
 ghost use Rattle.mp4_grammar.specs.Items.{inspected};
 ghost use Rattle.mp4_fragment_machine.specs.Places.{Untouched};
 ghost use Rattle.mp4_fragment_machine.specs.States.{known};
-ghost use Rattle.mp4_fragment_machine.specs.Implementation.Steps.{Advances, CanStep, AcceptsMoof, ledger_alone};
+ghost use Rattle.mp4_fragment_machine.specs.Implementation.Steps.{CanStep, AcceptsMoof, ledger_alone};
 ghost use Rattle.mp4_fragment_machine.specs.Implementation.InPlace.{WasReadInPlace};
 ghost use Rattle.mp4_fragment_machine.specs.declared.state.State.TheVariants as states;
 
 use crate::in_place::many_runs::InPlaceRead;
-use crate::state::{Carried, Counter, PendingMoof, State};
+use crate::state::{Carried, Counter, PendingMoof};
 use mp4_box::Fault;
 use mp4_frag::Moof;
 use mp4_init::TrackList;
@@ -68,32 +68,6 @@ pub(crate) fn accept_moof(
             buffered.back(ledger);
             Err(Stop::of_refusal(refused))
         }
-    }
-}
-
-/// The state after a moof of which all bytes came: the header of its mdat is next.
-///
-/// # Errors
-///
-/// As [`accept_moof`].
-#[inline]
-pub(crate) fn take_moof(
-    buffered: BufferedBox,
-    carried: &mut Carried,
-    ledger: &mut Ledger,
-) -> Result<State, Stop>
-    requires known { carried.old.tracks ≡ Some (known carried.old.tracks) }
-    requires begins { Begins buffered.size buffered.bytes }
-    requires near { buffered.at + buffered.size ≤ longest }
-    requires whole { length buffered.bytes ≡ buffered.size }
-    requires empty { carried.old.header_bytes ≡ [] }
-    requires can { CanStep carried.old ledger.old (states.Buffering buffered) }
-    ensures { (u : Untouched) → Advances (ledger_alone u ledger.old ledger.new)
-        carried.old carried.new (states.Buffering buffered) result }
-{
-    match accept_moof(buffered, None, carried, ledger) {
-        Ok(pending_moof) => Ok(State::MdatHeader(pending_moof)),
-        Err(stop) => Err(stop),
     }
 }
 

@@ -1,10 +1,9 @@
 //! The box after a moof, which must be an mdat.
 
-ghost use Rattle.std.specs.Prelude.{◌≡◌, ℕ, ◌+◌, ◌-◌, ◌*◌, ◌<◌, ◌≤◌, [], ◌++◌, List, length, Some, None, IfErr, OnOk};
+ghost use Rattle.std.specs.Prelude.{◌≡◌, ℕ, ◌+◌, ◌-◌, ◌<◌, ◌≤◌, ◌++◌, List, length, Some, None, IfErr, OnOk};
 ghost use Rattle.mp4_box.specs.Headers.{HasRoom, header_at, need};
 ghost use Rattle.mp4_frag.specs.Moofs.{moof_runs};
 ghost use Rattle.mp4_frag.specs.Places.{place_fault};
-ghost use Rattle.mp4_init.specs.Moovs.{fault_of};
 ghost use Rattle.mp4_grammar.specs.Contexts.{context};
 ghost use Rattle.mp4_grammar.specs.Items.{after_moof, end_of, faulty, fragment};
 ghost use Rattle.mp4_grammar.specs.Kinds.{kind_in, moof};
@@ -58,10 +57,14 @@ pub(crate) fn check_mdat(
         });
     }
     match kind_of(header.kind) {
-        Kind::Mdat => match check_places(pending_moof, payload_of(next, header), tracks) {
-            Ok(()) => Ok(()),
-            Err(fault) => Err(fault),
-        },
+        Kind::Mdat => {
+            let moof = pending_moof.moof(tracks);
+            let payload = payload_of(next, header);
+            match moof.places(payload, &pending_moof.runs, &mut Steps { rows: 0 }) {
+                Ok(()) => Ok(()),
+                Err(fault) => Err(fault),
+            }
+        }
         _ => Err(Fault {
             rule: Rule::MdatMissing,
             kind: Some(MOOF),
@@ -85,23 +88,4 @@ pub(crate) fn payload_of(at: u64, header: &Header) -> Payload
         start: at + header.header_len,
         end,
     }
-}
-
-/// Whether the runs of the pending moof may lie where they do in this payload.
-///
-/// # Errors
-///
-/// `RunPlace` at the first trun that is at fault.
-fn check_places(
-    pending_moof: &PendingMoof,
-    payload: Payload,
-    tracks: &TrackList,
-) -> Result<(), Fault>
-    requires pending_moof { IsPendingMoof (Some tracks.now) pending_moof.now }
-    ensures { fault_of result ≡
-        place_fault payload (moof_runs (moof_in pending_moof.now) tracks.now) }
-{
-    pending_moof
-        .moof(tracks)
-        .places(payload, &pending_moof.runs, &mut Steps { rows: 0 })
 }

@@ -1,24 +1,15 @@
 //! The end of an mdat: its tracks end, and its moof is given back.
 
-ghost use Rattle.std.specs.Prelude.{◌≡◌, ℕ, ◌+◌, ◌*◌, ◌<◌, ◌≤◌, ◌^◌, [], Option, length, Some};
-ghost use Rattle.mp4_box.specs.declared.headers.FourCc.{FourCc};
+ghost use Rattle.std.specs.Prelude.{◌≡◌, ◌+◌, ◌*◌, ◌<◌, ◌≤◌, ◌^◌, Option, length, Some};
 ghost use Rattle.mp4_frag.specs.Moofs.{moof_of, moof_samples, moof_trafs};
 ghost use Rattle.mp4_traf.specs.Settling.{settled, timed_of};
 ghost use Rattle.mp4_ledger.specs.Memory.{given_back};
-ghost use Rattle.mp4_machine.specs.Bodies.{longest};
-ghost use Rattle.mp4_machine.specs.Readings.{no_effects};
-ghost use Rattle.mp4_machine.specs.declared.body.Body.{Body};
-ghost use Rattle.mp4_recut.specs.Operations.{number_in};
-ghost use Rattle.mp4_fragment_machine.specs.Places.{InBody, Untouched};
-ghost use Rattle.mp4_fragment_machine.specs.States.{IsCounted, IsPendingMoof, IsState, MayBePending, after_body, claimed_in, moof_in, samples_of, taken_by};
-ghost use Rattle.mp4_fragment_machine.specs.Implementation.Steps.{CanStep, ConsumesInPlace, GoesTo, ledger_alone};
+ghost use Rattle.mp4_fragment_machine.specs.States.{IsPendingMoof, moof_in, taken_by};
 ghost use Rattle.mp4_fragment_machine.specs.declared.state.PendingMoof.{PendingMoof};
-ghost use Rattle.mp4_fragment_machine.specs.declared.state.State.TheVariants as states;
 
-use crate::state::{Carried, Counter, PendingMoof, State, leave_body, let_go};
+use crate::state::{Counter, PendingMoof};
 use mp4_init::TrackList;
 use mp4_ledger::Ledger;
-use mp4_machine::Stop;
 
 /// Ends the tracks after a moof and its mdat, and gives the moof and its list back.
 pub(crate) fn end_fragment(

@@ -1,43 +1,114 @@
-use Rattle.std.proofs.Common.{◌∙◌, ap, arith, None, false, refl}
+use Rattle.std.proofs.Common.{◌≡◌, ◌-◌, ◌≤◌, None, arith, false, length, refl, subst}
 use Rattle.mp4_machine.specs.Blocks.{unused}
+use Rattle.mp4_machine.specs.Inputs.{environment}
+use Rattle.mp4_machine.specs.Readings.{no_effects}
+use Rattle.mp4_machine.proofs.ContinuationLemmas.{IsLeft-after, some_taken}
+use Rattle.mp4_machine.proofs.InputLemmas.{back_to}
+use Rattle.mp4_grammar.specs.Contexts.{table_of}
+use Rattle.mp4_recut.specs.Operations.{operation_meaning, number_in}
 use Rattle.mp4_fragment_machine.specs.Places.{Untouched}
-use Rattle.mp4_fragment_machine.specs.States.{Progress}
-use Rattle.mp4_fragment_machine.specs.Implementation.Steps.{ledger_alone}
+use Rattle.mp4_fragment_machine.specs.States.{bound_in, claimed_in, most_counted, samples_of, taken_by, tracks_after}
+use Rattle.mp4_fragment_machine.specs.Implementation.Steps.{CanStep, ledger_alone}
+use Rattle.mp4_fragment_machine.specs.declared.state.State.TheVariants as states
+use Rattle.mp4_fragment_machine.proofs.BodyLemmas.{Moves-open_back, claimed_apart, same_pending}
+use Rattle.mp4_fragment_machine.proofs.CountLemmas.{counted_later}
+use Rattle.mp4_fragment_machine.proofs.ExtentLemmas.{GoesOn-passed_in, GoesTo-passed, Refuses-far_in, claim_in}
 use Rattle.mp4_fragment_machine.proofs.FeedLemmas.{fed}
+use Rattle.mp4_fragment_machine.proofs.StepLemmas.{GoesTo-then}
 use Rattle.mp4_fragment_machine.proofs.machine.FragmentMachine.finish_body.Goals as goal
 
 -- any writer
 abbrev no_writer : Untouched
 no_writer = record { written = None; waiting = unused; failed = false }
 
-pub take_body-requires-clause-body : goal.take_body-requires-clause-body
-take_body-requires-clause-body c =
-    (c.requires.body.0, c.requires.body.1, ap (λ (p : Progress). p.state) c.self.view_is ∙ c.requires.body.2)
-
 pub invariant_of-self : goal.invariant_of-self
 invariant_of-self c =
-    let taken = c.in-Ok.ensures no_writer in
-    (taken.2.state, taken.2.counted)
-
-pub returns-in-Ok : goal.returns-in-Ok
-returns-in-Ok c = λ u.
-    let new = c.take_body.new in
-    rw (← c.self.view_is)
-    (fed (ledger_alone u c.args.ledger.now new.ledger) c.self.inside.carried new.carried c.self.inside.state new.current c.args.input.now c.in-Ok.taken (c.in-Ok.ensures u))
-
-pub invariant_of-self-in-Err : goal.invariant_of-self-in-Err
-invariant_of-self-in-Err c =
-    let (is, stopped) = c.in-Err.ensures no_writer in
-    rw (is, stopped.empty) ((refl, record { within = omega arith; near = omega arith; more = tt }, tt), stopped.counted)
+    let is = rw c.in-Body.is at c.self.invariant in
+    let carried = c.self.inside.carried in
+    let b = c.in-Body.body in
+    let w = c.in-Body.field-1 in
+    let counted = counted_later carried.operation carried.counter (bound_in b.extent) most_counted (samples_of w) 0 is.1.far (omega arith) (omega arith) is.1 in
+    rw (c.let_go.ensures.after, is.0.0) ((refl, record { within = omega arith; near = omega arith; more = tt }, tt), counted)
 
 pub give_back-requires : goal.give_back-requires
 give_back-requires c =
-    let (is, stopped) = c.in-Err.ensures no_writer in
-    rw (is, stopped.tracks) stopped.left
+    let w = c.in-Body.field-1 in
+    let b = c.in-Body.body in
+    let carried = c.self.inside.carried in
+    let claim = rw (← c.self.view_is, c.in-Body.is) at c.requires.claim in
+    let low : claimed_in carried.tracks w ≤ c.args.ledger.now.live = subst (λ m. m ≤ c.args.ledger.now.live) (claim_in (λ _. no_effects) b.at b.kind (tracks_after carried.tracks w) (number_in carried.operation carried.counter.tally) b.left (claimed_in carried.tracks w) b.extent) claim in
+    rw (c.let_go.ensures.after, c.let_go.ensures.back) (omega (arith, claimed_apart carried.tracks w, low))
 
 pub returns-in-Err : goal.returns-in-Err
 returns-in-Err c = λ u.
-    let (is, stopped) = c.in-Err.ensures u in
-    let back = rw (is, stopped.tracks) at c.give_back.ensures.back in
-    rw (← c.self.view_is, back, c.give_back.ensures.counted)
-    (record { step = stopped.step; spent = rw c.give_back.ensures.counted at c.give_back.ensures.spent; operation = rw c.give_back.ensures.task stopped.operation })
+    let b = c.in-Body.body in
+    let w = c.in-Body.field-1 in
+    let carried = c.self.inside.carried in
+    let ledger = c.args.ledger.now in
+    let far = c.in-Err.ensures in
+    let claim = rw (← c.self.view_is, c.in-Body.is) at c.requires.claim in
+    let number = number_in carried.operation carried.counter.tally in
+    let tracks = tracks_after carried.tracks w in
+    let own = claimed_in carried.tracks w in
+    let table = table_of carried.tracks in
+    let low : own ≤ ledger.live = subst (λ m. m ≤ ledger.live) (claim_in (λ _. no_effects) b.at b.kind tracks number b.left own b.extent) claim in
+    let o = environment u.written u.waiting ledger carried.counter.tally in
+    let back = rw (c.let_go.ensures.after, c.let_go.ensures.back) at c.give_back.ensures.back in
+    rw (← c.self.view_is, c.in-Body.is, back, c.give_back.ensures.counted, far.err) (record {
+      step = record {
+        stops = λ more. Refuses-far_in (operation_meaning carried.operation) o (back_to (back_to o (taken_by w)) table) b.at b.kind tracks number b.left own b.extent c.args.input.now more far.open (Moves-open_back o own table (taken_by w) (claimed_apart carried.tracks w) low) far.far;
+        failed = λ is. absurd cc;
+        unfailed = λ _. refl;
+      };
+      spent = rw c.give_back.ensures.counted at c.give_back.ensures.spent;
+      operation = c.give_back.ensures.task;
+    })
+
+pub returns-in-Body-replace : goal.returns-in-Body-replace
+returns-in-Body-replace c = λ u.
+    let b = c.in-Body.body in
+    let w = c.in-Body.field-1 in
+    let carried = c.self.inside.carried in
+    let ledger = c.args.ledger.now in
+    let input = c.args.input.now in
+    let n = c.in-Ok.count in
+    let came = c.in-Ok.ensures in
+    let is = rw c.in-Body.is at c.self.invariant in
+    let claim = rw (← c.self.view_is, c.in-Body.is) at c.requires.claim in
+    let (over, same) = rw came.left at c.in-Some.ensures.some in
+    let pending : c.in-Body-replace.pending_moof ≡ w = same_pending _ _ _ _ c.in-Body-replace.ensures.value in
+    let number = number_in carried.operation carried.counter.tally in
+    let tracks = tracks_after carried.tracks w in
+    let o = environment u.written u.waiting ledger carried.counter.tally in
+    let passed = GoesOn-passed_in (operation_meaning carried.operation) o b.at b.kind tracks number b.left (claimed_in carried.tracks w) n b.extent input (omega (arith, came.taken)) (omega (arith, came.taken)) is.0.1.within in
+    let ended = rw pending at c.leave.ensures u b.at (b.left - n) b.kind over in
+    rw (← c.self.view_is, c.in-Body.is, c.replace.ensures.after)
+    (fed (ledger_alone u ledger c.leave.new.ledger) carried c.leave.new.carried (states.Body b w) (states.Header c.in-Some.next) input n (
+      some_taken b.left (length input) n b.extent is.0.1.more came.all came.taken c.requires.some,
+      omega (arith, came.taken),
+      GoesTo-then (record { claim = claim; operation = refl; tracks = refl; goes = rw same at passed }) ended,
+    ))
+
+pub invariant_of-self-in-Body-replace : goal.invariant_of-self-in-Body-replace
+invariant_of-self-in-Body-replace c =
+    let b = c.in-Body.body in
+    let came = c.in-Ok.ensures in
+    let (over, same) = rw came.left at c.in-Some.ensures.some in
+    let ended = c.leave.ensures no_writer b.at (b.left - c.in-Ok.count) b.kind over in
+    rw c.replace.ensures.after (ended.state, ended.counted)
+
+pub returns-in_default-next : goal.returns-in_default-next
+returns-in_default-next c = λ u.
+    let carried = c.self.inside.carried in
+    let b = c.in-Body.body in
+    let w = c.in-Body.field-1 in
+    let input = c.args.input.now in
+    let n = c.in-Ok.count in
+    let came = c.in-Ok.ensures in
+    let is = rw c.in-Body.is at c.self.invariant in
+    let claim = rw (← c.self.view_is, c.in-Body.is) at c.requires.claim in
+    let can : CanStep carried c.args.ledger.now (states.Body b w) = record { claim = claim; counted = is.1 } in
+    let more = rw came.left at c.in_default-next.ensures.none in
+    rw (← c.self.view_is, c.in-Body.is, came.left)
+    (fed (ledger_alone u c.args.ledger.now c.args.ledger.now) carried carried (states.Body b w) _ input n
+    (GoesTo-passed u c.args.ledger.now carried b w n input is.0 can (some_taken b.left (length input) n b.extent is.0.1.more came.all came.taken c.requires.some) (omega (arith, came.taken)) (omega (arith, came.taken)) (IsLeft-after b.left n b.extent is.0.1 more)))

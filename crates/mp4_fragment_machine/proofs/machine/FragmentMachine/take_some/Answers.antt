@@ -1,21 +1,40 @@
-use Rattle.std.proofs.Common.{◌∙◌, ap, sym}
-use Rattle.mp4_fragment_machine.specs.States.{Progress}
+use Rattle.std.proofs.Common.{arith, length}
+use Rattle.mp4_machine.specs.Bodies.{after_bytes}
+use Rattle.mp4_machine.proofs.ContinuationLemmas.{IsLeft-within}
+use Rattle.mp4_fragment_machine.specs.Places.{Untouched}
+use Rattle.mp4_fragment_machine.specs.Implementation.Steps.{CanStep, ledger_alone}
+use Rattle.mp4_fragment_machine.specs.declared.state.State.TheVariants as states
+use Rattle.mp4_fragment_machine.proofs.ExtentLemmas.{GoesTo-passed}
+use Rattle.mp4_fragment_machine.proofs.FeedLemmas.{fed}
 use Rattle.mp4_fragment_machine.proofs.machine.FragmentMachine.take_some.Goals as goal
 
-pub returns-then-input-body : goal.returns-then-input-body
-returns-then-input-body g c =
-    c.pass_within.ensures (record { written = g.W.Sink.contents c.args.w.now; waiting = c.args.out.now; failed = g.W.Sink.has_failed c.args.w.now })
+pub returns-then-count-body : goal.returns-then-count-body
+returns-then-count-body g c =
+    let carried = c.self.inside.carried in
+    let b = c.in-Body.body in
+    let w = c.in-Body.field-1 in
+    let input = c.args.input.now in
+    let n = length input in
+    let within = c.if-count-body.true in
+    let is = rw c.in-Body.is at c.self.invariant in
+    let claim = rw (← c.self.view_is, c.in-Body.is) at c.requires.claim in
+    let can : CanStep carried c.args.ledger.now (states.Body b w) = record { claim = claim; counted = is.1 } in
+    let u : Untouched = record { written = g.W.Sink.contents c.args.w.now; waiting = c.args.out.now; failed = g.W.Sink.has_failed c.args.w.now } in
+    rw (← c.self.view_is, c.in-Body.is, c.pass.ensures)
+    (fed (ledger_alone u c.args.ledger.now c.args.ledger.now) carried carried (states.Body b w) (states.Body (after_bytes n b) w) input n
+    (GoesTo-passed u c.args.ledger.now carried b w n input is.0 can c.requires.some (omega (arith, within)) (omega arith) (IsLeft-within b.left n b.extent is.0.1 within)))
 
 pub returns-in-Body : goal.returns-in-Body
 returns-in-Body g c =
-    c.finish_body.ensures (record { written = g.W.Sink.contents c.args.w.now; waiting = c.args.out.now; failed = g.W.Sink.has_failed c.args.w.now })
+    rw (← c.self.view_is, c.in-Body.is)
+    (c.finish_body.ensures (record { written = g.W.Sink.contents c.args.w.now; waiting = c.args.out.now; failed = g.W.Sink.has_failed c.args.w.now }))
 
 pub copy_media-requires : goal.copy_media-requires
 copy_media-requires g c =
     record {
       some = c.requires.some;
-      media = (c.in-Media.field-0, ap (λ (p : Progress). p.state) (sym c.self.view_is) ∙ c.in-Media.is);
-      claim = c.requires.claim;
+      media = (c.in-Media.field-0, c.in-Media.is);
+      claim = rw (← c.self.view_is) at c.requires.claim;
     }
 
 pub take_other_box-requires-clause-found : goal.take_other_box-requires-clause-found

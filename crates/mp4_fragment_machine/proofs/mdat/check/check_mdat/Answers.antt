@@ -27,5 +27,5 @@ returns-in-Err-clause-fault c = λ meaning number x later len is.
     let w = c.args.pending_moof.now in
     let same : c.offset-at.result + c.size.result ≡ w.moof.at + length w.moof.bytes = omega (arith, c.offset-at.ensures.at, c.size.ensures, c.requires.pending_moof.size) in
     misplaced-after meaning (context w.moof.at (Some c.args.tracks.now) number) c.args.tracks.now w.moof.bytes _ same c.args.header.now x len is later c.in-Err.fault (search rules) (sym c.kind_of.ensures ∙ c.in-Mdat.is)
-    (misplaced-run meaning c.payload_of.result (fragment (context w.moof.at (Some c.args.tracks.now) number) c.args.tracks.now w.moof.bytes c.args.header.now) c.in-Err.fault
-    (payload-of c.payload_of.result (context w.moof.at (Some c.args.tracks.now) number) c.args.tracks.now w.moof.bytes _ c.args.header.now same c.payload_of.ensures.start c.payload_of.ensures.end) (sym c.in-Err.ensures))
+    (misplaced-run meaning c.payload_of-payload.result (fragment (context w.moof.at (Some c.args.tracks.now) number) c.args.tracks.now w.moof.bytes c.args.header.now) c.in-Err.fault
+    (payload-of c.payload_of-payload.result (context w.moof.at (Some c.args.tracks.now) number) c.args.tracks.now w.moof.bytes _ c.args.header.now same c.payload_of-payload.ensures.start c.payload_of-payload.ensures.end) (sym ((rw c.moof-moof.ensures at c.in-Err.ensures.fault) c.args.tracks.now c.requires.pending_moof.list)))
