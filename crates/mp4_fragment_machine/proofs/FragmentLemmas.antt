@@ -52,8 +52,8 @@ use Rattle.mp4_fragment_machine.specs.States.{IsCounted, listed_by}
 use Rattle.mp4_fragment_machine.specs.declared.state.Counter.{Counter}
 use Rattle.mp4_fragment_machine.proofs.CountLemmas.{counted_emitted, counted_later, counted_moof}
 use Rattle.mp4_fragment_machine.specs.Implementation.InPlace.{AreBoxes, IsFirstBox, IsFragment, payload_in}
-use Rattle.mp4_fragment_machine.specs.declared.in_place.boxes.Boxes.{Boxes}
-use Rattle.mp4_fragment_machine.specs.declared.in_place.boxes.Span.{Span}
+use Rattle.mp4_fragment_machine.specs.declared.in_place.Boxes.{Boxes}
+use Rattle.mp4_fragment_machine.specs.declared.in_place.Span.{Span}
 use Rattle.mp4_fragment_machine.proofs.MediaLemmas.{AreIn, media_in}
 use Rattle.mp4_fragment_machine.proofs.InPlaceLemmas.{GoesOn-whole, StopsAt-whole, front_is}
 

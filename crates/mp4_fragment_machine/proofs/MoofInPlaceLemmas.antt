@@ -29,7 +29,7 @@ use Rattle.mp4_fragment_machine.specs.Implementation.InPlace.{IsFirstBox}
 use Rattle.mp4_fragment_machine.specs.declared.state.Carried.{Carried}
 use Rattle.mp4_fragment_machine.specs.declared.state.State.{State}
 use Rattle.mp4_fragment_machine.specs.declared.state.State.TheVariants as states
-use Rattle.mp4_fragment_machine.specs.declared.in_place.boxes.Span.{Span}
+use Rattle.mp4_fragment_machine.specs.declared.in_place.Span.{Span}
 use Rattle.mp4_fragment_machine.proofs.FragmentLemmas.{first_fits, first_is, first_len}
 use Rattle.mp4_fragment_machine.proofs.HeadLemmas.{GoesOn-head, StopsAt-keep, reads-kind}
 use Rattle.mp4_fragment_machine.proofs.BufferedBoxLemmas.{refused_not_written}

@@ -24,7 +24,7 @@ use Rattle.mp4_fragment_machine.specs.Implementation.Steps.{Borrowed, CanStep, G
 use Rattle.mp4_fragment_machine.specs.Implementation.InPlace.{IsFirstBox}
 use Rattle.mp4_fragment_machine.specs.declared.state.Carried.{Carried}
 use Rattle.mp4_fragment_machine.specs.declared.state.State.TheVariants as states
-use Rattle.mp4_fragment_machine.specs.declared.in_place.boxes.Span.{Span}
+use Rattle.mp4_fragment_machine.specs.declared.in_place.Span.{Span}
 use Rattle.mp4_fragment_machine.proofs.CopyLemmas.{Moves-says, spends-back}
 use Rattle.mp4_fragment_machine.proofs.CountLemmas.{counted_later}
 use Rattle.mp4_fragment_machine.proofs.HeadLemmas.{reads-kind}

@@ -54,7 +54,7 @@ use Rattle.mp4_fragment_machine.specs.States.{IsCounted, cut_least, cut_most, cu
 use Rattle.mp4_fragment_machine.specs.declared.state.Counter.{Counter}
 use Rattle.mp4_recut.specs.declared.operation.Operation.TheVariants as operations
 use Rattle.mp4_fragment_machine.specs.Implementation.InPlace.{IsFragment, media_in, media_start, payload_in}
-use Rattle.mp4_fragment_machine.specs.declared.in_place.boxes.Boxes.{Boxes}
+use Rattle.mp4_fragment_machine.specs.declared.in_place.Boxes.{Boxes}
 use Rattle.mp4_machine.specs.Accounts.{Counts}
 use Rattle.mp4_fragment_machine.proofs.SecondLemmas.{second-accepted}
 use Rattle.mp4_fragment_machine.proofs.BodyLemmas.{Moves-settled, back_twice}

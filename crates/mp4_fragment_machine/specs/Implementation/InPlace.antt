@@ -28,11 +28,11 @@ use Rattle.mp4_recut.specs.declared.operation.Operation.TheVariants as operation
 use Rattle.mp4_fragment_machine.specs.States.{Progress, known}
 use Rattle.mp4_fragment_machine.specs.declared.in_place.InPlace.{InPlace}
 use Rattle.mp4_fragment_machine.specs.declared.in_place.InPlace.TheVariants as answers
-use Rattle.mp4_fragment_machine.specs.declared.in_place.boxes.CompleteFragment.{CompleteFragment}
+use Rattle.mp4_fragment_machine.specs.declared.in_place.CompleteFragment.{CompleteFragment}
 use Rattle.mp4_fragment_machine.specs.declared.in_place.many_runs.InPlaceRead.{InPlaceRead}
 use Rattle.mp4_fragment_machine.specs.declared.state.State.TheVariants as states
-use Rattle.mp4_fragment_machine.specs.declared.in_place.boxes.Boxes.{Boxes}
-use Rattle.mp4_fragment_machine.specs.declared.in_place.boxes.Span.{Span}
+use Rattle.mp4_fragment_machine.specs.declared.in_place.Boxes.{Boxes}
+use Rattle.mp4_fragment_machine.specs.declared.in_place.Span.{Span}
 
 -- a whole box of this kind, at an offset, at the front of some bytes
 pub record IsFirstBox (kind : Kind) (at : ℕ) (x : List ℕ) (b : Span) : Type 0 where

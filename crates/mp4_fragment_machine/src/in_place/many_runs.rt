@@ -32,7 +32,7 @@ ghost use Rattle.mp4_fragment_machine.specs.Implementation.InPlace.{AreBoxes, Ha
 ghost use Rattle.mp4_recut.specs.declared.operation.Operation.TheVariants as operations;
 ghost use Rattle.mp4_fragment_machine.specs.declared.state.State.TheVariants as states;
 
-use crate::in_place::boxes::{Boxes, ROW, Span, payload_after};
+use crate::in_place::{Boxes, ROW, Span, payload_after};
 use crate::machine::FragmentMachine;
 use crate::mdat::accept_list::count;
 use crate::state::{Carried, Counter, go_to};

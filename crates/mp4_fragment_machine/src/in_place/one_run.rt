@@ -30,7 +30,7 @@ ghost use Rattle.mp4_fragment_machine.specs.Implementation.Steps.{CanStep, Stops
 ghost use Rattle.mp4_recut.specs.declared.operation.Operation.TheVariants as operations;
 ghost use Rattle.mp4_fragment_machine.specs.declared.state.State.TheVariants as states;
 
-use crate::in_place::boxes::{Boxes, CompleteFragment, ROW};
+use crate::in_place::{Boxes, CompleteFragment, ROW};
 use crate::machine::FragmentMachine;
 use crate::mdat::accept_list::count;
 use crate::mdat::sample_lines;
