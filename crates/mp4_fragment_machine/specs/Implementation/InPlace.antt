@@ -1,6 +1,6 @@
 -- Only the code's own way; no public clause needs this.
 -- A fragment that is whole in the input: a moof with one run, and its mdat.
-use Rattle.std.specs.Prelude.{◌≡◌, ℕ, ◌+◌, ◌-◌, ◌*◌, ◌≤◌, ◌^◌, false, List, [], ◌∷◌, length, take, drop, true, Some, None, IsSome}
+use Rattle.std.specs.Prelude.{◌≡◌, ℕ, ◌+◌, ◌-◌, ◌*◌, ◌≤◌, ◌^◌, false, List, [], ◌∷◌, length, take, drop, true, Option, Some, None, IsSome}
 use Rattle.std.specs.List.{list_all}
 use Rattle.mp4_box.specs.Headers.{IsBytes, header_at}
 use Rattle.mp4_box.specs.Order.{least}
@@ -30,6 +30,8 @@ use Rattle.mp4_fragment_machine.specs.declared.in_place.InPlace.{InPlace}
 use Rattle.mp4_fragment_machine.specs.declared.in_place.InPlace.TheVariants as answers
 use Rattle.mp4_fragment_machine.specs.declared.in_place.CompleteFragment.{CompleteFragment}
 use Rattle.mp4_fragment_machine.specs.declared.in_place.many_runs.InPlaceRead.{InPlaceRead}
+use Rattle.mp4_fragment_machine.specs.declared.in_place.many_runs.Untaken.{Untaken}
+use Rattle.mp4_fragment_machine.specs.declared.in_place.many_runs.Untaken.TheVariants as untaken
 use Rattle.mp4_fragment_machine.specs.declared.state.State.TheVariants as states
 use Rattle.mp4_fragment_machine.specs.declared.in_place.Boxes.{Boxes}
 use Rattle.mp4_fragment_machine.specs.declared.in_place.Span.{Span}
@@ -74,6 +76,11 @@ pub record WasReadInPlace (h : MoofBytes) (tracks : List Track) (found : InPlace
   pub all : fault_before_times h tracks ≡ None → found.rows ≡ moof_samples h
   pub few : fault_before_times h tracks ≡ None → moof_samples h ≤ most_in_moof
   pub none : IsSome (fault_before_times h tracks) → found.rows ≡ 0
+
+-- where an attempt was given up, what holds of what was found
+abbrev pub IfGivenUp : (Option InPlaceRead → Type 0) → Untaken → Type 0
+IfGivenUp holds (untaken.GivenUp found) = holds found
+IfGivenUp holds untaken.WriteFailed = Unit {0}
 
 -- a fragment that is whole in the input, with these boxes, whose moof has just this run, which lies within the mdat
 pub record IsFragment (at : ℕ) (tracks : List Track) (input : List ℕ) (b : Boxes) (l : SingleRun) : Type 0 where

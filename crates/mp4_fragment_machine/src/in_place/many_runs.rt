@@ -1,4 +1,5 @@
-//! Checks a fragment that is whole in the input, whatever runs it has, in place.
+//! Counts or lists a fragment that is whole in the input, whatever runs it has, in place; one whose samples are listed, or
+//! that is recut, only where it has one run.
 //!
 //! Where its runs follow one another as they are listed, no list of them is needed. Its claim is counted, and no memory
 //! is requested.
@@ -23,26 +24,32 @@ ghost use Rattle.mp4_machine.specs.Readings.{plus};
 ghost use Rattle.mp4_grammar.specs.Contexts.{context};
 ghost use Rattle.mp4_grammar.specs.Items.{fragment, inspected};
 ghost use Rattle.mp4_grammar.specs.Meanings.{counted_in};
-ghost use Rattle.mp4_grammar.specs.declared.command.Command.TheVariants.{Check};
-ghost use Rattle.mp4_fragment_machine.specs.Places.{Untouched, claim_of, unsent};
-ghost use Rattle.mp4_fragment_machine.specs.States.{IsCounted, known, place_in};
-ghost use Rattle.mp4_fragment_machine.specs.Implementation.Feeds.{Feeds};
-ghost use Rattle.mp4_fragment_machine.specs.Implementation.Steps.{CanStep, TakesInPlace, ledger_alone};
-ghost use Rattle.mp4_fragment_machine.specs.Implementation.InPlace.{AreBoxes, HasBoxes, HasManyRuns, MayBeListed, MayBeReadInPlace, WasReadInPlace, payload_in};
+ghost use Rattle.mp4_grammar.specs.declared.command.Command.TheVariants.{Samples};
+ghost use Rattle.mp4_grammar.specs.Commands.{accepted};
+ghost use Rattle.mp4_machine.specs.Bodies.{longest};
+ghost use Rattle.mp4_machine.specs.Puts.{Puts};
+ghost use Rattle.mp4_box.specs.Headers.{IsWhole};
+ghost use Rattle.mp4_box.specs.declared.headers.Size.TheVariants.{Exact};
+ghost use Rattle.mp4_fragment_machine.specs.Places.{claim_of};
+ghost use Rattle.mp4_fragment_machine.specs.States.{IsCounted, known, listed_by, place_in};
+ghost use Rattle.mp4_fragment_machine.specs.Implementation.Feeds.{Feeds, HasEnded};
+ghost use Rattle.mp4_fragment_machine.specs.Implementation.Steps.{CanStep, StopsIn, TakesInPlace, at_state, borrowed};
+ghost use Rattle.mp4_fragment_machine.specs.Implementation.InPlace.{AreBoxes, HasBoxes, HasManyRuns, IfGivenUp, MayBeListed, MayBeReadInPlace, WasReadInPlace, payload_in};
 ghost use Rattle.mp4_recut.specs.declared.operation.Operation.TheVariants as operations;
 ghost use Rattle.mp4_fragment_machine.specs.declared.state.State.TheVariants as states;
 
 use crate::in_place::{Boxes, ROW, Span, payload_after};
 use crate::machine::FragmentMachine;
 use crate::mdat::accept_list::count;
-use crate::state::{Carried, Counter, go_to};
+use crate::mdat::traf_lines::put_moof_lines;
+use crate::state::{Carried, Counter, go_to, stop_at};
 use mp4_box::Fault;
-use mp4_ends::Sink;
+use mp4_ends::{Failed, Sink};
 use mp4_frag::{Following, Moof, Steps, TrafEnds};
 use mp4_grammar::Command;
 use mp4_init::TrackList;
 use mp4_ledger::{Ledger, Refused};
-use mp4_machine::{Block, Stop};
+use mp4_machine::{Block, Machine, Stop};
 use mp4_recut::Operation;
 
 /// An attempt to take a moof in place that was given up. It can't be dropped, so that its rows are counted.
@@ -93,6 +100,14 @@ impl InPlaceRead {
     pub(crate) fn leave_out(found: Option<InPlaceRead>, _refused: &Refused) {
         if let Some(InPlaceRead { rows: _, fault: _ }) = found {}
     }
+}
+
+/// Why a fragment wasn't taken in place.
+pub(crate) enum Untaken {
+    /// The attempt was given up: what was found in its moof, if that was read.
+    GivenUp(Option<InPlaceRead>),
+    /// A write failed.
+    WriteFailed,
 }
 
 /// No moof that is held has so many runs.
@@ -157,7 +172,8 @@ fn runs_in_order(
 ///
 /// Where it isn't counted: what was found in its moof, if that was read.
 #[inline(always)]
-fn count_checked<'a>(
+fn count_in_place<'a>(
+    command: Command,
     at: u64,
     boxes: &Boxes<'a>,
     input: &[u8],
@@ -166,7 +182,7 @@ fn count_checked<'a>(
     ledger: &mut Ledger,
 ) -> Result<Counted<'a>, Option<InPlaceRead>>
     requires are { AreBoxes at input.now boxes.now }
-    requires counted { IsCounted (operations.List Check) counter.old at 0 0 }
+    requires counted { IsCounted (operations.List command) counter.old at 0 0 }
     ensures moof { IfOk result (λ c. c.moof ≡ moof_at boxes.now.moof.now at) }
     ensures ends { IfOk result (λ c. AreEndsOf c.ends (moof_at boxes.now.moof.now at) tracks.now) }
     ensures read { OnOk result (IsRead (moof_at boxes.now.moof.now at) tracks.now) }
@@ -179,7 +195,7 @@ fn count_checked<'a>(
     ensures tally { (g : Header) → OnOk result (counter.new.tally ≡ plus (plus counter.old.tally
         (inspected (moof_at boxes.now.moof.now at))) (counted_in (fragment
         (context at (Some tracks.now) 1) tracks.now boxes.now.moof.now g))) }
-    ensures counted { OnOk result (IsCounted (operations.List Check) counter.new
+    ensures counted { OnOk result (IsCounted (operations.List command) counter.new
         (at + length boxes.now.moof.now + boxes.now.mdat.size) 0
         (moof_samples (moof_at boxes.now.moof.now at))) }
     ensures none { OnErr result (ledger.new ≡ ledger.old) }
@@ -215,8 +231,9 @@ fn count_checked<'a>(
         Ok(()) => {}
         Err(_) => return Err(Some(InPlaceRead::of(read_rows.rows as u32, None))),
     }
-    counter.steps.rows += read_rows.rows;
     let samples = u64::from(moof.samples());
+    counter.steps.rows += read_rows.rows;
+    counter.steps.rows += u128::from(reads_for_lines(command, samples));
     counter.tally.inspected += u128::from(samples);
     count(counter, samples, following.bytes);
     Ok(Counted {
@@ -225,50 +242,117 @@ fn count_checked<'a>(
     })
 }
 
-/// Takes a fragment that is checked, if it may be taken so. Returns how many bytes it has.
+/// How many rows are read for the lines of so many samples.
+#[inline(always)]
+fn reads_for_lines(command: Command, samples: u64) -> u64
+    ensures { result ≡ listed_by (operations.List command) samples }
+{
+    match command {
+        Command::Check => 0,
+        Command::Samples | Command::Fragments | Command::Records => samples,
+    }
+}
+
+/// Puts the lines of the trafs of a fragment at `at`, or their records, if they are asked for. Its rows were counted.
 ///
 /// # Errors
 ///
-/// As [`count_checked`]: nothing is taken.
-fn check_fragment(
+/// `Failed` where a write failed.
+#[inline(always)]
+fn put_lines<W: Sink>(
+    command: Command,
+    at: u64,
+    boxes: &Boxes<'_>,
+    tracks: &TrackList,
+    out: &mut Block,
+    w: &mut W,
+) -> Result<(), Failed>
+    requires lists { command ≡ Samples → ⊥ }
+    requires whole { IsWhole boxes.now.moof.now }
+    requires room { at + length boxes.now.moof.now + boxes.now.mdat.size ≤ longest }
+    requires read { IsRead (moof_at boxes.now.moof.now at) tracks.now }
+    ensures { (g : Header) → g.size ≡ Exact boxes.now.mdat.size →
+        Puts (sent W.contents W.has_failed w.old w.new) out.old out.new
+        (accepted command (fragment (context at (Some tracks.now) 1) tracks.now boxes.now.moof.now g)).text
+        result }
+{
+    match command {
+        Command::Fragments | Command::Records => {
+            let size = boxes.moof.len() as u64 + boxes.mdat.size;
+            put_moof_lines(command, boxes.moof, at, Some(size), tracks, out, w)
+        }
+        Command::Check => Ok(()),
+        Command::Samples => unreachable!(),
+    }
+}
+
+/// Takes a fragment that is checked, or whose trafs are listed, if it may be taken so. Returns how many bytes it has.
+///
+/// # Errors
+///
+/// `GivenUp` as [`count_in_place`]: nothing is taken; `WriteFailed` where a write failed.
+#[inline(always)]
+fn list_fragment<W: Sink>(
+    command: Command,
     at: u64,
     boxes: &Boxes<'_>,
     input: &[u8],
     carried: &mut Carried,
     ledger: &mut Ledger,
-) -> Result<u64, Option<InPlaceRead>>
+    out: &mut Block,
+    w: &mut W,
+) -> Result<u64, Untaken>
     requires known { carried.old.tracks ≡ Some (known carried.old.tracks) }
     requires are { AreBoxes at input.now boxes.now }
     requires empty { carried.old.header_bytes ≡ [] }
-    requires operation { carried.old.operation ≡ operations.List Check }
+    requires operation { carried.old.operation ≡ operations.List command }
+    requires lists { command ≡ Samples → ⊥ }
     requires can { CanStep carried.old ledger.old (states.Header at) }
-    ensures taken { IfOk result (λ n. (u : Untouched) → TakesInPlace (ledger_alone u ledger.old ledger.new)
-        carried.old carried.new at input.now (Ok n)) }
-    ensures none { OnErr result ((carried.new ≡ carried.old) × (ledger.new ≡ ledger.old)) }
-    ensures found { IfErr result (λ l. IfSome l
-        (WasReadInPlace (moof_at boxes.now.moof.now at) (known carried.old.tracks))) }
-    ensures unread { result ≡ Err None → MayBeReadInPlace (moof_at boxes.now.moof.now at) → ⊥ }
+    ensures taken { IfOk result (λ n. TakesInPlace (borrowed W.contents W.has_failed w.old w.new out.old out.new
+        ledger.old ledger.new) carried.old carried.new at input.now (Ok n)) }
+    ensures given_up { IfErr result (IfGivenUp (λ found. (carried.new ≡ carried.old) × (ledger.new ≡ ledger.old) ×
+        (w.new ≡ w.old) × (out.new ≡ out.old) × IfSome found
+        (WasReadInPlace (moof_at boxes.now.moof.now at) (known carried.old.tracks)))) }
+    ensures unread { result ≡ Err (Untaken.GivenUp None) → MayBeReadInPlace (moof_at boxes.now.moof.now at) → ⊥ }
+    ensures failed { result ≡ Err Untaken.WriteFailed → StopsIn (borrowed W.contents W.has_failed w.old w.new
+        out.old out.new ledger.old ledger.new) carried.old carried.new (at_state carried.old (states.Header at))
+        input.now Stop.Write }
 {
     let Some(list) = &mut carried.tracks else {
         unreachable!();
     };
     let mut counter = carried.counter;
-    let Counted { moof, ends } = match count_checked(at, boxes, input, list, &mut counter, ledger) {
+    let Counted { moof, ends } = match count_in_place(
+        command,
+        at,
+        boxes,
+        input,
+        list,
+        &mut counter,
+        ledger,
+    ) {
         Ok(counted) => counted,
-        Err(found) => return Err(found),
+        Err(found) => return Err(Untaken::GivenUp(found)),
     };
+    match put_lines(command, at, boxes, list, out, w) {
+        Ok(()) => {}
+        Err(Failed) => {
+            carried.counter = counter;
+            return Err(Untaken::WriteFailed);
+        }
+    }
     moof.settle_by(&ends, list, &mut counter.steps);
     carried.counter = counter;
     Ok(boxes.moof.len() as u64 + boxes.mdat.size)
 }
 
 impl FragmentMachine {
-    /// Takes a fragment that is whole at the front of the input: the whole fragment if it is checked and may be taken
-    /// so, else its moof. Returns how many bytes.
+    /// Takes a fragment that is whole at the front of the input: the whole fragment if it may be taken so, else its
+    /// moof. Returns how many bytes.
     ///
     /// # Errors
     ///
-    /// As [`FragmentMachine::take_moof`].
+    /// `Write` where a write failed, and as [`FragmentMachine::take_moof`].
     #[inline(always)]
     pub(crate) fn take_many_runs<W: Sink>(
         &mut self,
@@ -286,51 +370,65 @@ impl FragmentMachine {
             ledger.old ledger.new self.old.counter.tally self.new.counter.tally)
             self.old self.new input.now result }
     {
-        match self.check_in_place(at, boxes, ledger, input) {
+        match self.list_in_place(at, boxes, ledger, input, out, w) {
             Ok(count) => Ok(count),
-            Err(found) => self.take_moof(at, moof, found, ledger, input, out, w),
+            Err(Untaken::GivenUp(found)) => self.take_moof(at, moof, found, ledger, input, out, w),
+            Err(Untaken::WriteFailed) => Err(Stop::Write),
         }
     }
 
-    /// Takes a fragment that is checked and whole at the front of the input, if it may be taken so. Returns how many
-    /// bytes.
+    /// Takes a fragment that is checked, or whose trafs are listed, and that is whole at the front of the input, if it
+    /// may be taken so. Returns how many bytes.
     ///
     /// # Errors
     ///
-    /// Where nothing is taken: what was found in the moof, if that was read.
+    /// `GivenUp` where nothing is taken: what was found in the moof, if that was read; `WriteFailed` where a write
+    /// failed.
     #[inline(never)]
-    fn check_in_place(
+    fn list_in_place<W: Sink>(
         &mut self,
         at: u64,
         boxes: &Boxes<'_>,
         ledger: &mut Ledger,
         input: &[u8],
-    ) -> Result<usize, Option<InPlaceRead>>
+        out: &mut Block,
+        w: &mut W,
+    ) -> Result<usize, Untaken>
         requires found { HasBoxes self.old ledger.old at input.now boxes.now }
         requires claim { claim_of (place_in self.old) ≤ ledger.old.live }
-        ensures taken { IfOk result (λ n. (u : Untouched) → Feeds (change (unsent u) u.waiting u.waiting
+        ensures taken { IfOk result (λ n. Feeds (change (sent W.contents W.has_failed w.old w.new) out.old out.new
             ledger.old ledger.new self.old.counter.tally self.new.counter.tally)
             self.old self.new input.now (Ok n)) }
-        ensures none { OnErr result ((self.new ≡ self.old) × (ledger.new ≡ ledger.old)) }
-        ensures read_rows { IfErr result (λ l. IfSome l
-            (WasReadInPlace (moof_at boxes.now.moof.now at) (known self.old.tracks))) }
+        ensures given_up { IfErr result (IfGivenUp (λ found. (self.new ≡ self.old) × (ledger.new ≡ ledger.old) ×
+            (w.new ≡ w.old) × (out.new ≡ out.old) × IfSome found
+            (WasReadInPlace (moof_at boxes.now.moof.now at) (known self.old.tracks)))) }
+        ensures failed { result ≡ Err Untaken.WriteFailed → HasEnded (change (sent W.contents W.has_failed
+            w.old w.new) out.old out.new ledger.old ledger.new self.old.counter.tally self.new.counter.tally)
+            self.old self.new input.now Stop.Write }
     {
-        match self.carried.operation {
-            Operation::List(Command::Check) => {}
-            _ => return Err(None),
-        }
+        let command = match self.carried.operation {
+            Operation::Split(_) | Operation::List(Command::Samples) => {
+                return Err(Untaken::GivenUp(None));
+            }
+            Operation::List(command) => command,
+        };
         if self.skips > 0 {
             self.skips = self.skips.saturating_sub(boxes.moof.len() as u64);
-            return Err(None);
+            return Err(Untaken::GivenUp(None));
         }
-        match check_fragment(at, boxes, input, &mut self.carried, ledger) {
+        match list_fragment(command, at, boxes, input, &mut self.carried, ledger, out, w) {
             Ok(size) => {
                 go_to(&mut self.state, at + size);
                 Ok(size as usize)
             }
-            Err(found) => {
+            Err(Untaken::GivenUp(found)) => {
                 self.skips = SKIPS.saturating_mul(boxes.moof.len() as u64);
-                Err(found)
+                Err(Untaken::GivenUp(found))
+            }
+            Err(Untaken::WriteFailed) => {
+                stop_at(&mut self.state);
+                self.give_back(ledger);
+                Err(Untaken::WriteFailed)
             }
         }
     }

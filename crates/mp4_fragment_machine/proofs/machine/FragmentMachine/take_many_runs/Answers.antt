@@ -1,5 +1,4 @@
 use Rattle.mp4_fragment_machine.proofs.machine.FragmentMachine.take_many_runs.Goals as goal
 
 pub returns-in-Ok : goal.returns-in-Ok
-returns-in-Ok g c =
-    c.in-Ok.ensures.taken (record { written = g.W.Sink.contents c.args.w.now; waiting = c.args.out.now; failed = g.W.Sink.has_failed c.args.w.now })
+returns-in-Ok g c = c.in-Ok.ensures.taken

@@ -1,7 +1,7 @@
 use Rattle.std.proofs.Common.{◌∙◌, ap, arith, sym}
 use Rattle.mp4_fragment_machine.proofs.CheckLemmas.{counted_check}
 use Rattle.mp4_fragment_machine.proofs.FragmentLemmas.{moof_whole}
-use Rattle.mp4_fragment_machine.proofs.in_place.many_runs.count_checked.Goals as goal
+use Rattle.mp4_fragment_machine.proofs.in_place.many_runs.count_in_place.Goals as goal
 
 pub begins_early-requires-clause-whole : goal.begins_early-requires-clause-whole
 begins_early-requires-clause-whole c = moof_whole c.args.at c.args.input.now c.args.boxes.now c.requires.are
@@ -24,9 +24,9 @@ returns-clause-counted c =
     let samples = rw c.in-Ok.ensures.moof at c.samples.ensures.samples in
     let same = c.from-samples.ensures ∙ samples in
     let more = rw c.in-Ok.ensures.moof at c.in-Some.ensures.rows_read in
-    counted_check c.args.at c.args.input.now c.args.boxes.now are c.args.counter.now c.count.new.counter c.from.result c.from-samples.result c.in-Some.following.bytes c.requires.counted (c.from.ensures ∙ same) same
+    counted_check c.args.at c.args.input.now c.args.boxes.now are c.args.command c.args.counter.now c.count.new.counter c.from-2.result c.from-samples.result c.in-Some.following.bytes c.requires.counted (c.from-2.ensures ∙ same) same
     (omega (arith, c.from-samples.ensures, c.samples.ensures.few)) less c.count.ensures.tally
-    (omega (arith, ap (λ k. k.rows) c.count.ensures.steps, more, c.in-Ok.ensures.ok, same))
+    (omega (arith, ap (λ k. k.rows) c.count.ensures.steps, more, c.in-Ok.ensures.ok, same, c.from.ensures, c.reads_for_lines.ensures))
 
 pub returns-in-Err-clause-found : goal.returns-in-Err-clause-found
 returns-in-Err-clause-found c =

@@ -1,0 +1,36 @@
+use Rattle.std.proofs.Common.{◌≡◌, ◌∙◌, ◌+◌, Err, ap, arith}
+use Rattle.mp4_fragment_machine.specs.States.{Progress}
+use Rattle.mp4_fragment_machine.specs.Implementation.Steps.{borrowed}
+use Rattle.mp4_fragment_machine.specs.declared.state.State.TheVariants as states
+use Rattle.mp4_fragment_machine.proofs.FeedLemmas.{fed}
+use Rattle.mp4_fragment_machine.proofs.machine.FragmentMachine.list_in_place.Goals as goal
+
+pub overflow_add-at : goal.overflow_add-at
+overflow_add-at g c =
+    let taken = c.in-Ok.ensures.taken in
+    omega (arith, taken.2.state.1)
+
+pub invariant_of-self-in-Ok : goal.invariant_of-self-in-Ok
+invariant_of-self-in-Ok g c =
+    let taken = c.in-Ok.ensures.taken in
+    rw c.go_to.ensures (taken.2.state, taken.2.counted)
+
+pub returns-in-Ok-clause-taken : goal.returns-in-Ok-clause-taken
+returns-in-Ok-clause-taken g c =
+    let state : c.self.inside.state ≡ states.Header c.args.at = ap (λ (p : Progress). p.state) c.self.view_is ∙ c.requires.found.state in
+    let new = c.list_fragment.new in
+    let l = borrowed g.W.Sink.contents g.W.Sink.has_failed c.args.w.now new.w c.args.out.now new.out c.args.ledger.now new.ledger in
+    rw (← c.self.view_is, state, c.go_to.ensures)
+    (fed l c.self.inside.carried new.carried (states.Header c.args.at) (states.Header (c.args.at + c.in-Ok.size)) c.args.input.now c.in-Ok.size c.in-Ok.ensures.taken)
+
+pub returns-in-Err-WriteFailed : goal.returns-in-Err-WriteFailed
+returns-in-Err-WriteFailed g c = record {
+  taken = tt;
+  given_up = tt;
+  failed = λ _.
+      let state : c.self.inside.state ≡ states.Header c.args.at = ap (λ (p : Progress). p.state) c.self.view_is ∙ c.requires.found.state in
+      let stopped = c.in-Err-WriteFailed.ensures.failed (ap Err c.in-Err-WriteFailed.field-0-is) in
+      let back = rw (c.stop_at.ensures, stopped.tracks) at c.give_back.ensures.back in
+      rw (← c.self.view_is, state, back, c.give_back.ensures.counted)
+      (record { step = stopped.step; spent = rw c.give_back.ensures.counted at c.give_back.ensures.spent; operation = rw c.give_back.ensures.task stopped.operation });
+}
