@@ -171,7 +171,8 @@ fn runs_in_order(
 /// # Errors
 ///
 /// Where it isn't counted: what was found in its moof, if that was read.
-#[inline(always)]
+// A call of its own, so that what it calls is in line in it, whatever the sinks of its callers.
+#[inline(never)]
 fn count_in_place<'a>(
     command: Command,
     at: u64,
@@ -198,7 +199,7 @@ fn count_in_place<'a>(
     ensures counted { OnOk result (IsCounted (operations.List command) counter.new
         (at + length boxes.now.moof.now + boxes.now.mdat.size) 0
         (moof_samples (moof_at boxes.now.moof.now at))) }
-    ensures none { OnErr result (ledger.new ≡ ledger.old) }
+    ensures none { OnErr result ((ledger.new ≡ ledger.old) × (counter.new ≡ counter.old)) }
     ensures found { IfErr result (λ l. IfSome l
         (WasReadInPlace (moof_at boxes.now.moof.now at) tracks.now)) }
     ensures unread { result ≡ Err None → MayBeReadInPlace (moof_at boxes.now.moof.now at) → ⊥ }
@@ -207,16 +208,16 @@ fn count_in_place<'a>(
     if !Moof::begins_early(boxes.moof, at) {
         return Err(None);
     }
-    let before = counter.steps.rows;
-    let moof = match Moof::read(boxes.moof, at, tracks, &mut counter.steps) {
+    let mut steps = Steps { rows: 0 };
+    let moof = match Moof::read(boxes.moof, at, tracks, &mut steps) {
         Ok(moof) => moof,
         Err(fault) => {
-            let rows = counter.steps.rows - before;
+            let rows = steps.rows;
             return Err(Some(InPlaceRead::of(rows as u32, Some(fault))));
         }
     };
     if !may_be_listed(&moof, ledger) {
-        let rows = counter.steps.rows - before;
+        let rows = steps.rows;
         return Err(Some(InPlaceRead::of(rows as u32, None)));
     }
     let mut read_rows = Steps { rows: 0 };
@@ -232,6 +233,7 @@ fn count_in_place<'a>(
         Err(_) => return Err(Some(InPlaceRead::of(read_rows.rows as u32, None))),
     }
     let samples = u64::from(moof.samples());
+    counter.steps.rows += steps.rows;
     counter.steps.rows += read_rows.rows;
     counter.steps.rows += u128::from(reads_for_lines(command, samples));
     counter.tally.inspected += u128::from(samples);
@@ -321,28 +323,18 @@ fn list_fragment<W: Sink>(
     let Some(list) = &mut carried.tracks else {
         unreachable!();
     };
-    let mut counter = carried.counter;
+    let counter = &mut carried.counter;
     let Counted { moof, ends } = match count_in_place(
-        command,
-        at,
-        boxes,
-        input,
-        list,
-        &mut counter,
-        ledger,
+        command, at, boxes, input, list, counter, ledger,
     ) {
         Ok(counted) => counted,
         Err(found) => return Err(Untaken::GivenUp(found)),
     };
     match put_lines(command, at, boxes, list, out, w) {
         Ok(()) => {}
-        Err(Failed) => {
-            carried.counter = counter;
-            return Err(Untaken::WriteFailed);
-        }
+        Err(Failed) => return Err(Untaken::WriteFailed),
     }
     moof.settle_by(&ends, list, &mut counter.steps);
-    carried.counter = counter;
     Ok(boxes.moof.len() as u64 + boxes.mdat.size)
 }
 
