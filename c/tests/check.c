@@ -13,7 +13,7 @@ int main(int argc, char **argv) {
     if (r.finish == FMP4_FAULT) {
         fmp4_rule_name(r.report.rule, name, sizeof name);
         for (int i = 0; i < 4; i++) type[i] = (char)(r.report.box_type >> (24 - 8 * i));
-        fprintf(stderr, "fmp4: %u %s in %s at %llu\n", (unsigned)r.report.rule, name, r.report.box_type ? type : "-", (unsigned long long)r.report.offset);
+        fprintf(stderr, "fmp4: %u %s in %s at %llu\n", (unsigned)r.report.rule, name, r.report.box_type ? type : "(none)", (unsigned long long)r.report.offset);
         return 2;
     }
     WANT(r.finish == FMP4_OK && r.fed == in.len);

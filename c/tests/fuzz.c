@@ -25,16 +25,16 @@ struct one {
 
 static struct bytes in, whole;
 
-/* Opens a stream that is listed, by lines or by records. */
+/* Opens a stream that is listed, by lines, by records or by its boxes. */
 static void list_one(struct one *s) {
-    uint32_t listing = (uint32_t)random_to(5);
+    uint32_t listing = (uint32_t)random_to(6);
     size_t room = random_to(3) ? 1u << 20 : random_to(500);
     uint64_t limit = random_to(3) ? 64u << 20 : random_to(3000);
     int was_open = s->state != NEW && s->state != CLOSED;
     uint32_t answer = fmp4_list_open(&s->stream, listing, limit, room);
     if (was_open) { WANT(answer == FMP4_IS_OPEN); return; }
     if (room == 0) { WANT(answer == FMP4_BAD_ROOM); return; }
-    if (listing < 1 || listing > 3) { WANT(answer == FMP4_BAD_LISTING); return; }
+    if (listing < 1 || listing > 4) { WANT(answer == FMP4_BAD_LISTING); return; }
     if (room > limit) { WANT(answer == FMP4_OVER_LIMIT); return; }
     WANT(answer == FMP4_OK);
     s->state = OPEN;

@@ -47,10 +47,10 @@ static void none_opens(struct fmp4_stream *s, uint32_t answer) {
         WANT(fmp4_check_open_as(s, layouts[i], 1 << 20) == FMP4_BAD_LAYOUT);
         WANT(fmp4_list_open_as(s, layouts[i], FMP4_SAMPLES, 1 << 20, 4096) == FMP4_BAD_LAYOUT);
     }
-    WANT(fmp4_list_open(s, 0, 1 << 20, 4096) == FMP4_BAD_LISTING && fmp4_list_open(s, 4, 1 << 20, 4096) == FMP4_BAD_LISTING);
+    WANT(fmp4_list_open(s, 0, 1 << 20, 4096) == FMP4_BAD_LISTING && fmp4_list_open(s, 5, 1 << 20, 4096) == FMP4_BAD_LISTING);
     WANT(fmp4_list_open(s, UINT32_MAX, 1 << 20, 4096) == FMP4_BAD_LISTING);
     WANT(fmp4_list_open(s, FMP4_RECORDS, 1 << 20, 0) == FMP4_BAD_ROOM);
-    WANT(fmp4_list_open(s, FMP4_FRAGMENTS, 4095, 4096) == FMP4_OVER_LIMIT);
+    WANT(fmp4_list_open(s, FMP4_FRAGMENTS, 4095, 4096) == FMP4_OVER_LIMIT && fmp4_list_open(s, FMP4_BOXES, 4095, 4096) == FMP4_OVER_LIMIT);
     all_answer(s, answer);
 }
 

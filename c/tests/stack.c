@@ -1,4 +1,4 @@
-/* stack < STREAM: checks and cuts a stream in threads that have a stack of 256 KiB, in which all calls are made. An
+/* stack < STREAM: checks, lists and cuts a stream in threads that have a stack of 256 KiB, in which all calls are made. An
  * overflow ends the test by a signal; what a call answers is compared with that of the first thread's. */
 #include "tests.h"
 #include <pthread.h>
@@ -8,7 +8,7 @@ static struct bytes in;
 
 /* Counts what is taken in place of keeping it, since a hostile stream may have a hundred times its bytes of output. */
 struct job {
-    uint32_t samples, flags, answer, finish;
+    uint32_t samples, flags, listing, answer, finish, unused;
     uint64_t written;
     struct fmp4_report report;
 };
@@ -19,8 +19,9 @@ static void *work(void *it) {
     unsigned char *out = calloc(1 << 20, 1);
     size_t n = 0, got = 0, at = 0;
     WANT(out);
-    job->answer = job->samples ? fmp4_split_open(&stream, job->samples, 0, job->flags, 512u << 20, 64u << 20)
-                               : fmp4_check_open(&stream, 512u << 20);
+    job->answer = job->listing   ? fmp4_list_open(&stream, job->listing, 512u << 20, 64u << 20)
+                  : job->samples ? fmp4_split_open(&stream, job->samples, 0, job->flags, 512u << 20, 64u << 20)
+                                 : fmp4_check_open(&stream, 512u << 20);
     while (job->answer <= FMP4_FULL && at < in.len) {
         job->answer = fmp4_feed(&stream, in.at + at, in.len - at < 1 << 20 ? in.len - at : 1 << 20, &n);
         at += n;
@@ -38,7 +39,7 @@ static void *work(void *it) {
 
 int main(void) {
     in = read_all(stdin);
-    static const struct job ways[] = {{.samples = 0}, {.samples = 1}, {.samples = 7, .flags = FMP4_INDEX | FMP4_SYNC}};
+    static const struct job ways[] = {{.samples = 0}, {.listing = FMP4_BOXES}, {.samples = 1}, {.samples = 7, .flags = FMP4_INDEX | FMP4_SYNC}};
     pthread_attr_t attr;
     pthread_t thread;
     WANT(pthread_attr_init(&attr) == 0 && pthread_attr_setstacksize(&attr, STACK) == 0);

@@ -1,6 +1,7 @@
 pub mod Values
 pub mod Glue
 pub mod AheadLemmas
+pub mod TaskLemmas
 pub mod HoldLemmas
 pub mod Sendable
 pub mod OpenLemmas

@@ -8,16 +8,22 @@ use denote.Struct.Declared.{fields, shape}
 use Rattle.std.proofs.Crossing.{crosses}
 use Rattle.mp4_ledger.specs.contracts.ledger.Ledger as ledger
 use Rattle.mp4_machine.specs.contracts.block.Block as block
+use Rattle.mp4_boxes.specs.contracts.machine.BoxMachine as box_machine
+use Rattle.mp4_boxes.specs.contracts.state.State as box_state
 use Rattle.mp4_fragment_machine.specs.contracts.machine.FragmentMachine as machine
 use Rattle.mp4_fragment_machine.specs.contracts.state.Recutting as recutting
 use Rattle.mp4_fragment_machine.specs.contracts.state.Carried as carried
 use Rattle.mp4_fragment_machine.specs.contracts.state.State as state
 use Rattle.mp4_recut.specs.contracts.operation.Operation as operation
 use Rattle.mp4_machine.specs.contracts.stop.Stop as stop
+use Rattle.mp4_stream.specs.contracts.box_feeder.BoxFeeder as box_feeder
+use Rattle.mp4_stream.specs.contracts.box_feeder.BoxFeeder.TheInside as box_feeder_inside
 use Rattle.mp4_stream.specs.contracts.feeder.Feeder as feeder
 use Rattle.mp4_stream.specs.contracts.feeder.Feeder.TheInside as feeder_inside
 use Rattle.fmp4_c.specs.contracts.output.Output as output
 use Rattle.fmp4_c.specs.contracts.report.Report as report
+use Rattle.fmp4_c.specs.contracts.task.Task as task
+use Rattle.fmp4_c.specs.contracts.task_feeder.TaskFeeder as task_feeder
 use Rattle.fmp4_c.specs.contracts.engine.Engine as engine
 
 ledger_send : IsSend ledger.the_row
@@ -68,5 +74,31 @@ feeder_inside_send = recorded_send feeder_inside.the_field.row _ _ feeder_inside
 feeder_send : IsSend feeder.the_row
 feeder_send = view_send feeder_inside.the_row _ _ _ _ feeder_inside_send
 
+-- the same of a listing of boxes
+box_state_variants : EachSend (variants.rowss (box_state.the_type).parts)
+box_state_variants = ((search (sendable, crosses) depth 40 fits 50000, tt), ((search (sendable, crosses) depth 40 fits 50000, tt), ((search (sendable, crosses) depth 40 fits 50000, tt), tt)))
+
+box_state_send : IsSend (Enum (variants.shape box_state.the_type))
+box_state_send = enum_send (variants.shape box_state.the_type) box_state_variants
+
+box_machine_send : IsSend box_machine.the_row
+box_machine_send = search (sendable, crosses, box_state_send) depth 40 fits 50000
+
+box_feeder_fields : AllSend (fields box_feeder_inside.the_type)
+box_feeder_fields = (search (sendable, box_machine_send, block_send, stop_send) depth 40 fits 50000, tt)
+
+box_feeder_inside_send : IsSend box_feeder_inside.the_row
+box_feeder_inside_send = recorded_send box_feeder_inside.the_field.row _ _ box_feeder_inside.the_type.to_one (struct_send (shape box_feeder_inside.the_type) box_feeder_fields)
+
+box_feeder_send : IsSend box_feeder.the_row
+box_feeder_send = view_send box_feeder_inside.the_row _ _ _ _ box_feeder_inside_send
+
+-- by the task
+task_send : IsSend (Enum (variants.shape task.the_type))
+task_send = enum_send (variants.shape task.the_type) ((operation_send, tt), (tt, tt))
+
+task_feeder_send : IsSend (Enum (variants.shape task_feeder.the_type))
+task_feeder_send = enum_send (variants.shape task_feeder.the_type) ((feeder_send, tt), ((box_feeder_send, tt), tt))
+
 pub engine_send : IsSend engine.the_row
-engine_send = search (sendable, ledger_send, feeder_send, output_send, report_send, operation_send) depth 40 fits 50000
+engine_send = search (sendable, ledger_send, task_feeder_send, output_send, report_send, task_send) depth 40 fits 50000

@@ -1,10 +1,8 @@
 -- What C requests, and what a call does to the stream of a handle.
 use Rattle.std.specs.Prelude.{◌≡◌, if◌then◌else◌, ℕ, ◌+◌, ◌-◌, ◌/◌, ◌%◌, ◌^◌, ◌<◌, ◌≤◌, eqb, List, [], ◌∷◌, ◌++◌, length, take, drop, min, Option, None, Some, Result, Ok, Err}
-use Rattle.mp4_grammar.specs.declared.command.Command.{Command}
 use Rattle.mp4_grammar.specs.declared.command.Command.TheVariants.{Samples, Fragments, Records, Check}
 use Rattle.mp4_pieces.specs.Allowed.{most_in_piece}
 use Rattle.mp4_pieces.specs.declared.cut.Cut.{Cut}
-use Rattle.mp4_recut.specs.declared.operation.Operation.{Operation}
 use Rattle.mp4_recut.specs.declared.operation.Operation.TheVariants as operations
 use Rattle.fmp4_c.specs.Answers.{number_of}
 use Rattle.fmp4_c.specs.Engines.{ClaimsWithin, Fed, Finished, Holds, Run, Stopped}
@@ -13,6 +11,8 @@ use Rattle.fmp4_c.specs.declared.answer.Answer.{Answer}
 use Rattle.fmp4_c.specs.declared.answer.Answer.TheVariants.{Done, Full, Fault, NoRoom, OverLimit, NoMemory, NoRecord, NotOpen, Closed, IsOpen, Ended, BadSamples, BadBytes, BadFlags, BadRoom, BadLayout, BadListing}
 use Rattle.fmp4_c.specs.declared.asked.Asked.{Asked}
 use Rattle.fmp4_c.specs.declared.report.Report.{Report}
+use Rattle.fmp4_c.specs.declared.task.Task.{Task}
+use Rattle.fmp4_c.specs.declared.task.Task.TheVariants as tasks
 
 -- ---- what C requests
 
@@ -65,35 +65,39 @@ IsOutOfRange layout samples bytes flags room BadListing = ⊥
 pub record IsSplitBy (samples bytes flags limit room : ℕ) (asked : Asked) : Type 0 where
   pub cut : Cut
   pub by : IsCutBy samples bytes flags cut
-  pub operation : asked.operation ≡ operations.Split cut
+  pub task : asked.task ≡ tasks.Fragments (operations.Split cut)
   pub takes : asked.limit ≡ limit
   pub waits : asked.room ≡ room
   pub share : asked.share ≡ share_of flags
 
--- the numbers of the listings
-abbrev pub listing_number : Command → ℕ
-listing_number Check = 0
-listing_number Samples = 1
-listing_number Fragments = 2
-listing_number Records = 3
+-- the numbers of the listings, 0 for what is none
+abbrev pub listing_number : Task → ℕ
+listing_number (tasks.Fragments (operations.List Check)) = 0
+listing_number (tasks.Fragments (operations.List Samples)) = 1
+listing_number (tasks.Fragments (operations.List Fragments)) = 2
+listing_number (tasks.Fragments (operations.List Records)) = 3
+listing_number (tasks.Fragments (operations.Split cut)) = 0
+listing_number tasks.Boxes = 4
 
 -- which share of the free room a feed takes of the input: a byte can be a sample, which has a line
-abbrev pub share_of_listing : Command → ℕ
-share_of_listing Check = 0
-share_of_listing Samples = 512
-share_of_listing Fragments = 128
-share_of_listing Records = 128
+abbrev pub share_of_listing : Task → ℕ
+share_of_listing (tasks.Fragments (operations.List Check)) = 0
+share_of_listing (tasks.Fragments (operations.List Samples)) = 512
+share_of_listing (tasks.Fragments (operations.List Fragments)) = 128
+share_of_listing (tasks.Fragments (operations.List Records)) = 128
+share_of_listing (tasks.Fragments (operations.Split cut)) = 128
+share_of_listing tasks.Boxes = 128
 
 -- the listings that are in range
 pub record IsListing (layout listing room : ℕ) : Type 0 where
   pub sizes : layout ≡ header_layout
   pub some : 1 ≤ listing
-  pub most : listing ≤ 3
+  pub most : listing ≤ 4
   pub holds : 1 ≤ room
 
 -- why another is refused
 abbrev pub IsNoListing : (layout listing room : ℕ) → Answer → Type 0
-IsNoListing layout listing room BadListing = (1 ≤ listing) × (listing ≤ 3) → ⊥
+IsNoListing layout listing room BadListing = (1 ≤ listing) × (listing ≤ 4) → ⊥
 IsNoListing layout listing room BadRoom = room ≡ 0
 IsNoListing layout listing room BadLayout = layout ≡ header_layout → ⊥
 IsNoListing layout listing room Done = ⊥
@@ -113,12 +117,10 @@ IsNoListing layout listing room BadFlags = ⊥
 
 -- these numbers open a stream that is listed so
 pub record IsListedBy (listing limit room : ℕ) (asked : Asked) : Type 0 where
-  pub command : Command
-  pub number : listing_number command ≡ listing
-  pub operation : asked.operation ≡ operations.List command
+  pub number : listing_number asked.task ≡ listing
   pub takes : asked.limit ≡ limit
   pub waits : asked.room ≡ room
-  pub share : asked.share ≡ share_of_listing command
+  pub share : asked.share ≡ share_of_listing asked.task
 
 -- ---- opening a stream
 
@@ -126,11 +128,11 @@ pub record IsListedBy (listing limit room : ℕ) (asked : Asked) : Type 0 where
 pub record IsOpened (asked : Asked) (held : Option Run) : Type 0 where
   pub run : Run
   pub is : held ≡ Some run
-  pub holds : Holds asked.operation [] [] run
+  pub holds : Holds asked.task [] [] run
   pub waiting : run.waiting ≡ empty asked.room
   pub limit : run.account.limit + asked.room ≡ asked.limit
   pub share : run.share ≡ asked.share
-  pub operation : run.operation ≡ asked.operation
+  pub task : run.task ≡ asked.task
 
 -- the answer of an open for this request
 abbrev pub Opens : Asked → Answer → Option Run → Type 0
@@ -159,7 +161,7 @@ OpensOr (Err out) answer held = (answer ≡ out) × (held ≡ None)
 
 -- a check has no output, and takes inputs as a whole
 abbrev pub checked_by : ℕ → Asked
-checked_by limit = record { operation = operations.List Check; limit = limit; room = 0; share = 0 }
+checked_by limit = record { task = tasks.Fragments (operations.List Check); limit = limit; room = 0; share = 0 }
 
 -- the answer to C for a cut: the request is in range, or the answer has the number of what isn't
 pub data SplitOpens (layout samples bytes flags limit room : ℕ) (answer : Answer) (held : Option Run) : Type 0 where
@@ -179,24 +181,24 @@ pub data ListOpens (layout listing limit room : ℕ) (answer : Answer) (held : O
 -- ---- the stream of a handle
 
 -- the open stream holds so
-abbrev pub HoldsIn : Operation → (b given : List ℕ) → Option Run → Type 0
-HoldsIn operation b given held = (r : Run) × (held ≡ Some r) × Holds operation b given r
+abbrev pub HoldsIn : Task → (b given : List ℕ) → Option Run → Type 0
+HoldsIn task b given held = (r : Run) × (held ≡ Some r) × Holds task b given r
 
 -- or it has stopped so
-abbrev pub StoppedIn : Operation → (b given : List ℕ) → Answer → Option Run → Type 0
-StoppedIn operation b given answer held = (r : Run) × (held ≡ Some r) × Stopped operation b given answer r
+abbrev pub StoppedIn : Task → (b given : List ℕ) → Answer → Option Run → Type 0
+StoppedIn task b given answer held = (r : Run) × (held ≡ Some r) × Stopped task b given answer r
 
 -- the open stream never had more claimed than the largest boxes request
-abbrev pub ClaimsIn : Operation → List ℕ → Option Run → Type 0
-ClaimsIn operation b held = (r : Run) × (held ≡ Some r) × ClaimsWithin operation b r.feeding
+abbrev pub ClaimsIn : Task → List ℕ → Option Run → Type 0
+ClaimsIn task b held = (r : Run) × (held ≡ Some r) × ClaimsWithin task b r.feeding
 
 -- the number that a feed returned
-abbrev pub FedIn : Operation → (b given : List ℕ) → (number : ℕ) → Option Run → Type 0
-FedIn operation b given number held = (answer : Answer) × (number ≡ number_of answer) × (r : Run) × (held ≡ Some r) × Fed operation b given answer r
+abbrev pub FedIn : Task → (b given : List ℕ) → (number : ℕ) → Option Run → Type 0
+FedIn task b given number held = (answer : Answer) × (number ≡ number_of answer) × (r : Run) × (held ≡ Some r) × Fed task b given answer r
 
 -- the number that a finish returned
-abbrev pub FinishedIn : Operation → (b : List ℕ) → (number : ℕ) → Report → Type 0
-FinishedIn operation b number report = (answer : Answer) × (number ≡ number_of answer) × Finished operation b answer report
+abbrev pub FinishedIn : Task → (b : List ℕ) → (number : ℕ) → Report → Type 0
+FinishedIn task b number report = (answer : Answer) × (number ≡ number_of answer) × Finished task b answer report
 
 -- ---- texts for C
 

@@ -1,4 +1,5 @@
 pub mod PendingOutput
+pub mod Tasks
 pub mod Answers
 pub mod Engines
 pub mod Calls

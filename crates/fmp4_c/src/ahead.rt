@@ -3,12 +3,13 @@
 ghost use Rattle.std.specs.Prelude.{◌≡◌, ℕ, ◌+◌, ◌<◌, ◌≤◌, List, [], ◌∷◌, ◌++◌, length, take, Some, None, true, false, IsTrue, IfErr, OnErr, OnOk, IsErrOf};
 ghost use Rattle.mp4_machine.specs.Fed.{borrowed};
 ghost use Rattle.mp4_machine.specs.declared.stop.Stop as stops;
-ghost use Rattle.mp4_stream.specs.Feeders.{Feeds, IsAfter, held_by};
+ghost use Rattle.fmp4_c.specs.Tasks.{Feeds, IsAfter, fragments_in, held_by, stop_of, task_of};
 ghost use Rattle.fmp4_c.specs.PendingOutput.{ahead, ahead_sent, empty, is_full};
 
 use crate::output::Output;
+use crate::task_feeder::TaskFeeder;
 use mp4_ends::{Failed, Sink};
-use mp4_stream::{Feeder, Ledger, Stop};
+use mp4_stream::{Ledger, Stop};
 
 /// A buffer that is filled up to a place, and the room for what doesn't fit it.
 #[derive(Drop)]
@@ -100,9 +101,9 @@ impl<'a> Sink for Ahead<'a> {
 ///
 /// # Errors
 ///
-/// As [`Feeder::feed`].
+/// As [`TaskFeeder::feed`].
 fn feed_through(
-    feeder: &mut Feeder,
+    feeder: &mut TaskFeeder,
     ledger: &mut Ledger,
     input: &[u8],
     w: &mut Ahead<'_>,
@@ -112,15 +113,15 @@ fn feed_through(
         w.new.buffer.ghost_name ≡ w.old.buffer.ghost_name }
     ensures same_rest { (b : List ℕ) → IsAfter feeder.old b →
         w.new.rest.ghost_name ≡ w.old.rest.ghost_name }
-    ensures full { feeder.old.stop ≡ None → IsErrOf result Stop.Write →
+    ensures full { stop_of feeder.old ≡ None → IsErrOf result Stop.Write →
         is_full w.new.at (length w.new.buffer.now) w.new.rest.now.failed ≡ true }
     ensures feeds { (b : List ℕ) → IsAfter feeder.old b → Feeds b input.now feeder.old feeder.new
         (borrowed (ahead_sent w.old.buffer.ghost_name w.old.rest.ghost_name w.old.at w.new.at
         w.old.buffer.now w.new.buffer.now w.old.rest.now w.new.rest.now)
-        feeder.old.fragments feeder.new.fragments ledger.old ledger.new) result }
-    ensures operation { feeder.new.operation ≡ feeder.old.operation }
-    ensures runs { OnOk result (feeder.new.stop ≡ None) }
-    ensures stops { IfErr result (λ e. feeder.new.stop ≡ Some e) }
+        (fragments_in feeder.old) (fragments_in feeder.new) ledger.old ledger.new) result }
+    ensures task { task_of feeder.new ≡ task_of feeder.old }
+    ensures runs { OnOk result (stop_of feeder.new ≡ None) }
+    ensures stops { IfErr result (λ e. stop_of feeder.new ≡ Some e) }
     ensures spent { OnErr result (held_by feeder.new ≡ 0) }
     ensures empty { input.now ≡ [] → feeder.new ≡ feeder.old }
     ensures live { ledger.new.live + held_by feeder.old ≡ ledger.old.live + held_by feeder.new }
@@ -132,7 +133,7 @@ fn feed_through(
 
 /// Feeds a Feeder. Its output goes to a buffer from `at` on, and waits where that is full.
 pub(crate) fn feed_ahead(
-    feeder: &mut Feeder,
+    feeder: &mut TaskFeeder,
     ledger: &mut Ledger,
     input: &[u8],
     buffer: &mut [u8],
@@ -143,10 +144,10 @@ pub(crate) fn feed_ahead(
     ensures feeds { (b : List ℕ) → IsAfter feeder.old b → (x : ℕ) × (y : ℕ) ×
         Feeds b input.now feeder.old feeder.new
         (borrowed (ahead_sent x y at result.at buffer.old buffer.new rest.old rest.new)
-        feeder.old.fragments feeder.new.fragments ledger.old ledger.new) result.result }
-    ensures operation { feeder.new.operation ≡ feeder.old.operation }
-    ensures runs { OnOk result.result (feeder.new.stop ≡ None) }
-    ensures stops { IfErr result.result (λ e. feeder.new.stop ≡ Some e) }
+        (fragments_in feeder.old) (fragments_in feeder.new) ledger.old ledger.new) result.result }
+    ensures task { task_of feeder.new ≡ task_of feeder.old }
+    ensures runs { OnOk result.result (stop_of feeder.new ≡ None) }
+    ensures stops { IfErr result.result (λ e. stop_of feeder.new ≡ Some e) }
     ensures spent { OnErr result.result (held_by feeder.new ≡ 0) }
     ensures empty { input.now ≡ [] → feeder.new ≡ feeder.old }
     ensures live { ledger.new.live + held_by feeder.old ≡ ledger.old.live + held_by feeder.new }

@@ -4,6 +4,7 @@ ghost use Rattle.std.specs.Prelude.{◌≡◌, ℕ, ◌≤◌, IfErr, IfNone, If
 ghost use Rattle.fmp4_c.specs.Calls.{IsCutBy, IsInRange, IsListedBy, IsListing, IsNoListing, IsOutOfRange, IsSplitBy, checked_by, header_layout, listing_number, share_of, share_of_listing};
 
 use crate::answer::Answer;
+use crate::task::Task;
 use mp4_pieces::MOST_IN_PIECE;
 use mp4_stream::{Command, Cut, Operation};
 
@@ -26,8 +27,8 @@ const SHARE_WITH_INDEX: usize = 512;
 /// What a stream is opened for.
 #[derive(Clone, Copy)]
 pub struct Asked {
-    /// The operation on it.
-    pub operation: Operation,
+    /// What is done with it.
+    pub task: Task,
     /// The most bytes that it may take, with the room.
     pub limit: u64,
     /// How many bytes of output may wait.
@@ -63,7 +64,7 @@ impl Asked {
         }
         match cut_by(samples, bytes, flags) {
             Ok(cut) => Ok(Asked {
-                operation: Operation::Split(cut),
+                task: Task::Fragments(Operation::Split(cut)),
                 limit,
                 room,
                 share: share_by(flags),
@@ -72,7 +73,8 @@ impl Asked {
         }
     }
 
-    /// That it is listed: 1 for a line a sample, 2 for a line a track fragment, 3 for records of these.
+    /// That it is listed: 1 for a line a sample, 2 for a line a track fragment, 3 for records of these, 4 for a line a
+    /// box.
     ///
     /// # Errors
     ///
@@ -89,11 +91,11 @@ impl Asked {
             return Err(Answer::BadRoom);
         }
         match listing_by(listing) {
-            Some(command) => Ok(Asked {
-                operation: Operation::List(command),
+            Some(task) => Ok(Asked {
+                task,
                 limit,
                 room,
-                share: share_of_listing(command),
+                share: share_of_listing(task),
             }),
             None => Err(Answer::BadListing),
         }
@@ -112,7 +114,7 @@ impl Asked {
             return Err(Answer::BadLayout);
         }
         Ok(Asked {
-            operation: Operation::List(Command::Check),
+            task: Task::Fragments(Operation::List(Command::Check)),
             limit,
             room: 0,
             share: 0,
@@ -121,26 +123,28 @@ impl Asked {
 }
 
 /// The listing with this number.
-fn listing_by(listing: u32) -> Option<Command>
-    ensures some { IfSome result (λ c. (listing_number c ≡ listing) × (1 ≤ listing) × (listing ≤ 3)) }
-    ensures none { IfNone result ((1 ≤ listing) × (listing ≤ 3) → ⊥) }
+fn listing_by(listing: u32) -> Option<Task>
+    ensures some { IfSome result (λ task. (listing_number task ≡ listing) × (1 ≤ listing) × (listing ≤ 4)) }
+    ensures none { IfNone result ((1 ≤ listing) × (listing ≤ 4) → ⊥) }
 {
-    Some(match listing {
+    let command = match listing {
         1 => Command::Samples,
         2 => Command::Fragments,
         3 => Command::Records,
+        4 => return Some(Task::Boxes),
         _ => return None,
-    })
+    };
+    Some(Task::Fragments(Operation::List(command)))
 }
 
 /// Which share of what is free in the room is taken of the input of a listing.
-fn share_of_listing(command: Command) -> usize
-    ensures { result ≡ share_of_listing command }
+fn share_of_listing(task: Task) -> usize
+    ensures { result ≡ share_of_listing task }
 {
-    match command {
-        Command::Check => 0,
-        Command::Samples => SHARE_WITH_INDEX,
-        Command::Fragments | Command::Records => SHARE,
+    match task {
+        Task::Fragments(Operation::List(Command::Check)) => 0,
+        Task::Fragments(Operation::List(Command::Samples)) => SHARE_WITH_INDEX,
+        _ => SHARE,
     }
 }
 

@@ -2,26 +2,27 @@
 
 ghost use Rattle.std.specs.Prelude.{◌≡◌, ℕ, ◌+◌, ◌-◌, ◌*◌, ◌^◌, ◌<◌, ◌≤◌, ◌↔◌, List, [], ◌++◌, length, take, drop, min};
 ghost use Rattle.std.specs.Prelude.{None, Some, true, false, IfOk, IsErrOf, IsTrue};
-ghost use Rattle.mp4_stream.specs.Feeders.{Feeding};
 ghost use Rattle.mp4_grammar.specs.TrafRecords.{IsRecord, record_bytes, record_len, record_of};
-ghost use Rattle.mp4_grammar.specs.declared.command.Command.TheVariants.{Records};
-ghost use Rattle.mp4_recut.specs.declared.operation.Operation as operations;
-ghost use Rattle.mp4_recut.specs.declared.operation.Operation.TheVariants as variants;
 ghost use Rattle.mp4_machine.specs.declared.stop.Stop as stops;
 ghost use Rattle.fmp4_c.specs.Answers.{answer_to, number_of};
 ghost use Rattle.fmp4_c.specs.Calls.{IsOpened};
 ghost use Rattle.fmp4_c.specs.Engines.{ClaimsWithin, Fed, Finished, FitsIn, Holds, IsKept, IsPortion, IsReset, Stopped};
 ghost use Rattle.fmp4_c.specs.Engines.{after_take, held_in, limited_to, report_of, step_of};
+ghost use Rattle.fmp4_c.specs.Tasks.{record_listing, stop_of};
 ghost use Rattle.fmp4_c.specs.declared.answer.Answer as answers;
+ghost use Rattle.fmp4_c.specs.declared.task.Task.{Task};
+ghost use Rattle.fmp4_c.specs.declared.task_feeder.TaskFeeder.{TaskFeeder};
 
 use crate::ahead::{Passed, feed_ahead};
 use crate::answer::Answer;
 use crate::asked::Asked;
 use crate::output::Output;
 use crate::report::{Report, fault_in};
+use crate::task::Task;
+use crate::task_feeder::TaskFeeder;
 use mp4_grammar::{RECORD_BYTES, TrafRecord};
 use mp4_ledger::Refused;
-use mp4_stream::{Command, Feeder, Ledger, Operation};
+use mp4_stream::{Command, Ledger, Operation};
 use std::alloc::Global;
 use std::marker::Model;
 use std::mem::replace;
@@ -29,18 +30,18 @@ use std::mem::replace;
 /// A Feeder with the ledger that it claims from, until its stream ends, and its output.
 pub struct Engine {
     ledger: Ledger,
-    feeder: Option<Feeder>,
+    feeder: Option<TaskFeeder>,
     out: Output,
     /// Which share of what is free in the room is taken of the input at once; 0: the input as a whole.
     share: usize,
     /// What was reported at the end.
     reported: Report,
-    /// The operation on the stream, and on the next.
-    operation: Operation,
+    /// What is done with the stream, and with the next.
+    task: Task,
 }
 
 // A contract sees the account, the Feeder, what waits to be taken, the share, what was reported at the end, and the
-// operation.
+// task.
 impl Model for Engine {
     ghost use Rattle.std.specs.Prelude.{◌≡◌};
     ghost use Rattle.fmp4_c.specs.Engines.{Run, held_in};
@@ -53,7 +54,7 @@ impl Model for Engine {
       waiting = e.out;
       share = e.share;
       reported = e.reported;
-      operation = e.operation;
+      task = e.task;
     } };
 
     ghost invariant = { λ e. e.ledger.live ≡ held_in e.feeder };
@@ -96,11 +97,11 @@ impl Engine {
         match Output::new(alloc, asked.room) {
             Ok(out) => Ok(Engine {
                 ledger: Ledger::new(alloc, asked.limit - asked.room as u64),
-                feeder: Some(Feeder::with_operation(asked.operation)),
+                feeder: Some(TaskFeeder::new(asked.task)),
                 out,
                 share: asked.share,
                 reported: Report::none(),
-                operation: asked.operation,
+                task: asked.task,
             }),
             Err(_) => Err(Refused::Memory),
         }
@@ -126,22 +127,22 @@ impl Engine {
 
     /// Feeds the input of the stream, or the front of one. After a stop it returns the same, and takes nothing.
     pub fn feed(&mut self, input: &[u8]) -> Feed
-        ensures feeds { (operation : operations.Operation) → (b given : List ℕ) → Holds operation b given self.old →
-            Fed operation (b ++ take result.taken input.now) given result.answer self.new }
-        ensures portion { (p : Feeding) → self.old.feeding ≡ Some p → p.stop ≡ None →
+        ensures feeds { (task : Task) → (b given : List ℕ) → Holds task b given self.old →
+            Fed task (b ++ take result.taken input.now) given result.answer self.new }
+        ensures portion { (p : TaskFeeder) → self.old.feeding ≡ Some p → stop_of p ≡ None →
             IsPortion self.old input.now result.taken result.answer }
-        ensures stopped { (operation : operations.Operation) → (b given : List ℕ) → (a : answers.Answer) →
-            Stopped operation b given a self.old →
+        ensures stopped { (task : Task) → (b given : List ℕ) → (a : answers.Answer) →
+            Stopped task b given a self.old →
             (result ≡ record { taken = 0; answer = a }) × (self.new ≡ self.old) }
         ensures ended { self.old.feeding ≡ None →
             (result ≡ record { taken = 0; answer = Answer.Ended }) × (self.new ≡ self.old) }
-        ensures claims { (operation : operations.Operation) → (b given : List ℕ) → Holds operation b given self.old →
-            ClaimsWithin operation (b ++ take result.taken input.now) self.new.feeding }
-        ensures fits { (operation : operations.Operation) → (b given : List ℕ) → Holds operation b given self.old →
-            FitsIn operation (b ++ take result.taken input.now) self.old (number_of result.answer) }
-        ensures room { (operation : operations.Operation) → (b given : List ℕ) → Holds operation b given self.old →
+        ensures claims { (task : Task) → (b given : List ℕ) → Holds task b given self.old →
+            ClaimsWithin task (b ++ take result.taken input.now) self.new.feeding }
+        ensures fits { (task : Task) → (b given : List ℕ) → Holds task b given self.old →
+            FitsIn task (b ++ take result.taken input.now) self.old (number_of result.answer) }
+        ensures room { (task : Task) → (b given : List ℕ) → Holds task b given self.old →
             self.new.waiting.room ≡ self.old.waiting.room }
-        ensures no_room { (operation : operations.Operation) → (b given : List ℕ) → Holds operation b given self.old →
+        ensures no_room { (task : Task) → (b given : List ℕ) → Holds task b given self.old →
             number_of result.answer ≡ number_of Answer.NoRoom →
             length self.new.waiting.bytes ≡ self.new.waiting.room }
         ensures kept { IsKept self.old self.new }
@@ -182,27 +183,27 @@ impl Engine {
     /// Takes output from the front, then feeds the input of the stream, or the front of one, whose output follows in
     /// the buffer: what doesn't fit waits. After a stop it returns the same, and takes no input.
     pub fn feed_take(&mut self, input: &[u8], buffer: &mut [u8]) -> FeedTake
-        ensures feeds { (operation : operations.Operation) → (b given : List ℕ) → Holds operation b given self.old →
-            Fed operation (b ++ take result.taken input.now) (given ++ take result.given buffer.new)
+        ensures feeds { (task : Task) → (b given : List ℕ) → Holds task b given self.old →
+            Fed task (b ++ take result.taken input.now) (given ++ take result.given buffer.new)
             result.answer self.new }
-        ensures portion { (p : Feeding) → self.old.feeding ≡ Some p → p.stop ≡ None →
+        ensures portion { (p : TaskFeeder) → self.old.feeding ≡ Some p → stop_of p ≡ None →
             IsPortion (after_take (length buffer.old) self.old) input.now result.taken result.answer }
-        ensures stopped { (operation : operations.Operation) → (b given : List ℕ) → (a : answers.Answer) →
-            Stopped operation b given a self.old → (result.taken ≡ 0) × (result.answer ≡ a) ×
-            Stopped operation b (given ++ take result.given buffer.new) a self.new }
+        ensures stopped { (task : Task) → (b given : List ℕ) → (a : answers.Answer) →
+            Stopped task b given a self.old → (result.taken ≡ 0) × (result.answer ≡ a) ×
+            Stopped task b (given ++ take result.given buffer.new) a self.new }
         ensures ended { self.old.feeding ≡ None →
             (result ≡ record { taken = 0; given = 0; answer = Answer.Ended }) × (self.new ≡ self.old) }
-        ensures claims { (operation : operations.Operation) → (b given : List ℕ) → Holds operation b given self.old →
-            ClaimsWithin operation (b ++ take result.taken input.now) self.new.feeding }
-        ensures fits { (operation : operations.Operation) → (b given : List ℕ) → Holds operation b given self.old →
-            FitsIn operation (b ++ take result.taken input.now) self.old (number_of result.answer) }
-        ensures room { (operation : operations.Operation) → (b given : List ℕ) → Holds operation b given self.old →
+        ensures claims { (task : Task) → (b given : List ℕ) → Holds task b given self.old →
+            ClaimsWithin task (b ++ take result.taken input.now) self.new.feeding }
+        ensures fits { (task : Task) → (b given : List ℕ) → Holds task b given self.old →
+            FitsIn task (b ++ take result.taken input.now) self.old (number_of result.answer) }
+        ensures room { (task : Task) → (b given : List ℕ) → Holds task b given self.old →
             self.new.waiting.room ≡ self.old.waiting.room }
-        ensures no_room { (operation : operations.Operation) → (b given : List ℕ) → Holds operation b given self.old →
+        ensures no_room { (task : Task) → (b given : List ℕ) → Holds task b given self.old →
             number_of result.answer ≡ number_of Answer.NoRoom →
             (result.given ≡ length buffer.new) × (length self.new.waiting.bytes ≡ self.new.waiting.room) }
         ensures within { result.given ≤ length buffer.new }
-        ensures most { (p : Feeding) → self.old.feeding ≡ Some p →
+        ensures most { (p : TaskFeeder) → self.old.feeding ≡ Some p →
             result.given < length buffer.new → self.new.waiting.bytes ≡ [] }
         ensures kept { IsKept self.old self.new }
     {
@@ -255,11 +256,11 @@ impl Engine {
 
     /// Takes output from the front: how many bytes.
     pub fn take(&mut self, out: &mut [u8]) -> usize
-        ensures holds { (operation : operations.Operation) → (b given : List ℕ) → Holds operation b given self.old →
-            Holds operation b (given ++ take result out.new) self.new }
-        ensures stopped { (operation : operations.Operation) → (b given : List ℕ) → (a : answers.Answer) →
-            Stopped operation b given a self.old →
-            Stopped operation b (given ++ take result out.new) a self.new }
+        ensures holds { (task : Task) → (b given : List ℕ) → Holds task b given self.old →
+            Holds task b (given ++ take result out.new) self.new }
+        ensures stopped { (task : Task) → (b given : List ℕ) → (a : answers.Answer) →
+            Stopped task b given a self.old →
+            Stopped task b (given ++ take result out.new) a self.new }
         ensures count { result ≡ min (length out.old) (length self.old.waiting.bytes) }
         ensures front { take result out.new ≡ take result self.old.waiting.bytes }
         ensures left { self.new.waiting.bytes ≡ drop result self.old.waiting.bytes }
@@ -267,7 +268,7 @@ impl Engine {
         ensures kept { (self.new.feeding ≡ self.old.feeding) ×
             (self.new.waiting.room ≡ self.old.waiting.room) ×
             (self.new.account ≡ self.old.account) × (self.new.share ≡ self.old.share) ×
-            (self.new.reported ≡ self.old.reported) × (self.new.operation ≡ self.old.operation) }
+            (self.new.reported ≡ self.old.reported) × (self.new.task ≡ self.old.task) }
     {
         self.out.take(out)
     }
@@ -275,28 +276,28 @@ impl Engine {
     /// Takes a record from the front of the output of a stream that is listed by records. Where none waits, and where
     /// the stream is another, nothing is taken.
     pub fn next_fragment(&mut self, fragment: &mut TrafRecord) -> Answer
-        ensures gives { self.old.operation ≡ variants.List Records → record_len ≤ length self.old.waiting.bytes →
+        ensures gives { self.old.task ≡ record_listing → record_len ≤ length self.old.waiting.bytes →
             (result ≡ Answer.Done) × (fragment.new ≡ record_of (take record_len self.old.waiting.bytes)) ×
             (self.new.waiting.bytes ≡ drop record_len self.old.waiting.bytes) }
-        ensures again { (t : TrafRecord) (rest : List ℕ) → IsRecord t → self.old.operation ≡ variants.List Records →
+        ensures again { (t : TrafRecord) (rest : List ℕ) → IsRecord t → self.old.task ≡ record_listing →
             self.old.waiting.bytes ≡ record_bytes t ++ rest → fragment.new ≡ t }
-        ensures holds { (operation : operations.Operation) → (b given : List ℕ) → Holds operation b given self.old →
-            self.old.operation ≡ variants.List Records → record_len ≤ length self.old.waiting.bytes →
-            Holds operation b (given ++ take record_len self.old.waiting.bytes) self.new }
-        ensures stopped { (operation : operations.Operation) → (b given : List ℕ) → (a : answers.Answer) →
-            Stopped operation b given a self.old → self.old.operation ≡ variants.List Records →
+        ensures holds { (task : Task) → (b given : List ℕ) → Holds task b given self.old →
+            self.old.task ≡ record_listing → record_len ≤ length self.old.waiting.bytes →
+            Holds task b (given ++ take record_len self.old.waiting.bytes) self.new }
+        ensures stopped { (task : Task) → (b given : List ℕ) → (a : answers.Answer) →
+            Stopped task b given a self.old → self.old.task ≡ record_listing →
             record_len ≤ length self.old.waiting.bytes →
-            Stopped operation b (given ++ take record_len self.old.waiting.bytes) a self.new }
-        ensures none { self.old.operation ≡ variants.List Records → length self.old.waiting.bytes < record_len →
+            Stopped task b (given ++ take record_len self.old.waiting.bytes) a self.new }
+        ensures none { self.old.task ≡ record_listing → length self.old.waiting.bytes < record_len →
             (result ≡ Answer.NoRecord) × (self.new ≡ self.old) × (fragment.new ≡ fragment.old) }
-        ensures other { (self.old.operation ≡ variants.List Records → ⊥) →
+        ensures other { (self.old.task ≡ record_listing → ⊥) →
             (result ≡ Answer.BadListing) × (self.new ≡ self.old) × (fragment.new ≡ fragment.old) }
         ensures kept { (self.new.feeding ≡ self.old.feeding) ×
             (self.new.waiting.room ≡ self.old.waiting.room) ×
             (self.new.account ≡ self.old.account) × (self.new.share ≡ self.old.share) ×
-            (self.new.reported ≡ self.old.reported) × (self.new.operation ≡ self.old.operation) }
+            (self.new.reported ≡ self.old.reported) × (self.new.task ≡ self.old.task) }
     {
-        if !lists_records(self.operation) {
+        if !lists_records(self.task) {
             return Answer::BadListing;
         }
         if self.out.len() < RECORD_BYTES {
@@ -318,7 +319,7 @@ impl Engine {
     /// Says what was counted so far, and for which fault the stream stopped, if it did; at its end, what was reported
     /// there.
     pub fn totals(&mut self, report: &mut Report) -> Answer
-        ensures reports { (p : Feeding) → self.old.feeding ≡ Some p →
+        ensures reports { (p : TaskFeeder) → self.old.feeding ≡ Some p →
             (result ≡ Answer.Done) × (report.new ≡ report_of p) }
         ensures ended { self.old.feeding ≡ None →
             (result ≡ Answer.Done) × (report.new ≡ self.old.reported) }
@@ -338,17 +339,17 @@ impl Engine {
 
     /// Ends the stream, and says what was counted, and the fault where it has one. What waits can still be taken.
     pub fn finish(&mut self, report: &mut Report) -> Answer
-        ensures finishes { (operation : operations.Operation) → (b given : List ℕ) → Holds operation b given self.old →
-            Finished operation b result report.new }
-        ensures stopped { (p : Feeding) → (e : stops.Stop) → self.old.feeding ≡ Some p →
-            p.stop ≡ Some e → (result ≡ answer_to e) × (report.new ≡ report_of p) }
+        ensures finishes { (task : Task) → (b given : List ℕ) → Holds task b given self.old →
+            Finished task b result report.new }
+        ensures stopped { (p : TaskFeeder) → (e : stops.Stop) → self.old.feeding ≡ Some p →
+            stop_of p ≡ Some e → (result ≡ answer_to e) × (report.new ≡ report_of p) }
         ensures ended { self.old.feeding ≡ None →
             (result ≡ Answer.Ended) × (report.new ≡ report.old) }
-        ensures reported { (p : Feeding) → self.old.feeding ≡ Some p → self.new.reported ≡ report.new }
+        ensures reported { (p : TaskFeeder) → self.old.feeding ≡ Some p → self.new.reported ≡ report.new }
         ensures reported_before { self.old.feeding ≡ None → self.new.reported ≡ self.old.reported }
         ensures waits { self.new.waiting ≡ self.old.waiting }
         ensures settings { (self.new.account.limit ≡ self.old.account.limit) ×
-            (self.new.share ≡ self.old.share) × (self.new.operation ≡ self.old.operation) }
+            (self.new.share ≡ self.old.share) × (self.new.task ≡ self.old.task) }
         ensures ends { self.new.feeding ≡ None }
         ensures back { self.new.account.live ≡ 0 }
     {
@@ -377,10 +378,10 @@ impl Engine {
     pub fn set_limit(&mut self, limit: u64) -> u64
         ensures takes { result ≡
             min (self.old.account.live + self.old.waiting.room) (2 ^ 64 - 1) }
-        ensures set { (p : Feeding) → self.old.feeding ≡ Some p → p.stop ≡ None →
+        ensures set { (p : TaskFeeder) → self.old.feeding ≡ Some p → stop_of p ≡ None →
             self.new ≡ limited_to limit self.old }
-        ensures stopped { (p : Feeding) → (e : stops.Stop) → self.old.feeding ≡ Some p →
-            p.stop ≡ Some e → self.new ≡ self.old }
+        ensures stopped { (p : TaskFeeder) → (e : stops.Stop) → self.old.feeding ≡ Some p →
+            stop_of p ≡ Some e → self.new ≡ self.old }
         ensures ended { self.old.feeding ≡ None → self.new ≡ self.old }
     {
         let room = self.out.room() as u64;
@@ -393,12 +394,12 @@ impl Engine {
         takes
     }
 
-    /// Begins another stream with the operation, the limit and the room that there are. The one so far is given up, and
+    /// Begins another stream with the task, the limit and the room that there are. The one so far is given up, and
     /// what waits of its output is dropped.
     pub fn reset(&mut self)
         ensures { IsReset self.old self.new }
     {
-        let next = Some(Feeder::with_operation(self.operation));
+        let next = Some(TaskFeeder::new(self.task));
         give_back(replace(&mut self.feeder, next), &mut self.ledger);
         self.out.clear();
     }
@@ -412,7 +413,7 @@ impl Drop for Engine {
             out: _,
             share: _,
             reported: _,
-            operation: _,
+            task: _,
         } = self;
         let mut ledger = ledger;
         give_back(feeder, &mut ledger);
@@ -430,13 +431,13 @@ fn step_by(share: usize, free: usize) -> usize
     (free / share).max(1)
 }
 
-/// Whether an operation lists fragments by records.
-fn lists_records(operation: Operation) -> bool
-    ensures yes { IsTrue result → operation ≡ variants.List Records }
-    ensures no { result ≡ false → operation ≡ variants.List Records → ⊥ }
+/// Whether fragments are listed by records.
+fn lists_records(task: Task) -> bool
+    ensures yes { IsTrue result → task ≡ record_listing }
+    ensures no { result ≡ false → task ≡ record_listing → ⊥ }
 {
-    match operation {
-        Operation::List(Command::Records) => true,
+    match task {
+        Task::Fragments(Operation::List(Command::Records)) => true,
         _ => false,
     }
 }
@@ -450,7 +451,7 @@ fn leaves_all(taken: usize, input: &[u8]) -> bool
 }
 
 /// Gives back all that a Feeder has claimed.
-fn give_back(feeder: Option<Feeder>, ledger: &mut Ledger)
+fn give_back(feeder: Option<TaskFeeder>, ledger: &mut Ledger)
     requires { ledger.old.live ≡ held_in feeder }
     ensures live { ledger.new.live ≡ 0 }
     ensures limit { ledger.new.limit ≡ ledger.old.limit }

@@ -1,13 +1,14 @@
 //! What C calls of a stream that is open.
 
 ghost use Rattle.std.specs.Prelude.{◌≡◌, ℕ, ◌<◌, ◌≤◌, List, [], ◌++◌, length, take, drop, min, None, Some, IfSome, IsSome};
-ghost use Rattle.mp4_stream.specs.Feeders.{Feeding};
-ghost use Rattle.mp4_recut.specs.declared.operation.Operation as operations;
 ghost use Rattle.mp4_machine.specs.declared.stop.Stop as stops;
 ghost use Rattle.fmp4_c.specs.Answers.{answer_to, at_rest, number_of, report_from};
 ghost use Rattle.fmp4_c.specs.Calls.{ClaimsIn, FedIn, FinishedIn, HoldsIn, StoppedIn};
 ghost use Rattle.fmp4_c.specs.Engines.{FitsIn, Holds, IsKept, IsPortion, Run, after_take, counted_in, report_of};
+ghost use Rattle.fmp4_c.specs.Tasks.{stop_of};
 ghost use Rattle.fmp4_c.specs.declared.answer.Answer as answers;
+ghost use Rattle.fmp4_c.specs.declared.task.Task.{Task};
+ghost use Rattle.fmp4_c.specs.declared.task_feeder.TaskFeeder.{TaskFeeder};
 
 use crate::answer::Answer;
 use crate::handle::Handle;
@@ -24,27 +25,27 @@ pub extern "C" fn fmp4_feed(
     input: &[u8],
     taken: &mut usize,
 ) -> u32
-    ensures feeds { (operation : operations.Operation) → (b given : List ℕ) →
-        HoldsIn operation b given stream.old.handle.held →
-        FedIn operation (b ++ take taken.new input.now) given result stream.new.handle.held }
-    ensures portion { (r : Run) → (p : Feeding) → stream.old.handle.held ≡ Some r →
-        r.feeding ≡ Some p → p.stop ≡ None → (answer : answers.Answer) ×
+    ensures feeds { (task : Task) → (b given : List ℕ) →
+        HoldsIn task b given stream.old.handle.held →
+        FedIn task (b ++ take taken.new input.now) given result stream.new.handle.held }
+    ensures portion { (r : Run) → (p : TaskFeeder) → stream.old.handle.held ≡ Some r →
+        r.feeding ≡ Some p → stop_of p ≡ None → (answer : answers.Answer) ×
         (result ≡ number_of answer) × IsPortion r input.now taken.new answer }
-    ensures stopped { (operation : operations.Operation) → (b given : List ℕ) → (a : answers.Answer) →
-        StoppedIn operation b given a stream.old.handle.held →
+    ensures stopped { (task : Task) → (b given : List ℕ) → (a : answers.Answer) →
+        StoppedIn task b given a stream.old.handle.held →
         (result ≡ number_of a) × (taken.new ≡ 0) ×
         (stream.new.handle.held ≡ stream.old.handle.held) }
-    ensures claims { (operation : operations.Operation) → (b given : List ℕ) →
-        HoldsIn operation b given stream.old.handle.held →
-        ClaimsIn operation (b ++ take taken.new input.now) stream.new.handle.held }
-    ensures fits { (operation : operations.Operation) → (b given : List ℕ) → (r : Run) →
-        stream.old.handle.held ≡ Some r → Holds operation b given r →
-        FitsIn operation (b ++ take taken.new input.now) r result }
-    ensures room { (operation : operations.Operation) → (b given : List ℕ) → (r : Run) →
-        stream.old.handle.held ≡ Some r → Holds operation b given r →
+    ensures claims { (task : Task) → (b given : List ℕ) →
+        HoldsIn task b given stream.old.handle.held →
+        ClaimsIn task (b ++ take taken.new input.now) stream.new.handle.held }
+    ensures fits { (task : Task) → (b given : List ℕ) → (r : Run) →
+        stream.old.handle.held ≡ Some r → Holds task b given r →
+        FitsIn task (b ++ take taken.new input.now) r result }
+    ensures room { (task : Task) → (b given : List ℕ) → (r : Run) →
+        stream.old.handle.held ≡ Some r → Holds task b given r →
         IfSome stream.new.handle.held (λ r'. r'.waiting.room ≡ r.waiting.room) }
-    ensures no_room { (operation : operations.Operation) → (b given : List ℕ) → (r : Run) →
-        stream.old.handle.held ≡ Some r → Holds operation b given r →
+    ensures no_room { (task : Task) → (b given : List ℕ) → (r : Run) →
+        stream.old.handle.held ≡ Some r → Holds task b given r →
         result ≡ number_of Answer.NoRoom →
         IfSome stream.new.handle.held (λ r'. length r'.waiting.bytes ≡ r'.waiting.room) }
     ensures open { (r : Run) → stream.old.handle.held ≡ Some r → IsSome stream.new.handle.held }
@@ -84,33 +85,33 @@ pub extern "C" fn fmp4_feed_take(
     out: &mut [u8],
     given: &mut usize,
 ) -> u32
-    ensures feeds { (operation : operations.Operation) → (b before : List ℕ) →
-        HoldsIn operation b before stream.old.handle.held →
-        FedIn operation (b ++ take taken.new input.now) (before ++ take given.new out.new) result
+    ensures feeds { (task : Task) → (b before : List ℕ) →
+        HoldsIn task b before stream.old.handle.held →
+        FedIn task (b ++ take taken.new input.now) (before ++ take given.new out.new) result
         stream.new.handle.held }
-    ensures portion { (r : Run) → (p : Feeding) → stream.old.handle.held ≡ Some r →
-        r.feeding ≡ Some p → p.stop ≡ None → (answer : answers.Answer) ×
+    ensures portion { (r : Run) → (p : TaskFeeder) → stream.old.handle.held ≡ Some r →
+        r.feeding ≡ Some p → stop_of p ≡ None → (answer : answers.Answer) ×
         (result ≡ number_of answer) ×
         IsPortion (after_take (length out.old) r) input.now taken.new answer }
-    ensures stopped { (operation : operations.Operation) → (b before : List ℕ) → (a : answers.Answer) →
-        StoppedIn operation b before a stream.old.handle.held →
+    ensures stopped { (task : Task) → (b before : List ℕ) → (a : answers.Answer) →
+        StoppedIn task b before a stream.old.handle.held →
         (result ≡ number_of a) × (taken.new ≡ 0) ×
-        StoppedIn operation b (before ++ take given.new out.new) a stream.new.handle.held }
-    ensures claims { (operation : operations.Operation) → (b before : List ℕ) →
-        HoldsIn operation b before stream.old.handle.held →
-        ClaimsIn operation (b ++ take taken.new input.now) stream.new.handle.held }
-    ensures fits { (operation : operations.Operation) → (b before : List ℕ) → (r : Run) →
-        stream.old.handle.held ≡ Some r → Holds operation b before r →
-        FitsIn operation (b ++ take taken.new input.now) r result }
-    ensures room { (operation : operations.Operation) → (b before : List ℕ) → (r : Run) →
-        stream.old.handle.held ≡ Some r → Holds operation b before r →
+        StoppedIn task b (before ++ take given.new out.new) a stream.new.handle.held }
+    ensures claims { (task : Task) → (b before : List ℕ) →
+        HoldsIn task b before stream.old.handle.held →
+        ClaimsIn task (b ++ take taken.new input.now) stream.new.handle.held }
+    ensures fits { (task : Task) → (b before : List ℕ) → (r : Run) →
+        stream.old.handle.held ≡ Some r → Holds task b before r →
+        FitsIn task (b ++ take taken.new input.now) r result }
+    ensures room { (task : Task) → (b before : List ℕ) → (r : Run) →
+        stream.old.handle.held ≡ Some r → Holds task b before r →
         IfSome stream.new.handle.held (λ r'. r'.waiting.room ≡ r.waiting.room) }
-    ensures no_room { (operation : operations.Operation) → (b before : List ℕ) → (r : Run) →
-        stream.old.handle.held ≡ Some r → Holds operation b before r →
+    ensures no_room { (task : Task) → (b before : List ℕ) → (r : Run) →
+        stream.old.handle.held ≡ Some r → Holds task b before r →
         result ≡ number_of Answer.NoRoom → (given.new ≡ length out.new) ×
         IfSome stream.new.handle.held (λ r'. length r'.waiting.bytes ≡ r'.waiting.room) }
     ensures within { given.new ≤ length out.new }
-    ensures most { (r : Run) → (p : Feeding) → stream.old.handle.held ≡ Some r → r.feeding ≡ Some p →
+    ensures most { (r : Run) → (p : TaskFeeder) → stream.old.handle.held ≡ Some r → r.feeding ≡ Some p →
         given.new < length out.new →
         IfSome stream.new.handle.held (λ r'. r'.waiting.bytes ≡ []) }
     ensures open { (r : Run) → stream.old.handle.held ≡ Some r → IsSome stream.new.handle.held }
@@ -149,12 +150,12 @@ pub extern "C" fn fmp4_take(
     out: &mut [u8],
     taken: &mut usize,
 ) -> u32
-    ensures holds { (operation : operations.Operation) → (b given : List ℕ) →
-        HoldsIn operation b given stream.old.handle.held →
-        HoldsIn operation b (given ++ take taken.new out.new) stream.new.handle.held }
-    ensures stopped { (operation : operations.Operation) → (b given : List ℕ) → (a : answers.Answer) →
-        StoppedIn operation b given a stream.old.handle.held →
-        StoppedIn operation b (given ++ take taken.new out.new) a stream.new.handle.held }
+    ensures holds { (task : Task) → (b given : List ℕ) →
+        HoldsIn task b given stream.old.handle.held →
+        HoldsIn task b (given ++ take taken.new out.new) stream.new.handle.held }
+    ensures stopped { (task : Task) → (b given : List ℕ) → (a : answers.Answer) →
+        StoppedIn task b given a stream.old.handle.held →
+        StoppedIn task b (given ++ take taken.new out.new) a stream.new.handle.held }
     ensures done { (r : Run) → stream.old.handle.held ≡ Some r → result ≡ number_of Answer.Done }
     ensures count { (r : Run) → stream.old.handle.held ≡ Some r →
         taken.new ≡ min (length out.old) (length r.waiting.bytes) }
@@ -167,7 +168,7 @@ pub extern "C" fn fmp4_take(
     ensures kept { (r : Run) → stream.old.handle.held ≡ Some r →
         IfSome stream.new.handle.held (λ r'. (r'.feeding ≡ r.feeding) ×
         (r'.waiting.room ≡ r.waiting.room) × (r'.account ≡ r.account) × (r'.share ≡ r.share) ×
-        (r'.reported ≡ r.reported) × (r'.operation ≡ r.operation)) }
+        (r'.reported ≡ r.reported) × (r'.task ≡ r.task)) }
     ensures closed { stream.old.handle.held ≡ None →
         (result ≡ number_of (at_rest stream.old.closed)) × (taken.new ≡ 0) ×
         (stream.new.handle.held ≡ None) }
@@ -214,10 +215,10 @@ pub extern "C" fn fmp4_pending(alloc: Global, stream: &mut Stream, count: &mut u
 /// there.
 #[unsafe(no_mangle)]
 pub extern "C" fn fmp4_totals(alloc: Global, stream: &mut Stream, report: &mut Report) -> u32
-    ensures reports { (r : Run) → (p : Feeding) → stream.old.handle.held ≡ Some r →
+    ensures reports { (r : Run) → (p : TaskFeeder) → stream.old.handle.held ≡ Some r →
         r.feeding ≡ Some p → (result ≡ number_of Answer.Done) × (report.new ≡ report_of p) }
-    ensures counts { (operation : operations.Operation) → (b given : List ℕ) →
-        HoldsIn operation b given stream.old.handle.held → report.new ≡ report_from (counted_in operation b) None }
+    ensures counts { (task : Task) → (b given : List ℕ) →
+        HoldsIn task b given stream.old.handle.held → report.new ≡ report_from (counted_in task b) None }
     ensures ended { (r : Run) → stream.old.handle.held ≡ Some r → r.feeding ≡ None →
         (result ≡ number_of Answer.Done) × (report.new ≡ r.reported) }
     ensures closed { stream.old.handle.held ≡ None →
@@ -239,14 +240,14 @@ pub extern "C" fn fmp4_totals(alloc: Global, stream: &mut Stream, report: &mut R
 /// Ends the stream, and says what was counted, and which rule it breaks, if it does. What waits can still be taken.
 #[unsafe(no_mangle)]
 pub extern "C" fn fmp4_finish(alloc: Global, stream: &mut Stream, report: &mut Report) -> u32
-    ensures finishes { (operation : operations.Operation) → (b given : List ℕ) →
-        HoldsIn operation b given stream.old.handle.held → FinishedIn operation b result report.new }
-    ensures stopped { (r : Run) → (p : Feeding) → (e : stops.Stop) →
-        stream.old.handle.held ≡ Some r → r.feeding ≡ Some p → p.stop ≡ Some e →
+    ensures finishes { (task : Task) → (b given : List ℕ) →
+        HoldsIn task b given stream.old.handle.held → FinishedIn task b result report.new }
+    ensures stopped { (r : Run) → (p : TaskFeeder) → (e : stops.Stop) →
+        stream.old.handle.held ≡ Some r → r.feeding ≡ Some p → stop_of p ≡ Some e →
         (result ≡ number_of (answer_to e)) × (report.new ≡ report_of p) }
     ensures ended { (r : Run) → stream.old.handle.held ≡ Some r → r.feeding ≡ None →
         (result ≡ number_of Answer.Ended) × (report.new ≡ report.old) }
-    ensures reported { (r : Run) → (p : Feeding) → stream.old.handle.held ≡ Some r →
+    ensures reported { (r : Run) → (p : TaskFeeder) → stream.old.handle.held ≡ Some r →
         r.feeding ≡ Some p → IfSome stream.new.handle.held (λ r'. r'.reported ≡ report.new) }
     ensures reported_before { (r : Run) → stream.old.handle.held ≡ Some r → r.feeding ≡ None →
         IfSome stream.new.handle.held (λ r'. r'.reported ≡ r.reported) }
@@ -254,7 +255,7 @@ pub extern "C" fn fmp4_finish(alloc: Global, stream: &mut Stream, report: &mut R
     ensures waits { (r : Run) → stream.old.handle.held ≡ Some r →
         IfSome stream.new.handle.held (λ r'. (r'.waiting ≡ r.waiting) × (r'.feeding ≡ None) ×
         (r'.account.live ≡ 0) × (r'.account.limit ≡ r.account.limit) ×
-        (r'.share ≡ r.share) × (r'.operation ≡ r.operation)) }
+        (r'.share ≡ r.share) × (r'.task ≡ r.task)) }
     ensures closed { stream.old.handle.held ≡ None →
         (result ≡ number_of (at_rest stream.old.closed)) × (report.new ≡ report.old) ×
         (stream.new.handle.held ≡ None) }

@@ -5,11 +5,13 @@
 //!   limit, and another stream; [`fragments`]: records of what is listed; [`names`]: those of the rules;
 //! - [`answer`]: the result of a call, as a number, and [`report`]: what was counted, and which rule is broken;
 //! - [`stream`]: what C keeps, with [`handle`]: the pointer in it, and [`engine`]: what that points to;
+//! - [`task`]: what is done with a stream, and [`task_feeder`]: what takes it for that;
 //! - [`output`]: what waits to be taken, and [`ahead`]: output that doesn't.
 //!
 //! The definitions: `specs/Engines.antt` (what an engine is after the bytes that it was fed, and what its calls do),
-//! `specs/Calls.antt` (the same of what C keeps, and what C asks for), `specs/Answers.antt` (numbers and reports),
-//! `specs/PendingOutput.antt` (what waits) and `specs/Handles.antt` (what a handle owns).
+//! `specs/Tasks.antt` (the same of what takes the bytes, for each task), `specs/Calls.antt` (the same of what C keeps,
+//! and what C asks for), `specs/Answers.antt` (numbers and reports), `specs/PendingOutput.antt` (what waits) and
+//! `specs/Handles.antt` (what a handle owns).
 #![tactic(auto)]
 
 mod ahead;
@@ -25,6 +27,8 @@ mod output;
 mod report;
 mod settings;
 mod stream;
+mod task;
+mod task_feeder;
 
 pub use answer::Answer;
 pub use asked::Asked;
@@ -39,3 +43,4 @@ pub use opening::{fmp4_check_open_as, fmp4_list_open_as, fmp4_split_open_as};
 pub use report::Report;
 pub use settings::{fmp4_reset, fmp4_set_limit};
 pub use stream::Stream;
+pub use task::Task;

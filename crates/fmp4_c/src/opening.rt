@@ -65,9 +65,9 @@ pub extern "C" fn fmp4_check_open_as(
     open(alloc, stream, Asked::check(layout, limit)).number()
 }
 
-/// Opens a stream that is listed: 1 for a line a sample, 2 for a line a track fragment, 3 for records of these. It
-/// takes at most `limit` bytes, `room` of them for the output that waits. `layout` says which sizes the structs have
-/// for the caller.
+/// Opens a stream that is listed: 1 for a line a sample, 2 for a line a track fragment, 3 for records of these, 4 for a
+/// line a box. It takes at most `limit` bytes, `room` of them for the output that waits. `layout` says which sizes the
+/// structs have for the caller.
 #[unsafe(no_mangle)]
 pub extern "C" fn fmp4_list_open_as(
     alloc: Global,

@@ -9,7 +9,8 @@ use mp4_stream::{Fault, FourCc, Stop, Totals};
 #[repr(C)]
 #[derive(Clone, Copy)]
 pub struct Report {
-    /// How many fragments: of a stream that is cut the new ones whose moof was written, else those that were accepted.
+    /// How many fragments: of a stream that is cut the new ones whose moof was written, else those that were accepted;
+    /// none where boxes are listed.
     pub fragments: u64,
     /// How many samples these have: 2^64 - 1 where there are more.
     pub samples: u64,

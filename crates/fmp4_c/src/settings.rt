@@ -1,10 +1,11 @@
 //! What C sets of a stream that is open: its limit, and that another stream begins.
 
 ghost use Rattle.std.specs.Prelude.{◌≡◌, ◌+◌, ◌-◌, ◌^◌, min, None, Some, IfSome};
-ghost use Rattle.mp4_stream.specs.Feeders.{Feeding};
 ghost use Rattle.mp4_machine.specs.declared.stop.Stop as stops;
 ghost use Rattle.fmp4_c.specs.Answers.{at_rest, number_of};
 ghost use Rattle.fmp4_c.specs.Engines.{IsReset, Run, limited_to};
+ghost use Rattle.fmp4_c.specs.Tasks.{stop_of};
+ghost use Rattle.fmp4_c.specs.declared.task_feeder.TaskFeeder.{TaskFeeder};
 
 use crate::answer::Answer;
 use crate::handle::Handle;
@@ -23,11 +24,11 @@ pub extern "C" fn fmp4_set_limit(
     ensures takes { (r : Run) → stream.old.handle.held ≡ Some r →
         (result ≡ number_of Answer.Done) ×
         (takes.new ≡ min (r.account.live + r.waiting.room) (2 ^ 64 - 1)) }
-    ensures set { (r : Run) → (p : Feeding) → stream.old.handle.held ≡ Some r →
-        r.feeding ≡ Some p → p.stop ≡ None →
+    ensures set { (r : Run) → (p : TaskFeeder) → stream.old.handle.held ≡ Some r →
+        r.feeding ≡ Some p → stop_of p ≡ None →
         stream.new.handle.held ≡ Some (limited_to limit r) }
-    ensures stopped { (r : Run) → (p : Feeding) → (e : stops.Stop) → stream.old.handle.held ≡ Some r →
-        r.feeding ≡ Some p → p.stop ≡ Some e → stream.new.handle.held ≡ Some r }
+    ensures stopped { (r : Run) → (p : TaskFeeder) → (e : stops.Stop) → stream.old.handle.held ≡ Some r →
+        r.feeding ≡ Some p → stop_of p ≡ Some e → stream.new.handle.held ≡ Some r }
     ensures ended { (r : Run) → stream.old.handle.held ≡ Some r → r.feeding ≡ None →
         stream.new.handle.held ≡ Some r }
     ensures closed { stream.old.handle.held ≡ None →

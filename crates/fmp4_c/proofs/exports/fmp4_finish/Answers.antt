@@ -6,10 +6,10 @@ use Rattle.fmp4_c.proofs.HoldLemmas.{the-run}
 use Rattle.fmp4_c.proofs.exports.fmp4_finish.Goals as goal
 
 pub returns-in-Some-clause-finishes : goal.returns-in-Some-clause-finishes
-returns-in-Some-clause-finishes c = λ operation b given h. (
+returns-in-Some-clause-finishes c = λ task b given h. (
   c.finish-answer.result,
   c.number.ensures,
-  c.finish-answer.ensures.finishes operation b given (subst (λ (x : Run). Holds operation b given x) (the-run _ _ _ _ h.0 c.in-Some.ensures (ap (λ (x : Handle). x.held) c.replace.ensures.value) c.deref_mut.ensures.value h.1) h.2),
+  c.finish-answer.ensures.finishes task b given (subst (λ (x : Run). Holds task b given x) (the-run _ _ _ _ h.0 c.in-Some.ensures (ap (λ (x : Handle). x.held) c.replace.ensures.value) c.deref_mut.ensures.value h.1) h.2),
 )
 
 pub returns-in-Some-clause-stopped : goal.returns-in-Some-clause-stopped

@@ -11,6 +11,6 @@ returns-in-Some-clause-reports c = λ r p here pushes.
     (c.number.ensures ∙ ap number_of reported.0, reported.1)
 
 pub returns-in-Some-clause-counts : goal.returns-in-Some-clause-counts
-returns-in-Some-clause-counts c = λ operation b given h.
+returns-in-Some-clause-counts c = λ task b given h.
     let reported = c.totals-answer.ensures.reports h.2.feeding (subst (λ (x : Run). x.feeding ≡ Some h.2.feeding) (the-run _ _ _ _ h.0 c.in-Some.ensures (ap (λ (x : Handle). x.held) c.replace.ensures.value) c.deref_mut.ensures.value h.1) h.2.runs) in
-    reported.1 ∙ report-holds operation b given h.0 h.2
+    reported.1 ∙ report-holds task b given h.0 h.2

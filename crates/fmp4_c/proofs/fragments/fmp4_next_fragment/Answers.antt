@@ -1,15 +1,14 @@
 use Rattle.std.proofs.Common.{◌≡◌, ◌≤◌, ◌++◌, ap, length, subst, sym, take}
 use Rattle.mp4_grammar.specs.TrafRecords.{record_len}
-use Rattle.mp4_grammar.specs.declared.command.Command.TheVariants.{Records}
-use Rattle.mp4_recut.specs.declared.operation.Operation.TheVariants as variants
+use Rattle.fmp4_c.specs.Tasks.{record_listing}
 use Rattle.fmp4_c.specs.Engines.{Run, Stopped}
 use Rattle.fmp4_c.specs.declared.handle.Handle.{Handle}
 use Rattle.fmp4_c.proofs.HoldLemmas.{the-run}
 use Rattle.fmp4_c.proofs.fragments.fmp4_next_fragment.Goals as goal
 
 pub returns-in-Some-clause-stopped : goal.returns-in-Some-clause-stopped
-returns-in-Some-clause-stopped c = λ operation b given a r here h records some.
+returns-in-Some-clause-stopped c = λ task b given a r here h records some.
     let same = the-run _ _ _ _ r c.in-Some.ensures (ap (λ (x : Handle). x.held) c.replace.ensures.value) c.deref_mut.ensures.value here in
-    let was = subst (λ (x : Run). Stopped operation b given a x) (the-run _ _ _ _ h.0 c.in-Some.ensures (ap (λ (x : Handle). x.held) c.replace.ensures.value) c.deref_mut.ensures.value h.1) h.2 in
-    let now = c.next_fragment-answer.ensures.stopped operation b given a was (subst (λ (x : Run). x.operation ≡ variants.List Records) same records) (subst (λ (x : Run). record_len ≤ length x.waiting.bytes) same some) in
-    (c.next_fragment-answer.new.self, c.of-stream.ensures, subst (λ (x : Run). Stopped operation b (given ++ take record_len x.waiting.bytes) a c.next_fragment-answer.new.self) (sym same) now)
+    let was = subst (λ (x : Run). Stopped task b given a x) (the-run _ _ _ _ h.0 c.in-Some.ensures (ap (λ (x : Handle). x.held) c.replace.ensures.value) c.deref_mut.ensures.value h.1) h.2 in
+    let now = c.next_fragment-answer.ensures.stopped task b given a was (subst (λ (x : Run). x.task ≡ record_listing) same records) (subst (λ (x : Run). record_len ≤ length x.waiting.bytes) same some) in
+    (c.next_fragment-answer.new.self, c.of-stream.ensures, subst (λ (x : Run). Stopped task b (given ++ take record_len x.waiting.bytes) a c.next_fragment-answer.new.self) (sym same) now)

@@ -1,39 +1,39 @@
 use Rattle.std.proofs.Common.{rules, [], ◌≡◌, ◌∙◌, ◌+◌, ◌++◌, Result, Some, ap, arith, length, refl, sym, subst, take}
 use Rattle.std.specs.Prelude.{IfErr, OnErr}
 use Rattle.mp4_machine.specs.declared.stop.Stop.{Stop}
-use Rattle.mp4_stream.specs.Feeders.{held_by}
 use Rattle.fmp4_c.specs.Engines.{Holds, IsPortion, Run, Stopped, after_take, held_in}
+use Rattle.fmp4_c.specs.Tasks.{held_by, stop_of}
 use Rattle.fmp4_c.specs.declared.answer.Answer.TheVariants.{Done, Full}
 use Rattle.fmp4_c.proofs.AheadLemmas.{ahead-err, ahead-ok, portion-after, wrote}
 use Rattle.fmp4_c.proofs.HoldLemmas.{after-its, answer-its, fed-stopped, stopped-taken, taken}
 use Rattle.fmp4_c.proofs.engine.Engine.feed_take.Goals as goal
 
 pub returns-in-Some-stop-clause-stopped : goal.returns-in-Some-stop-clause-stopped
-returns-in-Some-stop-clause-stopped c = rw (c.passed-in-Some-stop.ensures.is, c.of_stop.ensures) (λ operation b given a h.
-    let old : Run = record { account = c.self.inside.ledger; feeding = c.self.inside.feeder; waiting = c.self.inside.out; share = c.self.inside.share; reported = c.self.inside.reported; operation = c.self.inside.operation } in
-    let next : Run = record { account = c.self.inside.ledger; feeding = Some c.in-Some.feeder; waiting = c.take-first.new.self; share = c.self.inside.share; reported = c.self.inside.reported; operation = c.self.inside.operation } in
-    let before : Stopped operation b given a old = subst (λ (r : Run). Stopped operation b given a r) (sym c.self.view_is) h in
+returns-in-Some-stop-clause-stopped c = rw (c.passed-in-Some-stop.ensures.is, c.of_stop.ensures) (λ task b given a h.
+    let old : Run = record { account = c.self.inside.ledger; feeding = c.self.inside.feeder; waiting = c.self.inside.out; share = c.self.inside.share; reported = c.self.inside.reported; task = c.self.inside.task } in
+    let next : Run = record { account = c.self.inside.ledger; feeding = Some c.in-Some.feeder; waiting = c.take-first.new.self; share = c.self.inside.share; reported = c.self.inside.reported; task = c.self.inside.task } in
+    let before : Stopped task b given a old = subst (λ (r : Run). Stopped task b given a r) (sym c.self.view_is) h in
     let joined = taken given c.self.inside.out.bytes c.take-first.new.out c.take-first.new.self.bytes c.take-first.result c.take-first.ensures.front c.take-first.ensures.left in (
       refl,
-      answer-its operation b given a old c.in-Some.feeder c.in-Some-stop.stop c.in-Some.is (sym c.stop.ensures ∙ c.in-Some-stop.is) before,
-      stopped-taken operation b given (given ++ take c.take-first.result c.take-first.new.out) old next joined (sym c.in-Some.is) refl a before,
+      answer-its task b given a old c.in-Some.feeder c.in-Some-stop.stop c.in-Some.is (sym c.stop.ensures ∙ c.in-Some-stop.is) before,
+      stopped-taken task b given (given ++ take c.take-first.result c.take-first.new.out) old next joined (sym c.in-Some.is) refl a before,
     ))
 
 pub returns-then-leaves_all-clause-feeds : goal.returns-then-leaves_all-clause-feeds
-returns-then-leaves_all-clause-feeds c = rw c.passed-then-leaves_all.ensures.is (λ operation b given h.
+returns-then-leaves_all-clause-feeds c = rw c.passed-then-leaves_all.ensures.is (λ task b given h.
     let p = c.in-Some.feeder in
-    let old : Run = record { account = c.self.inside.ledger; feeding = c.self.inside.feeder; waiting = c.self.inside.out; share = c.self.inside.share; reported = c.self.inside.reported; operation = c.self.inside.operation } in
-    let next : Run = record { account = c.feed_ahead-at.new.ledger; feeding = Some c.feed_ahead-at.new.feeder; waiting = c.give.new.self; share = c.self.inside.share; reported = c.self.inside.reported; operation = c.self.inside.operation } in
-    let before : Holds operation b given old = subst (λ (r : Run). Holds operation b given r) (sym c.self.view_is) h in
-    let feeds = c.feed_ahead-at.ensures.feeds b (after-its operation b given old p c.in-Some.is before) in
+    let old : Run = record { account = c.self.inside.ledger; feeding = c.self.inside.feeder; waiting = c.self.inside.out; share = c.self.inside.share; reported = c.self.inside.reported; task = c.self.inside.task } in
+    let next : Run = record { account = c.feed_ahead-at.new.ledger; feeding = Some c.feed_ahead-at.new.feeder; waiting = c.give.new.self; share = c.self.inside.share; reported = c.self.inside.reported; task = c.self.inside.task } in
+    let before : Holds task b given old = subst (λ (r : Run). Holds task b given r) (sym c.self.view_is) h in
+    let feeds = c.feed_ahead-at.ensures.feeds b (after-its task b given old p c.in-Some.is before) in
     let input = take c.portion-portion.result c.args.input.now in
-    ahead-ok operation b given input old next p c.feed_ahead-at.new.feeder c.in-Some.is refl before c.feed_ahead-at.ensures.operation
+    ahead-ok task b given input old next p c.feed_ahead-at.new.feeder c.in-Some.is refl before c.feed_ahead-at.ensures.task
     feeds.0 feeds.1 c.take-first.new.self.room c.feed_ahead-at.new.rest.room c.take-first.result c.feed_ahead-at.result.at c.give.result c.take-first.new.out c.feed_ahead-at.new.buffer c.give.new.buffer c.take-first.new.self.bytes c.feed_ahead-at.new.rest.bytes c.self.inside.ledger
     c.take-first.ensures.front c.take-first.ensures.left c.give.ensures.front c.give.ensures.left c.feed_ahead-at.result.result c.in-Ok.is feeds.2)
 
 pub returns-then-leaves_all-clause-portion : goal.returns-then-leaves_all-clause-portion
 returns-then-leaves_all-clause-portion c = rw c.passed-then-leaves_all.ensures.is (λ p is none.
-    let old : Run = record { account = c.self.inside.ledger; feeding = c.self.inside.feeder; waiting = c.self.inside.out; share = c.self.inside.share; reported = c.self.inside.reported; operation = c.self.inside.operation } in
+    let old : Run = record { account = c.self.inside.ledger; feeding = c.self.inside.feeder; waiting = c.self.inside.out; share = c.self.inside.share; reported = c.self.inside.reported; task = c.self.inside.task } in
     let taken = c.portion-portion.result in
     let input = c.args.input.now in
     let all = c.leaves_all.ensures.all c.if-leaves_all.true in
@@ -47,20 +47,20 @@ returns-then-leaves_all-clause-portion c = rw c.passed-then-leaves_all.ensures.i
     })))
 
 pub returns-else-leaves_all-clause-feeds : goal.returns-else-leaves_all-clause-feeds
-returns-else-leaves_all-clause-feeds c = rw c.passed-in-Ok.ensures.is (λ operation b given h.
+returns-else-leaves_all-clause-feeds c = rw c.passed-in-Ok.ensures.is (λ task b given h.
     let p = c.in-Some.feeder in
-    let old : Run = record { account = c.self.inside.ledger; feeding = c.self.inside.feeder; waiting = c.self.inside.out; share = c.self.inside.share; reported = c.self.inside.reported; operation = c.self.inside.operation } in
-    let next : Run = record { account = c.feed_ahead-at.new.ledger; feeding = Some c.feed_ahead-at.new.feeder; waiting = c.give.new.self; share = c.self.inside.share; reported = c.self.inside.reported; operation = c.self.inside.operation } in
-    let before : Holds operation b given old = subst (λ (r : Run). Holds operation b given r) (sym c.self.view_is) h in
-    let feeds = c.feed_ahead-at.ensures.feeds b (after-its operation b given old p c.in-Some.is before) in
+    let old : Run = record { account = c.self.inside.ledger; feeding = c.self.inside.feeder; waiting = c.self.inside.out; share = c.self.inside.share; reported = c.self.inside.reported; task = c.self.inside.task } in
+    let next : Run = record { account = c.feed_ahead-at.new.ledger; feeding = Some c.feed_ahead-at.new.feeder; waiting = c.give.new.self; share = c.self.inside.share; reported = c.self.inside.reported; task = c.self.inside.task } in
+    let before : Holds task b given old = subst (λ (r : Run). Holds task b given r) (sym c.self.view_is) h in
+    let feeds = c.feed_ahead-at.ensures.feeds b (after-its task b given old p c.in-Some.is before) in
     let input = take c.portion-portion.result c.args.input.now in
-    ahead-ok operation b given input old next p c.feed_ahead-at.new.feeder c.in-Some.is refl before c.feed_ahead-at.ensures.operation
+    ahead-ok task b given input old next p c.feed_ahead-at.new.feeder c.in-Some.is refl before c.feed_ahead-at.ensures.task
     feeds.0 feeds.1 c.take-first.new.self.room c.feed_ahead-at.new.rest.room c.take-first.result c.feed_ahead-at.result.at c.give.result c.take-first.new.out c.feed_ahead-at.new.buffer c.give.new.buffer c.take-first.new.self.bytes c.feed_ahead-at.new.rest.bytes c.self.inside.ledger
     c.take-first.ensures.front c.take-first.ensures.left c.give.ensures.front c.give.ensures.left c.feed_ahead-at.result.result c.in-Ok.is feeds.2)
 
 pub returns-else-leaves_all-clause-portion : goal.returns-else-leaves_all-clause-portion
 returns-else-leaves_all-clause-portion c = rw c.passed-in-Ok.ensures.is (λ p is none.
-    let old : Run = record { account = c.self.inside.ledger; feeding = c.self.inside.feeder; waiting = c.self.inside.out; share = c.self.inside.share; reported = c.self.inside.reported; operation = c.self.inside.operation } in
+    let old : Run = record { account = c.self.inside.ledger; feeding = c.self.inside.feeder; waiting = c.self.inside.out; share = c.self.inside.share; reported = c.self.inside.reported; task = c.self.inside.task } in
     let taken = c.portion-portion.result in
     let input = c.args.input.now in
     let nothing : taken ≡ 0 → input ≡ [] = c.leaves_all.ensures.none c.if-leaves_all.false in
@@ -74,28 +74,28 @@ returns-else-leaves_all-clause-portion c = rw c.passed-in-Ok.ensures.is (λ p is
     })))
 
 pub returns-in-Err-clause-feeds : goal.returns-in-Err-clause-feeds
-returns-in-Err-clause-feeds c = rw (c.passed-in-Err.ensures.is, c.of_stop-in-Err.ensures) (λ operation b given h.
+returns-in-Err-clause-feeds c = rw (c.passed-in-Err.ensures.is, c.of_stop-in-Err.ensures) (λ task b given h.
     let p = c.in-Some.feeder in
-    let old : Run = record { account = c.self.inside.ledger; feeding = c.self.inside.feeder; waiting = c.self.inside.out; share = c.self.inside.share; reported = c.self.inside.reported; operation = c.self.inside.operation } in
-    let next : Run = record { account = c.feed_ahead-at.new.ledger; feeding = Some c.feed_ahead-at.new.feeder; waiting = c.give.new.self; share = c.self.inside.share; reported = c.self.inside.reported; operation = c.self.inside.operation } in
-    let before : Holds operation b given old = subst (λ (r : Run). Holds operation b given r) (sym c.self.view_is) h in
-    let feeds = c.feed_ahead-at.ensures.feeds b (after-its operation b given old p c.in-Some.is before) in
+    let old : Run = record { account = c.self.inside.ledger; feeding = c.self.inside.feeder; waiting = c.self.inside.out; share = c.self.inside.share; reported = c.self.inside.reported; task = c.self.inside.task } in
+    let next : Run = record { account = c.feed_ahead-at.new.ledger; feeding = Some c.feed_ahead-at.new.feeder; waiting = c.give.new.self; share = c.self.inside.share; reported = c.self.inside.reported; task = c.self.inside.task } in
+    let before : Holds task b given old = subst (λ (r : Run). Holds task b given r) (sym c.self.view_is) h in
+    let feeds = c.feed_ahead-at.ensures.feeds b (after-its task b given old p c.in-Some.is before) in
     let input = take c.portion-portion.result c.args.input.now in
     let had = c.self.invariant ∙ ap held_in c.in-Some.is in
-    let stops = subst (λ (z : Result (Unit {0}) Stop). IfErr z (λ e. c.feed_ahead-at.new.feeder.stop ≡ Some e)) c.in-Err.is c.feed_ahead-at.ensures.stops in
+    let stops = subst (λ (z : Result (Unit {0}) Stop). IfErr z (λ e. stop_of c.feed_ahead-at.new.feeder ≡ Some e)) c.in-Err.is c.feed_ahead-at.ensures.stops in
     let spent = subst (λ (z : Result (Unit {0}) Stop). OnErr z (held_by c.feed_ahead-at.new.feeder ≡ 0)) c.in-Err.is c.feed_ahead-at.ensures.spent in
     let idle : c.feed_ahead-at.new.ledger.live ≡ 0 = omega (arith, c.feed_ahead-at.ensures.live, spent, had) in
-    fed-stopped operation (b ++ input) (given ++ take (c.feed_ahead-at.result.at + c.give.result) c.give.new.buffer) next c.in-Err.stop (
-    ahead-err operation b given input old next p c.feed_ahead-at.new.feeder c.in-Some.is refl before c.feed_ahead-at.ensures.operation
+    fed-stopped task (b ++ input) (given ++ take (c.feed_ahead-at.result.at + c.give.result) c.give.new.buffer) next c.in-Err.stop (
+    ahead-err task b given input old next p c.feed_ahead-at.new.feeder c.in-Some.is refl before c.feed_ahead-at.ensures.task
     feeds.0 feeds.1 c.take-first.new.self.room c.feed_ahead-at.new.rest.room c.take-first.result c.feed_ahead-at.result.at c.give.result c.take-first.new.out c.feed_ahead-at.new.buffer c.give.new.buffer c.take-first.new.self.bytes c.feed_ahead-at.new.rest.bytes c.self.inside.ledger
     c.take-first.ensures.front c.take-first.ensures.left c.give.ensures.front c.give.ensures.left c.in-Err.stop stops idle c.feed_ahead-at.result.result c.in-Err.is feeds.2))
 
 pub returns-in-Err-clause-no_room : goal.returns-in-Err-clause-no_room
-returns-in-Err-clause-no_room c = rw (c.passed-in-Err.ensures.is, c.of_stop-in-Err.ensures) (λ operation b given h number.
+returns-in-Err-clause-no_room c = rw (c.passed-in-Err.ensures.is, c.of_stop-in-Err.ensures) (λ task b given h number.
     let p = c.in-Some.feeder in
-    let old : Run = record { account = c.self.inside.ledger; feeding = c.self.inside.feeder; waiting = c.self.inside.out; share = c.self.inside.share; reported = c.self.inside.reported; operation = c.self.inside.operation } in
-    let before : Holds operation b given old = subst (λ (r : Run). Holds operation b given r) (sym c.self.view_is) h in
-    let after = after-its operation b given old p c.in-Some.is before in
+    let old : Run = record { account = c.self.inside.ledger; feeding = c.self.inside.feeder; waiting = c.self.inside.out; share = c.self.inside.share; reported = c.self.inside.reported; task = c.self.inside.task } in
+    let before : Holds task b given old = subst (λ (r : Run). Holds task b given r) (sym c.self.view_is) h in
+    let after = after-its task b given old p c.in-Some.is before in
     let feeds = c.feed_ahead-at.ensures.feeds b after in
     let input = take c.portion-portion.result c.args.input.now in
     let write = wrote b input p c.feed_ahead-at.new.feeder _ c.feed_ahead-at.result.result c.in-Err.stop c.in-Err.is feeds.2 number in
