@@ -121,7 +121,7 @@ enum fmp4_listing {
     FMP4_SAMPLES = 1,       /* the lines of `fmp4 samples` */
     FMP4_FRAGMENTS = 2,     /* a line for each track, and one for each track fragment */
     FMP4_RECORDS = 3,       /* a record for each track fragment, for fmp4_next_fragment */
-    FMP4_BOXES = 4          /* the lines of `fmp4 boxes`: only the boxes are checked, and nothing is counted but the peak */
+    FMP4_BOXES = 4          /* the lines of `fmp4 boxes`: only boxes are checked, and only the peak is counted */
 };
 
 /* Opens a stream that is cut into fragments of at most `samples` samples (1 to 1,000,000), and of at most `bytes`
@@ -144,8 +144,8 @@ static inline uint32_t fmp4_check_open(struct fmp4_stream *stream, uint64_t limi
 /* Opens a stream that is checked and listed: the listing is its output, and what a fragment adds to it comes at once, with
  * the header of its mdat. `limit` and `room` are as those of a cut; what comes at once must fit the room, which is 64 bytes
  * for each record, and up to 256 for each line. To list the fragments that a cut writes, feed its output to a stream
- * that is listed. A listing of boxes has a line of up to 80 bytes for a box as soon as its header came; a moov or moof is
- * listed once it is whole, with the boxes in it: up to 6 bytes at once for each of its own.
+ * that is listed. A listing of boxes has a line of up to 80 bytes for a box as soon as its header came; a moov or moof
+ * is listed once it is whole, with the boxes in it: up to 6 bytes at once for each of its own.
  *   FMP4_OVER_LIMIT: room is more than limit; FMP4_NO_MEMORY; FMP4_IS_OPEN; FMP4_BAD_LAYOUT, _LISTING, _ROOM */
 static inline uint32_t fmp4_list_open(struct fmp4_stream *stream, uint32_t listing, uint64_t limit, size_t room);
 

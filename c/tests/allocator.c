@@ -45,7 +45,7 @@ void *our_realloc(void *at, size_t size) {
 
 int main(void) {
     struct bytes in = read_all(stdin), out = {0};
-    static const struct cut cut = {2, 0, 0, 2u << 20, 1u << 20, 1316, 777};
+    static const struct cut cut = {2, 0, 0, 2u << 20, 1u << 20, 1316, 777, 0};
     struct result r = run(&cut, in.at, in.len, &out);
     WANT(r.finish == FMP4_OK && calls > 2 && blocks == 0 && live == 0);
     WANT(most >= cut.room + r.report.peak && most <= cut.room + r.report.peak + (24u << 10));

@@ -5,7 +5,7 @@ enum { COPY = 65536 };
 
 int main(int argc, char **argv) {
     struct bytes in = read_all(stdin), none = {0};
-    struct cut cut = {0, 0, 0, 512u << 20, 0, argc > 1 ? strtoul(argv[1], NULL, 10) : COPY, 1};
+    struct cut cut = {0, 0, 0, 512u << 20, 0, argc > 1 ? strtoul(argv[1], NULL, 10) : COPY, 1, 0};
     struct result r = run(&cut, in.at, in.len, &none);
     free(in.at);
     char name[16] = {0}, type[5] = {0};

@@ -163,7 +163,7 @@ int main(int argc, char **argv) {
     if (argc < 3) return 64;
     random_state = strtoull(argv[1], NULL, 10);
     in = read_all(stdin);
-    struct cut cut = {2, 0, 0, 512u << 20, 4u << 20, 65536, 4096};
+    struct cut cut = {2, 0, 0, 512u << 20, 4u << 20, 65536, 4096, 0};
     WANT(run(&cut, in.at, in.len, &whole).finish == FMP4_OK);
     static struct one all[STREAMS];
     unsigned long long calls = 0, stops[6] = {0};

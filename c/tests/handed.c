@@ -45,7 +45,7 @@ static void in_a_thread(void *(*call)(void *), struct handed *handed) {
 
 int main(void) {
     in = read_all(stdin);
-    struct cut cut = {3, FMP4_INDEX, 0, 64u << 20, 2u << 20, 65536, 4096};
+    struct cut cut = {3, FMP4_INDEX, 0, 64u << 20, 2u << 20, 65536, 4096, 0};
     struct bytes alone = {0};
     WANT(run(&cut, in.at, in.len, &alone).finish == FMP4_OK);
     struct handed handed = {calloc(1, sizeof(struct fmp4_stream)), {0}, 0, 0};

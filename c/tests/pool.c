@@ -49,7 +49,7 @@ static void finish(struct pool *pool, struct member *m, uint64_t peak) {
 
 int main(void) {
     in = read_all(stdin);
-    struct cut cut = {2, 0, 0, 64u << 20, ROOM, 1316, 4096};
+    struct cut cut = {2, 0, 0, 64u << 20, ROOM, 1316, 4096, 0};
     struct result sole = run(&cut, in.at, in.len, &alone);
     WANT(sole.finish == FMP4_OK);
     static struct member all[STREAMS];

@@ -29,14 +29,16 @@ static void refuse_each(const struct cut *cut, unsigned *opens, unsigned *feeds)
 }
 
 int main(void) {
-    static const struct cut cut = {2, FMP4_INDEX | FMP4_SYNC, 5000, 512u << 20, 1u << 20, 97, 777};
-    static const struct cut check = {0, 0, 0, 512u << 20, 0, 97, 777};
+    static const struct cut cut = {2, FMP4_INDEX | FMP4_SYNC, 5000, 512u << 20, 1u << 20, 97, 777, 0};
+    static const struct cut check = {0, 0, 0, 512u << 20, 0, 97, 777, 0};
+    static const struct cut boxes = {0, 0, 0, 512u << 20, 1u << 20, 97, 777, FMP4_BOXES};
     unsigned opens = 0, feeds = 0;
     in = read_all(stdin);
     append(&whole, in.at, 1);
     refuse_each(&cut, &opens, &feeds);
     refuse_each(&check, &opens, &feeds);
-    printf("refuse: %u allocations of open and %u of feed, each refused, in a cut and in a check: no memory\n", opens, feeds);
+    refuse_each(&boxes, &opens, &feeds);
+    printf("refuse: %u allocations of open and %u of feed, each refused, in a cut, in a check and in a listing of boxes: no memory\n", opens, feeds);
     free(in.at);
     free(whole.at);
     free(part.at);

@@ -3,7 +3,7 @@
 
 int main(void) {
     struct bytes in = read_all(stdin), whole = {0}, part = {0};
-    struct cut cut = {2, 0, 0, 512u << 20, 4u << 20, 1316, 777};
+    struct cut cut = {2, 0, 0, 512u << 20, 4u << 20, 1316, 777, 0};
     struct result all = run(&cut, in.at, in.len, &whole);
     WANT(all.open == 0 && all.feed == 0 && all.finish == 0 && all.report.rule == 0 && all.fed == in.len);
     unsigned counts[6] = {0};

@@ -11,11 +11,13 @@ struct bytes {
     size_t len, room;
 };
 
-/* How a stream is cut: an input is `step` bytes, and `take` bytes of output are taken at once. */
+/* How a stream is cut, or listed where `listing` says so: an input is `step` bytes, and `take` bytes of output are taken at
+ * once. */
 struct cut {
     uint32_t samples, flags;
     uint64_t bytes, limit;
     size_t room, step, take;
+    uint32_t listing;
 };
 
 /* What came of it. */
@@ -53,12 +55,14 @@ static inline void drain(struct fmp4_stream *stream, struct bytes *to, size_t ta
     } while (n == take);
 }
 
-/* Cuts a stream; its output is appended to `to`, for which there must be room where memory is refused. */
+/* Cuts, checks or lists a stream; its output is appended to `to`, for which there must be room where memory is refused. */
 static inline struct result run(const struct cut *cut, const unsigned char *in, size_t len, struct bytes *to) {
     struct fmp4_stream stream = {0};
     struct result r = {0};
     size_t n = 0;
-    r.open = cut->samples ? fmp4_split_open(&stream, cut->samples, cut->bytes, cut->flags, cut->limit, cut->room) : fmp4_check_open(&stream, cut->limit);
+    if (cut->listing) r.open = fmp4_list_open(&stream, cut->listing, cut->limit, cut->room);
+    else if (cut->samples) r.open = fmp4_split_open(&stream, cut->samples, cut->bytes, cut->flags, cut->limit, cut->room);
+    else r.open = fmp4_check_open(&stream, cut->limit);
     if (r.open) return r;
     while (r.fed < len && r.feed <= FMP4_FULL) {
         r.feed = fmp4_feed(&stream, in + r.fed, len - r.fed < cut->step ? len - r.fed : cut->step, &n);

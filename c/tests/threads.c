@@ -28,7 +28,7 @@ int main(void) {
     pthread_attr_t attr;
     WANT(pthread_attr_init(&attr) == 0 && pthread_attr_setstacksize(&attr, 256 << 10) == 0);
     for (unsigned i = 0; i < THREADS; i++) {
-        jobs[i].cut = (struct cut){i % 4 + 1, i % 4, i % 2 ? 3000 : 0, 512u << 20, 2u << 20, 1000 * i + 7, 4096};
+        jobs[i].cut = (struct cut){i % 4 + 1, i % 4, i % 2 ? 3000 : 0, 512u << 20, 2u << 20, 1000 * i + 7, 4096, 0};
         WANT(pthread_create(&threads[i], &attr, work, &jobs[i]) == 0);
     }
     for (unsigned i = 0; i < THREADS; i++) {
