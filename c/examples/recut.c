@@ -20,7 +20,7 @@ static void report_end(uint32_t answer, const struct fmp4_report *report) {
     if (answer == FMP4_FAULT) {
         fmp4_rule_name(report->rule, name, sizeof name);
         for (int i = 0; i < 4; i++) type[i] = (char)(report->box_type >> (24 - 8 * i));
-        fprintf(stderr, "recut: %u %s in %s at %llu\n", (unsigned)report->rule, name, report->box_type ? type : "-",
+        fprintf(stderr, "recut: %u %s in %s at %llu\n", (unsigned)report->rule, name, report->box_type ? type : "(none)",
                 (unsigned long long)report->offset);
     } else if (answer == FMP4_OVER_LIMIT) fputs("recut: over the limit\n", stderr);
     else if (answer == FMP4_NO_MEMORY) fputs("recut: out of memory\n", stderr);
