@@ -19,7 +19,10 @@ static void report_end(uint32_t answer, const struct fmp4_report *report) {
     char name[16] = {0}, type[5] = {0};
     if (answer == FMP4_FAULT) {
         fmp4_rule_name(report->rule, name, sizeof name);
-        for (int i = 0; i < 4; i++) type[i] = (char)(report->box_type >> (24 - 8 * i));
+        for (int i = 0; i < 4; i++) {
+            unsigned char byte = (unsigned char)(report->box_type >> (24 - 8 * i));
+            type[i] = byte >= 0x20 && byte < 0x7f ? (char)byte : '?';
+        }
         fprintf(stderr, "recut: %u %s in %s at %llu\n", (unsigned)report->rule, name, report->box_type ? type : "(none)",
                 (unsigned long long)report->offset);
     } else if (answer == FMP4_OVER_LIMIT) fputs("recut: over the limit\n", stderr);
