@@ -1,48 +1,24 @@
 -- Reports on the samples of a stream without a fault.
 use Rattle.std.proofs.Common.{◌≡◌, ◌∙◌, ℕ, ◌+◌, ◌≤◌, ◌^◌, List, [], ◌∷◌, ◌++◌, length, append_assoc, Option, Some, None, refl, sym, ap}
 use Rattle.std.specs.List.{flat_map}
-use Rattle.std.specs.Option.{option_or}
 use Rattle.std.proofs.lemmas.List.Concat.{flat_map-append}
 use Rattle.mp4_box.specs.Headers.{IsBytes}
-use Rattle.mp4_box.specs.declared.headers.Header.{Header}
-use Rattle.mp4_box.specs.declared.rules.Fault.{Fault}
 use Rattle.mp4_init.specs.Moovs.{moov_tracks}
 use Rattle.mp4_init.specs.declared.table.Track.{Track}
-use Rattle.mp4_init.proofs.MoovLemmas.{first_none}
-use Rattle.mp4_frag.specs.Moofs.{moof_runs}
-use Rattle.mp4_frag.specs.Places.{place_fault}
-use Rattle.mp4_traf.specs.Runs.{moof_at}
 use Rattle.mp4_pieces.specs.declared.cut.Cut.{Cut}
 use Rattle.mp4_pieces.specs.Pieces.{piece_count}
-use Rattle.mp4_pieces.specs.Rooms.{room_fault}
 use Rattle.mp4_machine.specs.Readings.{Reading}
 use Rattle.mp4_grammar.specs.Contexts.{Context, context, first_context}
-use Rattle.mp4_grammar.specs.Joined.{AreSound, IsGood, IsMoofHere, IsMoovHere, Item, Movie, MovieFragment, OneBox, PassedOver, context_after_all, fragment_in, fragment_here, listed, items_effects}
+use Rattle.mp4_grammar.specs.Joined.{AreSound, Item, Movie, MovieFragment, PassedOver, context_after_all, fragment_in, items_effects}
 use Rattle.mp4_grammar.specs.Meanings.{runs_in, settled_in}
 use Rattle.mp4_recut.specs.Splitting.{splitting}
 use Rattle.mp4_recut_laws.specs.MediaSamples.{MediaSample, items_samples, media_samples_in}
 use Rattle.mp4_recut_laws.specs.Streams.{Ending, IsSoundEnding, NothingMore, OpenBox, OpenFragment, Stream, ending_context, ending_bytes, ending_samples, stream_bytes, stream_samples}
 use Rattle.mp4_recut_laws.specs.RecutText.{reported_by, reporting}
+use Rattle.mp4_recut_laws.proofs.OneRefusalLemmas.{ending_sound, good, moof_here, moov_here}
 use Rattle.mp4_recut_laws.proofs.ReadStreamLemmas.{ended, stream_reads}
 
 module _ (report : MediaSample → List ℕ) (cut : Cut) where
-  good : (at : ℕ) (o : Option (List Track)) (n m : ℕ) (x : List ℕ) (h : Header) → IsGood (splitting cut) (context at o m) x h → IsGood (reporting report) (context at o n) x h
-  good at o n m x h g =
-      let f = fragment_here (context at o m) x h in
-      let runs = moof_runs (moof_at x at) (listed o) in
-      ap (λ (f : Option Fault). option_or f None) (first_none (place_fault f.payload runs) (room_fault cut (moof_at x at) runs m) g).0
-
-  moof_here : (at : ℕ) (o : Option (List Track)) (n m : ℕ) (b : OneBox) → IsMoofHere (context at o m) b → IsMoofHere (context at o n) b
-  moof_here at o n m b s = record { one = s.one; known = s.known; small = s.small }
-
-  moov_here : (at : ℕ) (o : Option (List Track)) (n m : ℕ) (b : OneBox) → IsMoovHere (context at o m) b → IsMoovHere (context at o n) b
-  moov_here at o n m b s = record { one = s.one; none = s.none; small = s.small }
-
-  ending_sound : (at : ℕ) (o : Option (List Track)) (n m : ℕ) (e : Ending) → IsSoundEnding (splitting cut) (context at o m) e → IsSoundEnding (reporting report) (context at o n) e
-  ending_sound at o n m NothingMore s = s
-  ending_sound at o n m (OpenBox h header_bytes more) s = s
-  ending_sound at o n m (OpenFragment moof h header_bytes more) s = (s.0, s.1, moof_here at o n m moof s.2, s.3, good at o n m moof.bytes h s.4, s.5)
-
   ending_reported : (at : ℕ) (o : Option (List Track)) (n m : ℕ) (e : Ending) → (ended (reporting report) (context at o n) e).effects.text ≡ flat_map report (ending_samples (context at o m) e)
   ending_reported at o n m NothingMore = refl
   ending_reported at o n m (OpenBox h header_bytes more) = refl
@@ -59,7 +35,7 @@ module _ (report : MediaSample → List ℕ) (cut : Cut) where
       append_assoc (flat_map report s) t e ∙ ap (λ (x : List ℕ). flat_map report s ++ x) h ∙ sym (flat_map-append report s (u ++ v)) ∙ ap (flat_map report) (sym (append_assoc s u v))
 
   describes : (at : ℕ) (o : Option (List Track)) (n m : ℕ) (is : List Item) (e : Ending) → AreSound (splitting cut) (context at o m) is → IsSoundEnding (splitting cut) (context_after_all (splitting cut) (context at o m) is) e → Describes (context at o n) (context at o m) is e
-  describes at o n m [] e s z = record { sound = tt; ending = ending_sound at o n m e z; text = ending_reported at o n m e }
+  describes at o n m [] e s z = record { sound = tt; ending = ending_sound cut (reporting report) (λ f. refl) at o n m e z; text = ending_reported at o n m e }
   describes at o n m (PassedOver b ∷ is) e s z =
       let rest = describes (at + length b.bytes) o n m is e s.1 z in
       record { sound = (s.0, rest.sound); ending = rest.ending; text = rest.text }
@@ -70,7 +46,7 @@ module _ (report : MediaSample → List ℕ) (cut : Cut) where
       let f = fragment_in (context at o m) moof mdat in
       let rest = describes (at + length moof.bytes + length mdat.bytes) (Some (settled_in f)) n (m + piece_count cut moof.bytes (runs_in f)) is e s.1 z in
       record {
-        sound = ((moof_here at o n m moof s.0.0, s.0.1, s.0.2, good at o n m moof.bytes mdat.header s.0.3), rest.sound);
+        sound = ((moof_here at o n m moof s.0.0, s.0.1, s.0.2, good cut (reporting report) (λ f. refl) at o n m moof.bytes mdat.header s.0.3), rest.sound);
         ending = rest.ending;
         text = one_more (media_samples_in f (Rattle.std.specs.Prelude.drop mdat.header.header_len mdat.bytes)) _ _ _ _ rest.text;
       }

@@ -47,7 +47,7 @@ index_recut : (cut : Cut) (number : ℕ) (tracks : List Track) (b : Bool) (run :
 unfolding is_dropped make_context
 index_recut cut number tracks false run timescale g few at us e = none_recut cut number tracks at us e
 index_recut cut number tracks true run timescale g few at us e =
-    cons_recut cut at number us us _ [] [] [] 0 0 0 [] [] refl (index_box run timescale g few) refl (same_context _ _ number (number + 0) us refl (omega arith)) refl refl (none_recut cut (number + 0) tracks (at + length (written_index run timescale g)) us e)
+    cons_recut cut at number us us _ [] [] [] 0 0 0 [] [] refl (index_box run timescale g few) refl (same_context _ _ number (number + 0) us refl (omega arith)) refl refl tt (none_recut cut (number + 0) tracks (at + length (written_index run timescale g)) us e)
 
 -- ---- groups
 

@@ -5,12 +5,14 @@
 //!   samples of the stream;
 //! - [`indexes_are_true`]: each index in it is true of the fragments after it;
 //! - [`recut_text_with_an_index`]: when it is read without a fault with the same cut and an index;
+//! - [`recut_text_has_a_line_a_piece`]: how it is listed by its fragments;
 //! - [`items`]: the laws over pieces, runs and items on which these rest.
 //!
 //! The definitions: `specs/RecutText.antt` (the recut text, and reports on samples, by the
 //! bytes of a stream alone), `specs/Streams.antt` (a stream without a fault, by its items, and the
 //! stream that it is recut to), `specs/MediaSamples.antt` (a sample with its bytes),
 //! `specs/MoofEnds.antt` (where the moofs of a stream end, and their numbers),
+//! `specs/PieceLines.antt` (the lines of fragments, where each has one),
 //! `specs/IndexTruth.antt` (when an index is true of the items after it) and
 //! `specs/PieceTimes.antt` (when an index has room for the time of each piece). The laws of
 //! [`items`] speak of `specs/PieceItems.antt` and `specs/RecutItems.antt` (pieces, and the recut
@@ -30,17 +32,20 @@ ghost use Rattle.mp4_pieces.specs.declared.cut.Cut.{Cut};
 ghost use Rattle.mp4_cut.specs.Moof.{WrittenFragment};
 ghost use Rattle.mp4_cut.specs.Reads.{held_moof};
 ghost use Rattle.mp4_machine.specs.Readings.{Sound, whole_in};
+ghost use Rattle.mp4_grammar.specs.Commands as commands;
 ghost use Rattle.mp4_grammar.specs.Contexts.{first_context};
+ghost use Rattle.mp4_grammar.specs.declared.command.Command.TheVariants.{Fragments};
 ghost use Rattle.mp4_recut.specs.Splitting.{reading};
 ghost use Rattle.mp4_recut_laws.specs.IndexTruth.{IndexesAreTrue};
 ghost use Rattle.mp4_recut_laws.specs.Indexes.{EndingIsIndexed, ItemsAreIndexed};
 ghost use Rattle.mp4_recut_laws.specs.MediaSamples.{MediaSample};
 ghost use Rattle.mp4_recut_laws.specs.MoofEnds.{moof_ends};
 ghost use Rattle.mp4_recut_laws.specs.PieceItems.{IsOnePiece};
+ghost use Rattle.mp4_recut_laws.specs.PieceLines.{EachHasOneLine, items_lines};
 ghost use Rattle.mp4_recut_laws.specs.PieceTimes.{EndingTimesFit, FitsOwnIndex, ItemsTimesFit};
 ghost use Rattle.mp4_recut_laws.specs.RecutItems.{without_index};
 ghost use Rattle.mp4_recut_laws.specs.RecutText.{recut_text, reported_by};
-ghost use Rattle.mp4_recut_laws.specs.Streams.{IsSoundStream, IsWellFormed, Stream, ending_context, recut, stream_bytes, stream_samples, stream_text};
+ghost use Rattle.mp4_recut_laws.specs.Streams.{IsSoundStream, IsWellFormed, Stream, ending_context, recut, stream_bytes, stream_lines, stream_samples, stream_text};
 
 pub mod items;
 
@@ -135,4 +140,17 @@ pub fn recut_text_with_an_index()
         EndingTimesFit cut (ending_context cut s) s.ending →
         length (stream_text cut s) ≤ 2 ^ 62 →
         recut_text cut (stream_text cut s) ≡ stream_text cut (recut cut s) }
+{}
+
+/// Where the recut text takes the place of the stream, `fragments` lists one line a piece, as many as `split` counted
+/// fragments. The line has the number of the piece, where it begins in the recut text, and how many bytes and samples
+/// it has. Of every stream without a fault the lines are those of its items, and those of its ending.
+pub fn recut_text_has_a_line_a_piece()
+    ensures stream { (cut : Cut) (s : Stream) → IsSoundStream cut s →
+        (commands.reading Fragments (stream_bytes s)).effects.text ≡ stream_lines cut s }
+    ensures recut { (cut : Cut) (s : Stream) → IsSoundStream cut s → length (stream_text cut s) ≤ 2 ^ 62 →
+        (commands.reading Fragments (stream_text cut s)).effects.text ≡
+        items_lines (without_index cut) first_context (recut cut s).items }
+    ensures one { (cut : Cut) (s : Stream) → IsSoundStream cut s →
+        EachHasOneLine (without_index cut) first_context (recut cut s).items }
 {}
