@@ -14,12 +14,13 @@ use Rattle.mp4_recut.specs.Operations.{operation_meaning, number_in}
 use Rattle.mp4_recut.specs.declared.operation.Operation.{Operation}
 use Rattle.mp4_fragment_machine.specs.Places.{Place, claim_of, continuation_at}
 use Rattle.mp4_fragment_machine.specs.States.{HasStopped, IsCounted, IsPendingMoof, most_counted}
-use Rattle.mp4_fragment_machine.specs.Implementation.Steps.{Advances, Borrowed, GoesTo, StopsIn, at_state, environment_before, environment_stopped, with_head}
+use Rattle.mp4_fragment_machine.specs.Implementation.Steps.{Advances, Borrowed, Consumes, GoesTo, StopsIn, at_state, environment_before, environment_stopped, with_head}
 use Rattle.mp4_fragment_machine.specs.declared.state.Counter.{Counter}
 use Rattle.mp4_fragment_machine.specs.declared.state.Carried.{Carried}
 use Rattle.mp4_fragment_machine.specs.declared.state.State.{State}
 use Rattle.mp4_fragment_machine.specs.declared.state.State.TheVariants as states
 use Rattle.mp4_fragment_machine.specs.declared.state.PendingMoof.{PendingMoof}
+use Rattle.mp4_fragment_machine.specs.declared.state.Taken.{Taken}
 use Rattle.mp4_fragment_machine.proofs.MdatHeaderLemmas.{GoesOn-after_head, claimed_after}
 use Rattle.mp4_fragment_machine.proofs.CountLemmas.{counted_later}
 use Rattle.mp4_fragment_machine.proofs.HeadLemmas.{GoesOn-head}
@@ -108,3 +109,12 @@ StopsIn-refused {new = new} b unfailed operation tracks empty left counted refus
 -- nothing is given back
 pub given_back-none : (a : Account) → given_back a 0 ≡ a
 given_back-none a = let none : a.live - 0 ≡ a.live = omega arith in ap (λ n. record { limit = a.limit; live = n; peak = a.peak }) none
+
+-- ---- what was taken, by the result
+
+module _ {l : Borrowed} {old new : Carried} {from state : State} {result : Result Taken Stop} where
+  pub Consumes-goes : (input : List ℕ) {t : Taken} → Consumes l old new from input result → state ≡ from → result ≡ Ok t → (0 < t.count) × (t.count ≤ length input) × GoesTo l old new (at_state old state) (take t.count input) t.state
+  Consumes-goes input taken e is = rw e (rw is at taken)
+
+  pub Consumes-stops : (input : List ℕ) {e : Stop} → Consumes l old new from input result → state ≡ from → result ≡ Err e → StopsIn l old new (at_state old state) input e
+  Consumes-stops input taken e is = rw e (rw is at taken)

@@ -134,7 +134,7 @@ impl FragmentMachine {
     ///
     /// # Errors
     ///
-    /// As [`take_next`].
+    /// As [`take_header`], [`take_held`], [`take_mdat_header`] and [`take_copied`].
     #[inline(never)]
     fn take_next_input<W: Sink>(
         &mut self,
@@ -151,8 +151,15 @@ impl FragmentMachine {
             ledger.old ledger.new self.old.counter.tally self.new.counter.tally)
             self.old self.new input.now result }
     {
-        let state = replace(&mut self.state, stopped());
-        match take_next(state, input, &mut self.carried, ledger, out, w) {
+        let carried = &mut self.carried;
+        let taken = match replace(&mut self.state, stopped()) {
+            State::Header { at } => take_header(at, input, carried, ledger, out, w),
+            State::Buffering(buffered) => take_held(buffered, input, carried, ledger, out, w),
+            State::MdatHeader(moof) => take_mdat_header(moof, input, carried, ledger, out, w),
+            State::Copied(body) => take_copied(body, input, out, w),
+            _ => unreachable!(),
+        };
+        match taken {
             Ok(Taken { count, state }) => {
                 put_state(&mut self.state, state);
                 Ok(count)
@@ -274,42 +281,5 @@ impl Machine for FragmentMachine {
         if let Some(list) = self.carried.tracks.take() {
             list.back(ledger);
         }
-    }
-}
-
-/// Takes bytes from the front of the input, but none of a body that is passed over or recut: those are taken in place.
-/// At a stop everything but the track table is given back.
-///
-/// # Errors
-///
-/// As [`take_header`], [`take_held`], [`take_mdat_header`] and [`take_copied`].
-#[inline(always)]
-pub(crate) fn take_next<W: Sink>(
-    state: State,
-    input: &[u8],
-    carried: &mut Carried,
-    ledger: &mut Ledger,
-    out: &mut Block,
-    w: &mut W,
-) -> Result<Taken, Stop>
-    requires may { MayTake input.now carried.old ledger.old state }
-    requires body { (b : Body) (w : Option PendingMoof) → state ≡ states.Body b w → ⊥ }
-    requires media { (r : Recutting) → state ≡ states.Media r → ⊥ }
-    ensures { Consumes (borrowed W.contents W.has_failed w.old w.new out.old out.new ledger.old ledger.new)
-        carried.old carried.new state input.now result }
-{
-    match state {
-        State::Header { at } => take_header(at, input, carried, ledger, out, w),
-        State::Buffering(buffered) => take_held(buffered, input, carried, ledger, out, w),
-        State::MdatHeader(pending_moof) => take_mdat_header(
-            pending_moof,
-            input,
-            carried,
-            ledger,
-            out,
-            w,
-        ),
-        State::Copied(body) => take_copied(body, input, out, w),
-        _ => unreachable!(),
     }
 }

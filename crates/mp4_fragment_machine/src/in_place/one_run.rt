@@ -284,25 +284,16 @@ fn recut_run<W: Sink>(
     counter.tally.media_bytes += run.bytes;
     counter.steps.rows += 5 * samples;
     let moof_bytes = complete.boxes.moof;
-    let start = at + moof_bytes.len() as u64 + complete.boxes.mdat.header_len;
-    let payload = media(input, &complete.boxes);
+    let mdat = &complete.boxes.mdat;
+    let (_, after) = input.split_at(moof_bytes.len());
+    let (_, body) = after.split_at(mdat.header_len as usize);
+    let (payload, _) = body.split_at((mdat.size - mdat.header_len) as usize);
+    let start = at + moof_bytes.len() as u64 + mdat.header_len;
     let fragments = &mut counter.tally.fragments;
     match whole::put_run(run, moof_bytes, cut, start, payload, fragments, out, w) {
         Ok(()) => Ok(()),
         Err(Failed) => Err(Failed),
     }
-}
-
-/// The payload of the mdat of a fragment at the front of the input.
-fn media<'a>(input: &'a [u8], boxes: &Boxes<'_>) -> &'a [u8]
-    requires { (at : ℕ) × AreBoxes at input.now boxes.now }
-    ensures is { result.now ≡ media_in input.now boxes.now }
-    ensures len { length result.now + boxes.now.mdat.header_len ≡ boxes.now.mdat.size }
-{
-    let (_, after) = input.split_at(boxes.moof.len());
-    let (_, body) = after.split_at(boxes.mdat.header_len as usize);
-    let (payload, _) = body.split_at((boxes.mdat.size - boxes.mdat.header_len) as usize);
-    payload
 }
 
 /// Stops at the moof of a fragment at `at`, whose only fault is a time. Its claim is counted, and so are its

@@ -114,35 +114,6 @@ fn emit<W: Sink>(
     }
 }
 
-/// The state after the header of the mdat at `at`, of whose payload so many bytes are needed.
-fn enter(
-    at: u64,
-    header: &Header,
-    needed: u64,
-    pending_moof: PendingMoof,
-    carried: &mut Carried,
-    ledger: &mut Ledger,
-) -> State
-    requires room { HasRoom header.now.size header.now.header_len }
-    requires near { least_end at header.now header.now.size ≤ longest }
-    requires pending_moof { IsPendingMoof carried.old.tracks pending_moof }
-    requires empty { carried.old.header_bytes ≡ [] }
-    requires claim { claimed_in carried.old.tracks (Some pending_moof) ≤ ledger.old.live }
-    requires counted { IsCounted carried.old.operation carried.old.counter (bound_after at header.now.size)
-        0 (moof_samples (moof_in pending_moof)) }
-    ensures { (u : Untouched) → GoesTo (ledger_alone u ledger.old ledger.new) carried.old carried.new
-        (in_mdat (number_in carried.old.operation carried.old.counter.tally) carried.old.tracks pending_moof at
-        header.now needed header.now.size) [] result }
-{
-    match body_of(at, header, needed) {
-        AnyBody::Empty { next } => {
-            leave(next, Some(pending_moof), carried, ledger);
-            State::Header { at: next }
-        }
-        AnyBody::Bytes(body) => State::Body(body, Some(pending_moof)),
-    }
-}
-
 /// Counts or lists the fragment of the pending moof, followed by the box with this header. Returns the next state. The
 /// moof and its list are given back where it is refused.
 ///
@@ -184,7 +155,13 @@ pub(crate) fn begin_listed<W: Sink>(
         out,
         w,
     ) {
-        Ok(needed) => Ok(enter(at, header, needed, pending_moof, carried, ledger)),
+        Ok(needed) => match body_of(at, header, needed) {
+            AnyBody::Empty { next } => {
+                leave(next, Some(pending_moof), carried, ledger);
+                Ok(State::Header { at: next })
+            }
+            AnyBody::Bytes(body) => Ok(State::Body(body, Some(pending_moof))),
+        },
         Err(Failed) => {
             back(Some(pending_moof), ledger);
             Err(Stop::Write)

@@ -1,7 +1,7 @@
 //! How many bytes and samples the runs of a moof have, and how far they reach into the payload of its mdat.
 
 ghost use Rattle.std.specs.Prelude.{◌≡◌, ◌+◌, ◌≤◌, ◌<◌, ◌<ℤ◌, ◌^◌, ◌==◌, if◌then◌else◌, ℕ, pos, max, None, Some};
-ghost use Rattle.std.specs.List.{AllByRecursion, sum_by};
+ghost use Rattle.std.specs.List.{sum_by};
 ghost use Rattle.mp4_frag.specs.Moofs.{moof_runs, moof_samples};
 ghost use Rattle.mp4_traf.specs.Rules.{most_in_moof};
 ghost use Rattle.mp4_frag.specs.Places.{place_fault};
@@ -9,7 +9,6 @@ ghost use Rattle.mp4_frag.specs.RunLists.{taken_runs};
 ghost use Rattle.mp4_run_order.specs.Runs.{end_of};
 ghost use Rattle.mp4_traf.specs.declared.run.Run.{Run};
 ghost use Rattle.mp4_grammar.specs.Meanings.{beyond, reach};
-ghost use Rattle.mp4_traf.specs.Ranges.{IsRunOf};
 ghost use Rattle.mp4_machine.specs.Bodies.{longest};
 ghost use Rattle.mp4_fragment_machine.specs.States.{IsPendingMoof, moof_in};
 
@@ -64,17 +63,6 @@ fn with_run(so_far: MoofTotals, start: u64, run: ListedRun) -> MoofTotals
     }
 }
 
-/// The runs of the pending moof are sound: the bytes of a moof are bytes, and no track has a default size past 32 bits.
-#[inline(always)]
-fn runs_are_sound(pending_moof: &PendingMoof, tracks: &TrackList)
-    requires { IsPendingMoof (Some tracks.now) pending_moof.now }
-    ensures { AllByRecursion (IsRunOf pending_moof.now.moof.bytes)
-        (taken_runs (moof_in pending_moof.now) tracks.now) }
-{
-    let _ = pending_moof.moof.bytes();
-    let _ = tracks.len();
-}
-
 /// How many bytes and samples the runs of the pending moof have, and how far they reach into a payload where they may
 /// lie. No row is read.
 pub(crate) fn add_up_runs(
@@ -97,7 +85,9 @@ pub(crate) fn add_up_runs(
     ensures reach { (e : ℕ) → payload.end ≡ Some e → payload.start + result.needed ≤ e }
     ensures open { result.bytes ≤ 2 ^ 63 }
 {
-    runs_are_sound(pending_moof, tracks);
+    // The bytes of a moof are bytes, and no track has a default size past 32 bits: so its runs are sound.
+    let _ = pending_moof.moof.bytes();
+    let _ = tracks.len();
     let mut so_far = MoofTotals {
         bytes: 0,
         samples: 0,

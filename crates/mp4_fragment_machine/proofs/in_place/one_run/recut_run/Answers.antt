@@ -22,8 +22,16 @@ put_run-requires-clause-numbers g c =
     let f = c.args.complete.now in
     omega (arith, few_pieces c.args.cut.now f.boxes.moof.now f.run.now.run, c.requires.numbers)
 
+pub split_at-requires-2 : goal.split_at-requires-2
+split_at-requires-2 g c =
+    let fit = boxes_fit c.args.at c.args.input.now c.args.complete.now.boxes c.requires.is.boxes in
+    omega (arith, fit.header_len, fit.whole, c.split_at.ensures.back_len)
+
+pub overflow_sub-mdat : goal.overflow_sub-mdat
+overflow_sub-mdat g c = (boxes_fit c.args.at c.args.input.now c.args.complete.now.boxes c.requires.is.boxes).header_len
+
 pub returns-in-Ok-clause-puts : goal.returns-in-Ok-clause-puts
-returns-in-Ok-clause-puts g c = λ timescale. rw c.media-payload.ensures.is at c.in-Ok.ensures.puts timescale
+returns-in-Ok-clause-puts g c = λ timescale. rw (c.split_at-3.ensures.front, c.split_at-2.ensures.back, c.split_at.ensures.back) at c.in-Ok.ensures.puts timescale
 
 pub returns-in-Err-clause-puts : goal.returns-in-Err-clause-puts
-returns-in-Err-clause-puts g c = λ timescale. rw c.media-payload.ensures.is at c.in-Err.ensures.puts timescale
+returns-in-Err-clause-puts g c = λ timescale. rw (c.split_at-3.ensures.front, c.split_at-2.ensures.back, c.split_at.ensures.back) at c.in-Err.ensures.puts timescale

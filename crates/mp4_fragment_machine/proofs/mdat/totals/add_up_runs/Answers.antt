@@ -3,7 +3,7 @@ use Rattle.std.proofs.lemmas.List.{take_all}
 use Rattle.mp4_frag.specs.RunLists.{taken_runs}
 use Rattle.mp4_grammar.specs.Meanings.{reach}
 use Rattle.mp4_fragment_machine.specs.States.{moof_in}
-use Rattle.mp4_fragment_machine.proofs.MediaLemmas.{are_more, count_first, count_more, count_of, counted, few_samples, listed, media_far, media_in, media_more, placed_in, reach_in, reach_more, run_at}
+use Rattle.mp4_fragment_machine.proofs.MediaLemmas.{are_more, count_first, count_more, count_of, counted, few_samples, listed, media_far, media_in, media_more, placed_in, reach_in, reach_more, run_at, taken_sound}
 use Rattle.mp4_fragment_machine.proofs.LineLemmas.{rows_taken}
 use Rattle.mp4_fragment_machine.proofs.mdat.totals.add_up_runs.Goals as goal
 
@@ -11,8 +11,8 @@ pub with_run-so_far-requires-clause-place : goal.with_run-so_far-requires-clause
 with_run-so_far-requires-clause-place c =
     let w = c.args.pending_moof.now in
     let tracks = c.args.tracks.now in
-    let here : c.loop-i.i < length w.runs.rows = omega (arith, c.loop-i-test.true, c.len.ensures) in
-    let r = run_at w.moof.bytes (taken_runs (moof_in w) tracks) c.loop-i.i c.runs_are_sound.ensures (listed w tracks c.requires.pending_moof c.loop-i.i here) in
+    let here : c.loop-i.i < length w.runs.rows = omega (arith, c.loop-i-test.true, c.len-in-loop-i.ensures) in
+    let r = run_at w.moof.bytes (taken_runs (moof_in w) tracks) c.loop-i.i (taken_sound w tracks c.requires.pending_moof c.bytes.ensures.valid c.len.ensures.small) (listed w tracks c.requires.pending_moof c.loop-i.i here) in
     rw (c.listed.ensures (moof_in w) tracks r.run c.requires.pending_moof.list r.at) r.is.range.high
 
 pub with_run-so_far-requires-clause-room : goal.with_run-so_far-requires-clause-room
@@ -21,12 +21,12 @@ with_run-so_far-requires-clause-room c =
     let tracks = c.args.tracks.now in
     let runs = taken_runs (moof_in w) tracks in
     let i = c.loop-i.i in
-    let r = run_at w.moof.bytes runs i c.runs_are_sound.ensures (listed w tracks c.requires.pending_moof i (omega (arith, c.loop-i-test.true, c.len.ensures))) in
+    let r = run_at w.moof.bytes runs i (taken_sound w tracks c.requires.pending_moof c.bytes.ensures.valid c.len.ensures.small) (listed w tracks c.requires.pending_moof i (omega (arith, c.loop-i-test.true, c.len-in-loop-i.ensures))) in
     let run = r.run in
     let at = r.at in
     let is = r.is in
     let effects = c.listed.ensures (moof_in w) tracks run c.requires.pending_moof.list at in
-    let here : i < length w.runs.rows = omega (arith, c.loop-i-test.true, c.len.ensures) in
+    let here : i < length w.runs.rows = omega (arith, c.loop-i-test.true, c.len-in-loop-i.ensures) in
     let room = media_far w.moof.bytes c.args.payload runs (i + 1) c.requires.start (placed_in w tracks c.requires.pending_moof c.args.payload c.requires.good)
     (are_more runs i run (listed w tracks c.requires.pending_moof i here) at w.moof.bytes c.loop-i.invariant.are is) in
     rw effects (omega (arith, room, media_more runs i run (listed w tracks c.requires.pending_moof i here) at, c.loop-i.invariant.bytes))
@@ -37,13 +37,13 @@ loop-i-preserved c =
     let tracks = c.args.tracks.now in
     let runs = taken_runs (moof_in w) tracks in
     let i = c.loop-i.i in
-    let r = run_at w.moof.bytes runs i c.runs_are_sound.ensures (listed w tracks c.requires.pending_moof i (omega (arith, c.loop-i-test.true, c.len.ensures))) in
+    let r = run_at w.moof.bytes runs i (taken_sound w tracks c.requires.pending_moof c.bytes.ensures.valid c.len.ensures.small) (listed w tracks c.requires.pending_moof i (omega (arith, c.loop-i-test.true, c.len-in-loop-i.ensures))) in
     let run = r.run in
     let at = r.at in
     let is = r.is in
     let effects = c.listed.ensures (moof_in w) tracks run c.requires.pending_moof.list at in
     let start = c.args.payload.start in
-    let here : i < length w.runs.rows = omega (arith, c.loop-i-test.true, c.len.ensures) in
+    let here : i < length w.runs.rows = omega (arith, c.loop-i-test.true, c.len-in-loop-i.ensures) in
     let in_list = listed w tracks c.requires.pending_moof i here in
     record {
       within = omega (arith, here);
@@ -80,8 +80,8 @@ with_run-so_far-requires-clause-few c =
     let tracks = c.args.tracks.now in
     let runs = taken_runs (moof_in w) tracks in
     let i = c.loop-i.i in
-    let in_list = listed w tracks c.requires.pending_moof i (omega (arith, c.loop-i-test.true, c.len.ensures)) in
-    let r = run_at w.moof.bytes runs i c.runs_are_sound.ensures in_list in
+    let in_list = listed w tracks c.requires.pending_moof i (omega (arith, c.loop-i-test.true, c.len-in-loop-i.ensures)) in
+    let r = run_at w.moof.bytes runs i (taken_sound w tracks c.requires.pending_moof c.bytes.ensures.valid c.len.ensures.small) in_list in
     let more = count_more runs i r.run in_list r.at in
     rw (c.listed.ensures (moof_in w) tracks r.run c.requires.pending_moof.list r.at)
     (omega (arith, more, count_first runs (i + 1), counted w tracks c.requires.pending_moof, few_samples w tracks c.requires.pending_moof, c.loop-i.invariant.samples))
@@ -91,7 +91,7 @@ returns-clause-samples c =
     let w = c.args.pending_moof.now in
     let tracks = c.args.tracks.now in
     let runs = taken_runs (moof_in w) tracks in
-    let all : take c.loop-i.i runs ≡ runs = take_all c.loop-i.i runs (omega (arith, c.loop-i-test.false, c.len.ensures, rows_taken (moof_in w) tracks w.runs c.requires.pending_moof.list)) in
+    let all : take c.loop-i.i runs ≡ runs = take_all c.loop-i.i runs (omega (arith, c.loop-i-test.false, c.len-in-loop-i.ensures, rows_taken (moof_in w) tracks w.runs c.requires.pending_moof.list)) in
     c.loop-i.invariant.samples ∙ ap count_of all ∙ counted w tracks c.requires.pending_moof
 
 pub returns-clause-few : goal.returns-clause-few
