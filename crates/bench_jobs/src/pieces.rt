@@ -1,5 +1,5 @@
-//! Cuts the first run of the first moof of a stream, and counts the bytes that are written for its pieces: their moofs, and
-//! the headers of their mdats.
+//! Cuts the first run of the first moof of a stream, and counts the bytes that are written for its pieces: their moofs,
+//! and the headers of their mdats.
 
 ghost use Rattle.std.specs.Prelude.{◌≡◌, ◌+◌, ◌^◌, ◌≤◌, length, Option, List, ℕ, None, Bool, true, false, IfOk, IfSome, OnErr, OnOk};
 ghost use Rattle.mp4_box.specs.Headers.{IsWhole};

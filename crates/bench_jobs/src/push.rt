@@ -1,5 +1,5 @@
-//! Pushes a stream into a Feeder in inputs, as often as asked, and counts the bytes that are written. With inputs of 0 bytes
-//! the stream is read by `split`, 65,536 bytes at a time.
+//! Pushes a stream into a Feeder in inputs, as often as asked, and counts the bytes that are written. With inputs of 0
+//! bytes the stream is read by `split`, 65,536 bytes at a time.
 
 ghost use Rattle.std.specs.Prelude.{◌<◌, ◌≤◌, false};
 ghost use Rattle.mp4_stream.specs.Feeders.{held_by};

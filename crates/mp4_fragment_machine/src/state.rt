@@ -100,31 +100,6 @@ pub(crate) fn stopped() -> State
     State::Body(body, None)
 }
 
-/// Goes on with the header of the box at `at`, from a header.
-#[inline(always)]
-pub(crate) fn go_to(current: &mut State, at: u64)
-    requires { (old : ℕ) × (current.old ≡ states.Header old) }
-    ensures { current.new ≡ states.Header at }
-{
-    match current {
-        State::Header { at: next } => *next = at,
-        _ => unreachable!(),
-    }
-}
-
-/// Goes on with a state, from a header.
-pub(crate) fn leave_header(current: &mut State, state: State)
-    requires { (old : ℕ) × (current.old ≡ states.Header old) }
-    ensures { current.new ≡ state }
-{
-    match replace(current, state) {
-        State::Header { at } => {
-            let _ = at;
-        }
-        _ => unreachable!(),
-    }
-}
-
 /// Goes on with the header of the box at `at`, from an mdat that is recut. Returns its moof.
 #[inline(always)]
 pub(crate) fn leave_media(current: &mut State, at: u64) -> PendingMoof
@@ -142,19 +117,6 @@ pub(crate) fn leave_media(current: &mut State, at: u64) -> PendingMoof
                 pending_moof,
             },
         ) => pending_moof,
-        _ => unreachable!(),
-    }
-}
-
-/// Holds nothing, from a header.
-pub(crate) fn stop_at(current: &mut State)
-    requires { (old : ℕ) × (current.old ≡ states.Header old) }
-    ensures { current.new ≡ stopped }
-{
-    match replace(current, stopped()) {
-        State::Header { at } => {
-            let _ = at;
-        }
         _ => unreachable!(),
     }
 }

@@ -1,5 +1,5 @@
-//! Counts or lists a fragment that is whole in the input, whatever runs it has, in place; one whose samples are listed, or
-//! that is recut, only where it has one run.
+//! Counts or lists a fragment that is whole in the input, whatever runs it has, in place; one whose samples are listed,
+//! or that is recut, only where it has one run.
 //!
 //! Where its runs follow one another as they are listed, no list of them is needed. Its claim is counted, and no memory
 //! is requested.
@@ -38,11 +38,11 @@ ghost use Rattle.mp4_fragment_machine.specs.Implementation.InPlace.{AreBoxes, Ha
 ghost use Rattle.mp4_recut.specs.declared.operation.Operation.TheVariants as operations;
 ghost use Rattle.mp4_fragment_machine.specs.declared.state.State.TheVariants as states;
 
-use crate::in_place::{Boxes, ROW, Span, payload_after};
+use crate::in_place::{Boxes, ROW, Span, go_to, payload_after, stop_at};
 use crate::machine::FragmentMachine;
 use crate::mdat::accept_list::count;
 use crate::mdat::traf_lines::put_moof_lines;
-use crate::state::{Carried, Counter, go_to, stop_at};
+use crate::state::{Carried, Counter};
 use mp4_box::Fault;
 use mp4_ends::{Failed, Sink};
 use mp4_frag::{Following, Moof, Steps, TrafEnds};

@@ -7,7 +7,7 @@ ghost use Rattle.mp4_machine.specs.Bodies.{longest};
 ghost use Rattle.mp4_machine.specs.Ends.{sent};
 ghost use Rattle.mp4_machine.specs.Inputs.{change};
 ghost use Rattle.mp4_fragment_machine.specs.Places.{claim_of};
-ghost use Rattle.mp4_fragment_machine.specs.States.{most_fragments, place_in};
+ghost use Rattle.mp4_fragment_machine.specs.States.{most_fragments, place_in, stopped};
 ghost use Rattle.mp4_fragment_machine.specs.Implementation.Feeds.{Feeds, seen};
 ghost use Rattle.mp4_fragment_machine.specs.Implementation.InPlace.{HasMoof, IsFoundInPlace, IsTakenInPlace, AreBoxes, IsFirstBox, payload_in};
 ghost use Rattle.mp4_fragment_machine.specs.declared.state.State.TheVariants as states;
@@ -21,7 +21,7 @@ pub(crate) mod one_run;
 pub(crate) mod other_box;
 
 use crate::machine::FragmentMachine;
-use crate::state::{Carried, Counter};
+use crate::state::{Carried, Counter, State, stopped};
 use mp4_box::{FourCc, Size, header_of};
 use mp4_ends::Sink;
 use mp4_frag::{MOST_IN_MOOF, Payload, SingleRun, Steps};
@@ -30,6 +30,7 @@ use mp4_ledger::Ledger;
 use mp4_machine::{Block, Stop, is_too_long};
 use mp4_recut::Operation;
 use mp4_recut::room::is_roomy;
+use std::mem::replace;
 
 /// How many bytes a row of the list of runs takes.
 pub(crate) const ROW: u64 = 64;
@@ -227,5 +228,43 @@ pub(crate) fn payload_after(at: u64, boxes: &Boxes<'_>, input: &[u8]) -> Payload
     Payload {
         start: next + boxes.mdat.header_len,
         end: Some(next + boxes.mdat.size),
+    }
+}
+
+/// Goes on with the header of the box at `at`, from a header.
+#[inline(always)]
+pub(crate) fn go_to(current: &mut State, at: u64)
+    requires { (old : ℕ) × (current.old ≡ states.Header old) }
+    ensures { current.new ≡ states.Header at }
+{
+    match current {
+        State::Header { at: next } => *next = at,
+        _ => unreachable!(),
+    }
+}
+
+/// Goes on with a state, from a header.
+pub(crate) fn leave_header(current: &mut State, state: State)
+    requires { (old : ℕ) × (current.old ≡ states.Header old) }
+    ensures { current.new ≡ state }
+{
+    match replace(current, state) {
+        State::Header { at } => {
+            let _ = at;
+        }
+        _ => unreachable!(),
+    }
+}
+
+/// Holds nothing, from a header.
+pub(crate) fn stop_at(current: &mut State)
+    requires { (old : ℕ) × (current.old ≡ states.Header old) }
+    ensures { current.new ≡ stopped }
+{
+    match replace(current, stopped()) {
+        State::Header { at } => {
+            let _ = at;
+        }
+        _ => unreachable!(),
     }
 }

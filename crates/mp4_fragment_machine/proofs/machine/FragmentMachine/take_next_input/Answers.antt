@@ -1,7 +1,7 @@
 use Rattle.std.proofs.Common.{◌≡◌, ◌∙◌, ◌<◌, ◌≤◌, length, ap, sym, take}
 use Rattle.mp4_fragment_machine.specs.declared.machine.FragmentMachine.TheInside.{Inside}
 use Rattle.mp4_fragment_machine.specs.States.{stopped}
-use Rattle.mp4_fragment_machine.specs.Implementation.Steps.{ GoesTo, StopsIn, at_state, borrowed}
+use Rattle.mp4_fragment_machine.specs.Implementation.Steps.{GoesTo, StopsIn, at_state, borrowed}
 use Rattle.mp4_fragment_machine.proofs.FeedLemmas.{fed}
 use Rattle.mp4_fragment_machine.proofs.StepLemmas.{Consumes-goes, Consumes-stops}
 use Rattle.mp4_fragment_machine.proofs.machine.FragmentMachine.take_next_input.Goals as goal

@@ -13,7 +13,7 @@ use Rattle.mp4_fragment_machine.specs.declared.state.Carried.{Carried}
 use Rattle.mp4_fragment_machine.specs.declared.state.State.TheVariants as states
 use Rattle.mp4_fragment_machine.proofs.MdatHeaderLemmas.{GoesOn-fragment_at, Refuses-fragment, WriteFailed-fragment, claimed_after, claims, listed_good, rows_of}
 use Rattle.mp4_fragment_machine.proofs.BodyLemmas.{claimed_apart}
-use Rattle.mp4_fragment_machine.proofs.EnterLemmas.{GoesTo-entered, body_after}
+use Rattle.mp4_fragment_machine.proofs.EnterLemmas.{GoesTo-entered}
 use Rattle.mp4_fragment_machine.proofs.CountLemmas.{counted_later, counted_unlisted}
 use Rattle.mp4_fragment_machine.proofs.StepLemmas.{GoesTo-after}
 use Rattle.mp4_fragment_machine.proofs.mdat.accept_list.begin_listed.Goals as goal
@@ -75,7 +75,7 @@ returns-in-Empty g c =
     let (size, is, all, far, near) = c.in-Empty.ensures in
     let k : Carried = record { operation = carried.operation; tracks = Some list; header_bytes = carried.header_bytes; counter = c.emit.new.counter } in
     let left : GoesTo (ledger_alone u c.args.ledger.now c.leave.new.ledger) k c.leave.new.carried (in_mdat (number_in k.operation k.counter.tally) k.tracks w next h c.in-Ok-emit.needed h.size) [] (states.Header c.in-Empty.next) =
-        rw (is, far) (rw far at c.leave.ensures u next (size - h.header_len) h.kind (omega (arith, all))) in
+    rw (is, far) (rw far at c.leave.ensures u next (size - h.header_len) h.kind (omega (arith, all))) in
     let entered = subst (λ (p : Operation). GoesTo (ledger_alone u c.args.ledger.now c.leave.new.ledger) (record { operation = carried.operation; tracks = Some list; header_bytes = carried.header_bytes; counter = c.emit.new.counter }) c.leave.new.carried (in_mdat (number_in p c.emit.new.counter.tally) (Some list) w next h c.in-Ok-emit.needed h.size) [] (states.Header c.in-Empty.next)) c.requires.operation left in
     rw (c.in-Some.is, c.requires.operation)
     (GoesTo-after entered (omega (arith, own, low)) c.requires.operation effects.puts.unfailed goes)
