@@ -1,13 +1,13 @@
 -- What a reader of headers answers, by the headers that are spelled.
-use Rattle.std.proofs.Common.{◌≡◌, ℕ, ◌<◌, ◌≤◌, ◌⊎◌, List, [], ◌++◌, length, take, drop, Ok, Err, refl, sym, ap, subst, ◌∙◌, arith, inl, inr}
-use Rattle.std.specs.Prelude.{IfOk, IfErr}
+use Rattle.std.proofs.Common.{◌≡◌, ℕ, ◌<◌, ◌≤◌, List, [], ◌++◌, length, take, drop, Ok, Err, refl, sym, ap, subst, ◌∙◌, arith}
+use Rattle.std.specs.Prelude.{IfOk}
 use Rattle.std.proofs.lemmas.List.{take-append-drop, length-append, take_all, append-nil, nil_from_length}
 use Rattle.mp4_box.specs.declared.headers.Header.{Header}
 use Rattle.mp4_box.specs.declared.headers.Step.{Step}
 use Rattle.mp4_box.specs.declared.headers.Step.TheVariants.{More, Whole, BadSize}
 use Rattle.mp4_box.specs.declared.rules.Rule.TheVariants as rules
 use Rattle.mp4_box.specs.Headers.{IsBytes, HasRoom, Head, BeginsWith, need, header_at, result_of}
-use Rattle.mp4_box.proofs.HeaderLemmas.{read_is, read_again, whole_is, cut_is, is_cut, bad_is, room_of, whole_one, need-least}
+use Rattle.mp4_box.proofs.HeaderLemmas.{read_is, read_again, whole_is, cut_is, is_cut, bad_is, room_of, whole_one}
 
 not_more_nor_whole : (s : Step) → (s ≡ More → ⊥) → ((h : Header) → s ≡ Whole h → ⊥) → s ≡ BadSize
 not_more_nor_whole More m w = absurd (m refl)
@@ -35,22 +35,10 @@ header-begins x h fits = (
 pub header-truncated : (x : List ℕ) → (result_of (header_at x) ≡ Err rules.Truncated → length x < need x) × (length x < need x → result_of (header_at x) ≡ Err rules.Truncated)
 header-truncated x = (λ e. cut_is x (result-more (header_at x) e), λ h. ap result_of (is_cut x h))
 
-result-err : (s : Step) → IfErr (result_of s) (λ rule. (rule ≡ rules.Truncated) ⊎ (rule ≡ rules.BadSize))
-result-err More = inl refl
-result-err (Whole h) = tt
-result-err BadSize = inr refl
-
-pub header-err : (x : List ℕ) → IfErr (result_of (header_at x)) (λ rule. (rule ≡ rules.Truncated) ⊎ (rule ≡ rules.BadSize))
-header-err x = result-err (header_at x)
-
 result-ok : (s : Step) (P : Header → Type 0) → ((h : Header) → s ≡ Whole h → P h) → IfOk (result_of s) P
 result-ok More P f = tt
 result-ok (Whole h) P f = f h refl
 result-ok BadSize P f = tt
-
-pub header-within : (x : List ℕ) → IfOk (result_of (header_at x)) (λ h. (8 ≤ h.header_len) × (h.header_len ≤ length x))
-header-within x = result-ok (header_at x) (λ h. (8 ≤ h.header_len) × (h.header_len ≤ length x))
-    (λ h e. let w = whole_is x h e in (omega (arith, w.1, need-least x), omega (arith, w.0, w.1)))
 
 pub header-room : (x : List ℕ) → IfOk (result_of (header_at x)) (λ h. HasRoom h.size h.header_len)
 header-room x = result-ok (header_at x) (λ h. HasRoom h.size h.header_len) (λ h e. room_of x h e)

@@ -162,14 +162,7 @@ pub fn header_of(bytes: &[u8]) -> Result<Header, Rule>
     ensures within { IfOk result (λ h. (8 ≤ h.header_len) × (h.header_len ≤ length bytes.now)) }
     ensures room { IfOk result (λ h. HasRoom h.size h.header_len) }
 {
-    result_for(read_header(bytes))
-}
-
-/// The same as the answer of a reader of slices.
-fn result_for(step: Step) -> Result<Header, Rule>
-    ensures { result ≡ result_of step }
-{
-    match step {
+    match read_header(bytes) {
         Step::Whole(header) => Ok(header),
         Step::More => Err(Rule::Truncated),
         Step::BadSize => Err(Rule::BadSize),
