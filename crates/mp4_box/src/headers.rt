@@ -21,7 +21,8 @@ impl FourCc {
     pub fn is(self, kind: FourCc) -> bool
         ensures { result ≡ bytes_eq self.0 kind.0 }
     {
-        are_same(self.0, kind.0)
+        // One comparison of numbers.
+        u32::from_be_bytes(self.0) == u32::from_be_bytes(kind.0)
     }
 
     /// The type as it is printed: a byte that is no printing ASCII character is shown as `?`.
@@ -31,14 +32,6 @@ impl FourCc {
         let [a, b, c, d] = self.0;
         [shown(a), shown(b), shown(c), shown(d)]
     }
-}
-
-/// Whether four bytes are the same: one comparison of numbers.
-#[inline]
-fn are_same(bytes: [u8; 4], others: [u8; 4]) -> bool
-    ensures { result ≡ bytes_eq bytes others }
-{
-    u32::from_be_bytes(bytes) == u32::from_be_bytes(others)
 }
 
 fn shown(byte: u8) -> u8
