@@ -3,8 +3,7 @@
 ghost use Rattle.std.specs.Prelude.{◌≡◌, ◌+◌, ◌^◌, ◌<◌, ◌∷◌, ◌++◌, [], option_to_list, IfNone, None};
 ghost use Rattle.std.specs.Iterator.{YieldsFirst, item_count};
 ghost use Rattle.mp4_traf.specs.Rows.{IsCursor};
-ghost use Rattle.mp4_traf.specs.SyncSamples.{is_sync};
-ghost use Rattle.mp4_pieces.specs.Implementation.Growing.{Grows, grown, has_bytes, opened, pieces_left, takes, with_row};
+ghost use Rattle.mp4_pieces.specs.Implementation.Growing.{Grows, grown, opened, pieces_left, takes, with_row};
 ghost use Rattle.mp4_traf.specs.Cursors.{HasRoom};
 ghost use Rattle.mp4_pieces.specs.Pieces.{cursor_after, pieces_from, pieces_of};
 ghost use Rattle.mp4_traf.specs.Ranges.{IsRunOf};
@@ -18,24 +17,6 @@ use std::marker::Model;
 /// 14496-12, 8.8.3).
 const NON_SYNC: u32 = 0x0001_0000;
 
-/// Whether a sample is a sync sample.
-fn is_sync(row: &Row) -> bool
-    ensures { result ≡ is_sync row.now.flags }
-{
-    row.flags & NON_SYNC == 0
-}
-
-/// Whether the bytes of one more row fit in a piece.
-fn has_bytes(most: Option<u64>, piece: &Piece, row: &Row) -> bool
-    requires { piece.now.bytes + row.now.size < 2 ^ 64 }
-    ensures { result ≡ has_bytes most piece.now row.now }
-{
-    match most {
-        None => true,
-        Some(most) => piece.bytes + u64::from(row.size) <= most,
-    }
-}
-
 impl Cut {
     /// Whether one more row fits in a piece.
     #[tactic(auto, unfolding(crate::specs::Implementation::Growing::takes))]
@@ -44,9 +25,12 @@ impl Cut {
         requires { piece.now.bytes + row.now.size < 2 ^ 64 }
         ensures { result ≡ takes self.now piece.now row.now }
     {
-        piece.count < self.samples
-            && has_bytes(self.bytes, piece, row)
-            && !(self.sync && is_sync(row))
+        let has_bytes = match self.bytes {
+            None => true,
+            Some(most) => piece.bytes + u64::from(row.size) <= most,
+        };
+        let is_sync = row.flags & NON_SYNC == 0;
+        piece.count < self.samples && has_bytes && !(self.sync && is_sync)
     }
 }
 
