@@ -1,10 +1,9 @@
 //! The pieces of a run, one after the other.
 
-ghost use Rattle.std.specs.Prelude.{◌≡◌, ◌+◌, ◌^◌, ◌<◌, ◌∷◌, ◌++◌, [], option_to_list, IfNone, None};
+ghost use Rattle.std.specs.Prelude.{◌≡◌, ◌+◌, ◌^◌, ◌<◌, ◌∷◌, ◌++◌, option_to_list};
 ghost use Rattle.std.specs.Iterator.{YieldsFirst, item_count};
 ghost use Rattle.mp4_traf.specs.Rows.{IsCursor};
 ghost use Rattle.mp4_pieces.specs.Implementation.Growing.{Grows, grown, opened, pieces_left, takes, with_row};
-ghost use Rattle.mp4_traf.specs.Cursors.{HasRoom};
 ghost use Rattle.mp4_pieces.specs.Pieces.{cursor_after, pieces_from, pieces_of};
 ghost use Rattle.mp4_traf.specs.Ranges.{IsRunOf};
 
@@ -161,45 +160,6 @@ impl<'a> Pieces<'a> {
     }
 }
 
-/// The next row: the one that was read ahead, or else the next of those that are left.
-#[inline(always)]
-fn next_row(peeked: &mut Option<Row>, rows: &mut Rows<'_>) -> Option<Row>
-    ensures taken { peeked.new ≡ None }
-    ensures rows { option_to_list peeked.old ++ rows.old ≡ option_to_list result ++ rows.new }
-    ensures none { IfNone result (rows.new ≡ []) }
-{
-    match peeked.take() {
-        Some(row) => Some(row),
-        None => rows.next(),
-    }
-}
-
-/// The next piece. It reads no row twice, and at most one after the piece.
-#[tactic(auto, using(crate::proofs::GrowLemmas::opened_grows, crate::proofs::GrowLemmas::after_has_room), unfolding(crate::specs::Implementation::Growing::pieces_left))]
-#[inline(always)]
-fn next_piece(
-    cut: &Cut,
-    at: &mut Cursor,
-    peeked: &mut Option<Row>,
-    rows: &mut Rows<'_>,
-) -> Option<Piece>
-    requires { HasRoom at.old (option_to_list peeked.old ++ rows.old) }
-    ensures first { pieces_left cut.now at.old (option_to_list peeked.old ++ rows.old) ≡
-        option_to_list result ++ pieces_left cut.now at.new
-        (option_to_list peeked.new ++ rows.new) }
-    ensures none { IfNone result (pieces_left cut.now at.new
-        (option_to_list peeked.new ++ rows.new) ≡ []) }
-    ensures room { HasRoom at.new (option_to_list peeked.new ++ rows.new) }
-{
-    let Some(first) = next_row(peeked, rows) else {
-        return None;
-    };
-    let filled = fill(cut, opened(*at, &first), rows);
-    *at = filled.piece.cursor_after();
-    *peeked = filled.peeked;
-    Some(filled.piece)
-}
-
 impl<'a> Iterator for Pieces<'a> {
     type Item = Piece;
 
@@ -207,8 +167,17 @@ impl<'a> Iterator for Pieces<'a> {
 
     ghost remaining = { item_count (λ rest. rest) };
 
+    /// The next piece. It reads no row twice, and at most one after the piece.
+    #[tactic(auto, using(crate::proofs::GrowLemmas::after_has_room), unfolding(crate::specs::Implementation::Growing::pieces_left))]
     #[inline(always)]
     fn next(&mut self) -> Option<Piece> {
-        next_piece(&self.cut, &mut self.at, &mut self.peeked, &mut self.rows)
+        let first = match self.peeked.take() {
+            Some(row) => row,
+            None => self.rows.next()?,
+        };
+        let filled = fill(&self.cut, opened(self.at, &first), &mut self.rows);
+        self.at = filled.piece.cursor_after();
+        self.peeked = filled.peeked;
+        Some(filled.piece)
     }
 }
