@@ -1,7 +1,7 @@
 //! How a run is cut.
 
-ghost use Rattle.std.specs.Prelude.{◌≡◌, ◌<◌, ◌↔◌, false, true, IsTrue, IsSome, IfSome};
-ghost use Rattle.mp4_pieces.specs.Allowed.{IsAllowed, IsAllowedSize};
+ghost use Rattle.std.specs.Prelude.{◌≡◌, ◌<◌, ◌↔◌, false, true, IsSome, IfSome};
+ghost use Rattle.mp4_pieces.specs.Allowed.{IsAllowed};
 
 /// The most samples that a piece may be allowed.
 pub const MOST_IN_PIECE: u32 = 1_000_000;
@@ -23,16 +23,6 @@ pub struct Cut {
     ghost some: { 0 < samples },
 }
 
-/// Whether so many bytes are allowed.
-fn is_allowed(bytes: Option<u64>) -> bool
-    ensures { IsTrue result ↔ IfSome bytes IsAllowedSize }
-{
-    match bytes {
-        None => true,
-        Some(bytes) => 1 <= bytes && bytes <= MOST_BYTES,
-    }
-}
-
 impl Cut {
     /// A cut into pieces of at most so many samples, and of at most so many bytes where that is
     /// asked for: a sample that has more is a piece by itself. With `index` there is an index before
@@ -45,7 +35,11 @@ impl Cut {
         ensures index { IfSome result (λ cut. cut.index ≡ index) }
         ensures sync { IfSome result (λ cut. cut.sync ≡ false) }
     {
-        if samples == 0 || samples > MOST_IN_PIECE || !is_allowed(bytes) {
+        let is_allowed = match bytes {
+            None => true,
+            Some(bytes) => 1 <= bytes && bytes <= MOST_BYTES,
+        };
+        if samples == 0 || samples > MOST_IN_PIECE || !is_allowed {
             return None;
         }
         Some(Cut {
