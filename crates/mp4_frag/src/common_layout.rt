@@ -12,13 +12,13 @@ ghost use Rattle.mp4_box.specs.Order.{least_from};
 ghost use Rattle.mp4_box.specs.Trees.{box_at, box_faults, box_len, view};
 ghost use Rattle.mp4_traf.specs.Implementation.Heads.{HasTicks};
 ghost use Rattle.mp4_frag.specs.Implementation.AtOnce.{IsEarly};
-ghost use Rattle.mp4_traf.specs.Kinds.{is_kind, mfhd, tfdt, tfhd, traf, trun};
+ghost use Rattle.mp4_traf.specs.Kinds.{is_kind};
 ghost use Rattle.mp4_frag.specs.SingleRuns.{IsSingle};
 ghost use Rattle.mp4_frag.specs.Moofs.{value_faults};
 ghost use Rattle.mp4_frag.specs.Rules.{form_faults};
 ghost use Rattle.mp4_traf.specs.Runs.{moof_at};
 ghost use Rattle.mp4_traf.specs.Tfhd.{track_id};
-ghost use Rattle.mp4_frag.specs.Implementation.CommonLayout.{HoldsThree, HoldsTwo, HasCommonLayout, common_faults};
+ghost use Rattle.mp4_frag.specs.Implementation.CommonLayout.{HasCommonLayout, common_faults};
 
 use crate::at_once::is_early;
 use crate::counts::MOST_IN_MOOF;
@@ -31,21 +31,6 @@ use mp4_traf::{
     FlagsOnce, LONG_TFDT_LEN, TFDT_LEN, TfhdLength, TrunLength, base_media_decode_time, note_tfhd,
     sample_count,
 };
-
-/// The boxes in a moof.
-#[derive(Clone, Copy)]
-struct Two<'a> {
-    mfhd: BoxRef<'a>,
-    traf: BoxRef<'a>,
-}
-
-/// The boxes in a traf.
-#[derive(Clone, Copy)]
-struct Three<'a> {
-    tfhd: BoxRef<'a>,
-    tfdt: BoxRef<'a>,
-    trun: BoxRef<'a>,
-}
 
 /// The boxes of a moof of the common layout.
 #[derive(Clone, Copy)]
@@ -98,68 +83,29 @@ fn rest_after<'a>(bytes: &'a [u8], this: &BoxRef<'_>) -> &'a [u8]
     rest
 }
 
-/// The boxes in a moof that has just an mfhd and a traf, which take all of its payload.
-#[inline(always)]
-fn two_in<'a>(moof: &BoxRef<'a>) -> Option<Two<'a>>
-    ensures holds { IfSome result (λ two.
-        HoldsTwo (view moof.now) (view two.mfhd) (view two.traf)) }
-    ensures mfhd { IfSome result (λ two. is_kind mfhd (view two.mfhd) ≡ true) }
-    ensures traf { IfSome result (λ two. is_kind traf (view two.traf) ≡ true) }
-{
-    let at = moof.offset + moof.header.header_len;
-    let Some(mfhd) = plain_first(MFHD, moof.payload, at) else {
-        return None;
-    };
-    let rest = rest_after(moof.payload, &mfhd);
-    let Some(traf) = plain_first(TRAF, rest, at + 8 + mfhd.payload.len() as u64) else {
-        return None;
-    };
-    if traf.payload.len() + 8 != rest.len() {
-        return None;
-    }
-    Some(Two { mfhd, traf })
-}
-
-/// The boxes in a traf that has just a tfhd, a tfdt and a trun, which take all of its payload.
-#[inline(always)]
-fn three_in<'a>(traf: &BoxRef<'a>) -> Option<Three<'a>>
-    ensures holds { IfSome result (λ three. HoldsThree (view traf.now)
-        (view three.tfhd) (view three.tfdt) (view three.trun)) }
-    ensures tfhd { IfSome result (λ three. is_kind tfhd (view three.tfhd) ≡ true) }
-    ensures tfdt { IfSome result (λ three. is_kind tfdt (view three.tfdt) ≡ true) }
-    ensures trun { IfSome result (λ three. is_kind trun (view three.trun) ≡ true) }
-{
-    let at = traf.offset + traf.header.header_len;
-    let Some(tfhd) = plain_first(TFHD, traf.payload, at) else {
-        return None;
-    };
-    let rest = rest_after(traf.payload, &tfhd);
-    let at = at + 8 + tfhd.payload.len() as u64;
-    let Some(tfdt) = plain_first(TFDT, rest, at) else {
-        return None;
-    };
-    let rest = rest_after(rest, &tfdt);
-    let Some(trun) = plain_first(TRUN, rest, at + 8 + tfdt.payload.len() as u64) else {
-        return None;
-    };
-    if trun.payload.len() + 8 != rest.len() {
-        return None;
-    }
-    Some(Three { tfhd, tfdt, trun })
-}
-
-/// The boxes of a moof, where it has the common layout.
+/// The boxes of a moof, where it has the common layout: those of the moof and of its traf take all of their payload.
 #[inline(always)]
 fn common_of<'a>(moof: &BoxRef<'a>) -> Option<CommonLayout<'a>>
     ensures { IfSome result (λ u. HasCommonLayout (view moof.now) (view u.mfhd) (view u.traf)
         (view u.tfhd) (view u.tfdt) (view u.trun)) }
 {
-    let Some(Two { mfhd, traf }) = two_in(moof) else {
+    let at = moof.offset + moof.header.header_len;
+    let mfhd = plain_first(MFHD, moof.payload, at)?;
+    let rest = rest_after(moof.payload, &mfhd);
+    let traf = plain_first(TRAF, rest, at + 8 + mfhd.payload.len() as u64)?;
+    if traf.payload.len() + 8 != rest.len() {
         return None;
-    };
-    let Some(Three { tfhd, tfdt, trun }) = three_in(&traf) else {
+    }
+    let at = traf.offset + traf.header.header_len;
+    let tfhd = plain_first(TFHD, traf.payload, at)?;
+    let rest = rest_after(traf.payload, &tfhd);
+    let at = at + 8 + tfhd.payload.len() as u64;
+    let tfdt = plain_first(TFDT, rest, at)?;
+    let rest = rest_after(rest, &tfdt);
+    let trun = plain_first(TRUN, rest, at + 8 + tfdt.payload.len() as u64)?;
+    if trun.payload.len() + 8 != rest.len() {
         return None;
-    };
+    }
     Some(CommonLayout {
         mfhd,
         traf,
