@@ -8,9 +8,7 @@ ghost use Rattle.std.specs.Prelude.{◌≡◌, ◌∷◌, ◌≤◌, ◌^◌, �
 ghost use Rattle.std.specs.List.{position};
 ghost use Rattle.std.specs.Str.{bytes_eq};
 ghost use Rattle.mp4_box.specs.Headers.{IsWhole, uuid};
-ghost use Rattle.mp4_box.specs.Order.{least_from};
 ghost use Rattle.mp4_box.specs.Trees.{box_at, box_faults, box_len, view};
-ghost use Rattle.mp4_traf.specs.Implementation.Heads.{HasTicks};
 ghost use Rattle.mp4_frag.specs.Implementation.AtOnce.{IsEarly};
 ghost use Rattle.mp4_traf.specs.Kinds.{is_kind};
 ghost use Rattle.mp4_frag.specs.SingleRuns.{IsSingle};
@@ -18,14 +16,14 @@ ghost use Rattle.mp4_frag.specs.Moofs.{value_faults};
 ghost use Rattle.mp4_frag.specs.Rules.{form_faults};
 ghost use Rattle.mp4_traf.specs.Runs.{moof_at};
 ghost use Rattle.mp4_traf.specs.Tfhd.{track_id};
-ghost use Rattle.mp4_frag.specs.Implementation.CommonLayout.{HasCommonLayout, common_faults};
+ghost use Rattle.mp4_frag.specs.Implementation.CommonLayout.{HasCommonLayout};
 
 use crate::at_once::is_early;
 use crate::counts::MOST_IN_MOOF;
 use crate::mfhd::MFHD_LEN;
 use crate::single_run::{SingleRun, run_with};
 use mp4_box::types::{MFHD, MOOF, TFDT, TFHD, TRAF, TRUN};
-use mp4_box::{BoxRef, Check, Fault, FourCc, Header, Layout, Size, array_at, u32_at};
+use mp4_box::{BoxRef, Check, FourCc, Header, Layout, Size, array_at, u32_at};
 use mp4_init::TrackList;
 use mp4_traf::{
     FlagsOnce, LONG_TFDT_LEN, TFDT_LEN, TfhdLength, TrunLength, base_media_decode_time, note_tfhd,
@@ -115,31 +113,6 @@ fn common_of<'a>(moof: &BoxRef<'a>) -> Option<CommonLayout<'a>>
     })
 }
 
-/// Notes what is at fault with each box of a moof of the common layout by itself. The index of its track, where there
-/// is one.
-#[inline(always)]
-#[tactic(auto, using(mp4_box::proofs::OrderLemmas::least_from_append), unfolding(mp4_box::specs::Order::least_from))]
-fn note_common(
-    tracks: &TrackList,
-    common_layout: &CommonLayout<'_>,
-    best: &mut Option<Fault>,
-) -> Option<usize>
-    ensures found { result ≡
-        position (λ t. t.id == track_id common_layout.now.tfhd.payload.now) tracks.now }
-    ensures within { IfSome result (λ i. i < length tracks.now) }
-    ensures best { best.new ≡ least_from best.old (common_faults tracks.now (view common_layout.now.mfhd)
-        (view common_layout.now.tfhd) (view common_layout.now.tfdt) (view common_layout.now.trun)) }
-    ensures ticks { HasTicks tracks.now (view common_layout.now.tfhd) }
-{
-    Layout::Exactly(MFHD_LEN).note_at(&common_layout.mfhd, best);
-    TfhdLength.note_at(&common_layout.tfhd, best);
-    let found = note_tfhd(tracks, &common_layout.tfhd, best);
-    Layout::Versioned(TFDT_LEN, LONG_TFDT_LEN).note_at(&common_layout.tfdt, best);
-    TrunLength.note_at(&common_layout.trun, best);
-    FlagsOnce.note_at(&common_layout.trun, best);
-    found
-}
-
 /// The index of the track of a moof of the common layout, where nothing is at fault with it and its time is early.
 #[inline(always)]
 fn sound_track(
@@ -158,7 +131,12 @@ fn sound_track(
     ensures within { IfSome result (λ i. i < length tracks.now) }
 {
     let mut best = None;
-    let found = note_common(tracks, common_layout, &mut best);
+    Layout::Exactly(MFHD_LEN).note_at(&common_layout.mfhd, &mut best);
+    TfhdLength.note_at(&common_layout.tfhd, &mut best);
+    let found = note_tfhd(tracks, &common_layout.tfhd, &mut best);
+    Layout::Versioned(TFDT_LEN, LONG_TFDT_LEN).note_at(&common_layout.tfdt, &mut best);
+    TrunLength.note_at(&common_layout.trun, &mut best);
+    FlagsOnce.note_at(&common_layout.trun, &mut best);
     if best.is_some() || sample_count(common_layout.trun.payload) > MOST_IN_MOOF {
         return None;
     }

@@ -1,5 +1,7 @@
-use Rattle.std.proofs.Common.{◌≡◌, ◌∙◌, [], arith, sym}
+use Rattle.std.proofs.Common.{◌≡◌, ◌∙◌, [], None, arith, sym, rules}
+use Rattle.mp4_box.specs.Order.{least_from}
 use Rattle.mp4_box.specs.Trees.{view}
+use Rattle.mp4_box.proofs.OrderLemmas.{least_from_append}
 use Rattle.mp4_frag.specs.Implementation.CommonLayout.{common_faults}
 use Rattle.mp4_frag.proofs.CommonLayoutLemmas.{none_noted, common_early, common_forms, common_tree, common_values}
 use Rattle.mp4_frag.proofs.common_layout.sound_track.Goals as goal
@@ -7,7 +9,9 @@ use Rattle.mp4_frag.proofs.common_layout.sound_track.Goals as goal
 none : (c : goal.Else-not-is_early) → common_faults c.args.tracks.now (view c.args.common_layout.now.mfhd) (view c.args.common_layout.now.tfhd) (view c.args.common_layout.now.tfdt) (view c.args.common_layout.now.trun) ≡ []
 none c =
     let u = c.args.common_layout.now in
-    none_noted (common_faults c.args.tracks.now (view u.mfhd) (view u.tfhd) (view u.tfdt) (view u.trun)) c.note_common-found.new.best c.note_common-found.ensures.best (sym c.if-is_some.ensures)
+    let faults = common_faults c.args.tracks.now (view u.mfhd) (view u.tfhd) (view u.tfdt) (view u.trun) in
+    let noted : c.note_at-5.new.best ≡ least_from None faults = search (rules, least_from_append) in
+    none_noted faults c.note_at-5.new.best noted (sym c.if-is_some.ensures)
 
 pub returns-clause-tree : goal.returns-clause-tree
 returns-clause-tree c = λ _.
@@ -27,4 +31,4 @@ returns-clause-values c = λ _.
 pub returns-clause-early : goal.returns-clause-early
 returns-clause-early c = λ _.
     let u = c.args.common_layout.now in
-    common_early c.args.tracks.now (view c.args.moof.now) (view u.mfhd) (view u.traf) (view u.tfhd) (view u.tfdt) (view u.trun) c.requires (none c) (sym c.is_early.ensures ∙ c.if-not-is_early.false) c.note_common-found.ensures.ticks
+    common_early c.args.tracks.now (view c.args.moof.now) (view u.mfhd) (view u.traf) (view u.tfhd) (view u.tfdt) (view u.trun) c.requires (none c) (sym c.is_early.ensures ∙ c.if-not-is_early.false) c.note_tfhd-found.ensures.ticks
