@@ -4,7 +4,7 @@
 //! Nearly all moofs of live streams with one track have this form. The findings are the same as those of the general
 //! way.
 
-ghost use Rattle.std.specs.Prelude.{◌≡◌, ◌∷◌, ◌≤◌, ◌^◌, ◌+◌, ◌<◌, ◌==◌, [], not, true, drop, length, Some, IfSome, IsSome};
+ghost use Rattle.std.specs.Prelude.{◌≡◌, ◌∷◌, ◌≤◌, ◌^◌, ◌+◌, ◌<◌, ◌==◌, [], not, true, length, Some, IfSome, IsSome};
 ghost use Rattle.std.specs.List.{position};
 ghost use Rattle.std.specs.Str.{bytes_eq};
 ghost use Rattle.mp4_box.specs.Headers.{IsWhole, uuid};
@@ -71,16 +71,6 @@ fn plain_first<'a>(kind: FourCc, bytes: &'a [u8], offset: u64) -> Option<BoxRef<
     })
 }
 
-/// The bytes of a payload after the box with which it begins.
-#[inline(always)]
-fn rest_after<'a>(bytes: &'a [u8], this: &BoxRef<'_>) -> &'a [u8]
-    requires { box_len (view this.now) ≤ length bytes.now }
-    ensures { result.now ≡ drop (box_len (view this.now)) bytes.now }
-{
-    let (_, rest) = bytes.split_at(this.header.header_len as usize + this.payload.len());
-    rest
-}
-
 /// The boxes of a moof, where it has the common layout: those of the moof and of its traf take all of their payload.
 #[inline(always)]
 fn common_of<'a>(moof: &BoxRef<'a>) -> Option<CommonLayout<'a>>
@@ -89,17 +79,17 @@ fn common_of<'a>(moof: &BoxRef<'a>) -> Option<CommonLayout<'a>>
 {
     let at = moof.offset + moof.header.header_len;
     let mfhd = plain_first(MFHD, moof.payload, at)?;
-    let rest = rest_after(moof.payload, &mfhd);
+    let (_, rest) = moof.payload.split_at(8 + mfhd.payload.len());
     let traf = plain_first(TRAF, rest, at + 8 + mfhd.payload.len() as u64)?;
     if traf.payload.len() + 8 != rest.len() {
         return None;
     }
     let at = traf.offset + traf.header.header_len;
     let tfhd = plain_first(TFHD, traf.payload, at)?;
-    let rest = rest_after(traf.payload, &tfhd);
+    let (_, rest) = traf.payload.split_at(8 + tfhd.payload.len());
     let at = at + 8 + tfhd.payload.len() as u64;
     let tfdt = plain_first(TFDT, rest, at)?;
-    let rest = rest_after(rest, &tfdt);
+    let (_, rest) = rest.split_at(8 + tfdt.payload.len());
     let trun = plain_first(TRUN, rest, at + 8 + tfdt.payload.len() as u64)?;
     if trun.payload.len() + 8 != rest.len() {
         return None;
