@@ -30,32 +30,23 @@ fn mdat_header(bytes: u64) -> Fields
     header
 }
 
-/// The header of an mdat before so few bytes of media that its size has 32 bits.
-#[inline(always)]
-#[tactic(auto, unfolding(crate::specs::Mdat::mdat_header))]
-fn short_header(bytes: u64) -> [u8; 8]
-    requires { 8 + bytes < 2 ^ 32 }
-    ensures { result ≡ mdat_header bytes }
-{
-    let mut header = [0; 8];
-    BigEndian::write_u32(&mut header, 8 + bytes as u32);
-    header[4..].copy_from_slice(&MDAT.0);
-    header
-}
-
 /// Puts the header of an mdat before so many bytes of media, at most 2^62, into a block that is
 /// borrows a sink.
 ///
 /// # Errors
 ///
 /// `Failed` where the sink failed.
+#[tactic(auto, unfolding(crate::specs::Mdat::mdat_header))]
 pub fn put_mdat_header<W: Sink>(bytes: u64, block: &mut Block, w: &mut W) -> Result<(), Failed>
     requires { bytes ≤ 2 ^ 62 }
     ensures { Puts (sent W.contents W.has_failed w.old w.new) block.old block.new (mdat_header bytes)
         result }
 {
     if bytes < LONG_MEDIA {
-        return block.put_array(w, &short_header(bytes));
+        let mut header = [0; 8];
+        BigEndian::write_u32(&mut header, 8 + bytes as u32);
+        header[4..].copy_from_slice(&MDAT.0);
+        return block.put_array(w, &header);
     }
     let header = mdat_header(bytes);
     block.put(w, header.as_slice())
