@@ -14,22 +14,6 @@ use mp4_ends::{Failed, Sink};
 use mp4_machine::Block;
 use mp4_pieces::LONG_MEDIA;
 
-/// The header of an mdat before so many bytes of media.
-#[tactic(auto, unfolding(crate::specs::Mdat::mdat_header))]
-fn mdat_header(bytes: u64) -> Fields
-    requires { bytes ≤ 2 ^ 62 }
-    ensures { result ≡ mdat_header bytes }
-{
-    let mut header = Fields::new();
-    if bytes < LONG_MEDIA {
-        header.put_header(8 + bytes as u32, MDAT);
-    } else {
-        header.put_header(1, MDAT);
-        header.put_u64(16 + bytes);
-    }
-    header
-}
-
 /// Puts the header of an mdat before so many bytes of media, at most 2^62, into a block that is
 /// borrows a sink.
 ///
@@ -48,7 +32,9 @@ pub fn put_mdat_header<W: Sink>(bytes: u64, block: &mut Block, w: &mut W) -> Res
         header[4..].copy_from_slice(&MDAT.0);
         return block.put_array(w, &header);
     }
-    let header = mdat_header(bytes);
+    let mut header = Fields::new();
+    header.put_header(1, MDAT);
+    header.put_u64(16 + bytes);
     block.put(w, header.as_slice())
 }
 
