@@ -106,25 +106,6 @@ pub fn truns_of<'a>(moof: &BoxRef<'a>) -> Truns<'a>
     }
 }
 
-/// The next trun.
-#[inline(always)]
-#[tactic(auto, using(crate::proofs::ChildLemmas::truns_next))]
-fn next_trun<'a>(trafs: &mut OfKind<'a>, truns: &mut OfKind<'a>) -> Option<BoxRef<'a>>
-    ensures first { truns.old ++ paths_below (trun ∷ []) trafs.old ≡
-        seen_of result ++ (truns.new ++ paths_below (trun ∷ []) trafs.new) }
-    ensures none { IfNone result (truns.new ++ paths_below (trun ∷ []) trafs.new ≡ []) }
-{
-    loop {
-        if let Some(trun) = truns.next() {
-            return Some(trun);
-        }
-        let Some(traf) = trafs.next() else {
-            return None;
-        };
-        *truns = children_of(TRUN, &traf);
-    }
-}
-
 impl<'a> Iterator for Truns<'a> {
     type Item = BoxRef<'a>;
 
@@ -132,8 +113,15 @@ impl<'a> Iterator for Truns<'a> {
 
     ghost remaining = { item_count (λ t. t) };
 
+    #[tactic(auto, using(crate::proofs::ChildLemmas::truns_next))]
     #[inline(always)]
     fn next(&mut self) -> Option<BoxRef<'a>> {
-        next_trun(&mut self.trafs, &mut self.truns)
+        loop {
+            if let Some(trun) = self.truns.next() {
+                return Some(trun);
+            }
+            let traf = self.trafs.next()?;
+            self.truns = children_of(TRUN, &traf);
+        }
     }
 }

@@ -250,28 +250,6 @@ impl<'a> Trafs<'a> {
     }
 }
 
-/// The next traf among the children that are left.
-fn next_traf<'a>(
-    moof_bytes: &'a [u8],
-    moof: u64,
-    tracks: &TrackList,
-    walk: &mut Walk<'a>,
-) -> Option<Traf<'a>>
-    requires sound { AllByRecursion IsSound
-        (trafs_by (moof_at moof_bytes.now moof) tracks.now walk.old) }
-    ensures first { trafs_by (moof_at moof_bytes.now moof) tracks.now walk.old ≡
-        option_to_list result ++ trafs_by (moof_at moof_bytes.now moof) tracks.now walk.new }
-    ensures none { IfNone result
-        (trafs_by (moof_at moof_bytes.now moof) tracks.now walk.new ≡ []) }
-    ensures sound { AllByRecursion IsSound
-        (trafs_by (moof_at moof_bytes.now moof) tracks.now walk.new) }
-{
-    let Some(this) = next_of(TRAF, walk) else {
-        return None;
-    };
-    Some(traf_of(moof_bytes, moof, tracks, &this))
-}
-
 impl<'a> Iterator for Trafs<'a> {
     type Item = Traf<'a>;
 
@@ -280,6 +258,7 @@ impl<'a> Iterator for Trafs<'a> {
     ghost remaining = { item_count (λ rest. rest) };
 
     fn next(&mut self) -> Option<Traf<'a>> {
-        next_traf(self.moof_bytes, self.moof, self.tracks, &mut self.walk)
+        let this = next_of(TRAF, &mut self.walk)?;
+        Some(traf_of(self.moof_bytes, self.moof, self.tracks, &this))
     }
 }
