@@ -1,6 +1,6 @@
 //! The header of the media data, mdat (ISO/IEC 14496-12, 4.2 and 8.1.1).
 
-ghost use Rattle.std.specs.Prelude.{◌≡◌, ◌+◌, ◌≤◌, ◌<◌, ◌^◌, ◌++◌, length};
+ghost use Rattle.std.specs.Prelude.{◌≤◌, ◌^◌, ◌++◌, length};
 ghost use Rattle.byteorder.specs.Endian.{big_bytes};
 ghost use Rattle.mp4_cut.specs.Mdat.{mdat, mdat_header};
 ghost use Rattle.mp4_machine.specs.Ends.{sent};

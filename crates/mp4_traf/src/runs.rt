@@ -1,6 +1,6 @@
 //! From the truns of a traf to its runs.
 
-ghost use Rattle.std.specs.Prelude.{◌≡◌, ◌+◌, ◌∷◌, [], ◌<◌, ◌^◌, length, pos, option_to_list, None, IfNone, IfSome, ◌++◌};
+ghost use Rattle.std.specs.Prelude.{◌≡◌, ◌+◌, ◌∷◌, ◌<◌, ◌^◌, length, pos, None, IfSome};
 ghost use Rattle.std.specs.List.{AllByRecursion};
 ghost use Rattle.std.specs.Iterator.{YieldsFirst, item_count};
 ghost use Rattle.mp4_box.specs.Trees.{children, view};
@@ -160,27 +160,6 @@ pub fn run_end(run: &Run) -> RunStart
     }
 }
 
-/// The run of the next trun among the children that are left, after the runs so far.
-#[inline(always)]
-fn next_run<'a>(
-    context: &TrafContext<'a>,
-    run_start: &mut RunStart,
-    walk: &mut Walk<'a>,
-) -> Option<Run>
-    requires range { AllByRecursion InRange (runs_left context.now run_start.old walk.old) }
-    ensures first { runs_left context.now run_start.old walk.old ≡
-        option_to_list result ++ runs_left context.now run_start.new walk.new }
-    ensures none { IfNone result (runs_left context.now run_start.new walk.new ≡ []) }
-    ensures range { AllByRecursion InRange (runs_left context.now run_start.new walk.new) }
-{
-    let Some(trun) = next_of(TRUN, walk) else {
-        return None;
-    };
-    let run = run_of(context, run_start, &trun);
-    *run_start = run_end(&run);
-    Some(run)
-}
-
 impl<'a> Iterator for Runs<'a> {
     type Item = Run;
 
@@ -190,6 +169,11 @@ impl<'a> Iterator for Runs<'a> {
 
     #[inline(always)]
     fn next(&mut self) -> Option<Run> {
-        next_run(&self.context, &mut self.run_start, &mut self.walk)
+        let Some(trun) = next_of(TRUN, &mut self.walk) else {
+            return None;
+        };
+        let run = run_of(&self.context, &self.run_start, &trun);
+        self.run_start = run_end(&run);
+        Some(run)
     }
 }
