@@ -1,14 +1,12 @@
 //! Requirements of one box of a moof.
 
-ghost use Rattle.std.specs.Prelude.{◌≡◌, ◌<◌, ◌^◌, ◌==◌, Option, IfSome, length, slice_get};
+ghost use Rattle.std.specs.Prelude.{◌≡◌, ◌<◌, ◌==◌, IfSome, length};
 ghost use Rattle.std.specs.List.{position};
-ghost use Rattle.std.specs.Option.{option_and_then, unwrap_or};
 ghost use Rattle.mp4_box.specs.Trees.{view};
 ghost use Rattle.mp4_box.specs.Order.{least_from};
 ghost use Rattle.mp4_box.specs.declared.headers.FourCc.{FourCc};
 ghost use Rattle.mp4_traf.specs.Implementation.Heads.{HasTicks};
-ghost use Rattle.mp4_traf.specs.Rules.{entry_of, holds_only, is_among, tfhd_faults, tfhd_length, track_faults, track_with, trun_faults, trun_length, unsupported};
-ghost use Rattle.mp4_traf.specs.Runs.{no_track};
+ghost use Rattle.mp4_traf.specs.Rules.{entry_of, holds_only, is_among, tfhd_faults, tfhd_length, trun_faults, trun_length, unsupported};
 ghost use Rattle.mp4_traf.specs.Tfhd.{track_id};
 
 use crate::fields::{flags_of, number_or};
@@ -88,47 +86,12 @@ impl<'a> Check for HoldsOnly<'a> {
     }
 }
 
-/// The track at this index, where there is one.
-fn track_found(tracks: &TrackList, found: Option<usize>) -> Option<Track>
-    requires { IfSome found (λ i. i < length tracks.now) }
-    ensures { result ≡ option_and_then (slice_get tracks.now) found }
-{
-    match found {
-        Some(i) => Some(tracks.at(i)),
-        None => None,
-    }
-}
-
-/// The track with this track_ID.
-pub(crate) fn track_with(tracks: &TrackList, id: u32) -> Option<Track>
-    ensures { result ≡ track_with id tracks.now }
-{
-    track_found(tracks, tracks.find(id))
-}
-
 /// The index of the sample entry that a tfhd names, or else its track.
 pub(crate) fn entry_of(track: Track, tfhd: &[u8]) -> u32
     ensures { result ≡ entry_of track tfhd.now }
 {
     let fields = tfhd_fields(flags_of(tfhd));
     number_or(tfhd, fields.sample_description_index, track.desc)
-}
-
-/// Notes that a tfhd is of no track, or of a sample entry that the track hasn't.
-#[tactic(auto, unfolding(mp4_box::specs::Order::least_from))]
-fn note_track(track: Option<Track>, tfhd: &BoxRef<'_>, best: &mut Option<Fault>)
-    ensures best { best.new ≡ least_from best.old (track_faults track (view tfhd.now)) }
-    ensures small { (unwrap_or track no_track).duration < 2 ^ 32 }
-{
-    match track {
-        None => note(best, tfhd.fault(Rule::UnknownTrack)),
-        Some(track) => {
-            let index = entry_of(track, tfhd.payload);
-            if index == 0 || index > track.entries {
-                note(best, tfhd.fault(Rule::EntryIndex));
-            }
-        }
-    }
 }
 
 /// Notes what is at fault with the values of a tfhd. The index of its track, where there is one.
@@ -149,7 +112,16 @@ pub fn note_tfhd(tracks: &TrackList, tfhd: &BoxRef<'_>, best: &mut Option<Fault>
         note(best, tfhd.fault(Rule::EmptyDuration));
     }
     let found = tracks.find(track_id(tfhd.payload));
-    note_track(track_found(tracks, found), tfhd, best);
+    match found {
+        None => note(best, tfhd.fault(Rule::UnknownTrack)),
+        Some(i) => {
+            let track = tracks.at(i);
+            let index = entry_of(track, tfhd.payload);
+            if index == 0 || index > track.entries {
+                note(best, tfhd.fault(Rule::EntryIndex));
+            }
+        }
+    }
     found
 }
 

@@ -9,7 +9,7 @@ ghost use Rattle.mp4_traf.specs.Ranges.{InRange, IsSound};
 ghost use Rattle.mp4_traf.specs.Runs.{base_of, end_in, header_by, moof_at, known_track, no_track, runs_of, shared_by, track_of, traf_of, trafs_by};
 ghost use Rattle.mp4_traf.specs.Implementation.TrafContexts.{track_fragment, shared_of};
 
-use crate::checks::{entry_of, track_with};
+use crate::checks::entry_of;
 use crate::children::{children_of, next_of};
 use crate::fields::{flags_of, number_or, payload_at};
 use crate::runs::{RunStart, Runs};
@@ -64,7 +64,7 @@ const NO_TRACK: Track = Track {
 pub fn known_track(tracks: &TrackList, id: u32) -> Track
     ensures { result ≡ known_track id tracks.now }
 {
-    track_with(tracks, id).unwrap_or(NO_TRACK)
+    track_at(tracks, tracks.find(id))
 }
 
 /// The track at this index, where one was found; else one whose fields are all 0.
