@@ -9,13 +9,13 @@ ghost use Rattle.std.specs.List.{AllByRecursion, flat_map, list_all};
 ghost use Rattle.mp4_box.specs.Order.{least_from};
 ghost use Rattle.mp4_box.specs.Paths.{at_path, of_kind};
 ghost use Rattle.mp4_box.specs.Trees.{box_faults, box_len, children, view};
-ghost use Rattle.mp4_frag.specs.Implementation.AtOnce.{Adds, HasEarlyEnd, IsComplete, IsCount, IsEarly, TrafHasTicks, faults_in_moof, faults_in_traf, in_trafs, is_complete, is_early, most_32, most_64, passed_over};
+ghost use Rattle.mp4_frag.specs.Implementation.AtOnce.{Adds, HasEarlyEnd, IsComplete, IsCount, IsEarly, TrafHasTicks, faults_in_moof, faults_in_traf, in_trafs, is_complete, is_early, most_64, passed_over};
 ghost use Rattle.mp4_traf.specs.Implementation.Heads.{HasTicks};
-ghost use Rattle.mp4_traf.specs.Kinds.{is_kind, free, skip, tfdt, tfhd, to_trun, traf, trun};
+ghost use Rattle.mp4_traf.specs.Kinds.{is_kind, free, skip, tfdt, tfhd, to_trun, traf};
 ghost use Rattle.mp4_frag.specs.Moofs.{value_faults};
 ghost use Rattle.mp4_frag.specs.Repeats.{repeat_faults, trafs_of, untimed_ids};
 ghost use Rattle.mp4_frag.specs.Rules.{form_faults, samples_of};
-ghost use Rattle.mp4_traf.specs.Rules.{most_in_moof, samples_in};
+ghost use Rattle.mp4_traf.specs.Rules.{most_in_moof};
 
 use crate::counts::MOST_IN_MOOF;
 use crate::mfhd::MFHD_LEN;
@@ -104,32 +104,18 @@ fn count_kind(kind: FourCc, this: &BoxRef<'_>, count: &mut u64)
     }
 }
 
-/// Counts the samples of a trun.
-#[inline(always)]
-fn count_samples_of(this: &BoxRef<'_>, count: &mut u32)
-    ensures { IsCount most_32 count.old (samples_in (of_kind trun (view this.now ∷ []))) count.new }
-{
-    if this.header.kind.is(TRUN) {
-        *count = count.saturating_add(sample_count(this.payload));
-    }
-}
-
-/// Whether a child of a traf is no tfdt, or has an early time.
-#[inline(always)]
-fn is_in_time(child: &BoxRef<'_>) -> bool
-    ensures { result ≡ list_all is_early (of_kind tfdt (view child.now ∷ [])) }
-{
-    !child.header.kind.is(TFDT) || is_early(child)
-}
-
 /// Adds a child of a traf to the findings on the moof.
 #[inline(always)]
 fn add_child(child: &BoxRef<'_>, sound: &mut MoofCounts)
     ensures { Adds (view child.now ∷ []) sound.old sound.new }
 {
-    count_samples_of(child, &mut sound.samples);
-    count_kind(TRUN, child, &mut sound.truns);
-    sound.is_early = sound.is_early && is_in_time(child);
+    let kind = child.header.kind;
+    if kind.is(TRUN) {
+        sound.samples = sound.samples.saturating_add(sample_count(child.payload));
+        sound.truns = sound.truns.saturating_add(1);
+    } else if kind.is(TFDT) {
+        sound.is_early = sound.is_early && is_early(child);
+    }
 }
 
 /// Whether all three hold.
