@@ -94,22 +94,6 @@ pub(crate) fn find_by_place(
     search.offender
 }
 
-fn sort_words_by_track(words: &mut [[u64; 8]])
-    ensures same { IsPermutation words.old words.new }
-    ensures up { IsNonDecreasingBy track_word words.new }
-    ensures len { length words.new ≡ length words.old }
-{
-    words.sort_unstable_by_key(|words| listed_row(&row_of_words(*words)).track_key());
-}
-
-fn sort_words_by_place(words: &mut [[u64; 8]])
-    ensures same { IsPermutation words.old words.new }
-    ensures up { IsNonDecreasingBy place_word words.new }
-    ensures len { length words.new ≡ length words.old }
-{
-    words.sort_unstable_by_key(|words| listed_row(&row_of_words(*words)).place_key());
-}
-
 /// Sorts rows by track, and those of one track as they are listed.
 pub(crate) fn sort_by_track(rows: &mut Rows64)
     ensures same { IsPermutation rows.old.rows rows.new.rows }
@@ -117,7 +101,8 @@ pub(crate) fn sort_by_track(rows: &mut Rows64)
     ensures len { length rows.new.rows ≡ length rows.old.rows }
     ensures cap { rows.new.cap ≡ rows.old.cap }
 {
-    sort_words_by_track(rows.all_mut());
+    rows.all_mut()
+        .sort_unstable_by_key(|words| listed_row(&row_of_words(*words)).track_key());
 }
 
 /// Sorts rows by place, and those at one place as they are listed.
@@ -127,5 +112,6 @@ pub(crate) fn sort_by_place(rows: &mut Rows64)
     ensures len { length rows.new.rows ≡ length rows.old.rows }
     ensures cap { rows.new.cap ≡ rows.old.cap }
 {
-    sort_words_by_place(rows.all_mut());
+    rows.all_mut()
+        .sort_unstable_by_key(|words| listed_row(&row_of_words(*words)).place_key());
 }
