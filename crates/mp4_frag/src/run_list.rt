@@ -10,7 +10,6 @@ ghost use Rattle.mp4_frag.specs.Places.{listed_run};
 ghost use Rattle.mp4_traf.specs.Runs.{MoofBytes, moof_at};
 ghost use Rattle.mp4_frag.specs.RunLists.{taken_runs};
 ghost use Rattle.mp4_frag.specs.ListsOfRuns.{IsListOf};
-ghost use Rattle.mp4_frag.specs.Implementation.ListedRows.{IsFaultyByTrack, IsSorted};
 
 use crate::fill::fill;
 use crate::listed::{find_by_track, listed_row, sort_by_place, sort_by_track};
@@ -94,19 +93,6 @@ impl RunList {
     }
 }
 
-/// Sorts rows as they are taken, and returns what was found by track before.
-fn put_in_order(rows: &mut Rows64) -> Option<u64>
-    ensures faulty_by_track { IsFaultyByTrack rows.old.rows result }
-    ensures sorted { IsSorted rows.old.rows rows.new.rows }
-    ensures len { length rows.new.rows ≡ length rows.old.rows }
-    ensures cap { rows.new.cap ≡ rows.old.cap }
-{
-    sort_by_track(rows);
-    let faulty_by_track = find_by_track(rows);
-    sort_by_place(rows);
-    faulty_by_track
-}
-
 /// The list of the runs of the moof that the bytes are, which begins at this offset and has so many truns.
 fn list_in(
     ledger: &mut Ledger,
@@ -135,7 +121,9 @@ fn list_in(
         Err(refused) => return Err(refused),
     };
     fill(&mut rows, moof_bytes, offset, &moof, tracks);
-    let faulty_by_track = put_in_order(&mut rows);
+    sort_by_track(&mut rows);
+    let faulty_by_track = find_by_track(&rows);
+    sort_by_place(&mut rows);
     Ok(RunList {
         rows,
         faulty_by_track,

@@ -1,4 +1,5 @@
-use Rattle.std.proofs.Common.{◌≡◌, ◌∙◌, ◌*◌, ℕ, [], ◌∷◌, length, ap, arith}
+use Rattle.std.proofs.Common.{◌≡◌, ◌∙◌, ◌*◌, ℕ, [], ◌∷◌, length, ap, arith, rules}
+use Rattle.std.proofs.lemmas.List.Sorted.{IsPermutation-trans}
 use Rattle.mp4_box.specs.Paths.{at_path}
 use Rattle.mp4_box.specs.Trees.{Box, view}
 use Rattle.mp4_ledger.specs.Memory.{Rows, claimed}
@@ -6,6 +7,7 @@ use Rattle.mp4_ledger.specs.declared.ledger.Refused.TheVariants.{OverLimit}
 use Rattle.mp4_frag.specs.declared.run_list.RunList.{RunList as RowList}
 use Rattle.mp4_traf.specs.Kinds.{to_trun, traf}
 use Rattle.mp4_frag.specs.Moofs.{moof_runs, moof_truns}
+use Rattle.mp4_frag.specs.Implementation.ListedRows.{IsFaultyByTrack, IsSorted}
 use Rattle.mp4_frag.specs.Implementation.RunRows.{rows_of_trafs}
 use Rattle.mp4_traf.specs.Runs.{MoofBytes}
 use Rattle.mp4_frag.proofs.MoofListLemmas.{IsMoof, claim_is, claimed_so, filled, is_moof, known, length_filled, put_in, refused_so, room_for, sound_trafs}
@@ -46,7 +48,12 @@ returns-clause-list c =
     let f = is_moof c.args.offset c.args.moof_bytes.now m c.requires.whole (λ i. (c.type_inv.moof_bytes i).fits) c.requires.room c.whole_box-moof.ensures in
     let rows = put_in c.in-Ok.rows.rows c.fill.new.rows.rows (rows_of_trafs h c.args.tracks.now (at_path (traf ∷ []) m)) (ap (λ (t : Rows). t.rows) c.in-Ok.ensures.empty) c.fill.ensures.rows in
     let g = filled h c.args.tracks.now m c.fill.new.rows.rows f rows in
-    list_is h c.args.tracks.now c.fill.new.rows.rows c.put_in_order-faulty_by_track.new.rows.rows c.put_in_order-faulty_by_track.result (known h c.args.tracks.now m c.fill.new.rows.rows f g c.fill.ensures.fits) g c.put_in_order-faulty_by_track.ensures.faulty_by_track c.put_in_order-faulty_by_track.ensures.sorted
+    let faulty : IsFaultyByTrack c.fill.new.rows.rows c.find_by_track-faulty_by_track.result = search rules in
+    let sorted : IsSorted c.fill.new.rows.rows c.sort_by_place.new.rows.rows = record {
+      same = IsPermutation-trans c.fill.new.rows.rows c.sort_by_track.new.rows.rows c.sort_by_place.new.rows.rows c.sort_by_track.ensures.same c.sort_by_place.ensures.same;
+      up = c.sort_by_place.ensures.up;
+    } in
+    list_is h c.args.tracks.now c.fill.new.rows.rows c.sort_by_place.new.rows.rows c.find_by_track-faulty_by_track.result (known h c.args.tracks.now m c.fill.new.rows.rows f g c.fill.ensures.fits) g faulty sorted
 
 pub returns-clause-ok : goal.returns-clause-ok
 returns-clause-ok c =
@@ -70,7 +77,7 @@ invariant_of-result c =
     let rows = put_in c.in-Ok.rows.rows c.fill.new.rows.rows (rows_of_trafs h c.args.tracks.now (at_path (traf ∷ []) m)) (ap (λ (t : Rows). t.rows) c.in-Ok.ensures.empty) c.fill.ensures.rows in
     let n = length_filled h c.args.tracks.now m c.fill.new.rows.rows rows in
     let cap = ap (λ (t : Rows). t.cap) c.in-Ok.ensures.empty in
-    omega (arith, n, cap, (counted h m c.args.truns f c.requires.truns), c.fill.ensures.cap, c.put_in_order-faulty_by_track.ensures.len, c.put_in_order-faulty_by_track.ensures.cap)
+    omega (arith, n, cap, (counted h m c.args.truns f c.requires.truns), c.fill.ensures.cap, c.sort_by_track.ensures.len, c.sort_by_track.ensures.cap, c.sort_by_place.ensures.len, c.sort_by_place.ensures.cap)
 
 pub returns-clause-len : goal.returns-clause-len
 returns-clause-len c =
@@ -79,4 +86,4 @@ returns-clause-len c =
     let f = is_moof c.args.offset c.args.moof_bytes.now m c.requires.whole (λ i. (c.type_inv.moof_bytes i).fits) c.requires.room c.whole_box-moof.ensures in
     let rows = put_in c.in-Ok.rows.rows c.fill.new.rows.rows (rows_of_trafs h c.args.tracks.now (at_path (traf ∷ []) m)) (ap (λ (t : Rows). t.rows) c.in-Ok.ensures.empty) c.fill.ensures.rows in
     let n = length_filled h c.args.tracks.now m c.fill.new.rows.rows rows in
-    omega (arith, n, length_rows c.put_in_order-faulty_by_track.new.rows.rows, c.put_in_order-faulty_by_track.ensures.len, claim_is h c.args.tracks.now m (length c.fill.new.rows.rows) f n)
+    omega (arith, n, length_rows c.sort_by_place.new.rows.rows, c.sort_by_track.ensures.len, c.sort_by_place.ensures.len, claim_is h c.args.tracks.now m (length c.fill.new.rows.rows) f n)
