@@ -162,18 +162,6 @@ impl<'a> Model for Traf<'a> {
 }
 
 impl<'a> Traf<'a> {
-    /// The traf that this box is.
-    fn of(context: &TrafContext<'a>, time: u64, this: &BoxRef<'a>) -> Traf<'a>
-        requires { AllByRecursion InRange (runs_of (track_fragment context.now time this.now)) }
-        ensures { result ≡ track_fragment context.now time this.now }
-    {
-        Traf {
-            context: *context,
-            time,
-            this: *this,
-        }
-    }
-
     /// Its runs, in order (ISO/IEC 14496-12, 8.8.8).
     pub fn runs(&self) -> Runs<'a>
         ensures { result ≡ runs_of self.now }
@@ -199,8 +187,11 @@ pub(crate) fn traf_of<'a>(
         (view this.now) }
 {
     let track = track_of(tracks, this);
-    let context = context_of(moof_bytes, moof, track, this);
-    Traf::of(&context, base_of(track.next, this), this)
+    Traf {
+        context: context_of(moof_bytes, moof, track, this),
+        time: base_of(track.next, this),
+        this: *this,
+    }
 }
 
 /// Goes over the trafs of a moof.
