@@ -86,17 +86,6 @@ fn field_sum(groups: &[u8], at: Option<u32>, common_layout: u32, len: u32, count
     }
 }
 
-/// The sizes of `count` rows of a run, added up, of which the first group begins the bytes.
-#[inline(always)]
-fn bytes_in(run: &Run, groups: &[u8], count: u32) -> u64
-    ensures sum { result ≡ field_numbers groups.now run.now.fields.sample_size run.now.size
-        run.now.fields.len count }
-    ensures few { result ≤ 4294967295 * count }
-{
-    let fields = &run.fields;
-    field_sum(groups, fields.sample_size, run.size, fields.len, count)
-}
-
 /// The durations of `count` rows of a run, added up, of which the first group begins the bytes.
 #[inline(always)]
 fn ticks_in(run: &Run, groups: &[u8], count: u32) -> u64
@@ -129,7 +118,7 @@ fn sums_in(run: &Run, groups: &[u8], count: u32) -> Sums
     match (fields.sample_size, fields.sample_duration) {
         (Some(size), Some(duration)) => both_sums(groups, size, duration, fields.len, count),
         _ => Sums {
-            bytes: bytes_in(run, groups, count),
+            bytes: field_sum(groups, fields.sample_size, run.size, fields.len, count),
             ticks: ticks_in(run, groups, count),
         },
     }
