@@ -13,7 +13,7 @@
 //! | sample_composition_time_offset, signed at version 1 | then | 32 | 0x000800 |
 
 ghost use Rattle.std.specs.Prelude.{◌≡◌, ◌≤◌};
-ghost use Rattle.mp4_traf.specs.Trun.{data_offset, first_sample_flags, flags_conflict, sample_count, sample_fields, trun_broken, trun_fields, trun_len};
+ghost use Rattle.mp4_traf.specs.Trun.{data_offset, first_sample_flags, flags_conflict, sample_count, sample_fields, trun_broken, trun_fields};
 
 use crate::fields::{flags_of, place_if, signed_at, width_if};
 use mp4_box::{Flags, Rule, TrunFlags, number_at};
@@ -119,13 +119,6 @@ pub(crate) fn has_flags_conflict(word: u32) -> bool
     flags.contains(TrunFlags::FIRST_SAMPLE_FLAGS) && flags.contains(TrunFlags::SAMPLE_FLAGS)
 }
 
-/// How long the payload of a trun with these flags and so many samples is.
-fn trun_len(word: u32, count: u32) -> u64
-    ensures { result ≡ trun_len word count }
-{
-    u64::from(trun_fields(word).samples) + u64::from(sample_fields(word).len) * u64::from(count)
-}
-
 /// The rule that a payload breaks whose version or length isn't as it must be.
 #[tactic(auto, unfolding(crate::specs::Trun::trun_broken))]
 pub(crate) fn trun_broken(payload: &[u8]) -> Option<Rule>
@@ -138,7 +131,9 @@ pub(crate) fn trun_broken(payload: &[u8]) -> Option<Rule>
     if payload[0] > 1 {
         return Some(Rule::Version);
     }
-    if len as u64 == trun_len(flags_of(payload), sample_count(payload)) {
+    let flags = flags_of(payload);
+    let groups = u64::from(sample_fields(flags).len) * u64::from(sample_count(payload));
+    if len as u64 == u64::from(trun_fields(flags).samples) + groups {
         None
     } else {
         Some(Rule::FieldLength)
