@@ -6,7 +6,7 @@ ghost use Rattle.std.specs.Iterator.{YieldsFirst, item_count};
 ghost use Rattle.mp4_box.specs.Trees.{children, view};
 ghost use Rattle.mp4_traf.specs.Kinds.{trun};
 ghost use Rattle.mp4_traf.specs.Ranges.{InRange};
-ghost use Rattle.mp4_traf.specs.Runs.{end_place, run_at, run_of, start_by};
+ghost use Rattle.mp4_traf.specs.Runs.{end_place, run_at, run_of};
 ghost use Rattle.mp4_traf.specs.Implementation.TrafContexts.{runs_left, shared_of};
 ghost use Rattle.mp4_traf.specs.Implementation.Times.{ticks_in};
 
@@ -29,16 +29,6 @@ pub struct RunStart {
     pub place: i128,
 }
 
-/// Where a run begins: so far after the first byte of the moof, or where the run before it ends.
-fn start_by(moof: u64, last: i128, offset: Option<i32>) -> i128
-    ensures { result ≡ start_by moof last offset }
-{
-    match offset {
-        Some(offset) => i128::from(moof) + i128::from(offset),
-        None => last,
-    }
-}
-
 /// The run of a trun, but for its end and its bytes.
 #[inline(always)]
 #[tactic(auto, unfolding(crate::specs::Runs::run_at))]
@@ -48,6 +38,11 @@ pub fn run_at(context: &TrafContext<'_>, run_start: &RunStart, trun: &BoxRef<'_>
 {
     let flags = flags_of(trun.payload);
     let payload_at = (trun.offset + trun.header.header_len).saturating_sub(context.moof);
+    // Counted from the first byte of the moof, or where the run before it ends.
+    let place = match data_offset(trun.payload) {
+        Some(offset) => i128::from(context.moof) + i128::from(offset),
+        None => run_start.place,
+    };
     Run {
         track: context.header.track,
         entry: context.header.entry,
@@ -55,7 +50,7 @@ pub fn run_at(context: &TrafContext<'_>, run_start: &RunStart, trun: &BoxRef<'_>
         count: sample_count(trun.payload),
         time: run_start.time,
         end: run_start.time,
-        place: start_by(context.moof, run_start.place, data_offset(trun.payload)),
+        place,
         bytes: 0,
         offset: trun.offset,
         duration: context.header.duration,
