@@ -31,28 +31,9 @@ fn timed(payload: &[u8]) -> u32
     }
 }
 
-/// Where a traf ends that begins at a time, of which these children are left. Those of its samples that have durations
-/// of their own are counted.
-#[tactic(auto, using(crate::proofs::EndLemmas::tick_fits, crate::proofs::EndLemmas::tick_more), unfolding(crate::specs::Implementation::Ends::ticks_from))]
-fn end_of<'a>(context: &TrafContext<'_>, time: u64, rest: Walk<'a>, count: &mut u32) -> u64
-    requires late { late_from (shared_of context.now) time (of_kind trun rest) ≡ [] }
-    requires few { count.old + timed_in (of_kind trun rest) < 2 ^ 32 }
-    ensures end { result ≡ ticks_from (shared_of context.now) time (of_kind trun rest.entry) }
-    ensures count { count.new ≡ count.old + timed_in (of_kind trun rest.entry) }
-{
-    let mut end = time;
-    for child in rest {
-        if child.header.kind.is(TRUN) {
-            end += ticks_in(context, &child);
-            *count += timed(child.payload);
-        }
-    }
-    end
-}
-
 /// Sets where the track of a traf ends: where the traf does. Those of its samples that have durations of their own are
 /// counted.
-#[tactic(auto, unfolding(crate::specs::Runs::traf_of))]
+#[tactic(auto, using(crate::proofs::EndLemmas::tick_fits, crate::proofs::EndLemmas::tick_more), unfolding(crate::specs::Implementation::Ends::ticks_from, crate::specs::Runs::traf_of))]
 pub fn end_traf(
     moof_bytes: &[u8],
     moof: u64,
@@ -75,7 +56,13 @@ pub fn end_traf(
         tfhd: _,
         rest,
     } = start;
-    let end = end_of(&context, time, rest, count);
+    let mut end = time;
+    for child in rest {
+        if child.header.kind.is(TRUN) {
+            end += ticks_in(&context, &child);
+            *count += timed(child.payload);
+        }
+    }
     if let Some(i) = track {
         tracks.set_next(i, end);
     }
