@@ -1,35 +1,20 @@
 //! Where a traf ends.
 
 ghost use Rattle.std.specs.Prelude.{◌≡◌, ◌+◌, ◌^◌, ◌<◌, [], ◌∷◌};
-ghost use Rattle.mp4_box.specs.Paths.{at_path, of_kind};
+ghost use Rattle.mp4_box.specs.Paths.{at_path};
 ghost use Rattle.mp4_box.specs.Trees.{view};
 ghost use Rattle.mp4_traf.specs.Kinds.{trun};
 ghost use Rattle.mp4_traf.specs.Runs.{moof_at, traf_of};
-ghost use Rattle.mp4_traf.specs.Implementation.TrafContexts.{shared_of};
-ghost use Rattle.mp4_traf.specs.Settling.{ended, timed, timed_in};
-ghost use Rattle.mp4_traf.specs.Implementation.Ends.{EndsInTime, ticks_from};
-ghost use Rattle.mp4_traf.specs.Implementation.Times.{late_from};
+ghost use Rattle.mp4_traf.specs.Settling.{ended, timed_in};
+ghost use Rattle.mp4_traf.specs.Implementation.Ends.{EndsInTime};
 
 use crate::fields::flags_of;
 use crate::runs::ticks_in;
 use crate::start::{Start, start_of};
-use crate::traf::TrafContext;
 use crate::trun::{sample_count, sample_fields};
 use mp4_box::types::TRUN;
-use mp4_box::{BoxRef, Walk};
+use mp4_box::BoxRef;
 use mp4_init::TrackList;
-
-/// How many samples of a trun have durations of their own: all or none.
-#[tactic(auto, unfolding(crate::specs::Trun::sample_fields))]
-fn timed(payload: &[u8]) -> u32
-    ensures { result ≡ timed payload.now }
-{
-    if sample_fields(flags_of(payload)).sample_duration.is_some() {
-        sample_count(payload)
-    } else {
-        0
-    }
-}
 
 /// Sets where the track of a traf ends: where the traf does. Those of its samples that have durations of their own are
 /// counted.
@@ -60,7 +45,10 @@ pub fn end_traf(
     for child in rest {
         if child.header.kind.is(TRUN) {
             end += ticks_in(&context, &child);
-            *count += timed(child.payload);
+            // All samples of a trun have durations of their own, or none.
+            if sample_fields(flags_of(child.payload)).sample_duration.is_some() {
+                *count += sample_count(child.payload);
+            }
         }
     }
     if let Some(i) = track {

@@ -6,7 +6,8 @@ use Rattle.mp4_init.specs.declared.table.Track.{Track}
 use Rattle.mp4_traf.specs.Kinds.{is_kind, trun}
 use Rattle.mp4_traf.specs.Runs.{Shared, moof_at, track_of, traf_of}
 use Rattle.mp4_traf.specs.Implementation.TrafContexts.{shared_of}
-use Rattle.mp4_traf.specs.Settling.{timed_in}
+use Rattle.mp4_traf.specs.Settling.{timed, timed_in}
+use Rattle.mp4_traf.specs.Trun.{sample_fields}
 use Rattle.mp4_traf.specs.Implementation.Ends.{ticks_from}
 use Rattle.mp4_traf.specs.Implementation.Times.{late_from}
 use Rattle.mp4_traf.proofs.ChildLemmas.{path_kind}
@@ -27,8 +28,9 @@ loop-child-init c =
       count = ap (λ (n : ℕ). c.args.count.now + n) (ap timed_in (e ∙ sym (path_kind trun t)));
     }
 
-pub loop-child-preserved-then-is : goal.loop-child-preserved-then-is
-loop-child-preserved-then-is c =
+pub overflow_add-count : goal.overflow_add-count
+unfolding sample_fields
+overflow_add-count c =
     let s = shared_of c.start_of-start.result.context in
     let b = view c.in-Some.child in
     let rest = of_kind trun c.next.new.self in
@@ -36,11 +38,44 @@ loop-child-preserved-then-is c =
     let kind : is_kind trun b ≡ true = search rules in
     let first : of_kind trun (b ∷ c.next.new.self) ≡ b ∷ rest = rw kind refl in
     let e : all ≡ b ∷ rest = ap (of_kind trun) c.in-Some.ensures.steps ∙ first in
-    let timed = timed_on c.timed.result b all rest e c.timed.ensures in
+    let own : c.sample_count.result ≡ timed b.payload = search rules in
+    let count = timed_on _ b all rest e own in
+    omega (arith, count, c.loop-child.invariant.count, c.requires.few)
+
+pub loop-child-preserved-then-is_some : goal.loop-child-preserved-then-is_some
+unfolding sample_fields
+loop-child-preserved-then-is_some c =
+    let s = shared_of c.start_of-start.result.context in
+    let b = view c.in-Some.child in
+    let rest = of_kind trun c.next.new.self in
+    let all = of_kind trun c.loop-child.child-iterator in
+    let kind : is_kind trun b ≡ true = search rules in
+    let first : of_kind trun (b ∷ c.next.new.self) ≡ b ∷ rest = rw kind refl in
+    let e : all ≡ b ∷ rest = ap (of_kind trun) c.in-Some.ensures.steps ∙ first in
+    let own : c.sample_count.result ≡ timed b.payload = search rules in
+    let count = timed_on _ b all rest e own in
     record {
       left = ticks_on s c.loop-child.end c.ticks_in-end.result b all rest e c.ticks_in-end.ensures ∙ c.loop-child.invariant.left;
       late = late_on s c.loop-child.end c.ticks_in-end.result b all rest e c.ticks_in-end.ensures c.loop-child.invariant.late;
-      count = omega (arith, timed, c.loop-child.invariant.count);
+      count = omega (arith, count, c.loop-child.invariant.count);
+    }
+
+pub loop-child-preserved-else-is_some : goal.loop-child-preserved-else-is_some
+unfolding sample_fields
+loop-child-preserved-else-is_some c =
+    let s = shared_of c.start_of-start.result.context in
+    let b = view c.in-Some.child in
+    let rest = of_kind trun c.next.new.self in
+    let all = of_kind trun c.loop-child.child-iterator in
+    let kind : is_kind trun b ≡ true = search rules in
+    let first : of_kind trun (b ∷ c.next.new.self) ≡ b ∷ rest = rw kind refl in
+    let e : all ≡ b ∷ rest = ap (of_kind trun) c.in-Some.ensures.steps ∙ first in
+    let own : 0 ≡ timed b.payload = search rules in
+    let count = timed_on _ b all rest e own in
+    record {
+      left = ticks_on s c.loop-child.end c.ticks_in-end.result b all rest e c.ticks_in-end.ensures ∙ c.loop-child.invariant.left;
+      late = late_on s c.loop-child.end c.ticks_in-end.result b all rest e c.ticks_in-end.ensures c.loop-child.invariant.late;
+      count = omega (arith, count, c.loop-child.invariant.count);
     }
 
 pub returns-in-Some-track-clause-tracks : goal.returns-in-Some-track-clause-tracks
