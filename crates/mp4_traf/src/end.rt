@@ -12,8 +12,8 @@ use crate::fields::flags_of;
 use crate::runs::ticks_in;
 use crate::start::{Start, start_of};
 use crate::trun::{sample_count, sample_fields};
-use mp4_box::types::TRUN;
 use mp4_box::BoxRef;
+use mp4_box::types::TRUN;
 use mp4_init::TrackList;
 
 /// Sets where the track of a traf ends: where the traf does. Those of its samples that have durations of their own are
@@ -46,7 +46,10 @@ pub fn end_traf(
         if child.header.kind.is(TRUN) {
             end += ticks_in(&context, &child);
             // All samples of a trun have durations of their own, or none.
-            if sample_fields(flags_of(child.payload)).sample_duration.is_some() {
+            if sample_fields(flags_of(child.payload))
+                .sample_duration
+                .is_some()
+            {
                 *count += sample_count(child.payload);
             }
         }

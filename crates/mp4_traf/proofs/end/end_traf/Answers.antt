@@ -1,7 +1,7 @@
-use Rattle.std.proofs.Common.{◌≡◌, ◌∙◌, ◌==◌, ◌+◌, ℕ, List, [], ◌∷◌, ap, arith, refl, rules, sym, true}
+use Rattle.std.proofs.Common.{◌≡◌, ◌∙◌, ◌==◌, ◌+◌, ℕ, [], ◌∷◌, ap, arith, refl, rules, sym, true}
 use Rattle.std.specs.List.{position}
 use Rattle.mp4_box.specs.Paths.{of_kind}
-use Rattle.mp4_box.specs.Trees.{Box, children, view}
+use Rattle.mp4_box.specs.Trees.{children, view}
 use Rattle.mp4_init.specs.declared.table.Track.{Track}
 use Rattle.mp4_traf.specs.Kinds.{is_kind, trun}
 use Rattle.mp4_traf.specs.Runs.{Shared, moof_at, track_of, traf_of}

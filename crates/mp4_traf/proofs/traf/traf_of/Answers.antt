@@ -1,4 +1,4 @@
-use Rattle.std.proofs.Common.{◌∙◌, subst, sym}
+use Rattle.std.proofs.Common.{subst, sym}
 use Rattle.mp4_box.specs.Trees.{view}
 use Rattle.mp4_traf.specs.Ranges.{IsSound}
 use Rattle.mp4_traf.specs.Runs.{MoofBytes}
