@@ -1,13 +1,15 @@
 -- The effects of two inputs are those of their join.
-use Rattle.std.proofs.Common.{◌≡◌, ℕ, ◌+◌, ◌-◌, ◌<◌, ◌≤◌, List, [], ◌++◌, take, drop, Option, Bool, true, Result, Ok, Err, OnErr, ap, sym, ◌∙◌, refl, length, arith, append_assoc, append-nil, length-append, subst, take-append-drop}
+use Rattle.std.proofs.Common.{◌≡◌, ℕ, ◌+◌, ◌-◌, ◌<◌, ◌≤◌, List, [], ◌++◌, take, drop, Option, Bool, true, Result, Ok, Err, OnErr, OnOk, ap, sym, ◌∙◌, refl, length, arith, append_assoc, append-nil, length-append, subst, take-append-drop}
 use Rattle.std.proofs.Math.Seq.{take-add}
+use Rattle.std.proofs.lemmas.List.{take_all}
+use Rattle.mp4_box.specs.Headers.{IsBytes}
 use Rattle.mp4_box.specs.declared.rules.Fault.{Fault}
 use Rattle.mp4_ledger.specs.Memory.{Account, claimed, given_back}
 use Rattle.mp4_machine.specs.Accounts.{Counts, Spends}
 use Rattle.mp4_machine.proofs.AccountLemmas.{Counts-none, Counts-claim, Counts-back, Counts-more, Spends-after, Spends-more}
 use Rattle.mp4_machine.specs.Blocks.{IsSent, Pending, unused, Breaks, BreaksMarked, Passes, PassesMarked}
 use Rattle.mp4_machine.specs.Readings.{AtMost, Faulty, Reading, Effects, plus, after, both, no_effects, requests_memory, most_of, uncounted, decided_in}
-use Rattle.mp4_machine.specs.Inputs.{Environment, environment, Continuation, Moves, GoesOn, Refuses, ClaimRefused, WriteFailed, StopsAt, Change, Takes, IsBegun, HasNoEffects, IsFed}
+use Rattle.mp4_machine.specs.Inputs.{Environment, environment, Continuation, Moves, GoesOn, Refuses, ClaimRefused, WriteFailed, StopsAt, Change, Takes, IsBegun, HasNoEffects, IsFed, TakesAll, farthest}
 use Rattle.mp4_machine.specs.declared.stop.Stop.{Stop}
 use Rattle.mp4_machine.specs.declared.stop.Stop.TheVariants.{Stream, Read, Write, OverLimit, Memory}
 use Rattle.mp4_machine.proofs.ReadingAskLemmas.{AtMost-after, AtMost-plus, AtMost-trans, max_none, most-both, most-first, plus-assoc, plus-none}
@@ -256,6 +258,70 @@ Takes-unsent {change = change} {old = old} {input = input} (Err e) u x a claim o
     let same : a ≡ change.after.account = back ∙ ap (given_back change.after.account) spent ∙ sym (none_back change.after.account) in
     Takes-err (λ more later. subst (λ k. WriteFailed change.before (cut_short_to change.after u x k) old.claim (old.reads ((input ++ more) ++ later))) (sym same)
     (StopsAt-unsent change.before change.after u x old (input ++ more) e f (λ is. other (ap Err is)) (h.err more) later)) (λ is. refl) (λ never. absurd (never refl))
+
+-- a machine has taken an input, or stopped in it, and no write has failed: what waits can be sent
+pub record MaySend {X : Type 0} (change : Change) (old : Continuation) (input : List ℕ) (new : Continuation) (made made' : X) (result : Result (Unit {0}) Stop) : Type 0 where
+  pub takes : Takes change old input (λ _. input) (λ _. new) result
+  pub unfailed : result ≡ Err Write → ⊥
+  pub claim : new.claim ≤ change.after.account.live
+  pub quiet : OnOk result (HasNoEffects new)
+  pub near : OnOk result (new.reached ≤ farthest)
+  pub spent : OnErr result (new.claim ≡ 0)
+  pub task : made' ≡ made
+
+module _ {X : Type 0} {change : Change} {old new : Continuation} {made made' : X} (at : ℕ) (input : List ℕ) where
+  -- all of it
+  pub MaySend-taken : length input ≤ at → GoesOn change.before change.after old (take at input) new → change.failed' ≡ change.failed → new.claim ≤ change.after.account.live → HasNoEffects new → new.reached ≤ farthest → made' ≡ made
+      → MaySend change old input new made made' (Ok tt)
+  MaySend-taken whole g kept claim quiet near task = record {
+    takes = Takes-ok (subst (λ l. GoesOn change.before change.after old l new) (take_all at input whole) g) kept;
+    unfailed = λ e. absurd cc;
+    claim = claim;
+    quiet = quiet;
+    near = near;
+    spent = tt;
+    task = task;
+  }
+
+  -- what was before it, and then it stopped
+  pub MaySend-stopped : {T : Type 0} {o : Environment} {failed : Bool} {p : Continuation} {taken : T → List ℕ} {next : T → Continuation} (e : Stop) → old.claim ≤ change.before.account.live → GoesOn change.before o old (take at input) p → failed ≡ change.failed
+      → Takes (record { before = o; after = change.after; failed = failed; failed' = change.failed' }) p (drop at input) taken next (Err e) → (e ≡ Write → ⊥) → new.claim ≤ change.after.account.live → new.claim ≡ 0 → made' ≡ made
+      → MaySend change old input new made made' (Err e)
+  MaySend-stopped e low g kept t other claim spent task = record {
+    takes = Takes-err (λ more. StopsAt-take_more low at input g change.after more e (t.err more)) (λ is. absurd (other is)) (λ _. t.kept (λ is. other cc) ∙ kept);
+    unfailed = λ is. other cc;
+    claim = claim;
+    quiet = tt;
+    near = tt;
+    spent = spent;
+    task = task;
+  }
+
+module _ {X : Type 0} {change : Change} {old new : Continuation} {input : List ℕ} {made made' : X} {result : Result (Unit {0}) Stop} (may : MaySend change old input new made made' result) (fits : IsBytes input) (u : Option (List ℕ)) (x : Pending) where
+  pub TakesAll-sent : (failed' : Bool) → Passes change.after.written u change.after.waiting x [] → failed' ≡ change.failed' → IsSent x → TakesAll (sent_after change u x failed') old input new made made' result
+  TakesAll-sent failed' p kept done = record {
+    takes = Takes-sent result u x failed' may.unfailed may.takes p kept;
+    claim = may.claim;
+    quiet = may.quiet;
+    near = may.near;
+    sent = λ _. done;
+    bytes = fits;
+    spent = may.spent;
+    task = may.task;
+  }
+
+  pub TakesAll-unsent : (a : Account) (new' : Continuation) (made'' : X) → Breaks change.after.written u change.after.waiting x [] → a ≡ given_back change.after.account new.claim → new'.claim ≡ 0 → made'' ≡ made'
+      → TakesAll (cut_short_after change u x a) old input new' made made'' (Err Write)
+  TakesAll-unsent a new' made'' f back spent task = record {
+    takes = Takes-unsent result u x a new.claim may.unfailed may.takes (λ t e. (refl, refl)) may.spent may.claim f back;
+    claim = omega (arith, spent);
+    quiet = tt;
+    near = tt;
+    sent = λ other. absurd (other refl);
+    bytes = fits;
+    spent = spent;
+    task = task ∙ may.task;
+  }
 
 -- ---- all the bytes so far
 

@@ -1,6 +1,6 @@
 //! Machines that are fed a stream in inputs, whatever they read.
 
-ghost use Rattle.std.specs.Prelude.{◌≡◌, ◌<◌, ◌≤◌, ◌↔◌, [], length, take, None, Some, IfOk, IfErr, OnOk, OnErr, IsErrOf, IsTrue};
+ghost use Rattle.std.specs.Prelude.{◌≡◌, ◌<◌, ◌≤◌, [], length, take, None, Some, IfOk, IfErr, OnOk, OnErr, IsErrOf};
 ghost use Rattle.mp4_ledger.specs.Memory.{given_back};
 ghost use Rattle.mp4_machine.specs.Ends.{sent};
 ghost use Rattle.mp4_machine.specs.Inputs.{Continuation, HasNoEffects, Takes, TakesAll, change, farthest};
@@ -91,10 +91,20 @@ pub fn feed<M: Machine, W: Sink>(
         (M.continuation machine.old) input.now (M.continuation machine.new)
         (M.task machine.old) (M.task machine.new) result }
 {
-    let answer = take_all(machine, ledger, input, out, w);
-    // After a failed write the buffer can't be sent.
-    if is_failed_write(&answer) {
-        return answer;
+    let mut at = 0;
+    let mut answer = Ok(());
+    while at < input.len() {
+        match machine.take(ledger, &input[at..], out, w) {
+            Ok(count) => at += count,
+            Err(stop) => match stop {
+                // After a failed write the buffer can't be sent.
+                Stop::Write => return Err(stop),
+                _ => {
+                    answer = Err(stop);
+                    break;
+                }
+            },
+        }
     }
     match out.send(w) {
         Ok(()) => answer,
@@ -103,41 +113,4 @@ pub fn feed<M: Machine, W: Sink>(
             Err(Stop::Write)
         }
     }
-}
-
-/// Has a machine take a whole input.
-fn take_all<M: Machine, W: Sink>(
-    machine: &mut M,
-    ledger: &mut Ledger,
-    input: &[u8],
-    out: &mut Block,
-    w: &mut W,
-) -> Result<(), Stop>
-    requires claim { (M.continuation machine.old).claim ≤ ledger.old.live }
-    requires quiet { HasNoEffects (M.continuation machine.old) }
-    requires near { (M.continuation machine.old).reached ≤ farthest }
-    ensures takes { Takes (change (sent W.contents W.has_failed w.old w.new) out.old out.new
-        ledger.old ledger.new (M.counted machine.old) (M.counted machine.new))
-        (M.continuation machine.old) input.now (λ _. input.now) (λ _. M.continuation machine.new) result }
-    ensures claim { (M.continuation machine.new).claim ≤ ledger.new.live }
-    ensures quiet { OnOk result (HasNoEffects (M.continuation machine.new)) }
-    ensures near { OnOk result ((M.continuation machine.new).reached ≤ farthest) }
-    ensures spent { OnErr result ((M.continuation machine.new).claim ≡ 0) }
-    ensures task { M.task machine.new ≡ M.task machine.old }
-{
-    let mut at = 0;
-    while at < input.len() {
-        match machine.take(ledger, &input[at..], out, w) {
-            Ok(count) => at += count,
-            Err(stop) => return Err(stop),
-        }
-    }
-    Ok(())
-}
-
-/// Whether a write failed.
-fn is_failed_write(answer: &Result<(), Stop>) -> bool
-    ensures { IsTrue result ↔ IsErrOf answer.now Stop.Write }
-{
-    matches!(answer, Err(Stop::Write))
 }

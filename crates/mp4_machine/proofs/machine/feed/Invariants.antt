@@ -1,11 +1,12 @@
-use Rattle.std.proofs.Common.{◌≡◌, ◌≤◌, ◌-◌, length, take}
+use Rattle.std.proofs.Common.{◌≡◌, ◌≤◌, ◌-◌, length, take, Ok}
 use Rattle.mp4_machine.specs.Inputs.{GoesOn, HasNoEffects, environment, farthest}
-use Rattle.mp4_machine.proofs.machine.take_all.Given as goal
+use Rattle.mp4_machine.proofs.machine.feed.Given as goal
 
 abbrev pub invariant-loop-at : goal.invariant-loop-at
 invariant-loop-at g l = record {
   within : l.at ≤ length l.input;
   goes_on : GoesOn (environment (g.W.Sink.contents l.initial.w) l.initial.out l.initial.ledger (g.M.Machine.counted l.initial.machine)) (environment (g.W.Sink.contents l.w) l.out l.ledger (g.M.Machine.counted l.machine)) (g.M.Machine.continuation l.initial.machine) (take l.at l.input) (g.M.Machine.continuation l.machine);
+  answer : l.answer ≡ Ok tt;
   claim : (g.M.Machine.continuation l.machine).claim ≤ l.ledger.live;
   quiet : HasNoEffects (g.M.Machine.continuation l.machine);
   near : (g.M.Machine.continuation l.machine).reached ≤ farthest;
