@@ -84,31 +84,26 @@ impl Block {
         ensures puts { Puts (sent W.contents W.has_failed w.old w.new) self.old self.new [] result }
         ensures sent { OnOk result (IsSent self.new) }
     {
-        match write_front(w, self.waiting.bytes()) {
+        let answer = write_front(w, self.waiting.bytes());
+        let taken = match answer {
+            Ok(()) => self.waiting.len(),
+            Err(short) => short.taken,
+        };
+        let mut whole = self.whole;
+        for mark in self.ends.iter() {
+            if mark.end <= taken {
+                whole = mark.count;
+            }
+        }
+        self.whole = whole;
+        match answer {
             Ok(()) => {
-                self.whole = self.whole_in_first(self.waiting.len());
                 self.ends.clear();
                 self.waiting.clear();
                 Ok(())
             }
-            Err(short) => {
-                self.whole = self.whole_in_first(short.taken);
-                Err(Failed)
-            }
+            Err(_) => Err(Failed),
         }
-    }
-
-    /// How many fragments are whole once the first `n` buffered bytes are sent.
-    fn whole_in_first(&self, n: usize) -> u64
-        ensures { result ≡ whole_in n self.now.whole self.now.ends }
-    {
-        let mut whole = self.whole;
-        for mark in self.ends.iter() {
-            if mark.end <= n {
-                whole = mark.count;
-            }
-        }
-        whole
     }
 
     /// Marks that `count` fragments are whole in everything that was put. The buffer is sent first where its ends are
