@@ -112,27 +112,17 @@ impl Block {
         ensures { PutsMarked (sent W.contents W.has_failed w.old w.new) self.old self.new []
             (record { end = 0; count = count } ∷ []) result }
     {
-        match self.make_room_for_end(w) {
-            Ok(()) => {}
-            Err(Failed) => return Err(Failed),
+        if self.ends.len() == MOST_ENDS {
+            match self.send(w) {
+                Ok(()) => {}
+                Err(Failed) => return Err(Failed),
+            }
         }
         self.ends.push(FragmentEnd {
             end: self.waiting.len(),
             count,
         });
         Ok(())
-    }
-
-    /// Makes room for the end of a fragment: sends the buffer where there is none.
-    #[inline(always)]
-    fn make_room_for_end<W: Sink>(&mut self, w: &mut W) -> Result<(), Failed>
-        ensures puts { Puts (sent W.contents W.has_failed w.old w.new) self.old self.new [] result }
-        ensures room { OnOk result (length self.new.ends < MOST_ENDS) }
-    {
-        if self.ends.len() < MOST_ENDS {
-            return Ok(());
-        }
-        self.send(w)
     }
 
     /// Appends these bytes to the buffer, which is sent first where they don't fit.
