@@ -76,3 +76,8 @@ moved-past n k (x ∷ xs) h = (omega (arith, h.0), moved-past n k xs h.1)
 -- so many fragments are whole in the bytes as by the marks before those
 pub whole_in-before : (n before : ℕ) (xs later zs : List FragmentEnd) → zs ≡ xs ++ later → AllByRecursion (λ x. n < x.end) later → whole_in n before xs ≡ whole_in n before zs
 whole_in-before n before xs later zs e h = sym (ap (whole_in n before) e ∙ whole_in-append n before xs later ∙ whole_in-past n (whole_in n before xs) later h)
+
+-- marks that lie in the first j bytes lie in the first k
+pub within_more : (j k : ℕ) (xs : List FragmentEnd) → j ≤ k → AllByRecursion (λ x. x.end ≤ j) xs → AllByRecursion (λ x. x.end ≤ k) xs
+within_more j k [] h all = all
+within_more j k (x ∷ xs) h all = (omega (arith, h, all.0), within_more j k xs h all.1)

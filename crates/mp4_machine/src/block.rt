@@ -148,9 +148,11 @@ impl Block {
         ensures { Puts (sent W.contents W.has_failed w.old w.new) self.old self.new bytes.now
             result }
     {
-        match self.make_room_for(N, w) {
-            Ok(()) => {}
-            Err(Failed) => return Err(Failed),
+        if N > BLOCK_BYTES - self.waiting.len() {
+            match self.send(w) {
+                Ok(()) => {}
+                Err(Failed) => return Err(Failed),
+            }
         }
         self.waiting.push_bytes(bytes);
         Ok(())
@@ -220,19 +222,6 @@ impl Block {
             Ok(()) => Ok(()),
             Err(Failed) => Err(Failed),
         }
-    }
-
-    /// Makes room for so many bytes: sends the buffer where there is too little.
-    #[inline(always)]
-    fn make_room_for<W: Sink>(&mut self, count: usize, w: &mut W) -> Result<(), Failed>
-        requires { count ≤ BLOCK_BYTES }
-        ensures puts { Puts (sent W.contents W.has_failed w.old w.new) self.old self.new [] result }
-        ensures room { OnOk result (length self.new.bytes + count ≤ BLOCK_BYTES) }
-    {
-        if count <= BLOCK_BYTES - self.waiting.len() {
-            return Ok(());
-        }
-        self.send(w)
     }
 
     /// Appends a line to the buffer, which is sent first where there may be no room for it.
