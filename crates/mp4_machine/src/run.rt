@@ -47,50 +47,25 @@ pub fn read_stream<R: Source, W: Sink, M: Machine>(
         Err(refused) => return Err(Stop::of_refusal(refused)),
     };
     let mut out = Block::new();
-    let answer = read_on(r, w, ledger, buf.room_mut(copy as usize), machine, &mut out);
-    *fragments = out.whole();
-    ledger.back(buf);
-    answer
-}
-
-/// Reads the stream to its end into `copy`, the only memory that is claimed.
-fn read_on<R: Source, W: Sink, M: Machine>(
-    r: &mut R,
-    w: &mut W,
-    ledger: &mut Ledger,
-    copy: &mut [u8],
-    machine: &mut M,
-    out: &mut Block,
-) -> Result<(), Stop>
-    requires some { 0 < length copy.old }
-    requires marked { ledger.old.peak ≡ ledger.old.live }
-    requires claimed { length copy.old ≡ ledger.old.live }
-    requires begun { IsBegun (M.continuation machine.old) (M.counted machine.old) }
-    requires unused { out.old ≡ unused }
-    ensures runs { (run : ReadsStream (M.continuation machine.old).reads (between
-        (received R.remaining R.has_ended R.has_failed R.last_read r.old r.new)
-        (sent W.contents W.has_failed w.old w.new))
-        (record { copy = ledger.old.live; limit = ledger.old.limit; peak = ledger.new.peak })
-        (M.counted machine.new) result) × (run.fragments ≡ out.new.whole) }
-    ensures live { ledger.new.live ≡ ledger.old.live + (M.continuation machine.new).claim }
-    ensures limit { ledger.new.limit ≡ ledger.old.limit }
-    ensures task { M.task machine.new ≡ M.task machine.old }
-{
+    let into = buf.room_mut(copy as usize);
     let mut total: u64 = 0;
-    loop {
-        let n = match r.read(copy) {
+    let answer = loop {
+        let n = match r.read(into) {
             Ok(0) => {
-                return match machine.finish() {
+                break match machine.finish() {
                     Ok(()) => Ok(()),
                     Err(fault) => Err(Stop::Stream(fault)),
                 };
             }
             Ok(n) => n,
-            Err(Failed) => return Err(Stop::Read { at: total }),
+            Err(Failed) => break Err(Stop::Read { at: total }),
         };
-        match feed(machine, ledger, &copy[..n], out, w) {
+        match feed(machine, ledger, &into[..n], &mut out, w) {
             Ok(()) => total += n as u64,
-            Err(stop) => return Err(stop),
+            Err(stop) => break Err(stop),
         }
-    }
+    };
+    *fragments = out.whole();
+    ledger.back(buf);
+    answer
 }

@@ -17,10 +17,10 @@ returns-in-Ok-answer-clause-puts g c =
     let bytes : c.self.inside.waiting ≡ v.bytes = ap (λ v. v.bytes) c.self.view_is in
     let whole : c.loop-mark.whole ≡ whole_in c.match-answer.taken v.whole v.ends = sym (ap (whole_in c.match-answer.taken c.loop-mark.whole) (drop_all c.loop-mark.mark-index c.deref-mark-items.result.now c.loop-mark-test.false)) ∙ c.loop-mark.invariant.left ∙ ap (whole_in c.match-answer.taken c.self.inside.whole) c.deref-mark-items.ensures.0 ∙ ap (λ v. whole_in c.match-answer.taken v.whole v.ends) c.self.view_is in
     let wrote : (c.match-answer.taken ≡ length v.bytes) × Appends (g.W.Sink.contents c.args.w.now) (g.W.Sink.contents c.write_front-answer.new.w) v.bytes × (g.W.Sink.has_failed c.write_front-answer.new.w ≡ g.W.Sink.has_failed c.args.w.now) =
-        elim c.match-answer.branch [
-          | in-Ok w ↦ (w.taken-is ∙ w.len-taken.ensures.len ∙ ap length bytes, rw (c.bytes.ensures ∙ bytes) at w.in-Ok.ensures.ok, w.in-Ok.ensures.kept)
-          | in-Err w ↦ let e = sym w.answer-is ∙ c.in-Ok-answer.is in absurd cc
-        ] in
+    elim c.match-answer.branch [
+      | in-Ok w ↦ (w.taken-is ∙ w.len-taken.ensures.len ∙ ap length bytes, rw (c.bytes.ensures ∙ bytes) at w.in-Ok.ensures.ok, w.in-Ok.ensures.kept)
+      | in-Err w ↦ let e = sym w.answer-is ∙ c.in-Ok-answer.is in absurd cc
+    ] in
     record {
       passes = rw (c.clear-in-Ok-answer.ensures, c.clear.ensures, whole) (Passes-sent _ _ v c.match-answer.taken wrote.0 within wrote.1);
       unfailed = wrote.2;

@@ -4,7 +4,7 @@ use Rattle.mp4_box.specs.Headers.{IsBytes}
 use Rattle.mp4_machine.specs.Blocks.{unused}
 use Rattle.mp4_machine.specs.Inputs.{IsFed, environment, farthest}
 use Rattle.mp4_machine.specs.Readings.{uncounted}
-use Rattle.mp4_machine.proofs.run.read_on.Given as goal
+use Rattle.mp4_machine.proofs.run.read_stream.Given as goal
 
 abbrev pub invariant-loop-machine : goal.invariant-loop-machine
 invariant-loop-machine g l =
@@ -14,7 +14,7 @@ invariant-loop-machine g l =
       task : g.M.Machine.task l.machine ≡ g.M.Machine.task l.initial.machine;
       claim : (g.M.Machine.continuation l.machine).claim ≤ l.ledger.live;
       near : (g.M.Machine.continuation l.machine).reached ≤ farthest;
-      room : length l.copy ≡ l.initial.ledger.live;
+      room : length l.into ≡ l.initial.ledger.live;
       kept : g.W.Sink.has_failed l.w ≡ g.W.Sink.has_failed l.initial.w;
       total : l.total ≡ length b;
       bytes : IsBytes b;
