@@ -5,7 +5,6 @@ ghost use Rattle.mp4_machine.specs.Blocks.{IsSent, unused};
 ghost use Rattle.mp4_machine.specs.Ends.{sent};
 ghost use Rattle.mp4_machine.specs.Groups.{waiting_after};
 ghost use Rattle.mp4_machine.specs.Puts.{Puts, PutsMarked};
-ghost use Rattle.mp4_machine.specs.Readings.{whole_in};
 
 use crate::fragment_end::FragmentEnd;
 use arrayvec::ArrayVec;

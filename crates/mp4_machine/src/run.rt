@@ -1,7 +1,6 @@
 //! A run over a whole stream, whatever it is read as.
 
-ghost use Rattle.std.specs.Prelude.{◌≡◌, ◌+◌, ◌<◌, length};
-ghost use Rattle.mp4_machine.specs.Blocks.{unused};
+ghost use Rattle.std.specs.Prelude.{◌≡◌, ◌<◌};
 ghost use Rattle.mp4_machine.specs.Ends.{between, received, sent};
 ghost use Rattle.mp4_machine.specs.Inputs.{IsBegun};
 ghost use Rattle.mp4_machine.specs.StreamRuns.{ReadsStream};
