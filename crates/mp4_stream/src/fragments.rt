@@ -3,7 +3,6 @@
 ghost use Rattle.std.specs.Prelude.{◌≡◌, ◌≤◌};
 ghost use Rattle.mp4_grammar.specs.declared.command.Command.TheVariants.{Check, Fragments, Samples};
 ghost use Rattle.mp4_machine.specs.Ends.{between, received, sent};
-ghost use Rattle.mp4_stream.specs.Feeders as feeders;
 ghost use Rattle.mp4_recut.specs.declared.operation.Operation.TheVariants as operations;
 ghost use Rattle.mp4_stream.specs.Fragments.{RunsOperation, unsent};
 
@@ -158,23 +157,17 @@ fn run_operation<R: Source, W: Sink>(
     let tally = machine.tally();
     let rows_read = machine.rows_read();
     machine.give_up(ledger);
+    // Where a stream is cut, those count that are whole in the output.
+    let fragments = match operation {
+        Operation::List(_) => tally.fragments,
+        Operation::Split(_) => whole,
+    };
     *totals = Totals {
-        fragments: fragments_of(&operation, tally.fragments, whole),
+        fragments,
         samples: tally.samples,
         media_bytes: tally.media_bytes,
         rows_read,
         peak: ledger.peak(),
     };
     answer
-}
-
-/// How many fragments an operation counts: where it cuts, those that are whole in its output, else those that were
-/// accepted.
-fn fragments_of(operation: &Operation, accepted: u64, whole: u64) -> u64
-    ensures { result ≡ feeders.fragments_of operation.now accepted whole }
-{
-    match operation {
-        Operation::List(_) => accepted,
-        Operation::Split(_) => whole,
-    }
 }

@@ -1,9 +1,11 @@
 use Rattle.std.proofs.Common.{◌≡◌, ◌∙◌, ap, arith, refl, rules, sym}
 use Rattle.mp4_machine.proofs.RunLemmas.{Runs-same}
+use Rattle.mp4_recut.specs.declared.operation.Operation.{Operation}
 use Rattle.mp4_stream.specs.Feeders.{fragments_of}
 use Rattle.mp4_stream.proofs.FeederLemmas.{begun-is}
 use Rattle.mp4_stream.proofs.FragmentLemmas.{claims_by_boxes, first_number, never_over, peak_bound}
 use Rattle.mp4_stream.proofs.fragments.run_operation.Goals as goal
+use Rattle.mp4_stream.proofs.fragments.run_operation.Goals.{in-List, in-Split}
 
 pub read_stream-answer-requires-clause-begun : goal.read_stream-answer-requires-clause-begun
 read_stream-answer-requires-clause-begun g c = rw c.new-machine.ensures (begun-is c.args.operation)
@@ -16,12 +18,18 @@ returns g c =
     let operation = rw c.new-machine.ensures at c.read_stream-answer.ensures.task in
     let read = c.rows_read-rows_read.ensures in
     let same = Runs-same refl refl (sym peak) ran in
+    let counted = λ (o : Operation). fragments_of o c.tally-tally.result.fragments same.0.fragments in
+    let fragments : c.match-operation.fragments ≡ counted c.args.operation =
+        elim c.match-operation.branch [
+          | in-List w ↦ w.fragments-is ∙ sym (ap counted w.in-List.is)
+          | in-Split w ↦ w.fragments-is ∙ sym same.1 ∙ sym (ap counted w.in-Split.is)
+        ] in
     record {
       runs = record {
         effects = c.tally-tally.result.fragments;
         inspected = c.tally-tally.result.inspected;
         runs = same.0;
-        fragments = c.fragments_of.ensures ∙ ap (fragments_of c.args.operation c.tally-tally.result.fragments) (sym same.1);
+        fragments = fragments;
         all = c.tally-tally.ensures.all;
         some = rw (operation, ← c.tally-tally.ensures.tally) at read.some;
         few = rw (operation, ← c.tally-tally.ensures.tally) at read.few;
