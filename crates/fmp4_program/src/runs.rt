@@ -167,22 +167,6 @@ fn list_fragments<R: Source, W: Sink>(
     }
 }
 
-/// The cut of these options.
-fn cut_by(options: &SplitOptions) -> Cut
-    requires { MayCut options.now }
-    ensures { IsCutBy options.now result }
-{
-    match Cut::new(options.samples, options.bytes, options.index) {
-        Some(cut) => {
-            if options.sync {
-                return cut.with_sync();
-            }
-            cut
-        }
-        None => unreachable!(),
-    }
-}
-
 /// Cuts the fragments of the stream into shorter ones, and flushes what was written.
 fn split_stream<R: Source, W: Sink>(
     r: &mut R,
@@ -200,7 +184,11 @@ fn split_stream<R: Source, W: Sink>(
         (sent W.contents W.has_failed w.old w.new)) result }
     ensures within { ledger.new.peak ≤ ledger.old.limit }
 {
-    let cut = cut_by(options);
+    let cut = match Cut::new(options.samples, options.bytes, options.index) {
+        Some(cut) if options.sync => cut.with_sync(),
+        Some(cut) => cut,
+        None => unreachable!(),
+    };
     match split(r, w, ledger, &cut, copy, &mut Totals::new()) {
         Ok(()) => flush(w),
         Err(stop) => Err(stop),
