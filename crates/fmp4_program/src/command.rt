@@ -117,15 +117,6 @@ fn options_from(matches: &ArgMatches<'_>) -> Option<SplitOptions>
     })
 }
 
-fn split_from(matches: &ArgMatches<'_>) -> Option<Invocation>
-    ensures value { result ≡ split_of (rows_of (found_of matches.now)) }
-    ensures ranges { IfSome result IsInRange }
-{
-    let settings = settings_from(matches)?;
-    let options = options_from(matches)?;
-    Some(Invocation::Split(settings, options))
-}
-
 fn invocation_from(name: &str, matches: &ArgMatches<'_>) -> Option<Invocation>
     ensures value { result ≡ invocation_of name.now (rows_of (found_of matches.now)) }
     ensures ranges { IfSome result IsInRange }
@@ -143,7 +134,9 @@ fn invocation_from(name: &str, matches: &ArgMatches<'_>) -> Option<Invocation>
         return Some(Invocation::Check(settings_from(matches)?));
     }
     if name == "split" {
-        return split_from(matches);
+        let settings = settings_from(matches)?;
+        let options = options_from(matches)?;
+        return Some(Invocation::Split(settings, options));
     }
     None
 }

@@ -1,6 +1,6 @@
 use Rattle.std.proofs.Common.{◌≡◌, rules, refl, codes, true, false}
 use Rattle.std.specs.Str.{bytes_eq}
-use Rattle.fmp4_program.specs.Words.{invocation_of}
+use Rattle.fmp4_program.specs.Words.{invocation_of, split_of}
 use Rattle.fmp4_program.proofs.command.invocation_from.Goals as goal
 
 pub returns-in_err-settings_from-clause-value : goal.returns-in_err-settings_from-clause-value
@@ -63,15 +63,35 @@ returns-then-eq-4-clause-value c =
     let is_check : bytes_eq c.args.name.now (codes "check") ≡ true = search rules in
     rw (not_boxes, not_samples, not_fragments, is_check, ← c.in_ok-settings_from-4.ensures.value) refl
 
+pub returns-in_err-settings-clause-value : goal.returns-in_err-settings-clause-value
+unfolding invocation_of split_of
+returns-in_err-settings-clause-value c =
+    let not_boxes : bytes_eq c.args.name.now (codes "boxes") ≡ false = search rules in
+    let not_samples : bytes_eq c.args.name.now (codes "samples") ≡ false = search rules in
+    let not_fragments : bytes_eq c.args.name.now (codes "fragments") ≡ false = search rules in
+    let not_check : bytes_eq c.args.name.now (codes "check") ≡ false = search rules in
+    let is_split : bytes_eq c.args.name.now (codes "split") ≡ true = search rules in
+    rw (not_boxes, not_samples, not_fragments, not_check, is_split, ← c.in_err-settings.ensures.value) (search rules)
+
+pub returns-in_err-options-clause-value : goal.returns-in_err-options-clause-value
+unfolding invocation_of split_of
+returns-in_err-options-clause-value c =
+    let not_boxes : bytes_eq c.args.name.now (codes "boxes") ≡ false = search rules in
+    let not_samples : bytes_eq c.args.name.now (codes "samples") ≡ false = search rules in
+    let not_fragments : bytes_eq c.args.name.now (codes "fragments") ≡ false = search rules in
+    let not_check : bytes_eq c.args.name.now (codes "check") ≡ false = search rules in
+    let is_split : bytes_eq c.args.name.now (codes "split") ≡ true = search rules in
+    rw (not_boxes, not_samples, not_fragments, not_check, is_split, ← c.in_ok-settings.ensures.value, ← c.in_err-options.ensures.value) (search rules)
+
 pub returns-then-eq-5-clause-value : goal.returns-then-eq-5-clause-value
-unfolding invocation_of
+unfolding invocation_of split_of
 returns-then-eq-5-clause-value c =
     let not_boxes : bytes_eq c.args.name.now (codes "boxes") ≡ false = search rules in
     let not_samples : bytes_eq c.args.name.now (codes "samples") ≡ false = search rules in
     let not_fragments : bytes_eq c.args.name.now (codes "fragments") ≡ false = search rules in
     let not_check : bytes_eq c.args.name.now (codes "check") ≡ false = search rules in
     let is_split : bytes_eq c.args.name.now (codes "split") ≡ true = search rules in
-    rw (not_boxes, not_samples, not_fragments, not_check, is_split) c.split_from.ensures.value
+    rw (not_boxes, not_samples, not_fragments, not_check, is_split, ← c.in_ok-settings.ensures.value, ← c.in_ok-options.ensures.value) refl
 
 pub returns-clause-value : goal.returns-clause-value
 unfolding invocation_of
