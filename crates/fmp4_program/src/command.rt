@@ -141,17 +141,6 @@ fn invocation_from(name: &str, matches: &ArgMatches<'_>) -> Option<Invocation>
     None
 }
 
-fn chosen_invocation(matches: &ArgMatches<'_>) -> Option<Invocation>
-    ensures value { result ≡ option_and_then (λ entered. invocation_of entered.0 entered.1)
-        (subcommand_rows_of matches.now) }
-    ensures ranges { IfSome result IsInRange }
-{
-    match matches.subcommand() {
-        Some(entered) => invocation_from(entered.0, entered.1),
-        None => None,
-    }
-}
-
 fn valued_option<'a>(alloc: Global, name: &'a str) -> Arg<'a>
     ensures rule { rule_of result ≡ valued_rule name.entry.now }
     ensures local { result.global ≡ false }
@@ -223,8 +212,11 @@ pub fn read_words(alloc: Global, words: &[String]) -> Result<Invocation, NoComma
         return Err(NoCommand::Memory);
     };
     match command.try_get_matches_from(words) {
-        Ok(matches) => match chosen_invocation(&matches) {
-            Some(asked) => Ok(asked),
+        Ok(matches) => match matches.subcommand() {
+            Some(entered) => match invocation_from(entered.0, entered.1) {
+                Some(asked) => Ok(asked),
+                None => Err(NoCommand::BadWords),
+            },
             None => Err(NoCommand::BadWords),
         },
         Err(error) => Err(no_command_by(&error)),
