@@ -29,13 +29,6 @@ fn number_in(text: &str, least: u64, most: u64) -> Option<u64>
     }
 }
 
-fn entered_text<'b>(matches: &ArgMatches<'b>, id: &str) -> Option<&'b str>
-    ensures { option_map (λ text. text.now) result ≡ first_of id.now
-        (rows_of (found_of matches.now)) }
-{
-    matches.get_str(id)
-}
-
 fn number_or(
     matches: &ArgMatches<'_>,
     id: &str,
@@ -49,7 +42,7 @@ fn number_or(
     ensures low { IfSome result (λ number. least ≤ number) }
     ensures high { IfSome result (λ number. number ≤ most) }
 {
-    match entered_text(matches, id) {
+    match matches.get_str(id) {
         Some(text) => number_in(text, least, most),
         None => Some(default_value),
     }
@@ -72,7 +65,7 @@ fn needed_number(matches: &ArgMatches<'_>, id: &str, least: u64, most: u64) -> O
     ensures low { IfSome result (λ number. least ≤ number) }
     ensures high { IfSome result (λ number. number ≤ most) }
 {
-    match entered_text(matches, id) {
+    match matches.get_str(id) {
         Some(entered) => number_in(entered, least, most),
         None => None,
     }
@@ -83,7 +76,7 @@ fn number_if(matches: &ArgMatches<'_>, id: &str, least: u64, most: u64) -> Optio
     ensures low { IfSome result (λ found. IfSome found (λ number. least ≤ number)) }
     ensures high { IfSome result (λ found. IfSome found (λ number. number ≤ most)) }
 {
-    match entered_text(matches, id) {
+    match matches.get_str(id) {
         Some(text) => match number_in(text, least, most) {
             Some(number) => Some(Some(number)),
             None => None,
@@ -95,7 +88,7 @@ fn number_if(matches: &ArgMatches<'_>, id: &str, least: u64, most: u64) -> Optio
 fn has_flag(matches: &ArgMatches<'_>, id: &str) -> bool
     ensures { result ≡ has_flag id.now (rows_of (found_of matches.now)) }
 {
-    match entered_text(matches, id) {
+    match matches.get_str(id) {
         Some(text) => text == "true",
         None => false,
     }
