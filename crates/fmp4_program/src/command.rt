@@ -1,8 +1,8 @@
 //! The command line, as words.
-ghost use Rattle.std.specs.Prelude.{◌≡◌, ◌≤◌, ◌↔◌, false, option_and_then, option_map, Some, None, IfOk, IfErr, IfSome, codes, map, string_bytes};
-ghost use Rattle.clap.specs.Words.{app_of, first_of, found_of, kind_of, rows_of, rule_of, subcommand_rows_of};
+ghost use Rattle.std.specs.Prelude.{◌≡◌, ◌≤◌, ◌↔◌, false, Some, None, IfOk, IfErr, IfSome, codes, map, string_bytes};
+ghost use Rattle.clap.specs.Words.{app_of, found_of, kind_of, rows_of, rule_of};
 ghost use Rattle.clap.specs.declared.builder.command.Command.TheViews.{out-Command};
-ghost use Rattle.fmp4_program.specs.Words.{IsAllowed, IsInRange, MayCut, command_of, flag_rule, has_flag, invocation_of, needed_number, number_if, number_in, number_or, options_of, program_app, settings_app, settings_of, split_app, split_of, valued_rule};
+ghost use Rattle.fmp4_program.specs.Words.{IsAllowed, IsInRange, MayCut, command_of, flag_rule, has_flag, invocation_of, needed_number, number_if, number_in, number_or, options_of, program_app, settings_app, settings_of, split_app, valued_rule};
 
 use crate::asked::{Invocation, Settings, SplitOptions};
 use clap::error::ErrorKind;

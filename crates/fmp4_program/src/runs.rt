@@ -9,7 +9,7 @@ ghost use Rattle.mp4_stream.specs.Fragments.{ReadsFragments, unsent};
 ghost use Rattle.mp4_boxes.specs.HeldBoxes.{ReadsBoxes};
 ghost use Rattle.mp4_recut.specs.declared.operation.Operation.TheVariants as operations;
 ghost use Rattle.fmp4_program.specs.Words.{MayCut, command_of};
-ghost use Rattle.fmp4_program.specs.Runs.{IsCutBy, Ran, ReportsStop, RunsAndFlushes, SplitsBy, Writes, WritesLine, status_of};
+ghost use Rattle.fmp4_program.specs.Runs.{Ran, ReportsStop, RunsAndFlushes, SplitsBy, Writes, WritesLine, status_of};
 
 use crate::asked::{Invocation, SplitOptions};
 use crate::command::{NoCommand, read_words};

@@ -7,10 +7,10 @@ use Rattle.fmp4_program.proofs.runs.split_stream.Goals.{then-options, else-optio
 pub returns-in-Ok-clause-runs : goal.returns-in-Ok-clause-runs
 returns-in-Ok-clause-runs g c =
     let is_cut : IsCutBy c.args.options.now c.if-options.cut =
-        elim c.if-options.branch [
-          | then-options w ↦ rw w.cut-is (record { samples = w.with_sync-cut.ensures.samples ∙ c.in-Some.ensures.samples; bytes = w.with_sync-cut.ensures.bytes ∙ c.in-Some.ensures.bytes; index = w.with_sync-cut.ensures.index ∙ c.in-Some.ensures.index; sync = w.with_sync-cut.ensures.sync ∙ sym w.if-options.true })
-          | else-options+in-Some-2 w ↦ rw w.cut-is (record { samples = w.in-Some-2.ensures.samples; bytes = w.in-Some-2.ensures.bytes; index = w.in-Some-2.ensures.index; sync = w.in-Some-2.ensures.sync ∙ sym w.if-options.false })
-        ] in
+    elim c.if-options.branch [
+      | then-options w ↦ rw w.cut-is (record { samples = w.with_sync-cut.ensures.samples ∙ c.in-Some.ensures.samples; bytes = w.with_sync-cut.ensures.bytes ∙ c.in-Some.ensures.bytes; index = w.with_sync-cut.ensures.index ∙ c.in-Some.ensures.index; sync = w.with_sync-cut.ensures.sync ∙ sym w.if-options.true })
+      | else-options+in-Some-2 w ↦ rw w.cut-is (record { samples = w.in-Some-2.ensures.samples; bytes = w.in-Some-2.ensures.bytes; index = w.in-Some-2.ensures.index; sync = w.in-Some-2.ensures.sync ∙ sym w.if-options.false })
+    ] in
     record {
       ran = Ok tt;
       failed = g.W.Sink.has_failed c.split.new.w;
@@ -21,8 +21,8 @@ returns-in-Ok-clause-runs g c =
 pub returns-in-Err-clause-runs : goal.returns-in-Err-clause-runs
 returns-in-Err-clause-runs g c =
     let is_cut : IsCutBy c.args.options.now c.if-options.cut =
-        elim c.if-options.branch [
-          | then-options w ↦ rw w.cut-is (record { samples = w.with_sync-cut.ensures.samples ∙ c.in-Some.ensures.samples; bytes = w.with_sync-cut.ensures.bytes ∙ c.in-Some.ensures.bytes; index = w.with_sync-cut.ensures.index ∙ c.in-Some.ensures.index; sync = w.with_sync-cut.ensures.sync ∙ sym w.if-options.true })
-          | else-options+in-Some-2 w ↦ rw w.cut-is (record { samples = w.in-Some-2.ensures.samples; bytes = w.in-Some-2.ensures.bytes; index = w.in-Some-2.ensures.index; sync = w.in-Some-2.ensures.sync ∙ sym w.if-options.false })
-        ] in
+    elim c.if-options.branch [
+      | then-options w ↦ rw w.cut-is (record { samples = w.with_sync-cut.ensures.samples ∙ c.in-Some.ensures.samples; bytes = w.with_sync-cut.ensures.bytes ∙ c.in-Some.ensures.bytes; index = w.with_sync-cut.ensures.index ∙ c.in-Some.ensures.index; sync = w.with_sync-cut.ensures.sync ∙ sym w.if-options.true })
+      | else-options+in-Some-2 w ↦ rw w.cut-is (record { samples = w.in-Some-2.ensures.samples; bytes = w.in-Some-2.ensures.bytes; index = w.in-Some-2.ensures.index; sync = w.in-Some-2.ensures.sync ∙ sym w.if-options.false })
+    ] in
     record { ran = Err c.in-Err.stop; failed = g.W.Sink.has_failed c.split.new.w; runs = (c.if-options.cut, is_cut, (c.split.new.totals, c.in-Err.ensures.runs)); flushed = (refl, refl) }
