@@ -1,6 +1,7 @@
 -- A run that stops after some bytes, or at the next input.
-use Rattle.std.proofs.Common.{◌≡◌, ℕ, zero, suc, ◌+◌, ◌≤◌, ◌<◌, List, [], ◌∷◌, ◌++◌, length, take, true, Some, None, Result, Err, inl, inr, ap, sym, ◌∙◌, refl, arith, append-nil, append_assoc, length-append, subst}
+use Rattle.std.proofs.Common.{◌≡◌, ℕ, zero, suc, ◌+◌, ◌≤◌, ◌<◌, List, [], ◌∷◌, ◌++◌, length, take, true, Some, None, Result, Err, inl, inr, ap, sym, ◌∙◌, refl, arith, append-nil, append_assoc, length-append, length-take, subst, ◌==◌}
 use Rattle.std.proofs.Math.Seq.{take-append-add}
+use Rattle.std.proofs.lemmas.Bool.Decides.{nat_tests}
 use Rattle.std.specs.Io.KnownBytes.{Appends, Consumes}
 use Rattle.mp4_ledger.specs.Memory.{Account}
 use Rattle.mp4_ledger.specs.declared.ledger.Refused.{Refused}
@@ -204,6 +205,12 @@ pub fed-takes : {T : Type 0} {change : Change} {p : Continuation} {input : List 
     → StopsWith (run_of reads (b ++ input) start change.after ends) (prompt-read reads b start fresh marked s input change.after ends one) e
 fed-takes {change = change} {p = p} {input = input} {e = e} reads b start fresh marked s low ends one from to none failed t =
     fed-stops reads b start fresh marked s change.after input low ends one from to e none (λ is. failed ∙ t.failed (ap Err is)) (subst (λ l. StopsAt change.before change.after p l e) (append-nil input) (t.err []))
+
+-- an empty input is that of a read that gave nothing
+pub none_read : (n : ℕ) (into : List ℕ) → true ≡ (length (take n into) == 0) → n ≤ length into → n ≡ 0
+none_read n into e within =
+    let none : length (take n into) ≡ 0 = grind (arith, nat_tests, e) in
+    omega (arith, none, length-take n into, within)
 
 -- bytes after bytes
 pub bytes-more : (a b : List ℕ) → IsBytes a → IsBytes b → IsBytes (a ++ b)

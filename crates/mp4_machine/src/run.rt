@@ -49,18 +49,18 @@ pub fn read_stream<R: Source, W: Sink, M: Machine>(
     let into = buf.room_mut(copy as usize);
     let mut total: u64 = 0;
     let answer = loop {
-        let n = match r.read(into) {
-            Ok(0) => {
-                break match machine.finish() {
-                    Ok(()) => Ok(()),
-                    Err(fault) => Err(Stop::Stream(fault)),
-                };
-            }
-            Ok(n) => n,
+        let input = match r.read(into) {
+            Ok(n) => &into[..n],
             Err(Failed) => break Err(Stop::Read { at: total }),
         };
-        match feed(machine, ledger, &into[..n], &mut out, w) {
-            Ok(()) => total += n as u64,
+        if input.is_empty() {
+            break match machine.finish() {
+                Ok(()) => Ok(()),
+                Err(fault) => Err(Stop::Stream(fault)),
+            };
+        }
+        match feed(machine, ledger, input, &mut out, w) {
+            Ok(()) => total += input.len() as u64,
             Err(stop) => break Err(stop),
         }
     };

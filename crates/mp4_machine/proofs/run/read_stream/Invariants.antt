@@ -6,8 +6,8 @@ use Rattle.mp4_machine.specs.Inputs.{IsFed, environment, farthest}
 use Rattle.mp4_machine.specs.Readings.{uncounted}
 use Rattle.mp4_machine.proofs.run.read_stream.Given as goal
 
-abbrev pub invariant-loop-machine : goal.invariant-loop-machine
-invariant-loop-machine g l =
+abbrev pub invariant-loop-n : goal.invariant-loop-n
+invariant-loop-n g l =
     (b : List ℕ) × record {
       read : Consumes (g.R.Source.remaining l.initial.r) (g.R.Source.remaining l.r) b;
       fed : IsFed (g.M.Machine.continuation l.initial.machine).reads b (environment (g.W.Sink.contents l.initial.w) unused l.initial.ledger uncounted) (environment (g.W.Sink.contents l.w) l.out l.ledger (g.M.Machine.counted l.machine)) (g.M.Machine.continuation l.machine);
@@ -21,5 +21,5 @@ invariant-loop-machine g l =
       bound : l.total ≤ farthest;
     }
 
-abbrev pub decreases-loop-machine : goal.decreases-loop-machine
-decreases-loop-machine g l = farthest + 1 - l.total
+abbrev pub decreases-loop-n : goal.decreases-loop-n
+decreases-loop-n g l = farthest + 1 - l.total
