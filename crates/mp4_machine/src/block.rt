@@ -229,24 +229,14 @@ impl Block {
         ensures { Puts (sent W.contents W.has_failed w.old w.new) self.old self.new
             (L.text line.now) result }
     {
-        match self.make_room(w) {
-            Ok(()) => {}
-            Err(Failed) => return Err(Failed),
+        if self.waiting.len() > BLOCK_BYTES - LINE_BYTES {
+            match self.send(w) {
+                Ok(()) => {}
+                Err(Failed) => return Err(Failed),
+            }
         }
         line.push(&mut self.waiting);
         Ok(())
-    }
-
-    /// Makes room for a line: sends the buffer where there may be none.
-    #[inline(always)]
-    fn make_room<W: Sink>(&mut self, w: &mut W) -> Result<(), Failed>
-        ensures puts { Puts (sent W.contents W.has_failed w.old w.new) self.old self.new [] result }
-        ensures room { OnOk result (length self.new.bytes + LINE_BYTES ≤ BLOCK_BYTES) }
-    {
-        if self.waiting.len() <= BLOCK_BYTES - LINE_BYTES {
-            return Ok(());
-        }
-        self.send(w)
     }
 
     fn send_and_put<W: Sink>(&mut self, w: &mut W, bytes: &[u8]) -> Result<(), Failed>
