@@ -5,8 +5,9 @@ use Rattle.mp4_pieces.specs.Pieces.{cursor_after}
 use Rattle.mp4_recut.specs.Cursors.{left_in, pieces_ahead}
 use Rattle.mp4_recut.specs.Splitting.{index_before, next_group, output_fragment, timescale_of}
 use Rattle.mp4_recut.specs.declared.cursor.FragmentCursor.{FragmentCursor}
-use Rattle.mp4_recut.proofs.CursorLemmas.{fragment_is, past_placed}
+use Rattle.mp4_recut.proofs.CursorLemmas.{fragment_is, next_group-left, past_placed}
 use Rattle.mp4_recut.proofs.next.next_fragment.Goals as goal
+use Rattle.mp4_recut.proofs.next.next_fragment.Goals.{then-c-eq0, else-c-eq0}
 
 pub put_first-requires : goal.put_first-requires
 put_first-requires g c =
@@ -37,13 +38,18 @@ returns g c =
     let at = c.seek.new.c in
     let puts = c.in-Ok.ensures in
     let p = puts.piece in
-    let cursor_past = c.go_after.ensures in
-    let there : c.go_after.new.c.at ≡ cursor_after p = cursor_past.at ∙ ap cursor_after (sym puts.is) in
+    let d : FragmentCursor = record { index = at.index; run = at.run; at = c.cursor_after-c.result; group = c.if-c-eq0.c } in
+    let there : c.cursor_after-c.result ≡ cursor_after p = c.cursor_after-c.ensures ∙ ap cursor_after (sym puts.is) in
+    let group : c.if-c-eq0.c ≡ next_group at.group =
+        elim c.if-c-eq0.branch [
+          | then-c-eq0 w ↦ w.c-is ∙ sym (ap next_group w.if-c-eq0.true)
+          | else-c-eq0 w ↦ w.c-is ∙ next_group-left at.group (omega (arith, w.if-c-eq0.false))
+        ] in
     record {
       fragment = output_fragment (index_before cut at.run (timescale_of tracks at.run.track) at.group (pieces_ahead cut h at)) h.bytes at.run p c.args.number;
-      is = c.seek.ensures.same c.if-not-seek.false c.args.number ∙ fragment_is cut h tracks at p (c.seek.ensures.at c.if-not-seek.false) puts.first c.go_after.new.c cursor_past.index cursor_past.run there cursor_past.group c.args.number;
+      is = c.seek.ensures.same c.if-not-seek.false c.args.number ∙ fragment_is cut h tracks at p (c.seek.ensures.at c.if-not-seek.false) puts.first d refl refl there group c.args.number;
       put = puts.put;
       place = c.media_offset.ensures ∙ sym (ap (λ (x : Piece). natural x.place) puts.is);
       len = sym (ap (λ (x : Piece). x.bytes) puts.is);
-      at = past_placed cut h tracks at p (c.seek.ensures.at c.if-not-seek.false) puts.first c.go_after.new.c cursor_past.index cursor_past.run there cursor_past.group puts.later;
+      at = past_placed cut h tracks at p (c.seek.ensures.at c.if-not-seek.false) puts.first d refl refl there group puts.later;
     }
