@@ -49,7 +49,7 @@ returns g c =
       fragment = output_fragment (index_before cut at.run (timescale_of tracks at.run.track) at.group (pieces_ahead cut h at)) h.bytes at.run p c.args.number;
       is = c.seek.ensures.same c.if-not-seek.false c.args.number ∙ fragment_is cut h tracks at p (c.seek.ensures.at c.if-not-seek.false) puts.first d refl refl there group c.args.number;
       put = puts.put;
-      place = c.media_offset.ensures ∙ sym (ap (λ (x : Piece). natural x.place) puts.is);
+      place = omega (arith, c.media_offset.ensures, ap (λ (x : Piece). natural x.place) puts.is);
       len = sym (ap (λ (x : Piece). x.bytes) puts.is);
       at = past_placed cut h tracks at p (c.seek.ensures.at c.if-not-seek.false) puts.first d refl refl there group puts.later;
     }
