@@ -41,10 +41,10 @@ returns g c =
     let d : FragmentCursor = record { index = at.index; run = at.run; at = c.cursor_after-c.result; group = c.if-c-eq0.c } in
     let there : c.cursor_after-c.result ≡ cursor_after p = c.cursor_after-c.ensures ∙ ap cursor_after (sym puts.is) in
     let group : c.if-c-eq0.c ≡ next_group at.group =
-        elim c.if-c-eq0.branch [
-          | then-c-eq0 w ↦ w.c-is ∙ sym (ap next_group w.if-c-eq0.true)
-          | else-c-eq0 w ↦ w.c-is ∙ next_group-left at.group (omega (arith, w.if-c-eq0.false))
-        ] in
+    elim c.if-c-eq0.branch [
+      | then-c-eq0 w ↦ w.c-is ∙ sym (ap next_group w.if-c-eq0.true)
+      | else-c-eq0 w ↦ w.c-is ∙ next_group-left at.group (omega (arith, w.if-c-eq0.false))
+    ] in
     record {
       fragment = output_fragment (index_before cut at.run (timescale_of tracks at.run.track) at.group (pieces_ahead cut h at)) h.bytes at.run p c.args.number;
       is = c.seek.ensures.same c.if-not-seek.false c.args.number ∙ fragment_is cut h tracks at p (c.seek.ensures.at c.if-not-seek.false) puts.first d refl refl there group c.args.number;

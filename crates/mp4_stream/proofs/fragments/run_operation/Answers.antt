@@ -20,10 +20,10 @@ returns g c =
     let same = Runs-same refl refl (sym peak) ran in
     let counted = λ (o : Operation). fragments_of o c.tally-tally.result.fragments same.0.fragments in
     let fragments : c.match-operation.fragments ≡ counted c.args.operation =
-        elim c.match-operation.branch [
-          | in-List w ↦ w.fragments-is ∙ sym (ap counted w.in-List.is)
-          | in-Split w ↦ w.fragments-is ∙ sym same.1 ∙ sym (ap counted w.in-Split.is)
-        ] in
+    elim c.match-operation.branch [
+      | in-List w ↦ w.fragments-is ∙ sym (ap counted w.in-List.is)
+      | in-Split w ↦ w.fragments-is ∙ sym same.1 ∙ sym (ap counted w.in-Split.is)
+    ] in
     record {
       runs = record {
         effects = c.tally-tally.result.fragments;
