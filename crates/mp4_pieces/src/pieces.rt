@@ -28,8 +28,8 @@ impl Cut {
             None => true,
             Some(most) => piece.bytes + u64::from(row.size) <= most,
         };
-        let is_sync = row.flags & NON_SYNC == 0;
-        piece.count < self.samples && has_bytes && !(self.sync && is_sync)
+        // Most rows are asked for no more than their size: their flags matter only with `sync`.
+        piece.count < self.samples && has_bytes && !(self.sync && row.flags & NON_SYNC == 0)
     }
 }
 
