@@ -22,8 +22,8 @@ abbrev pub items_lines : Cut → Context → List Item → List ℕ
 items_lines cut c [] = []
 items_lines cut c (i ∷ is) = item_lines c i ++ items_lines cut (context_after (splitting cut) c i) is
 
--- the moof of a fragment has one traf, so the fragment has one line: by that its number, where it begins, and how many
--- bytes and samples it has
+-- the moof of a fragment has one traf, so the fragment has one line. That gives its number, its stream offset, and how
+-- many bytes and samples it has
 pub record IsOneLine (c : Context) (i : Item) (f : Fragment) : Type 0 where
   pub traf : TrackFragment
   pub only : moof_trafs f.moof f.tracks ≡ traf ∷ []
