@@ -43,7 +43,7 @@ struct CommonLayout<'a> {
 /// The box at the front of the bytes, which begin at `offset`, where it is of this type and its header has eight bytes
 /// and states a size.
 #[inline(always)]
-fn plain_first<'a>(kind: FourCc, bytes: &'a [u8], offset: u64) -> Option<BoxRef<'a>>
+pub(crate) fn plain_first<'a>(kind: FourCc, bytes: &'a [u8], offset: u64) -> Option<BoxRef<'a>>
     requires room { offset + length bytes.now < 2 ^ 63 }
     requires plain { not (bytes_eq kind.0 uuid) ≡ true }
     ensures here { IfSome result (λ b. box_at offset bytes.now ≡ Some (view b)) }

@@ -18,7 +18,7 @@ ghost use Rattle.mp4_frag.specs.TrafEnds.{AreEndsOf};
 
 use crate::at_once::{MoofCounts, ended_early, read_moof};
 use crate::counts::{samples_in, truns_in};
-use crate::mfhd::sequence_number;
+use crate::mfhd::{first_mfhd, sequence_number};
 use crate::repeats::{note_among, note_repeats};
 use crate::rules::{note_children, note_count, note_forms};
 use crate::settle::settle_in;
@@ -361,8 +361,20 @@ impl<'a> Moof<'a> {
     }
 
     /// The sequence_number of its mfhd (ISO/IEC 14496-12, 8.8.5).
-    #[tactic(auto, using(crate::proofs::MoofLemmas::moof_is))]
+    #[inline(always)]
     pub fn sequence_number(&self) -> u32
+        ensures { result ≡ sequence_of self.now }
+    {
+        match first_mfhd(self.moof_bytes, self.offset) {
+            Some(payload) => sequence_number(payload),
+            None => self.sought_sequence_number(),
+        }
+    }
+
+    /// The sequence_number of its mfhd, wherever that is.
+    #[inline(never)]
+    #[tactic(auto, using(crate::proofs::MoofLemmas::moof_is))]
+    fn sought_sequence_number(&self) -> u32
         ensures { result ≡ sequence_of self.now }
     {
         sequence_number(payload_at(MFHD, &whole_box(self.moof_bytes, self.offset)))

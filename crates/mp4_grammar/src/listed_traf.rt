@@ -1,9 +1,9 @@
 //! The trafs of a fragment, and their lines.
 
-ghost use Rattle.std.specs.Prelude.{◌≡◌, ◌++◌, ◌+◌, ◌≤◌, length};
+ghost use Rattle.std.specs.Prelude.{◌≡◌, ◌++◌, ◌+◌, ◌≤◌, codes, length};
 ghost use Rattle.mp4_grammar.specs.FragmentLines.{fragment_text, samples_text, size_text, times_text, traf_line, traf_with, yes_or_no};
 
-use crate::sample::push_number;
+use crate::sample::{push_large_number, push_number};
 use mp4_frag::TrafTotals;
 use mp4_lines::{DECIMAL_DIGITS, Text};
 use mp4_machine::{BLOCK_BYTES, LINE_BYTES, Line};
@@ -34,6 +34,7 @@ pub struct ListedTraf {
 impl ListedTraf {
     /// The traf with these totals, of a fragment with this sequence_number that begins at `at` and has `size` bytes;
     /// none where its mdat goes to the end of the stream.
+    #[inline(always)]
     pub fn of(sequence: u32, at: u64, size: Option<u64>, totals: &TrafTotals) -> ListedTraf
         ensures { result ≡ traf_with sequence at size totals.now }
     {
@@ -53,37 +54,39 @@ impl ListedTraf {
 
 impl ListedTraf {
     /// Appends its fragment.
+    #[inline(always)]
     fn push_fragment(&self, block: &mut Text<BLOCK_BYTES>)
         requires { length block.old + LINE_BYTES ≤ BLOCK_BYTES }
         ensures text { block.new ≡ block.old ++ fragment_text self.now }
         ensures len { length block.new ≤ length block.old + 79 }
     {
-        push_number(block, b"fragment=", u64::from(self.sequence));
-        push_number(block, b" at=", self.at);
+        push_large_number(block, b"fragment=", u64::from(self.sequence));
+        push_large_number(block, b" at=", self.at);
         block.push_array(b" size=");
         push_size(block, self.size);
     }
 
     /// Appends its track and its times.
+    #[inline(always)]
     fn push_times(&self, block: &mut Text<BLOCK_BYTES>)
         requires { length block.old + 77 ≤ BLOCK_BYTES }
         ensures text { block.new ≡ block.old ++ times_text self.now }
         ensures len { length block.new ≤ length block.old + 77 }
     {
         push_number(block, b" track=", u64::from(self.track));
-        push_number(block, b" dts=", self.time);
+        push_large_number(block, b" dts=", self.time);
         push_number(block, b" dur=", self.duration);
     }
 
     /// Appends its samples, and ends its line.
+    #[inline(always)]
     fn push_samples(&self, block: &mut Text<BLOCK_BYTES>)
         requires { length block.old + 66 ≤ BLOCK_BYTES }
         ensures { block.new ≡ block.old ++ samples_text self.now }
     {
         push_number(block, b" samples=", u64::from(self.samples));
-        block.push_array(b" sync=");
-        push_yes_or_no(block, self.sync);
-        push_number(block, b" media=", self.media);
+        push_is_sync(block, self.sync);
+        block.push_decimal(self.media);
         block.push_array(b"\n");
     }
 }
@@ -91,6 +94,7 @@ impl ListedTraf {
 impl Line for ListedTraf {
     ghost text = { λ t. traf_line t };
 
+    #[inline(always)]
     #[tactic(auto, unfolding(crate::specs::FragmentLines::traf_line))]
     fn push(&self, block: &mut Text<BLOCK_BYTES>) {
         self.push_fragment(block);
@@ -100,6 +104,7 @@ impl Line for ListedTraf {
 }
 
 /// Appends a size, if it is stated.
+#[inline(always)]
 fn push_size(block: &mut Text<BLOCK_BYTES>, size: Option<u64>)
     requires { length block.old + DECIMAL_DIGITS ≤ BLOCK_BYTES }
     ensures text { block.new ≡ block.old ++ size_text size }
@@ -111,15 +116,16 @@ fn push_size(block: &mut Text<BLOCK_BYTES>, size: Option<u64>)
     }
 }
 
-/// Appends whether something is so.
-fn push_yes_or_no(block: &mut Text<BLOCK_BYTES>, is_so: bool)
-    requires { length block.old + 3 ≤ BLOCK_BYTES }
-    ensures text { block.new ≡ block.old ++ yes_or_no is_so }
-    ensures len { length block.new ≤ length block.old + 3 }
+/// Appends whether the first sample is a sync sample, and the name of what follows.
+#[inline(always)]
+fn push_is_sync(block: &mut Text<BLOCK_BYTES>, sync: bool)
+    requires { length block.old + 16 ≤ BLOCK_BYTES }
+    ensures text { block.new ≡ block.old ++ codes " sync=" ++ yes_or_no sync ++ codes " media=" }
+    ensures len { length block.new ≤ length block.old + 16 }
 {
-    if is_so {
-        block.push_array(b"yes");
+    if sync {
+        block.push_array(b" sync=yes media=");
     } else {
-        block.push_array(b"no");
+        block.push_array(b" sync=no media=");
     }
 }

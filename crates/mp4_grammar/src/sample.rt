@@ -127,6 +127,21 @@ pub(crate) fn push_number<const N: usize, const CAP: usize>(
     text.push_decimal(number);
 }
 
+/// Appends a number after its name, sooner where it has four to nine digits.
+#[inline(always)]
+pub(crate) fn push_large_number<const N: usize, const CAP: usize>(
+    text: &mut Text<CAP>,
+    name: &[u8; N],
+    number: u64,
+)
+    requires { length text.old + N + DECIMAL_DIGITS ≤ CAP }
+    ensures text { text.new ≡ text.old ++ name.now ++ decimal number }
+    ensures len { length text.new ≤ length text.old + N + DECIMAL_DIGITS }
+{
+    text.push_array(name);
+    text.push_large_decimal(number);
+}
+
 /// Appends a number with a sign after its name.
 #[inline(always)]
 fn push_signed<const N: usize>(block: &mut Text<BLOCK_BYTES>, name: &[u8; N], number: i128)

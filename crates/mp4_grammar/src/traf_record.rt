@@ -39,6 +39,7 @@ pub struct TrafRecord {
 
 impl TrafRecord {
     /// The record of a traf, whose track has this timescale.
+    #[inline(always)]
     pub fn of(traf: &ListedTraf, timescale: u32) -> TrafRecord
         ensures { result ≡ record_with timescale traf.now }
     {

@@ -2,9 +2,9 @@
 use Rattle.std.proofs.Common.{◌≡◌, ℕ, zero, suc, ◌+◌, ◌-◌, ◌*◌, ◌/◌, ◌%◌, ◌^◌, ◌<◌, ◌≤◌, Bool, true, ◌&&◌, T, eqb, [], ◌∷◌, ◌++◌, length, get_or, arith, inl, inr, eq-zero-or-pos, eqb→eq, append_assoc}
 use lib.Ieee.Fits.{and_l, and_r}
 use Rattle.std.specs.Fmt.{decimal}
-use Rattle.std.proofs.lemmas.Fmt.{decimal_digit, length-decimal-le}
+use Rattle.std.proofs.lemmas.Fmt.{decimal_digit, decimal_step, length-decimal-le}
 use Rattle.itoa.proofs.Decimal as itoa
-use Rattle.mp4_lines.specs.Digits.{decimal_pair, decimal_four, eight_digits, hex_digit}
+use Rattle.mp4_lines.specs.Digits.{decimal_pair, decimal_triple, decimal_four, eight_digits, hex_digit}
 use Rattle.mp4_lines.specs.declared.digits.TheConstants.{DECIMAL_PAIRS, HEX_PAIRS}
 
 -- ---- the tables
@@ -54,7 +54,15 @@ decimal_three n from below = rw (itoa.decimal_pair n from (omega arith), decimal
 pub decimal_as_four : (n : ℕ) → 1000 ≤ n → n < 10000 → decimal n ≡ decimal_four n
 decimal_as_four n from below = rw (itoa.decimal_pair n (omega arith) (omega arith), itoa.decimal_two (n / 100) (omega arith) (omega arith))
 
--- with four digits after the others, and with eight
+-- with three digits after the others, with four, and with eight
+pub decimal_split_three : (n : ℕ) → 1000 ≤ n → n < 2 ^ 64 → decimal n ≡ decimal (n / 1000) ++ decimal_triple (n % 1000)
+decimal_split_three n from fits =
+    let a : n / 10 / 100 ≡ n / 1000 = omega arith in
+    let b : n / 10 % 100 / 10 ≡ n % 1000 / 100 = omega arith in
+    let c : n / 10 % 100 % 10 ≡ n % 1000 % 100 / 10 = omega arith in
+    let d : n % 10 ≡ n % 1000 % 100 % 10 = omega arith in
+    rw (decimal_step n (omega arith) fits, itoa.decimal_pair (n / 10) (omega arith) (omega arith), a, b, c, d) (append_assoc (decimal (n / 1000)) ((48 + n % 1000 / 100) ∷ (48 + n % 1000 % 100 / 10) ∷ []) ((48 + n % 1000 % 100 % 10) ∷ []))
+
 pub decimal_split : (n : ℕ) → 10000 ≤ n → n < 2 ^ 64 → decimal n ≡ decimal (n / 10000) ++ decimal_four (n % 10000)
 decimal_split n from fits = itoa.decimal_four n from fits
 

@@ -2,3 +2,4 @@ pub mod DigitLemmas
 pub mod DecimalLemmas
 pub mod AgainLemmas
 pub mod MoreLemmas
+mod TripleLemmas

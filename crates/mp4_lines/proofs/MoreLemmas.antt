@@ -16,6 +16,14 @@ more all bytes ys at n put few fits =
     ∙ ap (λ m. take (m + n) (take at bytes ++ ys)) (sym text)
     ∙ take-append-add (take at bytes) ys n
 
+-- ys was appended to a text: with the first n of it, it is so long
+pub front : (all old ys : List ℕ) (from n end : ℕ) → take end all ≡ old ++ ys → length old ≡ from → from + n ≤ end → take (from + n) all ≡ old ++ take n ys
+front all old ys from n end text long within =
+    sym (take-take (from + n) end all within)
+    ∙ ap (take (from + n)) text
+    ∙ ap (λ m. take (m + n) (old ++ ys)) (sym long)
+    ∙ take-append-add old ys n
+
 -- a number of five digits or more has four after the others
 pub has_four : (n : ℕ) → 10000 ≤ n → n < 2 ^ 64 → length (decimal n) ≡ length (decimal (n / 10000)) + 4
 has_four n from fits = ap length (decimal_split n from fits) ∙ length-append (decimal (n / 10000)) (decimal_four (n % 10000))

@@ -5,6 +5,10 @@ use Rattle.std.specs.Prelude.{ℕ, ◌+◌, ◌-◌, ◌/◌, ◌%◌, List, [],
 abbrev pub decimal_pair : ℕ → List ℕ
 decimal_pair n = (48 + n / 10) ∷ (48 + n % 10) ∷ []
 
+-- the three of a number below 1,000
+abbrev pub decimal_triple : ℕ → List ℕ
+decimal_triple n = (48 + n / 100) ∷ decimal_pair (n % 100)
+
 -- the four of a number below 10,000
 abbrev pub decimal_four : ℕ → List ℕ
 decimal_four n = decimal_pair (n / 100) ++ decimal_pair (n % 100)

@@ -2,11 +2,12 @@
 
 ghost use Rattle.std.specs.Prelude.{◌≡◌, ◌+◌, ◌*◌, ◌^◌, ◌<◌, ◌≤◌, ◌++◌, [], length, take, drop};
 ghost use Rattle.std.specs.Fmt.{decimal, signed_decimal};
-ghost use Rattle.mp4_lines.specs.Digits.{eight_digits, hex_bytes};
+ghost use Rattle.mp4_lines.specs.Digits.{decimal_triple, eight_digits, hex_bytes};
 
 use crate::digits::{
     DECIMAL_DIGITS, SIGNED_DECIMAL_BYTES, WIDE_DECIMAL_DIGITS, decimal_four, decimal_pair, hex_pair,
 };
+use crate::triples::{decimal_triple, short_decimal, short_decimal_len};
 use itoa::Buffer;
 use std::marker::Model;
 use std::simd::Simd;
@@ -101,6 +102,19 @@ impl<const CAP: usize> Text<CAP> {
         self.len = at + N;
     }
 
+    /// Appends the first `n` bytes of an array. All of them are moved, since a move of a length that is known is fast.
+    #[inline(always)]
+    fn push_front<const N: usize>(&mut self, bytes: &[u8; N], n: usize)
+        requires few { n ≤ N }
+        requires room { length self.old + N ≤ CAP }
+        ensures text { self.new ≡ self.old ++ take n bytes.now }
+        ensures len { length self.new ≡ length self.old + n }
+    {
+        let after = self.len + n;
+        self.push_array(bytes);
+        self.len = after;
+    }
+
     /// Appends another text. All of its place is moved, since a move of a length that is known is fast, and the bytes
     /// that it has count.
     #[inline(always)]
@@ -124,25 +138,61 @@ impl<const CAP: usize> Text<CAP> {
         ensures len { length self.new ≤ length self.old + DECIMAL_DIGITS }
         ensures short { number < 2 ^ 32 → length self.new ≤ length self.old + 10 }
     {
-        if number < 10_000 {
-            self.push_four_at_most(number as u32);
+        if number < 1_000 {
+            self.push_three_at_most(number as u32);
         } else {
             self.push_long_decimal(number);
         }
     }
 
-    /// Appends the number in decimal: its last eight digits after those before them, where there are more.
-    fn push_long_decimal(&mut self, number: u64)
+    /// Appends the number in decimal, as [`Text::push_decimal`] does, and sooner where it has four to nine digits.
+    #[inline(always)]
+    pub fn push_large_decimal(&mut self, number: u64)
         requires { length self.old + DECIMAL_DIGITS ≤ CAP }
+        ensures text { self.new ≡ self.old ++ decimal number }
+        ensures len { length self.new ≤ length self.old + DECIMAL_DIGITS }
+        ensures short { number < 2 ^ 32 → length self.new ≤ length self.old + 10 }
+    {
+        if 1_000 <= number && number < 1_000_000_000 {
+            self.push_four_to_nine(number as u32);
+        } else {
+            self.push_decimal(number);
+        }
+    }
+
+    /// Appends a number of more than three digits in decimal; of more than nine its last eight after those before them.
+    #[inline(never)]
+    fn push_long_decimal(&mut self, number: u64)
+        requires long { 1_000 ≤ number }
+        requires room { length self.old + DECIMAL_DIGITS ≤ CAP }
         ensures { self.new ≡ self.old ++ decimal number }
     {
-        if number < 100_000_000 {
-            self.push_eight_at_most(number as u32);
+        if number < 1_000_000_000 {
+            self.push_four_to_nine(number as u32);
             return;
         }
         let last = (number % 100_000_000) as u32;
         self.push_twelve_at_most(number / 100_000_000);
         self.push_eight(last);
+    }
+
+    /// Appends a number of four to nine digits in decimal.
+    #[inline(always)]
+    fn push_four_to_nine(&mut self, number: u32)
+        requires long { 1_000 ≤ number }
+        requires short { number < 1_000_000_000 }
+        requires room { length self.old + 10 ≤ CAP }
+        ensures text { self.new ≡ self.old ++ decimal number }
+        ensures len { length self.new ≤ length self.old + 9 }
+    {
+        if number < 1_000_000 {
+            self.push_three_at_most(number / 1_000);
+            self.push_three(number % 1_000);
+        } else {
+            self.push_three_at_most(number / 1_000_000);
+            self.push_three(number / 1_000 % 1_000);
+            self.push_three(number % 1_000);
+        }
     }
 
     /// Appends a number of at most twelve digits in decimal.
@@ -193,6 +243,28 @@ impl<const CAP: usize> Text<CAP> {
         } else {
             self.push_array(&decimal_four(number));
         }
+    }
+
+    /// Appends a number of at most three digits in decimal.
+    #[inline(always)]
+    fn push_three_at_most(&mut self, number: u32)
+        requires number { number < 1_000 }
+        requires room { length self.old + 4 ≤ CAP }
+        ensures text { self.new ≡ self.old ++ decimal number }
+        ensures len { length self.new ≤ length self.old + 3 }
+    {
+        self.push_front(&short_decimal(number), short_decimal_len(number));
+    }
+
+    /// Appends three digits of a number below 1,000: zeros in front where it has fewer.
+    #[inline(always)]
+    fn push_three(&mut self, number: u32)
+        requires number { number < 1_000 }
+        requires room { length self.old + 4 ≤ CAP }
+        ensures text { self.new ≡ self.old ++ decimal_triple number }
+        ensures len { length self.new ≡ length self.old + 3 }
+    {
+        self.push_front(&decimal_triple(number), 3);
     }
 
     /// Appends a number of at most eight digits in decimal.

@@ -33,6 +33,7 @@ fn timescale_of(tracks: &TrackList, id: u32) -> u32
 }
 
 /// Puts the line of a traf, or its record.
+#[inline(always)]
 fn put_traf<W: Sink>(
     command: Command,
     traf: &ListedTraf,
