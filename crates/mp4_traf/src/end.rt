@@ -9,8 +9,8 @@ ghost use Rattle.mp4_traf.specs.Settling.{ended, timed_in};
 ghost use Rattle.mp4_traf.specs.Implementation.Ends.{EndsInTime};
 
 use crate::fields::flags_of;
-use crate::runs::ticks_in;
 use crate::start::{Start, start_of};
+use crate::times::ticks_in;
 use crate::trun::{sample_count, sample_fields};
 use mp4_box::BoxRef;
 use mp4_box::types::TRUN;

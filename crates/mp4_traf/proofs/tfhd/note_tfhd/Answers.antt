@@ -7,7 +7,7 @@ use Rattle.mp4_box.specs.Order.{least_from}
 use Rattle.mp4_box.proofs.OrderLemmas.{least_from_append}
 use Rattle.mp4_traf.specs.Rules.{tfhd_faults, track_with}
 use Rattle.mp4_traf.specs.Tfhd.{track_id}
-use Rattle.mp4_traf.proofs.checks.note_tfhd.Goals as goal
+use Rattle.mp4_traf.proofs.tfhd.note_tfhd.Goals as goal
 
 pub returns-then-index-eq0-clause-found : goal.returns-then-index-eq0-clause-found
 returns-then-index-eq0-clause-found c =

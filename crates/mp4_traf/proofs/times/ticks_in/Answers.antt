@@ -6,7 +6,7 @@ use Rattle.mp4_traf.specs.Fields.{flags_in}
 use Rattle.mp4_traf.specs.Implementation.TrafContexts.{shared_of}
 use Rattle.mp4_traf.specs.Trun.{sample_fields}
 use Rattle.mp4_traf.proofs.TimeLemmas.{none_found, ticks_by_product}
-use Rattle.mp4_traf.proofs.runs.ticks_in.Goals as goal
+use Rattle.mp4_traf.proofs.times.ticks_in.Goals as goal
 
 pub returns-then-is_none : goal.returns-then-is_none
 returns-then-is_none c =
