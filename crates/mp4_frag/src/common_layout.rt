@@ -18,10 +18,11 @@ ghost use Rattle.mp4_traf.specs.Runs.{moof_at};
 ghost use Rattle.mp4_traf.specs.Tfhd.{track_id};
 ghost use Rattle.mp4_frag.specs.Implementation.CommonLayout.{HasCommonLayout};
 
-use crate::at_once::is_early;
+use crate::child_at_once::is_early;
 use crate::counts::MOST_IN_MOOF;
 use crate::mfhd::MFHD_LEN;
-use crate::single_run::{SingleRun, run_with};
+use crate::only_run::run_with;
+use crate::single_run::SingleRun;
 use mp4_box::types::{MFHD, MOOF, TFDT, TFHD, TRAF, TRUN};
 use mp4_box::{BoxRef, Check, FourCc, Header, Layout, Size, array_at, u32_at};
 use mp4_init::TrackList;

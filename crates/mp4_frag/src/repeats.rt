@@ -120,7 +120,7 @@ impl<const N: usize> Marks<N> {
 
     /// Takes other track_IDs: those of the trafs from here on. Returns whether an earlier traf has this track_ID.
     // A function of its own, since a function clears its locals at each call.
-    #[tactic(auto, using(crate::proofs::PassLemmas::marked_next, crate::proofs::PassLemmas::listed_next, crate::proofs::PassLemmas::marked_none, crate::proofs::PassLemmas::listed_none), unfolding(crate::specs::Implementation::RepeatMarks::marks))]
+    #[tactic(auto, using(crate::proofs::PassLemmas::next), unfolding(crate::specs::Implementation::RepeatMarks::marks))]
     fn refill(&mut self, moof: &BoxRef<'_>, passed: usize, id: u32) -> bool
         ensures seen { self.new.seen ≡ marks N self.new.ids.items (trafs_before passed (view moof.now)) }
         ensures listed { result ≡ is_listed id (trafs_before passed (view moof.now)) }

@@ -5,7 +5,7 @@ use Rattle.mp4_init.specs.declared.table.Track.{Track}
 use Rattle.mp4_traf.specs.Runs.{base_of, moof_at, shared_by, track_of}
 use Rattle.mp4_frag.proofs.SingleRunLemmas.{not_single}
 use Rattle.mp4_traf.proofs.StartLemmas.{Starts}
-use Rattle.mp4_frag.proofs.single_run.single_of.Goals as goal
+use Rattle.mp4_frag.proofs.only_run.single_of.Goals as goal
 
 pub returns-in_default-clause-none : goal.returns-in_default-clause-none
 returns-in_default-clause-none c =

@@ -8,7 +8,7 @@ use Rattle.mp4_frag.specs.Implementation.AtOnce.{Adds, TrafHasTicks, faults_in_t
 use Rattle.mp4_traf.specs.Implementation.Heads.{HasTicks}
 use Rattle.mp4_traf.specs.Kinds.{tfhd, tfdt}
 use Rattle.mp4_frag.proofs.AddLemmas.{AddsUp}
-use Rattle.mp4_frag.proofs.at_once.note_traf.Given as goal
+use Rattle.mp4_frag.proofs.child_at_once.note_traf.Given as goal
 
 abbrev pub invariant-loop-child : goal.invariant-loop-child
 invariant-loop-child l = record {

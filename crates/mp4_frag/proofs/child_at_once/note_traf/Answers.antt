@@ -12,7 +12,7 @@ use Rattle.mp4_traf.specs.Implementation.Heads.{HasTicks}
 use Rattle.mp4_traf.specs.Kinds.{tfdt, tfhd}
 use Rattle.mp4_frag.proofs.AddLemmas.{adds_append, adds_nothing, adds_on, count_append}
 use Rattle.mp4_frag.proofs.AtOnceLemmas.{ticks_first, untimed_one}
-use Rattle.mp4_frag.proofs.at_once.note_traf.Goals as goal
+use Rattle.mp4_frag.proofs.child_at_once.note_traf.Goals as goal
 
 pub loop-child-preserved : goal.loop-child-preserved
 loop-child-preserved c =

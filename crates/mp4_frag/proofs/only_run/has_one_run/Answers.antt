@@ -6,7 +6,7 @@ use Rattle.mp4_traf.specs.Kinds.{traf, trun}
 use Rattle.mp4_traf.specs.Runs.{moof_at}
 use Rattle.mp4_frag.proofs.SingleRunLemmas.{one_run, only_one}
 use Rattle.mp4_frag.proofs.MoofLemmas.{moof_is}
-use Rattle.mp4_frag.proofs.single_run.has_one_run.Goals as goal
+use Rattle.mp4_frag.proofs.only_run.has_one_run.Goals as goal
 
 pub returns : goal.returns
 returns c = λ tracks.

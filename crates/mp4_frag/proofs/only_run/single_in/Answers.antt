@@ -6,7 +6,7 @@ use Rattle.mp4_traf.specs.Runs.{moof_at}
 use Rattle.mp4_frag.proofs.SingleRunLemmas.{single_found_in, one_known, one_sound}
 use Rattle.mp4_frag.proofs.MoofLemmas.{moof_is}
 use Rattle.mp4_frag.proofs.MoofListLemmas.{is_moof}
-use Rattle.mp4_frag.proofs.single_run.single_in.Goals as goal
+use Rattle.mp4_frag.proofs.only_run.single_in.Goals as goal
 
 pub single_of-requires-clause-sound : goal.single_of-requires-clause-sound
 single_of-requires-clause-sound c =

@@ -2,7 +2,7 @@ use Rattle.std.proofs.Common.{◌≡◌}
 use Rattle.std.specs.List.{fold}
 use Rattle.mp4_run_order.specs.Implementation.Searches.{place_start, place_step}
 use Rattle.mp4_frag.specs.Implementation.RunRows.{listed_words}
-use Rattle.mp4_frag.proofs.listed.find_by_place.Given as goal
+use Rattle.mp4_frag.proofs.places.find_by_place.Given as goal
 
 -- the result for the runs that are left is the result for all
 abbrev pub invariant-loop-taken : goal.invariant-loop-taken

@@ -4,7 +4,7 @@ use Rattle.mp4_traf.specs.declared.run.Run.{Run}
 use Rattle.mp4_traf.specs.Ranges.{InRange}
 use Rattle.mp4_traf.specs.Runs.{moof_at}
 use Rattle.mp4_frag.proofs.SingleRunLemmas.{single_found}
-use Rattle.mp4_frag.proofs.single_run.run_with.Goals as goal
+use Rattle.mp4_frag.proofs.only_run.run_with.Goals as goal
 
 pub run_of-requires : goal.run_of-requires
 run_of-requires c =
