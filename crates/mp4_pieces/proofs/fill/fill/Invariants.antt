@@ -1,6 +1,6 @@
 use Rattle.std.proofs.Common.{◌≡◌, length}
 use Rattle.mp4_pieces.specs.Implementation.Growing.{Grows, grown}
-use Rattle.mp4_pieces.proofs.pieces.fill.Given as goal
+use Rattle.mp4_pieces.proofs.fill.fill.Given as goal
 
 -- the pieces of what is left, from the piece so far, are those of all
 abbrev pub invariant-loop-piece : goal.invariant-loop-piece

@@ -3,7 +3,7 @@ use Rattle.mp4_traf.specs.declared.rows.Row.{Row}
 use Rattle.mp4_pieces.specs.declared.piece.Piece.{Piece}
 use Rattle.mp4_pieces.specs.Implementation.Growing.{Grows, grown}
 use Rattle.mp4_pieces.proofs.GrowLemmas.{grown_takes, with_row_grows}
-use Rattle.mp4_pieces.proofs.pieces.fill.Goals as goal
+use Rattle.mp4_pieces.proofs.fill.fill.Goals as goal
 
 pub loop-piece-preserved : goal.loop-piece-preserved
 loop-piece-preserved c =
