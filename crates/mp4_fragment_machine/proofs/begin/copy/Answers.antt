@@ -10,7 +10,7 @@ use Rattle.mp4_fragment_machine.proofs.CountLemmas.{counted_later}
 use Rattle.mp4_fragment_machine.proofs.HeadLemmas.{GoesOn-both}
 use Rattle.mp4_fragment_machine.proofs.CopyLemmas.{GoesOn-copy, GoesOn-copy_body, GoesOn-says_over}
 use Rattle.mp4_fragment_machine.proofs.ExtentLemmas.{claim_in, counted-begun}
-use Rattle.mp4_fragment_machine.proofs.other_box.copy.Goals as goal
+use Rattle.mp4_fragment_machine.proofs.begin.copy.Goals as goal
 
 pub returns-in-Empty : goal.returns-in-Empty
 returns-in-Empty c = λ l k x can account unfailed effects p.

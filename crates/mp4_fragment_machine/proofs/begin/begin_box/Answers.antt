@@ -6,7 +6,7 @@ use Rattle.mp4_grammar.specs.Contexts.{context}
 use Rattle.mp4_grammar.specs.declared.kinds.Kind.TheVariants.{Moov, Moof, Mdat}
 use Rattle.mp4_fragment_machine.proofs.HeadLemmas.{Refuses-box, Refuses-far, reads-kind}
 use Rattle.mp4_fragment_machine.proofs.StepLemmas.{StopsIn-refused}
-use Rattle.mp4_fragment_machine.proofs.header.begin_box.Goals as goal
+use Rattle.mp4_fragment_machine.proofs.begin.begin_box.Goals as goal
 
 pub returns-then-is_too_long : goal.returns-then-is_too_long
 returns-then-is_too_long g c =

@@ -11,7 +11,7 @@ use Rattle.mp4_fragment_machine.specs.Places.{InHeader, continuation_at}
 use Rattle.mp4_fragment_machine.proofs.CountLemmas.{counted_later}
 use Rattle.mp4_fragment_machine.proofs.HeadLemmas.{GoesOn-both, GoesOn-other, GoesOn-other_body}
 use Rattle.mp4_fragment_machine.proofs.ExtentLemmas.{claim_in, counted-begun}
-use Rattle.mp4_fragment_machine.proofs.other_box.leave_out.Goals as goal
+use Rattle.mp4_fragment_machine.proofs.begin.leave_out.Goals as goal
 
 pub returns-in-Empty : goal.returns-in-Empty
 returns-in-Empty c = λ u account k x can silence.

@@ -10,7 +10,7 @@ use Rattle.mp4_fragment_machine.specs.declared.state.State.TheVariants as states
 use Rattle.mp4_fragment_machine.proofs.HeadLemmas.{Refuses-unsized, Refuses-large, GoesOn-keep, StopsAt-keep}
 use Rattle.mp4_fragment_machine.proofs.BufferedBoxLemmas.{refused_not_written}
 use Rattle.mp4_fragment_machine.proofs.StepLemmas.{Advances-then, StopsIn-refused, counted_stop}
-use Rattle.mp4_fragment_machine.proofs.held.buffer_on.Goals as goal
+use Rattle.mp4_fragment_machine.proofs.begin.buffer_on.Goals as goal
 
 pub returns-in_default : goal.returns-in_default
 returns-in_default g c =

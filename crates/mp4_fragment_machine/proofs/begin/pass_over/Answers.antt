@@ -6,7 +6,7 @@ use Rattle.mp4_fragment_machine.specs.Places.{Untouched}
 use Rattle.mp4_fragment_machine.specs.Implementation.Steps.{borrowed}
 use Rattle.mp4_fragment_machine.proofs.CopyLemmas.{WriteFailed-copy}
 use Rattle.mp4_fragment_machine.proofs.StepLemmas.{counted_stop}
-use Rattle.mp4_fragment_machine.proofs.other_box.pass_over.Goals as goal
+use Rattle.mp4_fragment_machine.proofs.begin.pass_over.Goals as goal
 
 pub returns-in-List : goal.returns-in-List
 returns-in-List g c = λ account can.

@@ -2,7 +2,7 @@ use Rattle.std.proofs.Common.{◌+◌, ap, arith, drop}
 use Rattle.mp4_grammar.specs.declared.kinds.Kind.TheVariants.{Mdat}
 use Rattle.mp4_fragment_machine.specs.Implementation.InPlace.{payload_in}
 use Rattle.mp4_fragment_machine.proofs.FragmentLemmas.{first_fits, moof_len}
-use Rattle.mp4_fragment_machine.proofs.in_place.payload_after.Goals as goal
+use Rattle.mp4_fragment_machine.proofs.in_place.fragment.payload_after.Goals as goal
 
 pub overflow_add-result : goal.overflow_add-result
 overflow_add-result c =

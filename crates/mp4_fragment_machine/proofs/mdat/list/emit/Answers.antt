@@ -4,7 +4,7 @@ use Rattle.mp4_machine.specs.Readings.{plus}
 use Rattle.mp4_machine.proofs.PutLemmas.{HasPut-none}
 use Rattle.mp4_fragment_machine.specs.States.{bound_after, moof_in}
 use Rattle.mp4_fragment_machine.proofs.CountLemmas.{counted_emitted, media_bound}
-use Rattle.mp4_fragment_machine.proofs.mdat.accept_list.emit.Goals as goal
+use Rattle.mp4_fragment_machine.proofs.mdat.list.emit.Goals as goal
 
 pub returns-in-Check-clause-counted : goal.returns-in-Check-clause-counted
 returns-in-Check-clause-counted g c =

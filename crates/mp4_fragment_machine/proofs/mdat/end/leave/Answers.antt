@@ -12,7 +12,7 @@ use Rattle.mp4_fragment_machine.specs.Places.{InHeader, continuation_at}
 use Rattle.mp4_fragment_machine.proofs.BodyLemmas.{Moves-settled}
 use Rattle.mp4_fragment_machine.proofs.CountLemmas.{counted_ended}
 use Rattle.mp4_fragment_machine.proofs.StepLemmas.{no_head}
-use Rattle.mp4_fragment_machine.proofs.other_box.leave.Goals as goal
+use Rattle.mp4_fragment_machine.proofs.mdat.end.leave.Goals as goal
 
 pub returns-in_default : goal.returns-in_default
 returns-in_default c = λ u at left kind none.

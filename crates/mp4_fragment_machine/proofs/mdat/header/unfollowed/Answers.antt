@@ -6,7 +6,7 @@ use Rattle.mp4_machine.specs.Bodies.{fault}
 use Rattle.mp4_grammar.specs.Contexts.{context}
 use Rattle.mp4_fragment_machine.specs.States.{known}
 use Rattle.mp4_fragment_machine.proofs.QuietLemmas.{ends-after, ends-missing, some_bytes}
-use Rattle.mp4_fragment_machine.proofs.header.unfollowed.Goals as goal
+use Rattle.mp4_fragment_machine.proofs.mdat.header.unfollowed.Goals as goal
 
 pub returns-then-is_empty : goal.returns-then-is_empty
 returns-then-is_empty c = λ meaning number tracks i.

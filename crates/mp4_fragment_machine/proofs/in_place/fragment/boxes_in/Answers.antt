@@ -1,7 +1,7 @@
 use Rattle.std.proofs.Common.{sym, subst}
 use Rattle.mp4_box.specs.Headers.{IsBytes}
 use Rattle.mp4_box.proofs.HeaderLemmas.{IsBytes-take}
-use Rattle.mp4_fragment_machine.proofs.in_place.boxes_in.Goals as goal
+use Rattle.mp4_fragment_machine.proofs.in_place.fragment.boxes_in.Goals as goal
 
 pub returns-in-Mdat-clause-are : goal.returns-in-Mdat-clause-are
 returns-in-Mdat-clause-are c =

@@ -8,7 +8,7 @@ use Rattle.mp4_fragment_machine.proofs.MdatHeaderLemmas.{Refuses-after, claimed_
 use Rattle.mp4_fragment_machine.proofs.BodyLemmas.{claimed_apart}
 use Rattle.mp4_fragment_machine.proofs.CountLemmas.{counted_unlisted}
 use Rattle.mp4_fragment_machine.proofs.StepLemmas.{GoesTo-then, StopsIn-then, accepts_mdat_header}
-use Rattle.mp4_fragment_machine.proofs.header.take_mdat_header.Goals as goal
+use Rattle.mp4_fragment_machine.proofs.mdat.header.take_mdat_header.Goals as goal
 
 pub returns-in-More : goal.returns-in-More
 returns-in-More g c =
