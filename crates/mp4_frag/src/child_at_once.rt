@@ -36,7 +36,6 @@ fn note_other(child: &BoxRef<'_>, best: &mut Option<Fault>)
 
 /// Notes what is at fault with a child of a traf by itself.
 #[inline]
-#[tactic(auto, using(mp4_box::proofs::OrderLemmas::least_from_append), unfolding(crate::specs::Implementation::AtOnce::faults_in_traf, mp4_box::specs::Order::least_from))]
 fn note_in_traf(tracks: &TrackList, child: &BoxRef<'_>, best: &mut Option<Fault>)
     ensures best { best.new ≡ least_from best.old (faults_in_traf tracks.now (view child.now)) }
     ensures ticks { is_kind tfhd (view child.now) ≡ true → HasTicks tracks.now (view child.now) }
@@ -147,7 +146,6 @@ fn note_traf(
 /// Notes the faults of a child of a moof by itself, and adds the child to the findings. Returns whether it is a traf
 /// with just one tfhd, at most one tfdt, and no rest, or is no traf.
 #[inline(always)]
-#[tactic(auto, unfolding(crate::specs::Implementation::AtOnce::faults_in_moof, crate::specs::Repeats::untimed_ids, mp4_box::specs::Order::least_from))]
 pub(crate) fn note_in_moof(
     tracks: &TrackList,
     child: &BoxRef<'_>,

@@ -79,7 +79,7 @@ fn timed_in(run: &Run) -> u32
 
 /// Adds a run, if it follows those before it. Returns whether it does.
 #[inline(always)]
-#[tactic(auto, unfolding(crate::specs::Implementation::Following::follows, crate::specs::Implementation::Following::past_run, crate::specs::Implementation::Following::bytes_with))]
+#[tactic(auto, unfolding(crate::specs::Implementation::Following::follows))]
 fn follow_run(payload: Payload, run: &Run, so_far: &mut Followed) -> bool
     requires range { InRange run.now }
     requires room { pos (payload.start + so_far.old.bytes) ≤ℤ so_far.old.end }
@@ -106,7 +106,6 @@ fn follow_run(payload: Payload, run: &Run, so_far: &mut Followed) -> bool
 
 /// Adds some runs, if each follows those before it. Returns whether they do.
 #[inline(always)]
-#[tactic(auto, unfolding(crate::specs::Implementation::Following::all_follow, crate::specs::Implementation::Following::past_runs))]
 fn follow_runs(payload: Payload, runs: Runs<'_>, so_far: &mut Followed) -> bool
     requires range { AllByRecursion InRange runs }
     requires room { pos (payload.start + so_far.old.bytes) ≤ℤ so_far.old.end }

@@ -203,7 +203,6 @@ impl<const N: usize> Marks<N> {
 /// The same, with room for so many track_IDs.
 // It is a call of its own so that its room is no part of the frame of its caller, which handles every moof.
 #[inline(never)]
-#[tactic(auto, unfolding(crate::specs::Implementation::RepeatMarks::marks, crate::specs::Implementation::RepeatMarks::all_marked))]
 fn note_by<const N: usize>(moof: &BoxRef<'_>, best: &mut Option<Fault>)
     requires { N ≤ MANY }
     ensures { best.new ≡ least_from best.old (repeat_faults (view moof.now)) }

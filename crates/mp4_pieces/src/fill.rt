@@ -74,7 +74,6 @@ pub(crate) struct Filled {
 }
 
 /// The piece that begins so, with the rows that fit in it. No row is read after one that has as many as it may.
-#[tactic(auto, unfolding(crate::specs::Implementation::Growing::grown, crate::specs::Implementation::Growing::pieces_left), using(crate::proofs::GrowLemmas::with_row_grows, crate::proofs::GrowLemmas::grown_full))]
 #[inline(always)]
 pub(crate) fn fill(cut: &Cut, begun: Piece, rows: &mut Rows<'_>) -> Filled
     requires { Grows begun rows.old }

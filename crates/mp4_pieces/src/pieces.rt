@@ -72,7 +72,7 @@ impl<'a> Iterator for Pieces<'a> {
     ghost remaining = { item_count (λ rest. rest) };
 
     /// The next piece. It reads no row twice, and at most one after the piece.
-    #[tactic(auto, using(crate::proofs::GrowLemmas::after_has_room), unfolding(crate::specs::Implementation::Growing::pieces_left))]
+    #[tactic(auto, unfolding(crate::specs::Implementation::Growing::pieces_left))]
     #[inline(always)]
     fn next(&mut self) -> Option<Piece> {
         let first = match self.peeked.take() {

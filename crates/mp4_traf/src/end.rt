@@ -18,7 +18,6 @@ use mp4_init::TrackList;
 
 /// Sets where the track of a traf ends: where the traf does. Those of its samples that have durations of their own are
 /// counted.
-#[tactic(auto, using(crate::proofs::EndLemmas::tick_fits, crate::proofs::EndLemmas::tick_more), unfolding(crate::specs::Implementation::Ends::ticks_from, crate::specs::Runs::traf_of))]
 pub fn end_traf(
     moof_bytes: &[u8],
     moof: u64,

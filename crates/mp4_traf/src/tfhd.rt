@@ -110,7 +110,6 @@ pub(crate) fn entry_of(track: Track, tfhd: &[u8]) -> u32
 
 /// Notes what is at fault with the values of a tfhd. The index of its track, where there is one.
 #[inline(always)]
-#[tactic(auto, using(mp4_box::proofs::OrderLemmas::least_from_append), unfolding(mp4_box::specs::Order::least_from, crate::specs::Rules::tfhd_faults))]
 pub fn note_tfhd(tracks: &TrackList, tfhd: &BoxRef<'_>, best: &mut Option<Fault>) -> Option<usize>
     ensures found { result ≡
         position (λ t. t.id == track_id tfhd.now.payload.now) tracks.now }

@@ -21,7 +21,7 @@ use mp4_init::TrackList;
 
 /// The durations of the samples of a trun, added up: by a product where no sample has its own.
 #[inline(always)]
-#[tactic(auto, using(crate::proofs::TimeLemmas::ticks_by_product), unfolding(crate::specs::Implementation::Times::ticks_in))]
+#[tactic(auto, using(crate::proofs::TimeLemmas::products), unfolding(crate::specs::Implementation::Times::ticks_in))]
 pub(crate) fn ticks_in(context: &TrafContext<'_>, trun: &BoxRef<'_>) -> u64
     ensures { result ≡ ticks_in (shared_of context.now) (view trun.now) }
 {
@@ -59,7 +59,6 @@ fn note_end(end: u128, trun: &BoxRef<'_>, best: &mut Option<Fault>)
 }
 
 /// Notes the truns of a traf whose runs end past 64 bits, where the first begins at a time.
-#[tactic(auto, using(mp4_box::proofs::OrderLemmas::least_from_append), unfolding(crate::specs::Implementation::Times::late_from, mp4_box::specs::Order::least_from))]
 fn note_ends(context: &TrafContext<'_>, time: u64, traf: &BoxRef<'_>, best: &mut Option<Fault>)
     ensures { best.new ≡ least_from best.old (late_from (shared_of context.now) time
         (of_kind trun (children (view traf.now)))) }

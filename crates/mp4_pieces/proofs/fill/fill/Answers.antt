@@ -1,8 +1,8 @@
-use Rattle.std.proofs.Common.{List, ap, subst, sym, ◌∙◌}
+use Rattle.std.proofs.Common.{List, ap, arith, subst, sym, ◌∙◌}
 use Rattle.mp4_traf.specs.declared.rows.Row.{Row}
 use Rattle.mp4_pieces.specs.declared.piece.Piece.{Piece}
-use Rattle.mp4_pieces.specs.Implementation.Growing.{Grows, grown}
-use Rattle.mp4_pieces.proofs.GrowLemmas.{grown_takes, with_row_grows}
+use Rattle.mp4_pieces.specs.Implementation.Growing.{Grows, grown, pieces_left}
+use Rattle.mp4_pieces.proofs.GrowLemmas.{grown_full, grown_takes, with_row_grows}
 use Rattle.mp4_pieces.proofs.fill.fill.Goals as goal
 
 pub loop-piece-preserved : goal.loop-piece-preserved
@@ -20,3 +20,15 @@ loop-piece-preserved c =
       grows = subst (λ (q : Piece). Grows q rest) (sym c.with_row-piece.ensures)
           (with_row_grows p row rest (subst (λ (rows : List Row). Grows p rows) steps c.loop-piece.invariant.grows));
     }
+
+pub returns-in_default-clause-pieces : goal.returns-in_default-clause-pieces
+unfolding grown pieces_left
+returns-in_default-clause-pieces c = grind (arith, with_row_grows, grown_full)
+
+pub returns-then-not-takes-clause-pieces : goal.returns-then-not-takes-clause-pieces
+unfolding grown pieces_left
+returns-then-not-takes-clause-pieces c = grind (arith, with_row_grows, grown_full)
+
+pub returns-clause-pieces : goal.returns-clause-pieces
+unfolding grown pieces_left
+returns-clause-pieces c = grind (arith, with_row_grows, grown_full)

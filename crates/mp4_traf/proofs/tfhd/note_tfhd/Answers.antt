@@ -46,3 +46,7 @@ returns-else-index-track-clause-ticks c =
     let here = sym (slice_get_read tracks _ c.in-Some.i c.at-track.result refl c.in-Some.ensures.within c.at-track.ensures) in
     let track : Some c.at-track.result ≡ track_with (track_id c.args.tfhd.now.payload.now) tracks = here ∙ ap (option_and_then (slice_get tracks)) found in
     rw (← track) (search rules)
+
+pub returns-in-None-clause-best : goal.returns-in-None-clause-best
+unfolding tfhd_faults least_from
+returns-in-None-clause-best c = search rules
