@@ -31,3 +31,6 @@ plain_box o x e room = let t = le-ltb (length x) (size_field x) room in ap (λ (
 pub plain_none : (o : ℕ) (x : List ℕ) → header_at x ≡ Whole (plain_header x) → length x < size_field x → None ≡ box_at o x
 unfolding box_at
 plain_none o x e short = let t = lt-ltb (length x) (size_field x) short in ap (λ (b : Bool). if b then None else Some (plain o x)) (sym t) ∙ ap (box_by o x) (sym e)
+
+-- the first box of some bytes, where its header is the plain one
+pub ruleset first_steps = (plain_box, plain_none, short_none)

@@ -5,6 +5,7 @@ use Rattle.std.proofs.lemmas.Grind.{flat_map-append}
 use Rattle.std.specs.List.{flat_map}
 use Rattle.std.specs.Str.{bytes_eq}
 use Rattle.mp4_box.specs.declared.rules.Fault.{Fault}
+use Rattle.mp4_box.proofs.OrderLemmas.{least_from_append}
 use Rattle.mp4_box.specs.Checks.{along}
 use Rattle.mp4_box.specs.declared.headers.FourCc.{FourCc}
 use Rattle.mp4_box.specs.Trees.{Box, children}
@@ -163,3 +164,9 @@ reads_below path levels kind (next ∷ below) b bs e some =
     let new = reads_append path (levels ++ bs ∷ []) next below (children b) (level_below path levels kind (next ∷ below) bs e) in
     let more = reads_more kind (next ∷ below) b bs in
     omega (arith, old, rest, new, more)
+
+-- a check of the boxes on a path, level by level
+pub ruleset along_steps = (least_from_append, along_here, along_below)
+
+-- the boxes that are left on a path
+pub ruleset left_steps = (left_none, left_nowhere, left_other, left_end, left_below, reads_none, reads_box, reads_below)

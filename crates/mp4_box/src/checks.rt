@@ -25,7 +25,7 @@ pub trait Check {
 
 /// Checks each box that the path of types leads to from this one: `best` is the first of the best so far and
 /// of what is at fault with these.
-#[tactic(auto, using(crate::proofs::OrderLemmas::least_from_append, crate::proofs::PathLemmas::along_here, crate::proofs::PathLemmas::along_below), unfolding(crate::specs::Order::least_from))]
+#[tactic(auto, using(crate::proofs::PathLemmas::along_steps), unfolding(crate::specs::Order::least_from))]
 pub fn note_along<C: Check>(check: &C, path: &[FourCc], this: &BoxRef<'_>, best: &mut Option<Fault>)
     requires { length path.now ≤ 8 }
     ensures { best.new ≡ least_from best.old (along (C.faults check.now) path.now (view this.now)) }

@@ -66,7 +66,7 @@ impl<'p, 'a> Along<'p, 'a> {
 }
 
 /// The next of the boxes that are left.
-#[tactic(auto, using(crate::proofs::PathLemmas::left_none, crate::proofs::PathLemmas::left_nowhere, crate::proofs::PathLemmas::left_other, crate::proofs::PathLemmas::left_end, crate::proofs::PathLemmas::left_below, crate::proofs::PathLemmas::reads_none, crate::proofs::PathLemmas::reads_box, crate::proofs::PathLemmas::reads_below))]
+#[tactic(auto, using(crate::proofs::PathLemmas::left_steps))]
 fn next_on<'a>(
     path: &[FourCc],
     above: &mut ArrayVec<Walk<'a>, LEVELS>,

@@ -31,7 +31,7 @@ fn is_plain(bytes: &[u8]) -> bool
 /// The box of stated size at the front of the bytes, which begin at `offset`; none where they haven't all of
 /// one.
 #[inline]
-#[tactic(auto, using(crate::proofs::BoxLemmas::plain_box, crate::proofs::BoxLemmas::plain_none, crate::proofs::BoxLemmas::short_none))]
+#[tactic(auto, using(crate::proofs::BoxLemmas::first_steps))]
 pub(crate) fn first_box<'a>(bytes: &'a [u8], offset: u64) -> Option<BoxRef<'a>>
     requires { offset + length bytes.now < 2 ^ 63 }
     ensures exact { option_map view result ≡ box_at offset bytes.now }

@@ -30,13 +30,13 @@ fn moof_front(piece: &PlainPiece, run: &Run, sequence_number: u32) -> Fields
     ensures len { length result ≡ 92 }
 {
     let size = moof_size(piece.count) as u32;
+    let data_offset = size + mdat_header_size(piece.bytes) as u32;
     let mut front = Fields::new();
     front.put_header(size, MOOF);
     put_mfhd(&mut front, sequence_number);
     front.put_header(68 + 16 * piece.count, TRAF);
     put_tfhd(&mut front, run.track, run.entry);
     put_tfdt(&mut front, piece.time);
-    let data_offset = size + mdat_header_size(piece.bytes) as u32;
     put_trun_front(&mut front, run.version, piece.count, data_offset);
     front
 }

@@ -76,7 +76,7 @@ module _ (tracks : List Track) (m a t b c d : Box) (u : HasCommonLayout m a t b 
   of_tfdts : of_kind tfdt (children t) ≡ c ∷ []
   of_tfdts = ap (of_kind tfdt) u.three.are ∙ rw (no_other b tfhd tfdt refl u.is_tfhd, no_other d trun tfdt refl u.is_trun, u.is_tfdt) refl
 
-  of_mfhds : of_kind mfhd (children m) ≡ a ∷ []
+  pub of_mfhds : of_kind mfhd (children m) ≡ a ∷ []
   of_mfhds = ap (of_kind mfhd) u.two.are ∙ rw (no_other t traf mfhd refl u.is_traf, u.is_mfhd) refl
 
   -- ---- all is there, and nothing more

@@ -262,3 +262,14 @@ bytes_taken h tracks m b f e =
     ∙ (ap (sum_by bytes_with) (runs_in h tracks m f)
     ∙ (bytes_all h.bytes (moof_runs h tracks) (trafs_summed h tracks (of_kind traf (children (moof_of h))))
     ∙ sym (sum_by-IsPermutation (λ (run : Run). run.bytes) (moof_runs h tracks) (taken_runs h tracks) (taken_permutes listed_run (moof_runs h tracks)))))
+
+pub all_follow_none : (p : Payload) (e : ℤ) → all_follow p e [] ≡ true
+unfolding all_follow
+all_follow_none p e = refl
+
+pub past_runs_none : (e : ℤ) → past_runs e [] ≡ e
+unfolding past_runs
+past_runs_none e = refl
+
+-- a pass over the trafs of a moof
+pub ruleset traf_steps = (all_follow_append, past_runs_append, bytes_append, timed_append, all_follow_none, past_runs_none)

@@ -221,3 +221,6 @@ one_alone (t ∷ (u ∷ ts)) h = absurd (omega (arith, h))
 pub none_earlier : (m : Box) (best : Option Fault) → length (trafs_of m) < 2 → best ≡ least_from best (repeat_faults m)
 unfolding least_from
 none_earlier m best h = sym (ap (least_from best) (one_alone (trafs_of m) h))
+
+-- a pass over the trafs before one
+pub ruleset next = (marked_next, listed_next, marked_none, listed_none)

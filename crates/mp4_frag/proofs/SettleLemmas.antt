@@ -269,3 +269,6 @@ pub settled_length : (tracks : List Track) (ts : List TrackFragment) → length 
 settled_length tracks [] = refl
 settled_length tracks (t ∷ ts) =
     settled_length (ended tracks t) ts ∙ ended_length (position (λ (x : Track). x.id == t.shared.header.track) tracks) (end_of t) tracks
+
+-- a pass over the trafs of a moof
+pub ruleset settle_steps = (each_first, each_more, settled_more, settled_none, timed_past)

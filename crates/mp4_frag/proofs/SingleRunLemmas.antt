@@ -15,7 +15,7 @@ use Rattle.mp4_traf.specs.declared.traf.TrafHeader.{TrafHeader}
 use Rattle.mp4_traf.specs.Fields.{payload_of}
 use Rattle.mp4_traf.specs.Kinds.{tfhd, to_tfhd, traf, trun}
 use Rattle.mp4_frag.specs.SingleRuns.{IsSingle}
-use Rattle.mp4_frag.specs.Moofs.{IsRead, moof_of, moof_runs, moof_samples, moof_trafs}
+use Rattle.mp4_frag.specs.Moofs.{IsRead, moof_of, moof_runs, moof_samples, moof_trafs, sequence_of}
 use Rattle.mp4_traf.specs.Ranges.{InRange, IsSound}
 use Rattle.mp4_traf.specs.Rows.{rows_of}
 use Rattle.mp4_frag.specs.Rules.{form_faults}
@@ -175,9 +175,12 @@ run_ends h tracks m t run i is e only at =
 
 -- ---- the findings on a moof with one run
 
+no_sequence : (o : Option ℕ) (number : ℕ) → o ≡ None → IfSome o (λ n. n ≡ number)
+no_sequence o number e = rw e tt
+
 pub one_single : (h : MoofBytes) (tracks : List Track) (m t : Box) (l : SingleRun) → moof_of h ≡ m → of_kind traf (children m) ≡ t ∷ [] → IsRead h tracks → runs_of (traf_of h tracks t) ≡ l.run ∷ [] → InRange l.run
-    → position (λ (x : Track). x.id == track_id (tfhd_of t)) tracks ≡ Some l.track → l.track < length tracks → IsSingle h tracks l
-one_single h tracks m t l is e read only range at known =
+    → position (λ (x : Track). x.id == track_id (tfhd_of t)) tracks ≡ Some l.track → l.track < length tracks → IfSome l.sequence (λ number. number ≡ sequence_of h) → IsSingle h tracks l
+one_single h tracks m t l is e read only range at known sequence =
     let run = moof_is_one h tracks m t is e ∙ only in
     record {
       read = read;
@@ -185,11 +188,12 @@ one_single h tracks m t l is e read only range at known =
       run = run;
       range = range;
       samples = run_samples h tracks l.run run;
+      sequence = sequence;
       known = known;
       ends = run_ends h tracks m t l.run l.track is e only at;
     }
 
 pub single_found_in : (h : MoofBytes) (tracks : List Track) (m t : Box) (o : Option SingleRun) → moof_of h ≡ m → of_kind traf (children m) ≡ t ∷ [] → IsRead h tracks → IfSome o (λ l. runs_of (traf_of h tracks t) ≡ l.run ∷ []) → IfSome o (λ l. InRange l.run)
-    → IfSome o (λ l. position (λ (x : Track). x.id == track_id (tfhd_of t)) tracks ≡ Some l.track) → IfSome o (λ l. l.track < length tracks) → IfSome o (λ l. IsSingle h tracks l)
-single_found_in h tracks m t None is e read only range at known = tt
-single_found_in h tracks m t (Some l) is e read only range at known = one_single h tracks m t l is e read only range at known
+    → IfSome o (λ l. position (λ (x : Track). x.id == track_id (tfhd_of t)) tracks ≡ Some l.track) → IfSome o (λ l. l.track < length tracks) → IfSome o (λ l. l.sequence ≡ None) → IfSome o (λ l. IsSingle h tracks l)
+single_found_in h tracks m t None is e read only range at known unread = tt
+single_found_in h tracks m t (Some l) is e read only range at known unread = one_single h tracks m t l is e read only range at known (no_sequence l.sequence (sequence_of h) unread)

@@ -1,10 +1,10 @@
 -- A moof that has just one run.
-use Rattle.std.specs.Prelude.{◌≡◌, ◌+◌, ◌*◌, ◌<◌, List, [], ◌∷◌, length, Option, None, Some, Result, Ok, Err, OnErr}
+use Rattle.std.specs.Prelude.{◌≡◌, ◌+◌, ◌*◌, ◌<◌, List, [], ◌∷◌, length, Option, None, Some, Result, Ok, Err, OnErr, IfSome}
 use Rattle.mp4_box.specs.Order.{least}
 use Rattle.mp4_box.specs.declared.rules.Fault.{Fault}
 use Rattle.mp4_init.specs.Tracks.{with_next}
 use Rattle.mp4_init.specs.declared.table.Track.{Track}
-use Rattle.mp4_frag.specs.Moofs.{IsRead, fault_before_times, moof_runs, moof_samples, moof_trafs, time_faults}
+use Rattle.mp4_frag.specs.Moofs.{IsRead, fault_before_times, moof_runs, moof_samples, moof_trafs, sequence_of, time_faults}
 use Rattle.mp4_traf.specs.Ranges.{InRange}
 use Rattle.mp4_traf.specs.Runs.{MoofBytes}
 use Rattle.mp4_traf.specs.Settling.{settled}
@@ -18,6 +18,7 @@ pub record IsSingle (h : MoofBytes) (tracks : List Track) (l : SingleRun) : Type
   pub run : moof_runs h tracks ≡ l.run ∷ []
   pub range : InRange l.run
   pub samples : l.run.count ≡ moof_samples h
+  pub sequence : IfSome l.sequence (λ number. number ≡ sequence_of h)
   pub known : l.track < length tracks
   pub ends : settled tracks (moof_trafs h tracks) ≡ with_next l.track l.run.end tracks
 

@@ -18,10 +18,11 @@ ghost use Rattle.mp4_traf.specs.Runs.{moof_at};
 ghost use Rattle.mp4_traf.specs.Tfhd.{track_id};
 ghost use Rattle.mp4_frag.specs.Implementation.CommonLayout.{HasCommonLayout};
 
-use crate::at_once::is_early;
+use crate::child_at_once::is_early;
 use crate::counts::MOST_IN_MOOF;
-use crate::mfhd::MFHD_LEN;
-use crate::single_run::{SingleRun, run_with};
+use crate::mfhd::{MFHD_LEN, sequence_number};
+use crate::only_run::run_with;
+use crate::single_run::SingleRun;
 use mp4_box::types::{MFHD, MOOF, TFDT, TFHD, TRAF, TRUN};
 use mp4_box::{BoxRef, Check, FourCc, Header, Layout, Size, array_at, u32_at};
 use mp4_init::TrackList;
@@ -43,7 +44,7 @@ struct CommonLayout<'a> {
 /// The box at the front of the bytes, which begin at `offset`, where it is of this type and its header has eight bytes
 /// and states a size.
 #[inline(always)]
-pub(crate) fn plain_first<'a>(kind: FourCc, bytes: &'a [u8], offset: u64) -> Option<BoxRef<'a>>
+fn plain_first<'a>(kind: FourCc, bytes: &'a [u8], offset: u64) -> Option<BoxRef<'a>>
     requires room { offset + length bytes.now < 2 ^ 63 }
     requires plain { not (bytes_eq kind.0 uuid) ≡ true }
     ensures here { IfSome result (λ b. box_at offset bytes.now ≡ Some (view b)) }
@@ -156,7 +157,7 @@ pub(crate) fn common_run(moof_bytes: &[u8], offset: u64, tracks: &TrackList) -> 
     let time = base_media_decode_time(common_layout.tfdt.payload);
     // A copy, so that the other boxes need not be in memory.
     let trun = common_layout.trun;
-    Some(run_with(
+    let single_run = run_with(
         moof_bytes,
         offset,
         tracks,
@@ -165,5 +166,9 @@ pub(crate) fn common_run(moof_bytes: &[u8], offset: u64, tracks: &TrackList) -> 
         common_layout.tfhd.payload,
         Some(time),
         &trun,
-    ))
+    );
+    Some(SingleRun {
+        sequence: Some(sequence_number(common_layout.mfhd.payload)),
+        ..single_run
+    })
 }

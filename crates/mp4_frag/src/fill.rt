@@ -1,6 +1,6 @@
 //! From a moof to the rows of its runs, in listing order.
 
-ghost use Rattle.std.specs.Prelude.{◌≡◌, ◌+◌, ◌≤◌, ◌<◌, ◌∷◌, ◌++◌, [], length, map};
+ghost use Rattle.std.specs.Prelude.{◌≡◌, ◌+◌, ◌≤◌, ◌∷◌, ◌++◌, [], length, map};
 ghost use Rattle.std.specs.List.{All, AllByRecursion};
 ghost use Rattle.mp4_box.specs.Paths.{at_path};
 ghost use Rattle.mp4_box.specs.Trees.{view};
@@ -10,26 +10,12 @@ ghost use Rattle.mp4_traf.specs.Ranges.{InRange, IsSound};
 ghost use Rattle.mp4_frag.specs.Implementation.RunRows.{listed_words, row_of_run, rows_of_traf, rows_of_trafs, rows_of_words};
 ghost use Rattle.mp4_traf.specs.Runs.{moof_at, traf_of};
 
-use crate::run_row::{row_of_run, words_of};
+use crate::run_row::push_run;
 use mp4_box::BoxRef;
 use mp4_box::types::TRAF;
 use mp4_init::TrackList;
 use mp4_ledger::Rows64;
-use mp4_traf::{Run, Runs, RunsOf, children_of, runs_of};
-
-/// Appends the row of a run.
-fn push_run(rows: &mut Rows64, tfhd: u64, run: &Run)
-    requires room { length rows.old.rows < rows.old.cap }
-    requires range { InRange run.now }
-    requires fits { All FitsKeys (listed_words rows.old.rows) }
-    ensures rows { rows_of_words rows.new.rows ≡ rows_of_words rows.old.rows ++
-        row_of_run tfhd run.now ∷ [] }
-    ensures fits { All FitsKeys (listed_words rows.new.rows) }
-    ensures len { length rows.new.rows ≡ length rows.old.rows + 1 }
-    ensures cap { rows.new.cap ≡ rows.old.cap }
-{
-    rows.push(words_of(row_of_run(tfhd, run)));
-}
+use mp4_traf::{Runs, RunsOf, children_of, runs_of};
 
 /// Appends the rows of the runs of a traf.
 fn push_runs(rows: &mut Rows64, tfhd: u64, runs: Runs<'_>)

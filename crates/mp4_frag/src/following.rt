@@ -18,7 +18,7 @@ ghost use Rattle.mp4_frag.specs.Implementation.Following.{all_follow, bytes_with
 
 use crate::at_once::LATE;
 use crate::moof::Moof;
-use crate::single_run::lies_in;
+use crate::places::lies_in;
 use crate::traf_ends::{TrafEnd, TrafEnds};
 use mp4_box::types::TRAF;
 use mp4_box::{BoxRef, whole_box};
@@ -79,7 +79,7 @@ fn timed_in(run: &Run) -> u32
 
 /// Adds a run, if it follows those before it. Returns whether it does.
 #[inline(always)]
-#[tactic(auto, unfolding(crate::specs::Implementation::Following::follows, crate::specs::Implementation::Following::past_run, crate::specs::Implementation::Following::bytes_with))]
+#[tactic(auto, unfolding(crate::specs::Implementation::Following::follows))]
 fn follow_run(payload: Payload, run: &Run, so_far: &mut Followed) -> bool
     requires range { InRange run.now }
     requires room { pos (payload.start + so_far.old.bytes) ≤ℤ so_far.old.end }
@@ -106,7 +106,6 @@ fn follow_run(payload: Payload, run: &Run, so_far: &mut Followed) -> bool
 
 /// Adds some runs, if each follows those before it. Returns whether they do.
 #[inline(always)]
-#[tactic(auto, unfolding(crate::specs::Implementation::Following::all_follow, crate::specs::Implementation::Following::past_runs))]
 fn follow_runs(payload: Payload, runs: Runs<'_>, so_far: &mut Followed) -> bool
     requires range { AllByRecursion InRange runs }
     requires room { pos (payload.start + so_far.old.bytes) ≤ℤ so_far.old.end }
@@ -175,7 +174,7 @@ fn follow_traf(
 
 /// Adds the runs of the trafs of a moof that begins at this offset, if each follows those before it. Returns whether
 /// they do. Where the trafs end is kept then.
-#[tactic(auto, using(crate::proofs::FollowingLemmas::all_follow_append, crate::proofs::FollowingLemmas::past_runs_append, crate::proofs::FollowingLemmas::bytes_append, crate::proofs::FollowingLemmas::timed_append), unfolding(crate::specs::Implementation::Following::all_follow, crate::specs::Implementation::Following::past_runs))]
+#[tactic(auto, using(crate::proofs::FollowingLemmas::traf_steps))]
 fn follow_trafs(
     payload: Payload,
     moof_bytes: &[u8],

@@ -3,12 +3,12 @@
 ghost use Rattle.std.specs.Prelude.{◌≡◌, map, length};
 ghost use Rattle.std.specs.Iterator.{YieldsFirst, item_count};
 ghost use Rattle.std.specs.List.Sorted.{IsNonDecreasingBy, IsPermutation};
-ghost use Rattle.mp4_run_order.specs.Implementation.Searches.{found_by_place, found_by_track};
+ghost use Rattle.mp4_run_order.specs.Implementation.Searches.{found_by_track};
 ghost use Rattle.mp4_frag.specs.Implementation.RunRows.{listed_row, listed_words, place_word, row_of_words, track_word};
 
 use crate::run_row::{RunRow, row_of_words};
 use mp4_ledger::Rows64;
-use mp4_run_order::{ListedRun, Payload, PlaceSearch, TrackSearch};
+use mp4_run_order::{ListedRun, TrackSearch};
 use std::marker::Model;
 
 /// What the order of runs depends on, of the run of a row.
@@ -26,7 +26,7 @@ pub(crate) fn listed_row(row: &RunRow) -> ListedRun
 
 /// Goes over the runs of rows.
 #[derive(Drop)]
-struct Listed<'a> {
+pub(crate) struct Listed<'a> {
     rows: &'a Rows64,
     at: usize,
 }
@@ -45,7 +45,7 @@ impl<'a> Model for Listed<'a> {
 }
 
 /// The runs of all rows.
-fn runs_of(rows: &Rows64) -> Listed<'_>
+pub(crate) fn runs_of(rows: &Rows64) -> Listed<'_>
     ensures { result ≡ listed_words rows.now.rows }
 {
     Listed { rows, at: 0 }
@@ -75,21 +75,6 @@ pub(crate) fn find_by_track(rows: &Rows64) -> Option<u64>
     let mut search = TrackSearch::new();
     for run in runs_of(rows) {
         search = search.past(run);
-    }
-    search.offender
-}
-
-/// What a pass over rows in taking order finds, with what was found by track.
-pub(crate) fn find_by_place(
-    payload: Payload,
-    faulty_by_track: Option<u64>,
-    rows: &Rows64,
-) -> Option<u64>
-    ensures { result ≡ found_by_place payload faulty_by_track (listed_words rows.now.rows) }
-{
-    let mut search = PlaceSearch::new(payload, faulty_by_track);
-    for taken in runs_of(rows) {
-        search = search.past(taken);
     }
     search.offender
 }

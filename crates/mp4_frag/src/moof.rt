@@ -18,15 +18,15 @@ ghost use Rattle.mp4_frag.specs.TrafEnds.{AreEndsOf};
 
 use crate::at_once::{MoofCounts, ended_early, read_moof};
 use crate::counts::{samples_in, truns_in};
-use crate::mfhd::{first_mfhd, sequence_number};
+use crate::mfhd::sequence_in;
 use crate::repeats::{note_among, note_repeats};
 use crate::rules::{note_children, note_count, note_forms};
 use crate::settle::settle_in;
 use crate::traf_ends::TrafEnds;
-use mp4_box::types::{MFHD, TFHD, TRAF, TRUN};
+use mp4_box::types::{TFHD, TRAF, TRUN};
 use mp4_box::{BoxRef, Fault, check_tree, note_along, whole_box};
 use mp4_init::TrackList;
-use mp4_traf::{FlagsOnce, InTime, OfTrack, Steps, Trafs, payload_at};
+use mp4_traf::{FlagsOnce, InTime, OfTrack, Steps, Trafs};
 use std::marker::Model;
 
 /// A moof without a fault (ISO/IEC 14496-12, 8.8.4). It borrows its bytes, and nothing else.
@@ -361,23 +361,10 @@ impl<'a> Moof<'a> {
     }
 
     /// The sequence_number of its mfhd (ISO/IEC 14496-12, 8.8.5).
-    #[inline(always)]
     pub fn sequence_number(&self) -> u32
         ensures { result ≡ sequence_of self.now }
     {
-        match first_mfhd(self.moof_bytes, self.offset) {
-            Some(payload) => sequence_number(payload),
-            None => self.sought_sequence_number(),
-        }
-    }
-
-    /// The sequence_number of its mfhd, wherever that is.
-    #[inline(never)]
-    #[tactic(auto, using(crate::proofs::MoofLemmas::moof_is))]
-    fn sought_sequence_number(&self) -> u32
-        ensures { result ≡ sequence_of self.now }
-    {
-        sequence_number(payload_at(MFHD, &whole_box(self.moof_bytes, self.offset)))
+        sequence_in(self.moof_bytes, self.offset)
     }
 
     /// How many samples it has.

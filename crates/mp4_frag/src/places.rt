@@ -1,20 +1,25 @@
 //! Where the runs of a moof may lie: the rule RunPlace.
 
-ghost use Rattle.std.specs.Prelude.{◌≡◌, List};
+ghost use Rattle.std.specs.Prelude.{◌≡◌, List, ◌∷◌, []};
 ghost use Rattle.mp4_init.specs.declared.table.Track.{Track};
 ghost use Rattle.mp4_init.specs.Moovs.{fault_of};
+ghost use Rattle.mp4_run_order.specs.Implementation.Searches.{found_by_place};
+ghost use Rattle.mp4_frag.specs.Implementation.RunRows.{listed_words};
 ghost use Rattle.mp4_frag.specs.Moofs.{moof_runs};
-ghost use Rattle.mp4_frag.specs.Places.{IsPlaceFault, place_fault, run_place_fault};
+ghost use Rattle.mp4_run_order.specs.Places.{lies_in};
+ghost use Rattle.mp4_frag.specs.Places.{IsPlaceFault, listed_run, place_fault, run_place_fault};
 ghost use Rattle.mp4_frag.specs.RunLists.{moof_listing};
 ghost use Rattle.mp4_frag.specs.ListsOfRuns.{IsListOf};
 
-use crate::listed::find_by_place;
+use crate::listed::runs_of;
 use crate::moof::Moof;
 use crate::run_list::RunList;
+use crate::single_run::SingleRun;
 use mp4_box::types::TRUN;
 use mp4_box::{Fault, Rule};
-use mp4_run_order::Payload;
-use mp4_traf::Steps;
+use mp4_ledger::Rows64;
+use mp4_run_order::{Payload, PlaceSearch};
+use mp4_traf::{Run, Steps};
 
 /// Fault of the trun that begins at this offset and may not lie where it does.
 pub(crate) fn run_place_fault(offset: u64) -> Fault
@@ -25,6 +30,17 @@ pub(crate) fn run_place_fault(offset: u64) -> Fault
         kind: Some(TRUN),
         offset,
     }
+}
+
+/// What a pass over rows in taking order finds, with what was found by track.
+fn find_by_place(payload: Payload, faulty_by_track: Option<u64>, rows: &Rows64) -> Option<u64>
+    ensures { result ≡ found_by_place payload faulty_by_track (listed_words rows.now.rows) }
+{
+    let mut search = PlaceSearch::new(payload, faulty_by_track);
+    for taken in runs_of(rows) {
+        search = search.past(taken);
+    }
+    search.offender
 }
 
 impl<'a> Moof<'a> {
@@ -47,5 +63,37 @@ impl<'a> Moof<'a> {
             None => Ok(()),
             Some(offset) => Err(run_place_fault(offset)),
         }
+    }
+}
+
+/// Whether a run lies in a payload: from its first byte on, and up to its end, where it has one.
+#[inline(always)]
+pub(crate) fn lies_in(run: &Run, payload: Payload) -> bool
+    ensures { result ≡ lies_in payload (listed_run run.now) }
+{
+    if run.place < i128::from(payload.start) {
+        return false;
+    }
+    match payload.end {
+        None => true,
+        Some(end) => run.place <= i128::from(end) - i128::from(run.bytes),
+    }
+}
+
+impl SingleRun {
+    /// Whether the run may lie where it does in the payload of its mdat, being the only one of its moof: it has no
+    /// samples, or lies in the payload.
+    ///
+    /// # Errors
+    ///
+    /// RunPlace at its trun.
+    #[inline]
+    pub fn places(&self, payload: Payload) -> Result<(), Fault>
+        ensures { fault_of result ≡ place_fault payload (self.now.run ∷ []) }
+    {
+        if self.run.count == 0 || lies_in(&self.run, payload) {
+            return Ok(());
+        }
+        Err(run_place_fault(self.run.offset))
     }
 }

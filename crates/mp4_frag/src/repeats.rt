@@ -120,7 +120,7 @@ impl<const N: usize> Marks<N> {
 
     /// Takes other track_IDs: those of the trafs from here on. Returns whether an earlier traf has this track_ID.
     // A function of its own, since a function clears its locals at each call.
-    #[tactic(auto, using(crate::proofs::PassLemmas::marked_next, crate::proofs::PassLemmas::listed_next, crate::proofs::PassLemmas::marked_none, crate::proofs::PassLemmas::listed_none), unfolding(crate::specs::Implementation::RepeatMarks::marks))]
+    #[tactic(auto, using(crate::proofs::PassLemmas::next), unfolding(crate::specs::Implementation::RepeatMarks::marks))]
     fn refill(&mut self, moof: &BoxRef<'_>, passed: usize, id: u32) -> bool
         ensures seen { self.new.seen ≡ marks N self.new.ids.items (trafs_before passed (view moof.now)) }
         ensures listed { result ≡ is_listed id (trafs_before passed (view moof.now)) }
@@ -203,7 +203,6 @@ impl<const N: usize> Marks<N> {
 /// The same, with room for so many track_IDs.
 // It is a call of its own so that its room is no part of the frame of its caller, which handles every moof.
 #[inline(never)]
-#[tactic(auto, unfolding(crate::specs::Implementation::RepeatMarks::marks, crate::specs::Implementation::RepeatMarks::all_marked))]
 fn note_by<const N: usize>(moof: &BoxRef<'_>, best: &mut Option<Fault>)
     requires { N ≤ MANY }
     ensures { best.new ≡ least_from best.old (repeat_faults (view moof.now)) }

@@ -1,9 +1,12 @@
 //! What a row of a list keeps of a run.
 
-ghost use Rattle.std.specs.Prelude.{◌≡◌};
+ghost use Rattle.std.specs.Prelude.{◌≡◌, ◌+◌, ◌<◌, ◌∷◌, ◌++◌, [], length};
+ghost use Rattle.std.specs.List.{All};
+ghost use Rattle.mp4_run_order.specs.Orders.{FitsKeys};
 ghost use Rattle.mp4_traf.specs.Ranges.{InRange};
-ghost use Rattle.mp4_frag.specs.Implementation.RunRows.{row_of_run, row_of_words};
+ghost use Rattle.mp4_frag.specs.Implementation.RunRows.{listed_words, row_of_run, row_of_words, rows_of_words};
 
+use mp4_ledger::Rows64;
 use mp4_traf::Run;
 
 /// How many numbers of 32 bits there are.
@@ -86,4 +89,18 @@ pub(crate) fn row_of_run(tfhd: u64, run: &Run) -> RunRow
         track: run.track,
         count: run.count,
     }
+}
+
+/// Appends the row of a run.
+pub(crate) fn push_run(rows: &mut Rows64, tfhd: u64, run: &Run)
+    requires room { length rows.old.rows < rows.old.cap }
+    requires range { InRange run.now }
+    requires fits { All FitsKeys (listed_words rows.old.rows) }
+    ensures rows { rows_of_words rows.new.rows ≡ rows_of_words rows.old.rows ++
+        row_of_run tfhd run.now ∷ [] }
+    ensures fits { All FitsKeys (listed_words rows.new.rows) }
+    ensures len { length rows.new.rows ≡ length rows.old.rows + 1 }
+    ensures cap { rows.new.cap ≡ rows.old.cap }
+{
+    rows.push(words_of(row_of_run(tfhd, run)));
 }

@@ -14,13 +14,11 @@ ghost use Rattle.mp4_fragment_machine.specs.declared.state.Recutting.{Recutting}
 ghost use Rattle.mp4_fragment_machine.specs.declared.state.PendingMoof.{PendingMoof};
 ghost use Rattle.mp4_fragment_machine.specs.declared.state.State.TheVariants as states;
 
-use crate::header::{take_header, take_mdat_header, unfollowed};
-use crate::held::take_held;
-use crate::in_place::{InPlace, find_in_place};
-use crate::mdat::end::back;
+use crate::in_place::InPlace;
+use crate::in_place::find::find_in_place;
+use crate::mdat::header::unfollowed;
 use crate::mdat::recut::take_split;
-use crate::other_box::take_copied;
-use crate::state::{Carried, Counter, Recutting, State, Taken, back_state, put_state, stopped};
+use crate::state::{Carried, Counter, State, back_state, stopped};
 use mp4_box::{Fault, HeaderReader};
 use mp4_ends::Sink;
 use mp4_frag::Steps;
@@ -122,48 +120,6 @@ impl FragmentMachine {
     {
         match take_split(&mut self.state, input, &mut self.carried, ledger, out, w) {
             Ok(taken) => Ok(taken),
-            Err(stop) => {
-                self.give_back(ledger);
-                Err(stop)
-            }
-        }
-    }
-
-    /// Takes a few bytes from the front of the input, in any state but a body that is passed over or recut. Returns how
-    /// many.
-    ///
-    /// # Errors
-    ///
-    /// As [`take_header`], [`take_held`], [`take_mdat_header`] and [`take_copied`].
-    #[inline(never)]
-    fn take_next_input<W: Sink>(
-        &mut self,
-        ledger: &mut Ledger,
-        input: &[u8],
-        out: &mut Block,
-        w: &mut W,
-    ) -> Result<usize, Stop>
-        requires some { 0 < length input.now }
-        requires claim { claim_of (place_in self.old) ≤ ledger.old.live }
-        requires body { (b : Body) (w : Option PendingMoof) → self.old.state ≡ states.Body b w → ⊥ }
-        requires media { (r : Recutting) → self.old.state ≡ states.Media r → ⊥ }
-        ensures { Feeds (change (sent W.contents W.has_failed w.old w.new) out.old out.new
-            ledger.old ledger.new self.old.counter.tally self.new.counter.tally)
-            self.old self.new input.now result }
-    {
-        let carried = &mut self.carried;
-        let taken = match replace(&mut self.state, stopped()) {
-            State::Header { at } => take_header(at, input, carried, ledger, out, w),
-            State::Buffering(buffered) => take_held(buffered, input, carried, ledger, out, w),
-            State::MdatHeader(moof) => take_mdat_header(moof, input, carried, ledger, out, w),
-            State::Copied(body) => take_copied(body, input, out, w),
-            _ => unreachable!(),
-        };
-        match taken {
-            Ok(Taken { count, state }) => {
-                put_state(&mut self.state, state);
-                Ok(count)
-            }
             Err(stop) => {
                 self.give_back(ledger);
                 Err(stop)

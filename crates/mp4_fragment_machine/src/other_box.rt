@@ -1,102 +1,24 @@
-//! Boxes that are passed over or copied, and their bodies.
+//! Bodies that are passed over or copied.
 
-ghost use Rattle.std.specs.Prelude.{◌≡◌, ℕ, ◌≤◌, [], List, ◌<◌, Option, length, Some};
-ghost use Rattle.mp4_box.specs.Headers.{HasRoom};
-ghost use Rattle.mp4_box.specs.declared.headers.FourCc.{FourCc};
+ghost use Rattle.std.specs.Prelude.{◌≡◌, ◌≤◌, ◌<◌, Option, length};
 ghost use Rattle.mp4_ledger.specs.Memory.{Account};
-ghost use Rattle.mp4_machine.specs.Blocks.{Passes};
-ghost use Rattle.mp4_machine.specs.Bodies.{least_end, longest};
 ghost use Rattle.mp4_machine.specs.Inputs.{change};
-ghost use Rattle.mp4_machine.specs.Readings.{says, no_effects};
 ghost use Rattle.mp4_machine.specs.declared.body.Body.{Body};
-ghost use Rattle.mp4_grammar.specs.Kinds.{kind_in};
-ghost use Rattle.mp4_grammar.specs.declared.kinds.Kind.TheVariants.{Other};
-ghost use Rattle.mp4_recut.specs.Operations.{operation_meaning, number_in};
-ghost use Rattle.mp4_fragment_machine.specs.Places.{InBody, Untouched, claim_of, unsent};
-ghost use Rattle.mp4_fragment_machine.specs.States.{IsCounted, MayBePending, after_body, claimed_in, place_in, samples_of};
+ghost use Rattle.mp4_fragment_machine.specs.Places.{Untouched, claim_of, unsent};
+ghost use Rattle.mp4_fragment_machine.specs.States.{place_in};
 ghost use Rattle.mp4_fragment_machine.specs.Implementation.Feeds.{Feeds};
-ghost use Rattle.mp4_fragment_machine.specs.Implementation.Steps.{Advances, Borrowed, CanPass, Consumes, GoesTo, MayTake, at_state, borrowed, ledger_alone, with_head};
+ghost use Rattle.mp4_fragment_machine.specs.Implementation.Steps.{Consumes, MayTake, borrowed};
 ghost use Rattle.mp4_fragment_machine.specs.declared.state.Carried.{Carried};
 ghost use Rattle.mp4_fragment_machine.specs.declared.state.PendingMoof.{PendingMoof};
 ghost use Rattle.mp4_fragment_machine.specs.declared.state.State.TheVariants as states;
 
 use crate::machine::FragmentMachine;
-use crate::mdat::end::end_fragment;
-use crate::state::{Carried, PendingMoof, State, Taken, let_go};
-use mp4_box::Header;
+use crate::mdat::end::leave;
+use crate::state::{Carried, State, Taken, let_go};
 use mp4_ends::{Failed, Sink};
 use mp4_ledger::Ledger;
-use mp4_machine::{AnyBody, Block, Body, Machine, Stop, body_of};
-use mp4_recut::{Operation, is_dropped};
+use mp4_machine::{Block, Body, Machine, Stop};
 use std::mem::replace;
-
-/// The state after the header of the box at `at`, which is passed over, or copied with these bytes of its header.
-///
-/// # Errors
-///
-/// `Write` where a write failed.
-pub(crate) fn pass_over<W: Sink>(
-    at: u64,
-    header: &Header,
-    header_bytes: &[u8],
-    carried: &Carried,
-    out: &mut Block,
-    w: &mut W,
-) -> Result<State, Stop>
-    requires room { HasRoom header.now.size header.now.header_len }
-    requires end { least_end at header.now header.now.size ≤ longest }
-    requires other { kind_in header.now.kind.0 ≡ Other }
-    ensures { (account : Account) → CanPass carried.now account at header.now header_bytes.now →
-        Advances (borrowed W.contents W.has_failed w.old w.new out.old out.new account account)
-        (with_head header_bytes.now carried.now) carried.now (states.Header at) result }
-{
-    match carried.operation {
-        Operation::List(_) => Ok(leave_out(at, header)),
-        Operation::Split(_) => {
-            if is_dropped(header.kind) {
-                return Ok(leave_out(at, header));
-            }
-            match out.put(w, header_bytes) {
-                Ok(()) => Ok(copy(at, header)),
-                Err(Failed) => Err(Stop::Write),
-            }
-        }
-    }
-}
-
-/// The state after the header of the box at `at`, which is copied.
-fn copy(at: u64, header: &Header) -> State
-    requires room { HasRoom header.now.size header.now.header_len }
-    requires end { least_end at header.now header.now.size ≤ longest }
-    requires other { kind_in header.now.kind.0 ≡ Other }
-    ensures { (l : Borrowed) (k : Carried) (x : List ℕ) → CanPass k l.account at header.now x →
-        l.account' ≡ l.account → l.failed' ≡ l.failed →
-        ((b : List ℕ) → (operation_meaning k.operation).passed header.now.kind b ≡ says b) →
-        Passes l.written l.written' l.waiting l.waiting' x →
-        GoesTo l (with_head x k) k (at_state (with_head x k) (states.Header at)) [] result }
-{
-    match body_of(at, header, 0) {
-        AnyBody::Empty { next } => State::Header { at: next },
-        AnyBody::Bytes(body) => State::Copied(body),
-    }
-}
-
-/// The state after the header of the box at `at`, which is passed over without output.
-fn leave_out(at: u64, header: &Header) -> State
-    requires room { HasRoom header.now.size header.now.header_len }
-    requires end { least_end at header.now header.now.size ≤ longest }
-    requires other { kind_in header.now.kind.0 ≡ Other }
-    ensures { (u : Untouched) (account : Account) (k : Carried) (x : List ℕ) →
-        CanPass k account at header.now x →
-        ((b : List ℕ) → (operation_meaning k.operation).passed header.now.kind b ≡ no_effects) →
-        GoesTo (ledger_alone u account account) (with_head x k) k
-        (at_state (with_head x k) (states.Header at)) [] result }
-{
-    match body_of(at, header, 0) {
-        AnyBody::Empty { next } => State::Header { at: next },
-        AnyBody::Bytes(body) => State::Body(body, None),
-    }
-}
 
 /// Takes bytes of a body that is copied from the front of the input.
 ///
@@ -133,34 +55,6 @@ pub(crate) fn take_copied<W: Sink>(
             count,
             state: State::Copied(body),
         }),
-    }
-}
-
-/// Ends a body, after which the next box begins at `next`: a pending moof is done.
-pub(crate) fn leave(
-    next: u64,
-    pending_moof: Option<PendingMoof>,
-    carried: &mut Carried,
-    ledger: &mut Ledger,
-)
-    requires end { next ≤ longest }
-    requires pending_moof { MayBePending carried.old.tracks pending_moof }
-    requires empty { carried.old.header_bytes ≡ [] }
-    requires claim { claimed_in carried.old.tracks pending_moof ≤ ledger.old.live }
-    requires counted { IsCounted carried.old.operation carried.old.counter next 0 (samples_of pending_moof) }
-    ensures { (u : Untouched) (at left : ℕ) (kind : FourCc) → left ≡ 0 →
-        GoesTo (ledger_alone u ledger.old ledger.new) carried.old carried.new
-        (InBody (λ _. no_effects) at kind
-        (after_body (number_in carried.old.operation carried.old.counter.tally) carried.old.tracks pending_moof next)
-        left (claimed_in carried.old.tracks pending_moof)) [] (states.Header next) }
-{
-    let _ = next;
-    let Some(pending_moof) = pending_moof else {
-        return;
-    };
-    match &mut carried.tracks {
-        Some(list) => end_fragment(pending_moof, list, ledger, &mut carried.counter),
-        None => unreachable!(),
     }
 }
 

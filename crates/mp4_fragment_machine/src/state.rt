@@ -170,3 +170,41 @@ pub(crate) fn back_state(state: State, ledger: &mut Ledger)
         ) => back(Some(pending_moof), ledger),
     }
 }
+
+/// Goes on with the header of the box at `at`, from a header.
+#[inline(always)]
+pub(crate) fn go_to(current: &mut State, at: u64)
+    requires { (old : ℕ) × (current.old ≡ states.Header old) }
+    ensures { current.new ≡ states.Header at }
+{
+    match current {
+        State::Header { at: next } => *next = at,
+        _ => unreachable!(),
+    }
+}
+
+/// Goes on with a state, from a header.
+pub(crate) fn leave_header(current: &mut State, state: State)
+    requires { (old : ℕ) × (current.old ≡ states.Header old) }
+    ensures { current.new ≡ state }
+{
+    match replace(current, state) {
+        State::Header { at } => {
+            let _ = at;
+        }
+        _ => unreachable!(),
+    }
+}
+
+/// Holds nothing, from a header.
+pub(crate) fn stop_at(current: &mut State)
+    requires { (old : ℕ) × (current.old ≡ states.Header old) }
+    ensures { current.new ≡ stopped }
+{
+    match replace(current, stopped()) {
+        State::Header { at } => {
+            let _ = at;
+        }
+        _ => unreachable!(),
+    }
+}

@@ -74,7 +74,6 @@ pub(crate) fn node_for(row: [u64; 8]) -> Node
 }
 
 /// The row of the same track, whose node leads to another place.
-#[tactic(auto, unfolding(crate::specs::Implementation::Rows::track_of_row, crate::specs::Implementation::Rows::node_of_row))]
 pub(crate) fn linked_row(row: [u64; 8], is_odd: bool, to: usize) -> [u64; 8]
     ensures track { track_of_row result ≡ track_of_row row }
     ensures node { node_of_row result ≡ with_link is_odd to (node_of_row row) }
@@ -85,7 +84,6 @@ pub(crate) fn linked_row(row: [u64; 8], is_odd: bool, to: usize) -> [u64; 8]
 }
 
 /// The row of the same track, where its last fragment ended at `next`.
-#[tactic(auto, unfolding(crate::specs::Implementation::Rows::track_of_row, crate::specs::Implementation::Rows::node_of_row))]
 pub(crate) fn ended_row(row: [u64; 8], next: u64) -> [u64; 8]
     ensures track { track_of_row result ≡ record (track_of_row row) { next = next } }
     ensures node { node_of_row result ≡ node_of_row row }

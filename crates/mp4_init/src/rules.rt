@@ -114,7 +114,6 @@ fn note_unknown_by<const N: usize>(moov: &BoxRef<'_>, best: &mut Option<Fault>)
 }
 
 /// The fault of the content of a moov whose tree is good.
-#[tactic(auto, using(mp4_box::proofs::OrderLemmas::least_from_append), unfolding(crate::specs::Moovs::content_fault, crate::specs::Moovs::form_faults, crate::specs::Moovs::value_faults))]
 pub(crate) fn content_fault_of(moov: &BoxRef<'_>) -> Option<Fault>
     ensures { result ≡ content_fault (view moov.now) }
 {

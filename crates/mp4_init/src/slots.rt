@@ -70,7 +70,6 @@ fn add_own(source: Source, id: u32, this: &BoxRef<'_>, own: &mut Summary)
 }
 
 /// Adds the boxes on a path to the summaries of their track_IDs, and to that of this one.
-#[tactic(auto, unfolding(crate::specs::Implementation::Summaries::all_added, crate::specs::Implementation::Summaries::gathered))]
 fn add_along(
     source: Source,
     path: &[FourCc],
@@ -110,7 +109,6 @@ impl<const N: usize> Slots<N> {
     /// Puts the track_IDs of the tkhds that begin at the offset or after it in the places of all. Returns what the moov
     /// says of this one.
     // A function of its own, since a function clears its locals at each call.
-    #[tactic(auto, unfolding(crate::specs::Implementation::Summaries::summaries_in, crate::specs::Implementation::Summaries::summary_in))]
     fn refill(&mut self, moov: &BoxRef<'_>, from: u64, id: u32) -> Summary
         ensures added { self.new.summaries.items ≡ summaries_in (view moov.now) self.new.ids.items }
         ensures summary { result ≡ summary_in (view moov.now) id }

@@ -1,12 +1,11 @@
 //! Bytes that are buffered for a sink.
 
-ghost use Rattle.std.specs.Prelude.{◌≡◌, ℕ, List, ◌+◌, ◌*◌, ◌<◌, ◌≤◌, [], ◌∷◌, ◌++◌, length, OnOk};
+ghost use Rattle.std.specs.Prelude.{◌≡◌, ℕ, List, ◌+◌, ◌≤◌, [], ◌++◌, length, OnOk};
 ghost use Rattle.mp4_machine.specs.Blocks.{IsSent, unused};
 ghost use Rattle.mp4_machine.specs.Ends.{sent};
-ghost use Rattle.mp4_machine.specs.Groups.{waiting_after};
-ghost use Rattle.mp4_machine.specs.Puts.{Puts, PutsMarked};
+ghost use Rattle.mp4_machine.specs.Puts.{Puts};
 
-use crate::fragment_end::FragmentEnd;
+use crate::fragment_end::{FragmentEnd, MOST_ENDS};
 use arrayvec::ArrayVec;
 use mp4_ends::{Failed, Sink, write_front};
 use mp4_lines::Text;
@@ -17,12 +16,6 @@ const LARGE: usize = 4096;
 
 /// Capacity of a block in bytes.
 pub const BLOCK_BYTES: usize = 16_384;
-
-/// So many bytes has a group of those that [`Block::put_groups`] puts.
-pub const GROUP_BYTES: usize = 16;
-
-/// Capacity of a block in ends of fragments.
-const MOST_ENDS: usize = 160;
 
 /// The most bytes of a line.
 pub const LINE_BYTES: usize = 256;
@@ -41,8 +34,8 @@ pub trait Line {
 /// Buffers bytes, so that a sink gets few large writes, and knows how many fragments the sink has taken completely.
 #[derive(Drop)]
 pub struct Block {
-    waiting: Text<BLOCK_BYTES>,
-    ends: ArrayVec<FragmentEnd, MOST_ENDS>,
+    pub(crate) waiting: Text<BLOCK_BYTES>,
+    pub(crate) ends: ArrayVec<FragmentEnd, MOST_ENDS>,
     whole: u64,
 }
 
@@ -105,25 +98,6 @@ impl Block {
         }
     }
 
-    /// Marks that `count` fragments are whole in everything that was put. The buffer is sent first where its ends are
-    /// full.
-    pub fn mark<W: Sink>(&mut self, w: &mut W, count: u64) -> Result<(), Failed>
-        ensures { PutsMarked (sent W.contents W.has_failed w.old w.new) self.old self.new []
-            (record { end = 0; count = count } ∷ []) result }
-    {
-        if self.ends.len() == MOST_ENDS {
-            match self.send(w) {
-                Ok(()) => {}
-                Err(Failed) => return Err(Failed),
-            }
-        }
-        self.ends.push(FragmentEnd {
-            end: self.waiting.len(),
-            count,
-        });
-        Ok(())
-    }
-
     /// Appends these bytes to the buffer, which is sent first where they don't fit.
     pub fn put<W: Sink>(&mut self, w: &mut W, bytes: &[u8]) -> Result<(), Failed>
         ensures { Puts (sent W.contents W.has_failed w.old w.new) self.old self.new bytes.now
@@ -155,72 +129,6 @@ impl Block {
         }
         self.waiting.push_bytes(bytes);
         Ok(())
-    }
-
-    /// Puts groups of [`GROUP_BYTES`] bytes after those that wait, and what is sent goes out as if each was put by
-    /// itself: as many whole groups are put as there is room for, then what waits is sent, and so on.
-    #[inline(never)]
-    pub fn put_groups<W: Sink>(&mut self, w: &mut W, groups: &[u8]) -> Result<(), Failed>
-        ensures puts { Puts (sent W.contents W.has_failed w.old w.new) self.old self.new groups.now
-            result }
-        ensures waits { (count : ℕ) → length groups.now ≡ GROUP_BYTES * count →
-            OnOk result (length self.new.bytes ≡ waiting_after (length self.old.bytes) count) }
-    {
-        let room = (BLOCK_BYTES - self.waiting.len()) / GROUP_BYTES * GROUP_BYTES;
-        if groups.len() <= room {
-            self.gather(groups);
-            return Ok(());
-        }
-        let (front, rest) = groups.split_at(room);
-        match self.fill(w, front) {
-            Ok(()) => {}
-            Err(Failed) => return Err(Failed),
-        }
-        self.put_by_blocks(w, rest)
-    }
-
-    /// Puts bytes into a block in which nothing waits, which is sent wherever it is full and more follow.
-    fn put_by_blocks<W: Sink>(&mut self, w: &mut W, bytes: &[u8]) -> Result<(), Failed>
-        requires { self.old.bytes ≡ [] }
-        ensures puts { Puts (sent W.contents W.has_failed w.old w.new) self.old self.new bytes.now
-            result }
-        ensures waits { (count : ℕ) → length bytes.now ≡ GROUP_BYTES * count →
-            OnOk result (length self.new.bytes ≡ waiting_after 0 count) }
-    {
-        let mut rest = bytes;
-        while rest.len() > BLOCK_BYTES {
-            let (front, later) = rest.split_at(BLOCK_BYTES);
-            match self.fill(w, front) {
-                Ok(()) => {}
-                Err(Failed) => return Err(Failed),
-            }
-            rest = later;
-        }
-        self.gather(rest);
-        Ok(())
-    }
-
-    /// Puts bytes for which there is room after those that wait.
-    #[inline(always)]
-    fn gather(&mut self, bytes: &[u8])
-        requires { length self.old.bytes + length bytes.now ≤ BLOCK_BYTES }
-        ensures { self.new ≡ record self.old { bytes = self.old.bytes ++ bytes.now } }
-    {
-        self.waiting.push_bytes(bytes);
-    }
-
-    /// Puts bytes for which there is room after those that wait, and sends all of them.
-    fn fill<W: Sink>(&mut self, w: &mut W, bytes: &[u8]) -> Result<(), Failed>
-        requires { length self.old.bytes + length bytes.now ≤ BLOCK_BYTES }
-        ensures puts { Puts (sent W.contents W.has_failed w.old w.new) self.old self.new bytes.now
-            result }
-        ensures sent { OnOk result (IsSent self.new) }
-    {
-        self.gather(bytes);
-        match self.send(w) {
-            Ok(()) => Ok(()),
-            Err(Failed) => Err(Failed),
-        }
     }
 
     /// Appends a line to the buffer, which is sent first where there may be no room for it.

@@ -2,9 +2,9 @@
 //!
 //! - [`stop`]: [`Stop`], why a run stops, and [`tally`]: [`Tally`], what is counted of a stream;
 //! - [`limits`]: how far a stream is followed, and what is refused;
-//! - [`block`]: [`Block`], which gathers bytes and lines on their way to a sink ([`Line`]), with the ends of fragments
-//!   among them ([`fragment_end`]: [`FragmentEnd`]), and [`buffered_box`]: [`BufferedBox`], a box in claimed memory
-//!   while it comes;
+//! - [`block`]: [`Block`], which gathers bytes and lines on their way to a sink ([`Line`]), many at once by [`groups`],
+//!   with the ends of fragments among them ([`fragment_end`]: [`FragmentEnd`]);
+//! - [`buffered_box`]: [`BufferedBox`], a box in claimed memory while it comes;
 //! - [`header_bytes`]: [`next_header`], which reads a header as its bytes come (`specs/HeaderBytes.antt`), and
 //!   [`body`]: the bodies after headers ([`Body`]);
 //! - [`machine`]: [`Machine`], which takes the bytes of a stream as they come, and [`feed`], which feeds it the next
@@ -28,6 +28,7 @@ pub mod body;
 pub mod buffered_box;
 pub mod fed_machine;
 pub mod fragment_end;
+pub mod groups;
 pub mod header_bytes;
 pub mod limits;
 pub mod machine;
@@ -35,11 +36,12 @@ pub mod run;
 pub mod stop;
 pub mod tally;
 
-pub use block::{BLOCK_BYTES, Block, GROUP_BYTES, LINE_BYTES, Line};
+pub use block::{BLOCK_BYTES, Block, LINE_BYTES, Line};
 pub use body::{AnyBody, Body, Extent, body_of, truncated};
 pub use buffered_box::BufferedBox;
 pub use fed_machine::FedMachine;
 pub use fragment_end::FragmentEnd;
+pub use groups::GROUP_BYTES;
 pub use header_bytes::{HeaderBytes, HeaderStatus, next_header};
 pub use limits::{LONGEST, at_fault, is_too_long};
 pub use machine::{Machine, feed};

@@ -2,7 +2,7 @@
 //!
 //! - [`Cut`]: the limits of a piece, and further options;
 //! - [`Piece`]: some samples of a run that follow each other, with their sums;
-//! - [`Pieces`], which goes over the pieces of a run, from its first sample or a cursor on;
+//! - [`Pieces`], which goes over the pieces of a run, from its first sample or a cursor on, each filled by `fill.rt`;
 //! - [`PlainPiece`], a piece without what only an index needs; [`PlainPiece::first`] is the first from a cursor on;
 //! - [`room`]: whether there is room for the numbers in the output of a moof;
 //! - [`moof_size`], [`mdat_header_size`] and [`fragment_size`]: how many bytes a piece has when it is written;
@@ -17,6 +17,7 @@
 #![tactic(auto)]
 
 mod cut;
+mod fill;
 mod index;
 pub mod laws;
 mod piece;

@@ -66,3 +66,6 @@ module _ (c : Cursor) (row : Row) (rest rows : List Row) (e : rows ≡ row ∷ r
     low = low_on c.place (past c row).place row.size refl h.low;
     high = high_on c.place (past c row).place row.size (sizes rest) (sizes rows) refl (sym more_bytes) h.high;
   }
+
+-- a cursor stays in range from row to row
+pub ruleset fits = (row_fits, time_fits, place_fits)

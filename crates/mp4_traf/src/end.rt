@@ -9,8 +9,8 @@ ghost use Rattle.mp4_traf.specs.Settling.{ended, timed_in};
 ghost use Rattle.mp4_traf.specs.Implementation.Ends.{EndsInTime};
 
 use crate::fields::flags_of;
-use crate::runs::ticks_in;
 use crate::start::{Start, start_of};
+use crate::times::ticks_in;
 use crate::trun::{sample_count, sample_fields};
 use mp4_box::BoxRef;
 use mp4_box::types::TRUN;
@@ -18,7 +18,6 @@ use mp4_init::TrackList;
 
 /// Sets where the track of a traf ends: where the traf does. Those of its samples that have durations of their own are
 /// counted.
-#[tactic(auto, using(crate::proofs::EndLemmas::tick_fits, crate::proofs::EndLemmas::tick_more), unfolding(crate::specs::Implementation::Ends::ticks_from, crate::specs::Runs::traf_of))]
 pub fn end_traf(
     moof_bytes: &[u8],
     moof: u64,

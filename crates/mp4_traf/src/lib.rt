@@ -13,9 +13,9 @@
 //!
 //! In the order of a fragment: `children.rt` goes over the boxes of a moof by their types, `fields.rt` over fields that
 //! a flag announces; `tfhd.rt`, `tfdt.rt` and `trun.rt` have the fields of a box by the standard's names and where they
-//! lie, and `checks.rt` and `times.rt` the rules. `start.rt` reads what precedes the runs of a traf, `traf.rt` makes
-//! the traf, `runs.rt` its runs ([`Run`] in `run.rt`), `rows.rt` their rows, and `sums.rt` and `traf_totals.rt` add up
-//! rows. `end.rt` says where a traf ends.
+//! lie, with its rules; `holds_only.rt` says which boxes may be there, and `times.rt` which times runs may have.
+//! `start.rt` reads what precedes the runs of a traf, `traf.rt` makes the traf, `runs.rt` its runs ([`Run`] in
+//! `run.rt`), `rows.rt` their rows, and `sums.rt` and `traf_totals.rt` add up rows. `end.rt` says where a traf ends.
 //!
 //! In `specs/` a file has the definitions of the box or the words of its name: `specs/Rules.antt` and
 //! `specs/TimeFaults.antt` say what is at fault, `specs/Rows.antt` what a row is, `specs/Cursors.antt` what a cursor
@@ -25,10 +25,10 @@
 //! `specs/Implementation/`.
 #![tactic(auto)]
 
-mod checks;
 mod children;
 mod end;
 mod fields;
+mod holds_only;
 mod rows;
 mod run;
 mod runs;
@@ -41,21 +41,21 @@ mod traf;
 mod traf_totals;
 mod trun;
 
-pub use checks::{FlagsOnce, HoldsOnly, OfTrack, TfhdLength, TrunLength, note_tfhd};
 pub use children::{OfKind, Truns, children_of, next_of, truns_of};
 pub use end::end_traf;
 pub use fields::payload_at;
+pub use holds_only::HoldsOnly;
 pub use rows::{Cursor, Row, Rows, Steps};
 pub use run::Run;
 pub use runs::{RunStart, Runs, run_at, run_end, run_of};
 pub use start::{Heads, RunsOf, before_runs, heads_of, runs_of};
 pub use sums::Sums;
 pub use tfdt::{LONG_TFDT_LEN, TFDT_LEN, base_media_decode_time};
-pub use tfhd::track_id;
+pub use tfhd::{OfTrack, TfhdLength, note_tfhd, track_id};
 pub use times::InTime;
 pub use traf::{
     Traf, TrafContext, TrafHeader, Trafs, base_of, end_in, header_by, known_track, track_at,
     track_of,
 };
 pub use traf_totals::TrafTotals;
-pub use trun::{SampleFields, sample_count};
+pub use trun::{FlagsOnce, SampleFields, TrunLength, sample_count};

@@ -13,7 +13,7 @@ ghost use Rattle.mp4_traf.specs.Implementation.Times.{ticks_in};
 use crate::children::next_of;
 use crate::fields::flags_of;
 use crate::run::Run;
-use crate::sums::{sums_of, ticks_of};
+use crate::sums::sums_of;
 use crate::traf::{TrafContext, end_in};
 use crate::trun::{data_offset, first_sample_flags, sample_count, sample_fields, trun_fields};
 use mp4_box::types::TRUN;
@@ -62,22 +62,6 @@ pub fn run_at(context: &TrafContext<'_>, run_start: &RunStart, trun: &BoxRef<'_>
         ends_at: end_in(context.moof, trun),
         traf_ends_at: context.ends_at,
     }
-}
-
-/// The durations of the samples of a trun, added up: by a product where no sample has its own.
-#[inline(always)]
-#[tactic(auto, using(crate::proofs::TimeLemmas::ticks_by_product), unfolding(crate::specs::Implementation::Times::ticks_in))]
-pub(crate) fn ticks_in(context: &TrafContext<'_>, trun: &BoxRef<'_>) -> u64
-    ensures { result ≡ ticks_in (shared_of context.now) (view trun.now) }
-{
-    if sample_fields(flags_of(trun.payload))
-        .sample_duration
-        .is_none()
-    {
-        return u64::from(context.header.duration) * u64::from(sample_count(trun.payload));
-    }
-    let start = RunStart { time: 0, place: 0 };
-    ticks_of(&run_at(context, &start, trun), context.moof_bytes)
 }
 
 /// The run of a trun.

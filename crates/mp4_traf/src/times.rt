@@ -1,4 +1,4 @@
-//! Which runs of a moof end past 64 bits.
+//! How long runs last, and which of a moof end past 64 bits.
 
 ghost use Rattle.std.specs.Prelude.{◌≡◌};
 ghost use Rattle.mp4_box.specs.Order.{least_from};
@@ -8,13 +8,32 @@ ghost use Rattle.mp4_traf.specs.Kinds.{trun};
 ghost use Rattle.mp4_traf.specs.TimeFaults.{time_faults_of};
 ghost use Rattle.mp4_traf.specs.Runs.{moof_at, traf_of};
 ghost use Rattle.mp4_traf.specs.Implementation.TrafContexts.{shared_of};
-ghost use Rattle.mp4_traf.specs.Implementation.Times.{late_at, late_from};
+ghost use Rattle.mp4_traf.specs.Implementation.Times.{late_at, late_from, ticks_in};
 
-use crate::runs::ticks_in;
+use crate::fields::flags_of;
+use crate::runs::{RunStart, run_at};
+use crate::sums::ticks_of;
 use crate::traf::{TrafContext, base_of, context_of, track_of};
+use crate::trun::{sample_count, sample_fields};
 use mp4_box::types::TRUN;
 use mp4_box::{BoxRef, Check, Fault, Rule, Walk, note};
 use mp4_init::TrackList;
+
+/// The durations of the samples of a trun, added up: by a product where no sample has its own.
+#[inline(always)]
+#[tactic(auto, using(crate::proofs::TimeLemmas::products), unfolding(crate::specs::Implementation::Times::ticks_in))]
+pub(crate) fn ticks_in(context: &TrafContext<'_>, trun: &BoxRef<'_>) -> u64
+    ensures { result ≡ ticks_in (shared_of context.now) (view trun.now) }
+{
+    if sample_fields(flags_of(trun.payload))
+        .sample_duration
+        .is_none()
+    {
+        return u64::from(context.header.duration) * u64::from(sample_count(trun.payload));
+    }
+    let start = RunStart { time: 0, place: 0 };
+    ticks_of(&run_at(context, &start, trun), context.moof_bytes)
+}
 
 /// The runs of a traf end within 64 bits.
 #[derive(Drop)]
@@ -40,7 +59,6 @@ fn note_end(end: u128, trun: &BoxRef<'_>, best: &mut Option<Fault>)
 }
 
 /// Notes the truns of a traf whose runs end past 64 bits, where the first begins at a time.
-#[tactic(auto, using(mp4_box::proofs::OrderLemmas::least_from_append), unfolding(crate::specs::Implementation::Times::late_from, mp4_box::specs::Order::least_from))]
 fn note_ends(context: &TrafContext<'_>, time: u64, traf: &BoxRef<'_>, best: &mut Option<Fault>)
     ensures { best.new ≡ least_from best.old (late_from (shared_of context.now) time
         (of_kind trun (children (view traf.now)))) }

@@ -9,12 +9,11 @@ ghost use Rattle.mp4_traf.specs.Ranges.{InRange, IsSound};
 ghost use Rattle.mp4_traf.specs.Runs.{base_of, end_in, header_by, moof_at, known_track, no_track, runs_of, shared_by, track_of, traf_of, trafs_by};
 ghost use Rattle.mp4_traf.specs.Implementation.TrafContexts.{track_fragment, shared_of};
 
-use crate::checks::entry_of;
 use crate::children::{children_of, next_of};
 use crate::fields::{flags_of, number_or, payload_at};
 use crate::runs::{RunStart, Runs};
 use crate::tfdt::base_media_decode_time;
-use crate::tfhd::{tfhd_fields, track_id};
+use crate::tfhd::{entry_of, tfhd_fields, track_id};
 use mp4_box::types::{TFDT, TFHD, TRAF};
 use mp4_box::{BoxRef, Walk};
 use mp4_init::{Track, TrackList};

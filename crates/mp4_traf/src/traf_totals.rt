@@ -135,8 +135,8 @@ impl<'a> Traf<'a> {
 }
 
 impl TrafTotals {
-    /// Those of a traf that has this run and no other. `moof_bytes` are the bytes of its moof, of which the first sample
-    /// of the run is read.
+    /// Those of a traf that has this run and no other. `moof_bytes` are the bytes of its moof, of which the run's first
+    /// sample is read.
     #[inline(always)]
     pub fn of_only_run(run: &Run, moof_bytes: &[u8]) -> TrafTotals
         requires { run.now.time ≤ run.now.end }

@@ -1,4 +1,4 @@
-//! A run of samples, trun (ISO/IEC 14496-12, 8.8.8).
+//! A run of samples, trun (ISO/IEC 14496-12, 8.8.8): its fields and its rules.
 //!
 //! | Field | Offset in the payload | Bits | Flag |
 //! |---|---|---|---|
@@ -13,10 +13,12 @@
 //! | sample_composition_time_offset, signed at version 1 | then | 32 | 0x000800 |
 
 ghost use Rattle.std.specs.Prelude.{◌≡◌, ◌≤◌};
+ghost use Rattle.mp4_box.specs.Order.{least_from};
+ghost use Rattle.mp4_traf.specs.Rules.{trun_faults, trun_length};
 ghost use Rattle.mp4_traf.specs.Trun.{data_offset, first_sample_flags, flags_conflict, sample_count, sample_fields, trun_broken, trun_fields};
 
 use crate::fields::{flags_of, place_if, signed_at, width_if};
-use mp4_box::{Flags, Rule, TrunFlags, number_at};
+use mp4_box::{BoxRef, Check, Fault, Flags, Rule, TrunFlags, note, number_at};
 
 /// Place of sample_count.
 const SAMPLE_COUNT: u32 = 4;
@@ -137,5 +139,33 @@ pub(crate) fn trun_broken(payload: &[u8]) -> Option<Rule>
         None
     } else {
         Some(Rule::FieldLength)
+    }
+}
+
+/// The payload of a trun has a known version, and is as long as its flags and its count say.
+pub struct TrunLength;
+
+impl Check for TrunLength {
+    ghost faults = { λ _ b. trun_length b };
+
+    #[tactic(auto, unfolding(mp4_box::specs::Order::least_from))]
+    fn note_at(&self, this: &BoxRef<'_>, best: &mut Option<Fault>) {
+        if let Some(rule) = trun_broken(this.payload) {
+            note(best, this.fault(rule));
+        }
+    }
+}
+
+/// A trun gives sample 0 its flags in one place.
+pub struct FlagsOnce;
+
+impl Check for FlagsOnce {
+    ghost faults = { λ _ b. trun_faults b };
+
+    #[tactic(auto, unfolding(mp4_box::specs::Order::least_from))]
+    fn note_at(&self, this: &BoxRef<'_>, best: &mut Option<Fault>) {
+        if has_flags_conflict(flags_of(this.payload)) {
+            note(best, this.fault(Rule::FlagsConflict));
+        }
     }
 }

@@ -13,12 +13,12 @@ ghost use Rattle.mp4_fragment_machine.specs.Implementation.Steps.{AcceptsMoofPas
 ghost use Rattle.mp4_fragment_machine.specs.Implementation.InPlace.{HasMoof, IsFirstBox, WasReadInPlace};
 ghost use Rattle.mp4_fragment_machine.specs.declared.state.State.TheVariants as states;
 
-use crate::header::take_mdat_header;
 use crate::held::moof::accept_moof;
+use crate::in_place::Span;
 use crate::in_place::many_runs::InPlaceRead;
-use crate::in_place::{Span, leave_header, stop_at};
 use crate::machine::FragmentMachine;
-use crate::state::{Carried, PendingMoof, State, Taken};
+use crate::mdat::header::take_mdat_header;
+use crate::state::{Carried, PendingMoof, State, Taken, leave_header, stop_at};
 use mp4_ends::Sink;
 use mp4_ledger::Ledger;
 use mp4_machine::{Block, BufferedBox, Machine, Stop};

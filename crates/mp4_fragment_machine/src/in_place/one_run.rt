@@ -30,12 +30,12 @@ ghost use Rattle.mp4_fragment_machine.specs.Implementation.Steps.{CanStep, Stops
 ghost use Rattle.mp4_recut.specs.declared.operation.Operation.TheVariants as operations;
 ghost use Rattle.mp4_fragment_machine.specs.declared.state.State.TheVariants as states;
 
-use crate::in_place::{Boxes, CompleteFragment, ROW, go_to, stop_at};
+use crate::in_place::{Boxes, CompleteFragment, ROW};
 use crate::machine::FragmentMachine;
-use crate::mdat::accept_list::count;
 use crate::mdat::sample_lines;
+use crate::mdat::totals::count;
 use crate::mdat::traf_lines::put_single_line;
-use crate::state::{Carried, Counter};
+use crate::state::{Carried, Counter, go_to, stop_at};
 use mp4_box::Fault;
 use mp4_cut::Cut;
 use mp4_ends::{Failed, Sink};

@@ -12,9 +12,9 @@ ghost use Rattle.mp4_fragment_machine.specs.Implementation.InPlace.{HasOther, Is
 ghost use Rattle.mp4_fragment_machine.specs.Implementation.Steps.{CanStep, TakesInPlace, borrowed};
 ghost use Rattle.mp4_fragment_machine.specs.declared.state.State.TheVariants as states;
 
-use crate::in_place::{Span, go_to, stop_at};
+use crate::in_place::Span;
 use crate::machine::FragmentMachine;
-use crate::state::Carried;
+use crate::state::{Carried, go_to, stop_at};
 use mp4_ends::{Failed, Sink};
 use mp4_ledger::Ledger;
 use mp4_machine::{Block, Machine, Stop};

@@ -1,118 +1,18 @@
 //! Begins a fragment that is counted, or whose samples or trafs are listed.
 
-ghost use Rattle.std.specs.Prelude.{◌≡◌, ◌+◌, ◌<◌, ◌≤◌, ◌^◌, [], length, None, Some, IfOk};
-ghost use Rattle.mp4_box.specs.Headers.{HasRoom};
-ghost use Rattle.mp4_frag.specs.Moofs.{moof_samples};
-ghost use Rattle.mp4_grammar.specs.Commands.{accepted, command_meaning};
-ghost use Rattle.mp4_grammar.specs.Meanings.{counted_in, fragment_fault, needed_in};
-ghost use Rattle.mp4_recut.specs.Operations.{number_in};
-ghost use Rattle.mp4_machine.specs.Ends.{sent};
-ghost use Rattle.mp4_machine.specs.Puts.{Puts};
-ghost use Rattle.mp4_machine.specs.Bodies.{least_end, longest};
-ghost use Rattle.mp4_machine.specs.Readings.{plus};
-ghost use Rattle.mp4_fragment_machine.specs.Places.{Untouched};
-ghost use Rattle.mp4_fragment_machine.specs.States.{IsCounted, IsPendingMoof, bound_after, claimed_in, pending_fragment, in_mdat, listed_by, moof_in};
-ghost use Rattle.mp4_fragment_machine.specs.Implementation.Steps.{Advances, MayBeginFragment, GoesTo, borrowed, ledger_alone, with_head};
-ghost use Rattle.mp4_box.specs.declared.headers.Step.TheVariants as steps;
+ghost use Rattle.mp4_fragment_machine.specs.Implementation.Steps.{Advances, MayBeginFragment, borrowed, with_head};
 ghost use Rattle.mp4_recut.specs.declared.operation.Operation.TheVariants as operations;
 ghost use Rattle.mp4_fragment_machine.specs.declared.state.State.TheVariants as states;
 
-use crate::mdat::check::{check_mdat, payload_of};
-use crate::mdat::end::back;
-use crate::mdat::sample_lines::put_runs;
-use crate::mdat::totals::add_up_runs;
-use crate::mdat::traf_lines::put_pending_lines;
-use crate::other_box::leave;
-use crate::state::{Carried, Counter, PendingMoof, State};
+use crate::mdat::check::check_mdat;
+use crate::mdat::end::{back, leave};
+use crate::mdat::list::emit;
+use crate::state::{Carried, PendingMoof, State};
 use mp4_box::Header;
 use mp4_ends::{Failed, Sink};
 use mp4_grammar::Command;
-use mp4_init::TrackList;
 use mp4_ledger::Ledger;
 use mp4_machine::{AnyBody, Block, Stop, body_of};
-
-/// Counts a fragment that has so many samples, with so many bytes of media.
-pub(crate) fn count(counter: &mut Counter, samples: u64, bytes: u64)
-    requires fragments { counter.old.tally.fragments + 1 < 2 ^ 64 }
-    requires samples { counter.old.tally.samples + samples < 2 ^ 128 }
-    requires media { counter.old.tally.media_bytes + bytes < 2 ^ 64 }
-    ensures tally { counter.new.tally ≡ plus counter.old.tally
-        (record { fragments = 1; samples = samples; media_bytes = bytes; inspected = 0 }) }
-    ensures steps { counter.new.steps ≡ counter.old.steps }
-{
-    counter.tally.fragments += 1;
-    counter.tally.samples += u128::from(samples);
-    counter.tally.media_bytes += bytes;
-}
-
-/// Counts the fragment of the pending moof, whose mdat has this header, and puts the lines of its samples or of its
-/// trafs if they are asked for. Returns how many bytes of its payload are needed.
-///
-/// # Errors
-///
-/// `Failed` where a write failed.
-fn emit<W: Sink>(
-    command: Command,
-    pending_moof: &PendingMoof,
-    header: &Header,
-    tracks: &TrackList,
-    counter: &mut Counter,
-    out: &mut Block,
-    w: &mut W,
-) -> Result<u64, Failed>
-    requires pending_moof { IsPendingMoof (Some tracks.now) pending_moof.now }
-    requires some { 0 < header.now.header_len }
-    requires room { HasRoom header.now.size header.now.header_len }
-    requires near { least_end (pending_moof.now.moof.at + pending_moof.now.moof.size)
-        header.now header.now.size ≤ longest }
-    requires good { fragment_fault (command_meaning command)
-        (pending_fragment 1 pending_moof.now tracks.now header.now) ≡ None }
-    requires counted { IsCounted (operations.List command) counter.old
-        (pending_moof.now.moof.at + pending_moof.now.moof.size)
-        (moof_samples (moof_in pending_moof.now)) (moof_samples (moof_in pending_moof.now)) }
-    ensures needed { IfOk result (λ n.
-        n ≡ needed_in (pending_fragment 1 pending_moof.now tracks.now header.now)) }
-    ensures puts { Puts (sent W.contents W.has_failed w.old w.new) out.old out.new
-        (accepted command (pending_fragment 1 pending_moof.now tracks.now header.now)).text result }
-    ensures tally { counter.new.tally ≡ plus counter.old.tally
-        (counted_in (pending_fragment 1 pending_moof.now tracks.now header.now)) }
-    ensures rows_read { counter.new.steps.rows ≡
-        counter.old.steps.rows + listed_by (operations.List command) (moof_samples (moof_in pending_moof.now)) }
-    ensures counted { IsCounted (operations.List command) counter.new (bound_after
-        (pending_moof.now.moof.at + pending_moof.now.moof.size) header.now.size)
-        0 (moof_samples (moof_in pending_moof.now)) }
-{
-    let next = pending_moof.moof.offset() + pending_moof.moof.size();
-    let moof_totals = add_up_runs(pending_moof, payload_of(next, header), tracks);
-    count(counter, moof_totals.samples, moof_totals.bytes);
-    match command {
-        Command::Check => Ok(moof_totals.needed),
-        Command::Samples => {
-            let samples = moof_totals.samples;
-            match put_runs(pending_moof, samples, tracks, &mut counter.steps, out, w) {
-                Ok(()) => Ok(moof_totals.needed),
-                Err(Failed) => Err(Failed),
-            }
-        }
-        Command::Fragments | Command::Records => {
-            let samples = moof_totals.samples;
-            let steps = &mut counter.steps;
-            match put_pending_lines(
-                command,
-                pending_moof,
-                header,
-                samples,
-                tracks,
-                steps,
-                out,
-                w,
-            ) {
-                Ok(()) => Ok(moof_totals.needed),
-                Err(Failed) => Err(Failed),
-            }
-        }
-    }
-}
 
 /// Counts or lists the fragment of the pending moof, followed by the box with this header. Returns the next state. The
 /// moof and its list are given back where it is refused.

@@ -58,8 +58,8 @@ pub(crate) fn check_mdat(
     }
     match kind_of(header.kind) {
         Kind::Mdat => {
-            let moof = pending_moof.moof(tracks);
             let payload = payload_of(next, header);
+            let moof = pending_moof.moof(tracks);
             match moof.places(payload, &pending_moof.runs, &mut Steps { rows: 0 }) {
                 Ok(()) => Ok(()),
                 Err(fault) => Err(fault),

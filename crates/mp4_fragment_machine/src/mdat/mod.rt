@@ -4,6 +4,8 @@ pub(crate) mod accept_list;
 pub(crate) mod accept_recut;
 pub(crate) mod check;
 pub(crate) mod end;
+pub(crate) mod header;
+pub(crate) mod list;
 pub(crate) mod recut;
 pub(crate) mod sample_lines;
 pub(crate) mod totals;

@@ -27,7 +27,7 @@ fn sample_at(run: &Run, row: &Row, at: Cursor) -> Sample
 }
 
 /// Puts the lines of the samples of these rows of a run, the first of which is at this cursor.
-#[tactic(auto, using(mp4_traf::proofs::CursorLemmas::row_fits, mp4_traf::proofs::CursorLemmas::time_fits, mp4_traf::proofs::CursorLemmas::place_fits))]
+#[tactic(auto, using(mp4_traf::proofs::CursorLemmas::fits))]
 fn put_rows<W: Sink>(
     run: &Run,
     rows: &mut Rows<'_>,
@@ -64,7 +64,7 @@ fn common_line(run: &Run, at: Cursor) -> CachedLine {
 }
 
 /// Puts the same lines as `put_rows`, and keeps the text that rarely changes from line to line.
-#[tactic(auto, using(mp4_traf::proofs::CursorLemmas::row_fits, mp4_traf::proofs::CursorLemmas::time_fits, mp4_traf::proofs::CursorLemmas::place_fits))]
+#[tactic(auto, using(mp4_traf::proofs::CursorLemmas::fits))]
 fn put_many_rows<W: Sink>(
     run: &Run,
     rows: &mut Rows<'_>,

@@ -1,4 +1,5 @@
-//! How many bytes and samples the runs of a moof have, and how far they reach into the payload of its mdat.
+//! How many bytes and samples the runs of a moof have, and how far they reach into the payload of its mdat. They are
+//! counted.
 
 ghost use Rattle.std.specs.Prelude.{◌≡◌, ◌+◌, ◌≤◌, ◌<◌, ◌<ℤ◌, ◌^◌, ◌==◌, if◌then◌else◌, ℕ, pos, max, None, Some};
 ghost use Rattle.std.specs.List.{sum_by};
@@ -10,9 +11,10 @@ ghost use Rattle.mp4_run_order.specs.Runs.{end_of};
 ghost use Rattle.mp4_traf.specs.declared.run.Run.{Run};
 ghost use Rattle.mp4_grammar.specs.Meanings.{beyond, reach};
 ghost use Rattle.mp4_machine.specs.Bodies.{longest};
+ghost use Rattle.mp4_machine.specs.Readings.{plus};
 ghost use Rattle.mp4_fragment_machine.specs.States.{IsPendingMoof, moof_in};
 
-use crate::state::PendingMoof;
+use crate::state::{Counter, PendingMoof};
 use mp4_frag::{ListedRun, Payload};
 use mp4_init::TrackList;
 
@@ -99,4 +101,18 @@ pub(crate) fn add_up_runs(
         i += 1;
     }
     so_far
+}
+
+/// Counts a fragment that has so many samples, with so many bytes of media.
+pub(crate) fn count(counter: &mut Counter, samples: u64, bytes: u64)
+    requires fragments { counter.old.tally.fragments + 1 < 2 ^ 64 }
+    requires samples { counter.old.tally.samples + samples < 2 ^ 128 }
+    requires media { counter.old.tally.media_bytes + bytes < 2 ^ 64 }
+    ensures tally { counter.new.tally ≡ plus counter.old.tally
+        (record { fragments = 1; samples = samples; media_bytes = bytes; inspected = 0 }) }
+    ensures steps { counter.new.steps ≡ counter.old.steps }
+{
+    counter.tally.fragments += 1;
+    counter.tally.samples += u128::from(samples);
+    counter.tally.media_bytes += bytes;
 }

@@ -136,9 +136,9 @@ pub(crate) fn put_single_line<W: Sink>(
     ensures { Puts (sent W.contents W.has_failed w.old w.new) out.old out.new
         (moof_lines command (moof_at moof_bytes.now at) tracks.now size) result }
 {
-    let moof = Moof::again(moof_bytes, at, tracks);
+    let sequence = single_run.sequence_number(moof_bytes, at);
     let totals = TrafTotals::of_only_run(&single_run.run, moof_bytes);
-    let listed = ListedTraf::of(moof.sequence_number(), at, size, &totals);
+    let listed = ListedTraf::of(sequence, at, size, &totals);
     put_traf(command, &listed, tracks, out, w)
 }
 

@@ -11,7 +11,7 @@ use Rattle.mp4_traf.specs.Trun.{sample_fields}
 use Rattle.mp4_traf.specs.Implementation.Ends.{ticks_from}
 use Rattle.mp4_traf.specs.Implementation.Times.{late_from}
 use Rattle.mp4_traf.proofs.ChildLemmas.{path_kind}
-use Rattle.mp4_traf.proofs.EndLemmas.{ended_is, late_on, ticks_on, timed_on}
+use Rattle.mp4_traf.proofs.EndLemmas.{ended_is, late_on, tick_fits, tick_more, ticks_on, timed_on}
 use Rattle.mp4_traf.proofs.end.end_traf.Goals as goal
 
 pub loop-child-init : goal.loop-child-init
@@ -90,3 +90,11 @@ returns-in-Some-track-clause-tracks c =
     c.set_next.ensures.next
     ∙ ended_is (moof_at c.args.moof_bytes.now c.args.moof) tracks t (track_of tracks t) s start.result.time end c.in-Some-track.i refl start.ensures.shared start.ensures.time all
     (ap (λ (x : Shared). position (λ (u : Track). u.id == x.header.track) tracks) start.ensures.shared ∙ sym start.ensures.track ∙ c.in-Some-track.is)
+
+pub overflow_add-end : goal.overflow_add-end
+unfolding ticks_from traf_of
+overflow_add-end c = grind (arith, tick_fits, tick_more)
+
+pub returns-in_default-clause-tracks : goal.returns-in_default-clause-tracks
+unfolding ticks_from traf_of
+returns-in_default-clause-tracks c = grind (arith, tick_fits, tick_more)

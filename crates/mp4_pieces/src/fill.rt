@@ -1,0 +1,104 @@
+//! How a piece is filled with rows.
+
+ghost use Rattle.std.specs.Prelude.{◌≡◌, ◌+◌, ◌^◌, ◌<◌, ◌∷◌, ◌++◌, option_to_list};
+ghost use Rattle.mp4_pieces.specs.Implementation.Growing.{Grows, grown, opened, pieces_left, takes, with_row};
+ghost use Rattle.mp4_pieces.specs.Pieces.{cursor_after};
+
+use crate::cut::Cut;
+use crate::piece::Piece;
+use mp4_frag::{Cursor, Row, Rows};
+
+/// The bit of a sample's flags that is clear for a sync sample: sample_is_non_sync_sample (ISO/IEC
+/// 14496-12, 8.8.3).
+const NON_SYNC: u32 = 0x0001_0000;
+
+impl Cut {
+    /// Whether one more row fits in a piece.
+    #[tactic(auto, unfolding(crate::specs::Implementation::Growing::takes))]
+    #[inline(always)]
+    fn takes(&self, piece: &Piece, row: &Row) -> bool
+        requires { piece.now.bytes + row.now.size < 2 ^ 64 }
+        ensures { result ≡ takes self.now piece.now row.now }
+    {
+        let has_bytes = match self.bytes {
+            None => true,
+            Some(most) => piece.bytes + u64::from(row.size) <= most,
+        };
+        // Most rows are asked for no more than their size: their flags matter only with `sync`.
+        piece.count < self.samples && has_bytes && !(self.sync && row.flags & NON_SYNC == 0)
+    }
+}
+
+/// The piece of one row, from a cursor on.
+#[tactic(auto, unfolding(crate::specs::Implementation::Growing::opened))]
+#[inline(always)]
+pub(crate) fn opened(at: Cursor, row: &Row) -> Piece
+    ensures { result ≡ opened at row.now }
+{
+    Piece {
+        first: at.row,
+        count: 1,
+        time: at.time,
+        place: at.place,
+        bytes: u64::from(row.size),
+        duration: u64::from(row.duration),
+        least: i128::from(at.time) + i128::from(row.offset),
+    }
+}
+
+/// The piece with one more row.
+#[tactic(auto, unfolding(crate::specs::Implementation::Growing::with_row))]
+#[inline(always)]
+fn with_row(piece: Piece, row: &Row) -> Piece
+    requires count { piece.count + 1 < 2 ^ 32 }
+    requires bytes { piece.bytes + row.now.size < 2 ^ 64 }
+    requires time { piece.time + piece.duration + row.now.duration < 2 ^ 64 }
+    ensures { result ≡ with_row piece row.now }
+{
+    let time = piece.time + piece.duration;
+    let composed = i128::from(time) + i128::from(row.offset);
+    Piece {
+        count: piece.count + 1,
+        bytes: piece.bytes + u64::from(row.size),
+        duration: piece.duration + u64::from(row.duration),
+        least: piece.least.min(composed),
+        ..piece
+    }
+}
+
+/// A piece, and the row after it, which didn't fit.
+#[derive(Clone, Copy)]
+pub(crate) struct Filled {
+    pub(crate) piece: Piece,
+    pub(crate) peeked: Option<Row>,
+}
+
+/// The piece that begins so, with the rows that fit in it. No row is read after one that has as many as it may.
+#[inline(always)]
+pub(crate) fn fill(cut: &Cut, begun: Piece, rows: &mut Rows<'_>) -> Filled
+    requires { Grows begun rows.old }
+    ensures pieces { grown cut.now begun rows.old ≡ result.piece ∷ pieces_left cut.now
+        (cursor_after result.piece) (option_to_list result.peeked ++ rows.new) }
+    ensures grows { Grows result.piece (option_to_list result.peeked ++ rows.new) }
+{
+    let mut piece = begun;
+    while piece.count < cut.samples {
+        let Some(row) = rows.next() else {
+            return Filled {
+                piece,
+                peeked: None,
+            };
+        };
+        if !cut.takes(&piece, &row) {
+            return Filled {
+                piece,
+                peeked: Some(row),
+            };
+        }
+        piece = with_row(piece, &row);
+    }
+    Filled {
+        piece,
+        peeked: None,
+    }
+}
