@@ -1,5 +1,5 @@
 -- What a machine counts stays within what offsets of the stream bound.
-use Rattle.std.proofs.Common.{◌≡◌, Bool, true, false, ℕ, ◌+◌, ◌*◌, ◌^◌, ◌<◌, ◌≤◌, List, Option, None, Some, IsSome, ap, sym, refl, subst, arith}
+use Rattle.std.proofs.Common.{◌≡◌, ◌∙◌, Bool, true, false, ℕ, ◌+◌, ◌*◌, ◌^◌, ◌<◌, ◌≤◌, List, Option, None, Some, IsSome, ap, sym, refl, subst, arith}
 use Rattle.mp4_box.specs.Headers.{HasRoom}
 use Rattle.mp4_box.specs.declared.headers.Header.{Header}
 use Rattle.mp4_box.specs.declared.headers.Size.{Size}
@@ -200,13 +200,27 @@ counted_unlisted operation c b n i = record {
   far = omega arith;
 }
 
--- its media lie in its mdat
-pub media_bound : (at m : ℕ) (h : Header) (size : Size) (p : Payload) → p.start ≡ at + h.header_len → p.end ≡ end_of at size → HasRoom size h.header_len → 0 < h.header_len → least_end at h size ≤ longest → ((e : ℕ) → p.end ≡ Some e → p.start + m ≤ e) → m ≤ 2 ^ 63
+-- its media lie in its mdat, whose header begins where the moof ends
+pub media_bound : (at next m : ℕ) (h : Header) (size : Size) (p : Payload) → next ≡ at → p.start ≡ next + h.header_len → p.end ≡ end_of next size → HasRoom size h.header_len → 0 < h.header_len → least_end at h size ≤ longest → ((e : ℕ) → p.end ≡ Some e → p.start + m ≤ e) → m ≤ 2 ^ 63
     → (at + 1 ≤ bound_after at size) × (at + m ≤ bound_after at size) × (bound_after at size ≤ most_counted)
-media_bound at m h (Exact s) p start end room some near within most =
-    let last : p.start + m ≤ at + s = within (at + s) end in
-    (omega (arith, room, some), omega (arith, last, start), omega (arith, near))
-media_bound at m h ToEnd p start end room some near within most = (omega (arith, near), omega (arith, near, most), omega arith)
+media_bound at next m h (Exact s) p is start end room some near within most =
+    let last : p.start + m ≤ next + s = within (next + s) end in
+    (omega (arith, room, some), omega (arith, last, start, is), omega (arith, near))
+media_bound at next m h ToEnd p is start end room some near within most = (omega (arith, near), omega (arith, near, most), omega arith)
+
+module _ (at next n s m : ℕ) (h : Header) (p : Payload) (is : next ≡ at) (start : p.start ≡ next + h.header_len) (end : p.end ≡ end_of next h.size) (room : HasRoom h.size h.header_len) (some : 0 < h.header_len) (near : least_end at h h.size ≤ longest)
+    (within : (e : ℕ) → p.end ≡ Some e → p.start + m ≤ e) (most : m ≤ 2 ^ 63) (samples : s ≡ n) (few : s ≤ 1000000) where
+  -- it is counted, and listed where that is asked for
+  pub counted_listed : (command : Command) (c c' : Counter) → IsCounted (operations.List command) c at n n → c'.tally ≡ plus c.tally (record { fragments = 1; samples = s; media_bytes = m; inspected = 0 }) → c'.steps.rows ≡ c.steps.rows + listed_by (operations.List command) n
+      → IsCounted (operations.List command) c' (bound_after at h.size) 0 n
+  counted_listed command c c' i tally read = counted_emitted command c c' at (bound_after at h.size) n m i (omega (arith, samples, few)) (media_bound at next m h h.size p is start end room some near within most)
+      (tally ∙ ap (λ k. plus c.tally (record { fragments = 1; samples = k; media_bytes = m; inspected = 0 })) samples) read
+
+  -- it is counted, and begun to be recut
+  pub counted_begun : (cut : Cut) (c c' : Counter) (k : ℕ) → c'.tally.fragments + 1 ≤ 2 ^ 32 → c'.tally ≡ record { fragments = c'.tally.fragments; samples = c.tally.samples + n; media_bytes = c.tally.media_bytes + k; inspected = c.tally.inspected } → m ≡ k
+      → c.steps.rows + cut_least cut.index s ≤ c'.steps.rows → c'.steps.rows ≤ c.steps.rows + cut_most cut.index s → IsCounted (operations.Split cut) c at n n → IsCounted (operations.Split cut) c' (bound_after at h.size) 0 n
+  counted_begun cut c c' k fits tally bytes low high i = counted_split cut c c' at (bound_after at h.size) n m i (omega (arith, samples, few)) (media_bound at next m h h.size p is start end room some near within most) fits
+      (ap (λ t. t.samples) tally) (ap (λ t. t.media_bytes) tally ∙ ap (λ q. c.tally.media_bytes + q) (sym bytes)) (ap (λ t. t.inspected) tally) (rw samples at low) (rw samples at high)
 
 -- more of its parts were written, which have room for their numbers
 pub counted_recut : (cut : Cut) (c c' : Counter) (b b' n n' : ℕ) → IsCounted (operations.Split cut) c b 0 n → b ≤ b' → b' ≤ most_counted → c'.tally.fragments + 1 ≤ 2 ^ 32 → c'.tally ≡ with_fragments c.tally c'.tally.fragments → c.steps.rows ≤ c'.steps.rows → c'.steps.rows + n' ≤ c.steps.rows + n → IsCounted (operations.Split cut) c' b' 0 n'

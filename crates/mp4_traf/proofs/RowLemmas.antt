@@ -5,6 +5,7 @@ use Rattle.std.specs.List.{range_with_len, sum_by}
 use Rattle.std.specs.Prelude.{nat_lt}
 use Rattle.std.proofs.lemmas.Bool.{cases_lt, lt-ltb, le-ltb}
 use Rattle.std.proofs.lemmas.List.{drop-drop, length-drop}
+use Rattle.byteorder.specs.Endian.{big_number}
 use Rattle.mp4_box.specs.Fields.{number_in}
 use Rattle.std.proofs.lemmas.Int.{ints}
 use Rattle.std.proofs.lemmas.List.FromFn.{length-map-range_with_len, get_or-map-range_with_len}
@@ -132,6 +133,9 @@ groups_next run moof_bytes i = drop-drop run.fields.len (group_at run i) moof_by
 
 -- ---- sums by places
 
+pub number_there : (moof_bytes : List ℕ) (at : ℕ) → at + 4 ≤ length moof_bytes → number_in moof_bytes at ≡ big_number 4 (drop at moof_bytes)
+number_there moof_bytes at there = rw (le-ltb (length moof_bytes) (at + 4) there) refl
+
 pub numbers_next : (moof_bytes : List ℕ) (step at n : ℕ) → 0 < n → numbers_from moof_bytes step at n ≡ number_in moof_bytes at + numbers_from moof_bytes step (at + step) (n - 1)
 unfolding numbers_from
 numbers_next moof_bytes step at zero some = absurd (omega (arith, some))
@@ -141,6 +145,10 @@ pub numbers_none : (moof_bytes : List ℕ) (step at n : ℕ) → n ≡ 0 → num
 unfolding numbers_from
 numbers_none moof_bytes step at zero e = refl
 numbers_none moof_bytes step at (suc n) e = absurd (omega (arith, e))
+
+pub numbers_one : (moof_bytes : List ℕ) (step at : ℕ) → numbers_from moof_bytes step at 1 ≡ number_in moof_bytes at
+unfolding numbers_from
+numbers_one moof_bytes step at = omega arith
 
 pub by_place : (f : Row → ℕ) (run : Run) (moof_bytes : List ℕ) (at i n place : ℕ) → ((j : ℕ) → f (row_of run moof_bytes j) ≡ number_in moof_bytes (group_at run j + at)) → place ≡ run.samples_at + run.fields.len * i + at
     → sum_by f (map (row_of run moof_bytes) (range_with_len i n)) ≡ numbers_from moof_bytes run.fields.len place n

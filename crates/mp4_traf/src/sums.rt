@@ -1,6 +1,6 @@
 //! Sums over the samples of a run.
 
-ghost use Rattle.std.specs.Prelude.{◌≡◌, ◌+◌, ◌*◌, ◌<◌, ◌≤◌, ◌^◌, drop, take};
+ghost use Rattle.std.specs.Prelude.{◌≡◌, ◌+◌, ◌*◌, ◌<◌, ◌≤◌, ◌^◌, drop, length, take};
 ghost use Rattle.mp4_box.specs.Fields.{number_in};
 ghost use Rattle.mp4_traf.specs.Rows.{durations, rows_of, sizes};
 ghost use Rattle.mp4_traf.specs.Implementation.Added.{field_numbers, numbers_from};
@@ -30,9 +30,11 @@ fn number_in(groups: &[u8], place: u64) -> u32
     u32_at(groups, place as usize)
 }
 
-/// The numbers at a place of each of `count` groups of `len` bytes, of which the first begins the bytes, added up.
+/// The numbers at a place of each of `count` groups of `len` bytes, of which the first begins the bytes, added up. All
+/// of them are there.
 #[inline(always)]
-fn numbers_sum(groups: &[u8], at: u32, len: u32, count: u32) -> u64
+fn whole_sum(groups: &[u8], at: u32, len: u32, count: u32) -> u64
+    requires there { at + 4 + len * count ≤ length groups.now + len }
     ensures sum { result ≡ numbers_from groups.now len at count }
     ensures few { result ≤ 4294967295 * count }
 {
@@ -41,17 +43,57 @@ fn numbers_sum(groups: &[u8], at: u32, len: u32, count: u32) -> u64
     let mut total = 0;
     let mut left = count;
     while left > 0 {
-        total += u64::from(number_in(groups, place));
+        total += u64::from(u32_at(groups, place as usize));
         place += step;
         left -= 1;
     }
     total
 }
 
-/// The numbers at two places of each of `count` groups of `len` bytes, of which the first begins the bytes, added up,
-/// those at each place by themselves: the groups are gone over once.
+/// The same, whatever is there.
+#[inline(never)]
+fn any_sum(groups: &[u8], at: u32, len: u32, count: u32) -> u64
+    ensures sum { result ≡ numbers_from groups.now len at count }
+    ensures few { result ≤ 4294967295 * count }
+{
+    let step = u64::from(len);
+    let mut place = u64::from(at);
+    let mut total = 0;
+    let mut numbers_left = count;
+    while numbers_left > 0 {
+        total += u64::from(number_in(groups, place));
+        place += step;
+        numbers_left -= 1;
+    }
+    total
+}
+
+/// The numbers at a place of each of `count` groups of `len` bytes, of which the first begins the bytes, added up.
 #[inline(always)]
-fn both_sums(groups: &[u8], size_at: u32, duration_at: u32, len: u32, count: u32) -> Sums
+#[tactic(auto, using(crate::proofs::RowLemmas::numbers_one))]
+fn numbers_sum(groups: &[u8], at: u32, len: u32, count: u32) -> u64
+    ensures sum { result ≡ numbers_from groups.now len at count }
+    ensures few { result ≤ 4294967295 * count }
+{
+    // Runs of live streams often have one sample.
+    if count == 1 {
+        return u64::from(number_in(groups, u64::from(at)));
+    }
+    let end = u64::from(at) + 4 + u64::from(len) * u64::from(count);
+    // In a trun without a fault all are there: no number needs a test of its own.
+    if end <= groups.len() as u64 + u64::from(len) {
+        whole_sum(groups, at, len, count)
+    } else {
+        any_sum(groups, at, len, count)
+    }
+}
+
+/// The numbers at two places of each of `count` groups of `len` bytes, of which the first begins the bytes, added up,
+/// those at each place by themselves: the groups are gone over once. All of them are there.
+#[inline(always)]
+fn whole_both(groups: &[u8], size_at: u32, duration_at: u32, len: u32, count: u32) -> Sums
+    requires sizes { size_at + 4 + len * count ≤ length groups.now + len }
+    requires durations { duration_at + 4 + len * count ≤ length groups.now + len }
     ensures bytes { result.bytes ≡ numbers_from groups.now len size_at count }
     ensures ticks { result.ticks ≡ numbers_from groups.now len duration_at count }
     ensures few_bytes { result.bytes ≤ 4294967295 * count }
@@ -64,13 +106,55 @@ fn both_sums(groups: &[u8], size_at: u32, duration_at: u32, len: u32, count: u32
     let mut ticks = 0;
     let mut groups_left = count;
     while groups_left > 0 {
-        bytes += u64::from(number_in(groups, size_place));
-        ticks += u64::from(number_in(groups, duration_place));
+        bytes += u64::from(u32_at(groups, size_place as usize));
+        ticks += u64::from(u32_at(groups, duration_place as usize));
         size_place += step;
         duration_place += step;
         groups_left -= 1;
     }
     Sums { bytes, ticks }
+}
+
+/// The same, whatever is there.
+#[inline(never)]
+fn any_both(groups: &[u8], size_at: u32, duration_at: u32, len: u32, count: u32) -> Sums
+    ensures bytes { result.bytes ≡ numbers_from groups.now len size_at count }
+    ensures ticks { result.ticks ≡ numbers_from groups.now len duration_at count }
+    ensures few_bytes { result.bytes ≤ 4294967295 * count }
+    ensures few_ticks { result.ticks ≤ 4294967295 * count }
+{
+    let step = u64::from(len);
+    let mut size_place = u64::from(size_at);
+    let mut duration_place = u64::from(duration_at);
+    let mut bytes = 0;
+    let mut ticks = 0;
+    let mut rows_left = count;
+    while rows_left > 0 {
+        bytes += u64::from(number_in(groups, size_place));
+        ticks += u64::from(number_in(groups, duration_place));
+        size_place += step;
+        duration_place += step;
+        rows_left -= 1;
+    }
+    Sums { bytes, ticks }
+}
+
+/// The numbers at two places of each of `count` groups of `len` bytes, of which the first begins the bytes, added up,
+/// those at each place by themselves: the groups are gone over once.
+#[inline(always)]
+fn both_sums(groups: &[u8], size_at: u32, duration_at: u32, len: u32, count: u32) -> Sums
+    ensures bytes { result.bytes ≡ numbers_from groups.now len size_at count }
+    ensures ticks { result.ticks ≡ numbers_from groups.now len duration_at count }
+    ensures few_bytes { result.bytes ≤ 4294967295 * count }
+    ensures few_ticks { result.ticks ≤ 4294967295 * count }
+{
+    let span = 4 + u64::from(len) * u64::from(count);
+    let room = groups.len() as u64 + u64::from(len);
+    if u64::from(size_at) + span <= room && u64::from(duration_at) + span <= room {
+        whole_both(groups, size_at, duration_at, len, count)
+    } else {
+        any_both(groups, size_at, duration_at, len, count)
+    }
 }
 
 /// The numbers of a field of `count` groups of `len` bytes, of which the first begins the bytes, added up: by a product

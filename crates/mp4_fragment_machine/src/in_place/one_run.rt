@@ -232,7 +232,7 @@ fn list_run<W: Sink>(
             let boxes = &complete.boxes;
             let size = boxes.moof.len() as u64 + boxes.mdat.size;
             let single = complete.run;
-            put_single_line(command, boxes.moof, at, single, Some(size), tracks, out, w)
+            put_single_line(command, boxes.moof, at, single, size, tracks, out, w)
         }
     }
 }

@@ -50,7 +50,7 @@ fn put_traf<W: Sink>(
             let timescale = timescale_of(tracks, traf.track);
             out.put_line(w, &TrafRecord::of(traf, timescale))
         }
-        Command::Samples | Command::Check => Ok(()),
+        _ => Ok(()),
     }
 }
 
@@ -124,7 +124,7 @@ pub(crate) fn put_single_line<W: Sink>(
     moof_bytes: &[u8],
     at: u64,
     single_run: &SingleRun,
-    size: Option<u64>,
+    size: u64,
     tracks: &TrackList,
     out: &mut Block,
     w: &mut W,
@@ -134,11 +134,11 @@ pub(crate) fn put_single_line<W: Sink>(
     requires single_run { IsSingle (moof_at moof_bytes.now at) tracks.now single_run.now }
     requires run { IsRunOf moof_bytes.now single_run.now.run }
     ensures { Puts (sent W.contents W.has_failed w.old w.new) out.old out.new
-        (moof_lines command (moof_at moof_bytes.now at) tracks.now size) result }
+        (moof_lines command (moof_at moof_bytes.now at) tracks.now (Some size)) result }
 {
     let sequence = single_run.sequence_number(moof_bytes, at);
     let totals = TrafTotals::of_only_run(&single_run.run, moof_bytes);
-    let listed = ListedTraf::of(sequence, at, size, &totals);
+    let listed = ListedTraf::of(sequence, at, Some(size), &totals);
     put_traf(command, &listed, tracks, out, w)
 }
 

@@ -1,6 +1,7 @@
 use Rattle.std.proofs.Common.{◌∙◌, length, Some, arith, ap, refl, sym, subst}
 use Rattle.mp4_machine.specs.Ends.{sent}
 use Rattle.mp4_machine.specs.Puts.{Puts}
+use Rattle.mp4_machine.proofs.PutLemmas.{HasPut-none}
 use Rattle.mp4_traf.specs.Runs.{moof_at}
 use Rattle.mp4_grammar.specs.Contexts.{context}
 use Rattle.mp4_grammar.specs.Items.{fragment}
@@ -36,6 +37,9 @@ pub returns-in-Fragments-clause-counted : goal.returns-in-Fragments-clause-count
 returns-in-Fragments-clause-counted g c =
     counted_in_place c.args.at c.args.tracks.now c.args.input.now c.args.complete.now.boxes c.args.complete.now.run.now c.requires.is c.args.command c.args.counter.now _ c.from.result c.from-samples.result c.requires.counted (c.from.ensures ∙ c.from-samples.ensures) c.from-samples.ensures
     c.count.ensures.tally (omega (arith, listed_is c.args.command c.from-samples.result c.in-Fragments.is, ap (λ k. k.rows) c.count.ensures.steps, c.from-2.ensures, c.from-in-Fragments.ensures))
+
+pub returns-in-Check-clause-puts : goal.returns-in-Check-clause-puts
+returns-in-Check-clause-puts g c = λ header sized. rw c.in-Check.is (HasPut-none _ _ _)
 
 pub returns-in-Samples-clause-puts : goal.returns-in-Samples-clause-puts
 returns-in-Samples-clause-puts g c = λ header sized.

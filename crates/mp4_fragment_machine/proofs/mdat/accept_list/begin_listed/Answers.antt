@@ -1,10 +1,11 @@
-use Rattle.std.proofs.Common.{◌≡◌, ◌+◌, ◌-◌, [], Some, arith, refl, subst}
+use Rattle.std.proofs.Common.{◌≡◌, ◌+◌, ◌-◌, ◌≤◌, [], Some, arith, refl, subst}
 use Rattle.mp4_frag.specs.Moofs.{moof_samples}
 use Rattle.mp4_box.proofs.HeaderLemmas.{need-least, whole_is}
-use Rattle.mp4_machine.specs.Inputs.{environment}
+use Rattle.mp4_machine.specs.Inputs.{GoesOn, environment}
 use Rattle.mp4_grammar.specs.Commands.{command_meaning}
 use Rattle.mp4_recut.specs.declared.operation.Operation.TheVariants as operations
-use Rattle.mp4_fragment_machine.specs.Places.{Untouched}
+use Rattle.mp4_grammar.specs.Contexts.{context}
+use Rattle.mp4_fragment_machine.specs.Places.{InMdatHeader, Untouched, claim_of, continuation_at}
 use Rattle.mp4_recut.specs.Operations.{number_in}
 use Rattle.mp4_recut.specs.declared.operation.Operation.{Operation}
 use Rattle.mp4_fragment_machine.specs.Implementation.Steps.{GoesTo, ledger_alone}
@@ -17,6 +18,8 @@ use Rattle.mp4_fragment_machine.proofs.EnterLemmas.{GoesTo-entered}
 use Rattle.mp4_fragment_machine.proofs.CountLemmas.{counted_later, counted_unlisted}
 use Rattle.mp4_fragment_machine.proofs.StepLemmas.{GoesTo-after}
 use Rattle.mp4_fragment_machine.proofs.mdat.accept_list.begin_listed.Goals as goal
+use Rattle.mp4_fragment_machine.proofs.mdat.accept_list.begin_listed.Goals.{In-Ok-emit}
+use Rattle.mp4_fragment_machine.proofs.mdat.accept_list.begin_listed.Given.{Over}
 
 pub returns-in-Err : goal.returns-in-Err
 returns-in-Err g c =
@@ -53,8 +56,11 @@ leave-requires-clause-counted g c =
     let (size, is, all, far, near) = c.in-Empty.ensures in
     rw (far, c.requires.operation, at) (rw is at c.in-Ok-emit.ensures.counted)
 
-pub returns-in-Empty : goal.returns-in-Empty
-returns-in-Empty g c =
+-- its fragment is accepted and written
+accepted : (g : Over) (c : In-Ok-emit g) → let carried = c.args.carried.now in let ledger = c.args.ledger.now in let moof = InMdatHeader (context c.args.pending_moof.moof.at (Some c.in-Some.list) 1) c.in-Some.list c.args.pending_moof.moof.bytes c.args.header_bytes.now in
+    (claim_of moof ≤ ledger.live) × GoesOn (environment (g.W.Sink.contents c.args.w.now) c.args.out.now ledger carried.counter.tally) (environment (g.W.Sink.contents c.emit.new.w) c.emit.new.out ledger c.emit.new.counter.tally)
+    (continuation_at (command_meaning c.args.command) moof) [] (continuation_at (command_meaning c.args.command) (in_mdat 1 (Some c.in-Some.list) c.args.pending_moof (c.offset.result + c.size.result) c.args.header.now c.in-Ok-emit.needed c.args.header.now.size))
+accepted g c =
     let w = c.args.pending_moof in
     let carried = c.args.carried.now in
     let list = c.in-Some.list in
@@ -62,23 +68,31 @@ returns-in-Empty g c =
     let x = c.args.header_bytes.now in
     let can = rw (c.in-Some.is, c.requires.operation) at c.requires.can in
     let i = rw c.in-Some.is at c.requires.pending_moof in
-    let waits = rows_of list w i in
     let o = environment (g.W.Sink.contents c.args.w.now) c.args.out.now c.args.ledger.now carried.counter.tally in
+    let o' = environment (g.W.Sink.contents c.emit.new.w) c.emit.new.out c.args.ledger.now c.emit.new.counter.tally in
     let low = rw (claimed_after 1 w (Some list) i carried.header_bytes) at can.claim in
     let effects = c.in-Ok-emit.ensures in
+    let at : c.offset.result + c.size.result ≡ w.moof.at + w.moof.size = omega (arith, c.offset.ensures.at, c.size.ensures) in (
+      omega (arith, claims c.args.command 1 o w list h x (rows_of list w i) c.requires.len c.requires.is low, low),
+      GoesOn-fragment_at c.args.command 1 o w list h x (rows_of list w i) c.requires.len c.requires.is low c.in-Ok.ensures.near c.in-Ok.ensures.mdat (listed_good c.args.command 1 w list h (c.in-Ok.ensures.good 1)) _ at o' c.in-Ok-emit.needed c.requires.room effects.needed refl effects.tally effects.puts.passes,
+    )
+
+pub returns-in-Empty : goal.returns-in-Empty
+returns-in-Empty g c =
+    let w = c.args.pending_moof in
+    let carried = c.args.carried.now in
+    let list = c.in-Some.list in
+    let h = c.args.header.now in
     let next = c.offset.result + c.size.result in
-    let at : next ≡ w.moof.at + w.moof.size = omega (arith, c.offset.ensures.at, c.size.ensures) in
-    let o' = environment (g.W.Sink.contents c.emit.new.w) c.emit.new.out c.args.ledger.now c.emit.new.counter.tally in
     let u : Untouched = record { written = g.W.Sink.contents c.emit.new.w; waiting = c.emit.new.out; failed = g.W.Sink.has_failed c.emit.new.w } in
-    let goes = GoesOn-fragment_at c.args.command 1 o w list h x waits c.requires.len c.requires.is low c.in-Ok.ensures.near c.in-Ok.ensures.mdat (listed_good c.args.command 1 w list h (c.in-Ok.ensures.good 1)) _ at o' c.in-Ok-emit.needed c.requires.room effects.needed refl effects.tally effects.puts.passes in
-    let own = claims c.args.command 1 o w list h x waits c.requires.len c.requires.is low in
+    let (low, goes) = accepted g (goal.at.returns-in-Empty g c).In-Ok-emit in
     let (size, is, all, far, near) = c.in-Empty.ensures in
     let k : Carried = record { operation = carried.operation; tracks = Some list; header_bytes = carried.header_bytes; counter = c.emit.new.counter } in
     let left : GoesTo (ledger_alone u c.args.ledger.now c.leave.new.ledger) k c.leave.new.carried (in_mdat (number_in k.operation k.counter.tally) k.tracks w next h c.in-Ok-emit.needed h.size) [] (states.Header c.in-Empty.next) =
     rw (is, far) (rw far at c.leave.ensures u next (size - h.header_len) h.kind (omega (arith, all))) in
     let entered = subst (λ (p : Operation). GoesTo (ledger_alone u c.args.ledger.now c.leave.new.ledger) (record { operation = carried.operation; tracks = Some list; header_bytes = carried.header_bytes; counter = c.emit.new.counter }) c.leave.new.carried (in_mdat (number_in p c.emit.new.counter.tally) (Some list) w next h c.in-Ok-emit.needed h.size) [] (states.Header c.in-Empty.next)) c.requires.operation left in
     rw (c.in-Some.is, c.requires.operation)
-    (GoesTo-after entered (omega (arith, own, low)) c.requires.operation effects.puts.unfailed goes)
+    (GoesTo-after entered low c.requires.operation c.in-Ok-emit.ensures.puts.unfailed goes)
 
 pub returns-in-Bytes : goal.returns-in-Bytes
 returns-in-Bytes g c =
@@ -86,24 +100,18 @@ returns-in-Bytes g c =
     let carried = c.args.carried.now in
     let list = c.in-Some.list in
     let h = c.args.header.now in
-    let x = c.args.header_bytes.now in
     let can = rw (c.in-Some.is, c.requires.operation) at c.requires.can in
     let i = rw c.in-Some.is at c.requires.pending_moof in
-    let waits = rows_of list w i in
-    let o = environment (g.W.Sink.contents c.args.w.now) c.args.out.now c.args.ledger.now carried.counter.tally in
-    let low = rw (claimed_after 1 w (Some list) i carried.header_bytes) at can.claim in
-    let effects = c.in-Ok-emit.ensures in
+    let claimed = rw (claimed_after 1 w (Some list) i carried.header_bytes) at can.claim in
     let next = c.offset.result + c.size.result in
     let at : next ≡ w.moof.at + w.moof.size = omega (arith, c.offset.ensures.at, c.size.ensures) in
-    let o' = environment (g.W.Sink.contents c.emit.new.w) c.emit.new.out c.args.ledger.now c.emit.new.counter.tally in
     let u : Untouched = record { written = g.W.Sink.contents c.emit.new.w; waiting = c.emit.new.out; failed = g.W.Sink.has_failed c.emit.new.w } in
-    let goes = GoesOn-fragment_at c.args.command 1 o w list h x waits c.requires.len c.requires.is low c.in-Ok.ensures.near c.in-Ok.ensures.mdat (listed_good c.args.command 1 w list h (c.in-Ok.ensures.good 1)) _ at o' c.in-Ok-emit.needed c.requires.room effects.needed refl effects.tally effects.puts.passes in
-    let own = claims c.args.command 1 o w list h x waits c.requires.len c.requires.is low in
+    let (low, goes) = accepted g (goal.at.returns-in-Bytes g c).In-Ok-emit in
     let (same, some) = c.in-Bytes.ensures in
     let k : Carried = record { operation = operations.List c.args.command; tracks = Some list; header_bytes = carried.header_bytes; counter = c.emit.new.counter } in
     let counted : IsCounted k.operation k.counter (bound_after next h.size) 0 (moof_samples (moof_in w)) = rw at c.in-Ok-emit.ensures.counted in
     rw (c.in-Some.is, c.requires.operation, same)
-    (GoesTo-after (GoesTo-entered u c.args.ledger.now k w next h c.in-Ok-emit.needed some i c.requires.empty low counted) (omega (arith, own, low)) refl effects.puts.unfailed goes)
+    (GoesTo-after (GoesTo-entered u c.args.ledger.now k w next h c.in-Ok-emit.needed some i c.requires.empty claimed counted) low refl c.in-Ok-emit.ensures.puts.unfailed goes)
 
 pub returns-in-Err-emit : goal.returns-in-Err-emit
 returns-in-Err-emit g c =

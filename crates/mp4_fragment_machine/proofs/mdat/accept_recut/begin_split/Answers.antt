@@ -19,7 +19,7 @@ use Rattle.mp4_fragment_machine.specs.declared.state.Counter.{Counter}
 use Rattle.mp4_fragment_machine.specs.States.{bound_after, moof_in, most_counted, taken_by}
 use Rattle.mp4_fragment_machine.proofs.MdatHeaderLemmas.{rows_of}
 use Rattle.mp4_fragment_machine.proofs.BodyLemmas.{back_twice, claimed_apart}
-use Rattle.mp4_fragment_machine.proofs.CountLemmas.{counted_later, counted_refused, counted_split, counted_unlisted, media_bound}
+use Rattle.mp4_fragment_machine.proofs.CountLemmas.{counted_begun, counted_later, counted_refused, counted_unlisted}
 use Rattle.mp4_fragment_machine.proofs.RecutLemmas.{GoesOn-has_begun, WriteFailed-fails}
 use Rattle.mp4_fragment_machine.proofs.SecondLemmas.{misplaced-after, payload-of}
 use Rattle.mp4_fragment_machine.proofs.SplitLemmas.{Refuses-split, claims-split}
@@ -97,18 +97,13 @@ returns-in-Ok-begin_recut g c = λ header_bytes len is_header.
     let s = sent g.W.Sink.contents g.W.Sink.has_failed c.args.w.now c.begin_recut.new.w in
     let near : least_end (w.moof.at + length w.moof.bytes) h h.size ≤ longest = subst (λ k. least_end (w.moof.at + k) h h.size ≤ longest) (sym c.requires.pending_moof.size) c.in-Ok.ensures.near in
     let at : c.offset.result + c.size.result ≡ w.moof.at + w.moof.size = omega (arith, c.offset.ensures.at, c.size.ensures) in
-    let start = rw at at c.payload_of.ensures.start in
-    let end = rw at at c.payload_of.ensures.end in
     let measured = c.add_up_runs-totals.ensures in
-    let m = c.add_up_runs-totals.result.bytes in
     let some : 0 < h.header_len = omega (arith, (whole_is header_bytes h is_header).1, need-least header_bytes) in
-    let room = media_bound (w.moof.at + w.moof.size) m h h.size c.payload_of.result start end c.requires.room some c.in-Ok.ensures.near measured.within measured.open in
-    let least = rw measured.samples at c.in-Ok-check_fragment.ensures.least in
-    let most = rw measured.samples at c.check_fragment.ensures.most in
     let new : Counter = record { tally = c.begin_recut.new.tally; steps = c.check_fragment.new.steps } in
     let has = c.in-Ok-begin_recut.ensures in
-    let tally = has.counted.tally in
-    let first : c.payload_of.result.start ≡ f.payload.start = omega (arith, start, c.requires.pending_moof.size) in
+    let counted = counted_begun (w.moof.at + w.moof.size) _ (moof_samples (moof_in w)) c.add_up_runs-totals.result.samples c.add_up_runs-totals.result.bytes h c.payload_of.result at c.payload_of.ensures.start c.payload_of.ensures.end c.requires.room some c.in-Ok.ensures.near measured.within measured.open measured.samples measured.few
+    cut old new _ has.counted.few has.counted.tally measured.bytes c.in-Ok-check_fragment.ensures.least c.check_fragment.ensures.most in
+    let first : c.payload_of.result.start ≡ f.payload.start = omega (arith, at, c.payload_of.ensures.start, c.requires.pending_moof.size) in
     let needed = measured.needed ∙ ap (λ k. reach k (taken_runs (moof_in w) tracks)) first in
     record {
       goes = GoesOn-has_begun cut (context w.moof.at (Some tracks) number) tracks w.moof.bytes header_bytes h len is_header near c.in-Ok.ensures.mdat good w s c.args.out.now c.begin_recut.new.out old.tally c.begin_recut.new.tally c.in-Ok-begin_recut.media c.args.ledger.now c.requires.room has;
@@ -117,8 +112,7 @@ returns-in-Ok-begin_recut g c = λ header_bytes len is_header.
       same = refl;
       split = record { begun = has.begun; needed = needed };
       near = near;
-      counted = λ i. counted_split cut old new (w.moof.at + w.moof.size) (bound_after (w.moof.at + w.moof.size) h.size) (moof_samples (moof_in w)) m i (omega (arith, measured.samples, measured.few)) room has.counted.few
-          (ap (λ t. t.samples) tally) (ap (λ t. t.media_bytes) tally ∙ ap (λ k. old.tally.media_bytes + k) (sym measured.bytes)) (ap (λ t. t.inspected) tally) least most;
+      counted = counted;
     }
 
 pub returns-in-Err-begin_recut : goal.returns-in-Err-begin_recut
@@ -134,25 +128,18 @@ returns-in-Err-begin_recut g c = λ header_bytes len is_header.
     let s = sent g.W.Sink.contents g.W.Sink.has_failed c.args.w.now c.begin_recut.new.w in
     let near : least_end (w.moof.at + length w.moof.bytes) h h.size ≤ longest = subst (λ k. least_end (w.moof.at + k) h h.size ≤ longest) (sym c.requires.pending_moof.size) c.in-Ok.ensures.near in
     let at : c.offset.result + c.size.result ≡ w.moof.at + w.moof.size = omega (arith, c.offset.ensures.at, c.size.ensures) in
-    let start = rw at at c.payload_of.ensures.start in
-    let end = rw at at c.payload_of.ensures.end in
     let measured = c.add_up_runs-totals.ensures in
-    let m = c.add_up_runs-totals.result.bytes in
     let some : 0 < h.header_len = omega (arith, (whole_is header_bytes h is_header).1, need-least header_bytes) in
-    let room = media_bound (w.moof.at + w.moof.size) m h h.size c.payload_of.result start end c.requires.room some c.in-Ok.ensures.near measured.within measured.open in
-    let least = rw measured.samples at c.in-Ok-check_fragment.ensures.least in
-    let most = rw measured.samples at c.check_fragment.ensures.most in
     let new : Counter = record { tally = c.begin_recut.new.tally; steps = c.check_fragment.new.steps } in
     let fails = c.in-Err-begin_recut.ensures in
-    let tally = fails.counted.tally in
+    let counted = counted_begun (w.moof.at + w.moof.size) _ (moof_samples (moof_in w)) c.add_up_runs-totals.result.samples c.add_up_runs-totals.result.bytes h c.payload_of.result at c.payload_of.ensures.start c.payload_of.ensures.end c.requires.room some c.in-Ok.ensures.near measured.within measured.open measured.samples measured.few
+    cut old new _ fails.counted.few fails.counted.tally measured.bytes c.in-Ok-check_fragment.ensures.least c.check_fragment.ensures.most in
     let ledger = c.args.ledger.now in
     let o = environment (g.W.Sink.contents c.args.w.now) c.args.out.now ledger old.tally in
     let place = continuation_at (splitting cut) (InMdatHeader (context w.moof.at (Some tracks) number) tracks w.moof.bytes header_bytes) in
     let own = claims-split (splitting cut) number o w tracks header_bytes (rows_of tracks w c.requires.pending_moof) c.requires.claim in
     let all : given_back (given_back ledger (taken_by (Some w))) (64 * length tracks) ≡ given_back ledger place.claim =
     back_twice ledger (taken_by (Some w)) (64 * length tracks) ∙ ap (given_back ledger) (sym own) in
-    let bound = bound_after (w.moof.at + w.moof.size) h.size in
-    let n = moof_samples (moof_in w) in
     rw c.back-in-Err-begin_recut.ensures (record {
       step = record {
         stops = λ more later. rw all
@@ -161,7 +148,5 @@ returns-in-Err-begin_recut g c = λ header_bytes len is_header.
         unfailed = λ other. absurd (other refl);
       };
       left = omega (arith, claimed_apart (Some tracks) (Some w), c.requires.claim);
-      counted = λ i. counted_later (operations.Split cut) new bound most_counted n 0 room.2 (omega arith) (omega arith)
-          (counted_split cut old new (w.moof.at + w.moof.size) bound n m i (omega (arith, measured.samples, measured.few)) room fails.counted.few
-          (ap (λ t. t.samples) tally) (ap (λ t. t.media_bytes) tally ∙ ap (λ k. old.tally.media_bytes + k) (sym measured.bytes)) (ap (λ t. t.inspected) tally) least most);
+      counted = λ i. counted_later (operations.Split cut) new (bound_after (w.moof.at + w.moof.size) h.size) most_counted (moof_samples (moof_in w)) 0 (counted i).far (omega arith) (omega arith) (counted i);
     })
