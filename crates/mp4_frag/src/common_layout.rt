@@ -157,18 +157,20 @@ pub(crate) fn common_run(moof_bytes: &[u8], offset: u64, tracks: &TrackList) -> 
     let time = base_media_decode_time(common_layout.tfdt.payload);
     // A copy, so that the other boxes need not be in memory.
     let trun = common_layout.trun;
-    let single_run = run_with(
-        moof_bytes,
-        offset,
-        tracks,
-        track,
-        &common_layout.traf,
-        common_layout.tfhd.payload,
-        Some(time),
-        &trun,
-    );
+    let tfhd = common_layout.tfhd.payload;
+    let traf = &common_layout.traf;
     Some(SingleRun {
+        run: run_with(
+            moof_bytes,
+            offset,
+            tracks,
+            track,
+            traf,
+            tfhd,
+            Some(time),
+            &trun,
+        ),
+        track,
         sequence: Some(sequence_number(common_layout.mfhd.payload)),
-        ..single_run
     })
 }

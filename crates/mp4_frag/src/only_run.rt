@@ -21,7 +21,7 @@ use mp4_box::types::{TRAF, TRUN};
 use mp4_box::{BoxRef, FourCc, Walk, whole_box};
 use mp4_init::TrackList;
 use mp4_traf::{
-    Steps, TrafContext, before_runs, end_in, header_by, heads_of, next_of, run_of, track_at,
+    Run, Steps, TrafContext, before_runs, end_in, header_by, heads_of, next_of, run_of, track_at,
     track_id,
 };
 
@@ -52,7 +52,7 @@ pub(crate) fn run_with<'a>(
     tfhd: &'a [u8],
     time: Option<u64>,
     only: &BoxRef<'a>,
-) -> SingleRun
+) -> Run
     requires track { position (λ t. t.id == track_id tfhd.now) tracks.now ≡ Some track }
     requires within { track < length tracks.now }
     requires tfhd { tfhd.now ≡ tfhd_of (view traf.now) }
@@ -61,12 +61,10 @@ pub(crate) fn run_with<'a>(
     requires sound { IsSound (traf_of (moof_at moof_bytes.now moof) tracks.now
         (view traf.now)) }
     ensures run { runs_of (traf_of (moof_at moof_bytes.now moof) tracks.now (view traf.now)) ≡
-        result.run ∷ [] }
-    ensures range { InRange result.run }
+        result ∷ [] }
+    ensures range { InRange result }
     ensures track { position (λ t. t.id == track_id (tfhd_of (view traf.now))) tracks.now ≡
-        Some result.track }
-    ensures within { result.track < length tracks.now }
-    ensures sequence { result.sequence ≡ None }
+        Some track }
 {
     let of = track_at(tracks, Some(track));
     let context = TrafContext {
@@ -76,11 +74,7 @@ pub(crate) fn run_with<'a>(
         ends_at: end_in(moof, traf),
     };
     let run_start = before_runs(time.unwrap_or(of.next), moof);
-    SingleRun {
-        run: run_of(&context, &run_start, only),
-        track,
-        sequence: None,
-    }
+    run_of(&context, &run_start, only)
 }
 
 /// The only run of a traf, in the moof that begins at this offset. Its track is known.
@@ -112,9 +106,14 @@ fn single_of<'a>(
     let Some(track) = tracks.find(track_id(heads.tfhd)) else {
         unreachable!();
     };
-    Some(run_with(
-        moof_bytes, moof, tracks, track, traf, heads.tfhd, heads.time, &trun,
-    ))
+    let tfhd = heads.tfhd;
+    Some(SingleRun {
+        run: run_with(
+            moof_bytes, moof, tracks, track, traf, tfhd, heads.time, &trun,
+        ),
+        track,
+        sequence: None,
+    })
 }
 
 /// The only run of the moof that the bytes are, which begin at this offset: of its only traf.
