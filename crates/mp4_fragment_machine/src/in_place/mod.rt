@@ -102,8 +102,8 @@ impl FragmentMachine {
                 let payload = payload_after(at, &boxes, input);
                 let mut steps = Steps { rows: 0 };
                 // By reference, so that the run isn't copied.
-                match &SingleRun::read(boxes.moof, at, list, &mut steps) {
-                    Ok(Some(run)) => {
+                match SingleRun::read(boxes.moof, at, list, &mut steps) {
+                    Ok(Some(ref run)) => {
                         let complete = CompleteFragment { boxes, run };
                         return match run.places(payload) {
                             Ok(()) => self.take_one_run(at, &complete, ledger, input, out, w),
@@ -114,7 +114,7 @@ impl FragmentMachine {
                     }
                     Ok(None) => return self.take_many_runs(at, moof, &boxes, ledger, input, out, w),
                     Err(fault) => {
-                        return Err(self.refuse_late(at, &boxes, steps.rows, *fault, ledger, input));
+                        return Err(self.refuse_late(at, &boxes, steps.rows, fault, ledger, input));
                     }
                 }
             }
