@@ -175,11 +175,8 @@ run_ends h tracks m t run i is e only at =
 
 -- ---- the findings on a moof with one run
 
-no_sequence : (o : Option ℕ) (number : ℕ) → o ≡ None → IfSome o (λ n. n ≡ number)
-no_sequence o number e = rw e tt
-
 pub one_single : (h : MoofBytes) (tracks : List Track) (m t : Box) (l : SingleRun) → moof_of h ≡ m → of_kind traf (children m) ≡ t ∷ [] → IsRead h tracks → runs_of (traf_of h tracks t) ≡ l.run ∷ [] → InRange l.run
-    → position (λ (x : Track). x.id == track_id (tfhd_of t)) tracks ≡ Some l.track → l.track < length tracks → IfSome l.sequence (λ number. number ≡ sequence_of h) → IsSingle h tracks l
+    → position (λ (x : Track). x.id == track_id (tfhd_of t)) tracks ≡ Some l.track → l.track < length tracks → l.sequence ≡ sequence_of h → IsSingle h tracks l
 one_single h tracks m t l is e read only range at known sequence =
     let run = moof_is_one h tracks m t is e ∙ only in
     record {
@@ -194,6 +191,6 @@ one_single h tracks m t l is e read only range at known sequence =
     }
 
 pub single_found_in : (h : MoofBytes) (tracks : List Track) (m t : Box) (o : Option SingleRun) → moof_of h ≡ m → of_kind traf (children m) ≡ t ∷ [] → IsRead h tracks → IfSome o (λ l. runs_of (traf_of h tracks t) ≡ l.run ∷ []) → IfSome o (λ l. InRange l.run)
-    → IfSome o (λ l. position (λ (x : Track). x.id == track_id (tfhd_of t)) tracks ≡ Some l.track) → IfSome o (λ l. l.track < length tracks) → IfSome o (λ l. l.sequence ≡ None) → IfSome o (λ l. IsSingle h tracks l)
-single_found_in h tracks m t None is e read only range at known unread = tt
-single_found_in h tracks m t (Some l) is e read only range at known unread = one_single h tracks m t l is e read only range at known (no_sequence l.sequence (sequence_of h) unread)
+    → IfSome o (λ l. position (λ (x : Track). x.id == track_id (tfhd_of t)) tracks ≡ Some l.track) → IfSome o (λ l. l.track < length tracks) → IfSome o (λ l. l.sequence ≡ sequence_of h) → IfSome o (λ l. IsSingle h tracks l)
+single_found_in h tracks m t None is e read only range at known sequence = tt
+single_found_in h tracks m t (Some l) is e read only range at known sequence = one_single h tracks m t l is e read only range at known sequence

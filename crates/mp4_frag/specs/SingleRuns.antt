@@ -1,5 +1,5 @@
 -- A moof that has just one run.
-use Rattle.std.specs.Prelude.{◌≡◌, ◌+◌, ◌*◌, ◌<◌, List, [], ◌∷◌, length, Option, None, Some, Result, Ok, Err, OnErr, IfSome}
+use Rattle.std.specs.Prelude.{◌≡◌, ◌+◌, ◌*◌, ◌<◌, List, [], ◌∷◌, length, Option, None, Some, Result, Ok, Err, OnErr}
 use Rattle.mp4_box.specs.Order.{least}
 use Rattle.mp4_box.specs.declared.rules.Fault.{Fault}
 use Rattle.mp4_init.specs.Tracks.{with_next}
@@ -18,7 +18,7 @@ pub record IsSingle (h : MoofBytes) (tracks : List Track) (l : SingleRun) : Type
   pub run : moof_runs h tracks ≡ l.run ∷ []
   pub range : InRange l.run
   pub samples : l.run.count ≡ moof_samples h
-  pub sequence : IfSome l.sequence (λ number. number ≡ sequence_of h)
+  pub sequence : l.sequence ≡ sequence_of h
   pub known : l.track < length tracks
   pub ends : settled tracks (moof_trafs h tracks) ≡ with_next l.track l.run.end tracks
 

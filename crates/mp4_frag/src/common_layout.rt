@@ -171,6 +171,6 @@ pub(crate) fn common_run(moof_bytes: &[u8], offset: u64, tracks: &TrackList) -> 
             &trun,
         ),
         track,
-        sequence: Some(sequence_number(common_layout.mfhd.payload)),
+        sequence: sequence_number(common_layout.mfhd.payload),
     })
 }

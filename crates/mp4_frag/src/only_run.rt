@@ -15,6 +15,7 @@ ghost use Rattle.mp4_frag.specs.Moofs.{IsRead, moof_runs, moof_samples, moof_tra
 ghost use Rattle.mp4_frag.specs.RunLists.{taken_runs};
 ghost use Rattle.mp4_frag.specs.SingleRuns.{IsSingle};
 
+use crate::mfhd::sequence_in;
 use crate::moof::Moof;
 use crate::single_run::SingleRun;
 use mp4_box::types::{TRAF, TRUN};
@@ -77,13 +78,14 @@ pub(crate) fn run_with<'a>(
     run_of(&context, &run_start, only)
 }
 
-/// The only run of a traf, in the moof that begins at this offset. Its track is known.
+/// The only run of a traf, in the moof that begins at this offset and has this number. Its track is known.
 #[inline(always)]
 fn single_of<'a>(
     moof_bytes: &'a [u8],
     moof: u64,
     tracks: &TrackList,
     traf: &BoxRef<'a>,
+    sequence: u32,
 ) -> Option<SingleRun>
     requires sound { IsSound (traf_of (moof_at moof_bytes.now moof) tracks.now
         (view traf.now)) }
@@ -95,7 +97,7 @@ fn single_of<'a>(
     ensures track { IfSome result (λ l.
         position (λ t. t.id == track_id (tfhd_of (view traf.now))) tracks.now ≡ Some l.track) }
     ensures within { IfSome result (λ l. l.track < length tracks.now) }
-    ensures sequence { IfSome result (λ l. l.sequence ≡ None) }
+    ensures sequence { IfSome result (λ l. l.sequence ≡ sequence) }
     ensures none { IfNone result (length
         (runs_of (traf_of (moof_at moof_bytes.now moof) tracks.now (view traf.now))) ≢ 1) }
 {
@@ -112,7 +114,7 @@ fn single_of<'a>(
             moof_bytes, moof, tracks, track, traf, tfhd, heads.time, &trun,
         ),
         track,
-        sequence: None,
+        sequence,
     })
 }
 
@@ -130,7 +132,8 @@ fn single_in(moof_bytes: &[u8], offset: u64, tracks: &TrackList) -> Option<Singl
     let Some(traf) = only_of(TRAF, Walk::of(&moof)) else {
         return None;
     };
-    single_of(moof_bytes, offset, tracks, &traf)
+    let sequence = sequence_in(moof_bytes, offset);
+    single_of(moof_bytes, offset, tracks, &traf, sequence)
 }
 
 impl<'a> Moof<'a> {

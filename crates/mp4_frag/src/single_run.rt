@@ -1,28 +1,26 @@
 //! The run of a moof that has no other, from the bytes of the moof.
 
-ghost use Rattle.std.specs.Prelude.{◌≡◌, ◌+◌, ◌^◌, ◌<◌, ◌≤◌, IfSome, length};
+ghost use Rattle.std.specs.Prelude.{◌+◌, ◌^◌, ◌<◌, ◌≤◌, length};
 ghost use Rattle.mp4_box.specs.Headers.{IsWhole};
 ghost use Rattle.mp4_traf.specs.Runs.{moof_at};
-ghost use Rattle.mp4_frag.specs.Moofs.{sequence_of};
 ghost use Rattle.mp4_frag.specs.SingleRuns.{ReadsSingleRun};
 
 use crate::common_layout::common_run;
-use crate::mfhd::sequence_in;
 use crate::moof::read_by_rules;
 use crate::only_run::has_one_run;
 use mp4_box::Fault;
 use mp4_init::TrackList;
 use mp4_traf::{Run, Steps};
 
-/// The only run of a moof, the index of its track among the tracks, and what else was read with it.
+/// The only run of a moof, the index of its track among the tracks, and the number of the moof.
 #[derive(Clone, Copy, Debug)]
 pub struct SingleRun {
     /// The run.
     pub run: Run,
     /// The index of its track.
     pub track: usize,
-    /// The sequence_number of the moof, if it was read with the run.
-    pub sequence: Option<u32>,
+    /// The sequence_number of the moof (ISO/IEC 14496-12, 8.8.5).
+    pub sequence: u32,
 }
 
 /// The same as [`SingleRun::read`], whatever form the moof has.
@@ -54,21 +52,6 @@ fn read_generally(
 }
 
 impl SingleRun {
-    /// The sequence_number of its moof, whose bytes these are, which begin at `offset`.
-    #[inline(always)]
-    pub fn sequence_number(&self, moof_bytes: &[u8], offset: u64) -> u32
-        requires whole { IsWhole moof_bytes.now }
-        requires room { offset + length moof_bytes.now ≤ 2 ^ 62 }
-        requires number { IfSome self.now.sequence
-            (λ number. number ≡ sequence_of (moof_at moof_bytes.now offset)) }
-        ensures { result ≡ sequence_of (moof_at moof_bytes.now offset) }
-    {
-        match self.sequence {
-            Some(number) => number,
-            None => sequence_in(moof_bytes, offset),
-        }
-    }
-
     /// The run of the moof that the bytes are, one whole box of stated size that begins at `offset` in the stream,
     /// where nothing is at fault with it and it has one traf, with one trun in it; none of other moofs. `tracks` are
     /// those of its moov. Where there is such a run, its samples are counted in `steps` twice as rows that were read:

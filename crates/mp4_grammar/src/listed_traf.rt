@@ -75,7 +75,7 @@ impl ListedTraf {
     {
         push_number(block, b" track=", u64::from(self.track));
         push_large_number(block, b" dts=", self.time);
-        push_large_number(block, b" dur=", self.duration);
+        push_number(block, b" dur=", self.duration);
     }
 
     /// Appends its samples, and ends its line.

@@ -101,10 +101,9 @@ impl FragmentMachine {
             ) {
                 let payload = payload_after(at, &boxes, input);
                 let mut steps = Steps { rows: 0 };
-                // By reference, so that the run isn't copied.
                 match SingleRun::read(boxes.moof, at, list, &mut steps) {
-                    Ok(Some(ref run)) => {
-                        let complete = CompleteFragment { boxes, run };
+                    Ok(Some(run)) => {
+                        let complete = CompleteFragment { boxes, run: &run };
                         return match run.places(payload) {
                             Ok(()) => self.take_one_run(at, &complete, ledger, input, out, w),
                             Err(fault) => Err(self.refuse_misplaced(

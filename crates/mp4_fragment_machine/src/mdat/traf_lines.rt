@@ -136,9 +136,8 @@ pub(crate) fn put_single_line<W: Sink>(
     ensures { Puts (sent W.contents W.has_failed w.old w.new) out.old out.new
         (moof_lines command (moof_at moof_bytes.now at) tracks.now (Some size)) result }
 {
-    let sequence = single_run.sequence_number(moof_bytes, at);
     let totals = TrafTotals::of_only_run(&single_run.run, moof_bytes);
-    let listed = ListedTraf::of(sequence, at, Some(size), &totals);
+    let listed = ListedTraf::of(single_run.sequence, at, Some(size), &totals);
     put_traf(command, &listed, tracks, out, w)
 }
 

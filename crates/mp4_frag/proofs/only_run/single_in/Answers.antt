@@ -1,4 +1,6 @@
-use Rattle.std.proofs.Common.{◌∙◌, ap, sym}
+use Rattle.std.proofs.Common.{◌≡◌, ◌∙◌, ℕ, Option, ap, subst, sym}
+use Rattle.std.specs.Prelude.{IfSome}
+use Rattle.mp4_frag.specs.declared.single_run.SingleRun.{SingleRun}
 use Rattle.mp4_box.specs.Paths.{of_kind}
 use Rattle.mp4_box.specs.Trees.{view}
 use Rattle.mp4_traf.specs.Kinds.{traf}
@@ -19,8 +21,11 @@ single_of-requires-clause-known c =
     let m = view c.whole_box-moof.result in
     one_known (moof_at c.args.moof_bytes.now c.args.offset) c.args.tracks.now m (view c.in-Some.traf) (moof_is c.args.offset c.args.moof_bytes.now m c.whole_box-moof.ensures) c.requires.read (ap (of_kind traf) (sym c.of.ensures.children) ∙ c.in-Some.ensures.only)
 
+IfSome-as : (o : Option SingleRun) (number same : ℕ) → number ≡ same → IfSome o (λ l. l.sequence ≡ number) → IfSome o (λ l. l.sequence ≡ same)
+IfSome-as o number same e h = subst (λ n. IfSome o (λ l. l.sequence ≡ n)) e h
+
 pub returns-clause-single_run : goal.returns-clause-single_run
 returns-clause-single_run c =
     let m = view c.whole_box-moof.result in
     let found = c.single_of.ensures in
-    single_found_in (moof_at c.args.moof_bytes.now c.args.offset) c.args.tracks.now m (view c.in-Some.traf) c.single_of.result (moof_is c.args.offset c.args.moof_bytes.now m c.whole_box-moof.ensures) (ap (of_kind traf) (sym c.of.ensures.children) ∙ c.in-Some.ensures.only) c.requires.read found.run found.range found.track found.within found.sequence
+    single_found_in (moof_at c.args.moof_bytes.now c.args.offset) c.args.tracks.now m (view c.in-Some.traf) c.single_of.result (moof_is c.args.offset c.args.moof_bytes.now m c.whole_box-moof.ensures) (ap (of_kind traf) (sym c.of.ensures.children) ∙ c.in-Some.ensures.only) c.requires.read found.run found.range found.track found.within (IfSome-as c.single_of.result _ _ c.sequence_in-sequence.ensures found.sequence)

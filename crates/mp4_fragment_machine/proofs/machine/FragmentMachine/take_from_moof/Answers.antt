@@ -20,7 +20,7 @@ take_one_run-requires-clause-found g c =
     let boxes = c.in-Some-Some.boxes in
     let are = c.in-Some-Some.ensures.are in
     let first = c.requires.first in
-    let single_run = c.read.ensures.single_run run (c.in-Ok-Some.is ∙ ap Ok c.in-Ok-Some.field-0-is) in
+    let single_run = c.in-Ok-Some.ensures.single_run run (ap Ok c.in-Ok-Some.field-0-is) in
     let placed = rw c.in-Ok-Some.run-is at c.places.ensures in
     rw c.in-Ok-Some.run-is (record {
       boxes = record { state = first.state; empty = first.empty; tracks = first.tracks; are = are; room = c.in-Some-Some.ensures.room };
@@ -33,7 +33,7 @@ refuse_misplaced-requires-clause-found g c =
     let run = c.in-Ok-Some.run' in
     let are = c.in-Some-Some.ensures.are in
     let first = c.requires.first in
-    let single_run = c.read.ensures.single_run run (c.in-Ok-Some.is ∙ ap Ok c.in-Ok-Some.field-0-is) in
+    let single_run = c.in-Ok-Some.ensures.single_run run (ap Ok c.in-Ok-Some.field-0-is) in
     let placed = rw c.in-Ok-Some.run-is at c.places.ensures in
     rw c.in-Ok-Some.run-is (record {
       boxes = record { state = first.state; empty = first.empty; tracks = first.tracks; are = are; room = c.in-Some-Some.ensures.room };
