@@ -1,5 +1,5 @@
-//! Reads the first moof of a stream: how many runs and samples it has, and how many rows were read for it; or the number
-//! and the place of what is at fault. Its mdat is taken to go to the end of the stream.
+//! Reads the first moof of a stream: how many runs and samples it has, and how many rows were read for it; or the
+//! number and the place of what is at fault. Its mdat is taken to go to the end of the stream.
 
 ghost use Rattle.std.specs.Prelude.{◌≡◌, ◌^◌, ◌≤◌, length};
 ghost use Rattle.mp4_box.specs.Headers.{IsWhole};

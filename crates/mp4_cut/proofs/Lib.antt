@@ -3,7 +3,6 @@ pub mod FieldLemmas
 pub mod MoofLemmas
 pub mod RunLemmas
 pub mod FaultLemmas
-pub mod JoinLemmas
 pub mod PutLemmas
 pub mod PieceLemmas
 pub mod IndexLemmas

@@ -10,22 +10,20 @@
 //! The `put` functions go through a block that borrows a sink, and the `write` functions make one
 //! for the call. It re-exports how runs are cut: [`Cut`], [`Piece`], [`Pieces`], [`PlainPiece`] and [`room`].
 //!
-//! Each box that is written has a file here and one in `specs/`, with its fields by the standard's
-//! names in their order: mfhd, tfhd, tfdt, trun, moof, mdat, sidx. `specs/Boxes.antt` says how any
-//! box is written, `specs/IndexGroups.antt` where pieces and groups begin, and `specs/Reads.antt` and
-//! `specs/Indexes.antt` what is read again. `specs/Implementation/Fronts.antt` says how a moof and an index are
+//! Each box that is written has a file in `specs/`, with its fields by the standard's names in their
+//! order: mfhd, tfhd, tfdt, trun, moof, mdat, sidx. Here `moof.rt` writes a moof as far as its samples,
+//! `trun.rt` those, and `mdat.rt` and `sidx.rt` their boxes, from the fields of `fields.rt`. `specs/Boxes.antt`
+//! says how any box is written, `specs/IndexGroups.antt` where pieces and groups begin, and `specs/Reads.antt`
+//! and `specs/Indexes.antt` what is read again. `specs/Implementation/Fronts.antt` says how a moof and an index are
 //! computed. What a call does to a block and a sink is `Puts` and `Writes` of `mp4_machine`.
 #![tactic(auto)]
 
 mod fields;
 pub mod laws;
 mod mdat;
-mod mfhd;
 mod moof;
 mod sidx;
 mod start;
-mod tfdt;
-mod tfhd;
 mod trun;
 mod write_fault;
 

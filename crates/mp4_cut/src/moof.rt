@@ -1,6 +1,6 @@
 //! A movie fragment, moof (ISO/IEC 14496-12, 8.8.4): mfhd, and one traf with tfhd, tfdt and trun.
 
-ghost use Rattle.std.specs.Prelude.{◌≡◌, ◌+◌, ◌≤◌, ◌++◌, length};
+ghost use Rattle.std.specs.Prelude.{◌≡◌, ◌≤◌, length};
 ghost use Rattle.mp4_pieces.specs.Pieces.{IsPieceOf};
 ghost use Rattle.mp4_pieces.specs.PlainPieces.{piece_of};
 ghost use Rattle.mp4_traf.specs.Ranges.{IsRunOf};
@@ -11,18 +11,23 @@ ghost use Rattle.mp4_machine.specs.Puts.{Puts, Writes};
 ghost use Rattle.mp4_pieces.specs.Allowed.{most_in_piece};
 
 use crate::fields::Fields;
-use crate::mfhd::put_mfhd;
-use crate::tfdt::put_tfdt;
-use crate::tfhd::put_tfhd;
-use crate::trun::{put_samples, put_trun_front, sample_bytes};
+use crate::trun::{put_samples, sample_bytes};
 use crate::write_fault::WriteFault;
-use mp4_box::types::{MOOF, TRAF};
+use mp4_box::types::{MFHD, MOOF, TFDT, TFHD, TRAF, TRUN};
 use mp4_ends::{Failed, Sink};
 use mp4_frag::Run;
 use mp4_machine::Block;
 use mp4_pieces::{Piece, PlainPiece, mdat_header_size, moof_size};
 
-/// The moof of a piece, as far as its samples.
+/// default-base-is-moof, and sample_description_index is present (ISO/IEC 14496-12, 8.8.7).
+const TFHD_FLAGS: u32 = 0x02_0002;
+
+/// data_offset is present, and duration, size, flags and composition time offset of each sample (ISO/IEC 14496-12,
+/// 8.8.8).
+const TRUN_FLAGS: u32 = 0x00_0f01;
+
+/// The moof of a piece, as far as its samples: mfhd (ISO/IEC 14496-12, 8.8.5), and a traf with tfhd (8.8.7), tfdt
+/// (8.8.12) and the front of trun (8.8.8).
 #[tactic(auto, unfolding(crate::specs::Implementation::Fronts::moof_front))]
 fn moof_front(piece: &PlainPiece, run: &Run, sequence_number: u32) -> Fields
     requires { piece.now.count ≤ most_in_piece }
@@ -32,12 +37,29 @@ fn moof_front(piece: &PlainPiece, run: &Run, sequence_number: u32) -> Fields
     let size = moof_size(piece.count) as u32;
     let data_offset = size + mdat_header_size(piece.bytes) as u32;
     let mut front = Fields::new();
+
     front.put_header(size, MOOF);
-    put_mfhd(&mut front, sequence_number);
+
+    front.put_header(16, MFHD);
+    front.put_version_and_flags(0, 0);
+    front.put_u32(sequence_number);
+
     front.put_header(68 + 16 * piece.count, TRAF);
-    put_tfhd(&mut front, run.track, run.entry);
-    put_tfdt(&mut front, piece.time);
-    put_trun_front(&mut front, run.version, piece.count, data_offset);
+
+    front.put_header(20, TFHD);
+    front.put_version_and_flags(0, TFHD_FLAGS);
+    front.put_u32(run.track);
+    front.put_u32(run.entry);
+
+    front.put_header(20, TFDT);
+    front.put_version_and_flags(1, 0);
+    front.put_u64(piece.time);
+
+    front.put_header(20 + 16 * piece.count, TRUN);
+    front.put_version_and_flags(run.version, TRUN_FLAGS);
+    front.put_u32(piece.count);
+    front.put_u32(data_offset);
+
     front
 }
 

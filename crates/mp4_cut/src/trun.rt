@@ -1,35 +1,15 @@
-//! A run of samples, trun (ISO/IEC 14496-12, 8.8.8).
+//! The samples of a run, trun (ISO/IEC 14496-12, 8.8.8).
 
-ghost use Rattle.std.specs.Prelude.{◌≡◌, ◌+◌, ◌≤◌, ◌++◌, length, take};
+ghost use Rattle.std.specs.Prelude.{◌≡◌, take};
 ghost use Rattle.std.specs.List.{flat_map};
-ghost use Rattle.mp4_cut.specs.Implementation.Fronts.{trun_front};
 ghost use Rattle.mp4_machine.specs.Ends.{sent};
 ghost use Rattle.mp4_machine.specs.Puts.{Puts};
 ghost use Rattle.mp4_cut.specs.Trun.{offset_bits, sample_bytes};
-ghost use Rattle.mp4_pieces.specs.Allowed.{most_in_piece};
 
-use crate::fields::Fields;
 use byteorder::{BigEndian, ByteOrder};
-use mp4_box::types::TRUN;
 use mp4_ends::{Failed, Sink};
 use mp4_frag::{Row, Rows};
 use mp4_machine::Block;
-
-/// data_offset is present, and duration, size, flags and composition time offset of each sample.
-const FLAGS: u32 = 0x00_0f01;
-
-/// Puts a trun of so many samples, as far as its samples.
-pub(crate) fn put_trun_front(fields: &mut Fields, version: u8, samples: u32, data_offset: u32)
-    requires room { length fields.old + 20 ≤ 92 }
-    requires samples { samples ≤ most_in_piece }
-    ensures bytes { fields.new ≡ fields.old ++ trun_front version samples data_offset }
-    ensures len { length fields.new ≡ length fields.old + 20 }
-{
-    fields.put_header(20 + 16 * samples, TRUN);
-    fields.put_version_and_flags(version, FLAGS);
-    fields.put_u32(samples);
-    fields.put_u32(data_offset);
-}
 
 /// The 32 bits of a composition time offset.
 fn offset_bits(offset: i64) -> u32

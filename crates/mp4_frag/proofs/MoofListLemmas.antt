@@ -35,6 +35,10 @@ pub record IsMoof (h : MoofBytes) (m : Box) : Type 0 where
 pub is_moof : (offset : ℕ) (x : List ℕ) (m : Box) → IsWhole x → IsBytes x → offset + length x ≤ 2 ^ 62 → box_at offset x ≡ Some m → IsMoof (record { bytes = x; offset = offset }) m
 is_moof offset x m whole fits room here = record { whole = whole; fits = fits; room = room; here = here; is = moof_is offset x m here }
 
+-- that of a moof whose bytes these are
+pub viewed_moof : (h : MoofBytes) (offset : ℕ) (x : List ℕ) (m : Box) → record { bytes = x; offset = offset } ≡ h → IsWhole x → IsBytes x → offset + length x ≤ 2 ^ 62 → box_at offset x ≡ Some m → IsMoof h m
+viewed_moof h offset x m e whole fits room here = subst (λ (h : MoofBytes). IsMoof h m) e (is_moof offset x m whole fits room here)
+
 lies : (h : MoofBytes) (m : Box) → IsMoof h m → Lies h m
 lies h m f = moof_lies h m f.whole f.fits f.here
 

@@ -1,19 +1,20 @@
 -- A list of rows that was sorted twice is that of its moof.
 use Rattle.std.proofs.Common.{◌≡◌, ◌∙◌, ◌<◌, ◌≤◌, ℕ, List, [], ◌∷◌, length, drop, append-nil, get_or, zero, suc, Option, Some, None, refl, sym, ap, subst, arith}
 use Rattle.std.specs.Prelude.{map, option_map}
-use Rattle.std.specs.List.{All}
+use Rattle.std.specs.List.{All, fold}
 use Rattle.std.specs.List.Sorted.{IsPermutation, IsNonDecreasingBy}
 use Rattle.std.proofs.lemmas.List.{length-map, take_all, drop_all}
 use Rattle.mp4_ledger.specs.Memory.{overwritten}
 use Rattle.std.proofs.lemmas.List.Sorted.{IsPermutation-map}
 use Rattle.mp4_init.specs.declared.table.Track.{Track}
 use Rattle.mp4_run_order.specs.declared.runs.ListedRun.{ListedRun}
+use Rattle.mp4_run_order.specs.declared.place_search.PlaceSearch.{PlaceSearch}
 use Rattle.mp4_run_order.specs.declared.runs.Payload.{Payload}
 use Rattle.mp4_run_order.specs.Orders.{FitsKeys, IsTakenBefore, IsTakingOrder, IsTrackOrder, place_key, taken, track_key}
 use Rattle.mp4_box.specs.declared.rules.Fault.{Fault}
 use Rattle.mp4_run_order.specs.Places.{IsOffender, first_offender}
 use Rattle.mp4_run_order.specs.Runs.{IsListing}
-use Rattle.mp4_run_order.specs.Implementation.Searches.{found_by_place, found_by_track}
+use Rattle.mp4_run_order.specs.Implementation.Searches.{found_by_place, found_by_track, place_start, place_step}
 use Rattle.mp4_run_order.proofs.ListLemmas.{Each, Pairs, all_of_pairs, each_moved, pairs_of_all, pairs_of_map, pairs_with}
 use Rattle.mp4_run_order.proofs.OrderLemmas.{TakenBefore, order_is_taken, place_keys_order, taken_alone, taken_is_order, taken_map, track_keys_order}
 use Rattle.mp4_run_order.proofs.SearchLemmas.{offender_means, search_is}
@@ -146,7 +147,7 @@ both_maps : (o : Option ListedRun) → option_map run_place_fault (option_map (�
 both_maps None = refl
 both_maps (Some run) = refl
 
-pub place_is : (p : Payload) (h : MoofBytes) (tracks : List Track) (l : ListedRows) (r : Option ℕ) → IsListOf h tracks l → r ≡ found_by_place p l.faulty_by_track (map listed_row l.rows) → option_map run_place_fault r ≡ place_fault p (moof_runs h tracks)
+place_is : (p : Payload) (h : MoofBytes) (tracks : List Track) (l : ListedRows) (r : Option ℕ) → IsListOf h tracks l → r ≡ found_by_place p l.faulty_by_track (map listed_row l.rows) → option_map run_place_fault r ≡ place_fault p (moof_runs h tracks)
 place_is p h tracks l r of e =
     let listing = moof_listing h tracks in
     let faulty_by_track = of.ordered.faulty_by_track in
@@ -155,11 +156,18 @@ place_is p h tracks l r of e =
     e ∙ (ap (λ (o : Option ℕ). found_by_place p o (map listed_row l.rows)) faulty_by_track.is ∙ (ap (found_by_place p (found_by_track faulty_by_track.sorted)) of.ordered.taken ∙ s)) in
     ap (option_map run_place_fault) found ∙ both_maps (first_offender p listing)
 
-pub place_found : (p : Payload) (h : MoofBytes) (tracks : List Track) (l : ListedRows) (ws : List (List ℕ)) (faulty_by_track r : Option ℕ) → IsListOf h tracks l → record { rows = rows_of_words ws; faulty_by_track = faulty_by_track } ≡ l → r ≡ found_by_place p faulty_by_track (listed_words ws)
-    → option_map run_place_fault r ≡ place_fault p (moof_runs h tracks)
-place_found p h tracks l ws faulty_by_track r of e found =
-    place_is p h tracks (record { rows = rows_of_words ws; faulty_by_track = faulty_by_track }) r (subst (IsListOf h tracks) (sym e) of)
-    (found ∙ ap (found_by_place p faulty_by_track) (sym (map_map row_of_words listed_row ws)))
+-- before the first row
+pub search_begins : (p : Payload) (l : ListedRows) (ws : List (List ℕ)) (faulty_by_track : Option ℕ) → record { rows = rows_of_words ws; faulty_by_track = faulty_by_track } ≡ l
+    → fold place_step (place_start p faulty_by_track) (listed_words ws) ≡ fold place_step (place_start p l.faulty_by_track) (map listed_row l.rows)
+search_begins p l ws faulty_by_track e =
+    ap (fold place_step (place_start p faulty_by_track)) (sym (map_map row_of_words listed_row ws))
+    ∙ ap (λ (l : ListedRows). fold place_step (place_start p l.faulty_by_track) (map listed_row l.rows)) e
+
+-- past the last
+pub place_found : (p : Payload) (h : MoofBytes) (tracks : List Track) (l : ListedRows) (s : PlaceSearch) (rest : List ListedRun) → IsListOf h tracks l → rest ≡ []
+    → fold place_step s rest ≡ fold place_step (place_start p l.faulty_by_track) (map listed_row l.rows) → option_map run_place_fault s.offender ≡ place_fault p (moof_runs h tracks)
+place_found p h tracks l s rest of none e =
+    place_is p h tracks l s.offender of (ap (λ (s : PlaceSearch). s.offender) (ap (fold place_step s) (sym none) ∙ e))
 
 -- what the fault means
 

@@ -133,11 +133,11 @@ fn note_traf(
     let mut tfdts = 0;
     let mut len = 0;
     for child in Walk::of(traf) {
+        add_child(&child, sound);
         note_in_traf(tracks, &child, best);
         add_len(&child, &mut len);
         count_kind(TFHD, &child, &mut tfhds);
         count_kind(TFDT, &child, &mut tfdts);
-        add_child(&child, sound);
     }
     count_untimed(tfdts, untimed);
     all_hold(tfhds == 1, tfdts <= 1, len == traf.payload.len() as u64)

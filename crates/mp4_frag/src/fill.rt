@@ -1,13 +1,13 @@
 //! From a moof to the rows of its runs, in listing order.
 
-ghost use Rattle.std.specs.Prelude.{◌≡◌, ◌+◌, ◌≤◌, ◌∷◌, ◌++◌, [], length, map};
+ghost use Rattle.std.specs.Prelude.{◌≡◌, ◌+◌, ◌≤◌, ◌∷◌, ◌++◌, [], length};
 ghost use Rattle.std.specs.List.{All, AllByRecursion};
 ghost use Rattle.mp4_box.specs.Paths.{at_path};
 ghost use Rattle.mp4_box.specs.Trees.{view};
 ghost use Rattle.mp4_run_order.specs.Orders.{FitsKeys};
 ghost use Rattle.mp4_traf.specs.Kinds.{traf};
-ghost use Rattle.mp4_traf.specs.Ranges.{InRange, IsSound};
-ghost use Rattle.mp4_frag.specs.Implementation.RunRows.{listed_words, row_of_run, rows_of_traf, rows_of_trafs, rows_of_words};
+ghost use Rattle.mp4_traf.specs.Ranges.{IsSound};
+ghost use Rattle.mp4_frag.specs.Implementation.RunRows.{listed_words, rows_of_trafs, rows_of_words};
 ghost use Rattle.mp4_traf.specs.Runs.{moof_at, traf_of};
 
 use crate::run_row::push_run;
@@ -15,43 +15,7 @@ use mp4_box::BoxRef;
 use mp4_box::types::TRAF;
 use mp4_init::TrackList;
 use mp4_ledger::Rows64;
-use mp4_traf::{Runs, RunsOf, children_of, runs_of};
-
-/// Appends the rows of the runs of a traf.
-fn push_runs(rows: &mut Rows64, tfhd: u64, runs: Runs<'_>)
-    requires room { length rows.old.rows + length runs ≤ rows.old.cap }
-    requires range { AllByRecursion InRange runs }
-    requires fits { All FitsKeys (listed_words rows.old.rows) }
-    ensures rows { rows_of_words rows.new.rows ≡ rows_of_words rows.old.rows ++
-        map (row_of_run tfhd) runs.entry }
-    ensures fits { All FitsKeys (listed_words rows.new.rows) }
-    ensures cap { rows.new.cap ≡ rows.old.cap }
-{
-    for run in runs {
-        push_run(rows, tfhd, &run);
-    }
-}
-
-/// Appends the rows of the runs of a traf, of which the moof begins at this offset.
-fn push_traf(rows: &mut Rows64, moof_bytes: &[u8], moof: u64, tracks: &TrackList, traf: &BoxRef<'_>)
-    requires room { length rows.old.rows + length (rows_of_traf (moof_at moof_bytes.now moof)
-        tracks.now (view traf.now)) ≤ rows.old.cap }
-    requires sound { IsSound (traf_of (moof_at moof_bytes.now moof) tracks.now
-        (view traf.now)) }
-    requires fits { All FitsKeys (listed_words rows.old.rows) }
-    ensures rows { rows_of_words rows.new.rows ≡ rows_of_words rows.old.rows ++
-        rows_of_traf (moof_at moof_bytes.now moof) tracks.now (view traf.now) }
-    ensures fits { All FitsKeys (listed_words rows.new.rows) }
-    ensures cap { rows.new.cap ≡ rows.old.cap }
-{
-    let RunsOf {
-        tfhd,
-        track: _,
-        time: _,
-        runs,
-    } = runs_of(moof_bytes, moof, tracks, traf);
-    push_runs(rows, tfhd, runs);
-}
+use mp4_traf::{RunsOf, children_of, runs_of};
 
 /// Appends the rows of all runs of a moof that begins at this offset, in listing order.
 pub(crate) fn fill(
@@ -73,6 +37,14 @@ pub(crate) fn fill(
     ensures cap { rows.new.cap ≡ rows.old.cap }
 {
     for traf in children_of(TRAF, moof) {
-        push_traf(rows, moof_bytes, offset, tracks, &traf);
+        let RunsOf {
+            tfhd,
+            track: _,
+            time: _,
+            runs,
+        } = runs_of(moof_bytes, offset, tracks, &traf);
+        for run in runs {
+            push_run(rows, tfhd, &run);
+        }
     }
 }

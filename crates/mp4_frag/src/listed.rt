@@ -1,10 +1,9 @@
 //! Rows of runs, as the order of runs sees them.
 
-ghost use Rattle.std.specs.Prelude.{◌≡◌, map, length};
+ghost use Rattle.std.specs.Prelude.{◌≡◌};
 ghost use Rattle.std.specs.Iterator.{YieldsFirst, item_count};
-ghost use Rattle.std.specs.List.Sorted.{IsNonDecreasingBy, IsPermutation};
 ghost use Rattle.mp4_run_order.specs.Implementation.Searches.{found_by_track};
-ghost use Rattle.mp4_frag.specs.Implementation.RunRows.{listed_row, listed_words, place_word, row_of_words, track_word};
+ghost use Rattle.mp4_frag.specs.Implementation.RunRows.{listed_row, listed_words, row_of_words};
 
 use crate::run_row::{RunRow, row_of_words};
 use mp4_ledger::Rows64;
@@ -77,26 +76,4 @@ pub(crate) fn find_by_track(rows: &Rows64) -> Option<u64>
         search = search.past(run);
     }
     search.offender
-}
-
-/// Sorts rows by track, and those of one track as they are listed.
-pub(crate) fn sort_by_track(rows: &mut Rows64)
-    ensures same { IsPermutation rows.old.rows rows.new.rows }
-    ensures up { IsNonDecreasingBy track_word rows.new.rows }
-    ensures len { length rows.new.rows ≡ length rows.old.rows }
-    ensures cap { rows.new.cap ≡ rows.old.cap }
-{
-    rows.all_mut()
-        .sort_unstable_by_key(|words| listed_row(&row_of_words(*words)).track_key());
-}
-
-/// Sorts rows by place, and those at one place as they are listed.
-pub(crate) fn sort_by_place(rows: &mut Rows64)
-    ensures same { IsPermutation rows.old.rows rows.new.rows }
-    ensures up { IsNonDecreasingBy place_word rows.new.rows }
-    ensures len { length rows.new.rows ≡ length rows.old.rows }
-    ensures cap { rows.new.cap ≡ rows.old.cap }
-{
-    rows.all_mut()
-        .sort_unstable_by_key(|words| listed_row(&row_of_words(*words)).place_key());
 }

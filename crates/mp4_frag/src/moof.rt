@@ -13,20 +13,17 @@ ghost use Rattle.mp4_frag.specs.Repeats.{repeat_faults, trafs_of, untimed_ids};
 ghost use Rattle.mp4_frag.specs.Rules.{count_faults, form_faults};
 ghost use Rattle.mp4_traf.specs.Rules.{most_in_moof};
 ghost use Rattle.mp4_traf.specs.Runs.{MoofBytes, moof_at};
-ghost use Rattle.mp4_traf.specs.Settling.{settled, timed_of};
-ghost use Rattle.mp4_frag.specs.TrafEnds.{AreEndsOf};
 
 use crate::at_once::{MoofCounts, ended_early, read_moof};
 use crate::counts::{samples_in, truns_in};
+use crate::late::late_fault;
 use crate::mfhd::sequence_in;
 use crate::repeats::{note_among, note_repeats};
 use crate::rules::{note_children, note_count, note_forms};
-use crate::settle::settle_in;
-use crate::traf_ends::TrafEnds;
 use mp4_box::types::{TFHD, TRAF, TRUN};
 use mp4_box::{BoxRef, Fault, check_tree, note_along, whole_box};
 use mp4_init::TrackList;
-use mp4_traf::{FlagsOnce, InTime, OfTrack, Steps, Trafs};
+use mp4_traf::{FlagsOnce, OfTrack, Steps, Trafs};
 use std::marker::Model;
 
 /// A moof without a fault (ISO/IEC 14496-12, 8.8.4). It borrows its bytes, and nothing else.
@@ -41,7 +38,7 @@ pub struct Moof<'a> {
 // A contract sees its bytes, and the offset of the first of them.
 impl<'a> Model for Moof<'a> {
     ghost use Rattle.std.specs.Prelude.{◌≡◌, ◌+◌, ◌^◌, ◌≤◌, [], length, IfSome};
-    ghost use Rattle.mp4_box.specs.Headers.{IsWhole};
+    ghost use Rattle.mp4_box.specs.Headers.{IsBytes, IsWhole};
     ghost use Rattle.mp4_frag.specs.Moofs.{moof_of, moof_samples, moof_truns};
     ghost use Rattle.mp4_frag.specs.Rules.{count_faults};
     ghost use Rattle.mp4_traf.specs.Rules.{most_in_moof};
@@ -54,7 +51,8 @@ impl<'a> Model for Moof<'a> {
     ghost invariant = { λ m. IsWhole m.moof_bytes.now × (m.offset + length m.moof_bytes.now ≤ 2 ^ 62) ×
         (count_faults (moof_of (moof_at m.moof_bytes.now m.offset)) ≡ []) ×
         IfSome m.findings (λ s. (s.samples ≡ moof_samples (moof_at m.moof_bytes.now m.offset)) ×
-        (s.samples ≤ most_in_moof) × (s.truns ≡ moof_truns (moof_at m.moof_bytes.now m.offset))) };
+        (s.samples ≤ most_in_moof) × (s.truns ≡ moof_truns (moof_at m.moof_bytes.now m.offset))) ×
+        IsBytes m.moof_bytes.now };
 }
 
 /// What is at fault with the values, times aside.
@@ -183,28 +181,6 @@ fn early(moof_bytes: &[u8], offset: u64, tracks: &TrackList) -> Result<MoofCount
         Ok(sound) => Ok(sound),
         Err(fault) => Err(fault),
     }
-}
-
-/// Which of the runs end past 64 bits: the first. They are gone over, unless all times are known to be early.
-fn late_fault(is_early: bool, moof_bytes: &[u8], offset: u64, tracks: &TrackList) -> Option<Fault>
-    requires whole { IsWhole moof_bytes.now }
-    requires room { offset + length moof_bytes.now ≤ 2 ^ 62 }
-    requires early { is_early ≡ true →
-        time_faults (moof_trafs (moof_at moof_bytes.now offset) tracks.now) ≡ [] }
-    ensures { result ≡ least (time_faults (moof_trafs (moof_at moof_bytes.now offset) tracks.now)) }
-{
-    if is_early {
-        return None;
-    }
-    let moof = whole_box(moof_bytes, offset);
-    let check = InTime {
-        moof_bytes,
-        moof: offset,
-        tracks,
-    };
-    let mut best = None;
-    note_along(&check, &[TRAF], &moof, &mut best);
-    best
 }
 
 /// What is at fault with a moof.
@@ -395,42 +371,5 @@ impl<'a> Moof<'a> {
         ensures { result ≡ moof_trafs self.now tracks.now }
     {
         trafs_in(self.moof_bytes, self.offset, tracks)
-    }
-
-    /// Sets where each track ends: its `next` becomes the end of its last traf in the moof, in ticks, and that of the
-    /// others stays. `tracks` are those that the moof was read with, so this is its last use. The samples that have
-    /// durations of their own are counted in `steps` as rows that were read.
-    #[tactic(auto, using(crate::proofs::SettleLemmas::settled_length))]
-    pub fn settle(&self, tracks: &mut TrackList, steps: &mut Steps)
-        requires read { IsRead self.now tracks.old }
-        requires steps { steps.old.rows < 2 ^ 127 }
-        ensures tracks { tracks.new ≡ settled tracks.old (moof_trafs self.now tracks.old) }
-        ensures len { length tracks.new ≡ length tracks.old }
-        ensures rows_read { steps.new.rows ≡ steps.old.rows + timed_of (moof_of self.now) }
-        ensures few { steps.new.rows ≤ steps.old.rows + moof_samples self.now }
-    {
-        let timed = settle_in(self.moof_bytes, self.offset, tracks);
-        steps.rows += u128::from(timed);
-    }
-
-    /// The same as [`Moof::settle`], where it was kept where the trafs end ([`Moof::following`]): they are gone over
-    /// only where more of them are than are kept.
-    #[inline(always)]
-    #[tactic(auto, using(crate::proofs::SettleLemmas::settled_length))]
-    pub fn settle_by(&self, ends: &TrafEnds, tracks: &mut TrackList, steps: &mut Steps)
-        requires read { IsRead self.now tracks.old }
-        requires ends { AreEndsOf ends.now self.now tracks.old }
-        requires steps { steps.old.rows < 2 ^ 127 }
-        ensures tracks { tracks.new ≡ settled tracks.old (moof_trafs self.now tracks.old) }
-        ensures len { length tracks.new ≡ length tracks.old }
-        ensures rows_read { steps.new.rows ≡ steps.old.rows + timed_of (moof_of self.now) }
-        ensures few { steps.new.rows ≤ steps.old.rows + moof_samples self.now }
-    {
-        if !ends.has_room() {
-            self.settle(tracks, steps);
-            return;
-        }
-        ends.settle(tracks);
-        steps.rows += u128::from(ends.timed());
     }
 }

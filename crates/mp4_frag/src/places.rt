@@ -3,8 +3,6 @@
 ghost use Rattle.std.specs.Prelude.{◌≡◌, List, ◌∷◌, []};
 ghost use Rattle.mp4_init.specs.declared.table.Track.{Track};
 ghost use Rattle.mp4_init.specs.Moovs.{fault_of};
-ghost use Rattle.mp4_run_order.specs.Implementation.Searches.{found_by_place};
-ghost use Rattle.mp4_frag.specs.Implementation.RunRows.{listed_words};
 ghost use Rattle.mp4_frag.specs.Moofs.{moof_runs};
 ghost use Rattle.mp4_run_order.specs.Places.{lies_in};
 ghost use Rattle.mp4_frag.specs.Places.{IsPlaceFault, listed_run, place_fault, run_place_fault};
@@ -17,7 +15,6 @@ use crate::run_list::RunList;
 use crate::single_run::SingleRun;
 use mp4_box::types::TRUN;
 use mp4_box::{Fault, Rule};
-use mp4_ledger::Rows64;
 use mp4_run_order::{Payload, PlaceSearch};
 use mp4_traf::{Run, Steps};
 
@@ -30,17 +27,6 @@ pub(crate) fn run_place_fault(offset: u64) -> Fault
         kind: Some(TRUN),
         offset,
     }
-}
-
-/// What a pass over rows in taking order finds, with what was found by track.
-fn find_by_place(payload: Payload, faulty_by_track: Option<u64>, rows: &Rows64) -> Option<u64>
-    ensures { result ≡ found_by_place payload faulty_by_track (listed_words rows.now.rows) }
-{
-    let mut search = PlaceSearch::new(payload, faulty_by_track);
-    for taken in runs_of(rows) {
-        search = search.past(taken);
-    }
-    search.offender
 }
 
 impl<'a> Moof<'a> {
@@ -59,7 +45,11 @@ impl<'a> Moof<'a> {
             IsPlaceFault payload (moof_listing self.now tracks) (fault_of result) }
         ensures steps { steps.new ≡ steps.old }
     {
-        match find_by_place(payload, list.faulty_by_track, &list.rows) {
+        let mut search = PlaceSearch::new(payload, list.faulty_by_track);
+        for taken in runs_of(&list.rows) {
+            search = search.past(taken);
+        }
+        match search.offender {
             None => Ok(()),
             Some(offset) => Err(run_place_fault(offset)),
         }

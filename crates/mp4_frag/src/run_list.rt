@@ -1,18 +1,17 @@
 //! The runs of a moof in the order in which they are taken, in claimed memory.
 
-ghost use Rattle.std.specs.Prelude.{◌≡◌, ◌+◌, ◌*◌, ◌^◌, ◌<◌, ◌≤◌, ◌↔◌, length, slice_index_or, List, Some, IsErrOf, IfOk, OnOk, OnErr};
-ghost use Rattle.mp4_box.specs.Headers.{IsWhole};
+ghost use Rattle.std.specs.Prelude.{◌≡◌, ◌+◌, ◌*◌, ◌^◌, ◌<◌, ◌≤◌, ◌↔◌, length, slice_index_or, List, IsErrOf, IfOk, OnOk, OnErr};
 ghost use Rattle.mp4_ledger.specs.Memory.{claimed, given_back};
 ghost use Rattle.mp4_init.specs.declared.table.Track.{Track};
 ghost use Rattle.mp4_traf.specs.declared.run.Run.{Run};
-ghost use Rattle.mp4_frag.specs.Moofs.{IsRead, moof_runs, moof_samples, moof_truns};
+ghost use Rattle.mp4_frag.specs.Moofs.{IsRead, moof_runs, moof_samples};
 ghost use Rattle.mp4_frag.specs.Places.{listed_run};
-ghost use Rattle.mp4_traf.specs.Runs.{MoofBytes, moof_at};
+ghost use Rattle.mp4_traf.specs.Runs.{MoofBytes};
 ghost use Rattle.mp4_frag.specs.RunLists.{taken_runs};
 ghost use Rattle.mp4_frag.specs.ListsOfRuns.{IsListOf};
 
 use crate::fill::fill;
-use crate::listed::{find_by_track, listed_row, sort_by_place, sort_by_track};
+use crate::listed::{find_by_track, listed_row};
 use crate::moof::Moof;
 use crate::reread::run_of_row;
 use crate::run_row::row_of_words;
@@ -93,43 +92,6 @@ impl RunList {
     }
 }
 
-/// The list of the runs of the moof that the bytes are, which begins at this offset and has so many truns.
-fn list_in(
-    ledger: &mut Ledger,
-    moof_bytes: &[u8],
-    offset: u64,
-    tracks: &TrackList,
-    truns: u64,
-) -> Result<RunList, Refused>
-    requires whole { IsWhole moof_bytes.now }
-    requires room { offset + length moof_bytes.now ≤ 2 ^ 62 }
-    requires read { IsRead (moof_at moof_bytes.now offset) tracks.now }
-    requires truns { truns ≡ moof_truns (moof_at moof_bytes.now offset) }
-    ensures list { IfOk result (λ l.
-        IsListOf (moof_at moof_bytes.now offset) tracks.now l) }
-    ensures len { IfOk result (λ l. length l.rows ≡
-        length (moof_runs (moof_at moof_bytes.now offset) tracks.now)) }
-    ensures ok { OnOk result (ledger.new ≡ claimed ledger.old (64 *
-        length (moof_runs (moof_at moof_bytes.now offset) tracks.now))) }
-    ensures over_limit { IsErrOf result Refused.OverLimit ↔ (ledger.old.limit <
-        ledger.old.live + 64 * length (moof_runs (moof_at moof_bytes.now offset) tracks.now)) }
-    ensures err { OnErr result (ledger.new ≡ ledger.old) }
-{
-    let moof = whole_box(moof_bytes, offset);
-    let mut rows = match ledger.rows(truns) {
-        Ok(rows) => rows,
-        Err(refused) => return Err(refused),
-    };
-    fill(&mut rows, moof_bytes, offset, &moof, tracks);
-    sort_by_track(&mut rows);
-    let faulty_by_track = find_by_track(&rows);
-    sort_by_place(&mut rows);
-    Ok(RunList {
-        rows,
-        faulty_by_track,
-    })
-}
-
 impl<'a> Moof<'a> {
     /// Its runs in the order in which they are taken, in a table that is claimed, 64 bytes for each. `tracks` are
     /// those that it was read with. Its samples are counted in `steps` as rows that were read.
@@ -156,17 +118,23 @@ impl<'a> Moof<'a> {
         ensures err { OnErr result (ledger.new ≡ ledger.old) }
         ensures unread { OnErr result (steps.new ≡ steps.old) }
     {
-        let list = match list_in(
-            ledger,
-            self.moof_bytes,
-            self.offset,
-            tracks,
-            self.truns_len(),
-        ) {
-            Ok(list) => list,
-            Err(why) => return Err(why),
+        let moof = whole_box(self.moof_bytes, self.offset);
+        let mut rows = match ledger.rows(self.truns_len()) {
+            Ok(rows) => rows,
+            Err(refused) => return Err(refused),
         };
+        fill(&mut rows, self.moof_bytes, self.offset, &moof, tracks);
+        // By track, and those of one track as they are listed.
+        rows.all_mut()
+            .sort_unstable_by_key(|words| listed_row(&row_of_words(*words)).track_key());
+        let faulty_by_track = find_by_track(&rows);
+        // By place, and those at one place as they are listed.
+        rows.all_mut()
+            .sort_unstable_by_key(|words| listed_row(&row_of_words(*words)).place_key());
         steps.rows += u128::from(self.samples());
-        Ok(list)
+        Ok(RunList {
+            rows,
+            faulty_by_track,
+        })
     }
 }

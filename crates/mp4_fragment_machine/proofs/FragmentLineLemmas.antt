@@ -78,6 +78,10 @@ pub lines_are : (command : Command) (f : Fragment) (size : Option ℕ) → Lists
 lines_are command f size (inl is) same = rw (is, same) refl
 lines_are command f size (inr is) same = rw (is, same) refl
 
+-- the same, as what another name of the command puts
+pub lines_by : (command k : Command) (f : Fragment) (size : Option ℕ) → command ≡ k → ListsTrafs command → size ≡ size_of f → moof_lines k f.moof f.tracks size ≡ (accepted command f).text
+lines_by command k f size is lists same = ap (λ m. moof_lines m f.moof f.tracks size) (sym is) ∙ lines_are command f size lists same
+
 -- ---- a moof with one run
 
 one_traf : (h : MoofBytes) (tracks : List Track) (bs : List Box) (run : Run) → length (map (traf_of h tracks) bs) ≡ 1 → flat_map runs_of (map (traf_of h tracks) bs) ≡ run ∷ []

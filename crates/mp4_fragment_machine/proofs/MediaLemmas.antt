@@ -241,11 +241,11 @@ module _ (runs : List Run) (i : ℕ) (run : Run) (here : i < length runs) (at : 
       pushed P [] x all one = (one, tt)
       pushed P (y ∷ xs) x all one = (all.0, pushed P xs x all.1 one)
 
-  pub reach_more : (start m n all : ℕ) → n ≡ (if run.count == 0 then m else max m (beyond start (end_place run))) → max m (reach start (drop i runs)) ≡ all → max n (reach start (drop (i + 1) runs)) ≡ all
+  pub reach_more : (start m n all : ℕ) → n ≡ max m (if run.count == 0 then 0 else beyond start (end_place run)) → max m (reach start (drop i runs)) ≡ all → max n (reach start (drop (i + 1) runs)) ≡ all
   reach_more start m n all new whole =
       by (run.count == 0) new (ap (λ l. max m (reach start l)) (sym one_less) ∙ whole)
     where
-      by : (t : Bool) → n ≡ (if t then m else max m (beyond start (end_place run)))
+      by : (t : Bool) → n ≡ max m (if t then 0 else beyond start (end_place run))
           → max m (if t then reach start (drop (i + 1) runs) else max (beyond start (end_place run)) (reach start (drop (i + 1) runs))) ≡ all → max n (reach start (drop (i + 1) runs)) ≡ all
       by true new whole = omega (arith, new, whole)
       by false new whole = omega (arith, new, whole)

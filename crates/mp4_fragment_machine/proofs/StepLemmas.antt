@@ -1,5 +1,5 @@
 -- How steps compose, and what bytes that came before change of a step.
-use Rattle.std.proofs.Common.{◌≡◌, ℕ, ◌+◌, ◌-◌, ◌<◌, ◌≤◌, Bool, List, [], ◌++◌, length, take, Option, Result, Ok, Err, ap, refl, ◌∙◌, arith}
+use Rattle.std.proofs.Common.{◌≡◌, ℕ, ◌+◌, ◌-◌, ◌<◌, ◌≤◌, Bool, List, [], ◌++◌, length, min, take, Option, Result, Ok, Err, ap, refl, ◌∙◌, arith}
 use Rattle.mp4_box.specs.Headers.{need}
 use Rattle.mp4_box.specs.declared.rules.Fault.{Fault}
 use Rattle.mp4_box.proofs.HeaderLemmas.{need-least}
@@ -14,7 +14,7 @@ use Rattle.mp4_recut.specs.Operations.{operation_meaning, number_in}
 use Rattle.mp4_recut.specs.declared.operation.Operation.{Operation}
 use Rattle.mp4_fragment_machine.specs.Places.{Place, claim_of, continuation_at}
 use Rattle.mp4_fragment_machine.specs.States.{HasStopped, IsCounted, IsPendingMoof, most_counted}
-use Rattle.mp4_fragment_machine.specs.Implementation.Steps.{Advances, Borrowed, Consumes, GoesTo, StopsIn, at_state, environment_before, environment_stopped, with_head}
+use Rattle.mp4_fragment_machine.specs.Implementation.Steps.{Advances, Borrowed, Consumes, GoesTo, MayTake, StopsIn, at_state, environment_before, environment_stopped, with_head}
 use Rattle.mp4_fragment_machine.specs.declared.state.Counter.{Counter}
 use Rattle.mp4_fragment_machine.specs.declared.state.Carried.{Carried}
 use Rattle.mp4_fragment_machine.specs.declared.state.State.{State}
@@ -118,3 +118,13 @@ module _ {l : Borrowed} {old new : Carried} {from state : State} {result : Resul
 
   pub Consumes-stops : (input : List ℕ) {e : Stop} → Consumes l old new from input result → state ≡ from → result ≡ Err e → StopsIn l old new (at_state old state) input e
   Consumes-stops input taken e is = rw e (rw is at taken)
+
+-- bytes of a held box were taken, and the box was held on
+pub held_goes : {l : Borrowed} {old new : Carried} (b : BufferedBox) (input : List ℕ) (n : ℕ) {to : State} → MayTake input old l.account (states.Buffering b) → n ≡ min (b.size - length b.bytes) (length input)
+    → GoesTo l old new (at_state old (states.Buffering (record b { bytes = b.bytes ++ take n input }))) [] to → Consumes l old new (states.Buffering b) input (Ok (record { count = n; state = to }))
+held_goes {old = old} b input n may is goes = (omega (arith, may.some, may.state.1, is), omega (arith, is), GoesTo-then (accepts_held old b may.can.claim) goes)
+
+-- or it was refused
+pub held_stops : {l : Borrowed} {old new : Carried} (b : BufferedBox) (input : List ℕ) (n : ℕ) {e : Stop} → MayTake input old l.account (states.Buffering b)
+    → StopsIn l old new (at_state old (states.Buffering (record b { bytes = b.bytes ++ take n input }))) [] e → Consumes l old new (states.Buffering b) input (Err e)
+held_stops {old = old} b input n may stops = StopsIn-then n input (accepts_held old b may.can.claim) stops

@@ -12,11 +12,11 @@ ghost use Rattle.mp4_fragment_machine.specs.declared.state.Recutting.{Recutting}
 ghost use Rattle.mp4_fragment_machine.specs.declared.state.State.TheVariants as states;
 
 use crate::header::take_header;
-use crate::held::take_held;
+use crate::held::hold;
 use crate::machine::FragmentMachine;
 use crate::mdat::header::take_mdat_header;
 use crate::other_box::take_copied;
-use crate::state::{State, Taken, put_state, stopped};
+use crate::state::{State, Taken, stopped};
 use mp4_ends::Sink;
 use mp4_ledger::Ledger;
 use mp4_machine::{Block, Machine, Stop};
@@ -28,7 +28,7 @@ impl FragmentMachine {
     ///
     /// # Errors
     ///
-    /// As [`take_header`], [`take_held`], [`take_mdat_header`] and [`take_copied`].
+    /// As [`take_header`], [`hold`], [`take_mdat_header`] and [`take_copied`].
     #[inline(never)]
     pub(crate) fn take_next_input<W: Sink>(
         &mut self,
@@ -48,16 +48,26 @@ impl FragmentMachine {
         let carried = &mut self.carried;
         let taken = match replace(&mut self.state, stopped()) {
             State::Header { at } => take_header(at, input, carried, ledger, out, w),
-            State::Buffering(buffered) => take_held(buffered, input, carried, ledger, out, w),
+            State::Buffering(buffered) => {
+                let mut buffered = buffered;
+                let count = buffered.take(input);
+                match hold(buffered, carried, ledger, out, w) {
+                    Ok(state) => Ok(Taken { count, state }),
+                    Err(stop) => Err(stop),
+                }
+            }
             State::MdatHeader(moof) => take_mdat_header(moof, input, carried, ledger, out, w),
             State::Copied(body) => take_copied(body, input, out, w),
             _ => unreachable!(),
         };
         match taken {
-            Ok(Taken { count, state }) => {
-                put_state(&mut self.state, state);
-                Ok(count)
-            }
+            Ok(Taken { count, state }) => match replace(&mut self.state, state) {
+                State::Body(_, pending_moof) => match pending_moof {
+                    None => Ok(count),
+                    Some(_) => unreachable!(),
+                },
+                _ => unreachable!(),
+            },
             Err(stop) => {
                 self.give_back(ledger);
                 Err(stop)

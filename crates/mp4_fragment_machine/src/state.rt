@@ -3,12 +3,11 @@
 ghost use Rattle.std.specs.Prelude.{◌≡◌, Some, ℕ, ◌≤◌, Option};
 ghost use Rattle.mp4_ledger.specs.Memory.{given_back};
 ghost use Rattle.mp4_machine.specs.declared.body.Body.{Body};
-ghost use Rattle.mp4_fragment_machine.specs.States.{IsPendingMoof, moof_in, stopped, kept_by};
+ghost use Rattle.mp4_fragment_machine.specs.States.{IsPendingMoof, kept_by, moof_in, stopped, taken_by};
 ghost use Rattle.mp4_fragment_machine.specs.declared.state.Recutting.{Recutting};
 ghost use Rattle.mp4_fragment_machine.specs.declared.state.PendingMoof.{PendingMoof};
 ghost use Rattle.mp4_fragment_machine.specs.declared.state.State.TheVariants as states;
 
-use crate::mdat::end::back;
 use mp4_box::HeaderReader;
 use mp4_box::types::MDAT;
 use mp4_cut::Cut;
@@ -121,17 +120,14 @@ pub(crate) fn leave_media(current: &mut State, at: u64) -> PendingMoof
     }
 }
 
-/// Puts a state where nothing was held.
-pub(crate) fn put_state(current: &mut State, state: State)
-    requires { current.old ≡ stopped }
-    ensures { current.new ≡ state }
+/// Gives a pending moof and its list back, if there is one.
+pub(crate) fn back(pending_moof: Option<PendingMoof>, ledger: &mut Ledger)
+    requires { taken_by pending_moof ≤ ledger.old.live }
+    ensures { ledger.new ≡ given_back ledger.old (taken_by pending_moof) }
 {
-    match replace(current, state) {
-        State::Body(_, pending_moof) => match pending_moof {
-            None => {}
-            Some(_) => unreachable!(),
-        },
-        _ => unreachable!(),
+    if let Some(PendingMoof { moof, runs }) = pending_moof {
+        runs.back(ledger);
+        moof.back(ledger);
     }
 }
 

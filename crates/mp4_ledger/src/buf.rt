@@ -1,10 +1,11 @@
-//! Bytes in claimed memory.
+//! Bytes in claimed memory: how they are claimed, used and given back.
 
-ghost use Rattle.std.specs.Prelude.{◌≡◌, ◌+◌, ◌≤◌, ◌↔◌, [], ◌++◌, length, take, IsTrue};
+ghost use Rattle.std.specs.Prelude.{◌≡◌, ◌+◌, ◌<◌, ◌≤◌, ◌↔◌, [], ◌++◌, length, take, IsTrue, OnOk, OnErr, IfOk, IsErrOf};
 ghost use Rattle.std.specs.Borrow.{sem};
 ghost use Rattle.mp4_ledger.specs.Lending.{LendsBytes};
-ghost use Rattle.mp4_ledger.specs.Memory.{fitted};
+ghost use Rattle.mp4_ledger.specs.Memory.{claimed, fitted, given_back};
 
+use crate::ledger::{Ledger, Refused};
 use std::marker::Model;
 
 /// A buffer in claimed memory. It must be given back to its ledger, and can't be dropped.
@@ -92,5 +93,43 @@ impl Buf {
         ensures { self.new ≡ record self.old { bytes = [] } }
     {
         self.bytes.clear();
+    }
+}
+
+impl Ledger {
+    /// Claims an empty buffer with room for so many bytes.
+    ///
+    /// # Errors
+    ///
+    /// `OverLimit` exactly where the claim passes the limit; else `Memory` where the allocator has none.
+    /// Nothing is claimed then.
+    pub fn buf(&mut self, cap: u64) -> Result<Buf, Refused>
+        ensures empty { IfOk result (λ b. b ≡ record { bytes = []; cap = cap }) }
+        ensures ok { OnOk result (self.new ≡ claimed self.old cap) }
+        ensures over_limit { IsErrOf result Refused.OverLimit ↔
+            (self.old.limit < self.old.live + cap) }
+        ensures err { OnErr result (self.new ≡ self.old) }
+        ensures within { self.new.live ≤ self.new.limit }
+    {
+        if cap > self.limit - self.live {
+            return Err(Refused::OverLimit);
+        }
+        let Ok(bytes) = Vec::with_capacity(self.alloc, cap as usize) else {
+            return Err(Refused::Memory);
+        };
+        self.count(cap);
+        Ok(Buf {
+            bytes,
+            cap: cap as usize,
+        })
+    }
+
+    /// Takes a buffer back.
+    pub fn back(&mut self, buf: Buf)
+        requires { buf.cap ≤ self.old.live }
+        ensures { self.new ≡ given_back self.old buf.cap }
+    {
+        let Buf { bytes: _, cap } = buf;
+        self.live -= cap as u64;
     }
 }

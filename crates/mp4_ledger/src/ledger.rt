@@ -3,8 +3,6 @@
 ghost use Rattle.std.specs.Prelude.{◌≡◌, ◌+◌, ◌-◌, ◌*◌, ◌<◌, ◌≤◌, ◌↔◌, [], max, OnOk, OnErr, IfErr, IfOk, IsErrOf};
 ghost use Rattle.mp4_ledger.specs.Memory.{claimed, given_back, limited};
 
-use crate::buf::Buf;
-use crate::rows::Rows64;
 use std::alloc::Global;
 use std::marker::Model;
 
@@ -20,9 +18,9 @@ pub enum Refused {
 /// Counts the bytes that are claimed.
 #[derive(Drop)]
 pub struct Ledger {
-    alloc: Global,
-    limit: u64,
-    live: u64,
+    pub(crate) alloc: Global,
+    pub(crate) limit: u64,
+    pub(crate) live: u64,
     peak: u64,
 }
 
@@ -129,61 +127,6 @@ impl Ledger {
         self.peak = live;
     }
 
-    /// Claims an empty buffer with room for so many bytes.
-    ///
-    /// # Errors
-    ///
-    /// `OverLimit` exactly where the claim passes the limit; else `Memory` where the allocator has none.
-    /// Nothing is claimed then.
-    pub fn buf(&mut self, cap: u64) -> Result<Buf, Refused>
-        ensures empty { IfOk result (λ b. b ≡ record { bytes = []; cap = cap }) }
-        ensures ok { OnOk result (self.new ≡ claimed self.old cap) }
-        ensures over_limit { IsErrOf result Refused.OverLimit ↔
-            (self.old.limit < self.old.live + cap) }
-        ensures err { OnErr result (self.new ≡ self.old) }
-        ensures within { self.new.live ≤ self.new.limit }
-    {
-        if cap > self.limit - self.live {
-            return Err(Refused::OverLimit);
-        }
-        let Ok(bytes) = Vec::with_capacity(self.alloc, cap as usize) else {
-            return Err(Refused::Memory);
-        };
-        self.count(cap);
-        Ok(Buf {
-            bytes,
-            cap: cap as usize,
-        })
-    }
-
-    /// Claims an empty table with room for so many rows, of 64 bytes each.
-    ///
-    /// # Errors
-    ///
-    /// `OverLimit` exactly where the claim passes the limit; else `Memory` where the allocator has none.
-    /// Nothing is claimed then.
-    pub fn rows(&mut self, n: u64) -> Result<Rows64, Refused>
-        ensures empty { IfOk result (λ t. t ≡ record { rows = []; cap = n }) }
-        ensures ok { OnOk result (self.new ≡ claimed self.old (64 * n)) }
-        ensures over_limit { IsErrOf result Refused.OverLimit ↔
-            (self.old.limit < self.old.live + 64 * n) }
-        ensures err { OnErr result (self.new ≡ self.old) }
-        ensures within { self.new.live ≤ self.new.limit }
-    {
-        let room = self.limit - self.live;
-        if n > room / 64 {
-            return Err(Refused::OverLimit);
-        }
-        let Ok(rows) = Vec::with_capacity(self.alloc, n as usize) else {
-            return Err(Refused::Memory);
-        };
-        self.count(64 * n);
-        Ok(Rows64 {
-            rows,
-            cap: n as usize,
-        })
-    }
-
     /// Counts a claim of so many bytes, for which there is room elsewhere, and gives it back at once: the peak is that
     /// of a claim that was made.
     ///
@@ -206,29 +149,11 @@ impl Ledger {
     }
 
     /// Counts bytes that are claimed, for which there is room.
-    fn count(&mut self, claim: u64)
+    pub(crate) fn count(&mut self, claim: u64)
         requires { self.old.live + claim ≤ self.old.limit }
         ensures { self.new ≡ claimed self.old claim }
     {
         self.live += claim;
         self.peak = self.peak.max(self.live);
-    }
-
-    /// Takes a buffer back.
-    pub fn back(&mut self, buf: Buf)
-        requires { buf.cap ≤ self.old.live }
-        ensures { self.new ≡ given_back self.old buf.cap }
-    {
-        let Buf { bytes: _, cap } = buf;
-        self.live -= cap as u64;
-    }
-
-    /// Takes a table back.
-    pub fn back_rows(&mut self, rows: Rows64)
-        requires { 64 * rows.cap ≤ self.old.live }
-        ensures { self.new ≡ given_back self.old (64 * rows.cap) }
-    {
-        let Rows64 { rows: _, cap } = rows;
-        self.live -= 64 * cap as u64;
     }
 }

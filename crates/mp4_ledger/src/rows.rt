@@ -1,9 +1,11 @@
-//! Rows of eight numbers in claimed memory.
+//! Rows of eight numbers in claimed memory: how they are claimed, used and given back.
 
-ghost use Rattle.std.specs.Prelude.{◌≡◌, ◌<◌, ◌≤◌, ◌↔◌, [], ◌∷◌, ◌++◌, length, IsTrue, slice_set, slice_index_or};
+ghost use Rattle.std.specs.Prelude.{◌≡◌, ◌+◌, ◌*◌, ◌<◌, ◌≤◌, ◌↔◌, [], ◌∷◌, ◌++◌, length, IsTrue, slice_set, slice_index_or, OnOk, OnErr, IfOk, IsErrOf};
 ghost use Rattle.std.specs.Borrow.{sem};
 ghost use Rattle.mp4_ledger.specs.Lending.{LendsRows};
+ghost use Rattle.mp4_ledger.specs.Memory.{claimed, given_back};
 
+use crate::ledger::{Ledger, Refused};
 use std::marker::Model;
 
 /// A table in claimed memory, 64 bytes a row. It must be given back to its ledger, and can't be dropped.
@@ -77,5 +79,44 @@ impl Rows64 {
         ensures value { result.now ≡ self.old.rows }
     {
         self.rows.as_mut_slice()
+    }
+}
+
+impl Ledger {
+    /// Claims an empty table with room for so many rows, of 64 bytes each.
+    ///
+    /// # Errors
+    ///
+    /// `OverLimit` exactly where the claim passes the limit; else `Memory` where the allocator has none.
+    /// Nothing is claimed then.
+    pub fn rows(&mut self, n: u64) -> Result<Rows64, Refused>
+        ensures empty { IfOk result (λ t. t ≡ record { rows = []; cap = n }) }
+        ensures ok { OnOk result (self.new ≡ claimed self.old (64 * n)) }
+        ensures over_limit { IsErrOf result Refused.OverLimit ↔
+            (self.old.limit < self.old.live + 64 * n) }
+        ensures err { OnErr result (self.new ≡ self.old) }
+        ensures within { self.new.live ≤ self.new.limit }
+    {
+        let room = self.limit - self.live;
+        if n > room / 64 {
+            return Err(Refused::OverLimit);
+        }
+        let Ok(rows) = Vec::with_capacity(self.alloc, n as usize) else {
+            return Err(Refused::Memory);
+        };
+        self.count(64 * n);
+        Ok(Rows64 {
+            rows,
+            cap: n as usize,
+        })
+    }
+
+    /// Takes a table back.
+    pub fn back_rows(&mut self, rows: Rows64)
+        requires { 64 * rows.cap ≤ self.old.live }
+        ensures { self.new ≡ given_back self.old (64 * rows.cap) }
+    {
+        let Rows64 { rows: _, cap } = rows;
+        self.live -= 64 * cap as u64;
     }
 }

@@ -100,8 +100,9 @@ impl Block {
 
     /// Appends these bytes to the buffer, which is sent first where they don't fit.
     pub fn put<W: Sink>(&mut self, w: &mut W, bytes: &[u8]) -> Result<(), Failed>
-        ensures { Puts (sent W.contents W.has_failed w.old w.new) self.old self.new bytes.now
+        ensures puts { Puts (sent W.contents W.has_failed w.old w.new) self.old self.new bytes.now
             result }
+        ensures unsent { length self.old.bytes + length bytes.now ≤ BLOCK_BYTES → w.new ≡ w.old }
     {
         if bytes.len() > BLOCK_BYTES - self.waiting.len() {
             return self.send_and_put(w, bytes);
@@ -118,8 +119,9 @@ impl Block {
         bytes: &[u8; N],
     ) -> Result<(), Failed>
         requires { N ≤ LINE_BYTES }
-        ensures { Puts (sent W.contents W.has_failed w.old w.new) self.old self.new bytes.now
+        ensures puts { Puts (sent W.contents W.has_failed w.old w.new) self.old self.new bytes.now
             result }
+        ensures unsent { length self.old.bytes + N ≤ BLOCK_BYTES → w.new ≡ w.old }
     {
         if N > BLOCK_BYTES - self.waiting.len() {
             match self.send(w) {
@@ -134,8 +136,9 @@ impl Block {
     /// Appends a line to the buffer, which is sent first where there may be no room for it.
     #[inline(always)]
     pub fn put_line<L: Line, W: Sink>(&mut self, w: &mut W, line: &L) -> Result<(), Failed>
-        ensures { Puts (sent W.contents W.has_failed w.old w.new) self.old self.new
+        ensures puts { Puts (sent W.contents W.has_failed w.old w.new) self.old self.new
             (L.text line.now) result }
+        ensures unsent { length self.old.bytes + LINE_BYTES ≤ BLOCK_BYTES → w.new ≡ w.old }
     {
         if self.waiting.len() > BLOCK_BYTES - LINE_BYTES {
             match self.send(w) {

@@ -1,7 +1,7 @@
 //! The search in taking order.
 
 ghost use Rattle.std.specs.Prelude.{◌≡◌};
-ghost use Rattle.mp4_run_order.specs.Implementation.Searches.{bytes_step, may_be_first, place_start, place_step, shared_step};
+ghost use Rattle.mp4_run_order.specs.Implementation.Searches.{may_be_first, place_start, place_step, shared_step};
 
 use crate::numbers::{is_below, lower_of};
 use crate::runs::{ListedRun, Payload};
@@ -54,19 +54,6 @@ impl PlaceSearch {
         }
     }
 
-    /// The search after a run with bytes that lies in the payload.
-    fn past_bytes(self, run: ListedRun) -> PlaceSearch
-        ensures { result ≡ bytes_step self self.last run }
-    {
-        match self.last {
-            Some(last) if i128::from(run.place) < last.end() => self.past_shared(last, run),
-            _ => PlaceSearch {
-                last: Some(run),
-                ..self
-            },
-        }
-    }
-
     /// The search after one more run, the next that is taken.
     #[must_use]
     pub fn past(self, run: ListedRun) -> PlaceSearch
@@ -82,7 +69,13 @@ impl PlaceSearch {
         } else if run.bytes == 0 {
             self
         } else {
-            self.past_bytes(run)
+            match self.last {
+                Some(last) if i128::from(run.place) < last.end() => self.past_shared(last, run),
+                _ => PlaceSearch {
+                    last: Some(run),
+                    ..self
+                },
+            }
         }
     }
 }

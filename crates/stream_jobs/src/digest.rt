@@ -1,4 +1,5 @@
-//! A number for all bytes that are written, however they are cut into writes: four polynomials over their words, modulo 2^64.
+//! A number for all bytes that are written, however they are cut into writes: four polynomials over their words, modulo
+//! 2^64.
 
 ghost use Rattle.std.specs.Prelude.{◌≡◌, ◌+◌, ◌≤◌, length, false};
 

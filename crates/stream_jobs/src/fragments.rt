@@ -21,8 +21,8 @@ pub struct Layout {
     pub sizes: u32,
     /// Whether the first traf of each track has no time of its own: it begins where the track's last one ended.
     pub untimed: bool,
-    /// Whether the media of the runs lie in another order than the runs. These have one size then, the tracks are as many as some
-    /// prime number that leaves 2 when it is divided by 3, and the trafs are a multiple.
+    /// Whether the media of the runs lie in another order than the runs. These have one size then, the tracks are as
+    /// many as some prime number that leaves 2 when it is divided by 3, and the trafs are a multiple.
     pub shuffled: bool,
     /// How many fragments are made at once.
     pub period: u32,
@@ -116,8 +116,9 @@ const TFHD: u32 = 16;
 
 const TFDT: u32 = 20;
 
-/// The place of a run's media among those of a fragment, if they are shuffled: the runs of a track lie one behind the other, and the
-/// tracks by the cubes of numbers one behind the other, which go through all that are less than such a prime.
+/// The place of a run's media among those of a fragment, if they are shuffled: the runs of a track lie one behind the
+/// other, and the tracks by the cubes of numbers one behind the other, which go through all that are less than such a
+/// prime.
 fn place(run: u32, shift: u32, layout: &Layout) -> u32 {
     if layout.tracks == 0 {
         return 0;

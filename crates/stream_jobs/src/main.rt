@@ -1,5 +1,6 @@
-//! Does jobs to streams of a seed, and prints what came of each: the workloads of bench/workloads.txt. Its words are the name of a
-//! job, a number below 2^32 as the seed, and how many periods the stream has; with the name `all` it does every job.
+//! Does jobs to streams of a seed, and prints what came of each: the workloads of bench/workloads.txt. Its words are
+//! the name of a job, a number below 2^32 as the seed, and how many periods the stream has; with the name `all` it does
+//! every job.
 #![tactic(auto)]
 
 mod boxes;

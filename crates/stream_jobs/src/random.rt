@@ -1,5 +1,5 @@
-//! Numbers that look random, and are the same for the same seed: a generator of Marsaglia's, by three shifts of 64 bits.
-//! Source: G. Marsaglia, Xorshift RNGs, Journal of Statistical Software 8 (2003).
+//! Numbers that look random, and are the same for the same seed: a generator of Marsaglia's, by three shifts of 64
+//! bits. Source: G. Marsaglia, Xorshift RNGs, Journal of Statistical Software 8 (2003).
 
 ghost use Rattle.std.specs.Prelude.{◌<◌};
 

@@ -36,8 +36,8 @@ fn groups_of(alloc: Global, count: usize) -> Result<Vec<u8>, Fail> {
     Ok(bytes)
 }
 
-/// Puts groups, all at once or one by one, after so many bytes that wait, on their way to a sink with so much room: what became of
-/// them, and the bytes that went out in the end.
+/// Puts groups, all at once or one by one, after so many bytes that wait, on their way to a sink with so much room:
+/// what became of them, and the bytes that went out in the end.
 fn put_groups(
     alloc: Global,
     waiting: usize,

@@ -1,5 +1,5 @@
-//! Tests of the libraries, in a crate above them, so that each library is proved once: worked numbers, and what no clause
-//! can say.
+//! Tests of the libraries, in a crate above them, so that each library is proved once: worked numbers, and what no
+//! clause can say.
 //!
 //! - [`claims`]: that claims succeed where memory is ample;
 //! - [`ends`]: how an adapter maps std's errors;

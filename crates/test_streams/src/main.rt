@@ -1,8 +1,8 @@
 //! Lists the boxes, the samples and the fragments of two real streams, which ffmpeg's muxer wrote: data/audio.mp4, a
-//! fragment each second, and data/every_frame.mp4, a fragment each frame; and the fragments of data/av.mp4, which has two
-//! tracks. Then it is the program, which lists the boxes of the stream on standard input: the stored run of `fmp4` is on a
-//! stream with a fault, and this one has none. What it must write is in the file stdout, and is what another reader found.
-//! The counts of the streams are those of another reader too.
+//! fragment each second, and data/every_frame.mp4, a fragment each frame; and the fragments of data/av.mp4, which has
+//! two tracks. Then it is the program, which lists the boxes of the stream on standard input: the stored run of `fmp4`
+//! is on a stream with a fault, and this one has none. What it must write is in the file stdout, and is what another
+//! reader found. The counts of the streams are those of another reader too.
 #![tactic(auto)]
 
 use fmp4_program::start;

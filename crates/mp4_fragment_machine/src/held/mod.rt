@@ -3,7 +3,7 @@
 ghost use Rattle.std.specs.Prelude.{◌≡◌, ◌+◌, ◌≤◌, []};
 ghost use Rattle.mp4_machine.specs.Bodies.{longest};
 ghost use Rattle.mp4_machine.specs.Buffering.{Begins};
-ghost use Rattle.mp4_fragment_machine.specs.Implementation.Steps.{Advances, CanStep, Consumes, MayTake, borrowed};
+ghost use Rattle.mp4_fragment_machine.specs.Implementation.Steps.{Advances, CanStep, borrowed};
 ghost use Rattle.mp4_fragment_machine.specs.declared.state.State.TheVariants as states;
 
 pub(crate) mod moof;
@@ -11,36 +11,10 @@ pub(crate) mod moov;
 
 use crate::held::moof::accept_moof;
 use crate::held::moov::take_moov;
-use crate::state::{Carried, State, Taken};
+use crate::state::{Carried, State};
 use mp4_ends::Sink;
 use mp4_ledger::Ledger;
 use mp4_machine::{Block, BufferedBox, Stop};
-
-/// Takes bytes of a moov or moof from the front of the input.
-///
-/// # Errors
-///
-/// As [`hold`].
-#[inline(always)]
-pub(crate) fn take_held<W: Sink>(
-    buffered: BufferedBox,
-    input: &[u8],
-    carried: &mut Carried,
-    ledger: &mut Ledger,
-    out: &mut Block,
-    w: &mut W,
-) -> Result<Taken, Stop>
-    requires { MayTake input.now carried.old ledger.old (states.Buffering buffered) }
-    ensures { Consumes (borrowed W.contents W.has_failed w.old w.new out.old out.new ledger.old ledger.new)
-        carried.old carried.new (states.Buffering buffered) input.now result }
-{
-    let mut buffered = buffered;
-    let count = buffered.take(input);
-    match hold(buffered, carried, ledger, out, w) {
-        Ok(state) => Ok(Taken { count, state }),
-        Err(stop) => Err(stop),
-    }
-}
 
 /// The state after these bytes of a moov or moof: once it is whole, a moov's tracks are read, and a moof is kept
 /// for its mdat.

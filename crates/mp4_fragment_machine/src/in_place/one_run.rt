@@ -34,7 +34,7 @@ use crate::in_place::{Boxes, CompleteFragment, ROW};
 use crate::machine::FragmentMachine;
 use crate::mdat::sample_lines;
 use crate::mdat::totals::count;
-use crate::mdat::traf_lines::put_single_line;
+use crate::mdat::traf_lines::{put_single_line, put_single_record};
 use crate::state::{Carried, Counter, go_to, stop_at};
 use mp4_box::Fault;
 use mp4_cut::Cut;
@@ -227,12 +227,17 @@ fn list_run<W: Sink>(
             counter.steps.rows += u128::from(samples);
             sample_lines::put_run(run, complete.boxes.moof, out, w)
         }
-        Command::Fragments | Command::Records => {
+        Command::Fragments => {
             counter.steps.rows += u128::from(samples);
-            let boxes = &complete.boxes;
-            let size = boxes.moof.len() as u64 + boxes.mdat.size;
-            let single = complete.run;
-            put_single_line(command, boxes.moof, at, single, size, tracks, out, w)
+            let Boxes { moof, mdat } = complete.boxes;
+            let size = moof.len() as u64 + mdat.size;
+            put_single_line(moof, at, complete.run, size, out, w)
+        }
+        Command::Records => {
+            counter.steps.rows += u128::from(samples);
+            let Boxes { moof, mdat } = complete.boxes;
+            let size = moof.len() as u64 + mdat.size;
+            put_single_record(moof, at, complete.run, size, tracks, out, w)
         }
     }
 }

@@ -5,9 +5,9 @@ ghost use Rattle.mp4_recut.specs.declared.operation.Operation.TheVariants as ope
 ghost use Rattle.mp4_fragment_machine.specs.declared.state.State.TheVariants as states;
 
 use crate::mdat::check::check_mdat;
-use crate::mdat::end::{back, leave};
+use crate::mdat::end::leave;
 use crate::mdat::list::emit;
-use crate::state::{Carried, PendingMoof, State};
+use crate::state::{Carried, PendingMoof, State, back};
 use mp4_box::Header;
 use mp4_ends::{Failed, Sink};
 use mp4_grammar::Command;

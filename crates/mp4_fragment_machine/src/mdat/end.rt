@@ -9,12 +9,12 @@ ghost use Rattle.mp4_machine.specs.Bodies.{longest};
 ghost use Rattle.mp4_machine.specs.Readings.{no_effects};
 ghost use Rattle.mp4_recut.specs.Operations.{number_in};
 ghost use Rattle.mp4_fragment_machine.specs.Places.{InBody, Untouched};
-ghost use Rattle.mp4_fragment_machine.specs.States.{IsCounted, IsPendingMoof, MayBePending, after_body, claimed_in, moof_in, samples_of, taken_by};
+ghost use Rattle.mp4_fragment_machine.specs.States.{IsCounted, IsPendingMoof, MayBePending, after_body, claimed_in, moof_in, samples_of};
 ghost use Rattle.mp4_fragment_machine.specs.Implementation.Steps.{GoesTo, ledger_alone};
 ghost use Rattle.mp4_fragment_machine.specs.declared.state.PendingMoof.{PendingMoof};
 ghost use Rattle.mp4_fragment_machine.specs.declared.state.State.TheVariants as states;
 
-use crate::state::{Carried, Counter, PendingMoof};
+use crate::state::{Carried, Counter, PendingMoof, back};
 use mp4_init::TrackList;
 use mp4_ledger::Ledger;
 
@@ -68,15 +68,4 @@ pub(crate) fn end_fragment(
 {
     pending_moof.moof(tracks).settle(tracks, &mut counter.steps);
     back(Some(pending_moof), ledger);
-}
-
-/// Gives a pending moof and its list back, if there is one.
-pub(crate) fn back(pending_moof: Option<PendingMoof>, ledger: &mut Ledger)
-    requires { taken_by pending_moof ≤ ledger.old.live }
-    ensures { ledger.new ≡ given_back ledger.old (taken_by pending_moof) }
-{
-    if let Some(PendingMoof { moof, runs }) = pending_moof {
-        runs.back(ledger);
-        moof.back(ledger);
-    }
 }

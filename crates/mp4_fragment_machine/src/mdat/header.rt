@@ -6,26 +6,26 @@ ghost use Rattle.mp4_machine.specs.Readings.{fault_in};
 ghost use Rattle.mp4_grammar.specs.Meanings.{Meaning};
 ghost use Rattle.mp4_fragment_machine.specs.Places.{continuation_at};
 ghost use Rattle.mp4_fragment_machine.specs.States.{IsPendingMoof, IsState, place_of};
-ghost use Rattle.mp4_fragment_machine.specs.Implementation.Steps.{Advances, Consumes, MayBeginFragment, MayTake, borrowed, with_head};
+ghost use Rattle.mp4_fragment_machine.specs.Implementation.Steps.{Consumes, MayTake, borrowed};
 ghost use Rattle.mp4_fragment_machine.specs.declared.state.State.TheVariants as states;
 
 use crate::mdat::accept_list::begin_listed;
 use crate::mdat::accept_recut::begin_media;
-use crate::mdat::end::back;
-use crate::state::{Carried, PendingMoof, State, Taken};
+use crate::state::{Carried, PendingMoof, State, Taken, back};
 use mp4_box::types::MOOF;
-use mp4_box::{Fault, Header, HeaderReader, Rule};
+use mp4_box::{Fault, HeaderReader, Rule};
 use mp4_ends::Sink;
 use mp4_ledger::Ledger;
 use mp4_machine::{Block, HeaderStatus, Stop, at_fault, next_header, truncated};
 use mp4_recut::Operation;
 
 /// Takes bytes of the header after the pending moof from the front of the input, and begins its fragment once the
-/// header is whole.
+/// header is whole. The moof and its list are given back where that is refused.
 ///
 /// # Errors
 ///
-/// `Stream` where no header begins with the bytes that came, and as [`begin_fragment`].
+/// `Stream` where no header begins with the bytes that came, that box may not follow, or the runs of the moof don't lie
+/// in it; `Write` where a write failed.
 pub(crate) fn take_mdat_header<W: Sink>(
     pending_moof: PendingMoof,
     input: &[u8],
@@ -49,18 +49,21 @@ pub(crate) fn take_mdat_header<W: Sink>(
             header,
             bytes,
             count,
-        } => match begin_fragment(
-            pending_moof,
-            &header,
-            bytes.bytes(),
-            carried,
-            ledger,
-            out,
-            w,
-        ) {
-            Ok(state) => Ok(Taken { count, state }),
-            Err(stop) => Err(stop),
-        },
+        } => {
+            let (header, head) = (&header, bytes.bytes());
+            let begun = match carried.operation {
+                Operation::List(command) => {
+                    begin_listed(command, pending_moof, header, head, carried, ledger, out, w)
+                }
+                Operation::Split(cut) => {
+                    begin_media(pending_moof, header, head, cut, carried, ledger, out, w)
+                }
+            };
+            match begun {
+                Ok(state) => Ok(Taken { count, state }),
+                Err(stop) => Err(stop),
+            }
+        }
     }
 }
 
@@ -74,49 +77,6 @@ fn wait_on(pending_moof: PendingMoof, count: usize) -> Result<Taken, Stop>
         count,
         state: State::MdatHeader(pending_moof),
     })
-}
-
-/// Begins the fragment of the pending moof, followed by the box with this header. Returns the next state. The moof and
-/// its list are given back where it is refused.
-///
-/// # Errors
-///
-/// `Stream` where that box may not follow, or the runs of the moof don't lie in it; `Write` where a write failed.
-fn begin_fragment<W: Sink>(
-    pending_moof: PendingMoof,
-    header: &Header,
-    header_bytes: &[u8],
-    carried: &mut Carried,
-    ledger: &mut Ledger,
-    out: &mut Block,
-    w: &mut W,
-) -> Result<State, Stop>
-    requires { MayBeginFragment carried.old.operation carried.old ledger.old pending_moof header.now header_bytes.now }
-    ensures { Advances (borrowed W.contents W.has_failed w.old w.new out.old out.new ledger.old ledger.new)
-        (with_head header_bytes.now carried.old) carried.new (states.MdatHeader pending_moof) result }
-{
-    match carried.operation {
-        Operation::List(command) => begin_listed(
-            command,
-            pending_moof,
-            header,
-            header_bytes,
-            carried,
-            ledger,
-            out,
-            w,
-        ),
-        Operation::Split(cut) => begin_media(
-            pending_moof,
-            header,
-            header_bytes,
-            cut,
-            carried,
-            ledger,
-            out,
-            w,
-        ),
-    }
 }
 
 /// The stream ended after the pending moof and these bytes of a header.

@@ -29,40 +29,17 @@ pub(crate) struct MoofTotals {
     pub(crate) needed: u64,
 }
 
-/// How far after `start` a run ends, 0 where it ends before.
+/// How far after `start` a run ends: 0 where it ends before, or has no samples.
 fn beyond(start: u64, run: ListedRun) -> u64
     requires { end_of run <ℤ pos (2 ^ 63) }
-    ensures { result ≡ beyond start (end_of run) }
+    ensures { result ≡ (if run.count == 0 then 0 else beyond start (end_of run)) }
 {
     let end = i128::from(run.place) + i128::from(run.bytes);
     let start = i128::from(start);
-    if end <= start {
+    if run.count == 0 || end <= start {
         return 0;
     }
     (end - start) as u64
-}
-
-/// The measure of one run more, in a payload that begins at `start`.
-fn with_run(so_far: MoofTotals, start: u64, run: ListedRun) -> MoofTotals
-    requires place { end_of run <ℤ pos (2 ^ 63) }
-    requires room { so_far.bytes + run.bytes < 2 ^ 64 }
-    requires few { so_far.samples + run.count < 2 ^ 64 }
-    ensures bytes { result.bytes ≡ so_far.bytes + run.bytes }
-    ensures samples { result.samples ≡ so_far.samples + run.count }
-    ensures needed { result.needed ≡ (if run.count == 0 then so_far.needed
-        else max so_far.needed (beyond start (end_of run))) }
-{
-    let bytes = so_far.bytes + run.bytes;
-    let mut needed = so_far.needed;
-    if run.count > 0 {
-        needed = needed.max(beyond(start, run));
-    }
-    let samples = so_far.samples + u64::from(run.count);
-    MoofTotals {
-        bytes,
-        samples,
-        needed,
-    }
 }
 
 /// How many bytes and samples the runs of the pending moof have, and how far they reach into a payload where they may
@@ -97,7 +74,12 @@ pub(crate) fn add_up_runs(
     };
     let mut i = 0;
     while i < pending_moof.runs.len() {
-        so_far = with_run(so_far, payload.start, pending_moof.runs.listed(i));
+        let run = pending_moof.runs.listed(i);
+        so_far = MoofTotals {
+            bytes: so_far.bytes + run.bytes,
+            samples: so_far.samples + u64::from(run.count),
+            needed: so_far.needed.max(beyond(payload.start, run)),
+        };
         i += 1;
     }
     so_far

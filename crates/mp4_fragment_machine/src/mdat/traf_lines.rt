@@ -1,13 +1,15 @@
 //! The lines of a fragment's trafs, or their records, and the lines of the tracks.
 
-ghost use Rattle.std.specs.Prelude.{ℕ, ◌≡◌, ◌+◌, ◌<◌, ◌≤◌, ◌^◌, Some, length};
+ghost use Rattle.std.specs.Prelude.{ℕ, List, ◌≡◌, ◌+◌, ◌<◌, ◌≤◌, ◌^◌, Some, length};
 ghost use Rattle.std.specs.List.{AllByRecursion, flat_map};
 ghost use Rattle.mp4_box.specs.Headers.{IsWhole};
 ghost use Rattle.mp4_frag.specs.Moofs.{IsRead, moof_samples};
 ghost use Rattle.mp4_frag.specs.SingleRuns.{IsSingle};
 ghost use Rattle.mp4_traf.specs.Ranges.{IsRunOf, IsSound};
 ghost use Rattle.mp4_traf.specs.Runs.{known_track, moof_at};
+ghost use Rattle.mp4_init.specs.declared.table.Track.{Track};
 ghost use Rattle.mp4_grammar.specs.FragmentLines.{track_lines};
+ghost use Rattle.mp4_grammar.specs.declared.command.Command.TheVariants.{Fragments, Records};
 ghost use Rattle.mp4_machine.specs.Bodies.{least_end, longest};
 ghost use Rattle.mp4_machine.specs.Ends.{sent};
 ghost use Rattle.mp4_machine.specs.Puts.{Puts};
@@ -115,12 +117,41 @@ pub(crate) fn put_moof_lines<W: Sink>(
     )
 }
 
-/// Puts the line of the only traf of a moof at `at`, or its record, whose only run was read, and whose fragment has
-/// `size` bytes. `moof_bytes` are its bytes. The first row of the run is read.
+/// The only traf of a moof at `at`, whose only run was read, and whose fragment has `size` bytes. `moof_bytes` are its
+/// bytes. The first row of the run is read.
+#[inline(always)]
+fn single_traf(moof_bytes: &[u8], at: u64, single_run: &SingleRun, size: u64) -> ListedTraf
+    requires { IsRunOf moof_bytes.now single_run.now.run }
+    ensures { (tracks : List Track) (command : Command) →
+        IsSingle (moof_at moof_bytes.now at) tracks single_run.now → put_of command tracks result ≡
+        moof_lines command (moof_at moof_bytes.now at) tracks (Some size) }
+{
+    let totals = TrafTotals::of_only_run(&single_run.run, moof_bytes);
+    ListedTraf::of(single_run.sequence, at, Some(size), &totals)
+}
+
+/// Puts the line of the only traf of a moof at `at`, as [`single_traf`] reads it.
 // A call of its own, so that other commands don't clear its locals for each fragment.
 #[inline(never)]
 pub(crate) fn put_single_line<W: Sink>(
-    command: Command,
+    moof_bytes: &[u8],
+    at: u64,
+    single_run: &SingleRun,
+    size: u64,
+    out: &mut Block,
+    w: &mut W,
+) -> Result<(), Failed>
+    requires { IsRunOf moof_bytes.now single_run.now.run }
+    ensures { (tracks : List Track) → IsSingle (moof_at moof_bytes.now at) tracks single_run.now →
+        Puts (sent W.contents W.has_failed w.old w.new) out.old out.new
+        (moof_lines Fragments (moof_at moof_bytes.now at) tracks (Some size)) result }
+{
+    out.put_line(w, &single_traf(moof_bytes, at, single_run, size))
+}
+
+/// Puts the record of the only traf of a moof at `at`, as [`single_traf`] reads it.
+#[inline(never)]
+pub(crate) fn put_single_record<W: Sink>(
     moof_bytes: &[u8],
     at: u64,
     single_run: &SingleRun,
@@ -129,16 +160,13 @@ pub(crate) fn put_single_line<W: Sink>(
     out: &mut Block,
     w: &mut W,
 ) -> Result<(), Failed>
-    requires whole { IsWhole moof_bytes.now }
-    requires room { at + length moof_bytes.now ≤ 2 ^ 62 }
-    requires single_run { IsSingle (moof_at moof_bytes.now at) tracks.now single_run.now }
     requires run { IsRunOf moof_bytes.now single_run.now.run }
+    requires single_run { IsSingle (moof_at moof_bytes.now at) tracks.now single_run.now }
     ensures { Puts (sent W.contents W.has_failed w.old w.new) out.old out.new
-        (moof_lines command (moof_at moof_bytes.now at) tracks.now (Some size)) result }
+        (moof_lines Records (moof_at moof_bytes.now at) tracks.now (Some size)) result }
 {
-    let totals = TrafTotals::of_only_run(&single_run.run, moof_bytes);
-    let listed = ListedTraf::of(single_run.sequence, at, Some(size), &totals);
-    put_traf(command, &listed, tracks, out, w)
+    let traf = single_traf(moof_bytes, at, single_run, size);
+    put_traf(Command::Records, &traf, tracks, out, w)
 }
 
 /// How many bytes a fragment has, whose moof has so many, and whose mdat has this header; none where the mdat goes to

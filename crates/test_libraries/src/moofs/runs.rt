@@ -158,8 +158,8 @@ fn single_of(
     single
 }
 
-/// A run of V1's common flags: its track, time and end; its place, bytes and trun; its count, and that of the next run; the
-/// sizes of its first sample and of its last.
+/// A run of V1's common flags: its track, time and end; its place, bytes and trun; its count, and that of the next run;
+/// the sizes of its first sample and of its last.
 fn common_run(
     track: u32,
     (time, end): (u64, u64),

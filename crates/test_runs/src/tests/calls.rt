@@ -89,9 +89,9 @@ fn repeated(alloc: Global, front: &[u8], bytes: &[u8], times: u32) -> Result<Vec
     Ok(all)
 }
 
-/// The program reads a stream by as many bytes as it has room for. Of what it gathers 16,384 bytes may wait, and slices of
-/// 4,096 and more are sent by themselves where they don't fit: so two writes take more than these 16,384, and one goes with the end
-/// of each read.
+/// The program reads a stream by as many bytes as it has room for. Of what it gathers 16,384 bytes may wait, and slices
+/// of 4,096 and more are sent by themselves where they don't fit: so two writes take more than these 16,384, and one
+/// goes with the end of each read.
 fn check_calls(
     rt: &impl Abort,
     alloc: Global,

@@ -134,8 +134,8 @@ fn at(rule: Rule, kind: Option<&[u8; 4]>, offset: u64) -> Option<Fault> {
     Some(Fault { rule, kind, offset })
 }
 
-/// Of the first bytes of the first vector: how many bytes must have been written, how many are held, and the fault of a stream
-/// that ends here.
+/// Of the first bytes of the first vector: how many bytes must have been written, how many are held, and the fault of a
+/// stream that ends here.
 fn due(k: usize) -> (usize, u64, Option<Fault>) {
     let written = due_of_split(k);
     let held = match k {
@@ -404,8 +404,8 @@ impl Pair {
     }
 }
 
-/// The first vector is pushed to one Feeder until its table is held, then to another as a whole, and then the rest to the first:
-/// what the other answers, and how many bytes it must have written.
+/// The first vector is pushed to one Feeder until its table is held, then to another as a whole, and then the rest to
+/// the first: what the other answers, and how many bytes it must have written.
 fn check_limit(
     rt: &impl Abort,
     alloc: Global,

@@ -1,5 +1,5 @@
-//! Payloads of a length that their fields don't have. A moof is read in three ways, and each must refuse them: in a straight
-//! line where it has just one traf and one trun, in one pass over its boxes, and rule by rule.
+//! Payloads of a length that their fields don't have. A moof is read in three ways, and each must refuse them: in a
+//! straight line where it has just one traf and one trun, in one pass over its boxes, and rule by rule.
 
 use super::fragments::check_fault;
 use super::layouts::{MFHD, TFHD};
@@ -204,7 +204,8 @@ impl Part {
 }
 
 impl Way {
-    /// A moof of these boxes. With a second traf it isn't read in a straight line, and with one without tfdt not in one pass.
+    /// A moof of these boxes. With a second traf it isn't read in a straight line, and with one without tfdt not in one
+    /// pass.
     fn moof(self, alloc: Global, mfhd: &[u8], traf: &[u8]) -> Result<Vec<u8>, AllocError> {
         let timed = boxed(alloc, b"traf", TFHD, &V1.as_slice()[412..428], b"")?;
         let untimed = boxed(alloc, b"traf", TFHD, b"", b"")?;

@@ -67,7 +67,8 @@ fn free_space_in_a_moof(rt: HostRuntime) -> Result<(), Fail> {
     Ok(())
 }
 
-/// The second of two sample entries, and other samples than those of the trex: 500 ticks long, of 6 bytes, and no sync samples.
+/// The second of two sample entries, and other samples than those of the trex: 500 ticks long, of 6 bytes, and no sync
+/// samples.
 #[test]
 fn defaults_of_a_tfhd(rt: HostRuntime) -> Result<(), Fail> {
     let (alloc, v1) = (rt.alloc(), V1.as_slice());

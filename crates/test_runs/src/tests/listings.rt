@@ -140,8 +140,8 @@ fn nested_boxes(rt: HostRuntime) -> Result<(), Fail> {
         &[FTYP, MOOV, "moof 64 @364\n", SEVEN],
         "",
     )?;
-    let eight =
-        b"\0\0\0\x40traf\0\0\0\x38traf\0\0\0\x30traf\0\0\0\x28traf\0\0\0\x20traf\0\0\0\x18traf\0\0\0\x10traf\0\0\0\x08traf";
+    let eight = b"\0\0\0\x40traf\0\0\0\x38traf\0\0\0\x30traf\0\0\0\x28traf\
+          \0\0\0\x20traf\0\0\0\x18traf\0\0\0\x10traf\0\0\0\x08traf";
     check_rows(
         &rt,
         rt.alloc(),

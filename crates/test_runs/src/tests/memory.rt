@@ -57,7 +57,8 @@ fn limits(rt: HostRuntime) -> Result<(), Fail> {
     )
 }
 
-/// Lists the samples of a stream and checks it under a limit: its lines and its counts, or none where the limit is passed.
+/// Lists the samples of a stream and checks it under a limit: its lines and its counts, or none where the limit is
+/// passed.
 fn check_listings(
     rt: &impl Abort,
     alloc: Global,
@@ -77,8 +78,8 @@ fn check_listings(
     check_words(rt, alloc, &check, &[stream], status, &[counts], fault)
 }
 
-/// Each claim of the commands that read fragments, one byte too large and just small enough: the bytes that are read into, the moov
-/// of 344 bytes with the table of its track, and the moof of 496 with the list of its runs.
+/// Each claim of the commands that read fragments, one byte too large and just small enough: the bytes that are read
+/// into, the moov of 344 bytes with the table of its track, and the moof of 496 with the list of its runs.
 #[test]
 fn limits_of_listings(rt: HostRuntime) -> Result<(), Fail> {
     let alloc = rt.alloc();
@@ -147,7 +148,8 @@ fn peaks(rt: HostRuntime) -> Result<(), Fail> {
     Ok(())
 }
 
-/// A moof that states a byte more than it may have isn't claimed: the peak is that of the moov and the table of its track.
+/// A moof that states a byte more than it may have isn't claimed: the peak is that of the moov and the table of its
+/// track.
 #[test]
 fn peaks_of_a_refused_moof(rt: HostRuntime) -> Result<(), Fail> {
     let alloc = rt.alloc();

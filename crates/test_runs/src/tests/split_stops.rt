@@ -65,7 +65,8 @@ pub(super) fn before_a_large_moof(alloc: Global) -> Result<Vec<u8>, AllocError> 
     joined(alloc, &[V1.as_slice(), &large[364.min(large.len())..]])
 }
 
-/// Recuts a stream under a limit that is too little, by reads of so many bytes: what is written, and how many fragments are counted.
+/// Recuts a stream under a limit that is too little, by reads of so many bytes: what is written, and how many fragments
+/// are counted.
 fn check_refused(
     rt: &impl Abort,
     alloc: Global,
@@ -103,7 +104,8 @@ fn fragments_before_a_refused_claim(rt: HostRuntime) -> Result<(), Fail> {
     Ok(())
 }
 
-/// Recuts a stream under a limit: so many bytes must be written, and where these aren't all of the 627, the limit was passed.
+/// Recuts a stream under a limit: so many bytes must be written, and where these aren't all of the 627, the limit was
+/// passed.
 fn check_limit(
     rt: &impl Abort,
     alloc: Global,

@@ -8,8 +8,8 @@ pub(super) const SYNC: u32 = 0x0200_0000;
 
 pub(super) const OTHER: u32 = 0x0101_0000;
 
-/// A fragment that must be written: its number, its track, its decode time, how long its samples are, the size and the flags
-/// of each, and their bytes.
+/// A fragment that must be written: its number, its track, its decode time, how long its samples are, the size and the
+/// flags of each, and their bytes.
 #[derive(Clone, Copy)]
 pub(super) struct Wanted<'a> {
     pub(super) number: u32,

@@ -6,4 +6,4 @@ pub returns : goal.returns
 unfolding mdat_header
 returns g c =
     let long : mdat_header c.args.bytes ≡ c.as_slice.result.now = search rules in
-    rw long c.put.ensures
+    rw long c.put.ensures.puts

@@ -21,7 +21,7 @@ returns-in-Err g c =
     let moof = written_moof (piece_of c.args.moof_bytes.now c.args.run.now c.args.piece.now) c.args.run.now c.args.moof_bytes.now c.args.sequence_number in
     HasFailed-front c.whole-front.result samples moof
     (ap (λ (x : List ℕ). x ++ samples) (c.whole-front.ensures ∙ c.moof_front.ensures.bytes) ∙ sym (front_is c.args.moof_bytes.now c.args.run.now c.args.piece.now c.args.sequence_number c.requires.piece))
-    c.in-Err.ensures
+    c.in-Err.ensures.puts
 
 pub returns-then-piece-eq1 : goal.returns-then-piece-eq1
 returns-then-piece-eq1 g c =
@@ -35,7 +35,7 @@ returns-then-piece-eq1 g c =
     let same : c.sample_bytes.result ≡ samples = c.sample_bytes.ensures ∙ one_sample moof_bytes run piece c.row.result c.requires.piece one (c.row.ensures ∙ ap (row_of run moof_bytes) (omega arith)) in
     let whole = ap (λ (x : List ℕ). front ++ x) same
     ∙ (ap (λ (x : List ℕ). x ++ samples) (c.whole-front.ensures ∙ c.moof_front.ensures.bytes) ∙ sym (front_is moof_bytes run piece c.args.sequence_number c.requires.piece)) in
-    Puts-then c.in-Ok.ensures _ _ _ c.sample_bytes.result moof whole c.put_array-then-piece-eq1.result c.put_array-then-piece-eq1.ensures
+    Puts-then c.in-Ok.ensures.puts _ _ _ c.sample_bytes.result moof whole c.put_array-then-piece-eq1.result c.put_array-then-piece-eq1.ensures.puts
 
 pub returns-in-Some : goal.returns-in-Some
 returns-in-Some g c =
@@ -45,7 +45,7 @@ returns-in-Some g c =
     let same : c.in-Some.groups.now ≡ samples = search rules in
     let whole = ap (λ (x : List ℕ). front ++ x) same
     ∙ (ap (λ (x : List ℕ). x ++ samples) (c.whole-front.ensures ∙ c.moof_front.ensures.bytes) ∙ sym (front_is c.args.moof_bytes.now c.args.run.now c.args.piece.now c.args.sequence_number c.requires.piece)) in
-    Puts-then c.in-Ok.ensures _ _ _ c.in-Some.groups.now moof whole c.put_groups.result c.put_groups.ensures.puts
+    Puts-then c.in-Ok.ensures.puts _ _ _ c.in-Some.groups.now moof whole c.put_groups.result c.put_groups.ensures.puts
 
 pub returns : goal.returns
 returns g c =
@@ -53,4 +53,4 @@ returns g c =
     let samples = flat_map sample_bytes (take c.args.piece.now.count c.rows_from-rows.result) in
     let whole = moof_is_put c.args.moof_bytes.now c.args.run.now c.args.piece.now c.args.sequence_number c.whole-front.result c.moof_front.result c.cursor.result c.rows_from-rows.result
     c.requires.piece c.whole-front.ensures c.moof_front.ensures.bytes c.cursor.ensures c.rows_from-rows.ensures in
-    Puts-then c.in-Ok.ensures _ _ _ samples moof whole c.put_samples.result c.put_samples.ensures
+    Puts-then c.in-Ok.ensures.puts _ _ _ samples moof whole c.put_samples.result c.put_samples.ensures

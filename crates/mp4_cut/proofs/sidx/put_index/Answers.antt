@@ -23,7 +23,7 @@ returns-in-Err g c =
     let index = written_index c.args.run.now c.args.timescale group in
     HasFailed-front c.as_slice.result.now (flat_map reference_bytes group) index
     (ap (λ (x : List ℕ). x ++ flat_map reference_bytes group) (c.as_slice.ensures ∙ c.index_front-front.ensures) ∙ sym (index_is c.args.run.now c.args.timescale c.args.first.now c.args.count group c.requires.group.begins c.requires.group.all))
-    c.in-Err.ensures
+    c.in-Err.ensures.puts
 
 pub returns : goal.returns
 returns g c =
@@ -32,4 +32,4 @@ returns g c =
     let references = flat_map reference_bytes (take c.args.count c.at-pieces.result) in
     let whole = index_is_put c.args.cut.now c.args.moof_bytes.now c.args.run.now c.args.timescale c.args.first.now c.args.count c.as_slice.result.now c.index_front-front.result c.start_of.result c.at-pieces.result
     c.requires.group c.as_slice.ensures c.index_front-front.ensures c.start_of.ensures c.at-pieces.ensures in
-    Puts-then c.in-Ok.ensures _ _ _ references index whole c.put_references.result c.put_references.ensures
+    Puts-then c.in-Ok.ensures.puts _ _ _ references index whole c.put_references.result c.put_references.ensures

@@ -17,7 +17,7 @@ loop-left-preserved g c =
     let text = c.loop-left.invariant.text in
     record {
       text = text ++ c.reference_bytes.result;
-      put = HasPut-then c.loop-left.invariant.put c.in-Ok.ensures;
+      put = HasPut-then c.loop-left.invariant.put c.in-Ok.ensures.puts;
       left = next_put reference_bytes c.loop-left.left c.in-Some.piece c.next.new.self c.loop-left.pieces text c.reference_bytes.result (flat_map reference_bytes (take c.args.count c.args.pieces.now)) (omega arith) c.in-Some.ensures.steps c.reference_bytes.ensures c.loop-left.invariant.left;
       room = (first_fits c.loop-left.left c.in-Some.piece c.next.new.self c.loop-left.pieces (omega arith) c.in-Some.ensures.steps c.loop-left.invariant.room).others;
     }
@@ -28,4 +28,4 @@ returns-in-Err g c =
     let all = flat_map reference_bytes (take c.args.count c.args.pieces.now) in
     HasFailed-front (text ++ c.reference_bytes.result) (flat_map reference_bytes (take (c.loop-left.left - 1) c.next.new.self)) all
     (next_put reference_bytes c.loop-left.left c.in-Some.piece c.next.new.self c.loop-left.pieces text c.reference_bytes.result all (omega arith) c.in-Some.ensures.steps c.reference_bytes.ensures c.loop-left.invariant.left)
-    (HasFailed-then c.loop-left.invariant.put c.in-Err.ensures)
+    (HasFailed-then c.loop-left.invariant.put c.in-Err.ensures.puts)

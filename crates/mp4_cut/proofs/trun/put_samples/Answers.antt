@@ -11,7 +11,7 @@ loop-left-preserved g c =
     let text = c.loop-left.invariant.text in
     record {
       text = text ++ c.sample_bytes.result;
-      put = HasPut-then c.loop-left.invariant.put c.in-Ok.ensures;
+      put = HasPut-then c.loop-left.invariant.put c.in-Ok.ensures.puts;
       left = next_put sample_bytes c.loop-left.left c.in-Some.row c.next.new.self c.loop-left.rows text c.sample_bytes.result (flat_map sample_bytes (take c.args.count c.args.rows.now)) (omega arith) c.in-Some.ensures.steps c.sample_bytes.ensures c.loop-left.invariant.left;
     }
 
@@ -21,4 +21,4 @@ returns-in-Err g c =
     let all = flat_map sample_bytes (take c.args.count c.args.rows.now) in
     HasFailed-front (text ++ c.sample_bytes.result) (flat_map sample_bytes (take (c.loop-left.left - 1) c.next.new.self)) all
     (next_put sample_bytes c.loop-left.left c.in-Some.row c.next.new.self c.loop-left.rows text c.sample_bytes.result all (omega arith) c.in-Some.ensures.steps c.sample_bytes.ensures c.loop-left.invariant.left)
-    (HasFailed-then c.loop-left.invariant.put c.in-Err.ensures)
+    (HasFailed-then c.loop-left.invariant.put c.in-Err.ensures.puts)

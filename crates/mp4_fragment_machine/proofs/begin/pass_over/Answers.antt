@@ -22,13 +22,13 @@ returns-then-is_dropped g c = λ account can.
 pub returns-in-Ok : goal.returns-in-Ok
 returns-in-Ok g c = λ account can.
     let carried : is_dropped c.args.header.now.kind.0 ≡ false = sym c.is_dropped.ensures ∙ c.if-is_dropped.false in
-    c.copy.ensures (borrowed g.W.Sink.contents g.W.Sink.has_failed c.args.w.now c.put.new.w c.args.out.now c.put.new.self account account) c.args.carried.now c.args.header_bytes.now can refl c.in-Ok.ensures.unfailed (λ b. rw (c.in-Split.is, carried) refl) c.in-Ok.ensures.passes
+    c.copy.ensures (borrowed g.W.Sink.contents g.W.Sink.has_failed c.args.w.now c.put.new.w c.args.out.now c.put.new.self account account) c.args.carried.now c.args.header_bytes.now can refl c.in-Ok.ensures.puts.unfailed (λ b. rw (c.in-Split.is, carried) refl) c.in-Ok.ensures.puts.passes
 
 pub returns-in-Err : goal.returns-in-Err
 returns-in-Err g c = λ account can.
     let k = c.args.carried.now in
     let carried : is_dropped c.args.header.now.kind.0 ≡ false = sym c.is_dropped.ensures ∙ c.if-is_dropped.false in
-    let put = c.in-Err.ensures in
+    let put = c.in-Err.ensures.puts in
     record {
       step = record {
         stops = λ more later. WriteFailed-copy (operation_meaning k.operation) (environment (g.W.Sink.contents c.args.w.now) c.args.out.now account k.counter.tally) c.args.at (number_in k.operation k.counter.tally) k.tracks c.args.header.now c.args.header_bytes.now can.len can.is c.requires.end c.requires.other (λ b. rw (c.in-Split.is, carried) refl) c.requires.room

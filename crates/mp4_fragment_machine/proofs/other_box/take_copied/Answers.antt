@@ -28,7 +28,7 @@ returns-in-Err g c = λ carried account may.
     let number = number_in carried.operation tally in
     let place = in_extent (λ x. says x) body.at body.kind carried.tracks number body.left table body.extent in
     let low : table ≤ account.live = subst (λ m. m ≤ account.live) (claim_in (λ x. says x) body.at body.kind carried.tracks number body.left table body.extent) can.claim in
-    let put = rw c.split_at.ensures.front at c.in-Err.ensures in
+    let put = rw c.split_at.ensures.front at c.in-Err.ensures.puts in
     record {
       step = record {
         stops = λ more later. subst (λ l. WriteFailed (environment a c.args.out.now account tally) (environment b c.put.new.self (given_back account table) tally) (claim_of place) (reads_at meaning place l)) (sym (append_assoc input more later))
@@ -50,7 +50,7 @@ returns-in-Err-take g c = λ carried account may.
     let body = c.args.body in
     let far = c.in-Err-take.ensures in
     let same : c.min-most.result ≡ body.left = omega (arith, c.min-most.ensures, far.far) in
-    let put = rw (c.split_at.ensures.front, same) at c.in-Ok.ensures in
+    let put = rw (c.split_at.ensures.front, same) at c.in-Ok.ensures.puts in
     let table = table_of carried.tracks in
     let number = number_in carried.operation carried.counter.tally in
     let low : table ≤ account.live = subst (λ m. m ≤ account.live) (claim_in (λ x. says x) body.at body.kind carried.tracks number body.left table body.extent) can.claim in
@@ -88,7 +88,7 @@ returns-in-Some g c = λ carried account may.
     let number = number_in carried.operation tally in
     let next = context next_at carried.tracks number in
     let most : c.min-most.result ≡ n = omega (arith, c.min-most.ensures, came.taken) in
-    let put = rw (c.split_at.ensures.front, most) at c.in-Ok.ensures in
+    let put = rw (c.split_at.ensures.front, most) at c.in-Ok.ensures.puts in
     let low : table ≤ account.live = subst (λ m. m ≤ account.live) (claim_in (λ x. says x) body.at body.kind carried.tracks number body.left table body.extent) can.claim in
     let passed = GoesOn-copied meaning body.at body.kind a b c.args.out.now c.put.new.self account tally carried.tracks number body.left table n body.extent input (omega (arith, came.taken)) (omega (arith, came.taken)) is.1.within put.passes in (
       some_taken body.left (length input) n body.extent is.1.more came.all came.taken may.some,
@@ -118,7 +118,7 @@ returns-in-None g c = λ carried account may.
     let table = table_of carried.tracks in
     let number = number_in carried.operation tally in
     let most : c.min-most.result ≡ n = omega (arith, c.min-most.ensures, came.taken) in
-    let put = rw (c.split_at.ensures.front, most) at c.in-Ok.ensures in
+    let put = rw (c.split_at.ensures.front, most) at c.in-Ok.ensures.puts in
     let low : table ≤ account.live = subst (λ m. m ≤ account.live) (claim_in (λ x. says x) body.at body.kind carried.tracks number body.left table body.extent) can.claim in (
       some_taken body.left (length input) n body.extent is.1.more came.all came.taken may.some,
       omega (arith, came.taken),

@@ -37,8 +37,8 @@ pub returns-in-Err-clause-copies : goal.returns-in-Err-clause-copies
 returns-in-Err-clause-copies g c =
     let ps = fragments_left c.args.cut_moof.now.cut.now c.args.cut_moof.now.moof.now c.args.cut_moof.now.tracks.now (c.args.fragments.now + 1) c.args.media.now.later in
     record {
-      cut_short = λ later. output_from-cut_short c.args.at c.args.media.now.copy_span ps c.min-n-2.result c.args.input.now (search rules) (search rules) (search rules) (search rules) _ _ _ _ later _ (rw (← c.split_at.ensures.front) c.in-Err.ensures.breaks);
-      failed = c.in-Err.ensures.failed;
+      cut_short = λ later. output_from-cut_short c.args.at c.args.media.now.copy_span ps c.min-n-2.result c.args.input.now (search rules) (search rules) (search rules) (search rules) _ _ _ _ later _ (rw (← c.split_at.ensures.front) c.in-Err.ensures.puts.breaks);
+      failed = c.in-Err.ensures.puts.failed;
     }
 
 pub returns-in-Ok-write_ready_in-clause-copies : goal.returns-in-Ok-write_ready_in-clause-copies
@@ -52,10 +52,10 @@ returns-in-Ok-write_ready_in-clause-copies g c =
       search rules,
       record {
         outputs = Outputs-copy_taken c.args.at copy_span ps n c.args.input.now (search rules) (search rules) (search rules) (search rules) c.args.fragments.now c.write_ready_in.new.fragments c.write_ready_in.new.media.copy_span new
-            (rw (← c.split_at.ensures.front) c.in-Ok.ensures.passes) no_head_ready.outputs;
+            (rw (← c.split_at.ensures.front) c.in-Ok.ensures.puts.passes) no_head_ready.outputs;
         rises = λ end within r. no_head_ready.rises (c.args.at + n) end (rises-copies c.args.at end copy_span.place copy_span.left n ps (search rules) (search rules) (search rules) r);
         next = record { no_head_ready = no_head_ready.next.no_head_ready; at = no_head_ready.next.at; numbers = no_head_ready.next.numbers };
-        unfailed = no_head_ready.unfailed ∙ c.in-Ok.ensures.unfailed;
+        unfailed = no_head_ready.unfailed ∙ c.in-Ok.ensures.puts.unfailed;
       },
     )
 
@@ -64,6 +64,6 @@ returns-in-Err-write_ready_in-clause-copies g c =
     let ps = fragments_left c.args.cut_moof.now.cut.now c.args.cut_moof.now.moof.now c.args.cut_moof.now.tracks.now (c.args.fragments.now + 1) c.args.media.now.later in
     record {
       cut_short = λ later. output_from-stopped c.args.at c.args.media.now.copy_span ps c.min-n-2.result c.args.input.now (search rules) (search rules) (search rules) (search rules) _ _ _ _ _ _ later c.args.fragments.now c.write_ready_in.new.fragments
-          (rw (← c.split_at.ensures.front) c.in-Ok.ensures.passes) c.in-Err-write_ready_in.ensures.writes_heads.cut_short;
+          (rw (← c.split_at.ensures.front) c.in-Ok.ensures.puts.passes) c.in-Err-write_ready_in.ensures.writes_heads.cut_short;
       failed = c.in-Err-write_ready_in.ensures.writes_heads.failed;
     }

@@ -44,8 +44,8 @@ returns-in-Ok g c = λ account can.
     let o = environment (g.W.Sink.contents c.args.w.now) c.args.out.now account k.counter.tally in (
       box_some meaning c.args.at number k.tracks input b c.requires.is,
       c.requires.is.whole,
-      GoesTo-box c.args.at input b c.requires.is c.requires.empty can refl c.in-Ok.ensures.unfailed
-          (GoesOn-copied_box meaning c.args.at number k.tracks input b c.requires.is o (g.W.Sink.contents c.put.new.w) c.put.new.self (λ l. rw (c.in-Split.is, copied) refl) c.in-Ok.ensures.passes),
+      GoesTo-box c.args.at input b c.requires.is c.requires.empty can refl c.in-Ok.ensures.puts.unfailed
+          (GoesOn-copied_box meaning c.args.at number k.tracks input b c.requires.is o (g.W.Sink.contents c.put.new.w) c.put.new.self (λ l. rw (c.in-Split.is, copied) refl) c.in-Ok.ensures.puts.passes),
     )
 
 pub returns-in-Err : goal.returns-in-Err
@@ -56,6 +56,6 @@ returns-in-Err g c = λ account can.
     let input = c.args.input.now in
     let b = c.args.span.now in
     let copied : is_dropped b.kind.0 ≡ false = sym c.is_dropped.ensures ∙ c.if-is_dropped.false in
-    let put = c.in-Err.ensures in
+    let put = c.in-Err.ensures.puts in
     let o = environment (g.W.Sink.contents c.args.w.now) c.args.out.now account k.counter.tally in
     record { step = record { stops = λ more later. rw c.requires.empty (WriteFailed-box meaning c.args.at number k.tracks input b c.requires.is o (g.W.Sink.contents c.put.new.w) c.put.new.self (λ l. rw (c.in-Split.is, copied) refl) put.breaks can.claim more later); failed = λ _. put.failed; unfailed = λ other. absurd (other refl) }; operation = refl; tracks = refl; empty = c.requires.empty; left = can.claim; counted = counted_stop k.operation k.counter c.args.at can.counted }

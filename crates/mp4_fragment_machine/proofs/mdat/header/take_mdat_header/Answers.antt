@@ -1,4 +1,4 @@
-use Rattle.std.proofs.Common.{◌≡◌, ◌+◌, ◌++◌, Some, arith, refl, take}
+use Rattle.std.proofs.Common.{◌≡◌, ◌∙◌, ◌+◌, ◌++◌, Some, arith, refl, sym, take}
 use Rattle.mp4_machine.proofs.InputLemmas.{GoesOn-none}
 use Rattle.mp4_machine.specs.Inputs.{environment}
 use Rattle.mp4_frag.specs.Moofs.{moof_samples}
@@ -9,6 +9,7 @@ use Rattle.mp4_fragment_machine.proofs.BodyLemmas.{claimed_apart}
 use Rattle.mp4_fragment_machine.proofs.CountLemmas.{counted_unlisted}
 use Rattle.mp4_fragment_machine.proofs.StepLemmas.{GoesTo-then, StopsIn-then, accepts_mdat_header}
 use Rattle.mp4_fragment_machine.proofs.mdat.header.take_mdat_header.Goals as goal
+use Rattle.mp4_fragment_machine.proofs.mdat.header.take_mdat_header.Goals.{in-List, in-Split}
 
 pub returns-in-More : goal.returns-in-More
 returns-in-More g c =
@@ -37,9 +38,15 @@ returns-in-BadSize g c =
 pub returns-in-Ok : goal.returns-in-Ok
 returns-in-Ok g c =
     let all = c.in-Complete.ensures.0 in
-    (all.some, all.most, GoesTo-then (accepts_mdat_header c.args.carried.now c.args.pending_moof c.requires.state.1 c.requires.can.claim all.are) (rw c.bytes.ensures at c.in-Ok.ensures))
+    elim c.match-carried.branch [
+      | in-List w ↦ rw (w.w-is, w.out-is, w.ledger-is, w.carried-is) (all.some, all.most, GoesTo-then (accepts_mdat_header c.args.carried.now c.args.pending_moof c.requires.state.1 c.requires.can.claim all.are) (rw (c.bytes-head.ensures, sym w.begun-is ∙ c.in-Ok.is) at w.begin_listed-begun.ensures))
+      | in-Split w ↦ rw (w.w-is, w.out-is, w.ledger-is, w.carried-is) (all.some, all.most, GoesTo-then (accepts_mdat_header c.args.carried.now c.args.pending_moof c.requires.state.1 c.requires.can.claim all.are) (rw (c.bytes-head.ensures, sym w.begun-is ∙ c.in-Ok.is) at w.begin_media-begun.ensures))
+    ]
 
 pub returns-in-Err : goal.returns-in-Err
 returns-in-Err g c =
     let all = c.in-Complete.ensures.0 in
-    StopsIn-then c.in-Complete.count c.args.input.now (accepts_mdat_header c.args.carried.now c.args.pending_moof c.requires.state.1 c.requires.can.claim all.are) (rw c.bytes.ensures at c.in-Err.ensures)
+    elim c.match-carried.branch [
+      | in-List w ↦ rw (w.w-is, w.out-is, w.ledger-is, w.carried-is) (StopsIn-then c.in-Complete.count c.args.input.now (accepts_mdat_header c.args.carried.now c.args.pending_moof c.requires.state.1 c.requires.can.claim all.are) (rw (c.bytes-head.ensures, sym w.begun-is ∙ c.in-Err.is) at w.begin_listed-begun.ensures))
+      | in-Split w ↦ rw (w.w-is, w.out-is, w.ledger-is, w.carried-is) (StopsIn-then c.in-Complete.count c.args.input.now (accepts_mdat_header c.args.carried.now c.args.pending_moof c.requires.state.1 c.requires.can.claim all.are) (rw (c.bytes-head.ensures, sym w.begun-is ∙ c.in-Err.is) at w.begin_media-begun.ensures))
+    ]

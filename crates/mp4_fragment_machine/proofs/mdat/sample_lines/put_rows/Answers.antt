@@ -27,7 +27,7 @@ returns-in-Err g c =
     let all = sample_lines (samples_from c.args.run.now c.args.rows.now c.args.from.time c.args.from.place) in
     HasFailed-front (text ++ line) (sample_lines (samples_from c.args.run.now rest (past at row).time (past at row).place)) all
     (next_line c.args.run.now row rest c.loop-row.rows at text line all c.in-Some.ensures.steps (ap sample_line c.sample_at.ensures) c.loop-row.invariant.left)
-    (HasFailed-then c.loop-row.invariant.put c.in-Err.ensures)
+    (HasFailed-then c.loop-row.invariant.put c.in-Err.ensures.puts)
 
 pub loop-row-preserved : goal.loop-row-preserved
 loop-row-preserved g c =
@@ -39,7 +39,7 @@ loop-row-preserved g c =
     let all = sample_lines (samples_from c.args.run.now c.args.rows.now c.args.from.time c.args.from.place) in
     record {
       text = text ++ line;
-      put = HasPut-then c.loop-row.invariant.put c.in-Ok.ensures;
+      put = HasPut-then c.loop-row.invariant.put c.in-Ok.ensures.puts;
       left = rw c.past-at.ensures (next_line c.args.run.now row rest c.loop-row.rows at text line all c.in-Some.ensures.steps (ap sample_line c.sample_at.ensures) c.loop-row.invariant.left);
       room = rw c.past-at.ensures (room_on at row rest c.loop-row.rows c.in-Some.ensures.steps c.loop-row.invariant.room);
     }

@@ -22,7 +22,7 @@ returns-in-Err g c =
     let here : c.loop-i.i < length tracks = omega (arith, c.loop-i-test.true, c.len.ensures.len) in
     HasFailed-front (text ++ put) (track_lines (drop (c.loop-i.i + 1) tracks)) (track_lines tracks)
     (line_at (λ (t : Track). track_line (listed_track t)) tracks c.loop-i.i c.at.result text put (track_lines tracks) here c.at.ensures (ap track_line c.of.ensures) c.loop-i.invariant.left)
-    (HasFailed-then c.loop-i.invariant.put c.in-Err.ensures)
+    (HasFailed-then c.loop-i.invariant.put c.in-Err.ensures.puts)
 
 pub loop-i-preserved : goal.loop-i-preserved
 loop-i-preserved g c =
@@ -33,7 +33,7 @@ loop-i-preserved g c =
     record {
       within = omega (arith, here);
       text = text ++ put;
-      put = HasPut-then c.loop-i.invariant.put c.in-Ok.ensures;
+      put = HasPut-then c.loop-i.invariant.put c.in-Ok.ensures.puts;
       left = line_at (λ (t : Track). track_line (listed_track t)) tracks c.loop-i.i c.at.result text put (track_lines tracks) here c.at.ensures (ap track_line c.of.ensures) c.loop-i.invariant.left;
     }
 

@@ -3,8 +3,8 @@ use Rattle.mp4_machine.proofs.MarkLemmas.{within_more}
 use Rattle.mp4_machine.proofs.PutLemmas.{HasFailed-longer}
 use Rattle.mp4_machine.proofs.block.Block.put_line.Goals as goal
 
-pub returns-in-Err : goal.returns-in-Err
-returns-in-Err g c = HasFailed-longer _ [] c.in-Err.ensures.puts
+pub returns-in-Err-clause-puts : goal.returns-in-Err-clause-puts
+returns-in-Err-clause-puts g c = HasFailed-longer _ [] c.in-Err.ensures.puts
 
 pub invariant_of-self : goal.invariant_of-self
 invariant_of-self g c = within_more (length c.self-2.inside.waiting) (length c.push.new.block) c.self-2.inside.ends.items (omega (arith, ap length c.push.ensures, length-append c.self-2.inside.waiting (g.L.Line.text c.args.line.now))) c.self-2.invariant

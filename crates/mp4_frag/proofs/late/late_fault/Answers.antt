@@ -4,7 +4,7 @@ use Rattle.mp4_box.specs.Trees.{view}
 use Rattle.mp4_frag.specs.Moofs.{moof_trafs, time_faults}
 use Rattle.mp4_frag.proofs.EarlyLemmas.{none_least}
 use Rattle.mp4_frag.proofs.MoofLemmas.{moof_is, times_along}
-use Rattle.mp4_frag.proofs.moof.late_fault.Goals as goal
+use Rattle.mp4_frag.proofs.late.late_fault.Goals as goal
 
 pub returns : goal.returns
 returns c =
