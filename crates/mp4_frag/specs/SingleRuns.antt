@@ -11,7 +11,8 @@ use Rattle.mp4_traf.specs.Settling.{settled}
 use Rattle.mp4_traf.specs.declared.rows.Steps.{Steps}
 use Rattle.mp4_frag.specs.declared.single_run.SingleRun.{SingleRun}
 
--- the moof was read with these tracks, has one traf, and in it just this run, after which the track at its index ends
+-- the moof was read with these tracks, and has this sequence_number and one traf, and in it just this run, after which the track at its
+-- index ends
 pub record IsSingle (h : MoofBytes) (tracks : List Track) (l : SingleRun) : Type 0 where
   pub read : IsRead h tracks
   pub traf : length (moof_trafs h tracks) ≡ 1

@@ -12,7 +12,7 @@ use mp4_box::Fault;
 use mp4_init::TrackList;
 use mp4_traf::{Run, Steps};
 
-/// The only run of a moof, the index of its track among the tracks, and the number of the moof.
+/// The only run of a moof, the index of its track among the tracks, and the sequence_number of the moof.
 #[derive(Clone, Copy, Debug)]
 pub struct SingleRun {
     /// The run.

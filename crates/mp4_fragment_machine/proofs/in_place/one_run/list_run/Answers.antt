@@ -7,7 +7,7 @@ use Rattle.mp4_grammar.specs.Contexts.{context}
 use Rattle.mp4_grammar.specs.declared.command.Command.TheVariants.{Fragments, Records}
 use Rattle.mp4_grammar.specs.Items.{fragment}
 use Rattle.mp4_fragment_machine.proofs.FragmentLineLemmas.{lines_by, listed_is, size_stated}
-use Rattle.mp4_fragment_machine.proofs.FragmentLemmas.{counted_in_place, single_text, media_fits, moof_whole, run_is}
+use Rattle.mp4_fragment_machine.proofs.FragmentLemmas.{counted_in_place, single_text, media_fits, run_is}
 use Rattle.mp4_fragment_machine.proofs.in_place.one_run.list_run.Goals as goal
 
 pub count-requires-clause-media : goal.count-requires-clause-media
