@@ -1,6 +1,14 @@
 -- How steps compose, and what bytes that came before change of a step.
-use Rattle.std.proofs.Common.{◌≡◌, ℕ, ◌+◌, ◌-◌, ◌<◌, ◌≤◌, Bool, List, [], ◌++◌, length, min, take, Option, Result, Ok, Err, ap, refl, ◌∙◌, arith}
-use Rattle.mp4_box.specs.Headers.{need}
+use Rattle.std.proofs.Common.{◌≡◌, ℕ, ◌+◌, ◌-◌, ◌<◌, ◌≤◌, Bool, List, [], ◌++◌, length, min, take, Option, Some, Result, Ok, Err, ap, refl, ◌∙◌, arith}
+use Rattle.mp4_box.specs.Headers.{header_at, need}
+use Rattle.mp4_box.specs.declared.headers.Header.{Header}
+use Rattle.mp4_box.specs.declared.headers.Step.TheVariants as steps
+use Rattle.mp4_box.specs.declared.rules.Rule.{Rule}
+use Rattle.mp4_machine.specs.Bodies.{at_fault, fault, least_end, longest}
+use Rattle.mp4_machine.specs.Readings.{Last}
+use Rattle.mp4_grammar.specs.Items.{box_in}
+use Rattle.mp4_grammar.specs.Kinds.{kind_in}
+use Rattle.mp4_grammar.specs.declared.kinds.Kind.{Kind}
 use Rattle.mp4_box.specs.declared.rules.Fault.{Fault}
 use Rattle.mp4_box.proofs.HeaderLemmas.{need-least}
 use Rattle.mp4_ledger.specs.Memory.{Account, given_back}
@@ -14,7 +22,7 @@ use Rattle.mp4_recut.specs.Operations.{operation_meaning, number_in}
 use Rattle.mp4_recut.specs.declared.operation.Operation.{Operation}
 use Rattle.mp4_fragment_machine.specs.Places.{Place, claim_of, continuation_at}
 use Rattle.mp4_fragment_machine.specs.States.{HasStopped, IsCounted, IsPendingMoof, most_counted}
-use Rattle.mp4_fragment_machine.specs.Implementation.Steps.{Advances, Borrowed, Consumes, GoesTo, MayTake, StopsIn, at_state, environment_before, environment_stopped, with_head}
+use Rattle.mp4_fragment_machine.specs.Implementation.Steps.{Advances, Borrowed, CanStep, Consumes, GoesTo, MayTake, StopsIn, at_state, borrowed, environment_before, environment_stopped, with_head}
 use Rattle.mp4_fragment_machine.specs.declared.state.Counter.{Counter}
 use Rattle.mp4_fragment_machine.specs.declared.state.Carried.{Carried}
 use Rattle.mp4_fragment_machine.specs.declared.state.State.{State}
@@ -23,7 +31,7 @@ use Rattle.mp4_fragment_machine.specs.declared.state.PendingMoof.{PendingMoof}
 use Rattle.mp4_fragment_machine.specs.declared.state.Taken.{Taken}
 use Rattle.mp4_fragment_machine.proofs.MdatHeaderLemmas.{GoesOn-after_head, claimed_after}
 use Rattle.mp4_fragment_machine.proofs.CountLemmas.{counted_later}
-use Rattle.mp4_fragment_machine.proofs.HeadLemmas.{GoesOn-head}
+use Rattle.mp4_fragment_machine.proofs.HeadLemmas.{GoesOn-head, Refuses-box}
 use Rattle.mp4_fragment_machine.proofs.TakeLemmas.{GoesOn-held}
 use Rattle.mp4_machine.proofs.StepLemmas.{GoesOn-then}
 use Rattle.mp4_machine.proofs.StepLemmas as reading
@@ -128,3 +136,13 @@ held_goes {old = old} b input n may is goes = (omega (arith, may.some, may.state
 pub held_stops : {l : Borrowed} {old new : Carried} (b : BufferedBox) (input : List ℕ) (n : ℕ) {e : Stop} → MayTake input old l.account (states.Buffering b)
     → StopsIn l old new (at_state old (states.Buffering (record b { bytes = b.bytes ++ take n input }))) [] e → Consumes l old new (states.Buffering b) input (Err e)
 held_stops {old = old} b input n may stops = StopsIn-then n input (accepts_held old b may.can.claim) stops
+
+-- a box that may not be here
+pub Advances-refused : {W : Type 0} (contents : W → Option (List ℕ)) (has_failed : W → Bool) (w : W) (out : Pending) (account : Account) (k : Carried) (at : ℕ) (h : Header) (x part : List ℕ) (kind : Kind) (rule : Rule) → part ≡ []
+    → CanStep k account (states.Header at) → length x ≡ need x → header_at x ≡ steps.Whole h → least_end at h h.size ≤ longest → kind_in h.kind.0 ≡ kind
+    → ((number : ℕ) (later : List ℕ) → box_in (operation_meaning k.operation) (context at k.tracks number) h x later kind k.tracks ≡ Last (at_fault rule (Some h.kind) at)) → {result : Result State Stop} → result ≡ Err (Stream (fault rule (Some h.kind) at))
+    → Advances (borrowed contents has_failed w w out out account account) (with_head x k) (record k { header_bytes = part }) (states.Header at) result
+Advances-refused contents has_failed w out account k at h x part kind rule empty can len is near of_kind box e =
+    rw e
+    (StopsIn-refused at refl refl refl empty can.claim can.counted
+    (λ more. Refuses-box (operation_meaning k.operation) (environment (contents w) out account k.counter.tally) at (number_in k.operation k.counter.tally) k.tracks h x len can.claim is more kind rule near of_kind (box (number_in k.operation k.counter.tally))))

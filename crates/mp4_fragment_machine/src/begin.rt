@@ -1,4 +1,4 @@
-//! Begins a box, whose header is whole.
+//! Begins a box whose header is whole: it is held, copied or passed over.
 
 ghost use Rattle.std.specs.Prelude.{◌≡◌, ℕ, ◌≤◌, ◌++◌, [], List, length};
 ghost use Rattle.mp4_box.specs.Headers.{HasRoom, header_at, need};
@@ -22,51 +22,9 @@ use crate::held::hold;
 use crate::state::{Carried, State};
 use mp4_box::{Header, Rule, Size};
 use mp4_ends::{Failed, Sink};
-use mp4_grammar::{Kind, MOST_MOOF, MOST_MOOV, kind_of};
 use mp4_ledger::Ledger;
-use mp4_machine::{AnyBody, Block, BufferedBox, Stop, at_fault, body_of, is_too_long};
+use mp4_machine::{AnyBody, Block, BufferedBox, Stop, at_fault, body_of};
 use mp4_recut::{Operation, is_dropped};
-
-/// The state after the header of the box at `at`, which has these bytes.
-///
-/// # Errors
-///
-/// `Stream` where such a box may not follow here or goes too far, and as [`buffer_on`] and [`pass_over`].
-#[inline(always)]
-pub(crate) fn begin_box<W: Sink>(
-    at: u64,
-    header: &Header,
-    header_bytes: &[u8],
-    carried: &mut Carried,
-    ledger: &mut Ledger,
-    out: &mut Block,
-    w: &mut W,
-) -> Result<State, Stop>
-    requires at { at ≤ longest }
-    requires room { HasRoom header.now.size header.now.header_len }
-    requires len { length header_bytes.now ≡ need header_bytes.now }
-    requires is { header_at header_bytes.now ≡ steps.Whole header.now }
-    requires empty { carried.old.header_bytes ≡ [] }
-    requires can { CanStep carried.old ledger.old (states.Header at) }
-    ensures { Advances (borrowed W.contents W.has_failed w.old w.new out.old out.new ledger.old ledger.new)
-        (with_head header_bytes.now carried.old) carried.new (states.Header at) result }
-{
-    if is_too_long(at, header) {
-        return Err(at_fault(Rule::StreamTooLong, Some(header.kind), at));
-    }
-    match kind_of(header.kind) {
-        Kind::Moov => match carried.tracks {
-            None => buffer_on(at, header, MOST_MOOV, header_bytes, carried, ledger, out, w),
-            Some(_) => Err(at_fault(Rule::SecondMoov, Some(header.kind), at)),
-        },
-        Kind::Moof => match carried.tracks {
-            None => Err(at_fault(Rule::NoMoov, Some(header.kind), at)),
-            Some(_) => buffer_on(at, header, MOST_MOOF, header_bytes, carried, ledger, out, w),
-        },
-        Kind::Mdat => Err(at_fault(Rule::StrayMdat, Some(header.kind), at)),
-        Kind::Other => pass_over(at, header, header_bytes, carried, out, w),
-    }
-}
 
 /// Holds the moov or moof at `at` with this header. Returns the next state.
 ///
@@ -75,7 +33,7 @@ pub(crate) fn begin_box<W: Sink>(
 /// `Stream` where it states no size, or a larger one than it may have; `OverLimit` or `Memory` where the claim is
 /// refused; and as [`hold`].
 #[inline(always)]
-fn buffer_on<W: Sink>(
+pub(crate) fn buffer_on<W: Sink>(
     at: u64,
     header: &Header,
     limit: u64,
@@ -117,7 +75,7 @@ fn buffer_on<W: Sink>(
 /// # Errors
 ///
 /// `Write` where a write failed.
-fn pass_over<W: Sink>(
+pub(crate) fn pass_over<W: Sink>(
     at: u64,
     header: &Header,
     header_bytes: &[u8],
