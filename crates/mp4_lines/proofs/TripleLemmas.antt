@@ -1,5 +1,5 @@
 -- The two tables of the numbers below 1000, which are seen to be right by one walk each.
-use Rattle.std.proofs.Common.{◌≡◌, ◌∙◌, ℕ, zero, suc, ◌+◌, ◌-◌, ◌*◌, ◌/◌, ◌%◌, ◌<◌, ◌≤◌, Bool, true, false, ◌&&◌, T, eqb, List, [], ◌∷◌, length, get_or, take, refl, ap, arith, eqb→eq, subst}
+use Rattle.std.proofs.Common.{◌≡◌, ◌∙◌, ℕ, zero, suc, ◌+◌, ◌*◌, ◌/◌, ◌%◌, ◌<◌, Bool, true, false, ◌&&◌, T, eqb, List, [], ◌∷◌, drop, length, get_or, take, refl, ap, arith, eqb→eq, subst}
 use Rattle.std.proofs.Math.Dec.{ltb}
 use Rattle.std.proofs.lemmas.Bool.{ltb-true, ltb-false}
 use Rattle.std.specs.Fmt.{decimal}
@@ -70,18 +70,37 @@ digits_by false false n a b c d here one two t =
     let last = and_r (eqb a (48 + n / 100)) _ t in
     (rw (eqb→eq a (48 + n / 100) (and_l _ _ t), eqb→eq b (48 + n % 100 / 10) (and_l _ _ last), eqb→eq c (48 + n % 100 % 10) (and_r (eqb b (48 + n % 100 / 10)) _ last), digits) refl, rw digits refl)
 
+-- four bytes of a list
+pub four_at : (k : ℕ) (l : List ℕ) → k + 3 < length l → take 4 (drop k l) ≡ get_or l k 0 ∷ get_or l (k + 1) 0 ∷ get_or l (k + 2) 0 ∷ get_or l (k + 3) 0 ∷ []
+four_at zero [] here = absurd (omega (arith, here))
+four_at zero (a ∷ []) here = absurd (omega (arith, here))
+four_at zero (a ∷ b ∷ []) here = absurd (omega (arith, here))
+four_at zero (a ∷ b ∷ c ∷ []) here = absurd (omega (arith, here))
+four_at zero (a ∷ b ∷ c ∷ d ∷ rest) here = refl
+four_at (suc k) [] here = absurd (omega (arith, here))
+four_at (suc k) (a ∷ l) here =
+    let at : (i : ℕ) → suc k + i ≡ suc (k + i) = λ i. omega arith in
+    rw (at 1, at 2, at 3) (four_at k l (omega (arith, here)))
+
+three : (p : ℕ) → p < 1000 → p * 4 + 3 < 4000
+three p here = omega (arith, here)
+
 -- the two tables
-pub triples : (p : ℕ) → p < 1000 → (get_or DECIMAL_TRIPLES (p * 4) 0 ≡ 48 + p / 100) × (get_or DECIMAL_TRIPLES (p * 4 + 1) 0 ≡ 48 + p % 100 / 10) × (get_or DECIMAL_TRIPLES (p * 4 + 2) 0 ≡ 48 + p % 100 % 10)
+pub triples : (p : ℕ) → p < 1000 → take 4 (drop (p * 4) DECIMAL_TRIPLES) ≡ (48 + p / 100) ∷ (48 + p % 100 / 10) ∷ (48 + p % 100 % 10) ∷ get_or DECIMAL_TRIPLES (p * 4 + 3) 0 ∷ []
 triples p here =
     let t = and_l _ _ (entry_at is_triple DECIMAL_TRIPLES p tt (omega arith)) in
     let rest = and_r (eqb (get_or DECIMAL_TRIPLES (p * 4) 0) (48 + p / 100)) _ t in
-    (eqb→eq _ _ (and_l _ _ t), eqb→eq _ _ (and_l _ _ rest), eqb→eq _ _ (and_r _ _ rest))
+    let first : get_or DECIMAL_TRIPLES (p * 4) 0 ≡ 48 + p / 100 = eqb→eq _ _ (and_l _ _ t) in
+    let second : get_or DECIMAL_TRIPLES (p * 4 + 1) 0 ≡ 48 + p % 100 / 10 = eqb→eq _ _ (and_l _ _ rest) in
+    let third : get_or DECIMAL_TRIPLES (p * 4 + 2) 0 ≡ 48 + p % 100 % 10 = eqb→eq _ _ (and_r _ _ rest) in
+    let four = four_at (p * 4) DECIMAL_TRIPLES (three p here) in
+    rw (four, first, second, third) refl
 
 short : (p : ℕ) → p < 1000 → (take (len_of p) (get_or SHORT_DECIMALS (p * 4) 0 ∷ get_or SHORT_DECIMALS (p * 4 + 1) 0 ∷ get_or SHORT_DECIMALS (p * 4 + 2) 0 ∷ get_or SHORT_DECIMALS (p * 4 + 3) 0 ∷ []) ≡ decimal p) × (len_of p ≡ length (decimal p))
 short p here = digits_by (ltb p 10) (ltb p 100) p _ _ _ _ here refl refl (entry_at is_short SHORT_DECIMALS p tt (omega arith))
 
-pub short_digits : (p : ℕ) → p < 1000 → take (length (decimal p)) (get_or SHORT_DECIMALS (p * 4) 0 ∷ get_or SHORT_DECIMALS (p * 4 + 1) 0 ∷ get_or SHORT_DECIMALS (p * 4 + 2) 0 ∷ get_or SHORT_DECIMALS (p * 4 + 3) 0 ∷ []) ≡ decimal p
-short_digits p here = let s = short p here in subst (λ n. take n (get_or SHORT_DECIMALS (p * 4) 0 ∷ get_or SHORT_DECIMALS (p * 4 + 1) 0 ∷ get_or SHORT_DECIMALS (p * 4 + 2) 0 ∷ get_or SHORT_DECIMALS (p * 4 + 3) 0 ∷ []) ≡ decimal p) s.1 s.0
+pub short_digits : (p : ℕ) → p < 1000 → take (length (decimal p)) (take 4 (drop (p * 4) SHORT_DECIMALS)) ≡ decimal p
+short_digits p here = let s = short p here in rw (four_at (p * 4) SHORT_DECIMALS (omega (arith, here))) (subst (λ n. take n (get_or SHORT_DECIMALS (p * 4) 0 ∷ get_or SHORT_DECIMALS (p * 4 + 1) 0 ∷ get_or SHORT_DECIMALS (p * 4 + 2) 0 ∷ get_or SHORT_DECIMALS (p * 4 + 3) 0 ∷ []) ≡ decimal p) s.1 s.0)
 
 pub short_len : (p : ℕ) → p < 1000 → get_or DECIMAL_TRIPLES (p * 4 + 3) 0 ≡ 48 + length (decimal p)
 short_len p here =

@@ -1,6 +1,6 @@
 //! The digits of the numbers below 1000, three at a time.
 
-ghost use Rattle.std.specs.Prelude.{◌≡◌, ◌<◌, ◌≤◌, length, take};
+ghost use Rattle.std.specs.Prelude.{◌≡◌, ◌*◌, ◌<◌, ◌≤◌, drop, length, take};
 ghost use Rattle.std.specs.Fmt.{decimal};
 ghost use Rattle.mp4_lines.specs.Digits as spec;
 
@@ -90,19 +90,24 @@ static DECIMAL_TRIPLES: [u8; 4000] = *b"\
     9503951395239533954395539563957395839593960396139623963396439653966396739683969397039713972397339743\
     9753976397739783979398039813982398339843985398639873988398939903991399239933994399539963997399839993";
 
-/// The digits of a number below 1000, and spaces up to four bytes.
+/// The four bytes of a number in a table that has four for each.
 #[inline(always)]
-pub(crate) fn short_decimal(number: u32) -> [u8; 4]
+fn entry_of(table: &[u8; 4000], number: u32) -> &[u8]
     requires { number < 1_000 }
-    ensures { take (length (decimal number)) result ≡ decimal number }
+    ensures { result.now ≡ take 4 (drop (number * 4) table.now) }
 {
     let from = number as usize * 4;
-    [
-        SHORT_DECIMALS[from],
-        SHORT_DECIMALS[from + 1],
-        SHORT_DECIMALS[from + 2],
-        SHORT_DECIMALS[from + 3],
-    ]
+    &table[from..from + 4]
+}
+
+/// The digits of a number below 1000, and spaces up to four bytes.
+#[inline(always)]
+pub(crate) fn short_decimal(number: u32) -> &'static [u8]
+    requires { number < 1_000 }
+    ensures digits { take (length (decimal number)) result.now ≡ decimal number }
+    ensures len { length result.now ≡ 4 }
+{
+    entry_of(&SHORT_DECIMALS, number)
 }
 
 /// How many digits a number below 1000 has.
@@ -117,15 +122,10 @@ pub(crate) fn short_decimal_len(number: u32) -> usize
 
 /// The three digits of a number below 1000, zeros in front where it has fewer, and a fourth byte.
 #[inline(always)]
-pub(crate) fn decimal_triple(number: u32) -> [u8; 4]
+pub(crate) fn decimal_triple(number: u32) -> &'static [u8]
     requires { number < 1_000 }
-    ensures { take 3 result ≡ spec.decimal_triple number }
+    ensures digits { take 3 result.now ≡ spec.decimal_triple number }
+    ensures len { length result.now ≡ 4 }
 {
-    let from = number as usize * 4;
-    [
-        DECIMAL_TRIPLES[from],
-        DECIMAL_TRIPLES[from + 1],
-        DECIMAL_TRIPLES[from + 2],
-        DECIMAL_TRIPLES[from + 3],
-    ]
+    entry_of(&DECIMAL_TRIPLES, number)
 }

@@ -1,8 +1,9 @@
-use Rattle.std.proofs.Common.{refl}
+use Rattle.std.proofs.Common.{ap, length, refl, ◌∙◌}
 use Rattle.mp4_lines.proofs.TripleLemmas.{triples}
 use Rattle.mp4_lines.proofs.triples.decimal_triple.Goals as goal
 
-pub returns : goal.returns
-returns c =
-    let digits = triples c.args.number c.requires in
-    rw (digits.0, digits.1, digits.2) refl
+pub returns-clause-digits : goal.returns-clause-digits
+returns-clause-digits c = rw (c.entry_of.ensures, triples c.args.number c.requires) refl
+
+pub returns-clause-len : goal.returns-clause-len
+returns-clause-len c = ap length (c.entry_of.ensures ∙ triples c.args.number c.requires)
