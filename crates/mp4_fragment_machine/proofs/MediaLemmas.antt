@@ -32,7 +32,8 @@ use Rattle.mp4_traf.proofs.RowLemmas.{length_rows_of}
 use Rattle.mp4_frag.proofs.RunListLemmas.{place_means}
 use Rattle.mp4_frag.proofs.MoofLemmas.{read_count}
 use Rattle.mp4_frag.proofs.SoundLemmas.{all_small, few_timed, rows_are_samples}
-use Rattle.mp4_grammar.specs.Meanings.{beyond, reach}
+use Rattle.mp4_grammar.specs.Meanings.{reach}
+use Rattle.mp4_run_order.specs.Runs.{beyond}
 use Rattle.mp4_traf.specs.Ranges.{AreRunsOf, IsRunOf}
 use Rattle.mp4_fragment_machine.specs.States.{IsPendingMoof, moof_in}
 use Rattle.mp4_fragment_machine.specs.declared.state.PendingMoof.{PendingMoof}

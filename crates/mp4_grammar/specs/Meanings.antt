@@ -1,11 +1,11 @@
 -- The meaning of a fragmented stream for an operation.
-use Rattle.std.specs.Prelude.{ℕ, ℤ, pos, ◌-◌, ◌==◌, List, [], ◌∷◌, ◌++◌, max, if◌then◌else◌, Option}
+use Rattle.std.specs.Prelude.{ℕ, ◌==◌, List, [], ◌∷◌, ◌++◌, max, if◌then◌else◌, Option}
 use Rattle.std.specs.List.{sum_by}
 use Rattle.std.specs.Option.{option_or}
-use lib.IntN.{negsuc}
 use Rattle.mp4_box.specs.declared.headers.FourCc.{FourCc}
 use Rattle.mp4_box.specs.declared.rules.Fault.{Fault}
 use Rattle.mp4_init.specs.declared.table.Track.{Track}
+use Rattle.mp4_run_order.specs.Runs.{beyond}
 use Rattle.mp4_run_order.specs.declared.runs.Payload.{Payload}
 use Rattle.mp4_traf.specs.declared.run.Run.{Run}
 use Rattle.mp4_frag.specs.Moofs.{moof_runs, moof_samples, moof_trafs}
@@ -41,11 +41,6 @@ counted_in f = record {
 -- the tracks after it
 abbrev pub settled_in : Fragment → List Track
 settled_in f = settled f.tracks (moof_trafs f.moof f.tracks)
-
--- how far a place lies after an offset
-abbrev pub beyond : ℕ → ℤ → ℕ
-beyond start (pos n) = n - start
-beyond start (negsuc n) = 0
 
 -- how many bytes from an offset on these runs reach, where they have samples
 abbrev pub reach : ℕ → List Run → ℕ

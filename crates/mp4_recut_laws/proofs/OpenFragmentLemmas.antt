@@ -31,7 +31,8 @@ use Rattle.mp4_cut.proofs.GivenLemmas.{all_sound}
 use Rattle.mp4_grammar.specs.Contexts.{context}
 use Rattle.mp4_grammar.specs.Items.{end_of}
 use Rattle.mp4_grammar.specs.Joined.{IsGood, fragment_here}
-use Rattle.mp4_grammar.specs.Meanings.{Fragment, beyond, needed_in, reach, runs_in}
+use Rattle.mp4_grammar.specs.Meanings.{Fragment, needed_in, reach, runs_in}
+use Rattle.mp4_run_order.specs.Runs.{beyond}
 use Rattle.mp4_recut_laws.specs.Premises.{IsRunIn}
 use Rattle.mp4_recut_laws.specs.RecutItems.{AreRecutAnywhere, fragment_items, without_index}
 use Rattle.mp4_recut_laws.specs.MediaSamples.{media_samples_in}

@@ -1,11 +1,21 @@
 -- Runs of samples, their bytes, and the listing of a moof (ISO/IEC 14496-12, 8.8.8).
-use Rattle.std.specs.Prelude.{ℤ, pos, ◌+ℤ◌, ◌≤ℤ◌, ◌<ℤ◌, ◌≡◌, ◌≢◌, ◌<◌, List}
+use Rattle.std.specs.Prelude.{ℕ, ℤ, pos, ◌-◌, ◌==◌, ◌+ℤ◌, ◌≤ℤ◌, ◌<ℤ◌, ◌≡◌, ◌≢◌, ◌<◌, if◌then◌else◌, List}
 use Rattle.std.specs.List.{AllPairs}
+use lib.IntN.{negsuc}
 use Rattle.mp4_run_order.specs.declared.runs.ListedRun.{ListedRun}
 
 -- the stream offset after its last byte
 abbrev pub end_of : ListedRun → ℤ
 end_of run = run.place +ℤ pos run.bytes
+
+-- how far a place lies after an offset
+abbrev pub beyond : ℕ → ℤ → ℕ
+beyond start (pos n) = n - start
+beyond start (negsuc n) = 0
+
+-- how many bytes from an offset on a run needs, if it has samples
+abbrev pub needed_from : ℕ → ListedRun → ℕ
+needed_from start run = if run.count == 0 then 0 else beyond start (end_of run)
 
 -- the byte at this stream offset is one of its samples'
 pub record HasByte (run : ListedRun) (offset : ℤ) : Type 0 where

@@ -1,9 +1,9 @@
 //! Runs of samples, and the payload in which they lie.
 
-ghost use Rattle.std.specs.Prelude.{◌≡◌};
+ghost use Rattle.std.specs.Prelude.{◌≡◌, ◌^◌, ◌<ℤ◌, pos};
 ghost use Rattle.mp4_run_order.specs.Orders.{place_key, track_key};
 ghost use Rattle.mp4_run_order.specs.Places.{lies_in};
-ghost use Rattle.mp4_run_order.specs.Runs.{end_of};
+ghost use Rattle.mp4_run_order.specs.Runs.{end_of, needed_from};
 
 /// How many numbers of 64 bits there are.
 const WORDS: u128 = 1 << 64;
@@ -67,5 +67,19 @@ impl Payload {
             None => true,
             Some(end) => run.end() <= i128::from(end),
         }
+    }
+
+    /// How many bytes it must have at the least to hold a run: up to the end of the run; none where that has no
+    /// samples.
+    pub fn needed_by(self, run: ListedRun) -> u64
+        requires { end_of run <ℤ pos (2 ^ 63) }
+        ensures { result ≡ needed_from self.start run }
+    {
+        let end = i128::from(run.place) + i128::from(run.bytes);
+        let start = i128::from(self.start);
+        if run.count == 0 || end <= start {
+            return 0;
+        }
+        (end - start) as u64
     }
 }

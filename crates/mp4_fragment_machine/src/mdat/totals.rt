@@ -1,21 +1,20 @@
 //! How many bytes and samples the runs of a moof have, and how far they reach into the payload of its mdat. They are
 //! counted.
 
-ghost use Rattle.std.specs.Prelude.{◌≡◌, ◌+◌, ◌≤◌, ◌<◌, ◌<ℤ◌, ◌^◌, ◌==◌, if◌then◌else◌, ℕ, pos, max, None, Some};
+ghost use Rattle.std.specs.Prelude.{◌≡◌, ◌+◌, ◌≤◌, ◌<◌, ◌^◌, ℕ, max, None, Some};
 ghost use Rattle.std.specs.List.{sum_by};
 ghost use Rattle.mp4_frag.specs.Moofs.{moof_runs, moof_samples};
 ghost use Rattle.mp4_traf.specs.Rules.{most_in_moof};
 ghost use Rattle.mp4_frag.specs.Places.{place_fault};
 ghost use Rattle.mp4_frag.specs.RunLists.{taken_runs};
-ghost use Rattle.mp4_run_order.specs.Runs.{end_of};
 ghost use Rattle.mp4_traf.specs.declared.run.Run.{Run};
-ghost use Rattle.mp4_grammar.specs.Meanings.{beyond, reach};
+ghost use Rattle.mp4_grammar.specs.Meanings.{reach};
 ghost use Rattle.mp4_machine.specs.Bodies.{longest};
 ghost use Rattle.mp4_machine.specs.Readings.{plus};
 ghost use Rattle.mp4_fragment_machine.specs.States.{IsPendingMoof, moof_in};
 
 use crate::state::{Counter, PendingMoof};
-use mp4_frag::{ListedRun, Payload};
+use mp4_frag::Payload;
 use mp4_init::TrackList;
 
 /// How many bytes and samples some runs of a moof have, and how far they reach into the payload of its mdat.
@@ -27,19 +26,6 @@ pub(crate) struct MoofTotals {
     pub(crate) samples: u64,
     /// How many bytes the payload must have at the least, so that each run with samples lies in it.
     pub(crate) needed: u64,
-}
-
-/// How far after `start` a run ends: 0 where it ends before, or has no samples.
-fn beyond(start: u64, run: ListedRun) -> u64
-    requires { end_of run <ℤ pos (2 ^ 63) }
-    ensures { result ≡ (if run.count == 0 then 0 else beyond start (end_of run)) }
-{
-    let end = i128::from(run.place) + i128::from(run.bytes);
-    let start = i128::from(start);
-    if run.count == 0 || end <= start {
-        return 0;
-    }
-    (end - start) as u64
 }
 
 /// How many bytes and samples the runs of the pending moof have, and how far they reach into a payload where they may
@@ -78,7 +64,7 @@ pub(crate) fn add_up_runs(
         so_far = MoofTotals {
             bytes: so_far.bytes + run.bytes,
             samples: so_far.samples + u64::from(run.count),
-            needed: so_far.needed.max(beyond(payload.start, run)),
+            needed: so_far.needed.max(payload.needed_by(run)),
         };
         i += 1;
     }

@@ -8,8 +8,8 @@ use Rattle.mp4_fragment_machine.proofs.MediaLemmas.{are_more, count_first, count
 use Rattle.mp4_fragment_machine.proofs.LineLemmas.{rows_taken}
 use Rattle.mp4_fragment_machine.proofs.mdat.totals.add_up_runs.Goals as goal
 
-pub beyond-requires : goal.beyond-requires
-beyond-requires c =
+pub needed_by-requires : goal.needed_by-requires
+needed_by-requires c =
     let w = c.args.pending_moof.now in
     let tracks = c.args.tracks.now in
     let here : c.loop-i.i < length w.runs.rows = omega (arith, c.loop-i-test.true, c.len-in-loop-i.ensures) in
@@ -50,7 +50,7 @@ loop-i-preserved c =
       within = omega (arith, here);
       bytes = omega (arith, ap (λ (r : ListedRun). r.bytes) effects, c.loop-i.invariant.bytes, media_more runs i run in_list at);
       samples = omega (arith, c.from.ensures, ap (λ (r : ListedRun). r.count) effects, c.loop-i.invariant.samples, count_more runs i run in_list at);
-      needed = reach_more runs i run in_list at start c.loop-i.so_far.needed c.max.result (reach start runs) (c.max.ensures ∙ ap (max c.loop-i.so_far.needed) (rw effects at c.beyond.ensures)) c.loop-i.invariant.needed;
+      needed = reach_more runs i run in_list at start c.loop-i.so_far.needed c.max.result (reach start runs) (c.max.ensures ∙ ap (max c.loop-i.so_far.needed) (rw effects at c.needed_by.ensures)) c.loop-i.invariant.needed;
       are = are_more runs i run in_list at w.moof.bytes c.loop-i.invariant.are is;
     }
 
