@@ -13,7 +13,7 @@ ghost use Rattle.mp4_fragment_machine.specs.declared.state.PendingMoof.{PendingM
 ghost use Rattle.mp4_fragment_machine.specs.declared.state.State.TheVariants as states;
 
 use crate::machine::FragmentMachine;
-use crate::mdat::end::leave;
+use crate::mdat::end::end_fragment;
 use crate::state::{Carried, State, Taken, let_go};
 use mp4_ends::{Failed, Sink};
 use mp4_ledger::Ledger;
@@ -85,14 +85,15 @@ impl FragmentMachine {
             }
         };
         if let Some(next) = body.next() {
-            match replace(&mut self.state, State::Header { at: next }) {
-                State::Body(_, pending_moof) => leave(
-                    next,
-                    pending_moof,
-                    &mut self.carried,
-                    ledger,
-                ),
+            let pending_moof = match replace(&mut self.state, State::Header { at: next }) {
+                State::Body(_, pending_moof) => pending_moof,
                 _ => unreachable!(),
+            };
+            if let Some(pending_moof) = pending_moof {
+                let Some(list) = &mut self.carried.tracks else {
+                    unreachable!();
+                };
+                end_fragment(pending_moof, list, ledger, &mut self.carried.counter);
             }
         }
         Ok(count)

@@ -148,9 +148,7 @@ pub(crate) fn back_state(state: State, ledger: &mut Ledger)
     ensures { ledger.new ≡ given_back ledger.old (kept_by state) }
 {
     match state {
-        State::Header { at } => {
-            let _ = at;
-        }
+        State::Header { at: _ } => {}
         State::Buffering(buffered) => buffered.back(ledger),
         State::MdatHeader(pending_moof) => back(Some(pending_moof), ledger),
         State::Body(_, pending_moof) => back(pending_moof, ledger),
@@ -185,9 +183,7 @@ pub(crate) fn leave_header(current: &mut State, state: State)
     ensures { current.new ≡ state }
 {
     match replace(current, state) {
-        State::Header { at } => {
-            let _ = at;
-        }
+        State::Header { at: _ } => {}
         _ => unreachable!(),
     }
 }
@@ -197,10 +193,5 @@ pub(crate) fn stop_at(current: &mut State)
     requires { (old : ℕ) × (current.old ≡ states.Header old) }
     ensures { current.new ≡ stopped }
 {
-    match replace(current, stopped()) {
-        State::Header { at } => {
-            let _ = at;
-        }
-        _ => unreachable!(),
-    }
+    leave_header(current, stopped());
 }

@@ -47,7 +47,6 @@ pub(crate) fn payload_after(at: u64, boxes: &Boxes<'_>, input: &[u8]) -> Payload
     ensures { (are : AreBoxes at input.now boxes.now) →
         result ≡ payload_in (at + are.span.size) boxes.now.mdat }
 {
-    let _ = input;
     let next = at + boxes.moof.len() as u64;
     Payload {
         start: next + boxes.mdat.header_len,

@@ -162,7 +162,6 @@ fn runs_in_order(
     ensures ends { IfSome result (λ f. AreEndsOf f.ends moof.now tracks.now) }
     ensures rows_read { read_rows.new.rows ≡ read_rows.old.rows + moof_samples moof.now }
 {
-    let _ = ledger;
     moof.following(payload_after(at, boxes, input), tracks, read_rows)
 }
 

@@ -76,7 +76,6 @@ fn take_box_in_place<W: Sink>(
         TakesInPlace (borrowed W.contents W.has_failed w.old w.new out.old out.new account account)
         carried.now carried.now at input.now result }
 {
-    let _ = at;
     match carried.operation {
         Operation::List(_) => Ok(span.size),
         Operation::Split(_) => {

@@ -5,7 +5,7 @@ ghost use Rattle.mp4_recut.specs.declared.operation.Operation.TheVariants as ope
 ghost use Rattle.mp4_fragment_machine.specs.declared.state.State.TheVariants as states;
 
 use crate::mdat::check::check_mdat;
-use crate::mdat::end::leave;
+use crate::mdat::end::end_fragment;
 use crate::mdat::list::emit;
 use crate::state::{Carried, PendingMoof, State, back};
 use mp4_box::Header;
@@ -57,7 +57,7 @@ pub(crate) fn begin_listed<W: Sink>(
     ) {
         Ok(needed) => match body_of(at, header, needed) {
             AnyBody::Empty { next } => {
-                leave(next, Some(pending_moof), carried, ledger);
+                end_fragment(pending_moof, list, ledger, &mut carried.counter);
                 Ok(State::Header { at: next })
             }
             AnyBody::Bytes(body) => Ok(State::Body(body, Some(pending_moof))),

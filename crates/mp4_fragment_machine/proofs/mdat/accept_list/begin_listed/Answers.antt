@@ -1,4 +1,4 @@
-use Rattle.std.proofs.Common.{◌≡◌, ◌+◌, ◌-◌, ◌≤◌, [], Some, arith, refl, subst}
+use Rattle.std.proofs.Common.{◌≡◌, ◌+◌, ◌-◌, ◌≤◌, [], Some, arith, refl}
 use Rattle.mp4_frag.specs.Moofs.{moof_samples}
 use Rattle.mp4_box.proofs.HeaderLemmas.{need-least, whole_is}
 use Rattle.mp4_machine.specs.Inputs.{GoesOn, environment}
@@ -7,13 +7,13 @@ use Rattle.mp4_recut.specs.declared.operation.Operation.TheVariants as operation
 use Rattle.mp4_grammar.specs.Contexts.{context}
 use Rattle.mp4_fragment_machine.specs.Places.{InMdatHeader, Untouched, claim_of, continuation_at}
 use Rattle.mp4_recut.specs.Operations.{number_in}
-use Rattle.mp4_recut.specs.declared.operation.Operation.{Operation}
 use Rattle.mp4_fragment_machine.specs.Implementation.Steps.{GoesTo, ledger_alone}
 use Rattle.mp4_fragment_machine.specs.States.{IsCounted, bound_after, in_mdat, moof_in}
 use Rattle.mp4_fragment_machine.specs.declared.state.Carried.{Carried}
 use Rattle.mp4_fragment_machine.specs.declared.state.State.TheVariants as states
 use Rattle.mp4_fragment_machine.proofs.MdatHeaderLemmas.{GoesOn-fragment_at, Refuses-fragment, WriteFailed-fragment, claimed_after, claims, listed_good, rows_of}
 use Rattle.mp4_fragment_machine.proofs.BodyLemmas.{claimed_apart}
+use Rattle.mp4_fragment_machine.proofs.EndLemmas.{Ends, GoesTo-ended}
 use Rattle.mp4_fragment_machine.proofs.EnterLemmas.{GoesTo-entered}
 use Rattle.mp4_fragment_machine.proofs.CountLemmas.{counted_later, counted_unlisted}
 use Rattle.mp4_fragment_machine.proofs.StepLemmas.{GoesTo-after}
@@ -43,18 +43,12 @@ emit-requires-clause-good g c = listed_good c.args.command 1 c.args.pending_moof
 pub emit-requires-clause-counted : goal.emit-requires-clause-counted
 emit-requires-clause-counted g c = rw c.requires.operation at c.requires.can.counted
 
-pub leave-requires-clause-claim : goal.leave-requires-clause-claim
-leave-requires-clause-claim g c =
+pub end_fragment-requires-clause-claim : goal.end_fragment-requires-clause-claim
+end_fragment-requires-clause-claim g c =
     let can = rw (c.in-Some.is, c.requires.operation) at c.requires.can in
     let i = rw c.in-Some.is at c.requires.pending_moof in
-    rw (claimed_after 1 c.args.pending_moof (Some c.in-Some.list) i c.args.carried.now.header_bytes) at can.claim
-
-pub leave-requires-clause-counted : goal.leave-requires-clause-counted
-leave-requires-clause-counted g c =
-    let w = c.args.pending_moof in
-    let at : c.offset.result + c.size.result ≡ w.moof.at + w.moof.size = omega (arith, c.offset.ensures.at, c.size.ensures) in
-    let (size, is, all, far, near) = c.in-Empty.ensures in
-    rw (far, c.requires.operation, at) (rw is at c.in-Ok-emit.ensures.counted)
+    let claim = rw (claimed_after 1 c.args.pending_moof (Some c.in-Some.list) i c.args.carried.now.header_bytes) at can.claim in
+    omega (arith, claim)
 
 -- its fragment is accepted and written
 accepted : (g : Over) (c : In-Ok-emit g) → let carried = c.args.carried.now in let ledger = c.args.ledger.now in let moof = InMdatHeader (context c.args.pending_moof.moof.at (Some c.in-Some.list) 1) c.in-Some.list c.args.pending_moof.moof.bytes c.args.header_bytes.now in
@@ -87,12 +81,18 @@ returns-in-Empty g c =
     let u : Untouched = record { written = g.W.Sink.contents c.emit.new.w; waiting = c.emit.new.out; failed = g.W.Sink.has_failed c.emit.new.w } in
     let (low, goes) = accepted g (goal.at.returns-in-Empty g c).In-Ok-emit in
     let (size, is, all, far, near) = c.in-Empty.ensures in
-    let k : Carried = record { operation = carried.operation; tracks = Some list; header_bytes = carried.header_bytes; counter = c.emit.new.counter } in
-    let left : GoesTo (ledger_alone u c.args.ledger.now c.leave.new.ledger) k c.leave.new.carried (in_mdat (number_in k.operation k.counter.tally) k.tracks w next h c.in-Ok-emit.needed h.size) [] (states.Header c.in-Empty.next) =
-    rw (is, far) (rw far at c.leave.ensures u next (size - h.header_len) h.kind (omega (arith, all))) in
-    let entered = subst (λ (p : Operation). GoesTo (ledger_alone u c.args.ledger.now c.leave.new.ledger) (record { operation = carried.operation; tracks = Some list; header_bytes = carried.header_bytes; counter = c.emit.new.counter }) c.leave.new.carried (in_mdat (number_in p c.emit.new.counter.tally) (Some list) w next h c.in-Ok-emit.needed h.size) [] (states.Header c.in-Empty.next)) c.requires.operation left in
+    let at : next ≡ w.moof.at + w.moof.size = omega (arith, c.offset.ensures.at, c.size.ensures) in
+    let can = rw (c.in-Some.is, c.requires.operation) at c.requires.can in
+    let i = rw c.in-Some.is at c.requires.pending_moof in
+    let claim = rw (claimed_after 1 w (Some list) i carried.header_bytes) at can.claim in
+    let k : Carried = record { operation = operations.List c.args.command; tracks = Some list; header_bytes = carried.header_bytes; counter = c.emit.new.counter } in
+    let ended = c.end_fragment.ensures in
+    let ends : Ends c.args.ledger.now c.end_fragment.new.ledger k.counter c.end_fragment.new.counter list c.end_fragment.new.tracks w = record { tracks = ended.tracks; len = ended.len; back = ended.back; tally = ended.tally; least = omega (arith, ended.rows_read); few = ended.few } in
+    let counted = rw is at c.in-Ok-emit.ensures.counted in
+    let left : GoesTo (ledger_alone u c.args.ledger.now c.end_fragment.new.ledger) k (record k { tracks = Some c.end_fragment.new.tracks; counter = c.end_fragment.new.counter }) (in_mdat (number_in k.operation k.counter.tally) k.tracks w next h c.in-Ok-emit.needed h.size) [] (states.Header c.in-Empty.next) =
+    rw (is, far) (GoesTo-ended u c.args.ledger.now c.end_fragment.new.ledger k c.end_fragment.new.counter list c.end_fragment.new.tracks w (next + size) next (size - h.header_len) h.kind refl ends (omega (arith, all)) (rw far at near) c.requires.empty claim (rw at counted)) in
     rw (c.in-Some.is, c.requires.operation)
-    (GoesTo-after entered low c.requires.operation c.in-Ok-emit.ensures.puts.unfailed goes)
+    (GoesTo-after left low refl c.in-Ok-emit.ensures.puts.unfailed goes)
 
 pub returns-in-Bytes : goal.returns-in-Bytes
 returns-in-Bytes g c =
