@@ -55,13 +55,13 @@ fn print_job(rt: &HostRuntime, name: &str, words: &Words) -> io::Result<()> {
     else {
         return println!(rt; "{name}: no memory for the stream");
     };
-    let (bytes, digest) = written.answer();
+    let (bytes, hash) = written.answer();
     match answer {
         Ok(totals) => println!(rt;
-            "{name}: {} fragments, {} samples, {} bytes of media, {} rows read, {} claimed; {bytes} bytes, {digest:016x}",
+            "{name}: {} fragments, {} samples, {} bytes of media, {} rows read, {} claimed; {bytes} bytes, {hash:016x}",
             totals.fragments, totals.samples, totals.media_bytes, totals.rows_read, totals.peak
         ),
-        Err(stop) => println!(rt; "{name}: {stop:?}; {bytes} bytes, {digest:016x}"),
+        Err(stop) => println!(rt; "{name}: {stop:?}; {bytes} bytes, {hash:016x}"),
     }
 }
 
