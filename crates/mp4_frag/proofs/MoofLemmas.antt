@@ -85,6 +85,9 @@ values tracks m e =
 pub count_none : (h : MoofBytes) (tracks : List Track) → fault_before_times h tracks ≡ None → count_faults (moof_of h) ≡ []
 count_none h tracks e = (values tracks (moof_of h) (early h tracks e).value).count
 
+pub read_in_time : (h : MoofBytes) (tracks : List Track) → fault_before_times h tracks ≡ None → least (time_faults (moof_trafs h tracks)) ≡ None → IsRead h tracks
+read_in_time h tracks early times = rw (early, times) refl
+
 pub read_early : (h : MoofBytes) (tracks : List Track) → IsRead h tracks → fault_before_times h tracks ≡ None
 read_early h tracks e = (both_none (fault_before_times h tracks) (least (time_faults (moof_trafs h tracks))) e).0
 

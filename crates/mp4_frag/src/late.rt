@@ -1,6 +1,6 @@
 //! Which runs of a moof end past 64 bits.
 
-ghost use Rattle.std.specs.Prelude.{◌≡◌, ◌+◌, ◌^◌, ◌≤◌, [], length, true};
+ghost use Rattle.std.specs.Prelude.{◌≡◌, ◌+◌, ◌^◌, ◌≤◌, length};
 ghost use Rattle.mp4_box.specs.Headers.{IsWhole};
 ghost use Rattle.mp4_box.specs.Order.{least};
 ghost use Rattle.mp4_frag.specs.Moofs.{moof_trafs, time_faults};
@@ -11,22 +11,12 @@ use mp4_box::{Fault, note_along, whole_box};
 use mp4_init::TrackList;
 use mp4_traf::InTime;
 
-/// Which of the runs end past 64 bits: the first. They are gone over, unless all times are known to be early.
-pub(crate) fn late_fault(
-    is_early: bool,
-    moof_bytes: &[u8],
-    offset: u64,
-    tracks: &TrackList,
-) -> Option<Fault>
+/// The fault of the first run that ends past 64 bits. All runs are gone over.
+pub(crate) fn late_fault(moof_bytes: &[u8], offset: u64, tracks: &TrackList) -> Option<Fault>
     requires whole { IsWhole moof_bytes.now }
     requires room { offset + length moof_bytes.now ≤ 2 ^ 62 }
-    requires early { is_early ≡ true →
-        time_faults (moof_trafs (moof_at moof_bytes.now offset) tracks.now) ≡ [] }
     ensures { result ≡ least (time_faults (moof_trafs (moof_at moof_bytes.now offset) tracks.now)) }
 {
-    if is_early {
-        return None;
-    }
     let moof = whole_box(moof_bytes, offset);
     let check = InTime {
         moof_bytes,

@@ -1,8 +1,6 @@
 use Rattle.std.proofs.Common.{◌∙◌, ap}
 use Rattle.mp4_box.specs.Order.{least}
 use Rattle.mp4_box.specs.Trees.{view}
-use Rattle.mp4_frag.specs.Moofs.{moof_trafs, time_faults}
-use Rattle.mp4_frag.proofs.EarlyLemmas.{none_least}
 use Rattle.mp4_frag.proofs.MoofLemmas.{moof_is, times_along}
 use Rattle.mp4_frag.proofs.late.late_fault.Goals as goal
 
@@ -10,6 +8,3 @@ pub returns : goal.returns
 returns c =
     let m = view c.whole_box-moof.result in
     c.note_along.ensures ∙ ap least (times_along (record { bytes = c.args.moof_bytes.now; offset = c.args.offset }) c.args.tracks.now m (moof_is c.args.offset c.args.moof_bytes.now m c.whole_box-moof.ensures))
-
-pub returns-then-is_early : goal.returns-then-is_early
-returns-then-is_early c = none_least (time_faults (moof_trafs (record { bytes = c.args.moof_bytes.now; offset = c.args.offset }) c.args.tracks.now)) (c.requires.early c.if-is_early.true)
