@@ -16,12 +16,12 @@
 //!
 //! In the order of a fragment: `rules.rt`, `repeats.rt` and `counts.rt` have the rules, `mfhd.rt` the fields of the
 //! mfhd, and `at_once.rt` checks all boxes in one pass, by `child_at_once.rt`; `late.rt` finds the run that ends past
-//! 64 bits, and `moof.rt` makes the moof. `run_list.rt` makes the list of its runs and sorts its rows, by track first:
-//! `fill.rt` puts a row for each (`run_row.rt`), `listed.rt` finds the row that is at fault by track, and `reread.rt`
-//! makes a row the run again. `after.rt` finds the next run, by `part.rt`. `single_run.rt` reads the only run of a
-//! moof: `common_layout.rt` where the moof has the form that most have, `only_run.rt` of any form; `following.rt` goes
-//! over runs that follow one another. `places.rt` finds the run that may not lie where it does, and `settle.rt` and
-//! `traf_ends.rt` say where the tracks end.
+//! 64 bits, and `moof.rt` makes the moof. `run_list.rt` makes the list of its runs and sorts its rows, by track first,
+//! to find the run that is at fault by track: `fill.rt` puts a row for each (`run_row.rt`), `listed.rt` goes over the
+//! rows, and `reread.rt` makes a row the run again. `after.rt` finds the next run, by `part.rt`. `single_run.rt` reads
+//! the only run of a moof: `common_layout.rt` where the moof has the form that most have, `only_run.rt` of any form;
+//! `following.rt` goes over runs that follow one another. `places.rt` finds the run that may not lie where it does,
+//! and `settle.rt` and `traf_ends.rt` say where the tracks end.
 //!
 //! `specs/Rules.antt` and `specs/Repeats.antt` say what is at fault, `specs/Moofs.antt` the result of reading a moof,
 //! `specs/RunLists.antt` in which order its runs are taken, `specs/SingleRuns.antt` what a run is that has no other,

@@ -2,12 +2,11 @@
 
 ghost use Rattle.std.specs.Prelude.{◌≡◌};
 ghost use Rattle.std.specs.Iterator.{YieldsFirst, item_count};
-ghost use Rattle.mp4_run_order.specs.Implementation.Searches.{found_by_track};
 ghost use Rattle.mp4_frag.specs.Implementation.RunRows.{listed_row, listed_words, row_of_words};
 
 use crate::run_row::{RunRow, row_of_words};
 use mp4_ledger::Rows64;
-use mp4_run_order::{ListedRun, TrackSearch};
+use mp4_run_order::ListedRun;
 use std::marker::Model;
 
 /// What the order of runs depends on, of the run of a row.
@@ -65,15 +64,4 @@ impl<'a> Iterator for Listed<'a> {
         self.at += 1;
         Some(run)
     }
-}
-
-/// What a pass over rows finds that are sorted by track.
-pub(crate) fn find_by_track(rows: &Rows64) -> Option<u64>
-    ensures { result ≡ found_by_track (listed_words rows.now.rows) }
-{
-    let mut search = TrackSearch::new();
-    for run in runs_of(rows) {
-        search = search.past(run);
-    }
-    search.offender
 }

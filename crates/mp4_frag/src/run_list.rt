@@ -11,14 +11,14 @@ ghost use Rattle.mp4_frag.specs.RunLists.{taken_runs};
 ghost use Rattle.mp4_frag.specs.ListsOfRuns.{IsListOf};
 
 use crate::fill::fill;
-use crate::listed::{find_by_track, listed_row};
+use crate::listed::{listed_row, runs_of};
 use crate::moof::Moof;
 use crate::reread::run_of_row;
 use crate::run_row::row_of_words;
 use mp4_box::whole_box;
 use mp4_init::TrackList;
 use mp4_ledger::{Ledger, Refused, Rows64};
-use mp4_run_order::ListedRun;
+use mp4_run_order::{ListedRun, TrackSearch};
 use mp4_traf::{Run, Steps};
 use std::marker::Model;
 
@@ -127,14 +127,17 @@ impl<'a> Moof<'a> {
         // By track, and those of one track as they are listed.
         rows.all_mut()
             .sort_unstable_by_key(|words| listed_row(&row_of_words(*words)).track_key());
-        let faulty_by_track = find_by_track(&rows);
+        let mut search = TrackSearch::new();
+        for run in runs_of(&rows) {
+            search = search.past(run);
+        }
         // By place, and those at one place as they are listed.
         rows.all_mut()
             .sort_unstable_by_key(|words| listed_row(&row_of_words(*words)).place_key());
         steps.rows += u128::from(self.samples());
         Ok(RunList {
             rows,
-            faulty_by_track,
+            faulty_by_track: search.offender,
         })
     }
 }

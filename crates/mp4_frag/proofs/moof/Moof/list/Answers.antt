@@ -1,4 +1,5 @@
 use Rattle.std.proofs.Common.{◌≡◌, ◌∙◌, ◌*◌, ◌++◌, ℕ, List, [], ◌∷◌, length, ap, arith, rules, subst, sym}
+use Rattle.std.specs.List.{fold}
 use Rattle.std.specs.List.Sorted.{IsPermutation}
 use Rattle.std.proofs.lemmas.List.Sorted.{IsNonDecreasingBy-from_sort_by_key, IsPermutation-trans}
 use Rattle.mp4_box.specs.Paths.{at_path}
@@ -7,7 +8,8 @@ use Rattle.mp4_ledger.specs.Memory.{Rows, claimed, overwritten}
 use Rattle.mp4_ledger.specs.declared.ledger.Refused.TheVariants.{OverLimit}
 use Rattle.mp4_frag.specs.declared.run_list.RunList.{RunList as RowList}
 use Rattle.mp4_traf.specs.Kinds.{to_trun, traf}
-use Rattle.mp4_run_order.specs.Implementation.Searches.{found_by_track}
+use Rattle.mp4_run_order.specs.declared.track_search.TrackSearch.{TrackSearch}
+use Rattle.mp4_run_order.specs.Implementation.Searches.{found_by_track, track_step}
 use Rattle.mp4_frag.specs.Moofs.{IsRead, moof_runs, moof_truns}
 use Rattle.mp4_frag.specs.Implementation.ListedRows.{IsFaultyByTrack, IsSorted}
 use Rattle.mp4_frag.specs.Implementation.RunRows.{listed_words, place_word, rows_of_trafs, rows_of_words, track_word}
@@ -70,18 +72,20 @@ returns-clause-list c =
     let g = filled h c.args.tracks.now m c.fill.new.rows.rows f rows in
     let first = subst (λ (ws : List (List ℕ)). IsPermutation ws c.sort_unstable_by_key.new.self) c.all_mut.ensures.value c.sort_unstable_by_key.ensures.permutation in
     let second = subst (λ (ws : List (List ℕ)). IsPermutation ws c.sort_unstable_by_key-2.new.self) (c.all_mut-2.ensures.value ∙ by_track) c.sort_unstable_by_key-2.ensures.permutation in
-    let faulty : IsFaultyByTrack c.fill.new.rows.rows c.find_by_track-faulty_by_track.result = record {
+    let faulty : IsFaultyByTrack c.fill.new.rows.rows c.loop-run.search.offender = record {
       sorted = c.sort_unstable_by_key.new.self;
       same = first;
       up = IsNonDecreasingBy-from_sort_by_key track_word _ c.sort_unstable_by_key.ensures.sorted (λ a r q k. search rules);
-      is = c.find_by_track-faulty_by_track.ensures ∙ ap (λ (ws : List (List ℕ)). found_by_track (listed_words ws)) by_track;
+      is =
+          ap (λ (s : TrackSearch). s.offender) (ap (fold track_step c.loop-run.search) (sym c.in-None.ensures.steps.0) ∙ c.loop-run.invariant.left)
+          ∙ ap found_by_track (c.into_iter-run-iterator.ensures.into_iter_gives ∙ c.runs_of-run-items.ensures ∙ ap listed_words by_track);
     } in
     let sorted : IsSorted c.fill.new.rows.rows c.sort_unstable_by_key-2.new.self = record {
       same = IsPermutation-trans c.fill.new.rows.rows c.sort_unstable_by_key.new.self c.sort_unstable_by_key-2.new.self first second;
       up = IsNonDecreasingBy-from_sort_by_key place_word _ c.sort_unstable_by_key-2.ensures.sorted (λ a r q k. search rules);
     } in
-    subst (λ (ws : List (List ℕ)). IsListOf h c.args.tracks.now (record { rows = rows_of_words ws; faulty_by_track = c.find_by_track-faulty_by_track.result })) (sym over)
-    (list_is h c.args.tracks.now c.fill.new.rows.rows c.sort_unstable_by_key-2.new.self c.find_by_track-faulty_by_track.result (known h c.args.tracks.now m c.fill.new.rows.rows f g c.fill.ensures.fits) g faulty sorted)
+    subst (λ (ws : List (List ℕ)). IsListOf h c.args.tracks.now (record { rows = rows_of_words ws; faulty_by_track = c.loop-run.search.offender })) (sym over)
+    (list_is h c.args.tracks.now c.fill.new.rows.rows c.sort_unstable_by_key-2.new.self c.loop-run.search.offender (known h c.args.tracks.now m c.fill.new.rows.rows f g c.fill.ensures.fits) g faulty sorted)
 
 pub returns-clause-len : goal.returns-clause-len
 returns-clause-len c =
