@@ -50,6 +50,3 @@ pub run_is : (s : Shared) (time : ℕ) (last : ℤ) (b : Box) (run : Run) (ticks
     → record run { end = time + ticks; bytes = bytes } ≡ run_of s time last b
 unfolding run_of run_at
 run_is s time last b run ticks bytes e t z = rw (t, z, e) refl
-
--- the ticks of a trun whose samples have no durations of their own
-pub ruleset products = (ticks_by_product)

@@ -172,7 +172,7 @@ fn field_sum(groups: &[u8], at: Option<u32>, common_layout: u32, len: u32, count
 
 /// The durations of `count` rows of a run, added up, of which the first group begins the bytes.
 #[inline(always)]
-fn ticks_in(run: &Run, groups: &[u8], count: u32) -> u64
+pub(crate) fn durations_in(run: &Run, groups: &[u8], count: u32) -> u64
     ensures sum { result ≡ field_numbers groups.now run.now.fields.sample_duration run.now.duration
         run.now.fields.len count }
     ensures few { result ≤ 4294967295 * count }
@@ -203,19 +203,9 @@ fn sums_in(run: &Run, groups: &[u8], count: u32) -> Sums
         (Some(size), Some(duration)) => both_sums(groups, size, duration, fields.len, count),
         _ => Sums {
             bytes: field_sum(groups, fields.sample_size, run.size, fields.len, count),
-            ticks: ticks_in(run, groups, count),
+            ticks: durations_in(run, groups, count),
         },
     }
-}
-
-/// The durations of the samples of a run, added up.
-#[inline(always)]
-#[tactic(auto, using(crate::proofs::BetweenLemmas::all_durations))]
-pub(crate) fn ticks_of(run: &Run, moof_bytes: &[u8]) -> u64
-    ensures ticks { result ≡ durations (rows_of run.now moof_bytes.now) }
-    ensures few { result ≤ 4294967295 * run.now.count }
-{
-    ticks_in(run, groups_from(run, moof_bytes, 0), run.count)
 }
 
 /// The sizes and the durations of the samples of a run, added up.

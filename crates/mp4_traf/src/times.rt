@@ -11,8 +11,9 @@ ghost use Rattle.mp4_traf.specs.Implementation.TrafContexts.{shared_of};
 ghost use Rattle.mp4_traf.specs.Implementation.Times.{late_at, late_from, ticks_in};
 
 use crate::fields::flags_of;
+use crate::rows::groups_from;
 use crate::runs::{RunStart, run_at};
-use crate::sums::ticks_of;
+use crate::sums::durations_in;
 use crate::traf::{TrafContext, base_of, context_of, track_of};
 use crate::trun::{sample_count, sample_fields};
 use mp4_box::types::TRUN;
@@ -21,7 +22,7 @@ use mp4_init::TrackList;
 
 /// The durations of the samples of a trun, added up: by a product where no sample has its own.
 #[inline(always)]
-#[tactic(auto, using(crate::proofs::TimeLemmas::products), unfolding(crate::specs::Implementation::Times::ticks_in))]
+#[tactic(auto, using(crate::proofs::BetweenLemmas::all_durations), unfolding(crate::specs::Implementation::Times::ticks_in))]
 pub(crate) fn ticks_in(context: &TrafContext<'_>, trun: &BoxRef<'_>) -> u64
     ensures { result ≡ ticks_in (shared_of context.now) (view trun.now) }
 {
@@ -31,8 +32,11 @@ pub(crate) fn ticks_in(context: &TrafContext<'_>, trun: &BoxRef<'_>) -> u64
     {
         return u64::from(context.header.duration) * u64::from(sample_count(trun.payload));
     }
+    // How long a run lasts doesn't depend on when and where it begins.
     let start = RunStart { time: 0, place: 0 };
-    ticks_of(&run_at(context, &start, trun), context.moof_bytes)
+    let run = run_at(context, &start, trun);
+    let groups = groups_from(&run, context.moof_bytes, 0);
+    durations_in(&run, groups, run.count)
 }
 
 /// The runs of a traf end within 64 bits.
