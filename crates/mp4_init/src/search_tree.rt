@@ -1,8 +1,8 @@
 //! Seeking a track_ID among nodes by its bits.
 
-ghost use Rattle.std.specs.Prelude.{◌≡◌, ◌<◌, List, length, slice_get, IfSome};
+ghost use Rattle.std.specs.Prelude.{◌≡◌, List, length, slice_get};
 ghost use Rattle.mp4_init.specs.declared.search_tree.Node.{Node};
-ghost use Rattle.mp4_init.specs.Implementation.SearchTrees.{ending, link_of, sought, EndsWithin};
+ghost use Rattle.mp4_init.specs.Implementation.SearchTrees.{ending, link_of, EndsWithin};
 
 /// A track_ID, and where to go on from here for another: by the next bit of that, the lowest first. A node leads only
 /// ahead: any other place is none.
@@ -73,16 +73,5 @@ pub(crate) fn search<N: Nodes>(nodes: &N, id: u32) -> Ending
         }
         at = next;
         bits /= 2;
-    }
-}
-
-/// The place of the node of this track_ID.
-pub(crate) fn seek<N: Nodes>(nodes: &N, id: u32) -> Option<usize>
-    ensures place { result ≡ sought (N.nodes nodes.now) id }
-    ensures within { IfSome result (λ at. at < length (N.nodes nodes.now)) }
-{
-    match search(nodes, id) {
-        Ending::Found(at) => Some(at),
-        Ending::After(_) | Ending::Unasked => None,
     }
 }

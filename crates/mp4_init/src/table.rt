@@ -8,7 +8,7 @@ ghost use Rattle.mp4_init.specs.Tracks.{with_next};
 ghost use Rattle.mp4_init.specs.Implementation.SearchTrees.{IsIndexed};
 
 use crate::row::{ended_row, linked_row, node_for, row_for, track_for};
-use crate::search_tree::{Ending, Node, Nodes, search, seek};
+use crate::search_tree::{Ending, Node, Nodes, search};
 use mp4_ledger::{Ledger, Rows64};
 use std::marker::Model;
 
@@ -95,7 +95,10 @@ impl TrackList {
         ensures first { result ≡ position (λ t. t.id == id) self.now }
         ensures within { IfSome result (λ i. i < length self.now) }
     {
-        seek(&self.rows, id)
+        match search(&self.rows, id) {
+            Ending::Found(at) => Some(at),
+            Ending::After(_) | Ending::Unasked => None,
+        }
     }
 
     /// Sets where the last fragment of the track at this index ended.
