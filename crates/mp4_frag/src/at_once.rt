@@ -98,7 +98,7 @@ pub(crate) fn ended_early(tracks: &TrackList, moof: &BoxRef<'_>) -> bool
 /// Findings on a moof without a fault in its tree, its boxes and their values, times aside, except that a traf without
 /// tfdt may follow another of its track: trafs without tfdt are counted, and only the times of tfdts are known to be
 /// early.
-pub(crate) fn read_moof(
+pub(crate) fn read_at_once(
     tracks: &TrackList,
     moof: &BoxRef<'_>,
     untimed: &mut u64,

@@ -14,7 +14,7 @@ ghost use Rattle.mp4_frag.specs.Rules.{count_faults, form_faults};
 ghost use Rattle.mp4_traf.specs.Rules.{most_in_moof};
 ghost use Rattle.mp4_traf.specs.Runs.{MoofBytes, moof_at};
 
-use crate::at_once::{MoofCounts, ended_early, read_moof};
+use crate::at_once::{MoofCounts, ended_early, read_at_once};
 use crate::counts::{samples_in, truns_in};
 use crate::late::late_fault;
 use crate::mfhd::sequence_in;
@@ -168,7 +168,7 @@ fn early(moof_bytes: &[u8], offset: u64, tracks: &TrackList) -> Result<MoofCount
         time_faults (moof_trafs (moof_at moof_bytes.now offset) tracks.now) ≡ []) }
 {
     let mut untimed = 0;
-    if let Some(sound) = read_moof(tracks, &whole_box(moof_bytes, offset), &mut untimed) {
+    if let Some(sound) = read_at_once(tracks, &whole_box(moof_bytes, offset), &mut untimed) {
         if untimed == 0 {
             return Ok(sound);
         }

@@ -210,7 +210,7 @@ fn sums_in(run: &Run, groups: &[u8], count: u32) -> Sums
 
 /// The sizes and the durations of the samples of a run, added up.
 #[inline(always)]
-#[tactic(auto, using(crate::proofs::BetweenLemmas::all_sizes, crate::proofs::BetweenLemmas::all_durations))]
+#[tactic(auto, using(crate::proofs::BetweenLemmas::all_sizes, crate::proofs::BetweenLemmas::all_time))]
 pub(crate) fn sums_of(run: &Run, moof_bytes: &[u8]) -> Sums
     ensures bytes { result.bytes ≡ sizes (rows_of run.now moof_bytes.now) }
     ensures ticks { result.ticks ≡ durations (rows_of run.now moof_bytes.now) }

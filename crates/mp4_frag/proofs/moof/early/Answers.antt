@@ -15,13 +15,13 @@ returns-then-untimed-eq0-clause-fault c =
     let m = view c.whole_box.result in
     let found = c.in-Some.ensures in
     none_early (moof_at c.args.moof_bytes.now c.args.offset) c.args.tracks.now m c.whole_box.ensures (moof_is c.args.offset c.args.moof_bytes.now m c.whole_box.ensures) (found.tree refl) (found.forms refl)
-    (found.values refl ∙ none_lacks [] (trafs_of m) (no_traf_lacks (trafs_of m) c.read_moof.new.untimed (found.count refl) c.if-untimed-eq0.true))
+    (found.values refl ∙ none_lacks [] (trafs_of m) (no_traf_lacks (trafs_of m) c.read_at_once.new.untimed (found.count refl) c.if-untimed-eq0.true))
 
 pub returns-then-untimed-eq0-clause-early : goal.returns-then-untimed-eq0-clause-early
 returns-then-untimed-eq0-clause-early c = λ sure.
     let m = view c.whole_box.result in
     let found = c.in-Some.ensures in
-    let timed = no_traf_lacks (trafs_of m) c.read_moof.new.untimed (found.count refl) c.if-untimed-eq0.true in
+    let timed = no_traf_lacks (trafs_of m) c.read_at_once.new.untimed (found.count refl) c.if-untimed-eq0.true in
     early_in_time (moof_at c.args.moof_bytes.now c.args.offset) c.args.tracks.now m c.requires.whole (λ i. (c.type_inv.moof_bytes i).fits) c.whole_box.ensures (moof_is c.args.offset c.args.moof_bytes.now m c.whole_box.ensures)
     (values_count c.args.tracks.now m (found.values refl ∙ none_lacks [] (trafs_of m) timed))
     (found.early sure (none_untimed c.args.tracks.now (trafs_of m) timed))
@@ -57,4 +57,4 @@ pub untimed_findings-requires-clause-count : goal.untimed_findings-requires-clau
 untimed_findings-requires-clause-count c =
     let m = view c.whole_box.result in
     let is = moof_is c.args.offset c.args.moof_bytes.now m c.whole_box.ensures in
-    subst (λ (b : Box). IsCount most_64 0 (length (untimed_ids (trafs_of b))) c.read_moof.new.untimed) (sym is) (c.in-Some.ensures.count refl)
+    subst (λ (b : Box). IsCount most_64 0 (length (untimed_ids (trafs_of b))) c.read_at_once.new.untimed) (sym is) (c.in-Some.ensures.count refl)

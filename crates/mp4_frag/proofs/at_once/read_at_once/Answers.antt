@@ -8,7 +8,7 @@ use Rattle.mp4_frag.proofs.AddLemmas.{early_found, few_enough, samples_found, tr
 use Rattle.mp4_frag.proofs.AtOnceLemmas.{Passed, no_forms, only_repeats, passed, passed_heads}
 use Rattle.mp4_frag.proofs.EarlyLemmas.{trafs_start}
 use Rattle.mp4_frag.proofs.PassTreeLemmas.{no_tree}
-use Rattle.mp4_frag.proofs.at_once.read_moof.Goals as goal
+use Rattle.mp4_frag.proofs.at_once.read_at_once.Goals as goal
 
 pass : (c : goal.Else-sound-gt-MOST_TRUNS) → Passed c.args.tracks.now (view c.args.moof.now)
 pass c =
