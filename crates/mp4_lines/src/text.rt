@@ -94,25 +94,24 @@ impl<const CAP: usize> Text<CAP> {
         ensures text { self.new ≡ self.old ++ bytes.now }
         ensures len { length self.new ≡ length self.old + N }
     {
+        self.push_front::<N>(bytes, N);
+    }
+
+    /// Appends the first `n` of these bytes. `N` of them are moved, since a move of a length that is known is fast.
+    #[inline(always)]
+    fn push_front<const N: usize>(&mut self, bytes: &[u8], n: usize)
+        requires few { n ≤ N }
+        requires there { N ≤ length bytes.now }
+        requires room { length self.old + N ≤ CAP }
+        ensures text { self.new ≡ self.old ++ take n bytes.now }
+        ensures len { length self.new ≡ length self.old + n }
+    {
         let at = self.len;
         let all = &mut self.bytes[..];
         for i in 0..N {
             all[at + i] = bytes[i];
         }
-        self.len = at + N;
-    }
-
-    /// Appends the first `n` of these bytes. All of them are moved, since a move of a length that is known is fast.
-    #[inline(always)]
-    fn push_front(&mut self, bytes: &[u8], n: usize)
-        requires few { n ≤ length bytes.now }
-        requires room { length self.old + length bytes.now ≤ CAP }
-        ensures text { self.new ≡ self.old ++ take n bytes.now }
-        ensures len { length self.new ≡ length self.old + n }
-    {
-        let after = self.len + n;
-        self.push_bytes(bytes);
-        self.len = after;
+        self.len = at + n;
     }
 
     /// Appends another text. All of its place is moved, since a move of a length that is known is fast, and the bytes
@@ -253,7 +252,7 @@ impl<const CAP: usize> Text<CAP> {
         ensures text { self.new ≡ self.old ++ decimal number }
         ensures len { length self.new ≤ length self.old + 3 }
     {
-        self.push_front(short_decimal(number), short_decimal_len(number));
+        self.push_front::<4>(short_decimal(number), short_decimal_len(number));
     }
 
     /// Appends three digits of a number below 1,000: zeros in front where it has fewer.
@@ -264,7 +263,7 @@ impl<const CAP: usize> Text<CAP> {
         ensures text { self.new ≡ self.old ++ decimal_triple number }
         ensures len { length self.new ≡ length self.old + 3 }
     {
-        self.push_front(decimal_triple(number), 3);
+        self.push_front::<4>(decimal_triple(number), 3);
     }
 
     /// Appends a number of at most eight digits in decimal.

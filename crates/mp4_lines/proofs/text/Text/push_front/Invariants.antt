@@ -1,5 +1,5 @@
 use Rattle.std.proofs.Common.{◌≡◌, ◌+◌, ◌++◌, length, take}
-use Rattle.mp4_lines.proofs.text.Text.push_array.Given as goal
+use Rattle.mp4_lines.proofs.text.Text.push_front.Given as goal
 
 abbrev pub invariant-loop-i : goal.invariant-loop-i
 invariant-loop-i g l = record {
