@@ -3,10 +3,10 @@
 //!
 //! - [`headers`]: the header of a box, in all its forms, and [`header_of`], which reads it from a slice;
 //! - [`reader`]: [`HeaderReader`], which reads it byte by byte;
-//! - [`tree`]: [`check_tree`], which checks the tree of a held box, and [`BoxRef`] and [`Walk`], by which one goes
-//!   over it;
+//! - [`tree`]: [`check_tree`], which checks the tree of a held box; `box_ref.rt`: [`BoxRef`], a box of it, and
+//!   `walk.rt`: [`Walk`], which goes over its children;
 //! - [`types`]: the types of boxes by their names, and [`fields`]: the numbers in a payload;
-//! - [`rules`]: the rules, and the [`Fault`] of a stream that breaks one;
+//! - [`rules`]: the rules, and the [`Fault`] of a stream that breaks one; `order.rt`: which of several is reported;
 //! - [`paths`]: the boxes on a path of types, [`Along`], and [`checks`]: what a box can be asked for, and asking it of
 //!   the boxes on a path, where [`note`] keeps the fault that is reported;
 //! - [`flags`]: the flag words of tfhd and trun, [`TfhdFlags`] and [`TrunFlags`], which keep the bits that are flags,

@@ -3,9 +3,11 @@
 //! - [`Cut`]: the limits of a piece, and further options;
 //! - [`Piece`]: some samples of a run that follow each other, with their sums;
 //! - [`Pieces`], which goes over the pieces of a run, from its first sample or a cursor on, each filled by `fill.rt`;
-//! - [`PlainPiece`], a piece without what only an index needs; [`PlainPiece::first`] is the first from a cursor on;
-//! - [`room`]: whether there is room for the numbers in the output of a moof;
-//! - [`moof_size`], [`mdat_header_size`] and [`fragment_size`]: how many bytes a piece has when it is written;
+//! - [`PlainPiece`] (`plain.rt`), a piece without what only an index needs; [`PlainPiece::first`] is the first from a
+//!   cursor on;
+//! - [`room`] (`rooms.rt`): whether there is room for the numbers in the output of a moof, and `index.rt` for an index;
+//! - [`moof_size`], [`mdat_header_size`] and [`fragment_size`] (`sizes.rt`): how many bytes a piece has when it is
+//!   written;
 //! - [`laws`]: what the definitions of `specs/` imply.
 //!
 //! `specs/Cutting.antt` cuts any list by a test of what fits, `specs/Fitting.antt` says which samples fit in a piece,

@@ -2,7 +2,8 @@
 //! `CALLING.md` shows a caller.
 //!
 //! - [`ListedRun`]: a run of samples, and [`Payload`]: where it must lie;
-//! - [`TrackSearch`], then [`PlaceSearch`]: two passes over sorted runs that find the first run at fault;
+//! - [`TrackSearch`] (`track_search.rt`), then [`PlaceSearch`] (`place_search.rt`): two passes over sorted runs that
+//!   find the first run at fault;
 //! - [`ListedRun::track_key`], [`ListedRun::place_key`]: by which numbers runs are sorted for them;
 //! - [`laws`]: what the definitions of `specs/` imply.
 //!
