@@ -75,8 +75,7 @@ impl Payload {
         requires { end_of run <ℤ pos (2 ^ 63) }
         ensures { result ≡ needed_from self.start run }
     {
-        let end = i128::from(run.place) + i128::from(run.bytes);
-        let start = i128::from(self.start);
+        let (start, end) = (i128::from(self.start), run.end());
         if run.count == 0 || end <= start {
             return 0;
         }

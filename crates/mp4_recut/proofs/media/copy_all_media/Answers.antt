@@ -17,7 +17,7 @@ loop-count-init g c =
       copy_taken = record {
         outputs = subst (λ k. Outputs a a c.args.out.now c.args.out.now n n (media_position cut h tracks c.args.at (n + 1) c.args.media.now) [] (media_position cut h tracks k (n + 1) c.args.media.now)) here (Outputs-none a c.args.out.now n (media_position cut h tracks c.args.at (n + 1) c.args.media.now));
         rises = λ end room r. subst (λ k. Rises end (media_position cut h tracks k (n + 1) c.args.media.now)) here r;
-        next = record { no_head_ready = c.requires.no_head_ready; at = c.requires.at; numbers = refl };
+        next = record { no_head_ready = c.requires.no_head_ready; at = c.requires.may.at; numbers = refl };
         unfailed = refl;
       };
     }

@@ -14,7 +14,7 @@ returns-then-copy_span-eq0-clause-copies g c =
       record {
         outputs = Outputs-done _ _ _ c.args.at _ copy_span _ _ none (c.requires.no_head_ready none);
         rises = λ end within r. rises-done c.args.at end copy_span.place copy_span.left (length c.args.input.now) ps none (c.requires.no_head_ready none) within;
-        next = record { no_head_ready = c.requires.no_head_ready; at = c.requires.at; numbers = refl };
+        next = record { no_head_ready = c.requires.no_head_ready; at = c.requires.may.at; numbers = refl };
         unfailed = refl;
       },
     )
@@ -28,7 +28,7 @@ returns-then-at-copy_span-clause-copies g c =
       record {
         outputs = Outputs-skips c.args.at copy_span _ c.min-n.result c.args.input.now (search rules) (search rules) _ _ _ (search rules) (search rules);
         rises = λ end within r. rises-skips c.args.at end copy_span.place copy_span.left c.min-n.result ps (search rules) (search rules) r;
-        next = record { no_head_ready = c.requires.no_head_ready; at = c.requires.at; numbers = refl };
+        next = record { no_head_ready = c.requires.no_head_ready; at = c.requires.may.at; numbers = refl };
         unfailed = refl;
       },
     )
