@@ -9,7 +9,7 @@ use Rattle.mp4_machine.proofs.ReadingLemmas.{both-silent}
 use Rattle.mp4_machine.proofs.InputLemmas.{back_to, Moves-more, Moves-back}
 use Rattle.mp4_grammar.specs.Contexts.{table_of}
 use Rattle.mp4_fragment_machine.specs.States.{claimed_in, taken_by}
-use Rattle.mp4_fragment_machine.specs.declared.state.PendingMoof.{PendingMoof}
+use Rattle.mp4_fragment_machine.specs.declared.pending_moof.PendingMoof.{PendingMoof}
 use Rattle.mp4_fragment_machine.specs.declared.state.State.{State}
 use Rattle.mp4_fragment_machine.specs.declared.state.State.TheVariants as states
 use Rattle.mp4_fragment_machine.proofs.BufferedBoxLemmas.{Moves-all_back}

@@ -18,7 +18,7 @@ use Rattle.mp4_fragment_machine.specs.States.{IsCounted, after_body, claimed_in,
 use Rattle.mp4_fragment_machine.specs.Implementation.Steps.{GoesTo, ledger_alone}
 use Rattle.mp4_fragment_machine.specs.declared.state.Carried.{Carried}
 use Rattle.mp4_fragment_machine.specs.declared.state.Counter.{Counter}
-use Rattle.mp4_fragment_machine.specs.declared.state.PendingMoof.{PendingMoof}
+use Rattle.mp4_fragment_machine.specs.declared.pending_moof.PendingMoof.{PendingMoof}
 use Rattle.mp4_fragment_machine.specs.declared.state.State.TheVariants as states
 use Rattle.mp4_fragment_machine.proofs.BodyLemmas.{Moves-settled}
 use Rattle.mp4_fragment_machine.proofs.CountLemmas.{counted_ended}

@@ -13,7 +13,7 @@ use Rattle.mp4_fragment_machine.specs.Places.{Untouched}
 use Rattle.mp4_fragment_machine.specs.States.{IsCounted, IsPendingMoof, bound_after, claimed_in, in_mdat, moof_in, tracks_after}
 use Rattle.mp4_fragment_machine.specs.Implementation.Steps.{GoesTo, ledger_alone}
 use Rattle.mp4_fragment_machine.specs.declared.state.Carried.{Carried}
-use Rattle.mp4_fragment_machine.specs.declared.state.PendingMoof.{PendingMoof}
+use Rattle.mp4_fragment_machine.specs.declared.pending_moof.PendingMoof.{PendingMoof}
 use Rattle.mp4_fragment_machine.specs.declared.state.State.TheVariants as states
 use Rattle.mp4_fragment_machine.proofs.ExtentLemmas.{bound_in-begun, claim_in, in_mdat-begins}
 use Rattle.mp4_fragment_machine.proofs.RecutStateLemmas.{GoesOn-same}

@@ -24,7 +24,7 @@ use Rattle.mp4_fragment_machine.specs.States.{IsCounted, IsState, bound_after, b
 use Rattle.mp4_fragment_machine.specs.Implementation.Steps.{CanStep, GoesTo, at_state, ledger_alone}
 use Rattle.mp4_fragment_machine.specs.declared.state.Carried.{Carried}
 use Rattle.mp4_fragment_machine.specs.declared.state.Counter.{Counter}
-use Rattle.mp4_fragment_machine.specs.declared.state.PendingMoof.{PendingMoof}
+use Rattle.mp4_fragment_machine.specs.declared.pending_moof.PendingMoof.{PendingMoof}
 use Rattle.mp4_fragment_machine.specs.declared.state.State.TheVariants as states
 use Rattle.mp4_fragment_machine.proofs.CountLemmas.{counted_later}
 

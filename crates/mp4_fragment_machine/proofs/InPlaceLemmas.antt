@@ -33,7 +33,7 @@ use Rattle.mp4_grammar.specs.Kinds.{kind_in, most_moof}
 use Rattle.mp4_grammar.specs.Meanings.{Fragment, Meaning, counted_in, fragment_fault, needed_in}
 use Rattle.mp4_fragment_machine.specs.Places.{InBody, InHeader, InBuffered, InMdatHeader, continuation_at}
 use Rattle.mp4_fragment_machine.specs.States.{claimed_in, pending_fragment, in_mdat}
-use Rattle.mp4_fragment_machine.specs.declared.state.PendingMoof.{PendingMoof}
+use Rattle.mp4_fragment_machine.specs.declared.pending_moof.PendingMoof.{PendingMoof}
 use Rattle.mp4_fragment_machine.proofs.MdatHeaderLemmas.{GoesOn-fragment_at, HasRows, WriteFailed-fragment}
 use Rattle.mp4_machine.proofs.ContinuationLemmas.{GoesOn-over, GoesOn-passed}
 use Rattle.mp4_fragment_machine.proofs.BodyLemmas.{Moves-settled, back_twice}

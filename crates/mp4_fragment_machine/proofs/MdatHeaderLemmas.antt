@@ -33,7 +33,7 @@ use Rattle.std.specs.Option.{option_or}
 use Rattle.mp4_frag.specs.Places.{place_fault}
 use Rattle.mp4_frag.specs.Moofs.{moof_runs}
 use Rattle.mp4_fragment_machine.specs.States.{IsPendingMoof, claimed_in, pending_fragment, in_mdat, known, moof_in, taken_by}
-use Rattle.mp4_fragment_machine.specs.declared.state.PendingMoof.{PendingMoof}
+use Rattle.mp4_fragment_machine.specs.declared.pending_moof.PendingMoof.{PendingMoof}
 use Rattle.mp4_fragment_machine.proofs.BodyLemmas.{claimed_apart}
 use Rattle.mp4_fragment_machine.proofs.BufferedBoxLemmas.{Moves-all_back}
 use Rattle.mp4_fragment_machine.proofs.SecondLemmas.{after-bad, second-accepted}

@@ -36,7 +36,7 @@ use Rattle.mp4_grammar.specs.Meanings.{reach}
 use Rattle.mp4_run_order.specs.Runs.{beyond}
 use Rattle.mp4_traf.specs.Ranges.{AreRunsOf, IsRunOf}
 use Rattle.mp4_fragment_machine.specs.States.{IsPendingMoof, moof_in}
-use Rattle.mp4_fragment_machine.specs.declared.state.PendingMoof.{PendingMoof}
+use Rattle.mp4_fragment_machine.specs.declared.pending_moof.PendingMoof.{PendingMoof}
 use Rattle.mp4_fragment_machine.proofs.LineLemmas.{rows_taken, taken_are}
 
 -- how many bytes some runs have

@@ -54,7 +54,7 @@ use Rattle.mp4_fragment_machine.specs.Implementation.Recuts.{first_position, in_
 use Rattle.mp4_traf.specs.Settling.{settled}
 use Rattle.mp4_fragment_machine.specs.Places.{InBody, InHeader, InMdatHeader, InOpenBody, claim_of, continuation_at, reached_of, reads_at}
 use Rattle.mp4_fragment_machine.specs.States.{RisesIn, in_extent, moof_in}
-use Rattle.mp4_fragment_machine.specs.declared.state.PendingMoof.{PendingMoof}
+use Rattle.mp4_fragment_machine.specs.declared.pending_moof.PendingMoof.{PendingMoof}
 use Rattle.mp4_fragment_machine.proofs.SecondLemmas.{second-accepted}
 
 module _ (a b : Option (List ℕ)) (v w : Pending) (tally : Tally) (n : ℕ) where

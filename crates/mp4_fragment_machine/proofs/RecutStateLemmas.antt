@@ -26,7 +26,7 @@ use Rattle.mp4_fragment_machine.specs.Implementation.Recuts.{in_media, recut_fra
 use Rattle.mp4_fragment_machine.specs.States.{IsPendingMoof, RisesIn, claimed_in, known, moof_in, place_of}
 use Rattle.mp4_fragment_machine.specs.declared.state.Recutting.{Recutting}
 use Rattle.mp4_fragment_machine.specs.declared.state.State.TheVariants as states
-use Rattle.mp4_fragment_machine.specs.declared.state.PendingMoof.{PendingMoof}
+use Rattle.mp4_fragment_machine.specs.declared.pending_moof.PendingMoof.{PendingMoof}
 
 -- the same place
 pub GoesOn-same : (meaning : Meaning) (o : Environment) (p q : Place) → p ≡ q → GoesOn o o (continuation_at meaning p) [] (continuation_at meaning q)

@@ -40,7 +40,7 @@ use Rattle.mp4_fragment_machine.specs.Implementation.Steps.{Borrowed, StopsIn, a
 use Rattle.mp4_fragment_machine.specs.declared.state.Carried.{Carried}
 use Rattle.mp4_fragment_machine.specs.declared.state.State.TheVariants as states
 use Rattle.mp4_fragment_machine.specs.Implementation.InPlace.{AreBoxes, payload_in}
-use Rattle.mp4_fragment_machine.specs.declared.state.PendingMoof.{PendingMoof}
+use Rattle.mp4_fragment_machine.specs.declared.pending_moof.PendingMoof.{PendingMoof}
 use Rattle.mp4_fragment_machine.specs.declared.in_place.Boxes.{Boxes}
 use Rattle.mp4_fragment_machine.proofs.MdatHeaderLemmas.{HasRows}
 use Rattle.mp4_fragment_machine.proofs.FragmentLemmas.{first_is, moof_len}

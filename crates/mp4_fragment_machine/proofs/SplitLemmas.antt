@@ -10,7 +10,7 @@ use Rattle.mp4_grammar.specs.Items.{after_moof, faulty, reads_in}
 use Rattle.mp4_grammar.specs.Meanings.{Meaning}
 use Rattle.mp4_fragment_machine.specs.Places.{InMdatHeader, claim_of, continuation_at}
 use Rattle.mp4_fragment_machine.specs.States.{claimed_in, taken_by}
-use Rattle.mp4_fragment_machine.specs.declared.state.PendingMoof.{PendingMoof}
+use Rattle.mp4_fragment_machine.specs.declared.pending_moof.PendingMoof.{PendingMoof}
 use Rattle.mp4_fragment_machine.proofs.MdatHeaderLemmas.{HasRows}
 use Rattle.mp4_fragment_machine.proofs.BufferedBoxLemmas.{Moves-all_back}
 

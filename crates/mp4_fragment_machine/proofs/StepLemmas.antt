@@ -27,7 +27,7 @@ use Rattle.mp4_fragment_machine.specs.declared.state.Counter.{Counter}
 use Rattle.mp4_fragment_machine.specs.declared.state.Carried.{Carried}
 use Rattle.mp4_fragment_machine.specs.declared.state.State.{State}
 use Rattle.mp4_fragment_machine.specs.declared.state.State.TheVariants as states
-use Rattle.mp4_fragment_machine.specs.declared.state.PendingMoof.{PendingMoof}
+use Rattle.mp4_fragment_machine.specs.declared.pending_moof.PendingMoof.{PendingMoof}
 use Rattle.mp4_fragment_machine.specs.declared.state.Taken.{Taken}
 use Rattle.mp4_fragment_machine.proofs.MdatHeaderLemmas.{GoesOn-after_head, claimed_after}
 use Rattle.mp4_fragment_machine.proofs.CountLemmas.{counted_later}

@@ -7,7 +7,7 @@ ghost use Rattle.mp4_machine.specs.declared.body.Body.{Body};
 ghost use Rattle.mp4_fragment_machine.specs.Places.{claim_of};
 ghost use Rattle.mp4_fragment_machine.specs.States.{place_in};
 ghost use Rattle.mp4_fragment_machine.specs.Implementation.Feeds.{Feeds};
-ghost use Rattle.mp4_fragment_machine.specs.declared.state.PendingMoof.{PendingMoof};
+ghost use Rattle.mp4_fragment_machine.specs.declared.pending_moof.PendingMoof.{PendingMoof};
 ghost use Rattle.mp4_fragment_machine.specs.declared.state.Recutting.{Recutting};
 ghost use Rattle.mp4_fragment_machine.specs.declared.state.State.TheVariants as states;
 

@@ -11,7 +11,7 @@ ghost use Rattle.mp4_fragment_machine.specs.States.{begun, continuation_in, list
 ghost use Rattle.mp4_fragment_machine.specs.Implementation.Feeds.{Feeds};
 ghost use Rattle.mp4_fragment_machine.specs.Implementation.Steps.{Consumes, MayTake, borrowed};
 ghost use Rattle.mp4_fragment_machine.specs.declared.state.Recutting.{Recutting};
-ghost use Rattle.mp4_fragment_machine.specs.declared.state.PendingMoof.{PendingMoof};
+ghost use Rattle.mp4_fragment_machine.specs.declared.pending_moof.PendingMoof.{PendingMoof};
 ghost use Rattle.mp4_fragment_machine.specs.declared.state.State.TheVariants as states;
 
 use crate::in_place::InPlace;

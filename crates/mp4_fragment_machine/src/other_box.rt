@@ -9,7 +9,7 @@ ghost use Rattle.mp4_fragment_machine.specs.States.{place_in};
 ghost use Rattle.mp4_fragment_machine.specs.Implementation.Feeds.{Feeds};
 ghost use Rattle.mp4_fragment_machine.specs.Implementation.Steps.{Consumes, MayTake, borrowed};
 ghost use Rattle.mp4_fragment_machine.specs.declared.state.Carried.{Carried};
-ghost use Rattle.mp4_fragment_machine.specs.declared.state.PendingMoof.{PendingMoof};
+ghost use Rattle.mp4_fragment_machine.specs.declared.pending_moof.PendingMoof.{PendingMoof};
 ghost use Rattle.mp4_fragment_machine.specs.declared.state.State.TheVariants as states;
 
 use crate::machine::FragmentMachine;

@@ -1,41 +1,24 @@
 //! State of the machine, and its changes in place.
 
-ghost use Rattle.std.specs.Prelude.{◌≡◌, Some, ℕ, ◌≤◌, Option};
+ghost use Rattle.std.specs.Prelude.{◌≡◌, ℕ, ◌≤◌};
 ghost use Rattle.mp4_ledger.specs.Memory.{given_back};
 ghost use Rattle.mp4_machine.specs.declared.body.Body.{Body};
-ghost use Rattle.mp4_fragment_machine.specs.States.{IsPendingMoof, kept_by, moof_in, stopped, taken_by};
+ghost use Rattle.mp4_fragment_machine.specs.States.{kept_by, stopped};
 ghost use Rattle.mp4_fragment_machine.specs.declared.state.Recutting.{Recutting};
-ghost use Rattle.mp4_fragment_machine.specs.declared.state.PendingMoof.{PendingMoof};
 ghost use Rattle.mp4_fragment_machine.specs.declared.state.State.TheVariants as states;
 
+use crate::pending_moof::{PendingMoof, back};
 use mp4_box::HeaderReader;
 use mp4_box::types::MDAT;
 use mp4_cut::Cut;
 use mp4_ends::Sink;
-use mp4_frag::{Moof, RunList, Steps};
+use mp4_frag::Steps;
 use mp4_init::TrackList;
 use mp4_ledger::Ledger;
 use mp4_machine::{Body, BufferedBox, Extent, Tally};
 use mp4_recut::Operation;
 use mp4_recut::media::Media;
 use std::mem::replace;
-
-/// A sound moof that waits for its mdat or for the end of that, with its runs in the order in which they are taken.
-pub(crate) struct PendingMoof {
-    pub(crate) moof: BufferedBox,
-    pub(crate) runs: RunList,
-}
-
-impl PendingMoof {
-    /// The moof that was read from its bytes with these tracks. It reads no row.
-    #[inline(always)]
-    pub(crate) fn moof(&self, tracks: &TrackList) -> Moof<'_>
-        requires { IsPendingMoof (Some tracks.now) self.now }
-        ensures { result ≡ moof_in self.now }
-    {
-        Moof::again(self.moof.bytes(), self.moof.offset(), tracks)
-    }
-}
 
 /// The body of an mdat that is recut, at whose end its moof is done; `number` is the sequence number of the next output
 /// fragment.
@@ -117,17 +100,6 @@ pub(crate) fn leave_media(current: &mut State, at: u64) -> PendingMoof
             },
         ) => pending_moof,
         _ => unreachable!(),
-    }
-}
-
-/// Gives a pending moof and its list back, if there is one.
-pub(crate) fn back(pending_moof: Option<PendingMoof>, ledger: &mut Ledger)
-    requires { taken_by pending_moof ≤ ledger.old.live }
-    ensures { ledger.new ≡ given_back ledger.old (taken_by pending_moof) }
-{
-    if let Some(PendingMoof { moof, runs }) = pending_moof {
-        runs.back(ledger);
-        moof.back(ledger);
     }
 }
 

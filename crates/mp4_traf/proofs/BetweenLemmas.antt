@@ -52,14 +52,11 @@ durations_between run moof_bytes groups first n e h = field_between (λ (r : Row
 
 -- ---- all rows of a run
 
-all_rows : (run : Run) (moof_bytes : List ℕ) → take run.count (drop 0 (rows_of run moof_bytes)) ≡ rows_of run moof_bytes
+pub all_rows : (run : Run) (moof_bytes : List ℕ) → take run.count (drop 0 (rows_of run moof_bytes)) ≡ rows_of run moof_bytes
 all_rows run moof_bytes = let n = length_rows_of run moof_bytes in take_all run.count (rows_of run moof_bytes) (omega (arith, n))
 
-pub all_sizes : (run : Run) (moof_bytes groups : List ℕ) → groups ≡ drop (group_at run 0) moof_bytes → field_numbers groups run.fields.sample_size run.size run.fields.len run.count ≡ sizes (rows_of run moof_bytes)
-all_sizes run moof_bytes groups e = sizes_between run moof_bytes groups 0 run.count e (omega arith) ∙ ap sizes (all_rows run moof_bytes)
-
-pub all_time : (run : Run) (moof_bytes groups : List ℕ) → groups ≡ drop (group_at run 0) moof_bytes → field_numbers groups run.fields.sample_duration run.duration run.fields.len run.count ≡ durations (rows_of run moof_bytes)
-all_time run moof_bytes groups e = durations_between run moof_bytes groups 0 run.count e (omega arith) ∙ ap durations (all_rows run moof_bytes)
+pub all_durations : (run : Run) (moof_bytes groups : List ℕ) → groups ≡ drop (group_at run 0) moof_bytes → field_numbers groups run.fields.sample_duration run.duration run.fields.len run.count ≡ durations (rows_of run moof_bytes)
+all_durations run moof_bytes groups e = durations_between run moof_bytes groups 0 run.count e (omega arith) ∙ ap durations (all_rows run moof_bytes)
 
 -- ---- one group less
 

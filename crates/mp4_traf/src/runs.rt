@@ -13,7 +13,6 @@ ghost use Rattle.mp4_traf.specs.Implementation.Times.{ticks_in};
 use crate::children::next_of;
 use crate::fields::flags_of;
 use crate::run::Run;
-use crate::sums::sums_of;
 use crate::traf::{TrafContext, end_in};
 use crate::trun::{data_offset, first_sample_flags, sample_count, sample_fields, trun_fields};
 use mp4_box::types::TRUN;
@@ -73,7 +72,7 @@ pub fn run_of(context: &TrafContext<'_>, run_start: &RunStart, trun: &BoxRef<'_>
         (view trun.now) }
 {
     let mut run = run_at(context, run_start, trun);
-    let sums = sums_of(&run, context.moof_bytes);
+    let sums = run.sums_between(context.moof_bytes, 0, run.count);
     run.end = run_start.time + sums.ticks;
     run.bytes = sums.bytes;
     run

@@ -208,18 +208,6 @@ fn sums_in(run: &Run, groups: &[u8], count: u32) -> Sums
     }
 }
 
-/// The sizes and the durations of the samples of a run, added up.
-#[inline(always)]
-#[tactic(auto, using(crate::proofs::BetweenLemmas::all_sizes, crate::proofs::BetweenLemmas::all_time))]
-pub(crate) fn sums_of(run: &Run, moof_bytes: &[u8]) -> Sums
-    ensures bytes { result.bytes ≡ sizes (rows_of run.now moof_bytes.now) }
-    ensures ticks { result.ticks ≡ durations (rows_of run.now moof_bytes.now) }
-    ensures few_bytes { result.bytes ≤ 4294967295 * run.now.count }
-    ensures few_ticks { result.ticks ≤ 4294967295 * run.now.count }
-{
-    sums_in(run, groups_from(run, moof_bytes, 0), run.count)
-}
-
 impl Run {
     /// The sizes and the durations of `count` rows from row `first` on, added up; nothing else of them is read.
     /// `moof_bytes` are the bytes of its moof.

@@ -14,7 +14,7 @@ use Rattle.mp4_recut.specs.Splitting.{output_fragments, splitting}
 use Rattle.mp4_recut.specs.declared.media.Media.{Media}
 use Rattle.mp4_fragment_machine.specs.States.{AreMediaOf, moof_in}
 use Rattle.mp4_fragment_machine.specs.Implementation.Recuts.{first_position, with_fragments, with_samples}
-use Rattle.mp4_fragment_machine.specs.declared.state.PendingMoof.{PendingMoof}
+use Rattle.mp4_fragment_machine.specs.declared.pending_moof.PendingMoof.{PendingMoof}
 
 -- ---- beginning them
 

@@ -17,7 +17,7 @@ use Rattle.mp4_grammar.specs.Meanings.{Fragment, needed_in, runs_in}
 use Rattle.mp4_recut.specs.Splitting.{output_fragments, splitting}
 use Rattle.mp4_recut.specs.Media.{MediaPosition, output_from}
 use Rattle.mp4_fragment_machine.specs.Places.{Place, InBody, InOpenBody}
-use Rattle.mp4_fragment_machine.specs.declared.state.PendingMoof.{PendingMoof}
+use Rattle.mp4_fragment_machine.specs.declared.pending_moof.PendingMoof.{PendingMoof}
 
 -- the tally with so many fragments
 abbrev pub with_fragments : Tally → ℕ → Tally

@@ -25,7 +25,7 @@ use Rattle.mp4_fragment_machine.specs.declared.mdat.accept_recut.Split.{Split}
 use Rattle.mp4_fragment_machine.specs.declared.state.Counter.{Counter}
 use Rattle.mp4_fragment_machine.specs.declared.state.Carried.{Carried}
 use Rattle.mp4_fragment_machine.specs.declared.state.State.{State}
-use Rattle.mp4_fragment_machine.specs.declared.state.PendingMoof.{PendingMoof}
+use Rattle.mp4_fragment_machine.specs.declared.pending_moof.PendingMoof.{PendingMoof}
 
 -- before the mdat, with these bytes of its header
 abbrev pub in_mdat_header : Fragment → PendingMoof → List ℕ → Place

@@ -18,7 +18,7 @@ use Rattle.mp4_fragment_machine.specs.declared.state.Carried.{Carried}
 use Rattle.mp4_fragment_machine.specs.declared.state.State.{State}
 use Rattle.mp4_fragment_machine.specs.declared.state.State.TheVariants as states
 use Rattle.mp4_fragment_machine.specs.declared.state.Taken.{Taken}
-use Rattle.mp4_fragment_machine.specs.declared.state.PendingMoof.{PendingMoof}
+use Rattle.mp4_fragment_machine.specs.declared.pending_moof.PendingMoof.{PendingMoof}
 
 -- ---- what a step borrows, apart from the machine
 

@@ -15,7 +15,8 @@ ghost use Rattle.mp4_fragment_machine.specs.Implementation.InPlace.{WasReadInPla
 ghost use Rattle.mp4_fragment_machine.specs.declared.state.State.TheVariants as states;
 
 use crate::in_place::many_runs::InPlaceRead;
-use crate::state::{Carried, Counter, PendingMoof};
+use crate::pending_moof::PendingMoof;
+use crate::state::{Carried, Counter};
 use mp4_box::Fault;
 use mp4_frag::Moof;
 use mp4_init::TrackList;

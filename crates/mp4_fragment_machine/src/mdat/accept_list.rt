@@ -7,7 +7,8 @@ ghost use Rattle.mp4_fragment_machine.specs.declared.state.State.TheVariants as 
 use crate::mdat::check::check_mdat;
 use crate::mdat::end::end_fragment;
 use crate::mdat::list::emit;
-use crate::state::{Carried, PendingMoof, State, back};
+use crate::pending_moof::{PendingMoof, back};
+use crate::state::{Carried, State};
 use mp4_box::Header;
 use mp4_ends::{Failed, Sink};
 use mp4_grammar::Command;

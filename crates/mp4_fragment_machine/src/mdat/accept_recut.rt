@@ -27,7 +27,8 @@ ghost use Rattle.mp4_fragment_machine.specs.declared.state.State.TheVariants as 
 use crate::mdat::check::{check_mdat, payload_of};
 use crate::mdat::end::end_fragment;
 use crate::mdat::totals::{MoofTotals, add_up_runs};
-use crate::state::{Carried, Counter, PendingMoof, Recutting, State, back};
+use crate::pending_moof::{PendingMoof, back};
+use crate::state::{Carried, Counter, Recutting, State};
 use mp4_box::{Fault, Header};
 use mp4_cut::Cut;
 use mp4_ends::{Failed, Sink};

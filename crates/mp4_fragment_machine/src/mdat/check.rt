@@ -13,7 +13,7 @@ ghost use Rattle.mp4_machine.specs.Bodies.{fault, least_end, longest};
 ghost use Rattle.mp4_fragment_machine.specs.States.{IsPendingMoof, moof_in};
 ghost use Rattle.mp4_box.specs.declared.headers.Step.TheVariants as steps;
 
-use crate::state::PendingMoof;
+use crate::pending_moof::PendingMoof;
 use mp4_box::types::MOOF;
 use mp4_box::{Fault, Header, Rule, Size};
 use mp4_frag::{Payload, Steps};

@@ -6,7 +6,8 @@ ghost use Rattle.mp4_traf.specs.Settling.{settled, timed_of};
 ghost use Rattle.mp4_ledger.specs.Memory.{given_back};
 ghost use Rattle.mp4_fragment_machine.specs.States.{IsPendingMoof, moof_in};
 
-use crate::state::{Carried, Counter, PendingMoof, back};
+use crate::pending_moof::PendingMoof;
+use crate::state::Counter;
 use mp4_init::TrackList;
 use mp4_ledger::Ledger;
 
@@ -31,5 +32,7 @@ pub(crate) fn end_fragment(
         counter.old.steps.rows + moof_samples (moof_in pending_moof) }
 {
     pending_moof.moof(tracks).settle(tracks, &mut counter.steps);
-    back(Some(pending_moof), ledger);
+    let PendingMoof { moof, runs } = pending_moof;
+    runs.back(ledger);
+    moof.back(ledger);
 }

@@ -11,7 +11,8 @@ ghost use Rattle.mp4_fragment_machine.specs.declared.state.State.TheVariants as 
 
 use crate::mdat::accept_list::begin_listed;
 use crate::mdat::accept_recut::begin_media;
-use crate::state::{Carried, PendingMoof, State, Taken, back};
+use crate::pending_moof::{PendingMoof, back};
+use crate::state::{Carried, State, Taken};
 use mp4_box::types::MOOF;
 use mp4_box::{Fault, HeaderReader, Rule};
 use mp4_ends::Sink;

@@ -9,7 +9,7 @@ ghost use Rattle.mp4_machine.specs.Puts.{Puts};
 ghost use Rattle.mp4_grammar.specs.Samples.{sample_lines, sample_of, samples_from, samples_of_run};
 ghost use Rattle.mp4_fragment_machine.specs.States.{IsPendingMoof, lines_of, moof_in};
 
-use crate::state::PendingMoof;
+use crate::pending_moof::PendingMoof;
 use mp4_ends::{Failed, Sink};
 use mp4_frag::{Cursor, Row, Rows, Run, Steps};
 use mp4_grammar::{CachedLine, Sample};

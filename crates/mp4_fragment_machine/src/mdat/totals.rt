@@ -13,7 +13,8 @@ ghost use Rattle.mp4_machine.specs.Bodies.{longest};
 ghost use Rattle.mp4_machine.specs.Readings.{plus};
 ghost use Rattle.mp4_fragment_machine.specs.States.{IsPendingMoof, moof_in};
 
-use crate::state::{Counter, PendingMoof};
+use crate::pending_moof::PendingMoof;
+use crate::state::Counter;
 use mp4_frag::Payload;
 use mp4_init::TrackList;
 

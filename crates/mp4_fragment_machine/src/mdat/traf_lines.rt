@@ -16,7 +16,7 @@ ghost use Rattle.mp4_machine.specs.Puts.{Puts};
 ghost use Rattle.mp4_fragment_machine.specs.States.{IsPendingMoof, moof_in};
 ghost use Rattle.mp4_fragment_machine.specs.Implementation.TrafLines.{moof_lines, put_of, put_with, size_with};
 
-use crate::state::PendingMoof;
+use crate::pending_moof::PendingMoof;
 use mp4_box::{Header, Size};
 use mp4_ends::{Failed, Sink};
 use mp4_frag::{Moof, SingleRun, Steps, TrafTotals, Trafs};

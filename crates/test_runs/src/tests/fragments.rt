@@ -1,7 +1,7 @@
 //! Samples that are listed, and streams that are checked.
 
 use super::check_words;
-use mp4_vectors::V1;
+use mp4_vectors::{V1, V2};
 use std::alloc::Global;
 use std::process::Abort;
 use std::test::Fail;
@@ -83,6 +83,48 @@ fn tracks_and_fragments(rt: HostRuntime) -> Result<(), Fail> {
     )?;
     let fault = "fmp4: 1 Truncated in mdat at 460\n";
     check_words(&rt, alloc, &words, &[&v1[..482]], 2, &FRAGMENTS, fault)
+}
+
+#[test]
+fn trafs_of_a_fragment(rt: HostRuntime) -> Result<(), Fail> {
+    let (alloc, v1, v2) = (rt.alloc(), V1.as_slice(), V2.as_slice());
+    let words = ["fmp4", "fragments"];
+    let two_tracks = [
+        "track=1 timescale=48000 entries=1\n",
+        "track=2 timescale=48000 entries=1\n",
+        "fragment=1 at=584 size=195 track=1 dts=0 dur=3072 samples=3 sync=yes media=15\n",
+        "fragment=1 at=584 size=195 track=2 dts=0 dur=2048 samples=2 sync=yes media=8\n",
+    ];
+    check_words(&rt, alloc, &words, &[v2], 0, &two_tracks, "")?;
+    let (front, tfhd) = (&v1[..364], &v1[396..412]);
+    // Two runs, of which only the second begins with a sync sample.
+    let two_runs = [
+        front,
+        b"\0\0\0\x74moof\0\0\0\x10mfhd\0\0\0\0\0\0\0\x07\0\0\0\x5ctraf".as_slice(),
+        tfhd,
+        b"\0\0\0\x10tfdt\0\0\0\0\0\0\x10\0",
+        b"\0\0\0\x1ctrun\0\0\x02\x05\0\0\0\x01\0\0\0\x7c\x01\x01\0\0\0\0\0\x05",
+        b"\0\0\0\x18trun\0\0\x02\x01\0\0\0\x01\0\0\0\x81\0\0\0\x07",
+        b"\0\0\0\x14mdat\x01\x02\x03\x04\x05\x06\x07\x08\x09\x0a\x0b\x0c",
+    ];
+    let lines = [
+        FRAGMENTS[0],
+        "fragment=7 at=364 size=136 track=1 dts=4096 dur=2048 samples=2 sync=no media=12\n",
+    ];
+    check_words(&rt, alloc, &words, &two_runs, 0, &lines, "")?;
+    // A traf without runs.
+    let no_run = [
+        front,
+        b"\0\0\0\x40moof\0\0\0\x10mfhd\0\0\0\0\0\0\0\x08\0\0\0\x28traf".as_slice(),
+        tfhd,
+        &v1[412..428],
+        b"\0\0\0\x08mdat",
+    ];
+    let lines = [
+        FRAGMENTS[0],
+        "fragment=8 at=364 size=72 track=1 dts=0 dur=0 samples=0 sync=no media=0\n",
+    ];
+    check_words(&rt, alloc, &words, &no_run, 0, &lines, "")
 }
 
 #[test]

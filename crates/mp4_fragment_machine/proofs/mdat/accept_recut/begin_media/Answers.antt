@@ -6,7 +6,7 @@ use Rattle.mp4_fragment_machine.specs.Implementation.Splits.{EntersMedia}
 use Rattle.mp4_fragment_machine.specs.Implementation.Recuts.{recut_fragment}
 use Rattle.mp4_fragment_machine.specs.Implementation.Steps.{ledger_alone}
 use Rattle.mp4_fragment_machine.specs.declared.state.Carried.{Carried}
-use Rattle.mp4_fragment_machine.specs.declared.state.PendingMoof.{PendingMoof}
+use Rattle.mp4_fragment_machine.specs.declared.pending_moof.PendingMoof.{PendingMoof}
 use Rattle.mp4_fragment_machine.proofs.StepLemmas.{GoesTo-after}
 use Rattle.mp4_fragment_machine.proofs.mdat.accept_recut.begin_media.Goals as goal
 
