@@ -34,10 +34,10 @@ at_places f run moof_bytes at first n is =
     ∙ sym (numbers_after moof_bytes run.fields.len (run.samples_at + run.fields.len * first) at n)
 
 -- a field of the rows between two, which is in their groups or has a default
-field_between : (f : Row → ℕ) (run : Run) (moof_bytes groups : List ℕ) (o : Option ℕ) (common_layout first n : ℕ) → groups ≡ drop (group_at run first) moof_bytes → first + n ≤ run.count → ((j : ℕ) → f (row_of run moof_bytes j) ≡ field_at moof_bytes (group_at run j) o common_layout)
-    → field_numbers groups o common_layout run.fields.len n ≡ sum_by f (take n (drop first (rows_of run moof_bytes)))
-field_between f run moof_bytes groups None common_layout first n e h is = sym (same_sum f (row_of run moof_bytes) common_layout first n is) ∙ ap (sum_by f) (sym (rows_between run moof_bytes first n h))
-field_between f run moof_bytes groups (Some at) common_layout first n e h is =
+field_between : (f : Row → ℕ) (run : Run) (moof_bytes groups : List ℕ) (o : Option ℕ) (default_value first n : ℕ) → groups ≡ drop (group_at run first) moof_bytes → first + n ≤ run.count → ((j : ℕ) → f (row_of run moof_bytes j) ≡ field_at moof_bytes (group_at run j) o default_value)
+    → field_numbers groups o default_value run.fields.len n ≡ sum_by f (take n (drop first (rows_of run moof_bytes)))
+field_between f run moof_bytes groups None default_value first n e h is = sym (same_sum f (row_of run moof_bytes) default_value first n is) ∙ ap (sum_by f) (sym (rows_between run moof_bytes first n h))
+field_between f run moof_bytes groups (Some at) default_value first n e h is =
     ap (λ (bytes : List ℕ). numbers_from bytes run.fields.len at n) e
     ∙ sym (at_places f run moof_bytes at first n is)
     ∙ ap (sum_by f) (sym (rows_between run moof_bytes first n h))
@@ -55,8 +55,8 @@ durations_between run moof_bytes groups first n e h = field_between (λ (r : Row
 pub all_rows : (run : Run) (moof_bytes : List ℕ) → take run.count (drop 0 (rows_of run moof_bytes)) ≡ rows_of run moof_bytes
 all_rows run moof_bytes = let n = length_rows_of run moof_bytes in take_all run.count (rows_of run moof_bytes) (omega (arith, n))
 
-pub all_durations : (run : Run) (moof_bytes groups : List ℕ) → groups ≡ drop (group_at run 0) moof_bytes → field_numbers groups run.fields.sample_duration run.duration run.fields.len run.count ≡ durations (rows_of run moof_bytes)
-all_durations run moof_bytes groups e = durations_between run moof_bytes groups 0 run.count e (omega arith) ∙ ap durations (all_rows run moof_bytes)
+pub duration : (run : Run) (moof_bytes groups : List ℕ) → groups ≡ drop (group_at run 0) moof_bytes → field_numbers groups run.fields.sample_duration run.duration run.fields.len run.count ≡ durations (rows_of run moof_bytes)
+duration run moof_bytes groups e = durations_between run moof_bytes groups 0 run.count e (omega arith) ∙ ap durations (all_rows run moof_bytes)
 
 -- ---- one group less
 

@@ -39,9 +39,9 @@ small_sum f g a (suc n) small =
     let e = sum_by-cons f (g a) (map g (range_with_len (a + 1) n)) in
     omega (arith, e, small a, small_sum f g (a + 1) n small)
 
-pub field_small : (moof_bytes : List ℕ) (g : ℕ) (o : Option ℕ) (common_layout : ℕ) → IsBytes moof_bytes → common_layout < 2 ^ 32 → field_at moof_bytes g o common_layout < 2 ^ 32
-field_small moof_bytes g None common_layout fits small = small
-field_small moof_bytes g (Some at) common_layout fits small = number_small moof_bytes (g + at) fits
+pub field_small : (moof_bytes : List ℕ) (g : ℕ) (o : Option ℕ) (default_value : ℕ) → IsBytes moof_bytes → default_value < 2 ^ 32 → field_at moof_bytes g o default_value < 2 ^ 32
+field_small moof_bytes g None default_value fits small = small
+field_small moof_bytes g (Some at) default_value fits small = number_small moof_bytes (g + at) fits
 
 size_small : (run : Run) (moof_bytes : List ℕ) (i : ℕ) → IsBytes moof_bytes → run.size < 2 ^ 32 → (row_of run moof_bytes i).size < 2 ^ 32
 unfolding row_of

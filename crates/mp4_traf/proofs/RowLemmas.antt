@@ -102,9 +102,9 @@ number_after moof_bytes g at =
 none_more : (n : ℕ) → 0 + n ≡ n
 none_more n = omega arith
 
-field_after : (moof_bytes : List ℕ) (g : ℕ) (at : Option ℕ) (common_layout : ℕ) → field_at (drop g moof_bytes) 0 at common_layout ≡ field_at moof_bytes g at common_layout
-field_after moof_bytes g None common_layout = refl
-field_after moof_bytes g (Some at) common_layout = ap (λ n. number_in (drop g moof_bytes) n) (none_more at) ∙ number_after moof_bytes g at
+field_after : (moof_bytes : List ℕ) (g : ℕ) (at : Option ℕ) (default_value : ℕ) → field_at (drop g moof_bytes) 0 at default_value ≡ field_at moof_bytes g at default_value
+field_after moof_bytes g None default_value = refl
+field_after moof_bytes g (Some at) default_value = ap (λ n. number_in (drop g moof_bytes) n) (none_more at) ∙ number_after moof_bytes g at
 
 offset_after : (moof_bytes : List ℕ) (version g : ℕ) (at : Option ℕ) → offset_at (drop g moof_bytes) version 0 at ≡ offset_at moof_bytes version g at
 offset_after moof_bytes version g None = refl

@@ -18,8 +18,8 @@ place_if is_there at = if is_there then Some at else None
 
 -- the number of the field at a place, or a default if the field isn't there
 abbrev pub number_or : List ℕ → Option ℕ → ℕ → ℕ
-number_or payload None common_layout = common_layout
-number_or payload (Some at) common_layout = number_in payload at
+number_or payload None default_value = default_value
+number_or payload (Some at) default_value = number_in payload at
 
 -- the signed number in the four bytes at a place, in two's complement; 0 where they aren't all there
 abbrev pub signed_in : List ℕ → ℕ → ℤ

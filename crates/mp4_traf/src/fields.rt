@@ -35,12 +35,12 @@ pub(crate) fn place_if(is_there: bool, at: u32) -> Option<u32>
 }
 
 /// The number of the field at a place, or a default if the field isn't there.
-pub(crate) fn number_or(payload: &[u8], at: Option<u32>, common_layout: u32) -> u32
-    ensures { result ≡ number_or payload.now at common_layout }
+pub(crate) fn number_or(payload: &[u8], at: Option<u32>, default_value: u32) -> u32
+    ensures { result ≡ number_or payload.now at default_value }
 {
     match at {
         Some(at) => number_at(payload, at),
-        None => common_layout,
+        None => default_value,
     }
 }
 

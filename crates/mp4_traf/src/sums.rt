@@ -68,26 +68,6 @@ fn any_sum(groups: &[u8], at: u32, len: u32, count: u32) -> u64
     total
 }
 
-/// The numbers at a place of each of `count` groups of `len` bytes, of which the first begins the bytes, added up.
-#[inline(always)]
-#[tactic(auto, using(crate::proofs::RowLemmas::numbers_one))]
-fn numbers_sum(groups: &[u8], at: u32, len: u32, count: u32) -> u64
-    ensures sum { result ≡ numbers_from groups.now len at count }
-    ensures few { result ≤ 4294967295 * count }
-{
-    // Runs of live streams often have one sample.
-    if count == 1 {
-        return u64::from(number_in(groups, u64::from(at)));
-    }
-    let end = u64::from(at) + 4 + u64::from(len) * u64::from(count);
-    // In a trun without a fault all are there: no number needs a test of its own.
-    if end <= groups.len() as u64 + u64::from(len) {
-        whole_sum(groups, at, len, count)
-    } else {
-        any_sum(groups, at, len, count)
-    }
-}
-
 /// The numbers at two places of each of `count` groups of `len` bytes, of which the first begins the bytes, added up,
 /// those at each place by themselves: the groups are gone over once. All of them are there.
 #[inline(always)]
@@ -160,13 +140,24 @@ fn both_sums(groups: &[u8], size_at: u32, duration_at: u32, len: u32, count: u32
 /// The numbers of a field of `count` groups of `len` bytes, of which the first begins the bytes, added up: by a product
 /// where they haven't the field.
 #[inline(always)]
-fn field_sum(groups: &[u8], at: Option<u32>, common_layout: u32, len: u32, count: u32) -> u64
-    ensures sum { result ≡ field_numbers groups.now at common_layout len count }
+#[tactic(auto, using(crate::proofs::RowLemmas::numbers_one))]
+fn field_sum(groups: &[u8], at: Option<u32>, default_value: u32, len: u32, count: u32) -> u64
+    ensures sum { result ≡ field_numbers groups.now at default_value len count }
     ensures few { result ≤ 4294967295 * count }
 {
-    match at {
-        Some(at) => numbers_sum(groups, at, len, count),
-        None => u64::from(common_layout) * u64::from(count),
+    let Some(at) = at else {
+        return u64::from(default_value) * u64::from(count);
+    };
+    // Runs of live streams often have one sample.
+    if count == 1 {
+        return u64::from(number_in(groups, u64::from(at)));
+    }
+    let end = u64::from(at) + 4 + u64::from(len) * u64::from(count);
+    // In a trun without a fault all are there: no number needs a test of its own.
+    if end <= groups.len() as u64 + u64::from(len) {
+        whole_sum(groups, at, len, count)
+    } else {
+        any_sum(groups, at, len, count)
     }
 }
 

@@ -22,7 +22,7 @@ use mp4_init::TrackList;
 
 /// The durations of the samples of a trun, added up: by a product where no sample has its own.
 #[inline(always)]
-#[tactic(auto, using(crate::proofs::BetweenLemmas::all_durations), unfolding(crate::specs::Implementation::Times::ticks_in))]
+#[tactic(auto, using(crate::proofs::BetweenLemmas::duration), unfolding(crate::specs::Implementation::Times::ticks_in))]
 pub(crate) fn ticks_in(context: &TrafContext<'_>, trun: &BoxRef<'_>) -> u64
     ensures { result ≡ ticks_in (shared_of context.now) (view trun.now) }
 {

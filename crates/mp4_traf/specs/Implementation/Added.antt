@@ -9,6 +9,6 @@ numbers_from moof_bytes step at zero = 0
 numbers_from moof_bytes step at (suc n) = number_in moof_bytes at + numbers_from moof_bytes step (at + step) n
 
 -- the numbers of a field of so many groups, of which the first begins the bytes: those at a place, or else a number for each
-abbrev pub field_numbers : List ℕ → Option ℕ → (common_layout step n : ℕ) → ℕ
-field_numbers groups None common_layout step n = common_layout * n
-field_numbers groups (Some at) common_layout step n = numbers_from groups step at n
+abbrev pub field_numbers : List ℕ → Option ℕ → (default_value step n : ℕ) → ℕ
+field_numbers groups None default_value step n = default_value * n
+field_numbers groups (Some at) default_value step n = numbers_from groups step at n

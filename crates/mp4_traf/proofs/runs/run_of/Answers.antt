@@ -1,7 +1,7 @@
 use Rattle.std.proofs.Common.{◌∙◌, ap, arith}
 use Rattle.mp4_box.specs.Trees.{view}
 use Rattle.mp4_traf.specs.Implementation.TrafContexts.{shared_of}
-use Rattle.mp4_traf.specs.Rows.{durations, rows_of, sizes}
+use Rattle.mp4_traf.specs.Rows.{durations, sizes}
 use Rattle.mp4_traf.proofs.BetweenLemmas.{all_rows}
 use Rattle.mp4_traf.proofs.TimeLemmas.{run_is, ticks_of_run}
 use Rattle.mp4_traf.proofs.runs.run_of.Goals as goal
