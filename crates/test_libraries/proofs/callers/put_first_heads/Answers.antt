@@ -4,8 +4,13 @@ use Rattle.mp4_recut.specs.Splitting.{runs_fragments}
 use Rattle.mp4_frag.specs.RunLists.{taken_runs}
 use Rattle.test_libraries.proofs.callers.put_first_heads.Goals as goal
 
-pub write_ready_heads-requires-clause-numbers : goal.write_ready_heads-requires-clause-numbers
-write_ready_heads-requires-clause-numbers g c = subst (λ (ps : List OutputFragment). c.args.fragments.now + 1 + length ps ≤ 2 ^ 32) (sym (c.begin-media.ensures.all (c.args.fragments.now + 1))) c.requires.numbers
+pub write_ready_heads-requires : goal.write_ready_heads-requires
+write_ready_heads-requires g c =
+    record {
+      can = record { list = c.requires.list; runs_are_cut = c.requires.cut };
+      at = c.begin-media.ensures.at;
+      numbers = subst (λ (ps : List OutputFragment). c.args.fragments.now + 1 + length ps ≤ 2 ^ 32) (sym (c.begin-media.ensures.all (c.args.fragments.now + 1))) c.requires.numbers;
+    }
 
 pub returns-in-Ok-clause-emitted : goal.returns-in-Ok-clause-emitted
 returns-in-Ok-clause-emitted g c = λ at.
