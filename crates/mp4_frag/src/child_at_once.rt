@@ -55,7 +55,7 @@ fn note_in_traf(tracks: &TrackList, child: &BoxRef<'_>, best: &mut Option<Fault>
 }
 
 /// Whether a tfdt has an early time.
-pub(crate) fn is_early(tfdt: &BoxRef<'_>) -> bool
+fn is_early(tfdt: &BoxRef<'_>) -> bool
     ensures { result ≡ is_early (view tfdt.now) }
 {
     base_media_decode_time(tfdt.payload) < LATE

@@ -18,7 +18,7 @@ ghost use Rattle.mp4_traf.specs.Runs.{moof_at};
 ghost use Rattle.mp4_traf.specs.Tfhd.{track_id};
 ghost use Rattle.mp4_frag.specs.Implementation.CommonLayout.{HasCommonLayout};
 
-use crate::child_at_once::is_early;
+use crate::at_once::LATE;
 use crate::counts::MOST_IN_MOOF;
 use crate::mfhd::{MFHD_LEN, sequence_number};
 use crate::only_run::run_with;
@@ -131,7 +131,7 @@ fn sound_track(
     if best.is_some() || sample_count(common_layout.trun.payload) > MOST_IN_MOOF {
         return None;
     }
-    if !is_early(&common_layout.tfdt) {
+    if base_media_decode_time(common_layout.tfdt.payload) >= LATE {
         return None;
     }
     found

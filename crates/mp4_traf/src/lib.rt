@@ -15,7 +15,8 @@
 //! a flag announces; `tfhd.rt`, `tfdt.rt` and `trun.rt` have the fields of a box by the standard's names and where they
 //! lie, with its rules; `holds_only.rt` says which boxes may be there, and `times.rt` which times runs may have.
 //! `start.rt` reads what precedes the runs of a traf, `traf.rt` makes the traf, `runs.rt` its runs ([`Run`] in
-//! `run.rt`), `rows.rt` their rows, and `sums.rt` and `traf_totals.rt` add up rows. `end.rt` says where a traf ends.
+//! `run.rt`); `groups.rt` finds the fields of their samples and adds them up, `rows.rt` makes rows of them, and
+//! `traf_totals.rt` adds up a traf. `end.rt` says where a traf ends.
 //!
 //! In `specs/` a file has the definitions of the box or the words of its name: `specs/Rules.antt` and
 //! `specs/TimeFaults.antt` say what is at fault, `specs/Rows.antt` what a row is, `specs/Cursors.antt` what a cursor
@@ -28,12 +29,12 @@
 mod children;
 mod end;
 mod fields;
+mod groups;
 mod holds_only;
 mod rows;
 mod run;
 mod runs;
 mod start;
-mod sums;
 mod tfdt;
 mod tfhd;
 mod times;
@@ -44,12 +45,12 @@ mod trun;
 pub use children::{OfKind, Truns, children_of, next_of, truns_of};
 pub use end::end_traf;
 pub use fields::payload_at;
+pub use groups::Sums;
 pub use holds_only::HoldsOnly;
 pub use rows::{Cursor, Row, Rows, Steps};
 pub use run::Run;
 pub use runs::{RunStart, Runs, run_at, run_end, run_of};
 pub use start::{Heads, RunsOf, before_runs, heads_of, runs_of};
-pub use sums::Sums;
 pub use tfdt::{LONG_TFDT_LEN, TFDT_LEN, base_media_decode_time};
 pub use tfhd::{OfTrack, TfhdLength, note_tfhd, track_id};
 pub use times::InTime;

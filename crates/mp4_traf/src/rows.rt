@@ -1,14 +1,13 @@
 //! The rows of a run, one for each sample.
 
-ghost use Rattle.std.specs.Prelude.{◌≡◌, ◌+◌, ◌*◌, ◌+ℤ◌, ◌<ℤ◌, ◌<◌, ◌≤◌, ◌^◌, ◌↔◌, IfSome, IsSome, drop, length, pos, take, true};
-ghost use Rattle.std.specs.List.{flat_map};
+ghost use Rattle.std.specs.Prelude.{◌≡◌, ◌+◌, ◌+ℤ◌, ◌<ℤ◌, ◌<◌, ◌^◌, drop, pos};
 ghost use Rattle.std.specs.Iterator.{YieldsFirst, item_count};
 ghost use Rattle.mp4_traf.specs.Cursors.{first_cursor, past};
-ghost use Rattle.mp4_traf.specs.Rows.{HasWholeGroups, IsCursor, all_fields, field_at, group_at, offset_at, row_bytes, row_from, row_of, rows_after, rows_of, default_flags_of};
+ghost use Rattle.mp4_traf.specs.Rows.{IsCursor, field_at, offset_at, row_from, row_of, rows_of, default_flags_of};
 
 use crate::fields::signed_at;
+use crate::groups::groups_from;
 use crate::run::Run;
-use crate::trun::SampleFields;
 use mp4_box::number_at;
 use std::marker::Model;
 
@@ -117,27 +116,6 @@ fn after_group(rest: &[u8], len: u32) -> &[u8]
     after
 }
 
-/// The bytes from the group of this index on.
-#[tactic(auto, using(std::proofs::lemmas::List::drop_min), unfolding(crate::specs::Rows::group_at))]
-pub(crate) fn groups_from<'a>(run: &Run, moof_bytes: &'a [u8], i: u32) -> &'a [u8]
-    ensures { result.now ≡ drop (group_at run.now i) moof_bytes.now }
-{
-    let group = u128::from(run.samples_at) + u128::from(run.fields.len) * u128::from(i);
-    let (_, groups) = moof_bytes.split_at(group.min(moof_bytes.len() as u128) as usize);
-    groups
-}
-
-/// Whether a group has all four fields, which are in the standard's order then.
-fn has_all(fields: &SampleFields) -> bool
-    ensures { (result ≡ true) ↔ (fields.now ≡ all_fields) }
-{
-    fields.len == 16
-        && fields.sample_duration == Some(0)
-        && fields.sample_size == Some(4)
-        && fields.sample_flags == Some(8)
-        && fields.sample_composition_time_offset == Some(12)
-}
-
 impl Run {
     /// The flags of a sample that has none of its own.
     fn default_flags_of(&self, i: u32) -> u32
@@ -209,27 +187,6 @@ impl Run {
         ensures { result ≡ row_of self.now moof_bytes.now i }
     {
         self.row_in(groups_from(self, moof_bytes, i), i)
-    }
-
-    /// The groups of `count` rows from row `first` on as they are in the moof, whose bytes are `moof_bytes`: 16 bytes
-    /// each, the sample's duration, size, flags and composition time offset (ISO/IEC 14496-12, 8.8.8). None where the
-    /// groups haven't all four fields, or aren't all there.
-    pub fn whole_groups<'a>(&self, moof_bytes: &'a [u8], first: u32, count: u32) -> Option<&'a [u8]>
-        ensures len { IfSome result (λ groups. length groups.now ≡ 16 * count) }
-        ensures rows { IfSome result (λ groups.
-            groups.now ≡ flat_map row_bytes (take count (drop first (rows_of self.now moof_bytes.now)))) }
-        ensures some { IsSome result ↔ HasWholeGroups self.now moof_bytes.now first count }
-    {
-        let len = 16 * count as usize;
-        if !has_all(&self.fields) || u64::from(first) + u64::from(count) > u64::from(self.count) {
-            return None;
-        }
-        let groups = groups_from(self, moof_bytes, first);
-        if groups.len() < len {
-            return None;
-        }
-        let (whole, _) = groups.split_at(len);
-        Some(whole)
     }
 }
 

@@ -11,9 +11,8 @@ ghost use Rattle.mp4_traf.specs.Implementation.TrafContexts.{shared_of};
 ghost use Rattle.mp4_traf.specs.Implementation.Times.{late_at, late_from, ticks_in};
 
 use crate::fields::flags_of;
-use crate::rows::groups_from;
+use crate::groups::{durations_in, groups_from};
 use crate::runs::{RunStart, run_at};
-use crate::sums::durations_in;
 use crate::traf::{TrafContext, base_of, context_of, track_of};
 use crate::trun::{sample_count, sample_fields};
 use mp4_box::types::TRUN;

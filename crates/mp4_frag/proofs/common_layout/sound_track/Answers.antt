@@ -1,12 +1,14 @@
-use Rattle.std.proofs.Common.{◌≡◌, ◌∙◌, [], None, arith, sym, rules}
+use Rattle.std.proofs.Common.{◌≡◌, [], None, arith, sym, rules, true}
+use Rattle.std.proofs.lemmas.Bool.Decides.{nat_tests}
 use Rattle.mp4_box.specs.Order.{least_from}
 use Rattle.mp4_box.specs.Trees.{view}
 use Rattle.mp4_box.proofs.OrderLemmas.{least_from_append}
+use Rattle.mp4_frag.specs.Implementation.AtOnce.{is_early}
 use Rattle.mp4_frag.specs.Implementation.CommonLayout.{common_faults}
 use Rattle.mp4_frag.proofs.CommonLayoutLemmas.{none_noted, common_early, common_forms, common_tree, common_values}
 use Rattle.mp4_frag.proofs.common_layout.sound_track.Goals as goal
 
-none : (c : goal.Else-not-is_early) → common_faults c.args.tracks.now (view c.args.common_layout.now.mfhd) (view c.args.common_layout.now.tfhd) (view c.args.common_layout.now.tfdt) (view c.args.common_layout.now.trun) ≡ []
+none : (c : goal.Else-base_media_decode_time-ge-LATE) → common_faults c.args.tracks.now (view c.args.common_layout.now.mfhd) (view c.args.common_layout.now.tfhd) (view c.args.common_layout.now.tfdt) (view c.args.common_layout.now.trun) ≡ []
 none c =
     let u = c.args.common_layout.now in
     let faults = common_faults c.args.tracks.now (view u.mfhd) (view u.tfhd) (view u.tfdt) (view u.trun) in
@@ -31,4 +33,5 @@ returns-clause-values c = λ _.
 pub returns-clause-early : goal.returns-clause-early
 returns-clause-early c = λ _.
     let u = c.args.common_layout.now in
-    common_early c.args.tracks.now (view c.args.moof.now) (view u.mfhd) (view u.traf) (view u.tfhd) (view u.tfdt) (view u.trun) c.requires (none c) (sym c.is_early.ensures ∙ c.if-not-is_early.false) c.note_tfhd-found.ensures.ticks
+    let early : is_early (view u.tfdt) ≡ true = grind (arith, nat_tests, c.base_media_decode_time.ensures, c.if-base_media_decode_time-ge-LATE.false) in
+    common_early c.args.tracks.now (view c.args.moof.now) (view u.mfhd) (view u.traf) (view u.tfhd) (view u.tfdt) (view u.trun) c.requires (none c) early c.note_tfhd-found.ensures.ticks

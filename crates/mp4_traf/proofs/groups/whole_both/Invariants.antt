@@ -1,6 +1,6 @@
 use Rattle.std.proofs.Common.{◌≡◌, ◌+◌, ◌*◌, ◌≤◌}
 use Rattle.mp4_traf.specs.Implementation.Added.{numbers_from}
-use Rattle.mp4_traf.proofs.sums.whole_both.Given as goal
+use Rattle.mp4_traf.proofs.groups.whole_both.Given as goal
 
 abbrev pub decreases-loop-groups_left : goal.decreases-loop-groups_left
 decreases-loop-groups_left l = l.groups_left

@@ -1,6 +1,6 @@
 use Rattle.std.proofs.Common.{◌≡◌, ◌+◌, ◌*◌, ◌≤◌}
 use Rattle.mp4_traf.specs.Implementation.Added.{numbers_from}
-use Rattle.mp4_traf.proofs.sums.any_both.Given as goal
+use Rattle.mp4_traf.proofs.groups.any_both.Given as goal
 
 abbrev pub decreases-loop-rows_left : goal.decreases-loop-rows_left
 decreases-loop-rows_left l = l.rows_left

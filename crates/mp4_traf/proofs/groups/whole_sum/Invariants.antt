@@ -1,6 +1,6 @@
 use Rattle.std.proofs.Common.{◌≡◌, ◌+◌, ◌*◌, ◌≤◌}
 use Rattle.mp4_traf.specs.Implementation.Added.{numbers_from}
-use Rattle.mp4_traf.proofs.sums.whole_sum.Given as goal
+use Rattle.mp4_traf.proofs.groups.whole_sum.Given as goal
 
 abbrev pub decreases-loop-left : goal.decreases-loop-left
 decreases-loop-left l = l.left

@@ -1,12 +1,13 @@
-//! Sums over the samples of a run.
+//! The groups of fields that a run has for its samples: where they lie in the moof, and sums over them.
 
-ghost use Rattle.std.specs.Prelude.{◌≡◌, ◌+◌, ◌*◌, ◌<◌, ◌≤◌, ◌^◌, drop, length, take};
+ghost use Rattle.std.specs.Prelude.{◌≡◌, ◌+◌, ◌*◌, ◌<◌, ◌≤◌, ◌^◌, ◌↔◌, IfSome, IsSome, drop, length, take, true};
+ghost use Rattle.std.specs.List.{flat_map};
 ghost use Rattle.mp4_box.specs.Fields.{number_in};
-ghost use Rattle.mp4_traf.specs.Rows.{durations, rows_of, sizes};
+ghost use Rattle.mp4_traf.specs.Rows.{HasWholeGroups, all_fields, durations, group_at, row_bytes, rows_of, sizes};
 ghost use Rattle.mp4_traf.specs.Implementation.Added.{field_numbers, numbers_from};
 
-use crate::rows::groups_from;
 use crate::run::Run;
+use crate::trun::SampleFields;
 use mp4_box::u32_at;
 
 /// Sums over some samples of a run.
@@ -16,6 +17,27 @@ pub struct Sums {
     pub bytes: u64,
     /// Their durations, in ticks.
     pub ticks: u64,
+}
+
+/// The bytes from the group of this index on.
+#[tactic(auto, using(std::proofs::lemmas::List::drop_min), unfolding(crate::specs::Rows::group_at))]
+pub(crate) fn groups_from<'a>(run: &Run, moof_bytes: &'a [u8], i: u32) -> &'a [u8]
+    ensures { result.now ≡ drop (group_at run.now i) moof_bytes.now }
+{
+    let group = u128::from(run.samples_at) + u128::from(run.fields.len) * u128::from(i);
+    let (_, groups) = moof_bytes.split_at(group.min(moof_bytes.len() as u128) as usize);
+    groups
+}
+
+/// Whether a group has all four fields, which are in the standard's order then.
+fn has_all(fields: &SampleFields) -> bool
+    ensures { (result ≡ true) ↔ (fields.now ≡ all_fields) }
+{
+    fields.len == 16
+        && fields.sample_duration == Some(0)
+        && fields.sample_size == Some(4)
+        && fields.sample_flags == Some(8)
+        && fields.sample_composition_time_offset == Some(12)
 }
 
 /// The number in the four bytes at a place, 0 where they aren't all there.
@@ -178,30 +200,10 @@ pub(crate) fn durations_in(run: &Run, groups: &[u8], count: u32) -> u64
     )
 }
 
-/// The sizes and the durations of `count` rows of a run, added up, of which the first group begins the bytes. The rows
-/// are gone over once at most: where both are the samples' own, both are added up on the way.
-#[inline(always)]
-fn sums_in(run: &Run, groups: &[u8], count: u32) -> Sums
-    ensures bytes { result.bytes ≡ field_numbers groups.now run.now.fields.sample_size run.now.size
-        run.now.fields.len count }
-    ensures ticks { result.ticks ≡ field_numbers groups.now run.now.fields.sample_duration
-        run.now.duration run.now.fields.len count }
-    ensures few_bytes { result.bytes ≤ 4294967295 * count }
-    ensures few_ticks { result.ticks ≤ 4294967295 * count }
-{
-    let fields = &run.fields;
-    match (fields.sample_size, fields.sample_duration) {
-        (Some(size), Some(duration)) => both_sums(groups, size, duration, fields.len, count),
-        _ => Sums {
-            bytes: field_sum(groups, fields.sample_size, run.size, fields.len, count),
-            ticks: durations_in(run, groups, count),
-        },
-    }
-}
-
 impl Run {
-    /// The sizes and the durations of `count` rows from row `first` on, added up; nothing else of them is read.
-    /// `moof_bytes` are the bytes of its moof.
+    /// The sizes and the durations of `count` rows from row `first` on, added up; nothing else of them is read. The rows
+    /// are gone over once at most: where both are the samples' own, both are added up on the way. `moof_bytes` are the
+    /// bytes of its moof.
     #[inline(always)]
     #[tactic(auto, using(crate::proofs::BetweenLemmas::sizes_between, crate::proofs::BetweenLemmas::durations_between))]
     pub fn sums_between(&self, moof_bytes: &[u8], first: u32, count: u32) -> Sums
@@ -209,6 +211,35 @@ impl Run {
         ensures bytes { result.bytes ≡ sizes (take count (drop first (rows_of self.now moof_bytes.now))) }
         ensures ticks { result.ticks ≡ durations (take count (drop first (rows_of self.now moof_bytes.now))) }
     {
-        sums_in(self, groups_from(self, moof_bytes, first), count)
+        let rest = groups_from(self, moof_bytes, first);
+        let fields = &self.fields;
+        match (fields.sample_size, fields.sample_duration) {
+            (Some(size), Some(duration)) => both_sums(rest, size, duration, fields.len, count),
+            _ => Sums {
+                bytes: field_sum(rest, fields.sample_size, self.size, fields.len, count),
+                ticks: durations_in(self, rest, count),
+            },
+        }
+    }
+
+    /// The groups of `count` rows from row `first` on as they are in the moof, whose bytes are `moof_bytes`: 16 bytes
+    /// each, the sample's duration, size, flags and composition time offset (ISO/IEC 14496-12, 8.8.8). None where the
+    /// groups haven't all four fields, or aren't all there.
+    pub fn whole_groups<'a>(&self, moof_bytes: &'a [u8], first: u32, count: u32) -> Option<&'a [u8]>
+        ensures len { IfSome result (λ groups. length groups.now ≡ 16 * count) }
+        ensures rows { IfSome result (λ groups.
+            groups.now ≡ flat_map row_bytes (take count (drop first (rows_of self.now moof_bytes.now)))) }
+        ensures some { IsSome result ↔ HasWholeGroups self.now moof_bytes.now first count }
+    {
+        let len = 16 * count as usize;
+        if !has_all(&self.fields) || u64::from(first) + u64::from(count) > u64::from(self.count) {
+            return None;
+        }
+        let groups = groups_from(self, moof_bytes, first);
+        if groups.len() < len {
+            return None;
+        }
+        let (whole, _) = groups.split_at(len);
+        Some(whole)
     }
 }

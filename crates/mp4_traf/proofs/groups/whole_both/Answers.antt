@@ -2,7 +2,7 @@ use Rattle.std.proofs.Common.{arith, ℕ, ◌+◌, ◌-◌, ap}
 use Rattle.mp4_traf.specs.Implementation.Added.{numbers_from}
 use Rattle.mp4_traf.proofs.BetweenLemmas.{one_less}
 use Rattle.mp4_traf.proofs.RowLemmas.{number_there, numbers_next, numbers_none}
-use Rattle.mp4_traf.proofs.sums.whole_both.Goals as goal
+use Rattle.mp4_traf.proofs.groups.whole_both.Goals as goal
 
 pub u32_at-requires : goal.u32_at-requires
 u32_at-requires c =

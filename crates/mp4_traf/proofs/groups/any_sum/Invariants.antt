@@ -1,6 +1,6 @@
 use Rattle.std.proofs.Common.{◌≡◌, ◌+◌, ◌*◌, ◌≤◌}
 use Rattle.mp4_traf.specs.Implementation.Added.{numbers_from}
-use Rattle.mp4_traf.proofs.sums.any_sum.Given as goal
+use Rattle.mp4_traf.proofs.groups.any_sum.Given as goal
 
 abbrev pub decreases-loop-numbers_left : goal.decreases-loop-numbers_left
 decreases-loop-numbers_left l = l.numbers_left

@@ -2,7 +2,7 @@ use Rattle.std.proofs.Common.{arith, ℕ, ◌+◌, ◌-◌, ap}
 use Rattle.mp4_traf.specs.Implementation.Added.{numbers_from}
 use Rattle.mp4_traf.proofs.BetweenLemmas.{one_less}
 use Rattle.mp4_traf.proofs.RowLemmas.{numbers_next, numbers_none}
-use Rattle.mp4_traf.proofs.sums.any_sum.Goals as goal
+use Rattle.mp4_traf.proofs.groups.any_sum.Goals as goal
 
 pub loop-numbers_left-preserved : goal.loop-numbers_left-preserved
 loop-numbers_left-preserved c =
