@@ -12,7 +12,7 @@ use Rattle.mp4_grammar.specs.declared.kinds.Kind.TheVariants.{Mdat}
 use Rattle.mp4_recut.specs.declared.operation.Operation.TheVariants as operations
 use Rattle.mp4_fragment_machine.specs.States.{IsCounted, listed_by}
 use Rattle.mp4_fragment_machine.specs.Implementation.InPlace.{AreBoxes, payload_in}
-use Rattle.mp4_fragment_machine.specs.declared.state.Counter.{Counter}
+use Rattle.mp4_fragment_machine.specs.declared.counter.Counter.{Counter}
 use Rattle.mp4_fragment_machine.specs.declared.in_place.Boxes.{Boxes}
 use Rattle.mp4_fragment_machine.proofs.CountLemmas.{counted_emitted, counted_moof}
 use Rattle.mp4_fragment_machine.proofs.FragmentLemmas.{first_fits, inspected_more, moof_len, some_moof}

@@ -18,7 +18,7 @@ use Rattle.mp4_grammar.specs.declared.command.Command.TheVariants.{Samples, Frag
 use Rattle.mp4_recut.specs.declared.operation.Operation.{Operation}
 use Rattle.mp4_recut.specs.declared.operation.Operation.TheVariants as operations
 use Rattle.mp4_fragment_machine.specs.States.{IsCounted, bound_after, cut_least, cut_most, cut_reads, listed_by, listed_most, most_counted, most_fragments, reads_of}
-use Rattle.mp4_fragment_machine.specs.declared.state.Counter.{Counter}
+use Rattle.mp4_fragment_machine.specs.declared.counter.Counter.{Counter}
 use Rattle.mp4_fragment_machine.specs.Implementation.Recuts.{with_fragments}
 
 -- ---- the rows of samples that are recut

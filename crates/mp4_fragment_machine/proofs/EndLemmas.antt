@@ -17,7 +17,7 @@ use Rattle.mp4_fragment_machine.specs.Places.{InBody, InHeader, Untouched, conti
 use Rattle.mp4_fragment_machine.specs.States.{IsCounted, after_body, claimed_in, moof_in}
 use Rattle.mp4_fragment_machine.specs.Implementation.Steps.{GoesTo, ledger_alone}
 use Rattle.mp4_fragment_machine.specs.declared.state.Carried.{Carried}
-use Rattle.mp4_fragment_machine.specs.declared.state.Counter.{Counter}
+use Rattle.mp4_fragment_machine.specs.declared.counter.Counter.{Counter}
 use Rattle.mp4_fragment_machine.specs.declared.pending_moof.PendingMoof.{PendingMoof}
 use Rattle.mp4_fragment_machine.specs.declared.state.State.TheVariants as states
 use Rattle.mp4_fragment_machine.proofs.BodyLemmas.{Moves-settled}

@@ -23,7 +23,7 @@ use Rattle.mp4_fragment_machine.specs.Places.{Untouched, claim_of, continuation_
 use Rattle.mp4_fragment_machine.specs.States.{IsCounted, IsState, bound_after, bound_in, claimed_in, in_extent, in_mdat, most_counted, samples_of, tracks_after}
 use Rattle.mp4_fragment_machine.specs.Implementation.Steps.{CanStep, GoesTo, at_state, ledger_alone}
 use Rattle.mp4_fragment_machine.specs.declared.state.Carried.{Carried}
-use Rattle.mp4_fragment_machine.specs.declared.state.Counter.{Counter}
+use Rattle.mp4_fragment_machine.specs.declared.counter.Counter.{Counter}
 use Rattle.mp4_fragment_machine.specs.declared.pending_moof.PendingMoof.{PendingMoof}
 use Rattle.mp4_fragment_machine.specs.declared.state.State.TheVariants as states
 use Rattle.mp4_fragment_machine.proofs.CountLemmas.{counted_later}

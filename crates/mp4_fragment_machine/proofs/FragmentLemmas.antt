@@ -49,7 +49,7 @@ use Rattle.mp4_machine.specs.declared.stop.Stop.TheVariants.{Write}
 use Rattle.mp4_machine.specs.declared.tally.Tally.{Tally}
 use Rattle.mp4_fragment_machine.specs.Places.{InHeader, continuation_at}
 use Rattle.mp4_fragment_machine.specs.States.{IsCounted, listed_by}
-use Rattle.mp4_fragment_machine.specs.declared.state.Counter.{Counter}
+use Rattle.mp4_fragment_machine.specs.declared.counter.Counter.{Counter}
 use Rattle.mp4_fragment_machine.proofs.CountLemmas.{counted_emitted, counted_later, counted_moof}
 use Rattle.mp4_fragment_machine.specs.Implementation.InPlace.{AreBoxes, IsFirstBox, IsFragment, payload_in}
 use Rattle.mp4_fragment_machine.specs.declared.in_place.Boxes.{Boxes}

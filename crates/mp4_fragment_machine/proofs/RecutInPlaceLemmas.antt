@@ -51,7 +51,7 @@ use Rattle.mp4_recut.proofs.RoomLemmas.{no_fault, room_for_samples, run_length}
 use Rattle.mp4_fragment_machine.specs.Places.{InBody, InHeader, InMdatHeader, continuation_at}
 use Rattle.mp4_fragment_machine.specs.Implementation.Recuts.{first_position, in_media, with_samples}
 use Rattle.mp4_fragment_machine.specs.States.{IsCounted, cut_least, cut_most, cut_reads}
-use Rattle.mp4_fragment_machine.specs.declared.state.Counter.{Counter}
+use Rattle.mp4_fragment_machine.specs.declared.counter.Counter.{Counter}
 use Rattle.mp4_recut.specs.declared.operation.Operation.TheVariants as operations
 use Rattle.mp4_fragment_machine.specs.Implementation.InPlace.{IsFragment, media_in, media_start, payload_in}
 use Rattle.mp4_fragment_machine.specs.declared.in_place.Boxes.{Boxes}

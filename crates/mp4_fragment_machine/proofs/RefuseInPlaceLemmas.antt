@@ -34,7 +34,7 @@ use Rattle.mp4_recut.specs.Operations.{operation_meaning, number_in}
 use Rattle.mp4_recut.specs.declared.operation.Operation.{Operation}
 use Rattle.mp4_recut.specs.declared.operation.Operation.TheVariants as operations
 use Rattle.mp4_grammar.specs.declared.command.Command.TheVariants.{Check, Fragments, Records, Samples}
-use Rattle.mp4_fragment_machine.specs.declared.state.Counter.{Counter}
+use Rattle.mp4_fragment_machine.specs.declared.counter.Counter.{Counter}
 use Rattle.mp4_fragment_machine.specs.States.{HasStopped, IsCounted, cut_most, cut_reads, taken_by}
 use Rattle.mp4_fragment_machine.specs.Implementation.Steps.{Borrowed, StopsIn, at_state, environment_before}
 use Rattle.mp4_fragment_machine.specs.declared.state.Carried.{Carried}

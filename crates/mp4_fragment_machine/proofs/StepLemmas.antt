@@ -23,7 +23,7 @@ use Rattle.mp4_recut.specs.declared.operation.Operation.{Operation}
 use Rattle.mp4_fragment_machine.specs.Places.{Place, claim_of, continuation_at}
 use Rattle.mp4_fragment_machine.specs.States.{HasStopped, IsCounted, IsPendingMoof, most_counted}
 use Rattle.mp4_fragment_machine.specs.Implementation.Steps.{Advances, Borrowed, CanStep, Consumes, GoesTo, MayTake, StopsIn, at_state, borrowed, environment_before, environment_stopped, with_head}
-use Rattle.mp4_fragment_machine.specs.declared.state.Counter.{Counter}
+use Rattle.mp4_fragment_machine.specs.declared.counter.Counter.{Counter}
 use Rattle.mp4_fragment_machine.specs.declared.state.Carried.{Carried}
 use Rattle.mp4_fragment_machine.specs.declared.state.State.{State}
 use Rattle.mp4_fragment_machine.specs.declared.state.State.TheVariants as states

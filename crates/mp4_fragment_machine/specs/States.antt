@@ -35,7 +35,7 @@ use Rattle.mp4_grammar.specs.Items.{fragment}
 use Rattle.mp4_grammar.specs.Meanings.{Fragment}
 use Rattle.mp4_grammar.specs.Samples.{sample_lines, samples_of_run}
 use Rattle.mp4_fragment_machine.specs.Places.{Place, InHeader, InBuffered, InMdatHeader, InBody, InOpenBody, continuation_at}
-use Rattle.mp4_fragment_machine.specs.declared.state.Counter.{Counter}
+use Rattle.mp4_fragment_machine.specs.declared.counter.Counter.{Counter}
 use Rattle.mp4_fragment_machine.specs.declared.state.State.{State}
 use Rattle.mp4_fragment_machine.specs.declared.state.State.TheVariants as states
 use Rattle.mp4_fragment_machine.specs.declared.pending_moof.PendingMoof.{PendingMoof}

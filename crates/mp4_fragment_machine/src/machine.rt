@@ -14,11 +14,12 @@ ghost use Rattle.mp4_fragment_machine.specs.declared.state.Recutting.{Recutting}
 ghost use Rattle.mp4_fragment_machine.specs.declared.pending_moof.PendingMoof.{PendingMoof};
 ghost use Rattle.mp4_fragment_machine.specs.declared.state.State.TheVariants as states;
 
+use crate::counter::Counter;
 use crate::in_place::InPlace;
 use crate::in_place::find::find_in_place;
 use crate::mdat::header::unfollowed;
 use crate::mdat::recut::take_split;
-use crate::state::{Carried, Counter, State, back_state, stopped};
+use crate::state::{Carried, State, back_state, stopped};
 use mp4_box::{Fault, HeaderReader};
 use mp4_ends::Sink;
 use mp4_frag::Steps;

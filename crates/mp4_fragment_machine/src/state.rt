@@ -7,15 +7,15 @@ ghost use Rattle.mp4_fragment_machine.specs.States.{kept_by, stopped};
 ghost use Rattle.mp4_fragment_machine.specs.declared.state.Recutting.{Recutting};
 ghost use Rattle.mp4_fragment_machine.specs.declared.state.State.TheVariants as states;
 
+use crate::counter::Counter;
 use crate::pending_moof::{PendingMoof, back};
 use mp4_box::HeaderReader;
 use mp4_box::types::MDAT;
 use mp4_cut::Cut;
 use mp4_ends::Sink;
-use mp4_frag::Steps;
 use mp4_init::TrackList;
 use mp4_ledger::Ledger;
-use mp4_machine::{Body, BufferedBox, Extent, Tally};
+use mp4_machine::{Body, BufferedBox, Extent};
 use mp4_recut::Operation;
 use mp4_recut::media::Media;
 use std::mem::replace;
@@ -44,13 +44,6 @@ pub(crate) enum State {
     Copied(Body),
     /// Bytes of an mdat that is recut.
     Media(Recutting),
-}
-
-/// What a machine has counted of the stream, and how many rows it has read.
-#[derive(Clone, Copy)]
-pub(crate) struct Counter {
-    pub(crate) tally: Tally,
-    pub(crate) steps: Steps,
 }
 
 /// What a machine has in every state.

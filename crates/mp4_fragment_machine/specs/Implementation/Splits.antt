@@ -22,7 +22,7 @@ use Rattle.mp4_fragment_machine.specs.Implementation.Media.{AreBegun}
 use Rattle.mp4_fragment_machine.specs.Implementation.Recuts.{in_media}
 use Rattle.mp4_fragment_machine.specs.Implementation.Steps.{Borrowed, GoesTo}
 use Rattle.mp4_fragment_machine.specs.declared.mdat.accept_recut.Split.{Split}
-use Rattle.mp4_fragment_machine.specs.declared.state.Counter.{Counter}
+use Rattle.mp4_fragment_machine.specs.declared.counter.Counter.{Counter}
 use Rattle.mp4_fragment_machine.specs.declared.state.Carried.{Carried}
 use Rattle.mp4_fragment_machine.specs.declared.state.State.{State}
 use Rattle.mp4_fragment_machine.specs.declared.pending_moof.PendingMoof.{PendingMoof}

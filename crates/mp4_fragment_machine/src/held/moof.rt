@@ -14,9 +14,10 @@ ghost use Rattle.mp4_fragment_machine.specs.Implementation.Steps.{CanStep, Accep
 ghost use Rattle.mp4_fragment_machine.specs.Implementation.InPlace.{WasReadInPlace};
 ghost use Rattle.mp4_fragment_machine.specs.declared.state.State.TheVariants as states;
 
+use crate::counter::Counter;
 use crate::in_place::many_runs::InPlaceRead;
 use crate::pending_moof::PendingMoof;
-use crate::state::{Carried, Counter};
+use crate::state::Carried;
 use mp4_box::Fault;
 use mp4_frag::Moof;
 use mp4_init::TrackList;

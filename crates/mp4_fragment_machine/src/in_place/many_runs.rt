@@ -38,12 +38,12 @@ ghost use Rattle.mp4_fragment_machine.specs.Implementation.InPlace.{AreBoxes, Ha
 ghost use Rattle.mp4_recut.specs.declared.operation.Operation.TheVariants as operations;
 ghost use Rattle.mp4_fragment_machine.specs.declared.state.State.TheVariants as states;
 
+use crate::counter::{Counter, count};
 use crate::in_place::fragment::payload_after;
 use crate::in_place::{Boxes, ROW, Span};
 use crate::machine::FragmentMachine;
-use crate::mdat::totals::count;
 use crate::mdat::traf_lines::put_moof_lines;
-use crate::state::{Carried, Counter, go_to, stop_at};
+use crate::state::{Carried, go_to, stop_at};
 use mp4_box::Fault;
 use mp4_ends::{Failed, Sink};
 use mp4_frag::{Following, Moof, Steps, TrafEnds};

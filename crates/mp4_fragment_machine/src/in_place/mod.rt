@@ -17,9 +17,9 @@ pub(crate) mod moof;
 pub(crate) mod one_run;
 pub(crate) mod other_box;
 
+use crate::counter::Counter;
 use crate::in_place::fragment::{boxes_in, payload_after};
 use crate::machine::FragmentMachine;
-use crate::state::Counter;
 use mp4_box::FourCc;
 use mp4_ends::Sink;
 use mp4_frag::{MOST_IN_MOOF, SingleRun, Steps};

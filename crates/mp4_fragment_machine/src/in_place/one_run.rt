@@ -25,17 +25,17 @@ ghost use Rattle.mp4_recut.specs.Splitting.{run_fragments};
 ghost use Rattle.mp4_fragment_machine.specs.Places.{Untouched, claim_of, unsent};
 ghost use Rattle.mp4_fragment_machine.specs.States.{IsCounted, known, listed_by, place_in};
 ghost use Rattle.mp4_fragment_machine.specs.Implementation.Feeds.{Feeds, HasEnded};
-ghost use Rattle.mp4_fragment_machine.specs.Implementation.InPlace.{AreBoxes, HasOneRun, HasPlaceFault, HasTimeFault, IsFragment, IsTakenInPlace, media_in, media_start, payload_in};
-ghost use Rattle.mp4_fragment_machine.specs.Implementation.Steps.{CanStep, StopsIn, TakesInPlace, at_state, borrowed, ledger_alone};
+ghost use Rattle.mp4_fragment_machine.specs.Implementation.InPlace.{AreBoxes, HasOneRun, HasPlaceFault, HasTimeFault, IsFragment, media_in, media_start, payload_in};
+ghost use Rattle.mp4_fragment_machine.specs.Implementation.Steps.{CanStep, StopsIn, at_state, ledger_alone};
 ghost use Rattle.mp4_recut.specs.declared.operation.Operation.TheVariants as operations;
 ghost use Rattle.mp4_fragment_machine.specs.declared.state.State.TheVariants as states;
 
+use crate::counter::{Counter, count};
 use crate::in_place::{Boxes, CompleteFragment, ROW};
 use crate::machine::FragmentMachine;
 use crate::mdat::sample_lines;
-use crate::mdat::totals::count;
 use crate::mdat::traf_lines::{put_single_line, put_single_record};
-use crate::state::{Carried, Counter, go_to, stop_at};
+use crate::state::{Carried, go_to, stop_at};
 use mp4_box::Fault;
 use mp4_cut::Cut;
 use mp4_ends::{Failed, Sink};
@@ -46,7 +46,8 @@ use mp4_machine::{Block, Machine, Stop};
 use mp4_recut::{Operation, whole};
 
 impl FragmentMachine {
-    /// Takes a fragment of one run that is whole at the front of the input. Returns how many bytes.
+    /// Takes a fragment of one run that is whole at the front of the input: claims it, lists, counts or recuts it, and
+    /// ends its track where its run ends. Returns how many bytes it has.
     ///
     /// # Errors
     ///
@@ -67,15 +68,28 @@ impl FragmentMachine {
             ledger.old ledger.new self.old.counter.tally self.new.counter.tally)
             self.old self.new input.now result }
     {
-        match take_fragment(at, complete, input, &mut self.carried, ledger, out, w) {
-            Ok(size) => {
+        let Some(list) = &mut self.carried.tracks else {
+            unreachable!();
+        };
+        claim(&complete.boxes, ledger);
+        let counter = &mut self.carried.counter;
+        let put = match self.carried.operation {
+            Operation::List(command) => {
+                list_run(command, at, complete, input, list, counter, out, w)
+            }
+            Operation::Split(cut) => { recut_run(&cut, at, complete, input, list, counter, out, w) }
+        };
+        match put {
+            Ok(()) => {
+                complete.run.settle(list);
+                let size = complete.boxes.moof.len() as u64 + complete.boxes.mdat.size;
                 go_to(&mut self.state, at + size);
                 Ok(size as usize)
             }
-            Err(stop) => {
+            Err(Failed) => {
                 stop_at(&mut self.state);
                 self.give_back(ledger);
-                Err(stop)
+                Err(Stop::Write)
             }
         }
     }
@@ -122,54 +136,6 @@ impl FragmentMachine {
         self.give_back(ledger);
         stop
     }
-}
-
-/// Takes the fragment at the front of the input: claims it, lists, counts or recuts it, and ends its track where its
-/// run ends. Returns how many bytes it has.
-///
-/// # Errors
-///
-/// `Write` where a write failed.
-#[inline(always)]
-fn take_fragment<W: Sink>(
-    at: u64,
-    complete: &CompleteFragment<'_>,
-    input: &[u8],
-    carried: &mut Carried,
-    ledger: &mut Ledger,
-    out: &mut Block,
-    w: &mut W,
-) -> Result<u64, Stop>
-    requires known { carried.old.tracks ≡ Some (known carried.old.tracks) }
-    requires is { IsFragment at (known carried.old.tracks) input.now complete.now.boxes complete.now.run.now }
-    requires taken { IsTakenInPlace carried.old.operation carried.old.counter.tally.fragments complete.now.run.now }
-    requires room { ledger.old.live + (length complete.now.boxes.moof.now + 64) ≤ ledger.old.limit }
-    requires empty { carried.old.header_bytes ≡ [] }
-    requires can { CanStep carried.old ledger.old (states.Header at) }
-    ensures { TakesInPlace (borrowed W.contents W.has_failed w.old w.new out.old out.new ledger.old ledger.new)
-        carried.old carried.new at input.now result }
-{
-    let Some(list) = &mut carried.tracks else {
-        unreachable!();
-    };
-    claim(&complete.boxes, ledger);
-    let counter = &mut carried.counter;
-    match carried.operation {
-        Operation::List(command) => {
-            match list_run(command, at, complete, input, list, counter, out, w) {
-                Ok(()) => {}
-                Err(Failed) => return Err(Stop::Write),
-            }
-        }
-        Operation::Split(cut) => {
-            match recut_run(&cut, at, complete, input, list, counter, out, w) {
-                Ok(()) => {}
-                Err(Failed) => return Err(Stop::Write),
-            }
-        }
-    }
-    complete.run.settle(list);
-    Ok(complete.boxes.moof.len() as u64 + complete.boxes.mdat.size)
 }
 
 /// Counts the claim of the moof of a fragment, and of the row of its run.

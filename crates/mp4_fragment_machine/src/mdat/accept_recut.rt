@@ -24,11 +24,12 @@ ghost use Rattle.mp4_fragment_machine.specs.Implementation.Splits.{BeginsSplit, 
 ghost use Rattle.mp4_fragment_machine.specs.Implementation.Steps.{borrowed, Advances, MayBeginFragment, ledger_alone, with_head};
 ghost use Rattle.mp4_fragment_machine.specs.declared.state.State.TheVariants as states;
 
+use crate::counter::Counter;
 use crate::mdat::check::{check_mdat, payload_of};
 use crate::mdat::end::end_fragment;
 use crate::mdat::totals::{MoofTotals, add_up_runs};
 use crate::pending_moof::{PendingMoof, back};
-use crate::state::{Carried, Counter, Recutting, State};
+use crate::state::{Carried, Recutting, State};
 use mp4_box::{Fault, Header};
 use mp4_cut::Cut;
 use mp4_ends::{Failed, Sink};

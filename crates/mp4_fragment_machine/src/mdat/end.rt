@@ -6,8 +6,8 @@ ghost use Rattle.mp4_traf.specs.Settling.{settled, timed_of};
 ghost use Rattle.mp4_ledger.specs.Memory.{given_back};
 ghost use Rattle.mp4_fragment_machine.specs.States.{IsPendingMoof, moof_in};
 
+use crate::counter::Counter;
 use crate::pending_moof::PendingMoof;
-use crate::state::Counter;
 use mp4_init::TrackList;
 use mp4_ledger::Ledger;
 

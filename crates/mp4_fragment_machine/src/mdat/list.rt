@@ -12,12 +12,12 @@ ghost use Rattle.mp4_machine.specs.Readings.{plus};
 ghost use Rattle.mp4_fragment_machine.specs.States.{IsCounted, IsPendingMoof, bound_after, listed_by, moof_in, pending_fragment};
 ghost use Rattle.mp4_recut.specs.declared.operation.Operation.TheVariants as operations;
 
+use crate::counter::{Counter, count};
 use crate::mdat::check::payload_of;
 use crate::mdat::sample_lines::put_runs;
-use crate::mdat::totals::{add_up_runs, count};
+use crate::mdat::totals::add_up_runs;
 use crate::mdat::traf_lines::put_pending_lines;
 use crate::pending_moof::PendingMoof;
-use crate::state::Counter;
 use mp4_box::Header;
 use mp4_ends::{Failed, Sink};
 use mp4_grammar::Command;

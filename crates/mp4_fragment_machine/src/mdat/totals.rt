@@ -1,5 +1,4 @@
-//! How many bytes and samples the runs of a moof have, and how far they reach into the payload of its mdat. They are
-//! counted.
+//! How many bytes and samples the runs of a moof have, and how far they reach into the payload of its mdat.
 
 ghost use Rattle.std.specs.Prelude.{◌≡◌, ◌+◌, ◌≤◌, ◌<◌, ◌^◌, ℕ, max, None, Some};
 ghost use Rattle.std.specs.List.{sum_by};
@@ -10,11 +9,9 @@ ghost use Rattle.mp4_frag.specs.RunLists.{taken_runs};
 ghost use Rattle.mp4_traf.specs.declared.run.Run.{Run};
 ghost use Rattle.mp4_grammar.specs.Meanings.{reach};
 ghost use Rattle.mp4_machine.specs.Bodies.{longest};
-ghost use Rattle.mp4_machine.specs.Readings.{plus};
 ghost use Rattle.mp4_fragment_machine.specs.States.{IsPendingMoof, moof_in};
 
 use crate::pending_moof::PendingMoof;
-use crate::state::Counter;
 use mp4_frag::Payload;
 use mp4_init::TrackList;
 
@@ -70,18 +67,4 @@ pub(crate) fn add_up_runs(
         i += 1;
     }
     so_far
-}
-
-/// Counts a fragment that has so many samples, with so many bytes of media.
-pub(crate) fn count(counter: &mut Counter, samples: u64, bytes: u64)
-    requires fragments { counter.old.tally.fragments + 1 < 2 ^ 64 }
-    requires samples { counter.old.tally.samples + samples < 2 ^ 128 }
-    requires media { counter.old.tally.media_bytes + bytes < 2 ^ 64 }
-    ensures tally { counter.new.tally ≡ plus counter.old.tally
-        (record { fragments = 1; samples = samples; media_bytes = bytes; inspected = 0 }) }
-    ensures steps { counter.new.steps ≡ counter.old.steps }
-{
-    counter.tally.fragments += 1;
-    counter.tally.samples += u128::from(samples);
-    counter.tally.media_bytes += bytes;
 }

@@ -4,7 +4,7 @@ use Rattle.mp4_traf.specs.Runs.{moof_at}
 use Rattle.mp4_machine.specs.Inputs.{environment}
 use Rattle.mp4_recut.specs.declared.operation.Operation.TheVariants as operations
 use Rattle.mp4_fragment_machine.specs.States.{IsCounted, most_counted}
-use Rattle.mp4_fragment_machine.specs.declared.state.Counter.{Counter}
+use Rattle.mp4_fragment_machine.specs.declared.counter.Counter.{Counter}
 use Rattle.mp4_fragment_machine.proofs.CountLemmas.{counted_ended, counted_later}
 use Rattle.mp4_fragment_machine.proofs.FragmentLemmas.{GoesOn-emitted, StopsAt-emitted, boxes_fit, moof_len, some_moof}
 use Rattle.mp4_fragment_machine.proofs.StepLemmas.{no_head}

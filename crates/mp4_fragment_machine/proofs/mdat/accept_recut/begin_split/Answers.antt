@@ -15,7 +15,7 @@ use Rattle.mp4_recut.specs.Splitting.{splitting}
 use Rattle.mp4_recut.specs.declared.operation.Operation.TheVariants as operations
 use Rattle.mp4_fragment_machine.specs.Places.{InMdatHeader, continuation_at}
 use Rattle.mp4_fragment_machine.specs.Implementation.Recuts.{recut_fragment}
-use Rattle.mp4_fragment_machine.specs.declared.state.Counter.{Counter}
+use Rattle.mp4_fragment_machine.specs.declared.counter.Counter.{Counter}
 use Rattle.mp4_fragment_machine.specs.States.{bound_after, moof_in, most_counted, taken_by}
 use Rattle.mp4_fragment_machine.proofs.MdatHeaderLemmas.{rows_of}
 use Rattle.mp4_fragment_machine.proofs.BodyLemmas.{back_twice, claimed_apart}
