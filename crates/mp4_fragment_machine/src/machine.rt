@@ -128,46 +128,6 @@ impl FragmentMachine {
         }
     }
 
-    /// Takes some bytes from the front of the input: a box or a fragment that is whole, or a few. Returns how many.
-    ///
-    /// # Errors
-    ///
-    /// As [`FragmentMachine::take_other_box`], [`FragmentMachine::take_from_moof`] and
-    /// [`FragmentMachine::take_next_input`].
-    #[inline(always)]
-    fn take_some<W: Sink>(
-        &mut self,
-        ledger: &mut Ledger,
-        input: &[u8],
-        out: &mut Block,
-        w: &mut W,
-    ) -> Result<usize, Stop>
-        requires some { 0 < length input.now }
-        requires claim { claim_of (place_in self.old) ≤ ledger.old.live }
-        ensures { Feeds (change (sent W.contents W.has_failed w.old w.new) out.old out.new
-            ledger.old ledger.new self.old.counter.tally self.new.counter.tally)
-            self.old self.new input.now result }
-    {
-        if let State::Header { at } = &self.state {
-            let at = *at;
-            match &find_in_place(at, input, &self.carried) {
-                InPlace::Other(span) => return self.take_other_box(at, span, ledger, input, out, w),
-                InPlace::Moof(moof) => return self.take_from_moof(at, moof, ledger, input, out, w),
-                InPlace::No => {}
-            }
-        } else if let State::Body(body, _) = &mut self.state {
-            let count = input.len();
-            if (count as u64) < body.left {
-                body.pass(count as u64);
-                return Ok(count);
-            }
-            return self.finish_body(ledger, input);
-        } else if let State::Media(_) = &self.state {
-            return self.copy_media(ledger, input, out, w);
-        }
-        self.take_next_input(ledger, input, out, w)
-    }
-
     /// Gives back all that is claimed.
     pub fn give_up(self, ledger: &mut Ledger)
         requires { claim_of (place_in self) ≤ ledger.old.live }
@@ -207,10 +167,24 @@ impl Machine for FragmentMachine {
         out: &mut Block,
         w: &mut W,
     ) -> Result<usize, Stop> {
-        match self.take_some(ledger, input, out, w) {
-            Ok(count) => Ok(count),
-            Err(stop) => Err(stop),
+        if let State::Header { at } = &self.state {
+            let at = *at;
+            match &find_in_place(at, input, &self.carried) {
+                InPlace::Other(span) => return self.take_other_box(at, span, ledger, input, out, w),
+                InPlace::Moof(moof) => return self.take_from_moof(at, moof, ledger, input, out, w),
+                InPlace::No => {}
+            }
+        } else if let State::Body(body, _) = &mut self.state {
+            let count = input.len();
+            if (count as u64) < body.left {
+                body.pass(count as u64);
+                return Ok(count);
+            }
+            return self.finish_body(ledger, input);
+        } else if let State::Media(_) = &self.state {
+            return self.copy_media(ledger, input, out, w);
         }
+        self.take_next_input(ledger, input, out, w)
     }
 
     fn finish(&self) -> Result<(), Fault> {
