@@ -201,7 +201,7 @@ pub(crate) fn durations_in(run: &Run, groups: &[u8], count: u32) -> u64
 }
 
 impl Run {
-    /// The sizes and the durations of `count` rows from row `first` on, added up; nothing else of them is read. The rows
+    /// The sizes and the durations of `count` rows from row `first` on, added up; nothing else of them is read. They
     /// are gone over once at most: where both are the samples' own, both are added up on the way. `moof_bytes` are the
     /// bytes of its moof.
     #[inline(always)]
