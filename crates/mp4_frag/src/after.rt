@@ -44,6 +44,7 @@ fn runs_after<'a>(moof_bytes: &'a [u8], moof: u64, run: &Run) -> Runs<'a>
         moof,
         header: TrafHeader {
             track: run.track,
+            timescale: run.timescale,
             entry: run.entry,
             duration: run.duration,
             size: run.size,

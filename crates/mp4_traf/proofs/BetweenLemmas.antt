@@ -50,6 +50,16 @@ pub durations_between : (run : Run) (moof_bytes groups : List ℕ) (first n : �
 unfolding row_of
 durations_between run moof_bytes groups first n e h = field_between (λ (r : Row). r.duration) run moof_bytes groups run.fields.sample_duration run.duration first n e h (λ j. refl)
 
+-- the durations of rows that have none of their own, and of those that have
+pub default_between : (run : Run) (moof_bytes : List ℕ) (first n : ℕ) → run.fields.sample_duration ≡ None → first + n ≤ run.count → durations (take n (drop first (rows_of run moof_bytes))) ≡ run.duration * n
+default_between run moof_bytes first n none h =
+    let groups : List ℕ = drop (group_at run first) moof_bytes in
+    sym (durations_between run moof_bytes groups first n refl h) ∙ ap (λ (o : Option ℕ). field_numbers groups o run.duration run.fields.len n) none
+
+pub own_between : (run : Run) (moof_bytes groups : List ℕ) (at first n : ℕ) → groups ≡ drop (group_at run first) moof_bytes → run.fields.sample_duration ≡ Some at → first + n ≤ run.count → durations (take n (drop first (rows_of run moof_bytes))) ≡ numbers_from groups run.fields.len at n
+own_between run moof_bytes groups at first n e own h =
+    sym (durations_between run moof_bytes groups first n e h) ∙ ap (λ (o : Option ℕ). field_numbers groups o run.duration run.fields.len n) own
+
 -- ---- all rows of a run
 
 pub all_rows : (run : Run) (moof_bytes : List ℕ) → take run.count (drop 0 (rows_of run moof_bytes)) ≡ rows_of run moof_bytes
@@ -59,6 +69,9 @@ pub duration : (run : Run) (moof_bytes groups : List ℕ) → groups ≡ drop (g
 duration run moof_bytes groups e = durations_between run moof_bytes groups 0 run.count e (omega arith) ∙ ap durations (all_rows run moof_bytes)
 
 -- ---- one group less
+
+pub one_more : (a n : ℕ) → a * (n + 1) ≡ a * n + a
+one_more a n = omega arith
 
 pub one_less : (a n : ℕ) → 0 < n → a * n ≡ a + a * (n - 1)
 one_less a zero some = absurd (omega (arith, some))

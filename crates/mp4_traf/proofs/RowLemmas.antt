@@ -146,6 +146,19 @@ unfolding numbers_from
 numbers_none moof_bytes step at zero e = refl
 numbers_none moof_bytes step at (suc n) e = absurd (omega (arith, e))
 
+-- one number more at the end
+numbers_last : (moof_bytes : List ℕ) (step at n : ℕ) → numbers_from moof_bytes step at (suc n) ≡ numbers_from moof_bytes step at n + number_in moof_bytes (at + step * n)
+unfolding numbers_from
+numbers_last moof_bytes step at zero = let e : at ≡ at + step * 0 = omega arith in omega (arith, ap (number_in moof_bytes) e)
+numbers_last moof_bytes step at (suc n) =
+    let e : at + step + step * n ≡ at + step * suc n = omega arith in
+    omega (arith, numbers_last moof_bytes step (at + step) n, ap (number_in moof_bytes) e)
+
+pub numbers_more : (moof_bytes : List ℕ) (step at n place : ℕ) → place ≡ at + step * n → numbers_from moof_bytes step at (n + 1) ≡ numbers_from moof_bytes step at n + number_in moof_bytes place
+numbers_more moof_bytes step at n place here =
+    let e : n + 1 ≡ suc n = omega arith in
+    ap (numbers_from moof_bytes step at) e ∙ numbers_last moof_bytes step at n ∙ ap (λ (p : ℕ). numbers_from moof_bytes step at n + number_in moof_bytes p) (sym here)
+
 pub numbers_one : (moof_bytes : List ℕ) (step at : ℕ) → numbers_from moof_bytes step at 1 ≡ number_in moof_bytes at
 unfolding numbers_from
 numbers_one moof_bytes step at = omega arith

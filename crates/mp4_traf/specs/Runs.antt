@@ -25,10 +25,11 @@ no_track = record { id = 0; timescale = 0; entries = 0; desc = 0; duration = 0; 
 abbrev pub known_track : ℕ → List Track → Track
 known_track id tracks = unwrap_or (track_with id tracks) no_track
 
--- the fields of the tfhd, else the defaults of the track
+-- the fields of the tfhd, else the defaults of the track, and its timescale
 abbrev pub header_by : Track → List ℕ → TrafHeader
 header_by t payload = record {
   track = track_id payload;
+  timescale = t.timescale;
   entry = entry_of t payload;
   duration = number_or payload (fields_of payload).default_sample_duration t.duration;
   size = number_or payload (fields_of payload).default_sample_size t.size;
@@ -100,6 +101,7 @@ start_by moof last (Some d) = pos moof +ℤ d
 unfoldable pub run_at : Shared → ℕ → ℤ → Box → Run
 run_at s time last b = record {
   track = s.header.track;
+  timescale = s.header.timescale;
   entry = s.header.entry;
   version = version_in b.payload;
   count = sample_count b.payload;

@@ -183,6 +183,43 @@ fn field_sum(groups: &[u8], at: Option<u32>, default_value: u32, len: u32, count
     }
 }
 
+/// How many of `most` groups of `len` bytes, of which the first begins the bytes, have numbers at a place that add up to
+/// no more than a limit.
+#[inline(always)]
+fn numbers_within(groups: &[u8], at: u32, len: u32, most: u32, limit: u64) -> u32
+    ensures few { result ≤ most }
+    ensures within { numbers_from groups.now len at result ≤ limit }
+    ensures full { result < most → limit < numbers_from groups.now len at (result + 1) }
+{
+    let step = u64::from(len);
+    let mut place = u64::from(at);
+    let mut total = 0;
+    let mut count = 0;
+    let mut numbers_left = most;
+    while numbers_left > 0 {
+        total += u64::from(number_in(groups, place));
+        if total > limit {
+            return count;
+        }
+        place += step;
+        count += 1;
+        numbers_left -= 1;
+    }
+    count
+}
+
+/// How many of so many samples of one duration last no longer than so many ticks.
+fn default_within(duration: u32, most: u32, ticks: u64) -> u32
+    ensures few { result ≤ most }
+    ensures within { duration * result ≤ ticks }
+    ensures full { result < most → ticks < duration * (result + 1) }
+{
+    if duration == 0 {
+        return most;
+    }
+    (ticks / u64::from(duration)).min(u64::from(most)) as u32
+}
+
 /// The durations of `count` rows of a run, added up, of which the first group begins the bytes.
 #[inline(always)]
 pub(crate) fn durations_in(run: &Run, groups: &[u8], count: u32) -> u64
@@ -220,6 +257,22 @@ impl Run {
                 ticks: durations_in(self, rest, count),
             },
         }
+    }
+
+    /// How many of `most` rows from row `first` on last no longer than so many ticks together. Only durations are read.
+    /// `moof_bytes` are the bytes of its moof.
+    pub fn count_within(&self, moof_bytes: &[u8], first: u32, most: u32, ticks: u64) -> u32
+        requires rows { first + most ≤ self.now.count }
+        ensures few { result ≤ most }
+        ensures within { durations (take result (drop first (rows_of self.now moof_bytes.now))) ≤ ticks }
+        ensures full { result < most →
+            ticks < durations (take (result + 1) (drop first (rows_of self.now moof_bytes.now))) }
+    {
+        let Some(at) = self.fields.sample_duration else {
+            return default_within(self.duration, most, ticks);
+        };
+        let own = groups_from(self, moof_bytes, first);
+        numbers_within(own, at, self.fields.len, most, ticks)
     }
 
     /// The groups of `count` rows from row `first` on as they are in the moof, whose bytes are `moof_bytes`: 16 bytes

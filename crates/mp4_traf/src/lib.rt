@@ -3,7 +3,8 @@
 //!
 //! - [`Traf::runs`] and [`Run::rows`]: the [`Run`]s of a [`Traf`] and the [`Row`] of each sample. [`Run::rows_from`]
 //!   goes on from a [`Cursor`], [`Run::whole_groups`] gives the bytes of rows with all four fields, and
-//!   [`Run::sums_between`] adds some of them up ([`Sums`]);
+//!   [`Run::sums_between`] adds some of them up ([`Sums`]), and [`Run::count_within`] counts how
+//!   many last no longer than so many ticks;
 //! - [`Trafs`]: the trafs of a moof, one after the other; [`runs_of`] and [`heads_of`]: what is read of one of them
 //!   before its runs;
 //! - [`Traf::totals`]: a traf by its samples, added up ([`TrafTotals`]);

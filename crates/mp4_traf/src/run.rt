@@ -40,4 +40,6 @@ pub struct Run {
     pub ends_at: u64,
     /// Where in the moof the traf ends.
     pub traf_ends_at: u64,
+    /// The timescale of its track: how many ticks a second has.
+    pub timescale: u32,
 }

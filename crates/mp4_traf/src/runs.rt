@@ -44,6 +44,7 @@ pub fn run_at(context: &TrafContext<'_>, run_start: &RunStart, trun: &BoxRef<'_>
     };
     Run {
         track: context.header.track,
+        timescale: context.header.timescale,
         entry: context.header.entry,
         version: version_of(trun.payload),
         count: sample_count(trun.payload),

@@ -32,6 +32,8 @@ pub struct TrafHeader {
     pub size: u32,
     /// The default flags of a sample.
     pub flags: u32,
+    /// The timescale of the track: how many ticks a second has.
+    pub timescale: u32,
 }
 
 /// What the runs of a traf share.
@@ -86,6 +88,7 @@ pub fn header_by(track: Track, tfhd: &[u8]) -> TrafHeader
     let fields = tfhd_fields(flags_of(tfhd));
     TrafHeader {
         track: track_id(tfhd),
+        timescale: track.timescale,
         entry: entry_of(track, tfhd),
         duration: number_or(tfhd, fields.default_sample_duration, track.duration),
         size: number_or(tfhd, fields.default_sample_size, track.size),

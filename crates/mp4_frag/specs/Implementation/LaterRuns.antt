@@ -15,7 +15,7 @@ abbrev pub boxes_between : MoofBytes → ℕ → ℕ → List Box
 boxes_between h from to = boxes (h.offset + from) (slice_range h.bytes from to)
 
 abbrev pub header_after : Run → TrafHeader
-header_after run = record { track = run.track; entry = run.entry; duration = run.duration; size = run.size; flags = run.flags }
+header_after run = record { track = run.track; timescale = run.timescale; entry = run.entry; duration = run.duration; size = run.size; flags = run.flags }
 
 abbrev pub shared_after : MoofBytes → Run → Shared
 shared_after h run = record { moof = h; header = header_after run; ends_at = run.traf_ends_at }
