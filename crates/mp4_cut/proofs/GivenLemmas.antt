@@ -163,6 +163,7 @@ run_sound h tracks t sound time last b moof_bytes fits good =
       version = version_is b.payload good;
       of = sound.of;
       known = sound.known;
+      timescale = refl;
       low = entry.low;
       high = entry.high;
       most = sound.fits.entries;

@@ -14,6 +14,7 @@ use Rattle.mp4_pieces.specs.declared.cut.Cut.{Cut}
 use Rattle.mp4_pieces.specs.declared.piece.Piece.{Piece}
 use Rattle.mp4_pieces.specs.Fits.{BeginsInTime, FitsIndex, FitsReference}
 use Rattle.mp4_pieces.specs.Groups.{group_length, groups, groups_from}
+use Rattle.mp4_pieces.specs.Fitting.{cut_for}
 use Rattle.mp4_pieces.specs.Pieces.{cursor_after, cut_rows, piece_at, pieces_at, pieces_from, pieces_of}
 use Rattle.mp4_pieces.proofs.PieceLemmas.{goes_on}
 use Rattle.mp4_cut.specs.IndexGroups.{IsGroup, IsGroupOf, group_from, start_of}
@@ -29,7 +30,7 @@ begins_by c [] p ps e = absurd cc
 begins_by c (rows ∷ rest) p ps e = sym (ap start_of (cons_is (piece_at c rows) p _ ps e).0)
 
 begins_at : (cut : Cut) (moof_bytes : List ℕ) (run : Run) (c : Cursor) (p : Piece) (ps : List Piece) → pieces_from cut moof_bytes run c ≡ p ∷ ps → start_of p ≡ c
-begins_at cut moof_bytes run c p ps e = begins_by c (cut_rows cut (drop c.row (rows_of run moof_bytes))) p ps e
+begins_at cut moof_bytes run c p ps e = begins_by c (cut_rows (cut_for run.timescale cut) (drop c.row (rows_of run moof_bytes))) p ps e
 
 -- ---- the groups
 

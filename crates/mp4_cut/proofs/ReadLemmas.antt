@@ -1,5 +1,5 @@
 -- What is read of a moof that was written, and the headers that are.
-use Rattle.std.proofs.Common.{◌≡◌, ◌∙◌, ◌+◌, ◌^◌, ◌≤◌, ℕ, pos, ◌+ℤ◌, Bool, true, false, cond, ltb, List, [], ◌∷◌, ◌++◌, length, Some, None, refl, sym, ap, arith, append-nil, append_assoc, length-append, inr}
+use Rattle.std.proofs.Common.{◌≡◌, ◌∙◌, ◌+◌, ◌^◌, ◌≤◌, ℕ, pos, ◌+ℤ◌, Bool, true, false, cond, ltb, List, [], ◌∷◌, ◌++◌, length, Some, None, refl, sym, ap, arith, append-nil, append_assoc, length-append, inr, Option}
 use Rattle.std.specs.Prelude.{take, ◌==◌}
 use Rattle.std.specs.List.{flat_map}
 use Rattle.std.specs.Int.Signed.{le_z}
@@ -28,6 +28,7 @@ use Rattle.mp4_traf.specs.Cursors.{first_cursor}
 use Rattle.mp4_pieces.specs.Pieces.{piece_at}
 use Rattle.mp4_pieces.specs.Rooms.{moof}
 use Rattle.mp4_pieces.specs.Sizes.{mdat_header_size, moof_size}
+use Rattle.mp4_traf.specs.Rules.{track_with}
 use Rattle.mp4_cut.specs.Boxes.{box_bytes}
 use Rattle.mp4_cut.specs.Mdat.{mdat, mdat_header}
 use Rattle.mp4_cut.specs.Moof.{written_fragment, WrittenFragment, data_offset, in_moof, moof_box}
@@ -35,7 +36,7 @@ use Rattle.mp4_cut.specs.Reads.{Describes, CanBeRead, FitsFields, IsHeaded, IsRe
 use Rattle.mp4_cut.proofs.BoxLemmas.{IsShort, head_is, is_box}
 use Rattle.mp4_cut.proofs.FaultLemmas.{moof_is_good}
 use Rattle.mp4_cut.proofs.MoofLemmas.{length_in_moof, short_moof}
-use Rattle.mp4_cut.proofs.RunLemmas.{describes, one_run_back, run_in, runs_back, traf_in, trafs_back}
+use Rattle.mp4_cut.proofs.RunLemmas.{describes, one_run_back, run_in, runs_back, traf_in, trafs_back, timescale_back}
 
 -- ---- headers
 
@@ -116,6 +117,9 @@ placed_one run n end at last =
 settled_one : (tracks : List Track) (t : TrackFragment) (run : Run) → runs_of t ≡ run ∷ [] → settled tracks (t ∷ []) ≡ with_end t.shared.header.track run.end tracks
 settled_one tracks t run e = ap (λ (rs : List Run). with_end t.shared.header.track (last_end t.time rs) tracks) e
 
+same_timescale : (o : Option Track) (t u : Track) → o ≡ Some t → o ≡ Some u → t.timescale ≡ u.timescale
+same_timescale o t u p q = let same : t ≡ u = cc in ap (λ (x : Track). x.timescale) same
+
 pub is_read_as : (f : WrittenFragment) (seq o : ℕ) (tracks : List Track) → CanBeRead tracks f → IsReadAs tracks f (held_moof f seq o)
 is_read_as f seq o tracks can =
     let h = held_moof f seq o in
@@ -134,6 +138,7 @@ is_read_as f seq o tracks can =
       all = runs;
       taken = ap (taken_by listed_run) runs;
       describes = described;
+      timescale = λ u there. timescale_back h t f ∙ same_timescale (track_with f.track tracks) t u can.known there;
       samples = sym (rows_are_samples h tracks) ∙ (ap (λ (rs : List Run). length (flat_map (λ (r : Run). rows_of r h.bytes) rs)) runs ∙ (ap length (append-nil (rows_of run h.bytes)) ∙ ap length described.rows));
       placed = placed_one run (o + data_offset f.rows) (o + data_offset f.rows + sizes f.rows) described.place (omega (arith, described.bytes));
       settled = ap (settled tracks) trafs ∙ (settled_one tracks traf run (one_run_back f seq o t) ∙ ap (λ (n : ℕ). with_end f.track n tracks) described.end);

@@ -37,9 +37,9 @@ use Rattle.mp4_cut.proofs.MoofLemmas.{moof_at, moof_children, moof_found, traf_a
 -- ---- the traf
 
 abbrev pub header_of_track : Track → WrittenFragment → TrafHeader
-header_of_track t f = record { track = f.track; entry = f.entry; duration = t.duration; size = t.size; flags = t.flags }
+header_of_track t f = record { track = f.track; timescale = t.timescale; entry = f.entry; duration = t.duration; size = t.size; flags = t.flags }
 
-same_header : (t : Track) (a b c d : ℕ) → a ≡ c → b ≡ d → ◌≡◌ {A = TrafHeader} (record { track = a; entry = b; duration = t.duration; size = t.size; flags = t.flags }) (record { track = c; entry = d; duration = t.duration; size = t.size; flags = t.flags })
+same_header : (t : Track) (a b c d : ℕ) → a ≡ c → b ≡ d → ◌≡◌ {A = TrafHeader} (record { track = a; timescale = t.timescale; entry = b; duration = t.duration; size = t.size; flags = t.flags }) (record { track = c; timescale = t.timescale; entry = d; duration = t.duration; size = t.size; flags = t.flags })
 same_header t a b c d p q = cc
 
 pub id_back : (f : WrittenFragment) → FitsFields f → track_id (tfhd_payload f.track f.entry) ≡ f.track
@@ -105,6 +105,10 @@ trafs_back f seq o tracks t fits there =
 -- the one run that it has
 abbrev pub run_in : MoofBytes → Track → WrittenFragment → Run
 run_in h t f = run_of (shared_in h t f) f.time (pos h.offset) (trun_at f h.offset)
+
+pub timescale_back : (h : MoofBytes) (t : Track) (f : WrittenFragment) → (run_in h t f).timescale ≡ t.timescale
+unfolding run_of run_at
+timescale_back h t f = refl
 
 one_run : (s : Shared) (time : ℕ) (last : ℤ) (b : Box) → runs_from s time last (b ∷ []) ≡ run_of s time last b ∷ []
 unfolding runs_from

@@ -60,12 +60,13 @@ pub record FitsTrack (t : Track) : Type 0 where
   pub flags : t.flags < 2 ^ 32
 
 -- what holds of a run of a moof without a fault: its track_ID, version and default size fit their fields.
--- The tracks have its track with its sample entry, and its rows fit their fields
+-- The tracks have its track with its timescale and its sample entry, and its rows fit their fields
 pub record IsSoundRun (tracks : List Track) (moof_bytes : List ℕ) (run : Run) : Type 0 where
   pub track : run.track < 2 ^ 32
   pub version : run.version ≤ 1
   pub of : Track
   pub known : track_with run.track tracks ≡ Some of
+  pub timescale : run.timescale ≡ of.timescale
   pub low : 1 ≤ run.entry
   pub high : run.entry ≤ of.entries
   pub most : of.entries < 2 ^ 32
@@ -95,7 +96,7 @@ abbrev pub media_of : WrittenFragment → MoofBytes → Payload
 media_of f h = record { start = h.offset + data_offset f.rows; end = Some (h.offset + data_offset f.rows + sizes f.rows) }
 
 -- a moof without a fault is read, with one traf of one run, which has the values of the fragment, and lies in the
--- mdat after the moof. After the moof its track ends where the fragment ends
+-- mdat after the moof. It has the timescale of its track. After the moof its track ends where the fragment ends
 pub record IsReadAs (tracks : List Track) (f : WrittenFragment) (h : MoofBytes) : Type 0 where
   pub read : IsRead h tracks
   pub traf : TrackFragment
@@ -105,6 +106,7 @@ pub record IsReadAs (tracks : List Track) (f : WrittenFragment) (h : MoofBytes) 
   pub all : moof_runs h tracks ≡ run ∷ []
   pub taken : taken_runs h tracks ≡ run ∷ []
   pub describes : Describes f h run
+  pub timescale : (track : Track) → track_with f.track tracks ≡ Some track → run.timescale ≡ track.timescale
   pub samples : moof_samples h ≡ length f.rows
   pub placed : place_fault (media_of f h) (run ∷ []) ≡ None
   pub settled : settled tracks (moof_trafs h tracks) ≡ with_end f.track (f.time + durations f.rows) tracks

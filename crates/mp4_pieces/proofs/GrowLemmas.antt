@@ -1,5 +1,5 @@
 -- Growing a piece row by row gives the pieces.
-use Rattle.std.proofs.Common.{◌≡◌, ℕ, ℤ, pos, suc, ◌<◌, ◌+◌, ◌^◌, Bool, true, false, List, [], ◌∷◌, ◌++◌, length, refl, sym, ap, subst, ◌∙◌, arith, inl, inr, ◌⊎◌, Option, Some, None}
+use Rattle.std.proofs.Common.{◌≡◌, ℕ, ℤ, pos, suc, ◌<◌, ◌≤◌, ◌+◌, ◌^◌, Bool, true, false, List, [], ◌∷◌, ◌++◌, length, refl, sym, ap, subst, ◌∙◌, arith, inl, inr, ◌⊎◌, Option, Some, None}
 use Rattle.std.specs.Prelude.{◌&&◌, ◌||◌, not, nat_le, nat_lt, ◌+ℤ◌, ◌≤ℤ◌, ◌<ℤ◌}
 use Rattle.std.specs.Int.{int_min}
 use Rattle.std.specs.List.{list_all}
@@ -15,13 +15,14 @@ use Rattle.mp4_pieces.specs.declared.cut.Cut.{Cut}
 use Rattle.mp4_pieces.specs.declared.piece.Piece.{Piece}
 use Rattle.mp4_pieces.specs.Cutting.{cut_by, cut_from}
 use Rattle.mp4_traf.specs.SyncSamples.{is_sync}
-use Rattle.mp4_pieces.specs.Fitting.{fits, fits_bytes, fits_sync}
+use Rattle.mp4_pieces.specs.Fitting.{fits, fits_bytes, fits_keyframes, fits_sync, fits_ticks, no_start}
 use Rattle.mp4_pieces.specs.Pieces.{cursor_after, composition_times, cut_rows, least_of, past_rows, piece_at, pieces_at}
-use Rattle.mp4_pieces.specs.Implementation.Growing.{Grows, grown, has_bytes, opened, pieces_left, takes, with_row}
+use Rattle.mp4_pieces.specs.Implementation.Growing.{Grows, grown, has_bytes, has_ticks, opened, pieces_left, takes, with_row}
+use Rattle.mp4_pieces.specs.Implementation.Counting.{IsPlain}
 use Rattle.mp4_traf.specs.Cursors.{HasRoom}
 use Rattle.mp4_pieces.proofs.FitLemmas.{and_is, is_limit}
 
-bool_is : (b : Bool) → (b ≡ true) ⊎ (b ≡ false)
+pub bool_is : (b : Bool) → (b ≡ true) ⊎ (b ≡ false)
 bool_is true = inl refl
 bool_is false = inr refl
 
@@ -80,16 +81,43 @@ more_sync false l r e = refl
 more_sync true true r e = refl
 more_sync true false r e = absurd cc
 
+and_true : (b : Bool) → (b && true) ≡ b
+and_true true = refl
+and_true false = refl
+
 takes_sync : (asked : Bool) (x : Row) (rows : List Row) (row : Row) → fits_sync asked (x ∷ rows) ≡ true → fits_sync asked ((x ∷ rows) ++ row ∷ []) ≡ (not asked || not (is_sync row.flags))
 takes_sync asked x rows row e =
     let f : Row → Bool = λ (r : Row). not (is_sync r.flags) in
     ap (λ (b : Bool). not asked || b) (list_all-append f rows (row ∷ []))
     ∙ more_sync asked (list_all f rows) (not (is_sync row.flags) && true) e
     ∙ ap (λ (b : Bool). not asked || b) (and_true (not (is_sync row.flags)))
-  where
-    and_true : (b : Bool) → (b && true) ≡ b
-    and_true true = refl
-    and_true false = refl
+
+-- the last of some samples is a sync sample; without any it is as before
+abbrev pub last_sync : Bool → List Row → Bool
+last_sync last [] = last
+last_sync last (row ∷ rows) = last_sync (is_sync row.flags) rows
+
+last-more : (last : Bool) (rows : List Row) (row : Row) → last_sync last (rows ++ row ∷ []) ≡ is_sync row.flags
+last-more last [] row = refl
+last-more last (x ∷ rows) row = last-more (is_sync x.flags) rows row
+
+and-assoc : (a b c : Bool) → (a && (b && c)) ≡ ((a && b) && c)
+and-assoc true b c = refl
+and-assoc false b c = refl
+
+start-more : (last : Bool) (rows : List Row) (row : Row) → no_start last (rows ++ row ∷ []) ≡ (no_start last rows && (last_sync last rows || not (is_sync row.flags)))
+start-more last [] row = and_true (last || not (is_sync row.flags))
+start-more last (x ∷ rows) row =
+    ap (λ (b : Bool). (last || not (is_sync x.flags)) && b) (start-more (is_sync x.flags) rows row)
+    ∙ and-assoc (last || not (is_sync x.flags)) (no_start (is_sync x.flags) rows) (last_sync (is_sync x.flags) rows || not (is_sync row.flags))
+
+takes_keyframes : (asked : Bool) (x : Row) (rows : List Row) (row : Row) → fits_keyframes asked (x ∷ rows) ≡ true → fits_keyframes asked ((x ∷ rows) ++ row ∷ []) ≡ (not asked || (last_sync (is_sync x.flags) rows || not (is_sync row.flags)))
+takes_keyframes false x rows row e = refl
+takes_keyframes true x rows row e =
+    start-more (is_sync x.flags) rows row ∙ ap (λ (b : Bool). b && (last_sync (is_sync x.flags) rows || not (is_sync row.flags))) e
+
+two : (n : ℕ) → 1 < n → nat_le n 1 ≡ false
+two n h = elim (bool_is (nat_le n 1)) [ inl t ↦ absurd (omega (arith, leb-true n 1 t, h)) | inr f ↦ f ]
 
 takes_bytes : (most : Option ℕ) (c : Cursor) (x : Row) (rows : List Row) (row : Row) → fits_bytes most ((x ∷ rows) ++ row ∷ []) ≡ has_bytes most (piece_at c (x ∷ rows)) row
 unfolding piece_at
@@ -97,44 +125,57 @@ takes_bytes None c x rows row = refl
 takes_bytes (Some m) c x rows row =
     let more : nat_le (length ((x ∷ rows) ++ row ∷ [])) 1 ≡ false = two (length ((x ∷ rows) ++ row ∷ [])) (omega (arith, length-append (x ∷ rows) (row ∷ []))) in
     ap (λ (b : Bool). b || nat_le (sizes ((x ∷ rows) ++ row ∷ [])) m) more ∙ ap (λ (n : ℕ). nat_le n m) (sizes-more (x ∷ rows) row)
-  where
-    two : (n : ℕ) → 1 < n → nat_le n 1 ≡ false
-    two n h = elim (bool_is (nat_le n 1)) [ inl t ↦ absurd (omega (arith, leb-true n 1 t, h)) | inr f ↦ f ]
 
-pub takes_is : (cut : Cut) (c : Cursor) (x : Row) (rows : List Row) (row : Row) → fits cut (x ∷ rows) ≡ true → fits cut ((x ∷ rows) ++ row ∷ []) ≡ takes cut (piece_at c (x ∷ rows)) row
+takes_ticks : (most : Option ℕ) (c : Cursor) (x : Row) (rows : List Row) (row : Row) → fits_ticks most ((x ∷ rows) ++ row ∷ []) ≡ has_ticks most (piece_at c (x ∷ rows)) row
+unfolding piece_at
+takes_ticks None c x rows row = refl
+takes_ticks (Some m) c x rows row =
+    let more : nat_le (length ((x ∷ rows) ++ row ∷ [])) 1 ≡ false = two (length ((x ∷ rows) ++ row ∷ [])) (omega (arith, length-append (x ∷ rows) (row ∷ []))) in
+    ap (λ (b : Bool). b || nat_le (durations ((x ∷ rows) ++ row ∷ [])) m) more ∙ ap (λ (n : ℕ). nat_le n m) (durations-more (x ∷ rows) row)
+
+pub takes_is : (cut : Cut) (c : Cursor) (x : Row) (rows : List Row) (row : Row) → fits cut (x ∷ rows) ≡ true → fits cut ((x ∷ rows) ++ row ∷ []) ≡ takes cut (piece_at c (x ∷ rows)) (last_sync (is_sync x.flags) rows) row
 unfolding takes piece_at
 takes_is cut c x rows row e =
     let count = and_is (nat_le (length (x ∷ rows)) cut.samples) _ e in
     let rest = and_is (fits_bytes cut.bytes (x ∷ rows)) _ count.1 in
+    let time = and_is (fits_ticks cut.ticks (x ∷ rows)) _ rest.1 in
+    let starts = and_is (fits_sync cut.sync (x ∷ rows)) _ time.1 in
+    let more : List Row = (x ∷ rows) ++ row ∷ [] in
+    let p : Piece = piece_at c (x ∷ rows) in
     let len : length ((x ∷ rows) ++ row ∷ []) ≡ suc (length (x ∷ rows)) = omega (arith, length-append (x ∷ rows) (row ∷ [])) in
-    ap (λ (n : ℕ). nat_le n cut.samples && (fits_bytes cut.bytes ((x ∷ rows) ++ row ∷ []) && fits_sync cut.sync ((x ∷ rows) ++ row ∷ []))) len
-    ∙ ap (λ (b : Bool). nat_lt (length (x ∷ rows)) cut.samples && (b && fits_sync cut.sync ((x ∷ rows) ++ row ∷ []))) (takes_bytes cut.bytes c x rows row)
-    ∙ ap (λ (b : Bool). nat_lt (length (x ∷ rows)) cut.samples && (has_bytes cut.bytes (piece_at c (x ∷ rows)) row && b)) (takes_sync cut.sync x rows row rest.1)
+    ap (λ (n : ℕ). nat_le n cut.samples && (fits_bytes cut.bytes more && (fits_ticks cut.ticks more && (fits_sync cut.sync more && fits_keyframes cut.keyframes more)))) len
+    ∙ ap (λ (b : Bool). nat_lt (length (x ∷ rows)) cut.samples && (b && (fits_ticks cut.ticks more && (fits_sync cut.sync more && fits_keyframes cut.keyframes more)))) (takes_bytes cut.bytes c x rows row)
+    ∙ ap (λ (b : Bool). nat_lt (length (x ∷ rows)) cut.samples && (has_bytes cut.bytes p row && (b && (fits_sync cut.sync more && fits_keyframes cut.keyframes more)))) (takes_ticks cut.ticks c x rows row)
+    ∙ ap (λ (b : Bool). nat_lt (length (x ∷ rows)) cut.samples && (has_bytes cut.bytes p row && (has_ticks cut.ticks p row && (b && fits_keyframes cut.keyframes more)))) (takes_sync cut.sync x rows row starts.0)
+    ∙ ap (λ (b : Bool). nat_lt (length (x ∷ rows)) cut.samples && (has_bytes cut.bytes p row && (has_ticks cut.ticks p row && ((not cut.sync || not (is_sync row.flags)) && b)))) (takes_keyframes cut.keyframes x rows row starts.1)
 
 -- ---- the pieces
 
-grown_is : (cut : Cut) (c : Cursor) (x : Row) (p rows : List Row) → fits cut (x ∷ p) ≡ true → pieces_at c (cut_from (fits cut) (x ∷ p) rows) ≡ grown cut (piece_at c (x ∷ p)) rows
+grown_is : (cut : Cut) (c : Cursor) (x : Row) (p rows : List Row) → fits cut (x ∷ p) ≡ true → pieces_at c (cut_from (fits cut) (x ∷ p) rows) ≡ grown cut (piece_at c (x ∷ p)) (last_sync (is_sync x.flags) p) rows
 unfolding grown cut_from pieces_at
 grown_is cut c x p [] fit = refl
 grown_is cut c x p (row ∷ rows) fit =
     let takes_it = takes_is cut c x p row fit in
     elim (bool_is (fits cut (x ∷ (p ++ row ∷ [])))) [
       | inl t ↦
-          let yes : takes cut (piece_at c (x ∷ p)) row ≡ true = sym takes_it ∙ t in
-          rw (t, yes) (grown_is cut c x (p ++ row ∷ []) rows t ∙ ap (λ (q : Piece). grown cut q rows) (with_row_is c x p row))
+          let yes : takes cut (piece_at c (x ∷ p)) (last_sync (is_sync x.flags) p) row ≡ true = sym takes_it ∙ t in
+          rw (t, yes)
+          (grown_is cut c x (p ++ row ∷ []) rows t
+          ∙ ap (λ (q : Piece). grown cut q (last_sync (is_sync x.flags) (p ++ row ∷ [])) rows) (with_row_is c x p row)
+          ∙ ap (λ (b : Bool). grown cut (with_row (piece_at c (x ∷ p)) row) b rows) (last-more (is_sync x.flags) p row))
       | inr f ↦
-          let no_more : takes cut (piece_at c (x ∷ p)) row ≡ false = sym takes_it ∙ f in
+          let no_more : takes cut (piece_at c (x ∷ p)) (last_sync (is_sync x.flags) p) row ≡ false = sym takes_it ∙ f in
           rw (f, no_more)
           (ap (λ (ps : List Piece). piece_at c (x ∷ p) ∷ ps)
           (grown_is cut (past_rows c (x ∷ p)) row [] rows ((is_limit cut).one row)
-          ∙ ap (λ (q : Piece). grown cut q rows) (opened_is (past_rows c (x ∷ p)) row)
-          ∙ ap (λ (d : Cursor). grown cut (opened d row) rows) (sym (after_is c (x ∷ p)))))
+          ∙ ap (λ (q : Piece). grown cut q (is_sync row.flags) rows) (opened_is (past_rows c (x ∷ p)) row)
+          ∙ ap (λ (d : Cursor). grown cut (opened d row) (is_sync row.flags) rows) (sym (after_is c (x ∷ p)))))
     ]
 
 pub pieces_left_are : (cut : Cut) (c : Cursor) (rows : List Row) → pieces_at c (cut_rows cut rows) ≡ pieces_left cut c rows
 unfolding pieces_left cut_by pieces_at
 pieces_left_are cut c [] = refl
-pieces_left_are cut c (row ∷ rows) = grown_is cut c row [] rows ((is_limit cut).one row) ∙ ap (λ (q : Piece). grown cut q rows) (opened_is c row)
+pieces_left_are cut c (row ∷ rows) = grown_is cut c row [] rows ((is_limit cut).one row) ∙ ap (λ (q : Piece). grown cut q (is_sync row.flags) rows) (opened_is c row)
 
 -- ---- the numbers fit
 
@@ -174,12 +215,45 @@ after_has_room p rows h = record {
 
 -- ---- the loop's step
 
-pub grown_takes : (cut : Cut) (p : Piece) (row : Row) (rows : List Row) → takes cut p row ≡ true → grown cut p (row ∷ rows) ≡ grown cut (with_row p row) rows
+pub grown_takes : (cut : Cut) (p : Piece) (last : Bool) (row : Row) (rows : List Row) → takes cut p last row ≡ true → grown cut p last (row ∷ rows) ≡ grown cut (with_row p row) (is_sync row.flags) rows
 unfolding grown
-grown_takes cut p row rows e = rw e refl
+grown_takes cut p last row rows e = rw e refl
 
 -- a piece that has as many samples as it may has no more
-pub grown_full : (cut : Cut) (p : Piece) (rows : List Row) → nat_lt p.count cut.samples ≡ false → grown cut p rows ≡ p ∷ pieces_left cut (cursor_after p) rows
+pub grown_full : (cut : Cut) (p : Piece) (last : Bool) (rows : List Row) → nat_lt p.count cut.samples ≡ false → grown cut p last rows ≡ p ∷ pieces_left cut (cursor_after p) rows
 unfolding grown pieces_left takes
-grown_full cut p [] e = refl
-grown_full cut p (row ∷ rows) e = rw e refl
+grown_full cut p last [] e = refl
+grown_full cut p last (row ∷ rows) e = rw e refl
+
+pub not_less : (n m : ℕ) → m ≤ n → nat_lt n m ≡ false
+not_less n m h = by (nat_lt n m) refl
+  where
+    by : (t : Bool) → nat_lt n m ≡ t → nat_lt n m ≡ false
+    by true e = absurd (omega (arith, leb-true (suc n) m e, h))
+    by false e = e
+
+-- where no row is left, the piece is the last
+pub grown_none : (cut : Cut) (p : Piece) (last : Bool) (rows rest : List Row) → rows ≡ [] → rest ≡ [] → grown cut p last rows ≡ p ∷ pieces_left cut (cursor_after p) rest
+unfolding grown pieces_left
+grown_none cut p last rows rest none done = rw (none, done) refl
+
+-- ---- where nothing but the number of samples bounds a piece
+
+pub no_limits : (t : Bool) → (t && (true && (true && (true && true)))) ≡ t
+no_limits true = refl
+no_limits false = refl
+
+takes_plain : (cut : Cut) (p : Piece) (last : Bool) (row : Row) → IsPlain cut → takes cut p last row ≡ nat_lt p.count cut.samples
+unfolding takes
+takes_plain cut p last row is = rw (is.bytes, is.ticks, is.sync, is.keyframes) (no_limits (nat_lt p.count cut.samples))
+
+-- then it doesn't matter whether the last row is a sync sample
+pub grown_any : (cut : Cut) (p : Piece) (last other : Bool) (rows : List Row) → IsPlain cut → grown cut p last rows ≡ grown cut p other rows
+unfolding grown
+grown_any cut p last other [] is = refl
+grown_any cut p last other (row ∷ rows) is = rw (takes_plain cut p last row is, takes_plain cut p other row is) refl
+
+pub grown_more : (cut : Cut) (p : Piece) (last : Bool) (row : Row) (rows : List Row) → IsPlain cut → nat_lt p.count cut.samples ≡ true → grown cut p last (row ∷ rows) ≡ grown cut (with_row p row) last rows
+grown_more cut p last row rows is more =
+    grown_takes cut p last row rows (takes_plain cut p last row is ∙ more)
+    ∙ grown_any cut (with_row p row) (is_sync row.flags) last rows is

@@ -1,6 +1,7 @@
 pub mod CutLemmas
 pub mod FitLemmas
 mod WhatFitsLemmas
+mod ShortLemmas
 pub mod GrowLemmas
 pub mod PieceLemmas
 pub mod PlainLemmas

@@ -17,7 +17,7 @@ use Rattle.mp4_traf.proofs.RowLemmas.{cursor_first, length_rows_of}
 use Rattle.mp4_pieces.specs.declared.cut.Cut.{Cut}
 use Rattle.mp4_pieces.specs.declared.piece.Piece.{Piece}
 use Rattle.mp4_pieces.specs.Cutting.{ArePieces, join}
-use Rattle.mp4_pieces.specs.Fitting.{fits}
+use Rattle.mp4_pieces.specs.Fitting.{cut_for, fits}
 use Rattle.mp4_pieces.specs.Pieces.{EndsInRange, IsPieceOf, cursor_after, composition_times, cursor_at, cut_rows, least_of, past_rows, piece_at, pieces_at, pieces_from, pieces_of, rows_in}
 use Rattle.mp4_traf.specs.Ranges.{IsRunOf}
 use Rattle.mp4_pieces.specs.Laws.{IsFollowedBy, IsLeastOf}
@@ -90,7 +90,7 @@ is_piece moof_bytes run c q rest at some e =
       is = ap (λ (d : Cursor). piece_at d q) (sym (cursor_is moof_bytes run c at)) ∙ ap (λ (ys : List Row). piece_at (cursor_at moof_bytes run c.row) ys) (sym here);
     }
 
-followed : (cut : Cut) (moof_bytes : List ℕ) (run : Run) (c : Cursor) (q : List Row) (qs : List (List Row)) → IsCursor run moof_bytes c → ArePieces (fits cut) (drop c.row (rows_of run moof_bytes)) (q ∷ qs)
+followed : (cut : Cut) (moof_bytes : List ℕ) (run : Run) (c : Cursor) (q : List Row) (qs : List (List Row)) → IsCursor run moof_bytes c → ArePieces (fits (cut_for run.timescale cut)) (drop c.row (rows_of run moof_bytes)) (q ∷ qs)
     → IsFollowedBy cut moof_bytes run (piece_at c q) (pieces_at (past_rows c q) qs)
 unfolding piece_at
 followed cut moof_bytes run c q qs at are =
@@ -98,11 +98,12 @@ followed cut moof_bytes run c q qs at are =
     let low = at.row in
     let e : drop c.row rows ≡ q ++ join qs = sym are.joined in
     let rest : drop (c.row + length q) rows ≡ join qs = drop_on rows c.row q (join qs) (omega (arith, low, length_rows_of run moof_bytes)) e in
-    let same : qs ≡ cut_rows cut (join qs) = pieces_only (fits cut) (join qs) qs (is_limit cut) (record { some = are.some.1; joined = refl; fit = are.fit.1; full = are.full.1 }) in
+    let own : Cut = cut_for run.timescale cut in
+    let same : qs ≡ cut_rows own (join qs) = pieces_only (fits own) (join qs) qs (is_limit own) (record { some = are.some.1; joined = refl; fit = are.fit.1; full = are.full.1 }) in
     record {
       piece = is_piece moof_bytes run c q (join qs) at are.some.0 e;
       cursor = cursor_on moof_bytes run c q (join qs) at e;
-      rest = ap (λ (ys : List Row). pieces_at (past_rows c q) (cut_rows cut ys)) rest ∙ ap (pieces_at (past_rows c q)) (sym same);
+      rest = ap (λ (ys : List Row). pieces_at (past_rows c q) (cut_rows own ys)) rest ∙ ap (pieces_at (past_rows c q)) (sym same);
     }
 
 cons_is : {A : Type 0} (x y : A) (xs ys : List A) → x ∷ xs ≡ y ∷ ys → (x ≡ y) × (xs ≡ ys)
@@ -110,9 +111,11 @@ cons_is x y xs ys e = (cc, cc)
 
 pub goes_on : (cut : Cut) (moof_bytes : List ℕ) (run : Run) (c : Cursor) (p : Piece) (ps : List Piece) → IsCursor run moof_bytes c → pieces_from cut moof_bytes run c ≡ p ∷ ps → IsFollowedBy cut moof_bytes run p ps
 unfolding pieces_at
-goes_on cut moof_bytes run c p ps at e = by (cut_rows cut (drop c.row (rows_of run moof_bytes))) (pieces_are (fits cut) (drop c.row (rows_of run moof_bytes)) (is_limit cut)) e
+goes_on cut moof_bytes run c p ps at e =
+    let own : Cut = cut_for run.timescale cut in
+    by (cut_rows own (drop c.row (rows_of run moof_bytes))) (pieces_are (fits own) (drop c.row (rows_of run moof_bytes)) (is_limit own)) e
   where
-    by : (parts : List (List Row)) → ArePieces (fits cut) (drop c.row (rows_of run moof_bytes)) parts → pieces_at c parts ≡ p ∷ ps → IsFollowedBy cut moof_bytes run p ps
+    by : (parts : List (List Row)) → ArePieces (fits (cut_for run.timescale cut)) (drop c.row (rows_of run moof_bytes)) parts → pieces_at c parts ≡ p ∷ ps → IsFollowedBy cut moof_bytes run p ps
     by [] are e = absurd cc
     by (q ∷ qs) are e =
         let both = cons_is (piece_at c q) p (pieces_at (past_rows c q) qs) ps e in

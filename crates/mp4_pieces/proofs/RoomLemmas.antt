@@ -24,7 +24,7 @@ use Rattle.mp4_pieces.specs.declared.cut.Cut.{Cut}
 use Rattle.mp4_pieces.specs.declared.piece.Piece.{Piece}
 use Rattle.mp4_pieces.specs.declared.index.IndexCheck.{IndexCheck}
 use Rattle.mp4_pieces.specs.Cutting.{cut_by, cut_from}
-use Rattle.mp4_pieces.specs.Fitting.{fits}
+use Rattle.mp4_pieces.specs.Fitting.{cut_for, fits}
 use Rattle.mp4_pieces.specs.Groups.{groups_from}
 use Rattle.mp4_pieces.specs.Pieces.{cut_rows, past_rows, piece_count, pieces_at, pieces_of}
 use Rattle.mp4_pieces.specs.Rooms.{index_faults, index_faults_of, numbers, passes_reference, passes_time, room_fault, room_faults, sequence_faults}
@@ -92,7 +92,8 @@ few_by fits (x ∷ xs) = few_from fits (x ∷ []) xs
 pub few_pieces : (cut : Cut) (moof_bytes : List ℕ) (run : Run) → length (pieces_of cut moof_bytes run) ≤ run.count
 few_pieces cut moof_bytes run =
     let rows : List Row = drop 0 (rows_of run moof_bytes) in
-    omega (arith, length_pieces (first_cursor run) (cut_rows cut rows), few_by (fits cut) rows, length-drop 0 (rows_of run moof_bytes), length_rows_of run moof_bytes)
+    let own : Cut = cut_for run.timescale cut in
+    omega (arith, length_pieces (first_cursor run) (cut_rows own rows), few_by (fits own) rows, length-drop 0 (rows_of run moof_bytes), length_rows_of run moof_bytes)
 
 count-cons : (cut : Cut) (moof_bytes : List ℕ) (run : Run) (runs : List Run) → piece_count cut moof_bytes (run ∷ runs) ≡ length (pieces_of cut moof_bytes run) + piece_count cut moof_bytes runs
 count-cons cut moof_bytes run runs = sum_by-cons (λ (r : Run). length (pieces_of cut moof_bytes r)) run runs

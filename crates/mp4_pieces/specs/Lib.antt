@@ -1,6 +1,7 @@
 pub mod Allowed
 pub mod Cutting
 pub mod Fitting
+pub mod Bounds
 pub mod Pieces
 pub mod PlainPieces
 pub mod Groups

@@ -10,7 +10,7 @@ use Rattle.mp4_traf.specs.Rows.{durations, rows_of, sizes}
 use Rattle.mp4_pieces.specs.declared.cut.Cut.{Cut}
 use Rattle.mp4_pieces.specs.declared.piece.Piece.{Piece}
 use Rattle.mp4_pieces.specs.Cutting.{cut_by}
-use Rattle.mp4_pieces.specs.Fitting.{fits}
+use Rattle.mp4_pieces.specs.Fitting.{cut_for, fits}
 
 -- composition times of samples, the first of which has this decode time
 unfoldable pub composition_times : ℕ → List Row → List ℤ
@@ -47,9 +47,9 @@ pieces_at c (rows ∷ rest) = piece_at c rows ∷ pieces_at (past_rows c rows) r
 abbrev pub cut_rows : Cut → List Row → List (List Row)
 cut_rows cut rows = cut_by (fits cut) rows
 
--- the pieces of a run from a cursor on
+-- the pieces of a run from a cursor on, by the cut for its timescale
 abbrev pub pieces_from : Cut → List ℕ → Run → Cursor → List Piece
-pieces_from cut moof_bytes run c = pieces_at c (cut_rows cut (drop c.row (rows_of run moof_bytes)))
+pieces_from cut moof_bytes run c = pieces_at c (cut_rows (cut_for run.timescale cut) (drop c.row (rows_of run moof_bytes)))
 
 -- the pieces of a run
 abbrev pub pieces_of : Cut → List ℕ → Run → List Piece

@@ -1,31 +1,48 @@
 //! How a piece is filled with rows.
 
-ghost use Rattle.std.specs.Prelude.{◌≡◌, ◌+◌, ◌^◌, ◌<◌, ◌∷◌, ◌++◌, option_to_list};
+ghost use Rattle.std.specs.Prelude.{◌≡◌, ◌+◌, ◌^◌, ◌<◌, ◌∷◌, ◌++◌, Bool, option_to_list};
+ghost use Rattle.mp4_pieces.specs.Implementation.Counting.{IsPlain};
 ghost use Rattle.mp4_pieces.specs.Implementation.Growing.{Grows, grown, opened, pieces_left, takes, with_row};
 ghost use Rattle.mp4_pieces.specs.Pieces.{cursor_after};
+ghost use Rattle.mp4_traf.specs.SyncSamples.{is_sync};
 
 use crate::cut::Cut;
 use crate::piece::Piece;
+use crate::run_cut::RunCut;
 use mp4_frag::{Cursor, Row, Rows};
 
 /// The bit of a sample's flags that is clear for a sync sample: sample_is_non_sync_sample (ISO/IEC
 /// 14496-12, 8.8.3).
 const NON_SYNC: u32 = 0x0001_0000;
 
+/// Whether a row is of a sync sample.
+#[inline(always)]
+pub(crate) fn is_sync(row: &Row) -> bool
+    ensures { result ≡ is_sync row.now.flags }
+{
+    row.flags & NON_SYNC == 0
+}
+
 impl Cut {
-    /// Whether one more row fits in a piece.
+    /// Whether one more row fits in a piece, whose last row is a sync sample or not.
     #[tactic(auto, unfolding(crate::specs::Implementation::Growing::takes))]
     #[inline(always)]
-    fn takes(&self, piece: &Piece, row: &Row) -> bool
-        requires { piece.now.bytes + row.now.size < 2 ^ 64 }
-        ensures { result ≡ takes self.now piece.now row.now }
+    fn takes(&self, piece: &Piece, last: bool, row: &Row) -> bool
+        requires bytes { piece.now.bytes + row.now.size < 2 ^ 64 }
+        requires ticks { piece.now.duration + row.now.duration < 2 ^ 64 }
+        ensures { result ≡ takes self.now piece.now last row.now }
     {
         let has_bytes = match self.bytes {
             None => true,
             Some(most) => piece.bytes + u64::from(row.size) <= most,
         };
-        // Most rows are asked for no more than their size: their flags matter only with `sync`.
-        piece.count < self.samples && has_bytes && !(self.sync && row.flags & NON_SYNC == 0)
+        let has_ticks = match self.ticks {
+            None => true,
+            Some(most) => piece.duration + u64::from(row.duration) <= most,
+        };
+        // Most rows are asked for no more than their size: their flags matter only with `sync` and `keyframes`.
+        let may_start = self.sync || (self.keyframes && !last);
+        piece.count < self.samples && has_bytes && has_ticks && !(may_start && is_sync(row))
     }
 }
 
@@ -73,29 +90,51 @@ pub(crate) struct Filled {
     pub(crate) peeked: Option<Row>,
 }
 
-/// The piece that begins so, with the rows that fit in it. No row is read after one that has as many as it may.
+/// The piece that begins so, with the rows that follow, where nothing but their number bounds it.
 #[inline(always)]
-pub(crate) fn fill(cut: &Cut, begun: Piece, rows: &mut Rows<'_>) -> Filled
+pub(crate) fn fill_counted(own: &RunCut, begun: Piece, rows: &mut Rows<'_>) -> Piece
+    requires grows { Grows begun rows.old }
+    requires plain { IsPlain own.now.cut }
+    ensures pieces { (last : Bool) → grown own.now.cut begun last rows.old ≡ result ∷ pieces_left own.now.cut
+        (cursor_after result) rows.new }
+    ensures grows { Grows result rows.new }
+{
+    let mut piece = begun;
+    while piece.count < own.cut.samples {
+        let Some(row) = rows.next() else {
+            return piece;
+        };
+        piece = with_row(piece, &row);
+    }
+    piece
+}
+
+/// The piece that begins so, and so far ends with a sync sample or not, with the rows that fit in it. No row is read
+/// after one that has as many as it may.
+#[inline(always)]
+pub(crate) fn fill(own: &RunCut, begun: Piece, sync: bool, rows: &mut Rows<'_>) -> Filled
     requires { Grows begun rows.old }
-    ensures pieces { grown cut.now begun rows.old ≡ result.piece ∷ pieces_left cut.now
+    ensures pieces { grown own.now.cut begun sync rows.old ≡ result.piece ∷ pieces_left own.now.cut
         (cursor_after result.piece) (option_to_list result.peeked ++ rows.new) }
     ensures grows { Grows result.piece (option_to_list result.peeked ++ rows.new) }
 {
     let mut piece = begun;
-    while piece.count < cut.samples {
+    let mut last = sync;
+    while piece.count < own.cut.samples {
         let Some(row) = rows.next() else {
             return Filled {
                 piece,
                 peeked: None,
             };
         };
-        if !cut.takes(&piece, &row) {
+        if !own.cut.takes(&piece, last, &row) {
             return Filled {
                 piece,
                 peeked: Some(row),
             };
         }
         piece = with_row(piece, &row);
+        last = is_sync(&row);
     }
     Filled {
         piece,

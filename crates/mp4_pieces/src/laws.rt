@@ -1,6 +1,6 @@
 //! What the definitions of how runs are cut imply.
 
-ghost use Rattle.std.specs.Prelude.{◌≡◌, ◌+◌, ◌^◌, ◌≤◌, ◌<◌, ◌↔◌, ◌+ℤ◌, ◌≤ℤ◌, pos, ◌∷◌, [], true, ℕ, List, Some, length, take, drop};
+ghost use Rattle.std.specs.Prelude.{◌≡◌, ◌+◌, ◌*◌, ◌/◌, ◌^◌, ◌≤◌, ◌<◌, ◌↔◌, ◌+ℤ◌, ◌≤ℤ◌, pos, ◌∷◌, [], true, ℕ, List, Some, None, length, take, drop};
 ghost use Rattle.std.specs.List.{AllByRecursion};
 ghost use Rattle.std.specs.List.Sorted.{IsPermutation};
 ghost use Rattle.mp4_box.specs.Headers.{IsBytes, IsWhole};
@@ -17,7 +17,7 @@ ghost use Rattle.mp4_pieces.specs.declared.cut.Cut.{Cut};
 ghost use Rattle.mp4_pieces.specs.declared.piece.Piece.{Piece};
 ghost use Rattle.mp4_pieces.specs.Cutting.{ArePieces, IsLimit};
 ghost use Rattle.mp4_pieces.specs.Fits.{HasRoomFor};
-ghost use Rattle.mp4_pieces.specs.Fitting.{fits};
+ghost use Rattle.mp4_pieces.specs.Fitting.{cut_for, fits};
 ghost use Rattle.mp4_pieces.specs.Groups.{AreGroups, groups};
 ghost use Rattle.mp4_pieces.specs.Laws.{IsFollowedBy, IsLeastOf, MayBeOnePiece};
 ghost use Rattle.mp4_pieces.specs.Pieces.{EndsInRange, IsPieceOf, composition_times, cut_rows, piece_count, pieces_from, pieces_of, rows_in};
@@ -32,8 +32,8 @@ pub fn pieces_are_one()
         ArePieces (fits cut) rows ps → ps ≡ cut_rows cut rows }
 {}
 
-/// What fits in one piece: at most so many samples, at most so many bytes or just one sample, and no sync sample but
-/// the first where a piece is to end before each.
+/// What fits in one piece: at most so many samples, at most so many bytes and ticks or just one sample, and no sync
+/// sample but the first where a piece is to end before each.
 pub fn what_fits()
     ensures { (cut : Cut) (rows : List Row) → (fits cut rows ≡ true) ↔ MayBeOnePiece cut rows }
 {}
@@ -54,6 +54,23 @@ pub fn pieces_name_samples()
         IsLeastOf (composition_times p.time (rows_in moof_bytes run p)) p.least }
     ensures range { (moof_bytes : List ℕ) (run : Run) (p : Piece) → IsRunOf moof_bytes run →
         IsPieceOf moof_bytes run p → EndsInRange p }
+{}
+
+/// Where there is a limit in milliseconds, a piece of a run that has more than one sample lasts no longer: its duration
+/// has at most so many ticks of the timescale of its track, rounded down.
+pub fn pieces_are_short()
+    ensures ticks { (cut : Cut) (moof_bytes : List ℕ) (run : Run) (millis : ℕ) → cut.duration ≡ Some millis →
+        AllByRecursion (λ p. 1 < p.count → p.duration ≤ millis * run.timescale / 1000)
+        (pieces_of cut moof_bytes run) }
+    ensures time { (cut : Cut) (moof_bytes : List ℕ) (run : Run) (millis : ℕ) → cut.duration ≡ Some millis →
+        AllByRecursion (λ p. 1 < p.count → 1000 * p.duration ≤ millis * run.timescale)
+        (pieces_of cut moof_bytes run) }
+{}
+
+/// Where there is none, the cut for a timescale cuts as the cut itself does, unless that has a limit in ticks.
+pub fn no_limit_in_time()
+    ensures { (cut : Cut) (timescale : ℕ) (rows : List Row) → cut.duration ≡ None → cut.ticks ≡ None →
+        cut_rows (cut_for timescale cut) rows ≡ cut_rows cut rows }
 {}
 
 /// After the first piece from a cursor on there is a cursor of the run, and from there on it has

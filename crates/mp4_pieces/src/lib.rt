@@ -1,6 +1,7 @@
 //! How the samples of a movie fragment are cut: the pieces of each run (ISO/IEC 14496-12, 8.8.8).
 //!
-//! - [`Cut`]: the limits of a piece, and further options;
+//! - [`Cut`]: the limits of a piece, and further options; [`Bound`] says which of them bound the pieces of a run, and
+//!   `run_cut.rt` has the cut of a run;
 //! - [`Piece`]: some samples of a run that follow each other, with their sums;
 //! - [`Pieces`], which goes over the pieces of a run, from its first sample or a cursor on, each filled by `fill.rt`;
 //! - [`PlainPiece`] (`plain.rt`), a piece without what only an index needs; [`PlainPiece::first`] is the first from a
@@ -14,10 +15,11 @@
 //! `specs/Pieces.antt` what the pieces of a run are, `specs/PlainPieces.antt` what they are without their least
 //! composition times, `specs/Groups.antt` which of them share an index, `specs/Sizes.antt` how many bytes a piece has
 //! when it is written, `specs/Rooms.antt` for which numbers there is no room, and `specs/Fits.antt` when there is room
-//! for all. `specs/Allowed.antt` has the arguments of a cut. How pieces and their room are found, row by row, is said
+//! for all. `specs/Allowed.antt` has the arguments of a cut, `specs/Bounds.antt` what bounds the pieces of a run. How pieces and their room are found, row by row, is said
 //! in `specs/Implementation/`.
 #![tactic(auto)]
 
+mod bound;
 mod cut;
 mod fill;
 mod index;
@@ -26,8 +28,10 @@ mod piece;
 mod pieces;
 mod plain;
 mod rooms;
+mod run_cut;
 mod sizes;
 
+pub use bound::Bound;
 pub use cut::{Cut, MOST_IN_PIECE};
 pub use index::MOST_IN_INDEX;
 pub use piece::Piece;

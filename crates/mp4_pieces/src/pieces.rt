@@ -7,15 +7,16 @@ ghost use Rattle.mp4_pieces.specs.Pieces.{pieces_from, pieces_of};
 ghost use Rattle.mp4_traf.specs.Ranges.{IsRunOf};
 
 use crate::cut::Cut;
-use crate::fill::{fill, opened};
+use crate::fill::{fill, fill_counted, is_sync, opened};
 use crate::piece::Piece;
+use crate::run_cut::RunCut;
 use mp4_frag::{Cursor, Row, Rows, Run};
 use std::marker::Model;
 
 /// Goes over the pieces of a run.
 #[derive(Drop)]
 pub struct Pieces<'a> {
-    cut: Cut,
+    cut: RunCut,
     /// Where the next piece begins.
     at: Cursor,
     /// The first of its rows, if it was read to find the end of the piece before it.
@@ -33,7 +34,7 @@ impl<'a> Model for Pieces<'a> {
 
     ghost Value = { List Piece };
 
-    ghost view = { λ p. pieces_left p.cut p.at (option_to_list p.peeked ++ p.rows) };
+    ghost view = { λ p. pieces_left p.cut.cut p.at (option_to_list p.peeked ++ p.rows) };
 
     ghost invariant = { λ p. HasRoom p.at (option_to_list p.peeked ++ p.rows) };
 }
@@ -56,7 +57,7 @@ impl<'a> Pieces<'a> {
         ensures { result ≡ pieces_from cut.now moof_bytes.now run.now cursor }
     {
         Pieces {
-            cut: *cut,
+            cut: cut.for_run(run),
             at: cursor,
             peeked: None,
             rows: run.rows_from(moof_bytes, cursor),
@@ -79,7 +80,14 @@ impl<'a> Iterator for Pieces<'a> {
             Some(row) => row,
             None => self.rows.next()?,
         };
-        let filled = fill(&self.cut, opened(self.at, &first), &mut self.rows);
+        let begun = opened(self.at, &first);
+        if self.cut.is_counted {
+            let piece = fill_counted(&self.cut, begun, &mut self.rows);
+            self.at = piece.cursor_after();
+            self.peeked = None;
+            return Some(piece);
+        }
+        let filled = fill(&self.cut, begun, is_sync(&first), &mut self.rows);
         self.at = filled.piece.cursor_after();
         self.peeked = filled.peeked;
         Some(filled.piece)

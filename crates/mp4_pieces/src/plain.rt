@@ -1,11 +1,14 @@
 //! A piece of a run without the number that only an index needs.
 
-ghost use Rattle.std.specs.Prelude.{◌≡◌, ◌+◌, ◌+ℤ◌, ◌<ℤ◌, ◌^◌, ◌<◌, ◌∷◌, pos};
+ghost use Rattle.std.specs.Prelude.{◌≡◌, ◌+◌, ◌+ℤ◌, ◌<ℤ◌, ◌^◌, ◌<◌, ◌≤◌, ◌∷◌, pos, drop};
 ghost use Rattle.mp4_traf.specs.Ranges.{IsRunOf};
-ghost use Rattle.mp4_traf.specs.Rows.{IsCursor};
+ghost use Rattle.mp4_traf.specs.Rows.{IsCursor, rows_of};
+ghost use Rattle.mp4_pieces.specs.Bounds.{IsBound};
+ghost use Rattle.mp4_pieces.specs.Implementation.Counting.{IsFirst, LastsWithin};
 ghost use Rattle.mp4_pieces.specs.Pieces.{cursor_after, pieces_from};
 ghost use Rattle.mp4_pieces.specs.PlainPieces.{piece_of, plain_at, plain_end, plain_of, plain_start};
 
+use crate::bound::Bound;
 use crate::cut::Cut;
 use crate::piece::Piece;
 use crate::pieces::Pieces;
@@ -43,6 +46,30 @@ fn first_by_row(run: &Run, moof_bytes: &[u8], cut: &Cut, at: &Cursor) -> PlainPi
     PlainPiece::of(&piece)
 }
 
+/// The first piece from a cursor on, which has so many samples: nothing but their sizes and durations is read.
+#[inline(always)]
+fn first_of(run: &Run, moof_bytes: &[u8], cut: &Cut, at: &Cursor, count: u32) -> PlainPiece
+    requires run { IsRunOf moof_bytes.now run.now }
+    requires cursor { IsCursor run.now moof_bytes.now at.now }
+    requires first { IsFirst cut.now moof_bytes.now run.now at.now count }
+    ensures { pieces_from cut.now moof_bytes.now run.now at.now ≡ piece_of moof_bytes.now run.now result ∷
+        pieces_from cut.now moof_bytes.now run.now (plain_end result) }
+{
+    let _ = cut;
+    let sums = run.sums_between(moof_bytes, at.row, count);
+    plain_at(at, count, sums.bytes, sums.ticks)
+}
+
+/// How many of `most` samples from a row on last no longer than so many ticks, or 1 where the first lasts longer.
+#[inline(never)]
+fn count_in_time(run: &Run, moof_bytes: &[u8], row: u32, most: u32, ticks: u64) -> u32
+    requires some { 0 < most }
+    requires rows { row + most ≤ run.now.count }
+    ensures { LastsWithin ticks most (drop row (rows_of run.now moof_bytes.now)) result }
+{
+    run.count_within(moof_bytes, row, most, ticks).max(1)
+}
+
 /// The piece of so many samples from a cursor on, with these sums.
 #[inline(always)]
 fn plain_at(at: &Cursor, count: u32, bytes: u64, duration: u64) -> PlainPiece
@@ -75,7 +102,7 @@ impl PlainPiece {
     }
 
     /// The first piece of a run from a cursor on. `moof_bytes` are the bytes of its moof. Where only the number of
-    /// samples bounds it, nothing but their sizes and durations is read.
+    /// samples and their durations bound it, nothing but their sizes and durations is read.
     #[inline(always)]
     pub fn first(run: &Run, moof_bytes: &[u8], cut: &Cut, at: &Cursor) -> PlainPiece
         requires run { IsRunOf moof_bytes.now run.now }
@@ -84,14 +111,39 @@ impl PlainPiece {
         ensures { pieces_from cut.now moof_bytes.now run.now at.now ≡ piece_of moof_bytes.now run.now result ∷
             pieces_from cut.now moof_bytes.now run.now (plain_end result) }
     {
-        if cut.bytes.is_some() || cut.sync {
-            // A copy, so that only here the piece need be in memory.
-            let piece = first_by_row(run, moof_bytes, cut, at);
-            return piece;
+        PlainPiece::first_within(run, moof_bytes, cut, cut.bound(run), at)
+    }
+
+    /// The same, with what bounds the pieces of the run (`Cut::bound`).
+    #[inline(always)]
+    pub fn first_within(
+        run: &Run,
+        moof_bytes: &[u8],
+        cut: &Cut,
+        bound: Bound,
+        at: &Cursor,
+    ) -> PlainPiece
+        requires run { IsRunOf moof_bytes.now run.now }
+        requires cursor { IsCursor run.now moof_bytes.now at.now }
+        requires some { at.now.row < run.now.count }
+        requires bound { IsBound cut.now run.now bound }
+        ensures { pieces_from cut.now moof_bytes.now run.now at.now ≡ piece_of moof_bytes.now run.now result ∷
+            pieces_from cut.now moof_bytes.now run.now (plain_end result) }
+    {
+        let left = run.count - at.row;
+        match bound {
+            Bound::Samples(most) => first_of(run, moof_bytes, cut, at, most.min(left)),
+            Bound::Ticks(ticks) => {
+                let most = cut.samples.min(left);
+                let count = count_in_time(run, moof_bytes, at.row, most, ticks);
+                first_of(run, moof_bytes, cut, at, count)
+            }
+            Bound::Rows => {
+                // A copy, so that only here the piece need be in memory.
+                let piece = first_by_row(run, moof_bytes, cut, at);
+                piece
+            }
         }
-        let count = cut.samples.min(run.count - at.row);
-        let sums = run.sums_between(moof_bytes, at.row, count);
-        plain_at(at, count, sums.bytes, sums.ticks)
     }
 
     /// The cursor before its first sample.

@@ -19,7 +19,7 @@ use Rattle.mp4_traf.specs.Settling.{with_end}
 use Rattle.mp4_run_order.specs.declared.runs.Payload.{Payload}
 use Rattle.mp4_pieces.specs.declared.cut.Cut.{Cut}
 use Rattle.mp4_pieces.specs.declared.piece.Piece.{Piece}
-use Rattle.mp4_pieces.specs.Fitting.{fits}
+use Rattle.mp4_pieces.specs.Fitting.{cut_for, fits}
 use Rattle.mp4_pieces.specs.Groups.{groups, groups_from}
 use Rattle.mp4_pieces.specs.Pieces.{cut_rows, piece_at, piece_count, pieces_at, pieces_of}
 use Rattle.mp4_pieces.specs.Rooms.{moof, numbers, room_fault}
@@ -69,10 +69,15 @@ one_piece cut [] some e = absurd (omega arith)
 one_piece cut (x ∷ rows) some e = piece_again (fits cut) x rows (is_limit cut) e
 
 -- the run of a moof that was written has one piece
-pub its_piece : (cut : Cut) (f : WrittenFragment) (h : MoofBytes) (run : Run) → Describes f h run → 0 < length f.rows → fits cut f.rows ≡ true → pieces_of cut h.bytes run ≡ piece_at (first_cursor run) f.rows ∷ []
+pub its_piece : (cut : Cut) (f : WrittenFragment) (h : MoofBytes) (run : Run) → Describes f h run → 0 < length f.rows → fits (cut_for run.timescale cut) f.rows ≡ true → pieces_of cut h.bytes run ≡ piece_at (first_cursor run) f.rows ∷ []
 unfolding pieces_at
 its_piece cut f h run t some e =
-    ap (λ (rows : List Row). pieces_at (first_cursor run) (cut_rows cut rows)) t.rows ∙ ap (pieces_at (first_cursor run)) (one_piece cut f.rows some e)
+    let own : Cut = cut_for run.timescale cut in
+    ap (λ (rows : List Row). pieces_at (first_cursor run) (cut_rows own rows)) t.rows ∙ ap (pieces_at (first_cursor run)) (one_piece own f.rows some e)
+
+-- its samples fit in a piece by the timescale of the run that is read
+pub its_fit : (cut : Cut) (tracks : List Track) (f : WrittenFragment) (media : List ℕ) (h : MoofBytes) (one : IsOnePiece cut tracks f media) (r : IsReadAs tracks f h) → fits (cut_for r.run.timescale cut) f.rows ≡ true
+its_fit cut tracks f media h one r = ap (λ (n : ℕ). fits (cut_for n cut) f.rows) (r.timescale one.can.track one.can.known) ∙ one.fits
 
 pub its_count : (cut : Cut) (moof_bytes : List ℕ) (run : Run) (p : Piece) → pieces_of cut moof_bytes run ≡ p ∷ [] → piece_count cut moof_bytes (run ∷ []) ≡ 1
 its_count cut moof_bytes run p e = omega (arith, ap (λ (ps : List Piece). length ps) e)
@@ -111,7 +116,7 @@ is_good cut at number tracks f media none small one r =
     let payload = (fragment_in (context at (Some tracks) number) (moof_as_box f number) (mdat_as_box media)).payload in
     good_by (place_fault payload (moof_runs h tracks)) (room_fault cut h (moof_runs h tracks) number)
     (ap (place_fault payload) r.all ∙ (ap (λ (p : Payload). place_fault p (r.run ∷ [])) (payload_is at number tracks f media one.all) ∙ r.placed))
-    (ap (λ (rs : List Run). room_fault cut h rs number) r.all ∙ has_room cut h r.run (piece_at (first_cursor r.run) f.rows) number none small (its_piece cut f h r.run r.describes one.some one.fits))
+    (ap (λ (rs : List Run). room_fault cut h rs number) r.all ∙ has_room cut h r.run (piece_at (first_cursor r.run) f.rows) number none small (its_piece cut f h r.run r.describes one.some (its_fit cut tracks f media h one r)))
 
 -- ---- the text
 
@@ -157,7 +162,7 @@ one_recut cut at number tracks f media none small one =
     let fits = one.can.fits in
     let r = is_read_as f number at tracks one.can in
     let p = piece_at (first_cursor r.run) f.rows in
-    let its = its_piece cut f h r.run r.describes one.some one.fits in
+    let its = its_piece cut f h r.run r.describes one.some (its_fit cut tracks f media h one r) in
     let c = context at (Some tracks) number in
     let frag = fragment_in c (moof_as_box f number) (mdat_as_box media) in
     let start = frag.payload.start in

@@ -18,7 +18,7 @@ use Rattle.mp4_pieces.specs.declared.cut.Cut.{Cut}
 use Rattle.mp4_pieces.specs.declared.piece.Piece.{Piece}
 use Rattle.mp4_pieces.specs.Cutting.{join}
 use Rattle.mp4_pieces.specs.Fits.{BeginsInTime, FitsIndex, FitsReference, FitsTime}
-use Rattle.mp4_pieces.specs.Fitting.{fits}
+use Rattle.mp4_pieces.specs.Fitting.{cut_for, fits}
 use Rattle.mp4_pieces.specs.Groups.{groups}
 use Rattle.mp4_pieces.specs.Pieces.{IsPieceOf, composition_times, cursor_at, least_of, piece_at, piece_count, pieces_of, rows_in}
 use Rattle.mp4_pieces.specs.Pieces as piece_specs
@@ -41,14 +41,14 @@ use Rattle.mp4_recut_laws.specs.Premises.{IsRunIn}
 use Rattle.mp4_recut_laws.specs.RecutItems.{groups_items, index_items, runs_items, without_index}
 use Rattle.mp4_recut_laws.specs.PieceTimes.{FitsOwnIndex, RunTimesFit}
 use Rattle.mp4_recut_laws.proofs.CutLemmas.{run_pieces}
-use Rattle.mp4_recut_laws.proofs.OnePieceLemmas.{its_count, its_piece, one_group}
+use Rattle.mp4_recut_laws.proofs.OnePieceLemmas.{its_count, its_fit, its_piece, one_group}
 use Rattle.mp4_recut_laws.proofs.WithoutIndexLemmas.{both_none, last_none, same_after}
 use Rattle.mp4_recut_laws.proofs.RunLemmas.{none_of}
-use Rattle.mp4_recut_laws.proofs.TrackLemmas.{ends_settled, can_still}
+use Rattle.mp4_recut_laws.proofs.TrackLemmas.{ends_settled, can_still, still_timescale}
 
 -- ---- one piece
 
-its_index : (cut : Cut) (f : WrittenFragment) (h : MoofBytes) (run : Run) → Describes f h run → 0 < length f.rows → fits cut f.rows ≡ true → FitsOwnIndex f → FitsIndex (pieces_of cut h.bytes run)
+its_index : (cut : Cut) (f : WrittenFragment) (h : MoofBytes) (run : Run) → Describes f h run → 0 < length f.rows → fits (cut_for run.timescale cut) f.rows ≡ true → FitsOwnIndex f → FitsIndex (pieces_of cut h.bytes run)
 unfolding piece_specs.piece_at
 its_index cut f h run t some e one =
     let p = piece_at (first_cursor run) f.rows in
@@ -62,7 +62,7 @@ first_nil : {X : Type 0} (xs ys : List X) → xs ++ ys ≡ [] → xs ≡ []
 first_nil [] ys e = refl
 first_nil (x ∷ xs) ys e = absurd cc
 
-no_fault : (cut : Cut) (f : WrittenFragment) (h : MoofBytes) (run : Run) → Describes f h run → 0 < length f.rows → fits cut f.rows ≡ true → FitsOwnIndex f → index_faults cut h.bytes (run ∷ []) ≡ []
+no_fault : (cut : Cut) (f : WrittenFragment) (h : MoofBytes) (run : Run) → Describes f h run → 0 < length f.rows → fits (cut_for run.timescale cut) f.rows ≡ true → FitsOwnIndex f → index_faults cut h.bytes (run ∷ []) ≡ []
 unfolding rooms.room_faults
 no_fault cut f h run t some e one =
     let count : piece_count cut h.bytes (run ∷ []) ≡ 1 = its_count cut h.bytes run (piece_at (first_cursor run) f.rows) (its_piece cut f h run t some e) in
@@ -72,7 +72,7 @@ no_fault cut f h run t some e one =
       numbers = subst (λ (n : ℕ). AllByRecursion (λ (k : ℕ). k < 2 ^ 32) (numbers 0 n)) (sym count) (omega arith, tt);
     }))
 
-index_means : (cut : Cut) (f : WrittenFragment) (h : MoofBytes) (run : Run) → Describes f h run → 0 < length f.rows → fits cut f.rows ≡ true → FitsIndex (pieces_of cut h.bytes run) → FitsOwnIndex f
+index_means : (cut : Cut) (f : WrittenFragment) (h : MoofBytes) (run : Run) → Describes f h run → 0 < length f.rows → fits (cut_for run.timescale cut) f.rows ≡ true → FitsIndex (pieces_of cut h.bytes run) → FitsOwnIndex f
 unfolding piece_specs.piece_at
 index_means cut f h run t some e has =
     let p = piece_at (first_cursor run) f.rows in
@@ -91,11 +91,12 @@ unfolding order.least_from
 one_fits_index cut at number tracks f media index small one =
     let h = held_moof f number at in
     let r = is_read_as f number at tracks one.can in
-    let count : piece_count cut h.bytes (r.run ∷ []) ≡ 1 = its_count cut h.bytes r.run (piece_at (first_cursor r.run) f.rows) (its_piece cut f h r.run r.describes one.some one.fits) in (
-      λ none. index_means cut f h r.run r.describes one.some one.fits
+    let fit_here = its_fit cut tracks f media h one r in
+    let count : piece_count cut h.bytes (r.run ∷ []) ≡ 1 = its_count cut h.bytes r.run (piece_at (first_cursor r.run) f.rows) (its_piece cut f h r.run r.describes one.some fit_here) in (
+      λ none. index_means cut f h r.run r.describes one.some fit_here
           ((room_from cut h (r.run ∷ []) number (least-none (rooms.room_faults cut h (r.run ∷ []) number) (ap (λ (rs : List Run). room_fault cut h rs number) (sym r.all) ∙ none))).indexes index).0,
       λ fit. ap (λ (rs : List Run). room_fault cut h rs number) r.all ∙ ap least (room_to cut h (r.run ∷ []) number (record {
-        indexes = λ _. (its_index cut f h r.run r.describes one.some one.fits fit, tt);
+        indexes = λ _. (its_index cut f h r.run r.describes one.some fit_here fit, tt);
         numbers = subst (λ (n : ℕ). AllByRecursion (λ (k : ℕ). k < 2 ^ 32) (numbers number n)) (sym count) (small, tt);
       })),
     )
@@ -174,8 +175,11 @@ one_room : (cut : Cut) (tracks : List Track) (q : PieceWithMedia) (number : ℕ)
 one_room cut tracks q number fine at us e =
     let f = q.written in
     let h = held_moof f number at in
-    let r = is_read_as f number at us (can_still f tracks us e fine.one.can) in
-    ap (index_faults cut h.bytes) r.all ∙ no_fault cut f h r.run r.describes fine.one.some fine.one.fits fine.fits
+    let can = can_still f tracks us e fine.one.can in
+    let r = is_read_as f number at us can in
+    let scale : r.run.timescale ≡ fine.one.can.track.timescale = r.timescale can.track can.known ∙ still_timescale f tracks us e fine.one.can in
+    let fit : fits (cut_for r.run.timescale cut) f.rows ≡ true = ap (λ (n : ℕ). fits (cut_for n cut) f.rows) scale ∙ fine.one.fits in
+    ap (index_faults cut h.bytes) r.all ∙ no_fault cut f h r.run r.describes fine.one.some fit fine.fits
 
 pieces_room : (cut : Cut) (tracks : List Track) (number : ℕ) (qs : List PieceWithMedia) → AllByRecursion (Fine cut tracks) qs → AllByRecursion (RoomAnywhere cut tracks) (pieces_items number qs)
 pieces_room cut tracks number [] all = tt

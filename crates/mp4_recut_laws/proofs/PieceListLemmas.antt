@@ -5,6 +5,7 @@ use Rattle.mp4_init.specs.declared.table.Track.{Track}
 use Rattle.mp4_traf.specs.Rows.{durations}
 use Rattle.mp4_traf.specs.Settling.{with_end}
 use Rattle.mp4_pieces.specs.declared.cut.Cut.{Cut}
+use Rattle.mp4_pieces.specs.Fitting.{cut_for, fits}
 use Rattle.mp4_grammar.specs.Contexts.{Context, context}
 use Rattle.mp4_grammar.specs.Joined.{AreSound, IsSound, Item, context_after, context_after_all, bytes_of, joined}
 use Rattle.mp4_recut_laws.specs.PieceItems.{IsOnePiece, PieceWithMedia, piece_item, piece_samples, pieces_items, without_ends}
@@ -15,11 +16,20 @@ use Rattle.mp4_recut.specs.Splitting.{splitting}
 use Rattle.mp4_recut.specs.Texts.{item_text, items_text}
 use Rattle.mp4_recut_laws.proofs.OnePieceLemmas.{one_recut, one_samples}
 use Rattle.mp4_recut_laws.proofs.PieceLineLemmas.{one_line}
-use Rattle.mp4_recut_laws.proofs.TrackLemmas.{ends_changed, can_still}
+use Rattle.mp4_recut_laws.proofs.TrackLemmas.{ends_changed, can_still, still_timescale}
 
 pub still : (cut : Cut) (ts us : List Track) → without_ends us ≡ without_ends ts → (qs : List PieceWithMedia) → AllByRecursion (λ (q : PieceWithMedia). IsOnePiece cut ts q.written q.media) qs → AllByRecursion (λ (q : PieceWithMedia). IsOnePiece cut us q.written q.media) qs
 still cut ts us e [] all = tt
-still cut ts us e (q ∷ qs) all = (record { can = can_still q.written ts us e all.0.can; some = all.0.some; fits = all.0.fits; all = all.0.all; small = all.0.small }, still cut ts us e qs all.1)
+still cut ts us e (q ∷ qs) all = (
+  record {
+    can = can_still q.written ts us e all.0.can;
+    some = all.0.some;
+    fits = ap (λ (n : ℕ). fits (cut_for n cut) q.written.rows) (still_timescale q.written ts us e all.0.can) ∙ all.0.fits;
+    all = all.0.all;
+    small = all.0.small;
+  },
+  still cut ts us e qs all.1,
+)
 
 join_bytes : (a b c d : List ℕ) → a ≡ b → c ≡ d → a ++ c ≡ b ++ d
 join_bytes a b c d p q = ap (λ (x : List ℕ). x ++ c) p ∙ ap (λ (y : List ℕ). b ++ y) q

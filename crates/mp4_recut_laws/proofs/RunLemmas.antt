@@ -12,6 +12,7 @@ use Rattle.mp4_pieces.specs.declared.cut.Cut.{Cut}
 use Rattle.mp4_pieces.specs.declared.piece.Piece.{Piece}
 use Rattle.mp4_pieces.specs.Cutting.{cut_by, join}
 use Rattle.mp4_pieces.specs.Groups.{groups}
+use Rattle.mp4_pieces.specs.Fitting.{cut_for}
 use Rattle.mp4_pieces.specs.Pieces.{cut_rows, pieces_at, pieces_of}
 use Rattle.mp4_pieces.proofs.GroupLemmas.{groups_are}
 use Rattle.mp4_cut.specs.Sidx.{natural, sidx, sidx_payload, written_index}
@@ -110,7 +111,7 @@ module _ (cut : Cut) (moof_bytes : List ℕ) (start : ℕ) (payload : List ℕ) 
 
   pub none_of : (run : Run) → rows_of run moof_bytes ≡ [] → pieces_of cut moof_bytes run ≡ []
   unfolding cut_by pieces_at
-  none_of run e = ap (λ (rows : List Row). pieces_at (first_cursor run) (cut_rows cut rows)) e
+  none_of run e = ap (λ (rows : List Row). pieces_at (first_cursor run) (cut_rows (cut_for run.timescale cut) rows)) e
 
   no_samples_reported : (run : Run) (rows : List Row) (media : List ℕ) → rows ≡ [] → media_samples_from run.track run.entry rows run.time media ≡ []
   no_samples_reported run rows media e = ap (λ (rs : List Row). media_samples_from run.track run.entry rs run.time media) e

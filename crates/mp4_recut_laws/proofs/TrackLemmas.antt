@@ -38,16 +38,25 @@ record Same (o : Option Track) (t : Track) : Type 0 where
   track : Track
   is : o ≡ Some track
   entries : track.entries ≡ t.entries
+  timescale : track.timescale ≡ t.timescale
 
 some_back : (o : Option Track) (t : Track) → option_map without_end o ≡ Some (without_end t) → Same o t
 some_back None t e = absurd cc
-some_back (Some u) t e = record { track = u; is = refl; entries = let same : without_end u ≡ without_end t = cc in ap (λ (x : Track). x.entries) same }
+some_back (Some u) t e = let same : without_end u ≡ without_end t = cc in record { track = u; is = refl; entries = ap (λ (x : Track). x.entries) same; timescale = ap (λ (x : Track). x.timescale) same }
 
 -- what can be read after some tracks can be read after others that differ only in their ends
+same_there : (f : WrittenFragment) (ts us : List Track) → without_ends us ≡ without_ends ts → (can : CanBeRead ts f) → Same (track_with f.track us) can.track
+same_there f ts us e can = some_back (track_with f.track us) can.track (track_ends f.track us ∙ (ap (track_with f.track) e ∙ (sym (track_ends f.track ts) ∙ ap (option_map without_end) can.known)))
+
 pub can_still : (f : WrittenFragment) (ts us : List Track) → without_ends us ≡ without_ends ts → CanBeRead ts f → CanBeRead us f
 can_still f ts us e can =
-    let there = some_back (track_with f.track us) can.track (track_ends f.track us ∙ (ap (track_with f.track) e ∙ (sym (track_ends f.track ts) ∙ ap (option_map without_end) can.known))) in
+    let there = same_there f ts us e can in
     record { fits = can.fits; track = there.track; known = there.is; low = can.low; high = omega (arith, can.high, there.entries) }
+
+-- in the same timescale
+pub still_timescale : (f : WrittenFragment) (ts us : List Track) (e : without_ends us ≡ without_ends ts) (can : CanBeRead ts f) → (can_still f ts us e can).track.timescale ≡ can.track.timescale
+unfolding can_still
+still_timescale f ts us e can = (same_there f ts us e can).timescale
 
 ends_next : (i n : ℕ) (ts : List Track) → without_ends (with_next i n ts) ≡ without_ends ts
 unfolding with_next

@@ -6,7 +6,7 @@ use Rattle.mp4_traf.specs.declared.run.Run.{Run}
 use Rattle.mp4_traf.specs.Rows.{rows_of, sizes}
 use Rattle.mp4_pieces.specs.declared.cut.Cut.{Cut}
 use Rattle.mp4_pieces.specs.declared.piece.Piece.{Piece}
-use Rattle.mp4_pieces.specs.Fitting.{fits}
+use Rattle.mp4_pieces.specs.Fitting.{cut_for, fits}
 use Rattle.mp4_pieces.specs.Pieces.{pieces_of}
 use Rattle.mp4_pieces.specs.Rooms.{moof}
 use Rattle.mp4_pieces.specs.Sizes.{mdat_header_size, moof_size}
@@ -41,7 +41,7 @@ piece_item f number media = MovieFragment (moof_as_box f number) (mdat_as_box me
 pub record IsOnePiece (cut : Cut) (tracks : List Track) (f : Written) (media : List ℕ) : Type 0 where
   pub can : CanBeRead tracks f
   pub some : 0 < length f.rows
-  pub fits : fits cut f.rows ≡ true
+  pub fits : fits (cut_for can.track.timescale cut) f.rows ≡ true
   pub all : length media ≡ sizes f.rows
   pub small : length media ≤ 2 ^ 62
 

@@ -36,19 +36,25 @@ abbrev pub has_bytes : Option ℕ → Piece → Row → Bool
 has_bytes None p row = true
 has_bytes (Some most) p row = nat_le (p.bytes + row.size) most
 
--- one more row fits in it
-unfoldable pub takes : Cut → Piece → Row → Bool
-takes cut p row = nat_lt p.count cut.samples && (has_bytes cut.bytes p row && (not cut.sync || not (is_sync row.flags)))
+-- the ticks of one more row fit in it
+abbrev pub has_ticks : Option ℕ → Piece → Row → Bool
+has_ticks None p row = true
+has_ticks (Some most) p row = nat_le (p.duration + row.duration) most
+
+-- one more row fits in it; `last` says whether its last row is a sync sample
+unfoldable pub takes : Cut → Piece → (last : Bool) → Row → Bool
+takes cut p last row = nat_lt p.count cut.samples && (has_bytes cut.bytes p row && (has_ticks cut.ticks p row && ((not cut.sync || not (is_sync row.flags)) && (not cut.keyframes || (last || not (is_sync row.flags))))))
 
 -- pieces of these rows, if the next piece so far is this one
-unfoldable pub grown : Cut → Piece → List Row → List Piece
-grown cut p [] = p ∷ []
-grown cut p (row ∷ rows) = if takes cut p row then grown cut (with_row p row) rows else p ∷ grown cut (opened (cursor_after p) row) rows
+unfoldable pub grown : Cut → Piece → (last : Bool) → List Row → List Piece
+grown cut p last [] = p ∷ []
+grown cut p last (row ∷ rows) =
+    if takes cut p last row then grown cut (with_row p row) (is_sync row.flags) rows else p ∷ grown cut (opened (cursor_after p) row) (is_sync row.flags) rows
 
 -- the pieces of these rows, from a cursor on
 unfoldable pub pieces_left : Cut → Cursor → List Row → List Piece
 pieces_left cut c [] = []
-pieces_left cut c (row ∷ rows) = grown cut (opened c row) rows
+pieces_left cut c (row ∷ rows) = grown cut (opened c row) (is_sync row.flags) rows
 
 -- the numbers of these rows fit their types, from a piece on
 pub record Grows (p : Piece) (rows : List Row) : Type 0 where
