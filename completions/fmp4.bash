@@ -6,8 +6,8 @@ _fmp4() {
     return
   fi
   case $before in *'<' | *'>') compopt -o default; return ;; esac
-  case $before in --samples | --bytes | --copy | --max-held) return ;; esac
-  [ "${COMP_WORDS[1]}" = split ] && options="--samples --bytes --index --sync $options"
+  case $before in --samples | --bytes | --duration | --copy | --max-held) return ;; esac
+  [ "${COMP_WORDS[1]}" = split ] && options="--samples --bytes --duration --index --sync --keyframes $options"
   mapfile -t COMPREPLY < <(compgen -W "$options" -- "$word")
 }
 complete -F _fmp4 fmp4

@@ -10,5 +10,7 @@ complete -c fmp4 -n "__fish_seen_subcommand_from $commands" -l copy -x -d 'the m
 complete -c fmp4 -n "__fish_seen_subcommand_from $commands" -l max-held -x -d 'the most memory for the stream'
 complete -c fmp4 -n '__fish_seen_subcommand_from split' -l samples -x -d 'the most samples of a fragment'
 complete -c fmp4 -n '__fish_seen_subcommand_from split' -l bytes -x -d 'the most bytes of media of a fragment'
+complete -c fmp4 -n '__fish_seen_subcommand_from split' -l duration -x -d 'the most milliseconds of a fragment'
 complete -c fmp4 -n '__fish_seen_subcommand_from split' -l index -d 'write an sidx before each run'
 complete -c fmp4 -n '__fish_seen_subcommand_from split' -l sync -d 'begin a fragment at each sync sample'
+complete -c fmp4 -n '__fish_seen_subcommand_from split' -l keyframes -d 'begin a fragment at each group of pictures'

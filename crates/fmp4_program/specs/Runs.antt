@@ -86,8 +86,10 @@ ListsFragments settings seen = Delivers settings seen (λ claims ends answer. (t
 pub record IsCutBy (options : SplitOptions) (cut : Cut) : Type 0 where
   pub samples : cut.samples ≡ options.samples
   pub bytes : cut.bytes ≡ options.bytes
+  pub duration : cut.duration ≡ options.duration
   pub index : cut.index ≡ options.index
   pub sync : cut.sync ≡ options.sync
+  pub keyframes : cut.keyframes ≡ options.keyframes
 
 -- the fragments of the stream are cut so
 abbrev pub SplitsBy : SplitOptions → Ends → Claims → Result (Unit {0}) Stop → Type 0

@@ -1,6 +1,6 @@
 -- The meaning of a command line.
-use Rattle.std.specs.Prelude.{◌≤◌, ◌==◌, ◌^◌, ℕ, Bool, false, List, Option, Some, None, codes, option_map, option_and_then, if◌then◌else◌, length}
-use Rattle.std.specs.Option.{option_map_or}
+use Rattle.std.specs.Prelude.{◌≤◌, ◌==◌, ◌&&◌, ◌^◌, ◌-◌, ℕ, Bool, true, false, List, Option, Some, None, IfSome, codes, option_map, option_and_then, if◌then◌else◌, length}
+use Rattle.std.specs.Option.{is_some, option_map_or}
 use Rattle.std.specs.Str.{bytes_eq}
 use Rattle.std.specs.Str.Parse.{digits_value, without_leading_plus}
 use Rattle.clap.specs.ValueTests.{is_unsigned_in}
@@ -26,9 +26,13 @@ flag_rule name = record (new_rule name) { long = Some name; action = Some SetTru
 abbrev pub settings_app : Text → App
 settings_app name = with_rule (with_rule (new_app name) (valued_rule (codes "copy"))) (valued_rule (codes "max-held"))
 
--- `split`, with its options
+-- `split`, with the limits of a piece
+abbrev pub limits_app : App
+limits_app = with_rule (with_rule (with_rule (settings_app (codes "split")) (valued_rule (codes "samples"))) (valued_rule (codes "bytes"))) (valued_rule (codes "duration"))
+
+-- `split`, with all its options
 abbrev pub split_app : App
-split_app = with_rule (with_rule (with_rule (with_rule (settings_app (codes "split")) (valued_rule (codes "samples"))) (valued_rule (codes "bytes"))) (flag_rule (codes "index"))) (flag_rule (codes "sync"))
+split_app = with_rule (with_rule (with_rule limits_app (flag_rule (codes "index"))) (flag_rule (codes "sync"))) (flag_rule (codes "keyframes"))
 
 -- the whole command line; only a proof that computes it unfolds it
 unfoldable pub program_app : App
@@ -71,11 +75,20 @@ unfoldable pub settings_of : List Row → Option Settings
 settings_of rows =
     option_and_then (λ copy. option_map (λ most. record { copy = copy; max_held = most }) (number_or 536870912 1 (2 ^ 62) (codes "max-held") rows)) (number_or 65536 4096 1048576 (codes "copy") rows)
 
--- how `split` cuts, by its options
+-- the number after `--samples`, which may be left out where there is a limit in time
+abbrev pub samples_of : Bool → List Row → Option ℕ
+samples_of true rows = number_or 1000000 1 1000000 (codes "samples") rows
+samples_of false rows = needed_number 1 1000000 (codes "samples") rows
+
+-- how `split` cuts, by its options, if they don't ask for both of two ways to end a piece before sync samples
 unfoldable pub options_of : List Row → Option SplitOptions
 options_of rows =
-    option_and_then (λ samples. option_map (λ bytes. record { samples = samples; bytes = bytes; index = has_flag (codes "index") rows; sync = has_flag (codes "sync") rows }) (number_if 1 (2 ^ 62) (codes "bytes") rows))
-    (needed_number 1 1000000 (codes "samples") rows)
+    option_and_then (λ duration. option_and_then (λ samples. option_and_then (λ bytes.
+    if has_flag (codes "sync") rows && has_flag (codes "keyframes") rows then None
+    else Some (record { samples = samples; bytes = bytes; duration = duration; index = has_flag (codes "index") rows; sync = has_flag (codes "sync") rows; keyframes = has_flag (codes "keyframes") rows }))
+    (number_if 1 (2 ^ 62) (codes "bytes") rows))
+    (samples_of (is_some duration) rows))
+    (number_if 1 (2 ^ 32 - 1) (codes "duration") rows)
 
 -- `split`, with what its options give
 unfoldable pub split_of : List Row → Option Invocation
@@ -93,7 +106,7 @@ invocation_of name rows =
 
 -- the same for the numbers of `split`
 abbrev pub MayCut : SplitOptions → Type 0
-MayCut options = pieces.IsAllowed options.samples options.bytes
+MayCut options = pieces.IsAllowed options.samples options.bytes × IfSome options.duration (λ millis. 1 ≤ millis)
 
 -- the numbers of a command are in range
 abbrev pub IsInRange : Invocation → Type 0

@@ -16,10 +16,14 @@ pub struct SplitOptions {
     pub samples: u32,
     /// The most bytes of media of a piece with several samples, if there is a limit.
     pub bytes: Option<u64>,
+    /// The most milliseconds of a piece with several samples, if there is a limit.
+    pub duration: Option<u32>,
     /// Whether each group of fragments has an index before it.
     pub index: bool,
     /// Whether a fragment ends before each sync sample.
     pub sync: bool,
+    /// Whether a fragment ends before each sync sample after one that isn't.
+    pub keyframes: bool,
 }
 
 /// A command, with what came with it.

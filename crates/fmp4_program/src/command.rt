@@ -1,8 +1,8 @@
 //! The command line, as words.
-ghost use Rattle.std.specs.Prelude.{◌≡◌, ◌≤◌, ◌↔◌, false, Some, None, IfOk, IfErr, IfSome, codes, map, string_bytes};
+ghost use Rattle.std.specs.Prelude.{◌≡◌, ◌≤◌, ◌<◌, ◌^◌, ◌↔◌, false, Some, None, IfOk, IfErr, IfSome, codes, map, string_bytes};
 ghost use Rattle.clap.specs.Words.{app_of, found_of, kind_of, rows_of, rule_of};
 ghost use Rattle.clap.specs.declared.builder.command.Command.TheViews.{out-Command};
-ghost use Rattle.fmp4_program.specs.Words.{IsAllowed, IsInRange, MayCut, command_of, flag_rule, has_flag, invocation_of, needed_number, number_if, number_in, number_or, options_of, program_app, settings_app, settings_of, split_app, valued_rule};
+ghost use Rattle.fmp4_program.specs.Words.{IsAllowed, IsInRange, MayCut, command_of, flag_rule, has_flag, invocation_of, limits_app, needed_number, number_if, number_in, number_or, options_of, program_app, samples_of, settings_app, settings_of, split_app, valued_rule};
 
 use crate::asked::{Invocation, Settings, SplitOptions};
 use clap::error::ErrorKind;
@@ -94,19 +94,47 @@ fn has_flag(matches: &ArgMatches<'_>, id: &str) -> bool
     }
 }
 
+fn samples_from(matches: &ArgMatches<'_>, has_duration: bool) -> Option<u64>
+    ensures value { result ≡ samples_of has_duration (rows_of (found_of matches.now)) }
+    ensures low { IfSome result (λ number. 1 ≤ number) }
+    ensures high { IfSome result (λ number. number ≤ 1000000) }
+{
+    if has_duration {
+        return number_or(matches, "samples", 1_000_000, 1, 1_000_000);
+    }
+    needed_number(matches, "samples", 1, 1_000_000)
+}
+
+fn in_32_bits(number: Option<u64>) -> Option<u32>
+    requires { IfSome number (λ n. n < 2 ^ 32) }
+    ensures { result ≡ number }
+{
+    match number {
+        Some(number) => Some(number as u32),
+        None => None,
+    }
+}
+
 fn options_from(matches: &ArgMatches<'_>) -> Option<SplitOptions>
     ensures value { result ≡ options_of (rows_of (found_of matches.now)) }
     ensures ranges { IfSome result MayCut }
 {
-    let samples = needed_number(matches, "samples", 1, 1_000_000)?;
+    let duration = number_if(matches, "duration", 1, 4_294_967_295)?;
+    let samples = samples_from(matches, duration.is_some())?;
     let bytes = number_if(matches, "bytes", 1, 1 << 62)?;
     let index = has_flag(matches, "index");
     let sync = has_flag(matches, "sync");
+    let keyframes = has_flag(matches, "keyframes");
+    if sync && keyframes {
+        return None;
+    }
     Some(SplitOptions {
         samples: samples as u32,
         bytes,
+        duration: in_32_bits(duration),
         index,
         sync,
+        keyframes,
     })
 }
 
@@ -157,15 +185,24 @@ fn settings_command<'a>(alloc: Global, name: &'a str) -> Result<Command<'a>, All
         .arg(valued_option(alloc, "max-held"))
 }
 
-fn split_command<'a>(alloc: Global) -> Result<Command<'a>, AllocError>
-    ensures app { IfOk result (λ command. app_of command ≡ split_app) }
+fn limits_command<'a>(alloc: Global) -> Result<Command<'a>, AllocError>
+    ensures app { IfOk result (λ command. app_of command ≡ limits_app) }
     ensures local { IfOk result (λ command. (out-Command command).has_globals ≡ false) }
 {
     let settings = settings_command(alloc, "split")?;
     let samples = settings.arg(valued_option(alloc, "samples"))?;
     let bytes = samples.arg(valued_option(alloc, "bytes"))?;
-    let index = bytes.arg(flag(alloc, "index"))?;
-    index.arg(flag(alloc, "sync"))
+    bytes.arg(valued_option(alloc, "duration"))
+}
+
+fn split_command<'a>(alloc: Global) -> Result<Command<'a>, AllocError>
+    ensures app { IfOk result (λ command. app_of command ≡ split_app) }
+    ensures local { IfOk result (λ command. (out-Command command).has_globals ≡ false) }
+{
+    let limits = limits_command(alloc)?;
+    let index = limits.arg(flag(alloc, "index"))?;
+    let sync = index.arg(flag(alloc, "sync"))?;
+    sync.arg(flag(alloc, "keyframes"))
 }
 
 fn program_command<'a>(alloc: Global) -> Result<Command<'a>, AllocError>

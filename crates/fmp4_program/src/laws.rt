@@ -47,25 +47,62 @@ pub fn worked_words()
         ∷ []) ≡ None }
     ensures split { command_of (codes "fmp4" ∷ codes "split" ∷ codes "--samples" ∷ codes "2" ∷
         []) ≡ Some (Invocation.Split (record { copy = 65536; max_held = 536870912 })
-        (record { samples = 2; bytes = None; index = false; sync = false })) }
+        (record { samples = 2; bytes = None; duration = None; index = false; sync = false; keyframes = false })) }
     ensures split_index { command_of (codes "fmp4" ∷ codes "split" ∷ codes "--samples" ∷ codes "2" ∷ codes "--index" ∷
         []) ≡ Some (Invocation.Split (record { copy = 65536; max_held = 536870912 })
-        (record { samples = 2; bytes = None; index = true; sync = false })) }
+        (record { samples = 2; bytes = None; duration = None; index = true; sync = false; keyframes = false })) }
     ensures split_sync { command_of (codes "fmp4" ∷ codes "split" ∷ codes "--samples" ∷ codes "9" ∷ codes "--sync" ∷
         []) ≡ Some (Invocation.Split (record { copy = 65536; max_held = 536870912 })
-        (record { samples = 9; bytes = None; index = false; sync = true })) }
+        (record { samples = 9; bytes = None; duration = None; index = false; sync = true; keyframes = false })) }
     ensures split_all { command_of (codes "fmp4" ∷ codes "split" ∷ codes "--sync" ∷ codes "--bytes" ∷ codes "10" ∷
         codes "--index" ∷ codes "--max-held" ∷ codes "65944" ∷ codes "--samples" ∷ codes "9" ∷ codes "--copy" ∷
         codes "4096" ∷ []) ≡ Some (Invocation.Split (record { copy = 4096; max_held = 65944 })
-        (record { samples = 9; bytes = Some 10; index = true; sync = true })) }
+        (record { samples = 9; bytes = Some 10; duration = None; index = true; sync = true; keyframes = false })) }
     ensures split_least { command_of (codes "fmp4" ∷ codes "split" ∷ codes "--samples" ∷ codes "1" ∷ codes "--bytes" ∷
         codes "1" ∷ []) ≡ Some (Invocation.Split (record { copy = 65536; max_held = 536870912 })
-        (record { samples = 1; bytes = Some 1; index = false; sync = false })) }
+        (record { samples = 1; bytes = Some 1; duration = None; index = false; sync = false; keyframes = false })) }
     ensures split_most { command_of (codes "fmp4" ∷ codes "split" ∷ codes "--samples" ∷ codes "1000000" ∷
         codes "--bytes" ∷ codes "4611686018427387904" ∷ []) ≡ Some (Invocation.Split
         (record { copy = 65536; max_held = 536870912 })
-        (record { samples = 1000000; bytes = Some (2 ^ 62); index = false; sync = false })) }
+        (record {
+          samples = 1000000;
+          bytes = Some (2 ^ 62);
+          duration = None;
+          index = false;
+          sync = false;
+          keyframes = false;
+        })) }
     ensures split_without_samples { command_of (codes "fmp4" ∷ codes "split" ∷ codes "--bytes" ∷ codes "10" ∷ []) ≡
+        None }
+    ensures split_duration { command_of (codes "fmp4" ∷ codes "split" ∷ codes "--duration" ∷ codes "500" ∷ []) ≡
+        Some (Invocation.Split (record { copy = 65536; max_held = 536870912 })
+        (record {
+          samples = 1000000;
+          bytes = None;
+          duration = Some 500;
+          index = false;
+          sync = false;
+          keyframes = false;
+        })) }
+    ensures split_duration_and_samples { command_of (codes "fmp4" ∷ codes "split" ∷ codes "--samples" ∷ codes "2" ∷
+        codes "--duration" ∷ codes "4294967295" ∷ []) ≡
+        Some (Invocation.Split (record { copy = 65536; max_held = 536870912 })
+        (record {
+          samples = 2;
+          bytes = None;
+          duration = Some 4294967295;
+          index = false;
+          sync = false;
+          keyframes = false;
+        })) }
+    ensures split_keyframes { command_of (codes "fmp4" ∷ codes "split" ∷ codes "--keyframes" ∷ codes "--samples" ∷
+        codes "9" ∷ []) ≡ Some (Invocation.Split (record { copy = 65536; max_held = 536870912 })
+        (record { samples = 9; bytes = None; duration = None; index = false; sync = false; keyframes = true })) }
+    ensures split_keyframes_alone { command_of (codes "fmp4" ∷ codes "split" ∷ codes "--keyframes" ∷ []) ≡ None }
+    ensures split_keyframes_and_sync { command_of (codes "fmp4" ∷ codes "split" ∷ codes "--samples" ∷ codes "9" ∷
+        codes "--keyframes" ∷ codes "--sync" ∷ []) ≡ None }
+    ensures split_no_duration { command_of (codes "fmp4" ∷ codes "split" ∷ codes "--duration" ∷ codes "0" ∷ []) ≡ None }
+    ensures split_too_long { command_of (codes "fmp4" ∷ codes "split" ∷ codes "--duration" ∷ codes "4294967296" ∷ []) ≡
         None }
     ensures split_without_number { command_of (codes "fmp4" ∷ codes "split" ∷ codes "--samples" ∷ []) ≡ None }
     ensures split_no_samples { command_of (codes "fmp4" ∷ codes "split" ∷ codes "--samples" ∷ codes "0" ∷ []) ≡ None }

@@ -1,6 +1,6 @@
 //! A run of the program.
 
-ghost use Rattle.std.specs.Prelude.{◌≡◌, ◌≤◌, true, false, map, string_bytes, Result, IfErr, OnOk, OnErr};
+ghost use Rattle.std.specs.Prelude.{◌≡◌, ◌≤◌, true, false, map, string_bytes, None, Result, IfSome, IfErr, OnOk, OnErr};
 ghost use Rattle.mp4_machine.specs.Ends.{between, received, sent};
 ghost use Rattle.mp4_grammar.specs.declared.command.Command.TheVariants as commands;
 ghost use Rattle.mp4_ends.specs.Streams.{AppendsPrefix};
@@ -9,7 +9,7 @@ ghost use Rattle.mp4_stream.specs.Fragments.{ReadsFragments, unsent};
 ghost use Rattle.mp4_boxes.specs.HeldBoxes.{ReadsBoxes};
 ghost use Rattle.mp4_recut.specs.declared.operation.Operation.TheVariants as operations;
 ghost use Rattle.fmp4_program.specs.Words.{MayCut, command_of};
-ghost use Rattle.fmp4_program.specs.Runs.{Ran, ReportsStop, RunsAndFlushes, SplitsBy, Writes, WritesLine, status_of};
+ghost use Rattle.fmp4_program.specs.Runs.{IsCutBy, Ran, ReportsStop, RunsAndFlushes, SplitsBy, Writes, WritesLine, status_of};
 
 use crate::asked::{Invocation, SplitOptions};
 use crate::command::{NoCommand, read_words};
@@ -167,6 +167,43 @@ fn list_fragments<R: Source, W: Sink>(
     }
 }
 
+/// The cut that the options ask for.
+fn cut_by(options: &SplitOptions) -> Cut
+    requires { MayCut options.now }
+    ensures { IsCutBy options.now result }
+{
+    let Some(cut) = Cut::new(options.samples, options.bytes, options.index) else {
+        unreachable!();
+    };
+    let cut = in_time(cut, options.duration);
+    let cut = if options.keyframes {
+        cut.with_keyframes()
+    } else {
+        cut
+    };
+    if options.sync { cut.with_sync() } else { cut }
+}
+
+/// The same cut, with a limit in milliseconds if there is one.
+fn in_time(cut: Cut, duration: Option<u32>) -> Cut
+    requires limit { IfSome duration (λ millis. 1 ≤ millis) }
+    requires none { cut.duration ≡ None }
+    ensures samples { result.samples ≡ cut.samples }
+    ensures bytes { result.bytes ≡ cut.bytes }
+    ensures index { result.index ≡ cut.index }
+    ensures sync { result.sync ≡ cut.sync }
+    ensures keyframes { result.keyframes ≡ cut.keyframes }
+    ensures duration { result.duration ≡ duration }
+{
+    let Some(millis) = duration else {
+        return cut;
+    };
+    match cut.with_duration(millis) {
+        Some(cut) => cut,
+        None => unreachable!(),
+    }
+}
+
 /// Cuts the fragments of the stream into shorter ones, and flushes what was written.
 fn split_stream<R: Source, W: Sink>(
     r: &mut R,
@@ -184,11 +221,7 @@ fn split_stream<R: Source, W: Sink>(
         (sent W.contents W.has_failed w.old w.new)) result }
     ensures within { ledger.new.peak ≤ ledger.old.limit }
 {
-    let cut = match Cut::new(options.samples, options.bytes, options.index) {
-        Some(cut) if options.sync => cut.with_sync(),
-        Some(cut) => cut,
-        None => unreachable!(),
-    };
+    let cut = cut_by(options);
     match split(r, w, ledger, &cut, copy, &mut Totals::new()) {
         Ok(()) => flush(w),
         Err(stop) => Err(stop),

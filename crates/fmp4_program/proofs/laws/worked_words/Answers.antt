@@ -87,6 +87,34 @@ pub returns-clause-split : goal.returns-clause-split
 unfolding clap_on_literals program_app command_of invocation_of split_of options_of settings_of number_or needed_number number_if has_flag number_in
 returns-clause-split c = refl
 
+pub returns-clause-split_duration : goal.returns-clause-split_duration
+unfolding clap_on_literals program_app command_of invocation_of split_of options_of settings_of number_or needed_number number_if has_flag number_in
+returns-clause-split_duration c = refl
+
+pub returns-clause-split_duration_and_samples : goal.returns-clause-split_duration_and_samples
+unfolding clap_on_literals program_app command_of invocation_of split_of options_of settings_of number_or needed_number number_if has_flag number_in
+returns-clause-split_duration_and_samples c = refl
+
+pub returns-clause-split_keyframes : goal.returns-clause-split_keyframes
+unfolding clap_on_literals program_app command_of invocation_of split_of options_of settings_of number_or needed_number number_if has_flag number_in
+returns-clause-split_keyframes c = refl
+
+pub returns-clause-split_keyframes_alone : goal.returns-clause-split_keyframes_alone
+unfolding clap_on_literals program_app command_of invocation_of split_of options_of settings_of number_or needed_number number_if has_flag number_in
+returns-clause-split_keyframes_alone c = refl
+
+pub returns-clause-split_keyframes_and_sync : goal.returns-clause-split_keyframes_and_sync
+unfolding clap_on_literals program_app command_of invocation_of split_of options_of settings_of number_or needed_number number_if has_flag number_in
+returns-clause-split_keyframes_and_sync c = refl
+
+pub returns-clause-split_no_duration : goal.returns-clause-split_no_duration
+unfolding clap_on_literals program_app command_of invocation_of split_of options_of settings_of number_or needed_number number_if has_flag number_in
+returns-clause-split_no_duration c = refl
+
+pub returns-clause-split_too_long : goal.returns-clause-split_too_long
+unfolding clap_on_literals program_app command_of invocation_of split_of options_of settings_of number_or needed_number number_if has_flag number_in
+returns-clause-split_too_long c = refl
+
 pub returns-clause-split_index : goal.returns-clause-split_index
 unfolding clap_on_literals program_app command_of invocation_of split_of options_of settings_of number_or needed_number number_if has_flag number_in
 returns-clause-split_index c = refl
