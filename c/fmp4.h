@@ -4,7 +4,7 @@
  * A stream is fed as it comes, in inputs of any size, and the output is taken from the front:
  *
  *     struct fmp4_stream s = {0};
- *     fmp4_split_open(&s, 15, 0, 0, 64 << 20, 8 << 20);
+ *     fmp4_split_open(&s, 15, 0, 0, 64 << 20, 8 << 20);    or fmp4_cut_open, with all limits of a fragment
  *     while (fmp4_feed_take(&s, input, len, &taken, out, size, &given) ..)
  *         write `given` bytes of out, go on with input + taken
  *     fmp4_finish(&s, &report);   take what is left with fmp4_take
@@ -68,6 +68,16 @@ struct fmp4_report {
  * with another header, or declares them otherwise. */
 #define FMP4_LAYOUT ((uint32_t)(sizeof(struct fmp4_stream) << 16 | sizeof(struct fmp4_report)))
 
+/* How a stream is cut. Begin it as zeros, which ask for nothing. All limits hold together, but a sample that passes one is
+ * a fragment by itself. */
+struct fmp4_cut {
+    uint32_t samples;     /* the most samples of a fragment, 1 to 1,000,000; 0 with a duration: 1,000,000 */
+    uint32_t duration_ms; /* the most milliseconds that it lasts, in whole ticks of its track; 0: any number */
+    uint64_t bytes;       /* its most bytes of media, up to 2^62; 0: any number */
+    uint32_t flags;       /* a sum of enum fmp4_flags, but not of both FMP4_SYNC and FMP4_KEYFRAMES */
+    uint32_t reserved[5]; /* zeros: for what later libraries of the same soname can be asked for */
+};
+
 /* A track fragment (traf) of a stream that is listed by records: its moof, its times and its samples. */
 struct fmp4_fragment {
     uint64_t offset;      /* where its moof begins in the stream */
@@ -102,18 +112,19 @@ enum fmp4_answer {
     FMP4_CLOSED = 17,       /* after fmp4_close */
     FMP4_IS_OPEN = 18,      /* an open of a stream that is open */
     FMP4_ENDED = 19,        /* a feed or finish after fmp4_finish */
-    FMP4_BAD_SAMPLES = 20,  /* samples not in 1 to 1,000,000 */
+    FMP4_BAD_SAMPLES = 20,  /* samples not in 1 to 1,000,000, nor 0 with a duration */
     FMP4_BAD_BYTES = 21,    /* bytes above 2^62 */
-    FMP4_BAD_FLAGS = 22,    /* flags that aren't known */
+    FMP4_BAD_FLAGS = 22,    /* flags that aren't known, or exclude each other; reserved words that aren't 0 */
     FMP4_BAD_ROOM = 23,     /* a room of 0 */
     FMP4_BAD_LAYOUT = 24,   /* structs of other sizes than the library's */
     FMP4_BAD_LISTING = 25   /* a listing that isn't known, or a record of a stream that isn't listed by records */
 };
 
-/* Flags of fmp4_split_open. */
+/* Flags of a cut. */
 enum fmp4_flags {
     FMP4_INDEX = 1,         /* an sidx before the fragments that each run is cut into */
-    FMP4_SYNC = 2           /* a fragment also ends before a sync sample */
+    FMP4_SYNC = 2,          /* a fragment also ends before a sync sample */
+    FMP4_KEYFRAMES = 4      /* only before one whose predecessor in the run isn't one; not of fmp4_split_open */
 };
 
 /* Listings of fmp4_list_open. */
@@ -137,6 +148,11 @@ enum fmp4_listing {
 static inline uint32_t fmp4_split_open(struct fmp4_stream *stream, uint32_t samples, uint64_t bytes, uint32_t flags,
                                        uint64_t limit, size_t room);
 
+/* The same with all limits of a fragment; `limit` and `room` are as those above.
+ *   As fmp4_split_open */
+static inline uint32_t fmp4_cut_open(struct fmp4_stream *stream, const struct fmp4_cut *cut, uint64_t limit,
+                                     size_t room);
+
 /* Opens a stream that is only checked and counted. It has no output, and each input is taken as a whole.
  *   FMP4_NO_MEMORY; FMP4_IS_OPEN; FMP4_BAD_LAYOUT */
 static inline uint32_t fmp4_check_open(struct fmp4_stream *stream, uint64_t limit);
@@ -149,9 +165,11 @@ static inline uint32_t fmp4_check_open(struct fmp4_stream *stream, uint64_t limi
  *   FMP4_OVER_LIMIT: room is more than limit; FMP4_NO_MEMORY; FMP4_IS_OPEN; FMP4_BAD_LAYOUT, _LISTING, _ROOM */
 static inline uint32_t fmp4_list_open(struct fmp4_stream *stream, uint32_t listing, uint64_t limit, size_t room);
 
-/* What these three call in the library; `layout` is FMP4_LAYOUT. */
+/* What these four call in the library; `layout` is FMP4_LAYOUT. */
 uint32_t fmp4_split_open_as(struct fmp4_stream *stream, uint32_t layout, uint32_t samples, uint64_t bytes, uint32_t flags,
                             uint64_t limit, size_t room);
+uint32_t fmp4_cut_open_as(struct fmp4_stream *FMP4_RESTRICT stream, uint32_t layout,
+                          const struct fmp4_cut *FMP4_RESTRICT cut, uint64_t limit, size_t room);
 uint32_t fmp4_check_open_as(struct fmp4_stream *stream, uint32_t layout, uint64_t limit);
 uint32_t fmp4_list_open_as(struct fmp4_stream *stream, uint32_t layout, uint32_t listing, uint64_t limit, size_t room);
 
@@ -227,6 +245,10 @@ uint32_t fmp4_version(void);
 static inline uint32_t fmp4_split_open(struct fmp4_stream *stream, uint32_t samples, uint64_t bytes, uint32_t flags,
                                        uint64_t limit, size_t room) {
     return fmp4_split_open_as(stream, FMP4_LAYOUT, samples, bytes, flags, limit, room);
+}
+static inline uint32_t fmp4_cut_open(struct fmp4_stream *stream, const struct fmp4_cut *cut, uint64_t limit,
+                                     size_t room) {
+    return fmp4_cut_open_as(stream, FMP4_LAYOUT, cut, limit, room);
 }
 static inline uint32_t fmp4_check_open(struct fmp4_stream *stream, uint64_t limit) {
     return fmp4_check_open_as(stream, FMP4_LAYOUT, limit);

@@ -37,13 +37,14 @@ class bytes {
     bytes after(std::size_t count) const { return {data_ + count, size_ - count}; }
 };
 
-// How a stream is cut; the fields are the arguments of fmp4_split_open.
+// How a stream is cut: the fields of fmp4_cut, and the other arguments of fmp4_cut_open.
 struct cut {
-    std::uint32_t samples;
+    std::uint32_t samples = 0;
     std::uint64_t bytes = 0;
     std::uint32_t flags = 0;
     std::uint64_t limit = 64u << 20;
     std::size_t room = 8u << 20;
+    std::uint32_t duration_ms = 0;
 };
 
 inline std::string answer_name(std::uint32_t answer) {
@@ -76,7 +77,8 @@ class stream {
 
     std::uint32_t open(const cut &by) {
         out_.resize(131072);
-        return fmp4_split_open(&stream_, by.samples, by.bytes, by.flags, by.limit, by.room);
+        const fmp4_cut all{by.samples, by.duration_ms, by.bytes, by.flags, {}};
+        return fmp4_cut_open(&stream_, &all, by.limit, by.room);
     }
     std::uint32_t check(std::uint64_t limit) {
         out_.resize(131072);

@@ -1,5 +1,5 @@
-/* recut SAMPLES [INPUT [BYTES [FLAGS [LIMIT [ROOM]]]]]: recuts standard input, INPUT bytes at a time, as fmp4 split does.
- * cc recut.c -lfmp4 */
+/* recut SAMPLES [INPUT [BYTES [FLAGS [DURATION [LIMIT [ROOM]]]]]]: recuts standard input, INPUT bytes at a time, as fmp4
+ * split does; 0 is what isn't asked for. cc recut.c -lfmp4 */
 #include <fmp4.h>
 #include <stdio.h>
 #include <stdlib.h>
@@ -31,8 +31,8 @@ static void report_end(uint32_t answer, const struct fmp4_report *report) {
 }
 
 int main(int argc, char **argv) {
-    unsigned long long with[6] = {0, 65536, 0, 0, 512ull << 20, 8 << 20};
-    if (argc < 2 || argc > 7) return fputs("recut SAMPLES [INPUT [BYTES [FLAGS [LIMIT [ROOM]]]]]\n", stderr), 64;
+    unsigned long long with[7] = {0, 65536, 0, 0, 0, 512ull << 20, 8 << 20};
+    if (argc < 2 || argc > 8) return fputs("recut SAMPLES [INPUT [BYTES [FLAGS [DURATION [LIMIT [ROOM]]]]]]\n", stderr), 64;
     for (int i = 1; i < argc; i++) with[i - 1] = strtoull(argv[i], NULL, 10);
     /* Reads, and the copies of media from one to the other, are faster where both begin on a page. */
     static _Alignas(4096) unsigned char input[65536], out[131072];
@@ -40,7 +40,8 @@ int main(int argc, char **argv) {
     setvbuf(stdout, NULL, _IONBF, 0); /* so that fwrite copies nothing */
     struct fmp4_stream stream = {0};
     struct fmp4_report report = {0};
-    uint32_t answer = fmp4_split_open(&stream, (uint32_t)with[0], with[2], (uint32_t)with[3], with[4], with[5]);
+    struct fmp4_cut cut = {.samples = (uint32_t)with[0], .bytes = with[2], .flags = (uint32_t)with[3], .duration_ms = (uint32_t)with[4]};
+    uint32_t answer = fmp4_cut_open(&stream, &cut, with[5], with[6]);
     if (answer != FMP4_OK) return fprintf(stderr, "recut: the stream isn't opened: %u\n", (unsigned)answer), 64;
     int is_written = 1;
     while (is_written && answer <= FMP4_FULL && (len = fread(input, 1, size, stdin)) > 0)

@@ -1,4 +1,4 @@
-// recut SAMPLES [INPUT]: recuts standard input, INPUT bytes at a time, as fmp4 split does.
+// recut SAMPLES [INPUT [DURATION [FLAGS]]]: recuts standard input, INPUT bytes at a time, as fmp4 split does.
 // c++ -std=c++17 recut.cc -lfmp4
 #include <cstdio>
 #include <cstdlib>
@@ -6,9 +6,11 @@
 #include <vector>
 
 int main(int argc, char **argv) {
-    if (argc < 2) return std::fputs("recut SAMPLES [INPUT]\n", stderr), 64;
+    if (argc < 2) return std::fputs("recut SAMPLES [INPUT [DURATION [FLAGS]]]\n", stderr), 64;
     fmp4::cut cut{static_cast<std::uint32_t>(std::strtoul(argv[1], nullptr, 10))};
     cut.limit = 512u << 20;
+    if (argc > 3) cut.duration_ms = static_cast<std::uint32_t>(std::strtoul(argv[3], nullptr, 10));
+    if (argc > 4) cut.flags = static_cast<std::uint32_t>(std::strtoul(argv[4], nullptr, 10));
     fmp4::stream stream;
     if (std::uint32_t answer = stream.open(cut)) return std::fprintf(stderr, "%s\n", fmp4::answer_name(answer).c_str()), 64;
     bool is_written = true;

@@ -15,18 +15,21 @@ import (
 
 // Flags of a Cut.
 const (
-	Index = 1 // an sidx before the fragments that each run is cut into
-	Sync  = 2 // a fragment also ends before a sync sample
+	Index     = 1 // an sidx before the fragments that each run is cut into
+	Sync      = 2 // a fragment also ends before a sync sample
+	Keyframes = 4 // only before one whose predecessor in the run isn't one; not with Sync
 )
 
-// Cut says how a stream is cut: into fragments of at most Samples samples and Bytes bytes of media (0: any number).
-// Limit is the most bytes that the stream may take, Room of them for the output; 0 stands for 64 MiB and 8 MiB.
+// Cut says how a stream is cut: into fragments of at most Samples samples (0 with DurationMS: 1,000,000), Bytes bytes of
+// media and DurationMS milliseconds (0: any number). Limit is the most bytes that the stream may take, Room of them for
+// the output; 0 stands for 64 MiB and 8 MiB.
 type Cut struct {
-	Samples uint32
-	Bytes   uint64
-	Flags   uint32
-	Limit   uint64
-	Room    uint
+	Samples    uint32
+	Bytes      uint64
+	Flags      uint32
+	Limit      uint64
+	Room       uint
+	DurationMS uint32
 }
 
 // Report is what was counted of a stream.
@@ -69,9 +72,9 @@ func (s *stream) open(cut Cut) error {
 	if cut.Room == 0 {
 		cut.Room = 8 << 20
 	}
-	answer := C.fmp4_split_open(&s.it, C.uint32_t(cut.Samples), C.uint64_t(cut.Bytes), C.uint32_t(cut.Flags),
-		C.uint64_t(cut.Limit), C.size_t(cut.Room))
-	return s.err(answer)
+	by := C.struct_fmp4_cut{samples: C.uint32_t(cut.Samples), duration_ms: C.uint32_t(cut.DurationMS),
+		bytes: C.uint64_t(cut.Bytes), flags: C.uint32_t(cut.Flags)}
+	return s.err(C.fmp4_cut_open(&s.it, &by, C.uint64_t(cut.Limit), C.size_t(cut.Room)))
 }
 
 func pointer(p []byte) *C.uint8_t {

@@ -10,12 +10,15 @@ import (
 )
 
 // given is a stream and its cut by two samples, which scripts/c_tests makes by the program.
-func given(t *testing.T) (stream, want []byte) {
+func given(t *testing.T) (stream, want []byte) { return givenAs(t, "FMP4_WANT") }
+
+// givenAs is the stream and another cut of it.
+func givenAs(t *testing.T, name string) (stream, want []byte) {
 	stream, err := os.ReadFile(os.Getenv("FMP4_STREAM"))
 	if err != nil {
 		t.Skip("FMP4_STREAM names no stream")
 	}
-	want, err = os.ReadFile(os.Getenv("FMP4_WANT"))
+	want, err = os.ReadFile(os.Getenv(name))
 	if err != nil {
 		t.Fatal(err)
 	}
@@ -93,9 +96,25 @@ func TestReader(t *testing.T) {
 	}
 }
 
+// By 100 ms, as scripts/c_tests has the program cut it.
+func TestDuration(t *testing.T) {
+	stream, want := givenAs(t, "FMP4_WANT_BY_TIME")
+	r, err := NewReader(bytes.NewReader(stream), Cut{DurationMS: 100, Flags: Keyframes})
+	if err != nil {
+		t.Fatal(err)
+	}
+	defer r.Close()
+	if out, err := io.ReadAll(r); err != nil || !bytes.Equal(out, want) {
+		t.Fatal(err, len(out))
+	}
+}
+
 func TestErrors(t *testing.T) {
 	stream, _ := given(t)
 	if _, err := NewWriter(io.Discard, Cut{}); err == nil || err.Error() != "FMP4_BAD_SAMPLES" {
+		t.Fatal(err)
+	}
+	if _, err := NewWriter(io.Discard, Cut{Samples: 2, Flags: Sync | Keyframes}); err == nil || err.Error() != "FMP4_BAD_FLAGS" {
 		t.Fatal(err)
 	}
 	var fault *Fault

@@ -55,19 +55,25 @@ static void next_one(struct one *s) {
 
 static void open_one(struct one *s) {
     static const uint64_t limits[] = {0, 100, 5000, 100000, 64u << 20};
-    uint32_t samples = random_to(8) ? 2 : (uint32_t)random_to(3), flags = random_to(8) ? 0 : (uint32_t)random_to(6);
+    uint32_t samples = random_to(8) ? 2 : (uint32_t)random_to(3), flags = random_to(8) ? 0 : (uint32_t)random_to(8);
+    int is_split = (int)random_to(2);
+    uint32_t duration = is_split || random_to(8) ? 0 : (uint32_t)random_to(200);
+    struct fmp4_cut cut = {.samples = samples, .flags = flags, .duration_ms = duration};
     size_t room = random_to(3) ? 1u << 20 : random_to(5000);
     uint64_t limit = random_to(3) ? 64u << 20 : limits[random_to(5)];
     int is_check = random_to(4) == 0, was_open = s->state != NEW && s->state != CLOSED;
-    uint32_t answer = is_check ? fmp4_check_open(&s->stream, limit) : fmp4_split_open(&s->stream, samples, 0, flags, limit, room);
+    uint32_t answer = is_check   ? fmp4_check_open(&s->stream, limit)
+                      : is_split ? fmp4_split_open(&s->stream, samples, 0, flags, limit, room)
+                                 : fmp4_cut_open(&s->stream, &cut, limit, room);
     if (was_open) { WANT(answer == FMP4_IS_OPEN); return; }
-    if (!is_check && (room == 0 || samples == 0 || flags > 3)) { WANT(answer >= FMP4_BAD_SAMPLES && answer <= FMP4_BAD_ROOM); return; }
+    int is_in_range = (samples || duration) && flags <= (is_split ? 3u : 5u);
+    if (!is_check && (room == 0 || !is_in_range)) { WANT(answer >= FMP4_BAD_SAMPLES && answer <= FMP4_BAD_ROOM); return; }
     if (!is_check && room > limit) { WANT(answer == FMP4_OVER_LIMIT); return; }
     WANT(answer == FMP4_OK);
     s->state = OPEN;
     s->is_check = is_check;
     s->gives_records = 0;
-    s->is_changed = random_to(2) || (!is_check && (samples != 2 || flags != 0));
+    s->is_changed = random_to(2) || (!is_check && (samples != 2 || flags != 0 || duration != 0));
     s->at = s->out.len = 0;
 }
 

@@ -30,6 +30,42 @@ static void all_answer(struct fmp4_stream *s, uint32_t wanted) {
     WANT(memcmp(&report, &other, sizeof report) == 0);
 }
 
+static uint32_t answer_to(struct fmp4_stream *s, struct fmp4_cut cut) { return fmp4_cut_open(s, &cut, 1 << 20, 4096); }
+
+/* The same of what a struct fmp4_cut asks for. */
+static void no_cut_opens(struct fmp4_stream *s) {
+    struct fmp4_cut one = {.samples = 1}, all = {.samples = 1};
+    WANT(answer_to(s, (struct fmp4_cut){0}) == FMP4_BAD_SAMPLES);
+    WANT(answer_to(s, (struct fmp4_cut){.bytes = 1, .flags = FMP4_INDEX}) == FMP4_BAD_SAMPLES);
+    WANT(answer_to(s, (struct fmp4_cut){.samples = 1000001}) == FMP4_BAD_SAMPLES);
+    WANT(answer_to(s, (struct fmp4_cut){.samples = 1000001, .duration_ms = 1}) == FMP4_BAD_SAMPLES);
+    WANT(answer_to(s, (struct fmp4_cut){.samples = UINT32_MAX, .duration_ms = UINT32_MAX}) == FMP4_BAD_SAMPLES);
+    WANT(answer_to(s, (struct fmp4_cut){.duration_ms = 1, .bytes = ((uint64_t)1 << 62) + 1}) == FMP4_BAD_BYTES);
+    for (all.flags = FMP4_SYNC | FMP4_KEYFRAMES; all.flags < 17; all.flags++) WANT(answer_to(s, all) == FMP4_BAD_FLAGS);
+    all.flags = UINT32_MAX;
+    WANT(answer_to(s, all) == FMP4_BAD_FLAGS);
+    for (int word = 0; word < 5; word++) {
+        struct fmp4_cut later = one;
+        later.reserved[word] = word % 2 ? 1 : 1u << 31;
+        WANT(answer_to(s, later) == FMP4_BAD_FLAGS);
+    }
+    WANT(fmp4_cut_open(s, &one, 1 << 20, 0) == FMP4_BAD_ROOM);
+    WANT(fmp4_cut_open(s, &one, 4095, 4096) == FMP4_OVER_LIMIT);
+}
+
+/* And what is in range opens it. */
+static void all_cuts_open(struct fmp4_stream *s) {
+    static const struct fmp4_cut cuts[] = {{.samples = 1}, {.samples = 1000000, .duration_ms = UINT32_MAX, .bytes = (uint64_t)1 << 62},
+        {.duration_ms = 1}, {.samples = 1, .flags = 1}, {.samples = 1, .flags = 2}, {.samples = 1, .flags = 3},
+        {.samples = 1, .flags = 4}, {.duration_ms = UINT32_MAX, .bytes = 1, .flags = 5}};
+    for (size_t i = 0; i < sizeof cuts / sizeof *cuts; i++) {
+        WANT(answer_to(s, cuts[i]) == FMP4_OK);
+        WANT(answer_to(s, cuts[i]) == FMP4_IS_OPEN);
+        WANT(answer_to(s, (struct fmp4_cut){.reserved = {1}}) == FMP4_IS_OPEN);
+        WANT(fmp4_close(s) == FMP4_OK);
+    }
+}
+
 /* What is out of range is refused by its number, and the stream stays as it was. */
 static void none_opens(struct fmp4_stream *s, uint32_t answer) {
     WANT(fmp4_split_open(s, 0, 0, 0, 1 << 20, 4096) == FMP4_BAD_SAMPLES);
@@ -47,6 +83,8 @@ static void none_opens(struct fmp4_stream *s, uint32_t answer) {
         WANT(fmp4_check_open_as(s, layouts[i], 1 << 20) == FMP4_BAD_LAYOUT);
         WANT(fmp4_list_open_as(s, layouts[i], FMP4_SAMPLES, 1 << 20, 4096) == FMP4_BAD_LAYOUT);
     }
+    WANT(fmp4_cut_open_as(s, 0, &(struct fmp4_cut){.samples = 1}, 1 << 20, 4096) == FMP4_BAD_LAYOUT);
+    no_cut_opens(s);
     WANT(fmp4_list_open(s, 0, 1 << 20, 4096) == FMP4_BAD_LISTING && fmp4_list_open(s, 5, 1 << 20, 4096) == FMP4_BAD_LISTING);
     WANT(fmp4_list_open(s, UINT32_MAX, 1 << 20, 4096) == FMP4_BAD_LISTING);
     WANT(fmp4_list_open(s, FMP4_RECORDS, 1 << 20, 0) == FMP4_BAD_ROOM);
@@ -84,6 +122,7 @@ int main(void) {
         WANT(fmp4_close(&s) == FMP4_OK);
         all_answer(&s, FMP4_CLOSED);
         none_opens(&s, FMP4_CLOSED);
+        all_cuts_open(&s);
         WANT(fmp4_check_open(&s, 0) == FMP4_OK);
         WANT(fmp4_close(&s) == FMP4_OK);
     }

@@ -26,7 +26,7 @@ use Rattle.fmp4_c.specs.declared.task.Task.TheVariants as tasks
 use Rattle.fmp4_c.specs.declared.task_feeder.TaskFeeder.{TaskFeeder}
 use Rattle.fmp4_c.specs.declared.task_feeder.TaskFeeder.TheVariants.{Fragments, Boxes}
 
-some-is : {A : Type 0} (x y : A) → ◌≡◌ {A = Option A} (Some x) (Some y) → x ≡ y
+pub some-is : {A : Type 0} (x y : A) → ◌≡◌ {A = Option A} (Some x) (Some y) → x ≡ y
 some-is x y h = cc
 
 pub head-is : (x y : ℕ) (xs ys : List ℕ) → ◌≡◌ {A = List ℕ} (x ∷ xs) (y ∷ ys) → x ≡ y

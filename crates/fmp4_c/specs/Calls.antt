@@ -1,5 +1,5 @@
 -- What C requests, and what a call does to the stream of a handle.
-use Rattle.std.specs.Prelude.{◌≡◌, if◌then◌else◌, ℕ, ◌+◌, ◌-◌, ◌/◌, ◌%◌, ◌^◌, ◌<◌, ◌≤◌, eqb, List, [], ◌∷◌, ◌++◌, length, take, drop, min, Option, None, Some, Result, Ok, Err}
+use Rattle.std.specs.Prelude.{◌≡◌, if◌then◌else◌, ◌&&◌, not, false, ℕ, ◌+◌, ◌-◌, ◌/◌, ◌%◌, ◌^◌, ◌<◌, ◌≤◌, eqb, List, [], ◌∷◌, ◌++◌, length, take, drop, min, Option, None, Some, Result, Ok, Err}
 use Rattle.mp4_grammar.specs.declared.command.Command.TheVariants.{Samples, Fragments, Records, Check}
 use Rattle.mp4_pieces.specs.Allowed.{most_in_piece}
 use Rattle.mp4_pieces.specs.declared.cut.Cut.{Cut}
@@ -11,18 +11,35 @@ use Rattle.fmp4_c.specs.declared.answer.Answer.{Answer}
 use Rattle.fmp4_c.specs.declared.answer.Answer.TheVariants.{Done, Full, Fault, NoRoom, OverLimit, NoMemory, NoRecord, NotOpen, Closed, IsOpen, Ended, BadSamples, BadBytes, BadFlags, BadRoom, BadLayout, BadListing}
 use Rattle.fmp4_c.specs.declared.asked.Asked.{Asked}
 use Rattle.fmp4_c.specs.declared.report.Report.{Report}
+use Rattle.fmp4_c.specs.declared.request.CutRequest.{CutRequest}
 use Rattle.fmp4_c.specs.declared.task.Task.{Task}
 use Rattle.fmp4_c.specs.declared.task.Task.TheVariants as tasks
 
 -- ---- what C requests
 
--- the cut: bytes 0 for any number, and flags 1 for an index, 2 for a cut before each sync sample, 3 for both
-pub record IsCutBy (samples bytes flags : ℕ) (cut : Cut) : Type 0 where
-  pub most : cut.samples ≡ samples
-  pub any : bytes ≡ 0 → cut.bytes ≡ None
-  pub some : 0 < bytes → cut.bytes ≡ Some bytes
-  pub index : cut.index ≡ eqb (flags % 2) 1
-  pub sync : cut.sync ≡ eqb (flags / 2) 1
+-- what a request has for later options, all zeros
+abbrev pub no_words : List ℕ
+no_words = 0 ∷ 0 ∷ 0 ∷ 0 ∷ 0 ∷ []
+
+-- a request of fmp4_split_open: without a limit in time
+abbrev pub plain_request : (samples bytes flags : ℕ) → CutRequest
+plain_request samples bytes flags = record { samples = samples; duration_ms = 0; bytes = bytes; flags = flags; reserved = no_words }
+
+-- the most samples of a fragment: with a limit in time alone, as many as there may be
+abbrev pub most_samples : CutRequest → ℕ
+most_samples request = if not (eqb request.duration_ms 0) && eqb request.samples 0 then most_in_piece else request.samples
+
+-- the cut: 0 for any number of bytes or milliseconds, and of the flags 1 for an index, 2 for a cut before each sync
+-- sample, 4 for one before each sync sample whose predecessor isn't one
+pub record IsCutBy (request : CutRequest) (cut : Cut) : Type 0 where
+  pub most : cut.samples ≡ most_samples request
+  pub any : request.bytes ≡ 0 → cut.bytes ≡ None
+  pub some : 0 < request.bytes → cut.bytes ≡ Some request.bytes
+  pub endless : request.duration_ms ≡ 0 → cut.duration ≡ None
+  pub lasts : 0 < request.duration_ms → cut.duration ≡ Some request.duration_ms
+  pub index : cut.index ≡ eqb (request.flags % 2) 1
+  pub sync : cut.sync ≡ eqb (request.flags / 2) 1
+  pub keyframes : cut.keyframes ≡ eqb (request.flags / 4) 1
 
 -- which share of the free room a feed takes of the input, by the flags: with an index a byte can lead to more output
 abbrev pub share_of : ℕ → ℕ
@@ -32,43 +49,58 @@ share_of flags = if eqb (flags % 2) 1 then 512 else 128
 abbrev pub header_layout : ℕ
 header_layout = 0x0020_0050
 
--- the requests that are in range
-pub record IsInRange (layout samples bytes flags room : ℕ) : Type 0 where
+-- the largest sum of flags of a plain request
+abbrev pub plain_flags : ℕ
+plain_flags = 3
+
+-- the largest of any: 6 and 7 would be both 2 and 4, which exclude each other
+abbrev pub all_flags : ℕ
+all_flags = 5
+
+-- the requests that are in range, where flags up to `known` are
+pub record IsInRange (layout known : ℕ) (request : CutRequest) (room : ℕ) : Type 0 where
   pub sizes : layout ≡ header_layout
-  pub some : 1 ≤ samples
-  pub most : samples ≤ most_in_piece
-  pub size : bytes ≤ 2 ^ 62
-  pub known : flags ≤ 3
+  pub some : 1 ≤ most_samples request
+  pub most : most_samples request ≤ most_in_piece
+  pub size : request.bytes ≤ 2 ^ 62
+  pub flags : request.flags ≤ known
+  pub rest : request.reserved ≡ no_words
   pub holds : 1 ≤ room
 
 -- why such a cut is refused with this room
-abbrev pub IsOutOfRange : (layout samples bytes flags room : ℕ) → Answer → Type 0
-IsOutOfRange layout samples bytes flags room BadSamples = (1 ≤ samples) × (samples ≤ most_in_piece) → ⊥
-IsOutOfRange layout samples bytes flags room BadBytes = 2 ^ 62 < bytes
-IsOutOfRange layout samples bytes flags room BadFlags = 3 < flags
-IsOutOfRange layout samples bytes flags room BadRoom = room ≡ 0
-IsOutOfRange layout samples bytes flags room Done = ⊥
-IsOutOfRange layout samples bytes flags room Full = ⊥
-IsOutOfRange layout samples bytes flags room Fault = ⊥
-IsOutOfRange layout samples bytes flags room NoRoom = ⊥
-IsOutOfRange layout samples bytes flags room OverLimit = ⊥
-IsOutOfRange layout samples bytes flags room NoMemory = ⊥
-IsOutOfRange layout samples bytes flags room NotOpen = ⊥
-IsOutOfRange layout samples bytes flags room Closed = ⊥
-IsOutOfRange layout samples bytes flags room IsOpen = ⊥
-IsOutOfRange layout samples bytes flags room Ended = ⊥
-IsOutOfRange layout samples bytes flags room BadLayout = layout ≡ header_layout → ⊥
-IsOutOfRange layout samples bytes flags room NoRecord = ⊥
-IsOutOfRange layout samples bytes flags room BadListing = ⊥
+abbrev pub IsOutOfRange : (layout known : ℕ) → CutRequest → (room : ℕ) → Answer → Type 0
+IsOutOfRange layout known request room BadSamples = (1 ≤ most_samples request) × (most_samples request ≤ most_in_piece) → ⊥
+IsOutOfRange layout known request room BadBytes = 2 ^ 62 < request.bytes
+IsOutOfRange layout known request room BadFlags = (request.flags ≤ known) × (request.reserved ≡ no_words) → ⊥
+IsOutOfRange layout known request room BadRoom = room ≡ 0
+IsOutOfRange layout known request room Done = ⊥
+IsOutOfRange layout known request room Full = ⊥
+IsOutOfRange layout known request room Fault = ⊥
+IsOutOfRange layout known request room NoRoom = ⊥
+IsOutOfRange layout known request room OverLimit = ⊥
+IsOutOfRange layout known request room NoMemory = ⊥
+IsOutOfRange layout known request room NotOpen = ⊥
+IsOutOfRange layout known request room Closed = ⊥
+IsOutOfRange layout known request room IsOpen = ⊥
+IsOutOfRange layout known request room Ended = ⊥
+IsOutOfRange layout known request room BadLayout = layout ≡ header_layout → ⊥
+IsOutOfRange layout known request room NoRecord = ⊥
+IsOutOfRange layout known request room BadListing = ⊥
 
--- these numbers open a stream that is split so
-pub record IsSplitBy (samples bytes flags limit room : ℕ) (asked : Asked) : Type 0 where
+-- this request opens a stream that is split so
+pub record IsSplitBy (request : CutRequest) (limit room : ℕ) (asked : Asked) : Type 0 where
   pub cut : Cut
-  pub by : IsCutBy samples bytes flags cut
+  pub by : IsCutBy request cut
   pub task : asked.task ≡ tasks.Fragments (operations.Split cut)
   pub takes : asked.limit ≡ limit
   pub waits : asked.room ≡ room
-  pub share : asked.share ≡ share_of flags
+  pub share : asked.share ≡ share_of request.flags
+
+-- a cut without a limit in time, and without keyframes
+abbrev pub IsPlain : Task → Type 0
+IsPlain (tasks.Fragments (operations.List command)) = ⊥
+IsPlain (tasks.Fragments (operations.Split cut)) = (cut.duration ≡ None) × (cut.keyframes ≡ false)
+IsPlain tasks.Boxes = ⊥
 
 -- the numbers of the listings, 0 for what is none
 abbrev pub listing_number : Task → ℕ
@@ -164,9 +196,14 @@ abbrev pub checked_by : ℕ → Asked
 checked_by limit = record { task = tasks.Fragments (operations.List Check); limit = limit; room = 0; share = 0 }
 
 -- the answer to C for a cut: the request is in range, or the answer has the number of what isn't
-pub data SplitOpens (layout samples bytes flags limit room : ℕ) (answer : Answer) (held : Option Run) : Type 0 where
-  Asks : (asked : Asked) → IsInRange layout samples bytes flags room → IsSplitBy samples bytes flags limit room asked → Opens asked answer held → SplitOpens layout samples bytes flags limit room answer held
-  Refuses : IsOutOfRange layout samples bytes flags room answer → held ≡ None → SplitOpens layout samples bytes flags limit room answer held
+pub data CutOpens (layout known : ℕ) (request : CutRequest) (limit room : ℕ) (answer : Answer) (held : Option Run) : Type 0 where
+  Asks : (asked : Asked) → IsInRange layout known request room → IsSplitBy request limit room asked → Opens asked answer held → CutOpens layout known request limit room answer held
+  Refuses : IsOutOfRange layout known request room answer → held ≡ None → CutOpens layout known request limit room answer held
+
+-- the same for a cut by these numbers alone
+pub record SplitOpens (layout samples bytes flags limit room : ℕ) (answer : Answer) (held : Option Run) : Type 0 where
+  pub opens : CutOpens layout plain_flags (plain_request samples bytes flags) limit room answer held
+  pub plain : (run : Run) → held ≡ Some run → IsPlain run.task
 
 -- the same for a check
 pub data CheckOpens (layout limit : ℕ) (answer : Answer) (held : Option Run) : Type 0 where

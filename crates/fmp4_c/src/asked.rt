@@ -1,21 +1,15 @@
 //! Requests of C.
 
-ghost use Rattle.std.specs.Prelude.{◌≡◌, ℕ, ◌≤◌, IfErr, IfNone, IfOk, IfSome};
-ghost use Rattle.fmp4_c.specs.Calls.{IsCutBy, IsInRange, IsListedBy, IsListing, IsNoListing, IsOutOfRange, IsSplitBy, checked_by, header_layout, listing_number, share_of, share_of_listing};
+ghost use Rattle.std.specs.Prelude.{◌≡◌, ◌≤◌, IfErr, IfNone, IfOk, IfSome};
+ghost use Rattle.fmp4_c.specs.Calls.{IsInRange, IsListedBy, IsListing, IsNoListing, IsOutOfRange, IsSplitBy, checked_by, header_layout, listing_number, share_of, share_of_listing};
 
 use crate::answer::Answer;
+use crate::request::CutRequest;
 use crate::task::Task;
-use mp4_pieces::MOST_IN_PIECE;
-use mp4_stream::{Command, Cut, Operation};
+use mp4_stream::{Command, Operation};
 
 /// The sizes of the structs in the header: 32 bytes for a stream, and 80 for a report.
 const LAYOUT: u32 = 0x0020_0050;
-
-/// The flag for an index.
-const INDEX: u32 = 1;
-
-/// The flag for a cut before each sync sample.
-const SYNC: u32 = 2;
 
 /// A feed takes a 128th of what is free in the room: a byte of a sample becomes at most 117 of output.
 const SHARE: usize = 128;
@@ -39,22 +33,21 @@ pub struct Asked {
 }
 
 impl Asked {
-    /// That it is cut: `bytes` is 0 for any number.
+    /// That it is cut, by a call that knows the flags up to `known`.
     ///
     /// # Errors
     ///
     /// Which of the numbers is out of range.
     pub(crate) fn split(
         layout: u32,
-        samples: u32,
-        bytes: u64,
-        flags: u32,
+        request: &CutRequest,
+        known: u32,
         limit: u64,
         room: usize,
     ) -> Result<Asked, Answer>
-        ensures ok { IfOk result (IsSplitBy samples bytes flags limit room) }
-        ensures err { IfErr result (IsOutOfRange layout samples bytes flags room) }
-        ensures in_range { IfOk result (λ q. IsInRange layout samples bytes flags room) }
+        ensures ok { IfOk result (IsSplitBy request.now limit room) }
+        ensures err { IfErr result (IsOutOfRange layout known request.now room) }
+        ensures in_range { IfOk result (λ q. IsInRange layout known request.now room) }
     {
         if layout != LAYOUT {
             return Err(Answer::BadLayout);
@@ -62,12 +55,12 @@ impl Asked {
         if room == 0 {
             return Err(Answer::BadRoom);
         }
-        match cut_by(samples, bytes, flags) {
+        match request.cut(known) {
             Ok(cut) => Ok(Asked {
                 task: Task::Fragments(Operation::Split(cut)),
                 limit,
                 room,
-                share: share_by(flags),
+                share: share_by(request.flags),
             }),
             Err(out) => Err(out),
         }
@@ -156,28 +149,4 @@ fn share_by(flags: u32) -> usize
         return SHARE_WITH_INDEX;
     }
     SHARE
-}
-
-/// The cut of these numbers.
-///
-/// # Errors
-///
-/// Which of them is out of range.
-fn cut_by(samples: u32, bytes: u64, flags: u32) -> Result<Cut, Answer>
-    ensures ok { IfOk result (IsCutBy samples bytes flags) }
-    ensures err { IfErr result (λ a. (layout room : ℕ) → IsOutOfRange layout samples bytes flags room a) }
-    ensures in_range { IfOk result (λ cut. (layout room : ℕ) → layout ≡ header_layout → 1 ≤ room →
-        IsInRange layout samples bytes flags room) }
-{
-    if flags > (INDEX | SYNC) {
-        return Err(Answer::BadFlags);
-    }
-    if samples == 0 || samples > MOST_IN_PIECE {
-        return Err(Answer::BadSamples);
-    }
-    let most = if bytes == 0 { None } else { Some(bytes) };
-    match Cut::new(samples, most, flags % 2 == 1) {
-        Some(cut) => Ok(if flags / 2 == 1 { cut.with_sync() } else { cut }),
-        None => Err(Answer::BadBytes),
-    }
 }

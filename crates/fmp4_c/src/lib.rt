@@ -1,8 +1,9 @@
 //! The C library of fmp4: a fragmented stream is fed as it comes, and recut, checked or listed; its output is taken
 //! from the front.
 //!
-//! - [`exports`]: what C calls, [`opening`]: how a stream is opened, by what is [`asked`] for, and [`settings`]: its
-//!   limit, and another stream; [`fragments`]: records of what is listed; [`names`]: those of the rules;
+//! - [`exports`]: what C calls, [`opening`]: how a stream is opened, by what is [`asked`] for, of a cut by its
+//!   [`request`], and [`settings`]: its limit, and another stream; [`fragments`]: records of what is listed; [`names`]:
+//!   those of the rules;
 //! - [`answer`]: the result of a call, as a number, and [`report`]: what was counted, and which rule is broken;
 //! - [`stream`]: what C keeps, with [`handle`]: the pointer in it, and [`engine`]: what that points to;
 //! - [`task`]: what is done with a stream, and [`task_feeder`]: what takes it for that;
@@ -25,6 +26,7 @@ mod names;
 mod opening;
 mod output;
 mod report;
+mod request;
 mod settings;
 mod stream;
 mod task;
@@ -39,8 +41,9 @@ pub use exports::{
 pub use fragments::fmp4_next_fragment;
 pub use handle::Handle;
 pub use names::{fmp4_answer_name, fmp4_rule_name, fmp4_version};
-pub use opening::{fmp4_check_open_as, fmp4_list_open_as, fmp4_split_open_as};
+pub use opening::{fmp4_check_open_as, fmp4_cut_open_as, fmp4_list_open_as, fmp4_split_open_as};
 pub use report::Report;
+pub use request::CutRequest;
 pub use settings::{fmp4_reset, fmp4_set_limit};
 pub use stream::Stream;
 pub use task::Task;

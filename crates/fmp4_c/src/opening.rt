@@ -2,7 +2,7 @@
 
 ghost use Rattle.std.specs.Prelude.{◌≡◌, ℕ, None, Some, IfErr, IfOk};
 ghost use Rattle.fmp4_c.specs.Answers.{number_of};
-ghost use Rattle.fmp4_c.specs.Calls.{CheckOpens, IsOpened, ListOpens, Opens, OpensOr, SplitOpens};
+ghost use Rattle.fmp4_c.specs.Calls.{CheckOpens, CutOpens, IsOpened, ListOpens, Opens, OpensOr, SplitOpens, all_flags};
 ghost use Rattle.fmp4_c.specs.Engines.{Run};
 ghost use Rattle.fmp4_c.specs.declared.answer.Answer as answers;
 
@@ -10,6 +10,7 @@ use crate::answer::Answer;
 use crate::asked::Asked;
 use crate::engine::Engine;
 use crate::handle::Handle;
+use crate::request::{ALL_FLAGS, CutRequest, PLAIN_FLAGS};
 use crate::stream::{Stream, for_any_thread};
 use mp4_ledger::Refused;
 use std::alloc::Global;
@@ -37,10 +38,38 @@ pub extern "C" fn fmp4_split_open_as(
         (stream.new.closed ≡ stream.old.closed) }
     ensures rests { stream.new.handle.held ≡ None → stream.new.closed ≡ stream.old.closed }
 {
+    let request = CutRequest::plain(samples, bytes, flags);
     open(
         alloc,
         stream,
-        Asked::split(layout, samples, bytes, flags, limit, room),
+        Asked::split(layout, &request, PLAIN_FLAGS, limit, room),
+    )
+    .number()
+}
+
+/// Opens a stream that is cut as the request says, with all its limits. It takes at most `limit` bytes, `room` of them
+/// for the output that waits. `layout` says which sizes the structs have for the caller.
+#[unsafe(no_mangle)]
+pub extern "C" fn fmp4_cut_open_as(
+    alloc: Global,
+    stream: &mut Stream,
+    layout: u32,
+    cut: &CutRequest,
+    limit: u64,
+    room: usize,
+) -> u32
+    ensures opens { stream.old.handle.held ≡ None →
+        (answer : answers.Answer) × (result ≡ number_of answer) ×
+        CutOpens layout all_flags cut.now limit room answer stream.new.handle.held }
+    ensures open { (r : Run) → stream.old.handle.held ≡ Some r →
+        (result ≡ number_of Answer.IsOpen) × (stream.new.handle.held ≡ Some r) ×
+        (stream.new.closed ≡ stream.old.closed) }
+    ensures rests { stream.new.handle.held ≡ None → stream.new.closed ≡ stream.old.closed }
+{
+    open(
+        alloc,
+        stream,
+        Asked::split(layout, cut, ALL_FLAGS, limit, room),
     )
     .number()
 }
