@@ -7,8 +7,8 @@
 //! - [`boxes`]: worked headers, fields and trees, and [`flags`]: worked flag words;
 //! - [`moovs`]: worked moovs: `faults.rt`: what is at fault, `lists.rt`: their tracks;
 //! - [`moofs`]: worked moofs: `faults.rt`: what is at fault, `runs.rt` and `samples.rt`: their runs and samples,
-//!   `order.rt`: in which order the runs are taken, and where they may lie, `pieces.rt`: their pieces, `room.rt`: the
-//!   room for the numbers of these, `written.rt`: what is written for them;
+//!   `order.rt`: in which order the runs are taken, and where they may lie, `pieces.rt` and `times.rt`: their pieces,
+//!   `room.rt`: the room for the numbers of these, `written.rt`: what is written for them;
 //! - [`callers`]: callers of the libraries, for their pages.
 #![tactic(auto)]
 

@@ -5,6 +5,7 @@
 //! - [`pieces`]: how runs are cut, and [`room`]: whether their pieces have room for their numbers;
 //! - [`runs`]: the runs of moofs, and the run after a run;
 //! - [`samples`]: the samples of moofs, and where their tracks end;
+//! - [`times`]: how runs are cut by time, and before keyframes;
 //! - [`written`]: the moofs and indexes that are written for the pieces of a run.
 
 mod faults;
@@ -13,6 +14,7 @@ mod pieces;
 mod room;
 mod runs;
 mod samples;
+mod times;
 mod written;
 
 use mp4_box::{Fault, FourCc, Rule};

@@ -17,6 +17,7 @@ mod recuts;
 mod rows;
 mod split_stops;
 mod splits;
+mod times;
 mod wanted;
 mod words;
 mod work;

@@ -11,14 +11,14 @@ use mp4_box::is_box;
 use mp4_frag::{Cursor, Moof, Run, Runs, Steps};
 use mp4_init::{TrackList, tracks};
 use mp4_ledger::Ledger;
-use mp4_pieces::{Cut, Piece, Pieces};
+use mp4_pieces::{Cut, Piece, Pieces, PlainPiece};
 use mp4_vectors::V1;
 use std::alloc::Global;
 use std::process::Abort;
 use std::test::Fail;
 
-/// A traf whose samples are no sync samples, but for flags of their own.
-const NO_SYNC: &[u8] = b"\0\0\0\x14tfhd\0\x02\0\x20\0\0\0\x01\x01\x01\0\0";
+/// A tfhd whose samples are no sync samples, but for flags of their own.
+pub(super) const NO_SYNC: &[u8] = b"\0\0\0\x14tfhd\0\x02\0\x20\0\0\0\x01\x01\x01\0\0";
 
 /// The first of these runs.
 fn first_of(runs: Runs<'_>, held: &[u8]) -> Option<Run>
@@ -54,6 +54,12 @@ fn pieces_of(alloc: Global, run: &Run, held: &[u8], cut: &Cut) -> Result<Vec<Pie
     };
     for piece in Pieces::of(run, held, cut) {
         pieces.push(piece)?;
+        if at.row >= run.count {
+            return Err("a piece too many".into());
+        }
+        if PlainPiece::first(run, held, cut, &at) != PlainPiece::of(&piece) {
+            return Err("another piece without its least composition time".into());
+        }
         if next_piece(run, held, cut, &mut at) != Some(piece) {
             return Err("another piece after a cursor".into());
         }
@@ -79,10 +85,14 @@ fn read(alloc: Global, list: &TrackList, moof: &[u8], cut: &Cut) -> Result<Vec<P
     }
 }
 
-/// The same, with the tracks of V1.
-fn outcome(alloc: Global, moof: &[u8], cut: &Cut) -> Result<Vec<Piece>, Fail> {
-    let moov = &V1.as_slice()[20..364];
-    if !is_box(moov) {
+/// The same, with the tracks of a moov that begins at 20.
+pub(super) fn outcome_of(
+    alloc: Global,
+    moov: &[u8],
+    moof: &[u8],
+    cut: &Cut,
+) -> Result<Vec<Piece>, Fail> {
+    if moov.len() > 16_777_216 || !is_box(moov) {
         return Err("no box".into());
     }
     let mut ledger = Ledger::new(alloc, 1000);
@@ -94,6 +104,11 @@ fn outcome(alloc: Global, moof: &[u8], cut: &Cut) -> Result<Vec<Piece>, Fail> {
         }
         Err(_) => Err("no tracks".into()),
     }
+}
+
+/// The same, with the tracks of V1.
+fn outcome(alloc: Global, moof: &[u8], cut: &Cut) -> Result<Vec<Piece>, Fail> {
+    outcome_of(alloc, &V1.as_slice()[20..364], moof, cut)
 }
 
 /// Samples, bytes and whether pieces end before sync samples.
@@ -108,7 +123,12 @@ fn cut_by((samples, bytes, sync): Asked) -> Result<Cut, Fail> {
 
 /// A trun with a data_offset of 104: its version and flags, its count, and the fields after the
 /// data_offset.
-fn trun_of(alloc: Global, full: u32, count: u32, fields: &[u32]) -> Result<Vec<u8>, Fail> {
+pub(super) fn trun_of(
+    alloc: Global,
+    full: u32,
+    count: u32,
+    fields: &[u32],
+) -> Result<Vec<u8>, Fail> {
     let mut content = Vec::new(alloc);
     content.extend_from_slice(&full.to_be_bytes())?;
     content.extend_from_slice(&count.to_be_bytes())?;
@@ -298,4 +318,8 @@ fn cuts_have_ranges(rt: HostRuntime) {
     }
     let cut = Cut::new(1, None, true);
     assert_eq!(rt; cut.map(|cut| cut.with_sync().has_index()), Some(true));
+    for (millis, expected) in [(0, false), (1, true), (u32::MAX, true)] {
+        let cut = cut.and_then(|cut| cut.with_duration(millis));
+        assert_eq!(rt; cut.is_some(), expected);
+    }
 }
