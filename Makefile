@@ -26,7 +26,7 @@ WITH_VERSION = sed "1s/ fmp4 / \"fmp4 $$(cat VERSION)\" /; s/^The number in VERS
 PUT = install -m 644 /dev/stdin
 
 .PHONY: demo build lib c_tests bench_jobs test mutants install install_lib uninstall dist clean \
-    refusals recipes play manual bench bench_instructions
+    refusals recipes recuts play manual bench bench_instructions
 
 demo:
 	@scripts/demo "$(IN)" "$(SAMPLES)"
@@ -109,6 +109,10 @@ refusals: build bench_jobs
 # examples.
 recipes: build
 	@scripts/recipes docs/RECIPES.md README.md docs/fmp4.1
+
+# Recuts ffmpeg's streams in many ways, and checks what is written by a parser of its own.
+recuts: build
+	@scripts/recut_real_streams
 
 # Plays recut streams in the clients that are installed.
 play: build
