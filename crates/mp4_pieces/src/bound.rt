@@ -36,6 +36,19 @@ impl Cut {
         ensures rows { result ≡ Bound.Rows → IsBySums self.now → ⊥ }
         ensures ticks { (most : ℕ) → result ≡ Bound.Ticks most → run.now.fields.sample_duration ≡ None → ⊥ }
     {
+        if self.is_counted {
+            return Bound::Samples(self.samples);
+        }
+        self.further_bound(run)
+    }
+
+    /// The same, where the number of samples may not be the only limit.
+    #[inline(never)]
+    fn further_bound(&self, run: &Run) -> Bound
+        ensures bound { IsBound self.now run.now result }
+        ensures rows { result ≡ Bound.Rows → IsBySums self.now → ⊥ }
+        ensures ticks { (most : ℕ) → result ≡ Bound.Ticks most → run.now.fields.sample_duration ≡ None → ⊥ }
+    {
         if self.bytes.is_some() || self.sync || self.keyframes {
             return Bound::Rows;
         }
@@ -46,7 +59,6 @@ impl Cut {
     }
 
     /// The same by sums, where there is a limit of milliseconds.
-    #[inline(never)]
     fn bound_in_time(&self, run: &Run, millis: u32) -> Bound
         requires sums { IsBySums self.now }
         requires asked { self.now.duration ≡ Some millis }

@@ -26,7 +26,11 @@ pub struct Cut {
     pub(crate) sync: bool,
     /// Whether a piece ends before each sync sample after one that isn't.
     pub(crate) keyframes: bool,
+    /// Whether the number of samples is the only limit.
+    pub(crate) is_counted: bool,
     ghost some: { 0 < samples },
+    ghost counted: { is_counted ≡ true →
+        (bytes ≡ None) × (duration ≡ None) × (sync ≡ false) × (keyframes ≡ false) },
 }
 
 impl Cut {
@@ -58,6 +62,7 @@ impl Cut {
             index,
             sync: false,
             keyframes: false,
+            is_counted: bytes.is_none(),
         })
     }
 
@@ -71,6 +76,7 @@ impl Cut {
         ensures keyframes { result.keyframes ≡ self.keyframes }
     {
         let mut cut = self;
+        cut.is_counted = false;
         cut.sync = true;
         cut
     }
@@ -85,6 +91,7 @@ impl Cut {
         ensures keyframes { result.keyframes ≡ true }
     {
         let mut cut = self;
+        cut.is_counted = false;
         cut.keyframes = true;
         cut
     }
@@ -104,6 +111,7 @@ impl Cut {
             return None;
         }
         let mut cut = self;
+        cut.is_counted = false;
         cut.duration = Some(millis);
         Some(cut)
     }

@@ -46,6 +46,7 @@ impl Cut {
             index: self.index,
             sync: false,
             keyframes: false,
+            is_counted: true,
         }
     }
 
