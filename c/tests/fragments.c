@@ -1,9 +1,55 @@
 /* fragments < STREAM: what a cut gives is fed to a stream that is listed by records, in parts of any size. Each record is
- * one moof of the output, in order: its place and size are those of the boxes, and its sums are those of the reports. */
+ * one moof of the output, in order: its place and size are those of the boxes, and its sums are those of the reports.
+ * Before that a muxed stream is listed whose boxes are here word by word: each field of its records, and their lines. */
 #include "tests.h"
 
 static struct bytes in, out;
 static struct fmp4_fragment records[4096];
+
+enum { FREE = 0x66726565, MOOV = 0x6d6f6f76, TRAK = 0x7472616b, TKHD = 0x746b6864, MDIA = 0x6d646961, MDHD = 0x6d646864,
+    MINF = 0x6d696e66, STBL = 0x7374626c, STSD = 0x73747364, AVC1 = 0x61766331, MP4A = 0x6d703461, MVEX = 0x6d766578,
+    TREX = 0x74726578, MOOF = 0x6d6f6f66, MFHD = 0x6d666864, TRAF = 0x74726166, TFHD = 0x74666864, TFDT = 0x74666474,
+    TRUN = 0x7472756e, MDAT = 0x6d646174 };
+
+/* Two tracks: 9 with 90,000 ticks a second and two sample entries, and then 1 with 48,000 and one. By default a sample of
+ * track 9 is a sync sample of 3,000 ticks, and one of track 1 no sync sample (8.8.3) of 1,024. */
+static const uint32_t muxed[] = {8, FREE,
+    472, MOOV,
+        204, TRAK,
+            92, TKHD, 0, 0, 0, 9, 0, 0, 0, 0, 0, 0, 0, 0, 0, 0, 0, 0, 0, 0, 0, 0, 0,
+            104, MDIA, 32, MDHD, 0, 0, 0, 90000, 0, 0,
+                64, MINF, 56, STBL, 48, STSD, 0, 2, 16, AVC1, 0, 1, 16, AVC1, 0, 1,
+        188, TRAK,
+            92, TKHD, 0, 0, 0, 1, 0, 0, 0, 0, 0, 0, 0, 0, 0, 0, 0, 0, 0, 0, 0, 0, 0,
+            88, MDIA, 32, MDHD, 0, 0, 0, 48000, 0, 0,
+                48, MINF, 40, STBL, 32, STSD, 0, 1, 16, MP4A, 0, 1,
+        72, MVEX, 32, TREX, 0, 9, 1, 3000, 1, 0x02000000, 32, TREX, 0, 1, 1, 1024, 1, 0x01010000,
+    /* At 480: two samples of track 1, of 5 and 7 bytes, the second a sync sample; and three of track 9, of 3, 4 and 5. */
+    184, MOOF, 16, MFHD, 0, 77,
+        88, TRAF, 16, TFHD, 0x020000, 1, 20, TFDT, 1 << 24, 1, 5,
+            44, TRUN, 0x701, 2, 192, 0x80000000, 5, 0x01010000, 0x80000007, 7, 0x02000000,
+        72, TRAF, 16, TFHD, 0x020000, 9, 16, TFDT, 0, 1000, 32, TRUN, 0x201, 3, 204, 3, 4, 5,
+    32, MDAT, 0, 0, 0, 0, 0, 0,
+    /* At 696: a track fragment without samples. */
+    64, MOOF, 16, MFHD, 0, 78, 40, TRAF, 16, TFHD, 0x020000, 1, 16, TFDT, 0, 4096, 8, MDAT,
+    /* At 768: two runs of a sample of track 9, of 1 and 11 bytes, the first by its first-sample-flags no sync sample, without
+     * a tfdt: they go on after the three. Their mdat goes to the end of the stream. */
+    100, MOOF, 16, MFHD, 0, 0xfffffffe,
+        76, TRAF, 16, TFHD, 0x020000, 9, 28, TRUN, 0x205, 1, 108, 0x01010000, 1, 24, TRUN, 0x201, 1, 109, 11,
+    0, MDAT, 0, 0, 0, 0};
+
+static const struct fmp4_fragment muxed_records[] = {
+    {480, 216, 4294967301, 4294967303, 12, 77, 1, 48000, 2, 0, 0},
+    {480, 216, 1000, 9000, 12, 77, 9, 90000, 3, 1, 0},
+    {696, 72, 4096, 0, 0, 78, 1, 48000, 0, 0, 0},
+    {768, UINT64_MAX, 10000, 6000, 12, 4294967294, 9, 90000, 2, 0, 0}};
+
+static const char muxed_lines[] = "track=9 timescale=90000 entries=2\n"
+    "track=1 timescale=48000 entries=1\n"
+    "fragment=77 at=480 size=216 track=1 dts=4294967301 dur=4294967303 samples=2 sync=no media=12\n"
+    "fragment=77 at=480 size=216 track=9 dts=1000 dur=9000 samples=3 sync=yes media=12\n"
+    "fragment=78 at=696 size=72 track=1 dts=4096 dur=0 samples=0 sync=no media=0\n"
+    "fragment=4294967294 at=768 size=end track=9 dts=10000 dur=6000 samples=2 sync=no media=12\n";
 
 static uint32_t number(size_t at) {
     return (uint32_t)out.at[at] << 24 | (uint32_t)out.at[at + 1] << 16 | (uint32_t)out.at[at + 2] << 8 | out.at[at + 3];
@@ -61,12 +107,73 @@ static size_t run_both(uint32_t samples, size_t step, size_t room) {
     return count;
 }
 
+static void append_words(struct bytes *to, const uint32_t *words, size_t count) {
+    for (size_t i = 0; i < count; i++)
+        append(to, (unsigned char[]){words[i] >> 24, words[i] >> 16 & 255, words[i] >> 8 & 255, words[i] & 255}, 4);
+}
+
+static void append_long(struct bytes *to, uint64_t number) {
+    append_words(to, (uint32_t[]){number >> 32, (uint32_t)number}, 2);
+}
+
+/* A record as output: its fields in their order, the highest byte first. */
+static void append_record(struct bytes *to, const struct fmp4_fragment *r) {
+    append_long(to, r->offset);
+    append_long(to, r->size);
+    append_long(to, r->decode_time);
+    append_long(to, r->duration);
+    append_long(to, r->media_bytes);
+    append_words(to, (uint32_t[]){r->sequence, r->track, r->timescale, r->samples, r->is_sync, 0}, 6);
+}
+
+static void same_record(const struct fmp4_fragment *a, const struct fmp4_fragment *b) {
+    WANT(a->offset == b->offset && a->size == b->size && a->decode_time == b->decode_time && a->duration == b->duration);
+    WANT(a->media_bytes == b->media_bytes && a->sequence == b->sequence && a->track == b->track && a->timescale == b->timescale);
+    WANT(a->samples == b->samples && a->is_sync == b->is_sync && a->reserved == 0);
+}
+
+/* The whole output of a listing of the muxed stream. */
+static void list_muxed(const struct bytes *stream, uint32_t listing, size_t step, struct bytes *to) {
+    struct cut cut = {0, 0, 0, 512u << 20, 1u << 20, step, 777, listing};
+    to->len = 0;
+    struct result r = run(&cut, stream->at, stream->len, to);
+    WANT(r.open == 0 && r.finish == 0 && r.fed == stream->len);
+    WANT(r.report.fragments == 3 && r.report.samples == 7 && r.report.media_bytes == 36);
+}
+
+static void muxed_stream(size_t step) {
+    enum { COUNT = sizeof muxed_records / sizeof *muxed_records };
+    struct bytes stream = {0}, raw = {0}, got = {0};
+    struct fmp4_stream listing = {0};
+    struct fmp4_fragment record = {0};
+    size_t taken = 0;
+    append_words(&stream, muxed, sizeof muxed / sizeof *muxed);
+    WANT(stream.len == 768 + 100 + 24);
+    list_muxed(&stream, FMP4_FRAGMENTS, step, &got);
+    WANT(got.len == sizeof muxed_lines - 1 && memcmp(got.at, muxed_lines, got.len) == 0);
+    for (int i = 0; i < COUNT; i++) append_record(&raw, &muxed_records[i]);
+    list_muxed(&stream, FMP4_RECORDS, step, &got);
+    WANT(got.len == 64 * COUNT && raw.len == got.len && memcmp(got.at, raw.at, got.len) == 0);
+    WANT(fmp4_list_open(&listing, FMP4_RECORDS, 64u << 20, 1u << 20) == FMP4_OK);
+    for (size_t at = 0; at < stream.len; at += taken)
+        WANT(fmp4_feed(&listing, stream.at + at, stream.len - at < step ? stream.len - at : step, &taken) == FMP4_OK);
+    for (int i = 0; i < COUNT; i++) {
+        WANT(fmp4_next_fragment(&listing, &record) == FMP4_OK);
+        same_record(&record, &muxed_records[i]);
+    }
+    WANT(fmp4_next_fragment(&listing, &record) == FMP4_NO_RECORD && fmp4_close(&listing) == FMP4_OK);
+    free(stream.at);
+    free(raw.at);
+    free(got.at);
+}
+
 int main(void) {
     static const size_t steps[] = {1, 97, 1316, 65536};
     unsigned long long all = 0;
+    for (int i = 0; i < 4; i++) muxed_stream(steps[i]);
     in = read_all(stdin);
     for (int i = 0; i < 4; i++) all += run_both(1, steps[i], 1u << 20) + run_both(15, steps[i], 128);
-    printf("fragments: %llu records, each of a moof as a cut has given it\n", all);
+    printf("fragments: %llu records, each of a moof as a cut has given it, and those of a muxed stream by hand\n", all);
     free(in.at);
     free(out.at);
     return 0;
