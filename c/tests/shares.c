@@ -1,0 +1,67 @@
+/* shares < crates/test_streams/stdin: how much of an input a feed takes in an empty room, by each cut and listing, and that it
+ * answers FMP4_FULL where a byte more than half of the room waits and there is input, and not where just half of it does. */
+#include "tests.h"
+
+enum { CUT = 5, CUT_WITH_INDEX = 6 };
+static struct bytes in;
+
+static uint32_t open_for(struct fmp4_stream *stream, uint32_t listing, size_t room) {
+    if (listing < CUT) return fmp4_list_open(stream, listing, 1u << 30, room);
+    return fmp4_split_open(stream, 2, 0, listing == CUT_WITH_INDEX ? FMP4_INDEX : 0, 1u << 30, room);
+}
+
+static size_t smaller(size_t a, size_t b) { return a < b ? a : b; }
+
+/* What is taken of an input that is longer: a share of the room, and a byte at the least. */
+static void empty_rooms(uint32_t listing, size_t share) {
+    static unsigned char input[70000] = {0, 1, 17, 112, 'f', 'r', 'e', 'e'};
+    static const size_t rooms[] = {1, 127, 128, 511, 512, 1024, 2047, 65536, 65537, 1 << 20, (1 << 20) - 1, 8 << 20};
+    for (size_t i = 0; i < sizeof rooms / sizeof *rooms; i++) {
+        struct fmp4_stream stream = {0};
+        size_t taken = 0, whole = rooms[i] / share ? rooms[i] / share : 1;
+        for (size_t len = 1; len <= sizeof input; len = len * 3 + 1) {
+            WANT(open_for(&stream, listing, rooms[i]) == FMP4_OK);
+            WANT(fmp4_feed(&stream, input, len, &taken) <= FMP4_NO_ROOM && taken == smaller(len, whole));
+            WANT(fmp4_close(&stream) == FMP4_OK);
+        }
+    }
+}
+
+/* A stream that has a room twice the `waits` bytes that the first `len` of the input give, less `fewer`. */
+static void filled(uint32_t listing, size_t len, size_t waits, size_t fewer) {
+    struct fmp4_stream stream = {0};
+    size_t taken = 0, pending = 0;
+    WANT(open_for(&stream, listing, 2 * waits - fewer) == FMP4_OK);
+    for (size_t at = 0; at < len; at += taken) WANT(fmp4_feed(&stream, in.at + at, 1, &taken) == FMP4_OK && taken == 1);
+    WANT(fmp4_pending(&stream, &pending) == FMP4_OK && pending == waits);
+    WANT(fmp4_feed(&stream, in.at + len, 0, &taken) == FMP4_OK && taken == 0);
+    if (fewer) WANT(fmp4_feed(&stream, in.at + len, 1, &taken) == FMP4_FULL && taken == 0);
+    else WANT(fmp4_feed(&stream, in.at + len, 1, &taken) == FMP4_OK && taken == 1);
+    WANT(fmp4_close(&stream) == FMP4_OK);
+}
+
+/* The stream has an ftyp of 20 bytes, a moov of 344, and at 364 a moof of 96 with an mdat of 23. Each has what waits after
+ * some of it: the line of the ftyp, three lines of samples,
+ * those of a track and its fragment, a record, and the bytes that a cut passes on. */
+static void half_filled(void) {
+    static const struct { uint32_t listing; size_t len, waits; } cases[] = {
+        {FMP4_SAMPLES, 468, 70 + 76 + 76}, {FMP4_FRAGMENTS, 364, 34}, {FMP4_FRAGMENTS, 468, 34 + 78}, {FMP4_RECORDS, 468, 64},
+        {FMP4_BOXES, 8, 11}, {CUT, 20, 20}, {CUT, 364, 364}, {CUT_WITH_INDEX, 19, 19}};
+    for (size_t i = 0; i < sizeof cases / sizeof *cases; i++)
+        for (size_t fewer = 0; fewer < 2; fewer++) filled(cases[i].listing, cases[i].len, cases[i].waits, fewer);
+}
+
+int main(void) {
+    in = read_all(stdin);
+    WANT(in.len == 483);
+    empty_rooms(FMP4_SAMPLES, 512);
+    empty_rooms(FMP4_FRAGMENTS, 128);
+    empty_rooms(FMP4_RECORDS, 128);
+    empty_rooms(FMP4_BOXES, 128);
+    empty_rooms(CUT, 128);
+    empty_rooms(CUT_WITH_INDEX, 512);
+    half_filled();
+    puts("shares: what a feed takes of an input, and FMP4_FULL from half of the room and a byte on, by each cut and listing");
+    free(in.at);
+    return 0;
+}
