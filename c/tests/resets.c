@@ -53,7 +53,7 @@ static uint32_t fill(struct fmp4_stream *stream, size_t len) {
     return answer;
 }
 
-/* For a listing; 5 stands for a cut, and 0 for a check. */
+/* For a listing; 5 is a cut here, and 0 a check. */
 static uint32_t open_for(struct fmp4_stream *stream, uint32_t listing) {
     if (listing == 5) return fmp4_split_open(stream, 2, 0, FMP4_INDEX, LIMIT, ROOM);
     return listing ? fmp4_list_open(stream, listing, LIMIT, ROOM) : fmp4_check_open(stream, LIMIT);
