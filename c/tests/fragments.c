@@ -167,10 +167,28 @@ static void muxed_stream(size_t step) {
     free(got.at);
 }
 
+/* The records of one moof come at once: in a room for one and a half the front of the second waits for good. */
+static void half_a_record(void) {
+    struct bytes stream = {0};
+    struct fmp4_stream listing = {0};
+    struct fmp4_fragment record = {0};
+    size_t taken = 0, pending = 0;
+    uint32_t answer = FMP4_OK;
+    append_words(&stream, muxed, sizeof muxed / sizeof *muxed);
+    WANT(fmp4_list_open(&listing, FMP4_RECORDS, 64u << 20, 96) == FMP4_OK);
+    for (size_t at = 0; at < stream.len && answer == FMP4_OK; at += taken) answer = fmp4_feed(&listing, stream.at + at, 1, &taken);
+    WANT(answer == FMP4_NO_ROOM && fmp4_next_fragment(&listing, &record) == FMP4_OK);
+    same_record(&record, &muxed_records[0]);
+    WANT(fmp4_next_fragment(&listing, &record) == FMP4_NO_RECORD);
+    WANT(fmp4_pending(&listing, &pending) == FMP4_OK && pending == 32 && fmp4_close(&listing) == FMP4_OK);
+    free(stream.at);
+}
+
 int main(void) {
     static const size_t steps[] = {1, 97, 1316, 65536};
     unsigned long long all = 0;
     for (int i = 0; i < 4; i++) muxed_stream(steps[i]);
+    half_a_record();
     in = read_all(stdin);
     for (int i = 0; i < 4; i++) all += run_both(1, steps[i], 1u << 20) + run_both(15, steps[i], 128);
     printf("fragments: %llu records, each of a moof as a cut has given it, and those of a muxed stream by hand\n", all);
