@@ -12,7 +12,9 @@ static void all_answer(struct fmp4_stream *s, uint32_t wanted) {
     WANT(fmp4_feed(s, input, sizeof input, &n) == wanted && n == 0);
     size_t given = 9;
     n = 9;
+    memset(out, 5, sizeof out);
     WANT(fmp4_feed_take(s, input, sizeof input, &n, out, sizeof out, &given) == wanted && n == 0 && given == 0);
+    for (size_t i = 0; i < sizeof out; i++) WANT(out[i] == 5);
     if (wanted != FMP4_ENDED) {
         n = 9;
         WANT(fmp4_take(s, out, sizeof out, &n) == wanted && n == 0);
