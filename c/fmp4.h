@@ -54,7 +54,8 @@ struct fmp4_stream {
 
 /* What was counted of a stream, and which rule it breaks. */
 struct fmp4_report {
-    uint64_t fragments;   /* of a stream that is cut: the new ones whose moof was written; of a check: those accepted */
+    uint64_t fragments;   /* of a cut: the new ones whose moof was written; of a check or a listing of samples or
+                             fragments: those of the stream that were accepted; of a listing of boxes: 0 */
     uint64_t samples;     /* those of accepted fragments; 2^64 - 1 where there are more */
     uint64_t media_bytes; /* the bytes of these samples */
     uint64_t peak;        /* the most bytes that the boxes of the stream had claimed at once, without the output */
@@ -82,14 +83,14 @@ struct fmp4_cut {
 struct fmp4_fragment {
     uint64_t offset;      /* where its moof begins in the stream */
     uint64_t size;        /* the bytes of moof and mdat; 2^64 - 1 where the mdat goes to the end of the stream */
-    uint64_t decode_time; /* of its first sample, in ticks of the track */
+    uint64_t decode_time; /* at which it begins, in ticks of the track, also without samples */
     uint64_t duration;    /* of its samples together, in ticks */
     uint64_t media_bytes; /* of its samples together */
     uint32_t sequence;    /* the sequence_number of its moof */
     uint32_t track;       /* the track_ID */
     uint32_t timescale;   /* how many ticks of the track a second has */
     uint32_t samples;     /* how many it has */
-    uint32_t is_sync;     /* 1 where its first sample is a sync sample, else 0 */
+    uint32_t is_sync;     /* 1 where its first sample is a sync sample, else 0, as without samples */
     uint32_t reserved;
 };
 
@@ -100,7 +101,7 @@ enum fmp4_answer {
 
     /* The stream has stopped for good. Each feed answers the same from then on, and so does fmp4_finish */
     FMP4_FAULT = 2,         /* it breaks a rule: the report says which. All output before the fault was written */
-    FMP4_NO_ROOM = 3,       /* the output didn't fit the room, which is full. What fitted can be taken, and is a prefix */
+    FMP4_NO_ROOM = 3,       /* the output didn't fit the room, which was filled. What fitted can be taken: a prefix */
     FMP4_OVER_LIMIT = 4,    /* a moov or moof asks for more than the limit leaves. All output before it was written */
     FMP4_NO_MEMORY = 5,     /* malloc has none for it. The same */
 
@@ -130,7 +131,7 @@ enum fmp4_flags {
 /* Listings of fmp4_list_open. */
 enum fmp4_listing {
     FMP4_SAMPLES = 1,       /* the lines of `fmp4 samples` */
-    FMP4_FRAGMENTS = 2,     /* a line for each track, and one for each track fragment */
+    FMP4_FRAGMENTS = 2,     /* a line for each track, in the order of the moov, and one for each track fragment */
     FMP4_RECORDS = 3,       /* a record for each track fragment, for fmp4_next_fragment */
     FMP4_BOXES = 4          /* the lines of `fmp4 boxes`: only boxes are checked, and only the peak is counted */
 };
@@ -175,9 +176,9 @@ uint32_t fmp4_list_open_as(struct fmp4_stream *stream, uint32_t layout, uint32_t
 
 /* Feeds the next `len` bytes of the stream, or the first *taken of them: go on with the rest. A cut takes at most a
  * 128th of what is free in the room at once (a 512th with an index), a byte at the least, and nothing (FMP4_FULL)
- * while more than half of the room is filled; so does a listing, a 512th where it is of samples. Where this answers FMP4_OK, FMP4_FULL or FMP4_FAULT, all output that the
- * bytes so far determine waits to be taken, but for what was taken. *taken is 0 where it misuses the stream, and after
- * a stop.
+ * while more than half of the room is filled; so does a listing, a 512th where it is of samples. Where this answers
+ * FMP4_OK, FMP4_FULL or FMP4_FAULT, all output that the bytes so far determine waits to be taken, but for what was
+ * taken. *taken is 0 where it misuses the stream, and after a stop.
  *   FMP4_FULL; FMP4_FAULT, FMP4_NO_ROOM, FMP4_OVER_LIMIT, FMP4_NO_MEMORY; FMP4_NOT_OPEN, FMP4_CLOSED, FMP4_ENDED */
 uint32_t fmp4_feed(struct fmp4_stream *FMP4_RESTRICT stream, const uint8_t *FMP4_RESTRICT input, size_t len,
                    size_t *FMP4_RESTRICT taken);
@@ -185,8 +186,8 @@ uint32_t fmp4_feed(struct fmp4_stream *FMP4_RESTRICT stream, const uint8_t *FMP4
 /* As fmp4_take and then fmp4_feed, and the output of the input follows in `out` at once, without a copy in the room:
  * *given says how many bytes of output, less than `size` only where no more wait; what doesn't fit waits. So a loop over
  * an input sees FMP4_FULL only where `out` is smaller than what waits, and calls again. An `out` of twice the input
- * serves best: what doesn't fit is copied once more. FMP4_NO_ROOM comes only where `out` was filled and the room is full.
- * A stream that has stopped still gives what waits. What lies after the *given bytes in `out` may change.
+ * serves best: what doesn't fit is copied once more. The call that stops with FMP4_NO_ROOM has filled `out` and the
+ * room. A stream that has stopped still gives what waits. What lies after the *given bytes in `out` may change.
  *   As fmp4_feed; *given is 0 where it misuses the stream */
 uint32_t fmp4_feed_take(struct fmp4_stream *FMP4_RESTRICT stream, const uint8_t *FMP4_RESTRICT input, size_t len,
                         size_t *FMP4_RESTRICT taken, uint8_t *FMP4_RESTRICT out, size_t size,
@@ -199,7 +200,9 @@ uint32_t fmp4_take(struct fmp4_stream *FMP4_RESTRICT stream, uint8_t *FMP4_RESTR
                    size_t *FMP4_RESTRICT taken);
 
 /* Takes the next record of a stream that is listed by records. After a stop and after fmp4_finish too. Where fmp4_feed
- * answers FMP4_FULL, take records.
+ * answers FMP4_FULL, take records, until FMP4_NO_RECORD: after FMP4_NO_ROOM the front of a record can wait for good,
+ * so fmp4_pending need not come to 0. fmp4_take gives records as bytes: the fields in their order, big-endian, 64 bytes
+ * each.
  *   FMP4_NO_RECORD: none waits; FMP4_NOT_OPEN, FMP4_CLOSED, FMP4_BAD_LISTING. The record is left as it was */
 uint32_t fmp4_next_fragment(struct fmp4_stream *FMP4_RESTRICT stream, struct fmp4_fragment *FMP4_RESTRICT fragment);
 
