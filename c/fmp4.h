@@ -65,12 +65,12 @@ struct fmp4_report {
     uint64_t reserved[4]; /* for what later libraries of the same soname report; begin a report as zeros */
 };
 
-/* The sizes of both, which an open compares with those of the library: FMP4_BAD_LAYOUT says that the caller was compiled
- * with another header, or declares them otherwise. */
+/* The sizes of both, which an open compares with those of the library: FMP4_BAD_LAYOUT says that the caller was
+ * compiled with another header, or declares them otherwise. */
 #define FMP4_LAYOUT ((uint32_t)(sizeof(struct fmp4_stream) << 16 | sizeof(struct fmp4_report)))
 
-/* How a stream is cut. Begin it as zeros, which ask for nothing. All limits hold together, but a sample that passes one is
- * a fragment by itself. */
+/* How a stream is cut. Begin it as zeros, which ask for nothing. All limits hold together, but a sample that passes one
+ * is a fragment by itself. */
 struct fmp4_cut {
     uint32_t samples;     /* the most samples of a fragment, 1 to 1,000,000; 0 with a duration: 1,000,000 */
     uint32_t duration_ms; /* the most milliseconds that it lasts, in whole ticks of its track; 0: any number */
@@ -158,17 +158,17 @@ static inline uint32_t fmp4_cut_open(struct fmp4_stream *stream, const struct fm
  *   FMP4_NO_MEMORY; FMP4_IS_OPEN; FMP4_BAD_LAYOUT */
 static inline uint32_t fmp4_check_open(struct fmp4_stream *stream, uint64_t limit);
 
-/* Opens a stream that is checked and listed: the listing is its output, and what a fragment adds to it comes at once, with
- * the header of its mdat. `limit` and `room` are as those of a cut; what comes at once must fit the room, which is 64 bytes
- * for each record, and up to 256 for each line. To list the fragments that a cut writes, feed its output to a stream
+/* Opens a stream that is checked and listed: the listing is its output, and what a fragment adds to it comes at once,
+ * with the header of its mdat. `limit` and `room` are as those of a cut; what comes at once must fit the room, which is
+ * 64 bytes for each record, and up to 256 for each line. To list the fragments that a cut writes, feed its output to a stream
  * that is listed. A listing of boxes has a line of up to 80 bytes for a box as soon as its header came; a moov or moof
  * is listed once it is whole, with the boxes in it: up to 6 bytes at once for each of its own.
  *   FMP4_OVER_LIMIT: room is more than limit; FMP4_NO_MEMORY; FMP4_IS_OPEN; FMP4_BAD_LAYOUT, _LISTING, _ROOM */
 static inline uint32_t fmp4_list_open(struct fmp4_stream *stream, uint32_t listing, uint64_t limit, size_t room);
 
 /* What these four call in the library; `layout` is FMP4_LAYOUT. */
-uint32_t fmp4_split_open_as(struct fmp4_stream *stream, uint32_t layout, uint32_t samples, uint64_t bytes, uint32_t flags,
-                            uint64_t limit, size_t room);
+uint32_t fmp4_split_open_as(struct fmp4_stream *stream, uint32_t layout, uint32_t samples, uint64_t bytes,
+                            uint32_t flags, uint64_t limit, size_t room);
 uint32_t fmp4_cut_open_as(struct fmp4_stream *FMP4_RESTRICT stream, uint32_t layout,
                           const struct fmp4_cut *FMP4_RESTRICT cut, uint64_t limit, size_t room);
 uint32_t fmp4_check_open_as(struct fmp4_stream *stream, uint32_t layout, uint64_t limit);
