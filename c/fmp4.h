@@ -160,9 +160,9 @@ static inline uint32_t fmp4_check_open(struct fmp4_stream *stream, uint64_t limi
 
 /* Opens a stream that is checked and listed: the listing is its output, and what a fragment adds to it comes at once,
  * with the header of its mdat. `limit` and `room` are as those of a cut; what comes at once must fit the room, which is
- * 64 bytes for each record, and up to 256 for each line. To list the fragments that a cut writes, feed its output to a stream
- * that is listed. A listing of boxes has a line of up to 80 bytes for a box as soon as its header came; a moov or moof
- * is listed once it is whole, with the boxes in it: up to 6 bytes at once for each of its own.
+ * 64 bytes for each record, and up to 256 for each line. To list the fragments that a cut writes, feed its output to a
+ * stream that is listed. A listing of boxes has a line of up to 80 bytes for a box as soon as its header came; a moov
+ * or moof is listed once it is whole, with the boxes in it: up to 6 bytes at once for each of its own.
  *   FMP4_OVER_LIMIT: room is more than limit; FMP4_NO_MEMORY; FMP4_IS_OPEN; FMP4_BAD_LAYOUT, _LISTING, _ROOM */
 static inline uint32_t fmp4_list_open(struct fmp4_stream *stream, uint32_t listing, uint64_t limit, size_t room);
 
@@ -184,10 +184,10 @@ uint32_t fmp4_feed(struct fmp4_stream *FMP4_RESTRICT stream, const uint8_t *FMP4
                    size_t *FMP4_RESTRICT taken);
 
 /* As fmp4_take and then fmp4_feed, and the output of the input follows in `out` at once, without a copy in the room:
- * *given says how many bytes of output, less than `size` only where no more wait; what doesn't fit waits. So a loop over
- * an input sees FMP4_FULL only where `out` is smaller than what waits, and calls again. An `out` of twice the input
- * serves best: what doesn't fit is copied once more. The call that stops with FMP4_NO_ROOM has filled `out` and the
- * room. A stream that has stopped still gives what waits. What lies after the *given bytes in `out` may change.
+ * *given says how many bytes of output, less than `size` only where no more wait; what doesn't fit waits. So a loop
+ * over an input sees FMP4_FULL only where `out` is smaller than what waits, and calls again. An `out` of twice the
+ * input serves best: what doesn't fit is copied once more. The call that stops with FMP4_NO_ROOM has filled `out` and
+ * the room. A stream that has stopped still gives what waits. What lies after the *given bytes in `out` may change.
  *   As fmp4_feed; *given is 0 where it misuses the stream */
 uint32_t fmp4_feed_take(struct fmp4_stream *FMP4_RESTRICT stream, const uint8_t *FMP4_RESTRICT input, size_t len,
                         size_t *FMP4_RESTRICT taken, uint8_t *FMP4_RESTRICT out, size_t size,
@@ -221,8 +221,8 @@ uint32_t fmp4_totals(struct fmp4_stream *FMP4_RESTRICT stream, struct fmp4_repor
 uint32_t fmp4_finish(struct fmp4_stream *FMP4_RESTRICT stream, struct fmp4_report *FMP4_RESTRICT report);
 
 /* Sets the limit of a stream, but no lower than what it takes now: *takes says how many bytes that is, its room among
- * them. So many streams share one limit: before each is fed it gets what it takes and all that is free, and afterwards a
- * limit of 0, which says what it takes now. After a stop and after fmp4_finish the limit stays.
+ * them. So many streams share one limit: before each is fed it gets what it takes and all that is free, and afterwards
+ * a limit of 0, which says what it takes now. After a stop and after fmp4_finish the limit stays.
  *   FMP4_NOT_OPEN, FMP4_CLOSED: *takes is 0 */
 uint32_t fmp4_set_limit(struct fmp4_stream *FMP4_RESTRICT stream, uint64_t limit, uint64_t *FMP4_RESTRICT takes);
 

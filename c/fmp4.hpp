@@ -1,5 +1,5 @@
-// fmp4.hpp: libfmp4 for C++17. fmp4.h says what each call does and answers; here a stream is closed where it goes out of
-// scope, bytes come from whatever container has data() and size(), and output is handed to a function.
+// fmp4.hpp: libfmp4 for C++17. fmp4.h says what each call does and answers; here a stream is closed where it goes out
+// of scope, bytes come from whatever container has data() and size(), and output is handed to a function.
 //
 //     fmp4::stream stream;
 //     stream.open({15});                               // fragments of at most 15 samples
@@ -20,7 +20,8 @@
 
 namespace fmp4 {
 
-// Bytes in a row, which someone else owns: those of a std::vector, a std::string, a std::span, or by pointer and length.
+// Bytes in a row, which someone else owns: those of a std::vector, a std::string, a std::span, or by pointer and
+// length.
 class bytes {
     const std::uint8_t *data_ = nullptr;
     std::size_t size_ = 0;
@@ -114,7 +115,9 @@ class stream {
         return fmp4_list_open(&stream_, listing, limit, room);
     }
     std::uint32_t next(fmp4_fragment &fragment) { return fmp4_next_fragment(&stream_, &fragment); }
-    std::uint32_t set_limit(std::uint64_t limit, std::uint64_t &takes) { return fmp4_set_limit(&stream_, limit, &takes); }
+    std::uint32_t set_limit(std::uint64_t limit, std::uint64_t &takes) {
+        return fmp4_set_limit(&stream_, limit, &takes);
+    }
     std::uint32_t reset() { return fmp4_reset(&stream_); }
     std::uint32_t close() { return fmp4_close(&stream_); }
     // For the calls of fmp4.h.
