@@ -48,11 +48,13 @@ bench_jobs:
 test:
 	@scripts/needs_rt
 	@if command -v python3 > /dev/null; then \
-	    scripts/words && scripts/edit_index --check && scripts/pictures --check crates states in_place inputs; fi
+	    scripts/counted scripts/words && scripts/counted scripts/edit_index --check && \
+	    scripts/counted scripts/pictures --check crates states in_place inputs; fi
 	@echo "proving everything from nothing and running the tests: about an hour on 4 cores" >&2
-	@rt ci
-	@if command -v cc > /dev/null; then scripts/refused_allocations; fi
-	@if command -v valgrind > /dev/null; then bench/instructions "as written" --room 3; fi
+	@scripts/counted scripts/prove_all
+	@if command -v cc > /dev/null; then \
+	    scripts/counted scripts/refused_allocations && scripts/lib && scripts/counted scripts/c_short; fi
+	@if command -v valgrind > /dev/null; then scripts/counted bench/instructions "as written" --room 3; fi
 	@scripts/left_out
 
 # Tries the mutants in crates/*/wrong and crates/*/uncompiled, with what is built.

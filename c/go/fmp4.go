@@ -22,7 +22,7 @@ const (
 
 // Cut says how a stream is cut: into fragments of at most Samples samples (0 with DurationMS: 1,000,000), Bytes bytes of
 // media and DurationMS milliseconds (0: any number). Limit is the most bytes that the stream may take, Room of them for
-// the output; 0 stands for 64 MiB and 8 MiB.
+// the output; 0 means 64 MiB and 8 MiB.
 type Cut struct {
 	Samples    uint32
 	Bytes      uint64
