@@ -40,7 +40,7 @@ lib:
 # Compares the C library with the program, and tries its calls: those that are built, where there is no rt.
 c_tests:
 	@if command -v rt > /dev/null; then $(MAKE) -s build lib; fi
-	@scripts/c_tests
+	@scripts/counted scripts/c_tests
 
 bench_jobs:
 	@scripts/build bench_jobs
