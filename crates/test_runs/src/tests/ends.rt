@@ -15,15 +15,23 @@ use std::test::Fail;
 pub(super) enum Command {
     Boxes,
     Samples,
+    Fragments,
     Check,
     Split,
 }
 
-pub(super) const COMMANDS: [Command; 4] = [
+pub(super) const COMMANDS: [Command; 5] = [
     Command::Boxes,
     Command::Samples,
+    Command::Fragments,
     Command::Check,
     Command::Split,
+];
+
+/// The lines of the vector's track and of its fragment.
+const FRAGMENTS: [&str; 2] = [
+    "track=1 timescale=48000 entries=1\n",
+    "fragment=1 at=364 size=119 track=1 dts=0 dur=3072 samples=3 sync=yes media=15\n",
 ];
 
 impl Command {
@@ -31,6 +39,7 @@ impl Command {
         match self {
             Command::Boxes => &["fmp4", "boxes"],
             Command::Samples => &["fmp4", "samples"],
+            Command::Fragments => &["fmp4", "fragments"],
             Command::Check => &["fmp4", "check"],
             Command::Split => &["fmp4", "split", "--samples", "2"],
         }
@@ -41,13 +50,15 @@ impl Command {
         match self {
             Command::Boxes => listing_of(alloc, &[FTYP, MOOV, MOOF, MDAT]),
             Command::Samples => listing_of(alloc, &SAMPLES),
+            Command::Fragments => listing_of(alloc, &FRAGMENTS),
             Command::Check => listing_of(alloc, &[COUNTS]),
             Command::Split => by_two(alloc),
         }
     }
 
     /// How many bytes of that are due after the vector's first `k` bytes. The line of a box is due after its header,
-    /// those of a moov or moof after the box, and those of samples after their mdat's header.
+    /// those of a moov or moof after the box, that of a track after the moov, and those of samples and of a fragment
+    /// after their mdat's header.
     pub(super) fn due(self, k: usize) -> usize {
         let (ftyp, moov) = (FTYP.len(), FTYP.len() + MOOV.len());
         match (self, k) {
@@ -58,6 +69,9 @@ impl Command {
             (Command::Boxes, _) => 310,
             (Command::Samples, 0..468) => 0,
             (Command::Samples, _) => 222,
+            (Command::Fragments, 0..364) => 0,
+            (Command::Fragments, 364..468) => 34,
+            (Command::Fragments, _) => 112,
             (Command::Check, _) => 0,
             (Command::Split, k) => due_of_split(k),
         }
