@@ -29,7 +29,7 @@ pub(super) const COMMANDS: [Command; 5] = [
 ];
 
 /// The lines of the vector's track and of its fragment.
-const FRAGMENTS: [&str; 2] = [
+pub(super) const FRAGMENTS: [&str; 2] = [
     "track=1 timescale=48000 entries=1\n",
     "fragment=1 at=364 size=119 track=1 dts=0 dur=3072 samples=3 sync=yes media=15\n",
 ];

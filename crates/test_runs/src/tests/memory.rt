@@ -2,6 +2,7 @@
 
 ghost use Rattle.std.specs.Prelude.{◌≤◌};
 
+use super::ends::FRAGMENTS;
 use super::fragments::{COUNTS, SAMPLES};
 use super::split_stops::with_a_large_moof;
 use super::{FTYP, MDAT, MOOF, MOOV, check_words, joined};
@@ -57,14 +58,15 @@ fn limits(rt: HostRuntime) -> Result<(), Fail> {
     )
 }
 
-/// Lists the samples of a stream and checks it under a limit: its lines and its counts, or none where the limit is
-/// passed.
+/// Lists the samples and the fragments of a stream and checks it under a limit: its lines and its counts. Where the
+/// limit is passed, there are no counts, and of the lines at most that of the track, which its moov has.
 fn check_listings(
     rt: &impl Abort,
     alloc: Global,
     limit: &'static str,
     stream: &[u8],
     lines: &[&str],
+    fragments: &[&str],
     counts: &'static str,
 ) -> Result<(), Fail> {
     let (status, fault) = if counts.is_empty() {
@@ -74,6 +76,8 @@ fn check_listings(
     };
     let samples = ["fmp4", "samples", "--max-held", limit];
     check_words(rt, alloc, &samples, &[stream], status, lines, fault)?;
+    let listed = ["fmp4", "fragments", "--max-held", limit];
+    check_words(rt, alloc, &listed, &[stream], status, fragments, fault)?;
     let check = ["fmp4", "check", "--max-held", limit];
     check_words(rt, alloc, &check, &[stream], status, &[counts], fault)
 }
@@ -84,20 +88,25 @@ fn check_listings(
 fn limits_of_listings(rt: HostRuntime) -> Result<(), Fail> {
     let alloc = rt.alloc();
     for limit in ["65535", "65536", "65879", "65880", "65943"] {
-        check_listings(&rt, alloc, limit, V1.as_slice(), &[], "")?;
+        check_listings(&rt, alloc, limit, V1.as_slice(), &[], &[], "")?;
     }
-    check_listings(&rt, alloc, "65944", V1.as_slice(), &SAMPLES, COUNTS)?;
+    let v1 = V1.as_slice();
+    check_listings(&rt, alloc, "65944", v1, &SAMPLES, &FRAGMENTS, COUNTS)?;
     let large = with_a_large_moof(alloc)?;
     for limit in ["66095", "66096", "66159"] {
-        check_listings(&rt, alloc, limit, &large, &[], "")?;
+        check_listings(&rt, alloc, limit, &large, &[], &FRAGMENTS[..1], "")?;
     }
     let lines = [
         "track=1 dts=0 cts=0 dur=1024 size=5 flags=02000000 sync desc=1 at=868\n",
         "track=1 dts=1024 cts=1024 dur=1024 size=7 flags=02000000 sync desc=1 at=873\n",
         "track=1 dts=2048 cts=2048 dur=1024 size=3 flags=02000000 sync desc=1 at=880\n",
     ];
+    let fragments = [
+        FRAGMENTS[0],
+        "fragment=1 at=364 size=519 track=1 dts=0 dur=3072 samples=3 sync=yes media=15\n",
+    ];
     let counts = "fragments=1 samples=3 media=15 held=66160\n";
-    check_listings(&rt, alloc, "66160", &large, &lines, counts)
+    check_listings(&rt, alloc, "66160", &large, &lines, &fragments, counts)
 }
 
 /// Lists the boxes of these bytes under a limit: the answer, and the most that was claimed at once.
