@@ -13,7 +13,8 @@
 //!   and [`of_word_keeps_flags`], the law that no flag is lost;
 //! - [`laws`]: what the definitions of `specs/` imply.
 //!
-//! It re-exports the ends of a stream, from [`Source`] to [`ends`]: their users name this crate.
+//! It re-exports the ends of a stream, from [`Source`] to [`ends`], and three small streams for tests, [`vectors`]:
+//! their users name this crate.
 #![tactic(auto)]
 
 mod box_ref;
@@ -36,6 +37,7 @@ pub use fields::{array_at, full, i32_at, long_number_at, number_at, u32_at, u64_
 pub use flags::{Flags, TfhdFlags, TrunFlags, of_word_keeps_flags};
 pub use headers::{FourCc, Header, Size, Step, header_of};
 pub use mp4_ends::{Failed, FromRead, IntoWrite, Sink, Source, ends, write_all};
+pub use mp4_vectors as vectors;
 pub use order::note;
 pub use paths::{Along, count_of, first_at};
 pub use reader::HeaderReader;

@@ -36,6 +36,7 @@ pub use mp4_grammar::Command;
 pub use mp4_ledger::Ledger;
 pub use mp4_machine::Stop;
 pub use mp4_recut::Operation;
+pub use mp4_vectors as vectors;
 pub use pushed::split_pieces;
 pub use run::boxes;
 pub use totals::Totals;
