@@ -283,9 +283,8 @@ impl<'a> Moof<'a> {
 
     /// Sums over its runs, if each with samples lies in the payload and begins where those with samples that are listed
     /// before it end, or after that; none if one doesn't. Such runs may all lie where they do ([`Moof::places`]), and
-    /// no list of them is claimed to say so. `tracks` are those that it was read with, and each of its trafs begins
-    /// early ([`Moof::begins_early`]). Its samples are counted in `steps` as rows that were read, as [`Moof::list`]
-    /// counts them, also where there is nothing to answer.
+    /// no list of them is claimed to say so. `tracks` are those that it was read with. Its samples are counted in
+    /// `steps` as rows that were read, as [`Moof::list`] counts them, also where there is nothing to answer.
     #[inline(always)]
     pub fn following(
         &self,
@@ -294,7 +293,6 @@ impl<'a> Moof<'a> {
         steps: &mut Steps,
     ) -> Option<Following>
         requires read { IsRead self.now tracks.now }
-        requires early { list_all begins_early (at_path (traf ∷ []) (moof_of self.now)) ≡ true }
         requires steps { steps.old.rows < 2 ^ 127 }
         ensures some { IsSome result → AllFollow payload (moof_listing self.now tracks.now) }
         ensures all { AllFollow payload (moof_listing self.now tracks.now) → IsSome result }

@@ -9,7 +9,7 @@ use Rattle.mp4_run_order.specs.declared.runs.Payload.{Payload}
 use Rattle.mp4_run_order.specs.declared.track_search.TrackSearch.{TrackSearch}
 use Rattle.mp4_run_order.specs.Runs.{IsInTurn}
 use Rattle.mp4_run_order.specs.Orders.{IsBeforeByTrack}
-use Rattle.mp4_run_order.specs.Implementation.Searches.{is_time_fault, lower_of, track_step}
+use Rattle.mp4_run_order.specs.Implementation.Searches.{overtakes_last, lower_of, track_step}
 use Rattle.mp4_run_order.proofs.ListLemmas.{Each, Pairs, each_always, each_both, each_weaker}
 use Rattle.mp4_run_order.proofs.RunLemmas.{turn_from, overtakes_from, not_in_turn}
 use Rattle.mp4_run_order.proofs.BoundLemmas.{IsBelow, below_lower, lower_which}
@@ -50,18 +50,18 @@ turn_at_if r None x f = tt
 turn_at_if r (Some a) x f = record { turn = λ b ne. absurd (f b ne) }
 
 -- a run that is late begins before the end of the last
-blame_last : (p : Payload) (runs : List ListedRun) (last : Option ListedRun) (x : ListedRun) (xs : List ListedRun) (r : Option ℕ) → Contains runs x → x.count ≢ 0 → is_time_fault last x ≡ true → IsLast runs last (x ∷ xs) → r ≡ Some x.number → Blamed p runs r
+blame_last : (p : Payload) (runs : List ListedRun) (last : Option ListedRun) (x : ListedRun) (xs : List ListedRun) (r : Option ℕ) → Contains runs x → x.count ≢ 0 → overtakes_last last x ≡ true → IsLast runs last (x ∷ xs) → r ≡ Some x.number → Blamed p runs r
 blame_last p runs None x xs r c ne e l q = absurd (cc)
 blame_last p runs (Some a) x xs r c ne e l q =
     let o = overtakes_from x a e in
     blamed_early p runs r a x l.0 c (l.2.0.number o.track) q ne (not_in_turn x a o)
 
-turn_at_here : (r : Option ℕ) (last : Option ListedRun) (x : ListedRun) → is_time_fault last x ≡ false → TurnAt r last x
+turn_at_here : (r : Option ℕ) (last : Option ListedRun) (x : ListedRun) → overtakes_last last x ≡ false → TurnAt r last x
 turn_at_here r None x e = tt
 turn_at_here r (Some a) x e = record { turn = λ b ne. turn_from x a e }
 
 -- what follows a run that is in turn after the last
-turn_at_after : (runs : List ListedRun) (r : Option ℕ) (last : Option ListedRun) (x y : ListedRun) (xs : List ListedRun) → x.count ≢ 0 → is_time_fault last x ≡ false → IsLast runs last (x ∷ xs) → IsBeforeByTrack x y → Turn r x y → TurnAt r last y
+turn_at_after : (runs : List ListedRun) (r : Option ℕ) (last : Option ListedRun) (x y : ListedRun) (xs : List ListedRun) → x.count ≢ 0 → overtakes_last last x ≡ false → IsLast runs last (x ∷ xs) → IsBeforeByTrack x y → Turn r x y → TurnAt r last y
 turn_at_after runs r None x y xs ne e l b t = tt
 turn_at_after runs r (Some a) x y xs ne e l b t = record {
   turn = λ below ney. record {
@@ -78,7 +78,7 @@ turn_at_after runs r (Some a) x y xs ne e l b t = record {
 
 passed_step : (p : Payload) (runs : List ListedRun) (found : Option ℕ) (last : Option ListedRun) (x : ListedRun) (xs : List ListedRun) → Contains runs x → Each (IsBeforeByTrack x) xs → IsLast runs last (x ∷ xs)
     → ((f : Option ℕ) (l : Option ListedRun) → IsLast runs l xs → Passed p runs f l xs (found_from f l xs))
-    → (t : Bool) → (x.count == 0) ≡ t → (u : Bool) → is_time_fault last x ≡ u
+    → (t : Bool) → (x.count == 0) ≡ t → (u : Bool) → overtakes_last last x ≡ u
     → Passed p runs found last (x ∷ xs) (fold track_step (if t then at_state found last else if u then at_state (Some (lower_of x.number found)) last else at_state found (Some x)) xs).offender
 passed_step p runs found last x xs c next l ih true e u ev =
     let f = ih found last (rest_is runs last x xs l) in
@@ -116,7 +116,7 @@ passed_step p runs found last x xs c next l ih false e false ev =
 
 passed : (p : Payload) (runs : List ListedRun) (found : Option ℕ) (last : Option ListedRun) (xs : List ListedRun) → Each (Contains runs) xs → Pairs IsBeforeByTrack xs → IsLast runs last xs → Passed p runs found last xs (found_from found last xs)
 passed p runs found last [] c n l = record { upto = λ n b. b; at = tt; pairs = tt; is = inl refl }
-passed p runs found last (x ∷ xs) c n l = passed_step p runs found last x xs c.0 n.0 l (λ f m k. passed p runs f m xs c.1 n.1 k) (x.count == 0) refl (is_time_fault last x) refl
+passed p runs found last (x ∷ xs) c n l = passed_step p runs found last x xs c.0 n.0 l (λ f m k. passed p runs f m xs c.1 n.1 k) (x.count == 0) refl (overtakes_last last x) refl
 
 -- the find by track: no run that is listed earlier is out of turn, and it may not lie where it does
 pub record ByTrack (p : Payload) (runs sorted : List ListedRun) (r : Option ℕ) : Type 0 where

@@ -1,7 +1,7 @@
 //! The search by track.
 
 ghost use Rattle.std.specs.Prelude.{◌≡◌};
-ghost use Rattle.mp4_run_order.specs.Implementation.Searches.{is_time_fault, track_start, track_step};
+ghost use Rattle.mp4_run_order.specs.Implementation.Searches.{overtakes_last, track_start, track_step};
 
 use crate::numbers::lower_of;
 use crate::runs::ListedRun;
@@ -28,8 +28,9 @@ impl TrackSearch {
         }
     }
 
-    fn is_time_fault(self, run: ListedRun) -> bool
-        ensures { result ≡ is_time_fault self.last run }
+    /// Whether it begins before the end of the last run, and is of its track.
+    fn overtakes_last(self, run: ListedRun) -> bool
+        ensures { result ≡ overtakes_last self.last run }
     {
         match self.last {
             None => false,
@@ -46,7 +47,7 @@ impl TrackSearch {
     {
         if run.count == 0 {
             self
-        } else if self.is_time_fault(run) {
+        } else if self.overtakes_last(run) {
             TrackSearch {
                 offender: Some(lower_of(run.number, self.offender)),
                 ..self

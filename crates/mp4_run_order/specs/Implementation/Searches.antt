@@ -26,15 +26,15 @@ abbrev pub track_start : TrackSearch
 track_start = record { offender = None; last = None }
 
 -- it begins before the end of the last run, and is of its track
-abbrev pub is_time_fault : Option ListedRun → ListedRun → Bool
-is_time_fault None run = false
-is_time_fault (Some last) run = overtakes run last
+abbrev pub overtakes_last : Option ListedRun → ListedRun → Bool
+overtakes_last None run = false
+overtakes_last (Some last) run = overtakes run last
 
 -- after one more run
 abbrev pub track_step : TrackSearch → ListedRun → TrackSearch
 track_step s run =
     if run.count == 0 then s
-    else if is_time_fault s.last run then record s { offender = Some (lower_of run.number s.offender) }
+    else if overtakes_last s.last run then record s { offender = Some (lower_of run.number s.offender) }
     else record s { last = Some run }
 
 -- result of a pass over these
