@@ -142,9 +142,9 @@ pub fn recut_text_with_an_index()
         recut_text cut (stream_text cut s) ≡ stream_text cut (recut cut s) }
 {}
 
-/// Where the recut text takes the place of the stream, `fragments` lists one line a piece, as many as `split` counted
-/// fragments. The line has the number of the piece, where it begins in the recut text, and how many bytes and samples
-/// it has. Of every stream without a fault the lines are those of its items, and those of its ending.
+/// Where the recut text takes the place of the stream, `fragments` lists one line a piece. The line has the number of
+/// the piece, where it begins in the recut text, and how many bytes and samples it has. Of every stream without a fault
+/// the lines are those of its items, and those of its ending.
 pub fn recut_text_has_a_line_a_piece()
     ensures stream { (cut : Cut) (s : Stream) → IsSoundStream cut s →
         (commands.reading Fragments (stream_bytes s)).effects.text ≡ stream_lines cut s }
