@@ -25,10 +25,10 @@ use Rattle.mp4_grammar.proofs.JoinLemmas.{after-at, either-none}
 use Rattle.mp4_grammar.proofs.RunCountLemmas.{runs_small}
 use Rattle.mp4_grammar.proofs.SplitLemmas.{every-stream}
 
-front_bytes : (x y : List ℕ) → IsBytes (x ++ y) → IsBytes x
+pub front_bytes : (x y : List ℕ) → IsBytes (x ++ y) → IsBytes x
 front_bytes x y fits = subst IsBytes (take-append_seam x y) (IsBytes-take (length x) (x ++ y) fits)
 
-rest_bytes : (x y : List ℕ) → IsBytes (x ++ y) → IsBytes y
+pub rest_bytes : (x y : List ℕ) → IsBytes (x ++ y) → IsBytes y
 rest_bytes x y fits = subst IsBytes (drop-append_seam x y) (IsBytes-drop (length x) (x ++ y) fits)
 
 -- a whole box is a header, and what follows it

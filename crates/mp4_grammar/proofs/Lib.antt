@@ -14,4 +14,7 @@ pub mod SplitLemmas
 pub mod HeldSizeLemmas
 pub mod TextLemmas
 pub mod TrafRecordLemmas
+pub mod RecordFitLemmas
+pub mod StreamRecordLemmas
 pub mod LineLemmas
+pub mod RowLineLemmas

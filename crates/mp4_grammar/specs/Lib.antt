@@ -4,7 +4,9 @@ pub mod Meanings
 pub mod Items
 pub mod Samples
 pub mod FragmentLines
+pub mod LinesByRows
 pub mod TrafRecords
+pub mod AcceptedFragments
 pub mod Commands
 pub mod Counts
 pub mod Joined

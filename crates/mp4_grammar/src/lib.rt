@@ -15,7 +15,9 @@
 //! of its trafs, and those of the tracks), `specs/TrafRecords.antt` (its trafs as records), `specs/Commands.antt` (the
 //! commands). The laws speak of `specs/Joined.antt` (whole items one after the other), `specs/Rests.antt` (what may be
 //! left after them), `specs/HeldSizes.antt` (how large the boxes are that are held), `specs/Counts.antt` (what is
-//! counted before a box that requests memory) and `specs/WithoutText.antt` (effects without their text) too.
+//! counted before a box that requests memory), `specs/LinesByRows.antt` (the line of a traf by the rows of its
+//! samples), `specs/AcceptedFragments.antt` (fragments that are accepted, and their records) and
+//! `specs/WithoutText.antt` (effects without their text) too.
 #![tactic(auto)]
 
 pub mod cached_line;

@@ -6,3 +6,6 @@ returns-clause-samples c f = all_samples f.moof f.tracks
 
 pub returns-clause-media : goal.returns-clause-media
 returns-clause-media c f = all_bytes f.moof f.tracks
+
+pub returns-clause-totals : goal.returns-clause-totals
+returns-clause-totals c f = (all_samples f.moof f.tracks, all_bytes f.moof f.tracks)

@@ -1,0 +1,26 @@
+use Rattle.std.proofs.Common.{refl}
+use Rattle.mp4_traf.specs.Runs.{traf_of}
+use Rattle.mp4_grammar.proofs.RowLineLemmas.{duration_is_theirs, media_are_theirs, samples_are, sync_is_of_the_first, time_of_tfdt, time_of_track}
+use Rattle.mp4_grammar.proofs.laws.lines_have_what_their_trafs_have.Goals as goal
+
+pub returns-clause-track : goal.returns-clause-track
+unfolding traf_of
+returns-clause-track c f b = refl
+
+pub returns-clause-own_time : goal.returns-clause-own_time
+returns-clause-own_time c f b d is = time_of_tfdt f b d is
+
+pub returns-clause-next_time : goal.returns-clause-next_time
+returns-clause-next_time c f b t none is = time_of_track f b t none is
+
+pub returns-clause-samples : goal.returns-clause-samples
+returns-clause-samples c f b = samples_are f b
+
+pub returns-clause-duration : goal.returns-clause-duration
+returns-clause-duration c f b = duration_is_theirs f b
+
+pub returns-clause-media : goal.returns-clause-media
+returns-clause-media c f b = media_are_theirs f b
+
+pub returns-clause-sync : goal.returns-clause-sync
+returns-clause-sync c f b = sync_is_of_the_first f b

@@ -1,0 +1,16 @@
+use Rattle.std.proofs.Common.{refl}
+use Rattle.std.specs.Fmt.{digits}
+use Rattle.mp4_grammar.specs.FragmentLines.{track_line, traf_line}
+use Rattle.mp4_grammar.proofs.laws.worked_lines.Goals as goal
+
+pub returns-clause-traf : goal.returns-clause-traf
+unfolding traf_line digits
+returns-clause-traf c = refl
+
+pub returns-clause-open : goal.returns-clause-open
+unfolding traf_line digits
+returns-clause-open c = refl
+
+pub returns-clause-track : goal.returns-clause-track
+unfolding track_line digits
+returns-clause-track c = refl
