@@ -6,8 +6,8 @@
 //! - `words.rt`: words and statuses; `calls.rt`: how the two ends are called; `ends.rt`: streams that end, and readers
 //!   and writers that fail, after each byte;
 //! - `listings.rt`: boxes that are listed, and faults of streams; `fragments.rt`: samples that are listed, and streams
-//!   that are checked; `layouts.rt`: the layouts that a fragment may have; `field_lengths.rt`: payloads of a wrong
-//!   length; `hostile.rt`: numbers at the ends of their types;
+//!   that are checked; `trafs.rt`: the lines and records of trafs; `layouts.rt`: the layouts that a fragment may have;
+//!   `field_lengths.rt`: payloads of a wrong length; `hostile.rt`: numbers at the ends of their types;
 //! - `splits.rt`: fragments that are cut, `times.rt`: by time and before keyframes, and `wanted.rt`: what must be
 //!   written for them; `boxes_between.rt`: the boxes between them; `recuts.rt`: new fragments that are read again;
 //!   `rows.rt`: rows that are read meanwhile; `split_stops.rt`: limits and failed writes;

@@ -18,6 +18,7 @@ mod rows;
 mod split_stops;
 mod splits;
 mod times;
+mod trafs;
 mod wanted;
 mod words;
 mod work;
