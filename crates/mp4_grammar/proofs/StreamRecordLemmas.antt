@@ -24,7 +24,7 @@ use Rattle.mp4_grammar.specs.Commands.{command_meaning, reading}
 use Rattle.mp4_grammar.specs.Contexts.{Context, first_context}
 use Rattle.mp4_grammar.specs.Items.{end_of as mdat_end}
 use Rattle.mp4_grammar.specs.Joined.{AreSound, IsMoofHere, IsSound, Item, Movie, MovieFragment, OneBox, PassedOver, bytes_of, context_after, context_after_all, fragment_here, fragment_in, item_effects, items_effects, joined, tracks_in}
-use Rattle.mp4_grammar.specs.Meanings.{Fragment}
+use Rattle.mp4_grammar.specs.Meanings.{Fragment, Meaning}
 use Rattle.mp4_grammar.specs.Rests.{AfterMoof, BadFragment, BadHeader, BadMoof, BadMoov, CutInBody, CutInHeader, CutInHeld, CutInMedia, Ended, IsAfterMoof, IsRest, Large, LateMoof, NoMdat, NotMdat, Open, OpenMedia, OpenMediaCut, OpenMediaTooFar, OpenTooFar, OutOfPlace, SecondBadHeader, SecondCutInHeader, SecondTooFar, TooFar, Unsized}
 use Rattle.mp4_grammar.specs.TrafRecords.{IsRecord, fragment_records, record_bytes, traf_record}
 use Rattle.mp4_grammar.specs.declared.command.Command.TheVariants.{Records}
@@ -118,8 +118,8 @@ open_end next end size is e =
 
 -- ---- an item
 
-fragment_is : (c : Context) (moof mdat : OneBox) → AreTracks c → IsBytes (moof.bytes ++ mdat.bytes) → IsSound (command_meaning Records) c (MovieFragment moof mdat) → c.at + length (moof.bytes ++ mdat.bytes) ≤ longest → IsAccepted (fragment_in c moof mdat)
-fragment_is c moof mdat tracks fits (here, read, mdat_one, good) near =
+pub fragment_is : (meaning : Meaning) (c : Context) (moof mdat : OneBox) → AreTracks c → IsBytes (moof.bytes ++ mdat.bytes) → IsSound meaning c (MovieFragment moof mdat) → c.at + length (moof.bytes ++ mdat.bytes) ≤ longest → IsAccepted (fragment_in c moof mdat)
+fragment_is meaning c moof mdat tracks fits (here, read, mdat_one, good) near =
     let len = length-append moof.bytes mdat.bytes in
     accepted_here c moof mdat.header tracks (front_bytes moof.bytes mdat.bytes fits) here (omega (arith, near, len)) read
     (λ end e. sized_end (c.at + length moof.bytes) (length mdat.bytes) end mdat.header.size mdat_one.is.size (omega (arith, near, len)) e)
@@ -127,32 +127,32 @@ fragment_is c moof mdat tracks fits (here, read, mdat_one, good) near =
 item_are : (c : Context) (i : Item) → AreTracks c → IsBytes (bytes_of i) → IsSound (command_meaning Records) c i → c.at + length (bytes_of i) ≤ longest → AreFragmentRecords (item_effects (command_meaning Records) c i).text
 item_are c (PassedOver b) tracks fits sound near = none
 item_are c (Movie b) tracks fits sound near = none
-item_are c (MovieFragment moof mdat) tracks fits sound near = one (fragment_in c moof mdat) (fragment_is c moof mdat tracks fits sound near)
+item_are c (MovieFragment moof mdat) tracks fits sound near = one (fragment_in c moof mdat) (fragment_is (command_meaning Records) c moof mdat tracks fits sound near)
 
-item_tracks : (c : Context) (i : Item) → AreTracks c → IsBytes (bytes_of i) → IsSound (command_meaning Records) c i → c.at + length (bytes_of i) ≤ longest → AreTracks (context_after (command_meaning Records) c i)
-item_tracks c (PassedOver b) tracks fits sound near = tracks
-item_tracks c (Movie b) tracks fits sound near = moov_is c.at b.bytes fits
-item_tracks c (MovieFragment moof mdat) tracks fits sound near =
+item_tracks : (meaning : Meaning) (c : Context) (i : Item) → AreTracks c → IsBytes (bytes_of i) → IsSound meaning c i → c.at + length (bytes_of i) ≤ longest → AreTracks (context_after meaning c i)
+item_tracks meaning c (PassedOver b) tracks fits sound near = tracks
+item_tracks meaning c (Movie b) tracks fits sound near = moov_is c.at b.bytes fits
+item_tracks meaning c (MovieFragment moof mdat) tracks fits sound near =
     let f = fragment_in c moof mdat in
     let trafs = moof_trafs f.moof f.tracks in
-    settled_is f.tracks trafs (ends_small f trafs (accepted_trafs f (fragment_is c moof mdat tracks fits sound near))) tracks
+    settled_is f.tracks trafs (ends_small f trafs (accepted_trafs f (fragment_is meaning c moof mdat tracks fits sound near))) tracks
+
+pub items_tracks : (meaning : Meaning) (is : List Item) (c : Context) → AreTracks c → IsBytes (joined is) → AreSound meaning c is → c.at + length (joined is) ≤ longest → AreTracks (context_after_all meaning c is)
+items_tracks meaning [] c tracks fits sound near = tracks
+items_tracks meaning (i ∷ is) c tracks fits (first, more) near =
+    let len = length-append (bytes_of i) (joined is) in
+    let next = item_tracks meaning c i tracks (front_bytes (bytes_of i) (joined is) fits) first (omega (arith, near, len)) in
+    items_tracks meaning is (context_after meaning c i) next (rest_bytes (bytes_of i) (joined is) fits) more (omega (arith, near, len, after-at meaning c i))
 
 -- items, one after the other
-record After (c : Context) (is : List Item) : Type 0 where
-  text : AreFragmentRecords (items_effects (command_meaning Records) c is).text
-  tracks : AreTracks (context_after_all (command_meaning Records) c is)
-
-items_are : (is : List Item) (c : Context) → AreTracks c → IsBytes (joined is) → AreSound (command_meaning Records) c is → c.at + length (joined is) ≤ longest → After c is
-items_are [] c tracks fits sound near = record { text = none; tracks = tracks }
+items_are : (is : List Item) (c : Context) → AreTracks c → IsBytes (joined is) → AreSound (command_meaning Records) c is → c.at + length (joined is) ≤ longest → AreFragmentRecords (items_effects (command_meaning Records) c is).text
+items_are [] c tracks fits sound near = none
 items_are (i ∷ is) c tracks fits (first, more) near =
     let len = length-append (bytes_of i) (joined is) in
     let own = front_bytes (bytes_of i) (joined is) fits in
     let next = context_after (command_meaning Records) c i in
-    let later = items_are is next (item_tracks c i tracks own first (omega (arith, near, len))) (rest_bytes (bytes_of i) (joined is) fits) more (omega (arith, near, len, after-at (command_meaning Records) c i)) in
-    record {
-      text = both_are (item_effects (command_meaning Records) c i).text (items_effects (command_meaning Records) next is).text (item_are c i tracks own first (omega (arith, near, len))) later.text;
-      tracks = later.tracks;
-    }
+    both_are (item_effects (command_meaning Records) c i).text (items_effects (command_meaning Records) next is).text (item_are c i tracks own first (omega (arith, near, len)))
+    (items_are is next (item_tracks (command_meaning Records) c i tracks own first (omega (arith, near, len))) (rest_bytes (bytes_of i) (joined is) fits) more (omega (arith, near, len, after-at (command_meaning Records) c i)))
 
 -- ---- the rest
 
@@ -199,10 +199,10 @@ pub stream_fragments : (b : List ℕ) → IsBytes b → AreFragmentRecords (read
 stream_fragments b fits =
     let (s, reads) = every-stream (command_meaning Records) b fits in
     let own = subst IsBytes s.cut fits in
-    let all = items_are s.items first_context tt (front_bytes (joined s.items) s.rest own) s.sound s.near in
+    let front = front_bytes (joined s.items) s.rest own in
     reads_are (reading Records b) _ reads
-    (both_are (items_effects (command_meaning Records) first_context s.items).text s.reading.effects.text all.text
-    (rest_are (context_after_all (command_meaning Records) first_context s.items) s.rest s.reading all.tracks (rest_bytes (joined s.items) s.rest own) s.is))
+    (both_are (items_effects (command_meaning Records) first_context s.items).text s.reading.effects.text (items_are s.items first_context tt front s.sound s.near)
+    (rest_are (context_after_all (command_meaning Records) first_context s.items) s.rest s.reading (items_tracks (command_meaning Records) s.items first_context tt front s.sound s.near) (rest_bytes (joined s.items) s.rest own) s.is))
 
 -- ---- as records
 

@@ -20,14 +20,14 @@ ghost use Rattle.mp4_traf.specs.Tfhd.{track_id};
 ghost use Rattle.mp4_traf.specs.TrafTotals.{totals_of};
 ghost use Rattle.mp4_machine.specs.Bodies.{longest};
 ghost use Rattle.mp4_machine.specs.Readings.{Request, GrowsTo, Reading, after, most_of};
-ghost use Rattle.mp4_grammar.specs.AcceptedFragments.{AreFragmentRecords, AreRecords, IsAccepted};
+ghost use Rattle.mp4_grammar.specs.AcceptedFragments.{AreFragmentRecords, AreRecords, IsAccepted, IsTrack};
 ghost use Rattle.mp4_grammar.specs.Commands.{command_meaning, reading};
 ghost use Rattle.mp4_grammar.specs.Contexts.{Context, first_context};
 ghost use Rattle.mp4_grammar.specs.Counts.{InspectsOn};
 ghost use Rattle.mp4_grammar.specs.FragmentLines.{fragment_lines, listed_track, listed_traf, track_line, track_lines, traf_line};
 ghost use Rattle.mp4_grammar.specs.HeldSizes.{HoldsWithin};
 ghost use Rattle.mp4_grammar.specs.Items.{fragment, reads_in};
-ghost use Rattle.mp4_grammar.specs.Joined.{AreSound, Item, context_after_all, joined, items_effects};
+ghost use Rattle.mp4_grammar.specs.Joined.{AreSound, IsSound, Item, MovieFragment, OneBox, context_after_all, fragment_in, joined, items_effects, tracks_in};
 ghost use Rattle.mp4_grammar.specs.Kinds.{most_moof, most_moov};
 ghost use Rattle.mp4_grammar.specs.LinesByRows.{first_is_sync, line_of, rows_in, traf_boxes, traf_in};
 ghost use Rattle.mp4_grammar.specs.Meanings.{Fragment, Meaning, counted_in};
@@ -180,6 +180,17 @@ pub fn records_have_what_their_lines_have()
 pub fn records_fit_their_fields()
     ensures { (f : Fragment) → IsAccepted f →
         AllByRecursion (λ t. IsRecord (traf_record f t)) (moof_trafs f.moof f.tracks) }
+{}
+
+/// A fragment whose moof and mdat are whole and break no rule is accepted, for each operation. Such items leave the
+/// numbers of the tracks in their bits; a stream begins without tracks.
+pub fn sound_fragments_are_accepted()
+    ensures accepted { (meaning : Meaning) (c : Context) (moof mdat : OneBox) → IsBytes (moof.bytes ++ mdat.bytes) →
+        AllByRecursion IsTrack (tracks_in c) → IsSound meaning c (MovieFragment moof mdat) →
+        c.at + length (moof.bytes ++ mdat.bytes) ≤ longest → IsAccepted (fragment_in c moof mdat) }
+    ensures tracks { (meaning : Meaning) (c : Context) (is : List Item) → IsBytes (joined is) →
+        AllByRecursion IsTrack (tracks_in c) → AreSound meaning c is → c.at + length (joined is) ≤ longest →
+        AllByRecursion IsTrack (tracks_in (context_after_all meaning c is)) }
 {}
 
 /// The text of each stream that is listed by records is the records of fragments that are accepted: bytes of one record
