@@ -4,11 +4,11 @@ ghost use Rattle.std.specs.Prelude.{◌≡◌, count_by};
 ghost use Rattle.std.specs.Str.{bytes_eq};
 ghost use Rattle.mp4_box.specs.Trees.{children, view};
 
+use mp4_box::vectors::V1;
 use mp4_box::{
     BoxRef, Fault, FourCc, Header, Rule, Size, Walk, check_tree, full, header_of, i32_at, is_box,
     u32_at, u64_at, whole_box,
 };
-use mp4_vectors::V1;
 use std::process::Abort;
 use std::test::Fail;
 

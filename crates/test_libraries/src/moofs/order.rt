@@ -1,11 +1,11 @@
 //! The order in which the runs of a moof are taken, and where they may lie.
 
 use super::{TFDT, TFHD, fault, moof_of, push_box};
+use mp4_box::vectors::{V1, V2, V3};
 use mp4_box::{Fault, Rule, is_box};
 use mp4_frag::{Moof, Payload, Steps};
 use mp4_init::{TrackList, tracks};
 use mp4_ledger::{Ledger, Refused};
-use mp4_vectors::{V1, V2, V3};
 use std::alloc::Global;
 use std::process::Abort;
 use std::test::Fail;

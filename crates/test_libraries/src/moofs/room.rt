@@ -1,12 +1,12 @@
 //! Whether there is room for the numbers of the pieces of a moof.
 
 use super::{TFDT, TFHD, TRUN, fault, moof_of, one_traf, push_box, traf_of};
+use mp4_box::vectors::{V1, V2};
 use mp4_box::{Fault, Rule, is_box};
 use mp4_frag::{Moof, Steps};
 use mp4_init::{TrackList, tracks};
 use mp4_ledger::Ledger;
 use mp4_pieces::{Cut, room};
-use mp4_vectors::{V1, V2};
 use std::alloc::Global;
 use std::process::Abort;
 use std::test::Fail;

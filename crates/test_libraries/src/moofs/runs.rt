@@ -4,10 +4,10 @@ ghost use Rattle.std.specs.Prelude.{◌≡◌, ◌<◌, ◌+◌, ◌*◌, ◌^�
 ghost use Rattle.mp4_frag.specs.Moofs.{IsRead};
 
 use mp4_box::is_box;
+use mp4_box::vectors::{V1, V2, V3};
 use mp4_frag::{Moof, Payload, Run, RunOfMoof, SingleRun, Steps};
 use mp4_init::{TrackList, tracks};
 use mp4_ledger::Ledger;
-use mp4_vectors::{V1, V2, V3};
 use std::alloc::Global;
 use std::test::Fail;
 

@@ -4,10 +4,10 @@ ghost use Rattle.std.specs.Prelude.{◌≡◌, length};
 
 use super::{TFDT, TFHD, TRUN, moof_of, one_traf, push_box};
 use mp4_box::is_box;
+use mp4_box::vectors::{V1, V2, V3};
 use mp4_frag::{Moof, Run, Steps};
 use mp4_init::{TrackList, tracks};
 use mp4_ledger::Ledger;
-use mp4_vectors::{V1, V2, V3};
 use std::alloc::Global;
 use std::process::Abort;
 use std::test::Fail;

@@ -2,8 +2,8 @@
 
 use super::pieces::{NO_SYNC, outcome_of, trun_of};
 use super::{TFDT, TFHD, one_traf};
+use mp4_box::vectors::V1;
 use mp4_pieces::Cut;
-use mp4_vectors::V1;
 use std::alloc::Global;
 use std::process::Abort;
 use std::test::Fail;

@@ -11,6 +11,7 @@ ghost use Rattle.mp4_traf.specs.Ranges.{AreRunsOf, IsRunOf};
 
 use super::{TFDT, TFHD, TRUN, one_traf, push_box};
 use mp4_box::is_box;
+use mp4_box::vectors::V1;
 use mp4_cut::{
     Cut, Pieces, WriteFault, group_len, put_moof, room, write_index, write_mdat_header, write_moof,
 };
@@ -20,7 +21,6 @@ use mp4_frag::{Moof, Run, Steps, Traf};
 use mp4_init::{TrackList, tracks};
 use mp4_ledger::Ledger;
 use mp4_machine::{BLOCK_BYTES, Block};
-use mp4_vectors::V1;
 use std::alloc::Global;
 use std::process::Abort;
 use std::test::Fail;

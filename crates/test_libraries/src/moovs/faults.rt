@@ -2,7 +2,7 @@
 
 use super::{Outcome, fault, grown, outcome};
 use mp4_box::Rule;
-use mp4_vectors::{V1, V2};
+use mp4_box::vectors::{V1, V2};
 use std::alloc::Global;
 use std::process::Abort;
 use std::test::Fail;

@@ -3,10 +3,10 @@
 ghost use Rattle.std.specs.Prelude.{◌*◌, ◌≤◌, length, IfSome};
 
 use super::{check, fault, grown, push_all};
+use mp4_box::vectors::{V1, V2};
 use mp4_box::{Rule, is_box};
 use mp4_init::{InitStop, Track, TrackList, tracks};
 use mp4_ledger::{Ledger, Refused};
-use mp4_vectors::{V1, V2};
 use std::alloc::Global;
 use std::test::Fail;
 

@@ -6,8 +6,8 @@ ghost use Rattle.mp4_stream.specs.BoxFeeders.{held_by};
 
 use super::{FTYP, MDAT, MOOF, MOOV, listing_of};
 use mp4_stream::ends::ToVec;
+use mp4_stream::vectors::V1;
 use mp4_stream::{BoxFeeder, Fault, FourCc, Ledger, Rule, Stop, Totals};
-use mp4_vectors::V1;
 use std::alloc::Global;
 use std::process::Abort;
 use std::test::Fail;

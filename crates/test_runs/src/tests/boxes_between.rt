@@ -3,7 +3,7 @@
 use super::joined;
 use super::splits::{BY_TWO, by_two, check_good};
 use super::wanted::{SYNC, piece_at, push_fragment};
-use mp4_vectors::V1;
+use mp4_stream::vectors::V1;
 use std::alloc::Global;
 use std::process::Abort;
 use std::test::Fail;

@@ -5,7 +5,7 @@ ghost use Rattle.std.specs.Prelude.{◌≡◌};
 use super::fragments::{COUNTS, SAMPLES};
 use super::splits::by_two;
 use super::{FTYP, Given, MDAT, MOOF, MOOV, check_run, listing_of};
-use mp4_vectors::V1;
+use mp4_stream::vectors::V1;
 use std::alloc::{AllocError, Global};
 use std::io::Write;
 use std::process::Abort;

@@ -4,7 +4,7 @@
 use super::fragments::check_fault;
 use super::layouts::{MFHD, TFHD};
 use super::{check_words, joined};
-use mp4_vectors::V1;
+use mp4_stream::vectors::V1;
 use std::alloc::{AllocError, Global};
 use std::process::Abort;
 use std::test::Fail;

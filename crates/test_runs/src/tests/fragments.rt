@@ -1,7 +1,7 @@
 //! Samples that are listed, and streams that are checked.
 
 use super::check_words;
-use mp4_vectors::{V1, V2};
+use mp4_stream::vectors::{V1, V2};
 use std::alloc::Global;
 use std::process::Abort;
 use std::test::Fail;

@@ -2,7 +2,7 @@
 
 use super::check_words;
 use super::fragments::{COUNTS, SAMPLES, check_fault, check_sound};
-use mp4_vectors::{V1, V2, V3};
+use mp4_stream::vectors::{V1, V2, V3};
 use std::test::Fail;
 
 /// The first vector's mfhd, and the tfhd of its traf.

@@ -1,7 +1,7 @@
 //! What is listed, and the faults of streams.
 
 use super::{FTYP, MDAT, MOOF, MOOV, check_rows};
-use mp4_vectors::V1;
+use mp4_stream::vectors::V1;
 use std::test::Fail;
 
 #[test]

@@ -5,7 +5,7 @@ use super::joined;
 use super::layouts::{MFHD, TFHD};
 use super::splits::{BY_TWO, by_two, check_bad, check_good};
 use super::wanted::{SYNC, piece_at, recut};
-use mp4_vectors::V1;
+use mp4_stream::vectors::V1;
 use std::alloc::{AllocError, Global};
 use std::test::Fail;
 

@@ -3,7 +3,7 @@
 use super::layouts::{MFHD, TFHD};
 use super::wanted::{OTHER, SYNC, Wanted, lasting, piece_at, push_fragment, recut};
 use super::{check_bytes, check_words, joined};
-use mp4_vectors::{V1, V2, V3};
+use mp4_stream::vectors::{V1, V2, V3};
 use std::alloc::{AllocError, Global};
 use std::process::Abort;
 use std::test::Fail;

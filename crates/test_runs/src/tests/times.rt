@@ -3,7 +3,7 @@
 use super::joined;
 use super::splits::check_good;
 use super::wanted::{OTHER, SYNC, Wanted, piece_at, recut};
-use mp4_vectors::{V1, V2};
+use mp4_stream::vectors::{V1, V2};
 use std::alloc::{AllocError, Global};
 use std::process::Abort;
 use std::test::Fail;

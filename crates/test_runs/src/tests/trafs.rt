@@ -5,8 +5,8 @@ ghost use Rattle.mp4_stream.specs.Feeders.{held_by};
 
 use super::{check_words, joined};
 use mp4_stream::ends::ToVec;
+use mp4_stream::vectors::{V1, V2};
 use mp4_stream::{Command, Feeder, Ledger, Operation, Stop, Totals};
-use mp4_vectors::{V1, V2};
 use std::alloc::Global;
 use std::process::Abort;
 use std::test::Fail;

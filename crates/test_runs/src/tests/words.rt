@@ -1,7 +1,7 @@
 //! Words and statuses.
 
 use super::{FTYP, Given, MDAT, MOOF, MOOV, check_run, listing_of};
-use mp4_vectors::V1;
+use mp4_stream::vectors::V1;
 use std::test::Fail;
 
 #[test]

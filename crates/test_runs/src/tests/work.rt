@@ -3,8 +3,8 @@
 use super::joined;
 use super::layouts::MFHD;
 use mp4_stream::ends::FromSlice;
+use mp4_stream::vectors::V1;
 use mp4_stream::{Fault, FourCc, Ledger, Rule, Stop, Totals, check};
-use mp4_vectors::V1;
 use std::alloc::{AllocError, Global};
 use std::test::Fail;
 
