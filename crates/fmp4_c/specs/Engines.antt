@@ -126,12 +126,13 @@ Fed task b given BadListing r = ⊥
 abbrev pub step_of : (share free : ℕ) → ℕ
 step_of share free = if eqb share 0 then 2 ^ 64 - 1 else max 1 (free / share)
 
--- how many bytes a feed takes of the input where the stream goes on: none while more than half of the room is filled
+-- how many bytes a feed takes of the input where the stream goes on: none while more than half of the room is filled,
+-- which it answers only where there is input
 pub record IsPortion (r : Run) (input : List ℕ) (taken : ℕ) (answer : Answer) : Type 0 where
   pub filled : r.waiting.room < 2 * length r.waiting.bytes → (taken ≡ 0) × ((input ≡ [] → ⊥) → answer ≡ Full)
   pub free : 2 * length r.waiting.bytes ≤ r.waiting.room → taken ≡ min (length input) (step_of r.share (r.waiting.room - length r.waiting.bytes))
   pub done : answer ≡ Done → taken ≡ 0 → input ≡ []
-  pub full : answer ≡ Full → (taken ≡ 0) × (r.waiting.room < 2 * length r.waiting.bytes)
+  pub full : answer ≡ Full → (taken ≡ 0) × (r.waiting.room < 2 * length r.waiting.bytes) × (input ≡ [] → ⊥)
 
 -- ---- reports
 

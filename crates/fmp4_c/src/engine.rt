@@ -192,7 +192,8 @@ impl Engine {
             Stopped task b given a self.old → (result.taken ≡ 0) × (result.answer ≡ a) ×
             Stopped task b (given ++ take result.given buffer.new) a self.new }
         ensures ended { self.old.feeding ≡ None →
-            (result ≡ record { taken = 0; given = 0; answer = Answer.Ended }) × (self.new ≡ self.old) }
+            (result ≡ record { taken = 0; given = 0; answer = Answer.Ended }) ×
+            (self.new ≡ self.old) × (buffer.new ≡ buffer.old) }
         ensures claims { (task : Task) → (b given : List ℕ) → Holds task b given self.old →
             ClaimsWithin task (b ++ take result.taken input.now) self.new.feeding }
         ensures fits { (task : Task) → (b given : List ℕ) → Holds task b given self.old →

@@ -119,10 +119,10 @@ pub extern "C" fn fmp4_feed_take(
         IfSome stream.new.handle.held (IsKept r) }
     ensures ended { (r : Run) → stream.old.handle.held ≡ Some r → r.feeding ≡ None →
         (result ≡ number_of Answer.Ended) × (taken.new ≡ 0) × (given.new ≡ 0) ×
-        (stream.new.handle.held ≡ Some r) }
+        (out.new ≡ out.old) × (stream.new.handle.held ≡ Some r) }
     ensures closed { stream.old.handle.held ≡ None →
         (result ≡ number_of (at_rest stream.old.closed)) × (taken.new ≡ 0) × (given.new ≡ 0) ×
-        (stream.new.handle.held ≡ None) }
+        (out.new ≡ out.old) × (stream.new.handle.held ≡ None) }
     ensures rests { stream.new.closed ≡ stream.old.closed }
 {
     match replace(&mut stream.handle, Handle::none()).into_box(alloc) {

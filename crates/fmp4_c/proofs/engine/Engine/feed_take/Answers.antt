@@ -43,7 +43,7 @@ returns-then-leaves_all-clause-portion c = rw c.passed-then-leaves_all.ensures.i
       filled = λ over. (c.portion-portion.ensures.filled over, λ some. refl);
       free = c.portion-portion.ensures.free;
       done = search rules;
-      full = λ f. (all.0, c.portion-portion.ensures.none all.0 all.1);
+      full = λ f. (all.0, c.portion-portion.ensures.none all.0 all.1, λ e. omega (arith, all.1, ap length e));
     })))
 
 pub returns-else-leaves_all-clause-feeds : goal.returns-else-leaves_all-clause-feeds
