@@ -8,8 +8,8 @@
 # make uninstall    removes these
 # make dist         packs what install installs: a tar.gz, and Debian packages
 # make clean        removes all that was built
-# install, uninstall, clean and manual need no Rattle, nor does c_tests where program and library are built. The other
-# targets are for working on fmp4.
+# install, uninstall, clean and manual need no Rattle, nor do c_tests, recipes, recuts and play where program and library
+# are built. The other targets are for working on fmp4.
 IN ?= crates/test_streams/data/audio.mp4
 SAMPLES ?= 15
 PREFIX ?= /usr/local
@@ -26,7 +26,7 @@ WITH_VERSION = sed "1s/ fmp4 / \"fmp4 $$(cat VERSION)\" /; s/^The number in VERS
 PUT = install -m 644 /dev/stdin
 
 .PHONY: demo build lib c_tests bench_jobs test mutants install install_lib uninstall dist clean \
-    refusals recipes recuts play manual bench bench_instructions
+    refusals program recipes recuts play manual bench bench_instructions
 
 demo:
 	@scripts/demo "$(IN)" "$(SAMPLES)"
@@ -64,10 +64,13 @@ mutants: build
 
 install:
 	@test -x crates/fmp4/out/fmp4 || { echo "there is no crates/fmp4/out/fmp4: run 'make build' first" >&2; exit 1; }
+	@command -v strip > /dev/null || { echo "there is no strip on the PATH, which binutils has" >&2; exit 1; }
 	install -d "$(SHARE)/man/man1" "$(SHARE)/bash-completion/completions" "$(SHARE)/zsh/site-functions" \
 	    "$(SHARE)/fish/vendor_completions.d" "$(BIN)"
 	install -s -m 755 crates/fmp4/out/fmp4 "$(BIN)/fmp4"
+	install -m 755 scripts/playlist "$(BIN)/fmp4-playlist"
 	$(WITH_VERSION) docs/fmp4.1 | $(PUT) "$(SHARE)/man/man1/fmp4.1"
+	$(WITH_VERSION) docs/fmp4-playlist.1 | $(PUT) "$(SHARE)/man/man1/fmp4-playlist.1"
 	install -m 644 completions/fmp4.bash "$(SHARE)/bash-completion/completions/fmp4"
 	install -m 644 completions/_fmp4 "$(SHARE)/zsh/site-functions/_fmp4"
 	install -m 644 completions/fmp4.fish "$(SHARE)/fish/vendor_completions.d/fmp4.fish"
@@ -76,6 +79,7 @@ install:
 # Puts the C library with its header, manual page and fmp4.pc below PREFIX.
 install_lib:
 	@test -e c/out/libfmp4.a || { echo "there is no c/out/libfmp4.a: run 'make lib' first" >&2; exit 1; }
+	@command -v strip > /dev/null || { echo "there is no strip on the PATH, which binutils has" >&2; exit 1; }
 	install -d "$(LIB)/pkgconfig" "$(INCLUDE)" "$(SHARE)/man/man3"
 	install -m 644 c/out/libfmp4.a "$(LIB)/libfmp4.a"
 	strip --strip-debug "$(LIB)/libfmp4.a"
@@ -86,14 +90,18 @@ install_lib:
 	sed "s|@VERSION@|$$(cat VERSION)|; s|@LIBDIR@|$(LIBDIR)|; s|@UP@|$(UP)|" c/fmp4.pc.in | \
 	    $(PUT) "$(LIB)/pkgconfig/fmp4.pc"
 	$(WITH_VERSION) docs/fmp4.3 | $(PUT) "$(SHARE)/man/man3/fmp4.3"
-	@if [ -z "$(DESTDIR)" ]; then echo "run ldconfig, as root: then programs find $(LIB)/libfmp4.so.0" >&2; fi
+	@if [ -z "$(DESTDIR)" ]; then scripts/found_by "$(PREFIX)" "$(LIB)" >&2; fi
 
-# Removes what install and install_lib put there.
+# Removes what install and install_lib put there, and the folders that are empty then.
 uninstall:
-	rm -f "$(BIN)/fmp4" "$(SHARE)/man/man1/fmp4.1" "$(SHARE)/bash-completion/completions/fmp4" \
-	    "$(SHARE)/zsh/site-functions/_fmp4" "$(SHARE)/fish/vendor_completions.d/fmp4.fish" "$(LIB)/libfmp4.a" \
-	    "$(LIB)/libfmp4.so" "$(LIB)/libfmp4.so.0" "$(LIB)/pkgconfig/fmp4.pc" "$(INCLUDE)/fmp4.h" "$(INCLUDE)/fmp4.hpp" \
-	    "$(SHARE)/man/man3/fmp4.3"
+	rm -f "$(BIN)/fmp4" "$(BIN)/fmp4-playlist" "$(SHARE)/man/man1/fmp4.1" "$(SHARE)/man/man1/fmp4-playlist.1" \
+	    "$(SHARE)/bash-completion/completions/fmp4" "$(SHARE)/zsh/site-functions/_fmp4" \
+	    "$(SHARE)/fish/vendor_completions.d/fmp4.fish" "$(LIB)/libfmp4.a" "$(LIB)/libfmp4.so" "$(LIB)/libfmp4.so.0" \
+	    "$(LIB)/pkgconfig/fmp4.pc" "$(INCLUDE)/fmp4.h" "$(INCLUDE)/fmp4.hpp" "$(SHARE)/man/man3/fmp4.3"
+	@for folder in "$(SHARE)/man/man1" "$(SHARE)/man/man3" "$(SHARE)/man" "$(SHARE)/bash-completion/completions" \
+	    "$(SHARE)/bash-completion" "$(SHARE)/zsh/site-functions" "$(SHARE)/zsh" "$(SHARE)/fish/vendor_completions.d" \
+	    "$(SHARE)/fish" "$(SHARE)" "$(LIB)/pkgconfig" "$(LIB)" "$(INCLUDE)" "$(BIN)" "$(DESTDIR)$(PREFIX)"; do \
+	    rmdir "$$folder" 2> /dev/null || true; done
 
 # Packs what install installs, for machines without Rattle.
 dist: build lib
@@ -107,18 +115,23 @@ clean:
 refusals: build bench_jobs
 	@scripts/refused_allocations
 
-# Runs the command lines of the recipes and of the front page, compares what they print, and runs the manual page's
-# examples.
-recipes: build
-	@scripts/recipes docs/RECIPES.md README.md docs/fmp4.1
+# Builds the program, where there is an rt.
+program:
+	@if command -v rt > /dev/null; then $(MAKE) -s build; fi
+
+# Runs the command lines of the recipes and of the front page, compares what they print, and runs the examples of the
+# manual pages.
+recipes: program
+	@scripts/recipes docs/RECIPES.md README.md docs/fmp4.1 docs/fmp4-playlist.1
 
 # Recuts ffmpeg's streams in many ways, and checks what is written by a parser of its own.
-recuts: build
+recuts: program
 	@scripts/recut_real_streams
 
-# Plays recut streams in the clients that are installed.
-play: build
+# Recuts ffmpeg's streams, plays recut streams in the clients that are installed, and has these read playlists.
+play: recuts
 	@scripts/play
+	@scripts/play_playlists
 
 # Formats the manual page and checks that all is there.
 manual:
