@@ -23,6 +23,10 @@
  * No call may be made in a signal handler, or in the forked child of a process with threads. A call blocks on nothing,
  * and ends. None was seen to need more than 256 KiB of stack: threads of musl have 128 KiB if they aren't given more.
  *
+ * The library runs on x86-64 and Linux, with glibc 2.14 or later or with musl, and this header wants C99 or C++11. A
+ * stack trace ends within the library, which has neither frame pointers nor tables for unwinding: perf's
+ * --call-graph=lbr, or a breakpoint at the exported function, shows who called.
+ *
  * Memory comes from malloc, realloc and free, which must be one allocator's, and align a block to each power of two up
  * to 16 that divides its size. A stream asks for at most `limit` bytes for its boxes and its output together, and some
  * 20 KiB beside them for its state. No media is kept but in the output that waits.
@@ -65,10 +69,6 @@ struct fmp4_report {
     uint64_t reserved[4]; /* for what later libraries of the same soname report; begin a report as zeros */
 };
 
-/* The sizes of both, which an open compares with those of the library: FMP4_BAD_LAYOUT says that the caller was
- * compiled with another header, or declares them otherwise. */
-#define FMP4_LAYOUT ((uint32_t)(sizeof(struct fmp4_stream) << 16 | sizeof(struct fmp4_report)))
-
 /* How a stream is cut. Begin it as zeros, which ask for nothing. All limits hold together, but a sample that passes one
  * is a fragment by itself. */
 struct fmp4_cut {
@@ -94,6 +94,11 @@ struct fmp4_fragment {
     uint32_t reserved;
 };
 
+/* The sizes of three of these, which an open compares with those of the library: FMP4_BAD_LAYOUT says that the caller
+ * was compiled with another header, or declares them otherwise. */
+#define FMP4_LAYOUT \
+    ((uint32_t)(sizeof(struct fmp4_fragment) << 24 | sizeof(struct fmp4_stream) << 16 | sizeof(struct fmp4_report)))
+
 /* What a call answers. */
 enum fmp4_answer {
     FMP4_OK = 0,
@@ -118,7 +123,8 @@ enum fmp4_answer {
     FMP4_BAD_FLAGS = 22,    /* flags that aren't known, or exclude each other; reserved words that aren't 0 */
     FMP4_BAD_ROOM = 23,     /* a room of 0 */
     FMP4_BAD_LAYOUT = 24,   /* structs of other sizes than the library's */
-    FMP4_BAD_LISTING = 25   /* a listing that isn't known, or a record of a stream that isn't listed by records */
+    FMP4_BAD_LISTING = 25   /* a listing that isn't known, a record of a stream that isn't listed by records, or bytes
+                               of one that is */
 };
 
 /* Flags of a cut. */
@@ -187,22 +193,32 @@ uint32_t fmp4_feed(struct fmp4_stream *FMP4_RESTRICT stream, const uint8_t *FMP4
  * *given says how many bytes of output, less than `size` only where no more wait; what doesn't fit waits. So a loop
  * over an input sees FMP4_FULL only where `out` is smaller than what waits, and calls again. An `out` of twice the
  * input serves best: what doesn't fit is copied once more. The call that stops with FMP4_NO_ROOM has filled `out` and
- * the room. A stream that has stopped still gives what waits. What lies after the *given bytes in `out` may change.
- *   As fmp4_feed; *given is 0 where it misuses the stream */
+ * the room. A stream that has stopped still gives what waits. What lies after the *given bytes in `out` may change. A
+ * stream that is listed by records is fed by fmp4_feed alone.
+ *   As fmp4_feed; FMP4_BAD_LISTING; *given is 0 where it misuses the stream */
 uint32_t fmp4_feed_take(struct fmp4_stream *FMP4_RESTRICT stream, const uint8_t *FMP4_RESTRICT input, size_t len,
                         size_t *FMP4_RESTRICT taken, uint8_t *FMP4_RESTRICT out, size_t size,
                         size_t *FMP4_RESTRICT given);
 
 /* Copies output to `out`: *taken says how many bytes, less than `len` only where no more wait. After a stop and after
- * fmp4_finish too, until the stream is closed.
- *   FMP4_NOT_OPEN, FMP4_CLOSED */
+ * fmp4_finish too, until the stream is closed. Of a stream that is listed by records it takes nothing.
+ *   FMP4_NOT_OPEN, FMP4_CLOSED, FMP4_BAD_LISTING */
 uint32_t fmp4_take(struct fmp4_stream *FMP4_RESTRICT stream, uint8_t *FMP4_RESTRICT out, size_t len,
                    size_t *FMP4_RESTRICT taken);
 
+/* Copies output to `out`, which still waits then: *count says how many bytes, less than `len` only where no more wait.
+ * So one buffer serves all streams of a thread: peek, send what goes, and skip that.
+ *   As fmp4_take */
+uint32_t fmp4_peek(struct fmp4_stream *FMP4_RESTRICT stream, uint8_t *FMP4_RESTRICT out, size_t len,
+                   size_t *FMP4_RESTRICT count);
+
+/* Drops `len` bytes of the output that waits, from its front: *count says how many, fewer only where no more wait.
+ *   As fmp4_take */
+uint32_t fmp4_skip(struct fmp4_stream *FMP4_RESTRICT stream, size_t len, size_t *FMP4_RESTRICT count);
+
 /* Takes the next record of a stream that is listed by records. After a stop and after fmp4_finish too. Where fmp4_feed
  * answers FMP4_FULL, take records, until FMP4_NO_RECORD: after FMP4_NO_ROOM the front of a record can wait for good,
- * so fmp4_pending need not come to 0. fmp4_take gives records as bytes: the fields in their order, big-endian, 64 bytes
- * each.
+ * so fmp4_pending need not come to 0. No other call takes records, or a part of one.
  *   FMP4_NO_RECORD: none waits; FMP4_NOT_OPEN, FMP4_CLOSED, FMP4_BAD_LISTING. The record is left as it was */
 uint32_t fmp4_next_fragment(struct fmp4_stream *FMP4_RESTRICT stream, struct fmp4_fragment *FMP4_RESTRICT fragment);
 
@@ -273,6 +289,10 @@ static inline uint32_t fmp4_take_any(struct fmp4_stream *stream, uint8_t *out, s
     uint8_t none = 0;
     return fmp4_take(stream, len ? out : &none, len, taken);
 }
+static inline uint32_t fmp4_peek_any(struct fmp4_stream *stream, uint8_t *out, size_t len, size_t *count) {
+    uint8_t none = 0;
+    return fmp4_peek(stream, len ? out : &none, len, count);
+}
 static inline size_t fmp4_rule_name_any(uint32_t rule, char *name, size_t len) {
     char none = 0;
     return fmp4_rule_name(rule, len ? name : &none, len);
@@ -284,6 +304,7 @@ static inline size_t fmp4_answer_name_any(uint32_t answer, char *name, size_t le
 #define fmp4_feed fmp4_feed_any
 #define fmp4_feed_take fmp4_feed_take_any
 #define fmp4_take fmp4_take_any
+#define fmp4_peek fmp4_peek_any
 #define fmp4_rule_name fmp4_rule_name_any
 #define fmp4_answer_name fmp4_answer_name_any
 

@@ -79,6 +79,34 @@ static void cut() {
     WANT(out.size() == 364 + 92 + 3 * 16 + 23 && out.compare(0, 364, in, 0, 364) == 0 && out.compare(out.size() - 23, 23, in, 460, 23) == 0);
 }
 
+// Output that is copied, and dropped in part; output whose writer throws, which is lost; a buffer of the caller's.
+static void sent() {
+    fmp4::stream stream;
+    fmp4_report report{};
+    std::uint8_t front[64], own[32];
+    std::size_t count = 0, gone = 0;
+    WANT(stream.list(FMP4_FRAGMENTS, 1 << 20, 4096) == FMP4_OK);
+    auto input = reinterpret_cast<const std::uint8_t *>(in.data());
+    for (std::size_t at = 0, taken = 0; at < in.size(); at += taken) WANT(fmp4_feed(stream.get(), input + at, in.size() - at, &taken) == FMP4_OK);
+    out.clear();
+    while (stream.peek(front, sizeof front, count) == FMP4_OK && count) {
+        WANT(stream.skip((count + 1) / 2, gone) == FMP4_OK && gone == (count + 1) / 2);
+        out.append(reinterpret_cast<const char *>(front), gone);
+    }
+    WANT(out == lines && stream.reset() == FMP4_OK);
+    stream.buffer(own, sizeof own);
+    gives(stream, lines);
+    bool is_thrown = false;
+    try { (void)stream.feed(in, [](fmp4::bytes) { throw 7; }); } catch (int seven) { is_thrown = seven == 7; }
+    WANT(is_thrown && stream.feed(in, write) == FMP4_CLOSED && stream.finish(report, write) == FMP4_CLOSED && stream.reset() == FMP4_OK);
+    gives(stream, lines);
+    unsigned seen = 0;
+    fmp4::stream of_records;
+    WANT(of_records.list(FMP4_RECORDS, 1 << 20, 128) == FMP4_OK && of_records.feed(in, write) == FMP4_BAD_LISTING);
+    WANT(of_records.feed_records(in, [&](const fmp4_fragment &f) { seen += f.offset == 364 && f.samples == 3; }) == FMP4_OK && seen == 1);
+    WANT(of_records.peek(front, sizeof front, count) == FMP4_BAD_LISTING && of_records.skip(1, gone) == FMP4_BAD_LISTING);
+}
+
 int main() {
     static char input[4096];
     in.assign(input, std::fread(input, 1, sizeof input, stdin));
@@ -87,6 +115,7 @@ int main() {
     records();
     checked();
     cut();
+    sent();
     std::puts("calls: each function of fmp4.hpp as the stream has it");
     return 0;
 }

@@ -112,20 +112,6 @@ static void append_words(struct bytes *to, const uint32_t *words, size_t count) 
         append(to, (unsigned char[]){words[i] >> 24, words[i] >> 16 & 255, words[i] >> 8 & 255, words[i] & 255}, 4);
 }
 
-static void append_long(struct bytes *to, uint64_t number) {
-    append_words(to, (uint32_t[]){number >> 32, (uint32_t)number}, 2);
-}
-
-/* A record as output: its fields in their order, the highest byte first. */
-static void append_record(struct bytes *to, const struct fmp4_fragment *r) {
-    append_long(to, r->offset);
-    append_long(to, r->size);
-    append_long(to, r->decode_time);
-    append_long(to, r->duration);
-    append_long(to, r->media_bytes);
-    append_words(to, (uint32_t[]){r->sequence, r->track, r->timescale, r->samples, r->is_sync, 0}, 6);
-}
-
 static void same_record(const struct fmp4_fragment *a, const struct fmp4_fragment *b) {
     WANT(a->offset == b->offset && a->size == b->size && a->decode_time == b->decode_time && a->duration == b->duration);
     WANT(a->media_bytes == b->media_bytes && a->sequence == b->sequence && a->track == b->track && a->timescale == b->timescale);
@@ -141,9 +127,24 @@ static void list_muxed(const struct bytes *stream, uint32_t listing, size_t step
     WANT(r.report.fragments == 3 && r.report.samples == 7 && r.report.media_bytes == 36);
 }
 
+/* Bytes aren't taken, copied or dropped of records, nor is a stream of records fed by the call that takes bytes. */
+static void no_bytes(struct fmp4_stream *listing) {
+    unsigned char out[10] = {7};
+    size_t before = 0, after = 0, n = 9, given = 9;
+    WANT(fmp4_pending(listing, &before) == FMP4_OK);
+    WANT(fmp4_take(listing, out, sizeof out, &n) == FMP4_BAD_LISTING && n == 0);
+    n = 9;
+    WANT(fmp4_peek(listing, out, sizeof out, &n) == FMP4_BAD_LISTING && n == 0);
+    n = 9;
+    WANT(fmp4_skip(listing, 10, &n) == FMP4_BAD_LISTING && n == 0);
+    n = 9;
+    WANT(fmp4_feed_take(listing, out, 1, &n, out + 1, 9, &given) == FMP4_BAD_LISTING && n == 0 && given == 0 && out[0] == 7);
+    WANT(fmp4_pending(listing, &after) == FMP4_OK && after == before);
+}
+
 static void muxed_stream(size_t step) {
     enum { COUNT = sizeof muxed_records / sizeof *muxed_records };
-    struct bytes stream = {0}, raw = {0}, got = {0};
+    struct bytes stream = {0}, got = {0};
     struct fmp4_stream listing = {0};
     struct fmp4_fragment record = {0};
     size_t taken = 0;
@@ -151,19 +152,16 @@ static void muxed_stream(size_t step) {
     WANT(stream.len == 768 + 100 + 24);
     list_muxed(&stream, FMP4_FRAGMENTS, step, &got);
     WANT(got.len == sizeof muxed_lines - 1 && memcmp(got.at, muxed_lines, got.len) == 0);
-    for (int i = 0; i < COUNT; i++) append_record(&raw, &muxed_records[i]);
-    list_muxed(&stream, FMP4_RECORDS, step, &got);
-    WANT(got.len == 64 * COUNT && raw.len == got.len && memcmp(got.at, raw.at, got.len) == 0);
     WANT(fmp4_list_open(&listing, FMP4_RECORDS, 64u << 20, 1u << 20) == FMP4_OK);
     for (size_t at = 0; at < stream.len; at += taken)
         WANT(fmp4_feed(&listing, stream.at + at, stream.len - at < step ? stream.len - at : step, &taken) == FMP4_OK);
     for (int i = 0; i < COUNT; i++) {
+        if (i == 1) no_bytes(&listing);
         WANT(fmp4_next_fragment(&listing, &record) == FMP4_OK);
         same_record(&record, &muxed_records[i]);
     }
     WANT(fmp4_next_fragment(&listing, &record) == FMP4_NO_RECORD && fmp4_close(&listing) == FMP4_OK);
     free(stream.at);
-    free(raw.at);
     free(got.at);
 }
 

@@ -94,6 +94,7 @@ static void feed_one(struct one *s) {
     if (given) append(&s->out, out, given);
     free(out);
     if (!s->is_changed && !s->is_check) WANT(s->out.len <= whole.len && memcmp(s->out.at, whole.at, s->out.len) == 0);
+    if (takes && s->gives_records && (s->state == OPEN || s->state == STOPPED)) { WANT(answer == FMP4_BAD_LISTING && n == 0 && given == 0); return; }
     if (takes && given < size && (s->state == OPEN || s->state == STOPPED)) WANT(fmp4_pending(&s->stream, &size) == FMP4_OK && size == 0);
     switch (s->state) {
     case NEW: WANT(answer == FMP4_NOT_OPEN && n == 0); break;
@@ -112,8 +113,15 @@ static void feed_one(struct one *s) {
 static void take_one(struct one *s) {
     size_t len = random_to(4) ? random_to(5000) : random_to(3), n = 77;
     unsigned char *out = calloc(len + 1, 1);
-    uint32_t answer = fmp4_take(&s->stream, out, len, &n);
-    WANT(answer == (s->state == NEW ? FMP4_NOT_OPEN : s->state == CLOSED ? FMP4_CLOSED : FMP4_OK) && n <= len);
+    int is_sent = (int)random_to(2);
+    uint32_t answer = is_sent ? fmp4_peek(&s->stream, out, len, &n) : fmp4_take(&s->stream, out, len, &n);
+    WANT(answer == (s->state == NEW ? FMP4_NOT_OPEN : s->state == CLOSED ? FMP4_CLOSED : s->gives_records ? FMP4_BAD_LISTING : FMP4_OK) && n <= len);
+    if (is_sent) {
+        /* A part of what was seen is sent, and dropped. */
+        size_t sent = random_to(n + 1), gone = 77;
+        WANT(fmp4_skip(&s->stream, sent, &gone) == answer && gone == (answer == FMP4_OK ? sent : 0));
+        n = gone;
+    }
     if (answer == FMP4_OK) append(&s->out, out, n);
     if (answer == FMP4_OK && s->is_check) WANT(n == 0);
     if (answer == FMP4_OK && !s->is_changed) WANT(s->out.len <= whole.len && memcmp(s->out.at, whole.at, s->out.len) == 0);

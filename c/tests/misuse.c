@@ -19,6 +19,10 @@ static void all_answer(struct fmp4_stream *s, uint32_t wanted) {
         n = 9;
         WANT(fmp4_take(s, out, sizeof out, &n) == wanted && n == 0);
         n = 9;
+        WANT(fmp4_peek(s, out, sizeof out, &n) == wanted && n == 0);
+        n = 9;
+        WANT(fmp4_skip(s, 1, &n) == wanted && n == 0);
+        n = 9;
         WANT(fmp4_pending(s, &n) == wanted && n == 0);
         uint64_t takes = 9;
         WANT(fmp4_set_limit(s, 1 << 20, &takes) == wanted && takes == 0);
@@ -79,8 +83,8 @@ static void none_opens(struct fmp4_stream *s, uint32_t answer) {
     WANT(fmp4_split_open(s, 1, 0, 0, 1 << 20, 0) == FMP4_BAD_ROOM);
     WANT(fmp4_split_open(s, 1, 0, 0, 4095, 4096) == FMP4_OVER_LIMIT);
     WANT(fmp4_split_open(s, 1, 0, 0, 0, SIZE_MAX) == FMP4_OVER_LIMIT);
-    static const uint32_t layouts[] = {0, FMP4_LAYOUT - 1, FMP4_LAYOUT + (1 << 16), UINT32_MAX};
-    for (int i = 0; i < 4; i++) {
+    static const uint32_t layouts[] = {0, FMP4_LAYOUT - 1, FMP4_LAYOUT + (1 << 16), FMP4_LAYOUT + (8u << 24), UINT32_MAX};
+    for (int i = 0; i < 5; i++) {
         WANT(fmp4_split_open_as(s, layouts[i], 1, 0, 0, 1 << 20, 4096) == FMP4_BAD_LAYOUT);
         WANT(fmp4_check_open_as(s, layouts[i], 1 << 20) == FMP4_BAD_LAYOUT);
         WANT(fmp4_list_open_as(s, layouts[i], FMP4_SAMPLES, 1 << 20, 4096) == FMP4_BAD_LAYOUT);

@@ -13,7 +13,7 @@ SIZE(fmp4_stream, 32);
 SIZE(fmp4_report, 80);
 SIZE(fmp4_fragment, 64);
 SIZE(fmp4_cut, 40);
-NUMBER(FMP4_LAYOUT, 0x200050);
+NUMBER(FMP4_LAYOUT, 0x40200050);
 FIELD(fmp4_report, fragments, 0);
 FIELD(fmp4_report, samples, 8);
 FIELD(fmp4_report, media_bytes, 16);
@@ -103,8 +103,8 @@ static void reports(void) {
     fault("\0\0\0\10free\0\0\0", 11, 1, 0, 8);
 }
 
-/* Feeds the stream byte by byte, and takes what waits: how it ends. */
-static uint32_t ends(struct fmp4_stream *stream) {
+/* Feeds the stream byte by byte, and takes what waits, but of records: how it ends. */
+static uint32_t ends(struct fmp4_stream *stream, uint32_t listing) {
     struct fmp4_report report = {0};
     unsigned char out[1024] = {0};
     uint32_t answer = 0;
@@ -112,7 +112,7 @@ static uint32_t ends(struct fmp4_stream *stream) {
     for (size_t at = 0; at < in.len && answer == 0; at += taken) {
         size_t given = 0;
         answer = fmp4_feed(stream, in.at + at, 1, &taken);
-        WANT(fmp4_take(stream, out, sizeof out, &given) == 0);
+        WANT(fmp4_take(stream, out, sizeof out, &given) == (listing == 3 ? 25 : 0));
     }
     WANT(fmp4_finish(stream, &report) == answer);
     return answer;
@@ -129,9 +129,9 @@ static void limits(void) {
                 uint64_t takes = 0, limit = rooms[i] + boxes;
                 uint32_t wanted = boxes < 408 ? 4 : 0;
                 WANT((listing ? fmp4_list_open(&stream, listing, limit, rooms[i]) : fmp4_split_open(&stream, 2, 0, 0, limit, rooms[i])) == 0);
-                WANT(ends(&stream) == wanted && fmp4_reset(&stream) == 0);
-                WANT(fmp4_set_limit(&stream, 1 << 24, &takes) == 0 && takes == rooms[i] && ends(&stream) == 0 && fmp4_reset(&stream) == 0);
-                WANT(fmp4_set_limit(&stream, limit, &takes) == 0 && takes == rooms[i] && ends(&stream) == wanted);
+                WANT(ends(&stream, listing) == wanted && fmp4_reset(&stream) == 0);
+                WANT(fmp4_set_limit(&stream, 1 << 24, &takes) == 0 && takes == rooms[i] && ends(&stream, listing) == 0 && fmp4_reset(&stream) == 0);
+                WANT(fmp4_set_limit(&stream, limit, &takes) == 0 && takes == rooms[i] && ends(&stream, listing) == wanted);
                 WANT(fmp4_close(&stream) == 0);
             }
 }

@@ -44,13 +44,20 @@ static inline struct bytes read_all(FILE *file) {
     return all;
 }
 
+/* Takes all that waits: bytes, or records. */
 static inline void drain(struct fmp4_stream *stream, struct bytes *to, size_t take) {
+    struct fmp4_fragment fragment;
     unsigned char out[4096];
     size_t n = 0;
     if (take > sizeof out) take = sizeof out;
     memset(out, 0, sizeof out);
     do {
-        WANT(fmp4_take(stream, out, take, &n) == FMP4_OK);
+        uint32_t answer = fmp4_take(stream, out, take, &n);
+        if (answer == FMP4_BAD_LISTING) {
+            while (fmp4_next_fragment(stream, &fragment) == FMP4_OK) append(to, (const unsigned char *)&fragment, sizeof fragment);
+            return;
+        }
+        WANT(answer == FMP4_OK);
         append(to, out, n);
     } while (n == take);
 }

@@ -18,6 +18,7 @@ use crate::answer::Answer;
 use crate::asked::Asked;
 use crate::output::Output;
 use crate::report::{Report, fault_in};
+use crate::results::{Feed, FeedTake, Front};
 use crate::task::Task;
 use crate::task_feeder::TaskFeeder;
 use mp4_grammar::{RECORD_BYTES, TrafRecord};
@@ -58,26 +59,6 @@ impl Model for Engine {
     } };
 
     ghost invariant = { λ e. e.ledger.live ≡ held_in e.feeder };
-}
-
-/// What a feed did.
-#[derive(Clone, Copy)]
-pub struct Feed {
-    /// How many bytes of the input it took.
-    pub taken: usize,
-    /// The answer.
-    pub answer: Answer,
-}
-
-/// What a feed did that takes output at once.
-#[derive(Clone, Copy)]
-pub struct FeedTake {
-    /// How many bytes of the input it took.
-    pub taken: usize,
-    /// How many bytes of output it gave.
-    pub given: usize,
-    /// The answer.
-    pub answer: Answer,
 }
 
 impl Engine {
@@ -181,22 +162,31 @@ impl Engine {
     }
 
     /// Takes output from the front, then feeds the input of the stream, or the front of one, whose output follows in
-    /// the buffer: what doesn't fit waits. After a stop it returns the same, and takes no input.
+    /// the buffer: what doesn't fit waits. After a stop it returns the same, and takes no input. A stream that is listed
+    /// by records is not fed so.
     pub fn feed_take(&mut self, input: &[u8], buffer: &mut [u8]) -> FeedTake
         ensures feeds { (task : Task) → (b given : List ℕ) → Holds task b given self.old →
+            (self.old.task ≡ record_listing → ⊥) →
             Fed task (b ++ take result.taken input.now) (given ++ take result.given buffer.new)
             result.answer self.new }
         ensures portion { (p : TaskFeeder) → self.old.feeding ≡ Some p → stop_of p ≡ None →
+            (self.old.task ≡ record_listing → ⊥) →
             IsPortion (after_take (length buffer.old) self.old) input.now result.taken result.answer }
         ensures stopped { (task : Task) → (b given : List ℕ) → (a : answers.Answer) →
-            Stopped task b given a self.old → (result.taken ≡ 0) × (result.answer ≡ a) ×
+            Stopped task b given a self.old → (self.old.task ≡ record_listing → ⊥) →
+            (result.taken ≡ 0) × (result.answer ≡ a) ×
             Stopped task b (given ++ take result.given buffer.new) a self.new }
         ensures ended { self.old.feeding ≡ None →
             (result ≡ record { taken = 0; given = 0; answer = Answer.Ended }) ×
             (self.new ≡ self.old) × (buffer.new ≡ buffer.old) }
+        ensures records { (p : TaskFeeder) → self.old.feeding ≡ Some p → self.old.task ≡ record_listing →
+            (result ≡ record { taken = 0; given = 0; answer = Answer.BadListing }) ×
+            (self.new ≡ self.old) × (buffer.new ≡ buffer.old) }
         ensures claims { (task : Task) → (b given : List ℕ) → Holds task b given self.old →
+            (self.old.task ≡ record_listing → ⊥) →
             ClaimsWithin task (b ++ take result.taken input.now) self.new.feeding }
         ensures fits { (task : Task) → (b given : List ℕ) → Holds task b given self.old →
+            (self.old.task ≡ record_listing → ⊥) →
             FitsIn task (b ++ take result.taken input.now) self.old (number_of result.answer) }
         ensures room { (task : Task) → (b given : List ℕ) → Holds task b given self.old →
             self.new.waiting.room ≡ self.old.waiting.room }
@@ -204,12 +194,15 @@ impl Engine {
             number_of result.answer ≡ number_of Answer.NoRoom →
             (result.given ≡ length buffer.new) × (length self.new.waiting.bytes ≡ self.new.waiting.room) }
         ensures within { result.given ≤ length buffer.new }
-        ensures most { (p : TaskFeeder) → self.old.feeding ≡ Some p →
+        ensures most { (p : TaskFeeder) → self.old.feeding ≡ Some p → (self.old.task ≡ record_listing → ⊥) →
             result.given < length buffer.new → self.new.waiting.bytes ≡ [] }
         ensures kept { IsKept self.old self.new }
     {
         if self.feeder.is_none() {
             return self.passed(0, 0, Answer::Ended);
+        }
+        if lists_records(self.task) {
+            return self.passed(0, 0, Answer::BadListing);
         }
         let first = self.out.take(buffer);
         let portion = self.portion(input.len());
@@ -255,23 +248,67 @@ impl Engine {
         }
     }
 
-    /// Takes output from the front: how many bytes.
-    pub fn take(&mut self, out: &mut [u8]) -> usize
+    /// Copies output from the front, which stays. Records are no bytes to be copied.
+    pub fn peek(&self, out: &mut [u8]) -> Front
+        ensures done { (self.now.task ≡ record_listing → ⊥) → result ≡ record
+            { count = min (length out.old) (length self.now.waiting.bytes); answer = Answer.Done } }
+        ensures front { take result.count out.new ≡ take result.count self.now.waiting.bytes }
+        ensures rest { drop result.count out.new ≡ drop result.count out.old }
+        ensures records { self.now.task ≡ record_listing →
+            result ≡ record { count = 0; answer = Answer.BadListing } }
+    {
+        if lists_records(self.task) {
+            return Front::of_records();
+        }
+        Front::of_bytes(self.out.peek(out))
+    }
+
+    /// Drops output from the front. Of records none is dropped.
+    pub fn skip(&mut self, count: usize) -> Front
         ensures holds { (task : Task) → (b given : List ℕ) → Holds task b given self.old →
-            Holds task b (given ++ take result out.new) self.new }
+            Holds task b (given ++ take result.count self.old.waiting.bytes) self.new }
         ensures stopped { (task : Task) → (b given : List ℕ) → (a : answers.Answer) →
             Stopped task b given a self.old →
-            Stopped task b (given ++ take result out.new) a self.new }
-        ensures count { result ≡ min (length out.old) (length self.old.waiting.bytes) }
-        ensures front { take result out.new ≡ take result self.old.waiting.bytes }
-        ensures left { self.new.waiting.bytes ≡ drop result self.old.waiting.bytes }
-        ensures rest { drop result out.new ≡ drop result out.old }
+            Stopped task b (given ++ take result.count self.old.waiting.bytes) a self.new }
+        ensures done { (self.old.task ≡ record_listing → ⊥) → result ≡ record
+            { count = min count (length self.old.waiting.bytes); answer = Answer.Done } }
+        ensures left { self.new.waiting.bytes ≡ drop result.count self.old.waiting.bytes }
+        ensures records { self.old.task ≡ record_listing →
+            (result ≡ record { count = 0; answer = Answer.BadListing }) × (self.new ≡ self.old) }
         ensures kept { (self.new.feeding ≡ self.old.feeding) ×
             (self.new.waiting.room ≡ self.old.waiting.room) ×
             (self.new.account ≡ self.old.account) × (self.new.share ≡ self.old.share) ×
             (self.new.reported ≡ self.old.reported) × (self.new.task ≡ self.old.task) }
     {
-        self.out.take(out)
+        if lists_records(self.task) {
+            return Front::of_records();
+        }
+        Front::of_bytes(self.out.skip(count))
+    }
+
+    /// Takes output from the front. Of records none is taken.
+    pub fn take(&mut self, out: &mut [u8]) -> Front
+        ensures holds { (task : Task) → (b given : List ℕ) → Holds task b given self.old →
+            Holds task b (given ++ take result.count out.new) self.new }
+        ensures stopped { (task : Task) → (b given : List ℕ) → (a : answers.Answer) →
+            Stopped task b given a self.old →
+            Stopped task b (given ++ take result.count out.new) a self.new }
+        ensures done { (self.old.task ≡ record_listing → ⊥) → result ≡ record
+            { count = min (length out.old) (length self.old.waiting.bytes); answer = Answer.Done } }
+        ensures front { take result.count out.new ≡ take result.count self.old.waiting.bytes }
+        ensures left { self.new.waiting.bytes ≡ drop result.count self.old.waiting.bytes }
+        ensures rest { drop result.count out.new ≡ drop result.count out.old }
+        ensures records { self.old.task ≡ record_listing →
+            (result ≡ record { count = 0; answer = Answer.BadListing }) × (self.new ≡ self.old) }
+        ensures kept { (self.new.feeding ≡ self.old.feeding) ×
+            (self.new.waiting.room ≡ self.old.waiting.room) ×
+            (self.new.account ≡ self.old.account) × (self.new.share ≡ self.old.share) ×
+            (self.new.reported ≡ self.old.reported) × (self.new.task ≡ self.old.task) }
+    {
+        if lists_records(self.task) {
+            return Front::of_records();
+        }
+        Front::of_bytes(self.out.take(out))
     }
 
     /// Takes a record from the front of the output of a stream that is listed by records. Where none waits, and where
@@ -305,7 +342,7 @@ impl Engine {
             return Answer::NoRecord;
         }
         let mut bytes = [0; RECORD_BYTES];
-        self.take(&mut bytes);
+        self.out.take(&mut bytes);
         *fragment = TrafRecord::of_bytes(&bytes);
         Answer::Done
     }

@@ -4,8 +4,8 @@ ghost use Rattle.std.specs.Prelude.{◌≡◌, ℕ, ◌<◌, ◌≤◌, List, []
 ghost use Rattle.mp4_machine.specs.declared.stop.Stop as stops;
 ghost use Rattle.fmp4_c.specs.Answers.{answer_to, at_rest, number_of, report_from};
 ghost use Rattle.fmp4_c.specs.Calls.{ClaimsIn, FedIn, FinishedIn, HoldsIn, StoppedIn};
-ghost use Rattle.fmp4_c.specs.Engines.{FitsIn, Holds, IsKept, IsPortion, Run, after_take, counted_in, report_of};
-ghost use Rattle.fmp4_c.specs.Tasks.{stop_of};
+ghost use Rattle.fmp4_c.specs.Engines.{FitsIn, Holds, IsKept, IsPortion, Run, Stopped, after_take, counted_in, report_of};
+ghost use Rattle.fmp4_c.specs.Tasks.{record_listing, stop_of};
 ghost use Rattle.fmp4_c.specs.declared.answer.Answer as answers;
 ghost use Rattle.fmp4_c.specs.declared.task.Task.{Task};
 ghost use Rattle.fmp4_c.specs.declared.task_feeder.TaskFeeder.{TaskFeeder};
@@ -75,7 +75,8 @@ pub extern "C" fn fmp4_feed(
 }
 
 /// Takes output from the front, then feeds the input of the stream, or the front of one, whose output follows in the
-/// buffer: what doesn't fit waits. `taken` says how many bytes of the input, `given` how many of the output.
+/// buffer: what doesn't fit waits. `taken` says how many bytes of the input, `given` how many of the output. A stream
+/// that is listed by records is not fed so.
 #[unsafe(no_mangle)]
 pub extern "C" fn fmp4_feed_take(
     alloc: Global,
@@ -85,23 +86,27 @@ pub extern "C" fn fmp4_feed_take(
     out: &mut [u8],
     given: &mut usize,
 ) -> u32
-    ensures feeds { (task : Task) → (b before : List ℕ) →
-        HoldsIn task b before stream.old.handle.held →
+    ensures feeds { (task : Task) → (b before : List ℕ) → (r : Run) →
+        stream.old.handle.held ≡ Some r → (r.task ≡ record_listing → ⊥) → Holds task b before r →
         FedIn task (b ++ take taken.new input.now) (before ++ take given.new out.new) result
         stream.new.handle.held }
     ensures portion { (r : Run) → (p : TaskFeeder) → stream.old.handle.held ≡ Some r →
-        r.feeding ≡ Some p → stop_of p ≡ None → (answer : answers.Answer) ×
+        r.feeding ≡ Some p → stop_of p ≡ None → (r.task ≡ record_listing → ⊥) → (answer : answers.Answer) ×
         (result ≡ number_of answer) ×
         IsPortion (after_take (length out.old) r) input.now taken.new answer }
-    ensures stopped { (task : Task) → (b before : List ℕ) → (a : answers.Answer) →
-        StoppedIn task b before a stream.old.handle.held →
+    ensures stopped { (task : Task) → (b before : List ℕ) → (a : answers.Answer) → (r : Run) →
+        stream.old.handle.held ≡ Some r → (r.task ≡ record_listing → ⊥) → Stopped task b before a r →
         (result ≡ number_of a) × (taken.new ≡ 0) ×
         StoppedIn task b (before ++ take given.new out.new) a stream.new.handle.held }
-    ensures claims { (task : Task) → (b before : List ℕ) →
-        HoldsIn task b before stream.old.handle.held →
+    ensures records { (r : Run) → (p : TaskFeeder) → stream.old.handle.held ≡ Some r →
+        r.feeding ≡ Some p → r.task ≡ record_listing →
+        (result ≡ number_of Answer.BadListing) × (taken.new ≡ 0) × (given.new ≡ 0) ×
+        (out.new ≡ out.old) × (stream.new.handle.held ≡ Some r) }
+    ensures claims { (task : Task) → (b before : List ℕ) → (r : Run) →
+        stream.old.handle.held ≡ Some r → (r.task ≡ record_listing → ⊥) → Holds task b before r →
         ClaimsIn task (b ++ take taken.new input.now) stream.new.handle.held }
     ensures fits { (task : Task) → (b before : List ℕ) → (r : Run) →
-        stream.old.handle.held ≡ Some r → Holds task b before r →
+        stream.old.handle.held ≡ Some r → (r.task ≡ record_listing → ⊥) → Holds task b before r →
         FitsIn task (b ++ take taken.new input.now) r result }
     ensures room { (task : Task) → (b before : List ℕ) → (r : Run) →
         stream.old.handle.held ≡ Some r → Holds task b before r →
@@ -112,7 +117,7 @@ pub extern "C" fn fmp4_feed_take(
         IfSome stream.new.handle.held (λ r'. length r'.waiting.bytes ≡ r'.waiting.room) }
     ensures within { given.new ≤ length out.new }
     ensures most { (r : Run) → (p : TaskFeeder) → stream.old.handle.held ≡ Some r → r.feeding ≡ Some p →
-        given.new < length out.new →
+        (r.task ≡ record_listing → ⊥) → given.new < length out.new →
         IfSome stream.new.handle.held (λ r'. r'.waiting.bytes ≡ []) }
     ensures open { (r : Run) → stream.old.handle.held ≡ Some r → IsSome stream.new.handle.held }
     ensures kept { (r : Run) → stream.old.handle.held ≡ Some r →
@@ -142,7 +147,7 @@ pub extern "C" fn fmp4_feed_take(
     }
 }
 
-/// Takes output from the front: `taken` says how many bytes.
+/// Takes output from the front: `taken` says how many bytes. Of a stream that is listed by records it takes none.
 #[unsafe(no_mangle)]
 pub extern "C" fn fmp4_take(
     alloc: Global,
@@ -156,9 +161,11 @@ pub extern "C" fn fmp4_take(
     ensures stopped { (task : Task) → (b given : List ℕ) → (a : answers.Answer) →
         StoppedIn task b given a stream.old.handle.held →
         StoppedIn task b (given ++ take taken.new out.new) a stream.new.handle.held }
-    ensures done { (r : Run) → stream.old.handle.held ≡ Some r → result ≡ number_of Answer.Done }
-    ensures count { (r : Run) → stream.old.handle.held ≡ Some r →
-        taken.new ≡ min (length out.old) (length r.waiting.bytes) }
+    ensures done { (r : Run) → stream.old.handle.held ≡ Some r → (r.task ≡ record_listing → ⊥) →
+        (result ≡ number_of Answer.Done) ×
+        (taken.new ≡ min (length out.old) (length r.waiting.bytes)) }
+    ensures records { (r : Run) → stream.old.handle.held ≡ Some r → r.task ≡ record_listing →
+        (result ≡ number_of Answer.BadListing) × (taken.new ≡ 0) × (stream.new.handle.held ≡ Some r) }
     ensures front { (r : Run) → stream.old.handle.held ≡ Some r →
         take taken.new out.new ≡ take taken.new r.waiting.bytes }
     ensures open { (r : Run) → stream.old.handle.held ≡ Some r → IsSome stream.new.handle.held }
@@ -177,9 +184,10 @@ pub extern "C" fn fmp4_take(
     match replace(&mut stream.handle, Handle::none()).into_box(alloc) {
         Some(engine) => {
             let mut engine = engine;
-            *taken = engine.take(out);
+            let front = engine.take(out);
             stream.handle = Handle::of(engine);
-            Answer::Done.number()
+            *taken = front.count;
+            front.answer.number()
         }
         None => {
             *taken = 0;

@@ -100,6 +100,29 @@ impl Output {
         self.room - self.len()
     }
 
+    /// Copies bytes of the front, which stay: as many as wait, or as fit.
+    pub(crate) fn peek(&self, out: &mut [u8]) -> usize
+        ensures count { result ≡ min (length out.old) (length self.now.bytes) }
+        ensures front { take result out.new ≡ take result self.now.bytes }
+        ensures rest { drop result out.new ≡ drop result out.old }
+        ensures within { result ≤ length self.now.bytes }
+    {
+        let count = out.len().min(self.bytes.len() - self.at);
+        out[..count].copy_from_slice(&self.bytes[self.at..self.at + count]);
+        count
+    }
+
+    /// Drops bytes of the front: as many as wait, or `count`.
+    pub(crate) fn skip(&mut self, count: usize) -> usize
+        ensures count { result ≡ min count (length self.old.bytes) }
+        ensures left { self.new.bytes ≡ drop result self.old.bytes }
+        ensures room { self.new.room ≡ self.old.room }
+    {
+        let count = count.min(self.len());
+        self.forget(count);
+        count
+    }
+
     /// Takes bytes from the front: as many as wait, or as fit.
     pub(crate) fn take(&mut self, out: &mut [u8]) -> usize
         ensures count { result ≡ min (length out.old) (length self.old.bytes) }
@@ -108,8 +131,7 @@ impl Output {
         ensures left { self.new.bytes ≡ drop result self.old.bytes }
         ensures room { self.new.room ≡ self.old.room }
     {
-        let count = out.len().min(self.bytes.len() - self.at);
-        out[..count].copy_from_slice(&self.bytes[self.at..self.at + count]);
+        let count = self.peek(out);
         self.forget(count);
         count
     }

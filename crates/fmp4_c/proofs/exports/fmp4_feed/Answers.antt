@@ -2,7 +2,7 @@ use Rattle.std.proofs.Common.{◌∙◌, ◌≤◌, Some, ap, sym, subst}
 use Rattle.fmp4_c.specs.Answers.{number_of}
 use Rattle.fmp4_c.specs.Engines.{Holds, Run, Stopped}
 use Rattle.fmp4_c.specs.declared.handle.Handle.{Handle}
-use Rattle.fmp4_c.specs.declared.engine.Feed.{Feed}
+use Rattle.fmp4_c.specs.declared.results.Feed.{Feed}
 use Rattle.fmp4_c.proofs.HoldLemmas.{in-box, the-run}
 use Rattle.fmp4_c.proofs.exports.fmp4_feed.Goals as goal
 

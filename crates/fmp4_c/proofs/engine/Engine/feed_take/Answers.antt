@@ -9,7 +9,7 @@ use Rattle.fmp4_c.proofs.HoldLemmas.{after-its, answer-its, fed-stopped, stopped
 use Rattle.fmp4_c.proofs.engine.Engine.feed_take.Goals as goal
 
 pub returns-in-Some-stop-clause-stopped : goal.returns-in-Some-stop-clause-stopped
-returns-in-Some-stop-clause-stopped c = rw (c.passed-in-Some-stop.ensures.is, c.of_stop.ensures) (λ task b given a h.
+returns-in-Some-stop-clause-stopped c = rw (c.passed-in-Some-stop.ensures.is, c.of_stop.ensures) (λ task b given a h other.
     let old : Run = record { account = c.self.inside.ledger; feeding = c.self.inside.feeder; waiting = c.self.inside.out; share = c.self.inside.share; reported = c.self.inside.reported; task = c.self.inside.task } in
     let next : Run = record { account = c.self.inside.ledger; feeding = Some c.in-Some.feeder; waiting = c.take-first.new.self; share = c.self.inside.share; reported = c.self.inside.reported; task = c.self.inside.task } in
     let before : Stopped task b given a old = subst (λ (r : Run). Stopped task b given a r) (sym c.self.view_is) h in
@@ -20,7 +20,7 @@ returns-in-Some-stop-clause-stopped c = rw (c.passed-in-Some-stop.ensures.is, c.
     ))
 
 pub returns-then-leaves_all-clause-feeds : goal.returns-then-leaves_all-clause-feeds
-returns-then-leaves_all-clause-feeds c = rw c.passed-then-leaves_all.ensures.is (λ task b given h.
+returns-then-leaves_all-clause-feeds c = rw c.passed-then-leaves_all.ensures.is (λ task b given h other.
     let p = c.in-Some.feeder in
     let old : Run = record { account = c.self.inside.ledger; feeding = c.self.inside.feeder; waiting = c.self.inside.out; share = c.self.inside.share; reported = c.self.inside.reported; task = c.self.inside.task } in
     let next : Run = record { account = c.feed_ahead-at.new.ledger; feeding = Some c.feed_ahead-at.new.feeder; waiting = c.give.new.self; share = c.self.inside.share; reported = c.self.inside.reported; task = c.self.inside.task } in
@@ -32,7 +32,7 @@ returns-then-leaves_all-clause-feeds c = rw c.passed-then-leaves_all.ensures.is 
     c.take-first.ensures.front c.take-first.ensures.left c.give.ensures.front c.give.ensures.left c.feed_ahead-at.result.result c.in-Ok.is feeds.2)
 
 pub returns-then-leaves_all-clause-portion : goal.returns-then-leaves_all-clause-portion
-returns-then-leaves_all-clause-portion c = rw c.passed-then-leaves_all.ensures.is (λ p is none.
+returns-then-leaves_all-clause-portion c = rw c.passed-then-leaves_all.ensures.is (λ p is none other.
     let old : Run = record { account = c.self.inside.ledger; feeding = c.self.inside.feeder; waiting = c.self.inside.out; share = c.self.inside.share; reported = c.self.inside.reported; task = c.self.inside.task } in
     let taken = c.portion-portion.result in
     let input = c.args.input.now in
@@ -47,7 +47,7 @@ returns-then-leaves_all-clause-portion c = rw c.passed-then-leaves_all.ensures.i
     })))
 
 pub returns-else-leaves_all-clause-feeds : goal.returns-else-leaves_all-clause-feeds
-returns-else-leaves_all-clause-feeds c = rw c.passed-in-Ok.ensures.is (λ task b given h.
+returns-else-leaves_all-clause-feeds c = rw c.passed-in-Ok.ensures.is (λ task b given h other.
     let p = c.in-Some.feeder in
     let old : Run = record { account = c.self.inside.ledger; feeding = c.self.inside.feeder; waiting = c.self.inside.out; share = c.self.inside.share; reported = c.self.inside.reported; task = c.self.inside.task } in
     let next : Run = record { account = c.feed_ahead-at.new.ledger; feeding = Some c.feed_ahead-at.new.feeder; waiting = c.give.new.self; share = c.self.inside.share; reported = c.self.inside.reported; task = c.self.inside.task } in
@@ -59,7 +59,7 @@ returns-else-leaves_all-clause-feeds c = rw c.passed-in-Ok.ensures.is (λ task b
     c.take-first.ensures.front c.take-first.ensures.left c.give.ensures.front c.give.ensures.left c.feed_ahead-at.result.result c.in-Ok.is feeds.2)
 
 pub returns-else-leaves_all-clause-portion : goal.returns-else-leaves_all-clause-portion
-returns-else-leaves_all-clause-portion c = rw c.passed-in-Ok.ensures.is (λ p is none.
+returns-else-leaves_all-clause-portion c = rw c.passed-in-Ok.ensures.is (λ p is none other.
     let old : Run = record { account = c.self.inside.ledger; feeding = c.self.inside.feeder; waiting = c.self.inside.out; share = c.self.inside.share; reported = c.self.inside.reported; task = c.self.inside.task } in
     let taken = c.portion-portion.result in
     let input = c.args.input.now in
@@ -74,7 +74,7 @@ returns-else-leaves_all-clause-portion c = rw c.passed-in-Ok.ensures.is (λ p is
     })))
 
 pub returns-in-Err-clause-feeds : goal.returns-in-Err-clause-feeds
-returns-in-Err-clause-feeds c = rw (c.passed-in-Err.ensures.is, c.of_stop-in-Err.ensures) (λ task b given h.
+returns-in-Err-clause-feeds c = rw (c.passed-in-Err.ensures.is, c.of_stop-in-Err.ensures) (λ task b given h other.
     let p = c.in-Some.feeder in
     let old : Run = record { account = c.self.inside.ledger; feeding = c.self.inside.feeder; waiting = c.self.inside.out; share = c.self.inside.share; reported = c.self.inside.reported; task = c.self.inside.task } in
     let next : Run = record { account = c.feed_ahead-at.new.ledger; feeding = Some c.feed_ahead-at.new.feeder; waiting = c.give.new.self; share = c.self.inside.share; reported = c.self.inside.reported; task = c.self.inside.task } in
