@@ -58,70 +58,131 @@ inline std::string rule_name(std::uint32_t rule) {
     return {name, fmp4_rule_name(rule, name, sizeof name)};
 }
 
-// A stream that is cut, checked or listed. It can be moved, also to another thread, and not copied.
-class stream {
+// A stream that is cut, checked or listed. It can be moved, also to another thread, and not copied. Output is gathered
+// in a buffer that grows to 16 KiB when the first comes, or in one of the caller's.
+class [[nodiscard]] stream {
     fmp4_stream stream_{};
-    std::vector<std::uint8_t> out_;
+    std::vector<std::uint8_t> own_;
+    std::uint8_t *out_ = nullptr;
+    std::size_t size_ = 0;
+    bool has_output_ = false, lost_ = false;
+
+    void reserve() {
+        if (out_ || !has_output_) return;
+        own_.resize(16384);
+        out_ = own_.data();
+        size_ = own_.size();
+    }
+
+    // Hands output to `write`. If that throws, the output is lost: each later feed and finish answers FMP4_CLOSED.
+    template <class Write> void hand(std::size_t given, Write &&write) {
+        if (!given) return;
+        lost_ = true;
+        write(bytes(out_, given));
+        lost_ = false;
+    }
 
   public:
     stream() = default;
-    stream(stream &&other) noexcept : stream_(std::exchange(other.stream_, {})), out_(std::move(other.out_)) {}
+    stream(stream &&other) noexcept { *this = std::move(other); }
     stream &operator=(stream &&other) noexcept {
         if (this != &other) {
             fmp4_close(&stream_);
             stream_ = std::exchange(other.stream_, {});
-            out_ = std::move(other.out_);
+            own_ = std::move(other.own_);
+            out_ = std::exchange(other.out_, nullptr);
+            size_ = std::exchange(other.size_, 0);
+            has_output_ = other.has_output_;
+            lost_ = std::exchange(other.lost_, false);
         }
         return *this;
     }
     ~stream() { fmp4_close(&stream_); }
 
-    std::uint32_t open(const cut &by) {
-        out_.resize(131072);
-        const fmp4_cut all{by.samples, by.duration_ms, by.bytes, by.flags, {}};
-        return fmp4_cut_open(&stream_, &all, by.limit, by.room);
-    }
-    std::uint32_t check(std::uint64_t limit) {
-        out_.resize(131072);
-        return fmp4_check_open(&stream_, limit);
+    // Has output gathered in a buffer of the caller's, of at least a byte, from the next feed on.
+    void buffer(std::uint8_t *out, std::size_t size) {
+        out_ = out;
+        size_ = size;
     }
 
-    // Feeds all of the input. The output that it determines is handed to `write`, a function of a fmp4::bytes.
-    template <class Write> std::uint32_t feed(bytes input, Write &&write) {
+    [[nodiscard]] std::uint32_t open(const cut &by) {
+        const fmp4_cut all{by.samples, by.duration_ms, by.bytes, by.flags, {}};
+        return opened(fmp4_cut_open(&stream_, &all, by.limit, by.room), true);
+    }
+    [[nodiscard]] std::uint32_t check(std::uint64_t limit) { return opened(fmp4_check_open(&stream_, limit), false); }
+    [[nodiscard]] std::uint32_t list(std::uint32_t listing, std::uint64_t limit, std::size_t room) {
+        return opened(fmp4_list_open(&stream_, listing, limit, room), true);
+    }
+
+    // Feeds all of the input. The output that it determines is handed to `write`, a function of a fmp4::bytes. What
+    // that throws comes through, and the output from there on is lost.
+    template <class Write> [[nodiscard]] std::uint32_t feed(bytes input, Write &&write) {
+        if (lost_) return FMP4_CLOSED;
+        reserve();
         std::size_t taken = 0, given = 0;
         std::uint32_t answer = FMP4_OK;
         do {
-            answer = fmp4_feed_take(&stream_, input.data(), input.size(), &taken, out_.data(), out_.size(), &given);
-            if (given) write(bytes(out_.data(), given));
+            answer = fmp4_feed_take(&stream_, input.data(), input.size(), &taken, out_, size_, &given);
+            hand(given, write);
             input = input.after(taken);
-        } while (answer == FMP4_FULL || (given && given == out_.size()) || (answer == FMP4_OK && !input.empty()));
+        } while (answer == FMP4_FULL || (given && given == size_) || (answer == FMP4_OK && !input.empty()));
+        return answer;
+    }
+
+    // Feeds a stream that is listed by records: each is handed to `each`, a function of a fmp4_fragment.
+    template <class Each> [[nodiscard]] std::uint32_t feed_records(bytes input, Each &&each) {
+        if (lost_) return FMP4_CLOSED;
+        std::size_t taken = 0;
+        std::uint32_t answer = FMP4_OK;
+        do {
+            answer = fmp4_feed(&stream_, input.data(), input.size(), &taken);
+            input = input.after(taken);
+            for (fmp4_fragment fragment{}; next(fragment) == FMP4_OK;) {
+                lost_ = true;
+                each(fragment);
+                lost_ = false;
+            }
+        } while (answer == FMP4_FULL || (answer == FMP4_OK && !input.empty()));
         return answer;
     }
 
     // Ends the stream. What still waits is handed to `write`.
-    template <class Write> std::uint32_t finish(fmp4_report &report, Write &&write) {
-        std::uint32_t answer = fmp4_finish(&stream_, &report);
+    template <class Write> [[nodiscard]] std::uint32_t finish(fmp4_report &report, Write &&write) {
+        if (lost_) return FMP4_CLOSED;
+        reserve();
+        const std::uint32_t answer = fmp4_finish(&stream_, &report);
         std::size_t given = 0;
-        do {
-            fmp4_take(&stream_, out_.data(), out_.size(), &given);
-            if (given) write(bytes(out_.data(), given));
-        } while (given);
+        while (fmp4_take(&stream_, out_, size_, &given) == FMP4_OK && given) hand(given, write);
         return answer;
     }
 
-    std::uint32_t totals(fmp4_report &report) { return fmp4_totals(&stream_, &report); }
-    std::uint32_t list(std::uint32_t listing, std::uint64_t limit, std::size_t room) {
-        out_.resize(131072);
-        return fmp4_list_open(&stream_, listing, limit, room);
+    // Output that waits, of which `skip` drops what was sent.
+    [[nodiscard]] std::uint32_t peek(std::uint8_t *out, std::size_t size, std::size_t &count) {
+        return fmp4_peek(&stream_, out, size, &count);
     }
+    std::uint32_t skip(std::size_t size, std::size_t &count) { return fmp4_skip(&stream_, size, &count); }
+
+    std::uint32_t totals(fmp4_report &report) { return fmp4_totals(&stream_, &report); }
     std::uint32_t next(fmp4_fragment &fragment) { return fmp4_next_fragment(&stream_, &fragment); }
     std::uint32_t set_limit(std::uint64_t limit, std::uint64_t &takes) {
         return fmp4_set_limit(&stream_, limit, &takes);
     }
-    std::uint32_t reset() { return fmp4_reset(&stream_); }
+    std::uint32_t reset() {
+        lost_ = false;
+        return fmp4_reset(&stream_);
+    }
     std::uint32_t close() { return fmp4_close(&stream_); }
     // For the calls of fmp4.h.
     fmp4_stream *get() { return &stream_; }
+
+  private:
+    std::uint32_t opened(std::uint32_t answer, bool has_output) {
+        if (answer == FMP4_OK) {
+            has_output_ = has_output;
+            lost_ = false;
+        }
+        return answer;
+    }
 };
 
 } // namespace fmp4
