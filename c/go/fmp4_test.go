@@ -136,3 +136,108 @@ func TestErrors(t *testing.T) {
 	w, _ = NewWriter(iotest.TruncateWriter(io.Discard, 10), Cut{Samples: 2})
 	w.Close()
 }
+
+// picky refuses a Write of no bytes, and each from some number of bytes on.
+type picky struct {
+	got, most int
+	t         *testing.T
+}
+
+var errFull = errors.New("full")
+
+func (p *picky) Write(b []byte) (int, error) {
+	if len(b) == 0 {
+		p.t.Fatal("no bytes are written below")
+	}
+	if p.got+len(b) > p.most {
+		return 0, errFull
+	}
+	p.got += len(b)
+	return len(b), nil
+}
+
+// Nothing is written below where no output came, and an error of the writer below stays.
+func TestBelow(t *testing.T) {
+	stream, want := given(t)
+	below := &picky{most: len(want), t: t}
+	w, _ := NewWriter(below, Cut{Samples: 2})
+	for i := range stream {
+		if _, err := w.Write(stream[i : i+1]); err != nil {
+			t.Fatal(err)
+		}
+	}
+	if err := w.Close(); err != nil || below.got != len(want) {
+		t.Fatal(err, below.got)
+	}
+	below = &picky{most: 1000, t: t}
+	w, _ = NewWriter(below, Cut{Samples: 2})
+	w.Buffer(make([]byte, 100))
+	if _, err := w.Write(stream); err != errFull {
+		t.Fatal(err)
+	}
+	if n, err := w.Write(stream); n != 0 || err != errFull {
+		t.Fatal(n, err)
+	}
+	if err := w.Close(); err != errFull {
+		t.Fatal(err)
+	}
+}
+
+// Checks, listings and records beside each other.
+func TestListings(t *testing.T) {
+	stream, _ := given(t)
+	check, err := NewCheck(0)
+	if err != nil {
+		t.Fatal(err)
+	}
+	var lines bytes.Buffer
+	list, err := NewList(&lines, Fragments, 0, 0)
+	if err != nil {
+		t.Fatal(err)
+	}
+	var seen []Fragment
+	records, err := NewRecords(func(f Fragment) error { seen = append(seen, f); return nil }, 0, 0)
+	if err != nil {
+		t.Fatal(err)
+	}
+	for _, w := range []io.WriteCloser{check, list, records} {
+		if n, err := w.Write(stream); n != len(stream) || err != nil {
+			t.Fatal(n, err)
+		}
+	}
+	if totals, err := check.Totals(); err != nil || totals.Samples == 0 {
+		t.Fatal(totals, err)
+	}
+	if takes, err := check.SetLimit(1); err != nil || takes == 0 {
+		t.Fatal(takes, err)
+	}
+	for _, w := range []io.Closer{check, list, records} {
+		if err := w.Close(); err != nil {
+			t.Fatal(err)
+		}
+	}
+	var samples uint64
+	for _, f := range seen {
+		samples += uint64(f.Samples)
+	}
+	if len(seen) == 0 || bytes.Count(lines.Bytes(), []byte("fragment=")) != len(seen) || samples != check.Report().Samples {
+		t.Fatal(len(seen), samples, lines.String())
+	}
+	if check.Report() != records.Report() || check.Report() != list.Report() {
+		t.Fatal(check.Report(), records.Report(), list.Report())
+	}
+}
+
+func TestReset(t *testing.T) {
+	stream, want := given(t)
+	var one, two bytes.Buffer
+	w, _ := NewWriter(&one, Cut{Samples: 2})
+	w.Write(stream[:1000])
+	if err := w.Reset(&two); err != nil {
+		t.Fatal(err)
+	}
+	w.Write(stream)
+	if err := w.Close(); err != nil || !bytes.Equal(two.Bytes(), want) {
+		t.Fatal(err, two.Len())
+	}
+}

@@ -1,3 +1,3 @@
-module fmp4
+module cannirupo.example/fmp4
 
 go 1.19
