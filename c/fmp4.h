@@ -1,14 +1,25 @@
 /* fmp4.h: cuts the fragments of a fragmented MP4 stream (ISO/IEC 14496-12) into shorter ones, or checks or lists such a
  * stream.
  *
- * A stream is fed as it comes, in inputs of any size, and the output is taken from the front:
+ * A stream is fed as it comes, in inputs of any size, and the output is taken from the front. So this does what
+ * `fmp4 split --samples 15` does, but that no read and no write is checked; fmp4_cut_open has all limits of a fragment:
  *
- *     struct fmp4_stream s = {0};
- *     fmp4_split_open(&s, 15, 0, 0, 64 << 20, 8 << 20);    or fmp4_cut_open, with all limits of a fragment
- *     while (fmp4_feed_take(&s, input, len, &taken, out, size, &given) ..)
- *         write `given` bytes of out, go on with input + taken
- *     fmp4_finish(&s, &report);   take what is left with fmp4_take
- *     fmp4_close(&s);
+ *     uint32_t recut(FILE *from, FILE *to, struct fmp4_report *report) {
+ *         struct fmp4_stream stream = {0};
+ *         unsigned char input[65536], out[131072];
+ *         size_t len, at, taken, given = 0;
+ *         uint32_t answer = fmp4_split_open(&stream, 15, 0, 0, 2 << 20, 1 << 20);
+ *         if (answer != FMP4_OK) return answer;
+ *         while (answer <= FMP4_FULL && (len = fread(input, 1, sizeof input, from)) > 0)
+ *             for (at = 0; answer <= FMP4_FULL && (at < len || given == sizeof out); at += taken) {
+ *                 answer = fmp4_feed_take(&stream, input + at, len - at, &taken, out, sizeof out, &given);
+ *                 fwrite(out, 1, given, to);
+ *             }
+ *         answer = fmp4_finish(&stream, report);
+ *         while (fmp4_take(&stream, out, sizeof out, &given) == FMP4_OK && given > 0) fwrite(out, 1, given, to);
+ *         fmp4_close(&stream);
+ *         return answer;
+ *     }
  *
  * docs/fmp4.3 is the manual page, and c/examples/recut.c a whole program.
  *
@@ -16,7 +27,8 @@
  * two calls a struct fmp4_stream may be moved, as realloc moves it; a copy is no second stream. What an open stream
  * allocates is freed by fmp4_close. A buffer or an input of no bytes may be NULL; this header puts another pointer in
  * its place, so who calls the library without it gives one. No other pointer may be NULL, and no two that are given to
- * one call may overlap. Buffers must be initialised memory, also those that are written.
+ * one call may overlap. A buffer that is written need not be initialised: no byte of one is read that the call hasn't
+ * written. That is tested (by valgrind), and not proved: the proofs take each byte of a buffer for a number.
  *
  * Threads. Streams share nothing. Calls with different streams may run at once. Those with one stream come one at a
  * time, in whichever threads: who hands a stream on orders the calls, as by a lock, a queue or a thread's start or end.
@@ -65,8 +77,9 @@ struct fmp4_report {
     uint64_t peak;        /* the most bytes that the boxes of the stream had claimed at once, without the output */
     uint64_t offset;      /* where the box at fault begins in the stream; 0 also where there is no fault */
     uint32_t rule;        /* the number of the broken rule, 1 to 25 (docs/FORMAT.md); 0: no fault */
-    uint32_t box_type;    /* the type of the box at fault, 'moof' as 0x6d6f6f66; 0: not known */
-    uint64_t reserved[4]; /* for what later libraries of the same soname report; begin a report as zeros */
+    uint32_t box_type;    /* the type of the box at fault, 'moof' as 0x6d6f6f66; 0 also where it isn't known */
+    uint64_t has_box_type; /* 1 where it is known, else 0: four zero bytes are a type too */
+    uint64_t reserved[3]; /* for what later libraries of the same soname report; begin a report as zeros */
 };
 
 /* How a stream is cut. Begin it as zeros, which ask for nothing. All limits hold together, but a sample that passes one
@@ -237,8 +250,10 @@ uint32_t fmp4_totals(struct fmp4_stream *FMP4_RESTRICT stream, struct fmp4_repor
 uint32_t fmp4_finish(struct fmp4_stream *FMP4_RESTRICT stream, struct fmp4_report *FMP4_RESTRICT report);
 
 /* Sets the limit of a stream, but no lower than what it takes now: *takes says how many bytes that is, its room among
- * them. So many streams share one limit: before each is fed it gets what it takes and all that is free, and afterwards
- * a limit of 0, which says what it takes now. After a stop and after fmp4_finish the limit stays.
+ * them. A shortage is final: a stream that stops with FMP4_OVER_LIMIT doesn't go on, even where a moment later there is
+ * enough. So a server gives each stream a limit of its own when it opens it, of 1 MiB beside its room. Streams that
+ * are to share one limit: before each is fed it gets what it takes and all that is free, and afterwards a limit of 0,
+ * which says what it takes now. After a stop and after fmp4_finish the limit stays.
  *   FMP4_NOT_OPEN, FMP4_CLOSED: *takes is 0 */
 uint32_t fmp4_set_limit(struct fmp4_stream *FMP4_RESTRICT stream, uint64_t limit, uint64_t *FMP4_RESTRICT takes);
 

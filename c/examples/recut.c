@@ -23,7 +23,7 @@ static void report_end(uint32_t answer, const struct fmp4_report *report) {
             unsigned char byte = (unsigned char)(report->box_type >> (24 - 8 * i));
             type[i] = byte >= 0x20 && byte < 0x7f ? (char)byte : '?';
         }
-        fprintf(stderr, "recut: %u %s in %s at %llu\n", (unsigned)report->rule, name, report->box_type ? type : "(none)",
+        fprintf(stderr, "recut: %u %s in %s at %llu\n", (unsigned)report->rule, name, report->has_box_type ? type : "(none)",
                 (unsigned long long)report->offset);
     } else if (answer == FMP4_OVER_LIMIT) fputs("recut: over the limit\n", stderr);
     else if (answer == FMP4_NO_MEMORY) fputs("recut: out of memory\n", stderr);

@@ -3,7 +3,7 @@ import ctypes, sys
 from ctypes import byref, c_size_t, c_uint32, c_uint64, c_void_p, create_string_buffer as buffer
 class Stream(ctypes.Structure): _fields_ = [("state", c_void_p), ("closed", c_uint32), ("reserved", c_uint64 * 2)]
 class Report(ctypes.Structure):
-    _fields_ = [(it, c_uint64) for it in ("fragments", "samples", "media_bytes", "peak", "offset")] + [("rule", c_uint32), ("box_type", c_uint32), ("reserved", c_uint64 * 4)]
+    _fields_ = [(it, c_uint64) for it in ("fragments", "samples", "media_bytes", "peak", "offset")] + [("rule", c_uint32), ("box_type", c_uint32), ("has_box_type", c_uint64), ("reserved", c_uint64 * 3)]
 class Cut(ctypes.Structure): _fields_ = [("samples", c_uint32), ("duration_ms", c_uint32), ("bytes", c_uint64), ("flags", c_uint32), ("reserved", c_uint32 * 5)]
 lib, stream, report, n, out = ctypes.CDLL(sys.argv[1]), Stream(), Report(), c_size_t(), buffer(65536)
 def drain():

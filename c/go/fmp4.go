@@ -167,7 +167,7 @@ func (s *stream) err(answer C.uint32_t) error {
 	var name [32]C.char
 	n := C.fmp4_rule_name_any(s.report.rule, &name[0], C.size_t(len(name)))
 	fault := &Fault{uint32(s.report.rule), C.GoStringN(&name[0], C.int(n)), "", uint64(s.report.offset)}
-	if kind := uint32(s.report.box_type); kind != 0 {
+	if kind := uint32(s.report.box_type); s.report.has_box_type != 0 {
 		fault.Box = string([]byte{byte(kind >> 24), byte(kind >> 16), byte(kind >> 8), byte(kind)})
 	}
 	return fault

@@ -123,6 +123,14 @@ func TestErrors(t *testing.T) {
 	if err := w.Close(); !errors.As(err, &fault) || fault.Rule != "Truncated" || len(fault.Box) != 4 {
 		t.Fatal(err)
 	}
+	// A box of four zero bytes has a type, and one whose header is cut off has none.
+	for wrong, box := range map[string]string{"\x00\x00\x00\x07\x00\x00\x00\x00": "\x00\x00\x00\x00", "\x00\x00\x00": ""} {
+		w, _ = NewCheck(0)
+		w.Write([]byte(wrong))
+		if err := w.Close(); !errors.As(err, &fault) || fault.Box != box {
+			t.Fatal(err)
+		}
+	}
 	r, _ := NewReader(bytes.NewReader(stream[:len(stream)-1]), Cut{Samples: 2})
 	if _, err := io.ReadAll(r); !errors.As(err, &fault) || fault.Rule != "Truncated" {
 		t.Fatal(err)

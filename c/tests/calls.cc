@@ -60,7 +60,8 @@ static void checked() {
     WANT(stream.reset() == FMP4_OK && stream.set_limit(344 + 64, takes) == FMP4_OK && takes == 0);
     gives(stream, "");
     WANT(stream.feed(std::string("\0\0\0\7free", 8), write) == FMP4_FAULT && stream.finish(report, write) == FMP4_FAULT);
-    WANT(report.box_type == 0x66726565 && fmp4::rule_name(report.rule) == "BadSize" && fmp4::answer_name(2) == "FMP4_FAULT");
+    WANT(report.box_type == 0x66726565 && report.has_box_type == 1);
+    WANT(fmp4::rule_name(report.rule) == "BadSize" && fmp4::answer_name(2) == "FMP4_FAULT" && fmp4::rule_name(0).empty());
 }
 
 // The limit of a cut is that of the room and the boxes together.

@@ -16,7 +16,6 @@ static void *feed(void *it) {
     struct handed *handed = it;
     unsigned char out[4096];
     size_t taken = 0, given = 0, len = in.len - handed->at;
-    memset(out, 0, sizeof out);
     handed->answer = fmp4_feed_take(handed->stream, in.at + handed->at, len < 1316 ? len : 1316, &taken, out, sizeof out, &given);
     append(&handed->out, out, given);
     handed->at += taken;

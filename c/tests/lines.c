@@ -86,12 +86,8 @@ int main(int argc, char **argv) {
     limited(step, &r, &text);
     WANT(fmp4_close(&stream) == FMP4_OK && fmp4_close(&small) == FMP4_OK);
     fwrite(text.at, 1, text.len, stdout);
-    char name[16] = {0}, type[5] = {0};
-    if (r.finish == FMP4_FAULT) {
-        fmp4_rule_name(r.report.rule, name, sizeof name);
-        for (int i = 0; i < 4; i++) type[i] = (char)(r.report.box_type >> (24 - 8 * i));
-        fprintf(stderr, "fmp4: %u %s in %s at %llu\n", (unsigned)r.report.rule, name, r.report.box_type ? type : "(none)", (unsigned long long)r.report.offset);
-    } else WANT(r.finish == FMP4_OK && r.fed == in.len);
+    if (r.finish == FMP4_FAULT) print_fault(&r.report);
+    else WANT(r.finish == FMP4_OK && r.fed == in.len);
     free(text.at);
     free(again.at);
     free(part.at);

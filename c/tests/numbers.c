@@ -21,7 +21,8 @@ FIELD(fmp4_report, peak, 24);
 FIELD(fmp4_report, offset, 32);
 FIELD(fmp4_report, rule, 40);
 FIELD(fmp4_report, box_type, 44);
-FIELD(fmp4_report, reserved, 48);
+FIELD(fmp4_report, has_box_type, 48);
+FIELD(fmp4_report, reserved, 56);
 FIELD(fmp4_fragment, offset, 0);
 FIELD(fmp4_fragment, size, 8);
 FIELD(fmp4_fragment, decode_time, 16);
@@ -84,9 +85,10 @@ static struct fmp4_report checked(const void *bytes, size_t len, uint32_t wanted
     return report;
 }
 
-static void fault(const void *bytes, size_t len, uint32_t rule, uint32_t box_type, uint64_t offset) {
+static void fault(const void *bytes, size_t len, uint32_t rule, uint32_t box_type, uint64_t has_type, uint64_t offset) {
     struct fmp4_report report = checked(bytes, len, 2);
-    WANT(report.rule == rule && report.box_type == box_type && report.offset == offset);
+    WANT(report.rule == rule && report.box_type == box_type && report.has_box_type == has_type && report.offset == offset);
+    for (int i = 0; i < 3; i++) WANT(report.reserved[i] == 0);
     WANT(report.fragments == 0 && report.samples == 0 && report.media_bytes == 0);
 }
 
@@ -94,13 +96,14 @@ static void fault(const void *bytes, size_t len, uint32_t rule, uint32_t box_typ
 static void reports(void) {
     struct fmp4_report report = checked(in.at, in.len, 0);
     WANT(report.fragments == 1 && report.samples == 3 && report.media_bytes == 15 && report.peak == 344 + 64);
-    WANT(report.rule == 0 && report.box_type == 0 && report.offset == 0);
-    fault("\0\0\0\10free\0\0\0\10moof", 16, 3, 0x6d6f6f66, 8);
-    fault("\0\0\0\10free\0\0\0\10mdat", 16, 5, 0x6d646174, 8);
-    fault("\0\0\0\10free\0\0\0\11ftyp", 16, 1, 0x66747970, 8);
-    fault("\0\0\0\7wide", 8, 2, 0x77696465, 0);
-    fault("\0\0\0\7\377\1\200 ", 8, 2, 0xff018020, 0);
-    fault("\0\0\0\10free\0\0\0", 11, 1, 0, 8);
+    WANT(report.rule == 0 && report.box_type == 0 && report.has_box_type == 0 && report.offset == 0);
+    fault("\0\0\0\10free\0\0\0\10moof", 16, 3, 0x6d6f6f66, 1, 8);
+    fault("\0\0\0\10free\0\0\0\10mdat", 16, 5, 0x6d646174, 1, 8);
+    fault("\0\0\0\10free\0\0\0\11ftyp", 16, 1, 0x66747970, 1, 8);
+    fault("\0\0\0\7wide", 8, 2, 0x77696465, 1, 0);
+    fault("\0\0\0\7\377\1\200 ", 8, 2, 0xff018020, 1, 0);
+    fault("\0\0\0\7\0\0\0\0", 8, 2, 0, 1, 0);
+    fault("\0\0\0\10free\0\0\0", 11, 1, 0, 0, 8);
 }
 
 /* Feeds the stream byte by byte, and takes what waits, but of records: how it ends. */

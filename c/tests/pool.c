@@ -21,7 +21,6 @@ static uint32_t feed(struct pool *pool, struct member *m, size_t step) {
     unsigned char out[8192];
     size_t taken = 0, given = 0, len = in.len - m->at < step ? in.len - m->at : step;
     uint64_t takes = 0;
-    memset(out, 0, sizeof out);
     WANT(fmp4_set_limit(&m->stream, pool->limit - pool->taken + m->takes, &takes) == FMP4_OK && takes == m->takes);
     uint32_t answer = fmp4_feed_take(&m->stream, in.at + m->at, len, &taken, out, sizeof out, &given);
     WANT(fmp4_set_limit(&m->stream, 0, &takes) == FMP4_OK);

@@ -44,13 +44,24 @@ static inline struct bytes read_all(FILE *file) {
     return all;
 }
 
-/* Takes all that waits: bytes, or records. */
+/* Writes the line with which the program reports a fault. */
+static inline void print_fault(const struct fmp4_report *report) {
+    char name[16], type[5] = {0};
+    fmp4_rule_name(report->rule, name, sizeof name);
+    for (int i = 0; i < 4; i++) {
+        unsigned char byte = (unsigned char)(report->box_type >> (24 - 8 * i));
+        type[i] = byte >= 0x20 && byte < 0x7f ? (char)byte : '?';
+    }
+    fprintf(stderr, "fmp4: %u %s in %s at %llu\n", (unsigned)report->rule, name, report->has_box_type ? type : "(none)",
+            (unsigned long long)report->offset);
+}
+
+/* Takes all that waits: bytes, or records. The buffer is never initialised. */
 static inline void drain(struct fmp4_stream *stream, struct bytes *to, size_t take) {
     struct fmp4_fragment fragment;
     unsigned char out[4096];
     size_t n = 0;
     if (take > sizeof out) take = sizeof out;
-    memset(out, 0, sizeof out);
     do {
         uint32_t answer = fmp4_take(stream, out, take, &n);
         if (answer == FMP4_BAD_LISTING) {

@@ -82,6 +82,11 @@ abbrev pub kind_number : Option FourCc → ℕ
 kind_number None = 0
 kind_number (Some kind) = from_be_bytes w32 kind.0
 
+-- 1 where a type is known: four zero bytes are the number 0 too
+abbrev pub known_number : Option FourCc → ℕ
+known_number None = 0
+known_number (Some kind) = 1
+
 -- what a report says of a stream besides its fault
 pub record Counted : Type 0 where
   pub fragments : ℕ
@@ -95,5 +100,5 @@ counted_of t = record { fragments = t.fragments; samples = t.samples; media_byte
 
 -- the report of what was counted, and of a fault where there is one
 abbrev pub report_from : Counted → Option faults.Fault → Report
-report_from t None = record { fragments = t.fragments; samples = min t.samples (2 ^ 64 - 1); media_bytes = t.media_bytes; peak = t.peak; offset = 0; rule = 0; kind = 0 }
-report_from t (Some f) = record { fragments = t.fragments; samples = min t.samples (2 ^ 64 - 1); media_bytes = t.media_bytes; peak = t.peak; offset = f.offset; rule = rules.number_of f.rule; kind = kind_number f.kind }
+report_from t None = record { fragments = t.fragments; samples = min t.samples (2 ^ 64 - 1); media_bytes = t.media_bytes; peak = t.peak; offset = 0; rule = 0; kind = 0; has_kind = 0 }
+report_from t (Some f) = record { fragments = t.fragments; samples = min t.samples (2 ^ 64 - 1); media_bytes = t.media_bytes; peak = t.peak; offset = f.offset; rule = rules.number_of f.rule; kind = kind_number f.kind; has_kind = known_number f.kind }

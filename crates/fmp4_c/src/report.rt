@@ -1,7 +1,7 @@
 //! Reports on a stream for C.
 
 ghost use Rattle.std.specs.Prelude.{◌≡◌, ◌-◌, ◌^◌, min};
-ghost use Rattle.fmp4_c.specs.Answers.{counted_of, fault_of, kind_number, report_from};
+ghost use Rattle.fmp4_c.specs.Answers.{counted_of, fault_of, kind_number, known_number, report_from};
 
 use mp4_stream::{Fault, FourCc, Stop, Totals};
 
@@ -24,6 +24,8 @@ pub struct Report {
     pub rule: u32,
     /// The type of that box as a number of four bytes, the first the highest; 0 where it isn't known.
     pub kind: u32,
+    /// 1 where it is known, else 0: that is also the number of four zero bytes.
+    pub has_kind: u64,
 }
 
 impl Report {
@@ -37,6 +39,7 @@ impl Report {
             offset: 0,
             rule: 0,
             kind: 0,
+            has_kind: 0,
         }
     }
 
@@ -52,11 +55,13 @@ impl Report {
             offset: 0,
             rule: 0,
             kind: 0,
+            has_kind: 0,
         };
         if let Some(fault) = fault {
             report.offset = fault.offset;
             report.rule = u32::from(fault.rule.number());
             report.kind = number_of_kind(fault.kind);
+            report.has_kind = known(fault.kind);
         }
         report
     }
@@ -78,6 +83,16 @@ fn number_of_kind(kind: Option<FourCc>) -> u32
 {
     match kind {
         Some(kind) => u32::from_be_bytes(kind.0),
+        None => 0,
+    }
+}
+
+/// 1 where a type is known, else 0.
+fn known(kind: Option<FourCc>) -> u64
+    ensures { result ≡ known_number kind }
+{
+    match kind {
+        Some(_) => 1,
         None => 0,
     }
 }
