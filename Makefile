@@ -19,8 +19,9 @@ BIN = $(DESTDIR)$(PREFIX)/bin
 INCLUDE = $(DESTDIR)$(PREFIX)/include
 SHARE = $(DESTDIR)$(PREFIX)/share
 LIB = $(DESTDIR)$(PREFIX)/$(LIBDIR)
-# The way from fmp4.pc to PREFIX.
+# The way from fmp4.pc to PREFIX, and the words that fmp4.pc and CMake's files have for the place.
 UP = $(shell echo "$(LIBDIR)/pkgconfig" | sed 's|[^/][^/]*|..|g')
+WITH_PLACE = sed "s|@VERSION@|$$(cat VERSION)|; s|@LIBDIR@|$(LIBDIR)|; s|@UP@|$(UP)|"
 # A manual page with the version; and a file that all may read, whatever the umask.
 WITH_VERSION = sed "1s/ fmp4 / \"fmp4 $$(cat VERSION)\" /; s/^The number in VERSION.*/fmp4 $$(scripts/version)/"
 PUT = install -m 644 /dev/stdin
@@ -76,19 +77,20 @@ install:
 	install -m 644 completions/fmp4.fish "$(SHARE)/fish/vendor_completions.d/fmp4.fish"
 	@if [ -e c/out/libfmp4.a ]; then $(MAKE) -s install_lib; fi
 
-# Puts the C library with its header, manual page and fmp4.pc below PREFIX.
+# Puts the C library with its headers, manual page, fmp4.pc and CMake's files below PREFIX.
 install_lib:
 	@test -e c/out/libfmp4.a || { echo "there is no c/out/libfmp4.a: run 'make lib' first" >&2; exit 1; }
 	@command -v strip > /dev/null || { echo "there is no strip on the PATH, which binutils has" >&2; exit 1; }
-	install -d "$(LIB)/pkgconfig" "$(INCLUDE)" "$(SHARE)/man/man3"
+	install -d "$(LIB)/pkgconfig" "$(LIB)/cmake/fmp4" "$(INCLUDE)" "$(SHARE)/man/man3"
 	install -m 644 c/out/libfmp4.a "$(LIB)/libfmp4.a"
 	strip --strip-debug "$(LIB)/libfmp4.a"
 	@if [ -e c/out/libfmp4.so.0 ]; then \
 	    install -m 644 c/out/libfmp4.so.0 "$(LIB)/libfmp4.so.0" && strip --strip-unneeded "$(LIB)/libfmp4.so.0" && \
 	    ln -sf libfmp4.so.0 "$(LIB)/libfmp4.so"; fi
 	install -m 644 c/fmp4.h c/fmp4.hpp "$(INCLUDE)/"
-	sed "s|@VERSION@|$$(cat VERSION)|; s|@LIBDIR@|$(LIBDIR)|; s|@UP@|$(UP)|" c/fmp4.pc.in | \
-	    $(PUT) "$(LIB)/pkgconfig/fmp4.pc"
+	$(WITH_PLACE) c/fmp4.pc.in | $(PUT) "$(LIB)/pkgconfig/fmp4.pc"
+	@for name in fmp4-config.cmake fmp4-config-version.cmake; do \
+	    $(WITH_PLACE) c/$$name.in | $(PUT) "$(LIB)/cmake/fmp4/$$name" || exit; done
 	$(WITH_VERSION) docs/fmp4.3 | $(PUT) "$(SHARE)/man/man3/fmp4.3"
 	@if [ -z "$(DESTDIR)" ]; then scripts/found_by "$(PREFIX)" "$(LIB)" >&2; fi
 
@@ -97,10 +99,11 @@ uninstall:
 	rm -f "$(BIN)/fmp4" "$(BIN)/fmp4-playlist" "$(SHARE)/man/man1/fmp4.1" "$(SHARE)/man/man1/fmp4-playlist.1" \
 	    "$(SHARE)/bash-completion/completions/fmp4" "$(SHARE)/zsh/site-functions/_fmp4" \
 	    "$(SHARE)/fish/vendor_completions.d/fmp4.fish" "$(LIB)/libfmp4.a" "$(LIB)/libfmp4.so" "$(LIB)/libfmp4.so.0" \
-	    "$(LIB)/pkgconfig/fmp4.pc" "$(INCLUDE)/fmp4.h" "$(INCLUDE)/fmp4.hpp" "$(SHARE)/man/man3/fmp4.3"
+	    "$(LIB)/pkgconfig/fmp4.pc" "$(LIB)/cmake/fmp4/fmp4-config.cmake" "$(LIB)/cmake/fmp4/fmp4-config-version.cmake" \
+	    "$(INCLUDE)/fmp4.h" "$(INCLUDE)/fmp4.hpp" "$(SHARE)/man/man3/fmp4.3"
 	@for folder in "$(SHARE)/man/man1" "$(SHARE)/man/man3" "$(SHARE)/man" "$(SHARE)/bash-completion/completions" \
 	    "$(SHARE)/bash-completion" "$(SHARE)/zsh/site-functions" "$(SHARE)/zsh" "$(SHARE)/fish/vendor_completions.d" \
-	    "$(SHARE)/fish" "$(SHARE)" "$(LIB)/pkgconfig" "$(LIB)" "$(INCLUDE)" "$(BIN)" "$(DESTDIR)$(PREFIX)"; do \
+	    "$(SHARE)/fish" "$(SHARE)" "$(LIB)/pkgconfig" "$(LIB)/cmake/fmp4" "$(LIB)/cmake" "$(LIB)" "$(INCLUDE)" "$(BIN)" "$(DESTDIR)$(PREFIX)"; do \
 	    rmdir "$$folder" 2> /dev/null || true; done
 
 # Packs what install installs, for machines without Rattle.

@@ -51,14 +51,21 @@
 
 /* The version of this header: a million for its first number, a thousand for its second. fmp4_version() is that of the
  * library. A library of the same soname has all that an older header of it has. */
-#define FMP4_VERSION 1000
-#define FMP4_VERSION_TEXT "0.1.0"
+#define FMP4_VERSION 2000
+#define FMP4_VERSION_TEXT "0.2.0"
 
 #ifdef __cplusplus
 extern "C" {
 #define FMP4_RESTRICT __restrict
 #else
 #define FMP4_RESTRICT restrict
+#endif
+
+/* Of these calls gcc and clang warn where their answer isn't read. */
+#ifdef __GNUC__
+#define FMP4_MUST_READ __attribute__((warn_unused_result))
+#else
+#define FMP4_MUST_READ
 #endif
 
 /* A stream. It begins as zeros, and its fields are the library's: never read, change or copy them. */
@@ -140,7 +147,7 @@ enum fmp4_answer {
                                of one that is */
 };
 
-/* Flags of a cut. */
+/* Flags of a cut. Their sums are uint32_t. */
 enum fmp4_flags {
     FMP4_INDEX = 1,         /* an sidx before the fragments that each run is cut into */
     FMP4_SYNC = 2,          /* a fragment also ends before a sync sample */
@@ -165,17 +172,17 @@ enum fmp4_listing {
  * can be opened again.
  *   FMP4_OVER_LIMIT: room is more than limit; FMP4_NO_MEMORY; FMP4_IS_OPEN; FMP4_BAD_LAYOUT, _SAMPLES, _BYTES, _FLAGS,
  *   _ROOM */
-static inline uint32_t fmp4_split_open(struct fmp4_stream *stream, uint32_t samples, uint64_t bytes, uint32_t flags,
-                                       uint64_t limit, size_t room);
+FMP4_MUST_READ static inline uint32_t fmp4_split_open(struct fmp4_stream *stream, uint32_t samples, uint64_t bytes,
+                                                      uint32_t flags, uint64_t limit, size_t room);
 
 /* The same with all limits of a fragment; `limit` and `room` are as those above.
  *   As fmp4_split_open */
-static inline uint32_t fmp4_cut_open(struct fmp4_stream *stream, const struct fmp4_cut *cut, uint64_t limit,
-                                     size_t room);
+FMP4_MUST_READ static inline uint32_t fmp4_cut_open(struct fmp4_stream *stream, const struct fmp4_cut *cut,
+                                                    uint64_t limit, size_t room);
 
 /* Opens a stream that is only checked and counted. It has no output, and each input is taken as a whole.
  *   FMP4_NO_MEMORY; FMP4_IS_OPEN; FMP4_BAD_LAYOUT */
-static inline uint32_t fmp4_check_open(struct fmp4_stream *stream, uint64_t limit);
+FMP4_MUST_READ static inline uint32_t fmp4_check_open(struct fmp4_stream *stream, uint64_t limit);
 
 /* Opens a stream that is checked and listed: the listing is its output, and what a fragment adds to it comes at once,
  * with the header of its mdat. `limit` and `room` are as those of a cut; what comes at once must fit the room, which is
@@ -183,15 +190,17 @@ static inline uint32_t fmp4_check_open(struct fmp4_stream *stream, uint64_t limi
  * stream that is listed. A listing of boxes has a line of up to 80 bytes for a box as soon as its header came; a moov
  * or moof is listed once it is whole, with the boxes in it: up to 6 bytes at once for each of its own.
  *   FMP4_OVER_LIMIT: room is more than limit; FMP4_NO_MEMORY; FMP4_IS_OPEN; FMP4_BAD_LAYOUT, _LISTING, _ROOM */
-static inline uint32_t fmp4_list_open(struct fmp4_stream *stream, uint32_t listing, uint64_t limit, size_t room);
+FMP4_MUST_READ static inline uint32_t fmp4_list_open(struct fmp4_stream *stream, enum fmp4_listing listing,
+                                                     uint64_t limit, size_t room);
 
 /* What these four call in the library; `layout` is FMP4_LAYOUT. */
-uint32_t fmp4_split_open_as(struct fmp4_stream *stream, uint32_t layout, uint32_t samples, uint64_t bytes,
-                            uint32_t flags, uint64_t limit, size_t room);
-uint32_t fmp4_cut_open_as(struct fmp4_stream *FMP4_RESTRICT stream, uint32_t layout,
-                          const struct fmp4_cut *FMP4_RESTRICT cut, uint64_t limit, size_t room);
-uint32_t fmp4_check_open_as(struct fmp4_stream *stream, uint32_t layout, uint64_t limit);
-uint32_t fmp4_list_open_as(struct fmp4_stream *stream, uint32_t layout, uint32_t listing, uint64_t limit, size_t room);
+FMP4_MUST_READ uint32_t fmp4_split_open_as(struct fmp4_stream *stream, uint32_t layout, uint32_t samples,
+                                           uint64_t bytes, uint32_t flags, uint64_t limit, size_t room);
+FMP4_MUST_READ uint32_t fmp4_cut_open_as(struct fmp4_stream *FMP4_RESTRICT stream, uint32_t layout,
+                                         const struct fmp4_cut *FMP4_RESTRICT cut, uint64_t limit, size_t room);
+FMP4_MUST_READ uint32_t fmp4_check_open_as(struct fmp4_stream *stream, uint32_t layout, uint64_t limit);
+FMP4_MUST_READ uint32_t fmp4_list_open_as(struct fmp4_stream *stream, uint32_t layout, uint32_t listing,
+                                          uint64_t limit, size_t room);
 
 /* Feeds the next `len` bytes of the stream, or the first *taken of them: go on with the rest. A cut takes at most a
  * 128th of what is free in the room at once (a 512th with an index), a byte at the least, and nothing (FMP4_FULL)
@@ -199,8 +208,8 @@ uint32_t fmp4_list_open_as(struct fmp4_stream *stream, uint32_t layout, uint32_t
  * FMP4_OK, FMP4_FULL or FMP4_FAULT, all output that the bytes so far determine waits to be taken, but for what was
  * taken. *taken is 0 where it misuses the stream, and after a stop.
  *   FMP4_FULL; FMP4_FAULT, FMP4_NO_ROOM, FMP4_OVER_LIMIT, FMP4_NO_MEMORY; FMP4_NOT_OPEN, FMP4_CLOSED, FMP4_ENDED */
-uint32_t fmp4_feed(struct fmp4_stream *FMP4_RESTRICT stream, const uint8_t *FMP4_RESTRICT input, size_t len,
-                   size_t *FMP4_RESTRICT taken);
+FMP4_MUST_READ uint32_t fmp4_feed(struct fmp4_stream *FMP4_RESTRICT stream, const uint8_t *FMP4_RESTRICT input,
+                                  size_t len, size_t *FMP4_RESTRICT taken);
 
 /* As fmp4_take and then fmp4_feed, and the output of the input follows in `out` at once, without a copy in the room:
  * *given says how many bytes of output, less than `size` only where no more wait; what doesn't fit waits. So a loop
@@ -209,9 +218,9 @@ uint32_t fmp4_feed(struct fmp4_stream *FMP4_RESTRICT stream, const uint8_t *FMP4
  * the room. A stream that has stopped still gives what waits. What lies after the *given bytes in `out` may change. A
  * stream that is listed by records is fed by fmp4_feed alone.
  *   As fmp4_feed; FMP4_BAD_LISTING; *given is 0 where it misuses the stream */
-uint32_t fmp4_feed_take(struct fmp4_stream *FMP4_RESTRICT stream, const uint8_t *FMP4_RESTRICT input, size_t len,
-                        size_t *FMP4_RESTRICT taken, uint8_t *FMP4_RESTRICT out, size_t size,
-                        size_t *FMP4_RESTRICT given);
+FMP4_MUST_READ uint32_t fmp4_feed_take(struct fmp4_stream *FMP4_RESTRICT stream, const uint8_t *FMP4_RESTRICT input,
+                                       size_t len, size_t *FMP4_RESTRICT taken, uint8_t *FMP4_RESTRICT out,
+                                       size_t size, size_t *FMP4_RESTRICT given);
 
 /* Copies output to `out`: *taken says how many bytes, less than `len` only where no more wait. After a stop and after
  * fmp4_finish too, until the stream is closed. Of a stream that is listed by records it takes nothing.
@@ -233,7 +242,8 @@ uint32_t fmp4_skip(struct fmp4_stream *FMP4_RESTRICT stream, size_t len, size_t 
  * answers FMP4_FULL, take records, until FMP4_NO_RECORD: after FMP4_NO_ROOM the front of a record can wait for good,
  * so fmp4_pending need not come to 0. No other call takes records, or a part of one.
  *   FMP4_NO_RECORD: none waits; FMP4_NOT_OPEN, FMP4_CLOSED, FMP4_BAD_LISTING. The record is left as it was */
-uint32_t fmp4_next_fragment(struct fmp4_stream *FMP4_RESTRICT stream, struct fmp4_fragment *FMP4_RESTRICT fragment);
+FMP4_MUST_READ uint32_t fmp4_next_fragment(struct fmp4_stream *FMP4_RESTRICT stream,
+                                           struct fmp4_fragment *FMP4_RESTRICT fragment);
 
 /* Says how many bytes of output wait.
  *   FMP4_NOT_OPEN, FMP4_CLOSED: *count is 0 */
@@ -247,7 +257,8 @@ uint32_t fmp4_totals(struct fmp4_stream *FMP4_RESTRICT stream, struct fmp4_repor
 /* The stream has ended: FMP4_OK only where it breaks no rule. What the stream had claimed is freed; what waits can
  * still be taken.
  *   FMP4_FAULT, or as it stopped before; FMP4_NOT_OPEN, FMP4_CLOSED, FMP4_ENDED: the report is left as it was */
-uint32_t fmp4_finish(struct fmp4_stream *FMP4_RESTRICT stream, struct fmp4_report *FMP4_RESTRICT report);
+FMP4_MUST_READ uint32_t fmp4_finish(struct fmp4_stream *FMP4_RESTRICT stream,
+                                    struct fmp4_report *FMP4_RESTRICT report);
 
 /* Sets the limit of a stream, but no lower than what it takes now: *takes says how many bytes that is, its room among
  * them. A shortage is final: a stream that stops with FMP4_OVER_LIMIT doesn't go on, even where a moment later there is
@@ -266,18 +277,41 @@ uint32_t fmp4_reset(struct fmp4_stream *stream);
  *   FMP4_NOT_OPEN, FMP4_CLOSED */
 uint32_t fmp4_close(struct fmp4_stream *stream);
 
-/* Writes the name of a rule, such as "Truncated", and a zero: at most `len` bytes. Returns the length of the name
- * without the zero, 0 where no rule has this number. 16 bytes are enough. */
+/* The name of a rule, such as "Truncated", and of an answer, such as "FMP4_FULL": static texts, "" where none has this
+ * number. */
+const char *fmp4_rule_text(uint32_t rule);
+const char *fmp4_answer_text(uint32_t answer);
+
+/* Writes the name of a rule and a zero: at most `len` bytes. Returns the length of the name without the zero, 0 where
+ * no rule has this number. 16 bytes are enough. */
 size_t fmp4_rule_name(uint32_t rule, char *name, size_t len);
 
-/* The same of an answer, such as "FMP4_FULL". 17 bytes are enough. */
+/* The same of an answer. 17 bytes are enough. */
 size_t fmp4_answer_name(uint32_t answer, char *name, size_t len);
 
 /* The version of the library, as FMP4_VERSION. */
 uint32_t fmp4_version(void);
 
+/* So few bytes are flags in the wrong place: clang warns of them, and gcc where it optimizes. */
+#define FMP4_ARE_FLAGS(bytes) ((bytes) >= 1 && (bytes) <= 7)
+#ifdef __clang__
+#pragma clang diagnostic push
+#pragma clang diagnostic ignored "-Wgcc-compat"
+static inline uint32_t fmp4_split_open(struct fmp4_stream *stream, uint32_t samples, uint64_t bytes, uint32_t flags,
+                                       uint64_t limit, size_t room)
+    __attribute__((diagnose_if(FMP4_ARE_FLAGS(bytes), "bytes of media that seem to be flags", "warning")));
+#pragma clang diagnostic pop
+#elif defined __GNUC__
+FMP4_MUST_READ uint32_t fmp4_split_open_warned(struct fmp4_stream *stream, uint32_t layout, uint32_t samples,
+                                               uint64_t bytes, uint32_t flags, uint64_t limit, size_t room)
+    __asm__("fmp4_split_open_as") __attribute__((warning("bytes of media that seem to be flags")));
+#endif
 static inline uint32_t fmp4_split_open(struct fmp4_stream *stream, uint32_t samples, uint64_t bytes, uint32_t flags,
                                        uint64_t limit, size_t room) {
+#if defined __GNUC__ && !defined __clang__
+    if (__builtin_constant_p(bytes) && FMP4_ARE_FLAGS(bytes))
+        return fmp4_split_open_warned(stream, FMP4_LAYOUT, samples, bytes, flags, limit, room);
+#endif
     return fmp4_split_open_as(stream, FMP4_LAYOUT, samples, bytes, flags, limit, room);
 }
 static inline uint32_t fmp4_cut_open(struct fmp4_stream *stream, const struct fmp4_cut *cut, uint64_t limit,
@@ -287,16 +321,18 @@ static inline uint32_t fmp4_cut_open(struct fmp4_stream *stream, const struct fm
 static inline uint32_t fmp4_check_open(struct fmp4_stream *stream, uint64_t limit) {
     return fmp4_check_open_as(stream, FMP4_LAYOUT, limit);
 }
-static inline uint32_t fmp4_list_open(struct fmp4_stream *stream, uint32_t listing, uint64_t limit, size_t room) {
-    return fmp4_list_open_as(stream, FMP4_LAYOUT, listing, limit, room);
+static inline uint32_t fmp4_list_open(struct fmp4_stream *stream, enum fmp4_listing listing, uint64_t limit,
+                                      size_t room) {
+    return fmp4_list_open_as(stream, FMP4_LAYOUT, (uint32_t)listing, limit, room);
 }
 
 /* NULL for no bytes: the functions of the library want a pointer. */
-static inline uint32_t fmp4_feed_any(struct fmp4_stream *stream, const uint8_t *input, size_t len, size_t *taken) {
+FMP4_MUST_READ static inline uint32_t fmp4_feed_any(struct fmp4_stream *stream, const uint8_t *input, size_t len,
+                                                    size_t *taken) {
     return fmp4_feed(stream, len ? input : (const uint8_t *)"", len, taken);
 }
-static inline uint32_t fmp4_feed_take_any(struct fmp4_stream *stream, const uint8_t *input, size_t len, size_t *taken,
-                                          uint8_t *out, size_t size, size_t *given) {
+FMP4_MUST_READ static inline uint32_t fmp4_feed_take_any(struct fmp4_stream *stream, const uint8_t *input, size_t len,
+                                                         size_t *taken, uint8_t *out, size_t size, size_t *given) {
     uint8_t none = 0;
     return fmp4_feed_take(stream, len ? input : (const uint8_t *)"", len, taken, size ? out : &none, size, given);
 }

@@ -48,15 +48,8 @@ struct cut {
     std::uint32_t duration_ms = 0;
 };
 
-inline std::string answer_name(std::uint32_t answer) {
-    char name[32] = {};
-    return {name, fmp4_answer_name(answer, name, sizeof name)};
-}
-
-inline std::string rule_name(std::uint32_t rule) {
-    char name[32] = {};
-    return {name, fmp4_rule_name(rule, name, sizeof name)};
-}
+inline std::string answer_name(std::uint32_t answer) { return fmp4_answer_text(answer); }
+inline std::string rule_name(std::uint32_t rule) { return fmp4_rule_text(rule); }
 
 // A stream that is cut, checked or listed. It can be moved, also to another thread, and not copied. Output is gathered
 // in a buffer that grows to 16 KiB when the first comes, or in one of the caller's.
@@ -110,7 +103,7 @@ class [[nodiscard]] stream {
         return opened(fmp4_cut_open(&stream_, &all, by.limit, by.room), true);
     }
     [[nodiscard]] std::uint32_t check(std::uint64_t limit) { return opened(fmp4_check_open(&stream_, limit), false); }
-    [[nodiscard]] std::uint32_t list(std::uint32_t listing, std::uint64_t limit, std::size_t room) {
+    [[nodiscard]] std::uint32_t list(fmp4_listing listing, std::uint64_t limit, std::size_t room) {
         return opened(fmp4_list_open(&stream_, listing, limit, room), true);
     }
 

@@ -16,15 +16,14 @@ static int drain(struct fmp4_stream *stream, unsigned char *buffer, size_t size)
 
 /* Says what a stop means. */
 static void report_end(uint32_t answer, const struct fmp4_report *report) {
-    char name[16] = {0}, type[5] = {0};
+    char type[5] = {0};
     if (answer == FMP4_FAULT) {
-        fmp4_rule_name(report->rule, name, sizeof name);
         for (int i = 0; i < 4; i++) {
             unsigned char byte = (unsigned char)(report->box_type >> (24 - 8 * i));
             type[i] = byte >= 0x20 && byte < 0x7f ? (char)byte : '?';
         }
-        fprintf(stderr, "recut: %u %s in %s at %llu\n", (unsigned)report->rule, name, report->has_box_type ? type : "(none)",
-                (unsigned long long)report->offset);
+        fprintf(stderr, "recut: %u %s in %s at %llu\n", (unsigned)report->rule, fmp4_rule_text(report->rule),
+                report->has_box_type ? type : "(none)", (unsigned long long)report->offset);
     } else if (answer == FMP4_OVER_LIMIT) fputs("recut: over the limit\n", stderr);
     else if (answer == FMP4_NO_MEMORY) fputs("recut: out of memory\n", stderr);
     else if (answer == FMP4_NO_ROOM) fputs("recut: the room is too small\n", stderr);
@@ -42,7 +41,7 @@ int main(int argc, char **argv) {
     struct fmp4_report report = {0};
     struct fmp4_cut cut = {.samples = (uint32_t)with[0], .bytes = with[2], .flags = (uint32_t)with[3], .duration_ms = (uint32_t)with[4]};
     uint32_t answer = fmp4_cut_open(&stream, &cut, with[5], with[6]);
-    if (answer != FMP4_OK) return fprintf(stderr, "recut: the stream isn't opened: %u\n", (unsigned)answer), 64;
+    if (answer != FMP4_OK) return fprintf(stderr, "recut: %s\n", fmp4_answer_text(answer)), 64;
     int is_written = 1;
     while (is_written && answer <= FMP4_FULL && (len = fread(input, 1, size, stdin)) > 0)
         for (size_t at = 0; is_written && answer <= FMP4_FULL && (at < len || given == sizeof out); at += taken) {

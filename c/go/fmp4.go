@@ -2,7 +2,7 @@
 // libfmp4. Build libfmp4 first (make lib), and set CGO_CFLAGS and CGO_LDFLAGS where it isn't installed. A module that uses
 // the package names its folder, as by
 //
-//	go mod edit -require cannirupo.example/fmp4@v0.1.0 -replace cannirupo.example/fmp4=../fmp4/c/go
+//	go mod edit -require cannirupo.example/fmp4@v0.2.0 -replace cannirupo.example/fmp4=../fmp4/c/go
 //
 // Streams share nothing: each may be used in any goroutine, in one at a time.
 package fmp4
@@ -86,9 +86,7 @@ func (f *Fault) Error() string {
 type Answer uint32
 
 func (a Answer) Error() string {
-	var name [32]C.char
-	n := C.fmp4_answer_name_any(C.uint32_t(a), &name[0], C.size_t(len(name)))
-	return C.GoStringN(&name[0], C.int(n))
+	return C.GoString(C.fmp4_answer_text(C.uint32_t(a)))
 }
 
 // stream is an open stream of the library.
@@ -112,7 +110,7 @@ func (s *stream) open(cut Cut) error {
 }
 
 func (s *stream) list(listing uint32, limit uint64, room uint) error {
-	return s.err(C.fmp4_list_open(&s.it, C.uint32_t(listing), C.uint64_t(or(limit, defaultLimit)), C.size_t(or(uint64(room), defaultRoom))))
+	return s.err(C.fmp4_list_open(&s.it, C.enum_fmp4_listing(listing), C.uint64_t(or(limit, defaultLimit)), C.size_t(or(uint64(room), defaultRoom))))
 }
 
 func pointer(p []byte) *C.uint8_t {
@@ -164,9 +162,7 @@ func (s *stream) err(answer C.uint32_t) error {
 	if answer != C.FMP4_FAULT {
 		return Answer(answer)
 	}
-	var name [32]C.char
-	n := C.fmp4_rule_name_any(s.report.rule, &name[0], C.size_t(len(name)))
-	fault := &Fault{uint32(s.report.rule), C.GoStringN(&name[0], C.int(n)), "", uint64(s.report.offset)}
+	fault := &Fault{uint32(s.report.rule), C.GoString(C.fmp4_rule_text(s.report.rule)), "", uint64(s.report.offset)}
 	if kind := uint32(s.report.box_type); s.report.has_box_type != 0 {
 		fault.Box = string([]byte{byte(kind >> 24), byte(kind >> 16), byte(kind >> 8), byte(kind)})
 	}

@@ -25,7 +25,7 @@ static void gives(fmp4::stream &stream, const std::string &wanted) {
 
 static void listed() {
     fmp4::stream stream;
-    WANT(stream.list(5, 1 << 20, 4096) == FMP4_BAD_LISTING && stream.list(FMP4_FRAGMENTS, 4096, 4097) == FMP4_OVER_LIMIT);
+    WANT(stream.list(static_cast<fmp4_listing>(5), 1 << 20, 4096) == FMP4_BAD_LISTING && stream.list(FMP4_FRAGMENTS, 4096, 4097) == FMP4_OVER_LIMIT);
     WANT(stream.list(FMP4_FRAGMENTS, 1 << 20, 4096) == FMP4_OK && stream.list(FMP4_FRAGMENTS, 1 << 20, 4096) == FMP4_IS_OPEN);
     gives(stream, lines);
     gives(stream, lines);

@@ -46,14 +46,13 @@ static inline struct bytes read_all(FILE *file) {
 
 /* Writes the line with which the program reports a fault. */
 static inline void print_fault(const struct fmp4_report *report) {
-    char name[16], type[5] = {0};
-    fmp4_rule_name(report->rule, name, sizeof name);
+    char type[5] = {0};
     for (int i = 0; i < 4; i++) {
         unsigned char byte = (unsigned char)(report->box_type >> (24 - 8 * i));
         type[i] = byte >= 0x20 && byte < 0x7f ? (char)byte : '?';
     }
-    fprintf(stderr, "fmp4: %u %s in %s at %llu\n", (unsigned)report->rule, name, report->has_box_type ? type : "(none)",
-            (unsigned long long)report->offset);
+    fprintf(stderr, "fmp4: %u %s in %s at %llu\n", (unsigned)report->rule, fmp4_rule_text(report->rule),
+            report->has_box_type ? type : "(none)", (unsigned long long)report->offset);
 }
 
 /* Takes all that waits: bytes, or records. The buffer is never initialised. */

@@ -51,9 +51,9 @@ name_of BadRoom = codes "FMP4_BAD_ROOM"
 name_of BadLayout = codes "FMP4_BAD_LAYOUT"
 name_of BadListing = codes "FMP4_BAD_LISTING"
 
--- the number of the version 0.1.0: a million for the first, a thousand for the second
+-- the number of the version 0.2.0: a million for the first, a thousand for the second
 abbrev pub version : ℕ
-version = 1000
+version = 2000
 
 -- the answer where a stream stopped so: the one write that can fail is that into the room
 abbrev pub answer_to : Stop → Answer

@@ -57,7 +57,7 @@ pub extern "C" fn fmp4_answer_name(answer: u32, name: &mut [u8]) -> usize
 pub extern "C" fn fmp4_version() -> u32
     ensures { result ≡ version }
 {
-    1000
+    2000
 }
 
 /// Puts a text with a zero after it in the place of the front of a buffer, cut where it doesn't fit: how many bytes it
