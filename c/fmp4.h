@@ -164,12 +164,14 @@ enum fmp4_listing {
 
 /* Opens a stream that is cut into fragments of at most `samples` samples (1 to 1,000,000), and of at most `bytes`
  * bytes of media (0: any number; a larger sample is a fragment by itself). `limit`: the most bytes that it may take.
- * `room` of them are allocated at once for the output that waits. 2 MiB serve where output is taken after each feed;
- * with 8 MiB a feed takes 65,536 bytes at once, and what isn't used of them stays untouched. What comes at once must
- * fit what is free, or the stream ends with FMP4_NO_ROOM: a moov (most have less than 64 KiB; 16 MiB are allowed); the
- * head of a new fragment, 100 bytes and 16 a sample (108 where it has 4 GiB of media); an index, up to 786,460 bytes,
- * with the head after it; and the heads of all samples without bytes that follow each other. A stream that was closed
- * can be opened again.
+ * `room` of them are allocated at once for the output that waits, and what is left is for its boxes. A server asks for
+ * 2 MiB, with a room of 1 MiB: real streams claim some 10 KiB for their boxes, and what is left for those of a hostile
+ * one bounds how long a call may take (fmp4.3 has a table: with 64 MiB it may be seconds). A room of 1 MiB serves where
+ * output is taken after each feed; with 8 MiB a feed takes 65,536 bytes at once, and what isn't used of them stays
+ * untouched. What comes at once must fit what is free, or the stream ends with FMP4_NO_ROOM: a moov (most have less
+ * than 64 KiB; 16 MiB are allowed); the head of a new fragment, 100 bytes and 16 a sample (108 where it has 4 GiB of
+ * media); an index, up to 786,460 bytes, with the head after it; and the heads of all samples without bytes that follow
+ * each other. A stream that was closed can be opened again.
  *   FMP4_OVER_LIMIT: room is more than limit; FMP4_NO_MEMORY; FMP4_IS_OPEN; FMP4_BAD_LAYOUT, _SAMPLES, _BYTES, _FLAGS,
  *   _ROOM */
 FMP4_MUST_READ static inline uint32_t fmp4_split_open(struct fmp4_stream *stream, uint32_t samples, uint64_t bytes,

@@ -38,13 +38,13 @@ class bytes {
     bytes after(std::size_t count) const { return {data_ + count, size_ - count}; }
 };
 
-// How a stream is cut: the fields of fmp4_cut, and the other arguments of fmp4_cut_open.
+// How a stream is cut: the fields of fmp4_cut, and the other arguments of fmp4_cut_open, as a server has them.
 struct cut {
     std::uint32_t samples = 0;
     std::uint64_t bytes = 0;
     std::uint32_t flags = 0;
-    std::uint64_t limit = 64u << 20;
-    std::size_t room = 8u << 20;
+    std::uint64_t limit = 2u << 20;
+    std::size_t room = 1u << 20;
     std::uint32_t duration_ms = 0;
 };
 

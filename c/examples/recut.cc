@@ -8,7 +8,6 @@
 int main(int argc, char **argv) {
     if (argc < 2) return std::fputs("recut SAMPLES [INPUT [DURATION [FLAGS]]]\n", stderr), 64;
     fmp4::cut cut{static_cast<std::uint32_t>(std::strtoul(argv[1], nullptr, 10))};
-    cut.limit = 512u << 20;
     if (argc > 3) cut.duration_ms = static_cast<std::uint32_t>(std::strtoul(argv[3], nullptr, 10));
     if (argc > 4) cut.flags = static_cast<std::uint32_t>(std::strtoul(argv[4], nullptr, 10));
     fmp4::stream stream;
