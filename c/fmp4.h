@@ -39,9 +39,10 @@
  * stack trace ends within the library, which has neither frame pointers nor tables for unwinding: perf's
  * --call-graph=lbr, or a breakpoint at the exported function, shows who called.
  *
- * Memory comes from malloc, realloc and free, which must be one allocator's, and align a block to each power of two up
- * to 16 that divides its size. A stream asks for at most `limit` bytes for its boxes and its output together, and some
- * 20 KiB beside them for its state. No media is kept but in the output that waits.
+ * Memory comes from malloc, realloc and free, or from the functions that fmp4_set_memory is given: those of one
+ * allocator, which align a block to each power of two up to 16 that divides its size. A stream asks for at most `limit`
+ * bytes for its boxes and its output together, and some 20 KiB beside them for its state. No media is kept but in the
+ * output that waits.
  */
 #ifndef FMP4_H
 #define FMP4_H
@@ -119,6 +120,15 @@ struct fmp4_fragment {
 #define FMP4_LAYOUT \
     ((uint32_t)(sizeof(struct fmp4_fragment) << 24 | sizeof(struct fmp4_stream) << 16 | sizeof(struct fmp4_report)))
 
+/* Functions in the place of malloc, realloc and free, which are also given `opaque`, a pointer of the caller's. `take`
+ * and `resize` may return NULL: there is no memory. No size is 0, and no block is NULL. */
+struct fmp4_memory {
+    void *(*take)(void *opaque, size_t size);
+    void *(*resize)(void *opaque, void *block, size_t size);
+    void (*release)(void *opaque, void *block);
+    void *opaque;
+};
+
 /* What a call answers. */
 enum fmp4_answer {
     FMP4_OK = 0,
@@ -136,7 +146,7 @@ enum fmp4_answer {
     /* Misuse: the call did nothing */
     FMP4_NOT_OPEN = 16,     /* before an open */
     FMP4_CLOSED = 17,       /* after fmp4_close */
-    FMP4_IS_OPEN = 18,      /* an open of a stream that is open */
+    FMP4_IS_OPEN = 18,      /* an open of a stream that is open; fmp4_set_memory after one was opened */
     FMP4_ENDED = 19,        /* a feed or finish after fmp4_finish */
     FMP4_BAD_SAMPLES = 20,  /* samples not in 1 to 1,000,000, nor 0 with a duration */
     FMP4_BAD_BYTES = 21,    /* bytes above 2^62 */
@@ -278,6 +288,13 @@ uint32_t fmp4_reset(struct fmp4_stream *stream);
 /* Frees all. Output that waits is lost.
  *   FMP4_NOT_OPEN, FMP4_CLOSED */
 uint32_t fmp4_close(struct fmp4_stream *stream);
+
+/* Sets where all streams take their memory, before the first of them is opened, and while no other thread makes a call.
+ * The functions are called in the threads of the streams' calls, and at once where these are; a block is resized and
+ * released only by calls with the stream that took it. So an allocator for each stream finds its own by a thread-local
+ * variable that the caller sets before a call.
+ *   FMP4_IS_OPEN: a stream has taken memory, even if it was closed since. Nothing is set */
+FMP4_MUST_READ uint32_t fmp4_set_memory(const struct fmp4_memory *memory);
 
 /* The name of a rule, such as "Truncated", and of an answer, such as "FMP4_FULL": static texts, "" where none has this
  * number. */

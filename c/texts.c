@@ -1,5 +1,5 @@
-/* The names of rules and answers as static texts. They are those of fmp4_rule_name and fmp4_answer_name, which are proved
- * to be the program's: c/tests/texts.c compares them. */
+/* The names of rules and answers as static texts: those of fmp4_rule_name and fmp4_answer_name, which are proved to be
+ * the program's. c/tests/texts.c compares them. */
 #include "fmp4.h"
 
 static const char *const rules[] = {

@@ -1,11 +1,11 @@
-/* room < crates/test_streams/stdin: which streams find room in the 2 MiB that serve where output is taken after each
- * feed, and where it is taken only when a feed answers FMP4_FULL: samples of 1 to 24 bytes in one fragment and in
+/* room < crates/test_streams/stdin: which streams find room in the MiB that serves where output is taken after each
+ * feed, and in two where it is taken only when a feed answers FMP4_FULL: samples of 1 to 24 bytes in one fragment and in
  * many, cut by 1 to 1,000, with an index and without, in inputs of 4 to 128 KiB. And what a stream still stops for,
  * on each side: a moov, a head and an index that are larger than what is free, and samples without bytes. The moov,
  * mfhd and tfdt are those of the stream. */
 #include "tests.h"
 
-enum { ROOM = 2 << 20, FRONT = 364, MOOV = 344 };
+enum { ROOM = 1 << 20, FRONT = 364, MOOV = 344 };
 static struct bytes given, in;
 
 static void put(const void *bytes, size_t len) { append(&in, bytes, len); }
@@ -70,7 +70,7 @@ static unsigned in_one_fragment(void) {
         for (int k = 0; k < 7; k++)
             for (int c = 0; c < 4; c++)
                 for (int way = 0; way < 4; way++, fit++)
-                    WANT(cut(cuts[k], way & 1, inputs[c], ROOM, way >> 1) == FMP4_OK);
+                    WANT(cut(cuts[k], way & 1, inputs[c], way >> 1 ? 2 * ROOM : ROOM, way >> 1) == FMP4_OK);
     }
     return fit;
 }
@@ -81,7 +81,7 @@ static unsigned in_many_fragments(void) {
         for (uint32_t size = 1; size <= 24; size++) {
             make(500000 / (count * (size + 4) + 100), count, size, 1);
             for (int way = 0; way < 8; way++, fit++)
-                WANT(cut(1, way & 1, way & 2 ? 65536 : 131072, ROOM, way >> 2) == FMP4_OK);
+                WANT(cut(1, way & 1, way & 2 ? 65536 : 131072, way >> 2 ? 2 * ROOM : ROOM, way >> 2) == FMP4_OK);
         }
     return fit;
 }
