@@ -112,7 +112,9 @@ struct fmp4_fragment {
     uint32_t timescale;   /* how many ticks of the track a second has */
     uint32_t samples;     /* how many it has */
     uint32_t is_sync;     /* 1 where its first sample is a sync sample, else 0, as without samples */
-    uint32_t reserved;
+    uint32_t syncs;       /* how many of its samples are sync samples */
+    uint64_t track_end;   /* when its track ended before, 0 before its first: decode_time less this is the gap */
+    int64_t earliest;     /* the least composition time of its samples, less decode_time; 0 without samples */
 };
 
 /* The sizes of three of these, which an open compares with those of the library: FMP4_BAD_LAYOUT says that the caller
@@ -198,7 +200,7 @@ FMP4_MUST_READ static inline uint32_t fmp4_check_open(struct fmp4_stream *stream
 
 /* Opens a stream that is checked and listed: the listing is its output, and what a fragment adds to it comes at once,
  * with the header of its mdat. `limit` and `room` are as those of a cut; what comes at once must fit the room, which is
- * 64 bytes for each record, and up to 256 for each line. To list the fragments that a cut writes, feed its output to a
+ * 80 bytes for each record, and up to 340 for each line. To list the fragments that a cut writes, feed its output to a
  * stream that is listed. A listing of boxes has a line of up to 80 bytes for a box as soon as its header came; a moov
  * or moof is listed once it is whole, with the boxes in it: up to 6 bytes at once for each of its own.
  *   FMP4_OVER_LIMIT: room is more than limit; FMP4_NO_MEMORY; FMP4_IS_OPEN; FMP4_BAD_LAYOUT, _LISTING, _ROOM */

@@ -66,7 +66,10 @@ type Report struct {
 type Fragment struct {
 	Offset, Size, DecodeTime, Duration, MediaBytes uint64
 	Sequence, Track, Timescale, Samples            uint32
-	IsSync                                         bool
+	IsSync                                         bool   // whether it begins with a sync sample
+	Syncs                                          uint32 // how many of its samples are sync samples
+	TrackEnd                                       uint64 // when its track ended before: DecodeTime less it is the gap
+	Earliest                                       int64  // its least composition time, less DecodeTime
 }
 
 // Fault is an error of the stream: the rule that it breaks, the type of the box at fault, empty where it isn't known,
@@ -287,7 +290,8 @@ func (r *Records) hand() error {
 	var f C.struct_fmp4_fragment
 	for r.failed == nil && C.fmp4_next_fragment(&r.it, &f) == C.FMP4_OK {
 		r.failed = r.each(Fragment{uint64(f.offset), uint64(f.size), uint64(f.decode_time), uint64(f.duration), uint64(f.media_bytes),
-			uint32(f.sequence), uint32(f.track), uint32(f.timescale), uint32(f.samples), f.is_sync == 1})
+			uint32(f.sequence), uint32(f.track), uint32(f.timescale), uint32(f.samples), f.is_sync == 1,
+			uint32(f.syncs), uint64(f.track_end), int64(f.earliest)})
 	}
 	return r.failed
 }

@@ -10,8 +10,9 @@
 
 static std::string in, out;
 static const auto write = [](fmp4::bytes bytes) { out.append(reinterpret_cast<const char *>(bytes.data()), bytes.size()); };
-static const std::string lines = "track=1 timescale=48000 entries=1\n"
-                                 "fragment=1 at=364 size=119 track=1 dts=0 dur=3072 samples=3 sync=yes media=15\n";
+static const std::string lines = "track=1 timescale=48000 entries=1 handler=???? types=mp4a\n"
+                                 "fragment=1 at=364 size=119 track=1 dts=0 dur=3072 samples=3 sync=yes media=15"
+                                 " pts=0 syncs=3 gap=0\n";
 
 // What a stream of one kind of output gives, which is then reset.
 static void gives(fmp4::stream &stream, const std::string &wanted) {
@@ -37,7 +38,7 @@ static void records() {
     fmp4::stream stream;
     std::size_t taken = 0;
     fmp4_fragment record{};
-    WANT(stream.list(FMP4_RECORDS, 1 << 20, 128) == FMP4_OK && stream.next(record) == FMP4_NO_RECORD);
+    WANT(stream.list(FMP4_RECORDS, 1 << 20, 160) == FMP4_OK && stream.next(record) == FMP4_NO_RECORD);
     for (std::size_t at = 0; at < in.size(); at += taken) {
         auto input = reinterpret_cast<const std::uint8_t *>(in.data() + at);
         WANT(fmp4_feed(stream.get(), input, in.size() - at, &taken) == FMP4_OK);
@@ -46,6 +47,7 @@ static void records() {
     WANT(stream.next(record) == FMP4_NOT_OPEN && moved.next(record) == FMP4_OK && moved.next(record) == FMP4_NO_RECORD);
     WANT(record.offset == 364 && record.size == 119 && record.decode_time == 0 && record.duration == 3072 && record.media_bytes == 15);
     WANT(record.sequence == 1 && record.track == 1 && record.timescale == 48000 && record.samples == 3 && record.is_sync == 1);
+    WANT(record.syncs == 3 && record.track_end == 0 && record.earliest == 0);
 }
 
 static void checked() {

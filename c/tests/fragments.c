@@ -33,23 +33,27 @@ static const uint32_t muxed[] = {8, FREE,
     /* At 696: a track fragment without samples. */
     64, MOOF, 16, MFHD, 0, 78, 40, TRAF, 16, TFHD, 0x020000, 1, 16, TFDT, 0, 4096, 8, MDAT,
     /* At 768: two runs of a sample of track 9, of 1 and 11 bytes, the first by its first-sample-flags no sync sample, without
-     * a tfdt: they go on after the three. Their mdat goes to the end of the stream. */
-    100, MOOF, 16, MFHD, 0, 0xfffffffe,
-        76, TRAF, 16, TFHD, 0x020000, 9, 28, TRUN, 0x205, 1, 108, 0x01010000, 1, 24, TRUN, 0x201, 1, 109, 11,
+     * a tfdt: they go on after the three. The second is presented 3,500 ticks before it is decoded, so 500 before the first.
+     * Their mdat goes to the end of the stream. */
+    104, MOOF, 16, MFHD, 0, 0xfffffffe,
+        80, TRAF, 16, TFHD, 0x020000, 9, 28, TRUN, 0x205, 1, 112, 0x01010000, 1,
+            28, TRUN, 1 << 24 | 0xa01, 1, 113, 11, 0xfffff254,
     0, MDAT, 0, 0, 0, 0};
 
 static const struct fmp4_fragment muxed_records[] = {
-    {480, 216, 4294967301, 4294967303, 12, 77, 1, 48000, 2, 0, 0},
-    {480, 216, 1000, 9000, 12, 77, 9, 90000, 3, 1, 0},
-    {696, 72, 4096, 0, 0, 78, 1, 48000, 0, 0, 0},
-    {768, UINT64_MAX, 10000, 6000, 12, 4294967294, 9, 90000, 2, 0, 0}};
+    {480, 216, 4294967301, 4294967303, 12, 77, 1, 48000, 2, 0, 1, 0, 0},
+    {480, 216, 1000, 9000, 12, 77, 9, 90000, 3, 1, 3, 0, 0},
+    {696, 72, 4096, 0, 0, 78, 1, 48000, 0, 0, 0, 8589934604, 0},
+    {768, UINT64_MAX, 10000, 6000, 12, 4294967294, 9, 90000, 2, 0, 1, 10000, -500}};
 
-static const char muxed_lines[] = "track=9 timescale=90000 entries=2\n"
-    "track=1 timescale=48000 entries=1\n"
-    "fragment=77 at=480 size=216 track=1 dts=4294967301 dur=4294967303 samples=2 sync=no media=12\n"
-    "fragment=77 at=480 size=216 track=9 dts=1000 dur=9000 samples=3 sync=yes media=12\n"
-    "fragment=78 at=696 size=72 track=1 dts=4096 dur=0 samples=0 sync=no media=0\n"
-    "fragment=4294967294 at=768 size=end track=9 dts=10000 dur=6000 samples=2 sync=no media=12\n";
+static const char muxed_lines[] = "track=9 timescale=90000 entries=2 handler=???? types=avc1,avc1\n"
+    "track=1 timescale=48000 entries=1 handler=???? types=mp4a\n"
+    "fragment=77 at=480 size=216 track=1 dts=4294967301 dur=4294967303 samples=2 sync=no media=12"
+    " pts=4294967301 syncs=1 gap=4294967301\n"
+    "fragment=77 at=480 size=216 track=9 dts=1000 dur=9000 samples=3 sync=yes media=12 pts=1000 syncs=3 gap=1000\n"
+    "fragment=78 at=696 size=72 track=1 dts=4096 dur=0 samples=0 sync=no media=0 pts=4096 syncs=0 gap=-8589930508\n"
+    "fragment=4294967294 at=768 size=end track=9 dts=10000 dur=6000 samples=2 sync=no media=12"
+    " pts=9500 syncs=1 gap=0\n";
 
 static uint32_t number(size_t at) {
     return (uint32_t)out.at[at] << 24 | (uint32_t)out.at[at + 1] << 16 | (uint32_t)out.at[at + 2] << 8 | out.at[at + 3];
@@ -115,7 +119,8 @@ static void append_words(struct bytes *to, const uint32_t *words, size_t count) 
 static void same_record(const struct fmp4_fragment *a, const struct fmp4_fragment *b) {
     WANT(a->offset == b->offset && a->size == b->size && a->decode_time == b->decode_time && a->duration == b->duration);
     WANT(a->media_bytes == b->media_bytes && a->sequence == b->sequence && a->track == b->track && a->timescale == b->timescale);
-    WANT(a->samples == b->samples && a->is_sync == b->is_sync && a->reserved == 0);
+    WANT(a->samples == b->samples && a->is_sync == b->is_sync && a->syncs == b->syncs);
+    WANT(a->track_end == b->track_end && a->earliest == b->earliest);
 }
 
 /* The whole output of a listing of the muxed stream. */
@@ -149,7 +154,7 @@ static void muxed_stream(size_t step) {
     struct fmp4_fragment record = {0};
     size_t taken = 0;
     append_words(&stream, muxed, sizeof muxed / sizeof *muxed);
-    WANT(stream.len == 768 + 100 + 24);
+    WANT(stream.len == 768 + 104 + 24);
     list_muxed(&stream, FMP4_FRAGMENTS, step, &got);
     WANT(got.len == sizeof muxed_lines - 1 && memcmp(got.at, muxed_lines, got.len) == 0);
     WANT(fmp4_list_open(&listing, FMP4_RECORDS, 64u << 20, 1u << 20) == FMP4_OK);
@@ -173,12 +178,12 @@ static void half_a_record(void) {
     size_t taken = 0, pending = 0;
     uint32_t answer = FMP4_OK;
     append_words(&stream, muxed, sizeof muxed / sizeof *muxed);
-    WANT(fmp4_list_open(&listing, FMP4_RECORDS, 64u << 20, 96) == FMP4_OK);
+    WANT(fmp4_list_open(&listing, FMP4_RECORDS, 64u << 20, 120) == FMP4_OK);
     for (size_t at = 0; at < stream.len && answer == FMP4_OK; at += taken) answer = fmp4_feed(&listing, stream.at + at, 1, &taken);
     WANT(answer == FMP4_NO_ROOM && fmp4_next_fragment(&listing, &record) == FMP4_OK);
     same_record(&record, &muxed_records[0]);
     WANT(fmp4_next_fragment(&listing, &record) == FMP4_NO_RECORD);
-    WANT(fmp4_pending(&listing, &pending) == FMP4_OK && pending == 32 && fmp4_close(&listing) == FMP4_OK);
+    WANT(fmp4_pending(&listing, &pending) == FMP4_OK && pending == 40 && fmp4_close(&listing) == FMP4_OK);
     free(stream.at);
 }
 

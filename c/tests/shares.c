@@ -45,7 +45,7 @@ static void filled(uint32_t listing, size_t len, size_t waits, size_t fewer) {
  * those of a track and its fragment, a record, and the bytes that a cut passes on. */
 static void half_filled(void) {
     static const struct { uint32_t listing; size_t len, waits; } cases[] = {
-        {FMP4_SAMPLES, 468, 70 + 76 + 76}, {FMP4_FRAGMENTS, 364, 34}, {FMP4_FRAGMENTS, 468, 34 + 78}, {FMP4_RECORDS, 468, 64},
+        {FMP4_SAMPLES, 468, 70 + 76 + 76}, {FMP4_FRAGMENTS, 364, 58}, {FMP4_FRAGMENTS, 468, 58 + 98}, {FMP4_RECORDS, 468, 80},
         {FMP4_BOXES, 8, 11}, {CUT, 20, 20}, {CUT, 364, 364}, {CUT_WITH_INDEX, 19, 19}};
     for (size_t i = 0; i < sizeof cases / sizeof *cases; i++)
         for (size_t fewer = 0; fewer < 2; fewer++) filled(cases[i].listing, cases[i].len, cases[i].waits, fewer);

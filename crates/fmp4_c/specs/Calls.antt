@@ -47,7 +47,7 @@ share_of flags = if eqb (flags % 2) 1 then 512 else 128
 
 -- the sizes of the structs in the header: 32 bytes for a stream, and 80 for a report
 abbrev pub header_layout : ℕ
-header_layout = 0x4020_0050
+header_layout = 0x5020_0050
 
 -- the largest sum of flags of a plain request
 abbrev pub plain_flags : ℕ

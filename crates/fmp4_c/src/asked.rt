@@ -9,7 +9,7 @@ use crate::task::Task;
 use mp4_stream::{Command, Operation};
 
 /// The sizes of the structs in the header: 32 bytes for a stream, and 80 for a report.
-const LAYOUT: u32 = 0x4020_0050;
+const LAYOUT: u32 = 0x5020_0050;
 
 /// A feed takes a 128th of what is free in the room: a byte of a sample becomes at most 117 of output.
 const SHARE: usize = 128;

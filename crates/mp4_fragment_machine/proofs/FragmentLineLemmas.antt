@@ -1,7 +1,6 @@
 -- The lines of trafs and of tracks, one after the other.
-use Rattle.std.proofs.Common.{◌≡◌, ◌⊎◌, ◌∙◌, ℕ, inl, inr, refl, Option, suc, ◌≤◌, drop, get_or, ◌+◌, ◌-◌, ◌<◌, List, map, [], ◌∷◌, ◌++◌, length, Some, ap, sym, arith, subst, append-nil, append_assoc}
-use Rattle.std.specs.List.{flat_map}
-use Rattle.std.proofs.Math.Seq.{drop-cons}
+use Rattle.std.proofs.Common.{◌≡◌, ◌⊎◌, ◌∙◌, ◌^◌, ℕ, ℤ, inl, inr, refl, Option, zero, suc, ◌*◌, ◌≤◌, drop, get_or, ◌+◌, ◌-◌, ◌<◌, List, map, [], ◌∷◌, ◌++◌, length, Some, ap, sym, arith, subst, append-nil, append_assoc}
+use Rattle.std.specs.List.{AllByRecursion, flat_map}
 use Rattle.mp4_box.specs.Paths.{of_kind}
 use Rattle.mp4_box.specs.Trees.{Box, children}
 use Rattle.mp4_box.specs.declared.headers.Header.{Header}
@@ -9,7 +8,9 @@ use Rattle.mp4_box.specs.declared.headers.Size.{Size}
 use Rattle.mp4_box.specs.declared.headers.Size.TheVariants.{Exact, ToEnd}
 use Rattle.mp4_init.specs.declared.table.Track.{Track}
 use Rattle.mp4_traf.specs.Kinds.{traf}
-use Rattle.mp4_traf.specs.Runs.{MoofBytes, TrackFragment, runs_of, traf_of}
+use Rattle.mp4_traf.specs.Ranges.{IsSound}
+use Rattle.mp4_traf.specs.Rows.{durations, rows_of}
+use Rattle.mp4_traf.specs.Runs.{MoofBytes, Shared, TrackFragment, run_at, run_of, runs_from, runs_of, traf_of}
 use Rattle.mp4_traf.specs.TrafTotals.{totals_of}
 use Rattle.mp4_traf.specs.declared.run.Run.{Run}
 use Rattle.mp4_traf.specs.declared.traf_totals.TrafTotals.{TrafTotals}
@@ -25,6 +26,9 @@ use Rattle.mp4_fragment_machine.specs.States.{listed_by}
 use Rattle.mp4_grammar.specs.Commands.{accepted}
 use Rattle.mp4_grammar.specs.FragmentLines.{size_of, traf_with}
 use Rattle.mp4_grammar.specs.Meanings.{Fragment}
+use Rattle.mp4_grammar.specs.Presented.{all_rows, presented_of}
+use Rattle.mp4_grammar.proofs.PresentedLemmas.{rows_last}
+use Rattle.mp4_grammar.specs.declared.presented.Presented.{Presented}
 use Rattle.mp4_grammar.specs.declared.command.Command.{Command}
 use Rattle.mp4_grammar.specs.declared.command.Command.TheVariants.{Fragments, Records}
 use Rattle.mp4_recut.specs.declared.operation.Operation.TheVariants as operations
@@ -43,13 +47,6 @@ module _ {X : Type 0} (line : X → List ℕ) where
   pub line_last : {s : Sent} {v w : Pending} {text all : List ℕ} (xs : List X) → xs ≡ [] → text ++ flat_map line xs ≡ all → HasPut s v w text [] → HasPut s v w all []
   line_last {s = s} {v = v} {w = w} {text = text} xs none whole p =
       subst (λ l. HasPut s v w l []) (sym (append-nil text) ∙ ap (λ ys. text ++ flat_map line ys) (sym none) ∙ whole) p
-
-  -- the line of the one at an index was put
-  pub line_at : (xs : List X) (i : ℕ) (x : X) (text l all : List ℕ) → i < length xs → x ≡ get_or xs i x → l ≡ line x → text ++ flat_map line (drop i xs) ≡ all → (text ++ l) ++ flat_map line (drop (i + 1) xs) ≡ all
-  line_at xs i x text l all h at is whole =
-      let one : suc i ≡ i + 1 = omega arith in
-      let next : drop i xs ≡ x ∷ drop (i + 1) xs = drop-cons xs i x h ∙ ap (λ y. y ∷ drop (suc i) xs) (sym at) ∙ ap (λ n. x ∷ drop n xs) one in
-      line_first x (drop (i + 1) xs) (drop i xs) text l all next is whole
 
 -- ---- how large a fragment is
 
@@ -70,7 +67,7 @@ near_start at len h ToEnd e = omega (arith, e)
 abbrev pub ListsTrafs : Command → Type 0
 ListsTrafs command = (command ≡ Fragments) ⊎ (command ≡ Records)
 
-pub listed_is : (command : Command) (n : ℕ) → ListsTrafs command → listed_by (operations.List command) n ≡ n
+pub listed_is : (command : Command) (n : ℕ) → ListsTrafs command → listed_by (operations.List command) n ≡ 2 * n
 listed_is command n (inl is) = rw is refl
 listed_is command n (inr is) = rw is refl
 
@@ -92,11 +89,50 @@ one_traf h tracks (b ∷ []) run one is = (traf_of h tracks b, refl, refl, sym (
 one_traf h tracks (b ∷ c ∷ bs) run one is = absurd (omega (arith, one))
 
 -- its lines are that of its traf
-pub single_line : (command : Command) (h : MoofBytes) (tracks : List Track) (l : SingleRun) (size : Option ℕ) (totals : TrafTotals) → IsSingle h tracks l
+pub single_line : (command : Command) (h : MoofBytes) (tracks : List Track) (l : SingleRun) (size : Option ℕ) (totals : TrafTotals) (presented : Presented) → IsSingle h tracks l
     → ((t : TrackFragment) → t.shared.moof.bytes ≡ h.bytes → runs_of t ≡ l.run ∷ [] → totals ≡ totals_of t)
-    → put_of command tracks (traf_with (sequence_of h) h.offset size totals) ≡ moof_lines command h tracks size
-single_line command h tracks l size totals single each =
+    → ((t : TrackFragment) → t.shared.moof.bytes ≡ h.bytes → runs_of t ≡ l.run ∷ [] → presented ≡ presented_of t)
+    → put_of command tracks (traf_with (sequence_of h) h.offset size tracks totals presented) ≡ moof_lines command h tracks size
+single_line command h tracks l size totals presented single each shown =
     let (t, is, bytes, runs) = one_traf h tracks (of_kind traf (children (moof_of h))) l.run single.traf single.run in
     let put = put_with command tracks (sequence_of h) h.offset size in
-    ap (λ k. put_of command tracks (traf_with (sequence_of h) h.offset size k)) (each t bytes runs)
-    ∙ (sym (append-nil (put t)) ∙ ap (flat_map put) (sym is))
+    ap (λ k. put_of command tracks (traf_with (sequence_of h) h.offset size tracks k presented)) (each t bytes runs)
+    ∙ (ap (λ k. put_of command tracks (traf_with (sequence_of h) h.offset size tracks (totals_of t) k)) (shown t bytes runs)
+    ∙ (sym (append-nil (put t)) ∙ ap (flat_map put) (sym is)))
+
+-- ---- the trafs of a moof
+
+-- they are read in its bytes
+pub trafs_bytes : (h : MoofBytes) (tracks : List Track) (bs : List Box) → AllByRecursion (λ (t : TrackFragment). t.shared.moof.bytes ≡ h.bytes) (map (traf_of h tracks) bs)
+unfolding traf_of
+trafs_bytes h tracks [] = tt
+trafs_bytes h tracks (b ∷ bs) = (refl, trafs_bytes h tracks bs)
+
+-- the only run of a traf that is sound
+only_ends : (s : Shared) (time : ℕ) (last : ℤ) (bs : List Box) (run : Run) → runs_from s time last bs ≡ run ∷ [] → run.time ≤ run.end
+unfolding runs_from run_of run_at
+only_ends s time last [] run is = absurd (omega (arith, ap length is))
+only_ends s time last (b ∷ bs) run is =
+    let same : run_of s time last b ≡ run = ap (λ (runs : List Run). get_or runs 0 run) is in
+    subst (λ (r : Run). r.time ≤ r.end) same (omega arith)
+
+pub only_run_is : (t : TrackFragment) (run : Run) → IsSound t → runs_of t ≡ run ∷ [] → (run.time ≤ run.end) × (durations (rows_of run t.shared.moof.bytes) < 2 ^ 64)
+only_run_is t run sound is =
+    let all : all_rows t.shared.moof.bytes (runs_of t) ≡ rows_of run t.shared.moof.bytes = ap (all_rows t.shared.moof.bytes) is ∙ append-nil (rows_of run t.shared.moof.bytes) in
+    (only_ends t.shared t.time _ t.truns run is, subst (λ rows. durations rows < 2 ^ 64) all (rows_last t sound))
+
+-- ---- the traks of a moov
+
+-- the one at an index is that of the track there
+pub track_at_is : {X Y : Type 0} (f : X → Y) (xs : List X) (i : ℕ) (x : X) (rest : List X) (y : Y) → x ∷ rest ≡ drop i xs → y ≡ get_or (map f xs) i y → y ≡ f x
+track_at_is f [] zero x rest y is at = absurd cc
+track_at_is f [] (suc i) x rest y is at = absurd cc
+track_at_is f (z ∷ zs) zero x rest y is at = at ∙ ap f (sym (ap (λ (l : List _). get_or l 0 x) is))
+track_at_is f (z ∷ zs) (suc i) x rest y is at = track_at_is f zs i x rest y is at
+
+-- and those after it
+pub drop_next : {X : Type 0} (xs : List X) (i : ℕ) (x : X) (rest : List X) → x ∷ rest ≡ drop i xs → rest ≡ drop (suc i) xs
+drop_next [] zero x rest is = absurd cc
+drop_next [] (suc i) x rest is = absurd cc
+drop_next (z ∷ zs) zero x rest is = ap (drop 1) is
+drop_next (z ∷ zs) (suc i) x rest is = drop_next zs i x rest is

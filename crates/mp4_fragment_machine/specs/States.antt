@@ -201,8 +201,8 @@ cut_most false n = 5 * n
 -- least number of rows read to list or recut n samples
 abbrev pub listed_by : Operation → ℕ → ℕ
 listed_by (operations.List Samples) n = n
-listed_by (operations.List Fragments) n = n
-listed_by (operations.List Records) n = n
+listed_by (operations.List Fragments) n = 2 * n
+listed_by (operations.List Records) n = 2 * n
 listed_by (operations.List Check) n = 0
 listed_by (operations.Split cut) n = cut_least cut.index n
 
@@ -219,8 +219,8 @@ cut_reads false = 8
 
 abbrev pub reads_of : Operation → ℕ
 reads_of (operations.List Samples) = 4
-reads_of (operations.List Fragments) = 4
-reads_of (operations.List Records) = 4
+reads_of (operations.List Fragments) = 5
+reads_of (operations.List Records) = 5
 reads_of (operations.List Check) = 3
 reads_of (operations.Split cut) = cut_reads cut.index
 

@@ -18,3 +18,4 @@ pub mod RecordFitLemmas
 pub mod StreamRecordLemmas
 pub mod LineLemmas
 pub mod RowLineLemmas
+pub mod PresentedLemmas

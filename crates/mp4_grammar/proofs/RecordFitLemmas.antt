@@ -1,9 +1,14 @@
 -- The numbers of the records of an accepted fragment have 64 and 32 bits.
-use Rattle.std.proofs.Common.{◌≡◌, ◌+◌, ◌-◌, ◌<◌, ◌≤◌, ◌^◌, ◌==◌, ℕ, zero, suc, Bool, true, false, cond, ltb, List, [], ◌∷◌, length, drop, map, Option, Some, None, refl, sym, ap, arith, subst, inl, inr}
+use Rattle.std.proofs.Common.{◌≡◌, ◌+◌, ◌-◌, ◌<◌, ◌≤◌, ◌^◌, ◌==◌, ◌+ℤ◌, ◌-ℤ◌, ◌≤ℤ◌, ℕ, ℤ, pos, negsuc, zero, suc, Bool, true, false, cond, ltb, List, [], ◌∷◌, ◌++◌, length, drop, map, Option, Some, None, refl, sym, ap, arith, subst, inl, inr}
 use Rattle.std.specs.Prelude.{option_map, slice_get}
-use Rattle.std.specs.List.{AllByRecursion, position}
+use Rattle.std.specs.Int.{int_min, w64}
+use Rattle.std.specs.Prelude.{FitsSigned}
+use Rattle.std.specs.List.{AllByRecursion, position, range_with_len}
 use Rattle.std.specs.Option.{option_and_then, unwrap_or}
-use Rattle.byteorder.specs.Endian.{big_number}
+use Rattle.std.proofs.lemmas.Bool.{ltb-false}
+use Rattle.std.proofs.lemmas.Int.{int_min_is, ints}
+use Rattle.std.proofs.lemmas.List.Sums.{sum_by-cons}
+use Rattle.byteorder.specs.Endian.{big_number, twos_complement}
 use Rattle.mp4_box.specs.Fields.{long_number_in, number_in, version_in}
 use Rattle.mp4_box.specs.Headers.{IsBytes}
 use Rattle.mp4_box.specs.Paths.{at_path, of_kind}
@@ -18,6 +23,9 @@ use Rattle.mp4_traf.specs.Ranges.{IsSound}
 use Rattle.mp4_traf.specs.Runs.{MoofBytes, TrackFragment, base_by, base_of, end_of, last_end, no_track, runs_of, tfhd_of, track_of, traf_of}
 use Rattle.mp4_traf.specs.Tfdt.{base_media_decode_time}
 use Rattle.mp4_traf.specs.Tfhd.{fields_of, track_id}
+use Rattle.mp4_traf.specs.Rows.{group_at, offset_at, offset_by, row_of, rows_of}
+use Rattle.mp4_traf.specs.SyncSamples.{is_sync}
+use Rattle.mp4_traf.specs.declared.rows.Row.{Row}
 use Rattle.mp4_traf.specs.declared.run.Run.{Run}
 use Rattle.mp4_traf.proofs.TrafTotalLemmas.{few_bytes_in, few_samples}
 use Rattle.mp4_frag.specs.Moofs.{moof_of, moof_trafs, no_box, sequence_of}
@@ -27,6 +35,8 @@ use Rattle.mp4_frag.proofs.SoundLemmas.{number_or_small}
 use Rattle.mp4_machine.specs.Bodies.{longest}
 use Rattle.mp4_grammar.specs.AcceptedFragments.{IsAccepted, IsTrack}
 use Rattle.mp4_grammar.specs.Meanings.{Fragment}
+use Rattle.mp4_grammar.specs.Presented.{all_rows, earliest_from, earliest_in, once_if, syncs_in}
+use Rattle.mp4_grammar.proofs.PresentedLemmas.{few_rows}
 use Rattle.mp4_grammar.specs.TrafRecords.{IsRecord, one_or_none, size_or_all, traf_record}
 
 -- ---- the track of a traf
@@ -106,6 +116,77 @@ sync_small : (t : Bool) → one_or_none t < 2 ^ 32
 sync_small true = omega arith
 sync_small false = omega arith
 
+-- ---- when samples are presented
+
+-- a signed number of 32 bits, or an unsigned one
+record IsOffset (z : ℤ) : Type 0 where
+  low : pos 0 ≤ℤ (z +ℤ pos (2 ^ 31))
+  high : z ≤ℤ pos (2 ^ 32)
+
+twos_small : (n : ℕ) → n < 2 ^ 32 → IsOffset (twos_complement 4 n)
+twos_small n small = by (ltb n (2 ^ 31)) refl
+  where
+    by : (t : Bool) → ltb n (2 ^ 31) ≡ t → IsOffset (cond t (pos n) (pos n -ℤ pos (2 ^ 32)))
+    by true e = record { low = omega (arith, ints); high = omega (arith, ints, small) }
+    by false e = record { low = omega (arith, ints, ltb-false _ _ e); high = omega (arith, ints, small) }
+
+offset_small : (version n : ℕ) → n < 2 ^ 32 → IsOffset (offset_by version n)
+offset_small version n small = by (version == 0)
+  where
+    by : (t : Bool) → IsOffset (cond t (pos n) (twos_complement 4 n))
+    by true = record { low = omega (arith, ints); high = omega (arith, ints, small) }
+    by false = twos_small n small
+
+field_small : (moof_bytes : List ℕ) (version g : ℕ) (o : Option ℕ) → IsBytes moof_bytes → IsOffset (offset_at moof_bytes version g o)
+field_small moof_bytes version g None fits = record { low = omega (arith, ints); high = omega (arith, ints) }
+field_small moof_bytes version g (Some at) fits = offset_small version (number_in moof_bytes (g + at)) (number_small moof_bytes (g + at) fits)
+
+mapped : (run : Run) (moof_bytes : List ℕ) (i n : ℕ) → IsBytes moof_bytes → AllByRecursion (λ (row : Row). IsOffset row.offset) (map (row_of run moof_bytes) (range_with_len i n))
+unfolding row_of
+mapped run moof_bytes i zero fits = tt
+mapped run moof_bytes i (suc n) fits = (field_small moof_bytes run.version (group_at run i) run.fields.sample_composition_time_offset fits, mapped run moof_bytes (i + 1) n fits)
+
+joined_all : (xs ys : List Row) → AllByRecursion (λ (row : Row). IsOffset row.offset) xs → AllByRecursion (λ (row : Row). IsOffset row.offset) ys → AllByRecursion (λ (row : Row). IsOffset row.offset) (xs ++ ys)
+joined_all [] ys all more = more
+joined_all (x ∷ xs) ys all more = (all.0, joined_all xs ys all.1 more)
+
+offsets_small : (moof_bytes : List ℕ) (runs : List Run) → IsBytes moof_bytes → AllByRecursion (λ (row : Row). IsOffset row.offset) (all_rows moof_bytes runs)
+offsets_small moof_bytes [] fits = tt
+offsets_small moof_bytes (run ∷ runs) fits = joined_all (rows_of run moof_bytes) (all_rows moof_bytes runs) (mapped run moof_bytes 0 (run.count - 0) fits) (offsets_small moof_bytes runs fits)
+
+least_small : (best : ℤ) (elapsed : ℕ) (row : Row) → IsOffset best → IsOffset row.offset → IsOffset (int_min best (pos elapsed +ℤ row.offset))
+least_small best elapsed row is small =
+    let least = int_min_is best (pos elapsed +ℤ row.offset) in
+    record { low = omega (arith, ints, least, is.low, small.low); high = omega (arith, ints, least, is.high) }
+
+found_small : (best : ℤ) (elapsed : ℕ) (rows : List Row) → IsOffset best → AllByRecursion (λ (row : Row). IsOffset row.offset) rows → IsOffset (unwrap_or (earliest_from (Some best) elapsed rows) (pos 0))
+unfolding earliest_from
+found_small best elapsed [] is all = is
+found_small best elapsed (row ∷ rows) is all = found_small (int_min best (pos elapsed +ℤ row.offset)) (elapsed + row.duration) rows (least_small best elapsed row is all.0) all.1
+
+first_small : (row : Row) → IsOffset row.offset → IsOffset (pos 0 +ℤ row.offset)
+first_small row is = record { low = omega (arith, ints, is.low); high = omega (arith, ints, is.high) }
+
+all_small : (rows : List Row) → AllByRecursion (λ (row : Row). IsOffset row.offset) rows → IsOffset (earliest_in rows)
+unfolding earliest_from
+all_small [] all = record { low = omega (arith, ints); high = omega (arith, ints) }
+all_small (row ∷ rows) all = found_small (pos 0 +ℤ row.offset) (0 + row.duration) rows (first_small row all.0) all.1
+
+offset_fits : (z : ℤ) → IsOffset z → FitsSigned w64 z
+offset_fits (pos n) is = record { sfits = omega (arith, ints, is.high) }
+offset_fits (negsuc n) is = record { sfits = omega (arith, ints, is.low) }
+
+earliest_fits : (t : TrackFragment) → IsSound t → FitsSigned w64 (earliest_in (all_rows t.shared.moof.bytes (runs_of t)))
+earliest_fits t sound = offset_fits _ (all_small (all_rows t.shared.moof.bytes (runs_of t)) (offsets_small t.shared.moof.bytes (runs_of t) sound.moof_bytes))
+
+once_most : (t : Bool) → once_if t ≤ 1
+once_most true = omega arith
+once_most false = omega arith
+
+syncs_few : (rows : List Row) → syncs_in rows ≤ length rows
+syncs_few [] = omega arith
+syncs_few (row ∷ rows) = omega (arith, sum_by-cons (λ (row : Row). once_if (is_sync row.flags)) row rows, once_most (is_sync row.flags), syncs_few rows)
+
 -- what a traf of an accepted fragment is
 pub record IsTraf (f : Fragment) (t : TrackFragment) : Type 0 where
   time : t.time < 2 ^ 64
@@ -138,6 +219,9 @@ record_is f t is traf = record {
   timescale = (known_fits f.tracks (position (λ (x : Track). x.id == t.shared.header.track) f.tracks) is.tracks).fields.timescale;
   samples = few_samples t traf.sound;
   sync = sync_small _;
+  syncs = omega (arith, syncs_few (all_rows t.shared.moof.bytes (runs_of t)), few_rows t traf.sound);
+  ended = (known_fits f.tracks (position (λ (x : Track). x.id == t.shared.header.track) f.tracks) is.tracks).next;
+  earliest = earliest_fits t traf.sound;
 }
 
 trafs_are : (f : Fragment) (bs : List Box) → IsAccepted f → AllByRecursion OfBytes bs → AllByRecursion IsSound (map (traf_of f.moof f.tracks) bs) → AllByRecursion (IsTraf f) (map (traf_of f.moof f.tracks) bs)

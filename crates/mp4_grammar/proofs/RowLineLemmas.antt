@@ -1,13 +1,11 @@
--- The line of a traf by the rows of its samples, and the lines of trafs and tracks by their boxes.
+-- The line of a traf by the rows of its samples, and the lines of trafs by their boxes.
 use Rattle.std.proofs.Common.{◌≡◌, ◌∙◌, ℕ, ℤ, List, [], ◌∷◌, ◌++◌, length, map, Option, Some, None, refl, ap, arith, length-append}
 use Rattle.std.specs.Prelude.{option_map}
 use Rattle.std.specs.List.{flat_map, sum_by}
 use Rattle.std.specs.Option.{unwrap_or}
 use Rattle.std.proofs.lemmas.List.Sums.{sum_by-append, sum_by-cons}
-use Rattle.mp4_box.specs.Paths.{at_path, of_kind}
-use Rattle.mp4_box.specs.Trees.{Box, children, first_of}
-use Rattle.mp4_init.specs.Kinds.{trak}
-use Rattle.mp4_init.specs.Tracks.{track_of, tracks_of}
+use Rattle.mp4_box.specs.Paths.{at_path}
+use Rattle.mp4_box.specs.Trees.{Box, first_of}
 use Rattle.mp4_init.specs.declared.table.Track.{Track}
 use Rattle.mp4_traf.specs.Kinds.{tfdt}
 use Rattle.mp4_traf.specs.Rows.{durations, group_at, row_of, rows_of, sizes}
@@ -21,22 +19,20 @@ use Rattle.mp4_traf.specs.declared.run.Run.{Run}
 use Rattle.mp4_traf.proofs.FirstSampleLemmas.{first_is}
 use Rattle.mp4_traf.proofs.RowLemmas.{length_rows_of}
 use Rattle.mp4_traf.proofs.TrafTotalLemmas.{duration_is}
-use Rattle.mp4_grammar.specs.FragmentLines.{fragment_lines, listed_track, listed_traf, track_line, track_lines, traf_line}
+use Rattle.mp4_grammar.specs.FragmentLines.{fragment_lines, listed_traf, traf_line}
 use Rattle.mp4_grammar.specs.LinesByRows.{first_is_sync, line_of, rows_in, traf_boxes, traf_in}
 use Rattle.mp4_grammar.specs.Meanings.{Fragment}
+use Rattle.mp4_grammar.specs.Presented.{all_rows}
 use Rattle.mp4_grammar.specs.TrafRecords.{fragment_records, record_bytes, traf_record}
 
 -- ---- sums over the rows of all runs
 
-abbrev all_rows : List ℕ → List Run → List Row
-all_rows moof_bytes runs = flat_map (λ (run : Run). rows_of run moof_bytes) runs
-
-count_rows : (moof_bytes : List ℕ) (runs : List Run) → sum_by (λ (run : Run). run.count) runs ≡ length (all_rows moof_bytes runs)
+pub count_rows : (moof_bytes : List ℕ) (runs : List Run) → sum_by (λ (run : Run). run.count) runs ≡ length (all_rows moof_bytes runs)
 count_rows moof_bytes [] = refl
 count_rows moof_bytes (run ∷ runs) =
     omega (arith, sum_by-cons (λ (run : Run). run.count) run runs, length-append (rows_of run moof_bytes) (all_rows moof_bytes runs), length_rows_of run moof_bytes, count_rows moof_bytes runs)
 
-sum_rows : (field : Row → ℕ) (moof_bytes : List ℕ) (runs : List Run) → sum_by (λ (run : Run). sum_by field (rows_of run moof_bytes)) runs ≡ sum_by field (all_rows moof_bytes runs)
+pub sum_rows : (field : Row → ℕ) (moof_bytes : List ℕ) (runs : List Run) → sum_by (λ (run : Run). sum_by field (rows_of run moof_bytes)) runs ≡ sum_by field (all_rows moof_bytes runs)
 sum_rows field moof_bytes [] = refl
 sum_rows field moof_bytes (run ∷ runs) =
     omega (arith, sum_by-cons (λ (run : Run). sum_by field (rows_of run moof_bytes)) run runs, sum_by-append field (rows_of run moof_bytes) (all_rows moof_bytes runs), sum_rows field moof_bytes runs)
@@ -88,6 +84,10 @@ pub timescale_of_track : (f : Fragment) (b : Box) (t : Track) → track_with (tr
 unfolding traf_of
 timescale_of_track f b t is = ap (λ (o : Option Track). (unwrap_or o no_track).timescale) is
 
+pub ended_of_track : (f : Fragment) (b : Box) (t : Track) → track_with (track_id (tfhd_of b)) f.tracks ≡ Some t → (line_of f b).ended ≡ t.next
+unfolding traf_of
+ended_of_track f b t is = ap (λ (o : Option Track). (unwrap_or o no_track).next) is
+
 -- ---- all lines
 
 lines_by : (f : Fragment) (bs : List Box) → flat_map (λ t. traf_line (listed_traf f t)) (map (traf_in f) bs) ≡ flat_map (λ b. traf_line (line_of f b)) bs
@@ -103,10 +103,3 @@ records_by f (b ∷ bs) = ap (λ (l : List ℕ). record_bytes (traf_record f (tr
 
 pub record_for_each_traf : (f : Fragment) → fragment_records f ≡ flat_map (λ b. record_bytes (traf_record f (traf_in f b))) (traf_boxes f)
 record_for_each_traf f = records_by f (traf_boxes f)
-
-tracks_by : (moov : Box) (bs : List Box) → flat_map (λ t. track_line (listed_track t)) (map (track_of moov) bs) ≡ flat_map (λ b. track_line (listed_track (track_of moov b))) bs
-tracks_by moov [] = refl
-tracks_by moov (b ∷ bs) = ap (λ (l : List ℕ). track_line (listed_track (track_of moov b)) ++ l) (tracks_by moov bs)
-
-pub line_for_each_track : (moov : Box) → track_lines (tracks_of moov) ≡ flat_map (λ b. track_line (listed_track (track_of moov b))) (of_kind trak (children moov))
-line_for_each_track moov = tracks_by moov (of_kind trak (children moov))

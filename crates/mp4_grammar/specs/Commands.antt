@@ -1,12 +1,12 @@
 -- The commands that read fragments and write no fragments.
 use Rattle.std.specs.Prelude.{ℕ, List, [], None}
-use Rattle.mp4_init.specs.Moovs.{moov_tracks}
 use Rattle.mp4_machine.specs.Readings.{Reading, Effects, no_effects, says, counts, both}
 use Rattle.mp4_grammar.specs.Contexts.{first_context}
-use Rattle.mp4_grammar.specs.FragmentLines.{fragment_lines, track_lines}
+use Rattle.mp4_grammar.specs.FragmentLines.{fragment_lines}
 use Rattle.mp4_grammar.specs.Items.{reads_in}
 use Rattle.mp4_grammar.specs.Meanings.{Fragment, Meaning, counted_in}
 use Rattle.mp4_grammar.specs.Samples.{sample_lines, samples_in}
+use Rattle.mp4_grammar.specs.TrackLines.{moov_lines}
 use Rattle.mp4_grammar.specs.TrafRecords.{fragment_records}
 use Rattle.mp4_grammar.specs.declared.command.Command.{Command}
 use Rattle.mp4_grammar.specs.declared.command.Command.TheVariants.{Samples, Fragments, Records, Check}
@@ -14,7 +14,7 @@ use Rattle.mp4_grammar.specs.declared.command.Command.TheVariants.{Samples, Frag
 -- what is written of a moov: its tracks, if fragments are listed. Where in the stream it lies makes no difference to them
 abbrev pub written_of_moov : Command → List ℕ → List ℕ
 written_of_moov Samples x = []
-written_of_moov Fragments x = track_lines (moov_tracks 0 x)
+written_of_moov Fragments x = moov_lines x
 written_of_moov Records x = []
 written_of_moov Check x = []
 

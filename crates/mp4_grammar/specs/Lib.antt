@@ -3,7 +3,9 @@ pub mod Contexts
 pub mod Meanings
 pub mod Items
 pub mod Samples
+pub mod Presented
 pub mod FragmentLines
+pub mod TrackLines
 pub mod LinesByRows
 pub mod TrafRecords
 pub mod AcceptedFragments

@@ -1,5 +1,6 @@
--- The trafs of a fragment as records: each is 64 bytes, and each of its numbers begins with the highest byte.
-use Rattle.std.specs.Prelude.{ℕ, ◌-◌, ◌^◌, ◌<◌, Bool, true, false, List, [], ◌∷◌, ◌++◌, drop, Option, Some, None}
+-- The trafs of a fragment as records: each is 80 bytes, and each of its numbers begins with the highest byte.
+use Rattle.std.specs.Prelude.{ℕ, ◌-◌, ◌^◌, ◌<◌, Bool, true, false, FitsSigned, List, ◌++◌, drop, Option, Some, None}
+use Rattle.std.specs.Int.{cast_signed, cast_unsigned, w64}
 use Rattle.std.specs.List.{flat_map}
 use Rattle.byteorder.specs.Endian.{big_bytes, big_number}
 use Rattle.mp4_frag.specs.Moofs.{moof_trafs}
@@ -31,6 +32,9 @@ record_with timescale t = record {
   timescale = timescale;
   samples = t.samples;
   sync = one_or_none t.sync;
+  syncs = t.presented.syncs;
+  ended = t.ended;
+  earliest = t.presented.earliest;
 }
 
 -- the record of a traf of a fragment
@@ -58,12 +62,16 @@ sum_bytes r = in_8 r.time ++ in_8 r.duration ++ in_8 r.media
 abbrev pub track_bytes : TrafRecord → List ℕ
 track_bytes r = in_4 r.sequence ++ in_4 r.track ++ in_4 r.timescale
 
--- how many samples it has, whether the first is a sync sample, and four zeros
+-- how many samples it has, whether the first is a sync sample, and how many are
 abbrev pub sample_bytes : TrafRecord → List ℕ
-sample_bytes r = in_4 r.samples ++ in_4 r.sync ++ 0 ∷ 0 ∷ 0 ∷ 0 ∷ []
+sample_bytes r = in_4 r.samples ++ in_4 r.sync ++ in_4 r.syncs
+
+-- when its track ended before, and when the first of its samples is presented, in two's complement
+abbrev pub shown_bytes : TrafRecord → List ℕ
+shown_bytes r = in_8 r.ended ++ in_8 (cast_unsigned w64 r.earliest)
 
 unfoldable pub record_bytes : TrafRecord → List ℕ
-record_bytes r = place_bytes r ++ sum_bytes r ++ track_bytes r ++ sample_bytes r
+record_bytes r = place_bytes r ++ sum_bytes r ++ track_bytes r ++ sample_bytes r ++ shown_bytes r
 
 -- the records of some trafs of a fragment, and those of all
 abbrev pub record_texts : Fragment → List TrackFragment → List ℕ
@@ -74,11 +82,11 @@ fragment_records f = record_texts f (moof_trafs f.moof f.tracks)
 
 -- how many there are
 abbrev pub record_len : ℕ
-record_len = 64
+record_len = 80
 
 -- ---- read again
 
--- the record that 64 bytes are
+-- the record that 80 bytes are
 abbrev pub record_of : List ℕ → TrafRecord
 record_of bytes = record {
   at = big_number 8 bytes;
@@ -91,6 +99,9 @@ record_of bytes = record {
   timescale = big_number 4 (drop 48 bytes);
   samples = big_number 4 (drop 52 bytes);
   sync = big_number 4 (drop 56 bytes);
+  syncs = big_number 4 (drop 60 bytes);
+  ended = big_number 8 (drop 64 bytes);
+  earliest = cast_signed w64 (big_number 8 (drop 72 bytes));
 }
 
 -- its numbers have 64 and 32 bits
@@ -105,3 +116,6 @@ pub record IsRecord (r : TrafRecord) : Type 0 where
   pub timescale : r.timescale < 2 ^ 32
   pub samples : r.samples < 2 ^ 32
   pub sync : r.sync < 2 ^ 32
+  pub syncs : r.syncs < 2 ^ 32
+  pub ended : r.ended < 2 ^ 64
+  pub earliest : FitsSigned w64 r.earliest

@@ -1,14 +1,16 @@
 //! What the definitions of a fragmented stream's reading imply.
 
-ghost use Rattle.std.specs.Prelude.{◌≡◌, ◌+◌, ◌-◌, ◌*◌, ◌^◌, ◌≤◌, ◌++◌, ◌∷◌, [], List, ℕ, Some, None, true, false, codes, length, take};
+ghost use Rattle.std.specs.Prelude.{◌≡◌, ◌+◌, ◌-◌, ◌*◌, ◌^◌, ◌≤◌, ◌++◌, ◌∷◌, [], List, ℕ, Some, None, true, false, codes, drop, length, map, pos, negsuc, take};
+ghost use Rattle.std.specs.Int.{bytes_high_first};
 ghost use Rattle.std.specs.List.{AllByRecursion, flat_map, sum_by};
+ghost use Rattle.mp4_box.specs.Fields.{number_in};
 ghost use Rattle.mp4_box.specs.Headers.{IsBytes};
 ghost use Rattle.mp4_box.specs.Paths.{at_path, of_kind};
-ghost use Rattle.mp4_box.specs.Trees.{Box, children, first_of};
+ghost use Rattle.mp4_box.specs.Trees.{Box, boxes, children, first_of};
 ghost use Rattle.mp4_box.specs.declared.headers.Header.{Header};
 ghost use Rattle.mp4_box.specs.declared.headers.Size.TheVariants.{Exact, ToEnd};
-ghost use Rattle.mp4_init.specs.Kinds.{trak};
-ghost use Rattle.mp4_init.specs.Tracks.{entries_of, id_of, timescale_of, track_of, tracks_of};
+ghost use Rattle.mp4_init.specs.Kinds.{mdia, minf, stbl, stsd, trak};
+ghost use Rattle.mp4_init.specs.Tracks.{entries_of, id_of, timescale_of, track_of};
 ghost use Rattle.mp4_init.specs.declared.table.Track.{Track};
 ghost use Rattle.mp4_frag.specs.Moofs.{moof_trafs, sequence_of};
 ghost use Rattle.mp4_traf.specs.Kinds.{tfdt};
@@ -24,7 +26,7 @@ ghost use Rattle.mp4_grammar.specs.AcceptedFragments.{AreFragmentRecords, AreRec
 ghost use Rattle.mp4_grammar.specs.Commands.{command_meaning, reading};
 ghost use Rattle.mp4_grammar.specs.Contexts.{Context, first_context};
 ghost use Rattle.mp4_grammar.specs.Counts.{InspectsOn};
-ghost use Rattle.mp4_grammar.specs.FragmentLines.{fragment_lines, listed_track, listed_traf, track_line, track_lines, traf_line};
+ghost use Rattle.mp4_grammar.specs.FragmentLines.{fragment_lines, listed_traf, traf_line};
 ghost use Rattle.mp4_grammar.specs.HeldSizes.{HoldsWithin};
 ghost use Rattle.mp4_grammar.specs.Items.{fragment, reads_in};
 ghost use Rattle.mp4_grammar.specs.Joined.{AreSound, IsSound, Item, MovieFragment, OneBox, context_after_all, fragment_in, joined, items_effects, tracks_in};
@@ -32,6 +34,8 @@ ghost use Rattle.mp4_grammar.specs.Kinds.{most_moof, most_moov};
 ghost use Rattle.mp4_grammar.specs.LinesByRows.{first_is_sync, line_of, rows_in, traf_boxes, traf_in};
 ghost use Rattle.mp4_grammar.specs.Meanings.{Fragment, Meaning, counted_in};
 ghost use Rattle.mp4_grammar.specs.Rests.{IsRest, Split};
+ghost use Rattle.mp4_grammar.specs.Presented.{earliest_in, syncs_in};
+ghost use Rattle.mp4_grammar.specs.TrackLines.{hdlr, kinds_of, listed_track, track_front, track_line, track_lines, types_text};
 ghost use Rattle.mp4_grammar.specs.TrafRecords.{IsRecord, fragment_records, record_bytes, record_with, traf_record};
 ghost use Rattle.mp4_grammar.specs.WithoutText.{IsWithoutText, without_text};
 ghost use Rattle.mp4_grammar.specs.declared.command.Command.{Command};
@@ -128,7 +132,8 @@ pub fn fragments_have_a_line_for_each_traf()
 
 /// The line of a traf has the track_ID of its tfhd, and the time of its tfdt, or else that at which its track ended.
 /// The rest is by the rows of its samples: how many there are, their durations and their sizes, added up, and whether
-/// the first is that of a sync sample.
+/// the first is that of a sync sample, how many are, and after how many ticks the first of them is presented. It has also
+/// the time at which its track ended before.
 pub fn lines_have_what_their_trafs_have()
     ensures track { (f : Fragment) (b : Box) → (line_of f b).track ≡ track_id (tfhd_of b) }
     ensures own_time { (f : Fragment) (b : Box) (d : Box) → first_of (at_path (tfdt ∷ []) b) ≡ Some d →
@@ -139,16 +144,28 @@ pub fn lines_have_what_their_trafs_have()
     ensures duration { (f : Fragment) (b : Box) → (line_of f b).duration ≡ durations (rows_in f b) }
     ensures media { (f : Fragment) (b : Box) → (line_of f b).media ≡ sizes (rows_in f b) }
     ensures sync { (f : Fragment) (b : Box) → (line_of f b).sync ≡ first_is_sync (rows_in f b) }
+    ensures earliest { (f : Fragment) (b : Box) →
+        (line_of f b).presented.earliest ≡ earliest_in (rows_in f b) }
+    ensures syncs { (f : Fragment) (b : Box) → (line_of f b).presented.syncs ≡ syncs_in (rows_in f b) }
+    ensures ended { (f : Fragment) (b : Box) (t : Track) →
+        track_with (track_id (tfhd_of b)) f.tracks ≡ Some t → (line_of f b).ended ≡ t.next }
 {}
 
-/// The line of a track of a moov has the track_ID of its tkhd, the timescale of its mdhd, and the entry_count of its
-/// stsd.
+/// The line of a track of a moov has the track_ID of its tkhd, the timescale of its mdhd, the entry_count of its stsd,
+/// the handler_type of its hdlr, and the types of the boxes in its stsd, as many as it counts.
 pub fn lines_have_what_their_tracks_have()
-    ensures lines { (moov : Box) → track_lines (tracks_of moov) ≡
-        flat_map (λ b. track_line (listed_track (track_of moov b))) (of_kind trak (children moov)) }
-    ensures id { (moov b : Box) → (listed_track (track_of moov b)).id ≡ id_of b }
-    ensures timescale { (moov b : Box) → (listed_track (track_of moov b)).timescale ≡ timescale_of b }
-    ensures entries { (moov b : Box) → (listed_track (track_of moov b)).entries ≡ entries_of b }
+    ensures lines { (moov : Box) → track_lines moov ≡
+        flat_map (λ b. track_line (track_of moov b) b) (of_kind trak (children moov)) }
+    ensures id { (moov b : Box) → (listed_track (track_of moov b) b).id ≡ id_of b }
+    ensures timescale { (moov b : Box) → (listed_track (track_of moov b) b).timescale ≡ timescale_of b }
+    ensures entries { (moov b : Box) → (listed_track (track_of moov b) b).entries ≡ entries_of b }
+    ensures handler { (moov b h : Box) → first_of (at_path (mdia ∷ hdlr ∷ []) b) ≡ Some h →
+        (listed_track (track_of moov b) b).handler.0 ≡ bytes_high_first 4 (number_in h.payload 8) }
+    ensures no_handler { (moov b : Box) → first_of (at_path (mdia ∷ hdlr ∷ []) b) ≡ None →
+        (listed_track (track_of moov b) b).handler.0 ≡ 0 ∷ 0 ∷ 0 ∷ 0 ∷ [] }
+    ensures kinds { (b s : Box) → first_of (at_path (mdia ∷ minf ∷ stbl ∷ stsd ∷ []) b) ≡ Some s →
+        kinds_of b ≡ take (number_in s.payload 4)
+        (map (λ (e : Box). e.header.kind) (boxes 0 (drop 8 s.payload))) }
 {}
 
 /// A fragment has a record for each traf box of its moof, in order. Each has what the line has: 1 where this says that
@@ -174,6 +191,9 @@ pub fn records_have_what_their_lines_have()
     ensures timescale { (f : Fragment) (b : Box) (t : Track) →
         track_with (track_id (tfhd_of b)) f.tracks ≡ Some t →
         (traf_record f (traf_in f b)).timescale ≡ t.timescale }
+    ensures shown { (f : Fragment) (b : Box) → ((traf_record f (traf_in f b)).ended ≡ (line_of f b).ended) ×
+        ((traf_record f (traf_in f b)).earliest ≡ (line_of f b).presented.earliest) ×
+        ((traf_record f (traf_in f b)).syncs ≡ (line_of f b).presented.syncs) }
 {}
 
 /// The numbers of a record have their 64 and 32 bits, for each traf of a fragment that is accepted.
@@ -200,8 +220,8 @@ pub fn each_stream_is_records()
     ensures records { (b : List ℕ) → IsBytes b → AreRecords (reading Records b).effects.text }
 {}
 
-/// Worked lines: a traf whose numbers need more than 32 bits, one whose mdat goes to the end of the stream and that
-/// begins with no sync sample, and a track.
+/// Worked lines: a traf whose numbers need more than 32 bits, one whose mdat goes to the end of the stream, that begins
+/// with no sync sample and before its track ended, and a track.
 pub fn worked_lines()
     ensures traf { traf_line (record {
       sequence = 7;
@@ -213,8 +233,10 @@ pub fn worked_lines()
       samples = 3;
       sync = true;
       media = 15;
-    }) ≡ codes
-        "fragment=7 at=4294967660 size=119 track=2 dts=4294967301 dur=3072 samples=3 sync=yes media=15\n" }
+      presented = record { earliest = pos 2048; syncs = 2 };
+      ended = 5;
+    }) ≡ codes "fragment=7 at=4294967660 size=119 track=2 dts=4294967301 dur=3072 samples=3 sync=yes media=15" ++
+        codes " pts=4294969349 syncs=2 gap=4294967296\n" }
     ensures open { traf_line (record {
       sequence = 8;
       at = 364;
@@ -225,14 +247,22 @@ pub fn worked_lines()
       samples = 1;
       sync = false;
       media = 4294967299;
-    }) ≡ codes
-        "fragment=8 at=364 size=end track=1 dts=4096 dur=4294967296 samples=1 sync=no media=4294967299\n" }
-    ensures track { track_line (record { id = 2; timescale = 90000; entries = 3 }) ≡ codes
-        "track=2 timescale=90000 entries=3\n" }
+      presented = record { earliest = negsuc 5119; syncs = 0 };
+      ended = 4294967296;
+    }) ≡ codes "fragment=8 at=364 size=end track=1 dts=4096 dur=4294967296 samples=1 sync=no media=4294967299" ++
+        codes " pts=-1024 syncs=0 gap=-4294963200\n" }
+    ensures track { track_front (record {
+      id = 2;
+      timescale = 90000;
+      entries = 3;
+      handler = record { 0 = codes "vide" };
+    }) ++ types_text true (record { 0 = codes "avc1" } ∷ record { 0 = 0 ∷ 44 ∷ 32 ∷ 126 ∷ [] } ∷ []) ≡
+        codes "track=2 timescale=90000 entries=3 handler=vide types=avc1,???~\n" }
+    ensures no_entry { types_text true [] ≡ codes "-\n" }
 {}
 
 /// Worked records: that of a line with numbers of more than 32 bits, that of one whose mdat goes to the end of the
-/// stream, and the 64 bytes of one whose numbers differ.
+/// stream and begins before its track ended, and the 80 bytes of one whose numbers differ.
 pub fn worked_records()
     ensures sized { record_with 90000 (record {
       sequence = 7;
@@ -244,6 +274,8 @@ pub fn worked_records()
       samples = 3;
       sync = true;
       media = 4294967311;
+      presented = record { earliest = pos 4294967295; syncs = 2 };
+      ended = 4294967303;
     }) ≡
         record {
           at = 4294967660;
@@ -256,6 +288,9 @@ pub fn worked_records()
           timescale = 90000;
           samples = 3;
           sync = 1;
+          syncs = 2;
+          ended = 4294967303;
+          earliest = pos 4294967295;
         } }
     ensures open { record_with 48000 (record {
       sequence = 8;
@@ -267,6 +302,8 @@ pub fn worked_records()
       samples = 1;
       sync = false;
       media = 5;
+      presented = record { earliest = negsuc 1023; syncs = 0 };
+      ended = 3072;
     }) ≡
         record {
           at = 364;
@@ -279,6 +316,9 @@ pub fn worked_records()
           timescale = 48000;
           samples = 1;
           sync = 0;
+          syncs = 0;
+          ended = 3072;
+          earliest = negsuc 1023;
         } }
     ensures bytes { record_bytes (record {
       at = 0x0102030405060708;
@@ -291,6 +331,9 @@ pub fn worked_records()
       timescale = 0x71727374;
       samples = 0x81828384;
       sync = 1;
+      syncs = 0x91929394;
+      ended = 0xa1a2a3a4a5a6a7a8;
+      earliest = negsuc 258;
     }) ≡
         0x01 ∷ 0x02 ∷ 0x03 ∷ 0x04 ∷ 0x05 ∷ 0x06 ∷ 0x07 ∷ 0x08 ∷
         0x11 ∷ 0x12 ∷ 0x13 ∷ 0x14 ∷ 0x15 ∷ 0x16 ∷ 0x17 ∷ 0x18 ∷
@@ -299,7 +342,9 @@ pub fn worked_records()
         0x41 ∷ 0x42 ∷ 0x43 ∷ 0x44 ∷ 0x45 ∷ 0x46 ∷ 0x47 ∷ 0x48 ∷
         0x51 ∷ 0x52 ∷ 0x53 ∷ 0x54 ∷ 0x61 ∷ 0x62 ∷ 0x63 ∷ 0x64 ∷
         0x71 ∷ 0x72 ∷ 0x73 ∷ 0x74 ∷ 0x81 ∷ 0x82 ∷ 0x83 ∷ 0x84 ∷
-        0x00 ∷ 0x00 ∷ 0x00 ∷ 0x01 ∷ 0x00 ∷ 0x00 ∷ 0x00 ∷ 0x00 ∷ [] }
+        0x00 ∷ 0x00 ∷ 0x00 ∷ 0x01 ∷ 0x91 ∷ 0x92 ∷ 0x93 ∷ 0x94 ∷
+        0xa1 ∷ 0xa2 ∷ 0xa3 ∷ 0xa4 ∷ 0xa5 ∷ 0xa6 ∷ 0xa7 ∷ 0xa8 ∷
+        0xff ∷ 0xff ∷ 0xff ∷ 0xff ∷ 0xff ∷ 0xff ∷ 0xfe ∷ 0xfd ∷ [] }
 {}
 
 /// All samples that are counted were inspected.

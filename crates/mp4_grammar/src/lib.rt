@@ -6,7 +6,7 @@
 //! - [`cached_line`]: [`CachedLine`], the lines of samples that follow one another;
 //! - [`listed_traf`]: [`ListedTraf`], a traf of a fragment and its line, and [`listed_track`]: [`ListedTrack`], a track
 //!   and its line;
-//! - [`traf_record`]: [`TrafRecord`], a traf as 64 bytes;
+//! - [`traf_record`]: [`TrafRecord`], a traf as 80 bytes;
 //! - [`laws`]: what the definitions of `specs/` imply.
 //!
 //! The definitions: `specs/Items.antt` (what is at the front of some bytes, and its effects) with `specs/Contexts.antt`
@@ -26,13 +26,15 @@ pub mod kinds;
 pub mod laws;
 pub mod listed_track;
 pub mod listed_traf;
+pub mod presented;
 pub mod sample;
 pub mod traf_record;
 
 pub use cached_line::CachedLine;
 pub use command::Command;
 pub use kinds::{Kind, MOST_MOOF, MOST_MOOV, kind_of};
-pub use listed_track::ListedTrack;
+pub use listed_track::{ListedEntry, ListedTrack};
 pub use listed_traf::ListedTraf;
+pub use presented::Presented;
 pub use sample::Sample;
 pub use traf_record::{RECORD_BYTES, TrafRecord};

@@ -1,12 +1,18 @@
 //! The tracks of a stream, and their lines.
 
-ghost use Rattle.std.specs.Prelude.{◌≡◌};
-ghost use Rattle.mp4_grammar.specs.FragmentLines.{listed_track, track_line};
+ghost use Rattle.std.specs.Prelude.{◌≡◌, ◌+◌, ◌++◌, ◌≤◌, length};
+ghost use Rattle.mp4_box.specs.Trees.{view};
+ghost use Rattle.mp4_grammar.specs.TrackLines.{comma, handler_of, listed_track, track_front, word, word_byte};
 
 use crate::sample::push_number;
+use mp4_box::types::MDIA;
+use mp4_box::{BoxRef, FourCc, first_at, number_at};
 use mp4_init::Track;
 use mp4_lines::Text;
 use mp4_machine::{BLOCK_BYTES, Line};
+
+/// The type of the box that names the handler of a track (ISO/IEC 14496-12, 8.4.3).
+const HDLR: FourCc = FourCc(*b"hdlr");
 
 /// A track of a stream.
 #[derive(Clone, Copy, Debug, PartialEq, Eq)]
@@ -17,29 +23,87 @@ pub struct ListedTrack {
     pub timescale: u32,
     /// How many sample entries it has (8.5.2).
     pub entries: u32,
+    /// Its handler_type (8.4.3), four zeros where it isn't there: `vide` of video, `soun` of sound.
+    pub handler: FourCc,
+}
+
+/// The handler_type of a trak.
+fn handler_of(trak: &BoxRef<'_>) -> FourCc
+    ensures { result ≡ handler_of (view trak.now) }
+{
+    let number = match first_at(&[MDIA, HDLR], trak) {
+        Some(hdlr) => number_at(hdlr.payload, 8),
+        None => 0,
+    };
+    FourCc(number.to_be_bytes())
 }
 
 impl ListedTrack {
-    /// The line's part of a track.
-    pub fn of(track: &Track) -> ListedTrack
-        ensures { result ≡ listed_track track.now }
+    /// A track, of which this is the trak.
+    pub fn of(track: &Track, trak: &BoxRef<'_>) -> ListedTrack
+        ensures { result ≡ listed_track track.now (view trak.now) }
     {
         ListedTrack {
             id: track.id,
             timescale: track.timescale,
             entries: track.entries,
+            handler: handler_of(trak),
         }
     }
 }
 
-impl Line for ListedTrack {
-    ghost text = { λ t. track_line t };
+/// A byte of a type as it is printed in a line of words.
+fn word_byte(byte: u8) -> u8
+    ensures { result ≡ word_byte byte }
+{
+    if byte > b' ' && byte < 127 && byte != b',' {
+        byte
+    } else {
+        b'?'
+    }
+}
 
-    #[tactic(auto, unfolding(crate::specs::FragmentLines::track_line))]
+/// Appends a type.
+fn push_word(block: &mut Text<BLOCK_BYTES>, kind: FourCc)
+    requires { length block.old + 4 ≤ BLOCK_BYTES }
+    ensures text { block.new ≡ block.old ++ word kind }
+    ensures len { length block.new ≡ length block.old + 4 }
+{
+    let [a, b, c, d] = kind.0;
+    block.push_array(&[word_byte(a), word_byte(b), word_byte(c), word_byte(d)]);
+}
+
+// The types of its sample entries follow.
+impl Line for ListedTrack {
+    ghost text = { λ t. track_front t };
+
+    #[tactic(auto, unfolding(crate::specs::TrackLines::track_front))]
     fn push(&self, block: &mut Text<BLOCK_BYTES>) {
         push_number(block, b"track=", u64::from(self.id));
         push_number(block, b" timescale=", u64::from(self.timescale));
         push_number(block, b" entries=", u64::from(self.entries));
-        block.push_array(b"\n");
+        block.push_array(b" handler=");
+        push_word(block, self.handler);
+        block.push_array(b" types=");
+    }
+}
+
+/// A sample entry in the line of its track.
+#[derive(Clone, Copy, Debug, PartialEq, Eq)]
+pub struct ListedEntry {
+    /// Its type.
+    pub kind: FourCc,
+    /// Whether it is the first of its track.
+    pub is_first: bool,
+}
+
+impl Line for ListedEntry {
+    ghost text = { λ e. comma e.is_first ++ word e.kind };
+
+    fn push(&self, block: &mut Text<BLOCK_BYTES>) {
+        if !self.is_first {
+            block.push_array(b",");
+        }
+        push_word(block, self.kind);
     }
 }

@@ -1,12 +1,16 @@
 //! The trafs of a fragment, and their lines.
 
 ghost use Rattle.std.specs.Prelude.{◌≡◌, ◌++◌, ◌+◌, ◌≤◌, codes, length};
-ghost use Rattle.mp4_grammar.specs.FragmentLines.{fragment_text, samples_text, size_text, times_text, traf_line, traf_with, yes_or_no};
+ghost use Rattle.std.specs.Fmt.{signed_decimal};
+ghost use Rattle.mp4_grammar.specs.FragmentLines.{fragment_text, gap_of, presented_at, rest_text, samples_text, size_text, times_text, traf_line, traf_with, yes_or_no};
 
-use crate::sample::{push_large_number, push_number};
+use crate::presented::Presented;
+use crate::sample::{push_large_number, push_number, push_signed};
 use mp4_frag::TrafTotals;
-use mp4_lines::{DECIMAL_DIGITS, Text};
+use mp4_init::TrackList;
+use mp4_lines::{DECIMAL_DIGITS, SIGNED_DECIMAL_BYTES, Text};
 use mp4_machine::{BLOCK_BYTES, LINE_BYTES, Line};
+use mp4_traf::known_track;
 
 /// A traf of a fragment. Times are ticks of its track's timescale, and offsets are of the stream.
 #[derive(Clone, Copy, Debug, PartialEq, Eq)]
@@ -29,14 +33,25 @@ pub struct ListedTraf {
     pub sync: bool,
     /// The bytes of its samples, added up.
     pub media: u64,
+    /// When the first of its samples is presented, and how many are sync samples.
+    pub presented: Presented,
+    /// When its track ended before, 0 before the first of its fragments.
+    pub ended: u64,
 }
 
 impl ListedTraf {
     /// The traf with these totals, of a fragment with this sequence_number that begins at `at` and has `size` bytes;
-    /// none where its mdat goes to the end of the stream.
+    /// none where its mdat goes to the end of the stream. `tracks` are those before it.
     #[inline(always)]
-    pub fn of(sequence: u32, at: u64, size: Option<u64>, totals: &TrafTotals) -> ListedTraf
-        ensures { result ≡ traf_with sequence at size totals.now }
+    pub fn of(
+        sequence: u32,
+        at: u64,
+        size: Option<u64>,
+        tracks: &TrackList,
+        totals: &TrafTotals,
+        presented: Presented,
+    ) -> ListedTraf
+        ensures { result ≡ traf_with sequence at size tracks.now totals.now presented }
     {
         ListedTraf {
             sequence,
@@ -48,6 +63,8 @@ impl ListedTraf {
             samples: totals.samples,
             sync: totals.sync,
             media: totals.bytes,
+            presented,
+            ended: known_track(tracks, totals.track).next,
         }
     }
 }
@@ -78,16 +95,72 @@ impl ListedTraf {
         push_number(block, b" dur=", self.duration);
     }
 
-    /// Appends its samples, and ends its line.
+    /// Appends how many samples it has, whether it begins with a sync sample, and its media.
     #[inline(always)]
     fn push_samples(&self, block: &mut Text<BLOCK_BYTES>)
-        requires { length block.old + 66 ≤ BLOCK_BYTES }
-        ensures { block.new ≡ block.old ++ samples_text self.now }
+        requires { length block.old + 65 ≤ BLOCK_BYTES }
+        ensures text { block.new ≡ block.old ++ samples_text self.now }
+        ensures len { length block.new ≤ length block.old + 65 }
     {
         push_number(block, b" samples=", u64::from(self.samples));
         push_is_sync(block, self.sync);
         block.push_decimal(self.media);
-        block.push_array(b"\n");
+    }
+
+    /// When the first of its samples is presented; its base time where it has none.
+    #[inline(always)]
+    pub fn presented_at(&self) -> i128
+        ensures { result ≡ presented_at self.now }
+    {
+        i128::from(self.time) + i128::from(self.presented.earliest)
+    }
+
+    /// How many ticks after the end of its track it begins, negative where it begins before.
+    #[inline(always)]
+    pub fn gap(&self) -> i128
+        ensures { result ≡ gap_of self.now }
+    {
+        i128::from(self.time) - i128::from(self.ended)
+    }
+
+    /// Appends when the first of its samples is presented: mostly when it is decoded.
+    #[inline(always)]
+    fn push_presented_at(&self, block: &mut Text<BLOCK_BYTES>)
+        requires { length block.old + 45 ≤ BLOCK_BYTES }
+        ensures text { block.new ≡ block.old ++ codes " pts=" ++ signed_decimal (presented_at self.now) }
+        ensures len { length block.new ≤ length block.old + 45 }
+    {
+        if self.presented.earliest == 0 {
+            push_large_number(block, b" pts=", self.time);
+        } else {
+            push_signed(block, b" pts=", self.presented_at());
+        }
+    }
+
+    /// Appends how long after the end of its track it begins, mostly at the end, and ends its line.
+    #[inline(always)]
+    fn push_gap(&self, block: &mut Text<BLOCK_BYTES>)
+        requires { length block.old + 46 ≤ BLOCK_BYTES }
+        ensures { block.new ≡ block.old ++ codes " gap=" ++ signed_decimal (gap_of self.now) ++ codes "\n" }
+    {
+        if self.time == self.ended {
+            block.push_array(b" gap=0\n");
+        } else {
+            push_signed(block, b" gap=", self.gap());
+            block.push_array(b"\n");
+        }
+    }
+
+    /// Appends what its samples are to who plays them, and how long after the end of its track it begins; and ends its
+    /// line.
+    #[inline(always)]
+    fn push_rest(&self, block: &mut Text<BLOCK_BYTES>)
+        requires { length block.old + 118 ≤ BLOCK_BYTES }
+        ensures { block.new ≡ block.old ++ rest_text self.now }
+    {
+        self.push_presented_at(block);
+        push_number(block, b" syncs=", u64::from(self.presented.syncs));
+        self.push_gap(block);
     }
 }
 
@@ -100,6 +173,7 @@ impl Line for ListedTraf {
         self.push_fragment(block);
         self.push_times(block);
         self.push_samples(block);
+        self.push_rest(block);
     }
 }
 

@@ -144,7 +144,11 @@ pub(crate) fn push_large_number<const N: usize, const CAP: usize>(
 
 /// Appends a number with a sign after its name.
 #[inline(always)]
-fn push_signed<const N: usize>(block: &mut Text<BLOCK_BYTES>, name: &[u8; N], number: i128)
+pub(crate) fn push_signed<const N: usize>(
+    block: &mut Text<BLOCK_BYTES>,
+    name: &[u8; N],
+    number: i128,
+)
     requires { length block.old + N + SIGNED_DECIMAL_BYTES ≤ BLOCK_BYTES }
     ensures text { block.new ≡ block.old ++ name.now ++ signed_decimal number }
     ensures len { length block.new ≤ length block.old + N + SIGNED_DECIMAL_BYTES }

@@ -1,7 +1,7 @@
 //! The trafs of a fragment as records.
 
 ghost use Rattle.std.specs.Prelude.{◌≡◌, ◌++◌, ◌+◌, ◌≤◌, List, ℕ, length};
-ghost use Rattle.mp4_grammar.specs.TrafRecords.{IsRecord, in_4, in_8, one_or_none, place_bytes, record_bytes, record_len, record_of, record_with, sample_bytes, size_or_all, sum_bytes, track_bytes};
+ghost use Rattle.mp4_grammar.specs.TrafRecords.{IsRecord, in_4, in_8, one_or_none, place_bytes, record_bytes, record_len, record_of, record_with, sample_bytes, shown_bytes, size_or_all, sum_bytes, track_bytes};
 
 use crate::listed_traf::ListedTraf;
 use mp4_box::{u32_at, u64_at};
@@ -9,7 +9,7 @@ use mp4_lines::Text;
 use mp4_machine::{BLOCK_BYTES, LINE_BYTES, Line};
 
 /// How many bytes a record has.
-pub const RECORD_BYTES: usize = 64;
+pub const RECORD_BYTES: usize = 80;
 
 /// A traf of a fragment, by numbers alone. Times are ticks of its track's timescale, and offsets are of the stream.
 #[repr(C)]
@@ -35,6 +35,12 @@ pub struct TrafRecord {
     pub samples: u32,
     /// 1 where its first sample is a sync sample (8.8.3), else 0.
     pub sync: u32,
+    /// How many of its samples are sync samples.
+    pub syncs: u32,
+    /// When its track ended before, 0 before the first of its fragments.
+    pub ended: u64,
+    /// The least composition time of its samples, less its base time; 0 where it has none.
+    pub earliest: i64,
 }
 
 impl TrafRecord {
@@ -54,6 +60,9 @@ impl TrafRecord {
             timescale,
             samples: traf.samples,
             sync: one_or_none(traf.sync),
+            syncs: traf.presented.syncs,
+            ended: traf.ended,
+            earliest: traf.presented.earliest,
         }
     }
 
@@ -75,6 +84,9 @@ impl TrafRecord {
             timescale: u32_at(bytes, 48),
             samples: u32_at(bytes, 52),
             sync: u32_at(bytes, 56),
+            syncs: u32_at(bytes, 60),
+            ended: u64_at(bytes, 64),
+            earliest: u64_at(bytes, 72).cast_signed(),
         }
     }
 }
@@ -149,14 +161,24 @@ impl TrafRecord {
         push_4(block, self.timescale);
     }
 
-    /// Appends how many samples it has, whether the first is a sync sample, and four zeros.
+    /// Appends how many samples it has, whether the first is a sync sample, and how many are.
     fn push_samples(&self, block: &mut Text<BLOCK_BYTES>)
         requires { length block.old + 12 ≤ BLOCK_BYTES }
         ensures text { block.new ≡ block.old ++ sample_bytes self.now }
+        ensures len { length block.new ≡ length block.old + 12 }
     {
         push_4(block, self.samples);
         push_4(block, self.sync);
-        block.push_array(b"\0\0\0\0");
+        push_4(block, self.syncs);
+    }
+
+    /// Appends when its track ended before, and when the first of its samples is presented.
+    fn push_shown(&self, block: &mut Text<BLOCK_BYTES>)
+        requires { length block.old + 16 ≤ BLOCK_BYTES }
+        ensures { block.new ≡ block.old ++ shown_bytes self.now }
+    {
+        push_8(block, self.ended);
+        push_8(block, self.earliest.cast_unsigned());
     }
 }
 
@@ -169,5 +191,6 @@ impl Line for TrafRecord {
         self.push_sums(block);
         self.push_track(block);
         self.push_samples(block);
+        self.push_shown(block);
     }
 }

@@ -18,7 +18,7 @@ const LARGE: usize = 4096;
 pub const BLOCK_BYTES: usize = 16_384;
 
 /// The most bytes of a line.
-pub const LINE_BYTES: usize = 256;
+pub const LINE_BYTES: usize = 384;
 
 /// A line that is built before it is put into a block.
 pub trait Line {

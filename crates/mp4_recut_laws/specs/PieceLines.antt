@@ -1,20 +1,20 @@
 -- The lines in which the fragments of a stream are listed, where each fragment has one.
 use Rattle.std.specs.Prelude.{◌≡◌, ℕ, List, [], ◌∷◌, ◌++◌, length, Some}
-use Rattle.mp4_init.specs.Moovs.{moov_tracks}
 use Rattle.mp4_traf.specs.Runs.{TrackFragment}
 use Rattle.mp4_frag.specs.Moofs.{moof_trafs}
 use Rattle.mp4_pieces.specs.declared.cut.Cut.{Cut}
 use Rattle.mp4_grammar.specs.Contexts.{Context}
-use Rattle.mp4_grammar.specs.FragmentLines.{fragment_lines, listed_traf, track_lines, traf_line}
+use Rattle.mp4_grammar.specs.FragmentLines.{fragment_lines, listed_traf, traf_line}
 use Rattle.mp4_grammar.specs.Joined.{Item, Movie, MovieFragment, PassedOver, bytes_of, context_after, fragment_in}
 use Rattle.mp4_grammar.specs.Meanings.{Fragment}
+use Rattle.mp4_grammar.specs.TrackLines.{moov_lines}
 use Rattle.mp4_recut.specs.Splitting.{splitting}
 use Rattle.mp4_recut_laws.specs.MediaSamples.{item_samples}
 
 -- what is written of an item where fragments are listed: a moov's tracks, and the trafs of a fragment
 abbrev pub item_lines : Context → Item → List ℕ
 item_lines c (PassedOver b) = []
-item_lines c (Movie b) = track_lines (moov_tracks 0 b.bytes)
+item_lines c (Movie b) = moov_lines b.bytes
 item_lines c (MovieFragment moof mdat) = fragment_lines (fragment_in c moof mdat)
 
 -- the same of items, one after the other

@@ -13,6 +13,7 @@ mod hostile;
 mod layouts;
 mod listings;
 mod memory;
+mod presented;
 mod recuts;
 mod rows;
 mod split_stops;

@@ -9,6 +9,7 @@ use Rattle.mp4_traf.specs.Runs.{MoofBytes, TrackFragment, known_track}
 use Rattle.mp4_traf.specs.TrafTotals.{totals_of}
 use Rattle.mp4_grammar.specs.FragmentLines.{traf_line, traf_with}
 use Rattle.mp4_grammar.specs.Items.{end_of}
+use Rattle.mp4_grammar.specs.Presented.{presented_of}
 use Rattle.mp4_grammar.specs.TrafRecords.{record_bytes, record_with}
 use Rattle.mp4_grammar.specs.declared.command.Command.{Command}
 use Rattle.mp4_grammar.specs.declared.command.Command.TheVariants.{Samples, Fragments, Records, Check}
@@ -23,7 +24,7 @@ put_of Check tracks t = []
 
 -- the same in a fragment with this sequence_number, offset and size
 abbrev pub put_with : Command → List Track → (sequence at : ℕ) (size : Option ℕ) → TrackFragment → List ℕ
-put_with command tracks sequence at size t = put_of command tracks (traf_with sequence at size (totals_of t))
+put_with command tracks sequence at size t = put_of command tracks (traf_with sequence at size tracks (totals_of t) (presented_of t))
 
 -- what is put of the trafs of a moof whose fragment has this size
 abbrev pub moof_lines : Command → MoofBytes → List Track → Option ℕ → List ℕ

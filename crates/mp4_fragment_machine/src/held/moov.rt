@@ -1,6 +1,7 @@
 //! A moov of which all bytes came.
 
-ghost use Rattle.std.specs.Prelude.{◌≡◌, ◌+◌, ◌≤◌, [], length, None, Some};
+ghost use Rattle.std.specs.Prelude.{◌≡◌, ◌+◌, ◌≤◌, ◌^◌, [], length, None, Some};
+ghost use Rattle.mp4_box.specs.Headers.{IsWhole};
 ghost use Rattle.mp4_init.specs.Moovs.{moov_tracks};
 ghost use Rattle.mp4_machine.specs.Ends.{sent};
 ghost use Rattle.mp4_machine.specs.Puts.{Puts};
@@ -11,8 +12,9 @@ ghost use Rattle.mp4_fragment_machine.specs.Implementation.Steps.{Advances, CanS
 ghost use Rattle.mp4_fragment_machine.specs.Implementation.Stops.{stop_of};
 ghost use Rattle.mp4_fragment_machine.specs.declared.state.State.TheVariants as states;
 
-use crate::mdat::traf_lines::put_track_lines;
+use crate::mdat::track_lines::put_track_lines;
 use crate::state::{Carried, State};
+use mp4_box::whole_box;
 use mp4_ends::{Failed, Sink};
 use mp4_grammar::Command;
 use mp4_init::{InitStop, TrackList, tracks};
@@ -91,12 +93,16 @@ fn put_moov<W: Sink>(
     out: &mut Block,
     w: &mut W,
 ) -> Result<(), Failed>
-    requires { list.now ≡ moov_tracks 0 moov.now }
+    requires whole { IsWhole moov.now }
+    requires room { length moov.now ≤ 2 ^ 62 }
+    requires list { list.now ≡ moov_tracks 0 moov.now }
     ensures { Puts (sent W.contents W.has_failed w.old w.new) out.old out.new
         ((operation_meaning operation).of_moov moov.now) result }
 {
     match operation {
-        Operation::List(Command::Fragments) => put_track_lines(list, out, w),
+        Operation::List(Command::Fragments) => {
+            put_track_lines(&whole_box(moov, 0), list, out, w)
+        }
         Operation::List(Command::Samples)
         | Operation::List(Command::Records)
         | Operation::List(Command::Check) => Ok(()),

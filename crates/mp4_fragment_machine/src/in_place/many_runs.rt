@@ -247,11 +247,13 @@ fn count_in_place<'a>(
 /// How many rows are read for the lines of so many samples.
 #[inline(always)]
 fn reads_for_lines(command: Command, samples: u64) -> u64
+    requires { samples < 2 ^ 63 }
     ensures { result ≡ listed_by (operations.List command) samples }
 {
     match command {
         Command::Check => 0,
-        Command::Samples | Command::Fragments | Command::Records => samples,
+        Command::Samples => samples,
+        Command::Fragments | Command::Records => 2 * samples,
     }
 }
 

@@ -194,13 +194,13 @@ fn list_run<W: Sink>(
             sample_lines::put_run(run, complete.boxes.moof, out, w)
         }
         Command::Fragments => {
-            counter.steps.rows += u128::from(samples);
+            counter.steps.rows += 2 * u128::from(samples);
             let Boxes { moof, mdat } = complete.boxes;
             let size = moof.len() as u64 + mdat.size;
-            put_single_line(moof, at, complete.run, size, out, w)
+            put_single_line(moof, at, complete.run, size, tracks, out, w)
         }
         Command::Records => {
-            counter.steps.rows += u128::from(samples);
+            counter.steps.rows += 2 * u128::from(samples);
             let Boxes { moof, mdat } = complete.boxes;
             let size = moof.len() as u64 + mdat.size;
             put_single_record(moof, at, complete.run, size, tracks, out, w)

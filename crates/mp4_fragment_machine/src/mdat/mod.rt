@@ -9,4 +9,5 @@ pub(crate) mod list;
 pub(crate) mod recut;
 pub(crate) mod sample_lines;
 pub(crate) mod totals;
+pub(crate) mod track_lines;
 pub(crate) mod traf_lines;

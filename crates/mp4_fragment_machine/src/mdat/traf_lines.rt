@@ -1,14 +1,16 @@
-//! The lines of a fragment's trafs, or their records, and the lines of the tracks.
+//! The lines of a fragment's trafs, or their records.
 
-ghost use Rattle.std.specs.Prelude.{ℕ, List, ◌≡◌, ◌+◌, ◌<◌, ◌≤◌, ◌^◌, Some, length};
+ghost use Rattle.std.specs.Prelude.{ℕ, ◌≡◌, ◌+◌, ◌*◌, ◌<◌, ◌≤◌, ◌^◌, ◌∷◌, [], IfSome, Some, length};
 ghost use Rattle.std.specs.List.{AllByRecursion, flat_map};
 ghost use Rattle.mp4_box.specs.Headers.{IsWhole};
 ghost use Rattle.mp4_frag.specs.Moofs.{IsRead, moof_samples};
 ghost use Rattle.mp4_frag.specs.SingleRuns.{IsSingle};
 ghost use Rattle.mp4_traf.specs.Ranges.{IsRunOf, IsSound};
 ghost use Rattle.mp4_traf.specs.Runs.{known_track, moof_at};
-ghost use Rattle.mp4_init.specs.declared.table.Track.{Track};
-ghost use Rattle.mp4_grammar.specs.FragmentLines.{track_lines};
+ghost use Rattle.mp4_traf.specs.Runs.{TrackFragment, runs_of};
+ghost use Rattle.mp4_grammar.specs.FragmentLines.{traf_with};
+ghost use Rattle.mp4_grammar.specs.Presented.{presented_of};
+ghost use Rattle.mp4_traf.specs.TrafTotals.{totals_of};
 ghost use Rattle.mp4_grammar.specs.declared.command.Command.TheVariants.{Fragments, Records};
 ghost use Rattle.mp4_machine.specs.Bodies.{least_end, longest};
 ghost use Rattle.mp4_machine.specs.Ends.{sent};
@@ -19,8 +21,8 @@ ghost use Rattle.mp4_fragment_machine.specs.Implementation.TrafLines.{moof_lines
 use crate::pending_moof::PendingMoof;
 use mp4_box::{Header, Size};
 use mp4_ends::{Failed, Sink};
-use mp4_frag::{Moof, SingleRun, Steps, TrafTotals, Trafs};
-use mp4_grammar::{Command, ListedTrack, ListedTraf, TrafRecord};
+use mp4_frag::{Moof, Run, SingleRun, Steps, Traf, TrafTotals, Trafs};
+use mp4_grammar::{Command, ListedTraf, Presented, TrafRecord};
 use mp4_init::TrackList;
 use mp4_machine::Block;
 
@@ -56,10 +58,49 @@ fn put_traf<W: Sink>(
     }
 }
 
+/// The only run of a traf.
+#[inline(always)]
+fn only_run_of(traf: &Traf<'_>) -> Option<Run>
+    ensures { IfSome result (λ run. runs_of traf.now ≡ run ∷ []) }
+{
+    let mut runs = traf.runs();
+    let Some(first) = runs.next() else {
+        return None;
+    };
+    match runs.next() {
+        None => Some(first),
+        Some(_) => None,
+    }
+}
+
+/// A traf of a fragment with this sequence_number that begins at `at` and has `size` bytes. `moof_bytes` are the bytes
+/// of its moof. Each of its rows is read at most twice.
+fn listed<'a>(
+    moof_bytes: &'a [u8],
+    tracks: &TrackList,
+    sequence: u32,
+    at: u64,
+    size: Option<u64>,
+    traf: &Traf<'a>,
+) -> ListedTraf
+    requires sound { IsSound traf.now }
+    requires bytes { traf.now.shared.moof.bytes ≡ moof_bytes.now }
+    ensures { result ≡ traf_with sequence at size tracks.now (totals_of traf.now) (presented_of traf.now) }
+{
+    if let Some(run) = only_run_of(traf) {
+        let totals = TrafTotals::of_only_run(&run, moof_bytes);
+        let presented = Presented::of_only_run(&run, moof_bytes);
+        return ListedTraf::of(sequence, at, size, tracks, &totals, presented);
+    }
+    let presented = Presented::of(traf, moof_bytes);
+    ListedTraf::of(sequence, at, size, tracks, &traf.totals(), presented)
+}
+
 /// Puts the lines of these trafs, or their records, of a fragment with this sequence_number that begins at `at` and has
-/// `size` bytes.
+/// `size` bytes. `moof_bytes` are the bytes of its moof.
 fn put_trafs<W: Sink>(
     command: Command,
+    moof_bytes: &[u8],
     tracks: &TrackList,
     sequence: u32,
     at: u64,
@@ -69,6 +110,7 @@ fn put_trafs<W: Sink>(
     w: &mut W,
 ) -> Result<(), Failed>
     requires sound { AllByRecursion IsSound trafs.old }
+    requires bytes { AllByRecursion (λ (t : TrackFragment). t.shared.moof.bytes ≡ moof_bytes.now) trafs.old }
     ensures { Puts (sent W.contents W.has_failed w.old w.new) out.old out.new
         (flat_map (put_with command tracks.now sequence at size) trafs.old) result }
 {
@@ -76,8 +118,8 @@ fn put_trafs<W: Sink>(
         let Some(traf) = trafs.next() else {
             return Ok(());
         };
-        let listed = ListedTraf::of(sequence, at, size, &traf.totals());
-        match put_traf(command, &listed, tracks, out, w) {
+        let listed_traf = listed(moof_bytes, tracks, sequence, at, size, &traf);
+        match put_traf(command, &listed_traf, tracks, out, w) {
             Ok(()) => {}
             Err(Failed) => return Err(Failed),
         }
@@ -107,6 +149,7 @@ pub(crate) fn put_moof_lines<W: Sink>(
     let mut trafs = moof.trafs(tracks);
     put_trafs(
         command,
+        moof_bytes,
         tracks,
         moof.sequence_number(),
         at,
@@ -118,16 +161,31 @@ pub(crate) fn put_moof_lines<W: Sink>(
 }
 
 /// The only traf of a moof at `at`, whose only run was read, and whose fragment has `size` bytes. `moof_bytes` are its
-/// bytes. The first row of the run is read.
+/// bytes. Each row of the run is read once, and the first once more.
 #[inline(always)]
-fn single_traf(moof_bytes: &[u8], at: u64, single_run: &SingleRun, size: u64) -> ListedTraf
+fn single_traf(
+    moof_bytes: &[u8],
+    at: u64,
+    single_run: &SingleRun,
+    size: u64,
+    tracks: &TrackList,
+) -> ListedTraf
     requires { IsRunOf moof_bytes.now single_run.now.run }
-    ensures { (tracks : List Track) (command : Command) →
-        IsSingle (moof_at moof_bytes.now at) tracks single_run.now → put_of command tracks result ≡
-        moof_lines command (moof_at moof_bytes.now at) tracks (Some size) }
+    ensures { (command : Command) →
+        IsSingle (moof_at moof_bytes.now at) tracks.now single_run.now → put_of command tracks.now result ≡
+        moof_lines command (moof_at moof_bytes.now at) tracks.now (Some size) }
 {
-    let totals = TrafTotals::of_only_run(&single_run.run, moof_bytes);
-    ListedTraf::of(single_run.sequence, at, Some(size), &totals)
+    let run = &single_run.run;
+    let totals = TrafTotals::of_only_run(run, moof_bytes);
+    let presented = Presented::of_only_run(run, moof_bytes);
+    ListedTraf::of(
+        single_run.sequence,
+        at,
+        Some(size),
+        tracks,
+        &totals,
+        presented,
+    )
 }
 
 /// Puts the line of the only traf of a moof at `at`, as [`single_traf`] reads it.
@@ -138,15 +196,16 @@ pub(crate) fn put_single_line<W: Sink>(
     at: u64,
     single_run: &SingleRun,
     size: u64,
+    tracks: &TrackList,
     out: &mut Block,
     w: &mut W,
 ) -> Result<(), Failed>
     requires { IsRunOf moof_bytes.now single_run.now.run }
-    ensures { (tracks : List Track) → IsSingle (moof_at moof_bytes.now at) tracks single_run.now →
+    ensures { IsSingle (moof_at moof_bytes.now at) tracks.now single_run.now →
         Puts (sent W.contents W.has_failed w.old w.new) out.old out.new
-        (moof_lines Fragments (moof_at moof_bytes.now at) tracks (Some size)) result }
+        (moof_lines Fragments (moof_at moof_bytes.now at) tracks.now (Some size)) result }
 {
-    out.put_line(w, &single_traf(moof_bytes, at, single_run, size))
+    out.put_line(w, &single_traf(moof_bytes, at, single_run, size, tracks))
 }
 
 /// Puts the record of the only traf of a moof at `at`, as [`single_traf`] reads it.
@@ -165,7 +224,7 @@ pub(crate) fn put_single_record<W: Sink>(
     ensures { Puts (sent W.contents W.has_failed w.old w.new) out.old out.new
         (moof_lines Records (moof_at moof_bytes.now at) tracks.now (Some size)) result }
 {
-    let traf = single_traf(moof_bytes, at, single_run, size);
+    let traf = single_traf(moof_bytes, at, single_run, size, tracks);
     put_traf(Command::Records, &traf, tracks, out, w)
 }
 
@@ -182,7 +241,7 @@ fn size_of(moof_len: u64, header: &Header) -> Option<u64>
 }
 
 /// Puts the lines of the trafs of the pending moof, or their records, whose mdat has this header. Its samples, which
-/// are so many, are counted in `steps` as rows that were read.
+/// are so many, are counted in `steps` as rows that were read twice.
 pub(crate) fn put_pending_lines<W: Sink>(
     command: Command,
     pending_moof: &PendingMoof,
@@ -199,12 +258,12 @@ pub(crate) fn put_pending_lines<W: Sink>(
     requires steps { steps.old.rows < 2 ^ 127 }
     requires samples { samples ≡ moof_samples (moof_in pending_moof.now) }
     ensures rows_read { steps.new.rows ≡
-        steps.old.rows + moof_samples (moof_in pending_moof.now) }
+        steps.old.rows + 2 * moof_samples (moof_in pending_moof.now) }
     ensures puts { Puts (sent W.contents W.has_failed w.old w.new) out.old out.new
         (moof_lines command (moof_in pending_moof.now) tracks.now
         (size_with pending_moof.now.moof.at (length pending_moof.now.moof.bytes) header.now.size)) result }
 {
-    steps.rows += u128::from(samples);
+    steps.rows += 2 * u128::from(samples);
     put_moof_lines(
         command,
         pending_moof.moof.bytes(),
@@ -214,25 +273,4 @@ pub(crate) fn put_pending_lines<W: Sink>(
         out,
         w,
     )
-}
-
-/// Puts the lines of the tracks.
-#[inline(never)]
-pub(crate) fn put_track_lines<W: Sink>(
-    tracks: &TrackList,
-    out: &mut Block,
-    w: &mut W,
-) -> Result<(), Failed>
-    ensures { Puts (sent W.contents W.has_failed w.old w.new) out.old out.new
-        (track_lines tracks.now) result }
-{
-    let mut i = 0;
-    while i < tracks.len() {
-        match out.put_line(w, &ListedTrack::of(&tracks.at(i))) {
-            Ok(()) => {}
-            Err(Failed) => return Err(Failed),
-        }
-        i += 1;
-    }
-    Ok(())
 }

@@ -30,8 +30,8 @@ pub(super) const COMMANDS: [Command; 5] = [
 
 /// The lines of the vector's track and of its fragment.
 pub(super) const FRAGMENTS: [&str; 2] = [
-    "track=1 timescale=48000 entries=1\n",
-    "fragment=1 at=364 size=119 track=1 dts=0 dur=3072 samples=3 sync=yes media=15\n",
+    "track=1 timescale=48000 entries=1 handler=???? types=mp4a\n",
+    "fragment=1 at=364 size=119 track=1 dts=0 dur=3072 samples=3 sync=yes media=15 pts=0 syncs=3 gap=0\n",
 ];
 
 impl Command {
@@ -70,8 +70,8 @@ impl Command {
             (Command::Samples, 0..468) => 0,
             (Command::Samples, _) => 222,
             (Command::Fragments, 0..364) => 0,
-            (Command::Fragments, 364..468) => 34,
-            (Command::Fragments, _) => 112,
+            (Command::Fragments, 364..468) => 58,
+            (Command::Fragments, _) => 156,
             (Command::Check, _) => 0,
             (Command::Split, k) => due_of_split(k),
         }

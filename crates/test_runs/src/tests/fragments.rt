@@ -54,8 +54,8 @@ fn sound_streams(rt: HostRuntime) -> Result<(), Fail> {
 
 /// The lines of the first vector's fragments.
 const FRAGMENTS: [&str; 2] = [
-    "track=1 timescale=48000 entries=1\n",
-    "fragment=1 at=364 size=119 track=1 dts=0 dur=3072 samples=3 sync=yes media=15\n",
+    "track=1 timescale=48000 entries=1 handler=???? types=mp4a\n",
+    "fragment=1 at=364 size=119 track=1 dts=0 dur=3072 samples=3 sync=yes media=15 pts=0 syncs=3 gap=0\n",
 ];
 
 #[test]
@@ -67,7 +67,7 @@ fn tracks_and_fragments(rt: HostRuntime) -> Result<(), Fail> {
     let to_end = [&v1[..460], HEADER_TO_END, &v1[468..]];
     let lines = [
         FRAGMENTS[0],
-        "fragment=1 at=364 size=end track=1 dts=0 dur=3072 samples=3 sync=yes media=15\n",
+        "fragment=1 at=364 size=end track=1 dts=0 dur=3072 samples=3 sync=yes media=15 pts=0 syncs=3 gap=0\n",
     ];
     check_words(&rt, alloc, &words, &to_end, 0, &lines, "")?;
     // The first fragment is listed before the second is refused; an mdat that is cut short was accepted.
@@ -90,10 +90,10 @@ fn trafs_of_a_fragment(rt: HostRuntime) -> Result<(), Fail> {
     let (alloc, v1, v2) = (rt.alloc(), V1.as_slice(), V2.as_slice());
     let words = ["fmp4", "fragments"];
     let two_tracks = [
-        "track=1 timescale=48000 entries=1\n",
-        "track=2 timescale=48000 entries=1\n",
-        "fragment=1 at=584 size=195 track=1 dts=0 dur=3072 samples=3 sync=yes media=15\n",
-        "fragment=1 at=584 size=195 track=2 dts=0 dur=2048 samples=2 sync=yes media=8\n",
+        "track=1 timescale=48000 entries=1 handler=???? types=mp4a\n",
+        "track=2 timescale=48000 entries=1 handler=???? types=mp4a\n",
+        "fragment=1 at=584 size=195 track=1 dts=0 dur=3072 samples=3 sync=yes media=15 pts=0 syncs=3 gap=0\n",
+        "fragment=1 at=584 size=195 track=2 dts=0 dur=2048 samples=2 sync=yes media=8 pts=0 syncs=2 gap=0\n",
     ];
     check_words(&rt, alloc, &words, &[v2], 0, &two_tracks, "")?;
     let (front, tfhd) = (&v1[..364], &v1[396..412]);
@@ -109,7 +109,7 @@ fn trafs_of_a_fragment(rt: HostRuntime) -> Result<(), Fail> {
     ];
     let lines = [
         FRAGMENTS[0],
-        "fragment=7 at=364 size=136 track=1 dts=4096 dur=2048 samples=2 sync=no media=12\n",
+        "fragment=7 at=364 size=136 track=1 dts=4096 dur=2048 samples=2 sync=no media=12 pts=4096 syncs=1 gap=4096\n",
     ];
     check_words(&rt, alloc, &words, &two_runs, 0, &lines, "")?;
     // A traf without runs.
@@ -122,7 +122,7 @@ fn trafs_of_a_fragment(rt: HostRuntime) -> Result<(), Fail> {
     ];
     let lines = [
         FRAGMENTS[0],
-        "fragment=8 at=364 size=72 track=1 dts=0 dur=0 samples=0 sync=no media=0\n",
+        "fragment=8 at=364 size=72 track=1 dts=0 dur=0 samples=0 sync=no media=0 pts=0 syncs=0 gap=0\n",
     ];
     check_words(&rt, alloc, &words, &no_run, 0, &lines, "")
 }

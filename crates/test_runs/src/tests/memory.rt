@@ -103,7 +103,7 @@ fn limits_of_listings(rt: HostRuntime) -> Result<(), Fail> {
     ];
     let fragments = [
         FRAGMENTS[0],
-        "fragment=1 at=364 size=519 track=1 dts=0 dur=3072 samples=3 sync=yes media=15\n",
+        "fragment=1 at=364 size=519 track=1 dts=0 dur=3072 samples=3 sync=yes media=15 pts=0 syncs=3 gap=0\n",
     ];
     let counts = "fragments=1 samples=3 media=15 held=66160\n";
     check_listings(&rt, alloc, "66160", &large, &lines, &fragments, counts)

@@ -64,21 +64,23 @@ fn muxed<'a>(header: &'a [u8]) -> [&'a [u8]; 6] {
 fn lines_of_two_tracks(rt: HostRuntime) -> Result<(), Fail> {
     let alloc = rt.alloc();
     let tracks = [
-        "track=1 timescale=48000 entries=1\n",
-        "track=2 timescale=90000 entries=1\n",
+        "track=1 timescale=48000 entries=1 handler=???? types=mp4a\n",
+        "track=2 timescale=90000 entries=1 handler=???? types=mp4a\n",
     ];
     let lines = [
         tracks[0],
         tracks[1],
-        "fragment=7 at=584 size=218 track=2 dts=4294967301 dur=4294970295 samples=2 sync=yes media=15\n",
-        "fragment=7 at=584 size=218 track=1 dts=4096 dur=3072 samples=3 sync=no media=7\n",
+        "fragment=7 at=584 size=218 track=2 dts=4294967301 dur=4294970295 samples=2 sync=yes media=15",
+        " pts=4294967301 syncs=1 gap=4294967301\n",
+        "fragment=7 at=584 size=218 track=1 dts=4096 dur=3072 samples=3 sync=no media=7 pts=4096 syncs=2 gap=4096\n",
     ];
     check_words(&rt, alloc, &WORDS, &muxed(SIZED), 0, &lines, "")?;
     let lines = [
         tracks[0],
         tracks[1],
-        "fragment=7 at=584 size=end track=2 dts=4294967301 dur=4294970295 samples=2 sync=yes media=15\n",
-        "fragment=7 at=584 size=end track=1 dts=4096 dur=3072 samples=3 sync=no media=7\n",
+        "fragment=7 at=584 size=end track=2 dts=4294967301 dur=4294970295 samples=2 sync=yes media=15",
+        " pts=4294967301 syncs=1 gap=4294967301\n",
+        "fragment=7 at=584 size=end track=1 dts=4096 dur=3072 samples=3 sync=no media=7 pts=4096 syncs=2 gap=4096\n",
     ];
     check_words(&rt, alloc, &WORDS, &muxed(TO_END), 0, &lines, "")
 }
@@ -86,7 +88,7 @@ fn lines_of_two_tracks(rt: HostRuntime) -> Result<(), Fail> {
 #[test]
 fn lines_of_one_track(rt: HostRuntime) -> Result<(), Fail> {
     let (alloc, v1) = (rt.alloc(), V1.as_slice());
-    let track = "track=1 timescale=48000 entries=1\n";
+    let track = "track=1 timescale=48000 entries=1 handler=???? types=mp4a\n";
     // A tfdt of version 1.
     let long_time = [
         &v1[..364],
@@ -96,9 +98,12 @@ fn lines_of_one_track(rt: HostRuntime) -> Result<(), Fail> {
         b"\0\0\0\x20trun\0\0\x02\x01\0\0\0\x03\0\0\0\x6c\0\0\0\x05\0\0\0\x07\0\0\0\x03",
         &v1[460..],
     ];
-    let line =
-        "fragment=1 at=364 size=123 track=1 dts=4294967301 dur=3072 samples=3 sync=yes media=15\n";
-    check_words(&rt, alloc, &WORDS, &long_time, 0, &[track, line], "")?;
+    let lines = [
+        track,
+        "fragment=1 at=364 size=123 track=1 dts=4294967301 dur=3072 samples=3 sync=yes media=15",
+        " pts=4294967301 syncs=3 gap=4294967301\n",
+    ];
+    check_words(&rt, alloc, &WORDS, &long_time, 0, &lines, "")?;
     // A traf without samples.
     let no_sample = [
         &v1[..364],
@@ -107,7 +112,8 @@ fn lines_of_one_track(rt: HostRuntime) -> Result<(), Fail> {
         b"\0\0\0\x10tfdt\0\0\0\0\0\0\x10\0",
         b"\0\0\0\x08mdat",
     ];
-    let line = "fragment=8 at=364 size=72 track=1 dts=4096 dur=0 samples=0 sync=no media=0\n";
+    let line =
+        "fragment=8 at=364 size=72 track=1 dts=4096 dur=0 samples=0 sync=no media=0 pts=4096 syncs=0 gap=4096\n";
     check_words(&rt, alloc, &WORDS, &no_sample, 0, &[track, line], "")?;
     // Two sample entries, of which the trex names the first.
     let two_entries = [
@@ -122,8 +128,9 @@ fn lines_of_one_track(rt: HostRuntime) -> Result<(), Fail> {
         b"\0\0\0\x10mp4a\0\0\0\0\0\0\0\x01\0\0\0\x10mp4a\0\0\0\0\0\0\0\x01",
         &v1[324..],
     ];
-    let track = "track=1 timescale=48000 entries=2\n";
-    let line = "fragment=1 at=380 size=119 track=1 dts=0 dur=3072 samples=3 sync=yes media=15\n";
+    let track = "track=1 timescale=48000 entries=2 handler=???? types=mp4a,mp4a\n";
+    let line =
+        "fragment=1 at=380 size=119 track=1 dts=0 dur=3072 samples=3 sync=yes media=15 pts=0 syncs=3 gap=0\n";
     check_words(&rt, alloc, &WORDS, &two_entries, 0, &[track, line], "")
 }
 
@@ -174,7 +181,7 @@ impl Recorded {
 }
 
 /// A stream whose records are these, by inputs of one byte, of seven, and of all.
-fn check_records(
+pub(super) fn check_records(
     rt: &impl Abort,
     alloc: Global,
     parts: &[&[u8]],
@@ -195,18 +202,24 @@ fn check_records(
 fn records_of_two_tracks(rt: HostRuntime) -> Result<(), Fail> {
     let alloc = rt.alloc();
     // The offset of the moof and the size; time, duration and media; sequence_number, track_ID, timescale and samples,
-    // whether the first is a sync sample, and four zeros.
+    // whether the first is a sync sample, and how many are; when the track ended before, and how long after its base
+    // time the first of the samples is presented.
+    let zeros = [0; 16].as_slice();
     let sized = [
         b"\0\0\0\0\0\0\x02\x48\0\0\0\0\0\0\0\xda".as_slice(),
         b"\0\0\0\x01\0\0\0\x05\0\0\0\x01\0\0\x0b\xb7\0\0\0\0\0\0\0\x0f",
-        b"\0\0\0\x07\0\0\0\x02\0\x01\x5f\x90\0\0\0\x02\0\0\0\x01\0\0\0\0",
+        b"\0\0\0\x07\0\0\0\x02\0\x01\x5f\x90\0\0\0\x02\0\0\0\x01\0\0\0\x01",
+        zeros,
         b"\0\0\0\0\0\0\x02\x48\0\0\0\0\0\0\0\xda",
         b"\0\0\0\0\0\0\x10\0\0\0\0\0\0\0\x0c\0\0\0\0\0\0\0\0\x07",
-        b"\0\0\0\x07\0\0\0\x01\0\0\xbb\x80\0\0\0\x03\0\0\0\0\0\0\0\0",
+        b"\0\0\0\x07\0\0\0\x01\0\0\xbb\x80\0\0\0\x03\0\0\0\0\0\0\0\x02",
+        zeros,
     ];
     check_records(&rt, alloc, &muxed(SIZED), &sized)?;
     let place = b"\0\0\0\0\0\0\x02\x48\xff\xff\xff\xff\xff\xff\xff\xff".as_slice();
-    let to_end = [place, sized[1], sized[2], place, sized[4], sized[5]];
+    let to_end = [
+        place, sized[1], sized[2], zeros, place, sized[5], sized[6], zeros,
+    ];
     check_records(&rt, alloc, &muxed(TO_END), &to_end)
 }
 
@@ -216,7 +229,8 @@ fn records_of_one_track(rt: HostRuntime) -> Result<(), Fail> {
     let first = b"\
         \0\0\0\0\0\0\x01\x6c\0\0\0\0\0\0\0\x77\
         \0\0\0\0\0\0\0\0\0\0\0\0\0\0\x0c\0\0\0\0\0\0\0\0\x0f\
-        \0\0\0\x01\0\0\0\x01\0\0\xbb\x80\0\0\0\x03\0\0\0\x01\0\0\0\0"
+        \0\0\0\x01\0\0\0\x01\0\0\xbb\x80\0\0\0\x03\0\0\0\x01\0\0\0\x03\
+        \0\0\0\0\0\0\0\0\0\0\0\0\0\0\0\0"
         .as_slice();
     check_records(&rt, alloc, &[v1], &[first])?;
     // The same moof and mdat once more, without a tfdt: it begins where the track ended.
@@ -230,7 +244,8 @@ fn records_of_one_track(rt: HostRuntime) -> Result<(), Fail> {
     let second = b"\
         \0\0\0\0\0\0\x01\xe3\0\0\0\0\0\0\0\x67\
         \0\0\0\0\0\0\x0c\0\0\0\0\0\0\0\x0c\0\0\0\0\0\0\0\0\x0f\
-        \0\0\0\x02\0\0\0\x01\0\0\xbb\x80\0\0\0\x03\0\0\0\x01\0\0\0\0"
+        \0\0\0\x02\0\0\0\x01\0\0\xbb\x80\0\0\0\x03\0\0\0\x01\0\0\0\x03\
+        \0\0\0\0\0\0\x0c\0\0\0\0\0\0\0\0\0"
         .as_slice();
     check_records(&rt, alloc, &no_time, &[first, second])?;
     check_records(&rt, alloc, &[], &[])

@@ -1,6 +1,6 @@
 use Rattle.std.proofs.Common.{refl}
 use Rattle.mp4_traf.specs.Runs.{traf_of}
-use Rattle.mp4_grammar.proofs.RowLineLemmas.{duration_is_theirs, media_are_theirs, samples_are, sync_is_of_the_first, time_of_tfdt, time_of_track}
+use Rattle.mp4_grammar.proofs.RowLineLemmas.{duration_is_theirs, ended_of_track, media_are_theirs, samples_are, sync_is_of_the_first, time_of_tfdt, time_of_track}
 use Rattle.mp4_grammar.proofs.laws.lines_have_what_their_trafs_have.Goals as goal
 
 pub returns-clause-track : goal.returns-clause-track
@@ -24,3 +24,14 @@ returns-clause-media c f b = media_are_theirs f b
 
 pub returns-clause-sync : goal.returns-clause-sync
 returns-clause-sync c f b = sync_is_of_the_first f b
+
+pub returns-clause-earliest : goal.returns-clause-earliest
+unfolding traf_of
+returns-clause-earliest c f b = refl
+
+pub returns-clause-syncs : goal.returns-clause-syncs
+unfolding traf_of
+returns-clause-syncs c f b = refl
+
+pub returns-clause-ended : goal.returns-clause-ended
+returns-clause-ended c f b t is = ended_of_track f b t is

@@ -26,3 +26,6 @@ returns-clause-no_sync c f b is = ap one_or_none is
 
 pub returns-clause-timescale : goal.returns-clause-timescale
 returns-clause-timescale c f b t is = timescale_of_track f b t is
+
+pub returns-clause-shown : goal.returns-clause-shown
+returns-clause-shown c f b = (refl, refl, refl)

@@ -21,7 +21,11 @@ pub put_moov-requires : goal.put_moov-requires
 put_moov-requires g c =
     let buffered = c.args.buffered in
     let list = rw (c.bytes.ensures.bytes, c.offset.ensures.at) at c.in-Ok.ensures.list in
-    rw c.bytes-2.ensures.bytes (list ∙ tracks_anywhere buffered.bytes 0 buffered.at)
+    rw c.bytes-2.ensures.bytes (record {
+      whole = begins_whole buffered.size buffered.bytes c.bytes.ensures.valid c.requires.begins c.requires.whole;
+      room = omega (arith, c.requires.near, c.requires.whole);
+      list = list ∙ tracks_anywhere buffered.bytes 0 buffered.at;
+    })
 
 pub returns-in-Err : goal.returns-in-Err
 returns-in-Err g c =

@@ -67,7 +67,7 @@ returns-in-Fragments-clause-puts g c = λ header sized.
     let boxes = c.args.complete.now.boxes in
     let f = fragment (context at (Some tracks) 1) tracks boxes.moof.now header in
     let text = lines_by c.args.command Fragments f _ c.in-Fragments.is (inl c.in-Fragments.is) (size_stated at (length boxes.moof.now) _ boxes.mdat.size header.size sized refl) in
-    subst (λ l. Puts (sent g.W.Sink.contents g.W.Sink.has_failed c.args.w.now c.put_single_line.new.w) c.args.out.now c.put_single_line.new.out l c.put_single_line.result) text (c.put_single_line.ensures c.args.tracks.now c.requires.is.single_run)
+    subst (λ l. Puts (sent g.W.Sink.contents g.W.Sink.has_failed c.args.w.now c.put_single_line.new.w) c.args.out.now c.put_single_line.new.out l c.put_single_line.result) text (c.put_single_line.ensures c.requires.is.single_run)
 
 pub returns-in-Records-clause-puts : goal.returns-in-Records-clause-puts
 returns-in-Records-clause-puts g c = λ header sized.

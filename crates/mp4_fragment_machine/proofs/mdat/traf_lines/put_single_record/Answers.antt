@@ -6,4 +6,4 @@ use Rattle.mp4_fragment_machine.proofs.mdat.traf_lines.put_single_record.Goals a
 
 pub returns : goal.returns
 returns g c =
-    subst (λ l. Puts (sent g.W.Sink.contents g.W.Sink.has_failed c.args.w.now c.put_traf.new.w) c.args.out.now c.put_traf.new.out l c.put_traf.result) (c.single_traf-traf.ensures c.args.tracks.now Records c.requires.single_run) c.put_traf.ensures
+    subst (λ l. Puts (sent g.W.Sink.contents g.W.Sink.has_failed c.args.w.now c.put_traf.new.w) c.args.out.now c.put_traf.new.out l c.put_traf.result) (c.single_traf-traf.ensures Records c.requires.single_run) c.put_traf.ensures
