@@ -6,18 +6,20 @@
 //! - [`cached_line`]: [`CachedLine`], the lines of samples that follow one another;
 //! - [`listed_traf`]: [`ListedTraf`], a traf of a fragment and its line, and [`listed_track`]: [`ListedTrack`], a track
 //!   and its line;
+//! - [`presented`]: [`Presented`], when the first sample of a traf is presented, and how many are sync samples;
 //! - [`traf_record`]: [`TrafRecord`], a traf as 80 bytes;
 //! - [`laws`]: what the definitions of `specs/` imply.
 //!
 //! The definitions: `specs/Items.antt` (what is at the front of some bytes, and its effects) with `specs/Contexts.antt`
 //! (what is known where an item begins) and `specs/Kinds.antt`; `specs/Meanings.antt` (what a command makes of a
 //! fragment), `specs/Samples.antt` (the samples of a fragment and their lines), `specs/FragmentLines.antt` (the lines
-//! of its trafs, and those of the tracks), `specs/TrafRecords.antt` (its trafs as records), `specs/Commands.antt` (the
-//! commands). The laws speak of `specs/Joined.antt` (whole items one after the other), `specs/Rests.antt` (what may be
-//! left after them), `specs/HeldSizes.antt` (how large the boxes are that are held), `specs/Counts.antt` (what is
-//! counted before a box that requests memory), `specs/LinesByRows.antt` (the line of a traf by the rows of its
-//! samples), `specs/AcceptedFragments.antt` (fragments that are accepted, and their records) and
-//! `specs/WithoutText.antt` (effects without their text) too.
+//! of its trafs) with `specs/Presented.antt` (what their rows say of when samples are presented),
+//! `specs/TrackLines.antt` (the lines of the tracks), `specs/TrafRecords.antt` (its trafs as records),
+//! `specs/Commands.antt` (the commands). The laws speak of `specs/Joined.antt` (whole items one after the other),
+//! `specs/Rests.antt` (what may be left after them), `specs/HeldSizes.antt` (how large the boxes are that are held),
+//! `specs/Counts.antt` (what is counted before a box that requests memory), `specs/LinesByRows.antt` (the line of a
+//! traf by the rows of its samples), `specs/AcceptedFragments.antt` (fragments that are accepted, and their records)
+//! and `specs/WithoutText.antt` (effects without their text) too.
 #![tactic(auto)]
 
 pub mod cached_line;
