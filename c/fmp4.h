@@ -115,6 +115,8 @@ struct fmp4_fragment {
     uint32_t syncs;       /* how many of its samples are sync samples */
     uint64_t track_end;   /* when its track ended before, 0 before its first: decode_time less this is the gap */
     int64_t earliest;     /* the least composition time of its samples, less decode_time; 0 without samples */
+    uint32_t handler;     /* the handler_type of the track, 'vide' as 0x76696465; 0 where it has none */
+    uint32_t entries;     /* how many sample entries the track has */
 };
 
 /* The sizes of three of these, which an open compares with those of the library: FMP4_BAD_LAYOUT says that the caller
@@ -200,7 +202,7 @@ FMP4_MUST_READ static inline uint32_t fmp4_check_open(struct fmp4_stream *stream
 
 /* Opens a stream that is checked and listed: the listing is its output, and what a fragment adds to it comes at once,
  * with the header of its mdat. `limit` and `room` are as those of a cut; what comes at once must fit the room, which is
- * 80 bytes for each record, and up to 340 for each line. To list the fragments that a cut writes, feed its output to a
+ * 88 bytes for each record, and up to 340 for each line. To list the fragments that a cut writes, feed its output to a
  * stream that is listed. A listing of boxes has a line of up to 80 bytes for a box as soon as its header came; a moov
  * or moof is listed once it is whole, with the boxes in it: up to 6 bytes at once for each of its own.
  *   FMP4_OVER_LIMIT: room is more than limit; FMP4_NO_MEMORY; FMP4_IS_OPEN; FMP4_BAD_LAYOUT, _LISTING, _ROOM */
@@ -227,8 +229,9 @@ FMP4_MUST_READ uint32_t fmp4_feed(struct fmp4_stream *FMP4_RESTRICT stream, cons
 
 /* As fmp4_take and then fmp4_feed, and the output of the input follows in `out` at once, without a copy in the room:
  * *given says how many bytes of output, less than `size` only where no more wait; what doesn't fit waits. So a loop
- * over an input sees FMP4_FULL only where `out` is smaller than what waits, and calls again. An `out` of twice the
- * input serves best: what doesn't fit is copied once more. The call that stops with FMP4_NO_ROOM has filled `out` and
+ * over an input sees FMP4_FULL only where `out` is smaller than what waits, and calls again. What is free in `out` once
+ * it has what waits counts with what is free in the room: of both together a share of the input is taken. An `out` of
+ * twice the input serves best: what doesn't fit is copied once more. The call that stops with FMP4_NO_ROOM has filled `out` and
  * the room. A stream that has stopped still gives what waits. What lies after the *given bytes in `out` may change. A
  * stream that is listed by records is fed by fmp4_feed alone.
  *   As fmp4_feed; FMP4_BAD_LISTING; *given is 0 where it misuses the stream */

@@ -8,7 +8,7 @@ class Cut(ctypes.Structure): _fields_ = [("samples", c_uint32), ("duration_ms", 
 lib, stream, report, n, out = ctypes.CDLL(sys.argv[1]), Stream(), Report(), c_size_t(), buffer(65536)
 def drain():
     while lib.fmp4_take(byref(stream), out, c_size_t(65536), byref(n)) == 0 and n.value: sys.stdout.buffer.write(out.raw[:n.value])
-layout = 80 << 24 | ctypes.sizeof(Stream) << 16 | ctypes.sizeof(Report)
+layout = 88 << 24 | ctypes.sizeof(Stream) << 16 | ctypes.sizeof(Report)
 samples, size, duration, flags = (int(it) for it in sys.argv[2:] + ["65536", "0", "0"][len(sys.argv) - 3:])
 cut, answer = Cut(samples=samples, duration_ms=duration, flags=flags), 0
 if lib.fmp4_cut_open_as(byref(stream), c_uint32(layout), byref(cut), c_uint64(2 << 20), c_size_t(1 << 20)): sys.exit(64)

@@ -70,6 +70,8 @@ type Fragment struct {
 	Syncs                                          uint32 // how many of its samples are sync samples
 	TrackEnd                                       uint64 // when its track ended before: DecodeTime less it is the gap
 	Earliest                                       int64  // its least composition time, less DecodeTime
+	Handler                                        uint32 // the handler_type of its track, 'vide' as 0x76696465; 0 if it has none
+	Entries                                        uint32 // how many sample entries its track has
 }
 
 // Fault is an error of the stream: the rule that it breaks, the type of the box at fault, empty where it isn't known,
@@ -291,7 +293,7 @@ func (r *Records) hand() error {
 	for r.failed == nil && C.fmp4_next_fragment(&r.it, &f) == C.FMP4_OK {
 		r.failed = r.each(Fragment{uint64(f.offset), uint64(f.size), uint64(f.decode_time), uint64(f.duration), uint64(f.media_bytes),
 			uint32(f.sequence), uint32(f.track), uint32(f.timescale), uint32(f.samples), f.is_sync == 1,
-			uint32(f.syncs), uint64(f.track_end), int64(f.earliest)})
+			uint32(f.syncs), uint64(f.track_end), int64(f.earliest), uint32(f.handler), uint32(f.entries)})
 	}
 	return r.failed
 }

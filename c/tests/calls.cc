@@ -38,7 +38,7 @@ static void records() {
     fmp4::stream stream;
     std::size_t taken = 0;
     fmp4_fragment record{};
-    WANT(stream.list(FMP4_RECORDS, 1 << 20, 160) == FMP4_OK && stream.next(record) == FMP4_NO_RECORD);
+    WANT(stream.list(FMP4_RECORDS, 1 << 20, 176) == FMP4_OK && stream.next(record) == FMP4_NO_RECORD);
     for (std::size_t at = 0; at < in.size(); at += taken) {
         auto input = reinterpret_cast<const std::uint8_t *>(in.data() + at);
         WANT(fmp4_feed(stream.get(), input, in.size() - at, &taken) == FMP4_OK);
@@ -47,7 +47,7 @@ static void records() {
     WANT(stream.next(record) == FMP4_NOT_OPEN && moved.next(record) == FMP4_OK && moved.next(record) == FMP4_NO_RECORD);
     WANT(record.offset == 364 && record.size == 119 && record.decode_time == 0 && record.duration == 3072 && record.media_bytes == 15);
     WANT(record.sequence == 1 && record.track == 1 && record.timescale == 48000 && record.samples == 3 && record.is_sync == 1);
-    WANT(record.syncs == 3 && record.track_end == 0 && record.earliest == 0);
+    WANT(record.syncs == 3 && record.track_end == 0 && record.earliest == 0 && record.handler == 0 && record.entries == 1);
 }
 
 static void checked() {

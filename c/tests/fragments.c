@@ -9,30 +9,30 @@ static struct fmp4_fragment records[4096];
 enum { FREE = 0x66726565, MOOV = 0x6d6f6f76, TRAK = 0x7472616b, TKHD = 0x746b6864, MDIA = 0x6d646961, MDHD = 0x6d646864,
     MINF = 0x6d696e66, STBL = 0x7374626c, STSD = 0x73747364, AVC1 = 0x61766331, MP4A = 0x6d703461, MVEX = 0x6d766578,
     TREX = 0x74726578, MOOF = 0x6d6f6f66, MFHD = 0x6d666864, TRAF = 0x74726166, TFHD = 0x74666864, TFDT = 0x74666474,
-    TRUN = 0x7472756e, MDAT = 0x6d646174 };
+    TRUN = 0x7472756e, MDAT = 0x6d646174, HDLR = 0x68646c72, VIDE = 0x76696465 };
 
-/* Two tracks: 9 with 90,000 ticks a second and two sample entries, and then 1 with 48,000 and one. By default a sample of
+/* Two tracks: 9 with 90,000 ticks a second, a handler and two sample entries, and then 1 with 48,000 and one. By default a sample of
  * track 9 is a sync sample of 3,000 ticks, and one of track 1 no sync sample (8.8.3) of 1,024. */
 static const uint32_t muxed[] = {8, FREE,
-    472, MOOV,
-        204, TRAK,
+    504, MOOV,
+        236, TRAK,
             92, TKHD, 0, 0, 0, 9, 0, 0, 0, 0, 0, 0, 0, 0, 0, 0, 0, 0, 0, 0, 0, 0, 0,
-            104, MDIA, 32, MDHD, 0, 0, 0, 90000, 0, 0,
+            136, MDIA, 32, MDHD, 0, 0, 0, 90000, 0, 0, 32, HDLR, 0, 0, VIDE, 0, 0, 0,
                 64, MINF, 56, STBL, 48, STSD, 0, 2, 16, AVC1, 0, 1, 16, AVC1, 0, 1,
         188, TRAK,
             92, TKHD, 0, 0, 0, 1, 0, 0, 0, 0, 0, 0, 0, 0, 0, 0, 0, 0, 0, 0, 0, 0, 0,
             88, MDIA, 32, MDHD, 0, 0, 0, 48000, 0, 0,
                 48, MINF, 40, STBL, 32, STSD, 0, 1, 16, MP4A, 0, 1,
         72, MVEX, 32, TREX, 0, 9, 1, 3000, 1, 0x02000000, 32, TREX, 0, 1, 1, 1024, 1, 0x01010000,
-    /* At 480: two samples of track 1, of 5 and 7 bytes, the second a sync sample; and three of track 9, of 3, 4 and 5. */
+    /* At 512: two samples of track 1, of 5 and 7 bytes, the second a sync sample; and three of track 9, of 3, 4 and 5. */
     184, MOOF, 16, MFHD, 0, 77,
         88, TRAF, 16, TFHD, 0x020000, 1, 20, TFDT, 1 << 24, 1, 5,
             44, TRUN, 0x701, 2, 192, 0x80000000, 5, 0x01010000, 0x80000007, 7, 0x02000000,
         72, TRAF, 16, TFHD, 0x020000, 9, 16, TFDT, 0, 1000, 32, TRUN, 0x201, 3, 204, 3, 4, 5,
     32, MDAT, 0, 0, 0, 0, 0, 0,
-    /* At 696: a track fragment without samples. */
+    /* At 728: a track fragment without samples. */
     64, MOOF, 16, MFHD, 0, 78, 40, TRAF, 16, TFHD, 0x020000, 1, 16, TFDT, 0, 4096, 8, MDAT,
-    /* At 768: two runs of a sample of track 9, of 1 and 11 bytes, the first by its first-sample-flags no sync sample, without
+    /* At 800: two runs of a sample of track 9, of 1 and 11 bytes, the first by its first-sample-flags no sync sample, without
      * a tfdt: they go on after the three. The second is presented 3,500 ticks before it is decoded, so 500 before the first.
      * Their mdat goes to the end of the stream. */
     104, MOOF, 16, MFHD, 0, 0xfffffffe,
@@ -41,18 +41,18 @@ static const uint32_t muxed[] = {8, FREE,
     0, MDAT, 0, 0, 0, 0};
 
 static const struct fmp4_fragment muxed_records[] = {
-    {480, 216, 4294967301, 4294967303, 12, 77, 1, 48000, 2, 0, 1, 0, 0},
-    {480, 216, 1000, 9000, 12, 77, 9, 90000, 3, 1, 3, 0, 0},
-    {696, 72, 4096, 0, 0, 78, 1, 48000, 0, 0, 0, 8589934604, 0},
-    {768, UINT64_MAX, 10000, 6000, 12, 4294967294, 9, 90000, 2, 0, 1, 10000, -500}};
+    {512, 216, 4294967301, 4294967303, 12, 77, 1, 48000, 2, 0, 1, 0, 0, 0, 1},
+    {512, 216, 1000, 9000, 12, 77, 9, 90000, 3, 1, 3, 0, 0, VIDE, 2},
+    {728, 72, 4096, 0, 0, 78, 1, 48000, 0, 0, 0, 8589934604, 0, 0, 1},
+    {800, UINT64_MAX, 10000, 6000, 12, 4294967294, 9, 90000, 2, 0, 1, 10000, -500, VIDE, 2}};
 
-static const char muxed_lines[] = "track=9 timescale=90000 entries=2 handler=???? types=avc1,avc1\n"
+static const char muxed_lines[] = "track=9 timescale=90000 entries=2 handler=vide types=avc1,avc1\n"
     "track=1 timescale=48000 entries=1 handler=???? types=mp4a\n"
-    "fragment=77 at=480 size=216 track=1 dts=4294967301 dur=4294967303 samples=2 sync=no media=12"
+    "fragment=77 at=512 size=216 track=1 dts=4294967301 dur=4294967303 samples=2 sync=no media=12"
     " pts=4294967301 syncs=1 gap=4294967301\n"
-    "fragment=77 at=480 size=216 track=9 dts=1000 dur=9000 samples=3 sync=yes media=12 pts=1000 syncs=3 gap=1000\n"
-    "fragment=78 at=696 size=72 track=1 dts=4096 dur=0 samples=0 sync=no media=0 pts=4096 syncs=0 gap=-8589930508\n"
-    "fragment=4294967294 at=768 size=end track=9 dts=10000 dur=6000 samples=2 sync=no media=12"
+    "fragment=77 at=512 size=216 track=9 dts=1000 dur=9000 samples=3 sync=yes media=12 pts=1000 syncs=3 gap=1000\n"
+    "fragment=78 at=728 size=72 track=1 dts=4096 dur=0 samples=0 sync=no media=0 pts=4096 syncs=0 gap=-8589930508\n"
+    "fragment=4294967294 at=800 size=end track=9 dts=10000 dur=6000 samples=2 sync=no media=12"
     " pts=9500 syncs=1 gap=0\n";
 
 static uint32_t number(size_t at) {
@@ -120,7 +120,7 @@ static void same_record(const struct fmp4_fragment *a, const struct fmp4_fragmen
     WANT(a->offset == b->offset && a->size == b->size && a->decode_time == b->decode_time && a->duration == b->duration);
     WANT(a->media_bytes == b->media_bytes && a->sequence == b->sequence && a->track == b->track && a->timescale == b->timescale);
     WANT(a->samples == b->samples && a->is_sync == b->is_sync && a->syncs == b->syncs);
-    WANT(a->track_end == b->track_end && a->earliest == b->earliest);
+    WANT(a->track_end == b->track_end && a->earliest == b->earliest && a->handler == b->handler && a->entries == b->entries);
 }
 
 /* The whole output of a listing of the muxed stream. */
@@ -154,7 +154,7 @@ static void muxed_stream(size_t step) {
     struct fmp4_fragment record = {0};
     size_t taken = 0;
     append_words(&stream, muxed, sizeof muxed / sizeof *muxed);
-    WANT(stream.len == 768 + 104 + 24);
+    WANT(stream.len == 800 + 104 + 24);
     list_muxed(&stream, FMP4_FRAGMENTS, step, &got);
     WANT(got.len == sizeof muxed_lines - 1 && memcmp(got.at, muxed_lines, got.len) == 0);
     WANT(fmp4_list_open(&listing, FMP4_RECORDS, 64u << 20, 1u << 20) == FMP4_OK);
@@ -178,7 +178,7 @@ static void half_a_record(void) {
     size_t taken = 0, pending = 0;
     uint32_t answer = FMP4_OK;
     append_words(&stream, muxed, sizeof muxed / sizeof *muxed);
-    WANT(fmp4_list_open(&listing, FMP4_RECORDS, 64u << 20, 120) == FMP4_OK);
+    WANT(fmp4_list_open(&listing, FMP4_RECORDS, 64u << 20, 132) == FMP4_OK);
     for (size_t at = 0; at < stream.len && answer == FMP4_OK; at += taken) answer = fmp4_feed(&listing, stream.at + at, 1, &taken);
     WANT(answer == FMP4_NO_ROOM && fmp4_next_fragment(&listing, &record) == FMP4_OK);
     same_record(&record, &muxed_records[0]);

@@ -11,9 +11,9 @@
 
 SIZE(fmp4_stream, 32);
 SIZE(fmp4_report, 80);
-SIZE(fmp4_fragment, 80);
+SIZE(fmp4_fragment, 88);
 SIZE(fmp4_cut, 40);
-NUMBER(FMP4_LAYOUT, 0x50200050);
+NUMBER(FMP4_LAYOUT, 0x58200050);
 FIELD(fmp4_report, fragments, 0);
 FIELD(fmp4_report, samples, 8);
 FIELD(fmp4_report, media_bytes, 16);
@@ -36,6 +36,8 @@ FIELD(fmp4_fragment, is_sync, 56);
 FIELD(fmp4_fragment, syncs, 60);
 FIELD(fmp4_fragment, track_end, 64);
 FIELD(fmp4_fragment, earliest, 72);
+FIELD(fmp4_fragment, handler, 80);
+FIELD(fmp4_fragment, entries, 84);
 FIELD(fmp4_cut, samples, 0);
 FIELD(fmp4_cut, duration_ms, 4);
 FIELD(fmp4_cut, bytes, 8);

@@ -1,5 +1,5 @@
-/* shares < crates/test_streams/stdin: how much of an input a feed takes in an empty room, by each cut and listing, and that it
- * answers FMP4_FULL where a byte more than half of the room waits and there is input, and not where just half of it does. */
+/* shares < crates/test_streams/stdin: how much of an input a feed takes in an empty room, by each cut and listing, and where
+ * output goes to a buffer first; and that it answers FMP4_FULL where a byte more than half of the room waits and there is input, and not where just half of it does. */
 #include "tests.h"
 
 enum { CUT = 5, CUT_WITH_INDEX = 6 };
@@ -27,6 +27,36 @@ static void empty_rooms(uint32_t listing, size_t share) {
     }
 }
 
+/* The same where output goes to a buffer first, whose free bytes count with those of the room. */
+static void empty_buffers(uint32_t listing, size_t share) {
+    static unsigned char input[70000] = {0, 1, 17, 112, 'f', 'r', 'e', 'e'}, out[1 << 20];
+    static const size_t rooms[] = {1, 127, 512, 4096, 65536}, sizes[] = {0, 1, 127, 385, 4096, 131072, sizeof out};
+    for (size_t i = 0; i < sizeof rooms / sizeof *rooms; i++)
+        for (size_t j = 0; j < sizeof sizes / sizeof *sizes; j++) {
+            struct fmp4_stream stream = {0};
+            size_t taken = 0, given = 0, free = rooms[i] + sizes[j], whole = free / share ? free / share : 1;
+            WANT(open_for(&stream, listing, rooms[i]) == FMP4_OK);
+            WANT(fmp4_feed_take(&stream, input, sizeof input, &taken, out, sizes[j], &given) <= FMP4_NO_ROOM);
+            WANT(taken == smaller(sizeof input, whole));
+            WANT(fmp4_close(&stream) == FMP4_OK);
+        }
+}
+
+/* 20 bytes wait in a room of 1,024, and a 128th of what is free there and in the buffer once it has them is taken. */
+static void filled_buffers(void) {
+    static unsigned char input[70000] = {0, 1, 17, 112, 'f', 'r', 'e', 'e'}, out[2580];
+    static const struct { size_t size, whole; } cases[] = {{0, 1004 / 128}, {10, 1014 / 128}, {20, 8}, {147, 8}, {148, 9}, {2580, 28}};
+    for (size_t i = 0; i < sizeof cases / sizeof *cases; i++) {
+        struct fmp4_stream stream = {0};
+        size_t taken = 0, given = 0;
+        WANT(open_for(&stream, CUT, 1024) == FMP4_OK);
+        for (size_t at = 0; at < 20; at += taken) WANT(fmp4_feed(&stream, in.at + at, 20 - at, &taken) == FMP4_OK && taken > 0);
+        WANT(fmp4_feed_take(&stream, input, sizeof input, &taken, out, cases[i].size, &given) == FMP4_OK);
+        WANT(taken == cases[i].whole && given >= smaller(20, cases[i].size));
+        WANT(fmp4_close(&stream) == FMP4_OK);
+    }
+}
+
 /* A stream that has a room twice the `waits` bytes that the first `len` of the input give, less `fewer`. */
 static void filled(uint32_t listing, size_t len, size_t waits, size_t fewer) {
     struct fmp4_stream stream = {0};
@@ -45,7 +75,7 @@ static void filled(uint32_t listing, size_t len, size_t waits, size_t fewer) {
  * those of a track and its fragment, a record, and the bytes that a cut passes on. */
 static void half_filled(void) {
     static const struct { uint32_t listing; size_t len, waits; } cases[] = {
-        {FMP4_SAMPLES, 468, 70 + 76 + 76}, {FMP4_FRAGMENTS, 364, 58}, {FMP4_FRAGMENTS, 468, 58 + 98}, {FMP4_RECORDS, 468, 80},
+        {FMP4_SAMPLES, 468, 70 + 76 + 76}, {FMP4_FRAGMENTS, 364, 58}, {FMP4_FRAGMENTS, 468, 58 + 98}, {FMP4_RECORDS, 468, 88},
         {FMP4_BOXES, 8, 11}, {CUT, 20, 20}, {CUT, 364, 364}, {CUT_WITH_INDEX, 19, 19}};
     for (size_t i = 0; i < sizeof cases / sizeof *cases; i++)
         for (size_t fewer = 0; fewer < 2; fewer++) filled(cases[i].listing, cases[i].len, cases[i].waits, fewer);
@@ -60,6 +90,9 @@ int main(void) {
     empty_rooms(FMP4_BOXES, 128);
     empty_rooms(CUT, 128);
     empty_rooms(CUT_WITH_INDEX, 512);
+    for (uint32_t listing = FMP4_SAMPLES; listing <= CUT_WITH_INDEX; listing++)
+        if (listing != FMP4_RECORDS) empty_buffers(listing, listing == FMP4_SAMPLES || listing == CUT_WITH_INDEX ? 512 : 128);
+    filled_buffers();
     half_filled();
     puts("shares: what a feed takes of an input, and FMP4_FULL from half of the room and a byte on, by each cut and listing");
     free(in.at);

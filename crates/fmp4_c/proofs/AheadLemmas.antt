@@ -101,10 +101,10 @@ module _ (task : Task) (b given input : List ℕ) (r r' : Run) (p p' : TaskFeede
       stopped-taken task (b ++ input) given (given ++ take (at + n) last) after r' joined refl refl (answer_to e) (subst (λ (k : Task). Stopped k (b ++ input) given (answer_to e) after) (task-its task b given r p is h) it)
 
 -- how much is taken of the input follows from what waits once so much of it was given
-pub portion-after : (r : Run) (n first room : ℕ) (rest input : List ℕ) (taken : ℕ) (answer : Answer) → first ≡ min n (length r.waiting.bytes) → rest ≡ drop first r.waiting.bytes → room ≡ r.waiting.room
-    → IsPortion (record { account = r.account; feeding = r.feeding; waiting = record { bytes = rest; room = room; failed = r.waiting.failed }; share = r.share; reported = r.reported; task = r.task }) input taken answer
-    → IsPortion (after_take n r) input taken answer
-portion-after r n first room rest input taken answer count left same is =
+pub portion-after : (free : ℕ) (r : Run) (n first room : ℕ) (rest input : List ℕ) (taken : ℕ) (answer : Answer) → first ≡ min n (length r.waiting.bytes) → rest ≡ drop first r.waiting.bytes → room ≡ r.waiting.room
+    → IsPortion free (record { account = r.account; feeding = r.feeding; waiting = record { bytes = rest; room = room; failed = r.waiting.failed }; share = r.share; reported = r.reported; task = r.task }) input taken answer
+    → IsPortion free (after_take n r) input taken answer
+portion-after free r n first room rest input taken answer count left same is =
     let bytes : rest ≡ drop (min n (length r.waiting.bytes)) r.waiting.bytes = left ∙ ap (λ k. drop k r.waiting.bytes) count in
     let waits : PendingOutput = record { bytes = rest; room = room; failed = r.waiting.failed } in
-    subst (λ (w : PendingOutput). IsPortion (record { account = r.account; feeding = r.feeding; waiting = w; share = r.share; reported = r.reported; task = r.task }) input taken answer) (rw (bytes, same) refl) is
+    subst (λ (w : PendingOutput). IsPortion free (record { account = r.account; feeding = r.feeding; waiting = w; share = r.share; reported = r.reported; task = r.task }) input taken answer) (rw (bytes, same) refl) is

@@ -1,5 +1,5 @@
 -- A record at the front of what waits.
-use Rattle.std.proofs.Common.{◌≡◌, ◌∙◌, ℕ, ◌<◌, List, [], ◌++◌, length, take, min, ap, arith, refl, sym, append-nil, length-append}
+use Rattle.std.proofs.Common.{◌≡◌, ◌∙◌, ℕ, ◌<◌, ◌≤◌, List, [], ◌++◌, length, take, min, ap, arith, refl, sym, append-nil, length-append}
 use Rattle.std.proofs.Math.Seq.{take-append_seam, take-length}
 use Rattle.mp4_grammar.specs.TrafRecords.{in_4, in_8, record_bytes, record_len}
 use Rattle.mp4_grammar.specs.declared.traf_record.TrafRecord.{TrafRecord}
@@ -18,3 +18,9 @@ front_is t rest w out n full count front is =
     let whole : take n out ≡ out = ap (λ (k : ℕ). take k out) all ∙ take-length out in
     let its : n ≡ length (record_bytes t) = omega (arith, all, full, long) in
     sym whole ∙ front ∙ ap (take n) is ∙ ap (λ (k : ℕ). take k (record_bytes t ++ rest)) its ∙ take-append_seam (record_bytes t) rest ∙ sym (append-nil (record_bytes t))
+
+pub front_of : (w out : List ℕ) (n : ℕ) → length out ≡ record_len → n ≡ min record_len (length w) → record_len ≤ length w → take n out ≡ take n w → out ≡ take record_len w
+front_of w out n full count some front =
+    let all : n ≡ length out = omega (arith, count, some, full) in
+    let its : n ≡ record_len = omega (arith, all, full) in
+    sym (ap (λ (k : ℕ). take k out) all ∙ take-length out) ∙ front ∙ ap (λ (k : ℕ). take k w) its

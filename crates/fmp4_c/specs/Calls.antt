@@ -41,13 +41,13 @@ pub record IsCutBy (request : CutRequest) (cut : Cut) : Type 0 where
   pub sync : cut.sync ≡ eqb (request.flags / 2) 1
   pub keyframes : cut.keyframes ≡ eqb (request.flags / 4) 1
 
--- which share of the free room a feed takes of the input, by the flags: with an index a byte can lead to more output
+-- which share of what is free a feed takes of the input, by the flags: with an index a byte can lead to more output
 abbrev pub share_of : ℕ → ℕ
 share_of flags = if eqb (flags % 2) 1 then 512 else 128
 
--- the sizes of the structs in the header: 32 bytes for a stream, and 80 for a report
+-- the sizes of structs in the header: 88 bytes for a record, 32 for a stream, and 80 for a report
 abbrev pub header_layout : ℕ
-header_layout = 0x5020_0050
+header_layout = 0x5820_0050
 
 -- the largest sum of flags of a plain request
 abbrev pub plain_flags : ℕ

@@ -1,5 +1,5 @@
 -- What an engine is after the bytes of a stream that it was fed, and what a call of it does.
-use Rattle.std.specs.Prelude.{◌≡◌, if◌then◌else◌, ℕ, ◌-◌, ◌*◌, ◌/◌, ◌^◌, ◌<◌, ◌≤◌, eqb, List, [], ◌∷◌, ◌++◌, length, take, drop, min, max, Option, None, Some}
+use Rattle.std.specs.Prelude.{◌≡◌, if◌then◌else◌, ℕ, ◌+◌, ◌-◌, ◌*◌, ◌/◌, ◌^◌, ◌<◌, ◌≤◌, eqb, List, [], ◌∷◌, ◌++◌, length, take, drop, min, max, Option, None, Some}
 use Rattle.mp4_box.specs.declared.rules.Fault as faults
 use Rattle.mp4_boxes.specs.Boxes.{reading}
 use Rattle.mp4_ledger.specs.Memory.{Account, limited}
@@ -121,16 +121,20 @@ Fed task b given BadLayout r = ⊥
 Fed task b given NoRecord r = ⊥
 Fed task b given BadListing r = ⊥
 
--- how many bytes are taken at once where so many are free in the room: a share of these, and one at the least; any number
--- where there is no share
-abbrev pub step_of : (share free : ℕ) → ℕ
-step_of share free = if eqb share 0 then 2 ^ 64 - 1 else max 1 (free / share)
+-- how many bytes of a buffer of so many are free once it has what waits
+abbrev pub free_in : ℕ → Run → ℕ
+free_in n r = n - length r.waiting.bytes
 
--- how many bytes a feed takes of the input where the stream goes on: none while more than half of the room is filled,
--- which it answers only where there is input
-pub record IsPortion (r : Run) (input : List ℕ) (taken : ℕ) (answer : Answer) : Type 0 where
+-- how many bytes are taken at once where so many are free, counted as far as 64 bits go: a share of these, and one at the
+-- least; any number where there is no share
+abbrev pub step_of : (share free : ℕ) → ℕ
+step_of share free = if eqb share 0 then 2 ^ 64 - 1 else max 1 (min free (2 ^ 64 - 1) / share)
+
+-- how many bytes a feed takes of the input where the stream goes on, and so many are free in a buffer that the output goes
+-- to before the room: none while more than half of the room is filled, which it answers only where there is input
+pub record IsPortion (free : ℕ) (r : Run) (input : List ℕ) (taken : ℕ) (answer : Answer) : Type 0 where
   pub filled : r.waiting.room < 2 * length r.waiting.bytes → (taken ≡ 0) × ((input ≡ [] → ⊥) → answer ≡ Full)
-  pub free : 2 * length r.waiting.bytes ≤ r.waiting.room → taken ≡ min (length input) (step_of r.share (r.waiting.room - length r.waiting.bytes))
+  pub share : 2 * length r.waiting.bytes ≤ r.waiting.room → taken ≡ min (length input) (step_of r.share (r.waiting.room - length r.waiting.bytes + free))
   pub done : answer ≡ Done → taken ≡ 0 → input ≡ []
   pub full : answer ≡ Full → (taken ≡ 0) × (r.waiting.room < 2 * length r.waiting.bytes) × (input ≡ [] → ⊥)
 

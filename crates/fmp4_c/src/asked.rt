@@ -8,10 +8,10 @@ use crate::request::CutRequest;
 use crate::task::Task;
 use mp4_stream::{Command, Operation};
 
-/// The sizes of the structs in the header: 32 bytes for a stream, and 80 for a report.
-const LAYOUT: u32 = 0x5020_0050;
+/// The sizes of structs in the header: 88 bytes for a record, 32 for a stream, and 80 for a report.
+const LAYOUT: u32 = 0x5820_0050;
 
-/// A feed takes a 128th of what is free in the room: a byte of a sample becomes at most 117 of output.
+/// A feed takes a 128th of what is free: a byte of a sample becomes at most 117 of output.
 const SHARE: usize = 128;
 
 /// And with an index a 512th: a byte may be a run of its own, with an index of its own. So may one of a listing of

@@ -7,7 +7,7 @@ ghost use Rattle.mp4_machine.specs.declared.stop.Stop as stops;
 ghost use Rattle.fmp4_c.specs.Answers.{answer_to, number_of};
 ghost use Rattle.fmp4_c.specs.Calls.{IsOpened};
 ghost use Rattle.fmp4_c.specs.Engines.{ClaimsWithin, Fed, Finished, FitsIn, Holds, IsKept, IsPortion, IsReset, Stopped};
-ghost use Rattle.fmp4_c.specs.Engines.{after_take, held_in, limited_to, report_of, step_of};
+ghost use Rattle.fmp4_c.specs.Engines.{after_take, free_in, held_in, limited_to, report_of, step_of};
 ghost use Rattle.fmp4_c.specs.Tasks.{record_listing, stop_of};
 ghost use Rattle.fmp4_c.specs.declared.answer.Answer as answers;
 ghost use Rattle.fmp4_c.specs.declared.task.Task.{Task};
@@ -88,12 +88,13 @@ impl Engine {
         }
     }
 
-    /// How many bytes of the input are taken at once: none while more than half of the room is filled.
-    fn portion(&self, input: usize) -> usize
+    /// How many bytes of the input are taken at once, where so many are free beside those of the room: none while more
+    /// than half of the room is filled.
+    fn portion(&self, input: usize, free: usize) -> usize
         ensures filled { self.now.waiting.room < 2 * length self.now.waiting.bytes → result ≡ 0 }
-        ensures free { 2 * length self.now.waiting.bytes ≤ self.now.waiting.room →
+        ensures share { 2 * length self.now.waiting.bytes ≤ self.now.waiting.room →
             result ≡ min input
-            (step_of self.now.share (self.now.waiting.room - length self.now.waiting.bytes)) }
+            (step_of self.now.share (self.now.waiting.room - length self.now.waiting.bytes + free)) }
         ensures some { 2 * length self.now.waiting.bytes ≤ self.now.waiting.room → 0 < input →
             0 < result }
         ensures none { result ≡ 0 → 0 < input →
@@ -103,7 +104,7 @@ impl Engine {
         if self.out.len() > self.out.free() {
             return 0;
         }
-        input.min(step_by(self.share, self.out.free()))
+        input.min(step_by(self.share, self.out.free().saturating_add(free)))
     }
 
     /// Feeds the input of the stream, or the front of one. After a stop it returns the same, and takes nothing.
@@ -111,7 +112,7 @@ impl Engine {
         ensures feeds { (task : Task) → (b given : List ℕ) → Holds task b given self.old →
             Fed task (b ++ take result.taken input.now) given result.answer self.new }
         ensures portion { (p : TaskFeeder) → self.old.feeding ≡ Some p → stop_of p ≡ None →
-            IsPortion self.old input.now result.taken result.answer }
+            IsPortion 0 self.old input.now result.taken result.answer }
         ensures stopped { (task : Task) → (b given : List ℕ) → (a : answers.Answer) →
             Stopped task b given a self.old →
             (result ≡ record { taken = 0; answer = a }) × (self.new ≡ self.old) }
@@ -128,7 +129,7 @@ impl Engine {
             length self.new.waiting.bytes ≡ self.new.waiting.room }
         ensures kept { IsKept self.old self.new }
     {
-        let taken = self.portion(input.len());
+        let taken = self.portion(input.len(), 0);
         match &mut self.feeder {
             Some(feeder) => {
                 if let Some(stop) = feeder.stop() {
@@ -171,7 +172,8 @@ impl Engine {
             result.answer self.new }
         ensures portion { (p : TaskFeeder) → self.old.feeding ≡ Some p → stop_of p ≡ None →
             (self.old.task ≡ record_listing → ⊥) →
-            IsPortion (after_take (length buffer.old) self.old) input.now result.taken result.answer }
+            IsPortion (free_in (length buffer.old) self.old) (after_take (length buffer.old) self.old)
+            input.now result.taken result.answer }
         ensures stopped { (task : Task) → (b given : List ℕ) → (a : answers.Answer) →
             Stopped task b given a self.old → (self.old.task ≡ record_listing → ⊥) →
             (result.taken ≡ 0) × (result.answer ≡ a) ×
@@ -204,8 +206,9 @@ impl Engine {
         if lists_records(self.task) {
             return self.passed(0, 0, Answer::BadListing);
         }
+        let free = buffer.len().saturating_sub(self.out.len());
         let first = self.out.take(buffer);
-        let portion = self.portion(input.len());
+        let portion = self.portion(input.len(), free);
         let Some(feeder) = &mut self.feeder else {
             unreachable!();
         };
@@ -458,9 +461,9 @@ impl Drop for Engine {
     }
 }
 
-/// How many bytes of the input are taken at once, where so many are free in the room.
+/// How many bytes of the input are taken at once, where so many are free.
 fn step_by(share: usize, free: usize) -> usize
-    ensures is { result ≡ step_of share free }
+    ensures is { (n : ℕ) → free ≡ min n (2 ^ 64 - 1) → result ≡ step_of share n }
     ensures some { 0 < result }
 {
     if share == 0 {

@@ -4,7 +4,7 @@ ghost use Rattle.std.specs.Prelude.{◌≡◌, ℕ, ◌<◌, ◌≤◌, List, []
 ghost use Rattle.mp4_machine.specs.declared.stop.Stop as stops;
 ghost use Rattle.fmp4_c.specs.Answers.{answer_to, at_rest, number_of, report_from};
 ghost use Rattle.fmp4_c.specs.Calls.{ClaimsIn, FedIn, FinishedIn, HoldsIn, StoppedIn};
-ghost use Rattle.fmp4_c.specs.Engines.{FitsIn, Holds, IsKept, IsPortion, Run, Stopped, after_take, counted_in, report_of};
+ghost use Rattle.fmp4_c.specs.Engines.{FitsIn, Holds, IsKept, IsPortion, Run, Stopped, after_take, counted_in, free_in, report_of};
 ghost use Rattle.fmp4_c.specs.Tasks.{record_listing, stop_of};
 ghost use Rattle.fmp4_c.specs.declared.answer.Answer as answers;
 ghost use Rattle.fmp4_c.specs.declared.task.Task.{Task};
@@ -30,7 +30,7 @@ pub extern "C" fn fmp4_feed(
         FedIn task (b ++ take taken.new input.now) given result stream.new.handle.held }
     ensures portion { (r : Run) → (p : TaskFeeder) → stream.old.handle.held ≡ Some r →
         r.feeding ≡ Some p → stop_of p ≡ None → (answer : answers.Answer) ×
-        (result ≡ number_of answer) × IsPortion r input.now taken.new answer }
+        (result ≡ number_of answer) × IsPortion 0 r input.now taken.new answer }
     ensures stopped { (task : Task) → (b given : List ℕ) → (a : answers.Answer) →
         StoppedIn task b given a stream.old.handle.held →
         (result ≡ number_of a) × (taken.new ≡ 0) ×
@@ -93,7 +93,7 @@ pub extern "C" fn fmp4_feed_take(
     ensures portion { (r : Run) → (p : TaskFeeder) → stream.old.handle.held ≡ Some r →
         r.feeding ≡ Some p → stop_of p ≡ None → (r.task ≡ record_listing → ⊥) → (answer : answers.Answer) ×
         (result ≡ number_of answer) ×
-        IsPortion (after_take (length out.old) r) input.now taken.new answer }
+        IsPortion (free_in (length out.old) r) (after_take (length out.old) r) input.now taken.new answer }
     ensures stopped { (task : Task) → (b before : List ℕ) → (a : answers.Answer) → (r : Run) →
         stream.old.handle.held ≡ Some r → (r.task ≡ record_listing → ⊥) → Stopped task b before a r →
         (result ≡ number_of a) × (taken.new ≡ 0) ×

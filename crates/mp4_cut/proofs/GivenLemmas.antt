@@ -80,7 +80,7 @@ record HasDefaults (run : Run) : Type 0 where
   duration : run.duration < 2 ^ 32
   size : run.size < 2 ^ 32
   flags : run.flags < 2 ^ 32
-  first : unwrap_or run.first_sample_flags run.flags < 2 ^ 32
+  first : run.default_first_flags < 2 ^ 32
 
 default_small : (t : Bool) (m n : ℕ) → m < 2 ^ 32 → n < 2 ^ 32 → cond t m n < 2 ^ 32
 default_small true m n p q = p

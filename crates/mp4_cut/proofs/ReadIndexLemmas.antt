@@ -8,13 +8,14 @@ use Rattle.byteorder.specs.Numbers.{big_number-reads_back}
 use Rattle.mp4_box.specs.Fields.{number_in}
 use Rattle.mp4_box.specs.Paths.{of_kind}
 use Rattle.mp4_box.specs.Trees.{Box, children}
+use Rattle.mp4_traf.specs.CompositionTimes.{composition_times, least_of}
 use Rattle.mp4_traf.specs.declared.run.Run.{Run}
 use Rattle.mp4_traf.specs.Kinds.{mfhd}
 use Rattle.mp4_frag.specs.Moofs.{moof_of}
 use Rattle.mp4_traf.specs.Rows.{durations, sizes}
 use Rattle.mp4_pieces.specs.declared.piece.Piece.{Piece}
 use Rattle.mp4_pieces.specs.Fits.{FitsReference, FitsTime}
-use Rattle.mp4_pieces.specs.Pieces.{IsPieceOf, composition_times, cursor_at, least_of, piece_at, rows_in}
+use Rattle.mp4_pieces.specs.Pieces.{IsPieceOf, cursor_at, piece_at, rows_in}
 use Rattle.mp4_pieces.specs.Sizes.{fragment_size, mdat_header_size}
 use Rattle.mp4_cut.specs.Boxes.{version_and_flags}
 use Rattle.mp4_cut.specs.Indexes.{CanBeIndexed, IsIndexReadAs, Reference, index_in, reference_to, references_in}

@@ -3,12 +3,13 @@ use Rattle.std.specs.Prelude.{◌≡◌, ◌+◌, ◌≤◌, ℕ, zero, suc, pos
 use Rattle.std.specs.List.{AllByRecursion}
 use Rattle.byteorder.specs.Endian.{big_number}
 use Rattle.mp4_box.specs.Fields.{long_number_in, number_in, version_in}
+use Rattle.mp4_traf.specs.CompositionTimes.{composition_times, least_of}
 use Rattle.mp4_traf.specs.declared.run.Run.{Run}
 use Rattle.mp4_traf.specs.Rows.{durations, sizes}
 use Rattle.mp4_pieces.specs.declared.piece.Piece.{Piece}
 use Rattle.mp4_pieces.specs.Fits.{FitsReference, FitsTime}
 use Rattle.mp4_pieces.specs.Groups.{group_length}
-use Rattle.mp4_pieces.specs.Pieces.{IsPieceOf, composition_times, least_of, rows_in}
+use Rattle.mp4_pieces.specs.Pieces.{IsPieceOf, rows_in}
 use Rattle.mp4_cut.specs.Mdat.{mdat_header}
 use Rattle.mp4_cut.specs.Moof.{written_moof}
 

@@ -11,7 +11,7 @@ use Rattle.mp4_traf.specs.Settling.{ended, ended_at, settled, with_end}
 next_fits : (i n : ℕ) (ts : List Track) → AllByRecursion FitsTrackFields ts → AllByRecursion FitsTrackFields (with_next i n ts)
 unfolding with_next
 next_fits i n [] all = tt
-next_fits zero n (t ∷ ts) all = (record { id = all.0.id; timescale = all.0.timescale; entries = all.0.entries; desc = all.0.desc; duration = all.0.duration; size = all.0.size; flags = all.0.flags }, all.1)
+next_fits zero n (t ∷ ts) all = (record { id = all.0.id; timescale = all.0.timescale; handler = all.0.handler; entries = all.0.entries; desc = all.0.desc; duration = all.0.duration; size = all.0.size; flags = all.0.flags }, all.1)
 next_fits (suc i) n (t ∷ ts) all = (all.0, next_fits i n ts all.1)
 
 at_fits : (o : Option ℕ) (n : ℕ) (ts : List Track) → AllByRecursion FitsTrackFields ts → AllByRecursion FitsTrackFields (ended_at o n ts)

@@ -2,12 +2,13 @@
 use Rattle.std.proofs.Common.{◌≡◌, ◌∙◌, ◌+◌, ◌-◌, ◌*◌, ◌<◌, ◌^◌, ◌+ℤ◌, ◌≤ℤ◌, ℕ, zero, suc, ℤ, pos, Bool, true, false, cond, List, [], ◌∷◌, ◌++◌, map, Option, Some, None, refl, ap, arith, length, sym}
 use Rattle.std.specs.Prelude.{◌==◌, int_lt, is_some}
 use Rattle.std.specs.Int.{int_min}
-use Rattle.std.specs.List.{AllByRecursion, range_with_len, sum_by}
+use Rattle.std.specs.List.{AllByRecursion, fold, range_with_len, sum_by}
 use Rattle.std.specs.Option.{unwrap_or}
 use Rattle.std.proofs.Math.IntN.{+ℤ_idl}
 use Rattle.std.proofs.lemmas.Bool.Decides.{nat_tests}
 use Rattle.std.proofs.lemmas.Int.{ints}
 use Rattle.std.proofs.lemmas.List.Sums.{sum_by-cons}
+use Rattle.mp4_traf.specs.CompositionTimes.{composition_times}
 use Rattle.mp4_traf.specs.Ranges.{IsSound}
 use Rattle.mp4_traf.specs.Rows.{durations, group_at, offset_at, row_of, rows_of}
 use Rattle.mp4_traf.specs.Runs.{TrackFragment, last_end, runs_of}
@@ -15,7 +16,9 @@ use Rattle.mp4_traf.specs.SyncSamples.{is_sync}
 use Rattle.mp4_traf.specs.declared.rows.Row.{Row}
 use Rattle.mp4_traf.specs.declared.run.Run.{Run}
 use Rattle.mp4_traf.proofs.TrafTotalLemmas.{duration_is, few_samples}
-use Rattle.mp4_grammar.specs.Presented.{all_rows, earliest_from, earliest_in, lesser, once_if, presented_in, syncs_in}
+use Rattle.mp4_grammar.specs.declared.presented.Presented.{Presented}
+use Rattle.mp4_grammar.specs.Implementation.FoundRows.{earliest_from, lesser}
+use Rattle.mp4_grammar.specs.Presented.{all_rows, earliest_in, once_if, presented_in, syncs_in}
 use Rattle.mp4_grammar.proofs.RowLineLemmas.{count_rows, sum_rows}
 
 pub none_of : {A : Type 0} (o : Option A) → is_some o ≡ false → o ≡ None
@@ -29,6 +32,23 @@ earliest-append best elapsed (x ∷ xs) ys =
     let first = Some (lesser best (pos elapsed +ℤ x.offset)) in
     let same : elapsed + x.duration + durations xs ≡ elapsed + durations (x ∷ xs) = omega (arith, sum_by-cons (λ (row : Row). row.duration) x xs) in
     earliest-append first (elapsed + x.duration) xs ys ∙ ap (λ n. earliest_from (earliest_from first (elapsed + x.duration) xs) n ys) same
+
+earliest_of : (z : ℤ) (elapsed : ℕ) (rows : List Row) → earliest_from (Some z) elapsed rows ≡ Some (fold int_min z (composition_times elapsed rows))
+unfolding earliest_from composition_times
+earliest_of z elapsed [] = refl
+earliest_of z elapsed (row ∷ rows) = earliest_of (int_min z (pos elapsed +ℤ row.offset)) (elapsed + row.duration) rows
+
+-- what is found in all rows is the least composition time
+pub earliest_is : (rows : List Row) → unwrap_or (earliest_from None 0 rows) (pos 0) ≡ earliest_in rows
+unfolding earliest_from composition_times
+earliest_is [] = refl
+earliest_is (row ∷ rows) = ap (λ o. unwrap_or o (pos 0)) (earliest_of (pos 0 +ℤ row.offset) (0 + row.duration) rows)
+
+pub found_is : (rows : List Row) (earliest : Option ℤ) (syncs : ℕ) → earliest ≡ earliest_from None 0 rows → syncs ≡ 0 + syncs_in rows → ◌≡◌ {A = Presented} (record { earliest = unwrap_or earliest (pos 0); syncs = syncs }) (presented_in rows)
+found_is rows earliest syncs e s =
+    let same : 0 + syncs_in rows ≡ syncs_in rows = omega arith in
+    ap (λ (o : Option ℤ). record { earliest = unwrap_or o (pos 0); syncs = syncs }) e
+    ∙ (ap (λ z. record { earliest = z; syncs = syncs }) (earliest_is rows) ∙ ap (λ n. record { earliest = earliest_in rows; syncs = n }) (s ∙ same))
 
 -- those of a run and of all runs after it
 pub all_first : (moof_bytes : List ℕ) (run : Run) (runs all : List Run) (rows : List Row) → all ≡ run ∷ runs → rows ≡ rows_of run moof_bytes → all_rows moof_bytes all ≡ rows ++ all_rows moof_bytes runs
@@ -95,9 +115,9 @@ none_sooner run moof_bytes elapsed a (suc n) none =
 -- the first is presented when it is decoded
 pub plain_earliest : (run : Run) (moof_bytes : List ℕ) → run.fields.sample_composition_time_offset ≡ None → earliest_in (rows_of run moof_bytes) ≡ pos 0
 unfolding earliest_from
-plain_earliest run moof_bytes none = by (run.count - 0)
+plain_earliest run moof_bytes none = sym (earliest_is (map (row_of run moof_bytes) (range_with_len 0 (run.count - 0)))) ∙ by (run.count - 0)
   where
-    by : (n : ℕ) → earliest_in (map (row_of run moof_bytes) (range_with_len 0 n)) ≡ pos 0
+    by : (n : ℕ) → unwrap_or (earliest_from None 0 (map (row_of run moof_bytes) (range_with_len 0 n))) (pos 0) ≡ pos 0
     by zero = refl
     by (suc n) =
         let row = row_of run moof_bytes 0 in
@@ -107,7 +127,7 @@ plain_earliest run moof_bytes none = by (run.count - 0)
 -- ---- a run of one sample
 
 pub one_presented : (run : Run) (moof_bytes : List ℕ) → run.count ≡ 1 → presented_in (rows_of run moof_bytes) ≡ record { earliest = (row_of run moof_bytes 0).offset; syncs = once_if (is_sync (row_of run moof_bytes 0).flags) }
-unfolding earliest_from
+unfolding composition_times
 one_presented run moof_bytes one =
     let all : run.count - 0 ≡ 1 = omega (arith, one) in
     let same : 0 + once_if (is_sync (row_of run moof_bytes 0).flags) ≡ once_if (is_sync (row_of run moof_bytes 0).flags) = omega arith in

@@ -35,14 +35,15 @@ use Rattle.mp4_frag.proofs.SoundLemmas.{number_or_small}
 use Rattle.mp4_machine.specs.Bodies.{longest}
 use Rattle.mp4_grammar.specs.AcceptedFragments.{IsAccepted, IsTrack}
 use Rattle.mp4_grammar.specs.Meanings.{Fragment}
-use Rattle.mp4_grammar.specs.Presented.{all_rows, earliest_from, earliest_in, once_if, syncs_in}
-use Rattle.mp4_grammar.proofs.PresentedLemmas.{few_rows}
-use Rattle.mp4_grammar.specs.TrafRecords.{IsRecord, one_or_none, size_or_all, traf_record}
+use Rattle.mp4_grammar.specs.Implementation.FoundRows.{earliest_from}
+use Rattle.mp4_grammar.specs.Presented.{all_rows, earliest_in, once_if, syncs_in}
+use Rattle.mp4_grammar.proofs.PresentedLemmas.{earliest_is, few_rows}
+use Rattle.mp4_grammar.specs.TrafRecords.{IsRecord, size_or_all, traf_record}
 
 -- ---- the track of a traf
 
 no_track_fits : IsTrack no_track
-no_track_fits = record { fields = record { id = omega arith; timescale = omega arith; entries = omega arith; desc = omega arith; duration = omega arith; size = omega arith; flags = omega arith }; next = omega arith }
+no_track_fits = record { fields = record { id = omega arith; timescale = omega arith; handler = omega arith; entries = omega arith; desc = omega arith; duration = omega arith; size = omega arith; flags = omega arith }; next = omega arith }
 
 found_fits : (tracks : List Track) (i : ℕ) → AllByRecursion IsTrack tracks → IsTrack (unwrap_or (slice_get tracks i) no_track)
 found_fits [] i all = no_track_fits
@@ -112,7 +113,7 @@ size_small : (at : ℕ) (end : Option ℕ) → ((e : ℕ) → end ≡ Some e →
 size_small at None near = omega arith
 size_small at (Some e) near = omega (arith, near e refl)
 
-sync_small : (t : Bool) → one_or_none t < 2 ^ 32
+sync_small : (t : Bool) → once_if t < 2 ^ 32
 sync_small true = omega arith
 sync_small false = omega arith
 
@@ -167,7 +168,7 @@ found_small best elapsed (row ∷ rows) is all = found_small (int_min best (pos 
 first_small : (row : Row) → IsOffset row.offset → IsOffset (pos 0 +ℤ row.offset)
 first_small row is = record { low = omega (arith, ints, is.low); high = omega (arith, ints, is.high) }
 
-all_small : (rows : List Row) → AllByRecursion (λ (row : Row). IsOffset row.offset) rows → IsOffset (earliest_in rows)
+all_small : (rows : List Row) → AllByRecursion (λ (row : Row). IsOffset row.offset) rows → IsOffset (unwrap_or (earliest_from None 0 rows) (pos 0))
 unfolding earliest_from
 all_small [] all = record { low = omega (arith, ints); high = omega (arith, ints) }
 all_small (row ∷ rows) all = found_small (pos 0 +ℤ row.offset) (0 + row.duration) rows (first_small row all.0) all.1
@@ -177,7 +178,9 @@ offset_fits (pos n) is = record { sfits = omega (arith, ints, is.high) }
 offset_fits (negsuc n) is = record { sfits = omega (arith, ints, is.low) }
 
 earliest_fits : (t : TrackFragment) → IsSound t → FitsSigned w64 (earliest_in (all_rows t.shared.moof.bytes (runs_of t)))
-earliest_fits t sound = offset_fits _ (all_small (all_rows t.shared.moof.bytes (runs_of t)) (offsets_small t.shared.moof.bytes (runs_of t) sound.moof_bytes))
+earliest_fits t sound =
+    let rows = all_rows t.shared.moof.bytes (runs_of t) in
+    offset_fits (earliest_in rows) (subst IsOffset (earliest_is rows) (all_small rows (offsets_small t.shared.moof.bytes (runs_of t) sound.moof_bytes)))
 
 once_most : (t : Bool) → once_if t ≤ 1
 once_most true = omega arith
@@ -222,6 +225,8 @@ record_is f t is traf = record {
   syncs = omega (arith, syncs_few (all_rows t.shared.moof.bytes (runs_of t)), few_rows t traf.sound);
   ended = (known_fits f.tracks (position (λ (x : Track). x.id == t.shared.header.track) f.tracks) is.tracks).next;
   earliest = earliest_fits t traf.sound;
+  handler = (known_fits f.tracks (position (λ (x : Track). x.id == t.shared.header.track) f.tracks) is.tracks).fields.handler;
+  entries = (known_fits f.tracks (position (λ (x : Track). x.id == t.shared.header.track) f.tracks) is.tracks).fields.entries;
 }
 
 trafs_are : (f : Fragment) (bs : List Box) → IsAccepted f → AllByRecursion OfBytes bs → AllByRecursion IsSound (map (traf_of f.moof f.tracks) bs) → AllByRecursion (IsTraf f) (map (traf_of f.moof f.tracks) bs)

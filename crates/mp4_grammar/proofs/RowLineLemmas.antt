@@ -23,6 +23,7 @@ use Rattle.mp4_grammar.specs.FragmentLines.{fragment_lines, listed_traf, traf_li
 use Rattle.mp4_grammar.specs.LinesByRows.{first_is_sync, line_of, rows_in, traf_boxes, traf_in}
 use Rattle.mp4_grammar.specs.Meanings.{Fragment}
 use Rattle.mp4_grammar.specs.Presented.{all_rows}
+use Rattle.mp4_grammar.specs.TrackLines.{kind_of, listed_track}
 use Rattle.mp4_grammar.specs.TrafRecords.{fragment_records, record_bytes, traf_record}
 
 -- ---- sums over the rows of all runs
@@ -80,9 +81,14 @@ pub time_of_track : (f : Fragment) (b : Box) (t : Track) → first_of (at_path (
 unfolding traf_of
 time_of_track f b t none is = ap (base_by _) none ∙ ap (λ (o : Option Track). (unwrap_or o no_track).next) is
 
-pub timescale_of_track : (f : Fragment) (b : Box) (t : Track) → track_with (track_id (tfhd_of b)) f.tracks ≡ Some t → (traf_record f (traf_in f b)).timescale ≡ t.timescale
+pub record_has_its_track : (f : Fragment) (b : Box) (t : Track) → track_with (track_id (tfhd_of b)) f.tracks ≡ Some t
+    → ((traf_record f (traf_in f b)).timescale ≡ t.timescale) × (kind_of (traf_record f (traf_in f b)).handler ≡ (listed_track t).handler) × ((traf_record f (traf_in f b)).entries ≡ t.entries)
 unfolding traf_of
-timescale_of_track f b t is = ap (λ (o : Option Track). (unwrap_or o no_track).timescale) is
+record_has_its_track f b t is = (
+  ap (λ (o : Option Track). (unwrap_or o no_track).timescale) is,
+  ap (λ (o : Option Track). kind_of (unwrap_or o no_track).handler) is,
+  ap (λ (o : Option Track). (unwrap_or o no_track).entries) is,
+)
 
 pub ended_of_track : (f : Fragment) (b : Box) (t : Track) → track_with (track_id (tfhd_of b)) f.tracks ≡ Some t → (line_of f b).ended ≡ t.next
 unfolding traf_of

@@ -57,7 +57,7 @@ unfolding with_next
 next_is i n [] small all = tt
 next_is zero n (t ∷ ts) small all =
     let f = all.0.fields in
-    (record { fields = record { id = f.id; timescale = f.timescale; entries = f.entries; desc = f.desc; duration = f.duration; size = f.size; flags = f.flags }; next = small }, all.1)
+    (record { fields = record { id = f.id; timescale = f.timescale; handler = f.handler; entries = f.entries; desc = f.desc; duration = f.duration; size = f.size; flags = f.flags }; next = small }, all.1)
 next_is (suc i) n (t ∷ ts) small all = (all.0, next_is i n ts small all.1)
 
 at_is : (o : Option ℕ) (n : ℕ) (ts : List Track) → n < 2 ^ 64 → AllByRecursion IsTrack ts → AllByRecursion IsTrack (ended_at o n ts)

@@ -7,18 +7,11 @@ use Rattle.mp4_box.specs.Fields.{number_in}
 use Rattle.mp4_box.specs.Paths.{at_path, of_kind}
 use Rattle.mp4_box.specs.Trees.{Box, box_at, boxes, children, first_of}
 use Rattle.mp4_box.specs.declared.headers.FourCc.{FourCc}
-use Rattle.mp4_init.specs.Kinds.{kind, mdia, minf, stbl, stsd, trak}
+use Rattle.mp4_init.specs.Kinds.{mdia, minf, stbl, stsd, trak}
 use Rattle.mp4_init.specs.Moovs.{of_moov}
-use Rattle.mp4_init.specs.Tracks.{field_of, track_of}
+use Rattle.mp4_init.specs.Tracks.{track_of}
 use Rattle.mp4_init.specs.declared.table.Track.{Track}
 use Rattle.mp4_grammar.specs.declared.listed_track.ListedTrack.{ListedTrack}
-
-abbrev pub hdlr : FourCc
-hdlr = kind (codes "hdlr")
-
--- handler_type of the hdlr of a trak (8.4.3), four zeros where it isn't there
-abbrev pub handler_of : Box → FourCc
-handler_of t = record { 0 = bytes_high_first 4 (field_of (λ b. number_in b.payload 8) (first_of (at_path (mdia ∷ hdlr ∷ []) t))) }
 
 -- the boxes after the entry_count of an stsd, as many as it counts, by their types (8.5.2)
 abbrev pub kinds_in : Box → List FourCc
@@ -32,9 +25,13 @@ kinds_by (Some b) = kinds_in b
 abbrev pub kinds_of : Box → List FourCc
 kinds_of t = kinds_by (first_of (at_path (mdia ∷ minf ∷ stbl ∷ stsd ∷ []) t))
 
--- a track, by its trak
-abbrev pub listed_track : Track → Box → ListedTrack
-listed_track t b = record { id = t.id; timescale = t.timescale; entries = t.entries; handler = handler_of b }
+-- the type that is this number
+abbrev pub kind_of : ℕ → FourCc
+kind_of n = record { 0 = bytes_high_first 4 n }
+
+-- a track
+abbrev pub listed_track : Track → ListedTrack
+listed_track t = record { id = t.id; timescale = t.timescale; entries = t.entries; handler = kind_of t.handler }
 
 -- ---- their lines
 
@@ -64,9 +61,9 @@ unfoldable pub types_text : (first : Bool) → List FourCc → List ℕ
 types_text first [] = none_text first
 types_text first (k ∷ ks) = comma first ++ word k ++ types_text false ks
 
--- the line of a track
+-- the line of a track, of which this is the trak
 abbrev pub track_line : Track → Box → List ℕ
-track_line t b = track_front (listed_track t b) ++ types_text true (kinds_of b)
+track_line t b = track_front (listed_track t) ++ types_text true (kinds_of b)
 
 -- the lines of the tracks of a moov, in the order of its traks
 abbrev pub track_lines : Box → List ℕ

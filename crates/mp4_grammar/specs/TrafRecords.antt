@@ -1,12 +1,14 @@
--- The trafs of a fragment as records: each is 80 bytes, and each of its numbers begins with the highest byte.
-use Rattle.std.specs.Prelude.{ℕ, ◌-◌, ◌^◌, ◌<◌, Bool, true, false, FitsSigned, List, ◌++◌, drop, Option, Some, None}
+-- The trafs of a fragment as records: each is 88 bytes, and each of its numbers begins with the highest byte.
+use Rattle.std.specs.Prelude.{ℕ, ◌-◌, ◌^◌, ◌<◌, FitsSigned, List, ◌++◌, drop, Option, Some, None}
 use Rattle.std.specs.Int.{cast_signed, cast_unsigned, w64}
 use Rattle.std.specs.List.{flat_map}
 use Rattle.byteorder.specs.Endian.{big_bytes, big_number}
 use Rattle.mp4_frag.specs.Moofs.{moof_trafs}
+use Rattle.mp4_init.specs.declared.table.Track.{Track}
 use Rattle.mp4_traf.specs.Runs.{TrackFragment, known_track}
 use Rattle.mp4_grammar.specs.FragmentLines.{listed_traf}
 use Rattle.mp4_grammar.specs.Meanings.{Fragment}
+use Rattle.mp4_grammar.specs.Presented.{once_if}
 use Rattle.mp4_grammar.specs.declared.listed_traf.ListedTraf.{ListedTraf}
 use Rattle.mp4_grammar.specs.declared.traf_record.TrafRecord.{TrafRecord}
 
@@ -15,13 +17,9 @@ abbrev pub size_or_all : Option ℕ → ℕ
 size_or_all (Some size) = size
 size_or_all None = 2 ^ 64 - 1
 
-abbrev pub one_or_none : Bool → ℕ
-one_or_none true = 1
-one_or_none false = 0
-
--- the record of a traf, whose track has this timescale
-abbrev pub record_with : ℕ → ListedTraf → TrafRecord
-record_with timescale t = record {
+-- the record of a traf of a track
+abbrev pub record_with : Track → ListedTraf → TrafRecord
+record_with track t = record {
   at = t.at;
   size = size_or_all t.size;
   time = t.time;
@@ -29,17 +27,19 @@ record_with timescale t = record {
   media = t.media;
   sequence = t.sequence;
   track = t.track;
-  timescale = timescale;
+  timescale = track.timescale;
   samples = t.samples;
-  sync = one_or_none t.sync;
+  sync = once_if t.sync;
   syncs = t.presented.syncs;
   ended = t.ended;
   earliest = t.presented.earliest;
+  handler = track.handler;
+  entries = track.entries;
 }
 
 -- the record of a traf of a fragment
 abbrev pub traf_record : Fragment → TrackFragment → TrafRecord
-traf_record f t = record_with (known_track t.shared.header.track f.tracks).timescale (listed_traf f t)
+traf_record f t = record_with (known_track t.shared.header.track f.tracks) (listed_traf f t)
 
 -- ---- their bytes
 
@@ -70,8 +70,12 @@ sample_bytes r = in_4 r.samples ++ in_4 r.sync ++ in_4 r.syncs
 abbrev pub shown_bytes : TrafRecord → List ℕ
 shown_bytes r = in_8 r.ended ++ in_8 (cast_unsigned w64 r.earliest)
 
+-- the handler of its track, and how many sample entries that has
+abbrev pub handler_bytes : TrafRecord → List ℕ
+handler_bytes r = in_4 r.handler ++ in_4 r.entries
+
 unfoldable pub record_bytes : TrafRecord → List ℕ
-record_bytes r = place_bytes r ++ sum_bytes r ++ track_bytes r ++ sample_bytes r ++ shown_bytes r
+record_bytes r = place_bytes r ++ sum_bytes r ++ track_bytes r ++ sample_bytes r ++ shown_bytes r ++ handler_bytes r
 
 -- the records of some trafs of a fragment, and those of all
 abbrev pub record_texts : Fragment → List TrackFragment → List ℕ
@@ -82,11 +86,11 @@ fragment_records f = record_texts f (moof_trafs f.moof f.tracks)
 
 -- how many there are
 abbrev pub record_len : ℕ
-record_len = 80
+record_len = 88
 
 -- ---- read again
 
--- the record that 80 bytes are
+-- the record that 88 bytes are
 abbrev pub record_of : List ℕ → TrafRecord
 record_of bytes = record {
   at = big_number 8 bytes;
@@ -102,6 +106,8 @@ record_of bytes = record {
   syncs = big_number 4 (drop 60 bytes);
   ended = big_number 8 (drop 64 bytes);
   earliest = cast_signed w64 (big_number 8 (drop 72 bytes));
+  handler = big_number 4 (drop 80 bytes);
+  entries = big_number 4 (drop 84 bytes);
 }
 
 -- its numbers have 64 and 32 bits
@@ -119,3 +125,5 @@ pub record IsRecord (r : TrafRecord) : Type 0 where
   pub syncs : r.syncs < 2 ^ 32
   pub ended : r.ended < 2 ^ 64
   pub earliest : FitsSigned w64 r.earliest
+  pub handler : r.handler < 2 ^ 32
+  pub entries : r.entries < 2 ^ 32

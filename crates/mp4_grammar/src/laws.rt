@@ -1,6 +1,6 @@
 //! What the definitions of a fragmented stream's reading imply.
 
-ghost use Rattle.std.specs.Prelude.{◌≡◌, ◌+◌, ◌-◌, ◌*◌, ◌^◌, ◌≤◌, ◌++◌, ◌∷◌, [], List, ℕ, Some, None, true, false, codes, drop, length, map, pos, negsuc, take};
+ghost use Rattle.std.specs.Prelude.{◌≡◌, ◌+◌, ◌-◌, ◌*◌, ◌^◌, ◌<◌, ◌≤◌, ◌++◌, ◌∷◌, [], List, ℕ, Some, None, true, false, codes, drop, length, map, pos, negsuc, take};
 ghost use Rattle.std.specs.Int.{bytes_high_first};
 ghost use Rattle.std.specs.List.{AllByRecursion, flat_map, sum_by};
 ghost use Rattle.mp4_box.specs.Fields.{number_in};
@@ -9,10 +9,11 @@ ghost use Rattle.mp4_box.specs.Paths.{at_path, of_kind};
 ghost use Rattle.mp4_box.specs.Trees.{Box, boxes, children, first_of};
 ghost use Rattle.mp4_box.specs.declared.headers.Header.{Header};
 ghost use Rattle.mp4_box.specs.declared.headers.Size.TheVariants.{Exact, ToEnd};
-ghost use Rattle.mp4_init.specs.Kinds.{mdia, minf, stbl, stsd, trak};
+ghost use Rattle.mp4_init.specs.Kinds.{hdlr, mdia, minf, stbl, stsd, trak};
 ghost use Rattle.mp4_init.specs.Tracks.{entries_of, id_of, timescale_of, track_of};
 ghost use Rattle.mp4_init.specs.declared.table.Track.{Track};
 ghost use Rattle.mp4_frag.specs.Moofs.{moof_trafs, sequence_of};
+ghost use Rattle.mp4_traf.specs.CompositionTimes.{IsLeastOf, composition_times};
 ghost use Rattle.mp4_traf.specs.Kinds.{tfdt};
 ghost use Rattle.mp4_traf.specs.Rows.{durations, sizes};
 ghost use Rattle.mp4_traf.specs.Rules.{track_with};
@@ -26,7 +27,7 @@ ghost use Rattle.mp4_grammar.specs.AcceptedFragments.{AreFragmentRecords, AreRec
 ghost use Rattle.mp4_grammar.specs.Commands.{command_meaning, reading};
 ghost use Rattle.mp4_grammar.specs.Contexts.{Context, first_context};
 ghost use Rattle.mp4_grammar.specs.Counts.{InspectsOn};
-ghost use Rattle.mp4_grammar.specs.FragmentLines.{fragment_lines, listed_traf, traf_line};
+ghost use Rattle.mp4_grammar.specs.FragmentLines.{fragment_lines, listed_traf, presented_at, traf_line};
 ghost use Rattle.mp4_grammar.specs.HeldSizes.{HoldsWithin};
 ghost use Rattle.mp4_grammar.specs.Items.{fragment, reads_in};
 ghost use Rattle.mp4_grammar.specs.Joined.{AreSound, IsSound, Item, MovieFragment, OneBox, context_after_all, fragment_in, joined, items_effects, tracks_in};
@@ -35,7 +36,7 @@ ghost use Rattle.mp4_grammar.specs.LinesByRows.{first_is_sync, line_of, rows_in,
 ghost use Rattle.mp4_grammar.specs.Meanings.{Fragment, Meaning, counted_in};
 ghost use Rattle.mp4_grammar.specs.Rests.{IsRest, Split};
 ghost use Rattle.mp4_grammar.specs.Presented.{earliest_in, syncs_in};
-ghost use Rattle.mp4_grammar.specs.TrackLines.{hdlr, kinds_of, listed_track, track_front, track_line, track_lines, types_text};
+ghost use Rattle.mp4_grammar.specs.TrackLines.{kind_of, kinds_of, listed_track, track_front, track_line, track_lines, types_text};
 ghost use Rattle.mp4_grammar.specs.TrafRecords.{IsRecord, fragment_records, record_bytes, record_with, traf_record};
 ghost use Rattle.mp4_grammar.specs.WithoutText.{IsWithoutText, without_text};
 ghost use Rattle.mp4_grammar.specs.declared.command.Command.{Command};
@@ -132,8 +133,8 @@ pub fn fragments_have_a_line_for_each_traf()
 
 /// The line of a traf has the track_ID of its tfhd, and the time of its tfdt, or else that at which its track ended.
 /// The rest is by the rows of its samples: how many there are, their durations and their sizes, added up, and whether
-/// the first is that of a sync sample, how many are, and after how many ticks the first of them is presented. It has also
-/// the time at which its track ended before.
+/// the first is that of a sync sample, how many are, and when the first of them is presented: at the least of their
+/// composition times, or at its time where it has none. It has also the time at which its track ended before.
 pub fn lines_have_what_their_trafs_have()
     ensures track { (f : Fragment) (b : Box) → (line_of f b).track ≡ track_id (tfhd_of b) }
     ensures own_time { (f : Fragment) (b : Box) (d : Box) → first_of (at_path (tfdt ∷ []) b) ≡ Some d →
@@ -146,6 +147,10 @@ pub fn lines_have_what_their_trafs_have()
     ensures sync { (f : Fragment) (b : Box) → (line_of f b).sync ≡ first_is_sync (rows_in f b) }
     ensures earliest { (f : Fragment) (b : Box) →
         (line_of f b).presented.earliest ≡ earliest_in (rows_in f b) }
+    ensures presented { (f : Fragment) (b : Box) → 0 < length (rows_in f b) →
+        IsLeastOf (composition_times (line_of f b).time (rows_in f b)) (presented_at (line_of f b)) }
+    ensures unpresented { (f : Fragment) (b : Box) → rows_in f b ≡ [] →
+        presented_at (line_of f b) ≡ pos (line_of f b).time }
     ensures syncs { (f : Fragment) (b : Box) → (line_of f b).presented.syncs ≡ syncs_in (rows_in f b) }
     ensures ended { (f : Fragment) (b : Box) (t : Track) →
         track_with (track_id (tfhd_of b)) f.tracks ≡ Some t → (line_of f b).ended ≡ t.next }
@@ -156,20 +161,21 @@ pub fn lines_have_what_their_trafs_have()
 pub fn lines_have_what_their_tracks_have()
     ensures lines { (moov : Box) → track_lines moov ≡
         flat_map (λ b. track_line (track_of moov b) b) (of_kind trak (children moov)) }
-    ensures id { (moov b : Box) → (listed_track (track_of moov b) b).id ≡ id_of b }
-    ensures timescale { (moov b : Box) → (listed_track (track_of moov b) b).timescale ≡ timescale_of b }
-    ensures entries { (moov b : Box) → (listed_track (track_of moov b) b).entries ≡ entries_of b }
+    ensures id { (moov b : Box) → (listed_track (track_of moov b)).id ≡ id_of b }
+    ensures timescale { (moov b : Box) → (listed_track (track_of moov b)).timescale ≡ timescale_of b }
+    ensures entries { (moov b : Box) → (listed_track (track_of moov b)).entries ≡ entries_of b }
     ensures handler { (moov b h : Box) → first_of (at_path (mdia ∷ hdlr ∷ []) b) ≡ Some h →
-        (listed_track (track_of moov b) b).handler.0 ≡ bytes_high_first 4 (number_in h.payload 8) }
+        (listed_track (track_of moov b)).handler.0 ≡ bytes_high_first 4 (number_in h.payload 8) }
     ensures no_handler { (moov b : Box) → first_of (at_path (mdia ∷ hdlr ∷ []) b) ≡ None →
-        (listed_track (track_of moov b) b).handler.0 ≡ 0 ∷ 0 ∷ 0 ∷ 0 ∷ [] }
+        (listed_track (track_of moov b)).handler.0 ≡ 0 ∷ 0 ∷ 0 ∷ 0 ∷ [] }
     ensures kinds { (b s : Box) → first_of (at_path (mdia ∷ minf ∷ stbl ∷ stsd ∷ []) b) ≡ Some s →
         kinds_of b ≡ take (number_in s.payload 4)
         (map (λ (e : Box). e.header.kind) (boxes 0 (drop 8 s.payload))) }
 {}
 
 /// A fragment has a record for each traf box of its moof, in order. Each has what the line has: 1 where this says that
-/// the first sample is a sync sample, else 0; the largest size where the line has none; and the timescale of its track.
+/// the first sample is a sync sample, else 0; the largest size where the line has none; and what the line of its track
+/// has: the timescale, the handler as a number, and how many sample entries there are.
 pub fn records_have_what_their_lines_have()
     ensures records { (f : Fragment) → fragment_records f ≡
         flat_map (λ b. record_bytes (traf_record f (traf_in f b))) (traf_boxes f) }
@@ -188,9 +194,11 @@ pub fn records_have_what_their_lines_have()
         (traf_record f (traf_in f b)).sync ≡ 1 }
     ensures no_sync { (f : Fragment) (b : Box) → (line_of f b).sync ≡ false →
         (traf_record f (traf_in f b)).sync ≡ 0 }
-    ensures timescale { (f : Fragment) (b : Box) (t : Track) →
+    ensures of_track { (f : Fragment) (b : Box) (t : Track) →
         track_with (track_id (tfhd_of b)) f.tracks ≡ Some t →
-        (traf_record f (traf_in f b)).timescale ≡ t.timescale }
+        ((traf_record f (traf_in f b)).timescale ≡ t.timescale) ×
+        (kind_of (traf_record f (traf_in f b)).handler ≡ (listed_track t).handler) ×
+        ((traf_record f (traf_in f b)).entries ≡ t.entries) }
     ensures shown { (f : Fragment) (b : Box) → ((traf_record f (traf_in f b)).ended ≡ (line_of f b).ended) ×
         ((traf_record f (traf_in f b)).earliest ≡ (line_of f b).presented.earliest) ×
         ((traf_record f (traf_in f b)).syncs ≡ (line_of f b).presented.syncs) }
@@ -262,9 +270,19 @@ pub fn worked_lines()
 {}
 
 /// Worked records: that of a line with numbers of more than 32 bits, that of one whose mdat goes to the end of the
-/// stream and begins before its track ended, and the 80 bytes of one whose numbers differ.
+/// stream and begins before its track ended, and the 88 bytes of one whose numbers differ.
 pub fn worked_records()
-    ensures sized { record_with 90000 (record {
+    ensures sized { record_with (record {
+      id = 2;
+      timescale = 90000;
+      handler = 0x76696465;
+      entries = 3;
+      desc = 1;
+      duration = 0;
+      size = 0;
+      flags = 0;
+      next = 0;
+    }) (record {
       sequence = 7;
       at = 4294967660;
       size = Some 4294967415;
@@ -291,8 +309,20 @@ pub fn worked_records()
           syncs = 2;
           ended = 4294967303;
           earliest = pos 4294967295;
+          handler = 1986618469;
+          entries = 3;
         } }
-    ensures open { record_with 48000 (record {
+    ensures open { record_with (record {
+      id = 2;
+      timescale = 48000;
+      handler = 0;
+      entries = 1;
+      desc = 1;
+      duration = 0;
+      size = 0;
+      flags = 0;
+      next = 0;
+    }) (record {
       sequence = 8;
       at = 364;
       size = None;
@@ -319,6 +349,8 @@ pub fn worked_records()
           syncs = 0;
           ended = 3072;
           earliest = negsuc 1023;
+          handler = 0;
+          entries = 1;
         } }
     ensures bytes { record_bytes (record {
       at = 0x0102030405060708;
@@ -334,6 +366,8 @@ pub fn worked_records()
       syncs = 0x91929394;
       ended = 0xa1a2a3a4a5a6a7a8;
       earliest = negsuc 258;
+      handler = 0xb1b2b3b4;
+      entries = 0xc1c2c3c4;
     }) ≡
         0x01 ∷ 0x02 ∷ 0x03 ∷ 0x04 ∷ 0x05 ∷ 0x06 ∷ 0x07 ∷ 0x08 ∷
         0x11 ∷ 0x12 ∷ 0x13 ∷ 0x14 ∷ 0x15 ∷ 0x16 ∷ 0x17 ∷ 0x18 ∷
@@ -344,7 +378,8 @@ pub fn worked_records()
         0x71 ∷ 0x72 ∷ 0x73 ∷ 0x74 ∷ 0x81 ∷ 0x82 ∷ 0x83 ∷ 0x84 ∷
         0x00 ∷ 0x00 ∷ 0x00 ∷ 0x01 ∷ 0x91 ∷ 0x92 ∷ 0x93 ∷ 0x94 ∷
         0xa1 ∷ 0xa2 ∷ 0xa3 ∷ 0xa4 ∷ 0xa5 ∷ 0xa6 ∷ 0xa7 ∷ 0xa8 ∷
-        0xff ∷ 0xff ∷ 0xff ∷ 0xff ∷ 0xff ∷ 0xff ∷ 0xfe ∷ 0xfd ∷ [] }
+        0xff ∷ 0xff ∷ 0xff ∷ 0xff ∷ 0xff ∷ 0xff ∷ 0xfe ∷ 0xfd ∷
+        0xb1 ∷ 0xb2 ∷ 0xb3 ∷ 0xb4 ∷ 0xc1 ∷ 0xc2 ∷ 0xc3 ∷ 0xc4 ∷ [] }
 {}
 
 /// All samples that are counted were inspected.

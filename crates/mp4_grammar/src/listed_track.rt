@@ -1,18 +1,13 @@
 //! The tracks of a stream, and their lines.
 
 ghost use Rattle.std.specs.Prelude.{◌≡◌, ◌+◌, ◌++◌, ◌≤◌, length};
-ghost use Rattle.mp4_box.specs.Trees.{view};
-ghost use Rattle.mp4_grammar.specs.TrackLines.{comma, handler_of, listed_track, track_front, word, word_byte};
+ghost use Rattle.mp4_grammar.specs.TrackLines.{comma, listed_track, track_front, word, word_byte};
 
 use crate::sample::push_number;
-use mp4_box::types::MDIA;
-use mp4_box::{BoxRef, FourCc, first_at, number_at};
+use mp4_box::FourCc;
 use mp4_init::Track;
 use mp4_lines::Text;
 use mp4_machine::{BLOCK_BYTES, Line};
-
-/// The type of the box that names the handler of a track (ISO/IEC 14496-12, 8.4.3).
-const HDLR: FourCc = FourCc(*b"hdlr");
 
 /// A track of a stream.
 #[derive(Clone, Copy, Debug, PartialEq, Eq)]
@@ -27,27 +22,16 @@ pub struct ListedTrack {
     pub handler: FourCc,
 }
 
-/// The handler_type of a trak.
-fn handler_of(trak: &BoxRef<'_>) -> FourCc
-    ensures { result ≡ handler_of (view trak.now) }
-{
-    let number = match first_at(&[MDIA, HDLR], trak) {
-        Some(hdlr) => number_at(hdlr.payload, 8),
-        None => 0,
-    };
-    FourCc(number.to_be_bytes())
-}
-
 impl ListedTrack {
-    /// A track, of which this is the trak.
-    pub fn of(track: &Track, trak: &BoxRef<'_>) -> ListedTrack
-        ensures { result ≡ listed_track track.now (view trak.now) }
+    /// A track of a moov.
+    pub fn of(track: &Track) -> ListedTrack
+        ensures { result ≡ listed_track track.now }
     {
         ListedTrack {
             id: track.id,
             timescale: track.timescale,
             entries: track.entries,
-            handler: handler_of(trak),
+            handler: FourCc(track.handler.to_be_bytes()),
         }
     }
 }

@@ -1,7 +1,8 @@
 //! The trafs of a fragment, and their lines.
 
-ghost use Rattle.std.specs.Prelude.{◌≡◌, ◌++◌, ◌+◌, ◌≤◌, codes, length};
-ghost use Rattle.std.specs.Fmt.{signed_decimal};
+ghost use Rattle.std.specs.Prelude.{◌≡◌, ◌++◌, ◌+◌, ◌≤◌, codes, drop, length, take};
+ghost use Rattle.std.specs.Fmt.{decimal, signed_decimal};
+ghost use Rattle.mp4_grammar.specs.Implementation.Digits.{AreAt};
 ghost use Rattle.mp4_grammar.specs.FragmentLines.{fragment_text, gap_of, presented_at, rest_text, samples_text, size_text, times_text, traf_line, traf_with, yes_or_no};
 
 use crate::presented::Presented;
@@ -83,16 +84,18 @@ impl ListedTraf {
         push_size(block, self.size);
     }
 
-    /// Appends its track and its times.
+    /// Appends its track and its times, and says where the digits of its base time are.
     #[inline(always)]
-    fn push_times(&self, block: &mut Text<BLOCK_BYTES>)
+    fn push_times(&self, block: &mut Text<BLOCK_BYTES>) -> Digits
         requires { length block.old + 77 ≤ BLOCK_BYTES }
         ensures text { block.new ≡ block.old ++ times_text self.now }
         ensures len { length block.new ≤ length block.old + 77 }
+        ensures digits { AreAt block.new (decimal self.now.time) result.from result.count }
     {
         push_number(block, b" track=", u64::from(self.track));
-        push_large_number(block, b" dts=", self.time);
+        let digits = push_digits(block, b" dts=", self.time);
         push_number(block, b" dur=", self.duration);
+        digits
     }
 
     /// Appends how many samples it has, whether it begins with a sync sample, and its media.
@@ -123,17 +126,18 @@ impl ListedTraf {
         i128::from(self.time) - i128::from(self.ended)
     }
 
-    /// Appends when the first of its samples is presented: mostly when it is decoded.
+    /// Appends when the first of its samples is presented: mostly at its base time, whose digits are there.
     #[inline(always)]
-    fn push_presented_at(&self, block: &mut Text<BLOCK_BYTES>)
-        requires { length block.old + 45 ≤ BLOCK_BYTES }
+    fn push_presented_at(&self, block: &mut Text<BLOCK_BYTES>, digits: &Digits)
+        requires room { length block.old + 45 ≤ BLOCK_BYTES }
+        requires digits { AreAt block.old (decimal self.now.time) digits.now.from digits.now.count }
         ensures text { block.new ≡ block.old ++ codes " pts=" ++ signed_decimal (presented_at self.now) }
         ensures len { length block.new ≤ length block.old + 45 }
     {
         if self.presented.earliest == 0 {
-            push_large_number(block, b" pts=", self.time);
+            push_again(block, b" pts=", digits);
         } else {
-            push_signed(block, b" pts=", self.presented_at());
+            push_seldom(block, b" pts=", self.presented_at());
         }
     }
 
@@ -146,7 +150,7 @@ impl ListedTraf {
         if self.time == self.ended {
             block.push_array(b" gap=0\n");
         } else {
-            push_signed(block, b" gap=", self.gap());
+            push_seldom(block, b" gap=", self.gap());
             block.push_array(b"\n");
         }
     }
@@ -154,11 +158,12 @@ impl ListedTraf {
     /// Appends what its samples are to who plays them, and how long after the end of its track it begins; and ends its
     /// line.
     #[inline(always)]
-    fn push_rest(&self, block: &mut Text<BLOCK_BYTES>)
-        requires { length block.old + 118 ≤ BLOCK_BYTES }
+    fn push_rest(&self, block: &mut Text<BLOCK_BYTES>, digits: &Digits)
+        requires room { length block.old + 118 ≤ BLOCK_BYTES }
+        requires digits { AreAt block.old (decimal self.now.time) digits.now.from digits.now.count }
         ensures { block.new ≡ block.old ++ rest_text self.now }
     {
-        self.push_presented_at(block);
+        self.push_presented_at(block, digits);
         push_number(block, b" syncs=", u64::from(self.presented.syncs));
         self.push_gap(block);
     }
@@ -171,10 +176,58 @@ impl Line for ListedTraf {
     #[tactic(auto, unfolding(crate::specs::FragmentLines::traf_line))]
     fn push(&self, block: &mut Text<BLOCK_BYTES>) {
         self.push_fragment(block);
-        self.push_times(block);
+        let digits = self.push_times(block);
         self.push_samples(block);
-        self.push_rest(block);
+        self.push_rest(block, &digits);
     }
+}
+
+/// Where in a block the digits of a number are.
+#[derive(Clone, Copy)]
+struct Digits {
+    from: usize,
+    count: usize,
+}
+
+/// Appends a number after its name, and says where its digits are.
+#[inline(always)]
+fn push_digits(block: &mut Text<BLOCK_BYTES>, name: &[u8; 5], number: u64) -> Digits
+    requires { length block.old + 5 + DECIMAL_DIGITS ≤ BLOCK_BYTES }
+    ensures text { block.new ≡ block.old ++ name.now ++ decimal number }
+    ensures len { length block.new ≤ length block.old + 5 + DECIMAL_DIGITS }
+    ensures digits { AreAt block.new (decimal number) result.from result.count }
+{
+    block.push_array(name);
+    let from = block.len();
+    block.push_large_decimal(number);
+    Digits {
+        from,
+        count: block.len() - from,
+    }
+}
+
+/// Appends digits that are there once more, after a name.
+#[inline(always)]
+fn push_again(block: &mut Text<BLOCK_BYTES>, name: &[u8; 5], digits: &Digits)
+    requires room { length block.old + 37 ≤ BLOCK_BYTES }
+    requires there { digits.now.from + digits.now.count ≤ length block.old }
+    requires few { digits.now.count ≤ 20 }
+    ensures text { block.new ≡ block.old ++ name.now ++
+        take digits.now.count (drop digits.now.from block.old) }
+    ensures len { length block.new ≤ length block.old + 25 }
+{
+    block.push_array(name);
+    block.push_again(digits.from, digits.count);
+}
+
+/// Appends a number that few trafs have, after its name: by a call, so that what most have is in line.
+#[inline(never)]
+fn push_seldom(block: &mut Text<BLOCK_BYTES>, name: &[u8; 5], number: i128)
+    requires { length block.old + 5 + SIGNED_DECIMAL_BYTES ≤ BLOCK_BYTES }
+    ensures text { block.new ≡ block.old ++ name.now ++ signed_decimal number }
+    ensures len { length block.new ≤ length block.old + 5 + SIGNED_DECIMAL_BYTES }
+{
+    push_signed(block, name, number);
 }
 
 /// Appends a size, if it is stated.

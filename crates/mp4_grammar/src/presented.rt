@@ -6,13 +6,11 @@ ghost use Rattle.mp4_traf.specs.Ranges.{IsSound};
 ghost use Rattle.mp4_traf.specs.Rows.{durations, rows_of};
 ghost use Rattle.mp4_traf.specs.Runs.{TrackFragment, runs_of};
 ghost use Rattle.mp4_traf.specs.SyncSamples.{is_sync};
-ghost use Rattle.mp4_grammar.specs.Presented.{all_rows, earliest_from, lesser, once_if, presented_in, presented_of, syncs_in};
+ghost use Rattle.mp4_grammar.specs.Implementation.FoundRows.{earliest_from, lesser};
+ghost use Rattle.mp4_grammar.specs.Presented.{all_rows, once_if, presented_in, presented_of, syncs_in};
 
 use mp4_frag::{Row, Rows, Run, Runs, Traf};
-
-/// The bit of a sample's flags that is clear for a sync sample: sample_is_non_sync_sample (ISO/IEC
-/// 14496-12, 8.8.3).
-const NON_SYNC: u32 = 0x0001_0000;
+use mp4_traf::is_sync;
 
 /// What the samples of a traf are to who plays them.
 #[derive(Clone, Copy, Debug, PartialEq, Eq)]
@@ -61,13 +59,22 @@ fn lesser(best: Option<i64>, elapsed: u64, offset: i64) -> i64
     }
 }
 
-/// 1 where the flags are those of a sync sample, else 0.
+/// 1 where something is so, else 0.
+#[inline(always)]
+pub(crate) fn once_if(is_so: bool) -> u32
+    ensures result { result ≡ once_if is_so }
+    ensures few { result ≤ 1 }
+{
+    if is_so { 1 } else { 0 }
+}
+
+/// 1 where the flags are those of a sync sample (ISO/IEC 14496-12, 8.8.3), else 0.
 #[inline(always)]
 fn once_if_sync(flags: u32) -> u32
     ensures result { result ≡ once_if (is_sync flags) }
     ensures few { result ≤ 1 }
 {
-    if flags & NON_SYNC == 0 { 1 } else { 0 }
+    once_if(is_sync(flags))
 }
 
 /// Adds a row.
@@ -89,7 +96,7 @@ fn add_row(so_far: &mut Found, row: &Row)
 
 /// Adds some rows.
 #[inline(always)]
-#[tactic(auto, unfolding(crate::specs::Presented::earliest_from))]
+#[tactic(auto, unfolding(crate::specs::Implementation::FoundRows::earliest_from))]
 fn add_rows(so_far: &mut Found, rows: Rows<'_>)
     requires first { so_far.old.earliest ≡ None → so_far.old.elapsed ≡ 0 }
     requires time { so_far.old.elapsed + durations rows < 2 ^ 64 }

@@ -8,9 +8,7 @@ ghost use Rattle.mp4_grammar.specs.Samples.{fields_text, place_text, sample_line
 use mp4_frag::{Row, Run};
 use mp4_lines::{DECIMAL_DIGITS, SIGNED_DECIMAL_BYTES, Text};
 use mp4_machine::{BLOCK_BYTES, LINE_BYTES, Line};
-
-/// The bit of a sample's flags that a sync sample has clear (ISO/IEC 14496-12, 8.8.3).
-const NON_SYNC: u32 = 0x0001_0000;
+use mp4_traf::is_sync;
 
 /// A sample of a fragment. Times are ticks of its track's timescale.
 #[derive(Clone, Copy, Debug, PartialEq, Eq)]
@@ -164,7 +162,7 @@ pub(crate) fn push_sync<const CAP: usize>(text: &mut Text<CAP>, flags: u32)
     ensures text { text.new ≡ text.old ++ sync_text flags }
     ensures len { length text.new ≤ length text.old + 4 }
 {
-    if flags & NON_SYNC == 0 {
+    if is_sync(flags) {
         text.push_array(b"sync");
     } else {
         text.push_array(b"-");

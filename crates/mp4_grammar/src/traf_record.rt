@@ -1,15 +1,17 @@
 //! The trafs of a fragment as records.
 
 ghost use Rattle.std.specs.Prelude.{◌≡◌, ◌++◌, ◌+◌, ◌≤◌, List, ℕ, length};
-ghost use Rattle.mp4_grammar.specs.TrafRecords.{IsRecord, in_4, in_8, one_or_none, place_bytes, record_bytes, record_len, record_of, record_with, sample_bytes, shown_bytes, size_or_all, sum_bytes, track_bytes};
+ghost use Rattle.mp4_grammar.specs.TrafRecords.{IsRecord, handler_bytes, in_4, in_8, place_bytes, record_bytes, record_len, record_of, record_with, sample_bytes, shown_bytes, size_or_all, sum_bytes, track_bytes};
 
 use crate::listed_traf::ListedTraf;
+use crate::presented::once_if;
 use mp4_box::{u32_at, u64_at};
+use mp4_init::Track;
 use mp4_lines::Text;
 use mp4_machine::{BLOCK_BYTES, LINE_BYTES, Line};
 
 /// How many bytes a record has.
-pub const RECORD_BYTES: usize = 80;
+pub const RECORD_BYTES: usize = 88;
 
 /// A traf of a fragment, by numbers alone. Times are ticks of its track's timescale, and offsets are of the stream.
 #[repr(C)]
@@ -41,13 +43,17 @@ pub struct TrafRecord {
     pub ended: u64,
     /// The least composition time of its samples, less its base time; 0 where it has none.
     pub earliest: i64,
+    /// The handler_type of this track (8.4.3) as a number, whose highest byte is the first; 0 where it has none.
+    pub handler: u32,
+    /// How many sample entries this track has (8.5.2).
+    pub entries: u32,
 }
 
 impl TrafRecord {
-    /// The record of a traf, whose track has this timescale.
+    /// The record of a traf of this track.
     #[inline(always)]
-    pub fn of(traf: &ListedTraf, timescale: u32) -> TrafRecord
-        ensures { result ≡ record_with timescale traf.now }
+    pub fn of(traf: &ListedTraf, track: &Track) -> TrafRecord
+        ensures { result ≡ record_with track.now traf.now }
     {
         TrafRecord {
             at: traf.at,
@@ -57,12 +63,14 @@ impl TrafRecord {
             media: traf.media,
             sequence: traf.sequence,
             track: traf.track,
-            timescale,
+            timescale: track.timescale,
             samples: traf.samples,
-            sync: one_or_none(traf.sync),
+            sync: once_if(traf.sync),
             syncs: traf.presented.syncs,
             ended: traf.ended,
             earliest: traf.presented.earliest,
+            handler: track.handler,
+            entries: track.entries,
         }
     }
 
@@ -87,6 +95,8 @@ impl TrafRecord {
             syncs: u32_at(bytes, 60),
             ended: u64_at(bytes, 64),
             earliest: u64_at(bytes, 72).cast_signed(),
+            handler: u32_at(bytes, 80),
+            entries: u32_at(bytes, 84),
         }
     }
 }
@@ -99,13 +109,6 @@ fn size_or_all(size: Option<u64>) -> u64
         Some(size) => size,
         None => u64::MAX,
     }
-}
-
-/// 1 where something is so, else 0.
-fn one_or_none(is_so: bool) -> u32
-    ensures { result ≡ one_or_none is_so }
-{
-    if is_so { 1 } else { 0 }
 }
 
 /// Appends a number in eight bytes.
@@ -175,10 +178,20 @@ impl TrafRecord {
     /// Appends when its track ended before, and when the first of its samples is presented.
     fn push_shown(&self, block: &mut Text<BLOCK_BYTES>)
         requires { length block.old + 16 ≤ BLOCK_BYTES }
-        ensures { block.new ≡ block.old ++ shown_bytes self.now }
+        ensures text { block.new ≡ block.old ++ shown_bytes self.now }
+        ensures len { length block.new ≡ length block.old + 16 }
     {
         push_8(block, self.ended);
         push_8(block, self.earliest.cast_unsigned());
+    }
+
+    /// Appends the handler of its track, and how many sample entries that has.
+    fn push_handler(&self, block: &mut Text<BLOCK_BYTES>)
+        requires { length block.old + 8 ≤ BLOCK_BYTES }
+        ensures { block.new ≡ block.old ++ handler_bytes self.now }
+    {
+        push_4(block, self.handler);
+        push_4(block, self.entries);
     }
 }
 
@@ -192,5 +205,6 @@ impl Line for TrafRecord {
         self.push_track(block);
         self.push_samples(block);
         self.push_shown(block);
+        self.push_handler(block);
     }
 }

@@ -21,7 +21,7 @@ use Rattle.mp4_init.specs.declared.summary.Defaults.{Defaults}
 use Rattle.mp4_init.specs.declared.table.Track.{Track}
 use Rattle.mp4_init.specs.Fields.{after_times, begin_with, has_entries, tkhd_id, trex_id}
 use Rattle.mp4_init.specs.Fields as fields
-use Rattle.mp4_init.specs.Kinds.{mdhd, mdia, minf, mvex, stbl, stsd, tkhd, to_stbl, to_tkhd, to_trex, trak}
+use Rattle.mp4_init.specs.Kinds.{hdlr, mdhd, mdia, minf, mvex, stbl, stsd, tkhd, to_stbl, to_tkhd, to_trex, trak}
 use Rattle.mp4_init.specs.Moovs as moovs
 use Rattle.mp4_init.specs.Moovs.{content_fault, fault_of, form_faults, moov_fault, moov_tracks, of_moov, value_faults}
 use Rattle.mp4_init.specs.Rules as rules
@@ -151,8 +151,8 @@ module _ (k : ℕ) where
   defaults_moved [] = refl
   defaults_moved (b ∷ bs) = refl
 
-  same_track : (a b c d e f : ℕ) (x y : Defaults) → a ≡ b → c ≡ d → e ≡ f → x ≡ y → with_defaults a c e x ≡ with_defaults b d f y
-  same_track a b c d e f x y p q r s = cc
+  same_track : (a b c d e f g h : ℕ) (x y : Defaults) → a ≡ b → c ≡ d → e ≡ f → g ≡ h → x ≡ y → with_defaults a c e g x ≡ with_defaults b d f h y
+  same_track a b c d e f g h x y p q r s t = cc
 
   on_path : (f : Box → ℕ) → ((b : Box) → f (later k b) ≡ f b) → (path : List FourCc) (t : Box) → field_of f (first_of (at_path path (later k t))) ≡ field_of f (first_of (at_path path t))
   on_path f ff path t = ap (λ (bs : List Box). field_of f (first_of bs)) (path_moved k path t) ∙ field_moved f ff (at_path path t)
@@ -161,7 +161,7 @@ module _ (k : ℕ) where
   unfolding tracks.track_of
   track_moved m t =
       let id : id_of (later k t) ≡ id_of t = on_path after_times (λ b. refl) (tkhd ∷ []) t in
-      same_track _ _ _ _ _ _ _ _ id (on_path after_times (λ b. refl) (mdia ∷ mdhd ∷ []) t) (on_path (λ b. number_in b.payload 4) (λ b. refl) (mdia ∷ minf ∷ stbl ∷ stsd ∷ []) t)
+      same_track _ _ _ _ _ _ _ _ _ _ id (on_path after_times (λ b. refl) (mdia ∷ mdhd ∷ []) t) (on_path (λ b. number_in b.payload 8) (λ b. refl) (mdia ∷ hdlr ∷ []) t) (on_path (λ b. number_in b.payload 4) (λ b. refl) (mdia ∷ minf ∷ stbl ∷ stsd ∷ []) t)
       (ap (λ (n : ℕ). defaults_of (first_of (trexes_of (later k m) n))) id ∙ (ap (λ (bs : List Box). defaults_of (first_of bs)) (trexes_moved m (id_of t)) ∙ defaults_moved (trexes_of m (id_of t))))
 
   map_moved : (m : Box) (bs : List Box) → map (track_of (later k m)) (map (later k) bs) ≡ map (track_of m) bs

@@ -9,7 +9,7 @@ use Rattle.mp4_box.specs.Trees.{Box, box_at, children, first_of}
 use Rattle.mp4_box.proofs.ByteLemmas.{OfBytes, children_of_bytes, kept_of_bytes, kind_of_bytes, number_small, path_of_bytes}
 use Rattle.mp4_box.proofs.GrammarLemmas.{lies_at}
 use Rattle.mp4_init.specs.Fields.{after_times, trex_id}
-use Rattle.mp4_init.specs.Kinds.{mdhd, mdia, minf, stbl, stsd, tkhd, to_trex, trak}
+use Rattle.mp4_init.specs.Kinds.{hdlr, mdhd, mdia, minf, stbl, stsd, tkhd, to_trex, trak}
 use Rattle.mp4_init.specs.Moovs.{moov_tracks, of_moov}
 use Rattle.mp4_init.specs.TrackFields.{FitsTrackFields}
 use Rattle.mp4_init.specs.Tracks as tracks
@@ -30,6 +30,7 @@ track_fits m t hm ht =
     record {
       id = times_small (at_path (tkhd ∷ []) t) (path_of_bytes (tkhd ∷ []) t ht);
       timescale = times_small (at_path (mdia ∷ mdhd ∷ []) t) (path_of_bytes (mdia ∷ mdhd ∷ []) t ht);
+      handler = field_small 8 (at_path (mdia ∷ hdlr ∷ []) t) (path_of_bytes (mdia ∷ hdlr ∷ []) t ht);
       entries = field_small 4 (at_path (mdia ∷ minf ∷ stbl ∷ stsd ∷ []) t) (path_of_bytes (mdia ∷ minf ∷ stbl ∷ stsd ∷ []) t ht);
       desc = field_small 8 _ trex;
       duration = field_small 12 _ trex;

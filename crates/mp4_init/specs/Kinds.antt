@@ -18,6 +18,9 @@ mdia = kind (codes "mdia")
 abbrev pub mdhd : FourCc
 mdhd = kind (codes "mdhd")
 
+abbrev pub hdlr : FourCc
+hdlr = kind (codes "hdlr")
+
 abbrev pub minf : FourCc
 minf = kind (codes "minf")
 

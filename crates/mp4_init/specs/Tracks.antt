@@ -4,7 +4,7 @@ use Rattle.mp4_box.specs.Trees.{Box, children, first_of}
 use Rattle.mp4_box.specs.Paths.{of_kind, at_path}
 use Rattle.mp4_init.specs.declared.table.Track.{Track}
 use Rattle.mp4_init.specs.declared.summary.Defaults.{Defaults}
-use Rattle.mp4_init.specs.Kinds.{trak, tkhd, mdia, mdhd, minf, stbl, stsd}
+use Rattle.mp4_init.specs.Kinds.{trak, tkhd, mdia, mdhd, hdlr, minf, stbl, stsd}
 use Rattle.mp4_box.specs.Fields.{number_in}
 use Rattle.mp4_init.specs.Fields.{after_times}
 use Rattle.mp4_init.specs.Rules.{trexes_of}
@@ -37,14 +37,19 @@ id_of t = field_of after_times (first_of (at_path (tkhd ∷ []) t))
 abbrev pub timescale_of : Box → ℕ
 timescale_of t = field_of after_times (first_of (at_path (mdia ∷ mdhd ∷ []) t))
 
+-- handler_type of its hdlr (8.4.3), 0 where it isn't there
+abbrev pub handler_of : Box → ℕ
+handler_of t = field_of (λ b. number_in b.payload 8) (first_of (at_path (mdia ∷ hdlr ∷ []) t))
+
 -- entry_count of its stsd (8.5.2)
 abbrev pub entries_of : Box → ℕ
 entries_of t = field_of (λ b. number_in b.payload 4) (first_of (at_path (mdia ∷ minf ∷ stbl ∷ stsd ∷ []) t))
 
-abbrev pub with_defaults : ℕ → ℕ → ℕ → Defaults → Track
-with_defaults id timescale entries d = record {
+abbrev pub with_defaults : (id timescale handler entries : ℕ) → Defaults → Track
+with_defaults id timescale handler entries d = record {
   id = id;
   timescale = timescale;
+  handler = handler;
   entries = entries;
   desc = d.desc;
   duration = d.duration;
@@ -55,7 +60,7 @@ with_defaults id timescale entries d = record {
 
 -- the track of a trak, with the defaults of the trex of its track_ID
 unfoldable pub track_of : Box → Box → Track
-track_of moov t = with_defaults (id_of t) (timescale_of t) (entries_of t) (defaults_of (first_of (trexes_of moov (id_of t))))
+track_of moov t = with_defaults (id_of t) (timescale_of t) (handler_of t) (entries_of t) (defaults_of (first_of (trexes_of moov (id_of t))))
 
 -- the tracks of a moov: one for each trak directly in it, in order
 abbrev pub tracks_of : Box → List Track

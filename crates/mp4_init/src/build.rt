@@ -8,7 +8,7 @@ ghost use Rattle.mp4_init.specs.Fields.{after_times};
 ghost use Rattle.mp4_init.specs.Implementation.Rows.{node_of_row, track_of_row};
 ghost use Rattle.mp4_init.specs.Implementation.SearchTrees.{IsIndexed};
 ghost use Rattle.mp4_init.specs.Implementation.Summaries.{summaries_in};
-ghost use Rattle.mp4_init.specs.Tracks.{entries_of, field_of, id_of, timescale_of, track_of, tracks_of};
+ghost use Rattle.mp4_init.specs.Tracks.{entries_of, field_of, handler_of, id_of, timescale_of, track_of, tracks_of};
 
 use crate::fields::number_after_times;
 use crate::slots::{FEW_SLOTS, SLOTS, Slots};
@@ -25,6 +25,19 @@ fn after_times_at(path: &[FourCc], trak: &BoxRef<'_>) -> u32
 {
     match first_at(path, trak) {
         Some(this) => number_after_times(&this),
+        None => 0,
+    }
+}
+
+/// The type of the box that names the handler of a track (ISO/IEC 14496-12, 8.4.3).
+const HDLR: FourCc = FourCc(*b"hdlr");
+
+/// The handler_type of a trak, 0 where it has none.
+fn handler_in(trak: &BoxRef<'_>) -> u32
+    ensures { result ≡ handler_of (view trak.now) }
+{
+    match first_at(&[MDIA, HDLR], trak) {
+        Some(hdlr) => number_at(hdlr.payload, 8),
         None => 0,
     }
 }
@@ -52,6 +65,7 @@ fn track_in<const N: usize>(moov: &BoxRef<'_>, trak: &BoxRef<'_>, slots: &mut Sl
     Track {
         id,
         timescale: after_times_at(&[MDIA, MDHD], trak),
+        handler: handler_in(trak),
         entries: entries_in(trak),
         desc: defaults.desc,
         duration: defaults.duration,

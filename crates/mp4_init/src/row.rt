@@ -36,7 +36,7 @@ pub(crate) fn row_for(track: Track) -> [u64; 8]
         pair(track.id, track.timescale),
         pair(track.entries, track.desc),
         pair(track.duration, track.size),
-        pair(track.flags, 0),
+        pair(track.flags, track.handler),
         track.next,
         NOWHERE as u64,
         NOWHERE as u64,
@@ -57,6 +57,7 @@ pub(crate) fn track_for(row: [u64; 8]) -> Track
         duration: upper_of(row[2]),
         size: lower_of(row[2]),
         flags: upper_of(row[3]),
+        handler: lower_of(row[3]),
         next: row[4],
     }
 }

@@ -19,6 +19,8 @@ pub struct Track {
     pub id: u32,
     /// How many ticks a second has (8.4.2).
     pub timescale: u32,
+    /// Its handler_type (8.4.3) as a number, whose highest byte is the first; 0 where it has none.
+    pub handler: u32,
     /// How many sample entries it has (8.5.2).
     pub entries: u32,
     /// The index of the sample entry of a fragment's samples, if the fragment has none (8.8.3).

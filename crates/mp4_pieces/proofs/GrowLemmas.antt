@@ -8,6 +8,7 @@ use Rattle.std.proofs.lemmas.Int.{ints}
 use Rattle.std.proofs.lemmas.List.{length-append}
 use Rattle.std.proofs.lemmas.List.Folds.{list_all-append}
 use Rattle.std.proofs.lemmas.List.Sums.{fold-append, sum_by-append, sum_by-cons}
+use Rattle.mp4_traf.specs.CompositionTimes.{composition_times, least_of}
 use Rattle.mp4_traf.specs.declared.rows.Row.{Row}
 use Rattle.mp4_traf.specs.declared.rows.Cursor.{Cursor}
 use Rattle.mp4_traf.specs.Rows.{durations, sizes}
@@ -16,7 +17,7 @@ use Rattle.mp4_pieces.specs.declared.piece.Piece.{Piece}
 use Rattle.mp4_pieces.specs.Cutting.{cut_by, cut_from}
 use Rattle.mp4_traf.specs.SyncSamples.{is_sync}
 use Rattle.mp4_pieces.specs.Fitting.{fits, fits_bytes, fits_keyframes, fits_sync, fits_ticks, no_start}
-use Rattle.mp4_pieces.specs.Pieces.{cursor_after, composition_times, cut_rows, least_of, past_rows, piece_at, pieces_at}
+use Rattle.mp4_pieces.specs.Pieces.{cursor_after, cut_rows, past_rows, piece_at, pieces_at}
 use Rattle.mp4_pieces.specs.Implementation.Growing.{Grows, grown, has_bytes, has_ticks, opened, pieces_left, takes, with_row}
 use Rattle.mp4_pieces.specs.Implementation.Counting.{IsPlain}
 use Rattle.mp4_traf.specs.Cursors.{HasRoom}

@@ -8,19 +8,21 @@ use Rattle.std.proofs.lemmas.List.Elements.{All-cons}
 use Rattle.std.proofs.lemmas.List.{length-append, length-drop, length-take, take-append-drop}
 use Rattle.std.proofs.lemmas.List.Sums.{sum_by-append, sum_by-take-drop, sum_by-take-le}
 use Rattle.std.proofs.Math.Seq.{drop-append-add, take-append-add, take-append_seam}
+use Rattle.mp4_traf.specs.CompositionTimes.{IsLeastOf, composition_times, least_of}
 use Rattle.mp4_traf.specs.declared.run.Run.{Run}
 use Rattle.mp4_traf.specs.declared.rows.Row.{Row}
 use Rattle.mp4_traf.specs.declared.rows.Cursor.{Cursor}
 use Rattle.mp4_traf.specs.Cursors.{first_cursor}
 use Rattle.mp4_traf.specs.Rows.{IsCursor, durations, rows_of, sizes}
+use Rattle.mp4_traf.proofs.CompositionTimeLemmas.{least_of_all, length_times}
 use Rattle.mp4_traf.proofs.RowLemmas.{cursor_first, length_rows_of}
 use Rattle.mp4_pieces.specs.declared.cut.Cut.{Cut}
 use Rattle.mp4_pieces.specs.declared.piece.Piece.{Piece}
 use Rattle.mp4_pieces.specs.Cutting.{ArePieces, join}
 use Rattle.mp4_pieces.specs.Fitting.{cut_for, fits}
-use Rattle.mp4_pieces.specs.Pieces.{EndsInRange, IsPieceOf, cursor_after, composition_times, cursor_at, cut_rows, least_of, past_rows, piece_at, pieces_at, pieces_from, pieces_of, rows_in}
+use Rattle.mp4_pieces.specs.Pieces.{EndsInRange, IsPieceOf, cursor_after, cursor_at, cut_rows, past_rows, piece_at, pieces_at, pieces_from, pieces_of, rows_in}
 use Rattle.mp4_traf.specs.Ranges.{IsRunOf}
-use Rattle.mp4_pieces.specs.Laws.{IsFollowedBy, IsLeastOf}
+use Rattle.mp4_pieces.specs.Laws.{IsFollowedBy}
 use Rattle.mp4_pieces.proofs.CutLemmas.{pieces_are, pieces_only}
 use Rattle.mp4_pieces.proofs.FitLemmas.{is_limit}
 
@@ -160,23 +162,6 @@ pub piece_ends : (moof_bytes : List ℕ) (run : Run) (p : Piece) → IsRunOf moo
 piece_ends moof_bytes run p of is = subst EndsInRange (sym is.is) (ends_at moof_bytes run p.first p.count of is.within)
 
 -- ---- the least composition time
-
-least_of_all : (zs : List ℤ) → 0 < length zs → IsLeastOf zs (least_of zs)
-least_of_all [] h = absurd (omega (arith, h))
-least_of_all (z ∷ zs) h =
-    let bounds = fold-int_min_bounds z zs (fold int_min z zs) refl in
-    record {
-      among = elim (fold-int_min_reached z zs (fold int_min z zs) refl) [
-        | inl first ↦ (0, omega arith, sym first)
-        | inr later ↦ (suc later.0, omega (arith, later.1), later.2)
-      ];
-      least = All-cons (λ (y : ℤ). fold int_min z zs ≤ℤ y) z zs bounds.0 bounds.1;
-    }
-
-length_times : (time : ℕ) (rows : List Row) → length (composition_times time rows) ≡ length rows
-unfolding composition_times
-length_times time [] = refl
-length_times time (row ∷ rows) = ap suc (length_times (time + row.duration) rows)
 
 least_at : (c : Cursor) (rows : List Row) → 0 < length rows → IsLeastOf (composition_times c.time rows) (piece_at c rows).least
 unfolding piece_at

@@ -8,6 +8,7 @@ use Rattle.std.proofs.lemmas.List.{length-drop, length-take}
 use Rattle.std.proofs.lemmas.List.Sums.{sum_by-cons}
 use Rattle.std.proofs.Math.Nat.{le-div_iff_mul-le}
 use Rattle.std.proofs.lemmas.Nat.{le-div}
+use Rattle.mp4_traf.specs.CompositionTimes.{composition_times, least_of}
 use Rattle.mp4_traf.specs.declared.run.Run.{Run}
 use Rattle.mp4_traf.specs.declared.rows.Row.{Row}
 use Rattle.mp4_traf.specs.declared.rows.Cursor.{Cursor}
@@ -20,7 +21,7 @@ use Rattle.mp4_pieces.specs.Cutting.{IsLimit, cut_by, cut_from, join}
 use Rattle.mp4_pieces.specs.Fitting.{cut_for, fits}
 use Rattle.mp4_pieces.specs.Implementation.Counting.{CutsAs, IsFirst, IsPlain, LastsWithin}
 use Rattle.mp4_pieces.specs.Bounds.{IsCounted, IsTimed, LastsAs}
-use Rattle.mp4_pieces.specs.Pieces.{IsPieceOf, composition_times, cursor_after, cursor_at, cut_rows, least_of, past_rows, piece_at, pieces_at, pieces_from, rows_in}
+use Rattle.mp4_pieces.specs.Pieces.{IsPieceOf, cursor_after, cursor_at, cut_rows, past_rows, piece_at, pieces_at, pieces_from, rows_in}
 use Rattle.mp4_pieces.specs.PlainPieces.{piece_of, plain_at, plain_end, plain_of}
 use Rattle.mp4_pieces.proofs.CutLemmas.{pieces_are}
 use Rattle.mp4_pieces.proofs.FitLemmas.{and_is, and_so, is_limit}

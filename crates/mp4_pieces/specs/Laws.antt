@@ -15,11 +15,6 @@ pub record IsFollowedBy (cut : Cut) (moof_bytes : List ℕ) (run : Run) (p : Pie
   pub cursor : IsCursor run moof_bytes (cursor_after p)
   pub rest : pieces_from cut moof_bytes run (cursor_after p) ≡ ps
 
--- the number is one of these, and none of these is less
-pub record IsLeastOf (zs : List ℤ) (z : ℤ) : Type 0 where
-  pub among : Contains zs z
-  pub least : All (λ y. z ≤ℤ y) zs
-
 -- each sync sample but the first of these follows one
 abbrev pub EachFollowsSync : List Row → Type 0
 EachFollowsSync [] = Unit {0}

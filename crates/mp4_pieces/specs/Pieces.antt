@@ -5,22 +5,13 @@ use Rattle.std.specs.Int.{int_min}
 use Rattle.mp4_traf.specs.declared.run.Run.{Run}
 use Rattle.mp4_traf.specs.declared.rows.Row.{Row}
 use Rattle.mp4_traf.specs.declared.rows.Cursor.{Cursor}
+use Rattle.mp4_traf.specs.CompositionTimes.{composition_times, least_of}
 use Rattle.mp4_traf.specs.Cursors.{first_cursor}
 use Rattle.mp4_traf.specs.Rows.{durations, rows_of, sizes}
 use Rattle.mp4_pieces.specs.declared.cut.Cut.{Cut}
 use Rattle.mp4_pieces.specs.declared.piece.Piece.{Piece}
 use Rattle.mp4_pieces.specs.Cutting.{cut_by}
 use Rattle.mp4_pieces.specs.Fitting.{cut_for, fits}
-
--- composition times of samples, the first of which has this decode time
-unfoldable pub composition_times : ℕ → List Row → List ℤ
-composition_times time [] = []
-composition_times time (row ∷ rows) = (pos time +ℤ row.offset) ∷ composition_times (time + row.duration) rows
-
--- the least of some numbers, 0 where there is none
-abbrev pub least_of : List ℤ → ℤ
-least_of [] = pos 0
-least_of (z ∷ zs) = fold int_min z zs
 
 -- the piece with these samples, from a cursor on
 unfoldable pub piece_at : Cursor → List Row → Piece

@@ -1,11 +1,11 @@
 -- Pieces without the least composition time of their samples, which only an index needs.
 use Rattle.std.specs.Prelude.{◌+◌, ◌+ℤ◌, ℕ, pos, List, take, drop}
+use Rattle.mp4_traf.specs.CompositionTimes.{composition_times, least_of}
 use Rattle.mp4_traf.specs.declared.run.Run.{Run}
 use Rattle.mp4_traf.specs.declared.rows.Cursor.{Cursor}
 use Rattle.mp4_traf.specs.Rows.{rows_of}
 use Rattle.mp4_pieces.specs.declared.piece.Piece.{Piece}
 use Rattle.mp4_pieces.specs.declared.plain.PlainPiece.{PlainPiece}
-use Rattle.mp4_pieces.specs.Pieces.{composition_times, least_of}
 
 -- the piece of a run with these numbers
 abbrev pub piece_of : List ℕ → Run → PlainPiece → Piece

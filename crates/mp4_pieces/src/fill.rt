@@ -4,24 +4,12 @@ ghost use Rattle.std.specs.Prelude.{◌≡◌, ◌+◌, ◌^◌, ◌<◌, ◌∷
 ghost use Rattle.mp4_pieces.specs.Implementation.Counting.{IsPlain};
 ghost use Rattle.mp4_pieces.specs.Implementation.Growing.{Grows, grown, opened, pieces_left, takes, with_row};
 ghost use Rattle.mp4_pieces.specs.Pieces.{cursor_after};
-ghost use Rattle.mp4_traf.specs.SyncSamples.{is_sync};
 
 use crate::cut::Cut;
 use crate::piece::Piece;
 use crate::run_cut::RunCut;
 use mp4_frag::{Cursor, Row, Rows};
-
-/// The bit of a sample's flags that is clear for a sync sample: sample_is_non_sync_sample (ISO/IEC
-/// 14496-12, 8.8.3).
-const NON_SYNC: u32 = 0x0001_0000;
-
-/// Whether a row is of a sync sample.
-#[inline(always)]
-pub(crate) fn is_sync(row: &Row) -> bool
-    ensures { result ≡ is_sync row.now.flags }
-{
-    row.flags & NON_SYNC == 0
-}
+use mp4_traf::is_sync;
 
 impl Cut {
     /// Whether one more row fits in a piece, whose last row is a sync sample or not.
@@ -42,7 +30,7 @@ impl Cut {
         };
         // Most rows are asked for no more than their size: their flags matter only with `sync` and `keyframes`.
         let may_start = self.sync || (self.keyframes && !last);
-        piece.count < self.samples && has_bytes && has_ticks && !(may_start && is_sync(row))
+        piece.count < self.samples && has_bytes && has_ticks && !(may_start && is_sync(row.flags))
     }
 }
 
@@ -134,7 +122,7 @@ pub(crate) fn fill(own: &RunCut, begun: Piece, sync: bool, rows: &mut Rows<'_>) 
             };
         }
         piece = with_row(piece, &row);
-        last = is_sync(&row);
+        last = is_sync(row.flags);
     }
     Filled {
         piece,

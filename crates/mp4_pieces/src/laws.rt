@@ -7,6 +7,7 @@ ghost use Rattle.mp4_box.specs.Headers.{IsBytes, IsWhole};
 ghost use Rattle.mp4_box.specs.declared.rules.Fault.{Fault};
 ghost use Rattle.mp4_box.specs.declared.rules.Rule.TheVariants.{IndexRange};
 ghost use Rattle.mp4_init.specs.declared.table.Track.{Track};
+ghost use Rattle.mp4_traf.specs.CompositionTimes.{IsLeastOf, composition_times};
 ghost use Rattle.mp4_traf.specs.declared.run.Run.{Run};
 ghost use Rattle.mp4_traf.specs.declared.rows.Cursor.{Cursor};
 ghost use Rattle.mp4_traf.specs.declared.rows.Row.{Row};
@@ -19,8 +20,8 @@ ghost use Rattle.mp4_pieces.specs.Cutting.{ArePieces, IsLimit};
 ghost use Rattle.mp4_pieces.specs.Fits.{HasRoomFor};
 ghost use Rattle.mp4_pieces.specs.Fitting.{cut_for, fits};
 ghost use Rattle.mp4_pieces.specs.Groups.{AreGroups, groups};
-ghost use Rattle.mp4_pieces.specs.Laws.{IsFollowedBy, IsLeastOf, MayBeOnePiece};
-ghost use Rattle.mp4_pieces.specs.Pieces.{EndsInRange, IsPieceOf, composition_times, cut_rows, piece_count, pieces_from, pieces_of, rows_in};
+ghost use Rattle.mp4_pieces.specs.Laws.{IsFollowedBy, MayBeOnePiece};
+ghost use Rattle.mp4_pieces.specs.Pieces.{EndsInRange, IsPieceOf, cut_rows, piece_count, pieces_from, pieces_of, rows_in};
 ghost use Rattle.mp4_traf.specs.Ranges.{AreRunsOf, IsRunOf};
 ghost use Rattle.mp4_pieces.specs.Rooms.{index_faults, room_fault, room_faults};
 

@@ -7,10 +7,11 @@ ghost use Rattle.mp4_pieces.specs.Pieces.{pieces_from, pieces_of};
 ghost use Rattle.mp4_traf.specs.Ranges.{IsRunOf};
 
 use crate::cut::Cut;
-use crate::fill::{fill, fill_counted, is_sync, opened};
+use crate::fill::{fill, fill_counted, opened};
 use crate::piece::Piece;
 use crate::run_cut::RunCut;
 use mp4_frag::{Cursor, Row, Rows, Run};
+use mp4_traf::is_sync;
 use std::marker::Model;
 
 /// Goes over the pieces of a run.
@@ -87,7 +88,7 @@ impl<'a> Iterator for Pieces<'a> {
             self.peeked = None;
             return Some(piece);
         }
-        let filled = fill(&self.cut, begun, is_sync(&first), &mut self.rows);
+        let filled = fill(&self.cut, begun, is_sync(first.flags), &mut self.rows);
         self.at = filled.piece.cursor_after();
         self.peeked = filled.peeked;
         Some(filled.piece)

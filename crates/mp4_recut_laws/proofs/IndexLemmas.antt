@@ -8,6 +8,7 @@ use Rattle.std.proofs.lemmas.List.Sums.{sum_by-cons}
 use Rattle.byteorder.specs.Endian.{big_bytes}
 use Rattle.byteorder.specs.Numbers.{big_number-reads_back}
 use Rattle.mp4_init.specs.declared.table.Track.{Track}
+use Rattle.mp4_traf.specs.CompositionTimes.{composition_times, least_of}
 use Rattle.mp4_traf.specs.declared.run.Run.{Run}
 use Rattle.mp4_traf.specs.declared.rows.Row.{Row}
 use Rattle.mp4_traf.specs.Rows.{durations}
@@ -17,7 +18,7 @@ use Rattle.mp4_pieces.specs.Cutting.{join}
 use Rattle.mp4_pieces.specs.Fits.{BeginsInTime, FitsIndex, FitsReference, FitsTime}
 use Rattle.mp4_pieces.specs.Groups.{groups}
 use Rattle.mp4_pieces.specs.Groups as group_specs
-use Rattle.mp4_pieces.specs.Pieces.{IsPieceOf, composition_times, cursor_at, least_of, pieces_of, rows_in}
+use Rattle.mp4_pieces.specs.Pieces.{IsPieceOf, cursor_at, pieces_of, rows_in}
 use Rattle.mp4_pieces.specs.Pieces as piece_specs
 use Rattle.mp4_pieces.specs.Sizes.{fragment_size, mdat_header_size}
 use Rattle.mp4_pieces.proofs.GroupLemmas.{groups_are}

@@ -8,6 +8,7 @@ use Rattle.mp4_box.specs.Headers.{IsBytes, IsWhole}
 use Rattle.mp4_box.specs.declared.headers.Header.{Header}
 use Rattle.mp4_init.specs.declared.table.Track.{Track}
 use Rattle.mp4_init.proofs.MoovLemmas.{first_none}
+use Rattle.mp4_traf.specs.CompositionTimes.{least_of}
 use Rattle.mp4_traf.specs.declared.run.Run.{Run}
 use Rattle.mp4_traf.specs.declared.rows.Row.{Row}
 use Rattle.mp4_frag.specs.Moofs.{moof_runs, moof_trafs}
@@ -20,7 +21,7 @@ use Rattle.mp4_pieces.specs.declared.piece.Piece.{Piece}
 use Rattle.mp4_pieces.specs.Cutting.{join}
 use Rattle.mp4_pieces.specs.Fits.{FitsIndex}
 use Rattle.mp4_pieces.specs.Groups.{groups}
-use Rattle.mp4_pieces.specs.Pieces.{least_of, pieces_of}
+use Rattle.mp4_pieces.specs.Pieces.{pieces_of}
 use Rattle.mp4_pieces.specs.Rooms.{room_fault}
 use Rattle.mp4_pieces.proofs.GroupLemmas.{groups_are}
 use Rattle.mp4_cut.specs.Reads.{FitsTrack}

@@ -8,6 +8,7 @@ use Rattle.mp4_box.specs.declared.headers.Header.{Header}
 use Rattle.mp4_box.proofs.OrderLemmas.{least-none}
 use Rattle.mp4_init.specs.declared.table.Track.{Track}
 use Rattle.mp4_init.proofs.MoovLemmas.{first_none}
+use Rattle.mp4_traf.specs.CompositionTimes.{composition_times, least_of}
 use Rattle.mp4_traf.specs.declared.run.Run.{Run}
 use Rattle.mp4_traf.specs.Cursors.{first_cursor}
 use Rattle.mp4_frag.specs.Moofs.{moof_runs, moof_trafs}
@@ -20,7 +21,7 @@ use Rattle.mp4_pieces.specs.Cutting.{join}
 use Rattle.mp4_pieces.specs.Fits.{BeginsInTime, FitsIndex, FitsReference, FitsTime}
 use Rattle.mp4_pieces.specs.Fitting.{cut_for, fits}
 use Rattle.mp4_pieces.specs.Groups.{groups}
-use Rattle.mp4_pieces.specs.Pieces.{IsPieceOf, composition_times, cursor_at, least_of, piece_at, piece_count, pieces_of, rows_in}
+use Rattle.mp4_pieces.specs.Pieces.{IsPieceOf, cursor_at, piece_at, piece_count, pieces_of, rows_in}
 use Rattle.mp4_pieces.specs.Pieces as piece_specs
 use Rattle.mp4_pieces.specs.Rooms.{index_faults, numbers, room_fault, sequence_faults}
 use Rattle.mp4_pieces.specs.Rooms as rooms

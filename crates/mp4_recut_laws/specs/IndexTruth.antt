@@ -1,8 +1,8 @@
 -- When each sidx of a stream (ISO/IEC 14496-12, 8.16.3) is true of the items directly after it, whoever wrote it.
 use Rattle.std.specs.Prelude.{◌≡◌, ◌<◌, ◌^◌, ℕ, zero, suc, pos, List, [], ◌∷◌, length, map, drop, codes}
 use Rattle.std.specs.List.{AllByRecursion, sum_by}
+use Rattle.mp4_traf.specs.CompositionTimes.{least_of}
 use Rattle.mp4_pieces.specs.declared.cut.Cut.{Cut}
-use Rattle.mp4_pieces.specs.Pieces.{least_of}
 use Rattle.mp4_cut.specs.Indexes.{Index, Reference, index_in}
 use Rattle.mp4_grammar.specs.Contexts.{Context}
 use Rattle.mp4_grammar.specs.Joined.{Item, Movie, MovieFragment, PassedOver, context_after, bytes_of, tracks_in}

@@ -2,11 +2,12 @@
 use Rattle.std.specs.Prelude.{◌≡◌, ◌<◌, ◌^◌, ℕ, pos, ◌+◌, List, [], ◌∷◌, length, map, drop}
 use Rattle.std.specs.List.{AllByRecursion, sum_by}
 use Rattle.mp4_init.specs.declared.table.Track.{Track}
+use Rattle.mp4_traf.specs.CompositionTimes.{least_of}
 use Rattle.mp4_traf.specs.declared.run.Run.{Run}
 use Rattle.mp4_pieces.specs.declared.cut.Cut.{Cut}
 use Rattle.mp4_pieces.specs.declared.piece.Piece.{Piece}
 use Rattle.mp4_pieces.specs.Groups.{groups}
-use Rattle.mp4_pieces.specs.Pieces.{least_of, pieces_of}
+use Rattle.mp4_pieces.specs.Pieces.{pieces_of}
 use Rattle.mp4_cut.specs.Indexes.{Reference, index_in}
 use Rattle.mp4_grammar.specs.Contexts.{Context}
 use Rattle.mp4_grammar.specs.Joined.{Item, Movie, MovieFragment, PassedOver, context_after, bytes_of, fragment_in}

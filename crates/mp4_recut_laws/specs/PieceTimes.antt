@@ -2,11 +2,12 @@
 -- Where pieces share an index, only the first of a group needs it.
 use Rattle.std.specs.Prelude.{ℕ, ◌+◌, ◌<◌, ◌^◌, List, [], ◌∷◌, length}
 use Rattle.std.specs.List.{AllByRecursion}
+use Rattle.mp4_traf.specs.CompositionTimes.{composition_times, least_of}
 use Rattle.mp4_traf.specs.declared.run.Run.{Run}
 use Rattle.mp4_pieces.specs.declared.cut.Cut.{Cut}
 use Rattle.mp4_pieces.specs.declared.piece.Piece.{Piece}
 use Rattle.mp4_pieces.specs.Fits.{FitsTime}
-use Rattle.mp4_pieces.specs.Pieces.{composition_times, least_of, pieces_of}
+use Rattle.mp4_pieces.specs.Pieces.{pieces_of}
 use Rattle.mp4_pieces.specs.Sizes.{mdat_header_size, moof_size}
 use Rattle.mp4_traf.specs.Rows.{durations, sizes}
 use Rattle.mp4_cut.specs.Moof.{WrittenFragment as Written}

@@ -8,6 +8,7 @@ pub mod StartLemmas
 pub mod EndLemmas
 pub mod WholeGroupLemmas
 pub mod TrafTotalLemmas
+pub mod CompositionTimeLemmas
 pub mod CursorLemmas
 pub mod SyncLemmas
 pub mod FirstSampleLemmas

@@ -12,4 +12,5 @@ pub mod Ranges
 pub mod Settling
 pub mod TrafTotals
 pub mod SyncSamples
+pub mod CompositionTimes
 pub mod Implementation

@@ -2,7 +2,6 @@
 use Rattle.std.specs.Prelude.{ℕ, ℤ, List, Option, Some, None, pos, ◌≡◌, ◌≤◌, ◌==◌, ◌+◌, ◌-◌, ◌*◌, ◌++◌, ◌+ℤ◌, if◌then◌else◌, drop, length, map, take}
 use Rattle.std.specs.Int.{w64}
 use Rattle.std.specs.List.{range_with_len, sum_by}
-use Rattle.std.specs.Option.{unwrap_or}
 use Rattle.byteorder.specs.Endian.{big_bytes, low_bytes, twos_complement}
 use Rattle.mp4_box.specs.Fields.{number_in}
 use Rattle.mp4_traf.specs.declared.run.Run.{Run}
@@ -19,9 +18,9 @@ abbrev pub field_at : List ℕ → ℕ → Option ℕ → ℕ → ℕ
 field_at moof_bytes g None default_value = default_value
 field_at moof_bytes g (Some at) default_value = number_in moof_bytes (g + at)
 
--- the flags of a sample that has none of its own: those of sample 0, where they are given, else the default
+-- the flags of a sample that has none of its own
 abbrev pub default_flags_of : Run → ℕ → ℕ
-default_flags_of run i = if i == 0 then unwrap_or run.first_sample_flags run.flags else run.flags
+default_flags_of run i = if i == 0 then run.default_first_flags else run.flags
 
 -- the offset of a composition time, which is unsigned at version 0
 abbrev pub offset_by : ℕ → ℕ → ℤ

@@ -20,7 +20,7 @@ use Rattle.mp4_traf.specs.Rows.{rows_of, durations, sizes}
 
 -- the track of a run whose track isn't there, which is refused
 abbrev pub no_track : Track
-no_track = record { id = 0; timescale = 0; entries = 0; desc = 0; duration = 0; size = 0; flags = 0; next = 0 }
+no_track = record { id = 0; timescale = 0; handler = 0; entries = 0; desc = 0; duration = 0; size = 0; flags = 0; next = 0 }
 
 abbrev pub known_track : ℕ → List Track → Track
 known_track id tracks = unwrap_or (track_with id tracks) no_track
@@ -113,7 +113,7 @@ run_at s time last b = record {
   duration = s.header.duration;
   size = s.header.size;
   flags = s.header.flags;
-  first_sample_flags = first_sample_flags b.payload;
+  default_first_flags = unwrap_or (first_sample_flags b.payload) s.header.flags;
   fields = sample_fields (flags_in b.payload);
   samples_at = payload_offset b - s.moof.offset + (trun_fields (flags_in b.payload)).samples;
   ends_at = end_in s.moof b;

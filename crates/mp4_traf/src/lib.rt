@@ -7,7 +7,7 @@
 //!   many last no longer than so many ticks;
 //! - [`Trafs`]: the trafs of a moof, one after the other; [`runs_of`] and [`heads_of`]: what is read of one of them
 //!   before its runs;
-//! - [`Traf::totals`]: a traf by its samples, added up ([`TrafTotals`]);
+//! - [`Traf::totals`]: a traf by its samples, added up ([`TrafTotals`]); [`is_sync`]: whether one is a sync sample;
 //! - [`TfhdLength`], [`TrunLength`], [`HoldsOnly`], [`OfTrack`], [`FlagsOnce`] and [`InTime`]: its rules, each as a
 //!   [`Check`](mp4_box::Check);
 //! - [`end_traf`]: where its track ends after it.
@@ -16,15 +16,15 @@
 //! a flag announces; `tfhd.rt`, `tfdt.rt` and `trun.rt` have the fields of a box by the standard's names and where they
 //! lie, with its rules; `holds_only.rt` says which boxes may be there, and `times.rt` which times runs may have.
 //! `start.rt` reads what precedes the runs of a traf, `traf.rt` makes the traf, `runs.rt` its runs ([`Run`] in
-//! `run.rt`); `groups.rt` finds the fields of their samples and adds them up, `rows.rt` makes rows of them, and
-//! `traf_totals.rt` adds up a traf. `end.rt` says where a traf ends.
+//! `run.rt`); `groups.rt` finds the fields of their samples and adds them up, `rows.rt` makes rows of them, `sync.rt`
+//! says which are sync samples, and `traf_totals.rt` adds up a traf. `end.rt` says where a traf ends.
 //!
 //! In `specs/` a file has the definitions of the box or the words of its name: `specs/Rules.antt` and
 //! `specs/TimeFaults.antt` say what is at fault, `specs/Rows.antt` what a row is, `specs/Cursors.antt` what a cursor
 //! is, `specs/Runs.antt` when and where runs begin and end, `specs/Ranges.antt` bounds of them,
-//! `specs/SyncSamples.antt` which samples are sync samples, `specs/TrafTotals.antt` the sums over the samples of a
-//! traf, and `specs/Settling.antt` where the tracks end after trafs. How all this is computed is said in
-//! `specs/Implementation/`.
+//! `specs/SyncSamples.antt` which samples are sync samples, `specs/CompositionTimes.antt` when samples are presented,
+//! `specs/TrafTotals.antt` the sums over the samples of a traf, and `specs/Settling.antt` where the tracks end after
+//! trafs. How all this is computed is said in `specs/Implementation/`.
 #![tactic(auto)]
 
 mod children;
@@ -36,6 +36,7 @@ mod rows;
 mod run;
 mod runs;
 mod start;
+mod sync;
 mod tfdt;
 mod tfhd;
 mod times;
@@ -52,6 +53,7 @@ pub use rows::{Cursor, Row, Rows, Steps};
 pub use run::Run;
 pub use runs::{RunStart, Runs, run_at, run_end, run_of};
 pub use start::{Heads, RunsOf, before_runs, heads_of, runs_of};
+pub use sync::is_sync;
 pub use tfdt::{LONG_TFDT_LEN, TFDT_LEN, base_media_decode_time};
 pub use tfhd::{OfTrack, TfhdLength, note_tfhd, track_id};
 pub use times::InTime;

@@ -122,7 +122,7 @@ impl Run {
         ensures { result ≡ default_flags_of self.now i }
     {
         if i == 0 {
-            self.first_sample_flags.unwrap_or(self.flags)
+            self.default_first_flags
         } else {
             self.flags
         }

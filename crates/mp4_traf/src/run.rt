@@ -30,8 +30,10 @@ pub struct Run {
     pub size: u32,
     /// The flags of a sample that has none of its own.
     pub flags: u32,
-    /// The flags of sample 0 where it has none of its own, if the trun has any for it.
-    pub(crate) first_sample_flags: Option<u32>,
+    /// The flags of sample 0 where it has none of its own: the first_sample_flags of its trun, or else the default.
+    pub(crate) default_first_flags: u32,
+    /// The timescale of its track: how many ticks a second has.
+    pub timescale: u32,
     /// Places of the fields of a sample in its group.
     pub fields: SampleFields,
     /// Where in the moof the first group begins.
@@ -40,6 +42,4 @@ pub struct Run {
     pub ends_at: u64,
     /// Where in the moof the traf ends.
     pub traf_ends_at: u64,
-    /// The timescale of its track: how many ticks a second has.
-    pub timescale: u32,
 }

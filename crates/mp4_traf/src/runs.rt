@@ -56,7 +56,7 @@ pub fn run_at(context: &TrafContext<'_>, run_start: &RunStart, trun: &BoxRef<'_>
         duration: context.header.duration,
         size: context.header.size,
         flags: context.header.flags,
-        first_sample_flags: first_sample_flags(trun.payload),
+        default_first_flags: first_sample_flags(trun.payload).unwrap_or(context.header.flags),
         fields: sample_fields(flags),
         samples_at: payload_at + u64::from(trun_fields(flags).samples),
         ends_at: end_in(context.moof, trun),

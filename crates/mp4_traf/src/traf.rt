@@ -53,6 +53,7 @@ pub struct TrafContext<'a> {
 const NO_TRACK: Track = Track {
     id: 0,
     timescale: 0,
+    handler: 0,
     entries: 0,
     desc: 0,
     duration: 0,

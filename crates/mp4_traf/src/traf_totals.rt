@@ -6,15 +6,12 @@ ghost use Rattle.std.specs.Option.{option_or};
 ghost use Rattle.mp4_traf.specs.declared.run.Run.{Run};
 ghost use Rattle.mp4_traf.specs.Ranges.{IsSound};
 ghost use Rattle.mp4_traf.specs.Runs.{TrackFragment, last_end, runs_of};
-ghost use Rattle.mp4_traf.specs.SyncSamples.{is_sync};
 ghost use Rattle.mp4_traf.specs.TrafTotals.{are_sync, first_flags, flags_of_first, totals_of};
 
 use crate::run::Run;
 use crate::runs::Runs;
+use crate::sync::is_sync;
 use crate::traf::{Traf, TrafHeader};
-
-/// The bit of a sample's flags that a sync sample has clear: sample_is_non_sync_sample (ISO/IEC 14496-12, 8.8.3).
-const NON_SYNC: u32 = 0x0001_0000;
 
 /// A traf by its samples. Times are ticks of its track's timescale.
 #[derive(Clone, Copy, Debug, PartialEq, Eq)]
@@ -51,7 +48,7 @@ fn are_sync(flags: Option<u32>) -> bool
     ensures { result ≡ are_sync flags }
 {
     match flags {
-        Some(flags) => flags & NON_SYNC == 0,
+        Some(flags) => is_sync(flags),
         None => false,
     }
 }

@@ -18,7 +18,7 @@ use Rattle.mp4_grammar.specs.declared.listed_traf.ListedTraf.{ListedTraf}
 -- what is put of a traf: its line, or its record
 abbrev pub put_of : Command → List Track → ListedTraf → List ℕ
 put_of Fragments tracks t = traf_line t
-put_of Records tracks t = record_bytes (record_with (known_track t.track tracks).timescale t)
+put_of Records tracks t = record_bytes (record_with (known_track t.track tracks) t)
 put_of Samples tracks t = []
 put_of Check tracks t = []
 

@@ -104,7 +104,7 @@ fn put_track_line<W: Sink>(
     ensures { Puts (sent W.contents W.has_failed w.old w.new) out.old out.new
         (track_line track.now (view trak.now)) result }
 {
-    match out.put_line(w, &ListedTrack::of(track, trak)) {
+    match out.put_line(w, &ListedTrack::of(track)) {
         Ok(()) => {}
         Err(Failed) => return Err(Failed),
     }

@@ -6,8 +6,7 @@ ghost use Rattle.mp4_box.specs.Headers.{IsWhole};
 ghost use Rattle.mp4_frag.specs.Moofs.{IsRead, moof_samples};
 ghost use Rattle.mp4_frag.specs.SingleRuns.{IsSingle};
 ghost use Rattle.mp4_traf.specs.Ranges.{IsRunOf, IsSound};
-ghost use Rattle.mp4_traf.specs.Runs.{known_track, moof_at};
-ghost use Rattle.mp4_traf.specs.Runs.{TrackFragment, runs_of};
+ghost use Rattle.mp4_traf.specs.Runs.{TrackFragment, moof_at, runs_of};
 ghost use Rattle.mp4_grammar.specs.FragmentLines.{traf_with};
 ghost use Rattle.mp4_grammar.specs.Presented.{presented_of};
 ghost use Rattle.mp4_traf.specs.TrafTotals.{totals_of};
@@ -25,16 +24,7 @@ use mp4_frag::{Moof, Run, SingleRun, Steps, Traf, TrafTotals, Trafs};
 use mp4_grammar::{Command, ListedTraf, Presented, TrafRecord};
 use mp4_init::TrackList;
 use mp4_machine::Block;
-
-/// How many ticks a second has of the track with this track_ID.
-fn timescale_of(tracks: &TrackList, id: u32) -> u32
-    ensures { result ≡ (known_track id tracks.now).timescale }
-{
-    match tracks.find(id) {
-        Some(i) => tracks.at(i).timescale,
-        None => 0,
-    }
-}
+use mp4_traf::known_track;
 
 /// Puts the line of a traf, or its record.
 #[inline(always)]
@@ -51,8 +41,7 @@ fn put_traf<W: Sink>(
     match command {
         Command::Fragments => out.put_line(w, traf),
         Command::Records => {
-            let timescale = timescale_of(tracks, traf.track);
-            out.put_line(w, &TrafRecord::of(traf, timescale))
+            out.put_line(w, &TrafRecord::of(traf, &known_track(tracks, traf.track)))
         }
         _ => Ok(()),
     }

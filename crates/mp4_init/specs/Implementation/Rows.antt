@@ -20,6 +20,7 @@ track_of_row r = record {
   duration = upper (slice_index r 2);
   size = lower (slice_index r 2);
   flags = upper (slice_index r 3);
+  handler = lower (slice_index r 3);
   next = slice_index r 4;
 }
 

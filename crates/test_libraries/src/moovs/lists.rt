@@ -36,6 +36,7 @@ fn first_track(alloc: Global, moov: &[u8]) -> Option<Track> {
 const FIRST: Track = Track {
     id: 1,
     timescale: 48000,
+    handler: 0,
     entries: 1,
     desc: 1,
     duration: 1024,

@@ -85,15 +85,15 @@ fn records_of_presented_samples(rt: HostRuntime) -> Result<(), Fail> {
         b"\0\0\0\0\0\0\x01\x6c\0\0\0\0\0\0\0\x8f".as_slice(),
         b"\0\0\0\0\0\0\0\0\0\0\0\0\0\0\x0c\0\0\0\0\0\0\0\0\x0f",
         b"\0\0\0\x01\0\0\0\x01\0\0\xbb\x80\0\0\0\x03\0\0\0\x01\0\0\0\x01",
-        b"\0\0\0\0\0\0\0\0\xff\xff\xff\xff\xff\xff\xf8\x48",
+        b"\0\0\0\0\0\0\0\0\xff\xff\xff\xff\xff\xff\xf8\x48\0\0\0\0\0\0\0\x01",
         b"\0\0\0\0\0\0\x01\xfb\0\0\0\0\0\0\0\x8f",
         b"\0\0\0\0\0\0\x08\x18\0\0\0\0\0\0\x0c\0\0\0\0\0\0\0\0\x0f",
         b"\0\0\0\x02\0\0\0\x01\0\0\xbb\x80\0\0\0\x03\0\0\0\x01\0\0\0\x02",
-        b"\0\0\0\0\0\0\x0c\0\0\0\0\0\0\0\x08\0",
+        b"\0\0\0\0\0\0\x0c\0\0\0\0\0\0\0\x08\0\0\0\0\0\0\0\0\x01",
         b"\0\0\0\0\0\0\x02\x8a\0\0\0\0\0\0\0\xa3",
         b"\0\0\0\0\0\0\x10\0\0\0\0\0\0\0\x0c\0\0\0\0\0\0\0\0\x0f",
         b"\0\0\0\x03\0\0\0\x01\0\0\xbb\x80\0\0\0\x03\0\0\0\0\0\0\0\x02",
-        b"\0\0\0\0\0\0\x14\x18\xff\xff\xff\xff\xff\xff\xf8\0",
+        b"\0\0\0\0\0\0\x14\x18\xff\xff\xff\xff\xff\xff\xf8\0\0\0\0\0\0\0\0\x01",
     ];
     check_records(&rt, alloc, &fragments(), &records)
 }
@@ -137,4 +137,22 @@ fn lines_of_handlers_and_entries(rt: HostRuntime) -> Result<(), Fail> {
     let short = with_handler(SHORT, b"\0\0\0\x02");
     let track = "track=1 timescale=48000 entries=2 handler=???? types=avc1,???~\n";
     check_words(&rt, alloc, &WORDS, &short, 0, &[track, line], "")
+}
+
+#[test]
+fn records_of_handlers_and_entries(rt: HostRuntime) -> Result<(), Fail> {
+    let alloc = rt.alloc();
+    let record = [
+        b"\0\0\0\0\0\0\x01\x9c\0\0\0\0\0\0\0\x77".as_slice(),
+        b"\0\0\0\0\0\0\0\0\0\0\0\0\0\0\x0c\0\0\0\0\0\0\0\0\x0f",
+        b"\0\0\0\x01\0\0\0\x01\0\0\xbb\x80\0\0\0\x03\0\0\0\x01\0\0\0\x03",
+        [0; 16].as_slice(),
+    ];
+    let [place, times, samples, shown] = record;
+    let two = with_handler(VIDEO, b"\0\0\0\x02");
+    let video = b"vide\0\0\0\x02".as_slice();
+    check_records(&rt, alloc, &two, &[place, times, samples, shown, video])?;
+    let short = with_handler(SHORT, b"\0\0\0\x02");
+    let none = b"\0\0\0\0\0\0\0\x02".as_slice();
+    check_records(&rt, alloc, &short, &[place, times, samples, shown, none])
 }

@@ -202,23 +202,23 @@ pub(super) fn check_records(
 fn records_of_two_tracks(rt: HostRuntime) -> Result<(), Fail> {
     let alloc = rt.alloc();
     // The offset of the moof and the size; time, duration and media; sequence_number, track_ID, timescale and samples,
-    // whether the first is a sync sample, and how many are; when the track ended before, and how long after its base
-    // time the first of the samples is presented.
-    let zeros = [0; 16].as_slice();
+    // whether the first is a sync sample, and how many are; when the track ended before, how long after its base time
+    // the first of the samples is presented; and of the track the handler and how many sample entries it has.
+    let rest = b"\0\0\0\0\0\0\0\0\0\0\0\0\0\0\0\0\0\0\0\0\0\0\0\x01".as_slice();
     let sized = [
         b"\0\0\0\0\0\0\x02\x48\0\0\0\0\0\0\0\xda".as_slice(),
         b"\0\0\0\x01\0\0\0\x05\0\0\0\x01\0\0\x0b\xb7\0\0\0\0\0\0\0\x0f",
         b"\0\0\0\x07\0\0\0\x02\0\x01\x5f\x90\0\0\0\x02\0\0\0\x01\0\0\0\x01",
-        zeros,
+        rest,
         b"\0\0\0\0\0\0\x02\x48\0\0\0\0\0\0\0\xda",
         b"\0\0\0\0\0\0\x10\0\0\0\0\0\0\0\x0c\0\0\0\0\0\0\0\0\x07",
         b"\0\0\0\x07\0\0\0\x01\0\0\xbb\x80\0\0\0\x03\0\0\0\0\0\0\0\x02",
-        zeros,
+        rest,
     ];
     check_records(&rt, alloc, &muxed(SIZED), &sized)?;
     let place = b"\0\0\0\0\0\0\x02\x48\xff\xff\xff\xff\xff\xff\xff\xff".as_slice();
     let to_end = [
-        place, sized[1], sized[2], zeros, place, sized[5], sized[6], zeros,
+        place, sized[1], sized[2], rest, place, sized[5], sized[6], rest,
     ];
     check_records(&rt, alloc, &muxed(TO_END), &to_end)
 }
@@ -230,7 +230,8 @@ fn records_of_one_track(rt: HostRuntime) -> Result<(), Fail> {
         \0\0\0\0\0\0\x01\x6c\0\0\0\0\0\0\0\x77\
         \0\0\0\0\0\0\0\0\0\0\0\0\0\0\x0c\0\0\0\0\0\0\0\0\x0f\
         \0\0\0\x01\0\0\0\x01\0\0\xbb\x80\0\0\0\x03\0\0\0\x01\0\0\0\x03\
-        \0\0\0\0\0\0\0\0\0\0\0\0\0\0\0\0"
+        \0\0\0\0\0\0\0\0\0\0\0\0\0\0\0\0\
+        \0\0\0\0\0\0\0\x01"
         .as_slice();
     check_records(&rt, alloc, &[v1], &[first])?;
     // The same moof and mdat once more, without a tfdt: it begins where the track ended.
@@ -245,7 +246,8 @@ fn records_of_one_track(rt: HostRuntime) -> Result<(), Fail> {
         \0\0\0\0\0\0\x01\xe3\0\0\0\0\0\0\0\x67\
         \0\0\0\0\0\0\x0c\0\0\0\0\0\0\0\x0c\0\0\0\0\0\0\0\0\x0f\
         \0\0\0\x02\0\0\0\x01\0\0\xbb\x80\0\0\0\x03\0\0\0\x01\0\0\0\x03\
-        \0\0\0\0\0\0\x0c\0\0\0\0\0\0\0\0\0"
+        \0\0\0\0\0\0\x0c\0\0\0\0\0\0\0\0\0\
+        \0\0\0\0\0\0\0\x01"
         .as_slice();
     check_records(&rt, alloc, &no_time, &[first, second])?;
     check_records(&rt, alloc, &[], &[])

@@ -22,9 +22,11 @@ unfolding track_of
 returns-clause-entries c moov b = refl
 
 pub returns-clause-handler : goal.returns-clause-handler
+unfolding track_of
 returns-clause-handler c moov b h is = ap (λ o. bytes_high_first 4 (field_of (λ (h : Box). number_in h.payload 8) o)) is
 
 pub returns-clause-no_handler : goal.returns-clause-no_handler
+unfolding track_of
 returns-clause-no_handler c moov b none = ap (λ o. bytes_high_first 4 (field_of (λ (h : Box). number_in h.payload 8) o)) none
 
 pub returns-clause-kinds : goal.returns-clause-kinds

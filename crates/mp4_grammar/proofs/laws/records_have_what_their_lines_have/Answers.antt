@@ -1,6 +1,7 @@
 use Rattle.std.proofs.Common.{refl, ap}
-use Rattle.mp4_grammar.specs.TrafRecords.{one_or_none, size_or_all}
-use Rattle.mp4_grammar.proofs.RowLineLemmas.{record_for_each_traf, timescale_of_track}
+use Rattle.mp4_grammar.specs.Presented.{once_if}
+use Rattle.mp4_grammar.specs.TrafRecords.{size_or_all}
+use Rattle.mp4_grammar.proofs.RowLineLemmas.{record_for_each_traf, record_has_its_track}
 use Rattle.mp4_grammar.proofs.laws.records_have_what_their_lines_have.Goals as goal
 
 pub returns-clause-records : goal.returns-clause-records
@@ -19,13 +20,13 @@ pub returns-clause-open : goal.returns-clause-open
 returns-clause-open c f b none = ap size_or_all none
 
 pub returns-clause-sync : goal.returns-clause-sync
-returns-clause-sync c f b is = ap one_or_none is
+returns-clause-sync c f b is = ap once_if is
 
 pub returns-clause-no_sync : goal.returns-clause-no_sync
-returns-clause-no_sync c f b is = ap one_or_none is
+returns-clause-no_sync c f b is = ap once_if is
 
-pub returns-clause-timescale : goal.returns-clause-timescale
-returns-clause-timescale c f b t is = timescale_of_track f b t is
+pub returns-clause-of_track : goal.returns-clause-of_track
+returns-clause-of_track c f b t is = record_has_its_track f b t is
 
 pub returns-clause-shown : goal.returns-clause-shown
 returns-clause-shown c f b = (refl, refl, refl)

@@ -1,6 +1,7 @@
 use Rattle.std.proofs.Common.{◌≡◌, ◌+◌, ◌<◌, ◌≤◌, ◌^◌, None, length}
 use Rattle.mp4_traf.specs.Rows.{durations}
-use Rattle.mp4_grammar.specs.Presented.{earliest_from, syncs_in}
+use Rattle.mp4_grammar.specs.Implementation.FoundRows.{earliest_from}
+use Rattle.mp4_grammar.specs.Presented.{syncs_in}
 use Rattle.mp4_grammar.proofs.presented.add_rows.Given as goal
 
 abbrev pub invariant-loop-row : goal.invariant-loop-row

@@ -3,7 +3,8 @@ use Rattle.std.proofs.lemmas.List.Sums.{sum_by-append}
 use Rattle.mp4_traf.specs.Rows.{durations}
 use Rattle.mp4_traf.specs.SyncSamples.{is_sync}
 use Rattle.mp4_traf.specs.declared.rows.Row.{Row}
-use Rattle.mp4_grammar.specs.Presented.{all_rows, earliest_from, once_if, syncs_in}
+use Rattle.mp4_grammar.specs.Implementation.FoundRows.{earliest_from}
+use Rattle.mp4_grammar.specs.Presented.{all_rows, once_if, syncs_in}
 use Rattle.mp4_grammar.proofs.PresentedLemmas.{all_first, earliest-append}
 use Rattle.mp4_grammar.proofs.presented.add_runs.Goals as goal
 

@@ -1,7 +1,7 @@
-use Rattle.std.proofs.Common.{rules, [], ◌≡◌, ◌∙◌, ◌+◌, ◌++◌, Result, Some, ap, arith, length, refl, sym, subst, take}
+use Rattle.std.proofs.Common.{rules, ℕ, [], ◌≡◌, ◌∙◌, ◌+◌, ◌++◌, Result, Some, ap, arith, length, refl, sym, subst, take}
 use Rattle.std.specs.Prelude.{IfErr, OnErr}
 use Rattle.mp4_machine.specs.declared.stop.Stop.{Stop}
-use Rattle.fmp4_c.specs.Engines.{Holds, IsPortion, Run, Stopped, after_take, held_in}
+use Rattle.fmp4_c.specs.Engines.{Holds, IsPortion, Run, Stopped, after_take, free_in, held_in}
 use Rattle.fmp4_c.specs.Tasks.{held_by, stop_of}
 use Rattle.fmp4_c.specs.declared.answer.Answer.TheVariants.{Done, Full}
 use Rattle.fmp4_c.proofs.AheadLemmas.{ahead-err, ahead-ok, portion-after, wrote}
@@ -36,15 +36,16 @@ returns-then-leaves_all-clause-portion c = rw c.passed-then-leaves_all.ensures.i
     let old : Run = record { account = c.self.inside.ledger; feeding = c.self.inside.feeder; waiting = c.self.inside.out; share = c.self.inside.share; reported = c.self.inside.reported; task = c.self.inside.task } in
     let taken = c.portion-portion.result in
     let input = c.args.input.now in
+    let free : c.saturating_sub-free.result ≡ free_in (length c.args.buffer.now) old = search rules in
     let all = c.leaves_all.ensures.all c.if-leaves_all.true in
-    subst (λ (r : Run). IsPortion (after_take (length c.args.buffer.now) r) input taken Full) c.self.view_is
-    (portion-after old (length c.args.buffer.now) c.take-first.result c.take-first.new.self.room c.take-first.new.self.bytes input taken Full c.take-first.ensures.count c.take-first.ensures.left c.take-first.ensures.room
+    subst (λ (r : Run). IsPortion (free_in (length c.args.buffer.now) r) (after_take (length c.args.buffer.now) r) input taken Full) c.self.view_is
+    (subst (λ (n : ℕ). IsPortion n (after_take (length c.args.buffer.now) old) input taken Full) free (portion-after c.saturating_sub-free.result old (length c.args.buffer.now) c.take-first.result c.take-first.new.self.room c.take-first.new.self.bytes input taken Full c.take-first.ensures.count c.take-first.ensures.left c.take-first.ensures.room
     (record {
       filled = λ over. (c.portion-portion.ensures.filled over, λ some. refl);
-      free = c.portion-portion.ensures.free;
+      share = c.portion-portion.ensures.share;
       done = search rules;
       full = λ f. (all.0, c.portion-portion.ensures.none all.0 all.1, λ e. omega (arith, all.1, ap length e));
-    })))
+    }))))
 
 pub returns-else-leaves_all-clause-feeds : goal.returns-else-leaves_all-clause-feeds
 returns-else-leaves_all-clause-feeds c = rw c.passed-in-Ok.ensures.is (λ task b given h other.
@@ -63,15 +64,16 @@ returns-else-leaves_all-clause-portion c = rw c.passed-in-Ok.ensures.is (λ p is
     let old : Run = record { account = c.self.inside.ledger; feeding = c.self.inside.feeder; waiting = c.self.inside.out; share = c.self.inside.share; reported = c.self.inside.reported; task = c.self.inside.task } in
     let taken = c.portion-portion.result in
     let input = c.args.input.now in
+    let free : c.saturating_sub-free.result ≡ free_in (length c.args.buffer.now) old = search rules in
     let nothing : taken ≡ 0 → input ≡ [] = c.leaves_all.ensures.none c.if-leaves_all.false in
-    subst (λ (r : Run). IsPortion (after_take (length c.args.buffer.now) r) input taken Done) c.self.view_is
-    (portion-after old (length c.args.buffer.now) c.take-first.result c.take-first.new.self.room c.take-first.new.self.bytes input taken Done c.take-first.ensures.count c.take-first.ensures.left c.take-first.ensures.room
+    subst (λ (r : Run). IsPortion (free_in (length c.args.buffer.now) r) (after_take (length c.args.buffer.now) r) input taken Done) c.self.view_is
+    (subst (λ (n : ℕ). IsPortion n (after_take (length c.args.buffer.now) old) input taken Done) free (portion-after c.saturating_sub-free.result old (length c.args.buffer.now) c.take-first.result c.take-first.new.self.room c.take-first.new.self.bytes input taken Done c.take-first.ensures.count c.take-first.ensures.left c.take-first.ensures.room
     (record {
       filled = λ over. (c.portion-portion.ensures.filled over, λ some. absurd (some (nothing (c.portion-portion.ensures.filled over))));
-      free = c.portion-portion.ensures.free;
+      share = c.portion-portion.ensures.share;
       done = λ d. nothing;
       full = search rules;
-    })))
+    }))))
 
 pub returns-in-Err-clause-feeds : goal.returns-in-Err-clause-feeds
 returns-in-Err-clause-feeds c = rw (c.passed-in-Err.ensures.is, c.of_stop-in-Err.ensures) (λ task b given h other.
