@@ -49,7 +49,7 @@ bench_jobs:
 test:
 	@scripts/needs_rt
 	@if command -v python3 > /dev/null; then \
-	    scripts/counted scripts/words && scripts/counted scripts/edit_index --check && \
+	    scripts/counted scripts/words && scripts/counted scripts/check_edits && \
 	    scripts/counted scripts/pictures --check crates states in_place inputs; fi
 	@echo "proving everything from nothing and running the tests: about an hour on 4 cores" >&2
 	@scripts/counted scripts/prove_all
