@@ -183,7 +183,7 @@ static void half_a_record(void) {
     WANT(answer == FMP4_NO_ROOM && fmp4_next_fragment(&listing, &record) == FMP4_OK);
     same_record(&record, &muxed_records[0]);
     WANT(fmp4_next_fragment(&listing, &record) == FMP4_NO_RECORD);
-    WANT(fmp4_pending(&listing, &pending) == FMP4_OK && pending == 40 && fmp4_close(&listing) == FMP4_OK);
+    WANT(fmp4_pending(&listing, &pending) == FMP4_OK && pending == 44 && fmp4_close(&listing) == FMP4_OK);
     free(stream.at);
 }
 
