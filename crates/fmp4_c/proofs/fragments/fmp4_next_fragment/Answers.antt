@@ -15,7 +15,7 @@ returns-in-Some-clause-gives c = λ r here records some.
       c.number.ensures ∙ ap number_of did.0,
       subst (λ (x : Run). c.next_fragment-answer.new.fragment ≡ record_of (take record_len x.waiting.bytes)) (sym same) did.1,
       subst (λ (o : Option Run). IfSome o (λ r'. r'.waiting.bytes ≡ drop record_len r.waiting.bytes)) (sym c.of-stream.ensures)
-      (subst (λ (x : Run). c.next_fragment-answer.new.self.waiting.bytes ≡ drop record_len x.waiting.bytes) (sym same) did.2),
+          (subst (λ (x : Run). c.next_fragment-answer.new.self.waiting.bytes ≡ drop record_len x.waiting.bytes) (sym same) did.2),
     )
 
 pub returns-in-Some-clause-stopped : goal.returns-in-Some-clause-stopped
