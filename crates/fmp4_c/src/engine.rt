@@ -88,8 +88,7 @@ impl Engine {
         }
     }
 
-    /// How many bytes of the input are taken at once, where so many are free beside those of the room: none while more
-    /// than half of the room is filled.
+    /// How many bytes of the input are taken at once, with so many free beside the room: none unless half of that is free.
     fn portion(&self, input: usize, free: usize) -> usize
         ensures filled { self.now.waiting.room < 2 * length self.now.waiting.bytes → result ≡ 0 }
         ensures share { 2 * length self.now.waiting.bytes ≤ self.now.waiting.room →
@@ -162,9 +161,8 @@ impl Engine {
         Feed { taken, answer }
     }
 
-    /// Takes output from the front, then feeds the input of the stream, or the front of one, whose output follows in
-    /// the buffer: what doesn't fit waits. After a stop it returns the same, and takes no input. A stream that is listed
-    /// by records is not fed so.
+    /// Takes output from the front, then feeds the input of the stream, or its front, whose output follows in the buffer:
+    /// what doesn't fit waits. After a stop it returns the same, and takes no input. Records are not listed so.
     pub fn feed_take(&mut self, input: &[u8], buffer: &mut [u8]) -> FeedTake
         ensures feeds { (task : Task) → (b given : List ℕ) → Holds task b given self.old →
             (self.old.task ≡ record_listing → ⊥) →
@@ -236,8 +234,7 @@ impl Engine {
         }
     }
 
-    /// What a feed did that takes output at once. No more waits than the room holds, and no more is claimed than the
-    /// limit allows.
+    /// What a feed did that takes output: no more waits than the room holds, nor is more claimed than the limit allows.
     fn passed(&self, taken: usize, given: usize, answer: Answer) -> FeedTake
         ensures is { result ≡ record { taken = taken; given = given; answer = answer } }
         ensures waits { length self.now.waiting.bytes ≤ self.now.waiting.room }
