@@ -88,7 +88,7 @@ impl Engine {
         }
     }
 
-    /// How many bytes of the input are taken at once, with so many free beside the room: none unless half of that is free.
+    /// How many bytes of the input are taken, with so many free beside the room: none unless half of the room is free.
     fn portion(&self, input: usize, free: usize) -> usize
         ensures filled { self.now.waiting.room < 2 * length self.now.waiting.bytes → result ≡ 0 }
         ensures share { 2 * length self.now.waiting.bytes ≤ self.now.waiting.room →
@@ -161,8 +161,8 @@ impl Engine {
         Feed { taken, answer }
     }
 
-    /// Takes output from the front, then feeds the input of the stream, or its front, whose output follows in the buffer:
-    /// what doesn't fit waits. After a stop it returns the same, and takes no input. Records are not listed so.
+    /// Takes output from the front, then feeds the input of the stream, or its front, whose output follows there: what
+    /// doesn't fit waits. After a stop it returns the same, and takes no input. Records are not listed so.
     pub fn feed_take(&mut self, input: &[u8], buffer: &mut [u8]) -> FeedTake
         ensures feeds { (task : Task) → (b given : List ℕ) → Holds task b given self.old →
             (self.old.task ≡ record_listing → ⊥) →
