@@ -231,9 +231,9 @@ FMP4_MUST_READ uint32_t fmp4_feed(struct fmp4_stream *FMP4_RESTRICT stream, cons
  * *given says how many bytes of output, less than `size` only where no more wait; what doesn't fit waits. So a loop
  * over an input sees FMP4_FULL only where `out` is smaller than what waits, and calls again. What is free in `out` once
  * it has what waits counts with what is free in the room: of both together a share of the input is taken. An `out` of
- * twice the input serves best: what doesn't fit is copied once more. The call that stops with FMP4_NO_ROOM has filled `out` and
- * the room. A stream that has stopped still gives what waits. What lies after the *given bytes in `out` may change. A
- * stream that is listed by records is fed by fmp4_feed alone.
+ * twice the input serves best: what doesn't fit is copied once more. The call that stops with FMP4_NO_ROOM has filled
+ * `out` and the room. A stream that has stopped still gives what waits. What lies after the *given bytes in `out` may
+ * change. A stream that is listed by records is fed by fmp4_feed alone.
  *   As fmp4_feed; FMP4_BAD_LISTING; *given is 0 where it misuses the stream */
 FMP4_MUST_READ uint32_t fmp4_feed_take(struct fmp4_stream *FMP4_RESTRICT stream, const uint8_t *FMP4_RESTRICT input,
                                        size_t len, size_t *FMP4_RESTRICT taken, uint8_t *FMP4_RESTRICT out,

@@ -161,8 +161,8 @@ impl Engine {
         Feed { taken, answer }
     }
 
-    /// Takes output from the front, then feeds the input of the stream, or its front, whose output follows there: what
-    /// doesn't fit waits. After a stop it returns the same, and takes no input. Records are not listed so.
+    /// Takes output from the front, then feeds the input, or the front of it, whose output follows in the buffer: what
+    /// doesn't fit waits. After a stop it returns the same, and takes no input. A stream of records is not fed so.
     pub fn feed_take(&mut self, input: &[u8], buffer: &mut [u8]) -> FeedTake
         ensures feeds { (task : Task) → (b given : List ℕ) → Holds task b given self.old →
             (self.old.task ≡ record_listing → ⊥) →
