@@ -208,7 +208,7 @@ func TestSegmentsAreTheCut(t *testing.T) {
 // A request for a part is answered when it is there, and one for an announced part has its bytes as they come.
 func TestPartsAreAwaited(t *testing.T) {
 	stream, want := given(t)
-	s := start(t)
+	s := startWith(t, 250*time.Millisecond)
 	p := s.push("/live")
 	first, second, moofs := 0, 0, 0
 	for _, b := range boxesOf(want) {
@@ -241,9 +241,14 @@ func TestPartsAreAwaited(t *testing.T) {
 	}
 	s.soon("no stream", func() bool { status, _, _ := s.ask("GET", "/live/init0.mp4", nil); return status == 200 })
 	playlist, hinted := asked("/live/index.m3u8?_HLS_msn=0&_HLS_part=1"), asked("/live/s0.p1.m4s")
+	first0, whole := asked("/live/index.m3u8?_HLS_msn=0&_HLS_part=0"), asked("/live/index.m3u8?_HLS_msn=0")
 	select {
 	case got := <-playlist:
 		t.Fatal("before there is a part:", got.text)
+	case got := <-first0:
+		t.Fatal("before there is the first part:", got.text)
+	case got := <-whole:
+		t.Fatal("before there is a segment:", got.text)
 	case <-time.After(300 * time.Millisecond):
 	}
 	p.Write(stream[begun : begun+900])
@@ -254,8 +259,16 @@ func TestPartsAreAwaited(t *testing.T) {
 	if got := (<-hinted).text; got != "200<nil>"+string(want[first:second]) && got != "200 <nil>"+string(want[first:second]) {
 		t.Fatalf("another part: %.40q", got)
 	}
+	select {
+	case got := <-whole:
+		t.Fatal("before there is a segment:", got.text)
+	case <-time.After(100 * time.Millisecond):
+	}
 	p.Write(stream[begun+900:])
 	p.Close()
+	if got := <-whole; !strings.Contains(got.text, "\ns0.m4s\n") {
+		t.Fatal(got.text)
+	}
 	<-p.done
 	if p.status != 200 {
 		t.Fatal(p.status, p.text)

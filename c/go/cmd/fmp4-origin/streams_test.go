@@ -6,6 +6,7 @@ import (
 	"io"
 	"strings"
 	"testing"
+	"time"
 )
 
 // A stream at fault is refused by its rule, box and offset, and one that is cut off in a moof. What came before stays.
@@ -121,5 +122,78 @@ func TestWindow(t *testing.T) {
 		if sum > 1<<20 {
 			t.Fatal(words, "keeps", sum)
 		}
+	}
+}
+
+// What is whole of a part that is broken off is listed, and no byte more.
+func TestBrokenOffWithinAPart(t *testing.T) {
+	_, want := given(t)
+	s := start(t, "-part", "300ms")
+	var ends []int
+	for _, b := range boxesOf(want) {
+		if b.kind == "mdat" {
+			ends = append(ends, b.end)
+		}
+	}
+	p := s.push("/live")
+	p.Write(want[:ends[7]+130])
+	s.soon("no part", func() bool {
+		_, text, _ := s.ask("GET", "/live/index.m3u8", nil)
+		return strings.Contains(text, "s0.p1.m4s")
+	})
+	time.Sleep(100 * time.Millisecond)
+	p.CloseWithError(io.ErrUnexpectedEOF)
+	<-p.done
+	s.soon("it isn't broken off", func() bool { return !strings.Contains(s.get("/live/index.m3u8"), "PRELOAD-HINT") })
+	init, _, parts := files(s.get("/live/index.m3u8"))
+	if got := s.joined("/live", append([]string{init}, parts...)...); len(parts) != 3 || got != string(want[:ends[7]]) {
+		t.Fatalf("%d parts, %d bytes, not %d", len(parts), len(got), ends[7])
+	}
+}
+
+// Each playlist reports the others that go on, and the list of streams has all.
+func TestRenditions(t *testing.T) {
+	stream, _ := given(t)
+	s := start(t)
+	first, second := s.push("/a"), s.push("/b")
+	first.Write(stream[:len(stream)/2])
+	second.Write(stream[:len(stream)/3])
+	for _, name := range []string{"a", "b"} {
+		s.soon("no segment", func() bool {
+			_, text, _ := s.ask("GET", "/"+name+"/index.m3u8", nil)
+			return strings.Contains(text, "s1.p0.m4s")
+		})
+	}
+	begun := time.Now()
+	if status, _, _ := s.ask("GET", "/a/s0.p12.m4s", nil); status != 404 || time.Since(begun) > time.Second {
+		t.Fatal("a part that its segment ended before:", status, time.Since(begun))
+	}
+	report := "#EXT-X-RENDITION-REPORT:URI=\"../b/index.m3u8\",LAST-MSN=1,LAST-PART="
+	if text := s.get("/a/index.m3u8"); !strings.Contains(text, report) || strings.Contains(text, "../a/") {
+		t.Fatal(text)
+	}
+	text := s.get("/index.m3u8")
+	if strings.Count(text, "#EXT-X-STREAM-INF:BANDWIDTH=") != 2 || strings.Count(text, "CODECS=\"mp4a.40.2\"") != 2 || !strings.HasSuffix(text, "\na/index.m3u8\n") && !strings.HasSuffix(text, "\nb/index.m3u8\n") {
+		t.Fatal(text)
+	}
+	second.Write(stream[len(stream)/3:])
+	second.Close()
+	<-second.done
+	if text := s.get("/a/index.m3u8"); strings.Contains(text, "RENDITION-REPORT") {
+		t.Fatal("one that has ended is reported:", text)
+	}
+}
+
+// Streams of sound alone are a group for those with pictures.
+func TestSoundIsAGroup(t *testing.T) {
+	got := multivariant([]rendition{
+		{name: "v", peak: 1000, mean: 900, codecs: []string{"avc1.64000c"}, width: 320, height: 180},
+		{name: "s", peak: 100, mean: 90, codecs: []string{"mp4a.40.2"}, isSound: true},
+	})
+	want := "#EXTM3U\n#EXT-X-VERSION:9\n#EXT-X-INDEPENDENT-SEGMENTS\n" +
+		"#EXT-X-MEDIA:TYPE=AUDIO,GROUP-ID=\"sound\",NAME=\"s\",DEFAULT=YES,AUTOSELECT=YES,URI=\"s/index.m3u8\"\n" +
+		"#EXT-X-STREAM-INF:BANDWIDTH=1100,AVERAGE-BANDWIDTH=990,RESOLUTION=320x180,CODECS=\"avc1.64000c,mp4a.40.2\",AUDIO=\"sound\"\nv/index.m3u8\n"
+	if got != want {
+		t.Fatal(got)
 	}
 }
