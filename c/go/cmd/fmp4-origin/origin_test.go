@@ -241,7 +241,7 @@ func TestPartsAreAwaited(t *testing.T) {
 	}
 	s.soon("no stream", func() bool { status, _, _ := s.ask("GET", "/live/init0.mp4", nil); return status == 200 })
 	playlist, hinted := asked("/live/index.m3u8?_HLS_msn=0&_HLS_part=1"), asked("/live/s0.p1.m4s")
-	first0, whole := asked("/live/index.m3u8?_HLS_msn=0&_HLS_part=0"), asked("/live/index.m3u8?_HLS_msn=0")
+	growing, first0, whole := asked("/live/s0.p0.m4s"), asked("/live/index.m3u8?_HLS_msn=0&_HLS_part=0"), asked("/live/index.m3u8?_HLS_msn=0")
 	select {
 	case got := <-playlist:
 		t.Fatal("before there is a part:", got.text)
@@ -255,6 +255,9 @@ func TestPartsAreAwaited(t *testing.T) {
 	got := <-playlist
 	if !strings.Contains(got.text, "s0.p1.m4s") || !strings.HasPrefix(got.text, "200") {
 		t.Fatal(got.text)
+	}
+	if got := (<-growing).text; !strings.HasPrefix(got, "200 <nil>") || !strings.HasSuffix(string(want[:first]), strings.TrimPrefix(got, "200 <nil>")) {
+		t.Fatalf("a part that grows for longer than a client has for a piece: %.40q", got)
 	}
 	if got := (<-hinted).text; got != "200<nil>"+string(want[first:second]) && got != "200 <nil>"+string(want[first:second]) {
 		t.Fatalf("another part: %.40q", got)

@@ -136,7 +136,7 @@ func TestBrokenOffWithinAPart(t *testing.T) {
 		}
 	}
 	p := s.push("/live")
-	p.Write(want[:ends[7]+130])
+	p.Write(want[:ends[7]+220])
 	s.soon("no part", func() bool {
 		_, text, _ := s.ask("GET", "/live/index.m3u8", nil)
 		return strings.Contains(text, "s0.p1.m4s")
@@ -196,4 +196,21 @@ func TestSoundIsAGroup(t *testing.T) {
 	if got != want {
 		t.Fatal(got)
 	}
+}
+
+// A part of a stream of one track is listed with its last byte, before anything comes of the next.
+func TestPartsEndWithTheirLastByte(t *testing.T) {
+	_, want := given(t)
+	s := start(t)
+	p := s.push("/live")
+	for _, b := range boxesOf(want) {
+		if b.kind == "mdat" {
+			p.Write(want[:b.end])
+			break
+		}
+	}
+	s.soon("the part isn't listed", func() bool {
+		_, text, _ := s.ask("GET", "/live/index.m3u8?_HLS_msn=0&_HLS_part=0", nil)
+		return strings.Contains(text, "s0.p0.m4s\",INDEPENDENT=YES\n")
+	})
 }
