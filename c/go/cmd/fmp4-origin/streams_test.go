@@ -7,6 +7,8 @@ import (
 	"strings"
 	"testing"
 	"time"
+
+	"cannirupo.example/fmp4"
 )
 
 // A stream at fault is refused by its rule, box and offset, and one that is cut off in a moof. What came before stays.
@@ -213,4 +215,25 @@ func TestPartsEndWithTheirLastByte(t *testing.T) {
 		_, text, _ := s.ask("GET", "/live/index.m3u8?_HLS_msn=0&_HLS_part=0", nil)
 		return strings.Contains(text, "s0.p0.m4s\",INDEPENDENT=YES\n")
 	})
+}
+
+// A segment begins with a sync sample, once the one before has lasted, and has no more bytes than a stream may keep.
+func TestSegments(t *testing.T) {
+	c := newChannel(&options{memory: 1 << 20, window: time.Hour, segment: 5 * time.Second}, "x")
+	r := c.beginRun(nil)
+	s := c.beginSegment(r)
+	first := c.beginPart(s)
+	p := &packager{to: c, run: r, segment: s}
+	for ticks, begins := range map[uint64]bool{4: false, 5: true} {
+		first.ticks = ticks
+		if p.beginsSegment(&fmp4.Fragment{IsSync: false}) || p.beginsSegment(&fmp4.Fragment{IsSync: true}) != begins {
+			t.Fatal(ticks)
+		}
+	}
+	if err := c.add(first, make([]byte, 1<<19)); err != nil {
+		t.Fatal(err)
+	}
+	if err := c.add(first, make([]byte, 1<<20)); err != errTooLarge {
+		t.Fatal(err)
+	}
 }
