@@ -6,6 +6,7 @@ import (
 	"fmt"
 	"hash"
 	"io"
+	"net"
 	"net/http"
 	"os"
 	"regexp"
@@ -197,4 +198,39 @@ func TestClients(t *testing.T) {
 	}()
 	s.soon("no playlist", func() bool { status, _, _ := s.ask("GET", "/live/index.m3u8", nil); return status == 200 })
 	runClients(t, s.url+"/live", count)
+}
+
+// over is a reply over a connection, without headers.
+type over struct {
+	http.ResponseWriter
+	net.Conn
+}
+
+func (o over) Write(bytes []byte) (int, error) { return o.Conn.Write(bytes) }
+
+// A client has some time for each piece of a reply, and no more, also where nothing but the piece is written.
+func TestPatience(t *testing.T) {
+	for _, reads := range []bool{false, true} {
+		to, from := net.Pipe()
+		w, result := reply{over{nil, to}, to, 200 * time.Millisecond}, make(chan error, 1)
+		go func() {
+			_, err := w.Write(make([]byte, 3*pieceBytes))
+			result <- err
+		}()
+		piece := make([]byte, pieceBytes)
+		for i := 0; reads && i < 3; i++ {
+			time.Sleep(100 * time.Millisecond)
+			io.ReadFull(from, piece)
+		}
+		select {
+		case err := <-result:
+			if reads != (err == nil) {
+				t.Error("reads:", reads, err)
+			}
+		case <-time.After(2 * time.Second):
+			t.Error("a client that takes nothing is waited for")
+		}
+		to.Close()
+		from.Close()
+	}
 }
