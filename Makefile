@@ -41,7 +41,7 @@ lib:
 # Compares the C library with the program, and tries its calls: those that are built, where there is no rt.
 c_tests:
 	@if command -v rt > /dev/null; then $(MAKE) -s build lib; fi
-	@scripts/counted scripts/c_tests
+	@scripts/counted c/tests/all_tests
 
 bench_jobs:
 	@scripts/build bench_jobs
@@ -54,14 +54,14 @@ test:
 	@echo "proving everything from nothing and running the tests: an hour on 4 idle cores" >&2
 	@scripts/counted scripts/prove_all
 	@if command -v cc > /dev/null; then \
-	    scripts/counted scripts/refused_allocations && scripts/lib && scripts/counted scripts/c_short; fi
+	    scripts/counted scripts/refused_allocations && scripts/lib && scripts/counted c/tests/short_tests; fi
 	@if command -v valgrind > /dev/null; then scripts/counted bench/instructions "as written" --room 3; fi
 	@scripts/left_out
 
 # Tries the mutants in crates/*/wrong and crates/*/uncompiled, with what is built.
 mutants: build
 	@scripts/mutants
-	@scripts/uncompiled
+	@scripts/mutants --uncompiled
 
 install:
 	@test -x crates/fmp4/out/fmp4 || { echo "there is no crates/fmp4/out/fmp4: run 'make build' first" >&2; exit 1; }

@@ -9,7 +9,7 @@ import (
 	"testing/iotest"
 )
 
-// given is a stream and its cut by two samples, which scripts/c_tests makes by the program.
+// given is a stream and its cut by two samples, which c/tests/all_tests makes by the program.
 func given(t *testing.T) (stream, want []byte) { return givenAs(t, "FMP4_WANT") }
 
 // givenAs is the stream and another cut of it.
@@ -96,7 +96,7 @@ func TestReader(t *testing.T) {
 	}
 }
 
-// By 100 ms, as scripts/c_tests has the program cut it.
+// By 100 ms, as c/tests/all_tests has the program cut it.
 func TestDuration(t *testing.T) {
 	stream, want := givenAs(t, "FMP4_WANT_BY_TIME")
 	r, err := NewReader(bytes.NewReader(stream), Cut{DurationMS: 100, Flags: Keyframes})

@@ -16,7 +16,7 @@ import (
 	"time"
 )
 
-// given is a stream of one track of sound, and its cut by 100 ms, which scripts/c_tests makes by the program, without the
+// given is a stream of one track of sound, and its cut by 100 ms, which c/tests/all_tests makes by the program, without the
 // mfra that ends it.
 func given(t *testing.T) (stream, want []byte) {
 	stream, err := os.ReadFile(os.Getenv("FMP4_STREAM"))
