@@ -35,11 +35,6 @@ head-is x y xs ys h = cc
 pub tail-is : (x y : ℕ) (xs ys : List ℕ) → ◌≡◌ {A = List ℕ} (x ∷ xs) (y ∷ ys) → xs ≡ ys
 tail-is x y xs ys h = cc
 
--- no bytes have no output
-pub live-none : (task : Task) → live task [] ≡ []
-live-none (tasks.Fragments operation) = ap (λ (r : Reading). r.effects.text) (feeder_lemmas.reading-none operation)
-live-none tasks.Boxes = ap (λ (r : Reading). r.effects.text) (box_lemmas.reading-none 0)
-
 -- ---- the Feeder of an engine that holds so
 
 module _ (task : Task) (b given : List ℕ) (r : Run) (p : TaskFeeder) (is : r.feeding ≡ Some p) (h : Holds task b given r) where
@@ -75,20 +70,6 @@ grows l r r' here there = λ more a.
 module _ (b given input : List ℕ) (r r' : Run) (p p' : TaskFeeder) (l : Borrowed) (is' : r'.feeding ≡ Some p') (same : task_of p' ≡ task_of p) (grown : Grows l r r') where
   same-room : (more : List ℕ) → Appends l.written l.written' more → r'.waiting.room ≡ r.waiting.room
   same-room more a = (grown more a).0
-
-  -- no write changes the room
-  pub room-ok : Feeds {T = Unit {0}} b input p p' l (Ok tt) → r'.waiting.room ≡ r.waiting.room
-  room-ok feeds = same-room feeds.ok.1.effects.text feeds.ok.1.text
-
-  room-until : (e : Stop) → FedUntil (reading_of (task_of p)) b input l (held_by p) (sums_of p') e → r'.waiting.room ≡ r.waiting.room
-  room-until (Stream f) until = same-room until.0.effects.text until.0.text
-  room-until (Read at) until = absurd until
-  room-until Write until = same-room until.text.0 until.text.2
-  room-until OverLimit until = same-room until.0.effects.text until.0.text
-  room-until Memory until = same-room until.0.effects.text until.0.text
-
-  pub room-err : (e : Stop) → Feeds {T = Unit {0}} b input p p' l (Err e) → r'.waiting.room ≡ r.waiting.room
-  room-err e feeds = room-until e feeds.err.0
 
   module _ (text : given ++ r.waiting.bytes ≡ live (task_of p) b) where
     joined : (more : List ℕ) → Appends l.written l.written' more → given ++ r'.waiting.bytes ≡ live (task_of p) b ++ more

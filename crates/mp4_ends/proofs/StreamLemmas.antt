@@ -18,11 +18,6 @@ pub Appends-take_more : (a b c : Option (List ℕ)) (i n : ℕ) (xs : List ℕ)
     → Appends a b (take i xs) → Appends b c (take n (drop i xs)) → Appends a c (take (i + n) xs)
 Appends-take_more a b c i n xs p q = subst (Appends a c) (sym (take-add i n xs)) (Appends-trans a b c _ _ p q)
 
--- the first i of xs were taken, and then no more
-pub AppendsPrefix-take_kept : (a b c : Option (List ℕ)) (i : ℕ) (xs : List ℕ)
-    → Appends a b (take i xs) → Keeps b c → AppendsPrefix a c xs
-AppendsPrefix-take_kept a b c i xs p q = (take i xs, drop i xs, Appends-kept a b c (take i xs) p q, sym (take-append-drop i xs))
-
 -- all of the first bytes were taken, and a front of the next
 pub AppendsPrefix-more : (a b c : Option (List ℕ)) (bs cs : List ℕ) → Appends a b bs → AppendsPrefix b c cs → AppendsPrefix a c (bs ++ cs)
 AppendsPrefix-more a b c bs cs p (front, rest, q, e) =

@@ -35,6 +35,7 @@ use Rattle.mp4_machine.proofs.PastLemmas.{both-past}
 use Rattle.mp4_grammar.specs.Meanings.{FragmentEndsPast}
 use Rattle.mp4_grammar.proofs.PastLemmas.{after_moof-past, reads_past}
 use Rattle.mp4_fragment_machine.specs.Places.{InHeader, InBuffered, InMdatHeader, continuation_at, reads_at}
+use Rattle.mp4_machine.proofs.ReadingAskLemmas.{AtMost-same, AtMost-plus}
 
 module _ (meaning : Meaning) (c : Context) (kind : FourCc) (size : ℕ) (x : List ℕ) (len : length x ≡ size) where
   -- all of it came
@@ -81,21 +82,6 @@ module _ (meaning : Meaning) (o : Environment) (at number : ℕ) (kind : FourCc)
       → reads_at meaning (InBuffered (context at None number) kind size x) later ≡ after (both (requests_memory at (length x + 64 * length (moov_tracks at x))) (says (meaning.of_moov x))) (reads_in meaning (context (at + length x) (Some (moov_tracks at x)) number) later)
   moov-reads later good = reads-held meaning (context at None number) kind size x len later ∙ rw good refl
 
-  pub GoesOn-moov : 0 < size → meaning.of_moov x ≡ [] → moov_fault at x ≡ None
-      → GoesOn o (back_to (claimed_from o (64 * length (moov_tracks at x))) size) (continuation_at meaning (InBuffered (context at None number) kind size x)) [] (continuation_at meaning (InHeader (context (at + size) (Some (moov_tracks at x)) number) []))
-  GoesOn-moov some none good =
-      let n = 64 * length (moov_tracks at x) in
-      let sum : 0 + size + n ≡ length x + n = omega (arith, len) in
-      let effects : both (requests_memory at (length x + n)) no_effects ≡ both (requests_memory at (length x + n)) (says (meaning.of_moov x)) = ap (λ l. both (requests_memory at (length x + n)) (says l)) (sym none) in
-      record {
-        produced = both (requests_memory at (length x + n)) (says (meaning.of_moov x));
-        moves = subst (Moves o (back_to (claimed_from o n) size) (0 + size) n) effects
-            (Moves-more (omega (arith, low)) (subst (λ k. Moves o (claimed_from o n) (0 + size) (0 + size + n) (requests_memory at k)) sum (Moves-claim o (0 + size) n at (omega (arith, low)) (omega (arith, some))))
-            (subst (λ k. Moves (claimed_from o n) (back_to (claimed_from o n) size) (0 + size + n) k no_effects) (omega arith) (Moves-back (claimed_from o n) (0 + size + n) size (omega arith) (omega (arith, low)))));
-        reached = omega (arith, len);
-        rest = λ later. moov-reads later good ∙ ap (λ k. after (both (requests_memory at (length x + n)) (says (meaning.of_moov x))) (reads_in meaning (context (at + k) (Some (moov_tracks at x)) number) later)) len;
-      }
-
   -- and it is put, as it is written
   pub GoesOn-moov_put : 0 < size → moov_fault at x ≡ None → (u : Option (List ℕ)) (v : Pending) → Passes o.written u o.waiting v (meaning.of_moov x)
       → GoesOn o (environment u v (back_to (claimed_from o (64 * length (moov_tracks at x))) size).account o.tally) (continuation_at meaning (InBuffered (context at None number) kind size x)) [] (continuation_at meaning (InHeader (context (at + size) (Some (moov_tracks at x)) number) []))
@@ -134,8 +120,8 @@ module _ (meaning : Meaning) (o : Environment) (at number : ℕ) (kind : FourCc)
         text = subst (λ q. BreaksMarked o.written u o.waiting v q.effects.text q.effects.fragment_ends) (sym e) (BreaksMarked-longer rest.effects.text rest.effects.fragment_ends p);
         spends = subst (λ q. Spends o.account account (0 + size) 0 (most_of q.effects)) (sym e)
             (Spends-more o.account account (0 + size) 0 (most_of (both (requests_memory at (length x + n)) no_effects)) (most_of (after t rest).effects) (omega arith) (Spends-counts o.account account (0 + size) 0 (most_of (both (requests_memory at (length x + n)) no_effects)) all.counts));
-        least = record { fragments = omega arith; samples = omega arith; media_bytes = omega arith; inspected = omega arith };
-        most = record { fragments = omega arith; samples = omega arith; media_bytes = omega arith; inspected = omega arith };
+        least = AtMost-same o.tally;
+        most = AtMost-plus o.tally _;
       }
 
   -- their table is refused

@@ -11,7 +11,7 @@ use Rattle.mp4_frag.specs.Moofs.{fault_before_times, moof_samples}
 use Rattle.mp4_traf.specs.Runs.{MoofBytes}
 use Rattle.mp4_pieces.specs.declared.cut.Cut.{Cut}
 use Rattle.mp4_machine.specs.Bodies.{least_end, longest}
-use Rattle.mp4_machine.specs.Readings.{plus}
+use Rattle.mp4_machine.specs.Readings.{plus, accepts}
 use Rattle.mp4_grammar.specs.Items.{end_of, inspected}
 use Rattle.mp4_grammar.specs.declared.command.Command.{Command}
 use Rattle.mp4_grammar.specs.declared.command.Command.TheVariants.{Samples, Fragments, Records, Check}
@@ -101,7 +101,7 @@ counted_judged operation c c' h tracks at size i some near few tally rows none =
 -- ---- a fragment whose mdat is accepted
 
 -- it is counted, and its samples were read once more where they are listed
-pub counted_emitted : (command : Command) (c c' : Counter) (b b' n m : ℕ) → IsCounted (operations.List command) c b n n → n ≤ 1000000 → (b + 1 ≤ b') × (b + m ≤ b') × (b' ≤ most_counted) → c'.tally ≡ plus c.tally (record { fragments = 1; samples = n; media_bytes = m; inspected = 0 }) → c'.steps.rows ≡ c.steps.rows + listed_by (operations.List command) n
+pub counted_emitted : (command : Command) (c c' : Counter) (b b' n m : ℕ) → IsCounted (operations.List command) c b n n → n ≤ 1000000 → (b + 1 ≤ b') × (b + m ≤ b') × (b' ≤ most_counted) → c'.tally ≡ plus c.tally (accepts n m) → c'.steps.rows ≡ c.steps.rows + listed_by (operations.List command) n
     → IsCounted (operations.List command) c' b' 0 n
 counted_emitted command c c' b b' n m i few room tally read =
     let f = ap (λ t. t.fragments) tally in
@@ -211,13 +211,13 @@ media_bound at next m h ToEnd p is start end room some near within most = (omega
 module _ (at next n s m : ℕ) (h : Header) (p : Payload) (is : next ≡ at) (start : p.start ≡ next + h.header_len) (end : p.end ≡ end_of next h.size) (room : HasRoom h.size h.header_len) (some : 0 < h.header_len) (near : least_end at h h.size ≤ longest)
     (within : (e : ℕ) → p.end ≡ Some e → p.start + m ≤ e) (most : m ≤ 2 ^ 63) (samples : s ≡ n) (few : s ≤ 1000000) where
   -- it is counted, and listed where that is asked for
-  pub counted_listed : (command : Command) (c c' : Counter) → IsCounted (operations.List command) c at n n → c'.tally ≡ plus c.tally (record { fragments = 1; samples = s; media_bytes = m; inspected = 0 }) → c'.steps.rows ≡ c.steps.rows + listed_by (operations.List command) n
+  pub counted_listed : (command : Command) (c c' : Counter) → IsCounted (operations.List command) c at n n → c'.tally ≡ plus c.tally (accepts s m) → c'.steps.rows ≡ c.steps.rows + listed_by (operations.List command) n
       → IsCounted (operations.List command) c' (bound_after at h.size) 0 n
   counted_listed command c c' i tally read = counted_emitted command c c' at (bound_after at h.size) n m i (omega (arith, samples, few)) (media_bound at next m h h.size p is start end room some near within most)
-      (tally ∙ ap (λ k. plus c.tally (record { fragments = 1; samples = k; media_bytes = m; inspected = 0 })) samples) read
+      (tally ∙ ap (λ k. plus c.tally (accepts k m)) samples) read
 
   -- it is counted, and begun to be recut
-  pub counted_begun : (cut : Cut) (c c' : Counter) (k : ℕ) → c'.tally.fragments + 1 ≤ 2 ^ 32 → c'.tally ≡ record { fragments = c'.tally.fragments; samples = c.tally.samples + n; media_bytes = c.tally.media_bytes + k; inspected = c.tally.inspected } → m ≡ k
+  pub counted_begun : (cut : Cut) (c c' : Counter) (k : ℕ) → c'.tally.fragments + 1 ≤ 2 ^ 32 → c'.tally ≡ record c.tally { fragments = c'.tally.fragments; samples = c.tally.samples + n; media_bytes = c.tally.media_bytes + k } → m ≡ k
       → c.steps.rows + cut_least cut.index s ≤ c'.steps.rows → c'.steps.rows ≤ c.steps.rows + cut_most cut.index s → IsCounted (operations.Split cut) c at n n → IsCounted (operations.Split cut) c' (bound_after at h.size) 0 n
   counted_begun cut c c' k fits tally bytes low high i = counted_split cut c c' at (bound_after at h.size) n m i (omega (arith, samples, few)) (media_bound at next m h h.size p is start end room some near within most) fits
       (ap (λ t. t.samples) tally) (ap (λ t. t.media_bytes) tally ∙ ap (λ q. c.tally.media_bytes + q) (sym bytes)) (ap (λ t. t.inspected) tally) (rw samples at low) (rw samples at high)

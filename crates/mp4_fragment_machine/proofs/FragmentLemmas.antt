@@ -44,7 +44,7 @@ use Rattle.mp4_grammar.specs.declared.kinds.Kind.TheVariants.{Moof, Mdat}
 use Rattle.mp4_machine.specs.Bodies.{longest}
 use Rattle.mp4_machine.specs.Blocks.{Breaks, Passes, Pending}
 use Rattle.mp4_machine.specs.Inputs.{Environment, GoesOn, StopsAt, environment}
-use Rattle.mp4_machine.specs.Readings.{plus}
+use Rattle.mp4_machine.specs.Readings.{plus, accepts}
 use Rattle.mp4_machine.specs.declared.stop.Stop.TheVariants.{Write}
 use Rattle.mp4_machine.specs.declared.tally.Tally.{Tally}
 use Rattle.mp4_fragment_machine.specs.Places.{InHeader, continuation_at}
@@ -56,6 +56,7 @@ use Rattle.mp4_fragment_machine.specs.declared.in_place.Boxes.{Boxes}
 use Rattle.mp4_fragment_machine.specs.declared.in_place.Span.{Span}
 use Rattle.mp4_fragment_machine.proofs.MediaLemmas.{AreIn, media_in}
 use Rattle.mp4_fragment_machine.proofs.InPlaceLemmas.{GoesOn-whole, StopsAt-whole, front_is}
+use Rattle.mp4_machine.proofs.ReadingAskLemmas.{same_tally}
 
 -- ---- a box at the front
 
@@ -102,15 +103,9 @@ module _ (p : Payload) (run : Run) (is_placed : place_fault p (run ∷ []) ≡ N
 -- ---- a fragment
 
 -- samples that were inspected
-pub inspected_more : (t : Tally) (h : MoofBytes) (n : ℕ) → n ≡ moof_samples h → record { fragments = t.fragments; samples = t.samples; media_bytes = t.media_bytes; inspected = t.inspected + n } ≡ plus t (inspected h)
+pub inspected_more : (t : Tally) (h : MoofBytes) (n : ℕ) → n ≡ moof_samples h → record t { inspected = t.inspected + n } ≡ plus t (inspected h)
 inspected_more t h n e =
-    let f : t.fragments ≡ t.fragments + 0 = omega arith in
-    let s : t.samples ≡ t.samples + 0 = omega arith in
-    let m : t.media_bytes ≡ t.media_bytes + 0 = omega arith in
-    ap (λ k. record { fragments = k; samples = t.samples; media_bytes = t.media_bytes; inspected = t.inspected + n }) f
-    ∙ ap (λ k. record { fragments = t.fragments + 0; samples = k; media_bytes = t.media_bytes; inspected = t.inspected + n }) s
-    ∙ ap (λ k. record { fragments = t.fragments + 0; samples = t.samples + 0; media_bytes = k; inspected = t.inspected + n }) m
-    ∙ ap (λ k. record { fragments = t.fragments + 0; samples = t.samples + 0; media_bytes = t.media_bytes + 0; inspected = t.inspected + k }) e
+    same_tally (omega arith) (omega arith) (omega arith) (ap (λ k. t.inspected + k) e)
 
 module _ (h : MoofBytes) (tracks : List Track) (l : SingleRun) (single_run : IsSingle h tracks l) where
   pub one_taken : taken_runs h tracks ≡ l.run ∷ []
@@ -240,7 +235,7 @@ module _ (at : ℕ) (tracks : List Track) (input : List ℕ) (b : Boxes) (l : Si
 
   -- it is counted, and no sample waits
   pub counted_in_place : (command : Command) (c c' : Counter) (n k : ℕ) → IsCounted (operations.List command) c at 0 0 → n ≡ l.run.count → k ≡ l.run.count
-      → c'.tally ≡ plus (record { fragments = c.tally.fragments; samples = c.tally.samples; media_bytes = c.tally.media_bytes; inspected = c.tally.inspected + n }) (record { fragments = 1; samples = k; media_bytes = l.run.bytes; inspected = 0 })
+      → c'.tally ≡ plus (record c.tally { inspected = c.tally.inspected + n }) (accepts k l.run.bytes)
       → c'.steps.rows ≡ c.steps.rows + 2 * k + listed_by (operations.List command) k → IsCounted (operations.List command) c' (at + length b.moof.now + b.mdat.size) 0 0
   counted_in_place command c c' n k i all one tally rows =
       let h = moof_at b.moof.now at in
@@ -249,7 +244,7 @@ module _ (at : ℕ) (tracks : List Track) (input : List ℕ) (b : Boxes) (l : Si
       let c1 : Counter = record { tally = plus c.tally (inspected h); steps = record { rows = c.steps.rows + (k + k) } } in
       let near : at + is.boxes.span.size ≤ longest = is.boxes.moof.near in
       let waits : IsCounted (operations.List command) c1 (at + is.boxes.span.size) k k = counted_moof (operations.List command) c c1 h at is.boxes.span.size (k + k) k i (some_moof at input b is.boxes) near (omega (arith, same, few)) refl refl (omega (arith, same)) (omega (arith, same)) in
-      let sum = tally ∙ ap (λ t. plus t (record { fragments = 1; samples = k; media_bytes = l.run.bytes; inspected = 0 })) (inspected_more c.tally h n (all ∙ is.single_run.samples)) in
+      let sum = tally ∙ ap (λ t. plus t (accepts k l.run.bytes)) (inspected_more c.tally h n (all ∙ is.single_run.samples)) in
       let effects : IsCounted (operations.List command) c' (at + is.boxes.span.size + b.mdat.size) 0 k = counted_emitted command c1 c' (at + is.boxes.span.size) (at + is.boxes.span.size + b.mdat.size) k l.run.bytes waits few
       (omega (arith, media_fits), omega (arith, media_fits), omega (arith, is.boxes.mdat.near)) sum (omega (arith, rows)) in
       subst (λ z. IsCounted (operations.List command) c' (at + z + b.mdat.size) 0 0) (sym len_is) (counted_later (operations.List command) c' (at + is.boxes.span.size + b.mdat.size) (at + is.boxes.span.size + b.mdat.size) k 0 (omega arith) (omega arith) (omega (arith, is.boxes.mdat.near)) effects)

@@ -3,9 +3,8 @@ use Rattle.std.proofs.Common.{◌≡◌, ◌⊎◌, ◌∙◌, ◌^◌, ℕ, ℤ
 use Rattle.std.specs.List.{AllByRecursion, flat_map}
 use Rattle.mp4_box.specs.Paths.{of_kind}
 use Rattle.mp4_box.specs.Trees.{Box, children}
-use Rattle.mp4_box.specs.declared.headers.Header.{Header}
 use Rattle.mp4_box.specs.declared.headers.Size.{Size}
-use Rattle.mp4_box.specs.declared.headers.Size.TheVariants.{Exact, ToEnd}
+use Rattle.mp4_box.specs.declared.headers.Size.TheVariants.{Exact}
 use Rattle.mp4_init.specs.declared.table.Track.{Track}
 use Rattle.mp4_traf.specs.Kinds.{traf}
 use Rattle.mp4_traf.specs.Ranges.{IsSound}
@@ -18,7 +17,6 @@ use Rattle.mp4_frag.specs.Moofs.{moof_of, sequence_of}
 use Rattle.mp4_frag.specs.SingleRuns.{IsSingle}
 use Rattle.mp4_frag.specs.declared.single_run.SingleRun.{SingleRun}
 use Rattle.mp4_machine.specs.Blocks.{Pending}
-use Rattle.mp4_machine.specs.Bodies.{least_end, longest}
 use Rattle.mp4_machine.specs.Ends.{Sent}
 use Rattle.mp4_machine.specs.Puts.{HasPut}
 use Rattle.mp4_fragment_machine.specs.Implementation.TrafLines.{moof_lines, put_of, put_with, size_with}
@@ -55,11 +53,6 @@ size_is at len s = let e : len + s ≡ at + len + s - at = omega arith in ap Som
 
 pub size_stated : (at len n s : ℕ) (size : Size) → size ≡ Exact s → n ≡ len + s → Some n ≡ size_with at len size
 size_stated at len n s size is all = rw is (ap Some all ∙ size_is at len s)
-
--- a header that ends in time after an offset does so at the start
-pub near_start : (at len : ℕ) (h : Header) (s : Size) → least_end (at + len) h s ≤ longest → least_end len h s ≤ longest
-near_start at len h (Exact s) e = omega (arith, e)
-near_start at len h ToEnd e = omega (arith, e)
 
 -- ---- lines and records alike
 

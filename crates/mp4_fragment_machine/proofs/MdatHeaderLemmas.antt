@@ -74,9 +74,6 @@ module _ (meaning : Meaning) (number : ℕ) (o : Environment) (w : PendingMoof) 
   pub claims_after : (x : List ℕ) → (waits x).claim ≡ table_of tracks + taken_by (Some w)
   claims_after x = omega (arith, i.size, i.len, ap table_of i.is_known)
 
-  pub low_after : (x : List ℕ) → (waits x).claim ≤ o.account.live
-  low_after x = omega (arith, claims_after x, claimed_apart tracks (Some w), low)
-
   -- bytes of the header after it
   pub GoesOn-after_head : (buffered x new : List ℕ) → new ≡ buffered ++ x → GoesOn o o (waits buffered) x (waits new)
   GoesOn-after_head buffered x new e =

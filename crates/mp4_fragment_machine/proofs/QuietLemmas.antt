@@ -51,23 +51,11 @@ module _ (meaning : Meaning) where
 -- ---- the fault of a stream that ends there (in a header: `ends-header` and `ends-none` of HeadLemmas)
 
 module _ (meaning : Meaning) where
-  pub ends-held : (c : Context) (kind : FourCc) (size : ℕ) (buffered : List ℕ) → length buffered < size → fault_in (reads_at meaning (InBuffered c kind size buffered) []).outcome ≡ Some (fault Truncated (Some kind) c.at)
-  ends-held c kind size buffered short = ap (λ r. fault_in r.outcome) (held-ended meaning c kind size buffered short)
-
   pub ends-after : (c : Context) (tracks : List Track) (m buffered : List ℕ) → 0 < length buffered → length buffered < need buffered → fault_in (reads_at meaning (InMdatHeader c tracks m buffered) []).outcome ≡ Some (fault Truncated (kind_of buffered) (c.at + length m))
   ends-after c tracks m buffered some short = ap (λ r. fault_in r.outcome) (after-ended meaning c tracks m buffered some short)
 
   pub ends-missing : (c : Context) (tracks : List Track) (m buffered : List ℕ) → buffered ≡ [] → fault_in (reads_at meaning (InMdatHeader c tracks m buffered) []).outcome ≡ Some (fault MdatMissing (Some moof) c.at)
   ends-missing c tracks m buffered none = ap (λ l. fault_in (reads_at meaning (InMdatHeader c tracks m l) []).outcome) none ∙ ap (λ r. fault_in r.outcome) (after-missing meaning c tracks m)
-
-  pub ends-body : (emit : List ℕ → Effects) (at : ℕ) (kind : FourCc) (next : Context) (left own : ℕ) → 0 < left → fault_in (reads_at meaning (InBody emit at kind next left own) []).outcome ≡ Some (fault Truncated (Some kind) at)
-  ends-body emit at kind next left own some = ap (λ r. fault_in r.outcome) (body-ended meaning emit at kind next left own some)
-
-  pub ends-open : (emit : List ℕ → Effects) (at : ℕ) (kind : FourCc) (needed left own : ℕ) → needed ≡ 0 → fault_in (reads_at meaning (InOpenBody emit at kind needed left own) []).outcome ≡ None
-  ends-open emit at kind needed left own none = ap (λ r. fault_in r.outcome) (open-ended meaning emit at kind needed left own none)
-
-  pub ends-short : (emit : List ℕ → Effects) (at : ℕ) (kind : FourCc) (needed left own : ℕ) → 0 < needed → fault_in (reads_at meaning (InOpenBody emit at kind needed left own) []).outcome ≡ Some (fault Truncated (Some kind) at)
-  ends-short emit at kind needed left own some = ap (λ r. fault_in r.outcome) (open-short meaning emit at kind needed left own some)
 
 -- some byte came
 pub some_bytes : (x : List ℕ) → (x ≡ [] → ⊥) → 0 < length x

@@ -64,6 +64,7 @@ use Rattle.mp4_machine.proofs.HeadLemmas.{front-is, front-len}
 use Rattle.mp4_machine.proofs.StepLemmas.{GoesOn-then}
 use Rattle.mp4_fragment_machine.proofs.InPlaceLemmas.{GoesOn-moof_whole, back_at_once, claimed_at_once, front_is, listed}
 use Rattle.mp4_init.specs.Tracks.{with_next}
+use Rattle.mp4_machine.proofs.ReadingAskLemmas.{same_tally}
 
 -- nothing was written yet
 pub Outputs-none : (a : Option (List ℕ)) (v : Pending) (n : ℕ) (p : MediaPosition) → Outputs a a v v n n p [] p
@@ -76,14 +77,6 @@ Outputs-none a v n p = record {
   };
   rest = λ later. sym (silent-both (output_from p later));
 }
-
--- a tally by its parts
-tally_is : (t : Tally) {a b c d : ℕ} → t.fragments ≡ a → t.samples ≡ b → t.media_bytes ≡ c → t.inspected ≡ d → t ≡ record { fragments = a; samples = b; media_bytes = c; inspected = d }
-tally_is t {a = a} {b = b} {c = c} {d = d} e f g h =
-    ap (λ k. record { fragments = k; samples = t.samples; media_bytes = t.media_bytes; inspected = t.inspected }) e
-    ∙ ap (λ k. record { fragments = a; samples = k; media_bytes = t.media_bytes; inspected = t.inspected }) f
-    ∙ ap (λ k. record { fragments = a; samples = b; media_bytes = k; inspected = t.inspected }) g
-    ∙ ap (λ k. record { fragments = a; samples = b; media_bytes = c; inspected = k }) h
 
 -- the effects of a body of which all bytes came
 pub body-all : (meaning : Meaning) (emit : List ℕ → Effects) (at : ℕ) (kind : FourCc) (next : Context) (x later : List ℕ) → then_read (reads_in meaning) (body_item emit at kind next (length x) (x ++ later)) ≡ after (emit x) (reads_in meaning next later)
@@ -290,7 +283,7 @@ module _ (cut : Cut) (o : Environment) (at : ℕ) (tracks : List Track) (input :
         let ended = 64 * length (settled tracks (moof_trafs (moof_at m at) tracks)) in
         let n = length b.moof.now + b.mdat.size in
         let back = Moves-settled accepted_of (64 * length tracks) (length m) (64 * length (moof_runs (moof_at m at) tracks)) ended (ap (λ k. 64 * k) (settled_length tracks (moof_trafs (moof_at m at) tracks))) low_claim in
-        let tallied = tally_is t (omega (arith, fragments)) (omega (arith, samples, is.single_run.samples)) (omega (arith, media, bytes_of)) (omega (arith, inspects, is.single_run.samples)) in
+        let tallied = same_tally {s = t} (omega (arith, fragments)) (omega (arith, samples, is.single_run.samples)) (omega (arith, media, bytes_of)) (omega (arith, inspects, is.single_run.samples)) in
         let moves : Moves accepted_of o' own ended (output_from (first_position cut f) payload) =
         subst (Moves accepted_of o' own ended) (sym effects) (record { passes = passes; counts = subst (λ k. Counts listed_of.account k own ended 0) back_of back.counts; tallied = tallied }) in
         let to_end = GoesOn-all meaning (at + length m) g.kind accepted_of o' (first_position cut f) after_it own payload (omega (arith, len)) moves in
@@ -324,7 +317,7 @@ module _ (cut : Cut) (o : Environment) (at : ℕ) (tracks : List Track) (input :
             ∙ append_assoc payload (z ++ more) later
 
         counted_so : with_samples f listed_of.tally t.fragments ≡ t
-        counted_so = sym (tally_is t refl (omega (arith, samples, is.single_run.samples)) (omega (arith, media, bytes_of)) (omega (arith, inspects, is.single_run.samples)))
+        counted_so = sym (same_tally {s = t} refl (omega (arith, samples, is.single_run.samples)) (omega (arith, media, bytes_of)) (omega (arith, inspects, is.single_run.samples)))
 
         given : given_back listed_of.account own ≡ given_back a (64 * length tracks)
         given =

@@ -20,7 +20,7 @@ use Rattle.mp4_fragment_machine.proofs.BufferedBoxLemmas.{Moves-all_back}
 use Rattle.mp4_machine.proofs.AccountLemmas.{Counts-none, Counts-back, Spends-counts, Spends-more}
 use Rattle.mp4_machine.specs.Ends.{Sent}
 use Rattle.mp4_machine.specs.Blocks.{BreaksMarked, Passes, PassesMarked, Pending}
-use Rattle.mp4_machine.proofs.ReadingAskLemmas.{plus-none}
+use Rattle.mp4_machine.proofs.ReadingAskLemmas.{plus-none, same_tally}
 use Rattle.mp4_machine.proofs.BodyLemmas.{body-over, body-some, open-far, open-some}
 use Rattle.mp4_machine.proofs.ReadingLemmas.{after-both, after-silent, both-silent, then_read-emitted}
 use Rattle.std.specs.List.{AllByRecursion, sum_by}
@@ -56,6 +56,7 @@ use Rattle.mp4_fragment_machine.specs.Places.{InBody, InHeader, InMdatHeader, In
 use Rattle.mp4_fragment_machine.specs.States.{RisesIn, in_extent, moof_in}
 use Rattle.mp4_fragment_machine.specs.declared.pending_moof.PendingMoof.{PendingMoof}
 use Rattle.mp4_fragment_machine.proofs.SecondLemmas.{second-accepted}
+use Rattle.mp4_fragment_machine.proofs.TallyLemmas.{least_with_fragments, least_with_samples, most_with_fragments, most_with_samples}
 
 module _ (a b : Option (List ℕ)) (v w : Pending) (tally : Tally) (n : ℕ) where
   tally_more : {t : Effects} → Emits a b v w tally.fragments n t → with_fragments tally n ≡ plus tally t.tally
@@ -63,10 +64,7 @@ module _ (a b : Option (List ℕ)) (v w : Pending) (tally : Tally) (n : ℕ) whe
       let samples : tally.samples ≡ tally.samples + t.tally.samples = omega (arith, s.plain.samples) in
       let media : tally.media_bytes ≡ tally.media_bytes + t.tally.media_bytes = omega (arith, s.plain.media) in
       let inspected : tally.inspected ≡ tally.inspected + t.tally.inspected = omega (arith, s.plain.inspected) in
-      ap (with_fragments tally) s.counted
-      ∙ ap (λ k. record { fragments = tally.fragments + t.tally.fragments; samples = k; media_bytes = tally.media_bytes; inspected = tally.inspected }) samples
-      ∙ ap (λ k. record { fragments = tally.fragments + t.tally.fragments; samples = tally.samples + t.tally.samples; media_bytes = k; inspected = tally.inspected }) media
-      ∙ ap (λ k. record { fragments = tally.fragments + t.tally.fragments; samples = tally.samples + t.tally.samples; media_bytes = tally.media_bytes + t.tally.media_bytes; inspected = k }) inspected
+      same_tally s.counted samples media inspected
 
   -- fragments alone were counted
   pub Moves-emits : {t : Effects} (account : Account) (own : ℕ) → Emits a b v w tally.fragments n t → Moves (environment a v account tally) (environment b w account (with_fragments tally n)) own own t
@@ -84,8 +82,8 @@ module _ (a b : Option (List ℕ)) (v w : Pending) (tally : Tally) (n : ℕ) whe
       record {
         text = subst (λ t. BreaksMarked a b v w t.text t.fragment_ends) (sym e) (BreaksMarked-longer more.text more.fragment_ends f.text);
         spends = Spends-more account (given_back account own) own 0 0 (most_of r.effects) (omega arith) spent;
-        least = record { fragments = f.least; samples = omega arith; media_bytes = omega arith; inspected = omega arith };
-        most = subst (λ t. AtMost (with_fragments tally n) (plus tally t.tally)) (sym e) (record { fragments = omega (arith, f.most); samples = omega arith; media_bytes = omega arith; inspected = omega arith });
+        least = least_with_fragments tally n f.least;
+        most = subst (λ t. AtMost (with_fragments tally n) (plus tally t.tally)) (sym e) (most_with_fragments tally (both s more).tally n (omega (arith, f.most)));
       }
 
   module _ (meaning : Meaning) (at : ℕ) (kind : FourCc) (next : Context) (own : ℕ) (account : Account) where
@@ -171,10 +169,7 @@ module _ (cut : Cut) (c : Context) (tracks : List Track) (moof x : List ℕ) (h 
           let bytes = sum_by (λ (run : Run). run.bytes) (runs_in begun_in) in
           let media : tally.media_bytes + bytes ≡ tally.media_bytes + (bytes + g.effects.tally.media_bytes) = omega (arith, g.emits.plain.media) in
           let inspected : tally.inspected ≡ tally.inspected + (0 + g.effects.tally.inspected) = omega (arith, g.emits.plain.inspected) in
-          ap (λ k. with_samples begun_in tally k) fragments
-          ∙ ap (λ k. record { fragments = tally.fragments + (0 + g.effects.tally.fragments); samples = k; media_bytes = tally.media_bytes + bytes; inspected = tally.inspected }) samples
-          ∙ ap (λ k. record { fragments = tally.fragments + (0 + g.effects.tally.fragments); samples = tally.samples + (moof_samples begun_in.moof + g.effects.tally.samples); media_bytes = k; inspected = tally.inspected }) media
-          ∙ ap (λ k. record { fragments = tally.fragments + (0 + g.effects.tally.fragments); samples = tally.samples + (moof_samples begun_in.moof + g.effects.tally.samples); media_bytes = tally.media_bytes + (bytes + g.effects.tally.media_bytes); inspected = k }) inspected
+          same_tally fragments samples media inspected
 
   -- ---- a write failed as the heads were put
 
@@ -202,8 +197,8 @@ module _ (cut : Cut) (c : Context) (tracks : List Track) (moof x : List ℕ) (h 
       record {
         text = subst (λ t. BreaksMarked a b v w t.text t.fragment_ends) (sym e) (subst (BreaksMarked a b v w (s.text ++ more.text)) (sym (moved-none (s.fragment_ends ++ moved (length s.text) more.fragment_ends))) (BreaksMarked-longer more.text more.fragment_ends f.text));
         spends = Spends-more account (given_back account own) own 0 0 (most_of r.effects) (omega arith) spent;
-        least = record { fragments = f.least; samples = omega arith; media_bytes = omega arith; inspected = omega arith };
-        most = subst (λ t. AtMost (with_samples begun_in tally n) (plus tally t.tally)) (sym e) (record { fragments = omega (arith, f.most); samples = omega arith; media_bytes = omega arith; inspected = omega arith });
+        least = least_with_samples begun_in tally n f.least;
+        most = subst (λ t. AtMost (with_samples begun_in tally n) (plus tally t.tally)) (sym e) (most_with_samples begun_in tally (both ((splitting cut).accepted begun_in) (both s more)).tally n (omega (arith, f.most)) (omega arith) (omega arith));
       }
 
   WriteFailed-begun : (a b : Option (List ℕ)) (v w : Pending) (tally : Tally) (n own : ℕ) (account : Account) → own ≤ account.live → ((y : List ℕ) → WriteFailedIn a b v w tally.fragments n (output_of begun_in.payload.start (output_fragments cut begun_in) y)) → (l : List ℕ)

@@ -1,10 +1,6 @@
 -- Bytes that a machine takes from the front of the input.
-use Rattle.std.proofs.Common.{◌≡◌, ℕ, ◌+◌, ◌≤◌, List, ◌++◌, length, refl, arith}
+use Rattle.std.proofs.Common.{ℕ, ◌+◌, List, ◌++◌, refl}
 use Rattle.mp4_box.specs.declared.headers.FourCc.{FourCc}
-use Rattle.mp4_box.specs.declared.headers.Header.{Header}
-use Rattle.mp4_box.specs.declared.headers.Step.TheVariants as steps
-use Rattle.mp4_box.specs.Headers.{header_at, need}
-use Rattle.mp4_box.proofs.HeaderLemmas.{bad_is, whole_is}
 use Rattle.mp4_machine.specs.Inputs.{Environment, GoesOn}
 use Rattle.mp4_machine.specs.Readings.{then_read}
 use Rattle.mp4_machine.proofs.ContinuationLemmas.{GoesOn-gathered}
@@ -17,10 +13,3 @@ use Rattle.mp4_fragment_machine.specs.Places.{InBuffered, continuation_at}
 pub GoesOn-held : (meaning : Meaning) (o : Environment) (c : Context) (kind : FourCc) (size : ℕ) (buffered x : List ℕ) → GoesOn o o (continuation_at meaning (InBuffered c kind size buffered)) x (continuation_at meaning (InBuffered c kind size (buffered ++ x)))
 GoesOn-held meaning o c kind size buffered x =
     GoesOn-gathered o (λ l. then_read (reads_in meaning) (buffered_body meaning c kind size l)) c.at (table_of c.tracks + size) buffered x (buffered ++ x) refl
-
--- bytes that are no header, or are one, are just those that are needed
-pub len_of_bad : (x : List ℕ) → length x ≤ need x → header_at x ≡ steps.BadSize → length x ≡ need x
-len_of_bad x most e = omega (arith, most, bad_is x e)
-
-pub len_of_whole : (x : List ℕ) (h : Header) → length x ≤ need x → header_at x ≡ steps.Whole h → length x ≡ need x
-len_of_whole x h most e = omega (arith, most, (whole_is x h e).0)

@@ -1,7 +1,7 @@
 //! What a machine has counted.
 
 ghost use Rattle.std.specs.Prelude.{◌≡◌, ◌+◌, ◌<◌, ◌^◌};
-ghost use Rattle.mp4_machine.specs.Readings.{plus};
+ghost use Rattle.mp4_machine.specs.Readings.{accepts, plus};
 
 use mp4_frag::Steps;
 use mp4_machine::Tally;
@@ -19,7 +19,7 @@ pub(crate) fn count(counter: &mut Counter, samples: u64, bytes: u64)
     requires samples { counter.old.tally.samples + samples < 2 ^ 128 }
     requires media { counter.old.tally.media_bytes + bytes < 2 ^ 64 }
     ensures tally { counter.new.tally ≡ plus counter.old.tally
-        (record { fragments = 1; samples = samples; media_bytes = bytes; inspected = 0 }) }
+        (accepts samples bytes) }
     ensures steps { counter.new.steps ≡ counter.old.steps }
 {
     counter.tally.fragments += 1;

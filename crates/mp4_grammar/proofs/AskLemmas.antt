@@ -1,7 +1,7 @@
 -- What holds of each box that asks for memory, by what holds of the items, whatever the items are.
 use Rattle.std.proofs.Common.{◌≡◌, ◌∙◌, ℕ, zero, suc, ◌+◌, ◌-◌, ◌≤◌, List, [], ◌∷◌, ◌++◌, length, take, ap, sym, refl, arith, subst}
 use Rattle.std.proofs.Math.Seq.{take-append-add}
-use Rattle.mp4_machine.specs.Readings.{Request, shifted_by, shifted, Effects, plus, uncounted, Reading, FirstItem, Last, Whole, after, after_effects, then_read, read_all}
+use Rattle.mp4_machine.specs.Readings.{Request, shifted_by, shifted, Effects, plus, uncounted, Reading, FirstItem, Last, Whole, after, after_effects, then_read, read_all, inspects}
 use Rattle.mp4_machine.specs.declared.tally.Tally.{Tally}
 use Rattle.mp4_machine.proofs.ReadingLemmas.{Below, Below-more, IsItemwise, read_all-front}
 use Rattle.mp4_machine.proofs.PastLemmas.{effects_of}
@@ -64,6 +64,9 @@ pub record IsCountBefore {C : Type 0} (reads : C → List ℕ → Reading) (at :
 pub record IsCountedFirst (at : ℕ) (a : Request) : Type 0 where
   pub place : a.at ≡ at
   pub counted : IsUncounted a.counted
+
+pub IsUncounted-inspects : (n : ℕ) → IsUncounted (inspects n)
+IsUncounted-inspects n = record { fragments = refl; samples = refl; media_bytes = refl }
 
 inspects-first : (t : Tally) → IsUncounted t → InspectsOn uncounted t
 inspects-first t u = record { fragments = u.fragments; samples = u.samples; media_bytes = u.media_bytes; inspected = omega arith }

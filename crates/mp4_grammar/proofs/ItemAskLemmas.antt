@@ -12,7 +12,7 @@ use Rattle.mp4_box.specs.Headers.{header_at}
 use Rattle.mp4_box.specs.Order.{least}
 use Rattle.mp4_init.specs.Moovs.{moov_fault}
 use Rattle.mp4_init.specs.declared.table.Track.{Track}
-use Rattle.mp4_frag.specs.Moofs.{fault_before_times, moof_trafs, time_faults}
+use Rattle.mp4_frag.specs.Moofs.{fault_before_times, moof_samples, moof_trafs, time_faults}
 use Rattle.mp4_traf.specs.Runs.{moof_at}
 use Rattle.mp4_machine.specs.Bodies.{least_end, longest, body_item, open_body_item}
 use Rattle.mp4_machine.specs.Readings.{Request, Effects, counts, requests_memory, FirstItem, after_effects}
@@ -24,7 +24,7 @@ use Rattle.mp4_grammar.specs.Kinds.{kind_in, most_moof, most_moov}
 use Rattle.mp4_grammar.specs.Contexts.{Context, context, table_of}
 use Rattle.mp4_grammar.specs.Meanings.{Fragment, Meaning, fragment_fault, needed_in}
 use Rattle.mp4_grammar.specs.Items.{media_body, context_after_fragment, fragment, mdat_by, second_by, second, after_moof_by, after_moof, moov_box, inspected, with_runs, timed_box, moof_box, whole_box_by, buffered_body, keeping, passing, box_in, box_from, item_by, item}
-use Rattle.mp4_grammar.proofs.AskLemmas.{Each-append, Each-shifted, Each-all, IsCountedFirst, IsUncounted, asks-after}
+use Rattle.mp4_grammar.proofs.AskLemmas.{Each-append, Each-shifted, Each-all, IsCountedFirst, IsUncounted, asks-after, IsUncounted-inspects}
 
 -- the effects of a command for media and other boxes request nothing
 pub record HasNoEffects (meaning : Meaning) : Type 0 where
@@ -90,7 +90,7 @@ module _ (meaning : Meaning) (quiet : HasNoEffects meaning) where
 -- ---- a box asks first
 
 opens-ask : (at sum : ℕ) → Each (Opens at) (requests_memory at sum).requests
-opens-ask at sum = (record { first = record { place = refl; none_before = refl }; counted = record { place = refl; counted = record { fragments = refl; samples = refl; media_bytes = refl } } }, tt)
+opens-ask at sum = (record { first = record { place = refl; none_before = refl }; counted = record { place = refl; counted = IsUncounted-inspects 0 } }, tt)
 
 -- after effects without text that count nothing but samples that were inspected
 opens-after : {C : Type 0} (at : ℕ) (t : Effects) (f : FirstItem C) → t.text ≡ [] → IsUncounted t.tally → Each (Opens at) t.requests → AllOpen at f → AllOpen at (after_effects t f)
@@ -112,7 +112,7 @@ opens-silent : {C : Type 0} (at : ℕ) (f : FirstItem C) → MakesNoEffects f �
 opens-silent at f e = subst (Each (Opens at)) (sym e) tt
 
 opens-first : {C : Type 0} (at sum : ℕ) (f : FirstItem C) → AllOpen at f → AllOpen at (after_effects (requests_memory at sum) f)
-opens-first at sum f h = opens-after at (requests_memory at sum) f refl (record { fragments = refl; samples = refl; media_bytes = refl }) (opens-ask at sum) h
+opens-first at sum f h = opens-after at (requests_memory at sum) f refl (IsUncounted-inspects 0) (opens-ask at sum) h
 
 module _ (meaning : Meaning) (quiet : HasNoEffects meaning) where
   moov-opens : (c : Context) (x rest : List ℕ) (f : Option Fault) → AllOpen c.at (moov_box meaning c x rest f)
@@ -127,7 +127,7 @@ module _ (meaning : Meaning) (quiet : HasNoEffects meaning) where
   moof-opens c tracks x rest (Some f) = tt
   moof-opens c tracks x rest None =
       let late = least (time_faults (moof_trafs (moof_at x c.at) tracks)) in
-      opens-after c.at (counts (inspected (moof_at x c.at))) (timed_box meaning c tracks x rest late) refl (record { fragments = refl; samples = refl; media_bytes = refl }) tt (timed-opens c tracks x rest late)
+      opens-after c.at (counts (inspected (moof_at x c.at))) (timed_box meaning c tracks x rest late) refl (IsUncounted-inspects (moof_samples (moof_at x c.at))) tt (timed-opens c tracks x rest late)
 
   whole-opens : (c : Context) (x rest : List ℕ) (tracks : Option (List Track)) → AllOpen c.at (whole_box_by meaning c x rest tracks)
   whole-opens c x rest None = moov-opens c x rest (moov_fault c.at x)

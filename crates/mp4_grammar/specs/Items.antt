@@ -16,7 +16,7 @@ use Rattle.mp4_init.specs.declared.table.Track.{Track}
 use Rattle.mp4_frag.specs.Moofs.{fault_before_times, moof_runs, moof_samples, moof_trafs, time_faults}
 use Rattle.mp4_traf.specs.Runs.{MoofBytes, moof_at}
 use Rattle.mp4_machine.specs.Bodies.{longest, at_fault, cut_off, least_end, body_item, open_body_item}
-use Rattle.mp4_machine.specs.Readings.{no_effects, says, counts, requests_memory, both, Reading, empty_reading, Faulty, FirstItem, Last, Whole, after_effects, read_all}
+use Rattle.mp4_machine.specs.Readings.{no_effects, says, counts, requests_memory, both, Reading, empty_reading, Faulty, FirstItem, Last, Whole, after_effects, read_all, inspects}
 use Rattle.mp4_machine.specs.declared.tally.Tally.{Tally}
 use Rattle.mp4_grammar.specs.declared.kinds.Kind.{Kind}
 use Rattle.mp4_grammar.specs.declared.kinds.Kind.TheVariants.{Moov, Moof, Mdat, Other}
@@ -92,7 +92,7 @@ moov_box meaning c x rest None =
 
 -- the samples of a moof were inspected
 abbrev pub inspected : MoofBytes → Tally
-inspected h = record { fragments = 0; samples = 0; media_bytes = 0; inspected = moof_samples h }
+inspected h = inspects (moof_samples h)
 
 -- how much is claimed with the list of a moof's runs: the track table, the moof, and 64 bytes for each run
 abbrev pub with_runs : Context → List Track → List ℕ → ℕ

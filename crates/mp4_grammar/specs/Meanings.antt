@@ -13,7 +13,7 @@ use Rattle.mp4_frag.specs.Places.{place_fault}
 use Rattle.mp4_frag.specs.RunLists.{taken_runs}
 use Rattle.mp4_traf.specs.Runs.{MoofBytes, end_place}
 use Rattle.mp4_traf.specs.Settling.{settled}
-use Rattle.mp4_machine.specs.Readings.{ArePast, Effects, Extends}
+use Rattle.mp4_machine.specs.Readings.{ArePast, Effects, Extends, accepts}
 use Rattle.mp4_machine.specs.declared.tally.Tally.{Tally}
 
 -- a moof and the mdat directly after it, by its payload; with the tracks and the number of the next fragment before them
@@ -31,12 +31,7 @@ runs_in f = taken_runs f.moof f.tracks
 
 -- its counts once its mdat's header is accepted: its samples, and the bytes of their media
 abbrev pub counted_in : Fragment → Tally
-counted_in f = record {
-  fragments = 1;
-  samples = moof_samples f.moof;
-  media_bytes = sum_by (λ (run : Run). run.bytes) (runs_in f);
-  inspected = 0;
-}
+counted_in f = accepts (moof_samples f.moof) (sum_by (λ (run : Run). run.bytes) (runs_in f))
 
 -- the tracks after it
 abbrev pub settled_in : Fragment → List Track

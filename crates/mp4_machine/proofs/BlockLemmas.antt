@@ -128,10 +128,6 @@ AppendsPrefix-broken p = (p.front, p.rest, p.written, p.all)
 
 -- ---- one call
 
--- bytes were appended to the buffered bytes
-pub Passes-put : (a : Option (List ℕ)) (v : Pending) (t : List ℕ) → Passes a a v (record { bytes = v.bytes ++ t; ends = v.ends; whole = v.whole }) t
-Passes-put a v t = record { sent = []; written = Appends-nil a; all = refl; alike = alike-none v }
-
 -- nothing waited, and a text was sent by itself
 pub Passes-through : (a b : Option (List ℕ)) (v : Pending) (t : List ℕ) → v.bytes ≡ [] → v.ends ≡ [] → Appends a b t → Passes a b v v t
 Passes-through a b v t e f p = record {

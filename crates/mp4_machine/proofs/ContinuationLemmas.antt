@@ -23,11 +23,6 @@ GoesOn-gathered o reads at claim old x new e =
 
 -- ---- how much of a body is left
 
--- where it may end is the same after some bytes
-pub latest_end-after : (n : ℕ) (e : Extent) → latest_end (extent_after n e) ≡ latest_end e
-latest_end-after n (extents.Sized next) = refl
-latest_end-after n (extents.Open needed) = refl
-
 -- less of it is left, and it isn't over
 pub IsLeft-after : (left n : ℕ) (e : Extent) → IsLeft left e → HasMore (left - n) (extent_after n e) → IsLeft (left - n) (extent_after n e)
 IsLeft-after left n (extents.Sized next) i more = record { within = omega (arith, i.within); near = i.near; more = more }

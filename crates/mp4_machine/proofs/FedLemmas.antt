@@ -7,7 +7,7 @@ use Rattle.mp4_machine.specs.Accounts.{Counts, Spends}
 use Rattle.mp4_machine.specs.Blocks.{IsSent}
 use Rattle.mp4_machine.specs.Fed.{Borrowed, Sums, WritesRest, ClaimRefusedAfter, FedUntil}
 use Rattle.mp4_machine.specs.Inputs.{Environment, Continuation, GoesOn, Refuses, ClaimRefused, WriteFailed, StopsAt, IsAfter, HasNoEffects, IsBegun, Change, Takes}
-use Rattle.mp4_machine.specs.Readings.{moved, Reading, Effects, Faulty, AtMost, both, after, no_effects, requests_memory, shifted, plus, uncounted, most_of, decided_in, fault_in}
+use Rattle.mp4_machine.specs.Readings.{moved, Reading, Effects, Faulty, AtMost, both, after, no_effects, requests_memory, shifted, plus, uncounted, most_of, decided_in}
 use Rattle.mp4_machine.specs.declared.stop.Stop.{Stop}
 use Rattle.mp4_machine.specs.declared.stop.Stop.TheVariants.{Stream, Read, Write, OverLimit, Memory}
 use Rattle.mp4_machine.specs.declared.tally.Tally.{Tally}
@@ -58,9 +58,6 @@ IsAfter-begun p begun =
 -- ---- the end of the stream
 
 module _ (reads : List ℕ → Reading) (b : List ℕ) {p : Continuation} {counted : Tally} (s : IsAfter reads b p counted) where
-  pub is_after-fault : fault_in (reads b).outcome ≡ fault_in (p.reads []).outcome
-  is_after-fault = ap (λ l. fault_in (reads l).outcome) (sym (append-nil b)) ∙ ap (λ r. fault_in r.outcome) (s.rest [])
-
   pub is_after-undecided : HasNoEffects p → decided_in (reads b).outcome ≡ None
   is_after-undecided quiet = ap (λ l. decided_in (reads l).outcome) (sym (append-nil b)) ∙ ap (λ r. decided_in r.outcome) (s.rest []) ∙ quiet.early
 

@@ -1,23 +1,20 @@
 -- What a machine is after the bytes of a stream that it was fed, and what the next input does.
 use Rattle.std.proofs.Common.{◌≡◌, ◌∙◌, ℕ, ◌+◌, ◌-◌, ◌≤◌, ◌<◌, List, [], ◌∷◌, ◌++◌, length, take, max, Option, None, Some, Result, Ok, Err, ap, sym, refl, arith, append-nil, subst}
-use Rattle.std.proofs.KnownBytes.{Appends-nil}
 use Rattle.mp4_box.specs.Headers.{IsBytes}
 use Rattle.mp4_ledger.specs.Memory.{Account}
-use Rattle.mp4_machine.specs.Blocks.{IsSent, Pending, unused}
+use Rattle.mp4_machine.specs.Blocks.{IsSent, Pending}
 use Rattle.mp4_machine.specs.Ends.{Sent}
 use Rattle.mp4_machine.specs.Fed.{AllWhole, Borrowed, ClaimRefusedAfter, FedUntil, Sums, borrowed, sums_in}
-use Rattle.mp4_machine.specs.FedMachines.{ClaimsByRequests, Feeds, FeedsInput, IsAfter, IsFed, IsOrdered, Shown, WritesBefore, sums_of}
+use Rattle.mp4_machine.specs.FedMachines.{ClaimsByRequests, Feeds, FeedsInput, IsAfter, IsOrdered, Shown, WritesBefore, sums_of}
 use Rattle.mp4_machine.specs.Inputs.{Continuation, GoesOn, HasNoEffects, IsBegun, StopsAt, TakesAll, change, environment, farthest}
 use Rattle.mp4_machine.specs.Inputs as inputs
 use Rattle.mp4_machine.specs.Readings.{Reading, both, decided_in, greatest, most_of, no_effects, whole_in}
 use Rattle.mp4_machine.specs.declared.stop.Stop.{Stop}
 use Rattle.mp4_machine.specs.declared.stop.Stop.TheVariants.{Stream, Read, Write, OverLimit, Memory}
 use Rattle.mp4_machine.specs.declared.tally.Tally.{Tally}
-use Rattle.mp4_machine.proofs.AccountLemmas.{Counts-none}
 use Rattle.mp4_machine.proofs.FedLemmas.{IsAfter-begun, goes-emits, goes-is_after, goes-peak, is_after-undecided, lifted, marked, peak_after, stops-until, takes-live}
 use Rattle.mp4_machine.proofs.FedRunLemmas.{whole-more}
 use Rattle.mp4_machine.proofs.ReadingAskLemmas.{greatest-append}
-use Rattle.mp4_machine.proofs.ReadingLemmas.{both-silent}
 use Rattle.mp4_machine.proofs.RunLemmas.{bytes-more}
 
 -- ---- no byte has come
@@ -31,16 +28,6 @@ module _ (p : Continuation) (counted : Tally) (begun : IsBegun p counted) where
 
   undecided-begun : decided_in (p.reads []).outcome ≡ None
   undecided-begun = ap (λ r. decided_in r.outcome) begun.none
-
-  pub fed-begun : IsFed start 0 unused
-  fed-begun = record {
-    held = sym begun.claim;
-    within = omega (arith, begun.claim);
-    quiet = λ running. record { effects = none-begun; early = undecided-begun };
-    near = λ running. omega (arith, begun.reached);
-    sent = λ running. record { bytes = refl; ends = refl };
-    spent = λ e stop. absurd cc;
-  }
 
   pub after-begun : IsAfter p.reads start []
   after-begun = record {
@@ -87,27 +74,6 @@ module _ (reads : List ℕ → Reading) (b input : List ℕ) (l : Borrowed) (own
     writes-before Write until = tt
     writes-before OverLimit until = before-refused until.0
     writes-before Memory until = before-refused until.0
-
--- ---- the input without bytes
-
-pub feeds-none : {T : Type 0} (t : T) (reads : List ℕ → Reading) (p : Shown) (b : List ℕ) (written : Option (List ℕ)) (account : Account) → IsAfter reads p b → Feeds {T = T} reads b [] p p (record { written = written; written' = written; whole = p.fragments; whole' = p.fragments; account = account; account' = account }) (Ok t)
-feeds-none t reads p b written account s =
-    let same : b ≡ b ++ [] = sym (append-nil b) in
-    record {
-      bytes = subst IsBytes same s.bytes;
-      ok = (
-        subst (IsAfter reads p) same s,
-        record {
-          effects = no_effects;
-          all = sym (ap (λ x. (reads x).effects) same) ∙ sym (both-silent (reads b).effects);
-          text = Appends-nil written;
-          fragments = λ n. refl;
-          counts = Counts-none account p.continuation.claim;
-        },
-      );
-      err = tt;
-      claims = claims-ok reads (b ++ []) p.peak (account.live - p.continuation.claim) account.limit (ap (λ k. k.peak) s.sums ∙ ap (λ x. most_of (reads x).effects) same);
-    }
 
 -- ---- the input
 

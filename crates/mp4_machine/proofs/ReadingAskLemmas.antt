@@ -38,6 +38,14 @@ plus-assoc s t u =
     let w : s.inspected + t.inspected + u.inspected ≡ s.inspected + (t.inspected + u.inspected) = omega arith in
     rw (f, n, m, w) refl
 
+-- tallies are the same where each count is
+pub same_tally : {s t : Tally} → s.fragments ≡ t.fragments → s.samples ≡ t.samples → s.media_bytes ≡ t.media_bytes → s.inspected ≡ t.inspected → s ≡ t
+same_tally {s = s} {t = t} f n m w =
+    ap (λ k. record s { fragments = k }) f
+    ∙ ap (λ k. record s { fragments = t.fragments; samples = k }) n
+    ∙ ap (λ k. record s { fragments = t.fragments; samples = t.samples; media_bytes = k }) m
+    ∙ ap (λ k. record t { inspected = k }) w
+
 pub AtMost-same : (t : Tally) → AtMost t t
 AtMost-same t = record { fragments = omega arith; samples = omega arith; media_bytes = omega arith; inspected = omega arith }
 
@@ -48,6 +56,10 @@ AtMost-trans s t u h k = record {
   media_bytes = omega (arith, h.media_bytes, k.media_bytes);
   inspected = omega (arith, h.inspected, k.inspected);
 }
+
+-- something is counted
+pub AtMost-none : (t : Tally) → AtMost uncounted t
+AtMost-none t = record { fragments = omega arith; samples = omega arith; media_bytes = omega arith; inspected = omega arith }
 
 -- more is counted after
 pub AtMost-plus : (s t : Tally) → AtMost s (plus s t)

@@ -3,7 +3,7 @@ use Rattle.std.proofs.Common.{◌≡◌, ◌∙◌, ℕ, zero, suc, ◌≤◌, L
 use Rattle.mp4_machine.specs.Readings.{ArePast, Outcome, Sound, Faulty, CutOff, Effects, no_effects, says, uncounted, both, Reading, FirstItem, Last, Whole, IsPrefix, Extends, GrowsTo, decided_in, after, after_effects, moved, then_read, read_all, shifted}
 use Rattle.mp4_machine.proofs.MarkLemmas.{moved-append}
 use Rattle.mp4_machine.proofs.PastLemmas.{ArePast-append, ArePast-fewer, ArePast-moved, IsPast, all-past, effects_of}
-use Rattle.mp4_machine.proofs.ReadingAskLemmas.{AtMost-after, AtMost-plus, AtMost-same, AtMost-trans, shifted-append}
+use Rattle.mp4_machine.proofs.ReadingAskLemmas.{AtMost-none, AtMost-after, AtMost-plus, AtMost-same, AtMost-trans, shifted-append}
 use Rattle.mp4_machine.proofs.ReadingLemmas.{Below, IsItemwise, read_all-front}
 
 -- more bytes change nothing of a reading that ends with a decided fault, and else may add to the effects
@@ -27,7 +27,7 @@ Extends-silent t past = record {
   text = (t.text, refl);
   requests = (t.requests, refl);
   fragment_ends = (t.fragment_ends, refl, past);
-  tally = record { fragments = omega arith; samples = omega arith; media_bytes = omega arith; inspected = omega arith };
+  tally = AtMost-none t.tally;
 }
 
 pub Extends-same : (t : Effects) → Extends t t

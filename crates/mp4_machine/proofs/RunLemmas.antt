@@ -10,7 +10,7 @@ use Rattle.mp4_box.specs.Headers.{IsBytes}
 use Rattle.mp4_box.specs.declared.rules.Fault.{Fault}
 use Rattle.mp4_machine.specs.Accounts.{Counts, Spends}
 use Rattle.mp4_machine.specs.Blocks.{BreaksMarked, IsSent, PassesMarked, unused}
-use Rattle.mp4_machine.specs.Readings.{moved, whole_in, Request, AtMost, greatest, Effects, Reading, empty_reading, uncounted, plus, fault_in, decided_in, after, both, requests_memory, shifted, most_of}
+use Rattle.mp4_machine.specs.Readings.{moved, whole_in, AtMost, greatest, Effects, Reading, empty_reading, uncounted, plus, fault_in, decided_in, after, both, requests_memory, shifted, most_of}
 use Rattle.mp4_machine.specs.Inputs.{Environment, Continuation, Refuses, ClaimRefused, StopsAt, Change, Takes, IsFed, refusal_of}
 use Rattle.mp4_machine.specs.Ends.{Ends}
 use Rattle.mp4_machine.specs.StreamRuns.{Claims, StreamRun, IsOneRead, WritesAll, WritesPrefix, IsPrompt, ClaimRefusedAt, StopsWith, ReadsStream}
@@ -104,13 +104,6 @@ module _ (reads : List ℕ → Reading) (b : List ℕ) (start : Environment) (fr
             peak = peak-exact start.account then.account 0 (most_of (both (reads b).effects g.produced)) marked (counts-both g.produced g.moves.counts) ∙ ap (λ t. start.account.live + most_of t) (sym effects);
             tally = g.moves.tallied ∙ ap (λ t. plus t g.produced.tally) s.is_after.tally ∙ ap (λ t. t.tally) (sym effects);
           }
-
-      refuses-outcome : (f : Fault) → Refuses now then p input f → (reads (b ++ input)).outcome ≡ (after (reads b).effects (p.reads (input ++ []))).outcome
-      refuses-outcome f g = ap (λ r. r.outcome) reads-both
-
-      -- what is asked for before the box whose claim is refused
-      asks_before : ClaimRefused now then p input → List Request
-      asks_before g = (both (reads b).effects g.produced).requests
 
       claim_refused : (ends : Ends) (one : IsOneRead ends start.account.live input) → ends.written ≡ start.written → ends.written' ≡ then.written → IsSent then.waiting → (g : ClaimRefused now then p input)
           → (r : ClaimRefusedAt (run_of reads (b ++ input) start then ends) (prompt-read input then ends one)) × (r.request.sum ≡ g.sum)

@@ -32,6 +32,22 @@ decided_in (CutOff f) = None
 abbrev pub uncounted : Tally
 uncounted = record { fragments = 0; samples = 0; media_bytes = 0; inspected = 0 }
 
+-- the samples of a moof are read, to know whether its rules hold
+abbrev pub inspects : ℕ → Tally
+inspects n = record { fragments = 0; samples = 0; media_bytes = 0; inspected = n }
+
+-- a fragment is accepted, with so many samples and bytes of media
+abbrev pub accepts : (samples bytes : ℕ) → Tally
+accepts n bytes = record { fragments = 1; samples = n; media_bytes = bytes; inspected = 0 }
+
+-- the same where fragments are counted as they are written
+abbrev pub accepts_samples : (samples bytes : ℕ) → Tally
+accepts_samples n bytes = record { fragments = 0; samples = n; media_bytes = bytes; inspected = 0 }
+
+-- so many fragments are written
+abbrev pub writes_fragments : ℕ → Tally
+writes_fragments n = record { fragments = n; samples = 0; media_bytes = 0; inspected = 0 }
+
 abbrev pub plus : Tally → Tally → Tally
 plus s t = record { fragments = s.fragments + t.fragments; samples = s.samples + t.samples; media_bytes = s.media_bytes + t.media_bytes; inspected = s.inspected + t.inspected }
 

@@ -19,14 +19,14 @@ use Rattle.mp4_pieces.specs.declared.piece.Piece.{Piece}
 use Rattle.mp4_pieces.specs.declared.plain.PlainPiece.{PlainPiece}
 use Rattle.mp4_pieces.specs.Cutting.{IsLimit, cut_by, cut_from, join}
 use Rattle.mp4_pieces.specs.Fitting.{cut_for, fits}
-use Rattle.mp4_pieces.specs.Implementation.Counting.{CutsAs, IsFirst, IsPlain, LastsWithin}
+use Rattle.mp4_pieces.specs.Implementation.Counting.{CutsAs, IsFirst, LastsWithin}
 use Rattle.mp4_pieces.specs.Bounds.{IsCounted, IsTimed, LastsAs}
 use Rattle.mp4_pieces.specs.Pieces.{IsPieceOf, cursor_after, cursor_at, cut_rows, past_rows, piece_at, pieces_at, pieces_from, rows_in}
 use Rattle.mp4_pieces.specs.PlainPieces.{piece_of, plain_at, plain_end, plain_of}
 use Rattle.mp4_pieces.proofs.CutLemmas.{pieces_are}
 use Rattle.mp4_pieces.proofs.FitLemmas.{and_is, and_so, is_limit}
 use Rattle.mp4_pieces.proofs.WhatFitsLemmas.{or_either, or_so}
-use Rattle.mp4_pieces.proofs.GrowLemmas.{bool_is, no_limits}
+use Rattle.mp4_pieces.proofs.GrowLemmas.{bool_is}
 use Rattle.mp4_pieces.proofs.PieceLemmas.{goes_on}
 
 -- ---- a piece without its least composition time
@@ -93,10 +93,6 @@ same_tests : (a b : Bool) → (a ≡ true → b ≡ true) → (b ≡ true → a 
 same_tests true b to from = sym (to refl)
 same_tests false true to from = from refl
 same_tests false false to from = refl
-
--- the number of samples is the only limit
-pub counted_alone : (cut : Cut) (run : Run) → cut.bytes ≡ None → cut.sync ≡ false → cut.keyframes ≡ false → cut.duration ≡ None → IsCounted cut run cut.samples
-counted_alone cut run b s k d = record { some = cut.some; counts = λ rows all. rw (b, s, k, d) (no_limits (nat_le (length rows) cut.samples)) }
 
 -- samples that last equally long
 by_product : (run : Run) (rows : List Row) → run.fields.sample_duration ≡ None → AllByRecursion (LastsAs run) rows → durations rows ≡ length rows * run.duration
@@ -182,10 +178,6 @@ pub cut_as : (cut : Cut) (moof_bytes : List ℕ) (run : Run) (own : Cut) (n : �
 cut_as cut moof_bytes run own n same =
     same_cut (fits own) (fits (cut_for run.timescale cut)) run (drop n (rows_of run moof_bytes)) same
     (all_dropped run n (rows_of run moof_bytes) (all_last moof_bytes run (range_with_len 0 (run.count - 0))))
-
-pub counted_cuts : (cut : Cut) (run : Run) (own : Cut) (most : ℕ) → IsCounted cut run most → IsPlain own → own.samples ≡ most → CutsAs cut run own
-counted_cuts cut run own most is plain same = λ rows all.
-    rw (plain.bytes, plain.ticks, plain.sync, plain.keyframes, same) (no_limits (nat_le (length rows) most)) ∙ sym (is.counts rows all)
 
 -- ---- the first piece
 

@@ -1,6 +1,6 @@
 -- Definitions that only the laws need.
-use Rattle.std.specs.Prelude.{◌≡◌, ◌⊎◌, ◌≤◌, ◌≤ℤ◌, ℕ, ℤ, List, [], ◌∷◌, Some, drop, false, length, true}
-use Rattle.std.specs.List.{All, AllByRecursion, Contains}
+use Rattle.std.specs.Prelude.{◌≡◌, ◌⊎◌, ◌≤◌, ℕ, List, [], ◌∷◌, Some, drop, false, length, true}
+use Rattle.std.specs.List.{AllByRecursion}
 use Rattle.mp4_traf.specs.declared.run.Run.{Run}
 use Rattle.mp4_traf.specs.Rows.{IsCursor, durations, sizes}
 use Rattle.mp4_traf.specs.SyncSamples.{is_sync}

@@ -1,7 +1,6 @@
 -- The pieces of a run, with the sums over their samples.
-use Rattle.std.specs.Prelude.{◌≡◌, ◌<◌, ◌≤◌, ◌+◌, ◌^◌, ◌+ℤ◌, ◌<ℤ◌, ℕ, ℤ, pos, List, [], ◌∷◌, length, take, drop}
-use Rattle.std.specs.List.{fold, sum_by}
-use Rattle.std.specs.Int.{int_min}
+use Rattle.std.specs.Prelude.{◌≡◌, ◌<◌, ◌≤◌, ◌+◌, ◌^◌, ◌+ℤ◌, ◌<ℤ◌, ℕ, pos, List, [], ◌∷◌, length, take, drop}
+use Rattle.std.specs.List.{sum_by}
 use Rattle.mp4_traf.specs.declared.run.Run.{Run}
 use Rattle.mp4_traf.specs.declared.rows.Row.{Row}
 use Rattle.mp4_traf.specs.declared.rows.Cursor.{Cursor}

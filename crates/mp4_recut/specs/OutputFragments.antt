@@ -1,7 +1,7 @@
 -- The output of a fragment: for each piece bytes that are made, and then a span of the stream that is copied.
 use Rattle.std.specs.Prelude.{◌≡◌, ℕ, zero, suc, ◌+◌, ◌-◌, ◌<◌, ◌≤◌, List, [], ◌∷◌, ◌++◌, length, take, drop, if◌then◌else◌, nat_lt}
 use Rattle.std.specs.List.{AllByRecursion}
-use Rattle.mp4_machine.specs.Readings.{Effects, no_effects, says, both, moved}
+use Rattle.mp4_machine.specs.Readings.{Effects, no_effects, says, both, moved, writes_fragments}
 use Rattle.mp4_machine.specs.declared.fragment_end.FragmentEnd.{FragmentEnd}
 
 -- an output fragment: the bytes that are made (an index where a group begins, the moof of the piece and the header of its mdat), where the
@@ -14,7 +14,7 @@ pub record OutputFragment : Type 0 where
 
 -- its head is written, and one fragment of the output is counted
 abbrev pub opens : OutputFragment → Effects
-opens p = record { text = p.head; requests = []; fragment_ends = p.mark ∷ []; tally = record { fragments = 1; samples = 0; media_bytes = 0; inspected = 0 } }
+opens p = record { text = p.head; requests = []; fragment_ends = p.mark ∷ []; tally = writes_fragments 1 }
 
 -- ---- as bytes come
 
@@ -83,4 +83,4 @@ pub record CameOf (start n : ℕ) (ps : List OutputFragment) : Type 0 where
 
 -- effects that write this text, in which moofs end so, and count so many fragments of the output
 abbrev pub fragments_effects : List ℕ → List FragmentEnd → ℕ → Effects
-fragments_effects text fragment_ends n = record { text = text; requests = []; fragment_ends = fragment_ends; tally = record { fragments = n; samples = 0; media_bytes = 0; inspected = 0 } }
+fragments_effects text fragment_ends n = record { text = text; requests = []; fragment_ends = fragment_ends; tally = writes_fragments n }

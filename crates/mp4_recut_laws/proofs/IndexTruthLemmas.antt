@@ -68,10 +68,6 @@ length_references : (number : ℕ) (qs : List PieceWithMedia) → length (refere
 length_references number [] = refl
 length_references number (q ∷ qs) = omega (arith, length_references (number + 1) qs)
 
-length_map : {X Y : Type 0} (f : X → Y) (xs : List X) → length (map f xs) ≡ length xs
-length_map f [] = refl
-length_map f (x ∷ xs) = omega (arith, length_map f xs)
-
 all_first : {X : Type 0} (P : X → Type 0) (xs ys : List X) → AllByRecursion P (xs ++ ys) → AllByRecursion P xs
 all_first P [] ys all = tt
 all_first P (x ∷ xs) ys all = (all.0, all_first P xs ys all.1)

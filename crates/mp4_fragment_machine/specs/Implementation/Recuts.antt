@@ -21,7 +21,7 @@ use Rattle.mp4_fragment_machine.specs.declared.pending_moof.PendingMoof.{Pending
 
 -- the tally with so many fragments
 abbrev pub with_fragments : Tally → ℕ → Tally
-with_fragments t n = record { fragments = n; samples = t.samples; media_bytes = t.media_bytes; inspected = t.inspected }
+with_fragments t n = record t { fragments = n }
 
 -- ---- where the media of a fragment begin
 
@@ -40,4 +40,4 @@ in_media cut f q next h own ToEnd = InOpenBody (output_from q) next h.kind (need
 
 -- the counts with its samples, and so many output fragments
 abbrev pub with_samples : Fragment → Tally → ℕ → Tally
-with_samples f t n = record { fragments = n; samples = t.samples + moof_samples f.moof; media_bytes = t.media_bytes + sum_by (λ (run : Run). run.bytes) (runs_in f); inspected = t.inspected }
+with_samples f t n = record t { fragments = n; samples = t.samples + moof_samples f.moof; media_bytes = t.media_bytes + sum_by (λ (run : Run). run.bytes) (runs_in f) }

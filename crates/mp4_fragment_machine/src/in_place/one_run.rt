@@ -239,7 +239,7 @@ fn recut_run<W: Sink>(
     ensures least { counter.old.tally.fragments ≤ counter.new.tally.fragments }
     ensures most { counter.new.tally.fragments ≤ counter.old.tally.fragments +
         length (pieces_of cut.now complete.now.boxes.moof.now complete.now.run.now.run) }
-    ensures tally { counter.new.tally ≡ record {
+    ensures tally { counter.new.tally ≡ record counter.old.tally {
       fragments = counter.new.tally.fragments;
       samples = counter.old.tally.samples + complete.now.run.now.run.count;
       media_bytes = counter.old.tally.media_bytes + complete.now.run.now.run.bytes;

@@ -1,4 +1,4 @@
-use Rattle.std.proofs.Common.{◌≡◌, ◌∙◌, ◌+◌, ap, arith, length, subst, sym, None}
+use Rattle.std.proofs.Common.{◌≡◌, ◌+◌, ap, arith, length, subst, sym, None}
 use Rattle.mp4_frag.specs.Moofs.{moof_runs}
 use Rattle.mp4_frag.specs.Places.{place_fault}
 use Rattle.mp4_traf.specs.Ranges.{IsRunOf}
@@ -13,6 +13,7 @@ use Rattle.mp4_fragment_machine.specs.Implementation.Recuts.{recut_fragment, wit
 use Rattle.mp4_fragment_machine.specs.States.{moof_in}
 use Rattle.mp4_fragment_machine.proofs.RecutLemmas.{Outputs-first, WriteFailedIn-first, all-runs, none-first, room-in}
 use Rattle.mp4_fragment_machine.proofs.mdat.accept_recut.begin_recut.Goals as goal
+use Rattle.mp4_machine.proofs.ReadingAskLemmas.{same_tally}
 
 pub returns-in-Ok : goal.returns-in-Ok
 returns-in-Ok g c =
@@ -36,9 +37,8 @@ returns-in-Ok g c =
     let after = w.moof.at + length w.moof.bytes in
     let good : place_fault f.payload (moof_runs f.moof f.tracks) ≡ None = none-first (place_fault f.payload (moof_runs f.moof f.tracks)) _ c.requires.good in
     let m = c.args.moof_totals in
-    let counted : with_samples f tally n ≡ record { fragments = n; samples = tally.samples + c.from.result; media_bytes = tally.media_bytes + m.bytes; inspected = tally.inspected } =
-    ap (λ k. record { fragments = n; samples = tally.samples + k; media_bytes = (with_samples f tally n).media_bytes; inspected = tally.inspected }) (sym (c.from.ensures ∙ c.requires.samples))
-    ∙ ap (λ k. record { fragments = n; samples = tally.samples + c.from.result; media_bytes = tally.media_bytes + k; inspected = tally.inspected }) (sym c.requires.bytes) in
+    let counted : with_samples f tally n ≡ record tally { fragments = n; samples = tally.samples + c.from.result; media_bytes = tally.media_bytes + m.bytes } =
+    same_tally (omega arith) (omega (arith, c.from.ensures, c.requires.samples)) (omega (arith, c.requires.bytes)) (omega arith) in
     record {
       outputs = Outputs-first cut f a b c.args.out.now c.write_ready_heads.new.out tally.fragments n first.copy_span ps q begun.left all (writes_heads.outputs f.payload.start);
       begun = record {
@@ -67,9 +67,8 @@ returns-in-Err g c =
     let begun = rw c.moof-moof.ensures at c.begin-media.ensures in
     let fails = rw c.moof-moof.ensures at c.in-Err.ensures.writes_heads in
     let m = c.args.moof_totals in
-    let counted : with_samples f tally n ≡ record { fragments = n; samples = tally.samples + c.from.result; media_bytes = tally.media_bytes + m.bytes; inspected = tally.inspected } =
-    ap (λ k. record { fragments = n; samples = tally.samples + k; media_bytes = (with_samples f tally n).media_bytes; inspected = tally.inspected }) (sym (c.from.ensures ∙ c.requires.samples))
-    ∙ ap (λ k. record { fragments = n; samples = tally.samples + c.from.result; media_bytes = tally.media_bytes + k; inspected = tally.inspected }) (sym c.requires.bytes) in
+    let counted : with_samples f tally n ≡ record tally { fragments = n; samples = tally.samples + c.from.result; media_bytes = tally.media_bytes + m.bytes } =
+    same_tally (omega arith) (omega (arith, c.from.ensures, c.requires.samples)) (omega (arith, c.requires.bytes)) (omega arith) in
     record {
       cut_short = WriteFailedIn-first cut f a b c.args.out.now c.write_ready_heads.new.out tally.fragments n first.copy_span (fragments_left cut (moof_in w) tracks number first.later) begun.left (begun.all number) (fails.cut_short f.payload.start);
       failed = fails.failed;
