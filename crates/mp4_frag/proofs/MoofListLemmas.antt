@@ -11,7 +11,7 @@ use Rattle.mp4_box.proofs.GrammarLemmas.{lies_at, whole_len}
 use Rattle.mp4_init.specs.declared.table.Track.{Track}
 use Rattle.mp4_run_order.specs.declared.runs.ListedRun.{ListedRun}
 use Rattle.mp4_run_order.specs.Orders.{FitsKeys}
-use Rattle.mp4_frag.specs.declared.run_row.RunRow.{RunRow}
+use Rattle.mp4_frag.specs.declared.run_list.run_row.RunRow.{RunRow}
 use Rattle.mp4_traf.specs.Kinds.{to_trun, traf}
 use Rattle.mp4_frag.specs.Moofs.{IsRead, moof_of, moof_runs}
 use Rattle.mp4_traf.specs.Ranges.{IsSound}

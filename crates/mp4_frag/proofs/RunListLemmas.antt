@@ -19,7 +19,7 @@ use Rattle.mp4_run_order.proofs.ListLemmas.{Each, Pairs, all_of_pairs, each_move
 use Rattle.mp4_run_order.proofs.OrderLemmas.{TakenBefore, order_is_taken, place_keys_order, taken_alone, taken_is_order, taken_map, track_keys_order}
 use Rattle.mp4_run_order.proofs.SearchLemmas.{offender_means, search_is}
 use Rattle.mp4_traf.specs.declared.run.Run.{Run}
-use Rattle.mp4_frag.specs.declared.run_row.RunRow.{RunRow}
+use Rattle.mp4_frag.specs.declared.run_list.run_row.RunRow.{RunRow}
 use Rattle.mp4_frag.specs.Moofs.{moof_runs}
 use Rattle.mp4_traf.specs.Runs.{MoofBytes}
 use Rattle.mp4_frag.specs.Implementation.Rereads.{run_of_row}

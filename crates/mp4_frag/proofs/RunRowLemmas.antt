@@ -15,7 +15,7 @@ use Rattle.mp4_init.specs.declared.table.Track.{Track}
 use Rattle.mp4_run_order.proofs.ListLemmas.{Each, Pairs, each_always, each_weaker}
 use Rattle.mp4_traf.specs.declared.run.Run.{Run}
 use Rattle.mp4_run_order.specs.declared.runs.ListedRun.{ListedRun}
-use Rattle.mp4_frag.specs.declared.run_row.RunRow.{RunRow}
+use Rattle.mp4_frag.specs.declared.run_list.run_row.RunRow.{RunRow}
 use Rattle.mp4_traf.specs.Fields.{payload_of}
 use Rattle.mp4_traf.specs.Kinds.{tfhd, to_trun, traf, trun}
 use Rattle.mp4_traf.specs.Runs.{MoofBytes, Shared, end_place, header_by, known_track, run_at, run_of, runs_from, runs_of, shared_by, tfhd_of, track_of, traf_of}

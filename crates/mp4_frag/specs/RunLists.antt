@@ -4,7 +4,7 @@ use Rattle.mp4_init.specs.declared.table.Track.{Track}
 use Rattle.mp4_run_order.specs.declared.runs.ListedRun.{ListedRun}
 use Rattle.mp4_run_order.specs.Orders.{taken_by}
 use Rattle.mp4_traf.specs.declared.run.Run.{Run}
-use Rattle.mp4_frag.specs.declared.run_row.RunRow.{RunRow}
+use Rattle.mp4_frag.specs.declared.run_list.run_row.RunRow.{RunRow}
 use Rattle.mp4_frag.specs.Moofs.{moof_runs}
 use Rattle.mp4_traf.specs.Runs.{MoofBytes}
 use Rattle.mp4_frag.specs.Places.{listed_run}

@@ -15,7 +15,8 @@ use crate::moof::Moof;
 use crate::part::headless;
 use mp4_box::BoxRef;
 use mp4_init::TrackList;
-use mp4_traf::{Run, Runs, TrafContext, TrafHeader, Trafs, run_end};
+use mp4_traf::internal::{TrafContext, TrafHeader, run_end};
+use mp4_traf::{Run, Runs, Trafs};
 
 /// The bytes between two places of a moof, as the payload of a box without a header.
 fn part_of<'a>(moof_bytes: &'a [u8], moof: u64, from: u64, to: u64) -> BoxRef<'a>

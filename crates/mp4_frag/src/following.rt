@@ -24,7 +24,8 @@ use mp4_box::types::TRAF;
 use mp4_box::{BoxRef, whole_box};
 use mp4_init::TrackList;
 use mp4_run_order::Payload;
-use mp4_traf::{Run, Runs, RunsOf, Steps, base_of, children_of, runs_of};
+use mp4_traf::internal::{RunsOf, base_of, children_of, runs_of};
+use mp4_traf::{Run, Runs, Steps};
 
 /// The runs of a moof that follow one another as they are listed.
 #[derive(Drop)]

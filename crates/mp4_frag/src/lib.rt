@@ -14,14 +14,14 @@
 //!   same from the bytes of the moof;
 //! - [`laws`]: what the definitions of `specs/` imply.
 //!
-//! In the order of a fragment: `rules.rt`, `repeats.rt` and `counts.rt` have the rules, `mfhd.rt` the fields of the
-//! mfhd, and `at_once.rt` checks all boxes in one pass, by `child_at_once.rt`; `late.rt` finds the run that ends past
-//! 64 bits, and `moof.rt` makes the moof. `run_list.rt` makes the list of its runs and sorts its rows, by track first,
-//! to find the run that is at fault by track: `fill.rt` puts a row for each (`run_row.rt`), `listed.rt` goes over the
-//! rows, and `reread.rt` makes a row the run again. `after.rt` finds the next run, by `part.rt`. `single_run.rt` reads
-//! the only run of a moof: `common_layout.rt` where the moof has the form that most have, `only_run.rt` of any form;
-//! `following.rt` goes over runs that follow one another. `places.rt` finds the run that may not lie where it does,
-//! and `settle.rt` and `traf_ends.rt` say where the tracks end.
+//! In the order of a fragment: `rules/` has the rules, with `repeats.rt` and `counts.rt`, `mfhd.rt` for the fields of
+//! the mfhd, and `late.rt`, which finds the run that ends past 64 bits; `at_once/` checks all boxes in one pass, by
+//! `child_at_once.rt`, and `moof.rt` makes the moof. `run_list/` makes the list of its runs and sorts its rows, by
+//! track first, to find the run that is at fault by track: `fill.rt` puts a row for each (`run_row.rt`), `listed.rt`
+//! goes over the rows, and `reread.rt` makes a row the run again. `after.rt` finds the next run, by `part.rt`.
+//! `single_run/` reads the only run of a moof: `common_layout.rt` where the moof has the form that most have,
+//! `only_run.rt` of any form; `following.rt` goes over runs that follow one another. `places.rt` finds the run that
+//! may not lie where it does, and `settle.rt` and `traf_ends.rt` say where the tracks end.
 //!
 //! `specs/Rules.antt` and `specs/Repeats.antt` say what is at fault, `specs/Moofs.antt` the result of reading a moof,
 //! `specs/RunLists.antt` in which order its runs are taken, `specs/SingleRuns.antt` what a run is that has no other,
@@ -31,34 +31,23 @@
 
 mod after;
 mod at_once;
-mod child_at_once;
-mod common_layout;
-mod counts;
-mod fill;
 mod following;
-mod late;
 pub mod laws;
-mod listed;
-mod mfhd;
 mod moof;
-mod only_run;
 mod part;
 mod places;
-mod repeats;
-mod reread;
 mod rules;
 mod run_list;
-mod run_row;
 mod settle;
 mod single_run;
 mod traf_ends;
 
 pub use after::RunOfMoof;
-pub use counts::MOST_IN_MOOF;
 pub use following::Following;
 pub use moof::Moof;
 pub use mp4_run_order::{ListedRun, Payload};
 pub use mp4_traf::{Cursor, Row, Rows, Run, Runs, Steps, Sums, Traf, TrafTotals, Trafs};
+pub use rules::counts::MOST_IN_MOOF;
 pub use run_list::RunList;
 pub use single_run::SingleRun;
 pub use traf_ends::TrafEnds;

@@ -15,15 +15,16 @@ ghost use Rattle.mp4_traf.specs.Rules.{most_in_moof};
 ghost use Rattle.mp4_traf.specs.Runs.{MoofBytes, moof_at};
 
 use crate::at_once::{MoofCounts, ended_early, read_at_once};
-use crate::counts::{samples_in, truns_in};
-use crate::late::late_fault;
-use crate::mfhd::sequence_in;
-use crate::repeats::{note_among, note_repeats};
+use crate::rules::counts::{samples_in, truns_in};
+use crate::rules::late::late_fault;
+use crate::rules::mfhd::sequence_in;
+use crate::rules::repeats::{note_among, note_repeats};
 use crate::rules::{note_children, note_count, note_forms};
 use mp4_box::types::{TFHD, TRAF, TRUN};
 use mp4_box::{BoxRef, Fault, check_tree, note_along, whole_box};
 use mp4_init::TrackList;
-use mp4_traf::{FlagsOnce, OfTrack, Steps, Trafs};
+use mp4_traf::internal::{FlagsOnce, OfTrack};
+use mp4_traf::{Steps, Trafs};
 use std::marker::Model;
 
 /// A moof without a fault (ISO/IEC 14496-12, 8.8.4). It borrows its bytes, and nothing else.

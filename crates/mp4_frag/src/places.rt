@@ -9,9 +9,9 @@ ghost use Rattle.mp4_frag.specs.Places.{IsPlaceFault, listed_run, place_fault, r
 ghost use Rattle.mp4_frag.specs.RunLists.{moof_listing};
 ghost use Rattle.mp4_frag.specs.ListsOfRuns.{IsListOf};
 
-use crate::listed::runs_of;
 use crate::moof::Moof;
 use crate::run_list::RunList;
+use crate::run_list::listed::runs_of;
 use crate::single_run::SingleRun;
 use mp4_box::types::TRUN;
 use mp4_box::{Fault, Rule};

@@ -12,7 +12,8 @@ use crate::traf_ends::TrafEnds;
 use mp4_box::types::TRAF;
 use mp4_box::whole_box;
 use mp4_init::TrackList;
-use mp4_traf::{Steps, children_of, end_traf};
+use mp4_traf::Steps;
+use mp4_traf::internal::{children_of, end_traf};
 
 impl<'a> Moof<'a> {
     /// Sets where each track ends: its `next` becomes the end of its last traf in the moof, in ticks, and that of the

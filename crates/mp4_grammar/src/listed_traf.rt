@@ -11,7 +11,7 @@ use mp4_frag::TrafTotals;
 use mp4_init::TrackList;
 use mp4_lines::{DECIMAL_DIGITS, SIGNED_DECIMAL_BYTES, Text};
 use mp4_machine::{BLOCK_BYTES, LINE_BYTES, Line};
-use mp4_traf::known_track;
+use mp4_traf::internal::known_track;
 
 /// A traf of a fragment. Times are ticks of its track's timescale, and offsets are of the stream.
 #[derive(Clone, Copy, Debug, PartialEq, Eq)]

@@ -5,12 +5,13 @@
 //!   goes on from a [`Cursor`], [`Run::whole_groups`] gives the bytes of rows with all four fields, and
 //!   [`Run::sums_between`] adds some of them up ([`Sums`]), and [`Run::count_within`] counts how
 //!   many last no longer than so many ticks;
-//! - [`Trafs`]: the trafs of a moof, one after the other; [`runs_of`] and [`heads_of`]: what is read of one of them
-//!   before its runs;
+//! - [`Trafs`]: the trafs of a moof, one after the other;
 //! - [`Traf::totals`]: a traf by its samples, added up ([`TrafTotals`]); [`is_sync`]: whether one is a sync sample;
-//! - [`TfhdLength`], [`TrunLength`], [`HoldsOnly`], [`OfTrack`], [`FlagsOnce`] and [`InTime`]: its rules, each as a
-//!   [`Check`](mp4_box::Check);
-//! - [`end_traf`]: where its track ends after it.
+//! - [`internal`]: what moofs are read with. [`runs_of`](internal::runs_of) and [`heads_of`](internal::heads_of) read
+//!   what a traf has before its runs; [`TfhdLength`](internal::TfhdLength), [`TrunLength`](internal::TrunLength),
+//!   [`HoldsOnly`](internal::HoldsOnly), [`OfTrack`](internal::OfTrack), [`FlagsOnce`](internal::FlagsOnce) and
+//!   [`InTime`](internal::InTime) are its rules, each as a [`Check`](mp4_box::Check);
+//!   [`end_traf`](internal::end_traf) says where its track ends after it.
 //!
 //! In the order of a fragment: `children.rt` goes over the boxes of a moof by their types, `fields.rt` over fields that
 //! a flag announces; `tfhd.rt`, `tfdt.rt` and `trun.rt` have the fields of a box by the standard's names and where they
@@ -32,6 +33,7 @@ mod end;
 mod fields;
 mod groups;
 mod holds_only;
+pub mod internal;
 mod rows;
 mod run;
 mod runs;
@@ -44,22 +46,10 @@ mod traf;
 mod traf_totals;
 mod trun;
 
-pub use children::{OfKind, Truns, children_of, next_of, truns_of};
-pub use end::end_traf;
-pub use fields::payload_at;
 pub use groups::Sums;
-pub use holds_only::HoldsOnly;
 pub use rows::{Cursor, Row, Rows, Steps};
 pub use run::Run;
-pub use runs::{RunStart, Runs, run_at, run_end, run_of};
-pub use start::{Heads, RunsOf, before_runs, heads_of, runs_of};
+pub use runs::Runs;
 pub use sync::is_sync;
-pub use tfdt::{LONG_TFDT_LEN, TFDT_LEN, base_media_decode_time};
-pub use tfhd::{OfTrack, TfhdLength, note_tfhd, track_id};
-pub use times::InTime;
-pub use traf::{
-    Traf, TrafContext, TrafHeader, Trafs, base_of, end_in, header_by, known_track, track_at,
-    track_of,
-};
+pub use traf::{Traf, Trafs};
 pub use traf_totals::TrafTotals;
-pub use trun::{FlagsOnce, SampleFields, TrunLength, sample_count};

@@ -6,7 +6,7 @@ use Rattle.mp4_box.specs.declared.headers.Size.TheVariants.{ToEnd}
 use Rattle.mp4_box.specs.Trees.{Box, boxes, first_of}
 use Rattle.mp4_init.specs.declared.table.Track.{Track}
 use Rattle.mp4_traf.specs.declared.run.Run.{Run}
-use Rattle.mp4_frag.specs.declared.run_row.RunRow.{RunRow}
+use Rattle.mp4_frag.specs.declared.run_list.run_row.RunRow.{RunRow}
 use Rattle.mp4_traf.specs.Kinds.{free}
 use Rattle.mp4_traf.specs.Runs.{MoofBytes, header_by, known_track, run_at}
 use Rattle.mp4_traf.specs.Tfhd.{track_id}

@@ -9,7 +9,7 @@ use Rattle.mp4_init.specs.Implementation.Rows.{lower, upper}
 use Rattle.mp4_run_order.specs.declared.runs.ListedRun.{ListedRun}
 use Rattle.mp4_run_order.specs.Orders.{place_key, track_key}
 use Rattle.mp4_traf.specs.declared.run.Run.{Run}
-use Rattle.mp4_frag.specs.declared.run_row.RunRow.{RunRow}
+use Rattle.mp4_frag.specs.declared.run_list.run_row.RunRow.{RunRow}
 use Rattle.mp4_traf.specs.Kinds.{tfhd}
 use Rattle.mp4_traf.specs.Runs.{MoofBytes, runs_of, traf_of}
 use Rattle.mp4_traf.specs.Implementation.Heads.{tfhd_at}

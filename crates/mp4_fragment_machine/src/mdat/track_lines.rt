@@ -13,7 +13,7 @@ use mp4_ends::{Failed, Sink};
 use mp4_grammar::{ListedEntry, ListedTrack};
 use mp4_init::{Track, TrackList};
 use mp4_machine::Block;
-use mp4_traf::next_of;
+use mp4_traf::internal::next_of;
 
 /// The boxes after the entry_count of an stsd (ISO/IEC 14496-12, 8.5.2).
 #[tactic(auto, using(std::proofs::lemmas::List::drop_min))]

@@ -24,7 +24,7 @@ use mp4_frag::{Moof, Run, SingleRun, Steps, Traf, TrafTotals, Trafs};
 use mp4_grammar::{Command, ListedTraf, Presented, TrafRecord};
 use mp4_init::TrackList;
 use mp4_machine::Block;
-use mp4_traf::known_track;
+use mp4_traf::internal::known_track;
 
 /// Puts the line of a traf, or its record.
 #[inline(always)]
