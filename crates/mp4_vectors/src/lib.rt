@@ -27,6 +27,49 @@ pub const V1: &[u8; 483] = b"\
     \0\0\0\x20trun\0\0\x02\x01\0\0\0\x03\0\0\0\x68\0\0\0\x05\0\0\0\x07\0\0\0\x03\
     \0\0\0\x17mdat\x01\x02\x03\x04\x05\x06\x07\x08\x09\x0a\x0b\x0c\x0d\x0e\x0f";
 
+/// Where the moov of [`V1`] begins.
+pub const V1_MOOV: usize = 20;
+/// Where the mvhd of that begins.
+pub const V1_MVHD: usize = 28;
+/// Where its trak begins.
+pub const V1_TRAK: usize = 136;
+/// Where the tkhd of that begins.
+pub const V1_TKHD: usize = 144;
+/// Where the mdia of that begins.
+pub const V1_MDIA: usize = 236;
+/// Where the mdhd of that begins.
+pub const V1_MDHD: usize = 244;
+/// Where the minf begins.
+pub const V1_MINF: usize = 276;
+/// Where the stsd begins.
+pub const V1_STSD: usize = 292;
+/// Where the mvex begins.
+pub const V1_MVEX: usize = 324;
+/// Where the trex begins.
+pub const V1_TREX: usize = 332;
+/// Where the moof begins, and the moov ends.
+pub const V1_MOOF: usize = 364;
+/// Where its mfhd begins.
+pub const V1_MFHD: usize = 372;
+/// Where its traf begins.
+pub const V1_TRAF: usize = 388;
+/// Where the tfhd of that begins.
+pub const V1_TFHD: usize = 396;
+/// Where the tfdt of that begins.
+pub const V1_TFDT: usize = 412;
+/// Where the trun of that begins.
+pub const V1_TRUN: usize = 428;
+/// Where the sizes of its three samples begin.
+pub const V1_SIZES: usize = 448;
+/// Where the mdat begins, and the moof ends.
+pub const V1_MDAT: usize = 460;
+/// Where its media begin.
+pub const V1_MEDIA: usize = 468;
+/// Where the second sample begins.
+pub const V1_SECOND_SAMPLE: usize = 473;
+/// Where the third sample begins.
+pub const V1_THIRD_SAMPLE: usize = 480;
+
 /// Two tracks in one fragment, one run after the other: samples of 5, 7 and 3 bytes, and two of 4.
 pub const V2: &[u8; 779] = b"\
     \0\0\0\x14ftypiso6\0\0\0\0iso6\

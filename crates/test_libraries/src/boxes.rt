@@ -4,7 +4,7 @@ ghost use Rattle.std.specs.Prelude.{◌≡◌, count_by};
 ghost use Rattle.std.specs.Str.{bytes_eq};
 ghost use Rattle.mp4_box.specs.Trees.{children, view};
 
-use mp4_box::vectors::V1;
+use mp4_box::vectors::{V1, V1_MOOF, V1_MOOV};
 use mp4_box::{
     BoxRef, Fault, FourCc, Header, Rule, Size, Walk, check_tree, full, header_of, i32_at, is_box,
     u32_at, u64_at, whole_box,
@@ -151,7 +151,7 @@ fn containers(rt: HostRuntime) -> Result<(), Fail> {
 #[test]
 fn a_whole_moov(rt: HostRuntime) -> Result<(), Fail> {
     let v1 = V1.as_slice();
-    let moov = &v1[20..364];
+    let moov = &v1[V1_MOOV..V1_MOOF];
     check(&rt, moov, 20, Some(Ok(())))?;
     // The trex at 332 with a size of 33 in place of 32.
     let mut bytes = *V1;
@@ -178,10 +178,10 @@ fn count_of(this: &BoxRef<'_>, kind: FourCc) -> u64
 #[test]
 fn children_by_type(rt: HostRuntime) {
     let v1 = V1.as_slice();
-    let moov = &v1[20..364];
+    let moov = &v1[V1_MOOV..V1_MOOF];
     assert_eq!(rt; is_box(moov), true);
-    assert_eq!(rt; is_box(&v1[20..363]), false);
-    assert_eq!(rt; is_box(&v1[20..365]), false);
+    assert_eq!(rt; is_box(&v1[V1_MOOV..363]), false);
+    assert_eq!(rt; is_box(&v1[V1_MOOV..365]), false);
     if is_box(moov) {
         let this = whole_box(moov, 20);
         assert_eq!(rt; count_of(&this, FourCc(*b"trak")), 1);

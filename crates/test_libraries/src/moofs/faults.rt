@@ -1,7 +1,7 @@
 //! What is at fault with a moof.
 
 use super::{MFHD, TFDT, TFHD, TRUN, fault, moof_of, one_traf, push_box, traf_of};
-use mp4_box::vectors::{V1, V2};
+use mp4_box::vectors::{V1, V1_MOOF, V1_MOOV, V2};
 use mp4_box::{Fault, Rule, is_box};
 use mp4_frag::{Moof, Steps};
 use mp4_init::{TrackList, tracks};
@@ -52,7 +52,12 @@ fn check_trafs(
 ) -> Result<(), Fail> {
     for (boxes, expected) in rows {
         let moof = one_traf(alloc, boxes)?;
-        let (fault, _) = outcome(alloc, &V1.as_slice()[20..364], moof.as_slice(), 364)?;
+        let (fault, _) = outcome(
+            alloc,
+            &V1.as_slice()[V1_MOOV..V1_MOOF],
+            moof.as_slice(),
+            364,
+        )?;
         assert_eq!(rt; fault, *expected, "{boxes:?}");
     }
     Ok(())
@@ -70,7 +75,12 @@ fn check_moofs(
             push_box(&mut content, b"traf", boxes)?;
         }
         let moof = moof_of(alloc, &[content.as_slice()])?;
-        let (fault, _) = outcome(alloc, &V1.as_slice()[20..364], moof.as_slice(), 364)?;
+        let (fault, _) = outcome(
+            alloc,
+            &V1.as_slice()[V1_MOOV..V1_MOOF],
+            moof.as_slice(),
+            364,
+        )?;
         assert_eq!(rt; fault, *expected, "{trafs:?}");
     }
     Ok(())
@@ -106,11 +116,21 @@ fn boxes_are_missing_or_twice(rt: HostRuntime) -> Result<(), Fail> {
     )?;
     let mut no_mfhd = Vec::new(rt.alloc());
     push_box(&mut no_mfhd, b"moof", &[])?;
-    let (fault_of, rows) = outcome(rt.alloc(), &V1.as_slice()[20..364], no_mfhd.as_slice(), 364)?;
+    let (fault_of, rows) = outcome(
+        rt.alloc(),
+        &V1.as_slice()[V1_MOOV..V1_MOOF],
+        no_mfhd.as_slice(),
+        364,
+    )?;
     assert_eq!(rt; fault_of, fault(Rule::Missing, b"moof", 364));
     assert_eq!(rt; rows, 0);
     let two = moof_of(rt.alloc(), &[MFHD])?;
-    let (fault_of, _) = outcome(rt.alloc(), &V1.as_slice()[20..364], two.as_slice(), 364)?;
+    let (fault_of, _) = outcome(
+        rt.alloc(),
+        &V1.as_slice()[V1_MOOV..V1_MOOF],
+        two.as_slice(),
+        364,
+    )?;
     assert_eq!(rt; fault_of, fault(Rule::Twice, b"mfhd", 388));
     Ok(())
 }
@@ -161,7 +181,12 @@ fn boxes_are_unsupported(rt: HostRuntime) -> Result<(), Fail> {
     )?;
     // A trun that is in no traf isn't read.
     let moof = moof_of(rt.alloc(), &[SHORT_TRUN])?;
-    let (fault_of, _) = outcome(rt.alloc(), &V1.as_slice()[20..364], moof.as_slice(), 364)?;
+    let (fault_of, _) = outcome(
+        rt.alloc(),
+        &V1.as_slice()[V1_MOOV..V1_MOOF],
+        moof.as_slice(),
+        364,
+    )?;
     assert_eq!(rt; fault_of, fault(Rule::Unsupported, b"trun", 388));
     Ok(())
 }
@@ -179,7 +204,12 @@ fn trafs_are_nested(rt: HostRuntime) -> Result<(), Fail> {
         }
         let mut moof = Vec::new(rt.alloc());
         push_box(&mut moof, b"moof", &[inner.as_slice()])?;
-        let (fault_of, _) = outcome(rt.alloc(), &V1.as_slice()[20..364], moof.as_slice(), 364)?;
+        let (fault_of, _) = outcome(
+            rt.alloc(),
+            &V1.as_slice()[V1_MOOV..V1_MOOF],
+            moof.as_slice(),
+            364,
+        )?;
         assert_eq!(rt; fault_of, expected);
     }
     Ok(())
@@ -324,7 +354,12 @@ fn times_pass_64_bits(rt: HostRuntime) -> Result<(), Fail> {
     )?;
     // Its samples are counted all the same.
     let moof = one_traf(rt.alloc(), &[TFHD, PAST, TRUN])?;
-    let (_, rows) = outcome(rt.alloc(), &V1.as_slice()[20..364], moof.as_slice(), 364)?;
+    let (_, rows) = outcome(
+        rt.alloc(),
+        &V1.as_slice()[V1_MOOV..V1_MOOF],
+        moof.as_slice(),
+        364,
+    )?;
     assert_eq!(rt; rows, 3);
     Ok(())
 }

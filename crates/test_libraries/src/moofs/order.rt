@@ -1,7 +1,7 @@
 //! The order in which the runs of a moof are taken, and where they may lie.
 
 use super::{TFDT, TFHD, fault, moof_of, push_box};
-use mp4_box::vectors::{V1, V2, V3};
+use mp4_box::vectors::{V1, V1_MDAT, V1_MOOF, V1_MOOV, V2, V3};
 use mp4_box::{Fault, Rule, is_box};
 use mp4_frag::{Moof, Payload, Steps};
 use mp4_init::{TrackList, tracks};
@@ -124,7 +124,14 @@ fn one_run_takes_64_bytes(rt: HostRuntime) -> Result<(), Fail> {
         (63, Some(483), Err(Refused::OverLimit)),
     ] {
         let payload = Payload { start: 468, end };
-        match outcome(rt.alloc(), limit, &v1[20..364], &v1[364..460], 364, payload)? {
+        match outcome(
+            rt.alloc(),
+            limit,
+            &v1[V1_MOOV..V1_MOOF],
+            &v1[V1_MOOF..V1_MDAT],
+            364,
+            payload,
+        )? {
             Ok((taken, misplaced)) => {
                 assert_eq!(rt; taken.as_slice(), &[(1, 468)][..]);
                 assert_eq!(rt; Ok(misplaced), expected);
@@ -227,12 +234,19 @@ fn runs_lie_far_away(rt: HostRuntime) -> Result<(), Fail> {
         ),
         ([0, 0, 0, 0x67], 467, fault(Rule::RunPlace, b"trun", 428)),
     ] {
-        let mut moof = v1[364..460].to_vec(rt.alloc())?;
+        let mut moof = v1[V1_MOOF..V1_MDAT].to_vec(rt.alloc())?;
         if moof.len() != 96 {
             return Err("no such moof".into());
         }
         moof.as_mut_slice()[80..84].copy_from_slice(&offset);
-        let outcome = outcome(rt.alloc(), 64, &v1[20..364], moof.as_slice(), 364, payload)?;
+        let outcome = outcome(
+            rt.alloc(),
+            64,
+            &v1[V1_MOOV..V1_MOOF],
+            moof.as_slice(),
+            364,
+            payload,
+        )?;
         let Ok((taken, misplaced)) = outcome else {
             return Err("a refusal".into());
         };

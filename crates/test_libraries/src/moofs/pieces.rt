@@ -8,7 +8,7 @@ ghost use Rattle.mp4_traf.specs.Ranges.{AreRunsOf, IsRunOf};
 use super::{TFDT, TFHD, TRUN, one_traf, push_box};
 use crate::callers::next_piece;
 use mp4_box::is_box;
-use mp4_box::vectors::V1;
+use mp4_box::vectors::{V1, V1_MOOF, V1_MOOV};
 use mp4_frag::{Cursor, Moof, Run, Runs, Steps};
 use mp4_init::{TrackList, tracks};
 use mp4_ledger::Ledger;
@@ -108,7 +108,7 @@ pub(super) fn outcome_of(
 
 /// The same, with the tracks of V1.
 fn outcome(alloc: Global, moof: &[u8], cut: &Cut) -> Result<Vec<Piece>, Fail> {
-    outcome_of(alloc, &V1.as_slice()[20..364], moof, cut)
+    outcome_of(alloc, &V1.as_slice()[V1_MOOV..V1_MOOF], moof, cut)
 }
 
 /// Samples, bytes and whether pieces end before sync samples.

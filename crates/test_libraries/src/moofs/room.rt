@@ -1,7 +1,7 @@
 //! Whether there is room for the numbers of the pieces of a moof.
 
 use super::{TFDT, TFHD, TRUN, fault, moof_of, one_traf, push_box, traf_of};
-use mp4_box::vectors::{V1, V2};
+use mp4_box::vectors::{V1, V1_MOOF, V1_MOOV, V2};
 use mp4_box::{Fault, Rule, is_box};
 use mp4_frag::{Moof, Steps};
 use mp4_init::{TrackList, tracks};
@@ -68,7 +68,14 @@ fn check(
     cases: &[Case],
 ) -> Result<(), Fail> {
     for (asked, seq, expected) in cases {
-        let (next, rows) = outcome(alloc, &V1.as_slice()[20..364], moof, 364, *asked, *seq)?;
+        let (next, rows) = outcome(
+            alloc,
+            &V1.as_slice()[V1_MOOV..V1_MOOF],
+            moof,
+            364,
+            *asked,
+            *seq,
+        )?;
         assert_eq!(rt; next.map_err(Some), *expected, "{asked:?} {seq}");
         assert_eq!(rt; rows, samples.saturating_mul(2));
     }

@@ -4,7 +4,7 @@ ghost use Rattle.std.specs.Prelude.{◌≡◌, length};
 
 use super::{TFDT, TFHD, TRUN, moof_of, one_traf, push_box};
 use mp4_box::is_box;
-use mp4_box::vectors::{V1, V2, V3};
+use mp4_box::vectors::{V1, V1_MDAT, V1_MOOF, V1_MOOV, V2, V3};
 use mp4_frag::{Moof, Run, Steps};
 use mp4_init::{TrackList, tracks};
 use mp4_ledger::Ledger;
@@ -151,7 +151,12 @@ fn check_traf(
     end: u64,
 ) -> Result<(), Fail> {
     let moof = one_traf(alloc, boxes)?;
-    let (samples, ends) = outcome(alloc, &V1.as_slice()[20..364], moof.as_slice(), 364)?;
+    let (samples, ends) = outcome(
+        alloc,
+        &V1.as_slice()[V1_MOOV..V1_MOOF],
+        moof.as_slice(),
+        364,
+    )?;
     assert_eq!(rt; samples.as_slice(), expected, "{boxes:?}");
     assert_eq!(rt; ends.as_slice(), &[end][..]);
     Ok(())
@@ -160,7 +165,12 @@ fn check_traf(
 #[test]
 fn vectors_have_these_samples(rt: HostRuntime) -> Result<(), Fail> {
     let v1 = V1.as_slice();
-    let (samples, ends) = outcome(rt.alloc(), &v1[20..364], &v1[364..460], 364)?;
+    let (samples, ends) = outcome(
+        rt.alloc(),
+        &v1[V1_MOOV..V1_MOOF],
+        &v1[V1_MOOF..V1_MDAT],
+        364,
+    )?;
     let first = [of_1(0, 5, 468), of_1(1024, 7, 473), of_1(2048, 3, 480)];
     assert_eq!(rt; samples.as_slice(), &first[..]);
     assert_eq!(rt; ends.as_slice(), &[3072][..]);
@@ -365,7 +375,12 @@ fn times_begin_with_the_tfdt_or_follow(rt: HostRuntime) -> Result<(), Fail> {
     push_box(&mut trafs, b"traf", &[TFHD, AT_9000, ONE])?;
     push_box(&mut trafs, b"traf", &[TFHD, TFDT, TRUN])?;
     let moof = moof_of(rt.alloc(), &[trafs.as_slice()])?;
-    let (samples, ends) = outcome(rt.alloc(), &V1.as_slice()[20..364], moof.as_slice(), 364)?;
+    let (samples, ends) = outcome(
+        rt.alloc(),
+        &V1.as_slice()[V1_MOOV..V1_MOOF],
+        moof.as_slice(),
+        364,
+    )?;
     let both = [
         of_1(9000, 0, 468),
         of_1(0, 5, 468),
@@ -382,7 +397,7 @@ fn a_fragment_follows(rt: HostRuntime) -> Result<(), Fail> {
     // V1's moof without its tfdt, after another that ended at 3,072.
     let moof = one_traf(rt.alloc(), &[TFHD, TRUN])?;
     let mut ledger = Ledger::new(rt.alloc(), 1 << 30);
-    let moov = &V1.as_slice()[20..364];
+    let moov = &V1.as_slice()[V1_MOOV..V1_MOOF];
     if !is_box(moov) {
         return Err("no box".into());
     }

@@ -2,7 +2,7 @@
 
 use super::pieces::{NO_SYNC, outcome_of, trun_of};
 use super::{TFDT, TFHD, one_traf};
-use mp4_box::vectors::V1;
+use mp4_box::vectors::{V1, V1_MOOF, V1_MOOV};
 use mp4_pieces::Cut;
 use std::alloc::Global;
 use std::process::Abort;
@@ -48,11 +48,11 @@ fn cut_by(limits: Limits) -> Option<Cut> {
 /// V1's moov with this timescale, and this default duration of a sample.
 fn moov_of(alloc: Global, timescale: u32, duration: u32) -> Result<Vec<u8>, Fail> {
     let v1 = V1.as_slice();
-    let mut moov = v1[20..264].to_vec(alloc)?;
+    let mut moov = v1[V1_MOOV..264].to_vec(alloc)?;
     moov.extend_from_slice(&timescale.to_be_bytes())?;
     moov.extend_from_slice(&v1[268..352])?;
     moov.extend_from_slice(&duration.to_be_bytes())?;
-    moov.extend_from_slice(&v1[356..364])?;
+    moov.extend_from_slice(&v1[356..V1_MOOF])?;
     Ok(moov)
 }
 

@@ -11,7 +11,7 @@ ghost use Rattle.mp4_traf.specs.Ranges.{AreRunsOf, IsRunOf};
 
 use super::{TFDT, TFHD, TRUN, one_traf, push_box};
 use mp4_box::is_box;
-use mp4_box::vectors::V1;
+use mp4_box::vectors::{V1, V1_MOOF, V1_MOOV};
 use mp4_cut::{
     Cut, Pieces, WriteFault, group_len, put_moof, room, write_index, write_mdat_header, write_moof,
 };
@@ -121,7 +121,7 @@ fn written(
     index: bool,
     room: usize,
 ) -> Result<(Vec<u8>, bool), Fail> {
-    let moov = &V1.as_slice()[20..364];
+    let moov = &V1.as_slice()[V1_MOOV..V1_MOOF];
     if !is_box(moov) {
         return Err("no box".into());
     }
@@ -386,7 +386,7 @@ fn gone_of(alloc: Global, samples: u32, waiting: usize, room: usize) -> Result<G
     let mut trun = Vec::new(alloc);
     push_box(&mut trun, b"trun", &[fields.as_slice()])?;
     let moof = one_traf(alloc, &[TFHD, TFDT, trun.as_slice()])?;
-    let moov = &V1.as_slice()[20..364];
+    let moov = &V1.as_slice()[V1_MOOV..V1_MOOF];
     if !is_box(moov) {
         return Err("no box".into());
     }

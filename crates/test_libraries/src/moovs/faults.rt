@@ -2,7 +2,9 @@
 
 use super::{Outcome, fault, grown, outcome};
 use mp4_box::Rule;
-use mp4_box::vectors::{V1, V2};
+use mp4_box::vectors::{
+    V1, V1_MDHD, V1_MDIA, V1_MINF, V1_MOOF, V1_MOOV, V1_MVEX, V1_STSD, V1_TKHD, V1_TREX, V2,
+};
 use std::alloc::Global;
 use std::process::Abort;
 use std::test::Fail;
@@ -41,7 +43,7 @@ fn check_more(
     rows: &[(usize, &[u8], &[usize], Outcome)],
 ) -> Result<(), Fail> {
     for (at, more, parents, expected) in rows {
-        let moov = grown(alloc, &V1.as_slice()[20..364], *at, more, parents)?;
+        let moov = grown(alloc, &V1.as_slice()[V1_MOOV..V1_MOOF], *at, more, parents)?;
         assert_eq!(rt;
             outcome(alloc, moov.as_slice()),
             *expected,
@@ -61,7 +63,7 @@ fn boxes_are_missing(rt: HostRuntime) -> Result<(), Fail> {
     check_changed(
         &rt,
         rt.alloc(),
-        &V1.as_slice()[20..364],
+        &V1.as_slice()[V1_MOOV..V1_MOOF],
         &[
             (&[(328, 0)], fault(Rule::Missing, b"moov", 20)),
             (&[(328, 0), (152, 2)], fault(Rule::Missing, b"moov", 20)),
@@ -84,26 +86,36 @@ fn boxes_occur_twice(rt: HostRuntime) -> Result<(), Fail> {
         &rt,
         rt.alloc(),
         &[
-            (364, &v1[324..364], &[20], fault(Rule::Twice, b"mvex", 364)),
+            (
+                364,
+                &v1[V1_MVEX..V1_MOOF],
+                &[20],
+                fault(Rule::Twice, b"mvex", 364),
+            ),
             (
                 236,
-                &v1[144..236],
+                &v1[V1_TKHD..V1_MDIA],
                 &[20, 136],
                 fault(Rule::Twice, b"tkhd", 236),
             ),
             (
                 276,
-                &v1[244..276],
+                &v1[V1_MDHD..V1_MINF],
                 &[20, 136, 236],
                 fault(Rule::Twice, b"mdhd", 276),
             ),
             (
                 324,
-                &v1[276..324],
+                &v1[V1_MINF..V1_MVEX],
                 &[20, 136, 236],
                 fault(Rule::Twice, b"minf", 324),
             ),
-            (324, &v1[292..324], TABLES, fault(Rule::Twice, b"stsd", 324)),
+            (
+                324,
+                &v1[V1_STSD..V1_MVEX],
+                TABLES,
+                fault(Rule::Twice, b"stsd", 324),
+            ),
             (324, b"\0\0\0\x08tkhd", TABLES, Some(Ok(1))),
         ],
     )
@@ -115,7 +127,7 @@ fn versions(rt: HostRuntime) -> Result<(), Fail> {
     check_changed(
         &rt,
         rt.alloc(),
-        &V1.as_slice()[20..364],
+        &V1.as_slice()[V1_MOOV..V1_MOOF],
         &[
             (&[(152, 2)], fault(Rule::Version, b"tkhd", 144)),
             (&[(252, 255)], fault(Rule::Version, b"mdhd", 244)),
@@ -189,7 +201,7 @@ fn sample_entries(rt: HostRuntime) -> Result<(), Fail> {
     check_changed(
         &rt,
         rt.alloc(),
-        &V1.as_slice()[20..364],
+        &V1.as_slice()[V1_MOOV..V1_MOOF],
         &[
             (&[(307, 2)], fault(Rule::FieldLength, b"stsd", 292)),
             (all, fault(Rule::FieldLength, b"stsd", 292)),
@@ -233,7 +245,7 @@ fn track_ids(rt: HostRuntime) -> Result<(), Fail> {
     check_changed(
         &rt,
         rt.alloc(),
-        &v1[20..364],
+        &v1[V1_MOOV..V1_MOOF],
         &[
             (&[(347, 2)], fault(Rule::UnknownTrack, b"tkhd", 144)),
             (
@@ -255,7 +267,7 @@ fn track_ids(rt: HostRuntime) -> Result<(), Fail> {
         &[
             (
                 364,
-                &v1[332..364],
+                &v1[V1_TREX..V1_MOOF],
                 &[20, 324],
                 fault(Rule::UnknownTrack, b"tkhd", 144),
             ),

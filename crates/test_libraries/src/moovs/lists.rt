@@ -3,7 +3,7 @@
 ghost use Rattle.std.specs.Prelude.{◌*◌, ◌≤◌, length, IfSome};
 
 use super::{check, fault, grown, push_all};
-use mp4_box::vectors::{V1, V2};
+use mp4_box::vectors::{V1, V1_MOOF, V1_MOOV, V2};
 use mp4_box::{Rule, is_box};
 use mp4_init::{InitStop, Track, TrackList, tracks};
 use mp4_ledger::{Ledger, Refused};
@@ -48,7 +48,7 @@ const FIRST: Track = Track {
 #[test]
 fn one_track(rt: HostRuntime) {
     assert_eq!(rt;
-        first_track(rt.alloc(), &V1.as_slice()[20..364]),
+        first_track(rt.alloc(), &V1.as_slice()[V1_MOOV..V1_MOOF]),
         Some(FIRST)
     );
 }
@@ -56,7 +56,7 @@ fn one_track(rt: HostRuntime) {
 #[test]
 fn one_track_takes_64_bytes(rt: HostRuntime) {
     let mut ledger = Ledger::new(rt.alloc(), 64);
-    let Some(list) = list_of(&mut ledger, &V1.as_slice()[20..364]) else {
+    let Some(list) = list_of(&mut ledger, &V1.as_slice()[V1_MOOV..V1_MOOF]) else {
         panic!(rt; "one track");
     };
     let found = (list.len(), list.find(1), list.find(0));

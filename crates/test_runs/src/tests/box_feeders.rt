@@ -6,7 +6,7 @@ ghost use Rattle.mp4_stream.specs.BoxFeeders.{held_by};
 
 use super::{FTYP, MDAT, MOOF, MOOV, listing_of};
 use mp4_stream::ends::ToVec;
-use mp4_stream::vectors::V1;
+use mp4_stream::vectors::{V1, V1_MOOV};
 use mp4_stream::{BoxFeeder, Fault, FourCc, Ledger, Rule, Stop, Totals};
 use std::alloc::Global;
 use std::process::Abort;
@@ -144,7 +144,7 @@ fn listings_that_stop(rt: HostRuntime) -> Result<(), Fail> {
         offset: 20,
     });
     let mut bad = Listed::new(alloc, 1000, 344)?;
-    assert_eq!(&rt; bad.push(&v1[..20]), Ok(()));
+    assert_eq!(&rt; bad.push(&v1[..V1_MOOV]), Ok(()));
     assert_eq!(&rt; bad.push(b"\0\0\0\x07free"), Err(fault));
     assert_eq!(&rt; bad.push(v1), Err(fault));
     assert_eq!(&rt; bad.w.bytes(), FTYP.as_bytes());

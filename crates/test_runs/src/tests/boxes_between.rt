@@ -3,7 +3,7 @@
 use super::joined;
 use super::splits::{BY_TWO, by_two, check_good};
 use super::wanted::{SYNC, piece_at, push_fragment};
-use mp4_stream::vectors::V1;
+use mp4_stream::vectors::{V1, V1_MEDIA, V1_MOOF, V1_THIRD_SAMPLE};
 use std::alloc::Global;
 use std::process::Abort;
 use std::test::Fail;
@@ -14,12 +14,17 @@ fn check_between(rt: &impl Abort, alloc: Global, between: &[u8], left: &[u8]) ->
     let mut all = by_two(alloc)?;
     all.extend_from_slice(left)?;
     let (first, second) = (
-        piece_at(3, 0, &[[5, SYNC], [7, SYNC]], &v1[468..480]),
-        piece_at(4, 2048, &[[3, SYNC]], &v1[480..]),
+        piece_at(
+            3,
+            0,
+            &[[5, SYNC], [7, SYNC]],
+            &v1[V1_MEDIA..V1_THIRD_SAMPLE],
+        ),
+        piece_at(4, 2048, &[[3, SYNC]], &v1[V1_THIRD_SAMPLE..]),
     );
     push_fragment(&mut all, &first)?;
     push_fragment(&mut all, &second)?;
-    let stream = joined(alloc, &[V1.as_slice(), between, &V1.as_slice()[364..]])?;
+    let stream = joined(alloc, &[V1.as_slice(), between, &V1.as_slice()[V1_MOOF..]])?;
     check_good(rt, alloc, &BY_TWO, &[&stream], &all)
 }
 

@@ -9,7 +9,7 @@ use super::rows::with_empty_samples;
 use super::{joined, words_of};
 use fmp4_program::run;
 use mp4_stream::ends::{FromSlice, ToVec};
-use mp4_stream::vectors::V1;
+use mp4_stream::vectors::{V1, V1_MOOF, V1_SIZES};
 use mp4_stream::{Failed, Sink, Source};
 use std::alloc::{AllocError, Global};
 use std::cell::Cell;
@@ -73,7 +73,7 @@ impl<W: Sink> Sink for Counted<W> {
 
 /// Two million bytes of media in three samples.
 fn with_large_samples(alloc: Global) -> Result<Vec<u8>, AllocError> {
-    let front = &V1.as_slice()[..448];
+    let front = &V1.as_slice()[..V1_SIZES];
     let sizes = b"\0\x0f\x42\x40\0\x0a\xae\x60\0\x04\x93\xe0";
     let mut all = joined(alloc, &[front, sizes, b"\0\x1e\x84\x88mdat"])?;
     all.resize(2_000_468, 7)?;
@@ -127,7 +127,7 @@ fn reads_and_writes(rt: HostRuntime) -> Result<(), Fail> {
     for stream in [
         with_large_samples(alloc)?,
         with_empty_samples(alloc, 20_000)?,
-        repeated(alloc, v1, &v1[364..], 5_000)?,
+        repeated(alloc, v1, &v1[V1_MOOF..], 5_000)?,
         repeated(alloc, v1, b"\0\0\0\x08free", 20_000)?,
     ] {
         for command in COMMANDS {

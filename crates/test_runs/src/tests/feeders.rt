@@ -9,7 +9,7 @@ use super::joined;
 use super::split_stops::{before_a_large_moof, with_a_large_moof};
 use super::splits::{by_two, tracks_by_two};
 use mp4_stream::ends::ToVec;
-use mp4_stream::vectors::{V1, V2};
+use mp4_stream::vectors::{V1, V1_MOOF, V1_MOOV, V2};
 use mp4_stream::{Cut, Fault, Feeder, FourCc, Ledger, Rule, Stop, Totals, split_pieces};
 use std::alloc::Global;
 use std::process::Abort;
@@ -215,15 +215,18 @@ fn pieces_of_a_list(rt: HostRuntime) -> Result<(), Fail> {
 #[test]
 fn stops_stay(rt: HostRuntime) -> Result<(), Fail> {
     let (alloc, v1) = (rt.alloc(), V1.as_slice());
-    let without = joined(alloc, &[&v1[..20], &v1[364..]])?;
+    let without = joined(alloc, &[&v1[..V1_MOOV], &v1[V1_MOOF..]])?;
     let fault = at(Rule::NoMoov, Some(b"moof"), 20).expect(&rt, "a fault");
     let stop = Stop::Stream(fault);
     let mut pushed = Pushed::new(&rt, alloc, 1000)?;
     assert_eq!(&rt; pushed.push(&without), Err(stop));
-    assert_eq!(&rt; (pushed.w.bytes(), pushed.feeder.held()), (&v1[..20], 0));
+    assert_eq!(&rt;
+        (pushed.w.bytes(), pushed.feeder.held()),
+        (&v1[..V1_MOOV], 0)
+    );
     assert_eq!(&rt; pushed.push(v1), Err(stop));
     assert_eq!(&rt; pushed.push(&[]), Err(stop));
-    assert_eq!(&rt; pushed.w.bytes(), &v1[..20]);
+    assert_eq!(&rt; pushed.w.bytes(), &v1[..V1_MOOV]);
     assert_eq!(&rt; pushed.finish(), (Err(stop), 0));
     Ok(())
 }
@@ -415,10 +418,10 @@ fn check_limit(
 ) -> Result<(), Fail> {
     let (all, v1) = (by_two(alloc)?, V1.as_slice());
     let mut pair = Pair::new(rt, alloc, limit)?;
-    assert_eq!(rt; pair.push_first(&v1[..364]), Ok(()));
+    assert_eq!(rt; pair.push_first(&v1[..V1_MOOF]), Ok(()));
     assert_eq!(rt; pair.push_second(v1), answer);
     assert_eq!(rt; pair.second_w.bytes(), &all[..written.min(all.len())]);
-    assert_eq!(rt; pair.push_first(&v1[364..]), Ok(()));
+    assert_eq!(rt; pair.push_first(&v1[V1_MOOF..]), Ok(()));
     assert_eq!(rt; pair.first_w.bytes(), all.as_slice());
     assert_eq!(rt; pair.give_up(), 0);
     Ok(())

@@ -4,7 +4,10 @@
 use super::fragments::check_fault;
 use super::layouts::{MFHD, TFHD};
 use super::{check_words, joined};
-use mp4_stream::vectors::V1;
+use mp4_stream::vectors::{
+    V1, V1_MDAT, V1_MDHD, V1_MDIA, V1_MINF, V1_MOOF, V1_MOOV, V1_MVEX, V1_MVHD, V1_TFDT, V1_TKHD,
+    V1_TRAK, V1_TRUN,
+};
 use std::alloc::{AllocError, Global};
 use std::process::Abort;
 use std::test::Fail;
@@ -66,21 +69,24 @@ impl Header {
     /// The first vector with this box in its place.
     fn stream(self, alloc: Global, header: &[u8]) -> Result<Vec<u8>, AllocError> {
         match self {
-            Header::Tkhd => with_headers(alloc, header, &V1.as_slice()[244..276]),
-            Header::Mdhd => with_headers(alloc, &V1.as_slice()[144..236], header),
+            Header::Tkhd => with_headers(alloc, header, &V1.as_slice()[V1_MDHD..V1_MINF]),
+            Header::Mdhd => with_headers(alloc, &V1.as_slice()[V1_TKHD..V1_MDIA], header),
         }
     }
 }
 
 /// The first vector with these boxes in place of its tkhd and its mdhd.
 fn with_headers(alloc: Global, tkhd: &[u8], mdhd: &[u8]) -> Result<Vec<u8>, AllocError> {
-    let (mvhd, mvex) = (&V1.as_slice()[28..136], &V1.as_slice()[324..364]);
-    let mdia = boxed(alloc, b"mdia", mdhd, &V1.as_slice()[276..324], b"")?;
+    let (mvhd, mvex) = (
+        &V1.as_slice()[V1_MVHD..V1_TRAK],
+        &V1.as_slice()[V1_MVEX..V1_MOOF],
+    );
+    let mdia = boxed(alloc, b"mdia", mdhd, &V1.as_slice()[V1_MINF..V1_MVEX], b"")?;
     let trak = boxed(alloc, b"trak", tkhd, &mdia, b"")?;
-    let mut all = V1.as_slice()[..20].to_vec(alloc)?;
+    let mut all = V1.as_slice()[..V1_MOOV].to_vec(alloc)?;
     let moov = boxed(alloc, b"moov", mvhd, &trak, mvex)?;
     all.extend_from_slice(&moov)?;
-    all.extend_from_slice(&V1.as_slice()[364..])?;
+    all.extend_from_slice(&V1.as_slice()[V1_MOOF..])?;
     Ok(all)
 }
 
@@ -184,7 +190,10 @@ impl Part {
 
     /// The first vector's traf with this box in its place, if that is in a traf.
     fn traf(self, alloc: Global, part: &[u8]) -> Result<Vec<u8>, AllocError> {
-        let (tfdt, trun) = (&V1.as_slice()[412..428], &V1.as_slice()[428..460]);
+        let (tfdt, trun) = (
+            &V1.as_slice()[V1_TFDT..V1_TRUN],
+            &V1.as_slice()[V1_TRUN..V1_MDAT],
+        );
         match self {
             Part::Mfhd => boxed(alloc, b"traf", TFHD, tfdt, trun),
             Part::Tfhd => boxed(alloc, b"traf", part, tfdt, trun),
@@ -207,7 +216,7 @@ impl Way {
     /// A moof of these boxes. With a second traf it isn't read in a straight line, and with one without tfdt not in one
     /// pass.
     fn moof(self, alloc: Global, mfhd: &[u8], traf: &[u8]) -> Result<Vec<u8>, AllocError> {
-        let timed = boxed(alloc, b"traf", TFHD, &V1.as_slice()[412..428], b"")?;
+        let timed = boxed(alloc, b"traf", TFHD, &V1.as_slice()[V1_TFDT..V1_TRUN], b"")?;
         let untimed = boxed(alloc, b"traf", TFHD, b"", b"")?;
         match self {
             Way::Straight => boxed(alloc, b"moof", mfhd, traf, b""),
@@ -233,7 +242,10 @@ const PARTS: [(Part, &[u8], usize); 6] = [
 
 /// The first vector with this moof in place of its own.
 fn with_moof(alloc: Global, moof: &[u8]) -> Result<Vec<u8>, AllocError> {
-    joined(alloc, &[&V1.as_slice()[..364], moof, &V1.as_slice()[460..]])
+    joined(
+        alloc,
+        &[&V1.as_slice()[..V1_MOOF], moof, &V1.as_slice()[V1_MDAT..]],
+    )
 }
 
 #[test]

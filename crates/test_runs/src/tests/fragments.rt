@@ -1,7 +1,7 @@
 //! Samples that are listed, and streams that are checked.
 
 use super::check_words;
-use mp4_stream::vectors::{V1, V2};
+use mp4_stream::vectors::{V1, V1_MDAT, V1_MEDIA, V1_MOOF, V1_MOOV, V1_TFDT, V1_TFHD, V1_TRUN, V2};
 use std::alloc::Global;
 use std::process::Abort;
 use std::test::Fail;
@@ -46,7 +46,7 @@ pub(super) fn check_fault(
 fn sound_streams(rt: HostRuntime) -> Result<(), Fail> {
     let (alloc, v1) = (rt.alloc(), V1.as_slice());
     check_sound(&rt, alloc, &[v1], &SAMPLES, COUNTS)?;
-    let to_end = [&v1[..460], HEADER_TO_END, &v1[468..]];
+    let to_end = [&v1[..V1_MDAT], HEADER_TO_END, &v1[V1_MEDIA..]];
     check_sound(&rt, alloc, &to_end, &SAMPLES, COUNTS)?;
     let none = "fragments=0 samples=0 media=0 held=65536\n";
     check_sound(&rt, alloc, &[], &[], none)
@@ -64,7 +64,7 @@ fn tracks_and_fragments(rt: HostRuntime) -> Result<(), Fail> {
     let words = ["fmp4", "fragments"];
     check_words(&rt, alloc, &words, &[v1], 0, &FRAGMENTS, "")?;
     check_words(&rt, alloc, &words, &[], 0, &[], "")?;
-    let to_end = [&v1[..460], HEADER_TO_END, &v1[468..]];
+    let to_end = [&v1[..V1_MDAT], HEADER_TO_END, &v1[V1_MEDIA..]];
     let lines = [
         FRAGMENTS[0],
         "fragment=1 at=364 size=end track=1 dts=0 dur=3072 samples=3 sync=yes media=15 pts=0 syncs=3 gap=0\n",
@@ -76,7 +76,7 @@ fn tracks_and_fragments(rt: HostRuntime) -> Result<(), Fail> {
         &rt,
         alloc,
         &words,
-        &[v1, &v1[364..460]],
+        &[v1, &v1[V1_MOOF..V1_MDAT]],
         2,
         &FRAGMENTS,
         fault,
@@ -96,7 +96,7 @@ fn trafs_of_a_fragment(rt: HostRuntime) -> Result<(), Fail> {
         "fragment=1 at=584 size=195 track=2 dts=0 dur=2048 samples=2 sync=yes media=8 pts=0 syncs=2 gap=0\n",
     ];
     check_words(&rt, alloc, &words, &[v2], 0, &two_tracks, "")?;
-    let (front, tfhd) = (&v1[..364], &v1[396..412]);
+    let (front, tfhd) = (&v1[..V1_MOOF], &v1[V1_TFHD..V1_TFDT]);
     // Two runs, of which only the second begins with a sync sample.
     let two_runs = [
         front,
@@ -117,7 +117,7 @@ fn trafs_of_a_fragment(rt: HostRuntime) -> Result<(), Fail> {
         front,
         b"\0\0\0\x40moof\0\0\0\x10mfhd\0\0\0\0\0\0\0\x08\0\0\0\x28traf".as_slice(),
         tfhd,
-        &v1[412..428],
+        &v1[V1_TFDT..V1_TRUN],
         b"\0\0\0\x08mdat",
     ];
     let lines = [
@@ -130,7 +130,12 @@ fn trafs_of_a_fragment(rt: HostRuntime) -> Result<(), Fail> {
 #[test]
 fn boxes_out_of_place(rt: HostRuntime) -> Result<(), Fail> {
     let (alloc, v1) = (rt.alloc(), V1.as_slice());
-    let (start, moov, moof, mdat) = (&v1[..20], &v1[20..364], &v1[364..460], &v1[460..]);
+    let (start, moov, moof, mdat) = (
+        &v1[..V1_MOOV],
+        &v1[V1_MOOV..V1_MOOF],
+        &v1[V1_MOOF..V1_MDAT],
+        &v1[V1_MDAT..],
+    );
     let fault = "fmp4: 3 NoMoov in moof at 20\n";
     check_fault(&rt, alloc, &[start, moof, mdat], &[], fault)?;
     let fault = "fmp4: 4 SecondMoov in moov at 364\n";
@@ -151,15 +156,15 @@ fn media_at_fault(rt: HostRuntime) -> Result<(), Fail> {
     let cut = "fmp4: 1 Truncated in mdat at 460\n";
     check_fault(&rt, alloc, &[&v1[..482]], &SAMPLES, cut)?;
     // An mdat that goes to the end of the stream must have the bytes that the runs need.
-    let to_end = [&v1[..460], HEADER_TO_END, &v1[468..482]];
+    let to_end = [&v1[..V1_MDAT], HEADER_TO_END, &v1[V1_MEDIA..482]];
     check_fault(&rt, alloc, &to_end, &SAMPLES, cut)?;
     let cut = "fmp4: 1 Truncated in (none) at 460\n";
     check_fault(&rt, alloc, &[&v1[..467]], &[], cut)?;
     // The header is longer by eight bytes, so the run begins within it.
     let long = [
-        &v1[..460],
+        &v1[..V1_MDAT],
         b"\0\0\0\x01mdat\0\0\0\0\0\0\0\x1f".as_slice(),
-        &v1[468..],
+        &v1[V1_MEDIA..],
     ];
     check_fault(&rt, alloc, &long, &[], "fmp4: 22 RunPlace in trun at 428\n")
 }

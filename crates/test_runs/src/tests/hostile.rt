@@ -5,7 +5,7 @@ use super::fragments::check_fault;
 use super::layouts::MFHD;
 use super::splits::{BY_TWO, by_two, check_split};
 use super::{FTYP, MDAT, MOOF, MOOV, check_rows, joined};
-use mp4_stream::vectors::V1;
+use mp4_stream::vectors::{V1, V1_MDAT, V1_MEDIA, V1_MOOF, V1_SIZES, V1_TFHD, V1_TRUN};
 use mp4_stream::{Fault, FourCc, Rule, Stop};
 use std::alloc::Global;
 use std::process::Abort;
@@ -69,13 +69,13 @@ fn fields_of_runs(rt: HostRuntime) -> Result<(), Fail> {
     check_rows(&rt, alloc, &many, 0, &all, "")?;
     // The same without sizes.
     let none = [
-        &v1[..364],
+        &v1[..V1_MOOF],
         b"\0\0\0\x54moof".as_slice(),
         MFHD,
         b"\0\0\0\x3ctraf",
-        &v1[396..428],
+        &v1[V1_TFHD..V1_TRUN],
         b"\0\0\0\x14trun\0\0\0\x01\xff\xff\xff\xff\0\0\0\x5c",
-        &v1[460..],
+        &v1[V1_MDAT..],
     ];
     let line = "fmp4: 20 TooManySamples in trun at 428\n";
     let due = fault_at(Rule::TooManySamples, b"trun", 428, line);
@@ -83,7 +83,7 @@ fn fields_of_runs(rt: HostRuntime) -> Result<(), Fail> {
     let line = "fmp4: 22 RunPlace in trun at 428\n";
     let due = fault_at(Rule::RunPlace, b"trun", 428, line);
     for offset in [b"\x7f\xff\xff\xff", b"\x80\0\0\0"] {
-        let far = [&v1[..444], offset.as_slice(), &v1[448..]];
+        let far = [&v1[..444], offset.as_slice(), &v1[V1_SIZES..]];
         check_hostile(&rt, alloc, &far, due, 364)?;
         check_rows(&rt, alloc, &far, 0, &all, "")?;
     }
@@ -95,9 +95,9 @@ fn sizes_of_boxes(rt: HostRuntime) -> Result<(), Fail> {
     let (alloc, v1) = (rt.alloc(), V1.as_slice());
     let line = "fmp4: 25 StreamTooLong in mdat at 460\n";
     let longest = [
-        &v1[..460],
+        &v1[..V1_MDAT],
         b"\0\0\0\x01mdat\xff\xff\xff\xff\xff\xff\xff\xff".as_slice(),
-        &v1[468..],
+        &v1[V1_MEDIA..],
     ];
     let due = fault_at(Rule::StreamTooLong, b"mdat", 460, line);
     check_hostile(&rt, alloc, &longest, due, 364)?;
@@ -105,18 +105,18 @@ fn sizes_of_boxes(rt: HostRuntime) -> Result<(), Fail> {
     // The longest moof that ends with the longest stream, and one that goes a byte further.
     let line = "fmp4: 7 TooLarge in moof at 364\n";
     let large = [
-        &v1[..364],
+        &v1[..V1_MOOF],
         b"\0\0\0\x01moof\x3f\xff\xff\xff\xff\xff\xfe\x94".as_slice(),
-        &v1[460..],
+        &v1[V1_MDAT..],
     ];
     let due = fault_at(Rule::TooLarge, b"moof", 364, line);
     check_hostile(&rt, alloc, &large, due, 364)?;
     check_rows(&rt, alloc, &large, 2, &[FTYP, MOOV], line)?;
     let line = "fmp4: 25 StreamTooLong in moof at 364\n";
     let further = [
-        &v1[..364],
+        &v1[..V1_MOOF],
         b"\0\0\0\x01moof\x3f\xff\xff\xff\xff\xff\xfe\x95".as_slice(),
-        &v1[460..],
+        &v1[V1_MDAT..],
     ];
     let due = fault_at(Rule::StreamTooLong, b"moof", 364, line);
     check_hostile(&rt, alloc, &further, due, 364)?;
@@ -129,20 +129,20 @@ fn trees_of_moofs(rt: HostRuntime) -> Result<(), Fail> {
     // Eight trafs, each in the one before, and seven.
     let line = "fmp4: 8 Depth in traf at 428\n";
     let deep = [
-        &v1[..364],
+        &v1[..V1_MOOF],
         b"\0\0\0\x48moof\0\0\0\x40traf\0\0\0\x38traf\0\0\0\x30traf\0\0\0\x28traf".as_slice(),
         b"\0\0\0\x20traf\0\0\0\x18traf\0\0\0\x10traf\0\0\0\x08traf",
-        &v1[460..],
+        &v1[V1_MDAT..],
     ];
     let due = fault_at(Rule::Depth, b"traf", 428, line);
     check_hostile(&rt, alloc, &deep, due, 364)?;
     check_rows(&rt, alloc, &deep, 2, &[FTYP, MOOV], line)?;
     let line = "fmp4: 9 Missing in moof at 364\n";
     let seven = [
-        &v1[..364],
+        &v1[..V1_MOOF],
         b"\0\0\0\x40moof\0\0\0\x38traf\0\0\0\x30traf\0\0\0\x28traf\0\0\0\x20traf".as_slice(),
         b"\0\0\0\x18traf\0\0\0\x10traf\0\0\0\x08traf",
-        &v1[460..],
+        &v1[V1_MDAT..],
     ];
     let due = fault_at(Rule::Missing, b"moof", 364, line);
     check_hostile(&rt, alloc, &seven, due, 364)

@@ -2,7 +2,10 @@
 
 use super::check_words;
 use super::fragments::{COUNTS, SAMPLES, check_fault, check_sound};
-use mp4_stream::vectors::{V1, V2, V3};
+use mp4_stream::vectors::{
+    V1, V1_MDAT, V1_MDHD, V1_MDIA, V1_MEDIA, V1_MINF, V1_MOOF, V1_MOOV, V1_MVEX, V1_MVHD, V1_SIZES,
+    V1_TFDT, V1_TKHD, V1_TRAF, V1_TRAK, V1_TREX, V1_TRUN, V2, V3,
+};
 use std::test::Fail;
 
 /// The first vector's mfhd, and the tfhd of its traf.
@@ -17,9 +20,9 @@ fn headers_and_boxes_around(rt: HostRuntime) -> Result<(), Fail> {
     let long = [
         &v1[..444],
         b"\0\0\0\x70".as_slice(),
-        &v1[448..460],
+        &v1[V1_SIZES..V1_MDAT],
         b"\0\0\0\x01mdat\0\0\0\0\0\0\0\x1f",
-        &v1[468..],
+        &v1[V1_MEDIA..],
     ];
     let lines = [
         "track=1 dts=0 cts=0 dur=1024 size=5 flags=02000000 sync desc=1 at=476\n",
@@ -29,11 +32,11 @@ fn headers_and_boxes_around(rt: HostRuntime) -> Result<(), Fail> {
     check_sound(&rt, alloc, &long, &lines, COUNTS)?;
     // A sidx and a box with a user type before the moof, and an mfra at the end.
     let around = [
-        &v1[..364],
+        &v1[..V1_MOOF],
         b"\0\0\0\x34sidx".as_slice(),
         &[0; 44],
         b"\0\0\0\x1cuuid0123456789abcdef\0\0\0\0",
-        &v1[364..],
+        &v1[V1_MOOF..],
         b"\0\0\0\x10mfra\0\0\0\0\0\0\0\0",
     ];
     let lines = [
@@ -54,13 +57,13 @@ fn free_space_in_a_moof(rt: HostRuntime) -> Result<(), Fail> {
     ];
     for space in [b"\0\0\0\x08free", b"\0\0\0\x08skip"] {
         let stream = [
-            &v1[..364],
+            &v1[..V1_MOOF],
             b"\0\0\0\x68moof".as_slice(),
             MFHD,
             space,
-            &v1[388..444],
+            &v1[V1_TRAF..444],
             b"\0\0\0\x70",
-            &v1[448..],
+            &v1[V1_SIZES..],
         ];
         check_sound(&rt, alloc, &stream, &lines, COUNTS)?;
     }
@@ -72,8 +75,17 @@ fn free_space_in_a_moof(rt: HostRuntime) -> Result<(), Fail> {
 #[test]
 fn defaults_of_a_tfhd(rt: HostRuntime) -> Result<(), Fail> {
     let (alloc, v1) = (rt.alloc(), V1.as_slice());
-    let (start, mvhd, tkhd, mdhd) = (&v1[..20], &v1[28..136], &v1[144..236], &v1[244..276]);
-    let (entry, mvex, tfdt) = (&v1[308..324], &v1[324..364], &v1[412..428]);
+    let (start, mvhd, tkhd, mdhd) = (
+        &v1[..V1_MOOV],
+        &v1[V1_MVHD..V1_TRAK],
+        &v1[V1_TKHD..V1_MDIA],
+        &v1[V1_MDHD..V1_MINF],
+    );
+    let (entry, mvex, tfdt) = (
+        &v1[308..V1_MVEX],
+        &v1[V1_MVEX..V1_MOOF],
+        &v1[V1_TFDT..V1_TRUN],
+    );
     let stream = [
         start,
         b"\0\0\x01\x68moov".as_slice(),
@@ -114,9 +126,9 @@ fn flags_of_samples(rt: HostRuntime) -> Result<(), Fail> {
         MFHD,
         b"\0\0\0\x4ctraf",
         TFHD,
-        &v1[412..428],
+        &v1[V1_TFDT..V1_TRUN],
         b"\0\0\0\x24trun\0\0\x02\x05\0\0\0\x03\0\0\0\x6c\x02\0\0\0",
-        &v1[448..],
+        &v1[V1_SIZES..],
     ];
     let lines = [
         "track=1 dts=0 cts=0 dur=1024 size=5 flags=02000000 sync desc=1 at=472\n",
@@ -126,15 +138,15 @@ fn flags_of_samples(rt: HostRuntime) -> Result<(), Fail> {
     check_sound(&rt, alloc, &first, &lines, COUNTS)?;
     // They are in two places.
     let twice = [
-        &v1[..364],
+        &v1[..V1_MOOF],
         b"\0\0\0\x70moof".as_slice(),
         MFHD,
         b"\0\0\0\x58traf",
         TFHD,
-        &v1[412..428],
+        &v1[V1_TFDT..V1_TRUN],
         b"\0\0\0\x30trun\0\0\x06\x05\0\0\0\x03\0\0\0\x78\x02\0\0\0",
         b"\0\0\0\x05\x02\0\0\0\0\0\0\x07\x02\0\0\0\0\0\0\x03\x02\0\0\0",
-        &v1[460..],
+        &v1[V1_MDAT..],
     ];
     check_fault(
         &rt,
@@ -150,15 +162,15 @@ fn times_of_samples(rt: HostRuntime) -> Result<(), Fail> {
     let (alloc, v1) = (rt.alloc(), V1.as_slice());
     // Composition time offsets with a sign.
     let signed = [
-        &v1[..364],
+        &v1[..V1_MOOF],
         b"\0\0\0\x6cmoof".as_slice(),
         MFHD,
         b"\0\0\0\x54traf",
         TFHD,
-        &v1[412..428],
+        &v1[V1_TFDT..V1_TRUN],
         b"\0\0\0\x2ctrun\x01\0\x0a\x01\0\0\0\x03\0\0\0\x74",
         b"\0\0\0\x05\xff\xff\xfe\0\0\0\0\x07\0\0\0\0\0\0\0\x03\0\0\0\0",
-        &v1[460..],
+        &v1[V1_MDAT..],
     ];
     let lines = [
         "track=1 dts=0 cts=-512 dur=1024 size=5 flags=02000000 sync desc=1 at=480\n",
@@ -173,9 +185,9 @@ fn times_of_samples(rt: HostRuntime) -> Result<(), Fail> {
         MFHD,
         b"\0\0\0\x38traf",
         TFHD,
-        &v1[428..444],
+        &v1[V1_TRUN..444],
         b"\0\0\0\x58",
-        &v1[448..],
+        &v1[V1_SIZES..],
     ];
     let [a, b, c] = SAMPLES;
     let lines = [
@@ -193,9 +205,9 @@ fn times_of_samples(rt: HostRuntime) -> Result<(), Fail> {
 #[test]
 fn times_to_the_last(rt: HostRuntime) -> Result<(), Fail> {
     let (alloc, v1) = (rt.alloc(), V1.as_slice());
-    let (front, tfdt) = (&v1[..364], b"\0\0\0\x14tfdt\x01\0\0\0".as_slice());
+    let (front, tfdt) = (&v1[..V1_MOOF], b"\0\0\0\x14tfdt\x01\0\0\0".as_slice());
     let (moof, traf) = (b"\0\0\0\x64moof".as_slice(), b"\0\0\0\x4ctraf".as_slice());
-    let (run, after) = (&v1[428..444], b"\0\0\0\x6c".as_slice());
+    let (run, after) = (&v1[V1_TRUN..444], b"\0\0\0\x6c".as_slice());
     let base = b"\xff\xff\xff\xff\xff\xff\xf3\xff".as_slice();
     let last = [
         front,
@@ -207,7 +219,7 @@ fn times_to_the_last(rt: HostRuntime) -> Result<(), Fail> {
         base,
         run,
         after,
-        &v1[448..],
+        &v1[V1_SIZES..],
     ];
     let lines = [
         "track=1 dts=18446744073709548543 cts=18446744073709548543 dur=1024 size=5 flags=02000000 sync desc=1 at=472\n",
@@ -226,7 +238,7 @@ fn times_to_the_last(rt: HostRuntime) -> Result<(), Fail> {
         base,
         run,
         after,
-        &v1[448..],
+        &v1[V1_SIZES..],
     ];
     check_fault(
         &rt,
@@ -241,7 +253,11 @@ fn times_to_the_last(rt: HostRuntime) -> Result<(), Fail> {
 fn counts_of_samples(rt: HostRuntime) -> Result<(), Fail> {
     let (alloc, v1) = (rt.alloc(), V1.as_slice());
     let (moof, traf) = (b"\0\0\0\x54moof".as_slice(), b"\0\0\0\x3ctraf".as_slice());
-    let (front, tfdt, mdat) = (&v1[..364], &v1[412..428], b"\0\0\0\x08mdat".as_slice());
+    let (front, tfdt, mdat) = (
+        &v1[..V1_MOOF],
+        &v1[V1_TFDT..V1_TRUN],
+        b"\0\0\0\x08mdat".as_slice(),
+    );
     // Samples without bytes, as many as there may be, and one more.
     let run = b"\0\0\0\x14trun\0\0\0\x01\0\x0f\x42\x40\0\0\0\x5c".as_slice();
     let most = [front, moof, MFHD, traf, TFHD, tfdt, run, mdat];
@@ -258,7 +274,7 @@ fn counts_of_samples(rt: HostRuntime) -> Result<(), Fail> {
     )?;
     // A run without samples may lie anywhere.
     let run = b"\0\0\0\x14trun\0\0\x02\x01\0\0\0\0\x80\0\0\0".as_slice();
-    let none = [front, moof, MFHD, traf, TFHD, tfdt, run, &v1[460..]];
+    let none = [front, moof, MFHD, traf, TFHD, tfdt, run, &v1[V1_MDAT..]];
     let counts = "fragments=1 samples=0 media=0 held=65944\n";
     check_sound(&rt, alloc, &none, &[], counts)
 }
@@ -321,9 +337,9 @@ fn runs_of_two_tracks(rt: HostRuntime) -> Result<(), Fail> {
 #[test]
 fn trees_at_fault(rt: HostRuntime) -> Result<(), Fail> {
     let (alloc, v1) = (rt.alloc(), V1.as_slice());
-    let large = [&v1[..364], b"\x04\0\0\x01moof".as_slice()];
+    let large = [&v1[..V1_MOOF], b"\x04\0\0\x01moof".as_slice()];
     check_fault(&rt, alloc, &large, &[], "fmp4: 7 TooLarge in moof at 364\n")?;
-    let past = [&v1[..332], b"\0\0\0\x21".as_slice(), &v1[336..]];
+    let past = [&v1[..V1_TREX], b"\0\0\0\x21".as_slice(), &v1[336..]];
     check_fault(&rt, alloc, &past, &[], "fmp4: 2 BadSize in trex at 332\n")?;
     let seven = b"\0\0\0\x38trak\0\0\0\x30trak\0\0\0\x28trak\0\0\0\x20trak\
         \0\0\0\x18trak\0\0\0\x10trak\0\0\0\x08trak"

@@ -1,7 +1,7 @@
 //! What is listed, and the faults of streams.
 
 use super::{FTYP, MDAT, MOOF, MOOV, check_rows};
-use mp4_stream::vectors::V1;
+use mp4_stream::vectors::{V1, V1_MDAT, V1_MEDIA, V1_MFHD, V1_MOOF};
 use std::test::Fail;
 
 #[test]
@@ -47,8 +47,8 @@ fn short_headers(rt: HostRuntime) -> Result<(), Fail> {
 #[test]
 fn other_headers(rt: HostRuntime) -> Result<(), Fail> {
     let v1 = V1.as_slice();
-    let start = &v1[..460];
-    let media = &v1[468..];
+    let start = &v1[..V1_MDAT];
+    let media = &v1[V1_MEDIA..];
     let to_end = b"\0\0\0\0mdat".as_slice();
     let lines = [FTYP, MOOV, MOOF, "mdat end @460\n"];
     check_rows(&rt, rt.alloc(), &[start, to_end, media], 0, &lines, "")?;
@@ -59,7 +59,7 @@ fn other_headers(rt: HostRuntime) -> Result<(), Fail> {
     check_rows(
         &rt,
         rt.alloc(),
-        &[&v1[..364], b"\0\0\0\0moof".as_slice(), &v1[372..]],
+        &[&v1[..V1_MOOF], b"\0\0\0\0moof".as_slice(), &v1[V1_MFHD..]],
         2,
         &[FTYP, MOOV],
         "fmp4: 7 TooLarge in moof at 364\n",
@@ -103,7 +103,7 @@ fn held_boxes(rt: HostRuntime) -> Result<(), Fail> {
         (b"\x01\0\0\0moov", "fmp4: 1 Truncated in moov at 364\n"),
         (b"\x01\0\0\x01moov", "fmp4: 7 TooLarge in moov at 364\n"),
     ] {
-        let stream = [&v1[..364], header.as_slice(), &v1[372..]];
+        let stream = [&v1[..V1_MOOF], header.as_slice(), &v1[V1_MFHD..]];
         check_rows(&rt, alloc, &stream, 2, &[FTYP, MOOV], fault)?;
     }
     // A box that is its header alone.
@@ -129,7 +129,7 @@ const SEVEN: &str = "  traf 56 @372
 
 #[test]
 fn nested_boxes(rt: HostRuntime) -> Result<(), Fail> {
-    let start = &V1.as_slice()[..364];
+    let start = &V1.as_slice()[..V1_MOOF];
     let seven =
         b"\0\0\0\x38traf\0\0\0\x30traf\0\0\0\x28traf\0\0\0\x20traf\0\0\0\x18traf\0\0\0\x10traf\0\0\0\x08traf";
     check_rows(

@@ -7,7 +7,7 @@ use super::fragments::{COUNTS, SAMPLES};
 use super::split_stops::with_a_large_moof;
 use super::{FTYP, MDAT, MOOF, MOOV, check_words, joined};
 use mp4_stream::ends::{FromSlice, ToVec};
-use mp4_stream::vectors::V1;
+use mp4_stream::vectors::{V1, V1_MOOF};
 use mp4_stream::{Cut, Fault, FourCc, Ledger, Rule, Stop, Totals, boxes, check, samples, split};
 use std::alloc::Global;
 use std::process::Abort;
@@ -46,7 +46,7 @@ fn limits(rt: HostRuntime) -> Result<(), Fail> {
         "fmp4: over the limit\n",
     )?;
     // A moof that would be claimed after the moov was given back.
-    let moof = [&V1.as_slice()[..364], b"\0\0\x01\x59moof".as_slice()];
+    let moof = [&V1.as_slice()[..V1_MOOF], b"\0\0\x01\x59moof".as_slice()];
     check_words(
         &rt,
         rt.alloc(),
@@ -149,7 +149,7 @@ fn peaks(rt: HostRuntime) -> Result<(), Fail> {
     let (answer, peak) = peak_of(
         &rt,
         rt.alloc(),
-        &[&v1[..364], b"\x04\0\0\x01moof".as_slice()],
+        &[&v1[..V1_MOOF], b"\x04\0\0\x01moof".as_slice()],
         65536,
         1 << 62,
     )?;
@@ -162,7 +162,7 @@ fn peaks(rt: HostRuntime) -> Result<(), Fail> {
 #[test]
 fn peaks_of_a_refused_moof(rt: HostRuntime) -> Result<(), Fail> {
     let alloc = rt.alloc();
-    let stream = joined(alloc, &[&V1.as_slice()[..364], b"\x04\0\0\x01moof"])?;
+    let stream = joined(alloc, &[&V1.as_slice()[..V1_MOOF], b"\x04\0\0\x01moof"])?;
     let too_large = Err(Stop::Stream(Fault {
         rule: Rule::TooLarge,
         kind: Some(FourCc(*b"moof")),

@@ -3,7 +3,9 @@
 
 use super::check_words;
 use super::trafs::check_records;
-use mp4_stream::vectors::V1;
+use mp4_stream::vectors::{
+    V1, V1_MDAT, V1_MDHD, V1_MDIA, V1_MINF, V1_MOOF, V1_MOOV, V1_MVEX, V1_MVHD, V1_TKHD, V1_TRAK,
+};
 use std::test::Fail;
 
 const WORDS: [&str; 2] = ["fmp4", "fragments"];
@@ -51,9 +53,9 @@ const TWO_RUNS: &[u8; 140] = b"\
 /// The three fragments, each with the mdat of the vector.
 fn fragments<'a>() -> [&'a [u8]; 7] {
     let v1 = V1.as_slice();
-    let mdat = &v1[460..];
+    let mdat = &v1[V1_MDAT..];
     [
-        &v1[..364],
+        &v1[..V1_MOOF],
         SIGNED.as_slice(),
         mdat,
         UNSIGNED.as_slice(),
@@ -102,18 +104,18 @@ fn records_of_presented_samples(rt: HostRuntime) -> Result<(), Fail> {
 fn with_handler<'a>(hdlr: &'a [u8], counted: &'a [u8]) -> [&'a [u8]; 12] {
     let v1 = V1.as_slice();
     [
-        &v1[..20],
+        &v1[..V1_MOOV],
         b"\0\0\x01\x88moov".as_slice(),
-        &v1[28..136],
+        &v1[V1_MVHD..V1_TRAK],
         b"\0\0\0\xectrak".as_slice(),
-        &v1[144..236],
+        &v1[V1_TKHD..V1_MDIA],
         b"\0\0\0\x88mdia".as_slice(),
-        &v1[244..276],
+        &v1[V1_MDHD..V1_MINF],
         hdlr,
         b"\0\0\0\x40minf\0\0\0\x38stbl\0\0\0\x30stsd\0\0\0\0".as_slice(),
         counted,
         b"\0\0\0\x10avc1\0\0\0\0\0\0\0\x01\0\0\0\x10\0, ~\0\0\0\0\0\0\0\x01".as_slice(),
-        &v1[324..],
+        &v1[V1_MVEX..],
     ]
 }
 

@@ -5,7 +5,7 @@ ghost use Rattle.std.specs.Prelude.{◌≡◌, ◌<◌, false};
 use super::joined;
 use super::layouts::MFHD;
 use mp4_stream::ends::FromSlice;
-use mp4_stream::vectors::V1;
+use mp4_stream::vectors::{V1, V1_MDAT, V1_MOOF, V1_TFHD, V1_TRUN};
 use mp4_stream::{Cut, Failed, Ledger, Sink, Totals, split};
 use std::alloc::{AllocError, Global};
 use std::process::Abort;
@@ -59,15 +59,15 @@ pub(super) fn with_empty_samples(alloc: Global, count: u32) -> Result<Vec<u8>, A
     joined(
         alloc,
         &[
-            &v1[..364],
+            &v1[..V1_MOOF],
             b"\0\0\0\x54moof",
             MFHD,
             b"\0\0\0\x3ctraf",
-            &v1[396..428],
+            &v1[V1_TFHD..V1_TRUN],
             b"\0\0\0\x14trun\0\0\0\x01",
             &count.to_be_bytes(),
             b"\0\0\0\x5c",
-            &v1[460..],
+            &v1[V1_MDAT..],
         ],
     )
 }

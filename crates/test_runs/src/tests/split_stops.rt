@@ -6,7 +6,7 @@ use super::joined;
 use super::layouts::MFHD;
 use super::splits::{by_two, check_split};
 use mp4_stream::ends::{FromSlice, ToVec};
-use mp4_stream::vectors::V1;
+use mp4_stream::vectors::{V1, V1_MOOF, V1_SIZES, V1_TRAF};
 use mp4_stream::{Cut, Ledger, Stop, Totals, split};
 use std::alloc::{AllocError, Global};
 use std::process::Abort;
@@ -47,14 +47,14 @@ pub(super) fn with_a_large_moof(alloc: Global) -> Result<Vec<u8>, AllocError> {
     joined(
         alloc,
         &[
-            &v1[..364],
+            &v1[..V1_MOOF],
             b"\0\0\x01\xf0moof",
             MFHD,
             b"\0\0\x01\x90free",
             &[0; 392],
-            &v1[388..444],
+            &v1[V1_TRAF..444],
             b"\0\0\x01\xf8",
-            &v1[448..],
+            &v1[V1_SIZES..],
         ],
     )
 }

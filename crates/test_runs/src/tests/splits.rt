@@ -3,7 +3,10 @@
 use super::layouts::{MFHD, TFHD};
 use super::wanted::{OTHER, SYNC, Wanted, lasting, piece_at, push_fragment, recut};
 use super::{check_bytes, check_words, joined};
-use mp4_stream::vectors::{V1, V2, V3};
+use mp4_stream::vectors::{
+    V1, V1_MDAT, V1_MEDIA, V1_MOOF, V1_MOOV, V1_SECOND_SAMPLE, V1_SIZES, V1_TFDT, V1_THIRD_SAMPLE,
+    V1_TREX, V1_TRUN, V2, V3,
+};
 use std::alloc::{AllocError, Global};
 use std::process::Abort;
 use std::test::Fail;
@@ -52,26 +55,36 @@ pub(super) fn check_bad(
 fn two_after(alloc: Global, front: &[&[u8]]) -> Result<Vec<u8>, AllocError> {
     let v1 = V1.as_slice();
     let fragments = [
-        piece_at(1, 0, &[[5, SYNC], [7, SYNC]], &v1[468..480]),
-        piece_at(2, 2048, &[[3, SYNC]], &v1[480..]),
+        piece_at(
+            1,
+            0,
+            &[[5, SYNC], [7, SYNC]],
+            &v1[V1_MEDIA..V1_THIRD_SAMPLE],
+        ),
+        piece_at(2, 2048, &[[3, SYNC]], &v1[V1_THIRD_SAMPLE..]),
     ];
     recut(alloc, front, &fragments)
 }
 
 /// The first vector by two samples a fragment.
 pub(super) fn by_two(alloc: Global) -> Result<Vec<u8>, AllocError> {
-    two_after(alloc, &[&V1.as_slice()[..364]])
+    two_after(alloc, &[&V1.as_slice()[..V1_MOOF]])
 }
 
 /// And by one.
 fn by_one(alloc: Global) -> Result<Vec<u8>, AllocError> {
     let v1 = V1.as_slice();
     let fragments = [
-        piece_at(1, 0, &[[5, SYNC]], &v1[468..473]),
-        piece_at(2, 1024, &[[7, SYNC]], &v1[473..480]),
-        piece_at(3, 2048, &[[3, SYNC]], &v1[480..]),
+        piece_at(1, 0, &[[5, SYNC]], &v1[V1_MEDIA..V1_SECOND_SAMPLE]),
+        piece_at(
+            2,
+            1024,
+            &[[7, SYNC]],
+            &v1[V1_SECOND_SAMPLE..V1_THIRD_SAMPLE],
+        ),
+        piece_at(3, 2048, &[[3, SYNC]], &v1[V1_THIRD_SAMPLE..]),
     ];
-    recut(alloc, &[&v1[..364]], &fragments)
+    recut(alloc, &[&v1[..V1_MOOF]], &fragments)
 }
 
 #[test]
@@ -79,10 +92,10 @@ fn pieces(rt: HostRuntime) -> Result<(), Fail> {
     let (alloc, v1) = (rt.alloc(), V1.as_slice());
     let (two, one) = (by_two(alloc)?, by_one(alloc)?);
     let after = [
-        piece_at(1, 0, &[[5, SYNC]], &v1[468..473]),
-        piece_at(2, 1024, &[[7, SYNC], [3, SYNC]], &v1[473..]),
+        piece_at(1, 0, &[[5, SYNC]], &v1[V1_MEDIA..V1_SECOND_SAMPLE]),
+        piece_at(2, 1024, &[[7, SYNC], [3, SYNC]], &v1[V1_SECOND_SAMPLE..]),
     ];
-    let after = recut(alloc, &[&v1[..364]], &after)?;
+    let after = recut(alloc, &[&v1[..V1_MOOF]], &after)?;
     let (v1, again) = ([v1], [two.as_slice()]);
     check_good(&rt, alloc, &BY_TWO, &v1, &two)?;
     check_good(&rt, alloc, &["--samples", "9", "--bytes", "12"], &v1, &two)?;
@@ -109,7 +122,7 @@ fn indexes(rt: HostRuntime) -> Result<(), Fail> {
         b"\0\0\0\x40sidx\x01\0\0\0\0\0\0\x01\0\0\xbb\x80\0\0\0\0\0\0\0\0\0\0\0\0\0\0\0\0\0\0\0\x02\
         \0\0\0\x90\0\0\x08\0\0\0\0\0\0\0\0\x77\0\0\x04\0\0\0\0\0"
             .as_slice();
-    let indexed = two_after(alloc, &[&v1[..364], sidx])?;
+    let indexed = two_after(alloc, &[&v1[..V1_MOOF], sidx])?;
     // One of 140 bytes comes before the fragment of the second track.
     let second =
         b"\0\0\0\x34sidx\x01\0\0\0\0\0\0\x02\0\0\xbb\x80\0\0\0\0\0\0\0\0\0\0\0\0\0\0\0\0\0\0\0\x01\
@@ -133,91 +146,100 @@ fn indexes(rt: HostRuntime) -> Result<(), Fail> {
 #[test]
 fn fields_of_an_index(rt: HostRuntime) -> Result<(), Fail> {
     let (alloc, v1) = (rt.alloc(), V1.as_slice());
-    let front = [&v1[..352], b"\xff\xff\xff\xff".as_slice(), &v1[356..364]];
+    let front = [
+        &v1[..352],
+        b"\xff\xff\xff\xff".as_slice(),
+        &v1[356..V1_MOOF],
+    ];
     let sidx =
         b"\0\0\0\x4csidx\x01\0\0\0\0\0\0\x01\0\0\xbb\x80\0\0\0\0\0\0\0\0\0\0\0\0\0\0\0\0\0\0\0\x03\
         \0\0\0\x79\xff\xff\xff\xff\0\0\0\0\0\0\0\x7b\xff\xff\xff\xff\0\0\0\0\
         \0\0\0\x77\xff\xff\xff\xff\0\0\0\0"
             .as_slice();
     let fragments = [
-        lasting(piece_at(1, 0, &[[5, SYNC]], &v1[468..473])),
-        lasting(piece_at(2, 0xffff_ffff, &[[7, SYNC]], &v1[473..480])),
-        lasting(piece_at(3, 0x1_ffff_fffe, &[[3, SYNC]], &v1[480..])),
+        lasting(piece_at(1, 0, &[[5, SYNC]], &v1[V1_MEDIA..V1_SECOND_SAMPLE])),
+        lasting(piece_at(
+            2,
+            0xffff_ffff,
+            &[[7, SYNC]],
+            &v1[V1_SECOND_SAMPLE..V1_THIRD_SAMPLE],
+        )),
+        lasting(piece_at(3, 0x1_ffff_fffe, &[[3, SYNC]], &v1[V1_THIRD_SAMPLE..])),
     ];
     let written = joined(alloc, &front)?;
     let indexed = recut(alloc, &[front[0], front[1], front[2], sidx], &fragments)?;
     let slow = [&v1[..352], b"\xff\xff\xff\xff".as_slice(), &v1[356..]];
     // The first sample is shown before time 0.
     let early = [
-        &v1[..364],
+        &v1[..V1_MOOF],
         b"\0\0\0\x6cmoof".as_slice(),
         MFHD,
         b"\0\0\0\x54traf",
         TFHD,
-        &v1[412..428],
+        &v1[V1_TFDT..V1_TRUN],
         b"\0\0\0\x2ctrun\x01\0\x0a\x01\0\0\0\x03\0\0\0\x74",
         b"\0\0\0\x05\xff\xff\xfe\0\0\0\0\x07\0\0\0\0\0\0\0\x03\0\0\0\0",
-        &v1[460..],
+        &v1[V1_MDAT..],
     ];
     let fault = "fmp4: 23 IndexRange in trun at 428\n";
     let two = ["--samples", "2", "--index"];
     check_good(&rt, alloc, &["--samples", "1", "--index"], &slow, &indexed)?;
     check_split(&rt, alloc, &two, &slow, 2, &written, fault)?;
-    check_split(&rt, alloc, &two, &early, 2, &v1[..364], fault)
+    check_split(&rt, alloc, &two, &early, 2, &v1[..V1_MOOF], fault)
 }
 
 #[test]
 fn boxes_around_fragments(rt: HostRuntime) -> Result<(), Fail> {
     let (alloc, v1) = (rt.alloc(), V1.as_slice());
     let two = by_two(alloc)?;
-    let to_end = [&v1[..460], b"\0\0\0\0mdat".as_slice(), &v1[468..]];
+    let to_end = [&v1[..V1_MDAT], b"\0\0\0\0mdat".as_slice(), &v1[V1_MEDIA..]];
     let long = [
         &v1[..444],
         b"\0\0\0\x70".as_slice(),
-        &v1[448..460],
+        &v1[V1_SIZES..V1_MDAT],
         b"\0\0\0\x01mdat\0\0\0\0\0\0\0\x1f",
-        &v1[468..],
+        &v1[V1_MEDIA..],
     ];
     let more = [
-        &v1[..460],
+        &v1[..V1_MDAT],
         b"\0\0\0\x1cmdat".as_slice(),
-        &v1[468..],
+        &v1[V1_MEDIA..],
         b"more.",
     ];
     let user = b"\0\0\0\x1cuuid0123456789abcdef\0\0\0\0".as_slice();
     let around = [
-        &v1[..364],
+        &v1[..V1_MOOF],
         b"\0\0\0\x34sidx".as_slice(),
         &[0; 44],
         user,
-        &v1[364..],
+        &v1[V1_MOOF..],
         b"\0\0\0\x10mfra\0\0\0\0\0\0\0\0",
     ];
-    let kept = two_after(alloc, &[&v1[..364], user])?;
+    let kept = two_after(alloc, &[&v1[..V1_MOOF], user])?;
     // A run without samples gives no fragment.
     let none = [
-        &v1[..364],
+        &v1[..V1_MOOF],
         b"\0\0\0\x54moof".as_slice(),
         MFHD,
         b"\0\0\0\x3ctraf",
         TFHD,
-        &v1[412..428],
+        &v1[V1_TFDT..V1_TRUN],
         b"\0\0\0\x14trun\0\0\x02\x01\0\0\0\0\x80\0\0\0",
-        &v1[460..],
+        &v1[V1_MDAT..],
     ];
     check_good(&rt, alloc, &BY_TWO, &[], b"")?;
     check_good(&rt, alloc, &BY_TWO, &to_end, &two)?;
     check_good(&rt, alloc, &BY_TWO, &long, &two)?;
     check_good(&rt, alloc, &BY_TWO, &more, &two)?;
     check_good(&rt, alloc, &BY_TWO, &around, &kept)?;
-    check_good(&rt, alloc, &BY_TWO, &none, &v1[..364])
+    check_good(&rt, alloc, &BY_TWO, &none, &v1[..V1_MOOF])
 }
 
 #[test]
 fn sync_samples(rt: HostRuntime) -> Result<(), Fail> {
     let (alloc, v1) = (rt.alloc(), V1.as_slice());
     // The flags of the first sample are in the trun, those of the others in the trex.
-    let (front, media) = ([&v1[..360], b"\x01\x01\0\0".as_slice()], &v1[468..]);
+    let (front, media) = ([&v1[..360], b"\x01\x01\0\0".as_slice()], &v1[V1_MEDIA..]);
     let first = [
         front[0],
         front[1],
@@ -225,9 +247,9 @@ fn sync_samples(rt: HostRuntime) -> Result<(), Fail> {
         MFHD,
         b"\0\0\0\x4ctraf",
         TFHD,
-        &v1[412..428],
+        &v1[V1_TFDT..V1_TRUN],
         b"\0\0\0\x24trun\0\0\x02\x05\0\0\0\x03\0\0\0\x6c\x02\0\0\0",
-        &v1[448..],
+        &v1[V1_SIZES..],
     ];
     let all = [[5, SYNC], [7, OTHER], [3, OTHER]];
     let whole = recut(alloc, &front, &[piece_at(1, 0, &all, media)])?;
@@ -346,19 +368,24 @@ fn streams_at_fault(rt: HostRuntime) -> Result<(), Fail> {
     let (alloc, v1) = (rt.alloc(), V1.as_slice());
     let two = by_two(alloc)?;
     let len = two.len();
-    let (start, moov, moof, mdat) = (&v1[..20], &v1[20..364], &v1[364..460], &v1[460..]);
-    let (front, short) = (&v1[..364], [&v1[..482]]);
-    let (shorter, zeros) = ([&v1[..480]], [v1, b"\0\0\0".as_slice()]);
+    let (start, moov, moof, mdat) = (
+        &v1[..V1_MOOV],
+        &v1[V1_MOOV..V1_MOOF],
+        &v1[V1_MOOF..V1_MDAT],
+        &v1[V1_MDAT..],
+    );
+    let (front, short) = (&v1[..V1_MOOF], [&v1[..482]]);
+    let (shorter, zeros) = ([&v1[..V1_THIRD_SAMPLE]], [v1, b"\0\0\0".as_slice()]);
     let (no_moov, no_moof) = ([start, moof, mdat], [start, moov, mdat]);
     let (no_mdat, again) = ([start, moov, moof], [start, moov, moov]);
     let size = [front, moof, b"\0\0\0\x07mdat"];
-    let trex = [&v1[..332], b"\0\0\0\x21".as_slice(), &v1[336..]];
+    let trex = [&v1[..V1_TREX], b"\0\0\0\x21".as_slice(), &v1[336..]];
     let large = [front, b"\x04\0\0\x01moof".as_slice()];
     // The header is longer by eight bytes, so the run begins within it.
     let place = [
-        &v1[..460],
+        &v1[..V1_MDAT],
         b"\0\0\0\x01mdat\0\0\0\0\0\0\0\x1f".as_slice(),
-        &v1[468..],
+        &v1[V1_MEDIA..],
     ];
     let cut = "fmp4: 1 Truncated in mdat at 460\n";
     check_bad(&rt, alloc, &short, &two[..626.min(len)], cut)?;

@@ -3,7 +3,7 @@
 use super::joined;
 use super::splits::check_good;
 use super::wanted::{OTHER, SYNC, Wanted, piece_at, recut};
-use mp4_stream::vectors::{V1, V2};
+use mp4_stream::vectors::{V1, V1_MEDIA, V1_MOOF, V1_SECOND_SAMPLE, V1_THIRD_SAMPLE, V2};
 use std::alloc::{AllocError, Global};
 use std::process::Abort;
 use std::test::Fail;
@@ -140,19 +140,41 @@ fn by_samples(
 ) -> Result<Vec<u8>, AllocError> {
     let v1 = V1.as_slice();
     let ones = [
-        first(1, 0, duration, &[[5, SYNC]], &v1[468..473]),
-        first(2, 1, duration, &[[7, SYNC]], &v1[473..480]),
-        first(3, 2, duration, &[[3, SYNC]], &v1[480..]),
+        first(
+            1,
+            0,
+            duration,
+            &[[5, SYNC]],
+            &v1[V1_MEDIA..V1_SECOND_SAMPLE],
+        ),
+        first(
+            2,
+            1,
+            duration,
+            &[[7, SYNC]],
+            &v1[V1_SECOND_SAMPLE..V1_THIRD_SAMPLE],
+        ),
+        first(3, 2, duration, &[[3, SYNC]], &v1[V1_THIRD_SAMPLE..]),
     ];
     let two = [
-        first(1, 0, duration, &[[5, SYNC], [7, SYNC]], &v1[468..480]),
-        first(2, 2, duration, &[[3, SYNC]], &v1[480..]),
+        first(
+            1,
+            0,
+            duration,
+            &[[5, SYNC], [7, SYNC]],
+            &v1[V1_MEDIA..V1_THIRD_SAMPLE],
+        ),
+        first(2, 2, duration, &[[3, SYNC]], &v1[V1_THIRD_SAMPLE..]),
     ];
     let all = [[5, SYNC], [7, SYNC], [3, SYNC]];
     match samples {
         1 => recut(alloc, front, &ones),
         2 => recut(alloc, front, &two),
-        _ => recut(alloc, front, &[first(1, 0, duration, &all, &v1[468..])]),
+        _ => recut(
+            alloc,
+            front,
+            &[first(1, 0, duration, &all, &v1[V1_MEDIA..])],
+        ),
     }
 }
 
@@ -167,9 +189,22 @@ fn check_millis(
 ) -> Result<(), Fail> {
     let v1 = V1.as_slice();
     let (ticks, length) = (timescale.to_be_bytes(), duration.to_be_bytes());
-    let front = [&v1[..264], &ticks, &v1[268..352], &length, &v1[356..364]];
+    let front = [
+        &v1[..264],
+        &ticks,
+        &v1[268..352],
+        &length,
+        &v1[356..V1_MOOF],
+    ];
     let written = by_samples(alloc, &front, duration, samples)?;
-    let stream = [front[0], front[1], front[2], front[3], front[4], &v1[364..]];
+    let stream = [
+        front[0],
+        front[1],
+        front[2],
+        front[3],
+        front[4],
+        &v1[V1_MOOF..],
+    ];
     check_good(rt, alloc, &["--duration", millis], &stream, &written)
 }
 

@@ -5,7 +5,10 @@ ghost use Rattle.mp4_stream.specs.Feeders.{held_by};
 
 use super::{check_words, joined};
 use mp4_stream::ends::ToVec;
-use mp4_stream::vectors::{V1, V2};
+use mp4_stream::vectors::{
+    V1, V1_MDAT, V1_MDHD, V1_MDIA, V1_MINF, V1_MOOF, V1_MOOV, V1_MVEX, V1_MVHD, V1_TFDT, V1_TFHD,
+    V1_TKHD, V1_TRAK, V2,
+};
 use mp4_stream::{Command, Feeder, Ledger, Operation, Stop, Totals};
 use std::alloc::Global;
 use std::process::Abort;
@@ -91,12 +94,12 @@ fn lines_of_one_track(rt: HostRuntime) -> Result<(), Fail> {
     let track = "track=1 timescale=48000 entries=1 handler=???? types=mp4a\n";
     // A tfdt of version 1.
     let long_time = [
-        &v1[..364],
+        &v1[..V1_MOOF],
         b"\0\0\0\x64moof\0\0\0\x10mfhd\0\0\0\0\0\0\0\x01\0\0\0\x4ctraf".as_slice(),
-        &v1[396..412],
+        &v1[V1_TFHD..V1_TFDT],
         b"\0\0\0\x14tfdt\x01\0\0\0\0\0\0\x01\0\0\0\x05",
         b"\0\0\0\x20trun\0\0\x02\x01\0\0\0\x03\0\0\0\x6c\0\0\0\x05\0\0\0\x07\0\0\0\x03",
-        &v1[460..],
+        &v1[V1_MDAT..],
     ];
     let lines = [
         track,
@@ -106,9 +109,9 @@ fn lines_of_one_track(rt: HostRuntime) -> Result<(), Fail> {
     check_words(&rt, alloc, &WORDS, &long_time, 0, &lines, "")?;
     // A traf without samples.
     let no_sample = [
-        &v1[..364],
+        &v1[..V1_MOOF],
         b"\0\0\0\x40moof\0\0\0\x10mfhd\0\0\0\0\0\0\0\x08\0\0\0\x28traf".as_slice(),
-        &v1[396..412],
+        &v1[V1_TFHD..V1_TFDT],
         b"\0\0\0\x10tfdt\0\0\0\0\0\0\x10\0",
         b"\0\0\0\x08mdat",
     ];
@@ -117,16 +120,16 @@ fn lines_of_one_track(rt: HostRuntime) -> Result<(), Fail> {
     check_words(&rt, alloc, &WORDS, &no_sample, 0, &[track, line], "")?;
     // Two sample entries, of which the trex names the first.
     let two_entries = [
-        &v1[..20],
+        &v1[..V1_MOOV],
         b"\0\0\x01\x68moov".as_slice(),
-        &v1[28..136],
+        &v1[V1_MVHD..V1_TRAK],
         b"\0\0\0\xcctrak",
-        &v1[144..236],
+        &v1[V1_TKHD..V1_MDIA],
         b"\0\0\0\x68mdia",
-        &v1[244..276],
+        &v1[V1_MDHD..V1_MINF],
         b"\0\0\0\x40minf\0\0\0\x38stbl\0\0\0\x30stsd\0\0\0\0\0\0\0\x02",
         b"\0\0\0\x10mp4a\0\0\0\0\0\0\0\x01\0\0\0\x10mp4a\0\0\0\0\0\0\0\x01",
-        &v1[324..],
+        &v1[V1_MVEX..],
     ];
     let track = "track=1 timescale=48000 entries=2 handler=???? types=mp4a,mp4a\n";
     let line =
@@ -238,9 +241,9 @@ fn records_of_one_track(rt: HostRuntime) -> Result<(), Fail> {
     let no_time = [
         v1,
         b"\0\0\0\x50moof\0\0\0\x10mfhd\0\0\0\0\0\0\0\x02\0\0\0\x38traf".as_slice(),
-        &v1[396..412],
+        &v1[V1_TFHD..V1_TFDT],
         b"\0\0\0\x20trun\0\0\x02\x01\0\0\0\x03\0\0\0\x58\0\0\0\x05\0\0\0\x07\0\0\0\x03",
-        &v1[460..],
+        &v1[V1_MDAT..],
     ];
     let second = b"\
         \0\0\0\0\0\0\x01\xe3\0\0\0\0\0\0\0\x67\

@@ -3,14 +3,14 @@
 use super::joined;
 use super::layouts::MFHD;
 use mp4_stream::ends::FromSlice;
-use mp4_stream::vectors::V1;
+use mp4_stream::vectors::{V1, V1_MOOF};
 use mp4_stream::{Fault, FourCc, Ledger, Rule, Stop, Totals, check};
 use std::alloc::{AllocError, Global};
 use std::test::Fail;
 
 /// The moov of the first vector, and a moof of 699,000 trafs without tfdt, each of another track: 16,776,024 bytes.
 fn with_untimed_trafs(alloc: Global) -> Result<Vec<u8>, AllocError> {
-    let moov = &V1.as_slice()[..364];
+    let moov = &V1.as_slice()[..V1_MOOF];
     let mut stream = joined(alloc, &[moov, b"\0\xff\xfb\x58moof", MFHD])?;
     for i in 1..699_001u32 {
         let id = i.wrapping_mul(2_654_435_761);
