@@ -66,7 +66,7 @@ stop_send = search (sendable, crosses) depth 40 fits 50000
 
 -- by its operation, and the machine that it feeds
 feeder_fields : AllSend (fields feeder_inside.the_type)
-feeder_fields = (operation_send, (search (sendable, machine_send, block_send, stop_send) depth 40 fits 50000, tt))
+feeder_fields = (search (sendable, machine_send, block_send, stop_send) depth 40 fits 50000, tt)
 
 feeder_inside_send : IsSend feeder_inside.the_row
 feeder_inside_send = recorded_send feeder_inside.the_field.row _ _ feeder_inside.the_type.to_one (struct_send (shape feeder_inside.the_type) feeder_fields)

@@ -80,6 +80,13 @@ impl FragmentMachine {
         }
     }
 
+    /// What it does with the stream.
+    pub fn operation(&self) -> Operation
+        ensures { result ≡ self.now.operation }
+    {
+        self.carried.operation
+    }
+
     /// What it has counted of the stream.
     pub fn tally(&self) -> Tally
         ensures tally { result ≡ self.now.counter.tally }

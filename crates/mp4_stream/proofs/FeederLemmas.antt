@@ -1,5 +1,5 @@
 -- What a Feeder is after the bytes of a stream that it was fed, and what the next input does.
-use Rattle.std.proofs.Common.{◌≡◌, ℕ, ◌+◌, ◌-◌, ◌*◌, ◌≤◌, List, [], ◌++◌, None, Result, refl, arith}
+use Rattle.std.proofs.Common.{◌≡◌, ℕ, ◌+◌, ◌-◌, ◌*◌, ◌≤◌, List, [], ◌++◌, None, Result, refl, arith, subst, sym}
 use Rattle.mp4_box.specs.Headers.{IsBytes}
 use Rattle.mp4_fragment_machine.specs.States.{Progress, begun, continuation_in}
 use Rattle.mp4_fragment_machine.proofs.HeadLemmas.{reads-none}
@@ -59,11 +59,11 @@ claims-within operation b fits peak others limit result c =
       enough = λ moov moof within room is. c.enough (omega (arith, most moov moof within, room)) is;
     }
 
--- a Feeder is fed as its machine is
-pub feeds-by : {T : Type 0} (operation : Operation) (b input : List ℕ) (f f' : Fed Progress) (l : Borrowed) (result : Result T Stop) → machines.Feeds (reads_of operation) b input (shown (feeding operation f)) (shown (feeding operation f')) l result → Feeds b input (feeding operation f) (feeding operation f') l result
-feeds-by operation b input f f' l result fed = record {
+-- a Feeder is fed as its machine is, which keeps its operation
+pub feeds-by : {T : Type 0} (operation kept : Operation) (b input : List ℕ) (f f' : Fed Progress) (l : Borrowed) (result : Result T Stop) → kept ≡ operation → machines.Feeds (reads_of operation) b input (shown (feeding operation f)) (shown (feeding operation f')) l result → Feeds b input (feeding operation f) (feeding kept f') l result
+feeds-by operation kept b input f f' l result same fed = subst (λ (o : Operation). Feeds b input (feeding operation f) (feeding o f') l result) (sym same) (record {
   bytes = fed.bytes;
   ok = fed.ok;
   err = fed.err;
   claims = claims-within operation (b ++ input) fed.bytes f'.peak (l.account.live - held_by (feeding operation f)) l.account.limit result fed.claims;
-}
+})

@@ -23,21 +23,17 @@ use std::marker::Model;
 /// Takes a fragmented stream as inputs, and writes the output of an operation as it comes: shorter fragments, the lines
 /// of its samples, or nothing. It must be spent by [`Feeder::finish`] or [`Feeder::give_up`].
 pub struct Feeder {
-    operation: Operation,
     fed: FedMachine<FragmentMachine>,
 }
 
 // A contract sees its operation, where it is in the stream, why it stopped, the most that it had claimed, and how many
 // fragments are whole in its output.
 impl Model for Feeder {
-    ghost use Rattle.std.specs.Prelude.{◌≡◌};
     ghost use Rattle.mp4_stream.specs.Feeders.{Feeding, feeding};
 
     ghost Value = { Feeding };
 
-    ghost view = { λ f. feeding f.operation f.fed };
-
-    ghost invariant = { λ f. f.fed.machine.operation ≡ f.operation };
+    ghost view = { λ f. feeding f.fed.machine.operation f.fed };
 }
 
 impl Feeder {
@@ -57,7 +53,6 @@ impl Feeder {
         ensures idle { held_by result ≡ 0 }
     {
         Feeder {
-            operation,
             fed: FedMachine::new(FragmentMachine::new(operation)),
         }
     }
@@ -89,7 +84,7 @@ impl Feeder {
     {
         let machine = self.fed.machine();
         let tally = machine.tally();
-        let fragments = match self.operation {
+        let fragments = match machine.operation() {
             Operation::List(_) => tally.fragments,
             Operation::Split(_) => self.fed.fragments(),
         };
@@ -184,7 +179,7 @@ impl Feeder {
         requires { held_by self ≤ ledger.old.live }
         ensures { ledger.new ≡ given_back ledger.old (held_by self) }
     {
-        let Feeder { operation: _, fed } = self;
+        let Feeder { fed } = self;
         fed.into_machine().give_up(ledger);
     }
 }
