@@ -8,7 +8,8 @@
 //! - [`stream`]: what C keeps, with [`handle`]: the pointer in it, and [`engine`]: what that points to, whose calls
 //!   say what they did by [`results`];
 //! - [`task`]: what is done with a stream, and [`task_feeder`]: what takes it for that;
-//! - [`output`]: what waits to be taken, and [`ahead`]: output that doesn't.
+//! - [`output`]: what waits to be taken, and [`ahead`]: output that doesn't;
+//! - [`laws`]: what the definitions say of some numbers.
 //!
 //! The definitions: `specs/Engines.antt` (what an engine is after the bytes that it was fed, and what its calls do),
 //! `specs/Tasks.antt` (the same of what takes the bytes, for each task), `specs/Calls.antt` (the same of what C keeps,
@@ -24,6 +25,7 @@ mod exports;
 mod fragments;
 mod front;
 mod handle;
+pub mod laws;
 mod names;
 mod opening;
 mod output;
